@@ -1,0 +1,102 @@
+-- What a history of events says, oldest event first: lists and counts of its events.
+use Rattle.std.specs.Prelude.{◌≡◌, ℕ, ◌<◌, ◌==◌, Bool, true, false, ◌&&◌, List, length, Option, Some, None, slice_get, count_by, filter_map, nat_lt, if◌then◌else◌}
+use Rattle.std.specs.List.{after_last, before_last}
+use Rattle.wq_words.specs.declared.event.Event.{Event}
+use Rattle.wq_words.specs.declared.event.Event.TheVariants.{Hold, Push, Back, Take, Close, Begin, End, Chain}
+
+-- the number that the event accepts: a queueing was answered true, or chained (`queue_work` answers true)
+abbrev pub accepted_by : Event → Option ℕ
+accepted_by (Push s k) = Some k
+accepted_by (Chain k) = Some k
+accepted_by _ = None
+
+abbrev pub begun_by : Event → Option ℕ
+begun_by (Begin k) = Some k
+begun_by _ = None
+
+abbrev pub ended_by : Event → Option ℕ
+ended_by (End k) = Some k
+ended_by _ = None
+
+-- the numbers accepted, begun and ended, in order
+abbrev pub accepted : List Event → List ℕ
+accepted h = filter_map accepted_by h
+
+abbrev pub begun : List Event → List ℕ
+begun h = filter_map begun_by h
+
+abbrev pub ended : List Event → List ℕ
+ended h = filter_map ended_by h
+
+-- a number runs: more have begun than ended
+abbrev pub IsRunning : List Event → Type 0
+IsRunning h = length (ended h) < length (begun h)
+
+-- the number that runs, and the number to begin next
+abbrev pub running : List Event → Option ℕ
+running h = slice_get (begun h) (length (ended h))
+
+abbrev pub next : List Event → Option ℕ
+next h = slice_get (accepted h) (length (begun h))
+
+-- the PENDING bit of k: its Hold and Chain events are more than its Back and Begin events (`work_pending`; the bit is
+-- set by test-and-set as an item is queued, and cleared before its function is called)
+abbrev pub sets_pending : ℕ → Event → Bool
+sets_pending k (Hold s j) = j == k
+sets_pending k (Chain j) = j == k
+sets_pending k _ = false
+
+abbrev pub clears_pending : ℕ → Event → Bool
+clears_pending k (Back s j why) = j == k
+clears_pending k (Begin j) = j == k
+clears_pending k _ = false
+
+abbrev pub IsPending : List Event → ℕ → Type 0
+IsPending h k = count_by (clears_pending k) h < count_by (sets_pending k) h
+
+abbrev pub pending : List Event → ℕ → Bool
+pending h k = nat_lt (count_by (clears_pending k) h) (count_by (sets_pending k) h)
+
+-- sender s holds k: the Hold events of both are more than their Push and Back events
+abbrev pub starts_hold : ℕ → ℕ → Event → Bool
+starts_hold s k (Hold t j) = (j == k) && (t == s)
+starts_hold s k _ = false
+
+abbrev pub stops_hold : ℕ → ℕ → Event → Bool
+stops_hold s k (Push t j) = (j == k) && (t == s)
+stops_hold s k (Back t j why) = (j == k) && (t == s)
+stops_hold s k _ = false
+
+abbrev pub Holds : List Event → ℕ → ℕ → Type 0
+Holds h s k = count_by (stops_hold s k) h < count_by (starts_hold s k) h
+
+-- the queue is closed: there is a Close
+abbrev pub is_close : Event → Bool
+is_close Close = true
+is_close _ = false
+
+abbrev pub IsClosed : List Event → Type 0
+IsClosed h = 0 < count_by is_close h
+
+abbrev pub closed : List Event → Bool
+closed h = nat_lt 0 (count_by is_close h)
+
+abbrev pub is_push : Event → Bool
+is_push (Push s k) = true
+is_push _ = false
+
+abbrev pub is_take : Event → Bool
+is_take Take = true
+is_take _ = false
+
+-- how many were pushed since the last Take, or at all where there is none
+abbrev pub fresh : List Event → ℕ
+fresh h = count_by is_push (after_last is_take h)
+
+-- a push now would be the first: there is no Push after the last Take (`llist_add` answers true where the list was empty)
+abbrev pub first : List Event → Bool
+first h = fresh h == 0
+
+-- how many of the accepted numbers were taken: all of them once closed, else the Push events before the last Take
+abbrev pub taken : List Event → ℕ
+taken h = if closed h then length (accepted h) else count_by is_push (before_last is_take h)

@@ -1,0 +1,51 @@
+//! How large a queue is.
+ghost use Rattle.std.specs.Prelude.{◌≡◌, IfOk, MatchResult};
+ghost use Rattle.wq_words.specs.Limits.{AreInLimits, IsFirstOutOfLimits};
+
+use thiserror::Error;
+
+/// Which number of a layout is out of its limits, the first of them in this order.
+#[derive(Clone, Copy, Debug, PartialEq, Eq, Error)]
+pub enum LayoutError {
+    /// Not 1 to 4,096 items.
+    #[error("items are 1 to 4096")]
+    Items,
+    /// Not 1 to 16 barriers.
+    #[error("barriers are 1 to 16")]
+    Barriers,
+    /// Not 1 to 64 senders.
+    #[error("senders are 1 to 64")]
+    Senders,
+}
+
+/// How many items, barriers and senders a queue has. Its numbers are the items, then the barriers, then the stop item.
+#[derive(Clone, Copy, Debug, PartialEq, Eq)]
+pub struct Layout {
+    pub items: u32,
+    pub barriers: u32,
+    pub senders: u32,
+    ghost in_limits: { AreInLimits items barriers senders },
+}
+
+impl Layout {
+    /// A layout of 1 to 4,096 items, 1 to 16 barriers and 1 to 64 senders.
+    pub fn new(items: u32, barriers: u32, senders: u32) -> Result<Layout, LayoutError>
+        ensures ok { IfOk result (λ layout. (layout.items ≡ items) × (layout.barriers ≡ barriers) × (layout.senders ≡ senders)) }
+        ensures refused { MatchResult result (λ _. AreInLimits items barriers senders) (IsFirstOutOfLimits items barriers senders) }
+    {
+        if items < 1 || items > 4096 {
+            return Err(LayoutError::Items);
+        }
+        if barriers < 1 || barriers > 16 {
+            return Err(LayoutError::Barriers);
+        }
+        if senders < 1 || senders > 64 {
+            return Err(LayoutError::Senders);
+        }
+        Ok(Layout {
+            items,
+            barriers,
+            senders,
+        })
+    }
+}
