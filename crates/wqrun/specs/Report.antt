@@ -1,0 +1,31 @@
+-- What the program makes of a text.
+use Rattle.std.specs.Prelude.{◌≡◌, ℕ, List, take, Option, Ok, Err}
+use Rattle.std.specs.Io.KnownBytes.{Appends}
+use Rattle.wq_script.specs.declared.script.Script.{Script}
+use Rattle.wq_script.specs.Output.{output_of}
+use Rattle.wq_script.specs.Text.{script_of, spelled}
+use Rattle.wqrun.specs.declared.failure.Failure.{Failure}
+use Rattle.wqrun.specs.declared.failure.Failure.TheVariants as failure
+
+-- the text spells a script, and these are the bytes of its output
+pub record Reports (text report : List ℕ) : Type 0 where
+  pub script : Script
+  pub spells : script_of text ≡ Ok (spelled script)
+  pub report_is : report ≡ output_of script.layout script.commands.items
+
+-- the text has no report: it is refused for this, or memory was wanting
+abbrev pub HasNoReport : List ℕ → Failure → Type 0
+HasNoReport text (failure.Refused refusal) = script_of text ≡ Err refusal
+HasNoReport text failure.Unreadable = ⊥
+HasNoReport text failure.Unwritable = ⊥
+HasNoReport text failure.Memory = Unit {0}
+
+-- as much of a reader's bytes as is read: one more than a script may have
+abbrev pub text_read : List ℕ → List ℕ
+text_read bytes = take 1048577 bytes
+
+-- the bytes are a script's, and what was written grew by just its output
+pub record WritesReport (bytes : List ℕ) (before after : Option (List ℕ)) : Type 0 where
+  pub report : List ℕ
+  pub reports : Reports (text_read bytes) report
+  pub appends : Appends before after report

@@ -1,0 +1,87 @@
+//! `wqrun script`: a script's bytes in, its report's bytes out.
+ghost use Rattle.std.specs.Prelude.{◌≡◌, ◌≢◌, ◌⊎◌, OnOk, IfOk, IfErr, IfSome};
+ghost use Rattle.std.specs.Io.KnownBytes.{Appends};
+ghost use Rattle.wqrun.specs.Report.{Reports, HasNoReport, text_read, WritesReport};
+
+use crate::failure::Failure;
+use std::alloc::Global;
+use std::io::{ErrorKind, Read, Write};
+use wq_script::{ParseError, RunError, parse, run};
+
+/// One byte more than a script may have, so that a longer one is seen to be too long.
+const READ_BYTES: u64 = 1_048_577;
+
+/// Reads a text to its end, or so far that it is seen to be too long.
+fn read_text<R: Read + Drop>(alloc: Global, reader: R) -> Result<Vec<u8>, Failure>
+    ensures { IfOk result (λ text. IfSome (R.remaining reader) (λ bytes. text.items ≡ text_read bytes)) }
+{
+    let mut text = Vec::new(alloc);
+    match reader.take(READ_BYTES).read_to_end(&mut text) {
+        Ok(_) => Ok(text),
+        Err(error) if error.kind() == ErrorKind::OutOfMemory => Err(Failure::Memory),
+        Err(_) => Err(Failure::Unreadable),
+    }
+}
+
+/// The report of a script's text.
+fn report_of(alloc: Global, text: &[u8]) -> Result<Vec<u8>, Failure>
+    ensures report { IfOk result (λ report. Reports text.now report.items) }
+    ensures none { IfErr result (HasNoReport text.now) }
+{
+    let script = match parse(alloc, text) {
+        Ok(script) => script,
+        Err(ParseError::Refused(refusal)) => return Err(Failure::Refused(refusal)),
+        Err(ParseError::Memory) => return Err(Failure::Memory),
+    };
+    match run(alloc, &script) {
+        Ok(report) => Ok(report),
+        Err(RunError::Memory) => Err(Failure::Memory),
+    }
+}
+
+/// Writes a report. An empty one writes nothing; the writer is flushed.
+fn write_report<W: Write>(report: &[u8], writer: &mut W) -> Result<(), Failure>
+    ensures { OnOk result (Appends (W.contents writer.old) (W.contents writer.new) report.now) }
+{
+    if writer.write_all(report).is_err() {
+        return Err(Failure::Unwritable);
+    }
+    if writer.flush().is_err() {
+        return Err(Failure::Unwritable);
+    }
+    Ok(())
+}
+
+fn script_result<R: Read + Drop, W: Write>(
+    alloc: Global,
+    reader: R,
+    writer: &mut W,
+) -> Result<(), Failure>
+    ensures { OnOk result (IfSome (R.remaining reader) (λ bytes. WritesReport bytes (W.contents writer.old) (W.contents writer.new))) }
+{
+    let text = read_text(alloc, reader)?;
+    let report = report_of(alloc, &text)?;
+    write_report(&report, writer)
+}
+
+/// Runs the script that the reader gives and writes its report. The answer is the exit status: 0 where the report was
+/// written, 1 where the text was refused or a stream failed, 3 for want of memory. Failures are said on `faults`, a
+/// line each; where that cannot be written the status stays.
+pub fn script_main<R: Read + Drop, W: Write, F: Write>(
+    alloc: Global,
+    reader: R,
+    writer: &mut W,
+    faults: &mut F,
+) -> u8
+    ensures written { result ≡ 0 → IfSome (R.remaining reader) (λ bytes. WritesReport bytes (W.contents writer.old) (W.contents writer.new)) }
+    ensures status { (result ≡ 0) ⊎ ((result ≡ 1) ⊎ (result ≡ 3)) }
+{
+    match script_result(alloc, reader, writer) {
+        Ok(()) => 0,
+        Err(failure) => {
+            let status = failure.status();
+            let _ = writeln!(faults, "{failure}");
+            status
+        }
+    }
+}

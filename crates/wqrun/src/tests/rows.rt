@@ -1,0 +1,107 @@
+//! Scripts whose reports and refusals are known.
+use crate::script_main;
+use std::alloc::{AllocError, Global};
+use std::test::Fail;
+
+/// What a run leaves: its status, its standard output and its standard error.
+#[derive(Drop)]
+struct Outcome {
+    status: u8,
+    output: Vec<u8>,
+    faults: Vec<u8>,
+}
+
+fn run_text(alloc: Global, text: &[u8]) -> Outcome {
+    let mut output = Vec::new(alloc);
+    let mut faults = Vec::new(alloc);
+    let status = script_main(alloc, text, &mut output, &mut faults);
+    Outcome {
+        status,
+        output,
+        faults,
+    }
+}
+
+const HEADER: &str = "wq 1\nitems 4\nsenders 2\n";
+
+const NOTHING: &str = "accepted 0\nchained 0\nexecuted 0\nbusy 0\nrefused 0\ndelayed 0\nwaiting 0\n";
+
+/// Commands behind the header of 4 items and 2 senders, and the report.
+#[test]
+fn reports(rt: HostRuntime) -> Result<(), Fail> {
+    let alloc = rt.alloc();
+    let rows = [
+        ("", ""),
+        ("report\n", NOTHING),
+        ("queue 0 1\nqueue 1 2\nrun 9\n", "true first\ntrue\nran 1 2\n"),
+        (
+            "queue 0 1\nqueue 1 1\nreport\n",
+            "true first\nfalse pending\naccepted 1\nchained 0\nexecuted 0\nbusy 1\nrefused 0\ndelayed 0\nwaiting 1\n",
+        ),
+        (
+            "queue 0 1\nqueue 1 2\nrun 1\nqueue 0 1\nqueue 1 2\nrun 9\n",
+            "true first\ntrue\nran 1\ntrue first\nfalse pending\nran 2 1\n",
+        ),
+        ("queue 0 3\nclose\nqueue 1 0\nrun 9\n", "true first\nclosed 1\nfalse closed\nran 3\n"),
+        ("close\nclose\nrun 9\n", "closed 0\nalready closed\nran nothing\n"),
+        ("barriers 2\n# x\nqueue 1 3\n", "true first\n"),
+    ];
+    for (commands, want) in rows {
+        let text = format!(in alloc; "{HEADER}{commands}")?;
+        let got = run_text(alloc, text.as_bytes());
+        assert_eq!(rt; got.status, 0, "{commands}");
+        assert_eq!(rt; got.output.as_slice(), want.as_bytes(), "{commands}");
+        assert!(rt; got.faults.is_empty(), "{commands}");
+    }
+    let largest = run_text(alloc, b"wq 1\nitems 4096\nsenders 1\nreport\n");
+    assert_eq!(rt; largest.output.as_slice(), NOTHING.as_bytes());
+    Ok(())
+}
+
+/// Whole texts that are refused, and the line on standard error.
+#[test]
+fn refusals(rt: HostRuntime) -> Result<(), Fail> {
+    let alloc = rt.alloc();
+    let rows = [
+        ("", "line 1: Version\n"),
+        ("wq 1\nitems 4097\nsenders 1\n", "line 2: Items\n"),
+        ("wq 1\nitems 4\nsenders 2\nqueue 0 01\n", "line 4: Number\n"),
+        ("wq 1\nitems 4\nsenders 2\nqueue 0", "line 4: Cut\n"),
+        ("wq 1\nitems 4\nsenders 2\nqueue 0 0\nbarriers 2\n", "line 5: Header\n"),
+        ("wq 1\nitems 4\nsenders 2\nqueue 0 0\nqueue 0 4\n", "line 5: Item\n"),
+    ];
+    for (text, want) in rows {
+        let got = run_text(alloc, text.as_bytes());
+        assert_eq!(rt; got.status, 1, "{text}");
+        assert!(rt; got.output.is_empty(), "{text}");
+        assert_eq!(rt; got.faults.as_slice(), want.as_bytes(), "{text}");
+    }
+    Ok(())
+}
+
+/// A text of comments that has as many bytes as a script may have.
+fn longest_text(alloc: Global) -> Result<String, AllocError> {
+    let mut text = String::new(alloc);
+    text.push_str(HEADER)?;
+    for _ in 0..16_383 {
+        text.push_str("#--------------------------------------------------------------\n")?;
+    }
+    for _ in 0..41 {
+        text.push_str("\n")?;
+    }
+    Ok(text)
+}
+
+#[test]
+fn size(rt: HostRuntime) -> Result<(), Fail> {
+    let alloc = rt.alloc();
+    let mut text = longest_text(alloc)?;
+    assert_eq!(rt; text.len(), 1_048_576);
+    let longest = run_text(alloc, text.as_bytes());
+    assert_eq!(rt; longest.status, 0);
+    text.push_str("\n")?;
+    let longer = run_text(alloc, text.as_bytes());
+    assert_eq!(rt; longer.status, 1);
+    assert_eq!(rt; longer.faults.as_slice(), b"line 1: Size\n".as_slice());
+    Ok(())
+}
