@@ -1,0 +1,3 @@
+pub mod Growing
+pub mod Legal
+pub mod Order
