@@ -1,3 +1,4 @@
 pub mod Growing
 pub mod Legal
 pub mod Order
+pub mod Keepers
