@@ -2,3 +2,4 @@ pub mod Growing
 pub mod Legal
 pub mod Order
 pub mod Keepers
+pub mod Listed
