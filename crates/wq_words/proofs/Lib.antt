@@ -3,3 +3,4 @@ pub mod Legal
 pub mod Order
 pub mod Keepers
 pub mod Listed
+pub mod Places
