@@ -128,3 +128,71 @@ pub placed : (layout : Layout) (h : List Event) → IsLegal layout h → (k : �
 placed layout h legal k =
     legal_induction layout (IsPlaced k) tt
     (λ h e before allowed o. placed_after k h e allowed.2 (in_order layout h before) (is_listed layout h before) (omega (arith, length-accepted layout h before)) o) h legal
+
+-- each further place at which k stands counts one more
+counted_more : (xs : List ℕ) (i k : ℕ) → slice_get xs i ≡ Some k → count_by (λ j. j == k) (take (i + 1) xs) ≡ count_by (λ j. j == k) (take i xs) + 1
+counted_more xs i k at = count_by_more_yes (λ j. j == k) xs i k (slice_get_within xs i k at) (eq-eqb _ k (get_or_from_slice_get xs i k k at))
+
+counted_upto : (p : ℕ → Bool) (xs : List ℕ) (m n : ℕ) → m ≤ n → count_by p (take m xs) ≤ count_by p (take n xs)
+counted_upto p xs m n le = omega (arith, sum_by-take-le (λ x. cond (p x) 1 0) (take n xs) m, ap (count_by p) (take-take m n xs le))
+
+module _ (bs acs : List ℕ) (k : ℕ) where
+  count_begun : IsPrefix bs acs → count_by (λ j. j == k) bs ≡ count_by (λ j. j == k) (take (length bs) acs)
+  count_begun front = ap (count_by (λ j. j == k)) (sym (ap (take (length bs)) (sym front.1) ∙ take_at bs front.0 (length bs) refl))
+
+  count_all : (i : ℕ) → count_by (λ j. j == k) (take i acs) ≤ count_by (λ j. j == k) acs
+  count_all i = sum_by-take-le (λ x. cond (x == k) 1 0) acs i
+
+  pub counted_once : (i : ℕ) → IsPrefix bs acs → length bs ≤ i → slice_get acs i ≡ Some k → count_by (λ j. j == k) bs + 1 ≤ count_by (λ j. j == k) acs
+  counted_once i front le at =
+      omega (arith, count_begun front, counted_upto (λ j. j == k) acs (length bs) i le, counted_more acs i k at, count_all (i + 1))
+
+  pub counted_twice : (i l : ℕ) → IsPrefix bs acs → length bs ≤ i → i < l → slice_get acs i ≡ Some k → slice_get acs l ≡ Some k → count_by (λ j. j == k) bs + 2 ≤ count_by (λ j. j == k) acs
+  counted_twice i l front le lt at there =
+      omega (arith, count_begun front, counted_upto (λ j. j == k) acs (length bs) i le, counted_more acs i k at, counted_upto (λ j. j == k) acs (i + 1) l (omega arith), counted_more acs l k there, count_all (l + 1))
+
+-- the keeper that the events give, one by one, is who keeps the number by the counts
+module _ (layout : Layout) (h : List Event) (legal : IsLegal layout h) (k : ℕ) where
+  kept_once : {x : Keeper} → keeper h k ≡ x → count_by (λ j. j == k) (accepted h) ≡ count_by (λ j. j == k) (begun h) + queue_bit x
+  kept_once e = rw e at ((kept layout h legal 0 k).2)
+
+  stands : {x : Keeper} → keeper h k ≡ x → StandsFor (length (begun h)) (taken h) (accepted h) k x
+  stands e = rw e at (placed layout h legal k)
+
+  front : IsPrefix (begun h) (accepted h)
+  front = (in_order layout h legal).begun_first
+
+  listed_or_owner : (i : ℕ) → length (begun h) ≤ i → slice_get (accepted h) i ≡ Some k → IsQueue (keeper h k)
+  listed_or_owner i le at = queue_from_bit (keeper h k) (omega (arith, kept_once refl, counted_once (begun h) (accepted h) k i front le at))
+
+  not_twice : (x : Keeper) (i l : ℕ) → keeper h k ≡ x → queue_bit x ≡ 1 → length (begun h) ≤ i → i < l → slice_get (accepted h) i ≡ Some k → slice_get (accepted h) l ≡ Some k → ⊥
+  not_twice x i l e one le lt at there = absurd (omega (arith, kept_once e, counted_twice (begun h) (accepted h) k i l front le lt at there))
+
+  is_list : (x : Keeper) → keeper h k ≡ x → IsQueue x → Keeps h k Listed → x ≡ Listed
+  is_list Home e is w = absurd is
+  is_list (Sender s) e is w = absurd is
+  is_list Listed e is w = refl
+  is_list Owner e is w = let o = stands e in absurd (not_twice Owner o.0 w.0 e refl o.1 (omega (arith, o.2, w.2)) o.3 w.3)
+
+  is_owner : (x : Keeper) → keeper h k ≡ x → IsQueue x → Keeps h k Owner → x ≡ Owner
+  is_owner Home e is w = absurd is
+  is_owner (Sender s) e is w = absurd is
+  is_owner Listed e is w = let o = stands e in absurd (not_twice Listed w.0 o.0 e refl w.1 (omega (arith, o.2, w.2)) w.3 o.3)
+  is_owner Owner e is w = refl
+
+  pub keeper_from_keeps : (x : Keeper) → Keeps h k x → keeper h k ≡ x
+  keeper_from_keeps Home w = home_from_bit (keeper h k) (omega (arith, (kept layout h legal 0 k).1, w))
+  keeper_from_keeps (Sender s) w = sender_from_bit s (keeper h k) (omega (arith, (kept layout h legal s k).0))
+  keeper_from_keeps Listed w = is_list (keeper h k) refl (listed_or_owner w.0 w.1 w.3) w
+  keeper_from_keeps Owner w = is_owner (keeper h k) refl (listed_or_owner w.0 w.1 w.3) w
+
+  pub keeps_from_keeper : (x : Keeper) → keeper h k ≡ x → Keeps h k x
+  keeps_from_keeper Home e = λ lt. absurd (omega (arith, rw e at ((kept layout h legal 0 k).1)))
+  keeps_from_keeper (Sender s) e =
+      let own : held_bit s (Sender s) ≡ 1 = rw (eq-eqb s s refl) refl in
+      omega (arith, rw e at ((kept layout h legal s k).0))
+  keeps_from_keeper Listed e = stands e
+  keeps_from_keeper Owner e = stands e
+
+  pub keeps-keeper : (x : Keeper) → Keeps h k x ↔ (keeper h k ≡ x)
+  keeps-keeper x = (keeper_from_keeps x, keeps_from_keeper x)
