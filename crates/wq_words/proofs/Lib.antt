@@ -4,3 +4,5 @@ pub mod Order
 pub mod Keepers
 pub mod Listed
 pub mod Places
+pub mod Ranks
+pub mod Headlines
