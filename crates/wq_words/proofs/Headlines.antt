@@ -14,7 +14,7 @@ use Rattle.wq_words.specs.History.{accepted_by, begun_by, ended_by, accepted, be
 use Rattle.wq_words.specs.Legal.{IsAllowed, IsLegal, IsComplete}
 use Rattle.wq_words.specs.Keeper.{Keeper, Home, Sender, Listed, Owner, keeper}
 use Rattle.wq_words.specs.Headline.{NeverOverlaps, Executes, KeepsSenderOrder, NoPushFollowsClose, IsOwnHold, EachPushHasHold, HasOneHolder, IsDoneWhenComplete, KeepsHeadline}
-use Rattle.wq_words.proofs.Growing.{count_by_push, slice_get_push, slice_get_append, slice_get_last, take_append, take_length}
+use Rattle.wq_words.proofs.Growing.{count_by_push, filter_map_push_some, take_more_some, slice_get_push, slice_get_append, slice_get_last, take_append, take_length}
 use Rattle.wq_words.proofs.Legal.{legal_front, legal_induction}
 use Rattle.wq_words.proofs.Order.{IsInOrder, in_order, prefix_length}
 use Rattle.wq_words.proofs.Keepers.{held_bit, kept}
@@ -171,3 +171,118 @@ push_of_held layout h legal push s k at = whole (has_hold layout (take push h) (
           held_since = λ moment less le. rw (take-take moment push h le) at (o.held_since moment less (omega (arith, size)));
           its_own = λ between less before is. o.its_own between less (omega (arith, size)) (slice_get-take h push between before ∙ is);
         })
+
+-- a place of a beginning of a history is one of the history
+at_take : (h : List Event) (n i : ℕ) (e : Event) → slice_get (take n h) i ≡ Some e → (i < n) × (slice_get h i ≡ Some e)
+at_take h n i e at =
+    let lt : i < n = omega (arith, slice_get_within (take n h) i e at, length-take n h) in
+    (lt, sym (slice_get-take h n i lt) ∙ at)
+
+-- of a beginning of a list, both have the same at a place within the beginning
+same_at : (xs ys : List ℕ) (i j k : ℕ) → IsPrefix xs ys → slice_get xs i ≡ Some j → slice_get ys i ≡ Some k → j ≡ k
+same_at xs ys i j k p a b = cc (slice_get-prefix xs ys i j p a, b)
+
+module _ (layout : Layout) (h : List Event) (legal : IsLegal layout h) where
+  order_at : (n : ℕ) → IsInOrder (take n h)
+  order_at n = in_order layout (take n h) (legal_take layout h n legal)
+
+  -- the Begin at a place makes one more begun
+  begun_more : (i k : ℕ) → slice_get h i ≡ Some (Begin k) → length (begun (take (i + 1) h)) ≡ length (begun (take i h)) + 1
+  begun_more i k at =
+      let more : take (i + 1) h ≡ take i h ++ Begin k ∷ [] = take_more_some h i (Begin k) at in
+      ap (λ l. length (begun l)) more ∙ ap length (filter_map_push_some begun_by (take i h) (Begin k) k refl) ∙ length_push (begun (take i h)) k
+
+  ended_more : (i k : ℕ) → slice_get h i ≡ Some (End k) → length (ended (take (i + 1) h)) ≡ length (ended (take i h)) + 1
+  ended_more i k at =
+      let more : take (i + 1) h ≡ take i h ++ End k ∷ [] = take_more_some h i (End k) at in
+      ap (λ l. length (ended l)) more ∙ ap length (filter_map_push_some ended_by (take i h) (End k) k refl) ∙ length_push (ended (take i h)) k
+
+  pub never_overlaps : NeverOverlaps h
+  never_overlaps first second j k lt at there = found (comes_from ended_by (take second h) (length (begun (take first h))) some.0 some.1)
+    where
+      rested_first : length (ended (take first h)) ≡ length (begun (take first h))
+      rested_first = omega (arith, (legal first (Begin j) at).2.0, prefix_length (ended (take first h)) (begun (take first h)) (order_at first).ended_first)
+
+      some : (y : ℕ) × (slice_get (ended (take second h)) (length (begun (take first h))) ≡ Some y)
+      some =
+          slice_get-some (ended (take second h)) (length (begun (take first h)))
+          (omega (arith, (legal second (Begin k) there).2.0, begun_more first j at, length-filter_map-take begun_by h (first + 1) second (omega arith)))
+
+      began : slice_get (begun (take second h)) (length (begun (take first h))) ≡ Some j
+      began =
+          let here : slice_get (take second h) first ≡ Some (Begin j) = slice_get-take h second first lt ∙ at in
+          rw (take-take first second h (omega arith)) at (filter_map_rank begun_by (take second h) first (Begin j) j here refl)
+
+      found : ComesFrom ended_by (take second h) (length (begun (take first h))) some.0 → (end : ℕ) × (first < end) × (end < second) × (slice_get h end ≡ Some (End j))
+      found f =
+          let number : some.0 ≡ j = same_at (ended (take second h)) (begun (take second h)) (length (begun (take first h))) some.0 j (order_at second).ended_first some.1 began in
+          let is : slice_get h f.0 ≡ Some (End j) = (at_take h second f.0 f.1 f.2).1 ∙ ap Some (end_from_ended_by f.1 some.0 f.3) ∙ ap (λ i. Some (End i)) number in
+          let before : f.0 < second = (at_take h second f.0 f.1 f.2).0 in
+          let rank : length (ended (take f.0 h)) ≡ length (begun (take first h)) = rw (take-take f.0 second h (omega arith)) at f.4 in
+          let after : first ≤ f.0 = elim (cases_lt f.0 first) [
+            | inl less ↦ absurd (omega (arith, ended_more f.0 j is, rank, rested_first, length-filter_map-take ended_by h (f.0 + 1) first (omega arith)))
+            | inr ge ↦ ge
+          ] in
+          elim (cases_lt first f.0) [
+            | inl less ↦ (f.0, less, before, is)
+            | inr ge ↦ let e : f.0 ≡ first = omega arith in absurd (cc (e, is, at))
+          ]
+
+  accepted_more : (i s k : ℕ) → slice_get h i ≡ Some (Push s k) → length (accepted (take (i + 1) h)) ≡ length (accepted (take i h)) + 1
+  accepted_more i s k at =
+      let more : take (i + 1) h ≡ take i h ++ Push s k ∷ [] = take_more_some h i (Push s k) at in
+      ap (λ l. length (accepted l)) more ∙ ap length (filter_map_push_some accepted_by (take i h) (Push s k) k refl) ∙ length_push (accepted (take i h)) k
+
+  pub keeps_sender_order : KeepsSenderOrder h
+  keeps_sender_order s j k i first second begin lt at there begins executes = found (comes_from begun_by (take begin h) (length (accepted (take first h))) some.0 some.1)
+    where
+      some : (y : ℕ) × (slice_get (begun (take begin h)) (length (accepted (take first h))) ≡ Some y)
+      some =
+          slice_get-some (begun (take begin h)) (length (accepted (take first h)))
+          (omega (arith, executes, accepted_more first s j at, length-filter_map-take accepted_by h (first + 1) second (omega arith)))
+
+      pushed : slice_get (accepted h) (length (accepted (take first h))) ≡ Some j
+      pushed = filter_map_rank accepted_by h first (Push s j) j at refl
+
+      number : some.0 ≡ j
+      number =
+          let within = slice_get-prefix (begun (take begin h)) (accepted (take begin h)) (length (accepted (take first h))) some.0 (order_at begin).begun_first some.1 in
+          same_at (accepted (take begin h)) (accepted h) (length (accepted (take first h))) some.0 j (filter_map-take-prefix accepted_by h begin) within pushed
+
+      found : ComesFrom begun_by (take begin h) (length (accepted (take first h))) some.0
+          → (before : ℕ) × (before < begin) × (slice_get h before ≡ Some (Begin j)) × Executes h before first
+      found f =
+          let is : slice_get h f.0 ≡ Some (Begin j) = (at_take h begin f.0 f.1 f.2).1 ∙ ap Some (begin_from_begun_by f.1 some.0 f.3) ∙ ap (λ i. Some (Begin i)) number in
+          let before : f.0 < begin = (at_take h begin f.0 f.1 f.2).0 in
+          (f.0, before, is, rw (take-take f.0 begin h (omega arith)) at f.4)
+
+  pub no_push_follows_close : NoPushFollowsClose h
+  no_push_follows_close place close s k push closes =
+      elim (cases_lt place close) [
+        | inl lt ↦ lt
+        | inr le ↦ elim (cases_lt close place) [
+            | inl lt ↦ absurd ((legal place (Push s k) push).2.1 (counted is_close h close place Close closes refl lt))
+            | inr ge ↦ let e : place ≡ close = omega arith in absurd (cc (e, push, closes))
+          ]
+      ]
+
+  pub has_one_holder : HasOneHolder h
+  has_one_holder moment s t k a b =
+      let one = keeper_from_keeps layout (take moment h) (legal_take layout h moment legal) k (Sender s) a in
+      let two = keeper_from_keeps layout (take moment h) (legal_take layout h moment legal) k (Sender t) b in
+      same one two
+    where
+      same : {x : Keeper} → x ≡ Sender s → x ≡ Sender t → s ≡ t
+      same a b = cc
+
+  pub keeps_headline : KeepsHeadline h
+  keeps_headline = record {
+    begun_in_order = (in_order layout h legal).begun_first;
+    ended_in_order = (in_order layout h legal).ended_first;
+    no_overlap = never_overlaps;
+    sender_order = keeps_sender_order;
+    no_push_after_close = no_push_follows_close;
+    push_of_held = push_of_held layout h legal;
+    one_holder = has_one_holder;
+    complete = complete_in_order h (in_order layout h legal);
+  }
