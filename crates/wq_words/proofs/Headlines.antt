@@ -93,32 +93,38 @@ at_push : (h : List Event) (e f : Event) (i : ℕ) → i < length h → slice_ge
 at_push h e f i lt at = elim (slice_get_push h e f i at) [ inl old ↦ old | inr new ↦ absurd (omega (arith, new.0)) ]
 
 has_hold_new : (h : List Event) (s k : ℕ) → ¬ IsPending h k → Holds (h ++ Hold s k ∷ []) s k → (hold : ℕ) × IsOwnHold (h ++ Hold s k ∷ []) s k hold (length (h ++ Hold s k ∷ []))
-has_hold_new h s k idle holds = (length h, record {
-  earlier = omega (arith, length_push h (Hold s k));
-  by_sender = slice_get_last h (Hold s k) [];
-  found_idle = rw take_length idle;
-  held_since = λ moment lt le.
-      let all : take moment (h ++ Hold s k ∷ []) ≡ h ++ Hold s k ∷ [] = take_all moment (h ++ Hold s k ∷ []) (omega (arith, length_push h (Hold s k))) in rw all holds;
-  its_own = λ between lt less at. absurd (omega (arith, length_push h (Hold s k)));
-})
+has_hold_new h s k idle holds = (
+  length h,
+  record {
+    earlier = omega (arith, length_push h (Hold s k));
+    by_sender = slice_get_last h (Hold s k) [];
+    found_idle = rw take_length idle;
+    held_since = λ moment lt le.
+        let all : take moment (h ++ Hold s k ∷ []) ≡ h ++ Hold s k ∷ [] = take_all moment (h ++ Hold s k ∷ []) (omega (arith, length_push h (Hold s k))) in rw all holds;
+    its_own = λ between lt less at. absurd (omega (arith, length_push h (Hold s k)));
+  },
+)
 
 has_hold_old : (h : List Event) (e : Event) (s k : ℕ) → e ≢ Push s k → Holds (h ++ e ∷ []) s k → (hold : ℕ) × IsOwnHold h s k hold (length h)
     → (hold : ℕ) × IsOwnHold (h ++ e ∷ []) s k hold (length (h ++ e ∷ []))
-has_hold_old h e s k other holds (hold, o) = (hold, record {
-  earlier = omega (arith, o.earlier, length_push h e);
-  by_sender = slice_get_append h (e ∷ []) hold (Hold s k) o.by_sender;
-  found_idle = rw (take_append h (e ∷ []) hold (Hold s k) o.by_sender) o.found_idle;
-  held_since = λ moment lt le.
-      elim (cases_lt (length h) moment) [
-        | inl past ↦ let all : take moment (h ++ e ∷ []) ≡ h ++ e ∷ [] = take_all moment (h ++ e ∷ []) (omega (arith, length_push h e)) in rw all holds
-        | inr within ↦ let same : take moment (h ++ e ∷ []) ≡ take moment h = take-append-le moment h (e ∷ []) within in rw same (o.held_since moment lt within)
-      ];
-  its_own = λ between lt less at.
-      elim (slice_get_push h e (Push s k) between at) [
-        | inl old ↦ o.its_own between lt (slice_get_within h between (Push s k) old) old
-        | inr new ↦ other new.1
-      ];
-})
+has_hold_old h e s k other holds (hold, o) = (
+  hold,
+  record {
+    earlier = omega (arith, o.earlier, length_push h e);
+    by_sender = slice_get_append h (e ∷ []) hold (Hold s k) o.by_sender;
+    found_idle = rw (take_append h (e ∷ []) hold (Hold s k) o.by_sender) o.found_idle;
+    held_since = λ moment lt le.
+        elim (cases_lt (length h) moment) [
+          | inl past ↦ let all : take moment (h ++ e ∷ []) ≡ h ++ e ∷ [] = take_all moment (h ++ e ∷ []) (omega (arith, length_push h e)) in rw all holds
+          | inr within ↦ let same : take moment (h ++ e ∷ []) ≡ take moment h = take-append-le moment h (e ∷ []) within in rw same (o.held_since moment lt within)
+        ];
+    its_own = λ between lt less at.
+        elim (slice_get_push h e (Push s k) between at) [
+          | inl old ↦ o.its_own between lt (slice_get_within h between (Push s k) old) old
+          | inr new ↦ other new.1
+        ];
+  },
+)
 
 has_hold_push : (layout : Layout) (s k : ℕ) (h : List Event) (e : Event) → IsLegal layout h → IsAllowed layout h e → HasHold s k h → HasHold s k (h ++ e ∷ [])
 has_hold_push layout s k h e legal allowed before holds = by (starts_hold s k e) refl
@@ -143,9 +149,9 @@ has_hold_push layout s k h e legal allowed before holds = by (starts_hold s k e)
         let stops = count_by_push (stops_hold s k) h e in
         let held : Holds h s k = omega (arith, starts, stops, holds) in
         let other : e ≢ Push s k = λ same.
-            let stop : stops_hold s k e ≡ true = rw (same, eq-eqb k k refl, eq-eqb s s refl) refl in
-            let stops' = rw stop at stops in
-            omega (arith, starts, stops', holds, (kept layout h legal s k).0, one) in
+        let stop : stops_hold s k e ≡ true = rw (same, eq-eqb k k refl, eq-eqb s s refl) refl in
+        let stops' = rw stop at stops in
+        omega (arith, starts, stops', holds, (kept layout h legal s k).0, one) in
         has_hold_old h e s k other holds (before held)
 
 has_hold : (layout : Layout) (h : List Event) → IsLegal layout h → (s k : ℕ) → HasHold s k h
@@ -163,14 +169,16 @@ push_of_held layout h legal push s k at = whole (has_hold layout (take push h) (
 
     whole : (hold : ℕ) × IsOwnHold (take push h) s k hold (length (take push h)) → (hold : ℕ) × IsOwnHold h s k hold push
     whole (hold, o) =
-        let lt : hold < push = omega (arith, o.earlier, size) in
-        (hold, record {
-          earlier = lt;
-          by_sender = sym (slice_get-take h push hold lt) ∙ o.by_sender;
-          found_idle = rw (take-take hold push h (omega arith)) at o.found_idle;
-          held_since = λ moment less le. rw (take-take moment push h le) at (o.held_since moment less (omega (arith, size)));
-          its_own = λ between less before is. o.its_own between less (omega (arith, size)) (slice_get-take h push between before ∙ is);
-        })
+        let lt : hold < push = omega (arith, o.earlier, size) in (
+          hold,
+          record {
+            earlier = lt;
+            by_sender = sym (slice_get-take h push hold lt) ∙ o.by_sender;
+            found_idle = rw (take-take hold push h (omega arith)) at o.found_idle;
+            held_since = λ moment less le. rw (take-take moment push h le) at (o.held_since moment less (omega (arith, size)));
+            its_own = λ between less before is. o.its_own between less (omega (arith, size)) (slice_get-take h push between before ∙ is);
+          },
+        )
 
 -- a place of a beginning of a history is one of the history
 at_take : (h : List Event) (n i : ℕ) (e : Event) → slice_get (take n h) i ≡ Some e → (i < n) × (slice_get h i ≡ Some e)
@@ -261,9 +269,9 @@ module _ (layout : Layout) (h : List Event) (legal : IsLegal layout h) where
       elim (cases_lt place close) [
         | inl lt ↦ lt
         | inr le ↦ elim (cases_lt close place) [
-            | inl lt ↦ absurd ((legal place (Push s k) push).2.1 (counted is_close h close place Close closes refl lt))
-            | inr ge ↦ let e : place ≡ close = omega arith in absurd (cc (e, push, closes))
-          ]
+          | inl lt ↦ absurd ((legal place (Push s k) push).2.1 (counted is_close h close place Close closes refl lt))
+          | inr ge ↦ let e : place ≡ close = omega arith in absurd (cc (e, push, closes))
+        ]
       ]
 
   pub has_one_holder : HasOneHolder h

@@ -35,8 +35,13 @@ module _ {X Y : Type 0} (f : X → Option Y) where
 
   pub length-filter_map-take : (xs : List X) (m n : ℕ) → m ≤ n → length (filter_map f (take m xs)) ≤ length (filter_map f (take n xs))
   length-filter_map-take xs m n le =
-      omega (arith, ap (λ l. length (filter_map f l)) (take-append-drop m (take n xs)), ap length (filter_map-append f (take m (take n xs)) (drop m (take n xs))),
-        length-append (filter_map f (take m (take n xs))) (filter_map f (drop m (take n xs))), ap (λ l. length (filter_map f l)) (take-take m n xs le))
+      omega (
+        arith,
+        ap (λ l. length (filter_map f l)) (take-append-drop m (take n xs)),
+        ap length (filter_map-append f (take m (take n xs)) (drop m (take n xs))),
+        length-append (filter_map f (take m (take n xs))) (filter_map f (drop m (take n xs))),
+        ap (λ l. length (filter_map f l)) (take-take m n xs le),
+      )
 
   pub filter_map-take-prefix : (xs : List X) (n : ℕ) → IsPrefix (filter_map f (take n xs)) (filter_map f xs)
   filter_map-take-prefix xs n = (filter_map f (drop n xs), sym (filter_map-append f (take n xs) (drop n xs)) ∙ ap (filter_map f) (take-append-drop n xs))
