@@ -4,9 +4,11 @@
 mod event;
 mod head;
 mod history;
+mod laws;
 mod layout;
 
 pub use event::{Event, Why};
 pub use head::Head;
-pub use history::{HistoryError, HistoryFault};
+pub use history::{HistoryError, HistoryFault, check_history};
+pub use laws::{headline, one_keeper, one_runs, pending_list, tests};
 pub use layout::{Layout, LayoutError};
