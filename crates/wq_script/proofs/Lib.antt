@@ -1,0 +1,4 @@
+pub mod Growing
+pub mod Steps
+pub mod Executions
+pub mod Outputs

@@ -1,8 +1,13 @@
 //! Scripts of commands: from the bytes of a text to the bytes of a report.
 #![tactic(auto)]
 
+mod answer;
 mod command;
+mod engine;
+mod output;
+mod report;
 mod script;
 
 pub use command::Command;
+pub use output::{RunError, run};
 pub use script::Script;

@@ -1,6 +1,6 @@
 //! A script that was read.
-ghost use Rattle.std.specs.Prelude.{◌≤◌, All, length};
-ghost use Rattle.wq_script.specs.Fits.{Fits};
+ghost use Rattle.std.specs.Prelude.{◌≡◌, ◌≤◌, All, length};
+ghost use Rattle.wq_script.specs.Fits.{Fits, All_Fits-prop};
 
 use crate::command::Command;
 use wq_words::Layout;
@@ -10,7 +10,7 @@ use wq_words::Layout;
 pub struct Script {
     layout: Layout,
     commands: Vec<Command>,
-    ghost fits: { All (Fits layout) commands.items },
+    ghost fits: { All (Fits layout) commands.items } by { All_Fits-prop layout commands.items },
     ghost few: { length commands.items ≤ 1048576 },
 }
 
@@ -23,5 +23,19 @@ impl Script {
         ensures commands { result.commands.items ≡ commands.items }
     {
         Script { layout, commands }
+    }
+
+    /// The numbers of its queue.
+    pub fn layout(&self) -> &Layout
+        ensures { result.now ≡ self.now.layout }
+    {
+        &self.layout
+    }
+
+    /// What is asked of the queue, in turn.
+    pub fn commands(&self) -> &[Command]
+        ensures { result.now ≡ self.now.commands.items }
+    {
+        &self.commands
     }
 }
