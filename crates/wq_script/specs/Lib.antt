@@ -1,1 +1,9 @@
 pub mod Fits
+pub mod Word
+pub mod Decimal
+pub mod Fault
+pub mod Header
+pub mod Line
+pub mod Text
+pub mod Sound
+pub mod FirstFault

@@ -2,7 +2,18 @@
 #![tactic(auto)]
 
 mod command;
+mod fault;
+mod header;
+mod line;
 mod script;
+mod text;
+mod word;
 
 pub use command::Command;
+pub use fault::{Kind, ParseError, ScriptError};
 pub use script::Script;
+pub use text::{parse, tells_lines};
+pub use word::reads_decimals;
+
+#[cfg(test)]
+mod text_tests;

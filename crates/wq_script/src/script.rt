@@ -1,6 +1,7 @@
 //! A script that was read.
-ghost use Rattle.std.specs.Prelude.{◌≤◌, All, length};
-ghost use Rattle.wq_script.specs.Fits.{Fits};
+ghost use Rattle.std.specs.Prelude.{◌≡◌, ◌≤◌, length};
+ghost use Rattle.std.specs.List.{AllByRecursion, AllByRecursion-prop};
+ghost use Rattle.wq_script.specs.Fits.{Fits, Fits-prop};
 
 use crate::command::Command;
 use wq_words::Layout;
@@ -10,14 +11,14 @@ use wq_words::Layout;
 pub struct Script {
     layout: Layout,
     commands: Vec<Command>,
-    ghost fits: { All (Fits layout) commands.items },
+    ghost fits: { AllByRecursion (Fits layout) commands.items } by { AllByRecursion-prop _ (Fits-prop layout) commands.items },
     ghost few: { length commands.items ≤ 1048576 },
 }
 
 impl Script {
     /// A script of these commands.
     pub fn new(layout: Layout, commands: Vec<Command>) -> Script
-        requires fits { All (Fits layout) commands.items }
+        requires fits { AllByRecursion (Fits layout) commands.items }
         requires few { length commands.items ≤ 1048576 }
         ensures layout { result.layout ≡ layout }
         ensures commands { result.commands.items ≡ commands.items }
