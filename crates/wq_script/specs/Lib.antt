@@ -5,3 +5,11 @@ pub mod Report
 pub mod Standing
 pub mod Engine
 pub mod Output
+pub mod Word
+pub mod Decimal
+pub mod Fault
+pub mod Header
+pub mod Line
+pub mod Text
+pub mod Sound
+pub mod FirstFault

@@ -1,0 +1,91 @@
+-- What a line gives keeps what was read sound.
+use Rattle.std.proofs.Common.{◌≡◌, ℕ, ◌∙◌, true, false, List, [], ◌∷◌, ◌++◌, Option, Some, None, refl, sym, subst, arith}
+use Rattle.std.specs.List.{All, AllByRecursion}
+use Rattle.std.specs.Option.{option_to_list}
+use Rattle.std.proofs.lemmas.List.{append-nil}
+use Rattle.std.proofs.lemmas.List.Elements.{All-nil, All-cons}
+use Rattle.wq_words.specs.declared.layout.Layout.{Layout}
+use Rattle.wq_words.specs.Limits.{IsBetween}
+use Rattle.wq_script.specs.declared.command.Command.{Command}
+use Rattle.wq_script.specs.declared.header.Header.{Header}
+use Rattle.wq_script.specs.declared.header.Stage.{Stage}
+use Rattle.wq_script.specs.declared.header.Stage.TheVariants as stage
+use Rattle.wq_script.specs.declared.word.Keyword.{Keyword}
+use Rattle.wq_script.specs.declared.word.Keyword.TheVariants as keyword
+use Rattle.wq_script.specs.Fits.{Fits}
+use Rattle.wq_script.specs.Header.{is_header, is_placed, header_of}
+use Rattle.wq_script.specs.Sound.{HasNumbers, FitsHeader, Sound, IsScript, KeepsSound}
+
+all_more : (header : Header) (cs : List Command) (c : Command) → AllByRecursion (FitsHeader header) cs → FitsHeader header c → AllByRecursion (FitsHeader header) (cs ++ c ∷ [])
+all_more header [] c all here = (here, tt)
+all_more header (d ∷ cs) c all here = (all.0, all_more header cs c all.1 here)
+
+pub keeps_none : (s : Stage) → KeepsSound s s None
+unfolding KeepsSound
+keeps_none s cs sound = let P : List Command → Type 0 = λ x. Sound s x in subst P (sym (append-nil cs)) sound
+
+pub keeps_version : KeepsSound stage.Version stage.Items None
+unfolding KeepsSound
+keeps_version cs none = append-nil cs ∙ none
+
+pub keeps_items : (items : ℕ) → IsBetween 1 items 4096 → KeepsSound stage.Items (stage.Senders items) None
+unfolding KeepsSound
+keeps_items items within cs none = (within, append-nil cs ∙ none)
+
+pub keeps_senders : (items senders : ℕ) → IsBetween 1 senders 62 → KeepsSound (stage.Senders items) (stage.Barriers items senders) None
+unfolding KeepsSound
+keeps_senders items senders within cs sound = (sound.0, (within.0, omega (arith, within.1)), append-nil cs ∙ sound.1)
+
+pub keeps_barriers : (items senders barriers : ℕ) → IsBetween 1 barriers 16 → KeepsSound (stage.Barriers items senders) (stage.Commands (record { items = items; senders = senders; barriers = barriers })) None
+unfolding KeepsSound
+keeps_barriers items senders barriers within cs sound =
+    let P : List Command → Type 0 = λ x. AllByRecursion (FitsHeader (record { items = items; senders = senders; barriers = barriers })) x in
+    ((sound.0, within, sound.1), subst P (sym (append-nil cs ∙ sound.2)) tt)
+
+-- a header's place takes no command
+items_alone : (k : Keyword) → is_placed stage.Items k ≡ true → is_header k ≡ true
+items_alone keyword.Items e = refl
+items_alone k e = cc
+
+senders_alone : (items : ℕ) (k : Keyword) → is_placed (stage.Senders items) k ≡ true → is_header k ≡ true
+senders_alone items keyword.Senders e = refl
+senders_alone items k e = cc
+
+pub keeps_command : (s : Stage) (k : Keyword) (c : Command) → is_placed s k ≡ true → is_header k ≡ false → FitsHeader (header_of s) c → KeepsSound s (stage.Commands (header_of s)) (Some c)
+unfolding KeepsSound
+keeps_command (stage.Commands header) k c placed command here cs sound = (sound.0, all_more header cs c sound.1 here)
+keeps_command stage.Version k c placed command here cs none = absurd (differ placed)
+  where
+    differ : false ≡ true → ⊥
+    differ e = cc
+keeps_command stage.Items k c placed command here cs none = absurd (differ (sym (items_alone k placed) ∙ command))
+  where
+    differ : true ≡ false → ⊥
+    differ e = cc
+keeps_command (stage.Senders items) k c placed command here cs sound = absurd (differ (sym (senders_alone items k placed) ∙ command))
+  where
+    differ : true ≡ false → ⊥
+    differ e = cc
+keeps_command (stage.Barriers items senders) k c placed command here cs sound =
+    let P : List Command → Type 0 = λ x. AllByRecursion (FitsHeader (header_of (stage.Barriers items senders))) (x ++ c ∷ []) in
+    ((sound.0, (omega arith, omega arith), sound.1), subst P (sym sound.2) (here, tt))
+
+pub keeps : (s t : Stage) (c : Option Command) (cs new : List Command) → KeepsSound s t c → new ≡ cs ++ option_to_list c → Sound s cs → Sound t new
+unfolding KeepsSound
+keeps s t c cs new step added sound = let P : List Command → Type 0 = λ x. Sound t x in subst P (sym added) (step cs sound)
+
+pub ends_barriers : (items senders : ℕ) (cs : List Command) → Sound (stage.Barriers items senders) cs → IsScript (record { items = items; senders = senders; barriers = 1 }) cs
+ends_barriers items senders cs sound =
+    let P : List Command → Type 0 = λ x. AllByRecursion (FitsHeader (record { items = items; senders = senders; barriers = 1 })) x in
+    ((sound.0, (omega arith, omega arith), sound.1), subst P (sym sound.2) tt)
+
+-- what fits the header fits the layout of its numbers
+pub fits_layout : (layout : Layout) (header : Header) (cs : List Command) → HasNumbers layout header → AllByRecursion (FitsHeader header) cs → All (Fits layout) cs
+fits_layout layout header [] same all = All-nil (Fits layout)
+fits_layout layout header (c ∷ cs) same all = All-cons (Fits layout) c cs (all.0 layout same) (fits_layout layout header cs same all.1)
+
+pub same_numbers : (layout : Layout) (header : Header) → HasNumbers layout header → header ≡ record { items = layout.items; senders = layout.senders; barriers = layout.barriers }
+same_numbers layout header same = made header.items header.senders header.barriers layout.items layout.senders layout.barriers (sym same.items) (sym same.senders) (sym same.barriers)
+  where
+    made : (i s b j t c : ℕ) → i ≡ j → s ≡ t → b ≡ c → ◌≡◌ {A = Header} (record { items = i; senders = s; barriers = b }) (record { items = j; senders = t; barriers = c })
+    made i s b j t c p q r = cc
