@@ -1,6 +1,7 @@
 //! The words of an ordered workqueue: its numbers, its head word, and its histories of events.
 #![tactic(auto)]
 
+mod counts;
 mod event;
 mod head;
 mod history;
