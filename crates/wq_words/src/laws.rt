@@ -52,7 +52,7 @@ pub fn one_runs(layout: &Layout, history: &[Event])
 {}
 
 /// Whether a number is pending and whether the queue is closed, as tests and as facts.
-pub fn tests(history: &[Event])
+pub fn pending_and_closed(history: &[Event])
     ensures pending { (k : ℕ) → IsTrue (pending history.now k) ↔ IsPending history.now k }
     ensures closed { IsTrue (closed history.now) ↔ IsClosed history.now }
 {}
