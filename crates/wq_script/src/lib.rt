@@ -7,6 +7,8 @@ mod engine;
 mod output;
 mod report;
 mod script;
+#[cfg(test)]
+mod worked_scripts;
 
 pub use command::Command;
 pub use output::{RunError, run};
