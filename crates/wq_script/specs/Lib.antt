@@ -5,3 +5,4 @@ pub mod Report
 pub mod Standing
 pub mod Engine
 pub mod Output
+pub mod History

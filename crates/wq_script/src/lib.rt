@@ -4,6 +4,7 @@
 mod answer;
 mod command;
 mod engine;
+mod history;
 mod output;
 mod report;
 mod script;
@@ -11,5 +12,6 @@ mod script;
 mod worked_scripts;
 
 pub use command::Command;
+pub use history::legal_scripts;
 pub use output::{RunError, run};
 pub use script::Script;
