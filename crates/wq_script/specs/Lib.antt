@@ -1,4 +1,5 @@
 pub mod Fits
+pub mod Script
 pub mod Answer
 pub mod Meaning
 pub mod Report
