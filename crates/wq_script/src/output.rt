@@ -96,8 +96,11 @@ fn output_text(alloc: Global, script: &Script) -> Result<String, AllocError>
     Ok(out)
 }
 
-/// Runs a script on a new queue, each command as one call taken whole, and gives the bytes of its output. The only
-/// error is want of memory.
+/// Runs a script on a new queue, each command as one call taken whole, and gives the bytes of its output. A queueing
+/// writes `true first` where the list was empty (`llist_add`), `true`, `false pending` where the number was already on
+/// the queue (`queue_work`), or `false closed`; a run writes `ran` and the numbers that were executed, or `nothing`; a
+/// close writes `closed` and how many it took, or `already closed`; a report writes seven counts. The only error is want
+/// of memory.
 pub fn run(alloc: Global, script: &Script) -> Result<Vec<u8>, RunError>
     ensures { IfOk result (λ bytes. bytes.items ≡ output_of (layout_of script.now) (commands_of script.now)) }
 {
