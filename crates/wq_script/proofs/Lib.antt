@@ -8,3 +8,4 @@ pub mod Lines
 pub mod Texts
 pub mod Sound
 pub mod FirstFault
+pub mod Legality

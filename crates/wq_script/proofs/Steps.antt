@@ -43,7 +43,7 @@ stands-append s t h es st waits rests unchained pends shut newer executes finds 
   refused = omega (arith, count-append is_refusal h es, st.refused, refuses);
 }
 
-closed_kept : (h es : List Event) → count_by is_close es ≡ 0 → closed (h ++ es) ≡ closed h
+pub closed_kept : (h es : List Event) → count_by is_close es ≡ 0 → closed (h ++ es) ≡ closed h
 closed_kept h es none = let e : count_by is_close (h ++ es) ≡ count_by is_close h = omega (arith, count-append is_close h es, none) in ap (nat_lt 0) e
 
 closed_now : (h : List Event) → closed (h ++ Close ∷ []) ≡ true

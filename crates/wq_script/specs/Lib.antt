@@ -1,4 +1,5 @@
 pub mod Fits
+pub mod Script
 pub mod Answer
 pub mod Meaning
 pub mod Report
@@ -13,3 +14,4 @@ pub mod Line
 pub mod Text
 pub mod Sound
 pub mod FirstFault
+pub mod History

@@ -6,6 +6,7 @@ ghost use Rattle.wq_script.specs.Standing.{Stands, calls};
 ghost use Rattle.wq_script.specs.Engine.{state_of};
 ghost use Rattle.wq_script.specs.Output.{list_text, output_of, named, events_of, lines_of};
 ghost use Rattle.wq_script.specs.Fits.{Fits};
+ghost use Rattle.wq_script.specs.Script.{layout_of, commands_of};
 
 use crate::answer::write_close;
 use crate::command::Command;
@@ -84,7 +85,7 @@ fn execute(
 
 /// The output of a script, as text.
 fn output_text(alloc: Global, script: &Script) -> Result<String, AllocError>
-    ensures { IfOk result (λ text. string_bytes text ≡ output_of script.now.layout script.now.commands.items) }
+    ensures { IfOk result (λ text. string_bytes text ≡ output_of (layout_of script.now) (commands_of script.now)) }
 {
     let layout = script.layout();
     let mut engine = Engine::new(alloc, layout.items + layout.barriers + 1)?;
@@ -95,10 +96,13 @@ fn output_text(alloc: Global, script: &Script) -> Result<String, AllocError>
     Ok(out)
 }
 
-/// Runs a script on a new queue, each command as one call taken whole, and gives the bytes of its output. The only
-/// error is want of memory.
+/// Runs a script on a new queue, each command as one call taken whole, and gives the bytes of its output. A queueing
+/// writes `true first` where the list was empty (`llist_add`), `true`, `false pending` where the number was already on
+/// the queue (`queue_work`), or `false closed`; a run writes `ran` and the numbers that were executed, or `nothing`; a
+/// close writes `closed` and how many it took, or `already closed`; a report writes seven counts. The only error is want
+/// of memory.
 pub fn run(alloc: Global, script: &Script) -> Result<Vec<u8>, RunError>
-    ensures { IfOk result (λ bytes. bytes.items ≡ output_of script.now.layout script.now.commands.items) }
+    ensures { IfOk result (λ bytes. bytes.items ≡ output_of (layout_of script.now) (commands_of script.now)) }
 {
     match output_text(alloc, script) {
         Ok(text) => Ok(text.into_bytes()),
