@@ -4,3 +4,8 @@ pub mod Lines
 pub mod Texts
 pub mod Sound
 pub mod FirstFault
+pub mod Growing
+pub mod Steps
+pub mod Executions
+pub mod Outputs
+pub mod Legality

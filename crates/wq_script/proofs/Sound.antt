@@ -1,5 +1,5 @@
 -- What a line gives keeps what was read sound.
-use Rattle.std.proofs.Common.{◌≡◌, ℕ, ◌∙◌, true, false, List, [], ◌∷◌, ◌++◌, Option, Some, None, refl, sym, subst, arith}
+use Rattle.std.proofs.Common.{◌≡◌, ℕ, zero, suc, ◌∙◌, All, true, false, List, [], ◌∷◌, ◌++◌, Option, Some, None, refl, sym, subst, arith}
 use Rattle.std.specs.List.{AllByRecursion}
 use Rattle.std.specs.Option.{option_to_list}
 use Rattle.std.proofs.lemmas.List.{append-nil}
@@ -79,12 +79,7 @@ ends_barriers items senders cs sound =
     ((sound.0, (omega arith, omega arith), sound.1), subst P (sym sound.2) tt)
 
 -- what fits the header fits the layout of its numbers
-pub fits_layout : (layout : Layout) (header : Header) (cs : List Command) → HasNumbers layout header → AllByRecursion (FitsHeader header) cs → AllByRecursion (Fits layout) cs
-fits_layout layout header [] same all = tt
-fits_layout layout header (c ∷ cs) same all = (all.0 layout same, fits_layout layout header cs same all.1)
-
-pub same_numbers : (layout : Layout) (header : Header) → HasNumbers layout header → header ≡ record { items = layout.items; senders = layout.senders; barriers = layout.barriers }
-same_numbers layout header same = made header.items header.senders header.barriers layout.items layout.senders layout.barriers (sym same.items) (sym same.senders) (sym same.barriers)
-  where
-    made : (i s b j t c : ℕ) → i ≡ j → s ≡ t → b ≡ c → ◌≡◌ {A = Header} (record { items = i; senders = s; barriers = b }) (record { items = j; senders = t; barriers = c })
-    made i s b j t c p q r = cc
+pub fits_layout : (layout : Layout) (header : Header) (cs : List Command) → HasNumbers layout header → AllByRecursion (FitsHeader header) cs → All (Fits layout) cs
+fits_layout layout header [] same all k d within = absurd (omega (arith, within))
+fits_layout layout header (c ∷ cs) same all zero d within = all.0 layout same
+fits_layout layout header (c ∷ cs) same all (suc k) d within = fits_layout layout header cs same all.1 k d (omega (arith, within))
