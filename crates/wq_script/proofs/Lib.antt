@@ -1,11 +1,11 @@
-pub mod Growing
-pub mod Steps
-pub mod Executions
-pub mod Outputs
 pub mod Words
 pub mod Decimal
 pub mod Lines
 pub mod Texts
 pub mod Sound
 pub mod FirstFault
+pub mod Growing
+pub mod Steps
+pub mod Executions
+pub mod Outputs
 pub mod Legality

@@ -1,9 +1,8 @@
 -- What a line gives keeps what was read sound.
-use Rattle.std.proofs.Common.{◌≡◌, ℕ, ◌∙◌, true, false, List, [], ◌∷◌, ◌++◌, Option, Some, None, refl, sym, subst, arith}
-use Rattle.std.specs.List.{All, AllByRecursion}
+use Rattle.std.proofs.Common.{◌≡◌, ℕ, zero, suc, ◌∙◌, All, true, false, List, [], ◌∷◌, ◌++◌, Option, Some, None, refl, sym, subst, arith}
+use Rattle.std.specs.List.{AllByRecursion}
 use Rattle.std.specs.Option.{option_to_list}
 use Rattle.std.proofs.lemmas.List.{append-nil}
-use Rattle.std.proofs.lemmas.List.Elements.{All-nil, All-cons}
 use Rattle.wq_words.specs.declared.layout.Layout.{Layout}
 use Rattle.wq_words.specs.Limits.{IsBetween}
 use Rattle.wq_script.specs.declared.command.Command.{Command}
@@ -81,11 +80,6 @@ ends_barriers items senders cs sound =
 
 -- what fits the header fits the layout of its numbers
 pub fits_layout : (layout : Layout) (header : Header) (cs : List Command) → HasNumbers layout header → AllByRecursion (FitsHeader header) cs → All (Fits layout) cs
-fits_layout layout header [] same all = All-nil (Fits layout)
-fits_layout layout header (c ∷ cs) same all = All-cons (Fits layout) c cs (all.0 layout same) (fits_layout layout header cs same all.1)
-
-pub same_numbers : (layout : Layout) (header : Header) → HasNumbers layout header → header ≡ record { items = layout.items; senders = layout.senders; barriers = layout.barriers }
-same_numbers layout header same = made header.items header.senders header.barriers layout.items layout.senders layout.barriers (sym same.items) (sym same.senders) (sym same.barriers)
-  where
-    made : (i s b j t c : ℕ) → i ≡ j → s ≡ t → b ≡ c → ◌≡◌ {A = Header} (record { items = i; senders = s; barriers = b }) (record { items = j; senders = t; barriers = c })
-    made i s b j t c p q r = cc
+fits_layout layout header [] same all k d within = absurd (omega (arith, within))
+fits_layout layout header (c ∷ cs) same all zero d within = all.0 layout same
+fits_layout layout header (c ∷ cs) same all (suc k) d within = fits_layout layout header cs same all.1 k d (omega (arith, within))

@@ -1,5 +1,6 @@
 -- Where the header lines belong, and what they say.
 use Rattle.std.specs.Prelude.{Bool, true, false, not}
+use Rattle.wq_words.specs.declared.layout.Layout.{Layout}
 use Rattle.wq_script.specs.declared.header.Header.{Header}
 use Rattle.wq_script.specs.declared.header.Stage.{Stage}
 use Rattle.wq_script.specs.declared.header.Stage.TheVariants as stage
@@ -28,3 +29,7 @@ abbrev pub header_of : Stage → Header
 header_of (stage.Barriers items senders) = record { items = items; senders = senders; barriers = 1 }
 header_of (stage.Commands header) = header
 header_of _ = record { items = 0; senders = 0; barriers = 0 }
+
+-- the header that names a layout's numbers
+abbrev pub numbers_of : Layout → Header
+numbers_of layout = record { items = layout.items; senders = layout.senders; barriers = layout.barriers }

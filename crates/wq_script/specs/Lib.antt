@@ -1,11 +1,4 @@
 pub mod Fits
-pub mod Script
-pub mod Answer
-pub mod Meaning
-pub mod Report
-pub mod Standing
-pub mod Engine
-pub mod Output
 pub mod Word
 pub mod Decimal
 pub mod Fault
@@ -14,4 +7,11 @@ pub mod Line
 pub mod Text
 pub mod Sound
 pub mod FirstFault
+pub mod Script
+pub mod Answer
+pub mod Meaning
+pub mod Report
+pub mod Standing
+pub mod Engine
+pub mod Output
 pub mod History

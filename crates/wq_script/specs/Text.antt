@@ -9,8 +9,9 @@ use Rattle.wq_script.specs.declared.header.Stage.{Stage}
 use Rattle.wq_script.specs.declared.header.Stage.TheVariants as stage
 use Rattle.wq_script.specs.declared.script.Script.{Script}
 use Rattle.wq_script.specs.Fault.{◌>>=◌, refused, at_line}
-use Rattle.wq_script.specs.Header.{header_of}
+use Rattle.wq_script.specs.Header.{header_of, numbers_of}
 use Rattle.wq_script.specs.Line.{line_gives}
+use Rattle.wq_script.specs.Script.{layout_of, commands_of}
 use Rattle.wq_script.specs.Word.{parts}
 
 -- what the end of a text gives, where line n would stand
@@ -36,4 +37,4 @@ script_of text = if nat_lt 1048576 (length text) then refused 1 kind.Size else r
 
 -- the numbers and the commands of a script
 abbrev pub spelled : Script → Header × List Command
-spelled script = (record { items = script.layout.items; senders = script.layout.senders; barriers = script.layout.barriers }, script.commands.items)
+spelled script = (numbers_of (layout_of script), commands_of script)
