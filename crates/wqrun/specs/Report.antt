@@ -2,6 +2,7 @@
 use Rattle.std.specs.Prelude.{◌≡◌, ℕ, List, take, Option, Ok, Err}
 use Rattle.std.specs.Io.KnownBytes.{Appends}
 use Rattle.wq_script.specs.declared.script.Script.{Script}
+use Rattle.wq_script.specs.Script.{layout_of, commands_of}
 use Rattle.wq_script.specs.Output.{output_of}
 use Rattle.wq_script.specs.Text.{script_of, spelled}
 use Rattle.wqrun.specs.declared.failure.Failure.{Failure}
@@ -11,7 +12,7 @@ use Rattle.wqrun.specs.declared.failure.Failure.TheVariants as failure
 pub record Reports (text report : List ℕ) : Type 0 where
   pub script : Script
   pub spells : script_of text ≡ Ok (spelled script)
-  pub report_is : report ≡ output_of script.layout script.commands.items
+  pub report_is : report ≡ output_of (layout_of script) (commands_of script)
 
 -- the text has no report: it is refused for this, or memory was wanting
 abbrev pub HasNoReport : List ℕ → Failure → Type 0

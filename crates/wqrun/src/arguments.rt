@@ -12,7 +12,9 @@ fn command_line<'a>(alloc: Global) -> Result<Command<'a>, Error> {
         .after_help("Example: wqrun script examples/first.wq")
         .arg(file)?;
     let command = Command::new(alloc, "wqrun")
-        .about("An ordered workqueue: items run one at a time, in the order in which they were queued")
+        .about(
+            "An ordered workqueue: items run one at a time, in the order in which they were queued",
+        )
         .version("0.1.0")
         .after_help("Without any words wqrun runs a script from standard input.")
         .subcommand_required(true)

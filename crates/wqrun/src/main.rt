@@ -5,10 +5,9 @@ mod arguments;
 mod failure;
 mod script_main;
 
-pub use script_main::script_main;
-
 use clap::error::ErrorKind;
 use failure::Failure;
+pub use script_main::script_main;
 use std::fs::File;
 use std::process::ExitCode;
 

@@ -24,7 +24,8 @@ fn run_text(alloc: Global, text: &[u8]) -> Outcome {
 
 const HEADER: &str = "wq 1\nitems 4\nsenders 2\n";
 
-const NOTHING: &str = "accepted 0\nchained 0\nexecuted 0\nbusy 0\nrefused 0\ndelayed 0\nwaiting 0\n";
+const NOTHING: &str =
+    "accepted 0\nchained 0\nexecuted 0\nbusy 0\nrefused 0\ndelayed 0\nwaiting 0\n";
 
 /// Commands behind the header of 4 items and 2 senders, and the report.
 #[test]
@@ -33,7 +34,10 @@ fn reports(rt: HostRuntime) -> Result<(), Fail> {
     let rows = [
         ("", ""),
         ("report\n", NOTHING),
-        ("queue 0 1\nqueue 1 2\nrun 9\n", "true first\ntrue\nran 1 2\n"),
+        (
+            "queue 0 1\nqueue 1 2\nrun 9\n",
+            "true first\ntrue\nran 1 2\n",
+        ),
         (
             "queue 0 1\nqueue 1 1\nreport\n",
             "true first\nfalse pending\naccepted 1\nchained 0\nexecuted 0\nbusy 1\nrefused 0\ndelayed 0\nwaiting 1\n",
@@ -42,8 +46,14 @@ fn reports(rt: HostRuntime) -> Result<(), Fail> {
             "queue 0 1\nqueue 1 2\nrun 1\nqueue 0 1\nqueue 1 2\nrun 9\n",
             "true first\ntrue\nran 1\ntrue first\nfalse pending\nran 2 1\n",
         ),
-        ("queue 0 3\nclose\nqueue 1 0\nrun 9\n", "true first\nclosed 1\nfalse closed\nran 3\n"),
-        ("close\nclose\nrun 9\n", "closed 0\nalready closed\nran nothing\n"),
+        (
+            "queue 0 3\nclose\nqueue 1 0\nrun 9\n",
+            "true first\nclosed 1\nfalse closed\nran 3\n",
+        ),
+        (
+            "close\nclose\nrun 9\n",
+            "closed 0\nalready closed\nran nothing\n",
+        ),
         ("barriers 2\n# x\nqueue 1 3\n", "true first\n"),
     ];
     for (commands, want) in rows {
@@ -67,8 +77,14 @@ fn refusals(rt: HostRuntime) -> Result<(), Fail> {
         ("wq 1\nitems 4097\nsenders 1\n", "line 2: Items\n"),
         ("wq 1\nitems 4\nsenders 2\nqueue 0 01\n", "line 4: Number\n"),
         ("wq 1\nitems 4\nsenders 2\nqueue 0", "line 4: Cut\n"),
-        ("wq 1\nitems 4\nsenders 2\nqueue 0 0\nbarriers 2\n", "line 5: Header\n"),
-        ("wq 1\nitems 4\nsenders 2\nqueue 0 0\nqueue 0 4\n", "line 5: Item\n"),
+        (
+            "wq 1\nitems 4\nsenders 2\nqueue 0 0\nbarriers 2\n",
+            "line 5: Header\n",
+        ),
+        (
+            "wq 1\nitems 4\nsenders 2\nqueue 0 0\nqueue 0 4\n",
+            "line 5: Item\n",
+        ),
     ];
     for (text, want) in rows {
         let got = run_text(alloc, text.as_bytes());

@@ -4,6 +4,7 @@ use std::io::{Error, ErrorKind, Read, Result, Write};
 use std::test::Fail;
 
 const TEXT: &[u8] = b"wq 1\nitems 4\nsenders 2\nqueue 0 1\nqueue 1 2\nrun 9\n";
+
 const REPORT: &[u8] = b"true first\ntrue\nran 1 2\n";
 
 /// Gives a text a few bytes a call, and fails after so many calls.
@@ -65,7 +66,11 @@ fn reader_fails(rt: HostRuntime) -> std::result::Result<(), Fail> {
         if calls < 8 {
             assert_eq!(rt; status, 1, "{calls}");
             assert!(rt; output.is_empty(), "{calls}");
-            assert_eq!(rt; faults.as_slice(), b"file: Unreadable\n".as_slice(), "{calls}");
+            assert_eq!(rt;
+                faults.as_slice(),
+                b"file: Unreadable\n".as_slice(),
+                "{calls}"
+            );
         } else {
             assert_eq!(rt; status, 0, "{calls}");
             assert_eq!(rt; output.as_slice(), REPORT, "{calls}");
@@ -88,7 +93,11 @@ fn writer_fails(rt: HostRuntime) -> std::result::Result<(), Fail> {
         if calls < 4 {
             assert_eq!(rt; status, 1, "{calls}");
             assert!(rt; REPORT.starts_with(&writer.taken), "{calls}");
-            assert_eq!(rt; faults.as_slice(), b"output: Unwritable\n".as_slice(), "{calls}");
+            assert_eq!(rt;
+                faults.as_slice(),
+                b"output: Unwritable\n".as_slice(),
+                "{calls}"
+            );
         } else {
             assert_eq!(rt; status, 0, "{calls}");
             assert_eq!(rt; writer.taken.as_slice(), REPORT, "{calls}");
