@@ -45,6 +45,7 @@ pub enum Event {
 }
 
 impl Event {
+    /// The number that is accepted by it.
     pub(crate) fn accepted_number(self) -> Option<u32>
         ensures { result ≡ accepted_by self }
     {
@@ -54,6 +55,7 @@ impl Event {
         }
     }
 
+    /// The number that begins with it.
     pub(crate) fn begun_number(self) -> Option<u32>
         ensures { result ≡ begun_by self }
     {
@@ -63,6 +65,7 @@ impl Event {
         }
     }
 
+    /// The number that ends with it.
     pub(crate) fn ended_number(self) -> Option<u32>
         ensures { result ≡ ended_by self }
     {
@@ -72,6 +75,7 @@ impl Event {
         }
     }
 
+    /// Whether it sets the PENDING bit of the number.
     pub(crate) fn sets_pending(self, number: u32) -> bool
         ensures { result ≡ sets_pending number self }
     {
@@ -82,6 +86,7 @@ impl Event {
         }
     }
 
+    /// Whether it clears the PENDING bit of the number.
     pub(crate) fn clears_pending(self, number: u32) -> bool
         ensures { result ≡ clears_pending number self }
     {
@@ -92,6 +97,7 @@ impl Event {
         }
     }
 
+    /// Whether the sender holds the number from it on.
     pub(crate) fn starts_hold(self, sender: u32, number: u32) -> bool
         ensures { result ≡ starts_hold sender number self }
     {
@@ -101,6 +107,7 @@ impl Event {
         }
     }
 
+    /// Whether the sender held the number up to it.
     pub(crate) fn stops_hold(self, sender: u32, number: u32) -> bool
         ensures { result ≡ stops_hold sender number self }
     {
@@ -111,6 +118,7 @@ impl Event {
         }
     }
 
+    /// Whether it closes the queue.
     pub(crate) fn is_close(self) -> bool
         ensures { result ≡ is_close self }
     {
@@ -120,6 +128,7 @@ impl Event {
         }
     }
 
+    /// Whether its sender, if it has one, is one of the queue's.
     pub(crate) fn has_seat(self, layout: &Layout) -> bool
         ensures { IsTrue result ↔ HasSeat layout.now self }
     {
@@ -132,6 +141,7 @@ impl Event {
         }
     }
 
+    /// Whether its number, if it has one, is one of the queue's, and an item where it is chained.
     pub(crate) fn has_number(self, layout: &Layout) -> bool
         ensures { IsTrue result ↔ HasNumber layout.now self }
     {

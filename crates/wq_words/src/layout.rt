@@ -21,14 +21,20 @@ pub enum LayoutError {
 /// How many items, barriers and senders a queue has. Its numbers are the items, then the barriers, then the stop item.
 #[derive(Clone, Copy, Debug, PartialEq, Eq)]
 pub struct Layout {
+    /// 1 to 4,096.
     pub items: u32,
+    /// 1 to 16.
     pub barriers: u32,
+    /// 1 to 64.
     pub senders: u32,
     ghost in_limits: { AreInLimits items barriers senders },
 }
 
 impl Layout {
     /// A layout of 1 to 4,096 items, 1 to 16 barriers and 1 to 64 senders.
+    ///
+    /// # Errors
+    /// `Items`, `Barriers` or `Senders`, the first in this order that is out of its limits.
     pub fn new(items: u32, barriers: u32, senders: u32) -> Result<Layout, LayoutError>
         ensures ok { IfOk result (λ layout. (layout.items ≡ items) × (layout.barriers ≡ barriers) × (layout.senders ≡ senders)) }
         ensures refused { MatchResult result (λ _. AreInLimits items barriers senders) (IsFirstOutOfLimits items barriers senders) }
