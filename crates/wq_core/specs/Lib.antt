@@ -1,0 +1,2 @@
+pub mod Words
+pub mod Machine

@@ -1,0 +1,7 @@
+//! The machine of an ordered workqueue: the words of its table, what each seat keeps in private, and one atomic step at a
+//! time.
+#![tactic(auto)]
+
+mod step;
+
+pub use step::{Private, Reply, Seat, Step, StepError};
