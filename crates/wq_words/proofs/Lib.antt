@@ -1,0 +1,5 @@
+pub mod Growing
+pub mod Legal
+pub mod Order
+pub mod Keepers
+pub mod Listed

@@ -1,4 +1,9 @@
 //! What happens to a queue.
+ghost use Rattle.std.specs.Prelude.{◌≡◌, ◌↔◌, IsTrue};
+ghost use Rattle.wq_words.specs.History.{accepted_by, begun_by, ended_by, sets_pending, clears_pending, starts_hold, stops_hold, is_close};
+ghost use Rattle.wq_words.specs.Legal.{HasSeat, HasNumber};
+
+use crate::layout::Layout;
 
 /// Why a sender gave a held number back without pushing it.
 #[derive(Clone, Copy, Debug, PartialEq, Eq)]
@@ -37,4 +42,109 @@ pub enum Event {
     Chain(u32),
     /// After the close, the running execution found the PENDING bit set.
     ChainBusy(u32),
+}
+
+impl Event {
+    pub(crate) fn accepted_number(self) -> Option<u32>
+        ensures { result ≡ accepted_by self }
+    {
+        match self {
+            Event::Push(_, number) | Event::Chain(number) => Some(number),
+            _ => None,
+        }
+    }
+
+    pub(crate) fn begun_number(self) -> Option<u32>
+        ensures { result ≡ begun_by self }
+    {
+        match self {
+            Event::Begin(number) => Some(number),
+            _ => None,
+        }
+    }
+
+    pub(crate) fn ended_number(self) -> Option<u32>
+        ensures { result ≡ ended_by self }
+    {
+        match self {
+            Event::End(number) => Some(number),
+            _ => None,
+        }
+    }
+
+    pub(crate) fn sets_pending(self, number: u32) -> bool
+        ensures { result ≡ sets_pending number self }
+    {
+        match self {
+            Event::Hold(_, held) => held == number,
+            Event::Chain(chained) => chained == number,
+            _ => false,
+        }
+    }
+
+    pub(crate) fn clears_pending(self, number: u32) -> bool
+        ensures { result ≡ clears_pending number self }
+    {
+        match self {
+            Event::Back(_, returned, _) => returned == number,
+            Event::Begin(begun) => begun == number,
+            _ => false,
+        }
+    }
+
+    pub(crate) fn starts_hold(self, sender: u32, number: u32) -> bool
+        ensures { result ≡ starts_hold sender number self }
+    {
+        match self {
+            Event::Hold(holder, held) => held == number && holder == sender,
+            _ => false,
+        }
+    }
+
+    pub(crate) fn stops_hold(self, sender: u32, number: u32) -> bool
+        ensures { result ≡ stops_hold sender number self }
+    {
+        match self {
+            Event::Push(holder, pushed) => pushed == number && holder == sender,
+            Event::Back(holder, returned, _) => returned == number && holder == sender,
+            _ => false,
+        }
+    }
+
+    pub(crate) fn is_close(self) -> bool
+        ensures { result ≡ is_close self }
+    {
+        match self {
+            Event::Close => true,
+            _ => false,
+        }
+    }
+
+    pub(crate) fn has_seat(self, layout: Layout) -> bool
+        ensures { IsTrue result ↔ HasSeat layout self }
+    {
+        match self {
+            Event::Hold(sender, _)
+            | Event::Busy(sender, _)
+            | Event::Push(sender, _)
+            | Event::Back(sender, _, _) => sender < layout.senders,
+            _ => true,
+        }
+    }
+
+    pub(crate) fn has_number(self, layout: Layout) -> bool
+        ensures { IsTrue result ↔ HasNumber layout self }
+    {
+        let count = layout.items + layout.barriers + 1;
+        match self {
+            Event::Hold(_, number)
+            | Event::Busy(_, number)
+            | Event::Push(_, number)
+            | Event::Back(_, number, _)
+            | Event::Begin(number)
+            | Event::End(number) => number < count,
+            Event::Chain(number) | Event::ChainBusy(number) => number < layout.items,
+            Event::Take | Event::Close => true,
+        }
+    }
 }

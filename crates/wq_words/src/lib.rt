@@ -8,5 +8,5 @@ mod layout;
 
 pub use event::{Event, Why};
 pub use head::Head;
-pub use history::{HistoryError, HistoryFault};
+pub use history::{HistoryError, HistoryFault, check_history};
 pub use layout::{Layout, LayoutError};

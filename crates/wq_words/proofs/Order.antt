@@ -1,0 +1,59 @@
+-- What begins is what was accepted, in that order, and each ends before the next begins.
+use Rattle.std.proofs.Common.{◌≡◌, ℕ, ◌+◌, ◌<◌, ◌≤◌, List, [], ◌∷◌, ◌++◌, length, Some, slice_get, refl, sym, ap, ◌∙◌, append_assoc, arith, length-append}
+use mathlib.Core.List.{IsPrefix}
+use Rattle.wq_words.specs.declared.layout.Layout.{Layout}
+use Rattle.wq_words.specs.declared.event.Event.{Event}
+use Rattle.wq_words.specs.declared.event.Event.TheVariants.{Push, Begin, End, Chain}
+use Rattle.wq_words.specs.History.{accepted, begun, ended}
+use Rattle.wq_words.specs.Legal.{MayFollow, IsLegal}
+use Rattle.wq_words.proofs.Growing.{growing}
+use Rattle.wq_words.proofs.Legal.{legal_induction}
+
+pub prefix_append : {A : Type 0} (xs ys zs : List A) → IsPrefix xs ys → IsPrefix xs (ys ++ zs)
+prefix_append xs ys zs p = (p.0 ++ zs, sym (append_assoc xs p.0 zs) ∙ ap (λ l. l ++ zs) p.1)
+
+pub prefix_step : {A : Type 0} (xs ys : List A) (y : A) → IsPrefix xs ys → slice_get ys (length xs) ≡ Some y → IsPrefix (xs ++ y ∷ []) ys
+prefix_step [] [] y p at = absurd cc
+prefix_step [] (z ∷ ys) y p at = (ys, cc)
+prefix_step (x ∷ xs) [] y p at = absurd (cc (p.1))
+prefix_step (x ∷ xs) (z ∷ ys) y p at =
+    let rest = prefix_step xs ys y (p.0, cc (p.1)) at in (rest.0, cc (p.1, rest.1))
+
+pub prefix_length : {A : Type 0} (xs ys : List A) → IsPrefix xs ys → length xs ≤ length ys
+prefix_length xs ys p = omega (arith, sym (ap length p.1) ∙ length-append xs p.0)
+
+pub record AreInOrder (accepted begun ended : List ℕ) : Type 0 where
+  pub begun_first : IsPrefix begun accepted
+  pub ended_first : IsPrefix ended begun
+  pub one_at_a_time : length begun ≤ length ended + 1
+
+abbrev pub IsInOrder : List Event → Type 0
+IsInOrder h = AreInOrder (accepted h) (begun h) (ended h)
+
+accepts : (acs bs es : List ℕ) (k : ℕ) → AreInOrder acs bs es → AreInOrder (acs ++ k ∷ []) bs es
+accepts acs bs es k o = record { begun_first = prefix_append bs acs (k ∷ []) o.begun_first; ended_first = o.ended_first; one_at_a_time = o.one_at_a_time }
+
+begins : (acs bs es : List ℕ) (k : ℕ) → AreInOrder acs bs es → (length es < length bs → ⊥) → slice_get acs (length bs) ≡ Some k → AreInOrder acs (bs ++ k ∷ []) es
+begins acs bs es k o idle at = record {
+  begun_first = prefix_step bs acs k o.begun_first at;
+  ended_first = prefix_append es bs (k ∷ []) o.ended_first;
+  one_at_a_time = simp length-append (omega arith);
+}
+
+ends : (acs bs es : List ℕ) (k : ℕ) → AreInOrder acs bs es → slice_get bs (length es) ≡ Some k → AreInOrder acs bs (es ++ k ∷ [])
+ends acs bs es k o at = record {
+  begun_first = o.begun_first;
+  ended_first = prefix_step es bs k o.ended_first at;
+  one_at_a_time = simp length-append (omega arith);
+}
+
+in_order_after : (h : List Event) (e : Event) → MayFollow h e → IsInOrder h → IsInOrder (h ++ e ∷ [])
+in_order_after h (Push s k) may o = simp growing (accepts _ _ _ k o)
+in_order_after h (Begin k) may o = simp growing (begins _ _ _ k o may.0 may.1)
+in_order_after h (End k) may o = simp growing (ends _ _ _ k o may)
+in_order_after h (Chain k) may o = simp growing (accepts _ _ _ k o)
+in_order_after h _ may o = simp growing o
+
+pub in_order : (layout : Layout) (h : List Event) → IsLegal layout h → IsInOrder h
+in_order layout h legal =
+    legal_induction layout IsInOrder (record { begun_first = ([], refl); ended_first = ([], refl); one_at_a_time = omega arith }) (λ g e _ a o. in_order_after g e a.2 o) h legal

@@ -1,0 +1,6 @@
+use Rattle.std.proofs.Common.{take}
+use Rattle.wq_words.specs.Legal.{IsLegal}
+use Rattle.wq_words.proofs.history.check_history.Given as goal
+
+abbrev pub invariant-loop-place : goal.invariant-loop-place
+invariant-loop-place l = IsLegal l.layout (take l.place l.history)
