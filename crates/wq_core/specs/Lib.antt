@@ -1,2 +1,5 @@
 pub mod Words
 pub mod Machine
+pub mod Refusal
+pub mod Schedule
+pub mod Sound

@@ -147,17 +147,17 @@ first_of [] = 0
 first_of (k ∷ ks) = k
 
 -- what the step is answered
-abbrev pub reply : Machine → Seat → Step → Reply
-reply m (Sender s) (Hold k) = if item_word m k == 0 then reply.Held else reply.Busy
-reply m (Sender s) Look = reply.Looked (head_at (head m))
-reply m (Sender s) (Link k) = reply.Linked
-reply m (Sender s) (Push k) = if head m == seen_word m s then reply.Pushed (seen_word m s == 0) else reply.Lost
-reply m (Sender s) (Back k why) = reply.GivenBack
-reply m (Sender s) (Check k) = if item_word m k == 0 then reply.Idle else reply.Pending
-reply m Owner Take = reply.Took (head_at (head m))
-reply m Owner Close = reply.Closed (head_at (head m))
-reply m Owner Walk = reply.Walked (number_at (link m (unwrap_or m.cursor 0)))
-reply m Owner Begin = reply.Began (first_of m.batch)
-reply m Owner End = reply.Ended (unwrap_or (running m.history) 0)
-reply m Owner (Chain k) = if item_word m k == 0 then reply.Chained else reply.ChainBusy
-reply m seat step = reply.Idle
+abbrev pub reply_to : Machine → Seat → Step → Reply
+reply_to m (Sender s) (Hold k) = if item_word m k == 0 then reply.Held else reply.Busy
+reply_to m (Sender s) Look = reply.Looked (head_at (head m))
+reply_to m (Sender s) (Link k) = reply.Linked
+reply_to m (Sender s) (Push k) = if head m == seen_word m s then reply.Pushed (seen_word m s == 0) else reply.Lost
+reply_to m (Sender s) (Back k why) = reply.GivenBack
+reply_to m (Sender s) (Check k) = if item_word m k == 0 then reply.Idle else reply.Pending
+reply_to m Owner Take = reply.Took (head_at (head m))
+reply_to m Owner Close = reply.Closed (head_at (head m))
+reply_to m Owner Walk = reply.Walked (number_at (link m (unwrap_or m.cursor 0)))
+reply_to m Owner Begin = reply.Began (first_of m.batch)
+reply_to m Owner End = reply.Ended (unwrap_or (running m.history) 0)
+reply_to m Owner (Chain k) = if item_word m k == 0 then reply.Chained else reply.ChainBusy
+reply_to m seat step = reply.Idle
