@@ -1,0 +1,4 @@
+pub mod Chains
+pub mod Privates
+pub mod Steps
+pub mod Schedule
