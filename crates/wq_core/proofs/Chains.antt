@@ -40,6 +40,9 @@ word_at-number_at w = go (w == 0) refl
 pub number_at-some : (w : ℕ) → w ≢ 0 → number_at w ≢ None
 number_at-some w ne e = ne (sym (word_at-number_at w) ∙ ap word_at e)
 
+pub number_at-none : (w : ℕ) → number_at w ≡ None → w ≡ 0
+number_at-none w e = sym (word_at-number_at w) ∙ ap word_at e
+
 -- a write to a word that is no link of the chain leaves the chain
 pub chain_set : (n : ℕ) (ws : List ℕ) (i v w : ℕ) (ks : List ℕ) → ((j : ℕ) → j < n → 0 < times j ks → i ≢ link_place j) → IsChain n ws w ks → IsChain n (set ws i v) w ks
 chain_set n ws i v w [] spared c = c

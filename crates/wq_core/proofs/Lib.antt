@@ -2,3 +2,4 @@ pub mod Chains
 pub mod Privates
 pub mod Steps
 pub mod Schedule
+pub mod Stored

@@ -13,6 +13,7 @@ use Rattle.wq_words.proofs.Keepers.{pending_bit}
 use Rattle.wq_core.specs.declared.step.Private.{Private}
 use Rattle.wq_core.specs.Words.{link_place, item_place, closed_word}
 use Rattle.wq_core.specs.Machine.{nothing_seen, unlinked}
+use Rattle.wq_core.specs.Stored.{FollowKeepers}
 
 pub closed_stays : (h : List Event) (e : Event) → IsClosed h → IsClosed (h ++ e ∷ [])
 closed_stays h e closed = omega (arith, count_by_push is_close h e)
@@ -52,22 +53,17 @@ gives_begin k = (λ j x ne. rw (apart k j ne) refl, λ x. rw (itself k) refl)
 pub gives_chain : (k : ℕ) → Gives k (Chain k) Owner
 gives_chain k = (λ j x ne. rw (apart k j ne) refl, λ x. rw (itself k) refl)
 
--- At each number below n the list has, from a place on, what f says of its keeper. It stands for the item words among all
--- words, and for any other list that follows the keepers.
-abbrev pub FollowKeepers : {X : Type 0} → (Keeper → X) → X → ℕ → ℕ → List X → List Event → Type 0
-FollowKeepers f default start n xs h = (k : ℕ) → k < n → get_or xs (start + k) default ≡ f (keeper h k)
-
-module _ {X : Type 0} (f : Keeper → X) (default : X) (start n : ℕ) (xs : List X) (h : List Event) (e : Event) where
+module _ {X : Type 0} (f : Keeper → X) (default : X) (place : ℕ → ℕ) (n : ℕ) (xs : List X) (h : List Event) (e : Event) where
   -- what is stored of k is as its new keeper wants it, and every other is as it was
-  pub follow_give : (k : ℕ) (y : Keeper) → start + k < length xs → Gives k e y → FollowKeepers f default start n xs h → FollowKeepers f default start n (set xs (start + k) (f y)) (h ++ e ∷ [])
-  follow_give k y in' gives old j lt =
+  pub follow_give : (k : ℕ) (y : Keeper) → ((j : ℕ) → place j ≡ place k → j ≡ k) → place k < length xs → Gives k e y → FollowKeepers f default place n xs h → FollowKeepers f default place n (set xs (place k) (f y)) (h ++ e ∷ [])
+  follow_give k y own in' gives old j lt =
       elim (cases_eq j k) [
-        | inl same ↦ rw (same, keeper_push h e k, gives.1 (keeper h k)) (get_or-set_same xs (start + k) (f y) default in')
-        | inr ne ↦ rw (keeper_push h e j, gives.0 j (keeper h j) ne, get_or-set_other xs (start + k) (start + j) (f y) default (λ e. ne (omega (arith, e)))) (old j lt)
+        | inl same ↦ rw (same, keeper_push h e k, gives.1 (keeper h k)) (get_or-set_same xs (place k) (f y) default in')
+        | inr ne ↦ rw (keeper_push h e j, gives.0 j (keeper h j) ne, get_or-set_other xs (place k) (place j) (f y) default (λ e. ne (own j e))) (old j lt)
       ]
 
   -- what is as it should be need not be written
-  pub follow_same : (k : ℕ) (y : Keeper) → Gives k e y → f y ≡ f (keeper h k) → FollowKeepers f default start n xs h → FollowKeepers f default start n xs (h ++ e ∷ [])
+  pub follow_same : (k : ℕ) (y : Keeper) → Gives k e y → f y ≡ f (keeper h k) → FollowKeepers f default place n xs h → FollowKeepers f default place n xs (h ++ e ∷ [])
   follow_same k y gives same_bit old j lt =
       elim (cases_eq j k) [
         | inl same ↦ rw (same, keeper_push h e k, gives.1 (keeper h k), same_bit) (let o = old j lt in rw same at o)
@@ -75,13 +71,13 @@ module _ {X : Type 0} (f : Keeper → X) (default : X) (start n : ℕ) (xs : Lis
       ]
 
   -- the event changes nothing that f says
-  pub follow_quiet : ((j : ℕ) (x : Keeper) → f (keeper_after j x e) ≡ f x) → FollowKeepers f default start n xs h → FollowKeepers f default start n xs (h ++ e ∷ [])
+  pub follow_quiet : ((j : ℕ) (x : Keeper) → f (keeper_after j x e) ≡ f x) → FollowKeepers f default place n xs h → FollowKeepers f default place n xs (h ++ e ∷ [])
   follow_quiet quiet old k lt = rw (keeper_push h e k) (old k lt ∙ sym (quiet k (keeper h k)))
 
 -- another word is written
-pub follow_set : {X : Type 0} (f : Keeper → X) (default : X) (start n : ℕ) (xs : List X) (h : List Event) (i : ℕ) (v : X) → ((j : ℕ) → j < n → start + j ≢ i)
-    → FollowKeepers f default start n xs h → FollowKeepers f default start n (set xs i v) h
-follow_set f default start n xs h i v other old k lt = get_or-set_other xs i (start + k) v default (other k lt) ∙ old k lt
+pub follow_set : {X : Type 0} (f : Keeper → X) (default : X) (place : ℕ → ℕ) (n : ℕ) (xs : List X) (h : List Event) (i : ℕ) (v : X) → ((j : ℕ) → j < n → place j ≢ i)
+    → FollowKeepers f default place n xs h → FollowKeepers f default place n (set xs i v) h
+follow_set f default place n xs h i v other old k lt = get_or-set_other xs i (place k) v default (other k lt) ∙ old k lt
 
 -- what sender s linked is a number of the queue that it keeps, and its link is the word that it has seen, which is not the closed one
 abbrev pub Linked : ℕ → List ℕ → Private → List Event → ℕ → ℕ → Type 0

@@ -25,8 +25,9 @@ use Rattle.wq_core.specs.Words.{link_place, item_place, done_place, head_place, 
 use Rattle.wq_core.specs.declared.step.Private.{Private}
 use Rattle.wq_core.specs.Machine.{Machine, nothing_seen, head, link, item_word, done_word, private, seen_word, with_head, with_link, with_item, with_done, with_private, happened, unlinked, walked_past}
 use Rattle.wq_core.specs.Sound.{head_of_list, head_of, word_at, IsChain, AreChained, IsSound}
+use Rattle.wq_core.specs.Stored.{FollowKeepers}
 use Rattle.wq_core.proofs.Chains.{times, chained_set, chained_push, chained_take, chained_begin, chained_walk_on, chained_walk_end, chained_chain, cursor_number}
-use Rattle.wq_core.proofs.Privates.{closed_stays, keeper_push, Spares, Gives, gives_hold, gives_push, gives_back, gives_begin, gives_chain, FollowKeepers, follow_give, follow_same, follow_quiet, follow_set, Linked, AreLinked, linked_set, linked_quiet, linked_spares, linked_give, keeps_unlinked, linked_link, linked_forget, seen_after, seen_set}
+use Rattle.wq_core.proofs.Privates.{closed_stays, keeper_push, Spares, Gives, gives_hold, gives_push, gives_back, gives_begin, gives_chain, follow_give, follow_same, follow_quiet, follow_set, Linked, AreLinked, linked_set, linked_quiet, linked_spares, linked_give, keeps_unlinked, linked_link, linked_forget, seen_after, seen_set}
 
 -- each accepted number is one of the queue's
 pub accepted_number : (layout : Layout) (h : List Event) → IsLegal layout h → (i k : ℕ) → slice_get (accepted h) i ≡ Some k → k < number_count layout
@@ -79,7 +80,7 @@ pub record IsKeptSound (m : Machine) : Type 0 where
   pub has_seats : length m.seats ≡ m.layout.senders
   pub legal : IsLegal m.layout m.history
   pub head_is : head m ≡ head_word (head_of m.history)
-  pub items_are : FollowKeepers pending_bit 0 (1 + number_count m.layout) (number_count m.layout) m.words m.history
+  pub items_are : FollowKeepers pending_bit 0 (item_place (number_count m.layout)) (number_count m.layout) m.words m.history
   pub done_is : done_word m ≡ length (ended m.history) % 2 ^ 64
   pub chains : AreChained (number_count m.layout) m.words m.cursor m.walked m.batch (accepted m.history) (begun m.history) (listed m.history)
   pub linked : AreLinked (number_count m.layout) m.words m.seats m.history
@@ -129,8 +130,8 @@ module _ (n : ℕ) (ws : List ℕ) (v : ℕ) where
   done_of-head : get_or (set ws head_place v) (done_place n) 0 ≡ get_or ws (done_place n) 0
   done_of-head = get_or-set_other ws head_place (done_place n) v 0 (λ e. omega (arith, e))
 
-  items_of-head : (h : List Event) → FollowKeepers pending_bit 0 (1 + n) n ws h → FollowKeepers pending_bit 0 (1 + n) n (set ws head_place v) h
-  items_of-head h = follow_set pending_bit 0 (1 + n) n ws h head_place v (λ j lt e. omega (arith, e))
+  items_of-head : (h : List Event) → FollowKeepers pending_bit 0 (item_place n) n ws h → FollowKeepers pending_bit 0 (item_place n) n (set ws head_place v) h
+  items_of-head h = follow_set pending_bit 0 (item_place n) n ws h head_place v (λ j lt e. omega (arith, e))
 
   chains_of-head : (cursor : Option ℕ) (walked batch acc beg lst : List ℕ) → AreChained n ws cursor walked batch acc beg lst → AreChained n (set ws head_place v) cursor walked batch acc beg lst
   chains_of-head cursor walked batch acc beg lst = chained_set n ws cursor walked batch acc beg lst head_place v (λ j lt more e. omega (arith, e))
@@ -141,8 +142,8 @@ module _ (n : ℕ) (ws : List ℕ) (v : ℕ) where
   head_of-done : get_or (set ws (done_place n) v) head_place 0 ≡ get_or ws head_place 0
   head_of-done = get_or-set_other ws (done_place n) head_place v 0 (λ e. omega (arith, e))
 
-  items_of-done : (h : List Event) → FollowKeepers pending_bit 0 (1 + n) n ws h → FollowKeepers pending_bit 0 (1 + n) n (set ws (done_place n) v) h
-  items_of-done h = follow_set pending_bit 0 (1 + n) n ws h (done_place n) v (λ j lt e. omega (arith, e, lt))
+  items_of-done : (h : List Event) → FollowKeepers pending_bit 0 (item_place n) n ws h → FollowKeepers pending_bit 0 (item_place n) n (set ws (done_place n) v) h
+  items_of-done h = follow_set pending_bit 0 (item_place n) n ws h (done_place n) v (λ j lt e. omega (arith, e, lt))
 
   chains_of-done : (cursor : Option ℕ) (walked batch acc beg lst : List ℕ) → AreChained n ws cursor walked batch acc beg lst → AreChained n (set ws (done_place n) v) cursor walked batch acc beg lst
   chains_of-done cursor walked batch acc beg lst = chained_set n ws cursor walked batch acc beg lst (done_place n) v (λ j lt more e. omega (arith, e, lt))
@@ -157,8 +158,8 @@ module _ (n : ℕ) (ws : List ℕ) (v : ℕ) where
     done_of-link : get_or (set ws (link_place k) v) (done_place n) 0 ≡ get_or ws (done_place n) 0
     done_of-link = get_or-set_other ws (link_place k) (done_place n) v 0 (λ e. omega (arith, e, number))
 
-    items_of-link : (h : List Event) → FollowKeepers pending_bit 0 (1 + n) n ws h → FollowKeepers pending_bit 0 (1 + n) n (set ws (link_place k) v) h
-    items_of-link h = follow_set pending_bit 0 (1 + n) n ws h (link_place k) v (λ j lt e. omega (arith, e, number))
+    items_of-link : (h : List Event) → FollowKeepers pending_bit 0 (item_place n) n ws h → FollowKeepers pending_bit 0 (item_place n) n (set ws (link_place k) v) h
+    items_of-link h = follow_set pending_bit 0 (item_place n) n ws h (link_place k) v (λ j lt e. omega (arith, e, number))
 
 -- a head that is not closed is no closed word
 pub open_number : (layout : Layout) (k : ℕ) → k < number_count layout → k + 1 ≢ closed_word
@@ -213,7 +214,7 @@ module _ (m : Machine) (o : IsSound m) where
         has_seats = o.has_seats;
         legal = legal_push m.layout m.history e o.legal allowed;
         head_is = o.head_is ∙ ap head_word (sym (head_of_quiet m.history e no_close (no_list (listed m.history))));
-        items_are = follow_quiet pending_bit 0 _ _ m.words m.history e (λ j x. ap pending_bit (spares j x)) b.items_are;
+        items_are = follow_quiet pending_bit 0 (item_place (number_count m.layout)) _ m.words m.history e (λ j x. ap pending_bit (spares j x)) b.items_are;
         done_is = o.done_is ∙ ap (λ z. z % 2 ^ 64) (sym (ended_quiet m.history e no_end));
         chains = simp (growing, no_accept, no_begin, no_list) o.chains;
         linked = linked_quiet _ m.words m.seats m.history e (λ j s. spares j (Sender s)) b.linked;
@@ -230,7 +231,7 @@ module _ (m : Machine) (o : IsSound m) where
         has_seats = o.has_seats;
         legal = legal_push m.layout m.history (Hold s k) o.legal (seat, number, idle_from_home k home);
         head_is = head_of-item n m.words 1 k number ∙ o.head_is ∙ ap head_word (sym (head_of_quiet m.history (Hold s k) refl refl));
-        items_are = follow_give pending_bit 0 (1 + n) n m.words m.history (Hold s k) k (Sender s) (omega (arith, o.has_words, number)) (gives_hold s k) b.items_are;
+        items_are = follow_give pending_bit 0 (item_place n) n m.words m.history (Hold s k) k (Sender s) (λ j e. omega (arith, e)) (omega (arith, o.has_words, number)) (gives_hold s k) b.items_are;
         done_is = done_of-item n m.words 1 k number ∙ o.done_is ∙ ap (λ z. z % 2 ^ 64) (sym (ended_quiet m.history (Hold s k) refl));
         chains = simp growing (chains_of-item n m.words 1 k number _ _ _ _ _ _ o.chains);
         linked = linked_spares n _ m.seats m.history (Hold s k) k (gives_hold s k).0 (λ t mine. cc (home, mine)) (linked_of-item n m.words 1 k number m.seats m.history b.linked);
@@ -302,7 +303,7 @@ module _ (m : Machine) (o : IsSound m) where
         has_seats = length-set m.seats s _ ∙ o.has_seats;
         legal = legal_push m.layout m.history (Push s k) o.legal (seat, number, (holds, not_closed));
         head_is = get_or-set_same m.words head_place (k + 1) 0 (omega (arith, o.has_words)) ∙ sym now;
-        items_are = follow_same pending_bit 0 (1 + n) n _ m.history (Push s k) k Listed (gives_push s k) (rw l.1 refl) (items_of-head n m.words (k + 1) m.history b.items_are);
+        items_are = follow_same pending_bit 0 (item_place n) n _ m.history (Push s k) k Listed (gives_push s k) (rw l.1 refl) (items_of-head n m.words (k + 1) m.history b.items_are);
         done_is = done_of-head n m.words (k + 1) ∙ o.done_is ∙ ap (λ z. z % 2 ^ 64) (sym (ended_quiet m.history (Push s k) refl));
         chains = simp growing (chains_of-head n m.words (k + 1) _ _ _ _ _ _ (chained_push n m.words _ _ _ _ _ _ k number (sym spelled ∙ head_open m o not_closed) o.chains));
         linked = linked_give n _ m.seats m.history (Push s k) s k nothing_seen in' (gives_push s k).0 l.1 (λ j e. absurd (cc e)) (linked_of-head n m.words (k + 1) m.seats m.history b.linked);
@@ -321,7 +322,7 @@ module _ (m : Machine) (o : IsSound m) where
         has_seats = length-set m.seats s _ ∙ o.has_seats;
         legal = legal_push m.layout m.history (Back s k why) o.legal (seat, number, (holds, λ e. o.seen s (sees e)));
         head_is = head_of-item n m.words 0 k number ∙ o.head_is ∙ ap head_word (sym (head_of_quiet m.history (Back s k why) refl refl));
-        items_are = follow_give pending_bit 0 (1 + n) n m.words m.history (Back s k why) k Home (omega (arith, o.has_words, number)) (gives_back s k why) b.items_are;
+        items_are = follow_give pending_bit 0 (item_place n) n m.words m.history (Back s k why) k Home (λ j e. omega (arith, e)) (omega (arith, o.has_words, number)) (gives_back s k why) b.items_are;
         done_is = done_of-item n m.words 0 k number ∙ o.done_is ∙ ap (λ z. z % 2 ^ 64) (sym (ended_quiet m.history (Back s k why) refl));
         chains = simp growing (chains_of-item n m.words 0 k number _ _ _ _ _ _ o.chains);
         linked = linked_give n _ m.seats m.history (Back s k why) s k _ in' (gives_back s k why).0 mine (keeps_unlinked (private m s) k) (linked_of-item n m.words 0 k number m.seats m.history b.linked);
@@ -350,7 +351,7 @@ module _ (m : Machine) (o : IsSound m) where
         has_seats = o.has_seats;
         legal = legal_push m.layout m.history Take o.legal (tt, tt, unclosed);
         head_is = get_or-set_same m.words head_place 0 0 (omega (arith, o.has_words)) ∙ sym now;
-        items_are = follow_quiet pending_bit 0 (1 + n) n _ m.history Take (λ j x. taken_bit x) (items_of-head n m.words 0 m.history b.items_are);
+        items_are = follow_quiet pending_bit 0 (item_place n) n _ m.history Take (λ j x. taken_bit x) (items_of-head n m.words 0 m.history b.items_are);
         done_is = done_of-head n m.words 0 ∙ o.done_is ∙ ap (λ z. z % 2 ^ 64) (sym (ended_quiet m.history Take refl));
         chains = simp growing (rw walked (chains_of-head n m.words 0 _ _ _ _ _ _ c));
         linked = linked_quiet n _ m.seats m.history Take (λ j s. refl) (linked_of-head n m.words 0 m.seats m.history b.linked);
@@ -370,7 +371,7 @@ module _ (m : Machine) (o : IsSound m) where
         has_seats = o.has_seats;
         legal = legal_push m.layout m.history Close o.legal (tt, tt, unclosed);
         head_is = get_or-set_same m.words head_place closed_word 0 (omega (arith, o.has_words)) ∙ sym (head_of_closed (m.history ++ Close ∷ []) is);
-        items_are = follow_quiet pending_bit 0 (1 + n) n _ m.history Close (λ j x. taken_bit x) (items_of-head n m.words closed_word m.history b.items_are);
+        items_are = follow_quiet pending_bit 0 (item_place n) n _ m.history Close (λ j x. taken_bit x) (items_of-head n m.words closed_word m.history b.items_are);
         done_is = done_of-head n m.words closed_word ∙ o.done_is ∙ ap (λ z. z % 2 ^ 64) (sym (ended_quiet m.history Close refl));
         chains = simp growing (rw walked (chains_of-head n m.words closed_word _ _ _ _ _ _ c));
         linked = linked_quiet n _ m.seats m.history Close (λ j s. refl) (linked_of-head n m.words closed_word m.seats m.history b.linked);
@@ -421,7 +422,7 @@ module _ (m : Machine) (o : IsSound m) where
         has_seats = o.has_seats;
         legal = legal_push m.layout m.history (Begin k) o.legal (tt, number, (idle, f.1));
         head_is = head_of-item n m.words 0 k number ∙ o.head_is ∙ ap head_word (sym (head_of_quiet m.history (Begin k) refl refl));
-        items_are = follow_give pending_bit 0 (1 + n) n m.words m.history (Begin k) k Home (omega (arith, o.has_words, number)) (gives_begin k) b.items_are;
+        items_are = follow_give pending_bit 0 (item_place n) n m.words m.history (Begin k) k Home (λ j e. omega (arith, e)) (omega (arith, o.has_words, number)) (gives_begin k) b.items_are;
         done_is = done_of-item n m.words 0 k number ∙ o.done_is ∙ ap (λ z. z % 2 ^ 64) (sym (ended_quiet m.history (Begin k) refl));
         chains = simp growing (rw still (chains_of-item n m.words 0 k number _ _ _ _ _ _ c.0));
         linked = linked_spares n _ m.seats m.history (Begin k) k (gives_begin k).0 f.2 (linked_of-item n m.words 0 k number m.seats m.history b.linked);
@@ -443,7 +444,7 @@ module _ (m : Machine) (o : IsSound m) where
         has_seats = o.has_seats;
         legal = legal_push m.layout m.history (End k) o.legal (tt, number, runs);
         head_is = head_of-done n m.words v ∙ o.head_is ∙ ap head_word (sym (head_of_quiet m.history (End k) refl refl));
-        items_are = follow_quiet pending_bit 0 (1 + n) n _ m.history (End k) (λ j x. refl) (items_of-done n m.words v m.history b.items_are);
+        items_are = follow_quiet pending_bit 0 (item_place n) n _ m.history (End k) (λ j x. refl) (items_of-done n m.words v m.history b.items_are);
         done_is = get_or-set_same m.words (done_place n) v 0 (omega (arith, o.has_words)) ∙ count;
         chains = simp growing (chains_of-done n m.words v _ _ _ _ _ _ o.chains);
         linked = linked_quiet n _ m.seats m.history (End k) (λ j s. refl) (linked_of-done n m.words v m.seats m.history b.linked);
@@ -466,7 +467,7 @@ module _ (m : Machine) (o : IsSound m) where
         has_seats = o.has_seats;
         legal = legal_push m.layout m.history (Chain k) o.legal (tt, item, (is, runs, idle_from_home k home));
         head_is = head_of-item n m.words 1 k number ∙ o.head_is ∙ ap head_word (sym (head_of_quiet m.history (Chain k) refl refl));
-        items_are = follow_give pending_bit 0 (1 + n) n m.words m.history (Chain k) k Owner (omega (arith, o.has_words, number)) (gives_chain k) b.items_are;
+        items_are = follow_give pending_bit 0 (item_place n) n m.words m.history (Chain k) k Owner (λ j e. omega (arith, e)) (omega (arith, o.has_words, number)) (gives_chain k) b.items_are;
         done_is = done_of-item n m.words 1 k number ∙ o.done_is ∙ ap (λ z. z % 2 ^ 64) (sym (ended_quiet m.history (Chain k) refl));
         chains = simp growing (rw (still, walked, none) (chains_of-item n m.words 1 k number _ _ _ _ _ _ c));
         linked = linked_spares n _ m.seats m.history (Chain k) k (gives_chain k).0 (λ s mine. cc (home, mine)) (linked_of-item n m.words 1 k number m.seats m.history b.linked);

@@ -3,3 +3,4 @@ pub mod Machine
 pub mod Refusal
 pub mod Schedule
 pub mod Sound
+pub mod Stored

@@ -2,6 +2,9 @@
 //! time.
 #![tactic(auto)]
 
+mod machine;
+mod place;
 mod step;
 
+pub use machine::Core;
 pub use step::{Private, Reply, Seat, Step, StepError};
