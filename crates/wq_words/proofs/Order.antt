@@ -1,10 +1,11 @@
 -- What begins is what was accepted, in that order, and each ends before the next begins.
-use Rattle.std.proofs.Common.{◌≡◌, ℕ, ◌+◌, ◌<◌, ◌≤◌, List, [], ◌∷◌, ◌++◌, length, Some, slice_get, refl, sym, ap, ◌∙◌, append_assoc, arith, length-append}
+use Rattle.std.proofs.Common.{◌≡◌, ℕ, ◌+◌, ◌-◌, ◌<◌, ◌≤◌, ◌↔◌, List, [], ◌∷◌, ◌++◌, length, Some, slice_get, refl, sym, ap, ◌∙◌, append_assoc, arith, length-append}
+use Rattle.std.proofs.lemmas.Option.{slice_get_within}
 use mathlib.Core.List.{IsPrefix}
 use Rattle.wq_words.specs.declared.layout.Layout.{Layout}
 use Rattle.wq_words.specs.declared.event.Event.{Event}
 use Rattle.wq_words.specs.declared.event.Event.TheVariants.{Push, Begin, End, Chain}
-use Rattle.wq_words.specs.History.{accepted, begun, ended}
+use Rattle.wq_words.specs.History.{accepted, begun, ended, IsRunning, running}
 use Rattle.wq_words.specs.Legal.{MayFollow, IsLegal}
 use Rattle.wq_words.proofs.Growing.{growing}
 use Rattle.wq_words.proofs.Legal.{legal_induction}
@@ -57,3 +58,19 @@ in_order_after h _ may o = simp growing o
 pub in_order : (layout : Layout) (h : List Event) → IsLegal layout h → IsInOrder h
 in_order layout h legal =
     legal_induction layout IsInOrder (record { begun_first = ([], refl); ended_first = ([], refl); one_at_a_time = omega arith }) (λ g e _ a o. in_order_after g e a.2 o) h legal
+
+-- none runs where as many ended as begun, and else the last that was begun
+module _ (layout : Layout) (h : List Event) (legal : IsLegal layout h) where
+  pub idle-same : ¬ IsRunning h ↔ (length (ended h) ≡ length (begun h))
+  idle-same =
+      let o = in_order layout h legal in
+      (λ idle. omega (arith, idle, prefix_length (ended h) (begun h) o.ended_first), λ same runs. absurd (omega arith))
+
+  one_more : IsRunning h → length (begun h) - 1 ≡ length (ended h)
+  one_more runs = omega (arith, runs, (in_order layout h legal).one_at_a_time)
+
+  pub running-last : (k : ℕ) → (running h ≡ Some k) ↔ (IsRunning h × (slice_get (begun h) (length (begun h) - 1) ≡ Some k))
+  running-last k = (
+    λ at. let runs : IsRunning h = slice_get_within (begun h) (length (ended h)) k at in (runs, ap (slice_get (begun h)) (one_more runs) ∙ at),
+    λ last. ap (slice_get (begun h)) (sym (one_more last.0)) ∙ last.1,
+  )

@@ -120,8 +120,8 @@ impl Event {
         }
     }
 
-    pub(crate) fn has_seat(self, layout: Layout) -> bool
-        ensures { IsTrue result ↔ HasSeat layout self }
+    pub(crate) fn has_seat(self, layout: &Layout) -> bool
+        ensures { IsTrue result ↔ HasSeat layout.now self }
     {
         match self {
             Event::Hold(sender, _)
@@ -132,8 +132,8 @@ impl Event {
         }
     }
 
-    pub(crate) fn has_number(self, layout: Layout) -> bool
-        ensures { IsTrue result ↔ HasNumber layout self }
+    pub(crate) fn has_number(self, layout: &Layout) -> bool
+        ensures { IsTrue result ↔ HasNumber layout.now self }
     {
         let count = layout.items + layout.barriers + 1;
         match self {

@@ -1,15 +1,21 @@
-ghost use Rattle.std.specs.Prelude.{◌≡◌, ◌<◌, ◌≢◌, IfSome, IfNone};
+//! The codes of the head word.
+ghost use Rattle.std.specs.Prelude.{◌≡◌, Some, IfSome};
+ghost use Rattle.wq_words.specs.declared.head.Head.{Head};
 ghost use Rattle.wq_words.specs.Head.{head_word, IsNumbered};
 
 /// What the head word of a queue says: the list is empty, this number was pushed last, or the queue is closed.
 #[derive(Clone, Copy, Debug, PartialEq, Eq)]
 pub enum Head {
+    /// No number stands on the list.
     Empty,
+    /// The number that stands first on the list: it was pushed last (`llist_head`).
     Item(u32),
+    /// The queue was closed, and takes no push any more.
     Closed,
 }
 
 impl Head {
+    /// The word that codes it: 0 for `Empty`, the number and 1 for `Item`, all bits set for `Closed`.
     pub fn to_word(self) -> u64
         ensures { result ≡ head_word self }
     {
@@ -20,9 +26,10 @@ impl Head {
         }
     }
 
+    /// What the word codes, which is what `to_word` was given; `None` for a word that codes nothing.
     pub fn from_word(word: u64) -> Option<Head>
-        ensures some { IfSome result (λ head. head_word head ≡ word) }
-        ensures none { IfNone result ((head : Head) → IsNumbered head → head_word head ≢ word) }
+        ensures coded { IfSome result (λ head. IsNumbered head × (head_word head ≡ word)) }
+        ensures given_back { (head : Head) → IsNumbered head → head_word head ≡ word → result ≡ Some head }
     {
         if word == 0 {
             return Some(Head::Empty);

@@ -1,8 +1,9 @@
 //! Histories and their checker.
-ghost use Rattle.std.specs.Prelude.{◌≡◌, ◌<◌, ◌↔◌, IsTrue, length, slice_get, count_by, OnOk, IfErr};
-ghost use Rattle.wq_words.specs.History.{accepted, begun, ended, sets_pending, clears_pending, starts_hold, stops_hold, is_close, next, running, IsPending, Holds, IsClosed, IsRunning};
-ghost use Rattle.wq_words.specs.Legal.{MayFollow, IsLegal, IsFirstFault};
+ghost use Rattle.std.specs.Prelude.{◌↔◌, IsTrue, OnOk, IfErr, IfSome, IfNone};
+ghost use Rattle.wq_words.specs.Legal.{MayFollow, IsAllowed, HasFault, IsLegal, IsFirstFault};
+ghost use Rattle.wq_words.specs.History.{IsClosed, IsRunning};
 
+use crate::counts::{holds, is_closed, is_pending, is_running, next, running};
 use crate::event::{Event, Why};
 use crate::layout::Layout;
 use thiserror::Error;
@@ -25,130 +26,13 @@ pub enum HistoryFault {
 #[derive(Clone, Copy, Debug, PartialEq, Eq, Error)]
 #[error("event {place}: {kind}")]
 pub struct HistoryError {
+    /// How many events stand before it, all of them allowed.
     pub place: usize,
+    /// The first fault that fits.
     pub kind: HistoryFault,
 }
 
-fn set_count(history: &[Event], number: u32) -> usize
-    ensures { result ≡ count_by (sets_pending number) history.now }
-{
-    history
-        .iter()
-        .filter(|event| event.sets_pending(number))
-        .count()
-}
-
-fn cleared_count(history: &[Event], number: u32) -> usize
-    ensures { result ≡ count_by (clears_pending number) history.now }
-{
-    history
-        .iter()
-        .filter(|event| event.clears_pending(number))
-        .count()
-}
-
-fn started_count(history: &[Event], sender: u32, number: u32) -> usize
-    ensures { result ≡ count_by (starts_hold sender number) history.now }
-{
-    history
-        .iter()
-        .filter(|event| event.starts_hold(sender, number))
-        .count()
-}
-
-fn stopped_count(history: &[Event], sender: u32, number: u32) -> usize
-    ensures { result ≡ count_by (stops_hold sender number) history.now }
-{
-    history
-        .iter()
-        .filter(|event| event.stops_hold(sender, number))
-        .count()
-}
-
-fn close_count(history: &[Event]) -> usize
-    ensures { result ≡ count_by is_close history.now }
-{
-    history.iter().filter(|event| event.is_close()).count()
-}
-
-fn is_pending(history: &[Event], number: u32) -> bool
-    ensures { IsTrue result ↔ IsPending history.now number }
-{
-    cleared_count(history, number) < set_count(history, number)
-}
-
-fn holds(history: &[Event], sender: u32, number: u32) -> bool
-    ensures { IsTrue result ↔ Holds history.now sender number }
-{
-    stopped_count(history, sender, number) < started_count(history, sender, number)
-}
-
-fn is_closed(history: &[Event]) -> bool
-    ensures { IsTrue result ↔ IsClosed history.now }
-{
-    close_count(history) > 0
-}
-
-fn begun_count(history: &[Event]) -> usize
-    ensures { result ≡ length (begun history.now) }
-{
-    history
-        .iter()
-        .filter_map(|event| event.begun_number())
-        .count()
-}
-
-fn ended_count(history: &[Event]) -> usize
-    ensures { result ≡ length (ended history.now) }
-{
-    history
-        .iter()
-        .filter_map(|event| event.ended_number())
-        .count()
-}
-
-fn accepted_at(history: &[Event], place: usize) -> Option<u32>
-    ensures { result ≡ slice_get (accepted history.now) place }
-{
-    let mut left = place;
-    for event in history {
-        if let Some(number) = event.accepted_number() {
-            if left == 0 {
-                return Some(number);
-            }
-            left -= 1;
-        }
-    }
-    None
-}
-
-fn begun_at(history: &[Event], place: usize) -> Option<u32>
-    ensures { result ≡ slice_get (begun history.now) place }
-{
-    let mut left = place;
-    for event in history {
-        if let Some(number) = event.begun_number() {
-            if left == 0 {
-                return Some(number);
-            }
-            left -= 1;
-        }
-    }
-    None
-}
-
-fn next(history: &[Event]) -> Option<u32>
-    ensures { result ≡ next history.now }
-{
-    accepted_at(history, begun_count(history))
-}
-
-fn running(history: &[Event]) -> Option<u32>
-    ensures { result ≡ running history.now }
-{
-    begun_at(history, ended_count(history))
-}
-
+/// Whether the event may come after these, whatever its seat and number.
 fn may_follow(history: &[Event], event: Event) -> bool
     ensures { IsTrue result ↔ MayFollow history.now event }
 {
@@ -160,46 +44,50 @@ fn may_follow(history: &[Event], event: Event) -> bool
             holds(history, sender, number) && (why != Why::Closed || is_closed(history))
         }
         Event::Take | Event::Close => !is_closed(history),
-        Event::Begin(number) => {
-            begun_count(history) <= ended_count(history) && next(history) == Some(number)
-        }
+        Event::Begin(number) => !is_running(history) && next(history) == Some(number),
         Event::End(number) => running(history) == Some(number),
-        Event::Chain(number) => {
-            is_closed(history)
-                && ended_count(history) < begun_count(history)
-                && !is_pending(history, number)
-        }
-        Event::ChainBusy(number) => {
-            is_closed(history)
-                && ended_count(history) < begun_count(history)
-                && is_pending(history, number)
-        }
+        Event::Chain(number) => may_chain(history) && !is_pending(history, number),
+        Event::ChainBusy(number) => may_chain(history) && is_pending(history, number),
     }
 }
 
+/// Whether the execution that runs may chain: the queue is closed, and a number runs.
+fn may_chain(history: &[Event]) -> bool
+    ensures { IsTrue result ↔ (IsClosed history.now × IsRunning history.now) }
+{
+    is_closed(history) && is_running(history)
+}
+
+/// Why the event may not come after these, if it may not.
+fn fault(layout: &Layout, history: &[Event], event: Event) -> Option<HistoryFault>
+    ensures allowed { IfNone result (IsAllowed layout.now history.now event) }
+    ensures refused { IfSome result (λ fault. HasFault layout.now history.now event fault) }
+{
+    if !event.has_seat(layout) {
+        return Some(HistoryFault::NoSeat);
+    }
+    if !event.has_number(layout) {
+        return Some(HistoryFault::NoItem);
+    }
+    if !may_follow(history, event) {
+        return Some(HistoryFault::NotAllowed);
+    }
+    None
+}
+
+/// Whether each event is allowed by those before it: the history of an ordered workqueue, whose items are each queued
+/// at most once at a time, pushed before the close, and executed one at a time in the order of acceptance. Takes no
+/// memory, and time in the square of the length.
+///
+/// # Errors
+/// The first place whose event is not allowed, with the first fault that fits.
 pub fn check_history(layout: &Layout, history: &[Event]) -> Result<(), HistoryError>
     ensures ok { OnOk result (IsLegal layout.now history.now) }
     ensures fault { IfErr result (λ error. IsFirstFault layout.now history.now error.place error.kind) }
 {
     for (place, event) in history.iter().enumerate() {
-        let before = &history[..place];
-        if !event.has_seat(*layout) {
-            return Err(HistoryError {
-                place,
-                kind: HistoryFault::NoSeat,
-            });
-        }
-        if !event.has_number(*layout) {
-            return Err(HistoryError {
-                place,
-                kind: HistoryFault::NoItem,
-            });
-        }
-        if !may_follow(before, *event) {
-            return Err(HistoryError {
-                place,
-                kind: HistoryFault::NotAllowed,
-            });
+        if let Some(kind) = fault(layout, &history[..place], *event) {
+            return Err(HistoryError { place, kind });
         }
     }
     Ok(())
