@@ -1,5 +1,5 @@
 pub mod Chains
 pub mod Privates
 pub mod Steps
-pub mod Schedule
+pub mod Schedules
 pub mod Stored

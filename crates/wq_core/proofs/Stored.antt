@@ -21,7 +21,7 @@ use Rattle.wq_core.specs.Machine.{Machine, opening, nothing_seen, head, link, it
 use Rattle.wq_core.specs.Sound.{head_of_list, IsChain, AreChained, IsSound}
 use Rattle.wq_core.specs.Stored.{FollowKeepers, holder, IsStored}
 use Rattle.wq_core.proofs.Privates.{gives_hold, gives_push, gives_back, gives_begin, gives_chain, follow_give, follow_same, follow_quiet}
-use Rattle.wq_core.proofs.Schedule.{runs_some, sound_opening, all_alike}
+use Rattle.wq_core.proofs.Schedules.{runs_some, sound_opening, all_alike}
 use Rattle.wq_core.proofs.Steps.{sound_hold, sound_busy, sound_look, sound_link, sound_push, sound_lost, sound_back, sound_take, sound_close, sound_walk_end, sound_walk_on, sound_begin, sound_end, sound_chain, sound_chain_busy, home_from_clear, sender_from_holds, holds_from_keeper, first_of_batch, head_open}
 
 held_over : (x : Keeper) → holder (taken_over x) ≡ holder x

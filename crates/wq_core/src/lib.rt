@@ -4,7 +4,9 @@
 
 mod machine;
 mod place;
+mod schedule;
 mod step;
 
 pub use machine::Core;
+pub use schedule::{ReplayError, replay};
 pub use step::{Private, Reply, Seat, Step, StepError};

@@ -1,5 +1,5 @@
 use Rattle.std.proofs.Common.{Some, ap, ◌∙◌}
-use Rattle.wq_core.proofs.Schedule.{seen_some}
+use Rattle.wq_core.proofs.Schedules.{seen_some}
 use Rattle.wq_core.proofs.Stored.{stored_link}
 use Rattle.wq_core.proofs.machine.Core.link.Goals as goal
 

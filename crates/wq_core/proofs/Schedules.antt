@@ -8,6 +8,7 @@ use Rattle.wq_words.specs.declared.layout.Layout.{Layout}
 use Rattle.wq_words.specs.declared.event.Event.{Event}
 use Rattle.wq_words.specs.Numbers.{number_count}
 use Rattle.wq_words.specs.History.{accepted, begun, ended, taken, running, IsRunning}
+use Rattle.wq_words.specs.Legal.{IsLegal}
 use Rattle.wq_words.specs.Listed.{listed}
 use Rattle.wq_words.proofs.Legal.{legal_nil}
 use Rattle.wq_words.proofs.Listed.{length-accepted}
@@ -111,6 +112,42 @@ sound_leads (turn ∷ turns) old new o leads =
 -- whatever the schedule, the machine stays sound
 pub sound_leaves : (layout : Layout) (turns : List (Seat × Step)) (m : Machine) → Leaves layout turns m → IsSound m
 sound_leaves layout turns m leaves = sound_leads turns (opening layout) m (sound_opening layout) leaves
+
+-- the layout travels with the machine
+layout_after : (m : Machine) (seat : Seat) (step : Step) → (after m seat step).layout ≡ m.layout
+layout_after m (Sender s) (Hold k) = either (item_word m k == 0) (λ x. x.layout ≡ m.layout) _ _ (λ e. refl) (λ e. refl)
+layout_after m (Sender s) Look = refl
+layout_after m (Sender s) (Link k) = refl
+layout_after m (Sender s) (Push k) = either (head m == seen_word m s) (λ x. x.layout ≡ m.layout) _ _ (λ e. refl) (λ e. refl)
+layout_after m (Sender s) (Back k why) = refl
+layout_after m (Sender s) (Check k) = refl
+layout_after m Owner Take = refl
+layout_after m Owner Close = refl
+layout_after m Owner Walk = walk m.cursor
+  where
+    walk : (c : Option ℕ) → (after_walk m c).layout ≡ m.layout
+    walk None = refl
+    walk (Some k) = either (link m k == 0) (λ x. x.layout ≡ m.layout) _ _ (λ e. refl) (λ e. refl)
+layout_after m Owner Begin = begin m.batch
+  where
+    begin : (b : List ℕ) → (after_begin m b).layout ≡ m.layout
+    begin [] = refl
+    begin (k ∷ ks) = refl
+layout_after m Owner End = end (running m.history)
+  where
+    end : (r : Option ℕ) → (after_end m r).layout ≡ m.layout
+    end None = refl
+    end (Some k) = refl
+layout_after m Owner (Chain k) = either (item_word m k == 0) (λ x. x.layout ≡ m.layout) _ _ (λ e. refl) (λ e. refl)
+layout_after m _ _ = refl
+
+layout_leads : (turns : List (Seat × Step)) (old new : Machine) → Leads old turns new → new.layout ≡ old.layout
+layout_leads [] old new leads = ap (λ (m : Machine). m.layout) leads
+layout_leads (turn ∷ turns) old new leads = layout_leads turns (after old turn.0 turn.1) new leads.1 ∙ layout_after old turn.0 turn.1
+
+-- whatever the schedule, what has happened is a legal history
+pub legal_leaves : (layout : Layout) (turns : List (Seat × Step)) (m : Machine) → Leaves layout turns m → IsLegal layout m.history
+legal_leaves layout turns m leaves = rw (layout_leads turns (opening layout) m leaves) at (sound_leaves layout turns m leaves).legal
 
 -- between two calls of the owner the batch is what is taken and has not begun
 pub batch_is : (m : Machine) → IsSound m → m.cursor ≡ None → m.batch ≡ drop (length (begun m.history)) (take (taken m.history) (accepted m.history))
