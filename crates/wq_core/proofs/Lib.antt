@@ -1,0 +1,5 @@
+pub mod Chains
+pub mod Privates
+pub mod Steps
+pub mod Schedules
+pub mod Stored

@@ -1,0 +1,206 @@
+-- What follows the keepers of the numbers: the item words, and what the senders keep in private.
+use Rattle.std.proofs.Common.{◌≡◌, ◌≢◌, ℕ, ◌+◌, ◌<◌, ◌==◌, Bool, true, false, List, [], ◌∷◌, ◌++◌, length, get_or, set, None, Some, Option, unwrap_or, if◌then◌else◌, refl, sym, ap, ◌∙◌, arith, inl, inr}
+use Rattle.std.proofs.lemmas.List.{get_or-set_other, get_or-set_same}
+use Rattle.std.proofs.lemmas.List.Sums.{fold_push}
+use Rattle.std.proofs.lemmas.Bool.{ne_eqb, eq-eqb, eqb-false, cases_eq}
+use Rattle.wq_words.specs.declared.event.Why.{Why}
+use Rattle.wq_words.specs.declared.event.Event.{Event}
+use Rattle.wq_words.specs.declared.event.Event.TheVariants.{Hold, Push, Back, Begin, Chain}
+use Rattle.wq_words.specs.History.{is_close, IsClosed}
+use Rattle.wq_words.specs.Keeper.{Keeper, Home, Sender, Listed, Owner, keeper_after, keeper}
+use Rattle.wq_words.proofs.Growing.{count_by_push}
+use Rattle.wq_words.proofs.Keepers.{pending_bit}
+use Rattle.wq_core.specs.declared.step.Private.{Private}
+use Rattle.wq_core.specs.Words.{link_place, item_place, closed_word}
+use Rattle.wq_core.specs.Machine.{nothing_seen, unlinked}
+use Rattle.wq_core.specs.Stored.{FollowKeepers}
+
+pub closed_stays : (h : List Event) (e : Event) → IsClosed h → IsClosed (h ++ e ∷ [])
+closed_stays h e closed = omega (arith, count_by_push is_close h e)
+
+pub closed_before : (h : List Event) (e : Event) → is_close e ≡ false → IsClosed (h ++ e ∷ []) → IsClosed h
+closed_before h e other closed = omega (arith, rw other at (count_by_push is_close h e))
+
+pub keeper_push : (h : List Event) (e : Event) (k : ℕ) → keeper (h ++ e ∷ []) k ≡ keeper_after k (keeper h k) e
+keeper_push h e k = fold_push (keeper_after k) Home h e
+
+-- the event is about k alone
+abbrev pub Spares : ℕ → Event → Type 0
+Spares k e = (j : ℕ) (x : Keeper) → j ≢ k → keeper_after j x e ≡ x
+
+-- the event is about k, and leaves it with y
+abbrev pub Gives : ℕ → Event → Keeper → Type 0
+Gives k e y = Spares k e × ((x : Keeper) → keeper_after k x e ≡ y)
+
+itself : (k : ℕ) → (k == k) ≡ true
+itself k = eq-eqb k k refl
+
+apart : (k j : ℕ) → j ≢ k → (k == j) ≡ false
+apart k j ne = ne_eqb k j (λ e. ne (sym e))
+
+pub gives_hold : (s k : ℕ) → Gives k (Hold s k) (Sender s)
+gives_hold s k = (λ j x ne. rw (apart k j ne) refl, λ x. rw (itself k) refl)
+
+pub gives_push : (s k : ℕ) → Gives k (Push s k) Listed
+gives_push s k = (λ j x ne. rw (apart k j ne) refl, λ x. rw (itself k) refl)
+
+pub gives_back : (s k : ℕ) (why : Why) → Gives k (Back s k why) Home
+gives_back s k why = (λ j x ne. rw (apart k j ne) refl, λ x. rw (itself k) refl)
+
+pub gives_begin : (k : ℕ) → Gives k (Begin k) Home
+gives_begin k = (λ j x ne. rw (apart k j ne) refl, λ x. rw (itself k) refl)
+
+pub gives_chain : (k : ℕ) → Gives k (Chain k) Owner
+gives_chain k = (λ j x ne. rw (apart k j ne) refl, λ x. rw (itself k) refl)
+
+module _ {X : Type 0} (f : Keeper → X) (default : X) (place : ℕ → ℕ) (n : ℕ) (xs : List X) (h : List Event) (e : Event) where
+  -- what is stored of k is as its new keeper wants it, and every other is as it was
+  pub follow_give : (k : ℕ) (y : Keeper) → ((j : ℕ) → place j ≡ place k → j ≡ k) → place k < length xs → Gives k e y → FollowKeepers f default place n xs h → FollowKeepers f default place n (set xs (place k) (f y)) (h ++ e ∷ [])
+  follow_give k y own in' gives old j lt =
+      elim (cases_eq j k) [
+        | inl same ↦ rw (same, keeper_push h e k, gives.1 (keeper h k)) (get_or-set_same xs (place k) (f y) default in')
+        | inr ne ↦ rw (keeper_push h e j, gives.0 j (keeper h j) ne, get_or-set_other xs (place k) (place j) (f y) default (λ e. ne (own j e))) (old j lt)
+      ]
+
+  -- what is as it should be need not be written
+  pub follow_same : (k : ℕ) (y : Keeper) → Gives k e y → f y ≡ f (keeper h k) → FollowKeepers f default place n xs h → FollowKeepers f default place n xs (h ++ e ∷ [])
+  follow_same k y gives same_bit old j lt =
+      elim (cases_eq j k) [
+        | inl same ↦ rw (same, keeper_push h e k, gives.1 (keeper h k), same_bit) (let o = old j lt in rw same at o)
+        | inr ne ↦ rw (keeper_push h e j, gives.0 j (keeper h j) ne) (old j lt)
+      ]
+
+  -- the event changes nothing that f says
+  pub follow_quiet : ((j : ℕ) (x : Keeper) → f (keeper_after j x e) ≡ f x) → FollowKeepers f default place n xs h → FollowKeepers f default place n xs (h ++ e ∷ [])
+  follow_quiet quiet old k lt = rw (keeper_push h e k) (old k lt ∙ sym (quiet k (keeper h k)))
+
+-- another word is written
+pub follow_set : {X : Type 0} (f : Keeper → X) (default : X) (place : ℕ → ℕ) (n : ℕ) (xs : List X) (h : List Event) (i : ℕ) (v : X) → ((j : ℕ) → j < n → place j ≢ i)
+    → FollowKeepers f default place n xs h → FollowKeepers f default place n (set xs i v) h
+follow_set f default place n xs h i v other old k lt = get_or-set_other xs i (place k) v default (other k lt) ∙ old k lt
+
+-- what sender s linked is a number of the queue that it keeps, and its link is the word that it has seen, which is not the closed one
+abbrev pub Linked : ℕ → List ℕ → Private → List Event → ℕ → ℕ → Type 0
+Linked n words p h s k = (k < n) × (keeper h k ≡ Sender s) × (p.seen ≡ Some (get_or words (link_place k) 0)) × (get_or words (link_place k) 0 ≢ closed_word)
+
+abbrev pub AreLinked : ℕ → List ℕ → List Private → List Event → Type 0
+AreLinked n words seats h = (s k : ℕ) → (get_or seats s nothing_seen).linked ≡ Some k → Linked n words (get_or seats s nothing_seen) h s k
+
+-- what a sender has seen closed is closed
+abbrev pub AreSeen : List Private → List Event → Type 0
+AreSeen seats h = (s : ℕ) → (get_or seats s nothing_seen).seen ≡ Some closed_word → IsClosed h
+
+-- a word that is no link is written
+pub linked_set : (n : ℕ) (words : List ℕ) (seats : List Private) (h : List Event) (i v : ℕ) → ((j : ℕ) → j < n → link_place j ≢ i) → AreLinked n words seats h → AreLinked n (set words i v) seats h
+linked_set n words seats h i v other old s k is =
+    let o = old s k is in
+    let same : get_or (set words i v) (link_place k) 0 ≡ get_or words (link_place k) 0 = get_or-set_other words i (link_place k) v 0 (other k o.0) in
+    (o.0, o.1, o.2 ∙ ap Some (sym same), λ e. o.3 (sym same ∙ e))
+
+-- the event is about no number
+pub linked_quiet : (n : ℕ) (words : List ℕ) (seats : List Private) (h : List Event) (e : Event) → ((j s : ℕ) → keeper_after j (Sender s) e ≡ Sender s) → AreLinked n words seats h → AreLinked n words seats (h ++ e ∷ [])
+linked_quiet n words seats h e quiet old s k is =
+    let o = old s k is in
+    (o.0, keeper_push h e k ∙ ap (λ x. keeper_after k x e) o.1 ∙ quiet k s, o.2, o.3)
+
+-- the event is about a number that no sender keeps
+pub linked_spares : (n : ℕ) (words : List ℕ) (seats : List Private) (h : List Event) (e : Event) (k : ℕ) → Spares k e → ((s : ℕ) → keeper h k ≡ Sender s → ⊥) → AreLinked n words seats h → AreLinked n words seats (h ++ e ∷ [])
+linked_spares n words seats h e k spares free old s j is =
+    let o = old s j is in
+    let ne : j ≢ k = λ same. free s (rw same at (o.1)) in
+    (o.0, keeper_push h e j ∙ spares j (keeper h j) ne ∙ o.1, o.2, o.3)
+
+-- what seat s now keeps in private it has linked before, and not k
+abbrev pub Keeps : Private → Private → ℕ → Type 0
+Keeps old new k = (j : ℕ) → new.linked ≡ Some j → (j ≢ k) × (old.linked ≡ Some j) × (new.seen ≡ old.seen)
+
+-- sender s gives the number k away
+pub linked_give : (n : ℕ) (words : List ℕ) (seats : List Private) (h : List Event) (e : Event) (s k : ℕ) (p : Private) → s < length seats → Spares k e → keeper h k ≡ Sender s → Keeps (get_or seats s nothing_seen) p k
+    → AreLinked n words seats h → AreLinked n words (set seats s p) (h ++ e ∷ [])
+linked_give n words seats h e s k p in' spares mine keeps old t j is =
+    elim (cases_eq t s) [ inl same ↦ own same | inr ne ↦ others ne ]
+  where
+    own : t ≡ s → Linked n words (get_or (set seats s p) t nothing_seen) (h ++ e ∷ []) t j
+    own same =
+        let here : get_or (set seats s p) t nothing_seen ≡ p = rw same (get_or-set_same seats s p nothing_seen in') in
+        let kept = keeps j (rw here at is) in
+        let o = old s j (kept.1) in
+        (o.0, keeper_push h e j ∙ spares j (keeper h j) (kept.0) ∙ rw same (o.1), rw here (kept.2 ∙ o.2), o.3)
+
+    others : t ≢ s → Linked n words (get_or (set seats s p) t nothing_seen) (h ++ e ∷ []) t j
+    others ne =
+        let there : get_or (set seats s p) t nothing_seen ≡ get_or seats t nothing_seen = get_or-set_other seats s t p nothing_seen ne in
+        let o = old t j (rw there at is) in
+        let apart' : j ≢ k = λ e'. let m : Sender t ≡ Sender s = sym (o.1) ∙ ap (keeper h) e' ∙ mine in ne (cc m) in
+        (o.0, keeper_push h e j ∙ spares j (keeper h j) apart' ∙ o.1, rw there (o.2), o.3)
+
+-- sender s links a number that it keeps
+pub linked_link : (n : ℕ) (words : List ℕ) (seats : List Private) (h : List Event) (s k w : ℕ) → s < length seats → k < n → link_place k < length words → keeper h k ≡ Sender s → (get_or seats s nothing_seen).seen ≡ Some w → w ≢ closed_word
+    → AreLinked n words seats h → AreLinked n (set words (link_place k) w) (set seats s (record (get_or seats s nothing_seen) { linked = Some k })) h
+linked_link n words seats h s k w in' number room mine seen unclosed old t j is =
+    elim (cases_eq t s) [ inl same ↦ own same | inr ne ↦ others ne ]
+  where
+    p : Private
+    p = record (get_or seats s nothing_seen) { linked = Some k }
+
+    spelled : get_or (set words (link_place k) w) (link_place k) 0 ≡ w
+    spelled = get_or-set_same words (link_place k) w 0 room
+
+    own : t ≡ s → Linked n (set words (link_place k) w) (get_or (set seats s p) t nothing_seen) h t j
+    own same =
+        let here : get_or (set seats s p) t nothing_seen ≡ p = rw same (get_or-set_same seats s p nothing_seen in') in
+        let linked : Some k ≡ Some j = rw here at is in
+        let k≡j : k ≡ j = cc linked in
+        rw (here, ← k≡j, same, spelled) (number, mine, seen, unclosed)
+
+    others : t ≢ s → Linked n (set words (link_place k) w) (get_or (set seats s p) t nothing_seen) h t j
+    others ne =
+        let there : get_or (set seats s p) t nothing_seen ≡ get_or seats t nothing_seen = get_or-set_other seats s t p nothing_seen ne in
+        let o = old t j (rw there at is) in
+        let apart' : j ≢ k = λ e'. let m : Sender t ≡ Sender s = sym (o.1) ∙ ap (keeper h) e' ∙ mine in ne (cc m) in
+        let kept : get_or (set words (link_place k) w) (link_place j) 0 ≡ get_or words (link_place j) 0 = get_or-set_other words (link_place k) (link_place j) w 0 (λ e. apart' (omega (arith, e))) in
+        rw (there, kept) o
+
+-- sender s forgets what it linked
+pub linked_forget : (n : ℕ) (words : List ℕ) (seats : List Private) (h : List Event) (s : ℕ) (p : Private) → s < length seats → p.linked ≡ None → AreLinked n words seats h → AreLinked n words (set seats s p) h
+linked_forget n words seats h s p in' none old t j is =
+    elim (cases_eq t s) [
+      | inl same ↦
+          let here : get_or (set seats s p) t nothing_seen ≡ p = rw same (get_or-set_same seats s p nothing_seen in') in
+          absurd (cc (none, rw here at is))
+      | inr ne ↦
+          let there : get_or (set seats s p) t nothing_seen ≡ get_or seats t nothing_seen = get_or-set_other seats s t p nothing_seen ne in
+          rw there (old t j (rw there at is))
+    ]
+
+pub seen_after : (seats : List Private) (h : List Event) (e : Event) → AreSeen seats h → AreSeen seats (h ++ e ∷ [])
+seen_after seats h e old s is = closed_stays h e (old s is)
+
+pub seen_set : (seats : List Private) (h : List Event) (s : ℕ) (p : Private) → s < length seats → (p.seen ≡ Some closed_word → IsClosed h) → AreSeen seats h → AreSeen (set seats s p) h
+seen_set seats h s p in' new old t is =
+    elim (cases_eq t s) [
+      | inl same ↦
+          let here : get_or (set seats s p) t nothing_seen ≡ p = rw same (get_or-set_same seats s p nothing_seen in') in
+          new (rw here at is)
+      | inr ne ↦
+          let there : get_or (set seats s p) t nothing_seen ≡ get_or seats t nothing_seen = get_or-set_other seats s t p nothing_seen ne in
+          old t (rw there at is)
+    ]
+
+-- what a sender keeps linked once it has given k back
+pub keeps_unlinked : (p : Private) (k : ℕ) → Keeps p (unlinked p k) k
+keeps_unlinked p k j is = go p.linked refl is
+  where
+    some : (i : ℕ) → p.linked ≡ Some i → (q : Bool) → (i == k) ≡ q → (if q then None else Some i) ≡ Some j → (j ≢ k) × (p.linked ≡ Some j) × ((unlinked p k).seen ≡ p.seen)
+    some i was true same e = absurd cc
+    some i was false other e =
+        let i≡j : i ≡ j = cc e in
+        (λ j≡k. eqb-false i k other (i≡j ∙ j≡k), was ∙ e, refl)
+
+    go : (l : Option ℕ) → p.linked ≡ l → (if unwrap_or l (k + 1) == k then None else l) ≡ Some j → (j ≢ k) × (p.linked ≡ Some j) × ((unlinked p k).seen ≡ p.seen)
+    go None was e = none (k + 1 == k) e
+      where
+        none : (q : Bool) → (if q then None else None) ≡ Some j → (j ≢ k) × (p.linked ≡ Some j) × ((unlinked p k).seen ≡ p.seen)
+        none true e = absurd cc
+        none false e = absurd cc
+    go (Some i) was e = some i was (i == k) refl e

@@ -1,0 +1,177 @@
+-- Every schedule keeps what is sound.
+use Rattle.std.proofs.Common.{◌≡◌, ◌≢◌, ℕ, zero, suc, ◌+◌, ◌*◌, ◌%◌, ◌^◌, ◌<◌, ◌==◌, Bool, true, false, if◌then◌else◌, List, [], ◌∷◌, ◌++◌, length, get_or, set, take, drop, Option, None, Some, unwrap_or, slice_get, refl, sym, ap, ◌∙◌, subst, arith, replicate, length-append}
+use Rattle.std.proofs.lemmas.Bool.{eqb-true, eqb-false}
+use Rattle.std.proofs.lemmas.List.{length-replicate, length-reverse, append-nil, take_at, drop_at, take_more}
+use Rattle.std.proofs.lemmas.Option.{slice_get-get_or}
+use Rattle.std.specs.Prelude.{reverse}
+use Rattle.wq_words.specs.declared.layout.Layout.{Layout}
+use Rattle.wq_words.specs.declared.event.Event.{Event}
+use Rattle.wq_words.specs.Numbers.{number_count}
+use Rattle.wq_words.specs.History.{accepted, begun, ended, taken, running, IsRunning}
+use Rattle.wq_words.specs.Legal.{IsLegal}
+use Rattle.wq_words.specs.Listed.{listed}
+use Rattle.wq_words.proofs.Legal.{legal_nil}
+use Rattle.wq_words.proofs.Listed.{length-accepted}
+use Rattle.wq_core.specs.declared.step.Private.{Private}
+use Rattle.wq_core.specs.declared.step.Seat.{Seat}
+use Rattle.wq_core.specs.declared.step.Seat.TheVariants.{Sender, Owner}
+use Rattle.wq_core.specs.declared.step.Step.{Step}
+use Rattle.wq_core.specs.declared.step.Step.TheVariants.{Hold, Look, Link, Push, Back, Check, Take, Close, Walk, Begin, End, Chain}
+use Rattle.wq_core.specs.declared.step.StepError.{StepError}
+use Rattle.wq_core.specs.Words.{word_count, closed_word}
+use Rattle.wq_core.specs.Machine.{Machine, opening, nothing_seen, head, link, item_word, private, seen_word, with_private, with_link, walked_past, after_walk, after_begin, after_end, IsEnabled, after}
+use Rattle.wq_core.specs.Refusal.{IsSeated, IsNumbered, IsPlaced, IsMade, IsRefused}
+use Rattle.wq_core.specs.Schedule.{Leads, Leaves, IsFirstRefusal}
+use Rattle.wq_core.specs.Sound.{AreChained, IsSound}
+use Rattle.wq_core.proofs.Chains.{chain_zero}
+use Rattle.wq_core.proofs.Steps.{sound_hold, sound_busy, sound_look, sound_lost, sound_link, sound_push, sound_back, sound_take, sound_close, sound_walk_end, sound_walk_on, sound_begin, sound_end, sound_chain, sound_chain_busy}
+
+pub either : (q : Bool) (P : Machine → Type 0) (a b : Machine) → (q ≡ true → P a) → (q ≡ false → P b) → P (if q then a else b)
+either true P a b holds fails = holds refl
+either false P a b holds fails = fails refl
+
+-- a number that runs, where one does
+pub runs_some : (h : List Event) → IsRunning h → (k : ℕ) × (running h ≡ Some k)
+runs_some h r = go (begun h) (length (ended h)) r
+  where
+    go : (xs : List ℕ) (i : ℕ) → i < length xs → (k : ℕ) × (slice_get xs i ≡ Some k)
+    go [] i lt = absurd (omega arith)
+    go (x ∷ xs) zero lt = (x, refl)
+    go (x ∷ xs) (suc i) lt = go xs i (omega arith)
+
+-- the word that a sender has seen, where it has seen one
+pub seen_some : (p : Option ℕ) → p ≢ None → p ≡ Some (unwrap_or p 0)
+seen_some None ne = absurd (ne refl)
+seen_some (Some w) ne = refl
+
+walk_sound : (m : Machine) → IsSound m → (c : Option ℕ) → m.cursor ≡ c → c ≢ None → IsSound (after_walk m c)
+walk_sound m o None is ne = absurd (ne refl)
+walk_sound m o (Some k) is ne =
+    either (link m k == 0) IsSound _ _ (λ e. sound_walk_end m o k is (eqb-true (link m k) 0 e)) (λ e. sound_walk_on m o k is (eqb-false (link m k) 0 e))
+
+begin_sound : (m : Machine) → IsSound m → (b : List ℕ) → m.batch ≡ b → b ≢ [] → m.cursor ≡ None → ¬ IsRunning m.history → IsSound (after_begin m b)
+begin_sound m o [] is ne still idle = absurd (ne refl)
+begin_sound m o (k ∷ ks) is ne still idle = sound_begin m o k ks still is idle
+
+pub sound_after : (m : Machine) (seat : Seat) (step : Step) → IsSound m → IsMade m seat step → IsSound (after m seat step)
+sound_after m (Sender s) (Hold k) o made =
+    either (item_word m k == 0) IsSound _ _ (λ e. sound_hold m o s k made.0.0.0 made.0.1 (eqb-true (item_word m k) 0 e)) (λ e. sound_busy m o s k made.0.0.0 made.0.1 (eqb-false (item_word m k) 0 e))
+sound_after m (Sender s) Look o made = sound_look m o s made.0.0.0
+sound_after m (Sender s) (Link k) o made =
+    let is = seen_some (private m s).seen made.1.1 in
+    sound_link m o s k (seen_word m s) made.0.0.0 made.0.1 made.1.0 is (λ e. made.1.2 (is ∙ ap Some e))
+sound_after m (Sender s) (Push k) o made =
+    either (head m == seen_word m s) IsSound _ _ (λ e. sound_push m o s k made.0.0.0 made.0.1 made.1 (eqb-true (head m) (seen_word m s) e)) (λ e. sound_lost m o s made.0.0.0)
+sound_after m (Sender s) (Back k why) o made = sound_back m o s k why made.0.0.0 made.0.1 made.1.0 made.1.1
+sound_after m (Sender s) (Check k) o made = o
+sound_after m (Sender s) Take o made = absurd made.1
+sound_after m (Sender s) Close o made = absurd made.1
+sound_after m (Sender s) Walk o made = absurd made.1
+sound_after m (Sender s) Begin o made = absurd made.1
+sound_after m (Sender s) End o made = absurd made.1
+sound_after m (Sender s) (Chain k) o made = absurd made.1
+sound_after m Owner Take o made = sound_take m o made.1.0 made.1.1 made.1.2
+sound_after m Owner Close o made = sound_close m o made.1.0 made.1.1
+sound_after m Owner Walk o made = walk_sound m o m.cursor refl made.1
+sound_after m Owner Begin o made = begin_sound m o m.batch refl made.1.1 made.1.0 made.1.2
+sound_after m Owner End o made =
+    let r = runs_some m.history made.1 in
+    rw r.1 (sound_end m o r.0 r.1)
+sound_after m Owner (Chain k) o made =
+    either (item_word m k == 0) IsSound _ _ (λ e. sound_chain m o k made.0.1 made.1.0 made.1.1 made.1.2 (eqb-true (item_word m k) 0 e)) (λ e. sound_chain_busy m o k made.0.1 made.1.0 made.1.2 (eqb-false (item_word m k) 0 e))
+sound_after m Owner (Hold k) o made = absurd made.1
+sound_after m Owner Look o made = absurd made.1
+sound_after m Owner (Link k) o made = absurd made.1
+sound_after m Owner (Push k) o made = absurd made.1
+sound_after m Owner (Back k why) o made = absurd made.1
+sound_after m Owner (Check k) o made = absurd made.1
+
+pub all_alike : {A : Type 0} (n k : ℕ) (x : A) → get_or (replicate n x) k x ≡ x
+all_alike zero k x = refl
+all_alike (suc n) zero x = refl
+all_alike (suc n) (suc k) x = all_alike n k x
+
+pub sound_opening : (layout : Layout) → IsSound (opening layout)
+sound_opening layout = record {
+  has_words = length-replicate _ _;
+  has_seats = length-replicate _ _;
+  legal = legal_nil layout;
+  head_is = all_alike (word_count (number_count layout)) _ 0;
+  items_are = λ k lt. all_alike (word_count (number_count layout)) _ 0;
+  done_is = all_alike (word_count (number_count layout)) _ 0;
+  chains = record { remaining = []; list_chain = refl; walk_chain = refl; order = refl; rested = λ _. refl };
+  linked = λ s k is. absurd (cc (is, ap (λ (p : Private). p.linked) (all_alike layout.senders s nothing_seen)));
+  seen = λ s is. absurd (cc (is, ap (λ (p : Private). p.seen) (all_alike layout.senders s nothing_seen)));
+}
+
+pub sound_leads : (turns : List (Seat × Step)) (old new : Machine) → IsSound old → Leads old turns new → IsSound new
+sound_leads [] old new o leads = rw leads o
+sound_leads (turn ∷ turns) old new o leads =
+    sound_leads turns (after old turn.0 turn.1) new (sound_after old turn.0 turn.1 o leads.0) leads.1
+
+-- whatever the schedule, the machine stays sound
+pub sound_leaves : (layout : Layout) (turns : List (Seat × Step)) (m : Machine) → Leaves layout turns m → IsSound m
+sound_leaves layout turns m leaves = sound_leads turns (opening layout) m (sound_opening layout) leaves
+
+-- the layout travels with the machine
+layout_after : (m : Machine) (seat : Seat) (step : Step) → (after m seat step).layout ≡ m.layout
+layout_after m (Sender s) (Hold k) = either (item_word m k == 0) (λ x. x.layout ≡ m.layout) _ _ (λ e. refl) (λ e. refl)
+layout_after m (Sender s) Look = refl
+layout_after m (Sender s) (Link k) = refl
+layout_after m (Sender s) (Push k) = either (head m == seen_word m s) (λ x. x.layout ≡ m.layout) _ _ (λ e. refl) (λ e. refl)
+layout_after m (Sender s) (Back k why) = refl
+layout_after m (Sender s) (Check k) = refl
+layout_after m Owner Take = refl
+layout_after m Owner Close = refl
+layout_after m Owner Walk = walk m.cursor
+  where
+    walk : (c : Option ℕ) → (after_walk m c).layout ≡ m.layout
+    walk None = refl
+    walk (Some k) = either (link m k == 0) (λ x. x.layout ≡ m.layout) _ _ (λ e. refl) (λ e. refl)
+layout_after m Owner Begin = begin m.batch
+  where
+    begin : (b : List ℕ) → (after_begin m b).layout ≡ m.layout
+    begin [] = refl
+    begin (k ∷ ks) = refl
+layout_after m Owner End = end (running m.history)
+  where
+    end : (r : Option ℕ) → (after_end m r).layout ≡ m.layout
+    end None = refl
+    end (Some k) = refl
+layout_after m Owner (Chain k) = either (item_word m k == 0) (λ x. x.layout ≡ m.layout) _ _ (λ e. refl) (λ e. refl)
+layout_after m _ _ = refl
+
+layout_leads : (turns : List (Seat × Step)) (old new : Machine) → Leads old turns new → new.layout ≡ old.layout
+layout_leads [] old new leads = ap (λ (m : Machine). m.layout) leads
+layout_leads (turn ∷ turns) old new leads = layout_leads turns (after old turn.0 turn.1) new leads.1 ∙ layout_after old turn.0 turn.1
+
+-- whatever the schedule, what has happened is a legal history
+pub legal_leaves : (layout : Layout) (turns : List (Seat × Step)) (m : Machine) → Leaves layout turns m → IsLegal layout m.history
+legal_leaves layout turns m leaves = rw (layout_leads turns (opening layout) m leaves) at (sound_leaves layout turns m leaves).legal
+
+-- between two calls of the owner the batch is what is taken and has not begun
+pub batch_is : (m : Machine) → IsSound m → m.cursor ≡ None → m.batch ≡ drop (length (begun m.history)) (take (taken m.history) (accepted m.history))
+batch_is m o still =
+    let a = o.chains in
+    let done : m.walked ≡ [] = a.rested still in
+    let none : a.remaining ≡ [] = chain_zero (number_count m.layout) m.words a.remaining (rw still at a.walk_chain) in
+    let order : accepted m.history ≡ (begun m.history ++ m.batch) ++ reverse (listed m.history) = rw (none, done) at a.order ∙ simp append-nil in
+    let counts : length (begun m.history ++ m.batch) ≡ taken m.history =
+    omega (arith, ap length order, length-append (begun m.history ++ m.batch) (reverse (listed m.history)), length-reverse (listed m.history), length-accepted m.layout m.history o.legal) in
+    sym (ap (λ l. drop (length (begun m.history)) l) (ap (λ l. take (taken m.history) l) order ∙ take_at (begun m.history ++ m.batch) (reverse (listed m.history)) (taken m.history) counts) ∙ drop_at (begun m.history) m.batch (length (begun m.history)) refl)
+
+-- a schedule goes on by one step
+pub leads_push : (turns : List (Seat × Step)) (old mid : Machine) (seat : Seat) (step : Step) → Leads old turns mid → IsMade mid seat step → Leads old (turns ++ (seat, step) ∷ []) (after mid seat step)
+leads_push [] old mid seat step leads made = (rw leads at made, ap (λ m. after m seat step) leads)
+leads_push (turn ∷ turns) old mid seat step leads made =
+    (leads.0, leads_push turns (after old turn.0 turn.1) mid seat step leads.1 made)
+
+pub leaves_more : (layout : Layout) (turns : List (Seat × Step)) (place : ℕ) (d : Seat × Step) (m : Machine) → place < length turns → Leaves layout (take place turns) m
+    → IsMade m (get_or turns place d).0 (get_or turns place d).1 → Leaves layout (take (place + 1) turns) (after m (get_or turns place d).0 (get_or turns place d).1)
+leaves_more layout turns place d m lt leaves made =
+    rw (take_more turns place d lt) (leads_push (take place turns) (opening layout) m (get_or turns place d).0 (get_or turns place d).1 leaves made)
+
+pub refused_at : (layout : Layout) (turns : List (Seat × Step)) (place : ℕ) (d : Seat × Step) (m : Machine) (why : StepError) → place < length turns → Leaves layout (take place turns) m
+    → IsRefused m (get_or turns place d).0 (get_or turns place d).1 why → IsFirstRefusal layout turns place why
+refused_at layout turns place d m why lt leaves refused =
+    (m, leaves, (get_or turns place d).0, (get_or turns place d).1, slice_get-get_or turns place d lt, refused)

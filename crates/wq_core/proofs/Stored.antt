@@ -1,0 +1,204 @@
+-- What is kept beside the machine follows each step.
+use Rattle.std.proofs.Common.{◌≡◌, ◌≢◌, ℕ, ◌+◌, ◌<◌, ◌≤◌, ◌^◌, ◌%◌, List, [], ◌∷◌, ◌++◌, length, replicate, cond, take, reverse, ◌-◌, get_or, set, None, Some, Option, unwrap_or, refl, sym, ap, ◌∙◌, arith, length-set, length-append, ◌↔◌}
+use Rattle.std.proofs.lemmas.List.{length-replicate, reverse-append, take_all, take_more}
+use Rattle.std.proofs.lemmas.Option.{slice_get_past, slice_get_within}
+use Rattle.std.proofs.lemmas.Bool.{eq-eqb}
+use Rattle.wq_words.specs.declared.layout.Layout.{Layout}
+use Rattle.wq_words.specs.declared.event.Event.{Event}
+use Rattle.wq_words.specs.declared.event.Event.TheVariants.{Hold, Busy, Push, Back, Take, Close, Begin, End, Chain, ChainBusy}
+use Rattle.wq_words.specs.declared.event.Why.{Why}
+use Rattle.wq_words.specs.declared.event.Why.TheVariants.{Closed}
+use Rattle.wq_words.specs.Numbers.{number_count}
+use Rattle.wq_words.specs.Head.{head_word}
+use Rattle.wq_words.specs.History.{accepted, begun, ended, running, Holds, IsRunning, IsClosed}
+use Rattle.wq_words.specs.Listed.{listed}
+use Rattle.wq_words.specs.Keeper.{Keeper, Home, Sender, Listed, Owner, taken_over, keeper_after, keeper}
+use Rattle.wq_words.proofs.Growing.{growing, slice_get_last}
+use Rattle.wq_words.proofs.Order.{in_order, prefix_length}
+use Rattle.wq_core.specs.declared.step.Private.{Private}
+use Rattle.wq_core.specs.Words.{closed_word, number_at, link_place}
+use Rattle.wq_core.specs.Machine.{Machine, opening, nothing_seen, head, link, item_word, done_word, private, seen_word, with_head, with_link, with_item, with_done, with_private, happened, unlinked}
+use Rattle.wq_core.specs.Sound.{head_of_list, IsChain, AreChained, IsSound}
+use Rattle.wq_core.specs.Stored.{FollowKeepers, holder, IsStored}
+use Rattle.wq_core.proofs.Privates.{gives_hold, gives_push, gives_back, gives_begin, gives_chain, follow_give, follow_same, follow_quiet}
+use Rattle.wq_core.proofs.Schedules.{runs_some, sound_opening, all_alike}
+use Rattle.wq_core.proofs.Steps.{sound_hold, sound_busy, sound_look, sound_link, sound_push, sound_lost, sound_back, sound_take, sound_close, sound_walk_end, sound_walk_on, sound_begin, sound_end, sound_chain, sound_chain_busy, home_from_clear, sender_from_holds, holds_from_keeper, first_of_batch, head_open}
+
+held_over : (x : Keeper) → holder (taken_over x) ≡ holder x
+held_over Home = refl
+held_over (Sender s) = refl
+held_over Listed = refl
+held_over Owner = refl
+
+module _ (m : Machine) (holders : List (Option ℕ)) (runs : Option ℕ) (o : IsStored m holders runs) where
+  pub stored_hold : (s k : ℕ) → s < m.layout.senders → k < number_count m.layout → item_word m k ≡ 0 → IsStored (happened (with_item m k 1) (Hold s k)) (set holders k (Some s)) runs
+  stored_hold s k seat number clear = record {
+    sound = sound_hold m o.sound s k seat number clear;
+    has_holders = length-set holders k _ ∙ o.has_holders;
+    holders_are = follow_give holder None (λ j. j) _ holders m.history (Hold s k) k (Sender s) (λ j e. e) (omega (arith, o.has_holders, number)) (gives_hold s k) o.holders_are;
+    running_is = simp growing o.running_is;
+  }
+
+  pub stored_busy : (s k : ℕ) → s < m.layout.senders → k < number_count m.layout → item_word m k ≢ 0 → IsStored (happened m (Busy s k)) holders runs
+  stored_busy s k seat number set' = record {
+    sound = sound_busy m o.sound s k seat number set';
+    has_holders = o.has_holders;
+    holders_are = follow_quiet holder None (λ j. j) _ holders m.history (Busy s k) (λ j x. refl) o.holders_are;
+    running_is = simp growing o.running_is;
+  }
+
+  pub stored_look : (s : ℕ) → s < m.layout.senders → IsStored (with_private m s (record { seen = Some (head m); linked = None })) holders runs
+  stored_look s seat = record { sound = sound_look m o.sound s seat; has_holders = o.has_holders; holders_are = o.holders_are; running_is = o.running_is }
+
+  pub stored_link : (s k w : ℕ) → s < m.layout.senders → k < number_count m.layout → Holds m.history s k → (private m s).seen ≡ Some w → w ≢ closed_word
+      → IsStored (with_private (with_link m k w) s (record (private m s) { linked = Some k })) holders runs
+  stored_link s k w seat number holds seen unclosed = record { sound = sound_link m o.sound s k w seat number holds seen unclosed; has_holders = o.has_holders; holders_are = o.holders_are; running_is = o.running_is }
+
+  pub stored_push : (s k : ℕ) → s < m.layout.senders → k < number_count m.layout → (private m s).linked ≡ Some k → head m ≡ seen_word m s
+      → IsStored (happened (with_private (with_head m (k + 1)) s nothing_seen) (Push s k)) (set holders k None) runs
+  stored_push s k seat number linked won = record {
+    sound = sound_push m o.sound s k seat number linked won;
+    has_holders = length-set holders k _ ∙ o.has_holders;
+    holders_are = follow_give holder None (λ j. j) _ holders m.history (Push s k) k Listed (λ j e. e) (omega (arith, o.has_holders, number)) (gives_push s k) o.holders_are;
+    running_is = simp growing o.running_is;
+  }
+
+  pub stored_lost : (s : ℕ) → s < m.layout.senders → IsStored (with_private m s nothing_seen) holders runs
+  stored_lost s seat = record { sound = sound_lost m o.sound s seat; has_holders = o.has_holders; holders_are = o.holders_are; running_is = o.running_is }
+
+  pub stored_back : (s k : ℕ) (why : Why) → s < m.layout.senders → k < number_count m.layout → Holds m.history s k → (why ≡ Closed → (private m s).seen ≡ Some closed_word)
+      → IsStored (happened (with_private (with_item m k 0) s (unlinked (private m s) k)) (Back s k why)) (set holders k None) runs
+  stored_back s k why seat number holds sees = record {
+    sound = sound_back m o.sound s k why seat number holds sees;
+    has_holders = length-set holders k _ ∙ o.has_holders;
+    holders_are = follow_give holder None (λ j. j) _ holders m.history (Back s k why) k Home (λ j e. e) (omega (arith, o.has_holders, number)) (gives_back s k why) o.holders_are;
+    running_is = simp growing o.running_is;
+  }
+
+  pub stored_take : ¬ IsClosed m.history → m.cursor ≡ None → m.batch ≡ [] → IsStored (happened (record (with_head m 0) { cursor = number_at (head m) }) Take) holders runs
+  stored_take unclosed still empty = record {
+    sound = sound_take m o.sound unclosed still empty;
+    has_holders = o.has_holders;
+    holders_are = follow_quiet holder None (λ j. j) _ holders m.history Take (λ j x. held_over x) o.holders_are;
+    running_is = simp growing o.running_is;
+  }
+
+  pub stored_close : ¬ IsClosed m.history → m.cursor ≡ None → IsStored (happened (record (with_head m closed_word) { cursor = number_at (head m) }) Close) holders runs
+  stored_close unclosed still = record {
+    sound = sound_close m o.sound unclosed still;
+    has_holders = o.has_holders;
+    holders_are = follow_quiet holder None (λ j. j) _ holders m.history Close (λ j x. held_over x) o.holders_are;
+    running_is = simp growing o.running_is;
+  }
+
+  pub stored_walk_end : (k : ℕ) → m.cursor ≡ Some k → link m k ≡ 0 → IsStored (record m { cursor = None; walked = []; batch = m.batch ++ k ∷ m.walked }) holders runs
+  stored_walk_end k on is = record { sound = sound_walk_end m o.sound k on is; has_holders = o.has_holders; holders_are = o.holders_are; running_is = o.running_is }
+
+  pub stored_walk_on : (k : ℕ) → m.cursor ≡ Some k → link m k ≢ 0 → IsStored (record m { cursor = number_at (link m k); walked = k ∷ m.walked }) holders runs
+  stored_walk_on k on more = record { sound = sound_walk_on m o.sound k on more; has_holders = o.has_holders; holders_are = o.holders_are; running_is = o.running_is }
+
+  pub stored_begin : (k : ℕ) (rest : List ℕ) → m.cursor ≡ None → m.batch ≡ k ∷ rest → ¬ IsRunning m.history
+      → IsStored (happened (record (with_item m k 0) { batch = rest }) (Begin k)) holders (Some k)
+  stored_begin k rest still first idle =
+      let order = in_order m.layout m.history o.sound.legal in
+      let ends = prefix_length (ended m.history) (begun m.history) order.ended_first in
+      let last : length (ended m.history) ≡ length (begun m.history) = omega (arith, idle, ends) in
+      record {
+        sound = sound_begin m o.sound k rest still first idle;
+        has_holders = o.has_holders;
+        holders_are = follow_same holder None (λ j. j) _ holders m.history (Begin k) k Home (gives_begin k) (sym (free (keeper m.history k) refl)) o.holders_are;
+        running_is = simp growing (rw last (sym (slice_get_last (begun m.history) k [])));
+      }
+    where
+      free : (x : Keeper) → keeper m.history k ≡ x → holder x ≡ None
+      free (Sender s) is = absurd ((first_of_batch m o.sound k rest still first).2 s is)
+      free _ is = refl
+
+  pub stored_end : (k : ℕ) → runs ≡ Some k → IsStored (happened (with_done m ((done_word m + 1) % 2 ^ 64)) (End k)) holders None
+  stored_end k is =
+      let order = in_order m.layout m.history o.sound.legal in
+      record {
+        sound = sound_end m o.sound k (sym o.running_is ∙ is);
+        has_holders = o.has_holders;
+        holders_are = follow_quiet holder None (λ j. j) _ holders m.history (End k) (λ j x. refl) o.holders_are;
+        running_is = simp growing (sym (slice_get_past (begun m.history) (length (ended m.history ++ k ∷ [])) (simp length-append (omega (arith, order.one_at_a_time)))));
+      }
+
+  pub stored_chain : (k : ℕ) → k < m.layout.items → IsClosed m.history → m.cursor ≡ None → IsRunning m.history → item_word m k ≡ 0
+      → IsStored (happened (record (with_item m k 1) { batch = m.batch ++ k ∷ [] }) (Chain k)) holders runs
+  stored_chain k item closed still busy clear =
+      let home = home_from_clear m o.sound k (omega (arith, item)) clear in
+      record {
+        sound = sound_chain m o.sound k item closed still busy clear;
+        has_holders = o.has_holders;
+        holders_are = follow_same holder None (λ j. j) _ holders m.history (Chain k) k Owner (gives_chain k) (rw home refl) o.holders_are;
+        running_is = simp growing o.running_is;
+      }
+
+  pub stored_chain_busy : (k : ℕ) → k < m.layout.items → IsClosed m.history → IsRunning m.history → item_word m k ≢ 0 → IsStored (happened m (ChainBusy k)) holders runs
+  stored_chain_busy k item closed busy set' = record {
+    sound = sound_chain_busy m o.sound k item closed busy set';
+    has_holders = o.has_holders;
+    holders_are = follow_quiet holder None (λ j. j) _ holders m.history (ChainBusy k) (λ j x. refl) o.holders_are;
+    running_is = simp growing o.running_is;
+  }
+
+  -- the stored holder is the sender that holds the number, and something is stored as running exactly while a number runs
+  pub holds_stored : (s k : ℕ) → k < number_count m.layout → (get_or holders k None ≡ Some s) ↔ Holds m.history s k
+  holds_stored s k number = (
+    λ is. holds_from_keeper m.layout m.history o.sound.legal s k (sender (keeper m.history k) (sym (o.holders_are k number) ∙ is)),
+    λ holds. o.holders_are k number ∙ ap holder (sender_from_holds m o.sound s k holds),
+  )
+    where
+      sender : (x : Keeper) → holder x ≡ Some s → x ≡ Sender s
+      sender Home e = absurd cc
+      sender (Sender t) e = cc
+      sender Listed e = absurd cc
+      sender Owner e = absurd cc
+
+  pub runs_stored : (runs ≢ None) ↔ IsRunning m.history
+  runs_stored = (some runs o.running_is, λ busy none. absurd (let r = runs_some m.history busy in cc (r.1, o.running_is, none)))
+    where
+      some : (r : Option ℕ) → r ≡ running m.history → r ≢ None → IsRunning m.history
+      some None is ne = absurd (ne refl)
+      some (Some k) is ne = slice_get_within (begun m.history) (length (ended m.history)) k (sym is)
+
+-- the number that a word of a chain links to is one of the queue's
+chain_fits : (n : ℕ) (ws : List ℕ) (w : ℕ) (ks : List ℕ) → IsChain n ws w ks → w ≤ n
+chain_fits n ws w [] c = omega (arith, c)
+chain_fits n ws w (k ∷ ks) c = omega (arith, c.0, c.1)
+
+pub head_fits : (m : Machine) → IsSound m → ¬ IsClosed m.history → head m ≤ number_count m.layout
+head_fits m o opens = rw (head_open m o opens) (chain_fits (number_count m.layout) m.words _ (listed m.history) o.chains.list_chain)
+
+pub link_fits : (m : Machine) → IsSound m → (k : ℕ) → m.cursor ≡ Some k → link m k ≤ number_count m.layout
+link_fits m o k on = go o.chains.remaining (rw on at o.chains.walk_chain)
+  where
+    go : (ks : List ℕ) → IsChain (number_count m.layout) m.words (k + 1) ks → link m k ≤ number_count m.layout
+    go [] c = absurd (omega (arith, c))
+    go (j ∷ js) c =
+        let same : j ≡ k = omega (arith, c.0) in
+        rw same at (chain_fits (number_count m.layout) m.words _ js c.2)
+
+-- a list whose reverse is not empty, by its last element
+pub by_last : (xs ys : List ℕ) (k : ℕ) → xs ≡ ys ++ k ∷ [] → reverse xs ≡ k ∷ reverse ys
+by_last xs ys k e = rw e (reverse-append ys (k ∷ []))
+
+-- a stack that is not empty: its top, and what is left when that is taken off
+pub by_top : (xs : List ℕ) (k : ℕ) → reverse xs ≢ [] → k ≡ get_or xs (length xs - 1) k → reverse xs ≡ k ∷ reverse (take (length xs - 1) xs)
+by_top xs k ne top = go xs refl ne
+  where
+    go : (ys : List ℕ) → xs ≡ ys → reverse ys ≢ [] → reverse xs ≡ k ∷ reverse (take (length xs - 1) xs)
+    go [] is ne' = absurd (ne' refl)
+    go (y ∷ ys) is ne' =
+        let lt : length xs - 1 < length xs = omega (arith, ap length is) in
+        let full : length xs - 1 + 1 ≡ length xs = omega (arith, lt) in
+        by_last xs (take (length xs - 1) xs) k (sym (take_all (length xs) xs (omega arith)) ∙ rw full at (take_more xs (length xs - 1) k lt) ∙ ap (λ t. take (length xs - 1) xs ++ t ∷ []) (sym top))
+
+pub stored_opening : (layout : Layout) → IsStored (opening layout) (replicate (number_count layout) None) None
+stored_opening layout = record {
+  sound = sound_opening layout;
+  has_holders = length-replicate _ _;
+  holders_are = λ k lt. all_alike _ k None;
+  running_is = refl;
+}

@@ -1,0 +1,27 @@
+-- Schedules: who makes which step, one after another.
+use Rattle.std.specs.Prelude.{◌≡◌, ◌⊎◌, ℕ, List, [], ◌∷◌, take, slice_get, Some}
+use Rattle.wq_words.specs.declared.layout.Layout.{Layout}
+use Rattle.wq_core.specs.declared.step.Seat.{Seat}
+use Rattle.wq_core.specs.declared.step.Step.{Step}
+use Rattle.wq_core.specs.declared.step.StepError.{StepError}
+use Rattle.wq_core.specs.declared.step.StepError.TheVariants.{Memory}
+use Rattle.wq_core.specs.Machine.{Machine, opening, after}
+use Rattle.wq_core.specs.Refusal.{IsMade, IsRefused}
+
+-- the steps, each of which is made, lead from old to new
+abbrev pub Leads : Machine → List (Seat × Step) → Machine → Type 0
+Leads old [] new = new ≡ old
+Leads old (turn ∷ turns) new = IsMade old turn.0 turn.1 × Leads (after old turn.0 turn.1) turns new
+
+-- the schedule leaves this machine, and none of its steps is refused
+abbrev pub Leaves : Layout → List (Seat × Step) → Machine → Type 0
+Leaves layout turns m = Leads (opening layout) turns m
+
+-- all steps before this place are made, and the step there is the first that is refused, for this cause
+abbrev pub IsFirstRefusal : Layout → List (Seat × Step) → ℕ → StepError → Type 0
+IsFirstRefusal layout turns at why =
+    (m : Machine) × Leaves layout (take at turns) m × (seat : Seat) × (step : Step) × (slice_get turns at ≡ Some (seat, step)) × IsRefused m seat step why
+
+-- no memory could be had for the opening state
+abbrev pub LacksOpening : ℕ → StepError → Type 0
+LacksOpening at why = (at ≡ 0) × (why ≡ Memory)

@@ -1,0 +1,56 @@
+-- What every step keeps.
+use Rattle.std.specs.Prelude.{◌≡◌, ◌≢◌, ℕ, ◌+◌, ◌%◌, ◌^◌, ◌<◌, if◌then◌else◌, List, [], ◌∷◌, ◌++◌, length, reverse, get_or, Option, Some, None}
+use mathlib.Core.List.{reverse_aux}
+use Rattle.wq_words.specs.declared.head.Head.{Head}
+use Rattle.wq_words.specs.declared.head.Head.TheVariants.{Empty, Item, Closed}
+use Rattle.wq_words.specs.declared.event.Event.{Event}
+use Rattle.wq_words.specs.Head.{head_word}
+use Rattle.wq_words.specs.Numbers.{number_count}
+use Rattle.wq_words.specs.History.{accepted, begun, ended, pending, closed, Holds, IsClosed}
+use Rattle.wq_words.specs.Legal.{IsLegal}
+use Rattle.wq_words.specs.Listed.{listed}
+use Rattle.wq_core.specs.Words.{link_place, word_count, closed_word}
+use Rattle.wq_core.specs.Machine.{Machine, head, link, item_word, done_word, private}
+
+-- the head of a list of numbers, newest first
+abbrev pub head_of_list : List ℕ → Head
+head_of_list [] = Empty
+head_of_list (k ∷ ks) = Item k
+
+-- the head that the history leaves
+abbrev pub head_of : List Event → Head
+head_of h = if closed h then Closed else head_of_list (listed h)
+
+-- the word that links to a number, or to none
+abbrev pub word_at : Option ℕ → ℕ
+word_at None = 0
+word_at (Some k) = k + 1
+
+-- from this word the links spell these numbers of a queue of n
+abbrev pub IsChain : ℕ → List ℕ → ℕ → List ℕ → Type 0
+IsChain n words word [] = word ≡ 0
+IsChain n words word (k ∷ ks) = (word ≡ k + 1) × (k < n) × IsChain n words (get_or words (link_place k) 0) ks
+
+-- The chain from the head spells what is listed. The chain from the cursor spells what remains to be walked. Both, what
+-- was walked, and the batch are just what was accepted and has not begun, in order.
+pub record AreChained (n : ℕ) (words : List ℕ) (cursor : Option ℕ) (walked batch accepted begun listed : List ℕ) : Type 0 where
+  pub remaining : List ℕ
+  pub list_chain : IsChain n words (head_word (head_of_list listed)) listed
+  pub walk_chain : IsChain n words (word_at cursor) remaining
+  pub order : accepted ≡ begun ++ (batch ++ reverse_aux remaining walked) ++ reverse listed
+  pub rested : cursor ≡ None → walked ≡ []
+
+pub record IsSound (m : Machine) : Type 0 where
+  pub has_words : length m.words ≡ word_count (number_count m.layout)
+  pub has_seats : length m.seats ≡ m.layout.senders
+  pub legal : IsLegal m.layout m.history
+  pub head_is : head m ≡ head_word (head_of m.history)
+  -- the item words are the PENDING bits
+  pub items_are : (k : ℕ) → k < number_count m.layout → item_word m k ≡ (if pending m.history k then 1 else 0)
+  -- the done word counts the ended executions, as far as a word can
+  pub done_is : done_word m ≡ length (ended m.history) % 2 ^ 64
+  pub chains : AreChained (number_count m.layout) m.words m.cursor m.walked m.batch (accepted m.history) (begun m.history) (listed m.history)
+  -- what a sender linked it holds, and the link is the head word that it saw, which was not the closed one
+  pub linked : (s k : ℕ) → (private m s).linked ≡ Some k → (k < number_count m.layout) × Holds m.history s k × ((private m s).seen ≡ Some (link m k)) × (link m k ≢ closed_word)
+  -- what was seen closed is closed
+  pub seen : (s : ℕ) → (private m s).seen ≡ Some closed_word → IsClosed m.history

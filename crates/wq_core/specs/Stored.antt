@@ -1,0 +1,31 @@
+-- The machine as it is kept in memory, and what is kept beside it to answer at once.
+use Rattle.std.specs.Prelude.{◌≡◌, ℕ, ◌<◌, List, length, reverse, get_or, Option, Some, None}
+use Rattle.wq_words.specs.declared.layout.Layout.{Layout}
+use Rattle.wq_words.specs.declared.event.Event.{Event}
+use Rattle.wq_words.specs.Numbers.{number_count}
+use Rattle.wq_words.specs.History.{running}
+use Rattle.wq_words.specs.Keeper.{Keeper, Sender, keeper}
+use Rattle.wq_core.specs.declared.step.Private.{Private}
+use Rattle.wq_core.specs.Machine.{Machine}
+use Rattle.wq_core.specs.Sound.{IsSound}
+
+-- the machine in these parts: what was walked stands newest first, and so does the batch
+abbrev pub stored_machine : Layout → List ℕ → List Private → Option ℕ → List ℕ → List ℕ → List Event → Machine
+stored_machine l ws ps c walked batch h =
+    record { layout = l; words = ws; seats = ps; cursor = c; walked = reverse walked; batch = reverse batch; history = h }
+
+-- at the place of each number the list has what f says of its keeper
+abbrev pub FollowKeepers : {X : Type 0} → (Keeper → X) → X → (ℕ → ℕ) → ℕ → List X → List Event → Type 0
+FollowKeepers f default place n xs h = (k : ℕ) → k < n → get_or xs (place k) default ≡ f (keeper h k)
+
+-- the sender that holds the number
+abbrev pub holder : Keeper → Option ℕ
+holder (Sender s) = Some s
+holder _ = None
+
+-- the machine is sound, and beside it stand who holds each number and which number runs
+pub record IsStored (m : Machine) (holders : List (Option ℕ)) (runs : Option ℕ) : Type 0 where
+  pub sound : IsSound m
+  pub has_holders : length holders ≡ number_count m.layout
+  pub holders_are : FollowKeepers holder None (λ k. k) (number_count m.layout) holders m.history
+  pub running_is : runs ≡ running m.history

@@ -1,0 +1,33 @@
+-- The words of a queue's table: the head, the links, the item words with the PENDING bits, and the count of ended
+-- executions. n is how many numbers the queue has.
+use Rattle.std.specs.Prelude.{ℕ, ◌+◌, ◌-◌, ◌*◌, ◌^◌, ◌==◌, if◌then◌else◌, Option, Some, None}
+use Rattle.wq_words.specs.declared.head.Head.{Head}
+use Rattle.wq_words.specs.declared.head.Head.TheVariants.{Empty, Item, Closed}
+
+-- where each word stands
+abbrev pub head_place : ℕ
+head_place = 0
+
+abbrev pub link_place : ℕ → ℕ
+link_place k = 1 + k
+
+abbrev pub item_place : ℕ → ℕ → ℕ
+item_place n k = 1 + n + k
+
+abbrev pub done_place : ℕ → ℕ
+done_place n = 1 + 2 * n
+
+abbrev pub word_count : ℕ → ℕ
+word_count n = 2 * n + 2
+
+-- the head word of a closed queue
+abbrev pub closed_word : ℕ
+closed_word = 2 ^ 64 - 1
+
+-- the number that a link or a head that is not closed stands for
+abbrev pub number_at : ℕ → Option ℕ
+number_at word = if word == 0 then None else Some (word - 1)
+
+-- what a head word says
+abbrev pub head_at : ℕ → Head
+head_at word = if word == 0 then Empty else (if word == closed_word then Closed else Item (word - 1))

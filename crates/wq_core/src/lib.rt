@@ -1,0 +1,12 @@
+//! The machine of an ordered workqueue: the words of its table, what each seat keeps in private, and one atomic step at a
+//! time.
+#![tactic(auto)]
+
+mod machine;
+mod place;
+mod schedule;
+mod step;
+
+pub use machine::Core;
+pub use schedule::{ReplayError, replay};
+pub use step::{Private, Reply, Seat, Step, StepError};

@@ -1,0 +1,475 @@
+//! The machine in memory, step by step.
+ghost use Rattle.std.specs.Prelude.{◌≡◌, ◌≢◌, ℕ, ◌<◌, ◌↔◌, IsTrue, IfOk, IfErr, OnOk, OnErr, length, get_or, Some, None};
+ghost use Rattle.wq_words.specs.declared.layout.Layout.{Layout};
+ghost use Rattle.wq_words.specs.Numbers.{number_count};
+ghost use Rattle.wq_words.specs.History.{accepted_by, begun_by, accepted, begun, Holds, IsClosed, IsRunning};
+ghost use Rattle.wq_core.specs.declared.step.Seat.TheVariants.{Sender, Owner};
+ghost use Rattle.wq_core.specs.declared.step.Step.TheVariants.{Hold, Look, Link, Push, Back, Check, Take, Close, Walk, Begin, End, Chain};
+ghost use Rattle.wq_core.specs.Words.{closed_word};
+ghost use Rattle.wq_core.specs.Machine.{opening, IsEnabled, after, reply_to, nothing_seen, private, unlinked, item_word};
+ghost use Rattle.wq_core.specs.Refusal.{is_senders, IsSeated, IsNumbered, IsPlaced, IsMade, IsRefused};
+
+use crate::place::{
+    HEAD, done_place, head_at, item_place, link_place, number_at, number_count, word, word_count,
+};
+use crate::step::{Private, Reply, Seat, Step, StepError};
+use std::alloc::{AllocError, Global};
+use std::marker::Model;
+use wq_words::{Event, Layout, Why};
+
+const NOTHING_SEEN: Private = Private {
+    seen: None,
+    linked: None,
+};
+
+/// The machine of one queue: its words, what its seats keep in private, and what has happened so far. Any seat may be
+/// given any step; what has happened is then a legal history.
+#[derive(Drop)]
+pub struct Core {
+    alloc: Global,
+    layout: Layout,
+    words: Vec<u64>,
+    seats: Vec<Private>,
+    cursor: Option<u32>,
+    // newest first, so that a walk adds at the end and a begin takes from there
+    walked: Vec<u32>,
+    batch: Vec<u32>,
+    history: Vec<Event>,
+    // who holds each number, and which number runs: the history says it too, but only to who reads it through
+    holders: Vec<Option<u32>>,
+    running: Option<u32>,
+}
+
+impl Model for Core {
+    ghost use Rattle.wq_core.specs.Machine.{Machine};
+
+    ghost Value = { Machine };
+
+    ghost use Rattle.wq_core.specs.Stored.{stored_machine, IsStored};
+
+    ghost view = { λ c. stored_machine c.layout c.words.items c.seats.items c.cursor c.walked.items c.batch.items c.history.items };
+
+    ghost invariant = { λ c. IsStored (stored_machine c.layout c.words.items c.seats.items c.cursor c.walked.items c.batch.items c.history.items) c.holders.items c.running };
+}
+
+impl Core {
+    /// A queue in which nothing has happened.
+    pub fn new(alloc: Global, layout: Layout) -> Result<Core, AllocError>
+        ensures { IfOk result (λ core. core ≡ opening layout) }
+    {
+        let count = number_count(layout);
+        Ok(Core {
+            alloc,
+            layout,
+            words: vec![in alloc; 0; word_count(layout)]?,
+            seats: vec![in alloc; NOTHING_SEEN; layout.senders as usize]?,
+            cursor: None,
+            walked: Vec::new(alloc),
+            batch: Vec::new(alloc),
+            history: Vec::new(alloc),
+            holders: vec![in alloc; None; count]?,
+            running: None,
+        })
+    }
+
+    /// The events so far, oldest first.
+    pub fn history(&self) -> &[Event]
+        ensures { result.now ≡ self.now.history }
+    {
+        &self.history
+    }
+
+    /// The numbers whose queueing was answered true, or that were chained, in order.
+    pub fn accepted(&self) -> Result<Vec<u32>, AllocError>
+        ensures { IfOk result (λ numbers. numbers.items ≡ accepted self.now.history) }
+    {
+        self.history
+            .iter()
+            .filter_map(|event| accepted_by(*event))
+            .collect(self.alloc)
+    }
+
+    /// The numbers that have begun to execute, in order.
+    pub fn begun(&self) -> Result<Vec<u32>, AllocError>
+        ensures { IfOk result (λ numbers. numbers.items ≡ begun self.now.history) }
+    {
+        self.history
+            .iter()
+            .filter_map(|event| begun_by(*event))
+            .collect(self.alloc)
+    }
+
+    /// One step of the machine, and its reply. After an error nothing has changed.
+    pub fn step(&mut self, seat: Seat, step: Step) -> Result<Reply, StepError>
+        ensures made { OnOk result (IsMade self.old seat step) }
+        ensures reply { IfOk result (λ reply. reply ≡ reply_to self.old seat step) }
+        ensures after { OnOk result (self.new ≡ after self.old seat step) }
+        ensures refused { IfErr result (IsRefused self.old seat step) }
+        ensures unchanged { OnErr result (self.new ≡ self.old) }
+    {
+        if !is_seated(self.layout, seat, step) {
+            return Err(StepError::NoSeat);
+        }
+        if !is_numbered(self.layout, step) {
+            return Err(StepError::NoItem);
+        }
+        if !self.is_enabled(seat, step) {
+            return Err(StepError::NotEnabled);
+        }
+        match self.make(seat, step) {
+            Ok(reply) => Ok(reply),
+            Err(_) => Err(StepError::Memory),
+        }
+    }
+
+    fn is_enabled(&self, seat: Seat, step: Step) -> bool
+        requires { IsPlaced self.now.layout seat step }
+        ensures { IsTrue result ↔ IsEnabled self.now seat step }
+    {
+        match (seat, step) {
+            (Seat::Sender(sender), Step::Link(number)) => match self.private(sender).seen {
+                Some(word) => word != u64::MAX && self.is_held(sender, number),
+                None => false,
+            },
+            (Seat::Sender(sender), Step::Push(number)) => {
+                self.private(sender).linked == Some(number)
+            }
+            (Seat::Sender(sender), Step::Back(number, why)) => {
+                self.is_held(sender, number)
+                    && (why != Why::Closed || self.private(sender).seen == Some(u64::MAX))
+            }
+            (Seat::Sender(_), _) => true,
+            (Seat::Owner, Step::Take) => {
+                !self.is_closed() && self.cursor.is_none() && self.batch.is_empty()
+            }
+            (Seat::Owner, Step::Close) => !self.is_closed() && self.cursor.is_none(),
+            (Seat::Owner, Step::Walk) => self.cursor.is_some(),
+            (Seat::Owner, Step::Begin) => {
+                self.cursor.is_none() && !self.batch.is_empty() && !self.is_running()
+            }
+            (Seat::Owner, Step::End) => self.is_running(),
+            (Seat::Owner, _) => self.is_closed() && self.cursor.is_none() && self.is_running(),
+        }
+    }
+
+    fn is_held(&self, sender: u32, number: u32) -> bool
+        requires { number < number_count self.now.layout }
+        ensures { IsTrue result ↔ Holds self.now.history sender number }
+    {
+        is_holder(&self.holders, number, sender)
+    }
+
+    fn is_closed(&self) -> bool
+        ensures { IsTrue result ↔ IsClosed self.now.history }
+    {
+        word(&self.words, HEAD) == u64::MAX
+    }
+
+    fn is_running(&self) -> bool
+        ensures { IsTrue result ↔ IsRunning self.now.history }
+    {
+        self.running.is_some()
+    }
+
+    fn private(&self, sender: u32) -> Private
+        requires { sender < self.now.layout.senders }
+        ensures { result ≡ private self.now sender }
+    {
+        private_at(&self.seats, sender)
+    }
+
+    // A step that is enabled.
+    fn make(&mut self, seat: Seat, step: Step) -> Result<Reply, AllocError>
+        requires { IsMade self.old seat step }
+        ensures reply { IfOk result (λ reply. reply ≡ reply_to self.old seat step) }
+        ensures after { OnOk result (self.new ≡ after self.old seat step) }
+        ensures unchanged { OnErr result (self.new ≡ self.old) }
+    {
+        match (seat, step) {
+            (Seat::Sender(sender), Step::Hold(number)) => self.hold(sender, number),
+            (Seat::Sender(sender), Step::Look) => Ok(self.look(sender)),
+            (Seat::Sender(sender), Step::Link(number)) => Ok(self.link(sender, number)),
+            (Seat::Sender(sender), Step::Push(number)) => self.push(sender, number),
+            (Seat::Sender(sender), Step::Back(number, why)) => self.back(sender, number, why),
+            (Seat::Sender(_), Step::Check(number)) => Ok(self.check(number)),
+            (Seat::Owner, Step::Take) => self.take(),
+            (Seat::Owner, Step::Close) => self.close(),
+            (Seat::Owner, Step::Walk) => self.walk(),
+            (Seat::Owner, Step::Begin) => self.begin(),
+            (Seat::Owner, Step::End) => self.end(),
+            (Seat::Owner, Step::Chain(number)) => self.chain(number),
+            _ => Ok(Reply::Idle),
+        }
+    }
+
+    fn hold(&mut self, sender: u32, number: u32) -> Result<Reply, AllocError>
+        requires { IsMade self.old (Sender sender) (Hold number) }
+        ensures reply { IfOk result (λ reply. reply ≡ reply_to self.old (Sender sender) (Hold number)) }
+        ensures after { OnOk result (self.new ≡ after self.old (Sender sender) (Hold number)) }
+        ensures unchanged { OnErr result (self.new ≡ self.old) }
+    {
+        let place = item_place(self.layout, number);
+        if word(&self.words, place) != 0 {
+            self.history.push(Event::Busy(sender, number))?;
+            return Ok(Reply::Busy);
+        }
+        self.history.push(Event::Hold(sender, number))?;
+        self.words[place] = 1;
+        self.holders[number as usize] = Some(sender);
+        Ok(Reply::Held)
+    }
+
+    fn look(&mut self, sender: u32) -> Reply
+        requires { IsMade self.old (Sender sender) Look }
+        ensures reply { result ≡ reply_to self.old (Sender sender) Look }
+        ensures after { self.new ≡ after self.old (Sender sender) Look }
+    {
+        let head = word(&self.words, HEAD);
+        self.seats[sender as usize] = Private {
+            seen: Some(head),
+            linked: None,
+        };
+        Reply::Looked(head_at(head))
+    }
+
+    fn link(&mut self, sender: u32, number: u32) -> Reply
+        requires { IsMade self.old (Sender sender) (Link number) }
+        ensures reply { result ≡ reply_to self.old (Sender sender) (Link number) }
+        ensures after { self.new ≡ after self.old (Sender sender) (Link number) }
+    {
+        let seat = private_at(&self.seats, sender);
+        self.words[link_place(number)] = seat.seen.unwrap_or(0);
+        self.seats[sender as usize] = Private {
+            seen: seat.seen,
+            linked: Some(number),
+        };
+        Reply::Linked
+    }
+
+    fn push(&mut self, sender: u32, number: u32) -> Result<Reply, AllocError>
+        requires { IsMade self.old (Sender sender) (Push number) }
+        ensures reply { IfOk result (λ reply. reply ≡ reply_to self.old (Sender sender) (Push number)) }
+        ensures after { OnOk result (self.new ≡ after self.old (Sender sender) (Push number)) }
+        ensures unchanged { OnErr result (self.new ≡ self.old) }
+    {
+        let seen = private_at(&self.seats, sender).seen.unwrap_or(0);
+        if word(&self.words, HEAD) != seen {
+            self.seats[sender as usize] = NOTHING_SEEN;
+            return Ok(Reply::Lost);
+        }
+        self.history.push(Event::Push(sender, number))?;
+        self.words[HEAD] = u64::from(number) + 1;
+        self.holders[number as usize] = None;
+        self.seats[sender as usize] = NOTHING_SEEN;
+        Ok(Reply::Pushed { first: seen == 0 })
+    }
+
+    fn back(&mut self, sender: u32, number: u32, why: Why) -> Result<Reply, AllocError>
+        requires { IsMade self.old (Sender sender) (Back number why) }
+        ensures reply { IfOk result (λ reply. reply ≡ reply_to self.old (Sender sender) (Back number why)) }
+        ensures after { OnOk result (self.new ≡ after self.old (Sender sender) (Back number why)) }
+        ensures unchanged { OnErr result (self.new ≡ self.old) }
+    {
+        let seat = private_at(&self.seats, sender);
+        self.history.push(Event::Back(sender, number, why))?;
+        self.words[item_place(self.layout, number)] = 0;
+        self.holders[number as usize] = None;
+        self.seats[sender as usize] = unlinked(seat, number);
+        Ok(Reply::GivenBack)
+    }
+
+    fn check(&self, number: u32) -> Reply
+        requires { number < number_count self.now.layout }
+        ensures pending { result ≡ reply_to self.now (Sender 0) (Check number) }
+    {
+        if word(&self.words, item_place(self.layout, number)) == 0 {
+            Reply::Idle
+        } else {
+            Reply::Pending
+        }
+    }
+
+    fn take(&mut self) -> Result<Reply, AllocError>
+        requires { IsMade self.old Owner Take }
+        ensures reply { IfOk result (λ reply. reply ≡ reply_to self.old Owner Take) }
+        ensures after { OnOk result (self.new ≡ after self.old Owner Take) }
+        ensures unchanged { OnErr result (self.new ≡ self.old) }
+    {
+        let head = word(&self.words, HEAD);
+        self.history.push(Event::Take)?;
+        self.words[HEAD] = 0;
+        self.cursor = number_at(head);
+        Ok(Reply::Took(head_at(head)))
+    }
+
+    fn close(&mut self) -> Result<Reply, AllocError>
+        requires { IsMade self.old Owner Close }
+        ensures reply { IfOk result (λ reply. reply ≡ reply_to self.old Owner Close) }
+        ensures after { OnOk result (self.new ≡ after self.old Owner Close) }
+        ensures unchanged { OnErr result (self.new ≡ self.old) }
+    {
+        let head = word(&self.words, HEAD);
+        self.history.push(Event::Close)?;
+        self.words[HEAD] = u64::MAX;
+        self.cursor = number_at(head);
+        Ok(Reply::Closed(head_at(head)))
+    }
+
+    fn walk(&mut self) -> Result<Reply, AllocError>
+        requires { IsMade self.old Owner Walk }
+        ensures reply { IfOk result (λ reply. reply ≡ reply_to self.old Owner Walk) }
+        ensures after { OnOk result (self.new ≡ after self.old Owner Walk) }
+        ensures unchanged { OnErr result (self.new ≡ self.old) }
+    {
+        let Some(number) = self.cursor else {
+            return Ok(Reply::Walked(None));
+        };
+        let next = number_at(word(&self.words, link_place(number)));
+        self.walked.reserve(self.batch.len() + 1)?;
+        self.walked.push(number)?;
+        self.cursor = next;
+        if next.is_none() {
+            self.walked.append(&mut self.batch)?;
+            std::mem::swap(&mut self.walked, &mut self.batch);
+        }
+        Ok(Reply::Walked(next))
+    }
+
+    fn begin(&mut self) -> Result<Reply, AllocError>
+        requires { IsMade self.old Owner Begin }
+        ensures reply { IfOk result (λ reply. reply ≡ reply_to self.old Owner Begin) }
+        ensures after { OnOk result (self.new ≡ after self.old Owner Begin) }
+        ensures unchanged { OnErr result (self.new ≡ self.old) }
+    {
+        let last = self.batch.len() - 1;
+        let number = self.batch[last];
+        self.history.push(Event::Begin(number))?;
+        self.batch.truncate(last);
+        self.words[item_place(self.layout, number)] = 0;
+        self.running = Some(number);
+        Ok(Reply::Began(number))
+    }
+
+    fn end(&mut self) -> Result<Reply, AllocError>
+        requires { IsMade self.old Owner End }
+        ensures reply { IfOk result (λ reply. reply ≡ reply_to self.old Owner End) }
+        ensures after { OnOk result (self.new ≡ after self.old Owner End) }
+        ensures unchanged { OnErr result (self.new ≡ self.old) }
+    {
+        let Some(number) = self.running else {
+            return Ok(Reply::Idle);
+        };
+        let place = done_place(self.layout);
+        let done = word(&self.words, place);
+        self.history.push(Event::End(number))?;
+        self.words[place] = done.wrapping_add(1);
+        self.running = None;
+        Ok(Reply::Ended(number))
+    }
+
+    fn chain(&mut self, number: u32) -> Result<Reply, AllocError>
+        requires { IsMade self.old Owner (Chain number) }
+        ensures reply { IfOk result (λ reply. reply ≡ reply_to self.old Owner (Chain number)) }
+        ensures after { OnOk result (self.new ≡ after self.old Owner (Chain number)) }
+        ensures unchanged { OnErr result (self.new ≡ self.old) }
+    {
+        let place = item_place(self.layout, number);
+        if word(&self.words, place) != 0 {
+            self.history.push(Event::ChainBusy(number))?;
+            return Ok(Reply::ChainBusy);
+        }
+        self.batch.reserve(1)?;
+        self.history.push(Event::Chain(number))?;
+        self.batch.insert(0, number)?;
+        self.words[place] = 1;
+        Ok(Reply::Chained)
+    }
+}
+
+fn accepted_by(event: Event) -> Option<u32>
+    ensures { result ≡ accepted_by event }
+{
+    match event {
+        Event::Push(_, number) | Event::Chain(number) => Some(number),
+        _ => None,
+    }
+}
+
+fn begun_by(event: Event) -> Option<u32>
+    ensures { result ≡ begun_by event }
+{
+    match event {
+        Event::Begin(number) => Some(number),
+        _ => None,
+    }
+}
+
+// Whether the step is one of a sender's kinds.
+fn is_senders(step: Step) -> bool
+    ensures { result ≡ is_senders step }
+{
+    match step {
+        Step::Hold(_)
+        | Step::Look
+        | Step::Link(_)
+        | Step::Push(_)
+        | Step::Back(_, _)
+        | Step::Check(_) => true,
+        Step::Take | Step::Close | Step::Walk | Step::Begin | Step::End | Step::Chain(_) => false,
+    }
+}
+
+fn is_seated(layout: Layout, seat: Seat, step: Step) -> bool
+    ensures { IsTrue result ↔ IsSeated layout seat step }
+{
+    match seat {
+        Seat::Sender(sender) => sender < layout.senders && is_senders(step),
+        Seat::Owner => !is_senders(step),
+    }
+}
+
+fn is_numbered(layout: Layout, step: Step) -> bool
+    ensures { IsTrue result ↔ IsNumbered layout step }
+{
+    let count = layout.items + layout.barriers + 1;
+    match step {
+        Step::Hold(number)
+        | Step::Link(number)
+        | Step::Push(number)
+        | Step::Back(number, _)
+        | Step::Check(number) => number < count,
+        Step::Chain(number) => number < layout.items,
+        _ => true,
+    }
+}
+
+// Whether this sender is the one that holds the number.
+fn is_holder(holders: &[Option<u32>], number: u32, sender: u32) -> bool
+    requires { number < length holders.now }
+    ensures { IsTrue result ↔ (get_or holders.now number None ≡ Some sender) }
+{
+    match holders[number as usize] {
+        Some(holder) => holder == sender,
+        None => false,
+    }
+}
+
+fn private_at(seats: &[Private], sender: u32) -> Private
+    requires { sender < length seats.now }
+    ensures { result ≡ get_or seats.now sender nothing_seen }
+{
+    seats[sender as usize]
+}
+
+// What a sender keeps once it has given the number back.
+fn unlinked(seat: Private, number: u32) -> Private
+    ensures { result ≡ unlinked seat number }
+{
+    Private {
+        seen: seat.seen,
+        linked: match seat.linked {
+            Some(linked) if linked != number => Some(linked),
+            _ => None,
+        },
+    }
+}

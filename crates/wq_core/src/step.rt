@@ -1,0 +1,103 @@
+//! What a seat of a queue may do to its words in one atomic step, and what it is answered.
+use thiserror::Error;
+use wq_words::{Head, Why};
+
+/// Whose step it is.
+#[derive(Clone, Copy, Debug, PartialEq, Eq)]
+pub enum Seat {
+    /// The sender of this number.
+    Sender(u32),
+    /// The one who takes and executes.
+    Owner,
+}
+
+/// One atomic step: an operation on one word of the queue. The first six are a sender's, the others the owner's.
+#[derive(Clone, Copy, Debug, PartialEq, Eq)]
+pub enum Step {
+    /// Sets the number's PENDING bit (`test_and_set_bit` in `queue_work`).
+    Hold(u32),
+    /// Loads the head.
+    Look,
+    /// Stores the head that was seen as the link of a held number (`llist_add`, before its exchange).
+    Link(u32),
+    /// Exchanges the head that was seen for the linked number (`llist_add`).
+    Push(u32),
+    /// Clears the PENDING bit of a held number.
+    Back(u32, Why),
+    /// Loads the number's PENDING bit (`work_pending`).
+    Check(u32),
+    /// Takes the whole list (`llist_del_all`).
+    Take,
+    /// Takes the whole list and leaves the closed mark.
+    Close,
+    /// Loads the link of the number that is to be walked next.
+    Walk,
+    /// Clears the PENDING bit of the oldest taken number, which then runs.
+    Begin,
+    /// Counts the execution that runs as ended.
+    End,
+    /// Sets an item's PENDING bit and queues it behind all that waits (chain queueing in `drain_workqueue`).
+    Chain(u32),
+}
+
+/// What an enabled step is answered.
+#[derive(Clone, Copy, Debug, PartialEq, Eq)]
+pub enum Reply {
+    /// To Hold: the bit was clear, and the sender holds the number now.
+    Held,
+    /// To Hold: the bit was set.
+    Busy,
+    /// To Look: the head.
+    Looked(Head),
+    /// To Link.
+    Linked,
+    /// To Push: the exchange was made, and `first` says that the list was empty.
+    Pushed { first: bool },
+    /// To Push: the head was another, and nothing was exchanged.
+    Lost,
+    /// To Back.
+    GivenBack,
+    /// To Check: the bit is set.
+    Pending,
+    /// To Check: the bit is clear.
+    Idle,
+    /// To Take: the head that was taken.
+    Took(Head),
+    /// To Close: the head that was taken.
+    Closed(Head),
+    /// To Walk: the number that is linked behind the one walked, if any.
+    Walked(Option<u32>),
+    /// To Begin: the number that runs now.
+    Began(u32),
+    /// To End: the number that ran.
+    Ended(u32),
+    /// To Chain: the bit was clear, and the item waits behind all others now.
+    Chained,
+    /// To Chain: the bit was set.
+    ChainBusy,
+}
+
+/// Why a step was not made, the first of these that fits. The machine is then as it was.
+#[derive(Clone, Copy, Debug, PartialEq, Eq, Error)]
+pub enum StepError {
+    /// The seat is none of the queue's, or the step is not one of its kinds.
+    #[error("no step of a seat of the queue")]
+    NoSeat,
+    /// The number is none of the queue's, or is chained and no item.
+    #[error("no number of the queue")]
+    NoItem,
+    /// The machine does not allow the step as it is.
+    #[error("not enabled")]
+    NotEnabled,
+    /// No memory could be had.
+    #[error("memory")]
+    Memory,
+}
+
+/// What a sender keeps in private beside the numbers that it holds: the head word of its last look, and the number that
+/// it linked to it.
+#[derive(Clone, Copy, Debug, PartialEq, Eq)]
+pub struct Private {
+    pub seen: Option<u64>,
+    pub linked: Option<u32>,
+}
