@@ -1,6 +1,6 @@
 -- Each legal history keeps the headline.
-use Rattle.std.proofs.Common.{◌≡◌, ◌≢◌, ℕ, zero, suc, ◌+◌, ◌<◌, ◌≤◌, ◌==◌, ◌&&◌, Bool, true, false, cond, List, [], ◌∷◌, ◌++◌, length, take, drop, Option, Some, None, slice_get, refl, sym, ap, ◌∙◌, inl, inr, arith, take-append-drop}
-use Rattle.std.specs.List.{count_by, filter_map}
+use Rattle.std.proofs.Common.{◌≡◌, ◌≢◌, ℕ, zero, suc, ◌+◌, ◌<◌, ◌≤◌, ◌==◌, Bool, true, false, cond, List, [], ◌∷◌, ◌++◌, length, take, drop, Some, slice_get, refl, sym, ap, ◌∙◌, inl, inr, arith, take-append-drop}
+use Rattle.std.specs.List.{count_by}
 use Rattle.std.proofs.lemmas.List.{take-take, take_all, length-take, length_push, take-append-le}
 use Rattle.std.proofs.lemmas.List.Sums.{sum_by-cons}
 use Rattle.std.proofs.lemmas.Bool.{cases_lt, eqb-true, eq-eqb, and_parts}
@@ -13,7 +13,7 @@ use Rattle.wq_words.specs.declared.event.Event.TheVariants.{Hold, Busy, Push, Ba
 use Rattle.wq_words.specs.History.{accepted_by, begun_by, ended_by, accepted, begun, ended, starts_hold, stops_hold, is_close, IsPending, Holds}
 use Rattle.wq_words.specs.Legal.{IsAllowed, IsLegal, IsComplete}
 use Rattle.wq_words.specs.Keeper.{Keeper, Home, Sender, Listed, Owner, keeper}
-use Rattle.wq_words.specs.Headline.{NeverOverlaps, Executes, KeepsSenderOrder, NoPushFollowsClose, IsOwnHold, EachPushHasHold, HasOneHolder, IsDoneWhenComplete, KeepsHeadline}
+use Rattle.wq_words.specs.Headline.{NeverOverlaps, Executes, KeepsSenderOrder, NoPushFollowsClose, IsOwnHold, EachPushHasHold, HasOneHolder, KeepsHeadline}
 use Rattle.wq_words.proofs.Growing.{count_by_push, filter_map_push_some, take_more_some, slice_get_push, slice_get_append, slice_get_last, take_append, take_length}
 use Rattle.wq_words.proofs.Legal.{legal_front, legal_induction}
 use Rattle.wq_words.proofs.Order.{IsInOrder, in_order, prefix_length}

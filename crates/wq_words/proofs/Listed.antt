@@ -1,7 +1,7 @@
 -- The list stands newest first, and behind what was taken it is all that was accepted.
-use Rattle.std.proofs.Common.{◌≡◌, ℕ, zero, suc, ◌+◌, ◌-◌, ◌<◌, ◌≤◌, ◌==◌, Bool, true, false, not, cond, nat_lt, if◌then◌else◌, List, [], ◌∷◌, ◌++◌, length, take, drop, reverse, Option, Some, None, refl, sym, ap, ◌∙◌, arith, add-zero, length-append}
-use Rattle.std.specs.List.{count_by, suffix_len, prefix_len, before_last, after_last, filter_map, fold}
-use Rattle.std.proofs.lemmas.List.{append-nil, append_assoc, reverse-append, length-reverse, length_push, take-append-le, drop-append-le, take_all, drop_all, drop_at, nil_from_length}
+use Rattle.std.proofs.Common.{◌≡◌, ℕ, ◌+◌, ◌-◌, ◌<◌, Bool, true, false, not, cond, nat_lt, List, [], ◌∷◌, ◌++◌, length, take, drop, reverse, None, refl, sym, ap, ◌∙◌, arith, add-zero, length-append}
+use Rattle.std.specs.List.{count_by, suffix_len, prefix_len, before_last, after_last}
+use Rattle.std.proofs.lemmas.List.{append-nil, append_assoc, reverse-append, length-reverse, length_push, take-append-le, drop-append-le, take_all, drop_all, drop_at}
 use Rattle.std.proofs.lemmas.Bool.Decides.{nat_tests}
 use Rattle.std.proofs.lemmas.List.Sums.{suffix_len-le-length, fold_push}
 use Rattle.wq_words.specs.declared.layout.Layout.{Layout}

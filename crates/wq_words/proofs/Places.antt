@@ -1,22 +1,21 @@
 -- A number that the list or the owner keeps stands once among the accepted and not begun numbers.
-use Rattle.std.proofs.Common.{◌≡◌, ℕ, zero, suc, ◌+◌, ◌<◌, ◌≤◌, ◌==◌, ◌↔◌, Bool, true, false, cond, if◌then◌else◌, List, [], ◌∷◌, ◌++◌, length, take, drop, get_or, Some, None, slice_get, refl, sym, ap, ◌∙◌, arith, add-zero, inl, inr}
-use Rattle.std.specs.List.{count_by, sum_by, filter_map, fold}
+use Rattle.std.proofs.Common.{◌≡◌, ℕ, ◌+◌, ◌<◌, ◌≤◌, ◌==◌, ◌↔◌, Bool, true, false, cond, if◌then◌else◌, List, [], ◌∷◌, ◌++◌, length, take, Some, None, slice_get, refl, sym, ap, ◌∙◌, arith, inl, inr}
+use Rattle.std.specs.List.{count_by}
 use Rattle.std.proofs.lemmas.List.{take-take, take_at, length_push, append-nil}
 use Rattle.std.proofs.lemmas.List.Sums.{count_by_more_yes, sum_by-take-le, fold_push}
 use Rattle.std.proofs.lemmas.Option.{slice_get_within, get_or_from_slice_get}
 use Rattle.std.proofs.lemmas.Bool.{eqb-true, eq-eqb, cases_lt}
-use Rattle.std.proofs.lemmas.Bool.Decides.{nat_tests}
 use mathlib.Core.List.{IsPrefix}
 use Rattle.wq_words.specs.declared.layout.Layout.{Layout}
 use Rattle.wq_words.specs.declared.event.Event.{Event}
 use Rattle.wq_words.specs.declared.event.Event.TheVariants.{Hold, Busy, Push, Back, Take, Close, Begin, End, Chain, ChainBusy}
-use Rattle.wq_words.specs.History.{accepted_by, accepted, begun_by, begun, taken, closed, is_close, is_push, is_take, IsClosed, IsPending, Holds}
+use Rattle.wq_words.specs.History.{accepted_by, accepted, begun_by, begun, taken, closed, is_close, is_take}
 use Rattle.wq_words.specs.Legal.{MayFollow, IsLegal}
 use Rattle.wq_words.specs.Keeper.{Keeper, Home, Sender, Listed, Owner, Keeps, taken_over, keeper_after, keeper}
 use Rattle.wq_words.proofs.Growing.{filter_map_push_some, filter_map_push_none, slice_get_append, slice_get_last}
 use Rattle.wq_words.proofs.Legal.{legal_induction}
 use Rattle.wq_words.proofs.Order.{IsInOrder, in_order, prefix_length}
-use Rattle.wq_words.proofs.Keepers.{IsQueue, pending_bit, held_bit, queue_bit, home_from_bit, sender_from_bit, queue_from_bit, kept}
+use Rattle.wq_words.proofs.Keepers.{IsQueue, held_bit, queue_bit, home_from_bit, sender_from_bit, queue_from_bit, kept}
 use Rattle.wq_words.proofs.Listed.{IsListed, is_listed, length-accepted, accepted_push_none, taken_push_same, taken_push_push, taken_push_take, taken_closed, closed_push_no, closed_push_yes, closed_from_IsClosed, closed_from_open}
 
 -- with b begun and t taken of these accepted numbers, k stands where x keeps it

@@ -7,7 +7,7 @@ use Rattle.wq_words.specs.declared.event.Why.TheVariants.{Closed}
 use Rattle.wq_words.specs.declared.event.Event.{Event}
 use Rattle.wq_words.specs.declared.event.Event.TheVariants.{Hold, Busy, Push, Back, Take, Close, Begin, End, Chain, ChainBusy}
 use Rattle.wq_words.specs.Numbers.{number_count}
-use Rattle.wq_words.specs.History.{accepted, begun, ended, IsRunning, running, next, IsPending, Holds, IsClosed}
+use Rattle.wq_words.specs.History.{accepted, ended, IsRunning, running, next, IsPending, Holds, IsClosed}
 
 -- the event may come after the events h: one case an event
 abbrev pub MayFollow : List Event → Event → Type 0
