@@ -1,0 +1,6 @@
+pub mod Seen
+pub mod Changes
+pub mod Rule
+pub mod Steps
+pub mod Views
+pub mod Told

@@ -1,0 +1,114 @@
+-- Lists of events, and those of one seat among them.
+use Rattle.std.proofs.Common.{◌≡◌, ℕ, ◌+◌, ◌≤◌, ◌≢◌, Bool, true, false, cond, not, eqb, ◌==◌, List, [], ◌∷◌, ◌++◌, length, Option, Some, None, sym, refl, ap, ◌∙◌, subst, arith, append_assoc, length-append, eq-eqb, ne_eqb}
+use Rattle.std.specs.Prelude.{count_by, filter_map, ◌&&◌}
+use Rattle.std.proofs.lemmas.List.{append-nil}
+use Rattle.std.proofs.lemmas.List.Sums.{sum_by-cons}
+use Rattle.std.proofs.lemmas.List.Elements.{filter-append}
+use mathlib.Core.List.{IsPrefix}
+use Rattle.wq_words.specs.declared.event.Event.{Event}
+use Rattle.wq_words.specs.declared.event.Event.TheVariants.{Hold, Busy, Push, Back, Take, Close, Begin, End, Chain, ChainBusy}
+use Rattle.wq_words.specs.History.{Holds, starts_hold, stops_hold, is_close, IsClosed, begun_by, ended_by, begun, ended, IsRunning, running}
+use Rattle.wq_table.specs.Seen.{owner_seat, seat_of, own, others, Grows}
+
+pub own-append : (c : ℕ) (a b : List Event) → own c (a ++ b) ≡ own c a ++ own c b
+own-append c a b = filter-append (λ e. eqb (seat_of e) c) a b
+
+pub others-append : (c : ℕ) (a b : List Event) → others c (a ++ b) ≡ others c a ++ others c b
+others-append c a b = filter-append (λ e. not (eqb (seat_of e) c)) a b
+
+pub own_one : (c : ℕ) (e : Event) → seat_of e ≡ c → own c (e ∷ []) ≡ e ∷ []
+own_one c e is = ap (λ (b : Bool). cond b (e ∷ []) []) (eq-eqb (seat_of e) c is)
+
+-- an event is of no other seat
+pub own_none : (c : ℕ) (e : Event) → seat_of e ≡ c → (d : ℕ) → d ≢ c → own d (e ∷ []) ≡ []
+own_none c e is d ne = ap (λ (b : Bool). cond b (e ∷ []) []) (ne_eqb (seat_of e) d (λ same. ne (sym same ∙ is)))
+
+-- where no event of the seat came new, its events are the same
+pub own_same : (c : ℕ) (h new : List Event) → own c new ≡ [] → own c (h ++ new) ≡ own c h
+own_same c h new none = own-append c h new ∙ (ap (λ (x : List Event). own c h ++ x) none ∙ append-nil (own c h))
+
+module _ {A : Type 0} where
+  pub nothing_more : (xs ys : List A) → xs ++ ys ≡ xs → ys ≡ []
+  nothing_more [] ys is = is
+  nothing_more (x ∷ xs) ys is = nothing_more xs ys (cc)
+
+pub prefix_append : (xs ys zs : List Event) → IsPrefix xs ys → IsPrefix xs (ys ++ zs)
+prefix_append xs ys zs p = (p.0 ++ zs, sym (append_assoc xs p.0 zs) ∙ ap (λ (x : List Event). x ++ zs) p.1)
+
+pub prefix_self : (xs : List Event) → IsPrefix xs xs
+prefix_self xs = ([], append-nil xs)
+
+-- what came new since the seat's last event has none of it
+pub none_new : (c : ℕ) (seen new h : List Event) → seen ++ new ≡ h → own c h ≡ own c seen → own c new ≡ []
+none_new c seen new h is mine = nothing_more (own c seen) (own c new) (sym (own-append c seen new) ∙ (ap (own c) is ∙ mine))
+
+count_kept : (p : Event → Bool) (b : Bool) (e : Event) (es : List Event) (c : ℕ) → (b ≡ false → p e ≡ false) → count_by p es ≡ count_by p (own c es) → count_by p (e ∷ es) ≡ count_by p (cond b (e ∷ own c es) (own c es))
+count_kept p true e es c none rest = let a = sum_by-cons (λ x. cond (p x) 1 0) e es in let b = sum_by-cons (λ x. cond (p x) 1 0) e (own c es) in omega (arith, rest)
+count_kept p false e es c none rest = let a = sum_by-cons (λ x. cond (p x) 1 0) e es in let z : cond {A = ℕ} (p e) 1 0 ≡ 0 = ap (λ (b : Bool). cond b 1 0) (none refl) in omega (arith, rest)
+
+-- events that are all of one seat are counted among its own
+pub count_own : (p : Event → Bool) (c : ℕ) → ((e : Event) → eqb (seat_of e) c ≡ false → p e ≡ false) → (h : List Event) → count_by p h ≡ count_by p (own c h)
+count_own p c none [] = refl
+count_own p c none (e ∷ es) = count_kept p (eqb (seat_of e) c) e es c (none e) (count_own p c none es)
+
+and_false : (a b : Bool) → b ≡ false → (a && b) ≡ false
+and_false true b is = is
+and_false false b is = refl
+
+starts_own : (s k : ℕ) (e : Event) → eqb (seat_of e) s ≡ false → starts_hold s k e ≡ false
+starts_own s k (Hold t j) is = and_false (eqb j k) (eqb t s) is
+starts_own s k _ is = refl
+
+stops_own : (s k : ℕ) (e : Event) → eqb (seat_of e) s ≡ false → stops_hold s k e ≡ false
+stops_own s k (Push t j) is = and_false (eqb j k) (eqb t s) is
+stops_own s k (Back t j why) is = and_false (eqb j k) (eqb t s) is
+stops_own s k _ is = refl
+
+-- who has the same own events holds the same
+pub held_same : (s k : ℕ) (v w : List Event) → own s w ≡ own s v → Holds v s k → Holds w s k
+held_same s k v w is have =
+    let a = count_own (starts_hold s k) s (starts_own s k) v ∙ (ap (count_by (starts_hold s k)) (sym is) ∙ sym (count_own (starts_hold s k) s (starts_own s k) w)) in
+    let b = count_own (stops_hold s k) s (stops_own s k) v ∙ (ap (count_by (stops_hold s k)) (sym is) ∙ sym (count_own (stops_hold s k) s (stops_own s k) w)) in
+    omega arith
+
+close_own : (e : Event) → eqb (seat_of e) owner_seat ≡ false → is_close e ≡ false
+close_own Close is = is
+close_own _ is = refl
+
+closes_own : (h : List Event) → count_by is_close h ≡ count_by is_close (own owner_seat h)
+closes_own h = count_own is_close owner_seat close_own h
+
+pub closed_count : (v w : List Event) → own owner_seat w ≡ own owner_seat v → count_by is_close w ≡ count_by is_close v
+closed_count v w is = closes_own w ∙ (ap (count_by is_close) is ∙ sym (closes_own v))
+
+pub closed_same : (v w : List Event) → own owner_seat w ≡ own owner_seat v → IsClosed v → IsClosed w
+closed_same v w is have = let a = closed_count v w is in omega arith
+
+map_kept : (f : Event → Option ℕ) (o : Option ℕ) (b : Bool) (e : Event) (es : List Event) → f e ≡ o → (b ≡ false → o ≡ None) → filter_map f es ≡ filter_map f (own owner_seat es)
+    → filter_map f (e ∷ es) ≡ filter_map f (cond b (e ∷ own owner_seat es) (own owner_seat es))
+map_kept f None true e es is none rest = rw is rest
+map_kept f (Some k) true e es is none rest = rw is (ap (λ (x : List ℕ). k ∷ x) rest)
+map_kept f None false e es is none rest = rw is rest
+map_kept f (Some k) false e es is none rest = absurd (cc (none refl))
+
+map_own : (f : Event → Option ℕ) → ((e : Event) → eqb (seat_of e) owner_seat ≡ false → f e ≡ None) → (h : List Event) → filter_map f h ≡ filter_map f (own owner_seat h)
+map_own f none [] = refl
+map_own f none (e ∷ es) = map_kept f (f e) (eqb (seat_of e) owner_seat) e es refl (none e) (map_own f none es)
+
+begun_own : (e : Event) → eqb (seat_of e) owner_seat ≡ false → begun_by e ≡ None
+begun_own (Begin k) is = absurd (cc is)
+begun_own _ is = refl
+
+ended_own : (e : Event) → eqb (seat_of e) owner_seat ≡ false → ended_by e ≡ None
+ended_own (End k) is = absurd (cc is)
+ended_own _ is = refl
+
+-- the owner's events say what has begun and ended
+pub begun_same : (v w : List Event) → own owner_seat w ≡ own owner_seat v → begun w ≡ begun v
+begun_same v w is = map_own begun_by begun_own w ∙ (ap (filter_map begun_by) is ∙ sym (map_own begun_by begun_own v))
+
+pub ended_same : (v w : List Event) → own owner_seat w ≡ own owner_seat v → ended w ≡ ended v
+ended_same v w is = map_own ended_by ended_own w ∙ (ap (filter_map ended_by) is ∙ sym (map_own ended_by ended_own v))
+
+pub running_same : (v w : List Event) → own owner_seat w ≡ own owner_seat v → IsRunning v → IsRunning w
+running_same v w is runs = let a = ap (λ (x : List ℕ). length x) (begun_same v w is) in let b = ap (λ (x : List ℕ). length x) (ended_same v w is) in omega arith

@@ -1,0 +1,99 @@
+-- What a clause sees of a chair, and what its steps do.
+use Rattle.std.specs.Prelude.{◌≡◌, ℕ, zero, suc, List, [], ◌∷◌, ◌++◌, Option, Some, None}
+use Rattle.atomic_table.specs.Seated.{TableId}
+use Rattle.wq_words.specs.declared.layout.Layout.{Layout}
+use Rattle.wq_core.specs.declared.step.Private.{Private}
+use Rattle.wq_core.specs.declared.step.Step.{Step}
+use Rattle.wq_core.specs.Machine.{Machine}
+use Rattle.wq_core.specs.Sound.{IsSound}
+use Rattle.wq_table.specs.declared.table.Part.{Part}
+use Rattle.wq_table.specs.declared.table.Stage.{Stage}
+use Rattle.wq_table.specs.declared.table.Stage.TheVariants.{Sends, Owns}
+use Rattle.wq_table.specs.Law.{part, Fits, sender_part, owner_part}
+use Rattle.wq_table.specs.Plays.{Makes}
+
+-- which queue it is of, and what its seat knows
+pub record Standing : Type 0 where
+  pub queue : TableId
+  pub part : Part
+
+-- the seat is a sender's
+abbrev pub IsSender : Stage → Type 0
+IsSender (Sends p) = Unit {0}
+IsSender (Owns cursor walked batch) = ⊥
+
+-- a sender whose last look found this word
+abbrev pub HasSeen : ℕ → Stage → Type 0
+HasSeen word (Sends p) = p.seen ≡ Some word
+HasSeen word (Owns cursor walked batch) = ⊥
+
+-- and which linked k to it
+abbrev pub HasLinked : ℕ → ℕ → Stage → Type 0
+HasLinked word k (Sends p) = (p.seen ≡ Some word) × (p.linked ≡ Some k)
+HasLinked word k (Owns cursor walked batch) = ⊥
+
+-- the seat is the owner's
+abbrev pub IsOwner : Stage → Type 0
+IsOwner (Sends p) = ⊥
+IsOwner (Owns cursor walked batch) = Unit {0}
+
+-- the owner has walked all that it took
+abbrev pub IsRested : Stage → Type 0
+IsRested (Sends p) = ⊥
+IsRested (Owns cursor walked batch) = cursor ≡ None
+
+-- the owner has nothing to begin
+abbrev pub HasNone : Stage → Type 0
+HasNone (Sends p) = ⊥
+HasNone (Owns cursor walked batch) = batch ≡ []
+
+-- the owner walks k next
+abbrev pub IsToWalk : ℕ → Stage → Type 0
+IsToWalk k (Sends p) = ⊥
+IsToWalk k (Owns cursor walked batch) = cursor ≡ Some k
+
+-- the owner has walked all that it took, and k is the oldest number of its batch
+abbrev pub IsToBegin : ℕ → Stage → Type 0
+IsToBegin k (Sends p) = ⊥
+IsToBegin k (Owns cursor walked []) = ⊥
+IsToBegin k (Owns cursor walked (j ∷ js)) = (cursor ≡ None) × (j ≡ k)
+
+-- the chair makes the step, and finds this word
+pub record Steps (step : Step) (word : ℕ) (old new : Standing) : Type 0 where
+  pub queue_is : new.queue ≡ old.queue
+  pub makes : Makes step word old.part new.part
+
+-- a seat that has seen all that has happened, and keeps what it kept
+abbrev pub seeing : Machine → Standing → Standing
+seeing m it = record { queue = it.queue; part = part it.part.seat it.part.layout m.history it.part.stage }
+
+-- both have seen all that has happened
+pub record Meet (this that this' that' : Standing) : Type 0 where
+  pub machine : Machine
+  pub sound : IsSound machine
+  pub this_fits : Fits machine this.part
+  pub that_fits : Fits machine that.part
+  pub this_is : this' ≡ seeing machine this
+  pub that_is : that' ≡ seeing machine that
+
+-- all three have seen all that has happened
+pub record MeetAll (this that third this' that' third' : Standing) : Type 0 where
+  pub machine : Machine
+  pub sound : IsSound machine
+  pub this_fits : Fits machine this.part
+  pub that_fits : Fits machine that.part
+  pub third_fits : Fits machine third.part
+  pub this_is : this' ≡ seeing machine this
+  pub that_is : that' ≡ seeing machine that
+  pub third_is : third' ≡ seeing machine third
+
+-- the chairs of the senders below m, which have seen nothing
+abbrev pub sender_chair : TableId → Layout → ℕ → Standing
+sender_chair queue layout c = record { queue = queue; part = sender_part layout c }
+
+abbrev pub sender_chairs : TableId → Layout → ℕ → List Standing
+sender_chairs queue layout zero = []
+sender_chairs queue layout (suc m) = sender_chairs queue layout m ++ sender_chair queue layout m ∷ []
+
+abbrev pub owner_chair : TableId → Layout → Standing
+owner_chair queue layout = record { queue = queue; part = owner_part layout }

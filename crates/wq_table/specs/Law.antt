@@ -1,0 +1,86 @@
+-- The rule of the table, and how its views are cut.
+use Rattle.std.specs.Prelude.{◌≡◌, ◌≢◌, ℕ, zero, suc, ◌+◌, ◌<◌, ◌==◌, if◌then◌else◌, List, [], ◌∷◌, ◌++◌, Option, Some, None}
+use mathlib.Core.Option.{some}
+use mathlib.Core.List.{IsPrefix}
+use lib.ListN.{get_elem?}
+use Rattle.atomic_table.specs.Table.{State}
+use Rattle.wq_words.specs.declared.layout.Layout.{Layout}
+use Rattle.wq_words.specs.declared.event.Event.{Event}
+use Rattle.wq_core.specs.declared.step.Private.{Private}
+use Rattle.wq_core.specs.declared.step.Seat.{Seat}
+use Rattle.wq_core.specs.declared.step.Seat.TheVariants.{Sender, Owner}
+use Rattle.wq_core.specs.declared.step.Step.{Step}
+use Rattle.wq_core.specs.declared.step.Step.TheVariants.{Hold, Look, Link, Push, Back, Check, Take, Close, Walk, Begin, End, Chain}
+use Rattle.wq_core.specs.Words.{number_at}
+use Rattle.wq_core.specs.Machine.{Machine, nothing_seen, private, unlinked}
+use Rattle.wq_core.specs.Sound.{IsSound}
+use Rattle.wq_table.specs.declared.table.Part.{Part}
+use Rattle.wq_table.specs.declared.table.Stage.{Stage}
+use Rattle.wq_table.specs.declared.table.Stage.TheVariants.{Sends, Owns}
+use Rattle.wq_table.specs.Seen.{owner_seat, own}
+
+-- a view has one part for each seat that it speaks for
+abbrev pub View : Type 0
+View = List Part
+
+abbrev pub part : ℕ → Layout → List Event → Stage → Part
+part c layout seen stage = record { seat = c; layout = layout; seen = seen; stage = stage }
+
+-- the seat of the machine that the part is of
+abbrev pub seat_at : ℕ → Stage → Seat
+seat_at c (Sends p) = Sender c
+seat_at c (Owns cursor walked batch) = Owner
+
+-- the seat keeps this in private
+abbrev pub Keeps : Machine → ℕ → Stage → Type 0
+Keeps m c (Sends p) = (c < m.layout.senders) × (private m c ≡ p)
+Keeps m c (Owns cursor walked batch) = (c ≡ owner_seat) × (m.cursor ≡ cursor) × (m.walked ≡ walked) × (m.batch ≡ batch)
+
+-- the part is of a seat of the machine: what it has seen begins the history, with all the events of that seat
+pub record Fits (m : Machine) (p : Part) : Type 0 where
+  pub layout_is : p.layout ≡ m.layout
+  pub begins : IsPrefix p.seen m.history
+  pub mine : own p.seat m.history ≡ own p.seat p.seen
+  pub keeps : Keeps m p.seat p.stage
+
+-- none of the view's parts is of this seat
+abbrev pub Apart : ℕ → View → Type 0
+Apart c [] = Unit {0}
+Apart c (q ∷ qs) = (q.seat ≢ c) × Apart c qs
+
+-- each part fits and has its seat at the place i, and no seat has two
+abbrev pub AllFit : Machine → (ℕ → ℕ) → ℕ → View → Type 0
+AllFit m who i [] = Unit {0}
+AllFit m who i (p ∷ ps) = Fits m p × (who p.seat ≡ i) × Apart p.seat ps × AllFit m who i ps
+
+-- Between any two steps: what exists is the machine with its history, and at which place the view of each seat stands
+pub record Kept (layout : Layout) (s : State (Unit {0}) View) : Type 0 where
+  pub machine : Machine
+  pub who : ℕ → ℕ
+  pub sound : IsSound machine
+  pub layout_is : machine.layout ≡ layout
+  pub words_are : s.words ≡ machine.words
+  pub seats : (i : ℕ) (v : View) → get_elem? s.views i ≡ some v → AllFit machine who i v
+
+abbrev pub sender_part : Layout → ℕ → Part
+sender_part layout c = part c layout [] (Sends nothing_seen)
+
+abbrev pub owner_part : Layout → Part
+owner_part layout = part owner_seat layout [] (Owns None [] [])
+
+-- the senders c, c + 1 .. of m, and the owner
+abbrev pub row : Layout → ℕ → ℕ → View
+row layout c zero = owner_part layout ∷ []
+row layout c (suc m) = sender_part layout c ∷ row layout (c + 1) m
+
+abbrev pub opening_view : Layout → View
+opening_view layout = row layout 0 layout.senders
+
+-- the first part is cut off
+abbrev pub first_of : View → View
+first_of [] = []
+first_of (p ∷ ps) = p ∷ []
+
+abbrev pub rest_of : View → View
+rest_of [] = []
+rest_of (p ∷ ps) = ps

@@ -1,0 +1,5 @@
+pub mod Seen
+pub mod Law
+pub mod Plays
+pub mod Chair
+pub mod Sits

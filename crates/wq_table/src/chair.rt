@@ -1,0 +1,272 @@
+//! The seats of a queue, and their atomic steps.
+ghost use Rattle.std.specs.Prelude.{◌≡◌, ◌≢◌, ℕ, ◌<◌, [], ◌∷◌, Some, None, IfOk};
+ghost use Rattle.wq_words.specs.Numbers.{number_count};
+ghost use Rattle.wq_words.specs.declared.event.Why.TheVariants.{Closed, Contended, Cancelled};
+ghost use Rattle.wq_words.specs.History.{Holds, IsClosed, IsRunning};
+ghost use Rattle.wq_core.specs.Words.{item_place, closed_word};
+ghost use Rattle.wq_core.specs.declared.step.Step.TheVariants.{Hold, Look, Link, Push, Back, Check, Take, Close, Walk, Begin, End, Chain};
+ghost use Rattle.wq_table.specs.Chair.{IsSender, HasSeen, HasLinked, HasNone, IsOwner, IsToWalk, IsToBegin, IsRested, Steps, Meet, MeetAll};
+
+use super::table::{
+    Begins, Both, Cancels, Chains, Checks, Closes, Ends, FindsClosed, GivesUp, Links, Looks, Marks,
+    Meets, Off, Part, Pushes, Seated, Takes, Walks, Words,
+};
+use atomic_table::Badge;
+use std::collections::LinkedList;
+use std::marker::Model;
+use std::mem::replace;
+use std::sync::Arc;
+use wq_words::Layout;
+
+/// A seat of a queue: a sender's or the owner's. Each of its steps is one operation on one word of the table.
+#[derive(Drop)]
+pub struct Chair {
+    pub(crate) words: Arc<Words>,
+    pub(crate) badge: Badge<LinkedList<Part>>,
+    pub(crate) layout: Layout,
+}
+
+impl Model for Chair {
+    ghost use Rattle.wq_table.specs.Chair.{Standing};
+
+    ghost Value = { Standing };
+
+    ghost use Rattle.wq_table.specs.Sits.{standing, Sits};
+
+    ghost view = { standing };
+
+    ghost invariant = { Sits };
+}
+
+// Where the item word of a number stands.
+fn item_place(layout: &Layout, number: u32) -> usize
+    requires { number < number_count layout.now }
+    ensures { result ≡ item_place (number_count layout.now) number }
+{
+    1 + (layout.items as usize + layout.barriers as usize + 1) + number as usize
+}
+
+impl Chair {
+    /// A sender sets the PENDING bit of a number, and learns its item word as it was.
+    pub fn hold(&mut self, number: u32) -> u64
+        requires sender { IsSender self.old.part.stage }
+        requires number { number < number_count self.old.part.layout }
+        ensures { Steps (Hold number) result self.old self.new }
+    {
+        let place = item_place(&self.layout, number);
+        let mut seat: Seated = replace(&mut self.badge, Badge::blank()).into_seat();
+        let found = self.words.shared.fetch_or::<Marks>(&mut seat, place, 1);
+        self.badge = seat.into_badge();
+        found
+    }
+
+    /// A sender loads the head.
+    pub fn look(&mut self) -> u64
+        requires sender { IsSender self.old.part.stage }
+        ensures { Steps Look result self.old self.new }
+    {
+        let mut seat: Seated = replace(&mut self.badge, Badge::blank()).into_seat();
+        let found = self.words.shared.load::<Looks>(&mut seat, 0);
+        self.badge = seat.into_badge();
+        found
+    }
+
+    /// A sender stores the head that it saw as the link of a number that it holds.
+    pub fn link(&mut self, number: u32, seen: u64)
+        requires number { number < number_count self.old.part.layout }
+        requires held { Holds self.old.part.seen self.old.part.seat number }
+        requires seen { HasSeen seen self.old.part.stage }
+        requires open { seen ≢ closed_word }
+        ensures { Steps (Link number) seen self.old self.new }
+    {
+        let mut seat: Seated = replace(&mut self.badge, Badge::blank()).into_seat();
+        self.words
+            .shared
+            .store::<Links>(&mut seat, 1 + number as usize, seen);
+        self.badge = seat.into_badge();
+    }
+
+    /// A sender exchanges the head that it saw for the number that it linked to it, and learns the head as it was.
+    pub fn push(&mut self, number: u32, seen: u64) -> u64
+        requires number { number < number_count self.old.part.layout }
+        requires linked { HasLinked seen number self.old.part.stage }
+        ensures { Steps (Push number) result self.old self.new }
+    {
+        let mut seat: Seated = replace(&mut self.badge, Badge::blank()).into_seat();
+        let found = self
+            .words
+            .shared
+            .compare_exchange::<Pushes>(&mut seat, 0, seen, number as u64 + 1);
+        self.badge = seat.into_badge();
+        found
+    }
+
+    /// A sender that saw the queue closed clears the PENDING bit of a number that it holds.
+    pub fn back_closed(&mut self, number: u32)
+        requires number { number < number_count self.old.part.layout }
+        requires held { Holds self.old.part.seen self.old.part.seat number }
+        requires closed { HasSeen closed_word self.old.part.stage }
+        ensures { (word : ℕ) × Steps (Back number Closed) word self.old self.new }
+    {
+        let place = item_place(&self.layout, number);
+        let mut seat: Seated = replace(&mut self.badge, Badge::blank()).into_seat();
+        self.words
+            .shared
+            .fetch_and::<FindsClosed>(&mut seat, place, 0);
+        self.badge = seat.into_badge();
+    }
+
+    /// A sender whose tries were all lost clears the PENDING bit of a number that it holds.
+    pub fn back_contended(&mut self, number: u32)
+        requires sender { IsSender self.old.part.stage }
+        requires number { number < number_count self.old.part.layout }
+        requires held { Holds self.old.part.seen self.old.part.seat number }
+        ensures { (word : ℕ) × Steps (Back number Contended) word self.old self.new }
+    {
+        let place = item_place(&self.layout, number);
+        let mut seat: Seated = replace(&mut self.badge, Badge::blank()).into_seat();
+        self.words.shared.fetch_and::<GivesUp>(&mut seat, place, 0);
+        self.badge = seat.into_badge();
+    }
+
+    /// A sender clears the PENDING bit of a number that it holds.
+    pub fn back_cancelled(&mut self, number: u32)
+        requires sender { IsSender self.old.part.stage }
+        requires number { number < number_count self.old.part.layout }
+        requires held { Holds self.old.part.seen self.old.part.seat number }
+        ensures { (word : ℕ) × Steps (Back number Cancelled) word self.old self.new }
+    {
+        let place = item_place(&self.layout, number);
+        let mut seat: Seated = replace(&mut self.badge, Badge::blank()).into_seat();
+        self.words.shared.fetch_and::<Cancels>(&mut seat, place, 0);
+        self.badge = seat.into_badge();
+    }
+
+    /// A sender loads an item word.
+    pub fn check(&mut self, number: u32) -> u64
+        requires sender { IsSender self.old.part.stage }
+        requires number { number < number_count self.old.part.layout }
+        ensures { Steps (Check number) result self.old self.new }
+    {
+        let place = item_place(&self.layout, number);
+        let mut seat: Seated = replace(&mut self.badge, Badge::blank()).into_seat();
+        let found = self.words.shared.load::<Checks>(&mut seat, place);
+        self.badge = seat.into_badge();
+        found
+    }
+
+    /// The owner takes the whole list, and learns the head as it was.
+    pub fn take(&mut self) -> u64
+        requires open { ¬ IsClosed self.old.part.seen }
+        requires rested { IsRested self.old.part.stage }
+        requires empty { HasNone self.old.part.stage }
+        ensures { Steps Take result self.old self.new }
+    {
+        let mut seat: Seated = replace(&mut self.badge, Badge::blank()).into_seat();
+        let found = self.words.shared.swap::<Takes>(&mut seat, 0, 0);
+        self.badge = seat.into_badge();
+        found
+    }
+
+    /// The owner takes the whole list and leaves the closed mark.
+    pub fn close(&mut self) -> u64
+        requires open { ¬ IsClosed self.old.part.seen }
+        requires rested { IsRested self.old.part.stage }
+        ensures { Steps Close result self.old self.new }
+    {
+        let mut seat: Seated = replace(&mut self.badge, Badge::blank()).into_seat();
+        let found = self.words.shared.swap::<Closes>(&mut seat, 0, u64::MAX);
+        self.badge = seat.into_badge();
+        found
+    }
+
+    /// The owner loads the link of the number that it walks next.
+    pub fn walk(&mut self, number: u32) -> u64
+        requires number { number < number_count self.old.part.layout }
+        requires next { IsToWalk number self.old.part.stage }
+        ensures { Steps Walk result self.old self.new }
+    {
+        let mut seat: Seated = replace(&mut self.badge, Badge::blank()).into_seat();
+        let found = self
+            .words
+            .shared
+            .load::<Walks>(&mut seat, 1 + number as usize);
+        self.badge = seat.into_badge();
+        found
+    }
+
+    /// The owner clears the PENDING bit of the oldest number of its batch, which then runs.
+    pub fn begin(&mut self, number: u32)
+        requires number { number < number_count self.old.part.layout }
+        requires next { IsToBegin number self.old.part.stage }
+        requires rests { ¬ IsRunning self.old.part.seen }
+        ensures { (word : ℕ) × Steps Begin word self.old self.new }
+    {
+        let place = item_place(&self.layout, number);
+        let mut seat: Seated = replace(&mut self.badge, Badge::blank()).into_seat();
+        self.words.shared.fetch_and::<Begins>(&mut seat, place, 0);
+        self.badge = seat.into_badge();
+    }
+
+    /// The owner counts the execution that runs as ended.
+    pub fn end(&mut self)
+        requires owner { IsOwner self.old.part.stage }
+        requires runs { IsRunning self.old.part.seen }
+        ensures { (word : ℕ) × Steps End word self.old self.new }
+    {
+        let place = 1 + 2 * (self.layout.items as usize + self.layout.barriers as usize + 1);
+        let mut seat: Seated = replace(&mut self.badge, Badge::blank()).into_seat();
+        self.words.shared.fetch_add::<Ends>(&mut seat, place, 1);
+        self.badge = seat.into_badge();
+    }
+
+    /// The owner sets the PENDING bit of an item of the closed queue, and learns its item word as it was.
+    pub fn chain(&mut self, number: u32) -> u64
+        requires item { number < self.old.part.layout.items }
+        requires closed { IsClosed self.old.part.seen }
+        requires rested { IsRested self.old.part.stage }
+        requires runs { IsRunning self.old.part.seen }
+        ensures { Steps (Chain number) result self.old self.new }
+    {
+        let place = item_place(&self.layout, number);
+        let mut seat: Seated = replace(&mut self.badge, Badge::blank()).into_seat();
+        let found = self.words.shared.fetch_or::<Chains>(&mut seat, place, 1);
+        self.badge = seat.into_badge();
+        found
+    }
+
+    /// Two seats of one queue meet: afterwards each has seen all that has happened.
+    pub fn meet(&mut self, other: &mut Chair)
+        requires { self.old.queue ≡ other.old.queue }
+        ensures { Meet self.old other.old self.new other.new }
+    {
+        let words = &self.words.shared;
+        let mut seat: Seated = replace(&mut self.badge, Badge::blank()).into_seat();
+        let theirs: Seated = replace(&mut other.badge, Badge::blank()).into_seat();
+        words.join_seat::<Both>(&mut seat, theirs);
+        words.load::<Meets>(&mut seat, 0);
+        let theirs = words.split_seat::<Off>(&mut seat);
+        other.badge = theirs.into_badge();
+        self.badge = seat.into_badge();
+    }
+
+    /// Three seats of one queue meet: afterwards each has seen all that has happened.
+    pub fn meet_both(&mut self, other: &mut Chair, third: &mut Chair)
+        requires other { self.old.queue ≡ other.old.queue }
+        requires third { self.old.queue ≡ third.old.queue }
+        ensures { MeetAll self.old other.old third.old self.new other.new third.new }
+    {
+        let words = &self.words.shared;
+        let mut seat: Seated = replace(&mut self.badge, Badge::blank()).into_seat();
+        let others: Seated = replace(&mut other.badge, Badge::blank()).into_seat();
+        let thirds: Seated = replace(&mut third.badge, Badge::blank()).into_seat();
+        words.join_seat::<Both>(&mut seat, others);
+        words.join_seat::<Both>(&mut seat, thirds);
+        words.load::<Meets>(&mut seat, 0);
+        let thirds = words.split_seat::<Off>(&mut seat);
+        let others = words.split_seat::<Off>(&mut seat);
+        third.badge = thirds.into_badge();
+        other.badge = others.into_badge();
+        self.badge = seat.into_badge();
+    }
+}
