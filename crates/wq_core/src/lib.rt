@@ -10,3 +10,6 @@ mod step;
 pub use machine::Core;
 pub use schedule::{ReplayError, replay};
 pub use step::{Private, Reply, Seat, Step, StepError};
+
+#[cfg(test)]
+mod tests;

@@ -343,9 +343,10 @@ impl Core {
     {
         let last = self.batch.len() - 1;
         let number = self.batch[last];
+        let bit = item_place(self.layout, number);
         self.history.push(Event::Begin(number))?;
         self.batch.truncate(last);
-        self.words[item_place(self.layout, number)] = 0;
+        self.words[bit] = 0;
         self.running = Some(number);
         Ok(Reply::Began(number))
     }
