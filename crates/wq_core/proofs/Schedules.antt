@@ -23,7 +23,6 @@ use Rattle.wq_core.specs.Machine.{Machine, opening, nothing_seen, head, link, it
 use Rattle.wq_core.specs.Refusal.{IsSeated, IsNumbered, IsPlaced, IsMade, IsRefused}
 use Rattle.wq_core.specs.Schedule.{Leads, Leaves, IsFirstRefusal}
 use Rattle.wq_core.specs.Sound.{AreChained, IsSound}
-use Rattle.wq_core.proofs.Chains.{chain_zero}
 use Rattle.wq_core.proofs.Steps.{sound_hold, sound_busy, sound_look, sound_lost, sound_link, sound_push, sound_back, sound_take, sound_close, sound_walk_end, sound_walk_on, sound_begin, sound_end, sound_chain, sound_chain_busy}
 
 pub either : (q : Bool) (P : Machine → Type 0) (a b : Machine) → (q ≡ true → P a) → (q ≡ false → P b) → P (if q then a else b)
@@ -148,17 +147,6 @@ layout_leads (turn ∷ turns) old new leads = layout_leads turns (after old turn
 -- whatever the schedule, what has happened is a legal history
 pub legal_leaves : (layout : Layout) (turns : List (Seat × Step)) (m : Machine) → Leaves layout turns m → IsLegal layout m.history
 legal_leaves layout turns m leaves = rw (layout_leads turns (opening layout) m leaves) at (sound_leaves layout turns m leaves).legal
-
--- between two calls of the owner the batch is what is taken and has not begun
-pub batch_is : (m : Machine) → IsSound m → m.cursor ≡ None → m.batch ≡ drop (length (begun m.history)) (take (taken m.history) (accepted m.history))
-batch_is m o still =
-    let a = o.chains in
-    let done : m.walked ≡ [] = a.rested still in
-    let none : a.remaining ≡ [] = chain_zero (number_count m.layout) m.words a.remaining (rw still at a.walk_chain) in
-    let order : accepted m.history ≡ (begun m.history ++ m.batch) ++ reverse (listed m.history) = rw (none, done) at a.order ∙ simp append-nil in
-    let counts : length (begun m.history ++ m.batch) ≡ taken m.history =
-    omega (arith, ap length order, length-append (begun m.history ++ m.batch) (reverse (listed m.history)), length-reverse (listed m.history), length-accepted m.layout m.history o.legal) in
-    sym (ap (λ l. drop (length (begun m.history)) l) (ap (λ l. take (taken m.history) l) order ∙ take_at (begun m.history ++ m.batch) (reverse (listed m.history)) (taken m.history) counts) ∙ drop_at (begun m.history) m.batch (length (begun m.history)) refl)
 
 -- a schedule goes on by one step
 pub leads_push : (turns : List (Seat × Step)) (old mid : Machine) (seat : Seat) (step : Step) → Leads old turns mid → IsMade mid seat step → Leads old (turns ++ (seat, step) ∷ []) (after mid seat step)
