@@ -1,28 +1,25 @@
 -- Every schedule keeps what is sound.
-use Rattle.std.proofs.Common.{◌≡◌, ◌≢◌, ℕ, zero, suc, ◌+◌, ◌*◌, ◌%◌, ◌^◌, ◌<◌, ◌==◌, Bool, true, false, if◌then◌else◌, List, [], ◌∷◌, ◌++◌, length, get_or, set, take, drop, Option, None, Some, unwrap_or, slice_get, refl, sym, ap, ◌∙◌, subst, arith, replicate, length-append}
+use Rattle.std.proofs.Common.{◌≡◌, ◌≢◌, ℕ, zero, suc, ◌+◌, ◌<◌, ◌==◌, Bool, true, false, if◌then◌else◌, List, [], ◌∷◌, ◌++◌, length, get_or, take, Option, None, Some, unwrap_or, slice_get, refl, ap, ◌∙◌, arith, replicate}
 use Rattle.std.proofs.lemmas.Bool.{eqb-true, eqb-false}
-use Rattle.std.proofs.lemmas.List.{length-replicate, length-reverse, append-nil, take_at, drop_at, take_more}
+use Rattle.std.proofs.lemmas.List.{length-replicate, take_more}
 use Rattle.std.proofs.lemmas.Option.{slice_get-get_or}
-use Rattle.std.specs.Prelude.{reverse}
 use Rattle.wq_words.specs.declared.layout.Layout.{Layout}
 use Rattle.wq_words.specs.declared.event.Event.{Event}
 use Rattle.wq_words.specs.Numbers.{number_count}
-use Rattle.wq_words.specs.History.{accepted, begun, ended, taken, running, IsRunning}
+use Rattle.wq_words.specs.History.{begun, ended, running, IsRunning}
 use Rattle.wq_words.specs.Legal.{IsLegal}
-use Rattle.wq_words.specs.Listed.{listed}
 use Rattle.wq_words.proofs.Legal.{legal_nil}
-use Rattle.wq_words.proofs.Listed.{length-accepted}
 use Rattle.wq_core.specs.declared.step.Private.{Private}
 use Rattle.wq_core.specs.declared.step.Seat.{Seat}
 use Rattle.wq_core.specs.declared.step.Seat.TheVariants.{Sender, Owner}
 use Rattle.wq_core.specs.declared.step.Step.{Step}
 use Rattle.wq_core.specs.declared.step.Step.TheVariants.{Hold, Look, Link, Push, Back, Check, Take, Close, Walk, Begin, End, Chain}
 use Rattle.wq_core.specs.declared.step.StepError.{StepError}
-use Rattle.wq_core.specs.Words.{word_count, closed_word}
-use Rattle.wq_core.specs.Machine.{Machine, opening, nothing_seen, head, link, item_word, private, seen_word, with_private, with_link, walked_past, after_walk, after_begin, after_end, IsEnabled, after}
-use Rattle.wq_core.specs.Refusal.{IsSeated, IsNumbered, IsPlaced, IsMade, IsRefused}
+use Rattle.wq_core.specs.Words.{word_count}
+use Rattle.wq_core.specs.Machine.{Machine, opening, nothing_seen, head, link, item_word, private, seen_word, after_walk, after_begin, after_end, after}
+use Rattle.wq_core.specs.Refusal.{IsMade, IsRefused}
 use Rattle.wq_core.specs.Schedule.{Leads, Leaves, IsFirstRefusal}
-use Rattle.wq_core.specs.Sound.{AreChained, IsSound}
+use Rattle.wq_core.specs.Sound.{IsSound}
 use Rattle.wq_core.proofs.Steps.{sound_hold, sound_busy, sound_look, sound_lost, sound_link, sound_push, sound_back, sound_take, sound_close, sound_walk_end, sound_walk_on, sound_begin, sound_end, sound_chain, sound_chain_busy}
 
 pub either : (q : Bool) (P : Machine → Type 0) (a b : Machine) → (q ≡ true → P a) → (q ≡ false → P b) → P (if q then a else b)

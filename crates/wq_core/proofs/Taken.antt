@@ -1,19 +1,18 @@
 -- What the head's chain spells, what a push finds there, and what the owner's batch is.
-use Rattle.std.proofs.Common.{◌≡◌, ◌≢◌, ℕ, suc, ◌+◌, ◌==◌, Bool, true, false, if◌then◌else◌, nat_lt, List, [], ◌∷◌, ◌++◌, length, take, drop, reverse, None, Some, unwrap_or, refl, sym, ap, ◌∙◌, arith, length-append}
+use Rattle.std.proofs.Common.{◌≡◌, ℕ, ◌+◌, ◌==◌, Bool, true, false, if◌then◌else◌, List, [], ◌∷◌, ◌++◌, length, take, drop, reverse, None, unwrap_or, refl, sym, ap, ◌∙◌, arith, length-append}
 use Rattle.std.proofs.lemmas.Bool.{ne_eqb, eqb-true}
 use Rattle.std.proofs.lemmas.List.{append-nil, length-reverse, take_at, drop_at}
 use Rattle.wq_words.specs.Numbers.{number_count}
 use Rattle.wq_words.specs.Head.{head_word}
-use Rattle.wq_words.specs.History.{accepted, begun, taken, fresh, first, IsClosed}
+use Rattle.wq_words.specs.History.{accepted, begun, taken, first, IsClosed}
 use Rattle.wq_words.specs.Listed.{listed}
 use Rattle.wq_words.proofs.Listed.{length-accepted, fresh-open}
 use Rattle.wq_core.specs.declared.step.Seat.TheVariants.{Sender}
 use Rattle.wq_core.specs.declared.step.Step.TheVariants.{Push}
-use Rattle.wq_core.specs.declared.step.Reply.{Reply}
 use Rattle.wq_core.specs.declared.step.Reply.TheVariants.{Pushed, Lost}
-use Rattle.wq_core.specs.Machine.{Machine, head, link, private, seen_word, reply_to}
+use Rattle.wq_core.specs.Machine.{Machine, head, seen_word, reply_to}
 use Rattle.wq_core.specs.Refusal.{IsMade}
-use Rattle.wq_core.specs.Sound.{head_of_list, IsChain, AreChained, IsSound}
+use Rattle.wq_core.specs.Sound.{head_of_list, IsChain, IsSound}
 use Rattle.wq_core.proofs.Chains.{chain_zero}
 use Rattle.wq_core.proofs.Steps.{head_open, head_of_closed}
 
