@@ -3,3 +3,4 @@ pub mod Privates
 pub mod Steps
 pub mod Schedules
 pub mod Stored
+pub mod Taken

@@ -9,9 +9,8 @@ use Rattle.wq_words.specs.declared.event.Event.TheVariants.{Hold, Push, Back, Be
 use Rattle.wq_words.specs.History.{is_close, IsClosed}
 use Rattle.wq_words.specs.Keeper.{Keeper, Home, Sender, Listed, Owner, keeper_after, keeper}
 use Rattle.wq_words.proofs.Growing.{count_by_push}
-use Rattle.wq_words.proofs.Keepers.{pending_bit}
 use Rattle.wq_core.specs.declared.step.Private.{Private}
-use Rattle.wq_core.specs.Words.{link_place, item_place, closed_word}
+use Rattle.wq_core.specs.Words.{link_place, closed_word}
 use Rattle.wq_core.specs.Machine.{nothing_seen, unlinked}
 use Rattle.wq_core.specs.Stored.{FollowKeepers}
 

@@ -1,29 +1,25 @@
 -- Every schedule keeps what is sound.
-use Rattle.std.proofs.Common.{◌≡◌, ◌≢◌, ℕ, zero, suc, ◌+◌, ◌*◌, ◌%◌, ◌^◌, ◌<◌, ◌==◌, Bool, true, false, if◌then◌else◌, List, [], ◌∷◌, ◌++◌, length, get_or, set, take, drop, Option, None, Some, unwrap_or, slice_get, refl, sym, ap, ◌∙◌, subst, arith, replicate, length-append}
+use Rattle.std.proofs.Common.{◌≡◌, ◌≢◌, ℕ, zero, suc, ◌+◌, ◌<◌, ◌==◌, Bool, true, false, if◌then◌else◌, List, [], ◌∷◌, ◌++◌, length, get_or, take, Option, None, Some, unwrap_or, slice_get, refl, ap, ◌∙◌, arith, replicate}
 use Rattle.std.proofs.lemmas.Bool.{eqb-true, eqb-false}
-use Rattle.std.proofs.lemmas.List.{length-replicate, length-reverse, append-nil, take_at, drop_at, take_more}
+use Rattle.std.proofs.lemmas.List.{length-replicate, take_more}
 use Rattle.std.proofs.lemmas.Option.{slice_get-get_or}
-use Rattle.std.specs.Prelude.{reverse}
 use Rattle.wq_words.specs.declared.layout.Layout.{Layout}
 use Rattle.wq_words.specs.declared.event.Event.{Event}
 use Rattle.wq_words.specs.Numbers.{number_count}
-use Rattle.wq_words.specs.History.{accepted, begun, ended, taken, running, IsRunning}
+use Rattle.wq_words.specs.History.{begun, ended, running, IsRunning}
 use Rattle.wq_words.specs.Legal.{IsLegal}
-use Rattle.wq_words.specs.Listed.{listed}
 use Rattle.wq_words.proofs.Legal.{legal_nil}
-use Rattle.wq_words.proofs.Listed.{length-accepted}
 use Rattle.wq_core.specs.declared.step.Private.{Private}
 use Rattle.wq_core.specs.declared.step.Seat.{Seat}
 use Rattle.wq_core.specs.declared.step.Seat.TheVariants.{Sender, Owner}
 use Rattle.wq_core.specs.declared.step.Step.{Step}
 use Rattle.wq_core.specs.declared.step.Step.TheVariants.{Hold, Look, Link, Push, Back, Check, Take, Close, Walk, Begin, End, Chain}
 use Rattle.wq_core.specs.declared.step.StepError.{StepError}
-use Rattle.wq_core.specs.Words.{word_count, closed_word}
-use Rattle.wq_core.specs.Machine.{Machine, opening, nothing_seen, head, link, item_word, private, seen_word, with_private, with_link, walked_past, after_walk, after_begin, after_end, IsEnabled, after}
-use Rattle.wq_core.specs.Refusal.{IsSeated, IsNumbered, IsPlaced, IsMade, IsRefused}
+use Rattle.wq_core.specs.Words.{word_count}
+use Rattle.wq_core.specs.Machine.{Machine, opening, nothing_seen, head, link, item_word, private, seen_word, after_walk, after_begin, after_end, after}
+use Rattle.wq_core.specs.Refusal.{IsMade, IsRefused}
 use Rattle.wq_core.specs.Schedule.{Leads, Leaves, IsFirstRefusal}
-use Rattle.wq_core.specs.Sound.{AreChained, IsSound}
-use Rattle.wq_core.proofs.Chains.{chain_zero}
+use Rattle.wq_core.specs.Sound.{IsSound}
 use Rattle.wq_core.proofs.Steps.{sound_hold, sound_busy, sound_look, sound_lost, sound_link, sound_push, sound_back, sound_take, sound_close, sound_walk_end, sound_walk_on, sound_begin, sound_end, sound_chain, sound_chain_busy}
 
 pub either : (q : Bool) (P : Machine → Type 0) (a b : Machine) → (q ≡ true → P a) → (q ≡ false → P b) → P (if q then a else b)
@@ -148,17 +144,6 @@ layout_leads (turn ∷ turns) old new leads = layout_leads turns (after old turn
 -- whatever the schedule, what has happened is a legal history
 pub legal_leaves : (layout : Layout) (turns : List (Seat × Step)) (m : Machine) → Leaves layout turns m → IsLegal layout m.history
 legal_leaves layout turns m leaves = rw (layout_leads turns (opening layout) m leaves) at (sound_leaves layout turns m leaves).legal
-
--- between two calls of the owner the batch is what is taken and has not begun
-pub batch_is : (m : Machine) → IsSound m → m.cursor ≡ None → m.batch ≡ drop (length (begun m.history)) (take (taken m.history) (accepted m.history))
-batch_is m o still =
-    let a = o.chains in
-    let done : m.walked ≡ [] = a.rested still in
-    let none : a.remaining ≡ [] = chain_zero (number_count m.layout) m.words a.remaining (rw still at a.walk_chain) in
-    let order : accepted m.history ≡ (begun m.history ++ m.batch) ++ reverse (listed m.history) = rw (none, done) at a.order ∙ simp append-nil in
-    let counts : length (begun m.history ++ m.batch) ≡ taken m.history =
-    omega (arith, ap length order, length-append (begun m.history ++ m.batch) (reverse (listed m.history)), length-reverse (listed m.history), length-accepted m.layout m.history o.legal) in
-    sym (ap (λ l. drop (length (begun m.history)) l) (ap (λ l. take (taken m.history) l) order ∙ take_at (begun m.history ++ m.batch) (reverse (listed m.history)) (taken m.history) counts) ∙ drop_at (begun m.history) m.batch (length (begun m.history)) refl)
 
 -- a schedule goes on by one step
 pub leads_push : (turns : List (Seat × Step)) (old mid : Machine) (seat : Seat) (step : Step) → Leads old turns mid → IsMade mid seat step → Leads old (turns ++ (seat, step) ∷ []) (after mid seat step)

@@ -1,9 +1,8 @@
 -- Each step keeps what is sound: one lemma a step.
-use Rattle.std.proofs.Common.{◌≡◌, ◌≢◌, ℕ, suc, ◌+◌, ◌-◌, ◌*◌, ◌%◌, ◌^◌, ◌<◌, ◌≤◌, ◌==◌, Bool, true, false, if◌then◌else◌, nat_lt, List, [], ◌∷◌, ◌++◌, length, get_or, set, Option, None, Some, slice_get, refl, sym, ap, ◌∙◌, subst, arith, inl, inr, length-set, unwrap_or}
+use Rattle.std.proofs.Common.{◌≡◌, ◌≢◌, ℕ, ◌+◌, ◌%◌, ◌^◌, ◌<◌, Bool, true, false, if◌then◌else◌, nat_lt, List, [], ◌∷◌, ◌++◌, length, get_or, set, Option, None, Some, slice_get, refl, sym, ap, ◌∙◌, arith, inl, inr, length-set, unwrap_or}
 use Rattle.std.proofs.lemmas.List.{get_or-set_other, get_or-set_same, append-nil, length_push}
 use Rattle.std.proofs.lemmas.List.Sums.{fold_push}
-use Rattle.std.proofs.lemmas.Bool.{ne_eqb, eq-eqb, eqb-true, eqb-false, lt-ltb, le-ltb, cases_lt}
-use Rattle.std.proofs.lemmas.Bool.Decides.{nat_tests}
+use Rattle.std.proofs.lemmas.Bool.{eq-eqb, lt-ltb, le-ltb}
 use Rattle.std.proofs.Math.Nat.{add-mod-mod}
 use Rattle.wq_words.specs.declared.layout.Layout.{Layout}
 use Rattle.wq_words.specs.declared.event.Why.{Why}
@@ -12,22 +11,22 @@ use Rattle.wq_words.specs.declared.event.Event.{Event}
 use Rattle.wq_words.specs.declared.event.Event.TheVariants.{Hold, Busy, Push, Back, Take, Close, Begin, End, Chain, ChainBusy}
 use Rattle.wq_words.specs.Numbers.{number_count}
 use Rattle.wq_words.specs.Head.{head_word}
-use Rattle.wq_words.specs.History.{accepted, begun, ended, accepted_by, begun_by, ended_by, pending, closed, clears_pending, sets_pending, is_close, Holds, IsPending, IsClosed, IsRunning, running}
+use Rattle.wq_words.specs.History.{accepted, begun, ended, accepted_by, begun_by, ended_by, pending, closed, is_close, Holds, IsPending, IsClosed, IsRunning, running}
 use Rattle.wq_words.specs.Listed.{listed_after, listed}
 use Rattle.wq_words.specs.Legal.{IsAllowed, IsLegal}
 use Rattle.wq_words.specs.Keeper.{Keeper, Home, Sender, Listed, Owner, taken_over, keeper_after, keeper}
 use Rattle.wq_words.proofs.Growing.{growing, count_by_push, filter_map_push_some, filter_map_push_none, slice_get_push, slice_get_append}
 use Rattle.wq_words.proofs.Order.{in_order}
 use Rattle.wq_words.proofs.Legal.{legal_push, legal_induction}
-use Rattle.wq_words.proofs.Listed.{closed_from_IsClosed, closed_from_open, IsClosed_from_closed, closed_push_no, closed_push_yes, listed-closed}
+use Rattle.wq_words.proofs.Listed.{closed_from_IsClosed, closed_from_open, IsClosed_from_closed, closed_push_no, listed-closed}
 use Rattle.wq_words.proofs.Keepers.{pending_bit, kept, home_from_bit, sender_from_bit}
 use Rattle.wq_core.specs.Words.{link_place, item_place, done_place, head_place, word_count, closed_word, number_at}
 use Rattle.wq_core.specs.declared.step.Private.{Private}
-use Rattle.wq_core.specs.Machine.{Machine, nothing_seen, head, link, item_word, done_word, private, seen_word, with_head, with_link, with_item, with_done, with_private, happened, unlinked, walked_past}
-use Rattle.wq_core.specs.Sound.{head_of_list, head_of, word_at, IsChain, AreChained, IsSound}
+use Rattle.wq_core.specs.Machine.{Machine, nothing_seen, head, link, item_word, done_word, private, seen_word, with_head, with_link, with_item, with_done, with_private, happened, unlinked}
+use Rattle.wq_core.specs.Sound.{head_of_list, head_of, AreChained, IsSound}
 use Rattle.wq_core.specs.Stored.{FollowKeepers}
 use Rattle.wq_core.proofs.Chains.{times, chained_set, chained_push, chained_take, chained_begin, chained_walk_on, chained_walk_end, chained_chain, cursor_number}
-use Rattle.wq_core.proofs.Privates.{closed_stays, keeper_push, Spares, Gives, gives_hold, gives_push, gives_back, gives_begin, gives_chain, follow_give, follow_same, follow_quiet, follow_set, Linked, AreLinked, linked_set, linked_quiet, linked_spares, linked_give, keeps_unlinked, linked_link, linked_forget, seen_after, seen_set}
+use Rattle.wq_core.proofs.Privates.{gives_hold, gives_push, gives_back, gives_begin, gives_chain, follow_give, follow_same, follow_quiet, follow_set, AreLinked, linked_set, linked_quiet, linked_spares, linked_give, keeps_unlinked, linked_link, linked_forget, seen_after, seen_set}
 
 -- each accepted number is one of the queue's
 pub accepted_number : (layout : Layout) (h : List Event) → IsLegal layout h → (i k : ℕ) → slice_get (accepted h) i ≡ Some k → k < number_count layout

@@ -1,25 +1,21 @@
 -- What is kept beside the machine follows each step.
-use Rattle.std.proofs.Common.{◌≡◌, ◌≢◌, ℕ, ◌+◌, ◌<◌, ◌≤◌, ◌^◌, ◌%◌, List, [], ◌∷◌, ◌++◌, length, replicate, cond, take, reverse, ◌-◌, get_or, set, None, Some, Option, unwrap_or, refl, sym, ap, ◌∙◌, arith, length-set, length-append, ◌↔◌}
+use Rattle.std.proofs.Common.{◌≡◌, ◌≢◌, ℕ, ◌+◌, ◌<◌, ◌≤◌, ◌^◌, ◌%◌, List, [], ◌∷◌, ◌++◌, length, replicate, take, reverse, ◌-◌, get_or, set, None, Some, Option, refl, sym, ap, ◌∙◌, arith, length-set, length-append, ◌↔◌}
 use Rattle.std.proofs.lemmas.List.{length-replicate, reverse-append, take_all, take_more}
 use Rattle.std.proofs.lemmas.Option.{slice_get_past, slice_get_within}
-use Rattle.std.proofs.lemmas.Bool.{eq-eqb}
 use Rattle.wq_words.specs.declared.layout.Layout.{Layout}
-use Rattle.wq_words.specs.declared.event.Event.{Event}
 use Rattle.wq_words.specs.declared.event.Event.TheVariants.{Hold, Busy, Push, Back, Take, Close, Begin, End, Chain, ChainBusy}
 use Rattle.wq_words.specs.declared.event.Why.{Why}
 use Rattle.wq_words.specs.declared.event.Why.TheVariants.{Closed}
 use Rattle.wq_words.specs.Numbers.{number_count}
-use Rattle.wq_words.specs.Head.{head_word}
-use Rattle.wq_words.specs.History.{accepted, begun, ended, running, Holds, IsRunning, IsClosed}
+use Rattle.wq_words.specs.History.{begun, ended, running, Holds, IsRunning, IsClosed}
 use Rattle.wq_words.specs.Listed.{listed}
-use Rattle.wq_words.specs.Keeper.{Keeper, Home, Sender, Listed, Owner, taken_over, keeper_after, keeper}
+use Rattle.wq_words.specs.Keeper.{Keeper, Home, Sender, Listed, Owner, taken_over, keeper}
 use Rattle.wq_words.proofs.Growing.{growing, slice_get_last}
 use Rattle.wq_words.proofs.Order.{in_order, prefix_length}
-use Rattle.wq_core.specs.declared.step.Private.{Private}
-use Rattle.wq_core.specs.Words.{closed_word, number_at, link_place}
+use Rattle.wq_core.specs.Words.{closed_word, number_at}
 use Rattle.wq_core.specs.Machine.{Machine, opening, nothing_seen, head, link, item_word, done_word, private, seen_word, with_head, with_link, with_item, with_done, with_private, happened, unlinked}
-use Rattle.wq_core.specs.Sound.{head_of_list, IsChain, AreChained, IsSound}
-use Rattle.wq_core.specs.Stored.{FollowKeepers, holder, IsStored}
+use Rattle.wq_core.specs.Sound.{IsChain, IsSound}
+use Rattle.wq_core.specs.Stored.{holder, IsStored}
 use Rattle.wq_core.proofs.Privates.{gives_hold, gives_push, gives_back, gives_begin, gives_chain, follow_give, follow_same, follow_quiet}
 use Rattle.wq_core.proofs.Schedules.{runs_some, sound_opening, all_alike}
 use Rattle.wq_core.proofs.Steps.{sound_hold, sound_busy, sound_look, sound_link, sound_push, sound_lost, sound_back, sound_take, sound_close, sound_walk_end, sound_walk_on, sound_begin, sound_end, sound_chain, sound_chain_busy, home_from_clear, sender_from_holds, holds_from_keeper, first_of_batch, head_open}

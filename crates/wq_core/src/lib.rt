@@ -2,11 +2,13 @@
 //! time.
 #![tactic(auto)]
 
+mod laws;
 mod machine;
 mod place;
 mod schedule;
 mod step;
 
+pub use laws::{chain_and_batch, each_step_keeps_sound, first_push};
 pub use machine::Core;
 pub use schedule::{ReplayError, replay};
 pub use step::{Private, Reply, Seat, Step, StepError};

@@ -7,6 +7,7 @@ ghost use Rattle.wq_core.specs.declared.step.Seat.TheVariants.{Sender, Owner};
 ghost use Rattle.wq_core.specs.declared.step.Step.TheVariants.{Hold, Look, Link, Push, Back, Check, Take, Close, Walk, Begin, End, Chain};
 ghost use Rattle.wq_core.specs.Words.{closed_word};
 ghost use Rattle.wq_core.specs.Machine.{opening, IsEnabled, after, reply_to, nothing_seen, private, unlinked, item_word};
+ghost use Rattle.wq_core.specs.Sound.{IsSound};
 ghost use Rattle.wq_core.specs.Refusal.{is_senders, IsSeated, IsNumbered, IsPlaced, IsMade, IsRefused};
 
 use crate::place::{
@@ -70,6 +71,13 @@ impl Core {
             holders: vec![in alloc; None; count]?,
             running: None,
         })
+    }
+
+    /// The machine's invariant, which a caller has in hand after the call. It computes nothing.
+    pub fn sound(&self)
+        ensures { IsSound self.now }
+    {
+        let _ = &self.words;
     }
 
     /// The events so far, oldest first.

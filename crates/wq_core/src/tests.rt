@@ -3,7 +3,10 @@ use crate::Reply::{
     Pending, Pushed, Took, Walked,
 };
 use crate::Step::{Back, Begin, Chain, Check, Close, End, Hold, Link, Look, Push, Take, Walk};
-use crate::{Core, ReplayError, Reply, Seat, Step, StepError, replay};
+use crate::{
+    Core, ReplayError, Reply, Seat, Step, StepError, chain_and_batch, each_step_keeps_sound,
+    first_push, replay,
+};
 use std::test::Fail;
 use wq_words::{Event, Head, Layout, Why, check_history};
 
@@ -198,5 +201,16 @@ fn refusals(rt: HostRuntime) -> Result<(), Fail> {
     assert_eq!(rt; core.history().len(), 0);
     assert_eq!(rt; core.step(S1, Hold(5)), Ok(Held));
     assert_eq!(rt; core.history(), [Event::Hold(1, 5)].as_slice());
+    Ok(())
+}
+
+/// What a caller has in hand of a core, whatever was done to it.
+#[test]
+fn laws(rt: HostRuntime) -> Result<(), Fail> {
+    let core = Core::new(rt.alloc(), Layout::new(4, 1, 2)?)?;
+    each_step_keeps_sound();
+    core.sound();
+    chain_and_batch(&core);
+    first_push(&core);
     Ok(())
 }

@@ -1,4 +1,4 @@
-use Rattle.std.proofs.Common.{◌≡◌, sym, ◌∙◌}
+use Rattle.std.proofs.Common.{sym, ◌∙◌}
 use Rattle.wq_core.proofs.Stored.{stored_hold, stored_busy}
 use Rattle.wq_core.proofs.machine.Core.hold.Goals as goal
 

@@ -1,4 +1,4 @@
-use Rattle.std.proofs.Common.{sym, ap, ◌∙◌}
+use Rattle.std.proofs.Common.{sym, ◌∙◌}
 use Rattle.wq_core.proofs.Stored.{stored_push, stored_lost}
 use Rattle.wq_core.proofs.machine.Core.push.Goals as goal
 

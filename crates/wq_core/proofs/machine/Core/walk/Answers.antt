@@ -1,4 +1,4 @@
-use Rattle.std.proofs.Common.{rules, ◌≡◌, ◌≢◌, get_or, None, [], ◌∷◌, ◌++◌, reverse, sym, ap, ◌∙◌, refl, arith}
+use Rattle.std.proofs.Common.{rules, ◌≡◌, ◌≢◌, get_or, None, [], ◌∷◌, ◌++◌, reverse, sym, ap, ◌∙◌, arith}
 use Rattle.std.proofs.lemmas.Grind.{common_steps}
 use Rattle.wq_core.specs.Words.{link_place, number_at}
 use Rattle.wq_core.proofs.Chains.{number_at-none}

@@ -1,0 +1,56 @@
+-- What the head's chain spells, what a push finds there, and what the owner's batch is.
+use Rattle.std.proofs.Common.{◌≡◌, ℕ, ◌+◌, ◌==◌, Bool, true, false, if◌then◌else◌, List, [], ◌∷◌, ◌++◌, length, take, drop, reverse, None, unwrap_or, refl, sym, ap, ◌∙◌, arith, length-append}
+use Rattle.std.proofs.lemmas.Bool.{ne_eqb, eqb-true}
+use Rattle.std.proofs.lemmas.List.{append-nil, length-reverse, take_at, drop_at}
+use Rattle.wq_words.specs.Numbers.{number_count}
+use Rattle.wq_words.specs.Head.{head_word}
+use Rattle.wq_words.specs.History.{accepted, begun, taken, first, IsClosed}
+use Rattle.wq_words.specs.Listed.{listed}
+use Rattle.wq_words.proofs.Listed.{length-accepted, fresh-open}
+use Rattle.wq_core.specs.declared.step.Seat.TheVariants.{Sender}
+use Rattle.wq_core.specs.declared.step.Step.TheVariants.{Push}
+use Rattle.wq_core.specs.declared.step.Reply.TheVariants.{Pushed, Lost}
+use Rattle.wq_core.specs.Machine.{Machine, head, seen_word, reply_to}
+use Rattle.wq_core.specs.Refusal.{IsMade}
+use Rattle.wq_core.specs.Sound.{head_of_list, IsChain, IsSound}
+use Rattle.wq_core.proofs.Chains.{chain_zero}
+use Rattle.wq_core.proofs.Steps.{head_open, head_of_closed}
+
+-- between two calls of the owner the batch is what is taken and has not begun
+pub batch_is : (m : Machine) → IsSound m → m.cursor ≡ None → m.batch ≡ drop (length (begun m.history)) (take (taken m.history) (accepted m.history))
+batch_is m o still =
+    let a = o.chains in
+    let done : m.walked ≡ [] = a.rested still in
+    let none : a.remaining ≡ [] = chain_zero (number_count m.layout) m.words a.remaining (rw still at a.walk_chain) in
+    let order : accepted m.history ≡ (begun m.history ++ m.batch) ++ reverse (listed m.history) = rw (none, done) at a.order ∙ simp append-nil in
+    let counts : length (begun m.history ++ m.batch) ≡ taken m.history =
+    omega (arith, ap length order, length-append (begun m.history ++ m.batch) (reverse (listed m.history)), length-reverse (listed m.history), length-accepted m.layout m.history o.legal) in
+    sym (ap (λ l. drop (length (begun m.history)) l) (ap (λ l. take (taken m.history) l) order ∙ take_at (begun m.history ++ m.batch) (reverse (listed m.history)) (taken m.history) counts) ∙ drop_at (begun m.history) m.batch (length (begun m.history)) refl)
+
+-- while the queue is open, the links spell from the head what was pushed since the last take, newest first
+pub chain_open : (m : Machine) → IsSound m → ¬ IsClosed m.history → IsChain (number_count m.layout) m.words (head m) (listed m.history)
+chain_open m o opens = rw (head_open m o opens) o.chains.list_chain
+
+-- while the queue is open, the head is empty where a push would be the first
+pub head_first : (m : Machine) → IsSound m → ¬ IsClosed m.history → (head m == 0) ≡ first m.history
+head_first m o opens = ap (λ w. w == 0) (head_open m o opens) ∙ go (listed m.history) ∙ ap (λ w. w == 0) (sym (fresh-open m.layout m.history o.legal opens))
+  where
+    go : (ks : List ℕ) → (head_word (head_of_list ks) == 0) ≡ (length ks == 0)
+    go [] = refl
+    go (k ∷ ks) = ne_eqb (k + 1) 0 (λ e. omega (arith, e)) ∙ sym (ne_eqb (length (k ∷ ks)) 0 (λ e. omega (arith, e)))
+
+-- a push that wins says `first` where nothing was pushed since the last take
+pub pushed_first : (m : Machine) (s k : ℕ) (q : Bool) → IsSound m → IsMade m (Sender s) (Push k) → reply_to m (Sender s) (Push k) ≡ Pushed q → q ≡ first m.history
+pushed_first m s k q o made is = go (head m == seen_word m s) refl is
+  where
+    opens : head m ≡ seen_word m s → ¬ IsClosed m.history
+    opens won closed =
+        let l = o.linked s k made.1 in
+        l.3 (sym (ap (λ v. unwrap_or v 0) l.2) ∙ sym won ∙ o.head_is ∙ head_of_closed m.history closed)
+
+    go : (b : Bool) → (head m == seen_word m s) ≡ b → (if b then Pushed (seen_word m s == 0) else Lost) ≡ Pushed q → q ≡ first m.history
+    go true e is' =
+        let won : head m ≡ seen_word m s = eqb-true (head m) (seen_word m s) e in
+        let said : (seen_word m s == 0) ≡ q = cc is' in
+        sym said ∙ ap (λ w. w == 0) (sym won) ∙ head_first m o (opens won)
+    go false e is' = absurd cc

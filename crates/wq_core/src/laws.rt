@@ -1,0 +1,42 @@
+//! What holds of the machine whatever the schedule. These functions compute nothing: each one's contract is a law, which a
+//! caller has in hand after the call.
+ghost use Rattle.std.specs.Prelude.{◌≡◌, ℕ, Bool, length, take, drop, None};
+ghost use Rattle.wq_words.specs.declared.layout.Layout.{Layout};
+ghost use Rattle.wq_words.specs.Numbers.{number_count};
+ghost use Rattle.wq_words.specs.History.{accepted, begun, taken, first, IsClosed};
+ghost use Rattle.wq_words.specs.Listed.{listed};
+ghost use Rattle.wq_core.specs.declared.step.Seat.{Seat};
+ghost use Rattle.wq_core.specs.declared.step.Seat.TheVariants.{Sender};
+ghost use Rattle.wq_core.specs.declared.step.Step.{Step};
+ghost use Rattle.wq_core.specs.declared.step.Step.TheVariants.{Push};
+ghost use Rattle.wq_core.specs.declared.step.Reply.TheVariants.{Pushed};
+ghost use Rattle.wq_core.specs.Machine.{Machine, opening, head, after, reply_to};
+ghost use Rattle.wq_core.specs.Refusal.{IsMade};
+ghost use Rattle.wq_core.specs.Sound.{IsChain, IsSound};
+
+use crate::machine::Core;
+
+/// The machine's invariant holds while nothing has happened, and each step that is made keeps it.
+pub fn each_step_keeps_sound()
+    ensures opening { (layout : Layout) → IsSound (opening layout) }
+    ensures step { (m : Machine) (seat : Seat) (step : Step) → IsSound m → IsMade m seat step → IsSound (after m seat step) }
+{}
+
+/// The invariant holds of each core. The links spell from its head what was pushed since the last take, newest first
+/// (`llist_del_all`), while it is open. Once all that was taken is walked, the batch is what was taken and has not begun,
+/// oldest first.
+pub fn chain_and_batch(core: &Core)
+    ensures sound { IsSound core.now }
+    ensures chain { ¬ IsClosed core.now.history → IsChain (number_count core.now.layout) core.now.words (head core.now) (listed core.now.history) }
+    ensures batch { core.now.cursor ≡ None → core.now.batch ≡ drop (length (begun core.now.history)) (take (taken core.now.history) (accepted core.now.history)) }
+{
+    core.sound();
+}
+
+/// A push that wins says that it was the first exactly where nothing was pushed since the last take (`llist_add` answers
+/// true where the list was empty before).
+pub fn first_push(core: &Core)
+    ensures { (s k : ℕ) (q : Bool) → IsMade core.now (Sender s) (Push k) → reply_to core.now (Sender s) (Push k) ≡ Pushed q → q ≡ first core.now.history }
+{
+    core.sound();
+}
