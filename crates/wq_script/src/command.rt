@@ -1,5 +1,9 @@
 //! What a script asks for.
+ghost use Rattle.std.specs.Prelude.{◌↔◌, All, IsTrue};
+ghost use Rattle.wq_script.specs.Fits.{Fits, IsItem};
+
 use arrayvec::ArrayVec;
+use wq_words::Layout;
 
 /// The items that one run of an item's function answers, to be queued in this order: at most four.
 pub type Follow = ArrayVec<u32, 4>;
@@ -35,4 +39,35 @@ pub enum Command {
     Modify { item: u32, delay: u64 },
     /// The tick is now this one, and the items that are due are queued.
     Advance(u64),
+}
+
+/// Whether the queue has all of these items.
+fn has_items(layout: &Layout, items: &[u32]) -> bool
+    ensures { IsTrue result ↔ All (IsItem layout.now) items.now }
+{
+    let count = layout.items;
+    items.iter().all(|item| *item < count)
+}
+
+impl Command {
+    /// Whether the queue has the senders, items and barriers that the command names.
+    pub fn fits(&self, layout: &Layout) -> bool
+        ensures { IsTrue result ↔ Fits layout.now self.now }
+    {
+        match self {
+            Command::Queue { sender, item } => *sender < layout.senders && *item < layout.items,
+            Command::Follow { item, follow } => *item < layout.items && has_items(layout, follow),
+            Command::Flush { sender, barrier } | Command::Done { sender, barrier } => {
+                *sender < layout.senders && *barrier < layout.barriers
+            }
+            Command::Stop(sender) => *sender < layout.senders,
+            Command::Check(item) | Command::Cancel(item) => *item < layout.items,
+            Command::Arm { item, .. } | Command::Modify { item, .. } => *item < layout.items,
+            Command::Run(_)
+            | Command::Drain(_)
+            | Command::Close
+            | Command::Report
+            | Command::Advance(_) => true,
+        }
+    }
 }

@@ -19,6 +19,8 @@ mod text;
 #[cfg(test)]
 mod text_tests;
 mod word;
+#[cfg(test)]
+mod worked_scripts;
 
 pub use command::{Command, Follow};
 pub use fault::{Kind, ParseError, ScriptError};

@@ -1,6 +1,7 @@
 //! A script's run, from commands to the bytes of its output.
 ghost use Rattle.std.specs.Prelude.{◌≡◌, IfOk, string_bytes};
 ghost use Rattle.wq_script.specs.Commands.{output_of};
+ghost use Rattle.wq_script.specs.Script.{layout_of, commands_of};
 
 use crate::engine::Engine;
 use crate::script::Script;
@@ -17,7 +18,7 @@ pub enum RunError {
 
 /// The output of a script, as text.
 fn output_text(alloc: Global, script: &Script) -> Result<String, AllocError>
-    ensures { IfOk result (λ text. string_bytes text ≡ output_of script.now.layout script.now.commands.items) }
+    ensures { IfOk result (λ text. string_bytes text ≡ output_of (layout_of script.now) (commands_of script.now)) }
 {
     let mut engine = Engine::new(alloc, *script.layout())?;
     let mut out = String::new(alloc);
@@ -27,10 +28,12 @@ fn output_text(alloc: Global, script: &Script) -> Result<String, AllocError>
     Ok(out)
 }
 
-/// Runs a script on a new queue, each command as one call taken whole, and gives the bytes of its output. The only
-/// error is want of memory.
+/// Runs a script on a new queue, each command as one call taken whole, and gives the bytes of its output: for each command
+/// the lines of what it answers, by the rules of Linux's ordered workqueues (`core-api/workqueue`, the kernel-doc of
+/// `workqueue.c`). A queueing answers `true` or `false`, with `first` where the list was empty (`llist_add`), and with
+/// `pending` or `closed`. The only error is want of memory.
 pub fn run(alloc: Global, script: &Script) -> Result<Vec<u8>, RunError>
-    ensures { IfOk result (λ bytes. bytes.items ≡ output_of script.now.layout script.now.commands.items) }
+    ensures { IfOk result (λ bytes. bytes.items ≡ output_of (layout_of script.now) (commands_of script.now)) }
 {
     match output_text(alloc, script) {
         Ok(text) => Ok(text.into_bytes()),
