@@ -1,11 +1,13 @@
 -- What a line gives keeps what was read sound.
-use Rattle.std.proofs.Common.{◌≡◌, ℕ, zero, suc, ◌∙◌, All, true, false, List, [], ◌∷◌, ◌++◌, Option, Some, None, refl, sym, subst, arith}
+use Rattle.std.proofs.Common.{◌≡◌, ℕ, zero, suc, ◌<◌, ◌∙◌, All, true, false, List, [], ◌∷◌, ◌++◌, Option, Some, None, refl, sym, subst, arith}
 use Rattle.std.specs.List.{AllByRecursion}
 use Rattle.std.specs.Option.{option_to_list}
 use Rattle.std.proofs.lemmas.List.{append-nil}
+use Rattle.arrayvec.specs.ArrayVec.{ArrayVec}
 use Rattle.wq_words.specs.declared.layout.Layout.{Layout}
 use Rattle.wq_words.specs.Limits.{IsBetween}
 use Rattle.wq_script.specs.declared.command.Command.{Command}
+use Rattle.wq_script.specs.declared.command.Command.TheVariants as command
 use Rattle.wq_script.specs.declared.header.Header.{Header}
 use Rattle.wq_script.specs.declared.header.Stage.{Stage}
 use Rattle.wq_script.specs.declared.header.Stage.TheVariants as stage
@@ -52,20 +54,20 @@ senders_alone items k e = cc
 
 pub keeps_command : (s : Stage) (k : Keyword) (c : Command) → is_placed s k ≡ true → is_header k ≡ false → FitsHeader (header_of s) c → KeepsSound s (stage.Commands (header_of s)) (Some c)
 unfolding KeepsSound
-keeps_command (stage.Commands header) k c placed command here cs sound = (sound.0, all_more header cs c sound.1 here)
-keeps_command stage.Version k c placed command here cs none = absurd (differ placed)
+keeps_command (stage.Commands header) k c placed plain here cs sound = (sound.0, all_more header cs c sound.1 here)
+keeps_command stage.Version k c placed plain here cs none = absurd (differ placed)
   where
     differ : false ≡ true → ⊥
     differ e = cc
-keeps_command stage.Items k c placed command here cs none = absurd (differ (sym (items_alone k placed) ∙ command))
+keeps_command stage.Items k c placed plain here cs none = absurd (differ (sym (items_alone k placed) ∙ plain))
   where
     differ : true ≡ false → ⊥
     differ e = cc
-keeps_command (stage.Senders items) k c placed command here cs sound = absurd (differ (sym (senders_alone items k placed) ∙ command))
+keeps_command (stage.Senders items) k c placed plain here cs sound = absurd (differ (sym (senders_alone items k placed) ∙ plain))
   where
     differ : true ≡ false → ⊥
     differ e = cc
-keeps_command (stage.Barriers items senders) k c placed command here cs sound =
+keeps_command (stage.Barriers items senders) k c placed plain here cs sound =
     let P : List Command → Type 0 = λ x. AllByRecursion (FitsHeader (header_of (stage.Barriers items senders))) (x ++ c ∷ []) in
     ((sound.0, (omega arith, omega arith), sound.1), subst P (sym sound.2) (here, tt))
 
@@ -77,6 +79,10 @@ pub ends_barriers : (items senders : ℕ) (cs : List Command) → Sound (stage.B
 ends_barriers items senders cs sound =
     let P : List Command → Type 0 = λ x. AllByRecursion (FitsHeader (record { items = items; senders = senders; barriers = 1 })) x in
     ((sound.0, (omega arith, omega arith), sound.1), subst P (sym sound.2) tt)
+
+-- a follow list of the header's items is of the layout's
+pub fits_follow : (header : Header) (item : ℕ) (follow : ArrayVec ℕ) → item < header.items → All (λ n. n < header.items) follow.items → FitsHeader header (command.Follow item follow)
+fits_follow header item follow below all layout same = (omega (arith, same.items, below), λ k d within. let one = all k d within in omega (arith, same.items, one))
 
 -- what fits the header fits the layout of its numbers
 pub fits_layout : (layout : Layout) (header : Header) (cs : List Command) → HasNumbers layout header → AllByRecursion (FitsHeader header) cs → All (Fits layout) cs

@@ -1,44 +1,49 @@
--- The steps of an engine, over a history that it stands for.
-use Rattle.std.proofs.Common.{◌≡◌, ℕ, zero, suc, ◌+◌, ◌<◌, ◌≤◌, ◌==◌, Bool, true, false, List, [], ◌∷◌, ◌++◌, length, refl, sym, ap, ◌∙◌, append_assoc, arith, count_by, if◌then◌else◌, nat_eq, nat_le, nat_lt, ◌&&◌, length-append, Some, None, inl, inr, slice_set, All, subst}
-use Rattle.std.specs.List.{slice_index_or, slice_get, before_last}
-use Rattle.std.proofs.lemmas.List.{append-nil, get_or-set_same, get_or-set_other}
-use Rattle.std.proofs.Math.ListN.{length-set}
-use Rattle.std.proofs.lemmas.Bool.{lt-ltb, le-ltb, le-leb, lt-leb, cases_eq, eq-eqb, ne_eqb}
+-- The steps of a queue, over a history that it stands for.
+use Rattle.std.proofs.Common.{◌≡◌, ℕ, suc, ◌+◌, ◌<◌, ◌≤◌, ◌==◌, Bool, true, false, List, [], ◌∷◌, ◌++◌, length, refl, sym, ap, ◌∙◌, append_assoc, arith, count_by, if◌then◌else◌, nat_eq, nat_le, nat_lt, not, ◌&&◌, length-append, Option, Some, None, subst}
+use Rattle.std.specs.List.{slice_get, before_last}
+use Rattle.std.proofs.lemmas.List.{append-nil}
+use Rattle.std.proofs.lemmas.Bool.{lt-ltb, le-ltb, le-leb, lt-leb}
 use Rattle.wq_words.specs.declared.event.Event.{Event}
-use Rattle.wq_words.specs.declared.event.Event.TheVariants.{Hold, Busy, Push, Back, Take, Close, Begin, End}
+use Rattle.wq_words.specs.declared.event.Event.TheVariants.{Hold, Busy, Push, Back, Take, Close, Begin, End, Chain, ChainBusy}
 use Rattle.wq_words.specs.declared.event.Why.TheVariants as why
 use Rattle.wq_words.specs.History.{accepted, begun, ended, next, sets_pending, clears_pending, pending, is_close, is_push, is_take, closed, fresh}
 use Rattle.wq_script.specs.declared.answer.Answer.TheVariants as answer
 use Rattle.wq_script.specs.Report.{is_chain, is_busy, is_refusal}
-use Rattle.wq_script.specs.Standing.{State, Stands}
-use Rattle.wq_script.specs.Meaning.{queue_events, queue_answer, close_events, take_events, execution_events}
+use Rattle.wq_script.specs.Standing.{State, Stands, Begins, times}
+use Rattle.wq_script.specs.Queueing.{queue_events, queue_answer, chain_events, close_events}
+use Rattle.wq_script.specs.Execution.{take_events}
 use Rattle.wq_script.proofs.Growing.{count-append, accepted-append, begun-append, ended-append, accepted-count, pushes-split, fresh-more, fresh-two, fresh-take}
 
--- how often a number waits
-abbrev pub times : ℕ → List ℕ → ℕ
-times k waiting = count_by (λ j. j == k) waiting
+open_before : (h es : List Event) → closed (h ++ es) ≡ false → closed h ≡ false
+open_before h es e = le-ltb _ _ (omega (arith, count-append is_close h es, not_below _ _ e))
+  where
+    not_below : (m n : ℕ) → nat_lt m n ≡ false → n ≤ m
+    not_below m n e = search (arith, e)
 
 -- events that lead from one state to another lead to a history that the second stands for
-stands-append : (s t : State) (h es : List Event) → Stands s h
+pub stands-append : (s t : State) (runs ends : List ℕ) (h es : List Event) → Stands s runs h
     → s.waiting ++ accepted es ≡ begun es ++ t.waiting
-    → ended es ≡ begun es
-    → count_by is_chain es ≡ 0
-    → ((k : ℕ) → count_by (sets_pending k) es + times k s.waiting ≡ count_by (clears_pending k) es + times k t.waiting)
+    → runs ++ begun es ≡ ended es ++ ends
+    → ((k : ℕ) → count_by (sets_pending k) es + (times k s.waiting + times k s.delayed) ≡ count_by (clears_pending k) es + (times k t.waiting + times k t.delayed))
     → closed (h ++ es) ≡ t.is_closed
+    → (closed (h ++ es) ≡ false → count_by is_chain es ≡ 0)
     → fresh (h ++ es) ≡ t.fresh
-    → s.executed + length (ended es) ≡ t.executed
+    → s.begun + length (begun es) ≡ t.begun
+    → s.chained + count_by is_chain es ≡ t.chained
     → s.busy + count_by is_busy es ≡ t.busy
     → s.refused + count_by is_refusal es ≡ t.refused
-    → Stands t (h ++ es)
-stands-append s t h es st waits rests unchained pends shut newer executes finds refuses = record {
+    → Stands t ends (h ++ es)
+stands-append s t runs ends h es st waits ran pends shut open_chains newer begins chains finds refuses = record {
   waiting = accepted-append h es ∙ ap (λ x. x ++ accepted es) st.waiting ∙ append_assoc (begun h) s.waiting (accepted es) ∙ ap (λ x. begun h ++ x) waits
       ∙ sym (append_assoc (begun h) (begun es) t.waiting) ∙ ap (λ x. x ++ t.waiting) (sym (begun-append h es));
-  rested = ended-append h es ∙ ap (λ x. x ++ ended es) st.rested ∙ ap (λ x. begun h ++ x) rests ∙ sym (begun-append h es);
-  unchained = omega (arith, count-append is_chain h es, st.unchained, unchained);
+  running = begun-append h es ∙ ap (λ x. x ++ begun es) st.running ∙ append_assoc (ended h) runs (begun es) ∙ ap (λ x. ended h ++ x) ran
+      ∙ sym (append_assoc (ended h) (ended es) ends) ∙ ap (λ x. x ++ ends) (sym (ended-append h es));
   pending = λ k. omega (arith, st.pending k, pends k, count-append (sets_pending k) h es, count-append (clears_pending k) h es);
   is_closed = shut;
+  unchained = λ is_open. omega (arith, count-append is_chain h es, st.unchained (open_before h es is_open), open_chains is_open);
   fresh = newer;
-  executed = omega (arith, ap length (ended-append h es), length-append (ended h) (ended es), st.executed, executes);
+  begun = omega (arith, ap length (begun-append h es), length-append (begun h) (begun es), st.begun, begins);
+  chained = omega (arith, count-append is_chain h es, st.chained, chains);
   busy = omega (arith, count-append is_busy h es, st.busy, finds);
   refused = omega (arith, count-append is_refusal h es, st.refused, refuses);
 }
@@ -49,162 +54,134 @@ closed_kept h es none = let e : count_by is_close (h ++ es) ≡ count_by is_clos
 closed_now : (h : List Event) → closed (h ++ Close ∷ []) ≡ true
 closed_now h = lt-ltb _ _ (omega (arith, count-append is_close h (Close ∷ [])))
 
-pub pending_yes : (s : State) (h : List Event) (k : ℕ) → Stands s h → times k s.waiting ≡ 1 → pending h k ≡ true
-pending_yes s h k st once = let held = st.pending k in lt-ltb _ _ (omega (arith, held, once))
+pub pending_yes : (s : State) (runs : List ℕ) (h : List Event) (k : ℕ) → Stands s runs h → times k s.waiting + times k s.delayed ≡ 1 → pending h k ≡ true
+pending_yes s runs h k st once = let held = st.pending k in lt-ltb _ _ (omega (arith, held, once))
 
-pub pending_no : (s : State) (h : List Event) (k : ℕ) → Stands s h → times k s.waiting ≡ 0 → pending h k ≡ false
-pending_no s h k st none = let held = st.pending k in le-ltb _ _ (omega (arith, held, none))
+pub pending_no : (s : State) (runs : List ℕ) (h : List Event) (k : ℕ) → Stands s runs h → times k s.waiting + times k s.delayed ≡ 0 → pending h k ≡ false
+pending_no s runs h k st none = let held = st.pending k in le-ltb _ _ (omega (arith, held, none))
 
-pub busy_answer : (s : State) (h : List Event) (k : ℕ) → Stands s h → times k s.waiting ≡ 1 → answer.Pending ≡ queue_answer h k
-busy_answer s h k st once = rw (pending_yes s h k st once) refl
+pub pending_is : (s : State) (runs : List ℕ) (h : List Event) (k : ℕ) (b : Bool) → Stands s runs h → times k s.waiting + times k s.delayed ≡ (if b then 1 else 0) → b ≡ pending h k
+pending_is s runs h k true st once = sym (pending_yes s runs h k st once)
+pending_is s runs h k false st once = sym (pending_no s runs h k st once)
 
-pub closed_answer : (s : State) (h : List Event) (k : ℕ) → Stands s h → times k s.waiting ≡ 0 → s.is_closed ≡ true → answer.Closed ≡ queue_answer h k
-closed_answer s h k st none shut = let e : closed h ≡ true = st.is_closed ∙ shut in rw (pending_no s h k st none, e) refl
+pub busy_answer : (s : State) (runs : List ℕ) (h : List Event) (k : ℕ) → Stands s runs h → times k s.waiting + times k s.delayed ≡ 1 → answer.Pending ≡ queue_answer k h
+busy_answer s runs h k st once = rw (pending_yes s runs h k st once) refl
 
-pub queued_answer : (s : State) (h : List Event) (k : ℕ) → Stands s h → times k s.waiting ≡ 0 → s.is_closed ≡ false → answer.Queued (nat_eq s.fresh 0) ≡ queue_answer h k
-queued_answer s h k st none is_open = let e : closed h ≡ false = st.is_closed ∙ is_open in rw (pending_no s h k st none, e, st.fresh) refl
+pub closed_answer : (s : State) (runs : List ℕ) (h : List Event) (k : ℕ) → Stands s runs h → times k s.waiting + times k s.delayed ≡ 0 → s.is_closed ≡ true → answer.Closed ≡ queue_answer k h
+closed_answer s runs h k st none shut = let e : closed h ≡ true = st.is_closed ∙ shut in rw (pending_no s runs h k st none, e) refl
+
+pub queued_answer : (s : State) (runs : List ℕ) (h : List Event) (k : ℕ) → Stands s runs h → times k s.waiting + times k s.delayed ≡ 0 → s.is_closed ≡ false → answer.Queued (nat_eq s.fresh 0) ≡ queue_answer k h
+queued_answer s runs h k st none is_open = let e : closed h ≡ false = st.is_closed ∙ is_open in rw (pending_no s runs h k st none, e, st.fresh) refl
+
+-- one event that changes nothing but a counter of those that were busy
+busy_grows : (s : State) (runs : List ℕ) (h : List Event) (e : Event) → Stands s runs h
+    → accepted (e ∷ []) ≡ [] → begun (e ∷ []) ≡ [] → ended (e ∷ []) ≡ [] → ((j : ℕ) → count_by (sets_pending j) (e ∷ []) ≡ count_by (clears_pending j) (e ∷ []))
+    → count_by is_close (e ∷ []) ≡ 0 → is_take e ≡ false → count_by is_push (e ∷ []) ≡ 0 → count_by is_chain (e ∷ []) ≡ 0 → count_by is_busy (e ∷ []) ≡ 1 → count_by is_refusal (e ∷ []) ≡ 0
+    → Stands (record s { busy = s.busy + 1 }) runs (h ++ e ∷ [])
+busy_grows s runs h e st no_accept no_begin no_end same no_close no_take no_push no_chain one no_refusal =
+    stands-append s (record s { busy = s.busy + 1 }) runs runs h (e ∷ []) st
+    (ap (λ x. s.waiting ++ x) no_accept ∙ append-nil s.waiting ∙ ap (λ x. x ++ s.waiting) (sym no_begin))
+    (ap (λ x. runs ++ x) no_begin ∙ append-nil runs ∙ ap (λ x. x ++ runs) (sym no_end))
+    (λ j. omega (arith, same j)) (closed_kept h (e ∷ []) no_close ∙ st.is_closed) (λ _. no_chain)
+    (omega (arith, fresh-more h e no_take, st.fresh, no_push)) (omega (arith, ap length no_begin)) (omega (arith, no_chain)) (omega (arith, one)) (omega (arith, no_refusal))
 
 -- a queueing of a number that is pending
-pub busy_stands : (s : State) (h : List Event) (sender k : ℕ) → Stands s h → times k s.waiting ≡ 1 → Stands (record s { busy = s.busy + 1 }) (h ++ queue_events h sender k)
-busy_stands s h sender k st once =
-    let es : List Event = Busy sender k ∷ [] in
-    rw (pending_yes s h k st once) (stands-append s (record s { busy = s.busy + 1 }) h es st (append-nil s.waiting) refl refl (λ j. refl)
-    (closed_kept h es refl ∙ st.is_closed) (omega (arith, fresh-more h (Busy sender k) refl, st.fresh)) (omega arith) (omega arith) (omega arith))
+pub busy_stands : (s : State) (runs : List ℕ) (h : List Event) (sender k : ℕ) → Stands s runs h → times k s.waiting + times k s.delayed ≡ 1 → Stands (record s { busy = s.busy + 1 }) runs (h ++ queue_events sender k h)
+busy_stands s runs h sender k st once = rw (pending_yes s runs h k st once) (busy_grows s runs h (Busy sender k) st refl refl refl (λ j. refl) refl refl refl refl refl refl)
+
+pub chain_busy_stands : (s : State) (runs : List ℕ) (h : List Event) (k : ℕ) → Stands s runs h → times k s.waiting + times k s.delayed ≡ 1 → Stands (record s { busy = s.busy + 1 }) runs (h ++ chain_events k h)
+chain_busy_stands s runs h k st once = rw (pending_yes s runs h k st once) (busy_grows s runs h (ChainBusy k) st refl refl refl (λ j. refl) refl refl refl refl refl refl)
 
 -- a queueing after the close
-pub closed_stands : (s : State) (h : List Event) (sender k : ℕ) → Stands s h → times k s.waiting ≡ 0 → s.is_closed ≡ true → Stands (record s { refused = s.refused + 1 }) (h ++ queue_events h sender k)
-closed_stands s h sender k st none shut =
+pub closed_stands : (s : State) (runs : List ℕ) (h : List Event) (sender k : ℕ) → Stands s runs h → times k s.waiting + times k s.delayed ≡ 0 → s.is_closed ≡ true → Stands (record s { refused = s.refused + 1 }) runs (h ++ queue_events sender k h)
+closed_stands s runs h sender k st none shut =
     let e : closed h ≡ true = st.is_closed ∙ shut in
     let es : List Event = Hold sender k ∷ Back sender k why.Closed ∷ [] in
-    rw (pending_no s h k st none, e) (stands-append s (record s { refused = s.refused + 1 }) h es st (append-nil s.waiting) refl refl (λ j. omega arith)
-    (closed_kept h es refl ∙ st.is_closed) (omega (arith, fresh-two h (Hold sender k) (Back sender k why.Closed) refl refl, st.fresh)) (omega arith) (omega arith) (omega arith))
+    rw (pending_no s runs h k st none, e) (stands-append s (record s { refused = s.refused + 1 }) runs runs h es st (append-nil s.waiting) (append-nil runs) (λ j. omega arith)
+    (closed_kept h es refl ∙ st.is_closed) (λ _. refl) (omega (arith, fresh-two h (Hold sender k) (Back sender k why.Closed) refl refl, st.fresh)) (omega arith) (omega arith) (omega arith) (omega arith))
 
 -- a queueing that is accepted
-pub queued_stands : (s : State) (h : List Event) (sender k : ℕ) → Stands s h → times k s.waiting ≡ 0 → s.is_closed ≡ false → Stands (record s { waiting = s.waiting ++ k ∷ []; fresh = s.fresh + 1 }) (h ++ queue_events h sender k)
-queued_stands s h sender k st none is_open =
+pub queued_stands : (s : State) (runs : List ℕ) (h : List Event) (sender k : ℕ) → Stands s runs h → times k s.waiting + times k s.delayed ≡ 0 → s.is_closed ≡ false → Stands (record s { waiting = s.waiting ++ k ∷ []; fresh = s.fresh + 1 }) runs (h ++ queue_events sender k h)
+queued_stands s runs h sender k st none is_open =
     let e : closed h ≡ false = st.is_closed ∙ is_open in
     let es : List Event = Hold sender k ∷ Push sender k ∷ [] in
-    rw (pending_no s h k st none, e) (stands-append s (record s { waiting = s.waiting ++ k ∷ []; fresh = s.fresh + 1 }) h es st refl refl refl
+    rw (pending_no s runs h k st none, e) (stands-append s (record s { waiting = s.waiting ++ k ∷ []; fresh = s.fresh + 1 }) runs runs h es st refl (append-nil runs)
     (λ j. omega (arith, count-append (λ i. i == j) s.waiting (k ∷ [])))
-    (closed_kept h es refl ∙ st.is_closed) (omega (arith, fresh-two h (Hold sender k) (Push sender k) refl refl, st.fresh)) (omega arith) (omega arith) (omega arith))
+    (closed_kept h es refl ∙ st.is_closed) (λ _. refl) (omega (arith, fresh-two h (Hold sender k) (Push sender k) refl refl, st.fresh)) (omega arith) (omega arith) (omega arith) (omega arith))
 
-pub close_stands : (s : State) (h : List Event) → Stands s h → s.is_closed ≡ false → Stands (record s { is_closed = true }) (h ++ close_events h)
-close_stands s h st is_open =
+-- a chaining
+pub chained_stands : (s : State) (runs : List ℕ) (h : List Event) (k : ℕ) → Stands s runs h → times k s.waiting + times k s.delayed ≡ 0 → s.is_closed ≡ true → Stands (record s { waiting = s.waiting ++ k ∷ []; chained = s.chained + 1 }) runs (h ++ chain_events k h)
+chained_stands s runs h k st none shut =
+    let es : List Event = Chain k ∷ [] in
+    let stays : closed (h ++ es) ≡ s.is_closed = closed_kept h es refl ∙ st.is_closed in
+    rw (pending_no s runs h k st none) (stands-append s (record s { waiting = s.waiting ++ k ∷ []; chained = s.chained + 1 }) runs runs h es st refl (append-nil runs)
+    (λ j. omega (arith, count-append (λ i. i == j) s.waiting (k ∷ [])))
+    stays (λ is_open. absurd (true≢false (sym (stays ∙ shut) ∙ is_open))) (omega (arith, fresh-more h (Chain k) refl, st.fresh)) (omega arith) (omega arith) (omega arith) (omega arith))
+  where
+    true≢false : ¬ (true ≡ false)
+    true≢false e = cc
+
+pub close_stands : (s : State) (runs : List ℕ) (h : List Event) → Stands s runs h → s.is_closed ≡ false → Stands (record s { is_closed = true }) runs (h ++ close_events h)
+close_stands s runs h st is_open =
     let e : closed h ≡ false = st.is_closed ∙ is_open in
     let es : List Event = Close ∷ [] in
-    rw (e) (stands-append s (record s { is_closed = true }) h es st (append-nil s.waiting) refl refl (λ j. refl)
-    (closed_now h) (omega (arith, fresh-more h Close refl, st.fresh)) (omega arith) (omega arith) (omega arith))
+    rw (e) (stands-append s (record s { is_closed = true }) runs runs h es st (append-nil s.waiting) (append-nil runs) (λ j. refl)
+    (closed_now h) (λ _. refl) (omega (arith, fresh-more h Close refl, st.fresh)) (omega arith) (omega arith) (omega arith) (omega arith))
 
 -- the test that wants a take
-pub take_wanted : (s : State) (h : List Event) → Stands s h → s.is_closed ≡ false → length s.waiting ≤ s.fresh → take_events h ≡ Take ∷ []
-take_wanted s h st is_open few =
+pub take_wanted : (s : State) (runs : List ℕ) (h : List Event) → Stands s runs h → s.is_closed ≡ false → length s.waiting ≤ s.fresh → take_events h ≡ Take ∷ []
+take_wanted s runs h st is_open few =
     let e : closed h ≡ false = st.is_closed ∙ is_open in
     let two = length-append (begun h) s.waiting in
-    let le : count_by is_push (before_last is_take h) ≤ length (begun h) = omega (arith, pushes-split h, accepted-count h, st.unchained, two, ap length st.waiting, st.fresh) in
+    let le : count_by is_push (before_last is_take h) ≤ length (begun h) = omega (arith, pushes-split h, accepted-count h, st.unchained e, two, ap length st.waiting, st.fresh) in
     rw (e, le-leb _ _ le) refl
 
-pub take_unwanted : (s : State) (h : List Event) → Stands s h → s.is_closed ≡ false → s.fresh < length s.waiting → take_events h ≡ []
-take_unwanted s h st is_open more =
+pub take_unwanted : (s : State) (runs : List ℕ) (h : List Event) → Stands s runs h → s.is_closed ≡ false → s.fresh < length s.waiting → take_events h ≡ []
+take_unwanted s runs h st is_open more =
     let e : closed h ≡ false = st.is_closed ∙ is_open in
     let two = length-append (begun h) s.waiting in
-    let lt : length (begun h) < count_by is_push (before_last is_take h) = omega (arith, pushes-split h, accepted-count h, st.unchained, two, ap length st.waiting, st.fresh) in
+    let lt : length (begun h) < count_by is_push (before_last is_take h) = omega (arith, pushes-split h, accepted-count h, st.unchained e, two, ap length st.waiting, st.fresh) in
     rw (e, lt-leb _ _ lt) refl
 
-pub take_closed : (s : State) (h : List Event) → Stands s h → s.is_closed ≡ true → take_events h ≡ []
-take_closed s h st shut = let e : closed h ≡ true = st.is_closed ∙ shut in rw (e) (none (nat_le (length (accepted h)) (length (begun h))))
+pub take_closed : (s : State) (runs : List ℕ) (h : List Event) → Stands s runs h → s.is_closed ≡ true → take_events h ≡ []
+take_closed s runs h st shut = let e : closed h ≡ true = st.is_closed ∙ shut in rw (e) (none (nat_le (length (accepted h)) (length (begun h))))
   where
     none : (b : Bool) → (if b && false then Take ∷ [] else []) ≡ []
     none true = refl
     none false = refl
 
-pub take_stands : (s : State) (h : List Event) → Stands s h → s.is_closed ≡ false → length s.waiting ≤ s.fresh → Stands (record s { fresh = 0 }) (h ++ take_events h)
-take_stands s h st is_open few =
+pub take_stands : (s : State) (runs : List ℕ) (h : List Event) → Stands s runs h → s.is_closed ≡ false → length s.waiting ≤ s.fresh → Stands (record s { fresh = 0 }) runs (h ++ take_events h)
+take_stands s runs h st is_open few =
     let es : List Event = Take ∷ [] in
-    rw (take_wanted s h st is_open few) (stands-append s (record s { fresh = 0 }) h es st (append-nil s.waiting) refl refl (λ j. refl)
-    (closed_kept h es refl ∙ st.is_closed) (fresh-take h) (omega arith) (omega arith) (omega arith))
+    rw (take_wanted s runs h st is_open few) (stands-append s (record s { fresh = 0 }) runs runs h es st (append-nil s.waiting) (append-nil runs) (λ j. refl)
+    (closed_kept h es refl ∙ st.is_closed) (λ _. refl) (fresh-take h) (omega arith) (omega arith) (omega arith) (omega arith))
 
-pub same_stands : (s : State) (h es : List Event) → Stands s h → es ≡ [] → Stands s (h ++ es)
-same_stands s h es st none = rw (none, append-nil h) st
+pub same_stands : (s : State) (runs : List ℕ) (h es : List Event) → Stands s runs h → es ≡ [] → Stands s runs (h ++ es)
+same_stands s runs h es st none = rw (none, append-nil h) st
 
 -- the next number is the first that waits
 front_at : (xs ys : List ℕ) → slice_get (xs ++ ys) (length xs) ≡ slice_get ys 0
 front_at [] ys = refl
 front_at (x ∷ xs) ys = front_at xs ys
 
-pub next_waits : (s : State) (h : List Event) → Stands s h → next h ≡ slice_get s.waiting 0
-next_waits s h st = rw st.waiting (front_at (begun h) s.waiting)
+pub next_waits : (s : State) (runs : List ℕ) (h : List Event) → Stands s runs h → next h ≡ slice_get s.waiting 0
+next_waits s runs h st = rw st.waiting (front_at (begun h) s.waiting)
 
-pub begin_stands : (s : State) (h : List Event) (k : ℕ) (rest : List ℕ) → Stands s h → s.waiting ≡ k ∷ rest → Stands (record s { waiting = rest; executed = s.executed + 1 }) (h ++ Begin k ∷ End k ∷ [])
+pub next_first : (s : State) (runs : List ℕ) (h : List Event) (k : ℕ) (rest : List ℕ) → Stands s runs h → s.waiting ≡ k ∷ rest → Some k ≡ next h
+next_first s runs h k rest st front = sym (next_waits s runs h st ∙ ap (λ w. slice_get w 0) front)
+
+pub next_none : (s : State) (runs : List ℕ) (h : List Event) → Stands s runs h → s.waiting ≡ [] → None ≡ next h
+next_none s runs h st none = sym (next_waits s runs h st ∙ ap (λ w. slice_get w 0) none)
+
+pub begin_stands : (s : State) (h : List Event) (k : ℕ) (rest : List ℕ) → Stands s [] h → s.waiting ≡ k ∷ rest → Stands (record s { waiting = rest; begun = s.begun + 1 }) (k ∷ []) (h ++ Begin k ∷ [])
 begin_stands s h k rest st front =
-    let es : List Event = Begin k ∷ End k ∷ [] in
-    stands-append s (record s { waiting = rest; executed = s.executed + 1 }) h es st (append-nil s.waiting ∙ front) refl refl
+    let es : List Event = Begin k ∷ [] in
+    stands-append s (record s { waiting = rest; begun = s.begun + 1 }) [] (k ∷ []) h es st (append-nil s.waiting ∙ front) refl
     (λ j. omega (arith, ap (times j) front, count-append (λ i. i == j) (k ∷ []) rest))
-    (closed_kept h es refl ∙ st.is_closed) (omega (arith, fresh-two h (Begin k) (End k) refl refl, st.fresh)) (omega arith) (omega arith) (omega arith)
+    (closed_kept h es refl ∙ st.is_closed) (λ _. refl) (omega (arith, fresh-more h (Begin k) refl, st.fresh)) (omega arith) (omega arith) (omega arith) (omega arith)
 
--- one execution, where a number waits and where none does
-pub executes : (s t : State) (h : List Event) (k : ℕ) (rest : List ℕ) → Stands s h → s.waiting ≡ t.waiting → t.waiting ≡ k ∷ rest → Some k ≡ next h
-executes s t h k rest st same front = sym (next_waits s h st ∙ ap (λ w. slice_get w 0) (same ∙ front))
-
-pub idles : (s t : State) (h : List Event) → Stands s h → s.waiting ≡ t.waiting → t.waiting ≡ [] → None ≡ next h
-idles s t h st same none = sym (next_waits s h st ∙ ap (λ w. slice_get w 0) (same ∙ none))
-
-pub executed_stands : (s t : State) (h : List Event) (k : ℕ) (rest : List ℕ) → Stands t (h ++ take_events h) → Stands s h → s.waiting ≡ t.waiting → t.waiting ≡ k ∷ rest → Stands (record t { waiting = rest; executed = t.executed + 1 }) (h ++ execution_events h)
-executed_stands s t h k rest taken_too st same front =
-    let wants : next h ≡ Some k = sym (executes s t h k rest st same front) in
-    rw (wants, ← append_assoc h (take_events h) (Begin k ∷ End k ∷ [])) (begin_stands t (h ++ take_events h) k rest taken_too front)
-
-pub idle_stands : (s t : State) (h : List Event) (rest : List ℕ) → Stands t (h ++ take_events h) → Stands s h → s.waiting ≡ t.waiting → t.waiting ≡ rest → rest ≡ [] → Stands (record t { waiting = rest }) (h ++ execution_events h)
-idle_stands s t h rest taken_too st same unchanged none =
-    let wants : next h ≡ None = sym (idles s t h st same (unchanged ∙ none)) in
-    let P : List ℕ → Type 0 = λ w. Stands (record t { waiting = w }) (h ++ execution_events h) in
-    subst P unchanged (rw (wants, append-nil (take_events h)) taken_too)
-
--- the bit of a number, as its test was read
-bit_read : (bits : List Bool) (k : ℕ) (b : Bool) → k < length bits → b ≡ slice_index_or bits k b → slice_index_or bits k false ≡ b
-bit_read [] k b lt e = absurd (omega (arith, lt))
-bit_read (x ∷ bits) zero b lt e = sym e
-bit_read (x ∷ bits) (suc k) b lt e = bit_read bits k b (omega arith) e
-
-pub waits_once : (bits : List Bool) (waiting : List ℕ) (k : ℕ) (b : Bool) → k < length bits → times k waiting ≡ (if slice_index_or bits k false then 1 else 0) → b ≡ slice_index_or bits k b → b ≡ true → times k waiting ≡ 1
-waits_once bits waiting k b lt once e set = rw (bit_read bits k b lt e, set) at once
-
-pub waits_never : (bits : List Bool) (waiting : List ℕ) (k : ℕ) (b : Bool) → k < length bits → times k waiting ≡ (if slice_index_or bits k false then 1 else 0) → b ≡ slice_index_or bits k b → b ≡ false → times k waiting ≡ 0
-waits_never bits waiting k b lt once e clear = rw (bit_read bits k b lt e, clear) at once
-
-pub nothing_in : (xs : List ℕ) → length xs ≡ 0 → xs ≡ []
-nothing_in [] e = refl
-nothing_in (x ∷ xs) e = absurd (omega (arith, e))
-
-pub first_in : (waiting rest : List ℕ) (k n : ℕ) → All (λ j. j < n) waiting → waiting ≡ k ∷ rest → k < n
-first_in waiting rest k n all front = let P : List ℕ → Type 0 = λ w. All (λ j. j < n) w in subst P front all 0 0 (omega arith)
-
-pub rest_in : (waiting rest : List ℕ) (k n m : ℕ) → All (λ j. j < n) waiting → waiting ≡ k ∷ rest → n ≡ m → All (λ j. j < m) rest
-rest_in waiting rest k n m all front same i d lt =
-    let P : List ℕ → Type 0 = λ w. All (λ j. j < n) w in
-    let here : slice_index_or rest i d < n = subst P front all (suc i) d (omega arith) in
-    omega (arith, here, same)
-
-bit_small : (b : Bool) → (if b then 1 else 0) ≤ 1
-bit_small true = omega arith
-bit_small false = omega arith
-
--- each number still waits once where its bit is set, after the first has gone
-pub once_after : (bits : List Bool) (waiting rest : List ℕ) (k : ℕ) → waiting ≡ k ∷ rest → k < length bits
-    → ((j : ℕ) → j < length bits → times j waiting ≡ (if slice_index_or bits j false then 1 else 0))
-    → (j : ℕ) → j < length (slice_set bits k false) → times j rest ≡ (if slice_index_or (slice_set bits k false) j false then 1 else 0)
-once_after bits waiting rest k front lt once j below =
-    let same_length = length-set bits k false in
-    let lt_j : j < length bits = omega (arith, same_length) in
-    let both = count-append (λ i. i == j) (k ∷ []) rest in
-    let before = once j lt_j in
-    let split : times j waiting ≡ times j (k ∷ []) + times j rest = ap (times j) front ∙ both in
-    elim (cases_eq j k) [
-      | inl e ↦
-          let here : slice_index_or (slice_set bits k false) j false ≡ false = rw (e) (get_or-set_same bits k false false lt) in
-          let one : times j (k ∷ []) ≡ 1 = rw (eq-eqb k j (sym e)) refl in
-          rw (here) (omega (arith, one, split, before, bit_small (slice_index_or bits j false)))
-      | inr differs ↦
-          let there : slice_index_or (slice_set bits k false) j false ≡ slice_index_or bits j false = get_or-set_other bits k j false false (λ e. differs e) in
-          let none : times j (k ∷ []) ≡ 0 = rw (ne_eqb k j (λ e. differs (sym e))) refl in
-          rw (there) (omega (arith, none, split, before))
-    ]
+pub end_stands : (s : State) (h : List Event) (k : ℕ) → Stands s (k ∷ []) h → Stands s [] (h ++ End k ∷ [])
+end_stands s h k st =
+    let es : List Event = End k ∷ [] in
+    stands-append s s (k ∷ []) [] h es st (append-nil s.waiting) refl (λ j. refl)
+    (closed_kept h es refl ∙ st.is_closed) (λ _. refl) (omega (arith, fresh-more h (End k) refl, st.fresh)) (omega arith) (omega arith) (omega arith) (omega arith)

@@ -1,5 +1,5 @@
--- What a line of a script gives, or its first fault: the table of refusals, row by row.
-use Rattle.std.specs.Prelude.{ℕ, Bool, true, ◌&&◌, List, [], ◌∷◌, length, Option, Some, None, Result, Ok, Err, nat_lt, nat_le, ◌==◌, if◌then◌else◌, codes}
+-- What a line of a script gives, or its first fault: the tables of commands and of refusals, row by row.
+use Rattle.std.specs.Prelude.{ℕ, Bool, true, List, [], ◌∷◌, length, Option, Some, None, Result, Ok, Err, nat_lt, ◌==◌, if◌then◌else◌, codes}
 use Rattle.std.specs.List.{list_all}
 use Rattle.std.specs.Str.{bytes_eq}
 use Rattle.wq_script.specs.declared.command.Command.{Command}
@@ -11,80 +11,44 @@ use Rattle.wq_script.specs.declared.header.Stage.{Stage}
 use Rattle.wq_script.specs.declared.header.Stage.TheVariants as stage
 use Rattle.wq_script.specs.declared.word.Keyword.{Keyword}
 use Rattle.wq_script.specs.declared.word.Keyword.TheVariants as keyword
+use Rattle.wq_script.specs.Arguments.{number, between, sender, item, barrier, limit, no_word, one, two, one_and_at_most}
 use Rattle.wq_script.specs.Fault.{◌>>=◌, need, found}
 use Rattle.wq_script.specs.Header.{is_header, is_placed, header_of}
-use Rattle.wq_script.specs.Word.{words, is_plain, number_at, keyword_at}
+use Rattle.wq_script.specs.Word.{words, is_plain, keyword_at}
 
--- a word that is a number, and its range
-abbrev pub number : List ℕ → Result ℕ Kind
-number w = found kind.Number (number_at w)
+-- a command, a stage or the like that is made of nothing, of one value, or of two
+abbrev pub of_none : {C : Type 0} → C → Result (Unit {0}) Kind → Result C Kind
+of_none c told = told >>= λ _. Ok c
 
-unfoldable pub between : Kind → ℕ → ℕ → List ℕ → Result ℕ Kind
-between k low high w = do
-  n ← number w
-  _ ← need k (nat_le low n && nat_le n high)
-  Ok n
+abbrev pub of_one : {A C : Type 0} → (A → C) → Result A Kind → Result C Kind
+of_one c told = told >>= λ a. Ok (c a)
 
-unfoldable pub below : Kind → ℕ → List ℕ → Result ℕ Kind
-below k bound w = do
-  n ← number w
-  _ ← need k (nat_lt n bound)
-  Ok n
-
-abbrev pub sender : Header → List ℕ → Result ℕ Kind
-sender header w = below kind.Sender header.senders w
-
-abbrev pub item : Header → List ℕ → Result ℕ Kind
-item header w = below kind.Item header.items w
-
-abbrev pub limit : List ℕ → Result ℕ Kind
-limit w = between kind.Limit 1 65536 w
-
--- what stands behind a keyword: so many words
-abbrev pub no_word : List (List ℕ) → Result (Unit {0}) Kind
-no_word [] = Ok tt
-no_word ws = Err kind.Count
-
-abbrev pub one_word : List (List ℕ) → Result (List ℕ) Kind
-one_word (w ∷ []) = Ok w
-one_word ws = Err kind.Count
-
-abbrev pub two_words : List (List ℕ) → Result (List ℕ × List ℕ) Kind
-two_words (w ∷ v ∷ []) = Ok (w, v)
-two_words ws = Err kind.Count
-
--- and their numbers, word by word from the left
-abbrev pub none : {A : Type 0} → A → List (List ℕ) → Result A Kind
-none a ws = do
-  _ ← no_word ws
-  Ok a
-
-abbrev pub one : {A : Type 0} → (List ℕ → Result ℕ Kind) → (ℕ → A) → List (List ℕ) → Result A Kind
-one read make ws = do
-  w ← one_word ws
-  x ← read w
-  Ok (make x)
-
-abbrev pub two : {A : Type 0} → (List ℕ → Result ℕ Kind) → (List ℕ → Result ℕ Kind) → (ℕ → ℕ → A) → List (List ℕ) → Result A Kind
-two first second make ws = do
-  w ← two_words ws
-  x ← first w.0
-  y ← second w.1
-  Ok (make x y)
+abbrev pub of_two : {A B C : Type 0} → (A → B → C) → Result (A × B) Kind → Result C Kind
+of_two c told = told >>= λ p. Ok (c p.0 p.1)
 
 -- the table of commands
 unfoldable pub command_gives : Header → Keyword → List (List ℕ) → Result Command Kind
-command_gives header keyword.Queue ws = two (sender header) (item header) command.Queue ws
-command_gives header keyword.Run ws = one limit command.Run ws
-command_gives header keyword.Close ws = none command.Close ws
-command_gives header keyword.Report ws = none command.Report ws
-command_gives header _ ws = Err kind.Header
+command_gives h keyword.Queue ws = of_two command.Queue (two (sender h) (item h) ws)
+command_gives h keyword.Run ws = of_one command.Run (one limit ws)
+command_gives h keyword.Close ws = of_none command.Close (no_word ws)
+command_gives h keyword.Report ws = of_none command.Report (no_word ws)
+command_gives h keyword.Follow ws = of_two (λ k ks. command.Follow k (record { items = ks })) (one_and_at_most 4 (item h) ws)
+command_gives h keyword.Flush ws = of_two command.Flush (two (sender h) (barrier h) ws)
+command_gives h keyword.Done ws = of_two command.Done (two (sender h) (barrier h) ws)
+command_gives h keyword.Stop ws = of_one command.Stop (one (sender h) ws)
+command_gives h keyword.Drain ws = of_one command.Drain (one limit ws)
+command_gives h keyword.Check ws = of_one command.Check (one (item h) ws)
+command_gives h keyword.Arm ws = of_two command.Arm (two (item h) number ws)
+command_gives h keyword.Cancel ws = of_one command.Cancel (one (item h) ws)
+command_gives h keyword.Modify ws = of_two command.Modify (two (item h) number ws)
+command_gives h keyword.Advance ws = of_one command.Advance (one number ws)
+command_gives h _ ws = Err kind.Header
 
 -- the header, line by line
 unfoldable pub header_gives : Stage → List (List ℕ) → Result Stage Kind
-header_gives stage.Items ws = one (between kind.Items 1 4096) stage.Senders ws
-header_gives (stage.Senders items) ws = one (between kind.Senders 1 62) (stage.Barriers items) ws
-header_gives (stage.Barriers items senders) ws = one (between kind.Barriers 1 16) (λ n. stage.Commands (record { items = items; senders = senders; barriers = n })) ws
+header_gives stage.Items ws = of_one stage.Senders (one (between kind.Items 1 4096) ws)
+header_gives (stage.Senders items) ws = of_one (stage.Barriers items) (one (between kind.Senders 1 62) ws)
+header_gives (stage.Barriers items senders) ws = of_one (λ n. stage.Commands (record { items = items; senders = senders; barriers = n })) (one (between kind.Barriers 1 16) ws)
 header_gives s ws = Err kind.Header
 
 -- which line is awaited next, and the command, if any
@@ -93,8 +57,8 @@ Given = Stage × Option Command
 
 abbrev pub arguments_give : Stage → Keyword → List (List ℕ) → Result Given Kind
 arguments_give s k ws =
-    if is_header k then (header_gives s ws >>= λ next. Ok (next, None))
-    else (command_gives (header_of s) k ws >>= λ c. Ok (stage.Commands (header_of s), Some c))
+    if is_header k then of_one (λ next. (next, None)) (header_gives s ws)
+    else of_one (λ c. (stage.Commands (header_of s), Some c)) (command_gives (header_of s) k ws)
 
 abbrev pub first_word : List (List ℕ) → List ℕ
 first_word [] = []
@@ -128,5 +92,5 @@ is_passed_over (b ∷ bs) = b == 35
 
 -- a line of a text, by which line is awaited
 abbrev pub line_gives : Stage → List ℕ → Result Given Kind
-line_gives stage.Version line = need kind.Version (bytes_eq line (codes "wq 1")) >>= λ _. Ok (stage.Items, None)
+line_gives stage.Version line = of_none (stage.Items, None) (need kind.Version (bytes_eq line (codes "wq 1")))
 line_gives s line = if is_passed_over line then Ok (s, None) else plain_line_gives s line

@@ -4,7 +4,7 @@ use Rattle.std.specs.List.{slice_split}
 use Rattle.std.specs.Str.{bytes_eq, all_ascii_digits}
 use Rattle.std.specs.Str.Parse.{digits_value}
 use Rattle.wq_script.specs.declared.word.Keyword.{Keyword}
-use Rattle.wq_script.specs.declared.word.Keyword.TheVariants.{Items, Senders, Barriers, Queue, Run, Close, Report}
+use Rattle.wq_script.specs.declared.word.Keyword.TheVariants.{Items, Senders, Barriers, Queue, Run, Close, Report, Follow, Flush, Done, Stop, Drain, Check, Arm, Cancel, Modify, Advance}
 
 -- what stands between the LFs of a text: its lines, and after them what no LF ends
 abbrev pub parts : List ℕ → List (List ℕ)
@@ -33,4 +33,14 @@ keyword_at w =
     else if bytes_eq w (codes "run") then Some Run
     else if bytes_eq w (codes "close") then Some Close
     else if bytes_eq w (codes "report") then Some Report
+    else if bytes_eq w (codes "follow") then Some Follow
+    else if bytes_eq w (codes "flush") then Some Flush
+    else if bytes_eq w (codes "done") then Some Done
+    else if bytes_eq w (codes "stop") then Some Stop
+    else if bytes_eq w (codes "drain") then Some Drain
+    else if bytes_eq w (codes "check") then Some Check
+    else if bytes_eq w (codes "arm") then Some Arm
+    else if bytes_eq w (codes "cancel") then Some Cancel
+    else if bytes_eq w (codes "modify") then Some Modify
+    else if bytes_eq w (codes "advance") then Some Advance
     else None

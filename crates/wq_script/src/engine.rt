@@ -1,150 +1,214 @@
-//! A queue of one thread: a list of what waits, a flag for each number, and counters.
-ghost use Rattle.std.specs.Prelude.{true, false, [], ◌≡◌, ℕ, ◌+◌, ◌^◌, ◌<◌, ◌≤◌, ◌==◌, if◌then◌else◌, List, ◌++◌, length, count_by, All, IfOk, OnOk};
-ghost use Rattle.std.specs.List.{slice_index_or};
+//! The engine of scripts: a queue, and what each item's function answers.
+ghost use Rattle.std.specs.Prelude.{◌≡◌, ℕ, ◌+◌, ◌^◌, ◌<◌, ◌≤◌, length, IfOk, OnOk, string_bytes};
+ghost use Rattle.wq_words.specs.Numbers.{number_count};
+ghost use Rattle.wq_script.specs.Follows.{AllFit, AllFit-prop};
+ghost use Rattle.wq_script.specs.Fits.{Fits, IsItem, IsBarrier};
+ghost use Rattle.wq_script.specs.Commands.{opening};
 
-use crate::answer::Answer;
-use crate::report::Counts;
+use crate::answer::write_close;
+use crate::command::{Command, Follow};
+use crate::follows::Follows;
+use crate::lines::{advance_word, either, write_left, write_line, write_row};
+use crate::queue::Queue;
 use std::alloc::{AllocError, Global};
-use std::collections::VecDeque;
+use wq_words::Layout;
 
-/// Numbers that were accepted and not begun wait in order, the last `fresh` of them not yet taken. Each waits once.
+/// A queue, its delay table, and a list for each item, all of one layout.
 #[derive(Drop)]
 pub struct Engine {
-    waiting: VecDeque<u32>,
-    pending: Vec<bool>,
-    is_closed: bool,
-    fresh: u64,
-    executed: u64,
-    busy: u64,
-    refused: u64,
-    ghost in_range: { All (λ k. k < length pending.items) waiting.items },
-    ghost once: { (k : ℕ) → k < length pending.items → count_by (λ j. j == k) waiting.items ≡ (if slice_index_or pending.items k false then 1 else 0) },
-    ghost fresh_among: { fresh ≤ executed + length waiting.items },
+    layout: Layout,
+    queue: Queue,
+    follows: Follows,
+    ghost numbers: { length queue.pending.items ≡ number_count layout },
+    ghost lists: { length follows.lists.items ≡ layout.items },
+    ghost fit: { AllFit (number_count layout) follows.lists.items } by { AllFit-prop (number_count layout) follows.lists.items },
 }
 
 impl Engine {
-    ghost use Rattle.wq_words.specs.declared.event.Event.{Event};
-    ghost use Rattle.wq_words.specs.History.{ended, next};
-    ghost use Rattle.wq_script.specs.Meaning.{queue_events, queue_answer, close_events, close_answer, take_events, execution_events, run_events};
-    ghost use Rattle.wq_script.specs.Standing.{Stands, calls};
-    ghost use Rattle.wq_script.specs.Report.{counts_of};
-    ghost use Rattle.wq_script.specs.Engine.{state_of};
+    ghost use Rattle.wq_script.specs.Engine.{Meets, Does, HasRoom};
 
-    /// An open queue of so many numbers, with nothing in it.
-    pub fn new(alloc: Global, numbers: u32) -> Result<Engine, AllocError>
-        ensures { IfOk result (λ e. (length e.pending.items ≡ numbers) × Stands (state_of e) []) }
+    /// An open queue with nothing in it, and empty lists.
+    pub fn new(alloc: Global, layout: Layout) -> Result<Engine, AllocError>
+        ensures layout { IfOk result (λ e. e.layout ≡ layout) }
+        ensures meets { IfOk result (λ e. Meets e (opening layout)) }
+        ensures room { IfOk result (λ e. HasRoom e 0 0) }
     {
         Ok(Engine {
-            waiting: VecDeque::new(alloc),
-            pending: vec![in alloc; false; numbers as usize]?,
-            is_closed: false,
-            fresh: 0,
-            executed: 0,
-            busy: 0,
-            refused: 0,
+            layout,
+            queue: Queue::new(alloc, layout.items + layout.barriers + 1)?,
+            follows: Follows::new(alloc, layout.items)?,
         })
     }
 
-    /// Queues a number for a sender.
-    pub fn queue(&mut self, sender: u32, number: u32) -> Result<Answer, AllocError>
-        requires number { number < length self.old.pending.items }
-        requires room { calls (state_of self.old) < 2 ^ 63 }
-        ensures answer { IfOk result (λ a. (h : List Event) → Stands (state_of self.old) h → a ≡ queue_answer h number) }
-        ensures stands { OnOk result ((h : List Event) → Stands (state_of self.old) h → Stands (state_of self.new) (h ++ queue_events h sender number)) }
-        ensures numbers { length self.new.pending.items ≡ length self.old.pending.items }
-        ensures calls { OnOk result (calls (state_of self.new) ≡ calls (state_of self.old) + 1) }
+    fn queue(&mut self, item: u32, out: &mut String) -> Result<(), AllocError>
+        requires item { IsItem self.old.layout item }
+        requires room { HasRoom self.old (2 ^ 60) (2 ^ 60) }
+        ensures { OnOk result ((sender : ℕ) → Does self.old self.new (string_bytes out.old) (string_bytes out.new) (Command.Queue sender item)) }
     {
-        let place = number as usize;
-        if self.pending[place] {
-            self.busy += 1;
-            return Ok(Answer::Pending);
-        }
-        if self.is_closed {
-            self.refused += 1;
-            return Ok(Answer::Closed);
-        }
-        self.waiting.push_back(number)?;
-        self.pending[place] = true;
-        let first = self.fresh == 0;
-        self.fresh += 1;
-        Ok(Answer::Queued(first))
+        let answer = self.queue.queue(item)?;
+        write_line(answer.text(), out)?;
+        Ok(())
     }
 
-    /// Closes the queue, and answers how many were taken by that. None where it was closed before.
-    pub fn close(&mut self) -> Option<u64>
-        ensures answer { (h : List Event) → Stands (state_of self.old) h → result ≡ close_answer h }
-        ensures stands { (h : List Event) → Stands (state_of self.old) h → Stands (state_of self.new) (h ++ close_events h) }
-        ensures numbers { length self.new.pending.items ≡ length self.old.pending.items }
-        ensures calls { calls (state_of self.new) ≡ calls (state_of self.old) }
+    fn flush(&mut self, barrier: u32, out: &mut String) -> Result<(), AllocError>
+        requires barrier { IsBarrier self.old.layout barrier }
+        requires room { HasRoom self.old (2 ^ 60) (2 ^ 60) }
+        ensures { OnOk result ((sender : ℕ) → Does self.old self.new (string_bytes out.old) (string_bytes out.new) (Command.Flush sender barrier)) }
     {
-        if self.is_closed {
-            return None;
+        let answer = self.queue.queue(self.layout.items + barrier)?;
+        write_line(answer.text(), out)?;
+        Ok(())
+    }
+
+    fn stop(&mut self, out: &mut String) -> Result<(), AllocError>
+        requires { HasRoom self.old (2 ^ 60) (2 ^ 60) }
+        ensures { OnOk result ((sender : ℕ) → Does self.old self.new (string_bytes out.old) (string_bytes out.new) (Command.Stop sender)) }
+    {
+        let answer = self.queue.queue(self.layout.items + self.layout.barriers)?;
+        write_line(answer.text(), out)?;
+        Ok(())
+    }
+
+    fn run(&mut self, alloc: Global, limit: u32, out: &mut String) -> Result<(), AllocError>
+        requires { HasRoom self.old (2 ^ 60) (2 ^ 60) }
+        ensures { OnOk result (Does self.old self.new (string_bytes out.old) (string_bytes out.new) (Command.Run limit)) }
+    {
+        let stop = self.layout.items + self.layout.barriers;
+        let ran = self.queue.run(alloc, &self.follows, limit, Some(stop))?;
+        write_row(&self.layout, "ran", &ran, out)?;
+        Ok(())
+    }
+
+    fn drain(&mut self, alloc: Global, limit: u32, out: &mut String) -> Result<(), AllocError>
+        requires { HasRoom self.old (2 ^ 60) (2 ^ 60) }
+        ensures { OnOk result (Does self.old self.new (string_bytes out.old) (string_bytes out.new) (Command.Drain limit)) }
+    {
+        if !self.queue.is_closed() {
+            write_line("not closed", out)?;
+            return Ok(());
         }
-        self.is_closed = true;
-        Some(self.fresh)
+        let ran = self.queue.run(alloc, &self.follows, limit, None)?;
+        write_row(&self.layout, "ran", &ran, out)?;
+        write_left(self.queue.counts().waiting, out)?;
+        Ok(())
     }
 
-    /// Takes what was pushed, where nothing taken waits and the queue is open.
-    fn take(&mut self)
-        ensures numbers { length self.new.pending.items ≡ length self.old.pending.items }
-        ensures stands { (h : List Event) → Stands (state_of self.old) h → Stands (state_of self.new) (h ++ take_events h) }
-        ensures same { state_of self.new ≡ record (state_of self.old) { fresh = self.new.fresh } }
+    fn close(&mut self, out: &mut String) -> Result<(), AllocError>
+        requires { HasRoom self.old (2 ^ 60) (2 ^ 60) }
+        ensures { OnOk result (Does self.old self.new (string_bytes out.old) (string_bytes out.new) Command.Close) }
     {
-        if !self.is_closed && self.waiting.len() as u64 <= self.fresh {
-            self.fresh = 0;
+        let taken = self.queue.close();
+        write_close(taken, out)?;
+        Ok(())
+    }
+
+    fn report(&mut self, out: &mut String) -> Result<(), AllocError>
+        requires { HasRoom self.old (2 ^ 60) (2 ^ 60) }
+        ensures { OnOk result (Does self.old self.new (string_bytes out.old) (string_bytes out.new) Command.Report) }
+    {
+        self.queue.counts().write(out)?;
+        Ok(())
+    }
+
+    fn follow(&mut self, item: u32, follow: &Follow, out: &mut String) -> Result<(), AllocError>
+        requires fits { Fits self.old.layout (Command.Follow item follow.now) }
+        requires room { HasRoom self.old (2 ^ 60) (2 ^ 60) }
+        ensures { OnOk result (Does self.old self.new (string_bytes out.old) (string_bytes out.new) (Command.Follow item follow.now)) }
+    {
+        self.follows.set(item, follow)?;
+        Ok(())
+    }
+
+    fn done(&mut self, barrier: u32, out: &mut String) -> Result<(), AllocError>
+        requires barrier { IsBarrier self.old.layout barrier }
+        requires room { HasRoom self.old (2 ^ 60) (2 ^ 60) }
+        ensures { OnOk result ((sender : ℕ) → Does self.old self.new (string_bytes out.old) (string_bytes out.new) (Command.Done sender barrier)) }
+    {
+        let is_pending = self.queue.is_pending(self.layout.items + barrier);
+        write_line(either(is_pending, "false", "true"), out)?;
+        Ok(())
+    }
+
+    fn check(&mut self, item: u32, out: &mut String) -> Result<(), AllocError>
+        requires item { IsItem self.old.layout item }
+        requires room { HasRoom self.old (2 ^ 60) (2 ^ 60) }
+        ensures { OnOk result (Does self.old self.new (string_bytes out.old) (string_bytes out.new) (Command.Check item)) }
+    {
+        let is_pending = self.queue.is_pending(item);
+        write_line(either(is_pending, "pending", "idle"), out)?;
+        Ok(())
+    }
+
+    fn arm(&mut self, item: u32, delay: u64, out: &mut String) -> Result<(), AllocError>
+        requires item { IsItem self.old.layout item }
+        requires room { HasRoom self.old (2 ^ 60) (2 ^ 60) }
+        ensures { OnOk result (Does self.old self.new (string_bytes out.old) (string_bytes out.new) (Command.Arm item delay)) }
+    {
+        let answer = self.queue.arm(item, delay)?;
+        write_line(answer.text(), out)?;
+        Ok(())
+    }
+
+    fn cancel(&mut self, item: u32, out: &mut String) -> Result<(), AllocError>
+        requires item { IsItem self.old.layout item }
+        requires room { HasRoom self.old (2 ^ 60) (2 ^ 60) }
+        ensures { OnOk result (Does self.old self.new (string_bytes out.old) (string_bytes out.new) (Command.Cancel item)) }
+    {
+        let was_on_table = self.queue.cancel(item);
+        write_line(either(was_on_table, "cancelled", "not on table"), out)?;
+        Ok(())
+    }
+
+    fn modify(&mut self, item: u32, delay: u64, out: &mut String) -> Result<(), AllocError>
+        requires item { IsItem self.old.layout item }
+        requires room { HasRoom self.old (2 ^ 60) (2 ^ 60) }
+        ensures { OnOk result (Does self.old self.new (string_bytes out.old) (string_bytes out.new) (Command.Modify item delay)) }
+    {
+        let answer = self.queue.modify(item, delay)?;
+        write_line(answer.text(), out)?;
+        Ok(())
+    }
+
+    fn advance(&mut self, alloc: Global, tick: u64, out: &mut String) -> Result<(), AllocError>
+        requires { HasRoom self.old (2 ^ 60) (2 ^ 60) }
+        ensures { OnOk result (Does self.old self.new (string_bytes out.old) (string_bytes out.new) (Command.Advance tick)) }
+    {
+        if tick < self.queue.delays().tick() {
+            write_line("false backwards", out)?;
+            return Ok(());
         }
+        let is_closed = self.queue.is_closed();
+        let posted = self.queue.advance(alloc, tick)?;
+        write_row(&self.layout, advance_word(is_closed, &posted), &posted, out)?;
+        Ok(())
     }
 
-    /// One execution: of the number that waits longest. None where none waits.
-    fn execute(&mut self) -> Option<u32>
-        requires room { calls (state_of self.old) < 2 ^ 63 }
-        ensures answer { (h : List Event) → Stands (state_of self.old) h → result ≡ next h }
-        ensures stands { (h : List Event) → Stands (state_of self.old) h → Stands (state_of self.new) (h ++ execution_events h) }
-        ensures numbers { length self.new.pending.items ≡ length self.old.pending.items }
-        ensures calls { calls (state_of self.new) ≡ calls (state_of self.old) }
+    /// Does one command, taken whole, and writes its lines.
+    pub fn execute(
+        &mut self,
+        alloc: Global,
+        command: &Command,
+        out: &mut String,
+    ) -> Result<(), AllocError>
+        requires fits { Fits self.old.layout command.now }
+        requires room { HasRoom self.old (2 ^ 60) (2 ^ 60) }
+        ensures { OnOk result (Does self.old self.new (string_bytes out.old) (string_bytes out.new) command.now) }
     {
-        self.take();
-        let number = self.waiting.pop_front()?;
-        self.pending[number as usize] = false;
-        self.executed += 1;
-        Some(number)
-    }
-
-    /// At most so many executions, up to that of the stop item. The numbers that were executed.
-    pub fn run(&mut self, alloc: Global, limit: u32, stop: u32) -> Result<Vec<u32>, AllocError>
-        requires room { calls (state_of self.old) < 2 ^ 63 }
-        ensures answer { IfOk result (λ ran. (h : List Event) → Stands (state_of self.old) h → ran.items ≡ ended (run_events limit stop h)) }
-        ensures stands { OnOk result ((h : List Event) → Stands (state_of self.old) h → Stands (state_of self.new) (h ++ run_events limit stop h)) }
-        ensures numbers { length self.new.pending.items ≡ length self.old.pending.items }
-        ensures calls { calls (state_of self.new) ≡ calls (state_of self.old) }
-    {
-        let mut ran = Vec::new(alloc);
-        for _ in 0..limit {
-            let Some(number) = self.execute() else {
-                return Ok(ran);
-            };
-            ran.push(number)?;
-            if number == stop {
-                return Ok(ran);
-            }
-        }
-        Ok(ran)
-    }
-
-    /// The counts of all events so far.
-    pub fn counts(&self) -> Counts
-        requires room { calls (state_of self.now) < 2 ^ 63 }
-        ensures { (h : List Event) → Stands (state_of self.now) h → result ≡ counts_of 0 h }
-    {
-        let waiting = self.waiting.len() as u64;
-        Counts {
-            accepted: self.executed + waiting,
-            chained: 0,
-            executed: self.executed,
-            busy: self.busy,
-            refused: self.refused,
-            delayed: 0,
-            waiting,
+        match command {
+            Command::Queue { item, .. } => self.queue(*item, out),
+            Command::Run(limit) => self.run(alloc, *limit, out),
+            Command::Close => self.close(out),
+            Command::Report => self.report(out),
+            Command::Follow { item, follow } => self.follow(*item, follow, out),
+            Command::Flush { barrier, .. } => self.flush(*barrier, out),
+            Command::Done { barrier, .. } => self.done(*barrier, out),
+            Command::Stop(_) => self.stop(out),
+            Command::Drain(limit) => self.drain(alloc, *limit, out),
+            Command::Check(item) => self.check(*item, out),
+            Command::Arm { item, delay } => self.arm(*item, *delay, out),
+            Command::Cancel(item) => self.cancel(*item, out),
+            Command::Modify { item, delay } => self.modify(*item, *delay, out),
+            Command::Advance(tick) => self.advance(alloc, *tick, out),
         }
     }
 }

@@ -2,13 +2,17 @@
 #![tactic(auto)]
 
 mod answer;
+mod arguments;
 mod command;
+mod delays;
 mod engine;
 mod fault;
+mod follows;
 mod header;
-mod history;
 mod line;
+mod lines;
 mod output;
+mod queue;
 mod report;
 mod script;
 mod text;
@@ -18,9 +22,8 @@ mod word;
 #[cfg(test)]
 mod worked_scripts;
 
-pub use command::Command;
+pub use command::{Command, Follow};
 pub use fault::{Kind, ParseError, ScriptError};
-pub use history::legal_scripts;
 pub use output::{RunError, run};
 pub use script::Script;
 pub use text::{parse, tells_lines};

@@ -1,113 +1,31 @@
 //! One line of a script.
-ghost use Rattle.std.specs.Prelude.{◌≡◌, ◌<◌, ◌≤◌, ◌^◌, map, true, false, length, MatchOption, IfOk};
+ghost use Rattle.std.specs.Prelude.{◌≡◌, map, true, false, MatchOption, IfOk};
 ghost use Rattle.std.specs.List.{list_all};
-ghost use Rattle.wq_words.specs.Limits.{IsBetween};
 ghost use Rattle.wq_script.specs.Word.{is_plain};
-ghost use Rattle.wq_script.specs.Fault.{LineGives, LineGivesAs};
+ghost use Rattle.wq_script.specs.Fault.{LineGives};
 ghost use Rattle.wq_script.specs.Header.{is_placed};
-ghost use Rattle.wq_script.specs.Line.{number, between, below, sender, item, limit, no_word, one_word, two_words, command_gives, header_gives, arguments_give, is_word, words_give, plain_line_gives, line_gives};
+ghost use Rattle.wq_script.specs.Line.{command_gives, header_gives, arguments_give, is_word, words_give, plain_line_gives, line_gives};
 ghost use Rattle.wq_script.specs.Sound.{FitsHeader, KeepsSound};
 
+use crate::arguments::{
+    between, item, item_and_delay, item_and_follow, limit, no_word, number, one_word, sender,
+    sender_and_barrier, sender_and_item,
+};
 use crate::command::Command;
 use crate::fault::{Kind, LineError};
 use crate::header::{Header, Stage};
-use crate::word::{Keyword, keyword_of, number_of, words_of};
+use crate::word::{Keyword, keyword_of, words_of};
 use std::alloc::Global;
 
-fn number(word: &str) -> Result<u64, LineError>
-    ensures { LineGives result (number word.now) }
-{
-    match number_of(word) {
-        Some(number) => Ok(number),
-        None => Err(LineError::Fault(Kind::Number)),
-    }
-}
-
-/// A number from `low` to `high`.
-#[tactic(auto, unfolding(crate::specs::Line::between))]
-fn between(kind: Kind, low: u32, high: u32, word: &str) -> Result<u32, LineError>
-    ensures exact { LineGives result (between kind low high word.now) }
-    ensures within { IfOk result (λ n. IsBetween low n high) }
-{
-    let number = number(word)?;
-    if number < u64::from(low) || number > u64::from(high) {
-        return Err(LineError::Fault(kind));
-    }
-    Ok(number as u32)
-}
-
-/// A number below `bound`.
-#[tactic(auto, unfolding(crate::specs::Line::below))]
-fn below(kind: Kind, bound: u32, word: &str) -> Result<u32, LineError>
-    ensures exact { LineGives result (below kind bound word.now) }
-    ensures within { IfOk result (λ n. n < bound) }
-{
-    let number = number(word)?;
-    if number >= u64::from(bound) {
-        return Err(LineError::Fault(kind));
-    }
-    Ok(number as u32)
-}
-
-fn sender(header: Header, word: &str) -> Result<u32, LineError>
-    ensures exact { LineGives result (sender header word.now) }
-    ensures within { IfOk result (λ n. n < header.senders) }
-{
-    below(Kind::Sender, header.senders, word)
-}
-
-fn item(header: Header, word: &str) -> Result<u32, LineError>
-    ensures exact { LineGives result (item header word.now) }
-    ensures within { IfOk result (λ n. n < header.items) }
-{
-    below(Kind::Item, header.items, word)
-}
-
-/// A number of executions.
-fn limit(word: &str) -> Result<u32, LineError>
-    ensures { LineGives result (limit word.now) }
-{
-    between(Kind::Limit, 1, 65536, word)
-}
-
-fn no_word(words: &[&str]) -> Result<(), LineError>
-    ensures { LineGives result (no_word (map (λ w. w.now) words.now)) }
-{
-    match words {
-        [] => Ok(()),
-        _ => Err(LineError::Fault(Kind::Count)),
-    }
-}
-
-fn one_word<'a>(words: &[&'a str]) -> Result<&'a str, LineError>
-    ensures { LineGivesAs (λ w. w.now) result (one_word (map (λ w. w.now) words.now)) }
-{
-    match words {
-        [word] => Ok(word),
-        _ => Err(LineError::Fault(Kind::Count)),
-    }
-}
-
-fn two_words<'a>(words: &[&'a str]) -> Result<(&'a str, &'a str), LineError>
-    ensures { LineGivesAs (λ w. (w.0.now, w.1.now)) result (two_words (map (λ w. w.now) words.now)) }
-{
-    match words {
-        [first, second] => Ok((first, second)),
-        _ => Err(LineError::Fault(Kind::Count)),
-    }
-}
-
 /// The command of a keyword and the words behind it.
-#[tactic(auto, unfolding(crate::specs::Line::command_gives))]
+#[tactic(auto, using(crate::proofs::Sound::fits_follow), unfolding(crate::specs::Line::command_gives))]
 fn command(header: Header, keyword: Keyword, words: &[&str]) -> Result<Command, LineError>
     ensures exact { LineGives result (command_gives header keyword (map (λ w. w.now) words.now)) }
     ensures fits { IfOk result (FitsHeader header) }
 {
     match keyword {
         Keyword::Queue => {
-            let (first, second) = two_words(words)?;
-            let sender = sender(header, first)?;
-            let item = item(header, second)?;
+            let (sender, item) = sender_and_item(header, words)?;
             Ok(Command::Queue { sender, item })
         }
         Keyword::Run => Ok(Command::Run(limit(one_word(words)?)?)),
@@ -119,6 +37,31 @@ fn command(header: Header, keyword: Keyword, words: &[&str]) -> Result<Command, 
             no_word(words)?;
             Ok(Command::Report)
         }
+        Keyword::Follow => {
+            let (item, follow) = item_and_follow(header, words)?;
+            Ok(Command::Follow { item, follow })
+        }
+        Keyword::Flush => {
+            let (sender, barrier) = sender_and_barrier(header, words)?;
+            Ok(Command::Flush { sender, barrier })
+        }
+        Keyword::Done => {
+            let (sender, barrier) = sender_and_barrier(header, words)?;
+            Ok(Command::Done { sender, barrier })
+        }
+        Keyword::Stop => Ok(Command::Stop(sender(header, one_word(words)?)?)),
+        Keyword::Drain => Ok(Command::Drain(limit(one_word(words)?)?)),
+        Keyword::Check => Ok(Command::Check(item(header, one_word(words)?)?)),
+        Keyword::Arm => {
+            let (item, delay) = item_and_delay(header, words)?;
+            Ok(Command::Arm { item, delay })
+        }
+        Keyword::Cancel => Ok(Command::Cancel(item(header, one_word(words)?)?)),
+        Keyword::Modify => {
+            let (item, delay) = item_and_delay(header, words)?;
+            Ok(Command::Modify { item, delay })
+        }
+        Keyword::Advance => Ok(Command::Advance(number(one_word(words)?)?)),
         Keyword::Items | Keyword::Senders | Keyword::Barriers => {
             Err(LineError::Fault(Kind::Header))
         }
@@ -179,7 +122,7 @@ fn are_words(words: &[&str]) -> bool
 }
 
 /// What the words of a line give.
-#[tactic(auto, using(crate::proofs::Lines::mapped_words), unfolding(crate::specs::Line::words_give))]
+#[tactic(auto, using(crate::proofs::LineWords::mapped_words), unfolding(crate::specs::Line::words_give))]
 fn words_line(stage: Stage, words: &[&str]) -> Result<(Stage, Option<Command>), LineError>
     ensures exact { LineGives result (words_give stage (map (λ w. w.now) words.now)) }
     ensures sound { IfOk result (λ given. KeepsSound stage given.0 given.1) }

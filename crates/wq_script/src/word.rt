@@ -16,6 +16,16 @@ pub enum Keyword {
     Run,
     Close,
     Report,
+    Follow,
+    Flush,
+    Done,
+    Stop,
+    Drain,
+    Check,
+    Arm,
+    Cancel,
+    Modify,
+    Advance,
 }
 
 impl Keyword {
@@ -40,6 +50,16 @@ pub fn keyword_of(word: &str) -> Option<Keyword>
         "run" => Some(Keyword::Run),
         "close" => Some(Keyword::Close),
         "report" => Some(Keyword::Report),
+        "follow" => Some(Keyword::Follow),
+        "flush" => Some(Keyword::Flush),
+        "done" => Some(Keyword::Done),
+        "stop" => Some(Keyword::Stop),
+        "drain" => Some(Keyword::Drain),
+        "check" => Some(Keyword::Check),
+        "arm" => Some(Keyword::Arm),
+        "cancel" => Some(Keyword::Cancel),
+        "modify" => Some(Keyword::Modify),
+        "advance" => Some(Keyword::Advance),
         _ => None,
     }
 }

@@ -1,5 +1,5 @@
 use Rattle.std.proofs.Common.{sym, ◌∙◌}
-use Rattle.wq_script.proofs.Lines.{plain_read}
+use Rattle.wq_script.proofs.LineWords.{plain_read}
 use Rattle.wq_script.proofs.line.plain_text.Goals as goal
 
 pub returns-then-is_plain_line : goal.returns-then-is_plain_line

@@ -1,7 +1,7 @@
 use Rattle.std.proofs.Common.{refl}
 use Rattle.wq_script.specs.Line.{words_give}
 use Rattle.wq_script.specs.Word.{keyword_at}
-use Rattle.wq_script.proofs.Lines.{no_words}
+use Rattle.wq_script.proofs.LineWords.{no_words}
 use Rattle.wq_script.proofs.line.words_line.Goals as goal
 
 pub returns-in_default-clause-exact : goal.returns-in_default-clause-exact

@@ -1,21 +1,17 @@
-use Rattle.wq_script.specs.Engine.{state_of}
-use Rattle.wq_script.proofs.Steps.{waits_once, waits_never, busy_answer, busy_stands, closed_answer, closed_stands, queued_answer, queued_stands}
+use Rattle.std.proofs.Common.{◌≡◌, ◌∙◌, ◌++◌, ◌+◌, ap, sym, refl, arith, [], List, length, string_bytes}
+use Rattle.wq_script.specs.Answer.{answer_text}
+use Rattle.wq_script.specs.Report.{line}
+use Rattle.wq_script.specs.Delays.{table_of}
 use Rattle.wq_script.proofs.engine.Engine.queue.Goals as goal
 
-pub returns-then-index-clause-answer : goal.returns-then-index-clause-answer
-returns-then-index-clause-answer c = λ h st. busy_answer (state_of c.args.self.now) h c.args.number st (waits_once c.args.self.now.pending.items c.args.self.now.waiting.items c.args.number _ c.requires.number (c.args.self.now.once c.args.number c.requires.number) c.index.ensures c.if-index.true)
-
-pub returns-then-index-clause-stands : goal.returns-then-index-clause-stands
-returns-then-index-clause-stands c = λ h st. busy_stands (state_of c.args.self.now) h c.args.sender c.args.number st (waits_once c.args.self.now.pending.items c.args.self.now.waiting.items c.args.number _ c.requires.number (c.args.self.now.once c.args.number c.requires.number) c.index.ensures c.if-index.true)
-
-pub returns-then-self-clause-answer : goal.returns-then-self-clause-answer
-returns-then-self-clause-answer c = λ h st. closed_answer (state_of c.args.self.now) h c.args.number st (waits_never c.args.self.now.pending.items c.args.self.now.waiting.items c.args.number _ c.requires.number (c.args.self.now.once c.args.number c.requires.number) c.index.ensures c.if-index.false) c.if-self.true
-
-pub returns-then-self-clause-stands : goal.returns-then-self-clause-stands
-returns-then-self-clause-stands c = λ h st. closed_stands (state_of c.args.self.now) h c.args.sender c.args.number st (waits_never c.args.self.now.pending.items c.args.self.now.waiting.items c.args.number _ c.requires.number (c.args.self.now.once c.args.number c.requires.number) c.index.ensures c.if-index.false) c.if-self.true
-
-pub returns-clause-answer : goal.returns-clause-answer
-returns-clause-answer c = λ h st. queued_answer (state_of c.args.self.now) h c.args.number st (waits_never c.args.self.now.pending.items c.args.self.now.waiting.items c.args.number _ c.requires.number (c.args.self.now.once c.args.number c.requires.number) c.index.ensures c.if-index.false) c.if-self.false
-
-pub returns-clause-stands : goal.returns-clause-stands
-returns-clause-stands c = λ h st. rw c.in_ok-push_back.ensures.items (queued_stands (state_of c.args.self.now) h c.args.sender c.args.number st (waits_never c.args.self.now.pending.items c.args.self.now.waiting.items c.args.number _ c.requires.number (c.args.self.now.once c.args.number c.requires.number) c.index.ensures c.if-index.false) c.if-self.false)
+pub returns : goal.returns
+returns c = λ sender. record {
+  layout = refl;
+  meets = λ s m. record {
+    stands = c.in_ok-answer.ensures.stands sender [] s.history m.stands;
+    table = ap table_of c.in_ok-answer.ensures.delays ∙ m.table;
+    follows = m.follows;
+  };
+  lines = λ s m. c.in_ok-write_line.ensures ∙ ap (λ x. string_bytes c.args.out.now ++ line x) (c.text.ensures ∙ ap answer_text (c.in_ok-answer.ensures.answer [] s.history m.stands));
+  room = λ q a r. record { queueings = omega (arith, r.queueings, c.in_ok-answer.ensures.calls); armings = omega (arith, r.armings, ap (λ d. d.armings) c.in_ok-answer.ensures.delays) };
+}

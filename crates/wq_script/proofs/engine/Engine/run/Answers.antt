@@ -1,32 +1,29 @@
-use Rattle.std.proofs.Common.{◌≡◌, arith, refl, ◌-◌, ◌+◌}
-use Rattle.std.proofs.lemmas.Bool.{eq-eqb, ne_eqb}
-use Rattle.wq_script.proofs.Executions.{told_none, told_done, told_more, told_last, told_idle}
+use Rattle.std.proofs.Common.{◌≡◌, ◌∙◌, ◌++◌, ◌+◌, ap, sym, refl, arith, ℕ, [], List, length, string_bytes, subst, codes, Some, None, append_assoc}
+use Rattle.arrayvec.specs.ArrayVec.{ArrayVec}
+use Rattle.wq_words.specs.Numbers.{stop_number}
+use Rattle.wq_script.specs.declared.report.Counts.{Counts}
+use Rattle.wq_script.specs.declared.command.Command.TheVariants as command
+use Rattle.wq_script.specs.Report.{line}
+use Rattle.wq_script.specs.Names.{row_text, left_text}
+use Rattle.wq_script.specs.Execution.{after_executions, ends_at, ended_since}
+use Rattle.wq_script.specs.Commands.{ScriptState, worker, after_row}
+use Rattle.wq_script.specs.Standing.{Stands}
+use Rattle.wq_script.specs.Delays.{table_of}
+use Rattle.wq_script.specs.Queue.{state_of}
+use Rattle.wq_script.specs.Engine.{Meets}
 use Rattle.wq_script.proofs.engine.Engine.run.Goals as goal
 
-pub loop-init : goal.loop-init
-loop-init c = let whole : c.args.limit - 0 ≡ c.args.limit = omega arith in record { calls = refl; numbers = refl; told = λ h st. rw (c.new-ran.ensures.items, whole) (told_none _ _ _ h st) }
-
-pub loop-preserved : goal.loop-preserved
-loop-preserved c = record {
-  calls = omega (arith, c.in-Some.ensures.calls, c.loop.invariant.calls);
-  numbers = omega (arith, c.in-Some.ensures.numbers, c.loop.invariant.numbers);
-  told = λ h st. rw c.in_ok-push.ensures.items (told_more (omega arith) (c.loop.invariant.told h st) (c.in-Some.ensures.answer, c.in-Some.ensures.stands) (ne_eqb _ _ c.if-number-stop.false));
+pub returns : goal.returns
+returns c = record {
+  layout = refl;
+  meets = λ s m. record {
+    stands = rw m.follows at (c.in_ok-ran.ensures.stands (worker c.args.self.now.layout) s.history m.stands);
+    table = ap table_of c.in_ok-ran.ensures.delays ∙ m.table;
+    follows = m.follows;
+  };
+  lines = λ s m.
+      let P : List (ArrayVec ℕ) → Type 0 = λ fs. c.in_ok-ran.ran.items ≡ ended_since s.history (after_executions (worker c.args.self.now.layout) fs (ends_at (Some (stop_number c.args.self.now.layout))) c.args.limit s.history) in
+      let ran = subst P m.follows (c.in_ok-ran.ensures.answer (worker c.args.self.now.layout) s.history m.stands) in
+      c.in_ok-write_row.ensures ∙ ap (λ ks. string_bytes c.args.out.now ++ row_text c.args.self.now.layout (codes "ran") ks) (c.deref.ensures.value ∙ ran);
+  room = λ q a r. record { queueings = omega (arith, r.queueings, c.in_ok-ran.ensures.calls); armings = omega (arith, r.armings, ap (λ d. d.armings) c.in_ok-ran.ensures.delays) };
 }
-
-pub returns-in_default-clause-answer : goal.returns-in_default-clause-answer
-returns-in_default-clause-answer c = λ h st. (told_idle {left = c.args.limit - (c.loop.counter + 1)} (omega arith) (c.loop.invariant.told h st) (c.in_default.ensures.answer, c.in_default.ensures.stands)).0
-
-pub returns-in_default-clause-stands : goal.returns-in_default-clause-stands
-returns-in_default-clause-stands c = λ h st. (told_idle {left = c.args.limit - (c.loop.counter + 1)} (omega arith) (c.loop.invariant.told h st) (c.in_default.ensures.answer, c.in_default.ensures.stands)).1
-
-pub returns-then-number-stop-clause-answer : goal.returns-then-number-stop-clause-answer
-returns-then-number-stop-clause-answer c = λ h st. rw c.in_ok-push.ensures.items ((told_last {left = c.args.limit - (c.loop.counter + 1)} (omega arith) (c.loop.invariant.told h st) (c.in-Some.ensures.answer, c.in-Some.ensures.stands) (eq-eqb _ _ c.if-number-stop.true)).0)
-
-pub returns-then-number-stop-clause-stands : goal.returns-then-number-stop-clause-stands
-returns-then-number-stop-clause-stands c = λ h st. (told_last {left = c.args.limit - (c.loop.counter + 1)} (omega arith) (c.loop.invariant.told h st) (c.in-Some.ensures.answer, c.in-Some.ensures.stands) (eq-eqb _ _ c.if-number-stop.true)).1
-
-pub returns-clause-stands : goal.returns-clause-stands
-returns-clause-stands c = λ h st. (told_done (omega arith) (c.loop.invariant.told h st)).1
-
-pub returns-clause-answer : goal.returns-clause-answer
-returns-clause-answer c = λ h st. (told_done (omega arith) (c.loop.invariant.told h st)).0
