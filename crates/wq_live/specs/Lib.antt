@@ -1,0 +1,4 @@
+pub mod Known
+pub mod Counts
+pub mod Answers
+pub mod Sits

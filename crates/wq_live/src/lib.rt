@@ -1,0 +1,10 @@
+//! An ordered workqueue that threads share: senders queue numbers without a lock, and one owner takes and executes them.
+#![tactic(auto)]
+
+mod answer;
+mod counts;
+mod sender;
+
+pub use answer::{Answer, Done, Posted};
+pub use counts::{OwnerCounts, SenderCounts};
+pub use sender::Sender;
