@@ -61,10 +61,10 @@ module _ (step : Step) (word : ℕ) (p q : Part) (makes : Makes step word p q) w
   pub next : Machine
   next = after makes.before (seat_at p.seat p.stage) step
 
-  seen_after : (n : Machine) (xs : List Event) → after makes.before (seat_at p.seat p.stage) step ≡ n → n.history ≡ makes.before.history ++ xs → q.seen ≡ makes.before.history ++ xs
+  pub seen_after : (n : Machine) (xs : List Event) → after makes.before (seat_at p.seat p.stage) step ≡ n → n.history ≡ makes.before.history ++ xs → q.seen ≡ makes.before.history ++ xs
   seen_after n xs is history = makes.seen_is ∙ (ap (λ (x : Machine). x.history) is ∙ history)
 
-  tells : (n : Machine) (xs : List Event) → after makes.before (seat_at p.seat p.stage) step ≡ n → n.layout ≡ makes.before.layout → n.history ≡ makes.before.history ++ xs → own p.seat xs ≡ xs → Tells xs p q
+  pub tells : (n : Machine) (xs : List Event) → after makes.before (seat_at p.seat p.stage) step ≡ n → n.layout ≡ makes.before.layout → n.history ≡ makes.before.history ++ xs → own p.seat xs ≡ xs → Tells xs p q
   tells n xs is layout history all =
       let f = makes.fits in
       let same : (after makes.before (seat_at p.seat p.stage) step).layout ≡ p.layout = ap (λ (x : Machine). x.layout) is ∙ (layout ∙ sym f.layout_is) in record {
@@ -197,11 +197,13 @@ push_tells k w word p q is makes =
             first_is = ap (λ (x : ℕ). x == 0) (sym (eqb-true (head m) w same) ∙ makes.sound.head_is) ∙ first_head m.layout h makes.sound.legal allowed.2.1;
           };
         }
+
     lost : after makes.before (seat_at p.seat p.stage) (Push k) ≡ with_private makes.before p.seat nothing_seen → (head makes.before == w) ≡ false → Loses w p q
     lost e other = let m = makes.before in record {
       told = tells (Push k) word p q makes _ [] e refl (sym (append-nil m.history)) refl;
       head_is = λ same. eqb-false (head m) w other (makes.sound.head_is ∙ (ap (λ (h : List Event). head_word (head_of h)) (sym (makes.seen_is ∙ ap (λ (x : Machine). x.history) e)) ∙ same));
     }
+
     go : (b : Bool) → (head makes.before == w) ≡ b → after makes.before (seat_at p.seat p.stage) (Push k) ≡ (if b then happened (with_private (with_head makes.before (k + 1)) p.seat nothing_seen) (event.Push p.seat k) else with_private makes.before p.seat nothing_seen)
         → MatchBool b (Wins k w p q) (Loses w p q)
     go true same e = won e same

@@ -3,8 +3,10 @@
 
 mod answer;
 mod counts;
+mod owner;
 mod sender;
 
 pub use answer::{Answer, Done, Posted};
 pub use counts::{OwnerCounts, SenderCounts};
+pub use owner::Owner;
 pub use sender::Sender;

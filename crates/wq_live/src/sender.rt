@@ -12,6 +12,7 @@ ghost use Rattle.wq_live.specs.Counts.{sender_counts};
 
 use crate::answer::{Answer, Posted};
 use crate::counts::SenderCounts;
+use crate::owner::Owner;
 use std::marker::Model;
 use std::sync::Wait;
 use wq_table::Chair;
@@ -279,5 +280,16 @@ impl Sender {
         ensures layout { other.old.layout ≡ self.old.layout }
     {
         self.chair.meet(&mut other.chair);
+    }
+
+    /// Afterwards each has seen all that both had seen.
+    pub fn meet_owner(&mut self, owner: &mut Owner)
+        requires { self.old.queue ≡ owner.old.queue }
+        ensures this { Sees [] 0 self.old self.new }
+        ensures that { Sees [] 0 owner.old owner.new }
+        ensures both { owner.new.seen ≡ self.new.seen }
+        ensures layout { owner.old.layout ≡ self.old.layout }
+    {
+        self.chair.meet(&mut owner.chair);
     }
 }
