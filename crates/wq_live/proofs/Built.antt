@@ -80,3 +80,9 @@ executes_new s is batch walked room room' runs shut counts = let seen : s.chair.
 
 pub owner_view_new : (s : owner.Inside) → s.chair ≡ owner_chair s.chair.queue s.layout → owner_view s ≡ new_owner s.chair.queue s.layout
 owner_view_new s is = let seen : s.chair.part.seen ≡ [] = ap (λ (x : Standing). x.part.seen) is in λ i. record { queue = s.chair.queue; layout = s.layout; number = owner_seat; seen = seen i }
+
+-- the seat that comes next
+pub chair_at : (q : TableId) (l : Layout) (n : ℕ) (items : List Standing) (i number : ℕ) (chair : Standing) → items ≡ sender_chairs q l n → number ≡ i → (i < length items) × (chair ≡ get_or items i chair) → chair ≡ sender_chair q l number
+chair_at q l n items i number chair is same turn =
+    let less : i < n = omega (arith, turn.0, ap (λ (xs : List Standing). length xs) is, length-sender_chairs q l n) in
+    turn.1 ∙ (ap (λ (xs : List Standing). get_or xs i chair) is ∙ (get_or-sender_chairs q l n i chair less ∙ ap (sender_chair q l) (sym same)))

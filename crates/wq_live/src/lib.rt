@@ -3,10 +3,12 @@
 
 mod answer;
 mod counts;
+mod making;
 mod owner;
 mod sender;
 
 pub use answer::{Answer, Done, Posted};
 pub use counts::{OwnerCounts, SenderCounts};
+pub use making::{BuildError, build};
 pub use owner::Owner;
 pub use sender::Sender;
