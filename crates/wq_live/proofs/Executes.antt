@@ -1,7 +1,7 @@
 -- What each kind of the owner's steps tells it.
-use Rattle.std.proofs.Common.{◌≡◌, ◌≢◌, ℕ, ◌+◌, ◌-◌, ◌<◌, ◌≤◌, Bool, true, false, ◌==◌, if◌then◌else◌, List, [], ◌∷◌, ◌++◌, length, Option, Some, None, unwrap_or, slice_get, sym, refl, ap, ◌∙◌, subst, arith, MatchBool}
+use Rattle.std.proofs.Common.{◌≡◌, ◌≢◌, ℕ, ◌+◌, ◌-◌, Bool, true, false, ◌==◌, if◌then◌else◌, List, [], ◌∷◌, ◌++◌, length, Some, None, slice_get, sym, refl, ap, ◌∙◌, subst, arith, MatchBool}
 use Rattle.std.proofs.lemmas.List.{append-nil}
-use Rattle.std.proofs.lemmas.Bool.{eqb-true, eqb-false, ne_eqb, eq-eqb}
+use Rattle.std.proofs.lemmas.Bool.{ne_eqb, eq-eqb}
 use Rattle.wq_words.specs.declared.layout.Layout.{Layout}
 use Rattle.wq_words.specs.declared.event.Event.{Event}
 use Rattle.wq_words.specs.declared.event.Event.TheVariants as event
@@ -12,15 +12,14 @@ use Rattle.wq_core.specs.declared.step.Step.{Step}
 use Rattle.wq_core.specs.declared.step.Step.TheVariants.{Take, Close, Walk, Begin, End, Chain}
 use Rattle.wq_core.specs.Words.{closed_word, number_at}
 use Rattle.wq_core.specs.Machine.{Machine, head, link, item_word, with_head, with_item, happened, walked_past, after_walk, after_begin, after_end, after}
-use Rattle.wq_core.specs.Sound.{IsSound}
 use Rattle.wq_core.proofs.Schedule.{batch_is}
 use Rattle.wq_table.specs.declared.table.Part.{Part}
 use Rattle.wq_table.specs.declared.table.Stage.{Stage}
 use Rattle.wq_table.specs.declared.table.Stage.TheVariants.{Sends, Owns}
-use Rattle.wq_table.specs.Seen.{owner_seat, seat_of, own, Grows}
-use Rattle.wq_table.specs.Law.{part, seat_at, Keeps, Fits}
+use Rattle.wq_table.specs.Seen.{owner_seat, own, Grows}
+use Rattle.wq_table.specs.Law.{seat_at, Keeps}
 use Rattle.wq_table.specs.Plays.{stage_after, walked_on, Makes}
-use Rattle.wq_table.specs.Chair.{Standing, IsOwner, IsRested, HasNone, IsToWalk, IsToBegin}
+use Rattle.wq_table.specs.Chair.{IsOwner, IsRested, HasNone, IsToBegin}
 use Rattle.wq_table.proofs.Seen.{own_one, begun_same, ended_same}
 use Rattle.wq_live.specs.declared.owner.Owner.TheInside.{Inside}
 use Rattle.wq_live.specs.Known.{Known, Sees}

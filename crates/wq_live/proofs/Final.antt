@@ -1,6 +1,6 @@
 -- A queue that is closed and has run to the end.
-use Rattle.std.proofs.Common.{◌≡◌, ◌≢◌, ℕ, ◌+◌, ◌<◌, ◌≤◌, Bool, true, false, cond, List, [], ◌∷◌, ◌++◌, length, Option, Some, None, slice_get, sym, refl, ap, ◌∙◌, subst, arith, append_assoc, length-append}
-use Rattle.std.specs.Prelude.{count_by, filter_map}
+use Rattle.std.proofs.Common.{◌≡◌, ℕ, ◌+◌, ◌≤◌, Bool, true, false, cond, List, [], ◌∷◌, ◌++◌, length, Option, Some, None, slice_get, sym, refl, ap, ◌∙◌, subst, arith, append_assoc}
+use Rattle.std.specs.Prelude.{filter_map}
 use Rattle.std.proofs.lemmas.List.{append-nil}
 use Rattle.std.proofs.lemmas.List.Sums.{sum_by-append}
 use Rattle.std.proofs.lemmas.List.Elements.{filter_map-append}
@@ -8,9 +8,9 @@ use Rattle.std.proofs.lemmas.Option.{slice_get_past}
 use Rattle.wq_words.specs.declared.layout.Layout.{Layout}
 use Rattle.wq_words.specs.declared.event.Event.{Event}
 use Rattle.wq_words.specs.declared.event.Event.TheVariants.{Hold, Busy, Push, Back, Take, Close, Begin, End, Chain, ChainBusy}
-use Rattle.wq_words.specs.History.{accepted, accepted_by, begun, begun_by, ended, ended_by, is_close, IsClosed, IsRunning, running, next}
+use Rattle.wq_words.specs.History.{accepted, accepted_by, begun, begun_by, ended, ended_by, is_close, IsClosed, IsRunning, running}
 use Rattle.wq_words.specs.Listed.{listed}
-use Rattle.wq_words.specs.Legal.{MayFollow, IsAllowed, IsLegal, IsComplete}
+use Rattle.wq_words.specs.Legal.{MayFollow, IsLegal, IsComplete}
 use Rattle.wq_words.proofs.Legal.{legal_front, legal_next}
 use Rattle.wq_words.proofs.Order.{in_order, prefix_length}
 use Rattle.wq_words.proofs.Listed.{listed-closed}

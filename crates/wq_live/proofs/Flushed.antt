@@ -1,6 +1,6 @@
 -- What a barrier that is not pending says of what was accepted before it.
-use Rattle.std.proofs.Common.{◌≡◌, ℕ, ◌+◌, ◌<◌, ◌≤◌, Bool, true, false, cond, eqb, ◌==◌, List, [], ◌∷◌, ◌++◌, length, nat_lt, sym, refl, ap, ◌∙◌, subst, arith, eq-eqb, length-append}
-use Rattle.std.specs.Prelude.{count_by, filter_map}
+use Rattle.std.proofs.Common.{◌≡◌, ℕ, ◌≤◌, Bool, false, cond, ◌==◌, List, [], ◌∷◌, ◌++◌, length, refl, ap, ◌∙◌, arith, eq-eqb, length-append}
+use Rattle.std.specs.Prelude.{count_by}
 use Rattle.std.proofs.lemmas.List.Sums.{sum_by-append, sum_by-cons}
 use Rattle.std.proofs.lemmas.Bool.Decides.{nat_tests}
 use Rattle.std.proofs.lemmas.List.Elements.{filter_map-append}
@@ -10,7 +10,7 @@ use Rattle.wq_words.specs.declared.event.Event.{Event}
 use Rattle.wq_words.specs.declared.event.Event.TheVariants.{Push}
 use Rattle.wq_words.specs.History.{accepted, accepted_by, begun, ended, pending, sets_pending, clears_pending}
 use Rattle.wq_words.specs.Legal.{IsLegal}
-use Rattle.wq_words.specs.Keeper.{Keeper, Home, keeper}
+use Rattle.wq_words.specs.Keeper.{Keeper, keeper}
 use Rattle.wq_words.proofs.Order.{in_order}
 use Rattle.wq_words.proofs.Keepers.{pending_bit, queue_bit, home_from_bit, kept}
 use Rattle.wq_live.specs.Answers.{HasFlushed}

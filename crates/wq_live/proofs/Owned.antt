@@ -1,13 +1,13 @@
 -- What the owner's own events say of a history.
-use Rattle.std.proofs.Common.{◌≡◌, ◌≢◌, ℕ, ◌+◌, ◌^◌, ◌-◌, ◌<◌, ◌≤◌, Bool, true, false, cond, eqb, ◌==◌, List, [], ◌∷◌, ◌++◌, length, Option, Some, None, nat_lt, sym, refl, ap, ◌∙◌, subst, arith, length-append}
-use Rattle.std.specs.Prelude.{count_by, filter_map, slice_get, min}
+use Rattle.std.proofs.Common.{◌≡◌, ℕ, ◌+◌, Bool, true, false, cond, eqb, List, [], ◌∷◌, ◌++◌, length, Option, Some, None, nat_lt, sym, refl, ap, ◌∙◌, arith, length-append}
+use Rattle.std.specs.Prelude.{count_by, filter_map, slice_get}
 use Rattle.std.proofs.lemmas.List.{append-nil}
 use Rattle.std.proofs.lemmas.List.Elements.{filter_map-append}
 use Rattle.std.proofs.lemmas.Option.{slice_get_past}
 use Rattle.std.proofs.lemmas.Bool.{lt-ltb}
 use Rattle.wq_words.proofs.Growing.{slice_get_last}
 use Rattle.wq_words.specs.declared.event.Event.{Event}
-use Rattle.wq_words.specs.declared.event.Event.TheVariants.{Hold, Busy, Push, Back, Take, Close, Begin, End, Chain, ChainBusy}
+use Rattle.wq_words.specs.declared.event.Event.TheVariants.{Close, Begin, End, Chain, ChainBusy}
 use Rattle.wq_words.specs.History.{begun, begun_by, ended, ended_by, running, closed, is_close}
 use Rattle.wq_table.specs.Seen.{owner_seat, seat_of, own, Grows}
 use Rattle.wq_live.specs.declared.counts.OwnerCounts.{OwnerCounts}

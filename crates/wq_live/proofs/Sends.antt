@@ -19,7 +19,7 @@ use Rattle.wq_live.specs.Answers.{IsPushed}
 use Rattle.wq_live.proofs.Counting.{count_on, count_one, counts_none}
 use Rattle.wq_table.specs.Chair.{IsSender}
 use Rattle.wq_live.specs.declared.sender.Sender.TheInside.{Inside}
-use Rattle.wq_live.specs.Known.{Known, IsSame, Sees}
+use Rattle.wq_live.specs.Known.{Known, Sees}
 use Rattle.wq_live.specs.Counts.{sender_counts}
 use Rattle.wq_live.specs.Sits.{sender_view, Sends}
 use Rattle.wq_live.proofs.Tells.{TellsSo, meet_tells, meet_sender}

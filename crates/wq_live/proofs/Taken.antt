@@ -1,6 +1,6 @@
 -- What a Take or a Close leaves as the batch.
-use Rattle.std.proofs.Common.{◌≡◌, ◌≢◌, ℕ, ◌+◌, ◌-◌, ◌<◌, ◌≤◌, Bool, true, false, cond, eqb, List, [], ◌∷◌, ◌++◌, length, Option, Some, None, take, drop, sym, refl, ap, ◌∙◌, subst, arith, append_assoc, length-append, length-drop}
-use Rattle.std.specs.Prelude.{count_by, filter_map, reverse}
+use Rattle.std.proofs.Common.{◌≡◌, ℕ, ◌+◌, Bool, true, false, cond, eqb, List, [], ◌∷◌, ◌++◌, length, Option, None, take, drop, sym, refl, ap, ◌∙◌, subst, arith, append_assoc, length-append, length-drop}
+use Rattle.std.specs.Prelude.{reverse}
 use Rattle.std.proofs.lemmas.List.{append-nil}
 use Rattle.std.proofs.lemmas.List.Sums.{sum_by-append}
 use Rattle.std.proofs.lemmas.List.Elements.{filter_map-append}
@@ -10,17 +10,16 @@ use Rattle.wq_words.specs.declared.layout.Layout.{Layout}
 use Rattle.wq_words.specs.declared.event.Event.{Event}
 use Rattle.wq_words.specs.declared.event.Event.TheVariants.{Hold, Busy, Push, Back, Take, Close, Begin, End, Chain, ChainBusy}
 use Rattle.wq_words.specs.Numbers.{number_count}
-use Rattle.wq_words.specs.History.{accepted, accepted_by, begun, closed, is_close, is_push, IsClosed, fresh, taken}
+use Rattle.wq_words.specs.History.{accepted, accepted_by, begun, closed, is_close, IsClosed, taken}
 use Rattle.wq_words.specs.Listed.{listed}
 use Rattle.wq_words.specs.Legal.{IsLegal}
 use Rattle.wq_words.proofs.Growing.{take_length}
 use Rattle.wq_words.proofs.Legal.{legal_front, legal_next}
-use Rattle.wq_words.proofs.Order.{in_order, prefix_length}
 use Rattle.wq_words.proofs.Listed.{closed_from_IsClosed, closed_from_open, closed_push_no, taken_closed, taken_push_same, taken_push_push, taken_push_take, is_listed, fresh-open}
 use Rattle.wq_core.specs.Machine.{Machine}
 use Rattle.wq_core.specs.Sound.{IsSound, IsChain, word_at}
 use Rattle.wq_core.proofs.Chains.{chain_zero}
-use Rattle.wq_table.specs.Seen.{owner_seat, seat_of, own, Grows}
+use Rattle.wq_table.specs.Seen.{owner_seat, own, Grows}
 use Rattle.wq_live.specs.Batch.{batch, TakesAll}
 use Rattle.wq_live.proofs.Owned.{begun_on, closes_on}
 

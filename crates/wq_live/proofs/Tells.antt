@@ -9,22 +9,22 @@ use Rattle.wq_words.specs.declared.event.Event.TheVariants as event
 use Rattle.wq_words.specs.Head.{head_word}
 use Rattle.wq_words.specs.declared.head.Head.TheVariants.{Closed}
 use Rattle.wq_words.specs.Numbers.{number_count}
-use Rattle.wq_words.specs.History.{Holds, pending, closed, first, fresh, IsClosed}
+use Rattle.wq_words.specs.History.{Holds, pending, first, IsClosed}
 use Rattle.wq_words.specs.Listed.{listed}
 use Rattle.wq_words.specs.Legal.{IsLegal}
-use Rattle.wq_words.proofs.Legal.{legal_front, legal_next}
+use Rattle.wq_words.proofs.Legal.{legal_next}
 use Rattle.wq_words.proofs.Listed.{closed_from_open, fresh-open}
 use Rattle.wq_core.specs.declared.step.Private.{Private}
 use Rattle.wq_core.specs.declared.step.Step.{Step}
 use Rattle.wq_core.specs.declared.step.Step.TheVariants.{Hold, Look, Link, Push, Back, Check, Take, Close, Walk, Begin, End, Chain}
-use Rattle.wq_core.specs.Machine.{Machine, nothing_seen, private, seen_word, head, link, item_word, with_head, with_link, with_item, with_private, happened, unlinked, after}
+use Rattle.wq_core.specs.Machine.{Machine, nothing_seen, private, seen_word, head, item_word, with_head, with_link, with_item, with_private, happened, unlinked, after}
 use Rattle.wq_core.specs.Sound.{IsSound, head_of, head_of_list}
 use Rattle.wq_table.specs.declared.table.Part.{Part}
 use Rattle.wq_table.specs.declared.table.Stage.{Stage}
 use Rattle.wq_table.specs.declared.table.Stage.TheVariants.{Sends, Owns}
-use Rattle.wq_table.specs.Seen.{seat_of, own, Grows}
+use Rattle.wq_table.specs.Seen.{own, Grows}
 use Rattle.wq_table.specs.Law.{part, seat_at, Keeps, Fits}
-use Rattle.wq_table.specs.Plays.{word_found, stage_after, Makes}
+use Rattle.wq_table.specs.Plays.{stage_after, Makes}
 use Rattle.wq_table.specs.Chair.{IsSender, HasSeen, HasLinked}
 use Rattle.wq_table.proofs.Seen.{own_one}
 use Rattle.wq_live.specs.Answers.{IsPushed}

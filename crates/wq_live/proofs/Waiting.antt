@@ -1,11 +1,11 @@
 -- How many numbers wait: each waits once, and is below the count of numbers.
-use Rattle.std.proofs.Common.{◌≡◌, ◌≢◌, ℕ, ◌+◌, ◌<◌, ◌≤◌, Bool, true, false, cond, eqb, ◌==◌, ◌||◌, List, [], ◌∷◌, ◌++◌, length, Option, Some, None, sym, refl, ap, ◌∙◌, subst, arith, eq-eqb, ne_eqb, length-append}
-use Rattle.std.specs.Prelude.{filter_map, reverse, get_or}
+use Rattle.std.proofs.Common.{◌≡◌, ℕ, ◌+◌, ◌<◌, ◌≤◌, Bool, true, false, cond, eqb, ◌==◌, ◌||◌, List, [], ◌∷◌, ◌++◌, length, Option, Some, None, sym, refl, ap, ◌∙◌, subst, arith, eq-eqb, ne_eqb, length-append}
+use Rattle.std.specs.Prelude.{reverse}
 use Rattle.std.specs.List.{list_any, AllByRecursion, IsDistinct}
 use Rattle.std.proofs.lemmas.List.{append-nil}
 use Rattle.std.proofs.lemmas.List.Elements.{filter_map-append}
 use Rattle.std.proofs.lemmas.Map.Steps.{length-le_from_distinct_below}
-use Rattle.std.proofs.lemmas.Bool.{eqb-true, eqb-false}
+use Rattle.std.proofs.lemmas.Bool.{eqb-true}
 use mathlib.Core.List.{reverse_aux}
 use Rattle.wq_words.specs.declared.layout.Layout.{Layout}
 use Rattle.wq_words.specs.declared.event.Event.{Event}
@@ -17,14 +17,12 @@ use Rattle.wq_words.specs.Legal.{IsAllowed, IsLegal}
 use Rattle.wq_words.specs.Keeper.{Keeper, Home, Sender, Listed, Owner, keeper}
 use Rattle.wq_words.proofs.Legal.{legal_induction}
 use Rattle.wq_words.proofs.Keepers.{queue_bit, kept}
-use Rattle.wq_core.specs.Words.{link_place}
 use Rattle.wq_core.specs.Machine.{Machine}
 use Rattle.wq_core.specs.Sound.{IsSound, IsChain, word_at}
 use Rattle.wq_core.proofs.Chains.{times, times-cons, times-append, times-first}
 use Rattle.wq_table.specs.declared.table.Part.{Part}
-use Rattle.wq_table.specs.declared.table.Stage.{Stage}
-use Rattle.wq_table.specs.declared.table.Stage.TheVariants.{Sends, Owns}
-use Rattle.wq_table.specs.Law.{Keeps, Fits}
+use Rattle.wq_table.specs.declared.table.Stage.TheVariants.{Owns}
+use Rattle.wq_table.specs.Law.{Keeps}
 use Rattle.wq_live.specs.Sits.{Stands}
 
 any_counts : (q : ℕ) (xs : List ℕ) → list_any (eqb q) xs ≡ true → 1 ≤ times q xs

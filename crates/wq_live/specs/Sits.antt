@@ -1,7 +1,6 @@
 -- A sender's and an owner's fields, as a clause sees them.
 use Rattle.std.specs.Prelude.{◌≡◌, ℕ, ◌-◌, ◌≤◌, ◌==◌, if◌then◌else◌, List, [], ◌++◌, Some, None}
 use Rattle.std.specs.VecDeque.{deque_capacity}
-use Rattle.wq_words.specs.declared.event.Event.{Event}
 use Rattle.wq_words.specs.Numbers.{number_count}
 use Rattle.wq_words.specs.History.{closed, running}
 use Rattle.wq_words.specs.Legal.{IsLegal}

@@ -1,4 +1,4 @@
-use Rattle.std.proofs.Common.{◌≡◌, ◌≤◌, refl, arith}
+use Rattle.std.proofs.Common.{refl, arith}
 use Rattle.wq_live.proofs.Built.{executes_new}
 use Rattle.wq_live.proofs.making.build.Goals as goal
 

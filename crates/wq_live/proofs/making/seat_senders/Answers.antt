@@ -1,12 +1,11 @@
-use Rattle.std.proofs.Common.{◌≡◌, ◌<◌, ◌+◌, ℕ, Bool, true, false, List, [], ◌∷◌, ◌++◌, length, get_or, Result, Ok, Err, if◌then◌else◌, ap, sym, refl, ◌∙◌, arith, length-append}
+use Rattle.std.proofs.Common.{◌≡◌, Bool, true, false, List, [], ◌∷◌, ◌++◌, length, Result, Ok, Err, if◌then◌else◌, ap, sym, refl, ◌∙◌, arith, length-append}
 use Rattle.std.specs.Result.{is_ok, is_err}
 use Rattle.std.proofs.lemmas.Bool.{false≢true}
 use Rattle.std.proofs.lemmas.Iterator.Adapters.{YieldsList-from_vec}
 use Rattle.std.proofs.lemmas.Iterator.Consumers.{YieldsList-turn, YieldsList-end}
-use Rattle.atomic_table.specs.Seated.{TableId}
-use Rattle.wq_table.specs.Chair.{Standing, sender_chairs}
+use Rattle.wq_table.specs.Chair.{Standing}
 use Rattle.wq_live.specs.declared.sender.Sender.TheInside.{Inside}
-use Rattle.wq_live.specs.Known.{Known, new_senders}
+use Rattle.wq_live.specs.Known.{new_senders}
 use Rattle.wq_live.specs.Sits.{sender_view}
 use Rattle.wq_live.proofs.Built.{chair_at, sends_new, sender_view_new, new_senders-more, length-sender_chairs}
 use Rattle.wq_live.proofs.making.seat_senders.Goals as goal

@@ -1,9 +1,7 @@
-use Rattle.std.proofs.Common.{◌≡◌, ◌≤◌, ◌<◌, ◌+◌, ◌==◌, if◌then◌else◌, ℕ, Bool, List, [], ◌∷◌, ◌++◌, length, Some, None, MatchBool, eq-eqb, ne_eqb, ap, sym, subst, refl, ◌∙◌, arith, length-append}
+use Rattle.std.proofs.Common.{◌≡◌, ◌≤◌, if◌then◌else◌, ℕ, Bool, [], ◌∷◌, ◌++◌, None, MatchBool, eq-eqb, ne_eqb, ap, sym, subst, refl, ◌∙◌, arith, length-append}
 use Rattle.wq_words.specs.declared.event.Event.TheVariants.{Chain, ChainBusy}
 use Rattle.wq_words.specs.Numbers.{number_count}
-use Rattle.wq_words.specs.declared.layout.Layout.{Layout}
 use Rattle.wq_table.specs.declared.table.Stage.TheVariants.{Owns}
-use Rattle.wq_live.specs.Known.{Known}
 use Rattle.wq_live.proofs.Tells.{Tells}
 use Rattle.wq_live.proofs.Owned.{running_quiet, closed_quiet, counts_chained, counts_busy}
 use Rattle.wq_live.proofs.Waiting.{stands_rested}

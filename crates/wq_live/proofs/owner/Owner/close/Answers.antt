@@ -1,15 +1,12 @@
-use Rattle.std.proofs.Common.{◌≡◌, ◌≤◌, ◌+◌, ◌-◌, ◌<◌, [], ◌∷◌, ℕ, length, true, ap, sym, subst, refl, ◌∙◌, arith, List}
+use Rattle.std.proofs.Common.{◌-◌, [], ◌∷◌, true, sym, subst, refl, ◌∙◌, arith}
 use Rattle.std.specs.VecDeque.{deque_capacity}
-use Rattle.wq_words.specs.declared.layout.Layout.{Layout}
 use Rattle.wq_words.specs.declared.event.Event.TheVariants.{Close}
-use Rattle.wq_words.specs.Numbers.{number_count}
 use Rattle.wq_words.specs.History.{IsClosed}
 use Rattle.wq_live.specs.Known.{Known}
-use Rattle.wq_live.specs.Batch.{batch}
 use Rattle.wq_live.proofs.Tells.{Tells}
 use Rattle.wq_live.proofs.Owned.{running_quiet, closed_closed, counts_quiet}
 use Rattle.wq_live.proofs.Waiting.{stands_rested}
-use Rattle.wq_live.proofs.Executes.{makes_stands, owner_batch, owner_of, none_of, close_tells, close_stage, owner_grows, owner_sees}
+use Rattle.wq_live.proofs.Executes.{makes_stands, owner_of, close_tells, close_stage, owner_grows, owner_sees}
 use Rattle.wq_live.proofs.Taking.{followed, close_takes, layout_at, number_small}
 use Rattle.wq_live.proofs.owner.Owner.close.Goals as goal
 

@@ -1,7 +1,5 @@
-use Rattle.std.proofs.Common.{◌≡◌, ◌↔◌, ◌==◌, ℕ, Bool, true, false, length, ap, sym, subst, refl, ◌∙◌, arith, eq-eqb}
-use Rattle.std.specs.Option.{is_some}
+use Rattle.std.proofs.Common.{sym, refl, ◌∙◌, arith, eq-eqb}
 use Rattle.std.proofs.lemmas.Bool.{false≢true, eqb-true}
-use Rattle.wq_words.specs.Legal.{IsComplete}
 use Rattle.wq_live.proofs.Final.{final, owner_complete, owner_rested}
 use Rattle.wq_live.proofs.owner.Owner.done.Goals as goal
 use Rattle.wq_live.proofs.owner.Owner.done.Goals.{then-not-self-via-then-not-self, then-not-self-via-else-not-self+then-not-is_empty, then-not-self-via-else-not-self+else-not-is_empty+then-is_some}

@@ -1,11 +1,8 @@
-use Rattle.std.proofs.Common.{◌≡◌, ◌≤◌, ◌+◌, ◌-◌, ◌<◌, [], ◌∷◌, ℕ, length, true, ap, sym, subst, refl, ◌∙◌, arith, List}
+use Rattle.std.proofs.Common.{[], ◌∷◌, ℕ, length, ap, sym, subst, refl, ◌∙◌, arith, List}
 use Rattle.std.specs.VecDeque.{deque_capacity}
-use Rattle.wq_words.specs.declared.layout.Layout.{Layout}
 use Rattle.wq_words.specs.declared.event.Event.TheVariants.{Take}
-use Rattle.wq_words.specs.Numbers.{number_count}
 use Rattle.wq_words.specs.History.{IsClosed}
 use Rattle.wq_live.specs.Known.{Known}
-use Rattle.wq_live.specs.Batch.{batch}
 use Rattle.wq_live.proofs.Tells.{Tells}
 use Rattle.wq_live.proofs.Owned.{running_quiet, closed_quiet, counts_quiet}
 use Rattle.wq_live.proofs.Waiting.{stands_rested}

@@ -1,4 +1,4 @@
-use Rattle.std.proofs.Common.{refl, ◌≡◌, ◌==◌, Bool, [], ◌∷◌, subst, sym, ap, ◌∙◌, ℕ, eq-eqb, ne_eqb, MatchBool}
+use Rattle.std.proofs.Common.{refl, ◌≡◌, ◌==◌, Bool, [], ◌∷◌, subst, ap, ◌∙◌, ℕ, eq-eqb, ne_eqb, MatchBool}
 use Rattle.wq_words.specs.declared.event.Event.TheVariants.{Push, Back}
 use Rattle.wq_words.specs.declared.event.Why.TheVariants.{Closed}
 use Rattle.wq_live.specs.Known.{Known}

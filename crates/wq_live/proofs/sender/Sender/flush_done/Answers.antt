@@ -1,4 +1,4 @@
-use Rattle.std.proofs.Common.{◌≡◌, ◌+◌, refl, not, Bool, true, false, ap, sym, ◌∙◌, subst}
+use Rattle.std.proofs.Common.{◌≡◌, ◌+◌, refl, not, Bool, true, false, ap, sym, ◌∙◌}
 use Rattle.wq_words.specs.History.{pending}
 use Rattle.wq_live.specs.Known.{Known}
 use Rattle.wq_live.proofs.Flushed.{flushed}

@@ -1,4 +1,4 @@
-use Rattle.std.proofs.Common.{refl, ◌≡◌, [], ◌∷◌}
+use Rattle.std.proofs.Common.{refl, [], ◌∷◌}
 use Rattle.wq_words.specs.declared.event.Event.TheVariants.{Back}
 use Rattle.wq_words.specs.declared.event.Why.TheVariants.{Cancelled}
 use Rattle.wq_live.proofs.Counting.{counts_cancelled}

@@ -1,4 +1,4 @@
-use Rattle.std.proofs.Common.{refl, ◌==◌, ◌≡◌, [], ◌∷◌, subst, MatchBool, Bool, eq-eqb, ne_eqb}
+use Rattle.std.proofs.Common.{refl, [], ◌∷◌, subst, MatchBool, Bool, eq-eqb, ne_eqb}
 use Rattle.wq_words.specs.declared.event.Event.TheVariants.{Hold, Busy}
 use Rattle.wq_live.proofs.Counting.{counts_hold, counts_busy}
 use Rattle.wq_live.proofs.Tells.{Tells, hold_tells, sender_made}

@@ -1,10 +1,9 @@
-use Rattle.std.proofs.Common.{refl, ◌≡◌, ◌<◌, ◌==◌, not, Bool, true, false, [], ◌∷◌, ap, sym, subst, ◌∙◌, ℕ, eq-eqb, ne_eqb, List}
+use Rattle.std.proofs.Common.{refl, ◌≡◌, ◌<◌, not, Bool, true, false, [], ap, sym, subst, ◌∙◌}
 use Rattle.wq_words.specs.declared.layout.Layout.{Layout}
-use Rattle.wq_words.specs.declared.event.Event.{Event}
 use Rattle.wq_words.specs.Numbers.{number_count}
 use Rattle.wq_live.specs.Known.{Known}
 use Rattle.wq_live.proofs.Counting.{counts_none}
-use Rattle.wq_live.proofs.Tells.{Tells, Checks, check_tells, sender_made}
+use Rattle.wq_live.proofs.Tells.{Tells, check_tells, sender_made}
 use Rattle.wq_live.proofs.Sends.{grows_tells, sends_tells, sees_tells}
 use Rattle.wq_live.proofs.sender.Sender.is_number_pending.Goals as goal
 

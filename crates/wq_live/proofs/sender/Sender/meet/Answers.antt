@@ -1,4 +1,4 @@
-use Rattle.std.proofs.Common.{refl, ◌≡◌, ap, sym, ◌∙◌}
+use Rattle.std.proofs.Common.{refl, ap, sym, ◌∙◌}
 use Rattle.wq_table.specs.Chair.{Standing}
 use Rattle.wq_live.proofs.Sends.{meet_sends, meet_sees, meet_layout}
 use Rattle.wq_live.proofs.sender.Sender.meet.Goals as goal

@@ -1,4 +1,4 @@
-use Rattle.std.proofs.Common.{refl, ◌≡◌, ap, sym, ◌∙◌}
+use Rattle.std.proofs.Common.{refl, ap, sym, ◌∙◌}
 use Rattle.wq_table.specs.Chair.{Standing}
 use Rattle.wq_live.proofs.Sends.{meet_sends, meet_sees}
 use Rattle.wq_live.proofs.Meeting.{meet_executes, meet_owner_sees, meet_owner_layout}

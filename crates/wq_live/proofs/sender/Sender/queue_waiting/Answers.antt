@@ -1,6 +1,6 @@
-use Rattle.std.proofs.Common.{arith, ◌+◌, [], ◌∷◌}
+use Rattle.std.proofs.Common.{arith, [], ◌∷◌}
 use Rattle.wq_words.specs.declared.event.Event.TheVariants.{Hold}
-use Rattle.wq_live.proofs.Sends.{sees_on, sees_less, sees_hold, sees_held}
+use Rattle.wq_live.proofs.Sends.{sees_on, sees_hold, sees_held}
 use Rattle.wq_live.proofs.sender.Sender.queue_waiting.Goals as goal
 
 pub loop-init : goal.loop-init
