@@ -19,7 +19,8 @@ use std::marker::Model;
 use wq_table::Chair;
 use wq_words::Layout;
 
-/// The owner of a queue. It may be moved to another thread.
+/// The owner of a queue, who takes what was pushed and executes it, one number at a time, in the order of the pushes. It
+/// may be moved to another thread. No call takes a lock or memory, or waits.
 #[derive(Drop)]
 pub struct Owner {
     pub(crate) chair: Chair,
@@ -65,6 +66,7 @@ fn walk_all(chair: &mut Chair, batch: &mut VecDeque<u32>, walked: &mut VecDeque<
         word = chair.walk(number);
         walked.push_front_reserved(number);
     }
+    // Each number waits at most once, and there is room for all.
     let _ = batch.append(walked);
 }
 
@@ -88,7 +90,8 @@ impl Owner {
         self.batch.len() as u32
     }
 
-    /// Closes the queue, takes all that stands on the list, and answers how many that is.
+    /// Closes the queue, takes all that stands on the list, and answers how many that is. What a sender queues from now
+    /// on is answered `Closed`.
     pub fn close(&mut self) -> u32
         requires open { ¬ IsClosed self.old.seen }
         ensures seen { Sees (Close ∷ []) 0 self.old self.new }
@@ -108,7 +111,7 @@ impl Owner {
         self.batch.front().copied()
     }
 
-    /// Begins the execution of `next`.
+    /// Begins the execution of `next`, and clears its PENDING bit first, so that it can be queued again while it runs.
     pub fn begin(&mut self) -> u32
         requires waits { batch self.old.seen ≢ [] }
         requires idle { ¬ IsRunning self.old.seen }
@@ -123,7 +126,7 @@ impl Owner {
         number
     }
 
-    /// Ends the execution.
+    /// Ends the execution that runs.
     pub fn end(&mut self)
         requires runs { IsRunning self.old.seen }
         ensures seen { (k : ℕ) → running self.old.seen ≡ Some k → Sees (End k ∷ []) 0 self.old self.new }
@@ -134,7 +137,7 @@ impl Owner {
     }
 
     /// Queues an item behind all that waits, from the execution that runs after the close (chain queueing in
-    /// `drain_workqueue`).
+    /// `drain_workqueue`). `Pending` where its bit was set.
     pub fn chain(&mut self, item: u32) -> Answer
         requires item { item < self.old.layout.items }
         requires shut { IsClosed self.old.seen }

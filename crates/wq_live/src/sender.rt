@@ -18,7 +18,8 @@ use std::sync::Wait;
 use wq_table::Chair;
 use wq_words::Layout;
 
-/// A sender of a queue. It may be moved to another thread.
+/// A sender of a queue. It may be moved to another thread. No call takes a lock or memory, and only `queue` and `flush`
+/// may wait.
 #[derive(Drop)]
 pub struct Sender {
     pub(crate) chair: Chair,
@@ -174,7 +175,8 @@ impl Sender {
         unreachable!()
     }
 
-    /// Sets the item's PENDING bit. True where it was clear and is now held by this sender.
+    /// Sets the item's PENDING bit (the test-and-set of `queue_work`). True where it was clear: the item is then held by
+    /// this sender, until it is pushed or given back.
     pub fn hold(&mut self, item: u32) -> bool
         requires item { item < self.old.layout.items }
         ensures seen { MatchBool result (Sees (Hold self.old.number item ∷ []) 0 self.old self.new) (Sees (Busy self.old.number item ∷ []) 0 self.old self.new) }
@@ -183,7 +185,8 @@ impl Sender {
         self.hold_number(item)
     }
 
-    /// Pushes an item that this sender holds, with at most so many tries.
+    /// Pushes an item that this sender holds, with at most so many tries (`llist_add`, which tries for as long as it
+    /// takes).
     pub fn post(&mut self, item: u32, tries: u32) -> Posted
         requires item { item < self.old.layout.items }
         requires tries { 0 < tries }
@@ -193,7 +196,8 @@ impl Sender {
         self.push_tries(item, tries)
     }
 
-    /// Queues an item, with at most so many tries to push it (`queue_work`).
+    /// Queues an item, with at most so many tries to push it (`queue_work`). `Contended` is answered only after as many
+    /// events of other seats.
     pub fn queue_tries(&mut self, item: u32, tries: u32) -> Answer
         requires item { item < self.old.layout.items }
         requires tries { 0 < tries }
@@ -202,7 +206,7 @@ impl Sender {
         self.queue_number(item, tries)
     }
 
-    /// Queues an item, and tries until no other seat changes the list meanwhile.
+    /// Queues an item, and tries until no other seat changes the list meanwhile (`queue_work`). Never `Contended`.
     pub fn queue<R: Wait>(&mut self, rt: &R, item: u32) -> Answer
         requires item { item < self.old.layout.items }
         ensures answer { Answers item 0 result self.old self.new }
@@ -220,7 +224,7 @@ impl Sender {
         self.is_number_pending(item)
     }
 
-    /// Queues a barrier, with at most so many tries.
+    /// Queues a barrier, the first half of `flush_workqueue`, with at most so many tries. Barriers count from 0.
     pub fn flush_begin(&mut self, barrier: u32, tries: u32) -> Answer
         requires barrier { barrier < self.old.layout.barriers }
         requires tries { 0 < tries }
@@ -241,7 +245,8 @@ impl Sender {
         !self.is_number_pending(number)
     }
 
-    /// Queues a barrier, and waits until all that was accepted before it has ended (`flush_workqueue`).
+    /// Queues a barrier, and waits until all that was accepted before it has ended (`flush_workqueue`). Never
+    /// `Contended`; after another answer than `Queued` it has waited for nothing.
     pub fn flush<R: Wait>(&mut self, rt: &R, barrier: u32) -> Answer
         requires barrier { barrier < self.old.layout.barriers }
         ensures answer { Answers (self.old.layout.items + barrier) 0 result self.old self.new }
@@ -262,7 +267,7 @@ impl Sender {
         }
     }
 
-    /// Queues the stop item, with at most so many tries.
+    /// Queues the stop item, which has the last number of the queue, with at most so many tries.
     pub fn request_stop(&mut self, tries: u32) -> Answer
         requires tries { 0 < tries }
         ensures { Answers (stop_number self.old.layout) tries result self.old self.new }
@@ -271,7 +276,7 @@ impl Sender {
         self.queue_number(number, tries)
     }
 
-    /// Afterwards each has seen all that both had seen.
+    /// Afterwards each has seen all that has happened, and so all that both had seen.
     pub fn meet(&mut self, other: &mut Sender)
         requires { self.old.queue ≡ other.old.queue }
         ensures this { Sees [] 0 self.old self.new }
@@ -282,7 +287,7 @@ impl Sender {
         self.chair.meet(&mut other.chair);
     }
 
-    /// Afterwards each has seen all that both had seen.
+    /// Afterwards each has seen all that has happened, and so all that both had seen.
     pub fn meet_owner(&mut self, owner: &mut Owner)
         requires { self.old.queue ≡ owner.old.queue }
         ensures this { Sees [] 0 self.old self.new }
