@@ -1,0 +1,13 @@
+pub mod Growing
+pub mod Tells
+pub mod Counting
+pub mod Sends
+pub mod Flushed
+pub mod Waiting
+pub mod Owned
+pub mod Executes
+pub mod Taken
+pub mod Taking
+pub mod Meeting
+pub mod Final
+pub mod Built

@@ -1,0 +1,137 @@
+-- What a sender sees, step after step and call after call.
+use Rattle.std.proofs.Common.{◌≡◌, ℕ, ◌+◌, ◌≤◌, Bool, true, false, eqb, ◌==◌, ◌&&◌, List, [], ◌∷◌, ◌++◌, sym, refl, ap, ◌∙◌, subst, arith, append_assoc, eq-eqb, MatchBool, IsTrue}
+use Rattle.std.proofs.lemmas.Bool.{false≢true}
+use Rattle.wq_core.specs.Machine.{Machine}
+use Rattle.wq_core.specs.Sound.{IsSound}
+use Rattle.wq_table.specs.Law.{part, Fits}
+use Rattle.wq_table.specs.Chair.{Standing}
+use Rattle.std.proofs.lemmas.List.{append-nil}
+use Rattle.wq_words.specs.declared.layout.Layout.{Layout}
+use Rattle.wq_words.specs.declared.event.Event.{Event}
+use Rattle.wq_words.specs.declared.event.Event.TheVariants.{Hold, Busy, Push, Back}
+use Rattle.wq_words.specs.History.{Holds, starts_hold, stops_hold}
+use Rattle.wq_words.specs.Legal.{IsLegal}
+use Rattle.wq_words.proofs.Legal.{legal_front}
+use Rattle.wq_words.proofs.Keepers.{kept}
+use Rattle.wq_table.specs.Seen.{seat_of, Grows}
+use Rattle.wq_table.proofs.Seen.{own-append}
+use Rattle.wq_live.specs.Answers.{IsPushed}
+use Rattle.wq_live.proofs.Counting.{count_on, count_one, counts_none}
+use Rattle.wq_table.specs.Chair.{IsSender}
+use Rattle.wq_live.specs.declared.sender.Sender.TheInside.{Inside}
+use Rattle.wq_live.specs.Known.{Known, Sees}
+use Rattle.wq_live.specs.Counts.{sender_counts}
+use Rattle.wq_live.specs.Sits.{sender_view, Sends}
+use Rattle.wq_live.proofs.Tells.{TellsSo, meet_tells, meet_sender}
+use Rattle.wq_live.proofs.Growing.{grows_on, grows_held, grows_less}
+
+-- what a step of the chair tells its sender
+pub grows_tells : (s t : Inside) (xs : ℕ → List Event) (n : ℕ) → Sends s → TellsSo (xs s.chair.part.seat) n s.chair.part t.chair.part → Grows s.number (xs s.number) n s.chair.part.seen t.chair.part.seen
+grows_tells s t xs n sends told = subst (λ (c : ℕ). Grows c (xs c) n s.chair.part.seen t.chair.part.seen) sends.number_is told.grows
+
+pub sends_tells : (s t : Inside) (xs : List Event) (n : ℕ) → Sends s → t.layout ≡ s.layout → t.number ≡ s.number → TellsSo xs n s.chair.part t.chair.part → IsSender t.chair.part.stage → t.counts ≡ sender_counts s.number t.chair.part.seen → Sends t
+sends_tells s t xs n sends layout number told stage counts = record {
+  layout_is = told.layout_is ∙ (sends.layout_is ∙ sym layout);
+  number_is = told.seat_is ∙ (sends.number_is ∙ sym number);
+  stage = stage;
+  legal = subst (λ (l : Layout). IsLegal l t.chair.part.seen) (sends.layout_is ∙ sym layout) told.legal;
+  counts_are = counts ∙ ap (λ (c : ℕ). sender_counts c t.chair.part.seen) (sym number);
+}
+
+pub sees_tells : (s t : Inside) (now : Known) (xs : ℕ → List Event) (n : ℕ) → sender_view s ≡ now → Sends s → t.layout ≡ s.layout → t.number ≡ s.number → t.chair.queue ≡ s.chair.queue
+    → TellsSo (xs s.chair.part.seat) n s.chair.part t.chair.part → Sees (xs now.number) n now (sender_view t)
+sees_tells s t now xs n view sends layout number queue told = subst (λ (v : Known). Sees (xs v.number) n v (sender_view t)) view record {
+  same = record { queue_is = queue; layout_is = layout; number_is = number };
+  grows = grows_tells s t xs n sends told;
+  legal = subst (λ (l : Layout). IsLegal l t.chair.part.seen) (sends.layout_is ∙ sym layout) told.legal;
+}
+
+-- where nothing happened nothing is seen
+pub sees_none : (s : Inside) (now : Known) → sender_view s ≡ now → Sends s → Sees [] 0 now now
+sees_none s now view sends = subst (λ (v : Known). Sees [] 0 v v) view record {
+  same = record { queue_is = refl; layout_is = refl; number_is = refl };
+  grows = record { new = []; is = sym (append-nil s.chair.part.seen); mine = refl; theirs = omega arith };
+  legal = sends.legal;
+}
+
+-- what the sender of this view holds its chair's seat holds
+pub holds_view : (s : Inside) (now : Known) (k : ℕ) → sender_view s ≡ now → Sends s → Holds now.seen now.number k → Holds s.chair.part.seen s.chair.part.seat k
+holds_view s now k view sends have = subst (λ (c : ℕ). Holds s.chair.part.seen c k) (sym sends.number_is) (subst (λ (v : Known). Holds v.seen v.number k) (sym view) have)
+
+-- what was seen before, and then
+pub sees_on : (xs ys : ℕ → List Event) (n m k : ℕ) (s t u : Known) → k ≤ n + m → Sees (xs s.number) n s t → Sees (ys t.number) m t u → Sees (xs s.number ++ ys s.number) k s u
+sees_on xs ys n m k s t u sum a b = record {
+  same = record {
+    queue_is = b.same.queue_is ∙ a.same.queue_is;
+    layout_is = b.same.layout_is ∙ a.same.layout_is;
+    number_is = b.same.number_is ∙ a.same.number_is;
+  };
+  grows = grows_on s.number (xs s.number) (ys s.number) n m k s.seen t.seen u.seen sum a.grows (subst (λ (c : ℕ). Grows c (ys c) m t.seen u.seen) a.same.number_is b.grows);
+  legal = b.legal;
+}
+
+pub sees_less : (xs : List Event) (n k : ℕ) (s t : Known) → k ≤ n → Sees xs n s t → Sees xs k s t
+sees_less xs n k s t less a = record { same = a.same; grows = grows_less s.number xs n k s.seen t.seen less a.grows; legal = a.legal }
+
+pub sees_held : (k n : ℕ) (s t : Known) → Sees [] n s t → Holds s.seen s.number k → Holds t.seen t.number k
+sees_held k n s t sees have = subst (λ (c : ℕ). Holds t.seen c k) (sym sees.same.number_is) (grows_held s.number k n s.seen t.seen sees.grows have)
+
+and_false : (a : Bool) → (a && false) ≡ false
+and_false true = refl
+and_false false = refl
+
+starts_own : (s k : ℕ) (e : Event) → eqb (seat_of e) s ≡ false → starts_hold s k e ≡ false
+starts_own s k (Hold t j) is = ap (λ (b : Bool). (j == k) && b) is ∙ and_false (j == k)
+starts_own s k _ is = refl
+
+stops_own : (s k : ℕ) (e : Event) → eqb (seat_of e) s ≡ false → stops_hold s k e ≡ false
+stops_own s k (Push t j) is = ap (λ (b : Bool). (j == k) && b) is ∙ and_false (j == k)
+stops_own s k (Back t j why) is = ap (λ (b : Bool). (j == k) && b) is ∙ and_false (j == k)
+stops_own s k _ is = refl
+
+-- who began to hold holds
+pub sees_hold : (k n : ℕ) (s t : Known) → Sees (Hold s.number k ∷ []) n s t → Holds t.seen t.number k
+sees_hold k n s t sees =
+    let c = s.number in let xs = Hold c k ∷ [] in let g = sees.grows in
+    let starts = count_on (starts_hold c k) c (starts_own c k) xs n s.seen t.seen g in let stops = count_on (stops_hold c k) c (stops_own c k) xs n s.seen t.seen g in
+    let one = count_one (starts_hold c k) (Hold c k) true (ap (λ (b : Bool). b && (c == c)) (eq-eqb k k refl) ∙ eq-eqb c c refl) in let none = count_one (stops_hold c k) (Hold c k) false refl in
+    let before = (kept t.layout s.seen (legal_front t.layout s.seen g.new (subst (IsLegal t.layout) g.is sees.legal)) c k).0 in
+    subst (λ (d : ℕ). Holds t.seen d k) (sym sees.same.number_is) (omega (arith, starts, stops, one, none, before))
+
+-- a push stays the last of its sender's events where no other comes
+pub pushed_on : (s k n : ℕ) (b : Bool) (v w : List Event) → IsPushed s k b v → Grows s [] n v w → IsPushed s k b w
+pushed_on s k n b v w p g = record {
+  before = p.before;
+  after = p.after ++ g.new;
+  is = g.is ∙ (ap (λ (x : List Event). x ++ g.new) p.is ∙ append_assoc p.before (Push s k ∷ p.after) g.new);
+  last = own-append s p.after g.new ∙ (λ i. p.last i ++ g.mine i);
+  first_is = p.first_is;
+}
+
+pub hold_held : (k : ℕ) (b : Bool) (s t : Known) → MatchBool b (Sees (Hold s.number k ∷ []) 0 s t) (Sees (Busy s.number k ∷ []) 0 s t) → IsTrue b → Holds t.seen t.number k
+hold_held k true s t sees is = sees_hold k 0 s t sees
+hold_held k false s t sees is = absurd (false≢true is)
+
+-- a sender that another met
+pub meet_sends : (s t : Inside) (m : Machine) → IsSound m → Fits m s.chair.part → t.chair ≡ record { queue = s.chair.queue; part = part s.chair.part.seat s.chair.part.layout m.history s.chair.part.stage } → t.layout ≡ s.layout → t.number ≡ s.number → t.counts ≡ s.counts → Sends s → Sends t
+meet_sends s t m sound f is layout number counts sends =
+    let parts : t.chair.part ≡ part s.chair.part.seat s.chair.part.layout m.history s.chair.part.stage = ap (λ (x : Standing). x.part) is in let told = meet_tells m s.chair.part t.chair.part sound f parts in
+    sends_tells s t [] 0 sends layout number told (meet_sender m s.chair.part t.chair.part parts sends.stage)
+    (counts ∙ counts_none s.number 0 s.chair.part.seen t.chair.part.seen s.counts sends.counts_are (grows_tells s t (λ z. []) 0 sends told))
+
+pub meet_sees : (s t : Inside) (now : Known) (m : Machine) → IsSound m → Fits m s.chair.part → t.chair ≡ record { queue = s.chair.queue; part = part s.chair.part.seat s.chair.part.layout m.history s.chair.part.stage } → t.layout ≡ s.layout → t.number ≡ s.number → sender_view s ≡ now → Sends s → Sees [] 0 now (sender_view t)
+meet_sees s t now m sound f is layout number view sends =
+    sees_tells s t now (λ z. []) 0 view sends layout number (ap (λ (x : Standing). x.queue) is) (meet_tells m s.chair.part t.chair.part sound f (ap (λ (x : Standing). x.part) is))
+
+-- two that met are of queues of one layout
+pub meet_layout : (s t : Inside) (now now' : Known) (m : Machine) → Fits m s.chair.part → Fits m t.chair.part → sender_view s ≡ now → sender_view t ≡ now' → Sends s → Sends t → now'.layout ≡ now.layout
+meet_layout s t now now' m f g view view' sends sends' =
+    sym (ap (λ (v : Known). v.layout) view') ∙ (sym sends'.layout_is ∙ (g.layout_is ∙ (sym f.layout_is ∙ (sends.layout_is ∙ ap (λ (v : Known). v.layout) view))))
+
+-- what was queued stays queued where no own event comes
+pub queued_on : (k n : ℕ) (b : Bool) (s t u : Known) → Sees (Hold s.number k ∷ Push s.number k ∷ []) n s t × IsPushed s.number k b t.seen → Sees [] 0 t u
+    → Sees (Hold s.number k ∷ Push s.number k ∷ []) n s u × IsPushed s.number k b u.seen
+queued_on k n b s t u queued sees = (
+  sees_on (λ z. Hold z k ∷ Push z k ∷ []) (λ z. []) n 0 n s t u (omega arith) queued.0 sees,
+  pushed_on s.number k 0 b t.seen u.seen queued.1 (subst (λ (c : ℕ). Grows c [] 0 t.seen u.seen) queued.0.same.number_is sees.grows),
+)

@@ -1,0 +1,7 @@
+use Rattle.std.proofs.Common.{subst, ◌≡◌}
+use Rattle.wq_live.specs.Known.{Known}
+use Rattle.wq_live.specs.Counts.{sender_counts}
+use Rattle.wq_live.proofs.sender.Sender.counts.Goals as goal
+
+pub returns : goal.returns
+returns c = subst (λ (v : Known). c.self.inside.counts ≡ sender_counts v.number v.seen) c.self.view_is c.self.invariant.counts_are

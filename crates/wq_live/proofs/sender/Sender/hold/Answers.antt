@@ -1,0 +1,5 @@
+use Rattle.wq_live.proofs.Sends.{hold_held}
+use Rattle.wq_live.proofs.sender.Sender.hold.Goals as goal
+
+pub returns-clause-held : goal.returns-clause-held
+returns-clause-held c = hold_held c.args.item c.hold_number.result c.args.self.now c.hold_number.new.self c.hold_number.ensures.seen

@@ -1,0 +1,53 @@
+-- What the answers of a queue mean: the caller's own events, in order.
+use Rattle.std.specs.Prelude.{◌≡◌, ℕ, false, Bool, List, [], ◌∷◌, ◌++◌}
+use mathlib.Core.List.{IsPrefix}
+use Rattle.wq_words.specs.declared.layout.Layout.{Layout}
+use Rattle.wq_words.specs.declared.event.Event.{Event}
+use Rattle.wq_words.specs.declared.event.Event.TheVariants.{Hold, Busy, Push, Back, Chain, ChainBusy}
+use Rattle.wq_words.specs.declared.event.Why.TheVariants as why
+use Rattle.wq_words.specs.History.{accepted, begun, ended, first}
+use Rattle.wq_words.specs.Legal.{IsLegal}
+use Rattle.wq_table.specs.Seen.{own}
+use Rattle.wq_live.specs.declared.answer.Answer.{Answer}
+use Rattle.wq_live.specs.declared.answer.Answer.TheVariants as answer
+use Rattle.wq_live.specs.declared.answer.Posted.{Posted}
+use Rattle.wq_live.specs.declared.answer.Posted.TheVariants as posted
+use Rattle.wq_live.specs.Known.{Known, Sees}
+
+-- the last event of sender s in h is the push of k, and whether it was the first on the list is as said
+pub record IsPushed (s k : ℕ) (is_first : Bool) (h : List Event) : Type 0 where
+  pub before : List Event
+  pub after : List Event
+  pub is : h ≡ before ++ Push s k ∷ after
+  pub last : own s after ≡ []
+  pub first_is : is_first ≡ first before
+
+-- a queueing of the number k
+abbrev pub Answers : ℕ → ℕ → Answer → Known → Known → Type 0
+Answers k tries (answer.Queued is_first) old new = Sees (Hold old.number k ∷ Push old.number k ∷ []) 0 old new × IsPushed old.number k is_first new.seen
+Answers k tries answer.Pending old new = Sees (Busy old.number k ∷ []) 0 old new
+Answers k tries answer.Closed old new = Sees (Hold old.number k ∷ Back old.number k why.Closed ∷ []) 0 old new
+Answers k tries answer.Contended old new = Sees (Hold old.number k ∷ Back old.number k why.Contended ∷ []) tries old new
+
+-- a push of the held number k
+abbrev pub Posts : ℕ → ℕ → Posted → Known → Known → Type 0
+Posts k tries (posted.Queued is_first) old new = Sees (Push old.number k ∷ []) 0 old new × IsPushed old.number k is_first new.seen
+Posts k tries posted.Closed old new = Sees (Back old.number k why.Closed ∷ []) 0 old new
+Posts k tries posted.Contended old new = Sees [] tries old new
+
+-- a chaining of the item k
+abbrev pub Chains : ℕ → Answer → Known → Known → Type 0
+Chains k (answer.Queued is_first) old new = (is_first ≡ false) × Sees (Chain k ∷ []) 0 old new
+Chains k answer.Pending old new = Sees (ChainBusy k ∷ []) 0 old new
+Chains k answer.Closed old new = ⊥
+Chains k answer.Contended old new = ⊥
+
+-- all that was accepted before any push of k has ended
+abbrev pub HasFlushed : ℕ → List Event → Type 0
+HasFlushed k h = (s : ℕ) (before after : List Event) → h ≡ before ++ Push s k ∷ after → IsPrefix (accepted before) (ended h)
+
+-- whatever comes after, nothing more is accepted, begins or ends
+abbrev pub IsFinal : Layout → List Event → Type 0
+IsFinal layout h =
+    (later : List Event) → IsLegal layout (h ++ later)
+    → (accepted (h ++ later) ≡ accepted h) × (begun (h ++ later) ≡ begun h) × (ended (h ++ later) ≡ ended h)

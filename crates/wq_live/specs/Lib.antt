@@ -1,0 +1,5 @@
+pub mod Known
+pub mod Batch
+pub mod Counts
+pub mod Answers
+pub mod Sits

@@ -1,0 +1,80 @@
+//! How a queue is made.
+ghost use Rattle.std.specs.Prelude.{◌≡◌, IfOk};
+ghost use Rattle.atomic_table.specs.Seated.{TableId};
+ghost use Rattle.wq_table.specs.Chair.{sender_chairs};
+ghost use Rattle.wq_live.specs.Known.{new_owner, new_senders};
+
+use crate::counts::{OwnerCounts, SenderCounts};
+use crate::owner::Owner;
+use crate::sender::Sender;
+use std::alloc::{AllocError, Global};
+use std::collections::VecDeque;
+use thiserror::Error;
+use wq_table::{Chair, chairs};
+use wq_words::Layout;
+
+/// Why a queue was not made.
+#[derive(Clone, Copy, Debug, PartialEq, Eq, Error)]
+pub enum BuildError {
+    /// No memory could be had.
+    #[error("memory")]
+    Memory,
+}
+
+impl From<AllocError> for BuildError {
+    fn from(_error: AllocError) -> BuildError {
+        BuildError::Memory
+    }
+}
+
+// A sender in each seat, numbered from 0.
+fn seat_senders(alloc: Global, layout: Layout, seats: Vec<Chair>) -> Result<Vec<Sender>, BuildError>
+    requires seats { (queue : TableId) × (seats.items ≡ sender_chairs queue layout layout.senders) }
+    ensures { (queue : TableId) → seats.items ≡ sender_chairs queue layout layout.senders → IfOk result (λ senders. senders.items ≡ new_senders queue layout layout.senders) }
+{
+    let mut senders = Vec::with_capacity(alloc, layout.senders as usize)?;
+    let mut number = 0u32;
+    for chair in seats {
+        let sender = Sender {
+            chair,
+            layout,
+            number,
+            counts: SenderCounts {
+                queued: 0,
+                pending: 0,
+                closed: 0,
+                contended: 0,
+            },
+        };
+        if senders.push(sender).is_err() {
+            return Err(BuildError::Memory);
+        }
+        number += 1;
+    }
+    Ok(senders)
+}
+
+/// The owner and the senders of a new queue, each sender at its number. All memory that the queue needs is taken here.
+pub fn build(alloc: Global, layout: Layout) -> Result<(Owner, Vec<Sender>), BuildError>
+    ensures { IfOk result (λ r. (r.0 ≡ new_owner r.0.queue layout) × (r.1.items ≡ new_senders r.0.queue layout layout.senders)) }
+{
+    let count = layout.items as usize + layout.barriers as usize + 1;
+    let batch = VecDeque::with_capacity(alloc, count)?;
+    let walked = VecDeque::with_capacity(alloc, count)?;
+    let (chair, seats) = chairs(alloc, layout)?;
+    let senders = seat_senders(alloc, layout, seats)?;
+    let owner = Owner {
+        chair,
+        layout,
+        batch,
+        walked,
+        running: None,
+        closed: false,
+        counts: OwnerCounts {
+            chained: 0,
+            chain_busy: 0,
+            ended: 0,
+        },
+    };
+    Ok((owner, senders))
+}

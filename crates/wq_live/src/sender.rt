@@ -1,0 +1,300 @@
+//! A sender of a queue.
+ghost use Rattle.std.specs.Prelude.{◌≡◌, ◌≢◌, ℕ, ◌+◌, ◌<◌, ◌≤◌, not, [], ◌∷◌, ◌++◌, IsTrue, MatchBool, List};
+ghost use Rattle.wq_words.specs.declared.event.Event.{Event};
+ghost use Rattle.wq_words.specs.declared.event.Event.TheVariants.{Hold, Busy, Push, Back};
+ghost use Rattle.wq_words.specs.declared.event.Why.TheVariants as why;
+ghost use Rattle.wq_words.specs.History.{pending, Holds};
+ghost use Rattle.wq_words.specs.Numbers.{stop_number, number_count};
+ghost use Rattle.wq_live.specs.declared.answer.Answer.TheVariants.{Queued, Contended};
+ghost use Rattle.wq_live.specs.Known.{Sees};
+ghost use Rattle.wq_live.specs.Answers.{Answers, Posts, HasFlushed};
+ghost use Rattle.wq_live.specs.Counts.{sender_counts};
+
+use crate::answer::{Answer, Posted};
+use crate::counts::SenderCounts;
+use crate::owner::Owner;
+use std::marker::Model;
+use std::sync::Wait;
+use wq_table::Chair;
+use wq_words::Layout;
+
+/// A sender of a queue. It may be moved to another thread. No call takes a lock or memory, and only `queue` and `flush`
+/// may wait.
+#[derive(Drop)]
+pub struct Sender {
+    pub(crate) chair: Chair,
+    pub(crate) layout: Layout,
+    pub(crate) number: u32,
+    pub(crate) counts: SenderCounts,
+}
+
+impl Model for Sender {
+    ghost use Rattle.wq_live.specs.Known.{Known};
+
+    ghost Value = { Known };
+
+    ghost use Rattle.wq_live.specs.Sits.{sender_view, Sends};
+
+    ghost view = { sender_view };
+
+    ghost invariant = { Sends };
+}
+
+impl Sender {
+    /// Its number, which counts from 0 in the order of `build`.
+    pub fn number(&self) -> u32
+        ensures { result ≡ self.now.number }
+    {
+        self.number
+    }
+
+    /// The size of its queue.
+    pub fn layout(&self) -> Layout
+        ensures { result ≡ self.now.layout }
+    {
+        self.layout
+    }
+
+    /// What it has counted of its own events.
+    pub fn counts(&self) -> SenderCounts
+        ensures { result ≡ sender_counts self.now.number self.now.seen }
+    {
+        self.counts
+    }
+
+    // Sets the PENDING bit of a number.
+    fn hold_number(&mut self, number: u32) -> bool
+        requires number { number < number_count self.old.layout }
+        ensures seen { MatchBool result (Sees (Hold self.old.number number ∷ []) 0 self.old self.new) (Sees (Busy self.old.number number ∷ []) 0 self.old self.new) }
+    {
+        if self.chair.hold(number) == 0 {
+            return true;
+        }
+        self.counts.pending = self.counts.pending.saturating_add(1);
+        false
+    }
+
+    // One try to push a number that this sender holds: look, link, push.
+    fn attempt(&mut self, number: u32) -> Posted
+        requires number { number < number_count self.old.layout }
+        requires held { Holds self.old.seen self.old.number number }
+        ensures { Posts number 1 result self.old self.new }
+    {
+        let word = self.chair.look();
+        if word == u64::MAX {
+            self.chair.back_closed(number);
+            self.counts.closed = self.counts.closed.saturating_add(1);
+            return Posted::Closed;
+        }
+        self.chair.link(number, word);
+        if self.chair.push(number, word) == word {
+            self.counts.queued = self.counts.queued.saturating_add(1);
+            return Posted::Queued { first: word == 0 };
+        }
+        Posted::Contended
+    }
+
+    // Gives up a number that this sender holds, after as many tries as were asked for.
+    fn give_up(&mut self, number: u32)
+        requires number { number < number_count self.old.layout }
+        requires held { Holds self.old.seen self.old.number number }
+        ensures { Sees (Back self.old.number number why.Contended ∷ []) 0 self.old self.new }
+    {
+        self.chair.back_contended(number);
+        self.counts.contended = self.counts.contended.saturating_add(1);
+    }
+
+    // The PENDING bit of a number.
+    fn is_number_pending(&mut self, number: u32) -> bool
+        requires number { number < number_count self.old.layout }
+        ensures seen { Sees [] 0 self.old self.new }
+        ensures pending { result ≡ pending self.new.seen number }
+    {
+        self.chair.check(number) != 0
+    }
+
+    /// Clears the PENDING bit of an item that this sender holds.
+    pub fn give_back(&mut self, item: u32)
+        requires item { item < self.old.layout.items }
+        requires held { Holds self.old.seen self.old.number item }
+        ensures { Sees (Back self.old.number item why.Cancelled ∷ []) 0 self.old self.new }
+    {
+        self.chair.back_cancelled(item);
+    }
+
+    // Tries to push a number that this sender holds.
+    fn push_tries(&mut self, number: u32, tries: u32) -> Posted
+        requires number { number < number_count self.old.layout }
+        requires held { Holds self.old.seen self.old.number number }
+        ensures { Posts number tries result self.old self.new }
+    {
+        let _ = &self.number;
+        for _ in 0..tries {
+            match self.attempt(number) {
+                Posted::Contended => {}
+                posted => return posted,
+            }
+        }
+        Posted::Contended
+    }
+
+    // Queues a number, with at most so many tries.
+    fn queue_number(&mut self, number: u32, tries: u32) -> Answer
+        requires number { number < number_count self.old.layout }
+        ensures { Answers number tries result self.old self.new }
+    {
+        if !self.hold_number(number) {
+            return Answer::Pending;
+        }
+        match self.push_tries(number, tries) {
+            Posted::Queued { first } => Answer::Queued { first },
+            Posted::Closed => Answer::Closed,
+            Posted::Contended => {
+                self.give_up(number);
+                Answer::Contended
+            }
+        }
+    }
+
+    // Queues a number, and tries until no other seat changes the list meanwhile. The number is held between the tries.
+    fn queue_waiting<R: Wait>(&mut self, rt: &R, number: u32) -> Answer
+        requires number { number < number_count self.old.layout }
+        ensures answer { Answers number 0 result self.old self.new }
+        ensures settled { result ≢ Contended }
+    {
+        if !self.hold_number(number) {
+            return Answer::Pending;
+        }
+        for _ in rt.forever() {
+            match self.attempt(number) {
+                Posted::Queued { first } => return Answer::Queued { first },
+                Posted::Closed => return Answer::Closed,
+                Posted::Contended => {}
+            }
+        }
+        unreachable!()
+    }
+
+    /// Sets the item's PENDING bit (the test-and-set of `queue_work`). True where it was clear: the item is then held by
+    /// this sender, until it is pushed or given back.
+    pub fn hold(&mut self, item: u32) -> bool
+        requires item { item < self.old.layout.items }
+        ensures seen { MatchBool result (Sees (Hold self.old.number item ∷ []) 0 self.old self.new) (Sees (Busy self.old.number item ∷ []) 0 self.old self.new) }
+        ensures held { IsTrue result → Holds self.new.seen self.new.number item }
+    {
+        self.hold_number(item)
+    }
+
+    /// Pushes an item that this sender holds, with at most so many tries (`llist_add`, which tries for as long as it
+    /// takes).
+    pub fn post(&mut self, item: u32, tries: u32) -> Posted
+        requires item { item < self.old.layout.items }
+        requires tries { 0 < tries }
+        requires held { Holds self.old.seen self.old.number item }
+        ensures { Posts item tries result self.old self.new }
+    {
+        self.push_tries(item, tries)
+    }
+
+    /// Queues an item, with at most so many tries to push it (`queue_work`). `Contended` is answered only after as many
+    /// events of other seats.
+    pub fn queue_tries(&mut self, item: u32, tries: u32) -> Answer
+        requires item { item < self.old.layout.items }
+        requires tries { 0 < tries }
+        ensures { Answers item tries result self.old self.new }
+    {
+        self.queue_number(item, tries)
+    }
+
+    /// Queues an item, and tries until no other seat changes the list meanwhile (`queue_work`). Never `Contended`.
+    pub fn queue<R: Wait>(&mut self, rt: &R, item: u32) -> Answer
+        requires item { item < self.old.layout.items }
+        ensures answer { Answers item 0 result self.old self.new }
+        ensures settled { result ≢ Contended }
+    {
+        self.queue_waiting(rt, item)
+    }
+
+    /// The item's PENDING bit (`work_pending`).
+    pub fn is_pending(&mut self, item: u32) -> bool
+        requires item { item < self.old.layout.items }
+        ensures seen { Sees [] 0 self.old self.new }
+        ensures pending { result ≡ pending self.new.seen item }
+    {
+        self.is_number_pending(item)
+    }
+
+    /// Queues a barrier, the first half of `flush_workqueue`, with at most so many tries. Barriers count from 0.
+    pub fn flush_begin(&mut self, barrier: u32, tries: u32) -> Answer
+        requires barrier { barrier < self.old.layout.barriers }
+        requires tries { 0 < tries }
+        ensures { Answers (self.old.layout.items + barrier) tries result self.old self.new }
+    {
+        let number = self.layout.items + barrier;
+        self.queue_number(number, tries)
+    }
+
+    /// Whether the barrier's PENDING bit is clear. All that was accepted before a push of the barrier has then ended.
+    pub fn flush_done(&mut self, barrier: u32) -> bool
+        requires barrier { barrier < self.old.layout.barriers }
+        ensures seen { Sees [] 0 self.old self.new }
+        ensures clear { result ≡ not (pending self.new.seen (self.old.layout.items + barrier)) }
+        ensures flushed { IsTrue result → HasFlushed (self.old.layout.items + barrier) self.new.seen }
+    {
+        let number = self.layout.items + barrier;
+        !self.is_number_pending(number)
+    }
+
+    /// Queues a barrier, and waits until all that was accepted before it has ended (`flush_workqueue`). Never
+    /// `Contended`; after another answer than `Queued` it has waited for nothing.
+    pub fn flush<R: Wait>(&mut self, rt: &R, barrier: u32) -> Answer
+        requires barrier { barrier < self.old.layout.barriers }
+        ensures answer { Answers (self.old.layout.items + barrier) 0 result self.old self.new }
+        ensures settled { result ≢ Contended }
+        ensures flushed { (first : _) → result ≡ Queued first → HasFlushed (self.old.layout.items + barrier) self.new.seen }
+    {
+        let number = self.layout.items + barrier;
+        match self.queue_waiting(rt, number) {
+            Answer::Queued { first } => {
+                for _ in rt.forever() {
+                    if self.flush_done(barrier) {
+                        return Answer::Queued { first };
+                    }
+                }
+                unreachable!()
+            }
+            answer => answer,
+        }
+    }
+
+    /// Queues the stop item, which has the last number of the queue, with at most so many tries.
+    pub fn request_stop(&mut self, tries: u32) -> Answer
+        requires tries { 0 < tries }
+        ensures { Answers (stop_number self.old.layout) tries result self.old self.new }
+    {
+        let number = self.layout.items + self.layout.barriers;
+        self.queue_number(number, tries)
+    }
+
+    /// Afterwards each has seen all that has happened, and so all that both had seen.
+    pub fn meet(&mut self, other: &mut Sender)
+        requires { self.old.queue ≡ other.old.queue }
+        ensures this { Sees [] 0 self.old self.new }
+        ensures that { Sees [] 0 other.old other.new }
+        ensures both { other.new.seen ≡ self.new.seen }
+        ensures layout { other.old.layout ≡ self.old.layout }
+    {
+        self.chair.meet(&mut other.chair);
+    }
+
+    /// Afterwards each has seen all that has happened, and so all that both had seen.
+    pub fn meet_owner(&mut self, owner: &mut Owner)
+        requires { self.old.queue ≡ owner.old.queue }
+        ensures this { Sees [] 0 self.old self.new }
+        ensures that { Sees [] 0 owner.old owner.new }
+        ensures both { owner.new.seen ≡ self.new.seen }
+        ensures layout { owner.old.layout ≡ self.old.layout }
+    {
+        self.chair.meet(&mut owner.chair);
+    }
+}
