@@ -1,13 +1,11 @@
 -- The calls of the delay table, over a history that a queue stands for.
-use Rattle.std.proofs.Common.{◌≡◌, ℕ, ◌+◌, ◌<◌, ◌==◌, Bool, true, false, List, [], ◌∷◌, ◌++◌, map, length, refl, sym, ap, ◌∙◌, append_assoc, arith, count_by, if◌then◌else◌, subst, Option, Some, None, is_some, position, filter, not}
+use Rattle.std.proofs.Common.{◌≡◌, ℕ, ◌+◌, ◌==◌, Bool, true, false, List, [], ◌∷◌, ◌++◌, map, refl, sym, ap, ◌∙◌, append_assoc, arith, count_by, if◌then◌else◌, subst}
 use Rattle.std.proofs.lemmas.List.{append-nil, map-append}
 use Rattle.wq_words.specs.declared.event.Event.{Event}
 use Rattle.wq_words.specs.declared.event.Event.TheVariants.{Hold, Push, Back}
 use Rattle.wq_words.specs.declared.event.Why.TheVariants as why
 use Rattle.wq_words.specs.History.{pending, closed, fresh, is_close}
-use Rattle.wq_script.specs.declared.answer.Armed.{Armed}
 use Rattle.wq_script.specs.declared.answer.Armed.TheVariants as arming
-use Rattle.wq_script.specs.declared.answer.Modified.{Modified}
 use Rattle.wq_script.specs.declared.answer.Modified.TheVariants as modified
 use Rattle.wq_script.specs.Standing.{State, Stands, times}
 use Rattle.wq_script.specs.Queueing.{queue_events, queue_answer}

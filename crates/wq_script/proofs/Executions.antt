@@ -1,5 +1,5 @@
 -- Executions, over a history that a queue stands for.
-use Rattle.std.proofs.Common.{◌≡◌, ℕ, zero, suc, ◌+◌, ◌-◌, ◌≤◌, ◌<◌, ◌==◌, ◌&&◌, Bool, true, false, not, nat_le, List, [], ◌∷◌, ◌++◌, length, drop, fold, refl, sym, ap, ◌∙◌, append_assoc, arith, Option, Some, None, option_to_list, subst, if◌then◌else◌, All, slice_index_or, inl, inr}
+use Rattle.std.proofs.Common.{◌≡◌, ℕ, suc, ◌<◌, ◌&&◌, Bool, true, false, not, nat_le, List, [], ◌∷◌, ◌++◌, length, drop, fold, refl, sym, ap, ◌∙◌, append_assoc, arith, Option, Some, None, option_to_list, subst, if◌then◌else◌, All, inl, inr}
 use Rattle.std.proofs.lemmas.List.{append-nil}
 use Rattle.std.proofs.lemmas.Bool.{cases_lt}
 use Rattle.std.proofs.Math.Seq.{drop-append_seam}
@@ -9,7 +9,7 @@ use Rattle.wq_words.specs.declared.event.Event.{Event}
 use Rattle.wq_words.specs.declared.event.Event.TheVariants.{Hold, Busy, Push, Back, Take, Begin, End, Chain, ChainBusy}
 use Rattle.wq_words.specs.declared.event.Why.TheVariants as why
 use Rattle.wq_words.specs.History.{begun, ended, closed, pending, taken, next}
-use Rattle.wq_script.specs.Standing.{State, Stands, Begins}
+use Rattle.wq_script.specs.Standing.{State, Stands}
 use Rattle.wq_script.specs.Execution.{no_follow, follow_of, take_events, follow_events, after_follow, after_run, after_execution, after_executions, go_on, ended_since}
 use Rattle.wq_script.specs.Follows.{AllFit}
 use Rattle.wq_script.proofs.Growing.{ended-append}

@@ -13,3 +13,4 @@ pub mod LineWords
 pub mod Texts
 pub mod Sound
 pub mod FirstFault
+pub mod InOrder

@@ -1,5 +1,5 @@
 -- What a command means, by the tests on which it rests.
-use Rattle.std.proofs.Common.{◌≡◌, ℕ, Bool, true, false, List, ◌++◌, nat_lt, if◌then◌else◌, Option, Some, None, Result, Ok, Err, OnOk, refl, sym, ap, ◌∙◌, subst, codes}
+use Rattle.std.proofs.Common.{◌≡◌, ℕ, true, false, List, ◌++◌, nat_lt, if◌then◌else◌, None, Result, Ok, Err, OnOk, sym, ap, ◌∙◌, subst, codes}
 use Rattle.wq_words.specs.declared.layout.Layout.{Layout}
 use Rattle.wq_words.specs.History.{closed}
 use Rattle.wq_script.specs.declared.command.Command.{Command}

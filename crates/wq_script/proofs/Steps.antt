@@ -1,5 +1,5 @@
 -- The steps of a queue, over a history that it stands for.
-use Rattle.std.proofs.Common.{◌≡◌, ℕ, suc, ◌+◌, ◌<◌, ◌≤◌, ◌==◌, Bool, true, false, List, [], ◌∷◌, ◌++◌, length, refl, sym, ap, ◌∙◌, append_assoc, arith, count_by, if◌then◌else◌, nat_eq, nat_le, nat_lt, not, ◌&&◌, length-append, Option, Some, None, subst}
+use Rattle.std.proofs.Common.{◌≡◌, ℕ, ◌+◌, ◌<◌, ◌≤◌, ◌==◌, Bool, true, false, List, [], ◌∷◌, ◌++◌, length, refl, sym, ap, ◌∙◌, append_assoc, arith, count_by, if◌then◌else◌, nat_eq, nat_le, nat_lt, ◌&&◌, length-append, Some, None}
 use Rattle.std.specs.List.{slice_get, before_last}
 use Rattle.std.proofs.lemmas.List.{append-nil}
 use Rattle.std.proofs.lemmas.Bool.{lt-ltb, le-ltb, le-leb, lt-leb}
@@ -9,7 +9,7 @@ use Rattle.wq_words.specs.declared.event.Why.TheVariants as why
 use Rattle.wq_words.specs.History.{accepted, begun, ended, next, sets_pending, clears_pending, pending, is_close, is_push, is_take, closed, fresh}
 use Rattle.wq_script.specs.declared.answer.Answer.TheVariants as answer
 use Rattle.wq_script.specs.Report.{is_chain, is_busy, is_refusal}
-use Rattle.wq_script.specs.Standing.{State, Stands, Begins, times}
+use Rattle.wq_script.specs.Standing.{State, Stands, times}
 use Rattle.wq_script.specs.Queueing.{queue_events, queue_answer, chain_events, close_events}
 use Rattle.wq_script.specs.Execution.{take_events}
 use Rattle.wq_script.proofs.Growing.{count-append, accepted-append, begun-append, ended-append, accepted-count, pushes-split, fresh-more, fresh-two, fresh-take}

@@ -1,5 +1,5 @@
 -- Places and entries of a delay table.
-use Rattle.std.proofs.Common.{◌≡◌, ℕ, zero, suc, ◌+◌, ◌≤◌, ◌<◌, Bool, true, false, not, cond, nat_lt, Option, Some, None, List, [], ◌∷◌, ◌++◌, length, take, drop, map, filter, insert, remove, slice_index_or, refl, sym, ap, ◌∙◌, append_assoc, arith, position, unwrap_or, subst, inl, inr}
+use Rattle.std.proofs.Common.{◌≡◌, ℕ, zero, suc, ◌+◌, ◌≤◌, ◌<◌, Bool, true, false, not, cond, Some, None, List, [], ◌∷◌, ◌++◌, length, filter, insert, remove, slice_index_or, refl, sym, ap, ◌∙◌, append_assoc, arith, position, unwrap_or, subst, inl, inr}
 use Rattle.std.specs.List.{position_or_len}
 use Rattle.std.proofs.lemmas.List.Sums.{prefix_len-le-length, prefix_len_stops}
 use Rattle.std.proofs.lemmas.Bool.{cases_lt, lt-ltb, le-ltb, eqb-true}
@@ -46,10 +46,10 @@ position_passes p xs d lt = not-false _ (prefix_len_stops (λ x. not (p x)) xs d
     not-false false e = sym e
 
 -- one place further on, where the first fails
-further : {X : Type 0} (p : X → Bool) (x : X) (xs : List X) → p x ≡ false → position_or_len p (x ∷ xs) ≡ suc (position_or_len p xs)
+pub further : {X : Type 0} (p : X → Bool) (x : X) (xs : List X) → p x ≡ false → position_or_len p (x ∷ xs) ≡ suc (position_or_len p xs)
 further p x xs e = ap (λ b. cond (not b) (1 + position_or_len p xs) 0) e ∙ (omega arith)
 
-here : {X : Type 0} (p : X → Bool) (x : X) (xs : List X) → p x ≡ true → position_or_len p (x ∷ xs) ≡ 0
+pub here : {X : Type 0} (p : X → Bool) (x : X) (xs : List X) → p x ≡ true → position_or_len p (x ∷ xs) ≡ 0
 here p x xs e = ap (λ b. cond (not b) (1 + position_or_len p xs) 0) e
 
 kept : {X : Type 0} (p : X → Bool) (x : X) (xs : List X) → p x ≡ true → filter p (x ∷ xs) ≡ x ∷ filter p xs

@@ -1,5 +1,5 @@
 -- What the commands of a script mean: one case a command.
-use Rattle.std.specs.Prelude.{ℕ, ◌+◌, ◌-◌, Bool, true, false, ◌&&◌, not, ◌==◌, List, [], ◌∷◌, ◌++◌, length, Option, Some, None, replicate, slice_set, nat_lt, if◌then◌else◌, codes}
+use Rattle.std.specs.Prelude.{ℕ, ◌+◌, ◌-◌, List, [], ◌∷◌, ◌++◌, length, Option, Some, None, replicate, slice_set, nat_lt, if◌then◌else◌, codes}
 use Rattle.arrayvec.specs.ArrayVec.{ArrayVec}
 use Rattle.wq_words.specs.declared.layout.Layout.{Layout}
 use Rattle.wq_words.specs.declared.event.Event.{Event}

@@ -1,6 +1,5 @@
 -- What an engine and a state of a script's meaning have to do with each other.
 use Rattle.std.specs.Prelude.{◌≡◌, ℕ, ◌+◌, ◌^◌, ◌≤◌, List, [], ◌++◌}
-use Rattle.wq_words.specs.declared.layout.Layout.{Layout}
 use Rattle.wq_script.specs.declared.command.Command.{Command}
 use Rattle.wq_script.specs.declared.engine.Engine.{Engine}
 use Rattle.wq_script.specs.Standing.{Stands, calls}

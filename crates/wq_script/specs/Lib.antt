@@ -22,3 +22,4 @@ pub mod Line
 pub mod Text
 pub mod Sound
 pub mod FirstFault
+pub mod Order

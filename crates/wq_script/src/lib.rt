@@ -11,6 +11,7 @@ mod follows;
 mod header;
 mod line;
 mod lines;
+mod order;
 mod output;
 mod queue;
 mod report;
@@ -24,6 +25,7 @@ mod worked_scripts;
 
 pub use command::{Command, Follow};
 pub use fault::{Kind, ParseError, ScriptError};
+pub use order::ordered_tables;
 pub use output::{RunError, run};
 pub use script::Script;
 pub use text::{parse, tells_lines};

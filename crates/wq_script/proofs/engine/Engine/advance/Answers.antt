@@ -1,4 +1,4 @@
-use Rattle.std.proofs.Common.{◌≡◌, ◌∙◌, ◌++◌, ◌+◌, ap, sym, refl, arith, ℕ, [], List, length, nat_lt, true, false, string_bytes, subst, codes}
+use Rattle.std.proofs.Common.{◌∙◌, ◌++◌, ap, sym, refl, arith, [], string_bytes, subst, codes}
 use Rattle.std.proofs.lemmas.Bool.{lt-ltb, le-ltb}
 use Rattle.wq_words.specs.History.{closed}
 use Rattle.wq_script.specs.declared.delays.Delays.{Delays}

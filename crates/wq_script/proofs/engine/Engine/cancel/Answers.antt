@@ -1,5 +1,5 @@
-use Rattle.std.proofs.Common.{◌≡◌, ◌∙◌, ◌++◌, ◌+◌, ap, sym, refl, arith, [], List, length, string_bytes, subst}
-use Rattle.std.proofs.Common.{if◌then◌else◌, codes, ◌≤◌}
+use Rattle.std.proofs.Common.{◌∙◌, ◌++◌, ap, refl, arith, [], string_bytes, subst}
+use Rattle.std.proofs.Common.{if◌then◌else◌, codes}
 use Rattle.wq_script.specs.Report.{line}
 use Rattle.wq_script.specs.Commands.{delayer}
 use Rattle.wq_script.specs.Standing.{Stands}

@@ -1,4 +1,4 @@
-use Rattle.std.proofs.Common.{◌≡◌, ◌∙◌, ◌++◌, ◌+◌, ap, sym, refl, arith, [], List, length, string_bytes}
+use Rattle.std.proofs.Common.{◌∙◌, ◌++◌, ap, refl, arith, [], string_bytes}
 use Rattle.std.proofs.Common.{if◌then◌else◌, codes}
 use Rattle.wq_script.specs.Report.{line}
 use Rattle.wq_script.proofs.engine.Engine.done.Goals as goal

@@ -1,6 +1,5 @@
-use Rattle.std.proofs.Common.{◌≡◌, ◌∙◌, ◌++◌, ◌+◌, ap, sym, refl, arith, ℕ, [], List, length, string_bytes, subst, codes, Some, None, append_assoc}
+use Rattle.std.proofs.Common.{◌≡◌, ◌∙◌, ◌++◌, ap, sym, refl, arith, ℕ, [], List, string_bytes, subst, codes, None, append_assoc}
 use Rattle.arrayvec.specs.ArrayVec.{ArrayVec}
-use Rattle.wq_words.specs.Numbers.{stop_number}
 use Rattle.wq_script.specs.declared.report.Counts.{Counts}
 use Rattle.wq_script.specs.declared.command.Command.TheVariants as command
 use Rattle.wq_script.specs.Report.{line}

@@ -1,4 +1,4 @@
-use Rattle.std.proofs.Common.{◌≡◌, ℕ, sym, subst, string_bytes}
+use Rattle.std.proofs.Common.{ℕ, sym, subst, string_bytes}
 use Rattle.wq_script.specs.declared.command.Command.{Command}
 use Rattle.wq_script.specs.declared.command.Command.TheVariants as variant
 use Rattle.wq_script.specs.Engine.{Does}

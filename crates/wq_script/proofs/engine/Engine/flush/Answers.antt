@@ -1,4 +1,4 @@
-use Rattle.std.proofs.Common.{◌≡◌, ◌∙◌, ◌++◌, ◌+◌, ap, sym, refl, arith, [], List, length, string_bytes}
+use Rattle.std.proofs.Common.{◌∙◌, ◌++◌, ap, refl, arith, [], string_bytes}
 use Rattle.wq_script.specs.Answer.{answer_text}
 use Rattle.wq_script.specs.Report.{line}
 use Rattle.wq_script.specs.Delays.{table_of}

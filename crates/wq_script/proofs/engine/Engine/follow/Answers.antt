@@ -1,4 +1,4 @@
-use Rattle.std.proofs.Common.{◌≡◌, ◌∙◌, ◌++◌, ◌+◌, ap, sym, refl, arith, [], List, length, string_bytes, slice_set}
+use Rattle.std.proofs.Common.{◌∙◌, ap, sym, refl, arith, string_bytes, slice_set}
 use Rattle.std.proofs.lemmas.List.{append-nil}
 use Rattle.wq_words.specs.Numbers.{number_count}
 use Rattle.wq_script.proofs.engine.Engine.follow.Goals as goal

@@ -1,4 +1,4 @@
-use Rattle.std.proofs.Common.{◌≡◌, ◌∙◌, ◌++◌, ◌+◌, ap, sym, refl, arith, [], List, length, string_bytes}
+use Rattle.std.proofs.Common.{◌∙◌, ◌++◌, ap, refl, arith, length, string_bytes}
 use Rattle.wq_script.specs.Report.{counts_of, report_text}
 use Rattle.wq_script.specs.Table.{Table}
 use Rattle.wq_script.proofs.engine.Engine.report.Goals as goal

@@ -1,16 +1,10 @@
-use Rattle.std.proofs.Common.{◌≡◌, ◌∙◌, ◌++◌, ◌+◌, ap, sym, refl, arith, ℕ, [], List, length, string_bytes, subst, codes, Some, None, append_assoc}
+use Rattle.std.proofs.Common.{◌≡◌, ◌∙◌, ◌++◌, ap, refl, arith, ℕ, List, string_bytes, subst, codes, Some}
 use Rattle.arrayvec.specs.ArrayVec.{ArrayVec}
 use Rattle.wq_words.specs.Numbers.{stop_number}
-use Rattle.wq_script.specs.declared.report.Counts.{Counts}
-use Rattle.wq_script.specs.declared.command.Command.TheVariants as command
-use Rattle.wq_script.specs.Report.{line}
-use Rattle.wq_script.specs.Names.{row_text, left_text}
+use Rattle.wq_script.specs.Names.{row_text}
 use Rattle.wq_script.specs.Execution.{after_executions, ends_at, ended_since}
-use Rattle.wq_script.specs.Commands.{ScriptState, worker, after_row}
-use Rattle.wq_script.specs.Standing.{Stands}
+use Rattle.wq_script.specs.Commands.{worker}
 use Rattle.wq_script.specs.Delays.{table_of}
-use Rattle.wq_script.specs.Queue.{state_of}
-use Rattle.wq_script.specs.Engine.{Meets}
 use Rattle.wq_script.proofs.engine.Engine.run.Goals as goal
 
 pub returns : goal.returns

@@ -1,8 +1,8 @@
-use Rattle.std.proofs.Common.{◌≡◌, ◌∙◌, ◌++◌, ap, sym, arith, map, length, filter, not, ℕ, List, [], subst}
+use Rattle.std.proofs.Common.{◌∙◌, ◌++◌, ap, sym, map, filter, not, ℕ, List, [], subst}
 use Rattle.wq_script.specs.declared.delays.Entry.{Entry}
 use Rattle.wq_script.specs.Table.{Table, items_of, is_due}
 use Rattle.wq_script.specs.Arming.{post_event}
-use Rattle.wq_script.specs.Standing.{State, Stands}
+use Rattle.wq_script.specs.Standing.{Stands}
 use Rattle.wq_script.specs.Queue.{state_of}
 use Rattle.wq_script.proofs.Table.{due_more, others_more, due_none, others_none}
 use Rattle.wq_script.proofs.Armings.{posts_more}

@@ -1,4 +1,4 @@
-use Rattle.std.proofs.Common.{◌≡◌, ap, sym, arith}
+use Rattle.std.proofs.Common.{ap, sym, arith}
 use Rattle.std.specs.Option.{is_some}
 use Rattle.wq_script.specs.Table.{Table, items_of}
 use Rattle.wq_script.specs.Delays.{table_of}

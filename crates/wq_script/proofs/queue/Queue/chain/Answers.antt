@@ -1,4 +1,3 @@
-use Rattle.std.proofs.Common.{◌≡◌, ◌+◌}
 use Rattle.wq_script.specs.Queue.{state_of}
 use Rattle.wq_script.proofs.Bits.{stands_once, stands_never}
 use Rattle.wq_script.proofs.Steps.{chain_busy_stands, chained_stands}

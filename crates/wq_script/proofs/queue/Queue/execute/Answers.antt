@@ -1,4 +1,4 @@
-use Rattle.std.proofs.Common.{◌≡◌, ◌<◌, arith, ap, sym, ◌∙◌, ◌++◌, [], ◌∷◌, length}
+use Rattle.std.proofs.Common.{arith, ◌++◌, [], ◌∷◌, length}
 use Rattle.wq_words.specs.declared.event.Event.TheVariants.{Begin}
 use Rattle.wq_script.specs.Execution.{take_events}
 use Rattle.wq_script.specs.Queue.{state_of}

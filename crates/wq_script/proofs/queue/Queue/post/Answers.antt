@@ -1,4 +1,4 @@
-use Rattle.std.proofs.Common.{◌≡◌, ◌∙◌, ◌+◌, ◌==◌, ap, sym, arith, [], ◌∷◌, length, length-append, refl}
+use Rattle.std.proofs.Common.{◌≡◌, ◌∙◌, ◌+◌, ◌==◌, ap, arith, [], ◌∷◌, length, length-append, refl}
 use Rattle.wq_script.specs.declared.delays.Entry.{Entry}
 use Rattle.wq_script.specs.Table.{Table, items_of}
 use Rattle.wq_script.specs.Standing.{times}

@@ -1,4 +1,3 @@
-use Rattle.std.proofs.Common.{◌≡◌, ◌+◌}
 use Rattle.wq_script.specs.Queue.{state_of}
 use Rattle.wq_script.proofs.Bits.{stands_once, stands_never}
 use Rattle.wq_script.proofs.Steps.{busy_answer, busy_stands, closed_answer, closed_stands, queued_answer, queued_stands}

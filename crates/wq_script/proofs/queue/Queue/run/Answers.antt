@@ -1,5 +1,4 @@
-use Rattle.std.proofs.Common.{◌≡◌, ◌-◌, ◌+◌, ◌∙◌, ℕ, Option, Some, None, true, false, arith, sym, subst}
-use Rattle.wq_script.specs.Execution.{ends_at}
+use Rattle.std.proofs.Common.{◌-◌, ◌+◌, ◌∙◌, ℕ, Option, arith, sym, subst}
 use Rattle.wq_script.specs.Queue.{state_of}
 use Rattle.wq_script.proofs.Executions.{Executes, told_done, told_more, told_last, told_idle}
 use Rattle.wq_script.proofs.queue.Queue.run.Goals as goal
