@@ -9,7 +9,7 @@ use Rattle.wq_words.specs.Numbers.{number_count}
 use Rattle.wq_words.specs.Legal.{IsLegal}
 use Rattle.wq_words.proofs.Legal.{legal_nil}
 use Rattle.wq_core.specs.Machine.{opening}
-use Rattle.wq_core.proofs.Schedule.{sound_opening}
+use Rattle.wq_core.proofs.Schedules.{sound_opening}
 use Rattle.wq_table.specs.Chair.{Standing, IsSender, owner_chair, sender_chair, sender_chairs}
 use Rattle.wq_live.specs.declared.sender.Sender.TheInside as sender
 use Rattle.wq_live.specs.declared.owner.Owner.TheInside as owner

@@ -12,7 +12,7 @@ use Rattle.wq_core.specs.declared.step.Step.{Step}
 use Rattle.wq_core.specs.declared.step.Step.TheVariants.{Take, Close, Walk, Begin, End, Chain}
 use Rattle.wq_core.specs.Words.{closed_word, number_at}
 use Rattle.wq_core.specs.Machine.{Machine, head, link, item_word, with_head, with_item, happened, walked_past, after_walk, after_begin, after_end, after}
-use Rattle.wq_core.proofs.Schedule.{batch_is}
+use Rattle.wq_core.proofs.Taken.{batch_is}
 use Rattle.wq_table.specs.declared.table.Part.{Part}
 use Rattle.wq_table.specs.declared.table.Stage.{Stage}
 use Rattle.wq_table.specs.declared.table.Stage.TheVariants.{Sends, Owns}

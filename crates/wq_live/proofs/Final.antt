@@ -21,7 +21,7 @@ use Rattle.std.specs.Option.{is_some}
 use Rattle.std.proofs.lemmas.Bool.{false≢true}
 use Rattle.std.proofs.lemmas.Option.{slice_get_within}
 use Rattle.wq_words.proofs.Listed.{closed_from_IsClosed, IsClosed_from_closed}
-use Rattle.wq_core.proofs.Schedule.{runs_some}
+use Rattle.wq_core.proofs.Schedules.{runs_some}
 use Rattle.wq_live.specs.declared.owner.Owner.TheInside.{Inside}
 use Rattle.wq_live.specs.Known.{Known}
 use Rattle.wq_live.specs.Answers.{IsFinal}
