@@ -1,0 +1,16 @@
+pub mod Table
+pub mod Growing
+pub mod Bits
+pub mod Steps
+pub mod Executions
+pub mod Armings
+pub mod Outputs
+pub mod Meanings
+pub mod Words
+pub mod Decimal
+pub mod FollowItems
+pub mod LineWords
+pub mod Texts
+pub mod Sound
+pub mod FirstFault
+pub mod Turns
