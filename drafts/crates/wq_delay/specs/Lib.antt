@@ -1,4 +1,0 @@
-pub mod Table
-pub mod Rows
-pub mod Delay
-pub mod Armed
