@@ -11,3 +11,5 @@ pub mod Taking
 pub mod Meeting
 pub mod Final
 pub mod Built
+pub mod Reading
+pub mod Seated

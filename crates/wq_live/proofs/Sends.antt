@@ -5,7 +5,6 @@ use Rattle.wq_core.specs.Machine.{Machine}
 use Rattle.wq_core.specs.Sound.{IsSound}
 use Rattle.wq_table.specs.Law.{part, Fits}
 use Rattle.wq_table.specs.Chair.{Standing}
-use Rattle.std.proofs.lemmas.List.{append-nil}
 use Rattle.wq_words.specs.declared.layout.Layout.{Layout}
 use Rattle.wq_words.specs.declared.event.Event.{Event}
 use Rattle.wq_words.specs.declared.event.Event.TheVariants.{Hold, Busy, Push, Back}
@@ -19,7 +18,7 @@ use Rattle.wq_live.specs.Answers.{IsPushed}
 use Rattle.wq_live.proofs.Counting.{count_on, count_one, counts_none}
 use Rattle.wq_table.specs.Chair.{IsSender}
 use Rattle.wq_live.specs.declared.sender.Sender.TheInside.{Inside}
-use Rattle.wq_live.specs.Known.{Known, Sees}
+use Rattle.wq_live.specs.Known.{Known, IsSame, Sees}
 use Rattle.wq_live.specs.Counts.{sender_counts}
 use Rattle.wq_live.specs.Sits.{sender_view, Sends}
 use Rattle.wq_live.proofs.Tells.{TellsSo, meet_tells, meet_sender}
@@ -46,29 +45,28 @@ sees_tells s t now xs n view sends layout number queue told = subst (λ (v : Kno
   legal = subst (λ (l : Layout). IsLegal l t.chair.part.seen) (sends.layout_is ∙ sym layout) told.legal;
 }
 
--- where nothing happened nothing is seen
-pub sees_none : (s : Inside) (now : Known) → sender_view s ≡ now → Sends s → Sees [] 0 now now
-sees_none s now view sends = subst (λ (v : Known). Sees [] 0 v v) view record {
-  same = record { queue_is = refl; layout_is = refl; number_is = refl };
-  grows = record { new = []; is = sym (append-nil s.chair.part.seen); mine = refl; theirs = omega arith };
-  legal = sends.legal;
-}
-
 -- what the sender of this view holds its chair's seat holds
 pub holds_view : (s : Inside) (now : Known) (k : ℕ) → sender_view s ≡ now → Sends s → Holds now.seen now.number k → Holds s.chair.part.seen s.chair.part.seat k
 holds_view s now k view sends have = subst (λ (c : ℕ). Holds s.chair.part.seen c k) (sym sends.number_is) (subst (λ (v : Known). Holds v.seen v.number k) (sym view) have)
 
--- what was seen before, and then
-pub sees_on : (xs ys : ℕ → List Event) (n m k : ℕ) (s t u : Known) → k ≤ n + m → Sees (xs s.number) n s t → Sees (ys t.number) m t u → Sees (xs s.number ++ ys s.number) k s u
-sees_on xs ys n m k s t u sum a b = record {
-  same = record {
-    queue_is = b.same.queue_is ∙ a.same.queue_is;
-    layout_is = b.same.layout_is ∙ a.same.layout_is;
-    number_is = b.same.number_is ∙ a.same.number_is;
-  };
-  grows = grows_on s.number (xs s.number) (ys s.number) n m k s.seen t.seen u.seen sum a.grows (subst (λ (c : ℕ). Grows c (ys c) m t.seen u.seen) a.same.number_is b.grows);
+-- it is the same seat step after step
+pub same_none : (s : Known) → IsSame s s
+same_none s = record { queue_is = refl; layout_is = refl; number_is = refl }
+
+pub same_on : (s t u : Known) → IsSame s t → IsSame t u → IsSame s u
+same_on s t u a b = record { queue_is = b.queue_is ∙ a.queue_is; layout_is = b.layout_is ∙ a.layout_is; number_is = b.number_is ∙ a.number_is }
+
+-- what came new before, and what is seen then
+pub sees_after : (xs ys : ℕ → List Event) (n m k : ℕ) (s t u : Known) → k ≤ n + m → IsSame s t → Grows s.number (xs s.number) n s.seen t.seen → Sees (ys t.number) m t u → Sees (xs s.number ++ ys s.number) k s u
+sees_after xs ys n m k s t u sum same grows b = record {
+  same = same_on s t u same b.same;
+  grows = grows_on s.number (xs s.number) (ys s.number) n m k s.seen t.seen u.seen sum grows (subst (λ (c : ℕ). Grows c (ys c) m t.seen u.seen) same.number_is b.grows);
   legal = b.legal;
 }
+
+-- what was seen before, and then
+pub sees_on : (xs ys : ℕ → List Event) (n m k : ℕ) (s t u : Known) → k ≤ n + m → Sees (xs s.number) n s t → Sees (ys t.number) m t u → Sees (xs s.number ++ ys s.number) k s u
+sees_on xs ys n m k s t u sum a b = sees_after xs ys n m k s t u sum a.same a.grows b
 
 pub sees_less : (xs : List Event) (n k : ℕ) (s t : Known) → k ≤ n → Sees xs n s t → Sees xs k s t
 sees_less xs n k s t less a = record { same = a.same; grows = grows_less s.number xs n k s.seen t.seen less a.grows; legal = a.legal }

@@ -12,3 +12,6 @@ pub use counts::{OwnerCounts, SenderCounts};
 pub use making::{BuildError, build};
 pub use owner::Owner;
 pub use sender::Sender;
+
+#[cfg(test)]
+mod tests;

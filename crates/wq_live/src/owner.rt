@@ -4,7 +4,7 @@ ghost use Rattle.std.specs.VecDeque.{deque_capacity};
 ghost use Rattle.wq_words.specs.declared.event.Event.TheVariants.{Take, Close, Begin, End};
 ghost use Rattle.wq_words.specs.Numbers.{number_count};
 ghost use Rattle.wq_words.specs.History.{IsClosed, closed, IsRunning, running, ended};
-ghost use Rattle.wq_words.specs.Legal.{IsComplete};
+ghost use Rattle.wq_words.specs.Legal.{IsLegal, IsComplete};
 ghost use Rattle.wq_table.specs.declared.table.Stage.TheVariants as stage;
 ghost use Rattle.wq_live.specs.Known.{Sees};
 ghost use Rattle.wq_live.specs.Answers.{Chains, IsFinal};
@@ -73,7 +73,8 @@ fn walk_all(chair: &mut Chair, batch: &mut VecDeque<u32>, walked: &mut VecDeque<
 impl Owner {
     /// The size of its queue.
     pub fn layout(&self) -> Layout
-        ensures { result ≡ self.now.layout }
+        ensures layout { result ≡ self.now.layout }
+        ensures legal { IsLegal self.now.layout self.now.seen }
     {
         self.layout
     }
@@ -109,6 +110,15 @@ impl Owner {
         ensures { result ≡ next_of self.now.seen }
     {
         self.batch.front().copied()
+    }
+
+    /// How many numbers were taken and have not begun.
+    pub fn waiting(&self) -> u32
+        ensures count { result ≡ length (batch self.now.seen) }
+        ensures few { result ≤ number_count self.now.layout }
+    {
+        let numbers = &self.batch;
+        numbers.len() as u32
     }
 
     /// Begins the execution of `next`, and clears its PENDING bit first, so that it can be queued again while it runs.

@@ -5,6 +5,8 @@ ghost use Rattle.wq_words.specs.declared.event.Event.TheVariants.{Hold, Busy, Pu
 ghost use Rattle.wq_words.specs.declared.event.Why.TheVariants as why;
 ghost use Rattle.wq_words.specs.History.{pending, Holds};
 ghost use Rattle.wq_words.specs.Numbers.{stop_number, number_count};
+ghost use Rattle.wq_words.specs.Legal.{IsLegal};
+ghost use Rattle.wq_table.specs.Seen.{owner_seat};
 ghost use Rattle.wq_live.specs.declared.answer.Answer.TheVariants.{Queued, Contended};
 ghost use Rattle.wq_live.specs.Known.{Sees};
 ghost use Rattle.wq_live.specs.Answers.{Answers, Posts, HasFlushed};
@@ -50,7 +52,8 @@ impl Sender {
 
     /// The size of its queue.
     pub fn layout(&self) -> Layout
-        ensures { result ≡ self.now.layout }
+        ensures layout { result ≡ self.now.layout }
+        ensures legal { IsLegal self.now.layout self.now.seen }
     {
         self.layout
     }
@@ -122,20 +125,19 @@ impl Sender {
         self.chair.back_cancelled(item);
     }
 
-    // Tries to push a number that this sender holds.
+    // Tries to push a number that this sender holds, so many times, and at least once.
     fn push_tries(&mut self, number: u32, tries: u32) -> Posted
         requires number { number < number_count self.old.layout }
         requires held { Holds self.old.seen self.old.number number }
         ensures { Posts number tries result self.old self.new }
     {
-        let _ = &self.number;
-        for _ in 0..tries {
+        for _ in 1..tries {
             match self.attempt(number) {
                 Posted::Contended => {}
                 posted => return posted,
             }
         }
-        Posted::Contended
+        self.attempt(number)
     }
 
     // Queues a number, with at most so many tries.
@@ -294,7 +296,21 @@ impl Sender {
         ensures that { Sees [] 0 owner.old owner.new }
         ensures both { owner.new.seen ≡ self.new.seen }
         ensures layout { owner.old.layout ≡ self.old.layout }
+        ensures seat { owner.old.number ≡ owner_seat }
     {
         self.chair.meet(&mut owner.chair);
+    }
+
+    /// Afterwards all three have seen all that has happened, and so all that any of them had seen.
+    pub fn meet_both(&mut self, other: &mut Sender, owner: &mut Owner)
+        requires sender { self.old.queue ≡ other.old.queue }
+        requires owner { self.old.queue ≡ owner.old.queue }
+        ensures this { Sees [] 0 self.old self.new }
+        ensures that { Sees [] 0 other.old other.new }
+        ensures owners { Sees [] 0 owner.old owner.new }
+        ensures all { (other.new.seen ≡ self.new.seen) × (owner.new.seen ≡ self.new.seen) }
+        ensures layout { (other.old.layout ≡ self.old.layout) × (owner.old.layout ≡ self.old.layout) }
+    {
+        self.chair.meet_both(&mut other.chair, &mut owner.chair);
     }
 }
