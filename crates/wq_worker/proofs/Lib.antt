@@ -1,0 +1,13 @@
+pub mod Seats
+pub mod Owned
+pub mod Running
+pub mod Closing
+pub mod Pair
+pub mod Follow
+pub mod State
+pub mod Step
+pub mod Draining
+pub mod Meeting
+pub mod Balancing
+pub mod Teams
+pub mod Rows

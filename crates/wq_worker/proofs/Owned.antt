@@ -1,0 +1,87 @@
+-- What has begun and ended, and whether the queue is closed, changes by the owner's events alone.
+use Rattle.std.proofs.Common.{◌≡◌, ℕ, ◌+◌, Bool, true, false, cond, ◌||◌, ◌==◌, List, [], ◌∷◌, ◌++◌, sym, refl, ap, ◌∙◌, arith}
+use Rattle.std.specs.Prelude.{filter, count_by}
+use Rattle.std.proofs.lemmas.List.{append-nil}
+use Rattle.std.proofs.lemmas.List.Elements.{filter_map-append}
+use Rattle.std.proofs.lemmas.List.Sums.{sum_by-append}
+use Rattle.wq_words.specs.declared.event.Event.{Event}
+use Rattle.wq_words.specs.History.{begun_by, ended_by, is_close, begun, ended, closed, running}
+use Rattle.wq_table.specs.Seen.{owner_seat, seat_of, own, Grows}
+use Rattle.wq_table.proofs.Seen.{begun_same, ended_same, closed_count}
+use Rattle.wq_live.proofs.Owned.{begun_on, ended_on, closes_on}
+use Rattle.wq_worker.specs.Seats.{is_ours, Adds}
+
+pub count_by-append : (p : Event → Bool) (xs ys : List Event) → count_by p (xs ++ ys) ≡ count_by p xs + count_by p ys
+count_by-append p xs ys = sum_by-append (λ x. cond (p x) 1 0) xs ys
+
+module _ {A : Type 0} (p q : A → Bool) (only : (x : A) → q x ≡ false → p x ≡ false) where
+  keep_step : (b : Bool) (x : A) (ys xs : List A) → (b ≡ false → p x ≡ false) → filter p ys ≡ filter p xs → filter p (cond b (x ∷ ys) ys) ≡ cond (p x) (x ∷ filter p xs) (filter p xs)
+  keep_step true x ys xs unless go = ap (λ (zs : List A). cond (p x) (x ∷ zs) zs) go
+  keep_step false x ys xs unless go = go ∙ sym (ap (λ (b : Bool). cond b (x ∷ filter p xs) (filter p xs)) (unless refl))
+
+  -- what the second test passes over the first does too
+  pub filter-filter : (xs : List A) → filter p (filter q xs) ≡ filter p xs
+  filter-filter [] = refl
+  filter-filter (x ∷ xs) = keep_step (q x) x (filter q xs) xs (only x) (filter-filter xs)
+
+own-own : (h : List Event) → own owner_seat (own owner_seat h) ≡ own owner_seat h
+own-own h = filter-filter (λ e. seat_of e == owner_seat) (λ e. seat_of e == owner_seat) (λ e none. none) h
+
+-- from v to w the owner's events among these were added
+pub record OwnerAdds (es v w : List Event) : Type 0 where
+  pub begun_is : begun w ≡ begun v ++ begun es
+  pub ended_is : ended w ≡ ended v ++ ended es
+  pub closes : count_by is_close w ≡ count_by is_close v + count_by is_close es
+
+pub owner_grows : (es : List Event) (n : ℕ) (v w : List Event) → Grows owner_seat es n v w → OwnerAdds es v w
+owner_grows es n v w g = record { begun_is = begun_on es n v w g; ended_is = ended_on es n v w g; closes = closes_on es n v w g }
+
+or_right : (b c : Bool) → (b || c) ≡ false → c ≡ false
+or_right true c is = absurd (cc)
+or_right false c is = is
+
+pub owner_of_both : (s : ℕ) (es : List Event) (n : ℕ) (v w : List Event) → Adds s es n v w → OwnerAdds es v w
+owner_of_both s es n v w a =
+    let mine = own owner_seat es in
+    let g : Grows owner_seat mine 0 v w = record {
+      new = a.new;
+      is = a.is;
+      mine = sym (filter-filter (λ e. seat_of e == owner_seat) (is_ours s) (λ e none. or_right (seat_of e == s) (seat_of e == owner_seat) none) a.new) ∙ ap (own owner_seat) a.ours;
+      theirs = omega arith;
+    } in
+    record {
+      begun_is = begun_on mine 0 v w g ∙ ap (λ (z : List ℕ). begun v ++ z) (begun_same es mine (own-own es));
+      ended_is = ended_on mine 0 v w g ∙ ap (λ (z : List ℕ). ended v ++ z) (ended_same es mine (own-own es));
+      closes = omega (arith, closes_on mine 0 v w g, closed_count es mine (own-own es));
+    }
+
+-- nothing begins or ends by these, and they hold no close
+pub record IsQuiet (es : List Event) : Type 0 where
+  pub begun_none : begun es ≡ []
+  pub ended_none : ended es ≡ []
+  pub closes_none : count_by is_close es ≡ 0
+
+pub quiet_none : IsQuiet []
+quiet_none = record { begun_none = refl; ended_none = refl; closes_none = refl }
+
+pub quiet_append : (xs ys : List Event) → IsQuiet xs → IsQuiet ys → IsQuiet (xs ++ ys)
+quiet_append xs ys a b = record {
+  begun_none = filter_map-append begun_by xs ys ∙ (ap (λ (z : List ℕ). z ++ begun ys) a.begun_none ∙ b.begun_none);
+  ended_none = filter_map-append ended_by xs ys ∙ (ap (λ (z : List ℕ). z ++ ended ys) a.ended_none ∙ b.ended_none);
+  closes_none = omega (arith, count_by-append is_close xs ys, a.closes_none, b.closes_none);
+}
+
+-- what the owner knows is as before
+pub record Stays (v w : List Event) : Type 0 where
+  pub begun_same : begun w ≡ begun v
+  pub ended_same : ended w ≡ ended v
+  pub closes_same : count_by is_close w ≡ count_by is_close v
+  pub running_same : running w ≡ running v
+  pub closed_same : closed w ≡ closed v
+
+pub stays : (es v w : List Event) → IsQuiet es → OwnerAdds es v w → Stays v w
+stays es v w q o =
+    let b : begun w ≡ begun v = o.begun_is ∙ (ap (λ (z : List ℕ). begun v ++ z) q.begun_none ∙ append-nil (begun v)) in
+    let e : ended w ≡ ended v = o.ended_is ∙ (ap (λ (z : List ℕ). ended v ++ z) q.ended_none ∙ append-nil (ended v)) in
+    let c : count_by is_close w ≡ count_by is_close v = omega (arith, o.closes, q.closes_none) in
+    record { begun_same = b; ended_same = e; closes_same = c; running_same = rw (b, e) refl; closed_same = rw c refl }

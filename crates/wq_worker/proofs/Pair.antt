@@ -1,0 +1,67 @@
+-- An owner and a sender that met after the steps of one of them.
+use Rattle.std.proofs.Common.{◌≡◌, ℕ, ◌+◌, List, [], ◌++◌, sym, refl, ◌∙◌, subst, arith}
+use Rattle.std.proofs.lemmas.List.{append-nil}
+use Rattle.wq_words.specs.declared.event.Event.{Event}
+use Rattle.wq_words.specs.Legal.{IsLegal}
+use Rattle.wq_table.specs.Seen.{owner_seat, Grows}
+use Rattle.wq_live.specs.Known.{Known, IsSame, Sees}
+use Rattle.wq_live.proofs.Sends.{sees_on}
+use Rattle.wq_worker.specs.Seats.{Adds}
+use Rattle.wq_worker.specs.Pair.{Paired, Both}
+use Rattle.wq_worker.proofs.Seats.{adds_owner, adds_sender, adds_on, adds_none}
+
+same_on : (s t u : Known) → IsSame s t → IsSame t u → IsSame s u
+same_on s t u a b = record { queue_is = b.queue_is ∙ a.queue_is; layout_is = b.layout_is ∙ a.layout_is; number_is = b.number_is ∙ a.number_is }
+
+same_still : (s : Known) → IsSame s s
+same_still s = record { queue_is = refl; layout_is = refl; number_is = refl }
+
+pub sees_still : (xs : List Event) (n m : ℕ) (s t u : Known) → Sees xs n s t → Sees [] m t u → Sees xs n s u
+sees_still xs n m s t u a b = subst (λ (z : List Event). Sees z n s u) (append-nil xs) (sees_on (λ z. xs) (λ z. []) n m n s t u (omega arith) a b)
+
+pub both_still : (o s : Known) → Paired o s → Both [] 0 o s o s
+both_still o s p = record { owner = same_still o; sender = same_still s; paired = p; adds = adds_none s.number o.seen }
+
+pub both_on : (xs ys : List Event) (n m : ℕ) (o s p t q u : Known) → Both xs n o s p t → Both ys m p t q u → Both (xs ++ ys) (n + m) o s q u
+both_on xs ys n m o s p t q u a b = record {
+  owner = same_on o p q a.owner b.owner;
+  sender = same_on s t u a.sender b.sender;
+  paired = b.paired;
+  adds = adds_on s.number xs ys n m o.seen p.seen q.seen a.adds (subst (λ (z : ℕ). Adds z ys m p.seen q.seen) a.sender.number_is b.adds);
+}
+
+pub paired_after : (o s q u : Known) → Paired o s → IsSame o q → IsSame s u → q.seen ≡ u.seen → IsLegal q.layout q.seen → Paired q u
+paired_after o s q u p a b both legal = record {
+  queue = b.queue_is ∙ (p.queue ∙ sym a.queue_is);
+  layout = b.layout_is ∙ (p.layout ∙ sym a.layout_is);
+  seat = a.number_is ∙ p.seat;
+  seen = sym both;
+  legal = legal;
+}
+
+pub owner_grew : (xs : List Event) (n : ℕ) (o s p : Known) → Paired o s → Sees xs n o p → Grows owner_seat xs n o.seen p.seen
+owner_grew xs n o s p pair a = subst (λ (z : ℕ). Grows z xs n o.seen p.seen) pair.seat a.grows
+
+-- the owner made steps, and then the sender met it
+pub met_owner : (xs : List Event) (n m k : ℕ) (o s p q u : Known) → Paired o s → Sees xs n o p → Sees [] k p q → Sees [] m s u → q.seen ≡ u.seen → Both xs 0 o s q u
+met_owner xs n m k o s p q u pair a b c both =
+    let g = sees_still xs n k o p q a b in
+    let none : Grows s.number [] m o.seen q.seen = subst (λ (z : List Event). Grows s.number [] m o.seen z) (sym both) (subst (λ (z : List Event). Grows s.number [] m z u.seen) pair.seen c.grows) in
+    record {
+      owner = g.same;
+      sender = c.same;
+      paired = paired_after o s q u pair g.same c.same both g.legal;
+      adds = adds_owner s.number xs n m o.seen q.seen (owner_grew xs n o s q pair g) none;
+    }
+
+-- the sender made steps, and then it met the owner
+pub met_sender : (xs : List Event) (n m k : ℕ) (o s t q u : Known) → Paired o s → Sees xs n s t → Sees [] k t u → Sees [] m o q → q.seen ≡ u.seen → Both xs n o s q u
+met_sender xs n m k o s t q u pair a b c both =
+    let g = sees_still xs n k s t u a b in
+    let mine : Grows s.number xs n o.seen q.seen = subst (λ (z : List Event). Grows s.number xs n o.seen z) (sym both) (subst (λ (z : List Event). Grows s.number xs n z u.seen) pair.seen g.grows) in
+    record {
+      owner = c.same;
+      sender = g.same;
+      paired = paired_after o s q u pair c.same g.same both c.legal;
+      adds = adds_sender s.number xs n m o.seen q.seen mine (owner_grew [] m o s q pair c);
+    }

@@ -1,0 +1,5 @@
+use Rattle.wq_worker.specs.Balance.{SumsMet}
+use Rattle.wq_worker.proofs.balance.sum_met.Given as goal
+
+abbrev pub invariant-loop-number : goal.invariant-loop-number
+invariant-loop-number l = SumsMet l.ledgers l.seat l.number l.met

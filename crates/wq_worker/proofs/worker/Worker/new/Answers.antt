@@ -1,0 +1,39 @@
+use Rattle.std.proofs.Common.{ℕ, ◌≡◌, List, [], sym, ap, ◌∙◌, subst, arith}
+use Rattle.wq_words.specs.declared.event.Event.{Event}
+use Rattle.std.proofs.lemmas.List.{append-nil}
+use Rattle.wq_words.specs.History.{begun}
+use Rattle.wq_table.specs.Seen.{owner_seat, Grows}
+use Rattle.wq_worker.specs.State.{items_of}
+use Rattle.wq_table.proofs.Seen.{begun_same}
+use Rattle.wq_worker.proofs.Owned.{owner_grows}
+use Rattle.wq_worker.proofs.worker.Worker.new.Goals as goal
+
+pub invariant_of-result : goal.invariant_of-result
+invariant_of-result g c =
+    let m = c.meet_owner.ensures in let o = c.args.owner in let q = c.meet_owner.new.owner in
+    let grown : Grows owner_seat [] 0 o.seen q.seen = subst (λ (z : ℕ). Grows z [] 0 o.seen q.seen) m.seat m.that.grows in
+    let none : begun q.seen ≡ [] = (owner_grows [] 0 o.seen q.seen grown).begun_is ∙ (append-nil (begun o.seen) ∙ begun_same [] o.seen c.requires.untouched) in
+    record {
+      paired = record {
+        queue = m.this.same.queue_is ∙ (c.requires.one ∙ sym m.that.same.queue_is);
+        layout = m.this.same.layout_is ∙ (sym m.layout ∙ sym m.that.same.layout_is);
+        seat = m.that.same.number_is ∙ m.seat;
+        seen = sym m.both;
+        legal = m.that.legal;
+      };
+      some_try = c.requires.tries;
+      within = omega arith;
+      logged = c.requires.unrun ∙ ap (items_of q.layout) (sym none);
+    }
+
+pub returns-clause-owner : goal.returns-clause-owner
+returns-clause-owner g c =
+    let m = c.meet_owner.ensures in subst (λ (z : ℕ). Grows z [] 0 c.args.owner.seen c.meet_owner.new.owner.seen) m.seat m.that.grows
+
+pub returns-clause-sender : goal.returns-clause-sender
+returns-clause-sender g c =
+    let m = c.meet_owner.ensures in let s = c.args.sender in
+    subst (λ (z : List Event). Grows s.number [] 0 s.seen z) (sym m.both) m.this.grows
+
+pub returns-clause-legal : goal.returns-clause-legal
+returns-clause-legal g c = c.meet_owner.ensures.that.legal

@@ -1,0 +1,24 @@
+-- What the queueings of the numbers that a run answered add.
+use Rattle.std.specs.Prelude.{◌≡◌, ℕ, ◌<◌, ◌≤◌, Bool, true, false, List, [], ◌∷◌, ◌++◌}
+use Rattle.wq_words.specs.declared.event.Event.{Event}
+use Rattle.wq_words.specs.declared.event.Event.TheVariants.{Hold, Busy, Push, Back, Chain, ChainBusy}
+use Rattle.wq_words.specs.declared.event.Why.TheVariants as why
+
+-- What the queueing of k adds, where n are items: nothing where k is none of them. While the queue is open it is of the
+-- sender s, and once it is closed the owner chains.
+pub data Queues (n s : ℕ) (is_closed : Bool) (k : ℕ) (es : List Event) : Type 0 where
+  passed : n ≤ k → es ≡ [] → Queues n s is_closed k es
+  pushed : k < n → is_closed ≡ false → es ≡ Hold s k ∷ Push s k ∷ [] → Queues n s is_closed k es
+  busy : k < n → is_closed ≡ false → es ≡ Busy s k ∷ [] → Queues n s is_closed k es
+  refused : k < n → is_closed ≡ false → es ≡ Hold s k ∷ Back s k why.Closed ∷ [] → Queues n s is_closed k es
+  chained : k < n → is_closed ≡ true → es ≡ Chain k ∷ [] → Queues n s is_closed k es
+  chain_busy : k < n → is_closed ≡ true → es ≡ ChainBusy k ∷ [] → Queues n s is_closed k es
+
+-- what the queueings of a list add, one after another
+abbrev pub Follows : ℕ → ℕ → Bool → List ℕ → List Event → Type 0
+Follows n s is_closed [] es = es ≡ []
+Follows n s is_closed (k ∷ ks) es = (fs gs : List Event) × (es ≡ fs ++ gs) × Queues n s is_closed k fs × Follows n s is_closed ks gs
+
+-- what a queueing that was contended adds
+abbrev pub contended_of : ℕ → ℕ → List Event
+contended_of s k = Hold s k ∷ Back s k why.Contended ∷ []

@@ -1,0 +1,9 @@
+pub mod Seats
+pub mod Follow
+pub mod Pair
+pub mod State
+pub mod Step
+pub mod Totals
+pub mod Rows
+pub mod Book
+pub mod Balance

@@ -1,0 +1,68 @@
+-- Steps of a worker, one after another.
+use Rattle.std.specs.Prelude.{◌≡◌, ℕ, ◌+◌, ◌<◌, ◌≤◌, List, [], ◌∷◌, length}
+use Rattle.wq_words.specs.declared.event.Event.TheVariants.{Close}
+use Rattle.wq_words.specs.History.{accepted, ended, IsClosed}
+use Rattle.wq_words.specs.Legal.{IsComplete}
+use Rattle.wq_worker.specs.declared.ran.Ran.{Ran}
+use Rattle.wq_worker.specs.declared.ran.Ran.TheVariants.{Item, Barrier, Stop, Nothing, Owing}
+use Rattle.wq_worker.specs.declared.drained.Drained.{Drained}
+use Rattle.wq_worker.specs.declared.drained.Drained.TheVariants.{Empty, TooLong}
+use Rattle.wq_worker.specs.State.{WorkerState, Moves}
+use Rattle.wq_worker.specs.Step.{Runs}
+
+-- an execution ended, and it was not that of the stop item
+abbrev pub GoesOn : Ran → Type 0
+GoesOn (Item k) = Unit {0}
+GoesOn (Barrier b) = Unit {0}
+GoesOn _ = ⊥
+
+-- the stop item ran, nothing waits, or an execution is owed
+abbrev pub Breaks : Ran → Type 0
+Breaks (Item k) = ⊥
+Breaks (Barrier b) = ⊥
+Breaks _ = Unit {0}
+
+-- an execution ended
+abbrev pub IsExecution : Ran → Type 0
+IsExecution Nothing = ⊥
+IsExecution (Owing k) = ⊥
+IsExecution _ = Unit {0}
+
+abbrev pub IsNotStop : Ran → Type 0
+IsNotStop Stop = ⊥
+IsNotStop _ = Unit {0}
+
+-- one where an execution ended
+abbrev pub ended_by_answer : Ran → ℕ
+ended_by_answer Nothing = 0
+ended_by_answer (Owing k) = 0
+ended_by_answer _ = 1
+
+module _ {W : Type 0} (may : W → ℕ → List ℕ → W → Type 0) where
+  -- n steps, each with an answer of these
+  pub data Row (P : Ran → Type 0) : ℕ → WorkerState W → WorkerState W → Type 0 where
+    none : (a : WorkerState W) → Row P 0 a a
+    more : (n : ℕ) (r : Ran) (a b c : WorkerState W) → Row P n a b → P r → Runs may r b c → Row P (n + 1) a c
+
+  -- n executions ended: as many as the limit, or fewer where a step broke the row off
+  pub data RunsSome (limit n : ℕ) (a c : WorkerState W) : Type 0 where
+    full : Row GoesOn n a c → n ≡ limit → RunsSome limit n a c
+    broken : (m : ℕ) (r : Ran) (b : WorkerState W) → Row GoesOn m a b → m < limit → Breaks r → Runs may r b c → n ≡ m + ended_by_answer r → RunsSome limit n a c
+
+  -- the worker goes on until the stop item ran, and no longer
+  pub record Serves (a c : WorkerState W) : Type 0 where
+    pub steps : ℕ
+    pub last : WorkerState W
+    pub row : Row IsNotStop steps a last
+    pub stops : Runs may Stop last c
+
+  -- Empty after at most as many executions as the limit, once all that was accepted has ended; TooLong after exactly as
+  -- many, with what is accepted and has not ended
+  abbrev pub Drains : ℕ → Drained → WorkerState W → WorkerState W → Type 0
+  Drains limit Empty a b = (n : ℕ) × (n ≤ limit) × Row IsExecution n a b × IsComplete b.seen
+  Drains limit (TooLong left) a b = Row IsExecution limit a b × (0 < left) × (left + length (ended b.seen) ≡ length (accepted b.seen))
+
+-- the queue is closed where it was open
+pub data Closes {W : Type 0} (a b : WorkerState W) : Type 0 where
+  was_closed : IsClosed a.seen → b ≡ a → Closes a b
+  closes : ¬ IsClosed a.seen → Moves (Close ∷ []) 0 a b → b.work ≡ a.work → b.left ≡ a.left → Closes a b

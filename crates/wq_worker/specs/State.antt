@@ -1,0 +1,41 @@
+-- What a clause sees of a worker.
+use Rattle.std.specs.Prelude.{◌≡◌, ℕ, ◌<◌, ◌≤◌, List, filter, length, nat_lt}
+use Rattle.atomic_table.specs.Seated.{TableId}
+use Rattle.wq_words.specs.declared.layout.Layout.{Layout}
+use Rattle.wq_words.specs.declared.event.Event.{Event}
+use Rattle.wq_words.specs.History.{begun}
+use Rattle.wq_words.specs.Legal.{IsLegal}
+use Rattle.wq_live.specs.Known.{Known}
+use Rattle.wq_worker.specs.Seats.{Adds}
+use Rattle.wq_worker.specs.Pair.{Paired}
+
+-- which queue it is of, how large that is, its sender's number, the tries of a queueing, the history that its two seats have
+-- seen, what an execution that has not ended has still to queue, and the work
+pub record WorkerState (W : Type 0) : Type 0 where
+  pub queue : TableId
+  pub layout : Layout
+  pub number : ℕ
+  pub tries : ℕ
+  pub seen : List Event
+  pub left : List ℕ
+  pub work : W
+
+-- the items among the numbers, without barriers and the stop item
+abbrev pub items_of : Layout → List ℕ → List ℕ
+items_of layout ks = filter (λ k. nat_lt k layout.items) ks
+
+-- it is the same worker, whose two seats added the events xs, in this order, and at least n came of other seats
+pub record Moves {W : Type 0} (xs : List Event) (n : ℕ) (a b : WorkerState W) : Type 0 where
+  pub queue : b.queue ≡ a.queue
+  pub layout : b.layout ≡ a.layout
+  pub number : b.number ≡ a.number
+  pub tries : b.tries ≡ a.tries
+  pub adds : Adds a.number xs n a.seen b.seen
+  pub legal : IsLegal b.layout b.seen
+
+-- what holds of a worker's parts: the work has run the items that have begun
+pub record IsFit (log : List ℕ) (tries : ℕ) (at : ℕ) (follow : List ℕ) (o s : Known) : Type 0 where
+  pub paired : Paired o s
+  pub some_try : 0 < tries
+  pub within : at ≤ length follow
+  pub logged : log ≡ items_of o.layout (begun o.seen)

@@ -1,0 +1,87 @@
+//! What the senders of a queue that has run to the end have counted.
+ghost use Rattle.std.specs.Prelude.{◌≡◌, [], All, MatchResult};
+ghost use Rattle.wq_table.specs.Seen.{owner_seat, Grows};
+ghost use Rattle.wq_live.specs.Known.{Sees};
+ghost use Rattle.wq_live.specs.Counts.{sender_counts};
+ghost use Rattle.wq_worker.specs.Book.{IsMade, IsSettled};
+ghost use Rattle.wq_worker.specs.Balance.{Balances, IsUnbalanced};
+
+use crate::balance::{Unbalanced, is_owner_whole, is_whole, sum_met};
+use crate::totals::Totals;
+use std::marker::Model;
+use wq_live::{Owner, Sender, SenderCounts};
+
+/// What one sender has counted.
+#[derive(Clone, Copy, Debug, PartialEq, Eq)]
+pub struct Ledger {
+    pub(crate) number: u32,
+    pub(crate) counts: SenderCounts,
+}
+
+impl Ledger {
+    pub(crate) fn of(sender: &Sender) -> Ledger
+        ensures number { result.number ≡ sender.now.number }
+        ensures counts { result.counts ≡ sender_counts sender.now.number sender.now.seen }
+    {
+        Ledger {
+            number: sender.number(),
+            counts: sender.counts(),
+        }
+    }
+}
+
+/// The owner of a queue that is closed and has run to the end, and what the worker's own sender has counted.
+#[derive(Drop)]
+pub struct Book {
+    owner: Owner,
+    own: Ledger,
+}
+
+impl Model for Book {
+    ghost use Rattle.wq_worker.specs.Book.{BookState, IsSettled};
+
+    ghost Value = { BookState };
+
+    ghost view = { λ b. record { queue = b.owner.queue; layout = b.owner.layout; seen = b.owner.seen; own = b.own } };
+
+    ghost invariant = { λ b. IsSettled b.owner b.own };
+}
+
+impl Book {
+    pub(crate) fn new(owner: Owner, own: Ledger) -> Book
+        requires { IsSettled owner own }
+        ensures { result ≡ record { queue = owner.queue; layout = owner.layout; seen = owner.seen; own = own } }
+    {
+        Book { owner, own }
+    }
+
+    /// The sender meets the owner, so that all that it queued is in the book. Answers what it has counted.
+    pub fn meet(&mut self, sender: &mut Sender) -> Ledger
+        requires { sender.old.queue ≡ self.old.queue }
+        ensures made { IsMade self.new.seen result }
+        ensures number { result.number ≡ sender.old.number }
+        ensures counts { result.counts ≡ sender_counts sender.new.number sender.new.seen }
+        ensures kept { (ledger : Ledger) → IsMade self.old.seen ledger → IsMade self.new.seen ledger }
+        ensures same { (self.new.queue ≡ self.old.queue) × (self.new.layout ≡ self.old.layout) × (self.new.own ≡ self.old.own) }
+        ensures owner { Grows owner_seat [] 0 self.old.seen self.new.seen }
+        ensures sender { Sees [] 0 sender.old sender.new }
+        ensures both { sender.new.seen ≡ self.new.seen }
+    {
+        sender.meet_owner(&mut self.owner);
+        Ledger::of(sender)
+    }
+
+    /// The sums of all counts, where each sender but the worker's has one ledger of this book and no count is saturated.
+    pub fn balance(&self, ledgers: &[Ledger]) -> Result<Totals, Unbalanced>
+        requires { All (IsMade self.now.seen) ledgers.now }
+        ensures { MatchResult result (Balances self.now ledgers.now) (IsUnbalanced self.now ledgers.now) }
+    {
+        let own = self.own;
+        let owner = self.owner.counts();
+        let met = sum_met(ledgers, own.number, self.owner.layout().senders)?;
+        if !is_whole(own.counts) || !is_owner_whole(owner) {
+            return Err(Unbalanced::Saturated(own.number));
+        }
+        Ok(met.with(own.counts).with_owner(owner))
+    }
+}

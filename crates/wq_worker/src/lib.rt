@@ -1,0 +1,22 @@
+//! One worker of an ordered workqueue: it owns the queue and a sender, and runs a function on each item in the queued order
+//! (`alloc_ordered_workqueue`).
+#![tactic(auto)]
+
+mod balance;
+mod book;
+mod drained;
+mod ran;
+mod steps;
+#[cfg(test)]
+mod tests;
+mod totals;
+mod work;
+mod worker;
+
+pub use balance::Unbalanced;
+pub use book::{Book, Ledger};
+pub use drained::{Drained, Unfinished};
+pub use ran::Ran;
+pub use totals::Totals;
+pub use work::{Follow, Work};
+pub use worker::Worker;

@@ -1,0 +1,82 @@
+//! The counts of a queue's seats, summed.
+ghost use Rattle.std.specs.Prelude.{◌≡◌, ◌+◌, ◌^◌, ◌<◌};
+ghost use Rattle.wq_live.specs.Counts.{sender_counts, owner_counts};
+ghost use Rattle.wq_worker.specs.Totals.{own_totals};
+
+use wq_live::{OwnerCounts, SenderCounts};
+
+/// The queueings of some senders by their answers, and the owner's executions.
+#[derive(Clone, Copy, Debug, PartialEq, Eq)]
+pub struct Totals {
+    /// Queued by a sender.
+    pub queued: u128,
+    /// Chained by the owner after the close.
+    pub chained: u128,
+    /// Executions that ended.
+    pub executed: u128,
+    /// Found pending, by a sender or by the owner's chaining.
+    pub pending: u128,
+    /// Given back because the queue was closed.
+    pub closed: u128,
+    /// Given back because other seats changed the list at each try.
+    pub contended: u128,
+}
+
+impl Totals {
+    pub(crate) fn of(sender: SenderCounts, owner: OwnerCounts) -> Totals
+        ensures { (s : _) (h : _) → sender ≡ sender_counts s h → owner ≡ owner_counts h → result ≡ own_totals s h }
+    {
+        Totals {
+            queued: u128::from(sender.queued),
+            chained: u128::from(owner.chained),
+            executed: u128::from(owner.ended),
+            pending: u128::from(sender.pending) + u128::from(owner.chain_busy),
+            closed: u128::from(sender.closed),
+            contended: u128::from(sender.contended),
+        }
+    }
+
+    pub(crate) fn none() -> Totals
+        ensures { result ≡ record { queued = 0; chained = 0; executed = 0; pending = 0; closed = 0; contended = 0 } }
+    {
+        Totals {
+            queued: 0,
+            chained: 0,
+            executed: 0,
+            pending: 0,
+            closed: 0,
+            contended: 0,
+        }
+    }
+
+    // With one sender more.
+    pub(crate) fn with(self, counts: SenderCounts) -> Totals
+        requires { (self.queued < 2 ^ 127) × (self.pending < 2 ^ 127) × (self.closed < 2 ^ 127) × (self.contended < 2 ^ 127) }
+        ensures sums { result ≡ record { queued = self.queued + counts.queued; chained = self.chained; executed = self.executed; pending = self.pending + counts.pending; closed = self.closed + counts.closed; contended = self.contended + counts.contended } }
+        ensures room { (result.queued < self.queued + 2 ^ 64) × (result.pending < self.pending + 2 ^ 64) × (result.closed < self.closed + 2 ^ 64) × (result.contended < self.contended + 2 ^ 64) }
+    {
+        Totals {
+            queued: self.queued + u128::from(counts.queued),
+            chained: self.chained,
+            executed: self.executed,
+            pending: self.pending + u128::from(counts.pending),
+            closed: self.closed + u128::from(counts.closed),
+            contended: self.contended + u128::from(counts.contended),
+        }
+    }
+
+    // With the owner's counts.
+    pub(crate) fn with_owner(self, counts: OwnerCounts) -> Totals
+        requires { self.pending < 2 ^ 127 }
+        ensures { result ≡ record { queued = self.queued; chained = counts.chained; executed = counts.ended; pending = self.pending + counts.chain_busy; closed = self.closed; contended = self.contended } }
+    {
+        Totals {
+            queued: self.queued,
+            chained: u128::from(counts.chained),
+            executed: u128::from(counts.ended),
+            pending: self.pending + u128::from(counts.chain_busy),
+            closed: self.closed,
+            contended: self.contended,
+        }
+    }
+}

@@ -1,0 +1,277 @@
+//! A worker.
+ghost use Rattle.std.specs.Prelude.{◌≡◌, ℕ, ◌+◌, ◌<◌, Some, None, [], ◌∷◌, length, MatchOption, MatchResult};
+ghost use Rattle.std.specs.Fn.{FnOnceTakesAtMut, FnOnceReturnsAtMut};
+ghost use Rattle.wq_words.specs.declared.event.Event.TheVariants.{Close};
+ghost use Rattle.wq_words.specs.History.{accepted, begun, ended, closed, running, IsRunning, IsClosed};
+ghost use Rattle.wq_table.specs.Seen.{owner_seat, own, Grows};
+ghost use Rattle.wq_live.specs.Known.{Sees};
+ghost use Rattle.wq_live.specs.Batch.{TakesAll};
+ghost use Rattle.wq_words.specs.Legal.{IsLegal, IsComplete};
+ghost use Rattle.wq_worker.specs.Seats.{taking, NothingWaits};
+ghost use Rattle.wq_worker.specs.State.{items_of, Moves};
+ghost use Rattle.wq_worker.specs.Step.{Runs, Begins};
+ghost use Rattle.wq_worker.specs.Totals.{own_totals};
+ghost use Rattle.wq_worker.specs.Rows.{RunsSome, Drains, Serves, Closes};
+ghost use Rattle.wq_worker.specs.Book.{Destroys, Leaves};
+
+use crate::book::{Book, Ledger};
+use crate::drained::{Drained, Unfinished, left_of};
+use crate::ran::Ran;
+use crate::steps::{begin_next, end_running, queue_rest};
+use crate::totals::Totals;
+use crate::work::{Follow, Work};
+use crossbeam_utils::sync::Parker;
+use std::marker::Model;
+use std::sync::Wait;
+use wq_live::{Owner, Sender};
+
+/// An owner and a sender of one queue, and the work that runs its items.
+#[derive(Drop)]
+pub struct Worker<W: Work> {
+    owner: Owner,
+    sender: Sender,
+    work: W,
+    tries: u32,
+    follow: Follow,
+    at: usize,
+}
+
+impl<W: Work> Model for Worker<W> {
+    ghost use Rattle.std.specs.Prelude.{drop};
+    ghost use Rattle.wq_worker.specs.State.{WorkerState, IsFit};
+
+    ghost Value = { WorkerState W };
+
+    ghost view = { λ w. record { queue = w.owner.queue; layout = w.owner.layout; number = w.sender.number; tries = w.tries; seen = w.owner.seen; left = drop w.at w.follow.items; work = w.work } };
+
+    ghost invariant = { λ w. IsFit (W.log w.work) w.tries w.at w.follow.items w.owner w.sender };
+}
+
+impl<W: Work> Worker<W> {
+    /// A worker of an owner that has taken nothing and a work that has run nothing. It queues what runs ask for by this
+    /// sender, with so many tries.
+    pub fn new(mut owner: Owner, mut sender: Sender, work: W, tries: u32) -> Worker<W>
+        requires one { sender.queue ≡ owner.queue }
+        requires tries { 0 < tries }
+        requires untouched { own owner_seat owner.seen ≡ [] }
+        requires unrun { W.log work ≡ [] }
+        ensures parts { (result.queue ≡ owner.queue) × (result.layout ≡ owner.layout) × (result.number ≡ sender.number) × (result.tries ≡ tries) × (result.left ≡ []) × (result.work ≡ work) }
+        ensures owner { Grows owner_seat [] 0 owner.seen result.seen }
+        ensures sender { Grows sender.number [] 0 sender.seen result.seen }
+        ensures legal { IsLegal result.layout result.seen }
+    {
+        sender.meet_owner(&mut owner);
+        Worker {
+            owner,
+            sender,
+            work,
+            tries,
+            follow: Follow::new(),
+            at: 0,
+        }
+    }
+
+    // Begins the oldest number and runs the work.
+    fn start(&mut self) -> Option<u32>
+        requires { ¬ IsRunning self.old.seen }
+        ensures { MatchOption result (NothingWaits self.new.seen × (self.new.work ≡ self.old.work) × Moves (taking self.old.seen) 0 self.old self.new) (λ k. Begins W.may self.old k self.new) }
+    {
+        let begun = begin_next(&mut self.owner, &mut self.sender);
+        let Some(number) = begun else {
+            return None;
+        };
+        self.at = 0;
+        if number < self.owner.layout().items {
+            self.follow = self.work.run(number);
+            return Some(number);
+        }
+        self.follow = Follow::new();
+        Some(number)
+    }
+
+    // Queues what is left of the list and ends the execution.
+    fn finish(&mut self, number: u32) -> Ran
+        requires { running self.old.seen ≡ Some number }
+        ensures { Runs W.may result self.old self.new }
+    {
+        let at = queue_rest(
+            &mut self.owner,
+            &mut self.sender,
+            self.follow.as_slice(),
+            self.at,
+            self.tries,
+        );
+        self.at = at;
+        if at < self.follow.len() {
+            return Ran::Owing(number);
+        }
+        end_running(&mut self.owner, &mut self.sender);
+        Ran::of(self.owner.layout(), number)
+    }
+
+    /// Executes the oldest number, after a take where nothing taken waits and the queue is open. What the work asks for is
+    /// queued before the execution ends, by the worker's sender, or chained by the owner once the queue is closed. Where that
+    /// is contended the execution is owed, and the next call goes on with it.
+    pub fn run_one(&mut self) -> Ran
+        ensures { Runs W.may result self.old self.new }
+    {
+        if let Some(number) = self.owner.running() {
+            return self.finish(number);
+        }
+        let Some(number) = self.start() else {
+            return Ran::Nothing;
+        };
+        self.finish(number)
+    }
+
+    /// Executes up to so many numbers, and answers how many executions ended. It stops at the limit, after the stop item,
+    /// where nothing waits, or where an execution is owed.
+    pub fn run_some(&mut self, limit: u32) -> u32
+        ensures { RunsSome W.may limit result self.old self.new }
+    {
+        for done in 0..limit {
+            match self.run_one() {
+                Ran::Item(_) => {}
+                Ran::Barrier(_) => {}
+                Ran::Stop => return done + 1,
+                Ran::Nothing => return done,
+                Ran::Owing(_) => return done,
+            }
+        }
+        limit
+    }
+
+    /// Closes the queue, takes all that stands on the list, and answers how many that is.
+    pub fn close(&mut self) -> u32
+        requires open { ¬ IsClosed self.old.seen }
+        ensures work { (self.new.work ≡ self.old.work) × (self.new.left ≡ self.old.left) }
+        ensures events { Moves (Close ∷ []) 0 self.old self.new }
+        ensures takes { TakesAll Close result self.new.seen }
+    {
+        let taken = self.owner.close();
+        self.sender.meet_owner(&mut self.owner);
+        taken
+    }
+
+    /// Whether the queue is closed.
+    pub fn is_closed(&self) -> bool
+        ensures closed { result ≡ closed self.now.seen }
+        ensures legal { IsLegal self.now.layout self.now.seen }
+        ensures logged { W.log self.now.work ≡ items_of self.now.layout (begun self.now.seen) }
+    {
+        self.owner.is_closed()
+    }
+
+    /// Calls a closure on the work.
+    pub fn adjust<F: FnOnce(&mut W)>(&mut self, f: F)
+        requires callable { FnOnceTakesAtMut F.FnOnce f self.old.work }
+        requires keeps { (v : W) → FnOnceReturnsAtMut F.FnOnce f self.old.work tt v → W.log v ≡ W.log self.old.work }
+        ensures work { FnOnceReturnsAtMut F.FnOnce f self.old.work tt self.new.work }
+        ensures rest { self.new ≡ record self.old { work = self.new.work } }
+    {
+        f(&mut self.work);
+    }
+
+    /// The sender and both seats of the worker meet: afterwards each has seen all that they had seen.
+    pub fn meet(&mut self, sender: &mut Sender)
+        requires { sender.old.queue ≡ self.old.queue }
+        ensures work { (self.new.work ≡ self.old.work) × (self.new.left ≡ self.old.left) }
+        ensures worker { Moves [] 0 self.old self.new }
+        ensures sender { Sees [] 0 sender.old sender.new }
+        ensures both { sender.new.seen ≡ self.new.seen }
+    {
+        sender.meet_both(&mut self.sender, &mut self.owner);
+    }
+
+    /// What the worker's own two seats have counted.
+    pub fn counts(&self) -> Totals
+        ensures { result ≡ own_totals self.now.number self.now.seen }
+    {
+        Totals::of(self.sender.counts(), self.owner.counts())
+    }
+
+    // How many numbers are accepted and have not ended.
+    fn left(&self) -> u32
+        requires { IsClosed self.now.seen }
+        ensures { result + length (ended self.now.seen) ≡ length (accepted self.now.seen) }
+    {
+        left_of(&self.owner)
+    }
+
+    /// Executes until nothing is left of a closed queue, or so many executions have ended (`drain_workqueue`).
+    pub fn drain(&mut self, limit: u32) -> Drained
+        requires { IsClosed self.old.seen }
+        ensures { Drains W.may limit result self.old self.new }
+    {
+        for _done in 0..limit {
+            if self.left() == 0 {
+                return Drained::Empty;
+            }
+            let _ = self.run_one();
+        }
+        let left = self.left();
+        if left == 0 {
+            return Drained::Empty;
+        }
+        Drained::TooLong { left }
+    }
+
+    /// Executes until the stop item ran. It parks where nothing waits, so who queues something unparks it, and goes on at once
+    /// where an execution is owed.
+    pub fn serve<R: Wait>(&mut self, rt: &R, parker: &Parker)
+        requires open { ¬ IsClosed self.old.seen }
+        ensures { Serves W.may self.old self.new }
+    {
+        for _ in rt.forever() {
+            match self.run_one() {
+                Ran::Stop => return,
+                Ran::Nothing => parker.park(rt),
+                Ran::Item(_) => {}
+                Ran::Barrier(_) => {}
+                Ran::Owing(_) => {}
+            }
+        }
+        unreachable!()
+    }
+
+    // Takes a worker apart whose queue has run to the end.
+    fn into_book(self) -> (W, Book)
+        requires { IsComplete self.seen }
+        ensures parts { (result.0 ≡ self.work) × (result.1.queue ≡ self.queue) × (result.1.layout ≡ self.layout) × (result.1.seen ≡ self.seen) × (result.1.own.number ≡ self.number) }
+        ensures logged { W.log result.0 ≡ items_of self.layout (accepted self.seen) }
+    {
+        let Worker {
+            owner,
+            sender,
+            work,
+            tries: _,
+            follow: _,
+            at: _,
+        } = self;
+        let own = Ledger::of(&sender);
+        (work, Book::new(owner, own))
+    }
+
+    // Closes the queue where it is open.
+    fn close_where_open(&mut self)
+        ensures closes { Closes self.old self.new }
+        ensures shut { IsClosed self.new.seen }
+    {
+        if self.is_closed() {
+            return;
+        }
+        self.close();
+    }
+
+    /// Closes the queue where it is open, executes what is left, at most so many, and gives the work back with the book
+    /// (`destroy_workqueue`). Where more is left it gives the worker back.
+    pub fn destroy(mut self, limit: u32) -> Result<(W, Book), Unfinished<W>>
+        ensures { MatchResult result (λ done. Destroys W.log W.may limit self done.0 done.1) (λ unfinished. Leaves W.log W.may limit self unfinished.worker unfinished.left) }
+    {
+        self.close_where_open();
+        match self.drain(limit) {
+            Drained::Empty => Ok(self.into_book()),
+            Drained::TooLong { left } => Err(Unfinished { worker: self, left }),
+        }
+    }
+}
