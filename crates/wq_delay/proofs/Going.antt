@@ -1,0 +1,89 @@
+-- What goes off the table an item at a time.
+use Rattle.std.proofs.Common.{◌≡◌, ℕ, ◌+◌, ◌==◌, true, not, List, [], ◌∷◌, ◌++◌, map, length, refl, sym, ap, ◌∙◌, subst, arith, append_assoc, length-append}
+use Rattle.std.proofs.lemmas.List.{append-nil}
+use Rattle.std.proofs.lemmas.List.Elements.{filter-append}
+use Rattle.wq_words.specs.declared.event.Event.{Event}
+use Rattle.wq_words.specs.declared.event.Event.TheVariants.{Hold, Back}
+use Rattle.wq_words.specs.declared.event.Why.{Why}
+use Rattle.wq_words.specs.declared.event.Why.TheVariants as why
+use Rattle.wq_words.specs.History.{Holds}
+use Rattle.wq_words.specs.Legal.{IsLegal}
+use Rattle.wq_table.specs.Seen.{seat_of, own, others, Grows}
+use Rattle.wq_live.specs.Known.{Known, Sees}
+use Rattle.wq_delay.specs.Table.{Entry, on_table, without, IsOrdered}
+use Rattle.wq_delay.specs.Rows.{Pops}
+use Rattle.wq_delay.proofs.Rows.{first_on, without_first}
+use Rattle.wq_delay.proofs.Sound.{state, IsSound, sound_keeps, sound_leaves, even_back, stops_back}
+
+grows_on : (c : ℕ) (xs ys : List Event) (n m : ℕ) (u v w : List Event) → Grows c xs n u v → Grows c ys m v w → Grows c (xs ++ ys) (n + m) u w
+grows_on c xs ys n m u v w a b = record {
+  new = a.new ++ b.new;
+  is = b.is ∙ (ap (λ (z : List Event). z ++ b.new) a.is ∙ append_assoc u a.new b.new);
+  mine = filter-append (λ e. seat_of e == c) a.new b.new ∙ (ap (λ (z : List Event). z ++ own c b.new) a.mine ∙ ap (λ (z : List Event). xs ++ z) b.mine);
+  theirs = let e = ap (length {A = Event}) (filter-append (λ e. not (seat_of e == c)) a.new b.new) in omega (arith, a.theirs, b.theirs, e, length-append (others c a.new) (others c b.new));
+}
+
+pub sees_on : (xs ys : List Event) (n m : ℕ) (a b c : Known) → Sees xs n a b → Sees ys m b c → Sees (xs ++ ys) (n + m) a c
+sees_on xs ys n m a b c p q = record {
+  same = record { queue_is = q.same.queue_is ∙ p.same.queue_is; layout_is = q.same.layout_is ∙ p.same.layout_is; number_is = q.same.number_is ∙ p.same.number_is };
+  grows = grows_on a.number xs ys n m a.seen b.seen c.seen p.grows (subst (λ (z : ℕ). Grows z ys m b.seen c.seen) p.same.number_is q.grows);
+  legal = q.legal;
+}
+
+pub sees_none : (a : Known) → IsLegal a.layout a.seen → Sees [] 0 a a
+sees_none a legal = record {
+  same = record { queue_is = refl; layout_is = refl; number_is = refl };
+  grows = record { new = []; is = sym (append-nil a.seen); mine = refl; theirs = omega arith };
+  legal = legal;
+}
+
+-- held and given back again
+pub sound_refused : (size k now next : ℕ) (w : Why) (a b c : Known) (t : List Entry) → Sees (Hold a.number k ∷ []) 0 a b → Sees (Back b.number k w ∷ []) 0 b c
+    → IsSound size (state a now next t) → IsSound size (state c now next t)
+sound_refused size k now next w a b c t p q sound =
+    sound_keeps (Hold a.number k ∷ Back a.number k w ∷ []) 0 size a c now next now t
+    (sees_on (Hold a.number k ∷ []) (Back a.number k w ∷ []) 0 0 a b c p (subst (λ (z : ℕ). Sees (Back z k w ∷ []) 0 b c) p.same.number_is q))
+    (λ j. even_back a.number k j w) sound
+
+-- what was given back, and what is left
+abbrev pub backs : ℕ → List Entry → List Event
+backs s es = map (λ e. Back s e.item why.Cancelled) es
+
+backs_push : (s : ℕ) (es : List Entry) (e : Entry) → backs s (es ++ e ∷ []) ≡ backs s es ++ Back s e.item why.Cancelled ∷ []
+backs_push s [] e = refl
+backs_push s (f ∷ fs) e = ap (λ (z : List Event). Back s f.item why.Cancelled ∷ z) (backs_push s fs e)
+
+pub record Given (size : ℕ) (a : Known) (old : List Entry) (b : Known) (new : List Entry) : Type 0 where
+  pub gone : List Entry
+  pub next : ℕ
+  pub split : old ≡ gone ++ new
+  pub seen : Sees (backs a.number gone) 0 a b
+  pub sound : IsSound size (state b 0 next new)
+
+pub given_none : (size : ℕ) (a : Known) (now next : ℕ) (t : List Entry) → IsSound size (state a now next t) → Given size a t a t
+given_none size a now next t sound = record {
+  gone = [];
+  next = next;
+  split = refl;
+  seen = sees_none a sound.1.legal;
+  sound = (sound.0, record { ordered = sound.1.ordered; armed = sound.1.armed; held = sound.1.held; legal = sound.1.legal });
+}
+
+pub popped_held : (size k : ℕ) (a b : Known) (old t u : List Entry) → Given size a old b t → Pops k t u → Holds b.seen b.number k
+popped_held size k a b old t u given pops = (given.sound.1.held k).0 (subst (λ (z : ℕ). on_table z t ≡ true) pops.item_is (first_on t u pops.first pops.is))
+
+pub given_more : (size k : ℕ) (a b c : Known) (old t u : List Entry) → Given size a old b t → Pops k t u → Sees (Back b.number k why.Cancelled ∷ []) 0 b c → Given size a old c u
+given_more size k a b c old t u given pops sees =
+    let e : Entry = pops.first in let s = b.number in
+    let number : b.number ≡ a.number = given.seen.same.number_is in
+    let ordered : IsOrdered (pops.first ∷ u) = subst IsOrdered pops.is given.sound.1.ordered in
+    let left : u ≡ without k t = without_first pops.first u ordered.1 ∙ (ap (without pops.first.item) (sym pops.is) ∙ ap (λ (z : ℕ). without z t) pops.item_is) in
+    let same : Back b.number k why.Cancelled ∷ [] ≡ Back a.number pops.first.item why.Cancelled ∷ [] = ap (λ (z : ℕ). Back z k why.Cancelled ∷ []) number ∙ ap (λ (z : ℕ). Back a.number z why.Cancelled ∷ []) (sym pops.item_is) in
+    let all = sees_on (backs a.number given.gone) (Back a.number pops.first.item why.Cancelled ∷ []) 0 0 a b c given.seen (subst (λ (z : List Event). Sees z 0 b c) same sees) in
+    record {
+      gone = given.gone ++ pops.first ∷ [];
+      next = given.next;
+      split = given.split ∙ (ap (λ (z : List Entry). given.gone ++ z) pops.is ∙ sym (append_assoc given.gone (pops.first ∷ []) u));
+      seen = subst (λ (z : List Event). Sees z 0 a c) (sym (backs_push a.number given.gone pops.first)) all;
+      sound = sound_leaves (Back b.number k why.Cancelled) size 0 k b c 0 given.next t u sees (λ j. refl) (λ j. stops_back b.number k j why.Cancelled) left given.sound;
+    }

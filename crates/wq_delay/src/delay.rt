@@ -1,0 +1,237 @@
+//! The delay table of a queue.
+ghost use Rattle.std.specs.Prelude.{◌≡◌, ℕ, ◌+◌, ◌^◌, ◌<◌, ◌↔◌, IfOk, IfErr, [], length, true, MatchOption};
+ghost use Rattle.wq_delay.specs.declared.answer.Armed.TheVariants as armed;
+ghost use Rattle.wq_delay.specs.declared.answer.Modified.TheVariants as modified;
+ghost use Rattle.wq_words.specs.History.{Holds};
+ghost use Rattle.wq_live.specs.Known.{Sees};
+ghost use Rattle.wq_delay.specs.Table.{items, on_table, due_part};
+ghost use Rattle.wq_delay.specs.Delay.{IsFit, IsBeyond, IsTooFar, Keeps, Arms, Cancels, Modifies, PostsOne, PostsDue, Advances, GivesBack};
+
+use crate::answer::{Advance, Armed, Backwards, Modified, NoRoom};
+use crate::timetable::Timetable;
+use std::alloc::{AllocError, Global};
+use std::marker::Model;
+use wq_live::{Posted, Sender};
+use wq_words::Layout;
+
+const LONGEST: u64 = 4_294_967_295;
+
+// The tick after a delay, where neither the delay, nor the tick, nor the number of the next arming is too large.
+fn tick_after(now: u64, next: u128, delay: u64) -> Option<u64>
+    ensures { MatchOption result (IsBeyond delay now next) (λ due. (¬ IsBeyond delay now next) × (due ≡ now + delay)) }
+{
+    if delay > LONGEST || next > u64::MAX as u128 {
+        return None;
+    }
+    now.checked_add(delay)
+}
+
+/// A sender, and the items that it holds until their ticks.
+#[derive(Drop)]
+pub struct Delay {
+    alloc: Global,
+    sender: Sender,
+    table: Timetable,
+    tick: u64,
+    next: u128,
+}
+
+impl Model for Delay {
+    ghost use Rattle.std.specs.Prelude.{◌≡◌};
+    ghost use Rattle.wq_delay.specs.Delay.{DelayState, IsFit};
+
+    ghost Value = { DelayState };
+
+    ghost view = { λ d. record { sender = d.sender; tick = d.tick; next = d.next; table = d.table.entries } };
+
+    ghost invariant = { λ d. (d.table.size ≡ d.sender.layout.items) × IsFit (record { sender = d.sender; tick = d.tick; next = d.next; table = d.table.entries }) };
+}
+
+impl Delay {
+    /// A delay table at the tick `now`, with nothing on it, over a sender that holds nothing. Where memory is refused the
+    /// sender is given back.
+    pub fn new(alloc: Global, sender: Sender, now: u64) -> Result<Delay, NoRoom>
+        requires { (k : ℕ) → ¬ Holds sender.seen sender.number k }
+        ensures made { IfOk result (λ d. (d.sender ≡ sender) × (d.tick ≡ now) × (d.next ≡ 0) × (d.table ≡ [])) }
+        ensures fit { IfOk result IsFit }
+        ensures refused { IfErr result (λ e. e.sender ≡ sender) }
+    {
+        match Timetable::new(alloc, sender.layout().items) {
+            Ok(table) => Ok(Delay {
+                alloc,
+                sender,
+                table,
+                tick: now,
+                next: 0,
+            }),
+            Err(AllocError) => Err(NoRoom { sender }),
+        }
+    }
+
+    /// The size of its queue. `fit` is what holds of every delay table: its items are those that its sender holds.
+    pub fn layout(&self) -> Layout
+        ensures layout { result ≡ self.now.sender.layout }
+        ensures fit { IsFit self.now }
+    {
+        self.sender.layout()
+    }
+
+    /// How many items are on the table.
+    pub fn len(&self) -> usize
+        ensures { result ≡ length self.now.table }
+    {
+        self.table.len()
+    }
+
+    /// Puts an idle item on the table, due so many ticks from now, and with delay 0 queues it at once with at most so many
+    /// tries (`queue_delayed_work`). A delay is at most `2^32 - 1`.
+    pub fn arm(&mut self, item: u32, delay: u64, tries: u32) -> Armed
+        requires item { item < self.old.sender.layout.items }
+        requires tries { 0 < tries }
+        ensures answer { Arms item delay tries result self.old self.new }
+        ensures far { (result ≡ armed.TooFar) ↔ IsTooFar delay self.old }
+    {
+        let Some(due) = tick_after(self.tick, self.next, delay) else {
+            return Armed::TooFar;
+        };
+        if delay == 0 {
+            return Armed::of(self.sender.queue_tries(item, tries));
+        }
+        if !self.sender.hold(item) {
+            return Armed::Pending;
+        }
+        if self.table.put(item, due, self.next as u64).is_err() {
+            self.sender.give_back(item);
+            return Armed::Memory;
+        }
+        self.next += 1;
+        Armed::OnTable
+    }
+
+    /// Takes an item off the table and gives it back (`cancel_delayed_work`). False where it is not on the table.
+    pub fn cancel(&mut self, item: u32) -> bool
+        requires { item < self.old.sender.layout.items }
+        ensures { Cancels item result self.old self.new }
+    {
+        if !self.table.take(item) {
+            return false;
+        }
+        self.sender.give_back(item);
+        true
+    }
+
+    /// Gives an item on the table a new tick, so many ticks from now, and a new arming, and with delay 0 queues it at once with
+    /// at most so many tries. Arms an idle item, as `arm` (`mod_delayed_work`). A delay is at most `2^32 - 1`.
+    pub fn modify(&mut self, item: u32, delay: u64, tries: u32) -> Modified
+        requires item { item < self.old.sender.layout.items }
+        requires tries { 0 < tries }
+        ensures answer { Modifies item delay tries result self.old self.new }
+        ensures far { (result ≡ modified.TooFar) ↔ IsTooFar delay self.old }
+    {
+        let Some(due) = tick_after(self.tick, self.next, delay) else {
+            return Modified::TooFar;
+        };
+        if !self.table.has(item) {
+            return Modified::of(self.arm(item, delay, tries));
+        }
+        if delay == 0 {
+            return Modified::of_posted(self.post_item(item, tries));
+        }
+        if self.table.replace(item, due, self.next as u64).is_err() {
+            return Modified::Memory;
+        }
+        self.next += 1;
+        Modified::Moved
+    }
+
+    // Posts an item on the table, which leaves the table unless the post is contended.
+    fn post_item(&mut self, item: u32, tries: u32) -> Posted
+        requires item { item < self.old.sender.layout.items }
+        requires tries { 0 < tries }
+        requires on { on_table item self.old.table ≡ true }
+        ensures { PostsOne item tries result self.old self.new }
+    {
+        match self.sender.post(item, tries) {
+            Posted::Contended => Posted::Contended,
+            posted => {
+                self.table.take(item);
+                posted
+            }
+        }
+    }
+
+    // Posts the items that are due at the present tick, in order, until a post is contended. How many were queued, and how
+    // many given back.
+    fn post_due(&mut self, tries: u32) -> (u32, u32)
+        requires tries { 0 < tries }
+        requires few { length self.old.table < 2 ^ 32 }
+        ensures tick { self.new.tick ≡ self.old.tick }
+        ensures sum { result.0 + result.1 + length self.new.table ≡ length self.old.table }
+        ensures posts { PostsDue self.old.tick tries self.old self.new result.0 result.1 }
+    {
+        let now = self.tick;
+        let mut pushed = 0;
+        let mut refused = 0;
+        while let Some(item) = self.table.first_due(now) {
+            match self.post_item(item, tries) {
+                Posted::Queued { .. } => pushed += 1,
+                Posted::Closed => refused += 1,
+                Posted::Contended => return (pushed, refused),
+            }
+        }
+        (pushed, refused)
+    }
+
+    /// The items that are due at a tick, in the order in which they go out: by their ticks, and at one tick by their armings.
+    pub fn due_list(&self, now: u64) -> Result<Vec<u32>, AllocError>
+        ensures { IfOk result (λ list. list.items ≡ items (due_part now self.now.table)) }
+    {
+        self.table.list_due(self.alloc, now)
+    }
+
+    /// Afterwards the table's sender and the other have each seen all that both had seen.
+    pub fn meet(&mut self, other: &mut Sender)
+        requires { self.old.sender.queue ≡ other.old.queue }
+        ensures this { Keeps [] 0 self.old self.new }
+        ensures that { Sees [] 0 other.old other.new }
+        ensures both { other.new.seen ≡ self.new.sender.seen }
+        ensures layout { other.old.layout ≡ self.old.sender.layout }
+    {
+        self.sender.meet(other);
+    }
+
+    /// Leads the table on to a tick and queues what is due, in order, each with at most so many tries. Where the queue is
+    /// closed an item is given back. Where a post is contended the call ends, and it stays on the table with those after it.
+    pub fn advance(&mut self, now: u64, tries: u32) -> Result<Advance, Backwards>
+        requires { 0 < tries }
+        ensures { Advances now tries result self.old self.new }
+    {
+        if now < self.tick {
+            return Err(Backwards);
+        }
+        let armed = self.table.len() as u32;
+        self.tick = now;
+        let (pushed, refused) = self.post_due(tries);
+        Ok(Advance {
+            pushed,
+            refused,
+            waiting: armed - pushed - refused,
+        })
+    }
+
+    /// Gives back all that is on the table, and leaves the sender.
+    pub fn dissolve(self) -> Sender
+        ensures given { GivesBack self result }
+        ensures free { (k : ℕ) → ¬ Holds result.seen result.number k }
+    {
+        let Delay {
+            mut sender,
+            mut table,
+            ..
+        } = self;
+        while let Some(item) = table.pop() {
+            sender.give_back(item);
+        }
+        sender
+    }
+}

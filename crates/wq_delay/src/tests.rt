@@ -1,0 +1,4 @@
+//! Calls of a delay table in one thread.
+mod memory;
+mod rows;
+mod seats;
