@@ -1,0 +1,68 @@
+-- When a word is a number.
+use Rattle.std.proofs.Common.{◌≡◌, ℕ, ◌<◌, ◌≤◌, ◌^◌, Bool, true, false, not, ◌&&◌, ◌||◌, List, [], ◌∷◌, length, get_or, Some, None, Result, Ok, Err, nat_lt, nat_le, ◌==◌, refl, sym, ◌∙◌, arith, inl, inr, subst, if◌then◌else◌, ◌⊎◌}
+use Rattle.std.specs.Str.{all_ascii_digits}
+use Rattle.std.specs.Str.Parse.{ParsesUnsigned, digits_value}
+use Rattle.std.specs.Result.{result_ok, OkIff}
+use Rattle.std.proofs.lemmas.Bool.{lt-ltb, le-ltb, le-leb, lt-leb, eq-eqb, ne_eqb, eqb-false}
+use Rattle.std.proofs.lemmas.Str.Parse.{IsNumeralModel, numerals_by_value, tells_all_ascii_digits, parse_plain}
+use Rattle.wq_text.specs.Word.{number_at}
+
+pub own : IsNumeralModel (λ ds. all_ascii_digits ds ≡ true) (digits_value 10)
+own = numerals_by_value _ tells_all_ascii_digits
+
+pub nonempty : (w : List ℕ) → (length w == 0) ≡ false → 0 < length w
+nonempty w e = let differs = eqb-false _ _ e in omega (arith, differs)
+
+pub no_empty : (w : List ℕ) → length w ≡ 0 → None ≡ number_at w
+unfolding number_at
+no_empty [] e = refl
+no_empty (b ∷ bs) e = absurd (omega (arith, e))
+
+all_and : (b : Bool) → (b && false) ≡ false
+all_and true = refl
+all_and false = refl
+
+plus_first : (b : ℕ) (bs : List ℕ) → b ≡ 43 → None ≡ number_at (b ∷ bs)
+unfolding number_at
+plus_first b bs e = let P : ℕ → Type 0 = λ n. None ≡ number_at (n ∷ bs) in subst P (sym e) (simp all_and)
+
+pub no_plus : (w : List ℕ) → 0 < length w → get_or w 0 0 ≡ 43 → None ≡ number_at w
+unfolding number_at
+no_plus [] lt e = absurd (omega (arith, lt))
+no_plus (b ∷ bs) lt e = plus_first b bs e
+
+pub no_zero : (w : List ℕ) → 1 < length w → get_or w 0 0 ≡ 48 → None ≡ number_at w
+unfolding number_at
+no_zero w lt e =
+    let long : nat_le (length w) 1 ≡ false = lt-leb _ _ lt in
+    let first : (get_or w 0 0 == 48) ≡ true = eq-eqb _ _ e in
+    simp (long, first, all_and)
+
+no_zeros : (w : List ℕ) → (length w ≤ 1) ⊎ (get_or w 0 0 ≡ 48 → ⊥) → (nat_le (length w) 1 || not (get_or w 0 0 == 48)) ≡ true
+no_zeros w (inl le) = rw (le-leb _ _ le) refl
+no_zeros w (inr differs) = rw (ne_eqb _ _ differs) (or_true (nat_le (length w) 1))
+  where
+    or_true : (b : Bool) → (b || true) ≡ true
+    or_true true = refl
+    or_true false = refl
+
+by_digits : {E : Type 0} (b : Bool) (w : List ℕ) (r : Result ℕ E) → all_ascii_digits w ≡ b → 0 < length w
+    → OkIff r ((all_ascii_digits w ≡ true) × (0 < length w) × (digits_value 10 w < 2 ^ 64)) (digits_value 10 w)
+    → result_ok r ≡ (if (b && true) && nat_lt (digits_value 10 w) (2 ^ 64) then Some (digits_value 10 w) else None)
+by_digits {E} true w (Ok x) e lt h = rw (lt-ltb _ _ h.0.2, h.1) refl
+by_digits {E} true w (Err x) e lt h = rw (le-ltb (digits_value 10 w) (2 ^ 64) (not_below (λ small. h (e, lt, small)))) refl
+  where
+    not_below : {m n : ℕ} → (m < n → ⊥) → n ≤ m
+    not_below h = omega (arith, h)
+by_digits {E} false w (Ok x) e lt h = absurd (false_true (sym e ∙ h.0.0))
+  where
+    false_true : false ≡ true → ⊥
+    false_true e = cc
+by_digits {E} false w (Err x) e lt h = refl
+
+pub parsed : {E : Type 0} (w : List ℕ) (r : Result ℕ E) → ParsesUnsigned 64 10 w r → 0 < length w → (get_or w 0 0 ≡ 43 → ⊥) → (length w ≤ 1) ⊎ (get_or w 0 0 ≡ 48 → ⊥) → result_ok r ≡ number_at w
+unfolding number_at
+parsed {E} w r h lt plus zeros =
+    let positive : nat_lt 0 (length w) ≡ true = lt-ltb _ _ lt in
+    let third : (nat_le (length w) 1 || not (get_or w 0 0 == 48)) ≡ true = no_zeros w zeros in
+    rw (positive, third) (by_digits (all_ascii_digits w) w r refl lt (parse_plain own 64 w r h plus))

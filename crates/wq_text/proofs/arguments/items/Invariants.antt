@@ -1,0 +1,12 @@
+use Rattle.std.proofs.Common.{◌≡◌, ◌<◌, All, length, drop, map}
+use Rattle.wq_text.specs.Arguments.{item, each}
+use Rattle.wq_text.proofs.FollowItems.{behind}
+use Rattle.wq_text.proofs.arguments.items.Given as goal
+
+-- what is left, read behind what was read, gives what all words give
+abbrev pub invariant-loop-word : goal.invariant-loop-word
+invariant-loop-word l = record {
+  few : length l.follow.items ≡ l.word-index;
+  within : All (λ n. n < l.header.items) l.follow.items;
+  told : each (item l.header) (map (λ w. w.now) l.words) ≡ behind (item l.header) l.follow.items (drop l.word-index l.words);
+}

@@ -1,0 +1,76 @@
+-- The words behind a keyword, and the numbers that they are.
+use Rattle.std.specs.Prelude.{ℕ, ◌&&◌, List, [], ◌∷◌, length, Result, Ok, Err, nat_lt, nat_le, if◌then◌else◌}
+use Rattle.wq_text.specs.declared.fault.Kind.{Kind}
+use Rattle.wq_text.specs.declared.fault.Kind.TheVariants as kind
+use Rattle.wq_text.specs.declared.header.Header.{Header}
+use Rattle.wq_text.specs.Fault.{◌>>=◌, need, found}
+use Rattle.wq_text.specs.Word.{number_at}
+
+-- a word that is a number, and its range
+abbrev pub number : List ℕ → Result ℕ Kind
+number w = found kind.Number (number_at w)
+
+unfoldable pub between : Kind → ℕ → ℕ → List ℕ → Result ℕ Kind
+between k low high w = do
+  n ← number w
+  _ ← need k (nat_le low n && nat_le n high)
+  Ok n
+
+unfoldable pub below : Kind → ℕ → List ℕ → Result ℕ Kind
+below k bound w = do
+  n ← number w
+  _ ← need k (nat_lt n bound)
+  Ok n
+
+abbrev pub sender : Header → List ℕ → Result ℕ Kind
+sender header w = below kind.Sender header.senders w
+
+abbrev pub item : Header → List ℕ → Result ℕ Kind
+item header w = below kind.Item header.items w
+
+abbrev pub barrier : Header → List ℕ → Result ℕ Kind
+barrier header w = below kind.Barrier header.barriers w
+
+abbrev pub limit : List ℕ → Result ℕ Kind
+limit w = between kind.Limit 1 65536 w
+
+-- so many words stand there
+abbrev pub no_word : List (List ℕ) → Result (Unit {0}) Kind
+no_word [] = Ok tt
+no_word ws = Err kind.Count
+
+abbrev pub one_word : List (List ℕ) → Result (List ℕ) Kind
+one_word (w ∷ []) = Ok w
+one_word ws = Err kind.Count
+
+abbrev pub two_words : List (List ℕ) → Result (List ℕ × List ℕ) Kind
+two_words (w ∷ v ∷ []) = Ok (w, v)
+two_words ws = Err kind.Count
+
+abbrev pub word_and_at_most : ℕ → List (List ℕ) → Result (List ℕ × List (List ℕ)) Kind
+word_and_at_most n [] = Err kind.Count
+word_and_at_most n (w ∷ ws) = if nat_le (length ws) n then Ok (w, ws) else Err kind.Count
+
+-- their numbers, word by word from the left
+abbrev pub one : (List ℕ → Result ℕ Kind) → List (List ℕ) → Result ℕ Kind
+one read ws = do
+  w ← one_word ws
+  read w
+
+abbrev pub two : (List ℕ → Result ℕ Kind) → (List ℕ → Result ℕ Kind) → List (List ℕ) → Result (ℕ × ℕ) Kind
+two first second ws = do
+  w ← two_words ws
+  x ← first w.0
+  y ← second w.1
+  Ok (x, y)
+
+unfoldable pub each : (List ℕ → Result ℕ Kind) → List (List ℕ) → Result (List ℕ) Kind
+each read [] = Ok []
+each read (w ∷ ws) = read w >>= λ x. each read ws >>= λ xs. Ok (x ∷ xs)
+
+abbrev pub one_and_at_most : ℕ → (List ℕ → Result ℕ Kind) → List (List ℕ) → Result (ℕ × List ℕ) Kind
+one_and_at_most n read ws = do
+  w ← word_and_at_most n ws
+  x ← read w.0
+  xs ← each read w.1
+  Ok (x, xs)

@@ -1,0 +1,14 @@
+pub mod Fits
+pub mod Script
+pub mod Word
+pub mod Decimal
+pub mod Fault
+pub mod Header
+pub mod Arguments
+pub mod Line
+pub mod Text
+pub mod Sound
+pub mod FirstFault
+pub mod Turn
+pub mod Turns
+pub mod Schedule
