@@ -49,7 +49,7 @@ ended_run worker follows g (Some k) =
     ended-append (fold (after_follow worker) (g ++ Begin k ∷ []) (follow_of follows k)) (End k ∷ [])
     ∙ ap (λ x. x ++ k ∷ []) (ended_follows worker (g ++ Begin k ∷ []) (follow_of follows k) ∙ ended-append g (Begin k ∷ []) ∙ append-nil (ended g))
 
-ended_execution : (worker : ℕ) (follows : List (ArrayVec ℕ)) (g : List Event) → ended (after_execution worker follows g) ≡ ended g ++ option_to_list (next g)
+pub ended_execution : (worker : ℕ) (follows : List (ArrayVec ℕ)) (g : List Event) → ended (after_execution worker follows g) ≡ ended g ++ option_to_list (next g)
 ended_execution worker follows g = ended_run worker follows (g ++ take_events g) (next g) ∙ ap (λ x. x ++ option_to_list (next g)) (ended_take g)
 
 -- a whole execution, once its follow items were queued
@@ -92,7 +92,7 @@ pub told_done : {s : State} {ran : List ℕ} {worker : ℕ} {follows : List (Arr
 told_done {s} {ran} {worker} {follows} {ends} {left} {h} {all} none t =
     reached s ran h t.so_far all t.stands t.told (ap (λ n. after_executions worker follows ends n t.so_far) (sym none) ∙ t.rest)
 
-one_more : (worker : ℕ) (follows : List (ArrayVec ℕ)) (ends : ℕ → Bool) (left n k : ℕ) (g : List Event) → n ≡ suc left → Some k ≡ next g
+pub one_more : (worker : ℕ) (follows : List (ArrayVec ℕ)) (ends : ℕ → Bool) (left n k : ℕ) (g : List Event) → n ≡ suc left → Some k ≡ next g
     → after_executions worker follows ends n g ≡ (if ends k then after_execution worker follows g else after_executions worker follows ends left (after_execution worker follows g))
 one_more worker follows ends left n k g count wants = ap (λ m. after_executions worker follows ends m g) count
     ∙ ap (go_on (after_executions worker follows ends left) ends (after_execution worker follows g)) (sym wants)

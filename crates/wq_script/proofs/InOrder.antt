@@ -10,8 +10,8 @@ use Rattle.wq_script.specs.declared.delays.Entry.{Entry}
 use Rattle.wq_words.specs.declared.layout.Layout.{Layout}
 use Rattle.wq_words.specs.History.{pending, closed}
 use Rattle.wq_words.specs.declared.event.Event.{Event}
-use Rattle.wq_script.specs.declared.command.Command.{Command}
-use Rattle.wq_script.specs.declared.command.Command.TheVariants as command
+use Rattle.wq_text.specs.declared.command.Command.{Command}
+use Rattle.wq_text.specs.declared.command.Command.TheVariants as command
 use Rattle.wq_script.specs.Table.{Table, goes_before, armed, without, is_for, is_due, is_on, is_too_far, at_tick}
 use Rattle.wq_script.specs.Arming.{arm_table, modify_table}
 use Rattle.wq_script.specs.Commands.{ScriptState, opening, after, after_row}

@@ -6,11 +6,5 @@ pub mod Executions
 pub mod Armings
 pub mod Outputs
 pub mod Meanings
-pub mod Words
-pub mod Decimal
-pub mod FollowItems
-pub mod LineWords
-pub mod Texts
-pub mod Sound
-pub mod FirstFault
 pub mod InOrder
+pub mod ScheduleLines

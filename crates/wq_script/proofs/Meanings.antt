@@ -2,8 +2,8 @@
 use Rattle.std.proofs.Common.{◌≡◌, ℕ, true, false, List, ◌++◌, nat_lt, if◌then◌else◌, None, Result, Ok, Err, OnOk, sym, ap, ◌∙◌, subst, codes}
 use Rattle.wq_words.specs.declared.layout.Layout.{Layout}
 use Rattle.wq_words.specs.History.{closed}
-use Rattle.wq_script.specs.declared.command.Command.{Command}
-use Rattle.wq_script.specs.declared.command.Command.TheVariants as command
+use Rattle.wq_text.specs.declared.command.Command.{Command}
+use Rattle.wq_text.specs.declared.command.Command.TheVariants as command
 use Rattle.wq_script.specs.Execution.{ended_since}
 use Rattle.wq_script.specs.Table.{due_items, at_tick}
 use Rattle.wq_script.specs.Arming.{advance_events}

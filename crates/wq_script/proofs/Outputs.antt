@@ -2,7 +2,7 @@
 use Rattle.std.proofs.Common.{◌≡◌, ℕ, ◌+◌, ◌<◌, List, [], ◌∷◌, ◌++◌, length, drop, get_or, refl, sym, ap, ◌∙◌, append_assoc, drop-cons, add-one}
 use Rattle.std.proofs.lemmas.List.{append-nil}
 use Rattle.wq_words.specs.declared.layout.Layout.{Layout}
-use Rattle.wq_script.specs.declared.command.Command.{Command}
+use Rattle.wq_text.specs.declared.command.Command.{Command}
 use Rattle.wq_script.specs.Commands.{ScriptState, after, lines, output_from}
 
 -- what is left at place i is its command and the rest

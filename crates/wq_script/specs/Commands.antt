@@ -5,8 +5,8 @@ use Rattle.wq_words.specs.declared.layout.Layout.{Layout}
 use Rattle.wq_words.specs.declared.event.Event.{Event}
 use Rattle.wq_words.specs.Numbers.{stop_number}
 use Rattle.wq_words.specs.History.{accepted, ended, pending, closed}
-use Rattle.wq_script.specs.declared.command.Command.{Command}
-use Rattle.wq_script.specs.declared.command.Command.TheVariants as command
+use Rattle.wq_text.specs.declared.command.Command.{Command}
+use Rattle.wq_text.specs.declared.command.Command.TheVariants as command
 use Rattle.wq_script.specs.Queueing.{queue_events, queue_answer, close_events, close_answer}
 use Rattle.wq_script.specs.Execution.{no_follow, after_executions, ends_at, ended_since}
 use Rattle.wq_script.specs.Table.{Table, due_items, is_on, without, at_tick}

@@ -1,6 +1,6 @@
 -- What an engine and a state of a script's meaning have to do with each other.
 use Rattle.std.specs.Prelude.{◌≡◌, ℕ, ◌+◌, ◌^◌, ◌≤◌, List, [], ◌++◌}
-use Rattle.wq_script.specs.declared.command.Command.{Command}
+use Rattle.wq_text.specs.declared.command.Command.{Command}
 use Rattle.wq_script.specs.declared.engine.Engine.{Engine}
 use Rattle.wq_script.specs.Standing.{Stands, calls}
 use Rattle.wq_script.specs.Delays.{table_of}

@@ -1,4 +1,3 @@
-pub mod Fits
 pub mod Answer
 pub mod Report
 pub mod Queueing
@@ -12,14 +11,6 @@ pub mod Follows
 pub mod Names
 pub mod Commands
 pub mod Engine
-pub mod Script
-pub mod Word
-pub mod Decimal
-pub mod Fault
-pub mod Header
-pub mod Arguments
-pub mod Line
-pub mod Text
-pub mod Sound
-pub mod FirstFault
 pub mod Order
+pub mod Replies
+pub mod ScheduleOutput

@@ -2,7 +2,7 @@
 use Rattle.std.specs.Prelude.{◌≡◌, true, List, fold}
 use Rattle.std.specs.List.{AllPairs}
 use Rattle.wq_words.specs.declared.layout.Layout.{Layout}
-use Rattle.wq_script.specs.declared.command.Command.{Command}
+use Rattle.wq_text.specs.declared.command.Command.{Command}
 use Rattle.wq_script.specs.declared.delays.Entry.{Entry}
 use Rattle.wq_script.specs.Table.{goes_before}
 use Rattle.wq_script.specs.Commands.{ScriptState, opening, after}

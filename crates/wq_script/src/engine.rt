@@ -2,15 +2,15 @@
 ghost use Rattle.std.specs.Prelude.{◌≡◌, ℕ, ◌+◌, ◌^◌, ◌<◌, ◌≤◌, length, IfOk, OnOk, string_bytes};
 ghost use Rattle.wq_words.specs.Numbers.{number_count};
 ghost use Rattle.wq_script.specs.Follows.{AllFit, AllFit-prop};
-ghost use Rattle.wq_script.specs.Fits.{Fits, IsItem, IsBarrier};
+ghost use Rattle.wq_text.specs.Fits.{Fits, IsItem, IsBarrier};
 ghost use Rattle.wq_script.specs.Commands.{opening};
 
 use crate::answer::write_close;
-use crate::command::{Command, Follow};
 use crate::follows::Follows;
 use crate::lines::{advance_word, either, write_left, write_line, write_row};
 use crate::queue::Queue;
 use std::alloc::{AllocError, Global};
+use wq_text::{Command, Follow};
 use wq_words::Layout;
 
 /// A queue, its delay table, and a list for each item, all of one layout.

@@ -3,8 +3,8 @@ ghost use Rattle.std.specs.Prelude.{◌≡◌, ℕ, ◌<◌, ◌≤◌, length, 
 ghost use Rattle.wq_script.specs.Execution.{follow_of, no_follow};
 ghost use Rattle.wq_script.specs.Follows.{AllFit};
 
-use crate::command::Follow;
 use std::alloc::{AllocError, Global};
+use wq_text::Follow;
 
 /// For each item the list that its function answers, empty at first.
 #[derive(Drop)]

@@ -1,32 +1,28 @@
-//! Scripts of commands: from the bytes of a text to the bytes of a report.
+//! Scripts of commands and schedules of steps: from what was read to the bytes of a report. Their texts are read by
+//! `wq_text`.
 #![tactic(auto)]
 
 mod answer;
-mod arguments;
-mod command;
 mod delays;
 mod engine;
-mod fault;
 mod follows;
-mod header;
-mod line;
 mod lines;
 mod order;
 mod output;
 mod queue;
+mod replies;
 mod report;
-mod script;
-mod text;
-#[cfg(test)]
-mod text_tests;
-mod word;
+mod schedule_output;
 #[cfg(test)]
 mod worked_scripts;
 
-pub use command::{Command, Follow};
-pub use fault::{Kind, ParseError, ScriptError};
+pub use answer::{Answer, Armed, Modified, write_close};
+pub use lines::{advance_word, either, write_left, write_line, write_row};
 pub use order::ordered_tables;
 pub use output::{RunError, run};
-pub use script::Script;
-pub use text::{parse, tells_lines};
-pub use word::reads_decimals;
+pub use report::Counts;
+pub use schedule_output::{one_output, run_steps};
+pub use wq_text::{
+    Command, Follow, Kind, ParseError, Schedule, Script, ScriptError, parse, parse_steps,
+    reads_decimals, tells_lines, tells_turns,
+};

@@ -38,7 +38,7 @@ pub fn advance_word(is_closed: bool, posted: &[u32]) -> &'static str
 }
 
 /// Writes a space and the name of a number.
-fn write_name(layout: &Layout, number: u32, out: &mut String) -> Result<(), AllocError>
+pub fn write_name(layout: &Layout, number: u32, out: &mut String) -> Result<(), AllocError>
     ensures { OnOk result (string_bytes out.new ≡ string_bytes out.old ++ named layout.now number) }
 {
     if number < layout.items {

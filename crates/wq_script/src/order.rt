@@ -1,8 +1,8 @@
 //! What the delay table of a script keeps.
 ghost use Rattle.wq_script.specs.Order.{IsInOrder, final_state};
-ghost use Rattle.wq_script.specs.Script.{layout_of, commands_of};
+ghost use Rattle.wq_text.specs.Script.{layout_of, commands_of};
 
-use crate::script::Script;
+use wq_text::Script;
 
 /// The delay table stands in the order of due tick and arming number after every script, so what is due goes out in that
 /// order. A law, which computes nothing.

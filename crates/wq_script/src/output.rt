@@ -1,14 +1,14 @@
 //! A script's run, from commands to the bytes of its output.
 ghost use Rattle.std.specs.Prelude.{◌≡◌, IfOk, string_bytes};
 ghost use Rattle.wq_script.specs.Commands.{output_of};
-ghost use Rattle.wq_script.specs.Script.{layout_of, commands_of};
+ghost use Rattle.wq_text.specs.Script.{layout_of, commands_of};
 
 use crate::engine::Engine;
-use crate::script::Script;
 use std::alloc::{AllocError, Global};
 use thiserror::Error;
+use wq_text::Script;
 
-/// Why a script did not run to its end.
+/// Why a script or a schedule did not run to its end.
 #[derive(Clone, Copy, Debug, PartialEq, Eq, Error)]
 pub enum RunError {
     /// An allocation was refused.

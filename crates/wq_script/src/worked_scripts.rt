@@ -1,6 +1,6 @@
 //! Worked scripts, each with its output.
 ghost use Rattle.std.specs.Prelude.{true, ◌≡◌, All};
-ghost use Rattle.wq_script.specs.Fits.{Fits};
+ghost use Rattle.wq_text.specs.Fits.{Fits};
 
 use crate::{Command, Follow, Script, run};
 use std::alloc::Global;

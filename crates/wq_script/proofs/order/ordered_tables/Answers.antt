@@ -1,4 +1,4 @@
-use Rattle.wq_script.specs.Script.{layout_of, commands_of}
+use Rattle.wq_text.specs.Script.{layout_of, commands_of}
 use Rattle.wq_script.proofs.InOrder.{final_in_order}
 use Rattle.wq_script.proofs.order.ordered_tables.Goals as goal
 

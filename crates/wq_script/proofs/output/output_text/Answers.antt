@@ -1,8 +1,8 @@
 use Rattle.std.proofs.Common.{◌≡◌, arith, ◌∙◌, ap, sym, ◌++◌, ◌∷◌, ◌+◌, ◌*◌, ◌^◌, ◌<◌, drop, List, length, get_or, string_bytes, subst}
 use Rattle.std.proofs.Math.ListN.{drop_of_length-le}
 use Rattle.wq_words.specs.declared.layout.Layout.{Layout}
-use Rattle.wq_script.specs.declared.command.Command.{Command}
-use Rattle.wq_script.specs.Fits.{Fits}
+use Rattle.wq_text.specs.declared.command.Command.{Command}
+use Rattle.wq_text.specs.Fits.{Fits}
 use Rattle.wq_script.specs.Commands.{opening, after, lines, output_from}
 use Rattle.wq_script.specs.Engine.{Meets}
 use Rattle.wq_script.proofs.Outputs.{left_at, output_more, output_done}

@@ -1,6 +1,6 @@
 use Rattle.std.proofs.Common.{ℕ, ◌<◌, slice_index_or}
-use Rattle.wq_script.specs.declared.command.Command.{Command}
-use Rattle.wq_script.specs.Fits.{Fits}
+use Rattle.wq_text.specs.declared.command.Command.{Command}
+use Rattle.wq_text.specs.Fits.{Fits}
 use Rattle.wq_script.proofs.worked_scripts.all_fit.Given as goal
 
 -- the commands so far fit

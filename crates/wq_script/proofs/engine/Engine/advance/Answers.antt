@@ -2,7 +2,7 @@ use Rattle.std.proofs.Common.{◌∙◌, ◌++◌, ap, sym, refl, arith, [], str
 use Rattle.std.proofs.lemmas.Bool.{lt-ltb, le-ltb}
 use Rattle.wq_words.specs.History.{closed}
 use Rattle.wq_script.specs.declared.delays.Delays.{Delays}
-use Rattle.wq_script.specs.declared.command.Command.TheVariants as command
+use Rattle.wq_text.specs.declared.command.Command.TheVariants as command
 use Rattle.wq_script.specs.Report.{line}
 use Rattle.wq_script.specs.Names.{row_text, advance_word}
 use Rattle.wq_script.specs.Table.{Table, due_items, at_tick}

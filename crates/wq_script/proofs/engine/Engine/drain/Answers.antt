@@ -1,7 +1,7 @@
 use Rattle.std.proofs.Common.{◌≡◌, ◌∙◌, ◌++◌, ap, sym, refl, arith, ℕ, [], List, string_bytes, subst, codes, None, append_assoc}
 use Rattle.arrayvec.specs.ArrayVec.{ArrayVec}
 use Rattle.wq_script.specs.declared.report.Counts.{Counts}
-use Rattle.wq_script.specs.declared.command.Command.TheVariants as command
+use Rattle.wq_text.specs.declared.command.Command.TheVariants as command
 use Rattle.wq_script.specs.Report.{line}
 use Rattle.wq_script.specs.Names.{row_text, left_text}
 use Rattle.wq_script.specs.Execution.{after_executions, ends_at, ended_since}

@@ -1,6 +1,6 @@
 use Rattle.std.proofs.Common.{ℕ, sym, subst, string_bytes}
-use Rattle.wq_script.specs.declared.command.Command.{Command}
-use Rattle.wq_script.specs.declared.command.Command.TheVariants as variant
+use Rattle.wq_text.specs.declared.command.Command.{Command}
+use Rattle.wq_text.specs.declared.command.Command.TheVariants as variant
 use Rattle.wq_script.specs.Engine.{Does}
 use Rattle.wq_script.proofs.Meanings.{on_ok}
 use Rattle.wq_script.proofs.engine.Engine.execute.Goals as goal

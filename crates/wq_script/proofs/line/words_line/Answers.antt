@@ -1,9 +1,0 @@
-use Rattle.std.proofs.Common.{refl}
-use Rattle.wq_script.specs.Line.{words_give}
-use Rattle.wq_script.specs.Word.{keyword_at}
-use Rattle.wq_script.proofs.LineWords.{no_words}
-use Rattle.wq_script.proofs.line.words_line.Goals as goal
-
-pub returns-in_default-clause-exact : goal.returns-in_default-clause-exact
-unfolding words_give keyword_at
-returns-in_default-clause-exact c = rw (no_words c.args.words.now c.in_default.ensures.cases) refl

@@ -1,5 +1,0 @@
-use Rattle.wq_script.proofs.FirstFault.{tells}
-use Rattle.wq_script.proofs.text.tells_lines.Goals as goal
-
-pub returns : goal.returns
-returns c = tells
