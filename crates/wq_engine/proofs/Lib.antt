@@ -1,0 +1,15 @@
+pub mod Alone
+pub mod Hearing
+pub mod Seated
+pub mod Queueings
+pub mod Asked
+pub mod Executed
+pub mod Running
+pub mod Ran
+pub mod Timetables
+pub mod Delayed
+pub mod Moved
+pub mod Made
+pub mod Tallies
+pub mod Meetings
+pub mod Reports

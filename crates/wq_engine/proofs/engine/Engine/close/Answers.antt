@@ -1,0 +1,16 @@
+use Rattle.std.proofs.Common.{◌∙◌, ◌++◌, ap, refl, arith, string_bytes, length-append}
+use Rattle.wq_script.specs.Answer.{close_text}
+use Rattle.wq_script.specs.Report.{line}
+use Rattle.wq_script.specs.Queueing.{close_events}
+use Rattle.wq_engine.proofs.Meetings.{close_meets, close_few}
+use Rattle.wq_engine.proofs.engine.Engine.close.Goals as goal
+
+pub returns : goal.returns
+returns c =
+    let e = c.args.self.now in
+    record {
+      layout = refl;
+      meets = λ s m. close_meets e.layout e.seats c.close-taken.new.self e.tally s m (c.close-taken.ensures e.layout s.history m.seated).0;
+      lines = λ s m few. c.in_ok-write_close.ensures ∙ ap (λ x. string_bytes c.args.out.now ++ line (close_text x)) (c.close-taken.ensures e.layout s.history m.seated).1;
+      room = λ s m. omega (arith, length-append s.history (close_events s.history), close_few s.history);
+    }

@@ -1,0 +1,14 @@
+use Rattle.std.proofs.Common.{sym, ap, refl, arith, string_bytes, length}
+use Rattle.std.proofs.lemmas.List.{append-nil}
+use Rattle.wq_engine.proofs.Meetings.{follow_meets}
+use Rattle.wq_engine.proofs.engine.Engine.follow.Goals as goal
+
+pub returns : goal.returns
+returns c =
+    let e = c.args.self.now in let f = c.follow.ensures in
+    record {
+      layout = refl;
+      meets = λ s m. follow_meets e.layout e.seats c.follow.new.self e.tally s c.args.item c.args.follow.now m c.requires.fits.0 c.requires.fits.1 (omega (arith, c.as_slice-items.ensures.fits, ap length c.as_slice-items.ensures.value)) f.worker f.lists f.others.0 f.others.1;
+      lines = λ s m few. sym (append-nil (string_bytes c.args.out.now));
+      room = λ s m. omega arith;
+    }

@@ -1,0 +1,7 @@
+pub mod Seats
+pub mod Asking
+pub mod Quiet
+pub mod Tables
+pub mod Arming
+pub mod Counting
+pub mod Engine

@@ -1,0 +1,42 @@
+//! A script's run over the words that threads could share.
+ghost use Rattle.std.specs.Prelude.{◌≡◌, ◌≤◌, IfOk, string_bytes};
+ghost use Rattle.wq_script.specs.Commands.{output_of};
+ghost use Rattle.wq_text.specs.Script.{layout_of, commands_of};
+
+use crate::engine::Engine;
+use std::alloc::{AllocError, Global};
+use wq_script::RunError;
+use wq_text::Script;
+
+/// How many senders a text of a script may have. A script of more, which was made by hand, leaves no number for the worker's
+/// sender and the delay table's, and is run by lists.
+const MOST_SENDERS: u32 = 62;
+
+/// The output of a script, as text.
+fn output_text(alloc: Global, script: &Script) -> Result<String, AllocError>
+    requires { (layout_of script.now).senders ≤ 62 }
+    ensures { IfOk result (λ text. string_bytes text ≡ output_of (layout_of script.now) (commands_of script.now)) }
+{
+    let mut engine = Engine::new(alloc, *script.layout())?;
+    let mut out = String::new(alloc);
+    for command in script.commands() {
+        engine.execute(alloc, command, &mut out)?;
+    }
+    Ok(out)
+}
+
+/// Runs a script on a new queue, each command as one call taken whole, and gives the bytes of its output: for each command
+/// the lines of what it answers, by the rules of Linux's ordered workqueues (`core-api/workqueue`, the kernel-doc of
+/// `workqueue.c`). Each sender of the script is a sender of the queue, the worker has the number behind them and the delay
+/// table the next; no other seat exists, so none is ever in the way. The only error is want of memory.
+pub fn run(alloc: Global, script: &Script) -> Result<Vec<u8>, RunError>
+    ensures { IfOk result (λ bytes. bytes.items ≡ output_of (layout_of script.now) (commands_of script.now)) }
+{
+    if script.layout().senders > MOST_SENDERS {
+        return wq_script::run(alloc, script);
+    }
+    match output_text(alloc, script) {
+        Ok(text) => Ok(text.into_bytes()),
+        Err(_) => Err(RunError::Memory),
+    }
+}
