@@ -1,0 +1,11 @@
+-- The members of a value that was read.
+use Rattle.std.specs.Prelude.{◌≡◌, refl, suc, List, [], ◌∷◌, length, String, Option, Some, option_map}
+use Rattle.std.proofs.Common.{ap}
+use Rattle.std.specs.declared.alloc.Global.{Global}
+use Rattle.serde_json.specs.View.{members_view}
+use Rattle.serde_json.specs.declared.value.Value.{Value}
+use Rattle.wq_race.specs.PlanText.{member_count}
+
+pub member_count_members_view : (ms : List (String Global × Value)) → member_count (members_view ms) ≡ length ms
+member_count_members_view [] = refl
+member_count_members_view (m ∷ ms) = ap suc (member_count_members_view ms)

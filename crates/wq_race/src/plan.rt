@@ -1,0 +1,29 @@
+//! Plans of a run of a queue by live threads.
+ghost use Rattle.std.specs.Prelude.{◌≡◌, ◌+◌, ◌*◌};
+ghost use Rattle.wq_race.specs.Plan.{AreInLimits};
+
+use wq_words::Layout;
+
+/// One queue with one worker, with so many senders in threads of their own, each of which queues so many items of its own.
+#[derive(Clone, Copy, Debug, PartialEq, Eq)]
+pub struct Plan {
+    /// 1 to 32.
+    pub senders: u32,
+    /// 1 to 4,096, and at most 4,096 over all senders.
+    pub own: u32,
+    ghost in_limits: { AreInLimits senders own },
+}
+
+impl Plan {
+    /// A queue with the senders' own items, one barrier, and two senders more: the worker's and the program's.
+    pub fn layout(self) -> Layout
+        ensures items { result.items ≡ self.senders * self.own }
+        ensures barriers { result.barriers ≡ 1 }
+        ensures senders { result.senders ≡ self.senders + 2 }
+    {
+        match Layout::new(self.senders * self.own, 1, self.senders + 2) {
+            Ok(layout) => layout,
+            Err(_) => unreachable!(),
+        }
+    }
+}
