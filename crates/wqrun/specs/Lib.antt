@@ -1,2 +1,4 @@
 pub mod Failure
 pub mod Report
+pub mod ScheduleReport
+pub mod RaceReport

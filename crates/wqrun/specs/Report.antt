@@ -1,10 +1,10 @@
 -- What the program makes of a text.
 use Rattle.std.specs.Prelude.{◌≡◌, ℕ, List, take, Option, Ok, Err}
 use Rattle.std.specs.Io.KnownBytes.{Appends}
-use Rattle.wq_script.specs.declared.script.Script.{Script}
-use Rattle.wq_script.specs.Script.{layout_of, commands_of}
+use Rattle.wq_text.specs.declared.script.Script.{Script}
+use Rattle.wq_text.specs.Script.{layout_of, commands_of}
 use Rattle.wq_script.specs.Commands.{output_of}
-use Rattle.wq_script.specs.Text.{script_of, spelled}
+use Rattle.wq_text.specs.Text.{script_of, spelled}
 use Rattle.wqrun.specs.declared.failure.Failure.{Failure}
 use Rattle.wqrun.specs.declared.failure.Failure.TheVariants as failure
 
@@ -17,6 +17,7 @@ pub record Reports (text report : List ℕ) : Type 0 where
 -- the text has no report: it is refused for this, or memory was wanting
 abbrev pub HasNoReport : List ℕ → Failure → Type 0
 HasNoReport text (failure.Refused refusal) = script_of text ≡ Err refusal
+HasNoReport text (failure.RefusedPlan refusal) = ⊥
 HasNoReport text failure.Unreadable = ⊥
 HasNoReport text failure.Unwritable = ⊥
 HasNoReport text failure.Memory = Unit {0}

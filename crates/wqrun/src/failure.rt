@@ -3,14 +3,18 @@ ghost use Rattle.std.specs.Prelude.{◌≡◌};
 ghost use Rattle.wqrun.specs.Failure.{status_of};
 
 use thiserror::Error;
+use wq_race::PlanError;
 use wq_script::ScriptError;
 
 /// Why a result was not written. The text is what standard error says.
 #[derive(Debug, Drop, Error)]
 pub enum Failure {
-    /// The text is no script.
+    /// The text is no script, or no schedule.
     #[error(transparent)]
     Refused(ScriptError),
+    /// The text is no plan.
+    #[error(transparent)]
+    RefusedPlan(PlanError),
     /// The file could not be read.
     #[error("file: Unreadable")]
     Unreadable,
@@ -29,7 +33,10 @@ impl Failure {
     {
         match self {
             Failure::Memory => 3,
-            Failure::Refused(_) | Failure::Unreadable | Failure::Unwritable => 1,
+            Failure::Refused(_)
+            | Failure::RefusedPlan(_)
+            | Failure::Unreadable
+            | Failure::Unwritable => 1,
         }
     }
 }

@@ -1,27 +1,13 @@
 //! `wqrun script`: a script's bytes in, its report's bytes out.
 ghost use Rattle.std.specs.Prelude.{◌≡◌, ◌≢◌, ◌⊎◌, OnOk, IfOk, IfErr, IfSome};
-ghost use Rattle.std.specs.Io.KnownBytes.{Appends};
-ghost use Rattle.wqrun.specs.Report.{Reports, HasNoReport, text_read, WritesReport};
+ghost use Rattle.wqrun.specs.Report.{Reports, HasNoReport, WritesReport};
 
 use crate::failure::Failure;
+use crate::streams::{read_text, write_report};
 use std::alloc::Global;
-use std::io::{ErrorKind, Read, Write};
-use wq_script::{ParseError, RunError, parse, run};
-
-/// One byte more than a script may have, so that a longer one is seen to be too long.
-const READ_BYTES: u64 = 1_048_577;
-
-/// Reads a text to its end, or so far that it is seen to be too long.
-fn read_text<R: Read + Drop>(alloc: Global, reader: R) -> Result<Vec<u8>, Failure>
-    ensures { IfOk result (λ text. IfSome (R.remaining reader) (λ bytes. text.items ≡ text_read bytes)) }
-{
-    let mut text = Vec::new(alloc);
-    match reader.take(READ_BYTES).read_to_end(&mut text) {
-        Ok(_) => Ok(text),
-        Err(error) if error.kind() == ErrorKind::OutOfMemory => Err(Failure::Memory),
-        Err(_) => Err(Failure::Unreadable),
-    }
-}
+use std::io::{Read, Write};
+use wq_engine::run;
+use wq_script::{ParseError, RunError, parse};
 
 /// The report of a script's text.
 fn report_of(alloc: Global, text: &[u8]) -> Result<Vec<u8>, Failure>
@@ -37,19 +23,6 @@ fn report_of(alloc: Global, text: &[u8]) -> Result<Vec<u8>, Failure>
         Ok(report) => Ok(report),
         Err(RunError::Memory) => Err(Failure::Memory),
     }
-}
-
-/// Writes a report. An empty one writes nothing; the writer is flushed.
-fn write_report<W: Write>(report: &[u8], writer: &mut W) -> Result<(), Failure>
-    ensures { OnOk result (Appends (W.contents writer.old) (W.contents writer.new) report.now) }
-{
-    if writer.write_all(report).is_err() {
-        return Err(Failure::Unwritable);
-    }
-    if writer.flush().is_err() {
-        return Err(Failure::Unwritable);
-    }
-    Ok(())
 }
 
 fn script_result<R: Read + Drop, W: Write>(

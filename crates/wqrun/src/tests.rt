@@ -1,3 +1,5 @@
-//! The program's calls on streams: worked scripts, refusals, and streams that fail.
+//! The program's calls on streams: worked scripts and schedules, refusals, and streams that fail.
+mod live;
 mod rows;
+mod schedules;
 mod streams;

@@ -1,0 +1,34 @@
+-- What the program makes of a plan's text.
+use Rattle.std.specs.Prelude.{◌≡◌, ℕ, List, take, Option}
+use Rattle.std.specs.Io.KnownBytes.{Appends}
+use Rattle.wq_race.specs.declared.plan.Plan.{Plan}
+use Rattle.wq_race.specs.declared.outcome.Outcome.{Outcome}
+use Rattle.wq_race.specs.PlanText.{Spells, IsRefused}
+use Rattle.wq_race.specs.Outcome.{outcome_line}
+use Rattle.wqrun.specs.declared.failure.Failure.{Failure}
+use Rattle.wqrun.specs.declared.failure.Failure.TheVariants as failure
+
+-- the text spells a plan, and this is the line of an outcome
+pub record Races (text line : List ℕ) : Type 0 where
+  pub plan : Plan
+  pub spells : Spells text plan
+  pub outcome : Outcome
+  pub line_is : line ≡ outcome_line outcome
+
+-- the text has no outcome: it is refused for this, or memory or a thread was wanting
+abbrev pub HasNoRace : List ℕ → Failure → Type 0
+HasNoRace text (failure.RefusedPlan refusal) = IsRefused text refusal
+HasNoRace text (failure.Refused refusal) = ⊥
+HasNoRace text failure.Unreadable = ⊥
+HasNoRace text failure.Unwritable = ⊥
+HasNoRace text failure.Memory = Unit {0}
+
+-- as much of a reader's bytes as is read: one more than a plan may have
+abbrev pub plan_read : List ℕ → List ℕ
+plan_read bytes = take 65537 bytes
+
+-- the bytes are a plan's, and what was written grew by just the line of an outcome
+pub record WritesRace (bytes : List ℕ) (before after : Option (List ℕ)) : Type 0 where
+  pub line : List ℕ
+  pub races : Races (plan_read bytes) line
+  pub appends : Appends before after line
