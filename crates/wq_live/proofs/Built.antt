@@ -13,7 +13,6 @@ use Rattle.wq_core.proofs.Schedules.{sound_opening}
 use Rattle.wq_table.specs.Chair.{Standing, IsSender, owner_chair, sender_chair, sender_chairs}
 use Rattle.wq_live.specs.declared.sender.Sender.TheInside as sender
 use Rattle.wq_live.specs.declared.owner.Owner.TheInside as owner
-use Rattle.std.specs.VecDeque.{deque_capacity}
 use Rattle.wq_words.specs.History.{closed, running}
 use Rattle.wq_table.specs.declared.table.Stage.TheVariants as stage
 use Rattle.wq_table.specs.Seen.{owner_seat}
@@ -59,16 +58,15 @@ stands_new l p is = subst (λ (x : Standing). Stands x.part) (sym is) record {
 }
 
 -- the owner of a new queue
-pub executes_new : (s : owner.Inside) → s.chair ≡ owner_chair s.chair.queue s.layout → s.batch.items ≡ [] → s.walked.items ≡ [] → number_count s.layout ≤ deque_capacity s.batch → number_count s.layout ≤ deque_capacity s.walked
+pub executes_new : (s : owner.Inside) → s.chair ≡ owner_chair s.chair.queue s.layout → s.batch.items ≡ [] → s.batch.chained ≡ [] → number_count s.layout ≤ s.batch.room
     → s.running ≡ None → s.closed ≡ false → s.counts ≡ record { chained = 0; chain_busy = 0; ended = 0 } → Executes s
-executes_new s is batch walked room room' runs shut counts = let seen : s.chair.part.seen ≡ [] = ap (λ (x : Standing). x.part.seen) is in record {
+executes_new s is batch none room runs shut counts = let seen : s.chair.part.seen ≡ [] = ap (λ (x : Standing). x.part.seen) is in record {
   layout_is = ap (λ (x : Standing). x.part.layout) is;
   number_is = ap (λ (x : Standing). x.part.seat) is;
   stands = stands_new s.layout s.chair is;
   stage_is = ap (λ (x : Standing). x.part.stage) is ∙ ap (stage.Owns None []) (sym batch);
-  walked_is = walked;
-  batch_room = room;
-  walked_room = room';
+  room = room;
+  none_chained = λ _. none;
   running_is = runs ∙ ap running (sym seen);
   closed_is = shut ∙ ap closed (sym seen);
   counts_are = counts ∙ ap owner_counts (sym seen);

@@ -4,6 +4,7 @@ pub mod Counting
 pub mod Sends
 pub mod Flushed
 pub mod Waiting
+pub mod Row
 pub mod Owned
 pub mod Executes
 pub mod Taken

@@ -35,9 +35,8 @@ module _ (s : Inside) (q : Standing) (m : Machine) (sound : IsSound m) (f : Fits
     number_is = told.seat_is ∙ executes.number_is;
     stands = meet_stands m s.chair.part q.part sound f parts;
     stage_is = ap (λ (x : Part). x.stage) parts ∙ executes.stage_is;
-    walked_is = executes.walked_is;
-    batch_room = executes.batch_room;
-    walked_room = executes.walked_room;
+    room = executes.room;
+    none_chained = executes.none_chained;
     running_is = executes.running_is ∙ sym (running_quiet [] 0 v w g refl refl);
     closed_is = executes.closed_is ∙ sym (closed_quiet [] 0 v w g refl);
     counts_are = counts_quiet [] 0 v w g refl refl refl s.counts executes.counts_are;

@@ -1,5 +1,6 @@
 pub mod Known
 pub mod Batch
+pub mod Row
 pub mod Counts
 pub mod Answers
 pub mod Sits

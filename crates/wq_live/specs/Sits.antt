@@ -1,6 +1,5 @@
 -- A sender's and an owner's fields, as a clause sees them.
-use Rattle.std.specs.Prelude.{◌≡◌, ℕ, ◌-◌, ◌≤◌, ◌==◌, if◌then◌else◌, List, [], ◌++◌, Some, None}
-use Rattle.std.specs.VecDeque.{deque_capacity}
+use Rattle.std.specs.Prelude.{◌≡◌, false, ℕ, ◌-◌, ◌≤◌, ◌==◌, if◌then◌else◌, List, [], ◌++◌, Some, None}
 use Rattle.wq_words.specs.Numbers.{number_count}
 use Rattle.wq_words.specs.History.{closed, running}
 use Rattle.wq_words.specs.Legal.{IsLegal}
@@ -44,9 +43,8 @@ pub record Executes (s : owner.Inside) : Type 0 where
   pub number_is : s.chair.part.seat ≡ owner_seat
   pub stands : Stands s.chair.part
   pub stage_is : s.chair.part.stage ≡ stage.Owns None [] s.batch.items
-  pub walked_is : s.walked.items ≡ []
-  pub batch_room : number_count s.layout ≤ deque_capacity s.batch
-  pub walked_room : number_count s.layout ≤ deque_capacity s.walked
+  pub room : number_count s.layout ≤ s.batch.room
+  pub none_chained : s.closed ≡ false → s.batch.chained ≡ []
   pub running_is : s.running ≡ running s.chair.part.seen
   pub closed_is : s.closed ≡ closed s.chair.part.seen
   pub counts_are : s.counts ≡ owner_counts s.chair.part.seen
@@ -54,6 +52,12 @@ pub record Executes (s : owner.Inside) : Type 0 where
 -- what the owner keeps while it walks what it took, where this word is the link that it found last
 abbrev pub walking : ℕ → List ℕ → List ℕ → Stage
 walking word walked batch = if word == 0 then stage.Owns None [] (batch ++ walked) else stage.Owns (Some (word - 1)) walked batch
+
+-- what was walked so far stands before the batch; its place is behind it
+pub record Walks (word : ℕ) (old new : List ℕ) (s : Stage) : Type 0 where
+  pub walked : List ℕ
+  pub items : new ≡ walked ++ old
+  pub stage : s ≡ walking word walked old
 
 -- the same seat has seen more, and made no event
 pub record Follows (p q : Part) : Type 0 where

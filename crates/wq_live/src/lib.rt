@@ -2,6 +2,7 @@
 #![tactic(auto)]
 
 mod answer;
+mod batch;
 mod counts;
 mod making;
 mod owner;

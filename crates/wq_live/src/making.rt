@@ -4,11 +4,11 @@ ghost use Rattle.atomic_table.specs.Seated.{TableId};
 ghost use Rattle.wq_table.specs.Chair.{sender_chairs};
 ghost use Rattle.wq_live.specs.Known.{new_owner, new_senders};
 
+use crate::batch::Batch;
 use crate::counts::{OwnerCounts, SenderCounts};
 use crate::owner::Owner;
 use crate::sender::Sender;
 use std::alloc::{AllocError, Global};
-use std::collections::VecDeque;
 use thiserror::Error;
 use wq_table::{Chair, chairs};
 use wq_words::Layout;
@@ -59,15 +59,13 @@ pub fn build(alloc: Global, layout: Layout) -> Result<(Owner, Vec<Sender>), Buil
     ensures { IfOk result (λ r. (r.0 ≡ new_owner r.0.queue layout) × (r.1.items ≡ new_senders r.0.queue layout layout.senders)) }
 {
     let count = layout.items as usize + layout.barriers as usize + 1;
-    let batch = VecDeque::with_capacity(alloc, count)?;
-    let walked = VecDeque::with_capacity(alloc, count)?;
+    let batch = Batch::with_room(alloc, count)?;
     let (chair, seats) = chairs(alloc, layout)?;
     let senders = seat_senders(alloc, layout, seats)?;
     let owner = Owner {
         chair,
         layout,
         batch,
-        walked,
         running: None,
         closed: false,
         counts: OwnerCounts {

@@ -1,6 +1,5 @@
 //! The owner of a queue.
 ghost use Rattle.std.specs.Prelude.{◌≡◌, ◌≢◌, ℕ, ◌+◌, ◌<◌, ◌≤◌, ◌↔◌, [], ◌∷◌, Some, None, IsSome, IfSome, length};
-ghost use Rattle.std.specs.VecDeque.{deque_capacity};
 ghost use Rattle.wq_words.specs.declared.event.Event.TheVariants.{Take, Close, Begin, End};
 ghost use Rattle.wq_words.specs.Numbers.{number_count};
 ghost use Rattle.wq_words.specs.History.{IsClosed, closed, IsRunning, running, ended};
@@ -10,11 +9,11 @@ ghost use Rattle.wq_live.specs.Known.{Sees};
 ghost use Rattle.wq_live.specs.Answers.{Chains, IsFinal};
 ghost use Rattle.wq_live.specs.Batch.{batch, next_of, TakesAll};
 ghost use Rattle.wq_live.specs.Counts.{capped, owner_counts};
-ghost use Rattle.wq_live.specs.Sits.{Stands, Follows, walking};
+ghost use Rattle.wq_live.specs.Sits.{Stands, Follows, Walks, walking};
 
 use crate::answer::{Answer, Done};
+use crate::batch::Batch;
 use crate::counts::OwnerCounts;
-use std::collections::VecDeque;
 use std::marker::Model;
 use wq_table::Chair;
 use wq_words::Layout;
@@ -25,8 +24,7 @@ use wq_words::Layout;
 pub struct Owner {
     pub(crate) chair: Chair,
     pub(crate) layout: Layout,
-    pub(crate) batch: VecDeque<u32>,
-    pub(crate) walked: VecDeque<u32>,
+    pub(crate) batch: Batch,
     pub(crate) running: Option<u32>,
     pub(crate) closed: bool,
     pub(crate) counts: OwnerCounts,
@@ -44,30 +42,43 @@ impl Model for Owner {
     ghost invariant = { Executes };
 }
 
-// Walks what was taken, from the number of this word on, and puts it behind the batch, oldest first.
-fn walk_all(chair: &mut Chair, batch: &mut VecDeque<u32>, walked: &mut VecDeque<u32>, word: u64)
+// Walks what was taken, from the number of this word on, and puts it before the batch, oldest first.
+fn walk_to_front(chair: &mut Chair, batch: &mut Batch, word: u64)
     requires stands { Stands chair.old.part }
     requires stage { chair.old.part.stage ≡ walking word [] batch.old.items }
-    requires none { walked.old.items ≡ [] }
-    requires batch_room { number_count chair.old.part.layout ≤ deque_capacity batch.old }
-    requires walked_room { number_count chair.old.part.layout ≤ deque_capacity walked.old }
+    requires room { number_count chair.old.part.layout ≤ batch.old.room }
     ensures queue { chair.new.queue ≡ chair.old.queue }
     ensures follows { Follows chair.old.part chair.new.part }
     ensures stands { Stands chair.new.part }
-    ensures stage { chair.new.part.stage ≡ stage.Owns None [] batch.new.items }
-    ensures more { length batch.old.items ≤ length batch.new.items }
-    ensures none { walked.new.items ≡ [] }
-    ensures batch_room { number_count chair.new.part.layout ≤ deque_capacity batch.new }
-    ensures walked_room { number_count chair.new.part.layout ≤ deque_capacity walked.new }
+    ensures chained { batch.new.chained ≡ batch.old.chained }
+    ensures walks { Walks 0 batch.old.items batch.new.items chair.new.part.stage }
+    ensures room { batch.new.room ≡ batch.old.room }
 {
     let mut word = word;
     while word != 0 {
         let number = (word - 1) as u32;
         word = chair.walk(number);
-        walked.push_front_reserved(number);
+        batch.put_first(number);
     }
-    // Each number waits at most once, and there is room for all.
-    let _ = batch.append(walked);
+}
+
+// Walks what was taken, from the number of this word on, and puts it behind the batch, oldest first.
+fn walk_all(chair: &mut Chair, batch: &mut Batch, word: u64)
+    requires stands { Stands chair.old.part }
+    requires stage { chair.old.part.stage ≡ walking word [] batch.old.items }
+    requires room { number_count chair.old.part.layout ≤ batch.old.room }
+    requires none_chained { batch.old.chained ≡ [] }
+    ensures queue { chair.new.queue ≡ chair.old.queue }
+    ensures follows { Follows chair.old.part chair.new.part }
+    ensures stands { Stands chair.new.part }
+    ensures none_chained { batch.new.chained ≡ [] }
+    ensures stage { chair.new.part.stage ≡ stage.Owns None [] batch.new.items }
+    ensures more { length batch.old.items ≤ length batch.new.items }
+    ensures room { batch.new.room ≡ batch.old.room }
+{
+    let had = batch.len();
+    walk_to_front(chair, batch, word);
+    batch.turn(had);
 }
 
 impl Owner {
@@ -87,7 +98,7 @@ impl Owner {
         ensures takes { TakesAll Take result self.new.seen }
     {
         let word = self.chair.take();
-        walk_all(&mut self.chair, &mut self.batch, &mut self.walked, word);
+        walk_all(&mut self.chair, &mut self.batch, word);
         self.batch.len() as u32
     }
 
@@ -101,7 +112,7 @@ impl Owner {
         let had = self.batch.len();
         let word = self.chair.close();
         self.closed = true;
-        walk_all(&mut self.chair, &mut self.batch, &mut self.walked, word);
+        walk_all(&mut self.chair, &mut self.batch, word);
         (self.batch.len() - had) as u32
     }
 
@@ -109,7 +120,7 @@ impl Owner {
     pub fn next(&self) -> Option<u32>
         ensures { result ≡ next_of self.now.seen }
     {
-        self.batch.front().copied()
+        self.batch.oldest()
     }
 
     /// How many numbers were taken and have not begun.
@@ -128,7 +139,7 @@ impl Owner {
         ensures next { next_of self.old.seen ≡ Some result }
         ensures seen { Sees (Begin result ∷ []) 0 self.old self.new }
     {
-        let Some(number) = self.batch.pop_front() else {
+        let Some(number) = self.batch.pop() else {
             unreachable!()
         };
         self.chair.begin(number);
@@ -158,7 +169,7 @@ impl Owner {
             self.counts.chain_busy = self.counts.chain_busy.saturating_add(1);
             return Answer::Pending;
         }
-        self.batch.push_back_reserved(item);
+        self.batch.chain(item);
         self.counts.chained = self.counts.chained.saturating_add(1);
         Answer::Queued { first: false }
     }

@@ -17,9 +17,8 @@ invariant_of-self c = let s = c.self.inside in let o = c.self.invariant in let p
       number_is = told.seat_is ∙ o.number_is;
       stands = makes_stands _ _ p q makes;
       stage_is = end_stage c.end.ensures.0 p q s.batch.items o.stage_is makes;
-      walked_is = o.walked_is;
-      batch_room = o.batch_room;
-      walked_room = o.walked_room;
+      room = o.room;
+      none_chained = o.none_chained;
       running_is = sym (running_ended k 0 p.seen q.seen g (owner_runs p o.stands runs));
       closed_is = o.closed_is ∙ sym (closed_quiet (End k ∷ []) 0 p.seen q.seen g refl);
       counts_are = counts_ended (End k ∷ []) 0 p.seen q.seen g refl refl refl s.counts o.counts_are x c.saturating_add-self-inside.ensures;
