@@ -25,5 +25,8 @@ examples: build
 memory:
 	checks/refused_memory.sh
 
+# Times a script of a megabyte, and executed items beside the same scheme in C.
 bench: build
+	cd crates/wq_bench && rt run
 	bench/script.sh $(PROGRAM)
+	bench/items.sh crates/wq_bench/out/wq_bench
