@@ -21,17 +21,17 @@ all_more : {A : Type 0} (P : A → Type 0) (asked : List A) (a : A) → AllByRec
 all_more P [] a all here = (here, tt)
 all_more P (b ∷ asked) a all here = (all.0, all_more P asked a all.1 here)
 
-pub keeps_items : (items : ℕ) → IsBetween 1 items 4096 → KeepsHeader stage.Items (stage.Senders items)
+pub keeps_items : (items most : ℕ) → IsBetween 1 items 4096 → KeepsHeader most stage.Items (stage.Senders items)
 unfolding KeepsHeader
-keeps_items items within = (λ _. within, tt)
+keeps_items items most within = (λ _. within, tt)
 
-pub keeps_senders : (items senders most : ℕ) → most ≤ 64 → IsBetween 1 senders most → KeepsHeader (stage.Senders items) (stage.Barriers items senders)
+pub keeps_senders : (items senders most : ℕ) → most ≤ 64 → IsBetween 1 senders most → KeepsHeader most (stage.Senders items) (stage.Barriers items senders)
 unfolding KeepsHeader
-keeps_senders items senders most few within = (λ limits. (limits, (within.0, omega (arith, within.1, few))), tt)
+keeps_senders items senders most few within = (λ limits. (limits, (within.0, omega (arith, within.1, few)), within.1), tt)
 
-pub keeps_barriers : (items senders barriers : ℕ) → IsBetween 1 barriers 16 → KeepsHeader (stage.Barriers items senders) (stage.Commands (record { items = items; senders = senders; barriers = barriers }))
+pub keeps_barriers : (items senders barriers most : ℕ) → IsBetween 1 barriers 16 → KeepsHeader most (stage.Barriers items senders) (stage.Commands (record { items = items; senders = senders; barriers = barriers }))
 unfolding KeepsHeader
-keeps_barriers items senders barriers within = (λ limits. (limits.0, within, limits.1), tt)
+keeps_barriers items senders barriers most within = (λ limits. ((limits.0, within, limits.1), limits.2), tt)
 
 -- a header's place takes no command
 items_alone : (k : Keyword) → is_placed stage.Items k ≡ true → is_header k ≡ true
@@ -42,12 +42,12 @@ senders_alone : (items : ℕ) (k : Keyword) → is_placed (stage.Senders items) 
 senders_alone items keyword.Senders e = refl
 senders_alone items k e = cc
 
-module _ {A : Type 0} (fits : Header → A → Type 0) where
-  pub keeps_none : (s : Stage) → KeepsSound fits s s None
+module _ {A : Type 0} (most : ℕ) (fits : Header → A → Type 0) where
+  pub keeps_none : (s : Stage) → KeepsSound most fits s s None
   unfolding KeepsSound
-  keeps_none s asked sound = let P : List A → Type 0 = λ x. Sound fits s x in subst P (sym (append-nil asked)) sound
+  keeps_none s asked sound = let P : List A → Type 0 = λ x. Sound most fits s x in subst P (sym (append-nil asked)) sound
 
-  pub keeps_version : KeepsSound fits stage.Version stage.Items None
+  pub keeps_version : KeepsSound most fits stage.Version stage.Items None
   unfolding KeepsSound
   keeps_version asked sound = (tt, append-nil asked ∙ sound.1)
 
@@ -65,13 +65,13 @@ module _ {A : Type 0} (fits : Header → A → Type 0) where
   nothing_fits (stage.Senders items) = refl
   nothing_fits (stage.Barriers items senders) = refl
 
-  pub keeps_header : (s t : Stage) → KeepsHeader s t → KeepsSound fits s t None
+  pub keeps_header : (s t : Stage) → KeepsHeader most s t → KeepsSound most fits s t None
   unfolding KeepsSound KeepsHeader
   keeps_header s t step asked sound =
       let P : List A → Type 0 = λ x. AskedFit fits t x in
       (step.0 sound.0, subst P (sym (append-nil asked ∙ nothing_before s asked step.1 sound.1)) (nothing_fits t))
 
-  pub keeps_command : (s : Stage) (k : Keyword) (c : A) → is_placed s k ≡ true → is_header k ≡ false → fits (header_of s) c → KeepsSound fits s (stage.Commands (header_of s)) (Some c)
+  pub keeps_command : (s : Stage) (k : Keyword) (c : A) → is_placed s k ≡ true → is_header k ≡ false → fits (header_of s) c → KeepsSound most fits s (stage.Commands (header_of s)) (Some c)
   unfolding KeepsSound
   keeps_command (stage.Commands header) k c placed plain here asked sound = (sound.0, all_more (fits header) asked c sound.1 here)
   keeps_command stage.Version k c placed plain here asked sound = absurd (differ placed)
@@ -88,9 +88,9 @@ module _ {A : Type 0} (fits : Header → A → Type 0) where
       differ e = cc
   keeps_command (stage.Barriers items senders) k c placed plain here asked sound =
       let P : List A → Type 0 = λ x. AllByRecursion (fits (header_of (stage.Barriers items senders))) (x ++ c ∷ []) in
-      ((sound.0.0, (omega arith, omega arith), sound.0.1), subst P (sym sound.1) (here, tt))
+      (((sound.0.0, (omega arith, omega arith), sound.0.1), sound.0.2), subst P (sym sound.1) (here, tt))
 
-  pub keeps_step : (s : Stage) (c : A) → takes_steps s ≡ true → fits (header_of s) c → KeepsSound fits s (stage.Commands (header_of s)) (Some c)
+  pub keeps_step : (s : Stage) (c : A) → takes_steps s ≡ true → fits (header_of s) c → KeepsSound most fits s (stage.Commands (header_of s)) (Some c)
   unfolding KeepsSound
   keeps_step s c takes here = keeps_command s keyword.Run c (placed s takes) refl here
     where
@@ -99,17 +99,17 @@ module _ {A : Type 0} (fits : Header → A → Type 0) where
       placed (stage.Barriers items senders) e = refl
       placed s e = cc
 
-  pub keeps : (s t : Stage) (c : Option A) (asked new : List A) → KeepsSound fits s t c → new ≡ asked ++ option_to_list c → Sound fits s asked → Sound fits t new
+  pub keeps : (s t : Stage) (c : Option A) (asked new : List A) → KeepsSound most fits s t c → new ≡ asked ++ option_to_list c → Sound most fits s asked → Sound most fits t new
   unfolding KeepsSound
-  keeps s t c asked new step added sound = let P : List A → Type 0 = λ x. Sound fits t x in subst P (sym added) (step asked sound)
+  keeps s t c asked new step added sound = let P : List A → Type 0 = λ x. Sound most fits t x in subst P (sym added) (step asked sound)
 
-  pub ends_whole : (s : Stage) (header : Header) (asked : List A) → EndsHeader s header → Sound fits s asked → IsWhole fits header asked
+  pub ends_whole : (s : Stage) (header : Header) (asked : List A) → EndsHeader s header → Sound most fits s asked → IsWhole most fits header asked
   unfolding EndsHeader
-  ends_whole (stage.Commands h) header asked ends sound = let P : Header → Type 0 = λ x. IsWhole fits x asked in subst P (sym ends.1) sound
+  ends_whole (stage.Commands h) header asked ends sound = let P : Header → Type 0 = λ x. IsWhole most fits x asked in subst P (sym ends.1) (sound.0.0, sound.0.1, sound.1)
   ends_whole (stage.Barriers items senders) header asked ends sound =
-      let P : Header → Type 0 = λ x. IsWhole fits x asked in
+      let P : Header → Type 0 = λ x. IsWhole most fits x asked in
       let Q : List A → Type 0 = λ x. AllByRecursion (fits (header_of (stage.Barriers items senders))) x in
-      subst P (sym ends.1) ((sound.0.0, (omega arith, omega arith), sound.0.1), subst Q (sym sound.1) tt)
+      subst P (sym ends.1) ((sound.0.0, (omega arith, omega arith), sound.0.1), sound.0.2, subst Q (sym sound.1) tt)
   ends_whole stage.Version header asked ends sound = absurd ends.0
   ends_whole stage.Items header asked ends sound = absurd ends.0
   ends_whole (stage.Senders items) header asked ends sound = absurd ends.0
@@ -123,10 +123,10 @@ unfolding EndsHeader
 ends_commands found header same = (tt, same)
 
 -- where a step may follow, the numbers are few
-pub few_numbers : (s : Stage) → takes_steps s ≡ true → InLimits s → (header_of s).items + (header_of s).barriers < 8192
-few_numbers (stage.Commands header) e limits = omega (arith, limits.0.1, limits.1.1)
-few_numbers (stage.Barriers items senders) e limits = omega (arith, limits.0.1)
-few_numbers s e limits = cc
+pub few_numbers : (most : ℕ) (s : Stage) → takes_steps s ≡ true → InLimits most s → (header_of s).items + (header_of s).barriers < 8192
+few_numbers most (stage.Commands header) e limits = omega (arith, limits.0.0.1, limits.0.1.1)
+few_numbers most (stage.Barriers items senders) e limits = omega (arith, limits.0.1)
+few_numbers most s e limits = cc
 
 -- a follow list of the header's items is of the layout's
 pub fits_follow : (header : Header) (item : ℕ) (follow : ArrayVec ℕ) → item < header.items → All (λ n. n < header.items) follow.items → FitsHeader header (command.Follow item follow)

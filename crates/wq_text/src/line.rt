@@ -73,7 +73,7 @@ fn command(header: Header, keyword: Keyword, words: &[&str]) -> Result<Command, 
 pub fn header(most: u32, stage: Stage, words: &[&str]) -> Result<Stage, LineError>
     requires { most ≤ 64 }
     ensures exact { LineGives result (header_gives most stage (map (λ w. w.now) words.now)) }
-    ensures sound { IfOk result (KeepsHeader stage) }
+    ensures sound { IfOk result (KeepsHeader most stage) }
 {
     match stage {
         Stage::Items => {
@@ -105,7 +105,7 @@ fn arguments(
 ) -> Result<(Stage, Option<Command>), LineError>
     requires { is_placed stage keyword ≡ true }
     ensures exact { LineGives result (arguments_give stage keyword (map (λ w. w.now) words.now)) }
-    ensures sound { IfOk result (λ given. KeepsSound FitsHeader stage given.0 given.1) }
+    ensures sound { IfOk result (λ given. KeepsSound 62 FitsHeader stage given.0 given.1) }
 {
     if keyword.is_header() {
         return Ok((header(62, stage, words)?, None));
@@ -126,7 +126,7 @@ pub fn are_words(words: &[&str]) -> bool
 #[tactic(auto, using(crate::proofs::LineWords::mapped_words), unfolding(crate::specs::Line::words_give))]
 fn words_line(stage: Stage, words: &[&str]) -> Result<(Stage, Option<Command>), LineError>
     ensures exact { LineGives result (words_give stage (map (λ w. w.now) words.now)) }
-    ensures sound { IfOk result (λ given. KeepsSound FitsHeader stage given.0 given.1) }
+    ensures sound { IfOk result (λ given. KeepsSound 62 FitsHeader stage given.0 given.1) }
 {
     if !are_words(words) {
         return Err(LineError::Fault(Kind::Space));
@@ -169,7 +169,7 @@ fn plain_line(
     line: &[u8],
 ) -> Result<(Stage, Option<Command>), LineError>
     ensures exact { LineGives result (plain_line_gives stage line.now) }
-    ensures sound { IfOk result (λ given. KeepsSound FitsHeader stage given.0 given.1) }
+    ensures sound { IfOk result (λ given. KeepsSound 62 FitsHeader stage given.0 given.1) }
 {
     let Some(text) = plain_text(line) else {
         return Err(LineError::Fault(Kind::Bytes));
@@ -186,7 +186,7 @@ pub fn read_line(
     line: &[u8],
 ) -> Result<(Stage, Option<Command>), LineError>
     ensures exact { LineGives result (line_gives stage line.now) }
-    ensures sound { IfOk result (λ given. KeepsSound FitsHeader stage given.0 given.1) }
+    ensures sound { IfOk result (λ given. KeepsSound 62 FitsHeader stage given.0 given.1) }
 {
     match stage {
         Stage::Version => {

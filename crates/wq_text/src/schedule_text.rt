@@ -1,72 +1,37 @@
 //! From the bytes of a text to its schedule.
-ghost use Rattle.std.specs.Prelude.{◌≡◌, ◌++◌, OnOk, IfOk};
-ghost use Rattle.std.specs.Option.{option_to_list};
-ghost use Rattle.wq_text.specs.Fault.{GivesAs, at_line};
+ghost use Rattle.wq_text.specs.Fault.{GivesAs};
 ghost use Rattle.wq_text.specs.FirstFault.{TellsLines};
 ghost use Rattle.wq_text.specs.Schedule.{schedule_of, schedule_spelled};
-ghost use Rattle.wq_text.specs.Sound.{IsWhole, KeepsSound, InLimits};
 ghost use Rattle.wq_text.specs.Turn.{turn_line_gives};
 ghost use Rattle.wq_text.specs.Turns.{TurnFits};
 
-use crate::fault::{Kind, LineError, ParseError};
-use crate::header::{Header, Stage};
+use crate::fault::{LineError, ParseError};
+use crate::header::Stage;
 use crate::schedule::Schedule;
-use crate::text::{MAX_BYTES, cut_line, header_at_end, layout_of, refused};
+use crate::text::{Language, layout_of, read};
 use crate::turn::read_turn;
-use std::alloc::{AllocError, Global};
+use std::alloc::Global;
 use wq_core::{Seat, Step};
 
-/// What line `number` gives.
-fn numbered_turn(
-    alloc: Global,
-    number: u64,
-    stage: Stage,
-    line: &[u8],
-) -> Result<(Stage, Option<(Seat, Step)>), ParseError>
-    requires { InLimits stage }
-    ensures exact { GivesAs (λ x. x) result (at_line number (turn_line_gives stage line.now)) }
-    ensures sound { IfOk result (λ given. KeepsSound TurnFits stage given.0 given.1) }
-{
-    match read_turn(alloc, stage, line) {
-        Ok(given) => Ok(given),
-        Err(LineError::Memory) => Err(ParseError::Memory),
-        Err(LineError::Fault(kind)) => Err(refused(number, kind)),
-    }
-}
+/// The lines of a schedule, each a turn at most.
+struct Turns;
 
-fn add(turns: &mut Vec<(Seat, Step)>, turn: Option<(Seat, Step)>) -> Result<(), AllocError>
-    ensures { OnOk result (turns.new.items ≡ turns.old.items ++ option_to_list turn) }
-{
-    if let Some(turn) = turn {
-        turns.push(turn)?;
-    }
-    Ok(())
-}
+impl Language for Turns {
+    type Asked = (Seat, Step);
 
-/// The header and the turns of a text.
-fn read(alloc: Global, text: &[u8]) -> Result<(Header, Vec<(Seat, Step)>), ParseError>
-    ensures exact { GivesAs (λ x. (x.0, x.1.items)) result (schedule_of text.now) }
-    ensures fits { IfOk result (λ x. IsWhole TurnFits x.0 x.1.items) }
-{
-    if text.len() > MAX_BYTES {
-        return Err(refused(1, Kind::Size));
+    ghost most = { 64 };
+
+    ghost gives = { turn_line_gives };
+
+    ghost fits = { TurnFits };
+
+    fn read_line(
+        alloc: Global,
+        stage: Stage,
+        line: &[u8],
+    ) -> Result<(Stage, Option<(Seat, Step)>), LineError> {
+        read_turn(alloc, stage, line)
     }
-    let mut stage = Stage::Version;
-    let mut turns = Vec::new(alloc);
-    let mut number = 1u64;
-    let mut rest = text;
-    while let Some((line, after)) = cut_line(rest) {
-        let (next, turn) = numbered_turn(alloc, number, stage, line)?;
-        add(&mut turns, turn)?;
-        stage = next;
-        number += 1;
-        rest = after;
-    }
-    if !rest.is_empty() {
-        return Err(refused(number, Kind::Cut));
-    }
-    let header = header_at_end(number, stage)?;
-    Ok((header, turns))
 }
 
 /// The schedule that a text of at most 1,048,576 bytes spells.
@@ -74,7 +39,7 @@ fn read(alloc: Global, text: &[u8]) -> Result<(Header, Vec<(Seat, Step)>), Parse
 pub fn parse_steps(alloc: Global, text: &[u8]) -> Result<Schedule, ParseError>
     ensures { GivesAs schedule_spelled result (schedule_of text.now) }
 {
-    let (header, turns) = read(alloc, text)?;
+    let (header, turns) = read::<Turns>(alloc, text)?;
     Ok(Schedule::new(layout_of(header), turns))
 }
 

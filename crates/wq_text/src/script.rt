@@ -5,14 +5,15 @@ ghost use Rattle.wq_text.specs.Fits.{Fits, All_Fits-prop};
 use crate::command::Command;
 use wq_words::Layout;
 
-/// The numbers of a queue, and what is asked of it in turn: at most 1,048,576 commands, whose senders and items the queue
-/// has.
+/// The numbers of a queue of at most 62 senders, and what is asked of it in turn: at most 1,048,576 commands, whose senders
+/// and items the queue has.
 #[derive(Drop)]
 pub struct Script {
     layout: Layout,
     commands: Vec<Command>,
     ghost fits: { All (Fits layout) commands.items } by { All_Fits-prop layout commands.items },
     ghost few: { length commands.items ≤ 1048576 },
+    ghost few_senders: { layout.senders ≤ 62 },
 }
 
 impl Script {
@@ -22,6 +23,7 @@ impl Script {
     pub fn new(layout: Layout, commands: Vec<Command>) -> Script
         requires fits { All (Fits layout) commands.items }
         requires few { length commands.items ≤ 1048576 }
+        requires few_senders { layout.senders ≤ 62 }
         ensures layout { layout_of result ≡ layout }
         ensures commands { commands_of result ≡ commands.items }
     {

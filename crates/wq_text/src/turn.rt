@@ -210,7 +210,7 @@ fn header_line(
     words: &[&str],
 ) -> Result<(Stage, Option<(Seat, Step)>), LineError>
     ensures exact { LineGives result (header_line_gives stage keyword (map (λ w. w.now) words.now)) }
-    ensures sound { IfOk result (λ given. KeepsSound TurnFits stage given.0 given.1) }
+    ensures sound { IfOk result (λ given. KeepsSound 64 TurnFits stage given.0 given.1) }
 {
     if !stage.is_placed(keyword) {
         return Err(LineError::Fault(Kind::Header));
@@ -220,9 +220,9 @@ fn header_line(
 
 #[tactic(auto, using(crate::proofs::Sound::keeps_step, crate::proofs::Sound::few_numbers))]
 fn step_line(stage: Stage, words: &[&str]) -> Result<(Stage, Option<(Seat, Step)>), LineError>
-    requires { InLimits stage }
+    requires { InLimits 64 stage }
     ensures exact { LineGives result (step_line_gives stage (map (λ w. w.now) words.now)) }
-    ensures sound { IfOk result (λ given. KeepsSound TurnFits stage given.0 given.1) }
+    ensures sound { IfOk result (λ given. KeepsSound 64 TurnFits stage given.0 given.1) }
 {
     let Some(action) = action_of(words) else {
         return Err(LineError::Fault(Kind::Word));
@@ -238,9 +238,9 @@ fn step_line(stage: Stage, words: &[&str]) -> Result<(Stage, Option<(Seat, Step)
 /// What the words of a line give.
 #[tactic(auto, using(crate::proofs::LineWords::mapped_words), unfolding(crate::specs::Turn::turn_words_give))]
 fn turn_words(stage: Stage, words: &[&str]) -> Result<(Stage, Option<(Seat, Step)>), LineError>
-    requires { InLimits stage }
+    requires { InLimits 64 stage }
     ensures exact { LineGives result (turn_words_give stage (map (λ w. w.now) words.now)) }
-    ensures sound { IfOk result (λ given. KeepsSound TurnFits stage given.0 given.1) }
+    ensures sound { IfOk result (λ given. KeepsSound 64 TurnFits stage given.0 given.1) }
 {
     if !are_words(words) {
         return Err(LineError::Fault(Kind::Space));
@@ -261,9 +261,9 @@ fn plain_turn(
     stage: Stage,
     line: &[u8],
 ) -> Result<(Stage, Option<(Seat, Step)>), LineError>
-    requires { InLimits stage }
+    requires { InLimits 64 stage }
     ensures exact { LineGives result (plain_turn_gives stage line.now) }
-    ensures sound { IfOk result (λ given. KeepsSound TurnFits stage given.0 given.1) }
+    ensures sound { IfOk result (λ given. KeepsSound 64 TurnFits stage given.0 given.1) }
 {
     let Some(text) = plain_text(line) else {
         return Err(LineError::Fault(Kind::Bytes));
@@ -279,9 +279,9 @@ pub fn read_turn(
     stage: Stage,
     line: &[u8],
 ) -> Result<(Stage, Option<(Seat, Step)>), LineError>
-    requires { InLimits stage }
+    requires { InLimits 64 stage }
     ensures exact { LineGives result (turn_line_gives stage line.now) }
-    ensures sound { IfOk result (λ given. KeepsSound TurnFits stage given.0 given.1) }
+    ensures sound { IfOk result (λ given. KeepsSound 64 TurnFits stage given.0 given.1) }
 {
     match stage {
         Stage::Version => {

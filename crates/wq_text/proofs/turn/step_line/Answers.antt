@@ -7,4 +7,4 @@ use Rattle.wq_text.proofs.turn.step_line.Goals as goal
 pub returns-clause-sound : goal.returns-clause-sound
 returns-clause-sound c =
     let takes : takes_steps c.args.stage ≡ true = sym c.takes_steps.ensures ∙ c.if-not-takes_steps.false in
-    rw c.header-header.ensures (keeps_step TurnFits c.args.stage c.in_ok-turn.turn takes (rw c.header-header.ensures at c.in_ok-turn.ensures.fits))
+    rw c.header-header.ensures (keeps_step 64 TurnFits c.args.stage c.in_ok-turn.turn takes (rw c.header-header.ensures at c.in_ok-turn.ensures.fits))
