@@ -1,186 +1,221 @@
-//! The engine of scripts: a queue, and what each item's function answers.
-ghost use Rattle.std.specs.Prelude.{◌≡◌, ℕ, ◌+◌, ◌^◌, ◌<◌, ◌≤◌, length, IfOk, OnOk, string_bytes};
-ghost use Rattle.wq_words.specs.Numbers.{number_count};
-ghost use Rattle.wq_script.specs.Follows.{AllFit, AllFit-prop};
-ghost use Rattle.wq_text.specs.Fits.{Fits, IsItem, IsBarrier};
-ghost use Rattle.wq_script.specs.Commands.{opening};
+//! The engine of scripts over the words that threads could share.
+ghost use Rattle.std.specs.Prelude.{◌≡◌, ℕ, ◌+◌, ◌^◌, ◌≤◌, List, length, IfOk, OnOk, string_bytes};
+ghost use Rattle.wq_text.specs.Fits.{Fits};
+ghost use Rattle.wq_plain.specs.Commands.{opening};
+ghost use Rattle.wq_plain.specs.Report.{counts_of};
 
-use crate::answer::write_close;
-use crate::follows::Follows;
-use crate::lines::{advance_word, either, write_left, write_line, write_row};
-use crate::queue::Queue;
+use crate::seats::Seats;
+use crate::tally::Tally;
 use std::alloc::{AllocError, Global};
+use wq_plain::{Counts, advance_word, either, write_close, write_left, write_line, write_row};
 use wq_text::{Command, Follow};
 use wq_words::Layout;
 
-/// A queue, its delay table, and a list for each item, all of one layout.
+/// All seats of a queue, and what is counted of them. The layout is the script's, whose queue has two senders more.
 #[derive(Drop)]
 pub struct Engine {
     layout: Layout,
-    queue: Queue,
-    follows: Follows,
-    ghost numbers: { length queue.pending.items ≡ number_count layout },
-    ghost lists: { length follows.lists.items ≡ layout.items },
-    ghost fit: { AllFit (number_count layout) follows.lists.items } by { AllFit-prop (number_count layout) follows.lists.items },
+    seats: Seats,
+    tally: Tally,
 }
 
 impl Engine {
-    ghost use Rattle.wq_script.specs.Engine.{Meets, Does, HasRoom};
+    ghost use Rattle.wq_script.specs.Engine.{Meets, size, IsReady, Does};
 
     /// An open queue with nothing in it, and empty lists.
     pub fn new(alloc: Global, layout: Layout) -> Result<Engine, AllocError>
+        requires { layout.senders ≤ 62 }
         ensures layout { IfOk result (λ e. e.layout ≡ layout) }
         ensures meets { IfOk result (λ e. Meets e (opening layout)) }
-        ensures room { IfOk result (λ e. HasRoom e 0 0) }
     {
         Ok(Engine {
             layout,
-            queue: Queue::new(alloc, layout.items + layout.barriers + 1)?,
-            follows: Follows::new(alloc, layout.items)?,
+            seats: Seats::new(alloc, layout)?,
+            tally: Tally {
+                queued: 0,
+                busy: 0,
+                refused: 0,
+            },
         })
     }
 
-    fn queue(&mut self, item: u32, out: &mut String) -> Result<(), AllocError>
-        requires item { IsItem self.old.layout item }
-        requires room { HasRoom self.old (2 ^ 60) (2 ^ 60) }
-        ensures { OnOk result ((sender : ℕ) → Does self.old self.new (string_bytes out.old) (string_bytes out.new) (Command.Queue sender item)) }
+    fn queue(&mut self, sender: u32, item: u32, out: &mut String) -> Result<(), AllocError>
+        requires fits { Fits self.old.layout (Command.Queue sender item) }
+        requires ready { IsReady (2 ^ 60) self.old }
+        ensures { OnOk result (Does self.old self.new (string_bytes out.old) (string_bytes out.new) (Command.Queue sender item)) }
     {
-        let answer = self.queue.queue(item)?;
+        let answer = self.seats.queue(sender, item);
+        let answer = self.tally.queueing(answer);
         write_line(answer.text(), out)?;
         Ok(())
     }
 
-    fn flush(&mut self, barrier: u32, out: &mut String) -> Result<(), AllocError>
-        requires barrier { IsBarrier self.old.layout barrier }
-        requires room { HasRoom self.old (2 ^ 60) (2 ^ 60) }
-        ensures { OnOk result ((sender : ℕ) → Does self.old self.new (string_bytes out.old) (string_bytes out.new) (Command.Flush sender barrier)) }
+    fn flush(&mut self, sender: u32, barrier: u32, out: &mut String) -> Result<(), AllocError>
+        requires fits { Fits self.old.layout (Command.Flush sender barrier) }
+        requires ready { IsReady (2 ^ 60) self.old }
+        ensures { OnOk result (Does self.old self.new (string_bytes out.old) (string_bytes out.new) (Command.Flush sender barrier)) }
     {
-        let answer = self.queue.queue(self.layout.items + barrier)?;
+        let answer = self.seats.flush(sender, barrier);
+        let answer = self.tally.queueing(answer);
         write_line(answer.text(), out)?;
         Ok(())
     }
 
-    fn stop(&mut self, out: &mut String) -> Result<(), AllocError>
-        requires { HasRoom self.old (2 ^ 60) (2 ^ 60) }
-        ensures { OnOk result ((sender : ℕ) → Does self.old self.new (string_bytes out.old) (string_bytes out.new) (Command.Stop sender)) }
+    fn stop(&mut self, sender: u32, out: &mut String) -> Result<(), AllocError>
+        requires fits { Fits self.old.layout (Command.Stop sender) }
+        requires ready { IsReady (2 ^ 60) self.old }
+        ensures { OnOk result (Does self.old self.new (string_bytes out.old) (string_bytes out.new) (Command.Stop sender)) }
     {
-        let answer = self.queue.queue(self.layout.items + self.layout.barriers)?;
+        let answer = self.seats.stop(sender);
+        let answer = self.tally.queueing(answer);
         write_line(answer.text(), out)?;
         Ok(())
     }
 
     fn run(&mut self, alloc: Global, limit: u32, out: &mut String) -> Result<(), AllocError>
-        requires { HasRoom self.old (2 ^ 60) (2 ^ 60) }
+        requires fits { Fits self.old.layout (Command.Run limit) }
+        requires ready { IsReady (2 ^ 60) self.old }
         ensures { OnOk result (Does self.old self.new (string_bytes out.old) (string_bytes out.new) (Command.Run limit)) }
     {
         let stop = self.layout.items + self.layout.barriers;
-        let ran = self.queue.run(alloc, &self.follows, limit, Some(stop))?;
+        let ran = self.seats.run(alloc, &self.layout, limit, Some(stop))?;
         write_row(&self.layout, "ran", &ran, out)?;
         Ok(())
     }
 
     fn drain(&mut self, alloc: Global, limit: u32, out: &mut String) -> Result<(), AllocError>
-        requires { HasRoom self.old (2 ^ 60) (2 ^ 60) }
+        requires fits { Fits self.old.layout (Command.Drain limit) }
+        requires ready { IsReady (2 ^ 60) self.old }
         ensures { OnOk result (Does self.old self.new (string_bytes out.old) (string_bytes out.new) (Command.Drain limit)) }
     {
-        if !self.queue.is_closed() {
+        if !self.seats.is_closed() {
             write_line("not closed", out)?;
             return Ok(());
         }
-        let ran = self.queue.run(alloc, &self.follows, limit, None)?;
+        let ran = self.seats.run(alloc, &self.layout, limit, None)?;
         write_row(&self.layout, "ran", &ran, out)?;
-        write_left(self.queue.counts().waiting, out)?;
+        write_left(self.counts().waiting, out)?;
         Ok(())
     }
 
     fn close(&mut self, out: &mut String) -> Result<(), AllocError>
-        requires { HasRoom self.old (2 ^ 60) (2 ^ 60) }
+        requires fits { Fits self.old.layout Command.Close }
+        requires ready { IsReady (2 ^ 60) self.old }
         ensures { OnOk result (Does self.old self.new (string_bytes out.old) (string_bytes out.new) Command.Close) }
     {
-        let taken = self.queue.close();
+        let taken = self.seats.close();
         write_close(taken, out)?;
         Ok(())
     }
 
     fn report(&mut self, out: &mut String) -> Result<(), AllocError>
-        requires { HasRoom self.old (2 ^ 60) (2 ^ 60) }
+        requires fits { Fits self.old.layout Command.Report }
+        requires ready { IsReady (2 ^ 60) self.old }
         ensures { OnOk result (Does self.old self.new (string_bytes out.old) (string_bytes out.new) Command.Report) }
     {
-        self.queue.counts().write(out)?;
+        self.counts().write(out)?;
         Ok(())
     }
 
-    fn follow(&mut self, item: u32, follow: &Follow, out: &mut String) -> Result<(), AllocError>
+    fn follow(&mut self, item: u32, follow: &Follow)
         requires fits { Fits self.old.layout (Command.Follow item follow.now) }
-        requires room { HasRoom self.old (2 ^ 60) (2 ^ 60) }
-        ensures { OnOk result (Does self.old self.new (string_bytes out.old) (string_bytes out.new) (Command.Follow item follow.now)) }
+        requires ready { IsReady (2 ^ 60) self.old }
+        ensures { (bytes : List ℕ) → Does self.old self.new bytes bytes (Command.Follow item follow.now) }
     {
-        self.follows.set(item, follow)?;
-        Ok(())
+        // This call says that a list has four items at most.
+        let _ = follow.as_slice();
+        self.seats.follow(item, follow);
     }
 
-    fn done(&mut self, barrier: u32, out: &mut String) -> Result<(), AllocError>
-        requires barrier { IsBarrier self.old.layout barrier }
-        requires room { HasRoom self.old (2 ^ 60) (2 ^ 60) }
-        ensures { OnOk result ((sender : ℕ) → Does self.old self.new (string_bytes out.old) (string_bytes out.new) (Command.Done sender barrier)) }
+    fn done(&mut self, sender: u32, barrier: u32, out: &mut String) -> Result<(), AllocError>
+        requires fits { Fits self.old.layout (Command.Done sender barrier) }
+        requires ready { IsReady (2 ^ 60) self.old }
+        ensures { OnOk result (Does self.old self.new (string_bytes out.old) (string_bytes out.new) (Command.Done sender barrier)) }
     {
-        let is_pending = self.queue.is_pending(self.layout.items + barrier);
-        write_line(either(is_pending, "false", "true"), out)?;
+        let is_flushed = self.seats.is_flushed(sender, barrier);
+        write_line(either(is_flushed, "true", "false"), out)?;
         Ok(())
     }
 
     fn check(&mut self, item: u32, out: &mut String) -> Result<(), AllocError>
-        requires item { IsItem self.old.layout item }
-        requires room { HasRoom self.old (2 ^ 60) (2 ^ 60) }
+        requires fits { Fits self.old.layout (Command.Check item) }
+        requires ready { IsReady (2 ^ 60) self.old }
         ensures { OnOk result (Does self.old self.new (string_bytes out.old) (string_bytes out.new) (Command.Check item)) }
     {
-        let is_pending = self.queue.is_pending(item);
+        let is_pending = self.seats.is_pending(item);
         write_line(either(is_pending, "pending", "idle"), out)?;
         Ok(())
     }
 
     fn arm(&mut self, item: u32, delay: u64, out: &mut String) -> Result<(), AllocError>
-        requires item { IsItem self.old.layout item }
-        requires room { HasRoom self.old (2 ^ 60) (2 ^ 60) }
+        requires fits { Fits self.old.layout (Command.Arm item delay) }
+        requires ready { IsReady (2 ^ 60) self.old }
         ensures { OnOk result (Does self.old self.new (string_bytes out.old) (string_bytes out.new) (Command.Arm item delay)) }
     {
-        let answer = self.queue.arm(item, delay)?;
+        let armed = self.seats.arm(item, delay);
+        let Some(answer) = self.tally.arming(armed) else {
+            return Err(AllocError);
+        };
         write_line(answer.text(), out)?;
         Ok(())
     }
 
     fn cancel(&mut self, item: u32, out: &mut String) -> Result<(), AllocError>
-        requires item { IsItem self.old.layout item }
-        requires room { HasRoom self.old (2 ^ 60) (2 ^ 60) }
+        requires fits { Fits self.old.layout (Command.Cancel item) }
+        requires ready { IsReady (2 ^ 60) self.old }
         ensures { OnOk result (Does self.old self.new (string_bytes out.old) (string_bytes out.new) (Command.Cancel item)) }
     {
-        let was_on_table = self.queue.cancel(item);
+        let was_on_table = self.seats.cancel(item);
         write_line(either(was_on_table, "cancelled", "not on table"), out)?;
         Ok(())
     }
 
     fn modify(&mut self, item: u32, delay: u64, out: &mut String) -> Result<(), AllocError>
-        requires item { IsItem self.old.layout item }
-        requires room { HasRoom self.old (2 ^ 60) (2 ^ 60) }
+        requires fits { Fits self.old.layout (Command.Modify item delay) }
+        requires ready { IsReady (2 ^ 60) self.old }
         ensures { OnOk result (Does self.old self.new (string_bytes out.old) (string_bytes out.new) (Command.Modify item delay)) }
     {
-        let answer = self.queue.modify(item, delay)?;
+        let modified = self.seats.modify(item, delay);
+        let Some(answer) = self.tally.modification(modified, delay) else {
+            return Err(AllocError);
+        };
         write_line(answer.text(), out)?;
         Ok(())
     }
 
-    fn advance(&mut self, alloc: Global, tick: u64, out: &mut String) -> Result<(), AllocError>
-        requires { HasRoom self.old (2 ^ 60) (2 ^ 60) }
+    fn advance(&mut self, tick: u64, out: &mut String) -> Result<(), AllocError>
+        requires fits { Fits self.old.layout (Command.Advance tick) }
+        requires ready { IsReady (2 ^ 60) self.old }
         ensures { OnOk result (Does self.old self.new (string_bytes out.old) (string_bytes out.new) (Command.Advance tick)) }
     {
-        if tick < self.queue.delays().tick() {
+        let is_closed = self.seats.is_closed();
+        let Some(posted) = self.seats.advance(tick)? else {
             write_line("false backwards", out)?;
             return Ok(());
-        }
-        let is_closed = self.queue.is_closed();
-        let posted = self.queue.advance(alloc, tick)?;
+        };
+        self.tally.posting(is_closed, posted.len() as u64);
         write_row(&self.layout, advance_word(is_closed, &posted), &posted, out)?;
         Ok(())
+    }
+
+    // The counts of all events so far: the worker's, and those of all other seats.
+    fn counts(&self) -> Counts
+        requires ready { IsReady (2 ^ 61) self.now }
+        ensures { (s : _) → Meets self.now s → size s ≤ 2 ^ 61 → result ≡ counts_of (length s.table.entries) s.history }
+    {
+        let totals = self.seats.worker.counts();
+        let chained = totals.chained as u64;
+        let executed = totals.executed as u64;
+        let accepted = self.tally.queued + totals.queued as u64 + chained;
+        Counts {
+            accepted,
+            chained,
+            executed,
+            busy: self.tally.busy + totals.pending as u64,
+            refused: self.tally.refused + totals.closed as u64,
+            delayed: self.seats.delay.len() as u64,
+            waiting: accepted - executed,
+        }
     }
 
     /// Does one command, taken whole, and writes its lines.
@@ -191,24 +226,27 @@ impl Engine {
         out: &mut String,
     ) -> Result<(), AllocError>
         requires fits { Fits self.old.layout command.now }
-        requires room { HasRoom self.old (2 ^ 60) (2 ^ 60) }
+        requires ready { IsReady (2 ^ 60) self.old }
         ensures { OnOk result (Does self.old self.new (string_bytes out.old) (string_bytes out.new) command.now) }
     {
         match command {
-            Command::Queue { item, .. } => self.queue(*item, out),
+            Command::Queue { sender, item } => self.queue(*sender, *item, out),
             Command::Run(limit) => self.run(alloc, *limit, out),
             Command::Close => self.close(out),
             Command::Report => self.report(out),
-            Command::Follow { item, follow } => self.follow(*item, follow, out),
-            Command::Flush { barrier, .. } => self.flush(*barrier, out),
-            Command::Done { barrier, .. } => self.done(*barrier, out),
-            Command::Stop(_) => self.stop(out),
+            Command::Follow { item, follow } => {
+                self.follow(*item, follow);
+                Ok(())
+            }
+            Command::Flush { sender, barrier } => self.flush(*sender, *barrier, out),
+            Command::Done { sender, barrier } => self.done(*sender, *barrier, out),
+            Command::Stop(sender) => self.stop(*sender, out),
             Command::Drain(limit) => self.drain(alloc, *limit, out),
             Command::Check(item) => self.check(*item, out),
             Command::Arm { item, delay } => self.arm(*item, *delay, out),
             Command::Cancel(item) => self.cancel(*item, out),
             Command::Modify { item, delay } => self.modify(*item, *delay, out),
-            Command::Advance(tick) => self.advance(alloc, *tick, out),
+            Command::Advance(tick) => self.advance(*tick, out),
         }
     }
 }

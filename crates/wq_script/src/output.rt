@@ -1,20 +1,12 @@
-//! A script's run, from commands to the bytes of its output.
+//! A script's run over the words that threads could share.
 ghost use Rattle.std.specs.Prelude.{◌≡◌, IfOk, string_bytes};
-ghost use Rattle.wq_script.specs.Commands.{output_of};
+ghost use Rattle.wq_plain.specs.Commands.{output_of};
 ghost use Rattle.wq_text.specs.Script.{layout_of, commands_of};
 
 use crate::engine::Engine;
 use std::alloc::{AllocError, Global};
-use thiserror::Error;
+use wq_plain::RunError;
 use wq_text::Script;
-
-/// Why a script or a schedule did not run to its end.
-#[derive(Clone, Copy, Debug, PartialEq, Eq, Error)]
-pub enum RunError {
-    /// An allocation was refused.
-    #[error("out of memory")]
-    Memory,
-}
 
 /// The output of a script, as text.
 fn output_text(alloc: Global, script: &Script) -> Result<String, AllocError>
@@ -30,8 +22,8 @@ fn output_text(alloc: Global, script: &Script) -> Result<String, AllocError>
 
 /// Runs a script on a new queue, each command as one call taken whole, and gives the bytes of its output: for each command
 /// the lines of what it answers, by the rules of Linux's ordered workqueues (`core-api/workqueue`, the kernel-doc of
-/// `workqueue.c`). A queueing answers `true` or `false`, with `first` where the list was empty (`llist_add`), and with
-/// `pending` or `closed`. The only error is want of memory.
+/// `workqueue.c`). Each sender of the script is a sender of the queue, the worker has the number behind them and the delay
+/// table the next; no other seat exists, so none is ever in the way. The only error is want of memory.
 pub fn run(alloc: Global, script: &Script) -> Result<Vec<u8>, RunError>
     ensures { IfOk result (λ bytes. bytes.items ≡ output_of (layout_of script.now) (commands_of script.now)) }
 {

@@ -1,13 +1,12 @@
-use Rattle.std.proofs.Common.{◌≡◌, ◌++◌, ◌*◌, ◌^◌, drop, string_bytes}
-use Rattle.wq_script.specs.Commands.{ScriptState, output_from, output_of}
-use Rattle.wq_script.specs.Engine.{Meets, HasRoom}
+use Rattle.std.proofs.Common.{◌≡◌, ◌++◌, ◌*◌, ◌^◌, ◌≤◌, drop, string_bytes}
+use Rattle.wq_plain.specs.Commands.{ScriptState, output_from, output_of}
+use Rattle.wq_script.specs.Engine.{Meets, size}
 use Rattle.wq_script.proofs.output.output_text.Given as goal
 
 -- the output so far and that of the commands that are left are all, for some state that the engine is in
 abbrev pub invariant-loop-command : goal.invariant-loop-command
 invariant-loop-command l = record {
   layout : l.engine.layout ≡ l.script.layout;
-  room : HasRoom l.engine (2 ^ 34 * l.command-index) l.command-index;
-  told : (s : ScriptState) × Meets l.engine s
+  told : (s : ScriptState) × Meets l.engine s × (size s ≤ 2 ^ 36 * l.command-index)
       × (string_bytes l.out ++ output_from l.script.layout s (drop l.command-index l.script.commands.items) ≡ output_of l.script.layout l.script.commands.items);
 }

@@ -1,12 +1,14 @@
-use Rattle.std.proofs.Common.{◌∙◌, ◌++◌, ap, refl, arith, [], string_bytes}
-use Rattle.std.proofs.Common.{if◌then◌else◌, codes}
-use Rattle.wq_script.specs.Report.{line}
+use Rattle.std.proofs.Common.{◌∙◌, ◌++◌, ap, refl, arith, string_bytes, if◌then◌else◌, codes}
+use Rattle.wq_plain.specs.Report.{line}
+use Rattle.wq_script.proofs.Meetings.{looked_meets}
 use Rattle.wq_script.proofs.engine.Engine.check.Goals as goal
 
 pub returns : goal.returns
-returns c = record {
-  layout = refl;
-  meets = λ s m. m;
-  lines = λ s m. c.in_ok-write_line.ensures ∙ ap (λ x. string_bytes c.args.out.now ++ line x) (c.either.ensures ∙ ap (λ b. if b then codes "pending" else codes "idle") (c.is_pending-is_pending.ensures [] s.history m.stands));
-  room = λ q a r. record { queueings = omega (arith, r.queueings); armings = omega (arith, r.armings) };
-}
+returns c =
+    let e = c.args.self.now in
+    record {
+      layout = refl;
+      meets = λ s m. looked_meets e.layout e.seats c.is_pending-is_pending.new.self e.tally s m (c.is_pending-is_pending.ensures e.layout s.history m.seated).0;
+      lines = λ s m few. c.in_ok-write_line.ensures ∙ ap (λ x. string_bytes c.args.out.now ++ line x) (c.either.ensures ∙ ap (λ b. if b then codes "pending" else codes "idle") (c.is_pending-is_pending.ensures e.layout s.history m.seated).1);
+      room = λ s m. omega arith;
+    }

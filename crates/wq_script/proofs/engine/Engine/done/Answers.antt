@@ -1,12 +1,19 @@
-use Rattle.std.proofs.Common.{◌∙◌, ◌++◌, ap, refl, arith, [], string_bytes}
-use Rattle.std.proofs.Common.{if◌then◌else◌, codes}
-use Rattle.wq_script.specs.Report.{line}
+use Rattle.std.proofs.Common.{◌≡◌, ◌∙◌, ℕ, ◌++◌, Bool, List, ap, refl, arith, string_bytes, if◌then◌else◌, codes, not}
+use Rattle.std.proofs.Common.{true, false}
+use Rattle.wq_plain.specs.Report.{line}
+use Rattle.wq_script.proofs.Meetings.{looked_meets}
 use Rattle.wq_script.proofs.engine.Engine.done.Goals as goal
 
+turned : (b : Bool) (x y : List ℕ) → (if not b then x else y) ≡ (if b then y else x)
+turned true x y = refl
+turned false x y = refl
+
 pub returns : goal.returns
-returns c = λ sender. record {
-  layout = refl;
-  meets = λ s m. m;
-  lines = λ s m. c.in_ok-write_line.ensures ∙ ap (λ x. string_bytes c.args.out.now ++ line x) (c.either.ensures ∙ ap (λ b. if b then codes "false" else codes "true") (c.is_pending-is_pending.ensures [] s.history m.stands));
-  room = λ q a r. record { queueings = omega (arith, r.queueings); armings = omega (arith, r.armings) };
-}
+returns c =
+    let e = c.args.self.now in
+    record {
+      layout = refl;
+      meets = λ s m. looked_meets e.layout e.seats c.is_flushed-is_flushed.new.self e.tally s m (c.is_flushed-is_flushed.ensures e.layout s.history m.seated).0;
+      lines = λ s m few. c.in_ok-write_line.ensures ∙ ap (λ x. string_bytes c.args.out.now ++ line x) (c.either.ensures ∙ (ap (λ b. if b then codes "true" else codes "false") (c.is_flushed-is_flushed.ensures e.layout s.history m.seated).1 ∙ turned _ (codes "true") (codes "false")));
+      room = λ s m. omega arith;
+    }

@@ -1,19 +1,14 @@
-use Rattle.std.proofs.Common.{◌∙◌, ap, sym, refl, arith, string_bytes, slice_set}
+use Rattle.std.proofs.Common.{sym, ap, refl, arith, length}
 use Rattle.std.proofs.lemmas.List.{append-nil}
-use Rattle.wq_words.specs.Numbers.{number_count}
+use Rattle.wq_script.proofs.Meetings.{follow_meets}
 use Rattle.wq_script.proofs.engine.Engine.follow.Goals as goal
 
-pub invariant_of-self-clause-fit : goal.invariant_of-self-clause-fit
-invariant_of-self-clause-fit c = c.set.ensures.fit (number_count c.args.self.now.layout) c.args.self.now.fit (λ k d lt. let here = c.requires.fits.1 k d lt in omega (arith, here))
-
 pub returns : goal.returns
-returns c = record {
-  layout = refl;
-  meets = λ s m. record {
-    stands = m.stands;
-    table = m.table;
-    follows = c.in_ok-set.ensures.items ∙ ap (λ fs. slice_set fs c.args.item c.args.follow.now) m.follows;
-  };
-  lines = λ s m. sym (append-nil (string_bytes c.args.out.now));
-  room = λ q a r. record { queueings = omega (arith, r.queueings); armings = omega (arith, r.armings) };
-}
+returns c = λ bytes.
+    let e = c.args.self.now in let f = c.follow.ensures in
+    record {
+      layout = refl;
+      meets = λ s m. follow_meets e.layout e.seats c.follow.new.self e.tally s c.args.item c.args.follow.now m c.requires.fits.0 c.requires.fits.1 (omega (arith, c.as_slice.ensures.fits, ap length c.as_slice.ensures.value)) f.worker f.lists f.others.0 f.others.1;
+      lines = λ s m few. sym (append-nil bytes);
+      room = λ s m. omega arith;
+    }

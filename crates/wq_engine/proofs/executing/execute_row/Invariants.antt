@@ -1,7 +1,0 @@
-use Rattle.std.proofs.Common.{◌-◌}
-use Rattle.wq_script.specs.Execution.{ends_at}
-use Rattle.wq_engine.proofs.Running.{RowSoFar}
-use Rattle.wq_engine.proofs.executing.execute_row.Given as goal
-
-abbrev pub invariant-loop : goal.invariant-loop
-invariant-loop l = RowSoFar (ends_at l.last) l.limit (l.limit - l.counter) l.fn.worker l.worker l.ran.items

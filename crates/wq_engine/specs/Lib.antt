@@ -1,7 +1,0 @@
-pub mod Seats
-pub mod Asking
-pub mod Quiet
-pub mod Tables
-pub mod Arming
-pub mod Counting
-pub mod Engine

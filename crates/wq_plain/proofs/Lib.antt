@@ -1,0 +1,10 @@
+pub mod Table
+pub mod Growing
+pub mod Bits
+pub mod Steps
+pub mod Executions
+pub mod Armings
+pub mod Outputs
+pub mod Meanings
+pub mod InOrder
+pub mod ScheduleLines

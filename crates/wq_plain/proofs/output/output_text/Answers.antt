@@ -1,0 +1,63 @@
+use Rattle.std.proofs.Common.{◌≡◌, arith, ◌∙◌, ap, sym, ◌++◌, ◌∷◌, ◌+◌, ◌*◌, ◌^◌, ◌<◌, drop, List, length, get_or, string_bytes, subst}
+use Rattle.std.proofs.Math.ListN.{drop_of_length-le}
+use Rattle.wq_words.specs.declared.layout.Layout.{Layout}
+use Rattle.wq_text.specs.declared.command.Command.{Command}
+use Rattle.wq_text.specs.Fits.{Fits}
+use Rattle.wq_plain.specs.Commands.{opening, after, lines, output_from}
+use Rattle.wq_plain.specs.Engine.{Meets}
+use Rattle.wq_plain.proofs.Outputs.{left_at, output_more, output_done}
+use Rattle.wq_plain.proofs.output.output_text.Goals as goal
+
+pub loop-command-init : goal.loop-command-init
+loop-command-init c =
+    let P : Layout → Type 0 = λ l. Meets c.in_ok-engine.engine (opening l) in
+    let room = c.in_ok-engine.ensures.room in
+    record {
+      layout = c.in_ok-engine.ensures.layout ∙ c.layout.ensures;
+      room = record { queueings = omega (arith, room.queueings); armings = omega (arith, room.armings) };
+      told = (
+        opening c.args.script.now.layout,
+        subst P c.layout.ensures c.in_ok-engine.ensures.meets,
+        ap (λ x. x ++ output_from c.args.script.now.layout (opening c.args.script.now.layout) c.args.script.now.commands.items) c.new-out.ensures.bytes,
+      );
+    }
+
+pub execute-requires-clause-fits : goal.execute-requires-clause-fits
+execute-requires-clause-fits c =
+    let commands : List Command = c.args.script.now.commands.items in
+    let lt : c.loop-command.command-index < length commands = omega (arith, ap length c.commands-command-items.ensures) in
+    let same : c.command-item.result ≡ get_or commands c.loop-command.command-index c.command-item.result = c.command-item.is ∙ ap (λ xs. get_or xs c.loop-command.command-index c.command-item.result) c.commands-command-items.ensures in
+    let P : Command → Type 0 = λ k. Fits c.args.script.now.layout k in
+    let Q : Layout → Type 0 = λ l. Fits l c.command-item.result in
+    subst Q (sym c.loop-command.invariant.layout) (subst P (sym same) (c.args.script.now.fits c.loop-command.command-index c.command-item.result lt))
+
+pub execute-requires-clause-room : goal.execute-requires-clause-room
+execute-requires-clause-room c =
+    let lt : c.loop-command.command-index < length c.args.script.now.commands.items = omega (arith, ap length c.commands-command-items.ensures) in
+    let room = c.loop-command.invariant.room in
+    record { queueings = omega (arith, room.queueings, c.args.script.now.few); armings = omega (arith, room.armings, c.args.script.now.few) }
+
+pub loop-command-preserved : goal.loop-command-preserved
+loop-command-preserved c =
+    let commands : List Command = c.args.script.now.commands.items in
+    let lt : c.loop-command.command-index < length commands = omega (arith, ap length c.commands-command-items.ensures) in
+    let same : c.command-item.result ≡ get_or commands c.loop-command.command-index c.command-item.result = c.command-item.is ∙ ap (λ xs. get_or xs c.loop-command.command-index c.command-item.result) c.commands-command-items.ensures in
+    let left : drop c.loop-command.command-index commands ≡ c.command-item.result ∷ drop (c.loop-command.command-index + 1) commands =
+    left_at commands c.loop-command.command-index c.command-item.result lt ∙ ap (λ x. x ∷ drop (c.loop-command.command-index + 1) commands) (sym same) in
+    let does = c.in_ok-execute.ensures in
+    let told = c.loop-command.invariant.told in
+    let room = does.room (2 ^ 34 * c.loop-command.command-index) c.loop-command.command-index c.loop-command.invariant.room in
+    let P : Layout → Type 0 = λ l. Meets c.execute.new.self (after l told.0 c.command-item.result) in
+    let Q : Layout → Type 0 = λ l. string_bytes c.execute.new.out ≡ string_bytes c.loop-command.out ++ lines l told.0 (after l told.0 c.command-item.result) c.command-item.result in
+    record {
+      layout = does.layout ∙ c.loop-command.invariant.layout;
+      room = record { queueings = omega (arith, room.queueings); armings = room.armings };
+      told = (
+        after c.args.script.now.layout told.0 c.command-item.result,
+        subst P c.loop-command.invariant.layout (does.meets told.0 told.1),
+        output_more c.args.script.now.layout told.0 commands c.loop-command.command-index c.command-item.result _ _ _ left (subst Q c.loop-command.invariant.layout (does.lines told.0 told.1)) told.2,
+      );
+    }
+
+pub returns : goal.returns
+returns c = output_done c.args.script.now.layout c.loop-command.invariant.told.0 _ _ _ (drop_of_length-le c.args.script.now.commands.items (omega (arith, ap length c.commands-command-items.ensures))) c.loop-command.invariant.told.2

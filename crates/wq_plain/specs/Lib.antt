@@ -1,0 +1,16 @@
+pub mod Answer
+pub mod Report
+pub mod Queueing
+pub mod Execution
+pub mod Table
+pub mod Delays
+pub mod Arming
+pub mod Standing
+pub mod Queue
+pub mod Follows
+pub mod Names
+pub mod Commands
+pub mod Engine
+pub mod Order
+pub mod Replies
+pub mod ScheduleOutput

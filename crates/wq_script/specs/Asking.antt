@@ -1,0 +1,55 @@
+-- What a queueing answers, on the running words and in a script.
+use Rattle.std.specs.Prelude.{◌≡◌, ℕ, Bool, not, List, [], ◌++◌, length, filter}
+use Rattle.wq_words.specs.declared.layout.Layout.{Layout}
+use Rattle.wq_words.specs.declared.event.Event.{Event}
+use Rattle.wq_words.specs.History.{IsRunning}
+use Rattle.wq_live.specs.declared.answer.Answer.{Answer}
+use Rattle.wq_live.specs.declared.answer.Answer.TheVariants as live
+use Rattle.wq_plain.specs.declared.answer.Answer as script
+use Rattle.wq_plain.specs.declared.answer.Answer.TheVariants as answer
+use Rattle.wq_plain.specs.Queueing.{queue_events, queue_answer}
+use Rattle.wq_worker.specs.Seats.{is_ours}
+use Rattle.wq_plain.specs.Execution.{after_executions, ended_since}
+use Rattle.wq_plain.specs.Follows.{AllFit}
+use Rattle.wq_script.specs.declared.seats.Seats.{Seats}
+use Rattle.wq_script.specs.Seats.{IsSameWork, IsSameTable, Seated}
+
+-- both say the same; a script has no word for a queueing that was contended
+abbrev pub Tells : Answer → script.Answer → Type 0
+Tells (live.Queued first) (answer.Queued second) = first ≡ second
+Tells live.Pending answer.Pending = Unit {0}
+Tells live.Closed answer.Closed = Unit {0}
+Tells _ _ = ⊥
+
+-- the sender asked for a queueing of the number k, and nothing else happened
+pub record Asks (layout : Layout) (sender k : ℕ) (a : Answer) (h : List Event) (s t : Seats) : Type 0 where
+  pub tells : Tells a (queue_answer k h)
+  pub seated : Seated layout t (h ++ queue_events sender k h)
+  pub work : IsSameWork s.worker t.worker
+  pub table : IsSameTable s.delay t.delay
+
+-- this is the history now, and the work and the table are as they were
+pub record Goes (layout : Layout) (h : List Event) (s t : Seats) : Type 0 where
+  pub seated : Seated layout t h
+  pub work : IsSameWork s.worker t.worker
+  pub table : IsSameTable s.delay t.delay
+
+-- nothing happened
+abbrev pub Looks : Layout → List Event → Seats → Seats → Type 0
+Looks layout h s t = Goes layout h s t
+
+-- there is a list for each item, of items
+pub record HasLists (layout : Layout) (s : Seats) : Type 0 where
+  pub count : length s.worker.work.follows.items ≡ layout.items
+  pub fit : AllFit layout.items s.worker.work.follows.items
+
+-- these were executed, and the lists and the table are as they were
+pub record Ran (layout : Layout) (h : List Event) (limit : ℕ) (ends : ℕ → Bool) (s t : Seats) (ran : List ℕ) : Type 0 where
+  pub seated : Seated layout t (after_executions layout.senders s.worker.work.follows.items ends limit h)
+  pub ran_is : ran ≡ ended_since h (after_executions layout.senders s.worker.work.follows.items ends limit h)
+  pub idle : ¬ IsRunning (after_executions layout.senders s.worker.work.follows.items ends limit h)
+  pub lists : t.worker.work.follows ≡ s.worker.work.follows
+  pub table : IsSameTable s.delay t.delay
+  pub new : List Event
+  pub new_is : after_executions layout.senders s.worker.work.follows.items ends limit h ≡ h ++ new
+  pub ours : filter (λ e. not (is_ours layout.senders e)) new ≡ []

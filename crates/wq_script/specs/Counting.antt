@@ -1,0 +1,46 @@
+-- What an engine counts: what senders and the delay table's sender did. The worker counts the rest.
+use Rattle.std.specs.Prelude.{◌≡◌, ℕ, ◌+◌, ◌^◌, ◌≤◌, ◌==◌, List, count_by, if◌then◌else◌}
+use Rattle.wq_words.specs.declared.event.Event.{Event}
+use Rattle.wq_words.specs.History.{is_push}
+use Rattle.wq_live.specs.Counts.{is_queued_by, is_pending_by, is_closed_by, is_chain_busy}
+use Rattle.wq_plain.specs.declared.answer.Answer.{Answer}
+use Rattle.wq_plain.specs.declared.answer.Answer.TheVariants as answer
+use Rattle.wq_plain.specs.declared.answer.Armed.{Armed}
+use Rattle.wq_plain.specs.declared.answer.Armed.TheVariants as arming
+use Rattle.wq_plain.specs.declared.answer.Modified.{Modified}
+use Rattle.wq_plain.specs.declared.answer.Modified.TheVariants as modified
+use Rattle.wq_plain.specs.Report.{is_busy, is_refusal}
+use Rattle.wq_script.specs.declared.tally.Tally.{Tally}
+
+-- with what the worker w counted these are all
+pub record Tallied (t : Tally) (w : ℕ) (h : List Event) : Type 0 where
+  pub queued : t.queued + count_by (is_queued_by w) h ≡ count_by is_push h
+  pub busy : t.busy + (count_by (is_pending_by w) h + count_by is_chain_busy h) ≡ count_by is_busy h
+  pub refused : t.refused + count_by (is_closed_by w) h ≡ count_by is_refusal h
+
+-- one more, by its answer
+abbrev pub counted : Answer → Tally → Tally
+counted (answer.Queued first) t = record t { queued = t.queued + 1 }
+counted answer.Pending t = record t { busy = t.busy + 1 }
+counted answer.Closed t = record t { refused = t.refused + 1 }
+
+abbrev pub counted_armed : Armed → Tally → Tally
+counted_armed (arming.Queueing a) t = counted a t
+counted_armed arming.OnTable t = t
+counted_armed arming.TooFar t = t
+
+abbrev pub counted_push : ℕ → Tally → Tally
+counted_push delay t = if delay == 0 then record t { queued = t.queued + 1 } else t
+
+abbrev pub counted_modified : ℕ → Modified → Tally → Tally
+counted_modified delay modified.WasIdle t = counted_push delay t
+counted_modified delay modified.Moved t = counted_push delay t
+counted_modified delay modified.Pending t = record t { busy = t.busy + 1 }
+counted_modified delay modified.Closed t = record t { refused = t.refused + 1 }
+counted_modified delay modified.TooFar t = t
+
+-- there is room for more
+pub record HasRoom (t : Tally) : Type 0 where
+  pub queued : t.queued ≤ 2 ^ 62
+  pub busy : t.busy ≤ 2 ^ 62
+  pub refused : t.refused ≤ 2 ^ 62

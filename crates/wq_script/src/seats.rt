@@ -1,0 +1,272 @@
+//! All seats of a queue, and how each hears what one of them has seen.
+ghost use Rattle.std.specs.Prelude.{◌≡◌, ℕ, ◌<◌, not, List, ◌++◌, length, All, slice_index_or, IfOk, MatchOption, ◌+◌, ◌≤◌, [], replicate, slice_set};
+ghost use Rattle.wq_plain.specs.Execution.{no_follow};
+ghost use Rattle.wq_words.specs.declared.layout.Layout.{Layout};
+ghost use Rattle.wq_words.specs.declared.event.Event.{Event};
+ghost use Rattle.wq_words.specs.Numbers.{stop_number};
+ghost use Rattle.wq_plain.specs.Commands.{barrier_number};
+ghost use Rattle.wq_live.specs.Known.{Known};
+ghost use Rattle.wq_script.specs.Seats.{Stays, AllHear, IsSameTable, AreOne, Gathers, Seated, IsSeated};
+ghost use Rattle.wq_script.specs.Asking.{Asks, Goes, Looks, HasLists, Ran};
+ghost use Rattle.wq_plain.specs.Execution.{ends_at};
+ghost use Rattle.wq_delay.specs.declared.answer.Armed.TheVariants as armed;
+ghost use Rattle.wq_delay.specs.declared.answer.Modified.TheVariants as modified;
+ghost use Rattle.wq_plain.specs.Table.{is_on, without};
+ghost use Rattle.wq_plain.specs.Arming.{arm_events, arm_table, arm_answer, cancel_events, modify_events, modify_table, modify_answer};
+ghost use Rattle.wq_script.specs.Arming.{TellsArmed, TellsModified, Leads, IsBack, IsPosted};
+ghost use Rattle.wq_script.specs.Tables.{table_of};
+ghost use Rattle.wq_words.specs.History.{pending, closed, IsRunning};
+ghost use Rattle.wq_plain.specs.Queueing.{close_events, close_answer};
+
+use crate::executing::execute_row;
+use crate::lists::Lists;
+use std::alloc::{AllocError, Global};
+use wq_delay::{Armed, Backwards, Delay, Modified};
+use wq_live::{Answer, Sender, build};
+use wq_words::Layout;
+use wq_worker::{Follow, Worker};
+
+/// Who queues, who delays and who executes: a queue has no seat but these.
+#[derive(Drop)]
+pub struct Seats {
+    pub worker: Worker<Lists>,
+    pub delay: Delay,
+    pub senders: Vec<Sender>,
+}
+
+// The delay table's sender meets each of the others in turn.
+fn meet_each(delay: &mut Delay, senders: &mut Vec<Sender>)
+    requires one { All (λ (k : Known). k.queue ≡ delay.old.sender.queue) senders.old.items }
+    ensures delay { Stays delay.old.sender delay.new.sender }
+    ensures table { IsSameTable delay.old delay.new }
+    ensures senders { AllHear delay.old.sender.seen senders.old.items senders.new.items }
+{
+    for sender in senders.iter_mut() {
+        delay.meet(sender);
+    }
+}
+
+impl Seats {
+    /// The seats of a new queue, with a sender for each of the layout's, one for the worker and one for the delay table.
+    pub fn new(alloc: Global, layout: Layout) -> Result<Seats, AllocError>
+        requires { layout.senders ≤ 62 }
+        ensures seated { IfOk result (λ s. Seated layout s []) }
+        ensures lists { IfOk result (λ s. s.worker.work.follows.items ≡ replicate layout.items no_follow) }
+        ensures table { IfOk result (λ s. (s.delay.table ≡ []) × (s.delay.tick ≡ 0) × (s.delay.next ≡ 0)) }
+    {
+        let Ok(wide) = Layout::new(layout.items, layout.barriers, layout.senders + 2) else {
+            unreachable!()
+        };
+        let Ok((owner, mut senders)) = build(alloc, wide) else {
+            return Err(AllocError);
+        };
+        let Some(delayer) = senders.pop() else {
+            unreachable!()
+        };
+        let Some(sender) = senders.pop() else {
+            unreachable!()
+        };
+        let lists = Lists::new(alloc, layout.items)?;
+        let Ok(delay) = Delay::new(alloc, delayer, 0) else {
+            return Err(AllocError);
+        };
+        Ok(Seats {
+            worker: Worker::new(owner, sender, lists, 1),
+            delay,
+            senders,
+        })
+    }
+
+    /// Afterwards each seat has seen what the sender at the place and the delay table's sender had seen.
+    pub fn gather(&mut self, place: usize)
+        requires place { place < length self.old.senders.items }
+        requires one { AreOne self.old }
+        ensures sender { (d : Known) → Gathers (slice_index_or self.old.senders.items place d).seen self.old self.new }
+        ensures delay { Gathers self.old.delay.sender.seen self.old self.new }
+    {
+        self.delay.meet(&mut self.senders[place]);
+        meet_each(&mut self.delay, &mut self.senders);
+        self.worker.meet(&mut self.senders[0]);
+    }
+
+    /// Afterwards each seat has seen what the worker had seen.
+    pub fn gather_worker(&mut self)
+        requires some { 0 < length self.old.senders.items }
+        requires one { AreOne self.old }
+        ensures { Gathers self.old.worker.seen self.old self.new }
+    {
+        self.worker.meet(&mut self.senders[0]);
+        self.gather(0);
+    }
+
+    /// The sender queues an item, with one try.
+    pub fn queue(&mut self, sender: u32, item: u32) -> Answer
+        requires seated { IsSeated self.old }
+        requires place { sender < length self.old.senders.items }
+        requires item { item < self.old.delay.sender.layout.items }
+        ensures { (layout : Layout) (h : List Event) → Seated layout self.old h → Asks layout sender item result h self.old self.new }
+    {
+        let place = sender as usize;
+        let answer = self.senders[place].queue_tries(item, 1);
+        self.gather(place);
+        answer
+    }
+
+    /// The sender queues a barrier, with one try.
+    pub fn flush(&mut self, sender: u32, barrier: u32) -> Answer
+        requires seated { IsSeated self.old }
+        requires place { sender < length self.old.senders.items }
+        requires barrier { barrier < self.old.delay.sender.layout.barriers }
+        ensures { (layout : Layout) (h : List Event) → Seated layout self.old h → Asks layout sender (barrier_number layout barrier) result h self.old self.new }
+    {
+        let place = sender as usize;
+        let answer = self.senders[place].flush_begin(barrier, 1);
+        self.gather(place);
+        answer
+    }
+
+    /// The sender queues the stop item, with one try.
+    pub fn stop(&mut self, sender: u32) -> Answer
+        requires seated { IsSeated self.old }
+        requires place { sender < length self.old.senders.items }
+        ensures { (layout : Layout) (h : List Event) → Seated layout self.old h → Asks layout sender (stop_number layout) result h self.old self.new }
+    {
+        let place = sender as usize;
+        let answer = self.senders[place].request_stop(1);
+        self.gather(place);
+        answer
+    }
+
+    /// The item's PENDING bit, as the first sender sees it.
+    pub fn is_pending(&mut self, item: u32) -> bool
+        requires seated { IsSeated self.old }
+        requires some { 0 < length self.old.senders.items }
+        requires item { item < self.old.delay.sender.layout.items }
+        ensures { (layout : Layout) (h : List Event) → Seated layout self.old h → Looks layout h self.old self.new × (result ≡ pending h item) }
+    {
+        let is_pending = self.senders[0].is_pending(item);
+        self.gather(0);
+        is_pending
+    }
+
+    /// The barrier's PENDING bit is clear, as the sender sees it.
+    pub fn is_flushed(&mut self, sender: u32, barrier: u32) -> bool
+        requires seated { IsSeated self.old }
+        requires place { sender < length self.old.senders.items }
+        requires barrier { barrier < self.old.delay.sender.layout.barriers }
+        ensures { (layout : Layout) (h : List Event) → Seated layout self.old h → Looks layout h self.old self.new × (result ≡ not (pending h (barrier_number layout barrier))) }
+    {
+        let place = sender as usize;
+        let is_flushed = self.senders[place].flush_done(barrier);
+        self.gather(place);
+        is_flushed
+    }
+
+    /// The queue is closed.
+    pub fn is_closed(&self) -> bool
+        ensures { (layout : Layout) (h : List Event) → Seated layout self.now h → result ≡ closed h }
+    {
+        self.worker.is_closed()
+    }
+
+    /// Closes the queue, and answers how many were taken by that. None where it was closed before.
+    pub fn close(&mut self) -> Option<u64>
+        requires seated { IsSeated self.old }
+        requires some { 0 < length self.old.senders.items }
+        ensures { (layout : Layout) (h : List Event) → Seated layout self.old h → Goes layout (h ++ close_events h) self.old self.new × (result ≡ close_answer h) }
+    {
+        if self.worker.is_closed() {
+            return None;
+        }
+        let taken = self.worker.close();
+        self.gather_worker();
+        Some(taken as u64)
+    }
+
+    /// At most so many executions, up to one of the last number. The numbers that were executed.
+    pub fn run(
+        &mut self,
+        alloc: Global,
+        layout: &Layout,
+        limit: u32,
+        last: Option<u32>,
+    ) -> Result<Vec<u32>, AllocError>
+        requires seated { (h : List Event) × Seated layout.now self.old h }
+        requires some { 0 < length self.old.senders.items }
+        ensures { IfOk result (λ ran. (h : List Event) → Seated layout.now self.old h → ¬ IsRunning h → HasLists layout.now self.old → Ran layout.now h limit (ends_at last) self.old self.new ran.items) }
+    {
+        let ran = execute_row(alloc, &mut self.worker, layout, limit, last)?;
+        self.gather_worker();
+        Ok(ran)
+    }
+
+    /// Arms an item, with one try where there is no delay.
+    pub fn arm(&mut self, item: u32, delay: u64) -> Armed
+        requires seated { IsSeated self.old }
+        requires some { 0 < length self.old.senders.items }
+        requires item { item < self.old.delay.sender.layout.items }
+        ensures { (layout : Layout) (h : List Event) → Seated layout self.old h → 0 < layout.senders → ¬ (result ≡ armed.Memory) → TellsArmed result (arm_answer item delay h (table_of self.old.delay)) × Leads layout (h ++ arm_events (layout.senders + 1) item delay h (table_of self.old.delay)) (arm_table item delay h (table_of self.old.delay)) self.old self.new }
+    {
+        // This call says what holds of every delay table.
+        let _ = self.delay.layout();
+        let answer = self.delay.arm(item, delay, 1);
+        self.gather(0);
+        answer
+    }
+
+    /// Takes an item off the delay table and gives it back. False where it was not there.
+    pub fn cancel(&mut self, item: u32) -> bool
+        requires seated { IsSeated self.old }
+        requires some { 0 < length self.old.senders.items }
+        requires item { item < self.old.delay.sender.layout.items }
+        ensures { (layout : Layout) (h : List Event) → Seated layout self.old h → 0 < layout.senders → (result ≡ is_on item (table_of self.old.delay)) × Leads layout (h ++ cancel_events (layout.senders + 1) item (table_of self.old.delay)) (without item (table_of self.old.delay)) self.old self.new }
+    {
+        // This call says what holds of every delay table.
+        let _ = self.delay.layout();
+        let was_on_table = self.delay.cancel(item);
+        self.gather(0);
+        was_on_table
+    }
+
+    /// Arms an item again that is on the delay table, or posts it where there is no delay, with one try. Arms another.
+    pub fn modify(&mut self, item: u32, delay: u64) -> Modified
+        requires seated { IsSeated self.old }
+        requires some { 0 < length self.old.senders.items }
+        requires item { item < self.old.delay.sender.layout.items }
+        ensures { (layout : Layout) (h : List Event) → Seated layout self.old h → 0 < layout.senders → ¬ (result ≡ modified.Memory) → TellsModified result (modify_answer item delay h (table_of self.old.delay)) × Leads layout (h ++ modify_events (layout.senders + 1) item delay h (table_of self.old.delay)) (modify_table item delay h (table_of self.old.delay)) self.old self.new }
+    {
+        // This call says what holds of every delay table.
+        let _ = self.delay.layout();
+        let answer = self.delay.modify(item, delay, 1);
+        self.gather(0);
+        answer
+    }
+
+    /// Sets the tick, and posts what is due, each with one try. The items that were posted, in order. None where the tick is
+    /// before the present one.
+    pub fn advance(&mut self, tick: u64) -> Result<Option<Vec<u32>>, AllocError>
+        requires seated { IsSeated self.old }
+        requires some { 0 < length self.old.senders.items }
+        ensures { IfOk result (λ o. MatchOption o (IsBack tick self.old self.new) (λ due. IsPosted tick due.items self.old self.new)) }
+    {
+        // This call says what holds of every delay table.
+        let _ = self.delay.layout();
+        let due = self.delay.due_list(tick)?;
+        let advanced = self.delay.advance(tick, 1);
+        self.gather(0);
+        match advanced {
+            Ok(_) => Ok(Some(due)),
+            Err(Backwards) => Ok(None),
+        }
+    }
+
+    /// From now on the item's function answers this list.
+    pub fn follow(&mut self, item: u32, follow: &Follow)
+        ensures worker { self.new.worker ≡ record self.old.worker { work = self.new.worker.work } }
+        ensures lists { self.new.worker.work.follows.items ≡ slice_set self.old.worker.work.follows.items item follow.now }
+        ensures others { (self.new.delay ≡ self.old.delay) × (self.new.senders ≡ self.old.senders) }
+    {
+        self.worker
+            .adjust(|lists: &mut Lists| lists.set(item, follow));
+    }
+}
