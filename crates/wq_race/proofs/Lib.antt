@@ -1,2 +1,12 @@
 pub mod Members
 pub mod Same
+pub mod Made
+pub mod Queueing
+pub mod Serving
+pub mod Meeting
+pub mod Running
+pub mod Booking
+pub mod Events
+pub mod Whole
+pub mod Balanced
+pub mod Ended

@@ -1,5 +1,5 @@
 -- The members of a value that was read.
-use Rattle.std.specs.Prelude.{◌≡◌, refl, suc, List, [], ◌∷◌, length, String, Option, Some, option_map}
+use Rattle.std.specs.Prelude.{◌≡◌, refl, suc, List, [], ◌∷◌, length, String}
 use Rattle.std.proofs.Common.{ap}
 use Rattle.std.specs.declared.alloc.Global.{Global}
 use Rattle.serde_json.specs.View.{members_view}

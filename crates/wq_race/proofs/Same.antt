@@ -1,21 +1,22 @@
--- What stays of one queue.
-use Rattle.std.proofs.Common.{◌≡◌, refl, ℕ, zero, suc, Bool, true, false, if◌then◌else◌, List, [], ◌∷◌, ◌++◌, length, ◌∙◌, arith, length-append}
-use Rattle.std.specs.Prelude.{All}
-use Rattle.std.proofs.lemmas.List.Elements.{All-append, All-cons, All-nil}
-use Rattle.atomic_table.specs.Seated.{TableId}
-use Rattle.wq_words.specs.declared.layout.Layout.{Layout}
-use Rattle.wq_live.specs.Known.{new_sender, new_senders}
-use Rattle.wq_worker.specs.State.{WorkerState}
-use Rattle.wq_worker.specs.Book.{Leaves}
-use Rattle.wq_worker.proofs.Rows.{closes_same, row_same}
+-- Handles of threads, and the senders that they were given.
+use Rattle.std.proofs.Common.{◌≡◌, ℕ, zero, suc, ◌<◌, List, [], ◌∷◌, ◌++◌, length, get_or, inl, inr, refl, sym, subst, arith, length-append}
+use Rattle.std.proofs.lemmas.Bool.{cases_lt}
 
-pub leaves_queue : {W : Type 0} (log : W → List ℕ) (may : W → ℕ → List ℕ → W → Type 0) (limit : ℕ) (a b : WorkerState W) (left : ℕ) → Leaves log may limit a b left → b.queue ≡ a.queue
-leaves_queue log may limit a b left l = (row_same may _ limit l.closed b l.row).queue_is ∙ (closes_same a l.closed l.closes).queue_is
+module _ {A : Type 0} where
+  get_or-front : (xs : List A) (x : A) (i : ℕ) (d : A) → i < length xs → get_or (xs ++ x ∷ []) i d ≡ get_or xs i d
+  get_or-front [] x i d lt = absurd (omega (arith, lt))
+  get_or-front (y ∷ xs) x zero d lt = refl
+  get_or-front (y ∷ xs) x (suc i) d lt = get_or-front xs x i d (omega (arith, lt))
 
-pub length-new_senders : (q : TableId) (l : Layout) (n : ℕ) → length (new_senders q l n) ≡ n
-length-new_senders q l zero = refl
-length-new_senders q l (suc m) = omega (arith, length-append (new_senders q l m) (new_sender q l m ∷ []), length-new_senders q l m)
+  get_or-end : (xs : List A) (x d : A) → get_or (xs ++ x ∷ []) (length xs) d ≡ x
+  get_or-end [] x d = refl
+  get_or-end (y ∷ xs) x d = get_or-end xs x d
 
-pub all_if : {X : Type 0} (P : X → Type 0) (b : Bool) (xs : List X) (x : X) → All P xs → P x → All P (if b then xs ++ x ∷ [] else xs)
-all_if P true xs x before here = All-append P xs (x ∷ []) before (All-cons P x [] here (All-nil P))
-all_if P false xs x before here = before
+  -- what holds of each of the elements at its place holds where one comes behind them
+  pub each_more : (P : ℕ → A → Type 0) (xs : List A) (x : A) → ((i : ℕ) (d : A) → i < length xs → P i (get_or xs i d)) → P (length xs) x → (i : ℕ) (d : A) → i < length (xs ++ x ∷ []) → P i (get_or (xs ++ x ∷ []) i d)
+  each_more P xs x before here i d lt = elim (cases_lt i (length xs)) [
+    | inl less ↦ subst (P i) (sym (get_or-front xs x i d less)) (before i d less)
+    | inr ge ↦
+        let is : length xs ≡ i = omega (arith, lt, ge, length-append xs (x ∷ [])) in
+        subst (λ (j : ℕ). P j (get_or (xs ++ x ∷ []) j d)) is (subst (P (length xs)) (sym (get_or-end xs x d)) here)
+  ]

@@ -1,3 +1,5 @@
 pub mod Plan
+pub mod Team
+pub mod Race
 pub mod PlanText
 pub mod Outcome

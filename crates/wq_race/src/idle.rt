@@ -1,20 +1,33 @@
-//! A work that does nothing.
-ghost use Rattle.std.specs.Prelude.{◌≡◌, []};
+//! A work that counts its runs.
+ghost use Rattle.std.specs.Prelude.{◌≡◌, [], length};
+ghost use Rattle.wq_live.specs.Counts.{capped};
 
 use trail::Trail;
 use wq_worker::{Follow, Work};
 
-/// A work that does nothing, and asks for nothing to follow.
+/// A work that counts its runs, and asks for nothing to follow.
 #[derive(Drop)]
 pub struct Idle {
     ran: Trail,
+    count: u64,
+    ghost counted: { count ≡ capped (length ran.items) },
 }
 
 impl Idle {
     pub fn new() -> Idle
         ensures { result.ran.items ≡ [] }
     {
-        Idle { ran: Trail::new() }
+        Idle {
+            ran: Trail::new(),
+            count: 0,
+        }
+    }
+
+    /// How many items it ran. The count stops at `2^64 - 1`.
+    pub fn count(&self) -> u64
+        ensures { result ≡ capped (length self.now.ran.items) }
+    {
+        self.count
     }
 }
 
@@ -25,6 +38,7 @@ impl Work for Idle {
 
     fn run(&mut self, item: u32) -> Follow {
         self.ran = self.ran.and(item);
+        self.count = self.count.saturating_add(1);
         Follow::new()
     }
 }

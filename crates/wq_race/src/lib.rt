@@ -12,3 +12,6 @@ pub use outcome::Outcome;
 pub use plan::Plan;
 pub use plan_text::{PlanError, read_plan};
 pub use race::{RaceError, run_plan};
+
+#[cfg(test)]
+mod tests;

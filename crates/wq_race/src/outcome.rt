@@ -1,14 +1,21 @@
 //! What a race did, and whether its book balances.
-ghost use Rattle.std.specs.Prelude.{◌≡◌, ◌++◌, All, OnOk, IfOk, MatchResult, string_bytes};
-ghost use Rattle.wq_race.specs.Outcome.{outcome_line, yes_or_no as said};
+ghost use Rattle.std.specs.Prelude.{◌≡◌, ◌≢◌, ℕ, ◌*◌, ◌^◌, ◌<◌, [], ◌∷◌, ◌++◌, length, map, All, OnOk, IfOk, MatchResult, MatchBool, string_bytes};
+ghost use Rattle.wq_words.specs.History.{IsRunning};
+ghost use Rattle.wq_words.specs.Legal.{IsLegal};
+ghost use Rattle.wq_table.specs.Seen.{owner_seat, own};
+ghost use Rattle.wq_live.specs.Counts.{sender_counts};
 ghost use Rattle.wq_worker.specs.Book.{IsMade};
+ghost use Rattle.wq_worker.specs.Balance.{Balances, IsUnbalanced};
+ghost use Rattle.wq_race.specs.Race.{HasRun, HasMet, AllKnown, HasGoneOn, HasEnded, HasHeard, ledger_of, IsTold};
+ghost use Rattle.wq_race.specs.Outcome.{outcome_line, yes_or_no as said, Tells, IsWhole};
 
 use crate::idle::Idle;
+use crate::plan::Plan;
 use crate::team::Team;
 use std::alloc::{AllocError, Global};
 use std::sync::Wait;
 use wq_live::Sender;
-use wq_worker::{Book, Ledger, Worker};
+use wq_worker::{Book, Ledger, Totals, Unbalanced, Worker};
 
 /// How many items were accepted and how many ran, the stop item left out, and whether the ledgers of all senders balance.
 #[derive(Clone, Copy, Debug, PartialEq, Eq)]
@@ -22,8 +29,10 @@ pub struct Outcome {
 fn enter(book: &mut Book, ledgers: &mut Vec<Ledger>, sender: &mut Sender) -> Result<(), AllocError>
     requires one { sender.old.queue ≡ book.old.queue }
     requires made { All (IsMade book.old.seen) ledgers.old.items }
-    ensures same { book.new.queue ≡ book.old.queue }
+    ensures book { HasHeard book.old book.new }
     ensures made { OnOk result (All (IsMade book.new.seen) ledgers.new.items) }
+    ensures ledger { OnOk result (ledgers.new.items ≡ ledgers.old.items ++ ledger_of sender.old ∷ []) }
+    ensures told { own sender.old.number book.new.seen ≡ own sender.old.number sender.old.seen }
 {
     let ledger = book.meet(sender);
     ledgers.push(ledger)?;
@@ -32,37 +41,57 @@ fn enter(book: &mut Book, ledgers: &mut Vec<Ledger>, sender: &mut Sender) -> Res
 
 // A ledger for each of these senders.
 fn enter_all(
-    alloc: Global,
     book: &mut Book,
+    ledgers: &mut Vec<Ledger>,
     senders: Vec<Sender>,
-) -> Result<Vec<Ledger>, AllocError>
-    requires { All (λ s. s.queue ≡ book.old.queue) senders.items }
-    ensures same { book.new.queue ≡ book.old.queue }
-    ensures made { IfOk result (λ ledgers. All (IsMade book.new.seen) ledgers.items) }
+) -> Result<(), AllocError>
+    requires one { All (λ s. s.queue ≡ book.old.queue) senders.items }
+    requires none { ledgers.old.items ≡ [] }
+    ensures book { HasHeard book.old book.new }
+    ensures made { OnOk result (All (IsMade book.new.seen) ledgers.new.items) }
+    ensures ledgers { OnOk result (ledgers.new.items ≡ map ledger_of senders.items) }
+    ensures told { OnOk result (All (IsTold book.old.seen) senders.items) }
 {
-    let mut ledgers = Vec::with_capacity(alloc, senders.len())?;
     for mut sender in senders {
-        enter(book, &mut ledgers, &mut sender)?;
+        enter(book, ledgers, &mut sender)?;
     }
-    Ok(ledgers)
+    Ok(())
+}
+
+// Each sender meets the worker: what it did comes before all that the worker does from now on.
+fn meet_senders(worker: &mut Worker<Idle>, senders: &mut Vec<Sender>)
+    requires one { All (λ s. s.queue ≡ worker.old.queue) senders.old.items }
+    requires legal { IsLegal worker.old.layout worker.old.seen }
+    ensures worker { HasMet worker.old worker.new }
+    ensures senders { AllKnown worker.new.seen senders.old.items senders.new.items }
+{
+    for sender in senders.iter_mut() {
+        worker.meet(sender);
+    }
 }
 
 // Destroys the queue of a worker, or gives the worker back.
-fn try_destroy(worker: Worker<Idle>) -> Result<Book, Worker<Idle>>
-    ensures { MatchResult result (λ book. book.queue ≡ worker.queue) (λ back. back.queue ≡ worker.queue) }
+fn try_destroy(worker: Worker<Idle>) -> Result<(Idle, Book), Worker<Idle>>
+    requires seat { worker.number ≢ owner_seat }
+    requires idle { ¬ IsRunning worker.seen }
+    requires legal { IsLegal worker.layout worker.seen }
+    ensures { MatchResult result (λ done. HasEnded worker done.0 done.1) (λ back. HasGoneOn worker back) }
 {
     match worker.destroy(u32::MAX) {
-        Ok((_, book)) => Ok(book),
+        Ok(done) => Ok(done),
         Err(unfinished) => Err(unfinished.worker),
     }
 }
 
-fn destroy<R: Wait>(rt: &R, mut worker: Worker<Idle>) -> Book
-    ensures { result.queue ≡ worker.queue }
+fn destroy<R: Wait>(rt: &R, mut worker: Worker<Idle>) -> (Idle, Book)
+    requires seat { worker.number ≢ owner_seat }
+    requires idle { ¬ IsRunning worker.seen }
+    requires legal { IsLegal worker.layout worker.seen }
+    ensures { HasEnded worker result.0 result.1 }
 {
     for _ in rt.forever() {
         match try_destroy(worker) {
-            Ok(book) => return book,
+            Ok(done) => return done,
             Err(back) => worker = back,
         }
     }
@@ -70,11 +99,25 @@ fn destroy<R: Wait>(rt: &R, mut worker: Worker<Idle>) -> Book
 }
 
 // How many items these senders queued.
-fn queued_by(senders: &[Sender]) -> u128 {
-    senders.iter().fold(
-        0,
-        |sum: u128, sender| sum.saturating_add(u128::from(sender.counts().queued)),
-    )
+fn queued_by(senders: &[Sender]) -> u128
+    ensures { (own : ℕ) → All (λ s. (sender_counts s.number s.seen).queued ≡ own) senders.now → length senders.now * own < 2 ^ 128 → result ≡ length senders.now * own }
+{
+    let mut queued = 0u128;
+    for sender in senders {
+        queued = queued.saturating_add(u128::from(sender.counts().queued));
+    }
+    queued
+}
+
+// Whether the ledgers balance.
+fn is_balanced(book: &Book, ledgers: &[Ledger]) -> bool
+    requires { All (IsMade book.now.seen) ledgers.now }
+    ensures { MatchBool result ((totals : Totals) × Balances book.now ledgers.now totals) ((fault : Unbalanced) × IsUnbalanced book.now ledgers.now fault) }
+{
+    match book.balance(ledgers) {
+        Ok(_) => true,
+        Err(_) => false,
+    }
 }
 
 fn yes_or_no(is: bool) -> &'static str
@@ -98,22 +141,25 @@ impl Outcome {
     }
 
     /// Destroys the queue of a team that has run its race, and balances the book.
-    pub fn of<R: Wait>(rt: &R, alloc: Global, team: Team) -> Result<Outcome, AllocError> {
+    pub fn of<R: Wait>(rt: &R, alloc: Global, team: Team) -> Result<Outcome, AllocError>
+        requires run { (plan : Plan) × HasRun plan team }
+        ensures { (plan : Plan) → HasRun plan team → IfOk result (λ outcome. IsWhole plan outcome × Tells plan team.worker outcome) }
+    {
         let Team {
-            worker,
-            senders,
+            mut worker,
+            mut senders,
             mut program,
-            ..
         } = team;
+        meet_senders(&mut worker, &mut senders);
         let accepted = queued_by(&senders);
-        let ran = worker.counts().executed.saturating_sub(1);
-        let mut book = destroy(rt, worker);
-        let mut ledgers = enter_all(alloc, &mut book, senders)?;
+        let (work, mut book) = destroy(rt, worker);
+        let mut ledgers = Vec::with_capacity(alloc, senders.len())?;
+        enter_all(&mut book, &mut ledgers, senders)?;
         enter(&mut book, &mut ledgers, &mut program)?;
         Ok(Outcome {
             accepted,
-            ran,
-            is_balanced: book.balance(&ledgers).is_ok(),
+            ran: u128::from(work.count()),
+            is_balanced: is_balanced(&book, &ledgers),
         })
     }
 }

@@ -1,6 +1,5 @@
 //! Plans of a run of a queue by live threads.
-ghost use Rattle.std.specs.Prelude.{◌≡◌, ◌+◌, ◌*◌};
-ghost use Rattle.wq_race.specs.Plan.{AreInLimits};
+ghost use Rattle.wq_race.specs.Plan.{AreInLimits, IsLayoutOf};
 
 use wq_words::Layout;
 
@@ -17,9 +16,7 @@ pub struct Plan {
 impl Plan {
     /// A queue with the senders' own items, one barrier, and two senders more: the worker's and the program's.
     pub fn layout(self) -> Layout
-        ensures items { result.items ≡ self.senders * self.own }
-        ensures barriers { result.barriers ≡ 1 }
-        ensures senders { result.senders ≡ self.senders + 2 }
+        ensures { IsLayoutOf self.senders self.own result }
     {
         match Layout::new(self.senders * self.own, 1, self.senders + 2) {
             Ok(layout) => layout,

@@ -1,6 +1,12 @@
 //! A run of a queue by live threads.
-ghost use Rattle.std.specs.Prelude.{◌≡◌, IfSome, IfOk, All};
-ghost use Rattle.atomic_table.specs.Seated.{TableId};
+ghost use Rattle.std.specs.Prelude.{◌≡◌, ◌≢◌, ◌+◌, ◌*◌, ◌^◌, ◌<◌, ◌≤◌, if◌then◌else◌, [], ◌∷◌, ◌++◌, ℕ, length, slice_index_or, IfSome, IfOk, All};
+ghost use Rattle.wq_words.specs.History.{IsRunning, IsClosed};
+ghost use Rattle.wq_table.specs.Seen.{owner_seat};
+ghost use Rattle.wq_race.specs.Race.{items_at, HasQueued, HasStopped, HasServed, AllQueued, HasRun};
+ghost use Rattle.wq_worker.specs.State.{WorkerState};
+ghost use Rattle.wq_race.specs.Plan.{IsLayoutOf};
+ghost use Rattle.wq_race.specs.Team.{IsNewTeam};
+ghost use Rattle.wq_race.specs.Outcome.{IsWhole, Tells};
 
 use crate::idle::Idle;
 use crate::outcome::Outcome;
@@ -38,29 +44,27 @@ impl From<BuildError> for RaceError {
     }
 }
 
-/// A thread gives back the sender that it was given: one of the same queue.
+/// A thread gives back the sender that it was given, which has queued its own items: so many.
 #[derive(Drop)]
-struct SameSender(Snapshot<Sender>);
+struct QueuesOwn(Snapshot<Sender>, u32);
 
-impl Promise<Sender> for SameSender {
-    ghost kept_by = { λ given back. back.queue ≡ given.0.value.queue };
+impl Promise<Sender> for QueuesOwn {
+    ghost kept_by = { λ given back. HasQueued (items_at given.0.value.number given.1) given.0.value back };
 }
 
-/// A thread gives back the worker that it was given: one of the same queue.
+/// A thread gives back the worker that it was given, which has served.
 #[derive(Drop)]
-struct SameWorker(Snapshot<Worker<Idle>>);
+struct Serves(Snapshot<Worker<Idle>>);
 
-impl Promise<Worker<Idle>> for SameWorker {
-    ghost kept_by = { λ given back. back.queue ≡ given.0.value.queue };
+impl Promise<Worker<Idle>> for Serves {
+    ghost kept_by = { λ given back. HasServed given.0.value back };
 }
 
 // Queues an item, and wakes the worker where it was queued.
 fn queue_item<R: Wait>(rt: &R, sender: &mut Sender, item: u32, unparker: &Unparker)
-    ensures { sender.new.queue ≡ sender.old.queue }
+    requires { item < sender.old.layout.items }
+    ensures { HasQueued (item ∷ []) sender.old sender.new }
 {
-    if item >= sender.layout().items {
-        return;
-    }
     if let Answer::Queued { .. } = sender.queue(rt, item) {
         unparker.unpark();
     }
@@ -68,49 +72,54 @@ fn queue_item<R: Wait>(rt: &R, sender: &mut Sender, item: u32, unparker: &Unpark
 
 // Queues the sender's own items in order, once each.
 fn queue_own<R: Wait>(rt: &R, mut sender: Sender, own: u32, unparker: Unparker) -> Sender
-    ensures { result.queue ≡ sender.queue }
+    requires { sender.number * own + own ≤ sender.layout.items }
+    ensures { HasQueued (items_at sender.number own) sender result }
 {
-    let first = sender.number().saturating_mul(own);
-    for item in first..first.saturating_add(own) {
+    let first = sender.number() * own;
+    for item in first..first + own {
         queue_item(rt, &mut sender, item, &unparker);
     }
     sender
 }
 
 // Serves until the stop item ran.
-fn serve_open<R: Wait>(rt: &R, worker: &mut Worker<Idle>, parker: &Parker)
-    ensures { worker.new.queue ≡ worker.old.queue }
-{
-    if worker.is_closed() {
-        return;
-    }
-    worker.serve(rt, parker);
-}
-
 fn serve<R: Wait>(rt: &R, mut worker: Worker<Idle>, parker: Parker) -> Worker<Idle>
-    ensures { result.queue ≡ worker.queue }
+    requires seat { worker.number ≢ owner_seat }
+    requires open { ¬ IsClosed worker.seen }
+    requires idle { ¬ IsRunning worker.seen }
+    ensures { HasServed worker result }
 {
-    serve_open(rt, &mut worker, &parker);
+    worker.serve(rt, &parker);
     worker
 }
 
 fn request_stop(program: &mut Sender) -> Answer
-    ensures { program.new.queue ≡ program.old.queue }
+    ensures { HasStopped 2 program.old program.new }
 {
     program.request_stop(u32::MAX)
 }
 
-// Queues the stop item, and wakes the worker.
-fn stop<R: Wait>(rt: &R, program: &mut Sender, unparker: &Unparker)
-    ensures { program.new.queue ≡ program.old.queue }
+// Tries to queue the stop item, so often that it is queued.
+fn try_stop(program: &mut Sender) -> bool
+    ensures { HasStopped (2 * 2 ^ 32) program.old program.new }
 {
-    for _ in rt.forever() {
+    for _ in 0..u32::MAX {
         if request_stop(program) != Answer::Contended {
-            unparker.unpark();
-            return;
+            return true;
         }
     }
-    unreachable!()
+    false
+}
+
+// Queues the stop item, and wakes the worker. Where all tries were in vain, nothing could stop the worker.
+fn stop<R: Wait>(rt: &R, program: &mut Sender, unparker: &Unparker)
+    ensures { HasStopped (2 * 2 ^ 32) program.old program.new }
+{
+    if !try_stop(program) {
+        for _ in rt.forever() {}
+        unreachable!()
+    }
+    unparker.unpark();
 }
 
 // A thread for a sender, where one could be made.
@@ -120,12 +129,18 @@ fn start_sender<'s, E, R: Wait + Sync>(
     sender: Sender,
     own: u32,
     unparker: Unparker,
-) -> Option<PromisedHandle<Sender, SameSender>>
-    ensures { IfSome result (λ handle. handle.promise.0.value.queue ≡ sender.queue) }
+) -> Option<PromisedHandle<Sender, QueuesOwn>>
+    requires { sender.number * own + own ≤ sender.layout.items }
+    ensures { IfSome result (λ handle. (handle.promise.0.value ≡ sender) × (handle.promise.1 ≡ own)) }
 {
-    let given = SameSender(Snapshot::of(&sender));
+    let given = QueuesOwn(Snapshot::of(&sender), own);
     scope
-        .spawn_with(given, move || queue_own(rt, sender, own, unparker))
+        .spawn_with(
+            given,
+            move ||
+                requires { sender.number * own + own ≤ sender.layout.items }
+            { queue_own(rt, sender, own, unparker) },
+        )
         .ok()
 }
 
@@ -135,21 +150,29 @@ fn start_worker<'s, E, R: Wait + Sync>(
     rt: &'s R,
     worker: Worker<Idle>,
     parker: Parker,
-) -> Option<PromisedHandle<Worker<Idle>, SameWorker>>
-    ensures { IfSome result (λ handle. handle.promise.0.value.queue ≡ worker.queue) }
+) -> Option<PromisedHandle<Worker<Idle>, Serves>>
+    requires seat { worker.number ≢ owner_seat }
+    requires open { ¬ IsClosed worker.seen }
+    requires idle { ¬ IsRunning worker.seen }
+    ensures { IfSome result (λ handle. handle.promise.0.value ≡ worker) }
 {
-    let given = SameWorker(Snapshot::of(&worker));
+    let given = Serves(Snapshot::of(&worker));
     scope
-        .spawn_with(given, move || serve(rt, worker, parker))
+        .spawn_with(
+            given,
+            move ||
+                requires { (worker.number ≢ owner_seat) × (¬ IsClosed worker.seen) × (¬ IsRunning worker.seen) }
+            { serve(rt, worker, parker) },
+        )
         .ok()
 }
 
 // Keeps the handle of a thread, where memory can be had.
 fn keep(
-    handles: &mut Vec<PromisedHandle<Sender, SameSender>>,
-    handle: PromisedHandle<Sender, SameSender>,
+    handles: &mut Vec<PromisedHandle<Sender, QueuesOwn>>,
+    handle: PromisedHandle<Sender, QueuesOwn>,
 ) -> bool
-    ensures { (q : TableId) → All (λ kept. kept.promise.0.value.queue ≡ q) handles.old.items → handle.promise.0.value.queue ≡ q → All (λ kept. kept.promise.0.value.queue ≡ q) handles.new.items }
+    ensures { handles.new.items ≡ (if result then handles.old.items ++ handle ∷ [] else handles.old.items) }
 {
     handles.push(handle).is_ok()
 }
@@ -162,8 +185,10 @@ fn start_senders<'s, E, R: Wait + Sync>(
     senders: Vec<Sender>,
     own: u32,
     unparker: &Unparker,
-) -> Vec<PromisedHandle<Sender, SameSender>>
-    ensures { (q : TableId) → All (λ s. s.queue ≡ q) senders.items → All (λ handle. handle.promise.0.value.queue ≡ q) result.items }
+) -> Vec<PromisedHandle<Sender, QueuesOwn>>
+    requires { All (λ s. s.number * own + own ≤ s.layout.items) senders.items }
+    ensures few { length result.items ≤ length senders.items }
+    ensures given { (i : ℕ) (d : _) (e : _) → i < length result.items → ((slice_index_or result.items i d).promise.0.value ≡ slice_index_or senders.items i e) × ((slice_index_or result.items i d).promise.1 ≡ own) }
 {
     let mut handles = Vec::new(alloc);
     for sender in senders {
@@ -189,7 +214,8 @@ fn run_senders<'s, E, R: Threads + Wait + Sync>(
     own: u32,
     unparker: &Unparker,
 ) -> Result<Vec<Sender>, RaceError>
-    ensures { (q : TableId) → All (λ s. s.queue ≡ q) senders.items → IfOk result (λ back. All (λ s. s.queue ≡ q) back.items) }
+    requires { All (λ s. s.number * own + own ≤ s.layout.items) senders.items }
+    ensures { IfOk result (λ back. AllQueued own senders.items back.items) }
 {
     let count = senders.len();
     let handles = start_senders(scope, rt, alloc, senders, own, unparker);
@@ -202,23 +228,25 @@ fn run_senders<'s, E, R: Threads + Wait + Sync>(
 }
 
 // The senders queue, and the worker serves until the stop item, which is queued when all senders have ended.
-fn run_team<'s, E, R: Threads + Wait + Sync>(
+fn run_threads<'s, E, R: Threads + Wait + Sync>(
     scope: &Scope<'s, E>,
     rt: &'s R,
     alloc: Global,
+    plan: Plan,
     team: Team,
-    own: u32,
     parker: Parker,
     unparker: &Unparker,
-) -> Result<Team, RaceError> {
+) -> Result<Team, RaceError>
+    requires { IsNewTeam plan team }
+    ensures { IfOk result (HasRun plan) }
+{
     let Team {
         worker,
         senders,
         mut program,
-        ..
     } = team;
     let serving = start_worker(scope, rt, worker, parker);
-    let senders = run_senders(scope, rt, alloc, senders, own, unparker);
+    let senders = run_senders(scope, rt, alloc, senders, plan.own, unparker);
     stop(rt, &mut program, unparker);
     let Some(serving) = serving else {
         return Err(RaceError::Thread);
@@ -231,6 +259,28 @@ fn run_team<'s, E, R: Threads + Wait + Sync>(
     })
 }
 
+// The threads of a team, in a scope of their own.
+fn run_team<R: Threads + Wait + Sync>(
+    rt: &R,
+    alloc: Global,
+    plan: Plan,
+    team: Team,
+) -> Result<Team, RaceError>
+    requires { IsNewTeam plan team }
+    ensures { IfOk result (HasRun plan) }
+{
+    let parker = Parker::new(alloc)?;
+    let unparker = parker.unparker().clone()?;
+    scope(
+        scope_env(),
+        rt,
+        |scope| -> Result<Team, RaceError>
+            requires { IsNewTeam plan team }
+            ensures { IfOk result (HasRun plan) }
+        { run_threads(scope, rt, alloc, plan, team, parker, &unparker) },
+    )
+}
+
 /// Runs a plan. Each sender is a thread that queues its own items in order, once each, and wakes the worker, which serves in
 /// a thread of its own until the stop item; that is queued when all senders have ended. The queue is then destroyed.
 ///
@@ -240,12 +290,11 @@ pub fn run_plan<R: Threads + Wait + Sync>(
     rt: &R,
     alloc: Global,
     plan: Plan,
-) -> Result<Outcome, RaceError> {
+) -> Result<Outcome, RaceError>
+    ensures whole { IfOk result (IsWhole plan) }
+    ensures told { IfOk result (λ outcome. (worker : WorkerState Idle) × IsLayoutOf plan.senders plan.own worker.layout × Tells plan worker outcome) }
+{
     let team = Team::new(alloc, plan)?;
-    let parker = Parker::new(alloc)?;
-    let unparker = parker.unparker().clone()?;
-    let team = scope(scope_env(), rt, |scope| {
-        run_team(scope, rt, alloc, team, plan.own, parker, &unparker)
-    })?;
+    let team = run_team(rt, alloc, plan, team)?;
     Ok(Outcome::of(rt, alloc, team)?)
 }

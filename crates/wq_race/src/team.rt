@@ -1,13 +1,11 @@
 //! The seats of a live run.
-ghost use Rattle.std.specs.Prelude.{◌≡◌, ◌+◌, ◌<◌, [], length, All, IfOk};
-ghost use Rattle.atomic_table.specs.Seated.{TableId};
-ghost use Rattle.wq_table.specs.Seen.{owner_seat, own};
+ghost use Rattle.std.specs.Prelude.{◌≡◌, ◌<◌, [], ◌∷◌, ◌++◌, length, IfOk};
+ghost use Rattle.wq_race.specs.Team.{IsNewTeam};
 
 use crate::idle::Idle;
 use crate::plan::Plan;
 use std::alloc::Global;
-use wq_live::{BuildError, Owner, Sender, build};
-use wq_words::Layout;
+use wq_live::{BuildError, Sender, build};
 use wq_worker::Worker;
 
 /// How often the worker's own sender tries to push. It queues nothing, since its work asks for nothing.
@@ -19,15 +17,12 @@ pub struct Team {
     pub worker: Worker<Idle>,
     pub senders: Vec<Sender>,
     pub program: Sender,
-    ghost one: { All (λ s. s.queue ≡ worker.queue) senders.items },
-    ghost program_is: { program.queue ≡ worker.queue },
 }
 
-// The last of a row of senders of one queue.
+// The last of a row of senders.
 fn take_last(senders: &mut Vec<Sender>) -> Sender
-    requires some { 0 < length senders.old.items }
-    ensures rest { length senders.new.items + 1 ≡ length senders.old.items }
-    ensures one { (q : TableId) → All (λ s. s.queue ≡ q) senders.old.items → All (λ s. s.queue ≡ q) senders.new.items × (result.queue ≡ q) }
+    requires { 0 < length senders.old.items }
+    ensures { senders.old.items ≡ senders.new.items ++ result ∷ [] }
 {
     let Some(last) = senders.pop() else {
         unreachable!()
@@ -35,20 +30,12 @@ fn take_last(senders: &mut Vec<Sender>) -> Sender
     last
 }
 
-// A new queue, and how many senders it has.
-fn new_queue(alloc: Global, layout: Layout) -> Result<(Owner, Vec<Sender>), BuildError>
-    ensures untouched { IfOk result (λ made. own owner_seat made.0.seen ≡ []) }
-    ensures count { IfOk result (λ made. length made.1.items ≡ layout.senders) }
-    ensures one { IfOk result (λ made. All (λ s. s.queue ≡ made.0.queue) made.1.items) }
-{
-    let (owner, senders) = build(alloc, layout)?;
-    Ok((owner, senders))
-}
-
 impl Team {
     /// The seats of a new queue: the plan's senders by number, then the worker's and the program's.
-    pub fn new(alloc: Global, plan: Plan) -> Result<Team, BuildError> {
-        let (owner, mut senders) = new_queue(alloc, plan.layout())?;
+    pub fn new(alloc: Global, plan: Plan) -> Result<Team, BuildError>
+        ensures { IfOk result (IsNewTeam plan) }
+    {
+        let (owner, mut senders) = build(alloc, plan.layout())?;
         let program = take_last(&mut senders);
         let own = take_last(&mut senders);
         Ok(Team {

@@ -1,7 +1,9 @@
-use Rattle.std.proofs.Common.{◌≡◌, List, [], ◌∷◌, ◌++◌, sym, subst}
+use Rattle.std.proofs.Common.{[], ◌∷◌, ◌++◌, sym, subst, ap, ◌∙◌}
 use Rattle.std.specs.Prelude.{All}
 use Rattle.std.proofs.lemmas.List.Elements.{All-append, All-cons, All-nil}
 use Rattle.wq_worker.specs.Book.{IsMade}
+use Rattle.wq_worker.specs.declared.book.Ledger.{Ledger}
+use Rattle.wq_race.proofs.Booking.{ledger_same}
 use Rattle.wq_race.proofs.outcome.enter.Goals as goal
 
 pub returns-clause-made : goal.returns-clause-made
@@ -9,3 +11,8 @@ returns-clause-made c =
     let P = IsMade c.meet-ledger.new.self.seen in let old = c.args.ledgers.now.items in let l = c.meet-ledger.result in
     let before : All P old = λ k d low. c.meet-ledger.ensures.kept _ (c.requires.made k d low) in
     subst (All P) (sym c.in_ok-push.ensures.items) (All-append P old (l ∷ []) before (All-cons P l [] c.meet-ledger.ensures.made (All-nil P)))
+
+pub returns-clause-ledger : goal.returns-clause-ledger
+returns-clause-ledger c =
+    let m = c.meet-ledger.ensures in
+    c.in_ok-push.ensures.items ∙ ap (λ (l : Ledger). c.args.ledgers.now.items ++ l ∷ []) (ledger_same c.args.sender.now c.meet-ledger.new.sender c.meet-ledger.result m.sender m.number m.counts)

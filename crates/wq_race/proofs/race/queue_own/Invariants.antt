@@ -1,5 +1,8 @@
-use Rattle.std.proofs.Common.{◌≡◌}
+use Rattle.std.proofs.Common.{◌-◌}
+use Rattle.std.specs.List.{range_with_len}
+use Rattle.wq_race.specs.Race.{HasQueued}
 use Rattle.wq_race.proofs.race.queue_own.Given as goal
 
+-- the items before this one are queued
 abbrev pub invariant-loop-item : goal.invariant-loop-item
-invariant-loop-item g l = l.sender.queue ≡ l.fn.sender.queue
+invariant-loop-item g l = HasQueued (range_with_len l.first (l.item - l.first)) l.fn.sender l.sender

@@ -1,18 +1,32 @@
-use Rattle.std.proofs.Common.{◌≡◌, ◌∙◌, ap, length}
+use Rattle.std.proofs.Common.{◌≡◌, ◌∙◌, ℕ, sym, ap, subst, length, get_or, List, arith, length-append, [], ◌∷◌}
+use Rattle.std.proofs.lemmas.List.{get_or_default}
 use Rattle.std.proofs.lemmas.Iterator.Adapters.{YieldsList-from_vec}
 use Rattle.std.proofs.lemmas.Iterator.Consumers.{YieldsList-turn}
+use Rattle.std.specs.declared.thread.PromisedHandle.{PromisedHandle}
+use Rattle.wq_live.specs.declared.sender.Sender.{Sender}
+use Rattle.wq_live.specs.Known.{Known}
+use Rattle.wq_race.specs.declared.race.QueuesOwn.{QueuesOwn}
+use Rattle.wq_race.proofs.Same.{each_more}
 use Rattle.wq_race.proofs.race.start_senders.Goals as goal
 
 pub loop-sender-preserved : goal.loop-sender-preserved
 loop-sender-preserved g c =
     let i = c.into_iter-sender-iterator.ensures.into_iter_gives in let l = c.loop-sender in
     let turn = YieldsList-turn (YieldsList-from_vec {s = c.into_iter-sender-iterator.result} c.args.senders.items i.0 (i.1 ∙ c.args.senders.ok.0)) l.yielded l.sender-iterator l.yielded_by c.next.result c.next.new.self c.in-Some.sender c.in-Some.is c.next.ensures.steps in
-    λ q all. let here : c.in-Some.sender.queue ≡ q = ap (λ s. s.queue) turn.1 ∙ all (length l.yielded) c.in-Some.sender turn.0 in
-    c.keep.ensures q (l.invariant q all) (c.in-Some-start_sender.ensures ∙ here)
+    let xs = l.handles.items in let h = c.in-Some-start_sender.handle in let all = c.args.senders.items in
+    let kept = c.if-not-keep.ensures in
+    let P : ℕ → PromisedHandle Sender QueuesOwn → Type 0 = λ k handle. (e : Known) → (handle.promise.0.value ≡ get_or all k e) × (handle.promise.1 ≡ c.args.own) in
+    let here : P (length xs) h = λ e.
+    let at : get_or all (length l.yielded) c.in-Some.sender ≡ get_or all (length l.yielded) e = get_or_default all (length l.yielded) c.in-Some.sender e turn.0 in
+    (c.in-Some-start_sender.ensures.0 ∙ (turn.1 ∙ (at ∙ ap (λ (k : ℕ). get_or all k e) (sym l.invariant.count))), c.in-Some-start_sender.ensures.1) in
+    record {
+      count = ap length kept ∙ omega (arith, l.invariant.count, length-append xs (h ∷ []), length-append l.yielded (c.in-Some.sender ∷ []));
+      given = λ k d e lt. subst (λ (hs : List (PromisedHandle Sender QueuesOwn)). P k (get_or hs k d)) (sym kept)
+          (each_more P xs h (λ k d lt e. l.invariant.given k d e lt) here k d (omega (arith, lt, ap length kept))) e;
+    }
 
-pub returns-then-not-keep : goal.returns-then-not-keep
-returns-then-not-keep g c =
-    let i = c.into_iter-sender-iterator.ensures.into_iter_gives in let l = c.loop-sender in
-    let turn = YieldsList-turn (YieldsList-from_vec {s = c.into_iter-sender-iterator.result} c.args.senders.items i.0 (i.1 ∙ c.args.senders.ok.0)) l.yielded l.sender-iterator l.yielded_by c.next.result c.next.new.self c.in-Some.sender c.in-Some.is c.next.ensures.steps in
-    λ q all. let here : c.in-Some.sender.queue ≡ q = ap (λ s. s.queue) turn.1 ∙ all (length l.yielded) c.in-Some.sender turn.0 in
-    c.keep.ensures q (l.invariant q all) (c.in-Some-start_sender.ensures ∙ here)
+pub returns-then-not-keep-clause-given : goal.returns-then-not-keep-clause-given
+returns-then-not-keep-clause-given g c = λ k d e lt.
+    let kept = c.if-not-keep.ensures in
+    subst (λ (hs : List (PromisedHandle Sender QueuesOwn)). ((get_or hs k d).promise.0.value ≡ get_or c.args.senders.items k e) × ((get_or hs k d).promise.1 ≡ c.args.own)) (sym kept)
+    (c.loop-sender.invariant.given k d e (omega (arith, lt, ap length kept)))

@@ -1,0 +1,40 @@
+-- A book that meets senders.
+use Rattle.std.proofs.Common.{◌≡◌, ℕ, List, [], ◌∷◌, ◌++◌, map, refl, sym, ap, ◌∙◌}
+use Rattle.std.specs.Prelude.{All}
+use Rattle.std.proofs.lemmas.List.{append-nil}
+use Rattle.std.proofs.lemmas.List.Elements.{All-append, All-cons, All-nil}
+use Rattle.wq_table.specs.Seen.{owner_seat, Grows}
+use Rattle.wq_live.specs.Known.{Known, Sees}
+use Rattle.wq_live.specs.Counts.{sender_counts}
+use Rattle.wq_live.proofs.Counting.{counts_none}
+use Rattle.wq_worker.specs.declared.book.Ledger.{Ledger}
+use Rattle.wq_worker.specs.Book.{BookState}
+use Rattle.wq_race.specs.Race.{HasHeard, ledger_of}
+use Rattle.wq_race.proofs.Meeting.{grows_same, prefix_on}
+
+pub heard_still : (b : BookState) → HasHeard b b
+heard_still b = record { queue_is = refl; layout_is = refl; own_is = refl; begins = ([], append-nil b.seen); idle = refl }
+
+pub heard_one : (a b : BookState) → (b.queue ≡ a.queue) × (b.layout ≡ a.layout) × (b.own ≡ a.own) → Grows owner_seat [] 0 a.seen b.seen → HasHeard a b
+heard_one a b same g = record { queue_is = same.0; layout_is = same.1; own_is = same.2; begins = (g.new, sym g.is); idle = grows_same owner_seat 0 a.seen b.seen g }
+
+pub heard_on : (a b c : BookState) → HasHeard a b → HasHeard b c → HasHeard a c
+heard_on a b c x y = record { queue_is = y.queue_is ∙ x.queue_is; layout_is = y.layout_is ∙ x.layout_is; own_is = y.own_is ∙ x.own_is; begins = prefix_on a.seen b.seen c.seen x.begins y.begins; idle = y.idle ∙ x.idle }
+
+-- a sender that made no event has the ledger that it had
+pub ledger_same : (a b : Known) (l : Ledger) → Sees [] 0 a b → l.number ≡ a.number → l.counts ≡ sender_counts b.number b.seen → l ≡ ledger_of a
+ledger_same a b l s number counts =
+    let same : sender_counts a.number a.seen ≡ sender_counts a.number b.seen = counts_none a.number 0 a.seen b.seen (sender_counts a.number a.seen) refl s.grows in
+    let now : l.counts ≡ sender_counts a.number a.seen = counts ∙ (ap (λ (n : ℕ). sender_counts n b.seen) s.same.number_is ∙ sym same) in
+    λ i. record { number = number i; counts = now i }
+
+pub map-last : (xs : List Known) (x : Known) → map ledger_of (xs ++ x ∷ []) ≡ map ledger_of xs ++ ledger_of x ∷ []
+map-last [] x = refl
+map-last (y ∷ xs) x = ap (λ (ls : List Ledger). ledger_of y ∷ ls) (map-last xs x)
+
+pub all_last : (P : Known → Type 0) (xs : List Known) (x : Known) → All P xs → P x → All P (xs ++ x ∷ [])
+all_last P xs x before here = All-append P xs (x ∷ []) before (All-cons P x [] here (All-nil P))
+
+pub map-same : (xs : List Known) → map (λ (x : Known). x) xs ≡ xs
+map-same [] = refl
+map-same (x ∷ xs) = ap (λ (ys : List Known). x ∷ ys) (map-same xs)

@@ -1,0 +1,105 @@
+-- A team whose threads have ended.
+use Rattle.std.proofs.Common.{◌≡◌, ℕ, zero, suc, ◌+◌, ◌*◌, ◌^◌, ◌<◌, ◌≤◌, false, List, [], ◌++◌, length, get_or, inl, inr, sym, ap, ◌∙◌, subst, arith}
+use Rattle.std.specs.Prelude.{count_by}
+use Rattle.std.specs.List.{AllByRecursion}
+use Rattle.std.proofs.lemmas.Bool.{cases_lt}
+use Rattle.atomic_table.specs.Seated.{TableId}
+use Rattle.wq_words.specs.declared.layout.Layout.{Layout}
+use Rattle.wq_words.specs.declared.event.Event.{Event}
+use Rattle.wq_words.specs.History.{IsRunning, is_close}
+use Rattle.wq_table.specs.Seen.{owner_seat, own, Grows}
+use Rattle.wq_table.proofs.Seen.{closed_count, begun_same}
+use Rattle.wq_live.specs.Known.{Known, new_sender, new_senders}
+use Rattle.wq_live.specs.Counts.{is_chain, is_chain_busy}
+use Rattle.wq_worker.specs.Follow.{Follows}
+use Rattle.wq_worker.specs.State.{WorkerState}
+use Rattle.wq_race.specs.declared.idle.Idle.{Idle}
+use Rattle.wq_race.specs.declared.plan.Plan.{Plan}
+use Rattle.wq_race.specs.declared.team.Team.{Team}
+use Rattle.wq_race.specs.Plan.{IsLayoutOf}
+use Rattle.wq_race.specs.Team.{IsNewTeam}
+use Rattle.wq_race.specs.Race.{items_at, HasQueued, IsOfStop, HasStopped, HasServed, AllQueued, IsQueuer, HasRun}
+use Rattle.wq_race.proofs.Made.{length-new_senders}
+use Rattle.wq_race.proofs.Same.{each_more}
+use Rattle.wq_race.proofs.Serving.{chains_same, asks_same}
+
+pub untouched_open : (h : List Event) → own owner_seat h ≡ [] → count_by is_close h ≡ 0
+untouched_open h none = closed_count [] h none
+
+pub untouched_idle : (h : List Event) → own owner_seat h ≡ [] → ¬ IsRunning h
+untouched_idle h none runs = omega (arith, runs, ap (length {A = ℕ}) (begun_same [] h none))
+
+pub untouched_unchained : (h : List Event) → own owner_seat h ≡ [] → count_by is_chain h ≡ 0
+untouched_unchained h none = chains_same [] h none
+
+pub untouched_unasked : (h : List Event) → own owner_seat h ≡ [] → count_by is_chain_busy h ≡ 0
+untouched_unasked h none = asks_same [] h none
+
+-- a sender's items are below those of all
+pub own_room : (s n m : ℕ) → s < n → s * m + m ≤ n * m
+own_room s zero m lt = absurd (omega (arith, lt))
+own_room s (suc n) m lt = elim (cases_lt s n) [
+  | inl less ↦ let before : s * m + m ≤ n * m = own_room s n m less in let step : suc n * m ≡ n * m + m = times_suc n m in omega (arith, before, step)
+  | inr ge ↦ let same : s ≡ n = omega (arith, lt, ge) in let step : suc n * m ≡ n * m + m = times_suc n m in let at : s * m ≡ n * m = ap (λ (k : ℕ). k * m) same in omega (arith, at, step)
+]
+  where
+    times_suc : (n m : ℕ) → suc n * m ≡ n * m + m
+    times_suc n m = omega arith
+
+pub new_at : (q : TableId) (l : Layout) (n i : ℕ) (d : Known) → i < n → get_or (new_senders q l n) i d ≡ new_sender q l i
+new_at q l zero i d lt = absurd (omega (arith, lt))
+new_at q l (suc n) i d lt =
+    let P : ℕ → Known → Type 0 = λ i k. i < suc n → k ≡ new_sender q l i in
+    each_more P (new_senders q l n) (new_sender q l n) (λ i d less more. new_at q l n i d (omega (arith, less, length-new_senders q l n)))
+    (λ less. ap (new_sender q l) (sym (length-new_senders q l n))) i d (omega (arith, lt, length-new_senders q l (suc n))) lt
+
+pub rooms : (plan : Plan) (t : Team) → IsNewTeam plan t → (i : ℕ) (d : Known) → i < length t.senders.items → (get_or t.senders.items i d).number * plan.own + plan.own ≤ (get_or t.senders.items i d).layout.items
+rooms plan t new i d lt =
+    let q = t.worker.queue in let l = t.worker.layout in
+    let few : i < plan.senders = omega (arith, lt, ap length new.senders_are, length-new_senders q l plan.senders) in
+    let at : get_or t.senders.items i d ≡ new_sender q l i = ap (λ (xs : List Known). get_or xs i d) new.senders_are ∙ new_at q l plan.senders i d few in
+    subst (λ (k : Known). k.number * plan.own + plan.own ≤ k.layout.items) (sym at) (omega (arith, own_room i plan.senders plan.own few, new.layout.items_is))
+
+-- what a seat that had seen nothing has made
+pub own-first : (c : ℕ) (es v w : List Event) → v ≡ [] → Grows c es 0 v w → own c w ≡ es
+own-first c es v w none g = ap (own c) (g.is ∙ ap (λ (z : List Event). z ++ g.new) none) ∙ g.mine
+
+queuer : (m i : ℕ) (q : TableId) (l : Layout) (w : WorkerState Idle) (a b : Known) → w.queue ≡ q → w.layout ≡ l → a ≡ new_sender q l i → HasQueued (items_at a.number m) a b → IsQueuer m w i b
+queuer m i q l w a b queue layout at h =
+    let number : a.number ≡ i = ap (λ (k : Known). k.number) at in
+    let size : a.layout ≡ w.layout = ap (λ (k : Known). k.layout) at ∙ sym layout in
+    let mine : own a.number b.seen ≡ h.events = own-first a.number h.events a.seen b.seen (ap (λ (k : Known). k.seen) at) h.grows in
+    record {
+      number_is = h.same.number_is ∙ number;
+      queue_is = h.same.queue_is ∙ (ap (λ (k : Known). k.queue) at ∙ sym queue);
+      layout_is = h.same.layout_is ∙ size;
+      queued = subst (λ (k : Layout). Follows k.items i false (items_at i m) (own i b.seen)) size
+          (subst (λ (n : ℕ). Follows a.layout.items n false (items_at n m) (own n b.seen)) number (subst (λ (es : List Event). Follows a.layout.items a.number false (items_at a.number m) es) (sym mine) h.queued));
+    }
+
+pub has_run : (plan : Plan) (old new : Team) → IsNewTeam plan old → HasServed old.worker new.worker → AllQueued plan.own old.senders.items new.senders.items → HasStopped (2 * 2 ^ 32) old.program new.program → HasRun plan new
+has_run plan old new n served all stopped =
+    let q = old.worker.queue in let l = old.worker.layout in
+    let count : length old.senders.items ≡ plan.senders = ap length n.senders_are ∙ length-new_senders q l plan.senders in
+    let p : old.program.number ≡ plan.senders + 1 = ap (λ (k : Known). k.number) n.program_is in
+    let size : old.program.layout ≡ new.worker.layout = ap (λ (k : Known). k.layout) n.program_is ∙ sym served.layout_is in
+    let mine : own (plan.senders + 1) new.program.seen ≡ stopped.events = subst (λ (c : ℕ). own c new.program.seen ≡ stopped.events) p
+    (own-first old.program.number stopped.events old.program.seen new.program.seen (ap (λ (k : Known). k.seen) n.program_is) stopped.grows) in
+    record {
+      layout = subst (IsLayoutOf plan.senders plan.own) (sym served.layout_is) n.layout;
+      count = all.count ∙ count;
+      each = λ i d lt.
+          let at : get_or old.senders.items i d ≡ new_sender q l i = ap (λ (xs : List Known). get_or xs i d) n.senders_are ∙ new_at q l plan.senders i d lt in
+          queuer plan.own i q l new.worker (get_or old.senders.items i d) (get_or new.senders.items i d) served.queue_is served.layout_is at (all.each i d (omega (arith, lt, count)));
+      number_is = served.number_is ∙ n.number_is;
+      unsent = subst (λ (c : ℕ). own c new.worker.seen ≡ []) n.number_is (served.unsent ∙ n.unsent);
+      unchained = served.unchained ∙ untouched_unchained old.worker.seen n.untouched;
+      unasked = served.unasked ∙ untouched_unasked old.worker.seen n.untouched;
+      open_still = served.closes_is ∙ untouched_open old.worker.seen n.untouched;
+      idle = served.idle;
+      legal = served.legal;
+      program_number = stopped.same.number_is ∙ p;
+      program_queue = stopped.same.queue_is ∙ (ap (λ (k : Known). k.queue) n.program_is ∙ sym served.queue_is);
+      stops = subst (λ (k : Layout). AllByRecursion (IsOfStop k) (own (plan.senders + 1) new.program.seen)) size (subst (λ (es : List Event). AllByRecursion (IsOfStop old.program.layout) es) (sym mine) stopped.stops);
+      few_stops = omega (arith, ap length mine, stopped.few_events);
+    }

@@ -1,0 +1,282 @@
+-- A worker whose work asks for nothing adds the owner's takes, begins and ends alone.
+use Rattle.std.proofs.Common.{◌≡◌, ◌≢◌, ℕ, ◌+◌, Bool, true, false, eqb, ◌||◌, ◌==◌, Option, Some, None, List, [], ◌∷◌, ◌++◌, length, refl, sym, ap, ◌∙◌, subst, arith, append_assoc}
+use Rattle.std.specs.Prelude.{filter, count_by}
+use Rattle.std.proofs.lemmas.List.{append-nil}
+use mathlib.Core.List.{IsPrefix}
+use Rattle.wq_words.specs.declared.layout.Layout.{Layout}
+use Rattle.wq_words.specs.declared.event.Event.{Event}
+use Rattle.wq_words.specs.declared.event.Event.TheVariants.{Hold, Busy, Push, Back, Take, Close, Begin, End, Chain, ChainBusy}
+use Rattle.wq_words.specs.History.{IsRunning, is_close, closed, accepted, begun, ended}
+use Rattle.wq_words.specs.Legal.{IsLegal, IsComplete}
+use Rattle.wq_table.specs.Seen.{owner_seat, seat_of, own}
+use Rattle.wq_table.proofs.Seen.{own-append, own_none, count_own}
+use Rattle.wq_live.specs.Counts.{is_chain, is_chain_busy}
+use Rattle.wq_live.specs.Batch.{next_of}
+use Rattle.wq_worker.specs.declared.ran.Ran.{Ran}
+use Rattle.wq_worker.specs.declared.ran.Ran.TheVariants.{Item, Barrier, Stop, Nothing, Owing}
+use Rattle.wq_worker.specs.Seats.{is_ours, taking, taking_of}
+use Rattle.wq_worker.specs.Follow.{Follows}
+use Rattle.wq_worker.specs.State.{WorkerState, items_of, Moves}
+use Rattle.wq_worker.specs.Step.{Starts, item, other, owed, Ends, ends, Owes, owes, Runs}
+use Rattle.wq_worker.specs.Rows.{Row, none, more, IsExecution, IsNotStop, Serves, Closes, was_closed, closes}
+use Rattle.wq_worker.proofs.Owned.{count_by-append, filter-filter, owner_of_both, stays}
+use Rattle.wq_worker.proofs.Running.{runs_some}
+use Rattle.wq_worker.proofs.State.{quiet_taking}
+use Rattle.wq_race.specs.declared.idle.Idle.{Idle}
+use Rattle.wq_worker.specs.Book.{BookState, Destroys, Leaves}
+use Rattle.wq_race.specs.Race.{HasServed, HasGoneOn, HasEnded}
+
+-- the sender s made none of these events, the owner chained nothing by them, and closed so often
+pub record Still (s n : ℕ) (xs : List Event) : Type 0 where
+  pub unsent : own s xs ≡ []
+  pub unchained : count_by is_chain xs ≡ 0
+  pub unasked : count_by is_chain_busy xs ≡ 0
+  pub closes_is : count_by is_close xs ≡ n
+
+still_none : (s : ℕ) → Still s 0 []
+still_none s = record { unsent = refl; unchained = refl; unasked = refl; closes_is = refl }
+
+still_on : (s m n : ℕ) (xs ys : List Event) → Still s m xs → Still s n ys → Still s (m + n) (xs ++ ys)
+still_on s m n xs ys a b = record {
+  unsent = own-append s xs ys ∙ (λ i. a.unsent i ++ b.unsent i);
+  unchained = omega (arith, count_by-append is_chain xs ys, a.unchained, b.unchained);
+  unasked = omega (arith, count_by-append is_chain_busy xs ys, a.unasked, b.unasked);
+  closes_is = omega (arith, count_by-append is_close xs ys, a.closes_is, b.closes_is);
+}
+
+still_take : (s : ℕ) → s ≢ owner_seat → Still s 0 (Take ∷ [])
+still_take s not = record { unsent = own_none owner_seat Take refl s not; unchained = refl; unasked = refl; closes_is = refl }
+
+still_begin : (s k : ℕ) → s ≢ owner_seat → Still s 0 (Begin k ∷ [])
+still_begin s k not = record { unsent = own_none owner_seat (Begin k) refl s not; unchained = refl; unasked = refl; closes_is = refl }
+
+still_end : (s k : ℕ) → s ≢ owner_seat → Still s 0 (End k ∷ [])
+still_end s k not = record { unsent = own_none owner_seat (End k) refl s not; unchained = refl; unasked = refl; closes_is = refl }
+
+still_close : (s : ℕ) → s ≢ owner_seat → Still s 1 (Close ∷ [])
+still_close s not = record { unsent = own_none owner_seat Close refl s not; unchained = refl; unasked = refl; closes_is = refl }
+
+still_taking : (s : ℕ) → s ≢ owner_seat → (h : List Event) → Still s 0 (taking h)
+still_taking s not h = each (next_of h) (closed h)
+  where
+    each : (o : Option ℕ) (b : Bool) → Still s 0 (taking_of o b)
+    each None true = still_none s
+    each None false = still_take s not
+    each (Some k) b = still_none s
+
+-- what the owner alone makes is counted in its own events
+chain_own : (e : Event) → eqb (seat_of e) owner_seat ≡ false → is_chain e ≡ false
+chain_own (Chain k) is = absurd (cc)
+chain_own (Hold s k) is = refl
+chain_own (Busy s k) is = refl
+chain_own (Push s k) is = refl
+chain_own (Back s k why) is = refl
+chain_own Take is = refl
+chain_own Close is = refl
+chain_own (Begin k) is = refl
+chain_own (End k) is = refl
+chain_own (ChainBusy k) is = refl
+
+chain_busy_own : (e : Event) → eqb (seat_of e) owner_seat ≡ false → is_chain_busy e ≡ false
+chain_busy_own (Chain k) is = refl
+chain_busy_own (Hold s k) is = refl
+chain_busy_own (Busy s k) is = refl
+chain_busy_own (Push s k) is = refl
+chain_busy_own (Back s k why) is = refl
+chain_busy_own Take is = refl
+chain_busy_own Close is = refl
+chain_busy_own (Begin k) is = refl
+chain_busy_own (End k) is = refl
+chain_busy_own (ChainBusy k) is = absurd (cc)
+
+or_left : (b c : Bool) → (b || c) ≡ false → b ≡ false
+or_left true c is = absurd (cc)
+or_left false c is = refl
+
+or_right : (b c : Bool) → (b || c) ≡ false → c ≡ false
+or_right true c is = absurd (cc)
+or_right false c is = is
+
+own_of_ours : (s : ℕ) (es : List Event) → own s (filter (is_ours s) es) ≡ own s es
+own_of_ours s es = filter-filter (λ e. seat_of e == s) (is_ours s) (λ e is. or_left (seat_of e == s) (seat_of e == owner_seat) is) es
+
+owner_of_ours : (s : ℕ) (es : List Event) → own owner_seat (filter (is_ours s) es) ≡ own owner_seat es
+owner_of_ours s es = filter-filter (λ e. seat_of e == owner_seat) (is_ours s) (λ e is. or_right (seat_of e == s) (seat_of e == owner_seat) is) es
+
+pub chains_same : (v w : List Event) → own owner_seat w ≡ own owner_seat v → count_by is_chain w ≡ count_by is_chain v
+chains_same v w same = count_own is_chain owner_seat chain_own w ∙ (ap (count_by is_chain) same ∙ sym (count_own is_chain owner_seat chain_own v))
+
+pub asks_same : (v w : List Event) → own owner_seat w ≡ own owner_seat v → count_by is_chain_busy w ≡ count_by is_chain_busy v
+asks_same v w same = count_own is_chain_busy owner_seat chain_busy_own w ∙ (ap (count_by is_chain_busy) same ∙ sym (count_own is_chain_busy owner_seat chain_busy_own v))
+
+-- the same worker, whose sender made no event and whose owner chained nothing, closed so often, and runs nothing
+pub record Plain (n : ℕ) (a b : WorkerState Idle) : Type 0 where
+  pub queue_is : b.queue ≡ a.queue
+  pub layout_is : b.layout ≡ a.layout
+  pub number_is : b.number ≡ a.number
+  pub begins : IsPrefix a.seen b.seen
+  pub unsent : own a.number b.seen ≡ own a.number a.seen
+  pub unchained : count_by is_chain b.seen ≡ count_by is_chain a.seen
+  pub unasked : count_by is_chain_busy b.seen ≡ count_by is_chain_busy a.seen
+  pub closes_is : count_by is_close b.seen ≡ count_by is_close a.seen + n
+  pub idle : ¬ IsRunning b.seen
+  pub legal : IsLegal a.layout a.seen → IsLegal b.layout b.seen
+
+pub plain_still : (a : WorkerState Idle) → ¬ IsRunning a.seen → Plain 0 a a
+plain_still a idle = record { queue_is = refl; layout_is = refl; number_is = refl; begins = ([], append-nil a.seen); unsent = refl; unchained = refl; unasked = refl; closes_is = omega arith; idle = idle; legal = λ legal. legal }
+
+pub plain_on : (m n : ℕ) (a b c : WorkerState Idle) → Plain m a b → Plain n b c → Plain (m + n) a c
+plain_on m n a b c x y = record {
+  queue_is = y.queue_is ∙ x.queue_is;
+  layout_is = y.layout_is ∙ x.layout_is;
+  number_is = y.number_is ∙ x.number_is;
+  begins = (x.begins.0 ++ y.begins.0, sym (append_assoc a.seen x.begins.0 y.begins.0) ∙ (ap (λ (z : List Event). z ++ y.begins.0) x.begins.1 ∙ y.begins.1));
+  unsent = subst (λ (s : ℕ). own s c.seen ≡ own s b.seen) x.number_is y.unsent ∙ x.unsent;
+  unchained = y.unchained ∙ x.unchained;
+  unasked = y.unasked ∙ x.unasked;
+  closes_is = omega (arith, x.closes_is, y.closes_is);
+  idle = y.idle;
+  legal = λ legal. y.legal (x.legal legal);
+}
+
+moves_plain : (xs : List Event) (n : ℕ) (a b : WorkerState Idle) → Still a.number n xs → ¬ IsRunning b.seen → Moves xs 0 a b → Plain n a b
+moves_plain xs n a b s idle m =
+    let new = m.adds.new in
+    let mine : own a.number new ≡ [] = sym (own_of_ours a.number new) ∙ (ap (own a.number) m.adds.ours ∙ s.unsent) in
+    let owners : own owner_seat new ≡ own owner_seat xs = sym (owner_of_ours a.number new) ∙ ap (own owner_seat) m.adds.ours in
+    let chains : count_by is_chain new ≡ 0 = chains_same xs new owners ∙ s.unchained in
+    let asks : count_by is_chain_busy new ≡ 0 = asks_same xs new owners ∙ s.unasked in
+    record {
+      queue_is = m.queue;
+      layout_is = m.layout;
+      number_is = m.number;
+      begins = (new, sym m.adds.is);
+      unsent = ap (own a.number) m.adds.is ∙ (own-append a.number a.seen new ∙ (ap (λ (z : List Event). own a.number a.seen ++ z) mine ∙ append-nil (own a.number a.seen)));
+      unchained = omega (arith, ap (count_by is_chain) m.adds.is, count_by-append is_chain a.seen new, chains);
+      unasked = omega (arith, ap (count_by is_chain_busy) m.adds.is, count_by-append is_chain_busy a.seen new, asks);
+      closes_is = omega (arith, (owner_of_both a.number xs 0 a.seen b.seen m.adds).closes, s.closes_is);
+      idle = idle;
+      legal = λ legal. m.legal;
+    }
+
+none_cons : (xs : List ℕ) (x : ℕ) (ys : List ℕ) → xs ++ x ∷ ys ≡ [] → ⊥
+none_cons [] x ys is = cc
+none_cons (z ∷ xs) x ys is = cc
+
+module _ (may : Idle → ℕ → List ℕ → Idle → Type 0) (asks_nothing : (w : Idle) (k : ℕ) (f : List ℕ) (v : Idle) → may w k f v → f ≡ []) where
+  record Started (a : WorkerState Idle) (f : List ℕ) (es : List Event) : Type 0 where
+    pub none : f ≡ []
+    pub still : Still a.number 0 es
+
+  started : (a : WorkerState Idle) (k : ℕ) (f : List ℕ) (v : Idle) (es : List Event) → a.number ≢ owner_seat → ¬ IsRunning a.seen → Starts may a k f v es → Started a f es
+  started a k f v es not idle (item rests lt ran is) = record { none = asks_nothing a.work k f v ran; still = subst (Still a.number 0) (sym is) (still_on a.number 0 0 (taking a.seen) (Begin k ∷ []) (still_taking a.number not a.seen) (still_begin a.number k not)) }
+  started a k f v es not idle (other rests ge is_none same is) = record { none = is_none; still = subst (Still a.number 0) (sym is) (still_on a.number 0 0 (taking a.seen) (Begin k ∷ []) (still_taking a.number not a.seen) (still_begin a.number k not)) }
+  started a k f v es not idle (owed runs left same is) = absurd (idle (runs_some a.seen k runs))
+
+  ends_plain : (k : ℕ) (a b : WorkerState Idle) → a.number ≢ owner_seat → ¬ IsRunning a.seen → Ends may a k b → Plain 0 a b
+  ends_plain k a b not idle (ends f es fs st told moved rests) =
+      let s = started a k f b.work es not idle st in
+      let no_follow : fs ≡ [] = subst (λ (ks : List ℕ). Follows a.layout.items a.number (closed a.seen) ks fs) s.none told in
+      let still : Still a.number 0 (es ++ (fs ++ End k ∷ [])) = still_on a.number 0 0 es (fs ++ End k ∷ []) s.still (subst (λ (z : List Event). Still a.number 0 (z ++ End k ∷ [])) (sym no_follow) (still_end a.number k not)) in
+      moves_plain (es ++ (fs ++ End k ∷ [])) 0 a b still rests moved
+
+  nothing_plain : (a b : WorkerState Idle) → a.number ≢ owner_seat → ¬ IsRunning a.seen → Moves (taking a.seen) 0 a b → Plain 0 a b
+  nothing_plain a b not idle m =
+      let same = stays (taking a.seen) a.seen b.seen (quiet_taking a.seen) (owner_of_both a.number (taking a.seen) 0 a.seen b.seen m.adds) in
+      moves_plain (taking a.seen) 0 a b (still_taking a.number not a.seen) (λ (runs : IsRunning b.seen). idle (omega (arith, runs, ap (length {A = ℕ}) same.begun_same, ap (length {A = ℕ}) same.ended_same))) m
+
+  owes_none : (k : ℕ) (a b : WorkerState Idle) → a.number ≢ owner_seat → ¬ IsRunning a.seen → Owes may a k b → ⊥
+  owes_none k a b not idle (owes f qs j rest es fs st split left opens told moved runs) = none_cons qs j rest (sym split ∙ (started a k f b.work es not idle st).none)
+
+  runs_plain : (r : Ran) (a b : WorkerState Idle) → a.number ≢ owner_seat → ¬ IsRunning a.seen → Runs may r a b → Plain 0 a b
+  runs_plain (Item k) a b not idle t = ends_plain t.0 a b not idle t.2
+  runs_plain (Barrier k) a b not idle t = ends_plain t.0 a b not idle t.2
+  runs_plain Stop a b not idle t = ends_plain t.0 a b not idle t.2
+  runs_plain Nothing a b not idle t = nothing_plain a b not idle t.3
+  runs_plain (Owing k) a b not idle t = absurd (owes_none k a b not idle t)
+
+  pub row_plain : (P : Ran → Type 0) (n : ℕ) (a b : WorkerState Idle) → a.number ≢ owner_seat → ¬ IsRunning a.seen → Row may P n a b → Plain 0 a b
+  row_plain P n a b not idle (none c) = plain_still c idle
+  row_plain P n a b not idle (more m r c d e row passes run) =
+      let before = row_plain P m c d not idle row in
+      plain_on 0 0 c d e before (runs_plain r d e (subst (λ (s : ℕ). s ≢ owner_seat) (sym before.number_is) not) before.idle run)
+
+  legal_ends : (k : ℕ) (a b : WorkerState Idle) → Ends may a k b → IsLegal b.layout b.seen
+  legal_ends k a b (ends f es fs st told moved rests) = moved.legal
+
+  pub serves_plain : (a b : WorkerState Idle) → a.number ≢ owner_seat → ¬ IsRunning a.seen → Serves may a b → HasServed a b
+  serves_plain a b not idle s =
+      let before = row_plain IsNotStop s.steps a s.last not idle s.row in
+      let all = plain_on 0 0 a s.last b before (runs_plain Stop s.last b (subst (λ (c : ℕ). c ≢ owner_seat) (sym before.number_is) not) before.idle s.stops) in
+      record { queue_is = all.queue_is; layout_is = all.layout_is; number_is = all.number_is; unsent = all.unsent; unchained = all.unchained; unasked = all.unasked; closes_is = omega (arith, all.closes_is); idle = all.idle; legal = legal_ends s.stops.0 s.last b s.stops.2 }
+
+  -- a close, where the queue was open
+  pub closes_plain : (a b : WorkerState Idle) → a.number ≢ owner_seat → ¬ IsRunning a.seen → Closes a b → (n : ℕ) × Plain n a b
+  closes_plain a b not idle (was_closed shut same) = (0, subst (λ (c : WorkerState Idle). Plain 0 a c) (sym same) (plain_still a idle))
+  closes_plain a b not idle (closes opens m work left) =
+      let o = owner_of_both a.number (Close ∷ []) 0 a.seen b.seen m.adds in
+      let begun_is = ap (length {A = ℕ}) (o.begun_is ∙ append-nil (begun a.seen)) in
+      let ended_is = ap (length {A = ℕ}) (o.ended_is ∙ append-nil (ended a.seen)) in
+      (1, moves_plain (Close ∷ []) 1 a b (still_close a.number not) (λ (runs : IsRunning b.seen). idle (omega (arith, runs, begun_is, ended_is))) m)
+
+  went_on : (n : ℕ) (a b : WorkerState Idle) → IsLegal a.layout a.seen → Plain n a b → HasGoneOn a b
+  went_on n a b legal p = record { queue_is = p.queue_is; layout_is = p.layout_is; number_is = p.number_is; begins = p.begins; unsent = p.unsent; unchained = p.unchained; unasked = p.unasked; idle = p.idle; legal = p.legal legal }
+
+  pub leaves_on : (log : Idle → List ℕ) (limit : ℕ) (a b : WorkerState Idle) (left : ℕ) → a.number ≢ owner_seat → ¬ IsRunning a.seen → IsLegal a.layout a.seen → Leaves log may limit a b left → HasGoneOn a b
+  leaves_on log limit a b left not idle legal l =
+      let first = closes_plain a l.closed not idle l.closes in
+      let rest = row_plain IsExecution limit l.closed b (subst (λ (s : ℕ). s ≢ owner_seat) (sym first.1.number_is) not) first.1.idle l.row in
+      went_on (first.0 + 0) a b legal (plain_on first.0 0 a l.closed b first.1 rest)
+
+  pub destroys_on : (log : Idle → List ℕ) → ((w : Idle) → log w ≡ w.ran.items) → (limit : ℕ) (a : WorkerState Idle) (work : Idle) (book : BookState) → a.number ≢ owner_seat → ¬ IsRunning a.seen → IsLegal a.layout a.seen
+      → Destroys log may limit a work book → HasEnded a work book
+  destroys_on log log_is limit a work book not idle legal d =
+      let first = closes_plain a d.closed not idle d.closes in
+      let rest = row_plain IsExecution d.steps d.closed d.last (subst (λ (s : ℕ). s ≢ owner_seat) (sym first.1.number_is) not) first.1.idle d.row in
+      let all = plain_on first.0 0 a d.closed d.last first.1 rest in
+      let seen = sym d.seen_is in
+      record {
+        queue_is = d.queue_is ∙ all.queue_is;
+        layout_is = d.layout_is ∙ all.layout_is;
+        number_is = d.own_is ∙ all.number_is;
+        begins = subst (λ (h : List Event). IsPrefix a.seen h) seen all.begins;
+        unsent = subst (λ (h : List Event). own a.number h ≡ own a.number a.seen) seen all.unsent;
+        unchained = subst (λ (h : List Event). count_by is_chain h ≡ count_by is_chain a.seen) seen all.unchained;
+        unasked = subst (λ (h : List Event). count_by is_chain_busy h ≡ count_by is_chain_busy a.seen) seen all.unasked;
+        legal = subst (λ (h : List Event). IsLegal book.layout h) seen (subst (λ (l : Layout). IsLegal l d.last.seen) (sym d.layout_is) (all.legal legal));
+        complete = subst (λ (h : List Event). IsComplete h) seen d.complete;
+        ran_is = sym (log_is work) ∙ (d.ran_accepted ∙ (λ i. items_of (sym d.layout_is i) (accepted (seen i))));
+      }
+
+pub goes_still : (a : WorkerState Idle) → ¬ IsRunning a.seen → IsLegal a.layout a.seen → HasGoneOn a a
+goes_still a idle legal = record { queue_is = refl; layout_is = refl; number_is = refl; begins = ([], append-nil a.seen); unsent = refl; unchained = refl; unasked = refl; idle = idle; legal = legal }
+
+prefix_two : (xs ys zs : List Event) → IsPrefix xs ys → IsPrefix ys zs → IsPrefix xs zs
+prefix_two xs ys zs a b = (a.0 ++ b.0, sym (append_assoc xs a.0 b.0) ∙ (ap (λ (z : List Event). z ++ b.0) a.1 ∙ b.1))
+
+pub goes_on : (a b c : WorkerState Idle) → HasGoneOn a b → HasGoneOn b c → HasGoneOn a c
+goes_on a b c x y = record {
+  queue_is = y.queue_is ∙ x.queue_is;
+  layout_is = y.layout_is ∙ x.layout_is;
+  number_is = y.number_is ∙ x.number_is;
+  begins = prefix_two a.seen b.seen c.seen x.begins y.begins;
+  unsent = subst (λ (s : ℕ). own s c.seen ≡ own s b.seen) x.number_is y.unsent ∙ x.unsent;
+  unchained = y.unchained ∙ x.unchained;
+  unasked = y.unasked ∙ x.unasked;
+  idle = y.idle;
+  legal = y.legal;
+}
+
+pub ends_on : (a b : WorkerState Idle) (work : Idle) (book : BookState) → HasGoneOn a b → HasEnded b work book → HasEnded a work book
+ends_on a b work book x y = record {
+  queue_is = y.queue_is ∙ x.queue_is;
+  layout_is = y.layout_is ∙ x.layout_is;
+  number_is = y.number_is ∙ x.number_is;
+  begins = prefix_two a.seen b.seen book.seen x.begins y.begins;
+  unsent = subst (λ (s : ℕ). own s book.seen ≡ own s b.seen) x.number_is y.unsent ∙ x.unsent;
+  unchained = y.unchained ∙ x.unchained;
+  unasked = y.unasked ∙ x.unasked;
+  legal = y.legal;
+  complete = y.complete;
+  ran_is = y.ran_is;
+}

@@ -1,0 +1,174 @@
+-- A history in which the seats of a race did what they do.
+use Rattle.std.proofs.Common.{◌≡◌, ℕ, zero, suc, ◌+◌, ◌*◌, ◌<◌, ◌≤◌, Bool, false, cond, eqb, List, [], ◌∷◌, ◌++◌, length, inl, inr, refl, sym, ap, ◌∙◌, subst, arith, eq-eqb, length-append, nat_lt}
+use Rattle.std.specs.Prelude.{count_by}
+use Rattle.std.specs.List.{AllByRecursion}
+use Rattle.std.proofs.lemmas.Bool.{cases_lt, lt-ltb, le-ltb}
+use Rattle.std.proofs.lemmas.List.Elements.{filter_map-append, filter-append}
+use Rattle.std.proofs.lemmas.List.FromFn.{length-range_with_len}
+use Rattle.std.proofs.lemmas.List.Sums.{sum_by-cons}
+use Rattle.wq_words.specs.declared.layout.Layout.{Layout}
+use Rattle.wq_words.specs.declared.event.Event.{Event}
+use Rattle.wq_words.specs.declared.event.Event.TheVariants.{Hold, Busy, Push, Back, Take, Close, Begin, End, Chain, ChainBusy}
+use Rattle.wq_words.specs.declared.event.Why.TheVariants as why
+use Rattle.wq_words.specs.Numbers.{stop_number}
+use Rattle.wq_words.specs.History.{accepted_by, accepted}
+use Rattle.wq_words.specs.Legal.{IsLegal}
+use Rattle.wq_table.specs.Seen.{owner_seat, seat_of, own}
+use Rattle.wq_table.proofs.Seen.{count_own}
+use Rattle.wq_live.specs.Counts.{is_queued_by, is_chain}
+use Rattle.wq_worker.specs.State.{items_of}
+use Rattle.wq_worker.specs.Follow.{Follows}
+use Rattle.wq_worker.proofs.State.{items_of-item, items_of-other}
+use Rattle.wq_worker.proofs.Balancing.{is_queued_below, below_more, below_none}
+use Rattle.wq_race.specs.Plan.{IsLayoutOf}
+use Rattle.wq_race.specs.Race.{items_at, IsOfStop}
+use Rattle.wq_race.specs.Outcome.{queueings}
+use Rattle.wq_race.proofs.Running.{own_room}
+use Rattle.wq_race.proofs.Events.{Has, has_own, own_has, busy_set, IsSet, by_hold, by_chain, hold_seat, push_seat, row_number, IsWithin, row_apart, row_pushed, same_row}
+
+-- n senders queued m items each, and no seat but theirs, the program's and the owner's made an event
+pub record IsRace (n m : ℕ) (layout : Layout) (h : List Event) : Type 0 where
+  pub sized : IsLayoutOf n m layout
+  pub few : n < owner_seat
+  pub legal : IsLegal layout h
+  pub queued : (s : ℕ) → s < n → Follows layout.items s false (items_at s m) (own s h)
+  pub opens : (s k : ℕ) → s < n → ¬ Has (Back s k why.Closed) (own s h)
+  pub unsent : own n h ≡ []
+  pub unchained : count_by is_chain h ≡ 0
+  pub stops : AllByRecursion (IsOfStop layout) (own (n + 1) h)
+
+has_chain : (k : ℕ) (h : List Event) → Has (Chain k) h → 0 < count_by is_chain h
+has_chain k [] has = absurd has
+has_chain k (x ∷ xs) (inl is) = let one : cond {A = ℕ} (is_chain x) 1 0 ≡ 1 = ap (λ (e : Event). cond {A = ℕ} (is_chain e) 1 0) (sym is) in omega (arith, one, sum_by-cons (λ e. cond (is_chain e) 1 0) x xs)
+has_chain k (x ∷ xs) (inr has) = omega (arith, has_chain k xs has, sum_by-cons (λ e. cond (is_chain e) 1 0) x xs)
+
+stop_of : (layout : Layout) (e : Event) (es : List Event) → AllByRecursion (IsOfStop layout) es → Has e es → IsOfStop layout e
+stop_of layout e [] all has = absurd has
+stop_of layout e (x ∷ xs) all (inl is) = subst (IsOfStop layout) (sym is) all.0
+stop_of layout e (x ∷ xs) all (inr has) = stop_of layout e xs all.1 has
+
+-- a sender's seat is one of the plan's, the worker's or the program's
+data Whose (n s : ℕ) : Type 0 where
+  plans : s < n → Whose n s
+  workers : s ≡ n → Whose n s
+  programs : s ≡ n + 1 → Whose n s
+
+whose : (n s : ℕ) → s < n + 2 → Whose n s
+whose n s lt = elim (cases_lt s n) [
+  | inl less ↦ plans less
+  | inr ge ↦ elim (cases_lt n s) [
+    | inl more ↦ programs (omega (arith, lt, more))
+    | inr le ↦ workers (omega (arith, ge, le))
+  ]
+]
+
+-- a sender's pushes stand among its own events
+push_own : (s : ℕ) (e : Event) → eqb (seat_of e) s ≡ false → is_queued_by s e ≡ false
+push_own s (Push t k) is = is
+push_own s (Hold t k) is = refl
+push_own s (Busy t k) is = refl
+push_own s (Back t k w) is = refl
+push_own s Take is = refl
+push_own s Close is = refl
+push_own s (Begin k) is = refl
+push_own s (End k) is = refl
+push_own s (Chain k) is = refl
+push_own s (ChainBusy k) is = refl
+
+pub queued_own : (s : ℕ) (h : List Event) → count_by (is_queued_by s) h ≡ count_by (is_queued_by s) (own s h)
+queued_own s h = count_own (is_queued_by s) s (push_own s) h
+
+pub pushes : (s : ℕ) (ks : List ℕ) → count_by (is_queued_by s) (queueings s ks) ≡ length ks
+pushes s [] = refl
+pushes s (k ∷ ks) =
+    let p = λ (e : Event). cond {A = ℕ} (is_queued_by s e) 1 0 in
+    let one : p (Push s k) ≡ 1 = ap (λ (b : Bool). cond {A = ℕ} b 1 0) (eq-eqb s s refl) in
+    let none : p (Hold s k) ≡ 0 = refl in
+    let size : length (k ∷ ks) ≡ length ks + 1 = omega arith in
+    omega (arith, sum_by-cons p (Hold s k) (Push s k ∷ queueings s ks), sum_by-cons p (Push s k) (queueings s ks), one, none, pushes s ks, size)
+
+pub length-queueings : (s : ℕ) (ks : List ℕ) → length (queueings s ks) ≡ 2 * length ks
+length-queueings s [] = refl
+length-queueings s (k ∷ ks) = omega (arith, length-queueings s ks)
+
+module _ (n m : ℕ) (layout : Layout) (h : List Event) (r : IsRace n m layout h) where
+  seat_few : (s : ℕ) → s < layout.senders → s < n + 2
+  seat_few s lt = omega (arith, lt, r.sized.senders_is)
+
+  nothing_sent : (e : Event) → seat_of e ≡ n → Has e h → ⊥
+  nothing_sent e at has = subst (Has e) (ap (λ (c : ℕ). own c h) at ∙ r.unsent) (has_own e h has)
+
+  of_stop : (e : Event) → seat_of e ≡ n + 1 → Has e h → IsOfStop layout e
+  of_stop e at has = stop_of layout e (own (n + 1) h) r.stops (subst (λ (c : ℕ). Has e (own c h)) at (has_own e h has))
+
+  below_items : (s k : ℕ) → s < n → IsWithin (s * m) m k → k < layout.items
+  below_items s k lt w = omega (arith, own_room s n m lt, w.1, r.sized.items_is)
+
+  stop_high : (k : ℕ) → k ≡ stop_number layout → layout.items ≤ k
+  stop_high k is = omega (arith, is)
+
+  pub was_free : (s k : ℕ) → s < n → ¬ Has (Busy s k) (own s h)
+  was_free s k lt has = each (busy_set layout s k h r.legal (own_has s (Busy s k) h has))
+    where
+      mine : IsWithin (s * m) m k
+      mine = row_number layout.items s (s * m) m (Busy s k) (own s h) (r.queued s lt) has
+
+      by : (t : ℕ) → Has (Hold t k) h → Whose n t → ⊥
+      by t hold (plans low) =
+          let at = has_own (Hold t k) h hold in
+          let same : s ≡ t = same_row s t m k mine (row_number layout.items t (t * m) m (Hold t k) (own t h) (r.queued t low) at) in
+          row_apart layout.items s (s * m) m t s k (own s h) (r.queued s lt) (subst (λ (c : ℕ). Has (Hold t k) (own c h)) (sym same) at) has
+      by t hold (workers is) = nothing_sent (Hold t k) is hold
+      by t hold (programs is) = let high = stop_high k (of_stop (Hold t k) is hold) in omega (arith, high, below_items s k lt mine)
+
+      each : IsSet k h → ⊥
+      each (by_hold t hold) = by t hold (whose n t (seat_few t (hold_seat layout t k h r.legal hold)))
+      each (by_chain chain) = omega (arith, has_chain k h chain, r.unchained)
+
+  -- each sender's items were found free on an open queue
+  pub was_queued : (s : ℕ) → s < n → own s h ≡ queueings s (items_at s m)
+  was_queued s lt = row_pushed layout.items s (s * m) m (own s h) (omega (arith, own_room s n m lt, r.sized.items_is)) (λ k. was_free s k lt) (λ k. r.opens s k lt) (r.queued s lt)
+
+  agree : (e : Event) → Has e h → length (items_of layout (accepted (e ∷ []))) ≡ cond (is_queued_below n e) 1 0
+  agree (Push t k) has = each (whose n t (seat_few t (push_seat layout t k h r.legal has)))
+    where
+      each : Whose n t → length (items_of layout (k ∷ [])) ≡ cond (nat_lt t n) 1 0
+      each (plans low) =
+          let w = row_number layout.items t (t * m) m (Push t k) (own t h) (r.queued t low) (has_own (Push t k) h has) in
+          ap length (items_of-item layout k (below_items t k low w)) ∙ sym (ap (λ (b : Bool). cond b 1 0) (lt-ltb t n low))
+      each (workers is) = absurd (nothing_sent (Push t k) is has)
+      each (programs is) =
+          let past : n ≤ t = omega (arith, is) in
+          ap length (items_of-other layout k (stop_high k (of_stop (Push t k) is has))) ∙ sym (ap (λ (b : Bool). cond b 1 0) (le-ltb t n past))
+  agree (Chain k) has = absurd (omega (arith, has_chain k h has, r.unchained))
+  agree (Hold s k) has = refl
+  agree (Busy s k) has = refl
+  agree (Back s k w) has = refl
+  agree Take has = refl
+  agree Close has = refl
+  agree (Begin k) has = refl
+  agree (End k) has = refl
+  agree (ChainBusy k) has = refl
+
+  items_counted : (es : List Event) → ((e : Event) → Has e es → length (items_of layout (accepted (e ∷ []))) ≡ cond (is_queued_below n e) 1 0) → length (items_of layout (accepted es)) ≡ count_by (is_queued_below n) es
+  items_counted [] all = refl
+  items_counted (e ∷ es) all =
+      let one = all e (inl refl) in let rest = items_counted es (λ f has. all f (inr has)) in
+      let parts : items_of layout (accepted (e ∷ es)) ≡ items_of layout (accepted (e ∷ [])) ++ items_of layout (accepted es) =
+      ap (items_of layout) (filter_map-append accepted_by (e ∷ []) es) ∙ filter-append (λ k. nat_lt k layout.items) (accepted (e ∷ [])) (accepted es) in
+      omega (arith, ap length parts, length-append (items_of layout (accepted (e ∷ []))) (items_of layout (accepted es)), one, rest, sum_by-cons (λ x. cond (is_queued_below n x) 1 0) e es)
+
+  queued_counted : (s : ℕ) → s < n → count_by (is_queued_by s) h ≡ m
+  queued_counted s lt = queued_own s h ∙ (ap (count_by (is_queued_by s)) (was_queued s lt) ∙ (pushes s (items_at s m) ∙ length-range_with_len (s * m) m))
+
+  pub below_counted : (c : ℕ) → c ≤ n → count_by (is_queued_below c) h ≡ c * m
+  below_counted zero le = below_none h ∙ omega arith
+  below_counted (suc c) le =
+      let next : c + 1 ≡ suc c = omega arith in
+      let more : count_by (is_queued_below (suc c)) h ≡ count_by (is_queued_below (c + 1)) h = ap (λ (k : ℕ). count_by (is_queued_below k) h) (sym next) in
+      let step : suc c * m ≡ c * m + m = omega arith in
+      omega (arith, more, below_more c h, below_counted c (omega (arith, le)), queued_counted c (omega (arith, le)), step)
+
+  -- as many items were accepted as the senders have
+  pub all_accepted : length (items_of layout (accepted h)) ≡ n * m
+  all_accepted = items_counted h agree ∙ below_counted n (omega arith)

@@ -1,0 +1,153 @@
+-- What the seats of a race have done.
+use Rattle.std.specs.Prelude.{◌≡◌, ℕ, ◌+◌, ◌*◌, ◌^◌, ◌<◌, ◌≤◌, false, List, [], length, count_by, slice_index_or}
+use Rattle.std.specs.List.{AllByRecursion, range_with_len}
+use mathlib.Core.List.{IsPrefix}
+use Rattle.wq_words.specs.declared.layout.Layout.{Layout}
+use Rattle.wq_words.specs.declared.event.Event.{Event}
+use Rattle.wq_words.specs.declared.event.Event.TheVariants.{Hold, Busy, Push, Back}
+use Rattle.wq_words.specs.Numbers.{stop_number}
+use Rattle.wq_words.specs.History.{IsRunning, is_close, accepted}
+use Rattle.wq_words.specs.Legal.{IsLegal, IsComplete}
+use Rattle.wq_table.specs.Seen.{owner_seat, own, Grows}
+use Rattle.wq_live.specs.Known.{Known, IsSame}
+use Rattle.wq_live.specs.Counts.{is_chain, is_chain_busy, sender_counts}
+use Rattle.wq_worker.specs.declared.book.Ledger.{Ledger}
+use Rattle.wq_worker.specs.Book.{BookState}
+use Rattle.wq_worker.specs.Follow.{Follows}
+use Rattle.wq_worker.specs.State.{WorkerState, items_of}
+use Rattle.wq_race.specs.declared.idle.Idle.{Idle}
+use Rattle.wq_race.specs.declared.plan.Plan.{Plan}
+use Rattle.wq_race.specs.declared.team.Team.{Team}
+use Rattle.wq_race.specs.Plan.{IsLayoutOf}
+
+-- the items of the sender s, where each has so many
+abbrev pub items_at : ℕ → ℕ → List ℕ
+items_at s own = range_with_len (s * own) own
+
+-- a sender queued these items, once each and in this order: each was pushed, found pending, or refused by a closed queue
+pub record HasQueued (items : List ℕ) (old new : Known) : Type 0 where
+  pub same : IsSame old new
+  pub events : List Event
+  pub queued : Follows old.layout.items old.number false items events
+  pub grows : Grows old.number events 0 old.seen new.seen
+
+-- the event is a sender's, and of the stop item
+abbrev pub IsOfStop : Layout → Event → Type 0
+IsOfStop layout (Hold s k) = k ≡ stop_number layout
+IsOfStop layout (Busy s k) = k ≡ stop_number layout
+IsOfStop layout (Push s k) = k ≡ stop_number layout
+IsOfStop layout (Back s k why) = k ≡ stop_number layout
+IsOfStop layout _ = ⊥
+
+-- a sender tried to queue the stop item, with at most so many events
+pub record HasStopped (few : ℕ) (old new : Known) : Type 0 where
+  pub same : IsSame old new
+  pub events : List Event
+  pub stops : AllByRecursion (IsOfStop old.layout) events
+  pub few_events : length events ≤ few
+  pub grows : Grows old.number events 0 old.seen new.seen
+
+-- A worker whose work asks for nothing served: its sender made no event, its owner chained nothing and did not close the
+-- queue, and nothing runs.
+pub record HasServed (old new : WorkerState Idle) : Type 0 where
+  pub queue_is : new.queue ≡ old.queue
+  pub layout_is : new.layout ≡ old.layout
+  pub number_is : new.number ≡ old.number
+  pub unsent : own old.number new.seen ≡ own old.number old.seen
+  pub unchained : count_by is_chain new.seen ≡ count_by is_chain old.seen
+  pub unasked : count_by is_chain_busy new.seen ≡ count_by is_chain_busy old.seen
+  pub closes_is : count_by is_close new.seen ≡ count_by is_close old.seen
+  pub idle : ¬ IsRunning new.seen
+  pub legal : IsLegal new.layout new.seen
+
+-- each of them queued its own items
+pub record AllQueued (own : ℕ) (olds news : List Known) : Type 0 where
+  pub count : length news ≡ length olds
+  pub each : (i : ℕ) (d : Known) → i < length olds → HasQueued (items_at (slice_index_or olds i d).number own) (slice_index_or olds i d) (slice_index_or news i d)
+
+-- the same worker, which may have seen more
+pub record HasMet (old new : WorkerState Idle) : Type 0 where
+  pub queue_is : new.queue ≡ old.queue
+  pub layout_is : new.layout ≡ old.layout
+  pub number_is : new.number ≡ old.number
+  pub begins : IsPrefix old.seen new.seen
+  pub unsent : own old.number new.seen ≡ own old.number old.seen
+  pub idle : own owner_seat new.seen ≡ own owner_seat old.seen
+  pub legal : IsLegal new.layout new.seen
+
+-- the same sender, which made no event, and has seen no more than this
+pub record IsKnown (seen : List Event) (old new : Known) : Type 0 where
+  pub same : IsSame old new
+  pub mine : own old.number new.seen ≡ own old.number old.seen
+  pub known : IsPrefix new.seen seen
+  pub legal : IsLegal new.layout new.seen
+
+pub record AllKnown (seen : List Event) (olds news : List Known) : Type 0 where
+  pub count : length news ≡ length olds
+  pub each : (i : ℕ) (d : Known) → i < length olds → IsKnown seen (slice_index_or olds i d) (slice_index_or news i d)
+
+-- The sender of this number, of the queue of the worker: its events are the queueings of its own items.
+pub record IsQueuer (own_items : ℕ) (worker : WorkerState Idle) (i : ℕ) (s : Known) : Type 0 where
+  pub number_is : s.number ≡ i
+  pub queue_is : s.queue ≡ worker.queue
+  pub layout_is : s.layout ≡ worker.layout
+  pub queued : Follows worker.layout.items i false (items_at i own_items) (own i s.seen)
+
+-- A team whose threads have ended: each of the plan's senders queued its own items, the program's tried to queue the stop
+-- item, and the worker served an open queue, of which nothing runs.
+pub record HasRun (plan : Plan) (team : Team) : Type 0 where
+  pub layout : IsLayoutOf plan.senders plan.own team.worker.layout
+  pub count : length team.senders.items ≡ plan.senders
+  pub each : (i : ℕ) (d : Known) → i < plan.senders → IsQueuer plan.own team.worker i (slice_index_or team.senders.items i d)
+  pub number_is : team.worker.number ≡ plan.senders
+  pub unsent : own plan.senders team.worker.seen ≡ []
+  pub unchained : count_by is_chain team.worker.seen ≡ 0
+  pub unasked : count_by is_chain_busy team.worker.seen ≡ 0
+  pub open_still : count_by is_close team.worker.seen ≡ 0
+  pub idle : ¬ IsRunning team.worker.seen
+  pub legal : IsLegal team.worker.layout team.worker.seen
+  pub program_number : team.program.number ≡ plan.senders + 1
+  pub program_queue : team.program.queue ≡ team.worker.queue
+  pub stops : AllByRecursion (IsOfStop team.worker.layout) (own (plan.senders + 1) team.program.seen)
+  pub few_stops : length (own (plan.senders + 1) team.program.seen) ≤ 2 * 2 ^ 32
+
+-- The same worker went on: its sender made no event, its owner chained nothing, and nothing runs.
+pub record HasGoneOn (old new : WorkerState Idle) : Type 0 where
+  pub queue_is : new.queue ≡ old.queue
+  pub layout_is : new.layout ≡ old.layout
+  pub number_is : new.number ≡ old.number
+  pub begins : IsPrefix old.seen new.seen
+  pub unsent : own old.number new.seen ≡ own old.number old.seen
+  pub unchained : count_by is_chain new.seen ≡ count_by is_chain old.seen
+  pub unasked : count_by is_chain_busy new.seen ≡ count_by is_chain_busy old.seen
+  pub idle : ¬ IsRunning new.seen
+  pub legal : IsLegal new.layout new.seen
+
+-- Such a worker, whose queue is destroyed: all that was accepted has ended, and the work ran the items among it.
+pub record HasEnded (old : WorkerState Idle) (work : Idle) (book : BookState) : Type 0 where
+  pub queue_is : book.queue ≡ old.queue
+  pub layout_is : book.layout ≡ old.layout
+  pub number_is : book.own.number ≡ old.number
+  pub begins : IsPrefix old.seen book.seen
+  pub unsent : own old.number book.seen ≡ own old.number old.seen
+  pub unchained : count_by is_chain book.seen ≡ count_by is_chain old.seen
+  pub unasked : count_by is_chain_busy book.seen ≡ count_by is_chain_busy old.seen
+  pub legal : IsLegal book.layout book.seen
+  pub complete : IsComplete book.seen
+  pub ran_is : work.ran.items ≡ items_of book.layout (accepted book.seen)
+
+-- the ledger of a sender that makes no event more
+abbrev pub ledger_of : Known → Ledger
+ledger_of s = record { number = s.number; counts = sender_counts s.number s.seen }
+
+-- what came after the history is known not to be of the sender
+abbrev pub IsTold : List Event → Known → Type 0
+IsTold h s = (later : List Event) × IsPrefix h later × (own s.number later ≡ own s.number s.seen)
+
+-- the book of the same queue, of which the owner made no event
+pub record HasHeard (old new : BookState) : Type 0 where
+  pub queue_is : new.queue ≡ old.queue
+  pub layout_is : new.layout ≡ old.layout
+  pub own_is : new.own ≡ old.own
+  pub begins : IsPrefix old.seen new.seen
+  pub idle : own owner_seat new.seen ≡ own owner_seat old.seen
