@@ -4,15 +4,17 @@ use Rattle.std.specs.Io.KnownBytes.{Appends}
 use Rattle.wq_race.specs.declared.plan.Plan.{Plan}
 use Rattle.wq_race.specs.declared.outcome.Outcome.{Outcome}
 use Rattle.wq_race.specs.PlanText.{Spells, IsRefused}
-use Rattle.wq_race.specs.Outcome.{outcome_line}
+use Rattle.wq_race.specs.Outcome.{outcome_line, IsWhole}
 use Rattle.wqrun.specs.declared.failure.Failure.{Failure}
 use Rattle.wqrun.specs.declared.failure.Failure.TheVariants as failure
 
--- the text spells a plan, and this is the line of an outcome
+-- The text spells a plan, and this is the line of the outcome that accepted each of the plan's items once and ran it once,
+-- and that balances.
 pub record Races (text line : List ℕ) : Type 0 where
   pub plan : Plan
   pub spells : Spells text plan
   pub outcome : Outcome
+  pub whole : IsWhole plan outcome
   pub line_is : line ≡ outcome_line outcome
 
 -- the text has no outcome: it is refused for this, or memory or a thread was wanting
@@ -27,7 +29,7 @@ HasNoRace text failure.Memory = Unit {0}
 abbrev pub plan_read : List ℕ → List ℕ
 plan_read bytes = take 65537 bytes
 
--- the bytes are a plan's, and what was written grew by just the line of an outcome
+-- the bytes are a plan's, and what was written grew by just the line of its outcome
 pub record WritesRace (bytes : List ℕ) (before after : Option (List ℕ)) : Type 0 where
   pub line : List ℕ
   pub races : Races (plan_read bytes) line

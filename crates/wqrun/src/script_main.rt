@@ -6,8 +6,7 @@ use crate::failure::Failure;
 use crate::streams::{read_text, write_report};
 use std::alloc::Global;
 use std::io::{Read, Write};
-use wq_engine::run;
-use wq_script::{ParseError, RunError, parse};
+use wq_script::{ParseError, RunError, parse, run};
 
 /// The report of a script's text.
 fn report_of(alloc: Global, text: &[u8]) -> Result<Vec<u8>, Failure>

@@ -1,4 +1,4 @@
-use Rattle.std.proofs.Common.{◌≡◌, ◌∙◌, ◌++◌, ap, List, ℕ}
+use Rattle.std.proofs.Common.{◌∙◌, ◌++◌, ap, List, ℕ}
 use Rattle.wq_race.specs.Outcome.{outcome_line}
 use Rattle.wqrun.proofs.live_main.line_of.Goals as goal
 
@@ -8,5 +8,6 @@ returns-in-Ok-write-clause-line g c =
       plan = c.in-Ok.plan;
       spells = c.in-Ok.ensures;
       outcome = o;
+      whole = c.in-Ok-run_plan.ensures.whole;
       line_is = c.in-Ok-write.ensures ∙ ap (λ (old : List ℕ). old ++ outcome_line o) c.new-line.ensures.bytes;
     }
