@@ -13,3 +13,16 @@ fn queue_is_made_or_answers_memory(rt: HostRuntime) -> Result<(), Fail> {
     }
     Ok(())
 }
+
+/// A queue that is made. Where an allocation is refused, want of memory is the answer and no other (`make memory` refuses each
+/// in turn).
+#[test]
+fn refused_memory(rt: HostRuntime) -> Result<(), Fail> {
+    match build(rt.alloc(), Layout::new(4, 1, 2)?) {
+        Ok(_) => Ok(()),
+        Err(refused) => {
+            assert_eq!(rt; refused, BuildError::Memory);
+            Err(refused)?
+        }
+    }
+}
