@@ -1,7 +1,9 @@
 -- What a queue keeps, as a state.
+use Rattle.std.specs.Prelude.{ℕ, List, []}
+use Rattle.wq_words.specs.declared.event.Event.{Event}
 use Rattle.wq_plain.specs.declared.queue.Queue.{Queue}
 use Rattle.wq_plain.specs.Table.{items_of}
-use Rattle.wq_plain.specs.Standing.{State}
+use Rattle.wq_plain.specs.Standing.{State, Stands}
 
 abbrev pub state_of : Queue → State
 state_of q = record {
@@ -14,3 +16,17 @@ state_of q = record {
   busy = q.busy;
   refused = q.refused;
 }
+
+-- from every history that the queue stands for it went on by this, whatever runs, or where nothing runs
+abbrev pub GoesOn : Queue → Queue → (List Event → List Event) → Type 0
+GoesOn p q more = (runs : List ℕ) (h : List Event) → Stands (state_of p) runs h → Stands (state_of q) runs (more h)
+
+abbrev pub GoesOnIdle : Queue → Queue → (List Event → List Event) → Type 0
+GoesOnIdle p q more = (h : List Event) → Stands (state_of p) [] h → Stands (state_of q) [] (more h)
+
+-- this holds of every history that the queue stands for, whatever runs, or where nothing runs
+abbrev pub Always : Queue → (List Event → Type 0) → Type 0
+Always q holds = (runs : List ℕ) (h : List Event) → Stands (state_of q) runs h → holds h
+
+abbrev pub AlwaysIdle : Queue → (List Event → Type 0) → Type 0
+AlwaysIdle q holds = (h : List Event) → Stands (state_of q) [] h → holds h

@@ -51,7 +51,7 @@ impl Queue {
     ghost use Rattle.wq_plain.specs.Report.{counts_of};
     ghost use Rattle.wq_plain.specs.Follows.{AllFit};
     ghost use Rattle.wq_plain.specs.Delays.{table_of};
-    ghost use Rattle.wq_plain.specs.Queue.{state_of};
+    ghost use Rattle.wq_plain.specs.Queue.{state_of, GoesOn, GoesOnIdle, Always, AlwaysIdle};
 
     /// An open queue of so many numbers, with nothing in it.
     pub fn new(alloc: Global, numbers: u32) -> Result<Queue, AllocError>
@@ -77,8 +77,8 @@ impl Queue {
     pub fn queue(&mut self, number: u32) -> Result<Answer, AllocError>
         requires number { number < length self.old.pending.items }
         requires room { calls (state_of self.old) < 2 ^ 63 }
-        ensures answer { IfOk result (λ a. (runs : List ℕ) (h : List Event) → Stands (state_of self.old) runs h → a ≡ queue_answer number h) }
-        ensures stands { OnOk result ((sender : ℕ) (runs : List ℕ) (h : List Event) → Stands (state_of self.old) runs h → Stands (state_of self.new) runs (h ++ queue_events sender number h)) }
+        ensures answer { IfOk result (λ a. Always self.old (λ h. a ≡ queue_answer number h)) }
+        ensures stands { OnOk result ((sender : ℕ) → GoesOn self.old self.new (λ h. h ++ queue_events sender number h)) }
         ensures numbers { length self.new.pending.items ≡ length self.old.pending.items }
         ensures delays { self.new.delays ≡ self.old.delays }
         ensures calls { OnOk result (calls (state_of self.new) ≡ calls (state_of self.old) + 1) }
@@ -104,7 +104,7 @@ impl Queue {
         requires closed { self.old.is_closed ≡ true }
         requires number { item < length self.old.pending.items }
         requires room { calls (state_of self.old) < 2 ^ 63 }
-        ensures stands { OnOk result ((runs : List ℕ) (h : List Event) → Stands (state_of self.old) runs h → Stands (state_of self.new) runs (h ++ chain_events item h)) }
+        ensures stands { OnOk result (GoesOn self.old self.new (λ h. h ++ chain_events item h)) }
         ensures numbers { length self.new.pending.items ≡ length self.old.pending.items }
         ensures delays { self.new.delays ≡ self.old.delays }
         ensures calls { OnOk result (calls (state_of self.new) ≡ calls (state_of self.old) + 1) }
@@ -122,8 +122,8 @@ impl Queue {
 
     /// Closes the queue, and answers how many were taken by that. None where it was closed before.
     pub fn close(&mut self) -> Option<u64>
-        ensures answer { (runs : List ℕ) (h : List Event) → Stands (state_of self.old) runs h → result ≡ close_answer h }
-        ensures stands { (runs : List ℕ) (h : List Event) → Stands (state_of self.old) runs h → Stands (state_of self.new) runs (h ++ close_events h) }
+        ensures answer { Always self.old (λ h. result ≡ close_answer h) }
+        ensures stands { GoesOn self.old self.new (λ h. h ++ close_events h) }
         ensures numbers { length self.new.pending.items ≡ length self.old.pending.items }
         ensures delays { self.new.delays ≡ self.old.delays }
         ensures calls { calls (state_of self.new) ≡ calls (state_of self.old) }
@@ -137,7 +137,7 @@ impl Queue {
 
     /// Takes what was pushed, where nothing taken waits and the queue is open.
     fn take(&mut self)
-        ensures stands { (runs : List ℕ) (h : List Event) → Stands (state_of self.old) runs h → Stands (state_of self.new) runs (h ++ take_events h) }
+        ensures stands { GoesOn self.old self.new (λ h. h ++ take_events h) }
         ensures numbers { self.new.pending ≡ self.old.pending }
         ensures delays { self.new.delays ≡ self.old.delays }
         ensures same { state_of self.new ≡ record (state_of self.old) { fresh = self.new.fresh } }
@@ -151,7 +151,7 @@ impl Queue {
     fn follow(&mut self, item: u32) -> Result<(), AllocError>
         requires number { item < length self.old.pending.items }
         requires room { calls (state_of self.old) < 2 ^ 63 }
-        ensures stands { OnOk result ((worker : ℕ) (runs : List ℕ) (h : List Event) → Stands (state_of self.old) runs h → Stands (state_of self.new) runs (after_follow worker h item)) }
+        ensures stands { OnOk result ((worker : ℕ) → GoesOn self.old self.new (λ h. after_follow worker h item)) }
         ensures numbers { length self.new.pending.items ≡ length self.old.pending.items }
         ensures delays { self.new.delays ≡ self.old.delays }
         ensures calls { OnOk result (calls (state_of self.new) ≡ calls (state_of self.old) + 1) }
@@ -167,7 +167,7 @@ impl Queue {
     fn follow_all(&mut self, items: &[u32]) -> Result<(), AllocError>
         requires numbers { All (λ k. k < length self.old.pending.items) items.now }
         requires room { calls (state_of self.old) + length items.now < 2 ^ 63 }
-        ensures stands { OnOk result ((worker : ℕ) (runs : List ℕ) (h : List Event) → Stands (state_of self.old) runs h → Stands (state_of self.new) runs (fold (after_follow worker) h items.now)) }
+        ensures stands { OnOk result ((worker : ℕ) → GoesOn self.old self.new (λ h. fold (after_follow worker) h items.now)) }
         ensures numbers { length self.new.pending.items ≡ length self.old.pending.items }
         ensures delays { self.new.delays ≡ self.old.delays }
         ensures calls { OnOk result (calls (state_of self.new) ≡ calls (state_of self.old) + length items.now) }
@@ -181,7 +181,7 @@ impl Queue {
     /// Takes, and begins the number that waits longest.
     fn begin(&mut self) -> Option<u32>
         requires room { calls (state_of self.old) < 2 ^ 63 }
-        ensures answer { (h : List Event) → Stands (state_of self.old) [] h → result ≡ next h }
+        ensures answer { AlwaysIdle self.old (λ h. result ≡ next h) }
         ensures stands { (h : List Event) → Stands (state_of self.old) [] h → Begins (state_of self.new) (h ++ take_events h) result }
         ensures numbers { length self.new.pending.items ≡ length self.old.pending.items }
         ensures delays { self.new.delays ≡ self.old.delays }
@@ -199,7 +199,7 @@ impl Queue {
         requires follows { AllFit (length self.old.pending.items) follows.now.lists.items }
         requires room { calls (state_of self.old) < 2 ^ 62 }
         ensures answer { IfOk result (λ number. (h : List Event) → Stands (state_of self.old) [] h → number ≡ next h) }
-        ensures stands { OnOk result ((worker : ℕ) (h : List Event) → Stands (state_of self.old) [] h → Stands (state_of self.new) [] (after_execution worker follows.now.lists.items h)) }
+        ensures stands { OnOk result ((worker : ℕ) → GoesOnIdle self.old self.new (λ h. after_execution worker follows.now.lists.items h)) }
         ensures numbers { length self.new.pending.items ≡ length self.old.pending.items }
         ensures delays { self.new.delays ≡ self.old.delays }
         ensures calls { OnOk result (calls (state_of self.new) ≤ calls (state_of self.old) + 4) }
@@ -221,8 +221,8 @@ impl Queue {
     ) -> Result<Vec<u32>, AllocError>
         requires follows { AllFit (length self.old.pending.items) follows.now.lists.items }
         requires room { calls (state_of self.old) < 2 ^ 61 }
-        ensures answer { IfOk result (λ ran. (worker : ℕ) (h : List Event) → Stands (state_of self.old) [] h → ran.items ≡ ended_since h (after_executions worker follows.now.lists.items (ends_at last) limit h)) }
-        ensures stands { OnOk result ((worker : ℕ) (h : List Event) → Stands (state_of self.old) [] h → Stands (state_of self.new) [] (after_executions worker follows.now.lists.items (ends_at last) limit h)) }
+        ensures answer { IfOk result (λ ran. (worker : ℕ) → AlwaysIdle self.old (λ h. ran.items ≡ ended_since h (after_executions worker follows.now.lists.items (ends_at last) limit h))) }
+        ensures stands { OnOk result ((worker : ℕ) → GoesOnIdle self.old self.new (λ h. after_executions worker follows.now.lists.items (ends_at last) limit h)) }
         ensures numbers { length self.new.pending.items ≡ length self.old.pending.items }
         ensures delays { self.new.delays ≡ self.old.delays }
         ensures calls { OnOk result (calls (state_of self.new) ≤ calls (state_of self.old) + 4 * limit) }
@@ -243,14 +243,14 @@ impl Queue {
     /// The PENDING bit of a number.
     pub fn is_pending(&self, number: u32) -> bool
         requires { number < length self.now.pending.items }
-        ensures { (runs : List ℕ) (h : List Event) → Stands (state_of self.now) runs h → result ≡ pending h number }
+        ensures { Always self.now (λ h. result ≡ pending h number) }
     {
         self.pending[number as usize]
     }
 
     /// The queue is closed.
     pub fn is_closed(&self) -> bool
-        ensures { (runs : List ℕ) (h : List Event) → Stands (state_of self.now) runs h → result ≡ closed h }
+        ensures { Always self.now (λ h. result ≡ closed h) }
     {
         self.is_closed
     }
@@ -267,9 +267,9 @@ impl Queue {
         requires number { item < length self.old.pending.items }
         requires room { calls (state_of self.old) < 2 ^ 63 }
         requires armings { self.old.delays.armings < 2 ^ 63 }
-        ensures answer { IfOk result (λ a. (h : List Event) → Stands (state_of self.old) [] h → a ≡ arm_answer item delay h (table_of self.old.delays)) }
-        ensures stands { OnOk result ((sender : ℕ) (h : List Event) → Stands (state_of self.old) [] h → Stands (state_of self.new) [] (h ++ arm_events sender item delay h (table_of self.old.delays))) }
-        ensures table { OnOk result ((h : List Event) → Stands (state_of self.old) [] h → table_of self.new.delays ≡ arm_table item delay h (table_of self.old.delays)) }
+        ensures answer { IfOk result (λ a. AlwaysIdle self.old (λ h. a ≡ arm_answer item delay h (table_of self.old.delays))) }
+        ensures stands { OnOk result ((sender : ℕ) → GoesOnIdle self.old self.new (λ h. h ++ arm_events sender item delay h (table_of self.old.delays))) }
+        ensures table { OnOk result (AlwaysIdle self.old (λ h. table_of self.new.delays ≡ arm_table item delay h (table_of self.old.delays))) }
         ensures numbers { length self.new.pending.items ≡ length self.old.pending.items }
         ensures calls { OnOk result (calls (state_of self.new) ≤ calls (state_of self.old) + 1) }
         ensures armings { OnOk result (self.new.delays.armings ≤ self.old.delays.armings + 1) }
@@ -293,7 +293,7 @@ impl Queue {
     pub fn cancel(&mut self, item: u32) -> bool
         requires { item < length self.old.pending.items }
         ensures answer { result ≡ is_on item (table_of self.old.delays) }
-        ensures stands { (sender : ℕ) (h : List Event) → Stands (state_of self.old) [] h → Stands (state_of self.new) [] (h ++ cancel_events sender item (table_of self.old.delays)) }
+        ensures stands { (sender : ℕ) → GoesOnIdle self.old self.new (λ h. h ++ cancel_events sender item (table_of self.old.delays)) }
         ensures table { table_of self.new.delays ≡ without item (table_of self.old.delays) }
         ensures numbers { length self.new.pending.items ≡ length self.old.pending.items }
         ensures calls { calls (state_of self.new) ≤ calls (state_of self.old) }
@@ -311,7 +311,7 @@ impl Queue {
         requires place { place < length self.old.delays.entries.items }
         requires room { calls (state_of self.old) < 2 ^ 63 }
         ensures item { IfOk result (λ item. (d : Entry) → item ≡ (slice_index_or self.old.delays.entries.items place d).item) }
-        ensures stands { IfOk result (λ item. (sender : ℕ) (h : List Event) → Stands (state_of self.old) [] h → Stands (state_of self.new) [] (h ++ post_event sender h item ∷ [])) }
+        ensures stands { IfOk result (λ item. (sender : ℕ) → GoesOnIdle self.old self.new (λ h. h ++ post_event sender h item ∷ [])) }
         ensures table { OnOk result (table_of self.new.delays ≡ record (table_of self.old.delays) { entries = remove self.old.delays.entries.items place }) }
         ensures numbers { length self.new.pending.items ≡ length self.old.pending.items }
         ensures calls { OnOk result (calls (state_of self.new) ≡ calls (state_of self.old)) }
@@ -334,9 +334,9 @@ impl Queue {
         requires number { item < length self.old.pending.items }
         requires room { calls (state_of self.old) < 2 ^ 63 }
         requires armings { self.old.delays.armings < 2 ^ 63 }
-        ensures answer { IfOk result (λ a. (h : List Event) → Stands (state_of self.old) [] h → a ≡ modify_answer item delay h (table_of self.old.delays)) }
-        ensures stands { OnOk result ((sender : ℕ) (h : List Event) → Stands (state_of self.old) [] h → Stands (state_of self.new) [] (h ++ modify_events sender item delay h (table_of self.old.delays))) }
-        ensures table { OnOk result ((h : List Event) → Stands (state_of self.old) [] h → table_of self.new.delays ≡ modify_table item delay h (table_of self.old.delays)) }
+        ensures answer { IfOk result (λ a. AlwaysIdle self.old (λ h. a ≡ modify_answer item delay h (table_of self.old.delays))) }
+        ensures stands { OnOk result ((sender : ℕ) → GoesOnIdle self.old self.new (λ h. h ++ modify_events sender item delay h (table_of self.old.delays))) }
+        ensures table { OnOk result (AlwaysIdle self.old (λ h. table_of self.new.delays ≡ modify_table item delay h (table_of self.old.delays))) }
         ensures numbers { length self.new.pending.items ≡ length self.old.pending.items }
         ensures calls { OnOk result (calls (state_of self.new) ≤ calls (state_of self.old) + 1) }
         ensures armings { OnOk result (self.new.delays.armings ≤ self.old.delays.armings + 1) }
@@ -363,7 +363,7 @@ impl Queue {
     pub fn advance(&mut self, alloc: Global, tick: u64) -> Result<Vec<u32>, AllocError>
         requires { calls (state_of self.old) < 2 ^ 63 }
         ensures answer { IfOk result (λ posted. posted.items ≡ due_items tick (table_of self.old.delays)) }
-        ensures stands { OnOk result ((sender : ℕ) (h : List Event) → Stands (state_of self.old) [] h → Stands (state_of self.new) [] (h ++ advance_events sender tick h (table_of self.old.delays))) }
+        ensures stands { OnOk result ((sender : ℕ) → GoesOnIdle self.old self.new (λ h. h ++ advance_events sender tick h (table_of self.old.delays))) }
         ensures table { OnOk result (table_of self.new.delays ≡ at_tick tick (table_of self.old.delays)) }
         ensures numbers { length self.new.pending.items ≡ length self.old.pending.items }
         ensures calls { OnOk result (calls (state_of self.new) ≡ calls (state_of self.old)) }
@@ -379,7 +379,7 @@ impl Queue {
     /// The counts of all events so far.
     pub fn counts(&self) -> Counts
         requires room { calls (state_of self.now) < 2 ^ 63 }
-        ensures { (h : List Event) → Stands (state_of self.now) [] h → result ≡ counts_of (length self.now.delays.entries.items) h }
+        ensures { AlwaysIdle self.now (λ h. result ≡ counts_of (length self.now.delays.entries.items) h) }
     {
         let waiting = self.waiting.len() as u64;
         Counts {

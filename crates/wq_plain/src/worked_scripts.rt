@@ -2,10 +2,11 @@
 ghost use Rattle.std.specs.Prelude.{true, ◌≡◌, All};
 ghost use Rattle.wq_text.specs.Fits.{Fits};
 
-use crate::{Command, Follow, Script, run};
+use crate::run;
 use std::alloc::Global;
 use std::process::Abort;
 use std::test::Fail;
+use wq_text::{Command, Follow, Script};
 use wq_words::Layout;
 
 /// Whether the queue has all that the commands name.

@@ -1,5 +1,5 @@
 -- What the calls of a delay table answer, on the running words and in a script.
-use Rattle.std.specs.Prelude.{◌≡◌, ℕ, ◌+◌, ◌<◌, ◌≤◌, List, ◌++◌}
+use Rattle.std.specs.Prelude.{◌≡◌, ℕ, ◌+◌, ◌<◌, ◌≤◌, Bool, List, ◌++◌}
 use Rattle.wq_words.specs.declared.layout.Layout.{Layout}
 use Rattle.wq_words.specs.declared.event.Event.{Event}
 use Rattle.wq_delay.specs.declared.answer.Armed as delay_armed
@@ -11,8 +11,8 @@ use Rattle.wq_plain.specs.declared.answer.Armed.{Armed}
 use Rattle.wq_plain.specs.declared.answer.Armed.TheVariants as arming
 use Rattle.wq_plain.specs.declared.answer.Modified.{Modified}
 use Rattle.wq_plain.specs.declared.answer.Modified.TheVariants as modified
-use Rattle.wq_plain.specs.Table.{Table, due_items, at_tick}
-use Rattle.wq_plain.specs.Arming.{advance_events}
+use Rattle.wq_plain.specs.Table.{Table, due_items, is_on, without, at_tick}
+use Rattle.wq_plain.specs.Arming.{arm_events, arm_table, arm_answer, cancel_events, modify_events, modify_table, modify_answer, advance_events}
 use Rattle.wq_script.specs.declared.seats.Seats.{Seats}
 use Rattle.wq_script.specs.Seats.{IsSameWork, Seated}
 use Rattle.wq_script.specs.Tables.{table_of}
@@ -39,6 +39,24 @@ pub record Leads (layout : Layout) (h : List Event) (now : Table) (s t : Seats) 
   pub seated : Seated layout t h
   pub table : table_of t.delay ≡ now
   pub work : IsSameWork s.worker t.worker
+
+-- an arming is that of a script, unless memory was wanting
+abbrev pub ArmsAs : ℕ → ℕ → delay_armed.Armed → Seats → Seats → Type 0
+ArmsAs item delay a s t =
+    (layout : Layout) (h : List Event) → Seated layout s h → 0 < layout.senders → ¬ (a ≡ live.Memory) → TellsArmed a (arm_answer item delay h (table_of s.delay))
+    × Leads layout (h ++ arm_events (layout.senders + 1) item delay h (table_of s.delay)) (arm_table item delay h (table_of s.delay)) s t
+
+-- a cancelling is that of a script
+abbrev pub CancelsAs : ℕ → Bool → Seats → Seats → Type 0
+CancelsAs item was_on_table s t =
+    (layout : Layout) (h : List Event) → Seated layout s h → 0 < layout.senders → (was_on_table ≡ is_on item (table_of s.delay))
+    × Leads layout (h ++ cancel_events (layout.senders + 1) item (table_of s.delay)) (without item (table_of s.delay)) s t
+
+-- a modification is that of a script, unless memory was wanting
+abbrev pub ModifiesAs : ℕ → ℕ → delay_modified.Modified → Seats → Seats → Type 0
+ModifiesAs item delay a s t =
+    (layout : Layout) (h : List Event) → Seated layout s h → 0 < layout.senders → ¬ (a ≡ moved.Memory) → TellsModified a (modify_answer item delay h (table_of s.delay))
+    × Leads layout (h ++ modify_events (layout.senders + 1) item delay h (table_of s.delay)) (modify_table item delay h (table_of s.delay)) s t
 
 -- the tick is before the present one, and nothing happened
 abbrev pub IsBack : ℕ → Seats → Seats → Type 0

@@ -28,6 +28,10 @@ pub record Asks (layout : Layout) (sender k : ℕ) (a : Answer) (h : List Event)
   pub work : IsSameWork s.worker t.worker
   pub table : IsSameTable s.delay t.delay
 
+-- the same, of the number that it is in a queue of any size, and of every history that the seats have seen
+abbrev pub AsksFor : ℕ → (Layout → ℕ) → Answer → Seats → Seats → Type 0
+AsksFor sender number a s t = (layout : Layout) (h : List Event) → Seated layout s h → Asks layout sender (number layout) a h s t
+
 -- this is the history now, and the work and the table are as they were
 pub record Goes (layout : Layout) (h : List Event) (s t : Seats) : Type 0 where
   pub seated : Seated layout t h

@@ -7,14 +7,9 @@ ghost use Rattle.wq_words.specs.Numbers.{stop_number};
 ghost use Rattle.wq_plain.specs.Commands.{barrier_number};
 ghost use Rattle.wq_live.specs.Known.{Known};
 ghost use Rattle.wq_script.specs.Seats.{Stays, AllHear, IsSameTable, AreOne, Gathers, Seated, IsSeated};
-ghost use Rattle.wq_script.specs.Asking.{Asks, Goes, Looks, HasLists, Ran};
+ghost use Rattle.wq_script.specs.Asking.{AsksFor, Goes, Looks, HasLists, Ran};
 ghost use Rattle.wq_plain.specs.Execution.{ends_at};
-ghost use Rattle.wq_delay.specs.declared.answer.Armed.TheVariants as armed;
-ghost use Rattle.wq_delay.specs.declared.answer.Modified.TheVariants as modified;
-ghost use Rattle.wq_plain.specs.Table.{is_on, without};
-ghost use Rattle.wq_plain.specs.Arming.{arm_events, arm_table, arm_answer, cancel_events, modify_events, modify_table, modify_answer};
-ghost use Rattle.wq_script.specs.Arming.{TellsArmed, TellsModified, Leads, IsBack, IsPosted};
-ghost use Rattle.wq_script.specs.Tables.{table_of};
+ghost use Rattle.wq_script.specs.Arming.{ArmsAs, CancelsAs, ModifiesAs, IsBack, IsPosted};
 ghost use Rattle.wq_words.specs.History.{pending, closed, IsRunning};
 ghost use Rattle.wq_plain.specs.Queueing.{close_events, close_answer};
 
@@ -104,7 +99,7 @@ impl Seats {
         requires seated { IsSeated self.old }
         requires place { sender < length self.old.senders.items }
         requires item { item < self.old.delay.sender.layout.items }
-        ensures { (layout : Layout) (h : List Event) → Seated layout self.old h → Asks layout sender item result h self.old self.new }
+        ensures { AsksFor sender (λ _. item) result self.old self.new }
     {
         let place = sender as usize;
         let answer = self.senders[place].queue_tries(item, 1);
@@ -117,7 +112,7 @@ impl Seats {
         requires seated { IsSeated self.old }
         requires place { sender < length self.old.senders.items }
         requires barrier { barrier < self.old.delay.sender.layout.barriers }
-        ensures { (layout : Layout) (h : List Event) → Seated layout self.old h → Asks layout sender (barrier_number layout barrier) result h self.old self.new }
+        ensures { AsksFor sender (λ layout. barrier_number layout barrier) result self.old self.new }
     {
         let place = sender as usize;
         let answer = self.senders[place].flush_begin(barrier, 1);
@@ -129,7 +124,7 @@ impl Seats {
     pub fn stop(&mut self, sender: u32) -> Answer
         requires seated { IsSeated self.old }
         requires place { sender < length self.old.senders.items }
-        ensures { (layout : Layout) (h : List Event) → Seated layout self.old h → Asks layout sender (stop_number layout) result h self.old self.new }
+        ensures { AsksFor sender stop_number result self.old self.new }
     {
         let place = sender as usize;
         let answer = self.senders[place].request_stop(1);
@@ -205,7 +200,7 @@ impl Seats {
         requires seated { IsSeated self.old }
         requires some { 0 < length self.old.senders.items }
         requires item { item < self.old.delay.sender.layout.items }
-        ensures { (layout : Layout) (h : List Event) → Seated layout self.old h → 0 < layout.senders → ¬ (result ≡ armed.Memory) → TellsArmed result (arm_answer item delay h (table_of self.old.delay)) × Leads layout (h ++ arm_events (layout.senders + 1) item delay h (table_of self.old.delay)) (arm_table item delay h (table_of self.old.delay)) self.old self.new }
+        ensures { ArmsAs item delay result self.old self.new }
     {
         // This call says what holds of every delay table.
         let _ = self.delay.layout();
@@ -219,7 +214,7 @@ impl Seats {
         requires seated { IsSeated self.old }
         requires some { 0 < length self.old.senders.items }
         requires item { item < self.old.delay.sender.layout.items }
-        ensures { (layout : Layout) (h : List Event) → Seated layout self.old h → 0 < layout.senders → (result ≡ is_on item (table_of self.old.delay)) × Leads layout (h ++ cancel_events (layout.senders + 1) item (table_of self.old.delay)) (without item (table_of self.old.delay)) self.old self.new }
+        ensures { CancelsAs item result self.old self.new }
     {
         // This call says what holds of every delay table.
         let _ = self.delay.layout();
@@ -233,7 +228,7 @@ impl Seats {
         requires seated { IsSeated self.old }
         requires some { 0 < length self.old.senders.items }
         requires item { item < self.old.delay.sender.layout.items }
-        ensures { (layout : Layout) (h : List Event) → Seated layout self.old h → 0 < layout.senders → ¬ (result ≡ modified.Memory) → TellsModified result (modify_answer item delay h (table_of self.old.delay)) × Leads layout (h ++ modify_events (layout.senders + 1) item delay h (table_of self.old.delay)) (modify_table item delay h (table_of self.old.delay)) self.old self.new }
+        ensures { ModifiesAs item delay result self.old self.new }
     {
         // This call says what holds of every delay table.
         let _ = self.delay.layout();
