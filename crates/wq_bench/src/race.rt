@@ -68,10 +68,12 @@ fn execute(owner: &mut Owner, total: u64) -> u64 {
     ended
 }
 
-fn close(owner: &mut Owner) {
+/// Closes the queue and executes what is left of it, so that no sender waits for an item that would be pending for ever.
+fn finish(owner: &mut Owner) {
     if !owner.is_closed() {
         owner.close();
     }
+    execute_batch(owner, u64::MAX);
 }
 
 /// Starts a thread for each sender. Where one cannot be started, fewer stand in the answer.
@@ -95,7 +97,7 @@ fn start<R: Threads>(
     threads
 }
 
-/// Executes so many items while the senders queue, and then closes the queue, which ends them.
+/// Executes so many items while the senders queue, and then closes the queue and executes the rest, which ends them.
 pub fn run<R: Threads>(
     rt: &R,
     alloc: Global,
@@ -111,7 +113,7 @@ pub fn run<R: Threads>(
     } else {
         0
     };
-    close(&mut owner);
+    finish(&mut owner);
     for thread in threads {
         thread.join(rt);
     }
