@@ -13,3 +13,4 @@ pub mod Made
 pub mod Tallies
 pub mod Meetings
 pub mod Reports
+pub mod Histories

@@ -5,3 +5,4 @@ pub mod Tables
 pub mod Arming
 pub mod Counting
 pub mod Engine
+pub mod Output

@@ -1,4 +1,4 @@
-use Rattle.std.proofs.Common.{◌≡◌, arith, ◌∙◌, ap, sym, ◌++◌, ◌∷◌, ◌+◌, ◌^◌, ◌<◌, ◌≤◌, drop, List, length, get_or, string_bytes, subst}
+use Rattle.std.proofs.Common.{◌≡◌, arith, ◌∙◌, ap, sym, ◌++◌, ◌∷◌, ◌+◌, ◌^◌, ◌<◌, ◌≤◌, drop, fold, List, length, get_or, string_bytes, subst, refl}
 use Rattle.std.proofs.Math.ListN.{drop_of_length-le}
 use Rattle.wq_words.specs.declared.layout.Layout.{Layout}
 use Rattle.wq_text.specs.declared.command.Command.{Command}
@@ -6,6 +6,7 @@ use Rattle.wq_text.specs.Fits.{Fits}
 use Rattle.wq_plain.specs.Commands.{opening, after, lines, output_from}
 use Rattle.wq_plain.proofs.Outputs.{left_at, output_more, output_done}
 use Rattle.wq_script.specs.Engine.{Meets, size}
+use Rattle.wq_script.proofs.Histories.{final_legal}
 use Rattle.wq_script.proofs.output.output_text.Goals as goal
 
 pub loop-command-init : goal.loop-command-init
@@ -18,6 +19,7 @@ loop-command-init c =
         subst P c.layout.ensures c.in_ok-engine.ensures.meets,
         omega arith,
         ap (λ x. x ++ output_from c.args.script.now.layout (opening c.args.script.now.layout) c.args.script.now.commands.items) c.new-out.ensures.bytes,
+        refl,
       );
     }
 
@@ -57,8 +59,13 @@ loop-command-preserved c =
         subst P c.loop-command.invariant.layout (does.meets told.0 told.1),
         omega (arith, room, told.2),
         output_more c.args.script.now.layout told.0 commands c.loop-command.command-index c.command-item.result _ _ _ left (subst Q c.loop-command.invariant.layout (does.lines told.0 told.1 few)) told.3,
+        ap (λ cs. fold (after c.args.script.now.layout) told.0 cs) (sym left) ∙ told.4,
       );
     }
 
-pub returns : goal.returns
-returns c = output_done c.args.script.now.layout c.loop-command.invariant.told.0 _ _ _ (drop_of_length-le c.args.script.now.commands.items (omega (arith, ap length c.commands-command-items.ensures))) c.loop-command.invariant.told.3
+pub returns-clause-output : goal.returns-clause-output
+returns-clause-output c = output_done c.args.script.now.layout c.loop-command.invariant.told.0 _ _ _ (drop_of_length-le c.args.script.now.commands.items (omega (arith, ap length c.commands-command-items.ensures))) c.loop-command.invariant.told.3
+
+pub returns-clause-legal : goal.returns-clause-legal
+returns-clause-legal c = final_legal c.loop-command.engine c.args.script.now.layout c.loop-command.invariant.told.0 c.args.script.now.commands.items _ c.loop-command.invariant.layout
+    c.loop-command.invariant.told.1 (drop_of_length-le c.args.script.now.commands.items (omega (arith, ap length c.commands-command-items.ensures))) c.loop-command.invariant.told.4
