@@ -17,7 +17,7 @@ use Rattle.wq_worker.specs.declared.balance.Unbalanced.{Unbalanced}
 use Rattle.wq_worker.specs.declared.balance.Unbalanced.TheVariants.{Missing, Twice, Saturated}
 use Rattle.wq_worker.specs.Book.{BookState, IsMade}
 use Rattle.wq_worker.specs.Balance.{largest, AreWhole, AreOwnerWhole, ledgers_of, HasOne, IsFault, IsUnbalanced, of_sender, of_worker}
-use Rattle.wq_race.specs.Race.{ledger_of}
+use Rattle.wq_race.specs.Outcome.{ledger_of}
 use Rattle.wq_race.proofs.Whole.{queued_own}
 
 pending_own : (s : ℕ) (e : Event) → eqb (seat_of e) s ≡ false → is_pending_by s e ≡ false

@@ -9,7 +9,7 @@ use Rattle.wq_live.specs.Counts.{sender_counts}
 use Rattle.wq_live.proofs.Counting.{counts_none}
 use Rattle.wq_worker.specs.declared.book.Ledger.{Ledger}
 use Rattle.wq_worker.specs.Book.{BookState}
-use Rattle.wq_race.specs.Race.{HasHeard, ledger_of}
+use Rattle.wq_race.specs.Outcome.{HasHeard, ledger_of}
 use Rattle.wq_race.proofs.Meeting.{grows_same, prefix_on}
 
 pub heard_still : (b : BookState) → HasHeard b b

@@ -12,7 +12,7 @@ use Rattle.wq_live.specs.Known.{Known, Sees}
 use Rattle.wq_worker.specs.Seats.{is_ours}
 use Rattle.wq_worker.specs.State.{WorkerState, Moves}
 use Rattle.wq_race.specs.declared.idle.Idle.{Idle}
-use Rattle.wq_race.specs.Race.{HasMet, IsKnown}
+use Rattle.wq_race.specs.Outcome.{HasMet, IsKnown}
 
 pub prefix_on : (xs ys zs : List Event) → IsPrefix xs ys → IsPrefix ys zs → IsPrefix xs zs
 prefix_on xs ys zs a b = (a.0 ++ b.0, sym (append_assoc xs a.0 b.0) ∙ (ap (λ (x : List Event). x ++ b.0) a.1 ∙ b.1))

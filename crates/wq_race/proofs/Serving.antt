@@ -24,7 +24,8 @@ use Rattle.wq_worker.proofs.Running.{runs_some}
 use Rattle.wq_worker.proofs.State.{quiet_taking}
 use Rattle.wq_race.specs.declared.idle.Idle.{Idle}
 use Rattle.wq_worker.specs.Book.{BookState, Destroys, Leaves}
-use Rattle.wq_race.specs.Race.{HasServed, HasGoneOn, HasEnded}
+use Rattle.wq_race.specs.Race.{HasServed}
+use Rattle.wq_race.specs.Outcome.{HasGoneOn, HasEnded}
 
 -- the sender s made none of these events, the owner chained nothing by them, and closed so often
 pub record Still (s n : ℕ) (xs : List Event) : Type 0 where

@@ -1,17 +1,21 @@
--- The line that tells the outcome of a race, and what its numbers mean.
-use Rattle.std.specs.Prelude.{◌≡◌, ℕ, ◌*◌, ◌<◌, Bool, true, false, List, [], ◌∷◌, ◌++◌, length, codes}
+-- The line that tells the outcome of a race, what its numbers mean, and how it was found.
+use Rattle.std.specs.Prelude.{◌≡◌, ℕ, ◌*◌, ◌^◌, ◌<◌, Bool, true, false, List, [], ◌∷◌, ◌++◌, length, codes, count_by, All, slice_index_or}
 use Rattle.std.specs.Fmt.{decimal}
 use mathlib.Core.List.{IsPrefix}
 use Rattle.wq_words.specs.declared.event.Event.{Event}
 use Rattle.wq_words.specs.declared.event.Event.TheVariants.{Hold, Push}
-use Rattle.wq_words.specs.History.{accepted, ended}
+use Rattle.wq_words.specs.History.{accepted, ended, IsRunning}
 use Rattle.wq_words.specs.Legal.{IsLegal, IsComplete}
-use Rattle.wq_table.specs.Seen.{own}
+use Rattle.wq_table.specs.Seen.{own, owner_seat}
 use Rattle.wq_worker.specs.State.{WorkerState, items_of}
 use Rattle.wq_race.specs.declared.idle.Idle.{Idle}
 use Rattle.wq_race.specs.declared.plan.Plan.{Plan}
 use Rattle.wq_race.specs.declared.outcome.Outcome.{Outcome}
 use Rattle.wq_race.specs.Race.{items_at}
+use Rattle.wq_live.specs.Known.{Known, IsSame}
+use Rattle.wq_live.specs.Counts.{is_chain, is_chain_busy, sender_counts}
+use Rattle.wq_worker.specs.declared.book.Ledger.{Ledger}
+use Rattle.wq_worker.specs.Book.{BookState}
 
 abbrev pub yes_or_no : Bool → List ℕ
 yes_or_no true = codes "yes"
@@ -43,3 +47,70 @@ pub record IsWhole (plan : Plan) (outcome : Outcome) : Type 0 where
   pub accepted_is : outcome.accepted ≡ plan.senders * plan.own
   pub ran_is : outcome.ran ≡ plan.senders * plan.own
   pub balanced : outcome.is_balanced ≡ true
+
+-- the same worker, which may have seen more
+pub record HasMet (old new : WorkerState Idle) : Type 0 where
+  pub queue_is : new.queue ≡ old.queue
+  pub layout_is : new.layout ≡ old.layout
+  pub number_is : new.number ≡ old.number
+  pub begins : IsPrefix old.seen new.seen
+  pub unsent : own old.number new.seen ≡ own old.number old.seen
+  pub idle : own owner_seat new.seen ≡ own owner_seat old.seen
+  pub legal : IsLegal new.layout new.seen
+
+-- the same sender, which made no event, and has seen no more than this
+pub record IsKnown (seen : List Event) (old new : Known) : Type 0 where
+  pub same : IsSame old new
+  pub mine : own old.number new.seen ≡ own old.number old.seen
+  pub known : IsPrefix new.seen seen
+  pub legal : IsLegal new.layout new.seen
+
+pub record AllKnown (seen : List Event) (olds news : List Known) : Type 0 where
+  pub count : length news ≡ length olds
+  pub each : (i : ℕ) (d : Known) → i < length olds → IsKnown seen (slice_index_or olds i d) (slice_index_or news i d)
+
+-- The same worker went on: its sender made no event, its owner chained nothing, and nothing runs.
+pub record HasGoneOn (old new : WorkerState Idle) : Type 0 where
+  pub queue_is : new.queue ≡ old.queue
+  pub layout_is : new.layout ≡ old.layout
+  pub number_is : new.number ≡ old.number
+  pub begins : IsPrefix old.seen new.seen
+  pub unsent : own old.number new.seen ≡ own old.number old.seen
+  pub unchained : count_by is_chain new.seen ≡ count_by is_chain old.seen
+  pub unasked : count_by is_chain_busy new.seen ≡ count_by is_chain_busy old.seen
+  pub idle : ¬ IsRunning new.seen
+  pub legal : IsLegal new.layout new.seen
+
+-- Such a worker, whose queue is destroyed: all that was accepted has ended, and the work ran the items among it.
+pub record HasEnded (old : WorkerState Idle) (work : Idle) (book : BookState) : Type 0 where
+  pub queue_is : book.queue ≡ old.queue
+  pub layout_is : book.layout ≡ old.layout
+  pub number_is : book.own.number ≡ old.number
+  pub begins : IsPrefix old.seen book.seen
+  pub unsent : own old.number book.seen ≡ own old.number old.seen
+  pub unchained : count_by is_chain book.seen ≡ count_by is_chain old.seen
+  pub unasked : count_by is_chain_busy book.seen ≡ count_by is_chain_busy old.seen
+  pub legal : IsLegal book.layout book.seen
+  pub complete : IsComplete book.seen
+  pub ran_is : work.ran.items ≡ items_of book.layout (accepted book.seen)
+
+-- the ledger of a sender that makes no event more
+abbrev pub ledger_of : Known → Ledger
+ledger_of s = record { number = s.number; counts = sender_counts s.number s.seen }
+
+-- what came after the history is known not to be of the sender
+abbrev pub IsTold : List Event → Known → Type 0
+IsTold h s = (later : List Event) × IsPrefix h later × (own s.number later ≡ own s.number s.seen)
+
+-- the book of the same queue, of which the owner made no event
+pub record HasHeard (old new : BookState) : Type 0 where
+  pub queue_is : new.queue ≡ old.queue
+  pub layout_is : new.layout ≡ old.layout
+  pub own_is : new.own ≡ old.own
+  pub begins : IsPrefix old.seen new.seen
+  pub idle : own owner_seat new.seen ≡ own owner_seat old.seen
+
+-- what the senders have queued in all, where each has queued as many
+abbrev pub IsQueuedSum : List Known → ℕ → Type 0
+IsQueuedSum senders sum =
+    (own : ℕ) → All (λ s. (sender_counts s.number s.seen).queued ≡ own) senders → length senders * own < 2 ^ 128 → sum ≡ length senders * own

@@ -1,23 +1,23 @@
 -- What the seats of a race have done.
 use Rattle.std.specs.Prelude.{◌≡◌, ℕ, ◌+◌, ◌*◌, ◌^◌, ◌<◌, ◌≤◌, false, List, [], length, count_by, slice_index_or}
 use Rattle.std.specs.List.{AllByRecursion, range_with_len}
-use mathlib.Core.List.{IsPrefix}
+use Rattle.std.specs.declared.thread.PromisedHandle.{PromisedHandle}
 use Rattle.wq_words.specs.declared.layout.Layout.{Layout}
 use Rattle.wq_words.specs.declared.event.Event.{Event}
 use Rattle.wq_words.specs.declared.event.Event.TheVariants.{Hold, Busy, Push, Back}
 use Rattle.wq_words.specs.Numbers.{stop_number}
-use Rattle.wq_words.specs.History.{IsRunning, is_close, accepted}
-use Rattle.wq_words.specs.Legal.{IsLegal, IsComplete}
-use Rattle.wq_table.specs.Seen.{owner_seat, own, Grows}
+use Rattle.wq_words.specs.History.{IsRunning, is_close}
+use Rattle.wq_words.specs.Legal.{IsLegal}
+use Rattle.wq_table.specs.Seen.{own, Grows}
+use Rattle.wq_live.specs.declared.sender.Sender.{Sender}
 use Rattle.wq_live.specs.Known.{Known, IsSame}
-use Rattle.wq_live.specs.Counts.{is_chain, is_chain_busy, sender_counts}
-use Rattle.wq_worker.specs.declared.book.Ledger.{Ledger}
-use Rattle.wq_worker.specs.Book.{BookState}
+use Rattle.wq_live.specs.Counts.{is_chain, is_chain_busy}
 use Rattle.wq_worker.specs.Follow.{Follows}
-use Rattle.wq_worker.specs.State.{WorkerState, items_of}
+use Rattle.wq_worker.specs.State.{WorkerState}
 use Rattle.wq_race.specs.declared.idle.Idle.{Idle}
 use Rattle.wq_race.specs.declared.plan.Plan.{Plan}
 use Rattle.wq_race.specs.declared.team.Team.{Team}
+use Rattle.wq_race.specs.declared.race.QueuesOwn.{QueuesOwn}
 use Rattle.wq_race.specs.Plan.{IsLayoutOf}
 
 -- the items of the sender s, where each has so many
@@ -60,31 +60,15 @@ pub record HasServed (old new : WorkerState Idle) : Type 0 where
   pub idle : ¬ IsRunning new.seen
   pub legal : IsLegal new.layout new.seen
 
--- each of them queued its own items
+-- each of these threads was given the sender at its place, and how many items are its own
+abbrev pub AreThreads : ℕ → List Known → List (PromisedHandle Sender QueuesOwn) → Type 0
+AreThreads own senders threads = (i : ℕ) (d : PromisedHandle Sender QueuesOwn) (e : Known) → i < length threads →
+    ((slice_index_or threads i d).promise.0.value ≡ slice_index_or senders i e) × ((slice_index_or threads i d).promise.1 ≡ own)
+
+-- each of these senders queued its own items
 pub record AllQueued (own : ℕ) (olds news : List Known) : Type 0 where
   pub count : length news ≡ length olds
   pub each : (i : ℕ) (d : Known) → i < length olds → HasQueued (items_at (slice_index_or olds i d).number own) (slice_index_or olds i d) (slice_index_or news i d)
-
--- the same worker, which may have seen more
-pub record HasMet (old new : WorkerState Idle) : Type 0 where
-  pub queue_is : new.queue ≡ old.queue
-  pub layout_is : new.layout ≡ old.layout
-  pub number_is : new.number ≡ old.number
-  pub begins : IsPrefix old.seen new.seen
-  pub unsent : own old.number new.seen ≡ own old.number old.seen
-  pub idle : own owner_seat new.seen ≡ own owner_seat old.seen
-  pub legal : IsLegal new.layout new.seen
-
--- the same sender, which made no event, and has seen no more than this
-pub record IsKnown (seen : List Event) (old new : Known) : Type 0 where
-  pub same : IsSame old new
-  pub mine : own old.number new.seen ≡ own old.number old.seen
-  pub known : IsPrefix new.seen seen
-  pub legal : IsLegal new.layout new.seen
-
-pub record AllKnown (seen : List Event) (olds news : List Known) : Type 0 where
-  pub count : length news ≡ length olds
-  pub each : (i : ℕ) (d : Known) → i < length olds → IsKnown seen (slice_index_or olds i d) (slice_index_or news i d)
 
 -- The sender of this number, of the queue of the worker: its events are the queueings of its own items.
 pub record IsQueuer (own_items : ℕ) (worker : WorkerState Idle) (i : ℕ) (s : Known) : Type 0 where
@@ -110,44 +94,3 @@ pub record HasRun (plan : Plan) (team : Team) : Type 0 where
   pub program_queue : team.program.queue ≡ team.worker.queue
   pub stops : AllByRecursion (IsOfStop team.worker.layout) (own (plan.senders + 1) team.program.seen)
   pub few_stops : length (own (plan.senders + 1) team.program.seen) ≤ 2 * 2 ^ 32
-
--- The same worker went on: its sender made no event, its owner chained nothing, and nothing runs.
-pub record HasGoneOn (old new : WorkerState Idle) : Type 0 where
-  pub queue_is : new.queue ≡ old.queue
-  pub layout_is : new.layout ≡ old.layout
-  pub number_is : new.number ≡ old.number
-  pub begins : IsPrefix old.seen new.seen
-  pub unsent : own old.number new.seen ≡ own old.number old.seen
-  pub unchained : count_by is_chain new.seen ≡ count_by is_chain old.seen
-  pub unasked : count_by is_chain_busy new.seen ≡ count_by is_chain_busy old.seen
-  pub idle : ¬ IsRunning new.seen
-  pub legal : IsLegal new.layout new.seen
-
--- Such a worker, whose queue is destroyed: all that was accepted has ended, and the work ran the items among it.
-pub record HasEnded (old : WorkerState Idle) (work : Idle) (book : BookState) : Type 0 where
-  pub queue_is : book.queue ≡ old.queue
-  pub layout_is : book.layout ≡ old.layout
-  pub number_is : book.own.number ≡ old.number
-  pub begins : IsPrefix old.seen book.seen
-  pub unsent : own old.number book.seen ≡ own old.number old.seen
-  pub unchained : count_by is_chain book.seen ≡ count_by is_chain old.seen
-  pub unasked : count_by is_chain_busy book.seen ≡ count_by is_chain_busy old.seen
-  pub legal : IsLegal book.layout book.seen
-  pub complete : IsComplete book.seen
-  pub ran_is : work.ran.items ≡ items_of book.layout (accepted book.seen)
-
--- the ledger of a sender that makes no event more
-abbrev pub ledger_of : Known → Ledger
-ledger_of s = record { number = s.number; counts = sender_counts s.number s.seen }
-
--- what came after the history is known not to be of the sender
-abbrev pub IsTold : List Event → Known → Type 0
-IsTold h s = (later : List Event) × IsPrefix h later × (own s.number later ≡ own s.number s.seen)
-
--- the book of the same queue, of which the owner made no event
-pub record HasHeard (old new : BookState) : Type 0 where
-  pub queue_is : new.queue ≡ old.queue
-  pub layout_is : new.layout ≡ old.layout
-  pub own_is : new.own ≡ old.own
-  pub begins : IsPrefix old.seen new.seen
-  pub idle : own owner_seat new.seen ≡ own owner_seat old.seen

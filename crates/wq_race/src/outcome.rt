@@ -1,13 +1,12 @@
 //! What a race did, and whether its book balances.
-ghost use Rattle.std.specs.Prelude.{◌≡◌, ◌≢◌, ℕ, ◌*◌, ◌^◌, ◌<◌, [], ◌∷◌, ◌++◌, length, map, All, OnOk, IfOk, MatchResult, MatchBool, string_bytes};
+ghost use Rattle.std.specs.Prelude.{◌≡◌, ◌≢◌, ◌<◌, [], ◌∷◌, ◌++◌, map, All, OnOk, IfOk, MatchResult, MatchBool, string_bytes};
 ghost use Rattle.wq_words.specs.History.{IsRunning};
 ghost use Rattle.wq_words.specs.Legal.{IsLegal};
 ghost use Rattle.wq_table.specs.Seen.{owner_seat, own};
-ghost use Rattle.wq_live.specs.Counts.{sender_counts};
 ghost use Rattle.wq_worker.specs.Book.{IsMade};
 ghost use Rattle.wq_worker.specs.Balance.{Balances, IsUnbalanced};
-ghost use Rattle.wq_race.specs.Race.{HasRun, HasMet, AllKnown, HasGoneOn, HasEnded, HasHeard, ledger_of, IsTold};
-ghost use Rattle.wq_race.specs.Outcome.{outcome_line, yes_or_no as said, Tells, IsWhole};
+ghost use Rattle.wq_race.specs.Race.{HasRun};
+ghost use Rattle.wq_race.specs.Outcome.{outcome_line, yes_or_no as said, Tells, IsWhole, HasMet, AllKnown, HasGoneOn, HasEnded, HasHeard, ledger_of, IsTold, IsQueuedSum};
 
 use crate::idle::Idle;
 use crate::plan::Plan;
@@ -100,7 +99,7 @@ fn destroy<R: Wait>(rt: &R, mut worker: Worker<Idle>) -> (Idle, Book)
 
 // How many items these senders queued.
 fn queued_by(senders: &[Sender]) -> u128
-    ensures { (own : ℕ) → All (λ s. (sender_counts s.number s.seen).queued ≡ own) senders.now → length senders.now * own < 2 ^ 128 → result ≡ length senders.now * own }
+    ensures { IsQueuedSum senders.now result }
 {
     let mut queued = 0u128;
     for sender in senders {

@@ -1,8 +1,8 @@
 //! A run of a queue by live threads.
-ghost use Rattle.std.specs.Prelude.{◌≡◌, ◌≢◌, ◌+◌, ◌*◌, ◌^◌, ◌<◌, ◌≤◌, if◌then◌else◌, [], ◌∷◌, ◌++◌, ℕ, length, slice_index_or, IfSome, IfOk, All};
+ghost use Rattle.std.specs.Prelude.{◌≡◌, ◌≢◌, ◌+◌, ◌*◌, ◌^◌, ◌<◌, ◌≤◌, if◌then◌else◌, [], ◌∷◌, ◌++◌, length, IfSome, IfOk, All};
 ghost use Rattle.wq_words.specs.History.{IsRunning, IsClosed};
 ghost use Rattle.wq_table.specs.Seen.{owner_seat};
-ghost use Rattle.wq_race.specs.Race.{items_at, HasQueued, HasStopped, HasServed, AllQueued, HasRun};
+ghost use Rattle.wq_race.specs.Race.{items_at, HasQueued, HasStopped, HasServed, AreThreads, AllQueued, HasRun};
 ghost use Rattle.wq_worker.specs.State.{WorkerState};
 ghost use Rattle.wq_race.specs.Plan.{IsLayoutOf};
 ghost use Rattle.wq_race.specs.Team.{IsNewTeam};
@@ -188,7 +188,7 @@ fn start_senders<'s, E, R: Wait + Sync>(
 ) -> Vec<PromisedHandle<Sender, QueuesOwn>>
     requires { All (λ s. s.number * own + own ≤ s.layout.items) senders.items }
     ensures few { length result.items ≤ length senders.items }
-    ensures given { (i : ℕ) (d : _) (e : _) → i < length result.items → ((slice_index_or result.items i d).promise.0.value ≡ slice_index_or senders.items i e) × ((slice_index_or result.items i d).promise.1 ≡ own) }
+    ensures given { AreThreads own senders.items result.items }
 {
     let mut handles = Vec::new(alloc);
     for sender in senders {

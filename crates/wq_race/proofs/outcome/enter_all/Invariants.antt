@@ -1,7 +1,7 @@
 use Rattle.std.proofs.Common.{◌≡◌, map}
 use Rattle.std.specs.Prelude.{All}
 use Rattle.wq_worker.specs.Book.{IsMade}
-use Rattle.wq_race.specs.Race.{HasHeard, IsTold, ledger_of}
+use Rattle.wq_race.specs.Outcome.{HasHeard, IsTold, ledger_of}
 use Rattle.wq_race.proofs.outcome.enter_all.Given as goal
 
 abbrev pub invariant-loop-sender : goal.invariant-loop-sender

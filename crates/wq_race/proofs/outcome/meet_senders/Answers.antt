@@ -3,7 +3,7 @@ use Rattle.std.proofs.lemmas.List.{get_or-set_other, get_or-set_same, get_or_def
 use Rattle.wq_words.specs.declared.event.Event.{Event}
 use Rattle.wq_live.specs.Known.{Known}
 use Rattle.wq_words.proofs.Growing.{take_length}
-use Rattle.wq_race.specs.Race.{IsKnown, AllKnown}
+use Rattle.wq_race.specs.Outcome.{IsKnown, AllKnown}
 use Rattle.wq_race.proofs.Meeting.{met_still, met_more, known_one, known_more, one_more}
 use Rattle.wq_race.proofs.outcome.meet_senders.Goals as goal
 

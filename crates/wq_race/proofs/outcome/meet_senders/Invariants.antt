@@ -1,6 +1,6 @@
 use Rattle.std.proofs.Common.{◌≡◌, ℕ, ◌<◌, ◌≤◌, get_or}
 use Rattle.wq_live.specs.Known.{Known}
-use Rattle.wq_race.specs.Race.{HasMet, IsKnown}
+use Rattle.wq_race.specs.Outcome.{HasMet, IsKnown}
 use Rattle.wq_race.proofs.outcome.meet_senders.Given as goal
 
 -- the worker knows those before the index, and the others are as they were

@@ -4,10 +4,9 @@ use Rattle.wq_table.proofs.Seen.{running_same}
 use Rattle.wq_live.specs.Known.{Known}
 use Rattle.wq_worker.specs.Book.{BookState, IsMade}
 use Rattle.wq_worker.specs.declared.book.Ledger.{Ledger}
-use Rattle.wq_race.specs.Race.{ledger_of}
 use Rattle.std.specs.Prelude.{All}
 use Rattle.wq_live.specs.Counts.{sender_counts}
-use Rattle.wq_race.specs.Outcome.{IsWhole}
+use Rattle.wq_race.specs.Outcome.{IsWhole, ledger_of}
 use Rattle.wq_race.proofs.Meeting.{prefix_on}
 use Rattle.wq_race.proofs.Booking.{heard_on}
 use Rattle.wq_race.proofs.Ended.{IsOver, surely, never_unbalanced, tells, ran_all, all_counted, senders_count}
