@@ -1,5 +1,5 @@
 -- What a sender sees, step after step and call after call.
-use Rattle.std.proofs.Common.{◌≡◌, ℕ, ◌+◌, ◌≤◌, Bool, true, false, eqb, ◌==◌, ◌&&◌, List, [], ◌∷◌, ◌++◌, sym, refl, ap, ◌∙◌, subst, arith, append_assoc, eq-eqb, MatchBool, IsTrue}
+use Rattle.std.proofs.Common.{◌≡◌, ℕ, ◌+◌, ◌≤◌, Bool, true, false, eqb, ◌==◌, ◌&&◌, List, [], ◌∷◌, ◌++◌, sym, refl, ap, ◌∙◌, subst, arith, append_assoc, eq-eqb, IsTrue}
 use Rattle.std.proofs.lemmas.Bool.{false≢true}
 use Rattle.wq_core.specs.Machine.{Machine}
 use Rattle.wq_core.specs.Sound.{IsSound}
@@ -7,14 +7,14 @@ use Rattle.wq_table.specs.Law.{part, Fits}
 use Rattle.wq_table.specs.Chair.{Standing}
 use Rattle.wq_words.specs.declared.layout.Layout.{Layout}
 use Rattle.wq_words.specs.declared.event.Event.{Event}
-use Rattle.wq_words.specs.declared.event.Event.TheVariants.{Hold, Busy, Push, Back}
+use Rattle.wq_words.specs.declared.event.Event.TheVariants.{Hold, Push, Back}
 use Rattle.wq_words.specs.History.{Holds, starts_hold, stops_hold}
 use Rattle.wq_words.specs.Legal.{IsLegal}
 use Rattle.wq_words.proofs.Legal.{legal_front}
 use Rattle.wq_words.proofs.Keepers.{kept}
 use Rattle.wq_table.specs.Seen.{seat_of, Grows}
 use Rattle.wq_table.proofs.Seen.{own-append}
-use Rattle.wq_live.specs.Answers.{IsPushed}
+use Rattle.wq_live.specs.Answers.{IsPushed, TestsAndSets}
 use Rattle.wq_live.proofs.Counting.{count_on, count_one, counts_none}
 use Rattle.wq_table.specs.Chair.{IsSender}
 use Rattle.wq_live.specs.declared.sender.Sender.TheInside.{Inside}
@@ -106,7 +106,7 @@ pushed_on s k n b v w p g = record {
   first_is = p.first_is;
 }
 
-pub hold_held : (k : ℕ) (b : Bool) (s t : Known) → MatchBool b (Sees (Hold s.number k ∷ []) 0 s t) (Sees (Busy s.number k ∷ []) 0 s t) → IsTrue b → Holds t.seen t.number k
+pub hold_held : (k : ℕ) (b : Bool) (s t : Known) → TestsAndSets k b s t → IsTrue b → Holds t.seen t.number k
 hold_held k true s t sees is = sees_hold k 0 s t sees
 hold_held k false s t sees is = absurd (false≢true is)
 

@@ -1,5 +1,5 @@
 -- What the answers of a queue mean: the caller's own events, in order.
-use Rattle.std.specs.Prelude.{◌≡◌, ℕ, false, Bool, List, [], ◌∷◌, ◌++◌}
+use Rattle.std.specs.Prelude.{◌≡◌, ℕ, true, false, Bool, List, [], ◌∷◌, ◌++◌}
 use mathlib.Core.List.{IsPrefix}
 use Rattle.wq_words.specs.declared.layout.Layout.{Layout}
 use Rattle.wq_words.specs.declared.event.Event.{Event}
@@ -21,6 +21,11 @@ pub record IsPushed (s k : ℕ) (is_first : Bool) (h : List Event) : Type 0 wher
   pub is : h ≡ before ++ Push s k ∷ after
   pub last : own s after ≡ []
   pub first_is : is_first ≡ first before
+
+-- the test-and-set of the number k's bit: true where it was clear
+abbrev pub TestsAndSets : ℕ → Bool → Known → Known → Type 0
+TestsAndSets k true old new = Sees (Hold old.number k ∷ []) 0 old new
+TestsAndSets k false old new = Sees (Busy old.number k ∷ []) 0 old new
 
 -- a queueing of the number k
 abbrev pub Answers : ℕ → ℕ → Answer → Known → Known → Type 0

@@ -1,7 +1,6 @@
 //! A sender of a queue.
-ghost use Rattle.std.specs.Prelude.{◌≡◌, ◌≢◌, ℕ, ◌+◌, ◌<◌, ◌≤◌, not, [], ◌∷◌, ◌++◌, IsTrue, MatchBool, List};
-ghost use Rattle.wq_words.specs.declared.event.Event.{Event};
-ghost use Rattle.wq_words.specs.declared.event.Event.TheVariants.{Hold, Busy, Push, Back};
+ghost use Rattle.std.specs.Prelude.{◌≡◌, ◌≢◌, ◌+◌, ◌<◌, not, [], ◌∷◌, IsTrue};
+ghost use Rattle.wq_words.specs.declared.event.Event.TheVariants.{Back};
 ghost use Rattle.wq_words.specs.declared.event.Why.TheVariants as why;
 ghost use Rattle.wq_words.specs.History.{pending, Holds};
 ghost use Rattle.wq_words.specs.Numbers.{stop_number, number_count};
@@ -9,7 +8,7 @@ ghost use Rattle.wq_words.specs.Legal.{IsLegal};
 ghost use Rattle.wq_table.specs.Seen.{owner_seat};
 ghost use Rattle.wq_live.specs.declared.answer.Answer.TheVariants.{Queued, Contended};
 ghost use Rattle.wq_live.specs.Known.{Sees};
-ghost use Rattle.wq_live.specs.Answers.{Answers, Posts, HasFlushed};
+ghost use Rattle.wq_live.specs.Answers.{TestsAndSets, Answers, Posts, HasFlushed};
 ghost use Rattle.wq_live.specs.Counts.{sender_counts};
 
 use crate::answer::{Answer, Posted};
@@ -68,7 +67,7 @@ impl Sender {
     // Sets the PENDING bit of a number.
     fn hold_number(&mut self, number: u32) -> bool
         requires number { number < number_count self.old.layout }
-        ensures seen { MatchBool result (Sees (Hold self.old.number number ∷ []) 0 self.old self.new) (Sees (Busy self.old.number number ∷ []) 0 self.old self.new) }
+        ensures seen { TestsAndSets number result self.old self.new }
     {
         if self.chair.hold(number) == 0 {
             return true;
@@ -181,7 +180,7 @@ impl Sender {
     /// this sender, until it is pushed or given back.
     pub fn hold(&mut self, item: u32) -> bool
         requires item { item < self.old.layout.items }
-        ensures seen { MatchBool result (Sees (Hold self.old.number item ∷ []) 0 self.old self.new) (Sees (Busy self.old.number item ∷ []) 0 self.old self.new) }
+        ensures seen { TestsAndSets item result self.old self.new }
         ensures held { IsTrue result → Holds self.new.seen self.new.number item }
     {
         self.hold_number(item)

@@ -1,8 +1,10 @@
 -- What a queue keeps, as a state.
-use Rattle.std.specs.Prelude.{ℕ, List, []}
+use Rattle.std.specs.Prelude.{◌≡◌, ℕ, Option, List, []}
+use Rattle.arrayvec.specs.ArrayVec.{ArrayVec}
 use Rattle.wq_words.specs.declared.event.Event.{Event}
 use Rattle.wq_plain.specs.declared.queue.Queue.{Queue}
 use Rattle.wq_plain.specs.Table.{items_of}
+use Rattle.wq_plain.specs.Execution.{after_executions, ends_at, ended_since}
 use Rattle.wq_plain.specs.Standing.{State, Stands}
 
 abbrev pub state_of : Queue → State
@@ -30,3 +32,8 @@ Always q holds = (runs : List ℕ) (h : List Event) → Stands (state_of q) runs
 
 abbrev pub AlwaysIdle : Queue → (List Event → Type 0) → Type 0
 AlwaysIdle q holds = (h : List Event) → Stands (state_of q) [] h → holds h
+
+-- these were executed, at most so many, up to one of the last number
+abbrev pub HasRun : Queue → List (ArrayVec ℕ) → ℕ → Option ℕ → List ℕ → Type 0
+HasRun q follows limit last ran =
+    (worker : ℕ) → AlwaysIdle q (λ h. ran ≡ ended_since h (after_executions worker follows (ends_at last) limit h))

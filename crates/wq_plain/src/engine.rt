@@ -1,5 +1,5 @@
 //! The engine of scripts: a queue, and what each item's function answers.
-ghost use Rattle.std.specs.Prelude.{◌≡◌, ℕ, ◌+◌, ◌^◌, ◌<◌, ◌≤◌, List, length, IfOk, OnOk, string_bytes};
+ghost use Rattle.std.specs.Prelude.{◌≡◌, ℕ, ◌+◌, ◌^◌, ◌<◌, List, length, IfOk, OnOk, string_bytes};
 ghost use Rattle.wq_words.specs.Numbers.{number_count};
 ghost use Rattle.wq_plain.specs.Follows.{AllFit, AllFit-prop};
 ghost use Rattle.wq_text.specs.Fits.{Fits, IsItem, IsBarrier};

@@ -44,14 +44,14 @@ impl Queue {
     ghost use Rattle.wq_words.specs.History.{next, pending, closed};
     ghost use Rattle.wq_plain.specs.declared.delays.Entry.{Entry};
     ghost use Rattle.wq_plain.specs.Queueing.{queue_events, queue_answer, chain_events, close_events, close_answer};
-    ghost use Rattle.wq_plain.specs.Execution.{take_events, after_follow, after_execution, after_executions, ended_since};
+    ghost use Rattle.wq_plain.specs.Execution.{take_events, after_follow, after_execution, after_executions};
     ghost use Rattle.wq_plain.specs.Table.{is_on, without, due_items, at_tick};
     ghost use Rattle.wq_plain.specs.Arming.{post_event, arm_events, arm_table, arm_answer, cancel_events, modify_events, modify_table, modify_answer, advance_events};
     ghost use Rattle.wq_plain.specs.Standing.{Stands, Begins, calls};
     ghost use Rattle.wq_plain.specs.Report.{counts_of};
     ghost use Rattle.wq_plain.specs.Follows.{AllFit};
     ghost use Rattle.wq_plain.specs.Delays.{table_of};
-    ghost use Rattle.wq_plain.specs.Queue.{state_of, GoesOn, GoesOnIdle, Always, AlwaysIdle};
+    ghost use Rattle.wq_plain.specs.Queue.{state_of, GoesOn, GoesOnIdle, Always, AlwaysIdle, HasRun};
 
     /// An open queue of so many numbers, with nothing in it.
     pub fn new(alloc: Global, numbers: u32) -> Result<Queue, AllocError>
@@ -221,7 +221,7 @@ impl Queue {
     ) -> Result<Vec<u32>, AllocError>
         requires follows { AllFit (length self.old.pending.items) follows.now.lists.items }
         requires room { calls (state_of self.old) < 2 ^ 61 }
-        ensures answer { IfOk result (λ ran. (worker : ℕ) → AlwaysIdle self.old (λ h. ran.items ≡ ended_since h (after_executions worker follows.now.lists.items (ends_at last) limit h))) }
+        ensures answer { IfOk result (λ ran. HasRun self.old follows.now.lists.items limit last ran.items) }
         ensures stands { OnOk result ((worker : ℕ) → GoesOnIdle self.old self.new (λ h. after_executions worker follows.now.lists.items (ends_at last) limit h)) }
         ensures numbers { length self.new.pending.items ≡ length self.old.pending.items }
         ensures delays { self.new.delays ≡ self.old.delays }

@@ -1,5 +1,5 @@
 -- What a queueing answers, on the running words and in a script.
-use Rattle.std.specs.Prelude.{◌≡◌, ℕ, Bool, not, List, [], ◌++◌, length, filter}
+use Rattle.std.specs.Prelude.{◌≡◌, ℕ, Bool, not, Option, List, [], ◌++◌, length, filter}
 use Rattle.wq_words.specs.declared.layout.Layout.{Layout}
 use Rattle.wq_words.specs.declared.event.Event.{Event}
 use Rattle.wq_words.specs.History.{IsRunning}
@@ -7,9 +7,9 @@ use Rattle.wq_live.specs.declared.answer.Answer.{Answer}
 use Rattle.wq_live.specs.declared.answer.Answer.TheVariants as live
 use Rattle.wq_plain.specs.declared.answer.Answer as script
 use Rattle.wq_plain.specs.declared.answer.Answer.TheVariants as answer
-use Rattle.wq_plain.specs.Queueing.{queue_events, queue_answer}
+use Rattle.wq_plain.specs.Queueing.{queue_events, queue_answer, close_events, close_answer}
 use Rattle.wq_worker.specs.Seats.{is_ours}
-use Rattle.wq_plain.specs.Execution.{after_executions, ended_since}
+use Rattle.wq_plain.specs.Execution.{after_executions, ends_at, ended_since}
 use Rattle.wq_plain.specs.Follows.{AllFit}
 use Rattle.wq_script.specs.declared.seats.Seats.{Seats}
 use Rattle.wq_script.specs.Seats.{IsSameWork, IsSameTable, Seated}
@@ -42,6 +42,14 @@ pub record Goes (layout : Layout) (h : List Event) (s t : Seats) : Type 0 where
 abbrev pub Looks : Layout → List Event → Seats → Seats → Type 0
 Looks layout h s t = Goes layout h s t
 
+-- nothing happened, and this is so of the history
+abbrev pub LooksAt : (Layout → List Event → Bool) → Bool → Seats → Seats → Type 0
+LooksAt what is s t = (layout : Layout) (h : List Event) → Seated layout s h → Looks layout h s t × (is ≡ what layout h)
+
+-- the queue is closed, where it was not, and this is how many that took
+abbrev pub ClosesAs : Option ℕ → Seats → Seats → Type 0
+ClosesAs taken s t = (layout : Layout) (h : List Event) → Seated layout s h → Goes layout (h ++ close_events h) s t × (taken ≡ close_answer h)
+
 -- there is a list for each item, of items
 pub record HasLists (layout : Layout) (s : Seats) : Type 0 where
   pub count : length s.worker.work.follows.items ≡ layout.items
@@ -57,3 +65,7 @@ pub record Ran (layout : Layout) (h : List Event) (limit : ℕ) (ends : ℕ → 
   pub new : List Event
   pub new_is : after_executions layout.senders s.worker.work.follows.items ends limit h ≡ h ++ new
   pub ours : filter (λ e. not (is_ours layout.senders e)) new ≡ []
+
+-- at most so many were executed, up to one of the last number
+abbrev pub RunsAs : Layout → ℕ → Option ℕ → List ℕ → Seats → Seats → Type 0
+RunsAs layout limit last ran s t = (h : List Event) → Seated layout s h → ¬ IsRunning h → HasLists layout s → Ran layout h limit (ends_at last) s t ran

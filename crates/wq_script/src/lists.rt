@@ -1,5 +1,5 @@
 //! What each item's function answers, as the work of a worker.
-ghost use Rattle.std.specs.Prelude.{◌≡◌, ℕ, ◌≤◌, List, [], ◌∷◌, ◌++◌, length, slice_set, replicate, IfOk};
+ghost use Rattle.std.specs.Prelude.{◌≡◌, ◌≤◌, [], length, slice_set, replicate, IfOk};
 ghost use Rattle.wq_plain.specs.Execution.{follow_of, no_follow};
 
 use arrayvec::ArrayVec;

@@ -1,5 +1,5 @@
 //! All seats of a queue, and how each hears what one of them has seen.
-ghost use Rattle.std.specs.Prelude.{◌≡◌, ℕ, ◌<◌, not, List, ◌++◌, length, All, slice_index_or, IfOk, MatchOption, ◌+◌, ◌≤◌, [], replicate, slice_set};
+ghost use Rattle.std.specs.Prelude.{◌≡◌, ◌<◌, not, List, length, All, slice_index_or, IfOk, MatchOption, ◌+◌, ◌≤◌, [], replicate, slice_set};
 ghost use Rattle.wq_plain.specs.Execution.{no_follow};
 ghost use Rattle.wq_words.specs.declared.layout.Layout.{Layout};
 ghost use Rattle.wq_words.specs.declared.event.Event.{Event};
@@ -7,11 +7,9 @@ ghost use Rattle.wq_words.specs.Numbers.{stop_number};
 ghost use Rattle.wq_plain.specs.Commands.{barrier_number};
 ghost use Rattle.wq_live.specs.Known.{Known};
 ghost use Rattle.wq_script.specs.Seats.{Stays, AllHear, IsSameTable, AreOne, Gathers, Seated, IsSeated};
-ghost use Rattle.wq_script.specs.Asking.{AsksFor, Goes, Looks, HasLists, Ran};
-ghost use Rattle.wq_plain.specs.Execution.{ends_at};
+ghost use Rattle.wq_script.specs.Asking.{AsksFor, LooksAt, ClosesAs, RunsAs};
 ghost use Rattle.wq_script.specs.Arming.{ArmsAs, CancelsAs, ModifiesAs, IsBack, IsPosted};
-ghost use Rattle.wq_words.specs.History.{pending, closed, IsRunning};
-ghost use Rattle.wq_plain.specs.Queueing.{close_events, close_answer};
+ghost use Rattle.wq_words.specs.History.{pending, closed};
 
 use crate::executing::execute_row;
 use crate::lists::Lists;
@@ -137,7 +135,7 @@ impl Seats {
         requires seated { IsSeated self.old }
         requires some { 0 < length self.old.senders.items }
         requires item { item < self.old.delay.sender.layout.items }
-        ensures { (layout : Layout) (h : List Event) → Seated layout self.old h → Looks layout h self.old self.new × (result ≡ pending h item) }
+        ensures { LooksAt (λ layout h. pending h item) result self.old self.new }
     {
         let is_pending = self.senders[0].is_pending(item);
         self.gather(0);
@@ -149,7 +147,7 @@ impl Seats {
         requires seated { IsSeated self.old }
         requires place { sender < length self.old.senders.items }
         requires barrier { barrier < self.old.delay.sender.layout.barriers }
-        ensures { (layout : Layout) (h : List Event) → Seated layout self.old h → Looks layout h self.old self.new × (result ≡ not (pending h (barrier_number layout barrier))) }
+        ensures { LooksAt (λ layout h. not (pending h (barrier_number layout barrier))) result self.old self.new }
     {
         let place = sender as usize;
         let is_flushed = self.senders[place].flush_done(barrier);
@@ -168,7 +166,7 @@ impl Seats {
     pub fn close(&mut self) -> Option<u64>
         requires seated { IsSeated self.old }
         requires some { 0 < length self.old.senders.items }
-        ensures { (layout : Layout) (h : List Event) → Seated layout self.old h → Goes layout (h ++ close_events h) self.old self.new × (result ≡ close_answer h) }
+        ensures { ClosesAs result self.old self.new }
     {
         if self.worker.is_closed() {
             return None;
@@ -188,7 +186,7 @@ impl Seats {
     ) -> Result<Vec<u32>, AllocError>
         requires seated { (h : List Event) × Seated layout.now self.old h }
         requires some { 0 < length self.old.senders.items }
-        ensures { IfOk result (λ ran. (h : List Event) → Seated layout.now self.old h → ¬ IsRunning h → HasLists layout.now self.old → Ran layout.now h limit (ends_at last) self.old self.new ran.items) }
+        ensures { IfOk result (λ ran. RunsAs layout.now limit last ran.items self.old self.new) }
     {
         let ran = execute_row(alloc, &mut self.worker, layout, limit, last)?;
         self.gather_worker();

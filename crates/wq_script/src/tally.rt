@@ -1,5 +1,5 @@
 //! What the senders of a script and the delay table have counted.
-ghost use Rattle.std.specs.Prelude.{◌≡◌, ◌+◌, ◌^◌, ◌≤◌, MatchOption, if◌then◌else◌, ◌==◌};
+ghost use Rattle.std.specs.Prelude.{◌≡◌, ◌+◌, ◌^◌, ◌≤◌, ◌==◌};
 ghost use Rattle.wq_delay.specs.declared.answer.Armed.TheVariants as live_armed;
 ghost use Rattle.wq_delay.specs.declared.answer.Modified.TheVariants as live_modified;
 ghost use Rattle.wq_plain.specs.declared.answer.Answer as script;
@@ -7,7 +7,7 @@ ghost use Rattle.wq_plain.specs.declared.answer.Armed as script_armed;
 ghost use Rattle.wq_plain.specs.declared.answer.Modified as script_modified;
 ghost use Rattle.wq_script.specs.Asking.{Tells};
 ghost use Rattle.wq_script.specs.Arming.{TellsArmed, TellsModified};
-ghost use Rattle.wq_script.specs.Counting.{HasRoom, counted, counted_armed, counted_modified};
+ghost use Rattle.wq_script.specs.Counting.{HasRoom, counted, counted_push, counted_posts, CountsArming, CountsModification};
 
 use wq_plain::{Answer, Armed, Modified};
 
@@ -48,7 +48,7 @@ impl Tally {
     pub fn arming(&mut self, armed: wq_delay::Armed) -> Option<Armed>
         requires told { ¬ (armed ≡ live_armed.Memory) → (a : script_armed.Armed) × TellsArmed armed a }
         requires room { HasRoom self.old }
-        ensures { MatchOption result (armed ≡ live_armed.Memory) (λ a. (¬ (armed ≡ live_armed.Memory)) × TellsArmed armed a × (self.new ≡ counted_armed a self.old)) }
+        ensures { CountsArming armed result self.old self.new }
     {
         match armed {
             wq_delay::Armed::Queued { first } => {
@@ -72,7 +72,7 @@ impl Tally {
 
     fn pushing(&mut self, delay: u64)
         requires { HasRoom self.old }
-        ensures { self.new ≡ (if delay == 0 then record self.old { queued = self.old.queued + 1 } else self.old) }
+        ensures { self.new ≡ counted_push delay self.old }
     {
         if delay == 0 {
             self.queued += 1;
@@ -83,7 +83,7 @@ impl Tally {
     pub fn modification(&mut self, modified: wq_delay::Modified, delay: u64) -> Option<Modified>
         requires told { ¬ (modified ≡ live_modified.Memory) → (a : script_modified.Modified) × TellsModified modified a }
         requires room { HasRoom self.old }
-        ensures { MatchOption result (modified ≡ live_modified.Memory) (λ a. (¬ (modified ≡ live_modified.Memory)) × TellsModified modified a × (self.new ≡ counted_modified delay a self.old)) }
+        ensures { CountsModification delay modified result self.old self.new }
     {
         match modified {
             wq_delay::Modified::WasIdle => {
@@ -112,7 +112,7 @@ impl Tally {
     pub fn posting(&mut self, is_closed: bool, count: u64)
         requires room { HasRoom self.old }
         requires few { count ≤ 2 ^ 62 }
-        ensures { self.new ≡ (if is_closed then record self.old { refused = self.old.refused + count } else record self.old { queued = self.old.queued + count }) }
+        ensures { self.new ≡ counted_posts is_closed count self.old }
     {
         if is_closed {
             self.refused += count;

@@ -1,8 +1,8 @@
 //! The words behind a keyword, and the numbers that they are.
-ghost use Rattle.std.specs.Prelude.{◌≡◌, ◌<◌, ◌≤◌, ◌^◌, map, length, All, IfOk};
+ghost use Rattle.std.specs.Prelude.{◌<◌, ◌≤◌, map, length, All, IfOk};
 ghost use Rattle.wq_words.specs.Limits.{IsBetween};
 ghost use Rattle.wq_text.specs.Fault.{LineGives, LineGivesAs};
-ghost use Rattle.wq_text.specs.Arguments.{number, between, below, sender, item, barrier, limit, no_word, one_word, two_words, word_and_at_most, one, two, each, one_and_at_most};
+ghost use Rattle.wq_text.specs.Arguments.{number, between, below, sender, item, barrier, limit, no_word, one_word, two_words, word_and_at_most, two, each, one_and_at_most};
 
 use crate::command::Follow;
 use crate::fault::{Kind, LineError};

@@ -1,5 +1,5 @@
 //! The header of a script, and which line is awaited.
-ghost use Rattle.std.specs.Prelude.{◌≡◌, ◌≤◌};
+ghost use Rattle.std.specs.Prelude.{◌≡◌};
 ghost use Rattle.wq_text.specs.Header.{header_of, is_placed, takes_steps};
 
 use crate::word::Keyword;

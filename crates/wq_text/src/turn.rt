@@ -1,7 +1,7 @@
 //! One line of a schedule.
-ghost use Rattle.std.specs.Prelude.{◌≡◌, ◌+◌, ◌<◌, ◌≤◌, map, true, false, length, MatchOption, IfOk, IfSome};
+ghost use Rattle.std.specs.Prelude.{◌≡◌, ◌+◌, ◌<◌, ◌≤◌, map, length, MatchOption, IfOk, IfSome};
 ghost use Rattle.wq_text.specs.Fault.{LineGives};
-ghost use Rattle.wq_text.specs.Sound.{KeepsHeader, KeepsSound, InLimits};
+ghost use Rattle.wq_text.specs.Sound.{KeepsSound, InLimits};
 ghost use Rattle.wq_text.specs.Turn.{after_b, number_of_queue, owners_action, senders_action, cause_at, action_at, seat_alone, seat_and_number, without_last, turn_gives, header_at, header_line_gives, step_line_gives, turn_words_give, plain_turn_gives, turn_line_gives};
 ghost use Rattle.wq_text.specs.Turns.{TurnFits};
 ghost use Rattle.wq_text.specs.Line.{of_none};

@@ -1,6 +1,6 @@
 //! What holds of the histories that `check_history` accepts. These functions compute nothing: each one's contract is a
 //! law, which a caller has in hand after the call.
-ghost use Rattle.std.specs.Prelude.{◌≡◌, ◌↔◌, ℕ, ◌+◌, ◌-◌, List, [], length, reverse, drop, Some, slice_get, IsTrue};
+ghost use Rattle.std.specs.Prelude.{◌≡◌, ◌↔◌, ℕ, ◌+◌, ◌-◌, [], length, reverse, drop, Some, slice_get, IsTrue};
 ghost use Rattle.wq_words.specs.History.{accepted, begun, ended, IsRunning, running, IsPending, pending, IsClosed, closed, fresh, taken};
 ghost use Rattle.wq_words.specs.Legal.{IsLegal};
 ghost use Rattle.wq_words.specs.Listed.{listed};

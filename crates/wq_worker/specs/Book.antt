@@ -27,6 +27,10 @@ pub record IsMade (h : List Event) (ledger : Ledger) : Type 0 where
   pub shut : IsClosed met
   pub counts_are : ledger.counts ≡ sender_counts ledger.number met
 
+-- the book of this worker's queue and sender, with the history that the worker has seen
+abbrev pub IsBookOf : {W : Type 0} → WorkerState W → BookState → Type 0
+IsBookOf w book = (book.queue ≡ w.queue) × (book.layout ≡ w.layout) × (book.seen ≡ w.seen) × (book.own.number ≡ w.number)
+
 -- what holds of a book's parts
 pub record IsSettled (owner : Known) (own : Ledger) : Type 0 where
   pub seat : owner.number ≡ owner_seat

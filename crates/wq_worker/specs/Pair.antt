@@ -1,13 +1,14 @@
 -- An owner and a sender of one queue that have seen the same.
-use Rattle.std.specs.Prelude.{◌≡◌, ℕ, ◌<◌, Bool, true, false, List, [], ◌∷◌, ◌++◌}
+use Rattle.std.specs.Prelude.{◌≡◌, ℕ, ◌<◌, Bool, true, false, cond, List, [], ◌∷◌, ◌++◌}
 use Rattle.wq_words.specs.declared.event.Event.{Event}
+use Rattle.wq_words.specs.declared.event.Event.TheVariants.{Begin}
 use Rattle.wq_words.specs.History.{closed}
 use Rattle.wq_words.specs.Legal.{IsLegal}
 use Rattle.wq_table.specs.Seen.{owner_seat}
 use Rattle.wq_live.specs.declared.answer.Answer.{Answer}
 use Rattle.wq_live.specs.declared.answer.Answer.TheVariants as answer
 use Rattle.wq_live.specs.Known.{Known, IsSame}
-use Rattle.wq_worker.specs.Seats.{Adds}
+use Rattle.wq_worker.specs.Seats.{Adds, taking, NothingWaits}
 use Rattle.wq_worker.specs.Follow.{Queues, Follows, contended_of}
 
 pub record Paired (o s : Known) : Type 0 where
@@ -34,6 +35,19 @@ settled answer.Contended = false
 abbrev pub Attempts : ℕ → ℕ → Bool → ℕ → Bool → List Event → Type 0
 Attempts n s is_closed k true es = Queues n s is_closed k es
 Attempts n s is_closed k false es = (k < n) × (is_closed ≡ false) × (es ≡ contended_of s k)
+
+-- nothing waits
+abbrev pub BothFindNothing : Known → Known → Known → Known → Type 0
+BothFindNothing o s p t = NothingWaits p.seen × Both (taking o.seen) 0 o s p t
+
+-- the number k has begun
+abbrev pub BothBegin : ℕ → Known → Known → Known → Known → Type 0
+BothBegin k o s p t = Both (taking o.seen ++ Begin k ∷ []) 0 o s p t
+
+-- the number k was queued, or its queueing was contended
+abbrev pub BothQueue : ℕ → ℕ → Bool → Known → Known → Known → Known → Type 0
+BothQueue k tries is_settled o s p t =
+    (es : List Event) × Attempts s.layout.items s.number (closed o.seen) k is_settled es × Both es (cond is_settled 0 tries) o s p t
 
 -- The numbers ks are to be queued, and js are left: none, or the queueing of the first of them was contended, with at least
 -- tries events of others.

@@ -1,5 +1,5 @@
 -- What a clause sees of a worker.
-use Rattle.std.specs.Prelude.{◌≡◌, ℕ, ◌<◌, ◌≤◌, List, filter, length, nat_lt}
+use Rattle.std.specs.Prelude.{◌≡◌, ℕ, ◌<◌, ◌≤◌, List, [], filter, length, nat_lt}
 use Rattle.atomic_table.specs.Seated.{TableId}
 use Rattle.wq_words.specs.declared.layout.Layout.{Layout}
 use Rattle.wq_words.specs.declared.event.Event.{Event}
@@ -23,6 +23,11 @@ pub record WorkerState (W : Type 0) : Type 0 where
 -- the items among the numbers, without barriers and the stop item
 abbrev pub items_of : Layout → List ℕ → List ℕ
 items_of layout ks = filter (λ k. nat_lt k layout.items) ks
+
+-- a worker of this owner, this sender and this work, with so many tries, which has nothing left to queue
+abbrev pub IsMadeOf : {W : Type 0} → Known → Known → W → ℕ → WorkerState W → Type 0
+IsMadeOf owner sender work tries w =
+    (w.queue ≡ owner.queue) × (w.layout ≡ owner.layout) × (w.number ≡ sender.number) × (w.tries ≡ tries) × (w.left ≡ []) × (w.work ≡ work)
 
 -- it is the same worker, whose two seats added the events xs, in this order, and at least n came of other seats
 pub record Moves {W : Type 0} (xs : List Event) (n : ℕ) (a b : WorkerState W) : Type 0 where

@@ -19,6 +19,10 @@ IsKind layout k Stop = k ≡ stop_number layout
 IsKind layout k Nothing = ⊥
 IsKind layout k (Owing j) = ⊥
 
+-- nothing waits, and the work was not touched
+abbrev pub FindsNothing : {W : Type 0} → WorkerState W → WorkerState W → Type 0
+FindsNothing a b = NothingWaits b.seen × (b.work ≡ a.work) × Moves (taking a.seen) 0 a b
+
 module _ {W : Type 0} (may : W → ℕ → List ℕ → W → Type 0) where
   -- The execution of k has begun, after the events es: f is to be queued, and the work is v. An item was run, by which the
   -- work may answer f; another number asks for nothing; and what was owed goes on with the rest of its list.

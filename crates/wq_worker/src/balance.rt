@@ -1,5 +1,5 @@
 //! Ledgers that balance, or why they do not.
-ghost use Rattle.std.specs.Prelude.{◌≡◌, ◌↔◌, ℕ, ◌+◌, ◌*◌, ◌^◌, ◌<◌, ◌≤◌, [], ◌∷◌, IsTrue, MatchResult};
+ghost use Rattle.std.specs.Prelude.{◌≡◌, ◌↔◌, ◌*◌, ◌<◌, [], ◌∷◌, IsTrue, MatchResult};
 ghost use Rattle.wq_worker.specs.Balance.{AreWhole, AreOwnerWhole, ledgers_of, IsFault, SumsMet, FaultsBelow};
 
 use crate::book::Ledger;

@@ -1,5 +1,5 @@
 //! What one step of a worker did.
-ghost use Rattle.std.specs.Prelude.{◌≡◌, ◌<◌};
+ghost use Rattle.std.specs.Prelude.{◌<◌};
 ghost use Rattle.wq_words.specs.Numbers.{number_count};
 ghost use Rattle.wq_worker.specs.Step.{IsKind};
 

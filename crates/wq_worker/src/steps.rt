@@ -1,13 +1,13 @@
 //! Steps of an owner and a sender of one queue, after each of which both have seen the same.
-ghost use Rattle.std.specs.Prelude.{◌≡◌, ℕ, ◌<◌, ◌≤◌, Some, None, List, [], ◌∷◌, ◌++◌, MatchOption, length, drop, cond};
-ghost use Rattle.wq_words.specs.declared.event.Event.TheVariants.{Begin, End};
+ghost use Rattle.std.specs.Prelude.{◌≡◌, ℕ, ◌<◌, ◌≤◌, Some, None, [], ◌∷◌, MatchOption, length, drop};
+ghost use Rattle.wq_words.specs.declared.event.Event.TheVariants.{End};
 ghost use Rattle.wq_words.specs.History.{closed, running, IsRunning};
 ghost use Rattle.wq_words.specs.Legal.{IsLegal};
 ghost use Rattle.wq_table.specs.Seen.{owner_seat};
 ghost use Rattle.wq_live.specs.Known.{Sees};
 ghost use Rattle.wq_live.specs.Batch.{next_of};
 ghost use Rattle.wq_worker.specs.Seats.{taking, NothingWaits};
-ghost use Rattle.wq_worker.specs.Pair.{settled, Paired, Both, Attempts, Advances};
+ghost use Rattle.wq_worker.specs.Pair.{settled, Paired, Both, BothFindNothing, BothBegin, BothQueue, Advances};
 
 use wq_live::{Answer, Owner, Sender};
 
@@ -38,7 +38,7 @@ fn is_settled(answer: &Answer) -> bool
 pub(crate) fn begin_next(owner: &mut Owner, sender: &mut Sender) -> Option<u32>
     requires paired { Paired owner.old sender.old }
     requires idle { ¬ IsRunning owner.old.seen }
-    ensures { MatchOption result (NothingWaits owner.new.seen × Both (taking owner.old.seen) 0 owner.old sender.old owner.new sender.new) (λ k. Both (taking owner.old.seen ++ Begin k ∷ []) 0 owner.old sender.old owner.new sender.new) }
+    ensures { MatchOption result (BothFindNothing owner.old sender.old owner.new sender.new) (λ k. BothBegin k owner.old sender.old owner.new sender.new) }
 {
     take_where_empty(owner);
     if owner.next().is_none() {
@@ -65,7 +65,7 @@ fn queue_one(owner: &mut Owner, sender: &mut Sender, item: u32, tries: u32) -> b
     requires paired { Paired owner.old sender.old }
     requires runs { IsRunning owner.old.seen }
     requires tries { 0 < tries }
-    ensures { (es : List _) × Attempts sender.old.layout.items sender.old.number (closed owner.old.seen) item result es × Both es (cond result 0 tries) owner.old sender.old owner.new sender.new }
+    ensures { BothQueue item tries result owner.old sender.old owner.new sender.new }
 {
     if item >= owner.layout().items {
         return true;

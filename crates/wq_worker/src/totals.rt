@@ -1,7 +1,7 @@
 //! The counts of a queue's seats, summed.
 ghost use Rattle.std.specs.Prelude.{◌≡◌, ◌+◌, ◌^◌, ◌<◌};
 ghost use Rattle.wq_live.specs.Counts.{sender_counts, owner_counts};
-ghost use Rattle.wq_worker.specs.Totals.{own_totals};
+ghost use Rattle.wq_worker.specs.Totals.{own_totals, none, with_sender, with_owner, HasRoom, HasGrown};
 
 use wq_live::{OwnerCounts, SenderCounts};
 
@@ -37,7 +37,7 @@ impl Totals {
     }
 
     pub(crate) fn none() -> Totals
-        ensures { result ≡ record { queued = 0; chained = 0; executed = 0; pending = 0; closed = 0; contended = 0 } }
+        ensures { result ≡ none }
     {
         Totals {
             queued: 0,
@@ -51,9 +51,9 @@ impl Totals {
 
     // With one sender more.
     pub(crate) fn with(self, counts: SenderCounts) -> Totals
-        requires { (self.queued < 2 ^ 127) × (self.pending < 2 ^ 127) × (self.closed < 2 ^ 127) × (self.contended < 2 ^ 127) }
-        ensures sums { result ≡ record { queued = self.queued + counts.queued; chained = self.chained; executed = self.executed; pending = self.pending + counts.pending; closed = self.closed + counts.closed; contended = self.contended + counts.contended } }
-        ensures room { (result.queued < self.queued + 2 ^ 64) × (result.pending < self.pending + 2 ^ 64) × (result.closed < self.closed + 2 ^ 64) × (result.contended < self.contended + 2 ^ 64) }
+        requires { HasRoom self }
+        ensures sums { result ≡ with_sender counts self }
+        ensures room { HasGrown self result }
     {
         Totals {
             queued: self.queued + u128::from(counts.queued),
@@ -68,7 +68,7 @@ impl Totals {
     // With the owner's counts.
     pub(crate) fn with_owner(self, counts: OwnerCounts) -> Totals
         requires { self.pending < 2 ^ 127 }
-        ensures { result ≡ record { queued = self.queued; chained = counts.chained; executed = counts.ended; pending = self.pending + counts.chain_busy; closed = self.closed; contended = self.contended } }
+        ensures { result ≡ with_owner counts self }
     {
         Totals {
             queued: self.queued,

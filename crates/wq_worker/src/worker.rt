@@ -1,5 +1,5 @@
 //! A worker.
-ghost use Rattle.std.specs.Prelude.{◌≡◌, ℕ, ◌+◌, ◌<◌, Some, None, [], ◌∷◌, length, MatchOption, MatchResult};
+ghost use Rattle.std.specs.Prelude.{◌≡◌, ◌+◌, ◌<◌, Some, None, [], ◌∷◌, length, MatchOption, MatchResult};
 ghost use Rattle.std.specs.Fn.{FnOnceTakesAtMut, FnOnceReturnsAtMut};
 ghost use Rattle.wq_words.specs.declared.event.Event.TheVariants.{Close};
 ghost use Rattle.wq_words.specs.History.{accepted, begun, ended, closed, running, IsRunning, IsClosed};
@@ -7,12 +7,11 @@ ghost use Rattle.wq_table.specs.Seen.{owner_seat, own, Grows};
 ghost use Rattle.wq_live.specs.Known.{Sees};
 ghost use Rattle.wq_live.specs.Batch.{TakesAll};
 ghost use Rattle.wq_words.specs.Legal.{IsLegal, IsComplete};
-ghost use Rattle.wq_worker.specs.Seats.{taking, NothingWaits};
-ghost use Rattle.wq_worker.specs.State.{items_of, Moves};
-ghost use Rattle.wq_worker.specs.Step.{Runs, Begins};
+ghost use Rattle.wq_worker.specs.State.{items_of, Moves, IsMadeOf};
+ghost use Rattle.wq_worker.specs.Step.{Runs, FindsNothing, Begins};
 ghost use Rattle.wq_worker.specs.Totals.{own_totals};
 ghost use Rattle.wq_worker.specs.Rows.{RunsSome, Drains, Serves, Closes};
-ghost use Rattle.wq_worker.specs.Book.{Destroys, Leaves};
+ghost use Rattle.wq_worker.specs.Book.{IsBookOf, Destroys, Leaves};
 
 use crate::book::{Book, Ledger};
 use crate::drained::{Drained, Unfinished, left_of};
@@ -55,7 +54,7 @@ impl<W: Work> Worker<W> {
         requires tries { 0 < tries }
         requires untouched { own owner_seat owner.seen ≡ [] }
         requires unrun { W.log work ≡ [] }
-        ensures parts { (result.queue ≡ owner.queue) × (result.layout ≡ owner.layout) × (result.number ≡ sender.number) × (result.tries ≡ tries) × (result.left ≡ []) × (result.work ≡ work) }
+        ensures parts { IsMadeOf owner sender work tries result }
         ensures owner { Grows owner_seat [] 0 owner.seen result.seen }
         ensures sender { Grows sender.number [] 0 sender.seen result.seen }
         ensures legal { IsLegal result.layout result.seen }
@@ -74,7 +73,7 @@ impl<W: Work> Worker<W> {
     // Begins the oldest number and runs the work.
     fn start(&mut self) -> Option<u32>
         requires { ¬ IsRunning self.old.seen }
-        ensures { MatchOption result (NothingWaits self.new.seen × (self.new.work ≡ self.old.work) × Moves (taking self.old.seen) 0 self.old self.new) (λ k. Begins W.may self.old k self.new) }
+        ensures { MatchOption result (FindsNothing self.old self.new) (λ k. Begins W.may self.old k self.new) }
     {
         let begun = begin_next(&mut self.owner, &mut self.sender);
         let Some(number) = begun else {
@@ -237,7 +236,8 @@ impl<W: Work> Worker<W> {
     // Takes a worker apart whose queue has run to the end.
     fn into_book(self) -> (W, Book)
         requires { IsComplete self.seen }
-        ensures parts { (result.0 ≡ self.work) × (result.1.queue ≡ self.queue) × (result.1.layout ≡ self.layout) × (result.1.seen ≡ self.seen) × (result.1.own.number ≡ self.number) }
+        ensures work { result.0 ≡ self.work }
+        ensures book { IsBookOf self result.1 }
         ensures logged { W.log result.0 ≡ items_of self.layout (accepted self.seen) }
     {
         let Worker {

@@ -1,5 +1,5 @@
 //! `wqrun script`: a script's bytes in, its report's bytes out.
-ghost use Rattle.std.specs.Prelude.{◌≡◌, ◌≢◌, ◌⊎◌, OnOk, IfOk, IfErr, IfSome};
+ghost use Rattle.std.specs.Prelude.{◌≡◌, ◌⊎◌, OnOk, IfOk, IfErr, IfSome};
 ghost use Rattle.wqrun.specs.Report.{Reports, HasNoReport, WritesReport};
 
 use crate::failure::Failure;

@@ -1,5 +1,5 @@
 //! `wqrun steps`: a schedule's bytes in, its output's bytes out.
-ghost use Rattle.std.specs.Prelude.{◌≡◌, ◌≢◌, ◌⊎◌, OnOk, IfOk, IfErr, IfSome};
+ghost use Rattle.std.specs.Prelude.{◌≡◌, ◌⊎◌, OnOk, IfOk, IfErr, IfSome};
 ghost use Rattle.wqrun.specs.ScheduleReport.{Replays, HasNoOutput, WritesOutput};
 
 use crate::failure::Failure;
