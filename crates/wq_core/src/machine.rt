@@ -205,7 +205,7 @@ impl Core {
             (Seat::Owner, Step::Begin) => self.begin(),
             (Seat::Owner, Step::End) => self.end(),
             (Seat::Owner, Step::Chain(number)) => self.chain(number),
-            _ => Ok(Reply::Idle),
+            _ => unreachable!(),
         }
     }
 
