@@ -40,7 +40,6 @@ impl Timetable {
         ensures count { result ≡ length self.now.entries }
         ensures few { result ≤ self.now.size }
     {
-        let _places = &self.places;
         self.rows.len()
     }
 
@@ -119,7 +118,6 @@ impl Timetable {
         ensures first { MatchOption result (due_part now self.now.entries ≡ []) (λ k. IsFirstDue now k self.now.entries) }
         ensures low { IfSome result (λ k. k < self.now.size) }
     {
-        let _places = &self.places;
         let Some((place, item)) = self.rows.first_key_value() else {
             return None;
         };
