@@ -10,7 +10,7 @@ use Rattle.wq_words.specs.declared.event.Why.TheVariants as why
 use Rattle.wq_words.specs.History.{is_push}
 use Rattle.wq_words.proofs.Growing.{count_by_push}
 use Rattle.wq_live.specs.Known.{Known, Sees}
-use Rattle.wq_delay.specs.Table.{Entry, on_table, due_part, later_part, without, IsOrdered}
+use Rattle.wq_words.specs.DelayTable.{Entry, on_table, due_part, later_part, without, IsOrdered}
 use Rattle.wq_delay.specs.Rows.{IsFirstDue}
 use Rattle.wq_delay.specs.Delay.{DelayState, IsFit, Keeps, Leaves, IsOut, is_back, lost_tries, PostsDue}
 use Rattle.wq_delay.proofs.Table.{none_due}

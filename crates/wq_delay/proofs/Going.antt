@@ -8,9 +8,9 @@ use Rattle.wq_words.specs.declared.event.Why.{Why}
 use Rattle.wq_words.specs.declared.event.Why.TheVariants as why
 use Rattle.wq_words.specs.History.{Holds}
 use Rattle.wq_words.specs.Legal.{IsLegal}
-use Rattle.wq_table.specs.Seen.{seat_of, own, others, Grows}
+use Rattle.wq_words.specs.Seen.{seat_of, own, others, Grows}
 use Rattle.wq_live.specs.Known.{Known, Sees}
-use Rattle.wq_delay.specs.Table.{Entry, on_table, without, IsOrdered}
+use Rattle.wq_words.specs.DelayTable.{Entry, on_table, without, IsOrdered}
 use Rattle.wq_delay.specs.Rows.{Pops}
 use Rattle.wq_delay.proofs.Rows.{first_on, without_first}
 use Rattle.wq_delay.proofs.Sound.{state, IsSound, sound_keeps, sound_leaves, even_back, stops_back}

@@ -12,9 +12,9 @@ use Rattle.wq_words.specs.Legal.{IsLegal}
 use Rattle.wq_words.specs.Keeper.{Keeper, Home, Sender, Listed, Owner, keeper}
 use Rattle.wq_words.proofs.Legal.{legal_front}
 use Rattle.wq_words.proofs.Keepers.{held_bit, kept}
-use Rattle.wq_table.specs.Seen.{seat_of, own}
+use Rattle.wq_words.specs.Seen.{seat_of, own}
 use Rattle.wq_live.specs.Known.{Known, Sees}
-use Rattle.wq_delay.specs.Table.{Entry, on_table}
+use Rattle.wq_words.specs.DelayTable.{Entry, on_table}
 
 -- events that only the seat c makes are among its own
 module _ (p : Event → Bool) (c : ℕ) (mine : (e : Event) → p e ≡ true → (seat_of e == c) ≡ true) where

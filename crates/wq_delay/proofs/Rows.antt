@@ -11,7 +11,7 @@ use Rattle.std.proofs.lemmas.List.{get_or-set_same, get_or-set_other, get_or_pas
 use Rattle.std.proofs.lemmas.Map.Steps.{length-le_from_distinct_below}
 use Rattle.std.proofs.lemmas.Bool.{eqb-true}
 use Rattle.std.proofs.lemmas.Bool.Decides.{nat_tests}
-use Rattle.wq_delay.specs.Table.{Entry, items, on_table, due_part, placed, without, IsBefore, IsOrdered, AreArmedBefore}
+use Rattle.wq_words.specs.DelayTable.{Entry, items, on_table, due_part, placed, without, IsBefore, IsOrdered, AreArmedBefore}
 use Rattle.wq_delay.specs.Rows.{entry_of, place_of, AreRows, IsFirstDue}
 use Rattle.wq_delay.proofs.Table.{first_false, second_false, without_off, none_due, placed_front, all-without, all-more, place_some, place_of-placed, place_of-without, on_table-without, ordered-placed, ordered-without}
 

@@ -9,14 +9,14 @@ use Rattle.wq_words.specs.declared.event.Event.TheVariants.{Hold, Push, Back}
 use Rattle.wq_words.specs.declared.event.Why.{Why}
 use Rattle.wq_words.specs.declared.event.Why.TheVariants as why
 use Rattle.wq_live.specs.Known.{Known, Sees}
-use Rattle.wq_live.specs.declared.answer.Answer.{Answer}
-use Rattle.wq_live.specs.declared.answer.Answer.TheVariants as answer
-use Rattle.wq_live.specs.declared.answer.Posted.{Posted}
-use Rattle.wq_live.specs.declared.answer.Posted.TheVariants as posted
+use Rattle.wq_words.specs.declared.answer.Answer.{Answer}
+use Rattle.wq_words.specs.declared.answer.Answer.TheVariants as answer
+use Rattle.wq_words.specs.declared.answer.Posted.{Posted}
+use Rattle.wq_words.specs.declared.answer.Posted.TheVariants as posted
 use Rattle.wq_live.specs.Answers.{Answers, Posts}
 use Rattle.wq_words.specs.History.{Holds}
 use Rattle.wq_words.specs.Legal.{IsLegal}
-use Rattle.wq_delay.specs.Table.{Entry, on_table, placed, without}
+use Rattle.wq_words.specs.DelayTable.{Entry, on_table, placed, without}
 use Rattle.wq_delay.specs.Delay.{DelayState, IsFit}
 use Rattle.wq_delay.proofs.Table.{all-placed, all-without, all-more, on_table-placed, on_table-without, ordered-placed, ordered-without}
 use Rattle.wq_delay.proofs.Held.{starts, stops, HoldsAll, holds_same, holds_more, holds_less, free_before}

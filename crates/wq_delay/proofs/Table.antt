@@ -3,7 +3,7 @@ use Rattle.std.proofs.Common.{◌≡◌, ℕ, ◌<◌, ◌≤◌, ◌==◌, Bool
 use Rattle.std.specs.Prelude.{nat_lt, nat_le}
 use Rattle.std.specs.List.{AllByRecursion}
 use Rattle.std.proofs.lemmas.Bool.Decides.{nat_tests}
-use Rattle.wq_delay.specs.Table.{Entry, on_table, due_part, placed, without, IsBefore, IsOrdered, AreArmedBefore}
+use Rattle.wq_words.specs.DelayTable.{Entry, on_table, due_part, placed, without, IsBefore, IsOrdered, AreArmedBefore}
 use Rattle.wq_delay.specs.Rows.{place_of}
 
 pub first_false : (p q : Bool) → (p || q) ≡ false → p ≡ false

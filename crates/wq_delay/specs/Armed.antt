@@ -1,12 +1,12 @@
 -- The answers of an arming or a modification that queues at once.
-use Rattle.wq_live.specs.declared.answer.Answer.{Answer}
-use Rattle.wq_live.specs.declared.answer.Answer.TheVariants as answer
-use Rattle.wq_live.specs.declared.answer.Posted.{Posted}
-use Rattle.wq_live.specs.declared.answer.Posted.TheVariants as posted
-use Rattle.wq_delay.specs.declared.answer.Armed.{Armed}
-use Rattle.wq_delay.specs.declared.answer.Armed.TheVariants as armed
-use Rattle.wq_delay.specs.declared.answer.Modified.{Modified}
-use Rattle.wq_delay.specs.declared.answer.Modified.TheVariants as modified
+use Rattle.wq_words.specs.declared.answer.Answer.{Answer}
+use Rattle.wq_words.specs.declared.answer.Answer.TheVariants as answer
+use Rattle.wq_words.specs.declared.answer.Posted.{Posted}
+use Rattle.wq_words.specs.declared.answer.Posted.TheVariants as posted
+use Rattle.wq_words.specs.declared.answer.Armed.{Armed}
+use Rattle.wq_words.specs.declared.answer.Armed.TheVariants as armed
+use Rattle.wq_words.specs.declared.answer.Modified.{Modified}
+use Rattle.wq_words.specs.declared.answer.Modified.TheVariants as modified
 
 abbrev pub armed_of : Answer → Armed
 armed_of (answer.Queued is_first) = armed.Queued is_first

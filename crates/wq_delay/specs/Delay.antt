@@ -7,17 +7,17 @@ use Rattle.wq_words.specs.declared.event.Event.TheVariants.{Hold, Busy, Push, Ba
 use Rattle.wq_words.specs.declared.event.Why.TheVariants as why
 use Rattle.wq_words.specs.History.{Holds, is_push}
 use Rattle.wq_words.specs.Legal.{IsLegal}
-use Rattle.wq_live.specs.declared.answer.Posted.{Posted}
-use Rattle.wq_live.specs.declared.answer.Posted.TheVariants as posted
+use Rattle.wq_words.specs.declared.answer.Posted.{Posted}
+use Rattle.wq_words.specs.declared.answer.Posted.TheVariants as posted
 use Rattle.wq_live.specs.Known.{Known, Sees}
 use Rattle.wq_live.specs.Answers.{IsPushed}
-use Rattle.wq_delay.specs.declared.answer.Armed.{Armed}
-use Rattle.wq_delay.specs.declared.answer.Armed.TheVariants as armed
-use Rattle.wq_delay.specs.declared.answer.Modified.{Modified}
-use Rattle.wq_delay.specs.declared.answer.Modified.TheVariants as modified
+use Rattle.wq_words.specs.declared.answer.Armed.{Armed}
+use Rattle.wq_words.specs.declared.answer.Armed.TheVariants as armed
+use Rattle.wq_words.specs.declared.answer.Modified.{Modified}
+use Rattle.wq_words.specs.declared.answer.Modified.TheVariants as modified
 use Rattle.wq_delay.specs.declared.answer.Advance.{Advance}
 use Rattle.wq_delay.specs.declared.answer.Backwards.{Backwards}
-use Rattle.wq_delay.specs.Table.{Entry, on_table, due_part, later_part, placed, without, IsOrdered, AreArmedBefore}
+use Rattle.wq_words.specs.DelayTable.{Entry, on_table, due_part, later_part, placed, without, IsOrdered, AreArmedBefore}
 
 -- its sender, the present tick, the number of the next arming, and what stands on the table, in the order of going out
 pub record DelayState : Type 0 where

@@ -1,4 +1,3 @@
-pub mod Table
 pub mod Rows
 pub mod Delay
 pub mod Armed

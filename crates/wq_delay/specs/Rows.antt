@@ -1,6 +1,6 @@
 -- The rows of a timetable.
 use Rattle.std.specs.Prelude.{◌≡◌, ℕ, ◌≤◌, ◌==◌, Option, Some, None, if◌then◌else◌, List, [], ◌∷◌, slice_index_or}
-use Rattle.wq_delay.specs.Table.{Entry, IsOrdered}
+use Rattle.wq_words.specs.DelayTable.{Entry, IsOrdered}
 
 -- how many items there may be, and what stands on the table
 pub record Rows : Type 0 where

@@ -1,18 +1,18 @@
 //! The delay table of a queue.
 ghost use Rattle.std.specs.Prelude.{◌≡◌, ℕ, ◌+◌, ◌^◌, ◌<◌, ◌↔◌, IfOk, IfErr, [], length, true, MatchOption};
-ghost use Rattle.wq_delay.specs.declared.answer.Armed.TheVariants as armed;
-ghost use Rattle.wq_delay.specs.declared.answer.Modified.TheVariants as modified;
+ghost use Rattle.wq_words.specs.declared.answer.Armed.TheVariants as armed;
+ghost use Rattle.wq_words.specs.declared.answer.Modified.TheVariants as modified;
 ghost use Rattle.wq_words.specs.History.{Holds};
 ghost use Rattle.wq_live.specs.Known.{Sees};
-ghost use Rattle.wq_delay.specs.Table.{items, on_table, due_part};
+ghost use Rattle.wq_words.specs.DelayTable.{items, on_table, due_part};
 ghost use Rattle.wq_delay.specs.Delay.{IsFit, IsBeyond, IsTooFar, Keeps, Arms, Cancels, Modifies, PostsOne, PostsDue, Advances, GivesBack};
 
-use crate::answer::{Advance, Armed, Backwards, Modified, NoRoom};
+use crate::answer::{Advance, Backwards, NoRoom, armed_of, modified_of, modified_of_posted};
 use crate::timetable::Timetable;
 use std::alloc::{AllocError, Global};
 use std::marker::Model;
-use wq_live::{Posted, Sender};
-use wq_words::Layout;
+use wq_live::Sender;
+use wq_words::{Armed, Layout, Modified, Posted};
 
 const LONGEST: u64 = 4_294_967_295;
 
@@ -95,7 +95,7 @@ impl Delay {
             return Armed::TooFar;
         };
         if delay == 0 {
-            return Armed::of(self.sender.queue_tries(item, tries));
+            return armed_of(self.sender.queue_tries(item, tries));
         }
         if !self.sender.hold(item) {
             return Armed::Pending;
@@ -132,10 +132,10 @@ impl Delay {
             return Modified::TooFar;
         };
         if !self.table.has(item) {
-            return Modified::of(self.arm(item, delay, tries));
+            return modified_of(self.arm(item, delay, tries));
         }
         if delay == 0 {
-            return Modified::of_posted(self.post_item(item, tries));
+            return modified_of_posted(self.post_item(item, tries));
         }
         if self.table.replace(item, due, self.next as u64).is_err() {
             return Modified::Memory;

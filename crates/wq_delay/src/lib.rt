@@ -5,8 +5,9 @@ mod answer;
 mod delay;
 mod timetable;
 
-pub use answer::{Advance, Armed, Backwards, Modified, NoRoom};
+pub use answer::{Advance, Backwards, NoRoom};
 pub use delay::Delay;
+pub use wq_words::{Armed, Modified};
 
 #[cfg(test)]
 mod tests;

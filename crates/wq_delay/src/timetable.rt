@@ -1,6 +1,6 @@
 //! Items by the ticks at which they are due.
 ghost use Rattle.std.specs.Prelude.{◌≡◌, ◌<◌, ◌≤◌, true, false, Some, None, [], map, length, OnOk, OnErr, IfOk, IfSome, MatchOption};
-ghost use Rattle.wq_delay.specs.Table.{items, on_table, due_part, placed, without, IsOrdered, AreArmedBefore};
+ghost use Rattle.wq_words.specs.DelayTable.{items, on_table, due_part, placed, without, IsOrdered, AreArmedBefore};
 ghost use Rattle.wq_delay.specs.Rows.{IsFirstDue, Pops};
 
 use std::alloc::{AllocError, Global};

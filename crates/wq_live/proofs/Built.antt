@@ -15,7 +15,7 @@ use Rattle.wq_live.specs.declared.sender.Sender.TheInside as sender
 use Rattle.wq_live.specs.declared.owner.Owner.TheInside as owner
 use Rattle.wq_words.specs.History.{closed, running}
 use Rattle.wq_table.specs.declared.table.Stage.TheVariants as stage
-use Rattle.wq_table.specs.Seen.{owner_seat}
+use Rattle.wq_words.specs.Seen.{owner_seat}
 use Rattle.wq_live.specs.Known.{new_owner, new_sender, new_senders}
 use Rattle.wq_live.specs.Counts.{sender_counts, owner_counts}
 use Rattle.wq_live.specs.Sits.{sender_view, owner_view, Sends, Stands, Executes}

@@ -6,8 +6,8 @@ use Rattle.wq_words.specs.declared.event.Event.{Event}
 use Rattle.wq_words.specs.declared.event.Event.TheVariants.{Hold, Busy, Push, Back}
 use Rattle.wq_words.specs.declared.event.Why.TheVariants.{Closed, Contended, Cancelled}
 use Rattle.wq_words.proofs.Growing.{count_by_push}
-use Rattle.wq_table.specs.Seen.{seat_of, Grows}
-use Rattle.wq_table.proofs.Seen.{count_own}
+use Rattle.wq_words.specs.Seen.{seat_of, Grows}
+use Rattle.wq_words.proofs.Seen.{count_own}
 use Rattle.wq_live.specs.declared.counts.SenderCounts.{SenderCounts}
 use Rattle.wq_live.specs.Counts.{capped, is_queued_by, is_pending_by, is_closed_by, is_contended_by, sender_counts}
 

@@ -16,11 +16,11 @@ use Rattle.wq_core.proofs.Taken.{batch_is}
 use Rattle.wq_table.specs.declared.table.Part.{Part}
 use Rattle.wq_table.specs.declared.table.Stage.{Stage}
 use Rattle.wq_table.specs.declared.table.Stage.TheVariants.{Sends, Owns}
-use Rattle.wq_table.specs.Seen.{owner_seat, own, Grows}
+use Rattle.wq_words.specs.Seen.{owner_seat, own, Grows}
 use Rattle.wq_table.specs.Law.{seat_at, Keeps}
 use Rattle.wq_table.specs.Plays.{stage_after, walked_on, Makes}
 use Rattle.wq_table.specs.Chair.{IsOwner, IsRested, HasNone, IsToBegin}
-use Rattle.wq_table.proofs.Seen.{own_one, begun_same, ended_same}
+use Rattle.wq_words.proofs.Seen.{own_one, begun_same, ended_same}
 use Rattle.wq_live.specs.declared.owner.Owner.TheInside.{Inside}
 use Rattle.wq_live.specs.Known.{Known, Sees}
 use Rattle.wq_live.specs.Batch.{batch}

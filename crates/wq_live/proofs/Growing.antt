@@ -6,8 +6,8 @@ use Rattle.wq_words.specs.declared.event.Event.{Event}
 use Rattle.wq_words.specs.History.{Holds}
 use Rattle.wq_core.specs.Sound.{head_of}
 use Rattle.wq_words.specs.Head.{head_word}
-use Rattle.wq_table.specs.Seen.{seat_of, own, others, Grows}
-use Rattle.wq_table.proofs.Seen.{own-append, others-append, none_new, held_same}
+use Rattle.wq_words.specs.Seen.{seat_of, own, others, Grows}
+use Rattle.wq_words.proofs.Seen.{own-append, others-append, none_new, held_same}
 
 pub grows_done : (c : ℕ) (v h xs : List Event) → IsPrefix v h → own c h ≡ own c v → own c xs ≡ xs → Grows c xs 0 v (h ++ xs)
 grows_done c v h xs begins mine all = record {

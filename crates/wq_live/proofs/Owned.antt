@@ -9,7 +9,7 @@ use Rattle.wq_words.proofs.Growing.{slice_get_last}
 use Rattle.wq_words.specs.declared.event.Event.{Event}
 use Rattle.wq_words.specs.declared.event.Event.TheVariants.{Close, Begin, End, Chain, ChainBusy}
 use Rattle.wq_words.specs.History.{begun, begun_by, ended, ended_by, running, closed, is_close}
-use Rattle.wq_table.specs.Seen.{owner_seat, seat_of, own, Grows}
+use Rattle.wq_words.specs.Seen.{owner_seat, seat_of, own, Grows}
 use Rattle.wq_live.specs.declared.counts.OwnerCounts.{OwnerCounts}
 use Rattle.wq_live.specs.Counts.{capped, is_chain, is_chain_busy, owner_counts}
 use Rattle.wq_live.proofs.Counting.{count_on}

@@ -3,8 +3,8 @@ use Rattle.std.proofs.Common.{◌≡◌, ℕ, zero, suc, List, [], ◌∷◌, �
 use Rattle.std.specs.List.{AllByRecursion}
 use Rattle.atomic_table.specs.Seated.{TableId}
 use Rattle.wq_words.specs.declared.layout.Layout.{Layout}
-use Rattle.wq_live.specs.declared.answer.Answer.{Answer}
-use Rattle.wq_live.specs.declared.answer.Answer.TheVariants as answer
+use Rattle.wq_words.specs.declared.answer.Answer.{Answer}
+use Rattle.wq_words.specs.declared.answer.Answer.TheVariants as answer
 use Rattle.wq_live.specs.Known.{Known, new_sender, new_senders}
 use Rattle.wq_live.specs.Answers.{Answers}
 

@@ -12,8 +12,8 @@ use Rattle.wq_words.specs.History.{Holds, starts_hold, stops_hold}
 use Rattle.wq_words.specs.Legal.{IsLegal}
 use Rattle.wq_words.proofs.Legal.{legal_front}
 use Rattle.wq_words.proofs.Keepers.{kept}
-use Rattle.wq_table.specs.Seen.{seat_of, Grows}
-use Rattle.wq_table.proofs.Seen.{own-append}
+use Rattle.wq_words.specs.Seen.{seat_of, Grows}
+use Rattle.wq_words.proofs.Seen.{own-append}
 use Rattle.wq_live.specs.Answers.{IsPushed, TestsAndSets}
 use Rattle.wq_live.proofs.Counting.{count_on, count_one, counts_none}
 use Rattle.wq_table.specs.Chair.{IsSender}

@@ -19,7 +19,7 @@ use Rattle.wq_words.proofs.Listed.{closed_from_IsClosed, closed_from_open, close
 use Rattle.wq_core.specs.Machine.{Machine}
 use Rattle.wq_core.specs.Sound.{IsSound, IsChain, word_at}
 use Rattle.wq_core.proofs.Chains.{chain_zero}
-use Rattle.wq_table.specs.Seen.{owner_seat, own, Grows}
+use Rattle.wq_words.specs.Seen.{owner_seat, own, Grows}
 use Rattle.wq_live.specs.Batch.{batch, TakesAll}
 use Rattle.wq_live.proofs.Owned.{begun_on, closes_on}
 

@@ -13,7 +13,7 @@ use Rattle.wq_core.specs.Machine.{Machine}
 use Rattle.wq_core.specs.Sound.{IsSound}
 use Rattle.wq_table.specs.declared.table.Part.{Part}
 use Rattle.wq_table.specs.declared.table.Stage.TheVariants.{Owns}
-use Rattle.wq_table.specs.Seen.{owner_seat, own, Grows}
+use Rattle.wq_words.specs.Seen.{owner_seat, own, Grows}
 use Rattle.wq_table.specs.Law.{Keeps}
 use Rattle.wq_table.specs.Plays.{Makes}
 use Rattle.wq_live.specs.Batch.{TakesAll}

@@ -22,11 +22,11 @@ use Rattle.wq_core.specs.Sound.{IsSound, head_of, head_of_list}
 use Rattle.wq_table.specs.declared.table.Part.{Part}
 use Rattle.wq_table.specs.declared.table.Stage.{Stage}
 use Rattle.wq_table.specs.declared.table.Stage.TheVariants.{Sends, Owns}
-use Rattle.wq_table.specs.Seen.{own, Grows}
+use Rattle.wq_words.specs.Seen.{own, Grows}
 use Rattle.wq_table.specs.Law.{part, seat_at, Keeps, Fits}
 use Rattle.wq_table.specs.Plays.{stage_after, Makes}
 use Rattle.wq_table.specs.Chair.{IsSender, HasSeen, HasLinked}
-use Rattle.wq_table.proofs.Seen.{own_one}
+use Rattle.wq_words.proofs.Seen.{own_one}
 use Rattle.wq_live.specs.Answers.{IsPushed}
 use Rattle.wq_live.proofs.Growing.{grows_done, grows_on, grows_held, grows_others}
 

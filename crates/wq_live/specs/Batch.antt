@@ -2,7 +2,7 @@
 use Rattle.std.specs.Prelude.{◌≡◌, ℕ, List, [], ◌∷◌, ◌++◌, length, take, drop, Option, slice_get}
 use Rattle.wq_words.specs.declared.event.Event.{Event}
 use Rattle.wq_words.specs.History.{accepted, begun, taken, fresh}
-use Rattle.wq_table.specs.Seen.{owner_seat, own}
+use Rattle.wq_words.specs.Seen.{owner_seat, own}
 
 -- the part of what was accepted from the place after all that has begun up to the place after all that was taken
 abbrev pub batch : List Event → List ℕ

@@ -4,11 +4,15 @@ use Rattle.atomic_table.specs.Seated.{TableId}
 use Rattle.wq_words.specs.declared.layout.Layout.{Layout}
 use Rattle.wq_words.specs.declared.event.Event.{Event}
 use Rattle.wq_words.specs.Legal.{IsLegal}
-use Rattle.wq_table.specs.Seen.{owner_seat, Grows}
+use Rattle.wq_words.specs.Seen.{owner_seat, Grows}
+
+-- which queue it is
+abbrev pub QueueId : Type 0
+QueueId = TableId
 
 -- which queue it is of, how large that is, the seat's number (`owner_seat` for the owner), and the history that it has seen
 pub record Known : Type 0 where
-  pub queue : TableId
+  pub queue : QueueId
   pub layout : Layout
   pub number : ℕ
   pub seen : List Event
@@ -27,12 +31,12 @@ pub record Sees (xs : List Event) (n : ℕ) (old new : Known) : Type 0 where
   pub legal : IsLegal new.layout new.seen
 
 -- a sender and an owner of a new queue, and the senders below m
-abbrev pub new_sender : TableId → Layout → ℕ → Known
+abbrev pub new_sender : QueueId → Layout → ℕ → Known
 new_sender queue layout s = record { queue = queue; layout = layout; number = s; seen = [] }
 
-abbrev pub new_owner : TableId → Layout → Known
+abbrev pub new_owner : QueueId → Layout → Known
 new_owner queue layout = record { queue = queue; layout = layout; number = owner_seat; seen = [] }
 
-abbrev pub new_senders : TableId → Layout → ℕ → List Known
+abbrev pub new_senders : QueueId → Layout → ℕ → List Known
 new_senders queue layout zero = []
 new_senders queue layout (suc m) = new_senders queue layout m ++ new_sender queue layout m ∷ []

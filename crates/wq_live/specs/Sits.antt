@@ -8,7 +8,7 @@ use Rattle.wq_core.specs.Sound.{IsSound}
 use Rattle.wq_table.specs.declared.table.Part.{Part}
 use Rattle.wq_table.specs.declared.table.Stage.{Stage}
 use Rattle.wq_table.specs.declared.table.Stage.TheVariants as stage
-use Rattle.wq_table.specs.Seen.{owner_seat, Grows}
+use Rattle.wq_words.specs.Seen.{owner_seat, Grows}
 use Rattle.wq_table.specs.Law.{Fits}
 use Rattle.wq_table.specs.Chair.{IsSender}
 use Rattle.wq_live.specs.declared.sender.Sender.TheInside as sender

@@ -8,11 +8,12 @@ mod making;
 mod owner;
 mod sender;
 
-pub use answer::{Answer, Done, Posted};
+pub use answer::Done;
 pub use counts::{OwnerCounts, SenderCounts};
 pub use making::{BuildError, build};
 pub use owner::Owner;
 pub use sender::Sender;
+pub use wq_words::{Answer, Posted};
 
 #[cfg(test)]
 mod tests;

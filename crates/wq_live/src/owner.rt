@@ -11,12 +11,12 @@ ghost use Rattle.wq_live.specs.Batch.{batch, next_of, TakesAll};
 ghost use Rattle.wq_live.specs.Counts.{capped, owner_counts};
 ghost use Rattle.wq_live.specs.Sits.{Stands, Follows, Walks, walking};
 
-use crate::answer::{Answer, Done};
+use crate::answer::Done;
 use crate::batch::Batch;
 use crate::counts::OwnerCounts;
 use std::marker::Model;
 use wq_table::Chair;
-use wq_words::Layout;
+use wq_words::{Answer, Layout};
 
 /// The owner of a queue, who takes what was pushed and executes it, one number at a time, in the order of the pushes. It
 /// may be moved to another thread. No call takes a lock or memory, or waits.

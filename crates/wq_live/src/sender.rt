@@ -5,19 +5,18 @@ ghost use Rattle.wq_words.specs.declared.event.Why.TheVariants as why;
 ghost use Rattle.wq_words.specs.History.{pending, Holds};
 ghost use Rattle.wq_words.specs.Numbers.{stop_number, number_count};
 ghost use Rattle.wq_words.specs.Legal.{IsLegal};
-ghost use Rattle.wq_table.specs.Seen.{owner_seat};
-ghost use Rattle.wq_live.specs.declared.answer.Answer.TheVariants.{Queued, Contended};
+ghost use Rattle.wq_words.specs.Seen.{owner_seat};
+ghost use Rattle.wq_words.specs.declared.answer.Answer.TheVariants.{Queued, Contended};
 ghost use Rattle.wq_live.specs.Known.{Sees};
 ghost use Rattle.wq_live.specs.Answers.{TestsAndSets, Answers, Posts, HasFlushed};
 ghost use Rattle.wq_live.specs.Counts.{sender_counts};
 
-use crate::answer::{Answer, Posted};
 use crate::counts::SenderCounts;
 use crate::owner::Owner;
 use std::marker::Model;
 use std::sync::Wait;
 use wq_table::Chair;
-use wq_words::Layout;
+use wq_words::{Answer, Layout, Posted};
 
 /// A sender of a queue. It may be moved to another thread. No call takes a lock or memory, and only `queue` and `flush`
 /// may wait.

@@ -13,8 +13,8 @@ use Rattle.wq_words.specs.History.{is_close, is_push, accepted, begun, ended}
 use Rattle.wq_words.specs.Legal.{IsLegal}
 use Rattle.wq_words.proofs.Order.{in_order}
 use Rattle.wq_words.proofs.Headlines.{prefix_whole}
-use Rattle.wq_table.specs.Seen.{own}
-use Rattle.wq_table.proofs.Seen.{own-append, closed_count, ended_same}
+use Rattle.wq_words.specs.Seen.{own}
+use Rattle.wq_words.proofs.Seen.{own-append, closed_count, ended_same}
 use Rattle.wq_live.specs.Known.{Known}
 use Rattle.wq_live.specs.Counts.{is_queued_by, is_chain, is_chain_busy, sender_counts, owner_counts}
 use Rattle.wq_worker.specs.Book.{BookState, IsMade}

@@ -11,7 +11,7 @@ use Rattle.wq_words.specs.declared.event.Why.TheVariants as why
 use Rattle.wq_words.specs.History.{sets_pending}
 use Rattle.wq_words.specs.Legal.{IsLegal, IsAllowed}
 use Rattle.wq_words.proofs.Legal.{legal_next}
-use Rattle.wq_table.specs.Seen.{seat_of, own}
+use Rattle.wq_words.specs.Seen.{seat_of, own}
 use Rattle.wq_worker.specs.Follow.{Queues, passed, pushed, busy, refused, chained, chain_busy, Follows}
 use Rattle.wq_race.specs.Outcome.{queueings}
 use Rattle.wq_race.proofs.Running.{own_room}

@@ -1,10 +1,10 @@
 -- The seats of a new team.
 use Rattle.std.proofs.Common.{◌≡◌, ℕ, zero, suc, ◌+◌, List, [], ◌∷◌, ◌++◌, length, refl, sym, ap, ◌∙◌, subst, arith, length-append}
-use Rattle.atomic_table.specs.Seated.{TableId}
+use Rattle.wq_live.specs.Known.{QueueId}
 use Rattle.wq_words.specs.declared.layout.Layout.{Layout}
 use Rattle.wq_words.specs.declared.event.Event.{Event}
 use Rattle.wq_words.specs.Legal.{IsLegal}
-use Rattle.wq_table.specs.Seen.{owner_seat, own, Grows}
+use Rattle.wq_words.specs.Seen.{owner_seat, own, Grows}
 use Rattle.wq_live.specs.Known.{Known, new_owner, new_sender, new_senders}
 use Rattle.wq_race.specs.declared.plan.Plan.{Plan}
 use Rattle.wq_race.specs.declared.team.Team.{Team}
@@ -22,17 +22,17 @@ module _ {A : Type 0} where
   ends_alike (z ∷ xs) [] x y is = let rest : [] ≡ xs ++ x ∷ [] = cc in absurd (none_and_one xs x rest)
   ends_alike (z ∷ xs) (w ∷ ys) x y is = let tails : xs ++ x ∷ [] ≡ ys ++ y ∷ [] = cc in let r = ends_alike xs ys x y tails in let same : z ≡ w = cc in ((λ i. same i ∷ r.0 i), r.1)
 
-pub length-new_senders : (q : TableId) (l : Layout) (n : ℕ) → length (new_senders q l n) ≡ n
+pub length-new_senders : (q : QueueId) (l : Layout) (n : ℕ) → length (new_senders q l n) ≡ n
 length-new_senders q l zero = refl
 length-new_senders q l (suc m) = omega (arith, length-append (new_senders q l m) (new_sender q l m ∷ []), length-new_senders q l m)
 
 -- the senders of a new queue, of which the last two are taken
-pub record IsShared (q : TableId) (l : Layout) (n : ℕ) (xs : List Known) (own program : Known) : Type 0 where
+pub record IsShared (q : QueueId) (l : Layout) (n : ℕ) (xs : List Known) (own program : Known) : Type 0 where
   pub rest_is : xs ≡ new_senders q l n
   pub own_is : own ≡ new_sender q l n
   pub program_is : program ≡ new_sender q l (n + 1)
 
-pub shared : (q : TableId) (l : Layout) (n : ℕ) (all more xs : List Known) (own program : Known) → l.senders ≡ n + 2 → all ≡ new_senders q l l.senders → all ≡ more ++ program ∷ [] → more ≡ xs ++ own ∷ [] → IsShared q l n xs own program
+pub shared : (q : QueueId) (l : Layout) (n : ℕ) (all more xs : List Known) (own program : Known) → l.senders ≡ n + 2 → all ≡ new_senders q l l.senders → all ≡ more ++ program ∷ [] → more ≡ xs ++ own ∷ [] → IsShared q l n xs own program
 shared q l n all more xs own program count made one two =
     let last : l.senders ≡ suc (n + 1) = omega (arith, count) in
     let before : n + 1 ≡ suc n = omega arith in

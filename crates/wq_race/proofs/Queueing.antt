@@ -5,10 +5,10 @@ use Rattle.std.proofs.lemmas.List.{append-nil}
 use Rattle.wq_words.specs.declared.layout.Layout.{Layout}
 use Rattle.wq_words.specs.declared.event.Event.{Event}
 use Rattle.wq_words.specs.Numbers.{stop_number}
-use Rattle.wq_table.specs.Seen.{Grows}
-use Rattle.wq_table.proofs.Seen.{own-append}
-use Rattle.wq_live.specs.declared.answer.Answer.{Answer}
-use Rattle.wq_live.specs.declared.answer.Answer.TheVariants as answer
+use Rattle.wq_words.specs.Seen.{Grows}
+use Rattle.wq_words.proofs.Seen.{own-append}
+use Rattle.wq_words.specs.declared.answer.Answer.{Answer}
+use Rattle.wq_words.specs.declared.answer.Answer.TheVariants as answer
 use Rattle.wq_live.specs.Known.{Known, IsSame, Sees}
 use Rattle.wq_live.specs.Answers.{Answers}
 use Rattle.wq_worker.specs.Follow.{Queues, pushed, busy, refused}

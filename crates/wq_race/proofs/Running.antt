@@ -3,12 +3,12 @@ use Rattle.std.proofs.Common.{◌≡◌, ℕ, zero, suc, ◌+◌, ◌*◌, ◌^�
 use Rattle.std.specs.Prelude.{count_by}
 use Rattle.std.specs.List.{AllByRecursion}
 use Rattle.std.proofs.lemmas.Bool.{cases_lt}
-use Rattle.atomic_table.specs.Seated.{TableId}
+use Rattle.wq_live.specs.Known.{QueueId}
 use Rattle.wq_words.specs.declared.layout.Layout.{Layout}
 use Rattle.wq_words.specs.declared.event.Event.{Event}
 use Rattle.wq_words.specs.History.{IsRunning, is_close}
-use Rattle.wq_table.specs.Seen.{owner_seat, own, Grows}
-use Rattle.wq_table.proofs.Seen.{closed_count, begun_same}
+use Rattle.wq_words.specs.Seen.{owner_seat, own, Grows}
+use Rattle.wq_words.proofs.Seen.{closed_count, begun_same}
 use Rattle.wq_live.specs.Known.{Known, new_sender, new_senders}
 use Rattle.wq_live.specs.Counts.{is_chain, is_chain_busy}
 use Rattle.wq_worker.specs.Follow.{Follows}
@@ -46,7 +46,7 @@ own_room s (suc n) m lt = elim (cases_lt s n) [
     times_suc : (n m : ℕ) → suc n * m ≡ n * m + m
     times_suc n m = omega arith
 
-pub new_at : (q : TableId) (l : Layout) (n i : ℕ) (d : Known) → i < n → get_or (new_senders q l n) i d ≡ new_sender q l i
+pub new_at : (q : QueueId) (l : Layout) (n i : ℕ) (d : Known) → i < n → get_or (new_senders q l n) i d ≡ new_sender q l i
 new_at q l zero i d lt = absurd (omega (arith, lt))
 new_at q l (suc n) i d lt =
     let P : ℕ → Known → Type 0 = λ i k. i < suc n → k ≡ new_sender q l i in
@@ -64,7 +64,7 @@ rooms plan t new i d lt =
 pub own-first : (c : ℕ) (es v w : List Event) → v ≡ [] → Grows c es 0 v w → own c w ≡ es
 own-first c es v w none g = ap (own c) (g.is ∙ ap (λ (z : List Event). z ++ g.new) none) ∙ g.mine
 
-queuer : (m i : ℕ) (q : TableId) (l : Layout) (w : WorkerState Idle) (a b : Known) → w.queue ≡ q → w.layout ≡ l → a ≡ new_sender q l i → HasQueued (items_at a.number m) a b → IsQueuer m w i b
+queuer : (m i : ℕ) (q : QueueId) (l : Layout) (w : WorkerState Idle) (a b : Known) → w.queue ≡ q → w.layout ≡ l → a ≡ new_sender q l i → HasQueued (items_at a.number m) a b → IsQueuer m w i b
 queuer m i q l w a b queue layout at h =
     let number : a.number ≡ i = ap (λ (k : Known). k.number) at in
     let size : a.layout ≡ w.layout = ap (λ (k : Known). k.layout) at ∙ sym layout in

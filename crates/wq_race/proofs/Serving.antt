@@ -8,8 +8,8 @@ use Rattle.wq_words.specs.declared.event.Event.{Event}
 use Rattle.wq_words.specs.declared.event.Event.TheVariants.{Hold, Busy, Push, Back, Take, Close, Begin, End, Chain, ChainBusy}
 use Rattle.wq_words.specs.History.{IsRunning, is_close, closed, accepted, begun, ended}
 use Rattle.wq_words.specs.Legal.{IsLegal, IsComplete}
-use Rattle.wq_table.specs.Seen.{owner_seat, seat_of, own}
-use Rattle.wq_table.proofs.Seen.{own-append, own_none, count_own}
+use Rattle.wq_words.specs.Seen.{owner_seat, seat_of, own}
+use Rattle.wq_words.proofs.Seen.{own-append, own_none, count_own}
 use Rattle.wq_live.specs.Counts.{is_chain, is_chain_busy}
 use Rattle.wq_live.specs.Batch.{next_of}
 use Rattle.wq_worker.specs.declared.ran.Ran.{Ran}

@@ -13,8 +13,8 @@ use Rattle.wq_words.specs.declared.event.Why.TheVariants as why
 use Rattle.wq_words.specs.Numbers.{stop_number}
 use Rattle.wq_words.specs.History.{accepted_by, accepted}
 use Rattle.wq_words.specs.Legal.{IsLegal}
-use Rattle.wq_table.specs.Seen.{owner_seat, seat_of, own}
-use Rattle.wq_table.proofs.Seen.{count_own}
+use Rattle.wq_words.specs.Seen.{owner_seat, seat_of, own}
+use Rattle.wq_words.proofs.Seen.{count_own}
 use Rattle.wq_live.specs.Counts.{is_queued_by, is_chain}
 use Rattle.wq_worker.specs.State.{items_of}
 use Rattle.wq_worker.specs.Follow.{Follows}

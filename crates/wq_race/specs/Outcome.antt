@@ -6,7 +6,7 @@ use Rattle.wq_words.specs.declared.event.Event.{Event}
 use Rattle.wq_words.specs.declared.event.Event.TheVariants.{Hold, Push}
 use Rattle.wq_words.specs.History.{accepted, ended, IsRunning}
 use Rattle.wq_words.specs.Legal.{IsLegal, IsComplete}
-use Rattle.wq_table.specs.Seen.{own, owner_seat}
+use Rattle.wq_words.specs.Seen.{own, owner_seat}
 use Rattle.wq_worker.specs.State.{WorkerState, items_of}
 use Rattle.wq_race.specs.declared.idle.Idle.{Idle}
 use Rattle.wq_race.specs.declared.plan.Plan.{Plan}

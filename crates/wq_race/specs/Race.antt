@@ -8,7 +8,7 @@ use Rattle.wq_words.specs.declared.event.Event.TheVariants.{Hold, Busy, Push, Ba
 use Rattle.wq_words.specs.Numbers.{stop_number}
 use Rattle.wq_words.specs.History.{IsRunning, is_close}
 use Rattle.wq_words.specs.Legal.{IsLegal}
-use Rattle.wq_table.specs.Seen.{own, Grows}
+use Rattle.wq_words.specs.Seen.{own, Grows}
 use Rattle.wq_live.specs.declared.sender.Sender.{Sender}
 use Rattle.wq_live.specs.Known.{Known, IsSame}
 use Rattle.wq_live.specs.Counts.{is_chain, is_chain_busy}

@@ -1,7 +1,7 @@
 -- The seats of a plan's queue.
 use Rattle.std.specs.Prelude.{◌≡◌, ◌+◌, []}
 use Rattle.wq_words.specs.Legal.{IsLegal}
-use Rattle.wq_table.specs.Seen.{owner_seat, own}
+use Rattle.wq_words.specs.Seen.{owner_seat, own}
 use Rattle.wq_live.specs.Known.{new_sender, new_senders}
 use Rattle.wq_race.specs.Plan.{IsLayoutOf}
 use Rattle.wq_race.specs.declared.plan.Plan.{Plan}

@@ -2,7 +2,7 @@
 ghost use Rattle.std.specs.Prelude.{◌≡◌, ◌≢◌, ◌<◌, [], ◌∷◌, ◌++◌, map, All, OnOk, IfOk, MatchResult, MatchBool, string_bytes};
 ghost use Rattle.wq_words.specs.History.{IsRunning};
 ghost use Rattle.wq_words.specs.Legal.{IsLegal};
-ghost use Rattle.wq_table.specs.Seen.{owner_seat, own};
+ghost use Rattle.wq_words.specs.Seen.{owner_seat, own};
 ghost use Rattle.wq_worker.specs.Book.{IsMade};
 ghost use Rattle.wq_worker.specs.Balance.{Balances, IsUnbalanced};
 ghost use Rattle.wq_race.specs.Race.{HasRun};

@@ -1,7 +1,7 @@
 //! A run of a queue by live threads.
 ghost use Rattle.std.specs.Prelude.{◌≡◌, ◌≢◌, ◌+◌, ◌*◌, ◌^◌, ◌<◌, ◌≤◌, if◌then◌else◌, [], ◌∷◌, ◌++◌, length, IfSome, IfOk, All};
 ghost use Rattle.wq_words.specs.History.{IsRunning, IsClosed};
-ghost use Rattle.wq_table.specs.Seen.{owner_seat};
+ghost use Rattle.wq_words.specs.Seen.{owner_seat};
 ghost use Rattle.wq_race.specs.Race.{items_at, HasQueued, HasStopped, HasServed, AreThreads, AllQueued, HasRun};
 ghost use Rattle.wq_worker.specs.State.{WorkerState};
 ghost use Rattle.wq_race.specs.Plan.{IsLayoutOf};

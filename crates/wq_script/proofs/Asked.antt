@@ -8,10 +8,10 @@ use Rattle.wq_words.specs.declared.event.Event.{Event}
 use Rattle.wq_words.specs.declared.event.Event.TheVariants.{Hold, Busy, Push, Back, Close}
 use Rattle.wq_words.specs.declared.event.Why.TheVariants as why
 use Rattle.wq_words.specs.History.{pending, closed, first, fresh}
-use Rattle.wq_table.specs.Seen.{owner_seat}
-use Rattle.wq_table.proofs.Seen.{closed_count}
-use Rattle.wq_live.specs.declared.answer.Answer.{Answer}
-use Rattle.wq_live.specs.declared.answer.Answer.TheVariants as live
+use Rattle.wq_words.specs.Seen.{owner_seat}
+use Rattle.wq_words.proofs.Seen.{closed_count}
+use Rattle.wq_words.specs.declared.answer.Answer.{Answer}
+use Rattle.wq_words.specs.declared.answer.Answer.TheVariants as live
 use Rattle.wq_live.specs.Known.{Known, Sees}
 use Rattle.wq_live.specs.Answers.{Answers, IsPushed}
 use Rattle.wq_plain.specs.declared.answer.Answer as script

@@ -7,10 +7,10 @@ use Rattle.wq_words.specs.declared.event.Event.TheVariants.{Hold, Busy}
 use Rattle.wq_words.specs.History.{pending}
 use Rattle.wq_words.specs.Legal.{IsLegal}
 use Rattle.wq_words.proofs.Legal.{legal_next}
-use Rattle.wq_live.specs.declared.answer.Answer.TheVariants as queueing
+use Rattle.wq_words.specs.declared.answer.Answer.TheVariants as queueing
 use Rattle.wq_live.specs.Known.{Known, Sees}
 use Rattle.wq_delay.specs.declared.answer.Armed as delay_armed
-use Rattle.wq_delay.specs.declared.answer.Armed.TheVariants as live
+use Rattle.wq_words.specs.declared.answer.Armed.TheVariants as live
 use Rattle.wq_delay.specs.Delay.{DelayState, IsFit, IsTooFar, Keeps, Arms}
 use Rattle.wq_plain.specs.declared.answer.Answer as script
 use Rattle.wq_plain.specs.declared.answer.Answer.TheVariants as answer

@@ -15,8 +15,8 @@ use Rattle.wq_words.specs.declared.event.Why.TheVariants as why
 use Rattle.wq_words.specs.History.{accepted, begun, next, taken, closed, is_close, is_push, is_take, fresh}
 use Rattle.wq_words.specs.Legal.{IsLegal}
 use Rattle.wq_words.proofs.Legal.{legal_next, legal_front}
-use Rattle.wq_table.specs.Seen.{owner_seat, seat_of, own}
-use Rattle.wq_table.proofs.Seen.{own-append, own_one, begun_same, closed_count}
+use Rattle.wq_words.specs.Seen.{owner_seat, seat_of, own}
+use Rattle.wq_words.proofs.Seen.{own-append, own_one, begun_same, closed_count}
 use Rattle.wq_live.specs.Batch.{batch, next_of}
 use Rattle.wq_worker.specs.Seats.{is_ours, Adds, taking, taking_of, NothingWaits, at_take, at_all}
 use Rattle.wq_worker.specs.Follow.{Queues, Follows, passed, pushed, busy, refused, chained, chain_busy}

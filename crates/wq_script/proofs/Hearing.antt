@@ -5,8 +5,8 @@ use Rattle.std.proofs.lemmas.List.{append-nil, get_or-set_other, get_or-set_same
 use Rattle.std.proofs.lemmas.Bool.{cases_lt, cases_eq}
 use mathlib.Core.List.{IsPrefix}
 use Rattle.wq_words.specs.declared.event.Event.{Event}
-use Rattle.wq_table.specs.Seen.{owner_seat, seat_of, own, Grows}
-use Rattle.wq_table.proofs.Seen.{own-append, prefix_self}
+use Rattle.wq_words.specs.Seen.{owner_seat, seat_of, own, Grows}
+use Rattle.wq_words.proofs.Seen.{own-append, prefix_self}
 use Rattle.wq_live.specs.Known.{Known, Sees}
 use Rattle.wq_worker.specs.Seats.{is_ours, Adds}
 use Rattle.wq_worker.specs.State.{WorkerState, Moves}

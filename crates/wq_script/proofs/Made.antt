@@ -1,13 +1,13 @@
 -- The seats of a new queue.
 use Rattle.std.proofs.Common.{◌≡◌, ℕ, zero, suc, ◌+◌, ◌<◌, List, [], ◌∷◌, ◌++◌, length, get_or, inl, inr, refl, sym, ap, ◌∙◌, subst, arith, length-append}
 use Rattle.std.proofs.lemmas.Bool.{cases_lt}
-use Rattle.atomic_table.specs.Seated.{TableId}
+use Rattle.wq_live.specs.Known.{QueueId}
 use Rattle.wq_words.specs.declared.layout.Layout.{Layout}
 use Rattle.wq_words.specs.declared.event.Event.{Event}
 use Rattle.wq_words.specs.History.{Holds}
 use Rattle.wq_words.specs.Legal.{IsLegal}
 use Rattle.wq_words.proofs.Legal.{legal_nil}
-use Rattle.wq_table.specs.Seen.{owner_seat, own, Grows}
+use Rattle.wq_words.specs.Seen.{owner_seat, own, Grows}
 use Rattle.wq_live.specs.Known.{Known, new_sender, new_owner, new_senders}
 use Rattle.wq_script.specs.declared.seats.Seats.{Seats}
 use Rattle.wq_script.specs.Seats.{IsAt, IsWider, Seated}
@@ -32,11 +32,11 @@ module _ {A : Type 0} where
   get_or-end [] x d = refl
   get_or-end (y ∷ xs) x d = get_or-end xs x d
 
-pub length-new : (q : TableId) (l : Layout) (n : ℕ) → length (new_senders q l n) ≡ n
+pub length-new : (q : QueueId) (l : Layout) (n : ℕ) → length (new_senders q l n) ≡ n
 length-new q l zero = refl
 length-new q l (suc n) = length-append (new_senders q l n) (new_sender q l n ∷ []) ∙ omega (arith, length-new q l n)
 
-pub new_at : (q : TableId) (l : Layout) (n i : ℕ) (d : Known) → i < n → get_or (new_senders q l n) i d ≡ new_sender q l i
+pub new_at : (q : QueueId) (l : Layout) (n i : ℕ) (d : Known) → i < n → get_or (new_senders q l n) i d ≡ new_sender q l i
 new_at q l zero i d lt = absurd (omega (arith, lt))
 new_at q l (suc n) i d lt = elim (cases_lt i n) [
   | inl less ↦ get_or-front (new_senders q l n) (new_sender q l n) i d (omega (arith, less, length-new q l n)) ∙ new_at q l n i d less
@@ -47,7 +47,7 @@ new_at q l (suc n) i d lt = elim (cases_lt i n) [
 ]
 
 -- the last two of the senders are taken away
-pub two_less : (q : TableId) (l : Layout) (n m : ℕ) (xs ys zs : List Known) (a b : Known) → m ≡ n + 2 → xs ≡ new_senders q l m → xs ≡ ys ++ b ∷ [] → ys ≡ zs ++ a ∷ []
+pub two_less : (q : QueueId) (l : Layout) (n m : ℕ) (xs ys zs : List Known) (a b : Known) → m ≡ n + 2 → xs ≡ new_senders q l m → xs ≡ ys ++ b ∷ [] → ys ≡ zs ++ a ∷ []
     → (zs ≡ new_senders q l n) × (a ≡ new_sender q l n) × (b ≡ new_sender q l (n + 1))
 two_less q l n m xs ys zs a b count made one two =
     let more : m ≡ suc (n + 1) = omega (arith, count) in
@@ -59,7 +59,7 @@ two_less q l n m xs ys zs a b count made one two =
 grown_none : (c : ℕ) (v w : List Event) (n : ℕ) → Grows c [] n v w → v ≡ [] → own c w ≡ []
 grown_none c v w n g none = ap (own c) (g.is ∙ ap (λ (x : List Event). x ++ g.new) none) ∙ g.mine
 
-pub new_seated : (layout wide : Layout) (q : TableId) (s : Seats) (o a b : Known) → IsWider layout wide → o ≡ new_owner q wide → a ≡ new_sender q wide layout.senders → b ≡ new_sender q wide (layout.senders + 1)
+pub new_seated : (layout wide : Layout) (q : QueueId) (s : Seats) (o a b : Known) → IsWider layout wide → o ≡ new_owner q wide → a ≡ new_sender q wide layout.senders → b ≡ new_sender q wide (layout.senders + 1)
     → s.senders.items ≡ new_senders q wide layout.senders → s.worker.queue ≡ o.queue → s.worker.layout ≡ o.layout → s.worker.number ≡ a.number → s.worker.tries ≡ 1
     → Grows owner_seat [] 0 o.seen s.worker.seen → Grows a.number [] 0 a.seen s.worker.seen → IsLegal s.worker.layout s.worker.seen → s.delay.sender ≡ b → Seated layout s []
 new_seated layout wide q s o a b wider is_o is_a is_b senders queue lay number tries grows_o grows_a legal delay = record {

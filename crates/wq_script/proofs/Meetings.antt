@@ -8,16 +8,16 @@ use Rattle.wq_words.specs.declared.event.Event.{Event}
 use Rattle.wq_words.specs.declared.event.Event.TheVariants.{Hold, Busy, Push, Back, Take, Close, Begin, End, Chain, ChainBusy}
 use Rattle.wq_words.specs.declared.event.Why.TheVariants as why
 use Rattle.wq_words.specs.History.{pending, closed, first, taken, next, begun, ended, is_push, IsRunning}
-use Rattle.wq_table.specs.Seen.{owner_seat, seat_of}
-use Rattle.wq_live.specs.declared.answer.Answer.{Answer}
-use Rattle.wq_live.specs.declared.answer.Answer.TheVariants as live
+use Rattle.wq_words.specs.Seen.{owner_seat, seat_of}
+use Rattle.wq_words.specs.declared.answer.Answer.{Answer}
+use Rattle.wq_words.specs.declared.answer.Answer.TheVariants as live
 use Rattle.wq_plain.specs.declared.answer.Answer as script
 use Rattle.wq_plain.specs.declared.answer.Answer.TheVariants as answer
 use Rattle.wq_plain.specs.Queueing.{queue_events, queue_answer, close_events}
 use Rattle.wq_delay.specs.declared.answer.Armed as delay_armed
-use Rattle.wq_delay.specs.declared.answer.Armed.TheVariants as live_armed
+use Rattle.wq_words.specs.declared.answer.Armed.TheVariants as live_armed
 use Rattle.wq_delay.specs.declared.answer.Modified as delay_modified
-use Rattle.wq_delay.specs.declared.answer.Modified.TheVariants as live_modified
+use Rattle.wq_words.specs.declared.answer.Modified.TheVariants as live_modified
 use Rattle.wq_plain.specs.declared.answer.Armed.{Armed}
 use Rattle.wq_plain.specs.declared.answer.Armed.TheVariants as arming
 use Rattle.wq_plain.specs.declared.answer.Modified.{Modified}

@@ -12,11 +12,11 @@ use Rattle.wq_words.specs.Legal.{IsLegal}
 use Rattle.wq_words.proofs.Legal.{legal_next}
 use Rattle.wq_live.specs.Known.{Sees}
 use Rattle.wq_delay.specs.declared.answer.Armed as delay_armed
-use Rattle.wq_delay.specs.declared.answer.Armed.TheVariants as live
+use Rattle.wq_words.specs.declared.answer.Armed.TheVariants as live
 use Rattle.wq_delay.specs.declared.answer.Modified as delay_modified
-use Rattle.wq_delay.specs.declared.answer.Modified.TheVariants as moved
+use Rattle.wq_words.specs.declared.answer.Modified.TheVariants as moved
 use Rattle.wq_delay.specs.Table as running
-use Rattle.wq_delay.specs.Table.{on_table, due_part, later_part, placed, AreArmedBefore}
+use Rattle.wq_words.specs.DelayTable.{on_table, due_part, later_part, placed, AreArmedBefore}
 use Rattle.wq_delay.specs.Delay.{DelayState, IsFit, IsTooFar, IsOut, lost_tries, Leaves, Arms, Cancels, Moves, ArmsAnew, Modifies, PostsDue}
 use Rattle.wq_plain.specs.declared.answer.Answer.TheVariants as answer
 use Rattle.wq_plain.specs.declared.answer.Armed.{Armed}

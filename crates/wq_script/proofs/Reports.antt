@@ -7,8 +7,8 @@ use Rattle.wq_words.specs.declared.event.Why.TheVariants as why
 use Rattle.wq_words.specs.declared.layout.Layout.{Layout}
 use Rattle.wq_words.specs.History.{accepted, begun, ended, is_push}
 use Rattle.wq_words.proofs.Order.{in_order, prefix_length}
-use Rattle.wq_table.specs.Seen.{owner_seat, seat_of, own}
-use Rattle.wq_table.proofs.Seen.{count_own, ended_same}
+use Rattle.wq_words.specs.Seen.{owner_seat, seat_of, own}
+use Rattle.wq_words.proofs.Seen.{count_own, ended_same}
 use Rattle.wq_live.specs.Counts as live
 use Rattle.wq_live.specs.Counts.{capped, is_queued_by, is_pending_by, is_closed_by, is_chain_busy}
 use Rattle.wq_worker.specs.declared.totals.Totals.{Totals}

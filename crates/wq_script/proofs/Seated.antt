@@ -4,11 +4,11 @@ use Rattle.std.specs.Prelude.{filter}
 use Rattle.std.proofs.lemmas.List.{get_or-set_other, get_or-set_same, length-set}
 use Rattle.std.proofs.lemmas.Bool.{cases_lt, cases_eq, false≢true}
 use mathlib.Core.List.{IsPrefix}
-use Rattle.atomic_table.specs.Seated.{TableId}
+use Rattle.wq_live.specs.Known.{QueueId}
 use Rattle.wq_words.specs.declared.layout.Layout.{Layout}
 use Rattle.wq_words.specs.declared.event.Event.{Event}
 use Rattle.wq_words.specs.Legal.{IsLegal}
-use Rattle.wq_table.specs.Seen.{owner_seat, own, others}
+use Rattle.wq_words.specs.Seen.{owner_seat, own, others}
 use Rattle.wq_live.specs.Known.{Known, Sees}
 use Rattle.wq_worker.specs.Seats.{is_ours}
 use Rattle.wq_worker.specs.State.{WorkerState, Moves}
@@ -37,11 +37,11 @@ or_either true b is = inl refl
 or_either false b is = inr is
 
 -- a seat that did not act hears z: it made no event there
-pub still_none : (queue : TableId) (layout : Layout) (c : ℕ) (h z : List Event) (k k' : Known) → IsPrefix h z → IsAt queue layout c h k → Hears z k k' → own c z ≡ own c h
+pub still_none : (queue : QueueId) (layout : Layout) (c : ℕ) (h z : List Event) (k k' : Known) → IsPrefix h z → IsAt queue layout c h k → Hears z k k' → own c z ≡ own c h
 still_none queue layout c h z k k' begins at heard =
     own_between c h z k'.seen begins heard.knows (subst (λ (n : ℕ). own n k'.seen ≡ own n k.seen) at.number_is heard.stays.mine ∙ at.mine)
 
-pub still_at : (queue : TableId) (layout : Layout) (c : ℕ) (h z : List Event) (k k' : Known) → IsPrefix h z → IsAt queue layout c h k → Hears z k k' → IsAt queue layout c z k'
+pub still_at : (queue : QueueId) (layout : Layout) (c : ℕ) (h z : List Event) (k k' : Known) → IsPrefix h z → IsAt queue layout c h k → Hears z k k' → IsAt queue layout c z k'
 still_at queue layout c h z k k' begins at heard = record {
   queue_is = heard.stays.queue_is ∙ at.queue_is;
   layout_is = heard.stays.layout_is ∙ at.layout_is;
@@ -51,7 +51,7 @@ still_at queue layout c h z k k' begins at heard = record {
 }
 
 -- the seat that acted
-pub acted_at : (queue : TableId) (layout : Layout) (c : ℕ) (k k' : Known) → k.queue ≡ queue → k.layout ≡ layout → k.number ≡ c → Hears k.seen k k' → IsAt queue layout c k.seen k'
+pub acted_at : (queue : QueueId) (layout : Layout) (c : ℕ) (k k' : Known) → k.queue ≡ queue → k.layout ≡ layout → k.number ≡ c → Hears k.seen k k' → IsAt queue layout c k.seen k'
 acted_at queue layout c k k' q l n heard = record {
   queue_is = heard.stays.queue_is ∙ q;
   layout_is = heard.stays.layout_is ∙ l;

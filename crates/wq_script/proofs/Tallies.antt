@@ -11,7 +11,7 @@ use Rattle.wq_words.specs.declared.event.Why.TheVariants as why
 use Rattle.wq_words.specs.History.{begun, ended, is_push, IsRunning}
 use Rattle.wq_words.specs.Legal.{IsLegal, HasSeat}
 use Rattle.wq_words.proofs.Legal.{legal_next}
-use Rattle.wq_table.specs.Seen.{owner_seat, seat_of}
+use Rattle.wq_words.specs.Seen.{owner_seat, seat_of}
 use Rattle.wq_live.specs.Counts.{is_queued_by, is_pending_by, is_closed_by, is_chain_busy}
 use Rattle.wq_worker.specs.Seats.{is_ours}
 use Rattle.wq_plain.specs.Report.{is_busy, is_refusal}

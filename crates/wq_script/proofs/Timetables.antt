@@ -4,7 +4,7 @@ use Rattle.std.specs.Prelude.{filter}
 use Rattle.std.specs.List.{position_or_len}
 use Rattle.std.proofs.lemmas.Bool.{cases_eq, cases_lt, lt-ltb, le-ltb, eqb-true, false≢true}
 use Rattle.wq_delay.specs.Table as running
-use Rattle.wq_delay.specs.Table.{on_table, due_part, later_part, placed, IsOrdered, AreArmedBefore}
+use Rattle.wq_words.specs.DelayTable.{on_table, due_part, later_part, placed, IsOrdered, AreArmedBefore}
 use Rattle.wq_delay.specs.Delay.{DelayState, IsBeyond}
 use Rattle.wq_plain.specs.declared.delays.Entry.{Entry}
 use Rattle.wq_plain.specs.Table.{goes_before, with_entry, is_too_far, is_for, is_on, items_of, is_due, due_items}

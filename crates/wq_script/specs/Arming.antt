@@ -3,9 +3,9 @@ use Rattle.std.specs.Prelude.{◌≡◌, ℕ, ◌+◌, ◌<◌, ◌≤◌, Bool,
 use Rattle.wq_words.specs.declared.layout.Layout.{Layout}
 use Rattle.wq_words.specs.declared.event.Event.{Event}
 use Rattle.wq_delay.specs.declared.answer.Armed as delay_armed
-use Rattle.wq_delay.specs.declared.answer.Armed.TheVariants as live
+use Rattle.wq_words.specs.declared.answer.Armed.TheVariants as live
 use Rattle.wq_delay.specs.declared.answer.Modified as delay_modified
-use Rattle.wq_delay.specs.declared.answer.Modified.TheVariants as moved
+use Rattle.wq_words.specs.declared.answer.Modified.TheVariants as moved
 use Rattle.wq_plain.specs.declared.answer.Answer.TheVariants as answer
 use Rattle.wq_plain.specs.declared.answer.Armed.{Armed}
 use Rattle.wq_plain.specs.declared.answer.Armed.TheVariants as arming

@@ -3,8 +3,8 @@ use Rattle.std.specs.Prelude.{◌≡◌, ℕ, Bool, not, Option, List, [], ◌++
 use Rattle.wq_words.specs.declared.layout.Layout.{Layout}
 use Rattle.wq_words.specs.declared.event.Event.{Event}
 use Rattle.wq_words.specs.History.{IsRunning}
-use Rattle.wq_live.specs.declared.answer.Answer.{Answer}
-use Rattle.wq_live.specs.declared.answer.Answer.TheVariants as live
+use Rattle.wq_words.specs.declared.answer.Answer.{Answer}
+use Rattle.wq_words.specs.declared.answer.Answer.TheVariants as live
 use Rattle.wq_plain.specs.declared.answer.Answer as script
 use Rattle.wq_plain.specs.declared.answer.Answer.TheVariants as answer
 use Rattle.wq_plain.specs.Queueing.{queue_events, queue_answer, close_events, close_answer}

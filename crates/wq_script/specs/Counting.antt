@@ -4,9 +4,9 @@ use Rattle.wq_words.specs.declared.event.Event.{Event}
 use Rattle.wq_words.specs.History.{is_push}
 use Rattle.wq_live.specs.Counts.{is_queued_by, is_pending_by, is_closed_by, is_chain_busy}
 use Rattle.wq_delay.specs.declared.answer.Armed as delay_armed
-use Rattle.wq_delay.specs.declared.answer.Armed.TheVariants as live_armed
+use Rattle.wq_words.specs.declared.answer.Armed.TheVariants as live_armed
 use Rattle.wq_delay.specs.declared.answer.Modified as delay_modified
-use Rattle.wq_delay.specs.declared.answer.Modified.TheVariants as live_modified
+use Rattle.wq_words.specs.declared.answer.Modified.TheVariants as live_modified
 use Rattle.wq_plain.specs.declared.answer.Answer.{Answer}
 use Rattle.wq_plain.specs.declared.answer.Answer.TheVariants as answer
 use Rattle.wq_plain.specs.declared.answer.Armed.{Armed}

@@ -1,11 +1,11 @@
 -- Seats of one queue, and the history that all of them know.
 use Rattle.std.specs.Prelude.{◌≡◌, ℕ, ◌+◌, ◌<◌, List, length, All, slice_index_or}
 use mathlib.Core.List.{IsPrefix}
-use Rattle.atomic_table.specs.Seated.{TableId}
+use Rattle.wq_live.specs.Known.{QueueId}
 use Rattle.wq_words.specs.declared.layout.Layout.{Layout}
 use Rattle.wq_words.specs.declared.event.Event.{Event}
 use Rattle.wq_words.specs.Legal.{IsLegal}
-use Rattle.wq_table.specs.Seen.{owner_seat, own}
+use Rattle.wq_words.specs.Seen.{owner_seat, own}
 use Rattle.wq_live.specs.Known.{Known}
 use Rattle.wq_worker.specs.State.{WorkerState}
 use Rattle.wq_delay.specs.Delay.{DelayState}
@@ -30,7 +30,7 @@ pub record AllHear (told : List Event) (olds news : List Known) : Type 0 where
   pub each : (i : ℕ) (d : Known) → i < length olds → Hears told (slice_index_or olds i d) (slice_index_or news i d)
 
 -- the seat of the queue with this number, which has seen the history and made no event after it
-pub record IsAt (queue : TableId) (layout : Layout) (c : ℕ) (h : List Event) (k : Known) : Type 0 where
+pub record IsAt (queue : QueueId) (layout : Layout) (c : ℕ) (h : List Event) (k : Known) : Type 0 where
   pub queue_is : k.queue ≡ queue
   pub layout_is : k.layout ≡ layout
   pub number_is : k.number ≡ c
@@ -79,7 +79,7 @@ pub record IsWider (layout wide : Layout) : Type 0 where
 
 -- The seats are those of one queue, each at its number, and all of them have seen the history, after which none made an event.
 pub record Seated (layout : Layout) (s : Seats) (h : List Event) : Type 0 where
-  pub queue : TableId
+  pub queue : QueueId
   pub wide : Layout
   pub wider : IsWider layout wide
   pub legal : IsLegal wide h

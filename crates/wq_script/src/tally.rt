@@ -1,7 +1,7 @@
 //! What the senders of a script and the delay table have counted.
 ghost use Rattle.std.specs.Prelude.{◌≡◌, ◌+◌, ◌^◌, ◌≤◌, ◌==◌};
-ghost use Rattle.wq_delay.specs.declared.answer.Armed.TheVariants as live_armed;
-ghost use Rattle.wq_delay.specs.declared.answer.Modified.TheVariants as live_modified;
+ghost use Rattle.wq_words.specs.declared.answer.Armed.TheVariants as live_armed;
+ghost use Rattle.wq_words.specs.declared.answer.Modified.TheVariants as live_modified;
 ghost use Rattle.wq_plain.specs.declared.answer.Answer as script;
 ghost use Rattle.wq_plain.specs.declared.answer.Armed as script_armed;
 ghost use Rattle.wq_plain.specs.declared.answer.Modified as script_modified;

@@ -1,4 +1,3 @@
-pub mod Seen
 pub mod Changes
 pub mod Rule
 pub mod Steps

@@ -22,11 +22,11 @@ use Rattle.wq_core.specs.Sound.{IsSound}
 use Rattle.wq_table.specs.declared.table.Part.{Part}
 use Rattle.wq_table.specs.declared.table.Stage.{Stage}
 use Rattle.wq_table.specs.declared.table.Stage.TheVariants.{Sends, Owns}
-use Rattle.wq_table.specs.Seen.{owner_seat, own}
+use Rattle.wq_words.specs.Seen.{owner_seat, own}
 use Rattle.wq_table.specs.Law.{part, seat_at, Keeps, Fits}
 use Rattle.wq_table.specs.Plays.{word_found}
 use Rattle.wq_table.specs.Chair.{IsSender, HasSeen, HasLinked, IsOwner, IsRested, HasNone, IsToWalk, IsToBegin}
-use Rattle.wq_table.proofs.Seen.{held_same, closed_same, running_same}
+use Rattle.wq_words.proofs.Seen.{held_same, closed_same, running_same}
 use Rattle.wq_table.proofs.Rule.{Performs}
 
 -- an item word is a bit

@@ -16,11 +16,11 @@ use Rattle.wq_core.specs.Sound.{IsSound}
 use Rattle.wq_table.specs.declared.table.Part.{Part}
 use Rattle.wq_table.specs.declared.table.Stage.{Stage}
 use Rattle.wq_table.specs.declared.table.Stage.TheVariants.{Sends, Owns}
-use Rattle.wq_table.specs.Seen.{owner_seat, own}
+use Rattle.wq_words.specs.Seen.{owner_seat, own}
 use Rattle.wq_table.specs.Law.{View, part, Keeps, Fits, Apart, AllFit, Kept, sender_part, owner_part, row, opening_view, first_of, rest_of}
 use Rattle.wq_table.specs.Plays.{Sat, all_see, AllOf, SeesAll, meets}
 use Rattle.wq_core.proofs.Schedules.{sound_opening}
-use Rattle.wq_table.proofs.Seen.{prefix_self}
+use Rattle.wq_words.proofs.Seen.{prefix_self}
 
 at_end : {A : Type 0} (l : List A) (a b : A) (j : ℕ) → get_elem? (l ++ a ∷ []) j ≡ some b → (get_elem? l j ≡ some b) ⊎ ((j ≡ length l) × (a ≡ b))
 at_end [] a b zero e = inr (refl, some-injective a b e)

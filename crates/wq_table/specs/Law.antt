@@ -13,7 +13,7 @@ use Rattle.wq_core.specs.Sound.{IsSound}
 use Rattle.wq_table.specs.declared.table.Part.{Part}
 use Rattle.wq_table.specs.declared.table.Stage.{Stage}
 use Rattle.wq_table.specs.declared.table.Stage.TheVariants.{Sends, Owns}
-use Rattle.wq_table.specs.Seen.{owner_seat, own}
+use Rattle.wq_words.specs.Seen.{owner_seat, own}
 
 -- a view has one part for each seat that it speaks for
 abbrev pub View : Type 0

@@ -1,4 +1,3 @@
-pub mod Seen
 pub mod Law
 pub mod Plays
 pub mod Chair

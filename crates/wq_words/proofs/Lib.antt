@@ -6,3 +6,4 @@ pub mod Listed
 pub mod Places
 pub mod Ranks
 pub mod Headlines
+pub mod Seen

@@ -6,3 +6,5 @@ pub mod Legal
 pub mod Listed
 pub mod Keeper
 pub mod Headline
+pub mod Seen
+pub mod DelayTable

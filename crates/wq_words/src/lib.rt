@@ -1,6 +1,7 @@
-//! The words of an ordered workqueue: its numbers, its head word, and its histories of events.
+//! The words of an ordered workqueue: its numbers, its head word, its histories of events, and what its calls answer.
 #![tactic(auto)]
 
+mod answer;
 mod counts;
 mod event;
 mod head;
@@ -8,6 +9,7 @@ mod history;
 mod laws;
 mod layout;
 
+pub use answer::{Answer, Armed, Modified, Posted};
 pub use event::{Event, Why};
 pub use head::Head;
 pub use history::{HistoryError, HistoryFault, check_history};

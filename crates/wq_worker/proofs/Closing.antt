@@ -9,7 +9,7 @@ use Rattle.wq_words.specs.History.{accepted_by, accepted, begun, is_close, IsClo
 use Rattle.wq_words.specs.Legal.{IsLegal}
 use Rattle.wq_words.proofs.Listed.{closed_from_IsClosed, taken_closed, accepted_push_none}
 use Rattle.wq_words.proofs.Legal.{legal_next}
-use Rattle.wq_table.specs.Seen.{owner_seat, seat_of, own, Grows}
+use Rattle.wq_words.specs.Seen.{owner_seat, seat_of, own, Grows}
 use Rattle.wq_live.specs.Batch.{batch, next_of, TakesAll}
 use Rattle.wq_worker.specs.Seats.{NothingWaits, at_take, at_all}
 use Rattle.wq_worker.proofs.Owned.{count_by-append, owner_grows, quiet_none, Stays, stays}

@@ -13,8 +13,8 @@ use Rattle.wq_words.proofs.Legal.{legal_front, legal_next}
 use Rattle.wq_words.proofs.Order.{in_order, prefix_length}
 use Rattle.wq_words.proofs.Listed.{closed_from_IsClosed}
 use Rattle.wq_words.proofs.Headlines.{prefix_whole}
-use Rattle.wq_table.proofs.Seen.{closed_count}
-use Rattle.wq_table.specs.Seen.{owner_seat, own}
+use Rattle.wq_words.proofs.Seen.{closed_count}
+use Rattle.wq_words.specs.Seen.{owner_seat, own}
 use Rattle.wq_live.specs.Batch.{batch}
 use Rattle.wq_worker.specs.declared.ran.Ran.{Ran}
 use Rattle.wq_worker.specs.declared.ran.Ran.TheVariants.{Item, Barrier, Stop, Nothing, Owing}

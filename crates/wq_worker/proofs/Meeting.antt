@@ -6,7 +6,7 @@ use Rattle.wq_words.specs.declared.event.Event.{Event}
 use Rattle.wq_words.specs.History.{accepted}
 use Rattle.wq_words.specs.Legal.{IsLegal, IsComplete}
 use Rattle.wq_words.proofs.Order.{prefix_append}
-use Rattle.wq_table.specs.Seen.{owner_seat, Grows}
+use Rattle.wq_words.specs.Seen.{owner_seat, Grows}
 use Rattle.wq_live.specs.Known.{Known, Sees}
 use Rattle.wq_live.proofs.Final.{final}
 use Rattle.wq_worker.specs.declared.book.Ledger.{Ledger}

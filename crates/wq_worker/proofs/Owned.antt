@@ -6,8 +6,8 @@ use Rattle.std.proofs.lemmas.List.Elements.{filter_map-append}
 use Rattle.std.proofs.lemmas.List.Sums.{sum_by-append}
 use Rattle.wq_words.specs.declared.event.Event.{Event}
 use Rattle.wq_words.specs.History.{begun_by, ended_by, is_close, begun, ended, closed, running}
-use Rattle.wq_table.specs.Seen.{owner_seat, seat_of, own, Grows}
-use Rattle.wq_table.proofs.Seen.{begun_same, ended_same, closed_count}
+use Rattle.wq_words.specs.Seen.{owner_seat, seat_of, own, Grows}
+use Rattle.wq_words.proofs.Seen.{begun_same, ended_same, closed_count}
 use Rattle.wq_live.proofs.Owned.{begun_on, ended_on, closes_on}
 use Rattle.wq_worker.specs.Seats.{is_ours, Adds}
 

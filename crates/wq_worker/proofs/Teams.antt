@@ -2,14 +2,14 @@
 use Rattle.std.proofs.Common.{◌≡◌, ℕ, zero, suc, [], ◌∷◌, refl}
 use Rattle.std.specs.Prelude.{All}
 use Rattle.std.proofs.lemmas.List.Elements.{All-append, All-cons, All-nil}
-use Rattle.atomic_table.specs.Seated.{TableId}
+use Rattle.wq_live.specs.Known.{QueueId}
 use Rattle.wq_words.specs.declared.layout.Layout.{Layout}
-use Rattle.wq_live.specs.declared.answer.Answer.{Answer}
-use Rattle.wq_live.specs.declared.answer.Answer.TheVariants as answer
+use Rattle.wq_words.specs.declared.answer.Answer.{Answer}
+use Rattle.wq_words.specs.declared.answer.Answer.TheVariants as answer
 use Rattle.wq_live.specs.Known.{Known, new_sender, new_senders}
 use Rattle.wq_live.specs.Answers.{Answers}
 
-pub of_queue : (queue : TableId) (layout : Layout) (m : ℕ) → All (λ (s : Known). s.queue ≡ queue) (new_senders queue layout m)
+pub of_queue : (queue : QueueId) (layout : Layout) (m : ℕ) → All (λ (s : Known). s.queue ≡ queue) (new_senders queue layout m)
 of_queue queue layout zero = All-nil (λ (s : Known). s.queue ≡ queue)
 of_queue queue layout (suc m) =
     let P = λ (s : Known). s.queue ≡ queue in

@@ -1,12 +1,12 @@
 -- What the senders of a queue that has run to the end have counted.
 use Rattle.std.specs.Prelude.{◌≡◌, ℕ, ◌+◌, ◌<◌, ◌≤◌, List, length}
 use mathlib.Core.List.{IsPrefix}
-use Rattle.atomic_table.specs.Seated.{TableId}
+use Rattle.wq_live.specs.Known.{QueueId}
 use Rattle.wq_words.specs.declared.layout.Layout.{Layout}
 use Rattle.wq_words.specs.declared.event.Event.{Event}
 use Rattle.wq_words.specs.History.{accepted, ended, IsClosed}
 use Rattle.wq_words.specs.Legal.{IsLegal, IsComplete}
-use Rattle.wq_table.specs.Seen.{owner_seat}
+use Rattle.wq_words.specs.Seen.{owner_seat}
 use Rattle.wq_live.specs.Known.{Known}
 use Rattle.wq_live.specs.Counts.{sender_counts}
 use Rattle.wq_worker.specs.declared.book.Ledger.{Ledger}
@@ -15,7 +15,7 @@ use Rattle.wq_worker.specs.Rows.{Row, IsExecution, Closes}
 
 -- which queue it is of, how large that is, the history that its owner has seen, and the ledger of the worker's own sender
 pub record BookState : Type 0 where
-  pub queue : TableId
+  pub queue : QueueId
   pub layout : Layout
   pub seen : List Event
   pub own : Ledger

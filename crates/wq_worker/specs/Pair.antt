@@ -4,9 +4,9 @@ use Rattle.wq_words.specs.declared.event.Event.{Event}
 use Rattle.wq_words.specs.declared.event.Event.TheVariants.{Begin}
 use Rattle.wq_words.specs.History.{closed}
 use Rattle.wq_words.specs.Legal.{IsLegal}
-use Rattle.wq_table.specs.Seen.{owner_seat}
-use Rattle.wq_live.specs.declared.answer.Answer.{Answer}
-use Rattle.wq_live.specs.declared.answer.Answer.TheVariants as answer
+use Rattle.wq_words.specs.Seen.{owner_seat}
+use Rattle.wq_words.specs.declared.answer.Answer.{Answer}
+use Rattle.wq_words.specs.declared.answer.Answer.TheVariants as answer
 use Rattle.wq_live.specs.Known.{Known, IsSame}
 use Rattle.wq_worker.specs.Seats.{Adds, taking, NothingWaits}
 use Rattle.wq_worker.specs.Follow.{Queues, Follows, contended_of}

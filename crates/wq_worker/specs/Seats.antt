@@ -3,7 +3,7 @@ use Rattle.std.specs.Prelude.{◌≡◌, ℕ, ◌≤◌, Bool, true, false, not,
 use Rattle.wq_words.specs.declared.event.Event.{Event}
 use Rattle.wq_words.specs.declared.event.Event.TheVariants.{Take}
 use Rattle.wq_words.specs.History.{closed, next, IsClosed}
-use Rattle.wq_table.specs.Seen.{owner_seat, seat_of, own}
+use Rattle.wq_words.specs.Seen.{owner_seat, seat_of, own}
 use Rattle.wq_live.specs.Batch.{next_of}
 
 -- the event is of the sender s or of the owner

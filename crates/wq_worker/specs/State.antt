@@ -1,6 +1,6 @@
 -- What a clause sees of a worker.
 use Rattle.std.specs.Prelude.{◌≡◌, ℕ, ◌<◌, ◌≤◌, List, [], filter, length, nat_lt}
-use Rattle.atomic_table.specs.Seated.{TableId}
+use Rattle.wq_live.specs.Known.{QueueId}
 use Rattle.wq_words.specs.declared.layout.Layout.{Layout}
 use Rattle.wq_words.specs.declared.event.Event.{Event}
 use Rattle.wq_words.specs.History.{begun}
@@ -12,7 +12,7 @@ use Rattle.wq_worker.specs.Pair.{Paired}
 -- which queue it is of, how large that is, its sender's number, the tries of a queueing, the history that its two seats have
 -- seen, what an execution that has not ended has still to queue, and the work
 pub record WorkerState (W : Type 0) : Type 0 where
-  pub queue : TableId
+  pub queue : QueueId
   pub layout : Layout
   pub number : ℕ
   pub tries : ℕ

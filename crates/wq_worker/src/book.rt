@@ -1,6 +1,6 @@
 //! What the senders of a queue that has run to the end have counted.
 ghost use Rattle.std.specs.Prelude.{◌≡◌, [], All, MatchResult};
-ghost use Rattle.wq_table.specs.Seen.{owner_seat, Grows};
+ghost use Rattle.wq_words.specs.Seen.{owner_seat, Grows};
 ghost use Rattle.wq_live.specs.Known.{Sees};
 ghost use Rattle.wq_live.specs.Counts.{sender_counts};
 ghost use Rattle.wq_worker.specs.Book.{IsMade, IsSettled};

@@ -3,7 +3,7 @@ ghost use Rattle.std.specs.Prelude.{◌≡◌, ℕ, ◌<◌, ◌≤◌, Some, No
 ghost use Rattle.wq_words.specs.declared.event.Event.TheVariants.{End};
 ghost use Rattle.wq_words.specs.History.{closed, running, IsRunning};
 ghost use Rattle.wq_words.specs.Legal.{IsLegal};
-ghost use Rattle.wq_table.specs.Seen.{owner_seat};
+ghost use Rattle.wq_words.specs.Seen.{owner_seat};
 ghost use Rattle.wq_live.specs.Known.{Sees};
 ghost use Rattle.wq_live.specs.Batch.{next_of};
 ghost use Rattle.wq_worker.specs.Seats.{taking, NothingWaits};

@@ -1,6 +1,6 @@
 //! Worked rows on a worker whose work answers a fixed list for item 0 and none for others.
 ghost use Rattle.std.specs.Prelude.{◌≡◌, [], All};
-ghost use Rattle.wq_table.specs.Seen.{owner_seat, own};
+ghost use Rattle.wq_words.specs.Seen.{owner_seat, own};
 ghost use Rattle.wq_worker.specs.Book.{IsMade};
 
 use crate::{Book, Drained, Follow, Ledger, Ran, Totals, Unbalanced, Work, Worker};

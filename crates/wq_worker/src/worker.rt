@@ -3,7 +3,7 @@ ghost use Rattle.std.specs.Prelude.{◌≡◌, ◌+◌, ◌<◌, Some, None, [],
 ghost use Rattle.std.specs.Fn.{FnOnceTakesAtMut, FnOnceReturnsAtMut};
 ghost use Rattle.wq_words.specs.declared.event.Event.TheVariants.{Close};
 ghost use Rattle.wq_words.specs.History.{accepted, begun, ended, closed, running, IsRunning, IsClosed};
-ghost use Rattle.wq_table.specs.Seen.{owner_seat, own, Grows};
+ghost use Rattle.wq_words.specs.Seen.{owner_seat, own, Grows};
 ghost use Rattle.wq_live.specs.Known.{Sees};
 ghost use Rattle.wq_live.specs.Batch.{TakesAll};
 ghost use Rattle.wq_words.specs.Legal.{IsLegal, IsComplete};

@@ -1,6 +1,6 @@
 use Rattle.std.proofs.Common.{rules, ◌≡◌, ℕ, None, subst, ◌∙◌, [], ◌∷◌, ◌++◌, arith}
 use Rattle.wq_words.specs.declared.event.Event.TheVariants.{Begin}
-use Rattle.wq_table.specs.Seen.{owner_seat, Grows}
+use Rattle.wq_words.specs.Seen.{owner_seat, Grows}
 use Rattle.wq_live.specs.Batch.{next_of}
 use Rattle.wq_live.proofs.Sends.{sees_on}
 use Rattle.wq_worker.specs.Seats.{taking}

@@ -1,7 +1,7 @@
 use Rattle.std.proofs.Common.{List, [], ◌∷◌, refl, sym, ◌∙◌, subst}
 use Rattle.wq_words.specs.declared.event.Event.TheVariants.{Busy}
 use Rattle.wq_words.specs.declared.event.Why.TheVariants.{Cancelled}
-use Rattle.wq_delay.specs.Table.{Entry}
+use Rattle.wq_words.specs.DelayTable.{Entry}
 use Rattle.wq_delay.specs.Delay.{IsFit}
 use Rattle.wq_delay.proofs.Sound.{on_ok, on_err, state, sound_queued, sound_keeps, sound_puts, off_before}
 use Rattle.wq_delay.proofs.Going.{sound_refused}

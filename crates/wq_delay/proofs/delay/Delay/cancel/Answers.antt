@@ -1,7 +1,7 @@
 use Rattle.std.proofs.Common.{◌≡◌, false, List, refl, sym, ap, subst, ◌∙◌}
 use Rattle.wq_words.specs.declared.event.Event.TheVariants.{Back}
 use Rattle.wq_words.specs.declared.event.Why.TheVariants.{Cancelled}
-use Rattle.wq_delay.specs.Table.{Entry, on_table}
+use Rattle.wq_words.specs.DelayTable.{Entry, on_table}
 use Rattle.wq_delay.specs.Delay.{DelayState, IsFit}
 use Rattle.wq_delay.proofs.Table.{without_off}
 use Rattle.wq_delay.proofs.Sound.{state, sound_leaves, stops_back}

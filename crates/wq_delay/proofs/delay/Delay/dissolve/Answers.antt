@@ -1,5 +1,5 @@
 use Rattle.std.proofs.Common.{ℕ, sym, ap, subst}
-use Rattle.wq_delay.specs.Table.{on_table}
+use Rattle.wq_words.specs.DelayTable.{on_table}
 use Rattle.wq_delay.proofs.Going.{Given, given_none, given_more, popped_held}
 use Rattle.wq_delay.proofs.delay.Delay.dissolve.Goals as goal
 

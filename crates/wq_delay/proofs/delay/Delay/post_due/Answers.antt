@@ -1,5 +1,5 @@
 use Rattle.std.proofs.Common.{◌≡◌, [], subst}
-use Rattle.wq_delay.specs.Table.{due_part}
+use Rattle.wq_words.specs.DelayTable.{due_part}
 use Rattle.wq_delay.specs.Rows.{IsFirstDue}
 use Rattle.wq_delay.specs.Delay.{DelayState, IsFit, PostsDue}
 use Rattle.wq_delay.proofs.Advancing.{going_none, going_pushed, going_refused, fewer_left, went_all, went_some}

@@ -1,7 +1,7 @@
 use Rattle.std.proofs.Common.{◌<◌, Option, None, is_some, length, ℕ, ap, sym, subst, ◌∙◌}
 use Rattle.std.proofs.lemmas.List.{get_or_read}
 use Rattle.std.specs.Prelude.{List}
-use Rattle.wq_delay.specs.Table.{on_table}
+use Rattle.wq_words.specs.DelayTable.{on_table}
 use Rattle.wq_delay.specs.Rows.{Rows}
 use Rattle.wq_delay.proofs.Rows.{known_on}
 use Rattle.wq_delay.proofs.timetable.Timetable.has.Goals as goal

@@ -3,7 +3,7 @@ use Rattle.std.specs.Prelude.{slice_get}
 use Rattle.std.specs.Map.Iter.{deref_pair}
 use Rattle.std.proofs.lemmas.List.{append-nil}
 use Rattle.std.proofs.lemmas.Map.Iter.{rest_more}
-use Rattle.wq_delay.specs.Table.{Entry, items}
+use Rattle.wq_words.specs.DelayTable.{Entry, items}
 use Rattle.wq_delay.proofs.Rows.{first_late}
 use Rattle.wq_delay.proofs.timetable.Timetable.list_due.Goals as goal
 

@@ -1,5 +1,5 @@
 use Rattle.std.proofs.Common.{◌≡◌, map, ◌++◌}
-use Rattle.wq_delay.specs.Table.{items, due_part, IsOrdered}
+use Rattle.wq_words.specs.DelayTable.{items, due_part, IsOrdered}
 use Rattle.wq_delay.specs.Rows.{entry_of}
 use Rattle.wq_delay.proofs.timetable.Timetable.list_due.Given as goal
 

@@ -1,5 +1,5 @@
 use Rattle.std.proofs.Common.{◌≡◌, ◌<◌, false, map, ap, sym, subst, ◌∙◌}
-use Rattle.wq_delay.specs.Table.{on_table, placed, AreArmedBefore}
+use Rattle.wq_words.specs.DelayTable.{on_table, placed, AreArmedBefore}
 use Rattle.wq_delay.specs.Rows.{Rows, entry_of}
 use Rattle.wq_delay.proofs.Rows.{entries-insert, rows_placed}
 use Rattle.wq_delay.proofs.timetable.Timetable.put.Goals as goal

@@ -2,7 +2,7 @@ use Rattle.std.proofs.Common.{◌<◌, Option, None, is_some, List, map, ℕ, ap
 use Rattle.std.specs.BTreeMap.{is_at}
 use Rattle.std.specs.Map.{remove_entry}
 use Rattle.std.proofs.lemmas.List.{get_or_read}
-use Rattle.wq_delay.specs.Table.{on_table, placed, without, AreArmedBefore}
+use Rattle.wq_words.specs.DelayTable.{on_table, placed, without, AreArmedBefore}
 use Rattle.wq_delay.specs.Rows.{Rows, entry_of}
 use Rattle.wq_delay.proofs.Rows.{row_cmp, entries-move, rows_moved, known_on}
 use Rattle.wq_delay.proofs.timetable.Timetable.replace.Goals as goal

@@ -1,6 +1,6 @@
 use Rattle.std.proofs.Common.{[], ◌-◌}
 use Rattle.wq_words.specs.History.{Holds}
-use Rattle.wq_table.specs.Seen.{Grows}
+use Rattle.wq_words.specs.Seen.{Grows}
 use Rattle.wq_live.specs.Known.{IsSame}
 use Rattle.wq_live.proofs.sender.Sender.push_tries.Given as goal
 

@@ -1,6 +1,6 @@
 use Rattle.std.proofs.Common.{◌≡◌, ℕ, ◌*◌, List, [], ◌∷◌, ◌++◌, length, sym, ap, ◌∙◌, subst, arith}
-use Rattle.wq_table.specs.Seen.{own}
-use Rattle.wq_table.proofs.Seen.{running_same}
+use Rattle.wq_words.specs.Seen.{own}
+use Rattle.wq_words.proofs.Seen.{running_same}
 use Rattle.wq_live.specs.Known.{Known}
 use Rattle.wq_worker.specs.Book.{BookState, IsMade}
 use Rattle.wq_worker.specs.declared.book.Ledger.{Ledger}

@@ -1,7 +1,7 @@
 use Rattle.std.proofs.Common.{ℕ, List, [], sym, ap, ◌∙◌, subst}
 use Rattle.std.proofs.lemmas.List.{append-nil}
 use Rattle.wq_words.specs.declared.event.Event.{Event}
-use Rattle.wq_table.specs.Seen.{owner_seat, Grows}
+use Rattle.wq_words.specs.Seen.{owner_seat, Grows}
 use Rattle.wq_worker.specs.Book.{BookState, IsMade}
 use Rattle.wq_worker.proofs.Meeting.{complete_still, made_still}
 use Rattle.wq_worker.proofs.book.Book.meet.Goals as goal

@@ -2,9 +2,9 @@ use Rattle.std.proofs.Common.{ℕ, ◌≡◌, List, [], sym, ap, ◌∙◌, subs
 use Rattle.wq_words.specs.declared.event.Event.{Event}
 use Rattle.std.proofs.lemmas.List.{append-nil}
 use Rattle.wq_words.specs.History.{begun}
-use Rattle.wq_table.specs.Seen.{owner_seat, Grows}
+use Rattle.wq_words.specs.Seen.{owner_seat, Grows}
 use Rattle.wq_worker.specs.State.{items_of}
-use Rattle.wq_table.proofs.Seen.{begun_same}
+use Rattle.wq_words.proofs.Seen.{begun_same}
 use Rattle.wq_worker.proofs.Owned.{owner_grows}
 use Rattle.wq_worker.proofs.worker.Worker.new.Goals as goal
 

@@ -8,7 +8,7 @@ use mathlib.Core.List.{IsPrefix}
 use Rattle.wq_words.specs.declared.event.Event.{Event}
 use Rattle.wq_words.specs.declared.event.Event.TheVariants.{Hold, Busy, Push, Back, Take, Close, Begin, End, Chain, ChainBusy}
 use Rattle.wq_words.specs.History.{Holds, starts_hold, stops_hold, is_close, IsClosed, begun_by, ended_by, begun, ended, IsRunning, running}
-use Rattle.wq_table.specs.Seen.{owner_seat, seat_of, own, others, Grows}
+use Rattle.wq_words.specs.Seen.{owner_seat, seat_of, own, others, Grows}
 
 pub own-append : (c : ℕ) (a b : List Event) → own c (a ++ b) ≡ own c a ++ own c b
 own-append c a b = filter-append (λ e. eqb (seat_of e) c) a b
