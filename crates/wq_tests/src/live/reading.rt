@@ -6,7 +6,7 @@ ghost use Rattle.wq_live.specs.Batch.{batch};
 use wq_live::{Answer, Owner};
 
 /// The queue is open.
-#[tactic(auto, using(crate::proofs::Reading::reading))]
+#[tactic(auto, using(wq_live::proofs::Reading::reading))]
 pub fn is_open(owner: &Owner) -> bool
     ensures { IsTrue result → ¬ IsClosed owner.now.seen }
 {
@@ -14,7 +14,7 @@ pub fn is_open(owner: &Owner) -> bool
 }
 
 /// The queue is closed.
-#[tactic(auto, using(crate::proofs::Reading::reading))]
+#[tactic(auto, using(wq_live::proofs::Reading::reading))]
 pub fn is_shut(owner: &Owner) -> bool
     ensures { IsTrue result → IsClosed owner.now.seen }
 {
@@ -22,7 +22,7 @@ pub fn is_shut(owner: &Owner) -> bool
 }
 
 /// The queue is open, and nothing that was taken waits.
-#[tactic(auto, using(crate::proofs::Reading::reading))]
+#[tactic(auto, using(wq_live::proofs::Reading::reading))]
 pub fn may_take(owner: &Owner) -> bool
     ensures open { IsTrue result → ¬ IsClosed owner.now.seen }
     ensures empty { IsTrue result → batch owner.now.seen ≡ [] }
@@ -37,7 +37,7 @@ pub fn may_take(owner: &Owner) -> bool
 }
 
 /// A number waits, and nothing runs.
-#[tactic(auto, using(crate::proofs::Reading::reading))]
+#[tactic(auto, using(wq_live::proofs::Reading::reading))]
 pub fn may_begin(owner: &Owner) -> bool
     ensures waits { IsTrue result → batch owner.now.seen ≢ [] }
     ensures rests { IsTrue result → ¬ IsRunning owner.now.seen }
@@ -52,7 +52,7 @@ pub fn may_begin(owner: &Owner) -> bool
 }
 
 /// An execution has begun and not ended.
-#[tactic(auto, using(crate::proofs::Reading::reading))]
+#[tactic(auto, using(wq_live::proofs::Reading::reading))]
 pub fn may_end(owner: &Owner) -> bool
     ensures { IsTrue result → IsRunning owner.now.seen }
 {
