@@ -11,3 +11,4 @@ pub mod Ranks
 pub mod Headlines
 pub mod Seen
 pub mod Counting
+pub mod DelayTable
