@@ -15,7 +15,7 @@ use Rattle.wq_live.specs.Counts.{capped, is_queued_by, is_pending_by, is_closed_
 use Rattle.wq_worker.specs.declared.book.Ledger.{Ledger}
 use Rattle.wq_worker.specs.declared.balance.Unbalanced.{Unbalanced}
 use Rattle.wq_worker.specs.declared.balance.Unbalanced.TheVariants.{Missing, Twice, Saturated}
-use Rattle.wq_worker.specs.Book.{BookState, IsMade}
+use Rattle.wq_worker.specs.Book.{BookState, IsLedgerOf}
 use Rattle.wq_worker.specs.Balance.{largest, AreWhole, AreOwnerWhole, ledgers_of, HasOne, IsFault, IsUnbalanced, of_sender, of_worker}
 use Rattle.wq_race.specs.Outcome.{ledger_of}
 use Rattle.wq_race.proofs.Whole.{queued_own}
@@ -150,7 +150,7 @@ always_balanced book ledgers ones mine owners fault (of_sender f) = no_fault led
 always_balanced book ledgers ones mine owners fault (of_worker have not is) = not (mine, owners)
 
 -- a book made the ledger of a sender that made no event
-pub none_made : (h : List Event) (l : Ledger) → IsMade h l → own l.number h ≡ [] → AreWhole l.counts
+pub none_made : (h : List Event) (l : Ledger) → IsLedgerOf h l → own l.number h ≡ [] → AreWhole l.counts
 none_made h l m none =
     let front : own l.number m.met ≡ [] = left (own l.number m.met) (own l.number m.before.0) (sym (own-append l.number m.met m.before.0) ∙ (ap (own l.number) m.before.1 ∙ none)) in
     subst AreWhole (sym m.counts_are) (whole_counts l.number m.met (omega (arith, ap length front)))

@@ -143,7 +143,7 @@ worker_closed layout s h g = ap (λ (n : ℕ). nat_lt 0 n) (closed_count h s.wor
 
 -- the worker closed the queue
 pub worker_closes : (layout : Layout) (s t : Seats) (h : List Event) (w : WorkerState Lists) (taken : ℕ) → Seated layout s h → closed s.worker.seen ≡ false
-    → Moves (Close ∷ []) 0 s.worker w → w.work ≡ s.worker.work → w.left ≡ s.worker.left → TakesAll Close taken w.seen
+    → Moves (Close ∷ []) 0 s.worker w → w.work ≡ s.worker.work → w.unqueued ≡ s.worker.unqueued → TakesAll Close taken w.seen
     → Gathers w.seen (record { worker = w; delay = s.delay; senders = s.senders }) t → Goes layout (h ++ close_events h) s t × (Some taken ≡ close_answer h)
 worker_closes layout s t h w taken g is_open moves work left takes gathered =
     let a = (worker_acts layout s t h g w (Close ∷ []) 0 moves gathered.sender gathered.owner gathered.delay gathered.senders gathered.work.tries_is gathered.legal).0 in
@@ -152,7 +152,7 @@ worker_closes layout s t h w taken g is_open moves work left takes gathered =
     let last = last_own owner_seat takes.before takes.after h Close Close (sym takes.is ∙ a.is) takes.last refl in (
       record {
         seated = subst (λ (ys : List Event). Seated layout t (h ++ ys)) events a.seated;
-        work = record { work_is = gathered.work.work_is ∙ work; left_is = gathered.work.left_is ∙ left; tries_is = gathered.work.tries_is ∙ moves.tries };
+        work = record { work_is = gathered.work.work_is ∙ work; unqueued_is = gathered.work.unqueued_is ∙ left; tries_is = gathered.work.tries_is ∙ moves.tries };
         table = gathered.table;
       },
       ap (λ (n : ℕ). Some n) (takes.count_is ∙ ap fresh last.1) ∙ sym (ap (λ (b : Bool). if b then None else Some (fresh h)) not_yet),
@@ -164,7 +164,7 @@ closed_already layout s h g shut =
     let none : close_events h ≡ [] = ap (λ (b : Bool). if b then [] else Close ∷ []) now in (
       record {
         seated = subst (λ (ys : List Event). Seated layout s ys) (sym (ap (λ (x : List Event). h ++ x) none ∙ append-nil h)) g;
-        work = record { work_is = refl; left_is = refl; tries_is = refl };
+        work = record { work_is = refl; unqueued_is = refl; tries_is = refl };
         table = record { table_is = refl; tick_is = refl; next_is = refl };
       },
       sym (ap (λ (b : Bool). if b then None else Some (fresh h)) now),

@@ -53,7 +53,7 @@ pub record IsSameTable (old new : DelayState) : Type 0 where
 -- it is the same worker, and its work was not touched
 pub record IsSameWork {W : Type 0} (old new : WorkerState W) : Type 0 where
   pub work_is : new.work ≡ old.work
-  pub left_is : new.left ≡ old.left
+  pub unqueued_is : new.unqueued ≡ old.unqueued
   pub tries_is : new.tries ≡ old.tries
 
 -- they are of one queue

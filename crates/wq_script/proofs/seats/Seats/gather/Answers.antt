@@ -62,7 +62,7 @@ returns c =
       owner = record { stays = both.1; knows = worker };
       delay = record { stays = stays_on s.delay.sender e.sender f.sender led me.delay; knows = prefix_on told e.sender.seen f.sender.seen knows me.delay.begins };
       senders = all_hear_set told q news 0 y z here heard (subst (λ (v : Known). Stays v z) c.index_mut-2.ensures.value last);
-      work = record { work_is = m2.work.0; left_is = m2.work.1; tries_is = m2.worker.tries };
+      work = record { work_is = m2.work.0; unqueued_is = m2.work.1; tries_is = m2.worker.tries };
       table = same_table_on s.delay e f (keeps_same [] 0 s.delay e m.this) me.table;
       legal = m2.worker.legal;
     } in

@@ -45,7 +45,7 @@ returns c =
       owner = record { stays = stays_on (owner_of s.worker) (owner_of w) (owner_of t.worker) both.1 g.owner.stays; knows = prefix_on told k.seen t.worker.seen knows g.owner.knows };
       delay = record { stays = g.delay.stays; knows = prefix_on told k.seen t.delay.sender.seen knows g.delay.knows };
       senders = all_hear_on told q (set q 0 k) t.senders.items one (all_hear_less told k.seen (set q 0 k) t.senders.items knows g.senders);
-      work = record { work_is = g.work.work_is ∙ m.work.0; left_is = g.work.left_is ∙ m.work.1; tries_is = g.work.tries_is ∙ m.worker.tries };
+      work = record { work_is = g.work.work_is ∙ m.work.0; unqueued_is = g.work.unqueued_is ∙ m.work.1; tries_is = g.work.tries_is ∙ m.worker.tries };
       table = g.table;
       legal = g.legal;
     }
