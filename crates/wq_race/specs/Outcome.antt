@@ -4,14 +4,14 @@ use Rattle.std.specs.Fmt.{decimal}
 use mathlib.Core.List.{IsPrefix}
 use Rattle.wq_words.specs.declared.event.Event.{Event}
 use Rattle.wq_words.specs.declared.event.Event.TheVariants.{Hold, Push}
-use Rattle.wq_words.specs.History.{accepted, ended, IsRunning}
+use Rattle.wq_words.specs.History.{accepted, ended, is_close, IsRunning}
 use Rattle.wq_words.specs.Legal.{IsLegal, IsComplete}
 use Rattle.wq_words.specs.Seen.{own, owner_seat}
 use Rattle.wq_worker.specs.State.{WorkerState, items_among}
 use Rattle.wq_race.specs.declared.idle.Idle.{Idle}
 use Rattle.wq_race.specs.declared.plan.Plan.{Plan}
 use Rattle.wq_race.specs.declared.outcome.Outcome.{Outcome}
-use Rattle.wq_race.specs.Race.{items_at}
+use Rattle.wq_race.specs.Race.{items_at, EndsWithStop}
 use Rattle.wq_live.specs.Known.{Known, IsSame}
 use Rattle.wq_live.specs.Counts.{is_chain, is_chain_busy, sender_counts}
 use Rattle.wq_worker.specs.declared.book.Ledger.{Ledger}
@@ -32,13 +32,15 @@ queueings s (k ∷ ks) = Hold s k ∷ Push s k ∷ queueings s ks
 
 -- A history of the worker's queue that goes on from what the worker had seen, is legal and has run to its end. In it each of
 -- the plan's senders queued its own items in order, once each, and the outcome's numbers are how many items were accepted
--- and how many executions of items ended: barriers and the stop item are no items.
+-- and how many executions of items ended: barriers and the stop item are no items. The worker served until the stop item had
+-- ended, and the queue was closed after that.
 pub record Tells (plan : Plan) (worker : WorkerState Idle) (outcome : Outcome) : Type 0 where
   pub history : List Event
   pub begins : IsPrefix worker.seen history
   pub legal : IsLegal worker.layout history
   pub complete : IsComplete history
   pub queued : (s : ℕ) → s < plan.senders → own s history ≡ queueings s (items_at s plan.own)
+  pub served : (front : List Event) × IsPrefix front history × (count_by is_close front ≡ 0) × EndsWithStop worker.layout front
   pub accepted_is : outcome.accepted ≡ length (items_among worker.layout (accepted history))
   pub ran_is : outcome.ran ≡ length (items_among worker.layout (ended history))
 

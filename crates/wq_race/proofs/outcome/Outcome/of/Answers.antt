@@ -20,7 +20,8 @@ is_balanced-requires g c = subst (All (IsLedgerOf c.enter.new.book.seen)) (sym c
 
 pub returns : goal.returns
 returns g c = λ plan run.
-    let w = c.meet_senders.new.worker in let xs = c.meet_senders.new.senders.items in let work = c.destroy-work.result.0 in let book = c.destroy-work.result.1 in
+    let w = c.meet_senders.new.worker in let xs = c.meet_senders.new.senders.items in let work = c.destroy-work.result.0 in
+    let book = c.destroy-work.result.1 in
     let first = c.enter_all.ensures.book in let last = c.enter.ensures.book in
     let over : IsOver plan c.args.team w xs work book = record {
       run = run;
@@ -28,7 +29,11 @@ returns g c = λ plan run.
       known = c.meet_senders.ensures.senders;
       ended = c.destroy-work.ensures;
       told = c.in_ok-enter_all.ensures.told;
-      program = (c.enter.new.book.seen, prefix_on book.seen c.enter_all.new.book.seen c.enter.new.book.seen first.begins last.begins, subst (λ (n : ℕ). own n c.enter.new.book.seen ≡ own n c.args.team.program.seen) run.program_number c.enter.ensures.told);
+      program = (
+        c.enter.new.book.seen,
+        prefix_on book.seen c.enter_all.new.book.seen c.enter.new.book.seen first.begins last.begins,
+        subst (λ (n : ℕ). own n c.enter.new.book.seen ≡ own n c.args.team.program.seen) run.program_number c.enter.ensures.told,
+      );
     } in
     let count = senders_count plan c.args.team w xs work book over in
     let all = subst (λ (ks : List Known). All (λ (s : Known). (sender_counts s.number s.seen).queued ≡ plan.own) ks) (sym c.deref.ensures.value) (all_counted plan c.args.team w xs work book over) in
