@@ -3,6 +3,8 @@
 #![tactic(auto)]
 
 #[cfg(test)]
+mod delay;
+#[cfg(test)]
 mod machine;
 #[cfg(test)]
 mod text;

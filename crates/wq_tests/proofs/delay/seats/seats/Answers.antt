@@ -1,7 +1,7 @@
 use Rattle.std.proofs.Common.{◌∙◌, sym, subst}
 use Rattle.std.specs.List.{AllByRecursion}
-use Rattle.wq_delay.proofs.Fresh.{IsFresh, fresh-new, fresh-less, free_from_fresh}
-use Rattle.wq_delay.proofs.tests.seats.seats.Goals as goal
+use Rattle.wq_tests.proofs.Fresh.{IsFresh, fresh-new, fresh-less, free_from_fresh}
+use Rattle.wq_tests.proofs.delay.seats.seats.Goals as goal
 
 pub returns : goal.returns
 returns c =

@@ -2,8 +2,8 @@
 use super::seats::Call::{Advance, Arm, Check, Modify};
 use super::seats::Said::{self, Pending};
 use super::seats::{call_delay, call_sender, seats};
-use crate::{Armed, Delay, Modified};
 use std::test::Fail;
+use wq_delay::{Armed, Delay, Modified};
 
 /// Where memory is refused to a table its sender comes back, and the next table stands on it. An item that could not be
 /// armed is idle, and one that could not be moved stays on the table.

@@ -2,8 +2,8 @@
 ghost use Rattle.std.specs.Prelude.{◌≡◌, ℕ, IfSome};
 ghost use Rattle.wq_words.specs.History.{Holds};
 
-use crate::{Advance, Armed, Backwards, Delay, Modified, NoRoom};
 use std::alloc::Global;
+use wq_delay::{Advance, Armed, Backwards, Delay, Modified, NoRoom};
 use wq_live::{Answer, Owner, Sender, build};
 use wq_words::Layout;
 

@@ -2,8 +2,8 @@
 use super::seats::Call::{self, Advance, Arm, Cancel, Check, Close, Execute, Modify, Queue, Take};
 use super::seats::Said::{self, Answered, Cancelled, Executed, NotAllowed, Pending, Taken, Went};
 use super::seats::{call_delay, call_seat, call_sender, delayed};
-use crate::{Armed, Modified};
 use std::test::Fail;
+use wq_delay::{Armed, Modified};
 use wq_live::Answer;
 
 type Turn = (Call, Said);
