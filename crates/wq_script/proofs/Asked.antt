@@ -14,11 +14,11 @@ use Rattle.wq_words.specs.declared.answer.Answer.{Answer}
 use Rattle.wq_words.specs.declared.answer.Answer.TheVariants as live
 use Rattle.wq_live.specs.Known.{Known, Sees}
 use Rattle.wq_live.specs.Answers.{Answers, IsPushed}
-use Rattle.wq_plain.specs.declared.answer.Answer as script
-use Rattle.wq_plain.specs.declared.answer.Answer.TheVariants as answer
+use Rattle.wq_meaning.specs.declared.answer.Answer as script
+use Rattle.wq_meaning.specs.declared.answer.Answer.TheVariants as answer
 use Rattle.wq_live.specs.Batch.{TakesAll}
 use Rattle.wq_worker.specs.State.{WorkerState, Moves}
-use Rattle.wq_plain.specs.Queueing.{queue_events, queue_answer, close_events, close_answer}
+use Rattle.wq_meaning.specs.Queueing.{queue_events, queue_answer, close_events, close_answer}
 use Rattle.wq_script.specs.declared.lists.Lists.{Lists}
 use Rattle.wq_script.specs.declared.seats.Seats.{Seats}
 use Rattle.wq_script.specs.Seats.{Stays, AllHear, AreOne, Gathers, Seated}

@@ -12,13 +12,13 @@ use Rattle.wq_live.specs.Known.{Known, Sees}
 use Rattle.wq_delay.specs.declared.answer.Armed as delay_armed
 use Rattle.wq_words.specs.declared.answer.Armed.TheVariants as live
 use Rattle.wq_delay.specs.Delay.{DelayState, IsFit, IsTooFar, Keeps, Arms}
-use Rattle.wq_plain.specs.declared.answer.Answer as script
-use Rattle.wq_plain.specs.declared.answer.Answer.TheVariants as answer
-use Rattle.wq_plain.specs.declared.answer.Armed.{Armed}
-use Rattle.wq_plain.specs.declared.answer.Armed.TheVariants as arming
-use Rattle.wq_plain.specs.Queueing.{queue_events, queue_answer}
-use Rattle.wq_plain.specs.Table.{Table, armed, is_too_far}
-use Rattle.wq_plain.specs.Arming.{arm_events, arm_table, arm_answer}
+use Rattle.wq_meaning.specs.declared.answer.Answer as script
+use Rattle.wq_meaning.specs.declared.answer.Answer.TheVariants as answer
+use Rattle.wq_meaning.specs.declared.answer.Armed.{Armed}
+use Rattle.wq_meaning.specs.declared.answer.Armed.TheVariants as arming
+use Rattle.wq_meaning.specs.Queueing.{queue_events, queue_answer}
+use Rattle.wq_meaning.specs.Table.{Table, armed, is_too_far}
+use Rattle.wq_meaning.specs.Arming.{arm_events, arm_table, arm_answer}
 use Rattle.wq_script.specs.declared.seats.Seats.{Seats}
 use Rattle.wq_script.specs.Seats.{Gathers, Seated}
 use Rattle.wq_script.specs.Asking.{Tells}

@@ -20,9 +20,9 @@ use Rattle.wq_words.proofs.Seen.{own-append, own_one, begun_same, closed_count}
 use Rattle.wq_live.specs.Batch.{batch, next_of}
 use Rattle.wq_worker.specs.Seats.{is_ours, Adds, taking, taking_of, NothingWaits, at_take, at_all}
 use Rattle.wq_worker.specs.Follow.{Queues, Follows, passed, pushed, busy, refused, chained, chain_busy}
-use Rattle.wq_plain.specs.Queueing.{queue_events, chain_events}
-use Rattle.wq_plain.specs.Execution.{follow_of, take_events, follow_events, after_follow, after_run, after_execution}
-use Rattle.wq_plain.proofs.Growing.{accepted-append, begun-append, count-append, accepted-count, pushes-split, fresh-more, fresh-take}
+use Rattle.wq_meaning.specs.Queueing.{queue_events, chain_events}
+use Rattle.wq_meaning.specs.Execution.{follow_of, take_events, follow_events, after_follow, after_run, after_execution}
+use Rattle.wq_meaning.proofs.Growing.{accepted-append, begun-append, count-append, accepted-count, pushes-split, fresh-more, fresh-take}
 use Rattle.wq_script.specs.Quiet.{Quiet}
 use Rattle.wq_script.proofs.Alone.{left_nil, all_ours, own_rest}
 use Rattle.wq_script.proofs.Queueings.{busy_events, push_events, refused_events, not_pending, not_closed, is_pending, closed_on, last_own}

@@ -4,8 +4,8 @@ use Rattle.wq_words.specs.declared.layout.Layout.{Layout}
 use Rattle.wq_words.specs.Legal.{IsLegal}
 use Rattle.wq_words.proofs.Headlines.{keeps_headline}
 use Rattle.wq_text.specs.declared.command.Command.{Command}
-use Rattle.wq_plain.specs.Commands.{ScriptState, after}
-use Rattle.wq_plain.specs.Order.{final_state}
+use Rattle.wq_meaning.specs.Commands.{ScriptState, after}
+use Rattle.wq_meaning.specs.Order.{final_state}
 use Rattle.wq_script.specs.declared.engine.Engine.{Engine}
 use Rattle.wq_script.specs.Engine.{Meets}
 use Rattle.wq_script.specs.Output.{HasLegalHistory}

@@ -11,33 +11,33 @@ use Rattle.wq_words.specs.History.{pending, closed, first, taken, next, begun, e
 use Rattle.wq_words.specs.Seen.{owner_seat, seat_of}
 use Rattle.wq_words.specs.declared.answer.Answer.{Answer}
 use Rattle.wq_words.specs.declared.answer.Answer.TheVariants as live
-use Rattle.wq_plain.specs.declared.answer.Answer as script
-use Rattle.wq_plain.specs.declared.answer.Answer.TheVariants as answer
-use Rattle.wq_plain.specs.Queueing.{queue_events, queue_answer, close_events}
+use Rattle.wq_meaning.specs.declared.answer.Answer as script
+use Rattle.wq_meaning.specs.declared.answer.Answer.TheVariants as answer
+use Rattle.wq_meaning.specs.Queueing.{queue_events, queue_answer, close_events}
 use Rattle.wq_delay.specs.declared.answer.Armed as delay_armed
 use Rattle.wq_words.specs.declared.answer.Armed.TheVariants as live_armed
 use Rattle.wq_delay.specs.declared.answer.Modified as delay_modified
 use Rattle.wq_words.specs.declared.answer.Modified.TheVariants as live_modified
-use Rattle.wq_plain.specs.declared.answer.Armed.{Armed}
-use Rattle.wq_plain.specs.declared.answer.Armed.TheVariants as arming
-use Rattle.wq_plain.specs.declared.answer.Modified.{Modified}
-use Rattle.wq_plain.specs.declared.answer.Modified.TheVariants as modified
-use Rattle.wq_plain.specs.Arming.{post_event, arm_events, arm_table, arm_answer, cancel_events, modify_events, modify_table, modify_answer, modified_by, moved_by, advance_events}
-use Rattle.wq_plain.specs.Report.{is_busy, is_refusal}
-use Rattle.wq_plain.specs.declared.delays.Entry.{Entry}
-use Rattle.wq_plain.specs.Table.{Table, is_on, is_for, is_too_far, is_due, due_items, with_entry, goes_before, armed, without, at_tick}
+use Rattle.wq_meaning.specs.declared.answer.Armed.{Armed}
+use Rattle.wq_meaning.specs.declared.answer.Armed.TheVariants as arming
+use Rattle.wq_meaning.specs.declared.answer.Modified.{Modified}
+use Rattle.wq_meaning.specs.declared.answer.Modified.TheVariants as modified
+use Rattle.wq_meaning.specs.Arming.{post_event, arm_events, arm_table, arm_answer, cancel_events, modify_events, modify_table, modify_answer, modified_by, moved_by, advance_events}
+use Rattle.wq_meaning.specs.Report.{is_busy, is_refusal}
+use Rattle.wq_meaning.specs.declared.delays.Entry.{Entry}
+use Rattle.wq_meaning.specs.Table.{Table, is_on, is_for, is_too_far, is_due, due_items, with_entry, goes_before, armed, without, at_tick}
 use Rattle.std.specs.Prelude.{filter}
 use Rattle.std.specs.List.{position_or_len}
 use Rattle.std.proofs.lemmas.List.Edits.{length-insert}
 use Rattle.std.proofs.lemmas.Bool.{cases_lt, cases_eq}
 use Rattle.wq_script.specs.Arming.{TellsArmed, TellsModified, Leads}
 use Rattle.std.specs.List.{AllByRecursion}
-use Rattle.wq_plain.specs.Commands.{ScriptState, opening}
+use Rattle.wq_meaning.specs.Commands.{ScriptState, opening}
 use Rattle.arrayvec.specs.ArrayVec.{ArrayVec}
 use Rattle.wq_words.specs.Legal.{IsLegal}
-use Rattle.wq_plain.proofs.Growing.{begun-append, ended-append, count-append}
-use Rattle.wq_plain.specs.Execution.{no_follow, follow_of, after_follow, after_run, after_execution, after_executions, go_on, ended_since}
-use Rattle.wq_plain.specs.Follows.{AllFit}
+use Rattle.wq_meaning.proofs.Growing.{begun-append, ended-append, count-append}
+use Rattle.wq_meaning.specs.Execution.{no_follow, follow_of, after_follow, after_run, after_execution, after_executions, go_on, ended_since}
+use Rattle.wq_meaning.specs.Follows.{AllFit}
 use Rattle.wq_script.specs.declared.engine.Engine.{Engine}
 use Rattle.wq_script.specs.declared.seats.Seats.{Seats}
 use Rattle.wq_script.specs.declared.tally.Tally.{Tally}

@@ -18,13 +18,13 @@ use Rattle.wq_words.specs.declared.answer.Modified.TheVariants as moved
 use Rattle.wq_delay.specs.Table as running
 use Rattle.wq_words.specs.DelayTable.{on_table, due_part, later_part, placed, AreArmedBefore}
 use Rattle.wq_delay.specs.Delay.{DelayState, IsFit, IsTooFar, IsOut, lost_tries, Leaves, Arms, Cancels, Moves, ArmsAnew, Modifies, PostsDue}
-use Rattle.wq_plain.specs.declared.answer.Answer.TheVariants as answer
-use Rattle.wq_plain.specs.declared.answer.Armed.{Armed}
-use Rattle.wq_plain.specs.declared.answer.Armed.TheVariants as arming
-use Rattle.wq_plain.specs.declared.answer.Modified.{Modified}
-use Rattle.wq_plain.specs.declared.answer.Modified.TheVariants as modified
-use Rattle.wq_plain.specs.Table.{Table, armed, with_entry, is_too_far, is_on, without, due_items, at_tick}
-use Rattle.wq_plain.specs.Arming.{post_event, arm_events, arm_table, arm_answer, cancel_events, modify_events, modify_table, modify_answer, modified_by, moved_by, advance_events}
+use Rattle.wq_meaning.specs.declared.answer.Answer.TheVariants as answer
+use Rattle.wq_meaning.specs.declared.answer.Armed.{Armed}
+use Rattle.wq_meaning.specs.declared.answer.Armed.TheVariants as arming
+use Rattle.wq_meaning.specs.declared.answer.Modified.{Modified}
+use Rattle.wq_meaning.specs.declared.answer.Modified.TheVariants as modified
+use Rattle.wq_meaning.specs.Table.{Table, armed, with_entry, is_too_far, is_on, without, due_items, at_tick}
+use Rattle.wq_meaning.specs.Arming.{post_event, arm_events, arm_table, arm_answer, cancel_events, modify_events, modify_table, modify_answer, modified_by, moved_by, advance_events}
 use Rattle.wq_script.specs.declared.seats.Seats.{Seats}
 use Rattle.wq_script.specs.Seats.{Gathers, Seated}
 use Rattle.wq_script.specs.Arming.{TellsArmed, TellsModified, Leads}

@@ -11,8 +11,8 @@ use Rattle.wq_words.proofs.Growing.{count_by_push}
 use Rattle.wq_words.proofs.Legal.{legal_next}
 use Rattle.wq_words.specs.Seen.{seat_of, own}
 use Rattle.wq_words.proofs.Seen.{own-append, own_one}
-use Rattle.wq_plain.specs.Queueing.{queue_events}
-use Rattle.wq_plain.proofs.Growing.{fresh-more}
+use Rattle.wq_meaning.specs.Queueing.{queue_events}
+use Rattle.wq_meaning.proofs.Growing.{fresh-more}
 use Rattle.wq_script.proofs.Alone.{right_nil}
 
 -- the answers of the tests by which a script's meaning goes

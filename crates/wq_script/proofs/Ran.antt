@@ -8,8 +8,8 @@ use Rattle.wq_words.specs.Legal.{IsLegal}
 use Rattle.wq_words.proofs.Seen.{prefix_self}
 use Rattle.wq_worker.specs.Seats.{is_ours}
 use Rattle.wq_worker.specs.State.{WorkerState}
-use Rattle.wq_plain.specs.Execution.{after_executions, ended_since}
-use Rattle.wq_plain.specs.Follows.{AllFit}
+use Rattle.wq_meaning.specs.Execution.{after_executions, ended_since}
+use Rattle.wq_meaning.specs.Follows.{AllFit}
 use Rattle.wq_script.specs.declared.lists.Lists.{Lists}
 use Rattle.wq_script.specs.declared.seats.Seats.{Seats}
 use Rattle.wq_script.specs.Seats.{Gathers, Seated}

@@ -20,10 +20,10 @@ use Rattle.wq_worker.proofs.Seats.{adds_on, adds_none}
 use Rattle.wq_worker.specs.State.{WorkerState, Moves}
 use Rattle.wq_worker.specs.Step.{Starts, item, other, owed, Ends, ends, Owes, owes, Runs}
 use Rattle.wq_worker.specs.Follow.{Follows}
-use Rattle.wq_plain.specs.Execution.{no_follow, follow_of, take_events, after_run, after_execution, after_executions, go_on, ended_since}
-use Rattle.wq_plain.specs.Follows.{AllFit}
-use Rattle.wq_plain.proofs.Executions.{follow_fits, ended_execution, one_more}
-use Rattle.wq_plain.proofs.Growing.{begun-append, ended-append}
+use Rattle.wq_meaning.specs.Execution.{no_follow, follow_of, take_events, after_run, after_execution, after_executions, go_on, ended_since}
+use Rattle.wq_meaning.specs.Follows.{AllFit}
+use Rattle.wq_meaning.proofs.Executions.{follow_fits, ended_execution, one_more}
+use Rattle.wq_meaning.proofs.Growing.{begun-append, ended-append}
 use Rattle.wq_script.specs.declared.lists.Lists.{Lists}
 use Rattle.wq_script.specs.Quiet.{Quiet, IsReady, Executed, Executes, ExecutesRow}
 use Rattle.wq_script.proofs.Alone.{right_nil}

@@ -6,9 +6,9 @@ use Rattle.std.proofs.lemmas.Bool.{cases_eq, cases_lt, lt-ltb, le-ltb, eqb-true,
 use Rattle.wq_delay.specs.Table as running
 use Rattle.wq_words.specs.DelayTable.{on_table, due_part, later_part, placed, IsOrdered, AreArmedBefore}
 use Rattle.wq_delay.specs.Delay.{DelayState, IsBeyond}
-use Rattle.wq_plain.specs.declared.delays.Entry.{Entry}
-use Rattle.wq_plain.specs.Table.{goes_before, with_entry, is_too_far, is_for, is_on, items_of, is_due, due_items}
-use Rattle.wq_plain.proofs.Table.{further, here}
+use Rattle.wq_meaning.specs.declared.delays.Entry.{Entry}
+use Rattle.wq_meaning.specs.Table.{goes_before, with_entry, is_too_far, is_for, is_on, items_of, is_due, due_items}
+use Rattle.wq_meaning.proofs.Table.{further, here}
 use Rattle.wq_script.specs.Tables.{entry_of, table_of}
 
 -- equality of numbers is tested alike from either side

@@ -6,13 +6,13 @@ use Rattle.wq_delay.specs.declared.answer.Armed as delay_armed
 use Rattle.wq_words.specs.declared.answer.Armed.TheVariants as live
 use Rattle.wq_delay.specs.declared.answer.Modified as delay_modified
 use Rattle.wq_words.specs.declared.answer.Modified.TheVariants as moved
-use Rattle.wq_plain.specs.declared.answer.Answer.TheVariants as answer
-use Rattle.wq_plain.specs.declared.answer.Armed.{Armed}
-use Rattle.wq_plain.specs.declared.answer.Armed.TheVariants as arming
-use Rattle.wq_plain.specs.declared.answer.Modified.{Modified}
-use Rattle.wq_plain.specs.declared.answer.Modified.TheVariants as modified
-use Rattle.wq_plain.specs.Table.{Table, due_items, is_on, without, at_tick}
-use Rattle.wq_plain.specs.Arming.{arm_events, arm_table, arm_answer, cancel_events, modify_events, modify_table, modify_answer, advance_events}
+use Rattle.wq_meaning.specs.declared.answer.Answer.TheVariants as answer
+use Rattle.wq_meaning.specs.declared.answer.Armed.{Armed}
+use Rattle.wq_meaning.specs.declared.answer.Armed.TheVariants as arming
+use Rattle.wq_meaning.specs.declared.answer.Modified.{Modified}
+use Rattle.wq_meaning.specs.declared.answer.Modified.TheVariants as modified
+use Rattle.wq_meaning.specs.Table.{Table, due_items, is_on, without, at_tick}
+use Rattle.wq_meaning.specs.Arming.{arm_events, arm_table, arm_answer, cancel_events, modify_events, modify_table, modify_answer, advance_events}
 use Rattle.wq_script.specs.declared.seats.Seats.{Seats}
 use Rattle.wq_script.specs.Seats.{IsSameWork, Seated}
 use Rattle.wq_script.specs.Tables.{table_of}

@@ -5,12 +5,12 @@ use Rattle.wq_words.specs.declared.event.Event.{Event}
 use Rattle.wq_words.specs.History.{IsRunning}
 use Rattle.wq_words.specs.declared.answer.Answer.{Answer}
 use Rattle.wq_words.specs.declared.answer.Answer.TheVariants as live
-use Rattle.wq_plain.specs.declared.answer.Answer as script
-use Rattle.wq_plain.specs.declared.answer.Answer.TheVariants as answer
-use Rattle.wq_plain.specs.Queueing.{queue_events, queue_answer, close_events, close_answer}
+use Rattle.wq_meaning.specs.declared.answer.Answer as script
+use Rattle.wq_meaning.specs.declared.answer.Answer.TheVariants as answer
+use Rattle.wq_meaning.specs.Queueing.{queue_events, queue_answer, close_events, close_answer}
 use Rattle.wq_worker.specs.Seats.{is_ours}
-use Rattle.wq_plain.specs.Execution.{after_executions, ends_at, ended_since}
-use Rattle.wq_plain.specs.Follows.{AllFit}
+use Rattle.wq_meaning.specs.Execution.{after_executions, ends_at, ended_since}
+use Rattle.wq_meaning.specs.Follows.{AllFit}
 use Rattle.wq_script.specs.declared.seats.Seats.{Seats}
 use Rattle.wq_script.specs.Seats.{IsSameWork, IsSameTable, Seated}
 

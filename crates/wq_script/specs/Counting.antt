@@ -7,13 +7,13 @@ use Rattle.wq_delay.specs.declared.answer.Armed as delay_armed
 use Rattle.wq_words.specs.declared.answer.Armed.TheVariants as live_armed
 use Rattle.wq_delay.specs.declared.answer.Modified as delay_modified
 use Rattle.wq_words.specs.declared.answer.Modified.TheVariants as live_modified
-use Rattle.wq_plain.specs.declared.answer.Answer.{Answer}
-use Rattle.wq_plain.specs.declared.answer.Answer.TheVariants as answer
-use Rattle.wq_plain.specs.declared.answer.Armed.{Armed}
-use Rattle.wq_plain.specs.declared.answer.Armed.TheVariants as arming
-use Rattle.wq_plain.specs.declared.answer.Modified.{Modified}
-use Rattle.wq_plain.specs.declared.answer.Modified.TheVariants as modified
-use Rattle.wq_plain.specs.Report.{is_busy, is_refusal}
+use Rattle.wq_meaning.specs.declared.answer.Answer.{Answer}
+use Rattle.wq_meaning.specs.declared.answer.Answer.TheVariants as answer
+use Rattle.wq_meaning.specs.declared.answer.Armed.{Armed}
+use Rattle.wq_meaning.specs.declared.answer.Armed.TheVariants as arming
+use Rattle.wq_meaning.specs.declared.answer.Modified.{Modified}
+use Rattle.wq_meaning.specs.declared.answer.Modified.TheVariants as modified
+use Rattle.wq_meaning.specs.Report.{is_busy, is_refusal}
 use Rattle.wq_script.specs.declared.tally.Tally.{Tally}
 use Rattle.wq_script.specs.Arming.{TellsArmed, TellsModified}
 

@@ -2,8 +2,8 @@
 use Rattle.std.specs.Prelude.{◌≡◌, ℕ, ◌+◌, ◌^◌, ◌≤◌, List, ◌++◌, length}
 use Rattle.wq_words.specs.History.{IsRunning}
 use Rattle.wq_text.specs.declared.command.Command.{Command}
-use Rattle.wq_plain.specs.Execution.{follow_of}
-use Rattle.wq_plain.specs.Commands.{ScriptState, after, lines}
+use Rattle.wq_meaning.specs.Execution.{follow_of}
+use Rattle.wq_meaning.specs.Commands.{ScriptState, after, lines}
 use Rattle.wq_script.specs.declared.engine.Engine.{Engine}
 use Rattle.wq_script.specs.Seats.{Seated}
 use Rattle.wq_script.specs.Asking.{HasLists}

@@ -7,8 +7,8 @@ use Rattle.wq_words.specs.History.{next, IsRunning}
 use Rattle.wq_words.specs.Legal.{IsLegal}
 use Rattle.wq_worker.specs.Seats.{is_ours}
 use Rattle.wq_worker.specs.State.{WorkerState, Moves}
-use Rattle.wq_plain.specs.Execution.{after_execution, after_executions, ended_since}
-use Rattle.wq_plain.specs.Follows.{AllFit}
+use Rattle.wq_meaning.specs.Execution.{after_execution, after_executions, ended_since}
+use Rattle.wq_meaning.specs.Follows.{AllFit}
 use Rattle.wq_script.specs.declared.lists.Lists.{Lists}
 
 -- z is legal, and behind h each of its events is of the worker's sender n or of the owner

@@ -2,8 +2,8 @@
 use Rattle.std.specs.Prelude.{map}
 use Rattle.wq_delay.specs.Table as running
 use Rattle.wq_delay.specs.Delay.{DelayState}
-use Rattle.wq_plain.specs.declared.delays.Entry.{Entry}
-use Rattle.wq_plain.specs.Table.{Table}
+use Rattle.wq_meaning.specs.declared.delays.Entry.{Entry}
+use Rattle.wq_meaning.specs.Table.{Table}
 
 abbrev pub entry_of : running.Entry → Entry
 entry_of e = record { due = e.due; arming = e.arming; item = e.item }

@@ -1,13 +1,13 @@
 //! The engine of scripts over the words that threads could share.
 ghost use Rattle.std.specs.Prelude.{◌≡◌, ℕ, ◌+◌, ◌^◌, ◌≤◌, List, length, IfOk, OnOk, string_bytes};
 ghost use Rattle.wq_text.specs.Fits.{Fits};
-ghost use Rattle.wq_plain.specs.Commands.{opening};
-ghost use Rattle.wq_plain.specs.Report.{counts_of};
+ghost use Rattle.wq_meaning.specs.Commands.{opening};
+ghost use Rattle.wq_meaning.specs.Report.{counts_of};
 
 use crate::seats::Seats;
 use crate::tally::Tally;
 use std::alloc::{AllocError, Global};
-use wq_plain::{Counts, advance_word, either, write_close, write_left, write_line, write_row};
+use wq_meaning::{Counts, advance_word, either, write_close, write_left, write_line, write_row};
 use wq_text::{Command, Follow};
 use wq_words::Layout;
 

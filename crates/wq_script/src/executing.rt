@@ -1,7 +1,7 @@
 //! Executions of a worker, one after another.
 ghost use Rattle.std.specs.Prelude.{◌≡◌, IfOk};
 ghost use Rattle.wq_words.specs.Legal.{IsLegal};
-ghost use Rattle.wq_plain.specs.Execution.{ends_at};
+ghost use Rattle.wq_meaning.specs.Execution.{ends_at};
 ghost use Rattle.wq_script.specs.Quiet.{Executes, ExecutesRow};
 
 use crate::lists::Lists;

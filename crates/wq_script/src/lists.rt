@@ -1,6 +1,6 @@
 //! What each item's function answers, as the work of a worker.
 ghost use Rattle.std.specs.Prelude.{◌≡◌, ◌≤◌, [], length, slice_set, replicate, IfOk};
-ghost use Rattle.wq_plain.specs.Execution.{follow_of, no_follow};
+ghost use Rattle.wq_meaning.specs.Execution.{follow_of, no_follow};
 
 use arrayvec::ArrayVec;
 use std::alloc::{AllocError, Global};

@@ -1,10 +1,10 @@
 //! All seats of a queue, and how each hears what one of them has seen.
 ghost use Rattle.std.specs.Prelude.{◌≡◌, ◌<◌, not, List, length, All, slice_index_or, IfOk, MatchOption, ◌+◌, ◌≤◌, [], replicate, slice_set};
-ghost use Rattle.wq_plain.specs.Execution.{no_follow};
+ghost use Rattle.wq_meaning.specs.Execution.{no_follow};
 ghost use Rattle.wq_words.specs.declared.layout.Layout.{Layout};
 ghost use Rattle.wq_words.specs.declared.event.Event.{Event};
 ghost use Rattle.wq_words.specs.Numbers.{stop_number};
-ghost use Rattle.wq_plain.specs.Commands.{barrier_number};
+ghost use Rattle.wq_meaning.specs.Commands.{barrier_number};
 ghost use Rattle.wq_live.specs.Known.{Known};
 ghost use Rattle.wq_script.specs.Seats.{Stays, AllHear, IsSameTable, AreOne, Gathers, Seated, IsSeated};
 ghost use Rattle.wq_script.specs.Asking.{AsksFor, LooksAt, ClosesAs, RunsAs};

@@ -2,14 +2,14 @@
 ghost use Rattle.std.specs.Prelude.{◌≡◌, ◌+◌, ◌^◌, ◌≤◌, ◌==◌};
 ghost use Rattle.wq_words.specs.declared.answer.Armed.TheVariants as live_armed;
 ghost use Rattle.wq_words.specs.declared.answer.Modified.TheVariants as live_modified;
-ghost use Rattle.wq_plain.specs.declared.answer.Answer as script;
-ghost use Rattle.wq_plain.specs.declared.answer.Armed as script_armed;
-ghost use Rattle.wq_plain.specs.declared.answer.Modified as script_modified;
+ghost use Rattle.wq_meaning.specs.declared.answer.Answer as script;
+ghost use Rattle.wq_meaning.specs.declared.answer.Armed as script_armed;
+ghost use Rattle.wq_meaning.specs.declared.answer.Modified as script_modified;
 ghost use Rattle.wq_script.specs.Asking.{Tells};
 ghost use Rattle.wq_script.specs.Arming.{TellsArmed, TellsModified};
 ghost use Rattle.wq_script.specs.Counting.{HasRoom, counted, counted_push, counted_posts, CountsArming, CountsModification};
 
-use wq_plain::{Answer, Armed, Modified};
+use wq_meaning::{Answer, Armed, Modified};
 
 /// Queueings by the answers that they had.
 #[derive(Clone, Copy, Debug, PartialEq, Eq)]

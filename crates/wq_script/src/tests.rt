@@ -14,7 +14,7 @@ fn check_report<R: Abort + AllocGlobal>(rt: &R, text: &str, report: &str) -> Res
         "{text}"
     );
     assert_eq!(rt;
-        wq_plain::run(alloc, &script)?.as_slice(),
+        wq_meaning::run(alloc, &script)?.as_slice(),
         report.as_bytes(),
         "{text}"
     );

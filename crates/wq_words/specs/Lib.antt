@@ -8,3 +8,4 @@ pub mod Keeper
 pub mod Headline
 pub mod Seen
 pub mod DelayTable
+pub mod Armed

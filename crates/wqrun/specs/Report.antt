@@ -3,7 +3,7 @@ use Rattle.std.specs.Prelude.{◌≡◌, ℕ, List, take, Option, Ok, Err}
 use Rattle.std.specs.Io.KnownBytes.{Appends}
 use Rattle.wq_text.specs.declared.script.Script.{Script}
 use Rattle.wq_text.specs.Script.{layout_of, commands_of}
-use Rattle.wq_plain.specs.Commands.{output_of}
+use Rattle.wq_meaning.specs.Commands.{output_of}
 use Rattle.wq_text.specs.Text.{script_of, spelled}
 use Rattle.wqrun.specs.declared.failure.Failure.{Failure}
 use Rattle.wqrun.specs.declared.failure.Failure.TheVariants as failure

@@ -3,7 +3,7 @@ use Rattle.std.specs.Prelude.{◌≡◌, ℕ, List, Option, Ok, Err}
 use Rattle.std.specs.Io.KnownBytes.{Appends}
 use Rattle.wq_text.specs.declared.schedule.Schedule.{Schedule}
 use Rattle.wq_text.specs.Schedule.{schedule_of, schedule_layout, turns_of, schedule_spelled}
-use Rattle.wq_plain.specs.ScheduleOutput.{IsScheduleOutput}
+use Rattle.wq_meaning.specs.ScheduleOutput.{IsScheduleOutput}
 use Rattle.wqrun.specs.declared.failure.Failure.{Failure}
 use Rattle.wqrun.specs.declared.failure.Failure.TheVariants as failure
 use Rattle.wqrun.specs.Report.{text_read}

@@ -85,7 +85,7 @@ fn check_reports<R: Abort + AllocGlobal>(rt: &R, rows: &[(&str, &str)]) -> Resul
 /// The report of the plain engine, which runs no queue that threads could share.
 fn run_plainly(alloc: Global, text: &[u8]) -> Result<Vec<u8>, Fail> {
     let script = parse(alloc, text)?;
-    Ok(wq_plain::run(alloc, &script)?)
+    Ok(wq_meaning::run(alloc, &script)?)
 }
 
 /// Items that follow, flushes, drains and delays.

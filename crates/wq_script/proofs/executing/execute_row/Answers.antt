@@ -1,5 +1,5 @@
 use Rattle.std.proofs.Common.{◌≡◌, ℕ, ◌+◌, ◌-◌, List, Option, Some, None, arith, sym, ◌∙◌, subst}
-use Rattle.wq_plain.specs.Execution.{ends_at}
+use Rattle.wq_meaning.specs.Execution.{ends_at}
 use Rattle.wq_script.specs.Quiet.{Executes, ExecutesRow}
 use Rattle.wq_script.proofs.Running.{RowSoFar, row_none, row_more, row_done, row_last, row_idle}
 use Rattle.wq_script.proofs.executing.execute_row.Goals as goal

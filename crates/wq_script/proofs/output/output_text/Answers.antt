@@ -3,8 +3,8 @@ use Rattle.std.proofs.Math.ListN.{drop_of_length-le}
 use Rattle.wq_words.specs.declared.layout.Layout.{Layout}
 use Rattle.wq_text.specs.declared.command.Command.{Command}
 use Rattle.wq_text.specs.Fits.{Fits}
-use Rattle.wq_plain.specs.Commands.{opening, after, lines, output_from}
-use Rattle.wq_plain.proofs.Outputs.{left_at, output_more, output_done}
+use Rattle.wq_meaning.specs.Commands.{opening, after, lines, output_from}
+use Rattle.wq_meaning.proofs.Outputs.{left_at, output_more, output_done}
 use Rattle.wq_script.specs.Engine.{Meets, size}
 use Rattle.wq_script.proofs.Histories.{final_legal}
 use Rattle.wq_script.proofs.output.output_text.Goals as goal

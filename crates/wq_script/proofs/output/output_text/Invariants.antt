@@ -1,6 +1,6 @@
 use Rattle.std.proofs.Common.{◌≡◌, ◌++◌, ◌*◌, ◌^◌, ◌≤◌, drop, fold, string_bytes}
-use Rattle.wq_plain.specs.Commands.{ScriptState, after, output_from, output_of}
-use Rattle.wq_plain.specs.Order.{final_state}
+use Rattle.wq_meaning.specs.Commands.{ScriptState, after, output_from, output_of}
+use Rattle.wq_meaning.specs.Order.{final_state}
 use Rattle.wq_script.specs.Engine.{Meets, size}
 use Rattle.wq_script.proofs.output.output_text.Given as goal
 

@@ -3,12 +3,12 @@ use Rattle.std.specs.Prelude.{MatchOption}
 use Rattle.std.proofs.lemmas.Bool.{lt-ltb, le-ltb}
 use Rattle.wq_words.specs.History.{closed}
 use Rattle.wq_text.specs.declared.command.Command.TheVariants as command
-use Rattle.wq_plain.specs.Report.{line}
-use Rattle.wq_plain.specs.Names.{row_text, advance_word}
-use Rattle.wq_plain.specs.Table.{Table, due_items, at_tick}
-use Rattle.wq_plain.specs.Arming.{advance_events}
-use Rattle.wq_plain.specs.Commands.{ScriptState}
-use Rattle.wq_plain.proofs.Meanings.{wrote, advanced, advance_back, advance_on}
+use Rattle.wq_meaning.specs.Report.{line}
+use Rattle.wq_meaning.specs.Names.{row_text, advance_word}
+use Rattle.wq_meaning.specs.Table.{Table, due_items, at_tick}
+use Rattle.wq_meaning.specs.Arming.{advance_events}
+use Rattle.wq_meaning.specs.Commands.{ScriptState}
+use Rattle.wq_meaning.proofs.Meanings.{wrote, advanced, advance_back, advance_on}
 use Rattle.wq_script.specs.declared.tally.Tally.{Tally}
 use Rattle.wq_script.specs.Arming.{Leads, IsBack, IsPosted}
 use Rattle.wq_script.specs.Counting.{Tallied}

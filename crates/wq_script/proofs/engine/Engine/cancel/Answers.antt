@@ -1,7 +1,7 @@
 use Rattle.std.proofs.Common.{◌∙◌, ℕ, ◌+◌, ◌++◌, ap, refl, arith, string_bytes, subst, length-append, if◌then◌else◌, codes}
-use Rattle.wq_plain.specs.Report.{line}
-use Rattle.wq_plain.specs.Arming.{cancel_events}
-use Rattle.wq_plain.specs.Table.{Table, is_on, without}
+use Rattle.wq_meaning.specs.Report.{line}
+use Rattle.wq_meaning.specs.Arming.{cancel_events}
+use Rattle.wq_meaning.specs.Table.{Table, is_on, without}
 use Rattle.wq_script.proofs.Meetings.{other_seat, no_owner_seat, cancel_counts, leads_meets, cancel_few, remove_few}
 use Rattle.wq_script.specs.Arming.{Leads}
 use Rattle.wq_script.proofs.engine.Engine.cancel.Goals as goal

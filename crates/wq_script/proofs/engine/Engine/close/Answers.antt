@@ -1,7 +1,7 @@
 use Rattle.std.proofs.Common.{◌∙◌, ◌++◌, ap, refl, arith, string_bytes, length-append}
-use Rattle.wq_plain.specs.Answer.{close_text}
-use Rattle.wq_plain.specs.Report.{line}
-use Rattle.wq_plain.specs.Queueing.{close_events}
+use Rattle.wq_meaning.specs.Answer.{close_text}
+use Rattle.wq_meaning.specs.Report.{line}
+use Rattle.wq_meaning.specs.Queueing.{close_events}
 use Rattle.wq_script.proofs.Meetings.{close_meets, close_few}
 use Rattle.wq_script.proofs.engine.Engine.close.Goals as goal
 

@@ -1,6 +1,6 @@
 use Rattle.std.proofs.Common.{◌≡◌, ◌∙◌, ◌-◌, sym, ap, arith, length}
 use Rattle.std.proofs.lemmas.List.{length-map}
-use Rattle.wq_plain.specs.Table.{Table}
+use Rattle.wq_meaning.specs.Table.{Table}
 use Rattle.wq_script.specs.Tables.{entry_of}
 use Rattle.wq_script.proofs.Reports.{Sums, sums}
 use Rattle.wq_script.proofs.engine.Engine.counts.Goals as goal

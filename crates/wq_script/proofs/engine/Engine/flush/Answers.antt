@@ -1,8 +1,8 @@
 use Rattle.std.proofs.Common.{◌∙◌, ℕ, ◌++◌, ap, refl, arith, string_bytes, length-append}
-use Rattle.wq_plain.specs.Answer.{answer_text}
-use Rattle.wq_plain.specs.Report.{line}
-use Rattle.wq_plain.specs.Queueing.{queue_events, queue_answer}
-use Rattle.wq_plain.specs.Commands.{barrier_number}
+use Rattle.wq_meaning.specs.Answer.{answer_text}
+use Rattle.wq_meaning.specs.Report.{line}
+use Rattle.wq_meaning.specs.Queueing.{queue_events, queue_answer}
+use Rattle.wq_meaning.specs.Commands.{barrier_number}
 use Rattle.wq_script.proofs.Meetings.{asked_meets, queue_few}
 use Rattle.wq_script.proofs.engine.Engine.flush.Goals as goal
 

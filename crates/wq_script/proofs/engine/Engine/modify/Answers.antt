@@ -1,9 +1,9 @@
 use Rattle.std.proofs.Common.{◌≡◌, ◌∙◌, ℕ, ◌+◌, ◌++◌, sym, ap, refl, arith, string_bytes, subst, length-append}
-use Rattle.wq_plain.specs.Answer.{modified_text}
-use Rattle.wq_plain.specs.Report.{line}
-use Rattle.wq_plain.specs.declared.answer.Modified.{Modified}
-use Rattle.wq_plain.specs.Arming.{modify_events, modify_table, modify_answer}
-use Rattle.wq_plain.specs.Table.{Table}
+use Rattle.wq_meaning.specs.Answer.{modified_text}
+use Rattle.wq_meaning.specs.Report.{line}
+use Rattle.wq_meaning.specs.declared.answer.Modified.{Modified}
+use Rattle.wq_meaning.specs.Arming.{modify_events, modify_table, modify_answer}
+use Rattle.wq_meaning.specs.Table.{Table}
 use Rattle.wq_script.specs.declared.tally.Tally.{Tally}
 use Rattle.wq_script.specs.Arming.{Leads}
 use Rattle.wq_script.specs.Counting.{Tallied, counted_modified}
