@@ -13,26 +13,8 @@ use Rattle.wq_live.specs.Known.{Known, Sees}
 use Rattle.wq_words.specs.DelayTable.{Entry, on_table, due_part, later_part, without, IsOrdered}
 use Rattle.wq_delay.specs.Rows.{IsFirstDue}
 use Rattle.wq_delay.specs.Delay.{DelayState, IsFit, Keeps, Leaves, IsOut, is_back, lost_tries, PostsDue}
-use Rattle.wq_delay.proofs.Table.{none_due}
-use Rattle.wq_delay.proofs.Rows.{first_on, without_first}
+use Rattle.wq_words.proofs.DelayTable.{without_first, due_then_later, first_due_part, first_later_part}
 use Rattle.wq_delay.proofs.Going.{sees_on, sees_none}
-
--- a table in order is its due part and what is later
-due_then_later : (t : ℕ) (es : List Entry) → IsOrdered es → es ≡ due_part t es ++ later_part t es
-due_then_later t [] ordered = refl
-due_then_later t (e ∷ es) ordered = by (nat_le e.due t) refl (due_then_later t es ordered.2)
-  where
-    by : (b : Bool) → nat_le e.due t ≡ b → es ≡ due_part t es ++ later_part t es → e ∷ es ≡ cond b (e ∷ due_part t es) (due_part t es) ++ cond (not b) (e ∷ later_part t es) (later_part t es)
-    by true is rest = ap (λ (z : List Entry). e ∷ z) rest
-    by false is rest =
-        let late : t < e.due = grind (arith, nat_tests) in let none : due_part t es ≡ [] = none_due t e es ordered.0 late in
-        ap (λ (z : List Entry). e ∷ z) (rest ∙ ap (λ (z : List Entry). z ++ later_part t es) none) ∙ ap (λ (z : List Entry). z ++ e ∷ later_part t es) (sym none)
-
-first_due_part : (t : ℕ) (e : Entry) (es : List Entry) → e.due ≤ t → due_part t (e ∷ es) ≡ e ∷ due_part t es
-first_due_part t e es due = let is : nat_le e.due t ≡ true = grind (arith, nat_tests) in rw is refl
-
-first_later_part : (t : ℕ) (e : Entry) (es : List Entry) → e.due ≤ t → later_part t (e ∷ es) ≡ later_part t es
-first_later_part t e es due = let is : nat_le e.due t ≡ true = grind (arith, nat_tests) in rw is refl
 
 all_zip_push : {A B : Type 0} (R : A → B → Type 0) (xs : List A) (ys : List B) (x : A) (y : B) → AllZip R xs ys → R x y → AllZip R (xs ++ x ∷ []) (ys ++ y ∷ [])
 all_zip_push R [] [] x y all r = (r, tt)

@@ -7,3 +7,4 @@ pub mod Places
 pub mod Ranks
 pub mod Headlines
 pub mod Seen
+pub mod DelayTable

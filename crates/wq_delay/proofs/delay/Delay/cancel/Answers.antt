@@ -3,7 +3,7 @@ use Rattle.wq_words.specs.declared.event.Event.TheVariants.{Back}
 use Rattle.wq_words.specs.declared.event.Why.TheVariants.{Cancelled}
 use Rattle.wq_words.specs.DelayTable.{Entry, on_table}
 use Rattle.wq_delay.specs.Delay.{DelayState, IsFit}
-use Rattle.wq_delay.proofs.Table.{without_off}
+use Rattle.wq_words.proofs.DelayTable.{without_off}
 use Rattle.wq_delay.proofs.Sound.{state, sound_leaves, stops_back}
 use Rattle.wq_delay.proofs.delay.Delay.cancel.Goals as goal
 
