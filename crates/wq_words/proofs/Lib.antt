@@ -1,4 +1,7 @@
+pub mod Prefixes
 pub mod Growing
+pub mod Running
+pub mod Closed
 pub mod Legal
 pub mod Order
 pub mod Keepers
@@ -8,3 +11,4 @@ pub mod Ranks
 pub mod Headlines
 pub mod Seen
 pub mod DelayTable
+pub mod Counting
