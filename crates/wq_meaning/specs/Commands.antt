@@ -3,7 +3,7 @@ use Rattle.std.specs.Prelude.{ℕ, ◌+◌, ◌-◌, List, [], ◌∷◌, ◌++�
 use Rattle.arrayvec.specs.ArrayVec.{ArrayVec}
 use Rattle.wq_words.specs.declared.layout.Layout.{Layout}
 use Rattle.wq_words.specs.declared.event.Event.{Event}
-use Rattle.wq_words.specs.Numbers.{stop_number}
+use Rattle.wq_words.specs.Numbers.{barrier_number, stop_number}
 use Rattle.wq_words.specs.History.{accepted, ended, pending, closed}
 use Rattle.wq_text.specs.declared.command.Command.{Command}
 use Rattle.wq_text.specs.declared.command.Command.TheVariants as command
@@ -30,9 +30,6 @@ worker layout = layout.senders
 
 abbrev pub delayer : Layout → ℕ
 delayer layout = layout.senders + 1
-
-abbrev pub barrier_number : Layout → ℕ → ℕ
-barrier_number layout barrier = layout.items + barrier
 
 -- the history after at most so many executions, up to one of the last number
 abbrev pub after_row : Layout → ScriptState → ℕ → Option ℕ → List Event

@@ -11,23 +11,8 @@ use Rattle.wq_words.specs.declared.event.Event.TheVariants.{Hold, Busy, Push, Ba
 use Rattle.wq_words.specs.Legal.{IsLegal, HasSeat}
 use Rattle.wq_words.proofs.Legal.{legal_next, legal_front}
 use Rattle.wq_words.specs.Seen.{seat_of, owner_seat, own}
-use Rattle.wq_words.proofs.Seen.{own-append, nothing_more}
-
-module _ {A : Type 0} where
-  pub left_nil : (xs ys : List A) → xs ++ ys ≡ [] → xs ≡ []
-  left_nil [] ys is = refl
-  left_nil (x ∷ xs) ys is = absurd (cc)
-
-  pub right_nil : (xs ys : List A) → xs ++ ys ≡ [] → ys ≡ []
-  right_nil [] ys is = is
-  right_nil (x ∷ xs) ys is = absurd (cc)
-
--- what stood between two histories of which the seat made no event
-pub own_between : (c : ℕ) (h z w : List Event) → IsPrefix h z → IsPrefix z w → own c w ≡ own c h → own c z ≡ own c h
-own_between c h z w a b same =
-    let none : own c a.0 ++ own c b.0 ≡ [] = nothing_more (own c h) (own c a.0 ++ own c b.0)
-    (sym (append_assoc (own c h) (own c a.0) (own c b.0)) ∙ (ap (λ (x : List Event). x ++ own c b.0) (sym (own-append c h a.0) ∙ ap (own c) a.1) ∙ (sym (own-append c z b.0) ∙ (ap (own c) b.1 ∙ same)))) in
-    ap (own c) (sym a.1) ∙ (own-append c h a.0 ∙ (ap (λ (x : List Event). own c h ++ x) (left_nil (own c a.0) (own c b.0) none) ∙ append-nil (own c h)))
+use Rattle.wq_words.proofs.Prefixes.{nothing_more, left_nil, right_nil}
+use Rattle.wq_words.proofs.Seen.{own-append, own_rest}
 
 -- a seat's number: a sender's, or the owner's
 abbrev pub IsSeat : Layout → ℕ → Type 0
@@ -57,13 +42,6 @@ legal_seats layout h (e ∷ es) legal =
 
 own_self : (e : Event) (es : List Event) → own (seat_of e) (e ∷ es) ≡ e ∷ own (seat_of e) es
 own_self e es = ap (λ (b : Bool). cond b (e ∷ own (seat_of e) es) (own (seat_of e) es)) (eq-eqb (seat_of e) (seat_of e) refl)
-
-cond_nil : {A : Type 0} (b : Bool) (x : A) (xs : List A) → cond b (x ∷ xs) xs ≡ [] → xs ≡ []
-cond_nil true x xs is = absurd (cc)
-cond_nil false x xs is = is
-
-pub own_rest : (c : ℕ) (e : Event) (es : List Event) → own c (e ∷ es) ≡ [] → own c es ≡ []
-own_rest c e es is = cond_nil (eqb (seat_of e) c) e (own c es) is
 
 module _ (layout : Layout) (f : ℕ → Bool) where
   -- the events of seats that f names, and those of others

@@ -15,16 +15,17 @@ use Rattle.wq_words.specs.declared.event.Why.TheVariants as why
 use Rattle.wq_words.specs.History.{accepted, begun, next, taken, closed, is_close, is_push, is_take, fresh}
 use Rattle.wq_words.specs.Legal.{IsLegal}
 use Rattle.wq_words.proofs.Legal.{legal_next, legal_front}
-use Rattle.wq_words.specs.Seen.{owner_seat, seat_of, own}
-use Rattle.wq_words.proofs.Seen.{own-append, own_one, begun_same, closed_count}
+use Rattle.wq_words.specs.Seen.{owner_seat, seat_of, own, is_ours}
+use Rattle.wq_words.proofs.Prefixes.{left_nil}
+use Rattle.wq_words.proofs.Seen.{own-append, own_one, own_rest, begun_same, closed_count}
 use Rattle.wq_live.specs.Batch.{batch, next_of}
-use Rattle.wq_worker.specs.Seats.{is_ours, Adds, taking, taking_of, NothingWaits, at_take, at_all}
+use Rattle.wq_worker.specs.Seats.{Adds, taking, taking_of, NothingWaits, at_take, at_all}
 use Rattle.wq_worker.specs.Follow.{Queues, Follows, passed, pushed, busy, refused, chained, chain_busy}
 use Rattle.wq_meaning.specs.Queueing.{queue_events, chain_events}
 use Rattle.wq_meaning.specs.Execution.{follow_of, take_events, follow_events, after_follow, after_run, after_execution}
 use Rattle.wq_meaning.proofs.Growing.{accepted-append, begun-append, count-append, accepted-count, pushes-split, fresh-more, fresh-take}
 use Rattle.wq_script.specs.Quiet.{Quiet}
-use Rattle.wq_script.proofs.Alone.{left_nil, all_ours, own_rest}
+use Rattle.wq_script.proofs.Alone.{all_ours}
 use Rattle.wq_script.proofs.Queueings.{busy_events, push_events, refused_events, not_pending, not_closed, is_pending, closed_on, last_own}
 
 -- what the worker added, where it was quiet

@@ -13,7 +13,7 @@ use Rattle.wq_words.specs.Seen.{seat_of, own}
 use Rattle.wq_words.proofs.Seen.{own-append, own_one}
 use Rattle.wq_meaning.specs.Queueing.{queue_events}
 use Rattle.wq_meaning.proofs.Growing.{fresh-more}
-use Rattle.wq_script.proofs.Alone.{right_nil}
+use Rattle.wq_words.proofs.Prefixes.{right_nil}
 
 -- the answers of the tests by which a script's meaning goes
 pub not_pending : (h : List Event) (k : ℕ) → ¬ IsPending h k → pending h k ≡ false

@@ -5,15 +5,14 @@ use Rattle.wq_words.specs.declared.layout.Layout.{Layout}
 use Rattle.wq_words.specs.declared.event.Event.{Event}
 use Rattle.wq_words.specs.History.{IsRunning}
 use Rattle.wq_words.specs.Legal.{IsLegal}
-use Rattle.wq_words.proofs.Seen.{prefix_self}
-use Rattle.wq_worker.specs.Seats.{is_ours}
+use Rattle.wq_words.proofs.Prefixes.{prefix_self}
+use Rattle.wq_words.specs.Seen.{is_ours}
 use Rattle.wq_worker.specs.State.{WorkerState}
 use Rattle.wq_meaning.specs.Execution.{after_executions, ended_since}
-use Rattle.wq_meaning.specs.Follows.{AllFit}
 use Rattle.wq_script.specs.declared.lists.Lists.{Lists}
 use Rattle.wq_script.specs.declared.seats.Seats.{Seats}
 use Rattle.wq_script.specs.Seats.{Gathers, Seated}
-use Rattle.wq_script.specs.Quiet.{Quiet, IsReady, ExecutesRow}
+use Rattle.wq_script.specs.Quiet.{ListsFit, Quiet, IsWorkerIdle, ExecutesRow}
 use Rattle.wq_script.specs.Asking.{HasLists, Ran}
 use Rattle.wq_script.proofs.Seated.{worker_acts}
 
@@ -23,12 +22,12 @@ row_ran layout s t h w limit ends ran g idle lists row gathered =
     let both = worker_acts layout s t h g w row.events row.others row.moves gathered.sender gathered.owner gathered.delay gathered.senders gathered.work.tries_is gathered.legal in
     let a = both.0 in
     let follows = s.worker.work.follows.items in
-    let ready : IsReady g.wide s.worker = record {
+    let ready : IsWorkerIdle g.wide s.worker = record {
       layout = g.sender.layout_is;
       idle = subst (λ (x : List Event). ¬ IsRunning x) (sym a.alone) idle;
       tries = g.tries;
       count = lists.count ∙ sym g.wider.items;
-      fit = subst (λ (n : ℕ). AllFit n follows) (sym g.wider.items) lists.fit;
+      fit = subst (λ (n : ℕ). ListsFit n follows) (sym g.wider.items) lists.fit;
     } in
     let quiet : Quiet g.wide s.worker.number s.worker.seen w.seen = record {
       legal = subst (λ (l : Layout). IsLegal l w.seen) (row.moves.layout ∙ g.sender.layout_is) row.moves.legal;

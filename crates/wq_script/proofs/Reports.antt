@@ -13,7 +13,7 @@ use Rattle.wq_live.specs.Counts as live
 use Rattle.wq_live.specs.Counts.{capped, is_queued_by, is_pending_by, is_closed_by, is_chain_busy}
 use Rattle.wq_worker.specs.declared.totals.Totals.{Totals}
 use Rattle.wq_worker.specs.Totals.{own_totals}
-use Rattle.wq_meaning.specs.Report.{is_chain, is_busy, is_refusal}
+use Rattle.wq_words.specs.Counting.{is_chain, is_busy, is_refusal}
 use Rattle.wq_meaning.specs.Commands.{ScriptState}
 use Rattle.wq_meaning.proofs.Growing.{accepted-count, count-append}
 use Rattle.wq_script.specs.declared.seats.Seats.{Seats}

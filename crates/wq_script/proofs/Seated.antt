@@ -10,13 +10,14 @@ use Rattle.wq_words.specs.declared.event.Event.{Event}
 use Rattle.wq_words.specs.Legal.{IsLegal}
 use Rattle.wq_words.specs.Seen.{owner_seat, own, others}
 use Rattle.wq_live.specs.Known.{Known, Sees}
-use Rattle.wq_worker.specs.Seats.{is_ours}
+use Rattle.wq_words.specs.Seen.{is_ours}
 use Rattle.wq_worker.specs.State.{WorkerState, Moves}
 use Rattle.wq_script.specs.declared.lists.Lists.{Lists}
 use Rattle.wq_script.specs.declared.seats.Seats.{Seats}
 use Rattle.wq_script.specs.Seats.{Hears, AllHear, IsAt, IsWider, Seated, sender_of, owner_of}
-use Rattle.wq_script.proofs.Hearing.{prefix_on}
-use Rattle.wq_script.proofs.Alone.{IsSeat, own_between, settle}
+use Rattle.wq_words.proofs.Prefixes.{prefix_on}
+use Rattle.wq_words.proofs.Seen.{own_between}
+use Rattle.wq_script.proofs.Alone.{IsSeat, settle}
 
 eqb_true : (a b : ℕ) → (a == b) ≡ true → a ≡ b
 eqb_true a b is = elim (cases_eq a b) [ inl same ↦ same | inr ne ↦ absurd (false≢true (sym (ne_eqb a b ne) ∙ is)) ]

@@ -13,8 +13,8 @@ use Rattle.wq_words.specs.Legal.{IsLegal, HasSeat}
 use Rattle.wq_words.proofs.Legal.{legal_next}
 use Rattle.wq_words.specs.Seen.{owner_seat, seat_of}
 use Rattle.wq_live.specs.Counts.{is_queued_by, is_pending_by, is_closed_by, is_chain_busy}
-use Rattle.wq_worker.specs.Seats.{is_ours}
-use Rattle.wq_meaning.specs.Report.{is_busy, is_refusal}
+use Rattle.wq_words.specs.Seen.{is_ours}
+use Rattle.wq_words.specs.Counting.{is_busy, is_refusal}
 use Rattle.wq_meaning.proofs.Growing.{count-append, begun-append, ended-append}
 use Rattle.wq_script.specs.declared.tally.Tally.{Tally}
 use Rattle.wq_script.specs.Counting.{Tallied}

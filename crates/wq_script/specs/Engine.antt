@@ -3,7 +3,7 @@ use Rattle.std.specs.Prelude.{◌≡◌, ℕ, ◌+◌, ◌^◌, ◌≤◌, List,
 use Rattle.wq_words.specs.History.{IsRunning}
 use Rattle.wq_text.specs.declared.command.Command.{Command}
 use Rattle.wq_meaning.specs.Execution.{follow_of}
-use Rattle.wq_meaning.specs.Commands.{ScriptState, after, lines}
+use Rattle.wq_meaning.specs.Commands.{ScriptState, state_after, lines}
 use Rattle.wq_script.specs.declared.engine.Engine.{Engine}
 use Rattle.wq_script.specs.Seats.{Seated}
 use Rattle.wq_script.specs.Asking.{HasLists}
@@ -25,12 +25,12 @@ abbrev pub size : ScriptState → ℕ
 size s = length s.history + length s.table.entries
 
 -- there is such a state, in which so much has happened at most
-abbrev pub IsReady : ℕ → Engine → Type 0
-IsReady most e = (s : ScriptState) × Meets e s × (size s ≤ most)
+abbrev pub HasStateWithin : ℕ → Engine → Type 0
+HasStateWithin most e = (s : ScriptState) × Meets e s × (size s ≤ most)
 
 -- from e to f the command was done, and its lines were written behind what was there before
 pub record Does (e f : Engine) (before now : List ℕ) (command : Command) : Type 0 where
   pub layout : f.layout ≡ e.layout
-  pub meets : (s : ScriptState) → Meets e s → Meets f (after e.layout s command)
-  pub lines : (s : ScriptState) → Meets e s → size s ≤ 2 ^ 60 → now ≡ before ++ lines e.layout s (after e.layout s command) command
-  pub room : (s : ScriptState) → Meets e s → size (after e.layout s command) ≤ size s + 2 ^ 36
+  pub meets : (s : ScriptState) → Meets e s → Meets f (state_after e.layout s command)
+  pub lines : (s : ScriptState) → Meets e s → size s ≤ 2 ^ 60 → now ≡ before ++ lines e.layout s (state_after e.layout s command) command
+  pub room : (s : ScriptState) → Meets e s → size (state_after e.layout s command) ≤ size s + 2 ^ 36

@@ -8,8 +8,6 @@ mod lists;
 mod output;
 mod seats;
 mod tally;
-#[cfg(test)]
-mod tests;
 
 pub use output::run;
 pub use wq_meaning::{RunError, one_output, ordered_tables, run_steps};

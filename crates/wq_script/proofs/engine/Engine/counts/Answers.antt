@@ -1,7 +1,5 @@
 use Rattle.std.proofs.Common.{◌≡◌, ◌∙◌, ◌-◌, sym, ap, arith, length}
-use Rattle.std.proofs.lemmas.List.{length-map}
-use Rattle.wq_meaning.specs.Table.{Table}
-use Rattle.wq_script.specs.Tables.{entry_of}
+use Rattle.wq_words.specs.DelayTable.{DelayTable}
 use Rattle.wq_script.proofs.Reports.{Sums, sums}
 use Rattle.wq_script.proofs.engine.Engine.counts.Goals as goal
 
@@ -27,7 +25,7 @@ pub returns : goal.returns
 returns c = λ s m few.
     let e = c.args.self.now in
     let u : Sums e.tally c.counts-totals.result s.history = sums e.layout e.seats e.tally s c.counts-totals.result m (omega (arith, few)) c.counts-totals.ensures in
-    let delayed : c.len.result ≡ length s.table.entries = c.len.ensures ∙ (sym (length-map e.seats.delay.table entry_of) ∙ ap (λ (t : Table). length t.entries) m.table) in
+    let delayed : c.len.result ≡ length s.table.entries = c.len.ensures ∙ ap (λ (t : DelayTable). length t.entries) m.table in
     λ i. record {
       accepted = u.accepts i;
       chained = u.chains i;

@@ -8,7 +8,8 @@ use Rattle.wq_meaning.specs.Execution.{ends_at, ended_since}
 use Rattle.wq_meaning.specs.Commands.{ScriptState, after_row}
 use Rattle.wq_meaning.proofs.Meanings.{wrote, drained, drain_open, drain_closed}
 use Rattle.wq_script.specs.Engine.{Meets, size}
-use Rattle.wq_script.proofs.Meetings.{engine, ran_meets, executions_few}
+use Rattle.wq_meaning.proofs.Sizes.{executions_few}
+use Rattle.wq_script.proofs.Meetings.{engine, ran_meets}
 use Rattle.wq_script.proofs.engine.Engine.drain.Goals as goal
 
 pub returns-then-not-is_closed : goal.returns-then-not-is_closed

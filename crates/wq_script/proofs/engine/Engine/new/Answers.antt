@@ -1,4 +1,4 @@
-use Rattle.wq_script.proofs.Meetings.{new_meets}
+use Rattle.wq_script.proofs.FollowLists.{new_meets}
 use Rattle.wq_script.proofs.engine.Engine.new.Goals as goal
 
 pub returns-clause-meets : goal.returns-clause-meets

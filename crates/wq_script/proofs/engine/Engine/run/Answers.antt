@@ -3,7 +3,8 @@ use Rattle.std.proofs.Common.{Some}
 use Rattle.wq_words.specs.Numbers.{stop_number}
 use Rattle.wq_meaning.specs.Names.{row_text}
 use Rattle.wq_meaning.specs.Execution.{ends_at}
-use Rattle.wq_script.proofs.Meetings.{ran_meets, executions_few}
+use Rattle.wq_meaning.proofs.Sizes.{executions_few}
+use Rattle.wq_script.proofs.Meetings.{ran_meets}
 use Rattle.wq_script.proofs.engine.Engine.run.Goals as goal
 
 pub returns : goal.returns

@@ -5,8 +5,9 @@ use mathlib.Core.List.{IsPrefix}
 use Rattle.wq_words.specs.declared.event.Event.{Event}
 use Rattle.wq_live.specs.Known.{Known}
 use Rattle.wq_script.specs.declared.seats.Seats.{Seats}
-use Rattle.wq_script.specs.Seats.{Stays, AllHear, Gathers, sender_of, owner_of}
-use Rattle.wq_script.proofs.Hearing.{prefix_on, stays_on, sees_stays, moves_stay, all_hear_nothing, all_hear_set, all_hear_less, all_hear_on, queue_heard}
+use Rattle.wq_script.specs.Seats.{StaysSilent, AllHear, Gathers, sender_of, owner_of}
+use Rattle.wq_words.proofs.Prefixes.{prefix_on}
+use Rattle.wq_script.proofs.Hearing.{stays_on, sees_stays, moves_stay, all_hear_nothing, all_hear_set, all_hear_less, all_hear_on, queue_heard}
 use Rattle.wq_script.proofs.seats.Seats.gather_worker.Goals as goal
 
 pub meet-requires : goal.meet-requires
@@ -18,7 +19,7 @@ gather-requires c =
     let x : Known = c.index_mut.result.now in
     let k : Known = c.meet.new.sender in
     let one : AllHear [] q (set q 0 k) = all_hear_set [] q q 0 x k c.requires.some (all_hear_nothing q)
-    (subst (λ (v : Known). Stays v k) c.index_mut.ensures.value (sees_stays 0 x k c.meet.ensures.sender)) in
+    (subst (λ (v : Known). StaysSilent v k) c.index_mut.ensures.value (sees_stays 0 x k c.meet.ensures.sender)) in
     record {
       place = omega (arith, one.count, c.requires.some);
       one = record {
@@ -36,7 +37,7 @@ returns c =
     let t = c.gather.new.self in
     let mid : Seats = record { worker = w; delay = s.delay; senders = with_item s.senders 0 k } in
     let told : List Event = s.worker.seen in
-    let one : AllHear [] q (set q 0 k) = all_hear_set [] q q 0 x k c.requires.some (all_hear_nothing q) (subst (λ (v : Known). Stays v k) c.index_mut.ensures.value (sees_stays 0 x k m.sender)) in
+    let one : AllHear [] q (set q 0 k) = all_hear_set [] q q 0 x k c.requires.some (all_hear_nothing q) (subst (λ (v : Known). StaysSilent v k) c.index_mut.ensures.value (sees_stays 0 x k m.sender)) in
     let both = moves_stay 0 s.worker w m.worker in
     let knows : IsPrefix told k.seen = subst (λ (v : List Event). IsPrefix told v) (sym m.both) both.0.begins in
     let g : Gathers k.seen mid t = subst (λ (v : Known). Gathers v.seen mid t) (get_or-set_same q 0 k x c.requires.some) (c.gather.ensures.sender x) in
