@@ -4,8 +4,8 @@ ghost use Rattle.wq_core.specs.Refusal.{IsPlaced};
 ghost use Rattle.wq_meaning.specs.ScheduleOutput.{GivesBehind, IsScheduleOutput, HasOneOutput};
 ghost use Rattle.wq_text.specs.Schedule.{schedule_layout, turns_of};
 
-use crate::lines::{write_line, write_row};
 use crate::error::RunError;
+use crate::lines::{write_line, write_row};
 use crate::replies::write_made;
 use std::alloc::{AllocError, Global};
 use wq_core::{Core, Seat, Step, StepError};

@@ -51,16 +51,19 @@ module _ (layout : Layout) (f : ℕ → Bool) where
   abbrev pub theirs : List Event → List Event
   theirs es = filter (λ e. not (f (seat_of e))) es
 
-  none_step : (b : Bool) (e : Event) (es : List Event) → (b ≡ false → own (seat_of e) (e ∷ es) ≡ []) → theirs es ≡ [] → cond (not b) (e ∷ theirs es) (theirs es) ≡ []
+  none_step : (b : Bool) (e : Event) (es : List Event) → (b ≡ false → own (seat_of e) (e ∷ es) ≡ []) → theirs es ≡ []
+      → cond (not b) (e ∷ theirs es) (theirs es) ≡ []
   none_step true e es none rest = rest
   none_step false e es none rest = let absurd_eq = sym (own_self e es) ∙ none refl in absurd (cc)
 
   -- where none of the other seats made an event, there is none of another
   pub none_theirs : (es : List Event) → OfSeats layout es → ((c : ℕ) → IsSeat layout c → f c ≡ false → own c es ≡ []) → theirs es ≡ []
   none_theirs [] held none = refl
-  none_theirs (e ∷ es) held none = none_step (f (seat_of e)) e es (none (seat_of e) held.0) (none_theirs es held.1 (λ c is other. own_rest c e es (none c is other)))
+  none_theirs (e ∷ es) held none =
+      none_step (f (seat_of e)) e es (none (seat_of e) held.0) (none_theirs es held.1 (λ c is other. own_rest c e es (none c is other)))
 
-  all_step : (b : Bool) (e : Event) (es : List Event) → (theirs es ≡ [] → ours es ≡ es) → cond (not b) (e ∷ theirs es) (theirs es) ≡ [] → cond b (e ∷ ours es) (ours es) ≡ e ∷ es
+  all_step : (b : Bool) (e : Event) (es : List Event) → (theirs es ≡ [] → ours es ≡ es) → cond (not b) (e ∷ theirs es) (theirs es) ≡ []
+      → cond b (e ∷ ours es) (ours es) ≡ e ∷ es
   all_step true e es rest is = ap (λ (x : List Event). e ∷ x) (rest is)
   all_step false e es rest is = absurd (cc)
 
@@ -75,7 +78,8 @@ no_seat layout (e ∷ es) held none = let is = sym (own_self e es) ∙ none (sea
 -- The seats that f names went on from v to z, where they made the events xs. The others have made none after h, which v goes
 -- on from: then there is nothing else.
 pub settle : (layout : Layout) (f : ℕ → Bool) (h v z new xs : List Event) (n : ℕ) → IsPrefix h v → ((c : ℕ) → IsSeat layout c → f c ≡ true → own c v ≡ own c h)
-    → z ≡ v ++ new → ours layout f new ≡ xs → n ≤ length (theirs layout f new) → IsLegal layout z → ((c : ℕ) → IsSeat layout c → f c ≡ false → own c z ≡ own c h)
+    → z ≡ v ++ new → ours layout f new ≡ xs → n ≤ length (theirs layout f new) → IsLegal layout z
+    → ((c : ℕ) → IsSeat layout c → f c ≡ false → own c z ≡ own c h)
     → (v ≡ h) × (z ≡ h ++ xs) × (n ≡ 0) × (theirs layout f new ≡ [])
 settle layout f h v z new xs n begins ours_same is mine some legal others_same =
     let t : List Event = begins.0 in
@@ -83,7 +87,8 @@ settle layout f h v z new xs n begins ours_same is mine some legal others_same =
     let held : OfSeats layout (t ++ new) = legal_seats layout h (t ++ new) (subst (λ (x : List Event). IsLegal layout x) whole legal) in
     let none : (c : ℕ) → IsSeat layout c → f c ≡ false → own c (t ++ new) ≡ [] =
     λ c seat other. nothing_more (own c h) (own c (t ++ new)) (sym (own-append c h (t ++ new)) ∙ (ap (own c) (sym whole) ∙ others_same c seat other)) in
-    let no_theirs : theirs layout f t ++ theirs layout f new ≡ [] = sym (filter-append (λ e. not (f (seat_of e))) t new) ∙ none_theirs layout f (t ++ new) held none in
+    let no_theirs : theirs layout f t ++ theirs layout f new ≡ [] = sym (filter-append (λ e. not (f (seat_of e))) t new)
+    ∙ none_theirs layout f (t ++ new) held none in
     let nothing : t ≡ [] = no_seat layout t (legal_seats layout h t (front layout h t new (subst (λ (x : List Event). IsLegal layout x) whole legal)))
     (λ c seat. each (f c) c seat refl (λ on. ours_same c seat on) (λ off. none c seat off)) in
     let still : new ≡ xs = sym (all_ours layout f new (right_nil (theirs layout f t) (theirs layout f new) no_theirs)) ∙ mine in
@@ -97,6 +102,7 @@ settle layout f h v z new xs n begins ours_same is mine some legal others_same =
     front : (layout : Layout) (h t new : List Event) → IsLegal layout (h ++ (t ++ new)) → IsLegal layout (h ++ t)
     front layout h t new legal = legal_front layout (h ++ t) new (subst (λ (x : List Event). IsLegal layout x) (sym (append_assoc h t new)) legal)
 
-    each : (b : Bool) (c : ℕ) → IsSeat layout c → f c ≡ b → (f c ≡ true → own c v ≡ own c h) → (f c ≡ false → own c (begins.0 ++ new) ≡ []) → own c begins.0 ≡ []
+    each : (b : Bool) (c : ℕ) → IsSeat layout c → f c ≡ b → (f c ≡ true → own c v ≡ own c h) → (f c ≡ false → own c (begins.0 ++ new) ≡ [])
+        → own c begins.0 ≡ []
     each true c seat is same none = nothing_more (own c h) (own c begins.0) (sym (own-append c h begins.0) ∙ (ap (own c) begins.1 ∙ same is))
     each false c seat is same none = left_nil (own c begins.0) (own c new) (sym (own-append c begins.0 new) ∙ none is)

@@ -103,7 +103,8 @@ module _ (w s k : ℕ) (h : List Event) (t : Tally) (other : s ≢ w) (no_owner 
 
     -- a modification of an item on the table, and of another, by the tests on which it rests
     on_counts : (zero shut : Bool) → (delay == 0) ≡ zero
-        → Counts (counted_modified delay (if zero && shut then modified.Closed else modified.Moved) t) (if zero then (if shut then Back s k why.Closed else Push s k) ∷ [] else [])
+        → Counts (counted_modified delay (if zero && shut then modified.Closed else modified.Moved) t)
+        (if zero then (if shut then Back s k why.Closed else Push s k) ∷ [] else [])
     on_counts true true is = post_counts true
     on_counts true false is = at_once (Push s k ∷ []) is (post_counts false)
     on_counts false shut is = later [] is no_counts
@@ -127,9 +128,11 @@ module _ (w s k : ℕ) (h : List Event) (t : Tally) (other : s ≢ w) (no_owner 
             → Counts (counted_modified delay (if (delay == 0) && closed h then modified.Closed else modified.Moved) t)
             (if delay == 0 then (if closed h then Back s k why.Closed else Push s k) ∷ [] else [])
             → Counts (counted_modified delay (modified_of (arm_answer k delay h table)) t) (arm_events s k delay h table)
-            → Counts (counted_modified delay (if far then modified.TooFar else (if on then (if (delay == 0) && closed h then modified.Closed else modified.Moved)
+            → Counts (counted_modified delay (if far then modified.TooFar else
+            (if on then (if (delay == 0) && closed h then modified.Closed else modified.Moved)
             else modified_of (arm_answer k delay h table))) t)
-            (if far then [] else (if on then (if delay == 0 then (if closed h then Back s k why.Closed else Push s k) ∷ [] else []) else arm_events s k delay h table))
+            (if far then [] else (if on then (if delay == 0 then
+            (if closed h then Back s k why.Closed else Push s k) ∷ [] else []) else arm_events s k delay h table))
         each true on moved anew = no_counts
         each false true moved anew = moved
         each false false moved anew = anew

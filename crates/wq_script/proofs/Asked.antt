@@ -40,11 +40,13 @@ answer_queued h k clear is_open = ap (λ (b : Bool). if b then answer.Pending el
 -- what was pushed last was the first on the list where it would have been before the hold
 pushed_first : (h : List Event) (p k : ℕ) (f : Bool) (z : List Event) → z ≡ h ++ Hold p k ∷ Push p k ∷ [] → IsPushed p k f z → f ≡ first h
 pushed_first h p k f z is pushed =
-    let same : pushed.before ++ Push p k ∷ pushed.after ≡ (h ++ Hold p k ∷ []) ++ Push p k ∷ [] = sym pushed.is ∙ (is ∙ sym (append_assoc h (Hold p k ∷ []) (Push p k ∷ []))) in
+    let same : pushed.before ++ Push p k ∷ pushed.after ≡ (h ++ Hold p k ∷ []) ++ Push p k ∷ [] = sym pushed.is
+    ∙ (is ∙ sym (append_assoc h (Hold p k ∷ []) (Push p k ∷ []))) in
     let last = last_own p pushed.before pushed.after (h ++ Hold p k ∷ []) (Push p k) (Push p k) same pushed.last refl in
     pushed.first_is ∙ (ap first last.1 ∙ first_held h p k)
 
-module _ (layout : Layout) (t : Seats) (h : List Event) (p k : ℕ) (x z : Known) (acts : (xs : List Event) (n : ℕ) → Sees xs n x z → Acts layout t h x.seen z.seen xs n) where
+module _ (layout : Layout) (t : Seats) (h : List Event) (p k : ℕ) (x z : Known)
+    (acts : (xs : List Event) (n : ℕ) → Sees xs n x z → Acts layout t h x.seen z.seen xs n) where
   -- the answer to a queueing of a seat that acted alone
   pub asked : (a : Answer) → x.number ≡ p → Answers k 1 a x z → (a ≡ queue_answer k h) × Seated layout t (h ++ queue_events p k h)
   asked (answer.Queued f) number told =
@@ -87,7 +89,8 @@ seated_one layout s h g = record {
   worker = g.sender.queue_is ∙ sym g.delay.queue_is;
 }
 
-pub one_with : (s : Seats) (p : ℕ) (x z : Known) → p < length s.senders.items → x ≡ get_or s.senders.items p x → StaysSilent x z → AreOne s → AreOne (with_sender s p z)
+pub one_with : (s : Seats) (p : ℕ) (x z : Known) → p < length s.senders.items → x ≡ get_or s.senders.items p x → StaysSilent x z → AreOne s
+    → AreOne (with_sender s p z)
 one_with s p x z lt is stays one =
     let q : List Known = s.senders.items in
     let all : AllHear [] q (set q p z) = all_hear_set [] q q p x z lt (all_hear_nothing q) (subst (λ (v : Known). StaysSilent v z) is stays) in
@@ -97,7 +100,8 @@ one_with s p x z lt is stays one =
     }
 
 -- where a seat of the queue is, its layout is the queue's
-pub seat_layout : (layout : Layout) (s : Seats) (h : List Event) (p : ℕ) (x : Known) → Seated layout s h → p < length s.senders.items → x ≡ get_or s.senders.items p x → x.layout ≡ s.delay.sender.layout
+pub seat_layout : (layout : Layout) (s : Seats) (h : List Event) (p : ℕ) (x : Known) → Seated layout s h → p < length s.senders.items
+    → x ≡ get_or s.senders.items p x → x.layout ≡ s.delay.sender.layout
 seat_layout layout s h p x g lt is = ap (λ (v : Known). v.layout) is ∙ ((g.senders p x (omega (arith, lt, g.count))).layout_is ∙ sym g.delay.layout_is)
 
 answers_stay : (k : ℕ) (a : Answer) (x z : Known) → Answers k 1 a x z → x.queue ≡ z.queue
@@ -106,7 +110,8 @@ answers_stay k answer.Pending x z told = sym told.same.queue_is
 answers_stay k answer.Closed x z told = sym told.same.queue_is
 answers_stay k answer.Contended x z told = sym told.same.queue_is
 
-pub one_answered : (s : Seats) (p k : ℕ) (a : Answer) (x z : Known) → p < length s.senders.items → x ≡ get_or s.senders.items p x → Answers k 1 a x z → AreOne s → AreOne (with_sender s p z)
+pub one_answered : (s : Seats) (p k : ℕ) (a : Answer) (x z : Known) → p < length s.senders.items → x ≡ get_or s.senders.items p x → Answers k 1 a x z
+    → AreOne s → AreOne (with_sender s p z)
 one_answered s p k a x z lt is told one =
     let q : List Known = s.senders.items in
     record {
@@ -118,7 +123,8 @@ one_answered s p k a x z lt is told one =
       worker = one.worker;
     }
 
-pub sender_asked : (layout : Layout) (s t : Seats) (h : List Event) (p k : ℕ) (a : Answer) (x z : Known) → Seated layout s h → p < length s.senders.items → x ≡ get_or s.senders.items p x
+pub sender_asked : (layout : Layout) (s t : Seats) (h : List Event) (p k : ℕ) (a : Answer) (x z : Known) → Seated layout s h
+    → p < length s.senders.items → x ≡ get_or s.senders.items p x
     → Answers k 1 a x z → Gathers z.seen (with_sender s p z) t → Asks layout p k a h s t
 sender_asked layout s t h p k a x z g lt is told gathered =
     let less : p < layout.senders = omega (arith, lt, g.count) in
@@ -127,7 +133,8 @@ sender_asked layout s t h p k a x z g lt is told gathered =
     record { answer = both.0; seated = both.1; work = gathered.work; table = gathered.table }
 
 -- a sender looked at a PENDING bit
-pub sender_looked : (layout : Layout) (s t : Seats) (h : List Event) (p : ℕ) (x z : Known) → Seated layout s h → p < length s.senders.items → x ≡ get_or s.senders.items p x
+pub sender_looked : (layout : Layout) (s t : Seats) (h : List Event) (p : ℕ) (x z : Known) → Seated layout s h → p < length s.senders.items
+    → x ≡ get_or s.senders.items p x
     → Sees [] 0 x z → Gathers z.seen (with_sender s p z) t → Goes layout h s t × (z.seen ≡ h)
 sender_looked layout s t h p x z g lt is sees gathered =
     let less : p < layout.senders = omega (arith, lt, g.count) in
@@ -156,14 +163,15 @@ worker_closes layout s t h w taken g is_open moves work left takes gathered =
       ap (λ (n : ℕ). Some n) (takes.count_is ∙ ap fresh last.1) ∙ sym (ap (λ (b : Bool). if b then None else Some (fresh h)) not_yet),
     )
 
-pub closed_already : (layout : Layout) (s : Seats) (h : List Event) → Seated layout s h → closed s.worker.seen ≡ true → Goes layout (h ++ close_events h) s s × (None ≡ close_answer h)
+pub closed_already : (layout : Layout) (s : Seats) (h : List Event) → Seated layout s h → closed s.worker.seen ≡ true
+    → Goes layout (h ++ close_events h) s s × (None ≡ close_answer h)
 closed_already layout s h g shut =
     let now : closed h ≡ true = sym (worker_closed layout s h g) ∙ shut in
     let none : close_events h ≡ [] = ap (λ (b : Bool). if b then [] else Close ∷ []) now in (
       record {
         seated = subst (λ (ys : List Event). Seated layout s ys) (sym (ap (λ (x : List Event). h ++ x) none ∙ append-nil h)) g;
         work = record { work_is = refl; left_is = refl; tries_is = refl };
-        table = record { table_is = refl; tick_is = refl; next_is = refl };
+        table = refl;
       },
       sym (ap (λ (b : Bool). if b then None else Some (fresh h)) now),
     )

@@ -1,6 +1,6 @@
 -- What the delay table's sender did, and what an arming is in a script.
-use Rattle.std.proofs.Common.{◌≡◌, ℕ, ◌+◌, ◌^◌, ◌-◌, ◌<◌, ◌||◌, Bool, true, false, nat_lt, List, [], ◌∷◌, ◌++◌, inl, inr, refl, sym, ap, ◌∙◌, subst, arith}
-use Rattle.std.proofs.lemmas.Bool.{cases_lt, lt-ltb, le-ltb}
+use Rattle.std.proofs.Common.{◌≡◌, ℕ, ◌+◌, ◌<◌, Bool, true, false, List, [], ◌∷◌, ◌++◌, refl, sym, ap, ◌∙◌, subst, arith}
+use Rattle.std.specs.Prelude.{IsTrue, ◌↔◌}
 use Rattle.std.proofs.lemmas.List.{append-nil}
 use Rattle.wq_words.specs.declared.layout.Layout.{Layout}
 use Rattle.wq_words.specs.declared.event.Event.{Event}
@@ -12,40 +12,22 @@ use Rattle.wq_words.specs.declared.answer.Answer.TheVariants as queueing
 use Rattle.wq_words.specs.declared.answer.Armed.{Armed}
 use Rattle.wq_words.specs.declared.answer.Armed.TheVariants as armed
 use Rattle.wq_words.specs.Armed.{armed_of}
-use Rattle.wq_words.specs.DelayTable.{DelayTable, is_too_far, table_with}
+use Rattle.wq_words.specs.DelayTable.{DelayTable, is_too_far}
 use Rattle.wq_live.specs.Known.{Known, Sees}
-use Rattle.wq_delay.specs.Delay.{DelayState, IsFit, IsBeyond, IsTooFar, Keeps, Arms}
+use Rattle.wq_delay.specs.Delay.{DelayState, IsFit, Arms}
 use Rattle.wq_meaning.specs.Queueing.{queue_events, queue_answer}
 use Rattle.wq_meaning.specs.Arming.{queues_now, arm_events, arm_table, arm_answer}
 use Rattle.wq_meaning.proofs.Armings.{now_at_once, now_pending, now_never, arm_far, arm_now, arm_later}
 use Rattle.wq_script.specs.declared.seats.Seats.{Seats}
 use Rattle.wq_script.specs.Seats.{Gathers, Seated}
 use Rattle.wq_script.specs.Arming.{GoesWithTable}
-use Rattle.wq_script.specs.Tables.{table_of}
 use Rattle.wq_script.proofs.Seated.{Acts, delay_acts}
 use Rattle.wq_script.proofs.Asked.{asked}
 use Rattle.wq_script.proofs.Queueings.{not_pending, is_pending}
 
-or_true : (a b : Bool) → b ≡ true → (a || b) ≡ true
-or_true true b is = refl
-or_true false b is = is
-
-pub far_is : (delay : ℕ) (d : DelayState) → IsTooFar delay d → is_too_far delay (table_of d) ≡ true
-far_is delay d (inl a) = ap (λ (b : Bool). b || nat_lt (2 ^ 64 - 1) (d.tick + delay) || nat_lt (2 ^ 64 - 1) d.next) (lt-ltb _ _ a)
-far_is delay d (inr (inl a)) =
-    ap (λ (b : Bool). b || nat_lt (2 ^ 64 - 1) d.next) (or_true (nat_lt (2 ^ 32 - 1) delay) (nat_lt (2 ^ 64 - 1) (d.tick + delay)) (lt-ltb _ _ a))
-far_is delay d (inr (inr a)) =
-    or_true (nat_lt (2 ^ 32 - 1) delay || nat_lt (2 ^ 64 - 1) (d.tick + delay)) (nat_lt (2 ^ 64 - 1) d.next) (lt-ltb _ _ a)
-
-pub near_is : (delay : ℕ) (d : DelayState) → ¬ IsTooFar delay d → is_too_far delay (table_of d) ≡ false
-near_is delay d near =
-    let a : nat_lt (2 ^ 32 - 1) delay ≡ false = none (2 ^ 32 - 1) delay (λ lt. near (inl lt)) in
-    let b : nat_lt (2 ^ 64 - 1) (d.tick + delay) ≡ false = none (2 ^ 64 - 1) (d.tick + delay) (λ lt. near (inr (inl lt))) in
-    let c : nat_lt (2 ^ 64 - 1) d.next ≡ false = none (2 ^ 64 - 1) d.next (λ lt. near (inr (inr lt))) in
-    λ i. a i || b i || c i
-  where
-    none : (m n : ℕ) → ¬ (m < n) → nat_lt m n ≡ false
-    none m n never = elim (cases_lt m n) [ inl lt ↦ absurd (never lt) | inr ge ↦ le-ltb m n ge ]
+pub near_is : (b : Bool) → ¬ IsTrue b → b ≡ false
+near_is true near = absurd (near refl)
+near_is false near = refl
 
 -- a seat that did nothing
 sees_self : (k : Known) → IsLegal k.layout k.seen → Sees [] 0 k k
@@ -57,82 +39,72 @@ sees_self k legal = record {
 
 module _ (layout : Layout) (s t : Seats) (h : List Event) (g : Seated layout s h) (d : DelayState)
     (gathered : Gathers d.sender.seen (record { worker = s.worker; delay = d; senders = s.senders }) t) where
-  -- the number of the delay table's sender, and its table
-  p : ℕ
+  -- the number of the delay table's sender
+  abbrev pub p : ℕ
   p = layout.senders + 1
 
   pub acts : (xs : List Event) (n : ℕ) → Sees xs n s.delay.sender d.sender → Acts layout t h s.delay.sender.seen d.sender.seen xs n
   acts xs n sees = delay_acts layout s t h g d.sender xs n (omega (arith, layout.in_limits.2.0)) sees gathered.sender gathered.owner gathered.delay
       gathered.senders gathered.work.tries_is gathered.legal
 
-  table_now : table_of t.delay ≡ table_of d
-  table_now = λ i. record { entries = gathered.table.table_is i; tick = gathered.table.tick_is i; next = gathered.table.next_is i }
-
-  pub goes_with : (xs es : List Event) (now : DelayTable) → Seated layout t (h ++ xs) → xs ≡ es → table_of d ≡ now → GoesWithTable layout (h ++ es) now s t
+  pub goes_with : (xs es : List Event) (now : DelayTable) → Seated layout t (h ++ xs) → xs ≡ es → d.table ≡ now → GoesWithTable layout (h ++ es) now s t
   goes_with xs es now seated events table = record {
     seated = subst (λ (x : List Event). Seated layout t (h ++ x)) events seated;
-    table = table_now ∙ table;
+    table = gathered.table ∙ table;
     work = gathered.work;
   }
 
   -- where the table's sender did what is said of its own number
-  pub seated_by : (f : ℕ → List Event) (n : ℕ) → Sees (f s.delay.sender.number) n s.delay.sender d.sender → Acts layout t h s.delay.sender.seen d.sender.seen (f p) n
+  pub seated_by : (f : ℕ → List Event) (n : ℕ) → Sees (f s.delay.sender.number) n s.delay.sender d.sender
+      → Acts layout t h s.delay.sender.seen d.sender.seen (f p) n
   seated_by f n sees = acts (f p) n (subst (λ (m : ℕ). Sees (f m) n s.delay.sender d.sender) g.delay.number_is sees)
 
-  kept_table : (xs : List Event) (n : ℕ) → Keeps xs n s.delay d → table_of d ≡ table_of s.delay
-  kept_table xs n keeps = λ i. record { entries = keeps.table_is i; tick = keeps.tick_is i; next = keeps.next_is i }
-
-  pub goes_nowhere : d ≡ s.delay → IsFit s.delay → GoesWithTable layout (h ++ []) (table_of s.delay) s t
+  pub goes_nowhere : d ≡ s.delay → IsFit s.delay → GoesWithTable layout (h ++ []) s.delay.table s t
   goes_nowhere same fit =
       let a = acts [] 0 (subst (λ (e : DelayState). Sees [] 0 s.delay.sender e.sender) (sym same) (sees_self s.delay.sender fit.legal)) in
-      goes_with [] [] (table_of s.delay) a.seated refl (ap table_of same)
+      goes_with [] [] s.delay.table a.seated refl (ap (λ (e : DelayState). e.table) same)
 
   module _ (k delay : ℕ) (fit : IsFit s.delay) where
     -- how an arming was answered, and what it led to
     abbrev pub IsArmedSo : Armed → Type 0
-    IsArmedSo a = (a ≡ arm_answer k delay h (table_of s.delay))
-        × GoesWithTable layout (h ++ arm_events p k delay h (table_of s.delay)) (arm_table k delay h (table_of s.delay)) s t
+    IsArmedSo a = (a ≡ arm_answer k delay h s.delay.table)
+        × GoesWithTable layout (h ++ arm_events p k delay h s.delay.table) (arm_table k delay h s.delay.table) s t
 
     -- an arming that was one queueing
-    queued_so : (a : Armed) → is_too_far delay (table_of s.delay) ≡ false → queues_now k delay h ≡ true → Seated layout t (h ++ queue_events p k h)
-        → table_of d ≡ table_of s.delay → a ≡ armed_of (queue_answer k h) → IsArmedSo a
+    queued_so : (a : Armed) → is_too_far delay s.delay.table ≡ false → queues_now k delay h ≡ true → Seated layout t (h ++ queue_events p k h)
+        → d.table ≡ s.delay.table → a ≡ armed_of (queue_answer k h) → IsArmedSo a
     queued_so a near now seated table told =
-        let means = arm_now p k delay h (table_of s.delay) near now in
+        let means = arm_now p k delay h s.delay.table near now in
         (told ∙ sym means.2, goes_with (queue_events p k h) _ _ seated (sym means.0) (table ∙ sym means.1))
 
-    near : (a : Armed) → ((a ≡ armed.TooFar → IsTooFar delay s.delay) × (IsTooFar delay s.delay → a ≡ armed.TooFar)) → ¬ (a ≡ armed.TooFar)
-        → is_too_far delay (table_of s.delay) ≡ false
-    near a far other = near_is delay s.delay (λ beyond. other (far.1 beyond))
+    near : (a : Armed) → ((a ≡ armed.TooFar) ↔ IsTrue (is_too_far delay s.delay.table)) → ¬ (a ≡ armed.TooFar)
+        → is_too_far delay s.delay.table ≡ false
+    near a far other = near_is (is_too_far delay s.delay.table) (λ beyond. other (far.1 beyond))
 
-    pub armed_so : (a : Armed) → ((a ≡ armed.TooFar → IsTooFar delay s.delay) × (IsTooFar delay s.delay → a ≡ armed.TooFar)) → ¬ (a ≡ armed.Memory)
+    pub armed_so : (a : Armed) → ((a ≡ armed.TooFar) ↔ IsTrue (is_too_far delay s.delay.table)) → ¬ (a ≡ armed.Memory)
         → Arms k delay 1 a s.delay d → IsArmedSo a
     armed_so (armed.Queued f) far room told =
         let n = near (armed.Queued f) far (λ e. cc) in
         let b = asked layout t h p k s.delay.sender d.sender acts (queueing.Queued f) g.delay.number_is (told.1.seen, told.2) in
-        queued_so (armed.Queued f) n (now_at_once k delay h told.0) b.1 (kept_table _ 0 told.1) (ap armed_of b.0)
+        queued_so (armed.Queued f) n (now_at_once k delay h told.0) b.1 told.1.table_is (ap armed_of b.0)
     armed_so armed.Pending far room told =
         let n = near armed.Pending far (λ e. cc) in
         let b = asked layout t h p k s.delay.sender d.sender acts queueing.Pending g.delay.number_is told.seen in
         let a = seated_by (λ m. Busy m k ∷ []) 0 told.seen in
         let set : pending h k ≡ true = is_pending h k (legal_next a.seated.wide h (Busy p k) [] a.seated.legal).2 in
-        queued_so armed.Pending n (now_pending k delay h set) b.1 (kept_table _ 0 told) (ap armed_of b.0)
+        queued_so armed.Pending n (now_pending k delay h set) b.1 told.table_is (ap armed_of b.0)
     armed_so armed.Closed far room told =
         let n = near armed.Closed far (λ e. cc) in
         let b = asked layout t h p k s.delay.sender d.sender acts queueing.Closed g.delay.number_is told.1.seen in
-        queued_so armed.Closed n (now_at_once k delay h told.0) b.1 (kept_table _ 0 told.1) (ap armed_of b.0)
+        queued_so armed.Closed n (now_at_once k delay h told.0) b.1 told.1.table_is (ap armed_of b.0)
     armed_so armed.OnTable far room told =
         let n = near armed.OnTable far (λ e. cc) in
         let a = seated_by (λ m. Hold m k ∷ []) 0 told.1.seen in
         let clear : pending h k ≡ false = not_pending h k (legal_next a.seated.wide h (Hold p k) [] a.seated.legal).2 in
-        let means = arm_later p k delay h (table_of s.delay) n (now_never k delay h told.0 clear) in
-        let table : table_of d ≡ table_with k delay (table_of s.delay) = λ i. record {
-          entries = told.1.table_is i;
-          tick = told.1.tick_is i;
-          next = told.1.next_is i;
-        } in
-        (sym means.2, goes_with (Hold p k ∷ []) _ _ a.seated (sym means.0) (table ∙ sym means.1))
+        let means = arm_later p k delay h s.delay.table n (now_never k delay h told.0 clear) in
+        (sym means.2, goes_with (Hold p k ∷ []) _ _ a.seated (sym means.0) (told.1.table_is ∙ sym means.1))
     armed_so armed.TooFar far room told =
-        let means = arm_far p k delay h (table_of s.delay) (far_is delay s.delay (far.0 refl)) in
+        let means = arm_far p k delay h s.delay.table (far.0 refl) in
         let l = goes_nowhere told fit in (
           sym means.2,
           record {

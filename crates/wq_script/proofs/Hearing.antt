@@ -11,7 +11,7 @@ use Rattle.wq_words.proofs.Seen.{own-append, none_of, grows_begins, grows_same}
 use Rattle.wq_live.specs.Known.{Known, Sees}
 use Rattle.wq_worker.specs.Seats.{Adds}
 use Rattle.wq_worker.specs.State.{WorkerState, Moves}
-use Rattle.wq_delay.specs.Delay.{DelayState, Keeps}
+use Rattle.wq_delay.specs.Delay.{DelayState, KeepsTable}
 use Rattle.wq_script.specs.Seats.{StaysSilent, Hears, AllHear, IsSameTable, sender_of, owner_of}
 
 pub stays_refl : (k : Known) → StaysSilent k k
@@ -36,7 +36,8 @@ sees_stays n a b s = record {
 }
 
 -- a seat that the hub met has heard all that the hub had seen
-pub hears_hub : (told : List Event) (hub hub' k k' : Known) → IsPrefix told hub.seen → Sees [] 0 hub hub' → Sees [] 0 k k' → k'.seen ≡ hub'.seen → Hears told k k'
+pub hears_hub : (told : List Event) (hub hub' k k' : Known) → IsPrefix told hub.seen → Sees [] 0 hub hub' → Sees [] 0 k k' → k'.seen ≡ hub'.seen
+    → Hears told k k'
 hears_hub told hub hub' k k' knows this that both = record {
   stays = sees_stays 0 k k' that;
   knows = subst (λ (x : List Event). IsPrefix told x) (sym both) (prefix_on told hub.seen hub'.seen knows (sees_stays 0 hub hub' this).begins);
@@ -50,10 +51,10 @@ one_more P i below here k d lt = elim (cases_lt k i) [
 ]
 
 pub same_table_on : (a b c : DelayState) → IsSameTable a b → IsSameTable b c → IsSameTable a c
-same_table_on a b c x y = record { table_is = y.table_is ∙ x.table_is; tick_is = y.tick_is ∙ x.tick_is; next_is = y.next_is ∙ x.next_is }
+same_table_on a b c x y = y ∙ x
 
-pub keeps_same : (xs : List Event) (n : ℕ) (a b : DelayState) → Keeps xs n a b → IsSameTable a b
-keeps_same xs n a b k = record { table_is = k.table_is; tick_is = k.tick_is; next_is = k.next_is }
+pub keeps_same : (xs : List Event) (n : ℕ) (a b : DelayState) → KeepsTable xs n a b → IsSameTable a b
+keeps_same xs n a b k = k.table_is
 
 -- a part of what all were told
 pub all_hear_less : (told more : List Event) (olds news : List Known) → IsPrefix told more → AllHear more olds news → AllHear told olds news
@@ -70,7 +71,8 @@ all_hear_on told xs ys zs a b = record {
 }
 
 -- one of them made no event since
-pub all_hear_set : (told : List Event) (olds news : List Known) (p : ℕ) (d : Known) (k : Known) → p < length news → AllHear told olds news → StaysSilent (get_or news p d) k → AllHear told olds (set news p k)
+pub all_hear_set : (told : List Event) (olds news : List Known) (p : ℕ) (d : Known) (k : Known) → p < length news → AllHear told olds news
+    → StaysSilent (get_or news p d) k → AllHear told olds (set news p k)
 all_hear_set told olds news p e k here all stays = record {
   count = length-set news p k ∙ all.count;
   each = λ i d lt. elim (cases_eq i p) [
@@ -103,5 +105,6 @@ moves_stay n a b m = let p = adds_prefix a.number n a.seen b.seen m.adds in (
 )
 
 -- each of them is of the queue that it was of
-pub queue_heard : (told : List Event) (olds news : List Known) → AllHear told olds news → (i : ℕ) (d : Known) → i < length olds → (get_or news i d).queue ≡ (get_or olds i d).queue
+pub queue_heard : (told : List Event) (olds news : List Known) → AllHear told olds news → (i : ℕ) (d : Known) → i < length olds
+    → (get_or news i d).queue ≡ (get_or olds i d).queue
 queue_heard told olds news all i d lt = (all.each i d lt).stays.queue_is

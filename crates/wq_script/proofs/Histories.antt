@@ -19,4 +19,10 @@ final_legal e layout s commands left same meets none goes_on =
     let P : ScriptState → Type 0 = λ t. IsLegal meets.seated.wide t.history in
     let Q : Layout → Type 0 = λ l. IsWider l meets.seated.wide in
     let legal : P (final_state layout commands) = subst P at_end meets.seated.legal in
-    record { wide = meets.seated.wide; wider = subst Q same meets.seated.wider; legal = legal; headline = keeps_headline meets.seated.wide (final_state layout commands).history legal }
+    record {
+      wide = meets.seated.wide;
+      wider = subst Q same meets.seated.wider;
+      legal = legal;
+      headline =
+          keeps_headline meets.seated.wide (final_state layout commands).history legal;
+    }

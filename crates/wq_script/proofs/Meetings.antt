@@ -1,11 +1,12 @@
 -- An engine that goes on meets the state that a script goes on to.
-use Rattle.std.proofs.Common.{◌≡◌, ℕ, ◌<◌, Bool, true, false, List, [], ◌∷◌, ◌++◌, length, refl, sym, ap, ◌∙◌, subst, arith, if◌then◌else◌}
+use Rattle.std.proofs.Common.{◌≡◌, ◌≢◌, ℕ, ◌<◌, Bool, true, false, List, [], ◌∷◌, ◌++◌, length, refl, sym, ap, ◌∙◌, subst, arith, if◌then◌else◌}
 use Rattle.std.proofs.lemmas.List.{append-nil}
 use Rattle.wq_words.specs.declared.layout.Layout.{Layout}
 use Rattle.wq_words.specs.declared.event.Event.{Event}
 use Rattle.wq_words.specs.declared.event.Event.TheVariants.{Close}
 use Rattle.wq_words.specs.History.{closed, begun, ended, IsRunning}
 use Rattle.wq_words.specs.Legal.{IsLegal}
+use Rattle.wq_words.specs.Seen.{owner_seat}
 use Rattle.wq_words.specs.declared.answer.Answer.{Answer}
 use Rattle.wq_words.specs.DelayTable.{DelayTable}
 use Rattle.wq_meaning.specs.Queueing.{queue_events, queue_answer, close_events}
@@ -21,7 +22,6 @@ use Rattle.wq_script.specs.Quiet.{ListsFit}
 use Rattle.wq_script.specs.Asking.{Asks, Goes, Ran, HasLists}
 use Rattle.wq_script.specs.Arming.{GoesWithTable}
 use Rattle.wq_script.specs.Counting.{Tallied, counted}
-use Rattle.wq_script.specs.Tables.{table_of}
 use Rattle.wq_script.specs.Engine.{Meets}
 use Rattle.wq_script.proofs.Tallies.{Foreign, idle_on, tallied_own, all_own, legal_has}
 use Rattle.wq_script.proofs.Answered.{queue_counts}
@@ -36,13 +36,13 @@ same_lists layout a b same lists = record {
   fit = subst (λ v. ListsFit layout.items v.items) (sym same) lists.fit;
 }
 
-pub same_table : (a b : Seats) → IsSameTable a.delay b.delay → table_of b.delay ≡ table_of a.delay
-same_table a b same = λ i. record { entries = same.table_is i; tick = same.tick_is i; next = same.next_is i }
+pub same_table : (a b : Seats) → IsSameTable a.delay b.delay → b.delay.table ≡ a.delay.table
+same_table a b same = same
 
 -- events of a seat that is not the worker's
 pub meets_on : (layout : Layout) (a b : Seats) (x u : Tally) (s : ScriptState) (es : List Event) (now : DelayTable)
     → Meets (engine layout a x) s → Seated layout b (s.history ++ es) → Foreign layout.senders es → Tallied u layout.senders (s.history ++ es)
-    → b.worker.work ≡ a.worker.work → table_of b.delay ≡ now → Meets (engine layout b u) (record s { history = s.history ++ es; table = now })
+    → b.worker.work ≡ a.worker.work → b.delay.table ≡ now → Meets (engine layout b u) (record s { history = s.history ++ es; table = now })
 meets_on layout a b x u s es now m seated foreign tally work table = record {
   seated = seated;
   idle = idle_on layout.senders s.history es foreign m.idle;
@@ -58,15 +58,17 @@ pub asked_meets : (layout : Layout) (a b : Seats) (x u : Tally) (s : ScriptState
     → Meets (engine layout a x) s → Asks layout sender k got s.history a b → u ≡ counted got x
     → Meets (engine layout b u) (record s { history = s.history ++ queue_events sender k s.history })
 asked_meets layout a b x u s sender k got lt m asks counts =
-    let other = λ is. absurd (omega (arith, is, lt)) in
-    let no_owner = λ is. absurd (omega (arith, is, lt, layout.in_limits.2.1)) in
+    let other : sender ≢ layout.senders = λ is. absurd (omega (arith, is, lt)) in
+    let no_owner : sender ≢ owner_seat = λ is. absurd (omega (arith, is, lt, layout.in_limits.2.1)) in
     let c = queue_counts layout.senders sender k s.history x other no_owner m.tally in
     let same : u ≡ counted (queue_answer k s.history) x = counts ∙ ap (λ (y : Answer). counted y x) asks.answer in
     let P : Tally → Type 0 = λ v. Tallied v layout.senders (s.history ++ queue_events sender k s.history) in
-    meets_on layout a b x u s (queue_events sender k s.history) s.table m asks.seated c.1 (subst P (sym same) c.0) asks.work.work_is (same_table a b asks.table ∙ m.table)
+    meets_on layout a b x u s (queue_events sender k s.history) s.table m asks.seated c.1 (subst P (sym same) c.0) asks.work.work_is
+    (same_table a b asks.table ∙ m.table)
 
 -- nothing happened
-pub looked_meets : (layout : Layout) (a b : Seats) (x : Tally) (s : ScriptState) → Meets (engine layout a x) s → Goes layout s.history a b → Meets (engine layout b x) s
+pub looked_meets : (layout : Layout) (a b : Seats) (x : Tally) (s : ScriptState) → Meets (engine layout a x) s → Goes layout s.history a b
+    → Meets (engine layout b x) s
 looked_meets layout a b x s m goes = record {
   seated = goes.seated;
   idle = m.idle;
@@ -78,7 +80,8 @@ looked_meets layout a b x s m goes = record {
 }
 
 -- the queue was closed
-pub close_meets : (layout : Layout) (a b : Seats) (x : Tally) (s : ScriptState) → Meets (engine layout a x) s → Goes layout (s.history ++ close_events s.history) a b → Meets (engine layout b x) (record s { history = s.history ++ close_events s.history })
+pub close_meets : (layout : Layout) (a b : Seats) (x : Tally) (s : ScriptState) → Meets (engine layout a x) s
+    → Goes layout (s.history ++ close_events s.history) a b → Meets (engine layout b x) (record s { history = s.history ++ close_events s.history })
 close_meets layout a b x s m goes = record {
   seated = goes.seated;
   idle = (each (closed s.history)).1;
@@ -90,7 +93,11 @@ close_meets layout a b x s m goes = record {
 }
   where
     same : Tallied x layout.senders (s.history ++ []) × (¬ IsRunning (s.history ++ []))
-    same = (subst (λ (h : List Event). Tallied x layout.senders h) (sym (append-nil s.history)) m.tally, subst (λ (h : List Event). ¬ IsRunning h) (sym (append-nil s.history)) m.idle)
+    same = (
+      subst (λ (h : List Event). Tallied x layout.senders h) (sym (append-nil s.history)) m.tally,
+      subst (λ (h : List Event). ¬ IsRunning h)
+          (sym (append-nil s.history)) m.idle,
+    )
 
     shuts : Tallied x layout.senders (s.history ++ Close ∷ []) × (¬ IsRunning (s.history ++ Close ∷ []))
     shuts =
@@ -105,15 +112,19 @@ close_meets layout a b x s m goes = record {
     each false = shuts
 
 -- the worker executed
-pub ran_meets : (layout : Layout) (a b : Seats) (x : Tally) (s : ScriptState) (limit : ℕ) (ends : ℕ → Bool) (ran : List ℕ) → Meets (engine layout a x) s → Ran layout s.history limit ends a b ran
-    → Meets (engine layout b x) (record s { history = after_executions layout.senders s.follows ends limit s.history }) × (ran ≡ ended_since s.history (after_executions layout.senders s.follows ends limit s.history))
+pub ran_meets : (layout : Layout) (a b : Seats) (x : Tally) (s : ScriptState) (limit : ℕ) (ends : ℕ → Bool) (ran : List ℕ)
+    → Meets (engine layout a x) s → Ran layout s.history limit ends a b ran
+    → Meets (engine layout b x) (record s { history = after_executions layout.senders s.follows ends limit s.history })
+    × (ran ≡ ended_since s.history (after_executions layout.senders s.follows ends limit s.history))
 ran_meets layout a b x s limit ends ran m r =
     let all : List Event = after_executions layout.senders a.worker.work.follows.items ends limit s.history in
     let fit = r.seated.wide.in_limits.2.1 in
     let has = legal_has r.seated.wide s.history r.new (subst (λ (h : List Event). IsLegal r.seated.wide h) r.new_is r.seated.legal) in
     let own = all_own r.seated.wide layout.senders r.new fit has r.ours in
-    let tally : Tallied x layout.senders all = subst (λ (h : List Event). Tallied x layout.senders h) (sym r.new_is) (tallied_own x layout.senders s.history r.new m.tally own) in
-    let same : all ≡ after_executions layout.senders s.follows ends limit s.history = ap (λ f. after_executions layout.senders f ends limit s.history) m.follows in (
+    let tally : Tallied x layout.senders all =
+    subst (λ (h : List Event). Tallied x layout.senders h) (sym r.new_is) (tallied_own x layout.senders s.history r.new m.tally own) in
+    let same : all ≡ after_executions layout.senders s.follows ends limit s.history =
+    ap (λ f. after_executions layout.senders f ends limit s.history) m.follows in (
       record {
         seated = subst (λ (h : List Event). Seated layout b h) same r.seated;
         idle = subst (λ (h : List Event). ¬ IsRunning h) same r.idle;
@@ -133,7 +144,8 @@ pub table_meets : (layout : Layout) (a b : Seats) (x u : Tally) (s : ScriptState
 table_meets layout a b x u s es now m l tally foreign = meets_on layout a b x u s es now m l.seated foreign tally l.work.work_is l.table
 
 -- the table's tick stays
-pub back_meets : (layout : Layout) (a b : Seats) (x : Tally) (s : ScriptState) → Meets (engine layout a x) s → GoesWithTable layout s.history (table_of a.delay) a b → Meets (engine layout b x) s
+pub back_meets : (layout : Layout) (a b : Seats) (x : Tally) (s : ScriptState) → Meets (engine layout a x) s
+    → GoesWithTable layout s.history a.delay.table a b → Meets (engine layout b x) s
 back_meets layout a b x s m l = record {
   seated = l.seated;
   idle = m.idle;

@@ -16,7 +16,8 @@ use Rattle.wq_script.specs.Quiet.{ListsFit, Quiet, IsWorkerIdle, ExecutesRow}
 use Rattle.wq_script.specs.Asking.{HasLists, Ran}
 use Rattle.wq_script.proofs.Seated.{worker_acts}
 
-pub row_ran : (layout : Layout) (s t : Seats) (h : List Event) (w : WorkerState Lists) (limit : ℕ) (ends : ℕ → Bool) (ran : List ℕ) → Seated layout s h → ¬ IsRunning h → HasLists layout s
+pub row_ran : (layout : Layout) (s t : Seats) (h : List Event) (w : WorkerState Lists) (limit : ℕ) (ends : ℕ → Bool) (ran : List ℕ)
+    → Seated layout s h → ¬ IsRunning h → HasLists layout s
     → ExecutesRow limit ends s.worker w ran → Gathers w.seen (record { worker = w; delay = s.delay; senders = s.senders }) t → Ran layout h limit ends s t ran
 row_ran layout s t h w limit ends ran g idle lists row gathered =
     let both = worker_acts layout s t h g w row.events row.others row.moves gathered.sender gathered.owner gathered.delay gathered.senders gathered.work.tries_is gathered.legal in
@@ -36,7 +37,8 @@ row_ran layout s t h w limit ends ran g idle lists row gathered =
       none = subst (λ (n : ℕ). filter (λ e. not (is_ours n e)) row.moves.adds.new ≡ []) (sym g.sender.number_is) both.1;
     } in
     let r = row.quiet g.wide w.seen ready quiet (prefix_self w.seen) in
-    let after : h ++ row.events ≡ after_executions layout.senders follows ends limit h = sym a.is ∙ (r.0 ∙ (λ i. after_executions (g.sender.number_is i) follows ends limit (a.alone i))) in
+    let after : h ++ row.events ≡ after_executions layout.senders follows ends limit h = sym a.is
+    ∙ (r.0 ∙ (λ i. after_executions (g.sender.number_is i) follows ends limit (a.alone i))) in
     record {
       seated = subst (λ (x : List Event). Seated layout t x) after a.seated;
       ran_is = r.1 ∙ (λ i. ended_since (a.alone i) ((a.is ∙ after) i));

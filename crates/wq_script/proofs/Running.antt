@@ -52,22 +52,30 @@ starts_lists a k f v es (item idle lt may is) = may.1
 starts_lists a k f v es (other idle le none same is) = ap (λ (w : Lists). w.follows) same
 starts_lists a k f v es (owed runs left same none) = ap (λ (w : Lists). w.follows) same
 
-module _ (a b : WorkerState Lists) (k : ℕ) (f : List ℕ) (es fs : List Event) (told : Follows a.layout.items a.number (closed a.seen) f fs) (moves : Moves (es ++ (fs ++ End k ∷ [])) 0 a b) (idle_then : ¬ IsRunning b.seen) where
-  ended_so : (wide : Layout) (z : List Event) → IsWorkerIdle wide a → Quiet wide a.number a.seen z → IsPrefix b.seen z → es ≡ taking a.seen ++ Begin k ∷ [] → f ≡ follow_of a.work.follows.items k
+module _ (a b : WorkerState Lists) (k : ℕ) (f : List ℕ) (es fs : List Event) (told : Follows a.layout.items a.number (closed a.seen) f fs)
+    (moves : Moves (es ++ (fs ++ End k ∷ [])) 0 a b) (idle_then : ¬ IsRunning b.seen) where
+  ended_so : (wide : Layout) (z : List Event) → IsWorkerIdle wide a → Quiet wide a.number a.seen z → IsPrefix b.seen z
+      → es ≡ taking a.seen ++ Begin k ∷ [] → f ≡ follow_of a.work.follows.items k
       → All (λ j. j < wide.items) f → Executed a b (Some k)
   ended_so wide z ready quiet begins is answers fit =
       let e = exact wide a.number a.seen b.seen z (es ++ (fs ++ End k ∷ [])) 0 quiet moves.adds begins in
-      let whole : b.seen ≡ a.seen ++ ((taking a.seen ++ Begin k ∷ []) ++ (fs ++ End k ∷ [])) = e.0 ∙ ap (λ (x : List Event). a.seen ++ (x ++ (fs ++ End k ∷ []))) is in
-      let follows : Follows wide.items a.number (closed a.seen) f fs = subst (λ (l : Layout). Follows l.items a.number (closed a.seen) f fs) ready.layout told in
+      let whole : b.seen ≡ a.seen ++ ((taking a.seen ++ Begin k ∷ []) ++ (fs ++ End k ∷ [])) = e.0
+      ∙ ap (λ (x : List Event). a.seen ++ (x ++ (fs ++ End k ∷ []))) is in
+      let follows : Follows wide.items a.number (closed a.seen) f fs =
+      subst (λ (l : Layout). Follows l.items a.number (closed a.seen) f fs) ready.layout told in
       let d = executed wide a.number a.work.follows.items a.seen k f fs answers fit follows (subst (λ (x : List Event). IsLegal wide x) whole e.2) in
       record { next_is = d.0; seen_is = whole ∙ d.1; idle = idle_then }
 
-  starts_so : Starts may_be a k f b.work es → (wide : Layout) (z : List Event) → IsWorkerIdle wide a → Quiet wide a.number a.seen z → IsPrefix b.seen z → Executed a b (Some k)
+  starts_so : Starts may_be a k f b.work es → (wide : Layout) (z : List Event) → IsWorkerIdle wide a → Quiet wide a.number a.seen z
+      → IsPrefix b.seen z → Executed a b (Some k)
   starts_so (item idle lt may is) wide z ready quiet begins =
-      ended_so wide z ready quiet begins is may.0 (subst (λ (x : List ℕ). All (λ j. j < wide.items) x) (sym may.0) (follow_fits a.work.follows.items wide.items k ready.fit))
+      ended_so wide z ready quiet begins is may.0
+      (subst (λ (x : List ℕ). All (λ j. j < wide.items) x) (sym may.0) (follow_fits a.work.follows.items wide.items k ready.fit))
   starts_so (other idle le none same is) wide z ready quiet begins =
-      let empty : follow_of a.work.follows.items k ≡ [] = no_list a.work.follows.items k (omega (arith, le, ready.count, ap (λ (l : Layout). l.items) ready.layout)) in
-      ended_so wide z ready quiet begins is (none ∙ sym empty) (subst (λ (x : List ℕ). All (λ j. j < wide.items) x) (sym none) (λ i d lt. absurd (omega (arith, lt))))
+      let empty : follow_of a.work.follows.items k ≡ [] =
+      no_list a.work.follows.items k (omega (arith, le, ready.count, ap (λ (l : Layout). l.items) ready.layout)) in
+      ended_so wide z ready quiet begins is (none ∙ sym empty)
+      (subst (λ (x : List ℕ). All (λ j. j < wide.items) x) (sym none) (λ i d lt. absurd (omega (arith, lt))))
   starts_so (owed runs left same none) wide z ready quiet begins = absurd (ready.idle (slice_get_within (begun a.seen) (length (ended a.seen)) k runs))
 
 take_only : (b : Bool) (h : List Event) → (begun (h ++ (if b then Take ∷ [] else [])) ≡ begun h) × (ended (h ++ (if b then Take ∷ [] else [])) ≡ ended h)
@@ -76,10 +84,12 @@ take_only false h = (ap begun (append-nil h), ap ended (append-nil h))
 
 -- a take begins and ends nothing
 taken_begun : (h : List Event) → length (begun (h ++ taking h)) ≡ length (begun h)
-taken_begun h = ap (λ (x : List Event). length (begun (h ++ x))) (taking_is h) ∙ ap length (take_only (nat_le (taken h) (length (begun h)) && not (closed h)) h).0
+taken_begun h = ap (λ (x : List Event). length (begun (h ++ x))) (taking_is h)
+    ∙ ap length (take_only (nat_le (taken h) (length (begun h)) && not (closed h)) h).0
 
 taken_ended : (h : List Event) → length (ended (h ++ taking h)) ≡ length (ended h)
-taken_ended h = ap (λ (x : List Event). length (ended (h ++ x))) (taking_is h) ∙ ap length (take_only (nat_le (taken h) (length (begun h)) && not (closed h)) h).1
+taken_ended h = ap (λ (x : List Event). length (ended (h ++ x))) (taking_is h)
+    ∙ ap length (take_only (nat_le (taken h) (length (begun h)) && not (closed h)) h).1
 
 pub ends_executes : (a b : WorkerState Lists) (k : ℕ) → Ends may_be a k b → ExecutesOne a b (Some k)
 ends_executes a b k (ends f es fs starts told moves idle) = record {
@@ -101,8 +111,17 @@ nothing_executes a b told = record {
       let is : None ≡ next a.seen = nothing_next wide a.seen b.seen e.2 e.0 told.1 in
       record {
         next_is = is;
-        seen_is = e.0 ∙ (ap (λ (x : List Event). a.seen ++ x) (taking_is a.seen) ∙ ap (after_run a.number a.work.follows.items (a.seen ++ take_events a.seen)) is);
-        idle = λ runs. told.0 (omega (arith, runs, taken_begun a.seen, taken_ended a.seen, ap (λ (x : List Event). length (begun x)) e.0, ap (λ (x : List Event). length (ended x)) e.0));
+        seen_is = e.0 ∙ (ap (λ (x : List Event). a.seen ++ x) (taking_is a.seen)
+            ∙ ap (after_run a.number a.work.follows.items (a.seen ++ take_events a.seen)) is);
+        idle = λ runs. told.0 (omega (
+          arith,
+          runs,
+          taken_begun a.seen,
+          taken_ended a.seen,
+          ap (λ (x : List Event). length (begun x)) e.0,
+          ap
+              (λ (x : List Event). length (ended x)) e.0,
+        ));
       };
 }
 
@@ -141,7 +160,8 @@ moves_on xs ys n m a b c x y = record {
 }
 
 -- the worker is ready again, and what comes is quiet
-still_ready : (wide : Layout) (xs : List Event) (n : ℕ) (a b : WorkerState Lists) → IsWorkerIdle wide a → Moves xs n a b → b.work.follows ≡ a.work.follows → ¬ IsRunning b.seen → IsWorkerIdle wide b
+still_ready : (wide : Layout) (xs : List Event) (n : ℕ) (a b : WorkerState Lists) → IsWorkerIdle wide a → Moves xs n a b
+    → b.work.follows ≡ a.work.follows → ¬ IsRunning b.seen → IsWorkerIdle wide b
 still_ready wide xs n a b ready moves lists idle = record {
   layout = moves.layout ∙ ready.layout;
   idle = idle;
@@ -150,13 +170,23 @@ still_ready wide xs n a b ready moves lists idle = record {
   fit = subst (λ v. ListsFit wide.items v.items) (sym lists) ready.fit;
 }
 
-still_quiet : (wide : Layout) (xs : List Event) (n : ℕ) (a b : WorkerState Lists) (z : List Event) → Quiet wide a.number a.seen z → Moves xs n a b → IsPrefix b.seen z → Quiet wide b.number b.seen z
+still_quiet : (wide : Layout) (xs : List Event) (n : ℕ) (a b : WorkerState Lists) (z : List Event) → Quiet wide a.number a.seen z → Moves xs n a b
+    → IsPrefix b.seen z → Quiet wide b.number b.seen z
 still_quiet wide xs n a b z quiet moves begins =
     let theirs : List Event → List Event = λ es. filter (λ e. not (is_ours a.number e)) es in
-    let whole : a.seen ++ quiet.rest ≡ a.seen ++ (moves.adds.new ++ begins.0) = sym quiet.is ∙ (sym begins.1 ∙ (ap (λ (x : List Event). x ++ begins.0) moves.adds.is ∙ append_assoc a.seen moves.adds.new begins.0)) in
+    let whole : a.seen ++ quiet.rest ≡ a.seen ++ (moves.adds.new ++ begins.0) = sym quiet.is
+    ∙ (sym begins.1 ∙ (ap (λ (x : List Event). x ++ begins.0) moves.adds.is ∙ append_assoc a.seen moves.adds.new begins.0)) in
     let parts : quiet.rest ≡ moves.adds.new ++ begins.0 = append_cancel_left a.seen quiet.rest (moves.adds.new ++ begins.0) whole in
-    let none : theirs begins.0 ≡ [] = right_nil (theirs moves.adds.new) (theirs begins.0) (sym (filter-append (λ e. not (is_ours a.number e)) moves.adds.new begins.0) ∙ (ap theirs (sym parts) ∙ quiet.none)) in
-    record { legal = quiet.legal; rest = begins.0; is = sym begins.1; none = subst (λ (s : ℕ). filter (λ e. not (is_ours s e)) begins.0 ≡ []) (sym moves.number) none }
+    let none : theirs begins.0 ≡ [] =
+    right_nil (theirs moves.adds.new) (theirs begins.0)
+    (sym (filter-append (λ e. not (is_ours a.number e)) moves.adds.new begins.0) ∙ (ap theirs (sym parts) ∙ quiet.none)) in
+    record {
+      legal = quiet.legal;
+      rest = begins.0;
+      is = sym begins.1;
+      none =
+          subst (λ (s : ℕ). filter (λ e. not (is_ours s e)) begins.0 ≡ []) (sym moves.number) none;
+    }
 
 module _ (ends : ℕ → Bool) (limit : ℕ) (a : WorkerState Lists) where
   pub row_none : IsLegal a.layout a.seen → RowSoFar ends limit limit a a []
@@ -168,20 +198,23 @@ module _ (ends : ℕ → Bool) (limit : ℕ) (a : WorkerState Lists) where
     quiet = λ wide z ready quiet begins. record { rest = refl; told = sym (append-nil (ended a.seen)); idle = ready.idle };
   }
 
-  module _ (left n : ℕ) (b c : WorkerState Lists) (ran : List ℕ) (r : Option ℕ) (count : n ≡ suc left) (row : RowSoFar ends limit n a b ran) (does : ExecutesOne b c r) where
+  module _ (left n : ℕ) (b c : WorkerState Lists) (ran : List ℕ) (r : Option ℕ) (count : n ≡ suc left) (row : RowSoFar ends limit n a b ran)
+      (does : ExecutesOne b c r) where
     -- what the step was, where it was quiet
     step_so : (wide : Layout) (z : List Event) → IsWorkerIdle wide a → Quiet wide a.number a.seen z → IsPrefix c.seen z
         → SoFar ends limit n a b ran × (r ≡ next b.seen) × (c.seen ≡ after_execution a.number a.work.follows.items b.seen) × (¬ IsRunning c.seen)
     step_so wide z ready quiet begins =
         let before : IsPrefix b.seen z = prefix_on b.seen c.seen z (does.moves.adds.new, sym does.moves.adds.is) begins in
         let so : SoFar ends limit n a b ran = row.quiet wide z ready quiet before in
-        let d = does.quiet wide z (still_ready wide row.events row.others a b ready row.moves row.lists so.idle) (still_quiet wide row.events row.others a b z quiet row.moves before) begins in
+        let d = does.quiet wide z (still_ready wide row.events row.others a b ready row.moves row.lists so.idle)
+        (still_quiet wide row.events row.others a b z quiet row.moves before) begins in
         (so, d.next_is, d.seen_is ∙ (λ i. after_execution (row.moves.number i) (row.lists i).items b.seen), d.idle)
 
     all_moves : Moves (row.events ++ does.events) (row.others + does.others) a c
     all_moves = moves_on row.events does.events row.others does.others a b c row.moves does.moves
 
-  pub row_more : (left n : ℕ) (b c : WorkerState Lists) (ran : List ℕ) (k : ℕ) → n ≡ suc left → RowSoFar ends limit n a b ran → ExecutesOne b c (Some k) → ends k ≡ false → RowSoFar ends limit left a c (ran ++ k ∷ [])
+  pub row_more : (left n : ℕ) (b c : WorkerState Lists) (ran : List ℕ) (k : ℕ) → n ≡ suc left → RowSoFar ends limit n a b ran
+      → ExecutesOne b c (Some k) → ends k ≡ false → RowSoFar ends limit left a c (ran ++ k ∷ [])
   row_more left n b c ran k count row does goes = record {
     events = row.events ++ does.events;
     others = row.others + does.others;
@@ -191,10 +224,13 @@ module _ (ends : ℕ → Bool) (limit : ℕ) (a : WorkerState Lists) where
         let d = step_so left n b c ran (Some k) count row does wide z ready quiet begins in
         let g : List Event = b.seen in
         let next_g : List Event = after_execution a.number a.work.follows.items g in
-        let split = row_goes_on a.number a.work.follows.items ends left n k g count d.1 ∙ ap (λ (x : Bool). if x then next_g else after_executions a.number a.work.follows.items ends left next_g) goes in
+        let split = row_goes_on a.number a.work.follows.items ends left n k g count d.1
+        ∙ ap (λ (x : Bool). if x then next_g else after_executions a.number a.work.follows.items ends left next_g) goes in
         record {
           rest = ap (after_executions a.number a.work.follows.items ends left) d.2 ∙ (sym split ∙ d.0.rest);
-          told = ap ended d.2 ∙ (ended_execution a.number a.work.follows.items g ∙ (ap (λ (o : Option ℕ). ended g ++ option_to_list o) (sym d.1) ∙ (ap (λ (x : List ℕ). x ++ k ∷ []) d.0.told ∙ append_assoc (ended a.seen) ran (k ∷ []))));
+          told = ap ended d.2 ∙ (ended_execution a.number a.work.follows.items g
+              ∙ (ap (λ (o : Option ℕ). ended g ++ option_to_list o) (sym d.1)
+              ∙ (ap (λ (x : List ℕ). x ++ k ∷ []) d.0.told ∙ append_assoc (ended a.seen) ran (k ∷ []))));
           idle = d.3;
         };
   }
@@ -213,7 +249,8 @@ module _ (ends : ℕ → Bool) (limit : ℕ) (a : WorkerState Lists) where
         (ap (λ (m : ℕ). after_executions a.number a.work.follows.items ends m b.seen) (sym none) ∙ so.rest, since b.seen a.seen ran so.told, so.idle);
   }
 
-  pub row_last : (left n : ℕ) (b c : WorkerState Lists) (ran : List ℕ) (k : ℕ) → n ≡ suc left → RowSoFar ends limit n a b ran → ExecutesOne b c (Some k) → ends k ≡ true → ExecutesRow limit ends a c (ran ++ k ∷ [])
+  pub row_last : (left n : ℕ) (b c : WorkerState Lists) (ran : List ℕ) (k : ℕ) → n ≡ suc left → RowSoFar ends limit n a b ran
+      → ExecutesOne b c (Some k) → ends k ≡ true → ExecutesRow limit ends a c (ran ++ k ∷ [])
   row_last left n b c ran k count row does stops = record {
     events = row.events ++ does.events;
     others = row.others + does.others;
@@ -223,14 +260,19 @@ module _ (ends : ℕ → Bool) (limit : ℕ) (a : WorkerState Lists) where
         let d = step_so left n b c ran (Some k) count row does wide z ready quiet begins in
         let g : List Event = b.seen in
         let next_g : List Event = after_execution a.number a.work.follows.items g in
-        let split = row_goes_on a.number a.work.follows.items ends left n k g count d.1 ∙ ap (λ (x : Bool). if x then next_g else after_executions a.number a.work.follows.items ends left next_g) stops in (
+        let split = row_goes_on a.number a.work.follows.items ends left n k g count d.1
+        ∙ ap (λ (x : Bool). if x then next_g else after_executions a.number a.work.follows.items ends left next_g) stops in (
           d.2 ∙ (sym split ∙ d.0.rest),
-          since c.seen a.seen (ran ++ k ∷ []) (ap ended d.2 ∙ (ended_execution a.number a.work.follows.items g ∙ (ap (λ (o : Option ℕ). ended g ++ option_to_list o) (sym d.1) ∙ (ap (λ (x : List ℕ). x ++ k ∷ []) d.0.told ∙ append_assoc (ended a.seen) ran (k ∷ []))))),
+          since c.seen a.seen (ran ++ k ∷ []) (ap ended d.2
+              ∙ (ended_execution a.number a.work.follows.items g
+              ∙ (ap (λ (o : Option ℕ). ended g ++ option_to_list o) (sym d.1)
+              ∙ (ap (λ (x : List ℕ). x ++ k ∷ []) d.0.told ∙ append_assoc (ended a.seen) ran (k ∷ []))))),
           d.3,
         );
   }
 
-  pub row_idle : (left n : ℕ) (b c : WorkerState Lists) (ran : List ℕ) → n ≡ suc left → RowSoFar ends limit n a b ran → ExecutesOne b c None → ExecutesRow limit ends a c ran
+  pub row_idle : (left n : ℕ) (b c : WorkerState Lists) (ran : List ℕ) → n ≡ suc left → RowSoFar ends limit n a b ran → ExecutesOne b c None
+      → ExecutesRow limit ends a c ran
   row_idle left n b c ran count row does = record {
     events = row.events ++ does.events;
     others = row.others + does.others;
@@ -240,9 +282,12 @@ module _ (ends : ℕ → Bool) (limit : ℕ) (a : WorkerState Lists) where
         let d = step_so left n b c ran None count row does wide z ready quiet begins in
         let g : List Event = b.seen in
         let next_g : List Event = after_execution a.number a.work.follows.items g in
-        let split = ap (λ (m : ℕ). after_executions a.number a.work.follows.items ends m g) count ∙ ap (go_on (after_executions a.number a.work.follows.items ends left) ends next_g) (sym d.1) in (
+        let split = ap (λ (m : ℕ). after_executions a.number a.work.follows.items ends m g) count
+        ∙ ap (go_on (after_executions a.number a.work.follows.items ends left) ends next_g) (sym d.1) in (
           d.2 ∙ (sym split ∙ d.0.rest),
-          since c.seen a.seen ran (ap ended d.2 ∙ (ended_execution a.number a.work.follows.items g ∙ (ap (λ (o : Option ℕ). ended g ++ option_to_list o) (sym d.1) ∙ (append-nil (ended g) ∙ d.0.told)))),
+          since c.seen a.seen ran (ap ended d.2
+              ∙ (ended_execution a.number a.work.follows.items g
+              ∙ (ap (λ (o : Option ℕ). ended g ++ option_to_list o) (sym d.1) ∙ (append-nil (ended g) ∙ d.0.told)))),
           d.3,
         );
   }

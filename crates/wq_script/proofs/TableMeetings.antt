@@ -18,10 +18,10 @@ use Rattle.wq_script.proofs.Meetings.{engine, table_meets}
 
 module _ (layout : Layout) (a b : Seats) (x u : Tally) (s : ScriptState) (m : Meets (engine layout a x) s) where
   -- the worker's number, and that of the delay table's sender
-  w : ℕ
+  abbrev pub w : ℕ
   w = layout.senders
 
-  p : ℕ
+  abbrev pub p : ℕ
   p = layout.senders + 1
 
   -- so many events more, and this table

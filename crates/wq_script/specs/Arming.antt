@@ -9,38 +9,37 @@ use Rattle.wq_meaning.specs.Arming.{arm_events, arm_table, arm_answer, cancel_ev
 use Rattle.wq_meaning.specs.Commands.{delayer}
 use Rattle.wq_script.specs.declared.seats.Seats.{Seats}
 use Rattle.wq_script.specs.Seats.{IsSameWork, Seated}
-use Rattle.wq_script.specs.Tables.{table_of}
 
 -- this is the history now, and the table, and the work is as it was
 pub record GoesWithTable (layout : Layout) (h : List Event) (now : DelayTable) (s t : Seats) : Type 0 where
   pub seated : Seated layout t h
-  pub table : table_of t.delay ≡ now
+  pub table : t.delay.table ≡ now
   pub work : IsSameWork s.worker t.worker
 
 -- an arming is that of a script
 abbrev pub ArmsAs : ℕ → ℕ → Armed → Seats → Seats → Type 0
 ArmsAs item delay a s t =
-    (layout : Layout) (h : List Event) → Seated layout s h → (a ≡ arm_answer item delay h (table_of s.delay))
-    × GoesWithTable layout (h ++ arm_events (delayer layout) item delay h (table_of s.delay)) (arm_table item delay h (table_of s.delay)) s t
+    (layout : Layout) (h : List Event) → Seated layout s h → (a ≡ arm_answer item delay h s.delay.table)
+    × GoesWithTable layout (h ++ arm_events (delayer layout) item delay h s.delay.table) (arm_table item delay h s.delay.table) s t
 
 -- a cancelling is that of a script
 abbrev pub CancelsAs : ℕ → Bool → Seats → Seats → Type 0
 CancelsAs item was_on_table s t =
-    (layout : Layout) (h : List Event) → Seated layout s h → (was_on_table ≡ on_table item (table_of s.delay).entries)
-    × GoesWithTable layout (h ++ cancel_events (delayer layout) item (table_of s.delay)) (table_without item (table_of s.delay)) s t
+    (layout : Layout) (h : List Event) → Seated layout s h → (was_on_table ≡ on_table item s.delay.table.entries)
+    × GoesWithTable layout (h ++ cancel_events (delayer layout) item s.delay.table) (table_without item s.delay.table) s t
 
 -- a modification is that of a script
 abbrev pub ModifiesAs : ℕ → ℕ → Modified → Seats → Seats → Type 0
 ModifiesAs item delay a s t =
-    (layout : Layout) (h : List Event) → Seated layout s h → (a ≡ modify_answer item delay h (table_of s.delay))
-    × GoesWithTable layout (h ++ modify_events (delayer layout) item delay h (table_of s.delay)) (modify_table item delay h (table_of s.delay)) s t
+    (layout : Layout) (h : List Event) → Seated layout s h → (a ≡ modify_answer item delay h s.delay.table)
+    × GoesWithTable layout (h ++ modify_events (delayer layout) item delay h s.delay.table) (modify_table item delay h s.delay.table) s t
 
 -- the tick is before the present one, and nothing happened
 abbrev pub IsBack : ℕ → Seats → Seats → Type 0
-IsBack tick s t = (layout : Layout) (h : List Event) → Seated layout s h → (tick < (table_of s.delay).tick) × GoesWithTable layout h (table_of s.delay) s t
+IsBack tick s t = (layout : Layout) (h : List Event) → Seated layout s h → (tick < s.delay.table.tick) × GoesWithTable layout h s.delay.table s t
 
 -- these were due, and were posted
 abbrev pub IsPosted : ℕ → List ℕ → Seats → Seats → Type 0
 IsPosted tick due s t =
-    (layout : Layout) (h : List Event) → Seated layout s h → ((table_of s.delay).tick ≤ tick) × (due ≡ due_items tick (table_of s.delay))
-    × GoesWithTable layout (h ++ advance_events (delayer layout) tick h (table_of s.delay)) (table_at tick [] (table_of s.delay)) s t
+    (layout : Layout) (h : List Event) → Seated layout s h → (s.delay.table.tick ≤ tick) × (due ≡ due_items tick s.delay.table)
+    × GoesWithTable layout (h ++ advance_events (delayer layout) tick h s.delay.table) (table_at tick [] s.delay.table) s t

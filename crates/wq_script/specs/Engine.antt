@@ -8,14 +8,13 @@ use Rattle.wq_script.specs.declared.engine.Engine.{Engine}
 use Rattle.wq_script.specs.Seats.{Seated}
 use Rattle.wq_script.specs.Asking.{HasLists}
 use Rattle.wq_script.specs.Counting.{Tallied}
-use Rattle.wq_script.specs.Tables.{table_of}
 
 -- the engine is in this state: its seats have seen the history, and it keeps the table and the lists
 pub record Meets (e : Engine) (s : ScriptState) : Type 0 where
   pub seated : Seated e.layout e.seats s.history
   pub idle : ¬ IsRunning s.history
   pub tally : Tallied e.tally e.layout.senders s.history
-  pub table : table_of e.seats.delay ≡ s.table
+  pub table : e.seats.delay.table ≡ s.table
   pub follows : e.seats.worker.work.follows.items ≡ s.follows
   pub lists : HasLists e.layout e.seats
   pub short : (k : ℕ) → length (follow_of s.follows k) ≤ 4

@@ -1,7 +1,6 @@
 pub mod Seats
 pub mod Quiet
 pub mod Asking
-pub mod Tables
 pub mod Arming
 pub mod Counting
 pub mod Engine

@@ -45,10 +45,8 @@ abbrev pub owner_of : {W : Type 0} → WorkerState W → Known
 owner_of w = record { queue = w.queue; layout = w.layout; number = owner_seat; seen = w.seen }
 
 -- what stands on the table, the tick and the next arming are the same
-pub record IsSameTable (old new : DelayState) : Type 0 where
-  pub table_is : new.table ≡ old.table
-  pub tick_is : new.tick ≡ old.tick
-  pub next_is : new.next ≡ old.next
+abbrev pub IsSameTable : DelayState → DelayState → Type 0
+IsSameTable old new = new.table ≡ old.table
 
 -- it is the same worker, and its work was not touched
 pub record IsSameWork {W : Type 0} (old new : WorkerState W) : Type 0 where

@@ -1,8 +1,10 @@
 //! All seats of a queue, and how each hears what one of them has seen.
-ghost use Rattle.std.specs.Prelude.{◌≡◌, ◌<◌, not, List, length, All, slice_index_or, IfOk, MatchOption, ◌+◌, ◌≤◌, [], replicate, slice_set};
+ghost use Rattle.std.specs.Prelude.{◌≡◌, ◌≢◌, ◌<◌, not, List, length, All, slice_index_or, IfOk, MatchOption, ◌+◌, ◌≤◌, [], replicate, slice_set};
 ghost use Rattle.wq_meaning.specs.Execution.{no_follow};
 ghost use Rattle.wq_words.specs.declared.layout.Layout.{Layout};
 ghost use Rattle.wq_words.specs.declared.event.Event.{Event};
+ghost use Rattle.wq_words.specs.declared.answer.Armed.TheVariants as armed_variants;
+ghost use Rattle.wq_words.specs.declared.answer.Modified.TheVariants as modified_variants;
 ghost use Rattle.wq_words.specs.Numbers.{barrier_number, stop_number};
 ghost use Rattle.wq_live.specs.Known.{Known};
 ghost use Rattle.wq_script.specs.Seats.{StaysSilent, AllHear, IsSameTable, AreOne, Gathers, Seated, HasHistory};
@@ -38,13 +40,42 @@ fn meet_each(delay: &mut Delay, senders: &mut Vec<Sender>)
     }
 }
 
+// The answer, unless memory was refused.
+fn armed_or_memory(armed: Armed) -> Result<Armed, AllocError>
+    ensures { IfOk result (λ answer. (answer ≡ armed) × (armed ≢ armed_variants.Memory)) }
+{
+    match armed {
+        Armed::Memory => Err(AllocError),
+        Armed::Queued { first } => Ok(Armed::Queued { first }),
+        Armed::OnTable => Ok(Armed::OnTable),
+        Armed::Pending => Ok(Armed::Pending),
+        Armed::Closed => Ok(Armed::Closed),
+        Armed::Contended => Ok(Armed::Contended),
+        Armed::TooFar => Ok(Armed::TooFar),
+    }
+}
+
+fn modified_or_memory(modified: Modified) -> Result<Modified, AllocError>
+    ensures { IfOk result (λ answer. (answer ≡ modified) × (modified ≢ modified_variants.Memory)) }
+{
+    match modified {
+        Modified::Memory => Err(AllocError),
+        Modified::WasIdle => Ok(Modified::WasIdle),
+        Modified::Moved => Ok(Modified::Moved),
+        Modified::Pending => Ok(Modified::Pending),
+        Modified::Closed => Ok(Modified::Closed),
+        Modified::Contended => Ok(Modified::Contended),
+        Modified::TooFar => Ok(Modified::TooFar),
+    }
+}
+
 impl Seats {
     // The seats of a new queue, with a sender for each of the layout's, one for the worker and one for the delay table.
     pub(crate) fn new(alloc: Global, layout: Layout) -> Result<Seats, AllocError>
         requires { layout.senders ≤ 62 }
         ensures seated { IfOk result (λ s. Seated layout s []) }
         ensures lists { IfOk result (λ s. s.worker.work.follows.items ≡ replicate layout.items no_follow) }
-        ensures table { IfOk result (λ s. (s.delay.table ≡ []) × (s.delay.tick ≡ 0) × (s.delay.next ≡ 0)) }
+        ensures table { IfOk result (λ s. s.delay.table ≡ record { entries = []; tick = 0; next = 0 }) }
     {
         let Ok(wide) = Layout::new(layout.items, layout.barriers, layout.senders + 2) else {
             unreachable!()
@@ -199,14 +230,11 @@ impl Seats {
         requires item { item < self.old.delay.sender.layout.items }
         ensures { IfOk result (λ answer. ArmsAs item delay answer self.old self.new) }
     {
-        // This call says what holds of every delay table.
-        let _ = self.delay.layout();
+        self.delay.fit();
         let armed = self.delay.arm(item, delay, 1);
         self.gather(0);
-        if matches!(&armed, Armed::Memory) {
-            return Err(AllocError);
-        }
-        Ok(armed)
+        let answer = armed_or_memory(armed)?;
+        Ok(answer)
     }
 
     // Takes an item off the delay table and gives it back. False where it was not there.
@@ -216,8 +244,7 @@ impl Seats {
         requires item { item < self.old.delay.sender.layout.items }
         ensures { CancelsAs item result self.old self.new }
     {
-        // This call says what holds of every delay table.
-        let _ = self.delay.layout();
+        self.delay.fit();
         let was_on_table = self.delay.cancel(item);
         self.gather(0);
         was_on_table
@@ -230,14 +257,11 @@ impl Seats {
         requires item { item < self.old.delay.sender.layout.items }
         ensures { IfOk result (λ answer. ModifiesAs item delay answer self.old self.new) }
     {
-        // This call says what holds of every delay table.
-        let _ = self.delay.layout();
+        self.delay.fit();
         let modified = self.delay.modify(item, delay, 1);
         self.gather(0);
-        if matches!(&modified, Modified::Memory) {
-            return Err(AllocError);
-        }
-        Ok(modified)
+        let answer = modified_or_memory(modified)?;
+        Ok(answer)
     }
 
     // Sets the tick, and posts what is due, each with one try. The items that were posted, in order. None where the tick is
@@ -247,8 +271,7 @@ impl Seats {
         requires some { 0 < length self.old.senders.items }
         ensures { IfOk result (λ o. MatchOption o (IsBack tick self.old self.new) (λ due. IsPosted tick due.items self.old self.new)) }
     {
-        // This call says what holds of every delay table.
-        let _ = self.delay.layout();
+        self.delay.fit();
         let due = self.delay.due_list(tick)?;
         let advanced = self.delay.advance(tick, 1);
         self.gather(0);

@@ -156,7 +156,11 @@ fn check_report<R: Abort + AllocGlobal>(
 ) -> Result<(), Fail> {
     let alloc = rt.alloc();
     let script = parse(alloc, text.as_bytes())?;
-    assert_eq!(rt; run(alloc, &script)?.as_slice(), report.as_bytes(), "{name}");
+    assert_eq!(rt;
+        run(alloc, &script)?.as_slice(),
+        report.as_bytes(),
+        "{name}"
+    );
     Ok(())
 }
 

@@ -23,7 +23,7 @@ returns-in_default c =
     let told : IsBack tick e.seats b =
     subst (λ o. MatchOption o (IsBack tick e.seats b) (λ due. IsPosted tick due.items e.seats b)) c.in_default.is c.in_ok-posted.ensures in
     let so = λ (s : ScriptState) (m : Meets e s).
-        advance_back e.layout s tick (lt-ltb _ _ (omega (arith, (told e.layout s.history m.seated).0, ap (λ (t : DelayTable). t.tick) m.table))) in
+    advance_back e.layout s tick (lt-ltb _ _ (omega (arith, (told e.layout s.history m.seated).0, ap (λ (t : DelayTable). t.tick) m.table))) in
     record {
       layout = refl;
       meets = λ s m.
@@ -42,7 +42,7 @@ returns c =
     subst (λ o. MatchOption o (IsBack tick e.seats b) (λ due. IsPosted tick due.items e.seats b)) c.in-Some.is c.in_ok-posted.ensures in
     let long : c.len.result ≡ length posted = c.len.ensures ∙ c.in-Some.posted.ok.0 in
     let counts = λ (s : ScriptState) (m : Meets e s).
-        c.posting.ensures ∙ (λ i. counted_posts (c.is_closed-is_closed.ensures e.layout s.history m.seated i) (long i) e.tally) in
+    c.posting.ensures ∙ (λ i. counted_posts (c.is_closed-is_closed.ensures e.layout s.history m.seated i) (long i) e.tally) in
     let goes = λ (s : ScriptState) (m : Meets e s). posted_meets e.layout e.seats b e.tally c.posting.new.self s m tick posted told (counts s m) in
     let so = λ (s : ScriptState) (m : Meets e s). advance_on e.layout s tick (le-ltb _ _ (goes s m).2) in
     record {
@@ -55,7 +55,8 @@ returns c =
           ∙ ap (λ b. advance_word b (due_items tick s.table)) shut) in
           wrote e.layout s (advanced e.layout s tick) (command.Advance tick) _ _ _ (so s m).0 (so s m).1
           (c.in_ok-write_row.ensures ∙ (ap (λ w. string_bytes c.args.out.now ++ row_text e.layout w c.deref-2.result.now) word
-          ∙ ap (λ ks. string_bytes c.args.out.now ++ row_text e.layout (advance_word (closed s.history) (due_items tick s.table)) ks) (c.deref-2.ensures.value ∙ due)));
+          ∙ ap (λ ks. string_bytes c.args.out.now ++ row_text e.layout (advance_word (closed s.history) (due_items tick s.table)) ks)
+          (c.deref-2.ensures.value ∙ due)));
       room = λ s m.
           omega (arith, ap size (so s m).0, length-append s.history (advance_events p tick s.history s.table), advance_few p tick s.history s.table);
     }

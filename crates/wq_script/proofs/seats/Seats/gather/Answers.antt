@@ -49,7 +49,8 @@ returns c =
     let z : Known = c.meet-2.new.sender in let w = c.meet-2.new.self in let m2 = c.meet-2.ensures in
     let met : StaysSilent x k = sees_stays 0 x k m.that in
     let led : StaysSilent s.delay.sender e.sender = sees_stays 0 s.delay.sender e.sender m.this.seen in
-    let one : AllHear [] q (set q p k) = all_hear_set [] q q p x k c.requires.place (all_hear_nothing q) (subst (λ (v : Known). StaysSilent v k) c.index_mut.ensures.value met) in
+    let one : AllHear [] q (set q p k) =
+    all_hear_set [] q q p x k c.requires.place (all_hear_nothing q) (subst (λ (v : Known). StaysSilent v k) c.index_mut.ensures.value met) in
     let last : StaysSilent y z = sees_stays 0 y z m2.sender in
     let both = moves_stay 0 s.worker w m2.worker in
     let t : Seats = record { worker = w; delay = f; senders = with_item c.meet_each.new.senders 0 z } in
@@ -61,14 +62,19 @@ returns c =
     record {
       sender = record { stays = both.0; knows = worker };
       owner = record { stays = both.1; knows = worker };
-      delay = record { stays = stays_on s.delay.sender e.sender f.sender led me.delay; knows = prefix_on told e.sender.seen f.sender.seen knows me.delay.begins };
+      delay = record {
+        stays = stays_on s.delay.sender e.sender f.sender led me.delay;
+        knows =
+            prefix_on told e.sender.seen f.sender.seen knows me.delay.begins;
+      };
       senders = all_hear_set told q news 0 y z here heard (subst (λ (v : Known). StaysSilent v z) c.index_mut-2.ensures.value last);
       work = record { work_is = m2.work.0; left_is = m2.work.1; tries_is = m2.worker.tries };
       table = same_table_on s.delay e f (keeps_same [] 0 s.delay e m.this) me.table;
       legal = m2.worker.legal;
     } in
     record {
-      sender = λ d. all (get_or q p d).seen (subst (λ (v : Known). IsPrefix v.seen e.sender.seen) (c.index_mut.ensures.value ∙ get_or_default q p x d c.requires.place)
+      sender = λ d. all (get_or q p d).seen (subst (λ (v : Known). IsPrefix v.seen e.sender.seen)
+          (c.index_mut.ensures.value ∙ get_or_default q p x d c.requires.place)
           (subst (λ (v : List Event). IsPrefix x.seen v) m.both met.begins));
       delay = all s.delay.sender.seen led.begins;
     }
