@@ -42,7 +42,8 @@ use Rattle.wq_live.specs.Counts.{is_chain, is_chain_busy}
 use Rattle.wq_live.specs.Batch.{next_of}
 use Rattle.wq_worker.specs.declared.ran.Ran.{Ran}
 use Rattle.wq_worker.specs.declared.ran.Ran.TheVariants.{Item, Barrier, Stop, Nothing, Owing}
-use Rattle.wq_worker.specs.Seats.{is_ours, taking, taking_of}
+use Rattle.wq_words.specs.Seen.{is_ours}
+use Rattle.wq_worker.specs.Seats.{taking, taking_of}
 use Rattle.wq_worker.specs.Follow.{Follows}
 use Rattle.wq_worker.specs.State.{WorkerState, items_among, Moves}
 use Rattle.wq_worker.specs.Step.{Starts, item, other, owed, Ends, ends, Owes, owes, Runs}

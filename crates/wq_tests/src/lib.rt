@@ -7,6 +7,8 @@ mod delay;
 #[cfg(test)]
 mod machine;
 #[cfg(test)]
+mod script;
+#[cfg(test)]
 mod text;
 #[cfg(test)]
 mod words;

@@ -9,7 +9,8 @@ use Rattle.wq_words.specs.History.{begun_by, ended_by, is_close, begun, ended, c
 use Rattle.wq_words.specs.Seen.{owner_seat, seat_of, own, Grows}
 use Rattle.wq_words.proofs.Seen.{begun_same, ended_same, closed_count}
 use Rattle.wq_live.proofs.Owned.{begun_on, ended_on, closes_on}
-use Rattle.wq_worker.specs.Seats.{is_ours, Adds}
+use Rattle.wq_words.specs.Seen.{is_ours}
+use Rattle.wq_worker.specs.Seats.{Adds}
 
 pub count_by-append : (p : Event → Bool) (xs ys : List Event) → count_by p (xs ++ ys) ≡ count_by p xs + count_by p ys
 count_by-append p xs ys = sum_by-append (λ x. cond (p x) 1 0) xs ys

@@ -6,7 +6,8 @@ use Rattle.std.proofs.lemmas.List.{append-nil, append_cancel_left}
 use Rattle.std.proofs.lemmas.List.Elements.{filter-append}
 use Rattle.wq_words.specs.declared.event.Event.{Event}
 use Rattle.wq_words.specs.Seen.{owner_seat, seat_of, own, Grows}
-use Rattle.wq_worker.specs.Seats.{is_ours, Adds}
+use Rattle.wq_words.specs.Seen.{is_ours}
+use Rattle.wq_worker.specs.Seats.{Adds}
 
 module _ {A : Type 0} where
   left_step : (b c : Bool) (x : A) (ps os qs : List A) → (ps ≡ [] → os ≡ qs) → cond b (x ∷ ps) ps ≡ [] → cond (b || c) (x ∷ os) os ≡ cond c (x ∷ qs) qs
