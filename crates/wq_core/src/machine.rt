@@ -2,7 +2,7 @@
 ghost use Rattle.std.specs.Prelude.{◌≡◌, ◌<◌, ◌↔◌, IsTrue, IfOk, IfErr, OnOk, OnErr, length, get_or, Some, None};
 ghost use Rattle.wq_words.specs.declared.layout.Layout.{Layout};
 ghost use Rattle.wq_words.specs.Numbers.{number_count};
-ghost use Rattle.wq_words.specs.History.{accepted_by, begun_by, accepted, begun, Holds, IsClosed, IsRunning};
+ghost use Rattle.wq_words.specs.History.{accepted, begun, Holds, IsClosed, IsRunning};
 ghost use Rattle.wq_core.specs.declared.step.Seat.TheVariants.{Sender, Owner};
 ghost use Rattle.wq_core.specs.declared.step.Step.TheVariants.{Hold, Look, Link, Push, Back, Check, Take, Close, Walk, Begin, End, Chain};
 ghost use Rattle.wq_core.specs.Machine.{opening, IsEnabled, after, reply_to, nothing_seen, private, unlinked};
@@ -92,7 +92,7 @@ impl Core {
     {
         self.history
             .iter()
-            .filter_map(|event| accepted_by(*event))
+            .filter_map(|event| event.accepted_number())
             .collect(self.alloc)
     }
 
@@ -102,7 +102,7 @@ impl Core {
     {
         self.history
             .iter()
-            .filter_map(|event| begun_by(*event))
+            .filter_map(|event| event.begun_number())
             .collect(self.alloc)
     }
 
@@ -134,6 +134,8 @@ impl Core {
         ensures { IsTrue result ↔ IsEnabled self.now seat step }
     {
         match (seat, step) {
+            (Seat::Sender(_), Step::Hold(_)) => true,
+            (Seat::Sender(_), Step::Look) => true,
             (Seat::Sender(sender), Step::Link(number)) => match self.private(sender).seen {
                 Some(word) => word != Head::Closed.to_word() && self.is_held(sender, number),
                 None => false,
@@ -146,7 +148,7 @@ impl Core {
                     && (why != Why::Closed
                         || self.private(sender).seen == Some(Head::Closed.to_word()))
             }
-            (Seat::Sender(_), _) => true,
+            (Seat::Sender(_), Step::Check(_)) => true,
             (Seat::Owner, Step::Take) => {
                 !self.is_closed() && self.cursor.is_none() && self.batch.is_empty()
             }
@@ -156,7 +158,10 @@ impl Core {
                 self.cursor.is_none() && !self.batch.is_empty() && !self.is_running()
             }
             (Seat::Owner, Step::End) => self.is_running(),
-            (Seat::Owner, _) => self.is_closed() && self.cursor.is_none() && self.is_running(),
+            (Seat::Owner, Step::Chain(_)) => {
+                self.is_closed() && self.cursor.is_none() && self.is_running()
+            }
+            _ => unreachable!(),
         }
     }
 
@@ -394,24 +399,6 @@ impl Core {
         self.batch.insert(0, number)?;
         self.words[place] = 1;
         Ok(Reply::Chained)
-    }
-}
-
-fn accepted_by(event: Event) -> Option<u32>
-    ensures { result ≡ accepted_by event }
-{
-    match event {
-        Event::Push(_, number) | Event::Chain(number) => Some(number),
-        _ => None,
-    }
-}
-
-fn begun_by(event: Event) -> Option<u32>
-    ensures { result ≡ begun_by event }
-{
-    match event {
-        Event::Begin(number) => Some(number),
-        _ => None,
     }
 }
 

@@ -12,7 +12,7 @@ use Rattle.wq_words.specs.Seen.{seat_of, own, others, Grows}
 use Rattle.wq_live.specs.Known.{Known, Sees}
 use Rattle.wq_words.specs.DelayTable.{Entry, on_table, without, IsOrdered}
 use Rattle.wq_delay.specs.Rows.{Pops}
-use Rattle.wq_delay.proofs.Rows.{first_on, without_first}
+use Rattle.wq_words.proofs.DelayTable.{first_on, without_first}
 use Rattle.wq_delay.proofs.Sound.{state, IsSound, sound_keeps, sound_leaves, even_back, stops_back}
 
 grows_on : (c : ℕ) (xs ys : List Event) (n m : ℕ) (u v w : List Event) → Grows c xs n u v → Grows c ys m v w → Grows c (xs ++ ys) (n + m) u w

@@ -13,7 +13,8 @@ use Rattle.std.proofs.lemmas.Bool.{eqb-true}
 use Rattle.std.proofs.lemmas.Bool.Decides.{nat_tests}
 use Rattle.wq_words.specs.DelayTable.{Entry, items, on_table, due_part, placed, without, IsBefore, IsOrdered, AreArmedBefore}
 use Rattle.wq_delay.specs.Rows.{entry_of, place_of, AreRows, IsFirstDue}
-use Rattle.wq_delay.proofs.Table.{first_false, second_false, without_off, none_due, placed_front, all-without, all-more, place_some, place_of-placed, place_of-without, on_table-without, ordered-placed, ordered-without}
+use Rattle.wq_words.proofs.DelayTable.{first_false, second_false, without_off, none_due, placed_front, all-without, all-more, on_table-without, ordered-placed, ordered-without, first_on, without_first}
+use Rattle.wq_delay.proofs.Table.{place_some, place_of-placed, place_of-without}
 
 abbrev pub row_cmp : (ℕ × ℕ) → (ℕ × ℕ) → Ordering
 row_cmp x y = ordering_then (nat_cmp x.0 y.0) (nat_cmp x.1 y.1)
@@ -182,16 +183,6 @@ in_places places es k rows on = by (nat_lt k (length places)) refl
         let high : length places ≤ k = grind (arith, nat_tests) in
         let none : get_or places k None ≡ None = get_or_past places k None high in
         let some = known_on places es k rows in absurd (cc (ap is_some none))
-
--- the first entry of the table
-same_on : (k : ℕ) (b : Bool) → ((k == k) || b) ≡ true
-same_on k b = let is : (k == k) ≡ true = grind (arith, nat_tests) in rw is refl
-
-pub first_on : (es fs : List Entry) (e : Entry) → es ≡ e ∷ fs → on_table e.item es ≡ true
-first_on es fs e is = ap (on_table e.item) is ∙ same_on e.item (on_table e.item fs)
-
-pub without_first : (e : Entry) (fs : List Entry) → on_table e.item fs ≡ false → fs ≡ without e.item (e ∷ fs)
-without_first e fs off = let is : (e.item == e.item) ≡ true = grind (arith, nat_tests) in rw is (sym (without_off e.item fs off))
 
 pub rows_popped : (places : List (Option (ℕ × ℕ))) (es fs : List Entry) (e : Entry) → AreRows places es → es ≡ e ∷ fs → AreRows (set places e.item None) fs
 rows_popped places es fs e rows is =

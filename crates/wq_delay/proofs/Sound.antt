@@ -18,7 +18,7 @@ use Rattle.wq_words.specs.History.{Holds}
 use Rattle.wq_words.specs.Legal.{IsLegal}
 use Rattle.wq_words.specs.DelayTable.{Entry, on_table, placed, without}
 use Rattle.wq_delay.specs.Delay.{DelayState, IsFit}
-use Rattle.wq_delay.proofs.Table.{all-placed, all-without, all-more, on_table-placed, on_table-without, ordered-placed, ordered-without}
+use Rattle.wq_words.proofs.DelayTable.{all-placed, all-without, all-more, on_table-placed, on_table-without, ordered-placed, ordered-without}
 use Rattle.wq_delay.proofs.Held.{starts, stops, HoldsAll, holds_same, holds_more, holds_less, free_before}
 
 -- what a result that was tested says
@@ -31,7 +31,7 @@ on_err (Ok x) P is on = absurd (cc)
 on_err (Err e) P is on = on
 
 abbrev pub state : Known → ℕ → ℕ → List Entry → DelayState
-state p now next t = record { sender = p; tick = now; next = next; table = t }
+state p now next t = record { sender = p; table = record { entries = t; tick = now; next = next } }
 
 -- a table of so many places over the layout's items
 abbrev pub IsSound : ℕ → DelayState → Type 0

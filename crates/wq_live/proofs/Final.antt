@@ -12,8 +12,8 @@ use Rattle.wq_words.specs.History.{accepted, accepted_by, begun, begun_by, ended
 use Rattle.wq_words.specs.Listed.{listed}
 use Rattle.wq_words.specs.Legal.{MayFollow, IsLegal, IsComplete}
 use Rattle.wq_words.proofs.Legal.{legal_front, legal_next}
-use Rattle.wq_words.proofs.Prefixes.{prefix_length}
 use Rattle.wq_words.proofs.Order.{in_order}
+use Rattle.wq_words.proofs.Prefixes.{prefix_length}
 use Rattle.wq_words.proofs.Listed.{listed-closed}
 use Rattle.wq_table.specs.declared.table.Part.{Part}
 use Rattle.wq_table.specs.declared.table.Stage.TheVariants.{Owns}

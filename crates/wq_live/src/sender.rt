@@ -305,6 +305,7 @@ impl Sender {
         ensures that { Sees [] 0 owner.old owner.new }
         ensures both { owner.new.seen ≡ self.new.seen }
         ensures layout { owner.old.layout ≡ self.old.layout }
+        ensures number { self.old.number < self.old.layout.senders }
         ensures seat { owner.old.number ≡ owner_seat }
     {
         self.chair.meet(&mut owner.chair);

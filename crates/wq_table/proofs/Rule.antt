@@ -13,7 +13,7 @@ use Rattle.wq_table.specs.declared.table.Part.{Part}
 use Rattle.wq_table.specs.Law.{View, part, seat_at, IsPartOf, ArePartsAt, Kept}
 use Rattle.wq_table.specs.Plays.{Sat, word_found, stage_after, Performs, MakesAlone}
 use Rattle.wq_core.proofs.Schedules.{sound_after}
-use Rattle.wq_words.proofs.Seen.{prefix_self}
+use Rattle.wq_words.proofs.Prefixes.{prefix_self}
 use Rattle.wq_table.proofs.Changes.{Change, changes, fits_other, keeps_after}
 
 abbrev Table : Type 0

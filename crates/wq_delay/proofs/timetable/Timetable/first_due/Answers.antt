@@ -1,7 +1,8 @@
 use Rattle.std.proofs.Common.{◌≡◌, ◌<◌, [], map, ℕ, true, subst}
 use Rattle.wq_words.specs.DelayTable.{on_table, due_part}
 use Rattle.wq_delay.specs.Rows.{Rows, entry_of, IsFirstDue}
-use Rattle.wq_delay.proofs.Rows.{first_late, first_now, first_on, in_places}
+use Rattle.wq_words.proofs.DelayTable.{first_on}
+use Rattle.wq_delay.proofs.Rows.{first_late, first_now, in_places}
 use Rattle.wq_delay.proofs.timetable.Timetable.first_due.Goals as goal
 
 pub returns-then-place-now-clause-first : goal.returns-then-place-now-clause-first

@@ -2,7 +2,7 @@ use Rattle.std.proofs.Common.{◌<◌, Option, None, is_some, List, map, ℕ, ap
 use Rattle.std.proofs.lemmas.List.{get_or_read}
 use Rattle.wq_words.specs.DelayTable.{on_table, without}
 use Rattle.wq_delay.specs.Rows.{Rows, entry_of}
-use Rattle.wq_delay.proofs.Table.{without_off}
+use Rattle.wq_words.proofs.DelayTable.{without_off}
 use Rattle.wq_delay.proofs.Rows.{entries-remove, rows_without, known_on}
 use Rattle.wq_delay.proofs.timetable.Timetable.take.Goals as goal
 

@@ -2,7 +2,7 @@ use Rattle.std.proofs.Common.{refl, ap, sym, ◌∙◌}
 use Rattle.wq_table.specs.Chair.{Standing}
 use Rattle.wq_live.specs.Known.{Known}
 use Rattle.wq_live.proofs.Sends.{meet_sends, meet_sees}
-use Rattle.wq_live.proofs.Meeting.{meet_executes, meet_owner_sees, meet_owner_layout}
+use Rattle.wq_live.proofs.Meeting.{meet_executes, meet_owner_sees, meet_owner_layout, meet_low}
 use Rattle.wq_live.proofs.sender.Sender.meet_owner.Goals as goal
 
 pub invariant_of-self : goal.invariant_of-self
@@ -27,6 +27,10 @@ pub returns-clause-layout : goal.returns-clause-layout
 returns-clause-layout c = let e = c.meet.ensures in
     meet_owner_layout c.self.inside c.owner.inside c.args.self.now c.args.owner.now e.machine e.this_fits e.that_fits c.self.view_is c.owner.view_is
     c.self.invariant c.owner.invariant
+
+pub returns-clause-number : goal.returns-clause-number
+returns-clause-number c =
+    let e = c.meet.ensures in meet_low c.self.inside c.args.self.now e.machine e.this_fits c.self.view_is c.self.invariant
 
 pub returns-clause-seat : goal.returns-clause-seat
 returns-clause-seat c = sym (ap (λ (v : Known). v.number) c.owner.view_is)
