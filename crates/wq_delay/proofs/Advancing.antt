@@ -16,7 +16,8 @@ use Rattle.wq_delay.specs.Delay.{DelayState, IsFit, KeepsTable, TakesOff, IsOut,
 use Rattle.wq_words.proofs.DelayTable.{without_first, due_then_later, first_due_part, first_later_part}
 use Rattle.wq_delay.proofs.Going.{sees_on, sees_none}
 
-all_zip_push : {A B : Type 0} (R : A → B → Type 0) (xs : List A) (ys : List B) (x : A) (y : B) → AllZip R xs ys → R x y → AllZip R (xs ++ x ∷ []) (ys ++ y ∷ [])
+all_zip_push : {A B : Type 0} (R : A → B → Type 0) (xs : List A) (ys : List B) (x : A) (y : B) → AllZip R xs ys → R x y
+    → AllZip R (xs ++ x ∷ []) (ys ++ y ∷ [])
 all_zip_push R [] [] x y all r = (r, tt)
 all_zip_push R [] (z ∷ zs) x y all r = absurd all
 all_zip_push R (z ∷ zs) [] x y all r = absurd all
@@ -54,19 +55,23 @@ going_none t d fit = record {
 }
 
 -- the first of the due part went out by the event x
-pub going_more : (t k pushed refused p r : ℕ) (old mid new : DelayState) (x : Event) → Going t old mid pushed refused → IsOrdered mid.table.entries → IsFirstDue t k mid.table.entries → TakesOff (x ∷ []) k mid new
+pub going_more : (t k pushed refused p r : ℕ) (old mid new : DelayState) (x : Event) → Going t old mid pushed refused
+    → IsOrdered mid.table.entries → IsFirstDue t k mid.table.entries → TakesOff (x ∷ []) k mid new
     → ((e : Entry) → e.item ≡ k → IsOut old.sender.number e x)
     → p ≡ pushed + cond (is_push x) 1 0 → r ≡ refused + cond (is_back x) 1 0 → p + r ≡ pushed + refused + 1 → Going t old new p r
 going_more t k pushed refused p r old mid new x going in_order is_first leaves is_out pushes backs sums =
     let es : List Entry = mid.table.entries in
     let ordered : IsOrdered (is_first.first ∷ is_first.rest) = subst IsOrdered is_first.is in_order in
-    let tail : is_first.rest ≡ without k mid.table.entries = without_first is_first.first is_first.rest ordered.1 ∙ (ap (without is_first.first.item) (sym is_first.is) ∙ ap (λ (z : ℕ). without z mid.table.entries) is_first.item_is) in
+    let tail : is_first.rest ≡ without k mid.table.entries = without_first is_first.first is_first.rest ordered.1
+    ∙ (ap (without is_first.first.item) (sym is_first.is) ∙ ap (λ (z : ℕ). without z mid.table.entries) is_first.item_is) in
     let same : is_first.rest ≡ new.table.entries = tail ∙ sym (ap (λ (z : DelayTable). z.entries) leaves.table_is) in
     let whole : mid.table.entries ≡ is_first.first ∷ new.table.entries = is_first.is ∙ ap (λ (z : List Entry). is_first.first ∷ z) same in
     record {
       gone = going.gone ++ is_first.first ∷ [];
       events = going.events ++ x ∷ [];
-      split = going.split ∙ (ap (λ (z : List Entry). going.gone ++ z) (ap (due_part t) whole ∙ first_due_part t is_first.first new.table.entries is_first.due) ∙ sym (append_assoc going.gone (is_first.first ∷ []) (due_part t new.table.entries)));
+      split = going.split ∙ (ap (λ (z : List Entry). going.gone ++ z)
+          (ap (due_part t) whole ∙ first_due_part t is_first.first new.table.entries is_first.due)
+          ∙ sym (append_assoc going.gone (is_first.first ∷ []) (due_part t new.table.entries)));
       later = sym (first_later_part t is_first.first new.table.entries is_first.due) ∙ (ap (later_part t) (sym whole) ∙ going.later);
       fewer = let l = ap (length {A = Entry}) whole in omega (arith, l, going.fewer, length-append going.gone (is_first.first ∷ []));
       out = all_zip_push (IsOut old.sender.number) going.gone going.events is_first.first x going.out (is_out is_first.first is_first.item_is);
@@ -84,13 +89,15 @@ is_out_pushed a b k number e item = inl (ap (λ (z : ℕ). Push z k) number ∙ 
 is_out_refused : (a b : Known) (k : ℕ) → b.number ≡ a.number → (e : Entry) → e.item ≡ k → IsOut a.number e (Back b.number k why.Closed)
 is_out_refused a b k number e item = inr (ap (λ (z : ℕ). Back z k why.Closed) number ∙ ap (λ (z : ℕ). Back a.number z why.Closed) (sym item))
 
-pub going_pushed : (t k pushed refused : ℕ) (old mid new : DelayState) → Going t old mid pushed refused → IsOrdered mid.table.entries → IsFirstDue t k mid.table.entries → TakesOff (Push mid.sender.number k ∷ []) k mid new
+pub going_pushed : (t k pushed refused : ℕ) (old mid new : DelayState) → Going t old mid pushed refused → IsOrdered mid.table.entries
+    → IsFirstDue t k mid.table.entries → TakesOff (Push mid.sender.number k ∷ []) k mid new
     → Going t old new (pushed + 1) refused
 going_pushed t k pushed refused old mid new going in_order is_first leaves =
     going_more t k pushed refused (pushed + 1) refused old mid new (Push mid.sender.number k) going in_order is_first leaves
     (is_out_pushed old.sender mid.sender k going.seen.same.number_is) refl (omega arith) (omega arith)
 
-pub going_refused : (t k pushed refused : ℕ) (old mid new : DelayState) → Going t old mid pushed refused → IsOrdered mid.table.entries → IsFirstDue t k mid.table.entries → TakesOff (Back mid.sender.number k why.Closed ∷ []) k mid new
+pub going_refused : (t k pushed refused : ℕ) (old mid new : DelayState) → Going t old mid pushed refused → IsOrdered mid.table.entries
+    → IsFirstDue t k mid.table.entries → TakesOff (Back mid.sender.number k why.Closed ∷ []) k mid new
     → Going t old new pushed (refused + 1)
 going_refused t k pushed refused old mid new going in_order is_first leaves =
     going_more t k pushed refused pushed (refused + 1) old mid new (Back mid.sender.number k why.Closed) going in_order is_first leaves
@@ -99,7 +106,8 @@ going_refused t k pushed refused old mid new going in_order is_first leaves =
 pub fewer_left : (t k : ℕ) (es fs : List Entry) → IsOrdered es → IsFirstDue t k es → fs ≡ without k es → length fs < length es
 fewer_left t k es fs in_order is_first is =
     let ordered : IsOrdered (is_first.first ∷ is_first.rest) = subst IsOrdered is_first.is in_order in
-    let tail : is_first.rest ≡ without k es = without_first is_first.first is_first.rest ordered.1 ∙ (ap (without is_first.first.item) (sym is_first.is) ∙ ap (λ (z : ℕ). without z es) is_first.item_is) in
+    let tail : is_first.rest ≡ without k es = without_first is_first.first is_first.rest ordered.1
+    ∙ (ap (without is_first.first.item) (sym is_first.is) ∙ ap (λ (z : ℕ). without z es) is_first.item_is) in
     let rest = ap (length {A = Entry}) (tail ∙ sym is) in let l = ap (length {A = Entry}) is_first.is in omega arith
 
 -- all that was due went out

@@ -17,8 +17,11 @@ pub returns-then-not-take : goal.returns-then-not-take
 returns-then-not-take c =
     let i = c.self.inside in
     let off : on_table c.args.item i.table.entries ≡ false = sym c.if-not-take.ensures.answer in
-    let same = c.take.ensures.entries ∙ without_off c.args.item i.table.entries off in
-    (subst (λ (z : DelayState). on_table c.args.item z.table.entries ≡ false) c.self.view_is off, ap (λ (z : List Entry). state i.sender i.tick i.next z) same ∙ c.self.view_is)
+    let same = c.take.ensures.entries ∙ without_off c.args.item i.table.entries off in (
+      subst (λ (z : DelayState). on_table c.args.item z.table.entries ≡ false) c.self.view_is off,
+      ap
+          (λ (z : List Entry). state i.sender i.tick i.next z) same ∙ c.self.view_is,
+    )
 
 pub invariant_of-self-2 : goal.invariant_of-self-2
 invariant_of-self-2 c =

@@ -19,4 +19,5 @@ pub returns-clause-low : goal.returns-clause-low
 returns-clause-low c =
     let first = first_now c.self.inside.rows.entries (c.in-Some.place.now, c.in-Some.item.now) c.args.now c.in-Some.ensures.first c.if-place-now.false in
     let on = subst (λ (z : ℕ). on_table z (map entry_of c.self.inside.rows.entries) ≡ true) first.item_is (first_on _ _ _ first.is) in
-    subst (λ (z : Rows). c.in-Some.item.now < z.size) c.self.view_is (in_places c.self.inside.places.items (map entry_of c.self.inside.rows.entries) c.in-Some.item.now c.self.invariant on)
+    subst (λ (z : Rows). c.in-Some.item.now < z.size) c.self.view_is
+    (in_places c.self.inside.places.items (map entry_of c.self.inside.rows.entries) c.in-Some.item.now c.self.invariant on)
