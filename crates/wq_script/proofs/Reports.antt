@@ -10,7 +10,7 @@ use Rattle.wq_words.proofs.Order.{in_order}
 use Rattle.wq_words.proofs.Prefixes.{prefix_length}
 use Rattle.wq_words.specs.Seen.{owner_seat, seat_of, own}
 use Rattle.wq_words.proofs.Seen.{count_own, ended_same}
-use Rattle.wq_live.specs.Counts as live
+use Rattle.wq_words.specs.Counting as live
 use Rattle.wq_words.specs.Counting.{is_queued_by, is_pending_by, is_closed_by, is_chain_busy}
 use Rattle.wq_live.specs.Counts.{capped}
 use Rattle.wq_worker.specs.declared.totals.Totals.{Totals}
