@@ -19,7 +19,8 @@ use Rattle.wq_table.specs.declared.table.Stage.TheVariants.{Sends, Owns}
 use Rattle.wq_words.specs.Seen.{owner_seat, seat_of, own}
 use Rattle.wq_table.specs.Law.{part, seat_at, Keeps, Fits}
 use Rattle.wq_table.specs.Plays.{word_found, stage_after, walked_on, tail_of}
-use Rattle.wq_words.proofs.Seen.{own-append, own_none, own_same, prefix_append}
+use Rattle.wq_words.proofs.Seen.{own-append, own_none, own_same}
+use Rattle.wq_words.proofs.Prefixes.{prefix_append}
 
 -- from m to n by a step of the seat c: what is of other seats stays
 pub record Change (m n : Machine) (c : ℕ) : Type 0 where

@@ -17,7 +17,7 @@ use Rattle.wq_words.specs.Seen.{own}
 use Rattle.wq_table.specs.Law.{View, part, seat_at, Keeps, Fits, Apart, AllFit, Kept}
 use Rattle.wq_table.specs.Plays.{Sat, word_found, stage_after, Makes, Moves}
 use Rattle.wq_core.proofs.Schedules.{sound_after}
-use Rattle.wq_words.proofs.Seen.{prefix_self}
+use Rattle.wq_words.proofs.Prefixes.{prefix_self}
 use Rattle.wq_table.proofs.Changes.{Change, changes, fits_other, keeps_after}
 
 abbrev Table : Type 0

@@ -3,4 +3,8 @@
 #![tactic(auto)]
 
 #[cfg(test)]
+mod machine;
+#[cfg(test)]
 mod text;
+#[cfg(test)]
+mod words;
