@@ -45,8 +45,8 @@ loop-line-preserved g c =
       few = omega (arith, c.in-Some.ensures.1, l.invariant.few);
       less = omega (arith, added.few, l.invariant.less);
       sound = keeps grammar.most_senders g.L.Language.fits l.stage next.next next.one l.asked.items new next.ensures.sound added.added l.invariant.sound;
-      read = read_more (line_gives grammar) c.args.text.now l.rest.now c.in-Some.line.now c.in-Some.after.now l.number l.stage next.next l.asked.items new next.one
-          l.invariant.read c.in-Some.ensures.0 next.ensures.gives added.added;
+      read = read_more (line_gives grammar) c.args.text.now l.rest.now c.in-Some.line.now c.in-Some.after.now l.number l.stage next.next
+          l.asked.items new next.one l.invariant.read c.in-Some.ensures.0 next.ensures.gives added.added;
     }
 
 pub returns-then-not-is_empty-clause-refused : goal.returns-then-not-is_empty-clause-refused
@@ -54,7 +54,8 @@ returns-then-not-is_empty-clause-refused g c =
     let l = c.loop-line in
     let some = sym c.is_empty.ensures ∙ c.if-not-is_empty.true in
     rw c.refused-then-not-is_empty.ensures
-    (cut_short (line_gives g.L.Language.grammar) c.args.text.now l.rest.now l.number l.stage l.asked.items _ l.invariant.short l.invariant.read c.in_default.ensures some refl refl)
+    (cut_short (line_gives g.L.Language.grammar) c.args.text.now l.rest.now l.number l.stage l.asked.items _
+    l.invariant.short l.invariant.read c.in_default.ensures some refl refl)
 
 pub returns-in_err-layout-clause-refused : goal.returns-in_err-layout-clause-refused
 returns-in_err-layout-clause-refused g c =
