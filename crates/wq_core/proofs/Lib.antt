@@ -1,6 +1,11 @@
+pub mod Words
 pub mod Chains
 pub mod Privates
-pub mod Steps
+pub mod Heads
+pub mod Writes
+pub mod KeptSound
+pub mod SenderSteps
+pub mod OwnerSteps
 pub mod Schedules
 pub mod Stored
 pub mod Taken

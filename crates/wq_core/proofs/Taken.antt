@@ -14,7 +14,7 @@ use Rattle.wq_core.specs.Machine.{Machine, head, seen_word, reply_to}
 use Rattle.wq_core.specs.Refusal.{IsMade}
 use Rattle.wq_core.specs.Sound.{head_of_list, IsChain, IsSound}
 use Rattle.wq_core.proofs.Chains.{chain_zero}
-use Rattle.wq_core.proofs.Steps.{head_open, head_of_closed}
+use Rattle.wq_core.proofs.Heads.{head_open, head_of_closed}
 
 -- between two calls of the owner the batch is what is taken and has not begun
 pub batch_is : (m : Machine) → IsSound m → m.cursor ≡ None → m.batch ≡ drop (length (begun m.history)) (take (taken m.history) (accepted m.history))

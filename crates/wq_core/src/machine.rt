@@ -2,7 +2,7 @@
 ghost use Rattle.std.specs.Prelude.{◌≡◌, ◌<◌, ◌↔◌, IsTrue, IfOk, IfErr, OnOk, OnErr, length, get_or, Some, None};
 ghost use Rattle.wq_words.specs.declared.layout.Layout.{Layout};
 ghost use Rattle.wq_words.specs.Numbers.{number_count};
-ghost use Rattle.wq_words.specs.History.{accepted_by, begun_by, accepted, begun, Holds, IsClosed, IsRunning};
+ghost use Rattle.wq_words.specs.History.{accepted, begun, Holds, IsClosed, IsRunning};
 ghost use Rattle.wq_core.specs.declared.step.Seat.TheVariants.{Sender, Owner};
 ghost use Rattle.wq_core.specs.declared.step.Step.TheVariants.{Hold, Look, Link, Push, Back, Check, Take, Close, Walk, Begin, End, Chain};
 ghost use Rattle.wq_core.specs.Machine.{opening, IsEnabled, after, reply_to, nothing_seen, private, unlinked};
@@ -10,12 +10,12 @@ ghost use Rattle.wq_core.specs.Sound.{IsSound};
 ghost use Rattle.wq_core.specs.Refusal.{is_senders, IsSeated, IsNumbered, IsPlaced, IsMade, IsRefused};
 
 use crate::place::{
-    HEAD, done_place, head_at, item_place, link_place, number_at, number_count, word, word_count,
+    HEAD, done_place, head_at, item_place, link_place, number_at, word, word_count,
 };
 use crate::step::{Private, Reply, Seat, Step, StepError};
 use std::alloc::{AllocError, Global};
 use std::marker::Model;
-use wq_words::{Event, Layout, Why};
+use wq_words::{Event, Head, Layout, Why};
 
 const NOTHING_SEEN: Private = Private {
     seen: None,
@@ -57,7 +57,7 @@ impl Core {
     pub fn new(alloc: Global, layout: Layout) -> Result<Core, AllocError>
         ensures { IfOk result (λ core. core ≡ opening layout) }
     {
-        let count = number_count(layout);
+        let count = layout.number_count() as usize;
         Ok(Core {
             alloc,
             layout,
@@ -92,7 +92,7 @@ impl Core {
     {
         self.history
             .iter()
-            .filter_map(|event| accepted_by(*event))
+            .filter_map(|event| event.accepted_number())
             .collect(self.alloc)
     }
 
@@ -102,7 +102,7 @@ impl Core {
     {
         self.history
             .iter()
-            .filter_map(|event| begun_by(*event))
+            .filter_map(|event| event.begun_number())
             .collect(self.alloc)
     }
 
@@ -134,8 +134,10 @@ impl Core {
         ensures { IsTrue result ↔ IsEnabled self.now seat step }
     {
         match (seat, step) {
+            (Seat::Sender(_), Step::Hold(_)) => true,
+            (Seat::Sender(_), Step::Look) => true,
             (Seat::Sender(sender), Step::Link(number)) => match self.private(sender).seen {
-                Some(word) => word != u64::MAX && self.is_held(sender, number),
+                Some(word) => word != Head::Closed.to_word() && self.is_held(sender, number),
                 None => false,
             },
             (Seat::Sender(sender), Step::Push(number)) => {
@@ -143,9 +145,10 @@ impl Core {
             }
             (Seat::Sender(sender), Step::Back(number, why)) => {
                 self.is_held(sender, number)
-                    && (why != Why::Closed || self.private(sender).seen == Some(u64::MAX))
+                    && (why != Why::Closed
+                        || self.private(sender).seen == Some(Head::Closed.to_word()))
             }
-            (Seat::Sender(_), _) => true,
+            (Seat::Sender(_), Step::Check(_)) => true,
             (Seat::Owner, Step::Take) => {
                 !self.is_closed() && self.cursor.is_none() && self.batch.is_empty()
             }
@@ -155,7 +158,10 @@ impl Core {
                 self.cursor.is_none() && !self.batch.is_empty() && !self.is_running()
             }
             (Seat::Owner, Step::End) => self.is_running(),
-            (Seat::Owner, _) => self.is_closed() && self.cursor.is_none() && self.is_running(),
+            (Seat::Owner, Step::Chain(_)) => {
+                self.is_closed() && self.cursor.is_none() && self.is_running()
+            }
+            _ => unreachable!(),
         }
     }
 
@@ -169,7 +175,7 @@ impl Core {
     fn is_closed(&self) -> bool
         ensures { IsTrue result ↔ IsClosed self.now.history }
     {
-        word(&self.words, HEAD) == u64::MAX
+        word(&self.words, HEAD) == Head::Closed.to_word()
     }
 
     fn is_running(&self) -> bool
@@ -198,7 +204,7 @@ impl Core {
             (Seat::Sender(sender), Step::Link(number)) => Ok(self.link(sender, number)),
             (Seat::Sender(sender), Step::Push(number)) => self.push(sender, number),
             (Seat::Sender(sender), Step::Back(number, why)) => self.back(sender, number, why),
-            (Seat::Sender(_), Step::Check(number)) => Ok(self.check(number)),
+            (Seat::Sender(sender), Step::Check(number)) => Ok(self.check(sender, number)),
             (Seat::Owner, Step::Take) => self.take(),
             (Seat::Owner, Step::Close) => self.close(),
             (Seat::Owner, Step::Walk) => self.walk(),
@@ -265,10 +271,12 @@ impl Core {
             return Ok(Reply::Lost);
         }
         self.history.push(Event::Push(sender, number))?;
-        self.words[HEAD] = u64::from(number) + 1;
+        self.words[HEAD] = Head::Item(number).to_word();
         self.holders[number as usize] = None;
         self.seats[sender as usize] = NOTHING_SEEN;
-        Ok(Reply::Pushed { first: seen == 0 })
+        Ok(Reply::Pushed {
+            first: seen == Head::Empty.to_word(),
+        })
     }
 
     fn back(&mut self, sender: u32, number: u32, why: Why) -> Result<Reply, AllocError>
@@ -285,9 +293,9 @@ impl Core {
         Ok(Reply::GivenBack)
     }
 
-    fn check(&self, number: u32) -> Reply
-        requires { number < number_count self.now.layout }
-        ensures pending { result ≡ reply_to self.now (Sender 0) (Check number) }
+    fn check(&self, sender: u32, number: u32) -> Reply
+        requires { IsMade self.now (Sender sender) (Check number) }
+        ensures reply { result ≡ reply_to self.now (Sender sender) (Check number) }
     {
         if word(&self.words, item_place(self.layout, number)) == 0 {
             Reply::Idle
@@ -304,7 +312,7 @@ impl Core {
     {
         let head = word(&self.words, HEAD);
         self.history.push(Event::Take)?;
-        self.words[HEAD] = 0;
+        self.words[HEAD] = Head::Empty.to_word();
         self.cursor = number_at(head);
         Ok(Reply::Took(head_at(head)))
     }
@@ -317,7 +325,7 @@ impl Core {
     {
         let head = word(&self.words, HEAD);
         self.history.push(Event::Close)?;
-        self.words[HEAD] = u64::MAX;
+        self.words[HEAD] = Head::Closed.to_word();
         self.cursor = number_at(head);
         Ok(Reply::Closed(head_at(head)))
     }
@@ -329,7 +337,7 @@ impl Core {
         ensures unchanged { OnErr result (self.new ≡ self.old) }
     {
         let Some(number) = self.cursor else {
-            return Ok(Reply::Walked(None));
+            unreachable!()
         };
         let next = number_at(word(&self.words, link_place(number)));
         self.walked.reserve(self.batch.len() + 1)?;
@@ -365,7 +373,7 @@ impl Core {
         ensures unchanged { OnErr result (self.new ≡ self.old) }
     {
         let Some(number) = self.running else {
-            return Ok(Reply::Idle);
+            unreachable!()
         };
         let place = done_place(self.layout);
         let done = word(&self.words, place);
@@ -391,24 +399,6 @@ impl Core {
         self.batch.insert(0, number)?;
         self.words[place] = 1;
         Ok(Reply::Chained)
-    }
-}
-
-fn accepted_by(event: Event) -> Option<u32>
-    ensures { result ≡ accepted_by event }
-{
-    match event {
-        Event::Push(_, number) | Event::Chain(number) => Some(number),
-        _ => None,
-    }
-}
-
-fn begun_by(event: Event) -> Option<u32>
-    ensures { result ≡ begun_by event }
-{
-    match event {
-        Event::Begin(number) => Some(number),
-        _ => None,
     }
 }
 
@@ -439,7 +429,7 @@ fn is_seated(layout: Layout, seat: Seat, step: Step) -> bool
 fn is_numbered(layout: Layout, step: Step) -> bool
     ensures { IsTrue result ↔ IsNumbered layout step }
 {
-    let count = layout.items + layout.barriers + 1;
+    let count = layout.number_count();
     match step {
         Step::Hold(number)
         | Step::Link(number)

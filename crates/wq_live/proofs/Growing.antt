@@ -17,10 +17,6 @@ grows_done c v h xs begins mine all = record {
   theirs = omega arith;
 }
 
--- where nothing happened nothing comes new
-pub grows_none : (c : ℕ) (v : List Event) → Grows c [] 0 v v
-grows_none c v = record { new = []; is = sym (append-nil v); mine = refl; theirs = omega arith }
-
 pub grows_on : (c : ℕ) (xs ys : List Event) (n m k : ℕ) (u v w : List Event) → k ≤ n + m → Grows c xs n u v → Grows c ys m v w → Grows c (xs ++ ys) k u w
 grows_on c xs ys n m k u v w sum a b =
     let cut = others-append c a.new b.new in let a3 = a.theirs in let b3 = b.theirs in record {
@@ -45,7 +41,8 @@ not_own c true e es is = cc
 not_own c false e es is = refl
 
 -- where the head is another and no own event came, another's came
-some_new : (c : ℕ) (v w new : List Event) (n : ℕ) → head_word (head_of v) ≡ n → head_word (head_of w) ≢ n → w ≡ v ++ new → own c new ≡ [] → 1 ≤ length (others c new)
+some_new : (c : ℕ) (v w new : List Event) (n : ℕ) → head_word (head_of v) ≡ n → head_word (head_of w) ≢ n → w ≡ v ++ new → own c new ≡ []
+    → 1 ≤ length (others c new)
 some_new c v w [] n was is e o = absurd (is (ap (λ (x : List Event). head_word (head_of x)) (e ∙ append-nil v) ∙ was))
 some_new c v w (x ∷ xs) n was is e o = let none = not_own c (eqb (seat_of x) c) x xs o in
     subst (λ (b : Bool). 1 ≤ length (cond (not b) (x ∷ others c xs) (others c xs))) (sym none) (omega arith)

@@ -30,7 +30,7 @@ impl From<AllocError> for BuildError {
 // A sender in each seat, numbered from 0.
 fn seat_senders(alloc: Global, layout: Layout, seats: Vec<Chair>) -> Result<Vec<Sender>, BuildError>
     requires seats { (queue : TableId) × (seats.items ≡ sender_chairs queue layout layout.senders) }
-    ensures { (queue : TableId) → seats.items ≡ sender_chairs queue layout layout.senders → IfOk result (λ senders. senders.items ≡ new_senders queue layout layout.senders) }
+    ensures { (queue : TableId) → seats.items ≡ sender_chairs queue layout layout.senders → IfOk result (λ all. all.items ≡ new_senders queue layout layout.senders) }
 {
     let mut senders = Vec::with_capacity(alloc, layout.senders as usize)?;
     let mut number = 0u32;
@@ -58,7 +58,7 @@ fn seat_senders(alloc: Global, layout: Layout, seats: Vec<Chair>) -> Result<Vec<
 pub fn build(alloc: Global, layout: Layout) -> Result<(Owner, Vec<Sender>), BuildError>
     ensures { IfOk result (λ r. (r.0 ≡ new_owner r.0.queue layout) × (r.1.items ≡ new_senders r.0.queue layout layout.senders)) }
 {
-    let count = layout.items as usize + layout.barriers as usize + 1;
+    let count = layout.number_count() as usize;
     let batch = Batch::with_room(alloc, count)?;
     let (chair, seats) = chairs(alloc, layout)?;
     let senders = seat_senders(alloc, layout, seats)?;

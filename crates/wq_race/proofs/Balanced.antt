@@ -44,11 +44,12 @@ use Rattle.wq_words.specs.declared.event.Why.TheVariants as why
 use Rattle.wq_words.specs.Seen.{seat_of, own}
 use Rattle.wq_words.proofs.Seen.{count_own, own-append}
 use Rattle.wq_live.specs.Known.{Known}
-use Rattle.wq_live.specs.Counts.{capped, is_queued_by, is_pending_by, is_closed_by, is_contended_by, sender_counts, owner_counts}
+use Rattle.wq_words.specs.Counting.{is_queued_by, is_pending_by, is_closed_by, is_contended_by}
+use Rattle.wq_live.specs.Counts.{capped, sender_counts, owner_counts}
 use Rattle.wq_worker.specs.declared.book.Ledger.{Ledger}
 use Rattle.wq_worker.specs.declared.balance.Unbalanced.{Unbalanced}
 use Rattle.wq_worker.specs.declared.balance.Unbalanced.TheVariants.{Missing, Twice, Saturated}
-use Rattle.wq_worker.specs.Book.{BookState, IsMade}
+use Rattle.wq_worker.specs.Book.{BookState, IsLedgerOf}
 use Rattle.wq_worker.specs.Balance.{largest, AreWhole, AreOwnerWhole, ledgers_of, HasOne, IsFault, IsUnbalanced, of_sender, of_worker}
 use Rattle.wq_race.specs.Outcome.{ledger_of}
 use Rattle.wq_race.proofs.Whole.{queued_own}
@@ -196,7 +197,7 @@ always_balanced book ledgers ones mine owners fault (of_sender f) = no_fault led
 always_balanced book ledgers ones mine owners fault (of_worker have not is) = not (mine, owners)
 
 -- a book made the ledger of a sender that made no event
-pub none_made : (h : List Event) (l : Ledger) → IsMade h l → own l.number h ≡ [] → AreWhole l.counts
+pub none_made : (h : List Event) (l : Ledger) → IsLedgerOf h l → own l.number h ≡ [] → AreWhole l.counts
 none_made h l m none =
     let front : own l.number m.met ≡ [] = left (own l.number m.met) (own l.number m.before.0) (sym (own-append l.number m.met m.before.0)
     ∙ (ap (own l.number) m.before.1 ∙ none)) in

@@ -42,17 +42,18 @@ use Rattle.wq_words.specs.declared.event.Why.TheVariants as why
 use Rattle.wq_words.specs.History.{is_close, is_push, accepted, begun, ended}
 use Rattle.wq_words.specs.Legal.{IsLegal}
 use Rattle.wq_words.proofs.Order.{in_order}
-use Rattle.wq_words.proofs.Headlines.{prefix_whole}
+use Rattle.wq_words.proofs.Prefixes.{prefix_whole}
 use Rattle.wq_words.specs.Seen.{own}
 use Rattle.wq_words.proofs.Seen.{own-append, closed_count, ended_same}
 use Rattle.wq_live.specs.Known.{Known}
-use Rattle.wq_live.specs.Counts.{is_queued_by, is_chain, is_chain_busy, sender_counts, owner_counts}
-use Rattle.wq_worker.specs.Book.{BookState, IsMade}
+use Rattle.wq_words.specs.Counting.{is_queued_by, is_chain, is_chain_busy}
+use Rattle.wq_live.specs.Counts.{sender_counts, owner_counts}
+use Rattle.wq_worker.specs.Book.{BookState, IsLedgerOf}
 use Rattle.wq_worker.specs.declared.book.Ledger.{Ledger}
 use Rattle.wq_worker.specs.declared.balance.Unbalanced.{Unbalanced}
 use Rattle.wq_worker.specs.Balance.{AreWhole, AreOwnerWhole, ledgers_of, HasOne, IsUnbalanced}
-use Rattle.wq_worker.proofs.Balancing.{is_queued_below, below_more, below_all, length-accepted_pushes}
-use Rattle.wq_worker.specs.State.{WorkerState, items_of}
+use Rattle.wq_worker.proofs.Pushes.{is_queued_below, below_more, below_all, length-accepted_pushes}
+use Rattle.wq_worker.specs.State.{WorkerState, items_among}
 use Rattle.wq_worker.specs.Follow.{Follows}
 use Rattle.wq_worker.proofs.Owned.{count_by-append}
 use Rattle.wq_worker.proofs.Draining.{begun-complete}
@@ -174,11 +175,11 @@ module _ (plan : Plan) (team : Team) (w : WorkerState Idle) (senders : List Know
   pub all_counted : All (λ (s : Known). (sender_counts s.number s.seen).queued ≡ plan.own) senders
   all_counted i d lt = counted i d (omega (arith, lt, senders_count))
 
-  accepted_all : length (items_of team.worker.layout (accepted book.seen)) ≡ plan.senders * plan.own
+  accepted_all : length (items_among team.worker.layout (accepted book.seen)) ≡ plan.senders * plan.own
   accepted_all = all_accepted plan.senders plan.own team.worker.layout book.seen is_race
 
   pub ran_all : min (length work.ran.items) 18446744073709551615 ≡ plan.senders * plan.own
-  ran_all = omega (arith, ap (length {A = ℕ}) (o.ended.ran_is ∙ ap (λ (l : Layout). items_of l (accepted book.seen)) size), accepted_all, few_items)
+  ran_all = omega (arith, ap (length {A = ℕ}) (o.ended.ran_is ∙ ap (λ (l : Layout). items_among l (accepted book.seen)) size), accepted_all, few_items)
 
   ended_all : ended book.seen ≡ accepted book.seen
   ended_all =
@@ -198,7 +199,7 @@ module _ (plan : Plan) (team : Team) (w : WorkerState Idle) (senders : List Know
     queued = was_queued plan.senders plan.own team.worker.layout book.seen is_race;
     served = (team.worker.seen, prefix_on team.worker.seen w.seen book.seen o.met.begins o.ended.begins, o.run.open_still, o.run.stopped);
     accepted_is = whole.accepted_is ∙ sym accepted_all;
-    ran_is = whole.ran_is ∙ (sym accepted_all ∙ ap (λ (ks : List ℕ). length (items_of team.worker.layout ks)) (sym ended_all));
+    ran_is = whole.ran_is ∙ (sym accepted_all ∙ ap (λ (ks : List ℕ). length (items_among team.worker.layout ks)) (sym ended_all));
   }
 
   few_own_events : (s : ℕ) (d : Known) → s < plan.senders → length (own (get_or senders s d).number (get_or senders s d).seen) < 2 ^ 64 - 1
@@ -244,7 +245,7 @@ module _ (plan : Plan) (team : Team) (w : WorkerState Idle) (senders : List Know
       )
 
   -- whatever the book has met since, the ledgers balance
-  pub never_unbalanced : (final : BookState) (ledgers : List Ledger) → IsMade book.seen book.own → HasHeard book final
+  pub never_unbalanced : (final : BookState) (ledgers : List Ledger) → IsLedgerOf book.seen book.own → HasHeard book final
       → ledgers ≡ map ledger_of senders ++ ledger_of team.program ∷ [] → (fault : Unbalanced) → ¬ IsUnbalanced final ledgers fault
   never_unbalanced final ledgers made heard all fault =
       let n = plan.senders in

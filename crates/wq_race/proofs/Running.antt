@@ -10,7 +10,7 @@ use Rattle.wq_words.specs.History.{IsRunning, is_close}
 use Rattle.wq_words.specs.Seen.{owner_seat, own, Grows}
 use Rattle.wq_words.proofs.Seen.{closed_count, begun_same}
 use Rattle.wq_live.specs.Known.{Known, new_sender, new_senders}
-use Rattle.wq_live.specs.Counts.{is_chain, is_chain_busy}
+use Rattle.wq_words.specs.Counting.{is_chain, is_chain_busy}
 use Rattle.wq_worker.specs.Follow.{Follows}
 use Rattle.wq_worker.specs.State.{WorkerState}
 use Rattle.wq_race.specs.declared.idle.Idle.{Idle}

@@ -38,20 +38,21 @@ use Rattle.wq_words.specs.Numbers.{stop_number}
 use Rattle.wq_words.specs.Legal.{IsLegal, IsComplete}
 use Rattle.wq_words.specs.Seen.{owner_seat, seat_of, own}
 use Rattle.wq_words.proofs.Seen.{own-append, own_none, count_own}
-use Rattle.wq_live.specs.Counts.{is_chain, is_chain_busy}
+use Rattle.wq_words.specs.Counting.{is_chain, is_chain_busy}
 use Rattle.wq_live.specs.Batch.{next_of}
 use Rattle.wq_worker.specs.declared.ran.Ran.{Ran}
 use Rattle.wq_worker.specs.declared.ran.Ran.TheVariants.{Item, Barrier, Stop, Nothing, Owing}
-use Rattle.wq_worker.specs.Seats.{is_ours, taking, taking_of}
+use Rattle.wq_words.specs.Seen.{is_ours}
+use Rattle.wq_worker.specs.Seats.{taking, taking_of}
 use Rattle.wq_worker.specs.Follow.{Follows}
-use Rattle.wq_worker.specs.State.{WorkerState, items_of, Moves}
+use Rattle.wq_worker.specs.State.{WorkerState, items_among, Moves}
 use Rattle.wq_worker.specs.Step.{Starts, item, other, owed, Ends, ends, Owes, owes, Runs}
 use Rattle.wq_worker.specs.Rows.{Row, none, more, IsExecution, IsNotStop, Serves, Closes, was_closed, closes}
 use Rattle.wq_worker.proofs.Owned.{count_by-append, filter-filter, owner_of_both, stays}
 use Rattle.wq_worker.proofs.Running.{runs_some}
 use Rattle.wq_worker.proofs.State.{quiet_taking}
 use Rattle.wq_race.specs.declared.idle.Idle.{Idle}
-use Rattle.wq_worker.specs.Book.{BookState, Destroys, Leaves}
+use Rattle.wq_worker.specs.Book.{BookState, Destroys, LeavesUnfinished}
 use Rattle.wq_race.specs.Race.{HasServed}
 use Rattle.wq_race.specs.Outcome.{HasGoneOn, HasEnded}
 
@@ -313,7 +314,7 @@ module _ (may : Idle → ℕ → List ℕ → Idle → Type 0) (asks_nothing : (
   }
 
   pub leaves_on : (log : Idle → List ℕ) (limit : ℕ) (a b : WorkerState Idle) (left : ℕ) → a.number ≢ owner_seat → ¬ IsRunning a.seen
-      → IsLegal a.layout a.seen → Leaves log may limit a b left → HasGoneOn a b
+      → IsLegal a.layout a.seen → LeavesUnfinished log may limit a b left → HasGoneOn a b
   leaves_on log limit a b left not idle legal l =
       let first = closes_plain a l.closed not idle l.closes in
       let rest = row_plain IsExecution limit l.closed b (subst (λ (s : ℕ). s ≢ owner_seat) (sym first.1.number_is) not) first.1.idle l.row in
@@ -328,14 +329,14 @@ module _ (may : Idle → ℕ → List ℕ → Idle → Type 0) (asks_nothing : (
       let all = plain_on first.0 0 a d.closed d.last first.1 rest in
       let seen = sym d.seen_is in
       record {
-        queue_is = d.queue_is ∙ all.queue_is;
-        layout_is = d.layout_is ∙ all.layout_is;
-        number_is = d.own_is ∙ all.number_is;
+        queue_is = d.queue_is;
+        layout_is = d.layout_is;
+        number_is = d.own_is;
         begins = subst (λ (h : List Event). IsPrefix a.seen h) seen all.begins;
         unsent = subst (λ (h : List Event). own a.number h ≡ own a.number a.seen) seen all.unsent;
         unchained = subst (λ (h : List Event). count_by is_chain h ≡ count_by is_chain a.seen) seen all.unchained;
         unasked = subst (λ (h : List Event). count_by is_chain_busy h ≡ count_by is_chain_busy a.seen) seen all.unasked;
-        legal = subst (λ (h : List Event). IsLegal book.layout h) seen (subst (λ (l : Layout). IsLegal l d.last.seen) (sym d.layout_is) (all.legal legal));
+        legal = d.legal;
         complete = subst (λ (h : List Event). IsComplete h) seen d.complete;
-        ran_is = sym (log_is work) ∙ (d.ran_accepted ∙ (λ i. items_of (sym d.layout_is i) (accepted (seen i))));
+        ran_is = sym (log_is work) ∙ d.ran_accepted;
       }

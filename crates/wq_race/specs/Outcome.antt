@@ -7,13 +7,14 @@ use Rattle.wq_words.specs.declared.event.Event.TheVariants.{Hold, Push}
 use Rattle.wq_words.specs.History.{accepted, ended, is_close, IsRunning}
 use Rattle.wq_words.specs.Legal.{IsLegal, IsComplete}
 use Rattle.wq_words.specs.Seen.{own, owner_seat}
-use Rattle.wq_worker.specs.State.{WorkerState, items_of}
+use Rattle.wq_worker.specs.State.{WorkerState, items_among}
 use Rattle.wq_race.specs.declared.idle.Idle.{Idle}
 use Rattle.wq_race.specs.declared.plan.Plan.{Plan}
 use Rattle.wq_race.specs.declared.outcome.Outcome.{Outcome}
 use Rattle.wq_race.specs.Race.{items_at, EndsWithStop}
 use Rattle.wq_live.specs.Known.{Known, IsSame}
-use Rattle.wq_live.specs.Counts.{is_chain, is_chain_busy, sender_counts}
+use Rattle.wq_words.specs.Counting.{is_chain, is_chain_busy}
+use Rattle.wq_live.specs.Counts.{sender_counts}
 use Rattle.wq_worker.specs.declared.book.Ledger.{Ledger}
 use Rattle.wq_worker.specs.Book.{BookState}
 
@@ -41,8 +42,8 @@ pub record Tells (plan : Plan) (worker : WorkerState Idle) (outcome : Outcome) :
   pub complete : IsComplete history
   pub queued : (s : ℕ) → s < plan.senders → own s history ≡ queueings s (items_at s plan.own)
   pub served : (front : List Event) × IsPrefix front history × (count_by is_close front ≡ 0) × EndsWithStop worker.layout front
-  pub accepted_is : outcome.accepted ≡ length (items_of worker.layout (accepted history))
-  pub ran_is : outcome.ran ≡ length (items_of worker.layout (ended history))
+  pub accepted_is : outcome.accepted ≡ length (items_among worker.layout (accepted history))
+  pub ran_is : outcome.ran ≡ length (items_among worker.layout (ended history))
 
 -- each item of the plan was accepted once and ran once, and the ledgers balance
 pub record IsWhole (plan : Plan) (outcome : Outcome) : Type 0 where
@@ -94,7 +95,7 @@ pub record HasEnded (old : WorkerState Idle) (work : Idle) (book : BookState) : 
   pub unasked : count_by is_chain_busy book.seen ≡ count_by is_chain_busy old.seen
   pub legal : IsLegal book.layout book.seen
   pub complete : IsComplete book.seen
-  pub ran_is : work.ran.items ≡ items_of book.layout (accepted book.seen)
+  pub ran_is : work.ran.items ≡ items_among book.layout (accepted book.seen)
 
 -- the ledger of a sender that makes no event more
 abbrev pub ledger_of : Known → Ledger

@@ -11,7 +11,7 @@ use Rattle.wq_words.specs.Legal.{IsLegal}
 use Rattle.wq_words.specs.Seen.{own, Grows}
 use Rattle.wq_live.specs.declared.sender.Sender.{Sender}
 use Rattle.wq_live.specs.Known.{Known, IsSame}
-use Rattle.wq_live.specs.Counts.{is_chain, is_chain_busy}
+use Rattle.wq_words.specs.Counting.{is_chain, is_chain_busy}
 use Rattle.wq_worker.specs.Follow.{Follows}
 use Rattle.wq_worker.specs.State.{WorkerState}
 use Rattle.wq_race.specs.declared.idle.Idle.{Idle}

@@ -1,22 +1,26 @@
 //! The seats of a queue, and their atomic steps.
-ghost use Rattle.std.specs.Prelude.{◌≡◌, ◌≢◌, ℕ, ◌<◌};
+ghost use Rattle.std.specs.Prelude.{◌≡◌, ◌≢◌, ℕ, ◌+◌, ◌%◌, ◌^◌, ◌<◌, ◌==◌, List, [], ◌∷◌, bit_or, bit_and};
+ghost use prog.Atomic.{either};
+ghost use Rattle.wq_table.specs.declared.table.Part.{Part};
+ghost use Rattle.wq_table.specs.Plays.{Performs};
 ghost use Rattle.wq_words.specs.Numbers.{number_count};
 ghost use Rattle.wq_words.specs.declared.event.Why.TheVariants.{Closed, Contended, Cancelled};
 ghost use Rattle.wq_words.specs.History.{Holds, IsClosed, IsRunning};
-ghost use Rattle.wq_core.specs.Words.{item_place, closed_word};
+ghost use Rattle.wq_core.specs.Words.{word_count, closed_word};
 ghost use Rattle.wq_core.specs.declared.step.Step.TheVariants.{Hold, Look, Link, Push, Back, Check, Take, Close, Walk, Begin, End, Chain};
 ghost use Rattle.wq_table.specs.Chair.{IsSender, HasSeen, HasLinked, HasNone, IsOwner, IsToWalk, IsToBegin, IsRested, Steps, Meet, MeetAll};
 
 use super::table::{
-    Begins, Both, Cancels, Chains, Checks, Closes, Ends, FindsClosed, GivesUp, Links, Looks, Marks,
-    Meets, Off, Part, Pushes, Seated, Takes, Walks, Words,
+    Begins, Both, Cancels, Chains, Checks, Closes, Ends, FindsClosed, GivesUp, Kind, Links, Looks,
+    Makes, Marks, Meets, Off, Part, Pushes, Seated, Takes, Walks, Words,
 };
 use atomic_table::Badge;
 use std::collections::LinkedList;
 use std::marker::Model;
 use std::mem::replace;
 use std::sync::Arc;
-use wq_words::Layout;
+use wq_core::place::{HEAD, done_place, item_place, link_place};
+use wq_words::{Head, Layout};
 
 /// A seat of a queue: a sender's or the owner's. Each of its steps is one operation on one word of the table.
 #[derive(Drop)]
@@ -38,12 +42,105 @@ impl Model for Chair {
     ghost invariant = { Sits };
 }
 
-// Where the item word of a number stands.
-fn item_place(layout: &Layout, number: u32) -> usize
-    requires { number < number_count layout.now }
-    ensures { result ≡ item_place (number_count layout.now) number }
+// The seat that a badge keeps. It leaves a blank one.
+fn rise(badge: &mut Badge<LinkedList<Part>>) -> Seated
+    requires { (v : List Part) × (badge.old.views ≡ v ∷ []) }
+    ensures table { result.table_id ≡ badge.old.table_id }
+    ensures view { badge.old.views ≡ result.me.0 ∷ [] }
+    ensures none { result.me.1 ≡ [] }
 {
-    1 + (layout.items as usize + layout.barriers as usize + 1) + number as usize
+    replace(badge, Badge::blank()).into_seat()
+}
+
+// One operation each on the word at a place. The kind says which step of the seat it is.
+impl Chair {
+    fn load<K: Kind>(&mut self, place: usize) -> u64
+        requires place { place < word_count (number_count self.old.part.layout) }
+        requires performs { Performs self.old.part (K.step place 0 self.old.part.layout) place (λ n. n) (λ n. n) }
+        ensures { Steps (K.step place 0 self.old.part.layout) result self.old self.new }
+    {
+        let mut seat = rise(&mut self.badge);
+        let found = self.words.shared.load::<Makes<K>>(&mut seat, place);
+        self.badge = seat.into_badge();
+        found
+    }
+
+    fn store<K: Kind>(&mut self, place: usize, new: u64)
+        requires place { place < word_count (number_count self.old.part.layout) }
+        requires performs { Performs self.old.part (K.step place 0 self.old.part.layout) place (λ n. new) (λ n. new) }
+        ensures { Steps (K.step place 0 self.old.part.layout) new self.old self.new }
+    {
+        let mut seat = rise(&mut self.badge);
+        self.words.shared.store::<Makes<K>>(&mut seat, place, new);
+        self.badge = seat.into_badge();
+    }
+
+    fn swap<K: Kind>(&mut self, place: usize, new: u64) -> u64
+        requires place { place < word_count (number_count self.old.part.layout) }
+        requires performs { Performs self.old.part (K.step place 0 self.old.part.layout) place (λ n. new) (λ n. n) }
+        ensures { Steps (K.step place 0 self.old.part.layout) result self.old self.new }
+    {
+        let mut seat = rise(&mut self.badge);
+        let found = self.words.shared.swap::<Makes<K>>(&mut seat, place, new);
+        self.badge = seat.into_badge();
+        found
+    }
+
+    fn exchange<K: Kind>(&mut self, place: usize, old: u64, new: u64) -> u64
+        requires place { place < word_count (number_count self.old.part.layout) }
+        requires performs { Performs self.old.part (K.step place new self.old.part.layout) place (λ n. either (n == old) new n) (λ n. n) }
+        ensures { Steps (K.step place new self.old.part.layout) result self.old self.new }
+    {
+        let mut seat = rise(&mut self.badge);
+        let found = self
+            .words
+            .shared
+            .compare_exchange::<Makes<K>>(&mut seat, place, old, new);
+        self.badge = seat.into_badge();
+        found
+    }
+
+    fn or<K: Kind>(&mut self, place: usize, bits: u64) -> u64
+        requires place { place < word_count (number_count self.old.part.layout) }
+        requires performs { Performs self.old.part (K.step place 0 self.old.part.layout) place (λ n. bit_or n bits) (λ n. n) }
+        ensures { Steps (K.step place 0 self.old.part.layout) result self.old self.new }
+    {
+        let mut seat = rise(&mut self.badge);
+        let found = self
+            .words
+            .shared
+            .fetch_or::<Makes<K>>(&mut seat, place, bits);
+        self.badge = seat.into_badge();
+        found
+    }
+
+    fn and<K: Kind>(&mut self, place: usize, bits: u64) -> u64
+        requires place { place < word_count (number_count self.old.part.layout) }
+        requires performs { Performs self.old.part (K.step place 0 self.old.part.layout) place (λ n. bit_and n bits) (λ n. n) }
+        ensures { Steps (K.step place 0 self.old.part.layout) result self.old self.new }
+    {
+        let mut seat = rise(&mut self.badge);
+        let found = self
+            .words
+            .shared
+            .fetch_and::<Makes<K>>(&mut seat, place, bits);
+        self.badge = seat.into_badge();
+        found
+    }
+
+    fn add<K: Kind>(&mut self, place: usize, more: u64) -> u64
+        requires place { place < word_count (number_count self.old.part.layout) }
+        requires performs { Performs self.old.part (K.step place 0 self.old.part.layout) place (λ n. (n + more) % 2 ^ 64) (λ n. n) }
+        ensures { Steps (K.step place 0 self.old.part.layout) result self.old self.new }
+    {
+        let mut seat = rise(&mut self.badge);
+        let found = self
+            .words
+            .shared
+            .fetch_add::<Makes<K>>(&mut seat, place, more);
+        self.badge = seat.into_badge();
+        found
+    }
 }
 
 impl Chair {
@@ -53,11 +150,8 @@ impl Chair {
         requires number { number < number_count self.old.part.layout }
         ensures { Steps (Hold number) result self.old self.new }
     {
-        let place = item_place(&self.layout, number);
-        let mut seat: Seated = replace(&mut self.badge, Badge::blank()).into_seat();
-        let found = self.words.shared.fetch_or::<Marks>(&mut seat, place, 1);
-        self.badge = seat.into_badge();
-        found
+        let place = item_place(self.layout, number);
+        self.or::<Marks>(place, 1)
     }
 
     /// A sender loads the head.
@@ -65,10 +159,7 @@ impl Chair {
         requires sender { IsSender self.old.part.stage }
         ensures { Steps Look result self.old self.new }
     {
-        let mut seat: Seated = replace(&mut self.badge, Badge::blank()).into_seat();
-        let found = self.words.shared.load::<Looks>(&mut seat, 0);
-        self.badge = seat.into_badge();
-        found
+        self.load::<Looks>(HEAD)
     }
 
     /// A sender stores the head that it saw as the link of a number that it holds.
@@ -79,11 +170,8 @@ impl Chair {
         requires open { seen ≢ closed_word }
         ensures { Steps (Link number) seen self.old self.new }
     {
-        let mut seat: Seated = replace(&mut self.badge, Badge::blank()).into_seat();
-        self.words
-            .shared
-            .store::<Links>(&mut seat, 1 + number as usize, seen);
-        self.badge = seat.into_badge();
+        let place = link_place(number);
+        self.store::<Links>(place, seen);
     }
 
     /// A sender exchanges the head that it saw for the number that it linked to it, and learns the head as it was.
@@ -92,13 +180,8 @@ impl Chair {
         requires linked { HasLinked seen number self.old.part.stage }
         ensures { Steps (Push number) result self.old self.new }
     {
-        let mut seat: Seated = replace(&mut self.badge, Badge::blank()).into_seat();
-        let found = self
-            .words
-            .shared
-            .compare_exchange::<Pushes>(&mut seat, 0, seen, number as u64 + 1);
-        self.badge = seat.into_badge();
-        found
+        let word = Head::Item(number).to_word();
+        self.exchange::<Pushes>(HEAD, seen, word)
     }
 
     /// A sender that saw the queue closed clears the PENDING bit of a number that it holds.
@@ -108,12 +191,8 @@ impl Chair {
         requires closed { HasSeen closed_word self.old.part.stage }
         ensures { (word : ℕ) × Steps (Back number Closed) word self.old self.new }
     {
-        let place = item_place(&self.layout, number);
-        let mut seat: Seated = replace(&mut self.badge, Badge::blank()).into_seat();
-        self.words
-            .shared
-            .fetch_and::<FindsClosed>(&mut seat, place, 0);
-        self.badge = seat.into_badge();
+        let place = item_place(self.layout, number);
+        self.and::<FindsClosed>(place, 0);
     }
 
     /// A sender whose tries were all lost clears the PENDING bit of a number that it holds.
@@ -123,10 +202,8 @@ impl Chair {
         requires held { Holds self.old.part.seen self.old.part.seat number }
         ensures { (word : ℕ) × Steps (Back number Contended) word self.old self.new }
     {
-        let place = item_place(&self.layout, number);
-        let mut seat: Seated = replace(&mut self.badge, Badge::blank()).into_seat();
-        self.words.shared.fetch_and::<GivesUp>(&mut seat, place, 0);
-        self.badge = seat.into_badge();
+        let place = item_place(self.layout, number);
+        self.and::<GivesUp>(place, 0);
     }
 
     /// A sender clears the PENDING bit of a number that it holds.
@@ -136,10 +213,8 @@ impl Chair {
         requires held { Holds self.old.part.seen self.old.part.seat number }
         ensures { (word : ℕ) × Steps (Back number Cancelled) word self.old self.new }
     {
-        let place = item_place(&self.layout, number);
-        let mut seat: Seated = replace(&mut self.badge, Badge::blank()).into_seat();
-        self.words.shared.fetch_and::<Cancels>(&mut seat, place, 0);
-        self.badge = seat.into_badge();
+        let place = item_place(self.layout, number);
+        self.and::<Cancels>(place, 0);
     }
 
     /// A sender loads an item word.
@@ -148,11 +223,8 @@ impl Chair {
         requires number { number < number_count self.old.part.layout }
         ensures { Steps (Check number) result self.old self.new }
     {
-        let place = item_place(&self.layout, number);
-        let mut seat: Seated = replace(&mut self.badge, Badge::blank()).into_seat();
-        let found = self.words.shared.load::<Checks>(&mut seat, place);
-        self.badge = seat.into_badge();
-        found
+        let place = item_place(self.layout, number);
+        self.load::<Checks>(place)
     }
 
     /// The owner takes the whole list, and learns the head as it was.
@@ -162,10 +234,8 @@ impl Chair {
         requires empty { HasNone self.old.part.stage }
         ensures { Steps Take result self.old self.new }
     {
-        let mut seat: Seated = replace(&mut self.badge, Badge::blank()).into_seat();
-        let found = self.words.shared.swap::<Takes>(&mut seat, 0, 0);
-        self.badge = seat.into_badge();
-        found
+        let word = Head::Empty.to_word();
+        self.swap::<Takes>(HEAD, word)
     }
 
     /// The owner takes the whole list and leaves the closed mark.
@@ -174,10 +244,8 @@ impl Chair {
         requires rested { IsRested self.old.part.stage }
         ensures { Steps Close result self.old self.new }
     {
-        let mut seat: Seated = replace(&mut self.badge, Badge::blank()).into_seat();
-        let found = self.words.shared.swap::<Closes>(&mut seat, 0, u64::MAX);
-        self.badge = seat.into_badge();
-        found
+        let word = Head::Closed.to_word();
+        self.swap::<Closes>(HEAD, word)
     }
 
     /// The owner loads the link of the number that it walks next.
@@ -186,13 +254,8 @@ impl Chair {
         requires next { IsToWalk number self.old.part.stage }
         ensures { Steps Walk result self.old self.new }
     {
-        let mut seat: Seated = replace(&mut self.badge, Badge::blank()).into_seat();
-        let found = self
-            .words
-            .shared
-            .load::<Walks>(&mut seat, 1 + number as usize);
-        self.badge = seat.into_badge();
-        found
+        let place = link_place(number);
+        self.load::<Walks>(place)
     }
 
     /// The owner clears the PENDING bit of the oldest number of its batch, which then runs.
@@ -202,10 +265,8 @@ impl Chair {
         requires rests { ¬ IsRunning self.old.part.seen }
         ensures { (word : ℕ) × Steps Begin word self.old self.new }
     {
-        let place = item_place(&self.layout, number);
-        let mut seat: Seated = replace(&mut self.badge, Badge::blank()).into_seat();
-        self.words.shared.fetch_and::<Begins>(&mut seat, place, 0);
-        self.badge = seat.into_badge();
+        let place = item_place(self.layout, number);
+        self.and::<Begins>(place, 0);
     }
 
     /// The owner counts the execution that runs as ended.
@@ -214,10 +275,8 @@ impl Chair {
         requires runs { IsRunning self.old.part.seen }
         ensures { (word : ℕ) × Steps End word self.old self.new }
     {
-        let place = 1 + 2 * (self.layout.items as usize + self.layout.barriers as usize + 1);
-        let mut seat: Seated = replace(&mut self.badge, Badge::blank()).into_seat();
-        self.words.shared.fetch_add::<Ends>(&mut seat, place, 1);
-        self.badge = seat.into_badge();
+        let place = done_place(self.layout);
+        self.add::<Ends>(place, 1);
     }
 
     /// The owner sets the PENDING bit of an item of the closed queue, and learns its item word as it was.
@@ -228,11 +287,8 @@ impl Chair {
         requires runs { IsRunning self.old.part.seen }
         ensures { Steps (Chain number) result self.old self.new }
     {
-        let place = item_place(&self.layout, number);
-        let mut seat: Seated = replace(&mut self.badge, Badge::blank()).into_seat();
-        let found = self.words.shared.fetch_or::<Chains>(&mut seat, place, 1);
-        self.badge = seat.into_badge();
-        found
+        let place = item_place(self.layout, number);
+        self.or::<Chains>(place, 1)
     }
 
     /// Two seats of one queue meet: afterwards each has seen all that has happened.
@@ -240,11 +296,11 @@ impl Chair {
         requires { self.old.queue ≡ other.old.queue }
         ensures { Meet self.old other.old self.new other.new }
     {
+        let theirs = rise(&mut other.badge);
         let words = &self.words.shared;
-        let mut seat: Seated = replace(&mut self.badge, Badge::blank()).into_seat();
-        let theirs: Seated = replace(&mut other.badge, Badge::blank()).into_seat();
+        let mut seat = rise(&mut self.badge);
         words.join_seat::<Both>(&mut seat, theirs);
-        words.load::<Meets>(&mut seat, 0);
+        words.load::<Meets>(&mut seat, HEAD);
         let theirs = words.split_seat::<Off>(&mut seat);
         other.badge = theirs.into_badge();
         self.badge = seat.into_badge();
@@ -256,13 +312,13 @@ impl Chair {
         requires third { self.old.queue ≡ third.old.queue }
         ensures { MeetAll self.old other.old third.old self.new other.new third.new }
     {
+        let others = rise(&mut other.badge);
+        let thirds = rise(&mut third.badge);
         let words = &self.words.shared;
-        let mut seat: Seated = replace(&mut self.badge, Badge::blank()).into_seat();
-        let others: Seated = replace(&mut other.badge, Badge::blank()).into_seat();
-        let thirds: Seated = replace(&mut third.badge, Badge::blank()).into_seat();
+        let mut seat = rise(&mut self.badge);
         words.join_seat::<Both>(&mut seat, others);
         words.join_seat::<Both>(&mut seat, thirds);
-        words.load::<Meets>(&mut seat, 0);
+        words.load::<Meets>(&mut seat, HEAD);
         let thirds = words.split_seat::<Off>(&mut seat);
         let others = words.split_seat::<Off>(&mut seat);
         third.badge = thirds.into_badge();

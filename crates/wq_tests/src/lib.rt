@@ -3,6 +3,18 @@
 #![tactic(auto)]
 
 #[cfg(test)]
+mod delay;
+#[cfg(test)]
+mod live;
+#[cfg(test)]
+mod machine;
+#[cfg(test)]
 mod mains;
 #[cfg(test)]
 mod race;
+#[cfg(test)]
+mod script;
+#[cfg(test)]
+mod text;
+#[cfg(test)]
+mod words;

@@ -7,16 +7,11 @@ use Rattle.wq_core.specs.declared.step.Seat.TheVariants as seat
 use Rattle.wq_core.specs.declared.step.Step.{Step}
 use Rattle.wq_core.specs.declared.step.Step.TheVariants as step
 use Rattle.wq_core.specs.Refusal.{IsPlaced, IsSeated, IsNumbered}
-use Rattle.wq_text.specs.declared.header.Header.{Header}
-use Rattle.wq_text.specs.Sound.{HasNumbers}
 use Rattle.wq_text.specs.Turn.{Turn}
 use mathlib.Core.Bool.{Bool-set}
 
 abbrev pub PlacedIn : Layout → Turn → Type 0
 PlacedIn layout turn = IsPlaced layout turn.0 turn.1
-
-abbrev pub TurnFits : Header → Turn → Type 0
-TurnFits header turn = (layout : Layout) → HasNumbers layout header → PlacedIn layout turn
 
 -- a turn is placed in one way at most, and so are all of a list
 IsSeated-prop : (layout : Layout) (s : Seat) (st : Step) → IsProp (IsSeated layout s st)

@@ -8,7 +8,7 @@ use Rattle.wq_live.specs.Known.{Known}
 use Rattle.wq_live.proofs.Tells.{Tells}
 use Rattle.wq_live.proofs.Owned.{running_begun, closed_quiet, counts_quiet}
 use Rattle.wq_live.proofs.Waiting.{stands_next}
-use Rattle.wq_live.proofs.Executes.{makes_stands, begin_tells, begin_stage, owner_batch, owner_idle, owner_grows, owner_sees}
+use Rattle.wq_live.proofs.OwnerTells.{makes_stands, begin_tells, begin_stage, owner_batch, owner_idle, owner_grows, owner_sees}
 use Rattle.wq_live.proofs.owner.Owner.begin.Goals as goal
 
 some_length : (xs : List ℕ) → xs ≢ [] → 0 < length xs
@@ -27,7 +27,8 @@ begin-requires-clause-number c = let s = c.self.inside in
     stands_next s.chair.part c.in-Some.number c.pop.new.self.items c.self.invariant.stands (c.self.invariant.stage_is ∙ ap (Owns None []) items)
 
 pub invariant_of-self : goal.invariant_of-self
-invariant_of-self c = let s = c.self.inside in let o = c.self.invariant in let k = c.in-Some.number in let rest = c.pop.new.self.items in let p = s.chair.part in let q = c.begin.new.self.part in let makes = c.begin.ensures.1.makes in
+invariant_of-self c = let s = c.self.inside in let o = c.self.invariant in let k = c.in-Some.number in let rest = c.pop.new.self.items in
+    let p = s.chair.part in let q = c.begin.new.self.part in let makes = c.begin.ensures.1.makes in
     let items : s.batch.items ≡ k ∷ rest = c.in-Some.ensures.items in let stage : p.stage ≡ Owns None [] (k ∷ rest) = o.stage_is ∙ ap (Owns None []) items in
     let told : Tells (Begin k ∷ []) p q = begin_tells k c.begin.ensures.0 p q rest o.number_is stage makes in
     let t = record s { chair = c.begin.new.self; batch = c.pop.new.self; running = Some k } in let g = owner_grows (Begin k ∷ []) 0 s t o told in
@@ -48,7 +49,9 @@ returns-clause-next c = let s = c.self.inside in let items : s.batch.items ≡ c
     ap (λ (xs : List ℕ). slice_get xs 0) (sym (owner_batch s c.args.self.now c.self.view_is c.self.invariant) ∙ items)
 
 pub returns-clause-seen : goal.returns-clause-seen
-returns-clause-seen c = let s = c.self.inside in let o = c.self.invariant in let k = c.in-Some.number in let rest = c.pop.new.self.items in let p = s.chair.part in let q = c.begin.new.self.part in let makes = c.begin.ensures.1.makes in
+returns-clause-seen c = let s = c.self.inside in let o = c.self.invariant in let k = c.in-Some.number in let rest = c.pop.new.self.items in
+    let p = s.chair.part in let q = c.begin.new.self.part in let makes = c.begin.ensures.1.makes in
     let items : s.batch.items ≡ k ∷ rest = c.in-Some.ensures.items in let stage : p.stage ≡ Owns None [] (k ∷ rest) = o.stage_is ∙ ap (Owns None []) items in
     let told : Tells (Begin k ∷ []) p q = begin_tells k c.begin.ensures.0 p q rest o.number_is stage makes in
-    let t = record s { chair = c.begin.new.self; batch = c.pop.new.self; running = Some k } in owner_sees (Begin k ∷ []) 0 s t c.args.self.now c.self.view_is o refl c.begin.ensures.1.queue_is told
+    let t = record s { chair = c.begin.new.self; batch = c.pop.new.self; running = Some k } in
+    owner_sees (Begin k ∷ []) 0 s t c.args.self.now c.self.view_is o refl c.begin.ensures.1.queue_is told

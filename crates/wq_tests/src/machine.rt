@@ -1,0 +1,234 @@
+use std::test::Fail;
+use wq_core::Reply::{
+    Began, Busy, ChainBusy, Chained, Closed, Ended, GivenBack, Held, Idle, Linked, Looked, Lost,
+    Pending, Pushed, Took, Walked,
+};
+use wq_core::Step::{Back, Begin, Chain, Check, Close, End, Hold, Link, Look, Push, Take, Walk};
+use wq_core::{
+    Core, ReplayError, Reply, Seat, Step, StepError, chain_and_batch, each_step_keeps_sound,
+    first_push, replay,
+};
+use wq_words::{Event, Head, Layout, Why, check_history};
+
+const S0: Seat = Seat::Sender(0);
+
+const S1: Seat = Seat::Sender(1);
+
+const O: Seat = Seat::Owner;
+
+type Turn = (Seat, Step, Reply);
+
+/// An exchange that wins although the head's number was taken, begun and queued again since it was looked at.
+const QUEUED_AGAIN: [Turn; 23] = [
+    (S0, Hold(0), Held),
+    (S0, Look, Looked(Head::Empty)),
+    (S0, Link(0), Linked),
+    (S0, Push(0), Pushed { first: true }),
+    (S1, Hold(1), Held),
+    (S1, Look, Looked(Head::Item(0))),
+    (O, Take, Took(Head::Item(0))),
+    (O, Walk, Walked(None)),
+    (O, Begin, Began(0)),
+    (S0, Hold(0), Held),
+    (S0, Look, Looked(Head::Empty)),
+    (S0, Link(0), Linked),
+    (S0, Push(0), Pushed { first: true }),
+    (S1, Link(1), Linked),
+    (S1, Push(1), Pushed { first: false }),
+    (O, End, Ended(0)),
+    (O, Take, Took(Head::Item(1))),
+    (O, Walk, Walked(Some(0))),
+    (O, Walk, Walked(None)),
+    (O, Begin, Began(0)),
+    (O, End, Ended(0)),
+    (O, Begin, Began(1)),
+    (O, End, Ended(1)),
+];
+
+/// Two exchanges for one head: the second is lost, and tried again.
+const LOST_EXCHANGE: [Turn; 11] = [
+    (S0, Hold(0), Held),
+    (S1, Hold(1), Held),
+    (S0, Look, Looked(Head::Empty)),
+    (S1, Look, Looked(Head::Empty)),
+    (S0, Link(0), Linked),
+    (S1, Link(1), Linked),
+    (S0, Push(0), Pushed { first: true }),
+    (S1, Push(1), Lost),
+    (S1, Look, Looked(Head::Item(0))),
+    (S1, Link(1), Linked),
+    (S1, Push(1), Pushed { first: false }),
+];
+
+/// A close between the link and the exchange.
+const CLOSED_BETWEEN: [Turn; 8] = [
+    (S0, Hold(2), Held),
+    (S0, Look, Looked(Head::Empty)),
+    (S0, Link(2), Linked),
+    (O, Close, Closed(Head::Empty)),
+    (S0, Push(2), Lost),
+    (S0, Look, Looked(Head::Closed)),
+    (S0, Back(2, Why::Closed), GivenBack),
+    (S0, Check(2), Idle),
+];
+
+/// A sender that holds a number and stops.
+const STALLED_SENDER: [Turn; 11] = [
+    (S0, Hold(2), Held),
+    (S1, Hold(2), Busy),
+    (S1, Hold(3), Held),
+    (S1, Look, Looked(Head::Empty)),
+    (S1, Link(3), Linked),
+    (S1, Push(3), Pushed { first: true }),
+    (O, Take, Took(Head::Item(3))),
+    (O, Walk, Walked(None)),
+    (O, Begin, Began(3)),
+    (O, End, Ended(3)),
+    (S1, Hold(2), Busy),
+];
+
+/// An execution that queues two items after the close, one of them twice.
+const CHAINED_ITEMS: [Turn; 15] = [
+    (S0, Hold(0), Held),
+    (S0, Look, Looked(Head::Empty)),
+    (S0, Link(0), Linked),
+    (S0, Check(0), Pending),
+    (S0, Push(0), Pushed { first: true }),
+    (O, Close, Closed(Head::Item(0))),
+    (O, Walk, Walked(None)),
+    (O, Begin, Began(0)),
+    (O, Chain(1), Chained),
+    (O, Chain(1), ChainBusy),
+    (O, Chain(0), Chained),
+    (O, End, Ended(0)),
+    (O, Begin, Began(1)),
+    (O, End, Ended(1)),
+    (O, Begin, Began(0)),
+];
+
+/// Each schedule step by step, and replayed as a whole, with what was accepted and begun at its end.
+#[test]
+fn schedules(rt: HostRuntime) -> Result<(), Fail> {
+    let layout = Layout::new(4, 1, 2)?;
+    let rows: [(&[Turn], &[u32], &[u32]); 5] = [
+        (&QUEUED_AGAIN, &[0, 0, 1], &[0, 0, 1]),
+        (&LOST_EXCHANGE, &[0, 1], &[]),
+        (&CLOSED_BETWEEN, &[], &[]),
+        (&STALLED_SENDER, &[3], &[3]),
+        (&CHAINED_ITEMS, &[0, 1, 0], &[0, 1, 0]),
+    ];
+    for (row, accepted, begun) in rows {
+        let mut core = Core::new(rt.alloc(), layout)?;
+        let mut turns = Vec::new(rt.alloc());
+        for (seat, step, reply) in row {
+            assert_eq!(rt; core.step(*seat, *step), Ok(*reply), "{step:?}");
+            assert_eq!(rt; check_history(&layout, core.history()), Ok(()), "{step:?}");
+            turns.push((*seat, *step))?;
+        }
+        assert_eq!(rt; &core.accepted()?[..], accepted);
+        assert_eq!(rt; &core.begun()?[..], begun);
+        let replayed = replay(rt.alloc(), layout, &turns)?;
+        assert_eq!(rt; replayed.history(), core.history());
+        assert_eq!(rt; &replayed.accepted()?[..], accepted);
+        assert_eq!(rt; &replayed.begun()?[..], begun);
+    }
+    Ok(())
+}
+
+/// A whole replay. Where an allocation is refused, want of memory is the answer and no other (`make memory` refuses each in
+/// turn).
+#[test]
+fn refused_memory(rt: HostRuntime) -> Result<(), Fail> {
+    let layout = Layout::new(4, 1, 2)?;
+    let turns = QUEUED_AGAIN.map(|(seat, step, _)| (seat, step));
+    match replay(rt.alloc(), layout, &turns) {
+        Ok(core) => {
+            assert_eq!(rt; core.history().len(), 14);
+            Ok(())
+        }
+        Err(refused) => {
+            assert_eq!(rt; refused.why, StepError::Memory);
+            Err(refused)?
+        }
+    }
+}
+
+/// Steps that are not enabled change nothing, and those after them are made.
+#[test]
+fn not_enabled(rt: HostRuntime) -> Result<(), Fail> {
+    let layout = Layout::new(4, 1, 2)?;
+    let refused = Err(StepError::NotEnabled);
+    let row = [
+        (O, Walk, refused),
+        (S0, Hold(0), Ok(Held)),
+        (S0, Look, Ok(Looked(Head::Empty))),
+        (S0, Link(0), Ok(Linked)),
+        (S0, Push(0), Ok(Pushed { first: true })),
+        (O, Take, Ok(Took(Head::Item(0)))),
+        (O, Begin, refused),
+        (O, Walk, Ok(Walked(None))),
+        (O, Begin, Ok(Began(0))),
+    ];
+    let mut core = Core::new(rt.alloc(), layout)?;
+    let mut turns = Vec::new(rt.alloc());
+    for (seat, step, answer) in row {
+        assert_eq!(rt; core.step(seat, step), answer, "{step:?}");
+        assert_eq!(rt; check_history(&layout, core.history()), Ok(()), "{step:?}");
+        turns.push((seat, step))?;
+    }
+    assert_eq!(rt; &core.accepted()?[..], [0u32].as_slice());
+    assert_eq!(rt; &core.begun()?[..], [0u32].as_slice());
+    assert_eq!(rt;
+        replay(rt.alloc(), layout, &turns).err(),
+        Some(ReplayError {
+            at: 0,
+            why: StepError::NotEnabled,
+        })
+    );
+    Ok(())
+}
+
+/// Each refusal, the first that fits, of a queue of 4 items, 1 barrier and 2 senders: 4 is the barrier, 5 the stop item.
+#[test]
+fn refusals(rt: HostRuntime) -> Result<(), Fail> {
+    let layout = Layout::new(4, 1, 2)?;
+    let mut core = Core::new(rt.alloc(), layout)?;
+    for (seat, step, why) in [
+        (Seat::Sender(2), Hold(6), StepError::NoSeat),
+        (S0, Take, StepError::NoSeat),
+        (S0, Chain(9), StepError::NoSeat),
+        (O, Hold(0), StepError::NoSeat),
+        (O, Check(9), StepError::NoSeat),
+        (S1, Hold(6), StepError::NoItem),
+        (S0, Push(6), StepError::NoItem),
+        (O, Chain(4), StepError::NoItem),
+        (S0, Link(5), StepError::NotEnabled),
+        (S0, Push(0), StepError::NotEnabled),
+        (S0, Back(0, Why::Cancelled), StepError::NotEnabled),
+        (O, Begin, StepError::NotEnabled),
+        (O, End, StepError::NotEnabled),
+        (O, Chain(3), StepError::NotEnabled),
+    ] {
+        assert_eq!(rt; core.step(seat, step), Err(why), "{seat:?} {step:?}");
+        assert_eq!(rt;
+            replay(rt.alloc(), layout, &[(S1, Hold(5)), (seat, step)]).err(),
+            Some(ReplayError { at: 1, why }),
+            "{seat:?} {step:?}"
+        );
+    }
+    assert_eq!(rt; core.history().len(), 0);
+    assert_eq!(rt; core.step(S1, Hold(5)), Ok(Held));
+    assert_eq!(rt; core.history(), [Event::Hold(1, 5)].as_slice());
+    Ok(())
+}
+
+/// What a caller has in hand of a core, whatever was done to it.
+#[test]
+fn laws(rt: HostRuntime) -> Result<(), Fail> {
+    let core = Core::new(rt.alloc(), Layout::new(4, 1, 2)?)?;
+    each_step_keeps_sound();
+    core.sound();
+    chain_and_batch(&core);
+    first_push(&core);
+    Ok(())
+}

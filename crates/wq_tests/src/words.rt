@@ -1,0 +1,189 @@
+use std::test::Fail;
+use wq_words::Event::{Back, Begin, Busy, Chain, ChainBusy, Close, End, Hold, Push, Take};
+use wq_words::{
+    Event, Head, HistoryError, HistoryFault, Layout, LayoutError, Why, check_history, headline,
+    one_keeper, one_runs, pending_and_closed, pending_list,
+};
+
+#[test]
+fn layouts(rt: HostRuntime) {
+    for (items, barriers, senders, refused) in [
+        (0, 17, 0, Some(LayoutError::Items)),
+        (4097, 1, 1, Some(LayoutError::Items)),
+        (1, 17, 0, Some(LayoutError::Barriers)),
+        (1, 0, 1, Some(LayoutError::Barriers)),
+        (1, 16, 65, Some(LayoutError::Senders)),
+        (1, 16, 0, Some(LayoutError::Senders)),
+        (1, 1, 1, None),
+        (4096, 16, 64, None),
+    ] {
+        let layout = Layout::new(items, barriers, senders);
+        assert_eq!(rt;
+            layout.err(),
+            refused,
+            "new({items}, {barriers}, {senders})"
+        );
+    }
+}
+
+#[test]
+fn head_codes(rt: HostRuntime) {
+    for (word, head) in [
+        (0, Head::Empty),
+        (1, Head::Item(0)),
+        (4113, Head::Item(4112)),
+        (1 << 32, Head::Item(u32::MAX)),
+        (u64::MAX, Head::Closed),
+    ] {
+        assert_eq!(rt; Head::from_word(word), Some(head), "from_word({word})");
+        assert_eq!(rt; head.to_word(), word, "{head:?}");
+    }
+    for word in [(1 << 32) + 1, u64::MAX - 1] {
+        assert_eq!(rt; Head::from_word(word), None, "from_word({word})");
+    }
+}
+
+fn fault(place: usize, kind: HistoryFault) -> Option<HistoryError> {
+    Some(HistoryError { place, kind })
+}
+
+/// Histories of a queue of 2 items, 1 barrier and 2 senders, so that 2 is the barrier and 3 the stop item.
+#[test]
+fn histories(rt: HostRuntime) -> Result<(), Fail> {
+    let layout = Layout::new(2, 1, 2)?;
+    let rows: [(&[Event], Option<HistoryError>); 8] = [
+        (&[], None),
+        (&[Hold(0, 0), Push(0, 0), Begin(0)], None),
+        (
+            &[Hold(0, 0), Hold(1, 0)],
+            fault(1, HistoryFault::NotAllowed),
+        ),
+        (&[Hold(2, 9)], fault(0, HistoryFault::NoSeat)),
+        (&[Hold(0, 4)], fault(0, HistoryFault::NoItem)),
+        (
+            &[Hold(0, 0), Close, Push(0, 0)],
+            fault(2, HistoryFault::NotAllowed),
+        ),
+        (
+            &[
+                Hold(0, 0),
+                Push(0, 0),
+                Hold(0, 1),
+                Push(0, 1),
+                Begin(0),
+                Begin(1),
+            ],
+            fault(5, HistoryFault::NotAllowed),
+        ),
+        (
+            &[
+                Hold(0, 0),
+                Push(0, 0),
+                Close,
+                Begin(0),
+                Chain(0),
+                End(0),
+                Begin(0),
+                End(0),
+            ],
+            None,
+        ),
+    ];
+    for (history, refused) in rows {
+        assert_eq!(rt;
+            check_history(&layout, history).err(),
+            refused,
+            "{history:?}"
+        );
+    }
+    Ok(())
+}
+
+/// What is allowed after one history, where a sender gave a number back and another is on the list.
+#[test]
+fn next_events(rt: HostRuntime) -> Result<(), Fail> {
+    let layout = Layout::new(2, 1, 2)?;
+    let not_allowed = fault(5, HistoryFault::NotAllowed);
+    for (event, refused) in [
+        (Hold(0, 0), None),
+        (Hold(0, 3), None),
+        (Hold(0, 1), not_allowed),
+        (Busy(0, 1), None),
+        (Busy(0, 0), not_allowed),
+        (Push(1, 2), None),
+        (Push(0, 2), not_allowed),
+        (Back(1, 2, Why::Cancelled), None),
+        (Back(1, 2, Why::Contended), None),
+        (Back(1, 2, Why::Closed), not_allowed),
+        (Back(0, 2, Why::Cancelled), not_allowed),
+        (Take, None),
+        (Close, None),
+        (Begin(1), None),
+        (Begin(0), not_allowed),
+        (End(1), not_allowed),
+        (Chain(0), not_allowed),
+        (ChainBusy(1), not_allowed),
+        (Chain(2), fault(5, HistoryFault::NoItem)),
+        (ChainBusy(3), fault(5, HistoryFault::NoItem)),
+    ] {
+        let history = [
+            Hold(0, 0),
+            Back(0, 0, Why::Contended),
+            Hold(0, 1),
+            Push(0, 1),
+            Hold(1, 2),
+            event,
+        ];
+        assert_eq!(rt;
+            check_history(&layout, &history).err(),
+            refused,
+            "{event:?}"
+        );
+    }
+    Ok(())
+}
+
+/// 400 rounds of a queueing, a take and an execution.
+#[test]
+fn long_history(rt: HostRuntime) -> Result<(), Fail> {
+    let layout = Layout::new(4, 1, 2)?;
+    let mut history = Vec::new(rt.alloc());
+    for round in 0..400u32 {
+        let (sender, item) = (round % 2, round % 4);
+        for event in [
+            Hold(sender, item),
+            Push(sender, item),
+            Take,
+            Begin(item),
+            End(item),
+        ] {
+            history.push(event)?;
+        }
+    }
+    assert_eq!(rt; history.len(), 2000);
+    assert_eq!(rt; check_history(&layout, &history), Ok(()));
+    history.push(End(3))?;
+    assert_eq!(rt;
+        check_history(&layout, &history).err(),
+        fault(2000, HistoryFault::NotAllowed)
+    );
+    Ok(())
+}
+
+/// What a caller has in hand once a history was checked.
+#[test]
+fn laws(rt: HostRuntime) -> Result<(), Fail> {
+    let layout = Layout::new(2, 1, 2)?;
+    let history = [Hold(0, 0), Push(0, 0), Close, Begin(0), End(0)];
+    match check_history(&layout, &history) {
+        Ok(()) => {
+            headline();
+            one_keeper();
+            pending_list();
+            one_runs();
+            pending_and_closed();
+        }
+        Err(error) => assert_eq!(rt; Some(error), None),
+    }
+    Ok(())
+}
