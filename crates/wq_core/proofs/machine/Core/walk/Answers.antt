@@ -21,8 +21,10 @@ pub invariant_of-self-then-is_none : goal.invariant_of-self-then-is_none
 invariant_of-self-then-is_none c =
     let word = rw (c.deref.ensures.value, c.link_place.ensures) at c.word.ensures in
     let next : c.number_at-next.result ≡ None = search rules in
-    let zero : get_or c.self.inside.words.items (link_place c.in-Some.number) 0 ≡ 0 = number_at-none _ (ap number_at (sym word) ∙ sym c.number_at-next.ensures ∙ next) in
-    let batch : reverse c.swap.new.y.items ≡ reverse c.self.inside.batch.items ++ c.in-Some.number ∷ reverse c.self.inside.walked.items = grind (arith, common_steps) in
+    let zero : get_or c.self.inside.words.items (link_place c.in-Some.number) 0 ≡ 0 =
+    number_at-none _ (ap number_at (sym word) ∙ sym c.number_at-next.ensures ∙ next) in
+    let batch : reverse c.swap.new.y.items ≡ reverse c.self.inside.batch.items ++ c.in-Some.number ∷ reverse c.self.inside.walked.items =
+    grind (arith, common_steps) in
     let walked : reverse c.swap.new.x.items ≡ [] = grind (arith, common_steps) in
     rw (batch, walked, next) (stored_walk_end _ _ _ c.self.invariant c.in-Some.number c.in-Some.is zero)
 
