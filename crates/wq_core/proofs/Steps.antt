@@ -151,13 +151,13 @@ module _ (n : ℕ) (ws : List ℕ) (v : ℕ) where
   linked_of-done seats h = linked_set n ws seats h (done_place n) v (λ j lt e. omega (arith, e, lt))
 
   module _ (k : ℕ) (number : k < n) where
-    head_of-link : get_or (set ws (link_place k) v) head_place 0 ≡ get_or ws head_place 0
+    pub head_of-link : get_or (set ws (link_place k) v) head_place 0 ≡ get_or ws head_place 0
     head_of-link = get_or-set_other ws (link_place k) head_place v 0 (λ e. omega (arith, e))
 
-    done_of-link : get_or (set ws (link_place k) v) (done_place n) 0 ≡ get_or ws (done_place n) 0
+    pub done_of-link : get_or (set ws (link_place k) v) (done_place n) 0 ≡ get_or ws (done_place n) 0
     done_of-link = get_or-set_other ws (link_place k) (done_place n) v 0 (λ e. omega (arith, e, number))
 
-    items_of-link : (h : List Event) → FollowKeepers pending_bit 0 (item_place n) n ws h → FollowKeepers pending_bit 0 (item_place n) n (set ws (link_place k) v) h
+    pub items_of-link : (h : List Event) → FollowKeepers pending_bit 0 (item_place n) n ws h → FollowKeepers pending_bit 0 (item_place n) n (set ws (link_place k) v) h
     items_of-link h = follow_set pending_bit 0 (item_place n) n ws h (link_place k) v (λ j lt e. omega (arith, e, number))
 
 -- a head that is not closed is no closed word

@@ -2,7 +2,7 @@
 ghost use Rattle.std.specs.Prelude.{◌≡◌, ◌≢◌, ◌<◌, ◌≤◌, ◌^◌, get_or, length};
 ghost use Rattle.wq_words.specs.declared.layout.Layout.{Layout};
 ghost use Rattle.wq_words.specs.Numbers.{number_count};
-ghost use Rattle.wq_core.specs.Words.{link_place, item_place, done_place, word_count, closed_word, number_at, head_at};
+ghost use Rattle.wq_core.specs.Words.{link_place, item_place, done_place, word_count, closed_word, number_at, word_at, head_at};
 
 use wq_words::{Head, Layout};
 
@@ -71,4 +71,14 @@ pub(crate) fn number_at(word: u64) -> Option<u32>
         return None;
     }
     Some((word - 1) as u32)
+}
+
+/// The word that links to a number, or to none.
+pub(crate) fn word_at(next: Option<u32>) -> u64
+    ensures { result ≡ word_at next }
+{
+    match next {
+        Some(number) => u64::from(number) + 1,
+        None => 0,
+    }
 }
