@@ -225,6 +225,6 @@ stored_opening layout = record {
   has_holders = length-replicate _ _;
   holders_are = λ k lt. all_alike _ k None;
   running_is = refl;
-  links_fit = λ k lt. omega (arith, all_alike (word_count (number_count layout)) (link_place k) 0);
+  links_fit = λ k lt. omega (arith, all_alike {A = ℕ} (word_count (number_count layout)) (link_place k) 0);
   looks_fit = λ s w is. absurd (cc (is, ap (λ (p : Private). p.seen) (all_alike layout.senders s nothing_seen)));
 }

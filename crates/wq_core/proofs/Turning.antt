@@ -6,6 +6,7 @@ use Rattle.std.proofs.lemmas.List.{get_or-set_other}
 use Rattle.std.proofs.lemmas.Bool.{cases_eq, eqb-true, eqb-false, eq-eqb, ne_eqb}
 use Rattle.wq_words.specs.Numbers.{number_count}
 use Rattle.wq_words.specs.History.{accepted, begun}
+use Rattle.wq_words.specs.Listed.{listed}
 use Rattle.wq_words.specs.Keeper.{Keeper, Home, Sender, Listed, Owner, keeper}
 use Rattle.wq_words.specs.declared.event.Event.{Event}
 use Rattle.wq_words.proofs.Keepers.{queue_bit, kept}
@@ -21,23 +22,23 @@ use mathlib.Core.List.{reverse_aux}
 -- a number stands in a list where it stands there some times
 pub times_contains : (k : ℕ) (xs : List ℕ) → Contains xs k → 0 < times k xs
 times_contains k [] there = let lt = there.1 in absurd (omega arith)
-times_contains k (x ∷ xs) (zero, lt, is) = omega (arith, times-cons k x xs, ap (λ (b : Bool). cond b 1 0) (eq-eqb x k is))
+times_contains k (x ∷ xs) (zero, lt, is) = omega (arith, times-cons k x xs, ap {B = ℕ} (λ (b : Bool). cond b 1 0) (eq-eqb x k is))
 times_contains k (x ∷ xs) (suc i, lt, is) = omega (arith, times-cons k x xs, times_contains k xs (i, omega arith, is))
 
 pub contains_times : (k : ℕ) (xs : List ℕ) → 0 < times k xs → Contains xs k
 contains_times k [] some = absurd (omega arith)
 contains_times k (x ∷ xs) some = elim (cases_eq x k) [
   | inl same ↦ (0, omega arith, same)
-  | inr ne ↦ let more = contains_times k xs (omega (arith, some, times-cons k x xs, ap (λ (b : Bool). cond b 1 0) (ne_eqb x k ne))) in let lt = more.1 in (suc more.0, omega arith, more.2)
+  | inr ne ↦ let more = contains_times k xs (omega (arith, some, times-cons k x xs, ap {B = ℕ} (λ (b : Bool). cond b 1 0) (ne_eqb x k ne))) in let lt = more.1 in (suc more.0, omega arith, more.2)
 ]
 
 any_times : (k : ℕ) (xs : List ℕ) → IsTrue (list_any (λ y. y == k) xs) ↔ (0 < times k xs)
 any_times k [] = (λ e. absurd (cc e), λ some. absurd (omega arith))
-any_times k (x ∷ xs) = go (x == k) refl
+any_times k (x ∷ xs) = go (x == k) refl (any_times k xs)
   where
-    go : (b : Bool) → (x == k) ≡ b → IsTrue (list_any (λ y. y == k) (x ∷ xs)) ↔ (0 < times k (x ∷ xs))
-    go true e = (λ _. omega (arith, times-cons k x xs, ap (λ (b : Bool). cond b 1 0) e), λ _. rw e refl)
-    go false e = let rest = any_times k xs in let count : times k (x ∷ xs) ≡ times k xs = omega (arith, times-cons k x xs, ap (λ (b : Bool). cond b 1 0) e) in
+    go : (b : Bool) → (x == k) ≡ b → (IsTrue (list_any (λ y. y == k) xs) ↔ (0 < times k xs)) → IsTrue (list_any (λ y. y == k) (x ∷ xs)) ↔ (0 < times k (x ∷ xs))
+    go true e rest = (λ _. omega (arith, times-cons k x xs, ap {B = ℕ} (λ (b : Bool). cond b 1 0) e), λ _. rw e refl)
+    go false e rest = let count : times k (x ∷ xs) ≡ times k xs = omega (arith, times-cons k x xs, ap {B = ℕ} (λ (b : Bool). cond b 1 0) e) in
         rw (e, count) rest
 
 -- whether it stands in a list that is stored the other way round
@@ -102,7 +103,7 @@ module _ (m : Machine) (o : IsSound m) (k : ℕ) (stands : StandsIn m.walked m.b
       omega (
         arith,
         ap (times k) a.order,
-        times-append k (begun m.history ++ (m.batch ++ reverse_aux a.remaining m.walked)) _,
+        times-append k (begun m.history ++ (m.batch ++ reverse_aux a.remaining m.walked)) (reverse (listed m.history)),
         times-append k (begun m.history) (m.batch ++ reverse_aux a.remaining m.walked),
         times-append k m.batch (reverse_aux a.remaining m.walked),
         times-reverse_aux k a.remaining m.walked,

@@ -1,8 +1,9 @@
 -- The words of a queue's table: the head, the links, the item words with the PENDING bits, and the count of ended
 -- executions. n is how many numbers the queue has.
-use Rattle.std.specs.Prelude.{ℕ, ◌+◌, ◌-◌, ◌*◌, ◌^◌, ◌==◌, if◌then◌else◌, Option, Some, None}
+use Rattle.std.specs.Prelude.{ℕ, ◌+◌, ◌-◌, ◌*◌, ◌==◌, if◌then◌else◌, Option, Some, None}
 use Rattle.wq_words.specs.declared.head.Head.{Head}
 use Rattle.wq_words.specs.declared.head.Head.TheVariants.{Empty, Item, Closed}
+use Rattle.wq_words.specs.Head.{head_word}
 
 -- where each word stands
 abbrev pub head_place : ℕ
@@ -22,7 +23,7 @@ word_count n = 2 * n + 2
 
 -- the head word of a closed queue
 abbrev pub closed_word : ℕ
-closed_word = 2 ^ 64 - 1
+closed_word = head_word Closed
 
 -- the number that a link or a head that is not closed stands for
 abbrev pub number_at : ℕ → Option ℕ

@@ -4,7 +4,7 @@
 
 mod laws;
 mod machine;
-mod place;
+pub mod place;
 mod schedule;
 mod step;
 

@@ -11,12 +11,12 @@ ghost use Rattle.wq_core.specs.Sound.{IsSound};
 ghost use Rattle.wq_core.specs.Refusal.{is_senders, IsSeated, IsNumbered, IsPlaced, IsMade, IsRefused};
 
 use crate::place::{
-    HEAD, done_place, head_at, item_place, link_place, number_at, number_count, word, word_at, word_count,
+    HEAD, done_place, head_at, item_place, link_place, number_at, word, word_at, word_count,
 };
 use crate::step::{Private, Reply, Seat, Step, StepError};
 use std::alloc::{AllocError, Global};
 use std::marker::Model;
-use wq_words::{Event, Layout, Why};
+use wq_words::{Event, Head, Layout, Why};
 
 const NOTHING_SEEN: Private = Private {
     seen: None,
@@ -58,7 +58,7 @@ impl Core {
     pub fn new(alloc: Global, layout: Layout) -> Result<Core, AllocError>
         ensures { IfOk result (λ core. core ≡ opening layout) }
     {
-        let count = number_count(layout);
+        let count = layout.number_count() as usize;
         Ok(Core {
             alloc,
             layout,
@@ -136,7 +136,7 @@ impl Core {
     {
         match (seat, step) {
             (Seat::Sender(sender), Step::Link(number)) => match self.private(sender).seen {
-                Some(word) => word != u64::MAX && self.is_held(sender, number),
+                Some(word) => word != Head::Closed.to_word() && self.is_held(sender, number),
                 None => false,
             },
             (Seat::Sender(sender), Step::Push(number)) => {
@@ -144,7 +144,8 @@ impl Core {
             }
             (Seat::Sender(sender), Step::Back(number, why)) => {
                 self.is_held(sender, number)
-                    && (why != Why::Closed || self.private(sender).seen == Some(u64::MAX))
+                    && (why != Why::Closed
+                        || self.private(sender).seen == Some(Head::Closed.to_word()))
             }
             (Seat::Sender(_), _) => true,
             (Seat::Owner, Step::Take) => {
@@ -171,7 +172,7 @@ impl Core {
     fn is_closed(&self) -> bool
         ensures { IsTrue result ↔ IsClosed self.now.history }
     {
-        word(&self.words, HEAD) == u64::MAX
+        word(&self.words, HEAD) == Head::Closed.to_word()
     }
 
     fn is_running(&self) -> bool
@@ -200,7 +201,7 @@ impl Core {
             (Seat::Sender(sender), Step::Link(number)) => Ok(self.link(sender, number)),
             (Seat::Sender(sender), Step::Push(number)) => self.push(sender, number),
             (Seat::Sender(sender), Step::Back(number, why)) => self.back(sender, number, why),
-            (Seat::Sender(_), Step::Check(number)) => Ok(self.check(number)),
+            (Seat::Sender(sender), Step::Check(number)) => Ok(self.check(sender, number)),
             (Seat::Owner, Step::Take) => self.take(),
             (Seat::Owner, Step::Close) => self.close(),
             (Seat::Owner, Step::Walk) => self.walk(),
@@ -268,10 +269,12 @@ impl Core {
             return Ok(Reply::Lost);
         }
         self.history.push(Event::Push(sender, number))?;
-        self.words[HEAD] = u64::from(number) + 1;
+        self.words[HEAD] = Head::Item(number).to_word();
         self.holders[number as usize] = None;
         self.seats[sender as usize] = NOTHING_SEEN;
-        Ok(Reply::Pushed { first: seen == 0 })
+        Ok(Reply::Pushed {
+            first: seen == Head::Empty.to_word(),
+        })
     }
 
     fn back(&mut self, sender: u32, number: u32, why: Why) -> Result<Reply, AllocError>
@@ -288,9 +291,9 @@ impl Core {
         Ok(Reply::GivenBack)
     }
 
-    fn check(&self, number: u32) -> Reply
-        requires { number < number_count self.now.layout }
-        ensures pending { result ≡ reply_to self.now (Sender 0) (Check number) }
+    fn check(&self, sender: u32, number: u32) -> Reply
+        requires { IsMade self.now (Sender sender) (Check number) }
+        ensures reply { result ≡ reply_to self.now (Sender sender) (Check number) }
     {
         if word(&self.words, item_place(self.layout, number)) == 0 {
             Reply::Idle
@@ -307,7 +310,7 @@ impl Core {
     {
         let head = word(&self.words, HEAD);
         self.history.push(Event::Take)?;
-        self.words[HEAD] = 0;
+        self.words[HEAD] = Head::Empty.to_word();
         self.cursor = number_at(head);
         Ok(Reply::Took(head_at(head)))
     }
@@ -320,7 +323,7 @@ impl Core {
     {
         let head = word(&self.words, HEAD);
         self.history.push(Event::Close)?;
-        self.words[HEAD] = u64::MAX;
+        self.words[HEAD] = Head::Closed.to_word();
         self.cursor = number_at(head);
         Ok(Reply::Closed(head_at(head)))
     }
@@ -377,7 +380,7 @@ impl Core {
         ensures unchanged { OnErr result (self.new ≡ self.old) }
     {
         let Some(number) = self.running else {
-            return Ok(Reply::Idle);
+            unreachable!()
         };
         let place = done_place(self.layout);
         let done = word(&self.words, place);
@@ -460,7 +463,7 @@ fn is_seated(layout: Layout, seat: Seat, step: Step) -> bool
 fn is_numbered(layout: Layout, step: Step) -> bool
     ensures { IsTrue result ↔ IsNumbered layout step }
 {
-    let count = layout.items + layout.barriers + 1;
+    let count = layout.number_count();
     match step {
         Step::Hold(number)
         | Step::Link(number)

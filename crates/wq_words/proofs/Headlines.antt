@@ -16,18 +16,12 @@ use Rattle.wq_words.specs.Keeper.{Keeper, Home, Sender, Listed, Owner, keeper}
 use Rattle.wq_words.specs.Headline.{NeverOverlaps, Executes, KeepsSenderOrder, NoPushFollowsClose, IsOwnHold, EachPushHasHold, HasOneHolder, KeepsHeadline}
 use Rattle.wq_words.proofs.Growing.{count_by_push, filter_map_push_some, take_more_some, slice_get_push, slice_get_append, slice_get_last, take_append, take_length}
 use Rattle.wq_words.proofs.Legal.{legal_front, legal_induction}
-use Rattle.wq_words.proofs.Order.{IsInOrder, in_order, prefix_length}
+pub use Rattle.wq_words.proofs.Prefixes.{prefix_whole}
+use Rattle.wq_words.proofs.Prefixes.{prefix_length}
+use Rattle.wq_words.proofs.Order.{IsInOrder, in_order}
 use Rattle.wq_words.proofs.Keepers.{held_bit, kept}
 use Rattle.wq_words.proofs.Places.{keeper_from_keeps}
 use Rattle.wq_words.proofs.Ranks.{filter_map_rank, ComesFrom, comes_from, length-filter_map-take, filter_map-take-prefix, slice_get-prefix, slice_get-take, slice_get-some}
-
--- a list as long as the one that it begins is the whole
-pub prefix_whole : {A : Type 0} (xs ys : List A) → IsPrefix xs ys → length ys ≤ length xs → xs ≡ ys
-prefix_whole [] [] p le = refl
-prefix_whole [] (y ∷ ys) p le = absurd (omega arith)
-prefix_whole (x ∷ xs) [] p le = absurd (cc (p.1))
-prefix_whole (x ∷ xs) (y ∷ ys) p le =
-    let rest = prefix_whole xs ys (p.0, cc (p.1)) (omega arith) in cc (p.1, rest)
 
 counted : {X : Type 0} (p : X → Bool) (xs : List X) (i n : ℕ) (x : X) → slice_get xs i ≡ Some x → p x ≡ true → i < n → 0 < count_by p (take n xs)
 counted p [] i n x at is lt = absurd cc

@@ -4,7 +4,8 @@ use Rattle.std.specs.List.{count_by}
 use Rattle.std.proofs.lemmas.List.Sums.{sum_by-append}
 use Rattle.std.proofs.lemmas.Bool.{eqb-true, eq-eqb}
 use mathlib.Core.List.{IsPrefix}
-use Rattle.wq_words.proofs.Order.{IsInOrder, in_order, prefix_step}
+use Rattle.wq_words.proofs.Prefixes.{prefix_step}
+use Rattle.wq_words.proofs.Order.{IsInOrder, in_order}
 use Rattle.std.proofs.lemmas.Bool.Decides.{nat_tests}
 use Rattle.wq_words.specs.declared.layout.Layout.{Layout}
 use Rattle.wq_words.specs.declared.event.Event.{Event}

@@ -1,4 +1,7 @@
+pub mod Prefixes
 pub mod Growing
+pub mod Running
+pub mod Closed
 pub mod Legal
 pub mod Order
 pub mod Keepers
@@ -7,3 +10,4 @@ pub mod Places
 pub mod Ranks
 pub mod Headlines
 pub mod Seen
+pub mod Counting

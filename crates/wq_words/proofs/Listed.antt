@@ -11,6 +11,7 @@ use Rattle.wq_words.specs.History.{accepted_by, accepted, is_close, is_push, is_
 use Rattle.wq_words.specs.Listed.{listed_after, listed}
 use Rattle.wq_words.specs.Legal.{MayFollow, IsLegal}
 use Rattle.wq_words.proofs.Growing.{count_by_push, filter_map_push_some, filter_map_push_none}
+pub use Rattle.wq_words.proofs.Closed.{closed_from_IsClosed, closed_from_open, IsClosed_from_closed, closed_push_no, closed_push_yes}
 use Rattle.wq_words.proofs.Legal.{legal_induction}
 
 -- what stands before and after the last element that passes, with one more element
@@ -43,32 +44,7 @@ module _ {X : Type 0} (p : X → Bool) (xs : List X) (x : X) where
       let size : length (xs ++ x ∷ []) - suffix_len (λ y. not (p y)) (xs ++ x ∷ []) ≡ length xs - suffix_len (λ y. not (p y)) xs = omega (arith, length_push xs x, suffix_no is, suffix_len-le-length (λ y. not (p y)) xs) in
       ap (λ n. drop n (xs ++ x ∷ [])) size ∙ drop-append-le (length xs - suffix_len (λ y. not (p y)) xs) xs (x ∷ []) (omega arith)
 
--- the test and the fact that the queue is closed
-some_below : (n : ℕ) → 0 < n → nat_lt 0 n ≡ true
-some_below n lt = grind (arith, nat_tests)
-
-none_below : (n : ℕ) → ¬ (0 < n) → nat_lt 0 n ≡ false
-none_below n none = grind (arith, nat_tests)
-
-below_some : (n : ℕ) → nat_lt 0 n ≡ true → 0 < n
-below_some n e = grind (arith, nat_tests)
-
-pub closed_from_IsClosed : (h : List Event) → IsClosed h → closed h ≡ true
-closed_from_IsClosed h is = some_below (count_by is_close h) is
-
-pub closed_from_open : (h : List Event) → ¬ IsClosed h → closed h ≡ false
-closed_from_open h opens = none_below (count_by is_close h) opens
-
-pub IsClosed_from_closed : (h : List Event) → closed h ≡ true → IsClosed h
-IsClosed_from_closed h e = below_some (count_by is_close h) e
-
 module _ (h : List Event) (e : Event) where
-  pub closed_push_no : is_close e ≡ false → closed (h ++ e ∷ []) ≡ closed h
-  closed_push_no is = ap (nat_lt 0) (count_by_push is_close h e ∙ rw is (omega arith))
-
-  pub closed_push_yes : is_close e ≡ true → closed (h ++ e ∷ []) ≡ true
-  closed_push_yes is = some_below _ (omega (arith, rw is at (count_by_push is_close h e)))
-
   pub accepted_push_none : accepted_by e ≡ None → accepted (h ++ e ∷ []) ≡ accepted h
   accepted_push_none is = filter_map_push_none accepted_by h e is ∙ append-nil (accepted h)
 

@@ -7,21 +7,10 @@ use Rattle.wq_words.specs.declared.event.Event.{Event}
 use Rattle.wq_words.specs.declared.event.Event.TheVariants.{Push, Begin, End, Chain}
 use Rattle.wq_words.specs.History.{accepted, begun, ended, IsRunning, running}
 use Rattle.wq_words.specs.Legal.{MayFollow, IsLegal}
+pub use Rattle.wq_words.proofs.Prefixes.{prefix_append, prefix_length}
+use Rattle.wq_words.proofs.Prefixes.{prefix_step}
 use Rattle.wq_words.proofs.Growing.{growing}
 use Rattle.wq_words.proofs.Legal.{legal_induction}
-
-pub prefix_append : {A : Type 0} (xs ys zs : List A) → IsPrefix xs ys → IsPrefix xs (ys ++ zs)
-prefix_append xs ys zs p = (p.0 ++ zs, sym (append_assoc xs p.0 zs) ∙ ap (λ l. l ++ zs) p.1)
-
-pub prefix_step : {A : Type 0} (xs ys : List A) (y : A) → IsPrefix xs ys → slice_get ys (length xs) ≡ Some y → IsPrefix (xs ++ y ∷ []) ys
-prefix_step [] [] y p at = absurd cc
-prefix_step [] (z ∷ ys) y p at = (ys, cc)
-prefix_step (x ∷ xs) [] y p at = absurd (cc (p.1))
-prefix_step (x ∷ xs) (z ∷ ys) y p at =
-    let rest = prefix_step xs ys y (p.0, cc (p.1)) at in (rest.0, cc (p.1, rest.1))
-
-pub prefix_length : {A : Type 0} (xs ys : List A) → IsPrefix xs ys → length xs ≤ length ys
-prefix_length xs ys p = omega (arith, sym (ap length p.1) ∙ length-append xs p.0)
 
 pub record AreInOrder (accepted begun ended : List ℕ) : Type 0 where
   pub begun_first : IsPrefix begun accepted

@@ -14,7 +14,8 @@ use Rattle.wq_words.specs.Legal.{MayFollow, IsLegal}
 use Rattle.wq_words.specs.Keeper.{Keeper, Home, Sender, Listed, Owner, Keeps, taken_over, keeper_after, keeper}
 use Rattle.wq_words.proofs.Growing.{filter_map_push_some, filter_map_push_none, slice_get_append, slice_get_last}
 use Rattle.wq_words.proofs.Legal.{legal_induction}
-use Rattle.wq_words.proofs.Order.{IsInOrder, in_order, prefix_length}
+use Rattle.wq_words.proofs.Prefixes.{prefix_length}
+use Rattle.wq_words.proofs.Order.{IsInOrder, in_order}
 use Rattle.wq_words.proofs.Keepers.{IsQueue, held_bit, queue_bit, home_from_bit, sender_from_bit, queue_from_bit, kept}
 use Rattle.wq_words.proofs.Listed.{IsListed, is_listed, length-accepted, accepted_push_none, taken_push_same, taken_push_push, taken_push_take, taken_closed, closed_push_no, closed_push_yes, closed_from_IsClosed, closed_from_open}
 

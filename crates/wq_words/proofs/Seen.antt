@@ -1,14 +1,16 @@
 -- Lists of events, and those of one seat among them.
 use Rattle.std.proofs.Common.{◌≡◌, ℕ, ◌+◌, ◌≤◌, ◌≢◌, Bool, true, false, cond, not, eqb, ◌==◌, List, [], ◌∷◌, ◌++◌, length, Option, Some, None, sym, refl, ap, ◌∙◌, subst, arith, append_assoc, length-append, eq-eqb, ne_eqb}
-use Rattle.std.specs.Prelude.{count_by, filter_map, ◌&&◌}
+use Rattle.std.specs.Prelude.{count_by, filter, filter_map, ◌&&◌, ◌||◌}
 use Rattle.std.proofs.lemmas.List.{append-nil}
 use Rattle.std.proofs.lemmas.List.Sums.{sum_by-cons}
 use Rattle.std.proofs.lemmas.List.Elements.{filter-append}
 use mathlib.Core.List.{IsPrefix}
+pub use Rattle.wq_words.proofs.Prefixes.{nothing_more, prefix_append, prefix_self}
+use Rattle.wq_words.proofs.Prefixes.{left_nil}
 use Rattle.wq_words.specs.declared.event.Event.{Event}
 use Rattle.wq_words.specs.declared.event.Event.TheVariants.{Hold, Busy, Push, Back, Take, Close, Begin, End, Chain, ChainBusy}
 use Rattle.wq_words.specs.History.{Holds, starts_hold, stops_hold, is_close, IsClosed, begun_by, ended_by, begun, ended, IsRunning, running}
-use Rattle.wq_words.specs.Seen.{owner_seat, seat_of, own, others, Grows}
+use Rattle.wq_words.specs.Seen.{owner_seat, seat_of, own, others, is_ours, Grows}
 
 pub own-append : (c : ℕ) (a b : List Event) → own c (a ++ b) ≡ own c a ++ own c b
 own-append c a b = filter-append (λ e. eqb (seat_of e) c) a b
@@ -27,20 +29,49 @@ own_none c e is d ne = ap (λ (b : Bool). cond b (e ∷ []) []) (ne_eqb (seat_of
 pub own_same : (c : ℕ) (h new : List Event) → own c new ≡ [] → own c (h ++ new) ≡ own c h
 own_same c h new none = own-append c h new ∙ (ap (λ (x : List Event). own c h ++ x) none ∙ append-nil (own c h))
 
-module _ {A : Type 0} where
-  pub nothing_more : (xs ys : List A) → xs ++ ys ≡ xs → ys ≡ []
-  nothing_more [] ys is = is
-  nothing_more (x ∷ xs) ys is = nothing_more xs ys (cc)
+pub own_more : (c : ℕ) (v new w : List Event) → w ≡ v ++ new → own c new ≡ [] → own c w ≡ own c v
+own_more c v new w is none = ap (own c) is ∙ own_same c v new none
 
-pub prefix_append : (xs ys zs : List Event) → IsPrefix xs ys → IsPrefix xs (ys ++ zs)
-prefix_append xs ys zs p = (p.0 ++ zs, sym (append_assoc xs p.0 zs) ∙ ap (λ (x : List Event). x ++ zs) p.1)
+cond_nil : {A : Type 0} (b : Bool) (x : A) (xs : List A) → cond b (x ∷ xs) xs ≡ [] → xs ≡ []
+cond_nil true x xs is = absurd (cc)
+cond_nil false x xs is = is
 
-pub prefix_self : (xs : List Event) → IsPrefix xs xs
-prefix_self xs = ([], append-nil xs)
+-- no event of the seat stands behind the first, where there is none at all
+pub own_rest : (c : ℕ) (e : Event) (es : List Event) → own c (e ∷ es) ≡ [] → own c es ≡ []
+own_rest c e es is = cond_nil (eqb (seat_of e) c) e (own c es) is
+
+-- a sender's and the owner's seat, where neither made an event
+pub none_of : (s : ℕ) (es : List Event) → filter (is_ours s) es ≡ [] → (own s es ≡ []) × (own owner_seat es ≡ [])
+none_of s [] is = (refl, refl)
+none_of s (e ∷ es) is = each (seat_of e == s) (seat_of e == owner_seat) (none_of s es) is
+  where
+    each : (a b : Bool) → (filter (is_ours s) es ≡ [] → (own s es ≡ []) × (own owner_seat es ≡ []))
+        → cond (a || b) (e ∷ filter (is_ours s) es) (filter (is_ours s) es) ≡ []
+        → (cond a (e ∷ own s es) (own s es) ≡ []) × (cond b (e ∷ own owner_seat es) (own owner_seat es) ≡ [])
+    each true b go is = absurd (cc)
+    each false true go is = absurd (cc)
+    each false false go is = go is
 
 -- what came new since the seat's last event has none of it
 pub none_new : (c : ℕ) (seen new h : List Event) → seen ++ new ≡ h → own c h ≡ own c seen → own c new ≡ []
 none_new c seen new h is mine = nothing_more (own c seen) (own c new) (sym (own-append c seen new) ∙ (ap (own c) is ∙ mine))
+
+-- what stood between two histories of which the seat made no event
+pub own_between : (c : ℕ) (h z w : List Event) → IsPrefix h z → IsPrefix z w → own c w ≡ own c h → own c z ≡ own c h
+own_between c h z w a b same =
+    let none : own c (a.0 ++ b.0) ≡ [] =
+    none_new c h (a.0 ++ b.0) w (sym (append_assoc h a.0 b.0) ∙ (ap (λ (x : List Event). x ++ b.0) a.1 ∙ b.1)) same in
+    own_more c h a.0 z (sym a.1) (left_nil (own c a.0) (own c b.0) (sym (own-append c a.0 b.0) ∙ none))
+
+-- where nothing happened nothing comes new
+pub grows_none : (c : ℕ) (v : List Event) → Grows c [] 0 v v
+grows_none c v = record { new = []; is = sym (append-nil v); mine = refl; theirs = omega arith }
+
+pub grows_begins : (c : ℕ) (xs : List Event) (n : ℕ) (v w : List Event) → Grows c xs n v w → IsPrefix v w
+grows_begins c xs n v w g = (g.new, sym g.is)
+
+pub grows_same : (c n : ℕ) (v w : List Event) → Grows c [] n v w → own c w ≡ own c v
+grows_same c n v w g = own_more c v g.new w g.is g.mine
 
 count_kept : (p : Event → Bool) (b : Bool) (e : Event) (es : List Event) (c : ℕ) → (b ≡ false → p e ≡ false) → count_by p es ≡ count_by p (own c es) → count_by p (e ∷ es) ≡ count_by p (cond b (e ∷ own c es) (own c es))
 count_kept p true e es c none rest = let a = sum_by-cons (λ x. cond (p x) 1 0) e es in let b = sum_by-cons (λ x. cond (p x) 1 0) e (own c es) in omega (arith, rest)
@@ -51,17 +82,17 @@ pub count_own : (p : Event → Bool) (c : ℕ) → ((e : Event) → eqb (seat_of
 count_own p c none [] = refl
 count_own p c none (e ∷ es) = count_kept p (eqb (seat_of e) c) e es c (none e) (count_own p c none es)
 
-and_false : (a b : Bool) → b ≡ false → (a && b) ≡ false
-and_false true b is = is
-and_false false b is = refl
+and_last : (a b : Bool) → b ≡ false → (a && b) ≡ false
+and_last true b is = is
+and_last false b is = refl
 
-starts_own : (s k : ℕ) (e : Event) → eqb (seat_of e) s ≡ false → starts_hold s k e ≡ false
-starts_own s k (Hold t j) is = and_false (eqb j k) (eqb t s) is
+pub starts_own : (s k : ℕ) (e : Event) → eqb (seat_of e) s ≡ false → starts_hold s k e ≡ false
+starts_own s k (Hold t j) is = and_last (eqb j k) (eqb t s) is
 starts_own s k _ is = refl
 
-stops_own : (s k : ℕ) (e : Event) → eqb (seat_of e) s ≡ false → stops_hold s k e ≡ false
-stops_own s k (Push t j) is = and_false (eqb j k) (eqb t s) is
-stops_own s k (Back t j why) is = and_false (eqb j k) (eqb t s) is
+pub stops_own : (s k : ℕ) (e : Event) → eqb (seat_of e) s ≡ false → stops_hold s k e ≡ false
+stops_own s k (Push t j) is = and_last (eqb j k) (eqb t s) is
+stops_own s k (Back t j why) is = and_last (eqb j k) (eqb t s) is
 stops_own s k _ is = refl
 
 -- who has the same own events holds the same
@@ -71,7 +102,7 @@ held_same s k v w is have =
     let b = count_own (stops_hold s k) s (stops_own s k) v ∙ (ap (count_by (stops_hold s k)) (sym is) ∙ sym (count_own (stops_hold s k) s (stops_own s k) w)) in
     omega arith
 
-close_own : (e : Event) → eqb (seat_of e) owner_seat ≡ false → is_close e ≡ false
+pub close_own : (e : Event) → eqb (seat_of e) owner_seat ≡ false → is_close e ≡ false
 close_own Close is = is
 close_own _ is = refl
 
@@ -91,15 +122,15 @@ map_kept f (Some k) true e es is none rest = rw is (ap (λ (x : List ℕ). k ∷
 map_kept f None false e es is none rest = rw is rest
 map_kept f (Some k) false e es is none rest = absurd (cc (none refl))
 
-map_own : (f : Event → Option ℕ) → ((e : Event) → eqb (seat_of e) owner_seat ≡ false → f e ≡ None) → (h : List Event) → filter_map f h ≡ filter_map f (own owner_seat h)
+pub map_own : (f : Event → Option ℕ) → ((e : Event) → eqb (seat_of e) owner_seat ≡ false → f e ≡ None) → (h : List Event) → filter_map f h ≡ filter_map f (own owner_seat h)
 map_own f none [] = refl
 map_own f none (e ∷ es) = map_kept f (f e) (eqb (seat_of e) owner_seat) e es refl (none e) (map_own f none es)
 
-begun_own : (e : Event) → eqb (seat_of e) owner_seat ≡ false → begun_by e ≡ None
+pub begun_own : (e : Event) → eqb (seat_of e) owner_seat ≡ false → begun_by e ≡ None
 begun_own (Begin k) is = absurd (cc is)
 begun_own _ is = refl
 
-ended_own : (e : Event) → eqb (seat_of e) owner_seat ≡ false → ended_by e ≡ None
+pub ended_own : (e : Event) → eqb (seat_of e) owner_seat ≡ false → ended_by e ≡ None
 ended_own (End k) is = absurd (cc is)
 ended_own _ is = refl
 

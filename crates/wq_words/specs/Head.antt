@@ -9,7 +9,7 @@ head_word (Item k) = k + 1
 head_word Closed = 2 ^ 64 - 1
 
 -- its number, if it has one, is a u32
-abbrev pub IsNumbered : Head → Type 0
-IsNumbered Empty = Unit {0}
-IsNumbered (Item k) = k < 2 ^ 32
-IsNumbered Closed = Unit {0}
+abbrev pub IsCodable : Head → Type 0
+IsCodable Empty = Unit {0}
+IsCodable (Item k) = k < 2 ^ 32
+IsCodable Closed = Unit {0}

@@ -7,4 +7,5 @@ pub mod Listed
 pub mod Keeper
 pub mod Headline
 pub mod Seen
+pub mod Counting
 pub mod DelayTable

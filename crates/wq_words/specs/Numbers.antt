@@ -3,6 +3,9 @@ use Rattle.std.specs.Prelude.{ℕ, ◌+◌}
 use Rattle.wq_words.specs.declared.layout.Layout.{Layout}
 
 -- items come first, barriers follow, and the stop item is the last number
+abbrev pub barrier_number : Layout → ℕ → ℕ
+barrier_number layout b = layout.items + b
+
 abbrev pub stop_number : Layout → ℕ
 stop_number layout = layout.items + layout.barriers
 

@@ -1,5 +1,5 @@
 -- Whose an event is, and what a seat sees come new.
-use Rattle.std.specs.Prelude.{◌≡◌, ℕ, ◌≤◌, not, ◌==◌, List, ◌++◌, length, filter}
+use Rattle.std.specs.Prelude.{◌≡◌, ℕ, ◌≤◌, not, ◌==◌, Bool, ◌||◌, List, ◌++◌, length, filter}
 use Rattle.wq_words.specs.declared.event.Event.{Event}
 use Rattle.wq_words.specs.declared.event.Event.TheVariants.{Hold, Busy, Push, Back, Take, Close, Begin, End, Chain, ChainBusy}
 
@@ -26,6 +26,10 @@ own c h = filter (λ e. seat_of e == c) h
 
 abbrev pub others : ℕ → List Event → List Event
 others c h = filter (λ e. not (seat_of e == c)) h
+
+-- it is of the seat of sender s, or of the owner's
+abbrev pub is_ours : ℕ → Event → Bool
+is_ours s e = (seat_of e == s) || (seat_of e == owner_seat)
 
 -- What is seen goes on from v to w. In what came new the events of the seat c are xs, and at least n are of other seats.
 pub record Grows (c : ℕ) (xs : List Event) (n : ℕ) (v w : List Event) : Type 0 where

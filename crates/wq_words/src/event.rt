@@ -145,7 +145,7 @@ impl Event {
     pub(crate) fn has_number(self, layout: &Layout) -> bool
         ensures { IsTrue result ↔ HasNumber layout.now self }
     {
-        let count = layout.items + layout.barriers + 1;
+        let count = layout.number_count();
         match self {
             Event::Hold(_, number)
             | Event::Busy(_, number)

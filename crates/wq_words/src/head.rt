@@ -1,7 +1,7 @@
 //! The codes of the head word.
 ghost use Rattle.std.specs.Prelude.{◌≡◌, Some, IfSome};
 ghost use Rattle.wq_words.specs.declared.head.Head.{Head};
-ghost use Rattle.wq_words.specs.Head.{head_word, IsNumbered};
+ghost use Rattle.wq_words.specs.Head.{head_word, IsCodable};
 
 /// What the head word of a queue says: the list is empty, this number was pushed last, or the queue is closed.
 #[derive(Clone, Copy, Debug, PartialEq, Eq)]
@@ -28,8 +28,8 @@ impl Head {
 
     /// What the word codes, which is what `to_word` was given; `None` for a word that codes nothing.
     pub fn from_word(word: u64) -> Option<Head>
-        ensures coded { IfSome result (λ head. IsNumbered head × (head_word head ≡ word)) }
-        ensures given_back { (head : Head) → IsNumbered head → head_word head ≡ word → result ≡ Some head }
+        ensures coded { IfSome result (λ head. IsCodable head × (head_word head ≡ word)) }
+        ensures given_back { (head : Head) → IsCodable head → head_word head ≡ word → result ≡ Some head }
     {
         if word == 0 {
             return Some(Head::Empty);

@@ -8,6 +8,7 @@ mod head;
 mod history;
 mod laws;
 mod layout;
+mod numbers;
 
 pub use answer::{Answer, Armed, Modified, Posted};
 pub use event::{Event, Why};

@@ -1,0 +1,18 @@
+-- Whether a number runs, as a test and as a fact.
+use Rattle.std.proofs.Common.{◌≡◌, ℕ, List, length, get_or, Some, None, arith}
+use Rattle.std.proofs.lemmas.Option.{slice_get_within, slice_get_past, slice_get-get_or}
+use Rattle.wq_words.specs.declared.event.Event.{Event}
+use Rattle.wq_words.specs.History.{begun, ended, IsRunning, running}
+
+-- a number that runs, where one does
+pub runs_some : (h : List Event) → IsRunning h → (k : ℕ) × (running h ≡ Some k)
+runs_some h runs = (get_or (begun h) (length (ended h)) 0, slice_get-get_or (begun h) (length (ended h)) 0 runs)
+
+pub runs_from_running : (h : List Event) (k : ℕ) → running h ≡ Some k → IsRunning h
+runs_from_running h k is = slice_get_within (begun h) (length (ended h)) k is
+
+pub rests_from_running : (h : List Event) → running h ≡ None → ¬ IsRunning h
+rests_from_running h is runs = absurd (cc (is, (runs_some h runs).1))
+
+pub running_from_rests : (h : List Event) → ¬ IsRunning h → running h ≡ None
+running_from_rests h idle = slice_get_past (begun h) (length (ended h)) (omega arith)

@@ -1,0 +1,42 @@
+-- Which events seats count.
+use Rattle.std.specs.Prelude.{ℕ, ◌==◌, Bool, true, false}
+use Rattle.wq_words.specs.declared.event.Event.{Event}
+use Rattle.wq_words.specs.declared.event.Event.TheVariants.{Busy, Push, Back, Chain, ChainBusy}
+use Rattle.wq_words.specs.declared.event.Why.TheVariants.{Closed, Contended}
+
+-- sender s was answered that its number is queued, is pending already, may not be queued any more, or lost each try
+abbrev pub is_queued_by : ℕ → Event → Bool
+is_queued_by s (Push t k) = t == s
+is_queued_by s _ = false
+
+abbrev pub is_pending_by : ℕ → Event → Bool
+is_pending_by s (Busy t k) = t == s
+is_pending_by s _ = false
+
+abbrev pub is_closed_by : ℕ → Event → Bool
+is_closed_by s (Back t k Closed) = t == s
+is_closed_by s _ = false
+
+abbrev pub is_contended_by : ℕ → Event → Bool
+is_contended_by s (Back t k Contended) = t == s
+is_contended_by s _ = false
+
+-- an item was chained, or found pending
+abbrev pub is_chain : Event → Bool
+is_chain (Chain k) = true
+is_chain _ = false
+
+abbrev pub is_chain_busy : Event → Bool
+is_chain_busy (ChainBusy k) = true
+is_chain_busy _ = false
+
+-- the PENDING bit was found set, whoever asked
+abbrev pub is_busy : Event → Bool
+is_busy (Busy s k) = true
+is_busy (ChainBusy k) = true
+is_busy _ = false
+
+-- a number was given back since the queue was closed
+abbrev pub is_refusal : Event → Bool
+is_refusal (Back s k Closed) = true
+is_refusal _ = false
