@@ -1,9 +1,9 @@
 -- A number that the owner walked or that waits in its batch: nobody else follows or writes its link.
-use Rattle.std.proofs.Common.{◌≡◌, ◌≢◌, ℕ, zero, suc, ◌+◌, ◌<◌, ◌≤◌, ◌==◌, Bool, true, false, cond, IsTrue, List, [], ◌∷◌, ◌++◌, length, get_or, set, Option, None, Some, refl, sym, ap, ◌∙◌, arith, inl, inr, ◌⊎◌, ⊎_elim, ◌↔◌, length-set}
+use Rattle.std.proofs.Common.{◌≡◌, ◌≢◌, ℕ, zero, suc, ◌+◌, ◌<◌, ◌≤◌, ◌==◌, Bool, true, false, cond, IsTrue, List, [], ◌∷◌, ◌++◌, get_or, set, Option, Some, refl, sym, ap, ◌∙◌, arith, inl, inr, ◌⊎◌, ⊎_elim, ◌↔◌, length-set}
 use Rattle.std.specs.Prelude.{reverse, Contains}
 use Rattle.std.specs.List.{list_any}
 use Rattle.std.proofs.lemmas.List.{get_or-set_other}
-use Rattle.std.proofs.lemmas.Bool.{cases_eq, eqb-true, eqb-false, eq-eqb, ne_eqb}
+use Rattle.std.proofs.lemmas.Bool.{cases_eq, eq-eqb, ne_eqb}
 use Rattle.wq_words.specs.Numbers.{number_count}
 use Rattle.wq_words.specs.History.{accepted, begun}
 use Rattle.wq_words.specs.Listed.{listed}
@@ -14,7 +14,7 @@ use Rattle.wq_core.specs.declared.step.Private.{Private}
 use Rattle.wq_core.specs.Words.{link_place}
 use Rattle.wq_core.specs.Machine.{Machine, with_link}
 use Rattle.wq_core.specs.Sound.{AreChained, IsSound}
-use Rattle.wq_core.proofs.Chains.{times, times-cons, times-first, times-append, times-reverse_aux, chain_set}
+use Rattle.wq_core.proofs.Chains.{times, times-cons, times-append, times-reverse_aux, chain_set}
 use Rattle.wq_core.proofs.Privates.{AreLinked}
 use Rattle.wq_core.proofs.Steps.{by_keepers, from_keepers, head_of-link, done_of-link, items_of-link}
 use mathlib.Core.List.{reverse_aux}
@@ -38,8 +38,7 @@ any_times k (x ∷ xs) = go (x == k) refl (any_times k xs)
   where
     go : (b : Bool) → (x == k) ≡ b → (IsTrue (list_any (λ y. y == k) xs) ↔ (0 < times k xs)) → IsTrue (list_any (λ y. y == k) (x ∷ xs)) ↔ (0 < times k (x ∷ xs))
     go true e rest = (λ _. omega (arith, times-cons k x xs, ap {B = ℕ} (λ (b : Bool). cond b 1 0) e), λ _. rw e refl)
-    go false e rest = let count : times k (x ∷ xs) ≡ times k xs = omega (arith, times-cons k x xs, ap {B = ℕ} (λ (b : Bool). cond b 1 0) e) in
-        rw (e, count) rest
+    go false e rest = rw e rest
 
 -- whether it stands in a list that is stored the other way round
 pub any_stored : (k : ℕ) (xs : List ℕ) → IsTrue (list_any (λ y. y == k) xs) ↔ Contains (reverse xs) k

@@ -1,6 +1,5 @@
 use Rattle.std.proofs.Common.{rules, ◌≡◌, ◌≢◌, get_or, length, None, [], ◌∷◌, ◌++◌, reverse, refl, sym, ap, ◌∙◌, arith, ⊎_elim}
 use Rattle.std.proofs.lemmas.Grind.{common_steps}
-use Rattle.wq_core.specs.declared.step.Reply.TheVariants.{Walked}
 use Rattle.wq_core.specs.Words.{link_place, number_at}
 use Rattle.wq_core.proofs.Chains.{number_at-none}
 use Rattle.wq_core.proofs.Steps.{cursor_is, first_of_batch}
