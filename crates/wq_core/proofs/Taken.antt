@@ -1,20 +1,25 @@
--- What the head's chain spells, what a push finds there, and what the owner's batch is.
-use Rattle.std.proofs.Common.{◌≡◌, ℕ, ◌+◌, ◌==◌, Bool, true, false, if◌then◌else◌, List, [], ◌∷◌, ◌++◌, length, take, drop, reverse, None, unwrap_or, refl, sym, ap, ◌∙◌, arith, length-append}
+-- What the head's chain spells, what a push finds there, what the owner's batch is, and that no sender touches its links.
+use Rattle.std.proofs.Common.{◌≡◌, ℕ, ◌+◌, ◌==◌, Bool, true, false, if◌then◌else◌, List, [], ◌∷◌, ◌++◌, length, take, drop, reverse, get_or, set, None, unwrap_or, refl, sym, ap, ◌∙◌, arith, length-append}
 use Rattle.std.proofs.lemmas.Bool.{ne_eqb, eqb-true}
-use Rattle.std.proofs.lemmas.List.{append-nil, length-reverse, take_at, drop_at}
+use Rattle.std.proofs.lemmas.List.{append-nil, length-reverse, take_at, drop_at, get_or-set_other}
 use Rattle.wq_words.specs.Numbers.{number_count}
 use Rattle.wq_words.specs.Head.{head_word}
 use Rattle.wq_words.specs.History.{accepted, begun, taken, first, IsClosed}
 use Rattle.wq_words.specs.Listed.{listed}
 use Rattle.wq_words.proofs.Listed.{length-accepted, fresh-open}
 use Rattle.wq_core.specs.declared.step.Seat.TheVariants.{Sender}
-use Rattle.wq_core.specs.declared.step.Step.TheVariants.{Push}
+use Rattle.wq_words.specs.Keeper.{keeper}
+use Rattle.wq_core.specs.declared.step.Step.{Step}
+use Rattle.wq_core.specs.declared.step.Step.TheVariants.{Hold, Look, Link, Push, Back, Check}
+use Rattle.wq_core.specs.Words.{head_place, link_place, item_place}
 use Rattle.wq_core.specs.declared.step.Reply.TheVariants.{Pushed, Lost}
-use Rattle.wq_core.specs.Machine.{Machine, head, seen_word, reply_to}
+use Rattle.wq_core.specs.Machine.{Machine, head, link, item_word, seen_word, after, reply_to, StandsIn}
 use Rattle.wq_core.specs.Refusal.{IsMade}
 use Rattle.wq_core.specs.Sound.{head_of_list, IsChain, IsSound}
 use Rattle.wq_core.proofs.Chains.{chain_zero}
-use Rattle.wq_core.proofs.Steps.{head_open, head_of_closed}
+use Rattle.wq_core.proofs.Turning.{stands_number, no_senders}
+use Rattle.wq_core.proofs.Schedules.{either}
+use Rattle.wq_core.proofs.Steps.{head_open, head_of_closed, sender_from_holds}
 
 -- between two calls of the owner the batch is what is taken and has not begun
 pub batch_is : (m : Machine) → IsSound m → m.cursor ≡ None → m.batch ≡ drop (length (begun m.history)) (take (taken m.history) (accepted m.history))
@@ -54,3 +59,23 @@ pushed_first m s k q o made is = go (head m == seen_word m s) refl is
         let said : (seen_word m s == 0) ≡ q = cc is' in
         sym said ∙ ap (λ w. w == 0) (sym won) ∙ head_first m o (opens won)
     go false e is' = absurd cc
+
+-- no sender's step writes the link of a number that was taken and has not begun
+pub sender_links : (m : Machine) → IsSound m → (s : ℕ) (step : Step) → IsMade m (Sender s) step → (k : ℕ) → StandsIn m.walked m.batch k → link (after m (Sender s) step) k ≡ link m k
+sender_links m o s step made k stands = go step made
+  where
+    n : ℕ
+    n = number_count m.layout
+
+    item : (j v : ℕ) → get_or (set m.words (item_place n j) v) (link_place k) 0 ≡ link m k
+    item j v = get_or-set_other m.words (item_place n j) (link_place k) v 0 (λ e. omega (arith, e, stands_number m o k stands))
+
+    go : (step : Step) → IsMade m (Sender s) step → link (after m (Sender s) step) k ≡ link m k
+    go (Hold j) made = either (item_word m j == 0) (λ x. link x k ≡ link m k) _ _ (λ e. item j 1) (λ e. refl)
+    go Look made = refl
+    go (Link j) made =
+        get_or-set_other m.words (link_place j) (link_place k) (seen_word m s) 0 (λ e. (let same : k ≡ j = omega (arith, e) in no_senders m o k stands s (ap (keeper m.history) same ∙ sender_from_holds m o s j made.1.0)))
+    go (Push j) made = either (head m == seen_word m s) (λ x. link x k ≡ link m k) _ _ (λ e. get_or-set_other m.words head_place (link_place k) (j + 1) 0 (λ e. omega (arith, e))) (λ e. refl)
+    go (Back j why) made = item j 0
+    go (Check j) made = refl
+    go _ made = absurd made.1

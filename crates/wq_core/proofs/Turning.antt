@@ -3,6 +3,7 @@ use Rattle.std.proofs.Common.{◌≡◌, ◌≢◌, ℕ, zero, suc, ◌+◌, ◌
 use Rattle.std.specs.Prelude.{reverse, Contains}
 use Rattle.std.specs.List.{list_any}
 use Rattle.std.proofs.lemmas.List.{get_or-set_other}
+use Rattle.std.proofs.lemmas.Option.{slice_get-get_or}
 use Rattle.std.proofs.lemmas.Bool.{cases_eq, eq-eqb, ne_eqb}
 use Rattle.wq_words.specs.Numbers.{number_count}
 use Rattle.wq_words.specs.History.{accepted, begun}
@@ -12,11 +13,11 @@ use Rattle.wq_words.specs.declared.event.Event.{Event}
 use Rattle.wq_words.proofs.Keepers.{queue_bit, kept}
 use Rattle.wq_core.specs.declared.step.Private.{Private}
 use Rattle.wq_core.specs.Words.{link_place}
-use Rattle.wq_core.specs.Machine.{Machine, with_link}
+use Rattle.wq_core.specs.Machine.{Machine, with_link, StandsIn}
 use Rattle.wq_core.specs.Sound.{AreChained, IsSound}
 use Rattle.wq_core.proofs.Chains.{times, times-cons, times-append, times-reverse_aux, chain_set}
 use Rattle.wq_core.proofs.Privates.{AreLinked}
-use Rattle.wq_core.proofs.Steps.{by_keepers, from_keepers, head_of-link, done_of-link, items_of-link}
+use Rattle.wq_core.proofs.Steps.{accepted_number, away_from_sender, by_keepers, from_keepers, head_of-link, done_of-link, items_of-link}
 use mathlib.Core.List.{reverse_aux}
 
 -- a number stands in a list where it stands there some times
@@ -51,10 +52,6 @@ queue_once Home = omega arith
 queue_once (Sender s) = omega arith
 queue_once Listed = omega arith
 queue_once Owner = omega arith
-
--- the owner walked k, or k waits in its batch
-abbrev pub StandsIn : List ℕ → List ℕ → ℕ → Type 0
-StandsIn walked batch k = Contains walked k ⊎ Contains batch k
 
 pub times_stands : (walked batch : List ℕ) (k : ℕ) → StandsIn walked batch k → 0 < times k walked + times k batch
 times_stands walked batch k = ⊎_elim (λ there. omega (arith, times_contains k walked there)) (λ there. omega (arith, times_contains k batch there))
@@ -91,13 +88,9 @@ linked_turn n words seats h k v free old s j is =
     let same : get_or (set words (link_place k) v) (link_place j) 0 ≡ get_or words (link_place j) 0 = get_or-set_other words (link_place k) (link_place j) v 0 ne in
     (o.0, o.1, o.2 ∙ ap Some (sym same), λ e. o.3 (sym same ∙ e))
 
-module _ (m : Machine) (o : IsSound m) (k : ℕ) (stands : StandsIn m.walked m.batch k) where
-  -- it was accepted once more than it has begun
-  pub stands_once : times k (accepted m.history) ≤ times k (begun m.history) + 1
-  stands_once = omega (arith, (kept m.layout m.history o.legal 0 k).2, queue_once (keeper m.history k))
-
-  pub stands_waits : times k (begun m.history) < times k (accepted m.history)
-  stands_waits =
+module _ (m : Machine) (o : IsSound m) (k : ℕ) where
+  count_of : times k (accepted m.history) ≡ times k (begun m.history) + (times k m.batch + (times k o.chains.remaining + times k m.walked)) + times k (listed m.history)
+  count_of =
       let a = o.chains in
       omega (
         arith,
@@ -106,15 +99,34 @@ module _ (m : Machine) (o : IsSound m) (k : ℕ) (stands : StandsIn m.walked m.b
         times-append k (begun m.history) (m.batch ++ reverse_aux a.remaining m.walked),
         times-append k m.batch (reverse_aux a.remaining m.walked),
         times-reverse_aux k a.remaining m.walked,
-        times_stands m.walked m.batch k stands,
+        times-reverse_aux k (listed m.history) [],
       )
+
+  accepted_once : times k (accepted m.history) ≤ times k (begun m.history) + 1
+  accepted_once = omega (arith, (kept m.layout m.history o.legal 0 k).2, queue_once (keeper m.history k))
+
+  -- what the owner walked, and its batch, have each number at most once
+  pub stands_once : times k m.walked + times k m.batch ≤ 1
+  stands_once = omega (arith, count_of, accepted_once)
+
+module _ (m : Machine) (o : IsSound m) (k : ℕ) (stands : StandsIn m.walked m.batch k) where
+  -- it was accepted and has not begun as often
+  pub stands_waits : times k (begun m.history) < times k (accepted m.history)
+  stands_waits = omega (arith, count_of m o k, times_stands m.walked m.batch k stands)
+
+  pub stands_number : k < number_count m.layout
+  stands_number =
+      let there = contains_times k (accepted m.history) (omega (arith, stands_waits)) in
+      accepted_number m.layout m.history o.legal there.0 k (slice_get-get_or (accepted m.history) there.0 k there.1 ∙ ap Some there.2)
+
+  pub no_senders : (s : ℕ) → keeper m.history k ≡ Sender s → ⊥
+  no_senders s mine = omega (arith, away_from_sender m o s k mine, stands_waits)
 
   -- any link may be stored
   pub sound_turn : (v : ℕ) → k < number_count m.layout → IsSound (with_link m k v)
   sound_turn v number =
       let b = by_keepers m o in
       let n : ℕ = number_count m.layout in
-      let free : (s : ℕ) → keeper m.history k ≡ Sender s → ⊥ = λ s mine. (let t = (kept m.layout m.history o.legal s k).2 in omega (arith, rw mine at t, stands_waits)) in
       from_keepers (with_link m k v) (record {
         has_words = length-set m.words (link_place k) v ∙ o.has_words;
         has_seats = o.has_seats;
@@ -122,7 +134,7 @@ module _ (m : Machine) (o : IsSound m) (k : ℕ) (stands : StandsIn m.walked m.b
         head_is = head_of-link n m.words v k number ∙ o.head_is;
         items_are = items_of-link n m.words v k number m.history b.items_are;
         done_is = done_of-link n m.words v k number ∙ o.done_is;
-        chains = chained_turn n m.words m.cursor m.walked m.batch _ _ _ k v (times_stands m.walked m.batch k stands) stands_once o.chains;
-        linked = linked_turn n m.words m.seats m.history k v free b.linked;
+        chains = chained_turn n m.words m.cursor m.walked m.batch _ _ _ k v (times_stands m.walked m.batch k stands) (accepted_once m o k) o.chains;
+        linked = linked_turn n m.words m.seats m.history k v no_senders b.linked;
         seen = o.seen;
       })

@@ -61,6 +61,10 @@ private m s = get_or m.seats s nothing_seen
 abbrev pub seen_word : Machine → ℕ → ℕ
 seen_word m s = unwrap_or (private m s).seen 0
 
+-- the owner walked k, or k waits in its batch
+abbrev pub StandsIn : List ℕ → List ℕ → ℕ → Type 0
+StandsIn walked batch k = Contains walked k ⊎ Contains batch k
+
 -- the step is one of the seat's kinds and may be made now
 abbrev pub IsEnabled : Machine → Seat → Step → Type 0
 IsEnabled m (Sender s) (Hold k) = Unit {0}
@@ -75,7 +79,7 @@ IsEnabled m Owner Walk = (m.cursor ≢ None) ⊎ (m.batch ≢ [])
 IsEnabled m Owner Begin = (m.cursor ≡ None) × (m.batch ≢ []) × (¬ IsRunning m.history)
 IsEnabled m Owner End = IsRunning m.history
 IsEnabled m Owner (Chain k) = IsClosed m.history × (m.cursor ≡ None) × IsRunning m.history
-IsEnabled m Owner (Turn k next) = Contains m.walked k ⊎ Contains m.batch k
+IsEnabled m Owner (Turn k next) = StandsIn m.walked m.batch k
 IsEnabled m seat step = ⊥
 
 -- a word is written, a sender keeps other things, an event is added
