@@ -1,25 +1,25 @@
 -- A step changes what its own seat keeps, and adds events of that seat alone.
-use Rattle.std.proofs.Common.{◌≡◌, ℕ, ◌+◌, ◌<◌, ◌≢◌, Bool, true, false, ◌==◌, if◌then◌else◌, List, [], ◌∷◌, ◌++◌, length, get_or, set, Option, Some, None, unwrap_or, sym, refl, ap, ◌∙◌, subst, arith}
+use Rattle.std.proofs.Common.{◌≡◌, ℕ, ◌≢◌, Bool, true, false, ◌==◌, if◌then◌else◌, List, [], ◌∷◌, ◌++◌, Option, Some, None, unwrap_or, sym, refl, ap, ◌∙◌, subst, arith}
 use Rattle.std.proofs.lemmas.List.{append-nil, get_or-set_other, get_or-set_same}
 use Rattle.wq_words.specs.declared.layout.Layout.{Layout}
 use Rattle.wq_words.specs.declared.event.Event.{Event}
 use Rattle.wq_words.specs.declared.event.Event.TheVariants as event
 use Rattle.wq_words.specs.History.{running}
 use Rattle.wq_core.specs.declared.step.Private.{Private}
-use Rattle.wq_core.specs.declared.step.Seat.TheVariants.{Sender, Owner}
+use Rattle.wq_core.specs.declared.step.Seat.TheVariants.{Owner}
 use Rattle.wq_core.specs.declared.step.Step.{Step}
 use Rattle.wq_core.specs.declared.step.Step.TheVariants.{Hold, Look, Link, Push, Back, Check, Take, Close, Walk, Begin, End, Chain}
 use Rattle.wq_core.specs.Words.{number_at}
-use Rattle.wq_core.specs.Machine.{Machine, nothing_seen, private, seen_word, head, link, item_word, with_head, with_link, with_item, with_done, with_private, happened, unlinked, walked_past, after_walk, after_begin, after_end, after, IsEnabled}
+use Rattle.wq_core.specs.Machine.{Machine, nothing_seen, private, seen_word, head, link, item_word, with_item, with_private, happened, unlinked, after_walk, after_begin, after_end, after}
 use Rattle.wq_core.specs.Refusal.{IsMade}
 use Rattle.wq_core.specs.Sound.{IsSound}
 use Rattle.wq_table.specs.declared.table.Part.{Part}
 use Rattle.wq_table.specs.declared.table.Stage.{Stage}
 use Rattle.wq_table.specs.declared.table.Stage.TheVariants.{Sends, Owns}
 use Rattle.wq_words.specs.Seen.{owner_seat, seat_of, own}
-use Rattle.wq_table.specs.Law.{part, seat_at, Keeps, Fits}
+use Rattle.wq_table.specs.Law.{seat_at, HasStage, IsPartOf}
 use Rattle.wq_table.specs.Plays.{word_found, stage_after, walked_on, tail_of}
-use Rattle.wq_words.proofs.Seen.{own-append, own_none, own_same, prefix_append}
+use Rattle.wq_words.proofs.Seen.{own_none, own_same, prefix_append}
 
 -- from m to n by a step of the seat c: what is of other seats stays
 pub record Change (m n : Machine) (c : ℕ) : Type 0 where
@@ -111,7 +111,7 @@ module _ (m : Machine) (c : ℕ) (is : c ≡ owner_seat) where
   change_end None = unchanged m c
   change_end (Some k) = did _ m.cursor m.walked m.batch (event.End k) refl
 
-pub changes : (m : Machine) (c : ℕ) (stage : Stage) (step : Step) → Keeps m c stage → Change m (after m (seat_at c stage) step) c
+pub changes : (m : Machine) (c : ℕ) (stage : Stage) (step : Step) → HasStage m c stage → Change m (after m (seat_at c stage) step) c
 changes m c (Sends p) (Hold k) keeps = change_either m _ _ c (item_word m k == 0) (marked m c _ (event.Hold c k) refl) (marked m c m.words (event.Busy c k) refl)
 changes m c (Sends p) Look keeps = kept m c m.words _
 changes m c (Sends p) (Link k) keeps = kept m c _ _
@@ -127,13 +127,13 @@ changes m c (Owns cursor walked batch) (Chain k) keeps =
     change_either m _ _ c (item_word m k == 0) (did m c keeps.0 _ m.cursor m.walked _ (event.Chain k) refl) (did m c keeps.0 m.words m.cursor m.walked m.batch (event.ChainBusy k) refl)
 changes m c (Owns cursor walked batch) _ keeps = unchanged m c
 
-keeps_other : (m n : Machine) (c d : ℕ) (stage : Stage) → Change m n c → d ≢ c → Keeps m d stage → Keeps n d stage
+keeps_other : (m n : Machine) (c d : ℕ) (stage : Stage) → Change m n c → d ≢ c → HasStage m d stage → HasStage n d stage
 keeps_other m n c d (Sends p) change ne keeps = (omega (arith, ap (λ (l : Layout). l.senders) change.layout_is, keeps.0), change.senders d ne ∙ keeps.1)
 keeps_other m n c d (Owns cursor walked batch) change ne keeps =
     let same = change.owner (λ e. ne (keeps.0 ∙ sym e)) in (keeps.0, same.0 ∙ keeps.1, same.1 ∙ keeps.2, same.2 ∙ keeps.3)
 
 -- the part of another seat still fits
-pub fits_other : (m n : Machine) (c : ℕ) (q : Part) → Change m n c → q.seat ≢ c → Fits m q → Fits n q
+pub fits_other : (m n : Machine) (c : ℕ) (q : Part) → Change m n c → q.seat ≢ c → IsPartOf m q → IsPartOf n q
 fits_other m n c q change ne fits = record {
   layout_is = fits.layout_is ∙ sym change.layout_is;
   begins = rw change.history_is (prefix_append q.seen m.history change.new fits.begins);
@@ -141,44 +141,44 @@ fits_other m n c q change ne fits = record {
   keeps = keeps_other m n c q.seat q.stage change ne fits.keeps;
 }
 
-keeps_either : (x y : Machine) (c : ℕ) (b : Bool) (stage : Stage) → Keeps x c stage → Keeps y c stage → Keeps (if b then x else y) c stage
+keeps_either : (x y : Machine) (c : ℕ) (b : Bool) (stage : Stage) → HasStage x c stage → HasStage y c stage → HasStage (if b then x else y) c stage
 keeps_either x y c true stage p q = p
 keeps_either x y c false stage p q = q
 
-keeps_walk : (m : Machine) (c : ℕ) (cursor : Option ℕ) → c ≡ owner_seat → cursor ≢ None → Keeps (after_walk m cursor) c (walked_on (unwrap_or cursor 0) m.walked m.batch (link m (unwrap_or cursor 0)))
+keeps_walk : (m : Machine) (c : ℕ) (cursor : Option ℕ) → c ≡ owner_seat → cursor ≢ None → HasStage (after_walk m cursor) c (walked_on (unwrap_or cursor 0) m.walked m.batch (link m (unwrap_or cursor 0)))
 keeps_walk m c None is some = absurd (some refl)
 keeps_walk m c (Some k) is some = go (link m k == 0)
   where
-    go : (b : Bool) → Keeps (if b then record m { cursor = None; walked = []; batch = m.batch ++ k ∷ m.walked } else record m { cursor = number_at (link m k); walked = k ∷ m.walked }) c
+    go : (b : Bool) → HasStage (if b then record m { cursor = None; walked = []; batch = m.batch ++ k ∷ m.walked } else record m { cursor = number_at (link m k); walked = k ∷ m.walked }) c
         (if b then Owns None [] (m.batch ++ k ∷ m.walked) else Owns (number_at (link m k)) (k ∷ m.walked) m.batch)
     go true = (is, refl, refl, refl)
     go false = (is, refl, refl, refl)
 
-keeps_begin : (m : Machine) (c : ℕ) (batch : List ℕ) → c ≡ owner_seat → batch ≢ [] → Keeps (after_begin m batch) c (Owns m.cursor m.walked (tail_of batch))
+keeps_begin : (m : Machine) (c : ℕ) (batch : List ℕ) → c ≡ owner_seat → batch ≢ [] → HasStage (after_begin m batch) c (Owns m.cursor m.walked (tail_of batch))
 keeps_begin m c [] is some = absurd (some refl)
 keeps_begin m c (k ∷ ks) is some = (is, refl, refl, refl)
 
-keeps_end : (m : Machine) (c : ℕ) (runs : Option ℕ) → c ≡ owner_seat → Keeps (after_end m runs) c (Owns m.cursor m.walked m.batch)
+keeps_end : (m : Machine) (c : ℕ) (runs : Option ℕ) → c ≡ owner_seat → HasStage (after_end m runs) c (Owns m.cursor m.walked m.batch)
 keeps_end m c None is = (is, refl, refl, refl)
 keeps_end m c (Some k) is = (is, refl, refl, refl)
 
 keeps_chain : (m : Machine) (c k : ℕ) (b : Bool) → c ≡ owner_seat
-    → Keeps (if b then happened (record (with_item m k 1) { batch = m.batch ++ k ∷ [] }) (event.Chain k) else happened m (event.ChainBusy k)) c (Owns m.cursor m.walked (if b then m.batch ++ k ∷ [] else m.batch))
+    → HasStage (if b then happened (record (with_item m k 1) { batch = m.batch ++ k ∷ [] }) (event.Chain k) else happened m (event.ChainBusy k)) c (Owns m.cursor m.walked (if b then m.batch ++ k ∷ [] else m.batch))
 keeps_chain m c k true is = (is, refl, refl, refl)
 keeps_chain m c k false is = (is, refl, refl, refl)
 
-own_again : (m : Machine) (c : ℕ) (cursor : Option ℕ) (walked batch : List ℕ) → Keeps m c (Owns cursor walked batch) → Owns m.cursor m.walked m.batch ≡ Owns cursor walked batch
+own_again : (m : Machine) (c : ℕ) (cursor : Option ℕ) (walked batch : List ℕ) → HasStage m c (Owns cursor walked batch) → Owns m.cursor m.walked m.batch ≡ Owns cursor walked batch
 own_again m c cursor walked batch keeps = cc (keeps.1, keeps.2, keeps.3)
 
 -- what the seat keeps after its step
-pub keeps_after : (m : Machine) (c : ℕ) (stage : Stage) (step : Step) → IsSound m → Keeps m c stage → IsMade m (seat_at c stage) step
-    → Keeps (after m (seat_at c stage) step) c (stage_after stage step (word_found m c step))
+pub keeps_after : (m : Machine) (c : ℕ) (stage : Stage) (step : Step) → IsSound m → HasStage m c stage → IsMade m (seat_at c stage) step
+    → HasStage (after m (seat_at c stage) step) c (stage_after stage step (word_found m c step))
 keeps_after m c (Sends p) (Hold k) sound keeps made = keeps_either _ _ c (item_word m k == 0) (Sends p) keeps keeps
 keeps_after m c (Sends p) Look sound keeps made = (keeps.0, get_or-set_same m.seats c _ nothing_seen (omega (arith, sound.has_seats, keeps.0)))
 keeps_after m c (Sends p) (Link k) sound keeps made =
     (keeps.0, get_or-set_same m.seats c _ nothing_seen (omega (arith, sound.has_seats, keeps.0)) ∙ ap (λ (x : Private). record x { linked = Some k }) keeps.1)
 keeps_after m c (Sends p) (Push k) sound keeps made =
-    let here : Keeps (with_private m c nothing_seen) c (Sends nothing_seen) = (keeps.0, get_or-set_same m.seats c nothing_seen nothing_seen (omega (arith, sound.has_seats, keeps.0))) in keeps_either _ _ c (head m == seen_word m c) (Sends nothing_seen) here here
+    let here : HasStage (with_private m c nothing_seen) c (Sends nothing_seen) = (keeps.0, get_or-set_same m.seats c nothing_seen nothing_seen (omega (arith, sound.has_seats, keeps.0))) in keeps_either _ _ c (head m == seen_word m c) (Sends nothing_seen) here here
 keeps_after m c (Sends p) (Back k why) sound keeps made =
     (keeps.0, get_or-set_same m.seats c _ nothing_seen (omega (arith, sound.has_seats, keeps.0)) ∙ ap (λ (x : Private). unlinked x k) keeps.1)
 keeps_after m c (Sends p) (Check k) sound keeps made = keeps
@@ -186,11 +186,11 @@ keeps_after m c (Sends p) _ sound keeps made = absurd made.1
 keeps_after m c (Owns cursor walked batch) Take sound keeps made = (keeps.0, refl, keeps.2, keeps.3)
 keeps_after m c (Owns cursor walked batch) Close sound keeps made = (keeps.0, refl, keeps.2, keeps.3)
 keeps_after m c (Owns cursor walked batch) Walk sound keeps made =
-    subst (λ (st : Stage). Keeps (after m Owner Walk) c (stage_after st Walk (word_found m c Walk))) (own_again m c cursor walked batch keeps) (keeps_walk m c m.cursor keeps.0 made.1)
+    subst (λ (st : Stage). HasStage (after m Owner Walk) c (stage_after st Walk (word_found m c Walk))) (own_again m c cursor walked batch keeps) (keeps_walk m c m.cursor keeps.0 made.1)
 keeps_after m c (Owns cursor walked batch) Begin sound keeps made =
-    subst (λ (st : Stage). Keeps (after m Owner Begin) c (stage_after st Begin (word_found m c Begin))) (own_again m c cursor walked batch keeps) (keeps_begin m c m.batch keeps.0 made.1.1)
+    subst (λ (st : Stage). HasStage (after m Owner Begin) c (stage_after st Begin (word_found m c Begin))) (own_again m c cursor walked batch keeps) (keeps_begin m c m.batch keeps.0 made.1.1)
 keeps_after m c (Owns cursor walked batch) End sound keeps made =
-    subst (λ (st : Stage). Keeps (after m Owner End) c (stage_after st End (word_found m c End))) (own_again m c cursor walked batch keeps) (keeps_end m c (running m.history) keeps.0)
+    subst (λ (st : Stage). HasStage (after m Owner End) c (stage_after st End (word_found m c End))) (own_again m c cursor walked batch keeps) (keeps_end m c (running m.history) keeps.0)
 keeps_after m c (Owns cursor walked batch) (Chain k) sound keeps made =
-    subst (λ (st : Stage). Keeps (after m Owner (Chain k)) c (stage_after st (Chain k) (word_found m c (Chain k)))) (own_again m c cursor walked batch keeps) (keeps_chain m c k (item_word m k == 0) keeps.0)
+    subst (λ (st : Stage). HasStage (after m Owner (Chain k)) c (stage_after st (Chain k) (word_found m c (Chain k)))) (own_again m c cursor walked batch keeps) (keeps_chain m c k (item_word m k == 0) keeps.0)
 keeps_after m c (Owns cursor walked batch) _ sound keeps made = absurd made.1

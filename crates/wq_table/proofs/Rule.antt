@@ -1,21 +1,17 @@
 -- A step that the machine makes keeps the rule of the table, and tells its seat what it was.
-use Rattle.std.proofs.Common.{◌≡◌, ℕ, ◌+◌, ◌<◌, ◌≢◌, List, [], ◌∷◌, ◌++◌, get_or, set, sym, refl, ap, ◌∙◌, subst, ⊎_elim, arith}
+use Rattle.std.proofs.Common.{◌≡◌, ℕ, ◌≢◌, List, [], ◌∷◌, get_or, set, sym, refl, ap, ◌∙◌, subst, ⊎_elim}
 use mathlib.Core.Option.{some}
-use mathlib.Core.List.{IsPrefix}
 use lib.ListN.{get_elem?}
-use Rattle.atomic_table.specs.Table.{State, Me, keeps, stepped, Allows}
+use Rattle.atomic_table.specs.Table.{State, keeps, Allows}
 use Rattle.atomic_table.proofs.Lists.{at_set}
 use Rattle.wq_words.specs.declared.layout.Layout.{Layout}
-use Rattle.wq_words.specs.declared.event.Event.{Event}
 use Rattle.wq_core.specs.declared.step.Step.{Step}
 use Rattle.wq_core.specs.Machine.{Machine, after}
 use Rattle.wq_core.specs.Refusal.{IsMade}
 use Rattle.wq_core.specs.Sound.{IsSound}
 use Rattle.wq_table.specs.declared.table.Part.{Part}
-use Rattle.wq_table.specs.declared.table.Stage.{Stage}
-use Rattle.wq_words.specs.Seen.{own}
-use Rattle.wq_table.specs.Law.{View, part, seat_at, Keeps, Fits, Apart, AllFit, Kept}
-use Rattle.wq_table.specs.Plays.{Sat, word_found, stage_after, Makes, Moves}
+use Rattle.wq_table.specs.Law.{View, part, seat_at, IsPartOf, ArePartsAt, Kept}
+use Rattle.wq_table.specs.Plays.{Sat, word_found, stage_after, Performs, MakesAlone}
 use Rattle.wq_core.proofs.Schedules.{sound_after}
 use Rattle.wq_words.proofs.Seen.{prefix_self}
 use Rattle.wq_table.proofs.Changes.{Change, changes, fits_other, keeps_after}
@@ -27,7 +23,7 @@ abbrev Carried : Type 0
 Carried = List (ℕ × Unit {0})
 
 -- the parts of another view still fit
-all_other : (m n : Machine) (who : ℕ → ℕ) (c i j : ℕ) (v : View) → Change m n c → who c ≡ i → j ≢ i → AllFit m who j v → AllFit n who j v
+all_other : (m n : Machine) (who : ℕ → ℕ) (c i j : ℕ) (v : View) → Change m n c → who c ≡ i → j ≢ i → ArePartsAt m who j v → ArePartsAt n who j v
 all_other m n who c i j [] change here away all = tt
 all_other m n who c i j (q ∷ qs) change here away all =
     (fits_other m n c q change (λ e. away (sym all.1 ∙ (ap who e ∙ here))) all.0, all.1, all.2, all_other m n who c i j qs change here away all.3)
@@ -36,7 +32,7 @@ all_other m n who c i j (q ∷ qs) change here away all =
 abbrev pub next_part : Machine → Part → Step → Part
 next_part m p step = part p.seat p.layout (after m (seat_at p.seat p.stage) step).history (stage_after p.stage step (word_found m p.seat step))
 
-next_fits : (m : Machine) (p : Part) (step : Step) → IsSound m → Fits m p → IsMade m (seat_at p.seat p.stage) step → Fits (after m (seat_at p.seat p.stage) step) (next_part m p step)
+next_fits : (m : Machine) (p : Part) (step : Step) → IsSound m → IsPartOf m p → IsMade m (seat_at p.seat p.stage) step → IsPartOf (after m (seat_at p.seat p.stage) step) (next_part m p step)
 next_fits m p step sound fits made = record {
   layout_is = fits.layout_is ∙ sym (changes m p.seat p.stage step fits.keeps).layout_is;
   begins = prefix_self (after m (seat_at p.seat p.stage) step).history;
@@ -44,16 +40,10 @@ next_fits m p step sound fits made = record {
   keeps = keeps_after m p.seat p.stage step sound fits.keeps made;
 }
 
--- Whatever machine the part is of, the step is made, writes its word as f says, and finds what g says
-pub record Performs (p : Part) (step : Step) (i : ℕ) (f g : ℕ → ℕ) : Type 0 where
-  pub made : (m : Machine) → IsSound m → Fits m p → IsMade m (seat_at p.seat p.stage) step
-  pub writes : (m : Machine) → IsSound m → Fits m p → (after m (seat_at p.seat p.stage) step).words ≡ set m.words i (f (get_or m.words i 0))
-  pub finds : (m : Machine) → IsSound m → Fits m p → g (get_or m.words i 0) ≡ word_found m p.seat step
-
 module _ (layout : Layout) (slots id : ℕ) (p : Part) (cs : Carried) (σ : Layout → Step) (i : ℕ) (f g : ℕ → ℕ) (performs : Performs p (σ p.layout) i f g) where
-  stepping : Allows (Kept layout) slots id (p ∷ [], cs) i f (λ n. Moves σ (p ∷ [], cs) (g n))
+  stepping : Allows (Kept layout) slots id (p ∷ [], cs) i f (λ n. MakesAlone σ (p ∷ [], cs) (g n))
   stepping s r same at small =
-      let m = r.machine in let fits : Fits m p = (r.seats id (p ∷ []) at).0 in let here = (r.seats id (p ∷ []) at).1 in
+      let m = r.machine in let fits : IsPartOf m p = (r.seats id (p ∷ []) at).0 in let here = (r.seats id (p ∷ []) at).1 in
       let made = performs.made m r.sound fits in let next = after m (seat_at p.seat p.stage) (σ p.layout) in let sound = sound_after m (seat_at p.seat p.stage) (σ p.layout) r.sound made in
       let found : g (get_or s.words i 0) ≡ word_found m p.seat (σ p.layout) = ap (λ (ws : List ℕ). g (get_or ws i 0)) r.words_are ∙ performs.finds m r.sound fits in
       let q = next_part m p (σ p.layout) in let q_fits = next_fits m p (σ p.layout) r.sound fits made in let change = changes m p.seat p.stage (σ p.layout) fits.keeps in (
@@ -67,7 +57,7 @@ module _ (layout : Layout) (slots id : ℕ) (p : Part) (cs : Carried) (σ : Layo
           layout_is = change.layout_is ∙ r.layout_is;
           words_are = ap (λ (ws : List ℕ). set ws i (f (get_or ws i 0))) r.words_are ∙ sym (performs.writes m r.sound fits);
           seats = λ j v there. ⊎_elim
-              (λ (t : (j ≡ id) × (q ∷ [] ≡ v)). subst (λ (z : ℕ × View). AllFit next r.who z.0 z.1) (λ k. (sym t.0 k, t.1 k)) (q_fits, here, tt, tt))
+              (λ (t : (j ≡ id) × (q ∷ [] ≡ v)). subst (λ (z : ℕ × View). ArePartsAt next r.who z.0 z.1) (λ k. (sym t.0 k, t.1 k)) (q_fits, here, tt, tt))
               (λ (t : (j ≢ id) × (get_elem? s.views j ≡ some v)). all_other m next r.who p.seat id j v change here t.0 (r.seats j v t.1)) (at_set s.views id j (q ∷ []) v there);
         },
         record {
@@ -92,6 +82,6 @@ module _ (layout : Layout) (slots id : ℕ) (p : Part) (cs : Carried) (σ : Layo
 
 -- the same of a view that is known to be of one part
 pub goes : (layout : Layout) (slots id : ℕ) (p : Part) (me : Sat) (σ : Layout → Step) (i : ℕ) (f g : ℕ → ℕ) → me.0 ≡ p ∷ [] → Performs p (σ p.layout) i f g
-    → Allows (Kept layout) slots id me i f (λ n. Moves σ me (g n))
+    → Allows (Kept layout) slots id me i f (λ n. MakesAlone σ me (g n))
 goes layout slots id p me σ i f g alone performs =
-    subst (λ (v : View). Allows (Kept layout) slots id (v, me.1) i f (λ n. Moves σ (v, me.1) (g n))) (sym alone) (stepping layout slots id p me.1 σ i f g performs)
+    subst (λ (v : View). Allows (Kept layout) slots id (v, me.1) i f (λ n. MakesAlone σ (v, me.1) (g n))) (sym alone) (stepping layout slots id p me.1 σ i f g performs)

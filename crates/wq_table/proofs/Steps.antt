@@ -1,5 +1,5 @@
 -- Each kind of step: the seat that makes it may, and its word becomes what the table's operation makes of it.
-use Rattle.std.proofs.Common.{◌≡◌, ◌≢◌, ℕ, ◌+◌, ◌-◌, ◌%◌, ◌^◌, ◌<◌, Bool, true, false, ◌==◌, eqb, eq-eqb, ne_eqb, if◌then◌else◌, List, [], ◌∷◌, ◌++◌, length, get_or, set, Option, Some, None, unwrap_or, slice_get, sym, refl, ap, ◌∙◌, subst, arith}
+use Rattle.std.proofs.Common.{◌≡◌, ◌≢◌, ℕ, ◌+◌, ◌-◌, ◌%◌, ◌^◌, ◌<◌, Bool, true, false, ◌==◌, eqb, if◌then◌else◌, List, [], ◌∷◌, ◌++◌, length, get_or, set, Option, Some, None, unwrap_or, sym, refl, ap, ◌∙◌, subst, arith}
 use Rattle.std.specs.Prelude.{bit_or, bit_and}
 use Rattle.std.proofs.lemmas.Bool.{eqb-false, eqb-true}
 use Rattle.std.proofs.lemmas.Option.{slice_get-get_or}
@@ -12,22 +12,19 @@ use Rattle.wq_words.specs.declared.event.Event.{Event}
 use Rattle.wq_words.specs.Numbers.{number_count}
 use Rattle.wq_words.specs.History.{begun, ended, Holds, IsClosed, IsRunning, running}
 use Rattle.wq_core.specs.declared.step.Private.{Private}
-use Rattle.wq_core.specs.declared.step.Seat.TheVariants.{Sender, Owner}
+use Rattle.wq_core.specs.declared.step.Seat.TheVariants.{Sender}
 use Rattle.wq_core.specs.declared.step.Step.{Step}
 use Rattle.wq_core.specs.declared.step.Step.TheVariants.{Hold, Look, Link, Push, Back, Check, Take, Close, Walk, Begin, End, Chain}
 use Rattle.wq_core.specs.Words.{link_place, item_place, done_place, closed_word, number_at}
-use Rattle.wq_core.specs.Machine.{Machine, private, seen_word, head, link, item_word, done_word, after_walk, after_begin, after_end, after}
-use Rattle.wq_core.specs.Refusal.{IsMade}
+use Rattle.wq_core.specs.Machine.{Machine, seen_word, head, link, item_word, after_walk, after_begin, after_end, after}
 use Rattle.wq_core.specs.Sound.{IsSound}
 use Rattle.wq_table.specs.declared.table.Part.{Part}
 use Rattle.wq_table.specs.declared.table.Stage.{Stage}
 use Rattle.wq_table.specs.declared.table.Stage.TheVariants.{Sends, Owns}
-use Rattle.wq_words.specs.Seen.{owner_seat, own}
-use Rattle.wq_table.specs.Law.{part, seat_at, Keeps, Fits}
-use Rattle.wq_table.specs.Plays.{word_found}
+use Rattle.wq_table.specs.Law.{part}
+use Rattle.wq_table.specs.Plays.{Performs, item_at}
 use Rattle.wq_table.specs.Chair.{IsSender, HasSeen, HasLinked, IsOwner, IsRested, HasNone, IsToWalk, IsToBegin}
 use Rattle.wq_words.proofs.Seen.{held_same, closed_same, running_same}
-use Rattle.wq_table.proofs.Rule.{Performs}
 
 -- an item word is a bit
 pub item_word-bit : (m : Machine) → IsSound m → (k : ℕ) → k < number_count m.layout → item_word m k < 2
@@ -63,6 +60,22 @@ some_runs h runs = (get_or (begun h) (length (ended h)) 0, slice_get-get_or (beg
 pub sender_seen : (word : ℕ) (stage : Stage) → HasSeen word stage → IsSender stage
 sender_seen word (Sends p) is = tt
 sender_seen word (Owns cursor walked batch) is = absurd is
+
+-- the number whose item word stands there
+pub number_placed : (i k : ℕ) (layout : Layout) → i ≡ item_place (number_count layout) k → item_at i layout ≡ k
+number_placed i k layout at = omega arith
+
+-- a step on the item word of a number, by the place of that word
+pub placed : (p : Part) (step : ℕ → Step) (i k : ℕ) (f g : ℕ → ℕ) → i ≡ item_place (number_count p.layout) k → Performs p (step k) (item_place (number_count p.layout) k) f g
+    → Performs p (step (item_at i p.layout)) i f g
+placed p step i k f g at performs = let back : k ≡ item_at i p.layout = sym (number_placed i k p.layout at) in
+    subst (λ (z : ℕ × ℕ). Performs p (step z.0) z.1 f g) (λ j. (back j, sym at j)) performs
+
+pub number_linked : (k : ℕ) → link_place k - link_place 0 ≡ k
+number_linked k = omega arith
+
+pub number_pushed : (k : ℕ) → (k + 1) - 1 ≡ k
+number_pushed k = omega arith
 
 module _ (c : ℕ) (layout : Layout) (seen : List Event) where
   pub performs_hold : (k : ℕ) (stage : Stage) → IsSender stage → k < number_count layout → Performs (part c layout seen stage) (Hold k) (item_place (number_count layout) k) (λ n. bit_or n 1) (λ n. n)

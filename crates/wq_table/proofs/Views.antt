@@ -1,24 +1,17 @@
 -- Views that are cut, joined and made.
-use Rattle.std.proofs.Common.{◌≡◌, ℕ, zero, suc, ◌+◌, ◌-◌, ◌<◌, ◌≤◌, ◌≢◌, ◌⊎◌, cond, eqb, List, [], ◌∷◌, ◌++◌, length, get_or, set, replicate, None, sym, refl, ap, ◌∙◌, subst, inl, inr, ⊎_elim, arith, length-set, length-append, eq-eqb, ne_eqb}
-use Rattle.std.proofs.lemmas.List.{append-nil}
+use Rattle.std.proofs.Common.{◌≡◌, ℕ, zero, suc, ◌+◌, ◌-◌, ◌<◌, ◌≤◌, ◌≢◌, ◌⊎◌, cond, eqb, List, [], ◌∷◌, ◌++◌, length, get_or, set, replicate, sym, refl, ap, ◌∙◌, subst, inl, inr, ⊎_elim, arith, length-set, eq-eqb, ne_eqb}
 use mathlib.Core.Option.{some, none, some-injective, some-ne-none}
-use mathlib.Core.List.{IsPrefix}
 use lib.ListN.{get_elem?}
 use lib.Seq.{set-get_or}
-use Rattle.atomic_table.specs.Table.{State, Me, step, keeps, Allows, Splits, Joins, opening}
+use Rattle.atomic_table.specs.Table.{step, keeps, Allows, Splits, Joins, opening}
 use Rattle.atomic_table.proofs.Lists.{at_set, set_else}
 use Rattle.wq_words.specs.declared.layout.Layout.{Layout}
-use Rattle.wq_words.specs.declared.event.Event.{Event}
 use Rattle.wq_words.specs.Numbers.{number_count}
 use Rattle.wq_core.specs.Words.{word_count}
 use Rattle.wq_core.specs.Machine.{Machine, nothing_seen, opening as opening_machine}
-use Rattle.wq_core.specs.Sound.{IsSound}
-use Rattle.wq_table.specs.declared.table.Part.{Part}
-use Rattle.wq_table.specs.declared.table.Stage.{Stage}
-use Rattle.wq_table.specs.declared.table.Stage.TheVariants.{Sends, Owns}
-use Rattle.wq_words.specs.Seen.{owner_seat, own}
-use Rattle.wq_table.specs.Law.{View, part, Keeps, Fits, Apart, AllFit, Kept, sender_part, owner_part, row, opening_view, first_of, rest_of}
-use Rattle.wq_table.specs.Plays.{Sat, all_see, AllOf, SeesAll, meets}
+use Rattle.wq_words.specs.Seen.{owner_seat}
+use Rattle.wq_table.specs.Law.{View, IsPartOf, Apart, ArePartsAt, Kept, sender_part, owner_part, row, opening_view, front_of, rest_of}
+use Rattle.wq_table.specs.Plays.{Sat, all_see, AllOf, meets}
 use Rattle.wq_core.proofs.Schedules.{sound_opening}
 use Rattle.wq_words.proofs.Seen.{prefix_self}
 
@@ -30,15 +23,15 @@ at_end (x ∷ xs) a b (suc j) e = ⊎_elim inl (λ (t : (j ≡ length xs) × (a 
 
 module _ (m : Machine) where
   -- the seats of a view may be placed anew
-  refit : (who who' : ℕ → ℕ) (i i' : ℕ) (v : View) → ((c : ℕ) → who c ≡ i → who' c ≡ i') → AllFit m who i v → AllFit m who' i' v
+  refit : (who who' : ℕ → ℕ) (i i' : ℕ) (v : View) → ((c : ℕ) → who c ≡ i → who' c ≡ i') → ArePartsAt m who i v → ArePartsAt m who' i' v
   refit who who' i i' [] new all = tt
   refit who who' i i' (p ∷ ps) new all = (all.0, new p.seat all.1, all.2, refit who who' i i' ps new all.3)
 
-  refit_apart : (who who' : ℕ → ℕ) (i c : ℕ) (v : View) → Apart c v → ((d : ℕ) → d ≢ c → who' d ≡ who d) → AllFit m who i v → AllFit m who' i v
+  refit_apart : (who who' : ℕ → ℕ) (i c : ℕ) (v : View) → Apart c v → ((d : ℕ) → d ≢ c → who' d ≡ who d) → ArePartsAt m who i v → ArePartsAt m who' i v
   refit_apart who who' i c [] apart same all = tt
   refit_apart who who' i c (p ∷ ps) apart same all = (all.0, same p.seat apart.0 ∙ all.1, all.2, refit_apart who who' i c ps apart.1 same all.3)
 
-  apart_from : (who : ℕ → ℕ) (j c : ℕ) → who c ≢ j → (v : View) → AllFit m who j v → Apart c v
+  apart_from : (who : ℕ → ℕ) (j c : ℕ) → who c ≢ j → (v : View) → ArePartsAt m who j v → Apart c v
   apart_from who j c away [] all = tt
   apart_from who j c away (p ∷ ps) all = ((λ same. away (sym (ap who same) ∙ all.1)), apart_from who j c away ps all.3)
 
@@ -47,7 +40,7 @@ module _ (m : Machine) where
   apart_join c (p ∷ ps) w a b = (a.0, apart_join c ps w a.1 b)
 
   -- one view after the other, where their seats are others
-  fit_both : (who who' : ℕ → ℕ) (id other : ℕ) → other ≢ id → ((c : ℕ) → who c ≡ other → who' c ≡ id) → (w v : View) → AllFit m who other w → AllFit m who id v → AllFit m who' id v → AllFit m who' id (w ++ v)
+  fit_both : (who who' : ℕ → ℕ) (id other : ℕ) → other ≢ id → ((c : ℕ) → who c ≡ other → who' c ≡ id) → (w v : View) → ArePartsAt m who other w → ArePartsAt m who id v → ArePartsAt m who' id v → ArePartsAt m who' id (w ++ v)
   fit_both who who' id other apart new [] v all old rest = rest
   fit_both who who' id other apart new (p ∷ ps) v all old rest = (
     all.0,
@@ -56,7 +49,7 @@ module _ (m : Machine) where
     fit_both who who' id other apart new ps v all.3 old rest,
   )
 
-pub offs : (l : Layout) (id : ℕ) (v : View) → Splits (Kept l) id v (rest_of v) (first_of v)
+pub offs : (l : Layout) (id : ℕ) (v : View) → Splits (Kept l) id v (rest_of v) (front_of v)
 offs l id [] s r at = let m = r.machine in record {
   machine = m;
   who = r.who;
@@ -64,8 +57,8 @@ offs l id [] s r at = let m = r.machine in record {
   layout_is = r.layout_is;
   words_are = r.words_are;
   seats = λ j w there. ⊎_elim
-      (λ (t : get_elem? (set s.views id []) j ≡ some w). ⊎_elim (λ (u : (j ≡ id) × ([] ≡ w)). subst (λ (z : View). AllFit m r.who j z) u.1 tt) (λ (u : (j ≢ id) × (get_elem? s.views j ≡ some w)). r.seats j w u.1) (at_set s.views id j [] w t))
-      (λ (t : (j ≡ length (set s.views id [])) × ([] ≡ w)). subst (λ (z : View). AllFit m r.who j z) t.1 tt) (at_end (set s.views id []) [] w j there);
+      (λ (t : get_elem? (set s.views id []) j ≡ some w). ⊎_elim (λ (u : (j ≡ id) × ([] ≡ w)). subst (λ (z : View). ArePartsAt m r.who j z) u.1 tt) (λ (u : (j ≢ id) × (get_elem? s.views j ≡ some w)). r.seats j w u.1) (at_set s.views id j [] w t))
+      (λ (t : (j ≡ length (set s.views id [])) × ([] ≡ w)). subst (λ (z : View). ArePartsAt m r.who j z) t.1 tt) (at_end (set s.views id []) [] w j there);
 }
 offs l id (p ∷ ps) s r at =
     let m = r.machine in let n : ℕ = length s.views in let c : ℕ = p.seat in let who' : ℕ → ℕ = λ d. cond (eqb d c) n (r.who d) in let all = r.seats id (p ∷ ps) at in
@@ -76,10 +69,10 @@ offs l id (p ∷ ps) s r at =
       layout_is = r.layout_is;
       words_are = r.words_are;
       seats = λ j w there. ⊎_elim (λ (t : get_elem? (set s.views id ps) j ≡ some w). ⊎_elim
-          (λ (u : (j ≡ id) × (ps ≡ w)). subst (λ (z : ℕ × View). AllFit m who' z.0 z.1) (λ i. (sym u.0 i, u.1 i)) (refit_apart m r.who who' id c ps all.2 same all.3))
+          (λ (u : (j ≡ id) × (ps ≡ w)). subst (λ (z : ℕ × View). ArePartsAt m who' z.0 z.1) (λ i. (sym u.0 i, u.1 i)) (refit_apart m r.who who' id c ps all.2 same all.3))
           (λ (u : (j ≢ id) × (get_elem? s.views j ≡ some w)). let away = u.0 in let old = r.seats j w u.1 in
           refit_apart m r.who who' j c w (apart_from m r.who j c (λ e. away (sym e ∙ all.1)) w old) same old) (at_set s.views id j ps w t))
-          (λ (t : (j ≡ length (set s.views id ps)) × (p ∷ [] ≡ w)). subst (λ (z : ℕ × View). AllFit m who' z.0 z.1) (λ i. (sym (t.0 ∙ length-set s.views id ps) i, t.1 i))
+          (λ (t : (j ≡ length (set s.views id ps)) × (p ∷ [] ≡ w)). subst (λ (z : ℕ × View). ArePartsAt m who' z.0 z.1) (λ i. (sym (t.0 ∙ length-set s.views id ps) i, t.1 i))
           (all.0, ap (λ b. cond b n (r.who c)) (eq-eqb c c refl), tt, tt)) (at_end (set s.views id ps) (p ∷ []) w j there);
     }
 
@@ -94,9 +87,9 @@ boths l id v other w s r at apart there =
       sound = r.sound;
       layout_is = r.layout_is;
       words_are = r.words_are;
-      seats = λ j u here. ⊎_elim (λ (t : (j ≡ other) × ([] ≡ u)). subst (λ (z : View). AllFit m who' j z) t.1 tt)
+      seats = λ j u here. ⊎_elim (λ (t : (j ≡ other) × ([] ≡ u)). subst (λ (z : View). ArePartsAt m who' j z) t.1 tt)
           (λ (t : (j ≢ other) × (get_elem? (set s.views id (w ++ v)) j ≡ some u)). let ne = t.0 in ⊎_elim
-          (λ (x : (j ≡ id) × (w ++ v ≡ u)). subst (λ (z : ℕ × View). AllFit m who' z.0 z.1) (λ i. (sym x.0 i, x.1 i))
+          (λ (x : (j ≡ id) × (w ++ v ≡ u)). subst (λ (z : ℕ × View). ArePartsAt m who' z.0 z.1) (λ i. (sym x.0 i, x.1 i))
           (fit_both m r.who who' id other apart goes w v (r.seats other w at_other) mine (refit m r.who who' id id v (stays id (λ e. apart (sym e))) mine)))
           (λ (x : (j ≢ id) × (get_elem? s.views j ≡ some u)). refit m r.who who' j j u (stays j ne) (r.seats j u x.1)) (at_set s.views id j (w ++ v) u t.1))
           (at_set (set s.views id (w ++ v)) other j [] u here);
@@ -108,12 +101,12 @@ module _ (m : Machine) where
   apart_all c (p ∷ ps) a = (a.0, apart_all c ps a.1)
 
   -- all parts of a view see the history so far
-  fit_all : (who : ℕ → ℕ) (i : ℕ) (v : View) → AllFit m who i v → AllFit m who i (all_see m.history v)
+  fit_all : (who : ℕ → ℕ) (i : ℕ) (v : View) → ArePartsAt m who i v → ArePartsAt m who i (all_see m.history v)
   fit_all who i [] all = tt
-  fit_all who i (p ∷ ps) all = let fits : Fits m p = all.0 in
+  fit_all who i (p ∷ ps) all = let fits : IsPartOf m p = all.0 in
       (record { layout_is = fits.layout_is; begins = prefix_self m.history; mine = refl; keeps = fits.keeps }, all.1, apart_all p.seat ps all.2, fit_all who i ps all.3)
 
-  all_of : (who : ℕ → ℕ) (i : ℕ) (v : View) → AllFit m who i v → AllOf m v
+  all_of : (who : ℕ → ℕ) (i : ℕ) (v : View) → ArePartsAt m who i v → AllOf m v
   all_of who i [] all = tt
   all_of who i (p ∷ ps) all = (all.0, all_of who i ps all.3)
 
@@ -129,7 +122,7 @@ meets_goes l slots id me s r _ at _ = let m = r.machine in let all = r.seats id 
     layout_is = r.layout_is;
     words_are = set-get_or s.words 0 0 ∙ r.words_are;
     seats = λ j v there. ⊎_elim
-        (λ (t : (j ≡ id) × (seen ≡ v)). subst (λ (x : ℕ × View). AllFit m r.who x.0 x.1) (λ i. (sym t.0 i, t.1 i)) (fit_all m r.who id me.0 all))
+        (λ (t : (j ≡ id) × (seen ≡ v)). subst (λ (x : ℕ × View). ArePartsAt m r.who x.0 x.1) (λ i. (sym t.0 i, t.1 i)) (fit_all m r.who id me.0 all))
         (λ (t : (j ≢ id) × (get_elem? s.views j ≡ some v)). r.seats j v t.1) (at_set s.views id j seen v there);
   },
   record { machine = m; sound = r.sound; all = all_of m r.who id me.0 all; is = refl; slots = refl },
@@ -144,18 +137,18 @@ private_opening zero s = refl
 private_opening (suc n) zero = refl
 private_opening (suc n) (suc s) = private_opening n s
 
-opening_sender : (l : Layout) (c : ℕ) → c < l.senders → Fits (opening_machine l) (sender_part l c)
+opening_sender : (l : Layout) (c : ℕ) → c < l.senders → IsPartOf (opening_machine l) (sender_part l c)
 opening_sender l c below = record { layout_is = refl; begins = prefix_self []; mine = refl; keeps = (below, private_opening l.senders c) }
 
-opening_owner : (l : Layout) → Fits (opening_machine l) (owner_part l)
+opening_owner : (l : Layout) → IsPartOf (opening_machine l) (owner_part l)
 opening_owner l = record { layout_is = refl; begins = prefix_self []; mine = refl; keeps = (refl, refl, refl, refl) }
 
-row_fits : (l : Layout) (a m : ℕ) → a + m ≤ l.senders → AllFit (opening_machine l) (λ _. 0) 0 (row l a m)
+row_fits : (l : Layout) (a m : ℕ) → a + m ≤ l.senders → ArePartsAt (opening_machine l) (λ _. 0) 0 (row l a m)
 row_fits l a zero small = (opening_owner l, refl, tt, tt)
 row_fits l a (suc m) small = (opening_sender l a (omega arith), refl, row_apart l a (a + 1) m (omega arith) (omega (arith, l.in_limits)), row_fits l (a + 1) m (omega arith))
 
-seats_open : (l : Layout) (i : ℕ) (v : View) → get_elem? (opening_view l ∷ []) i ≡ some v → AllFit (opening_machine l) (λ _. 0) i v
-seats_open l zero v at = subst (AllFit (opening_machine l) (λ _. 0) 0) (some-injective (opening_view l) v at) (row_fits l 0 l.senders (omega arith))
+seats_open : (l : Layout) (i : ℕ) (v : View) → get_elem? (opening_view l ∷ []) i ≡ some v → ArePartsAt (opening_machine l) (λ _. 0) i v
+seats_open l zero v at = subst (ArePartsAt (opening_machine l) (λ _. 0) 0) (some-injective (opening_view l) v at) (row_fits l 0 l.senders (omega arith))
 seats_open l (suc i) v at = absurd (some-ne-none v (sym at))
 
 pub opens : (l : Layout) (ws : List ℕ) → ws ≡ replicate (word_count (number_count l)) 0 → Kept l (opening ws [] (opening_view l))
@@ -165,8 +158,8 @@ opens l ws is = record { machine = opening_machine l; who = λ _. 0; sound = sou
 pub row_more : (l : Layout) (a n : ℕ) → a < n → row l a (n - a) ≡ sender_part l a ∷ row l (a + 1) (n - (a + 1))
 row_more l a n less = let e : n - a ≡ suc (n - (a + 1)) = omega arith in ap (row l a) e
 
-pub cut_first : (v w : View) (l : Layout) (a n : ℕ) → a < n → v ≡ row l a (n - a) → w ≡ first_of v → w ≡ sender_part l a ∷ []
-cut_first v w l a n less is cut = cut ∙ ap first_of (is ∙ row_more l a n less)
+pub cut_first : (v w : View) (l : Layout) (a n : ℕ) → a < n → v ≡ row l a (n - a) → w ≡ front_of v → w ≡ sender_part l a ∷ []
+cut_first v w l a n less is cut = cut ∙ ap front_of (is ∙ row_more l a n less)
 
 pub cut_rest : (v w : View) (l : Layout) (a n : ℕ) → a < n → v ≡ row l a (n - a) → w ≡ rest_of v → w ≡ row l (a + 1) (n - (a + 1))
 cut_rest v w l a n less is cut = cut ∙ ap rest_of (is ∙ row_more l a n less)

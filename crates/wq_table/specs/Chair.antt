@@ -8,7 +8,7 @@ use Rattle.wq_core.specs.Sound.{IsSound}
 use Rattle.wq_table.specs.declared.table.Part.{Part}
 use Rattle.wq_table.specs.declared.table.Stage.{Stage}
 use Rattle.wq_table.specs.declared.table.Stage.TheVariants.{Sends, Owns}
-use Rattle.wq_table.specs.Law.{part, Fits, sender_part, owner_part}
+use Rattle.wq_table.specs.Law.{part, IsPartOf, sender_part, owner_part}
 use Rattle.wq_table.specs.Plays.{Makes}
 
 -- which queue it is of, and what its seat knows
@@ -70,8 +70,8 @@ seeing m it = record { queue = it.queue; part = part it.part.seat it.part.layout
 pub record Meet (this that this' that' : Standing) : Type 0 where
   pub machine : Machine
   pub sound : IsSound machine
-  pub this_fits : Fits machine this.part
-  pub that_fits : Fits machine that.part
+  pub this_fits : IsPartOf machine this.part
+  pub that_fits : IsPartOf machine that.part
   pub this_is : this' ≡ seeing machine this
   pub that_is : that' ≡ seeing machine that
 
@@ -79,9 +79,9 @@ pub record Meet (this that this' that' : Standing) : Type 0 where
 pub record MeetAll (this that third this' that' third' : Standing) : Type 0 where
   pub machine : Machine
   pub sound : IsSound machine
-  pub this_fits : Fits machine this.part
-  pub that_fits : Fits machine that.part
-  pub third_fits : Fits machine third.part
+  pub this_fits : IsPartOf machine this.part
+  pub that_fits : IsPartOf machine that.part
+  pub third_fits : IsPartOf machine third.part
   pub this_is : this' ≡ seeing machine this
   pub that_is : that' ≡ seeing machine that
   pub third_is : third' ≡ seeing machine third

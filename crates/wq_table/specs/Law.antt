@@ -27,17 +27,17 @@ abbrev pub seat_at : ℕ → Stage → Seat
 seat_at c (Sends p) = Sender c
 seat_at c (Owns cursor walked batch) = Owner
 
--- the seat keeps this in private
-abbrev pub Keeps : Machine → ℕ → Stage → Type 0
-Keeps m c (Sends p) = (c < m.layout.senders) × (private m c ≡ p)
-Keeps m c (Owns cursor walked batch) = (c ≡ owner_seat) × (m.cursor ≡ cursor) × (m.walked ≡ walked) × (m.batch ≡ batch)
+-- the seat of the number c keeps this in private
+abbrev pub HasStage : Machine → ℕ → Stage → Type 0
+HasStage m c (Sends p) = (c < m.layout.senders) × (private m c ≡ p)
+HasStage m c (Owns cursor walked batch) = (c ≡ owner_seat) × (m.cursor ≡ cursor) × (m.walked ≡ walked) × (m.batch ≡ batch)
 
 -- the part is of a seat of the machine: what it has seen begins the history, with all the events of that seat
-pub record Fits (m : Machine) (p : Part) : Type 0 where
+pub record IsPartOf (m : Machine) (p : Part) : Type 0 where
   pub layout_is : p.layout ≡ m.layout
   pub begins : IsPrefix p.seen m.history
   pub mine : own p.seat m.history ≡ own p.seat p.seen
-  pub keeps : Keeps m p.seat p.stage
+  pub keeps : HasStage m p.seat p.stage
 
 -- none of the view's parts is of this seat
 abbrev pub Apart : ℕ → View → Type 0
@@ -45,9 +45,9 @@ Apart c [] = Unit {0}
 Apart c (q ∷ qs) = (q.seat ≢ c) × Apart c qs
 
 -- each part fits and has its seat at the place i, and no seat has two
-abbrev pub AllFit : Machine → (ℕ → ℕ) → ℕ → View → Type 0
-AllFit m who i [] = Unit {0}
-AllFit m who i (p ∷ ps) = Fits m p × (who p.seat ≡ i) × Apart p.seat ps × AllFit m who i ps
+abbrev pub ArePartsAt : Machine → (ℕ → ℕ) → ℕ → View → Type 0
+ArePartsAt m who i [] = Unit {0}
+ArePartsAt m who i (p ∷ ps) = IsPartOf m p × (who p.seat ≡ i) × Apart p.seat ps × ArePartsAt m who i ps
 
 -- Between any two steps: what exists is the machine with its history, and at which place the view of each seat stands
 pub record Kept (layout : Layout) (s : State (Unit {0}) View) : Type 0 where
@@ -56,7 +56,7 @@ pub record Kept (layout : Layout) (s : State (Unit {0}) View) : Type 0 where
   pub sound : IsSound machine
   pub layout_is : machine.layout ≡ layout
   pub words_are : s.words ≡ machine.words
-  pub seats : (i : ℕ) (v : View) → get_elem? s.views i ≡ some v → AllFit machine who i v
+  pub seats : (i : ℕ) (v : View) → get_elem? s.views i ≡ some v → ArePartsAt machine who i v
 
 abbrev pub sender_part : Layout → ℕ → Part
 sender_part layout c = part c layout [] (Sends nothing_seen)
@@ -73,9 +73,9 @@ abbrev pub opening_view : Layout → View
 opening_view layout = row layout 0 layout.senders
 
 -- the first part is cut off
-abbrev pub first_of : View → View
-first_of [] = []
-first_of (p ∷ ps) = p ∷ []
+abbrev pub front_of : View → View
+front_of [] = []
+front_of (p ∷ ps) = p ∷ []
 
 abbrev pub rest_of : View → View
 rest_of [] = []

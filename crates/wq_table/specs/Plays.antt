@@ -1,5 +1,5 @@
 -- What a step tells the seat that makes it: the machine was sound just before, the seat was of it, and has now seen all that has happened.
-use Rattle.std.specs.Prelude.{◌≡◌, ℕ, ◌-◌, ◌==◌, if◌then◌else◌, List, [], ◌∷◌, ◌++◌, Some, None, unwrap_or}
+use Rattle.std.specs.Prelude.{◌≡◌, ℕ, ◌-◌, ◌==◌, if◌then◌else◌, List, [], ◌∷◌, ◌++◌, get_or, set, Some, None, unwrap_or}
 use Rattle.atomic_table.specs.Table.{Me, Step as TableStep}
 use Rattle.wq_words.specs.declared.layout.Layout.{Layout}
 use Rattle.wq_words.specs.Numbers.{number_count}
@@ -9,11 +9,12 @@ use Rattle.wq_core.specs.declared.step.Step.{Step}
 use Rattle.wq_core.specs.declared.step.Step.TheVariants.{Hold, Look, Link, Push, Back, Check, Take, Close, Walk, Begin, End, Chain}
 use Rattle.wq_core.specs.Words.{link_place, item_place, number_at}
 use Rattle.wq_core.specs.Machine.{Machine, nothing_seen, unlinked, head, link, item_word, done_word, seen_word, first_of, after}
+use Rattle.wq_core.specs.Refusal.{IsMade}
 use Rattle.wq_core.specs.Sound.{IsSound}
 use Rattle.wq_table.specs.declared.table.Part.{Part}
 use Rattle.wq_table.specs.declared.table.Stage.{Stage}
 use Rattle.wq_table.specs.declared.table.Stage.TheVariants.{Sends, Owns}
-use Rattle.wq_table.specs.Law.{View, part, seat_at, Fits}
+use Rattle.wq_table.specs.Law.{View, part, seat_at, IsPartOf}
 
 abbrev pub Sat : Type 0
 Sat = Me (Unit {0}) View
@@ -59,16 +60,22 @@ stage_after (Owns cursor walked batch) _ word = Owns cursor walked batch
 pub record Makes (step : Step) (word : ℕ) (p q : Part) : Type 0 where
   pub before : Machine
   pub sound : IsSound before
-  pub fits : Fits before p
+  pub fits : IsPartOf before p
   pub word_is : word ≡ word_found before p.seat step
   pub sound_after : IsSound (after before (seat_at p.seat p.stage) step)
-  pub fits_after : Fits (after before (seat_at p.seat p.stage) step) q
+  pub fits_after : IsPartOf (after before (seat_at p.seat p.stage) step) q
   pub seat_is : q.seat ≡ p.seat
   pub seen_is : q.seen ≡ (after before (seat_at p.seat p.stage) step).history
   pub stage_is : q.stage ≡ stage_after p.stage step word
 
--- the same of a view, which has one part
-pub record Moves (step : Layout → Step) (me : Sat) (word : ℕ) (me' : Sat) : Type 0 where
+-- Whatever machine the part is of, the step is made, makes f of its word, which has the place i, and finds g of it
+pub record Performs (p : Part) (step : Step) (i : ℕ) (f g : ℕ → ℕ) : Type 0 where
+  pub made : (m : Machine) → IsSound m → IsPartOf m p → IsMade m (seat_at p.seat p.stage) step
+  pub writes : (m : Machine) → IsSound m → IsPartOf m p → (after m (seat_at p.seat p.stage) step).words ≡ set m.words i (f (get_or m.words i 0))
+  pub finds : (m : Machine) → IsSound m → IsPartOf m p → g (get_or m.words i 0) ≡ word_found m p.seat step
+
+-- The step is made by a view, which has one part
+pub record MakesAlone (step : Layout → Step) (me : Sat) (word : ℕ) (me' : Sat) : Type 0 where
   pub from : Part
   pub to : Part
   pub was : me.0 ≡ from ∷ []
@@ -79,51 +86,58 @@ pub record Moves (step : Layout → Step) (me : Sat) (word : ℕ) (me' : Sat) : 
 abbrev pub Told : Type 1
 Told = TableStep (Unit {0}) → Sat → ℕ → Sat → Type 0
 
+-- the step of a seat that an operation is, by the place of its word and, where it is exchanged, the new word
+abbrev pub Kind : Type 0
+Kind = ℕ → ℕ → Layout → Step
+
+abbrev pub tells : Kind → Told
+tells kind s = MakesAlone (kind s.word s.second)
+
 -- the number whose item word has this place
-abbrev pub item_at : Layout → ℕ → ℕ
-item_at layout i = i - item_place (number_count layout) 0
+abbrev pub item_at : ℕ → Layout → ℕ
+item_at i layout = i - item_place (number_count layout) 0
 
-abbrev pub holds : Told
-holds s = Moves (λ layout. Hold (item_at layout s.word))
+abbrev pub holds : Kind
+holds i new layout = Hold (item_at i layout)
 
-abbrev pub looks : Told
-looks s = Moves (λ layout. Look)
+abbrev pub looks : Kind
+looks i new layout = Look
 
-abbrev pub links : Told
-links s = Moves (λ layout. Link (s.word - link_place 0))
+abbrev pub links : Kind
+links i new layout = Link (i - link_place 0)
 
-abbrev pub pushes : Told
-pushes s = Moves (λ layout. Push (s.second - 1))
+abbrev pub pushes : Kind
+pushes i new layout = Push (new - 1)
 
-abbrev pub finds_closed : Told
-finds_closed s = Moves (λ layout. Back (item_at layout s.word) Closed)
+abbrev pub finds_closed : Kind
+finds_closed i new layout = Back (item_at i layout) Closed
 
-abbrev pub gives_up : Told
-gives_up s = Moves (λ layout. Back (item_at layout s.word) Contended)
+abbrev pub gives_up : Kind
+gives_up i new layout = Back (item_at i layout) Contended
 
-abbrev pub cancels : Told
-cancels s = Moves (λ layout. Back (item_at layout s.word) Cancelled)
+abbrev pub cancels : Kind
+cancels i new layout = Back (item_at i layout) Cancelled
 
-abbrev pub checks : Told
-checks s = Moves (λ layout. Check (item_at layout s.word))
+abbrev pub checks : Kind
+checks i new layout = Check (item_at i layout)
 
-abbrev pub takes : Told
-takes s = Moves (λ layout. Take)
+abbrev pub takes : Kind
+takes i new layout = Take
 
-abbrev pub closes : Told
-closes s = Moves (λ layout. Close)
+abbrev pub closes : Kind
+closes i new layout = Close
 
-abbrev pub walks : Told
-walks s = Moves (λ layout. Walk)
+abbrev pub walks : Kind
+walks i new layout = Walk
 
-abbrev pub begins : Told
-begins s = Moves (λ layout. Begin)
+abbrev pub begins : Kind
+begins i new layout = Begin
 
-abbrev pub ends : Told
-ends s = Moves (λ layout. End)
+abbrev pub ends : Kind
+ends i new layout = End
 
-abbrev pub chains : Told
-chains s = Moves (λ layout. Chain (item_at layout s.word))
+abbrev pub chains : Kind
+chains i new layout = Chain (item_at i layout)
 
 -- each part has seen h
 abbrev pub all_see : List Event → View → View
@@ -132,7 +146,7 @@ all_see h (p ∷ ps) = part p.seat p.layout h p.stage ∷ all_see h ps
 
 abbrev pub AllOf : Machine → View → Type 0
 AllOf m [] = Unit {0}
-AllOf m (p ∷ ps) = Fits m p × AllOf m ps
+AllOf m (p ∷ ps) = IsPartOf m p × AllOf m ps
 
 -- the seats of a view see all that has happened
 pub record SeesAll (me me' : Sat) : Type 0 where

@@ -1,15 +1,18 @@
 //! The seats of a queue, and their atomic steps.
-ghost use Rattle.std.specs.Prelude.{◌≡◌, ◌≢◌, ℕ, ◌<◌};
+ghost use Rattle.std.specs.Prelude.{◌≡◌, ◌≢◌, ℕ, ◌+◌, ◌%◌, ◌^◌, ◌<◌, ◌==◌, List, [], ◌∷◌, bit_or, bit_and};
+ghost use prog.Atomic.{either};
+ghost use Rattle.wq_table.specs.declared.table.Part.{Part};
+ghost use Rattle.wq_table.specs.Plays.{Performs};
 ghost use Rattle.wq_words.specs.Numbers.{number_count};
 ghost use Rattle.wq_words.specs.declared.event.Why.TheVariants.{Closed, Contended, Cancelled};
 ghost use Rattle.wq_words.specs.History.{Holds, IsClosed, IsRunning};
-ghost use Rattle.wq_core.specs.Words.{item_place, closed_word};
+ghost use Rattle.wq_core.specs.Words.{item_place, word_count, closed_word};
 ghost use Rattle.wq_core.specs.declared.step.Step.TheVariants.{Hold, Look, Link, Push, Back, Check, Take, Close, Walk, Begin, End, Chain};
 ghost use Rattle.wq_table.specs.Chair.{IsSender, HasSeen, HasLinked, HasNone, IsOwner, IsToWalk, IsToBegin, IsRested, Steps, Meet, MeetAll};
 
 use super::table::{
-    Begins, Both, Cancels, Chains, Checks, Closes, Ends, FindsClosed, GivesUp, Links, Looks, Marks,
-    Meets, Off, Part, Pushes, Seated, Takes, Walks, Words,
+    Begins, Both, Cancels, Chains, Checks, Closes, Ends, FindsClosed, GivesUp, Kind, Links, Looks,
+    Makes, Marks, Meets, Off, Part, Pushes, Seated, Takes, Walks, Words,
 };
 use atomic_table::Badge;
 use std::collections::LinkedList;
@@ -46,6 +49,107 @@ fn item_place(layout: &Layout, number: u32) -> usize
     1 + (layout.items as usize + layout.barriers as usize + 1) + number as usize
 }
 
+// The seat that a badge keeps. It leaves a blank one.
+fn rise(badge: &mut Badge<LinkedList<Part>>) -> Seated
+    requires { (v : List Part) × (badge.old.views ≡ v ∷ []) }
+    ensures table { result.table_id ≡ badge.old.table_id }
+    ensures view { badge.old.views ≡ result.me.0 ∷ [] }
+    ensures none { result.me.1 ≡ [] }
+{
+    replace(badge, Badge::blank()).into_seat()
+}
+
+// One operation each on the word at a place. The kind says which step of the seat it is.
+impl Chair {
+    fn load<K: Kind>(&mut self, place: usize) -> u64
+        requires place { place < word_count (number_count self.old.part.layout) }
+        requires performs { Performs self.old.part (K.step place 0 self.old.part.layout) place (λ n. n) (λ n. n) }
+        ensures { Steps (K.step place 0 self.old.part.layout) result self.old self.new }
+    {
+        let mut seat = rise(&mut self.badge);
+        let found = self.words.shared.load::<Makes<K>>(&mut seat, place);
+        self.badge = seat.into_badge();
+        found
+    }
+
+    fn store<K: Kind>(&mut self, place: usize, new: u64)
+        requires place { place < word_count (number_count self.old.part.layout) }
+        requires performs { Performs self.old.part (K.step place 0 self.old.part.layout) place (λ n. new) (λ n. new) }
+        ensures { Steps (K.step place 0 self.old.part.layout) new self.old self.new }
+    {
+        let mut seat = rise(&mut self.badge);
+        self.words.shared.store::<Makes<K>>(&mut seat, place, new);
+        self.badge = seat.into_badge();
+    }
+
+    fn swap<K: Kind>(&mut self, place: usize, new: u64) -> u64
+        requires place { place < word_count (number_count self.old.part.layout) }
+        requires performs { Performs self.old.part (K.step place 0 self.old.part.layout) place (λ n. new) (λ n. n) }
+        ensures { Steps (K.step place 0 self.old.part.layout) result self.old self.new }
+    {
+        let mut seat = rise(&mut self.badge);
+        let found = self.words.shared.swap::<Makes<K>>(&mut seat, place, new);
+        self.badge = seat.into_badge();
+        found
+    }
+
+    fn exchange<K: Kind>(&mut self, place: usize, old: u64, new: u64) -> u64
+        requires place { place < word_count (number_count self.old.part.layout) }
+        requires performs { Performs self.old.part (K.step place new self.old.part.layout) place (λ n. either (n == old) new n) (λ n. n) }
+        ensures { Steps (K.step place new self.old.part.layout) result self.old self.new }
+    {
+        let mut seat = rise(&mut self.badge);
+        let found = self
+            .words
+            .shared
+            .compare_exchange::<Makes<K>>(&mut seat, place, old, new);
+        self.badge = seat.into_badge();
+        found
+    }
+
+    fn or<K: Kind>(&mut self, place: usize, bits: u64) -> u64
+        requires place { place < word_count (number_count self.old.part.layout) }
+        requires performs { Performs self.old.part (K.step place 0 self.old.part.layout) place (λ n. bit_or n bits) (λ n. n) }
+        ensures { Steps (K.step place 0 self.old.part.layout) result self.old self.new }
+    {
+        let mut seat = rise(&mut self.badge);
+        let found = self
+            .words
+            .shared
+            .fetch_or::<Makes<K>>(&mut seat, place, bits);
+        self.badge = seat.into_badge();
+        found
+    }
+
+    fn and<K: Kind>(&mut self, place: usize, bits: u64) -> u64
+        requires place { place < word_count (number_count self.old.part.layout) }
+        requires performs { Performs self.old.part (K.step place 0 self.old.part.layout) place (λ n. bit_and n bits) (λ n. n) }
+        ensures { Steps (K.step place 0 self.old.part.layout) result self.old self.new }
+    {
+        let mut seat = rise(&mut self.badge);
+        let found = self
+            .words
+            .shared
+            .fetch_and::<Makes<K>>(&mut seat, place, bits);
+        self.badge = seat.into_badge();
+        found
+    }
+
+    fn add<K: Kind>(&mut self, place: usize, more: u64) -> u64
+        requires place { place < word_count (number_count self.old.part.layout) }
+        requires performs { Performs self.old.part (K.step place 0 self.old.part.layout) place (λ n. (n + more) % 2 ^ 64) (λ n. n) }
+        ensures { Steps (K.step place 0 self.old.part.layout) result self.old self.new }
+    {
+        let mut seat = rise(&mut self.badge);
+        let found = self
+            .words
+            .shared
+            .fetch_add::<Makes<K>>(&mut seat, place, more);
+        self.badge = seat.into_badge();
+        found
+    }
+}
+
 impl Chair {
     /// A sender sets the PENDING bit of a number, and learns its item word as it was.
     pub fn hold(&mut self, number: u32) -> u64
@@ -54,10 +158,7 @@ impl Chair {
         ensures { Steps (Hold number) result self.old self.new }
     {
         let place = item_place(&self.layout, number);
-        let mut seat: Seated = replace(&mut self.badge, Badge::blank()).into_seat();
-        let found = self.words.shared.fetch_or::<Marks>(&mut seat, place, 1);
-        self.badge = seat.into_badge();
-        found
+        self.or::<Marks>(place, 1)
     }
 
     /// A sender loads the head.
@@ -65,10 +166,7 @@ impl Chair {
         requires sender { IsSender self.old.part.stage }
         ensures { Steps Look result self.old self.new }
     {
-        let mut seat: Seated = replace(&mut self.badge, Badge::blank()).into_seat();
-        let found = self.words.shared.load::<Looks>(&mut seat, 0);
-        self.badge = seat.into_badge();
-        found
+        self.load::<Looks>(0)
     }
 
     /// A sender stores the head that it saw as the link of a number that it holds.
@@ -79,11 +177,7 @@ impl Chair {
         requires open { seen ≢ closed_word }
         ensures { Steps (Link number) seen self.old self.new }
     {
-        let mut seat: Seated = replace(&mut self.badge, Badge::blank()).into_seat();
-        self.words
-            .shared
-            .store::<Links>(&mut seat, 1 + number as usize, seen);
-        self.badge = seat.into_badge();
+        self.store::<Links>(1 + number as usize, seen);
     }
 
     /// A sender exchanges the head that it saw for the number that it linked to it, and learns the head as it was.
@@ -92,13 +186,7 @@ impl Chair {
         requires linked { HasLinked seen number self.old.part.stage }
         ensures { Steps (Push number) result self.old self.new }
     {
-        let mut seat: Seated = replace(&mut self.badge, Badge::blank()).into_seat();
-        let found = self
-            .words
-            .shared
-            .compare_exchange::<Pushes>(&mut seat, 0, seen, number as u64 + 1);
-        self.badge = seat.into_badge();
-        found
+        self.exchange::<Pushes>(0, seen, number as u64 + 1)
     }
 
     /// A sender that saw the queue closed clears the PENDING bit of a number that it holds.
@@ -109,11 +197,7 @@ impl Chair {
         ensures { (word : ℕ) × Steps (Back number Closed) word self.old self.new }
     {
         let place = item_place(&self.layout, number);
-        let mut seat: Seated = replace(&mut self.badge, Badge::blank()).into_seat();
-        self.words
-            .shared
-            .fetch_and::<FindsClosed>(&mut seat, place, 0);
-        self.badge = seat.into_badge();
+        self.and::<FindsClosed>(place, 0);
     }
 
     /// A sender whose tries were all lost clears the PENDING bit of a number that it holds.
@@ -124,9 +208,7 @@ impl Chair {
         ensures { (word : ℕ) × Steps (Back number Contended) word self.old self.new }
     {
         let place = item_place(&self.layout, number);
-        let mut seat: Seated = replace(&mut self.badge, Badge::blank()).into_seat();
-        self.words.shared.fetch_and::<GivesUp>(&mut seat, place, 0);
-        self.badge = seat.into_badge();
+        self.and::<GivesUp>(place, 0);
     }
 
     /// A sender clears the PENDING bit of a number that it holds.
@@ -137,9 +219,7 @@ impl Chair {
         ensures { (word : ℕ) × Steps (Back number Cancelled) word self.old self.new }
     {
         let place = item_place(&self.layout, number);
-        let mut seat: Seated = replace(&mut self.badge, Badge::blank()).into_seat();
-        self.words.shared.fetch_and::<Cancels>(&mut seat, place, 0);
-        self.badge = seat.into_badge();
+        self.and::<Cancels>(place, 0);
     }
 
     /// A sender loads an item word.
@@ -149,10 +229,7 @@ impl Chair {
         ensures { Steps (Check number) result self.old self.new }
     {
         let place = item_place(&self.layout, number);
-        let mut seat: Seated = replace(&mut self.badge, Badge::blank()).into_seat();
-        let found = self.words.shared.load::<Checks>(&mut seat, place);
-        self.badge = seat.into_badge();
-        found
+        self.load::<Checks>(place)
     }
 
     /// The owner takes the whole list, and learns the head as it was.
@@ -162,10 +239,7 @@ impl Chair {
         requires empty { HasNone self.old.part.stage }
         ensures { Steps Take result self.old self.new }
     {
-        let mut seat: Seated = replace(&mut self.badge, Badge::blank()).into_seat();
-        let found = self.words.shared.swap::<Takes>(&mut seat, 0, 0);
-        self.badge = seat.into_badge();
-        found
+        self.swap::<Takes>(0, 0)
     }
 
     /// The owner takes the whole list and leaves the closed mark.
@@ -174,10 +248,7 @@ impl Chair {
         requires rested { IsRested self.old.part.stage }
         ensures { Steps Close result self.old self.new }
     {
-        let mut seat: Seated = replace(&mut self.badge, Badge::blank()).into_seat();
-        let found = self.words.shared.swap::<Closes>(&mut seat, 0, u64::MAX);
-        self.badge = seat.into_badge();
-        found
+        self.swap::<Closes>(0, u64::MAX)
     }
 
     /// The owner loads the link of the number that it walks next.
@@ -186,13 +257,7 @@ impl Chair {
         requires next { IsToWalk number self.old.part.stage }
         ensures { Steps Walk result self.old self.new }
     {
-        let mut seat: Seated = replace(&mut self.badge, Badge::blank()).into_seat();
-        let found = self
-            .words
-            .shared
-            .load::<Walks>(&mut seat, 1 + number as usize);
-        self.badge = seat.into_badge();
-        found
+        self.load::<Walks>(1 + number as usize)
     }
 
     /// The owner clears the PENDING bit of the oldest number of its batch, which then runs.
@@ -203,9 +268,7 @@ impl Chair {
         ensures { (word : ℕ) × Steps Begin word self.old self.new }
     {
         let place = item_place(&self.layout, number);
-        let mut seat: Seated = replace(&mut self.badge, Badge::blank()).into_seat();
-        self.words.shared.fetch_and::<Begins>(&mut seat, place, 0);
-        self.badge = seat.into_badge();
+        self.and::<Begins>(place, 0);
     }
 
     /// The owner counts the execution that runs as ended.
@@ -215,9 +278,7 @@ impl Chair {
         ensures { (word : ℕ) × Steps End word self.old self.new }
     {
         let place = 1 + 2 * (self.layout.items as usize + self.layout.barriers as usize + 1);
-        let mut seat: Seated = replace(&mut self.badge, Badge::blank()).into_seat();
-        self.words.shared.fetch_add::<Ends>(&mut seat, place, 1);
-        self.badge = seat.into_badge();
+        self.add::<Ends>(place, 1);
     }
 
     /// The owner sets the PENDING bit of an item of the closed queue, and learns its item word as it was.
@@ -229,10 +290,7 @@ impl Chair {
         ensures { Steps (Chain number) result self.old self.new }
     {
         let place = item_place(&self.layout, number);
-        let mut seat: Seated = replace(&mut self.badge, Badge::blank()).into_seat();
-        let found = self.words.shared.fetch_or::<Chains>(&mut seat, place, 1);
-        self.badge = seat.into_badge();
-        found
+        self.or::<Chains>(place, 1)
     }
 
     /// Two seats of one queue meet: afterwards each has seen all that has happened.
@@ -241,8 +299,8 @@ impl Chair {
         ensures { Meet self.old other.old self.new other.new }
     {
         let words = &self.words.shared;
-        let mut seat: Seated = replace(&mut self.badge, Badge::blank()).into_seat();
-        let theirs: Seated = replace(&mut other.badge, Badge::blank()).into_seat();
+        let mut seat = rise(&mut self.badge);
+        let theirs = rise(&mut other.badge);
         words.join_seat::<Both>(&mut seat, theirs);
         words.load::<Meets>(&mut seat, 0);
         let theirs = words.split_seat::<Off>(&mut seat);
@@ -257,9 +315,9 @@ impl Chair {
         ensures { MeetAll self.old other.old third.old self.new other.new third.new }
     {
         let words = &self.words.shared;
-        let mut seat: Seated = replace(&mut self.badge, Badge::blank()).into_seat();
-        let others: Seated = replace(&mut other.badge, Badge::blank()).into_seat();
-        let thirds: Seated = replace(&mut third.badge, Badge::blank()).into_seat();
+        let mut seat = rise(&mut self.badge);
+        let others = rise(&mut other.badge);
+        let thirds = rise(&mut third.badge);
         words.join_seat::<Both>(&mut seat, others);
         words.join_seat::<Both>(&mut seat, thirds);
         words.load::<Meets>(&mut seat, 0);

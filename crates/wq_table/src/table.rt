@@ -2,6 +2,7 @@
 use atomic_table::{Join, Play, Seat, Split, Table, TableRule};
 use std::alloc::Global;
 use std::collections::LinkedList;
+use std::marker::PhantomData;
 use wq_core::Private;
 use wq_words::{Event, Layout};
 
@@ -38,116 +39,134 @@ pub(crate) type Words = Table<(), LinkedList<Part>, Layout, Law, Global>;
 
 pub(crate) type Seated = Seat<(), LinkedList<Part>>;
 
+// Which step of a seat an operation is.
+pub(crate) trait Kind {
+    ghost use Rattle.wq_table.specs.Plays as plays;
+
+    ghost step: { plays.Kind };
+}
+
+// The seat makes the step of this kind.
+pub(crate) struct Makes<K> {
+    of: PhantomData<K>,
+}
+
+impl<K: Kind> Play<(), LinkedList<Part>> for Makes<K> {
+    ghost use Rattle.wq_table.specs.Plays.{tells};
+
+    ghost then = { tells K.step };
+}
+
 pub(crate) struct Marks;
 
-impl Play<(), LinkedList<Part>> for Marks {
+impl Kind for Marks {
     ghost use Rattle.wq_table.specs.Plays.{holds};
 
-    ghost then = { holds };
+    ghost step = { holds };
 }
 
 pub(crate) struct Looks;
 
-impl Play<(), LinkedList<Part>> for Looks {
+impl Kind for Looks {
     ghost use Rattle.wq_table.specs.Plays.{looks};
 
-    ghost then = { looks };
+    ghost step = { looks };
 }
 
 pub(crate) struct Links;
 
-impl Play<(), LinkedList<Part>> for Links {
+impl Kind for Links {
     ghost use Rattle.wq_table.specs.Plays.{links};
 
-    ghost then = { links };
+    ghost step = { links };
 }
 
 pub(crate) struct Pushes;
 
-impl Play<(), LinkedList<Part>> for Pushes {
+impl Kind for Pushes {
     ghost use Rattle.wq_table.specs.Plays.{pushes};
 
-    ghost then = { pushes };
+    ghost step = { pushes };
 }
 
 pub(crate) struct FindsClosed;
 
-impl Play<(), LinkedList<Part>> for FindsClosed {
+impl Kind for FindsClosed {
     ghost use Rattle.wq_table.specs.Plays.{finds_closed};
 
-    ghost then = { finds_closed };
+    ghost step = { finds_closed };
 }
 
 pub(crate) struct GivesUp;
 
-impl Play<(), LinkedList<Part>> for GivesUp {
+impl Kind for GivesUp {
     ghost use Rattle.wq_table.specs.Plays.{gives_up};
 
-    ghost then = { gives_up };
+    ghost step = { gives_up };
 }
 
 pub(crate) struct Cancels;
 
-impl Play<(), LinkedList<Part>> for Cancels {
+impl Kind for Cancels {
     ghost use Rattle.wq_table.specs.Plays.{cancels};
 
-    ghost then = { cancels };
+    ghost step = { cancels };
 }
 
 pub(crate) struct Checks;
 
-impl Play<(), LinkedList<Part>> for Checks {
+impl Kind for Checks {
     ghost use Rattle.wq_table.specs.Plays.{checks};
 
-    ghost then = { checks };
+    ghost step = { checks };
 }
 
 pub(crate) struct Takes;
 
-impl Play<(), LinkedList<Part>> for Takes {
+impl Kind for Takes {
     ghost use Rattle.wq_table.specs.Plays.{takes};
 
-    ghost then = { takes };
+    ghost step = { takes };
 }
 
 pub(crate) struct Closes;
 
-impl Play<(), LinkedList<Part>> for Closes {
+impl Kind for Closes {
     ghost use Rattle.wq_table.specs.Plays.{closes};
 
-    ghost then = { closes };
+    ghost step = { closes };
 }
 
 pub(crate) struct Walks;
 
-impl Play<(), LinkedList<Part>> for Walks {
+impl Kind for Walks {
     ghost use Rattle.wq_table.specs.Plays.{walks};
 
-    ghost then = { walks };
+    ghost step = { walks };
 }
 
 pub(crate) struct Begins;
 
-impl Play<(), LinkedList<Part>> for Begins {
+impl Kind for Begins {
     ghost use Rattle.wq_table.specs.Plays.{begins};
 
-    ghost then = { begins };
+    ghost step = { begins };
 }
 
 pub(crate) struct Ends;
 
-impl Play<(), LinkedList<Part>> for Ends {
+impl Kind for Ends {
     ghost use Rattle.wq_table.specs.Plays.{ends};
 
-    ghost then = { ends };
+    ghost step = { ends };
 }
 
 pub(crate) struct Chains;
 
-impl Play<(), LinkedList<Part>> for Chains {
+impl Kind for Chains {
     ghost use Rattle.wq_table.specs.Plays.{chains};
 
-    ghost then = { chains };
+    ghost step = { chains };
 }
 
 pub(crate) struct Meets;
@@ -158,18 +177,18 @@ impl Play<(), LinkedList<Part>> for Meets {
     ghost then = { meets };
 }
 
-/// The first part goes to a new seat.
+// The first part goes to a new seat.
 pub(crate) struct Off;
 
 impl Split<LinkedList<Part>> for Off {
-    ghost use Rattle.wq_table.specs.Law.{first_of, rest_of};
+    ghost use Rattle.wq_table.specs.Law.{front_of, rest_of};
 
     ghost left = { rest_of };
 
-    ghost right = { first_of };
+    ghost right = { front_of };
 }
 
-/// The second seat's parts come first, and it is left with none.
+// The second seat's parts come first, and it is left with none.
 pub(crate) struct Both;
 
 impl Join<LinkedList<Part>> for Both {

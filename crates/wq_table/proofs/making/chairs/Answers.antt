@@ -1,10 +1,8 @@
-use Rattle.std.proofs.Common.{rules, arith, ℕ, ◌≡◌, ◌+◌, ◌-◌, ◌<◌, List, [], ◌∷◌, length, replicate, refl, sym, ap, ◌∙◌}
-use Rattle.std.proofs.lemmas.List.{length-replicate}
+use Rattle.std.proofs.Common.{rules, arith, ℕ, ◌≡◌, [], ◌∷◌, replicate, sym, ap, ◌∙◌}
 use Rattle.std.specs.Arc.{arc_value}
-use Rattle.wq_words.specs.declared.layout.Layout.{Layout}
 use Rattle.wq_words.specs.Numbers.{number_count}
 use Rattle.wq_core.specs.Words.{word_count}
-use Rattle.wq_table.specs.Law.{View, sender_part, row, first_of, rest_of}
+use Rattle.wq_table.specs.Law.{View, sender_part}
 use Rattle.wq_table.specs.Chair.{sender_chairs}
 use Rattle.wq_table.proofs.Views.{offs, opens, cut_first, cut_rest}
 use Rattle.wq_table.proofs.Told.{one_view, next_chair}

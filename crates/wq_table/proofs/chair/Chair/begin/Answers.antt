@@ -1,28 +1,10 @@
-use Rattle.std.proofs.Common.{rules, arith, ℕ, ◌≡◌, ◌+◌, ◌-◌, ◌<◌, ◌∷◌, [], refl, sym, ap, ◌∙◌}
-use Rattle.wq_words.specs.declared.layout.Layout.{Layout}
-use Rattle.wq_words.specs.Numbers.{number_count}
-use Rattle.wq_core.specs.declared.step.Step.{Step}
+use Rattle.std.proofs.Common.{ℕ}
 use Rattle.wq_core.specs.declared.step.Step.TheVariants.{Begin}
-use Rattle.wq_core.specs.Words.{link_place, item_place, done_place, word_count}
-use Rattle.wq_table.specs.Chair.{Standing}
-use Rattle.wq_table.specs.Plays.{item_at}
-use Rattle.wq_table.proofs.Steps.{performs_begin}
-use Rattle.wq_table.proofs.Told.{alone_in, allowed, told}
+use Rattle.wq_table.proofs.Steps.{placed, performs_begin}
+use Rattle.wq_table.proofs.Told.{item_in}
 use Rattle.wq_table.proofs.chair.Chair.begin.Goals as goal
 
-pub fetch_and-requires : goal.fetch_and-requires
-fetch_and-requires c =
-    let p = c.args.self.now.part in let k = c.args.number in
-    let size : number_count c.self.inside.layout ≡ number_count p.layout = ap number_count (sym c.self.invariant.sized ∙ ap (λ (v : Standing). v.part.layout) c.self.view_is) in
-    let wide : c.deref.result.now.shared.table_id.words ≡ word_count (number_count c.self.inside.layout) = ap (λ t. t.shared.table_id.words) c.deref.ensures ∙ c.self.invariant.wide in
-    let alone = alone_in c.self.inside.layout c.self.inside.badge.views c.into_seat-seat.result.me p (sym (ap (λ b. b.views) c.replace.ensures.value) ∙ c.into_seat-seat.ensures.2) c.self.invariant.alone (ap (λ (v : Standing). v.part) c.self.view_is) in
-    let at : c.item_place-place.result ≡ item_place (number_count p.layout) k = c.item_place-place.ensures ∙ ap (λ (n : ℕ). item_place n k) size in
-    (search rules, omega arith, allowed _ _ _ p c.into_seat-seat.result.me (λ (l : Layout). Begin) (Begin) (item_place (number_count p.layout) k) (c.item_place-place.result) _ _ alone refl (sym at) (performs_begin p.seat p.layout p.seen k p.stage c.requires.number c.requires.next c.requires.rests))
-
-pub returns : goal.returns
-returns c =
-    let p = c.args.self.now.part in let k = c.args.number in
-    let size : number_count c.self.inside.layout ≡ number_count p.layout = ap number_count (sym c.self.invariant.sized ∙ ap (λ (v : Standing). v.part.layout) c.self.view_is) in
-    let alone = alone_in c.self.inside.layout c.self.inside.badge.views c.into_seat-seat.result.me p (sym (ap (λ b. b.views) c.replace.ensures.value) ∙ c.into_seat-seat.ensures.2) c.self.invariant.alone (ap (λ (v : Standing). v.part) c.self.view_is) in
-    let at : c.item_place-place.result ≡ item_place (number_count p.layout) k = c.item_place-place.ensures ∙ ap (λ (n : ℕ). item_place n k) size in
-    (c.fetch_and.result, record { queue_is = search rules; makes = told c.self.inside.layout (λ (l : Layout). Begin) (Begin) (c.fetch_and.result) c.into_seat-seat.result.me c.fetch_and.new.seat.me p c.into_badge.result.views alone refl c.into_badge.ensures.2 c.fetch_and.ensures.2 })
+pub and-requires-clause-performs : goal.and-requires-clause-performs
+and-requires-clause-performs c = let p = c.args.self.now.part in let k = c.args.number in
+    placed p (λ (n : ℕ). Begin) _ k _ _ (item_in c.self.inside c.args.self.now _ k c.self.invariant c.self.view_is c.item_place-place.ensures)
+    (performs_begin p.seat p.layout p.seen k p.stage c.requires.number c.requires.next c.requires.rests)

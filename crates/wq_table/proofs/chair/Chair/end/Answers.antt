@@ -1,28 +1,12 @@
-use Rattle.std.proofs.Common.{rules, arith, ℕ, ◌≡◌, ◌+◌, ◌-◌, ◌*◌, ◌<◌, ◌∷◌, [], refl, sym, ap, ◌∙◌}
-use Rattle.wq_words.specs.declared.layout.Layout.{Layout}
-use Rattle.wq_words.specs.Numbers.{number_count}
-use Rattle.wq_core.specs.declared.step.Step.{Step}
+use Rattle.std.proofs.Common.{ℕ, ◌+◌, ◌%◌, ◌^◌, sym, ap, subst}
 use Rattle.wq_core.specs.declared.step.Step.TheVariants.{End}
-use Rattle.wq_core.specs.Words.{link_place, item_place, done_place, word_count}
-use Rattle.wq_table.specs.Chair.{Standing}
-use Rattle.wq_table.specs.Plays.{item_at}
+use Rattle.wq_core.specs.Words.{done_place}
+use Rattle.wq_table.specs.Plays.{Performs}
 use Rattle.wq_table.proofs.Steps.{performs_end}
-use Rattle.wq_table.proofs.Told.{alone_in, allowed, told}
+use Rattle.wq_table.proofs.Told.{numbered_in}
 use Rattle.wq_table.proofs.chair.Chair.end.Goals as goal
 
-pub fetch_add-requires : goal.fetch_add-requires
-fetch_add-requires c =
-    let p = c.args.self.now.part in
-    let size : number_count c.self.inside.layout ≡ number_count p.layout = ap number_count (sym c.self.invariant.sized ∙ ap (λ (v : Standing). v.part.layout) c.self.view_is) in
-    let wide : c.deref.result.now.shared.table_id.words ≡ word_count (number_count c.self.inside.layout) = ap (λ t. t.shared.table_id.words) c.deref.ensures ∙ c.self.invariant.wide in
-    let alone = alone_in c.self.inside.layout c.self.inside.badge.views c.into_seat-seat.result.me p (sym (ap (λ b. b.views) c.replace.ensures.value) ∙ c.into_seat-seat.ensures.2) c.self.invariant.alone (ap (λ (v : Standing). v.part) c.self.view_is) in
-    let at : 1 + 2 * (c.self.inside.layout.items + c.self.inside.layout.barriers + 1) ≡ done_place (number_count p.layout) = ap done_place size in
-    (search rules, omega arith, allowed _ _ _ p c.into_seat-seat.result.me (λ (l : Layout). End) (End) (done_place (number_count p.layout)) (1 + 2 * (c.self.inside.layout.items + c.self.inside.layout.barriers + 1)) _ _ alone refl (sym at) (performs_end p.seat p.layout p.seen p.stage c.requires.owner c.requires.runs))
-
-pub returns : goal.returns
-returns c =
-    let p = c.args.self.now.part in
-    let size : number_count c.self.inside.layout ≡ number_count p.layout = ap number_count (sym c.self.invariant.sized ∙ ap (λ (v : Standing). v.part.layout) c.self.view_is) in
-    let alone = alone_in c.self.inside.layout c.self.inside.badge.views c.into_seat-seat.result.me p (sym (ap (λ b. b.views) c.replace.ensures.value) ∙ c.into_seat-seat.ensures.2) c.self.invariant.alone (ap (λ (v : Standing). v.part) c.self.view_is) in
-    let at : 1 + 2 * (c.self.inside.layout.items + c.self.inside.layout.barriers + 1) ≡ done_place (number_count p.layout) = ap done_place size in
-    (c.fetch_add.result, record { queue_is = search rules; makes = told c.self.inside.layout (λ (l : Layout). End) (End) (c.fetch_add.result) c.into_seat-seat.result.me c.fetch_add.new.seat.me p c.into_badge.result.views alone refl c.into_badge.ensures.2 c.fetch_add.ensures.2 })
+pub add-requires-clause-performs : goal.add-requires-clause-performs
+add-requires-clause-performs c = let p = c.args.self.now.part in
+    subst (λ (i : ℕ). Performs p End i (λ n. (n + 1) % 2 ^ 64) (λ n. n)) (sym (ap done_place (numbered_in c.self.inside c.args.self.now c.self.invariant c.self.view_is)))
+    (performs_end p.seat p.layout p.seen p.stage c.requires.owner c.requires.runs)

@@ -1,26 +1,15 @@
-use Rattle.std.proofs.Common.{rules, arith, ℕ, ◌≡◌, ◌+◌, ◌-◌, ◌<◌, ◌∷◌, [], refl, sym, ap, ◌∙◌}
-use Rattle.wq_words.specs.declared.layout.Layout.{Layout}
-use Rattle.wq_words.specs.Numbers.{number_count}
-use Rattle.wq_core.specs.declared.step.Step.{Step}
+use Rattle.std.proofs.Common.{ℕ, sym, subst}
 use Rattle.wq_core.specs.declared.step.Step.TheVariants.{Link}
-use Rattle.wq_core.specs.Words.{link_place, item_place, done_place, word_count}
-use Rattle.wq_table.specs.Chair.{Standing}
-use Rattle.wq_table.specs.Plays.{item_at}
-use Rattle.wq_table.proofs.Steps.{performs_link}
-use Rattle.wq_table.proofs.Told.{alone_in, allowed, told}
+use Rattle.wq_core.specs.Words.{link_place}
+use Rattle.wq_table.specs.Chair.{Steps}
+use Rattle.wq_table.specs.Plays.{Performs}
+use Rattle.wq_table.proofs.Steps.{number_linked, performs_link}
 use Rattle.wq_table.proofs.chair.Chair.link.Goals as goal
 
-pub store-requires : goal.store-requires
-store-requires c =
-    let p = c.args.self.now.part in let k = c.args.number in
-    let size : number_count c.self.inside.layout ≡ number_count p.layout = ap number_count (sym c.self.invariant.sized ∙ ap (λ (v : Standing). v.part.layout) c.self.view_is) in
-    let wide : c.deref.result.now.shared.table_id.words ≡ word_count (number_count c.self.inside.layout) = ap (λ t. t.shared.table_id.words) c.deref.ensures ∙ c.self.invariant.wide in
-    let alone = alone_in c.self.inside.layout c.self.inside.badge.views c.into_seat-seat.result.me p (sym (ap (λ b. b.views) c.replace.ensures.value) ∙ c.into_seat-seat.ensures.2) c.self.invariant.alone (ap (λ (v : Standing). v.part) c.self.view_is) in
-    (search rules, omega arith, allowed _ _ _ p c.into_seat-seat.result.me (λ (l : Layout). Link (1 + c.args.number - link_place 0)) (Link k) (link_place k) (1 + c.args.number) _ _ alone (ap (λ (z : ℕ). Link z) (omega arith)) refl (performs_link p.seat p.layout p.seen k c.args.seen p.stage c.requires.number c.requires.held c.requires.seen c.requires.open))
+pub store-requires-clause-performs : goal.store-requires-clause-performs
+store-requires-clause-performs c = let p = c.args.self.now.part in let k = c.args.number in
+    subst (λ (n : ℕ). Performs p (Link n) (link_place k) (λ _. c.args.seen) (λ _. c.args.seen)) (sym (number_linked k))
+    (performs_link p.seat p.layout p.seen k c.args.seen p.stage c.requires.number c.requires.held c.requires.seen c.requires.open)
 
 pub returns : goal.returns
-returns c =
-    let p = c.args.self.now.part in let k = c.args.number in
-    let size : number_count c.self.inside.layout ≡ number_count p.layout = ap number_count (sym c.self.invariant.sized ∙ ap (λ (v : Standing). v.part.layout) c.self.view_is) in
-    let alone = alone_in c.self.inside.layout c.self.inside.badge.views c.into_seat-seat.result.me p (sym (ap (λ b. b.views) c.replace.ensures.value) ∙ c.into_seat-seat.ensures.2) c.self.invariant.alone (ap (λ (v : Standing). v.part) c.self.view_is) in
-    record { queue_is = search rules; makes = told c.self.inside.layout (λ (l : Layout). Link (1 + c.args.number - link_place 0)) (Link k) (c.args.seen) c.into_seat-seat.result.me c.store.new.seat.me p c.into_badge.result.views alone (ap (λ (z : ℕ). Link z) (omega arith)) c.into_badge.ensures.2 c.store.ensures.2 }
+returns c = subst (λ (n : ℕ). Steps (Link n) c.args.seen c.args.self.now c.store.new.self) (number_linked c.args.number) c.store.ensures

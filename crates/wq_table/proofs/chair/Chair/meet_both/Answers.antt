@@ -6,11 +6,11 @@ use Rattle.wq_table.proofs.chair.Chair.meet_both.Goals as goal
 
 pub join_seat-requires : goal.join_seat-requires
 join_seat-requires c = let q = λ (v : Standing). v.queue in let same = ap q c.other.view_is ∙ (sym c.requires.other ∙ (sym (ap q c.self.view_is) ∙ (c.self.invariant.seated ∙ ap (λ t. t.shared.table_id) (sym c.deref.ensures)))) in
-    (search rules, c.into_seat-others.ensures.0 ∙ (ap (λ b. b.table_id) c.replace-2.ensures.value ∙ same), search rules, search rules, boths _ _ _ _ _)
+    (search rules, c.rise-others.ensures.table ∙ same, search rules, search rules, boths _ _ _ _ _)
 
 pub join_seat-requires-2 : goal.join_seat-requires-2
 join_seat-requires-2 c = let q = λ (v : Standing). v.queue in let same = ap q c.third.view_is ∙ (sym c.requires.third ∙ (sym (ap q c.self.view_is) ∙ (c.self.invariant.seated ∙ ap (λ t. t.shared.table_id) (sym c.deref.ensures)))) in
-    (search rules, c.into_seat-thirds.ensures.0 ∙ (ap (λ b. b.table_id) c.replace-3.ensures.value ∙ same), search rules, search rules, boths _ _ _ _ _)
+    (search rules, c.rise-thirds.ensures.table ∙ same, search rules, search rules, boths _ _ _ _ _)
 
 pub load-requires : goal.load-requires
 load-requires c = (search rules, search rules, meets_goes _ _ _ _)
@@ -23,10 +23,10 @@ split_seat-others-requires c = (search rules, search rules, offs _ _ _)
 
 pub returns : goal.returns
 returns c =
-    let alone = alone_in c.self.inside.layout c.self.inside.badge.views c.into_seat-seat.result.me c.args.self.now.part (sym (ap (λ b. b.views) c.replace.ensures.value) ∙ c.into_seat-seat.ensures.2) c.self.invariant.alone (ap (λ (v : Standing). v.part) c.self.view_is) in
-    let other = alone_in c.other.inside.layout c.other.inside.badge.views c.into_seat-others.result.me c.args.other.now.part (sym (ap (λ b. b.views) c.replace-2.ensures.value) ∙ c.into_seat-others.ensures.2) c.other.invariant.alone (ap (λ (v : Standing). v.part) c.other.view_is) in
-    let third = alone_in c.third.inside.layout c.third.inside.badge.views c.into_seat-thirds.result.me c.args.third.now.part (sym (ap (λ b. b.views) c.replace-3.ensures.value) ∙ c.into_seat-thirds.ensures.2) c.third.invariant.alone (ap (λ (v : Standing). v.part) c.third.view_is) in
-    met_all c.args.self.now c.args.other.now c.args.third.now _ _ _ c.self.inside.layout c.other.inside.layout c.third.inside.layout c.into_seat-seat.result.me c.into_seat-others.result.me c.into_seat-thirds.result.me
+    let alone = alone_in c.self.inside c.args.self.now c.rise-seat.result.me c.self.invariant c.self.view_is c.rise-seat.ensures.view in
+    let other = alone_in c.other.inside c.args.other.now c.rise-others.result.me c.other.invariant c.other.view_is c.rise-others.ensures.view in
+    let third = alone_in c.third.inside c.args.third.now c.rise-thirds.result.me c.third.invariant c.third.view_is c.rise-thirds.ensures.view in
+    met_all c.args.self.now c.args.other.now c.args.third.now _ _ _ c.self.inside.layout c.other.inside.layout c.third.inside.layout c.rise-seat.result.me c.rise-others.result.me c.rise-thirds.result.me
     c.join_seat.new.seat.me c.join_seat-2.new.seat.me c.load.new.seat.me c.split_seat-thirds.new.seat.me c.split_seat-others.new.seat.me c.split_seat-others.result.me c.split_seat-thirds.result.me
     c.into_badge-3.result.views c.into_badge-2.result.views c.into_badge.result.views alone other third (ap (λ m. m.0) c.join_seat.ensures.2) (ap (λ m. m.0) c.join_seat-2.ensures.2) c.load.ensures.2
     (ap (λ m. m.0) c.split_seat-thirds.ensures.2) (ap (λ m. m.0) c.split_seat-thirds.ensures.4) (ap (λ m. m.0) c.split_seat-others.ensures.2) (ap (λ m. m.0) c.split_seat-others.ensures.4)

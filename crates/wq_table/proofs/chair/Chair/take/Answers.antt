@@ -1,26 +1,5 @@
-use Rattle.std.proofs.Common.{rules, arith, ℕ, ◌≡◌, ◌+◌, ◌-◌, ◌<◌, ◌∷◌, [], refl, sym, ap, ◌∙◌}
-use Rattle.wq_words.specs.declared.layout.Layout.{Layout}
-use Rattle.wq_words.specs.Numbers.{number_count}
-use Rattle.wq_core.specs.declared.step.Step.{Step}
-use Rattle.wq_core.specs.declared.step.Step.TheVariants.{Take}
-use Rattle.wq_core.specs.Words.{link_place, item_place, done_place, word_count}
-use Rattle.wq_table.specs.Chair.{Standing}
-use Rattle.wq_table.specs.Plays.{item_at}
 use Rattle.wq_table.proofs.Steps.{performs_take}
-use Rattle.wq_table.proofs.Told.{alone_in, allowed, told}
 use Rattle.wq_table.proofs.chair.Chair.take.Goals as goal
 
-pub swap-found-requires : goal.swap-found-requires
-swap-found-requires c =
-    let p = c.args.self.now.part in
-    let size : number_count c.self.inside.layout ≡ number_count p.layout = ap number_count (sym c.self.invariant.sized ∙ ap (λ (v : Standing). v.part.layout) c.self.view_is) in
-    let wide : c.deref.result.now.shared.table_id.words ≡ word_count (number_count c.self.inside.layout) = ap (λ t. t.shared.table_id.words) c.deref.ensures ∙ c.self.invariant.wide in
-    let alone = alone_in c.self.inside.layout c.self.inside.badge.views c.into_seat-seat.result.me p (sym (ap (λ b. b.views) c.replace.ensures.value) ∙ c.into_seat-seat.ensures.2) c.self.invariant.alone (ap (λ (v : Standing). v.part) c.self.view_is) in
-    (search rules, omega arith, allowed _ _ _ p c.into_seat-seat.result.me (λ (l : Layout). Take) (Take) (0) (0) _ _ alone refl refl (performs_take p.seat p.layout p.seen p.stage c.requires.open c.requires.rested c.requires.empty))
-
-pub returns : goal.returns
-returns c =
-    let p = c.args.self.now.part in
-    let size : number_count c.self.inside.layout ≡ number_count p.layout = ap number_count (sym c.self.invariant.sized ∙ ap (λ (v : Standing). v.part.layout) c.self.view_is) in
-    let alone = alone_in c.self.inside.layout c.self.inside.badge.views c.into_seat-seat.result.me p (sym (ap (λ b. b.views) c.replace.ensures.value) ∙ c.into_seat-seat.ensures.2) c.self.invariant.alone (ap (λ (v : Standing). v.part) c.self.view_is) in
-    record { queue_is = search rules; makes = told c.self.inside.layout (λ (l : Layout). Take) (Take) (c.swap-found.result) c.into_seat-seat.result.me c.swap-found.new.seat.me p c.into_badge.result.views alone refl c.into_badge.ensures.2 c.swap-found.ensures.2 }
+pub swap-requires-clause-performs : goal.swap-requires-clause-performs
+swap-requires-clause-performs c = let p = c.args.self.now.part in performs_take p.seat p.layout p.seen p.stage c.requires.open c.requires.rested c.requires.empty
