@@ -101,7 +101,8 @@ module _ (m : Machine) (c : ℕ) (is : c ≡ owner_seat) where
 
   change_walk : (cursor : Option ℕ) → Change m (after_walk m cursor) c
   change_walk None = unchanged m c
-  change_walk (Some k) = change_either m _ _ c (link m k == 0) (turned None [] (m.batch ++ k ∷ m.walked)) (turned (number_at (link m k)) (k ∷ m.walked) m.batch)
+  change_walk (Some k) = change_either m _ _ c (link m k == 0) (turned None [] (m.batch ++ k ∷ m.walked))
+      (turned (number_at (link m k)) (k ∷ m.walked) m.batch)
 
   change_begin : (batch : List ℕ) → Change m (after_begin m batch) c
   change_begin [] = unchanged m c
@@ -112,10 +113,12 @@ module _ (m : Machine) (c : ℕ) (is : c ≡ owner_seat) where
   change_end (Some k) = did _ m.cursor m.walked m.batch (event.End k) refl
 
 pub changes : (m : Machine) (c : ℕ) (stage : Stage) (step : Step) → HasStage m c stage → Change m (after m (seat_at c stage) step) c
-changes m c (Sends p) (Hold k) keeps = change_either m _ _ c (item_word m k == 0) (marked m c _ (event.Hold c k) refl) (marked m c m.words (event.Busy c k) refl)
+changes m c (Sends p) (Hold k) keeps = change_either m _ _ c (item_word m k == 0) (marked m c _ (event.Hold c k) refl)
+    (marked m c m.words (event.Busy c k) refl)
 changes m c (Sends p) Look keeps = kept m c m.words _
 changes m c (Sends p) (Link k) keeps = kept m c _ _
-changes m c (Sends p) (Push k) keeps = change_either m _ _ c (head m == seen_word m c) (sent m c _ nothing_seen (event.Push c k) refl) (kept m c m.words nothing_seen)
+changes m c (Sends p) (Push k) keeps = change_either m _ _ c (head m == seen_word m c) (sent m c _ nothing_seen (event.Push c k) refl)
+    (kept m c m.words nothing_seen)
 changes m c (Sends p) (Back k why) keeps = sent m c _ _ (event.Back c k why) refl
 changes m c (Sends p) _ keeps = unchanged m c
 changes m c (Owns cursor walked batch) Take keeps = did m c keeps.0 _ _ m.walked m.batch event.Take refl
@@ -124,7 +127,8 @@ changes m c (Owns cursor walked batch) Walk keeps = change_walk m c keeps.0 m.cu
 changes m c (Owns cursor walked batch) Begin keeps = change_begin m c keeps.0 m.batch
 changes m c (Owns cursor walked batch) End keeps = change_end m c keeps.0 (running m.history)
 changes m c (Owns cursor walked batch) (Chain k) keeps =
-    change_either m _ _ c (item_word m k == 0) (did m c keeps.0 _ m.cursor m.walked _ (event.Chain k) refl) (did m c keeps.0 m.words m.cursor m.walked m.batch (event.ChainBusy k) refl)
+    change_either m _ _ c (item_word m k == 0) (did m c keeps.0 _ m.cursor m.walked _ (event.Chain k) refl)
+    (did m c keeps.0 m.words m.cursor m.walked m.batch (event.ChainBusy k) refl)
 changes m c (Owns cursor walked batch) _ keeps = unchanged m c
 
 keeps_other : (m n : Machine) (c d : ℕ) (stage : Stage) → Change m n c → d ≢ c → HasStage m d stage → HasStage n d stage
@@ -145,11 +149,18 @@ keeps_either : (x y : Machine) (c : ℕ) (b : Bool) (stage : Stage) → HasStage
 keeps_either x y c true stage p q = p
 keeps_either x y c false stage p q = q
 
-keeps_walk : (m : Machine) (c : ℕ) (cursor : Option ℕ) → c ≡ owner_seat → cursor ≢ None → HasStage (after_walk m cursor) c (walked_on (unwrap_or cursor 0) m.walked m.batch (link m (unwrap_or cursor 0)))
+keeps_walk : (m : Machine) (c : ℕ) (cursor : Option ℕ) → c ≡ owner_seat → cursor ≢ None
+    → HasStage (after_walk m cursor) c (walked_on (unwrap_or cursor 0) m.walked m.batch (link m (unwrap_or cursor 0)))
 keeps_walk m c None is some = absurd (some refl)
 keeps_walk m c (Some k) is some = go (link m k == 0)
   where
-    go : (b : Bool) → HasStage (if b then record m { cursor = None; walked = []; batch = m.batch ++ k ∷ m.walked } else record m { cursor = number_at (link m k); walked = k ∷ m.walked }) c
+    go : (b : Bool)
+        → HasStage
+        (if b then record m { cursor = None; walked = []; batch = m.batch ++ k ∷ m.walked } else record m {
+          cursor = number_at
+              (link m k);
+          walked = k ∷ m.walked;
+        }) c
         (if b then Owns None [] (m.batch ++ k ∷ m.walked) else Owns (number_at (link m k)) (k ∷ m.walked) m.batch)
     go true = (is, refl, refl, refl)
     go false = (is, refl, refl, refl)
@@ -163,11 +174,13 @@ keeps_end m c None is = (is, refl, refl, refl)
 keeps_end m c (Some k) is = (is, refl, refl, refl)
 
 keeps_chain : (m : Machine) (c k : ℕ) (b : Bool) → c ≡ owner_seat
-    → HasStage (if b then happened (record (with_item m k 1) { batch = m.batch ++ k ∷ [] }) (event.Chain k) else happened m (event.ChainBusy k)) c (Owns m.cursor m.walked (if b then m.batch ++ k ∷ [] else m.batch))
+    → HasStage (if b then happened (record (with_item m k 1) { batch = m.batch ++ k ∷ [] }) (event.Chain k) else happened m (event.ChainBusy k)) c
+    (Owns m.cursor m.walked (if b then m.batch ++ k ∷ [] else m.batch))
 keeps_chain m c k true is = (is, refl, refl, refl)
 keeps_chain m c k false is = (is, refl, refl, refl)
 
-own_again : (m : Machine) (c : ℕ) (cursor : Option ℕ) (walked batch : List ℕ) → HasStage m c (Owns cursor walked batch) → Owns m.cursor m.walked m.batch ≡ Owns cursor walked batch
+own_again : (m : Machine) (c : ℕ) (cursor : Option ℕ) (walked batch : List ℕ) → HasStage m c (Owns cursor walked batch)
+    → Owns m.cursor m.walked m.batch ≡ Owns cursor walked batch
 own_again m c cursor walked batch keeps = cc (keeps.1, keeps.2, keeps.3)
 
 -- what the seat keeps after its step
@@ -178,7 +191,11 @@ keeps_after m c (Sends p) Look sound keeps made = (keeps.0, get_or-set_same m.se
 keeps_after m c (Sends p) (Link k) sound keeps made =
     (keeps.0, get_or-set_same m.seats c _ nothing_seen (omega (arith, sound.has_seats, keeps.0)) ∙ ap (λ (x : Private). record x { linked = Some k }) keeps.1)
 keeps_after m c (Sends p) (Push k) sound keeps made =
-    let here : HasStage (with_private m c nothing_seen) c (Sends nothing_seen) = (keeps.0, get_or-set_same m.seats c nothing_seen nothing_seen (omega (arith, sound.has_seats, keeps.0))) in keeps_either _ _ c (head m == seen_word m c) (Sends nothing_seen) here here
+    let here : HasStage (with_private m c nothing_seen) c (Sends nothing_seen) = (
+      keeps.0,
+      get_or-set_same m.seats c nothing_seen nothing_seen (omega (arith, sound.has_seats, keeps.0)),
+    ) in
+    keeps_either _ _ c (head m == seen_word m c) (Sends nothing_seen) here here
 keeps_after m c (Sends p) (Back k why) sound keeps made =
     (keeps.0, get_or-set_same m.seats c _ nothing_seen (omega (arith, sound.has_seats, keeps.0)) ∙ ap (λ (x : Private). unlinked x k) keeps.1)
 keeps_after m c (Sends p) (Check k) sound keeps made = keeps
@@ -186,11 +203,15 @@ keeps_after m c (Sends p) _ sound keeps made = absurd made.1
 keeps_after m c (Owns cursor walked batch) Take sound keeps made = (keeps.0, refl, keeps.2, keeps.3)
 keeps_after m c (Owns cursor walked batch) Close sound keeps made = (keeps.0, refl, keeps.2, keeps.3)
 keeps_after m c (Owns cursor walked batch) Walk sound keeps made =
-    subst (λ (st : Stage). HasStage (after m Owner Walk) c (stage_after st Walk (word_found m c Walk))) (own_again m c cursor walked batch keeps) (keeps_walk m c m.cursor keeps.0 made.1)
+    subst (λ (st : Stage). HasStage (after m Owner Walk) c (stage_after st Walk (word_found m c Walk))) (own_again m c cursor walked batch keeps)
+    (keeps_walk m c m.cursor keeps.0 made.1)
 keeps_after m c (Owns cursor walked batch) Begin sound keeps made =
-    subst (λ (st : Stage). HasStage (after m Owner Begin) c (stage_after st Begin (word_found m c Begin))) (own_again m c cursor walked batch keeps) (keeps_begin m c m.batch keeps.0 made.1.1)
+    subst (λ (st : Stage). HasStage (after m Owner Begin) c (stage_after st Begin (word_found m c Begin))) (own_again m c cursor walked batch keeps)
+    (keeps_begin m c m.batch keeps.0 made.1.1)
 keeps_after m c (Owns cursor walked batch) End sound keeps made =
-    subst (λ (st : Stage). HasStage (after m Owner End) c (stage_after st End (word_found m c End))) (own_again m c cursor walked batch keeps) (keeps_end m c (running m.history) keeps.0)
+    subst (λ (st : Stage). HasStage (after m Owner End) c (stage_after st End (word_found m c End))) (own_again m c cursor walked batch keeps)
+    (keeps_end m c (running m.history) keeps.0)
 keeps_after m c (Owns cursor walked batch) (Chain k) sound keeps made =
-    subst (λ (st : Stage). HasStage (after m Owner (Chain k)) c (stage_after st (Chain k) (word_found m c (Chain k)))) (own_again m c cursor walked batch keeps) (keeps_chain m c k (item_word m k == 0) keeps.0)
+    subst (λ (st : Stage). HasStage (after m Owner (Chain k)) c (stage_after st (Chain k) (word_found m c (Chain k))))
+    (own_again m c cursor walked batch keeps) (keeps_chain m c k (item_word m k == 0) keeps.0)
 keeps_after m c (Owns cursor walked batch) _ sound keeps made = absurd made.1

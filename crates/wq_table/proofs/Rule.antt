@@ -32,7 +32,8 @@ all_other m n who c i j (q ∷ qs) change here away all =
 abbrev pub next_part : Machine → Part → Step → Part
 next_part m p step = part p.seat p.layout (after m (seat_at p.seat p.stage) step).history (stage_after p.stage step (word_found m p.seat step))
 
-next_fits : (m : Machine) (p : Part) (step : Step) → IsSound m → IsPartOf m p → IsMade m (seat_at p.seat p.stage) step → IsPartOf (after m (seat_at p.seat p.stage) step) (next_part m p step)
+next_fits : (m : Machine) (p : Part) (step : Step) → IsSound m → IsPartOf m p → IsMade m (seat_at p.seat p.stage) step
+    → IsPartOf (after m (seat_at p.seat p.stage) step) (next_part m p step)
 next_fits m p step sound fits made = record {
   layout_is = fits.layout_is ∙ sym (changes m p.seat p.stage step fits.keeps).layout_is;
   begins = prefix_self (after m (seat_at p.seat p.stage) step).history;
@@ -44,9 +45,12 @@ module _ (layout : Layout) (slots id : ℕ) (p : Part) (cs : Carried) (σ : Layo
   stepping : Allows (Kept layout) slots id (p ∷ [], cs) i f (λ n. MakesAlone σ (p ∷ [], cs) (g n))
   stepping s r same at small =
       let m = r.machine in let fits : IsPartOf m p = (r.seats id (p ∷ []) at).0 in let here = (r.seats id (p ∷ []) at).1 in
-      let made = performs.made m r.sound fits in let next = after m (seat_at p.seat p.stage) (σ p.layout) in let sound = sound_after m (seat_at p.seat p.stage) (σ p.layout) r.sound made in
-      let found : g (get_or s.words i 0) ≡ word_found m p.seat (σ p.layout) = ap (λ (ws : List ℕ). g (get_or ws i 0)) r.words_are ∙ performs.finds m r.sound fits in
-      let q = next_part m p (σ p.layout) in let q_fits = next_fits m p (σ p.layout) r.sound fits made in let change = changes m p.seat p.stage (σ p.layout) fits.keeps in (
+      let made = performs.made m r.sound fits in let next = after m (seat_at p.seat p.stage) (σ p.layout) in
+      let sound = sound_after m (seat_at p.seat p.stage) (σ p.layout) r.sound made in
+      let found : g (get_or s.words i 0) ≡ word_found m p.seat (σ p.layout) = ap (λ (ws : List ℕ). g (get_or ws i 0)) r.words_are ∙
+      performs.finds m r.sound fits in
+      let q = next_part m p (σ p.layout) in let q_fits = next_fits m p (σ p.layout) r.sound fits made in
+      let change = changes m p.seat p.stage (σ p.layout) fits.keeps in (
         q ∷ [],
         keeps,
         tt,
@@ -58,7 +62,8 @@ module _ (layout : Layout) (slots id : ℕ) (p : Part) (cs : Carried) (σ : Layo
           words_are = ap (λ (ws : List ℕ). set ws i (f (get_or ws i 0))) r.words_are ∙ sym (performs.writes m r.sound fits);
           seats = λ j v there. ⊎_elim
               (λ (t : (j ≡ id) × (q ∷ [] ≡ v)). subst (λ (z : ℕ × View). ArePartsAt next r.who z.0 z.1) (λ k. (sym t.0 k, t.1 k)) (q_fits, here, tt, tt))
-              (λ (t : (j ≢ id) × (get_elem? s.views j ≡ some v)). all_other m next r.who p.seat id j v change here t.0 (r.seats j v t.1)) (at_set s.views id j (q ∷ []) v there);
+              (λ (t : (j ≢ id) × (get_elem? s.views j ≡ some v)). all_other m next r.who p.seat id j v change here t.0 (r.seats j v t.1))
+              (at_set s.views id j (q ∷ []) v there);
         },
         record {
           from = p;
@@ -84,4 +89,7 @@ module _ (layout : Layout) (slots id : ℕ) (p : Part) (cs : Carried) (σ : Layo
 pub goes : (layout : Layout) (slots id : ℕ) (p : Part) (me : Sat) (σ : Layout → Step) (i : ℕ) (f g : ℕ → ℕ) → me.0 ≡ p ∷ [] → Performs p (σ p.layout) i f g
     → Allows (Kept layout) slots id me i f (λ n. MakesAlone σ me (g n))
 goes layout slots id p me σ i f g alone performs =
-    subst (λ (v : View). Allows (Kept layout) slots id (v, me.1) i f (λ n. MakesAlone σ (v, me.1) (g n))) (sym alone) (stepping layout slots id p me.1 σ i f g performs)
+    subst (λ (v : View). Allows (Kept layout) slots id (
+      v,
+      me.1,
+    ) i f (λ n. MakesAlone σ (v, me.1) (g n))) (sym alone) (stepping layout slots id p me.1 σ i f g performs)

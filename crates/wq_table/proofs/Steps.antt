@@ -10,6 +10,8 @@ use Rattle.wq_words.specs.declared.event.Why.{Why}
 use Rattle.wq_words.specs.declared.event.Why.TheVariants.{Closed}
 use Rattle.wq_words.specs.declared.event.Event.{Event}
 use Rattle.wq_words.specs.Numbers.{number_count}
+use Rattle.wq_words.specs.declared.head.Head.TheVariants.{Item}
+use Rattle.wq_words.specs.Head.{head_word}
 use Rattle.wq_words.specs.History.{begun, ended, Holds, IsClosed, IsRunning, running}
 use Rattle.wq_core.specs.declared.step.Private.{Private}
 use Rattle.wq_core.specs.declared.step.Seat.TheVariants.{Sender}
@@ -24,6 +26,7 @@ use Rattle.wq_table.specs.declared.table.Stage.TheVariants.{Sends, Owns}
 use Rattle.wq_table.specs.Law.{part}
 use Rattle.wq_table.specs.Plays.{Performs, item_at}
 use Rattle.wq_table.specs.Chair.{IsSender, HasSeen, HasLinked, IsOwner, IsRested, HasNone, IsToWalk, IsToBegin}
+use Rattle.wq_words.proofs.Running.{runs_some}
 use Rattle.wq_words.proofs.Seen.{held_same, closed_same, running_same}
 
 -- an item word is a bit
@@ -39,22 +42,22 @@ loads : (ws : List ℕ) (i : ℕ) → ws ≡ set ws i (get_or ws i 0)
 loads ws i = sym (set-get_or ws i 0)
 
 -- setting a bit: where it was clear the machine is x then, and else y
-sets_bit : (x y : Machine) (ws : List ℕ) (i w : ℕ) → w ≡ get_or ws i 0 → x.words ≡ set ws i 1 → y.words ≡ ws → w < 2 → (b : Bool) → (w == 0) ≡ b → (if b then x else y).words ≡ set ws i (bit_or w 1)
+sets_bit : (x y : Machine) (ws : List ℕ) (i w : ℕ) → w ≡ get_or ws i 0 → x.words ≡ set ws i 1 → y.words ≡ ws → w < 2 → (b : Bool) → (w == 0) ≡ b
+    → (if b then x else y).words ≡ set ws i (bit_or w 1)
 sets_bit x y ws i w is at_x at_y small true zero = let clear : w ≡ 0 = eqb-true w 0 zero in at_x ∙ ap (λ (v : ℕ). set ws i (bit_or v 1)) (sym clear)
 sets_bit x y ws i w is at_y at_x small false zero =
-    let ne : w ≢ 0 = eqb-false w 0 zero in let one_is : w ≡ 1 = omega arith in at_x ∙ (loads ws i ∙ (ap (set ws i) (sym is ∙ one_is) ∙ ap (λ (v : ℕ). set ws i (bit_or v 1)) (sym one_is)))
+    let ne : w ≢ 0 = eqb-false w 0 zero in let one_is : w ≡ 1 = omega arith in
+    at_x ∙ (loads ws i ∙ (ap (set ws i) (sym is ∙ one_is) ∙ ap (λ (v : ℕ). set ws i (bit_or v 1)) (sym one_is)))
 
 clears_bit : (w : ℕ) → w < 2 → (b : Bool) → (w == 0) ≡ b → 0 ≡ bit_and w 0
 clears_bit w small true zero = ap (λ (v : ℕ). bit_and v 0) (sym (eqb-true w 0 zero))
 clears_bit w small false zero = let ne : w ≢ 0 = eqb-false w 0 zero in let one_is : w ≡ 1 = omega arith in ap (λ (v : ℕ). bit_and v 0) (sym one_is)
 
 -- an exchange: where the word was the one expected the machine is x then, and else y
-exchanges : (x y : Machine) (ws : List ℕ) (old new w : ℕ) → w ≡ get_or ws 0 0 → x.words ≡ set ws 0 new → y.words ≡ ws → (b : Bool) → (w == old) ≡ b → (if b then x else y).words ≡ set ws 0 (either b new w)
+exchanges : (x y : Machine) (ws : List ℕ) (old new w : ℕ) → w ≡ get_or ws 0 0 → x.words ≡ set ws 0 new → y.words ≡ ws → (b : Bool) → (w == old) ≡ b
+    → (if b then x else y).words ≡ set ws 0 (either b new w)
 exchanges x y ws old new w is at_x at_y true hit = at_x
 exchanges x y ws old new w is at_x at_y false miss = at_y ∙ (loads ws 0 ∙ ap (set ws 0) (sym is))
-
-pub some_runs : (h : List Event) → IsRunning h → (k : ℕ) × (running h ≡ Some k)
-some_runs h runs = (get_or (begun h) (length (ended h)) 0, slice_get-get_or (begun h) (length (ended h)) 0 runs)
 
 -- who has seen a head is a sender
 pub sender_seen : (word : ℕ) (stage : Stage) → HasSeen word stage → IsSender stage
@@ -66,22 +69,32 @@ pub number_placed : (i k : ℕ) (layout : Layout) → i ≡ item_place (number_c
 number_placed i k layout at = omega arith
 
 -- a step on the item word of a number, by the place of that word
-pub placed : (p : Part) (step : ℕ → Step) (i k : ℕ) (f g : ℕ → ℕ) → i ≡ item_place (number_count p.layout) k → Performs p (step k) (item_place (number_count p.layout) k) f g
+pub placed : (p : Part) (step : ℕ → Step) (i k : ℕ) (f g : ℕ → ℕ) → i ≡ item_place (number_count p.layout) k
+    → Performs p (step k) (item_place (number_count p.layout) k) f g
     → Performs p (step (item_at i p.layout)) i f g
 placed p step i k f g at performs = let back : k ≡ item_at i p.layout = sym (number_placed i k p.layout at) in
     subst (λ (z : ℕ × ℕ). Performs p (step z.0) z.1 f g) (λ j. (back j, sym at j)) performs
 
-pub number_linked : (k : ℕ) → link_place k - link_place 0 ≡ k
-number_linked k = omega arith
+-- the number whose link stands there
+pub number_linked : (i k : ℕ) → i ≡ link_place k → i - link_place 0 ≡ k
+number_linked i k at = omega arith
 
-pub number_pushed : (k : ℕ) → (k + 1) - 1 ≡ k
-number_pushed k = omega arith
+-- a step on the link of a number, by the place of that link
+pub linked : (p : Part) (step : ℕ → Step) (i k : ℕ) (f g : ℕ → ℕ) → i ≡ link_place k → Performs p (step k) (link_place k) f g
+    → Performs p (step (i - link_place 0)) i f g
+linked p step i k f g at performs = let back : k ≡ i - link_place 0 = sym (number_linked i k at) in
+    subst (λ (z : ℕ × ℕ). Performs p (step z.0) z.1 f g) (λ j. (back j, sym at j)) performs
+
+pub number_pushed : (word k : ℕ) → word ≡ head_word (Item k) → word - 1 ≡ k
+number_pushed word k is = omega arith
 
 module _ (c : ℕ) (layout : Layout) (seen : List Event) where
-  pub performs_hold : (k : ℕ) (stage : Stage) → IsSender stage → k < number_count layout → Performs (part c layout seen stage) (Hold k) (item_place (number_count layout) k) (λ n. bit_or n 1) (λ n. n)
+  pub performs_hold : (k : ℕ) (stage : Stage) → IsSender stage → k < number_count layout
+      → Performs (part c layout seen stage) (Hold k) (item_place (number_count layout) k) (λ n. bit_or n 1) (λ n. n)
   performs_hold k (Sends p) sender number = record {
     made = λ m sound fits. (((fits.keeps.0, refl), rw (← fits.layout_is) number), tt);
-    writes = λ m sound fits. rw fits.layout_is (sets_bit _ _ m.words _ (item_word m k) refl refl refl (item_word-bit m sound k (rw (← fits.layout_is) number)) (item_word m k == 0) refl);
+    writes = λ m sound fits. rw fits.layout_is
+        (sets_bit _ _ m.words _ (item_word m k) refl refl refl (item_word-bit m sound k (rw (← fits.layout_is) number)) (item_word m k == 0) refl);
     finds = λ m sound fits. rw fits.layout_is refl;
   }
   performs_hold k (Owns cursor walked batch) sender number = absurd sender
@@ -94,7 +107,8 @@ module _ (c : ℕ) (layout : Layout) (seen : List Event) where
   }
   performs_look (Owns cursor walked batch) sender = absurd sender
 
-  pub performs_check : (k : ℕ) (stage : Stage) → IsSender stage → k < number_count layout → Performs (part c layout seen stage) (Check k) (item_place (number_count layout) k) (λ n. n) (λ n. n)
+  pub performs_check : (k : ℕ) (stage : Stage) → IsSender stage → k < number_count layout
+      → Performs (part c layout seen stage) (Check k) (item_place (number_count layout) k) (λ n. n) (λ n. n)
   performs_check k (Sends p) sender number = record {
     made = λ m sound fits. (((fits.keeps.0, refl), rw (← fits.layout_is) number), tt);
     writes = λ m sound fits. loads m.words _;
@@ -102,7 +116,8 @@ module _ (c : ℕ) (layout : Layout) (seen : List Event) where
   }
   performs_check k (Owns cursor walked batch) sender number = absurd sender
 
-  pub performs_link : (k w : ℕ) (stage : Stage) → k < number_count layout → Holds seen c k → HasSeen w stage → w ≢ closed_word → Performs (part c layout seen stage) (Link k) (link_place k) (λ n. w) (λ n. w)
+  pub performs_link : (k w : ℕ) (stage : Stage) → k < number_count layout → Holds seen c k → HasSeen w stage → w ≢ closed_word
+      → Performs (part c layout seen stage) (Link k) (link_place k) (λ n. w) (λ n. w)
   performs_link k w (Sends p) number holds is unclosed = record {
     made = λ m sound fits. (
       ((fits.keeps.0, refl), rw (← fits.layout_is) number),
@@ -112,26 +127,35 @@ module _ (c : ℕ) (layout : Layout) (seen : List Event) where
         (λ e. let s = ap (λ (p : Private). p.seen) fits.keeps.1 in let same : w ≡ closed_word = cc (s, e, is) in unclosed same),
       ),
     );
-    writes = λ m sound fits. ap (λ (v : ℕ). set m.words (link_place k) v) (ap (λ (p : Private). unwrap_or p.seen 0) fits.keeps.1 ∙ ap (λ (o : Option ℕ). unwrap_or o 0) is);
+    writes = λ m sound fits. ap (λ (v : ℕ). set m.words (link_place k) v) (ap (λ (p : Private). unwrap_or p.seen 0) fits.keeps.1 ∙
+        ap (λ (o : Option ℕ). unwrap_or o 0) is);
     finds = λ m sound fits. sym (ap (λ (p : Private). unwrap_or p.seen 0) fits.keeps.1 ∙ ap (λ (o : Option ℕ). unwrap_or o 0) is);
   }
   performs_link k w (Owns cursor walked batch) number holds is unclosed = absurd is
 
-  pub performs_push : (k w : ℕ) (stage : Stage) → k < number_count layout → HasLinked w k stage → Performs (part c layout seen stage) (Push k) 0 (λ n. either (eqb n w) (k + 1) n) (λ n. n)
+  pub performs_push : (k w : ℕ) (stage : Stage) → k < number_count layout → HasLinked w k stage
+      → Performs (part c layout seen stage) (Push k) 0 (λ n. either (eqb n w) (k + 1) n) (λ n. n)
   performs_push k w (Sends p) number is = record {
     made = λ m sound fits. (((fits.keeps.0, refl), rw (← fits.layout_is) number), ap (λ (p : Private). p.linked) fits.keeps.1 ∙ is.1);
     writes = λ m sound fits.
         let saw : seen_word m c ≡ w = ap (λ (p : Private). unwrap_or p.seen 0) fits.keeps.1 ∙ ap (λ (o : Option ℕ). unwrap_or o 0) is.0 in
-        subst (λ (v : ℕ). (after m (Sender c) (Push k)).words ≡ set m.words 0 (either (eqb (head m) v) (k + 1) (head m))) saw (exchanges _ _ m.words (seen_word m c) (k + 1) (head m) refl refl refl (head m == seen_word m c) refl);
+        subst (λ (v : ℕ). (after m (Sender c) (Push k)).words ≡ set m.words 0 (either (eqb (head m) v) (k + 1) (head m))) saw
+        (exchanges _ _ m.words (seen_word m c) (k + 1) (head m) refl refl refl (head m == seen_word m c) refl);
     finds = λ m sound fits. refl;
   }
   performs_push k w (Owns cursor walked batch) number is = absurd is
 
-  pub performs_back : (k : ℕ) (why : Why) (stage : Stage) → IsSender stage → k < number_count layout → Holds seen c k → (why ≡ Closed → HasSeen closed_word stage)
+  pub performs_back : (k : ℕ) (why : Why) (stage : Stage) → IsSender stage → k < number_count layout → Holds seen c k
+      → (why ≡ Closed → HasSeen closed_word stage)
       → Performs (part c layout seen stage) (Back k why) (item_place (number_count layout) k) (λ n. bit_and n 0) (λ n. n)
   performs_back k why (Sends p) sender number holds sees = record {
-    made = λ m sound fits. (((fits.keeps.0, refl), rw (← fits.layout_is) number), (held_same c k seen m.history fits.mine holds, λ e. ap (λ (x : Private). x.seen) fits.keeps.1 ∙ sees e));
-    writes = λ m sound fits. rw fits.layout_is (ap (set m.words (item_place (number_count m.layout) k)) (clears_bit (item_word m k) (item_word-bit m sound k (rw (← fits.layout_is) number)) (item_word m k == 0) refl));
+    made = λ m sound fits. (
+      ((fits.keeps.0, refl), rw (← fits.layout_is) number),
+      (held_same c k seen m.history fits.mine holds, λ e. ap (λ (x : Private). x.seen) fits.keeps.1 ∙ sees e),
+    );
+    writes = λ m sound fits. rw fits.layout_is
+        (ap (set m.words (item_place (number_count m.layout) k))
+        (clears_bit (item_word m k) (item_word-bit m sound k (rw (← fits.layout_is) number)) (item_word m k == 0) refl));
     finds = λ m sound fits. rw fits.layout_is refl;
   }
   performs_back k why (Owns cursor walked batch) sender number holds sees = absurd sender
@@ -139,7 +163,14 @@ module _ (c : ℕ) (layout : Layout) (seen : List Event) where
   pub performs_take : (stage : Stage) → ¬ IsClosed seen → IsRested stage → HasNone stage → Performs (part c layout seen stage) Take 0 (λ n. 0) (λ n. n)
   performs_take (Sends p) unclosed rested none = absurd rested
   performs_take (Owns cursor walked batch) unclosed rested none = record {
-    made = λ m sound fits. ((refl, tt), ((λ closed. unclosed (closed_same m.history seen (rw (← fits.keeps.0) (sym fits.mine)) closed)), fits.keeps.1 ∙ rested, fits.keeps.3 ∙ none));
+    made = λ m sound fits. (
+      (refl, tt),
+      (
+        (λ closed. unclosed (closed_same m.history seen (rw (← fits.keeps.0) (sym fits.mine)) closed)),
+        fits.keeps.1 ∙ rested,
+        fits.keeps.3 ∙ none,
+      ),
+    );
     writes = λ m sound fits. refl;
     finds = λ m sound fits. refl;
   }
@@ -147,7 +178,13 @@ module _ (c : ℕ) (layout : Layout) (seen : List Event) where
   pub performs_close : (stage : Stage) → ¬ IsClosed seen → IsRested stage → Performs (part c layout seen stage) Close 0 (λ n. closed_word) (λ n. n)
   performs_close (Sends p) unclosed rested = absurd rested
   performs_close (Owns cursor walked batch) unclosed rested = record {
-    made = λ m sound fits. ((refl, tt), ((λ closed. unclosed (closed_same m.history seen (rw (← fits.keeps.0) (sym fits.mine)) closed)), fits.keeps.1 ∙ rested));
+    made = λ m sound fits. (
+      (refl, tt),
+      (
+        (λ closed. unclosed (closed_same m.history seen (rw (← fits.keeps.0) (sym fits.mine)) closed)),
+        fits.keeps.1 ∙ rested,
+      ),
+    );
     writes = λ m sound fits. refl;
     finds = λ m sound fits. refl;
   }
@@ -156,7 +193,12 @@ module _ (c : ℕ) (layout : Layout) (seen : List Event) where
   walk_words m None = refl
   walk_words m (Some k) = go (link m k == 0)
     where
-      go : (b : Bool) → (if b then record m { cursor = None; walked = []; batch = m.batch ++ k ∷ m.walked } else record m { cursor = number_at (link m k); walked = k ∷ m.walked }).words ≡ m.words
+      go : (b : Bool)
+          → (if b then record m { cursor = None; walked = []; batch = m.batch ++ k ∷ m.walked } else record m {
+            cursor = number_at
+                (link m k);
+            walked = k ∷ m.walked;
+          }).words ≡ m.words
       go true = refl
       go false = refl
 
@@ -168,30 +210,48 @@ module _ (c : ℕ) (layout : Layout) (seen : List Event) where
     finds = λ m sound fits. ap (λ (o : Option ℕ). link m (unwrap_or o 0)) (sym (fits.keeps.1 ∙ is));
   }
 
-  pub performs_begin : (k : ℕ) (stage : Stage) → k < number_count layout → IsToBegin k stage → ¬ IsRunning seen → Performs (part c layout seen stage) Begin (item_place (number_count layout) k) (λ n. bit_and n 0) (λ n. n)
+  pub performs_begin : (k : ℕ) (stage : Stage) → k < number_count layout → IsToBegin k stage → ¬ IsRunning seen
+      → Performs (part c layout seen stage) Begin (item_place (number_count layout) k) (λ n. bit_and n 0) (λ n. n)
   performs_begin k (Sends p) number is rests = absurd is
   performs_begin k (Owns cursor walked []) number is rests = absurd is
   performs_begin k (Owns cursor walked (j ∷ js)) number is rests = record {
-    made = λ m sound fits. ((refl, tt), (fits.keeps.1 ∙ is.0, (λ e. absurd (cc (e, fits.keeps.3))), λ runs. rests (running_same m.history seen (rw (← fits.keeps.0) (sym fits.mine)) runs)));
+    made = λ m sound fits. (
+      (refl, tt),
+      (fits.keeps.1 ∙ is.0, (λ e. absurd (cc (e, fits.keeps.3))), λ runs. rests (running_same m.history seen (rw (← fits.keeps.0) (sym fits.mine)) runs)),
+    );
     writes = λ m sound fits. let front : m.batch ≡ k ∷ js = fits.keeps.3 ∙ ap (λ (i : ℕ). i ∷ js) is.1 in
-        subst (λ (b : List ℕ). (after_begin m b).words ≡ set m.words (item_place (number_count layout) k) (bit_and (get_or m.words (item_place (number_count layout) k) 0) 0)) (sym front)
-        (rw fits.layout_is (ap (set m.words (item_place (number_count m.layout) k)) (clears_bit (item_word m k) (item_word-bit m sound k (rw (← fits.layout_is) number)) (item_word m k == 0) refl)));
+        subst (λ (b : List ℕ). (after_begin m b).words ≡ set m.words (item_place (number_count layout) k)
+        (bit_and (get_or m.words (item_place (number_count layout) k) 0) 0)) (sym front)
+        (rw fits.layout_is
+        (ap (set m.words (item_place (number_count m.layout) k))
+        (clears_bit (item_word m k) (item_word-bit m sound k (rw (← fits.layout_is) number)) (item_word m k == 0) refl)));
     finds = λ m sound fits. let front : m.batch ≡ k ∷ js = fits.keeps.3 ∙ ap (λ (i : ℕ). i ∷ js) is.1 in rw (fits.layout_is, front) refl;
   }
 
-  pub performs_end : (stage : Stage) → IsOwner stage → IsRunning seen → Performs (part c layout seen stage) End (done_place (number_count layout)) (λ n. (n + 1) % 2 ^ 64) (λ n. n)
+  pub performs_end : (stage : Stage) → IsOwner stage → IsRunning seen
+      → Performs (part c layout seen stage) End (done_place (number_count layout)) (λ n. (n + 1) % 2 ^ 64) (λ n. n)
   performs_end (Sends p) owner runs = absurd owner
   performs_end (Owns cursor walked batch) owner runs = record {
     made = λ m sound fits. ((refl, tt), running_same seen m.history (rw (← fits.keeps.0) fits.mine) runs);
-    writes = λ m sound fits. let it = some_runs m.history (running_same seen m.history (rw (← fits.keeps.0) fits.mine) runs) in
-        subst (λ (o : Option ℕ). (after_end m o).words ≡ set m.words (done_place (number_count layout)) ((get_or m.words (done_place (number_count layout)) 0 + 1) % 2 ^ 64)) (sym it.1) (rw fits.layout_is refl);
+    writes = λ m sound fits. let it = runs_some m.history (running_same seen m.history (rw (← fits.keeps.0) fits.mine) runs) in
+        subst (λ (o : Option ℕ). (after_end m o).words ≡ set m.words (done_place (number_count layout))
+        ((get_or m.words (done_place (number_count layout)) 0 + 1) % 2 ^ 64)) (sym it.1) (rw fits.layout_is refl);
     finds = λ m sound fits. rw fits.layout_is refl;
   }
 
-  pub performs_chain : (k : ℕ) (stage : Stage) → k < layout.items → IsClosed seen → IsRested stage → IsRunning seen → Performs (part c layout seen stage) (Chain k) (item_place (number_count layout) k) (λ n. bit_or n 1) (λ n. n)
+  pub performs_chain : (k : ℕ) (stage : Stage) → k < layout.items → IsClosed seen → IsRested stage → IsRunning seen
+      → Performs (part c layout seen stage) (Chain k) (item_place (number_count layout) k) (λ n. bit_or n 1) (λ n. n)
   performs_chain k (Sends p) item closed rested runs = absurd rested
   performs_chain k (Owns cursor walked batch) item closed rested runs = record {
-    made = λ m sound fits. ((refl, rw (← fits.layout_is) item), (closed_same seen m.history (rw (← fits.keeps.0) fits.mine) closed, fits.keeps.1 ∙ rested, running_same seen m.history (rw (← fits.keeps.0) fits.mine) runs));
-    writes = λ m sound fits. rw fits.layout_is (sets_bit _ _ m.words _ (item_word m k) refl refl refl (item_word-bit m sound k (rw (← fits.layout_is) (omega arith))) (item_word m k == 0) refl);
+    made = λ m sound fits. (
+      (refl, rw (← fits.layout_is) item),
+      (
+        closed_same seen m.history (rw (← fits.keeps.0) fits.mine) closed,
+        fits.keeps.1 ∙ rested,
+        running_same seen m.history (rw (← fits.keeps.0) fits.mine) runs,
+      ),
+    );
+    writes = λ m sound fits. rw fits.layout_is
+        (sets_bit _ _ m.words _ (item_word m k) refl refl refl (item_word-bit m sound k (rw (← fits.layout_is) (omega arith))) (item_word m k == 0) refl);
     finds = λ m sound fits. rw fits.layout_is refl;
   }

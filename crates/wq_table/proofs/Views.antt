@@ -40,7 +40,8 @@ module _ (m : Machine) where
   apart_join c (p ∷ ps) w a b = (a.0, apart_join c ps w a.1 b)
 
   -- one view after the other, where their seats are others
-  fit_both : (who who' : ℕ → ℕ) (id other : ℕ) → other ≢ id → ((c : ℕ) → who c ≡ other → who' c ≡ id) → (w v : View) → ArePartsAt m who other w → ArePartsAt m who id v → ArePartsAt m who' id v → ArePartsAt m who' id (w ++ v)
+  fit_both : (who who' : ℕ → ℕ) (id other : ℕ) → other ≢ id → ((c : ℕ) → who c ≡ other → who' c ≡ id) → (w v : View) → ArePartsAt m who other w
+      → ArePartsAt m who id v → ArePartsAt m who' id v → ArePartsAt m who' id (w ++ v)
   fit_both who who' id other apart new [] v all old rest = rest
   fit_both who who' id other apart new (p ∷ ps) v all old rest = (
     all.0,
@@ -57,11 +58,13 @@ offs l id [] s r at = let m = r.machine in record {
   layout_is = r.layout_is;
   words_are = r.words_are;
   seats = λ j w there. ⊎_elim
-      (λ (t : get_elem? (set s.views id []) j ≡ some w). ⊎_elim (λ (u : (j ≡ id) × ([] ≡ w)). subst (λ (z : View). ArePartsAt m r.who j z) u.1 tt) (λ (u : (j ≢ id) × (get_elem? s.views j ≡ some w)). r.seats j w u.1) (at_set s.views id j [] w t))
+      (λ (t : get_elem? (set s.views id []) j ≡ some w). ⊎_elim (λ (u : (j ≡ id) × ([] ≡ w)). subst (λ (z : View). ArePartsAt m r.who j z) u.1 tt)
+      (λ (u : (j ≢ id) × (get_elem? s.views j ≡ some w)). r.seats j w u.1) (at_set s.views id j [] w t))
       (λ (t : (j ≡ length (set s.views id [])) × ([] ≡ w)). subst (λ (z : View). ArePartsAt m r.who j z) t.1 tt) (at_end (set s.views id []) [] w j there);
 }
 offs l id (p ∷ ps) s r at =
-    let m = r.machine in let n : ℕ = length s.views in let c : ℕ = p.seat in let who' : ℕ → ℕ = λ d. cond (eqb d c) n (r.who d) in let all = r.seats id (p ∷ ps) at in
+    let m = r.machine in let n : ℕ = length s.views in let c : ℕ = p.seat in let who' : ℕ → ℕ = λ d. cond (eqb d c) n (r.who d) in
+    let all = r.seats id (p ∷ ps) at in
     let same : (d : ℕ) → d ≢ c → who' d ≡ r.who d = λ d ne. ap (λ b. cond b n (r.who d)) (ne_eqb d c ne) in record {
       machine = m;
       who = who';
@@ -69,10 +72,14 @@ offs l id (p ∷ ps) s r at =
       layout_is = r.layout_is;
       words_are = r.words_are;
       seats = λ j w there. ⊎_elim (λ (t : get_elem? (set s.views id ps) j ≡ some w). ⊎_elim
-          (λ (u : (j ≡ id) × (ps ≡ w)). subst (λ (z : ℕ × View). ArePartsAt m who' z.0 z.1) (λ i. (sym u.0 i, u.1 i)) (refit_apart m r.who who' id c ps all.2 same all.3))
+          (λ (u : (j ≡ id) × (ps ≡ w)). subst (λ (z : ℕ × View). ArePartsAt m who' z.0 z.1) (λ i. (
+            sym u.0 i,
+            u.1 i,
+          )) (refit_apart m r.who who' id c ps all.2 same all.3))
           (λ (u : (j ≢ id) × (get_elem? s.views j ≡ some w)). let away = u.0 in let old = r.seats j w u.1 in
           refit_apart m r.who who' j c w (apart_from m r.who j c (λ e. away (sym e ∙ all.1)) w old) same old) (at_set s.views id j ps w t))
-          (λ (t : (j ≡ length (set s.views id ps)) × (p ∷ [] ≡ w)). subst (λ (z : ℕ × View). ArePartsAt m who' z.0 z.1) (λ i. (sym (t.0 ∙ length-set s.views id ps) i, t.1 i))
+          (λ (t : (j ≡ length (set s.views id ps)) × (p ∷ [] ≡ w)). subst (λ (z : ℕ × View). ArePartsAt m who' z.0 z.1)
+          (λ i. (sym (t.0 ∙ length-set s.views id ps) i, t.1 i))
           (all.0, ap (λ b. cond b n (r.who c)) (eq-eqb c c refl), tt, tt)) (at_end (set s.views id ps) (p ∷ []) w j there);
     }
 
@@ -80,8 +87,10 @@ pub boths : (l : Layout) (id : ℕ) (v : View) (other : ℕ) (w : View) → Join
 boths l id v other w s r at apart there =
     let m = r.machine in let who' : ℕ → ℕ = λ d. cond (eqb (r.who d) other) id (r.who d) in
     let at_other : get_elem? s.views other ≡ some w = sym (set_else s.views id other (w ++ v) apart) ∙ there in
-    let stays : (j : ℕ) → j ≢ other → (c : ℕ) → r.who c ≡ j → who' c ≡ j = λ j ne c is. ap (λ b. cond b id (r.who c)) (ne_eqb (r.who c) other (λ e. ne (sym is ∙ e))) ∙ is in
-    let goes : (c : ℕ) → r.who c ≡ other → who' c ≡ id = λ c is. ap (λ b. cond b id (r.who c)) (eq-eqb (r.who c) other is) in let mine = r.seats id v at in record {
+    let stays : (j : ℕ) → j ≢ other → (c : ℕ) → r.who c ≡ j
+    → who' c ≡ j = λ j ne c is. ap (λ b. cond b id (r.who c)) (ne_eqb (r.who c) other (λ e. ne (sym is ∙ e))) ∙ is in
+    let goes : (c : ℕ) → r.who c ≡ other → who' c ≡ id = λ c is. ap (λ b. cond b id (r.who c)) (eq-eqb (r.who c) other is) in
+    let mine = r.seats id v at in record {
       machine = m;
       who = who';
       sound = r.sound;
@@ -103,8 +112,12 @@ module _ (m : Machine) where
   -- all parts of a view see the history so far
   fit_all : (who : ℕ → ℕ) (i : ℕ) (v : View) → ArePartsAt m who i v → ArePartsAt m who i (all_see m.history v)
   fit_all who i [] all = tt
-  fit_all who i (p ∷ ps) all = let fits : IsPartOf m p = all.0 in
-      (record { layout_is = fits.layout_is; begins = prefix_self m.history; mine = refl; keeps = fits.keeps }, all.1, apart_all p.seat ps all.2, fit_all who i ps all.3)
+  fit_all who i (p ∷ ps) all = let fits : IsPartOf m p = all.0 in (
+    record { layout_is = fits.layout_is; begins = prefix_self m.history; mine = refl; keeps = fits.keeps },
+    all.1,
+    apart_all p.seat ps all.2,
+    fit_all who i ps all.3,
+  )
 
   all_of : (who : ℕ → ℕ) (i : ℕ) (v : View) → ArePartsAt m who i v → AllOf m v
   all_of who i [] all = tt
@@ -145,7 +158,12 @@ opening_owner l = record { layout_is = refl; begins = prefix_self []; mine = ref
 
 row_fits : (l : Layout) (a m : ℕ) → a + m ≤ l.senders → ArePartsAt (opening_machine l) (λ _. 0) 0 (row l a m)
 row_fits l a zero small = (opening_owner l, refl, tt, tt)
-row_fits l a (suc m) small = (opening_sender l a (omega arith), refl, row_apart l a (a + 1) m (omega arith) (omega (arith, l.in_limits)), row_fits l (a + 1) m (omega arith))
+row_fits l a (suc m) small = (
+  opening_sender l a (omega arith),
+  refl,
+  row_apart l a (a + 1) m (omega arith) (omega (arith, l.in_limits)),
+  row_fits l (a + 1) m (omega arith),
+)
 
 seats_open : (l : Layout) (i : ℕ) (v : View) → get_elem? (opening_view l ∷ []) i ≡ some v → ArePartsAt (opening_machine l) (λ _. 0) i v
 seats_open l zero v at = subst (ArePartsAt (opening_machine l) (λ _. 0) 0) (some-injective (opening_view l) v at) (row_fits l 0 l.senders (omega arith))

@@ -6,7 +6,7 @@ ghost use Rattle.wq_table.specs.Plays.{Performs};
 ghost use Rattle.wq_words.specs.Numbers.{number_count};
 ghost use Rattle.wq_words.specs.declared.event.Why.TheVariants.{Closed, Contended, Cancelled};
 ghost use Rattle.wq_words.specs.History.{Holds, IsClosed, IsRunning};
-ghost use Rattle.wq_core.specs.Words.{item_place, word_count, closed_word};
+ghost use Rattle.wq_core.specs.Words.{word_count, closed_word};
 ghost use Rattle.wq_core.specs.declared.step.Step.TheVariants.{Hold, Look, Link, Push, Back, Check, Take, Close, Walk, Begin, End, Chain};
 ghost use Rattle.wq_table.specs.Chair.{IsSender, HasSeen, HasLinked, HasNone, IsOwner, IsToWalk, IsToBegin, IsRested, Steps, Meet, MeetAll};
 
@@ -19,7 +19,8 @@ use std::collections::LinkedList;
 use std::marker::Model;
 use std::mem::replace;
 use std::sync::Arc;
-use wq_words::Layout;
+use wq_core::place::{HEAD, done_place, item_place, link_place};
+use wq_words::{Head, Layout};
 
 /// A seat of a queue: a sender's or the owner's. Each of its steps is one operation on one word of the table.
 #[derive(Drop)]
@@ -39,14 +40,6 @@ impl Model for Chair {
     ghost view = { standing };
 
     ghost invariant = { Sits };
-}
-
-// Where the item word of a number stands.
-fn item_place(layout: &Layout, number: u32) -> usize
-    requires { number < number_count layout.now }
-    ensures { result ≡ item_place (number_count layout.now) number }
-{
-    1 + (layout.items as usize + layout.barriers as usize + 1) + number as usize
 }
 
 // The seat that a badge keeps. It leaves a blank one.
@@ -157,7 +150,7 @@ impl Chair {
         requires number { number < number_count self.old.part.layout }
         ensures { Steps (Hold number) result self.old self.new }
     {
-        let place = item_place(&self.layout, number);
+        let place = item_place(self.layout, number);
         self.or::<Marks>(place, 1)
     }
 
@@ -166,7 +159,7 @@ impl Chair {
         requires sender { IsSender self.old.part.stage }
         ensures { Steps Look result self.old self.new }
     {
-        self.load::<Looks>(0)
+        self.load::<Looks>(HEAD)
     }
 
     /// A sender stores the head that it saw as the link of a number that it holds.
@@ -177,7 +170,8 @@ impl Chair {
         requires open { seen ≢ closed_word }
         ensures { Steps (Link number) seen self.old self.new }
     {
-        self.store::<Links>(1 + number as usize, seen);
+        let place = link_place(number);
+        self.store::<Links>(place, seen);
     }
 
     /// A sender exchanges the head that it saw for the number that it linked to it, and learns the head as it was.
@@ -186,7 +180,8 @@ impl Chair {
         requires linked { HasLinked seen number self.old.part.stage }
         ensures { Steps (Push number) result self.old self.new }
     {
-        self.exchange::<Pushes>(0, seen, number as u64 + 1)
+        let word = Head::Item(number).to_word();
+        self.exchange::<Pushes>(HEAD, seen, word)
     }
 
     /// A sender that saw the queue closed clears the PENDING bit of a number that it holds.
@@ -196,7 +191,7 @@ impl Chair {
         requires closed { HasSeen closed_word self.old.part.stage }
         ensures { (word : ℕ) × Steps (Back number Closed) word self.old self.new }
     {
-        let place = item_place(&self.layout, number);
+        let place = item_place(self.layout, number);
         self.and::<FindsClosed>(place, 0);
     }
 
@@ -207,7 +202,7 @@ impl Chair {
         requires held { Holds self.old.part.seen self.old.part.seat number }
         ensures { (word : ℕ) × Steps (Back number Contended) word self.old self.new }
     {
-        let place = item_place(&self.layout, number);
+        let place = item_place(self.layout, number);
         self.and::<GivesUp>(place, 0);
     }
 
@@ -218,7 +213,7 @@ impl Chair {
         requires held { Holds self.old.part.seen self.old.part.seat number }
         ensures { (word : ℕ) × Steps (Back number Cancelled) word self.old self.new }
     {
-        let place = item_place(&self.layout, number);
+        let place = item_place(self.layout, number);
         self.and::<Cancels>(place, 0);
     }
 
@@ -228,7 +223,7 @@ impl Chair {
         requires number { number < number_count self.old.part.layout }
         ensures { Steps (Check number) result self.old self.new }
     {
-        let place = item_place(&self.layout, number);
+        let place = item_place(self.layout, number);
         self.load::<Checks>(place)
     }
 
@@ -239,7 +234,8 @@ impl Chair {
         requires empty { HasNone self.old.part.stage }
         ensures { Steps Take result self.old self.new }
     {
-        self.swap::<Takes>(0, 0)
+        let word = Head::Empty.to_word();
+        self.swap::<Takes>(HEAD, word)
     }
 
     /// The owner takes the whole list and leaves the closed mark.
@@ -248,7 +244,8 @@ impl Chair {
         requires rested { IsRested self.old.part.stage }
         ensures { Steps Close result self.old self.new }
     {
-        self.swap::<Closes>(0, u64::MAX)
+        let word = Head::Closed.to_word();
+        self.swap::<Closes>(HEAD, word)
     }
 
     /// The owner loads the link of the number that it walks next.
@@ -257,7 +254,8 @@ impl Chair {
         requires next { IsToWalk number self.old.part.stage }
         ensures { Steps Walk result self.old self.new }
     {
-        self.load::<Walks>(1 + number as usize)
+        let place = link_place(number);
+        self.load::<Walks>(place)
     }
 
     /// The owner clears the PENDING bit of the oldest number of its batch, which then runs.
@@ -267,7 +265,7 @@ impl Chair {
         requires rests { ¬ IsRunning self.old.part.seen }
         ensures { (word : ℕ) × Steps Begin word self.old self.new }
     {
-        let place = item_place(&self.layout, number);
+        let place = item_place(self.layout, number);
         self.and::<Begins>(place, 0);
     }
 
@@ -277,7 +275,7 @@ impl Chair {
         requires runs { IsRunning self.old.part.seen }
         ensures { (word : ℕ) × Steps End word self.old self.new }
     {
-        let place = 1 + 2 * (self.layout.items as usize + self.layout.barriers as usize + 1);
+        let place = done_place(self.layout);
         self.add::<Ends>(place, 1);
     }
 
@@ -289,7 +287,7 @@ impl Chair {
         requires runs { IsRunning self.old.part.seen }
         ensures { Steps (Chain number) result self.old self.new }
     {
-        let place = item_place(&self.layout, number);
+        let place = item_place(self.layout, number);
         self.or::<Chains>(place, 1)
     }
 
@@ -298,11 +296,11 @@ impl Chair {
         requires { self.old.queue ≡ other.old.queue }
         ensures { Meet self.old other.old self.new other.new }
     {
+        let theirs = rise(&mut other.badge);
         let words = &self.words.shared;
         let mut seat = rise(&mut self.badge);
-        let theirs = rise(&mut other.badge);
         words.join_seat::<Both>(&mut seat, theirs);
-        words.load::<Meets>(&mut seat, 0);
+        words.load::<Meets>(&mut seat, HEAD);
         let theirs = words.split_seat::<Off>(&mut seat);
         other.badge = theirs.into_badge();
         self.badge = seat.into_badge();
@@ -314,13 +312,13 @@ impl Chair {
         requires third { self.old.queue ≡ third.old.queue }
         ensures { MeetAll self.old other.old third.old self.new other.new third.new }
     {
-        let words = &self.words.shared;
-        let mut seat = rise(&mut self.badge);
         let others = rise(&mut other.badge);
         let thirds = rise(&mut third.badge);
+        let words = &self.words.shared;
+        let mut seat = rise(&mut self.badge);
         words.join_seat::<Both>(&mut seat, others);
         words.join_seat::<Both>(&mut seat, thirds);
-        words.load::<Meets>(&mut seat, 0);
+        words.load::<Meets>(&mut seat, HEAD);
         let thirds = words.split_seat::<Off>(&mut seat);
         let others = words.split_seat::<Off>(&mut seat);
         third.badge = thirds.into_badge();

@@ -1,7 +1,5 @@
 //! How the seats of a queue are made.
 ghost use Rattle.std.specs.Prelude.{◌≡◌, IfOk};
-ghost use Rattle.wq_core.specs.Words.{word_count};
-ghost use Rattle.wq_words.specs.Numbers.{number_count};
 ghost use Rattle.wq_table.specs.Chair.{owner_chair, sender_chairs};
 
 use super::chair::Chair;
@@ -9,21 +7,15 @@ use super::table::{Off, Seated};
 use atomic_table::Table;
 use std::alloc::{AllocError, Global};
 use std::sync::Arc;
+use wq_core::place::word_count;
 use wq_words::Layout;
-
-// How many words the table has.
-fn word_count(layout: &Layout) -> usize
-    ensures { result ≡ word_count (number_count layout.now) }
-{
-    2 * (layout.items as usize + layout.barriers as usize + 1) + 2
-}
 
 /// The seats of a new queue: the owner's, and each sender's at its number. All growths are made here.
 pub fn chairs(alloc: Global, layout: Layout) -> Result<(Chair, Vec<Chair>), AllocError>
     ensures { IfOk result (λ r. (r.0 ≡ owner_chair r.0.queue layout) × (r.1.items ≡ sender_chairs r.0.queue layout layout.senders)) }
 {
     let count = layout.senders;
-    let row = Vec::from_elem(alloc, 0u64, word_count(&layout))?;
+    let row = Vec::from_elem(alloc, 0u64, word_count(layout))?;
     let (table, mut seat) = Table::of_words(alloc, row.as_slice(), &layout)?;
     let words = Arc::new(alloc, table)?;
     let mut senders = Vec::new(alloc);

@@ -9,23 +9,29 @@ use Rattle.wq_table.proofs.Told.{one_view, next_chair}
 use Rattle.wq_table.proofs.making.chairs.Goals as goal
 
 pub of_words-requires : goal.of_words-requires
-of_words-requires c = opens c.args.layout c.as_slice.result.now (c.as_slice.ensures.value ∙ (c.in_ok-row.ensures.items_if_clones_equal (λ y is. search rules) ∙ ap (λ (n : ℕ). replicate n 0) c.word_count.ensures))
+of_words-requires c = opens c.args.layout c.as_slice.result.now (c.as_slice.ensures.value ∙
+    (c.in_ok-row.ensures.items_if_clones_equal (λ y is. search rules) ∙ ap (λ (n : ℕ). replicate n 0) c.word_count.ensures))
 
 pub split_seat-theirs-requires : goal.split_seat-theirs-requires
 split_seat-theirs-requires c =
-    let same : c.deref.result.now.shared.table_id ≡ (arc_value c.in_ok-words.words).shared.table_id = ap (λ t. t.shared.table_id) c.deref.ensures ∙ ap (λ t. t.shared.table_id) c.in_ok-words-2.ensures in
+    let same : c.deref.result.now.shared.table_id ≡ (arc_value c.in_ok-words.words).shared.table_id = ap (λ t. t.shared.table_id) c.deref.ensures ∙
+    ap (λ t. t.shared.table_id) c.in_ok-words-2.ensures in
     let wide : c.deref.result.now.shared.table_id.words ≡ word_count (number_count c.args.layout) =
-    ap (λ z. z.words) same ∙ (ap (λ t. t.shared.table_id.words) c.in_ok-words.ensures.ok ∙ (c.in_ok-table.ensures.0 ∙ (c.as_slice.ensures.len ∙ (c.in_ok-row.ensures.len ∙ c.word_count.ensures)))) in
+    ap (λ z. z.words) same ∙
+    (ap (λ t. t.shared.table_id.words) c.in_ok-words.ensures.ok ∙
+    (c.in_ok-table.ensures.0 ∙ (c.as_slice.ensures.len ∙ (c.in_ok-row.ensures.len ∙ c.word_count.ensures)))) in
     (c.loop-number.invariant.0 ∙ sym same, omega (arith, wide), offs _ _ _)
 
 pub invariant_of-push : goal.invariant_of-push
 invariant_of-push c =
     let l = c.args.layout in let a = c.loop-number.number in let inv = c.loop-number.invariant in
-    let cut : c.split_seat-theirs.result.me.0 ≡ sender_part l a ∷ [] = cut_first c.loop-number.seat.me.0 c.split_seat-theirs.result.me.0 l a l.senders c.loop-number-test.true inv.2 (ap (λ m. m.0) c.split_seat-theirs.ensures.4) in
+    let cut : c.split_seat-theirs.result.me.0 ≡ sender_part l a ∷ [] = cut_first c.loop-number.seat.me.0 c.split_seat-theirs.result.me.0 l a l.senders
+    c.loop-number-test.true inv.2 (ap (λ m. m.0) c.split_seat-theirs.ensures.4) in
     let one = one_view l c.into_badge.result.views (sender_part l a) (c.into_badge.ensures.2 ∙ ap (λ (v : View). v ∷ []) cut) in
     let clone = c.in_ok-words-2.ensures in let made = c.in_ok-words.ensures.ok in let table = c.in_ok-table.ensures in record {
       seated = c.into_badge.ensures.0 ∙ (c.split_seat-theirs.ensures.3 ∙ (inv.0 ∙ ap (λ t. t.shared.table_id) (sym clone)));
-      wide = ap (λ t. t.shared.table_id.words) clone ∙ (ap (λ t. t.shared.table_id.words) made ∙ (table.0 ∙ (c.as_slice.ensures.len ∙ (c.in_ok-row.ensures.len ∙ c.word_count.ensures))));
+      wide = ap (λ t. t.shared.table_id.words) clone ∙
+          (ap (λ t. t.shared.table_id.words) made ∙ (table.0 ∙ (c.as_slice.ensures.len ∙ (c.in_ok-row.ensures.len ∙ c.word_count.ensures))));
       keyed = ap (λ t. t.shared.key) clone ∙ (ap (λ t. t.shared.key) made ∙ table.5);
       sized = ap (λ p. p.layout) one.0;
       alone = one.1;
@@ -34,10 +40,15 @@ invariant_of-push c =
 pub loop-number-preserved : goal.loop-number-preserved
 loop-number-preserved c =
     let l = c.args.layout in let a = c.loop-number.number in let inv = c.loop-number.invariant in
-    let cut : c.split_seat-theirs.result.me.0 ≡ sender_part l a ∷ [] = cut_first c.loop-number.seat.me.0 c.split_seat-theirs.result.me.0 l a l.senders c.loop-number-test.true inv.2 (ap (λ m. m.0) c.split_seat-theirs.ensures.4) in (
+    let cut : c.split_seat-theirs.result.me.0 ≡ sender_part l a ∷ [] = cut_first c.loop-number.seat.me.0 c.split_seat-theirs.result.me.0 l a l.senders
+    c.loop-number-test.true inv.2 (ap (λ m. m.0) c.split_seat-theirs.ensures.4) in (
       c.split_seat-theirs.ensures.0 ∙ inv.0,
       ap (λ m. m.1) c.split_seat-theirs.ensures.2 ∙ inv.1,
-      cut_rest c.loop-number.seat.me.0 c.split_seat-theirs.new.seat.me.0 l a l.senders c.loop-number-test.true inv.2 (ap (λ m. m.0) c.split_seat-theirs.ensures.2),
-      next_chair c.split_seat-theirs.new.seat.table_id c.into_badge.result.table_id l a c.loop-number.senders.items c.push.new.self.items c.into_badge.result.views
-          (inv.3 ∙ ap (λ q. sender_chairs q l a) (sym c.split_seat-theirs.ensures.0)) (c.into_badge.ensures.0 ∙ (c.split_seat-theirs.ensures.3 ∙ sym c.split_seat-theirs.ensures.0)) (c.into_badge.ensures.2 ∙ ap (λ (v : View). v ∷ []) cut) c.in_ok-push.ensures.items,
+      cut_rest c.loop-number.seat.me.0 c.split_seat-theirs.new.seat.me.0 l a l.senders c.loop-number-test.true inv.2
+          (ap (λ m. m.0) c.split_seat-theirs.ensures.2),
+      next_chair c.split_seat-theirs.new.seat.table_id c.into_badge.result.table_id l a c.loop-number.senders.items c.push.new.self.items
+          c.into_badge.result.views
+          (inv.3 ∙ ap (λ q. sender_chairs q l a) (sym c.split_seat-theirs.ensures.0)) (c.into_badge.ensures.0 ∙
+          (c.split_seat-theirs.ensures.3 ∙ sym c.split_seat-theirs.ensures.0)) (c.into_badge.ensures.2 ∙
+          ap (λ (v : View). v ∷ []) cut) c.in_ok-push.ensures.items,
     )

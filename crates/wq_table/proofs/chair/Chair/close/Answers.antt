@@ -1,5 +1,10 @@
+use Rattle.std.proofs.Common.{ℕ, sym, subst}
+use Rattle.wq_core.specs.declared.step.Step.TheVariants.{Close}
+use Rattle.wq_table.specs.Plays.{Performs}
 use Rattle.wq_table.proofs.Steps.{performs_close}
 use Rattle.wq_table.proofs.chair.Chair.close.Goals as goal
 
 pub swap-requires-clause-performs : goal.swap-requires-clause-performs
-swap-requires-clause-performs c = let p = c.args.self.now.part in performs_close p.seat p.layout p.seen p.stage c.requires.open c.requires.rested
+swap-requires-clause-performs c = let p = c.args.self.now.part in
+    subst (λ (w : ℕ). Performs p Close 0 (λ _. w) (λ n. n)) (sym c.to_word-word.ensures)
+    (performs_close p.seat p.layout p.seen p.stage c.requires.open c.requires.rested)

@@ -1,15 +1,14 @@
-use Rattle.std.proofs.Common.{ℕ, sym, subst}
+use Rattle.std.proofs.Common.{ℕ, subst}
 use Rattle.wq_core.specs.declared.step.Step.TheVariants.{Link}
-use Rattle.wq_core.specs.Words.{link_place}
 use Rattle.wq_table.specs.Chair.{Steps}
-use Rattle.wq_table.specs.Plays.{Performs}
-use Rattle.wq_table.proofs.Steps.{number_linked, performs_link}
+use Rattle.wq_table.proofs.Steps.{number_linked, linked, performs_link}
 use Rattle.wq_table.proofs.chair.Chair.link.Goals as goal
 
 pub store-requires-clause-performs : goal.store-requires-clause-performs
 store-requires-clause-performs c = let p = c.args.self.now.part in let k = c.args.number in
-    subst (λ (n : ℕ). Performs p (Link n) (link_place k) (λ _. c.args.seen) (λ _. c.args.seen)) (sym (number_linked k))
+    linked p (λ (n : ℕ). Link n) _ k _ _ c.link_place-place.ensures
     (performs_link p.seat p.layout p.seen k c.args.seen p.stage c.requires.number c.requires.held c.requires.seen c.requires.open)
 
 pub returns : goal.returns
-returns c = subst (λ (n : ℕ). Steps (Link n) c.args.seen c.args.self.now c.store.new.self) (number_linked c.args.number) c.store.ensures
+returns c = subst (λ (n : ℕ). Steps (Link n) c.args.seen c.args.self.now c.store.new.self)
+    (number_linked _ c.args.number c.link_place-place.ensures) c.store.ensures
