@@ -1,7 +1,11 @@
 pub mod Words
 pub mod Chains
 pub mod Privates
-pub mod Steps
+pub mod Heads
+pub mod Writes
+pub mod KeptSound
+pub mod SenderSteps
+pub mod OwnerSteps
 pub mod Turning
 pub mod Fitting
 pub mod Schedules

@@ -1,24 +1,18 @@
 -- What follows the keepers of the numbers: the item words, and what the senders keep in private.
-use Rattle.std.proofs.Common.{◌≡◌, ◌≢◌, ℕ, ◌+◌, ◌<◌, ◌==◌, Bool, true, false, List, [], ◌∷◌, ◌++◌, length, get_or, set, None, Some, Option, unwrap_or, if◌then◌else◌, refl, sym, ap, ◌∙◌, arith, inl, inr}
+use Rattle.std.proofs.Common.{◌≡◌, ◌≢◌, ℕ, ◌<◌, ◌==◌, Bool, true, false, List, [], ◌∷◌, ◌++◌, length, get_or, set, None, Some, Option, if◌then◌else◌, refl, sym, ap, ◌∙◌, arith, inl, inr}
 use Rattle.std.proofs.lemmas.List.{get_or-set_other, get_or-set_same}
 use Rattle.std.proofs.lemmas.List.Sums.{fold_push}
 use Rattle.std.proofs.lemmas.Bool.{ne_eqb, eq-eqb, eqb-false, cases_eq}
 use Rattle.wq_words.specs.declared.event.Why.{Why}
 use Rattle.wq_words.specs.declared.event.Event.{Event}
 use Rattle.wq_words.specs.declared.event.Event.TheVariants.{Hold, Push, Back, Begin, Chain}
-use Rattle.wq_words.specs.History.{is_close, IsClosed}
+use Rattle.wq_words.specs.History.{IsClosed}
 use Rattle.wq_words.specs.Keeper.{Keeper, Home, Sender, Listed, Owner, keeper_after, keeper}
-use Rattle.wq_words.proofs.Growing.{count_by_push}
+use Rattle.wq_words.proofs.Closed.{closed_stays}
 use Rattle.wq_core.specs.declared.step.Private.{Private}
 use Rattle.wq_core.specs.Words.{link_place, closed_word}
-use Rattle.wq_core.specs.Machine.{nothing_seen, unlinked}
+use Rattle.wq_core.specs.Machine.{nothing_seen, other_than, unlinked}
 use Rattle.wq_core.specs.Stored.{FollowKeepers}
-
-pub closed_stays : (h : List Event) (e : Event) → IsClosed h → IsClosed (h ++ e ∷ [])
-closed_stays h e closed = omega (arith, count_by_push is_close h e)
-
-pub closed_before : (h : List Event) (e : Event) → is_close e ≡ false → IsClosed (h ++ e ∷ []) → IsClosed h
-closed_before h e other closed = omega (arith, rw other at (count_by_push is_close h e))
 
 pub keeper_push : (h : List Event) (e : Event) (k : ℕ) → keeper (h ++ e ∷ []) k ≡ keeper_after k (keeper h k) e
 keeper_push h e k = fold_push (keeper_after k) Home h e
@@ -196,10 +190,6 @@ keeps_unlinked p k j is = go p.linked refl is
         let i≡j : i ≡ j = cc e in
         (λ j≡k. eqb-false i k other (i≡j ∙ j≡k), was ∙ e, refl)
 
-    go : (l : Option ℕ) → p.linked ≡ l → (if unwrap_or l (k + 1) == k then None else l) ≡ Some j → (j ≢ k) × (p.linked ≡ Some j) × ((unlinked p k).seen ≡ p.seen)
-    go None was e = none (k + 1 == k) e
-      where
-        none : (q : Bool) → (if q then None else None) ≡ Some j → (j ≢ k) × (p.linked ≡ Some j) × ((unlinked p k).seen ≡ p.seen)
-        none true e = absurd cc
-        none false e = absurd cc
+    go : (l : Option ℕ) → p.linked ≡ l → other_than k l ≡ Some j → (j ≢ k) × (p.linked ≡ Some j) × ((unlinked p k).seen ≡ p.seen)
+    go None was e = absurd cc
     go (Some i) was e = some i was (i == k) refl e

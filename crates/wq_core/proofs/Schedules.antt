@@ -1,12 +1,11 @@
 -- Every schedule keeps what is sound.
-use Rattle.std.proofs.Common.{◌≡◌, ◌≢◌, ℕ, zero, suc, ◌+◌, ◌<◌, ◌==◌, Bool, true, false, if◌then◌else◌, List, [], ◌∷◌, ◌++◌, length, get_or, take, Option, None, Some, unwrap_or, slice_get, refl, ap, ◌∙◌, arith, replicate}
+use Rattle.std.proofs.Common.{◌≡◌, ◌≢◌, ℕ, zero, suc, ◌+◌, ◌<◌, ◌==◌, Bool, true, false, if◌then◌else◌, List, [], ◌∷◌, ◌++◌, length, get_or, take, Option, None, Some, unwrap_or, refl, ap, ◌∙◌, replicate}
 use Rattle.std.proofs.lemmas.Bool.{eqb-true, eqb-false}
 use Rattle.std.proofs.lemmas.List.{length-replicate, take_more}
 use Rattle.std.proofs.lemmas.Option.{slice_get-get_or}
 use Rattle.wq_words.specs.declared.layout.Layout.{Layout}
-use Rattle.wq_words.specs.declared.event.Event.{Event}
 use Rattle.wq_words.specs.Numbers.{number_count}
-use Rattle.wq_words.specs.History.{begun, ended, running, IsRunning}
+use Rattle.wq_words.specs.History.{running, IsRunning}
 use Rattle.wq_words.specs.Legal.{IsLegal}
 use Rattle.wq_words.proofs.Legal.{legal_nil}
 use Rattle.wq_core.specs.declared.step.Private.{Private}
@@ -20,21 +19,14 @@ use Rattle.wq_core.specs.Machine.{Machine, opening, nothing_seen, head, link, it
 use Rattle.wq_core.specs.Refusal.{IsMade, IsRefused}
 use Rattle.wq_core.specs.Schedule.{Leads, Leaves, IsFirstRefusal}
 use Rattle.wq_core.specs.Sound.{IsSound}
-use Rattle.wq_core.proofs.Steps.{sound_hold, sound_busy, sound_look, sound_lost, sound_link, sound_push, sound_back, sound_take, sound_close, sound_walk_end, sound_walk_on, sound_begin, sound_end, sound_chain, sound_chain_busy}
+use Rattle.wq_words.proofs.Running.{runs_some}
+use Rattle.wq_core.proofs.SenderSteps.{sound_hold, sound_busy, sound_look, sound_lost, sound_link, sound_push, sound_back}
+use Rattle.wq_core.proofs.OwnerSteps.{sound_take, sound_close, sound_walk_end, sound_walk_on, sound_begin, sound_end, sound_chain, sound_chain_busy}
 use Rattle.wq_core.proofs.Turning.{sound_turn}
 
 pub either : (q : Bool) (P : Machine → Type 0) (a b : Machine) → (q ≡ true → P a) → (q ≡ false → P b) → P (if q then a else b)
 either true P a b holds fails = holds refl
 either false P a b holds fails = fails refl
-
--- a number that runs, where one does
-pub runs_some : (h : List Event) → IsRunning h → (k : ℕ) × (running h ≡ Some k)
-runs_some h r = go (begun h) (length (ended h)) r
-  where
-    go : (xs : List ℕ) (i : ℕ) → i < length xs → (k : ℕ) × (slice_get xs i ≡ Some k)
-    go [] i lt = absurd (omega arith)
-    go (x ∷ xs) zero lt = (x, refl)
-    go (x ∷ xs) (suc i) lt = go xs i (omega arith)
 
 -- the word that a sender has seen, where it has seen one
 pub seen_some : (p : Option ℕ) → p ≢ None → p ≡ Some (unwrap_or p 0)

@@ -11,15 +11,20 @@ use Rattle.wq_words.specs.History.{begun, ended, running, Holds, IsRunning, IsCl
 use Rattle.wq_words.specs.Listed.{listed}
 use Rattle.wq_words.specs.Keeper.{Keeper, Home, Sender, Listed, Owner, taken_over, keeper}
 use Rattle.wq_words.proofs.Growing.{growing, slice_get_last}
-use Rattle.wq_words.proofs.Order.{in_order, prefix_length}
+use Rattle.wq_words.proofs.Order.{in_order}
+use Rattle.wq_words.proofs.Prefixes.{prefix_length}
+use Rattle.wq_words.proofs.Running.{runs_some}
 use Rattle.wq_core.specs.declared.step.Private.{Private}
 use Rattle.wq_core.specs.Words.{link_place, word_count, closed_word, number_at}
 use Rattle.wq_core.specs.Machine.{Machine, opening, nothing_seen, head, link, item_word, done_word, private, seen_word, with_head, with_link, with_item, with_done, with_private, happened, unlinked, StandsIn}
 use Rattle.wq_core.specs.Sound.{IsChain, IsSound}
 use Rattle.wq_core.specs.Stored.{holder, IsStored}
 use Rattle.wq_core.proofs.Privates.{gives_hold, gives_push, gives_back, gives_begin, gives_chain, follow_give, follow_same, follow_quiet}
-use Rattle.wq_core.proofs.Schedules.{runs_some, sound_opening, all_alike}
-use Rattle.wq_core.proofs.Steps.{sound_hold, sound_busy, sound_look, sound_link, sound_push, sound_lost, sound_back, sound_take, sound_close, sound_walk_end, sound_walk_on, sound_begin, sound_end, sound_chain, sound_chain_busy, home_from_clear, sender_from_holds, holds_from_keeper, first_of_batch, head_open, head_of_closed}
+use Rattle.wq_core.proofs.Schedules.{sound_opening, all_alike}
+use Rattle.wq_core.proofs.SenderSteps.{sound_hold, sound_busy, sound_look, sound_link, sound_push, sound_lost, sound_back}
+use Rattle.wq_core.proofs.OwnerSteps.{sound_take, sound_close, sound_walk_end, sound_walk_on, sound_begin, sound_end, sound_chain, sound_chain_busy, first_of_batch}
+use Rattle.wq_core.proofs.KeptSound.{home_from_clear, sender_from_holds, holds_from_keeper}
+use Rattle.wq_core.proofs.Heads.{head_open, head_of_closed}
 use Rattle.wq_core.proofs.Turning.{sound_turn}
 use Rattle.wq_core.proofs.Fitting.{fit_head, fit_item, fit_done, fit_link, fit_look}
 

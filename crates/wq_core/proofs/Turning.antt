@@ -17,7 +17,8 @@ use Rattle.wq_core.specs.Machine.{Machine, with_link, StandsIn}
 use Rattle.wq_core.specs.Sound.{AreChained, IsSound}
 use Rattle.wq_core.proofs.Chains.{times, times-cons, times-append, times-reverse_aux, chain_set}
 use Rattle.wq_core.proofs.Privates.{AreLinked}
-use Rattle.wq_core.proofs.Steps.{accepted_number, away_from_sender, by_keepers, from_keepers, head_of-link, done_of-link, items_of-link}
+use Rattle.wq_core.proofs.Writes.{head_of-link, done_of-link, items_of-link}
+use Rattle.wq_core.proofs.KeptSound.{accepted_number, away_from_sender, by_keepers, from_keepers}
 use mathlib.Core.List.{reverse_aux}
 
 -- a number stands in a list where it stands there some times
@@ -138,3 +139,10 @@ module _ (m : Machine) (o : IsSound m) (k : ℕ) (stands : StandsIn m.walked m.b
         linked = linked_turn n m.words m.seats m.history k v no_senders b.linked;
         seen = o.seen;
       })
+
+-- a number stands there where it is counted there
+pub stands_times : (walked batch : List ℕ) (k : ℕ) → 0 < times k walked + times k batch → StandsIn walked batch k
+stands_times walked batch k some = elim (cases_eq (times k walked) 0) [
+  | inl none ↦ inr (contains_times k batch (omega (arith, some, none)))
+  | inr more ↦ inl (contains_times k walked (omega (arith, more)))
+]

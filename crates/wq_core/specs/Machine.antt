@@ -102,8 +102,12 @@ abbrev pub happened : Machine → Event → Machine
 happened m e = record m { history = m.history ++ e ∷ [] }
 
 -- what a sender keeps once it has given k back: it has linked nothing, where that was k
+abbrev pub other_than : ℕ → Option ℕ → Option ℕ
+other_than k None = None
+other_than k (Some j) = if j == k then None else Some j
+
 abbrev pub unlinked : Private → ℕ → Private
-unlinked p k = record p { linked = if unwrap_or p.linked (k + 1) == k then None else p.linked }
+unlinked p k = record p { linked = other_than k p.linked }
 
 -- the owner has walked k, whose link is this word; at the end all that it walked goes behind the batch
 abbrev pub walked_past : Machine → ℕ → ℕ → Machine

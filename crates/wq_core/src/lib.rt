@@ -12,6 +12,3 @@ pub use laws::{chain_and_batch, each_step_keeps_sound, first_push};
 pub use machine::Core;
 pub use schedule::{ReplayError, replay};
 pub use step::{Private, Reply, Seat, Step, StepError};
-
-#[cfg(test)]
-mod tests;

@@ -2,7 +2,7 @@
 ghost use Rattle.std.specs.Prelude.{◌≡◌, ◌<◌, ◌↔◌, IsTrue, IfOk, IfErr, IfSome, OnOk, OnErr, length, get_or, Some, None};
 ghost use Rattle.wq_words.specs.declared.layout.Layout.{Layout};
 ghost use Rattle.wq_words.specs.Numbers.{number_count};
-ghost use Rattle.wq_words.specs.History.{accepted_by, begun_by, accepted, begun, Holds, IsClosed, IsRunning};
+ghost use Rattle.wq_words.specs.History.{accepted, begun, Holds, IsClosed, IsRunning};
 ghost use Rattle.wq_core.specs.declared.step.Seat.TheVariants.{Sender, Owner};
 ghost use Rattle.wq_core.specs.declared.step.Step.TheVariants.{Hold, Look, Link, Push, Back, Check, Take, Close, Walk, Begin, End, Chain, Turn};
 ghost use Rattle.wq_core.specs.Words.{number_at};
@@ -93,7 +93,7 @@ impl Core {
     {
         self.history
             .iter()
-            .filter_map(|event| accepted_by(*event))
+            .filter_map(|event| event.accepted_number())
             .collect(self.alloc)
     }
 
@@ -103,7 +103,7 @@ impl Core {
     {
         self.history
             .iter()
-            .filter_map(|event| begun_by(*event))
+            .filter_map(|event| event.begun_number())
             .collect(self.alloc)
     }
 
@@ -135,6 +135,8 @@ impl Core {
         ensures { IsTrue result ↔ IsEnabled self.now seat step }
     {
         match (seat, step) {
+            (Seat::Sender(_), Step::Hold(_)) => true,
+            (Seat::Sender(_), Step::Look) => true,
             (Seat::Sender(sender), Step::Link(number)) => match self.private(sender).seen {
                 Some(word) => word != Head::Closed.to_word() && self.is_held(sender, number),
                 None => false,
@@ -147,7 +149,7 @@ impl Core {
                     && (why != Why::Closed
                         || self.private(sender).seen == Some(Head::Closed.to_word()))
             }
-            (Seat::Sender(_), _) => true,
+            (Seat::Sender(_), Step::Check(_)) => true,
             (Seat::Owner, Step::Take) => {
                 !self.is_closed() && self.cursor.is_none() && self.batch.is_empty()
             }
@@ -157,8 +159,13 @@ impl Core {
                 self.cursor.is_none() && !self.batch.is_empty() && !self.is_running()
             }
             (Seat::Owner, Step::End) => self.is_running(),
-            (Seat::Owner, Step::Turn(number, _)) => self.walked.contains(&number) || self.batch.contains(&number),
-            (Seat::Owner, _) => self.is_closed() && self.cursor.is_none() && self.is_running(),
+            (Seat::Owner, Step::Chain(_)) => {
+                self.is_closed() && self.cursor.is_none() && self.is_running()
+            }
+            (Seat::Owner, Step::Turn(number, _)) => {
+                self.walked.contains(&number) || self.batch.contains(&number)
+            }
+            _ => unreachable!(),
         }
     }
 
@@ -415,24 +422,6 @@ impl Core {
     {
         self.words[link_place(number)] = word_at(next);
         Reply::Turned
-    }
-}
-
-fn accepted_by(event: Event) -> Option<u32>
-    ensures { result ≡ accepted_by event }
-{
-    match event {
-        Event::Push(_, number) | Event::Chain(number) => Some(number),
-        _ => None,
-    }
-}
-
-fn begun_by(event: Event) -> Option<u32>
-    ensures { result ≡ begun_by event }
-{
-    match event {
-        Event::Begin(number) => Some(number),
-        _ => None,
     }
 }
 

@@ -6,7 +6,8 @@ use Rattle.wq_words.specs.declared.layout.Layout.{Layout}
 use Rattle.wq_words.specs.declared.event.Event.{Event}
 use Rattle.wq_words.specs.declared.event.Event.TheVariants as event
 use Rattle.wq_words.specs.History.{begun, ended, running, IsRunning}
-use Rattle.wq_words.proofs.Order.{in_order, prefix_length}
+use Rattle.wq_words.proofs.Order.{in_order}
+use Rattle.wq_words.proofs.Prefixes.{prefix_length}
 use Rattle.wq_words.specs.Legal.{IsLegal}
 use Rattle.wq_core.specs.declared.step.Step.{Step}
 use Rattle.wq_core.specs.declared.step.Step.TheVariants.{Take, Close, Walk, Begin, End, Chain}

@@ -12,7 +12,8 @@ use Rattle.wq_words.specs.History.{accepted, accepted_by, begun, begun_by, ended
 use Rattle.wq_words.specs.Listed.{listed}
 use Rattle.wq_words.specs.Legal.{MayFollow, IsLegal, IsComplete}
 use Rattle.wq_words.proofs.Legal.{legal_front, legal_next}
-use Rattle.wq_words.proofs.Order.{in_order, prefix_length}
+use Rattle.wq_words.proofs.Order.{in_order}
+use Rattle.wq_words.proofs.Prefixes.{prefix_length}
 use Rattle.wq_words.proofs.Listed.{listed-closed}
 use Rattle.wq_table.specs.declared.table.Part.{Part}
 use Rattle.wq_table.specs.declared.table.Stage.TheVariants.{Owns}
@@ -20,8 +21,8 @@ use Rattle.wq_table.specs.Law.{Keeps}
 use Rattle.std.specs.Option.{is_some}
 use Rattle.std.proofs.lemmas.Bool.{false≢true}
 use Rattle.std.proofs.lemmas.Option.{slice_get_within}
-use Rattle.wq_words.proofs.Listed.{closed_from_IsClosed, IsClosed_from_closed}
-use Rattle.wq_core.proofs.Schedules.{runs_some}
+use Rattle.wq_words.proofs.Closed.{closed_from_IsClosed, IsClosed_from_closed}
+use Rattle.wq_words.proofs.Running.{runs_some}
 use Rattle.wq_live.specs.declared.owner.Owner.TheInside.{Inside}
 use Rattle.wq_live.specs.Known.{Known}
 use Rattle.wq_live.specs.Answers.{IsFinal}

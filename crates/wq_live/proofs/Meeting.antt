@@ -5,7 +5,7 @@ use Rattle.wq_core.specs.Sound.{IsSound}
 use Rattle.wq_table.specs.declared.table.Part.{Part}
 use Rattle.wq_table.specs.Law.{part, Fits}
 use Rattle.wq_table.specs.Chair.{Standing}
-use Rattle.wq_words.proofs.Seen.{prefix_self}
+use Rattle.wq_words.proofs.Prefixes.{prefix_self}
 use Rattle.wq_live.specs.declared.owner.Owner.TheInside.{Inside}
 use Rattle.wq_live.specs.declared.sender.Sender.TheInside as sender
 use Rattle.wq_live.specs.Known.{Known, Sees}

@@ -5,8 +5,8 @@ use Rattle.std.specs.Prelude.{count_by}
 use Rattle.std.proofs.lemmas.Option.{slice_get_within}
 use Rattle.wq_words.specs.declared.event.Event.{Event}
 use Rattle.wq_words.specs.History.{begun, ended, IsClosed, is_close, closed, IsRunning, running}
-use Rattle.wq_words.proofs.Listed.{closed_from_IsClosed}
-use Rattle.wq_core.proofs.Schedules.{runs_some}
+use Rattle.wq_words.proofs.Closed.{closed_from_IsClosed}
+use Rattle.wq_words.proofs.Running.{runs_some}
 use Rattle.wq_live.specs.Batch.{batch, next_of}
 
 pub open_from_closed : (h : List Event) → closed h ≡ false → ¬ IsClosed h

@@ -13,7 +13,8 @@ use Rattle.wq_words.specs.History.{Holds, pending, first, IsClosed}
 use Rattle.wq_words.specs.Listed.{listed}
 use Rattle.wq_words.specs.Legal.{IsLegal}
 use Rattle.wq_words.proofs.Legal.{legal_next}
-use Rattle.wq_words.proofs.Listed.{closed_from_open, fresh-open}
+use Rattle.wq_words.proofs.Listed.{fresh-open}
+use Rattle.wq_words.proofs.Closed.{closed_from_open}
 use Rattle.wq_core.specs.declared.step.Private.{Private}
 use Rattle.wq_core.specs.declared.step.Step.{Step}
 use Rattle.wq_core.specs.declared.step.Step.TheVariants.{Hold, Look, Link, Push, Back, Check, Take, Close, Walk, Begin, End, Chain}

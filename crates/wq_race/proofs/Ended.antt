@@ -12,7 +12,7 @@ use Rattle.wq_words.specs.declared.event.Why.TheVariants as why
 use Rattle.wq_words.specs.History.{is_close, is_push, accepted, begun, ended}
 use Rattle.wq_words.specs.Legal.{IsLegal}
 use Rattle.wq_words.proofs.Order.{in_order}
-use Rattle.wq_words.proofs.Headlines.{prefix_whole}
+use Rattle.wq_words.proofs.Prefixes.{prefix_whole}
 use Rattle.wq_words.specs.Seen.{own}
 use Rattle.wq_words.proofs.Seen.{own-append, closed_count, ended_same}
 use Rattle.wq_live.specs.Known.{Known}

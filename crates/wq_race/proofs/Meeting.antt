@@ -7,7 +7,8 @@ use mathlib.Core.List.{IsPrefix}
 use Rattle.wq_words.specs.declared.event.Event.{Event}
 use Rattle.wq_words.specs.Legal.{IsLegal}
 use Rattle.wq_words.specs.Seen.{owner_seat, seat_of, own, Grows}
-use Rattle.wq_words.proofs.Seen.{own-append, nothing_more}
+use Rattle.wq_words.proofs.Seen.{own-append}
+use Rattle.wq_words.proofs.Prefixes.{nothing_more}
 use Rattle.wq_live.specs.Known.{Known, Sees}
 use Rattle.wq_worker.specs.Seats.{is_ours}
 use Rattle.wq_worker.specs.State.{WorkerState, Moves}

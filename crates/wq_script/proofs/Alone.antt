@@ -11,7 +11,8 @@ use Rattle.wq_words.specs.declared.event.Event.TheVariants.{Hold, Busy, Push, Ba
 use Rattle.wq_words.specs.Legal.{IsLegal, HasSeat}
 use Rattle.wq_words.proofs.Legal.{legal_next, legal_front}
 use Rattle.wq_words.specs.Seen.{seat_of, owner_seat, own}
-use Rattle.wq_words.proofs.Seen.{own-append, nothing_more}
+use Rattle.wq_words.proofs.Seen.{own-append}
+use Rattle.wq_words.proofs.Prefixes.{nothing_more}
 
 module _ {A : Type 0} where
   pub left_nil : (xs ys : List A) → xs ++ ys ≡ [] → xs ≡ []

@@ -6,7 +6,8 @@ use Rattle.std.proofs.lemmas.Bool.{cases_lt, cases_eq}
 use mathlib.Core.List.{IsPrefix}
 use Rattle.wq_words.specs.declared.event.Event.{Event}
 use Rattle.wq_words.specs.Seen.{owner_seat, seat_of, own, Grows}
-use Rattle.wq_words.proofs.Seen.{own-append, prefix_self}
+use Rattle.wq_words.proofs.Seen.{own-append}
+use Rattle.wq_words.proofs.Prefixes.{prefix_self}
 use Rattle.wq_live.specs.Known.{Known, Sees}
 use Rattle.wq_worker.specs.Seats.{is_ours, Adds}
 use Rattle.wq_worker.specs.State.{WorkerState, Moves}

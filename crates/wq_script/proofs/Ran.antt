@@ -5,7 +5,7 @@ use Rattle.wq_words.specs.declared.layout.Layout.{Layout}
 use Rattle.wq_words.specs.declared.event.Event.{Event}
 use Rattle.wq_words.specs.History.{IsRunning}
 use Rattle.wq_words.specs.Legal.{IsLegal}
-use Rattle.wq_words.proofs.Seen.{prefix_self}
+use Rattle.wq_words.proofs.Prefixes.{prefix_self}
 use Rattle.wq_worker.specs.Seats.{is_ours}
 use Rattle.wq_worker.specs.State.{WorkerState}
 use Rattle.wq_plain.specs.Execution.{after_executions, ended_since}

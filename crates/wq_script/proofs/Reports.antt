@@ -6,7 +6,8 @@ use Rattle.wq_words.specs.declared.event.Event.TheVariants.{Hold, Busy, Push, Ba
 use Rattle.wq_words.specs.declared.event.Why.TheVariants as why
 use Rattle.wq_words.specs.declared.layout.Layout.{Layout}
 use Rattle.wq_words.specs.History.{accepted, begun, ended, is_push}
-use Rattle.wq_words.proofs.Order.{in_order, prefix_length}
+use Rattle.wq_words.proofs.Order.{in_order}
+use Rattle.wq_words.proofs.Prefixes.{prefix_length}
 use Rattle.wq_words.specs.Seen.{owner_seat, seat_of, own}
 use Rattle.wq_words.proofs.Seen.{count_own, ended_same}
 use Rattle.wq_live.specs.Counts as live

@@ -20,7 +20,8 @@ use Rattle.wq_words.specs.Seen.{owner_seat, seat_of, own}
 use Rattle.wq_table.specs.Law.{seat_at, HasStage, IsPartOf, HasLinks}
 use Rattle.wq_core.proofs.Taken.{sender_links}
 use Rattle.wq_table.specs.Plays.{word_found, stage_after, walked_by, tail_of}
-use Rattle.wq_words.proofs.Seen.{own_none, own_same, prefix_append}
+use Rattle.wq_words.proofs.Seen.{own_none, own_same}
+use Rattle.wq_words.proofs.Prefixes.{prefix_append}
 
 -- from m to n by a step of the seat c: what is of other seats stays
 pub record Change (m n : Machine) (c : ℕ) : Type 0 where
@@ -153,8 +154,8 @@ links_known m (Owns cursor walked batch) = λ k there. refl
 -- a step leaves the links of what the owner took and has not begun, where it is a sender's
 pub links_spared : (m : Machine) (c : ℕ) (stage : Stage) (step : Step) → IsSound m → HasStage m c stage → IsMade m (seat_at c stage) step → c ≢ owner_seat
     → (k : ℕ) → StandsIn m.walked m.batch k → link (after m (seat_at c stage) step) k ≡ link m k
-links_spared m c (Sends p) step sound keeps made ne = sender_links m sound c step made
-links_spared m c (Owns cursor walked batch) step sound keeps made ne = absurd (ne keeps.0)
+links_spared m c (Sends p) step sound keeps made ne k stands = sender_links m sound k stands c step made
+links_spared m c (Owns cursor walked batch) step sound keeps made ne k stands = absurd (ne keeps.0)
 
 -- the part of another seat still fits
 pub fits_other : (m n : Machine) (c : ℕ) (q : Part) → Change m n c → (c ≢ owner_seat → (k : ℕ) → StandsIn m.walked m.batch k → link n k ≡ link m k)

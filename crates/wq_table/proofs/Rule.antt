@@ -14,7 +14,7 @@ use Rattle.wq_words.specs.Seen.{owner_seat}
 use Rattle.wq_table.specs.Law.{View, part, seat_at, IsPartOf, ArePartsAt, Kept}
 use Rattle.wq_table.specs.Plays.{Sat, word_found, stage_after, Performs, MakesAlone}
 use Rattle.wq_core.proofs.Schedules.{sound_after}
-use Rattle.wq_words.proofs.Seen.{prefix_self}
+use Rattle.wq_words.proofs.Prefixes.{prefix_self}
 use Rattle.wq_table.proofs.Changes.{Change, changes, fits_other, keeps_after, links_known, links_spared}
 
 abbrev Table : Type 0

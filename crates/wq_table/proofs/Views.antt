@@ -13,7 +13,7 @@ use Rattle.wq_words.specs.Seen.{owner_seat}
 use Rattle.wq_table.specs.Law.{View, IsPartOf, Apart, ArePartsAt, Kept, sender_part, owner_part, row, opening_view, front_of, rest_of}
 use Rattle.wq_table.specs.Plays.{Sat, all_see, AllOf, meets}
 use Rattle.wq_core.proofs.Schedules.{sound_opening}
-use Rattle.wq_words.proofs.Seen.{prefix_self}
+use Rattle.wq_words.proofs.Prefixes.{prefix_self}
 
 at_end : {A : Type 0} (l : List A) (a b : A) (j : ℕ) → get_elem? (l ++ a ∷ []) j ≡ some b → (get_elem? l j ≡ some b) ⊎ ((j ≡ length l) × (a ≡ b))
 at_end [] a b zero e = inr (refl, some-injective a b e)

@@ -16,8 +16,7 @@ use Rattle.wq_words.specs.Keeper.{Keeper, Home, Sender, Listed, Owner, keeper}
 use Rattle.wq_words.specs.Headline.{NeverOverlaps, Executes, KeepsSenderOrder, NoPushFollowsClose, IsOwnHold, EachPushHasHold, HasOneHolder, KeepsHeadline}
 use Rattle.wq_words.proofs.Growing.{count_by_push, filter_map_push_some, take_more_some, slice_get_push, slice_get_append, slice_get_last, take_append, take_length}
 use Rattle.wq_words.proofs.Legal.{legal_front, legal_induction}
-pub use Rattle.wq_words.proofs.Prefixes.{prefix_whole}
-use Rattle.wq_words.proofs.Prefixes.{prefix_length}
+use Rattle.wq_words.proofs.Prefixes.{prefix_length, prefix_whole}
 use Rattle.wq_words.proofs.Order.{IsInOrder, in_order}
 use Rattle.wq_words.proofs.Keepers.{held_bit, kept}
 use Rattle.wq_words.proofs.Places.{keeper_from_keeps}

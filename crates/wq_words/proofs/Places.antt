@@ -17,7 +17,8 @@ use Rattle.wq_words.proofs.Legal.{legal_induction}
 use Rattle.wq_words.proofs.Prefixes.{prefix_length}
 use Rattle.wq_words.proofs.Order.{IsInOrder, in_order}
 use Rattle.wq_words.proofs.Keepers.{IsQueue, held_bit, queue_bit, home_from_bit, sender_from_bit, queue_from_bit, kept}
-use Rattle.wq_words.proofs.Listed.{IsListed, is_listed, length-accepted, accepted_push_none, taken_push_same, taken_push_push, taken_push_take, taken_closed, closed_push_no, closed_push_yes, closed_from_IsClosed, closed_from_open}
+use Rattle.wq_words.proofs.Listed.{IsListed, is_listed, length-accepted, accepted_push_none, taken_push_same, taken_push_push, taken_push_take, taken_closed}
+use Rattle.wq_words.proofs.Closed.{closed_push_no, closed_push_yes, closed_from_IsClosed, closed_from_open}
 
 -- with b begun and t taken of these accepted numbers, k stands where x keeps it
 abbrev pub StandsFor : ℕ → ℕ → List ℕ → ℕ → Keeper → Type 0

@@ -46,21 +46,21 @@ fn close_count(history: &[Event]) -> usize
     history.iter().filter(|event| event.is_close()).count()
 }
 
-/// The PENDING bit (`work_pending`).
+// The PENDING bit (`work_pending`).
 pub(crate) fn is_pending(history: &[Event], number: u32) -> bool
     ensures { IsTrue result ↔ IsPending history.now number }
 {
     cleared_count(history, number) < set_count(history, number)
 }
 
-/// Whether the sender holds the number.
+// Whether the sender holds the number.
 pub(crate) fn holds(history: &[Event], sender: u32, number: u32) -> bool
     ensures { IsTrue result ↔ Holds history.now sender number }
 {
     stopped_count(history, sender, number) < started_count(history, sender, number)
 }
 
-/// Whether there is a close.
+// Whether there is a close.
 pub(crate) fn is_closed(history: &[Event]) -> bool
     ensures { IsTrue result ↔ IsClosed history.now }
 {
@@ -115,21 +115,21 @@ fn begun_at(history: &[Event], place: usize) -> Option<u32>
     None
 }
 
-/// Whether more have begun than ended, so that a number runs.
+// Whether more have begun than ended, so that a number runs.
 pub(crate) fn is_running(history: &[Event]) -> bool
     ensures { IsTrue result ↔ IsRunning history.now }
 {
     ended_count(history) < begun_count(history)
 }
 
-/// The number to begin next: the first that was accepted and not begun.
+// The number to begin next: the first that was accepted and not begun.
 pub(crate) fn next(history: &[Event]) -> Option<u32>
     ensures { result ≡ next history.now }
 {
     accepted_at(history, begun_count(history))
 }
 
-/// The number that runs: the first that was begun and not ended.
+// The number that runs: the first that was begun and not ended.
 pub(crate) fn running(history: &[Event]) -> Option<u32>
     ensures { result ≡ running history.now }
 {

@@ -45,8 +45,8 @@ pub enum Event {
 }
 
 impl Event {
-    /// The number that is accepted by it.
-    pub(crate) fn accepted_number(self) -> Option<u32>
+    /// The number that is accepted by it: it was pushed or chained.
+    pub fn accepted_number(self) -> Option<u32>
         ensures { result ≡ accepted_by self }
     {
         match self {
@@ -55,8 +55,8 @@ impl Event {
         }
     }
 
-    /// The number that begins with it.
-    pub(crate) fn begun_number(self) -> Option<u32>
+    /// The number whose execution begins with it.
+    pub fn begun_number(self) -> Option<u32>
         ensures { result ≡ begun_by self }
     {
         match self {
@@ -65,7 +65,7 @@ impl Event {
         }
     }
 
-    /// The number that ends with it.
+    // The number that ends with it.
     pub(crate) fn ended_number(self) -> Option<u32>
         ensures { result ≡ ended_by self }
     {
@@ -75,7 +75,7 @@ impl Event {
         }
     }
 
-    /// Whether it sets the PENDING bit of the number.
+    // Whether it sets the PENDING bit of the number.
     pub(crate) fn sets_pending(self, number: u32) -> bool
         ensures { result ≡ sets_pending number self }
     {
@@ -86,7 +86,7 @@ impl Event {
         }
     }
 
-    /// Whether it clears the PENDING bit of the number.
+    // Whether it clears the PENDING bit of the number.
     pub(crate) fn clears_pending(self, number: u32) -> bool
         ensures { result ≡ clears_pending number self }
     {
@@ -97,7 +97,7 @@ impl Event {
         }
     }
 
-    /// Whether the sender holds the number from it on.
+    // Whether the sender holds the number from it on.
     pub(crate) fn starts_hold(self, sender: u32, number: u32) -> bool
         ensures { result ≡ starts_hold sender number self }
     {
@@ -107,7 +107,7 @@ impl Event {
         }
     }
 
-    /// Whether the sender held the number up to it.
+    // Whether the sender held the number up to it.
     pub(crate) fn stops_hold(self, sender: u32, number: u32) -> bool
         ensures { result ≡ stops_hold sender number self }
     {
@@ -118,7 +118,7 @@ impl Event {
         }
     }
 
-    /// Whether it closes the queue.
+    // Whether it closes the queue.
     pub(crate) fn is_close(self) -> bool
         ensures { result ≡ is_close self }
     {
@@ -128,7 +128,7 @@ impl Event {
         }
     }
 
-    /// Whether its sender, if it has one, is one of the queue's.
+    // Whether its sender, if it has one, is one of the queue's.
     pub(crate) fn has_seat(self, layout: &Layout) -> bool
         ensures { IsTrue result ↔ HasSeat layout.now self }
     {
@@ -141,7 +141,7 @@ impl Event {
         }
     }
 
-    /// Whether its number, if it has one, is one of the queue's, and an item where it is chained.
+    // Whether its number, if it has one, is one of the queue's, and an item where it is chained.
     pub(crate) fn has_number(self, layout: &Layout) -> bool
         ensures { IsTrue result ↔ HasNumber layout.now self }
     {

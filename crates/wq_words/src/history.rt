@@ -32,7 +32,7 @@ pub struct HistoryError {
     pub kind: HistoryFault,
 }
 
-/// Whether the event may come after these, whatever its seat and number.
+// Whether the event may come after these, whatever its seat and number.
 fn may_follow(history: &[Event], event: Event) -> bool
     ensures { IsTrue result ↔ MayFollow history.now event }
 {
@@ -51,14 +51,14 @@ fn may_follow(history: &[Event], event: Event) -> bool
     }
 }
 
-/// Whether the execution that runs may chain: the queue is closed, and a number runs.
+// Whether the execution that runs may chain: the queue is closed, and a number runs.
 fn may_chain(history: &[Event]) -> bool
     ensures { IsTrue result ↔ (IsClosed history.now × IsRunning history.now) }
 {
     is_closed(history) && is_running(history)
 }
 
-/// Why the event may not come after these, if it may not.
+// Why the event may not come after these, if it may not.
 fn fault(layout: &Layout, history: &[Event], event: Event) -> Option<HistoryFault>
     ensures allowed { IfNone result (IsAllowed layout.now history.now event) }
     ensures refused { IfSome result (λ fault. HasFault layout.now history.now event fault) }

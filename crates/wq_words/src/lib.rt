@@ -16,6 +16,3 @@ pub use head::Head;
 pub use history::{HistoryError, HistoryFault, check_history};
 pub use laws::{headline, one_keeper, one_runs, pending_and_closed, pending_list};
 pub use layout::{Layout, LayoutError};
-
-#[cfg(test)]
-mod tests;

@@ -7,7 +7,8 @@ use Rattle.wq_words.specs.declared.event.Event.TheVariants.{Hold, Busy, Push, Ba
 use Rattle.wq_words.specs.declared.layout.Layout.{Layout}
 use Rattle.wq_words.specs.History.{accepted_by, accepted, begun, is_close, IsClosed}
 use Rattle.wq_words.specs.Legal.{IsLegal}
-use Rattle.wq_words.proofs.Listed.{closed_from_IsClosed, taken_closed, accepted_push_none}
+use Rattle.wq_words.proofs.Listed.{taken_closed, accepted_push_none}
+use Rattle.wq_words.proofs.Closed.{closed_from_IsClosed}
 use Rattle.wq_words.proofs.Legal.{legal_next}
 use Rattle.wq_words.specs.Seen.{owner_seat, seat_of, own, Grows}
 use Rattle.wq_live.specs.Batch.{batch, next_of, TakesAll}

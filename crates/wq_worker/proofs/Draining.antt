@@ -10,9 +10,9 @@ use Rattle.wq_words.specs.declared.event.Event.TheVariants.{Take, End}
 use Rattle.wq_words.specs.History.{accepted_by, accepted, begun, ended, next, is_close, IsClosed, IsRunning}
 use Rattle.wq_words.specs.Legal.{IsLegal, IsComplete}
 use Rattle.wq_words.proofs.Legal.{legal_front, legal_next}
-use Rattle.wq_words.proofs.Order.{in_order, prefix_length}
-use Rattle.wq_words.proofs.Listed.{closed_from_IsClosed}
-use Rattle.wq_words.proofs.Headlines.{prefix_whole}
+use Rattle.wq_words.proofs.Order.{in_order}
+use Rattle.wq_words.proofs.Prefixes.{prefix_length, prefix_whole}
+use Rattle.wq_words.proofs.Closed.{closed_from_IsClosed}
 use Rattle.wq_words.proofs.Seen.{closed_count}
 use Rattle.wq_words.specs.Seen.{owner_seat, own}
 use Rattle.wq_live.specs.Batch.{batch}

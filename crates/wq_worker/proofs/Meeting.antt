@@ -5,7 +5,7 @@ use Rattle.wq_words.specs.declared.layout.Layout.{Layout}
 use Rattle.wq_words.specs.declared.event.Event.{Event}
 use Rattle.wq_words.specs.History.{accepted}
 use Rattle.wq_words.specs.Legal.{IsLegal, IsComplete}
-use Rattle.wq_words.proofs.Order.{prefix_append}
+use Rattle.wq_words.proofs.Prefixes.{prefix_append}
 use Rattle.wq_words.specs.Seen.{owner_seat, Grows}
 use Rattle.wq_live.specs.Known.{Known, Sees}
 use Rattle.wq_live.proofs.Final.{final}

@@ -11,8 +11,9 @@ use Rattle.wq_words.specs.History.{begun_by, begun, ended, running, IsRunning, c
 use Rattle.wq_words.specs.Legal.{IsLegal, IsAllowed}
 use Rattle.wq_words.proofs.Growing.{slice_get_last, slice_get_push, filter_map_push_none}
 use Rattle.wq_words.proofs.Legal.{legal_induction}
-use Rattle.wq_words.proofs.Order.{in_order, prefix_length}
-use Rattle.wq_words.proofs.Listed.{closed_from_IsClosed}
+use Rattle.wq_words.proofs.Order.{in_order}
+use Rattle.wq_words.proofs.Prefixes.{prefix_length}
+use Rattle.wq_words.proofs.Closed.{closed_from_IsClosed}
 use Rattle.wq_worker.proofs.Owned.{OwnerAdds}
 
 pub runs_some : (h : List Event) (k : ℕ) → running h ≡ Some k → IsRunning h

@@ -2,4 +2,4 @@ use Rattle.wq_words.proofs.Places.{keeps-keeper}
 use Rattle.wq_words.proofs.laws.one_keeper.Goals as goal
 
 pub returns : goal.returns
-returns c = keeps-keeper c.args.layout.now c.args.history.now c.requires.legal
+returns c = keeps-keeper

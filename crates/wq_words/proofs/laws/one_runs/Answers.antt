@@ -2,7 +2,4 @@ use Rattle.wq_words.proofs.Order.{idle-same, running-last}
 use Rattle.wq_words.proofs.laws.one_runs.Goals as goal
 
 pub returns : goal.returns
-returns c = record {
-  none = idle-same c.args.layout.now c.args.history.now c.requires.legal;
-  last = running-last c.args.layout.now c.args.history.now c.requires.legal;
-}
+returns c = record { none = idle-same; last = running-last }

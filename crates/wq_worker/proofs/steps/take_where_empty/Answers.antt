@@ -1,6 +1,6 @@
 use Rattle.std.proofs.Common.{◌≡◌, true, sym, ◌∙◌}
 use Rattle.wq_words.specs.History.{closed}
-use Rattle.wq_words.proofs.Listed.{IsClosed_from_closed}
+use Rattle.wq_words.proofs.Closed.{IsClosed_from_closed}
 use Rattle.wq_worker.proofs.Closing.{nothing_closed, nothing_taken}
 use Rattle.wq_worker.proofs.steps.take_where_empty.Goals as goal
 

@@ -1,6 +1,6 @@
 use Rattle.std.proofs.Common.{◌≡◌, length, arith, refl}
 use Rattle.wq_core.proofs.Stored.{stored_begin, by_top}
-use Rattle.wq_core.proofs.Steps.{first_of_batch}
+use Rattle.wq_core.proofs.OwnerSteps.{first_of_batch}
 use Rattle.wq_core.proofs.machine.Core.begin.Goals as goal
 
 pub index_mut-requires : goal.index_mut-requires

@@ -4,7 +4,7 @@ use Rattle.wq_words.specs.Numbers.{number_count}
 use Rattle.wq_table.specs.declared.table.Stage.TheVariants.{Owns}
 use Rattle.std.proofs.lemmas.Bool.{false≢true}
 use Rattle.wq_words.specs.History.{IsClosed}
-use Rattle.wq_words.proofs.Listed.{closed_from_IsClosed}
+use Rattle.wq_words.proofs.Closed.{closed_from_IsClosed}
 use Rattle.wq_live.specs.Known.{Known}
 use Rattle.wq_live.proofs.Tells.{Tells}
 use Rattle.wq_live.proofs.Owned.{running_quiet, closed_quiet, counts_chained, counts_busy}

@@ -1,7 +1,7 @@
 use Rattle.std.proofs.Common.{◌≡◌, [], ◌∷◌, Some, None, ap, sym, subst, refl, ◌∙◌}
 use Rattle.wq_words.specs.declared.event.Event.TheVariants.{End}
 use Rattle.wq_words.specs.History.{IsRunning, running}
-use Rattle.wq_core.proofs.Schedules.{runs_some}
+use Rattle.wq_words.proofs.Running.{runs_some}
 use Rattle.wq_live.specs.Known.{Known}
 use Rattle.wq_live.proofs.Tells.{Tells}
 use Rattle.wq_live.proofs.Owned.{running_ended, closed_quiet, counts_ended}

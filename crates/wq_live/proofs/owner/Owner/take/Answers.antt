@@ -2,7 +2,7 @@ use Rattle.std.proofs.Common.{◌≤◌, [], ◌∷◌, ℕ, length, ap, sym, su
 use Rattle.wq_words.specs.declared.event.Event.TheVariants.{Take}
 use Rattle.wq_words.specs.Numbers.{number_count}
 use Rattle.wq_words.specs.History.{IsClosed}
-use Rattle.wq_words.proofs.Listed.{closed_from_open}
+use Rattle.wq_words.proofs.Closed.{closed_from_open}
 use Rattle.wq_live.specs.Known.{Known}
 use Rattle.wq_live.proofs.Tells.{Tells}
 use Rattle.wq_live.proofs.Owned.{running_quiet, closed_quiet, counts_quiet}

@@ -1,13 +1,13 @@
-use crate::Reply::{
+use std::test::Fail;
+use wq_core::Reply::{
     Began, Busy, ChainBusy, Chained, Closed, Ended, GivenBack, Held, Idle, Linked, Looked, Lost,
     Pending, Pushed, Took, Walked,
 };
-use crate::Step::{Back, Begin, Chain, Check, Close, End, Hold, Link, Look, Push, Take, Walk};
-use crate::{
+use wq_core::Step::{Back, Begin, Chain, Check, Close, End, Hold, Link, Look, Push, Take, Walk};
+use wq_core::{
     Core, ReplayError, Reply, Seat, Step, StepError, chain_and_batch, each_step_keeps_sound,
     first_push, replay,
 };
-use std::test::Fail;
 use wq_words::{Event, Head, Layout, Why, check_history};
 
 const S0: Seat = Seat::Sender(0);

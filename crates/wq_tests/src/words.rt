@@ -1,9 +1,9 @@
-use crate::Event::{Back, Begin, Busy, Chain, ChainBusy, Close, End, Hold, Push, Take};
-use crate::{
+use std::test::Fail;
+use wq_words::Event::{Back, Begin, Busy, Chain, ChainBusy, Close, End, Hold, Push, Take};
+use wq_words::{
     Event, Head, HistoryError, HistoryFault, Layout, LayoutError, Why, check_history, headline,
     one_keeper, one_runs, pending_and_closed, pending_list,
 };
-use std::test::Fail;
 
 #[test]
 fn layouts(rt: HostRuntime) {
@@ -177,11 +177,11 @@ fn laws(rt: HostRuntime) -> Result<(), Fail> {
     let history = [Hold(0, 0), Push(0, 0), Close, Begin(0), End(0)];
     match check_history(&layout, &history) {
         Ok(()) => {
-            headline(&layout, &history);
-            one_keeper(&layout, &history);
-            pending_list(&layout, &history);
-            one_runs(&layout, &history);
-            pending_and_closed(&history);
+            headline();
+            one_keeper();
+            pending_list();
+            one_runs();
+            pending_and_closed();
         }
         Err(error) => assert_eq!(rt; Some(error), None),
     }

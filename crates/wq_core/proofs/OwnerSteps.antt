@@ -1,0 +1,175 @@
+-- Each of the owner's steps keeps what is sound: one lemma a step.
+use Rattle.std.proofs.Common.{◌≡◌, ◌≢◌, ℕ, ◌+◌, ◌%◌, ◌^◌, ◌<◌, false, List, [], ◌∷◌, ◌++◌, length, Option, None, Some, slice_get, refl, sym, ap, ◌∙◌, arith, length-set}
+use Rattle.std.proofs.lemmas.List.{get_or-set_same, length_push}
+use Rattle.std.proofs.lemmas.List.Sums.{fold_push}
+use Rattle.std.proofs.Math.Nat.{add-mod-mod}
+use Rattle.wq_words.specs.declared.event.Event.TheVariants.{Take, Close, Begin, End, Chain, ChainBusy}
+use Rattle.wq_words.specs.Numbers.{number_count}
+use Rattle.wq_words.specs.Head.{head_word}
+use Rattle.wq_words.specs.History.{accepted, begun, ended, ended_by, closed, is_close, IsClosed, IsRunning, running}
+use Rattle.wq_words.specs.Listed.{listed_after, listed}
+use Rattle.wq_words.specs.Keeper.{Keeper, Home, Sender, Listed, Owner, taken_over, keeper}
+use Rattle.wq_words.proofs.Growing.{growing, count_by_push, filter_map_push_some, slice_get_append}
+use Rattle.wq_words.proofs.Order.{in_order}
+use Rattle.wq_words.proofs.Legal.{legal_push}
+use Rattle.wq_words.proofs.Listed.{listed-closed}
+use Rattle.wq_words.proofs.Closed.{closed_from_open, closed_push_no}
+use Rattle.wq_words.proofs.Keepers.{pending_bit}
+use Rattle.wq_core.specs.Words.{item_place, done_place, head_place, closed_word, number_at}
+use Rattle.wq_core.specs.Machine.{Machine, head, link, item_word, done_word, with_head, with_item, with_done, happened}
+use Rattle.wq_core.specs.Sound.{head_of, AreChained, IsSound}
+use Rattle.wq_core.proofs.Chains.{chained_take, chained_begin, chained_walk_on, chained_walk_end, chained_chain, cursor_number}
+use Rattle.wq_core.proofs.Privates.{gives_begin, gives_chain, follow_give, follow_quiet, linked_quiet, linked_spares, seen_after}
+use Rattle.wq_core.proofs.Writes.{head_of-item, done_of-item, chains_of-item, linked_of-item, done_of-head, items_of-head, chains_of-head, linked_of-head, head_of-done, items_of-done, chains_of-done, linked_of-done}
+use Rattle.wq_core.proofs.Heads.{head_of_closed, head_of_quiet, ended_quiet, head_open}
+use Rattle.wq_core.proofs.KeptSound.{accepted_number, by_keepers, from_keepers, home_from_clear, idle_from_home, pending_from_set, away_from_sender, sound_quiet}
+
+module _ (m : Machine) (o : IsSound m) where
+  -- no sender's number changes its keeper where the list goes to the owner
+  taken_bit : (x : Keeper) → pending_bit (taken_over x) ≡ pending_bit x
+  taken_bit Home = refl
+  taken_bit (Sender s) = refl
+  taken_bit Listed = refl
+  taken_bit Owner = refl
+
+  pub sound_take : ¬ IsClosed m.history → m.cursor ≡ None → m.batch ≡ [] → IsSound (happened (record (with_head m 0) { cursor = number_at (head m) }) Take)
+  sound_take unclosed still empty =
+      let b = by_keepers m o in
+      let n : ℕ = number_count m.layout in
+      let a = rw still at o.chains in
+      let walked : m.walked ≡ [] = a.rested refl in
+      let c = chained_take n m.words m.walked m.batch _ _ _ (head m) (head_open m o unclosed) a in
+      let list : listed (m.history ++ Take ∷ []) ≡ [] = fold_push listed_after [] m.history Take in
+      let opened : closed (m.history ++ Take ∷ []) ≡ false = closed_push_no m.history Take refl ∙ closed_from_open m.history unclosed in
+      let now : head_word (head_of (m.history ++ Take ∷ [])) ≡ 0 = rw (opened, list) refl in
+      from_keepers (happened (record (with_head m 0) { cursor = number_at (head m) }) Take) (record {
+        has_words = length-set m.words head_place 0 ∙ o.has_words;
+        has_seats = o.has_seats;
+        legal = legal_push m.layout m.history Take o.legal (tt, tt, unclosed);
+        head_is = get_or-set_same m.words head_place 0 0 (omega (arith, o.has_words)) ∙ sym now;
+        items_are = follow_quiet pending_bit 0 (item_place n) n _ m.history Take (λ j x. taken_bit x) (items_of-head n m.words 0 m.history b.items_are);
+        done_is = done_of-head n m.words 0 ∙ o.done_is ∙ ap (λ z. z % 2 ^ 64) (sym (ended_quiet m.history Take refl));
+        chains = simp growing (rw walked (chains_of-head n m.words 0 _ _ _ _ _ _ c));
+        linked = linked_quiet n _ m.seats m.history Take (λ j s. refl) (linked_of-head n m.words 0 m.seats m.history b.linked);
+        seen = seen_after m.seats m.history Take o.seen;
+      })
+
+  pub sound_close : ¬ IsClosed m.history → m.cursor ≡ None → IsSound (happened (record (with_head m closed_word) { cursor = number_at (head m) }) Close)
+  sound_close unclosed still =
+      let b = by_keepers m o in
+      let n : ℕ = number_count m.layout in
+      let a = rw still at o.chains in
+      let walked : m.walked ≡ [] = a.rested refl in
+      let c = chained_take n m.words m.walked m.batch _ _ _ (head m) (head_open m o unclosed) a in
+      let is : IsClosed (m.history ++ Close ∷ []) = omega (arith, count_by_push is_close m.history Close) in
+      from_keepers (happened (record (with_head m closed_word) { cursor = number_at (head m) }) Close) (record {
+        has_words = length-set m.words head_place closed_word ∙ o.has_words;
+        has_seats = o.has_seats;
+        legal = legal_push m.layout m.history Close o.legal (tt, tt, unclosed);
+        head_is = get_or-set_same m.words head_place closed_word 0 (omega (arith, o.has_words)) ∙ sym (head_of_closed (m.history ++ Close ∷ []) is);
+        items_are = follow_quiet pending_bit 0 (item_place n) n _ m.history Close (λ j x. taken_bit x) (items_of-head n m.words closed_word m.history b.items_are);
+        done_is = done_of-head n m.words closed_word ∙ o.done_is ∙ ap (λ z. z % 2 ^ 64) (sym (ended_quiet m.history Close refl));
+        chains = simp growing (rw walked (chains_of-head n m.words closed_word _ _ _ _ _ _ c));
+        linked = linked_quiet n _ m.seats m.history Close (λ j s. refl) (linked_of-head n m.words closed_word m.seats m.history b.linked);
+        seen = seen_after m.seats m.history Close o.seen;
+      })
+
+  -- the owner's own lists change, and nothing happens
+  pub sound_owner : (cursor : Option ℕ) (walked batch : List ℕ) → AreChained (number_count m.layout) m.words cursor walked batch (accepted m.history) (begun m.history) (listed m.history)
+      → IsSound (record m { cursor = cursor; walked = walked; batch = batch })
+  sound_owner cursor walked batch a = record {
+    has_words = o.has_words;
+    has_seats = o.has_seats;
+    legal = o.legal;
+    head_is = o.head_is;
+    items_are = o.items_are;
+    done_is = o.done_is;
+    chains = a;
+    linked = o.linked;
+    seen = o.seen;
+  }
+
+  pub sound_walk_end : (k : ℕ) → m.cursor ≡ Some k → link m k ≡ 0 → IsSound (record m { cursor = None; walked = []; batch = m.batch ++ k ∷ m.walked })
+  sound_walk_end k on is = sound_owner None [] (m.batch ++ k ∷ m.walked) (chained_walk_end (number_count m.layout) m.words k m.walked m.batch _ _ _ is (rw on at o.chains))
+
+  pub sound_walk_on : (k : ℕ) → m.cursor ≡ Some k → link m k ≢ 0 → IsSound (record m { cursor = number_at (link m k); walked = k ∷ m.walked })
+  sound_walk_on k on more = sound_owner (number_at (link m k)) (k ∷ m.walked) m.batch (chained_walk_on (number_count m.layout) m.words k m.walked m.batch _ _ _ more (rw on at o.chains))
+
+  -- the number at the cursor is one of the queue's
+  pub cursor_is : (k : ℕ) → m.cursor ≡ Some k → k < number_count m.layout
+  cursor_is k on = cursor_number (number_count m.layout) m.words k m.walked m.batch _ _ _ (rw on at o.chains)
+
+  -- the first of the batch is the next number to begin, and no sender keeps it
+  pub first_of_batch : (k : ℕ) (rest : List ℕ) → m.cursor ≡ None → m.batch ≡ k ∷ rest → (k < number_count m.layout) × (slice_get (accepted m.history) (length (begun m.history)) ≡ Some k) × ((s : ℕ) → keeper m.history k ≡ Sender s → ⊥)
+  first_of_batch k rest still first =
+      let b = chained_begin (number_count m.layout) m.words m.walked rest _ _ _ k (rw (still, first) at o.chains) in
+      (accepted_number m.layout m.history o.legal (length (begun m.history)) k b.1, b.1, λ s mine. omega (arith, away_from_sender m o s k mine, b.2))
+
+  pub sound_begin : (k : ℕ) (rest : List ℕ) → m.cursor ≡ None → m.batch ≡ k ∷ rest → ¬ IsRunning m.history
+      → IsSound (happened (record (with_item m k 0) { batch = rest }) (Begin k))
+  sound_begin k rest still first idle =
+      let b = by_keepers m o in
+      let n : ℕ = number_count m.layout in
+      let c = chained_begin n m.words m.walked rest _ _ _ k (rw (still, first) at o.chains) in
+      let f = first_of_batch k rest still first in
+      let number = f.0 in
+      from_keepers (happened (record (with_item m k 0) { batch = rest }) (Begin k)) (record {
+        has_words = length-set m.words (item_place n k) 0 ∙ o.has_words;
+        has_seats = o.has_seats;
+        legal = legal_push m.layout m.history (Begin k) o.legal (tt, number, (idle, f.1));
+        head_is = head_of-item n m.words 0 k number ∙ o.head_is ∙ ap head_word (sym (head_of_quiet m.history (Begin k) refl refl));
+        items_are = follow_give pending_bit 0 (item_place n) n m.words m.history (Begin k) k Home (λ j e. omega (arith, e)) (omega (arith, o.has_words, number)) (gives_begin k) b.items_are;
+        done_is = done_of-item n m.words 0 k number ∙ o.done_is ∙ ap (λ z. z % 2 ^ 64) (sym (ended_quiet m.history (Begin k) refl));
+        chains = simp growing (rw still (chains_of-item n m.words 0 k number _ _ _ _ _ _ c.0));
+        linked = linked_spares n _ m.seats m.history (Begin k) k (gives_begin k).0 f.2 (linked_of-item n m.words 0 k number m.seats m.history b.linked);
+        seen = seen_after m.seats m.history (Begin k) o.seen;
+      })
+
+  pub sound_end : (k : ℕ) → running m.history ≡ Some k → IsSound (happened (with_done m ((done_word m + 1) % 2 ^ 64)) (End k))
+  sound_end k runs =
+      let b = by_keepers m o in
+      let n : ℕ = number_count m.layout in
+      let v : ℕ = (done_word m + 1) % 2 ^ 64 in
+      let front = (in_order m.layout m.history o.legal).begun_first in
+      let number = accepted_number m.layout m.history o.legal (length (ended m.history)) k (rw (← front.1) (slice_get_append (begun m.history) front.0 (length (ended m.history)) k runs)) in
+      let more : length (ended (m.history ++ End k ∷ [])) ≡ length (ended m.history) + 1 = ap length (filter_map_push_some ended_by m.history (End k) k refl) ∙ length_push (ended m.history) k in
+      let count : v ≡ length (ended (m.history ++ End k ∷ [])) % 2 ^ 64 =
+      ap (λ z. (z + 1) % 2 ^ 64) o.done_is ∙ ap (λ z. z % 2 ^ 64) (omega arith) ∙ add-mod-mod 1 (length (ended m.history)) (2 ^ 64) ∙ ap (λ z. z % 2 ^ 64) (omega (arith, more)) in
+      from_keepers (happened (with_done m v) (End k)) (record {
+        has_words = length-set m.words (done_place n) v ∙ o.has_words;
+        has_seats = o.has_seats;
+        legal = legal_push m.layout m.history (End k) o.legal (tt, number, runs);
+        head_is = head_of-done n m.words v ∙ o.head_is ∙ ap head_word (sym (head_of_quiet m.history (End k) refl refl));
+        items_are = follow_quiet pending_bit 0 (item_place n) n _ m.history (End k) (λ j x. refl) (items_of-done n m.words v m.history b.items_are);
+        done_is = get_or-set_same m.words (done_place n) v 0 (omega (arith, o.has_words)) ∙ count;
+        chains = simp growing (chains_of-done n m.words v _ _ _ _ _ _ o.chains);
+        linked = linked_quiet n _ m.seats m.history (End k) (λ j s. refl) (linked_of-done n m.words v m.seats m.history b.linked);
+        seen = seen_after m.seats m.history (End k) o.seen;
+      })
+
+  pub sound_chain : (k : ℕ) → k < m.layout.items → IsClosed m.history → m.cursor ≡ None → IsRunning m.history → item_word m k ≡ 0
+      → IsSound (happened (record (with_item m k 1) { batch = m.batch ++ k ∷ [] }) (Chain k))
+  sound_chain k item is still runs clear =
+      let b = by_keepers m o in
+      let n : ℕ = number_count m.layout in
+      let number : k < n = omega (arith, item) in
+      let home = home_from_clear m o k number clear in
+      let a = rw still at o.chains in
+      let walked : m.walked ≡ [] = a.rested refl in
+      let none : listed m.history ≡ [] = listed-closed m.layout m.history o.legal is in
+      let c = chained_chain n m.words m.batch _ _ k (rw (walked, none) at a) in
+      from_keepers (happened (record (with_item m k 1) { batch = m.batch ++ k ∷ [] }) (Chain k)) (record {
+        has_words = length-set m.words (item_place n k) 1 ∙ o.has_words;
+        has_seats = o.has_seats;
+        legal = legal_push m.layout m.history (Chain k) o.legal (tt, item, (is, runs, idle_from_home m o k home));
+        head_is = head_of-item n m.words 1 k number ∙ o.head_is ∙ ap head_word (sym (head_of_quiet m.history (Chain k) refl refl));
+        items_are = follow_give pending_bit 0 (item_place n) n m.words m.history (Chain k) k Owner (λ j e. omega (arith, e)) (omega (arith, o.has_words, number)) (gives_chain k) b.items_are;
+        done_is = done_of-item n m.words 1 k number ∙ o.done_is ∙ ap (λ z. z % 2 ^ 64) (sym (ended_quiet m.history (Chain k) refl));
+        chains = simp growing (rw (still, walked, none) (chains_of-item n m.words 1 k number _ _ _ _ _ _ c));
+        linked = linked_spares n _ m.seats m.history (Chain k) k (gives_chain k).0 (λ s mine. cc (home, mine)) (linked_of-item n m.words 1 k number m.seats m.history b.linked);
+        seen = seen_after m.seats m.history (Chain k) o.seen;
+      })
+
+  pub sound_chain_busy : (k : ℕ) → k < m.layout.items → IsClosed m.history → IsRunning m.history → item_word m k ≢ 0 → IsSound (happened m (ChainBusy k))
+  sound_chain_busy k item is runs set' =
+      sound_quiet m o (ChainBusy k) (tt, item, (is, runs, pending_from_set m o k (omega (arith, item)) set')) (λ j x. refl) refl refl refl (λ ks. refl) refl

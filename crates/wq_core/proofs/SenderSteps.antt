@@ -1,0 +1,134 @@
+-- Each of a sender's steps keeps what is sound: one lemma a step.
+use Rattle.std.proofs.Common.{◌≡◌, ◌≢◌, ℕ, ◌+◌, ◌%◌, ◌^◌, ◌<◌, false, [], ◌∷◌, ◌++◌, length, None, Some, refl, sym, ap, ◌∙◌, arith, length-set, unwrap_or}
+use Rattle.std.proofs.lemmas.List.{get_or-set_same}
+use Rattle.std.proofs.lemmas.List.Sums.{fold_push}
+use Rattle.wq_words.specs.declared.event.Why.{Why}
+use Rattle.wq_words.specs.declared.event.Why.TheVariants.{Closed}
+use Rattle.wq_words.specs.declared.event.Event.TheVariants.{Hold, Busy, Push, Back}
+use Rattle.wq_words.specs.Numbers.{number_count}
+use Rattle.wq_words.specs.Head.{head_word}
+use Rattle.wq_words.specs.History.{closed, Holds, IsClosed}
+use Rattle.wq_words.specs.Listed.{listed_after, listed}
+use Rattle.wq_words.specs.Keeper.{Home, Sender, Listed}
+use Rattle.wq_words.proofs.Growing.{growing}
+use Rattle.wq_words.proofs.Legal.{legal_push}
+use Rattle.wq_words.proofs.Closed.{closed_from_open, closed_push_no}
+use Rattle.wq_words.proofs.Keepers.{pending_bit}
+use Rattle.wq_core.specs.Words.{link_place, item_place, head_place, closed_word}
+use Rattle.wq_core.specs.declared.step.Private.{Private}
+use Rattle.wq_core.specs.Machine.{Machine, nothing_seen, head, link, item_word, private, seen_word, with_head, with_link, with_item, with_private, happened, unlinked}
+use Rattle.wq_core.specs.Sound.{head_of, IsSound}
+use Rattle.wq_core.proofs.Chains.{chained_set, chained_push}
+use Rattle.wq_core.proofs.Privates.{gives_hold, gives_push, gives_back, follow_give, follow_same, linked_spares, linked_give, keeps_unlinked, linked_link, linked_forget, seen_after, seen_set}
+use Rattle.wq_core.proofs.Writes.{head_of-item, done_of-item, chains_of-item, linked_of-item, done_of-head, items_of-head, chains_of-head, linked_of-head, head_of-link, done_of-link, items_of-link}
+use Rattle.wq_core.proofs.Heads.{head_of_closed, head_of_quiet, ended_quiet, closed_from_head, head_open}
+use Rattle.wq_core.proofs.KeptSound.{by_keepers, from_keepers, home_from_clear, idle_from_home, pending_from_set, sender_from_holds, away_from_sender, sound_quiet}
+
+module _ (m : Machine) (o : IsSound m) where
+  pub sound_hold : (s k : ℕ) → s < m.layout.senders → k < number_count m.layout → item_word m k ≡ 0 → IsSound (happened (with_item m k 1) (Hold s k))
+  sound_hold s k seat number clear =
+      let b = by_keepers m o in
+      let home = home_from_clear m o k number clear in
+      let n : ℕ = number_count m.layout in
+      from_keepers (happened (with_item m k 1) (Hold s k)) (record {
+        has_words = length-set m.words (item_place n k) 1 ∙ o.has_words;
+        has_seats = o.has_seats;
+        legal = legal_push m.layout m.history (Hold s k) o.legal (seat, number, idle_from_home m o k home);
+        head_is = head_of-item n m.words 1 k number ∙ o.head_is ∙ ap head_word (sym (head_of_quiet m.history (Hold s k) refl refl));
+        items_are = follow_give pending_bit 0 (item_place n) n m.words m.history (Hold s k) k (Sender s) (λ j e. omega (arith, e)) (omega (arith, o.has_words, number)) (gives_hold s k) b.items_are;
+        done_is = done_of-item n m.words 1 k number ∙ o.done_is ∙ ap (λ z. z % 2 ^ 64) (sym (ended_quiet m.history (Hold s k) refl));
+        chains = simp growing (chains_of-item n m.words 1 k number _ _ _ _ _ _ o.chains);
+        linked = linked_spares n _ m.seats m.history (Hold s k) k (gives_hold s k).0 (λ t mine. cc (home, mine)) (linked_of-item n m.words 1 k number m.seats m.history b.linked);
+        seen = seen_after m.seats m.history (Hold s k) o.seen;
+      })
+
+  pub sound_busy : (s k : ℕ) → s < m.layout.senders → k < number_count m.layout → item_word m k ≢ 0 → IsSound (happened m (Busy s k))
+  sound_busy s k seat number set' =
+      sound_quiet m o (Busy s k) (seat, number, pending_from_set m o k number set') (λ j x. refl) refl refl refl (λ ks. refl) refl
+
+  -- a sender keeps other things in private, and has linked nothing
+  sound_private : (s : ℕ) (p : Private) → s < m.layout.senders → p.linked ≡ None → (p.seen ≡ Some closed_word → IsClosed m.history) → IsSound (with_private m s p)
+  sound_private s p seat none sees =
+      let b = by_keepers m o in
+      let in' : s < length m.seats = omega (arith, o.has_seats, seat) in
+      from_keepers (with_private m s p) (record {
+        has_words = o.has_words;
+        has_seats = length-set m.seats s p ∙ o.has_seats;
+        legal = o.legal;
+        head_is = o.head_is;
+        items_are = b.items_are;
+        done_is = o.done_is;
+        chains = o.chains;
+        linked = linked_forget _ m.words m.seats m.history s p in' none b.linked;
+        seen = seen_set m.seats m.history s p in' sees o.seen;
+      })
+
+  pub sound_look : (s : ℕ) → s < m.layout.senders → IsSound (with_private m s (record { seen = Some (head m); linked = None }))
+  sound_look s seat = sound_private s (record { seen = Some (head m); linked = None }) seat refl (λ is. closed_from_head m o (cc is))
+
+  pub sound_lost : (s : ℕ) → s < m.layout.senders → IsSound (with_private m s nothing_seen)
+  sound_lost s seat = sound_private s nothing_seen seat refl (λ is. absurd (cc is))
+
+  pub sound_link : (s k w : ℕ) → s < m.layout.senders → k < number_count m.layout → Holds m.history s k → (private m s).seen ≡ Some w → w ≢ closed_word
+      → IsSound (with_private (with_link m k w) s (record (private m s) { linked = Some k }))
+  sound_link s k w seat number holds sees unclosed =
+      let b = by_keepers m o in
+      let n : ℕ = number_count m.layout in
+      let in' : s < length m.seats = omega (arith, o.has_seats, seat) in
+      let mine = sender_from_holds m o s k holds in
+      let away = away_from_sender m o s k mine in
+      from_keepers (with_private (with_link m k w) s (record (private m s) { linked = Some k })) (record {
+        has_words = length-set m.words (link_place k) w ∙ o.has_words;
+        has_seats = length-set m.seats s _ ∙ o.has_seats;
+        legal = o.legal;
+        head_is = head_of-link n m.words w k number ∙ o.head_is;
+        items_are = items_of-link n m.words w k number m.history b.items_are;
+        done_is = done_of-link n m.words w k number ∙ o.done_is;
+        chains = chained_set n m.words _ _ _ _ _ _ (link_place k) w (λ j lt more e. (let same : j ≡ k = omega (arith, e) in omega (arith, rw same at more, away))) o.chains;
+        linked = linked_link n m.words m.seats m.history s k w in' number (omega (arith, o.has_words, number)) mine sees unclosed b.linked;
+        seen = seen_set m.seats m.history s _ in' (λ is. o.seen s is) o.seen;
+      })
+
+  pub sound_push : (s k : ℕ) → s < m.layout.senders → k < number_count m.layout → (private m s).linked ≡ Some k → head m ≡ seen_word m s
+      → IsSound (happened (with_private (with_head m (k + 1)) s nothing_seen) (Push s k))
+  sound_push s k seat number linked won =
+      let b = by_keepers m o in
+      let n : ℕ = number_count m.layout in
+      let in' : s < length m.seats = omega (arith, o.has_seats, seat) in
+      let l = b.linked s k linked in
+      let spelled : head m ≡ link m k = won ∙ ap (λ v. unwrap_or v 0) l.2 in
+      let not_closed : ¬ IsClosed m.history = λ c. l.3 (sym spelled ∙ o.head_is ∙ head_of_closed m.history c) in
+      let holds : Holds m.history s k = (o.linked s k linked).1 in
+      let list : listed (m.history ++ Push s k ∷ []) ≡ k ∷ listed m.history = fold_push listed_after [] m.history (Push s k) in
+      let opened : closed (m.history ++ Push s k ∷ []) ≡ false = closed_push_no m.history (Push s k) refl ∙ closed_from_open m.history not_closed in
+      let now : head_word (head_of (m.history ++ Push s k ∷ [])) ≡ k + 1 = rw (opened, list) refl in
+      from_keepers (happened (with_private (with_head m (k + 1)) s nothing_seen) (Push s k)) (record {
+        has_words = length-set m.words head_place (k + 1) ∙ o.has_words;
+        has_seats = length-set m.seats s _ ∙ o.has_seats;
+        legal = legal_push m.layout m.history (Push s k) o.legal (seat, number, (holds, not_closed));
+        head_is = get_or-set_same m.words head_place (k + 1) 0 (omega (arith, o.has_words)) ∙ sym now;
+        items_are = follow_same pending_bit 0 (item_place n) n _ m.history (Push s k) k Listed (gives_push s k) (rw l.1 refl) (items_of-head n m.words (k + 1) m.history b.items_are);
+        done_is = done_of-head n m.words (k + 1) ∙ o.done_is ∙ ap (λ z. z % 2 ^ 64) (sym (ended_quiet m.history (Push s k) refl));
+        chains = simp growing (chains_of-head n m.words (k + 1) _ _ _ _ _ _ (chained_push n m.words _ _ _ _ _ _ k number (sym spelled ∙ head_open m o not_closed) o.chains));
+        linked = linked_give n _ m.seats m.history (Push s k) s k nothing_seen in' (gives_push s k).0 l.1 (λ j e. absurd (cc e)) (linked_of-head n m.words (k + 1) m.seats m.history b.linked);
+        seen = seen_after _ m.history (Push s k) (seen_set m.seats m.history s nothing_seen in' (λ is. absurd (cc is)) o.seen);
+      })
+
+  pub sound_back : (s k : ℕ) (why : Why) → s < m.layout.senders → k < number_count m.layout → Holds m.history s k → (why ≡ Closed → (private m s).seen ≡ Some closed_word)
+      → IsSound (happened (with_private (with_item m k 0) s (unlinked (private m s) k)) (Back s k why))
+  sound_back s k why seat number holds sees =
+      let b = by_keepers m o in
+      let n : ℕ = number_count m.layout in
+      let in' : s < length m.seats = omega (arith, o.has_seats, seat) in
+      let mine = sender_from_holds m o s k holds in
+      from_keepers (happened (with_private (with_item m k 0) s (unlinked (private m s) k)) (Back s k why)) (record {
+        has_words = length-set m.words (item_place n k) 0 ∙ o.has_words;
+        has_seats = length-set m.seats s _ ∙ o.has_seats;
+        legal = legal_push m.layout m.history (Back s k why) o.legal (seat, number, (holds, λ e. o.seen s (sees e)));
+        head_is = head_of-item n m.words 0 k number ∙ o.head_is ∙ ap head_word (sym (head_of_quiet m.history (Back s k why) refl refl));
+        items_are = follow_give pending_bit 0 (item_place n) n m.words m.history (Back s k why) k Home (λ j e. omega (arith, e)) (omega (arith, o.has_words, number)) (gives_back s k why) b.items_are;
+        done_is = done_of-item n m.words 0 k number ∙ o.done_is ∙ ap (λ z. z % 2 ^ 64) (sym (ended_quiet m.history (Back s k why) refl));
+        chains = simp growing (chains_of-item n m.words 0 k number _ _ _ _ _ _ o.chains);
+        linked = linked_give n _ m.seats m.history (Back s k why) s k _ in' (gives_back s k why).0 mine (keeps_unlinked (private m s) k) (linked_of-item n m.words 0 k number m.seats m.history b.linked);
+        seen = seen_after _ m.history (Back s k why) (seen_set m.seats m.history s _ in' (λ is. o.seen s is) o.seen);
+      })
