@@ -18,7 +18,7 @@ use Rattle.wq_table.specs.declared.table.Stage.TheVariants as stage
 use Rattle.wq_words.specs.Seen.{owner_seat}
 use Rattle.wq_live.specs.Known.{new_owner, new_sender, new_senders}
 use Rattle.wq_live.specs.Counts.{sender_counts, owner_counts}
-use Rattle.wq_live.specs.Sits.{sender_view, owner_view, Sends, Stands, Executes}
+use Rattle.wq_live.specs.Sits.{sender_view, owner_view, Sends, Stands, OwnsQueue}
 
 pub length-sender_chairs : (q : TableId) (l : Layout) (n : ℕ) → length (sender_chairs q l n) ≡ n
 length-sender_chairs q l zero = refl
@@ -59,7 +59,7 @@ stands_new l p is = subst (λ (x : Standing). Stands x.part) (sym is) record {
 
 -- the owner of a new queue
 pub executes_new : (s : owner.Inside) → s.chair ≡ owner_chair s.chair.queue s.layout → s.batch.items ≡ [] → s.batch.chained ≡ [] → number_count s.layout ≤ s.batch.room
-    → s.running ≡ None → s.closed ≡ false → s.counts ≡ record { chained = 0; chain_busy = 0; ended = 0 } → Executes s
+    → s.running ≡ None → s.closed ≡ false → s.counts ≡ record { chained = 0; chain_busy = 0; ended = 0 } → OwnsQueue s
 executes_new s is batch none room runs shut counts = let seen : s.chair.part.seen ≡ [] = ap (λ (x : Standing). x.part.seen) is in record {
   layout_is = ap (λ (x : Standing). x.part.layout) is;
   number_is = ap (λ (x : Standing). x.part.seat) is;

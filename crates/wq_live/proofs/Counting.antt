@@ -9,27 +9,9 @@ use Rattle.wq_words.proofs.Growing.{count_by_push}
 use Rattle.wq_words.specs.Seen.{seat_of, Grows}
 use Rattle.wq_words.proofs.Seen.{count_own}
 use Rattle.wq_live.specs.declared.counts.SenderCounts.{SenderCounts}
-use Rattle.wq_live.specs.Counts.{capped, is_queued_by, is_pending_by, is_closed_by, is_contended_by, sender_counts}
-
-queued_own : (s : ℕ) (e : Event) → eqb (seat_of e) s ≡ false → is_queued_by s e ≡ false
-queued_own s (Push t k) is = is
-queued_own s _ is = refl
-
-pending_own : (s : ℕ) (e : Event) → eqb (seat_of e) s ≡ false → is_pending_by s e ≡ false
-pending_own s (Busy t k) is = is
-pending_own s _ is = refl
-
-closed_own : (s : ℕ) (e : Event) → eqb (seat_of e) s ≡ false → is_closed_by s e ≡ false
-closed_own s (Back t k Closed) is = is
-closed_own s (Back t k Contended) is = refl
-closed_own s (Back t k Cancelled) is = refl
-closed_own s _ is = refl
-
-contended_own : (s : ℕ) (e : Event) → eqb (seat_of e) s ≡ false → is_contended_by s e ≡ false
-contended_own s (Back t k Closed) is = refl
-contended_own s (Back t k Contended) is = is
-contended_own s (Back t k Cancelled) is = refl
-contended_own s _ is = refl
+use Rattle.wq_words.specs.Counting.{is_queued_by, is_pending_by, is_closed_by, is_contended_by}
+use Rattle.wq_words.proofs.Counting.{queued_own, pending_own, closed_own, contended_own}
+use Rattle.wq_live.specs.Counts.{capped, sender_counts}
 
 -- a count of own events goes on by the own events that came new
 pub count_on : (p : Event → Bool) (s : ℕ) → ((e : Event) → eqb (seat_of e) s ≡ false → p e ≡ false) → (xs : List Event) (n : ℕ) (v w : List Event) → Grows s xs n v w → count_by p w ≡ count_by p v + count_by p xs

@@ -12,12 +12,12 @@ use Rattle.wq_words.specs.History.{accepted, accepted_by, begun, begun_by, ended
 use Rattle.wq_words.specs.Listed.{listed}
 use Rattle.wq_words.specs.Legal.{MayFollow, IsLegal, IsComplete}
 use Rattle.wq_words.proofs.Legal.{legal_front, legal_next}
-use Rattle.wq_words.proofs.Order.{in_order}
 use Rattle.wq_words.proofs.Prefixes.{prefix_length}
+use Rattle.wq_words.proofs.Order.{in_order}
 use Rattle.wq_words.proofs.Listed.{listed-closed}
 use Rattle.wq_table.specs.declared.table.Part.{Part}
 use Rattle.wq_table.specs.declared.table.Stage.TheVariants.{Owns}
-use Rattle.wq_table.specs.Law.{Keeps}
+use Rattle.wq_table.specs.Law.{HasStage}
 use Rattle.std.specs.Option.{is_some}
 use Rattle.std.proofs.lemmas.Bool.{false≢true}
 use Rattle.std.proofs.lemmas.Option.{slice_get_within}
@@ -26,8 +26,8 @@ use Rattle.wq_words.proofs.Running.{runs_some}
 use Rattle.wq_live.specs.declared.owner.Owner.TheInside.{Inside}
 use Rattle.wq_live.specs.Known.{Known}
 use Rattle.wq_live.specs.Answers.{IsFinal}
-use Rattle.wq_live.proofs.Executes.{stands_legal}
-use Rattle.wq_live.specs.Sits.{owner_view, Stands, Executes}
+use Rattle.wq_live.proofs.OwnerTells.{stands_legal}
+use Rattle.wq_live.specs.Sits.{owner_view, Stands, OwnsQueue}
 use Rattle.wq_live.proofs.Taken.{rested_lengths}
 
 -- nothing is accepted, begins or ends by the event
@@ -97,7 +97,7 @@ complete_none layout h ks legal sum complete =
 -- what the owner knows of the lengths
 pub stands_lengths : (p : Part) (ks : List ℕ) → Stands p → p.stage ≡ Owns None [] ks → length (accepted p.seen) ≡ length (begun p.seen) + length ks + length (listed p.seen)
 stands_lengths p ks stands is =
-    let m = stands.machine in let keeps : Keeps m p.seat (Owns None [] ks) = subst (Keeps m p.seat) is stands.fits.keeps in
+    let m = stands.machine in let keeps : HasStage m p.seat (Owns None [] ks) = subst (HasStage m p.seat) is stands.fits.keeps in
     let same = ap (λ (x : List ℕ). length x) keeps.3 in let sum = rested_lengths m stands.sound keeps.1 in
     let whole : length (accepted m.history) ≡ length (begun m.history) + length ks + length (listed m.history) = omega arith in
     subst (λ (h : List Event). length (accepted h) ≡ length (begun h) + length ks + length (listed h)) (sym stands.seen_is) whole
@@ -118,13 +118,13 @@ none_length [] none = refl
 none_length (x ∷ xs) none = absurd (omega arith)
 
 -- an owner that knows its queue closed, with nothing that waits or runs
-pub owner_complete : (s : Inside) (now : Known) → owner_view s ≡ now → Executes s → s.closed ≡ true → length s.batch.items ≡ 0 → is_some s.running ≡ false → IsComplete now.seen
+pub owner_complete : (s : Inside) (now : Known) → owner_view s ≡ now → OwnsQueue s → s.closed ≡ true → length s.batch.items ≡ 0 → is_some s.running ≡ false → IsComplete now.seen
 owner_complete s now view o shut none idle = let p = s.chair.part in
     subst (λ (v : Known). IsComplete v.seen) view
     (complete_rested p.layout p.seen s.batch.items (stands_legal p o.stands) (IsClosed_from_closed p.seen (sym o.closed_is ∙ shut)) (stands_lengths p s.batch.items o.stands o.stage_is) (none_length s.batch.items none) (running_none p.seen (ap is_some (sym o.running_is) ∙ idle)))
 
 -- and one that has run to the end knows it
-pub owner_rested : (s : Inside) (now : Known) → owner_view s ≡ now → Executes s → IsComplete now.seen → (s.closed ≡ true) × (length s.batch.items ≡ 0) × (is_some s.running ≡ false)
+pub owner_rested : (s : Inside) (now : Known) → owner_view s ≡ now → OwnsQueue s → IsComplete now.seen → (s.closed ≡ true) × (length s.batch.items ≡ 0) × (is_some s.running ≡ false)
 owner_rested s now view o complete = let p = s.chair.part in let known : IsComplete p.seen = subst (λ (v : Known). IsComplete v.seen) (sym view) complete in
     let rest = complete_none p.layout p.seen s.batch.items (stands_legal p o.stands) (stands_lengths p s.batch.items o.stands o.stage_is) known in
     (o.closed_is ∙ closed_from_IsClosed p.seen known.0, rest.0, is_false (is_some s.running) (λ some. rest.1 (running_some p.seen (running p.seen) refl (ap is_some (sym o.running_is) ∙ some))))

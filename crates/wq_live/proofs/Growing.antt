@@ -17,10 +17,6 @@ grows_done c v h xs begins mine all = record {
   theirs = omega arith;
 }
 
--- where nothing happened nothing comes new
-pub grows_none : (c : ℕ) (v : List Event) → Grows c [] 0 v v
-grows_none c v = record { new = []; is = sym (append-nil v); mine = refl; theirs = omega arith }
-
 pub grows_on : (c : ℕ) (xs ys : List Event) (n m k : ℕ) (u v w : List Event) → k ≤ n + m → Grows c xs n u v → Grows c ys m v w → Grows c (xs ++ ys) k u w
 grows_on c xs ys n m k u v w sum a b =
     let cut = others-append c a.new b.new in let a3 = a.theirs in let b3 = b.theirs in record {

@@ -6,7 +6,7 @@ pub mod Flushed
 pub mod Waiting
 pub mod Row
 pub mod Owned
-pub mod Executes
+pub mod OwnerTells
 pub mod Taken
 pub mod Taking
 pub mod Meeting

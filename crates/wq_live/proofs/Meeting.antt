@@ -3,18 +3,18 @@ use Rattle.std.proofs.Common.{◌≡◌, [], sym, refl, ap, ◌∙◌, subst}
 use Rattle.wq_core.specs.Machine.{Machine}
 use Rattle.wq_core.specs.Sound.{IsSound}
 use Rattle.wq_table.specs.declared.table.Part.{Part}
-use Rattle.wq_table.specs.Law.{part, Fits}
+use Rattle.wq_table.specs.Law.{part, IsPartOf}
 use Rattle.wq_table.specs.Chair.{Standing}
-use Rattle.wq_words.proofs.Prefixes.{prefix_self}
+use Rattle.wq_words.proofs.Seen.{prefix_self}
 use Rattle.wq_live.specs.declared.owner.Owner.TheInside.{Inside}
 use Rattle.wq_live.specs.declared.sender.Sender.TheInside as sender
 use Rattle.wq_live.specs.Known.{Known, Sees}
-use Rattle.wq_live.specs.Sits.{owner_view, sender_view, Sends, Stands, Executes}
+use Rattle.wq_live.specs.Sits.{owner_view, sender_view, Sends, Stands, OwnsQueue}
 use Rattle.wq_live.proofs.Tells.{Tells, meet_tells}
 use Rattle.wq_live.proofs.Owned.{running_quiet, closed_quiet, counts_quiet}
-use Rattle.wq_live.proofs.Executes.{owner_grows, owner_sees}
+use Rattle.wq_live.proofs.OwnerTells.{owner_grows, owner_sees}
 
-meet_stands : (m : Machine) (p q : Part) → IsSound m → Fits m p → q ≡ part p.seat p.layout m.history p.stage → Stands q
+meet_stands : (m : Machine) (p q : Part) → IsSound m → IsPartOf m p → q ≡ part p.seat p.layout m.history p.stage → Stands q
 meet_stands m p q sound f is = subst Stands (sym is) record {
   machine = m;
   sound = sound;
@@ -22,14 +22,14 @@ meet_stands m p q sound f is = subst Stands (sym is) record {
   seen_is = refl;
 }
 
-module _ (s : Inside) (q : Standing) (m : Machine) (sound : IsSound m) (f : Fits m s.chair.part) (is : q ≡ record { queue = s.chair.queue; part = part s.chair.part.seat s.chair.part.layout m.history s.chair.part.stage }) (executes : Executes s) where
+module _ (s : Inside) (q : Standing) (m : Machine) (sound : IsSound m) (f : IsPartOf m s.chair.part) (is : q ≡ record { queue = s.chair.queue; part = part s.chair.part.seat s.chair.part.layout m.history s.chair.part.stage }) (executes : OwnsQueue s) where
   parts : q.part ≡ part s.chair.part.seat s.chair.part.layout m.history s.chair.part.stage
   parts = ap (λ (x : Standing). x.part) is
 
   told : Tells [] s.chair.part q.part
   told = meet_tells m s.chair.part q.part sound f parts
 
-  pub meet_executes : Executes (record s { chair = q })
+  pub meet_executes : OwnsQueue (record s { chair = q })
   meet_executes = let g = owner_grows [] 0 s (record s { chair = q }) executes told in let v = s.chair.part.seen in let w = q.part.seen in record {
     layout_is = told.layout_is ∙ executes.layout_is;
     number_is = told.seat_is ∙ executes.number_is;
@@ -46,6 +46,6 @@ module _ (s : Inside) (q : Standing) (m : Machine) (sound : IsSound m) (f : Fits
   meet_owner_sees now view = owner_sees [] 0 s (record s { chair = q }) now view executes refl (ap (λ (x : Standing). x.queue) is) told
 
 -- the owner and the sender that met are of queues of one layout
-pub meet_owner_layout : (s : sender.Inside) (t : Inside) (now now' : Known) (m : Machine) → Fits m s.chair.part → Fits m t.chair.part → sender_view s ≡ now → owner_view t ≡ now' → Sends s → Executes t → now'.layout ≡ now.layout
+pub meet_owner_layout : (s : sender.Inside) (t : Inside) (now now' : Known) (m : Machine) → IsPartOf m s.chair.part → IsPartOf m t.chair.part → sender_view s ≡ now → owner_view t ≡ now' → Sends s → OwnsQueue t → now'.layout ≡ now.layout
 meet_owner_layout s t now now' m f g view view' sends executes =
     sym (ap (λ (v : Known). v.layout) view') ∙ (sym executes.layout_is ∙ (g.layout_is ∙ (sym f.layout_is ∙ (sends.layout_is ∙ ap (λ (v : Known). v.layout) view))))

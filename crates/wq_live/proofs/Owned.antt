@@ -11,39 +11,11 @@ use Rattle.wq_words.specs.declared.event.Event.TheVariants.{Close, Begin, End, C
 use Rattle.wq_words.specs.History.{begun, begun_by, ended, ended_by, running, closed, is_close}
 use Rattle.wq_words.specs.Seen.{owner_seat, seat_of, own, Grows}
 use Rattle.wq_live.specs.declared.counts.OwnerCounts.{OwnerCounts}
-use Rattle.wq_live.specs.Counts.{capped, is_chain, is_chain_busy, owner_counts}
+use Rattle.wq_words.specs.Counting.{is_chain, is_chain_busy}
+use Rattle.wq_words.proofs.Counting.{chain_own, chain_busy_own}
+use Rattle.wq_words.proofs.Seen.{map_own, begun_own, ended_own, close_own}
+use Rattle.wq_live.specs.Counts.{capped, owner_counts}
 use Rattle.wq_live.proofs.Counting.{count_on}
-
-map_kept : (f : Event → Option ℕ) (o : Option ℕ) (b : Bool) (e : Event) (es : List Event) → f e ≡ o → (b ≡ false → o ≡ None) → filter_map f es ≡ filter_map f (own owner_seat es)
-    → filter_map f (e ∷ es) ≡ filter_map f (cond b (e ∷ own owner_seat es) (own owner_seat es))
-map_kept f None true e es is none rest = rw is rest
-map_kept f (Some k) true e es is none rest = rw is (ap (λ (x : List ℕ). k ∷ x) rest)
-map_kept f None false e es is none rest = rw is rest
-map_kept f (Some k) false e es is none rest = absurd (cc (none refl))
-
-map_own : (f : Event → Option ℕ) → ((e : Event) → eqb (seat_of e) owner_seat ≡ false → f e ≡ None) → (h : List Event) → filter_map f h ≡ filter_map f (own owner_seat h)
-map_own f none [] = refl
-map_own f none (e ∷ es) = map_kept f (f e) (eqb (seat_of e) owner_seat) e es refl (none e) (map_own f none es)
-
-begun_own : (e : Event) → eqb (seat_of e) owner_seat ≡ false → begun_by e ≡ None
-begun_own (Begin k) is = absurd (cc is)
-begun_own _ is = refl
-
-ended_own : (e : Event) → eqb (seat_of e) owner_seat ≡ false → ended_by e ≡ None
-ended_own (End k) is = absurd (cc is)
-ended_own _ is = refl
-
-close_own : (e : Event) → eqb (seat_of e) owner_seat ≡ false → is_close e ≡ false
-close_own Close is = is
-close_own _ is = refl
-
-chain_own : (e : Event) → eqb (seat_of e) owner_seat ≡ false → is_chain e ≡ false
-chain_own (Chain k) is = is
-chain_own _ is = refl
-
-chain_busy_own : (e : Event) → eqb (seat_of e) owner_seat ≡ false → is_chain_busy e ≡ false
-chain_busy_own (ChainBusy k) is = is
-chain_busy_own _ is = refl
 
 module _ (xs : List Event) (n : ℕ) (v w : List Event) (g : Grows owner_seat xs n v w) where
   pub begun_on : begun w ≡ begun v ++ begun xs

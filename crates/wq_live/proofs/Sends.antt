@@ -3,7 +3,7 @@ use Rattle.std.proofs.Common.{◌≡◌, ℕ, ◌+◌, ◌≤◌, Bool, true, fa
 use Rattle.std.proofs.lemmas.Bool.{false≢true}
 use Rattle.wq_core.specs.Machine.{Machine}
 use Rattle.wq_core.specs.Sound.{IsSound}
-use Rattle.wq_table.specs.Law.{part, Fits}
+use Rattle.wq_table.specs.Law.{part, IsPartOf}
 use Rattle.wq_table.specs.Chair.{Standing}
 use Rattle.wq_words.specs.declared.layout.Layout.{Layout}
 use Rattle.wq_words.specs.declared.event.Event.{Event}
@@ -111,18 +111,18 @@ hold_held k true s t sees is = sees_hold k 0 s t sees
 hold_held k false s t sees is = absurd (false≢true is)
 
 -- a sender that another met
-pub meet_sends : (s t : Inside) (m : Machine) → IsSound m → Fits m s.chair.part → t.chair ≡ record { queue = s.chair.queue; part = part s.chair.part.seat s.chair.part.layout m.history s.chair.part.stage } → t.layout ≡ s.layout → t.number ≡ s.number → t.counts ≡ s.counts → Sends s → Sends t
+pub meet_sends : (s t : Inside) (m : Machine) → IsSound m → IsPartOf m s.chair.part → t.chair ≡ record { queue = s.chair.queue; part = part s.chair.part.seat s.chair.part.layout m.history s.chair.part.stage } → t.layout ≡ s.layout → t.number ≡ s.number → t.counts ≡ s.counts → Sends s → Sends t
 meet_sends s t m sound f is layout number counts sends =
     let parts : t.chair.part ≡ part s.chair.part.seat s.chair.part.layout m.history s.chair.part.stage = ap (λ (x : Standing). x.part) is in let told = meet_tells m s.chair.part t.chair.part sound f parts in
     sends_tells s t [] 0 sends layout number told (meet_sender m s.chair.part t.chair.part parts sends.stage)
     (counts ∙ counts_none s.number 0 s.chair.part.seen t.chair.part.seen s.counts sends.counts_are (grows_tells s t (λ z. []) 0 sends told))
 
-pub meet_sees : (s t : Inside) (now : Known) (m : Machine) → IsSound m → Fits m s.chair.part → t.chair ≡ record { queue = s.chair.queue; part = part s.chair.part.seat s.chair.part.layout m.history s.chair.part.stage } → t.layout ≡ s.layout → t.number ≡ s.number → sender_view s ≡ now → Sends s → Sees [] 0 now (sender_view t)
+pub meet_sees : (s t : Inside) (now : Known) (m : Machine) → IsSound m → IsPartOf m s.chair.part → t.chair ≡ record { queue = s.chair.queue; part = part s.chair.part.seat s.chair.part.layout m.history s.chair.part.stage } → t.layout ≡ s.layout → t.number ≡ s.number → sender_view s ≡ now → Sends s → Sees [] 0 now (sender_view t)
 meet_sees s t now m sound f is layout number view sends =
     sees_tells s t now (λ z. []) 0 view sends layout number (ap (λ (x : Standing). x.queue) is) (meet_tells m s.chair.part t.chair.part sound f (ap (λ (x : Standing). x.part) is))
 
 -- two that met are of queues of one layout
-pub meet_layout : (s t : Inside) (now now' : Known) (m : Machine) → Fits m s.chair.part → Fits m t.chair.part → sender_view s ≡ now → sender_view t ≡ now' → Sends s → Sends t → now'.layout ≡ now.layout
+pub meet_layout : (s t : Inside) (now now' : Known) (m : Machine) → IsPartOf m s.chair.part → IsPartOf m t.chair.part → sender_view s ≡ now → sender_view t ≡ now' → Sends s → Sends t → now'.layout ≡ now.layout
 meet_layout s t now now' m f g view view' sends sends' =
     sym (ap (λ (v : Known). v.layout) view') ∙ (sym sends'.layout_is ∙ (g.layout_is ∙ (sym f.layout_is ∙ (sends.layout_is ∙ ap (λ (v : Known). v.layout) view))))
 

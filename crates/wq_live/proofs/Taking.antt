@@ -14,17 +14,17 @@ use Rattle.wq_core.specs.Sound.{IsSound}
 use Rattle.wq_table.specs.declared.table.Part.{Part}
 use Rattle.wq_table.specs.declared.table.Stage.TheVariants.{Owns}
 use Rattle.wq_words.specs.Seen.{owner_seat, own, Grows}
-use Rattle.wq_table.specs.Law.{Keeps}
+use Rattle.wq_table.specs.Law.{HasStage}
 use Rattle.wq_table.specs.Plays.{Makes}
 use Rattle.wq_live.specs.Batch.{TakesAll}
-use Rattle.wq_live.specs.Sits.{Stands, Follows}
+use Rattle.wq_live.specs.Sits.{Stands, OnlySees}
 use Rattle.wq_live.proofs.Growing.{grows_on}
 use Rattle.wq_live.proofs.Tells.{Tells, TellsSo, seen_after}
-use Rattle.wq_live.proofs.Executes.{stands_batch, stands_legal, owner_of, after_take, after_close}
+use Rattle.wq_live.proofs.OwnerTells.{stands_batch, stands_legal, owner_of, after_take, after_close}
 use Rattle.wq_live.proofs.Taken.{rested_lengths, takes_all, closes_all}
 
 -- a step and what was seen after it
-pub followed : (xs : List Event) (n : ℕ) (p q r : Part) → TellsSo xs n p q → Follows q r → Stands r → TellsSo xs n p r
+pub followed : (xs : List Event) (n : ℕ) (p q r : Part) → TellsSo xs n p q → OnlySees q r → Stands r → TellsSo xs n p r
 followed xs n p q r told follows stands = record {
   layout_is = follows.layout_is ∙ told.layout_is;
   seat_is = follows.seat_is ∙ told.seat_is;
@@ -32,10 +32,10 @@ followed xs n p q r told follows stands = record {
   legal = subst (λ (l : Layout). IsLegal l r.seen) (follows.layout_is ∙ told.layout_is) (stands_legal r stands);
 }
 
-module _ (word : ℕ) (p q r : Part) (ks js : List ℕ) (count : ℕ) (mine : p.seat ≡ owner_seat) (stage : p.stage ≡ Owns None [] ks) (follows : Follows q r) (stands : Stands r) (stage' : r.stage ≡ Owns None [] js) (total : count + length ks ≡ length js) where
-  lengths : (m : Machine) → IsSound m → Keeps m p.seat p.stage → length (accepted m.history) ≡ length (begun m.history) + length ks + length (listed m.history)
+module _ (word : ℕ) (p q r : Part) (ks js : List ℕ) (count : ℕ) (mine : p.seat ≡ owner_seat) (stage : p.stage ≡ Owns None [] ks) (follows : OnlySees q r) (stands : Stands r) (stage' : r.stage ≡ Owns None [] js) (total : count + length ks ≡ length js) where
+  lengths : (m : Machine) → IsSound m → HasStage m p.seat p.stage → length (accepted m.history) ≡ length (begun m.history) + length ks + length (listed m.history)
   lengths m sound keeps =
-      let kept : Keeps m p.seat (Owns None [] ks) = subst (Keeps m p.seat) stage keeps in let same = ap (λ (x : List ℕ). length x) kept.3 in omega (arith, rested_lengths m sound kept.1)
+      let kept : HasStage m p.seat (Owns None [] ks) = subst (HasStage m p.seat) stage keeps in let same = ap (λ (x : List ℕ). length x) kept.3 in omega (arith, rested_lengths m sound kept.1)
 
   none_after : q.seat ≡ p.seat → own owner_seat follows.grows.new ≡ []
   none_after seat = subst (λ (c : ℕ). own c follows.grows.new ≡ []) (seat ∙ mine) follows.grows.mine
@@ -56,7 +56,7 @@ module _ (word : ℕ) (p q r : Part) (ks js : List ℕ) (count : ℕ) (mine : p.
 pub layout_at : (l l' : Layout) (n : ℕ) → l ≡ l' → number_count l ≤ n → number_count l' ≤ n
 layout_at l l' n is less = subst (λ (x : Layout). number_count x ≤ n) is less
 
-pub follows_on : (p q r : Part) → Follows p q → Tells [] q r → Follows p r
+pub follows_on : (p q r : Part) → OnlySees p q → Tells [] q r → OnlySees p r
 follows_on p q r follows told = record {
   layout_is = told.layout_is ∙ follows.layout_is;
   seat_is = told.seat_is ∙ follows.seat_is;

@@ -24,7 +24,7 @@ use Rattle.wq_table.specs.declared.table.Part.{Part}
 use Rattle.wq_table.specs.declared.table.Stage.{Stage}
 use Rattle.wq_table.specs.declared.table.Stage.TheVariants.{Sends, Owns}
 use Rattle.wq_words.specs.Seen.{own, Grows}
-use Rattle.wq_table.specs.Law.{part, seat_at, Keeps, Fits}
+use Rattle.wq_table.specs.Law.{part, seat_at, HasStage, IsPartOf}
 use Rattle.wq_table.specs.Plays.{stage_after, Makes}
 use Rattle.wq_table.specs.Chair.{IsSender, HasSeen, HasLinked}
 use Rattle.wq_words.proofs.Seen.{own_one}
@@ -159,7 +159,7 @@ pub first_head : (layout : Layout) (h : List Event) → IsLegal layout h → ¬ 
 first_head layout h legal opens =
     ap (λ (b : Bool). head_word (if b then Closed else head_of_list (listed h)) == 0) (closed_from_open h opens) ∙ (empty_head (listed h) ∙ ap (λ (n : ℕ). n == 0) (sym (fresh-open layout h legal opens)))
 
-after_push : (m : Machine) (c k w : ℕ) (st : Stage) → HasLinked w k st → Keeps m c st
+after_push : (m : Machine) (c k w : ℕ) (st : Stage) → HasLinked w k st → HasStage m c st
     → after m (seat_at c st) (Push k) ≡ (if head m == w then happened (with_private (with_head m (k + 1)) c nothing_seen) (event.Push c k) else with_private m c nothing_seen)
 after_push m c k w (Sends r) is keeps =
     ap (λ (x : ℕ). if head m == x then happened (with_private (with_head m (k + 1)) c nothing_seen) (event.Push c k) else with_private m c nothing_seen)
@@ -238,7 +238,7 @@ check_tells k word p q is small makes =
     }
 
 -- what a meeting tells each of the two
-pub meet_tells : (m : Machine) (p q : Part) → IsSound m → Fits m p → q ≡ part p.seat p.layout m.history p.stage → Tells [] p q
+pub meet_tells : (m : Machine) (p q : Part) → IsSound m → IsPartOf m p → q ≡ part p.seat p.layout m.history p.stage → Tells [] p q
 meet_tells m p q sound f is = let seen : q.seen ≡ m.history = ap (λ (x : Part). x.seen) is in record {
   layout_is = ap (λ (x : Part). x.layout) is;
   seat_is = ap (λ (x : Part). x.seat) is;

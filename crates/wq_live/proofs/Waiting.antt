@@ -22,7 +22,7 @@ use Rattle.wq_core.specs.Sound.{IsSound, IsChain, word_at}
 use Rattle.wq_core.proofs.Chains.{times, times-cons, times-append, times-first}
 use Rattle.wq_table.specs.declared.table.Part.{Part}
 use Rattle.wq_table.specs.declared.table.Stage.TheVariants.{Owns}
-use Rattle.wq_table.specs.Law.{Keeps}
+use Rattle.wq_table.specs.Law.{HasStage}
 use Rattle.wq_live.specs.Sits.{Stands}
 
 any_counts : (q : ℕ) (xs : List ℕ) → list_any (eqb q) xs ≡ true → 1 ≤ times q xs
@@ -115,7 +115,7 @@ first_of_chain n ws k (j ∷ js) chain = let same = chain.0 in let small = chain
 -- the owner that walks k
 pub stands_walking : (p : Part) (k : ℕ) (walked batch : List ℕ) → Stands p → p.stage ≡ Owns (Some k) walked batch → (k < number_count p.layout) × (length batch + length walked < number_count p.layout)
 stands_walking p k walked batch stands is =
-    let m = stands.machine in let o = stands.sound in let keeps : Keeps m p.seat (Owns (Some k) walked batch) = subst (Keeps m p.seat) is stands.fits.keeps in
+    let m = stands.machine in let o = stands.sound in let keeps : HasStage m p.seat (Owns (Some k) walked batch) = subst (HasStage m p.seat) is stands.fits.keeps in
     let chain : IsChain (number_count m.layout) m.words (k + 1) o.chains.remaining = subst (λ (c : Option ℕ). IsChain (number_count m.layout) m.words (word_at c) o.chains.remaining) keeps.1 o.chains.walk_chain in
     let first = first_of_chain (number_count m.layout) m.words k o.chains.remaining chain in
     let layout : number_count p.layout ≡ number_count m.layout = ap number_count stands.fits.layout_is in
@@ -124,13 +124,13 @@ stands_walking p k walked batch stands is =
 -- the owner that has walked all
 pub stands_rested : (p : Part) (batch : List ℕ) → Stands p → p.stage ≡ Owns None [] batch → length batch ≤ number_count p.layout
 stands_rested p batch stands is =
-    let m = stands.machine in let o = stands.sound in let keeps : Keeps m p.seat (Owns None [] batch) = subst (Keeps m p.seat) is stands.fits.keeps in
+    let m = stands.machine in let o = stands.sound in let keeps : HasStage m p.seat (Owns None [] batch) = subst (HasStage m p.seat) is stands.fits.keeps in
     let layout : number_count p.layout ≡ number_count m.layout = ap number_count stands.fits.layout_is in
     omega (arith, layout, waits_few m o, ap (λ (x : List ℕ). length x) keeps.3)
 
 -- the number that begins next
 pub stands_next : (p : Part) (k : ℕ) (ks : List ℕ) → Stands p → p.stage ≡ Owns None [] (k ∷ ks) → k < number_count p.layout
 stands_next p k ks stands is =
-    let m = stands.machine in let o = stands.sound in let keeps : Keeps m p.seat (Owns None [] (k ∷ ks)) = subst (Keeps m p.seat) is stands.fits.keeps in
+    let m = stands.machine in let o = stands.sound in let keeps : HasStage m p.seat (Owns None [] (k ∷ ks)) = subst (HasStage m p.seat) is stands.fits.keeps in
     let layout : number_count p.layout ≡ number_count m.layout = ap number_count stands.fits.layout_is in
     omega (arith, layout, waits_below m o k (omega (arith, ap (times k) keeps.3, times-first k ks)))

@@ -1,8 +1,7 @@
 -- What seats count of a history.
-use Rattle.std.specs.Prelude.{ℕ, ◌^◌, ◌-◌, ◌==◌, Bool, true, false, List, length, count_by, min}
+use Rattle.std.specs.Prelude.{ℕ, ◌^◌, ◌-◌, List, length, count_by, min}
 use Rattle.wq_words.specs.declared.event.Event.{Event}
-use Rattle.wq_words.specs.declared.event.Event.TheVariants.{Busy, Push, Back, Chain, ChainBusy}
-use Rattle.wq_words.specs.declared.event.Why.TheVariants.{Closed, Contended}
+use Rattle.wq_words.specs.Counting.{is_queued_by, is_pending_by, is_closed_by, is_contended_by, is_chain, is_chain_busy}
 use Rattle.wq_words.specs.History.{ended}
 use Rattle.wq_live.specs.declared.counts.SenderCounts.{SenderCounts}
 use Rattle.wq_live.specs.declared.counts.OwnerCounts.{OwnerCounts}
@@ -10,30 +9,6 @@ use Rattle.wq_live.specs.declared.counts.OwnerCounts.{OwnerCounts}
 -- a count stops at the largest number of 64 bits
 abbrev pub capped : ℕ → ℕ
 capped n = min n (2 ^ 64 - 1)
-
-abbrev pub is_queued_by : ℕ → Event → Bool
-is_queued_by s (Push t k) = t == s
-is_queued_by s _ = false
-
-abbrev pub is_pending_by : ℕ → Event → Bool
-is_pending_by s (Busy t k) = t == s
-is_pending_by s _ = false
-
-abbrev pub is_closed_by : ℕ → Event → Bool
-is_closed_by s (Back t k Closed) = t == s
-is_closed_by s _ = false
-
-abbrev pub is_contended_by : ℕ → Event → Bool
-is_contended_by s (Back t k Contended) = t == s
-is_contended_by s _ = false
-
-abbrev pub is_chain : Event → Bool
-is_chain (Chain k) = true
-is_chain _ = false
-
-abbrev pub is_chain_busy : Event → Bool
-is_chain_busy (ChainBusy k) = true
-is_chain_busy _ = false
 
 -- the counts of sender s, and those of the owner
 abbrev pub sender_counts : ℕ → List Event → SenderCounts

@@ -9,7 +9,7 @@ use Rattle.wq_table.specs.declared.table.Part.{Part}
 use Rattle.wq_table.specs.declared.table.Stage.{Stage}
 use Rattle.wq_table.specs.declared.table.Stage.TheVariants as stage
 use Rattle.wq_words.specs.Seen.{owner_seat, Grows}
-use Rattle.wq_table.specs.Law.{Fits}
+use Rattle.wq_table.specs.Law.{IsPartOf}
 use Rattle.wq_table.specs.Chair.{IsSender}
 use Rattle.wq_live.specs.declared.sender.Sender.TheInside as sender
 use Rattle.wq_live.specs.declared.owner.Owner.TheInside as owner
@@ -34,11 +34,11 @@ owner_view s = record { queue = s.chair.queue; layout = s.layout; number = owner
 pub record Stands (p : Part) : Type 0 where
   pub machine : Machine
   pub sound : IsSound machine
-  pub fits : Fits machine p
+  pub fits : IsPartOf machine p
   pub seen_is : p.seen ≡ machine.history
 
 -- the chair is the owner's, which has walked all that it took, and what is kept beside it is of what it has seen
-pub record Executes (s : owner.Inside) : Type 0 where
+pub record OwnsQueue (s : owner.Inside) : Type 0 where
   pub layout_is : s.chair.part.layout ≡ s.layout
   pub number_is : s.chair.part.seat ≡ owner_seat
   pub stands : Stands s.chair.part
@@ -60,7 +60,7 @@ pub record Walks (word : ℕ) (old new : List ℕ) (s : Stage) : Type 0 where
   pub stage : s ≡ walking word walked old
 
 -- the same seat has seen more, and made no event
-pub record Follows (p q : Part) : Type 0 where
+pub record OnlySees (p q : Part) : Type 0 where
   pub layout_is : q.layout ≡ p.layout
   pub seat_is : q.seat ≡ p.seat
   pub grows : Grows p.seat [] 0 p.seen q.seen

@@ -14,6 +14,3 @@ pub use making::{BuildError, build};
 pub use owner::Owner;
 pub use sender::Sender;
 pub use wq_words::{Answer, Posted};
-
-#[cfg(test)]
-mod tests;

@@ -58,7 +58,7 @@ fn seat_senders(alloc: Global, layout: Layout, seats: Vec<Chair>) -> Result<Vec<
 pub fn build(alloc: Global, layout: Layout) -> Result<(Owner, Vec<Sender>), BuildError>
     ensures { IfOk result (λ r. (r.0 ≡ new_owner r.0.queue layout) × (r.1.items ≡ new_senders r.0.queue layout layout.senders)) }
 {
-    let count = layout.items as usize + layout.barriers as usize + 1;
+    let count = layout.number_count() as usize;
     let batch = Batch::with_room(alloc, count)?;
     let (chair, seats) = chairs(alloc, layout)?;
     let senders = seat_senders(alloc, layout, seats)?;

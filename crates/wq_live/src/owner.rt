@@ -9,7 +9,7 @@ ghost use Rattle.wq_live.specs.Known.{Sees};
 ghost use Rattle.wq_live.specs.Answers.{Chains, IsFinal};
 ghost use Rattle.wq_live.specs.Batch.{batch, next_of, TakesAll};
 ghost use Rattle.wq_live.specs.Counts.{capped, owner_counts};
-ghost use Rattle.wq_live.specs.Sits.{Stands, Follows, Walks, walking};
+ghost use Rattle.wq_live.specs.Sits.{Stands, OnlySees, Walks, walking};
 
 use crate::answer::Done;
 use crate::batch::Batch;
@@ -35,11 +35,11 @@ impl Model for Owner {
 
     ghost Value = { Known };
 
-    ghost use Rattle.wq_live.specs.Sits.{owner_view, Executes};
+    ghost use Rattle.wq_live.specs.Sits.{owner_view, OwnsQueue};
 
     ghost view = { owner_view };
 
-    ghost invariant = { Executes };
+    ghost invariant = { OwnsQueue };
 }
 
 // Walks what was taken, from the number of this word on, and puts it before the batch, oldest first.
@@ -48,7 +48,7 @@ fn walk_to_front(chair: &mut Chair, batch: &mut Batch, word: u64)
     requires stage { chair.old.part.stage ≡ walking word [] batch.old.items }
     requires room { number_count chair.old.part.layout ≤ batch.old.room }
     ensures queue { chair.new.queue ≡ chair.old.queue }
-    ensures follows { Follows chair.old.part chair.new.part }
+    ensures follows { OnlySees chair.old.part chair.new.part }
     ensures stands { Stands chair.new.part }
     ensures chained { batch.new.chained ≡ batch.old.chained }
     ensures walks { Walks 0 batch.old.items batch.new.items chair.new.part.stage }
@@ -69,7 +69,7 @@ fn walk_all(chair: &mut Chair, batch: &mut Batch, word: u64)
     requires room { number_count chair.old.part.layout ≤ batch.old.room }
     requires none_chained { batch.old.chained ≡ [] }
     ensures queue { chair.new.queue ≡ chair.old.queue }
-    ensures follows { Follows chair.old.part chair.new.part }
+    ensures follows { OnlySees chair.old.part chair.new.part }
     ensures stands { Stands chair.new.part }
     ensures none_chained { batch.new.chained ≡ [] }
     ensures stage { chair.new.part.stage ≡ stage.Owns None [] batch.new.items }
@@ -89,6 +89,11 @@ impl Owner {
     {
         self.layout
     }
+
+    /// What it has seen is a legal history of its queue.
+    pub fn legal(&self)
+        ensures legal { IsLegal self.now.layout self.now.seen }
+    {}
 
     /// Takes all that stands on the list, and answers how many that is (`llist_del_all`).
     pub fn take(&mut self) -> u32

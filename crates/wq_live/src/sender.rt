@@ -1,9 +1,9 @@
 //! A sender of a queue.
-ghost use Rattle.std.specs.Prelude.{◌≡◌, ◌≢◌, ◌+◌, ◌<◌, not, [], ◌∷◌, IsTrue};
+ghost use Rattle.std.specs.Prelude.{◌≡◌, ◌≢◌, ◌<◌, not, [], ◌∷◌, IsTrue};
 ghost use Rattle.wq_words.specs.declared.event.Event.TheVariants.{Back};
 ghost use Rattle.wq_words.specs.declared.event.Why.TheVariants as why;
 ghost use Rattle.wq_words.specs.History.{pending, Holds};
-ghost use Rattle.wq_words.specs.Numbers.{stop_number, number_count};
+ghost use Rattle.wq_words.specs.Numbers.{barrier_number, stop_number, number_count};
 ghost use Rattle.wq_words.specs.Legal.{IsLegal};
 ghost use Rattle.wq_words.specs.Seen.{owner_seat};
 ghost use Rattle.wq_words.specs.declared.answer.Answer.TheVariants.{Queued, Contended};
@@ -16,7 +16,7 @@ use crate::owner::Owner;
 use std::marker::Model;
 use std::sync::Wait;
 use wq_table::Chair;
-use wq_words::{Answer, Layout, Posted};
+use wq_words::{Answer, Head, Layout, Posted};
 
 /// A sender of a queue. It may be moved to another thread. No call takes a lock or memory, and only `queue` and `flush`
 /// may wait.
@@ -56,6 +56,11 @@ impl Sender {
         self.layout
     }
 
+    /// What it has seen is a legal history of its queue.
+    pub fn legal(&self)
+        ensures legal { IsLegal self.now.layout self.now.seen }
+    {}
+
     /// What it has counted of its own events.
     pub fn counts(&self) -> SenderCounts
         ensures { result ≡ sender_counts self.now.number self.now.seen }
@@ -82,7 +87,7 @@ impl Sender {
         ensures { Posts number 1 result self.old self.new }
     {
         let word = self.chair.look();
-        if word == u64::MAX {
+        if word == Head::Closed.to_word() {
             self.chair.back_closed(number);
             self.counts.closed = self.counts.closed.saturating_add(1);
             return Posted::Closed;
@@ -90,7 +95,10 @@ impl Sender {
         self.chair.link(number, word);
         if self.chair.push(number, word) == word {
             self.counts.queued = self.counts.queued.saturating_add(1);
-            return Posted::Queued { first: word == 0 };
+            let empty = Head::Empty.to_word();
+            return Posted::Queued {
+                first: word == empty,
+            };
         }
         Posted::Contended
     }
@@ -228,9 +236,9 @@ impl Sender {
     pub fn flush_begin(&mut self, barrier: u32, tries: u32) -> Answer
         requires barrier { barrier < self.old.layout.barriers }
         requires tries { 0 < tries }
-        ensures { Answers (self.old.layout.items + barrier) tries result self.old self.new }
+        ensures { Answers (barrier_number self.old.layout barrier) tries result self.old self.new }
     {
-        let number = self.layout.items + barrier;
+        let number = self.layout.barrier(barrier);
         self.queue_number(number, tries)
     }
 
@@ -238,10 +246,10 @@ impl Sender {
     pub fn flush_done(&mut self, barrier: u32) -> bool
         requires barrier { barrier < self.old.layout.barriers }
         ensures seen { Sees [] 0 self.old self.new }
-        ensures clear { result ≡ not (pending self.new.seen (self.old.layout.items + barrier)) }
-        ensures flushed { IsTrue result → HasFlushed (self.old.layout.items + barrier) self.new.seen }
+        ensures clear { result ≡ not (pending self.new.seen (barrier_number self.old.layout barrier)) }
+        ensures flushed { IsTrue result → HasFlushed (barrier_number self.old.layout barrier) self.new.seen }
     {
-        let number = self.layout.items + barrier;
+        let number = self.layout.barrier(barrier);
         !self.is_number_pending(number)
     }
 
@@ -249,11 +257,11 @@ impl Sender {
     /// `Contended`; after another answer than `Queued` it has waited for nothing.
     pub fn flush<R: Wait>(&mut self, rt: &R, barrier: u32) -> Answer
         requires barrier { barrier < self.old.layout.barriers }
-        ensures answer { Answers (self.old.layout.items + barrier) 0 result self.old self.new }
+        ensures answer { Answers (barrier_number self.old.layout barrier) 0 result self.old self.new }
         ensures settled { result ≢ Contended }
-        ensures flushed { (first : _) → result ≡ Queued first → HasFlushed (self.old.layout.items + barrier) self.new.seen }
+        ensures flushed { (first : _) → result ≡ Queued first → HasFlushed (barrier_number self.old.layout barrier) self.new.seen }
     {
-        let number = self.layout.items + barrier;
+        let number = self.layout.barrier(barrier);
         match self.queue_waiting(rt, number) {
             Answer::Queued { first } => {
                 for _ in rt.forever() {
@@ -272,7 +280,7 @@ impl Sender {
         requires tries { 0 < tries }
         ensures { Answers (stop_number self.old.layout) tries result self.old self.new }
     {
-        let number = self.layout.items + self.layout.barriers;
+        let number = self.layout.stop();
         self.queue_number(number, tries)
     }
 

@@ -4,7 +4,7 @@ use Rattle.wq_table.specs.Chair.{IsToWalk}
 use Rattle.wq_live.specs.Sits.{Walks}
 use Rattle.wq_live.proofs.Tells.{Tells}
 use Rattle.wq_live.proofs.Waiting.{stands_walking}
-use Rattle.wq_live.proofs.Executes.{makes_stands, walking_on, walk_tells, walk_stage}
+use Rattle.wq_live.proofs.OwnerTells.{makes_stands, walking_on, walk_tells, walk_stage}
 use Rattle.wq_live.proofs.Taking.{follows_on, number_small}
 use Rattle.wq_live.proofs.owner.walk_to_front.Goals as goal
 

@@ -8,7 +8,7 @@ use Rattle.wq_live.specs.Known.{Known}
 use Rattle.wq_live.proofs.Tells.{Tells}
 use Rattle.wq_live.proofs.Owned.{running_begun, closed_quiet, counts_quiet}
 use Rattle.wq_live.proofs.Waiting.{stands_next}
-use Rattle.wq_live.proofs.Executes.{makes_stands, begin_tells, begin_stage, owner_batch, owner_idle, owner_grows, owner_sees}
+use Rattle.wq_live.proofs.OwnerTells.{makes_stands, begin_tells, begin_stage, owner_batch, owner_idle, owner_grows, owner_sees}
 use Rattle.wq_live.proofs.owner.Owner.begin.Goals as goal
 
 some_length : (xs : List ℕ) → xs ≢ [] → 0 < length xs

@@ -9,7 +9,7 @@ use Rattle.wq_live.specs.Known.{Known}
 use Rattle.wq_live.proofs.Tells.{Tells}
 use Rattle.wq_live.proofs.Owned.{running_quiet, closed_quiet, counts_chained, counts_busy}
 use Rattle.wq_live.proofs.Waiting.{stands_rested}
-use Rattle.wq_live.proofs.Executes.{makes_stands, owner_of, chain_tells, chain_stage, owner_grows, owner_sees}
+use Rattle.wq_live.proofs.OwnerTells.{makes_stands, owner_of, chain_tells, chain_stage, owner_grows, owner_sees}
 use Rattle.wq_live.proofs.owner.Owner.chain.Goals as goal
 
 pub invariant_of-self : goal.invariant_of-self

@@ -7,7 +7,7 @@ use Rattle.wq_live.specs.Known.{Known}
 use Rattle.wq_live.proofs.Tells.{Tells}
 use Rattle.wq_live.proofs.Owned.{running_quiet, closed_closed, counts_quiet}
 use Rattle.wq_live.proofs.Waiting.{stands_rested}
-use Rattle.wq_live.proofs.Executes.{makes_stands, owner_of, close_tells, close_stage, owner_grows, owner_sees}
+use Rattle.wq_live.proofs.OwnerTells.{makes_stands, owner_of, close_tells, close_stage, owner_grows, owner_sees}
 use Rattle.wq_live.proofs.Taking.{followed, close_takes, layout_at, number_small}
 use Rattle.wq_live.proofs.owner.Owner.close.Goals as goal
 

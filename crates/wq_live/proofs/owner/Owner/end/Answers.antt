@@ -5,7 +5,7 @@ use Rattle.wq_words.proofs.Running.{runs_some}
 use Rattle.wq_live.specs.Known.{Known}
 use Rattle.wq_live.proofs.Tells.{Tells}
 use Rattle.wq_live.proofs.Owned.{running_ended, closed_quiet, counts_ended}
-use Rattle.wq_live.proofs.Executes.{makes_stands, owner_of, end_tells, end_stage, owner_runs, owner_grows, owner_sees}
+use Rattle.wq_live.proofs.OwnerTells.{makes_stands, owner_of, end_tells, end_stage, owner_runs, owner_grows, owner_sees}
 use Rattle.wq_live.proofs.owner.Owner.end.Goals as goal
 
 pub invariant_of-self : goal.invariant_of-self

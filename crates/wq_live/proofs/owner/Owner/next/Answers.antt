@@ -1,5 +1,5 @@
 use Rattle.std.proofs.Common.{slice_get, ap, ◌∙◌}
-use Rattle.wq_live.proofs.Executes.{owner_batch}
+use Rattle.wq_live.proofs.OwnerTells.{owner_batch}
 use Rattle.wq_live.proofs.owner.Owner.next.Goals as goal
 
 pub returns : goal.returns

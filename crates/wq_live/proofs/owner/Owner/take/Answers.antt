@@ -7,7 +7,7 @@ use Rattle.wq_live.specs.Known.{Known}
 use Rattle.wq_live.proofs.Tells.{Tells}
 use Rattle.wq_live.proofs.Owned.{running_quiet, closed_quiet, counts_quiet}
 use Rattle.wq_live.proofs.Waiting.{stands_rested}
-use Rattle.wq_live.proofs.Executes.{makes_stands, owner_batch, owner_of, none_of, take_tells, take_stage, owner_grows, owner_sees}
+use Rattle.wq_live.proofs.OwnerTells.{makes_stands, owner_batch, owner_of, none_of, take_tells, take_stage, owner_grows, owner_sees}
 use Rattle.wq_live.proofs.Taking.{followed, take_takes, layout_at, number_small}
 use Rattle.wq_live.proofs.owner.Owner.take.Goals as goal
 

@@ -2,7 +2,7 @@ use Rattle.std.proofs.Common.{ℕ, List, ◌≡◌, length, ap, ◌∙◌, arith
 use Rattle.wq_words.specs.Numbers.{number_count}
 use Rattle.wq_live.specs.Known.{Known}
 use Rattle.wq_live.proofs.Waiting.{stands_rested}
-use Rattle.wq_live.proofs.Executes.{owner_batch}
+use Rattle.wq_live.proofs.OwnerTells.{owner_batch}
 use Rattle.wq_live.proofs.Taking.{number_small}
 use Rattle.wq_live.proofs.owner.Owner.waiting.Goals as goal
 

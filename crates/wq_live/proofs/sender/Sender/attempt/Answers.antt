@@ -1,4 +1,4 @@
-use Rattle.std.proofs.Common.{refl, ◌≡◌, ◌==◌, Bool, [], ◌∷◌, subst, ap, ◌∙◌, ℕ, eq-eqb, ne_eqb, MatchBool}
+use Rattle.std.proofs.Common.{refl, ◌≡◌, ◌==◌, Bool, [], ◌∷◌, subst, sym, ap, ◌∙◌, ℕ, eq-eqb, ne_eqb, MatchBool}
 use Rattle.wq_words.specs.declared.event.Event.TheVariants.{Push, Back}
 use Rattle.wq_words.specs.declared.event.Why.TheVariants.{Closed}
 use Rattle.wq_live.specs.Known.{Known}
@@ -55,7 +55,7 @@ returns-then-push-word c = let s = c.self.inside in let k = c.args.number in let
     let seat : q.seat ≡ c.args.self.now.number = c.link.ensures.makes.seat_is ∙ (c.look-word.ensures.makes.seat_is ∙ (c.self.invariant.number_is ∙ ap (λ (v : Known). v.number) c.self.view_is)) in (
       sees_tells s (record s { chair = new; counts = record s.counts { queued = c.saturating_add-self-inside-then-push-word.result } }) c.args.self.now (λ z. Push z k ∷ []) 0 c.self.view_is c.self.invariant refl refl
           (c.push.ensures.queue_is ∙ (c.link.ensures.queue_is ∙ c.look-word.ensures.queue_is)) (pushed c),
-      subst (λ (z : ℕ). IsPushed z k (w == 0) new.part.seen) seat (won c).pushed,
+      subst (λ (z : ℕ × ℕ). IsPushed z.0 k (w == z.1) new.part.seen) (λ i. (seat i, sym c.to_word-empty.ensures i)) (won c).pushed,
     )
 
 lost : (c : goal.Else-push-word) → TellsSo [] 1 c.self.inside.chair.part c.push.new.self.part

@@ -1,5 +1,5 @@
 use Rattle.std.proofs.Common.{arith, ◌-◌, ◌+◌, []}
-use Rattle.wq_live.proofs.Growing.{grows_none}
+use Rattle.wq_words.proofs.Seen.{grows_none}
 use Rattle.wq_live.proofs.Sends.{same_none, sees_after, sees_held}
 use Rattle.wq_live.proofs.sender.Sender.push_tries.Goals as goal
 

@@ -6,8 +6,8 @@ use Rattle.wq_words.specs.declared.layout.Layout.{Layout}
 use Rattle.wq_words.specs.declared.event.Event.{Event}
 use Rattle.wq_words.specs.declared.event.Event.TheVariants as event
 use Rattle.wq_words.specs.History.{begun, ended, running, IsRunning}
-use Rattle.wq_words.proofs.Order.{in_order}
 use Rattle.wq_words.proofs.Prefixes.{prefix_length}
+use Rattle.wq_words.proofs.Order.{in_order}
 use Rattle.wq_words.specs.Legal.{IsLegal}
 use Rattle.wq_core.specs.declared.step.Step.{Step}
 use Rattle.wq_core.specs.declared.step.Step.TheVariants.{Take, Close, Walk, Begin, End, Chain}
@@ -18,14 +18,14 @@ use Rattle.wq_table.specs.declared.table.Part.{Part}
 use Rattle.wq_table.specs.declared.table.Stage.{Stage}
 use Rattle.wq_table.specs.declared.table.Stage.TheVariants.{Sends, Owns}
 use Rattle.wq_words.specs.Seen.{owner_seat, own, Grows}
-use Rattle.wq_table.specs.Law.{seat_at, Keeps}
+use Rattle.wq_table.specs.Law.{seat_at, HasStage}
 use Rattle.wq_table.specs.Plays.{stage_after, walked_on, Makes}
 use Rattle.wq_table.specs.Chair.{IsOwner, IsRested, HasNone, IsToBegin}
 use Rattle.wq_words.proofs.Seen.{own_one, begun_same, ended_same}
 use Rattle.wq_live.specs.declared.owner.Owner.TheInside.{Inside}
 use Rattle.wq_live.specs.Known.{Known, Sees}
 use Rattle.wq_live.specs.Batch.{batch}
-use Rattle.wq_live.specs.Sits.{owner_view, Stands, Executes, walking}
+use Rattle.wq_live.specs.Sits.{owner_view, Stands, OwnsQueue, walking}
 use Rattle.wq_live.proofs.Tells.{Tells, TellsSo, tells}
 
 pub makes_stands : (step : Step) (word : ℕ) (p q : Part) → Makes step word p q → Stands q
@@ -34,7 +34,7 @@ makes_stands step word p q makes = record { machine = after makes.before (seat_a
 -- the batch of an owner that has walked all that it took
 pub stands_batch : (p : Part) (ks : List ℕ) → Stands p → p.stage ≡ Owns None [] ks → ks ≡ batch p.seen
 stands_batch p ks stands is =
-    let m = stands.machine in let keeps : Keeps m p.seat (Owns None [] ks) = subst (Keeps m p.seat) is stands.fits.keeps in
+    let m = stands.machine in let keeps : HasStage m p.seat (Owns None [] ks) = subst (HasStage m p.seat) is stands.fits.keeps in
     sym keeps.3 ∙ (batch_is m stands.sound keeps.1 ∙ ap batch (sym stands.seen_is))
 
 pub stands_legal : (p : Part) → Stands p → IsLegal p.layout p.seen
@@ -98,9 +98,9 @@ next_walk k word walked ks = go (word == 0)
 pub walk_stage : (k word : ℕ) (p q : Part) (walked ks : List ℕ) → p.stage ≡ Owns (Some k) walked ks → Makes Walk word p q → q.stage ≡ walking word (k ∷ walked) ks
 walk_stage k word p q walked ks is makes = makes.stage_is ∙ (ap (λ (st : Stage). stage_after st Walk word) is ∙ next_walk k word walked ks)
 
-after_walks : (m : Machine) (c k : ℕ) (walked ks : List ℕ) (st : Stage) → st ≡ Owns (Some k) walked ks → Keeps m c st → after m (seat_at c st) Walk ≡ walked_past m k (link m k)
+after_walks : (m : Machine) (c k : ℕ) (walked ks : List ℕ) (st : Stage) → st ≡ Owns (Some k) walked ks → HasStage m c st → after m (seat_at c st) Walk ≡ walked_past m k (link m k)
 after_walks m c k walked ks st is keeps =
-    let kept : Keeps m c (Owns (Some k) walked ks) = subst (Keeps m c) is keeps in ap (λ (x : Stage). after m (seat_at c x) Walk) is ∙ ap (after_walk m) kept.1
+    let kept : HasStage m c (Owns (Some k) walked ks) = subst (HasStage m c) is keeps in ap (λ (x : Stage). after m (seat_at c x) Walk) is ∙ ap (after_walk m) kept.1
 
 past_layout : (m : Machine) (k : ℕ) (b : Bool) → (if b then record m { cursor = None; walked = []; batch = m.batch ++ k ∷ m.walked } else record m { cursor = number_at (link m k); walked = k ∷ m.walked }).layout ≡ m.layout
 past_layout m k true = refl
@@ -114,9 +114,9 @@ pub walk_tells : (k word : ℕ) (p q : Part) (walked ks : List ℕ) → p.stage 
 walk_tells k word p q walked ks is makes = let m = makes.before in
     tells Walk word p q makes _ [] (after_walks m p.seat k walked ks p.stage is makes.fits.keeps) (past_layout m k (link m k == 0)) (past_history m k (link m k == 0) ∙ sym (append-nil m.history)) refl
 
-after_begins : (m : Machine) (c k : ℕ) (ks : List ℕ) (st : Stage) → st ≡ Owns None [] (k ∷ ks) → Keeps m c st → after m (seat_at c st) Begin ≡ happened (record (with_item m k 0) { batch = ks }) (event.Begin k)
+after_begins : (m : Machine) (c k : ℕ) (ks : List ℕ) (st : Stage) → st ≡ Owns None [] (k ∷ ks) → HasStage m c st → after m (seat_at c st) Begin ≡ happened (record (with_item m k 0) { batch = ks }) (event.Begin k)
 after_begins m c k ks st is keeps =
-    let kept : Keeps m c (Owns None [] (k ∷ ks)) = subst (Keeps m c) is keeps in ap (λ (x : Stage). after m (seat_at c x) Begin) is ∙ ap (after_begin m) kept.3
+    let kept : HasStage m c (Owns None [] (k ∷ ks)) = subst (HasStage m c) is keeps in ap (λ (x : Stage). after m (seat_at c x) Begin) is ∙ ap (after_begin m) kept.3
 
 pub begin_tells : (k word : ℕ) (p q : Part) (ks : List ℕ) → p.seat ≡ owner_seat → p.stage ≡ Owns None [] (k ∷ ks) → Makes Begin word p q → Tells (event.Begin k ∷ []) p q
 begin_tells k word p q ks mine is makes = tells Begin word p q makes _ _ (after_begins makes.before p.seat k ks p.stage is makes.fits.keeps) refl refl (own_one p.seat (event.Begin k) (sym mine))
@@ -157,10 +157,10 @@ chain_tells k word p q mine is makes =
 pub chain_stage : (k word : ℕ) (p q : Part) (ks : List ℕ) → p.stage ≡ Owns None [] ks → Makes (Chain k) word p q → q.stage ≡ Owns None [] (if word == 0 then ks ++ k ∷ [] else ks)
 chain_stage k word p q ks is makes = makes.stage_is ∙ ap (λ (st : Stage). stage_after st (Chain k) word) is
 
-pub owner_grows : (xs : List Event) (n : ℕ) (s t : Inside) → Executes s → TellsSo xs n s.chair.part t.chair.part → Grows owner_seat xs n s.chair.part.seen t.chair.part.seen
+pub owner_grows : (xs : List Event) (n : ℕ) (s t : Inside) → OwnsQueue s → TellsSo xs n s.chair.part t.chair.part → Grows owner_seat xs n s.chair.part.seen t.chair.part.seen
 owner_grows xs n s t executes told = subst (λ (c : ℕ). Grows c xs n s.chair.part.seen t.chair.part.seen) executes.number_is told.grows
 
-pub owner_sees : (xs : List Event) (n : ℕ) (s t : Inside) (now : Known) → owner_view s ≡ now → Executes s → t.layout ≡ s.layout → t.chair.queue ≡ s.chair.queue → TellsSo xs n s.chair.part t.chair.part
+pub owner_sees : (xs : List Event) (n : ℕ) (s t : Inside) (now : Known) → owner_view s ≡ now → OwnsQueue s → t.layout ≡ s.layout → t.chair.queue ≡ s.chair.queue → TellsSo xs n s.chair.part t.chair.part
     → Sees xs n now (owner_view t)
 owner_sees xs n s t now view executes layout queue told = subst (λ (v : Known). Sees xs n v (owner_view t)) view record {
   same = record { queue_is = queue; layout_is = layout; number_is = refl };
@@ -169,14 +169,14 @@ owner_sees xs n s t now view executes layout queue told = subst (λ (v : Known).
 }
 
 -- a part of what the owner keeps after a step
-pub owner_layout : (xs : List Event) (n : ℕ) (s t : Inside) → Executes s → t.layout ≡ s.layout → TellsSo xs n s.chair.part t.chair.part → t.chair.part.layout ≡ t.layout
+pub owner_layout : (xs : List Event) (n : ℕ) (s t : Inside) → OwnsQueue s → t.layout ≡ s.layout → TellsSo xs n s.chair.part t.chair.part → t.chair.part.layout ≡ t.layout
 owner_layout xs n s t executes layout told = told.layout_is ∙ (executes.layout_is ∙ sym layout)
 
-pub owner_number : (xs : List Event) (n : ℕ) (s t : Inside) → Executes s → TellsSo xs n s.chair.part t.chair.part → t.chair.part.seat ≡ owner_seat
+pub owner_number : (xs : List Event) (n : ℕ) (s t : Inside) → OwnsQueue s → TellsSo xs n s.chair.part t.chair.part → t.chair.part.seat ≡ owner_seat
 owner_number xs n s t executes told = told.seat_is ∙ executes.number_is
 
 -- the batch that the owner keeps is that of what it has seen
-pub owner_batch : (s : Inside) (now : Known) → owner_view s ≡ now → Executes s → s.batch.items ≡ batch now.seen
+pub owner_batch : (s : Inside) (now : Known) → owner_view s ≡ now → OwnsQueue s → s.batch.items ≡ batch now.seen
 owner_batch s now view executes = stands_batch s.chair.part s.batch.items executes.stands executes.stage_is ∙ ap (λ (v : Known). batch v.seen) view
 
 -- nothing runs, or one does

@@ -1,5 +1,0 @@
-//! Calls of a queue in one thread and in several.
-mod calls;
-mod memory;
-mod reading;
-mod threads;
