@@ -7,6 +7,8 @@ pub mod Waiting
 pub mod Row
 pub mod Owned
 pub mod OwnerTells
+pub mod Linking
+pub mod Hanging
 pub mod Taken
 pub mod Taking
 pub mod Meeting

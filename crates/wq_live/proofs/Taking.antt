@@ -19,7 +19,7 @@ use Rattle.wq_table.specs.Plays.{Makes}
 use Rattle.wq_live.specs.Batch.{TakesAll}
 use Rattle.wq_live.specs.Sits.{Stands, OnlySees}
 use Rattle.wq_live.proofs.Growing.{grows_on}
-use Rattle.wq_live.proofs.Tells.{Tells, TellsSo, seen_after}
+use Rattle.wq_live.proofs.Tells.{Tells, TellsSo, tells_then, seen_after}
 use Rattle.wq_live.proofs.OwnerTells.{stands_batch, stands_legal, owner_of, after_take, after_close}
 use Rattle.wq_live.proofs.Taken.{rested_lengths, takes_all, closes_all}
 
@@ -51,6 +51,18 @@ module _ (word : ℕ) (p q r : Part) (ks js : List ℕ) (count : ℕ) (mine : p.
       let seen : q.seen ≡ m.history ++ event.Close ∷ [] = seen_after Close word p q makes _ (event.Close ∷ []) (after_close m p.seat p.stage (owner_of p.stage ks stage)) refl in
       let is : r.seen ≡ m.history ++ event.Close ∷ follows.grows.new = follows.grows.is ∙ (ap (λ (x : List Event). x ++ follows.grows.new) seen ∙ append_assoc m.history (event.Close ∷ []) follows.grows.new) in
       closes_all r.layout m.history follows.grows.new r.seen ks js count (stands_legal r stands) is (none_after makes.seat_is) (lengths m makes.sound makes.fits.keeps) (stands_batch r js stands stage') total
+
+-- what was seen without an event of one's own, and a step after it
+pub sees_tells : (p q : Part) → OnlySees p q → Stands q → Tells [] p q
+sees_tells p q follows stands = record {
+  layout_is = follows.layout_is;
+  seat_is = follows.seat_is;
+  grows = follows.grows;
+  legal = subst (λ (l : Layout). IsLegal l q.seen) follows.layout_is (stands_legal q stands);
+}
+
+pub sees_then : (ys : ℕ → List Event) (p q r : Part) → OnlySees p q → Stands q → Tells (ys q.seat) q r → Tells (ys p.seat) p r
+sees_then ys p q r follows stands told = tells_then ys 0 0 p q r (sees_tells p q follows stands) told
 
 -- the step and the walk after it, for the calls
 pub layout_at : (l l' : Layout) (n : ℕ) → l ≡ l' → number_count l ≤ n → number_count l' ≤ n

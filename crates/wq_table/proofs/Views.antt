@@ -154,7 +154,7 @@ opening_sender : (l : Layout) (c : ℕ) → c < l.senders → IsPartOf (opening_
 opening_sender l c below = record { layout_is = refl; begins = prefix_self []; mine = refl; keeps = (below, private_opening l.senders c); links = tt }
 
 -- nothing stands in two empty lists
-none_stands : (k : ℕ) → StandsIn [] [] k → ⊥
+pub none_stands : (k : ℕ) → StandsIn [] [] k → ⊥
 none_stands k = ⊎_elim (λ there. let lt = there.1 in omega arith) (λ there. let lt = there.1 in omega arith)
 
 opening_owner : (l : Layout) → IsPartOf (opening_machine l) (owner_part l)
