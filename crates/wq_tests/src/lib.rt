@@ -5,4 +5,6 @@
 #[cfg(test)]
 mod machine;
 #[cfg(test)]
+mod text;
+#[cfg(test)]
 mod words;

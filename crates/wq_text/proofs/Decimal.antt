@@ -3,16 +3,11 @@ use Rattle.std.proofs.Common.{◌≡◌, ℕ, zero, suc, ◌<◌, ◌^◌, Bool,
 use Rattle.std.specs.Fmt.{decimal}
 use Rattle.std.specs.Str.{all_ascii_digits}
 use Rattle.std.specs.Str.Parse.{digits_value}
-use Rattle.std.proofs.lemmas.Bool.{lt-ltb, ltb-true, leb-true, eq-eqb, ne_eqb}
+use Rattle.std.proofs.lemmas.Bool.{and_parts, lt-ltb, ltb-true, leb-true, eq-eqb, ne_eqb}
 use Rattle.std.proofs.lemmas.Fmt.{decimal-digits_value, digits_value-decimal, digits_decimal, decimal_nonempty, first_decimal, decimal_digit}
 use Rattle.wq_text.specs.Word.{number_at, is_numeral}
 use Rattle.wq_text.specs.Decimal.{ReadsDecimals}
 use Rattle.wq_text.proofs.Words.{own}
-
-both : (a b : Bool) → (a && b) ≡ true → (a ≡ true) × (b ≡ true)
-both true true e = (refl, refl)
-both true false e = (refl, e)
-both false b e = cc
 
 -- where a test decides a number, a number says that the test passed
 passed : (b : Bool) (m n : ℕ) → (if b then Some m else None) ≡ Some n → (b ≡ true) × (m ≡ n)
@@ -33,9 +28,9 @@ to_decimal : (w : List ℕ) (n : ℕ) → number_at w ≡ Some n → (w ≡ deci
 unfolding number_at
 to_decimal w n e =
     let t = passed (is_numeral w && nat_lt (digits_value 10 w) (2 ^ 64)) (digits_value 10 w) n e in
-    let p = both (is_numeral w) (nat_lt (digits_value 10 w) (2 ^ 64)) t.0 in
-    let q = both (nat_lt 0 (length w)) (all_ascii_digits w && (nat_le (length w) 1 || not (get_or w 0 0 == 48))) p.0 in
-    let r = both (all_ascii_digits w) (nat_le (length w) 1 || not (get_or w 0 0 == 48)) q.1 in
+    let p = and_parts (is_numeral w) (nat_lt (digits_value 10 w) (2 ^ 64)) t.0 in
+    let q = and_parts (nat_lt 0 (length w)) (all_ascii_digits w && (nat_le (length w) 1 || not (get_or w 0 0 == 48))) p.0 in
+    let r = and_parts (all_ascii_digits w) (nat_le (length w) 1 || not (get_or w 0 0 == 48)) q.1 in
     let some : 0 < length w = ltb-true _ _ q.0 in
     let small : digits_value 10 w < 2 ^ 64 = ltb-true _ _ p.1 in
     let written : decimal (digits_value 10 w) ≡ w = decimal-digits_value own w r.0 some (no_zero_in_front w r.1 some) small in

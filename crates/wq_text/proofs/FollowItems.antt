@@ -1,5 +1,5 @@
 -- The items of a follow list, read one by one.
-use Rattle.std.proofs.Common.{◌≡◌, ℕ, zero, suc, arith, All, ◌+◌, ◌<◌, ◌≤◌, List, [], ◌∷◌, ◌++◌, length, get_or, drop, map, Result, Ok, Err, refl, sym, ap, subst, ◌∙◌}
+use Rattle.std.proofs.Common.{◌≡◌, ℕ, ◌+◌, ◌<◌, ◌≤◌, List, [], ◌∷◌, ◌++◌, length, get_or, drop, map, Result, Ok, Err, refl, sym, ap, subst, ◌∙◌}
 use Rattle.std.proofs.lemmas.List.{append_assoc, append-nil, at_drop_more, at_drop_all}
 use Rattle.wq_text.specs.declared.fault.Kind.{Kind}
 use Rattle.wq_text.specs.declared.fault.LineError.{LineError}
@@ -7,10 +7,6 @@ use Rattle.wq_text.specs.declared.fault.LineError.TheVariants as line_errors
 use Rattle.wq_text.specs.Arguments.{each, word_and_at_most, one_and_at_most}
 use Rattle.wq_text.specs.Fault.{◌>>=◌, LineFailsAs}
 use denote.Ref.{Bor}
-
-pub all_one : (P : ℕ → Type 0) (x : ℕ) → P x → All P (x ∷ [])
-all_one P x here zero d lt = here
-all_one P x here (suc k) d lt = absurd (omega (arith, lt))
 
 -- the numbers of the words ws, behind those that were read
 abbrev pub behind : (List ℕ → Result ℕ Kind) → List ℕ → List (Bor (List ℕ)) → Result (List ℕ) Kind

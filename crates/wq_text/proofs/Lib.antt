@@ -2,7 +2,8 @@ pub mod Words
 pub mod Decimal
 pub mod FollowItems
 pub mod LineWords
+pub mod Limited
 pub mod Texts
+pub mod Outcomes
 pub mod Sound
-pub mod FirstFault
 pub mod Turns

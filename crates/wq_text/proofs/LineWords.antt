@@ -1,12 +1,18 @@
 -- Plain lines and their words.
-use Rattle.std.proofs.Common.{◌≡◌, ℕ, zero, suc, Bool, true, false, ◌&&◌, List, [], ◌∷◌, length, map, Result, Ok, Err, nat_lt, nat_le, refl, arith}
+use Rattle.std.proofs.Common.{◌≡◌, ℕ, zero, suc, true, false, List, [], ◌∷◌, length, map, Option, None, Result, Ok, Err, nat_lt, nat_le, refl, sym, ap, ◌∙◌, arith, if◌then◌else◌}
 use Rattle.std.specs.List.{list_all}
 use Rattle.std.specs.Str.{IsAscii, IsUtf8, IsValidUpTo, valid_up_to}
 use Rattle.std.specs.declared.str.Utf8Error.{Utf8Error}
 use Rattle.std.specs.Result.{MatchResult, result_ok}
 use Rattle.std.specs.Option.{MatchOption}
 use Rattle.std.proofs.lemmas.Str.{IsUtf8-from_ascii}
-use Rattle.std.proofs.lemmas.Bool.{leb-true}
+use Rattle.std.proofs.lemmas.Bool.{leb-true, and_parts}
+use Rattle.wq_text.specs.declared.fault.LineError.{LineError}
+use Rattle.wq_text.specs.declared.fault.LineError.TheVariants as line_errors
+use Rattle.wq_text.specs.declared.header.Stage.{Stage}
+use Rattle.wq_text.specs.Fault.{LineFailsAs, of_one}
+use Rattle.wq_text.specs.Header.{is_header, header_line_gives}
+use Rattle.wq_text.specs.Line.{Grammar, asking_line, by_first_word}
 use Rattle.wq_text.specs.Word.{is_plain}
 use Rattle.std.proofs.lemmas.List.Folds.{list_all-map}
 use denote.Ref.{Bor}
@@ -18,18 +24,10 @@ pub no_words : (ws : List (Bor (List ℕ))) → length ws ≡ 0 → map (λ w. w
 no_words [] e = refl
 no_words (w ∷ ws) e = absurd (omega (arith, e))
 
-both : (a b : Bool) → (a && b) ≡ true → (a ≡ true) × (b ≡ true)
-both true true e = (refl, refl)
-both true false e = (refl, e)
-both false b e = (e, absurd (false_true e))
-  where
-    false_true : false ≡ true → ⊥
-    false_true e = cc
-
 ascii : (line : List ℕ) → list_all is_plain line ≡ true → IsAscii line
 ascii [] e i = omega arith
-ascii (b ∷ bs) e zero = let plain = (both (is_plain b) (list_all is_plain bs) e).0 in let le = leb-true b 126 (both (nat_le 32 b) (nat_le b 126) plain).1 in omega (arith, le)
-ascii (b ∷ bs) e (suc i) = ascii bs (both (is_plain b) (list_all is_plain bs) e).1 i
+ascii (b ∷ bs) e zero = let plain = (and_parts (is_plain b) (list_all is_plain bs) e).0 in let le = leb-true b 126 (and_parts (nat_le 32 b) (nat_le b 126) plain).1 in omega (arith, le)
+ascii (b ∷ bs) e (suc i) = ascii bs (and_parts (is_plain b) (list_all is_plain bs) e).1 i
 
 pub plain_utf8 : (line : List ℕ) → list_all is_plain line ≡ true → IsUtf8 line
 plain_utf8 line e = IsUtf8-from_ascii line (ascii line e)
@@ -38,3 +36,17 @@ pub plain_read : (line : List ℕ) (r : Result (Bor (List ℕ)) Utf8Error) → l
     → MatchOption (result_ok r) (list_all is_plain line ≡ false) (λ text. (list_all is_plain line ≡ true) × (text.now ≡ line))
 plain_read line (Ok s) e h = (e, h.0)
 plain_read line (Err x) e h = absurd (h.0 (plain_utf8 line e))
+
+-- a line of the header
+module _ {N A : Type 0} (g : Grammar N A) (s : Stage) (w : List ℕ) (ws : List (List ℕ)) where
+  by_header : (most : ℕ) → is_header w ≡ true → most ≡ g.most_senders → by_first_word g s w ws ≡ of_one (λ next. (next, None)) (header_line_gives most s w ws)
+  by_header most is same =
+      ap (λ b. if b then of_one (λ next. (next, None)) (header_line_gives g.most_senders s w ws) else asking_line g s w ws) is
+      ∙ ap (λ m. of_one (λ next. (next, None)) (header_line_gives m s w ws)) (sym same)
+
+  pub header_given : (most : ℕ) (next : Stage) → is_header w ≡ true → most ≡ g.most_senders → header_line_gives most s w ws ≡ Ok next → by_first_word g s w ws ≡ Ok (next, None)
+  header_given most next is same given = let alone : Stage → Stage × Option A = λ x. (x, None) in by_header most is same ∙ ap (of_one alone) given
+
+  pub header_fails : (e : LineError) (most : ℕ) → is_header w ≡ true → most ≡ g.most_senders → LineFailsAs e (header_line_gives most s w ws) → LineFailsAs e (by_first_word g s w ws)
+  header_fails line_errors.Memory most is same given = tt
+  header_fails (line_errors.Fault k) most is same given = let alone : Stage → Stage × Option A = λ x. (x, None) in by_header most is same ∙ ap (of_one alone) given

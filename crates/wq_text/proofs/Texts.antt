@@ -1,22 +1,22 @@
 -- The parts of a text, and reading them one by one.
-use Rattle.std.proofs.Common.{◌≡◌, ℕ, suc, ◌+◌, ◌<◌, ◌≤◌, Bool, true, false, not, List, [], ◌∷◌, ◌++◌, length, take, drop, cond, Option, Some, None, Result, Ok, position, ◌==◌, refl, sym, ap, ◌∙◌, arith, subst, if◌then◌else◌, inl, inr}
+use Rattle.std.proofs.Common.{◌≡◌, ℕ, suc, ◌+◌, ◌<◌, ◌≤◌, Bool, true, false, not, List, [], ◌∷◌, ◌++◌, length, take, drop, cond, Option, Some, None, Ok, Err, position, ◌==◌, refl, sym, ap, ◌∙◌, arith, subst, inl, inr, length-append, append_assoc, count_by}
 use Rattle.std.specs.List.{slice_split, position_or_len, onto_first}
 use Rattle.std.specs.Option.{option_to_list}
-use Rattle.std.proofs.lemmas.Bool.{cases_lt, lt-ltb, le-ltb}
+use Rattle.std.proofs.lemmas.Bool.{cases_lt, lt-ltb, le-ltb, eqb-true, eqb-false}
+use Rattle.std.proofs.lemmas.List.{append-nil}
 use Rattle.std.proofs.lemmas.List.Splits.{slice_split-cons_no, slice_split_first, length-slice_split}
-use Rattle.wq_text.specs.declared.header.Header.{Header}
+use Rattle.wq_words.specs.declared.layout.Layout.{Layout}
 use Rattle.wq_text.specs.declared.fault.Kind.TheVariants as kind
 use Rattle.wq_text.specs.declared.fault.ScriptError.{ScriptError}
 use Rattle.wq_text.specs.declared.fault.ParseError.{ParseError}
 use Rattle.wq_text.specs.declared.fault.ParseError.TheVariants as errors
+use Rattle.wq_text.specs.Fault.{RefusedFor}
 use Rattle.wq_text.specs.declared.header.Stage.{Stage}
 use Rattle.wq_text.specs.declared.header.Stage.TheVariants as stage
+use Rattle.wq_text.specs.Header.{layout_at}
+use Rattle.wq_text.specs.Line.{Lines}
+use Rattle.wq_text.specs.Text.{LinesLead, Spells, HasLineFault, IsRefusal, end_fault}
 use Rattle.wq_text.specs.Word.{parts}
-use Rattle.wq_text.specs.Fault.{◌>>=◌, at_line, refused, FailsAs}
-use Rattle.wq_text.specs.Text.{Language, ends_with, with_asked, read_from, text_gives}
-
-is_lf : ℕ → Bool
-is_lf b = b == 10
 
 one_step : (p : ℕ → Bool) (x : ℕ) (xs : List ℕ) (b : Bool) → p x ≡ b → (length xs ≤ position_or_len p xs → slice_split p xs ≡ xs ∷ []) → suc (length xs) ≤ cond (not b) (1 + position_or_len p xs) 0 → slice_split p (x ∷ xs) ≡ (x ∷ xs) ∷ []
 one_step p x xs true e more le = absurd (omega (arith, le))
@@ -50,46 +50,69 @@ one_line text end e = elim (cases_lt (position_or_len (λ b. b == 10) text) (len
     differ : {n : ℕ} → Some n ≡ None → ⊥
     differ e = cc
 
--- a text has a part
-parts_some : (text : List ℕ) → 0 < length (parts text)
-parts_some text = omega (arith, length-slice_split (λ b. b == 10) text)
+pub refused_for : (P Q : ScriptError → Type 0) (e : ParseError) → ((x : ScriptError) → P x → Q x) → RefusedFor e P → RefusedFor e Q
+refused_for P Q errors.Memory all given = tt
+refused_for P Q (errors.Refused x) all given = all x given
 
-module _ {A : Type 0} (gives : Language A) where
-  read_cons : (n : ℕ) (s : Stage) (cs : List A) (line : List ℕ) (ps : List (List ℕ)) → 0 < length ps
-      → read_from gives n s cs (line ∷ ps) ≡ (at_line n (gives s line) >>= λ x. read_from gives (n + 1) x.0 (cs ++ option_to_list x.1) ps)
-  unfolding read_from
-  read_cons n s cs line [] some = absurd (omega (arith, some))
-  read_cons n s cs line (p ∷ ps) some = refl
+module _ {A : Type 0} (gives : Lines A) where
+  -- the lines before the rest of the text were read, and line n is next
+  pub record IsReadTo (text rest : List ℕ) (n : ℕ) (s : Stage) (asked : List A) : Type 0 where
+    pub before : List (List ℕ)
+    pub split : parts text ≡ before ++ parts rest
+    pub leads : LinesLead gives stage.Version before s asked
+    pub number : n ≡ 1 + length before
 
-  pub read_ok : (n : ℕ) (s next : Stage) (cs new : List A) (c : Option A) (rest line after : List ℕ) (all : Result (Header × List A) ScriptError) → parts rest ≡ line ∷ parts after
-      → at_line n (gives s line) ≡ Ok (next, c) → new ≡ cs ++ option_to_list c → read_from gives n s cs (parts rest) ≡ all → read_from gives (n + 1) next new (parts after) ≡ all
-  read_ok n s next cs new c rest line after all cut given added told =
-      ap (λ x. read_from gives (n + 1) next x (parts after)) added
-      ∙ sym (ap (read_from gives n s cs) cut ∙ read_cons n s cs line (parts after) (parts_some after) ∙ ap (λ r. r >>= λ x. read_from gives (n + 1) x.0 (cs ++ option_to_list x.1) (parts after)) given)
-      ∙ told
+  pub read_nothing : (text : List ℕ) (asked : List A) → asked ≡ [] → IsReadTo text text 1 stage.Version asked
+  read_nothing text asked none = record { before = []; split = refl; leads = (refl, none); number = refl }
 
-  pub read_err : (e : ParseError) (n : ℕ) (s : Stage) (cs : List A) (rest line after : List ℕ) (all : Result (Header × List A) ScriptError) → parts rest ≡ line ∷ parts after
-      → FailsAs e (at_line n (gives s line)) → read_from gives n s cs (parts rest) ≡ all → FailsAs e all
-  read_err errors.Memory n s cs rest line after all cut given told = tt
-  read_err (errors.Refused e) n s cs rest line after all cut given told =
-      sym told ∙ ap (read_from gives n s cs) cut ∙ read_cons n s cs line (parts after) (parts_some after) ∙ ap (λ r. r >>= λ x. read_from gives (n + 1) x.0 (cs ++ option_to_list x.1) (parts after)) given
+  leads_more : (s t next : Stage) (lines : List (List ℕ)) (line : List ℕ) (one : Option A) (asked : List A) → LinesLead gives s lines t asked → gives t line ≡ Ok (next, one)
+      → LinesLead gives s (lines ++ line ∷ []) next (asked ++ option_to_list one)
+  leads_more s t next [] line one asked leads given =
+      ((next, one), [], ap (λ x. gives x line) leads.0 ∙ given, ap (λ (xs : List A). xs ++ option_to_list one) leads.1 ∙ sym (append-nil (option_to_list one)), (refl, refl))
+  leads_more s t next (first ∷ lines) line one asked leads given =
+      (leads.0, leads.1 ++ option_to_list one, leads.2, ap (λ (xs : List A). xs ++ option_to_list one) leads.3 ∙ append_assoc (option_to_list leads.0.1) leads.1 (option_to_list one), leads_more leads.0.0 t next lines line one leads.1 leads.4 given)
 
-  pub read_cut : (n : ℕ) (s : Stage) (cs : List A) (rest : List ℕ) (all : Result (Header × List A) ScriptError) → parts rest ≡ rest ∷ [] → (length rest == 0) ≡ false → read_from gives n s cs (parts rest) ≡ all → all ≡ refused n kind.Cut
-  unfolding read_from
-  read_cut n s cs rest all last some told = sym told ∙ ap (read_from gives n s cs) last ∙ ap (λ b. if b then with_asked cs (ends_with n s) else refused n kind.Cut) some
+  pub read_more : (text rest line after : List ℕ) (n : ℕ) (s next : Stage) (asked new : List A) (one : Option A) → IsReadTo text rest n s asked → parts rest ≡ line ∷ parts after
+      → gives s line ≡ Ok (next, one) → new ≡ asked ++ option_to_list one → IsReadTo text after (n + 1) next new
+  read_more text rest line after n s next asked new one read cut given added =
+      let P : List A → Type 0 = λ xs. LinesLead gives stage.Version (read.before ++ line ∷ []) next xs in
+      record {
+        before = read.before ++ line ∷ [];
+        split = read.split ∙ ap (λ ps. read.before ++ ps) cut ∙ sym (append_assoc read.before (line ∷ []) (parts after));
+        leads = subst P (sym added) (leads_more stage.Version s next read.before line one asked read.leads given);
+        number = omega (arith, read.number, length-append read.before (line ∷ []));
+      }
 
-  pub read_end : (n : ℕ) (s : Stage) (cs : List A) (rest : List ℕ) (all : Result (Header × List A) ScriptError) → parts rest ≡ rest ∷ [] → (length rest == 0) ≡ true → read_from gives n s cs (parts rest) ≡ all → all ≡ with_asked cs (ends_with n s)
-  unfolding read_from
-  read_end n s cs rest all last none told = sym told ∙ ap (read_from gives n s cs) last ∙ ap (λ b. if b then with_asked cs (ends_with n s) else refused n kind.Cut) none
+  faulty_at : (text rest line : List ℕ) (behind : List (List ℕ)) (n : ℕ) (s : Stage) (asked : List A) (e : ScriptError) → length text ≤ 1048576 → IsReadTo text rest n s asked
+      → parts rest ≡ line ∷ behind → e.line ≡ n → HasLineFault gives s line behind e.kind → IsRefusal gives text e
+  faulty_at text rest line behind n s asked e short read cut here fault =
+      inr (record { short = short; before = read.before; faulty = line; behind = behind; reached = s; asked = asked; split = read.split ∙ ap (λ ps. read.before ++ ps) cut; leads = read.leads; number = here ∙ read.number; fault = fault })
 
-  pub end_err : (e : ParseError) (cs : List A) (read : Result Header ScriptError) (all : Result (Header × List A) ScriptError) → all ≡ with_asked cs read → FailsAs e read → FailsAs e all
-  end_err errors.Memory cs read all same given = tt
-  end_err (errors.Refused e) cs read all same given = same ∙ ap (with_asked cs) given
+  pub faulty_line : (text rest line after : List ℕ) (n : ℕ) (s : Stage) (asked : List A) (e : ScriptError) → length text ≤ 1048576 → IsReadTo text rest n s asked
+      → parts rest ≡ line ∷ parts after → e.line ≡ n → gives s line ≡ Err e.kind → IsRefusal gives text e
+  faulty_line text rest line after n s asked e short read cut here given = faulty_at text rest line (parts after) n s asked e short read cut here (followed (parts after) (length-slice_split (λ b. b == 10) after))
+    where
+      followed : (ps : List (List ℕ)) → length ps ≡ count_by (λ b. b == 10) after + 1 → HasLineFault gives s line ps e.kind
+      followed [] some = absurd (omega (arith, some))
+      followed (p ∷ ps) some = given
 
-  pub begun_told : (text : List ℕ) (cs : List A) → cs ≡ [] → length text ≤ 1048576 → read_from gives 1 stage.Version cs (parts text) ≡ text_gives gives text
-  unfolding text_gives
-  begun_told text cs none le = ap (λ x. read_from gives 1 stage.Version x (parts text)) none ∙ ap (λ b. if b then refused 1 kind.Size else read_from gives 1 stage.Version [] (parts text)) (sym (le-ltb 1048576 (length text) le))
+  pub cut_short : (text rest : List ℕ) (n : ℕ) (s : Stage) (asked : List A) (e : ScriptError) → length text ≤ 1048576 → IsReadTo text rest n s asked
+      → parts rest ≡ rest ∷ [] → (length rest == 0) ≡ false → e.line ≡ n → e.kind ≡ kind.Cut → IsRefusal gives text e
+  cut_short text rest n s asked e short read last some here is_cut = faulty_at text rest rest [] n s asked e short read last here (unended rest some)
+    where
+      unended : (line : List ℕ) → (length line == 0) ≡ false → HasLineFault gives s line [] e.kind
+      unended [] some = absurd (eqb-false 0 0 some refl)
+      unended (b ∷ bs) some = is_cut
 
-  pub too_long : (text : List ℕ) → 1048576 < length text → text_gives gives text ≡ refused 1 kind.Size
-  unfolding text_gives
-  too_long text lt = ap (λ b. if b then refused 1 kind.Size else read_from gives 1 stage.Version [] (parts text)) (lt-ltb 1048576 (length text) lt)
+  nothing_left : (rest : List ℕ) → (length rest == 0) ≡ true → rest ≡ []
+  nothing_left [] none = refl
+  nothing_left (b ∷ bs) none = absurd (omega (arith, eqb-true (length (b ∷ bs)) 0 none))
+
+  pub no_header : (text rest : List ℕ) (n : ℕ) (s : Stage) (asked : List A) (e : ScriptError) → length text ≤ 1048576 → IsReadTo text rest n s asked
+      → parts rest ≡ rest ∷ [] → (length rest == 0) ≡ true → e.line ≡ n → end_fault s ≡ Some e.kind → IsRefusal gives text e
+  no_header text rest n s asked e short read last none here fault = faulty_at text rest [] [] n s asked e short read (last ∙ ap (λ (x : List ℕ). x ∷ []) (nothing_left rest none)) here fault
+
+  pub spelled : (text rest : List ℕ) (n : ℕ) (s : Stage) (layout : Layout) (asked : List A) → length text ≤ 1048576 → IsReadTo text rest n s asked
+      → parts rest ≡ rest ∷ [] → (length rest == 0) ≡ true → layout_at s ≡ Some layout → Spells gives text layout asked
+  spelled text rest n s layout asked short read last none whole =
+      record { short = short; lines = read.before; reached = s; split = read.split ∙ ap (λ ps. read.before ++ ps) (last ∙ ap (λ (x : List ℕ). x ∷ []) (nothing_left rest none)); leads = read.leads; whole = whole }

@@ -1,13 +1,8 @@
 -- The words of a step.
-use Rattle.std.proofs.Common.{◌≡◌, ◌≢◌, ℕ, zero, suc, arith, All, ◌-◌, Bool, true, false, List, [], ◌∷◌, length, take, map, Option, Some, None, ◌==◌, refl, sym, ap, subst, MatchOption, if◌then◌else◌}
+use Rattle.std.proofs.Common.{◌≡◌, ◌≢◌, ℕ, ◌-◌, Bool, true, false, List, [], ◌∷◌, length, take, map, Option, Some, None, ◌==◌, refl, sym, ap, subst, MatchOption, if◌then◌else◌}
 use Rattle.std.proofs.lemmas.Bool.{eqb-true}
 use Rattle.std.proofs.lemmas.List.{length-map, take-map}
-use Rattle.std.specs.List.{AllByRecursion}
-use Rattle.wq_words.specs.declared.layout.Layout.{Layout}
-use Rattle.wq_text.specs.declared.header.Header.{Header}
-use Rattle.wq_text.specs.Sound.{HasNumbers}
-use Rattle.wq_text.specs.Turn.{Turn, after_b, without_last}
-use Rattle.wq_text.specs.Turns.{PlacedIn, TurnFits}
+use Rattle.wq_text.specs.Turn.{after_b, without_last}
 use denote.Ref.{Bor}
 
 no_b : (b : ℕ) (bs : List ℕ) (e : Bool) → (b == 98) ≡ e → ((rest : List ℕ) → (b ∷ bs) ≢ 98 ∷ rest) → (if e then Some bs else None) ≡ None
@@ -21,9 +16,3 @@ stripped (b ∷ bs) None h = no_b b bs (b == 98) refl h
 
 pub without_last-map : (ws : List (Bor (List ℕ))) → map (λ w. w.now) (take (length ws - 1) ws) ≡ without_last (map (λ w. w.now) ws)
 without_last-map ws = rw (length-map ws (λ w. w.now)) (sym (take-map (λ w. w.now) (length ws - 1) ws))
-
--- what fits the header is placed in the layout of its numbers
-pub turns_placed : (layout : Layout) (header : Header) (turns : List Turn) → HasNumbers layout header → AllByRecursion (TurnFits header) turns → All (PlacedIn layout) turns
-turns_placed layout header [] same all k d within = absurd (omega (arith, within))
-turns_placed layout header (t ∷ turns) same all zero d within = all.0 layout same
-turns_placed layout header (t ∷ turns) same all (suc k) d within = turns_placed layout header turns same all.1 k d (omega (arith, within))

@@ -2,7 +2,7 @@
 use Rattle.std.specs.Prelude.{ℕ, ◌&&◌, List, [], ◌∷◌, length, Result, Ok, Err, nat_lt, nat_le, if◌then◌else◌}
 use Rattle.wq_text.specs.declared.fault.Kind.{Kind}
 use Rattle.wq_text.specs.declared.fault.Kind.TheVariants as kind
-use Rattle.wq_text.specs.declared.header.Header.{Header}
+use Rattle.wq_words.specs.declared.layout.Layout.{Layout}
 use Rattle.wq_text.specs.Fault.{◌>>=◌, need, found}
 use Rattle.wq_text.specs.Word.{number_at}
 
@@ -22,14 +22,14 @@ below k bound w = do
   _ ← need k (nat_lt n bound)
   Ok n
 
-abbrev pub sender : Header → List ℕ → Result ℕ Kind
-sender header w = below kind.Sender header.senders w
+abbrev pub sender : Layout → List ℕ → Result ℕ Kind
+sender layout w = below kind.Sender layout.senders w
 
-abbrev pub item : Header → List ℕ → Result ℕ Kind
-item header w = below kind.Item header.items w
+abbrev pub item : Layout → List ℕ → Result ℕ Kind
+item layout w = below kind.Item layout.items w
 
-abbrev pub barrier : Header → List ℕ → Result ℕ Kind
-barrier header w = below kind.Barrier header.barriers w
+abbrev pub barrier : Layout → List ℕ → Result ℕ Kind
+barrier layout w = below kind.Barrier layout.barriers w
 
 abbrev pub limit : List ℕ → Result ℕ Kind
 limit w = between kind.Limit 1 65536 w

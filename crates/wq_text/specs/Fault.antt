@@ -1,5 +1,5 @@
 -- Tests in a row: a value, or the first fault.
-use Rattle.std.specs.Prelude.{◌≡◌, ℕ, Bool, true, false, Option, Some, None, Result, Ok, Err}
+use Rattle.std.specs.Prelude.{◌≡◌, Bool, true, false, Option, Some, None, Result, Ok, Err}
 use Rattle.wq_text.specs.declared.fault.Kind.{Kind}
 use Rattle.wq_text.specs.declared.fault.LineError.{LineError}
 use Rattle.wq_text.specs.declared.fault.LineError.TheVariants as line_errors
@@ -21,13 +21,15 @@ abbrev pub found : {A : Type 0} → Kind → Option A → Result A Kind
 found k None = Err k
 found k (Some x) = Ok x
 
--- the fault k on line n
-abbrev pub refused : {X : Type 0} → ℕ → Kind → Result X ScriptError
-refused n k = Err (record { line = n; kind = k })
+-- a command, a stage or the like that is made of nothing, of one value, or of two
+abbrev pub of_none : {C : Type 0} → C → Result (Unit {0}) Kind → Result C Kind
+of_none c told = told >>= λ _. Ok c
 
-abbrev pub at_line : {X : Type 0} → ℕ → Result X Kind → Result X ScriptError
-at_line n (Ok x) = Ok x
-at_line n (Err k) = refused n k
+abbrev pub of_one : {A C : Type 0} → (A → C) → Result A Kind → Result C Kind
+of_one c told = told >>= λ a. Ok (c a)
+
+abbrev pub of_two : {A B C : Type 0} → (A → B → C) → Result (A × B) Kind → Result C Kind
+of_two c told = told >>= λ p. Ok (c p.0 p.1)
 
 -- what a function returned for a line is what its definition gives, unless memory ran out
 abbrev pub LineFailsAs : {Y : Type 0} → LineError → Result Y Kind → Type 0
@@ -42,11 +44,11 @@ abbrev pub LineGivesAs : {X Y : Type 0} → (X → Y) → Result X LineError →
 LineGivesAs view (Ok x) told = told ≡ Ok (view x)
 LineGivesAs view (Err e) told = LineFailsAs e told
 
--- the same for a text, where the value is seen by a view
-abbrev pub FailsAs : {Y : Type 0} → ParseError → Result Y ScriptError → Type 0
-FailsAs parse_errors.Memory told = Unit {0}
-FailsAs (parse_errors.Refused e) told = told ≡ Err e
+-- the refusal of a text, if there is one, is such a fault
+abbrev pub RefusedFor : ParseError → (ScriptError → Type 0) → Type 0
+RefusedFor parse_errors.Memory P = Unit {0}
+RefusedFor (parse_errors.Refused e) P = P e
 
-abbrev pub GivesAs : {X Y : Type 0} → (X → Y) → Result X ParseError → Result Y ScriptError → Type 0
-GivesAs view (Ok x) told = told ≡ Ok (view x)
-GivesAs view (Err e) told = FailsAs e told
+abbrev pub IfRefused : {X : Type 0} → Result X ParseError → (ScriptError → Type 0) → Type 0
+IfRefused (Ok x) P = Unit {0}
+IfRefused (Err e) P = RefusedFor e P

@@ -5,9 +5,6 @@ use Rattle.wq_words.specs.declared.layout.Layout.{Layout}
 use Rattle.wq_text.specs.declared.command.Command.{Command}
 use Rattle.wq_text.specs.declared.command.Command.TheVariants as command
 
-abbrev pub IsSender : Layout → ℕ → Type 0
-IsSender layout sender = sender < layout.senders
-
 abbrev pub IsItem : Layout → ℕ → Type 0
 IsItem layout item = item < layout.items
 
@@ -15,14 +12,14 @@ abbrev pub IsBarrier : Layout → ℕ → Type 0
 IsBarrier layout barrier = barrier < layout.barriers
 
 abbrev pub Fits : Layout → Command → Type 0
-Fits layout (command.Queue sender item) = IsSender layout sender × IsItem layout item
+Fits layout (command.Queue sender item) = (sender < layout.senders) × IsItem layout item
 Fits layout (command.Run limit) = Unit {0}
 Fits layout command.Close = Unit {0}
 Fits layout command.Report = Unit {0}
 Fits layout (command.Follow item follow) = IsItem layout item × All (IsItem layout) follow.items
-Fits layout (command.Flush sender barrier) = IsSender layout sender × IsBarrier layout barrier
-Fits layout (command.Done sender barrier) = IsSender layout sender × IsBarrier layout barrier
-Fits layout (command.Stop sender) = IsSender layout sender
+Fits layout (command.Flush sender barrier) = (sender < layout.senders) × IsBarrier layout barrier
+Fits layout (command.Done sender barrier) = (sender < layout.senders) × IsBarrier layout barrier
+Fits layout (command.Stop sender) = sender < layout.senders
 Fits layout (command.Drain limit) = Unit {0}
 Fits layout (command.Check item) = IsItem layout item
 Fits layout (command.Arm item delay) = IsItem layout item

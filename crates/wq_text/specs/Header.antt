@@ -1,41 +1,71 @@
--- Where the header lines belong, and what they say.
-use Rattle.std.specs.Prelude.{Bool, true, false, not}
+-- The lines of the header: where they belong, and the layout that they name.
+use Rattle.std.specs.Prelude.{◌≡◌, ℕ, ◌≤◌, Bool, true, false, ◌||◌, List, Option, Some, None, Result, Ok, Err, nat_le, codes, refl}
+use Rattle.std.specs.Str.{bytes_eq}
+use borrow.Author.Tests.{leb-true}
 use Rattle.wq_words.specs.declared.layout.Layout.{Layout}
-use Rattle.wq_text.specs.declared.header.Header.{Header}
+use Rattle.wq_words.specs.Limits.{AreInLimits, IsBetween}
+use Rattle.wq_text.specs.declared.fault.Kind.{Kind}
+use Rattle.wq_text.specs.declared.fault.Kind.TheVariants as kind
 use Rattle.wq_text.specs.declared.header.Stage.{Stage}
 use Rattle.wq_text.specs.declared.header.Stage.TheVariants as stage
-use Rattle.wq_text.specs.declared.word.Keyword.{Keyword}
-use Rattle.wq_text.specs.declared.word.Keyword.TheVariants as keyword
+use Rattle.wq_text.specs.Arguments.{between, one}
+use Rattle.wq_text.specs.Fault.{◌>>=◌, need, of_one}
 
-abbrev pub is_header : Keyword → Bool
-is_header keyword.Items = true
-is_header keyword.Senders = true
-is_header keyword.Barriers = true
-is_header _ = false
+-- a first word of a header line
+abbrev pub is_header : List ℕ → Bool
+is_header w = bytes_eq w (codes "items") || (bytes_eq w (codes "senders") || bytes_eq w (codes "barriers"))
 
--- items, then senders, then barriers or the first command; after that, commands alone
-abbrev pub is_placed : Stage → Keyword → Bool
-is_placed stage.Version k = false
-is_placed stage.Items keyword.Items = true
-is_placed stage.Items _ = false
-is_placed (stage.Senders items) keyword.Senders = true
-is_placed (stage.Senders items) _ = false
-is_placed (stage.Barriers items senders) keyword.Barriers = true
-is_placed (stage.Barriers items senders) k = not (is_header k)
-is_placed (stage.Commands header) k = not (is_header k)
+-- items, then senders, then barriers if they are named
+unfoldable pub awaits : Stage → List ℕ → Bool
+awaits stage.Items w = bytes_eq w (codes "items")
+awaits (stage.Senders layout) w = bytes_eq w (codes "senders")
+awaits (stage.Barriers layout) w = bytes_eq w (codes "barriers")
+awaits s w = false
 
--- where a step belongs
-abbrev pub takes_steps : Stage → Bool
-takes_steps (stage.Barriers items senders) = true
-takes_steps (stage.Commands header) = true
-takes_steps s = false
+-- the layout, once a line may ask something of the queue
+abbrev pub layout_at : Stage → Option Layout
+layout_at (stage.Barriers layout) = Some layout
+layout_at (stage.Commands layout) = Some layout
+layout_at s = None
 
--- the numbers of the header, once a command may follow: 1 barrier where none are named
-abbrev pub header_of : Stage → Header
-header_of (stage.Barriers items senders) = record { items = items; senders = senders; barriers = 1 }
-header_of (stage.Commands header) = header
-header_of _ = record { items = 0; senders = 0; barriers = 0 }
+-- a number that is at most another, with its proof
+abbrev pub tested : (m n : ℕ) (b : Bool) → nat_le m n ≡ b → Option (m ≤ n)
+tested m n true e = Some (leb-true m n e)
+tested m n false e = None
 
--- the header that names a layout's numbers
-abbrev pub numbers_of : Layout → Header
-numbers_of layout = record { items = layout.items; senders = layout.senders; barriers = layout.barriers }
+abbrev pub at_most : (m n : ℕ) → Option (m ≤ n)
+at_most m n = tested m n (nat_le m n) refl
+
+abbrev pub two_of : {A B : Type 0} → Option A → Option B → Option (A × B)
+two_of (Some a) (Some b) = Some (a, b)
+two_of x y = None
+
+abbrev pub three_of : {A B C : Type 0} → Option A → Option B → Option C → Option (A × B × C)
+three_of (Some a) (Some b) (Some c) = Some (a, b, c)
+three_of x y z = None
+
+abbrev pub within : (low n high : ℕ) → Option (IsBetween low n high)
+within low n high = two_of (at_most low n) (at_most n high)
+
+abbrev pub in_limits : (items barriers senders : ℕ) → Option (AreInLimits items barriers senders)
+in_limits items barriers senders = three_of (within 1 items 4096) (within 1 barriers 16) (within 1 senders 64)
+
+-- the layout of these numbers, or the fault k where they are out of the limits of a queue
+abbrev pub with_limits : Kind → (items barriers senders : ℕ) → Option (AreInLimits items barriers senders) → Result Layout Kind
+with_limits k items barriers senders (Some h) = Ok (record { items = items; barriers = barriers; senders = senders; in_limits = h })
+with_limits k items barriers senders None = Err k
+
+unfoldable pub limited : Kind → ℕ → ℕ → ℕ → Result Layout Kind
+limited k items barriers senders = with_limits k items barriers senders (in_limits items barriers senders)
+
+-- what is awaited behind a header line, of at most so many senders: until a line names them, there is 1 of each thing
+unfoldable pub header_gives : ℕ → Stage → List (List ℕ) → Result Stage Kind
+header_gives most stage.Items ws = of_one stage.Senders (one (between kind.Items 1 4096) ws >>= λ n. limited kind.Items n 1 1)
+header_gives most (stage.Senders l) ws = of_one stage.Barriers (one (between kind.Senders 1 most) ws >>= λ n. limited kind.Senders l.items 1 n)
+header_gives most (stage.Barriers l) ws = of_one stage.Commands (one (between kind.Barriers 1 16) ws >>= λ n. limited kind.Barriers l.items n l.senders)
+header_gives most s ws = Err kind.Header
+
+abbrev pub header_line_gives : ℕ → Stage → List ℕ → List (List ℕ) → Result Stage Kind
+header_line_gives most s w ws = do
+  _ ← need kind.Header (awaits s w)
+  header_gives most s ws

@@ -3,12 +3,12 @@ pub mod Script
 pub mod Word
 pub mod Decimal
 pub mod Fault
-pub mod Header
 pub mod Arguments
+pub mod Header
 pub mod Line
+pub mod Keyword
 pub mod Text
 pub mod Sound
-pub mod FirstFault
 pub mod Turn
 pub mod Turns
 pub mod Schedule

@@ -1,48 +1,67 @@
--- The script that a text spells, or its first faulty line with the first fault on it.
-use Rattle.std.specs.Prelude.{ℕ, ◌+◌, List, [], ◌∷◌, ◌++◌, length, Option, Result, Ok, nat_lt, ◌==◌, if◌then◌else◌}
+-- What a text spells, or why it is refused, said of its lines and not of reading them.
+use Rattle.std.specs.Prelude.{◌≡◌, ℕ, ◌+◌, ◌<◌, ◌≤◌, ◌⊎◌, List, [], ◌∷◌, ◌++◌, length, Option, Some, None, Result, Ok, Err}
 use Rattle.std.specs.Option.{option_to_list}
-use Rattle.wq_text.specs.declared.command.Command.{Command}
+use Rattle.wq_words.specs.declared.layout.Layout.{Layout}
 use Rattle.wq_text.specs.declared.fault.Kind.{Kind}
 use Rattle.wq_text.specs.declared.fault.Kind.TheVariants as kind
 use Rattle.wq_text.specs.declared.fault.ScriptError.{ScriptError}
-use Rattle.wq_text.specs.declared.header.Header.{Header}
 use Rattle.wq_text.specs.declared.header.Stage.{Stage}
 use Rattle.wq_text.specs.declared.header.Stage.TheVariants as stage
-use Rattle.wq_text.specs.declared.script.Script.{Script}
-use Rattle.wq_text.specs.Fault.{◌>>=◌, refused, at_line}
-use Rattle.wq_text.specs.Header.{header_of, numbers_of}
-use Rattle.wq_text.specs.Line.{line_gives}
-use Rattle.wq_text.specs.Script.{layout_of, commands_of}
+use Rattle.wq_text.specs.Header.{layout_at}
+use Rattle.wq_text.specs.Line.{Lines}
 use Rattle.wq_text.specs.Word.{parts}
 
--- what the end of a text gives, where line n would stand
-abbrev pub ends_with : ℕ → Stage → Result Header ScriptError
-ends_with n stage.Version = refused n kind.Version
-ends_with n stage.Items = refused n kind.Header
-ends_with n (stage.Senders items) = refused n kind.Header
-ends_with n s = Ok (header_of s)
+-- none of the lines has a fault; they lead from stage s to stage t and ask for these in turn
+abbrev pub LinesLead : {A : Type 0} → Lines A → Stage → List (List ℕ) → Stage → List A → Type 0
+LinesLead gives s [] t asked = (s ≡ t) × (asked ≡ [])
+LinesLead {A} gives s (line ∷ lines) t asked = (x : Stage × Option A) × (rest : List A) × (gives s line ≡ Ok x) × (asked ≡ option_to_list x.1 ++ rest) × LinesLead gives x.0 lines t rest
 
-abbrev pub with_asked : {A : Type 0} → List A → Result Header ScriptError → Result (Header × List A) ScriptError
-with_asked asked told = told >>= λ header. Ok (header, asked)
+-- the text is short enough and ends behind lines without a fault, and with them the header is complete
+pub record Spells {A : Type 0} (gives : Lines A) (text : List ℕ) (layout : Layout) (asked : List A) : Type 0 where
+  pub short : length text ≤ 1048576
+  pub lines : List (List ℕ)
+  pub reached : Stage
+  pub split : parts text ≡ lines ++ [] ∷ []
+  pub leads : LinesLead gives stage.Version lines reached asked
+  pub whole : layout_at reached ≡ Some layout
 
--- what a line gives in a language, by which line is awaited: what is awaited next, and what it asks for, if anything
-abbrev pub Language : Type 0 → Type 0
-Language A = Stage → List ℕ → Result (Stage × Option A) Kind
+-- what is wrong where a text ends without a whole header
+abbrev pub end_fault : Stage → Option Kind
+end_fault stage.Version = Some kind.Version
+end_fault stage.Items = Some kind.Header
+end_fault (stage.Senders layout) = Some kind.Header
+end_fault s = None
 
--- line by line, behind what was asked before; the last part has no LF behind it
-unfoldable pub read_from : {A : Type 0} → Language A → ℕ → Stage → List A → List (List ℕ) → Result (Header × List A) ScriptError
-read_from gives n s asked [] = refused n kind.Header
-read_from gives n s asked (last ∷ []) = if length last == 0 then with_asked asked (ends_with n s) else refused n kind.Cut
-read_from gives n s asked (line ∷ next ∷ more) = do
-  x ← at_line n (gives s line)
-  read_from gives (n + 1) x.0 (asked ++ option_to_list x.1) (next ∷ more)
+-- the fault k of a line, which parts follow; the last part is no line, and is to be empty
+abbrev pub HasLineFault : {A : Type 0} → Lines A → Stage → List ℕ → List (List ℕ) → Kind → Type 0
+HasLineFault gives s line (next ∷ more) k = gives s line ≡ Err k
+HasLineFault gives s (b ∷ bs) [] k = k ≡ kind.Cut
+HasLineFault gives s [] [] k = end_fault s ≡ Some k
 
-unfoldable pub text_gives : {A : Type 0} → Language A → List ℕ → Result (Header × List A) ScriptError
-text_gives gives text = if nat_lt 1048576 (length text) then refused 1 kind.Size else read_from gives 1 stage.Version [] (parts text)
+-- the lines before the faulty one have no fault
+pub record IsFaultyAt {A : Type 0} (gives : Lines A) (text : List ℕ) (e : ScriptError) : Type 0 where
+  pub short : length text ≤ 1048576
+  pub before : List (List ℕ)
+  pub faulty : List ℕ
+  pub behind : List (List ℕ)
+  pub reached : Stage
+  pub asked : List A
+  pub split : parts text ≡ before ++ faulty ∷ behind
+  pub leads : LinesLead gives stage.Version before reached asked
+  pub number : e.line ≡ 1 + length before
+  pub fault : HasLineFault gives reached faulty behind e.kind
 
-abbrev pub script_of : List ℕ → Result (Header × List Command) ScriptError
-script_of text = text_gives line_gives text
+abbrev pub IsTooLong : List ℕ → ScriptError → Type 0
+IsTooLong text e = (1048576 < length text) × (e ≡ record { line = 1; kind = kind.Size })
 
--- the numbers and the commands of a script
-abbrev pub spelled : Script → Header × List Command
-spelled script = (numbers_of (layout_of script), commands_of script)
+-- the text is too long, or this is its first faulty line and the first fault on it
+abbrev pub IsRefusal : {A : Type 0} → Lines A → List ℕ → ScriptError → Type 0
+IsRefusal gives text e = IsTooLong text e ⊎ IsFaultyAt gives text e
+
+-- what becomes of a text
+abbrev pub HasOutcome : {A : Type 0} → Lines A → List ℕ → Result (Layout × List A) ScriptError → Type 0
+HasOutcome gives text (Ok x) = Spells gives text x.0 x.1
+HasOutcome gives text (Err e) = IsRefusal gives text e
+
+abbrev pub HasOneOutcome : {A : Type 0} → Lines A → List ℕ → Type 0
+HasOneOutcome {A} gives text = (x y : Result (Layout × List A) ScriptError) → HasOutcome gives text x → HasOutcome gives text y → x ≡ y

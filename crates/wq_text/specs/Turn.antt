@@ -1,27 +1,21 @@
--- What a line of a schedule gives, or its first fault: the tables of steps and of refusals, row by row.
-use Rattle.std.specs.Prelude.{ℕ, ◌+◌, List, [], ◌∷◌, length, Option, Some, None, Result, Ok, ◌-◌, take, drop, nat_lt, slice_index_or, ◌==◌, if◌then◌else◌, codes, option_map}
-use Rattle.std.specs.List.{list_all}
+-- The table of steps: which step the words of a schedule's line name, and what they ask for.
+use Rattle.std.specs.Prelude.{ℕ, ◌+◌, List, [], ◌∷◌, length, Option, Some, None, Result, Ok, ◌-◌, take, slice_index_or, ◌==◌, if◌then◌else◌, codes, option_map}
 use Rattle.std.specs.Str.{bytes_eq}
 use Rattle.wq_words.specs.declared.event.Why.{Why}
 use Rattle.wq_words.specs.declared.event.Why.TheVariants as why
+use Rattle.wq_words.specs.declared.layout.Layout.{Layout}
+use Rattle.wq_words.specs.Numbers.{stop_number}
 use Rattle.wq_core.specs.declared.step.Seat.{Seat}
 use Rattle.wq_core.specs.declared.step.Seat.TheVariants as seat
 use Rattle.wq_core.specs.declared.step.Step.{Step}
 use Rattle.wq_core.specs.declared.step.Step.TheVariants as step
 use Rattle.wq_text.specs.declared.fault.Kind.{Kind}
-use Rattle.wq_text.specs.declared.fault.Kind.TheVariants as kind
-use Rattle.wq_text.specs.declared.header.Header.{Header}
-use Rattle.wq_text.specs.declared.header.Stage.{Stage}
-use Rattle.wq_text.specs.declared.header.Stage.TheVariants as stage
 use Rattle.wq_text.specs.declared.turn.Action.{Action}
 use Rattle.wq_text.specs.declared.turn.Action.TheVariants as action
-use Rattle.wq_text.specs.declared.word.Keyword.{Keyword}
-use Rattle.wq_text.specs.declared.word.Keyword.TheVariants as keyword
-use Rattle.wq_text.specs.Arguments.{sender, item, barrier, no_word, one_word, one}
-use Rattle.wq_text.specs.Fault.{◌>>=◌, need, found}
-use Rattle.wq_text.specs.Header.{is_placed, takes_steps, header_of}
-use Rattle.wq_text.specs.Line.{of_none, of_one, of_two, header_gives, first_word, other_words, is_word, is_passed_over}
-use Rattle.wq_text.specs.Word.{words, is_plain}
+use Rattle.wq_text.specs.Arguments.{sender, item, barrier, no_word, one_word, two_words, one}
+use Rattle.wq_text.specs.Fault.{◌>>=◌, of_none, of_one, of_two}
+use Rattle.wq_text.specs.Line.{Grammar, Lines, line_gives}
+use Rattle.wq_text.specs.Word.{other_words}
 
 -- whose step it is, and which
 abbrev pub Turn : Type 0
@@ -32,13 +26,17 @@ abbrev pub after_b : List ℕ → Option (List ℕ)
 after_b [] = None
 after_b (b ∷ bs) = if b == 98 then Some bs else None
 
-abbrev pub barrier_or_item : Header → List ℕ → Option (List ℕ) → Result ℕ Kind
-barrier_or_item h w (Some digits) = of_one (λ b. h.items + b) (barrier h digits)
-barrier_or_item h w None = item h w
+abbrev pub barrier_or_item : Layout → List ℕ → Option (List ℕ) → Result ℕ Kind
+barrier_or_item l w (Some digits) = of_one (λ b. l.items + b) (barrier l digits)
+barrier_or_item l w None = item l w
 
 -- a number of the queue: an item, b and a barrier, or stop
-unfoldable pub number_of_queue : Header → List ℕ → Result ℕ Kind
-number_of_queue h w = if bytes_eq w (codes "stop") then Ok (h.items + h.barriers) else barrier_or_item h w (after_b w)
+unfoldable pub number_of_queue : Layout → List ℕ → Result ℕ Kind
+number_of_queue l w = if bytes_eq w (codes "stop") then Ok (stop_number l) else barrier_or_item l w (after_b w)
+
+-- where a link leads: to a number of the queue, or to none
+unfoldable pub link_of : Layout → List ℕ → Result (Option ℕ) Kind
+link_of l w = if bytes_eq w (codes "end") then Ok None else of_one Some (number_of_queue l w)
 
 -- the steps of the owner, those of a sender, and the causes of giving back
 unfoldable pub owners_action : List ℕ → Option Action
@@ -49,6 +47,7 @@ owners_action w =
     else if bytes_eq w (codes "begin") then Some action.Begin
     else if bytes_eq w (codes "end") then Some action.End
     else if bytes_eq w (codes "chain") then Some action.Chain
+    else if bytes_eq w (codes "turn") then Some action.Turn
     else None
 
 unfoldable pub cause_at : List ℕ → Option Why
@@ -68,82 +67,59 @@ senders_action w last =
     else if bytes_eq w (codes "check") then Some action.Check
     else None
 
--- which step the words name, two of them at least: the owner's behind o, a sender's behind any other word
-abbrev pub word_at : ℕ → List (List ℕ) → List ℕ
-word_at n ws = slice_index_or ws n []
+-- which step the first word and the others name: the owner's behind o, a sender's behind any other word
+abbrev pub nth_word : ℕ → List (List ℕ) → List ℕ
+nth_word n ws = slice_index_or ws n []
 
-abbrev pub action_at : List (List ℕ) → Option Action
-action_at ws =
-    if nat_lt (length ws) 2 then None
-    else if bytes_eq (word_at 0 ws) (codes "o") then owners_action (word_at 1 ws)
-    else senders_action (word_at 1 ws) (word_at (length ws - 1) ws)
+abbrev pub action_at : List ℕ → List (List ℕ) → Option Action
+action_at w ws =
+    if length ws == 0 then None
+    else if bytes_eq w (codes "o") then owners_action (nth_word 0 ws)
+    else senders_action (nth_word 0 ws) (nth_word (length ws - 1) ws)
 
 -- a sender alone, or a sender and a number of the queue, with so many words behind the step's
-abbrev pub seat_alone : Header → List ℕ → List (List ℕ) → Result ℕ Kind
-seat_alone h w ws = do
+abbrev pub seat_alone : Layout → List ℕ → List (List ℕ) → Result ℕ Kind
+seat_alone l w ws = do
   _ ← no_word ws
-  sender h w
+  sender l w
 
-abbrev pub seat_and_number : Header → List ℕ → List (List ℕ) → Result (ℕ × ℕ) Kind
-seat_and_number h w ws = do
+abbrev pub seat_and_number : Layout → List ℕ → List (List ℕ) → Result (ℕ × ℕ) Kind
+seat_and_number l w ws = do
   v ← one_word ws
-  s ← sender h w
-  k ← number_of_queue h v
+  s ← sender l w
+  k ← number_of_queue l v
   Ok (s, k)
+
+-- a number of the queue and where its link leads, word by word from the left
+abbrev pub number_and_link : Layout → List (List ℕ) → Result (ℕ × Option ℕ) Kind
+number_and_link l ws = do
+  w ← two_words ws
+  k ← number_of_queue l w.0
+  next ← link_of l w.1
+  Ok (k, next)
 
 abbrev pub without_last : List (List ℕ) → List (List ℕ)
 without_last ws = take (length ws - 1) ws
 
 -- the table of steps, by the first word and the words behind the second
-unfoldable pub turn_gives : Header → Action → List ℕ → List (List ℕ) → Result Turn Kind
-turn_gives h action.Hold w ws = of_two (λ s k. (seat.Sender s, step.Hold k)) (seat_and_number h w ws)
-turn_gives h action.Look w ws = of_one (λ s. (seat.Sender s, step.Look)) (seat_alone h w ws)
-turn_gives h action.Link w ws = of_two (λ s k. (seat.Sender s, step.Link k)) (seat_and_number h w ws)
-turn_gives h action.Push w ws = of_two (λ s k. (seat.Sender s, step.Push k)) (seat_and_number h w ws)
-turn_gives h (action.Back cause) w ws = of_two (λ s k. (seat.Sender s, step.Back k cause)) (seat_and_number h w (without_last ws))
-turn_gives h action.Check w ws = of_two (λ s k. (seat.Sender s, step.Check k)) (seat_and_number h w ws)
-turn_gives h action.Take w ws = of_none (seat.Owner, step.Take) (no_word ws)
-turn_gives h action.Close w ws = of_none (seat.Owner, step.Close) (no_word ws)
-turn_gives h action.Walk w ws = of_none (seat.Owner, step.Walk) (no_word ws)
-turn_gives h action.Begin w ws = of_none (seat.Owner, step.Begin) (no_word ws)
-turn_gives h action.End w ws = of_none (seat.Owner, step.End) (no_word ws)
-turn_gives h action.Chain w ws = of_one (λ k. (seat.Owner, step.Chain k)) (one (item h) ws)
+unfoldable pub turn_gives : Layout → Action → List ℕ → List (List ℕ) → Result Turn Kind
+turn_gives l action.Hold w ws = of_two (λ s k. (seat.Sender s, step.Hold k)) (seat_and_number l w ws)
+turn_gives l action.Look w ws = of_one (λ s. (seat.Sender s, step.Look)) (seat_alone l w ws)
+turn_gives l action.Link w ws = of_two (λ s k. (seat.Sender s, step.Link k)) (seat_and_number l w ws)
+turn_gives l action.Push w ws = of_two (λ s k. (seat.Sender s, step.Push k)) (seat_and_number l w ws)
+turn_gives l (action.Back cause) w ws = of_two (λ s k. (seat.Sender s, step.Back k cause)) (seat_and_number l w (without_last ws))
+turn_gives l action.Check w ws = of_two (λ s k. (seat.Sender s, step.Check k)) (seat_and_number l w ws)
+turn_gives l action.Take w ws = of_none (seat.Owner, step.Take) (no_word ws)
+turn_gives l action.Close w ws = of_none (seat.Owner, step.Close) (no_word ws)
+turn_gives l action.Walk w ws = of_none (seat.Owner, step.Walk) (no_word ws)
+turn_gives l action.Begin w ws = of_none (seat.Owner, step.Begin) (no_word ws)
+turn_gives l action.End w ws = of_none (seat.Owner, step.End) (no_word ws)
+turn_gives l action.Chain w ws = of_one (λ k. (seat.Owner, step.Chain k)) (one (item l) ws)
+turn_gives l action.Turn w ws = of_two (λ k next. (seat.Owner, step.Turn k next)) (number_and_link l ws)
 
--- a first word that begins a header line
-unfoldable pub header_at : List ℕ → Option Keyword
-header_at w =
-    if bytes_eq w (codes "items") then Some keyword.Items
-    else if bytes_eq w (codes "senders") then Some keyword.Senders
-    else if bytes_eq w (codes "barriers") then Some keyword.Barriers
-    else None
+abbrev pub schedule_grammar : Grammar Action Turn
+schedule_grammar = record { version = codes "steps 1"; most_senders = 64; names = action_at; asks = λ l a w ws. turn_gives l a w (other_words ws) }
 
-abbrev pub header_line_gives : Stage → Keyword → List (List ℕ) → Result (Stage × Option Turn) Kind
-header_line_gives s k ws = do
-  _ ← need kind.Header (is_placed s k)
-  of_one (λ next. (next, None)) (header_gives 64 s ws)
-
-abbrev pub step_line_gives : Stage → List (List ℕ) → Result (Stage × Option Turn) Kind
-step_line_gives s ws = do
-  a ← found kind.Word (action_at ws)
-  _ ← need kind.Header (takes_steps s)
-  of_one (λ t. (stage.Commands (header_of s), Some t)) (turn_gives (header_of s) a (word_at 0 ws) (drop 2 ws))
-
-abbrev pub by_first_word : Stage → List (List ℕ) → Option Keyword → Result (Stage × Option Turn) Kind
-by_first_word s ws (Some k) = header_line_gives s k (other_words ws)
-by_first_word s ws None = step_line_gives s ws
-
--- the words of a line that is not passed over
-unfoldable pub turn_words_give : Stage → List (List ℕ) → Result (Stage × Option Turn) Kind
-turn_words_give s ws = do
-  _ ← need kind.Space (list_all is_word ws)
-  by_first_word s ws (header_at (first_word ws))
-
-unfoldable pub plain_turn_gives : Stage → List ℕ → Result (Stage × Option Turn) Kind
-plain_turn_gives s line = do
-  _ ← need kind.Bytes (list_all is_plain line)
-  turn_words_give s (words line)
-
--- a line of a schedule, by which line is awaited
-abbrev pub turn_line_gives : Stage → List ℕ → Result (Stage × Option Turn) Kind
-turn_line_gives stage.Version line = of_none (stage.Items, None) (need kind.Version (bytes_eq line (codes "steps 1")))
-turn_line_gives s line = if is_passed_over line then Ok (s, None) else plain_turn_gives s line
+-- a line of a schedule
+abbrev pub schedule_line : Lines Turn
+schedule_line = line_gives schedule_grammar

@@ -6,10 +6,10 @@ ghost use Rattle.wq_text.specs.Arguments.{number, between, below, sender, item, 
 
 use crate::command::Follow;
 use crate::fault::{Kind, LineError};
-use crate::header::Header;
 use crate::word::number_of;
+use wq_words::Layout;
 
-pub fn number(word: &str) -> Result<u64, LineError>
+pub(crate) fn number(word: &str) -> Result<u64, LineError>
     ensures { LineGives result (number word.now) }
 {
     match number_of(word) {
@@ -18,9 +18,9 @@ pub fn number(word: &str) -> Result<u64, LineError>
     }
 }
 
-/// A number from `low` to `high`.
+// A number from `low` to `high`.
 #[tactic(auto, unfolding(crate::specs::Arguments::between))]
-pub fn between(kind: Kind, low: u32, high: u32, word: &str) -> Result<u32, LineError>
+pub(crate) fn between(kind: Kind, low: u32, high: u32, word: &str) -> Result<u32, LineError>
     ensures exact { LineGives result (between kind low high word.now) }
     ensures within { IfOk result (λ n. IsBetween low n high) }
 {
@@ -31,7 +31,7 @@ pub fn between(kind: Kind, low: u32, high: u32, word: &str) -> Result<u32, LineE
     Ok(number as u32)
 }
 
-/// A number below `bound`.
+// A number below `bound`.
 #[tactic(auto, unfolding(crate::specs::Arguments::below))]
 fn below(kind: Kind, bound: u32, word: &str) -> Result<u32, LineError>
     ensures exact { LineGives result (below kind bound word.now) }
@@ -44,35 +44,35 @@ fn below(kind: Kind, bound: u32, word: &str) -> Result<u32, LineError>
     Ok(number as u32)
 }
 
-pub fn sender(header: Header, word: &str) -> Result<u32, LineError>
-    ensures exact { LineGives result (sender header word.now) }
-    ensures within { IfOk result (λ n. n < header.senders) }
+pub(crate) fn sender(layout: Layout, word: &str) -> Result<u32, LineError>
+    ensures exact { LineGives result (sender layout word.now) }
+    ensures within { IfOk result (λ n. n < layout.senders) }
 {
-    below(Kind::Sender, header.senders, word)
+    below(Kind::Sender, layout.senders, word)
 }
 
-pub fn item(header: Header, word: &str) -> Result<u32, LineError>
-    ensures exact { LineGives result (item header word.now) }
-    ensures within { IfOk result (λ n. n < header.items) }
+pub(crate) fn item(layout: Layout, word: &str) -> Result<u32, LineError>
+    ensures exact { LineGives result (item layout word.now) }
+    ensures within { IfOk result (λ n. n < layout.items) }
 {
-    below(Kind::Item, header.items, word)
+    below(Kind::Item, layout.items, word)
 }
 
-pub fn barrier(header: Header, word: &str) -> Result<u32, LineError>
-    ensures exact { LineGives result (barrier header word.now) }
-    ensures within { IfOk result (λ n. n < header.barriers) }
+pub(crate) fn barrier(layout: Layout, word: &str) -> Result<u32, LineError>
+    ensures exact { LineGives result (barrier layout word.now) }
+    ensures within { IfOk result (λ n. n < layout.barriers) }
 {
-    below(Kind::Barrier, header.barriers, word)
+    below(Kind::Barrier, layout.barriers, word)
 }
 
-/// A number of executions.
-pub fn limit(word: &str) -> Result<u32, LineError>
+// A number of executions.
+pub(crate) fn limit(word: &str) -> Result<u32, LineError>
     ensures { LineGives result (limit word.now) }
 {
     between(Kind::Limit, 1, 65536, word)
 }
 
-pub fn no_word(words: &[&str]) -> Result<(), LineError>
+pub(crate) fn no_word(words: &[&str]) -> Result<(), LineError>
     ensures { LineGives result (no_word (map (λ w. w.now) words.now)) }
 {
     match words {
@@ -81,7 +81,7 @@ pub fn no_word(words: &[&str]) -> Result<(), LineError>
     }
 }
 
-pub fn one_word<'a>(words: &[&'a str]) -> Result<&'a str, LineError>
+pub(crate) fn one_word<'a>(words: &[&'a str]) -> Result<&'a str, LineError>
     ensures { LineGivesAs (λ w. w.now) result (one_word (map (λ w. w.now) words.now)) }
 {
     match words {
@@ -90,7 +90,7 @@ pub fn one_word<'a>(words: &[&'a str]) -> Result<&'a str, LineError>
     }
 }
 
-fn two_words<'a>(words: &[&'a str]) -> Result<(&'a str, &'a str), LineError>
+pub(crate) fn two_words<'a>(words: &[&'a str]) -> Result<(&'a str, &'a str), LineError>
     ensures { LineGivesAs (λ w. (w.0.now, w.1.now)) result (two_words (map (λ w. w.now) words.now)) }
 {
     match words {
@@ -114,57 +114,57 @@ fn word_and_at_most_four<'a, 'b>(
     Ok((*first, others))
 }
 
-pub fn sender_and_item(header: Header, words: &[&str]) -> Result<(u32, u32), LineError>
-    ensures exact { LineGives result (two (sender header) (item header) (map (λ w. w.now) words.now)) }
-    ensures within { IfOk result (λ n. (n.0 < header.senders) × (n.1 < header.items)) }
+pub(crate) fn sender_and_item(layout: Layout, words: &[&str]) -> Result<(u32, u32), LineError>
+    ensures exact { LineGives result (two (sender layout) (item layout) (map (λ w. w.now) words.now)) }
+    ensures within { IfOk result (λ n. (n.0 < layout.senders) × (n.1 < layout.items)) }
 {
     let (sender_word, item_word) = two_words(words)?;
-    let sender = sender(header, sender_word)?;
-    let item = item(header, item_word)?;
+    let sender = sender(layout, sender_word)?;
+    let item = item(layout, item_word)?;
     Ok((sender, item))
 }
 
-pub fn sender_and_barrier(header: Header, words: &[&str]) -> Result<(u32, u32), LineError>
-    ensures exact { LineGives result (two (sender header) (barrier header) (map (λ w. w.now) words.now)) }
-    ensures within { IfOk result (λ n. (n.0 < header.senders) × (n.1 < header.barriers)) }
+pub(crate) fn sender_and_barrier(layout: Layout, words: &[&str]) -> Result<(u32, u32), LineError>
+    ensures exact { LineGives result (two (sender layout) (barrier layout) (map (λ w. w.now) words.now)) }
+    ensures within { IfOk result (λ n. (n.0 < layout.senders) × (n.1 < layout.barriers)) }
 {
     let (sender_word, barrier_word) = two_words(words)?;
-    let sender = sender(header, sender_word)?;
-    let barrier = barrier(header, barrier_word)?;
+    let sender = sender(layout, sender_word)?;
+    let barrier = barrier(layout, barrier_word)?;
     Ok((sender, barrier))
 }
 
-/// An item and a delay in ticks.
-pub fn item_and_delay(header: Header, words: &[&str]) -> Result<(u32, u64), LineError>
-    ensures exact { LineGives result (two (item header) number (map (λ w. w.now) words.now)) }
-    ensures within { IfOk result (λ n. n.0 < header.items) }
+// An item and a delay in ticks.
+pub(crate) fn item_and_delay(layout: Layout, words: &[&str]) -> Result<(u32, u64), LineError>
+    ensures exact { LineGives result (two (item layout) number (map (λ w. w.now) words.now)) }
+    ensures within { IfOk result (λ n. n.0 < layout.items) }
 {
     let (item_word, delay_word) = two_words(words)?;
-    let item = item(header, item_word)?;
+    let item = item(layout, item_word)?;
     let delay = number(delay_word)?;
     Ok((item, delay))
 }
 
-fn items(header: Header, words: &[&str]) -> Result<Follow, LineError>
+fn items(layout: Layout, words: &[&str]) -> Result<Follow, LineError>
     requires { length words.now ≤ 4 }
-    ensures exact { LineGivesAs (λ v. v.items) result (each (item header) (map (λ w. w.now) words.now)) }
-    ensures within { IfOk result (λ v. All (λ n. n < header.items) v.items) }
+    ensures exact { LineGivesAs (λ v. v.items) result (each (item layout) (map (λ w. w.now) words.now)) }
+    ensures within { IfOk result (λ v. All (λ n. n < layout.items) v.items) }
 {
     let mut follow = Follow::new();
     for word in words {
-        let item = item(header, word)?;
+        let item = item(layout, word)?;
         follow.push(item);
     }
     Ok(follow)
 }
 
-/// An item, and the items that its function answers.
-pub fn item_and_follow(header: Header, words: &[&str]) -> Result<(u32, Follow), LineError>
-    ensures exact { LineGivesAs (λ x. (x.0, x.1.items)) result (one_and_at_most 4 (item header) (map (λ w. w.now) words.now)) }
-    ensures within { IfOk result (λ x. (x.0 < header.items) × All (λ n. n < header.items) x.1.items) }
+// An item, and the items that its function answers.
+pub(crate) fn item_and_follow(layout: Layout, words: &[&str]) -> Result<(u32, Follow), LineError>
+    ensures exact { LineGivesAs (λ x. (x.0, x.1.items)) result (one_and_at_most 4 (item layout) (map (λ w. w.now) words.now)) }
+    ensures within { IfOk result (λ x. (x.0 < layout.items) × All (λ n. n < layout.items) x.1.items) }
 {
     let (first, others) = word_and_at_most_four(words)?;
-    let item = item(header, first)?;
-    let follow = items(header, others)?;
+    let item = item(layout, first)?;
+    let follow = items(layout, others)?;
     Ok((item, follow))
 }

@@ -1,67 +1,104 @@
-//! The header of a script, and which line is awaited.
-ghost use Rattle.std.specs.Prelude.{◌≡◌};
-ghost use Rattle.wq_text.specs.Header.{header_of, is_placed, takes_steps};
+//! Which line is awaited, and the lines of the header.
+ghost use Rattle.std.specs.Prelude.{◌≡◌, ◌≤◌, map, IfOk};
+ghost use Rattle.wq_text.specs.Fault.{LineGives};
+ghost use Rattle.wq_text.specs.Header.{limited, is_header, awaits, layout_at, header_gives, header_line_gives};
+ghost use Rattle.wq_text.specs.Sound.{KeepsHeader};
 
-use crate::word::Keyword;
+use crate::arguments::{between, one_word};
+use crate::fault::{Kind, LineError};
+use wq_words::Layout;
 
-/// The numbers of a script's header.
-#[derive(Clone, Copy, Debug, PartialEq, Eq)]
-pub struct Header {
-    pub items: u32,
-    pub senders: u32,
-    pub barriers: u32,
-}
-
-/// Which line is awaited: the version, then the header, with the numbers that were read so far, then commands.
-#[derive(Clone, Copy, Debug, PartialEq, Eq)]
-pub enum Stage {
+// Which line is awaited: the version, then those of the header, with the layout so far, then what is asked of the queue. The
+// layout has 1 of each thing that no line has named yet.
+#[derive(Clone, Copy)]
+pub(crate) enum Stage {
     Version,
     Items,
-    Senders(u32),
-    Barriers(u32, u32),
-    Commands(Header),
+    Senders(Layout),
+    Barriers(Layout),
+    Commands(Layout),
 }
 
 impl Stage {
-    /// Whether a line with this keyword belongs here.
-    pub fn is_placed(self, keyword: Keyword) -> bool
-        ensures { result ≡ is_placed self keyword }
+    // Whether a line of the header with this first word belongs here.
+    #[tactic(auto, unfolding(crate::specs::Header::awaits))]
+    fn awaits(self, word: &str) -> bool
+        ensures { result ≡ awaits self word.now }
     {
         match self {
-            Stage::Version => false,
-            Stage::Items => matches!(keyword, Keyword::Items),
-            Stage::Senders(_) => matches!(keyword, Keyword::Senders),
-            Stage::Barriers(..) => !matches!(keyword, Keyword::Items | Keyword::Senders),
-            Stage::Commands(_) => !matches!(
-                keyword,
-                Keyword::Items | Keyword::Senders | Keyword::Barriers
-            ),
+            Stage::Items => word == "items",
+            Stage::Senders(_) => word == "senders",
+            Stage::Barriers(_) => word == "barriers",
+            Stage::Version | Stage::Commands(_) => false,
         }
     }
 
-    /// Whether a step may follow.
-    pub fn takes_steps(self) -> bool
-        ensures { result ≡ takes_steps self }
-    {
-        matches!(self, Stage::Barriers(..) | Stage::Commands(_))
-    }
-
-    /// The numbers of the header, once a command may follow: one barrier where none are named.
-    pub fn header(self) -> Header
-        ensures { result ≡ header_of self }
+    // The layout, once a line may ask something of the queue.
+    pub(crate) fn layout(self) -> Option<Layout>
+        ensures { result ≡ layout_at self }
     {
         match self {
-            Stage::Barriers(items, senders) => Header {
-                items,
-                senders,
-                barriers: 1,
-            },
-            Stage::Commands(header) => header,
-            Stage::Version | Stage::Items | Stage::Senders(_) => Header {
-                items: 0,
-                senders: 0,
-                barriers: 0,
-            },
+            Stage::Barriers(layout) | Stage::Commands(layout) => Some(layout),
+            Stage::Version | Stage::Items | Stage::Senders(_) => None,
         }
     }
+}
+
+// Whether a line with this first word is one of the header.
+pub(crate) fn is_header(word: &str) -> bool
+    ensures { result ≡ is_header word.now }
+{
+    word == "items" || word == "senders" || word == "barriers"
+}
+
+// The layout of these numbers, or the fault `kind`.
+fn limited(kind: Kind, items: u32, barriers: u32, senders: u32) -> Result<Layout, LineError>
+    ensures exact { LineGives result (limited kind items barriers senders) }
+    ensures numbers { IfOk result (λ layout. layout.senders ≡ senders) }
+{
+    match Layout::new(items, barriers, senders) {
+        Ok(layout) => Ok(layout),
+        Err(_) => Err(LineError::Fault(kind)),
+    }
+}
+
+// What is awaited behind a line of the header, from the words behind its first.
+#[tactic(auto, unfolding(crate::specs::Header::header_gives))]
+fn header(most_senders: u32, stage: Stage, words: &[&str]) -> Result<Stage, LineError>
+    ensures exact { LineGives result (header_gives most_senders stage (map (λ w. w.now) words.now)) }
+    ensures sound { IfOk result (KeepsHeader most_senders stage) }
+{
+    match stage {
+        Stage::Items => {
+            let items = between(Kind::Items, 1, 4096, one_word(words)?)?;
+            Ok(Stage::Senders(limited(Kind::Items, items, 1, 1)?))
+        }
+        Stage::Senders(layout) => {
+            let senders = between(Kind::Senders, 1, most_senders, one_word(words)?)?;
+            let layout = limited(Kind::Senders, layout.items, 1, senders)?;
+            Ok(Stage::Barriers(layout))
+        }
+        Stage::Barriers(layout) => {
+            let barriers = between(Kind::Barriers, 1, 16, one_word(words)?)?;
+            let layout = limited(Kind::Barriers, layout.items, barriers, layout.senders)?;
+            Ok(Stage::Commands(layout))
+        }
+        Stage::Version | Stage::Commands(_) => Err(LineError::Fault(Kind::Header)),
+    }
+}
+
+// What is awaited behind a line of the header, where it belongs here.
+pub(crate) fn header_line(
+    most_senders: u32,
+    stage: Stage,
+    first: &str,
+    others: &[&str],
+) -> Result<Stage, LineError>
+    ensures exact { LineGives result (header_line_gives most_senders stage first.now (map (λ w. w.now) others.now)) }
+    ensures sound { IfOk result (KeepsHeader most_senders stage) }
+{
+    if !stage.awaits(first) {
+        return Err(LineError::Fault(Kind::Header));
+    }
+    header(most_senders, stage, others)
 }

@@ -6,22 +6,20 @@ mod arguments;
 mod command;
 mod fault;
 mod header;
+mod keyword;
 mod line;
 mod schedule;
-#[cfg(test)]
-mod schedule_tests;
 mod schedule_text;
 mod script;
+mod script_text;
 mod text;
-#[cfg(test)]
-mod text_tests;
 mod turn;
 mod word;
 
 pub use command::{Command, Follow};
 pub use fault::{Kind, ParseError, ScriptError};
 pub use schedule::Schedule;
-pub use schedule_text::{parse_steps, tells_turns};
+pub use schedule_text::parse_steps;
 pub use script::Script;
-pub use text::{parse, tells_lines};
+pub use script_text::parse;
 pub use word::reads_decimals;

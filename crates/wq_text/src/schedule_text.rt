@@ -1,49 +1,64 @@
 //! From the bytes of a text to its schedule.
-ghost use Rattle.wq_text.specs.Fault.{GivesAs};
-ghost use Rattle.wq_text.specs.FirstFault.{TellsLines};
-ghost use Rattle.wq_text.specs.Schedule.{schedule_of, schedule_spelled};
-ghost use Rattle.wq_text.specs.Turn.{turn_line_gives};
-ghost use Rattle.wq_text.specs.Turns.{TurnFits};
+ghost use Rattle.std.specs.Prelude.{IfOk};
+ghost use Rattle.wq_text.specs.Fault.{IfRefused};
+ghost use Rattle.wq_text.specs.Schedule.{schedule_layout, turns_of};
+ghost use Rattle.wq_text.specs.Text.{Spells, IsRefusal, HasOneOutcome};
+ghost use Rattle.wq_text.specs.Turn.{schedule_grammar, schedule_line};
+ghost use Rattle.wq_text.specs.Turns.{PlacedIn};
 
 use crate::fault::{LineError, ParseError};
-use crate::header::Stage;
+use crate::line::Language;
 use crate::schedule::Schedule;
-use crate::text::{Language, layout_of, read};
-use crate::turn::read_turn;
+use crate::text::read;
+use crate::turn::{Action, action_of, other_words, turn};
 use std::alloc::Global;
 use wq_core::{Seat, Step};
+use wq_words::Layout;
 
-/// The lines of a schedule, each a turn at most.
+// The lines of a schedule, each a turn at most.
 struct Turns;
 
 impl Language for Turns {
+    type Name = Action;
+
     type Asked = (Seat, Step);
 
-    ghost most = { 64 };
+    ghost grammar = { schedule_grammar };
 
-    ghost gives = { turn_line_gives };
+    ghost fits = { PlacedIn };
 
-    ghost fits = { TurnFits };
+    fn is_version(line: &[u8]) -> bool {
+        line == b"steps 1".as_slice()
+    }
 
-    fn read_line(
-        alloc: Global,
-        stage: Stage,
-        line: &[u8],
-    ) -> Result<(Stage, Option<(Seat, Step)>), LineError> {
-        read_turn(alloc, stage, line)
+    fn most_senders() -> u32 {
+        64
+    }
+
+    fn name(first: &str, others: &[&str]) -> Option<Action> {
+        action_of(first, others)
+    }
+
+    fn ask(
+        layout: Layout,
+        name: Action,
+        first: &str,
+        others: &[&str],
+    ) -> Result<(Seat, Step), LineError> {
+        turn(layout, name, first, other_words(others))
     }
 }
 
-/// The schedule that a text of at most 1,048,576 bytes spells.
-/// Otherwise the first faulty line and the first fault on it, or `Memory`.
+/// The schedule that a text of at most 1,048,576 bytes spells (docs/FORMATS.md). No text is spelled in two ways, refused for
+/// two faults, or both.
+///
+/// # Errors
+/// `Refused` with the first faulty line and the first fault on it, or `Memory`.
 pub fn parse_steps(alloc: Global, text: &[u8]) -> Result<Schedule, ParseError>
-    ensures { GivesAs schedule_spelled result (schedule_of text.now) }
+    ensures spells { IfOk result (λ schedule. Spells schedule_line text.now (schedule_layout schedule) (turns_of schedule)) }
+    ensures refused { IfRefused result (IsRefusal schedule_line text.now) }
+    ensures exact { HasOneOutcome schedule_line text.now }
 {
-    let (header, turns) = read::<Turns>(alloc, text)?;
-    Ok(Schedule::new(layout_of(header), turns))
+    let (layout, turns) = read::<Turns>(alloc, text)?;
+    Ok(Schedule::new(layout, turns))
 }
-
-/// A schedule is spelled by lines without a fault, and a refusal names the first faulty line with its first fault.
-pub fn tells_turns()
-    ensures { TellsLines turn_line_gives }
-{}

@@ -1,8 +1,10 @@
 -- What the program makes of a schedule's text.
-use Rattle.std.specs.Prelude.{◌≡◌, ℕ, List, Option, Ok, Err}
+use Rattle.std.specs.Prelude.{◌≡◌, ℕ, List, Option}
 use Rattle.std.specs.Io.KnownBytes.{Appends}
 use Rattle.wq_text.specs.declared.schedule.Schedule.{Schedule}
-use Rattle.wq_text.specs.Schedule.{schedule_of, schedule_layout, turns_of, schedule_spelled}
+use Rattle.wq_text.specs.Schedule.{schedule_layout, turns_of}
+use Rattle.wq_text.specs.Text.{Spells, IsRefusal}
+use Rattle.wq_text.specs.Turn.{schedule_line}
 use Rattle.wq_plain.specs.ScheduleOutput.{IsScheduleOutput}
 use Rattle.wqrun.specs.declared.failure.Failure.{Failure}
 use Rattle.wqrun.specs.declared.failure.Failure.TheVariants as failure
@@ -11,12 +13,12 @@ use Rattle.wqrun.specs.Report.{text_read}
 -- the text spells a schedule, and these are the bytes of its output
 pub record Replays (text output : List ℕ) : Type 0 where
   pub schedule : Schedule
-  pub spells : schedule_of text ≡ Ok (schedule_spelled schedule)
+  pub spells : Spells schedule_line text (schedule_layout schedule) (turns_of schedule)
   pub output_is : IsScheduleOutput (schedule_layout schedule) (turns_of schedule) output
 
 -- the text has no output: it is refused for this, or memory was wanting
 abbrev pub HasNoOutput : List ℕ → Failure → Type 0
-HasNoOutput text (failure.Refused refusal) = schedule_of text ≡ Err refusal
+HasNoOutput text (failure.Refused refusal) = IsRefusal schedule_line text refusal
 HasNoOutput text (failure.RefusedPlan refusal) = ⊥
 HasNoOutput text failure.Unreadable = ⊥
 HasNoOutput text failure.Unwritable = ⊥

@@ -7,6 +7,6 @@ use Rattle.wq_text.proofs.arguments.items.Given as goal
 abbrev pub invariant-loop-word : goal.invariant-loop-word
 invariant-loop-word l = record {
   few : length l.follow.items ≡ l.word-index;
-  within : All (λ n. n < l.header.items) l.follow.items;
-  told : each (item l.header) (map (λ w. w.now) l.words) ≡ behind (item l.header) l.follow.items (drop l.word-index l.words);
+  within : All (λ n. n < l.layout.items) l.follow.items;
+  told : each (item l.layout) (map (λ w. w.now) l.words) ≡ behind (item l.layout) l.follow.items (drop l.word-index l.words);
 }

@@ -1,9 +1,8 @@
 use Rattle.std.proofs.Common.{refl}
 use Rattle.wq_text.specs.Line.{words_give}
-use Rattle.wq_text.specs.Word.{keyword_at}
 use Rattle.wq_text.proofs.LineWords.{no_words}
 use Rattle.wq_text.proofs.line.words_line.Goals as goal
 
 pub returns-in_default-clause-exact : goal.returns-in_default-clause-exact
-unfolding words_give keyword_at
-returns-in_default-clause-exact c = rw (no_words c.args.words.now c.in_default.ensures.cases) refl
+unfolding words_give
+returns-in_default-clause-exact g c = rw (no_words c.args.words.now c.in_default.ensures.cases) refl

@@ -1,5 +1,9 @@
-use Rattle.wq_text.proofs.Turns.{turns_placed}
+use Rattle.wq_text.specs.Turn.{schedule_line}
+use Rattle.wq_text.proofs.Outcomes.{one_outcome}
 use Rattle.wq_text.proofs.schedule_text.parse_steps.Goals as goal
 
-pub new-requires : goal.new-requires
-new-requires c = turns_placed c.layout_of.result c.in_ok-header.header c.in_ok-header.turns.items c.layout_of.ensures c.in_ok-header.ensures.fits.2
+pub returns-in_err-layout-clause-exact : goal.returns-in_err-layout-clause-exact
+returns-in_err-layout-clause-exact c = one_outcome schedule_line c.args.text.now
+
+pub returns-clause-exact : goal.returns-clause-exact
+returns-clause-exact c = one_outcome schedule_line c.args.text.now

@@ -1,19 +1,9 @@
-//! Worked texts of schedules: which are read, and for what the others are refused.
-use crate::fault::ParseError;
-use crate::schedule_text::parse_steps;
-use std::alloc::{AllocError, Global};
+//! Texts of schedules.
+use super::{longest, outcome};
 use std::test::Fail;
 use wq_core::{Seat, Step};
+use wq_text::parse_steps;
 use wq_words::Why;
-
-/// `read`, or the refusal as it is printed.
-fn outcome(alloc: Global, text: &[u8]) -> Result<String, AllocError> {
-    match parse_steps(alloc, text) {
-        Ok(_) => String::from_str(alloc, "read"),
-        Err(ParseError::Memory) => Err(AllocError),
-        Err(ParseError::Refused(error)) => error.to_string(alloc),
-    }
-}
 
 #[test]
 fn fourth_lines_of_schedules(rt: HostRuntime) -> Result<(), Fail> {
@@ -64,7 +54,7 @@ fn fourth_lines_of_schedules(rt: HostRuntime) -> Result<(), Fail> {
     ];
     for (row, want) in rows {
         let text = format!(in alloc; "steps 1\nitems 4\nsenders 2\n{row}")?;
-        let got = outcome(alloc, text.as_bytes())?;
+        let got = outcome(alloc, parse_steps(alloc, text.as_bytes()))?;
         assert_eq!(rt; got.as_str(), want, "{row}");
     }
     Ok(())
@@ -98,7 +88,7 @@ fn headers_of_schedules(rt: HostRuntime) -> Result<(), Fail> {
         ("steps 1\nitems 4\nsenders 65\n", "line 3: Senders"),
     ];
     for (text, want) in rows {
-        let got = outcome(alloc, text.as_bytes())?;
+        let got = outcome(alloc, parse_steps(alloc, text.as_bytes()))?;
         assert_eq!(rt; got.as_str(), want, "{text}");
     }
     Ok(())
@@ -125,20 +115,14 @@ fn turns_that_a_text_spells(rt: HostRuntime) -> Result<(), Fail> {
 #[test]
 fn sizes_of_schedules(rt: HostRuntime) -> Result<(), Fail> {
     let alloc = rt.alloc();
-    let mut text = Vec::new(alloc);
-    for byte in b"steps 1\nitems 4\nsenders 2\n" {
-        text.push(*byte)?;
-    }
-    for place in text.len()..1_048_576 {
-        text.push(if place % 64 == 63 { b'\n' } else { b'#' })?;
-    }
-    let full = outcome(alloc, &text)?;
+    let mut text = longest(alloc, "steps 1\nitems 4\nsenders 2\n")?;
+    let full = outcome(alloc, parse_steps(alloc, &text))?;
     assert_eq!(rt; full.as_str(), "read");
     text.push(b'\n')?;
-    let longer = outcome(alloc, &text)?;
+    let longer = outcome(alloc, parse_steps(alloc, &text))?;
     assert_eq!(rt; longer.as_str(), "line 1: Size");
     text[0] = b'S';
-    let wrong = outcome(alloc, &text)?;
+    let wrong = outcome(alloc, parse_steps(alloc, &text))?;
     assert_eq!(rt; wrong.as_str(), "line 1: Size");
     Ok(())
 }

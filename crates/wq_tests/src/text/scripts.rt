@@ -1,17 +1,7 @@
-//! Worked texts: which are scripts, and for what the others are refused.
-use crate::fault::ParseError;
-use crate::text::parse;
-use std::alloc::{AllocError, Global};
+//! Texts of scripts.
+use super::{longest, outcome};
 use std::test::Fail;
-
-/// `read`, or the refusal as it is printed.
-fn outcome(alloc: Global, text: &[u8]) -> Result<String, AllocError> {
-    match parse(alloc, text) {
-        Ok(_) => String::from_str(alloc, "read"),
-        Err(ParseError::Memory) => Err(AllocError),
-        Err(ParseError::Refused(error)) => error.to_string(alloc),
-    }
-}
+use wq_text::parse;
 
 #[test]
 fn fourth_lines(rt: HostRuntime) -> Result<(), Fail> {
@@ -90,7 +80,7 @@ fn fourth_lines(rt: HostRuntime) -> Result<(), Fail> {
     ];
     for (row, want) in rows {
         let text = format!(in alloc; "wq 1\nitems 4\nsenders 2\n{row}")?;
-        let got = outcome(alloc, text.as_bytes())?;
+        let got = outcome(alloc, parse(alloc, text.as_bytes()))?;
         assert_eq!(rt; got.as_str(), want, "{row}");
     }
     Ok(())
@@ -120,7 +110,7 @@ fn headers(rt: HostRuntime) -> Result<(), Fail> {
         ("wq 2", "line 1: Cut"),
     ];
     for (text, want) in rows {
-        let got = outcome(alloc, text.as_bytes())?;
+        let got = outcome(alloc, parse(alloc, text.as_bytes()))?;
         assert_eq!(rt; got.as_str(), want, "{text}");
     }
     Ok(())
@@ -140,7 +130,7 @@ fn beginnings(rt: HostRuntime) -> Result<(), Fail> {
             23 | 33 | 43 => format!(in alloc; "read")?,
             _ => format!(in alloc; "line {}: Cut", lines + 1)?,
         };
-        let got = outcome(alloc, beginning)?;
+        let got = outcome(alloc, parse(alloc, beginning))?;
         assert_eq!(rt; got.as_str(), want.as_str(), "{end}");
     }
     Ok(())
@@ -149,20 +139,14 @@ fn beginnings(rt: HostRuntime) -> Result<(), Fail> {
 #[test]
 fn sizes(rt: HostRuntime) -> Result<(), Fail> {
     let alloc = rt.alloc();
-    let mut text = Vec::new(alloc);
-    for byte in "wq 1\nitems 4\nsenders 2\n".as_bytes() {
-        text.push(*byte)?;
-    }
-    for place in text.len()..1_048_576 {
-        text.push(if place % 64 == 63 { b'\n' } else { b'#' })?;
-    }
-    let full = outcome(alloc, &text)?;
+    let mut text = longest(alloc, "wq 1\nitems 4\nsenders 2\n")?;
+    let full = outcome(alloc, parse(alloc, &text))?;
     assert_eq!(rt; full.as_str(), "read");
     text.push(b'\n')?;
-    let longer = outcome(alloc, &text)?;
+    let longer = outcome(alloc, parse(alloc, &text))?;
     assert_eq!(rt; longer.as_str(), "line 1: Size");
     text[0] = b'W';
-    let wrong = outcome(alloc, &text)?;
+    let wrong = outcome(alloc, parse(alloc, &text))?;
     assert_eq!(rt; wrong.as_str(), "line 1: Size");
     Ok(())
 }

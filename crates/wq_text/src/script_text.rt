@@ -1,0 +1,64 @@
+//! From the bytes of a text to its script.
+ghost use Rattle.std.specs.Prelude.{IfOk};
+ghost use Rattle.wq_text.specs.Fault.{IfRefused};
+ghost use Rattle.wq_text.specs.Fits.{Fits};
+ghost use Rattle.wq_text.specs.Keyword.{script_grammar, script_line};
+ghost use Rattle.wq_text.specs.Script.{layout_of, commands_of};
+ghost use Rattle.wq_text.specs.Text.{Spells, IsRefusal, HasOneOutcome};
+
+use crate::command::Command;
+use crate::fault::{LineError, ParseError};
+use crate::keyword::{Keyword, command, keyword_of};
+use crate::line::Language;
+use crate::script::Script;
+use crate::text::read;
+use std::alloc::Global;
+use wq_words::Layout;
+
+// The lines of a script, each a command at most.
+struct Commands;
+
+impl Language for Commands {
+    type Name = Keyword;
+
+    type Asked = Command;
+
+    ghost grammar = { script_grammar };
+
+    ghost fits = { Fits };
+
+    fn is_version(line: &[u8]) -> bool {
+        line == b"wq 1".as_slice()
+    }
+
+    fn most_senders() -> u32 {
+        62
+    }
+
+    fn name(first: &str, _others: &[&str]) -> Option<Keyword> {
+        keyword_of(first)
+    }
+
+    fn ask(
+        layout: Layout,
+        name: Keyword,
+        _first: &str,
+        others: &[&str],
+    ) -> Result<Command, LineError> {
+        command(layout, name, others)
+    }
+}
+
+/// The script that a text of at most 1,048,576 bytes spells (docs/FORMATS.md). No text is spelled in two ways, refused for two
+/// faults, or both.
+///
+/// # Errors
+/// `Refused` with the first faulty line and the first fault on it, or `Memory`.
+pub fn parse(alloc: Global, text: &[u8]) -> Result<Script, ParseError>
+    ensures spells { IfOk result (λ script. Spells script_line text.now (layout_of script) (commands_of script)) }
+    ensures refused { IfRefused result (IsRefusal script_line text.now) }
+    ensures exact { HasOneOutcome script_line text.now }
+{
+    let (layout, commands) = read::<Commands>(alloc, text)?;
+    Ok(Script::new(layout, commands))
+}
