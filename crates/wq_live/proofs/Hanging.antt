@@ -12,7 +12,8 @@ use Rattle.wq_live.specs.declared.row.Row.{Row}
 use Rattle.wq_live.specs.Row.{link_in, LinksOn, Spells, IsRowOf}
 use Rattle.wq_live.specs.Sits.{Stands, HasRow, Turned, HasBoth, HasFirst, kept_batch}
 use Rattle.wq_live.proofs.Row.{on_same, row_same, last_in, on_hung, none_counted}
-use Rattle.wq_live.proofs.Linking.{keeps_once, keeps_number, row_after, has_row, turn_here, turn_else, to_turn, to_load, load_stage, load_finds, makes_links}
+use Rattle.wq_live.proofs.Tells.{Tells}
+use Rattle.wq_live.proofs.Linking.{keeps_once, keeps_number, row_after, has_row, turn_stage, turn_tells, turn_here, turn_else, to_turn, to_load, load_stage, load_finds, makes_links}
 
 -- the last number of a row stands in it, and the first too
 last_counted : (ws : List ℕ) (row : Row) (ks : List ℕ) → IsRowOf ws row ks → row.count ≢ 0 → 0 < times row.last ks
@@ -49,6 +50,13 @@ module _ (row more : Row) (p : Part) (stands : Stands p) (both : HasBoth row mor
   hang_alone none =
       let nothing : both.front ≡ [] = none_counted both.front (omega (arith, none, both.front_is.count_is)) in
       has_row p more both.back (both.stage_is ∙ ap (λ (ks : List ℕ). Owns None [] (ks ++ both.back)) nothing) both.back_is
+
+  module _ (q : Part) (turns : Makes (Turn row.last (Some more.front)) (more.front + 1) p q) where
+    pub hang_stage : q.stage ≡ p.stage
+    hang_stage = turn_stage row.last more.front (more.front + 1) p q None [] whole both.stage_is turns
+
+    pub hang_tells : Tells [] p q
+    hang_tells = turn_tells row.last more.front (more.front + 1) p q None [] whole both.stage_is turns
 
   module _ (some : row.count ≢ 0) (some' : more.count ≢ 0) where
     last_here : 0 < times row.last [] + times row.last whole

@@ -235,3 +235,12 @@ pub walks_row : (step : Step) (word : ℕ) (p q : Part) (row : Row) → HasRow r
     → q.stage ≡ walking word [] (kept_batch p.stage) → IsRowOf q.words row (kept_batch q.stage)
 walks_row step word p q row has makes quiet is = subst (IsRowOf q.words row) (sym (ap kept_batch is ∙ kept_walking word (kept_batch p.stage)))
     (row_after step word p q None [] (kept_batch p.stage) (kept_batch p.stage) has.stage_is makes quiet (λ j. omega arith) row has.row_is)
+
+-- nothing was taken
+pub turning_none : (word : ℕ) (p : Part) → word ≡ 0 → p.stage ≡ walking word [] (kept_batch p.stage) → Turned (kept_batch p.stage) (record { front = 0; last = 0; count = 0 }) p p
+turning_none word p is stage = record {
+  taken = [];
+  stage_is = stage ∙ walking_end word [] (kept_batch p.stage) is;
+  row_is = record { count_is = refl; spells = tt };
+  old_row = λ r has. has;
+}

@@ -1,5 +1,5 @@
 -- What a take or a close and the walk after it leave.
-use Rattle.std.proofs.Common.{◌≡◌, ℕ, ◌+◌, ◌<◌, ◌≤◌, List, [], ◌∷◌, ◌++◌, length, None, refl, ap, ◌∙◌, subst, arith, append_assoc}
+use Rattle.std.proofs.Common.{◌≡◌, ℕ, ◌+◌, ◌<◌, ◌≤◌, List, [], ◌∷◌, ◌++◌, length, None, refl, ap, ◌∙◌, subst, arith, append_assoc, sym}
 use Rattle.std.proofs.lemmas.List.{append-nil}
 use Rattle.wq_words.specs.declared.layout.Layout.{Layout}
 use Rattle.wq_words.specs.declared.event.Event.{Event}
@@ -73,6 +73,16 @@ follows_on p q r follows told = record {
   layout_is = told.layout_is ∙ follows.layout_is;
   seat_is = told.seat_is ∙ follows.seat_is;
   grows = grows_on p.seat [] [] 0 0 0 p.seen q.seen r.seen (omega arith) follows.grows (subst (λ (c : ℕ). Grows c [] 0 q.seen r.seen) follows.seat_is told.grows);
+}
+
+pub follows_none : (p : Part) → OnlySees p p
+follows_none p = record { layout_is = refl; seat_is = refl; grows = record { new = []; is = sym (append-nil p.seen); mine = refl; theirs = omega arith } }
+
+pub sees_on : (p q r : Part) → OnlySees p q → OnlySees q r → OnlySees p r
+sees_on p q r a b = record {
+  layout_is = b.layout_is ∙ a.layout_is;
+  seat_is = b.seat_is ∙ a.seat_is;
+  grows = grows_on p.seat [] [] 0 0 0 p.seen q.seen r.seen (omega arith) a.grows (subst (λ (c : ℕ). Grows c [] 0 q.seen r.seen) a.seat_is b.grows);
 }
 
 -- a queue has few numbers
