@@ -143,7 +143,7 @@ keeps_other m n c d (Owns cursor walked batch) change ne keeps =
 links_other : (m n : Machine) (c d : ℕ) (stage : Stage) (words : List ℕ)
     → (c ≢ owner_seat → (k : ℕ) → StandsIn m.walked m.batch k → link n k ≡ link m k) → d ≢ c → HasStage m d stage → HasLinks m words stage → HasLinks n words stage
 links_other m n c d (Sends p) words spared ne keeps links = tt
-links_other m n c d (Owns cursor walked batch) words spared ne keeps links k there =
+links_other m n c d (Owns cursor walked batch) words spared ne keeps links = λ k there.
     spared (λ e. ne (keeps.0 ∙ sym e)) k (subst (λ (z : List ℕ × List ℕ). StandsIn z.0 z.1 k) (λ i. (sym keeps.2 i, sym keeps.3 i)) there) ∙ links k there
 
 -- the owner knows the links of the words themselves

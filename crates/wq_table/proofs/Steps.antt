@@ -221,7 +221,7 @@ module _ (c : ℕ) (layout : Layout) (seen : List Event) (words : List ℕ) wher
   performs_turn k j (Sends p) number next is = absurd is
   performs_turn k j (Owns cursor walked batch) number next is = record {
     made = λ m sound fits. (
-      (refl, rw (← fits.layout_is) number, rw (← fits.layout_is) next),
+      (refl, (rw (← fits.layout_is) number, rw (← fits.layout_is) next)),
       subst (λ (z : List ℕ × List ℕ). StandsIn z.0 z.1 k) (λ i. (sym fits.keeps.2 i, sym fits.keeps.3 i)) is,
     );
     writes = λ m sound fits. refl;
