@@ -4,7 +4,7 @@ pub mod Counting
 pub mod Sends
 pub mod Flushed
 pub mod Waiting
-pub mod Row
+pub mod Rows
 pub mod Owned
 pub mod OwnerTells
 pub mod Linking

@@ -19,7 +19,7 @@ use Rattle.wq_table.specs.Chair.{IsToWalk, IsToTurn}
 use Rattle.wq_live.specs.declared.row.Row.{Row}
 use Rattle.wq_live.specs.Row.{link_in, LinksOn, IsRowOf}
 use Rattle.wq_live.specs.Sits.{Stands, HasRow, Turned, HasBoth, HasFirst, kept_batch, walking}
-use Rattle.wq_live.proofs.Row.{on_same, row_same, last_in, on_hung, none_counted}
+use Rattle.wq_live.proofs.Rows.{on_same, row_same, last_in, on_hung, none_counted}
 use Rattle.wq_live.proofs.Tells.{Tells, tells}
 use Rattle.wq_live.proofs.OwnerTells.{walking_on, walking_end, walk_stage}
 

@@ -1,6 +1,6 @@
 use Rattle.std.proofs.Common.{◌≡◌, ℕ, List, [], ◌∷◌, None, slice_get, ap, sym, refl, ◌∙◌, arith}
 use Rattle.wq_live.specs.Sits.{kept_batch}
-use Rattle.wq_live.proofs.Row.{none_counted}
+use Rattle.wq_live.proofs.Rows.{none_counted}
 use Rattle.wq_live.proofs.Hanging.{first_of_row}
 use Rattle.wq_live.proofs.OwnerTells.{owner_batch}
 use Rattle.wq_live.proofs.owner.Owner.next.Goals as goal
