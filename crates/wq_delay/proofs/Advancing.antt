@@ -10,31 +10,14 @@ use Rattle.wq_words.specs.declared.event.Why.TheVariants as why
 use Rattle.wq_words.specs.History.{is_push}
 use Rattle.wq_words.proofs.Growing.{count_by_push}
 use Rattle.wq_live.specs.Known.{Known, Sees}
-use Rattle.wq_words.specs.DelayTable.{Entry, on_table, due_part, later_part, without, IsOrdered}
+use Rattle.wq_words.specs.DelayTable.{Entry, DelayTable, on_table, due_part, later_part, without, IsOrdered}
 use Rattle.wq_delay.specs.Rows.{IsFirstDue}
-use Rattle.wq_delay.specs.Delay.{DelayState, IsFit, Keeps, Leaves, IsOut, is_back, lost_tries, PostsDue}
-use Rattle.wq_delay.proofs.Table.{none_due}
-use Rattle.wq_delay.proofs.Rows.{first_on, without_first}
+use Rattle.wq_delay.specs.Delay.{DelayState, IsFit, KeepsTable, TakesOff, IsOut, is_back, lost_tries, PostsDue}
+use Rattle.wq_words.proofs.DelayTable.{without_first, due_then_later, first_due_part, first_later_part}
 use Rattle.wq_delay.proofs.Going.{sees_on, sees_none}
 
--- a table in order is its due part and what is later
-due_then_later : (t : ℕ) (es : List Entry) → IsOrdered es → es ≡ due_part t es ++ later_part t es
-due_then_later t [] ordered = refl
-due_then_later t (e ∷ es) ordered = by (nat_le e.due t) refl (due_then_later t es ordered.2)
-  where
-    by : (b : Bool) → nat_le e.due t ≡ b → es ≡ due_part t es ++ later_part t es → e ∷ es ≡ cond b (e ∷ due_part t es) (due_part t es) ++ cond (not b) (e ∷ later_part t es) (later_part t es)
-    by true is rest = ap (λ (z : List Entry). e ∷ z) rest
-    by false is rest =
-        let late : t < e.due = grind (arith, nat_tests) in let none : due_part t es ≡ [] = none_due t e es ordered.0 late in
-        ap (λ (z : List Entry). e ∷ z) (rest ∙ ap (λ (z : List Entry). z ++ later_part t es) none) ∙ ap (λ (z : List Entry). z ++ e ∷ later_part t es) (sym none)
-
-first_due_part : (t : ℕ) (e : Entry) (es : List Entry) → e.due ≤ t → due_part t (e ∷ es) ≡ e ∷ due_part t es
-first_due_part t e es due = let is : nat_le e.due t ≡ true = grind (arith, nat_tests) in rw is refl
-
-first_later_part : (t : ℕ) (e : Entry) (es : List Entry) → e.due ≤ t → later_part t (e ∷ es) ≡ later_part t es
-first_later_part t e es due = let is : nat_le e.due t ≡ true = grind (arith, nat_tests) in rw is refl
-
-all_zip_push : {A B : Type 0} (R : A → B → Type 0) (xs : List A) (ys : List B) (x : A) (y : B) → AllZip R xs ys → R x y → AllZip R (xs ++ x ∷ []) (ys ++ y ∷ [])
+all_zip_push : {A B : Type 0} (R : A → B → Type 0) (xs : List A) (ys : List B) (x : A) (y : B) → AllZip R xs ys → R x y
+    → AllZip R (xs ++ x ∷ []) (ys ++ y ∷ [])
 all_zip_push R [] [] x y all r = (r, tt)
 all_zip_push R [] (z ∷ zs) x y all r = absurd all
 all_zip_push R (z ∷ zs) [] x y all r = absurd all
@@ -44,13 +27,13 @@ all_zip_push R (z ∷ zs) (w ∷ ws) x y all r = (all.0, all_zip_push R zs ws x 
 pub record Going (t : ℕ) (old new : DelayState) (pushed refused : ℕ) : Type 0 where
   pub gone : List Entry
   pub events : List Event
-  pub split : due_part t old.table ≡ gone ++ due_part t new.table
-  pub later : later_part t new.table ≡ later_part t old.table
-  pub fewer : length gone + length new.table ≡ length old.table
+  pub split : due_part t old.table.entries ≡ gone ++ due_part t new.table.entries
+  pub later : later_part t new.table.entries ≡ later_part t old.table.entries
+  pub fewer : length gone + length new.table.entries ≡ length old.table.entries
   pub out : AllZip (IsOut old.sender.number) gone events
   pub seen : Sees events 0 old.sender new.sender
-  pub tick_is : new.tick ≡ old.tick
-  pub next_is : new.next ≡ old.next
+  pub tick_is : new.table.tick ≡ old.table.tick
+  pub next_is : new.table.next ≡ old.table.next
   pub pushed_is : pushed ≡ count_by is_push events
   pub refused_is : refused ≡ count_by is_back events
   pub sum_is : pushed + refused ≡ length gone
@@ -72,25 +55,29 @@ going_none t d fit = record {
 }
 
 -- the first of the due part went out by the event x
-pub going_more : (t k pushed refused p r : ℕ) (old mid new : DelayState) (x : Event) → Going t old mid pushed refused → IsOrdered mid.table → IsFirstDue t k mid.table → Leaves (x ∷ []) k mid new
+pub going_more : (t k pushed refused p r : ℕ) (old mid new : DelayState) (x : Event) → Going t old mid pushed refused
+    → IsOrdered mid.table.entries → IsFirstDue t k mid.table.entries → TakesOff (x ∷ []) k mid new
     → ((e : Entry) → e.item ≡ k → IsOut old.sender.number e x)
     → p ≡ pushed + cond (is_push x) 1 0 → r ≡ refused + cond (is_back x) 1 0 → p + r ≡ pushed + refused + 1 → Going t old new p r
 going_more t k pushed refused p r old mid new x going in_order is_first leaves is_out pushes backs sums =
-    let es : List Entry = mid.table in
+    let es : List Entry = mid.table.entries in
     let ordered : IsOrdered (is_first.first ∷ is_first.rest) = subst IsOrdered is_first.is in_order in
-    let tail : is_first.rest ≡ without k mid.table = without_first is_first.first is_first.rest ordered.1 ∙ (ap (without is_first.first.item) (sym is_first.is) ∙ ap (λ (z : ℕ). without z mid.table) is_first.item_is) in
-    let same : is_first.rest ≡ new.table = tail ∙ sym leaves.table_is in
-    let whole : mid.table ≡ is_first.first ∷ new.table = is_first.is ∙ ap (λ (z : List Entry). is_first.first ∷ z) same in
+    let tail : is_first.rest ≡ without k mid.table.entries = without_first is_first.first is_first.rest ordered.1
+    ∙ (ap (without is_first.first.item) (sym is_first.is) ∙ ap (λ (z : ℕ). without z mid.table.entries) is_first.item_is) in
+    let same : is_first.rest ≡ new.table.entries = tail ∙ sym (ap (λ (z : DelayTable). z.entries) leaves.table_is) in
+    let whole : mid.table.entries ≡ is_first.first ∷ new.table.entries = is_first.is ∙ ap (λ (z : List Entry). is_first.first ∷ z) same in
     record {
       gone = going.gone ++ is_first.first ∷ [];
       events = going.events ++ x ∷ [];
-      split = going.split ∙ (ap (λ (z : List Entry). going.gone ++ z) (ap (due_part t) whole ∙ first_due_part t is_first.first new.table is_first.due) ∙ sym (append_assoc going.gone (is_first.first ∷ []) (due_part t new.table)));
-      later = sym (first_later_part t is_first.first new.table is_first.due) ∙ (ap (later_part t) (sym whole) ∙ going.later);
+      split = going.split ∙ (ap (λ (z : List Entry). going.gone ++ z)
+          (ap (due_part t) whole ∙ first_due_part t is_first.first new.table.entries is_first.due)
+          ∙ sym (append_assoc going.gone (is_first.first ∷ []) (due_part t new.table.entries)));
+      later = sym (first_later_part t is_first.first new.table.entries is_first.due) ∙ (ap (later_part t) (sym whole) ∙ going.later);
       fewer = let l = ap (length {A = Entry}) whole in omega (arith, l, going.fewer, length-append going.gone (is_first.first ∷ []));
       out = all_zip_push (IsOut old.sender.number) going.gone going.events is_first.first x going.out (is_out is_first.first is_first.item_is);
       seen = sees_on going.events (x ∷ []) 0 0 old.sender mid.sender new.sender going.seen leaves.seen;
-      tick_is = leaves.tick_is ∙ going.tick_is;
-      next_is = leaves.next_is ∙ going.next_is;
+      tick_is = ap (λ (z : DelayTable). z.tick) leaves.table_is ∙ going.tick_is;
+      next_is = ap (λ (z : DelayTable). z.next) leaves.table_is ∙ going.next_is;
       pushed_is = let m = count_by_push is_push going.events x in omega (arith, m, going.pushed_is);
       refused_is = let m = count_by_push is_back going.events x in omega (arith, m, going.refused_is);
       sum_is = omega (arith, going.sum_is, length-append going.gone (is_first.first ∷ []));
@@ -102,13 +89,15 @@ is_out_pushed a b k number e item = inl (ap (λ (z : ℕ). Push z k) number ∙ 
 is_out_refused : (a b : Known) (k : ℕ) → b.number ≡ a.number → (e : Entry) → e.item ≡ k → IsOut a.number e (Back b.number k why.Closed)
 is_out_refused a b k number e item = inr (ap (λ (z : ℕ). Back z k why.Closed) number ∙ ap (λ (z : ℕ). Back a.number z why.Closed) (sym item))
 
-pub going_pushed : (t k pushed refused : ℕ) (old mid new : DelayState) → Going t old mid pushed refused → IsOrdered mid.table → IsFirstDue t k mid.table → Leaves (Push mid.sender.number k ∷ []) k mid new
+pub going_pushed : (t k pushed refused : ℕ) (old mid new : DelayState) → Going t old mid pushed refused → IsOrdered mid.table.entries
+    → IsFirstDue t k mid.table.entries → TakesOff (Push mid.sender.number k ∷ []) k mid new
     → Going t old new (pushed + 1) refused
 going_pushed t k pushed refused old mid new going in_order is_first leaves =
     going_more t k pushed refused (pushed + 1) refused old mid new (Push mid.sender.number k) going in_order is_first leaves
     (is_out_pushed old.sender mid.sender k going.seen.same.number_is) refl (omega arith) (omega arith)
 
-pub going_refused : (t k pushed refused : ℕ) (old mid new : DelayState) → Going t old mid pushed refused → IsOrdered mid.table → IsFirstDue t k mid.table → Leaves (Back mid.sender.number k why.Closed ∷ []) k mid new
+pub going_refused : (t k pushed refused : ℕ) (old mid new : DelayState) → Going t old mid pushed refused → IsOrdered mid.table.entries
+    → IsFirstDue t k mid.table.entries → TakesOff (Back mid.sender.number k why.Closed ∷ []) k mid new
     → Going t old new pushed (refused + 1)
 going_refused t k pushed refused old mid new going in_order is_first leaves =
     going_more t k pushed refused pushed (refused + 1) old mid new (Back mid.sender.number k why.Closed) going in_order is_first leaves
@@ -117,42 +106,56 @@ going_refused t k pushed refused old mid new going in_order is_first leaves =
 pub fewer_left : (t k : ℕ) (es fs : List Entry) → IsOrdered es → IsFirstDue t k es → fs ≡ without k es → length fs < length es
 fewer_left t k es fs in_order is_first is =
     let ordered : IsOrdered (is_first.first ∷ is_first.rest) = subst IsOrdered is_first.is in_order in
-    let tail : is_first.rest ≡ without k es = without_first is_first.first is_first.rest ordered.1 ∙ (ap (without is_first.first.item) (sym is_first.is) ∙ ap (λ (z : ℕ). without z es) is_first.item_is) in
+    let tail : is_first.rest ≡ without k es = without_first is_first.first is_first.rest ordered.1
+    ∙ (ap (without is_first.first.item) (sym is_first.is) ∙ ap (λ (z : ℕ). without z es) is_first.item_is) in
     let rest = ap (length {A = Entry}) (tail ∙ sym is) in let l = ap (length {A = Entry}) is_first.is in omega arith
 
 -- all that was due went out
-pub went_all : (t tries pushed refused : ℕ) (old new : DelayState) → Going t old new pushed refused → IsOrdered new.table → due_part t new.table ≡ [] → PostsDue t tries old new pushed refused
-went_all t tries pushed refused old new going in_order none = record {
-  gone = going.gone;
-  left = [];
-  events = going.events;
-  due_is = going.split ∙ ap (λ (z : List Entry). going.gone ++ z) none;
-  table_is = due_then_later t new.table in_order ∙ (ap (λ (z : List Entry). z ++ later_part t new.table) none ∙ going.later);
-  out = going.out;
-  seen = going.seen;
-  next_is = going.next_is;
-  pushed_is = going.pushed_is;
-  refused_is = going.refused_is;
-}
+pub went_all : (t tries pushed refused : ℕ) (old new : DelayState) → Going t old new pushed refused → old.table.tick ≡ t
+    → IsOrdered new.table.entries → due_part t new.table.entries ≡ [] → PostsDue t tries old new pushed refused
+went_all t tries pushed refused old new going now in_order none =
+    let rest : new.table.entries ≡ later_part t old.table.entries =
+    due_then_later t new.table.entries in_order
+    ∙ (ap (λ (z : List Entry). z ++ later_part t new.table.entries) none ∙ going.later) in
+    record {
+      gone = going.gone;
+      left = [];
+      events = going.events;
+      due_is = going.split ∙ ap (λ (z : List Entry). going.gone ++ z) none;
+      table_is = λ i. record { entries = rest i; tick = (going.tick_is ∙ now) i; next = going.next_is i };
+      out = going.out;
+      seen = going.seen;
+      pushed_is = going.pushed_is;
+      refused_is = going.refused_is;
+    }
 
 -- the post of the first was contended
 lost_by : (t k tries : ℕ) (es : List Entry) → IsFirstDue t k es → lost_tries (due_part t es) tries ≡ tries
-lost_by t k tries es is_first = ap (λ (z : List Entry). lost_tries z tries) (ap (due_part t) is_first.is ∙ first_due_part t is_first.first is_first.rest is_first.due)
+lost_by t k tries es is_first =
+    ap (λ (z : List Entry). lost_tries z tries) (ap (due_part t) is_first.is ∙ first_due_part t is_first.first is_first.rest is_first.due)
 
-pub went_some : (t k tries pushed refused : ℕ) (old mid new : DelayState) → Going t old mid pushed refused → IsOrdered mid.table → IsFirstDue t k mid.table → Keeps [] tries mid new
-    → PostsDue t tries old new pushed refused
-went_some t k tries pushed refused old mid new going in_order is_first keeps = record {
-  gone = going.gone;
-  left = due_part t mid.table;
-  events = going.events;
-  due_is = going.split;
-  table_is = keeps.table_is ∙ (due_then_later t mid.table in_order ∙ ap (λ (z : List Entry). due_part t mid.table ++ z) going.later);
-  out = going.out;
-  seen =
-      let all : Sees (going.events ++ []) (0 + tries) old.sender new.sender = sees_on going.events [] 0 tries old.sender mid.sender new.sender going.seen keeps.seen in
-      let all' : Sees going.events (0 + tries) old.sender new.sender = subst (λ (z : List Event). Sees z (0 + tries) old.sender new.sender) (append-nil going.events) all in
-      subst (λ (z : ℕ). Sees going.events z old.sender new.sender) (let e = lost_by t k tries mid.table is_first in omega (arith, e)) all';
-  next_is = keeps.next_is ∙ going.next_is;
-  pushed_is = going.pushed_is;
-  refused_is = going.refused_is;
-}
+pub went_some : (t k tries pushed refused : ℕ) (old mid new : DelayState) → Going t old mid pushed refused → old.table.tick ≡ t
+    → IsOrdered mid.table.entries → IsFirstDue t k mid.table.entries → KeepsTable [] tries mid new → PostsDue t tries old new pushed refused
+went_some t k tries pushed refused old mid new going now in_order is_first keeps =
+    let same : new.table.entries ≡ mid.table.entries = ap (λ (z : DelayTable). z.entries) keeps.table_is in
+    let rest : new.table.entries ≡ due_part t mid.table.entries ++ later_part t old.table.entries =
+    same ∙ (due_then_later t mid.table.entries in_order ∙ ap (λ (z : List Entry). due_part t mid.table.entries ++ z) going.later) in
+    let all : Sees (going.events ++ []) (0 + tries) old.sender new.sender =
+    sees_on going.events [] 0 tries old.sender mid.sender new.sender going.seen keeps.seen in
+    let seen : Sees going.events (0 + tries) old.sender new.sender =
+    subst (λ (z : List Event). Sees z (0 + tries) old.sender new.sender) (append-nil going.events) all in
+    record {
+      gone = going.gone;
+      left = due_part t mid.table.entries;
+      events = going.events;
+      due_is = going.split;
+      table_is = λ i. record {
+        entries = rest i;
+        tick = (ap (λ (z : DelayTable). z.tick) keeps.table_is ∙ (going.tick_is ∙ now)) i;
+        next = (ap (λ (z : DelayTable). z.next) keeps.table_is ∙ going.next_is) i;
+      };
+      out = going.out;
+      seen = subst (λ (z : ℕ). Sees going.events z old.sender new.sender) (let e = lost_by t k tries mid.table.entries is_first in omega (arith, e)) seen;
+      pushed_is = going.pushed_is;
+      refused_is = going.refused_is;
+    }

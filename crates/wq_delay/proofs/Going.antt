@@ -12,7 +12,7 @@ use Rattle.wq_words.specs.Seen.{seat_of, own, others, Grows}
 use Rattle.wq_live.specs.Known.{Known, Sees}
 use Rattle.wq_words.specs.DelayTable.{Entry, on_table, without, IsOrdered}
 use Rattle.wq_delay.specs.Rows.{Pops}
-use Rattle.wq_delay.proofs.Rows.{first_on, without_first}
+use Rattle.wq_words.proofs.DelayTable.{first_on, without_first}
 use Rattle.wq_delay.proofs.Sound.{state, IsSound, sound_keeps, sound_leaves, even_back, stops_back}
 
 grows_on : (c : ℕ) (xs ys : List Event) (n m : ℕ) (u v w : List Event) → Grows c xs n u v → Grows c ys m v w → Grows c (xs ++ ys) (n + m) u w
@@ -20,12 +20,18 @@ grows_on c xs ys n m u v w a b = record {
   new = a.new ++ b.new;
   is = b.is ∙ (ap (λ (z : List Event). z ++ b.new) a.is ∙ append_assoc u a.new b.new);
   mine = filter-append (λ e. seat_of e == c) a.new b.new ∙ (ap (λ (z : List Event). z ++ own c b.new) a.mine ∙ ap (λ (z : List Event). xs ++ z) b.mine);
-  theirs = let e = ap (length {A = Event}) (filter-append (λ e. not (seat_of e == c)) a.new b.new) in omega (arith, a.theirs, b.theirs, e, length-append (others c a.new) (others c b.new));
+  theirs = let e = ap (length {A = Event}) (filter-append (λ e. not (seat_of e == c)) a.new b.new) in
+      omega (arith, a.theirs, b.theirs, e, length-append (others c a.new) (others c b.new));
 }
 
 pub sees_on : (xs ys : List Event) (n m : ℕ) (a b c : Known) → Sees xs n a b → Sees ys m b c → Sees (xs ++ ys) (n + m) a c
 sees_on xs ys n m a b c p q = record {
-  same = record { queue_is = q.same.queue_is ∙ p.same.queue_is; layout_is = q.same.layout_is ∙ p.same.layout_is; number_is = q.same.number_is ∙ p.same.number_is };
+  same = record {
+    queue_is = q.same.queue_is ∙ p.same.queue_is;
+    layout_is = q.same.layout_is ∙ p.same.layout_is;
+    number_is =
+        q.same.number_is ∙ p.same.number_is;
+  };
   grows = grows_on a.number xs ys n m a.seen b.seen c.seen p.grows (subst (λ (z : ℕ). Grows z ys m b.seen c.seen) p.same.number_is q.grows);
   legal = q.legal;
 }
@@ -72,18 +78,23 @@ given_none size a now next t sound = record {
 pub popped_held : (size k : ℕ) (a b : Known) (old t u : List Entry) → Given size a old b t → Pops k t u → Holds b.seen b.number k
 popped_held size k a b old t u given pops = (given.sound.1.held k).0 (subst (λ (z : ℕ). on_table z t ≡ true) pops.item_is (first_on t u pops.first pops.is))
 
-pub given_more : (size k : ℕ) (a b c : Known) (old t u : List Entry) → Given size a old b t → Pops k t u → Sees (Back b.number k why.Cancelled ∷ []) 0 b c → Given size a old c u
+pub given_more : (size k : ℕ) (a b c : Known) (old t u : List Entry) → Given size a old b t → Pops k t u
+    → Sees (Back b.number k why.Cancelled ∷ []) 0 b c → Given size a old c u
 given_more size k a b c old t u given pops sees =
     let e : Entry = pops.first in let s = b.number in
     let number : b.number ≡ a.number = given.seen.same.number_is in
     let ordered : IsOrdered (pops.first ∷ u) = subst IsOrdered pops.is given.sound.1.ordered in
-    let left : u ≡ without k t = without_first pops.first u ordered.1 ∙ (ap (without pops.first.item) (sym pops.is) ∙ ap (λ (z : ℕ). without z t) pops.item_is) in
-    let same : Back b.number k why.Cancelled ∷ [] ≡ Back a.number pops.first.item why.Cancelled ∷ [] = ap (λ (z : ℕ). Back z k why.Cancelled ∷ []) number ∙ ap (λ (z : ℕ). Back a.number z why.Cancelled ∷ []) (sym pops.item_is) in
-    let all = sees_on (backs a.number given.gone) (Back a.number pops.first.item why.Cancelled ∷ []) 0 0 a b c given.seen (subst (λ (z : List Event). Sees z 0 b c) same sees) in
+    let left : u ≡ without k t = without_first pops.first u ordered.1
+    ∙ (ap (without pops.first.item) (sym pops.is) ∙ ap (λ (z : ℕ). without z t) pops.item_is) in
+    let same : Back b.number k why.Cancelled ∷ [] ≡ Back a.number pops.first.item why.Cancelled ∷ [] =
+    ap (λ (z : ℕ). Back z k why.Cancelled ∷ []) number ∙ ap (λ (z : ℕ). Back a.number z why.Cancelled ∷ []) (sym pops.item_is) in
+    let all = sees_on (backs a.number given.gone) (Back a.number pops.first.item why.Cancelled ∷ []) 0 0 a b c given.seen
+    (subst (λ (z : List Event). Sees z 0 b c) same sees) in
     record {
       gone = given.gone ++ pops.first ∷ [];
       next = given.next;
       split = given.split ∙ (ap (λ (z : List Entry). given.gone ++ z) pops.is ∙ sym (append_assoc given.gone (pops.first ∷ []) u));
       seen = subst (λ (z : List Event). Sees z 0 a c) (sym (backs_push a.number given.gone pops.first)) all;
-      sound = sound_leaves (Back b.number k why.Cancelled) size 0 k b c 0 given.next t u sees (λ j. refl) (λ j. stops_back b.number k j why.Cancelled) left given.sound;
+      sound = sound_leaves (Back b.number k why.Cancelled) size 0 k b c 0 given.next t u sees (λ j. refl)
+          (λ j. stops_back b.number k j why.Cancelled) left given.sound;
     }

@@ -18,7 +18,8 @@ use Rattle.wq_words.specs.DelayTable.{Entry, on_table}
 
 -- events that only the seat c makes are among its own
 module _ (p : Event → Bool) (c : ℕ) (mine : (e : Event) → p e ≡ true → (seat_of e == c) ≡ true) where
-  own_by : (b q : Bool) (e : Event) (xs ys : List Event) → (seat_of e == c) ≡ b → p e ≡ q → xs ≡ filter p ys → cond q (e ∷ xs) xs ≡ filter p (cond b (e ∷ ys) ys)
+  own_by : (b q : Bool) (e : Event) (xs ys : List Event) → (seat_of e == c) ≡ b → p e ≡ q → xs ≡ filter p ys
+      → cond q (e ∷ xs) xs ≡ filter p (cond b (e ∷ ys) ys)
   own_by true q e xs ys b is go = rw (is, go) refl
   own_by false true e xs ys b is go = let other = mine e is in absurd (cc)
   own_by false false e xs ys b is go = go
@@ -99,7 +100,8 @@ holds_at h s t k is low = subst (λ (z : ℕ). stops z k h < starts z k h) (sym 
 holds_of : (h : List Event) (s t k : ℕ) → s ≡ t → Holds h s k → stops t k h < starts t k h
 holds_of h s t k is low = subst (λ (z : ℕ). stops z k h < starts z k h) is low
 
-pub holds_same : (xs : List Event) (n : ℕ) (a b : Known) (t : List Entry) → Sees xs n a b → ((k : ℕ) → starts a.number k xs ≡ stops a.number k xs) → HoldsAll a t → HoldsAll b t
+pub holds_same : (xs : List Event) (n : ℕ) (a b : Known) (t : List Entry) → Sees xs n a b → ((k : ℕ) → starts a.number k xs ≡ stops a.number k xs)
+    → HoldsAll a t → HoldsAll b t
 holds_same xs n a b t sees even held k =
     let c = counted xs n a b k sees in let e = even k in (
       λ on. let low = (held k).0 on in holds_at b.seen b.number a.number k c.number_is (omega (arith, c.starts_is, c.stops_is)),
@@ -112,14 +114,18 @@ free_before n a b k sees holds =
     let c = counted (Hold a.number k ∷ []) n a b k sees in let one : starts a.number k (Hold a.number k ∷ []) ≡ 1 = grind (arith, nat_tests) in
     omega (arith, c.starts_is, c.stops_is, c.new_high)
 
-pub holds_more : (n : ℕ) (a b : Known) (k : ℕ) (t u : List Entry) → Sees (Hold a.number k ∷ []) n a b → ((j : ℕ) → on_table j u ≡ ((j == k) || on_table j t)) → HoldsAll a t → HoldsAll b u
+pub holds_more : (n : ℕ) (a b : Known) (k : ℕ) (t u : List Entry) → Sees (Hold a.number k ∷ []) n a b
+    → ((j : ℕ) → on_table j u ≡ ((j == k) || on_table j t)) → HoldsAll a t → HoldsAll b u
 holds_more n a b k t u sees on held j = by (j == k) refl
   where
     by : (q : Bool) → (j == k) ≡ q → IsTrue (on_table j u) ↔ Holds b.seen b.number j
     by true same =
         let e : j ≡ k = eqb-true j k same in let c = counted (Hold a.number k ∷ []) n a b j sees in
-        let one : starts a.number j (Hold a.number k ∷ []) ≡ 1 = grind (arith, nat_tests) in
-        (λ _. holds_at b.seen b.number a.number j c.number_is (omega (arith, c.starts_is, c.stops_is, c.old_low)), λ _. on j ∙ ap (λ (z : Bool). z || on_table j t) same)
+        let one : starts a.number j (Hold a.number k ∷ []) ≡ 1 = grind (arith, nat_tests) in (
+          λ _. holds_at b.seen b.number a.number j c.number_is (omega (arith, c.starts_is, c.stops_is, c.old_low)),
+          λ _. on j
+              ∙ ap (λ (z : Bool). z || on_table j t) same,
+        )
     by false other =
         let c = counted (Hold a.number k ∷ []) n a b j sees in
         let none : starts a.number j (Hold a.number k ∷ []) ≡ 0 = grind (arith, nat_tests) in
@@ -138,8 +144,11 @@ holds_less x n a b k t u sees none one on held j = by (j == k) refl
     by true same =
         let e : j ≡ k = eqb-true j k same in let c = counted (x ∷ []) n a b j sees in let o = none j in
         let once : stops a.number j (x ∷ []) ≡ 1 = one j ∙ grind (arith, nat_tests) in
-        let off : on_table j u ≡ false = on j ∙ ap (λ (z : Bool). not z && on_table j t) same in
-        (λ here. absurd (cc), λ holds. let low = holds_of b.seen b.number a.number j c.number_is holds in absurd (omega (arith, c.starts_is, c.stops_is, c.old_high)))
+        let off : on_table j u ≡ false = on j ∙ ap (λ (z : Bool). not z && on_table j t) same in (
+          λ here. absurd (cc),
+          λ holds. let low = holds_of b.seen b.number a.number j c.number_is holds in
+              absurd (omega (arith, c.starts_is, c.stops_is, c.old_high)),
+        )
     by false other =
         let c = counted (x ∷ []) n a b j sees in let o = none j in
         let never : stops a.number j (x ∷ []) ≡ 0 = one j ∙ grind (arith, nat_tests) in

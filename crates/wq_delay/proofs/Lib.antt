@@ -4,4 +4,3 @@ pub mod Held
 pub mod Sound
 pub mod Going
 pub mod Advancing
-pub mod Fresh

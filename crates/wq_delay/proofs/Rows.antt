@@ -13,7 +13,8 @@ use Rattle.std.proofs.lemmas.Bool.{eqb-true}
 use Rattle.std.proofs.lemmas.Bool.Decides.{nat_tests}
 use Rattle.wq_words.specs.DelayTable.{Entry, items, on_table, due_part, placed, without, IsBefore, IsOrdered, AreArmedBefore}
 use Rattle.wq_delay.specs.Rows.{entry_of, place_of, AreRows, IsFirstDue}
-use Rattle.wq_delay.proofs.Table.{first_false, second_false, without_off, none_due, placed_front, all-without, all-more, place_some, place_of-placed, place_of-without, on_table-without, ordered-placed, ordered-without}
+use Rattle.wq_words.proofs.DelayTable.{first_false, second_false, without_off, none_due, placed_front, all-without, all-more, on_table-without, ordered-placed, ordered-without, first_on, without_first}
+use Rattle.wq_delay.proofs.Table.{place_some, place_of-placed, place_of-without}
 
 abbrev pub row_cmp : (ℕ × ℕ) → (ℕ × ℕ) → Ordering
 row_cmp x y = ordering_then (nat_cmp x.0 y.0) (nat_cmp x.1 y.1)
@@ -35,19 +36,24 @@ entries-insert (row ∷ rows) due arming item armed =
     ap (map entry_of) (later_arming (nat_lt due row.0.0) (due == row.0.0) (nat_lt arming m) (arming == m) _ _ _ high apart)
     ∙ by (nat_lt due row.0.0) (entries-insert rows due arming item armed.1)
   where
-    by : (b : Bool) → map entry_of (insert_entry row_cmp rows (due, arming) item) ≡ placed (record { due = due; arming = arming; item = item }) (map entry_of rows)
+    by : (b : Bool) → map entry_of (insert_entry row_cmp rows (due, arming) item) ≡ placed (record { due = due; arming = arming; item = item })
+        (map entry_of rows)
         → map entry_of (cond b (((due, arming), item) ∷ row ∷ rows) (row ∷ insert_entry row_cmp rows (due, arming) item))
-        ≡ cond b (record { due = due; arming = arming; item = item } ∷ map entry_of (row ∷ rows)) (entry_of row ∷ placed (record { due = due; arming = arming; item = item }) (map entry_of rows))
+        ≡ cond b (record { due = due; arming = arming; item = item } ∷ map entry_of (row ∷ rows))
+        (entry_of row ∷ placed (record { due = due; arming = arming; item = item }) (map entry_of rows))
     by true is = refl
     by false is = ap (λ (z : List Entry). entry_of row ∷ z) is
 
 -- an entry stands before the place of an item behind it
-before_place : (k : ℕ) (key : ℕ × ℕ) (e : Entry) (es : List Entry) → AllByRecursion (IsBefore e) es → place_of k es ≡ Some key → IsBefore e (record { due = key.0; arming = key.1; item = k })
+before_place : (k : ℕ) (key : ℕ × ℕ) (e : Entry) (es : List Entry) → AllByRecursion (IsBefore e) es → place_of k es ≡ Some key
+    → IsBefore e (record { due = key.0; arming = key.1; item = k })
 before_place k key e [] before is = absurd (cc)
 before_place k key e (f ∷ fs) before is = by (k == f.item) (before_place k key e fs before.1) is
   where
-    by : (b : Bool) → (place_of k fs ≡ Some key → IsBefore e (record { due = key.0; arming = key.1; item = k })) → cond b (Some (f.due, f.arming)) (place_of k fs) ≡ Some key → IsBefore e (record { due = key.0; arming = key.1; item = k })
-    by true rest same = let p : f.due ≡ key.0 = cc in let q : f.arming ≡ key.1 = cc in (omega (arith, before.0.0), λ dues. let r = before.0.1 (omega arith) in omega arith)
+    by : (b : Bool) → (place_of k fs ≡ Some key → IsBefore e (record { due = key.0; arming = key.1; item = k }))
+        → cond b (Some (f.due, f.arming)) (place_of k fs) ≡ Some key → IsBefore e (record { due = key.0; arming = key.1; item = k })
+    by true rest same = let p : f.due ≡ key.0 = cc in let q : f.arming ≡ key.1 = cc in
+        (omega (arith, before.0.0), λ dues. let r = before.0.1 (omega arith) in omega arith)
     by false rest same = rest same
 
 same_row : (a b : ℕ) → is_at (row_cmp (a, b)) (a, b) ≡ true
@@ -71,15 +77,19 @@ not_both false q other = refl
 apart_row : (key : ℕ × ℕ) (e : Entry) (k : ℕ) → IsBefore e (record { due = key.0; arming = key.1; item = k }) → is_at (row_cmp key) (e.due, e.arming) ≡ false
 apart_row key e k before =
     apart_by (nat_lt key.0 e.due) (key.0 == e.due) (nat_lt key.1 e.arming) (key.1 == e.arming)
-    (not_both (key.0 == e.due) (key.1 == e.arming) (λ p q. let a = eqb-true key.0 e.due p in let b = eqb-true key.1 e.arming q in let r = before.1 (sym a) in omega arith))
+    (not_both (key.0 == e.due) (key.1 == e.arming) (λ p q. let a = eqb-true key.0 e.due p in let b = eqb-true key.1 e.arming q in
+    let r = before.1 (sym a) in omega arith))
 
 pub entries-remove : (rows : List ((ℕ × ℕ) × ℕ)) (k : ℕ) (key : ℕ × ℕ) → IsOrdered (map entry_of rows) → place_of k (map entry_of rows) ≡ Some key
     → map entry_of (remove_entry (is_at (row_cmp key)) rows) ≡ without k (map entry_of rows)
 entries-remove [] k key ordered is = absurd (cc)
 entries-remove (row ∷ rows) k key ordered is = by (k == row.1) refl (entries-remove rows k key ordered.2) is
   where
-    by : (b : Bool) → (k == row.1) ≡ b → (place_of k (map entry_of rows) ≡ Some key → map entry_of (remove_entry (is_at (row_cmp key)) rows) ≡ without k (map entry_of rows)) → cond b (Some (row.0.0, row.0.1)) (place_of k (map entry_of rows)) ≡ Some key
-        → map entry_of (cond (is_at (row_cmp key) row.0) rows (row ∷ remove_entry (is_at (row_cmp key)) rows)) ≡ cond (not b) (entry_of row ∷ without k (map entry_of rows)) (without k (map entry_of rows))
+    by : (b : Bool) → (k == row.1) ≡ b → (place_of k (map entry_of rows) ≡ Some key
+        → map entry_of (remove_entry (is_at (row_cmp key)) rows) ≡ without k (map entry_of rows))
+        → cond b (Some (row.0.0, row.0.1)) (place_of k (map entry_of rows)) ≡ Some key
+        → map entry_of (cond (is_at (row_cmp key) row.0) rows (row ∷ remove_entry (is_at (row_cmp key)) rows)) ≡ cond (not b)
+        (entry_of row ∷ without k (map entry_of rows)) (without k (map entry_of rows))
     by true same rest at =
         let e : k ≡ row.1 = eqb-true k row.1 same in let p : key ≡ (row.0.0, row.0.1) = cc in
         let hit : is_at (row_cmp key) row.0 ≡ true = subst (λ (z : ℕ × ℕ). is_at (row_cmp z) row.0 ≡ true) (sym p) (same_row row.0.0 row.0.1) in
@@ -97,39 +107,53 @@ below_place n k key (f ∷ fs) armed is = by (k == f.item) (below_place n k key 
     by true rest same = let q : f.arming ≡ key.1 = cc in omega (arith, armed.0)
     by false rest same = rest same
 
-pub entries-move : (rows : List ((ℕ × ℕ) × ℕ)) (k : ℕ) (key : ℕ × ℕ) (due arming : ℕ) → IsOrdered (map entry_of rows) → AreArmedBefore arming (map entry_of rows)
+pub entries-move : (rows : List ((ℕ × ℕ) × ℕ)) (k : ℕ) (key : ℕ × ℕ) (due arming : ℕ) → IsOrdered (map entry_of rows)
+    → AreArmedBefore arming (map entry_of rows)
     → place_of k (map entry_of rows) ≡ Some key
-    → map entry_of (remove_entry (is_at (row_cmp key)) (insert_entry row_cmp rows (due, arming) k)) ≡ placed (record { due = due; arming = arming; item = k }) (without k (map entry_of rows))
+    → map entry_of (remove_entry (is_at (row_cmp key)) (insert_entry row_cmp rows (due, arming) k)) ≡ placed
+    (record { due = due; arming = arming; item = k }) (without k (map entry_of rows))
 entries-move [] k key due arming ordered armed is = absurd (cc)
 entries-move (row ∷ rows) k key due arming ordered armed is =
     let m : ℕ = row.0.1 in let low : m < arming = armed.0 in
     let high : nat_lt arming m ≡ false = grind (arith, nat_tests) in let apart : (arming == m) ≡ false = grind (arith, nat_tests) in
-    ap (λ (z : List ((ℕ × ℕ) × ℕ)). map entry_of (remove_entry (is_at (row_cmp key)) z)) (later_arming (nat_lt due row.0.0) (due == row.0.0) (nat_lt arming m) (arming == m) _ _ _ high apart)
+    ap (λ (z : List ((ℕ × ℕ) × ℕ)). map entry_of (remove_entry (is_at (row_cmp key)) z))
+    (later_arming (nat_lt due row.0.0) (due == row.0.0) (nat_lt arming m) (arming == m) _ _ _ high apart)
     ∙ by (nat_lt due row.0.0) refl (entries-move rows k key due arming ordered.2 armed.1)
   where
     by : (b : Bool) → nat_lt due row.0.0 ≡ b
-        → (place_of k (map entry_of rows) ≡ Some key → map entry_of (remove_entry (is_at (row_cmp key)) (insert_entry row_cmp rows (due, arming) k)) ≡ placed (record { due = due; arming = arming; item = k }) (without k (map entry_of rows)))
-        → map entry_of (remove_entry (is_at (row_cmp key)) (cond b (((due, arming), k) ∷ row ∷ rows) (row ∷ insert_entry row_cmp rows (due, arming) k))) ≡ placed (record { due = due; arming = arming; item = k }) (without k (map entry_of (row ∷ rows)))
+        → (place_of k (map entry_of rows) ≡ Some key
+        → map entry_of (remove_entry (is_at (row_cmp key)) (insert_entry row_cmp rows (due, arming) k)) ≡ placed
+        (record { due = due; arming = arming; item = k }) (without k (map entry_of rows)))
+        → map entry_of (remove_entry (is_at (row_cmp key)) (cond b (((due, arming), k) ∷ row ∷ rows)
+        (row ∷ insert_entry row_cmp rows (due, arming) k))) ≡ placed (record { due = due; arming = arming; item = k })
+        (without k (map entry_of (row ∷ rows)))
     by true is_low rest =
         let low : due < row.0.0 = grind (arith, nat_tests) in
         let below : key.1 < arming = below_place arming k key (map entry_of (row ∷ rows)) armed is in
         let miss : is_at (row_cmp key) (due, arming) ≡ false =
-        apart_by (nat_lt key.0 due) (key.0 == due) (nat_lt key.1 arming) (key.1 == arming) (not_both (key.0 == due) (key.1 == arming) (λ p q. let e = eqb-true key.1 arming q in omega arith)) in
-        let above : AllByRecursion (λ e. due < e.due) (map entry_of (row ∷ rows)) = (low, all-more (IsBefore (entry_of row)) (λ e. due < e.due) (λ g before. omega (arith, before.0)) (map entry_of rows) ordered.0) in
+        apart_by (nat_lt key.0 due) (key.0 == due) (nat_lt key.1 arming) (key.1 == arming)
+        (not_both (key.0 == due) (key.1 == arming) (λ p q. let e = eqb-true key.1 arming q in omega arith)) in
+        let above : AllByRecursion (λ e. due < e.due) (map entry_of (row ∷ rows)) =
+        (low, all-more (IsBefore (entry_of row)) (λ e. due < e.due) (λ g before. omega (arith, before.0)) (map entry_of rows) ordered.0) in
         rw miss (ap (λ (z : List Entry). record { due = due; arming = arming; item = k } ∷ z) (entries-remove (row ∷ rows) k key ordered is)
-        ∙ sym (placed_front (record { due = due; arming = arming; item = k }) (without k (map entry_of (row ∷ rows))) (all-without (λ e. due < e.due) k (map entry_of (row ∷ rows)) above)))
+        ∙ sym (placed_front (record { due = due; arming = arming; item = k }) (without k (map entry_of (row ∷ rows)))
+        (all-without (λ e. due < e.due) k (map entry_of (row ∷ rows)) above)))
     by false is_high rest = inner (k == row.1) refl is
       where
         inner : (c : Bool) → (k == row.1) ≡ c → cond c (Some (row.0.0, row.0.1)) (place_of k (map entry_of rows)) ≡ Some key
-            → map entry_of (cond (is_at (row_cmp key) row.0) (insert_entry row_cmp rows (due, arming) k) (row ∷ remove_entry (is_at (row_cmp key)) (insert_entry row_cmp rows (due, arming) k)))
-            ≡ placed (record { due = due; arming = arming; item = k }) (cond (not c) (entry_of row ∷ without k (map entry_of rows)) (without k (map entry_of rows)))
+            → map entry_of (cond (is_at (row_cmp key) row.0) (insert_entry row_cmp rows (due, arming) k)
+            (row ∷ remove_entry (is_at (row_cmp key)) (insert_entry row_cmp rows (due, arming) k)))
+            ≡ placed (record { due = due; arming = arming; item = k })
+            (cond (not c) (entry_of row ∷ without k (map entry_of rows)) (without k (map entry_of rows)))
         inner true same at =
             let e : k ≡ row.1 = eqb-true k row.1 same in let p : key ≡ (row.0.0, row.0.1) = cc in
             let hit : is_at (row_cmp key) row.0 ≡ true = subst (λ (z : ℕ × ℕ). is_at (row_cmp z) row.0 ≡ true) (sym p) (same_row row.0.0 row.0.1) in
             rw hit (entries-insert rows due arming k armed.1
-            ∙ ap (placed (record { due = due; arming = arming; item = k })) (sym (without_off k (map entry_of rows) (subst (λ (z : ℕ). on_table z (map entry_of rows) ≡ false) (sym e) ordered.1))))
+            ∙ ap (placed (record { due = due; arming = arming; item = k }))
+            (sym (without_off k (map entry_of rows) (subst (λ (z : ℕ). on_table z (map entry_of rows) ≡ false) (sym e) ordered.1))))
         inner false other at =
-            let miss : is_at (row_cmp key) row.0 ≡ false = apart_row key (entry_of row) k (before_place k key (entry_of row) (map entry_of rows) ordered.0 at) in
+            let miss : is_at (row_cmp key) row.0 ≡ false = apart_row key (entry_of row) k
+            (before_place k key (entry_of row) (map entry_of rows) ordered.0 at) in
             rw (miss, is_high) (ap (λ (z : List Entry). entry_of row ∷ z) (rest at))
 
 -- the places, once the item k has another
@@ -140,11 +164,13 @@ set_at xs k j v d low = by (j == k) refl
     by true is = rw (eqb-true j k is) (get_or-set_same xs k v d low)
     by false is = get_or-set_other xs k j v d (grind (arith, nat_tests))
 
-pub rows_placed : (places : List (Option (ℕ × ℕ))) (es fs : List Entry) (k due arming : ℕ) → AreRows places es → k < length places → on_table k es ≡ false → AreArmedBefore arming es
+pub rows_placed : (places : List (Option (ℕ × ℕ))) (es fs : List Entry) (k due arming : ℕ) → AreRows places es → k < length places
+    → on_table k es ≡ false → AreArmedBefore arming es
     → fs ≡ placed (record { due = due; arming = arming; item = k }) es → AreRows (set places k (Some (due, arming))) fs
 rows_placed places es fs k due arming rows low off armed is = subst (AreRows (set places k (Some (due, arming)))) (sym is) (record {
   ordered = ordered-placed (record { due = due; arming = arming; item = k }) es rows.ordered armed off;
-  known = λ j. set_at places k j (Some (due, arming)) None low ∙ (ap (cond (j == k) (Some (due, arming))) (rows.known j) ∙ sym (place_of-placed j (record { due = due; arming = arming; item = k }) es off));
+  known = λ j. set_at places k j (Some (due, arming)) None low
+      ∙ (ap (cond (j == k) (Some (due, arming))) (rows.known j) ∙ sym (place_of-placed j (record { due = due; arming = arming; item = k }) es off));
 })
 
 pub rows_without : (places : List (Option (ℕ × ℕ))) (es fs : List Entry) (k : ℕ) → AreRows places es → k < length places
@@ -164,7 +190,8 @@ rows_moved places es fs k due arming rows low armed is =
     let same : (k == k) ≡ true = grind (arith, nat_tests) in
     let off : on_table k (without k es) ≡ false = on_table-without k k es ∙ ap (λ (z : Bool). not z && on_table k es) same in
     subst (AreRows (set places k (Some (due, arming)))) (sym is) (record {
-      ordered = ordered-placed (record { due = due; arming = arming; item = k }) (without k es) (ordered-without k es rows.ordered) (all-without (λ f. f.arming < arming) k es armed) off;
+      ordered = ordered-placed (record { due = due; arming = arming; item = k }) (without k es) (ordered-without k es rows.ordered)
+          (all-without (λ f. f.arming < arming) k es armed) off;
       known = λ j. set_at places k j (Some (due, arming)) None low ∙ (moved_at (j == k) (Some (due, arming)) _ _ _ (rows.known j) (place_of-without j k es)
           ∙ sym (place_of-placed j (record { due = due; arming = arming; item = k }) (without k es) off));
     })
@@ -183,20 +210,11 @@ in_places places es k rows on = by (nat_lt k (length places)) refl
         let none : get_or places k None ≡ None = get_or_past places k None high in
         let some = known_on places es k rows in absurd (cc (ap is_some none))
 
--- the first entry of the table
-same_on : (k : ℕ) (b : Bool) → ((k == k) || b) ≡ true
-same_on k b = let is : (k == k) ≡ true = grind (arith, nat_tests) in rw is refl
-
-pub first_on : (es fs : List Entry) (e : Entry) → es ≡ e ∷ fs → on_table e.item es ≡ true
-first_on es fs e is = ap (on_table e.item) is ∙ same_on e.item (on_table e.item fs)
-
-pub without_first : (e : Entry) (fs : List Entry) → on_table e.item fs ≡ false → fs ≡ without e.item (e ∷ fs)
-without_first e fs off = let is : (e.item == e.item) ≡ true = grind (arith, nat_tests) in rw is (sym (without_off e.item fs off))
-
 pub rows_popped : (places : List (Option (ℕ × ℕ))) (es fs : List Entry) (e : Entry) → AreRows places es → es ≡ e ∷ fs → AreRows (set places e.item None) fs
 rows_popped places es fs e rows is =
     let ordered : IsOrdered (e ∷ fs) = subst IsOrdered is rows.ordered in
-    rows_without places es fs e.item rows (in_places places es e.item rows (first_on es fs e is)) (without_first e fs ordered.1 ∙ ap (without e.item) (sym is))
+    rows_without places es fs e.item rows (in_places places es e.item rows (first_on es fs e is)) (without_first e fs ordered.1
+    ∙ ap (without e.item) (sym is))
 
 -- no item stands twice, so there are no more than places
 apart_items : (k : ℕ) (es : List Entry) → on_table k es ≡ false → AllByRecursion (λ y. (k == y) ≡ false) (items es)
@@ -222,11 +240,13 @@ length_rows (row ∷ rows) = omega (arith, length_rows rows)
 
 pub length-le-places : (places : List (Option (ℕ × ℕ))) (es : List Entry) → AreRows places es → length es ≤ length places
 length-le-places places es rows =
-    let low = length-le_from_distinct_below (items es) (length places) (distinct_items es rows.ordered) (λ k on. in_places places es k rows (sym (any_item k es) ∙ on)) in
+    let low = length-le_from_distinct_below (items es) (length places) (distinct_items es rows.ordered)
+    (λ k on. in_places places es k rows (sym (any_item k es) ∙ on)) in
     omega (arith, low, length_items es)
 
 -- the first row
-pub first_late : (rows : List ((ℕ × ℕ) × ℕ)) (row : (ℕ × ℕ) × ℕ) (t : ℕ) → slice_get rows 0 ≡ Some row → IsOrdered (map entry_of rows) → t < row.0.0 → due_part t (map entry_of rows) ≡ []
+pub first_late : (rows : List ((ℕ × ℕ) × ℕ)) (row : (ℕ × ℕ) × ℕ) (t : ℕ) → slice_get rows 0 ≡ Some row → IsOrdered (map entry_of rows)
+    → t < row.0.0 → due_part t (map entry_of rows) ≡ []
 first_late [] row t is ordered late = refl
 first_late (r ∷ rs) row t is ordered late =
     let same : r ≡ row = cc in let e : r.0.0 ≡ row.0.0 = ap (λ (z : (ℕ × ℕ) × ℕ). z.0.0) same in

@@ -18,7 +18,7 @@ use Rattle.wq_words.specs.History.{Holds}
 use Rattle.wq_words.specs.Legal.{IsLegal}
 use Rattle.wq_words.specs.DelayTable.{Entry, on_table, placed, without}
 use Rattle.wq_delay.specs.Delay.{DelayState, IsFit}
-use Rattle.wq_delay.proofs.Table.{all-placed, all-without, all-more, on_table-placed, on_table-without, ordered-placed, ordered-without}
+use Rattle.wq_words.proofs.DelayTable.{all-placed, all-without, all-more, on_table-placed, on_table-without, ordered-placed, ordered-without}
 use Rattle.wq_delay.proofs.Held.{starts, stops, HoldsAll, holds_same, holds_more, holds_less, free_before}
 
 -- what a result that was tested says
@@ -31,7 +31,7 @@ on_err (Ok x) P is on = absurd (cc)
 on_err (Err e) P is on = on
 
 abbrev pub state : Known → ℕ → ℕ → List Entry → DelayState
-state p now next t = record { sender = p; tick = now; next = next; table = t }
+state p now next t = record { sender = p; table = record { entries = t; tick = now; next = next } }
 
 -- a table of so many places over the layout's items
 abbrev pub IsSound : ℕ → DelayState → Type 0
@@ -40,10 +40,19 @@ IsSound size d = (size ≡ d.sender.layout.items) × IsFit d
 items_same : (xs : List Event) (n size : ℕ) (a b : Known) → Sees xs n a b → size ≡ a.layout.items → size ≡ b.layout.items
 items_same xs n size a b sees is = is ∙ ap (λ (z : Layout). z.items) (sym sees.same.layout_is)
 
-pub sound_keeps : (xs : List Event) (n size : ℕ) (a b : Known) (now next later : ℕ) (t : List Entry) → Sees xs n a b → ((k : ℕ) → starts a.number k xs ≡ stops a.number k xs)
+pub sound_keeps : (xs : List Event) (n size : ℕ) (a b : Known) (now next later : ℕ) (t : List Entry) → Sees xs n a b
+    → ((k : ℕ) → starts a.number k xs ≡ stops a.number k xs)
     → IsSound size (state a now next t) → IsSound size (state b later next t)
-sound_keeps xs n size a b now next later t sees even sound =
-    (items_same xs n size a b sees sound.0, record { ordered = sound.1.ordered; armed = sound.1.armed; held = holds_same xs n a b t sees even sound.1.held; legal = sees.legal })
+sound_keeps xs n size a b now next later t sees even sound = (
+  items_same xs n size a b sees sound.0,
+  record {
+    ordered = sound.1.ordered;
+    armed = sound.1.armed;
+    held =
+        holds_same xs n a b t sees even sound.1.held;
+    legal = sees.legal;
+  },
+)
 
 -- events that leave what is held as it was
 pub even_pushed : (s i k : ℕ) → starts s k (Hold s i ∷ Push s i ∷ []) ≡ stops s k (Hold s i ∷ Push s i ∷ [])
@@ -52,11 +61,14 @@ even_pushed s i k = omega arith
 pub even_back : (s i k : ℕ) (w : Why) → starts s k (Hold s i ∷ Back s i w ∷ []) ≡ stops s k (Hold s i ∷ Back s i w ∷ [])
 even_back s i k w = omega arith
 
-pub sound_queued : (size k tries : ℕ) (r : Answer) (a b : Known) (now next : ℕ) (t : List Entry) → Answers k tries r a b → IsSound size (state a now next t) → IsSound size (state b now next t)
+pub sound_queued : (size k tries : ℕ) (r : Answer) (a b : Known) (now next : ℕ) (t : List Entry) → Answers k tries r a b
+    → IsSound size (state a now next t) → IsSound size (state b now next t)
 sound_queued size k tries (answer.Queued is_first) a b now next t told sound = sound_keeps _ _ size a b now next now t told.0 (even_pushed a.number k) sound
 sound_queued size k tries answer.Pending a b now next t told sound = sound_keeps _ _ size a b now next now t told (λ j. refl) sound
-sound_queued size k tries answer.Closed a b now next t told sound = sound_keeps _ _ size a b now next now t told (λ j. even_back a.number k j why.Closed) sound
-sound_queued size k tries answer.Contended a b now next t told sound = sound_keeps _ _ size a b now next now t told (λ j. even_back a.number k j why.Contended) sound
+sound_queued size k tries answer.Closed a b now next t told sound =
+    sound_keeps _ _ size a b now next now t told (λ j. even_back a.number k j why.Closed) sound
+sound_queued size k tries answer.Contended a b now next t told sound =
+    sound_keeps _ _ size a b now next now t told (λ j. even_back a.number k j why.Contended) sound
 
 -- an item that is held now was not on the table
 pub off_before : (n : ℕ) (a b : Known) (k : ℕ) (t : List Entry) → Sees (Hold a.number k ∷ []) n a b → HoldsAll a t → on_table k t ≡ false
@@ -66,7 +78,8 @@ off_before n a b k t sees held = by (on_table k t) refl
     by true is = absurd (free_before n a b k sees ((held k).0 is))
     by false is = is
 
-pub sound_puts : (size n k : ℕ) (a b : Known) (now next due : ℕ) (t u : List Entry) → Sees (Hold a.number k ∷ []) n a b → u ≡ placed (record { due = due; arming = next; item = k }) t
+pub sound_puts : (size n k : ℕ) (a b : Known) (now next due : ℕ) (t u : List Entry) → Sees (Hold a.number k ∷ []) n a b
+    → u ≡ placed (record { due = due; arming = next; item = k }) t
     → IsSound size (state a now next t) → IsSound size (state b now (next + 1) u)
 sound_puts size n k a b now next due t u sees is sound =
     let e : Entry = record { due = due; arming = next; item = k } in
@@ -74,8 +87,10 @@ sound_puts size n k a b now next due t u sees is sound =
       items_same _ n size a b sees sound.0,
       subst (λ (z : List Entry). IsFit (state b now (next + 1) z)) (sym is) (record {
         ordered = ordered-placed (record { due = due; arming = next; item = k }) t sound.1.ordered sound.1.armed off;
-        armed = all-placed (λ f. f.arming < next + 1) (record { due = due; arming = next; item = k }) t (omega arith) (all-more (λ f. f.arming < next) (λ f. f.arming < next + 1) (λ f low. omega arith) t sound.1.armed);
-        held = holds_more n a b k t (placed (record { due = due; arming = next; item = k }) t) sees (λ j. on_table-placed j (record { due = due; arming = next; item = k }) t) sound.1.held;
+        armed = all-placed (λ f. f.arming < next + 1) (record { due = due; arming = next; item = k }) t (omega arith)
+            (all-more (λ f. f.arming < next) (λ f. f.arming < next + 1) (λ f low. omega arith) t sound.1.armed);
+        held = holds_more n a b k t (placed (record { due = due; arming = next; item = k }) t) sees
+            (λ j. on_table-placed j (record { due = due; arming = next; item = k }) t) sound.1.held;
         legal = sees.legal;
       }),
     )
@@ -101,7 +116,8 @@ pub stops_back : (s k j : ℕ) (w : Why) → stops s j (Back s k w ∷ []) ≡ c
 stops_back s k j w = grind (arith, nat_tests)
 
 -- nothing is on the table, and nothing is held
-pub sound_empty : (size now : ℕ) (a : Known) (t : List Entry) → t ≡ [] → size ≡ a.layout.items → IsLegal a.layout a.seen → ((k : ℕ) → ¬ Holds a.seen a.number k) → IsSound size (state a now 0 t)
+pub sound_empty : (size now : ℕ) (a : Known) (t : List Entry) → t ≡ [] → size ≡ a.layout.items → IsLegal a.layout a.seen
+    → ((k : ℕ) → ¬ Holds a.seen a.number k) → IsSound size (state a now 0 t)
 sound_empty size now a t none is legal free = (
   is,
   subst (λ (z : List Entry). IsFit (state a now 0 z)) (sym none) (record {
@@ -113,7 +129,8 @@ sound_empty size now a t none is legal free = (
 )
 
 -- an item on the table was posted
-pub sound_posted : (size k tries : ℕ) (r : Posted) (a b : Known) (now next : ℕ) (t u : List Entry) → (r ≡ posted.Contended → ⊥) → Posts k tries r a b → u ≡ without k t
+pub sound_posted : (size k tries : ℕ) (r : Posted) (a b : Known) (now next : ℕ) (t u : List Entry) → (r ≡ posted.Contended → ⊥)
+    → Posts k tries r a b → u ≡ without k t
     → IsSound size (state a now next t) → IsSound size (state b now next u)
 sound_posted size k tries (posted.Queued is_first) a b now next t u won told is sound =
     sound_leaves (Push a.number k) size 0 k a b now next t u told.0 (λ j. refl) (λ j. stops_push a.number k j) is sound
@@ -133,11 +150,13 @@ on_moved j k true true b same is on = rw same refl
 on_moved j k true false b same is on = absurd (let e : j ≡ k = eqb-true j k same in let f = on e in cc)
 on_moved j k false q b same is on = rw same is
 
-pub sound_moves : (size k now next due : ℕ) (a : Known) (t u : List Entry) → on_table k t ≡ true → u ≡ placed (record { due = due; arming = next; item = k }) (without k t)
+pub sound_moves : (size k now next due : ℕ) (a : Known) (t u : List Entry) → on_table k t ≡ true
+    → u ≡ placed (record { due = due; arming = next; item = k }) (without k t)
     → IsSound size (state a now next t) → IsSound size (state a now (next + 1) u)
 sound_moves size k now next due a t u on is sound =
     let e : Entry = record { due = due; arming = next; item = k } in
-    let off : on_table k (without k t) ≡ false = let same : (k == k) ≡ true = grind (arith, nat_tests) in on_table-without k k t ∙ ap (λ (z : Bool). not z && on_table k t) same in
+    let off : on_table k (without k t) ≡ false = let same : (k == k) ≡ true = grind (arith, nat_tests) in on_table-without k k t
+    ∙ ap (λ (z : Bool). not z && on_table k t) same in
     let armed = all-without (λ f. f.arming < next) k t sound.1.armed in
     let same_on : (j : ℕ) → on_table j (placed (record { due = due; arming = next; item = k }) (without k t)) ≡ on_table j t =
     λ j. on_table-placed j (record { due = due; arming = next; item = k }) (without k t) ∙ (ap (λ (z : Bool). (j == k) || z) (on_table-without j k t)
@@ -145,7 +164,8 @@ sound_moves size k now next due a t u on is sound =
       sound.0,
       subst (λ (z : List Entry). IsFit (state a now (next + 1) z)) (sym is) (record {
         ordered = ordered-placed (record { due = due; arming = next; item = k }) (without k t) (ordered-without k t sound.1.ordered) armed off;
-        armed = all-placed (λ f. f.arming < next + 1) (record { due = due; arming = next; item = k }) (without k t) (omega arith) (all-more (λ f. f.arming < next) (λ f. f.arming < next + 1) (λ f low. omega arith) (without k t) armed);
+        armed = all-placed (λ f. f.arming < next + 1) (record { due = due; arming = next; item = k }) (without k t) (omega arith)
+            (all-more (λ f. f.arming < next) (λ f. f.arming < next + 1) (λ f low. omega arith) (without k t) armed);
         held = λ j. (λ here. (sound.1.held j).0 (sym (same_on j) ∙ here), λ holds. same_on j ∙ (sound.1.held j).1 holds);
         legal = sound.1.legal;
       }),

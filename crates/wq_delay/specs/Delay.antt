@@ -1,5 +1,5 @@
 -- What a clause sees of a delay table, and what its calls do to it.
-use Rattle.std.specs.Prelude.{◌≡◌, ℕ, ◌+◌, ◌-◌, ◌^◌, ◌<◌, ◌≤◌, ◌↔◌, ◌⊎◌, Bool, true, false, MatchBool, IsTrue, Result, Ok, Err, List, [], ◌∷◌, ◌++◌, map, length, count_by}
+use Rattle.std.specs.Prelude.{◌≡◌, ℕ, ◌<◌, ◌≤◌, ◌↔◌, ◌⊎◌, Bool, true, false, MatchBool, IsTrue, Result, Ok, Err, List, [], ◌∷◌, ◌++◌, map, length, count_by}
 use Rattle.std.specs.List.{AllZip}
 use Rattle.std.specs.List.Sorted.{IsPermutation}
 use Rattle.wq_words.specs.declared.event.Event.{Event}
@@ -17,79 +17,66 @@ use Rattle.wq_words.specs.declared.answer.Modified.{Modified}
 use Rattle.wq_words.specs.declared.answer.Modified.TheVariants as modified
 use Rattle.wq_delay.specs.declared.answer.Advance.{Advance}
 use Rattle.wq_delay.specs.declared.answer.Backwards.{Backwards}
-use Rattle.wq_words.specs.DelayTable.{Entry, on_table, due_part, later_part, placed, without, IsOrdered, AreArmedBefore}
+use Rattle.wq_words.specs.DelayTable.{Entry, DelayTable, on_table, due_part, IsOrdered, AreArmedBefore, table_with, table_without, table_at}
 
--- its sender, the present tick, the number of the next arming, and what stands on the table, in the order of going out
+-- a sender, and what it holds until its tick
 pub record DelayState : Type 0 where
   pub sender : Known
-  pub tick : ℕ
-  pub next : ℕ
-  pub table : List Entry
+  pub table : DelayTable
 
 -- what holds of every delay table: the items on it are exactly the numbers that its sender holds
 pub record IsFit (d : DelayState) : Type 0 where
-  pub ordered : IsOrdered d.table
-  pub armed : AreArmedBefore d.next d.table
-  pub held : (k : ℕ) → IsTrue (on_table k d.table) ↔ Holds d.sender.seen d.sender.number k
+  pub ordered : IsOrdered d.table.entries
+  pub armed : AreArmedBefore d.table.next d.table.entries
+  pub held : (k : ℕ) → IsTrue (on_table k d.table.entries) ↔ Holds d.sender.seen d.sender.number k
   pub legal : IsLegal d.sender.layout d.sender.seen
 
--- The sender sees more, in which its own events are xs and at least n are of other seats. The present tick stays, and the
--- next arming and the table are these.
-pub record Becomes (xs : List Event) (n next : ℕ) (table : List Entry) (old new : DelayState) : Type 0 where
+-- The sender sees more, in which its own events are xs and at least n are of other seats. The table is this one now.
+pub record Becomes (xs : List Event) (n : ℕ) (table : DelayTable) (old new : DelayState) : Type 0 where
   pub seen : Sees xs n old.sender new.sender
-  pub tick_is : new.tick ≡ old.tick
-  pub next_is : new.next ≡ next
   pub table_is : new.table ≡ table
 
 -- nothing changes but what the sender sees
-abbrev pub Keeps : List Event → ℕ → DelayState → DelayState → Type 0
-Keeps xs n old new = Becomes xs n old.next old.table old new
+abbrev pub KeepsTable : List Event → ℕ → DelayState → DelayState → Type 0
+KeepsTable xs n old new = Becomes xs n old.table old new
 
--- the item k goes on the table es, due so many ticks from now
-abbrev pub Puts : List Event → ℕ → ℕ → List Entry → DelayState → DelayState → Type 0
-Puts xs k delay es old new =
-    Becomes xs 0 (old.next + 1) (placed (record { due = old.tick + delay; arming = old.next; item = k }) es) old new
+-- the item k goes on the table t, due so many ticks from now
+abbrev pub PutsOn : List Event → ℕ → ℕ → DelayTable → DelayState → DelayState → Type 0
+PutsOn xs k delay t old new = Becomes xs 0 (table_with k delay t) old new
 
 -- the item k leaves the table
-abbrev pub Leaves : List Event → ℕ → DelayState → DelayState → Type 0
-Leaves xs k old new = Becomes xs 0 old.next (without k old.table) old new
-
--- the delay is above its limit, or its tick after now or the next arming is above the largest number of 64 bits
-abbrev pub IsBeyond : ℕ → ℕ → ℕ → Type 0
-IsBeyond delay now next = (2 ^ 32 - 1 < delay) ⊎ ((2 ^ 64 - 1 < now + delay) ⊎ (2 ^ 64 - 1 < next))
-
-abbrev pub IsTooFar : ℕ → DelayState → Type 0
-IsTooFar delay d = IsBeyond delay d.tick d.next
+abbrev pub TakesOff : List Event → ℕ → DelayState → DelayState → Type 0
+TakesOff xs k old new = Becomes xs 0 (table_without k old.table) old new
 
 -- an arming of the item k
 abbrev pub Arms : ℕ → ℕ → ℕ → Armed → DelayState → DelayState → Type 0
 Arms k delay tries (armed.Queued is_first) old new =
-    (delay ≡ 0) × Keeps (Hold old.sender.number k ∷ Push old.sender.number k ∷ []) 0 old new × IsPushed old.sender.number k is_first new.sender.seen
-Arms k delay tries armed.OnTable old new = (0 < delay) × Puts (Hold old.sender.number k ∷ []) k delay old.table old new
-Arms k delay tries armed.Pending old new = Keeps (Busy old.sender.number k ∷ []) 0 old new
+    (delay ≡ 0) × KeepsTable (Hold old.sender.number k ∷ Push old.sender.number k ∷ []) 0 old new × IsPushed old.sender.number k is_first new.sender.seen
+Arms k delay tries armed.OnTable old new = (0 < delay) × PutsOn (Hold old.sender.number k ∷ []) k delay old.table old new
+Arms k delay tries armed.Pending old new = KeepsTable (Busy old.sender.number k ∷ []) 0 old new
 Arms k delay tries armed.Closed old new =
-    (delay ≡ 0) × Keeps (Hold old.sender.number k ∷ Back old.sender.number k why.Closed ∷ []) 0 old new
+    (delay ≡ 0) × KeepsTable (Hold old.sender.number k ∷ Back old.sender.number k why.Closed ∷ []) 0 old new
 Arms k delay tries armed.Contended old new =
-    (delay ≡ 0) × Keeps (Hold old.sender.number k ∷ Back old.sender.number k why.Contended ∷ []) tries old new
+    (delay ≡ 0) × KeepsTable (Hold old.sender.number k ∷ Back old.sender.number k why.Contended ∷ []) tries old new
 Arms k delay tries armed.TooFar old new = new ≡ old
 Arms k delay tries armed.Memory old new =
-    (0 < delay) × Keeps (Hold old.sender.number k ∷ Back old.sender.number k why.Cancelled ∷ []) 0 old new
+    (0 < delay) × KeepsTable (Hold old.sender.number k ∷ Back old.sender.number k why.Cancelled ∷ []) 0 old new
 
 -- a cancelling of the item k
 abbrev pub Cancels : ℕ → Bool → DelayState → DelayState → Type 0
-Cancels k true old new = (on_table k old.table ≡ true) × Leaves (Back old.sender.number k why.Cancelled ∷ []) k old new
-Cancels k false old new = (on_table k old.table ≡ false) × (new ≡ old)
+Cancels k true old new = (on_table k old.table.entries ≡ true) × TakesOff (Back old.sender.number k why.Cancelled ∷ []) k old new
+Cancels k false old new = (on_table k old.table.entries ≡ false) × (new ≡ old)
 
 -- a modification of the item k, which is on the table
-abbrev pub Moves : ℕ → ℕ → ℕ → Modified → DelayState → DelayState → Type 0
-Moves k delay tries modified.WasIdle old new = ⊥
-Moves k delay tries modified.Moved old new =
-    ((delay ≡ 0) × Leaves (Push old.sender.number k ∷ []) k old new) ⊎ ((0 < delay) × Puts [] k delay (without k old.table) old new)
-Moves k delay tries modified.Pending old new = ⊥
-Moves k delay tries modified.Closed old new = (delay ≡ 0) × Leaves (Back old.sender.number k why.Closed ∷ []) k old new
-Moves k delay tries modified.Contended old new = (delay ≡ 0) × Keeps [] tries old new
-Moves k delay tries modified.TooFar old new = new ≡ old
-Moves k delay tries modified.Memory old new = (0 < delay) × (new ≡ old)
+abbrev pub Rearms : ℕ → ℕ → ℕ → Modified → DelayState → DelayState → Type 0
+Rearms k delay tries modified.WasIdle old new = ⊥
+Rearms k delay tries modified.Moved old new =
+    ((delay ≡ 0) × TakesOff (Push old.sender.number k ∷ []) k old new) ⊎ ((0 < delay) × PutsOn [] k delay (table_without k old.table) old new)
+Rearms k delay tries modified.Pending old new = ⊥
+Rearms k delay tries modified.Closed old new = (delay ≡ 0) × TakesOff (Back old.sender.number k why.Closed ∷ []) k old new
+Rearms k delay tries modified.Contended old new = (delay ≡ 0) × KeepsTable [] tries old new
+Rearms k delay tries modified.TooFar old new = new ≡ old
+Rearms k delay tries modified.Memory old new = (0 < delay) × (new ≡ old)
 
 -- a modification of the item k, which is not on the table: it is armed
 abbrev pub ArmsAnew : ℕ → ℕ → ℕ → Modified → DelayState → DelayState → Type 0
@@ -103,7 +90,7 @@ ArmsAnew k delay tries modified.TooFar old new = Arms k delay tries armed.TooFar
 ArmsAnew k delay tries modified.Memory old new = Arms k delay tries armed.Memory old new
 
 abbrev pub Modifies : ℕ → ℕ → ℕ → Modified → DelayState → DelayState → Type 0
-Modifies k delay tries answer old new = MatchBool (on_table k old.table) (Moves k delay tries answer old new) (ArmsAnew k delay tries answer old new)
+Modifies k delay tries answer old new = MatchBool (on_table k old.table.entries) (Rearms k delay tries answer old new) (ArmsAnew k delay tries answer old new)
 
 -- sender s let the entry e go: it was pushed, or given back because the queue is closed
 abbrev pub IsOut : ℕ → Entry → Event → Type 0
@@ -120,9 +107,9 @@ lost_tries (e ∷ es) tries = tries
 
 -- The item k, which is on the table, is posted: it leaves the table, unless the post is contended.
 abbrev pub PostsOne : ℕ → ℕ → Posted → DelayState → DelayState → Type 0
-PostsOne k tries (posted.Queued is_first) old new = Leaves (Push old.sender.number k ∷ []) k old new
-PostsOne k tries posted.Closed old new = Leaves (Back old.sender.number k why.Closed ∷ []) k old new
-PostsOne k tries posted.Contended old new = Keeps [] tries old new
+PostsOne k tries (posted.Queued is_first) old new = TakesOff (Push old.sender.number k ∷ []) k old new
+PostsOne k tries posted.Closed old new = TakesOff (Back old.sender.number k why.Closed ∷ []) k old new
+PostsOne k tries posted.Contended old new = KeepsTable [] tries old new
 
 -- The due part at the tick t was posted in order from its beginning on. All of it was, unless a post was contended: then at
 -- least so many events as there were tries are of other seats. What was not posted stays, before all that is due later.
@@ -130,22 +117,21 @@ pub record PostsDue (t tries : ℕ) (old new : DelayState) (pushed refused : ℕ
   pub gone : List Entry
   pub left : List Entry
   pub events : List Event
-  pub due_is : due_part t old.table ≡ gone ++ left
-  pub table_is : new.table ≡ left ++ later_part t old.table
+  pub due_is : due_part t old.table.entries ≡ gone ++ left
+  pub table_is : new.table ≡ table_at t left old.table
   pub out : AllZip (IsOut old.sender.number) gone events
   pub seen : Sees events (lost_tries left tries) old.sender new.sender
-  pub next_is : new.next ≡ old.next
   pub pushed_is : pushed ≡ count_by is_push events
   pub refused_is : refused ≡ count_by is_back events
 
 -- the table is led on to the tick t, or that is before the present one
 abbrev pub Advances : ℕ → ℕ → Result Advance Backwards → DelayState → DelayState → Type 0
 Advances t tries (Ok a) old new =
-    (old.tick ≤ t) × (new.tick ≡ t) × PostsDue t tries old new a.pushed a.refused × (a.waiting ≡ length new.table)
-Advances t tries (Err e) old new = (t < old.tick) × (new ≡ old)
+    (old.table.tick ≤ t) × PostsDue t tries old new a.pushed a.refused × (a.waiting ≡ length new.table.entries)
+Advances t tries (Err e) old new = (t < old.table.tick) × (new ≡ old)
 
 -- all on the table is given back, in some order
 pub record GivesBack (d : DelayState) (q : Known) : Type 0 where
   pub order : List Entry
-  pub same : IsPermutation d.table order
+  pub same : IsPermutation d.table.entries order
   pub seen : Sees (map (λ e. Back d.sender.number e.item why.Cancelled) order) 0 d.sender q

@@ -1,6 +1,6 @@
 //! What the calls of a delay table answer.
 ghost use Rattle.std.specs.Prelude.{◌≡◌};
-ghost use Rattle.wq_delay.specs.Armed.{armed_of, modified_of, modified_of_posted};
+ghost use Rattle.wq_words.specs.Armed.{armed_of, modified_of, modified_of_posted};
 
 use std::fmt;
 use thiserror::Error;

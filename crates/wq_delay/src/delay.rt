@@ -1,11 +1,11 @@
 //! The delay table of a queue.
-ghost use Rattle.std.specs.Prelude.{◌≡◌, ℕ, ◌+◌, ◌^◌, ◌<◌, ◌↔◌, IfOk, IfErr, [], length, true, MatchOption};
+ghost use Rattle.std.specs.Prelude.{◌≡◌, ℕ, ◌+◌, ◌^◌, ◌<◌, ◌↔◌, IfOk, IfErr, IfSome, IsTrue, [], length, true, false, MatchOption};
 ghost use Rattle.wq_words.specs.declared.answer.Armed.TheVariants as armed;
 ghost use Rattle.wq_words.specs.declared.answer.Modified.TheVariants as modified;
 ghost use Rattle.wq_words.specs.History.{Holds};
 ghost use Rattle.wq_live.specs.Known.{Sees};
-ghost use Rattle.wq_words.specs.DelayTable.{items, on_table, due_part};
-ghost use Rattle.wq_delay.specs.Delay.{IsFit, IsBeyond, IsTooFar, Keeps, Arms, Cancels, Modifies, PostsOne, PostsDue, Advances, GivesBack};
+ghost use Rattle.wq_words.specs.DelayTable.{items, on_table, due_part, is_too_far};
+ghost use Rattle.wq_delay.specs.Delay.{IsFit, KeepsTable, Arms, Cancels, Modifies, PostsOne, PostsDue, Advances, GivesBack};
 
 use crate::answer::{Advance, Backwards, NoRoom, armed_of, modified_of, modified_of_posted};
 use crate::timetable::Timetable;
@@ -18,7 +18,8 @@ const LONGEST: u64 = 4_294_967_295;
 
 // The tick after a delay, where neither the delay, nor the tick, nor the number of the next arming is too large.
 fn tick_after(now: u64, next: u128, delay: u64) -> Option<u64>
-    ensures { MatchOption result (IsBeyond delay now next) (λ due. (¬ IsBeyond delay now next) × (due ≡ now + delay)) }
+    ensures far { MatchOption result (is_too_far delay (record { entries = []; tick = now; next = next }) ≡ true) (λ due. is_too_far delay (record { entries = []; tick = now; next = next }) ≡ false) }
+    ensures due { IfSome result (λ due. due ≡ now + delay) }
 {
     if delay > LONGEST || next > u64::MAX as u128 {
         return None;
@@ -42,9 +43,9 @@ impl Model for Delay {
 
     ghost Value = { DelayState };
 
-    ghost view = { λ d. record { sender = d.sender; tick = d.tick; next = d.next; table = d.table.entries } };
+    ghost view = { λ d. record { sender = d.sender; table = record { entries = d.table.entries; tick = d.tick; next = d.next } } };
 
-    ghost invariant = { λ d. (d.table.size ≡ d.sender.layout.items) × IsFit (record { sender = d.sender; tick = d.tick; next = d.next; table = d.table.entries }) };
+    ghost invariant = { λ d. (d.table.size ≡ d.sender.layout.items) × IsFit (record { sender = d.sender; table = record { entries = d.table.entries; tick = d.tick; next = d.next } }) };
 }
 
 impl Delay {
@@ -52,7 +53,7 @@ impl Delay {
     /// sender is given back.
     pub fn new(alloc: Global, sender: Sender, now: u64) -> Result<Delay, NoRoom>
         requires { (k : ℕ) → ¬ Holds sender.seen sender.number k }
-        ensures made { IfOk result (λ d. (d.sender ≡ sender) × (d.tick ≡ now) × (d.next ≡ 0) × (d.table ≡ [])) }
+        ensures made { IfOk result (λ d. (d.sender ≡ sender) × (d.table ≡ record { entries = []; tick = now; next = 0 })) }
         ensures fit { IfOk result IsFit }
         ensures refused { IfErr result (λ e. e.sender ≡ sender) }
     {
@@ -68,7 +69,14 @@ impl Delay {
         }
     }
 
-    /// The size of its queue. `fit` is what holds of every delay table: its items are those that its sender holds.
+    /// What holds of every delay table: its items stand in order, and are those that its sender holds.
+    pub fn fit(&self)
+        ensures { IsFit self.now }
+    {
+        let _ = &self.sender;
+    }
+
+    /// The size of its queue, and what `fit` says.
     pub fn layout(&self) -> Layout
         ensures layout { result ≡ self.now.sender.layout }
         ensures fit { IsFit self.now }
@@ -78,7 +86,7 @@ impl Delay {
 
     /// How many items are on the table.
     pub fn len(&self) -> usize
-        ensures { result ≡ length self.now.table }
+        ensures { result ≡ length self.now.table.entries }
     {
         self.table.len()
     }
@@ -89,7 +97,7 @@ impl Delay {
         requires item { item < self.old.sender.layout.items }
         requires tries { 0 < tries }
         ensures answer { Arms item delay tries result self.old self.new }
-        ensures far { (result ≡ armed.TooFar) ↔ IsTooFar delay self.old }
+        ensures far { (result ≡ armed.TooFar) ↔ IsTrue (is_too_far delay self.old.table) }
     {
         let Some(due) = tick_after(self.tick, self.next, delay) else {
             return Armed::TooFar;
@@ -126,7 +134,7 @@ impl Delay {
         requires item { item < self.old.sender.layout.items }
         requires tries { 0 < tries }
         ensures answer { Modifies item delay tries result self.old self.new }
-        ensures far { (result ≡ modified.TooFar) ↔ IsTooFar delay self.old }
+        ensures far { (result ≡ modified.TooFar) ↔ IsTrue (is_too_far delay self.old.table) }
     {
         let Some(due) = tick_after(self.tick, self.next, delay) else {
             return Modified::TooFar;
@@ -148,7 +156,7 @@ impl Delay {
     fn post_item(&mut self, item: u32, tries: u32) -> Posted
         requires item { item < self.old.sender.layout.items }
         requires tries { 0 < tries }
-        requires on { on_table item self.old.table ≡ true }
+        requires on { on_table item self.old.table.entries ≡ true }
         ensures { PostsOne item tries result self.old self.new }
     {
         match self.sender.post(item, tries) {
@@ -164,10 +172,10 @@ impl Delay {
     // many given back.
     fn post_due(&mut self, tries: u32) -> (u32, u32)
         requires tries { 0 < tries }
-        requires few { length self.old.table < 2 ^ 32 }
-        ensures tick { self.new.tick ≡ self.old.tick }
-        ensures sum { result.0 + result.1 + length self.new.table ≡ length self.old.table }
-        ensures posts { PostsDue self.old.tick tries self.old self.new result.0 result.1 }
+        requires few { length self.old.table.entries < 2 ^ 32 }
+        ensures tick { self.new.table.tick ≡ self.old.table.tick }
+        ensures sum { result.0 + result.1 + length self.new.table.entries ≡ length self.old.table.entries }
+        ensures posts { PostsDue self.old.table.tick tries self.old self.new result.0 result.1 }
     {
         let now = self.tick;
         let mut pushed = 0;
@@ -184,7 +192,7 @@ impl Delay {
 
     /// The items that are due at a tick, in the order in which they go out: by their ticks, and at one tick by their armings.
     pub fn due_list(&self, now: u64) -> Result<Vec<u32>, AllocError>
-        ensures { IfOk result (λ list. list.items ≡ items (due_part now self.now.table)) }
+        ensures { IfOk result (λ list. list.items ≡ items (due_part now self.now.table.entries)) }
     {
         self.table.list_due(self.alloc, now)
     }
@@ -192,7 +200,7 @@ impl Delay {
     /// Afterwards the table's sender and the other have each seen all that both had seen.
     pub fn meet(&mut self, other: &mut Sender)
         requires { self.old.sender.queue ≡ other.old.queue }
-        ensures this { Keeps [] 0 self.old self.new }
+        ensures this { KeepsTable [] 0 self.old self.new }
         ensures that { Sees [] 0 other.old other.new }
         ensures both { other.new.seen ≡ self.new.sender.seen }
         ensures layout { other.old.layout ≡ self.old.sender.layout }

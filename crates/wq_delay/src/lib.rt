@@ -8,6 +8,3 @@ mod timetable;
 pub use answer::{Advance, Backwards, NoRoom};
 pub use delay::Delay;
 pub use wq_words::{Armed, Modified};
-
-#[cfg(test)]
-mod tests;

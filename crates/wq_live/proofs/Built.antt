@@ -32,16 +32,19 @@ pub get_or-sender_chairs : (q : TableId) (l : Layout) (n i : ℕ) (d : Standing)
 get_or-sender_chairs q l zero i d less = absurd (omega arith)
 get_or-sender_chairs q l (suc m) i d less = go (i == m) refl (get_or-sender_chairs q l m i d)
   where
-    go : (b : Bool) → (i == m) ≡ b → (i < m → get_or (sender_chairs q l m) i d ≡ sender_chair q l i) → get_or (sender_chairs q l m ++ sender_chair q l m ∷ []) i d ≡ sender_chair q l i
+    go : (b : Bool) → (i == m) ≡ b → (i < m → get_or (sender_chairs q l m) i d ≡ sender_chair q l i)
+        → get_or (sender_chairs q l m ++ sender_chair q l m ∷ []) i d ≡ sender_chair q l i
     go true e before = let same = eqb-true i m e in
-        ap (λ (j : ℕ). get_or (sender_chairs q l m ++ sender_chair q l m ∷ []) j d) (same ∙ sym (length-sender_chairs q l m)) ∙ (get_or-append_seam (sender_chairs q l m) (sender_chair q l m) [] d ∙ ap (sender_chair q l) (sym same))
+        ap (λ (j : ℕ). get_or (sender_chairs q l m ++ sender_chair q l m ∷ []) j d) (same ∙ sym (length-sender_chairs q l m)) ∙
+        (get_or-append_seam (sender_chairs q l m) (sender_chair q l m) [] d ∙ ap (sender_chair q l) (sym same))
     go false e before = let other = eqb-false i m e in
         get_or-append (sender_chairs q l m) (sender_chair q l m ∷ []) d i (omega (arith, length-sender_chairs q l m, other)) ∙ before (omega (arith, other))
 
 pub new_senders-more : (q : TableId) (l : Layout) (n : ℕ) → new_senders q l n ++ new_sender q l n ∷ [] ≡ new_senders q l (n + 1)
 new_senders-more q l n = let e : n + 1 ≡ suc n = omega arith in sym (ap (new_senders q l) e)
 
-pub sends_new : (s : sender.Inside) (q : TableId) → s.chair ≡ sender_chair q s.layout s.number → s.counts ≡ record { queued = 0; pending = 0; closed = 0; contended = 0 } → Sends s
+pub sends_new : (s : sender.Inside) (q : TableId) → s.chair ≡ sender_chair q s.layout s.number
+    → s.counts ≡ record { queued = 0; pending = 0; closed = 0; contended = 0 } → Sends s
 sends_new s q is counts = let seen : s.chair.part.seen ≡ [] = ap (λ (x : Standing). x.part.seen) is in record {
   layout_is = ap (λ (x : Standing). x.part.layout) is;
   number_is = ap (λ (x : Standing). x.part.seat) is;
@@ -75,10 +78,12 @@ executes_new s is row runs shut counts = let seen : s.chair.part.seen ≡ [] = a
 }
 
 pub owner_view_new : (s : owner.Inside) → s.chair ≡ owner_chair s.chair.queue s.layout → owner_view s ≡ new_owner s.chair.queue s.layout
-owner_view_new s is = let seen : s.chair.part.seen ≡ [] = ap (λ (x : Standing). x.part.seen) is in λ i. record { queue = s.chair.queue; layout = s.layout; number = owner_seat; seen = seen i }
+owner_view_new s is = let seen : s.chair.part.seen ≡ [] = ap (λ (x : Standing). x.part.seen) is in
+    λ i. record { queue = s.chair.queue; layout = s.layout; number = owner_seat; seen = seen i }
 
 -- the seat that comes next
-pub chair_at : (q : TableId) (l : Layout) (n : ℕ) (items : List Standing) (i number : ℕ) (chair : Standing) → items ≡ sender_chairs q l n → number ≡ i → (i < length items) × (chair ≡ get_or items i chair) → chair ≡ sender_chair q l number
+pub chair_at : (q : TableId) (l : Layout) (n : ℕ) (items : List Standing) (i number : ℕ) (chair : Standing) → items ≡ sender_chairs q l n → number ≡ i
+    → (i < length items) × (chair ≡ get_or items i chair) → chair ≡ sender_chair q l number
 chair_at q l n items i number chair is same turn =
     let less : i < n = omega (arith, turn.0, ap (λ (xs : List Standing). length xs) is, length-sender_chairs q l n) in
     turn.1 ∙ (ap (λ (xs : List Standing). get_or xs i chair) is ∙ (get_or-sender_chairs q l n i chair less ∙ ap (sender_chair q l) (sym same)))

@@ -12,8 +12,8 @@ use Rattle.wq_words.specs.History.{accepted, accepted_by, begun, begun_by, ended
 use Rattle.wq_words.specs.Listed.{listed}
 use Rattle.wq_words.specs.Legal.{MayFollow, IsLegal, IsComplete}
 use Rattle.wq_words.proofs.Legal.{legal_front, legal_next}
-use Rattle.wq_words.proofs.Prefixes.{prefix_length}
 use Rattle.wq_words.proofs.Order.{in_order}
+use Rattle.wq_words.proofs.Prefixes.{prefix_length}
 use Rattle.wq_words.proofs.Listed.{listed-closed}
 use Rattle.wq_table.specs.declared.table.Part.{Part}
 use Rattle.wq_table.specs.declared.table.Stage.TheVariants.{Owns}
@@ -76,7 +76,14 @@ stays_out layout (e ∷ es) h out legal =
     let a = one_quiet accepted_by h e q.accepts in let b = one_quiet begun_by h e q.begins in let d = one_quiet ended_by h e q.ends in
     let n = ap (λ (x : List ℕ). length x) a in let m = ap (λ (x : List ℕ). length x) b in let k = ap (λ (x : List ℕ). length x) d in
     let shut = out.shut in let x = out.begun_all in let y = out.ended_all in
-    let out' : IsRunOut (h ++ e ∷ []) = record { shut = omega (arith, sum_by-append (λ x. cond (is_close x) 1 0) h (e ∷ [])); begun_all = omega arith; ended_all = omega arith } in
+    let out' : IsRunOut (h ++ e ∷ []) = record {
+      shut = omega (
+        arith,
+        sum_by-append (λ x. cond (is_close x) 1 0) h (e ∷ []),
+      );
+      begun_all = omega arith;
+      ended_all = omega arith;
+    } in
     let more = stays_out layout es (h ++ e ∷ []) out' (subst (IsLegal layout) (sym same) legal) in
     (ap accepted (sym same) ∙ (more.0 ∙ a), ap begun (sym same) ∙ (more.1 ∙ b), ap ended (sym same) ∙ (more.2 ∙ d))
 
@@ -84,18 +91,21 @@ pub final : (layout : Layout) (h : List Event) → IsComplete h → IsFinal layo
 final layout h complete later legal = stays_out layout later h (run_out layout h (legal_front layout h later legal) complete) legal
 
 -- closed, with nothing that waits or runs
-pub complete_rested : (layout : Layout) (h : List Event) (ks : List ℕ) → IsLegal layout h → IsClosed h → length (accepted h) ≡ length (begun h) + length ks + length (listed h) → ks ≡ [] → ¬ IsRunning h → IsComplete h
+pub complete_rested : (layout : Layout) (h : List Event) (ks : List ℕ) → IsLegal layout h → IsClosed h
+    → length (accepted h) ≡ length (begun h) + length ks + length (listed h) → ks ≡ [] → ¬ IsRunning h → IsComplete h
 complete_rested layout h ks legal shut sum none idle =
     let order = in_order layout h legal in let more = prefix_length (ended h) (begun h) order.ended_first in
     (shut, omega (arith, ap (λ (x : List ℕ). length x) none, ap (λ (x : List ℕ). length x) (listed-closed layout h legal shut), idle))
 
 -- what waits or runs keeps it from being complete
-pub complete_none : (layout : Layout) (h : List Event) (ks : List ℕ) → IsLegal layout h → length (accepted h) ≡ length (begun h) + length ks + length (listed h) → IsComplete h → (length ks ≡ 0) × (¬ IsRunning h)
+pub complete_none : (layout : Layout) (h : List Event) (ks : List ℕ) → IsLegal layout h
+    → length (accepted h) ≡ length (begun h) + length ks + length (listed h) → IsComplete h → (length ks ≡ 0) × (¬ IsRunning h)
 complete_none layout h ks legal sum complete =
     let out = run_out layout h legal complete in let x = out.begun_all in let y = out.ended_all in (omega arith, λ runs. omega arith)
 
 -- what the owner knows of the lengths
-pub stands_lengths : (p : Part) (ks : List ℕ) → Stands p → p.stage ≡ Owns None [] ks → length (accepted p.seen) ≡ length (begun p.seen) + length ks + length (listed p.seen)
+pub stands_lengths : (p : Part) (ks : List ℕ) → Stands p → p.stage ≡ Owns None [] ks
+    → length (accepted p.seen) ≡ length (begun p.seen) + length ks + length (listed p.seen)
 stands_lengths p ks stands is =
     let m = stands.machine in let keeps : HasStage m p.seat (Owns None [] ks) = subst (HasStage m p.seat) is stands.fits.keeps in
     let same = ap (λ (x : List ℕ). length x) keeps.3 in let sum = rested_lengths m stands.sound keeps.1 in

@@ -19,19 +19,22 @@ use Rattle.wq_live.specs.Answers.{HasFlushed}
 counts_it : (k : ℕ) (xs ys zs : List ℕ) → zs ≡ xs ++ k ∷ ys → 1 ≤ count_by (λ j. j == k) zs
 counts_it k xs ys zs is =
     let a = ap (count_by (λ j. j == k)) is in let b = sum_by-append (λ j. cond (j == k) 1 0) xs (k ∷ ys) in
-    let d = sum_by-cons (λ j. cond (j == k) 1 0) k ys in let e : ◌≡◌ {A = ℕ} (cond (k == k) 1 0) 1 = ap (λ (x : Bool). cond x 1 0) (eq-eqb k k refl) in omega arith
+    let d = sum_by-cons (λ j. cond (j == k) 1 0) k ys in
+    let e : ◌≡◌ {A = ℕ} (cond (k == k) 1 0) 1 = ap (λ (x : Bool). cond x 1 0) (eq-eqb k k refl) in omega arith
 
 -- where what is left has no k, the k stands in front of it
 in_front : (xs rest ys zs : List ℕ) (k : ℕ) → xs ++ rest ≡ ys ++ k ∷ zs → count_by (λ j. j == k) rest ≡ 0 → (after : List ℕ) × (xs ≡ ys ++ k ∷ after)
 in_front [] rest ys zs k is none = let some = counts_it k ys zs rest is in absurd (omega arith)
 in_front (x ∷ xs) rest [] zs k is none = let same : x ≡ k = cc in (xs, ap (λ (y : ℕ). y ∷ xs) same)
-in_front (x ∷ xs) rest (y ∷ ys) zs k is none = let same : x ≡ y = cc in let tails : xs ++ rest ≡ ys ++ k ∷ zs = cc in let more = in_front xs rest ys zs k tails none in (more.0, λ i. same i ∷ more.1 i)
+in_front (x ∷ xs) rest (y ∷ ys) zs k is none = let same : x ≡ y = cc in let tails : xs ++ rest ≡ ys ++ k ∷ zs = cc in
+    let more = in_front xs rest ys zs k tails none in (more.0, λ i. same i ∷ more.1 i)
 
 -- of two beginnings of one list the shorter begins the longer
 shorter : (xs ys us bs : List ℕ) → ys ++ bs ≡ xs ++ us → length xs ≤ length ys → IsPrefix xs ys
 shorter [] ys us bs is less = (ys, refl)
 shorter (x ∷ xs) [] us bs is less = absurd (omega arith)
-shorter (x ∷ xs) (y ∷ ys) us bs is less = let same : x ≡ y = cc in let tails : ys ++ bs ≡ xs ++ us = cc in let more = shorter xs ys us bs tails (omega arith) in (more.0, λ i. same i ∷ more.1 i)
+shorter (x ∷ xs) (y ∷ ys) us bs is less = let same : x ≡ y = cc in let tails : ys ++ bs ≡ xs ++ us = cc in
+    let more = shorter xs ys us bs tails (omega arith) in (more.0, λ i. same i ∷ more.1 i)
 
 accepted-append : (a b : List Event) → accepted (a ++ b) ≡ accepted a ++ accepted b
 accepted-append a b = filter_map-append accepted_by a b
@@ -41,7 +44,8 @@ bits x none = ap queue_bit (home_from_bit x none)
 
 pub flushed : (layout : Layout) (k : ℕ) (h : List Event) → IsLegal layout h → pending h k ≡ false → HasFlushed k h
 flushed layout k h legal clear s before after is =
-    let counts = kept layout h legal 0 k in let order = in_order layout h legal in let begun_first = order.begun_first in let ended_first = order.ended_first in
+    let counts = kept layout h legal 0 k in let order = in_order layout h legal in let begun_first = order.begun_first in
+    let ended_first = order.ended_first in
     let less : count_by (sets_pending k) h ≤ count_by (clears_pending k) h = grind (arith, nat_tests, clear) in
     let home = bits (keeper h k) (omega (arith, counts.1)) in
     let sums = sum_by-append (λ (j : ℕ). cond (j == k) 1 0) (begun h) begun_first.0 in

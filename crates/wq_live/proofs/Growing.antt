@@ -41,7 +41,8 @@ not_own c true e es is = cc
 not_own c false e es is = refl
 
 -- where the head is another and no own event came, another's came
-some_new : (c : ℕ) (v w new : List Event) (n : ℕ) → head_word (head_of v) ≡ n → head_word (head_of w) ≢ n → w ≡ v ++ new → own c new ≡ [] → 1 ≤ length (others c new)
+some_new : (c : ℕ) (v w new : List Event) (n : ℕ) → head_word (head_of v) ≡ n → head_word (head_of w) ≢ n → w ≡ v ++ new → own c new ≡ []
+    → 1 ≤ length (others c new)
 some_new c v w [] n was is e o = absurd (is (ap (λ (x : List Event). head_word (head_of x)) (e ∙ append-nil v) ∙ was))
 some_new c v w (x ∷ xs) n was is e o = let none = not_own c (eqb (seat_of x) c) x xs o in
     subst (λ (b : Bool). 1 ≤ length (cond (not b) (x ∷ others c xs) (others c xs))) (sym none) (omega arith)

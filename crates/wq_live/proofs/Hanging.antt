@@ -37,7 +37,7 @@ hung ws ws' row more (k ∷ ks) (j ∷ js) some some' once same behind turned is
 )
 
 module _ (row more : Row) (p : Part) (stands : Stands p) (both : HasBoth row more p) where
-  whole : List ℕ
+  abbrev pub whole : List ℕ
   whole = both.front ++ both.back
 
   -- nothing is hung, and nothing hangs

@@ -6,7 +6,7 @@ use Rattle.wq_core.specs.declared.step.Step.{Step}
 use Rattle.wq_core.specs.declared.step.Step.TheVariants.{Take, Close, Walk, Begin, End, Chain, Turn}
 use Rattle.wq_core.specs.declared.step.Seat.TheVariants.{Owner}
 use Rattle.wq_core.specs.Words.{word_at}
-use Rattle.wq_core.specs.Machine.{Machine, link, walk_number, with_link, first_of, after, StandsIn}
+use Rattle.wq_core.specs.Machine.{Machine, link, walk_number, with_link, first_of, after_walk, after, StandsIn}
 use Rattle.wq_core.proofs.Chains.{times, times-cons, times-first, times-append}
 use Rattle.wq_core.proofs.Turning.{stands_times, stands_once, stands_number}
 use Rattle.wq_core.proofs.Taken.{link_after, owner_links}
@@ -71,14 +71,14 @@ has_row_after step word p q row has makes quiet stage =
     has_row q row (kept_batch p.stage) stage (row_after step word p q None [] (kept_batch p.stage) (kept_batch p.stage) has.stage_is makes quiet (λ j. omega arith) row has.row_is)
 
 -- what is to be walked, whether that is all of it or not, has these numbers
-record HasLists (st : Stage) (ws ks : List ℕ) : Type 0 where
-  cursor : Option ℕ
-  walked : List ℕ
-  batch : List ℕ
-  is : st ≡ Owns cursor walked batch
-  same : (k : ℕ) → times k walked + times k batch ≡ times k ws + times k ks
+pub record HasLists (st : Stage) (ws ks : List ℕ) : Type 0 where
+  pub cursor : Option ℕ
+  pub walked : List ℕ
+  pub batch : List ℕ
+  pub is : st ≡ Owns cursor walked batch
+  pub same : (k : ℕ) → times k walked + times k batch ≡ times k ws + times k ks
 
-walking_lists : (word : ℕ) (ws ks : List ℕ) → HasLists (walking word ws ks) ws ks
+pub walking_lists : (word : ℕ) (ws ks : List ℕ) → HasLists (walking word ws ks) ws ks
 walking_lists word ws ks = go (word == 0)
   where
     go : (b : Bool) → HasLists (if b then Owns None [] (ks ++ ws) else Owns (Some (word - 1)) ws ks) ws ks
@@ -154,65 +154,59 @@ turning_first c found p q ks is makes = record {
 }
 
 module _ (ks : List ℕ) (w found : ℕ) (row : Row) (p q : Part) (turning : Turning ks w row p q) (more : w ≢ 0) (t : Part) (stands : Stands t) (walks : Makes Walk found q t) where
-  c : ℕ
-  c = w - 1
-
-  ws : List ℕ
-  ws = row.front ∷ turning.rest
-
   pub on : q.stage ≡ Owns (Some (w - 1)) (row.front ∷ turning.rest) ks
   on = turning.stage_is ∙ walking_on w (row.front ∷ turning.rest) ks more
 
-  walked_stage : t.stage ≡ walking found (c ∷ ws) ks
-  walked_stage = walk_stage c found q t ws ks on walks
+  walked_stage : t.stage ≡ walking found ((w - 1) ∷ (row.front ∷ turning.rest)) ks
+  walked_stage = walk_stage (w - 1) found q t (row.front ∷ turning.rest) ks on walks
 
-  lists : HasLists (walking found (c ∷ ws) ks) (c ∷ ws) ks
-  lists = walking_lists found (c ∷ ws) ks
+  abbrev pub walked_lists : HasLists (walking found ((w - 1) ∷ (row.front ∷ turning.rest)) ks) ((w - 1) ∷ (row.front ∷ turning.rest)) ks
+  walked_lists = walking_lists found ((w - 1) ∷ (row.front ∷ turning.rest)) ks
 
-  pub lists_is : t.stage ≡ Owns lists.cursor lists.walked lists.batch
-  lists_is = walked_stage ∙ lists.is
+  pub lists_is : t.stage ≡ Owns walked_lists.cursor walked_lists.walked walked_lists.batch
+  lists_is = walked_stage ∙ walked_lists.is
 
-  pub within : (k : ℕ) → times k ws + times k ks ≤ times k lists.walked + times k lists.batch
-  within k = omega (arith, lists.same k, times-cons k c ws)
+  pub within : (k : ℕ) → times k (row.front ∷ turning.rest) + times k ks ≤ times k walked_lists.walked + times k walked_lists.batch
+  within k = omega (arith, walked_lists.same k, times-cons k (w - 1) (row.front ∷ turning.rest))
 
-  pub here : 0 < times (w - 1) lists.walked + times (w - 1) lists.batch
-  here = omega (arith, lists.same c, times-first c ws)
+  pub here : 0 < times (w - 1) walked_lists.walked + times (w - 1) walked_lists.batch
+  here = omega (arith, walked_lists.same (w - 1), times-first (w - 1) (row.front ∷ turning.rest))
 
-  pub front_here : 0 < times row.front lists.walked + times row.front lists.batch
+  pub front_here : 0 < times row.front walked_lists.walked + times row.front walked_lists.batch
   front_here = omega (arith, within row.front, times-first row.front turning.rest)
 
   pub turn_next : IsToTurn (w - 1) t.stage
-  turn_next = to_turn (w - 1) t.stage lists.cursor lists.walked lists.batch lists_is here
+  turn_next = to_turn (w - 1) t.stage walked_lists.cursor walked_lists.walked walked_lists.batch lists_is here
 
   pub turn_number : w - 1 < number_count t.layout
-  turn_number = keeps_number t lists.cursor lists.walked lists.batch stands lists_is (w - 1) here
+  turn_number = keeps_number t walked_lists.cursor walked_lists.walked walked_lists.batch stands lists_is (w - 1) here
 
   pub front_number : row.front < number_count t.layout
-  front_number = keeps_number t lists.cursor lists.walked lists.batch stands lists_is row.front front_here
+  front_number = keeps_number t walked_lists.cursor walked_lists.walked walked_lists.batch stands lists_is row.front front_here
 
   -- each of the others is another number
-  others : (k : ℕ) → 0 < times k ws + times k ks → k ≢ c
-  others k some e = let once = keeps_once t lists.cursor lists.walked lists.batch stands lists_is c in
-      let same : 0 < times c ws + times c ks = subst (λ (j : ℕ). 0 < times j ws + times j ks) e some in omega (arith, once, lists.same c, times-first c ws, same)
+  others : (k : ℕ) → 0 < times k (row.front ∷ turning.rest) + times k ks → k ≢ (w - 1)
+  others k some e = let once = keeps_once t walked_lists.cursor walked_lists.walked walked_lists.batch stands lists_is (w - 1) in
+      let same : 0 < times (w - 1) (row.front ∷ turning.rest) + times (w - 1) ks = subst (λ (j : ℕ). 0 < times j (row.front ∷ turning.rest) + times j ks) e some in omega (arith, once, walked_lists.same (w - 1), times-first (w - 1) (row.front ∷ turning.rest), same)
 
   module _ (r : Part) (turns : Makes (Turn (w - 1) (Some row.front)) (row.front + 1) t r) where
-    spared : (k : ℕ) → 0 < times k ws + times k ks → link_in r.words k ≡ link_in q.words k
+    spared : (k : ℕ) → 0 < times k (row.front ∷ turning.rest) + times k ks → link_in r.words k ≡ link_in q.words k
     spared k some =
-        turn_else c row.front (row.front + 1) t r lists.cursor lists.walked lists.batch lists_is turns k (others k some) (omega (arith, some, within k)) ∙
-        makes_links Walk found q t (Some c) ws ks on walks k some
+        turn_else (w - 1) row.front (row.front + 1) t r walked_lists.cursor walked_lists.walked walked_lists.batch lists_is turns k (others k some) (omega (arith, some, within k)) ∙
+        makes_links Walk found q t (Some (w - 1)) (row.front ∷ turning.rest) ks on walks k some
 
     pub turned_stage : r.stage ≡ t.stage
-    turned_stage = turn_stage c row.front (row.front + 1) t r lists.cursor lists.walked lists.batch lists_is turns
+    turned_stage = turn_stage (w - 1) row.front (row.front + 1) t r walked_lists.cursor walked_lists.walked walked_lists.batch lists_is turns
 
     pub turned_tells : Tells [] t r
-    turned_tells = turn_tells c row.front (row.front + 1) t r lists.cursor lists.walked lists.batch lists_is turns
+    turned_tells = turn_tells (w - 1) row.front (row.front + 1) t r walked_lists.cursor walked_lists.walked walked_lists.batch lists_is turns
 
     pub turning_next : Turning ks found (record { front = w - 1; last = row.last; count = row.count + 1 }) p r
     turning_next = record {
-      rest = ws;
+      rest = (row.front ∷ turning.rest);
       count_is = omega (arith, turning.count_is);
       links = (
-        turn_here c row.front (row.front + 1) t r lists.cursor lists.walked lists.batch lists_is turns here,
+        turn_here (w - 1) row.front (row.front + 1) t r walked_lists.cursor walked_lists.walked walked_lists.batch lists_is turns here,
         on_same q.words r.words row.front row.last turning.rest (λ j there. spared j (omega (arith, there))) turning.links,
       );
       stage_is = turned_stage ∙ walked_stage;

@@ -1,11 +1,14 @@
 -- An owner that a sender meets.
-use Rattle.std.proofs.Common.{◌≡◌, [], sym, refl, ap, ◌∙◌, subst}
+use Rattle.std.proofs.Common.{◌≡◌, ℕ, ◌<◌, [], sym, refl, ap, ◌∙◌, subst, arith}
+use Rattle.wq_words.specs.declared.layout.Layout.{Layout}
 use Rattle.wq_core.specs.Machine.{Machine}
 use Rattle.wq_core.specs.Sound.{IsSound}
 use Rattle.wq_table.specs.declared.table.Part.{Part}
-use Rattle.wq_table.specs.Law.{part, IsPartOf}
-use Rattle.wq_table.specs.Chair.{Standing}
-use Rattle.wq_words.proofs.Seen.{prefix_self}
+use Rattle.wq_table.specs.declared.table.Stage.{Stage}
+use Rattle.wq_table.specs.declared.table.Stage.TheVariants as stage
+use Rattle.wq_table.specs.Law.{part, HasStage, IsPartOf}
+use Rattle.wq_table.specs.Chair.{Standing, IsSender}
+use Rattle.wq_words.proofs.Prefixes.{prefix_self}
 use Rattle.wq_live.specs.declared.owner.Owner.TheInside.{Inside}
 use Rattle.wq_live.specs.declared.sender.Sender.TheInside as sender
 use Rattle.wq_live.specs.Known.{Known, Sees}
@@ -44,6 +47,19 @@ module _ (s : Inside) (q : Standing) (m : Machine) (sound : IsSound m) (f : IsPa
   meet_owner_sees now view = owner_sees [] 0 s (record s { chair = q }) now view executes refl (ap (λ (x : Standing). x.queue) is) told
 
 -- the owner and the sender that met are of queues of one layout
-pub meet_owner_layout : (s : sender.Inside) (t : Inside) (now now' : Known) (m : Machine) → IsPartOf m s.chair.part → IsPartOf m t.chair.part → sender_view s ≡ now → owner_view t ≡ now' → Sends s → OwnsQueue t → now'.layout ≡ now.layout
+pub meet_owner_layout : (s : sender.Inside) (t : Inside) (now now' : Known) (m : Machine) → IsPartOf m s.chair.part → IsPartOf m t.chair.part
+    → sender_view s ≡ now → owner_view t ≡ now' → Sends s → OwnsQueue t → now'.layout ≡ now.layout
 meet_owner_layout s t now now' m f g view view' sends executes =
-    sym (ap (λ (v : Known). v.layout) view') ∙ (sym executes.layout_is ∙ (g.layout_is ∙ (sym f.layout_is ∙ (sends.layout_is ∙ ap (λ (v : Known). v.layout) view))))
+    sym (ap (λ (v : Known). v.layout) view') ∙
+    (sym executes.layout_is ∙ (g.layout_is ∙ (sym f.layout_is ∙ (sends.layout_is ∙ ap (λ (v : Known). v.layout) view))))
+
+keeps_low : (m : Machine) (c : ℕ) (held : Stage) → IsSender held → HasStage m c held → c < m.layout.senders
+keeps_low m c (stage.Sends p) is keeps = keeps.0
+keeps_low m c (stage.Owns cursor walked batch) is keeps = absurd is
+
+-- a sender that met another seat is below the senders
+pub meet_low : (s : sender.Inside) (now : Known) (m : Machine) → IsPartOf m s.chair.part → sender_view s ≡ now → Sends s → now.number < now.layout.senders
+meet_low s now m f view sends =
+    let low = keeps_low m s.chair.part.seat s.chair.part.stage sends.stage f.keeps in
+    let size = ap (λ (l : Layout). l.senders) (sym f.layout_is ∙ sends.layout_is) in
+    subst (λ (v : Known). v.number < v.layout.senders) view (omega (arith, low, size, sends.number_is))

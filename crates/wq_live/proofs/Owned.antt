@@ -46,34 +46,69 @@ module _ (xs : List Event) (n : ℕ) (v w : List Event) (g : Grows owner_seat xs
   more x y o z e f = omega arith
 
   pub counts_on : (a b d : ℕ) → count_by is_chain xs ≡ a → count_by is_chain_busy xs ≡ b → length (ended xs) ≡ d → (old : OwnerCounts) → old ≡ owner_counts v
-      → ◌≡◌ {A = OwnerCounts} (record { chained = capped (old.chained + a); chain_busy = capped (old.chain_busy + b); ended = capped (old.ended + d) }) (owner_counts w)
+      → ◌≡◌ {A = OwnerCounts}
+      (record { chained = capped (old.chained + a); chain_busy = capped (old.chain_busy + b); ended = capped (old.ended + d) }) (owner_counts w)
   counts_on a b d ca cb cd old is =
       let ea = more (count_by is_chain v) a old.chained (count_by is_chain w) (ap (λ (x : OwnerCounts). x.chained) is) (omega (arith, chains_on)) in
-      let eb = more (count_by is_chain_busy v) b old.chain_busy (count_by is_chain_busy w) (ap (λ (x : OwnerCounts). x.chain_busy) is) (omega (arith, busy_on)) in
-      let ed = more (length (ended v)) d old.ended (length (ended w)) (ap (λ (x : OwnerCounts). x.ended) is) (omega (arith, ap (λ (x : List ℕ). length x) ended_on, length-append (ended v) (ended xs))) in
+      let eb = more (count_by is_chain_busy v) b old.chain_busy (count_by is_chain_busy w) (ap (λ (x : OwnerCounts). x.chain_busy) is) (omega (
+        arith,
+        busy_on,
+      )) in
+      let ed = more (length (ended v)) d old.ended (length (ended w)) (ap (λ (x : OwnerCounts). x.ended) is) (omega (
+        arith,
+        ap (λ (x : List ℕ). length x) ended_on,
+        length-append (ended v) (ended xs),
+      )) in
       λ i. record { chained = ea i; chain_busy = eb i; ended = ed i }
 
   same_capped : (x k : ℕ) → x ≡ capped k → capped (x + 0) ≡ x
   same_capped x k e = omega arith
 
-  pub counts_quiet : count_by is_chain xs ≡ 0 → count_by is_chain_busy xs ≡ 0 → length (ended xs) ≡ 0 → (old : OwnerCounts) → old ≡ owner_counts v → old ≡ owner_counts w
+  pub counts_quiet : count_by is_chain xs ≡ 0 → count_by is_chain_busy xs ≡ 0 → length (ended xs) ≡ 0 → (old : OwnerCounts) → old ≡ owner_counts v
+      → old ≡ owner_counts w
   counts_quiet ca cb cd old is =
-      (λ i. record { chained = sym (same_capped old.chained (count_by is_chain v) (ap (λ (x : OwnerCounts). x.chained) is)) i; chain_busy = sym (same_capped old.chain_busy (count_by is_chain_busy v) (ap (λ (x : OwnerCounts). x.chain_busy) is)) i; ended = sym (same_capped old.ended (length (ended v)) (ap (λ (x : OwnerCounts). x.ended) is)) i })
+      (λ i. record {
+        chained = sym (same_capped old.chained (count_by is_chain v) (ap (λ (x : OwnerCounts). x.chained) is)) i;
+        chain_busy = sym
+            (same_capped old.chain_busy (count_by is_chain_busy v) (ap (λ (x : OwnerCounts). x.chain_busy) is)) i;
+        ended = sym
+            (same_capped old.ended (length (ended v)) (ap (λ (x : OwnerCounts). x.ended) is)) i;
+      })
       ∙ counts_on 0 0 0 ca cb cd old is
 
-  pub counts_ended : count_by is_chain xs ≡ 0 → count_by is_chain_busy xs ≡ 0 → length (ended xs) ≡ 1 → (old : OwnerCounts) → old ≡ owner_counts v → (x : ℕ) → x ≡ capped (old.ended + 1) → record old { ended = x } ≡ owner_counts w
+  pub counts_ended : count_by is_chain xs ≡ 0 → count_by is_chain_busy xs ≡ 0 → length (ended xs) ≡ 1 → (old : OwnerCounts) → old ≡ owner_counts v
+      → (x : ℕ) → x ≡ capped (old.ended + 1) → record old { ended = x } ≡ owner_counts w
   counts_ended ca cb cd old is x e =
-      (λ i. record { chained = sym (same_capped old.chained (count_by is_chain v) (ap (λ (x : OwnerCounts). x.chained) is)) i; chain_busy = sym (same_capped old.chain_busy (count_by is_chain_busy v) (ap (λ (x : OwnerCounts). x.chain_busy) is)) i; ended = e i })
+      (λ i. record {
+        chained = sym (same_capped old.chained (count_by is_chain v) (ap (λ (x : OwnerCounts). x.chained) is)) i;
+        chain_busy = sym
+            (same_capped old.chain_busy (count_by is_chain_busy v) (ap (λ (x : OwnerCounts). x.chain_busy) is)) i;
+        ended = e i;
+      })
       ∙ counts_on 0 0 1 ca cb cd old is
 
-  pub counts_chained : count_by is_chain xs ≡ 1 → count_by is_chain_busy xs ≡ 0 → length (ended xs) ≡ 0 → (old : OwnerCounts) → old ≡ owner_counts v → (x : ℕ) → x ≡ capped (old.chained + 1) → record old { chained = x } ≡ owner_counts w
+  pub counts_chained : count_by is_chain xs ≡ 1 → count_by is_chain_busy xs ≡ 0 → length (ended xs) ≡ 0 → (old : OwnerCounts) → old ≡ owner_counts v
+      → (x : ℕ) → x ≡ capped (old.chained + 1) → record old { chained = x } ≡ owner_counts w
   counts_chained ca cb cd old is x e =
-      (λ i. record { chained = e i; chain_busy = sym (same_capped old.chain_busy (count_by is_chain_busy v) (ap (λ (x : OwnerCounts). x.chain_busy) is)) i; ended = sym (same_capped old.ended (length (ended v)) (ap (λ (x : OwnerCounts). x.ended) is)) i })
+      (λ i. record {
+        chained = e i;
+        chain_busy = sym
+            (same_capped old.chain_busy (count_by is_chain_busy v) (ap (λ (x : OwnerCounts). x.chain_busy) is)) i;
+        ended = sym
+            (same_capped old.ended (length (ended v)) (ap (λ (x : OwnerCounts). x.ended) is)) i;
+      })
       ∙ counts_on 1 0 0 ca cb cd old is
 
-  pub counts_busy : count_by is_chain xs ≡ 0 → count_by is_chain_busy xs ≡ 1 → length (ended xs) ≡ 0 → (old : OwnerCounts) → old ≡ owner_counts v → (x : ℕ) → x ≡ capped (old.chain_busy + 1) → record old { chain_busy = x } ≡ owner_counts w
+  pub counts_busy : count_by is_chain xs ≡ 0 → count_by is_chain_busy xs ≡ 1 → length (ended xs) ≡ 0 → (old : OwnerCounts) → old ≡ owner_counts v
+      → (x : ℕ) → x ≡ capped (old.chain_busy + 1) → record old { chain_busy = x } ≡ owner_counts w
   counts_busy ca cb cd old is x e =
-      (λ i. record { chained = sym (same_capped old.chained (count_by is_chain v) (ap (λ (x : OwnerCounts). x.chained) is)) i; chain_busy = e i; ended = sym (same_capped old.ended (length (ended v)) (ap (λ (x : OwnerCounts). x.ended) is)) i })
+      (λ i. record {
+        chained = sym
+            (same_capped old.chained (count_by is_chain v) (ap (λ (x : OwnerCounts). x.chained) is)) i;
+        chain_busy = e i;
+        ended = sym
+            (same_capped old.ended (length (ended v)) (ap (λ (x : OwnerCounts). x.ended) is)) i;
+      })
       ∙ counts_on 0 1 0 ca cb cd old is
 
 -- nothing runs where nothing ran before and no own event came
@@ -86,12 +121,14 @@ rests_on c v w mine grows rests runs =
 -- what runs once k began, and once what ran has ended
 pub running_begun : (k n : ℕ) (v w : List Event) → Grows owner_seat (Begin k ∷ []) n v w → length (ended v) ≡ length (begun v) → running w ≡ Some k
 running_begun k n v w g idle =
-    let bs : begun w ≡ begun v ++ k ∷ [] = begun_on (Begin k ∷ []) n v w g in let es : ended w ≡ ended v = ended_on (Begin k ∷ []) n v w g ∙ append-nil (ended v) in
+    let bs : begun w ≡ begun v ++ k ∷ [] = begun_on (Begin k ∷ []) n v w g in
+    let es : ended w ≡ ended v = ended_on (Begin k ∷ []) n v w g ∙ append-nil (ended v) in
     (λ i. slice_get (bs i) (length (es i))) ∙ (ap (slice_get (begun v ++ k ∷ [])) idle ∙ slice_get_last (begun v) k [])
 
 pub running_ended : (k n : ℕ) (v w : List Event) → Grows owner_seat (End k ∷ []) n v w → length (begun v) ≡ length (ended v) + 1 → running w ≡ None
 running_ended k n v w g runs =
-    let bs : begun w ≡ begun v = begun_on (End k ∷ []) n v w g ∙ append-nil (begun v) in let es : ended w ≡ ended v ++ k ∷ [] = ended_on (End k ∷ []) n v w g in
+    let bs : begun w ≡ begun v = begun_on (End k ∷ []) n v w g ∙ append-nil (begun v) in
+    let es : ended w ≡ ended v ++ k ∷ [] = ended_on (End k ∷ []) n v w g in
     (λ i. slice_get (bs i) (length (es i))) ∙ slice_get_past (begun v) (length (ended v ++ k ∷ [])) (omega (arith, length-append (ended v) (k ∷ [])))
 
 -- the queue is closed by a Close

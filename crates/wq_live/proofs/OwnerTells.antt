@@ -6,8 +6,8 @@ use Rattle.wq_words.specs.declared.layout.Layout.{Layout}
 use Rattle.wq_words.specs.declared.event.Event.{Event}
 use Rattle.wq_words.specs.declared.event.Event.TheVariants as event
 use Rattle.wq_words.specs.History.{begun, ended, running, IsRunning}
-use Rattle.wq_words.proofs.Prefixes.{prefix_length}
 use Rattle.wq_words.proofs.Order.{in_order}
+use Rattle.wq_words.proofs.Prefixes.{prefix_length}
 use Rattle.wq_words.specs.Legal.{IsLegal}
 use Rattle.wq_core.specs.declared.step.Step.{Step}
 use Rattle.wq_core.specs.declared.step.Step.TheVariants.{Take, Close, Walk, Begin, End, Chain}
@@ -29,7 +29,13 @@ use Rattle.wq_live.specs.Sits.{owner_view, Stands, OwnsQueue, kept_batch, walkin
 use Rattle.wq_live.proofs.Tells.{Tells, TellsSo, tells}
 
 pub makes_stands : (step : Step) (word : ℕ) (p q : Part) → Makes step word p q → Stands q
-makes_stands step word p q makes = record { machine = after makes.before (seat_at p.seat p.stage) step; sound = makes.sound_after; fits = makes.fits_after; seen_is = makes.seen_is }
+makes_stands step word p q makes = record {
+  machine = after makes.before
+      (seat_at p.seat p.stage) step;
+  sound = makes.sound_after;
+  fits = makes.fits_after;
+  seen_is = makes.seen_is;
+}
 
 -- the batch of an owner that has walked all that it took
 pub stands_batch : (p : Part) (ks : List ℕ) → Stands p → p.stage ≡ Owns None [] ks → ks ≡ batch p.seen
@@ -53,11 +59,13 @@ none_of st ks is none = subst HasNone (sym is) none
 pub to_begin : (st : Stage) (k : ℕ) (ks : List ℕ) → st ≡ Owns None [] (k ∷ ks) → IsToBegin k st
 to_begin st k ks is = subst (IsToBegin k) (sym is) (refl, refl)
 
-pub after_take : (m : Machine) (c : ℕ) (st : Stage) → IsOwner st → after m (seat_at c st) Take ≡ happened (record (with_head m 0) { cursor = number_at (head m) }) event.Take
+pub after_take : (m : Machine) (c : ℕ) (st : Stage) → IsOwner st
+    → after m (seat_at c st) Take ≡ happened (record (with_head m 0) { cursor = number_at (head m) }) event.Take
 after_take m c (Owns a b d) is = refl
 after_take m c (Sends r) is = elim is [ ]
 
-pub after_close : (m : Machine) (c : ℕ) (st : Stage) → IsOwner st → after m (seat_at c st) Close ≡ happened (record (with_head m closed_word) { cursor = number_at (head m) }) event.Close
+pub after_close : (m : Machine) (c : ℕ) (st : Stage) → IsOwner st
+    → after m (seat_at c st) Close ≡ happened (record (with_head m closed_word) { cursor = number_at (head m) }) event.Close
 after_close m c (Owns a b d) is = refl
 after_close m c (Sends r) is = elim is [ ]
 
@@ -65,7 +73,8 @@ pub take_tells : (word : ℕ) (p q : Part) → p.seat ≡ owner_seat → IsOwner
 take_tells word p q mine is makes = tells Take word p q makes _ _ (after_take makes.before p.seat p.stage is) refl refl (own_one p.seat event.Take (sym mine))
 
 pub close_tells : (word : ℕ) (p q : Part) → p.seat ≡ owner_seat → IsOwner p.stage → Makes Close word p q → Tells (event.Close ∷ []) p q
-close_tells word p q mine is makes = tells Close word p q makes _ _ (after_close makes.before p.seat p.stage is) refl refl (own_one p.seat event.Close (sym mine))
+close_tells word p q mine is makes = tells Close word p q makes _ _ (after_close makes.before p.seat p.stage is) refl refl
+    (own_one p.seat event.Close (sym mine))
 
 -- what was found is to be walked
 to_walk : (word : ℕ) (ks : List ℕ) → Owns (number_at word) [] ks ≡ walking word [] ks
@@ -91,35 +100,55 @@ walking_end word walked ks is = ap (λ (b : Bool). if b then Owns None [] (ks ++
 next_walk : (k word : ℕ) (walked ks : List ℕ) → walked_on k walked ks word ≡ walking word (k ∷ walked) ks
 next_walk k word walked ks = go (word == 0)
   where
-    go : (b : Bool) → (if b then Owns None [] (ks ++ k ∷ walked) else Owns (if b then None else Some (word - 1)) (k ∷ walked) ks) ≡ (if b then Owns None [] (ks ++ k ∷ walked) else Owns (Some (word - 1)) (k ∷ walked) ks)
+    go : (b : Bool)
+        → (if b then Owns None [] (ks ++ k ∷ walked) else Owns (if b then None else Some (word - 1)) (k ∷ walked) ks) ≡
+        (if b then Owns None [] (ks ++ k ∷ walked) else Owns (Some (word - 1)) (k ∷ walked) ks)
     go true = refl
     go false = refl
 
-pub walk_stage : (k word : ℕ) (p q : Part) (walked ks : List ℕ) → p.stage ≡ Owns (Some k) walked ks → Makes Walk word p q → q.stage ≡ walking word (k ∷ walked) ks
+pub walk_stage : (k word : ℕ) (p q : Part) (walked ks : List ℕ) → p.stage ≡ Owns (Some k) walked ks → Makes Walk word p q
+    → q.stage ≡ walking word (k ∷ walked) ks
 walk_stage k word p q walked ks is makes = makes.stage_is ∙ (ap (λ (st : Stage). stage_after st Walk word) is ∙ next_walk k word walked ks)
 
-after_walks : (m : Machine) (c k : ℕ) (walked ks : List ℕ) (st : Stage) → st ≡ Owns (Some k) walked ks → HasStage m c st → after m (seat_at c st) Walk ≡ walked_past m k (link m k)
+after_walks : (m : Machine) (c k : ℕ) (walked ks : List ℕ) (st : Stage) → st ≡ Owns (Some k) walked ks → HasStage m c st
+    → after m (seat_at c st) Walk ≡ walked_past m k (link m k)
 after_walks m c k walked ks st is keeps =
-    let kept : HasStage m c (Owns (Some k) walked ks) = subst (HasStage m c) is keeps in ap (λ (x : Stage). after m (seat_at c x) Walk) is ∙ ap (after_walk m) kept.1
+    let kept : HasStage m c (Owns (Some k) walked ks) = subst (HasStage m c) is keeps in
+    ap (λ (x : Stage). after m (seat_at c x) Walk) is ∙ ap (after_walk m) kept.1
 
-past_layout : (m : Machine) (k : ℕ) (b : Bool) → (if b then record m { cursor = None; walked = []; batch = m.batch ++ k ∷ m.walked } else record m { cursor = number_at (link m k); walked = k ∷ m.walked }).layout ≡ m.layout
+past_layout : (m : Machine) (k : ℕ) (b : Bool)
+    → (if b then record m { cursor = None; walked = []; batch = m.batch ++ k ∷ m.walked } else record m {
+      cursor = number_at
+          (link m k);
+      walked = k ∷ m.walked;
+    }).layout ≡ m.layout
 past_layout m k true = refl
 past_layout m k false = refl
 
-past_history : (m : Machine) (k : ℕ) (b : Bool) → (if b then record m { cursor = None; walked = []; batch = m.batch ++ k ∷ m.walked } else record m { cursor = number_at (link m k); walked = k ∷ m.walked }).history ≡ m.history
+past_history : (m : Machine) (k : ℕ) (b : Bool)
+    → (if b then record m { cursor = None; walked = []; batch = m.batch ++ k ∷ m.walked } else record m {
+      cursor = number_at
+          (link m k);
+      walked = k ∷ m.walked;
+    }).history ≡ m.history
 past_history m k true = refl
 past_history m k false = refl
 
 pub walk_tells : (k word : ℕ) (p q : Part) (walked ks : List ℕ) → p.stage ≡ Owns (Some k) walked ks → Makes Walk word p q → Tells [] p q
 walk_tells k word p q walked ks is makes = let m = makes.before in
-    tells Walk word p q makes _ [] (after_walks m p.seat k walked ks p.stage is makes.fits.keeps) (past_layout m k (link m k == 0)) (past_history m k (link m k == 0) ∙ sym (append-nil m.history)) refl
+    tells Walk word p q makes _ [] (after_walks m p.seat k walked ks p.stage is makes.fits.keeps) (past_layout m k (link m k == 0))
+    (past_history m k (link m k == 0) ∙ sym (append-nil m.history)) refl
 
-after_begins : (m : Machine) (c k : ℕ) (ks : List ℕ) (st : Stage) → st ≡ Owns None [] (k ∷ ks) → HasStage m c st → after m (seat_at c st) Begin ≡ happened (record (with_item m k 0) { batch = ks }) (event.Begin k)
+after_begins : (m : Machine) (c k : ℕ) (ks : List ℕ) (st : Stage) → st ≡ Owns None [] (k ∷ ks) → HasStage m c st
+    → after m (seat_at c st) Begin ≡ happened (record (with_item m k 0) { batch = ks }) (event.Begin k)
 after_begins m c k ks st is keeps =
-    let kept : HasStage m c (Owns None [] (k ∷ ks)) = subst (HasStage m c) is keeps in ap (λ (x : Stage). after m (seat_at c x) Begin) is ∙ ap (after_begin m) kept.3
+    let kept : HasStage m c (Owns None [] (k ∷ ks)) = subst (HasStage m c) is keeps in
+    ap (λ (x : Stage). after m (seat_at c x) Begin) is ∙ ap (after_begin m) kept.3
 
-pub begin_tells : (k word : ℕ) (p q : Part) (ks : List ℕ) → p.seat ≡ owner_seat → p.stage ≡ Owns None [] (k ∷ ks) → Makes Begin word p q → Tells (event.Begin k ∷ []) p q
-begin_tells k word p q ks mine is makes = tells Begin word p q makes _ _ (after_begins makes.before p.seat k ks p.stage is makes.fits.keeps) refl refl (own_one p.seat (event.Begin k) (sym mine))
+pub begin_tells : (k word : ℕ) (p q : Part) (ks : List ℕ) → p.seat ≡ owner_seat → p.stage ≡ Owns None [] (k ∷ ks) → Makes Begin word p q
+    → Tells (event.Begin k ∷ []) p q
+begin_tells k word p q ks mine is makes = tells Begin word p q makes _ _ (after_begins makes.before p.seat k ks p.stage is makes.fits.keeps) refl refl
+    (own_one p.seat (event.Begin k) (sym mine))
 
 pub begin_stage : (k word : ℕ) (p q : Part) (ks : List ℕ) → p.stage ≡ Owns None [] (k ∷ ks) → Makes Begin word p q → q.stage ≡ Owns None [] ks
 begin_stage k word p q ks is makes = makes.stage_is ∙ ap (λ (st : Stage). stage_after st Begin word) is
@@ -127,40 +156,52 @@ begin_stage k word p q ks is makes = makes.stage_is ∙ ap (λ (st : Stage). sta
 -- the number that runs is known to the owner
 running_known : (c : ℕ) (h v : List Event) → c ≡ owner_seat → own c h ≡ own c v → running h ≡ running v
 running_known c h v mine same =
-    let mine' : own owner_seat h ≡ own owner_seat v = subst (λ (d : ℕ). own d h ≡ own d v) mine same in λ i. slice_get (begun_same v h mine' i) (length (ended_same v h mine' i))
+    let mine' : own owner_seat h ≡ own owner_seat v = subst (λ (d : ℕ). own d h ≡ own d v) mine same in
+    λ i. slice_get (begun_same v h mine' i) (length (ended_same v h mine' i))
 
 after_ends : (m : Machine) (c : ℕ) (st : Stage) → IsOwner st → after m (seat_at c st) End ≡ after_end m (running m.history)
 after_ends m c (Owns a b d) is = refl
 after_ends m c (Sends r) is = elim is [ ]
 
-pub end_tells : (k word : ℕ) (p q : Part) → p.seat ≡ owner_seat → IsOwner p.stage → running p.seen ≡ Some k → Makes End word p q → Tells (event.End k ∷ []) p q
+pub end_tells : (k word : ℕ) (p q : Part) → p.seat ≡ owner_seat → IsOwner p.stage → running p.seen ≡ Some k → Makes End word p q
+    → Tells (event.End k ∷ []) p q
 end_tells k word p q mine is runs makes = let m = makes.before in
-    tells End word p q makes (after_end m (Some k)) _ (after_ends m p.seat p.stage is ∙ ap (after_end m) (running_known p.seat m.history p.seen mine makes.fits.mine ∙ runs)) refl refl (own_one p.seat (event.End k) (sym mine))
+    tells End word p q makes (after_end m (Some k)) _ (after_ends m p.seat p.stage is ∙
+    ap (after_end m) (running_known p.seat m.history p.seen mine makes.fits.mine ∙ runs)) refl refl (own_one p.seat (event.End k) (sym mine))
 
 pub end_stage : (word : ℕ) (p q : Part) (ks : List ℕ) → p.stage ≡ Owns None [] ks → Makes End word p q → q.stage ≡ Owns None [] ks
 end_stage word p q ks is makes = makes.stage_is ∙ ap (λ (st : Stage). stage_after st End word) is
 
 after_chain : (m : Machine) (c k : ℕ) (st : Stage) → IsOwner st
-    → after m (seat_at c st) (Chain k) ≡ (if item_word m k == 0 then happened (record (with_item m k 1) { batch = m.batch ++ k ∷ [] }) (event.Chain k) else happened m (event.ChainBusy k))
+    → after m (seat_at c st) (Chain k) ≡
+    (if item_word m k == 0 then happened (record (with_item m k 1) { batch = m.batch ++ k ∷ [] }) (event.Chain k) else happened m (event.ChainBusy k))
 after_chain m c k (Owns a b d) is = refl
 after_chain m c k (Sends r) is = elim is [ ]
 
-pub chain_tells : (k word : ℕ) (p q : Part) → p.seat ≡ owner_seat → IsOwner p.stage → Makes (Chain k) word p q → MatchBool (word == 0) (Tells (event.Chain k ∷ []) p q) (Tells (event.ChainBusy k ∷ []) p q)
+pub chain_tells : (k word : ℕ) (p q : Part) → p.seat ≡ owner_seat → IsOwner p.stage → Makes (Chain k) word p q
+    → MatchBool (word == 0) (Tells (event.Chain k ∷ []) p q) (Tells (event.ChainBusy k ∷ []) p q)
 chain_tells k word p q mine is makes =
-    subst (λ (w : ℕ). MatchBool (w == 0) (Tells (event.Chain k ∷ []) p q) (Tells (event.ChainBusy k ∷ []) p q)) (sym makes.word_is) (go (item_word makes.before k == 0) (after_chain makes.before p.seat k p.stage is))
+    subst (λ (w : ℕ). MatchBool (w == 0) (Tells (event.Chain k ∷ []) p q) (Tells (event.ChainBusy k ∷ []) p q)) (sym makes.word_is)
+    (go (item_word makes.before k == 0) (after_chain makes.before p.seat k p.stage is))
   where
-    go : (b : Bool) → after makes.before (seat_at p.seat p.stage) (Chain k) ≡ (if b then happened (record (with_item makes.before k 1) { batch = makes.before.batch ++ k ∷ [] }) (event.Chain k) else happened makes.before (event.ChainBusy k))
+    go : (b : Bool)
+        → after makes.before (seat_at p.seat p.stage) (Chain k) ≡
+        (if b then happened (record (with_item makes.before k 1) { batch = makes.before.batch ++ k ∷ [] }) (event.Chain k) else happened makes.before
+        (event.ChainBusy k))
         → MatchBool b (Tells (event.Chain k ∷ []) p q) (Tells (event.ChainBusy k ∷ []) p q)
     go true e = tells (Chain k) word p q makes _ _ e refl refl (own_one p.seat (event.Chain k) (sym mine))
     go false e = tells (Chain k) word p q makes _ _ e refl refl (own_one p.seat (event.ChainBusy k) (sym mine))
 
-pub chain_stage : (k word : ℕ) (p q : Part) (ks : List ℕ) → p.stage ≡ Owns None [] ks → Makes (Chain k) word p q → q.stage ≡ Owns None [] (if word == 0 then ks ++ k ∷ [] else ks)
+pub chain_stage : (k word : ℕ) (p q : Part) (ks : List ℕ) → p.stage ≡ Owns None [] ks → Makes (Chain k) word p q
+    → q.stage ≡ Owns None [] (if word == 0 then ks ++ k ∷ [] else ks)
 chain_stage k word p q ks is makes = makes.stage_is ∙ ap (λ (st : Stage). stage_after st (Chain k) word) is
 
-pub owner_grows : (xs : List Event) (n : ℕ) (s t : Inside) → OwnsQueue s → TellsSo xs n s.chair.part t.chair.part → Grows owner_seat xs n s.chair.part.seen t.chair.part.seen
+pub owner_grows : (xs : List Event) (n : ℕ) (s t : Inside) → OwnsQueue s → TellsSo xs n s.chair.part t.chair.part
+    → Grows owner_seat xs n s.chair.part.seen t.chair.part.seen
 owner_grows xs n s t executes told = subst (λ (c : ℕ). Grows c xs n s.chair.part.seen t.chair.part.seen) executes.number_is told.grows
 
-pub owner_sees : (xs : List Event) (n : ℕ) (s t : Inside) (now : Known) → owner_view s ≡ now → OwnsQueue s → t.layout ≡ s.layout → t.chair.queue ≡ s.chair.queue → TellsSo xs n s.chair.part t.chair.part
+pub owner_sees : (xs : List Event) (n : ℕ) (s t : Inside) (now : Known) → owner_view s ≡ now → OwnsQueue s → t.layout ≡ s.layout
+    → t.chair.queue ≡ s.chair.queue → TellsSo xs n s.chair.part t.chair.part
     → Sees xs n now (owner_view t)
 owner_sees xs n s t now view executes layout queue told = subst (λ (v : Known). Sees xs n v (owner_view t)) view record {
   same = record { queue_is = queue; layout_is = layout; number_is = refl };
@@ -169,7 +210,8 @@ owner_sees xs n s t now view executes layout queue told = subst (λ (v : Known).
 }
 
 -- a part of what the owner keeps after a step
-pub owner_layout : (xs : List Event) (n : ℕ) (s t : Inside) → OwnsQueue s → t.layout ≡ s.layout → TellsSo xs n s.chair.part t.chair.part → t.chair.part.layout ≡ t.layout
+pub owner_layout : (xs : List Event) (n : ℕ) (s t : Inside) → OwnsQueue s → t.layout ≡ s.layout → TellsSo xs n s.chair.part t.chair.part
+    → t.chair.part.layout ≡ t.layout
 owner_layout xs n s t executes layout told = told.layout_is ∙ (executes.layout_is ∙ sym layout)
 
 pub owner_number : (xs : List Event) (n : ℕ) (s t : Inside) → OwnsQueue s → TellsSo xs n s.chair.part t.chair.part → t.chair.part.seat ≡ owner_seat
@@ -181,7 +223,8 @@ owner_batch s now view executes = stands_batch s.chair.part (kept_batch s.chair.
 
 -- nothing runs, or one does
 pub owner_idle : (p : Part) → Stands p → ¬ IsRunning p.seen → length (ended p.seen) ≡ length (begun p.seen)
-owner_idle p stands idle = let order = in_order p.layout p.seen (stands_legal p stands) in omega (arith, idle, prefix_length (ended p.seen) (begun p.seen) order.ended_first)
+owner_idle p stands idle = let order = in_order p.layout p.seen (stands_legal p stands) in
+    omega (arith, idle, prefix_length (ended p.seen) (begun p.seen) order.ended_first)
 
 pub owner_runs : (p : Part) → Stands p → IsRunning p.seen → length (begun p.seen) ≡ length (ended p.seen) + 1
 owner_runs p stands runs = let order = in_order p.layout p.seen (stands_legal p stands) in let one = order.one_at_a_time in omega (arith, runs)

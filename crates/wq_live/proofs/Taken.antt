@@ -18,7 +18,8 @@ use Rattle.wq_words.proofs.Legal.{legal_front, legal_next}
 use Rattle.wq_words.proofs.Closed.{closed_from_IsClosed, closed_from_open, closed_push_no}
 use Rattle.wq_words.proofs.Listed.{taken_closed, taken_push_same, taken_push_push, taken_push_take, is_listed, fresh-open}
 use Rattle.wq_core.specs.Machine.{Machine}
-use Rattle.wq_core.specs.Sound.{IsSound, IsChain, word_at}
+use Rattle.wq_core.specs.Words.{word_at}
+use Rattle.wq_core.specs.Sound.{IsSound, IsChain}
 use Rattle.wq_core.proofs.Chains.{chain_zero}
 use Rattle.wq_words.specs.Seen.{owner_seat, own, Grows}
 use Rattle.wq_live.specs.Batch.{batch, TakesAll}
@@ -35,13 +36,17 @@ accepted_one h e none = filter_map-append accepted_by h (e ∷ []) ∙ (ap (λ (
 taken_others : (after h : List Event) → closed h ≡ false → own owner_seat after ≡ [] → taken (h ++ after) ≡ taken h
 taken_others [] h opens none = ap taken (append-nil h)
 taken_others (Hold s k ∷ es) h opens none = let e = Hold s k in
-    ap taken (sym (append_assoc h (e ∷ []) es)) ∙ (taken_others es (h ++ e ∷ []) (closed_push_no h e refl ∙ opens) (own_tail (eqb s owner_seat) e es none) ∙ taken_push_same h e refl refl refl)
+    ap taken (sym (append_assoc h (e ∷ []) es)) ∙
+    (taken_others es (h ++ e ∷ []) (closed_push_no h e refl ∙ opens) (own_tail (eqb s owner_seat) e es none) ∙ taken_push_same h e refl refl refl)
 taken_others (Busy s k ∷ es) h opens none = let e = Busy s k in
-    ap taken (sym (append_assoc h (e ∷ []) es)) ∙ (taken_others es (h ++ e ∷ []) (closed_push_no h e refl ∙ opens) (own_tail (eqb s owner_seat) e es none) ∙ taken_push_same h e refl refl refl)
+    ap taken (sym (append_assoc h (e ∷ []) es)) ∙
+    (taken_others es (h ++ e ∷ []) (closed_push_no h e refl ∙ opens) (own_tail (eqb s owner_seat) e es none) ∙ taken_push_same h e refl refl refl)
 taken_others (Back s k why ∷ es) h opens none = let e = Back s k why in
-    ap taken (sym (append_assoc h (e ∷ []) es)) ∙ (taken_others es (h ++ e ∷ []) (closed_push_no h e refl ∙ opens) (own_tail (eqb s owner_seat) e es none) ∙ taken_push_same h e refl refl refl)
+    ap taken (sym (append_assoc h (e ∷ []) es)) ∙
+    (taken_others es (h ++ e ∷ []) (closed_push_no h e refl ∙ opens) (own_tail (eqb s owner_seat) e es none) ∙ taken_push_same h e refl refl refl)
 taken_others (Push s k ∷ es) h opens none = let e = Push s k in
-    ap taken (sym (append_assoc h (e ∷ []) es)) ∙ (taken_others es (h ++ e ∷ []) (closed_push_no h e refl ∙ opens) (own_tail (eqb s owner_seat) e es none) ∙ taken_push_push h s k opens)
+    ap taken (sym (append_assoc h (e ∷ []) es)) ∙
+    (taken_others es (h ++ e ∷ []) (closed_push_no h e refl ∙ opens) (own_tail (eqb s owner_seat) e es none) ∙ taken_push_push h s k opens)
 taken_others (Take ∷ es) h opens none = absurd (cc)
 taken_others (Close ∷ es) h opens none = absurd (cc)
 taken_others (Begin k ∷ es) h opens none = absurd (cc)
@@ -53,14 +58,21 @@ closed_stays : (h : List Event) (e : Event) → IsClosed h → IsClosed (h ++ e 
 closed_stays h e is = let some = sum_by-append (λ x. cond (is_close x) 1 0) h (e ∷ []) in omega arith
 
 -- once closed, nothing is accepted by what others do
-accepted_others : (layout : Layout) (after h : List Event) → IsClosed h → IsLegal layout (h ++ after) → own owner_seat after ≡ [] → accepted (h ++ after) ≡ accepted h
+accepted_others : (layout : Layout) (after h : List Event) → IsClosed h → IsLegal layout (h ++ after) → own owner_seat after ≡ []
+    → accepted (h ++ after) ≡ accepted h
 accepted_others layout [] h shut legal none = ap accepted (append-nil h)
 accepted_others layout (Hold s k ∷ es) h shut legal none = let e = Hold s k in let same = append_assoc h (e ∷ []) es in
-    ap accepted (sym same) ∙ (accepted_others layout es (h ++ e ∷ []) (closed_stays h e shut) (subst (IsLegal layout) (sym same) legal) (own_tail (eqb s owner_seat) e es none) ∙ accepted_one h e refl)
+    ap accepted (sym same) ∙
+    (accepted_others layout es (h ++ e ∷ []) (closed_stays h e shut) (subst (IsLegal layout) (sym same) legal)
+    (own_tail (eqb s owner_seat) e es none) ∙ accepted_one h e refl)
 accepted_others layout (Busy s k ∷ es) h shut legal none = let e = Busy s k in let same = append_assoc h (e ∷ []) es in
-    ap accepted (sym same) ∙ (accepted_others layout es (h ++ e ∷ []) (closed_stays h e shut) (subst (IsLegal layout) (sym same) legal) (own_tail (eqb s owner_seat) e es none) ∙ accepted_one h e refl)
+    ap accepted (sym same) ∙
+    (accepted_others layout es (h ++ e ∷ []) (closed_stays h e shut) (subst (IsLegal layout) (sym same) legal)
+    (own_tail (eqb s owner_seat) e es none) ∙ accepted_one h e refl)
 accepted_others layout (Back s k why ∷ es) h shut legal none = let e = Back s k why in let same = append_assoc h (e ∷ []) es in
-    ap accepted (sym same) ∙ (accepted_others layout es (h ++ e ∷ []) (closed_stays h e shut) (subst (IsLegal layout) (sym same) legal) (own_tail (eqb s owner_seat) e es none) ∙ accepted_one h e refl)
+    ap accepted (sym same) ∙
+    (accepted_others layout es (h ++ e ∷ []) (closed_stays h e shut) (subst (IsLegal layout) (sym same) legal)
+    (own_tail (eqb s owner_seat) e es none) ∙ accepted_one h e refl)
 accepted_others layout (Push s k ∷ es) h shut legal none = absurd ((legal_next layout h (Push s k) es legal).2.1 shut)
 accepted_others layout (Take ∷ es) h shut legal none = absurd (cc)
 accepted_others layout (Close ∷ es) h shut legal none = absurd (cc)
@@ -70,50 +82,74 @@ accepted_others layout (Chain k ∷ es) h shut legal none = absurd (cc)
 accepted_others layout (ChainBusy k ∷ es) h shut legal none = absurd (cc)
 
 -- what is accepted has begun, is in the batch, or is on the list
-pub rested_lengths : (m : Machine) → IsSound m → m.cursor ≡ None → length (accepted m.history) ≡ length (begun m.history) + length m.batch + length (listed m.history)
+pub rested_lengths : (m : Machine) → IsSound m → m.cursor ≡ None
+    → length (accepted m.history) ≡ length (begun m.history) + length m.batch + length (listed m.history)
 rested_lengths m o still =
     let a = o.chains in let done : m.walked ≡ [] = a.rested still in
-    let none : a.remaining ≡ [] = chain_zero (number_count m.layout) m.words a.remaining (subst (λ (c : Option ℕ). IsChain (number_count m.layout) m.words (word_at c) a.remaining) still a.walk_chain) in
+    let none : a.remaining ≡ [] = chain_zero (number_count m.layout) m.words a.remaining
+    (subst (λ (c : Option ℕ). IsChain (number_count m.layout) m.words (word_at c) a.remaining) still a.walk_chain) in
     let mid : reverse_aux a.remaining m.walked ≡ [] = λ i. reverse_aux (none i) (done i) in
-    omega (arith, ap (λ (x : List ℕ). length x) a.order, length-append (begun m.history ++ (m.batch ++ reverse_aux a.remaining m.walked)) (reverse (listed m.history)), length-append (begun m.history) (m.batch ++ reverse_aux a.remaining m.walked), length-append m.batch (reverse_aux a.remaining m.walked), length-reverse (listed m.history), ap (λ (x : List ℕ). length x) mid)
+    omega (
+      arith,
+      ap (λ (x : List ℕ). length x) a.order,
+      length-append (begun m.history ++ (m.batch ++ reverse_aux a.remaining m.walked)) (reverse (listed m.history)),
+      length-append (begun m.history) (m.batch ++ reverse_aux a.remaining m.walked),
+      length-append m.batch (reverse_aux a.remaining m.walked),
+      length-reverse (listed m.history),
+      ap (λ (x : List ℕ). length x) mid,
+    )
 
-pub all_of : (layout : Layout) (e : Event) (before after h : List Event) (ks js : List ℕ) (count : ℕ) → IsLegal layout before → ¬ IsClosed before → h ≡ before ++ e ∷ after → own owner_seat after ≡ []
-    → begun h ≡ begun before → take (taken h) (accepted h) ≡ accepted before → length (accepted before) ≡ length (begun before) + length ks + length (listed before) → js ≡ batch h → count + length ks ≡ length js → TakesAll e count h
+pub all_of : (layout : Layout) (e : Event) (before after h : List Event) (ks js : List ℕ) (count : ℕ) → IsLegal layout before → ¬ IsClosed before
+    → h ≡ before ++ e ∷ after → own owner_seat after ≡ []
+    → begun h ≡ begun before → take (taken h) (accepted h) ≡ accepted before
+    → length (accepted before) ≡ length (begun before) + length ks + length (listed before) → js ≡ batch h → count + length ks ≡ length js
+    → TakesAll e count h
 all_of layout e before after h ks js count legal opens is none same all sum batch_is total = record {
   before = before;
   after = after;
   is = is;
   last = none;
-  count_is = let fresh_is = fresh-open layout before legal opens in let long = ap (λ (x : List ℕ). length x) (batch_is ∙ left) in let cut = length-drop (length (begun before)) (accepted before) in omega arith;
+  count_is = let fresh_is = fresh-open layout before legal opens in let long = ap (λ (x : List ℕ). length x) (batch_is ∙ left) in
+      let cut = length-drop (length (begun before)) (accepted before) in omega arith;
   batch_is = left;
 }
   where
     left : batch h ≡ drop (length (begun before)) (accepted before)
     left = λ i. drop (length (same i)) (all i)
 
-pub takes_all : (layout : Layout) (before after h : List Event) (ks js : List ℕ) (count : ℕ) → IsLegal layout h → h ≡ before ++ Take ∷ after → own owner_seat after ≡ []
-    → length (accepted before) ≡ length (begun before) + length ks + length (listed before) → js ≡ batch h → count + length ks ≡ length js → TakesAll Take count h
+pub takes_all : (layout : Layout) (before after h : List Event) (ks js : List ℕ) (count : ℕ) → IsLegal layout h → h ≡ before ++ Take ∷ after
+    → own owner_seat after ≡ []
+    → length (accepted before) ≡ length (begun before) + length ks + length (listed before) → js ≡ batch h → count + length ks ≡ length js
+    → TakesAll Take count h
 takes_all layout before after h ks js count legal is none sum batch_is total =
     let whole : IsLegal layout (before ++ Take ∷ after) = subst (IsLegal layout) is legal in let legal' = legal_front layout before (Take ∷ after) whole in
     let opens : ¬ IsClosed before = (legal_next layout before Take after whole).2 in let shut = closed_from_open before opens in
-    let g : Grows owner_seat (Take ∷ []) 0 before h = record { new = Take ∷ after; is = is; mine = ap (λ (x : List Event). Take ∷ x) none; theirs = omega arith } in
+    let g : Grows owner_seat
+    (Take ∷ []) 0 before h = record { new = Take ∷ after; is = is; mine = ap (λ (x : List Event). Take ∷ x) none; theirs = omega arith } in
     let same : begun h ≡ begun before = begun_on (Take ∷ []) 0 before h g ∙ append-nil (begun before) in
-    let took : taken h ≡ length (accepted before) = ap taken (is ∙ sym (append_assoc before (Take ∷ []) after)) ∙ (taken_others after (before ++ Take ∷ []) (closed_push_no before Take refl ∙ shut) none ∙ (taken_push_take before shut ∙ (is_listed layout before legal').open_pushes shut)) in
+    let took : taken h ≡ length (accepted before) = ap taken (is ∙ sym (append_assoc before (Take ∷ []) after)) ∙
+    (taken_others after (before ++ Take ∷ []) (closed_push_no before Take refl ∙ shut) none ∙
+    (taken_push_take before shut ∙ (is_listed layout before legal').open_pushes shut)) in
     let parts : accepted h ≡ accepted before ++ accepted (Take ∷ after) = ap accepted is ∙ filter_map-append accepted_by before (Take ∷ after) in
     let all : take (taken h) (accepted h) ≡ accepted before = (λ i. take (took i) (parts i)) ∙ take_length (accepted before) (accepted (Take ∷ after)) in
     all_of layout Take before after h ks js count legal' opens is none same all sum batch_is total
 
-pub closes_all : (layout : Layout) (before after h : List Event) (ks js : List ℕ) (count : ℕ) → IsLegal layout h → h ≡ before ++ Close ∷ after → own owner_seat after ≡ []
-    → length (accepted before) ≡ length (begun before) + length ks + length (listed before) → js ≡ batch h → count + length ks ≡ length js → TakesAll Close count h
+pub closes_all : (layout : Layout) (before after h : List Event) (ks js : List ℕ) (count : ℕ) → IsLegal layout h → h ≡ before ++ Close ∷ after
+    → own owner_seat after ≡ []
+    → length (accepted before) ≡ length (begun before) + length ks + length (listed before) → js ≡ batch h → count + length ks ≡ length js
+    → TakesAll Close count h
 closes_all layout before after h ks js count legal is none sum batch_is total =
     let whole : IsLegal layout (before ++ Close ∷ after) = subst (IsLegal layout) is legal in let legal' = legal_front layout before (Close ∷ after) whole in
     let opens : ¬ IsClosed before = (legal_next layout before Close after whole).2 in
-    let g : Grows owner_seat (Close ∷ []) 0 before h = record { new = Close ∷ after; is = is; mine = ap (λ (x : List Event). Close ∷ x) none; theirs = omega arith } in
+    let g : Grows owner_seat
+    (Close ∷ []) 0 before h = record { new = Close ∷ after; is = is; mine = ap (λ (x : List Event). Close ∷ x) none; theirs = omega arith } in
     let same : begun h ≡ begun before = begun_on (Close ∷ []) 0 before h g ∙ append-nil (begun before) in
     let now : IsClosed h = omega (arith, closes_on (Close ∷ []) 0 before h g) in
     let split : h ≡ (before ++ Close ∷ []) ++ after = is ∙ sym (append_assoc before (Close ∷ []) after) in
     let mid : IsClosed (before ++ Close ∷ []) = omega (arith, sum_by-append (λ x. cond (is_close x) 1 0) before (Close ∷ [])) in
-    let parts : accepted h ≡ accepted before = ap accepted split ∙ (accepted_others layout after (before ++ Close ∷ []) mid (subst (IsLegal layout) split legal) none ∙ accepted_one before Close refl) in
+    let parts : accepted h ≡ accepted before = ap accepted split ∙
+    (accepted_others layout after (before ++ Close ∷ []) mid (subst (IsLegal layout) split legal) none ∙ accepted_one before Close refl) in
     let took : taken h ≡ length (accepted before) = taken_closed h (closed_from_IsClosed h now) ∙ ap (λ (x : List ℕ). length x) parts in
-    let all : take (taken h) (accepted h) ≡ accepted before = (λ i. take (took i) (parts i)) ∙ (ap (take (length (accepted before))) (sym (append-nil (accepted before))) ∙ take_length (accepted before) []) in
+    let all : take (taken h) (accepted h) ≡ accepted before = (λ i. take (took i) (parts i)) ∙
+    (ap (take (length (accepted before))) (sym (append-nil (accepted before))) ∙ take_length (accepted before) []) in
     all_of layout Close before after h ks js count legal' opens is none same all sum batch_is total

@@ -28,29 +28,39 @@ pub followed : (xs : List Event) (n : ℕ) (p q r : Part) → TellsSo xs n p q �
 followed xs n p q r told follows stands = record {
   layout_is = follows.layout_is ∙ told.layout_is;
   seat_is = follows.seat_is ∙ told.seat_is;
-  grows = subst (λ (ys : List Event). Grows p.seat ys n p.seen r.seen) (append-nil xs) (grows_on p.seat xs [] n 0 n p.seen q.seen r.seen (omega arith) told.grows (subst (λ (c : ℕ). Grows c [] 0 q.seen r.seen) told.seat_is follows.grows));
+  grows = subst (λ (ys : List Event). Grows p.seat ys n p.seen r.seen) (append-nil xs)
+      (grows_on p.seat xs [] n 0 n p.seen q.seen r.seen (omega arith) told.grows (subst (λ (c : ℕ). Grows c [] 0 q.seen r.seen) told.seat_is follows.grows));
   legal = subst (λ (l : Layout). IsLegal l r.seen) (follows.layout_is ∙ told.layout_is) (stands_legal r stands);
 }
 
-module _ (word : ℕ) (p q r : Part) (ks js : List ℕ) (count : ℕ) (mine : p.seat ≡ owner_seat) (stage : p.stage ≡ Owns None [] ks) (follows : OnlySees q r) (stands : Stands r) (stage' : r.stage ≡ Owns None [] js) (total : count + length ks ≡ length js) where
-  lengths : (m : Machine) → IsSound m → HasStage m p.seat p.stage → length (accepted m.history) ≡ length (begun m.history) + length ks + length (listed m.history)
+module _ (word : ℕ) (p q r : Part) (ks js : List ℕ) (count : ℕ) (mine : p.seat ≡ owner_seat) (stage : p.stage ≡ Owns None [] ks)
+    (follows : OnlySees q r) (stands : Stands r) (stage' : r.stage ≡ Owns None [] js) (total : count + length ks ≡ length js) where
+  lengths : (m : Machine) → IsSound m → HasStage m p.seat p.stage
+      → length (accepted m.history) ≡ length (begun m.history) + length ks + length (listed m.history)
   lengths m sound keeps =
-      let kept : HasStage m p.seat (Owns None [] ks) = subst (HasStage m p.seat) stage keeps in let same = ap (λ (x : List ℕ). length x) kept.3 in omega (arith, rested_lengths m sound kept.1)
+      let kept : HasStage m p.seat (Owns None [] ks) = subst (HasStage m p.seat) stage keeps in let same = ap (λ (x : List ℕ). length x) kept.3 in
+      omega (arith, rested_lengths m sound kept.1)
 
   none_after : q.seat ≡ p.seat → own owner_seat follows.grows.new ≡ []
   none_after seat = subst (λ (c : ℕ). own c follows.grows.new ≡ []) (seat ∙ mine) follows.grows.mine
 
   pub take_takes : Makes Take word p q → TakesAll event.Take count r.seen
   take_takes makes = let m = makes.before in
-      let seen : q.seen ≡ m.history ++ event.Take ∷ [] = seen_after Take word p q makes _ (event.Take ∷ []) (after_take m p.seat p.stage (owner_of p.stage ks stage)) refl in
-      let is : r.seen ≡ m.history ++ event.Take ∷ follows.grows.new = follows.grows.is ∙ (ap (λ (x : List Event). x ++ follows.grows.new) seen ∙ append_assoc m.history (event.Take ∷ []) follows.grows.new) in
-      takes_all r.layout m.history follows.grows.new r.seen ks js count (stands_legal r stands) is (none_after makes.seat_is) (lengths m makes.sound makes.fits.keeps) (stands_batch r js stands stage') total
+      let seen : q.seen ≡ m.history ++ event.Take ∷ [] = seen_after Take word p q makes _ (event.Take ∷ [])
+      (after_take m p.seat p.stage (owner_of p.stage ks stage)) refl in
+      let is : r.seen ≡ m.history ++ event.Take ∷ follows.grows.new = follows.grows.is ∙
+      (ap (λ (x : List Event). x ++ follows.grows.new) seen ∙ append_assoc m.history (event.Take ∷ []) follows.grows.new) in
+      takes_all r.layout m.history follows.grows.new r.seen ks js count (stands_legal r stands) is (none_after makes.seat_is)
+      (lengths m makes.sound makes.fits.keeps) (stands_batch r js stands stage') total
 
   pub close_takes : Makes Close word p q → TakesAll event.Close count r.seen
   close_takes makes = let m = makes.before in
-      let seen : q.seen ≡ m.history ++ event.Close ∷ [] = seen_after Close word p q makes _ (event.Close ∷ []) (after_close m p.seat p.stage (owner_of p.stage ks stage)) refl in
-      let is : r.seen ≡ m.history ++ event.Close ∷ follows.grows.new = follows.grows.is ∙ (ap (λ (x : List Event). x ++ follows.grows.new) seen ∙ append_assoc m.history (event.Close ∷ []) follows.grows.new) in
-      closes_all r.layout m.history follows.grows.new r.seen ks js count (stands_legal r stands) is (none_after makes.seat_is) (lengths m makes.sound makes.fits.keeps) (stands_batch r js stands stage') total
+      let seen : q.seen ≡ m.history ++ event.Close ∷ [] = seen_after Close word p q makes _ (event.Close ∷ [])
+      (after_close m p.seat p.stage (owner_of p.stage ks stage)) refl in
+      let is : r.seen ≡ m.history ++ event.Close ∷ follows.grows.new = follows.grows.is ∙
+      (ap (λ (x : List Event). x ++ follows.grows.new) seen ∙ append_assoc m.history (event.Close ∷ []) follows.grows.new) in
+      closes_all r.layout m.history follows.grows.new r.seen ks js count (stands_legal r stands) is (none_after makes.seat_is)
+      (lengths m makes.sound makes.fits.keeps) (stands_batch r js stands stage') total
 
 -- what was seen without an event of one's own, and a step after it
 pub sees_tells : (p q : Part) → OnlySees p q → Stands q → Tells [] p q
@@ -72,7 +82,8 @@ pub follows_on : (p q r : Part) → OnlySees p q → Tells [] q r → OnlySees p
 follows_on p q r follows told = record {
   layout_is = told.layout_is ∙ follows.layout_is;
   seat_is = told.seat_is ∙ follows.seat_is;
-  grows = grows_on p.seat [] [] 0 0 0 p.seen q.seen r.seen (omega arith) follows.grows (subst (λ (c : ℕ). Grows c [] 0 q.seen r.seen) follows.seat_is told.grows);
+  grows = grows_on p.seat [] [] 0 0 0 p.seen q.seen r.seen (omega arith) follows.grows
+      (subst (λ (c : ℕ). Grows c [] 0 q.seen r.seen) follows.seat_is told.grows);
 }
 
 pub follows_none : (p : Part) → OnlySees p p

@@ -50,25 +50,30 @@ pub tells_then : (ys : ℕ → List Event) (n m : ℕ) (p q r : Part) → TellsS
 tells_then ys n m p q r a b = record {
   layout_is = b.layout_is ∙ a.layout_is;
   seat_is = b.seat_is ∙ a.seat_is;
-  grows = grows_on p.seat [] (ys p.seat) n m (n + m) p.seen q.seen r.seen (omega arith) a.grows (subst (λ (c : ℕ). Grows c (ys c) m q.seen r.seen) a.seat_is b.grows);
+  grows = grows_on p.seat [] (ys p.seat) n m (n + m) p.seen q.seen r.seen (omega arith) a.grows
+      (subst (λ (c : ℕ). Grows c (ys c) m q.seen r.seen) a.seat_is b.grows);
   legal = subst (λ (l : Layout). IsLegal l r.seen) a.layout_is b.legal;
 }
 
 -- where the head is another and no own event came, another's came
 pub tells_others : (w : ℕ) (p q : Part) → head_word (head_of p.seen) ≡ w → head_word (head_of q.seen) ≢ w → Tells [] p q → TellsSo [] 1 p q
-tells_others w p q was is told = record { layout_is = told.layout_is; seat_is = told.seat_is; grows = grows_others p.seat p.seen q.seen w was is told.grows; legal = told.legal }
+tells_others w p q was is told = record
+    { layout_is = told.layout_is; seat_is = told.seat_is; grows = grows_others p.seat p.seen q.seen w was is told.grows; legal = told.legal }
 
 module _ (step : Step) (word : ℕ) (p q : Part) (makes : Makes step word p q) where
   pub next : Machine
   next = after makes.before (seat_at p.seat p.stage) step
 
-  pub seen_after : (n : Machine) (xs : List Event) → after makes.before (seat_at p.seat p.stage) step ≡ n → n.history ≡ makes.before.history ++ xs → q.seen ≡ makes.before.history ++ xs
+  pub seen_after : (n : Machine) (xs : List Event) → after makes.before (seat_at p.seat p.stage) step ≡ n → n.history ≡ makes.before.history ++ xs
+      → q.seen ≡ makes.before.history ++ xs
   seen_after n xs is history = makes.seen_is ∙ (ap (λ (x : Machine). x.history) is ∙ history)
 
-  pub tells : (n : Machine) (xs : List Event) → after makes.before (seat_at p.seat p.stage) step ≡ n → n.layout ≡ makes.before.layout → n.history ≡ makes.before.history ++ xs → own p.seat xs ≡ xs → Tells xs p q
+  pub tells : (n : Machine) (xs : List Event) → after makes.before (seat_at p.seat p.stage) step ≡ n → n.layout ≡ makes.before.layout
+      → n.history ≡ makes.before.history ++ xs → own p.seat xs ≡ xs → Tells xs p q
   tells n xs is layout history all =
       let f = makes.fits in
-      let same : (after makes.before (seat_at p.seat p.stage) step).layout ≡ p.layout = ap (λ (x : Machine). x.layout) is ∙ (layout ∙ sym f.layout_is) in record {
+      let same : (after makes.before (seat_at p.seat p.stage) step).layout ≡ p.layout = ap (λ (x : Machine). x.layout) is ∙
+      (layout ∙ sym f.layout_is) in record {
         layout_is = makes.fits_after.layout_is ∙ same;
         seat_is = makes.seat_is;
         grows = subst (Grows p.seat xs 0 p.seen) (sym (seen_after n xs is history)) (grows_done p.seat p.seen makes.before.history xs f.begins f.mine all);
@@ -95,20 +100,26 @@ sender_after (Owns a b d) step word is = elim is [ ]
 pub sender_made : (step : Step) (word : ℕ) (p q : Part) → Makes step word p q → IsSender p.stage → IsSender q.stage
 sender_made step word p q makes is = subst IsSender (sym makes.stage_is) (sender_after p.stage step word is)
 
-after_hold : (m : Machine) (c k : ℕ) (st : Stage) → IsSender st → after m (seat_at c st) (Hold k) ≡ (if item_word m k == 0 then happened (with_item m k 1) (event.Hold c k) else happened m (event.Busy c k))
+after_hold : (m : Machine) (c k : ℕ) (st : Stage) → IsSender st
+    → after m (seat_at c st) (Hold k) ≡ (if item_word m k == 0 then happened (with_item m k 1) (event.Hold c k) else happened m (event.Busy c k))
 after_hold m c k (Sends r) is = refl
 after_hold m c k (Owns a b d) is = elim is [ ]
 
-pub hold_tells : (k word : ℕ) (p q : Part) → IsSender p.stage → Makes (Hold k) word p q → MatchBool (word == 0) (Tells (event.Hold p.seat k ∷ []) p q) (Tells (event.Busy p.seat k ∷ []) p q)
+pub hold_tells : (k word : ℕ) (p q : Part) → IsSender p.stage → Makes (Hold k) word p q
+    → MatchBool (word == 0) (Tells (event.Hold p.seat k ∷ []) p q) (Tells (event.Busy p.seat k ∷ []) p q)
 hold_tells k word p q is makes =
-    subst (λ (w : ℕ). MatchBool (w == 0) (Tells (event.Hold p.seat k ∷ []) p q) (Tells (event.Busy p.seat k ∷ []) p q)) (sym makes.word_is) (go (item_word makes.before k == 0) (after_hold makes.before p.seat k p.stage is))
+    subst (λ (w : ℕ). MatchBool (w == 0) (Tells (event.Hold p.seat k ∷ []) p q) (Tells (event.Busy p.seat k ∷ []) p q)) (sym makes.word_is)
+    (go (item_word makes.before k == 0) (after_hold makes.before p.seat k p.stage is))
   where
-    go : (b : Bool) → after makes.before (seat_at p.seat p.stage) (Hold k) ≡ (if b then happened (with_item makes.before k 1) (event.Hold p.seat k) else happened makes.before (event.Busy p.seat k))
+    go : (b : Bool)
+        → after makes.before (seat_at p.seat p.stage) (Hold k) ≡
+        (if b then happened (with_item makes.before k 1) (event.Hold p.seat k) else happened makes.before (event.Busy p.seat k))
         → MatchBool b (Tells (event.Hold p.seat k ∷ []) p q) (Tells (event.Busy p.seat k ∷ []) p q)
     go true e = tells (Hold k) word p q makes _ _ e refl refl (own_one p.seat (event.Hold p.seat k) refl)
     go false e = tells (Hold k) word p q makes _ _ e refl refl (own_one p.seat (event.Busy p.seat k) refl)
 
-after_look : (m : Machine) (c : ℕ) (st : Stage) → IsSender st → after m (seat_at c st) Look ≡ with_private m c (record { seen = Some (head m); linked = None })
+after_look : (m : Machine) (c : ℕ) (st : Stage) → IsSender st
+    → after m (seat_at c st) Look ≡ with_private m c (record { seen = Some (head m); linked = None })
 after_look m c (Sends r) is = refl
 after_look m c (Owns a b d) is = elim is [ ]
 
@@ -125,11 +136,13 @@ pub look_tells : (word : ℕ) (p q : Part) → IsSender p.stage → Makes Look w
 look_tells word p q is makes =
     let e = after_look makes.before p.seat p.stage is in record {
       told = tells Look word p q makes _ [] e refl (sym (append-nil makes.before.history)) refl;
-      head_is = ap (λ (h : List Event). head_word (head_of h)) (makes.seen_is ∙ ap (λ (x : Machine). x.history) e) ∙ (sym makes.sound.head_is ∙ sym makes.word_is);
+      head_is = ap (λ (h : List Event). head_word (head_of h)) (makes.seen_is ∙ ap (λ (x : Machine). x.history) e) ∙
+          (sym makes.sound.head_is ∙ sym makes.word_is);
       has_seen = subst (HasSeen word) (sym makes.stage_is) (seen_look word p.stage is);
     }
 
-after_link : (m : Machine) (c k : ℕ) (st : Stage) → IsSender st → after m (seat_at c st) (Link k) ≡ with_private (with_link m k (seen_word m c)) c (record (private m c) { linked = Some k })
+after_link : (m : Machine) (c k : ℕ) (st : Stage) → IsSender st
+    → after m (seat_at c st) (Link k) ≡ with_private (with_link m k (seen_word m c)) c (record (private m c) { linked = Some k })
 after_link m c k (Sends r) is = refl
 after_link m c k (Owns a b d) is = elim is [ ]
 
@@ -147,7 +160,8 @@ pub record Links (k word : ℕ) (p q : Part) : Type 0 where
 
 pub link_tells : (k word found : ℕ) (p q : Part) → HasSeen word p.stage → Makes (Link k) found p q → Links k word p q
 link_tells k word found p q is makes = record {
-  told = tells (Link k) found p q makes _ [] (after_link makes.before p.seat k p.stage (seen_sender word p.stage is)) refl (sym (append-nil makes.before.history)) refl;
+  told = tells (Link k) found p q makes _ [] (after_link makes.before p.seat k p.stage (seen_sender word p.stage is)) refl
+      (sym (append-nil makes.before.history)) refl;
   has_linked = subst (HasLinked word k) (sym makes.stage_is) (linked_link k word found p.stage is);
 }
 
@@ -158,10 +172,12 @@ empty_head (k ∷ ks) = ne_eqb (k + 1) 0 (λ e. omega arith) ∙ sym (ne_eqb (le
 
 pub first_head : (layout : Layout) (h : List Event) → IsLegal layout h → ¬ IsClosed h → (head_word (head_of h) == 0) ≡ first h
 first_head layout h legal opens =
-    ap (λ (b : Bool). head_word (if b then Closed else head_of_list (listed h)) == 0) (closed_from_open h opens) ∙ (empty_head (listed h) ∙ ap (λ (n : ℕ). n == 0) (sym (fresh-open layout h legal opens)))
+    ap (λ (b : Bool). head_word (if b then Closed else head_of_list (listed h)) == 0) (closed_from_open h opens) ∙
+    (empty_head (listed h) ∙ ap (λ (n : ℕ). n == 0) (sym (fresh-open layout h legal opens)))
 
 after_push : (m : Machine) (c k w : ℕ) (st : Stage) → HasLinked w k st → HasStage m c st
-    → after m (seat_at c st) (Push k) ≡ (if head m == w then happened (with_private (with_head m (k + 1)) c nothing_seen) (event.Push c k) else with_private m c nothing_seen)
+    → after m (seat_at c st) (Push k) ≡
+    (if head m == w then happened (with_private (with_head m (k + 1)) c nothing_seen) (event.Push c k) else with_private m c nothing_seen)
 after_push m c k w (Sends r) is keeps =
     ap (λ (x : ℕ). if head m == x then happened (with_private (with_head m (k + 1)) c nothing_seen) (event.Push c k) else with_private m c nothing_seen)
     (ap (λ (x : Private). unwrap_or x.seen 0) keeps.1 ∙ ap (λ (o : Option ℕ). unwrap_or o 0) is.0)
@@ -183,9 +199,11 @@ pub record Loses (w : ℕ) (p q : Part) : Type 0 where
 
 pub push_tells : (k w word : ℕ) (p q : Part) → HasLinked w k p.stage → Makes (Push k) word p q → MatchBool (word == w) (Wins k w p q) (Loses w p q)
 push_tells k w word p q is makes =
-    subst (λ (x : ℕ). MatchBool (x == w) (Wins k w p q) (Loses w p q)) (sym makes.word_is) (go (head makes.before == w) refl (after_push makes.before p.seat k w p.stage is makes.fits.keeps))
+    subst (λ (x : ℕ). MatchBool (x == w) (Wins k w p q) (Loses w p q)) (sym makes.word_is)
+    (go (head makes.before == w) refl (after_push makes.before p.seat k w p.stage is makes.fits.keeps))
   where
-    won : after makes.before (seat_at p.seat p.stage) (Push k) ≡ happened (with_private (with_head makes.before (k + 1)) p.seat nothing_seen) (event.Push p.seat k) → (head makes.before == w) ≡ true → Wins k w p q
+    won : after makes.before (seat_at p.seat p.stage) (Push k) ≡ happened (with_private (with_head makes.before (k + 1)) p.seat nothing_seen)
+        (event.Push p.seat k) → (head makes.before == w) ≡ true → Wins k w p q
     won e same = let m = makes.before in let h = m.history in
         let seen : q.seen ≡ h ++ event.Push p.seat k ∷ [] = seen_after (Push k) word p q makes _ _ e refl in
         let told : Tells (event.Push p.seat k ∷ []) p q = tells (Push k) word p q makes _ _ e refl refl (own_one p.seat (event.Push p.seat k) refl) in
@@ -200,23 +218,30 @@ push_tells k w word p q is makes =
           };
         }
 
-    lost : after makes.before (seat_at p.seat p.stage) (Push k) ≡ with_private makes.before p.seat nothing_seen → (head makes.before == w) ≡ false → Loses w p q
+    lost : after makes.before (seat_at p.seat p.stage) (Push k) ≡ with_private makes.before p.seat nothing_seen → (head makes.before == w) ≡ false
+        → Loses w p q
     lost e other = let m = makes.before in record {
       told = tells (Push k) word p q makes _ [] e refl (sym (append-nil m.history)) refl;
-      head_is = λ same. eqb-false (head m) w other (makes.sound.head_is ∙ (ap (λ (h : List Event). head_word (head_of h)) (sym (makes.seen_is ∙ ap (λ (x : Machine). x.history) e)) ∙ same));
+      head_is = λ same. eqb-false (head m) w other (makes.sound.head_is ∙
+          (ap (λ (h : List Event). head_word (head_of h)) (sym (makes.seen_is ∙ ap (λ (x : Machine). x.history) e)) ∙ same));
     }
 
-    go : (b : Bool) → (head makes.before == w) ≡ b → after makes.before (seat_at p.seat p.stage) (Push k) ≡ (if b then happened (with_private (with_head makes.before (k + 1)) p.seat nothing_seen) (event.Push p.seat k) else with_private makes.before p.seat nothing_seen)
+    go : (b : Bool) → (head makes.before == w) ≡ b
+        → after makes.before (seat_at p.seat p.stage) (Push k) ≡
+        (if b then happened (with_private (with_head makes.before (k + 1)) p.seat nothing_seen)
+        (event.Push p.seat k) else with_private makes.before p.seat nothing_seen)
         → MatchBool b (Wins k w p q) (Loses w p q)
     go true same e = won e same
     go false other e = lost e other
 
-after_back : (m : Machine) (c k : ℕ) (why : Why) (st : Stage) → IsSender st → after m (seat_at c st) (Back k why) ≡ happened (with_private (with_item m k 0) c (unlinked (private m c) k)) (event.Back c k why)
+after_back : (m : Machine) (c k : ℕ) (why : Why) (st : Stage) → IsSender st
+    → after m (seat_at c st) (Back k why) ≡ happened (with_private (with_item m k 0) c (unlinked (private m c) k)) (event.Back c k why)
 after_back m c k why (Sends r) is = refl
 after_back m c k why (Owns a b d) is = elim is [ ]
 
 pub back_tells : (k word : ℕ) (why : Why) (p q : Part) → IsSender p.stage → Makes (Back k why) word p q → Tells (event.Back p.seat k why ∷ []) p q
-back_tells k word why p q is makes = tells (Back k why) word p q makes _ _ (after_back makes.before p.seat k why p.stage is) refl refl (own_one p.seat (event.Back p.seat k why) refl)
+back_tells k word why p q is makes = tells (Back k why) word p q makes _ _ (after_back makes.before p.seat k why p.stage is) refl refl
+    (own_one p.seat (event.Back p.seat k why) refl)
 
 after_check : (m : Machine) (c k : ℕ) (st : Stage) → IsSender st → after m (seat_at c st) (Check k) ≡ m
 after_check m c k (Sends r) is = refl
@@ -235,7 +260,9 @@ check_tells k word p q is small makes =
     let m = makes.before in let e = after_check m p.seat k p.stage is in
     let seen : m.history ≡ q.seen = sym (makes.seen_is ∙ ap (λ (x : Machine). x.history) e) in record {
       told = tells (Check k) word p q makes _ [] e refl (sym (append-nil m.history)) refl;
-      clear = ap (λ (x : ℕ). x == 0) (makes.word_is ∙ makes.sound.items_are k (subst (λ (l : Layout). k < number_count l) makes.fits.layout_is small)) ∙ (bit (pending m.history k) ∙ ap (λ (h : List Event). not (pending h k)) seen);
+      clear = ap (λ (x : ℕ). x == 0) (makes.word_is ∙
+          makes.sound.items_are k (subst (λ (l : Layout). k < number_count l) makes.fits.layout_is small)) ∙
+          (bit (pending m.history k) ∙ ap (λ (h : List Event). not (pending h k)) seen);
     }
 
 -- what a meeting tells each of the two

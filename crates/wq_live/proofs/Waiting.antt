@@ -18,7 +18,8 @@ use Rattle.wq_words.specs.Keeper.{Keeper, Home, Sender, Listed, Owner, keeper}
 use Rattle.wq_words.proofs.Legal.{legal_induction}
 use Rattle.wq_words.proofs.Keepers.{queue_bit, kept}
 use Rattle.wq_core.specs.Machine.{Machine}
-use Rattle.wq_core.specs.Sound.{IsSound, IsChain, word_at}
+use Rattle.wq_core.specs.Words.{word_at}
+use Rattle.wq_core.specs.Sound.{IsSound, IsChain}
 use Rattle.wq_core.proofs.Chains.{times, times-cons, times-append, times-first}
 use Rattle.wq_table.specs.declared.table.Part.{Part}
 use Rattle.wq_table.specs.declared.table.Stage.TheVariants.{Owns}
@@ -30,14 +31,18 @@ any_counts q [] is = absurd (cc)
 any_counts q (x ∷ xs) is = go (eqb q x) refl (any_counts q xs)
   where
     go : (b : Bool) → eqb q x ≡ b → (list_any (eqb q) xs ≡ true → 1 ≤ times q xs) → 1 ≤ times q (x ∷ xs)
-    go true e more = let one : ◌≡◌ {A = ℕ} (cond (x == q) 1 0) 1 = ap (λ (b : Bool). cond b 1 0) (eq-eqb x q (sym (eqb-true q x e))) in omega (arith, times-cons q x xs)
+    go true e more = let one : ◌≡◌ {A = ℕ} (cond (x == q) 1 0) 1 = ap (λ (b : Bool). cond b 1 0) (eq-eqb x q (sym (eqb-true q x e))) in
+        omega (arith, times-cons q x xs)
     go false e more = let rest = more (ap (λ (b : Bool). b || list_any (eqb q) xs) (sym e) ∙ is) in omega (arith, times-cons q x xs)
 
 none_same : (x : ℕ) (ys : List ℕ) → times x ys ≡ 0 → AllByRecursion (λ y. eqb x y ≡ false) ys
 none_same x [] none = tt
 none_same x (y ∷ ys) none =
-    let count = times-cons x y ys in
-    (ne_eqb x y (λ e. let one : ◌≡◌ {A = ℕ} (cond (y == x) 1 0) 1 = ap (λ (b : Bool). cond b 1 0) (eq-eqb y x (sym e)) in omega arith), none_same x ys (omega arith))
+    let count = times-cons x y ys in (
+      ne_eqb x y (λ e. let one : ◌≡◌ {A = ℕ} (cond (y == x) 1 0) 1 = ap (λ (b : Bool). cond b 1 0) (eq-eqb y x (sym e)) in
+          omega arith),
+      none_same x ys (omega arith),
+    )
 
 distinct : (xs : List ℕ) → ((q : ℕ) → times q xs ≤ 1) → IsDistinct eqb xs
 unfolding IsDistinct
@@ -63,9 +68,12 @@ accepted_quiet h e none = filter_map-append accepted_by h (e ∷ []) ∙ (ap (λ
 
 below_event : (layout : Layout) (h : List Event) (e : Event) → IsAllowed layout h e → ((q : ℕ) → 1 ≤ times q (accepted h) → q < number_count layout)
     → (q : ℕ) → 1 ≤ times q (accepted (h ++ e ∷ [])) → q < number_count layout
-below_event layout h (Push s k) allowed before q is = one_more (accepted h) k q (number_count layout) allowed.1 (before q) (subst (λ (x : List ℕ). 1 ≤ times q x) (filter_map-append accepted_by h (Push s k ∷ [])) is)
+below_event layout h (Push s k) allowed before q is = one_more (accepted h) k q (number_count layout) allowed.1 (before q)
+    (subst (λ (x : List ℕ). 1 ≤ times q x) (filter_map-append accepted_by h (Push s k ∷ [])) is)
 below_event layout h (Chain k) allowed before q is =
-    let small = allowed.1 in one_more (accepted h) k q (number_count layout) (omega arith) (before q) (subst (λ (x : List ℕ). 1 ≤ times q x) (filter_map-append accepted_by h (Chain k ∷ [])) is)
+    let small = allowed.1 in
+    one_more (accepted h) k q (number_count layout) (omega arith) (before q)
+    (subst (λ (x : List ℕ). 1 ≤ times q x) (filter_map-append accepted_by h (Chain k ∷ [])) is)
 below_event layout h (Hold s k) allowed before q is = before q (subst (λ (x : List ℕ). 1 ≤ times q x) (accepted_quiet h (Hold s k) refl) is)
 below_event layout h (Busy s k) allowed before q is = before q (subst (λ (x : List ℕ). 1 ≤ times q x) (accepted_quiet h (Busy s k) refl) is)
 below_event layout h (Back s k why) allowed before q is = before q (subst (λ (x : List ℕ). 1 ≤ times q x) (accepted_quiet h (Back s k why) refl) is)
@@ -77,7 +85,8 @@ below_event layout h (ChainBusy k) allowed before q is = before q (subst (λ (x 
 
 -- what is accepted is below the count of numbers
 pub accepted_below : (layout : Layout) (h : List Event) → IsLegal layout h → (q : ℕ) → 1 ≤ times q (accepted h) → q < number_count layout
-accepted_below layout = legal_induction layout (λ h. (q : ℕ) → 1 ≤ times q (accepted h) → q < number_count layout) (λ q is. absurd (omega arith)) (λ h e legal allowed before. below_event layout h e allowed before)
+accepted_below layout = legal_induction layout (λ h. (q : ℕ) → 1 ≤ times q (accepted h)
+    → q < number_count layout) (λ q is. absurd (omega arith)) (λ h e legal allowed before. below_event layout h e allowed before)
 
 bit_small : (x : Keeper) → queue_bit x ≤ 1
 bit_small Home = omega arith
@@ -93,33 +102,57 @@ length_onto (x ∷ xs) ys = omega (arith, length_onto xs (x ∷ ys))
 abbrev mid_of : (m : Machine) (o : IsSound m) → List ℕ
 mid_of m o = m.batch ++ reverse_aux o.chains.remaining m.walked
 
-split_of : (m : Machine) (o : IsSound m) (q : ℕ) → times q (accepted m.history) ≡ times q (begun m.history) + times q (mid_of m o) + times q (reverse (listed m.history))
+split_of : (m : Machine) (o : IsSound m) (q : ℕ)
+    → times q (accepted m.history) ≡ times q (begun m.history) + times q (mid_of m o) + times q (reverse (listed m.history))
 split_of m o q =
-    let e = ap (times q) o.chains.order in let x = times-append q (begun m.history ++ mid_of m o) (reverse (listed m.history)) in let y = times-append q (begun m.history) (mid_of m o) in omega arith
+    let e = ap (times q) o.chains.order in let x = times-append q (begun m.history ++ mid_of m o) (reverse (listed m.history)) in
+    let y = times-append q (begun m.history) (mid_of m o) in omega arith
 
 -- what the owner took and has not begun is at most all numbers
 pub waits_few : (m : Machine) (o : IsSound m) → length m.batch + (length o.chains.remaining + length m.walked) ≤ number_count m.layout
 waits_few m o =
     let h = m.history in let a = o.chains in let mid = mid_of m o in
     let keeps : (q : ℕ) → times q (accepted h) ≡ times q (begun h) + queue_bit (keeper h q) = λ q. (kept m.layout h o.legal 0 q).2 in
-    let less = few mid (number_count m.layout) (λ q. omega (arith, split_of m o q, keeps q, bit_small (keeper h q))) (λ q is. accepted_below m.layout h o.legal q (omega (arith, split_of m o q, is))) in
+    let less = few mid (number_count m.layout) (λ q. omega (
+      arith,
+      split_of m o q,
+      keeps q,
+      bit_small (keeper h q),
+    )) (λ q is. accepted_below m.layout h o.legal q (omega (arith, split_of m o q, is))) in
     omega (arith, less, length-append m.batch (reverse_aux a.remaining m.walked), length_onto a.remaining m.walked)
 
 waits_below : (m : Machine) (o : IsSound m) (k : ℕ) → 1 ≤ times k m.batch → k < number_count m.layout
-waits_below m o k is = accepted_below m.layout m.history o.legal k (omega (arith, split_of m o k, times-append k m.batch (reverse_aux o.chains.remaining m.walked), is))
+waits_below m o k is = accepted_below m.layout m.history o.legal k (omega (
+  arith,
+  split_of m o k,
+  times-append k m.batch (reverse_aux o.chains.remaining m.walked),
+  is,
+))
 
 first_of_chain : (n : ℕ) (ws : List ℕ) (k : ℕ) (ks : List ℕ) → IsChain n ws (k + 1) ks → (k < n) × (1 ≤ length ks)
 first_of_chain n ws k [] chain = absurd (omega (arith, chain))
 first_of_chain n ws k (j ∷ js) chain = let same = chain.0 in let small = chain.1 in (omega arith, omega arith)
 
 -- the owner that walks k
-pub stands_walking : (p : Part) (k : ℕ) (walked batch : List ℕ) → Stands p → p.stage ≡ Owns (Some k) walked batch → (k < number_count p.layout) × (length batch + length walked < number_count p.layout)
+pub stands_walking : (p : Part) (k : ℕ) (walked batch : List ℕ) → Stands p → p.stage ≡ Owns (Some k) walked batch
+    → (k < number_count p.layout) × (length batch + length walked < number_count p.layout)
 stands_walking p k walked batch stands is =
-    let m = stands.machine in let o = stands.sound in let keeps : HasStage m p.seat (Owns (Some k) walked batch) = subst (HasStage m p.seat) is stands.fits.keeps in
-    let chain : IsChain (number_count m.layout) m.words (k + 1) o.chains.remaining = subst (λ (c : Option ℕ). IsChain (number_count m.layout) m.words (word_at c) o.chains.remaining) keeps.1 o.chains.walk_chain in
+    let m = stands.machine in let o = stands.sound in
+    let keeps : HasStage m p.seat (Owns (Some k) walked batch) = subst (HasStage m p.seat) is stands.fits.keeps in
+    let chain : IsChain (number_count m.layout) m.words (k + 1) o.chains.remaining = subst
+    (λ (c : Option ℕ). IsChain (number_count m.layout) m.words (word_at c) o.chains.remaining) keeps.1 o.chains.walk_chain in
     let first = first_of_chain (number_count m.layout) m.words k o.chains.remaining chain in
-    let layout : number_count p.layout ≡ number_count m.layout = ap number_count stands.fits.layout_is in
-    (omega (arith, layout, first.0), omega (arith, layout, first.1, waits_few m o, ap (λ (x : List ℕ). length x) keeps.2, ap (λ (x : List ℕ). length x) keeps.3))
+    let layout : number_count p.layout ≡ number_count m.layout = ap number_count stands.fits.layout_is in (
+      omega (arith, layout, first.0),
+      omega (
+        arith,
+        layout,
+        first.1,
+        waits_few m o,
+        ap (λ (x : List ℕ). length x) keeps.2,
+        ap (λ (x : List ℕ). length x) keeps.3,
+      ),
+    )
 
 -- the owner that has walked all
 pub stands_rested : (p : Part) (batch : List ℕ) → Stands p → p.stage ≡ Owns None [] batch → length batch ≤ number_count p.layout
@@ -131,6 +164,7 @@ stands_rested p batch stands is =
 -- the number that begins next
 pub stands_next : (p : Part) (k : ℕ) (ks : List ℕ) → Stands p → p.stage ≡ Owns None [] (k ∷ ks) → k < number_count p.layout
 stands_next p k ks stands is =
-    let m = stands.machine in let o = stands.sound in let keeps : HasStage m p.seat (Owns None [] (k ∷ ks)) = subst (HasStage m p.seat) is stands.fits.keeps in
+    let m = stands.machine in let o = stands.sound in
+    let keeps : HasStage m p.seat (Owns None [] (k ∷ ks)) = subst (HasStage m p.seat) is stands.fits.keeps in
     let layout : number_count p.layout ≡ number_count m.layout = ap number_count stands.fits.layout_is in
     omega (arith, layout, waits_below m o k (omega (arith, ap (times k) keeps.3, times-first k ks)))

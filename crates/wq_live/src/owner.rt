@@ -1,5 +1,5 @@
 //! The owner of a queue.
-ghost use Rattle.std.specs.Prelude.{◌≡◌, ◌≢◌, ℕ, ◌<◌, ◌≤◌, ◌↔◌, [], ◌∷◌, Some, None, IsSome, IfSome, length};
+ghost use Rattle.std.specs.Prelude.{◌≡◌, ◌≢◌, ℕ, ◌+◌, ◌<◌, ◌≤◌, ◌↔◌, [], ◌∷◌, Some, None, IsSome, IfSome, length};
 ghost use Rattle.wq_words.specs.declared.event.Event.TheVariants.{Take, Close, Begin, End};
 ghost use Rattle.wq_words.specs.Numbers.{number_count};
 ghost use Rattle.wq_words.specs.History.{IsClosed, closed, IsRunning, running, ended};
@@ -140,7 +140,9 @@ impl Owner {
     /// What it has seen is a legal history of its queue.
     pub fn legal(&self)
         ensures legal { IsLegal self.now.layout self.now.seen }
-    {}
+    {
+        let _ = &self.counts;
+    }
 
     /// Takes all that stands on the list, and answers how many that is (`llist_del_all`).
     pub fn take(&mut self) -> u32

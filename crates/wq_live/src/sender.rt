@@ -59,7 +59,9 @@ impl Sender {
     /// What it has seen is a legal history of its queue.
     pub fn legal(&self)
         ensures legal { IsLegal self.now.layout self.now.seen }
-    {}
+    {
+        let _ = &self.counts;
+    }
 
     /// What it has counted of its own events.
     pub fn counts(&self) -> SenderCounts
@@ -87,7 +89,9 @@ impl Sender {
         ensures { Posts number 1 result self.old self.new }
     {
         let word = self.chair.look();
-        if word == Head::Closed.to_word() {
+        let closed = Head::Closed.to_word();
+        let empty = Head::Empty.to_word();
+        if word == closed {
             self.chair.back_closed(number);
             self.counts.closed = self.counts.closed.saturating_add(1);
             return Posted::Closed;
@@ -95,7 +99,6 @@ impl Sender {
         self.chair.link(number, word);
         if self.chair.push(number, word) == word {
             self.counts.queued = self.counts.queued.saturating_add(1);
-            let empty = Head::Empty.to_word();
             return Posted::Queued {
                 first: word == empty,
             };
@@ -280,8 +283,8 @@ impl Sender {
         requires tries { 0 < tries }
         ensures { Answers (stop_number self.old.layout) tries result self.old self.new }
     {
-        let number = self.layout.stop();
-        self.queue_number(number, tries)
+        let stop = self.layout.stop();
+        self.queue_number(stop, tries)
     }
 
     /// Afterwards each has seen all that has happened, and so all that both had seen.
@@ -302,6 +305,7 @@ impl Sender {
         ensures that { Sees [] 0 owner.old owner.new }
         ensures both { owner.new.seen ≡ self.new.seen }
         ensures layout { owner.old.layout ≡ self.old.layout }
+        ensures number { self.old.number < self.old.layout.senders }
         ensures seat { owner.old.number ≡ owner_seat }
     {
         self.chair.meet(&mut owner.chair);

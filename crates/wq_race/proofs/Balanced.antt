@@ -1,5 +1,38 @@
 -- The ledgers of a race balance.
-use Rattle.std.proofs.Common.{◌≡◌, ◌≢◌, ℕ, suc, ◌+◌, ◌-◌, ◌^◌, ◌<◌, ◌≤◌, ◌⊎◌, Bool, true, false, cond, eqb, ◌==◌, List, [], ◌∷◌, ◌++◌, length, map, get_or, inl, inr, refl, sym, ap, ◌∙◌, subst, arith, eq-eqb}
+use Rattle.std.proofs.Common.{
+  ◌≡◌,
+  ◌≢◌,
+  ℕ,
+  suc,
+  ◌+◌,
+  ◌-◌,
+  ◌^◌,
+  ◌<◌,
+  ◌≤◌,
+  ◌⊎◌,
+  Bool,
+  true,
+  false,
+  cond,
+  eqb,
+  ◌==◌,
+  List,
+  [],
+  ◌∷◌,
+  ◌++◌,
+  length,
+  map,
+  get_or,
+  inl,
+  inr,
+  refl,
+  sym,
+  ap,
+  ◌∙◌,
+  subst,
+  arith,
+  eq-eqb,
+}
 use Rattle.std.specs.Prelude.{count_by}
 use Rattle.std.proofs.lemmas.Bool.{eqb-true, cases_lt}
 use Rattle.std.proofs.lemmas.List.{append-nil}
@@ -11,11 +44,12 @@ use Rattle.wq_words.specs.declared.event.Why.TheVariants as why
 use Rattle.wq_words.specs.Seen.{seat_of, own}
 use Rattle.wq_words.proofs.Seen.{count_own, own-append}
 use Rattle.wq_live.specs.Known.{Known}
-use Rattle.wq_live.specs.Counts.{capped, is_queued_by, is_pending_by, is_closed_by, is_contended_by, sender_counts, owner_counts}
+use Rattle.wq_words.specs.Counting.{is_queued_by, is_pending_by, is_closed_by, is_contended_by}
+use Rattle.wq_live.specs.Counts.{capped, sender_counts, owner_counts}
 use Rattle.wq_worker.specs.declared.book.Ledger.{Ledger}
 use Rattle.wq_worker.specs.declared.balance.Unbalanced.{Unbalanced}
 use Rattle.wq_worker.specs.declared.balance.Unbalanced.TheVariants.{Missing, Twice, Saturated}
-use Rattle.wq_worker.specs.Book.{BookState, IsMade}
+use Rattle.wq_worker.specs.Book.{BookState, IsLedgerOf}
 use Rattle.wq_worker.specs.Balance.{largest, AreWhole, AreOwnerWhole, ledgers_of, HasOne, IsFault, IsUnbalanced, of_sender, of_worker}
 use Rattle.wq_race.specs.Outcome.{ledger_of}
 use Rattle.wq_race.proofs.Whole.{queued_own}
@@ -65,8 +99,10 @@ count_few p [] = omega arith
 count_few p (e ∷ es) = at (p e) refl (count_few p es)
   where
     at : (b : Bool) → p e ≡ b → count_by p es ≤ length es → count_by p (e ∷ es) ≤ length (e ∷ es)
-    at true is few = let one : cond {A = ℕ} (p e) 1 0 ≡ 1 = ap (λ (b : Bool). cond {A = ℕ} b 1 0) is in omega (arith, few, one, sum_by-cons (λ x. cond (p x) 1 0) e es)
-    at false is few = let none : cond {A = ℕ} (p e) 1 0 ≡ 0 = ap (λ (b : Bool). cond {A = ℕ} b 1 0) is in omega (arith, few, none, sum_by-cons (λ x. cond (p x) 1 0) e es)
+    at true is few = let one : cond {A = ℕ} (p e) 1 0 ≡ 1 = ap (λ (b : Bool). cond {A = ℕ} b 1 0) is in
+        omega (arith, few, one, sum_by-cons (λ x. cond (p x) 1 0) e es)
+    at false is few = let none : cond {A = ℕ} (p e) 1 0 ≡ 0 = ap (λ (b : Bool). cond {A = ℕ} b 1 0) is in
+        omega (arith, few, none, sum_by-cons (λ x. cond (p x) 1 0) e es)
 
 whole_one : (n m : ℕ) → n ≤ m → m < 2 ^ 64 - 1 → capped n ≢ largest
 whole_one n m le few is = omega (arith, le, few, is)
@@ -78,7 +114,11 @@ whole_counts s h few =
       whole_one (count_by (is_queued_by s) h) n (omega (arith, queued_own s h, count_few (is_queued_by s) (own s h))) few,
       whole_one (count_by (is_pending_by s) h) n (omega (arith, count_own (is_pending_by s) s (pending_own s) h, count_few (is_pending_by s) (own s h))) few,
       whole_one (count_by (is_closed_by s) h) n (omega (arith, count_own (is_closed_by s) s (closed_own s) h, count_few (is_closed_by s) (own s h))) few,
-      whole_one (count_by (is_contended_by s) h) n (omega (arith, count_own (is_contended_by s) s (contended_own s) h, count_few (is_contended_by s) (own s h))) few,
+      whole_one (count_by (is_contended_by s) h) n (omega (
+        arith,
+        count_own (is_contended_by s) s (contended_own s) h,
+        count_few (is_contended_by s) (own s h),
+      )) few,
     )
 
 -- senders numbered from b on
@@ -112,7 +152,8 @@ none_at s b (x ∷ xs) all out =
     further (inl lt) = inl (omega (arith, lt))
     further (inr le) = inr (omega (arith, le))
 
-one_at : (s b : ℕ) (xs : List Known) (d : Known) → AreNumbered b xs → b ≤ s → s < b + length xs → ledgers_of s (map ledger_of xs) ≡ ledger_of (get_or xs (s - b) d) ∷ []
+one_at : (s b : ℕ) (xs : List Known) (d : Known) → AreNumbered b xs → b ≤ s → s < b + length xs
+    → ledgers_of s (map ledger_of xs) ≡ ledger_of (get_or xs (s - b) d) ∷ []
 one_at s b [] d all low high = absurd (omega (arith, low, high))
 one_at s b (x ∷ xs) d all low high =
     let at : x.number ≡ b = all 0 x (omega arith) ∙ omega arith in
@@ -120,7 +161,8 @@ one_at s b (x ∷ xs) d all low high =
       | inl more ↦
           let rest = one_at s (b + 1) xs d (numbered_rest b x xs all) (omega (arith, more)) (omega (arith, high)) in
           let place : s - b ≡ suc (s - (b + 1)) = omega (arith, more) in
-          skip s (ledger_of x) (map ledger_of xs) (λ is. omega (arith, is, at, more)) ∙ (rest ∙ ap (λ (i : ℕ). ledger_of (get_or (x ∷ xs) i d) ∷ []) (sym place))
+          skip s (ledger_of x) (map ledger_of xs) (λ is. omega (arith, is, at, more))
+          ∙ (rest ∙ ap (λ (i : ℕ). ledger_of (get_or (x ∷ xs) i d) ∷ []) (sym place))
       | inr le ↦
           let same : x.number ≡ s = omega (arith, at, low, le) in
           let place : s - b ≡ 0 = omega (arith, le) in
@@ -128,13 +170,16 @@ one_at s b (x ∷ xs) d all low high =
     ]
 
 -- each sender's ledger, and the program's behind them
-pub one_ledger : (n s : ℕ) (xs : List Known) (program d : Known) → AreNumbered 0 xs → length xs ≡ n → program.number ≡ n + 1 → s < n → ledgers_of s (map ledger_of xs ++ ledger_of program ∷ []) ≡ ledger_of (get_or xs s d) ∷ []
+pub one_ledger : (n s : ℕ) (xs : List Known) (program d : Known) → AreNumbered 0 xs → length xs ≡ n → program.number ≡ n + 1 → s < n
+    → ledgers_of s (map ledger_of xs ++ ledger_of program ∷ []) ≡ ledger_of (get_or xs s d) ∷ []
 one_ledger n s xs program d all count last lt =
     let place : s - 0 ≡ s = omega arith in
     filter-append (λ (l : Ledger). l.number == s) (map ledger_of xs) (ledger_of program ∷ [])
-    ∙ ((λ i. one_at s 0 xs d all (omega arith) (omega (arith, lt, count)) i ++ skip s (ledger_of program) [] (λ is. omega (arith, is, last, lt)) i) ∙ (append-nil (ledger_of (get_or xs (s - 0) d) ∷ []) ∙ ap (λ (i : ℕ). ledger_of (get_or xs i d) ∷ []) place))
+    ∙ ((λ i. one_at s 0 xs d all (omega arith) (omega (arith, lt, count)) i ++ skip s (ledger_of program) [] (λ is. omega (arith, is, last, lt)) i)
+    ∙ (append-nil (ledger_of (get_or xs (s - 0) d) ∷ []) ∙ ap (λ (i : ℕ). ledger_of (get_or xs i d) ∷ []) place))
 
-pub last_ledger : (n : ℕ) (xs : List Known) (program : Known) → AreNumbered 0 xs → length xs ≡ n → program.number ≡ n + 1 → ledgers_of (n + 1) (map ledger_of xs ++ ledger_of program ∷ []) ≡ ledger_of program ∷ []
+pub last_ledger : (n : ℕ) (xs : List Known) (program : Known) → AreNumbered 0 xs → length xs ≡ n → program.number ≡ n + 1
+    → ledgers_of (n + 1) (map ledger_of xs ++ ledger_of program ∷ []) ≡ ledger_of program ∷ []
 last_ledger n xs program all count last =
     filter-append (λ (l : Ledger). l.number == n + 1) (map ledger_of xs) (ledger_of program ∷ [])
     ∙ (λ i. none_at (n + 1) 0 xs all (inr (omega (arith, count))) i ++ keep (n + 1) (ledger_of program) [] last i)
@@ -143,16 +188,19 @@ last_ledger n xs program all count last =
 pub no_fault : (ledgers : List Ledger) (s : ℕ) (fault : Unbalanced) → HasOne ledgers s → ¬ IsFault ledgers s fault
 no_fault ledgers s (Missing t) one f = let no : one.0 ∷ [] ≡ [] = sym one.1 ∙ f.1 in absurd (cc)
 no_fault ledgers s (Twice t) one f = omega (arith, f.1, ap length one.1)
-no_fault ledgers s (Saturated t) one f = let both : one.0 ∷ [] ≡ f.1 ∷ [] = sym one.1 ∙ f.2 in let same : one.0 ≡ f.1 = cc in f.3 (subst (λ (l : Ledger). AreWhole l.counts) same one.2)
+no_fault ledgers s (Saturated t) one f = let both : one.0 ∷ [] ≡ f.1 ∷ [] = sym one.1 ∙ f.2 in let same : one.0 ≡ f.1 = cc in
+    f.3 (subst (λ (l : Ledger). AreWhole l.counts) same one.2)
 
-pub always_balanced : (book : BookState) (ledgers : List Ledger) → ((s : ℕ) → s < book.layout.senders → s ≢ book.own.number → HasOne ledgers s) → AreWhole book.own.counts → AreOwnerWhole (owner_counts book.seen) → (fault : Unbalanced) → ¬ IsUnbalanced book ledgers fault
+pub always_balanced : (book : BookState) (ledgers : List Ledger) → ((s : ℕ) → s < book.layout.senders → s ≢ book.own.number → HasOne ledgers s)
+    → AreWhole book.own.counts → AreOwnerWhole (owner_counts book.seen) → (fault : Unbalanced) → ¬ IsUnbalanced book ledgers fault
 always_balanced book ledgers ones mine owners fault (of_sender f) = no_fault ledgers f.0 fault (ones f.0 f.1 f.2) f.4
 always_balanced book ledgers ones mine owners fault (of_worker have not is) = not (mine, owners)
 
 -- a book made the ledger of a sender that made no event
-pub none_made : (h : List Event) (l : Ledger) → IsMade h l → own l.number h ≡ [] → AreWhole l.counts
+pub none_made : (h : List Event) (l : Ledger) → IsLedgerOf h l → own l.number h ≡ [] → AreWhole l.counts
 none_made h l m none =
-    let front : own l.number m.met ≡ [] = left (own l.number m.met) (own l.number m.before.0) (sym (own-append l.number m.met m.before.0) ∙ (ap (own l.number) m.before.1 ∙ none)) in
+    let front : own l.number m.met ≡ [] = left (own l.number m.met) (own l.number m.before.0) (sym (own-append l.number m.met m.before.0)
+    ∙ (ap (own l.number) m.before.1 ∙ none)) in
     subst AreWhole (sym m.counts_are) (whole_counts l.number m.met (omega (arith, ap length front)))
   where
     left : (xs ys : List Event) → xs ++ ys ≡ [] → xs ≡ []

@@ -16,10 +16,22 @@ pub heard_still : (b : BookState) → HasHeard b b
 heard_still b = record { queue_is = refl; layout_is = refl; own_is = refl; begins = ([], append-nil b.seen); idle = refl }
 
 pub heard_one : (a b : BookState) → (b.queue ≡ a.queue) × (b.layout ≡ a.layout) × (b.own ≡ a.own) → Grows owner_seat [] 0 a.seen b.seen → HasHeard a b
-heard_one a b same g = record { queue_is = same.0; layout_is = same.1; own_is = same.2; begins = (g.new, sym g.is); idle = grows_same owner_seat 0 a.seen b.seen g }
+heard_one a b same g = record {
+  queue_is = same.0;
+  layout_is = same.1;
+  own_is = same.2;
+  begins = (g.new, sym g.is);
+  idle = grows_same owner_seat 0 a.seen b.seen g;
+}
 
 pub heard_on : (a b c : BookState) → HasHeard a b → HasHeard b c → HasHeard a c
-heard_on a b c x y = record { queue_is = y.queue_is ∙ x.queue_is; layout_is = y.layout_is ∙ x.layout_is; own_is = y.own_is ∙ x.own_is; begins = prefix_on a.seen b.seen c.seen x.begins y.begins; idle = y.idle ∙ x.idle }
+heard_on a b c x y = record {
+  queue_is = y.queue_is ∙ x.queue_is;
+  layout_is = y.layout_is ∙ x.layout_is;
+  own_is = y.own_is ∙ x.own_is;
+  begins = prefix_on a.seen b.seen c.seen x.begins y.begins;
+  idle = y.idle ∙ x.idle;
+}
 
 -- a sender that made no event has the ledger that it had
 pub ledger_same : (a b : Known) (l : Ledger) → Sees [] 0 a b → l.number ≡ a.number → l.counts ≡ sender_counts b.number b.seen → l ≡ ledger_of a

@@ -1,5 +1,35 @@
 -- The history of a race that has run to its end.
-use Rattle.std.proofs.Common.{◌≡◌, ◌≢◌, ℕ, ◌+◌, ◌-◌, map, ◌^◌, inl, inr, length-append, ◌*◌, ◌<◌, ◌≤◌, Bool, true, false, List, [], ◌∷◌, ◌++◌, length, get_or, min, refl, sym, ap, ◌∙◌, subst, arith}
+use Rattle.std.proofs.Common.{
+  ◌≡◌,
+  ◌≢◌,
+  ℕ,
+  ◌+◌,
+  ◌-◌,
+  map,
+  ◌^◌,
+  inl,
+  inr,
+  length-append,
+  ◌*◌,
+  ◌<◌,
+  ◌≤◌,
+  Bool,
+  true,
+  false,
+  List,
+  [],
+  ◌∷◌,
+  ◌++◌,
+  length,
+  get_or,
+  min,
+  refl,
+  sym,
+  ap,
+  ◌∙◌,
+  subst,
+  arith,
+}
 use Rattle.std.specs.Prelude.{All, MatchBool, count_by}
 use Rattle.std.specs.List.{AllByRecursion}
 use Rattle.std.proofs.lemmas.Bool.{cases_lt}
@@ -16,13 +46,14 @@ use Rattle.wq_words.proofs.Prefixes.{prefix_whole}
 use Rattle.wq_words.specs.Seen.{own}
 use Rattle.wq_words.proofs.Seen.{own-append, closed_count, ended_same}
 use Rattle.wq_live.specs.Known.{Known}
-use Rattle.wq_live.specs.Counts.{is_queued_by, is_chain, is_chain_busy, sender_counts, owner_counts}
-use Rattle.wq_worker.specs.Book.{BookState, IsMade}
+use Rattle.wq_words.specs.Counting.{is_queued_by, is_chain, is_chain_busy}
+use Rattle.wq_live.specs.Counts.{sender_counts, owner_counts}
+use Rattle.wq_worker.specs.Book.{BookState, IsLedgerOf}
 use Rattle.wq_worker.specs.declared.book.Ledger.{Ledger}
 use Rattle.wq_worker.specs.declared.balance.Unbalanced.{Unbalanced}
 use Rattle.wq_worker.specs.Balance.{AreWhole, AreOwnerWhole, ledgers_of, HasOne, IsUnbalanced}
-use Rattle.wq_worker.proofs.Balancing.{is_queued_below, below_more, below_all, length-accepted_pushes}
-use Rattle.wq_worker.specs.State.{WorkerState, items_of}
+use Rattle.wq_worker.proofs.Pushes.{is_queued_below, below_more, below_all, length-accepted_pushes}
+use Rattle.wq_worker.specs.State.{WorkerState, items_among}
 use Rattle.wq_worker.specs.Follow.{Follows}
 use Rattle.wq_worker.proofs.Owned.{count_by-append}
 use Rattle.wq_worker.proofs.Draining.{begun-complete}
@@ -48,7 +79,15 @@ never_refused : (layout : Layout) (s k : ℕ) (h w : List Event) → IsLegal lay
 never_refused layout s k h w legal begins none has =
     let a = was_allowed layout (Back s k why.Closed) [] h legal has in
     let shut : 0 < count_by is_close a.before = a.allowed.2.1 refl in
-    omega (arith, shut, ap (count_by is_close) a.is, count_by-append is_close a.before (Back s k why.Closed ∷ a.rest), ap (count_by is_close) begins.1, count_by-append is_close h begins.0, none)
+    omega (
+      arith,
+      shut,
+      ap (count_by is_close) a.is,
+      count_by-append is_close a.before (Back s k why.Closed ∷ a.rest),
+      ap (count_by is_close) begins.1,
+      count_by-append is_close h begins.0,
+      none,
+    )
 
 pub surely : (b : Bool) (P Q : Type 0) → MatchBool b P Q → ¬ Q → b ≡ true
 surely true P Q m not = refl
@@ -111,7 +150,8 @@ module _ (plan : Plan) (team : Team) (w : WorkerState Idle) (senders : List Know
         unsent = sent ∙ (before ∙ o.run.unsent);
         unchained = o.ended.unchained ∙ (chains_same team.worker.seen w.seen o.met.idle ∙ o.run.unchained);
         stops = all_front (IsOfStop team.worker.layout) (own (plan.senders + 1) book.seen) (own (plan.senders + 1) p.1.0)
-            (subst (AllByRecursion (IsOfStop team.worker.layout)) (sym (sym (own-append (plan.senders + 1) book.seen p.1.0) ∙ (ap (own (plan.senders + 1)) p.1.1 ∙ p.2))) o.run.stops);
+            (subst (AllByRecursion (IsOfStop team.worker.layout)) (sym (sym (own-append (plan.senders + 1) book.seen p.1.0)
+            ∙ (ap (own (plan.senders + 1)) p.1.1 ∙ p.2))) o.run.stops);
       }
 
   few_items : plan.senders * plan.own ≤ 4096
@@ -125,7 +165,8 @@ module _ (plan : Plan) (team : Team) (w : WorkerState Idle) (senders : List Know
       let at = sender_at s d lt in let now = get_or senders s d in
       let mine : own s now.seen ≡ own s book.seen = sym at.told in
       let count : count_by (is_queued_by s) now.seen ≡ plan.own =
-      queued_own s now.seen ∙ (ap (count_by (is_queued_by s)) (mine ∙ was_queued plan.senders plan.own team.worker.layout book.seen is_race s lt) ∙ (pushes s (items_at s plan.own) ∙ length-range_with_len (s * plan.own) plan.own)) in
+      queued_own s now.seen ∙ (ap (count_by (is_queued_by s)) (mine ∙ was_queued plan.senders plan.own team.worker.layout book.seen is_race s lt)
+      ∙ (pushes s (items_at s plan.own) ∙ length-range_with_len (s * plan.own) plan.own)) in
       ap (λ (c : ℕ). min (count_by (is_queued_by c) now.seen) 18446744073709551615) at.number_is ∙ omega (arith, count, few_own)
 
   pub senders_count : length senders ≡ plan.senders
@@ -134,16 +175,20 @@ module _ (plan : Plan) (team : Team) (w : WorkerState Idle) (senders : List Know
   pub all_counted : All (λ (s : Known). (sender_counts s.number s.seen).queued ≡ plan.own) senders
   all_counted i d lt = counted i d (omega (arith, lt, senders_count))
 
-  accepted_all : length (items_of team.worker.layout (accepted book.seen)) ≡ plan.senders * plan.own
+  accepted_all : length (items_among team.worker.layout (accepted book.seen)) ≡ plan.senders * plan.own
   accepted_all = all_accepted plan.senders plan.own team.worker.layout book.seen is_race
 
   pub ran_all : min (length work.ran.items) 18446744073709551615 ≡ plan.senders * plan.own
-  ran_all = omega (arith, ap (length {A = ℕ}) (o.ended.ran_is ∙ ap (λ (l : Layout). items_of l (accepted book.seen)) size), accepted_all, few_items)
+  ran_all = omega (arith, ap (length {A = ℕ}) (o.ended.ran_is ∙ ap (λ (l : Layout). items_among l (accepted book.seen)) size), accepted_all, few_items)
 
   ended_all : ended book.seen ≡ accepted book.seen
   ended_all =
       let ran = begun-complete team.worker.layout book.seen legal o.ended.complete in
-      prefix_whole (ended book.seen) (begun book.seen) (in_order team.worker.layout book.seen legal).ended_first (omega (arith, o.ended.complete.1, ap (length {A = ℕ}) ran)) ∙ ran
+      prefix_whole (ended book.seen) (begun book.seen) (in_order team.worker.layout book.seen legal).ended_first (omega (
+        arith,
+        o.ended.complete.1,
+        ap (length {A = ℕ}) ran,
+      )) ∙ ran
 
   pub tells : (outcome : Outcome) → IsWhole plan outcome → Tells plan team.worker outcome
   tells outcome whole = record {
@@ -152,8 +197,9 @@ module _ (plan : Plan) (team : Team) (w : WorkerState Idle) (senders : List Know
     legal = legal;
     complete = o.ended.complete;
     queued = was_queued plan.senders plan.own team.worker.layout book.seen is_race;
+    served = (team.worker.seen, prefix_on team.worker.seen w.seen book.seen o.met.begins o.ended.begins, o.run.open_still, o.run.stopped);
     accepted_is = whole.accepted_is ∙ sym accepted_all;
-    ran_is = whole.ran_is ∙ (sym accepted_all ∙ ap (λ (ks : List ℕ). length (items_of team.worker.layout ks)) (sym ended_all));
+    ran_is = whole.ran_is ∙ (sym accepted_all ∙ ap (λ (ks : List ℕ). length (items_among team.worker.layout ks)) (sym ended_all));
   }
 
   few_own_events : (s : ℕ) (d : Known) → s < plan.senders → length (own (get_or senders s d).number (get_or senders s d).seen) < 2 ^ 64 - 1
@@ -161,7 +207,14 @@ module _ (plan : Plan) (team : Team) (w : WorkerState Idle) (senders : List Know
       let at = sender_at s d lt in let now = get_or senders s d in
       let mine : own now.number now.seen ≡ own s now.seen = ap (λ (c : ℕ). own c now.seen) at.number_is in
       let all : own s now.seen ≡ queueings s (items_at s plan.own) = sym at.told ∙ was_queued plan.senders plan.own team.worker.layout book.seen is_race s lt in
-      omega (arith, ap (length {A = Event}) mine, ap (length {A = Event}) all, length-queueings s (items_at s plan.own), length-range_with_len (s * plan.own) plan.own, few_own)
+      omega (
+        arith,
+        ap (length {A = Event}) mine,
+        ap (length {A = Event}) all,
+        length-queueings s (items_at s plan.own),
+        length-range_with_len (s * plan.own) plan.own,
+        few_own,
+      )
 
   few_stops : length (own (plan.senders + 1) book.seen) ≤ 2 * 2 ^ 32
   few_stops =
@@ -192,12 +245,17 @@ module _ (plan : Plan) (team : Team) (w : WorkerState Idle) (senders : List Know
       )
 
   -- whatever the book has met since, the ledgers balance
-  pub never_unbalanced : (final : BookState) (ledgers : List Ledger) → IsMade book.seen book.own → HasHeard book final → ledgers ≡ map ledger_of senders ++ ledger_of team.program ∷ [] → (fault : Unbalanced) → ¬ IsUnbalanced final ledgers fault
+  pub never_unbalanced : (final : BookState) (ledgers : List Ledger) → IsLedgerOf book.seen book.own → HasHeard book final
+      → ledgers ≡ map ledger_of senders ++ ledger_of team.program ∷ [] → (fault : Unbalanced) → ¬ IsUnbalanced final ledgers fault
   never_unbalanced final ledgers made heard all fault =
       let n = plan.senders in
       let number : book.own.number ≡ n = o.ended.number_is ∙ (o.met.number_is ∙ o.run.number_is) in
       let few : final.layout.senders ≡ n + 2 = ap (λ (l : Layout). l.senders) (heard.layout_is ∙ size) ∙ o.run.layout.senders_is in
-      let numbered : AreNumbered 0 senders = λ i d lt. let at : (get_or senders i d).number ≡ i = (sender_at i d (omega (arith, lt, senders_count))).number_is in omega (arith, at) in
+      let numbered : AreNumbered 0 senders = λ i d lt. let at : (get_or senders i d).number ≡ i = (sender_at i d (omega (
+        arith,
+        lt,
+        senders_count,
+      ))).number_is in omega (arith, at) in
       let mine = none_made book.seen book.own made (subst (λ (c : ℕ). own c book.seen ≡ []) (sym number) is_race.unsent) in
       let one : (s : ℕ) → s < n → HasOne ledgers s = λ s lt. (
         ledger_of (get_or senders s nobody),
@@ -207,14 +265,29 @@ module _ (plan : Plan) (team : Team) (w : WorkerState Idle) (senders : List Know
       let last : HasOne ledgers (n + 1) = (
         ledger_of team.program,
         ap (ledgers_of (n + 1)) all ∙ last_ledger n senders team.program numbered senders_count o.run.program_number,
-        whole_counts team.program.number team.program.seen (omega (arith, ap (λ (c : ℕ). length (own c team.program.seen)) o.run.program_number, o.run.few_stops)),
+        whole_counts team.program.number team.program.seen (omega (
+          arith,
+          ap (λ (c : ℕ). length (own c team.program.seen)) o.run.program_number,
+          o.run.few_stops,
+        )),
       ) in
       let ones : (s : ℕ) → s < final.layout.senders → s ≢ final.own.number → HasOne ledgers s = λ s lt not. elim (cases_lt s n) [
         | inl less ↦ one s less
-        | inr ge ↦ let is : n + 1 ≡ s = omega (arith, lt, few, ge, λ (i : s ≡ n). not (i ∙ (sym number ∙ sym (ap (λ (l : Ledger). l.number) heard.own_is)))) in subst (HasOne ledgers) is last
+        | inr ge ↦ let is : n + 1 ≡ s = omega (
+          arith,
+          lt,
+          few,
+          ge,
+          λ (i : s ≡ n). not (i ∙ (sym number ∙ sym (ap (λ (l : Ledger). l.number) heard.own_is))),
+        ) in subst (HasOne ledgers) is last
       ] in
       let chains : count_by is_chain final.seen ≡ 0 = chains_same book.seen final.seen heard.idle ∙ is_race.unchained in
-      let asks : count_by is_chain_busy final.seen ≡ 0 = asks_same book.seen final.seen heard.idle ∙ (o.ended.unasked ∙ (asks_same team.worker.seen w.seen o.met.idle ∙ o.run.unasked)) in
+      let asks : count_by is_chain_busy final.seen ≡ 0 = asks_same book.seen final.seen heard.idle
+      ∙ (o.ended.unasked ∙ (asks_same team.worker.seen w.seen o.met.idle ∙ o.run.unasked)) in
       let ends : length (ended final.seen) ≡ length (ended book.seen) = ap (length {A = ℕ}) (ended_same book.seen final.seen heard.idle) in
-      let owners : AreOwnerWhole (owner_counts final.seen) = ((λ is. omega (arith, is, chains)), (λ is. omega (arith, is, asks)), (λ is. omega (arith, is, ends, few_ended))) in
+      let owners : AreOwnerWhole (owner_counts final.seen) = (
+        (λ is. omega (arith, is, chains)),
+        (λ is. omega (arith, is, asks)),
+        (λ is. omega (arith, is, ends, few_ended)),
+      ) in
       always_balanced final ledgers ones (subst (λ (l : Ledger). AreWhole l.counts) (sym heard.own_is) mine) owners fault

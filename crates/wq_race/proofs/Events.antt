@@ -1,5 +1,34 @@
 -- Events of a history, and whose they are.
-use Rattle.std.proofs.Common.{◌≡◌, ℕ, zero, suc, ◌+◌, ◌*◌, ◌<◌, ◌≤◌, ◌⊎◌, Bool, true, false, cond, ◌==◌, List, [], ◌∷◌, ◌++◌, inl, inr, refl, sym, ap, ◌∙◌, subst, arith, append_assoc, eq-eqb}
+use Rattle.std.proofs.Common.{
+  ◌≡◌,
+  ℕ,
+  zero,
+  suc,
+  ◌+◌,
+  ◌*◌,
+  ◌<◌,
+  ◌≤◌,
+  ◌⊎◌,
+  Bool,
+  true,
+  false,
+  cond,
+  ◌==◌,
+  List,
+  [],
+  ◌∷◌,
+  ◌++◌,
+  inl,
+  inr,
+  refl,
+  sym,
+  ap,
+  ◌∙◌,
+  subst,
+  arith,
+  append_assoc,
+  eq-eqb,
+}
 use Rattle.std.specs.Prelude.{count_by}
 use Rattle.std.specs.List.{range_with_len}
 use Rattle.std.proofs.lemmas.Bool.{eqb-true, cases_lt}
@@ -85,7 +114,8 @@ record Counted (p : Event → Bool) (h : List Event) : Type 0 where
   pub has : Has event h
   pub is : p event ≡ true
 
-counted_at : (p : Event → Bool) (b : Bool) (e : Event) (es : List Event) → (0 < count_by p es → Counted p es) → p e ≡ b → 0 < count_by p (e ∷ es) → Counted p (e ∷ es)
+counted_at : (p : Event → Bool) (b : Bool) (e : Event) (es : List Event) → (0 < count_by p es → Counted p es) → p e ≡ b → 0 < count_by p (e ∷ es)
+    → Counted p (e ∷ es)
 counted_at p true e es go is some = record { event = e; has = inl refl; is = is }
 counted_at p false e es go is some =
     let none : cond {A = ℕ} (p e) 1 0 ≡ 0 = ap (λ (b : Bool). cond {A = ℕ} b 1 0) is in
@@ -195,15 +225,18 @@ row_apart n s a zero t u k es f hold has = subst (Has (Hold t k)) f hold
 row_apart n s a (suc m) t u k es f hold has = elim (has_either (Hold t k) f.0 f.1 (subst (Has (Hold t k)) f.2 hold)) [
   | inl one ↦ elim (has_either (Busy u k) f.0 f.1 (subst (Has (Busy u k)) f.2 has)) [
     | inl two ↦ apart n s a t u k f.0 f.3 one two
-    | inr two ↦ let at : k ≡ a = one_number n s a (Hold t k) f.0 f.3 one in let w = row_number n s (a + 1) m (Busy u k) f.1 f.4 two in absurd (omega (arith, at, w.0))
+    | inr two ↦ let at : k ≡ a = one_number n s a (Hold t k) f.0 f.3 one in let w = row_number n s (a + 1) m (Busy u k) f.1 f.4 two in
+        absurd (omega (arith, at, w.0))
   ]
   | inr one ↦ elim (has_either (Busy u k) f.0 f.1 (subst (Has (Busy u k)) f.2 has)) [
-    | inl two ↦ let at : k ≡ a = one_number n s a (Busy u k) f.0 f.3 two in let w = row_number n s (a + 1) m (Hold t k) f.1 f.4 one in absurd (omega (arith, at, w.0))
+    | inl two ↦ let at : k ≡ a = one_number n s a (Busy u k) f.0 f.3 two in let w = row_number n s (a + 1) m (Hold t k) f.1 f.4 one in
+        absurd (omega (arith, at, w.0))
     | inr two ↦ row_apart n s (a + 1) m t u k f.1 f.4 one two
   ]
 ]
 
-one_pushed : (n s a : ℕ) (es : List Event) → a < n → ¬ Has (Busy s a) es → ¬ Has (Back s a why.Closed) es → Queues n s false a es → es ≡ Hold s a ∷ Push s a ∷ []
+one_pushed : (n s a : ℕ) (es : List Event) → a < n → ¬ Has (Busy s a) es → ¬ Has (Back s a why.Closed) es → Queues n s false a es
+    → es ≡ Hold s a ∷ Push s a ∷ []
 one_pushed n s a es lt free opens (passed ge is) = absurd (omega (arith, lt, ge))
 one_pushed n s a es lt free opens (pushed low so is) = is
 one_pushed n s a es lt free opens (busy low so is) = absurd (free (subst (Has (Busy s a)) (sym is) (inl refl)))
@@ -216,7 +249,8 @@ has_right e [] ys h = h
 has_right e (x ∷ xs) ys h = inr (has_right e xs ys h)
 
 -- where each item was free and the queue open, each was pushed
-pub row_pushed : (n s a m : ℕ) (es : List Event) → a + m ≤ n → ((k : ℕ) → ¬ Has (Busy s k) es) → ((k : ℕ) → ¬ Has (Back s k why.Closed) es) → Follows n s false (range_with_len a m) es → es ≡ queueings s (range_with_len a m)
+pub row_pushed : (n s a m : ℕ) (es : List Event) → a + m ≤ n → ((k : ℕ) → ¬ Has (Busy s k) es) → ((k : ℕ) → ¬ Has (Back s k why.Closed) es)
+    → Follows n s false (range_with_len a m) es → es ≡ queueings s (range_with_len a m)
 row_pushed n s a zero es room free opens f = f
 row_pushed n s a (suc m) es room free opens f =
     let in_first : (e : Event) → Has e f.0 → Has e es = λ e h. subst (Has e) (sym f.2) (has_left e f.0 f.1 h) in

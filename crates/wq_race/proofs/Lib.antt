@@ -4,6 +4,7 @@ pub mod Made
 pub mod Queueing
 pub mod Serving
 pub mod Meeting
+pub mod Destroying
 pub mod Running
 pub mod Booking
 pub mod Events

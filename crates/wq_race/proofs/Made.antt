@@ -20,7 +20,8 @@ module _ {A : Type 0} where
   ends_alike [] [] x y is = (refl, cc)
   ends_alike [] (z ∷ ys) x y is = let rest : [] ≡ ys ++ y ∷ [] = cc in absurd (none_and_one ys y rest)
   ends_alike (z ∷ xs) [] x y is = let rest : [] ≡ xs ++ x ∷ [] = cc in absurd (none_and_one xs x rest)
-  ends_alike (z ∷ xs) (w ∷ ys) x y is = let tails : xs ++ x ∷ [] ≡ ys ++ y ∷ [] = cc in let r = ends_alike xs ys x y tails in let same : z ≡ w = cc in ((λ i. same i ∷ r.0 i), r.1)
+  ends_alike (z ∷ xs) (w ∷ ys) x y is = let tails : xs ++ x ∷ [] ≡ ys ++ y ∷ [] = cc in let r = ends_alike xs ys x y tails in
+      let same : z ≡ w = cc in ((λ i. same i ∷ r.0 i), r.1)
 
 pub length-new_senders : (q : QueueId) (l : Layout) (n : ℕ) → length (new_senders q l n) ≡ n
 length-new_senders q l zero = refl
@@ -32,7 +33,8 @@ pub record IsShared (q : QueueId) (l : Layout) (n : ℕ) (xs : List Known) (own 
   pub own_is : own ≡ new_sender q l n
   pub program_is : program ≡ new_sender q l (n + 1)
 
-pub shared : (q : QueueId) (l : Layout) (n : ℕ) (all more xs : List Known) (own program : Known) → l.senders ≡ n + 2 → all ≡ new_senders q l l.senders → all ≡ more ++ program ∷ [] → more ≡ xs ++ own ∷ [] → IsShared q l n xs own program
+pub shared : (q : QueueId) (l : Layout) (n : ℕ) (all more xs : List Known) (own program : Known) → l.senders ≡ n + 2
+    → all ≡ new_senders q l l.senders → all ≡ more ++ program ∷ [] → more ≡ xs ++ own ∷ [] → IsShared q l n xs own program
 shared q l n all more xs own program count made one two =
     let last : l.senders ≡ suc (n + 1) = omega (arith, count) in
     let before : n + 1 ≡ suc n = omega arith in
@@ -47,8 +49,10 @@ length-last xs ys x n count is = omega (arith, count, ap length is, length-appen
 pub own-new : (c n : ℕ) (v w : List Event) → v ≡ [] → Grows c [] n v w → own c w ≡ []
 own-new c n v w none g = ap (own c) (g.is ∙ ap (λ (x : List Event). x ++ g.new) none) ∙ g.mine
 
-pub new_team : (plan : Plan) (l : Layout) (o mine program : Known) (xs : List Known) (t : Team) → IsLayoutOf plan.senders plan.own l → o ≡ new_owner o.queue l → IsShared o.queue l plan.senders xs mine program
-    → t.senders.items ≡ xs → t.program ≡ program → t.worker.queue ≡ o.queue → t.worker.layout ≡ o.layout → t.worker.number ≡ mine.number → t.worker.work.ran.items ≡ []
+pub new_team : (plan : Plan) (l : Layout) (o mine program : Known) (xs : List Known) (t : Team) → IsLayoutOf plan.senders plan.own l
+    → o ≡ new_owner o.queue l → IsShared o.queue l plan.senders xs mine program
+    → t.senders.items ≡ xs → t.program ≡ program → t.worker.queue ≡ o.queue → t.worker.layout ≡ o.layout → t.worker.number ≡ mine.number
+    → t.worker.work.ran.items ≡ []
     → Grows owner_seat [] 0 o.seen t.worker.seen → Grows mine.number [] 0 mine.seen t.worker.seen → IsLegal t.worker.layout t.worker.seen → IsNewTeam plan t
 new_team plan l o mine program xs t sized owner s senders last queue layout number unrun grows_owner grows_own legal =
     let same : t.worker.layout ≡ l = layout ∙ ap (λ (k : Known). k.layout) owner in

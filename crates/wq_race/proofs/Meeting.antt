@@ -1,5 +1,29 @@
 -- Meetings of a worker and the senders of its queue.
-use Rattle.std.proofs.Common.{◌≡◌, ℕ, ◌+◌, ◌<◌, Bool, true, false, cond, ◌||◌, ◌==◌, List, [], ◌∷◌, ◌++◌, inl, inr, refl, sym, ap, ◌∙◌, subst, arith, append_assoc}
+use Rattle.std.proofs.Common.{
+  ◌≡◌,
+  ℕ,
+  ◌+◌,
+  ◌<◌,
+  Bool,
+  true,
+  false,
+  cond,
+  ◌||◌,
+  ◌==◌,
+  List,
+  [],
+  ◌∷◌,
+  ◌++◌,
+  inl,
+  inr,
+  refl,
+  sym,
+  ap,
+  ◌∙◌,
+  subst,
+  arith,
+  append_assoc,
+}
 use Rattle.std.specs.Prelude.{filter}
 use Rattle.std.proofs.lemmas.Bool.{cases_lt}
 use Rattle.std.proofs.lemmas.List.{append-nil}
@@ -10,7 +34,7 @@ use Rattle.wq_words.specs.Seen.{owner_seat, seat_of, own, Grows}
 use Rattle.wq_words.proofs.Seen.{own-append}
 use Rattle.wq_words.proofs.Prefixes.{nothing_more}
 use Rattle.wq_live.specs.Known.{Known, Sees}
-use Rattle.wq_worker.specs.Seats.{is_ours}
+use Rattle.wq_words.specs.Seen.{is_ours}
 use Rattle.wq_worker.specs.State.{WorkerState, Moves}
 use Rattle.wq_race.specs.declared.idle.Idle.{Idle}
 use Rattle.wq_race.specs.Outcome.{HasMet, IsKnown}
@@ -27,7 +51,8 @@ module _ {A : Type 0} where
 pub own_between : (c : ℕ) (h z w : List Event) → IsPrefix h z → IsPrefix z w → own c w ≡ own c h → own c z ≡ own c h
 own_between c h z w a b same =
     let none : own c a.0 ++ own c b.0 ≡ [] = nothing_more (own c h) (own c a.0 ++ own c b.0)
-    (sym (append_assoc (own c h) (own c a.0) (own c b.0)) ∙ (ap (λ (x : List Event). x ++ own c b.0) (sym (own-append c h a.0) ∙ ap (own c) a.1) ∙ (sym (own-append c z b.0) ∙ (ap (own c) b.1 ∙ same)))) in
+    (sym (append_assoc (own c h) (own c a.0) (own c b.0)) ∙ (ap (λ (x : List Event). x ++ own c b.0) (sym (own-append c h a.0) ∙ ap (own c) a.1)
+    ∙ (sym (own-append c z b.0) ∙ (ap (own c) b.1 ∙ same)))) in
     ap (own c) (sym a.1) ∙ (own-append c h a.0 ∙ (ap (λ (x : List Event). own c h ++ x) (left_nil (own c a.0) (own c b.0) none) ∙ append-nil (own c h)))
 
 pub grows_same : (c n : ℕ) (v w : List Event) → Grows c [] n v w → own c w ≡ own c v
@@ -39,7 +64,8 @@ none_of s [] is = (refl, refl)
 none_of s (e ∷ es) is = each (seat_of e == s) (seat_of e == owner_seat) (none_of s es) is
   where
     each : (a b : Bool) → (filter (is_ours s) es ≡ [] → (own s es ≡ []) × (own owner_seat es ≡ []))
-        → cond (a || b) (e ∷ filter (is_ours s) es) (filter (is_ours s) es) ≡ [] → (cond a (e ∷ own s es) (own s es) ≡ []) × (cond b (e ∷ own owner_seat es) (own owner_seat es) ≡ [])
+        → cond (a || b) (e ∷ filter (is_ours s) es) (filter (is_ours s) es) ≡ []
+        → (cond a (e ∷ own s es) (own s es) ≡ []) × (cond b (e ∷ own owner_seat es) (own owner_seat es) ≡ [])
     each true b go is = absurd (cc)
     each false true go is = absurd (cc)
     each false false go is = go is
@@ -65,7 +91,12 @@ met_more a b c x m =
     }
 
 pub known_one : (a b : Known) (seen : List Event) → Sees [] 0 a b → b.seen ≡ seen → IsKnown seen a b
-known_one a b seen s both = record { same = s.same; mine = grows_same a.number 0 a.seen b.seen s.grows; known = ([], append-nil b.seen ∙ both); legal = s.legal }
+known_one a b seen s both = record {
+  same = s.same;
+  mine = grows_same a.number 0 a.seen b.seen s.grows;
+  known = ([], append-nil b.seen ∙ both);
+  legal = s.legal;
+}
 
 pub known_more : (a b : Known) (v w : List Event) → IsPrefix v w → IsKnown v a b → IsKnown w a b
 known_more a b v w more k = record { same = k.same; mine = k.mine; known = prefix_on b.seen v w k.known more; legal = k.legal }

@@ -1,5 +1,29 @@
 -- What a sender's thread adds.
-use Rattle.std.proofs.Common.{◌≡◌, ◌≢◌, ℕ, zero, suc, ◌+◌, ◌-◌, ◌<◌, ◌≤◌, false, List, [], ◌∷◌, ◌++◌, length, refl, sym, ap, ◌∙◌, subst, arith, append_assoc, length-append}
+use Rattle.std.proofs.Common.{
+  ◌≡◌,
+  ◌≢◌,
+  ℕ,
+  zero,
+  suc,
+  ◌+◌,
+  ◌-◌,
+  ◌<◌,
+  ◌≤◌,
+  false,
+  List,
+  [],
+  ◌∷◌,
+  ◌++◌,
+  length,
+  refl,
+  sym,
+  ap,
+  ◌∙◌,
+  subst,
+  arith,
+  append_assoc,
+  length-append,
+}
 use Rattle.std.specs.List.{AllByRecursion, range_with_len}
 use Rattle.std.proofs.lemmas.List.{append-nil}
 use Rattle.wq_words.specs.declared.layout.Layout.{Layout}
@@ -64,16 +88,19 @@ queued_more ks k a b c x y =
 
 range-more : (a n : ℕ) → range_with_len a (suc n) ≡ range_with_len a n ++ (a + n) ∷ []
 range-more a zero = let none : a ≡ a + 0 = omega arith in ap (λ (k : ℕ). k ∷ []) none
-range-more a (suc n) = let next : (a + 1) + n ≡ a + suc n = omega arith in ap (λ (ks : List ℕ). a ∷ ks) (range-more (a + 1) n ∙ ap (λ (k : ℕ). range_with_len (a + 1) n ++ k ∷ []) next)
+range-more a (suc n) = let next : (a + 1) + n ≡ a + suc n = omega arith in
+    ap (λ (ks : List ℕ). a ∷ ks) (range-more (a + 1) n ∙ ap (λ (k : ℕ). range_with_len (a + 1) n ++ k ∷ []) next)
 
 pub range-last : (a n : ℕ) → range_with_len a (n + 1) ≡ range_with_len a n ++ (a + n) ∷ []
 range-last a n = let next : n + 1 ≡ suc n = omega arith in ap (range_with_len a) next ∙ range-more a n
 
-pub queued_next : (first item : ℕ) (a b c : Known) → first ≤ item → HasQueued (range_with_len first (item - first)) a b → HasQueued (item ∷ []) b c → HasQueued (range_with_len first (item + 1 - first)) a c
+pub queued_next : (first item : ℕ) (a b c : Known) → first ≤ item → HasQueued (range_with_len first (item - first)) a b → HasQueued (item ∷ []) b c
+    → HasQueued (range_with_len first (item + 1 - first)) a c
 queued_next first item a b c le x y =
     let more : item + 1 - first ≡ (item - first) + 1 = omega (arith, le) in
     let last : first + (item - first) ≡ item = omega (arith, le) in
-    subst (λ (ks : List ℕ). HasQueued ks a c) (sym (ap (range_with_len first) more ∙ (range-last first (item - first) ∙ ap (λ (k : ℕ). range_with_len first (item - first) ++ k ∷ []) last)))
+    subst (λ (ks : List ℕ). HasQueued ks a c) (sym (ap (range_with_len first) more
+    ∙ (range-last first (item - first) ∙ ap (λ (k : ℕ). range_with_len first (item - first) ++ k ∷ []) last)))
     (queued_more (range_with_len first (item - first)) item a b c x y)
 
 -- the stop item

@@ -10,7 +10,7 @@ use Rattle.wq_words.specs.History.{IsRunning, is_close}
 use Rattle.wq_words.specs.Seen.{owner_seat, own, Grows}
 use Rattle.wq_words.proofs.Seen.{closed_count, begun_same}
 use Rattle.wq_live.specs.Known.{Known, new_sender, new_senders}
-use Rattle.wq_live.specs.Counts.{is_chain, is_chain_busy}
+use Rattle.wq_words.specs.Counting.{is_chain, is_chain_busy}
 use Rattle.wq_worker.specs.Follow.{Follows}
 use Rattle.wq_worker.specs.State.{WorkerState}
 use Rattle.wq_race.specs.declared.idle.Idle.{Idle}
@@ -40,7 +40,8 @@ pub own_room : (s n m : ℕ) → s < n → s * m + m ≤ n * m
 own_room s zero m lt = absurd (omega (arith, lt))
 own_room s (suc n) m lt = elim (cases_lt s n) [
   | inl less ↦ let before : s * m + m ≤ n * m = own_room s n m less in let step : suc n * m ≡ n * m + m = times_suc n m in omega (arith, before, step)
-  | inr ge ↦ let same : s ≡ n = omega (arith, lt, ge) in let step : suc n * m ≡ n * m + m = times_suc n m in let at : s * m ≡ n * m = ap (λ (k : ℕ). k * m) same in omega (arith, at, step)
+  | inr ge ↦ let same : s ≡ n = omega (arith, lt, ge) in let step : suc n * m ≡ n * m + m = times_suc n m in
+      let at : s * m ≡ n * m = ap (λ (k : ℕ). k * m) same in omega (arith, at, step)
 ]
   where
     times_suc : (n m : ℕ) → suc n * m ≡ n * m + m
@@ -53,7 +54,8 @@ new_at q l (suc n) i d lt =
     each_more P (new_senders q l n) (new_sender q l n) (λ i d less more. new_at q l n i d (omega (arith, less, length-new_senders q l n)))
     (λ less. ap (new_sender q l) (sym (length-new_senders q l n))) i d (omega (arith, lt, length-new_senders q l (suc n))) lt
 
-pub rooms : (plan : Plan) (t : Team) → IsNewTeam plan t → (i : ℕ) (d : Known) → i < length t.senders.items → (get_or t.senders.items i d).number * plan.own + plan.own ≤ (get_or t.senders.items i d).layout.items
+pub rooms : (plan : Plan) (t : Team) → IsNewTeam plan t → (i : ℕ) (d : Known) → i < length t.senders.items
+    → (get_or t.senders.items i d).number * plan.own + plan.own ≤ (get_or t.senders.items i d).layout.items
 rooms plan t new i d lt =
     let q = t.worker.queue in let l = t.worker.layout in
     let few : i < plan.senders = omega (arith, lt, ap length new.senders_are, length-new_senders q l plan.senders) in
@@ -64,7 +66,8 @@ rooms plan t new i d lt =
 pub own-first : (c : ℕ) (es v w : List Event) → v ≡ [] → Grows c es 0 v w → own c w ≡ es
 own-first c es v w none g = ap (own c) (g.is ∙ ap (λ (z : List Event). z ++ g.new) none) ∙ g.mine
 
-queuer : (m i : ℕ) (q : QueueId) (l : Layout) (w : WorkerState Idle) (a b : Known) → w.queue ≡ q → w.layout ≡ l → a ≡ new_sender q l i → HasQueued (items_at a.number m) a b → IsQueuer m w i b
+queuer : (m i : ℕ) (q : QueueId) (l : Layout) (w : WorkerState Idle) (a b : Known) → w.queue ≡ q → w.layout ≡ l → a ≡ new_sender q l i
+    → HasQueued (items_at a.number m) a b → IsQueuer m w i b
 queuer m i q l w a b queue layout at h =
     let number : a.number ≡ i = ap (λ (k : Known). k.number) at in
     let size : a.layout ≡ w.layout = ap (λ (k : Known). k.layout) at ∙ sym layout in
@@ -77,7 +80,8 @@ queuer m i q l w a b queue layout at h =
           (subst (λ (n : ℕ). Follows a.layout.items n false (items_at n m) (own n b.seen)) number (subst (λ (es : List Event). Follows a.layout.items a.number false (items_at a.number m) es) (sym mine) h.queued));
     }
 
-pub has_run : (plan : Plan) (old new : Team) → IsNewTeam plan old → HasServed old.worker new.worker → AllQueued plan.own old.senders.items new.senders.items → HasStopped (2 * 2 ^ 32) old.program new.program → HasRun plan new
+pub has_run : (plan : Plan) (old new : Team) → IsNewTeam plan old → HasServed old.worker new.worker
+    → AllQueued plan.own old.senders.items new.senders.items → HasStopped (2 * 2 ^ 32) old.program new.program → HasRun plan new
 has_run plan old new n served all stopped =
     let q = old.worker.queue in let l = old.worker.layout in
     let count : length old.senders.items ≡ plan.senders = ap length n.senders_are ∙ length-new_senders q l plan.senders in
@@ -96,6 +100,7 @@ has_run plan old new n served all stopped =
       unchained = served.unchained ∙ untouched_unchained old.worker.seen n.untouched;
       unasked = served.unasked ∙ untouched_unasked old.worker.seen n.untouched;
       open_still = served.closes_is ∙ untouched_open old.worker.seen n.untouched;
+      stopped = served.stopped;
       idle = served.idle;
       legal = served.legal;
       program_number = stopped.same.number_is ∙ p;

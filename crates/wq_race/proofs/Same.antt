@@ -13,7 +13,8 @@ module _ {A : Type 0} where
   get_or-end (y ∷ xs) x d = get_or-end xs x d
 
   -- what holds of each of the elements at its place holds where one comes behind them
-  pub each_more : (P : ℕ → A → Type 0) (xs : List A) (x : A) → ((i : ℕ) (d : A) → i < length xs → P i (get_or xs i d)) → P (length xs) x → (i : ℕ) (d : A) → i < length (xs ++ x ∷ []) → P i (get_or (xs ++ x ∷ []) i d)
+  pub each_more : (P : ℕ → A → Type 0) (xs : List A) (x : A) → ((i : ℕ) (d : A) → i < length xs → P i (get_or xs i d)) → P (length xs) x
+      → (i : ℕ) (d : A) → i < length (xs ++ x ∷ []) → P i (get_or (xs ++ x ∷ []) i d)
   each_more P xs x before here i d lt = elim (cases_lt i (length xs)) [
     | inl less ↦ subst (P i) (sym (get_or-front xs x i d less)) (before i d less)
     | inr ge ↦

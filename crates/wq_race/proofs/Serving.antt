@@ -1,29 +1,58 @@
 -- A worker whose work asks for nothing adds the owner's takes, begins and ends alone.
-use Rattle.std.proofs.Common.{◌≡◌, ◌≢◌, ℕ, ◌+◌, Bool, true, false, eqb, ◌||◌, ◌==◌, Option, Some, None, List, [], ◌∷◌, ◌++◌, length, refl, sym, ap, ◌∙◌, subst, arith, append_assoc}
+use Rattle.std.proofs.Common.{
+  ◌≡◌,
+  ◌≢◌,
+  ℕ,
+  ◌+◌,
+  Bool,
+  true,
+  false,
+  eqb,
+  ◌||◌,
+  ◌==◌,
+  Option,
+  Some,
+  None,
+  List,
+  [],
+  ◌∷◌,
+  ◌++◌,
+  length,
+  refl,
+  sym,
+  ap,
+  ◌∙◌,
+  subst,
+  arith,
+  append_assoc,
+}
 use Rattle.std.specs.Prelude.{filter, count_by}
 use Rattle.std.proofs.lemmas.List.{append-nil}
+use Rattle.std.proofs.lemmas.List.Elements.{filter_map-append}
 use mathlib.Core.List.{IsPrefix}
 use Rattle.wq_words.specs.declared.layout.Layout.{Layout}
 use Rattle.wq_words.specs.declared.event.Event.{Event}
 use Rattle.wq_words.specs.declared.event.Event.TheVariants.{Hold, Busy, Push, Back, Take, Close, Begin, End, Chain, ChainBusy}
-use Rattle.wq_words.specs.History.{IsRunning, is_close, closed, accepted, begun, ended}
+use Rattle.wq_words.specs.History.{IsRunning, is_close, closed, accepted, begun, ended, ended_by}
+use Rattle.wq_words.specs.Numbers.{stop_number}
 use Rattle.wq_words.specs.Legal.{IsLegal, IsComplete}
 use Rattle.wq_words.specs.Seen.{owner_seat, seat_of, own}
 use Rattle.wq_words.proofs.Seen.{own-append, own_none, count_own}
-use Rattle.wq_live.specs.Counts.{is_chain, is_chain_busy}
+use Rattle.wq_words.specs.Counting.{is_chain, is_chain_busy}
 use Rattle.wq_live.specs.Batch.{next_of}
 use Rattle.wq_worker.specs.declared.ran.Ran.{Ran}
 use Rattle.wq_worker.specs.declared.ran.Ran.TheVariants.{Item, Barrier, Stop, Nothing, Owing}
-use Rattle.wq_worker.specs.Seats.{is_ours, taking, taking_of}
+use Rattle.wq_words.specs.Seen.{is_ours}
+use Rattle.wq_worker.specs.Seats.{taking, taking_of}
 use Rattle.wq_worker.specs.Follow.{Follows}
-use Rattle.wq_worker.specs.State.{WorkerState, items_of, Moves}
+use Rattle.wq_worker.specs.State.{WorkerState, items_among, Moves}
 use Rattle.wq_worker.specs.Step.{Starts, item, other, owed, Ends, ends, Owes, owes, Runs}
 use Rattle.wq_worker.specs.Rows.{Row, none, more, IsExecution, IsNotStop, Serves, Closes, was_closed, closes}
 use Rattle.wq_worker.proofs.Owned.{count_by-append, filter-filter, owner_of_both, stays}
 use Rattle.wq_worker.proofs.Running.{runs_some}
 use Rattle.wq_worker.proofs.State.{quiet_taking}
 use Rattle.wq_race.specs.declared.idle.Idle.{Idle}
-use Rattle.wq_worker.specs.Book.{BookState, Destroys, Leaves}
+use Rattle.wq_worker.specs.Book.{BookState, Destroys, LeavesUnfinished}
 use Rattle.wq_race.specs.Race.{HasServed}
 use Rattle.wq_race.specs.Outcome.{HasGoneOn, HasEnded}
 
@@ -108,7 +137,8 @@ pub chains_same : (v w : List Event) → own owner_seat w ≡ own owner_seat v �
 chains_same v w same = count_own is_chain owner_seat chain_own w ∙ (ap (count_by is_chain) same ∙ sym (count_own is_chain owner_seat chain_own v))
 
 pub asks_same : (v w : List Event) → own owner_seat w ≡ own owner_seat v → count_by is_chain_busy w ≡ count_by is_chain_busy v
-asks_same v w same = count_own is_chain_busy owner_seat chain_busy_own w ∙ (ap (count_by is_chain_busy) same ∙ sym (count_own is_chain_busy owner_seat chain_busy_own v))
+asks_same v w same = count_own is_chain_busy owner_seat chain_busy_own w
+    ∙ (ap (count_by is_chain_busy) same ∙ sym (count_own is_chain_busy owner_seat chain_busy_own v))
 
 -- the same worker, whose sender made no event and whose owner chained nothing, closed so often, and runs nothing
 pub record Plain (n : ℕ) (a b : WorkerState Idle) : Type 0 where
@@ -124,7 +154,18 @@ pub record Plain (n : ℕ) (a b : WorkerState Idle) : Type 0 where
   pub legal : IsLegal a.layout a.seen → IsLegal b.layout b.seen
 
 pub plain_still : (a : WorkerState Idle) → ¬ IsRunning a.seen → Plain 0 a a
-plain_still a idle = record { queue_is = refl; layout_is = refl; number_is = refl; begins = ([], append-nil a.seen); unsent = refl; unchained = refl; unasked = refl; closes_is = omega arith; idle = idle; legal = λ legal. legal }
+plain_still a idle = record {
+  queue_is = refl;
+  layout_is = refl;
+  number_is = refl;
+  begins = ([], append-nil a.seen);
+  unsent = refl;
+  unchained = refl;
+  unasked = refl;
+  closes_is = omega arith;
+  idle = idle;
+  legal = λ legal. legal;
+}
 
 pub plain_on : (m n : ℕ) (a b c : WorkerState Idle) → Plain m a b → Plain n b c → Plain (m + n) a c
 plain_on m n a b c x y = record {
@@ -152,7 +193,8 @@ moves_plain xs n a b s idle m =
       layout_is = m.layout;
       number_is = m.number;
       begins = (new, sym m.adds.is);
-      unsent = ap (own a.number) m.adds.is ∙ (own-append a.number a.seen new ∙ (ap (λ (z : List Event). own a.number a.seen ++ z) mine ∙ append-nil (own a.number a.seen)));
+      unsent = ap (own a.number) m.adds.is ∙ (own-append a.number a.seen new
+          ∙ (ap (λ (z : List Event). own a.number a.seen ++ z) mine ∙ append-nil (own a.number a.seen)));
       unchained = omega (arith, ap (count_by is_chain) m.adds.is, count_by-append is_chain a.seen new, chains);
       unasked = omega (arith, ap (count_by is_chain_busy) m.adds.is, count_by-append is_chain_busy a.seen new, asks);
       closes_is = omega (arith, (owner_of_both a.number xs 0 a.seen b.seen m.adds).closes, s.closes_is);
@@ -169,9 +211,16 @@ module _ (may : Idle → ℕ → List ℕ → Idle → Type 0) (asks_nothing : (
     pub none : f ≡ []
     pub still : Still a.number 0 es
 
-  started : (a : WorkerState Idle) (k : ℕ) (f : List ℕ) (v : Idle) (es : List Event) → a.number ≢ owner_seat → ¬ IsRunning a.seen → Starts may a k f v es → Started a f es
-  started a k f v es not idle (item rests lt ran is) = record { none = asks_nothing a.work k f v ran; still = subst (Still a.number 0) (sym is) (still_on a.number 0 0 (taking a.seen) (Begin k ∷ []) (still_taking a.number not a.seen) (still_begin a.number k not)) }
-  started a k f v es not idle (other rests ge is_none same is) = record { none = is_none; still = subst (Still a.number 0) (sym is) (still_on a.number 0 0 (taking a.seen) (Begin k ∷ []) (still_taking a.number not a.seen) (still_begin a.number k not)) }
+  started : (a : WorkerState Idle) (k : ℕ) (f : List ℕ) (v : Idle) (es : List Event) → a.number ≢ owner_seat → ¬ IsRunning a.seen
+      → Starts may a k f v es → Started a f es
+  started a k f v es not idle (item rests lt ran is) = record {
+    none = asks_nothing a.work k f v ran;
+    still = subst (Still a.number 0) (sym is) (still_on a.number 0 0 (taking a.seen) (Begin k ∷ []) (still_taking a.number not a.seen) (still_begin a.number k not));
+  }
+  started a k f v es not idle (other rests ge is_none same is) = record {
+    none = is_none;
+    still = subst (Still a.number 0) (sym is) (still_on a.number 0 0 (taking a.seen) (Begin k ∷ []) (still_taking a.number not a.seen) (still_begin a.number k not));
+  }
   started a k f v es not idle (owed runs left same is) = absurd (idle (runs_some a.seen k runs))
 
   ends_plain : (k : ℕ) (a b : WorkerState Idle) → a.number ≢ owner_seat → ¬ IsRunning a.seen → Ends may a k b → Plain 0 a b
@@ -184,10 +233,16 @@ module _ (may : Idle → ℕ → List ℕ → Idle → Type 0) (asks_nothing : (
   nothing_plain : (a b : WorkerState Idle) → a.number ≢ owner_seat → ¬ IsRunning a.seen → Moves (taking a.seen) 0 a b → Plain 0 a b
   nothing_plain a b not idle m =
       let same = stays (taking a.seen) a.seen b.seen (quiet_taking a.seen) (owner_of_both a.number (taking a.seen) 0 a.seen b.seen m.adds) in
-      moves_plain (taking a.seen) 0 a b (still_taking a.number not a.seen) (λ (runs : IsRunning b.seen). idle (omega (arith, runs, ap (length {A = ℕ}) same.begun_same, ap (length {A = ℕ}) same.ended_same))) m
+      moves_plain (taking a.seen) 0 a b (still_taking a.number not a.seen) (λ (runs : IsRunning b.seen). idle (omega (
+        arith,
+        runs,
+        ap (length {A = ℕ}) same.begun_same,
+        ap (length {A = ℕ}) same.ended_same,
+      ))) m
 
   owes_none : (k : ℕ) (a b : WorkerState Idle) → a.number ≢ owner_seat → ¬ IsRunning a.seen → Owes may a k b → ⊥
-  owes_none k a b not idle (owes f qs j rest es fs st split left opens told moved runs) = none_cons qs j rest (sym split ∙ (started a k f b.work es not idle st).none)
+  owes_none k a b not idle (owes f qs j rest es fs st split left opens told moved runs) = none_cons qs j rest (sym split
+      ∙ (started a k f b.work es not idle st).none)
 
   runs_plain : (r : Ran) (a b : WorkerState Idle) → a.number ≢ owner_seat → ¬ IsRunning a.seen → Runs may r a b → Plain 0 a b
   runs_plain (Item k) a b not idle t = ends_plain t.0 a b not idle t.2
@@ -205,11 +260,36 @@ module _ (may : Idle → ℕ → List ℕ → Idle → Type 0) (asks_nothing : (
   legal_ends : (k : ℕ) (a b : WorkerState Idle) → Ends may a k b → IsLegal b.layout b.seen
   legal_ends k a b (ends f es fs st told moved rests) = moved.legal
 
+  -- what ended last is what this execution was of
+  ended_last : (k : ℕ) (a b : WorkerState Idle) → Ends may a k b → (before : List ℕ) × (ended b.seen ≡ before ++ k ∷ [])
+  ended_last k a b (ends f es fs st told moved rests) =
+      let all = es ++ (fs ++ End k ∷ []) in let front = ended es ++ ended fs in
+      let is : ended all ≡ front ++ k ∷ [] = filter_map-append ended_by es (fs ++ End k ∷ [])
+      ∙ (ap (λ (z : List ℕ). ended es ++ z) (filter_map-append ended_by fs (End k ∷ [])) ∙ sym (append_assoc (ended es) (ended fs) (k ∷ []))) in (
+        ended a.seen ++ front,
+        (owner_of_both a.number all 0 a.seen b.seen moved.adds).ended_is
+            ∙ (ap (λ (z : List ℕ). ended a.seen ++ z) is ∙ sym (append_assoc (ended a.seen) front (k ∷ []))),
+      )
+
   pub serves_plain : (a b : WorkerState Idle) → a.number ≢ owner_seat → ¬ IsRunning a.seen → Serves may a b → HasServed a b
   serves_plain a b not idle s =
       let before = row_plain IsNotStop s.steps a s.last not idle s.row in
-      let all = plain_on 0 0 a s.last b before (runs_plain Stop s.last b (subst (λ (c : ℕ). c ≢ owner_seat) (sym before.number_is) not) before.idle s.stops) in
-      record { queue_is = all.queue_is; layout_is = all.layout_is; number_is = all.number_is; unsent = all.unsent; unchained = all.unchained; unasked = all.unasked; closes_is = omega (arith, all.closes_is); idle = all.idle; legal = legal_ends s.stops.0 s.last b s.stops.2 }
+      let final = runs_plain Stop s.last b (subst (λ (c : ℕ). c ≢ owner_seat) (sym before.number_is) not) before.idle s.stops in
+      let all = plain_on 0 0 a s.last b before final in
+      let last = ended_last s.stops.0 s.last b s.stops.2 in
+      let number : s.stops.0 ≡ stop_number b.layout = s.stops.1 ∙ ap stop_number (sym final.layout_is) in
+      record {
+        queue_is = all.queue_is;
+        layout_is = all.layout_is;
+        number_is = all.number_is;
+        unsent = all.unsent;
+        unchained = all.unchained;
+        unasked = all.unasked;
+        closes_is = omega (arith, all.closes_is);
+        stopped = (last.0, last.1 ∙ ap (λ (k : ℕ). last.0 ++ k ∷ []) number);
+        idle = all.idle;
+        legal = legal_ends s.stops.0 s.last b s.stops.2;
+      }
 
   -- a close, where the queue was open
   pub closes_plain : (a b : WorkerState Idle) → a.number ≢ owner_seat → ¬ IsRunning a.seen → Closes a b → (n : ℕ) × Plain n a b
@@ -221,15 +301,27 @@ module _ (may : Idle → ℕ → List ℕ → Idle → Type 0) (asks_nothing : (
       (1, moves_plain (Close ∷ []) 1 a b (still_close a.number not) (λ (runs : IsRunning b.seen). idle (omega (arith, runs, begun_is, ended_is))) m)
 
   went_on : (n : ℕ) (a b : WorkerState Idle) → IsLegal a.layout a.seen → Plain n a b → HasGoneOn a b
-  went_on n a b legal p = record { queue_is = p.queue_is; layout_is = p.layout_is; number_is = p.number_is; begins = p.begins; unsent = p.unsent; unchained = p.unchained; unasked = p.unasked; idle = p.idle; legal = p.legal legal }
+  went_on n a b legal p = record {
+    queue_is = p.queue_is;
+    layout_is = p.layout_is;
+    number_is = p.number_is;
+    begins = p.begins;
+    unsent = p.unsent;
+    unchained = p.unchained;
+    unasked = p.unasked;
+    idle = p.idle;
+    legal = p.legal legal;
+  }
 
-  pub leaves_on : (log : Idle → List ℕ) (limit : ℕ) (a b : WorkerState Idle) (left : ℕ) → a.number ≢ owner_seat → ¬ IsRunning a.seen → IsLegal a.layout a.seen → Leaves log may limit a b left → HasGoneOn a b
+  pub leaves_on : (log : Idle → List ℕ) (limit : ℕ) (a b : WorkerState Idle) (left : ℕ) → a.number ≢ owner_seat → ¬ IsRunning a.seen
+      → IsLegal a.layout a.seen → LeavesUnfinished log may limit a b left → HasGoneOn a b
   leaves_on log limit a b left not idle legal l =
       let first = closes_plain a l.closed not idle l.closes in
       let rest = row_plain IsExecution limit l.closed b (subst (λ (s : ℕ). s ≢ owner_seat) (sym first.1.number_is) not) first.1.idle l.row in
       went_on (first.0 + 0) a b legal (plain_on first.0 0 a l.closed b first.1 rest)
 
-  pub destroys_on : (log : Idle → List ℕ) → ((w : Idle) → log w ≡ w.ran.items) → (limit : ℕ) (a : WorkerState Idle) (work : Idle) (book : BookState) → a.number ≢ owner_seat → ¬ IsRunning a.seen → IsLegal a.layout a.seen
+  pub destroys_on : (log : Idle → List ℕ) → ((w : Idle) → log w ≡ w.ran.items)
+      → (limit : ℕ) (a : WorkerState Idle) (work : Idle) (book : BookState) → a.number ≢ owner_seat → ¬ IsRunning a.seen → IsLegal a.layout a.seen
       → Destroys log may limit a work book → HasEnded a work book
   destroys_on log log_is limit a work book not idle legal d =
       let first = closes_plain a d.closed not idle d.closes in
@@ -237,47 +329,14 @@ module _ (may : Idle → ℕ → List ℕ → Idle → Type 0) (asks_nothing : (
       let all = plain_on first.0 0 a d.closed d.last first.1 rest in
       let seen = sym d.seen_is in
       record {
-        queue_is = d.queue_is ∙ all.queue_is;
-        layout_is = d.layout_is ∙ all.layout_is;
-        number_is = d.own_is ∙ all.number_is;
+        queue_is = d.queue_is;
+        layout_is = d.layout_is;
+        number_is = d.own_is;
         begins = subst (λ (h : List Event). IsPrefix a.seen h) seen all.begins;
         unsent = subst (λ (h : List Event). own a.number h ≡ own a.number a.seen) seen all.unsent;
         unchained = subst (λ (h : List Event). count_by is_chain h ≡ count_by is_chain a.seen) seen all.unchained;
         unasked = subst (λ (h : List Event). count_by is_chain_busy h ≡ count_by is_chain_busy a.seen) seen all.unasked;
-        legal = subst (λ (h : List Event). IsLegal book.layout h) seen (subst (λ (l : Layout). IsLegal l d.last.seen) (sym d.layout_is) (all.legal legal));
+        legal = d.legal;
         complete = subst (λ (h : List Event). IsComplete h) seen d.complete;
-        ran_is = sym (log_is work) ∙ (d.ran_accepted ∙ (λ i. items_of (sym d.layout_is i) (accepted (seen i))));
+        ran_is = sym (log_is work) ∙ d.ran_accepted;
       }
-
-pub goes_still : (a : WorkerState Idle) → ¬ IsRunning a.seen → IsLegal a.layout a.seen → HasGoneOn a a
-goes_still a idle legal = record { queue_is = refl; layout_is = refl; number_is = refl; begins = ([], append-nil a.seen); unsent = refl; unchained = refl; unasked = refl; idle = idle; legal = legal }
-
-prefix_two : (xs ys zs : List Event) → IsPrefix xs ys → IsPrefix ys zs → IsPrefix xs zs
-prefix_two xs ys zs a b = (a.0 ++ b.0, sym (append_assoc xs a.0 b.0) ∙ (ap (λ (z : List Event). z ++ b.0) a.1 ∙ b.1))
-
-pub goes_on : (a b c : WorkerState Idle) → HasGoneOn a b → HasGoneOn b c → HasGoneOn a c
-goes_on a b c x y = record {
-  queue_is = y.queue_is ∙ x.queue_is;
-  layout_is = y.layout_is ∙ x.layout_is;
-  number_is = y.number_is ∙ x.number_is;
-  begins = prefix_two a.seen b.seen c.seen x.begins y.begins;
-  unsent = subst (λ (s : ℕ). own s c.seen ≡ own s b.seen) x.number_is y.unsent ∙ x.unsent;
-  unchained = y.unchained ∙ x.unchained;
-  unasked = y.unasked ∙ x.unasked;
-  idle = y.idle;
-  legal = y.legal;
-}
-
-pub ends_on : (a b : WorkerState Idle) (work : Idle) (book : BookState) → HasGoneOn a b → HasEnded b work book → HasEnded a work book
-ends_on a b work book x y = record {
-  queue_is = y.queue_is ∙ x.queue_is;
-  layout_is = y.layout_is ∙ x.layout_is;
-  number_is = y.number_is ∙ x.number_is;
-  begins = prefix_two a.seen b.seen book.seen x.begins y.begins;
-  unsent = subst (λ (s : ℕ). own s book.seen ≡ own s b.seen) x.number_is y.unsent ∙ x.unsent;
-  unchained = y.unchained ∙ x.unchained;
-  unasked = y.unasked ∙ x.unasked;
-  legal = y.legal;
-  complete = y.complete;
-  ran_is = y.ran_is;
-}

@@ -1,5 +1,34 @@
 -- A history in which the seats of a race did what they do.
-use Rattle.std.proofs.Common.{◌≡◌, ℕ, zero, suc, ◌+◌, ◌*◌, ◌<◌, ◌≤◌, Bool, false, cond, eqb, List, [], ◌∷◌, ◌++◌, length, inl, inr, refl, sym, ap, ◌∙◌, subst, arith, eq-eqb, length-append, nat_lt}
+use Rattle.std.proofs.Common.{
+  ◌≡◌,
+  ℕ,
+  zero,
+  suc,
+  ◌+◌,
+  ◌*◌,
+  ◌<◌,
+  ◌≤◌,
+  Bool,
+  false,
+  cond,
+  eqb,
+  List,
+  [],
+  ◌∷◌,
+  ◌++◌,
+  length,
+  inl,
+  inr,
+  refl,
+  sym,
+  ap,
+  ◌∙◌,
+  subst,
+  arith,
+  eq-eqb,
+  length-append,
+  nat_lt,
+}
 use Rattle.std.specs.Prelude.{count_by}
 use Rattle.std.specs.List.{AllByRecursion}
 use Rattle.std.proofs.lemmas.Bool.{cases_lt, lt-ltb, le-ltb}
@@ -15,16 +44,31 @@ use Rattle.wq_words.specs.History.{accepted_by, accepted}
 use Rattle.wq_words.specs.Legal.{IsLegal}
 use Rattle.wq_words.specs.Seen.{owner_seat, seat_of, own}
 use Rattle.wq_words.proofs.Seen.{count_own}
-use Rattle.wq_live.specs.Counts.{is_queued_by, is_chain}
-use Rattle.wq_worker.specs.State.{items_of}
+use Rattle.wq_words.specs.Counting.{is_queued_by, is_chain}
+use Rattle.wq_worker.specs.State.{items_among}
 use Rattle.wq_worker.specs.Follow.{Follows}
-use Rattle.wq_worker.proofs.State.{items_of-item, items_of-other}
-use Rattle.wq_worker.proofs.Balancing.{is_queued_below, below_more, below_none}
+use Rattle.wq_worker.proofs.State.{items_among-item, items_among-other}
+use Rattle.wq_worker.proofs.Pushes.{is_queued_below, below_more, below_none}
 use Rattle.wq_race.specs.Plan.{IsLayoutOf}
 use Rattle.wq_race.specs.Race.{items_at, IsOfStop}
 use Rattle.wq_race.specs.Outcome.{queueings}
 use Rattle.wq_race.proofs.Running.{own_room}
-use Rattle.wq_race.proofs.Events.{Has, has_own, own_has, busy_set, IsSet, by_hold, by_chain, hold_seat, push_seat, row_number, IsWithin, row_apart, row_pushed, same_row}
+use Rattle.wq_race.proofs.Events.{
+  Has,
+  has_own,
+  own_has,
+  busy_set,
+  IsSet,
+  by_hold,
+  by_chain,
+  hold_seat,
+  push_seat,
+  row_number,
+  IsWithin,
+  row_apart,
+  row_pushed,
+  same_row,
+}
 
 -- n senders queued m items each, and no seat but theirs, the program's and the owner's made an event
 pub record IsRace (n m : ℕ) (layout : Layout) (h : List Event) : Type 0 where
@@ -39,7 +83,8 @@ pub record IsRace (n m : ℕ) (layout : Layout) (h : List Event) : Type 0 where
 
 has_chain : (k : ℕ) (h : List Event) → Has (Chain k) h → 0 < count_by is_chain h
 has_chain k [] has = absurd has
-has_chain k (x ∷ xs) (inl is) = let one : cond {A = ℕ} (is_chain x) 1 0 ≡ 1 = ap (λ (e : Event). cond {A = ℕ} (is_chain e) 1 0) (sym is) in omega (arith, one, sum_by-cons (λ e. cond (is_chain e) 1 0) x xs)
+has_chain k (x ∷ xs) (inl is) = let one : cond {A = ℕ} (is_chain x) 1 0 ≡ 1 = ap (λ (e : Event). cond {A = ℕ} (is_chain e) 1 0) (sym is) in
+    omega (arith, one, sum_by-cons (λ e. cond (is_chain e) 1 0) x xs)
 has_chain k (x ∷ xs) (inr has) = omega (arith, has_chain k xs has, sum_by-cons (λ e. cond (is_chain e) 1 0) x xs)
 
 stop_of : (layout : Layout) (e : Event) (es : List Event) → AllByRecursion (IsOfStop layout) es → Has e es → IsOfStop layout e
@@ -127,19 +172,23 @@ module _ (n m : ℕ) (layout : Layout) (h : List Event) (r : IsRace n m layout h
 
   -- each sender's items were found free on an open queue
   pub was_queued : (s : ℕ) → s < n → own s h ≡ queueings s (items_at s m)
-  was_queued s lt = row_pushed layout.items s (s * m) m (own s h) (omega (arith, own_room s n m lt, r.sized.items_is)) (λ k. was_free s k lt) (λ k. r.opens s k lt) (r.queued s lt)
+  was_queued s lt = row_pushed layout.items s (s * m) m (own s h) (omega (
+    arith,
+    own_room s n m lt,
+    r.sized.items_is,
+  )) (λ k. was_free s k lt) (λ k. r.opens s k lt) (r.queued s lt)
 
-  agree : (e : Event) → Has e h → length (items_of layout (accepted (e ∷ []))) ≡ cond (is_queued_below n e) 1 0
+  agree : (e : Event) → Has e h → length (items_among layout (accepted (e ∷ []))) ≡ cond (is_queued_below n e) 1 0
   agree (Push t k) has = each (whose n t (seat_few t (push_seat layout t k h r.legal has)))
     where
-      each : Whose n t → length (items_of layout (k ∷ [])) ≡ cond (nat_lt t n) 1 0
+      each : Whose n t → length (items_among layout (k ∷ [])) ≡ cond (nat_lt t n) 1 0
       each (plans low) =
           let w = row_number layout.items t (t * m) m (Push t k) (own t h) (r.queued t low) (has_own (Push t k) h has) in
-          ap length (items_of-item layout k (below_items t k low w)) ∙ sym (ap (λ (b : Bool). cond b 1 0) (lt-ltb t n low))
+          ap length (items_among-item layout k (below_items t k low w)) ∙ sym (ap (λ (b : Bool). cond b 1 0) (lt-ltb t n low))
       each (workers is) = absurd (nothing_sent (Push t k) is has)
       each (programs is) =
           let past : n ≤ t = omega (arith, is) in
-          ap length (items_of-other layout k (stop_high k (of_stop (Push t k) is has))) ∙ sym (ap (λ (b : Bool). cond b 1 0) (le-ltb t n past))
+          ap length (items_among-other layout k (stop_high k (of_stop (Push t k) is has))) ∙ sym (ap (λ (b : Bool). cond b 1 0) (le-ltb t n past))
   agree (Chain k) has = absurd (omega (arith, has_chain k h has, r.unchained))
   agree (Hold s k) has = refl
   agree (Busy s k) has = refl
@@ -150,13 +199,21 @@ module _ (n m : ℕ) (layout : Layout) (h : List Event) (r : IsRace n m layout h
   agree (End k) has = refl
   agree (ChainBusy k) has = refl
 
-  items_counted : (es : List Event) → ((e : Event) → Has e es → length (items_of layout (accepted (e ∷ []))) ≡ cond (is_queued_below n e) 1 0) → length (items_of layout (accepted es)) ≡ count_by (is_queued_below n) es
+  items_counted : (es : List Event) → ((e : Event) → Has e es → length (items_among layout (accepted (e ∷ []))) ≡ cond (is_queued_below n e) 1 0)
+      → length (items_among layout (accepted es)) ≡ count_by (is_queued_below n) es
   items_counted [] all = refl
   items_counted (e ∷ es) all =
       let one = all e (inl refl) in let rest = items_counted es (λ f has. all f (inr has)) in
-      let parts : items_of layout (accepted (e ∷ es)) ≡ items_of layout (accepted (e ∷ [])) ++ items_of layout (accepted es) =
-      ap (items_of layout) (filter_map-append accepted_by (e ∷ []) es) ∙ filter-append (λ k. nat_lt k layout.items) (accepted (e ∷ [])) (accepted es) in
-      omega (arith, ap length parts, length-append (items_of layout (accepted (e ∷ []))) (items_of layout (accepted es)), one, rest, sum_by-cons (λ x. cond (is_queued_below n x) 1 0) e es)
+      let parts : items_among layout (accepted (e ∷ es)) ≡ items_among layout (accepted (e ∷ [])) ++ items_among layout (accepted es) =
+      ap (items_among layout) (filter_map-append accepted_by (e ∷ []) es) ∙ filter-append (λ k. nat_lt k layout.items) (accepted (e ∷ [])) (accepted es) in
+      omega (
+        arith,
+        ap length parts,
+        length-append (items_among layout (accepted (e ∷ []))) (items_among layout (accepted es)),
+        one,
+        rest,
+        sum_by-cons (λ x. cond (is_queued_below n x) 1 0) e es,
+      )
 
   queued_counted : (s : ℕ) → s < n → count_by (is_queued_by s) h ≡ m
   queued_counted s lt = queued_own s h ∙ (ap (count_by (is_queued_by s)) (was_queued s lt) ∙ (pushes s (items_at s m) ∙ length-range_with_len (s * m) m))
@@ -170,5 +227,5 @@ module _ (n m : ℕ) (layout : Layout) (h : List Event) (r : IsRace n m layout h
       omega (arith, more, below_more c h, below_counted c (omega (arith, le)), queued_counted c (omega (arith, le)), step)
 
   -- as many items were accepted as the senders have
-  pub all_accepted : length (items_of layout (accepted h)) ≡ n * m
+  pub all_accepted : length (items_among layout (accepted h)) ≡ n * m
   all_accepted = items_counted h agree ∙ below_counted n (omega arith)

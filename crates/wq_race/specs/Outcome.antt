@@ -4,16 +4,17 @@ use Rattle.std.specs.Fmt.{decimal}
 use mathlib.Core.List.{IsPrefix}
 use Rattle.wq_words.specs.declared.event.Event.{Event}
 use Rattle.wq_words.specs.declared.event.Event.TheVariants.{Hold, Push}
-use Rattle.wq_words.specs.History.{accepted, ended, IsRunning}
+use Rattle.wq_words.specs.History.{accepted, ended, is_close, IsRunning}
 use Rattle.wq_words.specs.Legal.{IsLegal, IsComplete}
 use Rattle.wq_words.specs.Seen.{own, owner_seat}
-use Rattle.wq_worker.specs.State.{WorkerState, items_of}
+use Rattle.wq_worker.specs.State.{WorkerState, items_among}
 use Rattle.wq_race.specs.declared.idle.Idle.{Idle}
 use Rattle.wq_race.specs.declared.plan.Plan.{Plan}
 use Rattle.wq_race.specs.declared.outcome.Outcome.{Outcome}
-use Rattle.wq_race.specs.Race.{items_at}
+use Rattle.wq_race.specs.Race.{items_at, EndsWithStop}
 use Rattle.wq_live.specs.Known.{Known, IsSame}
-use Rattle.wq_live.specs.Counts.{is_chain, is_chain_busy, sender_counts}
+use Rattle.wq_words.specs.Counting.{is_chain, is_chain_busy}
+use Rattle.wq_live.specs.Counts.{sender_counts}
 use Rattle.wq_worker.specs.declared.book.Ledger.{Ledger}
 use Rattle.wq_worker.specs.Book.{BookState}
 
@@ -32,15 +33,17 @@ queueings s (k ∷ ks) = Hold s k ∷ Push s k ∷ queueings s ks
 
 -- A history of the worker's queue that goes on from what the worker had seen, is legal and has run to its end. In it each of
 -- the plan's senders queued its own items in order, once each, and the outcome's numbers are how many items were accepted
--- and how many executions of items ended: barriers and the stop item are no items.
+-- and how many executions of items ended: barriers and the stop item are no items. The worker served until the stop item had
+-- ended, and the queue was closed after that.
 pub record Tells (plan : Plan) (worker : WorkerState Idle) (outcome : Outcome) : Type 0 where
   pub history : List Event
   pub begins : IsPrefix worker.seen history
   pub legal : IsLegal worker.layout history
   pub complete : IsComplete history
   pub queued : (s : ℕ) → s < plan.senders → own s history ≡ queueings s (items_at s plan.own)
-  pub accepted_is : outcome.accepted ≡ length (items_of worker.layout (accepted history))
-  pub ran_is : outcome.ran ≡ length (items_of worker.layout (ended history))
+  pub served : (front : List Event) × IsPrefix front history × (count_by is_close front ≡ 0) × EndsWithStop worker.layout front
+  pub accepted_is : outcome.accepted ≡ length (items_among worker.layout (accepted history))
+  pub ran_is : outcome.ran ≡ length (items_among worker.layout (ended history))
 
 -- each item of the plan was accepted once and ran once, and the ledgers balance
 pub record IsWhole (plan : Plan) (outcome : Outcome) : Type 0 where
@@ -92,7 +95,7 @@ pub record HasEnded (old : WorkerState Idle) (work : Idle) (book : BookState) : 
   pub unasked : count_by is_chain_busy book.seen ≡ count_by is_chain_busy old.seen
   pub legal : IsLegal book.layout book.seen
   pub complete : IsComplete book.seen
-  pub ran_is : work.ran.items ≡ items_of book.layout (accepted book.seen)
+  pub ran_is : work.ran.items ≡ items_among book.layout (accepted book.seen)
 
 -- the ledger of a sender that makes no event more
 abbrev pub ledger_of : Known → Ledger

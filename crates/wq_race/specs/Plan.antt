@@ -3,7 +3,7 @@ use Rattle.std.specs.Prelude.{◌≡◌, ℕ, ◌+◌, ◌*◌, ◌≤◌}
 use Rattle.wq_words.specs.declared.layout.Layout.{Layout}
 
 -- so many senders, with so many items of their own each
-pub record AreInLimits (senders own : ℕ) : Type 0 where
+pub record AreInPlanLimits (senders own : ℕ) : Type 0 where
   pub some_sender : 1 ≤ senders
   pub few_senders : senders ≤ 32
   pub some_item : 1 ≤ own

@@ -4,7 +4,7 @@ use Rattle.serde_json.specs.Data.{Data, Members, no_members, member}
 use Rattle.serde_json.specs.Read.{read}
 use Rattle.serde_json.specs.Find.{get, as_object, as_number, as_u64}
 use Rattle.wq_race.specs.declared.plan.Plan.{Plan}
-use Rattle.wq_race.specs.Plan.{AreInLimits}
+use Rattle.wq_race.specs.Plan.{AreInPlanLimits}
 use Rattle.wq_race.specs.declared.plan_text.PlanError.{PlanError}
 use Rattle.wq_race.specs.declared.plan_text.PlanError.TheVariants as error
 
@@ -25,16 +25,16 @@ pub record HasKeys (d : Data) : Type 0 where
   pub own : get (codes "own") d ≢ None
 
 -- the whole number that stands at a key, written with digits alone
-abbrev pub number_at : List ℕ → Data → Option ℕ
-number_at key d = option_and_then as_u64 (option_and_then as_number (get key d))
+abbrev pub whole_number_at : List ℕ → Data → Option ℕ
+whole_number_at key d = option_and_then as_u64 (option_and_then as_number (get key d))
 
 -- one queue with one worker, and the senders of the plan with their items
 pub record IsPlan (d : Data) (plan : Plan) : Type 0 where
-  pub queues : number_at (codes "queues") d ≡ Some 1
-  pub workers : number_at (codes "workers") d ≡ Some 1
-  pub senders : number_at (codes "senders") d ≡ Some plan.senders
-  pub own : number_at (codes "own") d ≡ Some plan.own
-  pub in_limits : AreInLimits plan.senders plan.own
+  pub queues : whole_number_at (codes "queues") d ≡ Some 1
+  pub workers : whole_number_at (codes "workers") d ≡ Some 1
+  pub senders : whole_number_at (codes "senders") d ≡ Some plan.senders
+  pub own : whole_number_at (codes "own") d ≡ Some plan.own
+  pub in_limits : AreInPlanLimits plan.senders plan.own
 
 -- the text is short enough, and this is what it says as JSON
 pub record Says (text : List ℕ) (d : Data) : Type 0 where
@@ -43,16 +43,16 @@ pub record Says (text : List ℕ) (d : Data) : Type 0 where
   pub reads : read text ≡ Some d
 
 -- the text spells the plan
-pub record Spells (text : List ℕ) (plan : Plan) : Type 0 where
+pub record SpellsPlan (text : List ℕ) (plan : Plan) : Type 0 where
   pub value : Data
   pub says : Says text value
   pub keys : HasKeys value
   pub is_plan : IsPlan value plan
 
 -- the first refusal of a text, in this order: its size, that it is no JSON, its keys, its values
-abbrev pub IsRefused : List ℕ → PlanError → Type 0
-IsRefused text error.Size = 65536 < length text
-IsRefused text error.Json = (length text ≤ 65536) × (IsUtf8 text → read text ≡ None)
-IsRefused text error.Keys = (d : Data) × Says text d × (¬ HasKeys d)
-IsRefused text error.Limits = (d : Data) × Says text d × HasKeys d × ((plan : Plan) → ¬ IsPlan d plan)
-IsRefused text error.Memory = Unit {0}
+abbrev pub IsNoPlan : List ℕ → PlanError → Type 0
+IsNoPlan text error.Size = 65536 < length text
+IsNoPlan text error.Json = (length text ≤ 65536) × (IsUtf8 text → read text ≡ None)
+IsNoPlan text error.Keys = (d : Data) × Says text d × (¬ HasKeys d)
+IsNoPlan text error.Limits = (d : Data) × Says text d × HasKeys d × ((plan : Plan) → ¬ IsPlan d plan)
+IsNoPlan text error.Memory = Unit {0}

@@ -1,17 +1,17 @@
 -- What the seats of a race have done.
-use Rattle.std.specs.Prelude.{◌≡◌, ℕ, ◌+◌, ◌*◌, ◌^◌, ◌<◌, ◌≤◌, false, List, [], length, count_by, slice_index_or}
+use Rattle.std.specs.Prelude.{◌≡◌, ℕ, ◌+◌, ◌*◌, ◌^◌, ◌<◌, ◌≤◌, false, List, [], ◌∷◌, ◌++◌, length, count_by, slice_index_or}
 use Rattle.std.specs.List.{AllByRecursion, range_with_len}
 use Rattle.std.specs.declared.thread.PromisedHandle.{PromisedHandle}
 use Rattle.wq_words.specs.declared.layout.Layout.{Layout}
 use Rattle.wq_words.specs.declared.event.Event.{Event}
 use Rattle.wq_words.specs.declared.event.Event.TheVariants.{Hold, Busy, Push, Back}
 use Rattle.wq_words.specs.Numbers.{stop_number}
-use Rattle.wq_words.specs.History.{IsRunning, is_close}
+use Rattle.wq_words.specs.History.{IsRunning, is_close, ended}
 use Rattle.wq_words.specs.Legal.{IsLegal}
 use Rattle.wq_words.specs.Seen.{own, Grows}
 use Rattle.wq_live.specs.declared.sender.Sender.{Sender}
 use Rattle.wq_live.specs.Known.{Known, IsSame}
-use Rattle.wq_live.specs.Counts.{is_chain, is_chain_busy}
+use Rattle.wq_words.specs.Counting.{is_chain, is_chain_busy}
 use Rattle.wq_worker.specs.Follow.{Follows}
 use Rattle.wq_worker.specs.State.{WorkerState}
 use Rattle.wq_race.specs.declared.idle.Idle.{Idle}
@@ -47,8 +47,12 @@ pub record HasStopped (few : ℕ) (old new : Known) : Type 0 where
   pub few_events : length events ≤ few
   pub grows : Grows old.number events 0 old.seen new.seen
 
+-- the stop item is the last that ended
+abbrev pub EndsWithStop : Layout → List Event → Type 0
+EndsWithStop layout h = (before : List ℕ) × (ended h ≡ before ++ stop_number layout ∷ [])
+
 -- A worker whose work asks for nothing served: its sender made no event, its owner chained nothing and did not close the
--- queue, and nothing runs.
+-- queue, the stop item ended last, and nothing runs.
 pub record HasServed (old new : WorkerState Idle) : Type 0 where
   pub queue_is : new.queue ≡ old.queue
   pub layout_is : new.layout ≡ old.layout
@@ -57,6 +61,7 @@ pub record HasServed (old new : WorkerState Idle) : Type 0 where
   pub unchained : count_by is_chain new.seen ≡ count_by is_chain old.seen
   pub unasked : count_by is_chain_busy new.seen ≡ count_by is_chain_busy old.seen
   pub closes_is : count_by is_close new.seen ≡ count_by is_close old.seen
+  pub stopped : EndsWithStop new.layout new.seen
   pub idle : ¬ IsRunning new.seen
   pub legal : IsLegal new.layout new.seen
 
@@ -78,7 +83,7 @@ pub record IsQueuer (own_items : ℕ) (worker : WorkerState Idle) (i : ℕ) (s :
   pub queued : Follows worker.layout.items i false (items_at i own_items) (own i s.seen)
 
 -- A team whose threads have ended: each of the plan's senders queued its own items, the program's tried to queue the stop
--- item, and the worker served an open queue, of which nothing runs.
+-- item, and the worker served an open queue until the stop item had ended.
 pub record HasRun (plan : Plan) (team : Team) : Type 0 where
   pub layout : IsLayoutOf plan.senders plan.own team.worker.layout
   pub count : length team.senders.items ≡ plan.senders
@@ -88,6 +93,7 @@ pub record HasRun (plan : Plan) (team : Team) : Type 0 where
   pub unchained : count_by is_chain team.worker.seen ≡ 0
   pub unasked : count_by is_chain_busy team.worker.seen ≡ 0
   pub open_still : count_by is_close team.worker.seen ≡ 0
+  pub stopped : EndsWithStop team.worker.layout team.worker.seen
   pub idle : ¬ IsRunning team.worker.seen
   pub legal : IsLegal team.worker.layout team.worker.seen
   pub program_number : team.program.number ≡ plan.senders + 1

@@ -3,7 +3,7 @@ ghost use Rattle.std.specs.Prelude.{◌≡◌, ◌≢◌, ◌<◌, [], ◌∷◌
 ghost use Rattle.wq_words.specs.History.{IsRunning};
 ghost use Rattle.wq_words.specs.Legal.{IsLegal};
 ghost use Rattle.wq_words.specs.Seen.{owner_seat, own};
-ghost use Rattle.wq_worker.specs.Book.{IsMade};
+ghost use Rattle.wq_worker.specs.Book.{IsLedgerOf};
 ghost use Rattle.wq_worker.specs.Balance.{Balances, IsUnbalanced};
 ghost use Rattle.wq_race.specs.Race.{HasRun};
 ghost use Rattle.wq_race.specs.Outcome.{outcome_line, yes_or_no as said, Tells, IsWhole, HasMet, AllKnown, HasGoneOn, HasEnded, HasHeard, ledger_of, IsTold, IsQueuedSum};
@@ -27,9 +27,9 @@ pub struct Outcome {
 // The book meets a sender, whose ledger comes behind the others.
 fn enter(book: &mut Book, ledgers: &mut Vec<Ledger>, sender: &mut Sender) -> Result<(), AllocError>
     requires one { sender.old.queue ≡ book.old.queue }
-    requires made { All (IsMade book.old.seen) ledgers.old.items }
+    requires made { All (IsLedgerOf book.old.seen) ledgers.old.items }
     ensures book { HasHeard book.old book.new }
-    ensures made { OnOk result (All (IsMade book.new.seen) ledgers.new.items) }
+    ensures made { OnOk result (All (IsLedgerOf book.new.seen) ledgers.new.items) }
     ensures ledger { OnOk result (ledgers.new.items ≡ ledgers.old.items ++ ledger_of sender.old ∷ []) }
     ensures told { own sender.old.number book.new.seen ≡ own sender.old.number sender.old.seen }
 {
@@ -47,7 +47,7 @@ fn enter_all(
     requires one { All (λ s. s.queue ≡ book.old.queue) senders.items }
     requires none { ledgers.old.items ≡ [] }
     ensures book { HasHeard book.old book.new }
-    ensures made { OnOk result (All (IsMade book.new.seen) ledgers.new.items) }
+    ensures made { OnOk result (All (IsLedgerOf book.new.seen) ledgers.new.items) }
     ensures ledgers { OnOk result (ledgers.new.items ≡ map ledger_of senders.items) }
     ensures told { OnOk result (All (IsTold book.old.seen) senders.items) }
 {
@@ -110,7 +110,7 @@ fn queued_by(senders: &[Sender]) -> u128
 
 // Whether the ledgers balance.
 fn is_balanced(book: &Book, ledgers: &[Ledger]) -> bool
-    requires { All (IsMade book.now.seen) ledgers.now }
+    requires { All (IsLedgerOf book.now.seen) ledgers.now }
     ensures { MatchBool result ((totals : Totals) × Balances book.now ledgers.now totals) ((fault : Unbalanced) × IsUnbalanced book.now ledgers.now fault) }
 {
     match book.balance(ledgers) {

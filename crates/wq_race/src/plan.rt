@@ -1,5 +1,5 @@
 //! Plans of a run of a queue by live threads.
-ghost use Rattle.wq_race.specs.Plan.{AreInLimits, IsLayoutOf};
+ghost use Rattle.wq_race.specs.Plan.{AreInPlanLimits, IsLayoutOf};
 
 use wq_words::Layout;
 
@@ -10,7 +10,7 @@ pub struct Plan {
     pub senders: u32,
     /// 1 to 4,096, and at most 4,096 over all senders.
     pub own: u32,
-    ghost in_limits: { AreInLimits senders own },
+    ghost in_limits: { AreInPlanLimits senders own },
 }
 
 impl Plan {

@@ -2,7 +2,7 @@
 ghost use Rattle.std.specs.Prelude.{◌≡◌, ◌≢◌, ◌↔◌, None, IsTrue, MatchResult, MatchOption};
 ghost use Rattle.serde_json.specs.Find.{get};
 ghost use Rattle.serde_json.specs.View.{view};
-ghost use Rattle.wq_race.specs.PlanText.{HasFour, HasKeys, IsPlan, IsRefused, Spells, number_at as number_of};
+ghost use Rattle.wq_race.specs.PlanText.{HasFour, HasKeys, IsPlan, IsNoPlan, SpellsPlan, whole_number_at as number_of};
 
 use crate::plan::Plan;
 use serde_json::Value;
@@ -100,7 +100,7 @@ fn plan_of(value: &Value) -> Option<Plan>
 
 /// The plan that a text spells, or its first refusal.
 pub fn read_plan(alloc: Global, text: &[u8]) -> Result<Plan, PlanError>
-    ensures { MatchResult result (Spells text.now) (IsRefused text.now) }
+    ensures { MatchResult result (SpellsPlan text.now) (IsNoPlan text.now) }
 {
     if text.len() > MOST_BYTES {
         return Err(PlanError::Size);

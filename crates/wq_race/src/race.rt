@@ -54,14 +54,17 @@ impl Promise<Sender> for QueuesOwn {
 
 /// A thread gives back the worker that it was given, which has served.
 #[derive(Drop)]
-struct Serves(Snapshot<Worker<Idle>>);
+pub(crate) struct Serves(Snapshot<Worker<Idle>>);
 
 impl Promise<Worker<Idle>> for Serves {
     ghost kept_by = { λ given back. HasServed given.0.value back };
 }
 
+// The thread of the worker, where one could be made.
+pub(crate) type Serving = Option<PromisedHandle<Worker<Idle>, Serves>>;
+
 // Queues an item, and wakes the worker where it was queued.
-fn queue_item<R: Wait>(rt: &R, sender: &mut Sender, item: u32, unparker: &Unparker)
+pub(crate) fn queue_item<R: Wait>(rt: &R, sender: &mut Sender, item: u32, unparker: &Unparker)
     requires { item < sender.old.layout.items }
     ensures { HasQueued (item ∷ []) sender.old sender.new }
 {
@@ -112,7 +115,7 @@ fn try_stop(program: &mut Sender) -> bool
 }
 
 // Queues the stop item, and wakes the worker. Where all tries were in vain, nothing could stop the worker.
-fn stop<R: Wait>(rt: &R, program: &mut Sender, unparker: &Unparker)
+pub(crate) fn stop<R: Wait>(rt: &R, program: &mut Sender, unparker: &Unparker)
     ensures { HasStopped (2 * 2 ^ 32) program.old program.new }
 {
     if !try_stop(program) {
@@ -150,7 +153,7 @@ fn start_worker<'s, E, R: Wait + Sync>(
     rt: &'s R,
     worker: Worker<Idle>,
     parker: Parker,
-) -> Option<PromisedHandle<Worker<Idle>, Serves>>
+) -> Serving
     requires seat { worker.number ≢ owner_seat }
     requires open { ¬ IsClosed worker.seen }
     requires idle { ¬ IsRunning worker.seen }
@@ -167,18 +170,32 @@ fn start_worker<'s, E, R: Wait + Sync>(
         .ok()
 }
 
-// Keeps the handle of a thread, where memory can be had.
-fn keep(
+// Keeps the handle of a thread; where no memory can be had for that, the thread is joined.
+fn keep<R: Threads>(
+    rt: &R,
     handles: &mut Vec<PromisedHandle<Sender, QueuesOwn>>,
     handle: PromisedHandle<Sender, QueuesOwn>,
 ) -> bool
     ensures { handles.new.items ≡ (if result then handles.old.items ++ handle ∷ [] else handles.old.items) }
 {
-    handles.push(handle).is_ok()
+    match handles.push(handle) {
+        Ok(()) => true,
+        Err(refused) => {
+            let _ = refused.value.join(rt);
+            false
+        }
+    }
+}
+
+// Joins threads whose senders nobody takes.
+fn join_all<R: Threads>(rt: &R, handles: Vec<PromisedHandle<Sender, QueuesOwn>>) {
+    for handle in handles {
+        let _ = handle.join(rt);
+    }
 }
 
 // A thread for each sender, up to the first that could not be made.
-fn start_senders<'s, E, R: Wait + Sync>(
+fn start_senders<'s, E, R: Threads + Wait + Sync>(
     scope: &Scope<'s, E>,
     rt: &'s R,
     alloc: Global,
@@ -198,14 +215,15 @@ fn start_senders<'s, E, R: Wait + Sync>(
         let Some(handle) = start_sender(scope, rt, sender, own, unparker) else {
             return handles;
         };
-        if !keep(&mut handles, handle) {
+        if !keep(rt, &mut handles, handle) {
             return handles;
         }
     }
     handles
 }
 
-// Each sender queues its own items in a thread. Where a thread could not be made, those that were made go to their end.
+// Each sender queues its own items in a thread. Where a thread could not be made, those that were made go to their end. All
+// have ended afterwards.
 fn run_senders<'s, E, R: Threads + Wait + Sync>(
     scope: &Scope<'s, E>,
     rt: &'s R,
@@ -223,8 +241,37 @@ fn run_senders<'s, E, R: Threads + Wait + Sync>(
     match join_promised(rt, handles) {
         Ok(senders) if are_all => Ok(senders),
         Ok(_) => Err(RaceError::Thread),
-        Err(_) => Err(RaceError::Memory),
+        Err(refused) => {
+            join_all(rt, refused.value);
+            Err(RaceError::Memory)
+        }
     }
+}
+
+// The worker serves in a thread, and meanwhile the senders queue in theirs, which have all ended afterwards. The program's own
+// sender has done nothing.
+pub(crate) fn queue_all<'s, E, R: Threads + Wait + Sync>(
+    scope: &Scope<'s, E>,
+    rt: &'s R,
+    alloc: Global,
+    plan: Plan,
+    team: Team,
+    parker: Parker,
+    unparker: &Unparker,
+) -> (Serving, Result<Vec<Sender>, RaceError>, Sender)
+    requires { IsNewTeam plan team }
+    ensures serving { IfSome result.0 (λ handle. handle.promise.0.value ≡ team.worker) }
+    ensures queued { IfOk result.1 (λ back. AllQueued plan.own team.senders.items back.items) }
+    ensures program { result.2 ≡ team.program }
+{
+    let Team {
+        worker,
+        senders,
+        program,
+    } = team;
+    let serving = start_worker(scope, rt, worker, parker);
+    let senders = run_senders(scope, rt, alloc, senders, plan.own, unparker);
+    (serving, senders, program)
 }
 
 // The senders queue, and the worker serves until the stop item, which is queued when all senders have ended.
@@ -240,27 +287,24 @@ fn run_threads<'s, E, R: Threads + Wait + Sync>(
     requires { IsNewTeam plan team }
     ensures { IfOk result (HasRun plan) }
 {
-    let Team {
-        worker,
-        senders,
-        mut program,
-    } = team;
-    let serving = start_worker(scope, rt, worker, parker);
-    let senders = run_senders(scope, rt, alloc, senders, plan.own, unparker);
+    let (serving, senders, mut program) = queue_all(scope, rt, alloc, plan, team, parker, unparker);
     stop(rt, &mut program, unparker);
     let Some(serving) = serving else {
         return Err(RaceError::Thread);
     };
     let worker = serving.join(rt);
-    Ok(Team {
-        worker,
-        senders: senders?,
-        program,
-    })
+    match senders {
+        Ok(senders) => Ok(Team {
+            worker,
+            senders,
+            program,
+        }),
+        Err(error) => Err(error),
+    }
 }
 
 // The threads of a team, in a scope of their own.
-fn run_team<R: Threads + Wait + Sync>(
+pub(crate) fn run_team<R: Threads + Wait + Sync>(
     rt: &R,
     alloc: Global,
     plan: Plan,

@@ -11,24 +11,8 @@ use Rattle.wq_words.specs.declared.event.Event.TheVariants.{Hold, Busy, Push, Ba
 use Rattle.wq_words.specs.Legal.{IsLegal, HasSeat}
 use Rattle.wq_words.proofs.Legal.{legal_next, legal_front}
 use Rattle.wq_words.specs.Seen.{seat_of, owner_seat, own}
-use Rattle.wq_words.proofs.Seen.{own-append}
-use Rattle.wq_words.proofs.Prefixes.{nothing_more}
-
-module _ {A : Type 0} where
-  pub left_nil : (xs ys : List A) → xs ++ ys ≡ [] → xs ≡ []
-  left_nil [] ys is = refl
-  left_nil (x ∷ xs) ys is = absurd (cc)
-
-  pub right_nil : (xs ys : List A) → xs ++ ys ≡ [] → ys ≡ []
-  right_nil [] ys is = is
-  right_nil (x ∷ xs) ys is = absurd (cc)
-
--- what stood between two histories of which the seat made no event
-pub own_between : (c : ℕ) (h z w : List Event) → IsPrefix h z → IsPrefix z w → own c w ≡ own c h → own c z ≡ own c h
-own_between c h z w a b same =
-    let none : own c a.0 ++ own c b.0 ≡ [] = nothing_more (own c h) (own c a.0 ++ own c b.0)
-    (sym (append_assoc (own c h) (own c a.0) (own c b.0)) ∙ (ap (λ (x : List Event). x ++ own c b.0) (sym (own-append c h a.0) ∙ ap (own c) a.1) ∙ (sym (own-append c z b.0) ∙ (ap (own c) b.1 ∙ same)))) in
-    ap (own c) (sym a.1) ∙ (own-append c h a.0 ∙ (ap (λ (x : List Event). own c h ++ x) (left_nil (own c a.0) (own c b.0) none) ∙ append-nil (own c h)))
+use Rattle.wq_words.proofs.Prefixes.{nothing_more, left_nil, right_nil}
+use Rattle.wq_words.proofs.Seen.{own-append, own_rest}
 
 -- a seat's number: a sender's, or the owner's
 abbrev pub IsSeat : Layout → ℕ → Type 0
@@ -59,13 +43,6 @@ legal_seats layout h (e ∷ es) legal =
 own_self : (e : Event) (es : List Event) → own (seat_of e) (e ∷ es) ≡ e ∷ own (seat_of e) es
 own_self e es = ap (λ (b : Bool). cond b (e ∷ own (seat_of e) es) (own (seat_of e) es)) (eq-eqb (seat_of e) (seat_of e) refl)
 
-cond_nil : {A : Type 0} (b : Bool) (x : A) (xs : List A) → cond b (x ∷ xs) xs ≡ [] → xs ≡ []
-cond_nil true x xs is = absurd (cc)
-cond_nil false x xs is = is
-
-pub own_rest : (c : ℕ) (e : Event) (es : List Event) → own c (e ∷ es) ≡ [] → own c es ≡ []
-own_rest c e es is = cond_nil (eqb (seat_of e) c) e (own c es) is
-
 module _ (layout : Layout) (f : ℕ → Bool) where
   -- the events of seats that f names, and those of others
   abbrev pub ours : List Event → List Event
@@ -74,16 +51,19 @@ module _ (layout : Layout) (f : ℕ → Bool) where
   abbrev pub theirs : List Event → List Event
   theirs es = filter (λ e. not (f (seat_of e))) es
 
-  none_step : (b : Bool) (e : Event) (es : List Event) → (b ≡ false → own (seat_of e) (e ∷ es) ≡ []) → theirs es ≡ [] → cond (not b) (e ∷ theirs es) (theirs es) ≡ []
+  none_step : (b : Bool) (e : Event) (es : List Event) → (b ≡ false → own (seat_of e) (e ∷ es) ≡ []) → theirs es ≡ []
+      → cond (not b) (e ∷ theirs es) (theirs es) ≡ []
   none_step true e es none rest = rest
   none_step false e es none rest = let absurd_eq = sym (own_self e es) ∙ none refl in absurd (cc)
 
   -- where none of the other seats made an event, there is none of another
   pub none_theirs : (es : List Event) → OfSeats layout es → ((c : ℕ) → IsSeat layout c → f c ≡ false → own c es ≡ []) → theirs es ≡ []
   none_theirs [] held none = refl
-  none_theirs (e ∷ es) held none = none_step (f (seat_of e)) e es (none (seat_of e) held.0) (none_theirs es held.1 (λ c is other. own_rest c e es (none c is other)))
+  none_theirs (e ∷ es) held none =
+      none_step (f (seat_of e)) e es (none (seat_of e) held.0) (none_theirs es held.1 (λ c is other. own_rest c e es (none c is other)))
 
-  all_step : (b : Bool) (e : Event) (es : List Event) → (theirs es ≡ [] → ours es ≡ es) → cond (not b) (e ∷ theirs es) (theirs es) ≡ [] → cond b (e ∷ ours es) (ours es) ≡ e ∷ es
+  all_step : (b : Bool) (e : Event) (es : List Event) → (theirs es ≡ [] → ours es ≡ es) → cond (not b) (e ∷ theirs es) (theirs es) ≡ []
+      → cond b (e ∷ ours es) (ours es) ≡ e ∷ es
   all_step true e es rest is = ap (λ (x : List Event). e ∷ x) (rest is)
   all_step false e es rest is = absurd (cc)
 
@@ -98,7 +78,8 @@ no_seat layout (e ∷ es) held none = let is = sym (own_self e es) ∙ none (sea
 -- The seats that f names went on from v to z, where they made the events xs. The others have made none after h, which v goes
 -- on from: then there is nothing else.
 pub settle : (layout : Layout) (f : ℕ → Bool) (h v z new xs : List Event) (n : ℕ) → IsPrefix h v → ((c : ℕ) → IsSeat layout c → f c ≡ true → own c v ≡ own c h)
-    → z ≡ v ++ new → ours layout f new ≡ xs → n ≤ length (theirs layout f new) → IsLegal layout z → ((c : ℕ) → IsSeat layout c → f c ≡ false → own c z ≡ own c h)
+    → z ≡ v ++ new → ours layout f new ≡ xs → n ≤ length (theirs layout f new) → IsLegal layout z
+    → ((c : ℕ) → IsSeat layout c → f c ≡ false → own c z ≡ own c h)
     → (v ≡ h) × (z ≡ h ++ xs) × (n ≡ 0) × (theirs layout f new ≡ [])
 settle layout f h v z new xs n begins ours_same is mine some legal others_same =
     let t : List Event = begins.0 in
@@ -106,7 +87,8 @@ settle layout f h v z new xs n begins ours_same is mine some legal others_same =
     let held : OfSeats layout (t ++ new) = legal_seats layout h (t ++ new) (subst (λ (x : List Event). IsLegal layout x) whole legal) in
     let none : (c : ℕ) → IsSeat layout c → f c ≡ false → own c (t ++ new) ≡ [] =
     λ c seat other. nothing_more (own c h) (own c (t ++ new)) (sym (own-append c h (t ++ new)) ∙ (ap (own c) (sym whole) ∙ others_same c seat other)) in
-    let no_theirs : theirs layout f t ++ theirs layout f new ≡ [] = sym (filter-append (λ e. not (f (seat_of e))) t new) ∙ none_theirs layout f (t ++ new) held none in
+    let no_theirs : theirs layout f t ++ theirs layout f new ≡ [] = sym (filter-append (λ e. not (f (seat_of e))) t new)
+    ∙ none_theirs layout f (t ++ new) held none in
     let nothing : t ≡ [] = no_seat layout t (legal_seats layout h t (front layout h t new (subst (λ (x : List Event). IsLegal layout x) whole legal)))
     (λ c seat. each (f c) c seat refl (λ on. ours_same c seat on) (λ off. none c seat off)) in
     let still : new ≡ xs = sym (all_ours layout f new (right_nil (theirs layout f t) (theirs layout f new) no_theirs)) ∙ mine in
@@ -120,6 +102,7 @@ settle layout f h v z new xs n begins ours_same is mine some legal others_same =
     front : (layout : Layout) (h t new : List Event) → IsLegal layout (h ++ (t ++ new)) → IsLegal layout (h ++ t)
     front layout h t new legal = legal_front layout (h ++ t) new (subst (λ (x : List Event). IsLegal layout x) (sym (append_assoc h t new)) legal)
 
-    each : (b : Bool) (c : ℕ) → IsSeat layout c → f c ≡ b → (f c ≡ true → own c v ≡ own c h) → (f c ≡ false → own c (begins.0 ++ new) ≡ []) → own c begins.0 ≡ []
+    each : (b : Bool) (c : ℕ) → IsSeat layout c → f c ≡ b → (f c ≡ true → own c v ≡ own c h) → (f c ≡ false → own c (begins.0 ++ new) ≡ [])
+        → own c begins.0 ≡ []
     each true c seat is same none = nothing_more (own c h) (own c begins.0) (sym (own-append c h begins.0) ∙ (ap (own c) begins.1 ∙ same is))
     each false c seat is same none = left_nil (own c begins.0) (own c new) (sym (own-append c begins.0 new) ∙ none is)

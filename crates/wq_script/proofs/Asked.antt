@@ -11,18 +11,16 @@ use Rattle.wq_words.specs.History.{pending, closed, first, fresh}
 use Rattle.wq_words.specs.Seen.{owner_seat}
 use Rattle.wq_words.proofs.Seen.{closed_count}
 use Rattle.wq_words.specs.declared.answer.Answer.{Answer}
-use Rattle.wq_words.specs.declared.answer.Answer.TheVariants as live
+use Rattle.wq_words.specs.declared.answer.Answer.TheVariants as answer
 use Rattle.wq_live.specs.Known.{Known, Sees}
 use Rattle.wq_live.specs.Answers.{Answers, IsPushed}
-use Rattle.wq_plain.specs.declared.answer.Answer as script
-use Rattle.wq_plain.specs.declared.answer.Answer.TheVariants as answer
 use Rattle.wq_live.specs.Batch.{TakesAll}
 use Rattle.wq_worker.specs.State.{WorkerState, Moves}
-use Rattle.wq_plain.specs.Queueing.{queue_events, queue_answer, close_events, close_answer}
+use Rattle.wq_meaning.specs.Queueing.{queue_events, queue_answer, close_events, close_answer}
 use Rattle.wq_script.specs.declared.lists.Lists.{Lists}
 use Rattle.wq_script.specs.declared.seats.Seats.{Seats}
-use Rattle.wq_script.specs.Seats.{Stays, AllHear, AreOne, Gathers, Seated}
-use Rattle.wq_script.specs.Asking.{Tells, Asks, Goes}
+use Rattle.wq_script.specs.Seats.{StaysSilent, AllHear, AreOne, Gathers, Seated}
+use Rattle.wq_script.specs.Asking.{Asks, Goes}
 use Rattle.wq_script.proofs.Hearing.{all_hear_set, all_hear_nothing, queue_heard}
 use Rattle.wq_script.proofs.Seated.{Acts, sender_acts, worker_acts}
 use Rattle.wq_script.proofs.Queueings.{busy_events, push_events, refused_events, last_own, first_held}
@@ -42,39 +40,41 @@ answer_queued h k clear is_open = ap (λ (b : Bool). if b then answer.Pending el
 -- what was pushed last was the first on the list where it would have been before the hold
 pushed_first : (h : List Event) (p k : ℕ) (f : Bool) (z : List Event) → z ≡ h ++ Hold p k ∷ Push p k ∷ [] → IsPushed p k f z → f ≡ first h
 pushed_first h p k f z is pushed =
-    let same : pushed.before ++ Push p k ∷ pushed.after ≡ (h ++ Hold p k ∷ []) ++ Push p k ∷ [] = sym pushed.is ∙ (is ∙ sym (append_assoc h (Hold p k ∷ []) (Push p k ∷ []))) in
+    let same : pushed.before ++ Push p k ∷ pushed.after ≡ (h ++ Hold p k ∷ []) ++ Push p k ∷ [] = sym pushed.is
+    ∙ (is ∙ sym (append_assoc h (Hold p k ∷ []) (Push p k ∷ []))) in
     let last = last_own p pushed.before pushed.after (h ++ Hold p k ∷ []) (Push p k) (Push p k) same pushed.last refl in
     pushed.first_is ∙ (ap first last.1 ∙ first_held h p k)
 
-module _ (layout : Layout) (t : Seats) (h : List Event) (p k : ℕ) (x z : Known) (acts : (xs : List Event) (n : ℕ) → Sees xs n x z → Acts layout t h x.seen z.seen xs n) where
+module _ (layout : Layout) (t : Seats) (h : List Event) (p k : ℕ) (x z : Known)
+    (acts : (xs : List Event) (n : ℕ) → Sees xs n x z → Acts layout t h x.seen z.seen xs n) where
   -- the answer to a queueing of a seat that acted alone
-  pub asked : (a : Answer) → x.number ≡ p → Answers k 1 a x z → Tells a (queue_answer k h) × Seated layout t (h ++ queue_events p k h)
-  asked (live.Queued f) number told =
+  pub asked : (a : Answer) → x.number ≡ p → Answers k 1 a x z → (a ≡ queue_answer k h) × Seated layout t (h ++ queue_events p k h)
+  asked (answer.Queued f) number told =
       let xs : List Event = Hold p k ∷ Push p k ∷ [] in
       let sees : Sees xs 0 x z = subst (λ (m : ℕ). Sees (Hold m k ∷ Push m k ∷ []) 0 x z) number told.0 in
       let a : Acts layout t h x.seen z.seen xs 0 = acts xs 0 sees in
       let e = push_events a.seated.wide h p k a.seated.legal in
       let pushed : IsPushed p k f z.seen = subst (λ (m : ℕ). IsPushed m k f z.seen) number told.1 in (
-        subst (λ (b : script.Answer). Tells (live.Queued f) b) (sym (answer_queued h k e.0 e.1)) (pushed_first h p k f z.seen a.is pushed),
+        ap answer.Queued (pushed_first h p k f z.seen a.is pushed) ∙ sym (answer_queued h k e.0 e.1),
         subst (λ (ys : List Event). Seated layout t (h ++ ys)) e.2 a.seated,
       )
-  asked live.Pending number told =
+  asked answer.Pending number told =
       let xs : List Event = Busy p k ∷ [] in
       let sees : Sees xs 0 x z = subst (λ (m : ℕ). Sees (Busy m k ∷ []) 0 x z) number told in
       let a : Acts layout t h x.seen z.seen xs 0 = acts xs 0 sees in
       let e = busy_events a.seated.wide h p k a.seated.legal in (
-        subst (λ (b : script.Answer). Tells live.Pending b) (sym (answer_pending h k e.0)) tt,
+        sym (answer_pending h k e.0),
         subst (λ (ys : List Event). Seated layout t (h ++ ys)) e.1 a.seated,
       )
-  asked live.Closed number told =
+  asked answer.Closed number told =
       let xs : List Event = Hold p k ∷ Back p k why.Closed ∷ [] in
       let sees : Sees xs 0 x z = subst (λ (m : ℕ). Sees (Hold m k ∷ Back m k why.Closed ∷ []) 0 x z) number told in
       let a : Acts layout t h x.seen z.seen xs 0 = acts xs 0 sees in
       let e = refused_events a.seated.wide h p k a.seated.legal in (
-        subst (λ (b : script.Answer). Tells live.Closed b) (sym (answer_closed h k e.0 e.1)) tt,
+        sym (answer_closed h k e.0 e.1),
         subst (λ (ys : List Event). Seated layout t (h ++ ys)) e.2 a.seated,
       )
-  asked live.Contended number told =
+  asked answer.Contended number told =
       let a = acts (Hold x.number k ∷ Back x.number k why.Contended ∷ []) 1 told in
       absurd (omega (arith, a.none))
 
@@ -89,26 +89,29 @@ seated_one layout s h g = record {
   worker = g.sender.queue_is ∙ sym g.delay.queue_is;
 }
 
-pub one_with : (s : Seats) (p : ℕ) (x z : Known) → p < length s.senders.items → x ≡ get_or s.senders.items p x → Stays x z → AreOne s → AreOne (with_sender s p z)
+pub one_with : (s : Seats) (p : ℕ) (x z : Known) → p < length s.senders.items → x ≡ get_or s.senders.items p x → StaysSilent x z → AreOne s
+    → AreOne (with_sender s p z)
 one_with s p x z lt is stays one =
     let q : List Known = s.senders.items in
-    let all : AllHear [] q (set q p z) = all_hear_set [] q q p x z lt (all_hear_nothing q) (subst (λ (v : Known). Stays v z) is stays) in
+    let all : AllHear [] q (set q p z) = all_hear_set [] q q p x z lt (all_hear_nothing q) (subst (λ (v : Known). StaysSilent v z) is stays) in
     record {
       senders = λ i d less. queue_heard [] q (set q p z) all i d (omega (arith, less, all.count)) ∙ one.senders i d (omega (arith, less, all.count));
       worker = one.worker;
     }
 
 -- where a seat of the queue is, its layout is the queue's
-pub seat_layout : (layout : Layout) (s : Seats) (h : List Event) (p : ℕ) (x : Known) → Seated layout s h → p < length s.senders.items → x ≡ get_or s.senders.items p x → x.layout ≡ s.delay.sender.layout
+pub seat_layout : (layout : Layout) (s : Seats) (h : List Event) (p : ℕ) (x : Known) → Seated layout s h → p < length s.senders.items
+    → x ≡ get_or s.senders.items p x → x.layout ≡ s.delay.sender.layout
 seat_layout layout s h p x g lt is = ap (λ (v : Known). v.layout) is ∙ ((g.senders p x (omega (arith, lt, g.count))).layout_is ∙ sym g.delay.layout_is)
 
 answers_stay : (k : ℕ) (a : Answer) (x z : Known) → Answers k 1 a x z → x.queue ≡ z.queue
-answers_stay k (live.Queued f) x z told = sym told.0.same.queue_is
-answers_stay k live.Pending x z told = sym told.same.queue_is
-answers_stay k live.Closed x z told = sym told.same.queue_is
-answers_stay k live.Contended x z told = sym told.same.queue_is
+answers_stay k (answer.Queued f) x z told = sym told.0.same.queue_is
+answers_stay k answer.Pending x z told = sym told.same.queue_is
+answers_stay k answer.Closed x z told = sym told.same.queue_is
+answers_stay k answer.Contended x z told = sym told.same.queue_is
 
-pub one_answered : (s : Seats) (p k : ℕ) (a : Answer) (x z : Known) → p < length s.senders.items → x ≡ get_or s.senders.items p x → Answers k 1 a x z → AreOne s → AreOne (with_sender s p z)
+pub one_answered : (s : Seats) (p k : ℕ) (a : Answer) (x z : Known) → p < length s.senders.items → x ≡ get_or s.senders.items p x → Answers k 1 a x z
+    → AreOne s → AreOne (with_sender s p z)
 one_answered s p k a x z lt is told one =
     let q : List Known = s.senders.items in
     record {
@@ -120,16 +123,18 @@ one_answered s p k a x z lt is told one =
       worker = one.worker;
     }
 
-pub sender_asked : (layout : Layout) (s t : Seats) (h : List Event) (p k : ℕ) (a : Answer) (x z : Known) → Seated layout s h → p < length s.senders.items → x ≡ get_or s.senders.items p x
+pub sender_asked : (layout : Layout) (s t : Seats) (h : List Event) (p k : ℕ) (a : Answer) (x z : Known) → Seated layout s h
+    → p < length s.senders.items → x ≡ get_or s.senders.items p x
     → Answers k 1 a x z → Gathers z.seen (with_sender s p z) t → Asks layout p k a h s t
 sender_asked layout s t h p k a x z g lt is told gathered =
     let less : p < layout.senders = omega (arith, lt, g.count) in
     let number : x.number ≡ p = ap (λ (v : Known). v.number) is ∙ (g.senders p x less).number_is in
     let both = asked layout t h p k x z (λ xs n sees. sender_acts layout s t h g p x z xs n less is sees gathered.sender gathered.owner gathered.delay gathered.senders gathered.work.tries_is gathered.legal) a number told in
-    record { tells = both.0; seated = both.1; work = gathered.work; table = gathered.table }
+    record { answer = both.0; seated = both.1; work = gathered.work; table = gathered.table }
 
 -- a sender looked at a PENDING bit
-pub sender_looked : (layout : Layout) (s t : Seats) (h : List Event) (p : ℕ) (x z : Known) → Seated layout s h → p < length s.senders.items → x ≡ get_or s.senders.items p x
+pub sender_looked : (layout : Layout) (s t : Seats) (h : List Event) (p : ℕ) (x z : Known) → Seated layout s h → p < length s.senders.items
+    → x ≡ get_or s.senders.items p x
     → Sees [] 0 x z → Gathers z.seen (with_sender s p z) t → Goes layout h s t × (z.seen ≡ h)
 sender_looked layout s t h p x z g lt is sees gathered =
     let less : p < layout.senders = omega (arith, lt, g.count) in
@@ -143,7 +148,7 @@ worker_closed layout s h g = ap (λ (n : ℕ). nat_lt 0 n) (closed_count h s.wor
 
 -- the worker closed the queue
 pub worker_closes : (layout : Layout) (s t : Seats) (h : List Event) (w : WorkerState Lists) (taken : ℕ) → Seated layout s h → closed s.worker.seen ≡ false
-    → Moves (Close ∷ []) 0 s.worker w → w.work ≡ s.worker.work → w.left ≡ s.worker.left → TakesAll Close taken w.seen
+    → Moves (Close ∷ []) 0 s.worker w → w.work ≡ s.worker.work → w.unqueued ≡ s.worker.unqueued → TakesAll Close taken w.seen
     → Gathers w.seen (record { worker = w; delay = s.delay; senders = s.senders }) t → Goes layout (h ++ close_events h) s t × (Some taken ≡ close_answer h)
 worker_closes layout s t h w taken g is_open moves work left takes gathered =
     let a = (worker_acts layout s t h g w (Close ∷ []) 0 moves gathered.sender gathered.owner gathered.delay gathered.senders gathered.work.tries_is gathered.legal).0 in
@@ -152,20 +157,21 @@ worker_closes layout s t h w taken g is_open moves work left takes gathered =
     let last = last_own owner_seat takes.before takes.after h Close Close (sym takes.is ∙ a.is) takes.last refl in (
       record {
         seated = subst (λ (ys : List Event). Seated layout t (h ++ ys)) events a.seated;
-        work = record { work_is = gathered.work.work_is ∙ work; left_is = gathered.work.left_is ∙ left; tries_is = gathered.work.tries_is ∙ moves.tries };
+        work = record { work_is = gathered.work.work_is ∙ work; unqueued_is = gathered.work.unqueued_is ∙ left; tries_is = gathered.work.tries_is ∙ moves.tries };
         table = gathered.table;
       },
       ap (λ (n : ℕ). Some n) (takes.count_is ∙ ap fresh last.1) ∙ sym (ap (λ (b : Bool). if b then None else Some (fresh h)) not_yet),
     )
 
-pub closed_already : (layout : Layout) (s : Seats) (h : List Event) → Seated layout s h → closed s.worker.seen ≡ true → Goes layout (h ++ close_events h) s s × (None ≡ close_answer h)
+pub closed_already : (layout : Layout) (s : Seats) (h : List Event) → Seated layout s h → closed s.worker.seen ≡ true
+    → Goes layout (h ++ close_events h) s s × (None ≡ close_answer h)
 closed_already layout s h g shut =
     let now : closed h ≡ true = sym (worker_closed layout s h g) ∙ shut in
     let none : close_events h ≡ [] = ap (λ (b : Bool). if b then [] else Close ∷ []) now in (
       record {
         seated = subst (λ (ys : List Event). Seated layout s ys) (sym (ap (λ (x : List Event). h ++ x) none ∙ append-nil h)) g;
-        work = record { work_is = refl; left_is = refl; tries_is = refl };
-        table = record { table_is = refl; tick_is = refl; next_is = refl };
+        work = record { work_is = refl; unqueued_is = refl; tries_is = refl };
+        table = refl;
       },
       sym (ap (λ (b : Bool). if b then None else Some (fresh h)) now),
     )

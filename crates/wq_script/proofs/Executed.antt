@@ -15,25 +15,29 @@ use Rattle.wq_words.specs.declared.event.Why.TheVariants as why
 use Rattle.wq_words.specs.History.{accepted, begun, next, taken, closed, is_close, is_push, is_take, fresh}
 use Rattle.wq_words.specs.Legal.{IsLegal}
 use Rattle.wq_words.proofs.Legal.{legal_next, legal_front}
-use Rattle.wq_words.specs.Seen.{owner_seat, seat_of, own}
-use Rattle.wq_words.proofs.Seen.{own-append, own_one, begun_same, closed_count}
+use Rattle.wq_words.specs.Seen.{owner_seat, seat_of, own, is_ours}
+use Rattle.wq_words.proofs.Prefixes.{left_nil}
+use Rattle.wq_words.proofs.Seen.{own-append, own_one, own_rest, begun_same, closed_count}
 use Rattle.wq_live.specs.Batch.{batch, next_of}
-use Rattle.wq_worker.specs.Seats.{is_ours, Adds, taking, taking_of, NothingWaits, at_take, at_all}
+use Rattle.wq_worker.specs.Seats.{Adds, taking, taking_of, NothingWaits, at_take, at_all}
 use Rattle.wq_worker.specs.Follow.{Queues, Follows, passed, pushed, busy, refused, chained, chain_busy}
-use Rattle.wq_plain.specs.Queueing.{queue_events, chain_events}
-use Rattle.wq_plain.specs.Execution.{follow_of, take_events, follow_events, after_follow, after_run, after_execution}
-use Rattle.wq_plain.proofs.Growing.{accepted-append, begun-append, count-append, accepted-count, pushes-split, fresh-more, fresh-take}
+use Rattle.wq_meaning.specs.Queueing.{queue_events, chain_events}
+use Rattle.wq_meaning.specs.Execution.{follow_of, take_events, follow_events, after_follow, after_run, after_execution}
+use Rattle.wq_meaning.proofs.Growing.{accepted-append, begun-append, count-append, accepted-count, pushes-split, fresh-more, fresh-take}
 use Rattle.wq_script.specs.Quiet.{Quiet}
-use Rattle.wq_script.proofs.Alone.{left_nil, all_ours, own_rest}
+use Rattle.wq_script.proofs.Alone.{all_ours}
 use Rattle.wq_script.proofs.Queueings.{busy_events, push_events, refused_events, not_pending, not_closed, is_pending, closed_on, last_own}
 
 -- what the worker added, where it was quiet
-pub exact : (wide : Layout) (n : ℕ) (h v z xs : List Event) (m : ℕ) → Quiet wide n h z → Adds n xs m h v → IsPrefix v z → (v ≡ h ++ xs) × (m ≡ 0) × IsLegal wide v
+pub exact : (wide : Layout) (n : ℕ) (h v z xs : List Event) (m : ℕ) → Quiet wide n h z → Adds n xs m h v → IsPrefix v z
+    → (v ≡ h ++ xs) × (m ≡ 0) × IsLegal wide v
 exact wide n h v z xs m quiet adds begins =
-    let whole : h ++ quiet.rest ≡ h ++ (adds.new ++ begins.0) = sym quiet.is ∙ (sym begins.1 ∙ (ap (λ (x : List Event). x ++ begins.0) adds.is ∙ append_assoc h adds.new begins.0)) in
+    let whole : h ++ quiet.rest ≡ h ++ (adds.new ++ begins.0) = sym quiet.is
+    ∙ (sym begins.1 ∙ (ap (λ (x : List Event). x ++ begins.0) adds.is ∙ append_assoc h adds.new begins.0)) in
     let parts : quiet.rest ≡ adds.new ++ begins.0 = append_cancel_left h quiet.rest (adds.new ++ begins.0) whole in
     let theirs : List Event → List Event = λ es. filter (λ e. not (is_ours n e)) es in
-    let none : theirs adds.new ≡ [] = left_nil (theirs adds.new) (theirs begins.0) (sym (filter-append (λ e. not (is_ours n e)) adds.new begins.0) ∙ (ap theirs (sym parts) ∙ quiet.none)) in
+    let none : theirs adds.new ≡ [] =
+    left_nil (theirs adds.new) (theirs begins.0) (sym (filter-append (λ e. not (is_ours n e)) adds.new begins.0) ∙ (ap theirs (sym parts) ∙ quiet.none)) in
     let all : filter (is_ours n) adds.new ≡ adds.new = all_ours wide (λ c. (c == n) || (c == owner_seat)) adds.new none in (
       adds.is ∙ ap (λ (x : List Event). h ++ x) (sym all ∙ adds.ours),
       omega (arith, adds.theirs, ap length none),
@@ -42,7 +46,8 @@ exact wide n h v z xs m quiet adds begins =
 
 -- a take changes neither what is accepted nor what has begun
 next_taken : (b : Bool) (h : List Event) → next (h ++ (if b then Take ∷ [] else [])) ≡ next h
-next_taken true h = λ i. slice_get ((accepted-append h (Take ∷ []) ∙ append-nil (accepted h)) i) (length ((begun-append h (Take ∷ []) ∙ append-nil (begun h)) i))
+next_taken true h = λ i. slice_get ((accepted-append h (Take ∷ []) ∙ append-nil (accepted h)) i)
+    (length ((begun-append h (Take ∷ []) ∙ append-nil (begun h)) i))
 next_taken false h = ap next (append-nil h)
 
 taken_few : (h : List Event) → taken h ≤ length (accepted h)
@@ -103,11 +108,15 @@ module _ (wide : Layout) (n : ℕ) where
   still_two g d e one two = ap closed (sym (append_assoc g (d ∷ []) (e ∷ []))) ∙ (still (g ++ d ∷ []) e two ∙ still g d one)
 
   -- the queueing of one follow item
-  followed : (c : Bool) (k : ℕ) (g fs : List Event) → k < wide.items → closed g ≡ c → IsLegal wide (g ++ fs) → Queues wide.items n c k fs → (fs ≡ follow_events n k g) × (closed (g ++ fs) ≡ c)
+  followed : (c : Bool) (k : ℕ) (g fs : List Event) → k < wide.items → closed g ≡ c → IsLegal wide (g ++ fs) → Queues wide.items n c k fs
+      → (fs ≡ follow_events n k g) × (closed (g ++ fs) ≡ c)
   followed c k g fs lt is legal (passed le none) = absurd (omega (arith, lt, le))
   followed c k g fs lt is legal (pushed less so es) =
-      let l : IsLegal wide (g ++ Hold n k ∷ Push n k ∷ []) = subst (λ (x : List Event). IsLegal wide (g ++ x)) es legal in
-      (es ∙ ((push_events wide g n k l).2 ∙ open_events k g (is ∙ so)), ap (λ (x : List Event). closed (g ++ x)) es ∙ (still_two g (Hold n k) (Push n k) refl refl ∙ is))
+      let l : IsLegal wide (g ++ Hold n k ∷ Push n k ∷ []) = subst (λ (x : List Event). IsLegal wide (g ++ x)) es legal in (
+        es ∙ ((push_events wide g n k l).2 ∙ open_events k g (is ∙ so)),
+        ap (λ (x : List Event). closed (g ++ x)) es
+            ∙ (still_two g (Hold n k) (Push n k) refl refl ∙ is),
+      )
   followed c k g fs lt is legal (busy less so es) =
       let l : IsLegal wide (g ++ Busy n k ∷ []) = subst (λ (x : List Event). IsLegal wide (g ++ x)) es legal in
       (es ∙ ((busy_events wide g n k l).1 ∙ open_events k g (is ∙ so)), ap (λ (x : List Event). closed (g ++ x)) es ∙ (still g (Busy n k) refl ∙ is))
@@ -122,14 +131,16 @@ module _ (wide : Layout) (n : ℕ) where
       (es ∙ (chain_again k g l ∙ shut_events k g (is ∙ so)), ap (λ (x : List Event). closed (g ++ x)) es ∙ (still g (ChainBusy k) refl ∙ is))
 
   -- the queueings of a list of items
-  pub followed_all : (c : Bool) (ks : List ℕ) (g es : List Event) → All (λ j. j < wide.items) ks → closed g ≡ c → IsLegal wide (g ++ es) → Follows wide.items n c ks es → g ++ es ≡ fold (after_follow n) g ks
+  pub followed_all : (c : Bool) (ks : List ℕ) (g es : List Event) → All (λ j. j < wide.items) ks → closed g ≡ c → IsLegal wide (g ++ es)
+      → Follows wide.items n c ks es → g ++ es ≡ fold (after_follow n) g ks
   followed_all c [] g es fit is legal none = ap (λ (x : List Event). g ++ x) none ∙ append-nil g
   followed_all c (k ∷ ks) g es fit is legal told =
       let fs : List Event = told.0 in let gs : List Event = told.1 in
       let whole : g ++ es ≡ (g ++ fs) ++ gs = ap (λ (x : List Event). g ++ x) told.2 ∙ sym (append_assoc g fs gs) in
       let l : IsLegal wide ((g ++ fs) ++ gs) = subst (λ (x : List Event). IsLegal wide x) whole legal in
       let one = followed c k g fs (fit 0 k (omega arith)) is (legal_front wide (g ++ fs) gs l) told.3 in
-      whole ∙ (followed_all c ks (g ++ fs) gs (λ i d lt. fit (suc i) d (omega (arith, lt))) one.1 l told.4 ∙ ap (λ (x : List Event). fold (after_follow n) (g ++ x) ks) one.0)
+      whole ∙ (followed_all c ks (g ++ fs) gs (λ i d lt. fit (suc i) d (omega (arith, lt))) one.1 l told.4
+      ∙ ap (λ (x : List Event). fold (after_follow n) (g ++ x) ks) one.0)
 
   -- what begins is next
   pub begins_next : (h : List Event) (k : ℕ) (rest : List Event) → IsLegal wide ((h ++ taking h) ++ Begin k ∷ rest) → Some k ≡ next h
@@ -144,9 +155,11 @@ module _ (wide : Layout) (n : ℕ) where
   executed follows h k f fs answers fit told legal =
       let g : List Event = (h ++ taking h) ++ Begin k ∷ [] in
       let whole : h ++ ((taking h ++ Begin k ∷ []) ++ (fs ++ End k ∷ [])) ≡ (g ++ fs) ++ End k ∷ [] =
-      sym (append_assoc h (taking h ++ Begin k ∷ []) (fs ++ End k ∷ [])) ∙ (ap (λ (x : List Event). x ++ (fs ++ End k ∷ [])) (sym (append_assoc h (taking h) (Begin k ∷ []))) ∙ sym (append_assoc g fs (End k ∷ []))) in
+      sym (append_assoc h (taking h ++ Begin k ∷ []) (fs ++ End k ∷ []))
+      ∙ (ap (λ (x : List Event). x ++ (fs ++ End k ∷ [])) (sym (append_assoc h (taking h) (Begin k ∷ []))) ∙ sym (append_assoc g fs (End k ∷ []))) in
       let l : IsLegal wide ((g ++ fs) ++ End k ∷ []) = subst (λ (x : List Event). IsLegal wide x) whole legal in
-      let begun_then : IsLegal wide ((h ++ taking h) ++ Begin k ∷ (fs ++ End k ∷ [])) = subst (λ (x : List Event). IsLegal wide x) (append_assoc g fs (End k ∷ []) ∙ append_assoc (h ++ taking h) (Begin k ∷ []) (fs ++ End k ∷ [])) l in
+      let begun_then : IsLegal wide ((h ++ taking h) ++ Begin k ∷ (fs ++ End k ∷ [])) =
+      subst (λ (x : List Event). IsLegal wide x) (append_assoc g fs (End k ∷ []) ∙ append_assoc (h ++ taking h) (Begin k ∷ []) (fs ++ End k ∷ [])) l in
       let is : Some k ≡ next h = begins_next h k (fs ++ End k ∷ []) begun_then in
       let shut : closed g ≡ closed h = still (h ++ taking h) (Begin k) refl ∙ closed_taking h in
       let all : g ++ fs ≡ fold (after_follow n) g f = followed_all (closed h) f g fs fit shut (legal_front wide (g ++ fs) (End k ∷ []) l) told in
@@ -184,7 +197,9 @@ fresh_on g (e ∷ es) none =
     ap fresh (sym (append_assoc g (e ∷ []) es)) ∙ (rest ∙ omega (arith, fresh-more g e stays, count-append is_push (e ∷ []) es))
   where
     each : (b : Bool) → is_take e ≡ b → b ≡ false
-    each true is = let mine = own_one owner_seat e (is_take_own e is) in absurd (cc (left_nil (own owner_seat (e ∷ [])) (own owner_seat es) (sym (own-append owner_seat (e ∷ []) es) ∙ none)))
+    each true is = let mine =
+        own_one owner_seat e (is_take_own e is) in absurd
+        (cc (left_nil (own owner_seat (e ∷ [])) (own owner_seat es) (sym (own-append owner_seat (e ∷ []) es) ∙ none)))
     each false is = refl
 
 none_next : (h : List Event) → next h ≡ None → length (accepted h) ≤ length (begun h)
@@ -195,15 +210,21 @@ none_next h none = elim (slice_get_cases (accepted h) (length (begun h))).1 [
 
 module _ (wide : Layout) where
   -- where nothing waited at the owner's last take, nothing that was taken waits
-  nothing_left : (h before after : List Event) → h ≡ before ++ Take ∷ after → own owner_seat after ≡ [] → next before ≡ None → closed h ≡ false → next_of h ≡ None
+  nothing_left : (h before after : List Event) → h ≡ before ++ Take ∷ after → own owner_seat after ≡ [] → next before ≡ None → closed h ≡ false
+      → next_of h ≡ None
   nothing_left h before after is none past is_open =
       let two : before ++ Take ∷ after ≡ (before ++ Take ∷ []) ++ after = sym (append_assoc before (Take ∷ []) after) in
-      let newer : fresh h ≡ 0 + count_by is_push after = ap fresh (is ∙ two) ∙ (fresh_on (before ++ Take ∷ []) after none ∙ ap (λ (m : ℕ). m + count_by is_push after) (fresh-take before)) in
+      let newer : fresh h ≡ 0 + count_by is_push after = ap fresh (is ∙ two)
+      ∙ (fresh_on (before ++ Take ∷ []) after none ∙ ap (λ (m : ℕ). m + count_by is_push after) (fresh-take before)) in
       let all : count_by is_push h ≡ count_by is_push before + count_by is_push after =
       ap (count_by is_push) is ∙ (count-append is_push before (Take ∷ after) ∙ omega (arith, count-append is_push (Take ∷ []) after)) in
-      let open_taken : taken h ≡ count_by is_push (before_last is_take h) = ap (λ (b : Bool). if b then length (accepted h) else count_by is_push (before_last is_take h)) is_open in
-      let first_begun : length (begun h) ≡ length (begun before) = ap (λ (x : List ℕ). length x) (ap begun is ∙ (begun-append before (Take ∷ after) ∙ (ap (λ (x : List ℕ). begun before ++ x) (begun_same [] after none) ∙ append-nil (begun before)))) in
-      let few : length (batch h) ≡ 0 = omega (arith, batch_length h, open_taken, pushes-split h, newer, all, accepted-count before, none_next before past, first_begun) in
+      let open_taken : taken h ≡ count_by is_push (before_last is_take h) =
+      ap (λ (b : Bool). if b then length (accepted h) else count_by is_push (before_last is_take h)) is_open in
+      let first_begun : length (begun h) ≡ length (begun before) =
+      ap (λ (x : List ℕ). length x) (ap begun is
+      ∙ (begun-append before (Take ∷ after) ∙ (ap (λ (x : List ℕ). begun before ++ x) (begun_same [] after none) ∙ append-nil (begun before)))) in
+      let few : length (batch h) ≡ 0 =
+      omega (arith, batch_length h, open_taken, pushes-split h, newer, all, accepted-count before, none_next before past, first_begun) in
       slice_get_past (batch h) 0 (omega (arith, few))
 
   -- no Take follows the close
@@ -211,13 +232,15 @@ module _ (wide : Layout) where
   never_taken h before after legal is none =
       let allowed = legal_next wide before Take after (subst (λ (x : List Event). IsLegal wide x) is legal) in
       let rest : count_by is_close after ≡ 0 = closed_count [] after none in
-      let same : count_by is_close h ≡ count_by is_close before = ap (count_by is_close) is ∙ (count-append is_close before (Take ∷ after) ∙ omega (arith, count-append is_close (Take ∷ []) after, rest)) in
+      let same : count_by is_close h ≡ count_by is_close before = ap (count_by is_close) is
+      ∙ (count-append is_close before (Take ∷ after) ∙ omega (arith, count-append is_close (Take ∷ []) after, rest)) in
       not_closed h (λ shut. allowed.2 (omega (arith, shut, same)))
 
   -- the worker answers that nothing waits only where nothing is next
   pub nothing_next : (h z : List Event) → IsLegal wide z → z ≡ h ++ taking h → NothingWaits z → None ≡ next h
   nothing_next h z legal whole (at_all shut none) =
-      sym (sym (ap next whole ∙ (ap (λ (x : List Event). next (h ++ x)) (taking_is h) ∙ next_taken (nat_le (taken h) (length (begun h)) && not (closed h)) h)) ∙ none)
+      sym (sym (ap next whole ∙ (ap (λ (x : List Event). next (h ++ x)) (taking_is h)
+      ∙ next_taken (nat_le (taken h) (length (begun h)) && not (closed h)) h)) ∙ none)
   nothing_next h z legal whole (at_take before after is none past) = each (next_of h) (closed h) refl refl
     where
       each : (o : Option ℕ) (b : Bool) → next_of h ≡ o → closed h ≡ b → None ≡ next h

@@ -6,21 +6,18 @@ use Rattle.std.proofs.lemmas.Bool.{cases_lt, cases_eq}
 use mathlib.Core.List.{IsPrefix}
 use Rattle.wq_words.specs.declared.event.Event.{Event}
 use Rattle.wq_words.specs.Seen.{owner_seat, seat_of, own, Grows}
-use Rattle.wq_words.proofs.Seen.{own-append}
-use Rattle.wq_words.proofs.Prefixes.{prefix_self}
+use Rattle.wq_words.proofs.Prefixes.{prefix_self, prefix_on}
+use Rattle.wq_words.proofs.Seen.{own-append, none_of, grows_begins, grows_same}
 use Rattle.wq_live.specs.Known.{Known, Sees}
-use Rattle.wq_worker.specs.Seats.{is_ours, Adds}
+use Rattle.wq_worker.specs.Seats.{Adds}
 use Rattle.wq_worker.specs.State.{WorkerState, Moves}
-use Rattle.wq_delay.specs.Delay.{DelayState, Keeps}
-use Rattle.wq_script.specs.Seats.{Stays, Hears, AllHear, IsSameTable, sender_of, owner_of}
+use Rattle.wq_delay.specs.Delay.{DelayState, KeepsTable}
+use Rattle.wq_script.specs.Seats.{StaysSilent, Hears, AllHear, IsSameTable, sender_of, owner_of}
 
-pub prefix_on : (xs ys zs : List Event) → IsPrefix xs ys → IsPrefix ys zs → IsPrefix xs zs
-prefix_on xs ys zs a b = (a.0 ++ b.0, sym (append_assoc xs a.0 b.0) ∙ (ap (λ (x : List Event). x ++ b.0) a.1 ∙ b.1))
-
-pub stays_refl : (k : Known) → Stays k k
+pub stays_refl : (k : Known) → StaysSilent k k
 stays_refl k = record { queue_is = refl; layout_is = refl; number_is = refl; begins = prefix_self k.seen; mine = refl }
 
-pub stays_on : (a b c : Known) → Stays a b → Stays b c → Stays a c
+pub stays_on : (a b c : Known) → StaysSilent a b → StaysSilent b c → StaysSilent a c
 stays_on a b c x y = record {
   queue_is = y.queue_is ∙ x.queue_is;
   layout_is = y.layout_is ∙ x.layout_is;
@@ -29,20 +26,18 @@ stays_on a b c x y = record {
   mine = subst (λ (n : ℕ). own n c.seen ≡ own n b.seen) x.number_is y.mine ∙ x.mine;
 }
 
-pub grows_none : (c n : ℕ) (v w : List Event) → Grows c [] n v w → IsPrefix v w × (own c w ≡ own c v)
-grows_none c n v w g = ((g.new, sym g.is), ap (own c) g.is ∙ (own-append c v g.new ∙ (ap (λ (x : List Event). own c v ++ x) g.mine ∙ append-nil (own c v))))
-
-pub sees_stays : (n : ℕ) (a b : Known) → Sees [] n a b → Stays a b
-sees_stays n a b s = let g = grows_none a.number n a.seen b.seen s.grows in record {
+pub sees_stays : (n : ℕ) (a b : Known) → Sees [] n a b → StaysSilent a b
+sees_stays n a b s = record {
   queue_is = s.same.queue_is;
   layout_is = s.same.layout_is;
   number_is = s.same.number_is;
-  begins = g.0;
-  mine = g.1;
+  begins = grows_begins a.number [] n a.seen b.seen s.grows;
+  mine = grows_same a.number n a.seen b.seen s.grows;
 }
 
 -- a seat that the hub met has heard all that the hub had seen
-pub hears_hub : (told : List Event) (hub hub' k k' : Known) → IsPrefix told hub.seen → Sees [] 0 hub hub' → Sees [] 0 k k' → k'.seen ≡ hub'.seen → Hears told k k'
+pub hears_hub : (told : List Event) (hub hub' k k' : Known) → IsPrefix told hub.seen → Sees [] 0 hub hub' → Sees [] 0 k k' → k'.seen ≡ hub'.seen
+    → Hears told k k'
 hears_hub told hub hub' k k' knows this that both = record {
   stays = sees_stays 0 k k' that;
   knows = subst (λ (x : List Event). IsPrefix told x) (sym both) (prefix_on told hub.seen hub'.seen knows (sees_stays 0 hub hub' this).begins);
@@ -56,10 +51,10 @@ one_more P i below here k d lt = elim (cases_lt k i) [
 ]
 
 pub same_table_on : (a b c : DelayState) → IsSameTable a b → IsSameTable b c → IsSameTable a c
-same_table_on a b c x y = record { table_is = y.table_is ∙ x.table_is; tick_is = y.tick_is ∙ x.tick_is; next_is = y.next_is ∙ x.next_is }
+same_table_on a b c x y = y ∙ x
 
-pub keeps_same : (xs : List Event) (n : ℕ) (a b : DelayState) → Keeps xs n a b → IsSameTable a b
-keeps_same xs n a b k = record { table_is = k.table_is; tick_is = k.tick_is; next_is = k.next_is }
+pub keeps_same : (xs : List Event) (n : ℕ) (a b : DelayState) → KeepsTable xs n a b → IsSameTable a b
+keeps_same xs n a b k = k.table_is
 
 -- a part of what all were told
 pub all_hear_less : (told more : List Event) (olds news : List Known) → IsPrefix told more → AllHear more olds news → AllHear told olds news
@@ -76,7 +71,8 @@ all_hear_on told xs ys zs a b = record {
 }
 
 -- one of them made no event since
-pub all_hear_set : (told : List Event) (olds news : List Known) (p : ℕ) (d : Known) (k : Known) → p < length news → AllHear told olds news → Stays (get_or news p d) k → AllHear told olds (set news p k)
+pub all_hear_set : (told : List Event) (olds news : List Known) (p : ℕ) (d : Known) (k : Known) → p < length news → AllHear told olds news
+    → StaysSilent (get_or news p d) k → AllHear told olds (set news p k)
 all_hear_set told olds news p e k here all stays = record {
   count = length-set news p k ∙ all.count;
   each = λ i d lt. elim (cases_eq i p) [
@@ -84,7 +80,7 @@ all_hear_set told olds news p e k here all stays = record {
         let h = all.each i d lt in
         let at : get_or (set news p k) i d ≡ k = ap (λ (j : ℕ). get_or (set news p k) j d) is ∙ get_or-set_same news p k d here in
         let was : get_or news p e ≡ get_or news i d = get_or_default news p e d here ∙ ap (λ (j : ℕ). get_or news j d) (sym is) in
-        let s : Stays (get_or news i d) k = subst (λ (x : Known). Stays x k) was stays in
+        let s : StaysSilent (get_or news i d) k = subst (λ (x : Known). StaysSilent x k) was stays in
         subst (λ (x : Known). Hears told (get_or olds i d) x) (sym at)
         record { stays = stays_on (get_or olds i d) (get_or news i d) k h.stays s; knows = prefix_on told (get_or news i d).seen k.seen h.knows s.begins }
     | inr ne ↦ subst (λ (x : Known). Hears told (get_or olds i d) x) (sym (get_or-set_other news p i k d ne)) (all.each i d lt)
@@ -95,16 +91,6 @@ pub all_hear_nothing : (xs : List Known) → AllHear [] xs xs
 all_hear_nothing xs = record { count = refl; each = λ i d lt. record { stays = stays_refl (get_or xs i d); knows = ((get_or xs i d).seen, refl) } }
 
 -- a worker's seats, where neither made an event
-none_of : (s : ℕ) (es : List Event) → filter (is_ours s) es ≡ [] → (own s es ≡ []) × (own owner_seat es ≡ [])
-none_of s [] is = (refl, refl)
-none_of s (e ∷ es) is = each (seat_of e == s) (seat_of e == owner_seat) (none_of s es) is
-  where
-    each : (a b : Bool) → (filter (is_ours s) es ≡ [] → (own s es ≡ []) × (own owner_seat es ≡ []))
-        → cond (a || b) (e ∷ filter (is_ours s) es) (filter (is_ours s) es) ≡ [] → (cond a (e ∷ own s es) (own s es) ≡ []) × (cond b (e ∷ own owner_seat es) (own owner_seat es) ≡ [])
-    each true b go is = absurd (cc)
-    each false true go is = absurd (cc)
-    each false false go is = go is
-
 adds_prefix : (s n : ℕ) (v w : List Event) → Adds s [] n v w → IsPrefix v w × (own s w ≡ own s v) × (own owner_seat w ≡ own owner_seat v)
 adds_prefix s n v w a = let none = none_of s a.new a.ours in (
   (a.new, sym a.is),
@@ -112,12 +98,13 @@ adds_prefix s n v w a = let none = none_of s a.new a.ours in (
   ap (own owner_seat) a.is ∙ (own-append owner_seat v a.new ∙ (ap (λ (x : List Event). own owner_seat v ++ x) none.1 ∙ append-nil (own owner_seat v))),
 )
 
-pub moves_stay : {W : Type 0} (n : ℕ) (a b : WorkerState W) → Moves [] n a b → Stays (sender_of a) (sender_of b) × Stays (owner_of a) (owner_of b)
+pub moves_stay : {W : Type 0} (n : ℕ) (a b : WorkerState W) → Moves [] n a b → StaysSilent (sender_of a) (sender_of b) × StaysSilent (owner_of a) (owner_of b)
 moves_stay n a b m = let p = adds_prefix a.number n a.seen b.seen m.adds in (
   record { queue_is = m.queue; layout_is = m.layout; number_is = m.number; begins = p.0; mine = p.1 },
   record { queue_is = m.queue; layout_is = m.layout; number_is = refl; begins = p.0; mine = p.2 },
 )
 
 -- each of them is of the queue that it was of
-pub queue_heard : (told : List Event) (olds news : List Known) → AllHear told olds news → (i : ℕ) (d : Known) → i < length olds → (get_or news i d).queue ≡ (get_or olds i d).queue
+pub queue_heard : (told : List Event) (olds news : List Known) → AllHear told olds news → (i : ℕ) (d : Known) → i < length olds
+    → (get_or news i d).queue ≡ (get_or olds i d).queue
 queue_heard told olds news all i d lt = (all.each i d lt).stays.queue_is

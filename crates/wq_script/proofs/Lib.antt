@@ -6,11 +6,13 @@ pub mod Asked
 pub mod Executed
 pub mod Running
 pub mod Ran
-pub mod Timetables
 pub mod Delayed
 pub mod Moved
 pub mod Made
 pub mod Tallies
+pub mod Answered
 pub mod Meetings
+pub mod TableMeetings
+pub mod FollowLists
 pub mod Reports
 pub mod Histories

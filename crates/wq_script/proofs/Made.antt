@@ -21,7 +21,8 @@ module _ {A : Type 0} where
   ends_alike [] [] x y is = (refl, cc)
   ends_alike [] (z ∷ ys) x y is = let rest : [] ≡ ys ++ y ∷ [] = cc in absurd (none_and_one ys y rest)
   ends_alike (z ∷ xs) [] x y is = let rest : [] ≡ xs ++ x ∷ [] = cc in absurd (none_and_one xs x rest)
-  ends_alike (z ∷ xs) (w ∷ ys) x y is = let tails : xs ++ x ∷ [] ≡ ys ++ y ∷ [] = cc in let r = ends_alike xs ys x y tails in let same : z ≡ w = cc in ((λ i. same i ∷ r.0 i), r.1)
+  ends_alike (z ∷ xs) (w ∷ ys) x y is = let tails : xs ++ x ∷ [] ≡ ys ++ y ∷ [] = cc in let r = ends_alike xs ys x y tails in let same : z ≡ w =
+      cc in ((λ i. same i ∷ r.0 i), r.1)
 
   pub get_or-front : (xs : List A) (x : A) (i : ℕ) (d : A) → i < length xs → get_or (xs ++ x ∷ []) i d ≡ get_or xs i d
   get_or-front [] x i d lt = absurd (omega (arith, lt))
@@ -43,11 +44,13 @@ new_at q l (suc n) i d lt = elim (cases_lt i n) [
   | inr ge ↦
       let is : length (new_senders q l n) ≡ i = omega (arith, lt, ge, length-new q l n) in
       let same : n ≡ i = omega (arith, lt, ge) in
-      ap (λ (j : ℕ). get_or (new_senders q l n ++ new_sender q l n ∷ []) j d) (sym is) ∙ (get_or-end (new_senders q l n) (new_sender q l n) d ∙ ap (new_sender q l) same)
+      ap (λ (j : ℕ). get_or (new_senders q l n ++ new_sender q l n ∷ []) j d) (sym is)
+      ∙ (get_or-end (new_senders q l n) (new_sender q l n) d ∙ ap (new_sender q l) same)
 ]
 
 -- the last two of the senders are taken away
-pub two_less : (q : QueueId) (l : Layout) (n m : ℕ) (xs ys zs : List Known) (a b : Known) → m ≡ n + 2 → xs ≡ new_senders q l m → xs ≡ ys ++ b ∷ [] → ys ≡ zs ++ a ∷ []
+pub two_less : (q : QueueId) (l : Layout) (n m : ℕ) (xs ys zs : List Known) (a b : Known) → m ≡ n + 2 → xs ≡ new_senders q l m → xs ≡ ys ++ b ∷ []
+    → ys ≡ zs ++ a ∷ []
     → (zs ≡ new_senders q l n) × (a ≡ new_sender q l n) × (b ≡ new_sender q l (n + 1))
 two_less q l n m xs ys zs a b count made one two =
     let more : m ≡ suc (n + 1) = omega (arith, count) in
@@ -59,23 +62,28 @@ two_less q l n m xs ys zs a b count made one two =
 grown_none : (c : ℕ) (v w : List Event) (n : ℕ) → Grows c [] n v w → v ≡ [] → own c w ≡ []
 grown_none c v w n g none = ap (own c) (g.is ∙ ap (λ (x : List Event). x ++ g.new) none) ∙ g.mine
 
-pub new_seated : (layout wide : Layout) (q : QueueId) (s : Seats) (o a b : Known) → IsWider layout wide → o ≡ new_owner q wide → a ≡ new_sender q wide layout.senders → b ≡ new_sender q wide (layout.senders + 1)
-    → s.senders.items ≡ new_senders q wide layout.senders → s.worker.queue ≡ o.queue → s.worker.layout ≡ o.layout → s.worker.number ≡ a.number → s.worker.tries ≡ 1
-    → Grows owner_seat [] 0 o.seen s.worker.seen → Grows a.number [] 0 a.seen s.worker.seen → IsLegal s.worker.layout s.worker.seen → s.delay.sender ≡ b → Seated layout s []
+pub new_seated : (layout wide : Layout) (q : QueueId) (s : Seats) (o a b : Known) → IsWider layout wide → o ≡ new_owner q wide
+    → a ≡ new_sender q wide layout.senders → b ≡ new_sender q wide (layout.senders + 1)
+    → s.senders.items ≡ new_senders q wide layout.senders → s.worker.queue ≡ o.queue → s.worker.layout ≡ o.layout → s.worker.number ≡ a.number
+    → s.worker.tries ≡ 1
+    → Grows owner_seat [] 0 o.seen s.worker.seen → Grows a.number [] 0 a.seen s.worker.seen → IsLegal s.worker.layout s.worker.seen
+    → s.delay.sender ≡ b → Seated layout s []
 new_seated layout wide q s o a b wider is_o is_a is_b senders queue lay number tries grows_o grows_a legal delay = record {
   queue = q;
   wide = wide;
   wider = wider;
   legal = legal_nil wide;
   count = ap length senders ∙ length-new q wide layout.senders;
-  senders = λ i d lt. let at : get_or s.senders.items i d ≡ new_sender q wide i = ap (λ (x : List Known). get_or x i d) senders ∙ new_at q wide layout.senders i d lt in
+  senders = λ i d lt. let at : get_or s.senders.items i d ≡ new_sender q wide i = ap (λ (x : List Known). get_or x i d) senders
+      ∙ new_at q wide layout.senders i d lt in
       subst (λ (k : Known). IsAt q wide i [] k) (sym at) record { queue_is = refl; layout_is = refl; number_is = refl; begins = ([], refl); mine = refl };
   sender = record {
     queue_is = queue ∙ ap (λ (k : Known). k.queue) is_o;
     layout_is = lay ∙ ap (λ (k : Known). k.layout) is_o;
     number_is = number ∙ ap (λ (k : Known). k.number) is_a;
     begins = (s.worker.seen, refl);
-    mine = subst (λ (n : ℕ). own n s.worker.seen ≡ []) (ap (λ (k : Known). k.number) is_a) (grown_none a.number a.seen s.worker.seen 0 grows_a (ap (λ (k : Known). k.seen) is_a));
+    mine = subst (λ (n : ℕ). own n s.worker.seen ≡ []) (ap (λ (k : Known). k.number) is_a)
+        (grown_none a.number a.seen s.worker.seen 0 grows_a (ap (λ (k : Known). k.seen) is_a));
   };
   owner = record {
     queue_is = queue ∙ ap (λ (k : Known). k.queue) is_o;
@@ -84,7 +92,8 @@ new_seated layout wide q s o a b wider is_o is_a is_b senders queue lay number t
     begins = (s.worker.seen, refl);
     mine = grown_none owner_seat o.seen s.worker.seen 0 grows_o (ap (λ (k : Known). k.seen) is_o);
   };
-  delay = subst (λ (k : Known). IsAt q wide (layout.senders + 1) [] k) (sym (delay ∙ is_b)) record { queue_is = refl; layout_is = refl; number_is = refl; begins = ([], refl); mine = refl };
+  delay = subst (λ (k : Known). IsAt q wide (layout.senders + 1) [] k)
+      (sym (delay ∙ is_b)) record { queue_is = refl; layout_is = refl; number_is = refl; begins = ([], refl); mine = refl };
   tries = tries;
   seen = subst (λ (l : Layout). IsLegal l s.worker.seen) (lay ∙ ap (λ (k : Known). k.layout) is_o) legal;
 }

@@ -11,9 +11,9 @@ use Rattle.wq_words.proofs.Growing.{count_by_push}
 use Rattle.wq_words.proofs.Legal.{legal_next}
 use Rattle.wq_words.specs.Seen.{seat_of, own}
 use Rattle.wq_words.proofs.Seen.{own-append, own_one}
-use Rattle.wq_plain.specs.Queueing.{queue_events}
-use Rattle.wq_plain.proofs.Growing.{fresh-more}
-use Rattle.wq_script.proofs.Alone.{right_nil}
+use Rattle.wq_meaning.specs.Queueing.{queue_events}
+use Rattle.wq_meaning.proofs.Growing.{fresh-more}
+use Rattle.wq_words.proofs.Prefixes.{right_nil}
 
 -- the answers of the tests by which a script's meaning goes
 pub not_pending : (h : List Event) (k : ℕ) → ¬ IsPending h k → pending h k ≡ false
@@ -33,7 +33,8 @@ pub closed_on : (h : List Event) (e : Event) → is_close e ≡ false → count_
 closed_on h e keeps = count_by_push is_close h e ∙ (ap (λ (b : Bool). count_by is_close h + cond {A = ℕ} b 1 0) keeps ∙ omega arith)
 
 -- the last of two lists that are one
-last_of : (before after g : List Event) (d e : Event) → before ++ d ∷ after ≡ g ++ e ∷ [] → ((after ≡ []) × (before ≡ g)) ⊎ ((ys : List Event) × (after ≡ ys ++ e ∷ []))
+last_of : (before after g : List Event) (d e : Event) → before ++ d ∷ after ≡ g ++ e ∷ []
+    → ((after ≡ []) × (before ≡ g)) ⊎ ((ys : List Event) × (after ≡ ys ++ e ∷ []))
 last_of [] after [] d e is = inl (cc, refl)
 last_of [] after (y ∷ g) d e is = inr (g, cc)
 last_of (b ∷ bs) after [] d e is = let none : bs ++ d ∷ after ≡ [] = cc in absurd (cc (right_nil bs (d ∷ after) none))
@@ -43,11 +44,13 @@ last_of (b ∷ bs) after (y ∷ g) d e is = let tails : bs ++ d ∷ after ≡ g 
 ]
 
 -- where the seat's last event is the last of all, nothing comes after it
-pub last_own : (c : ℕ) (before after g : List Event) (d e : Event) → before ++ d ∷ after ≡ g ++ e ∷ [] → own c after ≡ [] → seat_of e ≡ c → (after ≡ []) × (before ≡ g)
+pub last_own : (c : ℕ) (before after g : List Event) (d e : Event) → before ++ d ∷ after ≡ g ++ e ∷ [] → own c after ≡ [] → seat_of e ≡ c
+    → (after ≡ []) × (before ≡ g)
 last_own c before after g d e is none of = elim (last_of before after g d e is) [
   | inl both ↦ both
   | inr more ↦
-      let one : own c (more.0 ++ e ∷ []) ≡ own c more.0 ++ e ∷ [] = own-append c more.0 (e ∷ []) ∙ ap (λ (x : List Event). own c more.0 ++ x) (own_one c e of) in
+      let one : own c (more.0 ++ e ∷ []) ≡ own c more.0 ++ e ∷ [] = own-append c more.0 (e ∷ [])
+      ∙ ap (λ (x : List Event). own c more.0 ++ x) (own_one c e of) in
       absurd (cc (right_nil (own c more.0) (e ∷ []) (sym one ∙ (ap (own c) (sym more.1) ∙ none))))
 ]
 
@@ -67,7 +70,8 @@ module _ (layout : Layout) (h : List Event) (s k : ℕ) where
   second_allowed : (e : Event) → IsLegal layout (h ++ Hold s k ∷ e ∷ []) → IsLegal layout ((h ++ Hold s k ∷ []) ++ e ∷ [])
   second_allowed e legal = subst (λ (x : List Event). IsLegal layout x) (sym (append_assoc h (Hold s k ∷ []) (e ∷ []))) legal
 
-  pub push_events : IsLegal layout (h ++ Hold s k ∷ Push s k ∷ []) → (pending h k ≡ false) × (closed h ≡ false) × (Hold s k ∷ Push s k ∷ [] ≡ queue_events s k h)
+  pub push_events : IsLegal layout (h ++ Hold s k ∷ Push s k ∷ [])
+      → (pending h k ≡ false) × (closed h ≡ false) × (Hold s k ∷ Push s k ∷ [] ≡ queue_events s k h)
   push_events legal =
       let clear : pending h k ≡ false = held_clear (Push s k) legal in
       let allowed = legal_next layout (h ++ Hold s k ∷ []) (Push s k) [] (second_allowed (Push s k) legal) in
@@ -79,7 +83,8 @@ module _ (layout : Layout) (h : List Event) (s k : ℕ) where
             ∙ ap (λ (b : Bool). if b then Hold s k ∷ Back s k why.Closed ∷ [] else Hold s k ∷ Push s k ∷ []) is_open),
       )
 
-  pub refused_events : IsLegal layout (h ++ Hold s k ∷ Back s k why.Closed ∷ []) → (pending h k ≡ false) × (closed h ≡ true) × (Hold s k ∷ Back s k why.Closed ∷ [] ≡ queue_events s k h)
+  pub refused_events : IsLegal layout (h ++ Hold s k ∷ Back s k why.Closed ∷ [])
+      → (pending h k ≡ false) × (closed h ≡ true) × (Hold s k ∷ Back s k why.Closed ∷ [] ≡ queue_events s k h)
   refused_events legal =
       let clear : pending h k ≡ false = held_clear (Back s k why.Closed) legal in
       let allowed = legal_next layout (h ++ Hold s k ∷ []) (Back s k why.Closed) [] (second_allowed (Back s k why.Closed) legal) in

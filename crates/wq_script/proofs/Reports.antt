@@ -10,13 +10,14 @@ use Rattle.wq_words.proofs.Order.{in_order}
 use Rattle.wq_words.proofs.Prefixes.{prefix_length}
 use Rattle.wq_words.specs.Seen.{owner_seat, seat_of, own}
 use Rattle.wq_words.proofs.Seen.{count_own, ended_same}
-use Rattle.wq_live.specs.Counts as live
-use Rattle.wq_live.specs.Counts.{capped, is_queued_by, is_pending_by, is_closed_by, is_chain_busy}
+use Rattle.wq_words.specs.Counting as live
+use Rattle.wq_words.specs.Counting.{is_queued_by, is_pending_by, is_closed_by, is_chain_busy}
+use Rattle.wq_live.specs.Counts.{capped}
 use Rattle.wq_worker.specs.declared.totals.Totals.{Totals}
 use Rattle.wq_worker.specs.Totals.{own_totals}
-use Rattle.wq_plain.specs.Report.{is_chain, is_busy, is_refusal}
-use Rattle.wq_plain.specs.Commands.{ScriptState}
-use Rattle.wq_plain.proofs.Growing.{accepted-count, count-append}
+use Rattle.wq_words.specs.Counting.{is_chain, is_busy, is_refusal}
+use Rattle.wq_meaning.specs.Commands.{ScriptState}
+use Rattle.wq_meaning.proofs.Growing.{accepted-count, count-append}
 use Rattle.wq_script.specs.declared.seats.Seats.{Seats}
 use Rattle.wq_script.specs.declared.tally.Tally.{Tally}
 use Rattle.wq_script.specs.Engine.{Meets}
@@ -85,7 +86,8 @@ chain_busy_only (End k) is = refl
 chain_busy_only (Chain k) is = refl
 
 -- a count of one seat's events is the same wherever its events are
-same_count : (p : Event → Bool) (c : ℕ) → ((e : Event) → eqb (seat_of e) c ≡ false → p e ≡ false) → (v h : List Event) → own c v ≡ own c h → count_by p v ≡ count_by p h
+same_count : (p : Event → Bool) (c : ℕ) → ((e : Event) → eqb (seat_of e) c ≡ false → p e ≡ false) → (v h : List Event) → own c v ≡ own c h
+    → count_by p v ≡ count_by p h
 same_count p c only v h same = count_own p c only v ∙ (ap (count_by p) same ∙ sym (count_own p c only h))
 
 same_chain : (h : List Event) → count_by live.is_chain h ≡ count_by is_chain h
@@ -116,22 +118,28 @@ pub record Sums (x : Tally) (t : Totals) (h : List Event) : Type 0 where
   pub some_busy : count_by is_busy h ≤ 2 ^ 62
   pub some_refused : count_by is_refusal h ≤ 2 ^ 62
 
-pub sums : (layout : Layout) (a : Seats) (x : Tally) (s : ScriptState) (t : Totals) → Meets (engine layout a x) s → length s.history ≤ 2 ^ 61 → t ≡ own_totals a.worker.number a.worker.seen → Sums x t s.history
+pub sums : (layout : Layout) (a : Seats) (x : Tally) (s : ScriptState) (t : Totals) → Meets (engine layout a x) s → length s.history ≤ 2 ^ 61
+    → t ≡ own_totals a.worker.number a.worker.seen → Sums x t s.history
 sums layout a x s t m few is =
     let h : List Event = s.history in let v : List Event = a.worker.seen in let g = m.seated in
     let w : ℕ = layout.senders in
     let number : a.worker.number ≡ w = g.sender.number_is in
-    let q : count_by (is_queued_by a.worker.number) v ≡ count_by (is_queued_by w) h = ap (λ (n : ℕ). count_by (is_queued_by n) v) number ∙ same_count (is_queued_by w) w (queued_only w) v h g.sender.mine in
-    let p : count_by (is_pending_by a.worker.number) v ≡ count_by (is_pending_by w) h = ap (λ (n : ℕ). count_by (is_pending_by n) v) number ∙ same_count (is_pending_by w) w (pending_only w) v h g.sender.mine in
-    let r : count_by (is_closed_by a.worker.number) v ≡ count_by (is_closed_by w) h = ap (λ (n : ℕ). count_by (is_closed_by n) v) number ∙ same_count (is_closed_by w) w (closed_only w) v h g.sender.mine in
+    let q : count_by (is_queued_by a.worker.number) v ≡ count_by (is_queued_by w) h = ap (λ (n : ℕ). count_by (is_queued_by n) v) number
+    ∙ same_count (is_queued_by w) w (queued_only w) v h g.sender.mine in
+    let p : count_by (is_pending_by a.worker.number) v ≡ count_by (is_pending_by w) h = ap (λ (n : ℕ). count_by (is_pending_by n) v) number
+    ∙ same_count (is_pending_by w) w (pending_only w) v h g.sender.mine in
+    let r : count_by (is_closed_by a.worker.number) v ≡ count_by (is_closed_by w) h = ap (λ (n : ℕ). count_by (is_closed_by n) v) number
+    ∙ same_count (is_closed_by w) w (closed_only w) v h g.sender.mine in
     let c : count_by live.is_chain v ≡ count_by is_chain h = same_count live.is_chain owner_seat chain_only v h g.owner.mine ∙ same_chain h in
     let b : count_by is_chain_busy v ≡ count_by is_chain_busy h = same_count is_chain_busy owner_seat chain_busy_only v h g.owner.mine in
     let n : length (ended v) ≡ length (ended h) = ap (λ (y : List ℕ). length y) (ended_same h v g.owner.mine) in
     let order = in_order g.wide h g.legal in
     let lq = count_by-le-length (is_queued_by w) h in let lp = count_by-le-length (is_pending_by w) h in let lr = count_by-le-length (is_closed_by w) h in
-    let lc = count_by-le-length is_chain h in let lb = count_by-le-length is_chain_busy h in let lpush = count_by-le-length is_push h in let lbusy = count_by-le-length is_busy h in let lref = count_by-le-length is_refusal h in
+    let lc = count_by-le-length is_chain h in let lb = count_by-le-length is_chain_busy h in let lpush = count_by-le-length is_push h in
+    let lbusy = count_by-le-length is_busy h in let lref = count_by-le-length is_refusal h in
     let all = accepted-count h in
-    let ord : length (ended h) ≤ length (accepted h) = omega (arith, prefix_length (begun h) (accepted h) order.begun_first, prefix_length (ended h) (begun h) order.ended_first) in
+    let ord : length (ended h) ≤ length (accepted h) =
+    omega (arith, prefix_length (begun h) (accepted h) order.begun_first, prefix_length (ended h) (begun h) order.ended_first) in
     let tq : t.queued ≡ count_by (is_queued_by w) h = ap (λ (y : Totals). y.queued) is ∙ omega (arith, q, lq, few) in
     let tc : t.chained ≡ count_by is_chain h = ap (λ (y : Totals). y.chained) is ∙ omega (arith, c, lc, few) in
     let te : t.executed ≡ length (ended h) = ap (λ (y : Totals). y.executed) is ∙ omega (arith, n, ord, all, lpush, lc, few) in

@@ -1,5 +1,5 @@
 -- What each answer of a worker's step means for a script.
-use Rattle.std.proofs.Common.{append_assoc, ◌≡◌, ℕ, ◌+◌, ◌<◌, ◌≤◌, Bool, true, false, not, ◌&&◌, nat_le, if◌then◌else◌, drop, suc, List, [], ◌∷◌, ◌++◌, Option, Some, None, length, refl, sym, ap, ◌∙◌, subst, arith, All}
+use Rattle.std.proofs.Common.{append_assoc, ◌≡◌, ℕ, ◌+◌, ◌<◌, ◌≤◌, Bool, true, false, not, ◌&&◌, nat_le, if◌then◌else◌, drop, suc, List, [], ◌∷◌, ◌++◌, Option, Some, None, length, refl, sym, ap, ◌∙◌, subst, arith, All, inl, inr}
 use Rattle.std.specs.Prelude.{filter}
 use Rattle.std.specs.Option.{option_to_list}
 use Rattle.std.proofs.lemmas.List.{append-nil, append_cancel_left}
@@ -7,6 +7,7 @@ use Rattle.std.proofs.lemmas.List.Elements.{filter-append}
 use Rattle.std.proofs.Math.Seq.{drop-append_seam}
 use Rattle.std.proofs.Math.ListN.{get_or-eq_default}
 use Rattle.std.proofs.lemmas.Option.{slice_get_within}
+use Rattle.std.proofs.lemmas.Bool.{cases_lt}
 use mathlib.Core.List.{IsPrefix}
 use Rattle.arrayvec.specs.ArrayVec.{ArrayVec}
 use Rattle.wq_words.specs.declared.layout.Layout.{Layout}
@@ -14,25 +15,33 @@ use Rattle.wq_words.specs.declared.event.Event.{Event}
 use Rattle.wq_words.specs.declared.event.Event.TheVariants.{Take, Begin, End}
 use Rattle.wq_words.specs.History.{begun, ended, taken, closed, next, IsRunning}
 use Rattle.wq_words.specs.Legal.{IsLegal}
+use Rattle.wq_words.specs.Seen.{is_ours}
 use Rattle.wq_worker.specs.declared.ran.Ran.TheVariants.{Nothing}
-use Rattle.wq_worker.specs.Seats.{taking, is_ours, Adds}
+use Rattle.wq_worker.specs.Seats.{taking, Adds}
 use Rattle.wq_worker.proofs.Seats.{adds_on, adds_none}
 use Rattle.wq_worker.specs.State.{WorkerState, Moves}
 use Rattle.wq_worker.specs.Step.{Starts, item, other, owed, Ends, ends, Owes, owes, Runs}
 use Rattle.wq_worker.specs.Follow.{Follows}
-use Rattle.wq_plain.specs.Execution.{no_follow, follow_of, take_events, after_run, after_execution, after_executions, go_on, ended_since}
-use Rattle.wq_plain.specs.Follows.{AllFit}
-use Rattle.wq_plain.proofs.Executions.{follow_fits, ended_execution, one_more}
-use Rattle.wq_plain.proofs.Growing.{begun-append, ended-append}
+use Rattle.wq_meaning.specs.Execution.{no_follow, follow_of, take_events, after_run, after_execution, after_executions, go_on, ended_since}
+use Rattle.wq_meaning.proofs.Executions.{ended_execution, row_goes_on}
+use Rattle.wq_meaning.proofs.Growing.{begun-append, ended-append}
 use Rattle.wq_script.specs.declared.lists.Lists.{Lists}
-use Rattle.wq_script.specs.Quiet.{Quiet, IsReady, Executed, Executes, ExecutesRow}
-use Rattle.wq_script.proofs.Alone.{right_nil}
-use Rattle.wq_script.proofs.Hearing.{prefix_on}
+use Rattle.wq_script.specs.Quiet.{ListsFit, Quiet, IsWorkerIdle, Executed, ExecutesOne, ExecutesRow}
+use Rattle.wq_words.proofs.Prefixes.{right_nil, prefix_on}
 use Rattle.wq_script.proofs.Executed.{exact, executed, nothing_next, taking_is}
 
 -- what the run of an item may answer, and leave
 abbrev pub may_be : Lists → ℕ → List ℕ → Lists → Type 0
 may_be w k f v = (f ≡ follow_of w.follows.items k) × (v.follows ≡ w.follows)
+
+-- what a number's function answers fits
+follow_fits : (follows : List (ArrayVec ℕ)) (n k : ℕ) → ListsFit n follows → All (λ j. j < n) (follow_of follows k)
+follow_fits follows n k fits = elim (cases_lt k (length follows)) [
+  | inl lt ↦ fits k no_follow lt
+  | inr ge ↦
+      let P : ArrayVec ℕ → Type 0 = λ f. All (λ j. j < n) f.items in
+      subst P (sym (get_or-eq_default follows no_follow ge)) (λ i d lt. absurd (omega (arith, lt)))
+]
 
 -- a number that is no item has no list
 no_list : (follows : List (ArrayVec ℕ)) (k : ℕ) → length follows ≤ k → follow_of follows k ≡ []
@@ -43,22 +52,30 @@ starts_lists a k f v es (item idle lt may is) = may.1
 starts_lists a k f v es (other idle le none same is) = ap (λ (w : Lists). w.follows) same
 starts_lists a k f v es (owed runs left same none) = ap (λ (w : Lists). w.follows) same
 
-module _ (a b : WorkerState Lists) (k : ℕ) (f : List ℕ) (es fs : List Event) (told : Follows a.layout.items a.number (closed a.seen) f fs) (moves : Moves (es ++ (fs ++ End k ∷ [])) 0 a b) (idle_then : ¬ IsRunning b.seen) where
-  ended_so : (wide : Layout) (z : List Event) → IsReady wide a → Quiet wide a.number a.seen z → IsPrefix b.seen z → es ≡ taking a.seen ++ Begin k ∷ [] → f ≡ follow_of a.work.follows.items k
+module _ (a b : WorkerState Lists) (k : ℕ) (f : List ℕ) (es fs : List Event) (told : Follows a.layout.items a.number (closed a.seen) f fs)
+    (moves : Moves (es ++ (fs ++ End k ∷ [])) 0 a b) (idle_then : ¬ IsRunning b.seen) where
+  ended_so : (wide : Layout) (z : List Event) → IsWorkerIdle wide a → Quiet wide a.number a.seen z → IsPrefix b.seen z
+      → es ≡ taking a.seen ++ Begin k ∷ [] → f ≡ follow_of a.work.follows.items k
       → All (λ j. j < wide.items) f → Executed a b (Some k)
   ended_so wide z ready quiet begins is answers fit =
       let e = exact wide a.number a.seen b.seen z (es ++ (fs ++ End k ∷ [])) 0 quiet moves.adds begins in
-      let whole : b.seen ≡ a.seen ++ ((taking a.seen ++ Begin k ∷ []) ++ (fs ++ End k ∷ [])) = e.0 ∙ ap (λ (x : List Event). a.seen ++ (x ++ (fs ++ End k ∷ []))) is in
-      let follows : Follows wide.items a.number (closed a.seen) f fs = subst (λ (l : Layout). Follows l.items a.number (closed a.seen) f fs) ready.layout told in
+      let whole : b.seen ≡ a.seen ++ ((taking a.seen ++ Begin k ∷ []) ++ (fs ++ End k ∷ [])) = e.0
+      ∙ ap (λ (x : List Event). a.seen ++ (x ++ (fs ++ End k ∷ []))) is in
+      let follows : Follows wide.items a.number (closed a.seen) f fs =
+      subst (λ (l : Layout). Follows l.items a.number (closed a.seen) f fs) ready.layout told in
       let d = executed wide a.number a.work.follows.items a.seen k f fs answers fit follows (subst (λ (x : List Event). IsLegal wide x) whole e.2) in
       record { next_is = d.0; seen_is = whole ∙ d.1; idle = idle_then }
 
-  starts_so : Starts may_be a k f b.work es → (wide : Layout) (z : List Event) → IsReady wide a → Quiet wide a.number a.seen z → IsPrefix b.seen z → Executed a b (Some k)
+  starts_so : Starts may_be a k f b.work es → (wide : Layout) (z : List Event) → IsWorkerIdle wide a → Quiet wide a.number a.seen z
+      → IsPrefix b.seen z → Executed a b (Some k)
   starts_so (item idle lt may is) wide z ready quiet begins =
-      ended_so wide z ready quiet begins is may.0 (subst (λ (x : List ℕ). All (λ j. j < wide.items) x) (sym may.0) (follow_fits a.work.follows.items wide.items k ready.fit))
+      ended_so wide z ready quiet begins is may.0
+      (subst (λ (x : List ℕ). All (λ j. j < wide.items) x) (sym may.0) (follow_fits a.work.follows.items wide.items k ready.fit))
   starts_so (other idle le none same is) wide z ready quiet begins =
-      let empty : follow_of a.work.follows.items k ≡ [] = no_list a.work.follows.items k (omega (arith, le, ready.count, ap (λ (l : Layout). l.items) ready.layout)) in
-      ended_so wide z ready quiet begins is (none ∙ sym empty) (subst (λ (x : List ℕ). All (λ j. j < wide.items) x) (sym none) (λ i d lt. absurd (omega (arith, lt))))
+      let empty : follow_of a.work.follows.items k ≡ [] =
+      no_list a.work.follows.items k (omega (arith, le, ready.count, ap (λ (l : Layout). l.items) ready.layout)) in
+      ended_so wide z ready quiet begins is (none ∙ sym empty)
+      (subst (λ (x : List ℕ). All (λ j. j < wide.items) x) (sym none) (λ i d lt. absurd (omega (arith, lt))))
   starts_so (owed runs left same none) wide z ready quiet begins = absurd (ready.idle (slice_get_within (begun a.seen) (length (ended a.seen)) k runs))
 
 take_only : (b : Bool) (h : List Event) → (begun (h ++ (if b then Take ∷ [] else [])) ≡ begun h) × (ended (h ++ (if b then Take ∷ [] else [])) ≡ ended h)
@@ -67,12 +84,14 @@ take_only false h = (ap begun (append-nil h), ap ended (append-nil h))
 
 -- a take begins and ends nothing
 taken_begun : (h : List Event) → length (begun (h ++ taking h)) ≡ length (begun h)
-taken_begun h = ap (λ (x : List Event). length (begun (h ++ x))) (taking_is h) ∙ ap length (take_only (nat_le (taken h) (length (begun h)) && not (closed h)) h).0
+taken_begun h = ap (λ (x : List Event). length (begun (h ++ x))) (taking_is h)
+    ∙ ap length (take_only (nat_le (taken h) (length (begun h)) && not (closed h)) h).0
 
 taken_ended : (h : List Event) → length (ended (h ++ taking h)) ≡ length (ended h)
-taken_ended h = ap (λ (x : List Event). length (ended (h ++ x))) (taking_is h) ∙ ap length (take_only (nat_le (taken h) (length (begun h)) && not (closed h)) h).1
+taken_ended h = ap (λ (x : List Event). length (ended (h ++ x))) (taking_is h)
+    ∙ ap length (take_only (nat_le (taken h) (length (begun h)) && not (closed h)) h).1
 
-pub ends_executes : (a b : WorkerState Lists) (k : ℕ) → Ends may_be a k b → Executes a b (Some k)
+pub ends_executes : (a b : WorkerState Lists) (k : ℕ) → Ends may_be a k b → ExecutesOne a b (Some k)
 ends_executes a b k (ends f es fs starts told moves idle) = record {
   events = es ++ (fs ++ End k ∷ []);
   others = 0;
@@ -81,7 +100,7 @@ ends_executes a b k (ends f es fs starts told moves idle) = record {
   quiet = starts_so a b k f es fs told moves idle starts;
 }
 
-pub nothing_executes : (a b : WorkerState Lists) → Runs may_be Nothing a b → Executes a b None
+pub nothing_executes : (a b : WorkerState Lists) → Runs may_be Nothing a b → ExecutesOne a b None
 nothing_executes a b told = record {
   events = taking a.seen;
   others = 0;
@@ -92,12 +111,21 @@ nothing_executes a b told = record {
       let is : None ≡ next a.seen = nothing_next wide a.seen b.seen e.2 e.0 told.1 in
       record {
         next_is = is;
-        seen_is = e.0 ∙ (ap (λ (x : List Event). a.seen ++ x) (taking_is a.seen) ∙ ap (after_run a.number a.work.follows.items (a.seen ++ take_events a.seen)) is);
-        idle = λ runs. told.0 (omega (arith, runs, taken_begun a.seen, taken_ended a.seen, ap (λ (x : List Event). length (begun x)) e.0, ap (λ (x : List Event). length (ended x)) e.0));
+        seen_is = e.0 ∙ (ap (λ (x : List Event). a.seen ++ x) (taking_is a.seen)
+            ∙ ap (after_run a.number a.work.follows.items (a.seen ++ take_events a.seen)) is);
+        idle = λ runs. told.0 (omega (
+          arith,
+          runs,
+          taken_begun a.seen,
+          taken_ended a.seen,
+          ap (λ (x : List Event). length (begun x)) e.0,
+          ap
+              (λ (x : List Event). length (ended x)) e.0,
+        ));
       };
 }
 
-pub owes_executes : (a b : WorkerState Lists) (k : ℕ) → Owes may_be a k b → Executes a b None
+pub owes_executes : (a b : WorkerState Lists) (k : ℕ) → Owes may_be a k b → ExecutesOne a b None
 owes_executes a b k (owes f qs j more es fs starts splits left is_open told moves runs) = record {
   events = _;
   others = a.tries;
@@ -119,7 +147,7 @@ pub record RowSoFar (ends : ℕ → Bool) (limit left : ℕ) (a b : WorkerState 
   pub others : ℕ
   pub moves : Moves events others a b
   pub lists : b.work.follows ≡ a.work.follows
-  pub quiet : (wide : Layout) (z : List Event) → IsReady wide a → Quiet wide a.number a.seen z → IsPrefix b.seen z → SoFar ends limit left a b ran
+  pub quiet : (wide : Layout) (z : List Event) → IsWorkerIdle wide a → Quiet wide a.number a.seen z → IsPrefix b.seen z → SoFar ends limit left a b ran
 
 pub moves_on : (xs ys : List Event) (n m : ℕ) (a b c : WorkerState Lists) → Moves xs n a b → Moves ys m b c → Moves (xs ++ ys) (n + m) a c
 moves_on xs ys n m a b c x y = record {
@@ -132,22 +160,33 @@ moves_on xs ys n m a b c x y = record {
 }
 
 -- the worker is ready again, and what comes is quiet
-still_ready : (wide : Layout) (xs : List Event) (n : ℕ) (a b : WorkerState Lists) → IsReady wide a → Moves xs n a b → b.work.follows ≡ a.work.follows → ¬ IsRunning b.seen → IsReady wide b
+still_ready : (wide : Layout) (xs : List Event) (n : ℕ) (a b : WorkerState Lists) → IsWorkerIdle wide a → Moves xs n a b
+    → b.work.follows ≡ a.work.follows → ¬ IsRunning b.seen → IsWorkerIdle wide b
 still_ready wide xs n a b ready moves lists idle = record {
   layout = moves.layout ∙ ready.layout;
   idle = idle;
   tries = moves.tries ∙ ready.tries;
   count = ap (λ v. length v.items) lists ∙ ready.count;
-  fit = subst (λ v. AllFit wide.items v.items) (sym lists) ready.fit;
+  fit = subst (λ v. ListsFit wide.items v.items) (sym lists) ready.fit;
 }
 
-still_quiet : (wide : Layout) (xs : List Event) (n : ℕ) (a b : WorkerState Lists) (z : List Event) → Quiet wide a.number a.seen z → Moves xs n a b → IsPrefix b.seen z → Quiet wide b.number b.seen z
+still_quiet : (wide : Layout) (xs : List Event) (n : ℕ) (a b : WorkerState Lists) (z : List Event) → Quiet wide a.number a.seen z → Moves xs n a b
+    → IsPrefix b.seen z → Quiet wide b.number b.seen z
 still_quiet wide xs n a b z quiet moves begins =
     let theirs : List Event → List Event = λ es. filter (λ e. not (is_ours a.number e)) es in
-    let whole : a.seen ++ quiet.rest ≡ a.seen ++ (moves.adds.new ++ begins.0) = sym quiet.is ∙ (sym begins.1 ∙ (ap (λ (x : List Event). x ++ begins.0) moves.adds.is ∙ append_assoc a.seen moves.adds.new begins.0)) in
+    let whole : a.seen ++ quiet.rest ≡ a.seen ++ (moves.adds.new ++ begins.0) = sym quiet.is
+    ∙ (sym begins.1 ∙ (ap (λ (x : List Event). x ++ begins.0) moves.adds.is ∙ append_assoc a.seen moves.adds.new begins.0)) in
     let parts : quiet.rest ≡ moves.adds.new ++ begins.0 = append_cancel_left a.seen quiet.rest (moves.adds.new ++ begins.0) whole in
-    let none : theirs begins.0 ≡ [] = right_nil (theirs moves.adds.new) (theirs begins.0) (sym (filter-append (λ e. not (is_ours a.number e)) moves.adds.new begins.0) ∙ (ap theirs (sym parts) ∙ quiet.none)) in
-    record { legal = quiet.legal; rest = begins.0; is = sym begins.1; none = subst (λ (s : ℕ). filter (λ e. not (is_ours s e)) begins.0 ≡ []) (sym moves.number) none }
+    let none : theirs begins.0 ≡ [] =
+    right_nil (theirs moves.adds.new) (theirs begins.0)
+    (sym (filter-append (λ e. not (is_ours a.number e)) moves.adds.new begins.0) ∙ (ap theirs (sym parts) ∙ quiet.none)) in
+    record {
+      legal = quiet.legal;
+      rest = begins.0;
+      is = sym begins.1;
+      none =
+          subst (λ (s : ℕ). filter (λ e. not (is_ours s e)) begins.0 ≡ []) (sym moves.number) none;
+    }
 
 module _ (ends : ℕ → Bool) (limit : ℕ) (a : WorkerState Lists) where
   pub row_none : IsLegal a.layout a.seen → RowSoFar ends limit limit a a []
@@ -159,20 +198,23 @@ module _ (ends : ℕ → Bool) (limit : ℕ) (a : WorkerState Lists) where
     quiet = λ wide z ready quiet begins. record { rest = refl; told = sym (append-nil (ended a.seen)); idle = ready.idle };
   }
 
-  module _ (left n : ℕ) (b c : WorkerState Lists) (ran : List ℕ) (r : Option ℕ) (count : n ≡ suc left) (row : RowSoFar ends limit n a b ran) (does : Executes b c r) where
+  module _ (left n : ℕ) (b c : WorkerState Lists) (ran : List ℕ) (r : Option ℕ) (count : n ≡ suc left) (row : RowSoFar ends limit n a b ran)
+      (does : ExecutesOne b c r) where
     -- what the step was, where it was quiet
-    step_so : (wide : Layout) (z : List Event) → IsReady wide a → Quiet wide a.number a.seen z → IsPrefix c.seen z
+    step_so : (wide : Layout) (z : List Event) → IsWorkerIdle wide a → Quiet wide a.number a.seen z → IsPrefix c.seen z
         → SoFar ends limit n a b ran × (r ≡ next b.seen) × (c.seen ≡ after_execution a.number a.work.follows.items b.seen) × (¬ IsRunning c.seen)
     step_so wide z ready quiet begins =
         let before : IsPrefix b.seen z = prefix_on b.seen c.seen z (does.moves.adds.new, sym does.moves.adds.is) begins in
         let so : SoFar ends limit n a b ran = row.quiet wide z ready quiet before in
-        let d = does.quiet wide z (still_ready wide row.events row.others a b ready row.moves row.lists so.idle) (still_quiet wide row.events row.others a b z quiet row.moves before) begins in
+        let d = does.quiet wide z (still_ready wide row.events row.others a b ready row.moves row.lists so.idle)
+        (still_quiet wide row.events row.others a b z quiet row.moves before) begins in
         (so, d.next_is, d.seen_is ∙ (λ i. after_execution (row.moves.number i) (row.lists i).items b.seen), d.idle)
 
     all_moves : Moves (row.events ++ does.events) (row.others + does.others) a c
     all_moves = moves_on row.events does.events row.others does.others a b c row.moves does.moves
 
-  pub row_more : (left n : ℕ) (b c : WorkerState Lists) (ran : List ℕ) (k : ℕ) → n ≡ suc left → RowSoFar ends limit n a b ran → Executes b c (Some k) → ends k ≡ false → RowSoFar ends limit left a c (ran ++ k ∷ [])
+  pub row_more : (left n : ℕ) (b c : WorkerState Lists) (ran : List ℕ) (k : ℕ) → n ≡ suc left → RowSoFar ends limit n a b ran
+      → ExecutesOne b c (Some k) → ends k ≡ false → RowSoFar ends limit left a c (ran ++ k ∷ [])
   row_more left n b c ran k count row does goes = record {
     events = row.events ++ does.events;
     others = row.others + does.others;
@@ -182,10 +224,13 @@ module _ (ends : ℕ → Bool) (limit : ℕ) (a : WorkerState Lists) where
         let d = step_so left n b c ran (Some k) count row does wide z ready quiet begins in
         let g : List Event = b.seen in
         let next_g : List Event = after_execution a.number a.work.follows.items g in
-        let split = one_more a.number a.work.follows.items ends left n k g count d.1 ∙ ap (λ (x : Bool). if x then next_g else after_executions a.number a.work.follows.items ends left next_g) goes in
+        let split = row_goes_on a.number a.work.follows.items ends left n k g count d.1
+        ∙ ap (λ (x : Bool). if x then next_g else after_executions a.number a.work.follows.items ends left next_g) goes in
         record {
           rest = ap (after_executions a.number a.work.follows.items ends left) d.2 ∙ (sym split ∙ d.0.rest);
-          told = ap ended d.2 ∙ (ended_execution a.number a.work.follows.items g ∙ (ap (λ (o : Option ℕ). ended g ++ option_to_list o) (sym d.1) ∙ (ap (λ (x : List ℕ). x ++ k ∷ []) d.0.told ∙ append_assoc (ended a.seen) ran (k ∷ []))));
+          told = ap ended d.2 ∙ (ended_execution a.number a.work.follows.items g
+              ∙ (ap (λ (o : Option ℕ). ended g ++ option_to_list o) (sym d.1)
+              ∙ (ap (λ (x : List ℕ). x ++ k ∷ []) d.0.told ∙ append_assoc (ended a.seen) ran (k ∷ []))));
           idle = d.3;
         };
   }
@@ -204,7 +249,8 @@ module _ (ends : ℕ → Bool) (limit : ℕ) (a : WorkerState Lists) where
         (ap (λ (m : ℕ). after_executions a.number a.work.follows.items ends m b.seen) (sym none) ∙ so.rest, since b.seen a.seen ran so.told, so.idle);
   }
 
-  pub row_last : (left n : ℕ) (b c : WorkerState Lists) (ran : List ℕ) (k : ℕ) → n ≡ suc left → RowSoFar ends limit n a b ran → Executes b c (Some k) → ends k ≡ true → ExecutesRow limit ends a c (ran ++ k ∷ [])
+  pub row_last : (left n : ℕ) (b c : WorkerState Lists) (ran : List ℕ) (k : ℕ) → n ≡ suc left → RowSoFar ends limit n a b ran
+      → ExecutesOne b c (Some k) → ends k ≡ true → ExecutesRow limit ends a c (ran ++ k ∷ [])
   row_last left n b c ran k count row does stops = record {
     events = row.events ++ does.events;
     others = row.others + does.others;
@@ -214,14 +260,19 @@ module _ (ends : ℕ → Bool) (limit : ℕ) (a : WorkerState Lists) where
         let d = step_so left n b c ran (Some k) count row does wide z ready quiet begins in
         let g : List Event = b.seen in
         let next_g : List Event = after_execution a.number a.work.follows.items g in
-        let split = one_more a.number a.work.follows.items ends left n k g count d.1 ∙ ap (λ (x : Bool). if x then next_g else after_executions a.number a.work.follows.items ends left next_g) stops in (
+        let split = row_goes_on a.number a.work.follows.items ends left n k g count d.1
+        ∙ ap (λ (x : Bool). if x then next_g else after_executions a.number a.work.follows.items ends left next_g) stops in (
           d.2 ∙ (sym split ∙ d.0.rest),
-          since c.seen a.seen (ran ++ k ∷ []) (ap ended d.2 ∙ (ended_execution a.number a.work.follows.items g ∙ (ap (λ (o : Option ℕ). ended g ++ option_to_list o) (sym d.1) ∙ (ap (λ (x : List ℕ). x ++ k ∷ []) d.0.told ∙ append_assoc (ended a.seen) ran (k ∷ []))))),
+          since c.seen a.seen (ran ++ k ∷ []) (ap ended d.2
+              ∙ (ended_execution a.number a.work.follows.items g
+              ∙ (ap (λ (o : Option ℕ). ended g ++ option_to_list o) (sym d.1)
+              ∙ (ap (λ (x : List ℕ). x ++ k ∷ []) d.0.told ∙ append_assoc (ended a.seen) ran (k ∷ []))))),
           d.3,
         );
   }
 
-  pub row_idle : (left n : ℕ) (b c : WorkerState Lists) (ran : List ℕ) → n ≡ suc left → RowSoFar ends limit n a b ran → Executes b c None → ExecutesRow limit ends a c ran
+  pub row_idle : (left n : ℕ) (b c : WorkerState Lists) (ran : List ℕ) → n ≡ suc left → RowSoFar ends limit n a b ran → ExecutesOne b c None
+      → ExecutesRow limit ends a c ran
   row_idle left n b c ran count row does = record {
     events = row.events ++ does.events;
     others = row.others + does.others;
@@ -231,9 +282,12 @@ module _ (ends : ℕ → Bool) (limit : ℕ) (a : WorkerState Lists) where
         let d = step_so left n b c ran None count row does wide z ready quiet begins in
         let g : List Event = b.seen in
         let next_g : List Event = after_execution a.number a.work.follows.items g in
-        let split = ap (λ (m : ℕ). after_executions a.number a.work.follows.items ends m g) count ∙ ap (go_on (after_executions a.number a.work.follows.items ends left) ends next_g) (sym d.1) in (
+        let split = ap (λ (m : ℕ). after_executions a.number a.work.follows.items ends m g) count
+        ∙ ap (go_on (after_executions a.number a.work.follows.items ends left) ends next_g) (sym d.1) in (
           d.2 ∙ (sym split ∙ d.0.rest),
-          since c.seen a.seen ran (ap ended d.2 ∙ (ended_execution a.number a.work.follows.items g ∙ (ap (λ (o : Option ℕ). ended g ++ option_to_list o) (sym d.1) ∙ (append-nil (ended g) ∙ d.0.told)))),
+          since c.seen a.seen ran (ap ended d.2
+              ∙ (ended_execution a.number a.work.follows.items g
+              ∙ (ap (λ (o : Option ℕ). ended g ++ option_to_list o) (sym d.1) ∙ (append-nil (ended g) ∙ d.0.told)))),
           d.3,
         );
   }

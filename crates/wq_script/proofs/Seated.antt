@@ -10,13 +10,14 @@ use Rattle.wq_words.specs.declared.event.Event.{Event}
 use Rattle.wq_words.specs.Legal.{IsLegal}
 use Rattle.wq_words.specs.Seen.{owner_seat, own, others}
 use Rattle.wq_live.specs.Known.{Known, Sees}
-use Rattle.wq_worker.specs.Seats.{is_ours}
+use Rattle.wq_words.specs.Seen.{is_ours}
 use Rattle.wq_worker.specs.State.{WorkerState, Moves}
 use Rattle.wq_script.specs.declared.lists.Lists.{Lists}
 use Rattle.wq_script.specs.declared.seats.Seats.{Seats}
 use Rattle.wq_script.specs.Seats.{Hears, AllHear, IsAt, IsWider, Seated, sender_of, owner_of}
-use Rattle.wq_script.proofs.Hearing.{prefix_on}
-use Rattle.wq_script.proofs.Alone.{IsSeat, own_between, settle}
+use Rattle.wq_words.proofs.Prefixes.{prefix_on}
+use Rattle.wq_words.proofs.Seen.{own_between}
+use Rattle.wq_script.proofs.Alone.{IsSeat, settle}
 
 eqb_true : (a b : ℕ) → (a == b) ≡ true → a ≡ b
 eqb_true a b is = elim (cases_eq a b) [ inl same ↦ same | inr ne ↦ absurd (false≢true (sym (ne_eqb a b ne) ∙ is)) ]
@@ -37,11 +38,13 @@ or_either true b is = inl refl
 or_either false b is = inr is
 
 -- a seat that did not act hears z: it made no event there
-pub still_none : (queue : QueueId) (layout : Layout) (c : ℕ) (h z : List Event) (k k' : Known) → IsPrefix h z → IsAt queue layout c h k → Hears z k k' → own c z ≡ own c h
+pub still_none : (queue : QueueId) (layout : Layout) (c : ℕ) (h z : List Event) (k k' : Known) → IsPrefix h z → IsAt queue layout c h k → Hears z k k'
+    → own c z ≡ own c h
 still_none queue layout c h z k k' begins at heard =
     own_between c h z k'.seen begins heard.knows (subst (λ (n : ℕ). own n k'.seen ≡ own n k.seen) at.number_is heard.stays.mine ∙ at.mine)
 
-pub still_at : (queue : QueueId) (layout : Layout) (c : ℕ) (h z : List Event) (k k' : Known) → IsPrefix h z → IsAt queue layout c h k → Hears z k k' → IsAt queue layout c z k'
+pub still_at : (queue : QueueId) (layout : Layout) (c : ℕ) (h z : List Event) (k k' : Known) → IsPrefix h z → IsAt queue layout c h k → Hears z k k'
+    → IsAt queue layout c z k'
 still_at queue layout c h z k k' begins at heard = record {
   queue_is = heard.stays.queue_is ∙ at.queue_is;
   layout_is = heard.stays.layout_is ∙ at.layout_is;
@@ -51,7 +54,8 @@ still_at queue layout c h z k k' begins at heard = record {
 }
 
 -- the seat that acted
-pub acted_at : (queue : QueueId) (layout : Layout) (c : ℕ) (k k' : Known) → k.queue ≡ queue → k.layout ≡ layout → k.number ≡ c → Hears k.seen k k' → IsAt queue layout c k.seen k'
+pub acted_at : (queue : QueueId) (layout : Layout) (c : ℕ) (k k' : Known) → k.queue ≡ queue → k.layout ≡ layout → k.number ≡ c → Hears k.seen k k'
+    → IsAt queue layout c k.seen k'
 acted_at queue layout c k k' q l n heard = record {
   queue_is = heard.stays.queue_is ∙ q;
   layout_is = heard.stays.layout_is ∙ l;
@@ -87,8 +91,10 @@ pub record Acts (layout : Layout) (t : Seats) (h v z xs : List Event) (n : ℕ) 
 module _ (layout : Layout) (s t : Seats) (h : List Event) (g : Seated layout s h) where
   -- a sender acted, and then all heard what it had seen
   pub sender_acts : (p : ℕ) (x k : Known) (xs : List Event) (n : ℕ) → p < layout.senders → x ≡ get_or s.senders.items p x → Sees xs n x k
-      → Hears k.seen (sender_of s.worker) (sender_of t.worker) → Hears k.seen (owner_of s.worker) (owner_of t.worker) → Hears k.seen s.delay.sender t.delay.sender
-      → AllHear k.seen (set s.senders.items p k) t.senders.items → t.worker.tries ≡ s.worker.tries → IsLegal t.worker.layout t.worker.seen → Acts layout t h x.seen k.seen xs n
+      → Hears k.seen (sender_of s.worker) (sender_of t.worker) → Hears k.seen (owner_of s.worker) (owner_of t.worker)
+      → Hears k.seen s.delay.sender t.delay.sender
+      → AllHear k.seen (set s.senders.items p k) t.senders.items → t.worker.tries ≡ s.worker.tries → IsLegal t.worker.layout t.worker.seen
+      → Acts layout t h x.seen k.seen xs n
   sender_acts p x k xs n lt is sees sender owner delay senders tries whole =
       let q : List Known = s.senders.items in
       let z : List Event = k.seen in
@@ -101,9 +107,11 @@ module _ (layout : Layout) (s t : Seats) (h : List Event) (g : Seated layout s h
       let some : n ≤ length (others p new) = subst (λ (m : ℕ). n ≤ length (others m new)) at.number_is sees.grows.theirs in
       let legal : IsLegal g.wide z = subst (λ (l : Layout). IsLegal l z) (sees.same.layout_is ∙ at.layout_is) sees.legal in
       let other : (i : ℕ) (d : Known) → i < layout.senders → i ≢ p → Hears z (get_or q i d) (get_or t.senders.items i d) =
-      λ i d less ne. subst (λ (v : Known). Hears z v (get_or t.senders.items i d)) (get_or-set_other q p i k d ne) (senders.each i d (omega (arith, less, g.count, length-set q p k))) in
+      λ i d less ne. subst (λ (v : Known). Hears z v (get_or t.senders.items i d)) (get_or-set_other q p i k d ne)
+      (senders.each i d (omega (arith, less, g.count, length-set q p k))) in
       let same : (d : Known) → Hears z k (get_or t.senders.items p d) =
-      λ d. subst (λ (v : Known). Hears z v (get_or t.senders.items p d)) (get_or-set_same q p k d here) (senders.each p d (omega (arith, lt, g.count, length-set q p k))) in
+      λ d. subst (λ (v : Known). Hears z v (get_or t.senders.items p d)) (get_or-set_same q p k d here)
+      (senders.each p d (omega (arith, lt, g.count, length-set q p k))) in
       let others_same : (c : ℕ) → IsSeat g.wide c → f c ≡ false → own c z ≡ own c h = none_of_others layout g.wide f h z g.wider
       (λ i less no. still_none g.queue g.wide i h z (get_or q i x) (get_or t.senders.items i x) begins (g.senders i x less) (other i x less (eqb_false i p no)))
       (λ no. still_none g.queue g.wide layout.senders h z (sender_of s.worker) (sender_of t.worker) begins g.sender sender)
@@ -123,7 +131,8 @@ module _ (layout : Layout) (s t : Seats) (h : List Event) (g : Seated layout s h
           count = senders.count ∙ (length-set q p k ∙ g.count);
           senders = λ i d less. elim (cases_eq i p) [
             | inl is ↦ subst (λ (m : ℕ). IsAt g.queue g.wide m z (get_or t.senders.items m d)) (sym is)
-                (acted_at g.queue g.wide p k (get_or t.senders.items p d) (sees.same.queue_is ∙ at.queue_is) (sees.same.layout_is ∙ at.layout_is) (sees.same.number_is ∙ at.number_is) (same d))
+                (acted_at g.queue g.wide p k (get_or t.senders.items p d) (sees.same.queue_is ∙ at.queue_is) (sees.same.layout_is ∙ at.layout_is)
+                (sees.same.number_is ∙ at.number_is) (same d))
             | inr ne ↦ still_at g.queue g.wide i h z (get_or q i d) (get_or t.senders.items i d) begins (g.senders i d less) (other i d less ne)
           ];
           sender = still_at g.queue g.wide layout.senders h z (sender_of s.worker) (sender_of t.worker) begins g.sender sender;
@@ -135,8 +144,10 @@ module _ (layout : Layout) (s t : Seats) (h : List Event) (g : Seated layout s h
       }
 
   -- the delay table's sender acted
-  pub delay_acts : (k : Known) (xs : List Event) (n : ℕ) → 0 < layout.senders → Sees xs n s.delay.sender k → Hears k.seen (sender_of s.worker) (sender_of t.worker)
-      → Hears k.seen (owner_of s.worker) (owner_of t.worker) → Hears k.seen k t.delay.sender → AllHear k.seen s.senders.items t.senders.items → t.worker.tries ≡ s.worker.tries
+  pub delay_acts : (k : Known) (xs : List Event) (n : ℕ) → 0 < layout.senders → Sees xs n s.delay.sender k
+      → Hears k.seen (sender_of s.worker) (sender_of t.worker)
+      → Hears k.seen (owner_of s.worker) (owner_of t.worker) → Hears k.seen k t.delay.sender → AllHear k.seen s.senders.items t.senders.items
+      → t.worker.tries ≡ s.worker.tries
       → IsLegal t.worker.layout t.worker.seen → Acts layout t h s.delay.sender.seen k.seen xs n
   delay_acts k xs n some_sender sees sender owner delay senders tries whole =
       let q : List Known = s.senders.items in
@@ -151,7 +162,8 @@ module _ (layout : Layout) (s t : Seats) (h : List Event) (g : Seated layout s h
       let some : n ≤ length (others p new) = subst (λ (m : ℕ). n ≤ length (others m new)) at.number_is sees.grows.theirs in
       let legal : IsLegal g.wide z = subst (λ (l : Layout). IsLegal l z) (sees.same.layout_is ∙ at.layout_is) sees.legal in
       let others_same : (c : ℕ) → IsSeat g.wide c → f c ≡ false → own c z ≡ own c h = none_of_others layout g.wide f h z g.wider
-      (λ i less no. still_none g.queue g.wide i h z (get_or q i x) (get_or t.senders.items i x) begins (g.senders i x less) (senders.each i x (omega (arith, less, g.count))))
+      (λ i less no. still_none g.queue g.wide i h z (get_or q i x) (get_or t.senders.items i x) begins (g.senders i x less)
+      (senders.each i x (omega (arith, less, g.count))))
       (λ no. still_none g.queue g.wide layout.senders h z (sender_of s.worker) (sender_of t.worker) begins g.sender sender)
       (λ no. absurd (false≢true (sym no ∙ eq-eqb p p refl)))
       (λ no. still_none g.queue g.wide owner_seat h z (owner_of s.worker) (owner_of t.worker) begins g.owner owner) in
@@ -167,18 +179,23 @@ module _ (layout : Layout) (s t : Seats) (h : List Event) (g : Seated layout s h
           wider = g.wider;
           legal = legal;
           count = senders.count ∙ g.count;
-          senders = λ i d less. still_at g.queue g.wide i h z (get_or q i d) (get_or t.senders.items i d) begins (g.senders i d less) (senders.each i d (omega (arith, less, g.count)));
+          senders = λ i d less. still_at g.queue g.wide i h z (get_or q i d) (get_or t.senders.items i d) begins (g.senders i d less)
+              (senders.each i d (omega (arith, less, g.count)));
           sender = still_at g.queue g.wide layout.senders h z (sender_of s.worker) (sender_of t.worker) begins g.sender sender;
           owner = still_at g.queue g.wide owner_seat h z (owner_of s.worker) (owner_of t.worker) begins g.owner owner;
-          delay = acted_at g.queue g.wide p k t.delay.sender (sees.same.queue_is ∙ at.queue_is) (sees.same.layout_is ∙ at.layout_is) (sees.same.number_is ∙ at.number_is) delay;
+          delay = acted_at g.queue g.wide p k t.delay.sender (sees.same.queue_is ∙ at.queue_is) (sees.same.layout_is ∙ at.layout_is)
+              (sees.same.number_is ∙ at.number_is) delay;
           tries = tries ∙ g.tries;
           seen = subst (λ (l : Layout). IsLegal l t.worker.seen) (sender.stays.layout_is ∙ g.sender.layout_is) whole;
         };
       }
 
   -- the worker acted
-  pub worker_acts : (w : WorkerState Lists) (xs : List Event) (n : ℕ) → (moves : Moves xs n s.worker w) → Hears w.seen (sender_of w) (sender_of t.worker) → Hears w.seen (owner_of w) (owner_of t.worker)
-      → Hears w.seen s.delay.sender t.delay.sender → AllHear w.seen s.senders.items t.senders.items → t.worker.tries ≡ w.tries → IsLegal t.worker.layout t.worker.seen → Acts layout t h s.worker.seen w.seen xs n × (filter (λ e. not (is_ours layout.senders e)) moves.adds.new ≡ [])
+  pub worker_acts : (w : WorkerState Lists) (xs : List Event) (n : ℕ) → (moves : Moves xs n s.worker w)
+      → Hears w.seen (sender_of w) (sender_of t.worker) → Hears w.seen (owner_of w) (owner_of t.worker)
+      → Hears w.seen s.delay.sender t.delay.sender → AllHear w.seen s.senders.items t.senders.items → t.worker.tries ≡ w.tries
+      → IsLegal t.worker.layout t.worker.seen
+      → Acts layout t h s.worker.seen w.seen xs n × (filter (λ e. not (is_ours layout.senders e)) moves.adds.new ≡ [])
   worker_acts w xs n moves sender owner delay senders tries whole =
       let q : List Known = s.senders.items in
       let v : List Event = s.worker.seen in
@@ -188,10 +205,12 @@ module _ (layout : Layout) (s t : Seats) (h : List Event) (g : Seated layout s h
       let begins : IsPrefix h z = prefix_on h v z g.sender.begins (moves.adds.new, sym moves.adds.is) in
       let new : List Event = moves.adds.new in
       let mine : filter (is_ours p) new ≡ xs = subst (λ (m : ℕ). filter (is_ours m) new ≡ xs) g.sender.number_is moves.adds.ours in
-      let some : n ≤ length (filter (λ e. not (is_ours p e)) new) = subst (λ (m : ℕ). n ≤ length (filter (λ e. not (is_ours m e)) new)) g.sender.number_is moves.adds.theirs in
+      let some : n ≤ length (filter (λ e. not (is_ours p e)) new) =
+      subst (λ (m : ℕ). n ≤ length (filter (λ e. not (is_ours m e)) new)) g.sender.number_is moves.adds.theirs in
       let legal : IsLegal g.wide z = subst (λ (l : Layout). IsLegal l z) (moves.layout ∙ g.sender.layout_is) moves.legal in
       let others_same : (c : ℕ) → IsSeat g.wide c → f c ≡ false → own c z ≡ own c h = none_of_others layout g.wide f h z g.wider
-      (λ i less no. still_none g.queue g.wide i h z (get_or q i s.delay.sender) (get_or t.senders.items i s.delay.sender) begins (g.senders i s.delay.sender less) (senders.each i s.delay.sender (omega (arith, less, g.count))))
+      (λ i less no. still_none g.queue g.wide i h z (get_or q i s.delay.sender) (get_or t.senders.items i s.delay.sender) begins
+      (g.senders i s.delay.sender less) (senders.each i s.delay.sender (omega (arith, less, g.count))))
       (λ no. absurd (false≢true (sym (or_left (p == p) (p == owner_seat) no) ∙ eq-eqb p p refl)))
       (λ no. still_none g.queue g.wide (p + 1) h z s.delay.sender t.delay.sender begins g.delay delay)
       (λ no. absurd (false≢true (sym (or_right (owner_seat == p) (owner_seat == owner_seat) no) ∙ eq-eqb owner_seat owner_seat refl))) in
@@ -210,9 +229,12 @@ module _ (layout : Layout) (s t : Seats) (h : List Event) (g : Seated layout s h
             wider = g.wider;
             legal = legal;
             count = senders.count ∙ g.count;
-            senders = λ i d less. still_at g.queue g.wide i h z (get_or q i d) (get_or t.senders.items i d) begins (g.senders i d less) (senders.each i d (omega (arith, less, g.count)));
-            sender = acted_at g.queue g.wide p (sender_of w) (sender_of t.worker) (moves.queue ∙ g.sender.queue_is) (moves.layout ∙ g.sender.layout_is) (moves.number ∙ g.sender.number_is) sender;
-            owner = acted_at g.queue g.wide owner_seat (owner_of w) (owner_of t.worker) (moves.queue ∙ g.sender.queue_is) (moves.layout ∙ g.sender.layout_is) refl owner;
+            senders = λ i d less. still_at g.queue g.wide i h z (get_or q i d) (get_or t.senders.items i d) begins (g.senders i d less)
+                (senders.each i d (omega (arith, less, g.count)));
+            sender = acted_at g.queue g.wide p (sender_of w) (sender_of t.worker) (moves.queue ∙ g.sender.queue_is)
+                (moves.layout ∙ g.sender.layout_is) (moves.number ∙ g.sender.number_is) sender;
+            owner = acted_at g.queue g.wide owner_seat (owner_of w) (owner_of t.worker) (moves.queue ∙ g.sender.queue_is)
+                (moves.layout ∙ g.sender.layout_is) refl owner;
             delay = still_at g.queue g.wide (p + 1) h z s.delay.sender t.delay.sender begins g.delay delay;
             tries = tries ∙ (moves.tries ∙ g.tries);
             seen = subst (λ (l : Layout). IsLegal l t.worker.seen) (sender.stays.layout_is ∙ (moves.layout ∙ g.sender.layout_is)) whole;

@@ -12,10 +12,10 @@ use Rattle.wq_words.specs.History.{begun, ended, is_push, IsRunning}
 use Rattle.wq_words.specs.Legal.{IsLegal, HasSeat}
 use Rattle.wq_words.proofs.Legal.{legal_next}
 use Rattle.wq_words.specs.Seen.{owner_seat, seat_of}
-use Rattle.wq_live.specs.Counts.{is_queued_by, is_pending_by, is_closed_by, is_chain_busy}
-use Rattle.wq_worker.specs.Seats.{is_ours}
-use Rattle.wq_plain.specs.Report.{is_busy, is_refusal}
-use Rattle.wq_plain.proofs.Growing.{count-append, begun-append, ended-append}
+use Rattle.wq_words.specs.Counting.{is_queued_by, is_pending_by, is_closed_by, is_chain_busy}
+use Rattle.wq_words.specs.Seen.{is_ours}
+use Rattle.wq_words.specs.Counting.{is_busy, is_refusal}
+use Rattle.wq_meaning.proofs.Growing.{count-append, begun-append, ended-append}
 use Rattle.wq_script.specs.declared.tally.Tally.{Tally}
 use Rattle.wq_script.specs.Counting.{Tallied}
 
@@ -30,9 +30,12 @@ pub record Foreign (w : ℕ) (es : List Event) : Type 0 where
 
 one_foreign : (w : ℕ) (e : Event) → seat_of e ≢ w → seat_of e ≢ owner_seat → Foreign w (e ∷ [])
 one_foreign w (Hold s k) a b = record { queued = refl; pending = refl; refused = refl; chain_busy = refl; begun = refl; ended = refl }
-one_foreign w (Busy s k) a b = record { queued = refl; pending = ap (λ (x : Bool). 0 + cond {A = ℕ} x 1 0) (ne_eqb s w a); refused = refl; chain_busy = refl; begun = refl; ended = refl }
-one_foreign w (Push s k) a b = record { queued = ap (λ (x : Bool). 0 + cond {A = ℕ} x 1 0) (ne_eqb s w a); pending = refl; refused = refl; chain_busy = refl; begun = refl; ended = refl }
-one_foreign w (Back s k why.Closed) a b = record { queued = refl; pending = refl; refused = ap (λ (x : Bool). 0 + cond {A = ℕ} x 1 0) (ne_eqb s w a); chain_busy = refl; begun = refl; ended = refl }
+one_foreign w (Busy s k) a b =
+    record { queued = refl; pending = ap (λ (x : Bool). 0 + cond {A = ℕ} x 1 0) (ne_eqb s w a); refused = refl; chain_busy = refl; begun = refl; ended = refl }
+one_foreign w (Push s k) a b =
+    record { queued = ap (λ (x : Bool). 0 + cond {A = ℕ} x 1 0) (ne_eqb s w a); pending = refl; refused = refl; chain_busy = refl; begun = refl; ended = refl }
+one_foreign w (Back s k why.Closed) a b =
+    record { queued = refl; pending = refl; refused = ap (λ (x : Bool). 0 + cond {A = ℕ} x 1 0) (ne_eqb s w a); chain_busy = refl; begun = refl; ended = refl }
 one_foreign w (Back s k why.Contended) a b = record { queued = refl; pending = refl; refused = refl; chain_busy = refl; begun = refl; ended = refl }
 one_foreign w (Back s k why.Cancelled) a b = record { queued = refl; pending = refl; refused = refl; chain_busy = refl; begun = refl; ended = refl }
 one_foreign w Take a b = absurd (b refl)
@@ -56,7 +59,8 @@ all_foreign w s (e ∷ es) a b all =
       ended = ended-append (e ∷ []) es ∙ (λ i. one.ended i ++ rest.ended i);
     }
 
-pub tallied_on : (t u : Tally) (w : ℕ) (h es : List Event) → Tallied t w h → Foreign w es → u.queued ≡ t.queued + count_by is_push es → u.busy ≡ t.busy + count_by is_busy es → u.refused ≡ t.refused + count_by is_refusal es → Tallied u w (h ++ es)
+pub tallied_on : (t u : Tally) (w : ℕ) (h es : List Event) → Tallied t w h → Foreign w es → u.queued ≡ t.queued + count_by is_push es
+    → u.busy ≡ t.busy + count_by is_busy es → u.refused ≡ t.refused + count_by is_refusal es → Tallied u w (h ++ es)
 tallied_on t u w h es told f q b r = record {
   queued = omega (arith, told.queued, f.queued, q, count-append (is_queued_by w) h es, count-append is_push h es);
   busy = omega (arith, told.busy, f.pending, f.chain_busy, b, count-append (is_pending_by w) h es, count-append is_chain_busy h es, count-append is_busy h es);
@@ -72,7 +76,11 @@ idle_on w h es f idle runs =
 -- each sender of a legal history is one of the queue's
 pub legal_has : (layout : Layout) (h es : List Event) → IsLegal layout (h ++ es) → AllByRecursion (HasSeat layout) es
 legal_has layout h [] legal = tt
-legal_has layout h (e ∷ es) legal = ((legal_next layout h e es legal).0, legal_has layout (h ++ e ∷ []) es (subst (λ (x : List Event). IsLegal layout x) (sym (append_assoc h (e ∷ []) es)) legal))
+legal_has layout h (e ∷ es) legal = (
+  (legal_next layout h e es legal).0,
+  legal_has layout (h ++ e ∷ []) es
+      (subst (λ (x : List Event). IsLegal layout x) (sym (append_assoc h (e ∷ []) es)) legal),
+)
 
 -- the worker's events are what it counts
 pub record Own (w : ℕ) (es : List Event) : Type 0 where
@@ -89,9 +97,12 @@ sender_ours layout w s few lt ours = each (s == w) (s == owner_seat) (ne_eqb s o
 
 one_own : (layout : Layout) (w : ℕ) (e : Event) → layout.senders ≤ 64 → HasSeat layout e → not (is_ours w e) ≡ false → Own w (e ∷ [])
 one_own layout w (Hold s k) few has ours = record { queued = refl; busy = refl; refused = refl }
-one_own layout w (Busy s k) few has ours = record { queued = refl; busy = ap (λ (x : Bool). (0 + cond {A = ℕ} x 1 0) + 0) (sender_ours layout w s few has ours); refused = refl }
-one_own layout w (Push s k) few has ours = record { queued = ap (λ (x : Bool). 0 + cond {A = ℕ} x 1 0) (sender_ours layout w s few has ours); busy = refl; refused = refl }
-one_own layout w (Back s k why.Closed) few has ours = record { queued = refl; busy = refl; refused = ap (λ (x : Bool). 0 + cond {A = ℕ} x 1 0) (sender_ours layout w s few has ours) }
+one_own layout w (Busy s k) few has ours =
+    record { queued = refl; busy = ap (λ (x : Bool). (0 + cond {A = ℕ} x 1 0) + 0) (sender_ours layout w s few has ours); refused = refl }
+one_own layout w (Push s k) few has ours =
+    record { queued = ap (λ (x : Bool). 0 + cond {A = ℕ} x 1 0) (sender_ours layout w s few has ours); busy = refl; refused = refl }
+one_own layout w (Back s k why.Closed) few has ours =
+    record { queued = refl; busy = refl; refused = ap (λ (x : Bool). 0 + cond {A = ℕ} x 1 0) (sender_ours layout w s few has ours) }
 one_own layout w (Back s k why.Contended) few has ours = record { queued = refl; busy = refl; refused = refl }
 one_own layout w (Back s k why.Cancelled) few has ours = record { queued = refl; busy = refl; refused = refl }
 one_own layout w Take few has ours = record { queued = refl; busy = refl; refused = refl }
@@ -105,7 +116,8 @@ none_first : {A : Type 0} (b : Bool) (x : A) (xs : List A) → cond b (x ∷ xs)
 none_first true x xs is = absurd (cc)
 none_first false x xs is = (refl, is)
 
-pub all_own : (layout : Layout) (w : ℕ) (es : List Event) → layout.senders ≤ 64 → AllByRecursion (HasSeat layout) es → filter (λ e. not (is_ours w e)) es ≡ [] → Own w es
+pub all_own : (layout : Layout) (w : ℕ) (es : List Event) → layout.senders ≤ 64 → AllByRecursion (HasSeat layout) es
+    → filter (λ e. not (is_ours w e)) es ≡ [] → Own w es
 all_own layout w [] few has none = record { queued = refl; busy = refl; refused = refl }
 all_own layout w (e ∷ es) few has none =
     let first = none_first (not (is_ours w e)) e (filter (λ e. not (is_ours w e)) es) none in
@@ -113,7 +125,15 @@ all_own layout w (e ∷ es) few has none =
     let rest = all_own layout w es few has.1 first.1 in
     record {
       queued = omega (arith, one.queued, rest.queued, count-append (is_queued_by w) (e ∷ []) es, count-append is_push (e ∷ []) es);
-      busy = omega (arith, one.busy, rest.busy, count-append (is_pending_by w) (e ∷ []) es, count-append is_chain_busy (e ∷ []) es, count-append is_busy (e ∷ []) es);
+      busy = omega (
+        arith,
+        one.busy,
+        rest.busy,
+        count-append (is_pending_by w) (e ∷ []) es,
+        count-append is_chain_busy
+            (e ∷ []) es,
+        count-append is_busy (e ∷ []) es,
+      );
       refused = omega (arith, one.refused, rest.refused, count-append (is_closed_by w) (e ∷ []) es, count-append is_refusal (e ∷ []) es);
     }
 

@@ -1,29 +1,19 @@
--- What a queueing answers, on the running words and in a script.
+-- The calls of senders and of the worker, on the running words and in a script.
 use Rattle.std.specs.Prelude.{◌≡◌, ℕ, Bool, not, Option, List, [], ◌++◌, length, filter}
 use Rattle.wq_words.specs.declared.layout.Layout.{Layout}
 use Rattle.wq_words.specs.declared.event.Event.{Event}
 use Rattle.wq_words.specs.History.{IsRunning}
+use Rattle.wq_words.specs.Seen.{is_ours}
 use Rattle.wq_words.specs.declared.answer.Answer.{Answer}
-use Rattle.wq_words.specs.declared.answer.Answer.TheVariants as live
-use Rattle.wq_plain.specs.declared.answer.Answer as script
-use Rattle.wq_plain.specs.declared.answer.Answer.TheVariants as answer
-use Rattle.wq_plain.specs.Queueing.{queue_events, queue_answer, close_events, close_answer}
-use Rattle.wq_worker.specs.Seats.{is_ours}
-use Rattle.wq_plain.specs.Execution.{after_executions, ends_at, ended_since}
-use Rattle.wq_plain.specs.Follows.{AllFit}
+use Rattle.wq_meaning.specs.Queueing.{queue_events, queue_answer, close_events, close_answer}
+use Rattle.wq_meaning.specs.Execution.{after_executions, ends_at, ended_since}
 use Rattle.wq_script.specs.declared.seats.Seats.{Seats}
 use Rattle.wq_script.specs.Seats.{IsSameWork, IsSameTable, Seated}
-
--- both say the same; a script has no word for a queueing that was contended
-abbrev pub Tells : Answer → script.Answer → Type 0
-Tells (live.Queued first) (answer.Queued second) = first ≡ second
-Tells live.Pending answer.Pending = Unit {0}
-Tells live.Closed answer.Closed = Unit {0}
-Tells _ _ = ⊥
+use Rattle.wq_script.specs.Quiet.{ListsFit}
 
 -- the sender asked for a queueing of the number k, and nothing else happened
 pub record Asks (layout : Layout) (sender k : ℕ) (a : Answer) (h : List Event) (s t : Seats) : Type 0 where
-  pub tells : Tells a (queue_answer k h)
+  pub answer : a ≡ queue_answer k h
   pub seated : Seated layout t (h ++ queue_events sender k h)
   pub work : IsSameWork s.worker t.worker
   pub table : IsSameTable s.delay t.delay
@@ -53,7 +43,7 @@ ClosesAs taken s t = (layout : Layout) (h : List Event) → Seated layout s h �
 -- there is a list for each item, of items
 pub record HasLists (layout : Layout) (s : Seats) : Type 0 where
   pub count : length s.worker.work.follows.items ≡ layout.items
-  pub fit : AllFit layout.items s.worker.work.follows.items
+  pub fit : ListsFit layout.items s.worker.work.follows.items
 
 -- these were executed, and the lists and the table are as they were
 pub record Ran (layout : Layout) (h : List Event) (limit : ℕ) (ends : ℕ → Bool) (s t : Seats) (ran : List ℕ) : Type 0 where

@@ -1,21 +1,16 @@
 -- What an engine counts: what senders and the delay table's sender did. The worker counts the rest.
-use Rattle.std.specs.Prelude.{◌≡◌, ℕ, ◌+◌, ◌^◌, ◌≤◌, ◌==◌, Bool, Option, List, count_by, if◌then◌else◌, MatchOption}
+use Rattle.std.specs.Prelude.{◌≡◌, ℕ, ◌+◌, ◌^◌, ◌≤◌, ◌==◌, Bool, List, count_by, if◌then◌else◌}
 use Rattle.wq_words.specs.declared.event.Event.{Event}
 use Rattle.wq_words.specs.History.{is_push}
-use Rattle.wq_live.specs.Counts.{is_queued_by, is_pending_by, is_closed_by, is_chain_busy}
-use Rattle.wq_delay.specs.declared.answer.Armed as delay_armed
-use Rattle.wq_words.specs.declared.answer.Armed.TheVariants as live_armed
-use Rattle.wq_delay.specs.declared.answer.Modified as delay_modified
-use Rattle.wq_words.specs.declared.answer.Modified.TheVariants as live_modified
-use Rattle.wq_plain.specs.declared.answer.Answer.{Answer}
-use Rattle.wq_plain.specs.declared.answer.Answer.TheVariants as answer
-use Rattle.wq_plain.specs.declared.answer.Armed.{Armed}
-use Rattle.wq_plain.specs.declared.answer.Armed.TheVariants as arming
-use Rattle.wq_plain.specs.declared.answer.Modified.{Modified}
-use Rattle.wq_plain.specs.declared.answer.Modified.TheVariants as modified
-use Rattle.wq_plain.specs.Report.{is_busy, is_refusal}
+use Rattle.wq_words.specs.Counting.{is_busy, is_refusal}
+use Rattle.wq_words.specs.Counting.{is_queued_by, is_pending_by, is_closed_by, is_chain_busy}
+use Rattle.wq_words.specs.declared.answer.Answer.{Answer}
+use Rattle.wq_words.specs.declared.answer.Answer.TheVariants as answer
+use Rattle.wq_words.specs.declared.answer.Armed.{Armed}
+use Rattle.wq_words.specs.declared.answer.Armed.TheVariants as armed
+use Rattle.wq_words.specs.declared.answer.Modified.{Modified}
+use Rattle.wq_words.specs.declared.answer.Modified.TheVariants as modified
 use Rattle.wq_script.specs.declared.tally.Tally.{Tally}
-use Rattle.wq_script.specs.Arming.{TellsArmed, TellsModified}
 
 -- with what the worker w counted these are all
 pub record Tallied (t : Tally) (w : ℕ) (h : List Event) : Type 0 where
@@ -25,15 +20,18 @@ pub record Tallied (t : Tally) (w : ℕ) (h : List Event) : Type 0 where
 
 -- one more, by its answer
 abbrev pub counted : Answer → Tally → Tally
-counted (answer.Queued first) t = record t { queued = t.queued + 1 }
+counted (answer.Queued is_first) t = record t { queued = t.queued + 1 }
 counted answer.Pending t = record t { busy = t.busy + 1 }
 counted answer.Closed t = record t { refused = t.refused + 1 }
+counted answer.Contended t = t
 
 abbrev pub counted_armed : Armed → Tally → Tally
-counted_armed (arming.Queueing a) t = counted a t
-counted_armed arming.OnTable t = t
-counted_armed arming.TooFar t = t
+counted_armed (armed.Queued is_first) t = record t { queued = t.queued + 1 }
+counted_armed armed.Pending t = record t { busy = t.busy + 1 }
+counted_armed armed.Closed t = record t { refused = t.refused + 1 }
+counted_armed _ t = t
 
+-- a modification with no delay, where it was not refused, is a push
 abbrev pub counted_push : ℕ → Tally → Tally
 counted_push delay t = if delay == 0 then record t { queued = t.queued + 1 } else t
 
@@ -42,22 +40,14 @@ counted_modified delay modified.WasIdle t = counted_push delay t
 counted_modified delay modified.Moved t = counted_push delay t
 counted_modified delay modified.Pending t = record t { busy = t.busy + 1 }
 counted_modified delay modified.Closed t = record t { refused = t.refused + 1 }
-counted_modified delay modified.TooFar t = t
+counted_modified delay _ t = t
 
 -- so many were posted, all of them refused where the queue is closed
 abbrev pub counted_posts : Bool → ℕ → Tally → Tally
 counted_posts is_closed count t = if is_closed then record t { refused = t.refused + count } else record t { queued = t.queued + count }
 
--- an arming, and a modification, was counted by what a script answers, unless memory was wanting
-abbrev pub CountsArming : delay_armed.Armed → Option Armed → Tally → Tally → Type 0
-CountsArming armed result t u = MatchOption result (armed ≡ live_armed.Memory) (λ a. (¬ (armed ≡ live_armed.Memory)) × TellsArmed armed a × (u ≡ counted_armed a t))
-
-abbrev pub CountsModification : ℕ → delay_modified.Modified → Option Modified → Tally → Tally → Type 0
-CountsModification delay modified result t u =
-    MatchOption result (modified ≡ live_modified.Memory) (λ a. (¬ (modified ≡ live_modified.Memory)) × TellsModified modified a × (u ≡ counted_modified delay a t))
-
 -- there is room for more
-pub record HasRoom (t : Tally) : Type 0 where
+pub record HasTallyRoom (t : Tally) : Type 0 where
   pub queued : t.queued ≤ 2 ^ 62
   pub busy : t.busy ≤ 2 ^ 62
   pub refused : t.refused ≤ 2 ^ 62

@@ -2,20 +2,19 @@
 use Rattle.std.specs.Prelude.{◌≡◌, ℕ, ◌+◌, ◌^◌, ◌≤◌, List, ◌++◌, length}
 use Rattle.wq_words.specs.History.{IsRunning}
 use Rattle.wq_text.specs.declared.command.Command.{Command}
-use Rattle.wq_plain.specs.Execution.{follow_of}
-use Rattle.wq_plain.specs.Commands.{ScriptState, after, lines}
+use Rattle.wq_meaning.specs.Execution.{follow_of}
+use Rattle.wq_meaning.specs.Commands.{ScriptState, state_after, lines}
 use Rattle.wq_script.specs.declared.engine.Engine.{Engine}
 use Rattle.wq_script.specs.Seats.{Seated}
 use Rattle.wq_script.specs.Asking.{HasLists}
 use Rattle.wq_script.specs.Counting.{Tallied}
-use Rattle.wq_script.specs.Tables.{table_of}
 
 -- the engine is in this state: its seats have seen the history, and it keeps the table and the lists
 pub record Meets (e : Engine) (s : ScriptState) : Type 0 where
   pub seated : Seated e.layout e.seats s.history
   pub idle : ¬ IsRunning s.history
   pub tally : Tallied e.tally e.layout.senders s.history
-  pub table : table_of e.seats.delay ≡ s.table
+  pub table : e.seats.delay.table ≡ s.table
   pub follows : e.seats.worker.work.follows.items ≡ s.follows
   pub lists : HasLists e.layout e.seats
   pub short : (k : ℕ) → length (follow_of s.follows k) ≤ 4
@@ -25,12 +24,12 @@ abbrev pub size : ScriptState → ℕ
 size s = length s.history + length s.table.entries
 
 -- there is such a state, in which so much has happened at most
-abbrev pub IsReady : ℕ → Engine → Type 0
-IsReady most e = (s : ScriptState) × Meets e s × (size s ≤ most)
+abbrev pub HasStateWithin : ℕ → Engine → Type 0
+HasStateWithin most e = (s : ScriptState) × Meets e s × (size s ≤ most)
 
 -- from e to f the command was done, and its lines were written behind what was there before
 pub record Does (e f : Engine) (before now : List ℕ) (command : Command) : Type 0 where
   pub layout : f.layout ≡ e.layout
-  pub meets : (s : ScriptState) → Meets e s → Meets f (after e.layout s command)
-  pub lines : (s : ScriptState) → Meets e s → size s ≤ 2 ^ 60 → now ≡ before ++ lines e.layout s (after e.layout s command) command
-  pub room : (s : ScriptState) → Meets e s → size (after e.layout s command) ≤ size s + 2 ^ 36
+  pub meets : (s : ScriptState) → Meets e s → Meets f (state_after e.layout s command)
+  pub lines : (s : ScriptState) → Meets e s → size s ≤ 2 ^ 60 → now ≡ before ++ lines e.layout s (state_after e.layout s command) command
+  pub room : (s : ScriptState) → Meets e s → size (state_after e.layout s command) ≤ size s + 2 ^ 36

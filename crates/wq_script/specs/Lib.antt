@@ -1,7 +1,6 @@
 pub mod Seats
-pub mod Asking
 pub mod Quiet
-pub mod Tables
+pub mod Asking
 pub mod Arming
 pub mod Counting
 pub mod Engine

@@ -12,7 +12,7 @@ use Rattle.wq_delay.specs.Delay.{DelayState}
 use Rattle.wq_script.specs.declared.seats.Seats.{Seats}
 
 -- the same seat, which may have seen more, and has made no event
-pub record Stays (old new : Known) : Type 0 where
+pub record StaysSilent (old new : Known) : Type 0 where
   pub queue_is : new.queue ≡ old.queue
   pub layout_is : new.layout ≡ old.layout
   pub number_is : new.number ≡ old.number
@@ -21,7 +21,7 @@ pub record Stays (old new : Known) : Type 0 where
 
 -- such a seat, which has seen this much since
 pub record Hears (told : List Event) (old new : Known) : Type 0 where
-  pub stays : Stays old new
+  pub stays : StaysSilent old new
   pub knows : IsPrefix told new.seen
 
 -- as many seats, and each hears
@@ -45,15 +45,13 @@ abbrev pub owner_of : {W : Type 0} → WorkerState W → Known
 owner_of w = record { queue = w.queue; layout = w.layout; number = owner_seat; seen = w.seen }
 
 -- what stands on the table, the tick and the next arming are the same
-pub record IsSameTable (old new : DelayState) : Type 0 where
-  pub table_is : new.table ≡ old.table
-  pub tick_is : new.tick ≡ old.tick
-  pub next_is : new.next ≡ old.next
+abbrev pub IsSameTable : DelayState → DelayState → Type 0
+IsSameTable old new = new.table ≡ old.table
 
 -- it is the same worker, and its work was not touched
 pub record IsSameWork {W : Type 0} (old new : WorkerState W) : Type 0 where
   pub work_is : new.work ≡ old.work
-  pub left_is : new.left ≡ old.left
+  pub unqueued_is : new.unqueued ≡ old.unqueued
   pub tries_is : new.tries ≡ old.tries
 
 -- they are of one queue
@@ -92,5 +90,5 @@ pub record Seated (layout : Layout) (s : Seats) (h : List Event) : Type 0 where
   pub seen : IsLegal wide s.worker.seen
 
 -- there is such a history
-abbrev pub IsSeated : Seats → Type 0
-IsSeated s = (layout : Layout) × (h : List Event) × Seated layout s h
+abbrev pub HasHistory : Seats → Type 0
+HasHistory s = (layout : Layout) × (h : List Event) × Seated layout s h

@@ -1,32 +1,35 @@
 //! The engine of scripts over the words that threads could share.
 ghost use Rattle.std.specs.Prelude.{◌≡◌, ℕ, ◌+◌, ◌^◌, ◌≤◌, List, length, IfOk, OnOk, string_bytes};
 ghost use Rattle.wq_text.specs.Fits.{Fits};
-ghost use Rattle.wq_plain.specs.Commands.{opening};
-ghost use Rattle.wq_plain.specs.Report.{counts_of};
+ghost use Rattle.wq_meaning.specs.Commands.{opening_state};
+ghost use Rattle.wq_meaning.specs.Report.{counts_of};
 
 use crate::seats::Seats;
 use crate::tally::Tally;
 use std::alloc::{AllocError, Global};
-use wq_plain::{Counts, advance_word, either, write_close, write_left, write_line, write_row};
+use wq_meaning::{
+    Counts, advance_word, answer_text, armed_text, either, modified_text, write_close, write_left,
+    write_line, write_row,
+};
 use wq_text::{Command, Follow};
 use wq_words::Layout;
 
-/// All seats of a queue, and what is counted of them. The layout is the script's, whose queue has two senders more.
+// All seats of a queue, and what is counted of them. The layout is the script's, whose queue has two senders more.
 #[derive(Drop)]
-pub struct Engine {
+pub(crate) struct Engine {
     layout: Layout,
     seats: Seats,
     tally: Tally,
 }
 
 impl Engine {
-    ghost use Rattle.wq_script.specs.Engine.{Meets, size, IsReady, Does};
+    ghost use Rattle.wq_script.specs.Engine.{Meets, size, HasStateWithin, Does};
 
-    /// An open queue with nothing in it, and empty lists.
-    pub fn new(alloc: Global, layout: Layout) -> Result<Engine, AllocError>
+    // An open queue with nothing in it, and empty lists.
+    pub(crate) fn new(alloc: Global, layout: Layout) -> Result<Engine, AllocError>
         requires { layout.senders ≤ 62 }
         ensures layout { IfOk result (λ e. e.layout ≡ layout) }
-        ensures meets { IfOk result (λ e. Meets e (opening layout)) }
+        ensures meets { IfOk result (λ e. Meets e (opening_state layout)) }
     {
         Ok(Engine {
             layout,
@@ -41,43 +44,43 @@ impl Engine {
 
     fn queue(&mut self, sender: u32, item: u32, out: &mut String) -> Result<(), AllocError>
         requires fits { Fits self.old.layout (Command.Queue sender item) }
-        requires ready { IsReady (2 ^ 60) self.old }
+        requires ready { HasStateWithin (2 ^ 60) self.old }
         ensures { OnOk result (Does self.old self.new (string_bytes out.old) (string_bytes out.new) (Command.Queue sender item)) }
     {
         let answer = self.seats.queue(sender, item);
-        let answer = self.tally.queueing(answer);
-        write_line(answer.text(), out)?;
+        self.tally.queueing(answer);
+        write_line(answer_text(answer), out)?;
         Ok(())
     }
 
     fn flush(&mut self, sender: u32, barrier: u32, out: &mut String) -> Result<(), AllocError>
         requires fits { Fits self.old.layout (Command.Flush sender barrier) }
-        requires ready { IsReady (2 ^ 60) self.old }
+        requires ready { HasStateWithin (2 ^ 60) self.old }
         ensures { OnOk result (Does self.old self.new (string_bytes out.old) (string_bytes out.new) (Command.Flush sender barrier)) }
     {
         let answer = self.seats.flush(sender, barrier);
-        let answer = self.tally.queueing(answer);
-        write_line(answer.text(), out)?;
+        self.tally.queueing(answer);
+        write_line(answer_text(answer), out)?;
         Ok(())
     }
 
     fn stop(&mut self, sender: u32, out: &mut String) -> Result<(), AllocError>
         requires fits { Fits self.old.layout (Command.Stop sender) }
-        requires ready { IsReady (2 ^ 60) self.old }
+        requires ready { HasStateWithin (2 ^ 60) self.old }
         ensures { OnOk result (Does self.old self.new (string_bytes out.old) (string_bytes out.new) (Command.Stop sender)) }
     {
         let answer = self.seats.stop(sender);
-        let answer = self.tally.queueing(answer);
-        write_line(answer.text(), out)?;
+        self.tally.queueing(answer);
+        write_line(answer_text(answer), out)?;
         Ok(())
     }
 
     fn run(&mut self, alloc: Global, limit: u32, out: &mut String) -> Result<(), AllocError>
         requires fits { Fits self.old.layout (Command.Run limit) }
-        requires ready { IsReady (2 ^ 60) self.old }
+        requires ready { HasStateWithin (2 ^ 60) self.old }
         ensures { OnOk result (Does self.old self.new (string_bytes out.old) (string_bytes out.new) (Command.Run limit)) }
     {
-        let stop = self.layout.items + self.layout.barriers;
+        let stop = self.layout.stop();
         let ran = self.seats.run(alloc, &self.layout, limit, Some(stop))?;
         write_row(&self.layout, "ran", &ran, out)?;
         Ok(())
@@ -85,7 +88,7 @@ impl Engine {
 
     fn drain(&mut self, alloc: Global, limit: u32, out: &mut String) -> Result<(), AllocError>
         requires fits { Fits self.old.layout (Command.Drain limit) }
-        requires ready { IsReady (2 ^ 60) self.old }
+        requires ready { HasStateWithin (2 ^ 60) self.old }
         ensures { OnOk result (Does self.old self.new (string_bytes out.old) (string_bytes out.new) (Command.Drain limit)) }
     {
         if !self.seats.is_closed() {
@@ -100,7 +103,7 @@ impl Engine {
 
     fn close(&mut self, out: &mut String) -> Result<(), AllocError>
         requires fits { Fits self.old.layout Command.Close }
-        requires ready { IsReady (2 ^ 60) self.old }
+        requires ready { HasStateWithin (2 ^ 60) self.old }
         ensures { OnOk result (Does self.old self.new (string_bytes out.old) (string_bytes out.new) Command.Close) }
     {
         let taken = self.seats.close();
@@ -110,7 +113,7 @@ impl Engine {
 
     fn report(&mut self, out: &mut String) -> Result<(), AllocError>
         requires fits { Fits self.old.layout Command.Report }
-        requires ready { IsReady (2 ^ 60) self.old }
+        requires ready { HasStateWithin (2 ^ 60) self.old }
         ensures { OnOk result (Does self.old self.new (string_bytes out.old) (string_bytes out.new) Command.Report) }
     {
         self.counts().write(out)?;
@@ -119,7 +122,7 @@ impl Engine {
 
     fn follow(&mut self, item: u32, follow: &Follow)
         requires fits { Fits self.old.layout (Command.Follow item follow.now) }
-        requires ready { IsReady (2 ^ 60) self.old }
+        requires ready { HasStateWithin (2 ^ 60) self.old }
         ensures { (bytes : List ℕ) → Does self.old self.new bytes bytes (Command.Follow item follow.now) }
     {
         // This call says that a list has four items at most.
@@ -129,7 +132,7 @@ impl Engine {
 
     fn done(&mut self, sender: u32, barrier: u32, out: &mut String) -> Result<(), AllocError>
         requires fits { Fits self.old.layout (Command.Done sender barrier) }
-        requires ready { IsReady (2 ^ 60) self.old }
+        requires ready { HasStateWithin (2 ^ 60) self.old }
         ensures { OnOk result (Does self.old self.new (string_bytes out.old) (string_bytes out.new) (Command.Done sender barrier)) }
     {
         let is_flushed = self.seats.is_flushed(sender, barrier);
@@ -139,7 +142,7 @@ impl Engine {
 
     fn check(&mut self, item: u32, out: &mut String) -> Result<(), AllocError>
         requires fits { Fits self.old.layout (Command.Check item) }
-        requires ready { IsReady (2 ^ 60) self.old }
+        requires ready { HasStateWithin (2 ^ 60) self.old }
         ensures { OnOk result (Does self.old self.new (string_bytes out.old) (string_bytes out.new) (Command.Check item)) }
     {
         let is_pending = self.seats.is_pending(item);
@@ -149,20 +152,18 @@ impl Engine {
 
     fn arm(&mut self, item: u32, delay: u64, out: &mut String) -> Result<(), AllocError>
         requires fits { Fits self.old.layout (Command.Arm item delay) }
-        requires ready { IsReady (2 ^ 60) self.old }
+        requires ready { HasStateWithin (2 ^ 60) self.old }
         ensures { OnOk result (Does self.old self.new (string_bytes out.old) (string_bytes out.new) (Command.Arm item delay)) }
     {
-        let armed = self.seats.arm(item, delay);
-        let Some(answer) = self.tally.arming(armed) else {
-            return Err(AllocError);
-        };
-        write_line(answer.text(), out)?;
+        let armed = self.seats.arm(item, delay)?;
+        self.tally.arming(armed);
+        write_line(armed_text(armed), out)?;
         Ok(())
     }
 
     fn cancel(&mut self, item: u32, out: &mut String) -> Result<(), AllocError>
         requires fits { Fits self.old.layout (Command.Cancel item) }
-        requires ready { IsReady (2 ^ 60) self.old }
+        requires ready { HasStateWithin (2 ^ 60) self.old }
         ensures { OnOk result (Does self.old self.new (string_bytes out.old) (string_bytes out.new) (Command.Cancel item)) }
     {
         let was_on_table = self.seats.cancel(item);
@@ -172,20 +173,18 @@ impl Engine {
 
     fn modify(&mut self, item: u32, delay: u64, out: &mut String) -> Result<(), AllocError>
         requires fits { Fits self.old.layout (Command.Modify item delay) }
-        requires ready { IsReady (2 ^ 60) self.old }
+        requires ready { HasStateWithin (2 ^ 60) self.old }
         ensures { OnOk result (Does self.old self.new (string_bytes out.old) (string_bytes out.new) (Command.Modify item delay)) }
     {
-        let modified = self.seats.modify(item, delay);
-        let Some(answer) = self.tally.modification(modified, delay) else {
-            return Err(AllocError);
-        };
-        write_line(answer.text(), out)?;
+        let modified = self.seats.modify(item, delay)?;
+        self.tally.modification(modified, delay);
+        write_line(modified_text(modified), out)?;
         Ok(())
     }
 
     fn advance(&mut self, tick: u64, out: &mut String) -> Result<(), AllocError>
         requires fits { Fits self.old.layout (Command.Advance tick) }
-        requires ready { IsReady (2 ^ 60) self.old }
+        requires ready { HasStateWithin (2 ^ 60) self.old }
         ensures { OnOk result (Does self.old self.new (string_bytes out.old) (string_bytes out.new) (Command.Advance tick)) }
     {
         let is_closed = self.seats.is_closed();
@@ -200,7 +199,7 @@ impl Engine {
 
     // The counts of all events so far: the worker's, and those of all other seats.
     fn counts(&self) -> Counts
-        requires ready { IsReady (2 ^ 61) self.now }
+        requires ready { HasStateWithin (2 ^ 61) self.now }
         ensures { (s : _) → Meets self.now s → size s ≤ 2 ^ 61 → result ≡ counts_of (length s.table.entries) s.history }
     {
         let totals = self.seats.worker.counts();
@@ -218,15 +217,15 @@ impl Engine {
         }
     }
 
-    /// Does one command, taken whole, and writes its lines.
-    pub fn execute(
+    // Does one command, taken whole, and writes its lines.
+    pub(crate) fn execute(
         &mut self,
         alloc: Global,
         command: &Command,
         out: &mut String,
     ) -> Result<(), AllocError>
         requires fits { Fits self.old.layout command.now }
-        requires ready { IsReady (2 ^ 60) self.old }
+        requires ready { HasStateWithin (2 ^ 60) self.old }
         ensures { OnOk result (Does self.old self.new (string_bytes out.old) (string_bytes out.new) command.now) }
     {
         match command {

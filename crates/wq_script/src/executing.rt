@@ -1,15 +1,15 @@
 //! Executions of a worker, one after another.
 ghost use Rattle.std.specs.Prelude.{◌≡◌, IfOk};
 ghost use Rattle.wq_words.specs.Legal.{IsLegal};
-ghost use Rattle.wq_plain.specs.Execution.{ends_at};
-ghost use Rattle.wq_script.specs.Quiet.{Executes, ExecutesRow};
+ghost use Rattle.wq_meaning.specs.Execution.{ends_at};
+ghost use Rattle.wq_script.specs.Quiet.{ExecutesOne, ExecutesRow};
 
 use crate::lists::Lists;
 use std::alloc::{AllocError, Global};
 use wq_words::Layout;
 use wq_worker::{Ran, Worker};
 
-/// The number is the last, if there is one, of a row of executions.
+// The number is the last, if there is one, of a row of executions.
 fn ends_at(last: Option<u32>, number: u32) -> bool
     ensures { result ≡ ends_at last number }
 {
@@ -24,19 +24,19 @@ fn ends_at(last: Option<u32>, number: u32) -> bool
 fn execute(worker: &mut Worker<Lists>, layout: &Layout) -> Option<u32>
     requires items { layout.now.items ≡ worker.old.layout.items }
     requires barriers { layout.now.barriers ≡ worker.old.layout.barriers }
-    ensures { Executes worker.old worker.new result }
+    ensures { ExecutesOne worker.old worker.new result }
 {
     match worker.run_one() {
         Ran::Item(item) => Some(item),
         Ran::Barrier(barrier) => Some(layout.items + barrier),
-        Ran::Stop => Some(layout.items + layout.barriers),
+        Ran::Stop => Some(layout.stop()),
         Ran::Nothing => None,
         Ran::Owing(_) => None,
     }
 }
 
-/// At most so many executions, up to one of the last number. The numbers that were executed.
-pub fn execute_row(
+// At most so many executions, up to one of the last number. The numbers that were executed.
+pub(crate) fn execute_row(
     alloc: Global,
     worker: &mut Worker<Lists>,
     layout: &Layout,

@@ -1,15 +1,15 @@
 //! What each item's function answers, as the work of a worker.
 ghost use Rattle.std.specs.Prelude.{◌≡◌, ◌≤◌, [], length, slice_set, replicate, IfOk};
-ghost use Rattle.wq_plain.specs.Execution.{follow_of, no_follow};
+ghost use Rattle.wq_meaning.specs.Execution.{follow_of, no_follow};
 
 use arrayvec::ArrayVec;
 use std::alloc::{AllocError, Global};
 use trail::Trail;
 use wq_worker::{Follow, Work};
 
-/// For each item the list that its function answers, empty at first.
+// For each item the list that its function answers, empty at first.
 #[derive(Drop)]
-pub struct Lists {
+pub(crate) struct Lists {
     follows: Vec<Follow>,
     ran: Trail,
 }
@@ -41,8 +41,8 @@ impl Work for Lists {
 }
 
 impl Lists {
-    /// Empty lists for so many items.
-    pub fn new(alloc: Global, items: u32) -> Result<Lists, AllocError>
+    // Empty lists for so many items.
+    pub(crate) fn new(alloc: Global, items: u32) -> Result<Lists, AllocError>
         ensures lists { IfOk result (λ w. w.follows.items ≡ replicate items no_follow) }
         ensures unrun { IfOk result (λ w. w.ran.items ≡ []) }
     {
@@ -56,8 +56,8 @@ impl Lists {
         })
     }
 
-    /// From now on the item's function answers this list.
-    pub fn set(&mut self, item: u32, follow: &Follow)
+    // From now on the item's function answers this list.
+    pub(crate) fn set(&mut self, item: u32, follow: &Follow)
         ensures lists { self.new.follows.items ≡ slice_set self.old.follows.items item follow.now }
         ensures ran { self.new.ran ≡ self.old.ran }
     {

@@ -1,12 +1,12 @@
 //! A script's run over the words that threads could share.
 ghost use Rattle.std.specs.Prelude.{◌≡◌, IfOk, string_bytes};
-ghost use Rattle.wq_plain.specs.Commands.{output_of};
+ghost use Rattle.wq_meaning.specs.Commands.{output_of};
 ghost use Rattle.wq_text.specs.Script.{layout_of, commands_of};
 ghost use Rattle.wq_script.specs.Output.{HasLegalHistory};
 
 use crate::engine::Engine;
 use std::alloc::{AllocError, Global};
-use wq_plain::RunError;
+use wq_meaning::RunError;
 use wq_text::Script;
 
 /// The output of a script, as text.

@@ -1,12 +1,13 @@
 //! All seats of a queue, and how each hears what one of them has seen.
-ghost use Rattle.std.specs.Prelude.{◌≡◌, ◌<◌, not, List, length, All, slice_index_or, IfOk, MatchOption, ◌+◌, ◌≤◌, [], replicate, slice_set};
-ghost use Rattle.wq_plain.specs.Execution.{no_follow};
+ghost use Rattle.std.specs.Prelude.{◌≡◌, ◌≢◌, ◌<◌, not, List, length, All, slice_index_or, IfOk, MatchOption, ◌+◌, ◌≤◌, [], replicate, slice_set};
+ghost use Rattle.wq_meaning.specs.Execution.{no_follow};
 ghost use Rattle.wq_words.specs.declared.layout.Layout.{Layout};
 ghost use Rattle.wq_words.specs.declared.event.Event.{Event};
-ghost use Rattle.wq_words.specs.Numbers.{stop_number};
-ghost use Rattle.wq_plain.specs.Commands.{barrier_number};
+ghost use Rattle.wq_words.specs.declared.answer.Armed.TheVariants as armed_variants;
+ghost use Rattle.wq_words.specs.declared.answer.Modified.TheVariants as modified_variants;
+ghost use Rattle.wq_words.specs.Numbers.{barrier_number, stop_number};
 ghost use Rattle.wq_live.specs.Known.{Known};
-ghost use Rattle.wq_script.specs.Seats.{Stays, AllHear, IsSameTable, AreOne, Gathers, Seated, IsSeated};
+ghost use Rattle.wq_script.specs.Seats.{StaysSilent, AllHear, IsSameTable, AreOne, Gathers, Seated, HasHistory};
 ghost use Rattle.wq_script.specs.Asking.{AsksFor, LooksAt, ClosesAs, RunsAs};
 ghost use Rattle.wq_script.specs.Arming.{ArmsAs, CancelsAs, ModifiesAs, IsBack, IsPosted};
 ghost use Rattle.wq_words.specs.History.{pending, closed};
@@ -14,23 +15,23 @@ ghost use Rattle.wq_words.specs.History.{pending, closed};
 use crate::executing::execute_row;
 use crate::lists::Lists;
 use std::alloc::{AllocError, Global};
-use wq_delay::{Armed, Backwards, Delay, Modified};
-use wq_live::{Answer, Sender, build};
-use wq_words::Layout;
+use wq_delay::{Backwards, Delay};
+use wq_live::{Sender, build};
+use wq_words::{Answer, Armed, Layout, Modified};
 use wq_worker::{Follow, Worker};
 
-/// Who queues, who delays and who executes: a queue has no seat but these.
+// Who queues, who delays and who executes: a queue has no seat but these.
 #[derive(Drop)]
-pub struct Seats {
-    pub worker: Worker<Lists>,
-    pub delay: Delay,
-    pub senders: Vec<Sender>,
+pub(crate) struct Seats {
+    pub(crate) worker: Worker<Lists>,
+    pub(crate) delay: Delay,
+    pub(crate) senders: Vec<Sender>,
 }
 
 // The delay table's sender meets each of the others in turn.
 fn meet_each(delay: &mut Delay, senders: &mut Vec<Sender>)
     requires one { All (λ (k : Known). k.queue ≡ delay.old.sender.queue) senders.old.items }
-    ensures delay { Stays delay.old.sender delay.new.sender }
+    ensures delay { StaysSilent delay.old.sender delay.new.sender }
     ensures table { IsSameTable delay.old delay.new }
     ensures senders { AllHear delay.old.sender.seen senders.old.items senders.new.items }
 {
@@ -39,13 +40,42 @@ fn meet_each(delay: &mut Delay, senders: &mut Vec<Sender>)
     }
 }
 
+// The answer, unless memory was refused.
+fn armed_or_memory(armed: Armed) -> Result<Armed, AllocError>
+    ensures { IfOk result (λ answer. (answer ≡ armed) × (armed ≢ armed_variants.Memory)) }
+{
+    match armed {
+        Armed::Memory => Err(AllocError),
+        Armed::Queued { first } => Ok(Armed::Queued { first }),
+        Armed::OnTable => Ok(Armed::OnTable),
+        Armed::Pending => Ok(Armed::Pending),
+        Armed::Closed => Ok(Armed::Closed),
+        Armed::Contended => Ok(Armed::Contended),
+        Armed::TooFar => Ok(Armed::TooFar),
+    }
+}
+
+fn modified_or_memory(modified: Modified) -> Result<Modified, AllocError>
+    ensures { IfOk result (λ answer. (answer ≡ modified) × (modified ≢ modified_variants.Memory)) }
+{
+    match modified {
+        Modified::Memory => Err(AllocError),
+        Modified::WasIdle => Ok(Modified::WasIdle),
+        Modified::Moved => Ok(Modified::Moved),
+        Modified::Pending => Ok(Modified::Pending),
+        Modified::Closed => Ok(Modified::Closed),
+        Modified::Contended => Ok(Modified::Contended),
+        Modified::TooFar => Ok(Modified::TooFar),
+    }
+}
+
 impl Seats {
-    /// The seats of a new queue, with a sender for each of the layout's, one for the worker and one for the delay table.
-    pub fn new(alloc: Global, layout: Layout) -> Result<Seats, AllocError>
+    // The seats of a new queue, with a sender for each of the layout's, one for the worker and one for the delay table.
+    pub(crate) fn new(alloc: Global, layout: Layout) -> Result<Seats, AllocError>
         requires { layout.senders ≤ 62 }
         ensures seated { IfOk result (λ s. Seated layout s []) }
         ensures lists { IfOk result (λ s. s.worker.work.follows.items ≡ replicate layout.items no_follow) }
-        ensures table { IfOk result (λ s. (s.delay.table ≡ []) × (s.delay.tick ≡ 0) × (s.delay.next ≡ 0)) }
+        ensures table { IfOk result (λ s. s.delay.table ≡ record { entries = []; tick = 0; next = 0 }) }
     {
         let Ok(wide) = Layout::new(layout.items, layout.barriers, layout.senders + 2) else {
             unreachable!()
@@ -70,8 +100,8 @@ impl Seats {
         })
     }
 
-    /// Afterwards each seat has seen what the sender at the place and the delay table's sender had seen.
-    pub fn gather(&mut self, place: usize)
+    // Afterwards each seat has seen what the sender at the place and the delay table's sender had seen.
+    pub(crate) fn gather(&mut self, place: usize)
         requires place { place < length self.old.senders.items }
         requires one { AreOne self.old }
         ensures sender { (d : Known) → Gathers (slice_index_or self.old.senders.items place d).seen self.old self.new }
@@ -82,8 +112,8 @@ impl Seats {
         self.worker.meet(&mut self.senders[0]);
     }
 
-    /// Afterwards each seat has seen what the worker had seen.
-    pub fn gather_worker(&mut self)
+    // Afterwards each seat has seen what the worker had seen.
+    pub(crate) fn gather_worker(&mut self)
         requires some { 0 < length self.old.senders.items }
         requires one { AreOne self.old }
         ensures { Gathers self.old.worker.seen self.old self.new }
@@ -92,9 +122,9 @@ impl Seats {
         self.gather(0);
     }
 
-    /// The sender queues an item, with one try.
-    pub fn queue(&mut self, sender: u32, item: u32) -> Answer
-        requires seated { IsSeated self.old }
+    // The sender queues an item, with one try.
+    pub(crate) fn queue(&mut self, sender: u32, item: u32) -> Answer
+        requires seated { HasHistory self.old }
         requires place { sender < length self.old.senders.items }
         requires item { item < self.old.delay.sender.layout.items }
         ensures { AsksFor sender (λ _. item) result self.old self.new }
@@ -105,9 +135,9 @@ impl Seats {
         answer
     }
 
-    /// The sender queues a barrier, with one try.
-    pub fn flush(&mut self, sender: u32, barrier: u32) -> Answer
-        requires seated { IsSeated self.old }
+    // The sender queues a barrier, with one try.
+    pub(crate) fn flush(&mut self, sender: u32, barrier: u32) -> Answer
+        requires seated { HasHistory self.old }
         requires place { sender < length self.old.senders.items }
         requires barrier { barrier < self.old.delay.sender.layout.barriers }
         ensures { AsksFor sender (λ layout. barrier_number layout barrier) result self.old self.new }
@@ -118,9 +148,9 @@ impl Seats {
         answer
     }
 
-    /// The sender queues the stop item, with one try.
-    pub fn stop(&mut self, sender: u32) -> Answer
-        requires seated { IsSeated self.old }
+    // The sender queues the stop item, with one try.
+    pub(crate) fn stop(&mut self, sender: u32) -> Answer
+        requires seated { HasHistory self.old }
         requires place { sender < length self.old.senders.items }
         ensures { AsksFor sender stop_number result self.old self.new }
     {
@@ -130,9 +160,9 @@ impl Seats {
         answer
     }
 
-    /// The item's PENDING bit, as the first sender sees it.
-    pub fn is_pending(&mut self, item: u32) -> bool
-        requires seated { IsSeated self.old }
+    // The item's PENDING bit, as the first sender sees it.
+    pub(crate) fn is_pending(&mut self, item: u32) -> bool
+        requires seated { HasHistory self.old }
         requires some { 0 < length self.old.senders.items }
         requires item { item < self.old.delay.sender.layout.items }
         ensures { LooksAt (λ layout h. pending h item) result self.old self.new }
@@ -142,9 +172,9 @@ impl Seats {
         is_pending
     }
 
-    /// The barrier's PENDING bit is clear, as the sender sees it.
-    pub fn is_flushed(&mut self, sender: u32, barrier: u32) -> bool
-        requires seated { IsSeated self.old }
+    // The barrier's PENDING bit is clear, as the sender sees it.
+    pub(crate) fn is_flushed(&mut self, sender: u32, barrier: u32) -> bool
+        requires seated { HasHistory self.old }
         requires place { sender < length self.old.senders.items }
         requires barrier { barrier < self.old.delay.sender.layout.barriers }
         ensures { LooksAt (λ layout h. not (pending h (barrier_number layout barrier))) result self.old self.new }
@@ -155,16 +185,16 @@ impl Seats {
         is_flushed
     }
 
-    /// The queue is closed.
-    pub fn is_closed(&self) -> bool
+    // The queue is closed.
+    pub(crate) fn is_closed(&self) -> bool
         ensures { (layout : Layout) (h : List Event) → Seated layout self.now h → result ≡ closed h }
     {
         self.worker.is_closed()
     }
 
-    /// Closes the queue, and answers how many were taken by that. None where it was closed before.
-    pub fn close(&mut self) -> Option<u64>
-        requires seated { IsSeated self.old }
+    // Closes the queue, and answers how many were taken by that. None where it was closed before.
+    pub(crate) fn close(&mut self) -> Option<u64>
+        requires seated { HasHistory self.old }
         requires some { 0 < length self.old.senders.items }
         ensures { ClosesAs result self.old self.new }
     {
@@ -176,8 +206,8 @@ impl Seats {
         Some(taken as u64)
     }
 
-    /// At most so many executions, up to one of the last number. The numbers that were executed.
-    pub fn run(
+    // At most so many executions, up to one of the last number. The numbers that were executed.
+    pub(crate) fn run(
         &mut self,
         alloc: Global,
         layout: &Layout,
@@ -193,57 +223,55 @@ impl Seats {
         Ok(ran)
     }
 
-    /// Arms an item, with one try where there is no delay.
-    pub fn arm(&mut self, item: u32, delay: u64) -> Armed
-        requires seated { IsSeated self.old }
+    // Arms an item, with one try where there is no delay.
+    pub(crate) fn arm(&mut self, item: u32, delay: u64) -> Result<Armed, AllocError>
+        requires seated { HasHistory self.old }
         requires some { 0 < length self.old.senders.items }
         requires item { item < self.old.delay.sender.layout.items }
-        ensures { ArmsAs item delay result self.old self.new }
+        ensures { IfOk result (λ answer. ArmsAs item delay answer self.old self.new) }
     {
-        // This call says what holds of every delay table.
-        let _ = self.delay.layout();
-        let answer = self.delay.arm(item, delay, 1);
+        self.delay.fit();
+        let armed = self.delay.arm(item, delay, 1);
         self.gather(0);
-        answer
+        let answer = armed_or_memory(armed)?;
+        Ok(answer)
     }
 
-    /// Takes an item off the delay table and gives it back. False where it was not there.
-    pub fn cancel(&mut self, item: u32) -> bool
-        requires seated { IsSeated self.old }
+    // Takes an item off the delay table and gives it back. False where it was not there.
+    pub(crate) fn cancel(&mut self, item: u32) -> bool
+        requires seated { HasHistory self.old }
         requires some { 0 < length self.old.senders.items }
         requires item { item < self.old.delay.sender.layout.items }
         ensures { CancelsAs item result self.old self.new }
     {
-        // This call says what holds of every delay table.
-        let _ = self.delay.layout();
+        self.delay.fit();
         let was_on_table = self.delay.cancel(item);
         self.gather(0);
         was_on_table
     }
 
-    /// Arms an item again that is on the delay table, or posts it where there is no delay, with one try. Arms another.
-    pub fn modify(&mut self, item: u32, delay: u64) -> Modified
-        requires seated { IsSeated self.old }
+    // Arms an item again that is on the delay table, or posts it where there is no delay, with one try. Arms another.
+    pub(crate) fn modify(&mut self, item: u32, delay: u64) -> Result<Modified, AllocError>
+        requires seated { HasHistory self.old }
         requires some { 0 < length self.old.senders.items }
         requires item { item < self.old.delay.sender.layout.items }
-        ensures { ModifiesAs item delay result self.old self.new }
+        ensures { IfOk result (λ answer. ModifiesAs item delay answer self.old self.new) }
     {
-        // This call says what holds of every delay table.
-        let _ = self.delay.layout();
-        let answer = self.delay.modify(item, delay, 1);
+        self.delay.fit();
+        let modified = self.delay.modify(item, delay, 1);
         self.gather(0);
-        answer
+        let answer = modified_or_memory(modified)?;
+        Ok(answer)
     }
 
-    /// Sets the tick, and posts what is due, each with one try. The items that were posted, in order. None where the tick is
-    /// before the present one.
-    pub fn advance(&mut self, tick: u64) -> Result<Option<Vec<u32>>, AllocError>
-        requires seated { IsSeated self.old }
+    // Sets the tick, and posts what is due, each with one try. The items that were posted, in order. None where the tick is
+    // before the present one.
+    pub(crate) fn advance(&mut self, tick: u64) -> Result<Option<Vec<u32>>, AllocError>
+        requires seated { HasHistory self.old }
         requires some { 0 < length self.old.senders.items }
         ensures { IfOk result (λ o. MatchOption o (IsBack tick self.old self.new) (λ due. IsPosted tick due.items self.old self.new)) }
     {
-        // This call says what holds of every delay table.
-        let _ = self.delay.layout();
+        self.delay.fit();
         let due = self.delay.due_list(tick)?;
         let advanced = self.delay.advance(tick, 1);
         self.gather(0);
@@ -253,8 +281,8 @@ impl Seats {
         }
     }
 
-    /// From now on the item's function answers this list.
-    pub fn follow(&mut self, item: u32, follow: &Follow)
+    // From now on the item's function answers this list.
+    pub(crate) fn follow(&mut self, item: u32, follow: &Follow)
         ensures worker { self.new.worker ≡ record self.old.worker { work = self.new.worker.work } }
         ensures lists { self.new.worker.work.follows.items ≡ slice_set self.old.worker.work.follows.items item follow.now }
         ensures others { (self.new.delay ≡ self.old.delay) × (self.new.senders ≡ self.old.senders) }

@@ -3,7 +3,13 @@
 #![tactic(auto)]
 
 #[cfg(test)]
+mod delay;
+#[cfg(test)]
+mod live;
+#[cfg(test)]
 mod machine;
+#[cfg(test)]
+mod script;
 #[cfg(test)]
 mod text;
 #[cfg(test)]

@@ -10,4 +10,5 @@ pub mod Places
 pub mod Ranks
 pub mod Headlines
 pub mod Seen
+pub mod DelayTable
 pub mod Counting

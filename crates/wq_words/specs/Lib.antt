@@ -9,3 +9,4 @@ pub mod Headline
 pub mod Seen
 pub mod Counting
 pub mod DelayTable
+pub mod Armed

@@ -1,5 +1,6 @@
 -- What no longer changes once the queue is closed, and where nothing waits.
-use Rattle.std.proofs.Common.{◌≡◌, ℕ, zero, suc, ◌<◌, ◌==◌, Bool, true, false, cond, List, [], ◌∷◌, ◌++◌, length, take, drop, None, slice_get, sym, refl, ap, ◌∙◌, subst, arith, append_assoc}
+use Rattle.std.proofs.Common.{◌≡◌, ℕ, zero, suc, ◌<◌, ◌==◌, Bool, true, false, cond, List, [], ◌∷◌, ◌++◌, length, take, drop, None, slice_get, sym, refl, ap}
+use Rattle.std.proofs.Common.{◌∙◌, subst, arith, append_assoc}
 use Rattle.std.proofs.lemmas.List.{append-nil, take_all}
 use Rattle.std.proofs.lemmas.List.Elements.{filter-append}
 use Rattle.wq_words.specs.declared.event.Event.{Event}
@@ -26,7 +27,8 @@ none_rest : (e : Event) (new : List Event) → own owner_seat (e ∷ new) ≡ []
 none_rest e new none = none_first (seat_of e == owner_seat) e (own owner_seat new) none
 
 module _ (layout : Layout) where
-  accepted_more : (v : List Event) (e : Event) (new : List Event) → accepted_by e ≡ None → accepted ((v ++ e ∷ []) ++ new) ≡ accepted (v ++ e ∷ []) → accepted (v ++ e ∷ new) ≡ accepted v
+  accepted_more : (v : List Event) (e : Event) (new : List Event) → accepted_by e ≡ None → accepted ((v ++ e ∷ []) ++ new) ≡ accepted (v ++ e ∷ [])
+      → accepted (v ++ e ∷ new) ≡ accepted v
   accepted_more v e new passes rest = ap accepted (sym (append_assoc v (e ∷ []) new)) ∙ (rest ∙ accepted_push_none v e passes)
 
   pub legal_rest : (v : List Event) (e : Event) (new : List Event) → IsLegal layout (v ++ e ∷ new) → IsLegal layout ((v ++ e ∷ []) ++ new)
@@ -36,9 +38,15 @@ module _ (layout : Layout) where
   pub accepted_closed : (v new : List Event) → IsLegal layout (v ++ new) → IsClosed v → own owner_seat new ≡ [] → accepted (v ++ new) ≡ accepted v
   accepted_closed v [] legal shut none = ap accepted (append-nil v)
   accepted_closed v (Push s k ∷ new) legal shut none = absurd ((legal_next layout v (Push s k) new legal).2.1 shut)
-  accepted_closed v (Hold s k ∷ new) legal shut none = accepted_more v (Hold s k) new refl (accepted_closed (v ++ Hold s k ∷ []) new (legal_rest v (Hold s k) new legal) (still_closed v (Hold s k ∷ []) shut) (none_rest (Hold s k) new none))
-  accepted_closed v (Busy s k ∷ new) legal shut none = accepted_more v (Busy s k) new refl (accepted_closed (v ++ Busy s k ∷ []) new (legal_rest v (Busy s k) new legal) (still_closed v (Busy s k ∷ []) shut) (none_rest (Busy s k) new none))
-  accepted_closed v (Back s k why ∷ new) legal shut none = accepted_more v (Back s k why) new refl (accepted_closed (v ++ Back s k why ∷ []) new (legal_rest v (Back s k why) new legal) (still_closed v (Back s k why ∷ []) shut) (none_rest (Back s k why) new none))
+  accepted_closed v (Hold s k ∷ new) legal shut none =
+      accepted_more v (Hold s k) new refl (accepted_closed (v ++ Hold s k ∷ []) new (legal_rest v (Hold s k) new legal)
+      (still_closed v (Hold s k ∷ []) shut) (none_rest (Hold s k) new none))
+  accepted_closed v (Busy s k ∷ new) legal shut none =
+      accepted_more v (Busy s k) new refl (accepted_closed (v ++ Busy s k ∷ []) new (legal_rest v (Busy s k) new legal)
+      (still_closed v (Busy s k ∷ []) shut) (none_rest (Busy s k) new none))
+  accepted_closed v (Back s k why ∷ new) legal shut none =
+      accepted_more v (Back s k why) new refl (accepted_closed (v ++ Back s k why ∷ []) new (legal_rest v (Back s k why) new legal)
+      (still_closed v (Back s k why ∷ []) shut) (none_rest (Back s k why) new none))
   accepted_closed v (Take ∷ new) legal shut none = absurd (cc)
   accepted_closed v (Close ∷ new) legal shut none = absurd (cc)
   accepted_closed v (Begin k ∷ new) legal shut none = absurd (cc)
@@ -48,7 +56,8 @@ module _ (layout : Layout) where
 
 pub batch-closed : (h : List Event) → IsClosed h → batch h ≡ drop (length (begun h)) (accepted h)
 batch-closed h shut =
-    ap (λ (n : ℕ). drop (length (begun h)) (take n (accepted h))) (taken_closed h (closed_from_IsClosed h shut)) ∙ ap (drop (length (begun h))) (take_all (length (accepted h)) (accepted h) (omega arith))
+    ap (λ (n : ℕ). drop (length (begun h)) (take n (accepted h))) (taken_closed h (closed_from_IsClosed h shut)) ∙ ap (drop (length (begun h)))
+    (take_all (length (accepted h)) (accepted h) (omega arith))
 
 pub slice_get-drop : {A : Type 0} (n : ℕ) (xs : List A) → slice_get (drop n xs) 0 ≡ slice_get xs n
 slice_get-drop zero xs = refl
@@ -56,10 +65,13 @@ slice_get-drop (suc n) [] = refl
 slice_get-drop (suc n) (x ∷ xs) = slice_get-drop n xs
 
 pub nothing_closed : (h : List Event) → IsClosed h → next_of h ≡ None → NothingWaits h
-nothing_closed h shut none = at_all shut (sym (slice_get-drop (length (begun h)) (accepted h)) ∙ (ap (λ (z : List ℕ). slice_get z 0) (sym (batch-closed h shut)) ∙ none))
+nothing_closed h shut none =
+    at_all shut (sym (slice_get-drop (length (begun h)) (accepted h)) ∙ (ap (λ (z : List ℕ). slice_get z 0) (sym (batch-closed h shut)) ∙ none))
 
 pub nothing_taken : (n : ℕ) (h : List Event) → TakesAll Take n h → next_of h ≡ None → NothingWaits h
-nothing_taken n h t none = at_take t.before t.after t.is t.last (sym (slice_get-drop (length (begun t.before)) (accepted t.before)) ∙ (ap (λ (z : List ℕ). slice_get z 0) (sym t.batch_is) ∙ none))
+nothing_taken n h t none =
+    at_take t.before t.after t.is t.last (sym (slice_get-drop (length (begun t.before)) (accepted t.before)) ∙
+    (ap (λ (z : List ℕ). slice_get z 0) (sym t.batch_is) ∙ none))
 
 -- the owner adds nothing
 pub nothing_still : (layout : Layout) (n : ℕ) (v w : List Event) → Grows owner_seat [] n v w → IsLegal layout w → NothingWaits v → NothingWaits w
@@ -71,7 +83,8 @@ nothing_still layout n v w g legal (at_all shut none) =
     let a : accepted w ≡ accepted v = ap accepted g.is ∙ accepted_closed layout v g.new (subst (IsLegal layout) g.is legal) shut g.mine in
     at_all (subst (λ (z : ℕ). 0 < z) (sym s.closes_same) shut) (rw (a, s.begun_same) none)
 
-pub takes_still : (layout : Layout) (c n : ℕ) (v w : List Event) → Grows owner_seat [] n v w → IsLegal layout w → IsClosed v → TakesAll Close c v → TakesAll Close c w
+pub takes_still : (layout : Layout) (c n : ℕ) (v w : List Event) → Grows owner_seat [] n v w → IsLegal layout w → IsClosed v → TakesAll Close c v
+    → TakesAll Close c w
 takes_still layout c n v w g legal shut t =
     let s : Stays v w = stays [] v w quiet_none (owner_grows [] n v w g) in
     let a : accepted w ≡ accepted v = ap accepted g.is ∙ accepted_closed layout v g.new (subst (IsLegal layout) g.is legal) shut g.mine in

@@ -1,5 +1,6 @@
 -- What is left of a closed queue.
-use Rattle.std.proofs.Common.{◌≡◌, ℕ, ◌+◌, ◌-◌, ◌<◌, ◌≤◌, ⊎_elim, List, [], ◌∷◌, ◌++◌, length, None, slice_get, sym, ap, ◌∙◌, subst, arith, length-append, length-drop}
+use Rattle.std.proofs.Common.{◌≡◌, ℕ, ◌+◌, ◌-◌, ◌<◌, ◌≤◌, ⊎_elim, List, [], ◌∷◌, ◌++◌, length, None, slice_get, sym, ap, ◌∙◌, subst, arith, length-append}
+use Rattle.std.proofs.Common.{length-drop}
 use Rattle.std.specs.Prelude.{count_by}
 use Rattle.std.proofs.lemmas.Bool.{cases_lt}
 use Rattle.std.proofs.lemmas.Option.{slice_get-get_or}
@@ -27,26 +28,38 @@ use Rattle.wq_worker.proofs.Closing.{batch-closed}
 use Rattle.wq_worker.proofs.State.{quiet_taking}
 
 past_none : (xs : List ℕ) (i : ℕ) → slice_get xs i ≡ None → length xs ≤ i
-past_none xs i none = ⊎_elim (λ (low : i < length xs). let some = slice_get-get_or xs i 0 low in absurd (cc)) (λ (high : length xs ≤ i). high) (cases_lt i (length xs))
+past_none xs i none =
+    ⊎_elim (λ (low : i < length xs). let some = slice_get-get_or xs i 0 low in absurd (cc)) (λ (high : length xs ≤ i). high) (cases_lt i (length xs))
 
 no_late_take : (layout : Layout) (before after h : List Event) → h ≡ before ++ Take ∷ after → own owner_seat after ≡ [] → IsLegal layout h → ¬ IsClosed h
 no_late_take layout before after h is last legal = λ shut.
     let allowed = legal_next layout before Take after (subst (IsLegal layout) is legal) in
     let none : count_by is_close after ≡ 0 = closed_count [] after last in
     let parts = ap (count_by is_close) is in
-    let early : IsClosed before = omega (arith, shut, parts, none, count_by-append is_close before (Take ∷ after), count_by-append is_close (Take ∷ []) after) in
+    let early : IsClosed before = omega (
+      arith,
+      shut,
+      parts,
+      none,
+      count_by-append is_close before (Take ∷ after),
+      count_by-append is_close (Take ∷ []) after,
+    ) in
     allowed.2 early
 
-complete_at : (layout : Layout) (v new w : List Event) → w ≡ v ++ new → IsLegal layout w → IsClosed v → ¬ IsRunning v → begun w ≡ begun v → next w ≡ None → IsComplete v
+complete_at : (layout : Layout) (v new w : List Event) → w ≡ v ++ new → IsLegal layout w → IsClosed v → ¬ IsRunning v → begun w ≡ begun v
+    → next w ≡ None → IsComplete v
 complete_at layout v new w is legal shut idle same none =
     let order = in_order layout v (legal_front layout v new (subst (IsLegal layout) is legal)) in
     let past : length (accepted w) ≤ length (begun w) = past_none (accepted w) (length (begun w)) none in
     let b : length (begun w) ≡ length (begun v) = ap (length {A = ℕ}) same in
-    let a : length (accepted w) ≡ length (accepted v) + length (accepted new) = ap (length {A = ℕ}) (ap accepted is ∙ filter_map-append accepted_by v new) ∙ length-append (accepted v) (accepted new) in
-    let e : length (ended v) ≡ length (accepted v) = omega (arith, prefix_length (ended v) (begun v) order.ended_first, prefix_length (begun v) (accepted v) order.begun_first, idle, past, b, a) in
+    let a : length (accepted w) ≡ length (accepted v) + length (accepted new) =
+    ap (length {A = ℕ}) (ap accepted is ∙ filter_map-append accepted_by v new) ∙ length-append (accepted v) (accepted new) in
+    let e : length (ended v) ≡ length (accepted v) =
+    omega (arith, prefix_length (ended v) (begun v) order.ended_first, prefix_length (begun v) (accepted v) order.begun_first, idle, past, b, a) in
     (shut, e)
 
-pub nothing_complete : (layout : Layout) (s n : ℕ) (es v w : List Event) → Adds s es n v w → IsQuiet es → IsLegal layout w → IsClosed v → ¬ IsRunning v → NothingWaits w → IsComplete v
+pub nothing_complete : (layout : Layout) (s n : ℕ) (es v w : List Event) → Adds s es n v w → IsQuiet es → IsLegal layout w → IsClosed v
+    → ¬ IsRunning v → NothingWaits w → IsComplete v
 nothing_complete layout s n es v w a q legal shut idle (at_take before after is last none) =
     let same = stays es v w q (owner_of_both s es n v w a) in
     absurd (no_late_take layout before after w is last legal (subst (λ (z : ℕ). 0 < z) (sym same.closes_same) shut))
@@ -55,7 +68,8 @@ nothing_complete layout s n es v w a q legal shut idle (at_all now none) =
 
 module _ {W : Type 0} (may : W → ℕ → List ℕ → W → Type 0) where
   ends_closed : (k : ℕ) (a b : WorkerState W) → Ends may a k b → IsClosed a.seen → IsClosed b.seen
-  ends_closed k a b (ends f es fs st told moved none) shut = let o = owner_of_both a.number (es ++ (fs ++ End k ∷ [])) 0 a.seen b.seen moved.adds in omega (arith, o.closes, shut)
+  ends_closed k a b (ends f es fs st told moved none) shut =
+      let o = owner_of_both a.number (es ++ (fs ++ End k ∷ [])) 0 a.seen b.seen moved.adds in omega (arith, o.closes, shut)
 
   owes_open : (k : ℕ) (a b : WorkerState W) → Owes may a k b → ¬ IsClosed a.seen
   owes_open k a b (owes f qs j more es fs st split left opens told moved runs) = λ shut. let now = closed_from_IsClosed a.seen shut in absurd (cc)
@@ -65,19 +79,23 @@ module _ {W : Type 0} (may : W → ℕ → List ℕ → W → Type 0) where
   executes (Item k) a b shut rest t = (tt, ends_closed t.0 a b t.2 shut)
   executes (Barrier k) a b shut rest t = (tt, ends_closed t.0 a b t.2 shut)
   executes Stop a b shut rest t = (tt, ends_closed t.0 a b t.2 shut)
-  executes Nothing a b shut rest t = absurd (rest (nothing_complete b.layout a.number 0 (taking a.seen) a.seen b.seen t.3.adds (quiet_taking a.seen) t.3.legal shut t.0 t.1))
+  executes Nothing a b shut rest t =
+      absurd (rest (nothing_complete b.layout a.number 0 (taking a.seen) a.seen b.seen t.3.adds (quiet_taking a.seen) t.3.legal shut t.0 t.1))
   executes (Owing k) a b shut rest t = absurd (owes_open k a b t shut)
 
 pub left_idle : (layout : Layout) (h : List Event) → IsLegal layout h → IsClosed h → ¬ IsRunning h → length (batch h) + length (ended h) ≡ length (accepted h)
 left_idle layout h legal shut idle =
     let order = in_order layout h legal in
-    let n : length (batch h) ≡ length (accepted h) - length (begun h) = ap (length {A = ℕ}) (batch-closed h shut) ∙ length-drop (length (begun h)) (accepted h) in
+    let n : length (batch h) ≡ length (accepted h) - length (begun h) =
+    ap (length {A = ℕ}) (batch-closed h shut) ∙ length-drop (length (begun h)) (accepted h) in
     omega (arith, prefix_length (ended h) (begun h) order.ended_first, prefix_length (begun h) (accepted h) order.begun_first, idle, n)
 
-pub left_running : (layout : Layout) (h : List Event) → IsLegal layout h → IsClosed h → IsRunning h → (length (batch h) + 1) + length (ended h) ≡ length (accepted h)
+pub left_running : (layout : Layout) (h : List Event) → IsLegal layout h → IsClosed h → IsRunning h
+    → (length (batch h) + 1) + length (ended h) ≡ length (accepted h)
 left_running layout h legal shut runs =
     let order = in_order layout h legal in
-    let n : length (batch h) ≡ length (accepted h) - length (begun h) = ap (length {A = ℕ}) (batch-closed h shut) ∙ length-drop (length (begun h)) (accepted h) in
+    let n : length (batch h) ≡ length (accepted h) - length (begun h) =
+    ap (length {A = ℕ}) (batch-closed h shut) ∙ length-drop (length (begun h)) (accepted h) in
     omega (arith, prefix_length (begun h) (accepted h) order.begun_first, order.one_at_a_time, runs, n)
 
 pub begun-complete : (layout : Layout) (h : List Event) → IsLegal layout h → IsComplete h → begun h ≡ accepted h

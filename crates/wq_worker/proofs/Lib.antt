@@ -8,6 +8,7 @@ pub mod State
 pub mod Step
 pub mod Draining
 pub mod Meeting
+pub mod Pushes
+pub mod Summing
 pub mod Balancing
-pub mod Teams
 pub mod Rows

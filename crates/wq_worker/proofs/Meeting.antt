@@ -11,7 +11,7 @@ use Rattle.wq_live.specs.Known.{Known, Sees}
 use Rattle.wq_live.proofs.Final.{final}
 use Rattle.wq_worker.specs.declared.book.Ledger.{Ledger}
 use Rattle.wq_worker.specs.Pair.{Paired, Both}
-use Rattle.wq_worker.specs.Book.{IsMade}
+use Rattle.wq_worker.specs.Book.{IsLedgerOf}
 use Rattle.wq_worker.proofs.Seats.{adds_owner}
 use Rattle.wq_worker.proofs.Owned.{quiet_none, owner_grows, Stays, stays}
 use Rattle.wq_worker.proofs.Pair.{paired_after, owner_grew}
@@ -19,7 +19,8 @@ use Rattle.wq_worker.proofs.Pair.{paired_after, owner_grew}
 -- both met another seat, and see the same
 pub met_other : (n m : ℕ) (o s q u : Known) → Paired o s → Sees [] n o q → Sees [] m s u → q.seen ≡ u.seen → Both [] 0 o s q u
 met_other n m o s q u pair b c both =
-    let none : Grows s.number [] m o.seen q.seen = subst (λ (z : List Event). Grows s.number [] m o.seen z) (sym both) (subst (λ (z : List Event). Grows s.number [] m z u.seen) pair.seen c.grows) in
+    let none : Grows s.number [] m o.seen q.seen =
+    subst (λ (z : List Event). Grows s.number [] m o.seen z) (sym both) (subst (λ (z : List Event). Grows s.number [] m z u.seen) pair.seen c.grows) in
     record {
       owner = b.same;
       sender = c.same;
@@ -33,7 +34,7 @@ complete_still layout n v w g legal done =
     let a : accepted w ≡ accepted v = ap accepted g.is ∙ (final layout v done g.new (subst (IsLegal layout) g.is legal)).0 in
     (subst (λ (z : ℕ). 0 < z) (sym s.closes_same) done.0, rw (a, s.ended_same) done.1)
 
-pub made_still : (c : ℕ) (n : ℕ) (v w : List Event) (ledger : Ledger) → Grows c [] n v w → IsMade v ledger → IsMade w ledger
+pub made_still : (c : ℕ) (n : ℕ) (v w : List Event) (ledger : Ledger) → Grows c [] n v w → IsLedgerOf v ledger → IsLedgerOf w ledger
 made_still c n v w ledger g m = record {
   met = m.met;
   before = subst (λ (z : List Event). IsPrefix m.met z) (sym g.is) (prefix_append m.met v g.new m.before);

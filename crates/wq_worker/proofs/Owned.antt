@@ -9,13 +9,15 @@ use Rattle.wq_words.specs.History.{begun_by, ended_by, is_close, begun, ended, c
 use Rattle.wq_words.specs.Seen.{owner_seat, seat_of, own, Grows}
 use Rattle.wq_words.proofs.Seen.{begun_same, ended_same, closed_count}
 use Rattle.wq_live.proofs.Owned.{begun_on, ended_on, closes_on}
-use Rattle.wq_worker.specs.Seats.{is_ours, Adds}
+use Rattle.wq_words.specs.Seen.{is_ours}
+use Rattle.wq_worker.specs.Seats.{Adds}
 
 pub count_by-append : (p : Event → Bool) (xs ys : List Event) → count_by p (xs ++ ys) ≡ count_by p xs + count_by p ys
 count_by-append p xs ys = sum_by-append (λ x. cond (p x) 1 0) xs ys
 
 module _ {A : Type 0} (p q : A → Bool) (only : (x : A) → q x ≡ false → p x ≡ false) where
-  keep_step : (b : Bool) (x : A) (ys xs : List A) → (b ≡ false → p x ≡ false) → filter p ys ≡ filter p xs → filter p (cond b (x ∷ ys) ys) ≡ cond (p x) (x ∷ filter p xs) (filter p xs)
+  keep_step : (b : Bool) (x : A) (ys xs : List A) → (b ≡ false → p x ≡ false) → filter p ys ≡ filter p xs
+      → filter p (cond b (x ∷ ys) ys) ≡ cond (p x) (x ∷ filter p xs) (filter p xs)
   keep_step true x ys xs unless go = ap (λ (zs : List A). cond (p x) (x ∷ zs) zs) go
   keep_step false x ys xs unless go = go ∙ sym (ap (λ (b : Bool). cond b (x ∷ filter p xs) (filter p xs)) (unless refl))
 
@@ -46,7 +48,8 @@ owner_of_both s es n v w a =
     let g : Grows owner_seat mine 0 v w = record {
       new = a.new;
       is = a.is;
-      mine = sym (filter-filter (λ e. seat_of e == owner_seat) (is_ours s) (λ e none. or_right (seat_of e == s) (seat_of e == owner_seat) none) a.new) ∙ ap (own owner_seat) a.ours;
+      mine = sym (filter-filter (λ e. seat_of e == owner_seat) (is_ours s) (λ e none. or_right (seat_of e == s) (seat_of e == owner_seat) none) a.new)
+          ∙ ap (own owner_seat) a.ours;
       theirs = omega arith;
     } in
     record {

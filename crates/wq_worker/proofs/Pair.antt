@@ -43,10 +43,12 @@ pub owner_grew : (xs : List Event) (n : ℕ) (o s p : Known) → Paired o s → 
 owner_grew xs n o s p pair a = subst (λ (z : ℕ). Grows z xs n o.seen p.seen) pair.seat a.grows
 
 -- the owner made steps, and then the sender met it
-pub met_owner : (xs : List Event) (n m k : ℕ) (o s p q u : Known) → Paired o s → Sees xs n o p → Sees [] k p q → Sees [] m s u → q.seen ≡ u.seen → Both xs 0 o s q u
+pub met_owner : (xs : List Event) (n m k : ℕ) (o s p q u : Known) → Paired o s → Sees xs n o p → Sees [] k p q → Sees [] m s u → q.seen ≡ u.seen
+    → Both xs 0 o s q u
 met_owner xs n m k o s p q u pair a b c both =
     let g = sees_still xs n k o p q a b in
-    let none : Grows s.number [] m o.seen q.seen = subst (λ (z : List Event). Grows s.number [] m o.seen z) (sym both) (subst (λ (z : List Event). Grows s.number [] m z u.seen) pair.seen c.grows) in
+    let none : Grows s.number [] m o.seen q.seen =
+    subst (λ (z : List Event). Grows s.number [] m o.seen z) (sym both) (subst (λ (z : List Event). Grows s.number [] m z u.seen) pair.seen c.grows) in
     record {
       owner = g.same;
       sender = c.same;
@@ -55,10 +57,12 @@ met_owner xs n m k o s p q u pair a b c both =
     }
 
 -- the sender made steps, and then it met the owner
-pub met_sender : (xs : List Event) (n m k : ℕ) (o s t q u : Known) → Paired o s → Sees xs n s t → Sees [] k t u → Sees [] m o q → q.seen ≡ u.seen → Both xs n o s q u
+pub met_sender : (xs : List Event) (n m k : ℕ) (o s t q u : Known) → Paired o s → Sees xs n s t → Sees [] k t u → Sees [] m o q → q.seen ≡ u.seen
+    → Both xs n o s q u
 met_sender xs n m k o s t q u pair a b c both =
     let g = sees_still xs n k s t u a b in
-    let mine : Grows s.number xs n o.seen q.seen = subst (λ (z : List Event). Grows s.number xs n o.seen z) (sym both) (subst (λ (z : List Event). Grows s.number xs n z u.seen) pair.seen g.grows) in
+    let mine : Grows s.number xs n o.seen q.seen =
+    subst (λ (z : List Event). Grows s.number xs n o.seen z) (sym both) (subst (λ (z : List Event). Grows s.number xs n z u.seen) pair.seen g.grows) in
     record {
       owner = c.same;
       sender = g.same;

@@ -1,5 +1,6 @@
 -- The number that runs.
-use Rattle.std.proofs.Common.{◌≡◌, ℕ, ◌+◌, ◌<◌, false, List, [], ◌∷◌, ◌++◌, length, Some, None, slice_get, inl, inr, subst, sym, refl, ap, ◌∙◌, arith, length-append}
+use Rattle.std.proofs.Common.{◌≡◌, ℕ, ◌+◌, ◌<◌, false, List, [], ◌∷◌, ◌++◌, length, Some, None, slice_get, inl, inr, subst, sym, refl, ap, ◌∙◌, arith}
+use Rattle.std.proofs.Common.{length-append}
 use Rattle.std.proofs.lemmas.Option.{slice_get_within, slice_get_past, slice_get-get_or}
 use Rattle.std.proofs.lemmas.List.{append-nil}
 use Rattle.std.proofs.lemmas.List.Elements.{filter_map-append}
@@ -26,7 +27,8 @@ pub none_runs : (h : List Event) → ¬ IsRunning h → running h ≡ None
 none_runs h idle = slice_get_past (begun h) (length (ended h)) (omega arith)
 
 -- begun after nothing ran
-pub runs_begun : (layout : Layout) (k : ℕ) (es v w : List Event) → IsLegal layout v → ¬ IsRunning v → begun es ≡ k ∷ [] → ended es ≡ [] → OwnerAdds es v w → running w ≡ Some k
+pub runs_begun : (layout : Layout) (k : ℕ) (es v w : List Event) → IsLegal layout v → ¬ IsRunning v → begun es ≡ k ∷ [] → ended es ≡ []
+    → OwnerAdds es v w → running w ≡ Some k
 runs_begun layout k es v w legal idle begins ends o =
     let order = in_order layout v legal in
     let b : begun w ≡ begun v ++ k ∷ [] = o.begun_is ∙ ap (λ (z : List ℕ). begun v ++ z) begins in
@@ -39,7 +41,8 @@ pub idle_ended : (layout : Layout) (k : ℕ) (es v w : List Event) → IsLegal l
 idle_ended layout k es v w legal begins ends o =
     let order = in_order layout v legal in
     let b : length (begun w) ≡ length (begun v) = ap (length {A = ℕ}) (o.begun_is ∙ (ap (λ (z : List ℕ). begun v ++ z) begins ∙ append-nil (begun v))) in
-    let e : length (ended w) ≡ length (ended v) + 1 = ap (length {A = ℕ}) (o.ended_is ∙ ap (λ (z : List ℕ). ended v ++ z) ends) ∙ length-append (ended v) (k ∷ []) in
+    let e : length (ended w) ≡ length (ended v) + 1 =
+    ap (length {A = ℕ}) (o.ended_is ∙ ap (λ (z : List ℕ). ended v ++ z) ends) ∙ length-append (ended v) (k ∷ []) in
     λ less. omega (arith, order.one_at_a_time, b, e, less)
 
 pub false_open : (h : List Event) → closed h ≡ false → ¬ IsClosed h
@@ -50,7 +53,8 @@ abbrev pub AreNumbers : Layout → List ℕ → Type 0
 AreNumbers layout ks = (i k : ℕ) → slice_get ks i ≡ Some k → k < number_count layout
 
 one_begun : (layout : Layout) (ks : List ℕ) (j : ℕ) → j < number_count layout → AreNumbers layout ks → AreNumbers layout (ks ++ j ∷ [])
-one_begun layout ks j low all i k at = elim (slice_get_push ks j k i at) [ inl old ↦ all i k old | inr new ↦ subst (λ (z : ℕ). z < number_count layout) new.1 low ]
+one_begun layout ks j low all i k at =
+    elim (slice_get_push ks j k i at) [ inl old ↦ all i k old | inr new ↦ subst (λ (z : ℕ). z < number_count layout) new.1 low ]
 
 begun_after : (layout : Layout) (h : List Event) (e : Event) → IsAllowed layout h e → AreNumbers layout (begun h) → AreNumbers layout (begun (h ++ e ∷ []))
 begun_after layout h (Begin j) a all = subst (AreNumbers layout) (sym (filter_map-append begun_by h (Begin j ∷ []))) (one_begun layout (begun h) j a.1 all)
@@ -65,7 +69,8 @@ begun_after layout h (Chain k) a all = subst (AreNumbers layout) (sym (filter_ma
 begun_after layout h (ChainBusy k) a all = subst (AreNumbers layout) (sym (filter_map_push_none begun_by h (ChainBusy k) refl ∙ append-nil (begun h))) all
 
 pub begun_numbers : (layout : Layout) (h : List Event) → IsLegal layout h → AreNumbers layout (begun h)
-begun_numbers layout h legal = legal_induction layout (λ h. AreNumbers layout (begun h)) (λ i k at. absurd (cc)) (λ h e _ a all. begun_after layout h e a all) h legal
+begun_numbers layout h legal =
+    legal_induction layout (λ h. AreNumbers layout (begun h)) (λ i k at. absurd (cc)) (λ h e _ a all. begun_after layout h e a all) h legal
 
 pub number_runs : (layout : Layout) (h : List Event) (k : ℕ) → IsLegal layout h → running h ≡ Some k → k < number_count layout
 number_runs layout h k legal is = begun_numbers layout h legal (length (ended h)) k is

@@ -1,11 +1,13 @@
 -- What the two seats of a worker add, put together.
-use Rattle.std.proofs.Common.{◌≡◌, ℕ, ◌+◌, Bool, true, false, cond, not, ◌||◌, ◌==◌, List, [], ◌∷◌, ◌++◌, length, sym, refl, ap, ◌∙◌, arith, append_assoc, length-append}
+use Rattle.std.proofs.Common.{◌≡◌, ℕ, ◌+◌, Bool, true, false, cond, not, ◌||◌, ◌==◌, List, [], ◌∷◌, ◌++◌, length, sym, refl, ap, ◌∙◌, arith, append_assoc}
+use Rattle.std.proofs.Common.{length-append}
 use Rattle.std.specs.Prelude.{filter}
 use Rattle.std.proofs.lemmas.List.{append-nil, append_cancel_left}
 use Rattle.std.proofs.lemmas.List.Elements.{filter-append}
 use Rattle.wq_words.specs.declared.event.Event.{Event}
 use Rattle.wq_words.specs.Seen.{owner_seat, seat_of, own, Grows}
-use Rattle.wq_worker.specs.Seats.{is_ours, Adds}
+use Rattle.wq_words.specs.Seen.{is_ours}
+use Rattle.wq_worker.specs.Seats.{Adds}
 
 module _ {A : Type 0} where
   left_step : (b c : Bool) (x : A) (ps os qs : List A) → (ps ≡ [] → os ≡ qs) → cond b (x ∷ ps) ps ≡ [] → cond (b || c) (x ∷ os) os ≡ cond c (x ∷ qs) qs
@@ -25,7 +27,8 @@ module _ {A : Type 0} where
   only_left p q [] is = refl
   only_left p q (x ∷ xs) is = right_step (p x) (q x) x (filter p xs) (filter (λ e. p e || q e) xs) (filter q xs) (only_left p q xs) is
 
-  rest_step : (b c : Bool) (x : A) (ps os qs : List A) → (qs ≡ [] → os ≡ ps) → cond c (x ∷ qs) qs ≡ [] → cond (not (b || c)) (x ∷ os) os ≡ cond (not b) (x ∷ ps) ps
+  rest_step : (b c : Bool) (x : A) (ps os qs : List A) → (qs ≡ [] → os ≡ ps) → cond c (x ∷ qs) qs ≡ []
+      → cond (not (b || c)) (x ∷ os) os ≡ cond (not b) (x ∷ ps) ps
   rest_step b true x ps os qs go is = absurd (cc)
   rest_step true false x ps os qs go is = go is
   rest_step false false x ps os qs go is = ap (λ (ys : List A). x ∷ ys) (go is)

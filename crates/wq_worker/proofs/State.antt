@@ -1,5 +1,5 @@
 -- A worker's parts after its steps.
-use Rattle.std.proofs.Common.{◌≡◌, ℕ, ◌<◌, ◌≤◌, Bool, true, false, cond, Option, Some, None, List, [], ◌∷◌, ◌++◌, length, refl, sym, ◌∙◌, ap}
+use Rattle.std.proofs.Common.{◌≡◌, ℕ, ◌<◌, ◌≤◌, arith, Bool, true, false, cond, Option, Some, None, List, [], ◌∷◌, ◌++◌, length, refl, sym, ◌∙◌, ap}
 use Rattle.std.specs.Prelude.{nat_lt}
 use Rattle.std.proofs.lemmas.Bool.{lt-ltb, le-ltb}
 use Rattle.std.proofs.lemmas.List.{append-nil}
@@ -8,30 +8,40 @@ use Rattle.wq_words.specs.declared.layout.Layout.{Layout}
 use Rattle.wq_words.specs.declared.event.Event.{Event}
 use Rattle.wq_words.specs.declared.event.Event.TheVariants.{Begin, End}
 use Rattle.wq_words.specs.History.{begun_by, begun, ended_by, ended, closed}
-use Rattle.wq_live.specs.Known.{Known}
+use Rattle.wq_live.specs.Known.{Known, IsSame}
 use Rattle.wq_live.specs.Batch.{next_of}
 use Rattle.wq_worker.specs.Seats.{taking_of, taking}
-use Rattle.wq_worker.specs.Pair.{Paired, Both, Advances}
-use Rattle.wq_worker.specs.State.{items_of, IsFit}
+use Rattle.wq_worker.specs.Pair.{Paired, Both, QueuesRest}
+use Rattle.wq_worker.specs.State.{items_among, AreWorkerParts}
 use Rattle.wq_worker.proofs.Owned.{IsQuiet, owner_of_both}
-use Rattle.wq_worker.proofs.Follow.{advance_stays, advance_layout, advance_pairs}
+use Rattle.wq_worker.proofs.Follow.{advance_stays, advance_layout, advance_pairs, advance_same}
+
+numbered_still : (s t : Known) → IsSame s t → s.number < s.layout.senders → t.number < t.layout.senders
+numbered_still s t same low = omega (arith, low, same.number_is, ap (λ (l : Layout). l.senders) same.layout_is)
 
 -- the log goes on as the begun numbers do
-pub fit_begun : (ks log more : List ℕ) (tries at : ℕ) (follow : List ℕ) (at' : ℕ) (follow' : List ℕ) (o s p t : Known) → IsFit log tries at follow o s → Paired p t → p.layout ≡ o.layout → begun p.seen ≡ begun o.seen ++ ks
-    → more ≡ log ++ items_of o.layout ks → at' ≤ length follow' → IsFit more tries at' follow' p t
-fit_begun ks log more tries at follow at' follow' o s p t fit pair size now ran low = record {
+pub fit_begun : (ks log more : List ℕ) (tries at : ℕ) (follow : List ℕ) (at' : ℕ) (follow' : List ℕ) (o s p t : Known)
+    → AreWorkerParts log tries at follow o s → Paired p t → IsSame s t → p.layout ≡ o.layout → begun p.seen ≡ begun o.seen ++ ks
+    → more ≡ log ++ items_among o.layout ks → at' ≤ length follow' → AreWorkerParts more tries at' follow' p t
+fit_begun ks log more tries at follow at' follow' o s p t fit pair same size now ran low = record {
   paired = pair;
+  numbered = numbered_still s t same fit.numbered;
   some_try = fit.some_try;
   within = low;
-  logged = ran ∙ (ap (λ (z : List ℕ). z ++ items_of o.layout ks) fit.logged ∙ (sym (filter-append (λ k. nat_lt k o.layout.items) (begun o.seen) ks) ∙ (ap (items_of o.layout) (sym now) ∙ ap (λ (z : Layout). items_of z (begun p.seen)) (sym size))));
+  logged = ran ∙ (ap (λ (z : List ℕ). z ++ items_among o.layout ks) fit.logged ∙
+      (sym (filter-append (λ k. nat_lt k o.layout.items) (begun o.seen) ks) ∙
+      (ap (items_among o.layout) (sym now) ∙ ap (λ (z : Layout). items_among z (begun p.seen)) (sym size))));
 }
 
-pub fit_still : (log : List ℕ) (tries at : ℕ) (follow : List ℕ) (at' : ℕ) (follow' : List ℕ) (o s p t : Known) → IsFit log tries at follow o s → Paired p t → p.layout ≡ o.layout → begun p.seen ≡ begun o.seen → at' ≤ length follow' → IsFit log tries at' follow' p t
-fit_still log tries at follow at' follow' o s p t fit pair size now low = record {
+pub fit_still : (log : List ℕ) (tries at : ℕ) (follow : List ℕ) (at' : ℕ) (follow' : List ℕ) (o s p t : Known)
+    → AreWorkerParts log tries at follow o s → Paired p t → IsSame s t → p.layout ≡ o.layout → begun p.seen ≡ begun o.seen → at' ≤ length follow'
+    → AreWorkerParts log tries at' follow' p t
+fit_still log tries at follow at' follow' o s p t fit pair same size now low = record {
   paired = pair;
+  numbered = numbered_still s t same fit.numbered;
   some_try = fit.some_try;
   within = low;
-  logged = fit.logged ∙ (ap (items_of o.layout) (sym now) ∙ ap (λ (z : Layout). items_of z (begun p.seen)) (sym size));
+  logged = fit.logged ∙ (ap (items_among o.layout) (sym now) ∙ ap (λ (z : Layout). items_among z (begun p.seen)) (sym size));
 }
 
 quiet_taking_of : (n : Option ℕ) (b : Bool) → IsQuiet (taking_of n b)
@@ -49,19 +59,24 @@ pub ended_taking : (h : List Event) (k : ℕ) → ended (taking h ++ Begin k ∷
 ended_taking h k = filter_map-append ended_by (taking h) (Begin k ∷ []) ∙ ap (λ (z : List ℕ). z ++ []) (quiet_taking h).ended_none
 
 pub begun_one : (k : ℕ) (o s p t : Known) → Both (taking o.seen ++ Begin k ∷ []) 0 o s p t → begun p.seen ≡ begun o.seen ++ k ∷ []
-begun_one k o s p t b = let a = owner_of_both s.number (taking o.seen ++ Begin k ∷ []) 0 o.seen p.seen b.adds in a.begun_is ∙ ap (λ (z : List ℕ). begun o.seen ++ z) (begun_taking o.seen k)
+begun_one k o s p t b =
+    let a = owner_of_both s.number (taking o.seen ++ Begin k ∷ []) 0 o.seen p.seen b.adds in
+    a.begun_is ∙ ap (λ (z : List ℕ). begun o.seen ++ z) (begun_taking o.seen k)
 
-pub items_of-item : (layout : Layout) (k : ℕ) → k < layout.items → items_of layout (k ∷ []) ≡ k ∷ []
-items_of-item layout k h = ap (λ (b : Bool). cond b (k ∷ []) []) (lt-ltb k layout.items h)
+pub items_among-item : (layout : Layout) (k : ℕ) → k < layout.items → items_among layout (k ∷ []) ≡ k ∷ []
+items_among-item layout k h = ap (λ (b : Bool). cond b (k ∷ []) []) (lt-ltb k layout.items h)
 
-pub items_of-other : (layout : Layout) (k : ℕ) → layout.items ≤ k → items_of layout (k ∷ []) ≡ []
-items_of-other layout k h = ap (λ (b : Bool). cond b (k ∷ []) []) (le-ltb k layout.items h)
+pub items_among-other : (layout : Layout) (k : ℕ) → layout.items ≤ k → items_among layout (k ∷ []) ≡ []
+items_among-other layout k h = ap (λ (b : Bool). cond b (k ∷ []) []) (le-ltb k layout.items h)
 
-pub advance_fits : (log : List ℕ) (tries at at' : ℕ) (follow ks js : List ℕ) (o s p t : Known) → IsFit log tries at follow o s → Advances tries ks js o s p t → at' ≤ length follow → IsFit log tries at' follow p t
+pub advance_fits : (log : List ℕ) (tries at at' : ℕ) (follow ks js : List ℕ) (o s p t : Known) → AreWorkerParts log tries at follow o s
+    → QueuesRest tries ks js o s p t → at' ≤ length follow → AreWorkerParts log tries at' follow p t
 advance_fits log tries at at' follow ks js o s p t fit a low =
-    fit_still log tries at follow at' follow o s p t fit (advance_pairs tries ks js o s p t a) (advance_layout tries ks js o s p t a) (advance_stays tries ks js o s p t a).begun_same low
+    fit_still log tries at follow at' follow o s p t fit (advance_pairs tries ks js o s p t a) (advance_same tries ks js o s p t a)
+    (advance_layout tries ks js o s p t a) (advance_stays tries ks js o s p t a).begun_same low
 
-pub fit_ended : (k : ℕ) (log : List ℕ) (tries at : ℕ) (follow : List ℕ) (o s p t : Known) → IsFit log tries at follow o s → Both (End k ∷ []) 0 o s p t → IsFit log tries at follow p t
+pub fit_ended : (k : ℕ) (log : List ℕ) (tries at : ℕ) (follow : List ℕ) (o s p t : Known) → AreWorkerParts log tries at follow o s
+    → Both (End k ∷ []) 0 o s p t → AreWorkerParts log tries at follow p t
 fit_ended k log tries at follow o s p t fit b =
     let a = owner_of_both s.number (End k ∷ []) 0 o.seen p.seen b.adds in
-    fit_still log tries at follow at follow o s p t fit b.paired b.owner.layout_is (a.begun_is ∙ append-nil (begun o.seen)) fit.within
+    fit_still log tries at follow at follow o s p t fit b.paired b.sender b.owner.layout_is (a.begun_is ∙ append-nil (begun o.seen)) fit.within

@@ -12,7 +12,7 @@ use Rattle.wq_worker.specs.declared.ran.Ran.{Ran}
 use Rattle.wq_worker.specs.declared.ran.Ran.TheVariants.{Item, Barrier, Stop, Nothing, Owing}
 use Rattle.wq_worker.specs.Seats.{Adds, taking}
 use Rattle.wq_worker.specs.Follow.{Follows, contended_of}
-use Rattle.wq_worker.specs.Pair.{Paired, Both, Advances, finished, contended}
+use Rattle.wq_worker.specs.Pair.{Paired, Both, QueuesRest, finished, contended}
 use Rattle.wq_worker.specs.State.{WorkerState, Moves}
 use Rattle.wq_worker.specs.Step.{IsKind, Starts, item, other, owed, Ends, ends, Owes, owes, Runs, Begins}
 use Rattle.wq_worker.proofs.Seats.{adds_on}
@@ -24,10 +24,12 @@ use Rattle.wq_worker.proofs.State.{quiet_taking, begun_taking, ended_taking}
 
 module _ {W : Type 0} where
   abbrev pub state_of : Known → Known → ℕ → List ℕ → W → WorkerState W
-  state_of o s tries left w = record { queue = o.queue; layout = o.layout; number = s.number; tries = tries; seen = o.seen; left = left; work = w }
+  state_of o s tries unqueued w = record { queue = o.queue; layout = o.layout; number = s.number; tries = tries; seen = o.seen; unqueued = unqueued; work = w }
 
-  pub moves_by : (es : List Event) (n tries : ℕ) (l l' : List ℕ) (w w' : W) (o s p t : Known) → Both es n o s p t → Moves es n (state_of o s tries l w) (state_of p t tries l' w')
-  moves_by es n tries l l' w w' o s p t b = record { queue = b.owner.queue_is; layout = b.owner.layout_is; number = b.sender.number_is; tries = refl; adds = b.adds; legal = b.paired.legal }
+  pub moves_by : (es : List Event) (n tries : ℕ) (l l' : List ℕ) (w w' : W) (o s p t : Known) → Both es n o s p t
+      → Moves es n (state_of o s tries l w) (state_of p t tries l' w')
+  moves_by es n tries l l' w w' o s p t b =
+      record { queue = b.owner.queue_is; layout = b.owner.layout_is; number = b.sender.number_is; tries = refl; adds = b.adds; legal = b.paired.legal }
 
   pub moves_on : (xs ys : List Event) (n m : ℕ) (a b c : WorkerState W) → Moves xs n a b → Moves ys m b c → Moves (xs ++ ys) (n + m) a c
   moves_on xs ys n m a b c p q = record {
@@ -40,33 +42,40 @@ module _ {W : Type 0} where
   }
 
 module _ {W : Type 0} (may : W → ℕ → List ℕ → W → Type 0) where
-  pub begins_by : (k tries : ℕ) (l l' : List ℕ) (w w' : W) (o s p t : Known) → Paired o s → ¬ IsRunning o.seen → Both (taking o.seen ++ Begin k ∷ []) 0 o s p t → (k < o.layout.items → may w k l' w') → (o.layout.items ≤ k → (l' ≡ []) × (w' ≡ w))
+  pub begins_by : (k tries : ℕ) (l l' : List ℕ) (w w' : W) (o s p t : Known) → Paired o s → ¬ IsRunning o.seen
+      → Both (taking o.seen ++ Begin k ∷ []) 0 o s p t → (k < o.layout.items → may w k l' w') → (o.layout.items ≤ k → (l' ≡ []) × (w' ≡ w))
       → Begins may (state_of o s tries l w) k (state_of p t tries l' w')
   begins_by k tries l l' w w' o s p t pair idle b ran none = record {
     moves = moves_by (taking o.seen ++ Begin k ∷ []) 0 tries l l' w w' o s p t b;
-    runs = runs_begun o.layout k (taking o.seen ++ Begin k ∷ []) o.seen p.seen pair.legal idle (begun_taking o.seen k) (ended_taking o.seen k) (owner_of_both s.number (taking o.seen ++ Begin k ∷ []) 0 o.seen p.seen b.adds);
+    runs = runs_begun o.layout k (taking o.seen ++ Begin k ∷ []) o.seen p.seen pair.legal idle (begun_taking o.seen k) (ended_taking o.seen k)
+        (owner_of_both s.number (taking o.seen ++ Begin k ∷ []) 0 o.seen p.seen b.adds);
     item = ran;
     other = none;
   }
 
-  told_at : (o s : Known) (ks : List ℕ) (es : List Event) → Paired o s → Follows s.layout.items s.number (closed o.seen) ks es → Follows o.layout.items s.number (closed o.seen) ks es
+  told_at : (o s : Known) (ks : List ℕ) (es : List Event) → Paired o s → Follows s.layout.items s.number (closed o.seen) ks es
+      → Follows o.layout.items s.number (closed o.seen) ks es
   told_at o s ks es pair t = subst (λ (z : Layout). Follows z.items s.number (closed o.seen) ks es) pair.layout t
 
-  pub advance_owes : (k tries at r : ℕ) (fs : List ℕ) (w : W) (o s p t : Known) → Paired o s → running o.seen ≡ Some k → r < length fs → Advances tries (drop at fs) (drop r fs) o s p t
+  pub advance_owes : (k tries at r : ℕ) (fs : List ℕ) (w : W) (o s p t : Known) → Paired o s → running o.seen ≡ Some k → r < length fs
+      → QueuesRest tries (drop at fs) (drop r fs) o s p t
       → Owes may (state_of o s tries (drop at fs) w) k (state_of p t tries (drop r fs) w)
-  advance_owes k tries at r fs w o s p t pair runs low (finished es none told b) = let e : length (drop r fs) ≡ 0 = ap (length {A = ℕ}) none in absurd (omega (arith, e, length-drop r fs))
+  advance_owes k tries at r fs w o s p t pair runs low (finished es none told b) =
+      let e : length (drop r fs) ≡ 0 = ap (length {A = ℕ}) none in absurd (omega (arith, e, length-drop r fs))
   advance_owes k tries at r fs w o s p t pair runs low (contended qs j more es split is small opens told b) =
       owes (drop at fs) qs j more [] es (owed runs refl refl refl) (split ∙ ap (λ (z : List ℕ). qs ++ z) is) is opens (told_at o s qs es pair told)
       (moves_by (es ++ contended_of s.number j) tries tries (drop at fs) (drop r fs) w w o s p t b)
       ((advance_stays tries (drop at fs) (drop r fs) o s p t (contended qs j more es split is small opens told b)).running_same ∙ runs)
 
-  pub advance_ends : (k tries at r : ℕ) (fs : List ℕ) (w : W) (o s p t q u : Known) → Paired o s → running o.seen ≡ Some k → length fs ≤ r → Advances tries (drop at fs) (drop r fs) o s p t → Both (End k ∷ []) 0 p t q u
+  pub advance_ends : (k tries at r : ℕ) (fs : List ℕ) (w : W) (o s p t q u : Known) → Paired o s → running o.seen ≡ Some k → length fs ≤ r
+      → QueuesRest tries (drop at fs) (drop r fs) o s p t → Both (End k ∷ []) 0 p t q u
       → Ends may (state_of o s tries (drop at fs) w) k (state_of q u tries (drop r fs) w)
   advance_ends k tries at r fs w o s p t q u pair runs high (finished es none told b) e =
       ends (drop at fs) [] es (owed runs refl refl refl) (told_at o s (drop at fs) es pair told)
       (moves_by (es ++ End k ∷ []) 0 tries (drop at fs) (drop r fs) w w o s q u (both_on es (End k ∷ []) 0 0 o s p t q u b e))
       (idle_ended p.layout k (End k ∷ []) p.seen q.seen b.paired.legal refl refl (owner_of_both t.number (End k ∷ []) 0 p.seen q.seen e.adds))
-  advance_ends k tries at r fs w o s p t q u pair runs high (contended qs j more es split is small opens told b) e = let none : drop r fs ≡ [] = drop_of_length-le fs high in absurd (cc)
+  advance_ends k tries at r fs w o s p t q u pair runs high (contended qs j more es split is small opens told b) e =
+      let none : drop r fs ≡ [] = drop_of_length-le fs high in absurd (cc)
 
   pub runs_kind : (k : ℕ) (r : Ran) (layout : Layout) (a b : WorkerState W) → layout ≡ a.layout → IsKind layout k r → Ends may a k b → Runs may r a b
   runs_kind k (Item j) layout a b same h e = (k, subst (λ (z : Layout). IsKind z k (Item j)) same h, e)
@@ -75,27 +84,36 @@ module _ {W : Type 0} (may : W → ℕ → List ℕ → W → Type 0) where
   runs_kind k Nothing layout a b same h e = absurd h
   runs_kind k (Owing j) layout a b same h e = absurd h
 
-  started : (k j : ℕ) (f : List ℕ) (v : W) (es : List Event) (a m : WorkerState W) → Begins may a k m → ¬ IsRunning a.seen → Starts may m j f v es → (k ≡ j) × (es ≡ []) × Starts may a j f v (taking a.seen ++ Begin k ∷ [])
+  started : (k j : ℕ) (f : List ℕ) (v : W) (es : List Event) (a m : WorkerState W) → Begins may a k m → ¬ IsRunning a.seen → Starts may m j f v es
+      → (k ≡ j) × (es ≡ []) × Starts may a j f v (taking a.seen ++ Begin k ∷ [])
   started k j f v es a m b idle (item none low h is) = absurd (none (runs_some m.seen k b.runs))
   started k j f v es a m b idle (other none high h i is) = absurd (none (runs_some m.seen k b.runs))
   started k j f v es a m b idle (owed runs left same is) =
-      let t = b.runs in let eq : k ≡ j = cc in let to = taking a.seen ++ Begin k ∷ [] in let shape : to ≡ taking a.seen ++ Begin j ∷ [] = ap (λ (z : ℕ). taking a.seen ++ Begin z ∷ []) eq in (
+      let t = b.runs in let eq : k ≡ j = cc in let to = taking a.seen ++ Begin k ∷ [] in
+      let shape : to ≡ taking a.seen ++ Begin j ∷ [] = ap (λ (z : ℕ). taking a.seen ++ Begin z ∷ []) eq in (
         eq,
         is,
         ⊎_elim
-            (λ (low : j < a.layout.items). let old : k < a.layout.items = omega (arith, eq) in item idle low (subst (λ (z : ℕ). may a.work z f v) eq (subst (λ (z : List ℕ × W). may a.work k z.0 z.1) (λ i. (sym left i, sym same i)) (b.item old))) shape)
-            (λ (high : a.layout.items ≤ j). let old : a.layout.items ≤ k = omega (arith, eq) in let none = b.other old in other idle high (left ∙ none.0) (same ∙ none.1) shape)
+            (λ (low : j < a.layout.items). let old : k < a.layout.items = omega (arith, eq) in item idle low
+            (subst (λ (z : ℕ). may a.work z f v) eq (subst (λ (z : List ℕ × W). may a.work k z.0 z.1) (λ i. (sym left i, sym same i)) (b.item old))) shape)
+            (λ (high : a.layout.items ≤ j). let old : a.layout.items ≤ k = omega (arith, eq) in let none = b.other old in other idle high
+            (left ∙ none.0) (same ∙ none.1) shape)
             (cases_lt j a.layout.items),
       )
 
   closed_still : (a m : WorkerState W) (k : ℕ) → Begins may a k m → closed m.seen ≡ closed a.seen
   closed_still a m k b =
       let o = owner_of_both a.number (taking a.seen ++ Begin k ∷ []) 0 a.seen m.seen b.moves.adds in
-      let n : count_by is_close m.seen ≡ count_by is_close a.seen = omega (arith, o.closes, count_by-append is_close (taking a.seen) (Begin k ∷ []), (quiet_taking a.seen).closes_none) in
+      let n : count_by is_close m.seen ≡ count_by is_close a.seen =
+      omega (arith, o.closes, count_by-append is_close (taking a.seen) (Begin k ∷ []), (quiet_taking a.seen).closes_none) in
       rw n refl
 
-  told_before : (a m : WorkerState W) (k : ℕ) (ks : List ℕ) (es : List Event) → Begins may a k m → Follows m.layout.items m.number (closed m.seen) ks es → Follows a.layout.items a.number (closed a.seen) ks es
-  told_before a m k ks es b t = subst (λ (z : Bool). Follows a.layout.items a.number z ks es) (closed_still a m k b) (subst (λ (z : ℕ). Follows a.layout.items z (closed m.seen) ks es) b.moves.number (subst (λ (z : Layout). Follows z.items m.number (closed m.seen) ks es) b.moves.layout t))
+  told_before : (a m : WorkerState W) (k : ℕ) (ks : List ℕ) (es : List Event) → Begins may a k m
+      → Follows m.layout.items m.number (closed m.seen) ks es → Follows a.layout.items a.number (closed a.seen) ks es
+  told_before a m k ks es b t =
+      subst (λ (z : Bool). Follows a.layout.items a.number z ks es) (closed_still a m k b)
+      (subst (λ (z : ℕ). Follows a.layout.items z (closed m.seen) ks es) b.moves.number
+      (subst (λ (z : Layout). Follows z.items m.number (closed m.seen) ks es) b.moves.layout t))
 
   ends_fresh : (k j : ℕ) (a m b : WorkerState W) → Begins may a k m → ¬ IsRunning a.seen → Ends may m j b → Ends may a j b
   ends_fresh k j a m b g idle (ends f es fs st told moved none) =
@@ -107,8 +125,10 @@ module _ {W : Type 0} (may : W → ℕ → List ℕ → W → Type 0) where
   owes_fresh k j a m b g idle (owes f qs i more es fs st split left opens told moved runs) =
       let s = started k j f b.work es a m g idle st in let to = taking a.seen ++ Begin k ∷ [] in
       let own : List Event = contended_of a.number i in
-      let rest1 : Moves (fs ++ contended_of m.number i) m.tries m b = subst (λ (z : List Event). Moves (z ++ (fs ++ contended_of m.number i)) m.tries m b) s.1 moved in
-      let rest : Moves (fs ++ own) a.tries m b = subst (λ (z : ℕ). Moves (fs ++ own) z m b) g.moves.tries (subst (λ (z : ℕ). Moves (fs ++ contended_of z i) m.tries m b) g.moves.number rest1) in
+      let rest1 : Moves (fs ++ contended_of m.number i) m.tries m b =
+      subst (λ (z : List Event). Moves (z ++ (fs ++ contended_of m.number i)) m.tries m b) s.1 moved in
+      let rest : Moves (fs ++ own) a.tries m b = subst (λ (z : ℕ). Moves (fs ++ own) z m b) g.moves.tries
+      (subst (λ (z : ℕ). Moves (fs ++ contended_of z i) m.tries m b) g.moves.number rest1) in
       owes f qs i more to fs s.2 split left (sym (closed_still a m k g) ∙ opens) (told_before a m k qs fs g told)
       (subst (λ (z : ℕ). Moves (to ++ (fs ++ own)) z a b) (omega arith) (moves_on to (fs ++ own) 0 a.tries a m b g.moves rest)) runs
 

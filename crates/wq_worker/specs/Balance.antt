@@ -1,14 +1,16 @@
 -- When the ledgers of a queue's senders balance.
-use Rattle.std.specs.Prelude.{◌≡◌, ◌≢◌, ℕ, ◌+◌, ◌-◌, ◌*◌, ◌^◌, ◌<◌, ◌≤◌, ◌==◌, ◌&&◌, not, if◌then◌else◌, List, [], ◌∷◌, length, filter, count_by, sum_by, nat_lt}
+use Rattle.std.specs.Prelude.{◌≡◌, ◌≢◌, ℕ, ◌+◌, ◌-◌, ◌*◌, ◌^◌, ◌<◌, ◌≤◌, ◌==◌, ◌&&◌, not, if◌then◌else◌, List, [], ◌∷◌, length, filter, count_by, sum_by}
+use Rattle.std.specs.Prelude.{nat_lt}
 use Rattle.wq_words.specs.History.{is_push, ended}
 use Rattle.wq_live.specs.declared.counts.SenderCounts.{SenderCounts}
 use Rattle.wq_live.specs.declared.counts.OwnerCounts.{OwnerCounts}
-use Rattle.wq_live.specs.Counts.{is_chain, is_chain_busy, owner_counts}
+use Rattle.wq_words.specs.Counting.{is_chain, is_chain_busy}
+use Rattle.wq_live.specs.Counts.{owner_counts}
 use Rattle.wq_worker.specs.declared.book.Ledger.{Ledger}
 use Rattle.wq_worker.specs.declared.totals.Totals.{Totals}
 use Rattle.wq_worker.specs.declared.balance.Unbalanced.{Unbalanced}
 use Rattle.wq_worker.specs.declared.balance.Unbalanced.TheVariants.{Missing, Twice, Saturated}
-use Rattle.wq_worker.specs.Book.{BookState, IsMade}
+use Rattle.wq_worker.specs.Book.{BookState, IsLedgerOf}
 
 abbrev pub largest : ℕ
 largest = 2 ^ 64 - 1
@@ -62,14 +64,15 @@ FaultsBelow ledgers seat n fault = (s : ℕ) × (s < n) × (s ≢ seat) × HaveO
 -- many as were executed; the other counts are what each sender had counted as it met the book, the worker's as the book was made.
 pub record Balances (book : BookState) (ledgers : List Ledger) (totals : Totals) : Type 0 where
   pub have_one : HaveOne ledgers book.own.number book.layout.senders
-  pub own_made : IsMade book.seen book.own
+  pub own_made : IsLedgerOf book.seen book.own
   pub own_whole : AreWhole book.own.counts
   pub owner_whole : AreOwnerWhole (owner_counts book.seen)
   pub queued_is : totals.queued ≡ count_by is_push book.seen
   pub chained_is : totals.chained ≡ count_by is_chain book.seen
   pub executed_is : totals.executed ≡ length (ended book.seen)
   pub balance : totals.queued + totals.chained ≡ totals.executed
-  pub pending_is : totals.pending ≡ met_total (λ c. c.pending) book.own.number book.layout.senders ledgers + (book.own.counts.pending + count_by is_chain_busy book.seen)
+  pub pending_is : totals.pending ≡ met_total (λ c. c.pending) book.own.number book.layout.senders ledgers
+      + (book.own.counts.pending + count_by is_chain_busy book.seen)
   pub closed_is : totals.closed ≡ met_total (λ c. c.closed) book.own.number book.layout.senders ledgers + book.own.counts.closed
   pub contended_is : totals.contended ≡ met_total (λ c. c.contended) book.own.number book.layout.senders ledgers + book.own.counts.contended
 
@@ -77,4 +80,5 @@ pub record Balances (book : BookState) (ledgers : List Ledger) (totals : Totals)
 -- is saturated.
 pub data IsUnbalanced (book : BookState) (ledgers : List Ledger) (fault : Unbalanced) : Type 0 where
   of_sender : FaultsBelow ledgers book.own.number book.layout.senders fault → IsUnbalanced book ledgers fault
-  of_worker : HaveOne ledgers book.own.number book.layout.senders → ¬ (AreWhole book.own.counts × AreOwnerWhole (owner_counts book.seen)) → fault ≡ Saturated book.own.number → IsUnbalanced book ledgers fault
+  of_worker : HaveOne ledgers book.own.number book.layout.senders → ¬ (AreWhole book.own.counts × AreOwnerWhole (owner_counts book.seen))
+      → fault ≡ Saturated book.own.number → IsUnbalanced book ledgers fault

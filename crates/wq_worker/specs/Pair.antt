@@ -51,7 +51,7 @@ BothQueue k tries is_settled o s p t =
 
 -- The numbers ks are to be queued, and js are left: none, or the queueing of the first of them was contended, with at least
 -- tries events of others.
-pub data Advances (tries : ℕ) (ks js : List ℕ) (o s p t : Known) : Type 0 where
-  finished : (es : List Event) → js ≡ [] → Follows s.layout.items s.number (closed o.seen) ks es → Both es 0 o s p t → Advances tries ks js o s p t
+pub data QueuesRest (tries : ℕ) (ks js : List ℕ) (o s p t : Known) : Type 0 where
+  finished : (es : List Event) → js ≡ [] → Follows s.layout.items s.number (closed o.seen) ks es → Both es 0 o s p t → QueuesRest tries ks js o s p t
   contended : (qs : List ℕ) (k : ℕ) (more : List ℕ) (es : List Event) → ks ≡ qs ++ js → js ≡ k ∷ more → k < s.layout.items → closed o.seen ≡ false
-      → Follows s.layout.items s.number (closed o.seen) qs es → Both (es ++ contended_of s.number k) tries o s p t → Advances tries ks js o s p t
+      → Follows s.layout.items s.number (closed o.seen) qs es → Both (es ++ contended_of s.number k) tries o s p t → QueuesRest tries ks js o s p t

@@ -65,4 +65,4 @@ module _ {W : Type 0} (may : W → ℕ → List ℕ → W → Type 0) where
 -- the queue is closed where it was open
 pub data Closes {W : Type 0} (a b : WorkerState W) : Type 0 where
   was_closed : IsClosed a.seen → b ≡ a → Closes a b
-  closes : ¬ IsClosed a.seen → Moves (Close ∷ []) 0 a b → b.work ≡ a.work → b.left ≡ a.left → Closes a b
+  closes : ¬ IsClosed a.seen → Moves (Close ∷ []) 0 a b → b.work ≡ a.work → b.unqueued ≡ a.unqueued → Closes a b

@@ -3,12 +3,8 @@ use Rattle.std.specs.Prelude.{◌≡◌, ℕ, ◌≤◌, Bool, true, false, not,
 use Rattle.wq_words.specs.declared.event.Event.{Event}
 use Rattle.wq_words.specs.declared.event.Event.TheVariants.{Take}
 use Rattle.wq_words.specs.History.{closed, next, IsClosed}
-use Rattle.wq_words.specs.Seen.{owner_seat, seat_of, own}
+use Rattle.wq_words.specs.Seen.{owner_seat, own, is_ours}
 use Rattle.wq_live.specs.Batch.{next_of}
-
--- the event is of the sender s or of the owner
-abbrev pub is_ours : ℕ → Event → Bool
-is_ours s e = (seat_of e == s) || (seat_of e == owner_seat)
 
 -- What is seen goes on from v to w. In what came new the events of the sender s and of the owner are xs, in this order, and
 -- at least n are of other seats.

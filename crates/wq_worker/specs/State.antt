@@ -17,17 +17,24 @@ pub record WorkerState (W : Type 0) : Type 0 where
   pub number : ℕ
   pub tries : ℕ
   pub seen : List Event
-  pub left : List ℕ
+  pub unqueued : List ℕ
   pub work : W
 
 -- the items among the numbers, without barriers and the stop item
-abbrev pub items_of : Layout → List ℕ → List ℕ
-items_of layout ks = filter (λ k. nat_lt k layout.items) ks
+abbrev pub items_among : Layout → List ℕ → List ℕ
+items_among layout ks = filter (λ k. nat_lt k layout.items) ks
 
 -- a worker of this owner, this sender and this work, with so many tries, which has nothing left to queue
 abbrev pub IsMadeOf : {W : Type 0} → Known → Known → W → ℕ → WorkerState W → Type 0
 IsMadeOf owner sender work tries w =
-    (w.queue ≡ owner.queue) × (w.layout ≡ owner.layout) × (w.number ≡ sender.number) × (w.tries ≡ tries) × (w.left ≡ []) × (w.work ≡ work)
+    (w.queue ≡ owner.queue) × (w.layout ≡ owner.layout) × (w.number ≡ sender.number) × (w.tries ≡ tries) × (w.unqueued ≡ []) × (w.work ≡ work)
+
+-- it is the same worker
+pub record IsSameWorker {W : Type 0} (a b : WorkerState W) : Type 0 where
+  pub queue_is : b.queue ≡ a.queue
+  pub layout_is : b.layout ≡ a.layout
+  pub number_is : b.number ≡ a.number
+  pub tries_is : b.tries ≡ a.tries
 
 -- it is the same worker, whose two seats added the events xs, in this order, and at least n came of other seats
 pub record Moves {W : Type 0} (xs : List Event) (n : ℕ) (a b : WorkerState W) : Type 0 where
@@ -38,9 +45,10 @@ pub record Moves {W : Type 0} (xs : List Event) (n : ℕ) (a b : WorkerState W) 
   pub adds : Adds a.number xs n a.seen b.seen
   pub legal : IsLegal b.layout b.seen
 
--- what holds of a worker's parts: the work has run the items that have begun
-pub record IsFit (log : List ℕ) (tries : ℕ) (at : ℕ) (follow : List ℕ) (o s : Known) : Type 0 where
+-- what holds of a worker's parts: its number is below the senders, and the work has run the items that have begun
+pub record AreWorkerParts (log : List ℕ) (tries : ℕ) (at : ℕ) (follow : List ℕ) (o s : Known) : Type 0 where
   pub paired : Paired o s
+  pub numbered : s.number < s.layout.senders
   pub some_try : 0 < tries
   pub within : at ≤ length follow
-  pub logged : log ≡ items_of o.layout (begun o.seen)
+  pub logged : log ≡ items_among o.layout (begun o.seen)

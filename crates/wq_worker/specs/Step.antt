@@ -29,7 +29,7 @@ module _ {W : Type 0} (may : W → ℕ → List ℕ → W → Type 0) where
   pub data Starts (a : WorkerState W) (k : ℕ) (f : List ℕ) (v : W) (es : List Event) : Type 0 where
     item : ¬ IsRunning a.seen → k < a.layout.items → may a.work k f v → es ≡ taking a.seen ++ Begin k ∷ [] → Starts a k f v es
     other : ¬ IsRunning a.seen → a.layout.items ≤ k → f ≡ [] → v ≡ a.work → es ≡ taking a.seen ++ Begin k ∷ [] → Starts a k f v es
-    owed : running a.seen ≡ Some k → f ≡ a.left → v ≡ a.work → es ≡ [] → Starts a k f v es
+    owed : running a.seen ≡ Some k → f ≡ a.unqueued → v ≡ a.work → es ≡ [] → Starts a k f v es
 
   -- the execution of k ended, and all that it asked for was queued before
   pub data Ends (a : WorkerState W) (k : ℕ) (b : WorkerState W) : Type 0 where
@@ -38,7 +38,7 @@ module _ {W : Type 0} (may : W → ℕ → List ℕ → W → Type 0) where
 
   -- the execution of k is owed: the queueing of j was contended, and the list from j on is left
   pub data Owes (a : WorkerState W) (k : ℕ) (b : WorkerState W) : Type 0 where
-    owes : (f qs : List ℕ) (j : ℕ) (more : List ℕ) (es fs : List Event) → Starts a k f b.work es → f ≡ qs ++ j ∷ more → b.left ≡ j ∷ more
+    owes : (f qs : List ℕ) (j : ℕ) (more : List ℕ) (es fs : List Event) → Starts a k f b.work es → f ≡ qs ++ j ∷ more → b.unqueued ≡ j ∷ more
         → closed a.seen ≡ false → Follows a.layout.items a.number (closed a.seen) qs fs
         → Moves (es ++ (fs ++ contended_of a.number j)) a.tries a b → running b.seen ≡ Some k → Owes a k b
 
@@ -52,5 +52,5 @@ module _ {W : Type 0} (may : W → ℕ → List ℕ → W → Type 0) where
   pub record Begins (a : WorkerState W) (k : ℕ) (b : WorkerState W) : Type 0 where
     pub moves : Moves (taking a.seen ++ Begin k ∷ []) 0 a b
     pub runs : running b.seen ≡ Some k
-    pub item : k < a.layout.items → may a.work k b.left b.work
-    pub other : a.layout.items ≤ k → (b.left ≡ []) × (b.work ≡ a.work)
+    pub item : k < a.layout.items → may a.work k b.unqueued b.work
+    pub other : a.layout.items ≤ k → (b.unqueued ≡ []) × (b.work ≡ a.work)

@@ -1,9 +1,11 @@
 //! What the senders of a queue that has run to the end have counted.
 ghost use Rattle.std.specs.Prelude.{◌≡◌, [], All, MatchResult};
+ghost use Rattle.wq_words.specs.Legal.{IsLegal, IsComplete};
+ghost use Rattle.wq_words.specs.Headline.{KeepsHeadline};
 ghost use Rattle.wq_words.specs.Seen.{owner_seat, Grows};
 ghost use Rattle.wq_live.specs.Known.{Sees};
 ghost use Rattle.wq_live.specs.Counts.{sender_counts};
-ghost use Rattle.wq_worker.specs.Book.{IsMade, IsSettled};
+ghost use Rattle.wq_worker.specs.Book.{IsLedgerOf, IsSettled};
 ghost use Rattle.wq_worker.specs.Balance.{Balances, IsUnbalanced};
 
 use crate::balance::{Unbalanced, is_owner_whole, is_whole, sum_met};
@@ -55,16 +57,27 @@ impl Book {
         Book { owner, own }
     }
 
+    /// What its owner has seen is a legal history that has run to the end, so it keeps the headline: what was accepted was
+    /// executed in its order, once, and one at a time.
+    pub fn legal(&self)
+        ensures legal { IsLegal self.now.layout self.now.seen }
+        ensures complete { IsComplete self.now.seen }
+        ensures headline { KeepsHeadline self.now.seen }
+    {
+        let _ = &self.owner;
+    }
+
     /// The sender meets the owner, so that all that it queued is in the book. Answers what it has counted.
     pub fn meet(&mut self, sender: &mut Sender) -> Ledger
         requires { sender.old.queue ≡ self.old.queue }
-        ensures made { IsMade self.new.seen result }
+        ensures made { IsLedgerOf self.new.seen result }
         ensures number { result.number ≡ sender.old.number }
         ensures counts { result.counts ≡ sender_counts sender.new.number sender.new.seen }
-        ensures kept { (ledger : Ledger) → IsMade self.old.seen ledger → IsMade self.new.seen ledger }
+        ensures kept { (ledger : Ledger) → IsLedgerOf self.old.seen ledger → IsLedgerOf self.new.seen ledger }
         ensures same { (self.new.queue ≡ self.old.queue) × (self.new.layout ≡ self.old.layout) × (self.new.own ≡ self.old.own) }
         ensures owner { Grows owner_seat [] 0 self.old.seen self.new.seen }
         ensures sender { Sees [] 0 sender.old sender.new }
+        ensures layout { sender.old.layout ≡ self.old.layout }
         ensures both { sender.new.seen ≡ self.new.seen }
     {
         sender.meet_owner(&mut self.owner);
@@ -73,7 +86,7 @@ impl Book {
 
     /// The sums of all counts, where each sender but the worker's has one ledger of this book and no count is saturated.
     pub fn balance(&self, ledgers: &[Ledger]) -> Result<Totals, Unbalanced>
-        requires { All (IsMade self.now.seen) ledgers.now }
+        requires { All (IsLedgerOf self.now.seen) ledgers.now }
         ensures { MatchResult result (Balances self.now ledgers.now) (IsUnbalanced self.now ledgers.now) }
     {
         let own = self.own;

@@ -7,8 +7,6 @@ mod book;
 mod drained;
 mod ran;
 mod steps;
-#[cfg(test)]
-mod tests;
 mod totals;
 mod work;
 mod worker;

@@ -7,7 +7,7 @@ ghost use Rattle.wq_words.specs.Seen.{owner_seat};
 ghost use Rattle.wq_live.specs.Known.{Sees};
 ghost use Rattle.wq_live.specs.Batch.{next_of};
 ghost use Rattle.wq_worker.specs.Seats.{taking, NothingWaits};
-ghost use Rattle.wq_worker.specs.Pair.{settled, Paired, Both, BothFindNothing, BothBegin, BothQueue, Advances};
+ghost use Rattle.wq_worker.specs.Pair.{settled, Paired, Both, BothFindNothing, BothBegin, BothQueue, QueuesRest};
 
 use wq_live::{Answer, Owner, Sender};
 
@@ -94,7 +94,7 @@ pub(crate) fn queue_rest(
     requires tries { 0 < tries }
     requires from { from ≤ length follow.now }
     ensures within { result ≤ length follow.now }
-    ensures queued { Advances tries (drop from follow.now) (drop result follow.now) owner.old sender.old owner.new sender.new }
+    ensures queued { QueuesRest tries (drop from follow.now) (drop result follow.now) owner.old sender.old owner.new sender.new }
 {
     let mut at = from;
     while at < follow.len() {

@@ -3,15 +3,16 @@ ghost use Rattle.std.specs.Prelude.{◌≡◌, ◌+◌, ◌<◌, Some, None, [],
 ghost use Rattle.std.specs.Fn.{FnOnceTakesAtMut, FnOnceReturnsAtMut};
 ghost use Rattle.wq_words.specs.declared.event.Event.TheVariants.{Close};
 ghost use Rattle.wq_words.specs.History.{accepted, begun, ended, closed, running, IsRunning, IsClosed};
-ghost use Rattle.wq_words.specs.Seen.{owner_seat, own, Grows};
+ghost use Rattle.wq_words.specs.Seen.{owner_seat, Grows};
 ghost use Rattle.wq_live.specs.Known.{Sees};
 ghost use Rattle.wq_live.specs.Batch.{TakesAll};
 ghost use Rattle.wq_words.specs.Legal.{IsLegal, IsComplete};
-ghost use Rattle.wq_worker.specs.State.{items_of, Moves, IsMadeOf};
+ghost use Rattle.wq_words.specs.Headline.{KeepsHeadline};
+ghost use Rattle.wq_worker.specs.State.{items_among, IsSameWorker, Moves, IsMadeOf};
 ghost use Rattle.wq_worker.specs.Step.{Runs, FindsNothing, Begins};
 ghost use Rattle.wq_worker.specs.Totals.{own_totals};
 ghost use Rattle.wq_worker.specs.Rows.{RunsSome, Drains, Serves, Closes};
-ghost use Rattle.wq_worker.specs.Book.{IsBookOf, Destroys, Leaves};
+ghost use Rattle.wq_worker.specs.Book.{IsBookOf, Destroys, LeavesUnfinished};
 
 use crate::book::{Book, Ledger};
 use crate::drained::{Drained, Unfinished, left_of};
@@ -37,22 +38,22 @@ pub struct Worker<W: Work> {
 
 impl<W: Work> Model for Worker<W> {
     ghost use Rattle.std.specs.Prelude.{drop};
-    ghost use Rattle.wq_worker.specs.State.{WorkerState, IsFit};
+    ghost use Rattle.wq_worker.specs.State.{WorkerState, AreWorkerParts};
 
     ghost Value = { WorkerState W };
 
-    ghost view = { λ w. record { queue = w.owner.queue; layout = w.owner.layout; number = w.sender.number; tries = w.tries; seen = w.owner.seen; left = drop w.at w.follow.items; work = w.work } };
+    ghost view = { λ w. record { queue = w.owner.queue; layout = w.owner.layout; number = w.sender.number; tries = w.tries; seen = w.owner.seen; unqueued = drop w.at w.follow.items; work = w.work } };
 
-    ghost invariant = { λ w. IsFit (W.log w.work) w.tries w.at w.follow.items w.owner w.sender };
+    ghost invariant = { λ w. AreWorkerParts (W.log w.work) w.tries w.at w.follow.items w.owner w.sender };
 }
 
 impl<W: Work> Worker<W> {
-    /// A worker of an owner that has taken nothing and a work that has run nothing. It queues what runs ask for by this
+    /// A worker of an owner that has begun nothing and a work that has run nothing. It queues what runs ask for by this
     /// sender, with so many tries.
     pub fn new(mut owner: Owner, mut sender: Sender, work: W, tries: u32) -> Worker<W>
         requires one { sender.queue ≡ owner.queue }
         requires tries { 0 < tries }
-        requires untouched { own owner_seat owner.seen ≡ [] }
+        requires unbegun { begun owner.seen ≡ [] }
         requires unrun { W.log work ≡ [] }
         ensures parts { IsMadeOf owner sender work tries result }
         ensures owner { Grows owner_seat [] 0 owner.seen result.seen }
@@ -108,11 +109,36 @@ impl<W: Work> Worker<W> {
         Ran::of(self.owner.layout(), number)
     }
 
+    /// What the worker has seen is a legal history, so it keeps the headline: what was accepted is executed in its order, once,
+    /// and one at a time.
+    pub fn legal(&self)
+        ensures legal { IsLegal self.now.layout self.now.seen }
+        ensures headline { KeepsHeadline self.now.seen }
+    {
+        let _ = &self.owner;
+    }
+
+    /// The work has run the items that have begun, in this order.
+    pub fn logged(&self)
+        ensures { W.log self.now.work ≡ items_among self.now.layout (begun self.now.seen) }
+    {
+        let _ = &self.owner;
+    }
+
+    /// The worker's sender is one of its queue's.
+    pub fn seated(&self)
+        ensures { self.now.number < self.now.layout.senders }
+    {
+        let _ = &self.owner;
+    }
+
     /// Executes the oldest number, after a take where nothing taken waits and the queue is open. What the work asks for is
     /// queued before the execution ends, by the worker's sender, or chained by the owner once the queue is closed. Where that
     /// is contended the execution is owed, and the next call goes on with it.
     pub fn run_one(&mut self) -> Ran
-        ensures { Runs W.may result self.old self.new }
+        ensures runs { Runs W.may result self.old self.new }
+        ensures same { IsSameWorker self.old self.new }
+        ensures legal { IsLegal self.new.layout self.new.seen }
     {
         if let Some(number) = self.owner.running() {
             return self.finish(number);
@@ -126,8 +152,11 @@ impl<W: Work> Worker<W> {
     /// Executes up to so many numbers, and answers how many executions ended. It stops at the limit, after the stop item,
     /// where nothing waits, or where an execution is owed.
     pub fn run_some(&mut self, limit: u32) -> u32
-        ensures { RunsSome W.may limit result self.old self.new }
+        ensures runs { RunsSome W.may limit result self.old self.new }
+        ensures same { IsSameWorker self.old self.new }
+        ensures legal { IsLegal self.new.layout self.new.seen }
     {
+        self.legal();
         for done in 0..limit {
             match self.run_one() {
                 Ran::Item(_) => {}
@@ -143,7 +172,7 @@ impl<W: Work> Worker<W> {
     /// Closes the queue, takes all that stands on the list, and answers how many that is.
     pub fn close(&mut self) -> u32
         requires open { ¬ IsClosed self.old.seen }
-        ensures work { (self.new.work ≡ self.old.work) × (self.new.left ≡ self.old.left) }
+        ensures work { (self.new.work ≡ self.old.work) × (self.new.unqueued ≡ self.old.unqueued) }
         ensures events { Moves (Close ∷ []) 0 self.old self.new }
         ensures takes { TakesAll Close result self.new.seen }
     {
@@ -156,7 +185,7 @@ impl<W: Work> Worker<W> {
     pub fn is_closed(&self) -> bool
         ensures closed { result ≡ closed self.now.seen }
         ensures legal { IsLegal self.now.layout self.now.seen }
-        ensures logged { W.log self.now.work ≡ items_of self.now.layout (begun self.now.seen) }
+        ensures logged { W.log self.now.work ≡ items_among self.now.layout (begun self.now.seen) }
     {
         self.owner.is_closed()
     }
@@ -174,9 +203,10 @@ impl<W: Work> Worker<W> {
     /// The sender and both seats of the worker meet: afterwards each has seen all that they had seen.
     pub fn meet(&mut self, sender: &mut Sender)
         requires { sender.old.queue ≡ self.old.queue }
-        ensures work { (self.new.work ≡ self.old.work) × (self.new.left ≡ self.old.left) }
+        ensures work { (self.new.work ≡ self.old.work) × (self.new.unqueued ≡ self.old.unqueued) }
         ensures worker { Moves [] 0 self.old self.new }
         ensures sender { Sees [] 0 sender.old sender.new }
+        ensures layout { sender.old.layout ≡ self.old.layout }
         ensures both { sender.new.seen ≡ self.new.seen }
     {
         sender.meet_both(&mut self.sender, &mut self.owner);
@@ -200,8 +230,11 @@ impl<W: Work> Worker<W> {
     /// Executes until nothing is left of a closed queue, or so many executions have ended (`drain_workqueue`).
     pub fn drain(&mut self, limit: u32) -> Drained
         requires { IsClosed self.old.seen }
-        ensures { Drains W.may limit result self.old self.new }
+        ensures drains { Drains W.may limit result self.old self.new }
+        ensures same { IsSameWorker self.old self.new }
+        ensures legal { IsLegal self.new.layout self.new.seen }
     {
+        self.legal();
         for _done in 0..limit {
             if self.left() == 0 {
                 return Drained::Empty;
@@ -219,7 +252,9 @@ impl<W: Work> Worker<W> {
     /// where an execution is owed.
     pub fn serve<R: Wait>(&mut self, rt: &R, parker: &Parker)
         requires open { ¬ IsClosed self.old.seen }
-        ensures { Serves W.may self.old self.new }
+        ensures serves { Serves W.may self.old self.new }
+        ensures same { IsSameWorker self.old self.new }
+        ensures legal { IsLegal self.new.layout self.new.seen }
     {
         for _ in rt.forever() {
             match self.run_one() {
@@ -238,7 +273,7 @@ impl<W: Work> Worker<W> {
         requires { IsComplete self.seen }
         ensures work { result.0 ≡ self.work }
         ensures book { IsBookOf self result.1 }
-        ensures logged { W.log result.0 ≡ items_of self.layout (accepted self.seen) }
+        ensures logged { W.log result.0 ≡ items_among self.layout (accepted self.seen) }
     {
         let Worker {
             owner,
@@ -266,7 +301,7 @@ impl<W: Work> Worker<W> {
     /// Closes the queue where it is open, executes what is left, at most so many, and gives the work back with the book
     /// (`destroy_workqueue`). Where more is left it gives the worker back.
     pub fn destroy(mut self, limit: u32) -> Result<(W, Book), Unfinished<W>>
-        ensures { MatchResult result (λ done. Destroys W.log W.may limit self done.0 done.1) (λ unfinished. Leaves W.log W.may limit self unfinished.worker unfinished.left) }
+        ensures { MatchResult result (λ done. Destroys W.log W.may limit self done.0 done.1) (λ unfinished. LeavesUnfinished W.log W.may limit self unfinished.worker unfinished.left) }
     {
         self.close_where_open();
         match self.drain(limit) {

@@ -3,7 +3,7 @@ use Rattle.std.specs.Prelude.{◌≡◌, ℕ, List, take, Option}
 use Rattle.std.specs.Io.KnownBytes.{Appends}
 use Rattle.wq_race.specs.declared.plan.Plan.{Plan}
 use Rattle.wq_race.specs.declared.outcome.Outcome.{Outcome}
-use Rattle.wq_race.specs.PlanText.{Spells, IsRefused}
+use Rattle.wq_race.specs.PlanText.{SpellsPlan, IsNoPlan}
 use Rattle.wq_race.specs.Outcome.{outcome_line, IsWhole}
 use Rattle.wqrun.specs.declared.failure.Failure.{Failure}
 use Rattle.wqrun.specs.declared.failure.Failure.TheVariants as failure
@@ -12,14 +12,14 @@ use Rattle.wqrun.specs.declared.failure.Failure.TheVariants as failure
 -- and that balances.
 pub record Races (text line : List ℕ) : Type 0 where
   pub plan : Plan
-  pub spells : Spells text plan
+  pub spells : SpellsPlan text plan
   pub outcome : Outcome
   pub whole : IsWhole plan outcome
   pub line_is : line ≡ outcome_line outcome
 
 -- the text has no outcome: it is refused for this, or memory or a thread was wanting
 abbrev pub HasNoRace : List ℕ → Failure → Type 0
-HasNoRace text (failure.RefusedPlan refusal) = IsRefused text refusal
+HasNoRace text (failure.RefusedPlan refusal) = IsNoPlan text refusal
 HasNoRace text (failure.Refused refusal) = ⊥
 HasNoRace text failure.Unreadable = ⊥
 HasNoRace text failure.Unwritable = ⊥

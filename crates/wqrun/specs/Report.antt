@@ -3,7 +3,7 @@ use Rattle.std.specs.Prelude.{◌≡◌, ℕ, List, take, Option}
 use Rattle.std.specs.Io.KnownBytes.{Appends}
 use Rattle.wq_text.specs.declared.script.Script.{Script}
 use Rattle.wq_text.specs.Script.{layout_of, commands_of}
-use Rattle.wq_plain.specs.Commands.{output_of}
+use Rattle.wq_meaning.specs.Commands.{output_of}
 use Rattle.wq_text.specs.Keyword.{script_line}
 use Rattle.wq_text.specs.Text.{Spells, IsRefusal}
 use Rattle.wqrun.specs.declared.failure.Failure.{Failure}

@@ -5,7 +5,7 @@ use Rattle.wq_text.specs.declared.schedule.Schedule.{Schedule}
 use Rattle.wq_text.specs.Schedule.{schedule_layout, turns_of}
 use Rattle.wq_text.specs.Text.{Spells, IsRefusal}
 use Rattle.wq_text.specs.Turn.{schedule_line}
-use Rattle.wq_plain.specs.ScheduleOutput.{IsScheduleOutput}
+use Rattle.wq_meaning.specs.ScheduleOutput.{IsScheduleOutput}
 use Rattle.wqrun.specs.declared.failure.Failure.{Failure}
 use Rattle.wqrun.specs.declared.failure.Failure.TheVariants as failure
 use Rattle.wqrun.specs.Report.{text_read}

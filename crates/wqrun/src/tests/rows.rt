@@ -73,19 +73,8 @@ fn check_reports<R: Abort + AllocGlobal>(rt: &R, rows: &[(&str, &str)]) -> Resul
         assert_eq!(rt; got.status, 0, "{commands}");
         assert_eq!(rt; got.output.as_slice(), want.as_bytes(), "{commands}");
         assert!(rt; got.faults.is_empty(), "{commands}");
-        assert_eq!(rt;
-            run_plainly(alloc, text.as_bytes())?.as_slice(),
-            want.as_bytes(),
-            "{commands}"
-        );
     }
     Ok(())
-}
-
-/// The report of the plain engine, which runs no queue that threads could share.
-fn run_plainly(alloc: Global, text: &[u8]) -> Result<Vec<u8>, Fail> {
-    let script = parse(alloc, text)?;
-    Ok(wq_plain::run(alloc, &script)?)
 }
 
 /// Items that follow, flushes, drains and delays.

@@ -16,29 +16,55 @@ not_err (Err y) e = absurd (false≢true (sym e))
 
 pub invariant_of-sender : goal.invariant_of-sender
 invariant_of-sender c = let g = c.into_iter-chair-iterator.ensures.into_iter_gives in
-    let turn = YieldsList-turn (YieldsList-from_vec {s = c.into_iter-chair-iterator.result} c.args.seats.items g.0 (g.1 ∙ c.args.seats.ok.0)) c.loop-chair.yielded c.loop-chair.chair-iterator c.loop-chair.yielded_by c.next.result c.next.new.self c.in-Some.chair c.in-Some.is c.next.ensures.steps in
+    let turn = YieldsList-turn
+    (YieldsList-from_vec {s = c.into_iter-chair-iterator.result} c.args.seats.items g.0 (g.1 ∙ c.args.seats.ok.0)) c.loop-chair.yielded
+    c.loop-chair.chair-iterator c.loop-chair.yielded_by c.next.result c.next.new.self c.in-Some.chair c.in-Some.is c.next.ensures.steps in
     let q = c.requires.seats.0 in
-    sends_new _ q (chair_at q c.args.layout c.args.layout.senders c.args.seats.items (length c.loop-chair.yielded) c.loop-chair.number c.in-Some.chair c.requires.seats.1 c.loop-chair.invariant.0 turn) refl
+    sends_new _ q
+    (chair_at q c.args.layout c.args.layout.senders c.args.seats.items
+    (length c.loop-chair.yielded) c.loop-chair.number c.in-Some.chair c.requires.seats.1 c.loop-chair.invariant.0 turn) refl
 
 pub overflow_add-number : goal.overflow_add-number
 overflow_add-number c = let g = c.into_iter-chair-iterator.ensures.into_iter_gives in
-    let turn = YieldsList-turn (YieldsList-from_vec {s = c.into_iter-chair-iterator.result} c.args.seats.items g.0 (g.1 ∙ c.args.seats.ok.0)) c.loop-chair.yielded c.loop-chair.chair-iterator c.loop-chair.yielded_by c.next.result c.next.new.self c.in-Some.chair c.in-Some.is c.next.ensures.steps in
+    let turn = YieldsList-turn
+    (YieldsList-from_vec {s = c.into_iter-chair-iterator.result} c.args.seats.items g.0 (g.1 ∙ c.args.seats.ok.0)) c.loop-chair.yielded
+    c.loop-chair.chair-iterator c.loop-chair.yielded_by c.next.result c.next.new.self c.in-Some.chair c.in-Some.is c.next.ensures.steps in
     let few = c.args.layout.in_limits.2.1 in
-    omega (arith, few, turn.0, c.loop-chair.invariant.0, ap (λ (xs : List Standing). length xs) c.requires.seats.1, length-sender_chairs c.requires.seats.0 c.args.layout c.args.layout.senders)
+    omega (
+      arith,
+      few,
+      turn.0,
+      c.loop-chair.invariant.0,
+      ap (λ (xs : List Standing). length xs) c.requires.seats.1,
+      length-sender_chairs c.requires.seats.0 c.args.layout c.args.layout.senders,
+    )
 
 pub loop-chair-preserved : goal.loop-chair-preserved
 loop-chair-preserved c = let g = c.into_iter-chair-iterator.ensures.into_iter_gives in let l = c.loop-chair in
-    let turn = YieldsList-turn (YieldsList-from_vec {s = c.into_iter-chair-iterator.result} c.args.seats.items g.0 (g.1 ∙ c.args.seats.ok.0)) l.yielded l.chair-iterator l.yielded_by c.next.result c.next.new.self c.in-Some.chair c.in-Some.is c.next.ensures.steps in
-    let s : Inside = record { chair = c.in-Some.chair; layout = c.args.layout; number = l.number; counts = record { queued = 0; pending = 0; closed = 0; contended = 0 } } in
+    let turn = YieldsList-turn
+    (YieldsList-from_vec {s = c.into_iter-chair-iterator.result} c.args.seats.items g.0 (g.1 ∙ c.args.seats.ok.0)) l.yielded l.chair-iterator
+    l.yielded_by c.next.result c.next.new.self c.in-Some.chair c.in-Some.is c.next.ensures.steps in
+    let s : Inside = record
+    { chair = c.in-Some.chair; layout = c.args.layout; number = l.number; counts = record { queued = 0; pending = 0; closed = 0; contended = 0 } } in
     let failed = c.is_err.ensures.value in let no : c.is_err.result ≡ false = c.if-is_err.false in
     let ok : is_ok c.push.result ≡ true = not_err c.push.result (sym failed ∙ no) in (
       omega (arith, l.invariant.0, length-append l.yielded (c.in-Some.chair ∷ [])),
-      λ q is. let view = sender_view_new s q (chair_at q c.args.layout c.args.layout.senders c.args.seats.items (length l.yielded) l.number c.in-Some.chair is l.invariant.0 turn) in
-          c.push.ensures.items ∙ (ap (λ (b : Bool). if b then l.senders.items ++ sender_view s ∷ [] else l.senders.items) ok ∙ ((λ i. l.invariant.1 q is i ++ view i ∷ []) ∙ new_senders-more q c.args.layout l.number)),
+      λ q is. let view = sender_view_new s q
+          (chair_at q c.args.layout c.args.layout.senders c.args.seats.items (length l.yielded) l.number c.in-Some.chair is l.invariant.0 turn) in
+          c.push.ensures.items ∙
+          (ap (λ (b : Bool). if b then l.senders.items ++ sender_view s ∷ [] else l.senders.items) ok ∙
+          ((λ i. l.invariant.1 q is i ++ view i ∷ []) ∙ new_senders-more q c.args.layout l.number)),
     )
 
 pub returns : goal.returns
 returns c = let g = c.into_iter-chair-iterator.ensures.into_iter_gives in let l = c.loop-chair in
-    let all = YieldsList-end (YieldsList-from_vec {s = c.into_iter-chair-iterator.result} c.args.seats.items g.0 (g.1 ∙ c.args.seats.ok.0)) l.yielded l.chair-iterator l.yielded_by c.next.result c.next.new.self c.in-None.is c.next.ensures.steps in
-    λ q is. let count : l.number ≡ c.args.layout.senders = omega (arith, l.invariant.0, ap (λ (xs : List Standing). length xs) is, length-sender_chairs q c.args.layout c.args.layout.senders, all.1) in
+    let all = YieldsList-end (YieldsList-from_vec {s = c.into_iter-chair-iterator.result} c.args.seats.items g.0 (g.1 ∙ c.args.seats.ok.0)) l.yielded
+    l.chair-iterator l.yielded_by c.next.result c.next.new.self c.in-None.is c.next.ensures.steps in
+    λ q is. let count : l.number ≡ c.args.layout.senders = omega (
+      arith,
+      l.invariant.0,
+      ap (λ (xs : List Standing). length xs) is,
+      length-sender_chairs q c.args.layout c.args.layout.senders,
+      all.1,
+    ) in
     l.invariant.1 q is ∙ ap (new_senders q c.args.layout) count

@@ -1,4 +1,4 @@
-use Rattle.wq_race.proofs.Serving.{goes_still}
+use Rattle.wq_race.proofs.Destroying.{goes_still}
 use Rattle.wq_race.proofs.outcome.destroy.Goals as goal
 
 pub loop-init : goal.loop-init

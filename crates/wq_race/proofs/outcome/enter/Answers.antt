@@ -1,14 +1,14 @@
 use Rattle.std.proofs.Common.{[], ◌∷◌, ◌++◌, sym, subst, ap, ◌∙◌}
 use Rattle.std.specs.Prelude.{All}
 use Rattle.std.proofs.lemmas.List.Elements.{All-append, All-cons, All-nil}
-use Rattle.wq_worker.specs.Book.{IsMade}
+use Rattle.wq_worker.specs.Book.{IsLedgerOf}
 use Rattle.wq_worker.specs.declared.book.Ledger.{Ledger}
 use Rattle.wq_race.proofs.Booking.{ledger_same}
 use Rattle.wq_race.proofs.outcome.enter.Goals as goal
 
 pub returns-clause-made : goal.returns-clause-made
 returns-clause-made c =
-    let P = IsMade c.meet-ledger.new.self.seen in let old = c.args.ledgers.now.items in let l = c.meet-ledger.result in
+    let P = IsLedgerOf c.meet-ledger.new.self.seen in let old = c.args.ledgers.now.items in let l = c.meet-ledger.result in
     let before : All P old = λ k d low. c.meet-ledger.ensures.kept _ (c.requires.made k d low) in
     subst (All P) (sym c.in_ok-push.ensures.items) (All-append P old (l ∷ []) before (All-cons P l [] c.meet-ledger.ensures.made (All-nil P)))
 

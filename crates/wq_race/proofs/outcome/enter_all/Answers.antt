@@ -19,7 +19,8 @@ loop-sender-init c = record {
 pub enter-requires-clause-one : goal.enter-requires-clause-one
 enter-requires-clause-one c =
     let i = c.into_iter-sender-iterator.ensures.into_iter_gives in let l = c.loop-sender in
-    let turn = YieldsList-turn (YieldsList-from_vec {s = c.into_iter-sender-iterator.result} c.args.senders.items i.0 (i.1 ∙ c.args.senders.ok.0)) l.yielded l.sender-iterator l.yielded_by c.next.result c.next.new.self c.in-Some.sender c.in-Some.is c.next.ensures.steps in
+    let turn = YieldsList-turn (YieldsList-from_vec {s = c.into_iter-sender-iterator.result} c.args.senders.items i.0 (i.1
+    ∙ c.args.senders.ok.0)) l.yielded l.sender-iterator l.yielded_by c.next.result c.next.new.self c.in-Some.sender c.in-Some.is c.next.ensures.steps in
     ap (λ (s : Known). s.queue) turn.1 ∙ (c.requires.one (length l.yielded) c.in-Some.sender turn.0 ∙ sym l.invariant.book.queue_is)
 
 pub loop-sender-preserved : goal.loop-sender-preserved
@@ -39,11 +40,13 @@ returns-in_err-enter-clause-book c = heard_on c.args.book.now c.loop-sender.book
 pub returns-clause-ledgers : goal.returns-clause-ledgers
 returns-clause-ledgers c =
     let i = c.into_iter-sender-iterator.ensures.into_iter_gives in let l = c.loop-sender in
-    let all = YieldsList-end (YieldsList-from_vec {s = c.into_iter-sender-iterator.result} c.args.senders.items i.0 (i.1 ∙ c.args.senders.ok.0)) l.yielded l.sender-iterator l.yielded_by c.next.result c.next.new.self c.in-None.is c.next.ensures.steps in
+    let all = YieldsList-end (YieldsList-from_vec {s = c.into_iter-sender-iterator.result} c.args.senders.items i.0 (i.1
+    ∙ c.args.senders.ok.0)) l.yielded l.sender-iterator l.yielded_by c.next.result c.next.new.self c.in-None.is c.next.ensures.steps in
     l.invariant.ledgers ∙ ap (λ (xs : List Known). map ledger_of xs) (sym (map-same l.yielded) ∙ all.0)
 
 pub returns-clause-told : goal.returns-clause-told
 returns-clause-told c =
     let i = c.into_iter-sender-iterator.ensures.into_iter_gives in let l = c.loop-sender in
-    let all = YieldsList-end (YieldsList-from_vec {s = c.into_iter-sender-iterator.result} c.args.senders.items i.0 (i.1 ∙ c.args.senders.ok.0)) l.yielded l.sender-iterator l.yielded_by c.next.result c.next.new.self c.in-None.is c.next.ensures.steps in
+    let all = YieldsList-end (YieldsList-from_vec {s = c.into_iter-sender-iterator.result} c.args.senders.items i.0 (i.1
+    ∙ c.args.senders.ok.0)) l.yielded l.sender-iterator l.yielded_by c.next.result c.next.new.self c.in-None.is c.next.ensures.steps in
     subst (All (IsTold c.args.book.now.seen)) (sym (map-same l.yielded) ∙ all.0) l.invariant.told

@@ -1,13 +1,13 @@
 use Rattle.std.proofs.Common.{◌≡◌, map}
 use Rattle.std.specs.Prelude.{All}
-use Rattle.wq_worker.specs.Book.{IsMade}
+use Rattle.wq_worker.specs.Book.{IsLedgerOf}
 use Rattle.wq_race.specs.Outcome.{HasHeard, IsTold, ledger_of}
 use Rattle.wq_race.proofs.outcome.enter_all.Given as goal
 
 abbrev pub invariant-loop-sender : goal.invariant-loop-sender
 invariant-loop-sender l = record {
   book : HasHeard l.fn.book l.book;
-  made : All (IsMade l.book.seen) l.ledgers.items;
+  made : All (IsLedgerOf l.book.seen) l.ledgers.items;
   ledgers : l.ledgers.items ≡ map ledger_of l.yielded;
   told : All (IsTold l.fn.book.seen) l.yielded;
 }

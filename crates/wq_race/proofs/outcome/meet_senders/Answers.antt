@@ -33,7 +33,10 @@ loop-sender-preserved c =
       worker = met_more c.args.worker.now c.loop-sender.worker c.meet.new.self met m.worker;
       each = one_more (λ k d. IsKnown next (get_or olds k d) (get_or (set nows i k') k d)) i
           (λ k d lt. let ne : k ≢ i = omega arith in subst (λ (x : Known). IsKnown next (get_or olds k d) x) (sym (get_or-set_other nows i k k' d ne))
-          (known_more (get_or olds k d) (get_or nows k d) c.loop-sender.worker.seen next (m.worker.adds.new, sym m.worker.adds.is) (c.loop-sender.invariant.each k d lt)))
+          (known_more (get_or olds k d) (get_or nows k d) c.loop-sender.worker.seen next (
+            m.worker.adds.new,
+            sym m.worker.adds.is,
+          ) (c.loop-sender.invariant.each k d lt)))
           (λ d. subst (λ (x : Known). IsKnown next (get_or olds i d) x) (sym (get_or-set_same nows i k' d here))
           (subst (λ (x : Known). IsKnown next x k') (get_or_default nows i c.sender-item.result d here ∙ c.loop-sender.invariant.rest i d (omega arith))
           (known_one (get_or nows i c.sender-item.result) k' next m.sender m.both)));

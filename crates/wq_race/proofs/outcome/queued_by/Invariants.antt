@@ -5,4 +5,5 @@ use Rattle.wq_race.proofs.outcome.queued_by.Given as goal
 
 -- so many for each of the senders so far, where each queued as many
 abbrev pub invariant-loop-sender : goal.invariant-loop-sender
-invariant-loop-sender l = (own : ℕ) → All (λ s. (sender_counts s.number s.seen).queued ≡ own) l.fn.senders → length l.fn.senders * own < 2 ^ 128 → l.queued ≡ l.sender-index * own
+invariant-loop-sender l = (own : ℕ) → All (λ s. (sender_counts s.number s.seen).queued ≡ own) l.fn.senders → length l.fn.senders * own < 2 ^ 128
+    → l.queued ≡ l.sender-index * own

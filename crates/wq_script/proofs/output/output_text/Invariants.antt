@@ -1,6 +1,6 @@
 use Rattle.std.proofs.Common.{◌≡◌, ◌++◌, ◌*◌, ◌^◌, ◌≤◌, drop, fold, string_bytes}
-use Rattle.wq_plain.specs.Commands.{ScriptState, after, output_from, output_of}
-use Rattle.wq_plain.specs.Order.{final_state}
+use Rattle.wq_meaning.specs.Commands.{ScriptState, state_after, output_from, output_of}
+use Rattle.wq_meaning.specs.Order.{final_state}
 use Rattle.wq_script.specs.Engine.{Meets, size}
 use Rattle.wq_script.proofs.output.output_text.Given as goal
 
@@ -11,5 +11,5 @@ invariant-loop-command l = record {
   layout : l.engine.layout ≡ l.script.layout;
   told : (s : ScriptState) × Meets l.engine s × (size s ≤ 2 ^ 36 * l.command-index)
       × (string_bytes l.out ++ output_from l.script.layout s (drop l.command-index l.script.commands.items) ≡ output_of l.script.layout l.script.commands.items)
-      × (fold (after l.script.layout) s (drop l.command-index l.script.commands.items) ≡ final_state l.script.layout l.script.commands.items);
+      × (fold (state_after l.script.layout) s (drop l.command-index l.script.commands.items) ≡ final_state l.script.layout l.script.commands.items);
 }

@@ -10,7 +10,9 @@ use Rattle.wq_script.proofs.seats.meet_each.Goals as goal
 pub meet-requires : goal.meet-requires
 meet-requires c =
     let i : ℕ = c.loop-sender.sender-index in
-    c.loop-sender.invariant.delay.queue_is ∙ sym (ap (λ (k : Known). k.queue) (c.loop-sender.invariant.rest i c.sender-item.result (omega arith)) ∙ c.requires.one i c.sender-item.result (omega (arith, c.loop-sender-test.true, ap length c.deref_mut-sender-items.ensures.value)))
+    c.loop-sender.invariant.delay.queue_is
+    ∙ sym (ap (λ (k : Known). k.queue) (c.loop-sender.invariant.rest i c.sender-item.result (omega arith))
+    ∙ c.requires.one i c.sender-item.result (omega (arith, c.loop-sender-test.true, ap length c.deref_mut-sender-items.ensures.value)))
 
 pub loop-sender-preserved : goal.loop-sender-preserved
 loop-sender-preserved c =
@@ -27,7 +29,9 @@ loop-sender-preserved c =
       delay = stays_on c.args.delay.now.sender c.loop-sender.delay.sender c.meet.new.self.sender hub (sees_stays 0 _ _ m.this.seen);
       table = same_table_on c.args.delay.now c.loop-sender.delay c.meet.new.self c.loop-sender.invariant.table (keeps_same [] 0 _ _ m.this);
       each = one_more (λ k d. Hears told (get_or olds k d) (get_or (set nows i k') k d)) i
-          (λ k d lt. let ne : k ≢ i = omega arith in subst (λ (x : Known). Hears told (get_or olds k d) x) (sym (get_or-set_other nows i k k' d ne)) (c.loop-sender.invariant.each k d lt))
+          (λ k d lt. let ne : k ≢ i =
+          omega arith in subst (λ (x : Known). Hears told (get_or olds k d) x) (sym (get_or-set_other nows i k k' d ne))
+          (c.loop-sender.invariant.each k d lt))
           (λ d. subst (λ (x : Known). Hears told (get_or olds i d) x) (sym (get_or-set_same nows i k' d here))
           (subst (λ (x : Known). Hears told x k') (get_or_default nows i c.sender-item.result d here ∙ c.loop-sender.invariant.rest i d (omega arith))
           (hears_hub told c.loop-sender.delay.sender c.meet.new.self.sender (get_or nows i c.sender-item.result) k' hub.begins m.this.seen m.that m.both)));
@@ -41,7 +45,8 @@ returns-clause-senders c =
     let olds : List Known = c.args.senders.now.items in
     let same : length nows ≡ length olds = c.loop-sender.auto.sender-items ∙ ap length c.deref_mut-sender-items.ensures.value in
     let long : c.args.senders.now.len ≡ length nows = sym c.deref_mut-sender-items.ensures.len ∙ sym c.loop-sender.auto.sender-items in
-    let whole : take c.args.senders.now.len (nows ++ drop (length nows) olds) ≡ nows = ap (λ (n : ℕ). take n (nows ++ drop (length nows) olds)) long ∙ take_length nows (drop (length nows) olds) in
+    let whole : take c.args.senders.now.len (nows ++ drop (length nows) olds) ≡ nows = ap (λ (n : ℕ). take n (nows ++ drop (length nows) olds)) long
+    ∙ take_length nows (drop (length nows) olds) in
     subst (λ (xs : List Known). AllHear told olds xs) (sym whole) record {
       count = same;
       each = λ i d lt. c.loop-sender.invariant.each i d (omega (arith, lt, ap length c.deref_mut-sender-items.ensures.value, c.loop-sender-test.false));

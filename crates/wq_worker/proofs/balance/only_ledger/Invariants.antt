@@ -1,6 +1,6 @@
 use Rattle.std.proofs.Common.{◌≡◌, take}
 use Rattle.wq_worker.specs.Balance.{ledgers_of}
-use Rattle.wq_worker.proofs.Balancing.{listed_one}
+use Rattle.wq_worker.proofs.Summing.{listed_one}
 use Rattle.wq_worker.proofs.balance.only_ledger.Given as goal
 
 abbrev pub invariant-loop-ledger : goal.invariant-loop-ledger

@@ -1,5 +1,5 @@
 use Rattle.std.proofs.Common.{◌+◌, sym, subst}
-use Rattle.wq_worker.proofs.Balancing.{sums_none, sums_next, sums_skip}
+use Rattle.wq_worker.proofs.Summing.{sums_none, sums_next, sums_skip}
 use Rattle.wq_worker.specs.Balance.{SumsMet}
 use Rattle.wq_worker.specs.declared.totals.Totals.{Totals}
 use Rattle.wq_worker.proofs.balance.sum_met.Goals as goal
@@ -13,6 +13,7 @@ loop-number-preserved c =
     let ls = c.args.ledgers.now in let seat = c.args.seat in let n = c.loop-number.number in
     elim c.if-number-seat.branch [
       | then-number-seat+in_ok-ledger w ↦ subst (λ (z : Totals). SumsMet ls seat (n + 1) z) (sym w.met-is)
-          (sums_next ls seat n c.loop-number.met w.in_ok-ledger.ledger w.with-met.result c.loop-number.invariant w.if-number-seat.true w.in_ok-ledger.ensures.0 w.in_ok-ledger.ensures.1 w.with-met.ensures.sums w.with-met.ensures.room)
+          (sums_next ls seat n c.loop-number.met w.in_ok-ledger.ledger w.with-met.result c.loop-number.invariant w.if-number-seat.true
+          w.in_ok-ledger.ensures.0 w.in_ok-ledger.ensures.1 w.with-met.ensures.sums w.with-met.ensures.room)
       | else-number-seat w ↦ sums_skip ls seat n c.loop-number.met c.if-number-seat.met c.loop-number.invariant w.if-number-seat.false w.met-is
     ]

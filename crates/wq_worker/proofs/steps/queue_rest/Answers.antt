@@ -1,12 +1,13 @@
 use Rattle.std.proofs.Common.{◌≡◌, ℕ, List, [], ◌∷◌, ◌+◌, get_or, drop, refl, sym, subst, arith}
 use Rattle.std.proofs.Math.ListN.{drop_of_length-le}
-use Rattle.wq_worker.specs.Pair.{Advances}
+use Rattle.wq_worker.specs.Pair.{QueuesRest}
 use Rattle.wq_worker.proofs.Pair.{both_still}
 use Rattle.wq_worker.proofs.Follow.{Sofar, sofar_runs, one_more, was_contended, all_queued, next_left}
 use Rattle.wq_worker.proofs.steps.queue_rest.Goals as goal
 
 pub loop-at-init : goal.loop-at-init
-loop-at-init c = (c.requires.from, record { queued = []; events = []; split = refl; told = refl; moved = both_still c.args.owner.now c.args.sender.now c.requires.paired })
+loop-at-init c =
+    (c.requires.from, record { queued = []; events = []; split = refl; told = refl; moved = both_still c.args.owner.now c.args.sender.now c.requires.paired })
 
 pub queue_one-requires-clause-paired : goal.queue_one-requires-clause-paired
 queue_one-requires-clause-paired c = c.loop-at.invariant.1.moved.paired
@@ -17,17 +18,23 @@ queue_one-requires-clause-runs c = sofar_runs _ _ _ _ _ _ c.loop-at.invariant.1 
 pub returns-then-not-queue_one-clause-queued : goal.returns-then-not-queue_one-clause-queued
 returns-then-not-queue_one-clause-queued c =
     let xs = c.args.follow.now in let at = c.loop-at.at in let ks = drop c.args.from xs in let k = get_or xs at 0 in let js = drop (at + 1) xs in
-    let o = c.args.owner.now in let s = c.args.sender.now in let p = c.loop-at.owner in let t = c.loop-at.sender in let q = c.queue_one.new.owner in let u = c.queue_one.new.sender in
+    let o = c.args.owner.now in let s = c.args.sender.now in let p = c.loop-at.owner in let t = c.loop-at.sender in let q = c.queue_one.new.owner in
+    let u = c.queue_one.new.sender in
     let next : drop at xs ≡ k ∷ js = next_left at xs c.loop-at-test.true in
-    subst (λ (z : List ℕ). Advances c.args.tries ks z o s q u) (sym next)
-    (was_contended ks k js c.queue_one.result c.args.tries o s p t q u (subst (λ (z : List ℕ). Sofar ks z o s p t) next c.loop-at.invariant.1) c.if-not-queue_one.true c.queue_one.ensures)
+    subst (λ (z : List ℕ). QueuesRest c.args.tries ks z o s q u) (sym next)
+    (was_contended ks k js c.queue_one.result c.args.tries o s p t q u
+    (subst (λ (z : List ℕ). Sofar ks z o s p t) next c.loop-at.invariant.1) c.if-not-queue_one.true c.queue_one.ensures)
 
 pub loop-at-preserved : goal.loop-at-preserved
 loop-at-preserved c =
     let xs = c.args.follow.now in let at = c.loop-at.at in let ks = drop c.args.from xs in let k = get_or xs at 0 in let js = drop (at + 1) xs in
-    let o = c.args.owner.now in let s = c.args.sender.now in let p = c.loop-at.owner in let t = c.loop-at.sender in let q = c.queue_one.new.owner in let u = c.queue_one.new.sender in
-    let next : drop at xs ≡ k ∷ js = next_left at xs c.loop-at-test.true in
-    (omega arith, one_more ks k js c.queue_one.result c.args.tries o s p t q u (subst (λ (z : List ℕ). Sofar ks z o s p t) next c.loop-at.invariant.1) c.if-not-queue_one.false c.queue_one.ensures)
+    let o = c.args.owner.now in let s = c.args.sender.now in let p = c.loop-at.owner in let t = c.loop-at.sender in let q = c.queue_one.new.owner in
+    let u = c.queue_one.new.sender in
+    let next : drop at xs ≡ k ∷ js = next_left at xs c.loop-at-test.true in (
+      omega arith,
+      one_more ks k js c.queue_one.result c.args.tries o s p t q u
+          (subst (λ (z : List ℕ). Sofar ks z o s p t) next c.loop-at.invariant.1) c.if-not-queue_one.false c.queue_one.ensures,
+    )
 
 pub returns-clause-queued : goal.returns-clause-queued
 returns-clause-queued c = all_queued _ _ _ _ _ _ _ (drop_of_length-le c.args.follow.now c.loop-at-test.false) c.loop-at.invariant.1

@@ -3,7 +3,7 @@ use Rattle.wq_words.specs.declared.event.Event.TheVariants.{Back}
 use Rattle.wq_words.specs.declared.event.Why.TheVariants.{Cancelled}
 use Rattle.wq_words.specs.DelayTable.{Entry, on_table}
 use Rattle.wq_delay.specs.Delay.{DelayState, IsFit}
-use Rattle.wq_delay.proofs.Table.{without_off}
+use Rattle.wq_words.proofs.DelayTable.{without_off}
 use Rattle.wq_delay.proofs.Sound.{state, sound_leaves, stops_back}
 use Rattle.wq_delay.proofs.delay.Delay.cancel.Goals as goal
 
@@ -17,8 +17,11 @@ pub returns-then-not-take : goal.returns-then-not-take
 returns-then-not-take c =
     let i = c.self.inside in
     let off : on_table c.args.item i.table.entries ≡ false = sym c.if-not-take.ensures.answer in
-    let same = c.take.ensures.entries ∙ without_off c.args.item i.table.entries off in
-    (subst (λ (z : DelayState). on_table c.args.item z.table ≡ false) c.self.view_is off, ap (λ (z : List Entry). state i.sender i.tick i.next z) same ∙ c.self.view_is)
+    let same = c.take.ensures.entries ∙ without_off c.args.item i.table.entries off in (
+      subst (λ (z : DelayState). on_table c.args.item z.table.entries ≡ false) c.self.view_is off,
+      ap
+          (λ (z : List Entry). state i.sender i.tick i.next z) same ∙ c.self.view_is,
+    )
 
 pub invariant_of-self-2 : goal.invariant_of-self-2
 invariant_of-self-2 c =

@@ -6,4 +6,4 @@ abbrev pub invariant-loop-item : goal.invariant-loop-item
 invariant-loop-item l = Going l.now l.fn.self l.self l.pushed l.refused
 
 abbrev pub decreases-loop-item : goal.decreases-loop-item
-decreases-loop-item l = length l.self.table
+decreases-loop-item l = length l.self.table.entries

@@ -10,5 +10,6 @@ invariant_of-self c =
 pub invariant_of-self-in_default : goal.invariant_of-self-in_default
 invariant_of-self-in_default c =
     let i = c.self.inside in
-    let sound = sound_posted i.table.size c.args.item c.args.tries c.post.result i.sender c.post.new.self i.tick i.next i.table.entries c.take.new.self.entries c.in_default.not-Contended c.post.ensures c.take.ensures.entries c.self.invariant in
+    let sound = sound_posted i.table.size c.args.item c.args.tries c.post.result i.sender c.post.new.self i.tick i.next i.table.entries
+    c.take.new.self.entries c.in_default.not-Contended c.post.ensures c.take.ensures.entries c.self.invariant in
     (c.take.ensures.size ∙ sound.0, sound.1)

@@ -11,4 +11,5 @@ returns c =
     let places : List (Option (ℕ × ℕ)) = c.self.inside.places.items in
     let low : c.args.item < length places = subst (λ (z : Rows). c.args.item < z.size) (sym c.self.view_is) c.requires in
     let read = get_or_read places _ _ low c.index.ensures None in
-    c.is_some.ensures ∙ (ap is_some read ∙ (known_on places _ c.args.item c.self.invariant ∙ ap (λ (z : Rows). on_table c.args.item z.entries) c.self.view_is))
+    c.is_some.ensures ∙ (ap is_some read ∙ (known_on places _ c.args.item c.self.invariant
+    ∙ ap (λ (z : Rows). on_table c.args.item z.entries) c.self.view_is))

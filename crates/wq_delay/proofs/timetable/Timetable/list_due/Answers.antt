@@ -10,5 +10,6 @@ use Rattle.wq_delay.proofs.timetable.Timetable.list_due.Goals as goal
 pub returns-then-place-now-clause-due : goal.returns-then-place-now-clause-due
 returns-then-place-now-clause-due c =
     let rest = rest_more deref_pair c.loop-place.place-iterator _ _ (c.in-Some.place, c.in-Some.item) c.in-Some.is c.next.ensures.steps in
-    let late = first_late c.loop-place.place-iterator (c.in-Some.place.now, c.in-Some.item.now) c.args.now (ap (λ (z : List ((ℕ × ℕ) × ℕ)). slice_get z 0) rest) c.loop-place.invariant.1 c.if-place-now.true in
+    let late = first_late c.loop-place.place-iterator (c.in-Some.place.now, c.in-Some.item.now) c.args.now
+    (ap (λ (z : List ((ℕ × ℕ) × ℕ)). slice_get z 0) rest) c.loop-place.invariant.1 c.if-place-now.true in
     sym (append-nil c.loop-place.list.items) ∙ (ap (λ (z : List Entry). c.loop-place.list.items ++ items z) (sym late) ∙ c.loop-place.invariant.0)

@@ -5,4 +5,5 @@ use Rattle.wq_delay.proofs.timetable.Timetable.list_due.Given as goal
 
 abbrev pub invariant-loop-place : goal.invariant-loop-place
 invariant-loop-place l =
-    (l.list.items ++ items (due_part l.now (map entry_of l.place-iterator)) ≡ items (due_part l.now l.self.entries)) × IsOrdered (map entry_of l.place-iterator)
+    (l.list.items ++ items (due_part l.now (map entry_of l.place-iterator)) ≡ items (due_part l.now l.self.entries)) × IsOrdered
+    (map entry_of l.place-iterator)

@@ -1,6 +1,7 @@
 use Rattle.std.proofs.Common.{◌<◌, map, ap, subst, arith}
 use Rattle.wq_delay.specs.Rows.{Rows, entry_of}
-use Rattle.wq_delay.proofs.Rows.{in_places, first_on, rows_popped}
+use Rattle.wq_words.proofs.DelayTable.{first_on}
+use Rattle.wq_delay.proofs.Rows.{in_places, rows_popped}
 use Rattle.wq_delay.proofs.timetable.Timetable.pop.Goals as goal
 
 pub index_mut-requires : goal.index_mut-requires

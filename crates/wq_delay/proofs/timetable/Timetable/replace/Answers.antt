@@ -12,7 +12,9 @@ unreachable-requires c =
     let places : List (Option (ℕ × ℕ)) = c.self.inside.places.items in
     let low = subst (λ (z : Rows). c.args.item < z.size) (sym c.self.view_is) c.requires.item in
     let read = get_or_read places _ _ low c.index.ensures None in
-    let off = sym (ap is_some c.in_default.is) ∙ (ap is_some read ∙ (known_on places _ c.args.item c.self.invariant ∙ (ap (λ (z : Rows). on_table c.args.item z.entries) c.self.view_is ∙ c.requires.on))) in
+    let off = sym (ap is_some c.in_default.is)
+    ∙ (ap is_some read ∙ (known_on places _ c.args.item c.self.invariant
+    ∙ (ap (λ (z : Rows). on_table c.args.item z.entries) c.self.view_is ∙ c.requires.on))) in
     absurd (cc)
 
 pub invariant_of-self-2 : goal.invariant_of-self-2
@@ -23,7 +25,8 @@ invariant_of-self-2 c =
     let read = get_or_read places _ _ low c.index.ensures None in
     let known = sym (c.self.invariant.known c.args.item) ∙ (sym read ∙ c.in-Some.is) in
     rows_moved places _ _ c.args.item c.args.due c.args.arming c.self.invariant low armed
-    (ap (map entry_of) c.remove.ensures.entries ∙ (ap (λ (z : List ((ℕ × ℕ) × ℕ)). map entry_of (remove_entry (is_at (row_cmp c.in-Some.place)) z)) c.in_ok-insert.ensures.entries
+    (ap (map entry_of) c.remove.ensures.entries
+    ∙ (ap (λ (z : List ((ℕ × ℕ) × ℕ)). map entry_of (remove_entry (is_at (row_cmp c.in-Some.place)) z)) c.in_ok-insert.ensures.entries
     ∙ entries-move c.self.inside.rows.entries c.args.item c.in-Some.place c.args.due c.args.arming c.self.invariant.ordered armed known))
 
 pub returns-clause-placed : goal.returns-clause-placed
@@ -33,6 +36,7 @@ returns-clause-placed c =
     let armed = subst (λ (z : Rows). AreArmedBefore c.args.arming z.entries) (sym c.self.view_is) c.requires.last in
     let read = get_or_read places _ _ low c.index.ensures None in
     let known = sym (c.self.invariant.known c.args.item) ∙ (sym read ∙ c.in-Some.is) in
-    ap (map entry_of) c.remove.ensures.entries ∙ (ap (λ (z : List ((ℕ × ℕ) × ℕ)). map entry_of (remove_entry (is_at (row_cmp c.in-Some.place)) z)) c.in_ok-insert.ensures.entries
+    ap (map entry_of) c.remove.ensures.entries
+    ∙ (ap (λ (z : List ((ℕ × ℕ) × ℕ)). map entry_of (remove_entry (is_at (row_cmp c.in-Some.place)) z)) c.in_ok-insert.ensures.entries
     ∙ (entries-move c.self.inside.rows.entries c.args.item c.in-Some.place c.args.due c.args.arming c.self.invariant.ordered armed known
     ∙ ap (λ (z : Rows). placed (record { due = c.args.due; arming = c.args.arming; item = c.args.item }) (without c.args.item z.entries)) c.self.view_is))

@@ -6,5 +6,7 @@ use Rattle.wq_live.proofs.OwnerTells.{stands_legal}
 use Rattle.wq_live.proofs.owner.Owner.legal.Goals as goal
 
 pub returns : goal.returns
-returns c = let s = c.self.inside in let o = c.self.invariant in
-    subst (λ (v : Known). IsLegal v.layout v.seen) c.self.view_is (subst (λ (l : Layout). IsLegal l s.chair.part.seen) o.layout_is (stands_legal s.chair.part o.stands))
+returns c = let s = c.self.inside in let o = c.self.invariant in record {
+  legal = subst (λ (v : Known). IsLegal v.layout v.seen) c.self.view_is
+      (subst (λ (l : Layout). IsLegal l s.chair.part.seen) o.layout_is (stands_legal s.chair.part o.stands));
+}

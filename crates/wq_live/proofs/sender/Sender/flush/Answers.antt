@@ -1,4 +1,5 @@
-use Rattle.std.proofs.Common.{arith, ◌≡◌, ◌+◌, ℕ, [], ◌∷◌, ap, subst}
+use Rattle.std.proofs.Common.{arith, ◌≡◌, ◌∙◌, ℕ, [], ◌∷◌, ap, subst}
+use Rattle.wq_words.specs.Numbers.{barrier_number}
 use Rattle.wq_words.specs.declared.event.Event.TheVariants.{Hold, Push}
 use Rattle.wq_live.specs.Known.{Known, Sees}
 use Rattle.wq_live.specs.Answers.{IsPushed}
@@ -6,11 +7,17 @@ use Rattle.wq_live.proofs.Sends.{sees_on, queued_on}
 use Rattle.wq_live.proofs.sender.Sender.flush.Goals as goal
 
 pub loop-preserved : goal.loop-preserved
-loop-preserved g c = (tt, tt, sees_on (λ z. []) (λ z. []) 0 0 0 c.queue_waiting.new.self c.loop.self c.flush_done.new.self (omega arith) c.loop.invariant.2 c.flush_done.ensures.seen)
+loop-preserved g c = (
+  tt,
+  tt,
+  sees_on (λ z. []) (λ z. []) 0 0 0 c.queue_waiting.new.self c.loop.self c.flush_done.new.self (omega arith) c.loop.invariant.2 c.flush_done.ensures.seen,
+)
 
 pub returns-then-flush_done-clause-answer : goal.returns-then-flush_done-clause-answer
-returns-then-flush_done-clause-answer g c = let s = c.args.self.now in let q = c.queue_waiting.new.self in let t = c.flush_done.new.self in let first = c.in-Queued.first in
-    let number : c.self.inside.layout.items + c.args.barrier ≡ s.layout.items + c.args.barrier = ap (λ (v : Known). v.layout.items + c.args.barrier) c.self.view_is in
-    queued_on (s.layout.items + c.args.barrier) 0 first s q t
+returns-then-flush_done-clause-answer g c = let s = c.args.self.now in let q = c.queue_waiting.new.self in let t = c.flush_done.new.self in
+    let first = c.in-Queued.first in
+    let number : c.barrier-number.result ≡ barrier_number s.layout c.args.barrier =
+    c.barrier-number.ensures ∙ ap (λ (v : Known). barrier_number v.layout c.args.barrier) c.self.view_is in
+    queued_on (barrier_number s.layout c.args.barrier) 0 first s q t
     (subst (λ (k : ℕ). Sees (Hold s.number k ∷ Push s.number k ∷ []) 0 s q × IsPushed s.number k first q.seen) number c.in-Queued.ensures.answer)
     (sees_on (λ z. []) (λ z. []) 0 0 0 q c.loop.self t (omega arith) c.loop.invariant.2 c.flush_done.ensures.seen)

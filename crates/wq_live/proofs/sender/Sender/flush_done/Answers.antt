@@ -17,5 +17,7 @@ not_true false is = refl
 
 pub returns-clause-flushed : goal.returns-clause-flushed
 returns-clause-flushed c is =
-    flushed c.is_number_pending.new.self.layout (barrier_number c.args.self.now.layout c.args.barrier) c.is_number_pending.new.self.seen c.is_number_pending.ensures.seen.legal
-    (sym (c.is_number_pending.ensures.pending ∙ ap (λ (k : ℕ). pending c.is_number_pending.new.self.seen k) (number_is c)) ∙ not_true c.is_number_pending.result is)
+    flushed c.is_number_pending.new.self.layout
+    (barrier_number c.args.self.now.layout c.args.barrier) c.is_number_pending.new.self.seen c.is_number_pending.ensures.seen.legal
+    (sym (c.is_number_pending.ensures.pending ∙ ap (λ (k : ℕ). pending c.is_number_pending.new.self.seen k) (number_is c)) ∙
+    not_true c.is_number_pending.result is)

@@ -10,7 +10,9 @@ use Rattle.wq_live.proofs.sender.Sender.is_number_pending.Goals as goal
 pub invariant_of-self : goal.invariant_of-self
 invariant_of-self c = let s = c.self.inside in let t = record s { chair = c.check.new.self } in let made = c.check.ensures.makes in
     let layout : s.chair.part.layout ≡ c.args.self.now.layout = c.self.invariant.layout_is ∙ ap (λ (v : Known). v.layout) c.self.view_is in
-    let told : Tells [] s.chair.part t.chair.part = (check_tells c.args.number c.check.result s.chair.part t.chair.part c.self.invariant.stage (subst (λ (l : Layout). c.args.number < number_count l) (sym layout) c.requires.number) made).told in
+    let told : Tells [] s.chair.part t.chair.part =
+    (check_tells c.args.number c.check.result s.chair.part t.chair.part c.self.invariant.stage
+    (subst (λ (l : Layout). c.args.number < number_count l) (sym layout) c.requires.number) made).told in
     sends_tells s t [] 0 c.self.invariant refl refl told (sender_made _ _ _ _ made c.self.invariant.stage)
     (counts_none s.number 0 s.chair.part.seen t.chair.part.seen s.counts c.self.invariant.counts_are (grows_tells s t (λ z. []) 0 c.self.invariant told))
 
@@ -21,5 +23,10 @@ flip false = refl
 pub returns : goal.returns
 returns c = let s = c.self.inside in let t = record s { chair = c.check.new.self } in let made = c.check.ensures.makes in
     let layout : s.chair.part.layout ≡ c.args.self.now.layout = c.self.invariant.layout_is ∙ ap (λ (v : Known). v.layout) c.self.view_is in
-    let checks = check_tells c.args.number c.check.result s.chair.part t.chair.part c.self.invariant.stage (subst (λ (l : Layout). c.args.number < number_count l) (sym layout) c.requires.number) made in
-    record { seen = sees_tells s t c.args.self.now (λ z. []) 0 c.self.view_is c.self.invariant refl refl c.check.ensures.queue_is checks.told; pending = ap not checks.clear ∙ flip _ }
+    let checks = check_tells c.args.number c.check.result s.chair.part t.chair.part c.self.invariant.stage
+    (subst (λ (l : Layout). c.args.number < number_count l) (sym layout) c.requires.number) made in
+    record {
+      seen = sees_tells s t c.args.self.now
+          (λ z. []) 0 c.self.view_is c.self.invariant refl refl c.check.ensures.queue_is checks.told;
+      pending = ap not checks.clear ∙ flip _;
+    }

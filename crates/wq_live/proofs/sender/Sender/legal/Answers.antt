@@ -4,4 +4,4 @@ use Rattle.wq_live.specs.Known.{Known}
 use Rattle.wq_live.proofs.sender.Sender.legal.Goals as goal
 
 pub returns : goal.returns
-returns c = subst (λ (v : Known). IsLegal v.layout v.seen) c.self.view_is c.self.invariant.legal
+returns c = record { legal = subst (λ (v : Known). IsLegal v.layout v.seen) c.self.view_is c.self.invariant.legal }

@@ -13,7 +13,8 @@ invariant_of-other c = let e = c.meet_both.ensures in let s = c.other.inside in
     meet_sends s (record s { chair = c.meet_both.new.other }) e.machine e.sound e.that_fits e.that_is refl refl refl c.other.invariant
 
 pub invariant_of-owner : goal.invariant_of-owner
-invariant_of-owner c = let e = c.meet_both.ensures in meet_executes c.owner.inside c.meet_both.new.third e.machine e.sound e.third_fits e.third_is c.owner.invariant
+invariant_of-owner c = let e = c.meet_both.ensures in
+    meet_executes c.owner.inside c.meet_both.new.third e.machine e.sound e.third_fits e.third_is c.owner.invariant
 
 pub returns-clause-this : goal.returns-clause-this
 returns-clause-this c = let e = c.meet_both.ensures in let s = c.self.inside in
@@ -21,7 +22,8 @@ returns-clause-this c = let e = c.meet_both.ensures in let s = c.self.inside in
 
 pub returns-clause-that : goal.returns-clause-that
 returns-clause-that c = let e = c.meet_both.ensures in let s = c.other.inside in
-    meet_sees s (record s { chair = c.meet_both.new.other }) c.args.other.now e.machine e.sound e.that_fits e.that_is refl refl c.other.view_is c.other.invariant
+    meet_sees s (record s { chair = c.meet_both.new.other }) c.args.other.now e.machine e.sound e.that_fits e.that_is refl refl c.other.view_is
+    c.other.invariant
 
 pub returns-clause-owners : goal.returns-clause-owners
 returns-clause-owners c = let e = c.meet_both.ensures in
@@ -33,6 +35,8 @@ returns-clause-all c = let e = c.meet_both.ensures in let mine = sym (ap (λ (x 
 
 pub returns-clause-layout : goal.returns-clause-layout
 returns-clause-layout c = let e = c.meet_both.ensures in (
-  meet_layout c.self.inside c.other.inside c.args.self.now c.args.other.now e.machine e.this_fits e.that_fits c.self.view_is c.other.view_is c.self.invariant c.other.invariant,
-  meet_owner_layout c.self.inside c.owner.inside c.args.self.now c.args.owner.now e.machine e.this_fits e.third_fits c.self.view_is c.owner.view_is c.self.invariant c.owner.invariant,
+  meet_layout c.self.inside c.other.inside c.args.self.now c.args.other.now e.machine e.this_fits e.that_fits c.self.view_is c.other.view_is
+      c.self.invariant c.other.invariant,
+  meet_owner_layout c.self.inside c.owner.inside c.args.self.now c.args.owner.now e.machine e.this_fits e.third_fits c.self.view_is c.owner.view_is
+      c.self.invariant c.owner.invariant,
 )

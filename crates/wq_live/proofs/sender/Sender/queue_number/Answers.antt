@@ -5,4 +5,5 @@ pub push_tries-requires-clause-held : goal.push_tries-requires-clause-held
 push_tries-requires-clause-held c = sees_hold c.args.number 0 c.args.self.now c.hold_number.new.self c.if-not-hold_number.ensures.seen
 
 pub give_up-requires-clause-held : goal.give_up-requires-clause-held
-give_up-requires-clause-held c = sees_held c.args.number c.args.tries c.hold_number.new.self c.push_tries.new.self c.in-Contended.ensures (sees_hold c.args.number 0 c.args.self.now c.hold_number.new.self c.if-not-hold_number.ensures.seen)
+give_up-requires-clause-held c = sees_held c.args.number c.args.tries c.hold_number.new.self c.push_tries.new.self c.in-Contended.ensures
+    (sees_hold c.args.number 0 c.args.self.now c.hold_number.new.self c.if-not-hold_number.ensures.seen)

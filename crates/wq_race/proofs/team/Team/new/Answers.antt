@@ -13,7 +13,8 @@ take_last-own-requires c =
     let l = c.layout.result in let q = c.in_ok-owner.owner.queue in
     omega (
       arith,
-      length-last c.in_ok-owner.senders.items c.take_last-program.new.senders.items c.take_last-program.result _ (ap length c.in_ok-owner.ensures.1 ∙ length-new_senders q l l.senders) c.take_last-program.ensures,
+      length-last c.in_ok-owner.senders.items c.take_last-program.new.senders.items c.take_last-program.result _ (ap length c.in_ok-owner.ensures.1
+          ∙ length-new_senders q l l.senders) c.take_last-program.ensures,
       c.layout.ensures.senders_is,
     )
 

@@ -1,5 +1,5 @@
 use Rattle.std.proofs.Common.{◌∙◌, ◌++◌, ap, refl, arith, string_bytes, if◌then◌else◌, codes}
-use Rattle.wq_plain.specs.Report.{line}
+use Rattle.wq_meaning.specs.Report.{line}
 use Rattle.wq_script.proofs.Meetings.{looked_meets}
 use Rattle.wq_script.proofs.engine.Engine.check.Goals as goal
 
@@ -9,6 +9,8 @@ returns c =
     record {
       layout = refl;
       meets = λ s m. looked_meets e.layout e.seats c.is_pending-is_pending.new.self e.tally s m (c.is_pending-is_pending.ensures e.layout s.history m.seated).0;
-      lines = λ s m few. c.in_ok-write_line.ensures ∙ ap (λ x. string_bytes c.args.out.now ++ line x) (c.either.ensures ∙ ap (λ b. if b then codes "pending" else codes "idle") (c.is_pending-is_pending.ensures e.layout s.history m.seated).1);
+      lines = λ s m few. c.in_ok-write_line.ensures
+          ∙ ap (λ x. string_bytes c.args.out.now ++ line x)
+          (c.either.ensures ∙ ap (λ b. if b then codes "pending" else codes "idle") (c.is_pending-is_pending.ensures e.layout s.history m.seated).1);
       room = λ s m. omega arith;
     }

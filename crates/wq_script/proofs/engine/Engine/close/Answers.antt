@@ -1,8 +1,9 @@
 use Rattle.std.proofs.Common.{◌∙◌, ◌++◌, ap, refl, arith, string_bytes, length-append}
-use Rattle.wq_plain.specs.Answer.{close_text}
-use Rattle.wq_plain.specs.Report.{line}
-use Rattle.wq_plain.specs.Queueing.{close_events}
-use Rattle.wq_script.proofs.Meetings.{close_meets, close_few}
+use Rattle.wq_meaning.specs.Answer.{close_text}
+use Rattle.wq_meaning.specs.Report.{line}
+use Rattle.wq_meaning.specs.Queueing.{close_events}
+use Rattle.wq_meaning.proofs.Sizes.{close_few}
+use Rattle.wq_script.proofs.Meetings.{close_meets}
 use Rattle.wq_script.proofs.engine.Engine.close.Goals as goal
 
 pub returns : goal.returns
@@ -11,6 +12,7 @@ returns c =
     record {
       layout = refl;
       meets = λ s m. close_meets e.layout e.seats c.close-taken.new.self e.tally s m (c.close-taken.ensures e.layout s.history m.seated).0;
-      lines = λ s m few. c.in_ok-write_close.ensures ∙ ap (λ x. string_bytes c.args.out.now ++ line (close_text x)) (c.close-taken.ensures e.layout s.history m.seated).1;
+      lines = λ s m few. c.in_ok-write_close.ensures
+          ∙ ap (λ x. string_bytes c.args.out.now ++ line (close_text x)) (c.close-taken.ensures e.layout s.history m.seated).1;
       room = λ s m. omega (arith, length-append s.history (close_events s.history), close_few s.history);
     }

@@ -1,6 +1,6 @@
 use Rattle.std.proofs.Common.{◌≡◌, ◌∙◌, ℕ, ◌++◌, Bool, List, ap, refl, arith, string_bytes, if◌then◌else◌, codes, not}
 use Rattle.std.proofs.Common.{true, false}
-use Rattle.wq_plain.specs.Report.{line}
+use Rattle.wq_meaning.specs.Report.{line}
 use Rattle.wq_script.proofs.Meetings.{looked_meets}
 use Rattle.wq_script.proofs.engine.Engine.done.Goals as goal
 
@@ -14,6 +14,9 @@ returns c =
     record {
       layout = refl;
       meets = λ s m. looked_meets e.layout e.seats c.is_flushed-is_flushed.new.self e.tally s m (c.is_flushed-is_flushed.ensures e.layout s.history m.seated).0;
-      lines = λ s m few. c.in_ok-write_line.ensures ∙ ap (λ x. string_bytes c.args.out.now ++ line x) (c.either.ensures ∙ (ap (λ b. if b then codes "true" else codes "false") (c.is_flushed-is_flushed.ensures e.layout s.history m.seated).1 ∙ turned _ (codes "true") (codes "false")));
+      lines = λ s m few. c.in_ok-write_line.ensures
+          ∙ ap (λ x. string_bytes c.args.out.now ++ line x)
+          (c.either.ensures ∙ (ap (λ b. if b then codes "true" else codes "false") (c.is_flushed-is_flushed.ensures e.layout s.history m.seated).1
+          ∙ turned _ (codes "true") (codes "false")));
       room = λ s m. omega arith;
     }

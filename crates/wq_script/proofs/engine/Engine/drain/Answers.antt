@@ -1,14 +1,15 @@
 use Rattle.std.proofs.Common.{◌∙◌, ◌++◌, ◌≤◌, sym, ap, refl, arith, string_bytes, subst, codes}
 use Rattle.std.proofs.Common.{None, append_assoc}
 use Rattle.wq_text.specs.declared.command.Command.TheVariants as command
-use Rattle.wq_plain.specs.declared.report.Counts.{Counts}
-use Rattle.wq_plain.specs.Report.{line}
-use Rattle.wq_plain.specs.Names.{row_text, left_text}
-use Rattle.wq_plain.specs.Execution.{ends_at, ended_since}
-use Rattle.wq_plain.specs.Commands.{ScriptState, after_row}
-use Rattle.wq_plain.proofs.Meanings.{wrote, drained, drain_open, drain_closed}
+use Rattle.wq_meaning.specs.declared.report.Counts.{Counts}
+use Rattle.wq_meaning.specs.Report.{line}
+use Rattle.wq_meaning.specs.Names.{row_text, left_text}
+use Rattle.wq_meaning.specs.Execution.{ends_at, ended_since}
+use Rattle.wq_meaning.specs.Commands.{ScriptState, after_row}
+use Rattle.wq_meaning.proofs.Meanings.{wrote, drained, drain_open, drain_closed}
 use Rattle.wq_script.specs.Engine.{Meets, size}
-use Rattle.wq_script.proofs.Meetings.{engine, ran_meets, executions_few}
+use Rattle.wq_meaning.proofs.Sizes.{executions_few}
+use Rattle.wq_script.proofs.Meetings.{engine, ran_meets}
 use Rattle.wq_script.proofs.engine.Engine.drain.Goals as goal
 
 pub returns-then-not-is_closed : goal.returns-then-not-is_closed
@@ -30,8 +31,16 @@ returns-then-not-is_closed c =
 pub counts-requires : goal.counts-requires
 counts-requires c =
     let e = c.args.self.now in let s = c.requires.ready.0 in let m = c.requires.ready.1 in
-    let r = ran_meets e.layout e.seats c.run.new.self e.tally s c.args.limit (ends_at None) c.in_ok-ran.ran.items m (c.in_ok-ran.ensures s.history m.seated m.idle m.lists) in
-    record { ready = (drained e.layout s c.args.limit, r.0, omega (arith, executions_few e.layout.senders s.follows (ends_at None) c.args.limit s.history m.short, c.ranges.limit, c.requires.ready.2)) }
+    let r = ran_meets e.layout e.seats c.run.new.self e.tally s c.args.limit (ends_at None) c.in_ok-ran.ran.items m
+    (c.in_ok-ran.ensures s.history m.seated m.idle m.lists) in
+    record {
+      ready = (
+        drained e.layout s c.args.limit,
+        r.0,
+        omega
+            (arith, executions_few e.layout.senders s.follows (ends_at None) c.args.limit s.history m.short, c.ranges.limit, c.requires.ready.2),
+      );
+    }
 
 pub returns : goal.returns
 returns c =
@@ -40,17 +49,21 @@ returns c =
       layout = refl;
       meets = λ s m.
           let so = drain_closed e.layout s c.args.limit (sym (c.is_closed.ensures e.layout s.history m.seated) ∙ c.if-not-is_closed.false) in
-          let r = ran_meets e.layout e.seats c.run.new.self e.tally s c.args.limit (ends_at None) c.in_ok-ran.ran.items m (c.in_ok-ran.ensures s.history m.seated m.idle m.lists) in
+          let r = ran_meets e.layout e.seats c.run.new.self e.tally s c.args.limit (ends_at None) c.in_ok-ran.ran.items m
+          (c.in_ok-ran.ensures s.history m.seated m.idle m.lists) in
           subst (λ (t : ScriptState). Meets (engine e.layout c.run.new.self e.tally) t) (sym so.0) r.0;
       lines = λ s m few.
           let so = drain_closed e.layout s c.args.limit (sym (c.is_closed.ensures e.layout s.history m.seated) ∙ c.if-not-is_closed.false) in
-          let r = ran_meets e.layout e.seats c.run.new.self e.tally s c.args.limit (ends_at None) c.in_ok-ran.ran.items m (c.in_ok-ran.ensures s.history m.seated m.idle m.lists) in
+          let r = ran_meets e.layout e.seats c.run.new.self e.tally s c.args.limit (ends_at None) c.in_ok-ran.ran.items m
+          (c.in_ok-ran.ensures s.history m.seated m.idle m.lists) in
           let row = c.in_ok-write_row.ensures ∙ ap (λ ks. string_bytes c.args.out.now ++ row_text e.layout (codes "ran") ks) (c.deref.ensures.value ∙ r.1) in
-          let size_now : size (drained e.layout s c.args.limit) ≤ 2305843009213693952 = omega (arith, executions_few e.layout.senders s.follows (ends_at None) c.args.limit s.history m.short, c.ranges.limit, few) in
+          let size_now : size (drained e.layout s c.args.limit) ≤ 2305843009213693952 =
+          omega (arith, executions_few e.layout.senders s.follows (ends_at None) c.args.limit s.history m.short, c.ranges.limit, few) in
           let left = ap (λ (counts : Counts). counts.waiting) (c.counts.ensures (drained e.layout s c.args.limit) r.0 size_now) in
           wrote e.layout s (drained e.layout s c.args.limit) (command.Drain c.args.limit) _ _ _ so.0 so.1
           (c.in_ok-write_left.ensures ∙ (ap (λ x. x ++ line (left_text c.counts.result.waiting)) row ∙ (append_assoc (string_bytes c.args.out.now) _ _
-          ∙ ap (λ n. string_bytes c.args.out.now ++ (row_text e.layout (codes "ran") (ended_since s.history (after_row e.layout s c.args.limit None)) ++ line (left_text n))) left)));
+          ∙ ap (λ n. string_bytes c.args.out.now ++
+          (row_text e.layout (codes "ran") (ended_since s.history (after_row e.layout s c.args.limit None)) ++ line (left_text n))) left)));
       room = λ s m.
           let so = drain_closed e.layout s c.args.limit (sym (c.is_closed.ensures e.layout s.history m.seated) ∙ c.if-not-is_closed.false) in
           omega (arith, ap size so.0, executions_few e.layout.senders s.follows (ends_at None) c.args.limit s.history m.short, c.ranges.limit);

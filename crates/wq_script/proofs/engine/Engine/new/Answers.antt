@@ -1,5 +1,5 @@
-use Rattle.wq_script.proofs.Meetings.{new_meets}
+use Rattle.wq_script.proofs.FollowLists.{new_meets}
 use Rattle.wq_script.proofs.engine.Engine.new.Goals as goal
 
 pub returns-clause-meets : goal.returns-clause-meets
-returns-clause-meets c = let n = c.in_ok-new.ensures in new_meets c.args.layout c.in_ok-new.field-0 n.seated n.lists n.table.0 n.table.1 n.table.2
+returns-clause-meets c = let n = c.in_ok-new.ensures in new_meets c.args.layout c.in_ok-new.field-0 n.seated n.lists n.table

@@ -1,14 +1,16 @@
-use Rattle.std.proofs.Common.{◌∙◌, ℕ, ◌++◌, ap, refl, arith, string_bytes, length-append}
-use Rattle.wq_plain.specs.Answer.{answer_text}
-use Rattle.wq_plain.specs.Report.{line}
-use Rattle.wq_plain.specs.Queueing.{queue_events, queue_answer}
-use Rattle.wq_script.proofs.Meetings.{asked_meets, queue_few}
+use Rattle.std.proofs.Common.{◌∙◌, ℕ, ◌++◌, sym, ap, refl, arith, string_bytes, length-append}
+use Rattle.wq_meaning.specs.Answer.{answer_text}
+use Rattle.wq_meaning.specs.Report.{line}
+use Rattle.wq_meaning.specs.Queueing.{queue_events}
+use Rattle.wq_meaning.proofs.Answers.{queue_uncontended}
+use Rattle.wq_meaning.proofs.Sizes.{queue_few}
+use Rattle.wq_script.proofs.Meetings.{asked_meets}
 use Rattle.wq_script.proofs.engine.Engine.queue.Goals as goal
 
-pub queueing-answer-requires-clause-told : goal.queueing-answer-requires-clause-told
-queueing-answer-requires-clause-told c =
+pub answer_text-requires : goal.answer_text-requires
+answer_text-requires c =
     let e = c.args.self.now in let s = c.requires.ready.0 in let m = c.requires.ready.1 in
-    let asks = c.queue-answer.ensures e.layout s.history m.seated in (queue_answer c.args.item s.history, asks.tells)
+    record { alone = λ is. queue_uncontended (c.args.item) s.history (sym (c.queue-answer.ensures e.layout s.history m.seated).answer ∙ is) }
 
 pub returns : goal.returns
 returns c =
@@ -16,8 +18,11 @@ returns c =
     let k : ℕ = c.args.item in
     record {
       layout = refl;
-      meets = λ s m. (asked_meets e.layout e.seats c.queue-answer.new.self e.tally c.queueing-answer.new.self s c.args.sender k c.queue-answer.result c.queueing-answer.result c.requires.fits.0 m (c.queue-answer.ensures e.layout s.history m.seated) c.queueing-answer.ensures.told c.queueing-answer.ensures.counts).0;
-      lines = λ s m few. c.in_ok-write_line.ensures ∙ ap (λ x. string_bytes c.args.out.now ++ line x) (c.text.ensures ∙ ap answer_text
-          (asked_meets e.layout e.seats c.queue-answer.new.self e.tally c.queueing-answer.new.self s c.args.sender k c.queue-answer.result c.queueing-answer.result c.requires.fits.0 m (c.queue-answer.ensures e.layout s.history m.seated) c.queueing-answer.ensures.told c.queueing-answer.ensures.counts).1);
+      meets = λ s m.
+          asked_meets e.layout e.seats c.queue-answer.new.self e.tally c.queueing.new.self s c.args.sender k c.queue-answer.result c.requires.fits.0 m
+          (c.queue-answer.ensures e.layout s.history m.seated) c.queueing.ensures;
+      lines = λ s m few.
+          c.in_ok-write_line.ensures ∙ ap (λ x. string_bytes c.args.out.now ++ line x)
+          (c.answer_text.ensures ∙ ap answer_text (c.queue-answer.ensures e.layout s.history m.seated).answer);
       room = λ s m. omega (arith, length-append s.history (queue_events c.args.sender k s.history), queue_few c.args.sender k s.history);
     }

@@ -1,18 +1,26 @@
-use Rattle.std.proofs.Common.{◌∙◌, ◌++◌, ap, refl, arith, string_bytes, codes}
-use Rattle.std.proofs.Common.{Some}
+use Rattle.std.proofs.Common.{ℕ, Some, ◌∙◌, ◌++◌, ap, refl, arith, string_bytes, codes, subst}
 use Rattle.wq_words.specs.Numbers.{stop_number}
-use Rattle.wq_plain.specs.Names.{row_text}
-use Rattle.wq_plain.specs.Execution.{ends_at}
-use Rattle.wq_script.proofs.Meetings.{ran_meets, executions_few}
+use Rattle.wq_meaning.specs.Names.{row_text}
+use Rattle.wq_meaning.specs.Execution.{ends_at}
+use Rattle.wq_meaning.specs.Commands.{ScriptState}
+use Rattle.wq_meaning.proofs.Sizes.{executions_few}
+use Rattle.wq_script.specs.Asking.{RunsAs}
+use Rattle.wq_script.specs.Engine.{Meets}
+use Rattle.wq_script.proofs.Meetings.{ran_meets}
 use Rattle.wq_script.proofs.engine.Engine.run.Goals as goal
 
 pub returns : goal.returns
 returns c =
-    let e = c.args.self.now in
+    let e = c.args.self.now in let limit : ℕ = c.args.limit in let ran = c.in_ok-ran.ran.items in
+    let ends = ends_at (Some (stop_number e.layout)) in
+    let P : ℕ → Type 0 = λ last. RunsAs e.layout limit (Some last) ran e.seats c.run.new.self in
+    let runs : P (stop_number e.layout) = subst P c.stop-stop.ensures c.in_ok-ran.ensures in
+    let goes = λ (s : ScriptState) (m : Meets e s).
+    ran_meets e.layout e.seats c.run.new.self e.tally s limit ends ran m (runs s.history m.seated m.idle m.lists) in
     record {
       layout = refl;
-      meets = λ s m. (ran_meets e.layout e.seats c.run.new.self e.tally s c.args.limit (ends_at (Some (stop_number e.layout))) c.in_ok-ran.ran.items m (c.in_ok-ran.ensures s.history m.seated m.idle m.lists)).0;
-      lines = λ s m few. c.in_ok-write_row.ensures ∙ ap (λ ks. string_bytes c.args.out.now ++ row_text e.layout (codes "ran") ks) (c.deref.ensures.value
-          ∙ (ran_meets e.layout e.seats c.run.new.self e.tally s c.args.limit (ends_at (Some (stop_number e.layout))) c.in_ok-ran.ran.items m (c.in_ok-ran.ensures s.history m.seated m.idle m.lists)).1);
-      room = λ s m. omega (arith, executions_few e.layout.senders s.follows (ends_at (Some (stop_number e.layout))) c.args.limit s.history m.short, c.ranges.limit);
+      meets = λ s m. (goes s m).0;
+      lines = λ s m few.
+          c.in_ok-write_row.ensures ∙ ap (λ ks. string_bytes c.args.out.now ++ row_text e.layout (codes "ran") ks) (c.deref.ensures.value ∙ (goes s m).1);
+      room = λ s m. omega (arith, executions_few e.layout.senders s.follows ends limit s.history m.short, c.ranges.limit);
     }

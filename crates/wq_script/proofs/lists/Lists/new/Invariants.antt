@@ -1,5 +1,5 @@
 use Rattle.std.proofs.Common.{◌≡◌, replicate}
-use Rattle.wq_plain.specs.Execution.{no_follow}
+use Rattle.wq_meaning.specs.Execution.{no_follow}
 use Rattle.wq_script.proofs.lists.Lists.new.Given as goal
 
 abbrev pub invariant-loop : goal.invariant-loop

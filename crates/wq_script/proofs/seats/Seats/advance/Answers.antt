@@ -1,22 +1,22 @@
-use Rattle.std.proofs.Common.{List, sym, ◌∙◌, subst}
+use Rattle.std.proofs.Common.{List, subst}
 use Rattle.std.proofs.lemmas.List.{append-nil}
 use Rattle.wq_words.specs.declared.event.Event.{Event}
 use Rattle.wq_script.specs.Seats.{Seated}
-use Rattle.wq_script.proofs.Timetables.{due_is}
-use Rattle.wq_script.proofs.Delayed.{leads_none}
+use Rattle.wq_script.proofs.Delayed.{goes_nowhere}
 use Rattle.wq_script.proofs.Moved.{advanced_so}
 use Rattle.wq_script.proofs.seats.Seats.advance.Goals as goal
 
 pub returns-in-Ok : goal.returns-in-Ok
-returns-in-Ok c = λ layout h g some. let told = c.in-Ok.ensures in (
+returns-in-Ok c = λ layout h g. let told = c.in-Ok.ensures in (
   told.0,
-  c.in_ok-due.ensures ∙ sym (due_is c.args.tick c.args.self.now.delay),
-  advanced_so layout c.args.self.now c.gather.new.self h g some c.advance-advanced.new.self c.gather.ensures.delay c.layout.ensures.fit c.args.tick c.in-Ok.field-0.pushed c.in-Ok.field-0.refused told.1 told.2,
+  c.in_ok-due.ensures,
+  advanced_so layout c.args.self.now c.gather.new.self h g c.advance-advanced.new.self c.gather.ensures.delay c.fit.ensures
+      c.args.tick c.in-Ok.field-0.pushed c.in-Ok.field-0.refused told.1,
 )
 
 pub returns-in-Err : goal.returns-in-Err
-returns-in-Err c = λ layout h g some. let told = c.in-Err.ensures in
-    let l = leads_none layout c.args.self.now c.gather.new.self h g some c.advance-advanced.new.self c.gather.ensures.delay told.1 c.layout.ensures.fit in (
+returns-in-Err c = λ layout h g. let told = c.in-Err.ensures in
+    let l = goes_nowhere layout c.args.self.now c.gather.new.self h g c.advance-advanced.new.self c.gather.ensures.delay told.1 c.fit.ensures in (
       told.0,
       record { seated = subst (λ (x : List Event). Seated layout c.gather.new.self x) (append-nil h) l.seated; table = l.table; work = l.work },
     )

@@ -1,5 +1,10 @@
+use Rattle.std.proofs.Common.{◌∙◌}
 use Rattle.wq_script.proofs.Delayed.{armed_so}
 use Rattle.wq_script.proofs.seats.Seats.arm.Goals as goal
 
 pub returns : goal.returns
-returns c = λ layout h g some room. armed_so layout c.args.self.now c.gather.new.self h g some c.arm-answer.new.self c.gather.ensures.delay c.args.item c.args.delay c.layout.ensures.fit c.arm-answer.result c.arm-answer.ensures.far room c.arm-answer.ensures.answer
+returns c = λ layout h g.
+    let room = c.in_ok-answer.ensures in
+    let so = armed_so layout c.args.self.now c.gather.new.self h g c.arm-armed.new.self c.gather.ensures.delay c.args.item c.args.delay
+    c.fit.ensures c.arm-armed.result c.arm-armed.ensures.far room.1 c.arm-armed.ensures.answer in
+    (room.0 ∙ so.0, so.1)

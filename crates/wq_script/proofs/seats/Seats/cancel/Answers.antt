@@ -2,4 +2,6 @@ use Rattle.wq_script.proofs.Moved.{cancelled_so}
 use Rattle.wq_script.proofs.seats.Seats.cancel.Goals as goal
 
 pub returns : goal.returns
-returns c = λ layout h g some. cancelled_so layout c.args.self.now c.gather.new.self h g some c.cancel-was_on_table.new.self c.gather.ensures.delay c.layout.ensures.fit c.args.item c.cancel-was_on_table.result c.cancel-was_on_table.ensures
+returns c = λ layout h g.
+    cancelled_so layout c.args.self.now c.gather.new.self h g c.cancel-was_on_table.new.self c.gather.ensures.delay c.fit.ensures
+    c.args.item c.cancel-was_on_table.result c.cancel-was_on_table.ensures

@@ -5,8 +5,9 @@ use mathlib.Core.List.{IsPrefix}
 use Rattle.wq_words.specs.declared.event.Event.{Event}
 use Rattle.wq_live.specs.Known.{Known}
 use Rattle.wq_script.specs.declared.seats.Seats.{Seats}
-use Rattle.wq_script.specs.Seats.{Stays, AllHear, Gathers}
-use Rattle.wq_script.proofs.Hearing.{prefix_on, stays_on, sees_stays, keeps_same, same_table_on, moves_stay, all_hear_nothing, all_hear_set, all_hear_less, all_hear_on, queue_heard}
+use Rattle.wq_script.specs.Seats.{StaysSilent, AllHear, Gathers}
+use Rattle.wq_words.proofs.Prefixes.{prefix_on}
+use Rattle.wq_script.proofs.Hearing.{stays_on, sees_stays, keeps_same, same_table_on, moves_stay, all_hear_nothing, all_hear_set, all_hear_less, all_hear_on, queue_heard}
 use Rattle.wq_script.proofs.seats.Seats.gather.Goals as goal
 
 pub meet-requires : goal.meet-requires
@@ -19,7 +20,7 @@ meet_each-requires c =
     let x : Known = c.index_mut.result.now in
     let q : List Known = c.args.self.now.senders.items in
     let one : AllHear [] q (set q c.args.place c.meet.new.other) = all_hear_set [] q q c.args.place x c.meet.new.other c.requires.place (all_hear_nothing q)
-    (subst (λ (v : Known). Stays v c.meet.new.other) c.index_mut.ensures.value (sees_stays 0 x c.meet.new.other c.meet.ensures.that)) in
+    (subst (λ (v : Known). StaysSilent v c.meet.new.other) c.index_mut.ensures.value (sees_stays 0 x c.meet.new.other c.meet.ensures.that)) in
     record {
       one = λ i d lt. queue_heard [] q (set q c.args.place c.meet.new.other) one i d (omega (arith, lt, one.count))
           ∙ c.requires.one.senders i d (omega (arith, lt, one.count)) ∙ sym c.meet.ensures.this.seen.same.queue_is;
@@ -31,7 +32,7 @@ meet-requires-2 c =
     let y : Known = c.index_mut-2.result.now in
     let q : List Known = c.args.self.now.senders.items in
     let one : AllHear [] q (set q c.args.place c.meet.new.other) = all_hear_set [] q q c.args.place x c.meet.new.other c.requires.place (all_hear_nothing q)
-    (subst (λ (v : Known). Stays v c.meet.new.other) c.index_mut.ensures.value (sees_stays 0 x c.meet.new.other c.meet.ensures.that)) in
+    (subst (λ (v : Known). StaysSilent v c.meet.new.other) c.index_mut.ensures.value (sees_stays 0 x c.meet.new.other c.meet.ensures.that)) in
     let all = all_hear_on c.meet.new.self.sender.seen q (set q c.args.place c.meet.new.other) c.meet_each.new.senders.items one c.meet_each.ensures.senders in
     let here : 0 < length q = omega (arith, c.requires.place) in
     ap (λ (k : Known). k.queue) c.index_mut-2.ensures.value ∙ queue_heard c.meet.new.self.sender.seen q c.meet_each.new.senders.items all 0 y here
@@ -46,10 +47,11 @@ returns c =
     let news : List Known = c.meet_each.new.senders.items in
     let f = c.meet_each.new.delay in let me = c.meet_each.ensures in
     let z : Known = c.meet-2.new.sender in let w = c.meet-2.new.self in let m2 = c.meet-2.ensures in
-    let met : Stays x k = sees_stays 0 x k m.that in
-    let led : Stays s.delay.sender e.sender = sees_stays 0 s.delay.sender e.sender m.this.seen in
-    let one : AllHear [] q (set q p k) = all_hear_set [] q q p x k c.requires.place (all_hear_nothing q) (subst (λ (v : Known). Stays v k) c.index_mut.ensures.value met) in
-    let last : Stays y z = sees_stays 0 y z m2.sender in
+    let met : StaysSilent x k = sees_stays 0 x k m.that in
+    let led : StaysSilent s.delay.sender e.sender = sees_stays 0 s.delay.sender e.sender m.this.seen in
+    let one : AllHear [] q (set q p k) =
+    all_hear_set [] q q p x k c.requires.place (all_hear_nothing q) (subst (λ (v : Known). StaysSilent v k) c.index_mut.ensures.value met) in
+    let last : StaysSilent y z = sees_stays 0 y z m2.sender in
     let both = moves_stay 0 s.worker w m2.worker in
     let t : Seats = record { worker = w; delay = f; senders = with_item c.meet_each.new.senders 0 z } in
     let all : (told : List Event) → IsPrefix told e.sender.seen → Gathers told s t = λ told knows.
@@ -60,14 +62,19 @@ returns c =
     record {
       sender = record { stays = both.0; knows = worker };
       owner = record { stays = both.1; knows = worker };
-      delay = record { stays = stays_on s.delay.sender e.sender f.sender led me.delay; knows = prefix_on told e.sender.seen f.sender.seen knows me.delay.begins };
-      senders = all_hear_set told q news 0 y z here heard (subst (λ (v : Known). Stays v z) c.index_mut-2.ensures.value last);
-      work = record { work_is = m2.work.0; left_is = m2.work.1; tries_is = m2.worker.tries };
+      delay = record {
+        stays = stays_on s.delay.sender e.sender f.sender led me.delay;
+        knows =
+            prefix_on told e.sender.seen f.sender.seen knows me.delay.begins;
+      };
+      senders = all_hear_set told q news 0 y z here heard (subst (λ (v : Known). StaysSilent v z) c.index_mut-2.ensures.value last);
+      work = record { work_is = m2.work.0; unqueued_is = m2.work.1; tries_is = m2.worker.tries };
       table = same_table_on s.delay e f (keeps_same [] 0 s.delay e m.this) me.table;
       legal = m2.worker.legal;
     } in
     record {
-      sender = λ d. all (get_or q p d).seen (subst (λ (v : Known). IsPrefix v.seen e.sender.seen) (c.index_mut.ensures.value ∙ get_or_default q p x d c.requires.place)
+      sender = λ d. all (get_or q p d).seen (subst (λ (v : Known). IsPrefix v.seen e.sender.seen)
+          (c.index_mut.ensures.value ∙ get_or_default q p x d c.requires.place)
           (subst (λ (v : List Event). IsPrefix x.seen v) m.both met.begins));
       delay = all s.delay.sender.seen led.begins;
     }

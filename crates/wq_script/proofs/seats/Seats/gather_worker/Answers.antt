@@ -5,12 +5,14 @@ use mathlib.Core.List.{IsPrefix}
 use Rattle.wq_words.specs.declared.event.Event.{Event}
 use Rattle.wq_live.specs.Known.{Known}
 use Rattle.wq_script.specs.declared.seats.Seats.{Seats}
-use Rattle.wq_script.specs.Seats.{Stays, AllHear, Gathers, sender_of, owner_of}
-use Rattle.wq_script.proofs.Hearing.{prefix_on, stays_on, sees_stays, moves_stay, all_hear_nothing, all_hear_set, all_hear_less, all_hear_on, queue_heard}
+use Rattle.wq_script.specs.Seats.{StaysSilent, AllHear, Gathers, sender_of, owner_of}
+use Rattle.wq_words.proofs.Prefixes.{prefix_on}
+use Rattle.wq_script.proofs.Hearing.{stays_on, sees_stays, moves_stay, all_hear_nothing, all_hear_set, all_hear_less, all_hear_on, queue_heard}
 use Rattle.wq_script.proofs.seats.Seats.gather_worker.Goals as goal
 
 pub meet-requires : goal.meet-requires
-meet-requires c = ap (λ (k : Known). k.queue) c.index_mut.ensures.value ∙ c.requires.one.senders 0 c.index_mut.result.now c.requires.some ∙ sym c.requires.one.worker
+meet-requires c = ap (λ (k : Known). k.queue) c.index_mut.ensures.value ∙ c.requires.one.senders 0 c.index_mut.result.now c.requires.some
+    ∙ sym c.requires.one.worker
 
 pub gather-requires : goal.gather-requires
 gather-requires c =
@@ -18,7 +20,7 @@ gather-requires c =
     let x : Known = c.index_mut.result.now in
     let k : Known = c.meet.new.sender in
     let one : AllHear [] q (set q 0 k) = all_hear_set [] q q 0 x k c.requires.some (all_hear_nothing q)
-    (subst (λ (v : Known). Stays v k) c.index_mut.ensures.value (sees_stays 0 x k c.meet.ensures.sender)) in
+    (subst (λ (v : Known). StaysSilent v k) c.index_mut.ensures.value (sees_stays 0 x k c.meet.ensures.sender)) in
     record {
       place = omega (arith, one.count, c.requires.some);
       one = record {
@@ -36,16 +38,26 @@ returns c =
     let t = c.gather.new.self in
     let mid : Seats = record { worker = w; delay = s.delay; senders = with_item s.senders 0 k } in
     let told : List Event = s.worker.seen in
-    let one : AllHear [] q (set q 0 k) = all_hear_set [] q q 0 x k c.requires.some (all_hear_nothing q) (subst (λ (v : Known). Stays v k) c.index_mut.ensures.value (sees_stays 0 x k m.sender)) in
+    let one : AllHear [] q (set q 0 k) =
+    all_hear_set [] q q 0 x k c.requires.some (all_hear_nothing q)
+    (subst (λ (v : Known). StaysSilent v k) c.index_mut.ensures.value (sees_stays 0 x k m.sender)) in
     let both = moves_stay 0 s.worker w m.worker in
     let knows : IsPrefix told k.seen = subst (λ (v : List Event). IsPrefix told v) (sym m.both) both.0.begins in
     let g : Gathers k.seen mid t = subst (λ (v : Known). Gathers v.seen mid t) (get_or-set_same q 0 k x c.requires.some) (c.gather.ensures.sender x) in
     record {
-      sender = record { stays = stays_on (sender_of s.worker) (sender_of w) (sender_of t.worker) both.0 g.sender.stays; knows = prefix_on told k.seen t.worker.seen knows g.sender.knows };
-      owner = record { stays = stays_on (owner_of s.worker) (owner_of w) (owner_of t.worker) both.1 g.owner.stays; knows = prefix_on told k.seen t.worker.seen knows g.owner.knows };
+      sender = record {
+        stays = stays_on (sender_of s.worker) (sender_of w) (sender_of t.worker) both.0 g.sender.stays;
+        knows =
+            prefix_on told k.seen t.worker.seen knows g.sender.knows;
+      };
+      owner = record {
+        stays = stays_on (owner_of s.worker) (owner_of w) (owner_of t.worker) both.1 g.owner.stays;
+        knows =
+            prefix_on told k.seen t.worker.seen knows g.owner.knows;
+      };
       delay = record { stays = g.delay.stays; knows = prefix_on told k.seen t.delay.sender.seen knows g.delay.knows };
       senders = all_hear_on told q (set q 0 k) t.senders.items one (all_hear_less told k.seen (set q 0 k) t.senders.items knows g.senders);
-      work = record { work_is = g.work.work_is ∙ m.work.0; left_is = g.work.left_is ∙ m.work.1; tries_is = g.work.tries_is ∙ m.worker.tries };
+      work = record { work_is = g.work.work_is ∙ m.work.0; unqueued_is = g.work.unqueued_is ∙ m.work.1; tries_is = g.work.tries_is ∙ m.worker.tries };
       table = g.table;
       legal = g.legal;
     }

@@ -14,6 +14,7 @@ returns c = λ layout h g.
     let z : Known = c.is_pending-is_pending.new.self in
     let t = c.gather.new.self in
     let lt : p < length s.senders.items = c.requires.some in
-    let all : Gathers z.seen (with_sender s p z) t = subst (λ (v : Known). Gathers v.seen (with_sender s p z) t) (get_or-set_same s.senders.items p z x lt) (c.gather.ensures.sender x) in
+    let all : Gathers z.seen (with_sender s p z) t =
+    subst (λ (v : Known). Gathers v.seen (with_sender s p z) t) (get_or-set_same s.senders.items p z x lt) (c.gather.ensures.sender x) in
     let looked = sender_looked layout s t h p x z g lt c.index_mut.ensures.value c.is_pending-is_pending.ensures.seen all in
     (looked.0, c.is_pending-is_pending.ensures.pending ∙ ap (λ (y : List Event). pending y c.args.item) looked.1)

@@ -1,5 +1,10 @@
+use Rattle.std.proofs.Common.{◌∙◌}
 use Rattle.wq_script.proofs.Moved.{modified_so}
 use Rattle.wq_script.proofs.seats.Seats.modify.Goals as goal
 
 pub returns : goal.returns
-returns c = λ layout h g some room. modified_so layout c.args.self.now c.gather.new.self h g some c.modify-answer.new.self c.gather.ensures.delay c.layout.ensures.fit c.args.item c.args.delay c.modify-answer.result c.modify-answer.ensures.far room c.modify-answer.ensures.answer
+returns c = λ layout h g.
+    let room = c.in_ok-answer.ensures in
+    let so = modified_so layout c.args.self.now c.gather.new.self h g c.modify-modified.new.self c.gather.ensures.delay c.fit.ensures
+    c.args.item c.args.delay c.modify-modified.result c.modify-modified.ensures.far room.1 c.modify-modified.ensures.answer in
+    (room.0 ∙ so.0, so.1)

@@ -7,7 +7,17 @@ use Rattle.wq_script.proofs.seats.Seats.new.Goals as goal
 pub unreachable-requires-in_default-pop-2 : goal.unreachable-requires-in_default-pop-2
 unreachable-requires-in_default-pop-2 c =
     let b = c.in-Ok-build.ensures in let w = c.in-Ok.ensures.ok in let f = c.in_default-pop-2.ensures.cases in let o = c.pop.new.self.ok in
-    absurd (omega (arith, f.0, o.0, ap length c.in-Some.ensures.items, length-append c.pop.new.self.items (c.in-Some.delayer ∷ []), ap length b.1, length-new c.in-Ok-build.owner.queue c.in-Ok.wide c.in-Ok.wide.senders, w.2))
+    absurd (omega (
+      arith,
+      f.0,
+      o.0,
+      ap length c.in-Some.ensures.items,
+      length-append c.pop.new.self.items
+          (c.in-Some.delayer ∷ []),
+      ap length b.1,
+      length-new c.in-Ok-build.owner.queue c.in-Ok.wide c.in-Ok.wide.senders,
+      w.2,
+    ))
 
 pub new-requires-3 : goal.new-requires-3
 new-requires-3 c = λ k. let b = c.in-Ok-build.ensures in let w = c.in-Ok.ensures.ok in

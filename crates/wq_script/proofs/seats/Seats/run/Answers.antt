@@ -1,7 +1,7 @@
 use Rattle.std.proofs.Common.{sym, ap, ◌∙◌, subst}
 use Rattle.wq_words.specs.declared.layout.Layout.{Layout}
 use Rattle.wq_words.specs.Legal.{IsLegal}
-use Rattle.wq_plain.specs.Execution.{ends_at}
+use Rattle.wq_meaning.specs.Execution.{ends_at}
 use Rattle.wq_script.proofs.Ran.{row_ran}
 use Rattle.wq_script.proofs.seats.Seats.run.Goals as goal
 
@@ -15,4 +15,5 @@ execute_row-requires c =
     }
 
 pub returns : goal.returns
-returns c = λ h g idle lists. row_ran c.args.layout.now c.args.self.now c.gather_worker.new.self h c.execute_row.new.worker c.args.limit (ends_at c.args.last) c.in_ok-ran.ran.items g idle lists c.in_ok-ran.ensures c.gather_worker.ensures
+returns c = λ h g idle lists. row_ran c.args.layout.now c.args.self.now c.gather_worker.new.self h c.execute_row.new.worker c.args.limit
+    (ends_at c.args.last) c.in_ok-ran.ran.items g idle lists c.in_ok-ran.ensures c.gather_worker.ensures

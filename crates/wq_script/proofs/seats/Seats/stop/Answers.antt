@@ -13,6 +13,10 @@ returns c = λ layout h g.
     let x : Known = c.index_mut.result.now in
     let z : Known = c.request_stop-answer.new.self in
     let t = c.gather.new.self in
-    let all : Gathers z.seen (with_sender s p z) t = subst (λ (v : Known). Gathers v.seen (with_sender s p z) t) (get_or-set_same s.senders.items p z x c.requires.place) (c.gather.ensures.sender x) in
-    sender_asked layout s t h p (layout.items + layout.barriers) c.request_stop-answer.result x z g c.requires.place c.index_mut.ensures.value (subst (λ (m : ℕ). Answers m 1 c.request_stop-answer.result x z) ((λ i. ap (λ (l : Layout). l.items) (seat_layout layout s h p x g c.requires.place c.index_mut.ensures.value ∙ g.delay.layout_is) i
-    + ap (λ (l : Layout). l.barriers) (seat_layout layout s h p x g c.requires.place c.index_mut.ensures.value ∙ g.delay.layout_is) i) ∙ (λ i. g.wider.items i + g.wider.barriers i)) c.request_stop-answer.ensures) all
+    let all : Gathers z.seen (with_sender s p z) t =
+    subst (λ (v : Known). Gathers v.seen (with_sender s p z) t) (get_or-set_same s.senders.items p z x c.requires.place) (c.gather.ensures.sender x) in
+    sender_asked layout s t h p (layout.items + layout.barriers) c.request_stop-answer.result x z g c.requires.place c.index_mut.ensures.value
+    (subst (λ (m : ℕ). Answers m 1 c.request_stop-answer.result x z)
+    ((λ i. ap (λ (l : Layout). l.items) (seat_layout layout s h p x g c.requires.place c.index_mut.ensures.value ∙ g.delay.layout_is) i
+    + ap (λ (l : Layout). l.barriers) (seat_layout layout s h p x g c.requires.place c.index_mut.ensures.value ∙ g.delay.layout_is) i)
+    ∙ (λ i. g.wider.items i + g.wider.barriers i)) c.request_stop-answer.ensures) all

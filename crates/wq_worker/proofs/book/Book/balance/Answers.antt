@@ -4,7 +4,7 @@ use Rattle.wq_words.specs.declared.layout.Layout.{Layout}
 use Rattle.wq_live.specs.declared.counts.OwnerCounts.{OwnerCounts}
 use Rattle.wq_live.specs.Counts.{owner_counts}
 use Rattle.wq_worker.specs.declared.totals.Totals.{Totals}
-use Rattle.wq_worker.specs.Book.{BookState, IsMade}
+use Rattle.wq_worker.specs.Book.{BookState, IsLedgerOf}
 use Rattle.wq_worker.specs.Balance.{AreWhole, AreOwnerWhole, SumsMet, Balances}
 use Rattle.wq_worker.proofs.Balancing.{balances}
 use Rattle.wq_worker.proofs.book.Book.balance.Goals as goal
@@ -13,8 +13,9 @@ pub returns : goal.returns
 returns c =
     let o = c.self.inside.owner in let own = c.self.inside.own in let ls = c.args.ledgers.now in let met = c.in_ok-met.met in let oc = c.counts-owner.ensures in
     let a = c.with.ensures.sums in let b = c.with_owner.ensures in
-    let made : All (IsMade o.seen) ls = subst (λ (z : BookState). All (IsMade z.seen) ls) (sym c.self.view_is) c.requires in
-    let sums : SumsMet ls own.number o.layout.senders met = subst (λ (z : Layout). SumsMet ls own.number z.senders met) c.layout.ensures.layout c.in_ok-met.ensures in
+    let made : All (IsLedgerOf o.seen) ls = subst (λ (z : BookState). All (IsLedgerOf z.seen) ls) (sym c.self.view_is) c.requires in
+    let sums : SumsMet ls own.number o.layout.senders met =
+    subst (λ (z : Layout). SumsMet ls own.number z.senders met) c.layout.ensures.layout c.in_ok-met.ensures in
     let whole : AreWhole own.counts = search rules in
     let owner_whole : AreOwnerWhole (owner_counts o.seen) = subst AreOwnerWhole oc (search rules) in
     subst (λ (z : BookState). Balances z ls c.with_owner.result) c.self.view_is

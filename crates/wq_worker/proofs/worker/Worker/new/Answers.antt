@@ -1,10 +1,10 @@
 use Rattle.std.proofs.Common.{ℕ, ◌≡◌, List, [], sym, ap, ◌∙◌, subst, arith}
 use Rattle.wq_words.specs.declared.event.Event.{Event}
+use Rattle.wq_words.specs.declared.layout.Layout.{Layout}
 use Rattle.std.proofs.lemmas.List.{append-nil}
 use Rattle.wq_words.specs.History.{begun}
 use Rattle.wq_words.specs.Seen.{owner_seat, Grows}
-use Rattle.wq_worker.specs.State.{items_of}
-use Rattle.wq_words.proofs.Seen.{begun_same}
+use Rattle.wq_worker.specs.State.{items_among}
 use Rattle.wq_worker.proofs.Owned.{owner_grows}
 use Rattle.wq_worker.proofs.worker.Worker.new.Goals as goal
 
@@ -12,7 +12,7 @@ pub invariant_of-result : goal.invariant_of-result
 invariant_of-result g c =
     let m = c.meet_owner.ensures in let o = c.args.owner in let q = c.meet_owner.new.owner in
     let grown : Grows owner_seat [] 0 o.seen q.seen = subst (λ (z : ℕ). Grows z [] 0 o.seen q.seen) m.seat m.that.grows in
-    let none : begun q.seen ≡ [] = (owner_grows [] 0 o.seen q.seen grown).begun_is ∙ (append-nil (begun o.seen) ∙ begun_same [] o.seen c.requires.untouched) in
+    let none : begun q.seen ≡ [] = (owner_grows [] 0 o.seen q.seen grown).begun_is ∙ (append-nil (begun o.seen) ∙ c.requires.unbegun) in
     record {
       paired = record {
         queue = m.this.same.queue_is ∙ (c.requires.one ∙ sym m.that.same.queue_is);
@@ -21,9 +21,10 @@ invariant_of-result g c =
         seen = sym m.both;
         legal = m.that.legal;
       };
+      numbered = omega (arith, m.number, m.this.same.number_is, ap (λ (l : Layout). l.senders) m.this.same.layout_is);
       some_try = c.requires.tries;
       within = omega arith;
-      logged = c.requires.unrun ∙ ap (items_of q.layout) (sym none);
+      logged = c.requires.unrun ∙ ap (items_among q.layout) (sym none);
     }
 
 pub returns-clause-owner : goal.returns-clause-owner

@@ -1,13 +1,37 @@
 use Rattle.std.proofs.Common.{rules, ◌≡◌, None}
 use Rattle.wq_words.specs.History.{running}
 use Rattle.wq_worker.proofs.Running.{runs_none}
+use Rattle.wq_worker.proofs.Rows.{worker_on, moves_same, runs_same, runs_legal}
 use Rattle.wq_worker.proofs.Step.{runs_fresh}
 use Rattle.wq_worker.proofs.worker.Worker.run_one.Goals as goal
 
-pub returns : goal.returns
-returns g c = let none : running c.args.self.now.seen ≡ None = search rules in
-    runs_fresh g.W.Work.may c.in-Some-start.number c.finish-2.result c.args.self.now c.start.new.self c.finish-2.new.self c.in-Some-start.ensures (runs_none c.args.self.now.seen none) c.finish-2.ensures
+pub returns-clause-runs : goal.returns-clause-runs
+returns-clause-runs g c =
+    let a = c.args.self.now in let none : running a.seen ≡ None = search rules in
+    runs_fresh g.W.Work.may c.in-Some-start.number c.finish-2.result a c.start.new.self c.finish-2.new.self c.in-Some-start.ensures
+    (runs_none a.seen none) c.finish-2.ensures
 
-pub returns-in_default-start : goal.returns-in_default-start
-returns-in_default-start g c = let none : running c.args.self.now.seen ≡ None = search rules in let e = c.in_default-start.ensures in
+pub returns-clause-same : goal.returns-clause-same
+returns-clause-same g c =
+    worker_on c.args.self.now c.start.new.self c.finish-2.new.self (moves_same _ 0 c.args.self.now c.start.new.self c.in-Some-start.ensures.moves)
+    (runs_same g.W.Work.may c.finish-2.result c.start.new.self c.finish-2.new.self c.finish-2.ensures)
+
+pub returns-clause-legal : goal.returns-clause-legal
+returns-clause-legal g c = runs_legal g.W.Work.may c.finish-2.result c.start.new.self c.finish-2.new.self c.finish-2.ensures
+
+pub returns-in_default-start-clause-runs : goal.returns-in_default-start-clause-runs
+returns-in_default-start-clause-runs g c =
+    let none : running c.args.self.now.seen ≡ None = search rules in let e = c.in_default-start.ensures in
     (runs_none c.args.self.now.seen none, e.0, e.1, e.2)
+
+pub returns-in_default-start-clause-same : goal.returns-in_default-start-clause-same
+returns-in_default-start-clause-same g c = moves_same _ 0 c.args.self.now c.start.new.self c.in_default-start.ensures.2
+
+pub returns-in_default-start-clause-legal : goal.returns-in_default-start-clause-legal
+returns-in_default-start-clause-legal g c = c.in_default-start.ensures.2.legal
+
+pub returns-in-Some-clause-same : goal.returns-in-Some-clause-same
+returns-in-Some-clause-same g c = runs_same g.W.Work.may c.finish.result c.args.self.now c.finish.new.self c.finish.ensures
+
+pub returns-in-Some-clause-legal : goal.returns-in-Some-clause-legal
+returns-in-Some-clause-legal g c = runs_legal g.W.Work.may c.finish.result c.args.self.now c.finish.new.self c.finish.ensures

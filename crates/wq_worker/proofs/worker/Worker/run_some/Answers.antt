@@ -1,23 +1,46 @@
 use Rattle.std.proofs.Common.{refl, arith}
 use Rattle.wq_worker.specs.declared.ran.Ran.TheVariants.{Item, Barrier, Stop, Nothing, Owing}
-use Rattle.wq_worker.specs.Rows.{none, more, broken}
+use Rattle.wq_worker.specs.Rows.{GoesOn, none, more, broken}
+use Rattle.wq_worker.proofs.Rows.{worker_on, row_same}
 use Rattle.wq_worker.proofs.worker.Worker.run_some.Goals as goal
 use Rattle.wq_worker.proofs.worker.Worker.run_some.Goals.{in-Item, in-Barrier}
 
 pub loop-done-init : goal.loop-done-init
-loop-done-init g c = none c.args.self.now
+loop-done-init g c = (none c.args.self.now, c.legal.ensures.legal)
 
-pub returns-in-Stop : goal.returns-in-Stop
-returns-in-Stop g c = broken c.loop-done.done Stop c.loop-done.self c.loop-done.invariant c.loop-done-test.true tt c.in-Stop.ensures refl
+pub returns-in-Stop-clause-runs : goal.returns-in-Stop-clause-runs
+returns-in-Stop-clause-runs g c = let l = c.loop-done in broken l.done Stop l.self l.invariant.0 c.loop-done-test.true tt c.in-Stop.ensures.runs refl
 
-pub returns-in-Nothing : goal.returns-in-Nothing
-returns-in-Nothing g c = broken c.loop-done.done Nothing c.loop-done.self c.loop-done.invariant c.loop-done-test.true tt c.in-Nothing.ensures (omega arith)
+pub returns-in-Stop-clause-same : goal.returns-in-Stop-clause-same
+returns-in-Stop-clause-same g c =
+    let a = c.args.self.now in let l = c.loop-done in
+    worker_on a l.self c.run_one.new.self (row_same g.W.Work.may GoesOn l.done a l.self l.invariant.0) c.in-Stop.ensures.same
 
-pub returns-in-Owing : goal.returns-in-Owing
-returns-in-Owing g c = broken c.loop-done.done (Owing c.in-Owing.field-0) c.loop-done.self c.loop-done.invariant c.loop-done-test.true tt c.in-Owing.ensures (omega arith)
+pub returns-in-Nothing-clause-runs : goal.returns-in-Nothing-clause-runs
+returns-in-Nothing-clause-runs g c =
+    let l = c.loop-done in broken l.done Nothing l.self l.invariant.0 c.loop-done-test.true tt c.in-Nothing.ensures.runs (omega arith)
+
+pub returns-in-Nothing-clause-same : goal.returns-in-Nothing-clause-same
+returns-in-Nothing-clause-same g c =
+    let a = c.args.self.now in let l = c.loop-done in
+    worker_on a l.self c.run_one.new.self (row_same g.W.Work.may GoesOn l.done a l.self l.invariant.0) c.in-Nothing.ensures.same
+
+pub returns-in-Owing-clause-runs : goal.returns-in-Owing-clause-runs
+returns-in-Owing-clause-runs g c =
+    let l = c.loop-done in broken l.done (Owing c.in-Owing.field-0) l.self l.invariant.0 c.loop-done-test.true tt c.in-Owing.ensures.runs (omega arith)
+
+pub returns-in-Owing-clause-same : goal.returns-in-Owing-clause-same
+returns-in-Owing-clause-same g c =
+    let a = c.args.self.now in let l = c.loop-done in
+    worker_on a l.self c.run_one.new.self (row_same g.W.Work.may GoesOn l.done a l.self l.invariant.0) c.in-Owing.ensures.same
+
+pub returns-clause-same : goal.returns-clause-same
+returns-clause-same g c = let l = c.loop-done in row_same g.W.Work.may GoesOn l.done c.args.self.now l.self l.invariant.0
 
 pub loop-done-preserved : goal.loop-done-preserved
-loop-done-preserved g c = elim c.match-run_one.branch [
-  | in-Item w ↦ more c.loop-done.done (Item w.in-Item.field-0) c.args.self.now c.loop-done.self c.run_one.new.self c.loop-done.invariant tt w.in-Item.ensures
-  | in-Barrier w ↦ more c.loop-done.done (Barrier w.in-Barrier.field-0) c.args.self.now c.loop-done.self c.run_one.new.self c.loop-done.invariant tt w.in-Barrier.ensures
-]
+loop-done-preserved g c =
+    let a = c.args.self.now in let l = c.loop-done in let b = c.run_one.new.self in
+    elim c.match-run_one.branch [
+      | in-Item w ↦ (more l.done (Item w.in-Item.field-0) a l.self b l.invariant.0 tt w.in-Item.ensures.runs, w.in-Item.ensures.legal)
+      | in-Barrier w ↦ (more l.done (Barrier w.in-Barrier.field-0) a l.self b l.invariant.0 tt w.in-Barrier.ensures.runs, w.in-Barrier.ensures.legal)
+    ]

@@ -1,0 +1,62 @@
+-- The output of a schedule, a turn further, and that it is one.
+use Rattle.std.proofs.Common.{◌≡◌, inl, inr, ℕ, ◌+◌, ◌<◌, List, [], ◌∷◌, ◌++◌, length, drop, get_or, refl, sym, ap, ◌∙◌, subst, append_assoc, drop-cons, add-one, codes}
+use Rattle.std.proofs.lemmas.List.{append-nil}
+use Rattle.wq_words.specs.declared.layout.Layout.{Layout}
+use Rattle.wq_words.specs.History.{accepted, begun}
+use Rattle.wq_core.specs.Machine.{Machine, opening}
+use Rattle.wq_text.specs.Turn.{Turn}
+use Rattle.wq_meaning.specs.Names.{row_text}
+use Rattle.wq_meaning.specs.ScheduleOutput.{Gives, AllGive, GivesBehind, IsScheduleOutput, HasOneOutput, ending}
+
+-- whatever the turns that are left give, all turns give it behind what was written
+abbrev pub Continues : Layout → List Turn → Machine → List Turn → List ℕ → Type 0
+Continues layout turns m left out = (n : Machine) (rest : List ℕ) → AllGive m left n rest → AllGive (opening layout) turns n (out ++ rest)
+
+pub continues_at_first : (layout : Layout) (turns : List Turn) (m : Machine) (out : List ℕ) → m ≡ opening layout → out ≡ [] → Continues layout turns m turns out
+continues_at_first layout turns m out first nothing n rest given =
+    let P : Machine → Type 0 = λ x. AllGive x turns n rest in
+    let Q : List ℕ → Type 0 = λ x. AllGive (opening layout) turns n (x ++ rest) in
+    subst Q (sym nothing) (subst P first given)
+
+pub continues_behind : (layout : Layout) (turns : List Turn) (i : ℕ) (d : Turn) (m next : Machine) (out new : List ℕ) → i < length turns → GivesBehind m (get_or turns i d) next out new
+    → Continues layout turns m (drop i turns) out → Continues layout turns next (drop (i + 1) turns) new
+continues_behind layout turns i d m next out new lt gives so_far n rest given =
+    let left : drop i turns ≡ get_or turns i d ∷ drop (i + 1) turns = rw (add-one, drop-cons turns i d lt) refl in
+    let P : List Turn → Type 0 = λ ts. AllGive m ts n (gives.0 ++ rest) in
+    let Q : List ℕ → Type 0 = λ xs. AllGive (opening layout) turns n xs in
+    subst Q (sym (append_assoc out gives.0 rest) ∙ ap (λ x. x ++ rest) (sym gives.2)) (so_far n (gives.0 ++ rest) (subst P (sym left) (next, gives.0, rest, gives.1, given, refl)))
+
+pub output_whole : (layout : Layout) (turns left : List Turn) (m : Machine) (out text : List ℕ) → left ≡ [] → Continues layout turns m left out → text ≡ out ++ ending m → IsScheduleOutput layout turns text
+output_whole layout turns left m out text none so_far whole =
+    let P : List Turn → Type 0 = λ ts. AllGive m ts m [] in
+    let Q : List ℕ → Type 0 = λ xs. AllGive (opening layout) turns m xs in
+    record { machine = m; lines = out; given = subst Q (append-nil out) (so_far m [] (subst P (sym none) (refl, refl))); whole = whole }
+
+-- the two rows that are written behind the lines are the ending
+pub ends_with_rows : (m : Machine) (shown : Layout) (layout : Layout) (ks js : List ℕ) (out mid text : List ℕ) → shown ≡ layout → m.layout ≡ layout → ks ≡ accepted m.history → js ≡ begun m.history
+    → mid ≡ out ++ row_text shown (codes "accepted") ks → text ≡ mid ++ row_text shown (codes "begun") js → text ≡ out ++ ending m
+ends_with_rows m shown layout ks js out mid text same own first second one two =
+    let here : shown ≡ m.layout = same ∙ sym own in
+    two ∙ ap (λ x. x ++ row_text shown (codes "begun") js) one ∙ append_assoc out (row_text shown (codes "accepted") ks) (row_text shown (codes "begun") js)
+    ∙ ap (λ l. out ++ (row_text l (codes "accepted") ks ++ row_text l (codes "begun") js)) here
+    ∙ ap (λ xs. out ++ (row_text m.layout (codes "accepted") xs ++ row_text m.layout (codes "begun") js)) first
+    ∙ ap (λ xs. out ++ (row_text m.layout (codes "accepted") (accepted m.history) ++ row_text m.layout (codes "begun") xs)) second
+
+one_gives : (m : Machine) (turn : Turn) (n p : Machine) (text other : List ℕ) → Gives m turn n text → Gives m turn p other → (n ≡ p) × (text ≡ other)
+one_gives m turn n p text other (inl made) (inl again) = (made.1 ∙ sym again.1, made.2 ∙ sym again.2)
+one_gives m turn n p text other (inl made) (inr not) = absurd (not.0 made.0)
+one_gives m turn n p text other (inr not) (inl made) = absurd (not.0 made.0)
+one_gives m turn n p text other (inr not) (inr again) = (not.1 ∙ sym again.1, not.2 ∙ sym again.2)
+
+all_give_one : (turns : List Turn) (m n p : Machine) (text other : List ℕ) → AllGive m turns n text → AllGive m turns p other → (n ≡ p) × (text ≡ other)
+all_give_one [] m n p text other a b = (a.0 ∙ sym b.0, a.1 ∙ sym b.1)
+all_give_one (turn ∷ turns) m n p text other (next, first, rest, gives, given, whole) (next', first', rest', gives', given', whole') =
+    let here = one_gives m turn next next' first first' gives gives' in
+    let P : Machine → Type 0 = λ x. AllGive x turns n rest in
+    let there = all_give_one turns next' n p rest rest' (subst P here.0 given) given' in
+    (there.0, whole ∙ ap (λ x. x ++ rest) here.1 ∙ ap (λ x. first' ++ x) there.1 ∙ sym whole')
+
+pub one_output : HasOneOutput
+one_output layout turns text other a b =
+    let same = all_give_one turns (opening layout) a.machine b.machine a.lines b.lines a.given b.given in
+    a.whole ∙ ap (λ x. x ++ ending a.machine) same.1 ∙ ap (λ m. b.lines ++ ending m) same.0 ∙ sym b.whole

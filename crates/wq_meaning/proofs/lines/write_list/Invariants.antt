@@ -1,0 +1,6 @@
+use Rattle.std.proofs.Common.{◌≡◌, ◌++◌, take, string_bytes, flat_map}
+use Rattle.wq_meaning.specs.Names.{named}
+use Rattle.wq_meaning.proofs.lines.write_list.Given as goal
+
+abbrev pub invariant-loop-number : goal.invariant-loop-number
+invariant-loop-number l = string_bytes l.out ≡ string_bytes l.fn.out ++ flat_map (named l.layout) (take l.number-index l.numbers)

@@ -1,0 +1,98 @@
+-- What the commands of a script mean: one case a command.
+use Rattle.std.specs.Prelude.{ℕ, ◌+◌, ◌-◌, List, [], ◌∷◌, ◌++◌, length, Option, Some, None, replicate, slice_set, nat_lt, if◌then◌else◌, codes}
+use Rattle.arrayvec.specs.ArrayVec.{ArrayVec}
+use Rattle.wq_words.specs.declared.layout.Layout.{Layout}
+use Rattle.wq_words.specs.declared.event.Event.{Event}
+use Rattle.wq_words.specs.Numbers.{barrier_number, stop_number}
+use Rattle.wq_words.specs.History.{accepted, ended, pending, closed}
+use Rattle.wq_text.specs.declared.command.Command.{Command}
+use Rattle.wq_text.specs.declared.command.Command.TheVariants as command
+use Rattle.wq_meaning.specs.Queueing.{queue_events, queue_answer, close_events, close_answer}
+use Rattle.wq_meaning.specs.Execution.{no_follow, after_executions, ends_at, ended_since}
+use Rattle.wq_words.specs.DelayTable.{DelayTable, on_table, table_without, table_at}
+use Rattle.wq_meaning.specs.Arming.{arm_events, arm_table, arm_answer, cancel_events, modify_events, modify_table, modify_answer, due_items, advance_events}
+use Rattle.wq_meaning.specs.Answer.{answer_text, armed_text, modified_text, close_text}
+use Rattle.wq_meaning.specs.Report.{line, counts_of, report_text}
+use Rattle.wq_meaning.specs.Names.{row_text, advance_word, left_text}
+
+-- the events so far, the delay table, and for each item the list that its function answers
+pub record ScriptState : Type 0 where
+  pub history : List Event
+  pub table : DelayTable
+  pub follows : List (ArrayVec ℕ)
+
+abbrev pub opening_state : Layout → ScriptState
+opening_state layout = record { history = []; table = record { entries = []; tick = 0; next = 0 }; follows = replicate layout.items no_follow }
+
+-- sender s of the script is sender s of the queue; the worker's and the delay table's come behind them
+abbrev pub worker : Layout → ℕ
+worker layout = layout.senders
+
+abbrev pub delayer : Layout → ℕ
+delayer layout = layout.senders + 1
+
+-- the history after at most so many executions, up to one of the last number
+abbrev pub after_row : Layout → ScriptState → ℕ → Option ℕ → List Event
+after_row layout s limit last = after_executions (worker layout) s.follows (ends_at last) limit s.history
+
+-- the state after a command
+abbrev pub state_after : Layout → ScriptState → Command → ScriptState
+state_after layout s (command.Queue sender item) = record s { history = s.history ++ queue_events sender item s.history }
+state_after layout s (command.Run limit) = record s { history = after_row layout s limit (Some (stop_number layout)) }
+state_after layout s command.Close = record s { history = s.history ++ close_events s.history }
+state_after layout s command.Report = s
+state_after layout s (command.Follow item follow) = record s { follows = slice_set s.follows item follow }
+state_after layout s (command.Flush sender barrier) = record s { history = s.history ++ queue_events sender (barrier_number layout barrier) s.history }
+state_after layout s (command.Done sender barrier) = s
+state_after layout s (command.Stop sender) = record s { history = s.history ++ queue_events sender (stop_number layout) s.history }
+state_after layout s (command.Drain limit) = if closed s.history then record s { history = after_row layout s limit None } else s
+state_after layout s (command.Check item) = s
+state_after layout s (command.Arm item delay) = record s {
+  history = s.history ++ arm_events (delayer layout) item delay s.history s.table;
+  table = arm_table item delay s.history s.table;
+}
+state_after layout s (command.Cancel item) = record s {
+  history = s.history ++ cancel_events (delayer layout) item s.table;
+  table = table_without item s.table;
+}
+state_after layout s (command.Modify item delay) = record s {
+  history = s.history ++ modify_events (delayer layout) item delay s.history s.table;
+  table = modify_table item delay s.history s.table;
+}
+state_after layout s (command.Advance tick) = if nat_lt tick s.table.tick then s else record s {
+  history = s.history ++ advance_events (delayer layout) tick s.history s.table;
+  table = table_at tick [] s.table;
+}
+
+-- what is accepted and not ended
+abbrev pub left_in : List Event → ℕ
+left_in h = length (accepted h) - length (ended h)
+
+-- the lines of a command, of the state s before it and the state t after it
+abbrev pub lines : Layout → ScriptState → ScriptState → Command → List ℕ
+lines layout s t (command.Queue sender item) = line (answer_text (queue_answer item s.history))
+lines layout s t (command.Run limit) = row_text layout (codes "ran") (ended_since s.history t.history)
+lines layout s t command.Close = line (close_text (close_answer s.history))
+lines layout s t command.Report = report_text (counts_of (length t.table.entries) t.history)
+lines layout s t (command.Follow item follow) = []
+lines layout s t (command.Flush sender barrier) = line (answer_text (queue_answer (barrier_number layout barrier) s.history))
+lines layout s t (command.Done sender barrier) = line (if pending t.history (barrier_number layout barrier) then codes "false" else codes "true")
+lines layout s t (command.Stop sender) = line (answer_text (queue_answer (stop_number layout) s.history))
+lines layout s t (command.Drain limit) =
+    if closed s.history then row_text layout (codes "ran") (ended_since s.history t.history) ++ line (left_text (left_in t.history))
+    else line (codes "not closed")
+lines layout s t (command.Check item) = line (if pending t.history item then codes "pending" else codes "idle")
+lines layout s t (command.Arm item delay) = line (armed_text (arm_answer item delay s.history s.table))
+lines layout s t (command.Cancel item) = line (if on_table item s.table.entries then codes "cancelled" else codes "not on table")
+lines layout s t (command.Modify item delay) = line (modified_text (modify_answer item delay s.history s.table))
+lines layout s t (command.Advance tick) =
+    if nat_lt tick s.table.tick then line (codes "false backwards")
+    else row_text layout (advance_word (closed s.history) (due_items tick s.table)) (due_items tick s.table)
+
+-- the whole output, from a state on
+unfoldable pub output_from : Layout → ScriptState → List Command → List ℕ
+output_from layout s [] = []
+output_from layout s (c ∷ cs) = lines layout s (state_after layout s c) c ++ output_from layout (state_after layout s c) cs
+
+abbrev pub output_of : Layout → List Command → List ℕ
+output_of layout commands = output_from layout (opening_state layout) commands

@@ -1,0 +1,10 @@
+pub mod Answer
+pub mod Report
+pub mod Queueing
+pub mod Execution
+pub mod Arming
+pub mod Names
+pub mod Commands
+pub mod Order
+pub mod Replies
+pub mod ScheduleOutput

@@ -1,0 +1,99 @@
+-- The lists of what follows: at the beginning, and where one is set.
+use Rattle.std.proofs.Common.{◌≡◌, ℕ, ◌<◌, ◌≤◌, List, [], length, replicate, slice_set, get_or, All, inl, inr, refl, sym, ap, ◌∙◌, subst, arith}
+use Rattle.std.proofs.lemmas.List.{length-set, length-replicate, get_or-set_same, get_or-set_other, get_or-replicate}
+use Rattle.std.proofs.Math.ListN.{get_or-eq_default}
+use Rattle.std.proofs.lemmas.Bool.{cases_lt, cases_eq}
+use Rattle.arrayvec.specs.ArrayVec.{ArrayVec}
+use Rattle.wq_words.specs.declared.layout.Layout.{Layout}
+use Rattle.wq_words.specs.declared.event.Event.{Event}
+use Rattle.wq_meaning.specs.Execution.{no_follow, follow_of}
+use Rattle.wq_meaning.specs.Commands.{ScriptState, opening_state}
+use Rattle.wq_delay.specs.Delay.{DelayState}
+use Rattle.wq_script.specs.declared.seats.Seats.{Seats}
+use Rattle.wq_script.specs.declared.tally.Tally.{Tally}
+use Rattle.wq_script.specs.Seats.{Seated}
+use Rattle.wq_script.specs.Quiet.{ListsFit}
+use Rattle.wq_script.specs.Engine.{Meets}
+use Rattle.wq_script.proofs.Meetings.{engine}
+
+-- only the work was touched
+work_seated : (layout : Layout) (a b : Seats) (h : List Event) → b.worker ≡ record a.worker { work = b.worker.work } → b.delay ≡ a.delay
+    → b.senders ≡ a.senders → Seated layout a h → Seated layout b h
+work_seated layout a b h worker delay senders g =
+    let mid : Seats = record { worker = record a.worker { work = b.worker.work }; delay = a.delay; senders = a.senders } in
+    let there : Seated layout mid h = record {
+      queue = g.queue;
+      wide = g.wide;
+      wider = g.wider;
+      legal = g.legal;
+      count = g.count;
+      senders = g.senders;
+      sender = g.sender;
+      owner = g.owner;
+      delay = g.delay;
+      tries = g.tries;
+      seen = g.seen;
+    } in
+    subst (λ (x : Seats). Seated layout x h) (λ i. record { worker = sym worker i; delay = sym delay i; senders = sym senders i }) there
+
+set_fit : (n item : ℕ) (follow : ArrayVec ℕ) (fs : List (ArrayVec ℕ)) → ListsFit n fs → All (λ k. k < n) follow.items → ListsFit n (slice_set fs item follow)
+set_fit n item follow fs fit one i d lt = elim (cases_eq i item) [
+  | inl is ↦ subst (λ (f : ArrayVec ℕ). All (λ k. k < n) f.items)
+      (sym (ap (λ (j : ℕ). get_or (slice_set fs item follow) j d) is ∙ get_or-set_same fs item follow d (omega (arith, lt, is, length-set fs item follow)))) one
+  | inr ne ↦ subst (λ (f : ArrayVec ℕ). All (λ k. k < n) f.items) (sym (get_or-set_other fs item i follow d ne))
+      (fit i d (omega (arith, lt, length-set fs item follow)))
+]
+
+set_short : (item : ℕ) (follow : ArrayVec ℕ) (fs : List (ArrayVec ℕ)) → item < length fs → length follow.items ≤ 4
+    → ((k : ℕ) → length (follow_of fs k) ≤ 4) → (k : ℕ) → length (follow_of (slice_set fs item follow) k) ≤ 4
+set_short item follow fs lt few short k = elim (cases_eq k item) [
+  | inl is ↦ subst (λ (f : ArrayVec ℕ). length f.items ≤ 4)
+      (sym (ap (λ (j : ℕ). get_or (slice_set fs item follow) j no_follow) is ∙ get_or-set_same fs item follow no_follow lt)) few
+  | inr ne ↦ subst (λ (f : ArrayVec ℕ). length f.items ≤ 4) (sym (get_or-set_other fs item k follow no_follow ne)) (short k)
+]
+
+pub follow_meets : (layout : Layout) (a b : Seats) (x : Tally) (s : ScriptState) (item : ℕ) (follow : ArrayVec ℕ) → Meets (engine layout a x) s
+    → item < layout.items → All (λ k. k < layout.items) follow.items → length follow.items ≤ 4
+    → b.worker ≡ record a.worker { work = b.worker.work } → b.worker.work.follows.items ≡ slice_set a.worker.work.follows.items item follow
+    → b.delay ≡ a.delay → b.senders ≡ a.senders
+    → Meets (engine layout b x) (record s { follows = slice_set s.follows item follow })
+follow_meets layout a b x s item follow m lt fit few worker lists delay senders = record {
+  seated = work_seated layout a b s.history worker delay senders m.seated;
+  idle = m.idle;
+  tally = m.tally;
+  table = ap (λ (d : DelayState). d.table) delay ∙ m.table;
+  follows = lists ∙ ap (λ fs. slice_set fs item follow) m.follows;
+  lists = record {
+    count = ap length lists ∙ (length-set a.worker.work.follows.items item follow ∙ m.lists.count);
+    fit = subst (λ (fs : List (ArrayVec ℕ)). ListsFit layout.items fs) (sym lists)
+        (set_fit layout.items item follow a.worker.work.follows.items m.lists.fit fit);
+  };
+  short = set_short item follow s.follows (omega (arith, lt, m.lists.count, ap length m.follows)) few m.short;
+}
+
+-- an engine at its beginning
+pub new_meets : (layout : Layout) (a : Seats) → Seated layout a [] → a.worker.work.follows.items ≡ replicate layout.items no_follow
+    → a.delay.table ≡ record { entries = []; tick = 0; next = 0 }
+    → Meets (engine layout a (record { queued = 0; busy = 0; refused = 0 })) (opening_state layout)
+new_meets layout a seated lists table = record {
+  seated = seated;
+  idle = λ runs. absurd (omega (arith, runs));
+  tally = record { queued = refl; busy = refl; refused = refl };
+  table = table;
+  follows = lists;
+  lists = record {
+    count = ap length lists ∙ length-replicate layout.items no_follow;
+    fit = subst (λ (fs : List (ArrayVec ℕ)). ListsFit layout.items fs) (sym lists)
+        (λ i d lt. subst (λ (f : ArrayVec ℕ). All (λ k. k < layout.items) f.items)
+        (sym (get_or-replicate layout.items i no_follow d (omega (arith, lt, length-replicate layout.items no_follow))))
+        (λ j e less. absurd (omega (arith, less))));
+  };
+  short = λ k. none_short layout.items k;
+}
+  where
+    none_short : (n k : ℕ) → length (follow_of (replicate n no_follow) k) ≤ 4
+    none_short n k = elim (cases_lt k n) [
+      | inl lt ↦ subst (λ (f : ArrayVec ℕ). length f.items ≤ 4) (sym (get_or-replicate n k no_follow no_follow lt)) (omega arith)
+      | inr ge ↦ subst (λ (f : ArrayVec ℕ). length f.items ≤ 4)
+          (sym (get_or-eq_default (replicate n no_follow) no_follow (omega (arith, ge, length-replicate n no_follow)))) (omega arith)
+    ]

@@ -1,0 +1,5 @@
+//! Calls of a queue in one thread and in several.
+mod calls;
+mod memory;
+mod reading;
+mod threads;

@@ -1,0 +1,152 @@
+//! Senders and the owner in threads of their own.
+use super::reading::{close, execute_one};
+use wq_live::{Answer, Owner, Sender, build};
+use std::sync::Wait;
+use std::test::Fail;
+use std::thread::{join_mut, yield_now};
+use wq_words::Layout;
+
+/// Queues these items in order, each again where it was contended, at most 1,000 times. Answers how many were queued.
+fn queue_all(sender: &mut Sender, from: u32, to: u32) -> u32 {
+    let mut queued = 0u32;
+    for item in from..to {
+        for _ in 0..1000u32 {
+            if item >= sender.layout().items {
+                return queued;
+            }
+            match sender.queue_tries(item, 1000) {
+                Answer::Queued { .. } => {
+                    queued = queued.wrapping_add(1);
+                    break;
+                }
+                Answer::Contended => {}
+                Answer::Pending | Answer::Closed => break,
+            }
+        }
+    }
+    queued
+}
+
+/// Executes what waits, for so many rounds, and appends the numbers in order.
+fn execute_for(owner: &mut Owner, rounds: u32, into: &mut Vec<u32>) -> bool {
+    for _ in 0..rounds {
+        match execute_one(owner) {
+            Some(number) => {
+                if into.push(number).is_err() {
+                    return false;
+                }
+            }
+            None => yield_now(),
+        }
+    }
+    true
+}
+
+/// The numbers from `from` to `to` stand in order.
+fn in_order(numbers: &[u32], from: u32, to: u32) -> bool {
+    let mut next = from;
+    for number in numbers {
+        if from <= *number && *number < to {
+            if *number != next {
+                return false;
+            }
+            next = next.wrapping_add(1);
+        }
+    }
+    next == to
+}
+
+#[test]
+fn two_threads_queue_in_their_order(rt: HostRuntime) -> Result<(), Fail> {
+    let layout = Layout::new(128, 1, 2)?;
+    let (mut owner, mut senders) = build(rt.alloc(), layout)?;
+    let mut second = senders.pop().expect(&rt, "sender 1");
+    let mut first = senders.pop().expect(&rt, "sender 0");
+    let queued = join_mut(
+        &rt,
+        &mut || queue_all(&mut first, 0, 64),
+        &mut || queue_all(&mut second, 64, 128),
+    );
+    assert_eq!(rt; queued, (64, 64));
+    assert_eq!(rt; close(&mut owner), Some(128));
+    let mut executed = Vec::new(rt.alloc());
+    assert!(rt; execute_for(&mut owner, 129, &mut executed));
+    assert_eq!(rt; executed.len(), 128);
+    assert!(rt; in_order(executed.as_slice(), 0, 64), "sender 0");
+    assert!(rt; in_order(executed.as_slice(), 64, 128), "sender 1");
+    assert!(rt; owner.done().is_some());
+    Ok(())
+}
+
+#[test]
+fn owner_executes_while_two_threads_queue(rt: HostRuntime) -> Result<(), Fail> {
+    let layout = Layout::new(1024, 1, 2)?;
+    let (mut owner, mut senders) = build(rt.alloc(), layout)?;
+    let mut second = senders.pop().expect(&rt, "sender 1");
+    let mut first = senders.pop().expect(&rt, "sender 0");
+    let mut executed = Vec::new(rt.alloc());
+    let (queued, running) = join_mut(
+        &rt,
+        &mut || {
+            join_mut(
+                &rt,
+                &mut || queue_all(&mut first, 0, 512),
+                &mut || queue_all(&mut second, 512, 1024),
+            )
+        },
+        &mut || execute_for(&mut owner, 5000, &mut executed),
+    );
+    assert_eq!(rt; queued, (512, 512));
+    assert!(rt; running);
+    assert!(rt; close(&mut owner).is_some());
+    assert!(rt; execute_for(&mut owner, 1025, &mut executed));
+    assert_eq!(rt; executed.len(), 1024);
+    assert!(rt; in_order(executed.as_slice(), 0, 512), "sender 0");
+    assert!(rt; in_order(executed.as_slice(), 512, 1024), "sender 1");
+    assert!(rt; owner.done().is_some());
+    Ok(())
+}
+
+/// Flushes by barrier 0. True where the barrier was queued and has been executed.
+fn flush<R: Wait>(rt: &R, sender: &mut Sender) -> bool {
+    if sender.layout().barriers == 0 {
+        return false;
+    }
+    match sender.flush(rt, 0) {
+        Answer::Queued { .. } => true,
+        _ => false,
+    }
+}
+
+/// Executes until this number was executed, and answers how many were.
+fn execute_until<R: Wait>(rt: &R, owner: &mut Owner, last: u32) -> u32 {
+    let mut executed = 0u32;
+    for _ in rt.forever() {
+        match execute_one(owner) {
+            Some(number) => {
+                executed = executed.wrapping_add(1);
+                if number == last {
+                    return executed;
+                }
+            }
+            None => yield_now(),
+        }
+    }
+    unreachable!()
+}
+
+#[test]
+fn flush_waits_for_all_that_was_queued(rt: HostRuntime) -> Result<(), Fail> {
+    let layout = Layout::new(16, 1, 1)?;
+    let (mut owner, mut senders) = build(rt.alloc(), layout)?;
+    let mut sender = senders.pop().expect(&rt, "sender 0");
+    assert_eq!(rt; queue_all(&mut sender, 0, 16), 16);
+    let (flushed, executed) = join_mut(
+        &rt,
+        &mut || flush(&rt, &mut sender),
+        &mut || execute_until(&rt, &mut owner, 16),
+    );
+    assert!(rt; flushed);
+    assert_eq!(rt; executed, 17);
+    Ok(())
+}

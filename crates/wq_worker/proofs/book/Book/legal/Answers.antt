@@ -1,0 +1,16 @@
+use Rattle.std.proofs.Common.{subst}
+use Rattle.wq_words.specs.Legal.{IsLegal, IsComplete}
+use Rattle.wq_words.specs.Headline.{KeepsHeadline}
+use Rattle.wq_words.proofs.Headlines.{keeps_headline}
+use Rattle.wq_worker.specs.Book.{BookState}
+use Rattle.wq_worker.proofs.book.Book.legal.Goals as goal
+
+pub returns-clause-legal : goal.returns-clause-legal
+returns-clause-legal c = subst (λ (z : BookState). IsLegal z.layout z.seen) c.self.view_is c.self.invariant.legal
+
+pub returns-clause-complete : goal.returns-clause-complete
+returns-clause-complete c = subst (λ (z : BookState). IsComplete z.seen) c.self.view_is c.self.invariant.complete
+
+pub returns-clause-headline : goal.returns-clause-headline
+returns-clause-headline c =
+    let o = c.self.inside.owner in subst (λ (z : BookState). KeepsHeadline z.seen) c.self.view_is (keeps_headline o.layout o.seen c.self.invariant.legal)
