@@ -436,7 +436,13 @@ fn is_senders(step: Step) -> bool
         | Step::Push(_)
         | Step::Back(_, _)
         | Step::Check(_) => true,
-        Step::Take | Step::Close | Step::Walk | Step::Begin | Step::End | Step::Chain(_) | Step::Turn(_, _) => false,
+        Step::Take
+        | Step::Close
+        | Step::Walk
+        | Step::Begin
+        | Step::End
+        | Step::Chain(_)
+        | Step::Turn(_, _) => false,
     }
 }
 

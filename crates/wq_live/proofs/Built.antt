@@ -1,11 +1,10 @@
 -- The senders and the owner of a new queue.
-use Rattle.std.proofs.Common.{◌≡◌, ℕ, zero, suc, ◌+◌, ◌<◌, ◌≤◌, Bool, true, false, ◌==◌, List, [], ◌∷◌, ◌++◌, length, get_or, None, sym, refl, ap, ◌∙◌, subst, arith, length-append}
+use Rattle.std.proofs.Common.{◌≡◌, ℕ, zero, suc, ◌+◌, ◌<◌, Bool, true, false, ◌==◌, List, [], ◌∷◌, ◌++◌, length, get_or, None, sym, refl, ap, ◌∙◌, subst, arith, length-append}
 use Rattle.std.proofs.Math.ListN.{get_or-append}
 use Rattle.std.proofs.Math.Seq.{get_or-append_seam}
 use Rattle.std.proofs.lemmas.Bool.{eqb-true, eqb-false}
 use Rattle.atomic_table.specs.Seated.{TableId}
 use Rattle.wq_words.specs.declared.layout.Layout.{Layout}
-use Rattle.wq_words.specs.Numbers.{number_count}
 use Rattle.wq_words.specs.Legal.{IsLegal}
 use Rattle.wq_words.proofs.Legal.{legal_nil}
 use Rattle.wq_core.specs.Machine.{opening}
@@ -14,7 +13,6 @@ use Rattle.wq_table.specs.Chair.{Standing, IsSender, owner_chair, sender_chair, 
 use Rattle.wq_live.specs.declared.sender.Sender.TheInside as sender
 use Rattle.wq_live.specs.declared.owner.Owner.TheInside as owner
 use Rattle.wq_words.specs.History.{closed, running}
-use Rattle.wq_table.specs.declared.table.Stage.TheVariants as stage
 use Rattle.wq_words.specs.Seen.{owner_seat}
 use Rattle.wq_live.specs.Known.{new_owner, new_sender, new_senders}
 use Rattle.wq_live.specs.Counts.{sender_counts, owner_counts}

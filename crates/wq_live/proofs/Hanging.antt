@@ -11,7 +11,7 @@ use Rattle.wq_table.specs.Chair.{IsToWalk, IsToTurn}
 use Rattle.wq_live.specs.declared.row.Row.{Row}
 use Rattle.wq_live.specs.Row.{link_in, LinksOn, Spells, IsRowOf}
 use Rattle.wq_live.specs.Sits.{Stands, HasRow, Turned, HasBoth, HasFirst, kept_batch}
-use Rattle.wq_live.proofs.Rows.{on_same, row_same, last_in, on_hung, none_counted}
+use Rattle.wq_live.proofs.Rows.{on_same, last_in, on_hung, none_counted}
 use Rattle.wq_live.proofs.Tells.{Tells}
 use Rattle.wq_live.proofs.Linking.{keeps_once, keeps_number, row_after, has_row, turn_stage, turn_tells, turn_here, turn_else, to_turn, to_load, load_stage, load_finds, makes_links}
 

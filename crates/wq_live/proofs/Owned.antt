@@ -1,15 +1,15 @@
 -- What the owner's own events say of a history.
-use Rattle.std.proofs.Common.{◌≡◌, ℕ, ◌+◌, Bool, true, false, cond, eqb, List, [], ◌∷◌, ◌++◌, length, Option, Some, None, nat_lt, sym, refl, ap, ◌∙◌, arith, length-append, subst, ◌<◌}
-use Rattle.std.specs.Prelude.{count_by, filter_map, slice_get}
+use Rattle.std.proofs.Common.{◌≡◌, ℕ, ◌+◌, true, List, [], ◌∷◌, ◌++◌, length, Some, None, nat_lt, sym, ap, ◌∙◌, arith, length-append, subst}
+use Rattle.std.specs.Prelude.{count_by, slice_get}
 use Rattle.std.proofs.lemmas.List.{append-nil}
 use Rattle.std.proofs.lemmas.List.Elements.{filter_map-append}
 use Rattle.std.proofs.lemmas.Option.{slice_get_past}
 use Rattle.std.proofs.lemmas.Bool.{lt-ltb}
 use Rattle.wq_words.proofs.Growing.{slice_get_last}
 use Rattle.wq_words.specs.declared.event.Event.{Event}
-use Rattle.wq_words.specs.declared.event.Event.TheVariants.{Close, Begin, End, Chain, ChainBusy}
+use Rattle.wq_words.specs.declared.event.Event.TheVariants.{Close, Begin, End}
 use Rattle.wq_words.specs.History.{begun, begun_by, ended, ended_by, running, closed, is_close, IsRunning}
-use Rattle.wq_words.specs.Seen.{owner_seat, seat_of, own, Grows}
+use Rattle.wq_words.specs.Seen.{owner_seat, Grows}
 use Rattle.wq_live.specs.declared.counts.OwnerCounts.{OwnerCounts}
 use Rattle.wq_words.specs.Counting.{is_chain, is_chain_busy}
 use Rattle.wq_words.proofs.Counting.{chain_own, chain_busy_own}

@@ -94,7 +94,7 @@ sender_after (Sends r) Walk word is = tt
 sender_after (Sends r) Begin word is = tt
 sender_after (Sends r) End word is = tt
 sender_after (Sends r) (Chain k) word is = tt
-sender_after (Sends r) (Turn k next) word is = tt
+sender_after (Sends r) (Turn k _) word is = tt
 sender_after (Owns a b d) step word is = elim is [ ]
 
 pub sender_made : (step : Step) (word : ℕ) (p q : Part) → Makes step word p q → IsSender p.stage → IsSender q.stage

@@ -11,7 +11,8 @@ ghost use Rattle.wq_core.specs.declared.step.Step.TheVariants.{Hold, Look, Link,
 ghost use Rattle.wq_table.specs.Chair.{IsSender, HasSeen, HasLinked, HasNone, IsOwner, IsToWalk, IsToTurn, IsToBegin, IsRested, Steps, Meet, MeetAll};
 
 use super::table::{
-    Begins, Both, Cancels, Chains, Checks, Closes, Ends, FindsClosed, GivesUp, Kind, Links, Looks, Makes, Marks, Meets, Off, Part, Pushes, Seated, Stores, Takes, Turns, Walks, Words,
+    Begins, Both, Cancels, Chains, Checks, Closes, Ends, FindsClosed, GivesUp, Kind, Links, Looks,
+    Makes, Marks, Meets, Off, Part, Pushes, Seated, Stores, Takes, Turns, Walks, Words,
 };
 use atomic_table::Badge;
 use std::collections::LinkedList;

@@ -1,5 +1,4 @@
-use Rattle.std.proofs.Common.{◌≡◌, ◌≢◌, ◌≤◌, ℕ, refl, sym, arith}
-use Rattle.wq_live.specs.Sits.{kept_batch}
+use Rattle.std.proofs.Common.{refl, arith}
 use Rattle.wq_live.proofs.Waiting.{stands_rested}
 use Rattle.wq_live.proofs.OwnerTells.{makes_stands}
 use Rattle.wq_live.proofs.Hanging.{hang_none, hang_alone, hang_number, hang_next, hang_turns, hang_count, hang_stage, hang_tells, hangs}
@@ -37,8 +36,12 @@ turn-requires-clause-taken c = hang_turns c.args.row c.args.more c.args.chair.no
 
 pub overflow_add-result : goal.overflow_add-result
 overflow_add-result c = let p = c.args.chair.now.part in let both = c.requires.both in
-    omega (arith, hang_count c.args.row c.args.more p c.requires.stands both c.if-row-eq0.false c.if-more-eq0.false,
-    stands_rested p _ c.requires.stands both.stage_is, number_small p.layout)
+    omega (
+      arith,
+      hang_count c.args.row c.args.more p c.requires.stands both c.if-row-eq0.false c.if-more-eq0.false,
+      stands_rested p _ c.requires.stands both.stage_is,
+      number_small p.layout,
+    )
 
 pub returns : goal.returns
 returns c =

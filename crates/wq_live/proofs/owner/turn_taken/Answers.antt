@@ -1,4 +1,4 @@
-use Rattle.std.proofs.Common.{◌≡◌, ◌≢◌, ◌≤◌, ◌<◌, ◌-◌, ◌+◌, ℕ, [], ◌∷◌, ◌++◌, length, Some, refl, sym, subst, ◌∙◌, ap, arith}
+use Rattle.std.proofs.Common.{◌≡◌, ◌≢◌, ◌-◌, [], ◌∷◌, refl, sym, subst, ◌∙◌, ap, arith}
 use Rattle.wq_words.specs.Numbers.{number_count}
 use Rattle.wq_live.specs.declared.row.Row.{Row}
 use Rattle.wq_live.specs.Sits.{Turned, kept_batch}
@@ -44,14 +44,14 @@ overflow_cast-number c = let l = c.loop-word in let i = l.invariant in let p = l
     let stage = i.turning.stage_is ∙ walking_on w (l.row.front ∷ i.turning.rest) ks c.loop-word-test.true in
     omega (arith, (stands_walking p (w - 1) (l.row.front ∷ i.turning.rest) ks i.stands stage).0, number_small p.layout)
 
-pub walk-word-in-loop-word-requires-clause-number : goal.walk-word-in-loop-word-requires-clause-number
-walk-word-in-loop-word-requires-clause-number c = let l = c.loop-word in let i = l.invariant in let p = l.chair.part in let w = l.word in
+pub walk-word-requires-in-loop-word-clause-number : goal.walk-word-requires-in-loop-word-clause-number
+walk-word-requires-in-loop-word-clause-number c = let l = c.loop-word in let i = l.invariant in let p = l.chair.part in let w = l.word in
     let ks = kept_batch c.args.chair.now.part.stage in
     let stage = i.turning.stage_is ∙ walking_on w (l.row.front ∷ i.turning.rest) ks c.loop-word-test.true in
     (stands_walking p (w - 1) (l.row.front ∷ i.turning.rest) ks i.stands stage).0
 
-pub walk-word-in-loop-word-requires-clause-next : goal.walk-word-in-loop-word-requires-clause-next
-walk-word-in-loop-word-requires-clause-next c = let l = c.loop-word in let i = l.invariant in let p = l.chair.part in let w = l.word in
+pub walk-word-requires-in-loop-word-clause-next : goal.walk-word-requires-in-loop-word-clause-next
+walk-word-requires-in-loop-word-clause-next c = let l = c.loop-word in let i = l.invariant in let p = l.chair.part in let w = l.word in
     let ks = kept_batch c.args.chair.now.part.stage in
     to_walk_on (w - 1) p.stage (l.row.front ∷ i.turning.rest) ks (i.turning.stage_is ∙ walking_on w (l.row.front ∷ i.turning.rest) ks c.loop-word-test.true)
 

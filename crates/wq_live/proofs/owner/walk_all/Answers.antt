@@ -1,4 +1,3 @@
-use Rattle.std.proofs.Common.{◌∙◌, arith}
 use Rattle.wq_live.specs.Sits.{kept_batch}
 use Rattle.wq_live.proofs.Taking.{sees_on}
 use Rattle.wq_live.proofs.Hanging.{taken_behind}

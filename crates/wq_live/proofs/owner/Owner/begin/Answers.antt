@@ -1,13 +1,11 @@
-use Rattle.std.proofs.Common.{◌≡◌, ◌≢◌, ◌<◌, ℕ, List, [], ◌∷◌, length, Some, slice_get, ap, sym, subst, refl, ◌∙◌, arith}
+use Rattle.std.proofs.Common.{◌≢◌, ◌<◌, ℕ, List, [], ◌∷◌, length, Some, slice_get, ap, sym, subst, refl, ◌∙◌, arith}
 use Rattle.wq_words.specs.declared.event.Event.TheVariants.{Begin}
 use Rattle.wq_words.specs.History.{IsRunning}
 use Rattle.wq_live.specs.Known.{Known}
-use Rattle.wq_live.specs.Batch.{batch}
 use Rattle.wq_live.specs.Sits.{kept_batch}
 use Rattle.wq_live.proofs.Tells.{Tells}
 use Rattle.wq_live.proofs.Owned.{running_begun, closed_quiet, counts_quiet, rests_on}
 use Rattle.wq_live.proofs.Taking.{sees_then}
-use Rattle.wq_live.proofs.Linking.{keeps_number}
 use Rattle.wq_live.proofs.Hanging.{first_of_row, first_known, begun_row}
 use Rattle.wq_live.proofs.OwnerTells.{makes_stands, to_begin, begin_tells, begin_stage, owner_batch, owner_idle, owner_grows, owner_sees}
 use Rattle.wq_live.proofs.owner.Owner.begin.Goals as goal

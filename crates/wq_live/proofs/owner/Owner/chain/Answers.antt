@@ -1,14 +1,8 @@
-use Rattle.std.proofs.Common.{◌≡◌, ◌≤◌, if◌then◌else◌, ℕ, Bool, [], ◌∷◌, ◌++◌, None, MatchBool, eq-eqb, ne_eqb, ap, sym, subst, refl, ◌∙◌, arith, length-append}
+use Rattle.std.proofs.Common.{◌≡◌, if◌then◌else◌, Bool, [], ◌∷◌, ◌++◌, None, MatchBool, eq-eqb, ne_eqb, ap, sym, subst, refl, ◌∙◌, arith}
 use Rattle.wq_words.specs.declared.event.Event.TheVariants.{Chain, ChainBusy}
-use Rattle.wq_words.specs.Numbers.{number_count}
 use Rattle.wq_table.specs.declared.table.Stage.TheVariants.{Owns}
-use Rattle.std.proofs.lemmas.Bool.{false≢true}
-use Rattle.wq_words.specs.History.{IsClosed}
-use Rattle.wq_words.proofs.Closed.{closed_from_IsClosed}
-use Rattle.wq_live.specs.Known.{Known}
 use Rattle.wq_live.proofs.Tells.{Tells}
 use Rattle.wq_live.proofs.Owned.{running_quiet, closed_quiet, counts_chained, counts_busy}
-use Rattle.wq_live.proofs.Waiting.{stands_rested}
 use Rattle.wq_core.specs.declared.step.Step.TheVariants as step
 use Rattle.wq_live.specs.declared.row.Row.{Row}
 use Rattle.wq_live.specs.Sits.{HasBoth, kept_batch}

@@ -1,9 +1,9 @@
-use Rattle.std.proofs.Common.{◌≡◌, ◌≤◌, ◌-◌, true, [], ◌∷◌, ℕ, length, ap, sym, subst, refl, ◌∙◌, arith, List}
+use Rattle.std.proofs.Common.{◌-◌, true, [], ◌∷◌, sym, subst, refl, ◌∙◌, arith}
 use Rattle.wq_words.specs.declared.event.Event.TheVariants.{Close}
 use Rattle.wq_core.specs.declared.step.Step.TheVariants as step
 use Rattle.wq_words.specs.History.{IsClosed}
 use Rattle.wq_live.specs.Known.{Known}
-use Rattle.wq_live.specs.Sits.{kept_batch, walking}
+use Rattle.wq_live.specs.Sits.{kept_batch}
 use Rattle.wq_live.proofs.Tells.{Tells}
 use Rattle.wq_live.proofs.Owned.{running_quiet, closed_closed, counts_quiet}
 use Rattle.wq_live.proofs.OwnerTells.{makes_stands, owner_of, close_tells, close_stage, owner_grows, owner_sees}
