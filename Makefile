@@ -10,14 +10,18 @@ run: build
 
 test:
 	rt ci
+	$(MAKE) examples
 
+# Says what it does and how long that takes, and shows a line for each crate.
 build:
-	cd crates/wqrun && rt run -- --version
+	@checks/build.sh
 
 install: build
 	install -D -m 755 $(PROGRAM) $(DESTDIR)$(PREFIX)/bin/wqrun
+	install -D -m 644 man/wqrun.1 $(DESTDIR)$(PREFIX)/share/man/man1/wqrun.1
+	install -D -m 644 docs/FORMATS.md $(DESTDIR)$(PREFIX)/share/doc/wqrun/FORMATS.md
 
-# Each example prints the report that is stored beside it.
+# Each example writes what is stored beside it, and ends with the status that is stored.
 examples: build
 	examples/check.sh $(PROGRAM)
 

@@ -1,18 +1,35 @@
 #!/bin/bash
-# Runs each example with the program that is named, and compares what it prints with the report that stands beside it.
+# Runs each example with the program that is named, and compares what it writes, what it says of failures and its status with
+# what stands beside it: NAME.report, NAME.faults and NAME.status. Where one of them is missing, nothing and 0 are wanted.
 program=${1:?usage: examples/check.sh PROGRAM}
 folder=$(dirname "$0")
-status=0
-for file in "$folder"/*.wq "$folder"/*.steps; do
+faults=$(mktemp)
+trap 'rm -f "$faults"' EXIT
+
+# The file, or nothing where there is none.
+stored() {
+    if [ -e "$1" ]; then cat "$1"; fi
+}
+
+failed=0
+for file in "$folder"/*.wq "$folder"/*.steps "$folder"/*.json; do
     case $file in
         *.wq) command=script ;;
         *.steps) command=steps ;;
+        *.json) command=live ;;
     esac
-    if "$program" "$command" "$file" | diff - "${file%.*}.report"; then
-        echo "$file: as stored"
+    name=${file%.*}
+    wanted=$(stored "$name.status")
+    same=yes
+    "$program" "$command" "$file" 2>"$faults" | diff - <(stored "$name.report") || same=no
+    status=${PIPESTATUS[0]}
+    diff "$faults" <(stored "$name.faults") || same=no
+    [ "$status" = "${wanted:-0}" ] || same=no
+    if [ "$same" = yes ]; then
+        echo "$file: as stored, with status $status"
     else
-        echo "$file: differs"
-        status=1
+        echo "$file: differs, with status $status"
+        failed=1
     fi
 done
-exit $status
+exit $failed

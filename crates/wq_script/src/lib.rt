@@ -13,5 +13,5 @@ pub use output::run;
 pub use wq_meaning::{RunError, one_output, ordered_tables, run_steps};
 pub use wq_text::{
     Command, Follow, Kind, ParseError, Schedule, Script, ScriptError, parse, parse_steps,
-    reads_decimals, tells_lines, tells_turns,
+    reads_decimals,
 };

@@ -9,6 +9,10 @@ mod live;
 #[cfg(test)]
 mod machine;
 #[cfg(test)]
+mod mains;
+#[cfg(test)]
+mod race;
+#[cfg(test)]
 mod script;
 #[cfg(test)]
 mod text;

@@ -1,5 +1,6 @@
 -- A word is a number exactly where it is that number's decimal.
-use Rattle.std.proofs.Common.{◌≡◌, ℕ, zero, suc, ◌<◌, ◌^◌, Bool, true, false, not, ◌&&◌, ◌||◌, List, length, get_or, Some, None, nat_lt, nat_le, ◌==◌, refl, sym, ap, ◌∙◌, arith, lit<, if◌then◌else◌}
+use Rattle.std.proofs.Common.{◌≡◌, ℕ, zero, suc, ◌<◌, ◌^◌, Bool, true, false, not, ◌&&◌, ◌||◌, List, length, get_or, Some, None, nat_lt, nat_le, ◌==◌, refl}
+use Rattle.std.proofs.Common.{sym, ap, ◌∙◌, arith, lit<, if◌then◌else◌}
 use Rattle.std.specs.Fmt.{decimal}
 use Rattle.std.specs.Str.{all_ascii_digits}
 use Rattle.std.specs.Str.Parse.{digits_value}

@@ -19,7 +19,8 @@ at_most-is m n h = by_test (nat_le m n) refl
 two-is : {A B : Type 0} (x : Option A) (y : Option B) (a : A) (b : B) → x ≡ Some a → y ≡ Some b → two_of x y ≡ Some (a, b)
 two-is x y a b p q = rw (p, q) refl
 
-three-is : {A B C : Type 0} (x : Option A) (y : Option B) (z : Option C) (a : A) (b : B) (c : C) → x ≡ Some a → y ≡ Some b → z ≡ Some c → three_of x y z ≡ Some (a, b, c)
+three-is : {A B C : Type 0} (x : Option A) (y : Option B) (z : Option C) (a : A) (b : B) (c : C) → x ≡ Some a → y ≡ Some b → z ≡ Some c
+    → three_of x y z ≡ Some (a, b, c)
 three-is x y z a b c p q r = rw (p, q, r) refl
 
 within-is : (low n high : ℕ) (h : IsBetween low n high) → within low n high ≡ Some h
@@ -30,13 +31,16 @@ unfolding limited
 limited_is k l =
     let h = l.in_limits in
     let all : in_limits l.items l.barriers l.senders ≡ Some h =
-    three-is (within 1 l.items 4096) (within 1 l.barriers 16) (within 1 l.senders 64) h.0 h.1 h.2 (within-is 1 l.items 4096 h.0) (within-is 1 l.barriers 16 h.1) (within-is 1 l.senders 64 h.2) in
+    three-is (within 1 l.items 4096) (within 1 l.barriers 16) (within 1 l.senders 64) h.0 h.1 h.2 (within-is 1 l.items 4096 h.0)
+    (within-is 1 l.barriers 16 h.1) (within-is 1 l.senders 64 h.2) in
     ap (with_limits k l.items l.barriers l.senders) all
 
-pub limited_ok : (k : Kind) (l : Layout) (items barriers senders : ℕ) → l.items ≡ items → l.barriers ≡ barriers → l.senders ≡ senders → limited k items barriers senders ≡ Ok l
+pub limited_ok : (k : Kind) (l : Layout) (items barriers senders : ℕ) → l.items ≡ items → l.barriers ≡ barriers → l.senders ≡ senders
+    → limited k items barriers senders ≡ Ok l
 limited_ok k l items barriers senders p q r = rw (← p, ← q, ← r) (limited_is k l)
 
-pub limited_err : (k : Kind) (items barriers senders : ℕ) (e : LayoutError) → IsFirstOutOfLimits items barriers senders e → limited k items barriers senders ≡ Err k
+pub limited_err : (k : Kind) (items barriers senders : ℕ) (e : LayoutError) → IsFirstOutOfLimits items barriers senders e
+    → limited k items barriers senders ≡ Err k
 unfolding limited
 limited_err k items barriers senders e out = by_limits (in_limits items barriers senders)
   where

@@ -1,5 +1,6 @@
 -- Plain lines and their words.
-use Rattle.std.proofs.Common.{◌≡◌, ℕ, zero, suc, true, false, List, [], ◌∷◌, length, map, Option, None, Result, Ok, Err, nat_lt, nat_le, refl, sym, ap, ◌∙◌, arith, if◌then◌else◌}
+use Rattle.std.proofs.Common.{◌≡◌, ℕ, zero, suc, true, false, List, [], ◌∷◌, length, map, Option, None, Result, Ok, Err, nat_lt, nat_le, refl, sym, ap, ◌∙◌}
+use Rattle.std.proofs.Common.{arith, if◌then◌else◌}
 use Rattle.std.specs.List.{list_all}
 use Rattle.std.specs.Str.{IsAscii, IsUtf8, IsValidUpTo, valid_up_to}
 use Rattle.std.specs.declared.str.Utf8Error.{Utf8Error}
@@ -26,13 +27,16 @@ no_words (w ∷ ws) e = absurd (omega (arith, e))
 
 ascii : (line : List ℕ) → list_all is_plain line ≡ true → IsAscii line
 ascii [] e i = omega arith
-ascii (b ∷ bs) e zero = let plain = (and_parts (is_plain b) (list_all is_plain bs) e).0 in let le = leb-true b 126 (and_parts (nat_le 32 b) (nat_le b 126) plain).1 in omega (arith, le)
+ascii (b ∷ bs) e zero =
+    let plain = (and_parts (is_plain b) (list_all is_plain bs) e).0 in let le = leb-true b 126 (and_parts (nat_le 32 b) (nat_le b 126) plain).1 in
+    omega (arith, le)
 ascii (b ∷ bs) e (suc i) = ascii bs (and_parts (is_plain b) (list_all is_plain bs) e).1 i
 
 pub plain_utf8 : (line : List ℕ) → list_all is_plain line ≡ true → IsUtf8 line
 plain_utf8 line e = IsUtf8-from_ascii line (ascii line e)
 
-pub plain_read : (line : List ℕ) (r : Result (Bor (List ℕ)) Utf8Error) → list_all is_plain line ≡ true → MatchResult r (λ s. (s.now ≡ line) × IsUtf8 line) (λ e. ¬ (IsUtf8 line) × IsValidUpTo line (valid_up_to e))
+pub plain_read : (line : List ℕ) (r : Result (Bor (List ℕ)) Utf8Error) → list_all is_plain line ≡ true
+    → MatchResult r (λ s. (s.now ≡ line) × IsUtf8 line) (λ e. ¬ (IsUtf8 line) × IsValidUpTo line (valid_up_to e))
     → MatchOption (result_ok r) (list_all is_plain line ≡ false) (λ text. (list_all is_plain line ≡ true) × (text.now ≡ line))
 plain_read line (Ok s) e h = (e, h.0)
 plain_read line (Err x) e h = absurd (h.0 (plain_utf8 line e))
@@ -44,9 +48,12 @@ module _ {N A : Type 0} (g : Grammar N A) (s : Stage) (w : List ℕ) (ws : List 
       ap (λ b. if b then of_one (λ next. (next, None)) (header_line_gives g.most_senders s w ws) else asking_line g s w ws) is
       ∙ ap (λ m. of_one (λ next. (next, None)) (header_line_gives m s w ws)) (sym same)
 
-  pub header_given : (most : ℕ) (next : Stage) → is_header w ≡ true → most ≡ g.most_senders → header_line_gives most s w ws ≡ Ok next → by_first_word g s w ws ≡ Ok (next, None)
+  pub header_given : (most : ℕ) (next : Stage) → is_header w ≡ true → most ≡ g.most_senders → header_line_gives most s w ws ≡ Ok next
+      → by_first_word g s w ws ≡ Ok (next, None)
   header_given most next is same given = let alone : Stage → Stage × Option A = λ x. (x, None) in by_header most is same ∙ ap (of_one alone) given
 
-  pub header_fails : (e : LineError) (most : ℕ) → is_header w ≡ true → most ≡ g.most_senders → LineFailsAs e (header_line_gives most s w ws) → LineFailsAs e (by_first_word g s w ws)
+  pub header_fails : (e : LineError) (most : ℕ) → is_header w ≡ true → most ≡ g.most_senders → LineFailsAs e (header_line_gives most s w ws)
+      → LineFailsAs e (by_first_word g s w ws)
   header_fails line_errors.Memory most is same given = tt
-  header_fails (line_errors.Fault k) most is same given = let alone : Stage → Stage × Option A = λ x. (x, None) in by_header most is same ∙ ap (of_one alone) given
+  header_fails (line_errors.Fault k) most is same given =
+      let alone : Stage → Stage × Option A = λ x. (x, None) in by_header most is same ∙ ap (of_one alone) given

@@ -44,25 +44,33 @@ module _ {A : Type 0} (gives : Lines A) where
     after : behind ≡ rest
     number : n ≡ m
 
-  goes_on : (s t : Stage) (line other : List ℕ) (behind lines rest : List (List ℕ)) (f : List ℕ) (x : Stage × Option A) → s ≡ t → line ∷ behind ≡ other ∷ (lines ++ f ∷ rest) → gives s other ≡ Ok x → Stops t line behind → ⊥
+  goes_on : (s t : Stage) (line other : List ℕ) (behind lines rest : List (List ℕ)) (f : List ℕ) (x : Stage × Option A) → s ≡ t
+      → line ∷ behind ≡ other ∷ (lines ++ f ∷ rest) → gives s other ≡ Ok x → Stops t line behind → ⊥
   goes_on s t line other behind lines rest f x here same given (inl none) = some_left lines f rest (sym (tails same) ∙ none)
-  goes_on s t line other behind lines rest f x here same given (inr stop) = clash (sym given ∙ ap (gives s) (sym (heads same)) ∙ ap (λ r. gives r line) here ∙ stop.1)
+  goes_on s t line other behind lines rest f x here same given (inr stop) =
+      clash (sym given ∙ ap (gives s) (sym (heads same)) ∙ ap (λ r. gives r line) here ∙ stop.1)
     where
       clash : {E B : Type 0} {b : B} {e : E} → ◌≡◌ {A = Result B E} (Ok b) (Err e) → ⊥
       clash e = cc
 
-  stops_once : (s t r : Stage) (before lines : List (List ℕ)) (line other : List ℕ) (behind rest : List (List ℕ)) (asked others : List A) → before ++ line ∷ behind ≡ lines ++ other ∷ rest
-      → LinesLead gives s before t asked → LinesLead gives s lines r others → Stops t line behind → Stops r other rest → IsSameStop t r asked others line other behind rest (length before) (length lines)
+  stops_once : (s t r : Stage) (before lines : List (List ℕ)) (line other : List ℕ) (behind rest : List (List ℕ)) (asked others : List A)
+      → before ++ line ∷ behind ≡ lines ++ other ∷ rest
+      → LinesLead gives s before t asked → LinesLead gives s lines r others → Stops t line behind → Stops r other rest
+      → IsSameStop t r asked others line other behind rest (length before) (length lines)
   stops_once s t r [] [] line other behind rest asked others same leads leads_too stops stops_too =
       record { reached = sym leads.0 ∙ leads_too.0; asking = leads.1 ∙ sym leads_too.1; faulty = heads same; after = tails same; number = refl }
-  stops_once s t r [] (first ∷ lines) line other behind rest asked others same leads leads_too stops stops_too = absurd (goes_on s t line first behind lines rest other leads_too.0 leads.0 same leads_too.2 stops)
-  stops_once s t r (first ∷ before) [] line other behind rest asked others same leads leads_too stops stops_too = absurd (goes_on s r other first rest before behind line leads.0 leads_too.0 (sym same) leads.2 stops_too)
+  stops_once s t r [] (first ∷ lines) line other behind rest asked others same leads leads_too stops stops_too =
+      absurd (goes_on s t line first behind lines rest other leads_too.0 leads.0 same leads_too.2 stops)
+  stops_once s t r (first ∷ before) [] line other behind rest asked others same leads leads_too stops stops_too =
+      absurd (goes_on s r other first rest before behind line leads.0 leads_too.0 (sym same) leads.2 stops_too)
   stops_once s t r (first ∷ before) (second ∷ lines) line other behind rest asked others same leads leads_too stops stops_too =
       let next : leads_too.0 ≡ leads.0 = one_value (sym leads_too.2 ∙ ap (gives s) (sym (heads same)) ∙ leads.2) in
       let P : Stage × Option A → Type 0 = λ x. LinesLead gives x.0 lines r leads_too.1 in
-      let more = stops_once leads.0.0 t r before lines line other behind rest leads.1 leads_too.1 (tails same) leads.4 (subst P next leads_too.4) stops stops_too in
+      let more = stops_once leads.0.0 t r before lines line other behind rest leads.1 leads_too.1 (tails same) leads.4
+      (subst P next leads_too.4) stops stops_too in
       let also : others ≡ option_to_list leads.0.1 ++ leads_too.1 = leads_too.3 ∙ ap (λ (x : Stage × Option A). option_to_list x.1 ++ leads_too.1) next in
-      record { reached = more.reached; asking = leads.3 ∙ ap (λ (xs : List A). option_to_list leads.0.1 ++ xs) more.asking ∙ sym also; faulty = more.faulty; after = more.after; number = omega (arith, more.number) }
+      let asking = leads.3 ∙ ap (λ (xs : List A). option_to_list leads.0.1 ++ xs) more.asking ∙ sym also in
+      record { reached = more.reached; asking = asking; faulty = more.faulty; after = more.after; number = omega (arith, more.number) }
     where
       one_value : {E B : Type 0} {b c : B} → ◌≡◌ {A = Result B E} (Ok b) (Ok c) → b ≡ c
       one_value e = cc
@@ -71,7 +79,8 @@ module _ {A : Type 0} (gives : Lines A) where
   fault_stops s line [] k fault = inl refl
   fault_stops s line (next ∷ more) k fault = inr (k, fault)
 
-  fault_once : (s : Stage) (line : List ℕ) (behind : List (List ℕ)) (k j : Kind) → HasLineFault gives s line behind k → HasLineFault gives s line behind j → k ≡ j
+  fault_once : (s : Stage) (line : List ℕ) (behind : List (List ℕ)) (k j : Kind) → HasLineFault gives s line behind k
+      → HasLineFault gives s line behind j → k ≡ j
   fault_once s line (next ∷ more) k j fault too = same (sym fault ∙ too)
     where
       same : {E B : Type 0} {b c : E} → ◌≡◌ {A = Result B E} (Err b) (Err c) → b ≡ c
@@ -83,9 +92,11 @@ module _ {A : Type 0} (gives : Lines A) where
       same e = cc
 
   module _ (text : List ℕ) where
-    spelled_once : (layout other : Layout) (asked others : List A) → Spells gives text layout asked → Spells gives text other others → ◌≡◌ {A = Result (Layout × List A) ScriptError} (Ok (layout, asked)) (Ok (other, others))
+    spelled_once : (layout other : Layout) (asked others : List A) → Spells gives text layout asked → Spells gives text other others
+        → ◌≡◌ {A = Result (Layout × List A) ScriptError} (Ok (layout, asked)) (Ok (other, others))
     spelled_once layout other asked others x y =
-        let one = stops_once stage.Version x.reached y.reached x.lines y.lines [] [] [] [] asked others (sym x.split ∙ y.split) x.leads y.leads (inl refl) (inl refl) in
+        let one = stops_once stage.Version x.reached y.reached x.lines y.lines [] [] [] [] asked others (sym x.split ∙ y.split) x.leads y.leads
+        (inl refl) (inl refl) in
         same (sym x.whole ∙ ap layout_at one.reached ∙ y.whole) one.asking
       where
         same : {a b : Layout} {c d : List A} → Some a ≡ Some b → c ≡ d → ◌≡◌ {A = Result (Layout × List A) ScriptError} (Ok (a, c)) (Ok (b, d))
@@ -94,7 +105,8 @@ module _ {A : Type 0} (gives : Lines A) where
     never_both : (layout : Layout) (asked : List A) (e : ScriptError) → Spells gives text layout asked → IsRefusal gives text e → ⊥
     never_both layout asked e x (inl long) = omega (arith, x.short, long.0)
     never_both layout asked e x (inr y) =
-        let one = stops_once stage.Version x.reached y.reached x.lines y.before [] y.faulty [] y.behind asked y.asked (sym x.split ∙ y.split) x.leads y.leads (inl refl) (fault_stops y.reached y.faulty y.behind e.kind y.fault) in
+        let one = stops_once stage.Version x.reached y.reached x.lines y.before [] y.faulty [] y.behind asked y.asked
+        (sym x.split ∙ y.split) x.leads y.leads (inl refl) (fault_stops y.reached y.faulty y.behind e.kind y.fault) in
         let P : Stage → Type 0 = λ s. HasLineFault gives s y.faulty y.behind e.kind in
         let Q : List ℕ → Type 0 = λ line. HasLineFault gives x.reached line y.behind e.kind in
         let R : List (List ℕ) → Type 0 = λ ps. HasLineFault gives x.reached [] ps e.kind in
@@ -105,7 +117,8 @@ module _ {A : Type 0} (gives : Lines A) where
     refused_once e f (inl x) (inr y) = absurd (omega (arith, x.0, y.short))
     refused_once e f (inr x) (inl y) = absurd (omega (arith, y.0, x.short))
     refused_once e f (inr x) (inr y) =
-        let one = stops_once stage.Version x.reached y.reached x.before y.before x.faulty y.faulty x.behind y.behind x.asked y.asked (sym x.split ∙ y.split) x.leads y.leads
+        let one = stops_once stage.Version x.reached y.reached x.before y.before x.faulty y.faulty x.behind y.behind x.asked y.asked
+        (sym x.split ∙ y.split) x.leads y.leads
         (fault_stops x.reached x.faulty x.behind e.kind x.fault) (fault_stops y.reached y.faulty y.behind f.kind y.fault) in
         let P : Stage → Type 0 = λ s. HasLineFault gives s y.faulty y.behind f.kind in
         let Q : List ℕ → Type 0 = λ line. HasLineFault gives x.reached line y.behind f.kind in

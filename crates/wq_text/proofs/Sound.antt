@@ -37,7 +37,8 @@ module _ {A : Type 0} (most : ℕ) (fits : Layout → A → Type 0) where
     where
       same : {l m : Layout} → Some l ≡ Some m → l ≡ m
       same e = cc
-  ends_sound (stage.Barriers l) layout asked here sound = let P : Layout → Type 0 = λ x. AreSound most fits x asked in subst P (same here) (sound.0, all_none l asked sound.1)
+  ends_sound (stage.Barriers l) layout asked here sound =
+      let P : Layout → Type 0 = λ x. AreSound most fits x asked in subst P (same here) (sound.0, all_none l asked sound.1)
     where
       same : {l m : Layout} → Some l ≡ Some m → l ≡ m
       same e = cc
@@ -51,6 +52,7 @@ module _ {A : Type 0} (most : ℕ) (fits : Layout → A → Type 0) where
       let before = ends_sound s layout asked here sound in
       (before.0, All-append (fits layout) asked (a ∷ []) before.1 (all_one (fits layout) a fit))
 
-  pub keeps : (s t : Stage) (one : Option A) (asked new : List A) → KeepsSound most fits s t one → new ≡ asked ++ option_to_list one → SoundAt most fits s asked → SoundAt most fits t new
+  pub keeps : (s t : Stage) (one : Option A) (asked new : List A) → KeepsSound most fits s t one → new ≡ asked ++ option_to_list one
+      → SoundAt most fits s asked → SoundAt most fits t new
   unfolding KeepsSound
   keeps s t one asked new step added sound = let P : List A → Type 0 = λ x. SoundAt most fits t x in subst P (sym added) (step asked sound)

@@ -1,5 +1,6 @@
 -- The parts of a text, and reading them one by one.
-use Rattle.std.proofs.Common.{◌≡◌, ℕ, suc, ◌+◌, ◌<◌, ◌≤◌, Bool, true, false, not, List, [], ◌∷◌, ◌++◌, length, take, drop, cond, Option, Some, None, Ok, Err, position, ◌==◌, refl, sym, ap, ◌∙◌, arith, subst, inl, inr, length-append, append_assoc, count_by}
+use Rattle.std.proofs.Common.{◌≡◌, ℕ, suc, ◌+◌, ◌<◌, ◌≤◌, Bool, true, false, not, List, [], ◌∷◌, ◌++◌, length, take, drop, cond, Option, Some, None, Ok, Err}
+use Rattle.std.proofs.Common.{position, ◌==◌, refl, sym, ap, ◌∙◌, arith, subst, inl, inr, length-append, append_assoc, count_by}
 use Rattle.std.specs.List.{slice_split, position_or_len, onto_first}
 use Rattle.std.specs.Option.{option_to_list}
 use Rattle.std.proofs.lemmas.Bool.{cases_lt, lt-ltb, le-ltb, eqb-true, eqb-false}
@@ -18,7 +19,8 @@ use Rattle.wq_text.specs.Line.{Lines}
 use Rattle.wq_text.specs.Text.{LinesLead, Spells, HasLineFault, IsRefusal, end_fault}
 use Rattle.wq_text.specs.Word.{parts}
 
-one_step : (p : ℕ → Bool) (x : ℕ) (xs : List ℕ) (b : Bool) → p x ≡ b → (length xs ≤ position_or_len p xs → slice_split p xs ≡ xs ∷ []) → suc (length xs) ≤ cond (not b) (1 + position_or_len p xs) 0 → slice_split p (x ∷ xs) ≡ (x ∷ xs) ∷ []
+one_step : (p : ℕ → Bool) (x : ℕ) (xs : List ℕ) (b : Bool) → p x ≡ b → (length xs ≤ position_or_len p xs → slice_split p xs ≡ xs ∷ [])
+    → suc (length xs) ≤ cond (not b) (1 + position_or_len p xs) 0 → slice_split p (x ∷ xs) ≡ (x ∷ xs) ∷ []
 one_step p x xs true e more le = absurd (omega (arith, le))
 one_step p x xs false e more le = slice_split-cons_no p x xs e ∙ ap (onto_first x) (more (omega (arith, le)))
 
@@ -35,7 +37,8 @@ no_line text e = elim (cases_lt (position_or_len (λ b. b == 10) text) (length t
     differ : {n : ℕ} → None ≡ Some n → ⊥
     differ e = cc
 
-pub one_line : (text : List ℕ) (end : ℕ) → Some end ≡ position (λ b. b == 10) text → (end < length text) × (parts text ≡ take end text ∷ parts (drop (end + 1) text))
+pub one_line : (text : List ℕ) (end : ℕ) → Some end ≡ position (λ b. b == 10) text
+    → (end < length text) × (parts text ≡ take end text ∷ parts (drop (end + 1) text))
 one_line text end e = elim (cases_lt (position_or_len (λ b. b == 10) text) (length text)) [
   | inl lt ↦
       let same : end ≡ position_or_len (λ b. b == 10) text = some_same (rw (lt-ltb _ _ lt) at e) in
@@ -65,14 +68,18 @@ module _ {A : Type 0} (gives : Lines A) where
   pub read_nothing : (text : List ℕ) (asked : List A) → asked ≡ [] → IsReadTo text text 1 stage.Version asked
   read_nothing text asked none = record { before = []; split = refl; leads = (refl, none); number = refl }
 
-  leads_more : (s t next : Stage) (lines : List (List ℕ)) (line : List ℕ) (one : Option A) (asked : List A) → LinesLead gives s lines t asked → gives t line ≡ Ok (next, one)
+  leads_more : (s t next : Stage) (lines : List (List ℕ)) (line : List ℕ) (one : Option A) (asked : List A) → LinesLead gives s lines t asked
+      → gives t line ≡ Ok (next, one)
       → LinesLead gives s (lines ++ line ∷ []) next (asked ++ option_to_list one)
   leads_more s t next [] line one asked leads given =
-      ((next, one), [], ap (λ x. gives x line) leads.0 ∙ given, ap (λ (xs : List A). xs ++ option_to_list one) leads.1 ∙ sym (append-nil (option_to_list one)), (refl, refl))
+      let asking = ap (λ (xs : List A). xs ++ option_to_list one) leads.1 ∙ sym (append-nil (option_to_list one)) in
+      ((next, one), [], ap (λ x. gives x line) leads.0 ∙ given, asking, (refl, refl))
   leads_more s t next (first ∷ lines) line one asked leads given =
-      (leads.0, leads.1 ++ option_to_list one, leads.2, ap (λ (xs : List A). xs ++ option_to_list one) leads.3 ∙ append_assoc (option_to_list leads.0.1) leads.1 (option_to_list one), leads_more leads.0.0 t next lines line one leads.1 leads.4 given)
+      let asking = ap (λ (xs : List A). xs ++ option_to_list one) leads.3 ∙ append_assoc (option_to_list leads.0.1) leads.1 (option_to_list one) in
+      (leads.0, leads.1 ++ option_to_list one, leads.2, asking, leads_more leads.0.0 t next lines line one leads.1 leads.4 given)
 
-  pub read_more : (text rest line after : List ℕ) (n : ℕ) (s next : Stage) (asked new : List A) (one : Option A) → IsReadTo text rest n s asked → parts rest ≡ line ∷ parts after
+  pub read_more : (text rest line after : List ℕ) (n : ℕ) (s next : Stage) (asked new : List A) (one : Option A) → IsReadTo text rest n s asked
+      → parts rest ≡ line ∷ parts after
       → gives s line ≡ Ok (next, one) → new ≡ asked ++ option_to_list one → IsReadTo text after (n + 1) next new
   read_more text rest line after n s next asked new one read cut given added =
       let P : List A → Type 0 = λ xs. LinesLead gives stage.Version (read.before ++ line ∷ []) next xs in
@@ -83,14 +90,30 @@ module _ {A : Type 0} (gives : Lines A) where
         number = omega (arith, read.number, length-append read.before (line ∷ []));
       }
 
-  faulty_at : (text rest line : List ℕ) (behind : List (List ℕ)) (n : ℕ) (s : Stage) (asked : List A) (e : ScriptError) → length text ≤ 1048576 → IsReadTo text rest n s asked
+  faulty_at : (text rest line : List ℕ) (behind : List (List ℕ)) (n : ℕ) (s : Stage) (asked : List A) (e : ScriptError) → length text ≤ 1048576
+      → IsReadTo text rest n s asked
       → parts rest ≡ line ∷ behind → e.line ≡ n → HasLineFault gives s line behind e.kind → IsRefusal gives text e
   faulty_at text rest line behind n s asked e short read cut here fault =
-      inr (record { short = short; before = read.before; faulty = line; behind = behind; reached = s; asked = asked; split = read.split ∙ ap (λ ps. read.before ++ ps) cut; leads = read.leads; number = here ∙ read.number; fault = fault })
+      let split = read.split ∙ ap (λ ps. read.before ++ ps) cut in
+      let number = here ∙ read.number in
+      inr (record {
+        short = short;
+        before = read.before;
+        faulty = line;
+        behind = behind;
+        reached = s;
+        asked = asked;
+        split = split;
+        leads = read.leads;
+        number = number;
+        fault = fault;
+      })
 
-  pub faulty_line : (text rest line after : List ℕ) (n : ℕ) (s : Stage) (asked : List A) (e : ScriptError) → length text ≤ 1048576 → IsReadTo text rest n s asked
+  pub faulty_line : (text rest line after : List ℕ) (n : ℕ) (s : Stage) (asked : List A) (e : ScriptError) → length text ≤ 1048576
+      → IsReadTo text rest n s asked
       → parts rest ≡ line ∷ parts after → e.line ≡ n → gives s line ≡ Err e.kind → IsRefusal gives text e
-  faulty_line text rest line after n s asked e short read cut here given = faulty_at text rest line (parts after) n s asked e short read cut here (followed (parts after) (length-slice_split (λ b. b == 10) after))
+  faulty_line text rest line after n s asked e short read cut here given =
+      faulty_at text rest line (parts after) n s asked e short read cut here (followed (parts after) (length-slice_split (λ b. b == 10) after))
     where
       followed : (ps : List (List ℕ)) → length ps ≡ count_by (λ b. b == 10) after + 1 → HasLineFault gives s line ps e.kind
       followed [] some = absurd (omega (arith, some))
@@ -110,9 +133,11 @@ module _ {A : Type 0} (gives : Lines A) where
 
   pub no_header : (text rest : List ℕ) (n : ℕ) (s : Stage) (asked : List A) (e : ScriptError) → length text ≤ 1048576 → IsReadTo text rest n s asked
       → parts rest ≡ rest ∷ [] → (length rest == 0) ≡ true → e.line ≡ n → end_fault s ≡ Some e.kind → IsRefusal gives text e
-  no_header text rest n s asked e short read last none here fault = faulty_at text rest [] [] n s asked e short read (last ∙ ap (λ (x : List ℕ). x ∷ []) (nothing_left rest none)) here fault
+  no_header text rest n s asked e short read last none here fault =
+      faulty_at text rest [] [] n s asked e short read (last ∙ ap (λ (x : List ℕ). x ∷ []) (nothing_left rest none)) here fault
 
   pub spelled : (text rest : List ℕ) (n : ℕ) (s : Stage) (layout : Layout) (asked : List A) → length text ≤ 1048576 → IsReadTo text rest n s asked
       → parts rest ≡ rest ∷ [] → (length rest == 0) ≡ true → layout_at s ≡ Some layout → Spells gives text layout asked
   spelled text rest n s layout asked short read last none whole =
-      record { short = short; lines = read.before; reached = s; split = read.split ∙ ap (λ ps. read.before ++ ps) (last ∙ ap (λ (x : List ℕ). x ∷ []) (nothing_left rest none)); leads = read.leads; whole = whole }
+      let split = read.split ∙ ap (λ ps. read.before ++ ps) (last ∙ ap (λ (x : List ℕ). x ∷ []) (nothing_left rest none)) in
+      record { short = short; lines = read.before; reached = s; split = split; leads = read.leads; whole = whole }

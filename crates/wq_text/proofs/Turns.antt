@@ -1,5 +1,6 @@
 -- The words of a step.
-use Rattle.std.proofs.Common.{◌≡◌, ◌≢◌, ℕ, ◌-◌, Bool, true, false, List, [], ◌∷◌, length, take, map, Option, Some, None, ◌==◌, refl, sym, ap, subst, MatchOption, if◌then◌else◌}
+use Rattle.std.proofs.Common.{◌≡◌, ◌≢◌, ℕ, ◌-◌, Bool, true, false, List, [], ◌∷◌, length, take, map, Option, Some, None, ◌==◌, refl, sym, ap, subst}
+use Rattle.std.proofs.Common.{MatchOption, if◌then◌else◌}
 use Rattle.std.proofs.lemmas.Bool.{eqb-true}
 use Rattle.std.proofs.lemmas.List.{length-map, take-map}
 use Rattle.wq_text.specs.Turn.{after_b, without_last}
@@ -9,7 +10,8 @@ no_b : (b : ℕ) (bs : List ℕ) (e : Bool) → (b == 98) ≡ e → ((rest : Lis
 no_b b bs true same none = absurd (none bs (ap (λ n. n ∷ bs) (eqb-true b 98 same)))
 no_b b bs false same none = refl
 
-pub stripped : (bs : List ℕ) (r : Option (Bor (List ℕ))) → MatchOption r ((rest : List ℕ) → bs ≢ 98 ∷ rest) (λ x. bs ≡ 98 ∷ x.now) → MatchOption r (after_b bs ≡ None) (λ digits. after_b bs ≡ Some digits.now)
+pub stripped : (bs : List ℕ) (r : Option (Bor (List ℕ))) → MatchOption r ((rest : List ℕ) → bs ≢ 98 ∷ rest) (λ x. bs ≡ 98 ∷ x.now)
+    → MatchOption r (after_b bs ≡ None) (λ digits. after_b bs ≡ Some digits.now)
 stripped bs (Some x) h = let P : List ℕ → Type 0 = λ w. after_b w ≡ Some x.now in subst P (sym h) refl
 stripped [] None h = refl
 stripped (b ∷ bs) None h = no_b b bs (b == 98) refl h

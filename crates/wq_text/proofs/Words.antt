@@ -1,5 +1,6 @@
 -- When a word is a number.
-use Rattle.std.proofs.Common.{◌≡◌, ℕ, ◌<◌, ◌≤◌, ◌^◌, Bool, true, false, not, ◌&&◌, ◌||◌, List, [], ◌∷◌, length, get_or, Some, None, Result, Ok, Err, nat_lt, nat_le, ◌==◌, refl, sym, ◌∙◌, arith, inl, inr, subst, if◌then◌else◌, ◌⊎◌}
+use Rattle.std.proofs.Common.{◌≡◌, ℕ, ◌<◌, ◌≤◌, ◌^◌, Bool, true, false, not, ◌&&◌, ◌||◌, List, [], ◌∷◌, length, get_or, Some, None, Result, Ok, Err, nat_lt}
+use Rattle.std.proofs.Common.{nat_le, ◌==◌, refl, sym, ◌∙◌, arith, inl, inr, subst, if◌then◌else◌, ◌⊎◌}
 use Rattle.std.specs.Str.{all_ascii_digits}
 use Rattle.std.specs.Str.Parse.{ParsesUnsigned, digits_value}
 use Rattle.std.specs.Result.{result_ok, OkIff}
@@ -60,7 +61,8 @@ by_digits {E} false w (Ok x) e lt h = absurd (false_true (sym e ∙ h.0.0))
     false_true e = cc
 by_digits {E} false w (Err x) e lt h = refl
 
-pub parsed : {E : Type 0} (w : List ℕ) (r : Result ℕ E) → ParsesUnsigned 64 10 w r → 0 < length w → (get_or w 0 0 ≡ 43 → ⊥) → (length w ≤ 1) ⊎ (get_or w 0 0 ≡ 48 → ⊥) → result_ok r ≡ number_at w
+pub parsed : {E : Type 0} (w : List ℕ) (r : Result ℕ E) → ParsesUnsigned 64 10 w r → 0 < length w → (get_or w 0 0 ≡ 43 → ⊥)
+    → (length w ≤ 1) ⊎ (get_or w 0 0 ≡ 48 → ⊥) → result_ok r ≡ number_at w
 unfolding number_at
 parsed {E} w r h lt plus zeros =
     let positive : nat_lt 0 (length w) ≡ true = lt-ltb _ _ lt in

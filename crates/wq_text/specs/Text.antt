@@ -14,7 +14,8 @@ use Rattle.wq_text.specs.Word.{parts}
 -- none of the lines has a fault; they lead from stage s to stage t and ask for these in turn
 abbrev pub LinesLead : {A : Type 0} → Lines A → Stage → List (List ℕ) → Stage → List A → Type 0
 LinesLead gives s [] t asked = (s ≡ t) × (asked ≡ [])
-LinesLead {A} gives s (line ∷ lines) t asked = (x : Stage × Option A) × (rest : List A) × (gives s line ≡ Ok x) × (asked ≡ option_to_list x.1 ++ rest) × LinesLead gives x.0 lines t rest
+LinesLead {A} gives s (line ∷ lines) t asked =
+    (x : Stage × Option A) × (rest : List A) × (gives s line ≡ Ok x) × (asked ≡ option_to_list x.1 ++ rest) × LinesLead gives x.0 lines t rest
 
 -- the text is short enough and ends behind lines without a fault, and with them the header is complete
 pub record Spells {A : Type 0} (gives : Lines A) (text : List ℕ) (layout : Layout) (asked : List A) : Type 0 where

@@ -1,10 +1,10 @@
 -- The table of steps: which step the words of a schedule's line name, and what they ask for.
-use Rattle.std.specs.Prelude.{ℕ, ◌+◌, List, [], ◌∷◌, length, Option, Some, None, Result, Ok, ◌-◌, take, slice_index_or, ◌==◌, if◌then◌else◌, codes, option_map}
+use Rattle.std.specs.Prelude.{ℕ, List, [], ◌∷◌, length, Option, Some, None, Result, Ok, ◌-◌, take, slice_index_or, ◌==◌, if◌then◌else◌, codes, option_map}
 use Rattle.std.specs.Str.{bytes_eq}
 use Rattle.wq_words.specs.declared.event.Why.{Why}
 use Rattle.wq_words.specs.declared.event.Why.TheVariants as why
 use Rattle.wq_words.specs.declared.layout.Layout.{Layout}
-use Rattle.wq_words.specs.Numbers.{stop_number}
+use Rattle.wq_words.specs.Numbers.{barrier_number, stop_number}
 use Rattle.wq_core.specs.declared.step.Seat.{Seat}
 use Rattle.wq_core.specs.declared.step.Seat.TheVariants as seat
 use Rattle.wq_core.specs.declared.step.Step.{Step}
@@ -27,7 +27,7 @@ after_b [] = None
 after_b (b ∷ bs) = if b == 98 then Some bs else None
 
 abbrev pub barrier_or_item : Layout → List ℕ → Option (List ℕ) → Result ℕ Kind
-barrier_or_item l w (Some digits) = of_one (λ b. l.items + b) (barrier l digits)
+barrier_or_item l w (Some digits) = of_one (barrier_number l) (barrier l digits)
 barrier_or_item l w None = item l w
 
 -- a number of the queue: an item, b and a barrier, or stop

@@ -32,7 +32,7 @@ fn line_end(text: &[u8]) -> Option<usize>
 
 // The first line of a text, and what follows its LF.
 fn cut_line(text: &[u8]) -> Option<(&[u8], &[u8])>
-    ensures { MatchOption result (parts text.now ≡ text.now ∷ []) (λ cut. (parts text.now ≡ cut.0.now ∷ parts cut.1.now) × (length cut.1.now < length text.now)) }
+    ensures { MatchOption result (parts text.now ≡ text.now ∷ []) (λ c. (parts text.now ≡ c.0.now ∷ parts c.1.now) × (length c.1.now < length text.now)) }
 {
     match line_end(text) {
         None => None,

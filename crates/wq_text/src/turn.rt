@@ -1,5 +1,5 @@
 //! The steps of a schedule, as words.
-ghost use Rattle.std.specs.Prelude.{◌≡◌, ◌+◌, ◌<◌, map, MatchOption, IfOk, IfSome};
+ghost use Rattle.std.specs.Prelude.{◌≡◌, ◌<◌, map, MatchOption, IfOk, IfSome};
 ghost use Rattle.wq_words.specs.Numbers.{number_count};
 ghost use Rattle.wq_text.specs.Fault.{LineGives, of_none};
 ghost use Rattle.wq_text.specs.Word.{other_words};
@@ -43,10 +43,10 @@ fn number_of_queue(layout: Layout, word: &str) -> Result<u32, LineError>
     ensures within { IfOk result (λ n. n < number_count layout) }
 {
     if word == "stop" {
-        return Ok(layout.items + layout.barriers);
+        return Ok(layout.stop());
     }
     match digits_of_barrier(word) {
-        Some(digits) => Ok(layout.items + barrier(layout, digits)?),
+        Some(digits) => Ok(layout.barrier(barrier(layout, digits)?)),
         None => item(layout, word),
     }
 }

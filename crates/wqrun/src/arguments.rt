@@ -2,7 +2,7 @@
 use clap::{Arg, Command, Error};
 use std::alloc::{AllocError, Global};
 
-/// What the file is.
+/// What a text is.
 #[derive(Clone, Copy, Debug, PartialEq, Eq)]
 pub enum Kind {
     Script,
@@ -10,72 +10,136 @@ pub enum Kind {
     Live,
 }
 
-/// What the words ask for: the path of a file, and what it is.
+/// Where a text stands: on standard input, or in the file of this path.
+#[derive(Clone, Copy, Debug, PartialEq, Eq)]
+pub enum Source<'a> {
+    Input,
+    File(&'a str),
+}
+
+/// What the words ask for.
 #[derive(Clone, Copy, Debug, PartialEq, Eq)]
 pub struct Task<'a> {
     pub kind: Kind,
-    pub path: &'a str,
+    pub source: Source<'a>,
 }
 
-/// `wqrun script`.
-fn script_command<'a>(alloc: Global) -> Result<Command<'a>, AllocError> {
-    let file = Arg::new(alloc, "FILE").required(true).help(
-        "A script: lines of words, the first line 'wq 1', then 'items N' and 'senders N', then commands",
-    );
-    Command::new(alloc, "script")
-        .about("Runs a script of commands and prints what they answer")
-        .after_help("Example: wqrun script examples/first.wq")
+/// A subcommand: its name, what it runs, what it does, what its file is, and what a text of it may hold.
+struct Row {
+    name: &'static str,
+    kind: Kind,
+    about: &'static str,
+    file: &'static str,
+    more: &'static str,
+}
+
+const ROWS: [Row; 3] = [
+    Row {
+        name: "script",
+        kind: Kind::Script,
+        about: "Runs a script of commands and prints what they answer",
+        file: "The path of a script: the lines 'wq 1', 'items N', 'senders N' and, if wanted, 'barriers N', then commands",
+        more: "\
+Commands, for a sender S, an item K and a barrier B, each counted from 0:
+  queue S K    queue an item                 run N        at most N executions
+  close        close the queue               report       print seven counts
+  follow K ..  what follows each run of K    flush S B    queue a barrier
+  done S B     whether the barrier has run   stop S       queue the stop item
+  drain N      run out a closed queue        check K      whether K is pending
+  arm K D      queue K in D ticks            cancel K     take K off the delay table
+  modify K D   set K's delay anew            advance T    the present tick becomes T
+
+Example:
+  printf 'wq 1\\nitems 4\\nsenders 2\\nqueue 0 1\\nqueue 1 2\\nrun 9\\n' | wqrun script /dev/stdin",
+    },
+    Row {
+        name: "steps",
+        kind: Kind::Steps,
+        about: "Replays a schedule of atomic steps and prints what each is answered",
+        file: "The path of a schedule: the lines 'steps 1', 'items N', 'senders N' and, if wanted, 'barriers N', then steps",
+        more: "\
+Steps of a sender S: S hold K, S look, S link K, S push K, S check K, and
+  S back K closed (or contended, or cancelled)
+Steps of the owner: o take, o close, o walk, o begin, o end, o chain K
+K is an item, bB the barrier B, or stop the stop item.
+
+Example:
+  printf 'steps 1\\nitems 4\\nsenders 2\\n0 hold 1\\n0 look\\n0 link 1\\n0 push 1\\no take\\n' | wqrun steps /dev/stdin",
+    },
+    Row {
+        name: "live",
+        kind: Kind::Live,
+        about: "Runs a queue by live threads and prints whether its book balances",
+        file: "The path of a plan: a JSON object of four fields",
+        more: "\
+Fields: queues and workers, which are 1; senders, 1 to 32, each a thread;
+  own, the items that each sender queues, 1 to 4096, and at most 4096 over all senders.
+
+Example:
+  echo '{\"queues\":1,\"workers\":1,\"senders\":4,\"own\":64}' | wqrun live /dev/stdin",
+    },
+];
+
+const MORE: &str = "\
+Without any words wqrun runs a script from standard input.
+FILE is a path as it is written: '-' is a file of that name. For a pipe name /dev/stdin.
+
+Exit status:
+  0  the result was written, or help or the version was asked for
+  1  the text was refused, the file could not be read, or the output could not be written
+  2  the command line was refused
+  3  memory, or a thread, could not be had";
+
+// The command of a row.
+fn command_of<'a>(alloc: Global, row: &Row) -> Result<Command<'a>, AllocError> {
+    let file = Arg::new(alloc, "FILE").required(true).help(row.file);
+    Command::new(alloc, row.name)
+        .about(row.about)
+        .after_help(row.more)
         .arg(file)
 }
 
-/// `wqrun steps`.
-fn steps_command<'a>(alloc: Global) -> Result<Command<'a>, AllocError> {
-    let file = Arg::new(alloc, "FILE").required(true).help(
-        "A schedule: lines of words, the first line 'steps 1', then 'items N' and 'senders N', then steps",
-    );
-    Command::new(alloc, "steps")
-        .about("Replays a schedule of atomic steps and prints what each is answered")
-        .after_help("Example: wqrun steps examples/lost_exchange.steps")
-        .arg(file)
-}
-
-/// `wqrun live`.
-fn live_command<'a>(alloc: Global) -> Result<Command<'a>, AllocError> {
-    let file = Arg::new(alloc, "FILE").required(true).help(
-        "A plan: a JSON object with the keys 'queues' and 'workers', which are 1, 'senders' (1 to 32), and 'own', the items of each sender (all of them at most 4096)",
-    );
-    Command::new(alloc, "live")
-        .about("Runs a queue by live threads and prints whether its book balances")
-        .after_help("Example: wqrun live examples/four_senders.json")
-        .arg(file)
-}
-
-/// The command line that the program takes.
+// The command line that the program takes.
 fn command_line<'a>(alloc: Global) -> Result<Command<'a>, Error> {
-    let command = Command::new(alloc, "wqrun")
+    let mut command = Command::new(alloc, "wqrun")
         .about(
             "An ordered workqueue: items run one at a time, in the order in which they were queued",
         )
         .version("0.1.0")
-        .after_help("Without any words wqrun runs a script from standard input.")
-        .subcommand_required(true)
-        .subcommand(script_command(alloc)?)?
-        .subcommand(steps_command(alloc)?)?
-        .subcommand(live_command(alloc)?)?;
+        .override_usage("wqrun [COMMAND]")
+        .after_help(MORE)
+        .subcommand_required(true);
+    for row in &ROWS {
+        command = command.subcommand(command_of(alloc, row)?)?;
+    }
     Ok(command)
 }
 
-/// What the words ask for, the program's own name first.
+// What the subcommand of this name runs.
+fn kind_of(name: &str) -> Kind {
+    for row in &ROWS {
+        if row.name == name {
+            return row.kind;
+        }
+    }
+    Kind::Script
+}
+
+/// What the words ask for, the program's own name first: a script from standard input where they name no text.
 pub fn task_of<'a>(alloc: Global, words: &'a [String]) -> Result<Task<'a>, Error> {
-    let matches = command_line(alloc)?.try_get_matches_from(words)?;
-    let (kind, path) = match matches.subcommand() {
-        Some(("steps", steps)) => (Kind::Steps, steps.get_str("FILE")),
-        Some(("live", live)) => (Kind::Live, live.get_str("FILE")),
-        Some((_, script)) => (Kind::Script, script.get_str("FILE")),
-        None => (Kind::Script, None),
+    let mut task = Task {
+        kind: Kind::Script,
+        source: Source::Input,
     };
-    Ok(Task {
-        kind,
-        path: path.unwrap_or(""),
-    })
+    if words.len() <= 1 {
+        return Ok(task);
+    }
+    let matches = command_line(alloc)?.try_get_matches_from(words)?;
+    if let Some((name, matches)) = matches.subcommand() {
+        task.kind = kind_of(name);
+        if let Some(path) = matches.get_str("FILE") {
+            task.source = Source::File(path);
+        }
+    }
+    Ok(task)
 }

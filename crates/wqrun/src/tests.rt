@@ -1,5 +1,3 @@
-//! The program's calls on streams: worked scripts and schedules, refusals, and streams that fail.
-mod live;
-mod rows;
-mod schedules;
-mod streams;
+//! The words of the command line, and what the program does with them.
+mod edge;
+mod words;

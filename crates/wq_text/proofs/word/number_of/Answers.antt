@@ -5,10 +5,13 @@ use Rattle.wq_text.proofs.word.number_of.Goals as goal
 use Rattle.wq_text.proofs.word.number_of.Goals.{else-digits-gt1-via-then-digits-gt1+else-first-eq48, else-digits-gt1-via-else-digits-gt1}
 
 pub returns-then-is_empty : goal.returns-then-is_empty
-returns-then-is_empty c = rw (← c.as_bytes-digits.ensures.value) (no_empty c.as_bytes-digits.result.now (eqb-true _ _ (sym c.is_empty.ensures ∙ c.if-is_empty.true)))
+returns-then-is_empty c =
+    rw (← c.as_bytes-digits.ensures.value) (no_empty c.as_bytes-digits.result.now (eqb-true _ _ (sym c.is_empty.ensures ∙ c.if-is_empty.true)))
 
 pub returns-then-first-eq43 : goal.returns-then-first-eq43
-returns-then-first-eq43 c = rw (← c.as_bytes-digits.ensures.value) (no_plus c.as_bytes-digits.result.now (nonempty c.as_bytes-digits.result.now (sym c.is_empty.ensures ∙ c.if-is_empty.false)) c.if-first-eq43.true)
+returns-then-first-eq43 c =
+    rw (← c.as_bytes-digits.ensures.value) (no_plus c.as_bytes-digits.result.now
+    (nonempty c.as_bytes-digits.result.now (sym c.is_empty.ensures ∙ c.if-is_empty.false)) c.if-first-eq43.true)
 
 pub returns-then-first-eq48 : goal.returns-then-first-eq48
 returns-then-first-eq48 c = rw (← c.as_bytes-digits.ensures.value) (no_zero c.as_bytes-digits.result.now (omega arith) c.if-first-eq48.true)

@@ -1,0 +1,5 @@
+pub mod Failure
+pub mod Ending
+pub mod Report
+pub mod ScheduleReport
+pub mod RaceReport

@@ -1,0 +1,27 @@
+-- What the program makes of a plan's text.
+use Rattle.std.specs.Prelude.{◌≡◌, ℕ, List, take}
+use Rattle.wq_race.specs.declared.plan.Plan.{Plan}
+use Rattle.wq_race.specs.declared.outcome.Outcome.{Outcome}
+use Rattle.wq_race.specs.PlanText.{SpellsPlan, IsNoPlan}
+use Rattle.wq_race.specs.Outcome.{outcome_line, IsWhole}
+use Rattle.wq_mains.specs.declared.failure.Failure.{Failure}
+use Rattle.wq_mains.specs.declared.failure.Failure.TheVariants as failure
+
+-- The text spells a plan, and this is the line of the outcome that accepted each of the plan's items once and ran it once,
+-- and that balances.
+pub record Races (text line : List ℕ) : Type 0 where
+  pub plan : Plan
+  pub spells : SpellsPlan text plan
+  pub outcome : Outcome
+  pub whole : IsWhole plan outcome
+  pub line_is : line ≡ outcome_line outcome
+
+-- the text has no outcome: it is refused for this, or memory or a thread was wanting
+abbrev pub HasNoRace : List ℕ → Failure → Type 0
+HasNoRace text (failure.RefusedPlan refusal) = IsNoPlan text refusal
+HasNoRace text failure.Memory = Unit {0}
+HasNoRace text _ = ⊥
+
+-- as much of a reader's bytes as is read: one more than a plan may have
+abbrev pub plan_read : List ℕ → List ℕ
+plan_read bytes = take 65537 bytes

@@ -1,0 +1,127 @@
+//! Plans and their refusals, and races whose line is the same whatever the threads do.
+use std::sync::Wait;
+use std::test::Fail;
+use std::thread::Threads;
+use wq_mains::live_main;
+
+/// Runs a text of a plan: the status, what was written, and what was said of failures.
+fn run<T: Threads + Wait + Sync>(
+    rt: &T,
+    alloc: std::alloc::Global,
+    text: &[u8],
+) -> (u8, Vec<u8>, Vec<u8>) {
+    let mut output = Vec::new(alloc);
+    let mut faults = Vec::new(alloc);
+    let status = live_main(rt, alloc, text, &mut output, &mut faults);
+    (status, output, faults)
+}
+
+const FOUR: &[u8] = b"{\"queues\": 1, \"workers\": 1, \"senders\": 4, \"own\": 64}\n";
+
+#[test]
+fn four_senders(rt: HostRuntime) -> Result<(), Fail> {
+    let (status, output, faults) = run(&rt, rt.alloc(), FOUR);
+    assert_eq!(rt; status, 0);
+    assert_eq!(rt;
+        output.as_slice(),
+        b"accepted 256 ran 256 balanced yes\n".as_slice()
+    );
+    assert!(rt; faults.is_empty());
+    Ok(())
+}
+
+/// Twenty races each of as many senders as there may be, and of as many items.
+#[test]
+fn twenty_races(rt: HostRuntime) -> Result<(), Fail> {
+    let rows: [(&[u8], &[u8]); 2] = [
+        (
+            b"{\"own\":4,\"senders\":32,\"workers\":1,\"queues\":1}",
+            b"accepted 128 ran 128 balanced yes\n",
+        ),
+        (
+            b"{\"own\":1024,\"senders\":4,\"workers\":1,\"queues\":1}",
+            b"accepted 4096 ran 4096 balanced yes\n",
+        ),
+    ];
+    for (text, line) in rows {
+        for turn in 0..20u32 {
+            let (status, output, _) = run(&rt, rt.alloc(), text);
+            assert_eq!(rt; status, 0, "{turn}");
+            assert_eq!(rt; output.as_slice(), line, "{turn}");
+        }
+    }
+    Ok(())
+}
+
+#[test]
+fn refusals(rt: HostRuntime) -> Result<(), Fail> {
+    let rows: [(&[u8], &[u8]); 13] = [
+        (b"[]", b"plan: Keys\n"),
+        (b"null", b"plan: Keys\n"),
+        (b"1", b"plan: Keys\n"),
+        (b"{}", b"plan: Keys\n"),
+        (
+            b"{\"queues\":1,\"workers\":1,\"senders\":2}",
+            b"plan: Keys\n",
+        ),
+        (
+            b"{\"queues\":1,\"workers\":1,\"senders\":2,\"own\":1,\"more\":1}",
+            b"plan: Keys\n",
+        ),
+        (
+            b"{\"queues\":1,\"workers\":1,\"senders\":2,\"own\":4096}",
+            b"plan: Limits\n",
+        ),
+        (
+            b"{\"queues\":1,\"workers\":1,\"senders\":33,\"own\":1}",
+            b"plan: Limits\n",
+        ),
+        (
+            b"{\"queues\":2,\"workers\":1,\"senders\":2,\"own\":1}",
+            b"plan: Limits\n",
+        ),
+        (
+            b"{\"queues\":1,\"workers\":1,\"senders\":2.0,\"own\":1}",
+            b"plan: Limits\n",
+        ),
+        (
+            b"{\"queues\":1,\"workers\":1,\"senders\":-2,\"own\":1}",
+            b"plan: Limits\n",
+        ),
+        (
+            b"{\"queues\":1,\"workers\":1,\"senders\":\"2\",\"own\":0}",
+            b"plan: Limits\n",
+        ),
+        (b"{\"queues\":1,", b"plan: Json\n"),
+    ];
+    for (text, said) in rows {
+        let (status, output, faults) = run(&rt, rt.alloc(), text);
+        assert_eq!(rt; status, 1, "{text:?}");
+        assert!(rt; output.is_empty(), "{text:?}");
+        assert_eq!(rt; faults.as_slice(), said, "{text:?}");
+    }
+    Ok(())
+}
+
+/// Each text that the plan begins with is no JSON.
+#[test]
+fn prefixes(rt: HostRuntime) -> Result<(), Fail> {
+    for end in 0..FOUR.len() - 1 {
+        let (status, _, faults) = run(&rt, rt.alloc(), &FOUR[..end]);
+        assert_eq!(rt; status, 1, "{end}");
+        assert_eq!(rt; faults.as_slice(), b"plan: Json\n".as_slice(), "{end}");
+    }
+    Ok(())
+}
+
+/// 65,536 spaces are no JSON; one byte more is too long.
+#[test]
+fn sizes(rt: HostRuntime) -> Result<(), Fail> {
+    for (bytes, said) in [(65_536usize, "plan: Json\n"), (65_537, "plan: Size\n")] {
+        let text = vec![in rt.alloc(); b' '; bytes]?;
+        let (status, _, faults) = run(&rt, rt.alloc(), text.as_slice());
+        assert_eq!(rt; status, 1, "{bytes}");
+        assert_eq!(rt; faults.as_slice(), said.as_bytes(), "{bytes}");
+    }
+    Ok(())
+}

@@ -1,0 +1,212 @@
+//! Streams that fail at one call, each in turn, under each of the mains.
+use std::alloc::Global;
+use std::io::{Error, ErrorKind, Read, Result, Write};
+use std::process::Abort;
+use std::sync::Wait;
+use std::test::Fail;
+use std::thread::Threads;
+use wq_mains::{live_main, script_main, steps_main};
+
+/// A subcommand.
+#[derive(Clone, Copy, Debug)]
+enum Main {
+    Script,
+    Steps,
+    Live,
+}
+
+/// A text of a subcommand, its output, and how many calls of at most 8 bytes reading the one and writing the other take:
+/// one read more finds the end, and one flush follows the writes.
+struct Row {
+    main: Main,
+    text: &'static [u8],
+    output: &'static [u8],
+    reads: u32,
+    writes: u32,
+}
+
+const ROWS: [Row; 3] = [
+    Row {
+        main: Main::Script,
+        text: b"wq 1\nitems 4\nsenders 2\nqueue 0 1\nqueue 1 2\nrun 9\n",
+        output: b"true first\ntrue\nran 1 2\n",
+        reads: 8,
+        writes: 4,
+    },
+    Row {
+        main: Main::Steps,
+        text: b"steps 1\nitems 4\nsenders 2\n0 hold 0\n0 look\n",
+        output: b"held\nempty\naccepted nothing\nbegun nothing\n",
+        reads: 7,
+        writes: 7,
+    },
+    Row {
+        main: Main::Live,
+        text: b"{\"queues\":1,\"workers\":1,\"senders\":2,\"own\":3}",
+        output: b"accepted 6 ran 6 balanced yes\n",
+        reads: 7,
+        writes: 5,
+    },
+];
+
+fn run<T: Threads + Wait + Sync, R: Read + Drop, W: Write, F: Write>(
+    rt: &T,
+    alloc: Global,
+    main: Main,
+    reader: R,
+    writer: &mut W,
+    faults: &mut F,
+) -> u8 {
+    match main {
+        Main::Script => script_main(alloc, reader, writer, faults),
+        Main::Steps => steps_main(alloc, reader, writer, faults),
+        Main::Live => live_main(rt, alloc, reader, writer, faults),
+    }
+}
+
+/// Gives a text a few bytes a call, and fails after so many calls.
+#[derive(Drop)]
+struct CutReader<'a> {
+    rest: &'a [u8],
+    calls: u32,
+    cause: ErrorKind,
+}
+
+impl Read for CutReader<'_> {
+    fn read(&mut self, buffer: &mut [u8]) -> Result<usize> {
+        if self.calls == 0 {
+            return Err(Error::from(self.cause));
+        }
+        self.calls -= 1;
+        let count = self.rest.len().min(buffer.len()).min(8);
+        buffer[..count].copy_from_slice(&self.rest[..count]);
+        self.rest = &self.rest[count..];
+        Ok(count)
+    }
+}
+
+/// Takes a few bytes a call, and fails after so many calls.
+#[derive(Drop)]
+struct CutWriter {
+    taken: Vec<u8>,
+    calls: u32,
+}
+
+impl Write for CutWriter {
+    fn write(&mut self, bytes: &[u8]) -> Result<usize> {
+        if self.calls == 0 {
+            return Err(Error::from(ErrorKind::BrokenPipe));
+        }
+        self.calls -= 1;
+        let count = bytes.len().min(8);
+        self.taken.extend_from_slice(&bytes[..count])?;
+        Ok(count)
+    }
+
+    fn flush(&mut self) -> Result<()> {
+        if self.calls == 0 {
+            return Err(Error::from(ErrorKind::BrokenPipe));
+        }
+        self.calls -= 1;
+        Ok(())
+    }
+}
+
+/// A read that fails with this cause at each call in turn ends with this status and line, and nothing is written.
+fn check_reader<T: Abort + Threads + Wait + Sync>(
+    rt: &T,
+    alloc: Global,
+    row: &Row,
+    cause: ErrorKind,
+    ending: (u8, &[u8]),
+) {
+    let main = row.main;
+    for calls in 0..row.reads {
+        let mut output = Vec::new(alloc);
+        let mut faults = Vec::new(alloc);
+        let reader = CutReader {
+            rest: row.text,
+            calls,
+            cause,
+        };
+        let status = run(rt, alloc, main, reader, &mut output, &mut faults);
+        assert_eq!(rt; status, ending.0, "{main:?} {calls}");
+        assert!(rt; output.is_empty(), "{main:?} {calls}");
+        assert_eq!(rt; faults.as_slice(), ending.1, "{main:?} {calls}");
+    }
+    let mut output = Vec::new(alloc);
+    let reader = CutReader {
+        rest: row.text,
+        calls: row.reads,
+        cause,
+    };
+    let status = run(rt, alloc, main, reader, &mut output, &mut Vec::new(alloc));
+    assert_eq!(rt; status, 0, "{main:?}");
+    assert_eq!(rt; output.as_slice(), row.output, "{main:?}");
+}
+
+#[test]
+fn reader_fails(rt: HostRuntime) {
+    for row in &ROWS {
+        let alloc = rt.alloc();
+        check_reader(
+            &rt,
+            alloc,
+            row,
+            ErrorKind::BrokenPipe,
+            (1, b"file: Unreadable\n"),
+        );
+        check_reader(&rt, alloc, row, ErrorKind::OutOfMemory, (3, b"memory\n"));
+    }
+}
+
+/// A write or the flush that fails at each call in turn ends with status 1, and what was written begins the output.
+fn check_writer<T: Abort + Threads + Wait + Sync>(rt: &T, alloc: Global, row: &Row) {
+    let main = row.main;
+    for calls in 0..row.writes + 2 {
+        let mut writer = CutWriter {
+            taken: Vec::new(alloc),
+            calls,
+        };
+        let mut faults = Vec::new(alloc);
+        let status = run(rt, alloc, main, row.text, &mut writer, &mut faults);
+        if calls < row.writes {
+            assert_eq!(rt; status, 1, "{main:?} {calls}");
+            assert!(rt; row.output.starts_with(&writer.taken), "{main:?} {calls}");
+            assert_eq!(rt;
+                faults.as_slice(),
+                b"output: Unwritable\n".as_slice(),
+                "{main:?} {calls}"
+            );
+        } else {
+            assert_eq!(rt; status, 0, "{main:?} {calls}");
+            assert_eq!(rt; writer.taken.as_slice(), row.output, "{main:?} {calls}");
+        }
+    }
+}
+
+#[test]
+fn writer_fails(rt: HostRuntime) {
+    for row in &ROWS {
+        check_writer(&rt, rt.alloc(), row);
+    }
+}
+
+/// A standard error that cannot be written leaves the status.
+#[test]
+fn faults_fail(rt: HostRuntime) -> std::result::Result<(), Fail> {
+    let alloc = rt.alloc();
+    for row in &ROWS {
+        let mut output = Vec::new(alloc);
+        let mut faults = CutWriter {
+            taken: Vec::new(alloc),
+            calls: 0,
+        };
+        let text = b"wq 2\n".as_slice();
+        let status = run(&rt, alloc, row.main, text, &mut output, &mut faults);
+        assert_eq!(rt; status, 1);
+        assert!(rt; output.is_empty());
+        assert!(rt; faults.taken.is_empty());
+    }
+    Ok(())
+}

@@ -1,4 +1,0 @@
-pub mod Failure
-pub mod Report
-pub mod ScheduleReport
-pub mod RaceReport
