@@ -44,7 +44,8 @@ pub number_at-none : (w : ℕ) → number_at w ≡ None → w ≡ 0
 number_at-none w e = sym (word_at-number_at w) ∙ ap word_at e
 
 -- a write to a word that is no link of the chain leaves the chain
-pub chain_set : (n : ℕ) (ws : List ℕ) (i v w : ℕ) (ks : List ℕ) → ((j : ℕ) → j < n → 0 < times j ks → i ≢ link_place j) → IsChain n ws w ks → IsChain n (set ws i v) w ks
+pub chain_set : (n : ℕ) (ws : List ℕ) (i v w : ℕ) (ks : List ℕ) → ((j : ℕ) → j < n → 0 < times j ks → i ≢ link_place j) → IsChain n ws w ks
+    → IsChain n (set ws i v) w ks
 chain_set n ws i v w [] spared c = c
 chain_set n ws i v w (j ∷ ks) spared c =
     let here : i ≢ link_place j = spared j c.1 (omega (arith, times-first j ks)) in
@@ -84,7 +85,9 @@ module _ (n : ℕ) (ws : List ℕ) where
     remaining = a.remaining;
     list_chain = (refl, lt, rw spelled a.list_chain);
     walk_chain = a.walk_chain;
-    order = ap (λ l. l ++ k ∷ []) a.order ∙ append_assoc (beg ++ (batch ++ reverse_aux a.remaining walked)) (reverse lst) (k ∷ []) ∙ ap (λ l. (beg ++ (batch ++ reverse_aux a.remaining walked)) ++ l) (sym (reverse_onto lst k []));
+    order =
+        ap (λ l. l ++ k ∷ []) a.order ∙ append_assoc (beg ++ (batch ++ reverse_aux a.remaining walked)) (reverse lst) (k ∷ [])
+        ∙ ap (λ l. (beg ++ (batch ++ reverse_aux a.remaining walked)) ++ l) (sym (reverse_onto lst k []));
     rested = a.rested;
   }
 
@@ -103,10 +106,12 @@ module _ (n : ℕ) (ws : List ℕ) where
       }
 
   pub chained_begin : (walked rest acc beg lst : List ℕ) (k : ℕ)
-      → AreChained n ws None walked (k ∷ rest) acc beg lst → AreChained n ws None walked rest acc (beg ++ k ∷ []) lst × (slice_get acc (length beg) ≡ Some k) × (times k beg < times k acc)
+      → AreChained n ws None walked (k ∷ rest) acc beg lst
+      → AreChained n ws None walked rest acc (beg ++ k ∷ []) lst × (slice_get acc (length beg) ≡ Some k) × (times k beg < times k acc)
   chained_begin walked rest acc beg lst k a =
       let tail : List ℕ = (rest ++ reverse_aux a.remaining walked) ++ reverse lst in
-      let o : acc ≡ beg ++ k ∷ ((rest ++ reverse_aux a.remaining walked) ++ reverse lst) = a.order ∙ append_assoc beg (k ∷ (rest ++ reverse_aux a.remaining walked)) (reverse lst) in
+      let o : acc ≡ beg ++ k ∷ ((rest ++ reverse_aux a.remaining walked) ++ reverse lst) =
+      a.order ∙ append_assoc beg (k ∷ (rest ++ reverse_aux a.remaining walked)) (reverse lst) in
       let more : times k beg < times k acc = omega (arith, ap (times k) o, times-append k beg (k ∷ tail), times-first k tail) in (
         record {
           remaining = a.remaining;
@@ -131,7 +136,8 @@ module _ (n : ℕ) (ws : List ℕ) where
       → AreChained n ws (Some j) walked batch acc beg lst → AreChained n ws (number_at (get_or ws (link_place j) 0)) (j ∷ walked) batch acc beg lst
   chained_walk_on j walked batch acc beg lst more a = go a.remaining a.walk_chain a.order
     where
-      go : (remaining : List ℕ) → IsChain n ws (j + 1) remaining → acc ≡ beg ++ (batch ++ reverse_aux remaining walked) ++ reverse lst → AreChained n ws (number_at (get_or ws (link_place j) 0)) (j ∷ walked) batch acc beg lst
+      go : (remaining : List ℕ) → IsChain n ws (j + 1) remaining → acc ≡ beg ++ (batch ++ reverse_aux remaining walked) ++ reverse lst
+          → AreChained n ws (number_at (get_or ws (link_place j) 0)) (j ∷ walked) batch acc beg lst
       go [] c o = absurd (omega (arith, c))
       go (i ∷ rest) c o =
           let i≡j : i ≡ j = omega (arith, c.0) in
@@ -147,7 +153,8 @@ module _ (n : ℕ) (ws : List ℕ) where
       → AreChained n ws (Some j) walked batch acc beg lst → AreChained n ws None [] (batch ++ j ∷ walked) acc beg lst
   chained_walk_end j walked batch acc beg lst is a = go a.remaining a.walk_chain a.order
     where
-      go : (remaining : List ℕ) → IsChain n ws (j + 1) remaining → acc ≡ beg ++ (batch ++ reverse_aux remaining walked) ++ reverse lst → AreChained n ws None [] (batch ++ j ∷ walked) acc beg lst
+      go : (remaining : List ℕ) → IsChain n ws (j + 1) remaining → acc ≡ beg ++ (batch ++ reverse_aux remaining walked) ++ reverse lst
+          → AreChained n ws None [] (batch ++ j ∷ walked) acc beg lst
       go [] c o = absurd (omega (arith, c))
       go (i ∷ rest) c o =
           let i≡j : i ≡ j = omega (arith, c.0) in

@@ -27,10 +27,12 @@ accepted_number layout =
     legal_induction layout (λ h. (i k : ℕ) → slice_get (accepted h) i ≡ Some k → k < number_count layout) (λ i k at. absurd cc)
     (λ h e legal allowed before. more h e allowed before)
   where
-    added : (xs : List ℕ) (j : ℕ) → j < number_count layout → ((i k : ℕ) → slice_get xs i ≡ Some k → k < number_count layout) → (i k : ℕ) → slice_get (xs ++ j ∷ []) i ≡ Some k → k < number_count layout
+    added : (xs : List ℕ) (j : ℕ) → j < number_count layout → ((i k : ℕ) → slice_get xs i ≡ Some k → k < number_count layout) → (i k : ℕ)
+        → slice_get (xs ++ j ∷ []) i ≡ Some k → k < number_count layout
     added xs j lt old i k at = elim (slice_get_push xs j k i at) [ inl a ↦ old i k a | inr b ↦ rw (← b.1) lt ]
 
-    more : (h : List Event) (e : Event) → IsAllowed layout h e → ((i k : ℕ) → slice_get (accepted h) i ≡ Some k → k < number_count layout) → (i k : ℕ) → slice_get (accepted (h ++ e ∷ [])) i ≡ Some k → k < number_count layout
+    more : (h : List Event) (e : Event) → IsAllowed layout h e → ((i k : ℕ) → slice_get (accepted h) i ≡ Some k → k < number_count layout)
+        → (i k : ℕ) → slice_get (accepted (h ++ e ∷ [])) i ≡ Some k → k < number_count layout
     more h (Push s j) allowed old = simp growing (added (accepted h) j allowed.1 old)
     more h (Chain j) allowed old = simp growing (added (accepted h) j (omega (arith, allowed.1)) old)
     more h _ allowed old = simp growing old
@@ -114,7 +116,8 @@ module _ (m : Machine) (o : IsSound m) where
       omega (arith, rw mine at t)
 
   -- an event that changes nothing but the history, and moves no number
-  pub sound_quiet : (e : Event) → IsAllowed m.layout m.history e → ((j : ℕ) (x : Keeper) → keeper_after j x e ≡ x) → accepted_by e ≡ None → begun_by e ≡ None → ended_by e ≡ None → ((ks : List ℕ) → listed_after ks e ≡ ks) → is_close e ≡ false
+  pub sound_quiet : (e : Event) → IsAllowed m.layout m.history e → ((j : ℕ) (x : Keeper) → keeper_after j x e ≡ x) → accepted_by e ≡ None
+      → begun_by e ≡ None → ended_by e ≡ None → ((ks : List ℕ) → listed_after ks e ≡ ks) → is_close e ≡ false
       → IsSound (happened m e)
   sound_quiet e allowed spares no_accept no_begin no_end no_list no_close =
       let b = by_keepers m o in

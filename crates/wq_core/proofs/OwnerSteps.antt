@@ -67,7 +67,8 @@ module _ (m : Machine) (o : IsSound m) where
         has_seats = o.has_seats;
         legal = legal_push m.layout m.history Close o.legal (tt, tt, unclosed);
         head_is = get_or-set_same m.words head_place closed_word 0 (omega (arith, o.has_words)) ∙ sym (head_of_closed (m.history ++ Close ∷ []) is);
-        items_are = follow_quiet pending_bit 0 (item_place n) n _ m.history Close (λ j x. taken_bit x) (items_of-head n m.words closed_word m.history b.items_are);
+        items_are =
+            follow_quiet pending_bit 0 (item_place n) n _ m.history Close (λ j x. taken_bit x) (items_of-head n m.words closed_word m.history b.items_are);
         done_is = done_of-head n m.words closed_word ∙ o.done_is ∙ ap (λ z. z % 2 ^ 64) (sym (ended_quiet m.history Close refl));
         chains = simp growing (rw walked (chains_of-head n m.words closed_word _ _ _ _ _ _ c));
         linked = linked_quiet n _ m.seats m.history Close (λ j s. refl) (linked_of-head n m.words closed_word m.seats m.history b.linked);
@@ -75,7 +76,8 @@ module _ (m : Machine) (o : IsSound m) where
       })
 
   -- the owner's own lists change, and nothing happens
-  pub sound_owner : (cursor : Option ℕ) (walked batch : List ℕ) → AreChained (number_count m.layout) m.words cursor walked batch (accepted m.history) (begun m.history) (listed m.history)
+  pub sound_owner : (cursor : Option ℕ) (walked batch : List ℕ)
+      → AreChained (number_count m.layout) m.words cursor walked batch (accepted m.history) (begun m.history) (listed m.history)
       → IsSound (record m { cursor = cursor; walked = walked; batch = batch })
   sound_owner cursor walked batch a = record {
     has_words = o.has_words;
@@ -90,17 +92,21 @@ module _ (m : Machine) (o : IsSound m) where
   }
 
   pub sound_walk_end : (k : ℕ) → m.cursor ≡ Some k → link m k ≡ 0 → IsSound (record m { cursor = None; walked = []; batch = m.batch ++ k ∷ m.walked })
-  sound_walk_end k on is = sound_owner None [] (m.batch ++ k ∷ m.walked) (chained_walk_end (number_count m.layout) m.words k m.walked m.batch _ _ _ is (rw on at o.chains))
+  sound_walk_end k on is =
+      sound_owner None [] (m.batch ++ k ∷ m.walked) (chained_walk_end (number_count m.layout) m.words k m.walked m.batch _ _ _ is (rw on at o.chains))
 
   pub sound_walk_on : (k : ℕ) → m.cursor ≡ Some k → link m k ≢ 0 → IsSound (record m { cursor = number_at (link m k); walked = k ∷ m.walked })
-  sound_walk_on k on more = sound_owner (number_at (link m k)) (k ∷ m.walked) m.batch (chained_walk_on (number_count m.layout) m.words k m.walked m.batch _ _ _ more (rw on at o.chains))
+  sound_walk_on k on more =
+      sound_owner (number_at (link m k)) (k ∷ m.walked) m.batch
+      (chained_walk_on (number_count m.layout) m.words k m.walked m.batch _ _ _ more (rw on at o.chains))
 
   -- the number at the cursor is one of the queue's
   pub cursor_is : (k : ℕ) → m.cursor ≡ Some k → k < number_count m.layout
   cursor_is k on = cursor_number (number_count m.layout) m.words k m.walked m.batch _ _ _ (rw on at o.chains)
 
   -- the first of the batch is the next number to begin, and no sender keeps it
-  pub first_of_batch : (k : ℕ) (rest : List ℕ) → m.cursor ≡ None → m.batch ≡ k ∷ rest → (k < number_count m.layout) × (slice_get (accepted m.history) (length (begun m.history)) ≡ Some k) × ((s : ℕ) → keeper m.history k ≡ Sender s → ⊥)
+  pub first_of_batch : (k : ℕ) (rest : List ℕ) → m.cursor ≡ None → m.batch ≡ k ∷ rest
+      → (k < number_count m.layout) × (slice_get (accepted m.history) (length (begun m.history)) ≡ Some k) × ((s : ℕ) → keeper m.history k ≡ Sender s → ⊥)
   first_of_batch k rest still first =
       let b = chained_begin (number_count m.layout) m.words m.walked rest _ _ _ k (rw (still, first) at o.chains) in
       (accepted_number m.layout m.history o.legal (length (begun m.history)) k b.1, b.1, λ s mine. omega (arith, away_from_sender m o s k mine, b.2))
@@ -118,7 +124,9 @@ module _ (m : Machine) (o : IsSound m) where
         has_seats = o.has_seats;
         legal = legal_push m.layout m.history (Begin k) o.legal (tt, number, (idle, f.1));
         head_is = head_of-item n m.words 0 k number ∙ o.head_is ∙ ap head_word (sym (head_of_quiet m.history (Begin k) refl refl));
-        items_are = follow_give pending_bit 0 (item_place n) n m.words m.history (Begin k) k Home (λ j e. omega (arith, e)) (omega (arith, o.has_words, number)) (gives_begin k) b.items_are;
+        items_are =
+            follow_give pending_bit 0 (item_place n) n m.words m.history (Begin k) k Home (λ j e. omega (arith, e)) (omega (arith, o.has_words, number))
+            (gives_begin k) b.items_are;
         done_is = done_of-item n m.words 0 k number ∙ o.done_is ∙ ap (λ z. z % 2 ^ 64) (sym (ended_quiet m.history (Begin k) refl));
         chains = simp growing (rw still (chains_of-item n m.words 0 k number _ _ _ _ _ _ c.0));
         linked = linked_spares n _ m.seats m.history (Begin k) k (gives_begin k).0 f.2 (linked_of-item n m.words 0 k number m.seats m.history b.linked);
@@ -131,10 +139,14 @@ module _ (m : Machine) (o : IsSound m) where
       let n : ℕ = number_count m.layout in
       let v : ℕ = (done_word m + 1) % 2 ^ 64 in
       let front = (in_order m.layout m.history o.legal).begun_first in
-      let number = accepted_number m.layout m.history o.legal (length (ended m.history)) k (rw (← front.1) (slice_get_append (begun m.history) front.0 (length (ended m.history)) k runs)) in
-      let more : length (ended (m.history ++ End k ∷ [])) ≡ length (ended m.history) + 1 = ap length (filter_map_push_some ended_by m.history (End k) k refl) ∙ length_push (ended m.history) k in
+      let number =
+      accepted_number m.layout m.history o.legal (length (ended m.history)) k
+      (rw (← front.1) (slice_get_append (begun m.history) front.0 (length (ended m.history)) k runs)) in
+      let more : length (ended (m.history ++ End k ∷ [])) ≡ length (ended m.history) + 1 =
+      ap length (filter_map_push_some ended_by m.history (End k) k refl) ∙ length_push (ended m.history) k in
       let count : v ≡ length (ended (m.history ++ End k ∷ [])) % 2 ^ 64 =
-      ap (λ z. (z + 1) % 2 ^ 64) o.done_is ∙ ap (λ z. z % 2 ^ 64) (omega arith) ∙ add-mod-mod 1 (length (ended m.history)) (2 ^ 64) ∙ ap (λ z. z % 2 ^ 64) (omega (arith, more)) in
+      ap (λ z. (z + 1) % 2 ^ 64) o.done_is ∙ ap (λ z. z % 2 ^ 64) (omega arith) ∙ add-mod-mod 1 (length (ended m.history)) (2 ^ 64)
+      ∙ ap (λ z. z % 2 ^ 64) (omega (arith, more)) in
       from_keepers (happened (with_done m v) (End k)) (record {
         has_words = length-set m.words (done_place n) v ∙ o.has_words;
         has_seats = o.has_seats;
@@ -163,10 +175,14 @@ module _ (m : Machine) (o : IsSound m) where
         has_seats = o.has_seats;
         legal = legal_push m.layout m.history (Chain k) o.legal (tt, item, (is, runs, idle_from_home m o k home));
         head_is = head_of-item n m.words 1 k number ∙ o.head_is ∙ ap head_word (sym (head_of_quiet m.history (Chain k) refl refl));
-        items_are = follow_give pending_bit 0 (item_place n) n m.words m.history (Chain k) k Owner (λ j e. omega (arith, e)) (omega (arith, o.has_words, number)) (gives_chain k) b.items_are;
+        items_are =
+            follow_give pending_bit 0 (item_place n) n m.words m.history (Chain k) k Owner (λ j e. omega (arith, e)) (omega (arith, o.has_words, number))
+            (gives_chain k) b.items_are;
         done_is = done_of-item n m.words 1 k number ∙ o.done_is ∙ ap (λ z. z % 2 ^ 64) (sym (ended_quiet m.history (Chain k) refl));
         chains = simp growing (rw (still, walked, none) (chains_of-item n m.words 1 k number _ _ _ _ _ _ c));
-        linked = linked_spares n _ m.seats m.history (Chain k) k (gives_chain k).0 (λ s mine. cc (home, mine)) (linked_of-item n m.words 1 k number m.seats m.history b.linked);
+        linked =
+            linked_spares n _ m.seats m.history (Chain k) k (gives_chain k).0 (λ s mine. cc (home, mine))
+            (linked_of-item n m.words 1 k number m.seats m.history b.linked);
         seen = seen_after m.seats m.history (Chain k) o.seen;
       })
 

@@ -48,7 +48,8 @@ gives_chain k = (λ j x ne. rw (apart k j ne) refl, λ x. rw (itself k) refl)
 
 module _ {X : Type 0} (f : Keeper → X) (default : X) (place : ℕ → ℕ) (n : ℕ) (xs : List X) (h : List Event) (e : Event) where
   -- what is stored of k is as its new keeper wants it, and every other is as it was
-  pub follow_give : (k : ℕ) (y : Keeper) → ((j : ℕ) → place j ≡ place k → j ≡ k) → place k < length xs → Gives k e y → FollowKeepers f default place n xs h → FollowKeepers f default place n (set xs (place k) (f y)) (h ++ e ∷ [])
+  pub follow_give : (k : ℕ) (y : Keeper) → ((j : ℕ) → place j ≡ place k → j ≡ k) → place k < length xs → Gives k e y
+      → FollowKeepers f default place n xs h → FollowKeepers f default place n (set xs (place k) (f y)) (h ++ e ∷ [])
   follow_give k y own in' gives old j lt =
       elim (cases_eq j k) [
         | inl same ↦ rw (same, keeper_push h e k, gives.1 (keeper h k)) (get_or-set_same xs (place k) (f y) default in')
@@ -56,7 +57,8 @@ module _ {X : Type 0} (f : Keeper → X) (default : X) (place : ℕ → ℕ) (n 
       ]
 
   -- what is as it should be need not be written
-  pub follow_same : (k : ℕ) (y : Keeper) → Gives k e y → f y ≡ f (keeper h k) → FollowKeepers f default place n xs h → FollowKeepers f default place n xs (h ++ e ∷ [])
+  pub follow_same : (k : ℕ) (y : Keeper) → Gives k e y → f y ≡ f (keeper h k) → FollowKeepers f default place n xs h
+      → FollowKeepers f default place n xs (h ++ e ∷ [])
   follow_same k y gives same_bit old j lt =
       elim (cases_eq j k) [
         | inl same ↦ rw (same, keeper_push h e k, gives.1 (keeper h k), same_bit) (let o = old j lt in rw same at o)
@@ -64,11 +66,13 @@ module _ {X : Type 0} (f : Keeper → X) (default : X) (place : ℕ → ℕ) (n 
       ]
 
   -- the event changes nothing that f says
-  pub follow_quiet : ((j : ℕ) (x : Keeper) → f (keeper_after j x e) ≡ f x) → FollowKeepers f default place n xs h → FollowKeepers f default place n xs (h ++ e ∷ [])
+  pub follow_quiet : ((j : ℕ) (x : Keeper) → f (keeper_after j x e) ≡ f x) → FollowKeepers f default place n xs h
+      → FollowKeepers f default place n xs (h ++ e ∷ [])
   follow_quiet quiet old k lt = rw (keeper_push h e k) (old k lt ∙ sym (quiet k (keeper h k)))
 
 -- another word is written
-pub follow_set : {X : Type 0} (f : Keeper → X) (default : X) (place : ℕ → ℕ) (n : ℕ) (xs : List X) (h : List Event) (i : ℕ) (v : X) → ((j : ℕ) → j < n → place j ≢ i)
+pub follow_set : {X : Type 0} (f : Keeper → X) (default : X) (place : ℕ → ℕ) (n : ℕ) (xs : List X) (h : List Event) (i : ℕ) (v : X)
+    → ((j : ℕ) → j < n → place j ≢ i)
     → FollowKeepers f default place n xs h → FollowKeepers f default place n (set xs i v) h
 follow_set f default place n xs h i v other old k lt = get_or-set_other xs i (place k) v default (other k lt) ∙ old k lt
 
@@ -84,20 +88,23 @@ abbrev pub AreSeen : List Private → List Event → Type 0
 AreSeen seats h = (s : ℕ) → (get_or seats s nothing_seen).seen ≡ Some closed_word → IsClosed h
 
 -- a word that is no link is written
-pub linked_set : (n : ℕ) (words : List ℕ) (seats : List Private) (h : List Event) (i v : ℕ) → ((j : ℕ) → j < n → link_place j ≢ i) → AreLinked n words seats h → AreLinked n (set words i v) seats h
+pub linked_set : (n : ℕ) (words : List ℕ) (seats : List Private) (h : List Event) (i v : ℕ) → ((j : ℕ) → j < n → link_place j ≢ i)
+    → AreLinked n words seats h → AreLinked n (set words i v) seats h
 linked_set n words seats h i v other old s k is =
     let o = old s k is in
     let same : get_or (set words i v) (link_place k) 0 ≡ get_or words (link_place k) 0 = get_or-set_other words i (link_place k) v 0 (other k o.0) in
     (o.0, o.1, o.2 ∙ ap Some (sym same), λ e. o.3 (sym same ∙ e))
 
 -- the event is about no number
-pub linked_quiet : (n : ℕ) (words : List ℕ) (seats : List Private) (h : List Event) (e : Event) → ((j s : ℕ) → keeper_after j (Sender s) e ≡ Sender s) → AreLinked n words seats h → AreLinked n words seats (h ++ e ∷ [])
+pub linked_quiet : (n : ℕ) (words : List ℕ) (seats : List Private) (h : List Event) (e : Event)
+    → ((j s : ℕ) → keeper_after j (Sender s) e ≡ Sender s) → AreLinked n words seats h → AreLinked n words seats (h ++ e ∷ [])
 linked_quiet n words seats h e quiet old s k is =
     let o = old s k is in
     (o.0, keeper_push h e k ∙ ap (λ x. keeper_after k x e) o.1 ∙ quiet k s, o.2, o.3)
 
 -- the event is about a number that no sender keeps
-pub linked_spares : (n : ℕ) (words : List ℕ) (seats : List Private) (h : List Event) (e : Event) (k : ℕ) → Spares k e → ((s : ℕ) → keeper h k ≡ Sender s → ⊥) → AreLinked n words seats h → AreLinked n words seats (h ++ e ∷ [])
+pub linked_spares : (n : ℕ) (words : List ℕ) (seats : List Private) (h : List Event) (e : Event) (k : ℕ) → Spares k e
+    → ((s : ℕ) → keeper h k ≡ Sender s → ⊥) → AreLinked n words seats h → AreLinked n words seats (h ++ e ∷ [])
 linked_spares n words seats h e k spares free old s j is =
     let o = old s j is in
     let ne : j ≢ k = λ same. free s (rw same at (o.1)) in
@@ -108,7 +115,8 @@ abbrev pub Keeps : Private → Private → ℕ → Type 0
 Keeps old new k = (j : ℕ) → new.linked ≡ Some j → (j ≢ k) × (old.linked ≡ Some j) × (new.seen ≡ old.seen)
 
 -- sender s gives the number k away
-pub linked_give : (n : ℕ) (words : List ℕ) (seats : List Private) (h : List Event) (e : Event) (s k : ℕ) (p : Private) → s < length seats → Spares k e → keeper h k ≡ Sender s → Keeps (get_or seats s nothing_seen) p k
+pub linked_give : (n : ℕ) (words : List ℕ) (seats : List Private) (h : List Event) (e : Event) (s k : ℕ) (p : Private) → s < length seats
+    → Spares k e → keeper h k ≡ Sender s → Keeps (get_or seats s nothing_seen) p k
     → AreLinked n words seats h → AreLinked n words (set seats s p) (h ++ e ∷ [])
 linked_give n words seats h e s k p in' spares mine keeps old t j is =
     elim (cases_eq t s) [ inl same ↦ own same | inr ne ↦ others ne ]
@@ -128,7 +136,8 @@ linked_give n words seats h e s k p in' spares mine keeps old t j is =
         (o.0, keeper_push h e j ∙ spares j (keeper h j) apart' ∙ o.1, rw there (o.2), o.3)
 
 -- sender s links a number that it keeps
-pub linked_link : (n : ℕ) (words : List ℕ) (seats : List Private) (h : List Event) (s k w : ℕ) → s < length seats → k < n → link_place k < length words → keeper h k ≡ Sender s → (get_or seats s nothing_seen).seen ≡ Some w → w ≢ closed_word
+pub linked_link : (n : ℕ) (words : List ℕ) (seats : List Private) (h : List Event) (s k w : ℕ) → s < length seats → k < n
+    → link_place k < length words → keeper h k ≡ Sender s → (get_or seats s nothing_seen).seen ≡ Some w → w ≢ closed_word
     → AreLinked n words seats h → AreLinked n (set words (link_place k) w) (set seats s (record (get_or seats s nothing_seen) { linked = Some k })) h
 linked_link n words seats h s k w in' number room mine seen unclosed old t j is =
     elim (cases_eq t s) [ inl same ↦ own same | inr ne ↦ others ne ]
@@ -151,11 +160,13 @@ linked_link n words seats h s k w in' number room mine seen unclosed old t j is 
         let there : get_or (set seats s p) t nothing_seen ≡ get_or seats t nothing_seen = get_or-set_other seats s t p nothing_seen ne in
         let o = old t j (rw there at is) in
         let apart' : j ≢ k = λ e'. let m : Sender t ≡ Sender s = sym (o.1) ∙ ap (keeper h) e' ∙ mine in ne (cc m) in
-        let kept : get_or (set words (link_place k) w) (link_place j) 0 ≡ get_or words (link_place j) 0 = get_or-set_other words (link_place k) (link_place j) w 0 (λ e. apart' (omega (arith, e))) in
+        let kept : get_or (set words (link_place k) w) (link_place j) 0 ≡ get_or words (link_place j) 0 =
+        get_or-set_other words (link_place k) (link_place j) w 0 (λ e. apart' (omega (arith, e))) in
         rw (there, kept) o
 
 -- sender s forgets what it linked
-pub linked_forget : (n : ℕ) (words : List ℕ) (seats : List Private) (h : List Event) (s : ℕ) (p : Private) → s < length seats → p.linked ≡ None → AreLinked n words seats h → AreLinked n words (set seats s p) h
+pub linked_forget : (n : ℕ) (words : List ℕ) (seats : List Private) (h : List Event) (s : ℕ) (p : Private) → s < length seats → p.linked ≡ None
+    → AreLinked n words seats h → AreLinked n words (set seats s p) h
 linked_forget n words seats h s p in' none old t j is =
     elim (cases_eq t s) [
       | inl same ↦
@@ -169,7 +180,8 @@ linked_forget n words seats h s p in' none old t j is =
 pub seen_after : (seats : List Private) (h : List Event) (e : Event) → AreSeen seats h → AreSeen seats (h ++ e ∷ [])
 seen_after seats h e old s is = closed_stays h e (old s is)
 
-pub seen_set : (seats : List Private) (h : List Event) (s : ℕ) (p : Private) → s < length seats → (p.seen ≡ Some closed_word → IsClosed h) → AreSeen seats h → AreSeen (set seats s p) h
+pub seen_set : (seats : List Private) (h : List Event) (s : ℕ) (p : Private) → s < length seats → (p.seen ≡ Some closed_word → IsClosed h)
+    → AreSeen seats h → AreSeen (set seats s p) h
 seen_set seats h s p in' new old t is =
     elim (cases_eq t s) [
       | inl same ↦
@@ -184,7 +196,8 @@ seen_set seats h s p in' new old t is =
 pub keeps_unlinked : (p : Private) (k : ℕ) → Keeps p (unlinked p k) k
 keeps_unlinked p k j is = go p.linked refl is
   where
-    some : (i : ℕ) → p.linked ≡ Some i → (q : Bool) → (i == k) ≡ q → (if q then None else Some i) ≡ Some j → (j ≢ k) × (p.linked ≡ Some j) × ((unlinked p k).seen ≡ p.seen)
+    some : (i : ℕ) → p.linked ≡ Some i → (q : Bool) → (i == k) ≡ q → (if q then None else Some i) ≡ Some j
+        → (j ≢ k) × (p.linked ≡ Some j) × ((unlinked p k).seen ≡ p.seen)
     some i was true same e = absurd cc
     some i was false other e =
         let i≡j : i ≡ j = cc e in

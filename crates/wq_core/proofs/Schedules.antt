@@ -44,13 +44,15 @@ begin_sound m o (k ∷ ks) is ne still idle = sound_begin m o k ks still is idle
 
 pub sound_after : (m : Machine) (seat : Seat) (step : Step) → IsSound m → IsMade m seat step → IsSound (after m seat step)
 sound_after m (Sender s) (Hold k) o made =
-    either (item_word m k == 0) IsSound _ _ (λ e. sound_hold m o s k made.0.0.0 made.0.1 (eqb-true (item_word m k) 0 e)) (λ e. sound_busy m o s k made.0.0.0 made.0.1 (eqb-false (item_word m k) 0 e))
+    either (item_word m k == 0) IsSound _ _ (λ e. sound_hold m o s k made.0.0.0 made.0.1 (eqb-true (item_word m k) 0 e))
+    (λ e. sound_busy m o s k made.0.0.0 made.0.1 (eqb-false (item_word m k) 0 e))
 sound_after m (Sender s) Look o made = sound_look m o s made.0.0.0
 sound_after m (Sender s) (Link k) o made =
     let is = seen_some (private m s).seen made.1.1 in
     sound_link m o s k (seen_word m s) made.0.0.0 made.0.1 made.1.0 is (λ e. made.1.2 (is ∙ ap Some e))
 sound_after m (Sender s) (Push k) o made =
-    either (head m == seen_word m s) IsSound _ _ (λ e. sound_push m o s k made.0.0.0 made.0.1 made.1 (eqb-true (head m) (seen_word m s) e)) (λ e. sound_lost m o s made.0.0.0)
+    either (head m == seen_word m s) IsSound _ _ (λ e. sound_push m o s k made.0.0.0 made.0.1 made.1 (eqb-true (head m) (seen_word m s) e))
+    (λ e. sound_lost m o s made.0.0.0)
 sound_after m (Sender s) (Back k why) o made = sound_back m o s k why made.0.0.0 made.0.1 made.1.0 made.1.1
 sound_after m (Sender s) (Check k) o made = o
 sound_after m (Sender s) Take o made = absurd made.1
@@ -141,17 +143,21 @@ pub legal_leaves : (layout : Layout) (turns : List (Seat × Step)) (m : Machine)
 legal_leaves layout turns m leaves = rw (layout_leads turns (opening layout) m leaves) at (sound_leaves layout turns m leaves).legal
 
 -- a schedule goes on by one step
-pub leads_push : (turns : List (Seat × Step)) (old mid : Machine) (seat : Seat) (step : Step) → Leads old turns mid → IsMade mid seat step → Leads old (turns ++ (seat, step) ∷ []) (after mid seat step)
+pub leads_push : (turns : List (Seat × Step)) (old mid : Machine) (seat : Seat) (step : Step) → Leads old turns mid → IsMade mid seat step
+    → Leads old (turns ++ (seat, step) ∷ []) (after mid seat step)
 leads_push [] old mid seat step leads made = (rw leads at made, ap (λ m. after m seat step) leads)
 leads_push (turn ∷ turns) old mid seat step leads made =
     (leads.0, leads_push turns (after old turn.0 turn.1) mid seat step leads.1 made)
 
-pub leaves_more : (layout : Layout) (turns : List (Seat × Step)) (place : ℕ) (d : Seat × Step) (m : Machine) → place < length turns → Leaves layout (take place turns) m
-    → IsMade m (get_or turns place d).0 (get_or turns place d).1 → Leaves layout (take (place + 1) turns) (after m (get_or turns place d).0 (get_or turns place d).1)
+pub leaves_more : (layout : Layout) (turns : List (Seat × Step)) (place : ℕ) (d : Seat × Step) (m : Machine) → place < length turns
+    → Leaves layout (take place turns) m
+    → IsMade m (get_or turns place d).0 (get_or turns place d).1
+    → Leaves layout (take (place + 1) turns) (after m (get_or turns place d).0 (get_or turns place d).1)
 leaves_more layout turns place d m lt leaves made =
     rw (take_more turns place d lt) (leads_push (take place turns) (opening layout) m (get_or turns place d).0 (get_or turns place d).1 leaves made)
 
-pub refused_at : (layout : Layout) (turns : List (Seat × Step)) (place : ℕ) (d : Seat × Step) (m : Machine) (why : StepError) → place < length turns → Leaves layout (take place turns) m
+pub refused_at : (layout : Layout) (turns : List (Seat × Step)) (place : ℕ) (d : Seat × Step) (m : Machine) (why : StepError) → place < length turns
+    → Leaves layout (take place turns) m
     → IsRefused m (get_or turns place d).0 (get_or turns place d).1 why → IsFirstRefusal layout turns place why
 refused_at layout turns place d m why lt leaves refused =
     (m, leaves, (get_or turns place d).0, (get_or turns place d).1, slice_get-get_or turns place d lt, refused)

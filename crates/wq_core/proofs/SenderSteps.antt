@@ -35,10 +35,14 @@ module _ (m : Machine) (o : IsSound m) where
         has_seats = o.has_seats;
         legal = legal_push m.layout m.history (Hold s k) o.legal (seat, number, idle_from_home m o k home);
         head_is = head_of-item n m.words 1 k number ∙ o.head_is ∙ ap head_word (sym (head_of_quiet m.history (Hold s k) refl refl));
-        items_are = follow_give pending_bit 0 (item_place n) n m.words m.history (Hold s k) k (Sender s) (λ j e. omega (arith, e)) (omega (arith, o.has_words, number)) (gives_hold s k) b.items_are;
+        items_are =
+            follow_give pending_bit 0 (item_place n) n m.words m.history (Hold s k) k (Sender s) (λ j e. omega (arith, e)) (omega (arith, o.has_words, number))
+            (gives_hold s k) b.items_are;
         done_is = done_of-item n m.words 1 k number ∙ o.done_is ∙ ap (λ z. z % 2 ^ 64) (sym (ended_quiet m.history (Hold s k) refl));
         chains = simp growing (chains_of-item n m.words 1 k number _ _ _ _ _ _ o.chains);
-        linked = linked_spares n _ m.seats m.history (Hold s k) k (gives_hold s k).0 (λ t mine. cc (home, mine)) (linked_of-item n m.words 1 k number m.seats m.history b.linked);
+        linked =
+            linked_spares n _ m.seats m.history (Hold s k) k (gives_hold s k).0 (λ t mine. cc (home, mine))
+            (linked_of-item n m.words 1 k number m.seats m.history b.linked);
         seen = seen_after m.seats m.history (Hold s k) o.seen;
       })
 
@@ -47,7 +51,8 @@ module _ (m : Machine) (o : IsSound m) where
       sound_quiet m o (Busy s k) (seat, number, pending_from_set m o k number set') (λ j x. refl) refl refl refl (λ ks. refl) refl
 
   -- a sender keeps other things in private, and has linked nothing
-  sound_private : (s : ℕ) (p : Private) → s < m.layout.senders → p.linked ≡ None → (p.seen ≡ Some closed_word → IsClosed m.history) → IsSound (with_private m s p)
+  sound_private : (s : ℕ) (p : Private) → s < m.layout.senders → p.linked ≡ None → (p.seen ≡ Some closed_word → IsClosed m.history)
+      → IsSound (with_private m s p)
   sound_private s p seat none sees =
       let b = by_keepers m o in
       let in' : s < length m.seats = omega (arith, o.has_seats, seat) in
@@ -84,7 +89,9 @@ module _ (m : Machine) (o : IsSound m) where
         head_is = head_of-link n m.words w k number ∙ o.head_is;
         items_are = items_of-link n m.words w k number m.history b.items_are;
         done_is = done_of-link n m.words w k number ∙ o.done_is;
-        chains = chained_set n m.words _ _ _ _ _ _ (link_place k) w (λ j lt more e. (let same : j ≡ k = omega (arith, e) in omega (arith, rw same at more, away))) o.chains;
+        chains =
+            chained_set n m.words _ _ _ _ _ _ (link_place k) w
+            (λ j lt more e. (let same : j ≡ k = omega (arith, e) in omega (arith, rw same at more, away))) o.chains;
         linked = linked_link n m.words m.seats m.history s k w in' number (omega (arith, o.has_words, number)) mine sees unclosed b.linked;
         seen = seen_set m.seats m.history s _ in' (λ is. o.seen s is) o.seen;
       })
@@ -107,14 +114,21 @@ module _ (m : Machine) (o : IsSound m) where
         has_seats = length-set m.seats s _ ∙ o.has_seats;
         legal = legal_push m.layout m.history (Push s k) o.legal (seat, number, (holds, not_closed));
         head_is = get_or-set_same m.words head_place (k + 1) 0 (omega (arith, o.has_words)) ∙ sym now;
-        items_are = follow_same pending_bit 0 (item_place n) n _ m.history (Push s k) k Listed (gives_push s k) (rw l.1 refl) (items_of-head n m.words (k + 1) m.history b.items_are);
+        items_are =
+            follow_same pending_bit 0 (item_place n) n _ m.history (Push s k) k Listed (gives_push s k) (rw l.1 refl)
+            (items_of-head n m.words (k + 1) m.history b.items_are);
         done_is = done_of-head n m.words (k + 1) ∙ o.done_is ∙ ap (λ z. z % 2 ^ 64) (sym (ended_quiet m.history (Push s k) refl));
-        chains = simp growing (chains_of-head n m.words (k + 1) _ _ _ _ _ _ (chained_push n m.words _ _ _ _ _ _ k number (sym spelled ∙ head_open m o not_closed) o.chains));
-        linked = linked_give n _ m.seats m.history (Push s k) s k nothing_seen in' (gives_push s k).0 l.1 (λ j e. absurd (cc e)) (linked_of-head n m.words (k + 1) m.seats m.history b.linked);
+        chains =
+            simp growing
+            (chains_of-head n m.words (k + 1) _ _ _ _ _ _ (chained_push n m.words _ _ _ _ _ _ k number (sym spelled ∙ head_open m o not_closed) o.chains));
+        linked =
+            linked_give n _ m.seats m.history (Push s k) s k nothing_seen in' (gives_push s k).0 l.1 (λ j e. absurd (cc e))
+            (linked_of-head n m.words (k + 1) m.seats m.history b.linked);
         seen = seen_after _ m.history (Push s k) (seen_set m.seats m.history s nothing_seen in' (λ is. absurd (cc is)) o.seen);
       })
 
-  pub sound_back : (s k : ℕ) (why : Why) → s < m.layout.senders → k < number_count m.layout → Holds m.history s k → (why ≡ Closed → (private m s).seen ≡ Some closed_word)
+  pub sound_back : (s k : ℕ) (why : Why) → s < m.layout.senders → k < number_count m.layout → Holds m.history s k
+      → (why ≡ Closed → (private m s).seen ≡ Some closed_word)
       → IsSound (happened (with_private (with_item m k 0) s (unlinked (private m s) k)) (Back s k why))
   sound_back s k why seat number holds sees =
       let b = by_keepers m o in
@@ -126,9 +140,13 @@ module _ (m : Machine) (o : IsSound m) where
         has_seats = length-set m.seats s _ ∙ o.has_seats;
         legal = legal_push m.layout m.history (Back s k why) o.legal (seat, number, (holds, λ e. o.seen s (sees e)));
         head_is = head_of-item n m.words 0 k number ∙ o.head_is ∙ ap head_word (sym (head_of_quiet m.history (Back s k why) refl refl));
-        items_are = follow_give pending_bit 0 (item_place n) n m.words m.history (Back s k why) k Home (λ j e. omega (arith, e)) (omega (arith, o.has_words, number)) (gives_back s k why) b.items_are;
+        items_are =
+            follow_give pending_bit 0 (item_place n) n m.words m.history (Back s k why) k Home (λ j e. omega (arith, e)) (omega (arith, o.has_words, number))
+            (gives_back s k why) b.items_are;
         done_is = done_of-item n m.words 0 k number ∙ o.done_is ∙ ap (λ z. z % 2 ^ 64) (sym (ended_quiet m.history (Back s k why) refl));
         chains = simp growing (chains_of-item n m.words 0 k number _ _ _ _ _ _ o.chains);
-        linked = linked_give n _ m.seats m.history (Back s k why) s k _ in' (gives_back s k why).0 mine (keeps_unlinked (private m s) k) (linked_of-item n m.words 0 k number m.seats m.history b.linked);
+        linked =
+            linked_give n _ m.seats m.history (Back s k why) s k _ in' (gives_back s k why).0 mine (keeps_unlinked (private m s) k)
+            (linked_of-item n m.words 0 k number m.seats m.history b.linked);
         seen = seen_after _ m.history (Back s k why) (seen_set m.seats m.history s _ in' (λ is. o.seen s is) o.seen);
       })

@@ -47,11 +47,14 @@ held_over Listed = refl
 held_over Owner = refl
 
 module _ (m : Machine) (holders : List (Option ℕ)) (runs : Option ℕ) (o : IsStored m holders runs) where
-  pub stored_hold : (s k : ℕ) → s < m.layout.senders → k < number_count m.layout → item_word m k ≡ 0 → IsStored (happened (with_item m k 1) (Hold s k)) (set holders k (Some s)) runs
+  pub stored_hold : (s k : ℕ) → s < m.layout.senders → k < number_count m.layout → item_word m k ≡ 0
+      → IsStored (happened (with_item m k 1) (Hold s k)) (set holders k (Some s)) runs
   stored_hold s k seat number clear = record {
     sound = sound_hold m o.sound s k seat number clear;
     has_holders = length-set holders k _ ∙ o.has_holders;
-    holders_are = follow_give holder None (λ j. j) _ holders m.history (Hold s k) k (Sender s) (λ j e. e) (omega (arith, o.has_holders, number)) (gives_hold s k) o.holders_are;
+    holders_are =
+        follow_give holder None (λ j. j) _ holders m.history (Hold s k) k (Sender s) (λ j e. e) (omega (arith, o.has_holders, number))
+        (gives_hold s k) o.holders_are;
     running_is = simp growing o.running_is;
     links_fit = fit_item _ m.words 1 o.links_fit k;
     looks_fit = o.looks_fit;
@@ -68,38 +71,65 @@ module _ (m : Machine) (holders : List (Option ℕ)) (runs : Option ℕ) (o : Is
   }
 
   pub stored_look : (s : ℕ) → s < m.layout.senders → IsStored (with_private m s (record { seen = Some (head m); linked = None })) holders runs
-  stored_look s seat = record { sound = sound_look m o.sound s seat; has_holders = o.has_holders; holders_are = o.holders_are; running_is = o.running_is; links_fit = o.links_fit; looks_fit = fit_look _ m.seats s _ (omega (arith, o.sound.has_seats, seat)) (λ w is unclosed. head_seen m o.sound w (cc is) unclosed) o.looks_fit }
+  stored_look s seat = record {
+    sound = sound_look m o.sound s seat;
+    has_holders = o.has_holders;
+    holders_are = o.holders_are;
+    running_is = o.running_is;
+    links_fit = o.links_fit;
+    looks_fit = fit_look _ m.seats s _ (omega (arith, o.sound.has_seats, seat)) (λ w is unclosed. head_seen m o.sound w (cc is) unclosed) o.looks_fit;
+  }
 
   pub stored_link : (s k w : ℕ) → s < m.layout.senders → k < number_count m.layout → Holds m.history s k → (private m s).seen ≡ Some w → w ≢ closed_word
       → IsStored (with_private (with_link m k w) s (record (private m s) { linked = Some k })) holders runs
-  stored_link s k w seat number holds seen unclosed = record { sound = sound_link m o.sound s k w seat number holds seen unclosed; has_holders = o.has_holders; holders_are = o.holders_are; running_is = o.running_is; links_fit = fit_link _ m.words w o.links_fit k (omega (arith, o.sound.has_words, number)) (o.looks_fit s w seen unclosed); looks_fit = fit_look _ m.seats s _ (omega (arith, o.sound.has_seats, seat)) (λ v is unclosed'. o.looks_fit s v is unclosed') o.looks_fit }
+  stored_link s k w seat number holds seen unclosed = record {
+    sound = sound_link m o.sound s k w seat number holds seen unclosed;
+    has_holders = o.has_holders;
+    holders_are = o.holders_are;
+    running_is = o.running_is;
+    links_fit = fit_link _ m.words w o.links_fit k (omega (arith, o.sound.has_words, number)) (o.looks_fit s w seen unclosed);
+    looks_fit = fit_look _ m.seats s _ (omega (arith, o.sound.has_seats, seat)) (λ v is unclosed'. o.looks_fit s v is unclosed') o.looks_fit;
+  }
 
   pub stored_push : (s k : ℕ) → s < m.layout.senders → k < number_count m.layout → (private m s).linked ≡ Some k → head m ≡ seen_word m s
       → IsStored (happened (with_private (with_head m (k + 1)) s nothing_seen) (Push s k)) (set holders k None) runs
   stored_push s k seat number linked won = record {
     sound = sound_push m o.sound s k seat number linked won;
     has_holders = length-set holders k _ ∙ o.has_holders;
-    holders_are = follow_give holder None (λ j. j) _ holders m.history (Push s k) k Listed (λ j e. e) (omega (arith, o.has_holders, number)) (gives_push s k) o.holders_are;
+    holders_are =
+        follow_give holder None (λ j. j) _ holders m.history (Push s k) k Listed (λ j e. e) (omega (arith, o.has_holders, number))
+        (gives_push s k) o.holders_are;
     running_is = simp growing o.running_is;
     links_fit = fit_head _ m.words (k + 1) o.links_fit;
     looks_fit = fit_look _ m.seats s nothing_seen (omega (arith, o.sound.has_seats, seat)) (λ w is. absurd (cc is)) o.looks_fit;
   }
 
   pub stored_lost : (s : ℕ) → s < m.layout.senders → IsStored (with_private m s nothing_seen) holders runs
-  stored_lost s seat = record { sound = sound_lost m o.sound s seat; has_holders = o.has_holders; holders_are = o.holders_are; running_is = o.running_is; links_fit = o.links_fit; looks_fit = fit_look _ m.seats s nothing_seen (omega (arith, o.sound.has_seats, seat)) (λ w is. absurd (cc is)) o.looks_fit }
+  stored_lost s seat = record {
+    sound = sound_lost m o.sound s seat;
+    has_holders = o.has_holders;
+    holders_are = o.holders_are;
+    running_is = o.running_is;
+    links_fit = o.links_fit;
+    looks_fit = fit_look _ m.seats s nothing_seen (omega (arith, o.sound.has_seats, seat)) (λ w is. absurd (cc is)) o.looks_fit;
+  }
 
-  pub stored_back : (s k : ℕ) (why : Why) → s < m.layout.senders → k < number_count m.layout → Holds m.history s k → (why ≡ Closed → (private m s).seen ≡ Some closed_word)
+  pub stored_back : (s k : ℕ) (why : Why) → s < m.layout.senders → k < number_count m.layout → Holds m.history s k
+      → (why ≡ Closed → (private m s).seen ≡ Some closed_word)
       → IsStored (happened (with_private (with_item m k 0) s (unlinked (private m s) k)) (Back s k why)) (set holders k None) runs
   stored_back s k why seat number holds sees = record {
     sound = sound_back m o.sound s k why seat number holds sees;
     has_holders = length-set holders k _ ∙ o.has_holders;
-    holders_are = follow_give holder None (λ j. j) _ holders m.history (Back s k why) k Home (λ j e. e) (omega (arith, o.has_holders, number)) (gives_back s k why) o.holders_are;
+    holders_are =
+        follow_give holder None (λ j. j) _ holders m.history (Back s k why) k Home (λ j e. e) (omega (arith, o.has_holders, number))
+        (gives_back s k why) o.holders_are;
     running_is = simp growing o.running_is;
     links_fit = fit_item _ m.words 0 o.links_fit k;
     looks_fit = fit_look _ m.seats s _ (omega (arith, o.sound.has_seats, seat)) (λ w is unclosed. o.looks_fit s w is unclosed) o.looks_fit;
   }
 
-  pub stored_take : ¬ IsClosed m.history → m.cursor ≡ None → m.batch ≡ [] → IsStored (happened (record (with_head m 0) { cursor = number_at (head m) }) Take) holders runs
+  pub stored_take : ¬ IsClosed m.history → m.cursor ≡ None → m.batch ≡ []
+      → IsStored (happened (record (with_head m 0) { cursor = number_at (head m) }) Take) holders runs
   stored_take unclosed still empty = record {
     sound = sound_take m o.sound unclosed still empty;
     has_holders = o.has_holders;
@@ -109,7 +139,8 @@ module _ (m : Machine) (holders : List (Option ℕ)) (runs : Option ℕ) (o : Is
     looks_fit = o.looks_fit;
   }
 
-  pub stored_close : ¬ IsClosed m.history → m.cursor ≡ None → IsStored (happened (record (with_head m closed_word) { cursor = number_at (head m) }) Close) holders runs
+  pub stored_close : ¬ IsClosed m.history → m.cursor ≡ None
+      → IsStored (happened (record (with_head m closed_word) { cursor = number_at (head m) }) Close) holders runs
   stored_close unclosed still = record {
     sound = sound_close m o.sound unclosed still;
     has_holders = o.has_holders;
@@ -120,10 +151,24 @@ module _ (m : Machine) (holders : List (Option ℕ)) (runs : Option ℕ) (o : Is
   }
 
   pub stored_walk_end : (k : ℕ) → m.cursor ≡ Some k → link m k ≡ 0 → IsStored (record m { cursor = None; walked = []; batch = m.batch ++ k ∷ m.walked }) holders runs
-  stored_walk_end k on is = record { sound = sound_walk_end m o.sound k on is; has_holders = o.has_holders; holders_are = o.holders_are; running_is = o.running_is; links_fit = o.links_fit; looks_fit = o.looks_fit }
+  stored_walk_end k on is = record {
+    sound = sound_walk_end m o.sound k on is;
+    has_holders = o.has_holders;
+    holders_are = o.holders_are;
+    running_is = o.running_is;
+    links_fit = o.links_fit;
+    looks_fit = o.looks_fit;
+  }
 
   pub stored_walk_on : (k : ℕ) → m.cursor ≡ Some k → link m k ≢ 0 → IsStored (record m { cursor = number_at (link m k); walked = k ∷ m.walked }) holders runs
-  stored_walk_on k on more = record { sound = sound_walk_on m o.sound k on more; has_holders = o.has_holders; holders_are = o.holders_are; running_is = o.running_is; links_fit = o.links_fit; looks_fit = o.looks_fit }
+  stored_walk_on k on more = record {
+    sound = sound_walk_on m o.sound k on more;
+    has_holders = o.has_holders;
+    holders_are = o.holders_are;
+    running_is = o.running_is;
+    links_fit = o.links_fit;
+    looks_fit = o.looks_fit;
+  }
 
   pub stored_turn : (k v : ℕ) → StandsIn m.walked m.batch k → k < number_count m.layout → v ≤ number_count m.layout → IsStored (with_link m k v) holders runs
   stored_turn k v stands number small = record {
@@ -144,7 +189,8 @@ module _ (m : Machine) (holders : List (Option ℕ)) (runs : Option ℕ) (o : Is
       record {
         sound = sound_begin m o.sound k rest still first idle;
         has_holders = o.has_holders;
-        holders_are = follow_same holder None (λ j. j) _ holders m.history (Begin k) k Home (gives_begin k) (sym (free (keeper m.history k) refl)) o.holders_are;
+        holders_are =
+            follow_same holder None (λ j. j) _ holders m.history (Begin k) k Home (gives_begin k) (sym (free (keeper m.history k) refl)) o.holders_are;
         running_is = simp growing (rw last (sym (slice_get_last (begun m.history) k [])));
         links_fit = fit_item _ m.words 0 o.links_fit k;
         looks_fit = o.looks_fit;
@@ -179,7 +225,8 @@ module _ (m : Machine) (holders : List (Option ℕ)) (runs : Option ℕ) (o : Is
         looks_fit = o.looks_fit;
       }
 
-  pub stored_chain_busy : (k : ℕ) → k < m.layout.items → IsClosed m.history → IsRunning m.history → item_word m k ≢ 0 → IsStored (happened m (ChainBusy k)) holders runs
+  pub stored_chain_busy : (k : ℕ) → k < m.layout.items → IsClosed m.history → IsRunning m.history → item_word m k ≢ 0
+      → IsStored (happened m (ChainBusy k)) holders runs
   stored_chain_busy k item closed busy set' = record {
     sound = sound_chain_busy m o.sound k item closed busy set';
     has_holders = o.has_holders;
@@ -222,7 +269,8 @@ by_top xs k ne top = go xs refl ne
     go (y ∷ ys) is ne' =
         let lt : length xs - 1 < length xs = omega (arith, ap length is) in
         let full : length xs - 1 + 1 ≡ length xs = omega (arith, lt) in
-        by_last xs (take (length xs - 1) xs) k (sym (take_all (length xs) xs (omega arith)) ∙ rw full at (take_more xs (length xs - 1) k lt) ∙ ap (λ t. take (length xs - 1) xs ++ t ∷ []) (sym top))
+        by_last xs (take (length xs - 1) xs) k
+        (sym (take_all (length xs) xs (omega arith)) ∙ rw full at (take_more xs (length xs - 1) k lt) ∙ ap (λ t. take (length xs - 1) xs ++ t ∷ []) (sym top))
 
 pub stored_opening : (layout : Layout) → IsStored (opening layout) (replicate (number_count layout) None) None
 stored_opening layout = record {

@@ -30,8 +30,17 @@ batch_is m o still =
     let none : a.remaining ≡ [] = chain_zero (number_count m.layout) m.words a.remaining (rw still at a.walk_chain) in
     let order : accepted m.history ≡ (begun m.history ++ m.batch) ++ reverse (listed m.history) = rw (none, done) at a.order ∙ simp append-nil in
     let counts : length (begun m.history ++ m.batch) ≡ taken m.history =
-    omega (arith, ap length order, length-append (begun m.history ++ m.batch) (reverse (listed m.history)), length-reverse (listed m.history), length-accepted m.layout m.history o.legal) in
-    sym (ap (λ l. drop (length (begun m.history)) l) (ap (λ l. take (taken m.history) l) order ∙ take_at (begun m.history ++ m.batch) (reverse (listed m.history)) (taken m.history) counts) ∙ drop_at (begun m.history) m.batch (length (begun m.history)) refl)
+    omega (
+      arith,
+      ap length order,
+      length-append (begun m.history ++ m.batch) (reverse (listed m.history)),
+      length-reverse (listed m.history),
+      length-accepted m.layout m.history o.legal,
+    ) in
+    let front : take (taken m.history) (accepted m.history) ≡ begun m.history ++ m.batch =
+    ap (λ l. take (taken m.history) l) order
+    ∙ take_at (begun m.history ++ m.batch) (reverse (listed m.history)) (taken m.history) counts in
+    sym (ap (λ l. drop (length (begun m.history)) l) front ∙ drop_at (begun m.history) m.batch (length (begun m.history)) refl)
 
 -- while the queue is open, the links spell from the head what was pushed since the last take, newest first
 pub chain_open : (m : Machine) → IsSound m → ¬ IsClosed m.history → IsChain (number_count m.layout) m.words (head m) (listed m.history)
@@ -46,7 +55,8 @@ head_first m o opens = ap (λ w. w == 0) (head_open m o opens) ∙ go (listed m.
     go (k ∷ ks) = ne_eqb (k + 1) 0 (λ e. omega (arith, e)) ∙ sym (ne_eqb (length (k ∷ ks)) 0 (λ e. omega (arith, e)))
 
 -- a push that wins says `first` where nothing was pushed since the last take
-pub pushed_first : (m : Machine) (s k : ℕ) (q : Bool) → IsSound m → IsMade m (Sender s) (Push k) → reply_to m (Sender s) (Push k) ≡ Pushed q → q ≡ first m.history
+pub pushed_first : (m : Machine) (s k : ℕ) (q : Bool) → IsSound m → IsMade m (Sender s) (Push k) → reply_to m (Sender s) (Push k) ≡ Pushed q
+    → q ≡ first m.history
 pushed_first m s k q o made is = go (head m == seen_word m s) refl is
   where
     opens : head m ≡ seen_word m s → ¬ IsClosed m.history

@@ -46,6 +46,7 @@ pub record IsSound (m : Machine) : Type 0 where
   pub done_is : done_word m ≡ length (ended m.history) % 2 ^ 64
   pub chains : AreChained (number_count m.layout) m.words m.cursor m.walked m.batch (accepted m.history) (begun m.history) (listed m.history)
   -- what a sender linked it holds, and the link is the head word that it saw, which was not the closed one
-  pub linked : (s k : ℕ) → (private m s).linked ≡ Some k → (k < number_count m.layout) × Holds m.history s k × ((private m s).seen ≡ Some (link m k)) × (link m k ≢ closed_word)
+  pub linked : (s k : ℕ) → (private m s).linked ≡ Some k
+      → (k < number_count m.layout) × Holds m.history s k × ((private m s).seen ≡ Some (link m k)) × (link m k ≢ closed_word)
   -- what was seen closed is closed
   pub seen : (s : ℕ) → (private m s).seen ≡ Some closed_word → IsClosed m.history

@@ -94,7 +94,13 @@ module _ (row more : Row) (p : Part) (stands : Stands p) (both : HasBoth row mor
 
 -- what was taken and turned stands behind the batch
 pub taken_behind : (ks : List ℕ) (row more : Row) (p q : Part) → IsRowOf p.words row ks → Turned ks more p q → HasBoth row more q
-taken_behind ks row more p q has turned = record { front = ks; back = turned.taken; stage_is = turned.stage_is; front_is = turned.old_row row has; back_is = turned.row_is }
+taken_behind ks row more p q has turned = record {
+  front = ks;
+  back = turned.taken;
+  stage_is = turned.stage_is;
+  front_is = turned.old_row row has;
+  back_is = turned.row_is;
+}
 
 -- a chained number stands behind it
 pub chained_behind : (k word : ℕ) (row : Row) (p q : Part) → HasRow row p → Makes (Chain k) word p q → q.stage ≡ Owns None [] (kept_batch p.stage ++ k ∷ [])

@@ -158,7 +158,13 @@ pub none_stands : (k : ℕ) → StandsIn [] [] k → ⊥
 none_stands k = ⊎_elim (λ there. let lt = there.1 in omega arith) (λ there. let lt = there.1 in omega arith)
 
 opening_owner : (l : Layout) → IsPartOf (opening_machine l) (owner_part l)
-opening_owner l = record { layout_is = refl; begins = prefix_self []; mine = refl; keeps = (refl, refl, refl, refl); links = λ k there. absurd (none_stands k there) }
+opening_owner l = record {
+  layout_is = refl;
+  begins = prefix_self [];
+  mine = refl;
+  keeps = (refl, refl, refl, refl);
+  links = λ k there. absurd (none_stands k there);
+}
 
 row_fits : (l : Layout) (a m : ℕ) → a + m ≤ l.senders → ArePartsAt (opening_machine l) (λ _. 0) 0 (row l a m)
 row_fits l a zero small = (opening_owner l, refl, tt, tt)

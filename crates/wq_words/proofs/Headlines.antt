@@ -85,7 +85,8 @@ HasHold s k h = Holds h s k → (hold : ℕ) × IsOwnHold h s k hold (length h)
 at_push : (h : List Event) (e f : Event) (i : ℕ) → i < length h → slice_get (h ++ e ∷ []) i ≡ Some f → slice_get h i ≡ Some f
 at_push h e f i lt at = elim (slice_get_push h e f i at) [ inl old ↦ old | inr new ↦ absurd (omega (arith, new.0)) ]
 
-has_hold_new : (h : List Event) (s k : ℕ) → ¬ IsPending h k → Holds (h ++ Hold s k ∷ []) s k → (hold : ℕ) × IsOwnHold (h ++ Hold s k ∷ []) s k hold (length (h ++ Hold s k ∷ []))
+has_hold_new : (h : List Event) (s k : ℕ) → ¬ IsPending h k → Holds (h ++ Hold s k ∷ []) s k
+    → (hold : ℕ) × IsOwnHold (h ++ Hold s k ∷ []) s k hold (length (h ++ Hold s k ∷ []))
 has_hold_new h s k idle holds = (
   length h,
   record {
@@ -93,7 +94,8 @@ has_hold_new h s k idle holds = (
     by_sender = slice_get_last h (Hold s k) [];
     found_idle = rw take_length idle;
     held_since = λ moment lt le.
-        let all : take moment (h ++ Hold s k ∷ []) ≡ h ++ Hold s k ∷ [] = take_all moment (h ++ Hold s k ∷ []) (omega (arith, length_push h (Hold s k))) in rw all holds;
+        let all : take moment (h ++ Hold s k ∷ []) ≡ h ++ Hold s k ∷ [] = take_all moment (h ++ Hold s k ∷ []) (omega (arith, length_push h (Hold s k))) in
+        rw all holds;
     its_own = λ between lt less at. absurd (omega (arith, length_push h (Hold s k)));
   },
 )
@@ -109,7 +111,8 @@ has_hold_old h e s k other holds (hold, o) = (
     held_since = λ moment lt le.
         elim (cases_lt (length h) moment) [
           | inl past ↦ let all : take moment (h ++ e ∷ []) ≡ h ++ e ∷ [] = take_all moment (h ++ e ∷ []) (omega (arith, length_push h e)) in rw all holds
-          | inr within ↦ let same : take moment (h ++ e ∷ []) ≡ take moment h = take-append-le moment h (e ∷ []) within in rw same (o.held_since moment lt within)
+          | inr within ↦
+              let same : take moment (h ++ e ∷ []) ≡ take moment h = take-append-le moment h (e ∷ []) within in rw same (o.held_since moment lt within)
         ];
     its_own = λ between lt less at.
         elim (slice_get_push h e (Push s k) between at) [
@@ -214,10 +217,13 @@ module _ (layout : Layout) (h : List Event) (legal : IsLegal layout h) where
           let here : slice_get (take second h) first ≡ Some (Begin j) = slice_get-take h second first lt ∙ at in
           rw (take-take first second h (omega arith)) at (filter_map_rank begun_by (take second h) first (Begin j) j here refl)
 
-      found : ComesFrom ended_by (take second h) (length (begun (take first h))) some.0 → (end : ℕ) × (first < end) × (end < second) × (slice_get h end ≡ Some (End j))
+      found : ComesFrom ended_by (take second h) (length (begun (take first h))) some.0
+          → (end : ℕ) × (first < end) × (end < second) × (slice_get h end ≡ Some (End j))
       found f =
-          let number : some.0 ≡ j = same_at (ended (take second h)) (begun (take second h)) (length (begun (take first h))) some.0 j (order_at second).ended_first some.1 began in
-          let is : slice_get h f.0 ≡ Some (End j) = (at_take h second f.0 f.1 f.2).1 ∙ ap Some (end_from_ended_by f.1 some.0 f.3) ∙ ap (λ i. Some (End i)) number in
+          let number : some.0 ≡ j =
+          same_at (ended (take second h)) (begun (take second h)) (length (begun (take first h))) some.0 j (order_at second).ended_first some.1 began in
+          let is : slice_get h f.0 ≡ Some (End j) =
+          (at_take h second f.0 f.1 f.2).1 ∙ ap Some (end_from_ended_by f.1 some.0 f.3) ∙ ap (λ i. Some (End i)) number in
           let before : f.0 < second = (at_take h second f.0 f.1 f.2).0 in
           let rank : length (ended (take f.0 h)) ≡ length (begun (take first h)) = rw (take-take f.0 second h (omega arith)) at f.4 in
           let after : first ≤ f.0 = elim (cases_lt f.0 first) [
@@ -235,7 +241,8 @@ module _ (layout : Layout) (h : List Event) (legal : IsLegal layout h) where
       ap (λ l. length (accepted l)) more ∙ ap length (filter_map_push_some accepted_by (take i h) (Push s k) k refl) ∙ length_push (accepted (take i h)) k
 
   pub keeps_sender_order : KeepsSenderOrder h
-  keeps_sender_order s j k i first second begin lt at there begins executes = found (comes_from begun_by (take begin h) (length (accepted (take first h))) some.0 some.1)
+  keeps_sender_order s j k i first second begin lt at there begins executes =
+      found (comes_from begun_by (take begin h) (length (accepted (take first h))) some.0 some.1)
     where
       some : (y : ℕ) × (slice_get (begun (take begin h)) (length (accepted (take first h))) ≡ Some y)
       some =
@@ -247,13 +254,15 @@ module _ (layout : Layout) (h : List Event) (legal : IsLegal layout h) where
 
       number : some.0 ≡ j
       number =
-          let within = slice_get-prefix (begun (take begin h)) (accepted (take begin h)) (length (accepted (take first h))) some.0 (order_at begin).begun_first some.1 in
+          let within =
+          slice_get-prefix (begun (take begin h)) (accepted (take begin h)) (length (accepted (take first h))) some.0 (order_at begin).begun_first some.1 in
           same_at (accepted (take begin h)) (accepted h) (length (accepted (take first h))) some.0 j (filter_map-take-prefix accepted_by h begin) within pushed
 
       found : ComesFrom begun_by (take begin h) (length (accepted (take first h))) some.0
           → (before : ℕ) × (before < begin) × (slice_get h before ≡ Some (Begin j)) × Executes h before first
       found f =
-          let is : slice_get h f.0 ≡ Some (Begin j) = (at_take h begin f.0 f.1 f.2).1 ∙ ap Some (begin_from_begun_by f.1 some.0 f.3) ∙ ap (λ i. Some (Begin i)) number in
+          let is : slice_get h f.0 ≡ Some (Begin j) =
+          (at_take h begin f.0 f.1 f.2).1 ∙ ap Some (begin_from_begun_by f.1 some.0 f.3) ∙ ap (λ i. Some (Begin i)) number in
           let before : f.0 < begin = (at_take h begin f.0 f.1 f.2).0 in
           (f.0, before, is, rw (take-take f.0 begin h (omega arith)) at f.4)
 

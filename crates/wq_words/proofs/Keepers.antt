@@ -61,7 +61,8 @@ Tells s x starts stops sets clears enters leaves =
 
 abbrev pub IsKept : ℕ → ℕ → List Event → Type 0
 IsKept s k h =
-    Tells s (keeper h k) (count_by (starts_hold s k) h) (count_by (stops_hold s k) h) (count_by (sets_pending k) h) (count_by (clears_pending k) h) (count_by (λ j. j == k) (accepted h)) (count_by (λ j. j == k) (begun h))
+    Tells s (keeper h k) (count_by (starts_hold s k) h) (count_by (stops_hold s k) h) (count_by (sets_pending k) h) (count_by (clears_pending k) h)
+    (count_by (λ j. j == k) (accepted h)) (count_by (λ j. j == k) (begun h))
 
 module _ (s t : ℕ) where
   held : (q : Bool) (x : Keeper) (a b c d e f : ℕ) → (q ≡ true → x ≡ Home) → Tells s x a b c d e f

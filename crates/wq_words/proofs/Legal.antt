@@ -37,5 +37,6 @@ legal_induction layout P none more h legal = go [] h none legal
         let l' : IsLegal layout ((seen ++ e ∷ []) ++ rest) = rw append_assoc l in
         rw append_assoc at (go (seen ++ e ∷ []) rest (more seen e (legal_front layout seen (e ∷ rest) l) (legal_next layout seen e rest l) p) l')
 
-pub legal_take_more : (layout : Layout) (h : List Event) (i : ℕ) (d : Event) → i < length h → IsLegal layout (take i h) → IsAllowed layout (take i h) (get_or h i d) → IsLegal layout (take (i + 1) h)
+pub legal_take_more : (layout : Layout) (h : List Event) (i : ℕ) (d : Event) → i < length h → IsLegal layout (take i h)
+    → IsAllowed layout (take i h) (get_or h i d) → IsLegal layout (take (i + 1) h)
 legal_take_more layout h i d lt legal allowed = rw (take_more h i d lt) (legal_push layout (take i h) (get_or h i d) legal allowed)

@@ -32,7 +32,8 @@ module _ {X : Type 0} (p : X → Bool) (xs : List X) (x : X) where
 
   pub before_last_push_no : p x ≡ false → before_last p (xs ++ x ∷ []) ≡ before_last p xs
   before_last_push_no is =
-      let size : length (xs ++ x ∷ []) - suffix_len (λ y. not (p y)) (xs ++ x ∷ []) - 1 ≡ length xs - suffix_len (λ y. not (p y)) xs - 1 = omega (arith, length_push xs x, suffix_no is) in
+      let size : length (xs ++ x ∷ []) - suffix_len (λ y. not (p y)) (xs ++ x ∷ []) - 1 ≡ length xs - suffix_len (λ y. not (p y)) xs - 1 =
+      omega (arith, length_push xs x, suffix_no is) in
       ap (λ n. take n (xs ++ x ∷ [])) size ∙ take-append-le (length xs - suffix_len (λ y. not (p y)) xs - 1) xs (x ∷ []) (omega arith)
 
   pub after_last_push_yes : p x ≡ true → after_last p (xs ++ x ∷ []) ≡ []
@@ -40,7 +41,8 @@ module _ {X : Type 0} (p : X → Bool) (xs : List X) (x : X) where
 
   pub after_last_push_no : p x ≡ false → after_last p (xs ++ x ∷ []) ≡ after_last p xs ++ x ∷ []
   after_last_push_no is =
-      let size : length (xs ++ x ∷ []) - suffix_len (λ y. not (p y)) (xs ++ x ∷ []) ≡ length xs - suffix_len (λ y. not (p y)) xs = omega (arith, length_push xs x, suffix_no is, suffix_len-le-length (λ y. not (p y)) xs) in
+      let size : length (xs ++ x ∷ []) - suffix_len (λ y. not (p y)) (xs ++ x ∷ []) ≡ length xs - suffix_len (λ y. not (p y)) xs =
+      omega (arith, length_push xs x, suffix_no is, suffix_len-le-length (λ y. not (p y)) xs) in
       ap (λ n. drop n (xs ++ x ∷ [])) size ∙ drop-append-le (length xs - suffix_len (λ y. not (p y)) xs) xs (x ∷ []) (omega arith)
 
 module _ (h : List Event) (e : Event) where
@@ -80,7 +82,8 @@ module _ (h : List Event) (e : Event) where
 
 pub taken_push_push : (h : List Event) (s k : ℕ) → closed h ≡ false → taken (h ++ Push s k ∷ []) ≡ taken h
 taken_push_push h s k is =
-    taken_open (h ++ Push s k ∷ []) (closed_push_no h (Push s k) refl ∙ is) ∙ ap (count_by is_push) (before_last_push_no is_take h (Push s k) refl) ∙ sym (taken_open h is)
+    taken_open (h ++ Push s k ∷ []) (closed_push_no h (Push s k) refl ∙ is) ∙ ap (count_by is_push) (before_last_push_no is_take h (Push s k) refl)
+    ∙ sym (taken_open h is)
 
 pub taken_push_take : (h : List Event) → closed h ≡ false → taken (h ++ Take ∷ []) ≡ count_by is_push h
 taken_push_take h is =
@@ -92,7 +95,8 @@ fresh_push_take h = ap (count_by is_push) (after_last_push_yes is_take h Take re
 listed_nil : IsListed []
 listed_nil = record { front = []; front_taken = refl; parts = refl; open_pushes = λ _. refl; open_fresh = λ _. refl; closed_none = λ _. refl }
 
-listed_quiet : (h : List Event) (e : Event) → is_close e ≡ false → is_take e ≡ false → is_push e ≡ false → accepted_by e ≡ None → listed_after (listed h) e ≡ listed h
+listed_quiet : (h : List Event) (e : Event) → is_close e ≡ false → is_take e ≡ false → is_push e ≡ false → accepted_by e ≡ None
+    → listed_after (listed h) e ≡ listed h
     → IsListed h → IsListed (h ++ e ∷ [])
 listed_quiet h e no_close no_take no_push no_accept no_list l =
     let still : closed (h ++ e ∷ []) ≡ closed h = closed_push_no h e no_close in
@@ -118,7 +122,9 @@ listed_push h s k opens l =
     record {
       front = l.front;
       front_taken = l.front_taken ∙ sym (taken_push_push h s k opened);
-      parts = more ∙ ap (λ ks. ks ++ k ∷ []) l.parts ∙ append_assoc l.front (reverse (listed h)) (k ∷ []) ∙ ap (λ ks. l.front ++ ks) (sym (ap reverse list ∙ reverse-append (k ∷ []) (listed h)));
+      parts =
+          more ∙ ap (λ ks. ks ++ k ∷ []) l.parts ∙ append_assoc l.front (reverse (listed h)) (k ∷ [])
+          ∙ ap (λ ks. l.front ++ ks) (sym (ap reverse list ∙ reverse-append (k ∷ []) (listed h)));
       open_pushes = λ _. count_by_push is_push h (Push s k) ∙ ap (λ n. n + 1) (l.open_pushes opened) ∙ sym (ap length more ∙ length_push (accepted h) k);
       open_fresh = λ _. fresh_push h (Push s k) refl ∙ ap (λ n. n + 1) (l.open_fresh opened) ∙ sym (ap length list ∙ omega arith);
       closed_none = λ is. absurd (cc (still, opened, is));

@@ -22,7 +22,8 @@ IsInOrder h = AreInOrder (accepted h) (begun h) (ended h)
 accepts : (acs bs es : List ℕ) (k : ℕ) → AreInOrder acs bs es → AreInOrder (acs ++ k ∷ []) bs es
 accepts acs bs es k o = record { begun_first = prefix_append bs acs (k ∷ []) o.begun_first; ended_first = o.ended_first; one_at_a_time = o.one_at_a_time }
 
-begins : (acs bs es : List ℕ) (k : ℕ) → AreInOrder acs bs es → (length es < length bs → ⊥) → slice_get acs (length bs) ≡ Some k → AreInOrder acs (bs ++ k ∷ []) es
+begins : (acs bs es : List ℕ) (k : ℕ) → AreInOrder acs bs es → (length es < length bs → ⊥) → slice_get acs (length bs) ≡ Some k
+    → AreInOrder acs (bs ++ k ∷ []) es
 begins acs bs es k o idle at = record {
   begun_first = prefix_step bs acs k o.begun_first at;
   ended_first = prefix_append es bs (k ∷ []) o.ended_first;
@@ -45,7 +46,8 @@ in_order_after h _ may o = simp growing o
 
 pub in_order : (layout : Layout) (h : List Event) → IsLegal layout h → IsInOrder h
 in_order layout h legal =
-    legal_induction layout IsInOrder (record { begun_first = ([], refl); ended_first = ([], refl); one_at_a_time = omega arith }) (λ g e _ a o. in_order_after g e a.2 o) h legal
+    legal_induction layout IsInOrder (record { begun_first = ([], refl); ended_first = ([], refl); one_at_a_time = omega arith })
+    (λ g e _ a o. in_order_after g e a.2 o) h legal
 
 -- none runs where as many ended as begun, and else the last that was begun
 module _ (layout : Layout) (h : List Event) (legal : IsLegal layout h) where

@@ -27,7 +27,8 @@ StandsFor b t acs k (Sender s) = Unit {0}
 StandsFor b t acs k Listed = (place : ℕ) × (b ≤ place) × (t ≤ place) × (slice_get acs place ≡ Some k)
 StandsFor b t acs k Owner = (place : ℕ) × (b ≤ place) × (place < t) × (slice_get acs place ≡ Some k)
 
-stands_at : {b b' t t' : ℕ} {acs acs' : List ℕ} {x x' : Keeper} (k : ℕ) → b' ≡ b → t' ≡ t → acs' ≡ acs → x' ≡ x → StandsFor b t acs k x → StandsFor b' t' acs' k x'
+stands_at : {b b' t t' : ℕ} {acs acs' : List ℕ} {x x' : Keeper} (k : ℕ) → b' ≡ b → t' ≡ t → acs' ≡ acs → x' ≡ x → StandsFor b t acs k x
+    → StandsFor b' t' acs' k x'
 stands_at k e f g i s = rw (e, f, g, i) s
 
 held : (b t : ℕ) (acs : List ℕ) (k s : ℕ) (q : Bool) (x : Keeper) → StandsFor b t acs k x → StandsFor b t acs k (if q then Sender s else x)
@@ -107,20 +108,24 @@ module _ (k : ℕ) (h : List Event) where
   placed_after (End j) may order l le o = same_place (End j) refl refl refl refl o
   placed_after (ChainBusy j) may order l le o = same_place (ChainBusy j) refl refl refl refl o
   placed_after (Push s j) may order l le o =
-      stands_at k (begun_same (Push s j) refl) (taken_push_push h s j (closed_from_open h may.1)) (filter_map_push_some accepted_by h (Push s j) j refl) (keeper_push (Push s j))
+      stands_at k (begun_same (Push s j) refl) (taken_push_push h s j (closed_from_open h may.1)) (filter_map_push_some accepted_by h (Push s j) j refl)
+      (keeper_push (Push s j))
       (pushed _ _ j _ k (j == k) _ (prefix_length (begun h) (accepted h) order.begun_first) le (eqb-true j k) o)
   placed_after Take may order l le o =
       took_place Take refl refl (taken_push_take h (closed_from_open h may) ∙ l.open_pushes (closed_from_open h may)) (took _ (taken h) _ k _ le o)
   placed_after Close may order l le o =
-      took_place Close refl refl (taken_closed (h ++ Close ∷ []) (closed_push_yes h Close refl) ∙ ap length (accepted_push_none h Close refl)) (took _ (taken h) _ k _ le o)
+      took_place Close refl refl (taken_closed (h ++ Close ∷ []) (closed_push_yes h Close refl) ∙ ap length (accepted_push_none h Close refl))
+      (took _ (taken h) _ k _ le o)
   placed_after (Begin j) may order l le o =
-      let step : length (begun (h ++ Begin j ∷ [])) ≡ length (begun h) + 1 = ap length (filter_map_push_some begun_by h (Begin j) j refl) ∙ length_push (begun h) j in
+      let step : length (begun (h ++ Begin j ∷ [])) ≡ length (begun h) + 1 =
+      ap length (filter_map_push_some begun_by h (Begin j) j refl) ∙ length_push (begun h) j in
       stands_at k step (taken_push_same h (Begin j) refl refl refl) (accepted_push_none h (Begin j) refl) (keeper_push (Begin j))
       (began _ _ j _ k (j == k) _ may.1 (λ differs same. absurd (cc (differs, eq-eqb j k same))) o)
   placed_after (Chain j) may order l le o =
       let is : closed h ≡ true = closed_from_IsClosed h may.0 in
       let more : accepted (h ++ Chain j ∷ []) ≡ accepted h ++ j ∷ [] = filter_map_push_some accepted_by h (Chain j) j refl in
-      let all : taken (h ++ Chain j ∷ []) ≡ length (accepted h) + 1 = taken_closed (h ++ Chain j ∷ []) (closed_push_no h (Chain j) refl ∙ is) ∙ ap length more ∙ length_push (accepted h) j in
+      let all : taken (h ++ Chain j ∷ []) ≡ length (accepted h) + 1 =
+      taken_closed (h ++ Chain j ∷ []) (closed_push_no h (Chain j) refl ∙ is) ∙ ap length more ∙ length_push (accepted h) j in
       let o' : StandsFor (length (begun h)) (length (accepted h)) (accepted h) k (keeper h k) = rw (taken_closed h is) at o in
       stands_at k (begun_same (Chain j) refl) all more (keeper_push (Chain j))
       (chained _ j _ k (j == k) _ (prefix_length (begun h) (accepted h) order.begun_first) (eqb-true j k) o')
@@ -128,7 +133,9 @@ module _ (k : ℕ) (h : List Event) where
 pub placed : (layout : Layout) (h : List Event) → IsLegal layout h → (k : ℕ) → IsPlaced k h
 placed layout h legal k =
     legal_induction layout (IsPlaced k) tt
-    (λ h e before allowed o. placed_after k h e allowed.2 (in_order layout h before) (is_listed layout h before) (omega (arith, length-accepted layout h before)) o) h legal
+    (λ h e before allowed o.
+    let some = length-accepted layout h before in
+    placed_after k h e allowed.2 (in_order layout h before) (is_listed layout h before) (omega (arith, some)) o) h legal
 
 -- each further place at which k stands counts one more
 counted_more : (xs : List ℕ) (i k : ℕ) → slice_get xs i ≡ Some k → count_by (λ j. j == k) (take (i + 1) xs) ≡ count_by (λ j. j == k) (take i xs) + 1
@@ -148,9 +155,18 @@ module _ (bs acs : List ℕ) (k : ℕ) where
   counted_once i front le at =
       omega (arith, count_begun front, counted_upto (λ j. j == k) acs (length bs) i le, counted_more acs i k at, count_all (i + 1))
 
-  pub counted_twice : (i l : ℕ) → IsPrefix bs acs → length bs ≤ i → i < l → slice_get acs i ≡ Some k → slice_get acs l ≡ Some k → count_by (λ j. j == k) bs + 2 ≤ count_by (λ j. j == k) acs
+  pub counted_twice : (i l : ℕ) → IsPrefix bs acs → length bs ≤ i → i < l → slice_get acs i ≡ Some k → slice_get acs l ≡ Some k
+      → count_by (λ j. j == k) bs + 2 ≤ count_by (λ j. j == k) acs
   counted_twice i l front le lt at there =
-      omega (arith, count_begun front, counted_upto (λ j. j == k) acs (length bs) i le, counted_more acs i k at, counted_upto (λ j. j == k) acs (i + 1) l (omega arith), counted_more acs l k there, count_all (l + 1))
+      omega (
+        arith,
+        count_begun front,
+        counted_upto (λ j. j == k) acs (length bs) i le,
+        counted_more acs i k at,
+        counted_upto (λ j. j == k) acs (i + 1) l (omega arith),
+        counted_more acs l k there,
+        count_all (l + 1),
+      )
 
 -- the keeper that the events give, one by one, is who keeps the number by the counts
 module _ (layout : Layout) (h : List Event) (legal : IsLegal layout h) (k : ℕ) where
@@ -166,7 +182,8 @@ module _ (layout : Layout) (h : List Event) (legal : IsLegal layout h) (k : ℕ)
   listed_or_owner : (i : ℕ) → length (begun h) ≤ i → slice_get (accepted h) i ≡ Some k → IsQueue (keeper h k)
   listed_or_owner i le at = queue_from_bit (keeper h k) (omega (arith, kept_once refl, counted_once (begun h) (accepted h) k i front le at))
 
-  not_twice : (x : Keeper) (i l : ℕ) → keeper h k ≡ x → queue_bit x ≡ 1 → length (begun h) ≤ i → i < l → slice_get (accepted h) i ≡ Some k → slice_get (accepted h) l ≡ Some k → ⊥
+  not_twice : (x : Keeper) (i l : ℕ) → keeper h k ≡ x → queue_bit x ≡ 1 → length (begun h) ≤ i → i < l → slice_get (accepted h) i ≡ Some k
+      → slice_get (accepted h) l ≡ Some k → ⊥
   not_twice x i l e one le lt at there = absurd (omega (arith, kept_once e, counted_twice (begun h) (accepted h) k i l front le lt at there))
 
   is_list : (x : Keeper) → keeper h k ≡ x → IsQueue x → Keeps h k Listed → x ≡ Listed

@@ -8,7 +8,8 @@ use Rattle.wq_words.proofs.Growing.{slice_get_append}
 
 module _ {X Y : Type 0} (f : X → Option Y) where
   -- what an element gives stands behind what those before it give
-  pub filter_map_rank : (xs : List X) (i : ℕ) (x : X) (y : Y) → slice_get xs i ≡ Some x → f x ≡ Some y → slice_get (filter_map f xs) (length (filter_map f (take i xs))) ≡ Some y
+  pub filter_map_rank : (xs : List X) (i : ℕ) (x : X) (y : Y) → slice_get xs i ≡ Some x → f x ≡ Some y
+      → slice_get (filter_map f xs) (length (filter_map f (take i xs))) ≡ Some y
   filter_map_rank [] i x y at is = absurd cc
   filter_map_rank (z ∷ xs) zero x y at is = let e : f z ≡ Some y = cc in rw e refl
   filter_map_rank (z ∷ xs) (suc i) x y at is = by (f z) refl (filter_map_rank xs i x y at is)

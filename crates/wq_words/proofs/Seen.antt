@@ -72,9 +72,12 @@ grows_begins c xs n v w g = (g.new, sym g.is)
 pub grows_same : (c n : ℕ) (v w : List Event) → Grows c [] n v w → own c w ≡ own c v
 grows_same c n v w g = own_more c v g.new w g.is g.mine
 
-count_kept : (p : Event → Bool) (b : Bool) (e : Event) (es : List Event) (c : ℕ) → (b ≡ false → p e ≡ false) → count_by p es ≡ count_by p (own c es) → count_by p (e ∷ es) ≡ count_by p (cond b (e ∷ own c es) (own c es))
-count_kept p true e es c none rest = let a = sum_by-cons (λ x. cond (p x) 1 0) e es in let b = sum_by-cons (λ x. cond (p x) 1 0) e (own c es) in omega (arith, rest)
-count_kept p false e es c none rest = let a = sum_by-cons (λ x. cond (p x) 1 0) e es in let z : cond {A = ℕ} (p e) 1 0 ≡ 0 = ap (λ (b : Bool). cond b 1 0) (none refl) in omega (arith, rest)
+count_kept : (p : Event → Bool) (b : Bool) (e : Event) (es : List Event) (c : ℕ) → (b ≡ false → p e ≡ false) → count_by p es ≡ count_by p (own c es)
+    → count_by p (e ∷ es) ≡ count_by p (cond b (e ∷ own c es) (own c es))
+count_kept p true e es c none rest =
+    let a = sum_by-cons (λ x. cond (p x) 1 0) e es in let b = sum_by-cons (λ x. cond (p x) 1 0) e (own c es) in omega (arith, rest)
+count_kept p false e es c none rest =
+    let a = sum_by-cons (λ x. cond (p x) 1 0) e es in let z : cond {A = ℕ} (p e) 1 0 ≡ 0 = ap (λ (b : Bool). cond b 1 0) (none refl) in omega (arith, rest)
 
 -- events that are all of one seat are counted among its own
 pub count_own : (p : Event → Bool) (c : ℕ) → ((e : Event) → eqb (seat_of e) c ≡ false → p e ≡ false) → (h : List Event) → count_by p h ≡ count_by p (own c h)
@@ -97,7 +100,8 @@ stops_own s k _ is = refl
 -- who has the same own events holds the same
 pub held_same : (s k : ℕ) (v w : List Event) → own s w ≡ own s v → Holds v s k → Holds w s k
 held_same s k v w is have =
-    let a = count_own (starts_hold s k) s (starts_own s k) v ∙ (ap (count_by (starts_hold s k)) (sym is) ∙ sym (count_own (starts_hold s k) s (starts_own s k) w)) in
+    let a =
+    count_own (starts_hold s k) s (starts_own s k) v ∙ (ap (count_by (starts_hold s k)) (sym is) ∙ sym (count_own (starts_hold s k) s (starts_own s k) w)) in
     let b = count_own (stops_hold s k) s (stops_own s k) v ∙ (ap (count_by (stops_hold s k)) (sym is) ∙ sym (count_own (stops_hold s k) s (stops_own s k) w)) in
     omega arith
 
@@ -114,14 +118,16 @@ closed_count v w is = closes_own w ∙ (ap (count_by is_close) is ∙ sym (close
 pub closed_same : (v w : List Event) → own owner_seat w ≡ own owner_seat v → IsClosed v → IsClosed w
 closed_same v w is have = let a = closed_count v w is in omega arith
 
-map_kept : (f : Event → Option ℕ) (o : Option ℕ) (b : Bool) (e : Event) (es : List Event) → f e ≡ o → (b ≡ false → o ≡ None) → filter_map f es ≡ filter_map f (own owner_seat es)
+map_kept : (f : Event → Option ℕ) (o : Option ℕ) (b : Bool) (e : Event) (es : List Event) → f e ≡ o → (b ≡ false → o ≡ None)
+    → filter_map f es ≡ filter_map f (own owner_seat es)
     → filter_map f (e ∷ es) ≡ filter_map f (cond b (e ∷ own owner_seat es) (own owner_seat es))
 map_kept f None true e es is none rest = rw is rest
 map_kept f (Some k) true e es is none rest = rw is (ap (λ (x : List ℕ). k ∷ x) rest)
 map_kept f None false e es is none rest = rw is rest
 map_kept f (Some k) false e es is none rest = absurd (cc (none refl))
 
-pub map_own : (f : Event → Option ℕ) → ((e : Event) → eqb (seat_of e) owner_seat ≡ false → f e ≡ None) → (h : List Event) → filter_map f h ≡ filter_map f (own owner_seat h)
+pub map_own : (f : Event → Option ℕ) → ((e : Event) → eqb (seat_of e) owner_seat ≡ false → f e ≡ None) → (h : List Event)
+    → filter_map f h ≡ filter_map f (own owner_seat h)
 map_own f none [] = refl
 map_own f none (e ∷ es) = map_kept f (f e) (eqb (seat_of e) owner_seat) e es refl (none e) (map_own f none es)
 

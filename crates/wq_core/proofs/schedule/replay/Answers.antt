@@ -13,8 +13,11 @@ returns-clause-headline c = keeps_headline c.args.layout _ (legal_leaves c.args.
 
 pub loop-at-preserved : goal.loop-at-preserved
 loop-at-preserved c =
-    rw c.in-Ok-step.ensures.after (leaves_more c.args.layout c.args.turns.now c.loop-at.at (Sender 0, Hold 0) c.loop-at.core (omega arith) c.loop-at.invariant c.in-Ok-step.ensures.made)
+    rw c.in-Ok-step.ensures.after
+    (leaves_more c.args.layout c.args.turns.now c.loop-at.at (Sender 0, Hold 0) c.loop-at.core (omega arith) c.loop-at.invariant c.in-Ok-step.ensures.made)
 
 pub returns-in-Err-step-clause-refused : goal.returns-in-Err-step-clause-refused
 returns-in-Err-step-clause-refused c =
-    inr (refused_at c.args.layout c.args.turns.now c.loop-at.at (Sender 0, Hold 0) c.loop-at.core c.in-Err-step.why (omega arith) c.loop-at.invariant c.in-Err-step.ensures.refused)
+    let why = c.in-Err-step.why in
+    let refused = c.in-Err-step.ensures.refused in
+    inr (refused_at c.args.layout c.args.turns.now c.loop-at.at (Sender 0, Hold 0) c.loop-at.core why (omega arith) c.loop-at.invariant refused)

@@ -12,4 +12,5 @@ pub invariant_of-self-2 : goal.invariant_of-self-2
 invariant_of-self-2 c =
     let made = rw (← c.self.view_is) at c.requires in
     let word = rw (c.deref.ensures.value, c.item_place-place.ensures) at c.word.ensures in
-    rw (c.in_ok-push-2.ensures.items, c.item_place-place.ensures) (stored_hold _ _ _ c.self.invariant c.args.sender c.args.number made.0.0.0 made.0.1 (sym word ∙ c.if-word-ne0.false))
+    rw (c.in_ok-push-2.ensures.items, c.item_place-place.ensures)
+    (stored_hold _ _ _ c.self.invariant c.args.sender c.args.number made.0.0.0 made.0.1 (sym word ∙ c.if-word-ne0.false))
