@@ -29,7 +29,8 @@ module _ (n : ℕ) (ws : List ℕ) (v : ℕ) (fit : LinksFit n ws) where
       ]
 
 -- what sender s has seen now
-pub fit_look : (n : ℕ) (seats : List Private) (s : ℕ) (p : Private) → s < length seats → ((w : ℕ) → p.seen ≡ Some w → w ≢ closed_word → w ≤ n) → LooksFit n seats → LooksFit n (set seats s p)
+pub fit_look : (n : ℕ) (seats : List Private) (s : ℕ) (p : Private) → s < length seats → ((w : ℕ) → p.seen ≡ Some w → w ≢ closed_word → w ≤ n)
+    → LooksFit n seats → LooksFit n (set seats s p)
 fit_look n seats s p in' new old t w is unclosed =
     elim (cases_eq t s) [
       | inl same ↦

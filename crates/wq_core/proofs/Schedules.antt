@@ -70,7 +70,8 @@ sound_after m Owner End o made =
     let r = runs_some m.history made.1 in
     rw r.1 (sound_end m o r.0 r.1)
 sound_after m Owner (Chain k) o made =
-    either (item_word m k == 0) IsSound _ _ (λ e. sound_chain m o k made.0.1 made.1.0 made.1.1 made.1.2 (eqb-true (item_word m k) 0 e)) (λ e. sound_chain_busy m o k made.0.1 made.1.0 made.1.2 (eqb-false (item_word m k) 0 e))
+    either (item_word m k == 0) IsSound _ _ (λ e. sound_chain m o k made.0.1 made.1.0 made.1.1 made.1.2 (eqb-true (item_word m k) 0 e))
+    (λ e. sound_chain_busy m o k made.0.1 made.1.0 made.1.2 (eqb-false (item_word m k) 0 e))
 sound_after m Owner (Turn k next) o made = sound_turn m o k made.1 (word_at next) made.0.1.0
 sound_after m Owner (Hold k) o made = absurd made.1
 sound_after m Owner Look o made = absurd made.1

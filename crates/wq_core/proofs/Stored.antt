@@ -150,7 +150,8 @@ module _ (m : Machine) (holders : List (Option ℕ)) (runs : Option ℕ) (o : Is
     looks_fit = o.looks_fit;
   }
 
-  pub stored_walk_end : (k : ℕ) → m.cursor ≡ Some k → link m k ≡ 0 → IsStored (record m { cursor = None; walked = []; batch = m.batch ++ k ∷ m.walked }) holders runs
+  pub stored_walk_end : (k : ℕ) → m.cursor ≡ Some k → link m k ≡ 0
+      → IsStored (record m { cursor = None; walked = []; batch = m.batch ++ k ∷ m.walked }) holders runs
   stored_walk_end k on is = record {
     sound = sound_walk_end m o.sound k on is;
     has_holders = o.has_holders;
@@ -207,7 +208,9 @@ module _ (m : Machine) (holders : List (Option ℕ)) (runs : Option ℕ) (o : Is
         sound = sound_end m o.sound k (sym o.running_is ∙ is);
         has_holders = o.has_holders;
         holders_are = follow_quiet holder None (λ j. j) _ holders m.history (End k) (λ j x. refl) o.holders_are;
-        running_is = simp growing (sym (slice_get_past (begun m.history) (length (ended m.history ++ k ∷ [])) (simp length-append (omega (arith, order.one_at_a_time)))));
+        running_is =
+            simp growing
+            (sym (slice_get_past (begun m.history) (length (ended m.history ++ k ∷ [])) (simp length-append (omega (arith, order.one_at_a_time)))));
         links_fit = fit_done _ m.words ((done_word m + 1) % 2 ^ 64) o.links_fit;
         looks_fit = o.looks_fit;
       }

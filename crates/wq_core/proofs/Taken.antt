@@ -91,7 +91,8 @@ module _ (m : Machine) (o : IsSound m) (k : ℕ) (stands : StandsIn m.walked m.b
   sender_links s (Hold j) made = either (item_word m j == 0) (λ x. link x k ≡ link m k) _ _ (λ e. item_written j 1) (λ e. refl)
   sender_links s Look made = refl
   sender_links s (Link j) made =
-      get_or-set_other m.words (link_place j) (link_place k) (seen_word m s) 0 (λ e. (let same : k ≡ j = omega (arith, e) in no_senders m o k stands s (ap (keeper m.history) same ∙ sender_from_holds m o s j made.1.0)))
+      get_or-set_other m.words (link_place j) (link_place k) (seen_word m s) 0
+      (λ e. (let same : k ≡ j = omega (arith, e) in no_senders m o k stands s (ap (keeper m.history) same ∙ sender_from_holds m o s j made.1.0)))
   sender_links s (Push j) made = either (head m == seen_word m s) (λ x. link x k ≡ link m k) _ _ (λ e. head_written (j + 1)) (λ e. refl)
   sender_links s (Back j why) made = item_written j 0
   sender_links s (Check j) made = refl

@@ -31,7 +31,9 @@ pub contains_times : (k : ℕ) (xs : List ℕ) → 0 < times k xs → Contains x
 contains_times k [] some = absurd (omega arith)
 contains_times k (x ∷ xs) some = elim (cases_eq x k) [
   | inl same ↦ (0, omega arith, same)
-  | inr ne ↦ let more = contains_times k xs (omega (arith, some, times-cons k x xs, ap {B = ℕ} (λ (b : Bool). cond b 1 0) (ne_eqb x k ne))) in let lt = more.1 in (suc more.0, omega arith, more.2)
+  | inr ne ↦
+      let more = contains_times k xs (omega (arith, some, times-cons k x xs, ap {B = ℕ} (λ (b : Bool). cond b 1 0) (ne_eqb x k ne))) in
+      let lt = more.1 in (suc more.0, omega arith, more.2)
 ]
 
 any_times : (k : ℕ) (xs : List ℕ) → IsTrue (list_any (λ y. y == k) xs) ↔ (0 < times k xs)
@@ -58,7 +60,8 @@ pub times_stands : (walked batch : List ℕ) (k : ℕ) → StandsIn walked batch
 times_stands walked batch k = ⊎_elim (λ there. omega (arith, times_contains k walked there)) (λ there. omega (arith, times_contains k batch there))
 
 -- its link is that of no number of the two chains
-pub chained_turn : (n : ℕ) (ws : List ℕ) (cursor : Option ℕ) (walked batch acc beg lst : List ℕ) (k v : ℕ) → 0 < times k walked + times k batch → times k acc ≤ times k beg + 1
+pub chained_turn : (n : ℕ) (ws : List ℕ) (cursor : Option ℕ) (walked batch acc beg lst : List ℕ) (k v : ℕ) → 0 < times k walked + times k batch
+    → times k acc ≤ times k beg + 1
     → AreChained n ws cursor walked batch acc beg lst → AreChained n (set ws (link_place k) v) cursor walked batch acc beg lst
 chained_turn n ws cursor walked batch acc beg lst k v some once a =
     let count : times k acc ≡ times k beg + (times k batch + (times k a.remaining + times k walked)) + times k lst =
@@ -82,15 +85,18 @@ chained_turn n ws cursor walked batch acc beg lst k v some once a =
     }
 
 -- and no sender keeps it
-linked_turn : (n : ℕ) (words : List ℕ) (seats : List Private) (h : List Event) (k v : ℕ) → ((s : ℕ) → keeper h k ≡ Sender s → ⊥) → AreLinked n words seats h → AreLinked n (set words (link_place k) v) seats h
+linked_turn : (n : ℕ) (words : List ℕ) (seats : List Private) (h : List Event) (k v : ℕ) → ((s : ℕ) → keeper h k ≡ Sender s → ⊥)
+    → AreLinked n words seats h → AreLinked n (set words (link_place k) v) seats h
 linked_turn n words seats h k v free old s j is =
     let o = old s j is in
     let ne : link_place j ≢ link_place k = λ e. (let same : j ≡ k = omega (arith, e) in free s (ap (keeper h) (sym same) ∙ o.1)) in
-    let same : get_or (set words (link_place k) v) (link_place j) 0 ≡ get_or words (link_place j) 0 = get_or-set_other words (link_place k) (link_place j) v 0 ne in
+    let same : get_or (set words (link_place k) v) (link_place j) 0 ≡ get_or words (link_place j) 0 =
+    get_or-set_other words (link_place k) (link_place j) v 0 ne in
     (o.0, o.1, o.2 ∙ ap Some (sym same), λ e. o.3 (sym same ∙ e))
 
 module _ (m : Machine) (o : IsSound m) (k : ℕ) where
-  count_of : times k (accepted m.history) ≡ times k (begun m.history) + (times k m.batch + (times k o.chains.remaining + times k m.walked)) + times k (listed m.history)
+  count_of :
+      times k (accepted m.history) ≡ times k (begun m.history) + (times k m.batch + (times k o.chains.remaining + times k m.walked)) + times k (listed m.history)
   count_of =
       let a = o.chains in
       omega (

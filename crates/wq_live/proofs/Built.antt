@@ -69,7 +69,9 @@ executes_new s is row runs shut counts = let seen : s.chair.part.seen ≡ [] = a
   layout_is = ap (λ (x : Standing). x.part.layout) is;
   number_is = ap (λ (x : Standing). x.part.seat) is;
   stands = stands_new s.layout s.chair is;
-  has_row = has_row s.chair.part s.row [] (ap (λ (x : Standing). x.part.stage) is) (subst (λ (r : Row). IsRowOf s.chair.part.words r []) (sym row) (record { count_is = refl; spells = tt }));
+  has_row =
+      has_row s.chair.part s.row [] (ap (λ (x : Standing). x.part.stage) is)
+      (subst (λ (r : Row). IsRowOf s.chair.part.words r []) (sym row) (record { count_is = refl; spells = tt }));
   running_is = runs ∙ ap running (sym seen);
   closed_is = shut ∙ ap closed (sym seen);
   counts_are = counts ∙ ap owner_counts (sym seen);

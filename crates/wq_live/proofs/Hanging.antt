@@ -44,7 +44,8 @@ module _ (row more : Row) (p : Part) (stands : Stands p) (both : HasBoth row mor
   pub hang_none : more.count ≡ 0 → HasRow row p
   hang_none none =
       let nothing : both.back ≡ [] = none_counted both.back (omega (arith, none, both.back_is.count_is)) in
-      has_row p row both.front (both.stage_is ∙ ap (λ (ks : List ℕ). Owns None [] (both.front ++ ks)) nothing ∙ ap (Owns None []) (append-nil both.front)) both.front_is
+      has_row p row both.front
+      (both.stage_is ∙ ap (λ (ks : List ℕ). Owns None [] (both.front ++ ks)) nothing ∙ ap (Owns None []) (append-nil both.front)) both.front_is
 
   pub hang_alone : row.count ≡ 0 → HasRow more p
   hang_alone none =
@@ -81,14 +82,17 @@ module _ (row more : Row) (p : Part) (stands : Stands p) (both : HasBoth row mor
     pub hangs : (q : Part) → q.stage ≡ p.stage → Makes (Turn row.last (Some more.front)) (more.front + 1) p q
         → HasRow (record { front = row.front; last = more.last; count = row.count + more.count }) q
     hangs q stage turns =
-        let once : times row.last both.front + times row.last both.back ≤ 1 = omega (arith, keeps_once p None [] whole stands both.stage_is row.last, times-append row.last both.front both.back) in
+        let once : times row.last both.front + times row.last both.back ≤ 1 =
+        omega (arith, keeps_once p None [] whole stands both.stage_is row.last, times-append row.last both.front both.back) in
         let there = last_counted p.words row both.front both.front_is some in
+        let behind_last : (i : ℕ) → 0 < times i both.back → i ≢ row.last = λ i in' e.
+        (let again : 0 < times row.last both.back = subst (λ (j : ℕ). 0 < times j both.back) e in' in omega (arith, again, there, once)) in
         let else_is : (i : ℕ) → i ≢ row.last → 0 < times i both.front + times i both.back → link_in q.words i ≡ link_in p.words i = λ i ne in'.
         turn_else row.last more.front (more.front + 1) p q None [] whole both.stage_is turns i ne (omega (arith, in', times-append i both.front both.back)) in
         has_row q (record { front = row.front; last = more.last; count = row.count + more.count }) whole (stage ∙ both.stage_is) (record {
           count_is = omega (arith, both.front_is.count_is, both.back_is.count_is, length-append both.front both.back);
           spells = hung p.words q.words row more both.front both.back some some' (omega (arith, once)) (λ i ne in'. else_is i ne (omega (arith, in')))
-              (λ i in'. else_is i (λ e. (let again : 0 < times row.last both.back = subst (λ (j : ℕ). 0 < times j both.back) e in' in omega (arith, again, there, once))) (omega (arith, in')))
+              (λ i in'. else_is i (behind_last i in') (omega (arith, in')))
               (turn_here row.last more.front (more.front + 1) p q None [] whole both.stage_is turns last_here) both.front_is both.back_is;
         })
 
@@ -118,7 +122,8 @@ module _ (row : Row) (p : Part) (has : HasRow row p) (some : 0 < row.count) wher
   pub first_of_row : (others : List ℕ) × (p.stage ≡ Owns None [] (row.front ∷ others)) × (row.count ≡ 1 + length others)
   first_of_row = go (kept_batch p.stage) has.row_is has.stage_is
     where
-      go : (ks : List ℕ) → IsRowOf p.words row ks → p.stage ≡ Owns None [] ks → (others : List ℕ) × (p.stage ≡ Owns None [] (row.front ∷ others)) × (row.count ≡ 1 + length others)
+      go : (ks : List ℕ) → IsRowOf p.words row ks → p.stage ≡ Owns None [] ks
+          → (others : List ℕ) × (p.stage ≡ Owns None [] (row.front ∷ others)) × (row.count ≡ 1 + length others)
       go [] is stage = absurd (omega (arith, is.count_is, some))
       go (k ∷ ks) is stage = (ks, stage ∙ ap (λ (j : ℕ). Owns None [] (j ∷ ks)) (sym is.spells.0), omega (arith, is.count_is))
 
@@ -126,7 +131,8 @@ module _ (row : Row) (p : Part) (has : HasRow row p) (some : 0 < row.count) wher
   first_walks = to_load row.front p.stage first_of_row.0 first_of_row.1
 
   pub first_number : Stands p → row.front < number_count p.layout
-  first_number stands = keeps_number p None [] (row.front ∷ first_of_row.0) stands first_of_row.1 row.front (omega (arith, times-first row.front first_of_row.0))
+  first_number stands =
+      keeps_number p None [] (row.front ∷ first_of_row.0) stands first_of_row.1 row.front (omega (arith, times-first row.front first_of_row.0))
 
   -- where it is the only one, nothing is left
   pub first_only : row.count ≡ 1 → HasFirst row.front (record { front = 0; last = 0; count = 0 }) p
@@ -139,11 +145,13 @@ module _ (row : Row) (p : Part) (has : HasRow row p) (some : 0 < row.count) wher
 
   -- else its link leads to the next
   module _ (ne : row.count ≢ 1) (word : ℕ) (q : Part) (makes : Makes Walk word p q) where
-    next_of_row : (j : ℕ) × (js : List ℕ) × (p.stage ≡ Owns None [] (row.front ∷ j ∷ js)) × (link_in p.words row.front ≡ j + 1) × LinksOn p.words j row.last js × (row.count ≡ 2 + length js)
+    next_of_row : (j : ℕ) × (js : List ℕ) × (p.stage ≡ Owns None [] (row.front ∷ j ∷ js)) × (link_in p.words row.front ≡ j + 1)
+        × LinksOn p.words j row.last js × (row.count ≡ 2 + length js)
     next_of_row = go (kept_batch p.stage) has.row_is has.stage_is
       where
         go : (ks : List ℕ) → IsRowOf p.words row ks → p.stage ≡ Owns None [] ks
-            → (j : ℕ) × (js : List ℕ) × (p.stage ≡ Owns None [] (row.front ∷ j ∷ js)) × (link_in p.words row.front ≡ j + 1) × LinksOn p.words j row.last js × (row.count ≡ 2 + length js)
+            → (j : ℕ) × (js : List ℕ) × (p.stage ≡ Owns None [] (row.front ∷ j ∷ js)) × (link_in p.words row.front ≡ j + 1)
+            × LinksOn p.words j row.last js × (row.count ≡ 2 + length js)
         go [] is stage = absurd (omega (arith, is.count_is, some))
         go (k ∷ []) is stage = absurd (ne is.count_is)
         go (k ∷ j ∷ js) is stage = (
@@ -174,7 +182,8 @@ module _ (row : Row) (p : Part) (has : HasRow row p) (some : 0 < row.count) wher
             count_is = omega (arith, next_of_row.5);
             spells = (
               omega (arith, found_next),
-              on_same p.words q.words j row.last js (λ i in'. makes_links Walk word p q None [] ks stage makes i (omega (arith, in', times-cons i row.front (j ∷ js)))) next_of_row.4,
+              on_same p.words q.words j row.last js
+                  (λ i in'. makes_links Walk word p q None [] ks stage makes i (omega (arith, in', times-cons i row.front (j ∷ js)))) next_of_row.4,
             );
           };
         }
@@ -182,7 +191,8 @@ module _ (row : Row) (p : Part) (has : HasRow row p) (some : 0 < row.count) wher
 -- the first of the batch begins, and the row has the others
 pub begun_row : (k word : ℕ) (rest : Row) (p q : Part) (first : HasFirst k rest p) → Makes Begin word p q → q.stage ≡ Owns None [] first.others → HasRow rest q
 begun_row k word rest p q first makes stage = has_row q rest first.others stage
-    (row_after Begin word p q None [] (k ∷ first.others) first.others first.stage_is makes (λ j w. refl) (λ j. omega (arith, times-cons j k first.others)) rest first.row_is)
+    (row_after Begin word p q None [] (k ∷ first.others) first.others first.stage_is makes (λ j w. refl)
+    (λ j. omega (arith, times-cons j k first.others)) rest first.row_is)
 
 -- the first of the batch is a number of the queue
 pub first_known : (k : ℕ) (rest : Row) (q : Part) → Stands q → HasFirst k rest q → k < number_count q.layout

@@ -49,9 +49,11 @@ module _ (p : Part) (cursor : Option ℕ) (walked ks : List ℕ) (stands : Stand
 
 -- a row of the batch, after a step that turns nothing
 pub row_after : (step : Step) (word : ℕ) (p q : Part) (cursor : Option ℕ) (walked ks js : List ℕ) → p.stage ≡ Owns cursor walked ks → Makes step word p q
-    → ((k w : ℕ) → link_after step k w ≡ w) → ((j : ℕ) → times j js ≤ times j walked + times j ks) → (row : Row) → IsRowOf p.words row js → IsRowOf q.words row js
+    → ((k w : ℕ) → link_after step k w ≡ w) → ((j : ℕ) → times j js ≤ times j walked + times j ks) → (row : Row) → IsRowOf p.words row js
+    → IsRowOf q.words row js
 row_after step word p q cursor walked ks js is makes quiet within row has =
-    row_same p.words q.words row js (λ j there. makes_links step word p q cursor walked ks is makes j (omega (arith, there, within j)) ∙ quiet j (link_in p.words j)) has
+    row_same p.words q.words row js
+    (λ j there. makes_links step word p q cursor walked ks is makes j (omega (arith, there, within j)) ∙ quiet j (link_in p.words j)) has
 
 -- the batch, where the stage is known
 pub kept_is : (st : Stage) (ks : List ℕ) → st ≡ Owns None [] ks → kept_batch st ≡ ks
@@ -67,7 +69,8 @@ has_row p row ks is has = let same = kept_is p.stage ks is in record {
 pub has_row_after : (step : Step) (word : ℕ) (p q : Part) (row : Row) → HasRow row p → Makes step word p q → ((k w : ℕ) → link_after step k w ≡ w)
     → q.stage ≡ Owns None [] (kept_batch p.stage) → HasRow row q
 has_row_after step word p q row has makes quiet stage =
-    has_row q row (kept_batch p.stage) stage (row_after step word p q None [] (kept_batch p.stage) (kept_batch p.stage) has.stage_is makes quiet (λ j. omega arith) row has.row_is)
+    has_row q row (kept_batch p.stage) stage
+    (row_after step word p q None [] (kept_batch p.stage) (kept_batch p.stage) has.stage_is makes quiet (λ j. omega arith) row has.row_is)
 
 -- what is to be walked, whether that is all of it or not, has these numbers
 pub record HasLists (st : Stage) (ws ks : List ℕ) : Type 0 where
@@ -92,16 +95,19 @@ kept_walking word ks = go (word == 0)
     go false = refl
 
 -- a Turn leaves what the owner keeps, and is no event
-module _ (c f word : ℕ) (p q : Part) (cursor : Option ℕ) (walked ks : List ℕ) (is : p.stage ≡ Owns cursor walked ks) (makes : Makes (Turn c (Some f)) word p q) where
+module _ (c f word : ℕ) (p q : Part) (cursor : Option ℕ) (walked ks : List ℕ) (is : p.stage ≡ Owns cursor walked ks)
+    (makes : Makes (Turn c (Some f)) word p q) where
   pub turn_stage : q.stage ≡ p.stage
   turn_stage = makes.stage_is ∙ (ap (λ (st : Stage). stage_after st (Turn c (Some f)) word) is ∙ sym is)
 
   pub turn_tells : Tells [] p q
   turn_tells = let m = makes.before in
-      tells (Turn c (Some f)) word p q makes (with_link m c (f + 1)) [] (ap (λ (st : Stage). after m (seat_at p.seat st) (Turn c (Some f))) is) refl (sym (append-nil m.history)) refl
+      tells (Turn c (Some f)) word p q makes (with_link m c (f + 1)) [] (ap (λ (st : Stage). after m (seat_at p.seat st) (Turn c (Some f))) is) refl
+      (sym (append-nil m.history)) refl
 
   pub turn_here : 0 < times c walked + times c ks → link_in q.words c ≡ f + 1
-  turn_here some = makes_links (Turn c (Some f)) word p q cursor walked ks is makes c some ∙ ap (λ (b : Bool). if b then f + 1 else link_in p.words c) (eq-eqb c c refl)
+  turn_here some =
+      makes_links (Turn c (Some f)) word p q cursor walked ks is makes c some ∙ ap (λ (b : Bool). if b then f + 1 else link_in p.words c) (eq-eqb c c refl)
 
   pub turn_else : (k : ℕ) → k ≢ c → 0 < times k walked + times k ks → link_in q.words k ≡ link_in p.words k
   turn_else k ne some = makes_links (Turn c (Some f)) word p q cursor walked ks is makes k some ∙
@@ -112,13 +118,15 @@ pub load_stage : (word : ℕ) (p q : Part) (walked ks : List ℕ) → p.stage �
 load_stage word p q walked ks is makes = makes.stage_is ∙ ap (λ (st : Stage). stage_after st Walk word) is
 
 pub load_tells : (word : ℕ) (p q : Part) (walked ks : List ℕ) → p.stage ≡ Owns None walked ks → Makes Walk word p q → Tells [] p q
-load_tells word p q walked ks is makes = let m = makes.before in let keeps : HasStage m p.seat (Owns None walked ks) = subst (HasStage m p.seat) is makes.fits.keeps in
+load_tells word p q walked ks is makes =
+    let m = makes.before in let keeps : HasStage m p.seat (Owns None walked ks) = subst (HasStage m p.seat) is makes.fits.keeps in
     let after_is : after m (seat_at p.seat p.stage) Walk ≡ m = ap (λ (st : Stage). after m (seat_at p.seat st) Walk) is ∙ ap (after_walk m) keeps.1 in
     tells Walk word p q makes m [] after_is refl (sym (append-nil m.history)) refl
 
 -- what was found is that link
 pub load_finds : (word k : ℕ) (p q : Part) (ks : List ℕ) → p.stage ≡ Owns None [] (k ∷ ks) → Makes Walk word p q → word ≡ link_in p.words k
-load_finds word k p q ks is makes = let m = makes.before in let keeps : HasStage m p.seat (Owns None [] (k ∷ ks)) = subst (HasStage m p.seat) is makes.fits.keeps in
+load_finds word k p q ks is makes =
+    let m = makes.before in let keeps : HasStage m p.seat (Owns None [] (k ∷ ks)) = subst (HasStage m p.seat) is makes.fits.keeps in
     let links : HasLinks m p.words (Owns None [] (k ∷ ks)) = subst (HasLinks m p.words) is makes.fits.links in
     let at : walk_number m ≡ k = (λ i. unwrap_or (keeps.1 i) (first_of (keeps.3 i))) in
     makes.word_is ∙ (ap (link m) at ∙ links k (stands_times [] (k ∷ ks) k (omega (arith, times-first k ks))))
@@ -152,7 +160,8 @@ turning_first c found p q ks is makes = record {
   old_row = row_after Walk found p q (Some c) [] ks ks is makes (λ k w. refl) (λ j. omega arith);
 }
 
-module _ (ks : List ℕ) (w found : ℕ) (row : Row) (p q : Part) (turning : Turning ks w row p q) (more : w ≢ 0) (t : Part) (stands : Stands t) (walks : Makes Walk found q t) where
+module _ (ks : List ℕ) (w found : ℕ) (row : Row) (p q : Part) (turning : Turning ks w row p q) (more : w ≢ 0) (t : Part) (stands : Stands t)
+    (walks : Makes Walk found q t) where
   pub on : q.stage ≡ Owns (Some (w - 1)) (row.front ∷ turning.rest) ks
   on = turning.stage_is ∙ walking_on w (row.front ∷ turning.rest) ks more
 
@@ -186,12 +195,15 @@ module _ (ks : List ℕ) (w found : ℕ) (row : Row) (p q : Part) (turning : Tur
   -- each of the others is another number
   others : (k : ℕ) → 0 < times k (row.front ∷ turning.rest) + times k ks → k ≢ (w - 1)
   others k some e = let once = keeps_once t walked_lists.cursor walked_lists.walked walked_lists.batch stands lists_is (w - 1) in
-      let same : 0 < times (w - 1) (row.front ∷ turning.rest) + times (w - 1) ks = subst (λ (j : ℕ). 0 < times j (row.front ∷ turning.rest) + times j ks) e some in omega (arith, once, walked_lists.same (w - 1), times-first (w - 1) (row.front ∷ turning.rest), same)
+      let same : 0 < times (w - 1) (row.front ∷ turning.rest) + times (w - 1) ks =
+      subst (λ (j : ℕ). 0 < times j (row.front ∷ turning.rest) + times j ks) e some in
+      omega (arith, once, walked_lists.same (w - 1), times-first (w - 1) (row.front ∷ turning.rest), same)
 
   module _ (r : Part) (turns : Makes (Turn (w - 1) (Some row.front)) (row.front + 1) t r) where
     spared : (k : ℕ) → 0 < times k (row.front ∷ turning.rest) + times k ks → link_in r.words k ≡ link_in q.words k
     spared k some =
-        turn_else (w - 1) row.front (row.front + 1) t r walked_lists.cursor walked_lists.walked walked_lists.batch lists_is turns k (others k some) (omega (arith, some, within k)) ∙
+        turn_else (w - 1) row.front (row.front + 1) t r walked_lists.cursor walked_lists.walked walked_lists.batch lists_is turns k (others k some)
+        (omega (arith, some, within k)) ∙
         makes_links Walk found q t (Some (w - 1)) (row.front ∷ turning.rest) ks on walks k some
 
     pub turned_stage : r.stage ≡ t.stage
@@ -230,7 +242,8 @@ walks_row step word p q row has makes quiet is = subst (IsRowOf q.words row) (sy
     (row_after step word p q None [] (kept_batch p.stage) (kept_batch p.stage) has.stage_is makes quiet (λ j. omega arith) row has.row_is)
 
 -- nothing was taken
-pub turning_none : (word : ℕ) (p : Part) → word ≡ 0 → p.stage ≡ walking word [] (kept_batch p.stage) → Turned (kept_batch p.stage) (record { front = 0; last = 0; count = 0 }) p p
+pub turning_none : (word : ℕ) (p : Part) → word ≡ 0 → p.stage ≡ walking word [] (kept_batch p.stage)
+    → Turned (kept_batch p.stage) (record { front = 0; last = 0; count = 0 }) p p
 turning_none word p is stage = record {
   taken = [];
   stage_is = stage ∙ walking_end word [] (kept_batch p.stage) is;

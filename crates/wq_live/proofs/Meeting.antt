@@ -25,7 +25,9 @@ meet_stands m p q sound f is = subst Stands (sym is) record {
   seen_is = refl;
 }
 
-module _ (s : Inside) (q : Standing) (m : Machine) (sound : IsSound m) (f : IsPartOf m s.chair.part) (is : q ≡ record { queue = s.chair.queue; part = part s.chair.part.seat s.chair.part.layout m.history s.chair.part.words s.chair.part.stage }) (executes : OwnsQueue s) where
+module _ (s : Inside) (q : Standing) (m : Machine) (sound : IsSound m) (f : IsPartOf m s.chair.part)
+    (is : q ≡ record { queue = s.chair.queue; part = part s.chair.part.seat s.chair.part.layout m.history s.chair.part.words s.chair.part.stage })
+    (executes : OwnsQueue s) where
   parts : q.part ≡ part s.chair.part.seat s.chair.part.layout m.history s.chair.part.words s.chair.part.stage
   parts = ap (λ (x : Standing). x.part) is
 

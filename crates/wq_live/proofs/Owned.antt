@@ -115,7 +115,8 @@ module _ (xs : List Event) (n : ℕ) (v w : List Event) (g : Grows owner_seat xs
 pub rests_on : (c : ℕ) (v w : List Event) → c ≡ owner_seat → Grows c [] 0 v w → ¬ IsRunning v → ¬ IsRunning w
 rests_on c v w mine grows rests runs =
     let g : Grows owner_seat [] 0 v w = subst (λ (d : ℕ). Grows d [] 0 v w) mine grows in
-    let bs = ap (λ (xs : List ℕ). length xs) (begun_on [] 0 v w g ∙ append-nil (begun v)) in let es = ap (λ (xs : List ℕ). length xs) (ended_on [] 0 v w g ∙ append-nil (ended v)) in
+    let bs = ap (λ (xs : List ℕ). length xs) (begun_on [] 0 v w g ∙ append-nil (begun v)) in
+    let es = ap (λ (xs : List ℕ). length xs) (ended_on [] 0 v w g ∙ append-nil (ended v)) in
     rests (omega (arith, runs, bs, es))
 
 -- what runs once k began, and once what ran has ended

@@ -219,7 +219,8 @@ owner_number xs n s t executes told = told.seat_is ∙ executes.number_is
 
 -- the batch that the owner keeps is that of what it has seen
 pub owner_batch : (s : Inside) (now : Known) → owner_view s ≡ now → OwnsQueue s → kept_batch s.chair.part.stage ≡ batch now.seen
-owner_batch s now view executes = stands_batch s.chair.part (kept_batch s.chair.part.stage) executes.stands executes.has_row.stage_is ∙ ap (λ (v : Known). batch v.seen) view
+owner_batch s now view executes =
+    stands_batch s.chair.part (kept_batch s.chair.part.stage) executes.stands executes.has_row.stage_is ∙ ap (λ (v : Known). batch v.seen) view
 
 -- nothing runs, or one does
 pub owner_idle : (p : Part) → Stands p → ¬ IsRunning p.seen → length (ended p.seen) ≡ length (begun p.seen)

@@ -91,7 +91,8 @@ module _ (m : Machine) (c : ℕ) (is : c ≡ owner_seat) where
     owner = λ ne. absurd (ne is);
   }
 
-  turned : (words : List ℕ) (cursor : Option ℕ) (walked batch : List ℕ) → Change m (record m { words = words; cursor = cursor; walked = walked; batch = batch }) c
+  turned : (words : List ℕ) (cursor : Option ℕ) (walked batch : List ℕ)
+      → Change m (record m { words = words; cursor = cursor; walked = walked; batch = batch }) c
   turned words cursor walked batch = record {
     layout_is = refl;
     new = [];
@@ -141,7 +142,8 @@ keeps_other m n c d (Owns cursor walked batch) change ne keeps =
 
 -- the links that a seat knows, once another has made its step
 links_other : (m n : Machine) (c d : ℕ) (stage : Stage) (words : List ℕ)
-    → (c ≢ owner_seat → (k : ℕ) → StandsIn m.walked m.batch k → link n k ≡ link m k) → d ≢ c → HasStage m d stage → HasLinks m words stage → HasLinks n words stage
+    → (c ≢ owner_seat → (k : ℕ) → StandsIn m.walked m.batch k → link n k ≡ link m k) → d ≢ c → HasStage m d stage → HasLinks m words stage
+    → HasLinks n words stage
 links_other m n c d (Sends p) words spared ne keeps links = tt
 links_other m n c d (Owns cursor walked batch) words spared ne keeps links = λ k there.
     spared (λ e. ne (keeps.0 ∙ sym e)) k (subst (λ (z : List ℕ × List ℕ). StandsIn z.0 z.1 k) (λ i. (sym keeps.2 i, sym keeps.3 i)) there) ∙ links k there

@@ -26,7 +26,8 @@ returns-then-row-eq0 c = record {
 }
 
 pub turn-requires-clause-number : goal.turn-requires-clause-number
-turn-requires-clause-number c = hang_number c.args.row c.args.more c.args.chair.now.part c.requires.stands c.requires.both c.if-row-eq0.false c.if-more-eq0.false
+turn-requires-clause-number c =
+    hang_number c.args.row c.args.more c.args.chair.now.part c.requires.stands c.requires.both c.if-row-eq0.false c.if-more-eq0.false
 
 pub turn-requires-clause-next : goal.turn-requires-clause-next
 turn-requires-clause-next c = hang_next c.args.row c.args.more c.args.chair.now.part c.requires.stands c.requires.both c.if-row-eq0.false c.if-more-eq0.false

@@ -40,7 +40,8 @@ loop-word-init c = let p = c.args.chair.now.part in let w = c.args.word in let k
     }
 
 pub overflow_cast-number : goal.overflow_cast-number
-overflow_cast-number c = let l = c.loop-word in let i = l.invariant in let p = l.chair.part in let w = l.word in let ks = kept_batch c.args.chair.now.part.stage in
+overflow_cast-number c =
+    let l = c.loop-word in let i = l.invariant in let p = l.chair.part in let w = l.word in let ks = kept_batch c.args.chair.now.part.stage in
     let stage = i.turning.stage_is ∙ walking_on w (l.row.front ∷ i.turning.rest) ks c.loop-word-test.true in
     omega (arith, (stands_walking p (w - 1) (l.row.front ∷ i.turning.rest) ks i.stands stage).0, number_small p.layout)
 

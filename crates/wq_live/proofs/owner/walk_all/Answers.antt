@@ -8,4 +8,5 @@ hang-requires-clause-both c = let p = c.args.chair.now.part in
     taken_behind (kept_batch p.stage) c.args.row c.turn_taken-taken.result p c.turn_taken-taken.new.chair.part c.requires.row c.turn_taken-taken.ensures.turned
 
 pub returns-clause-follows : goal.returns-clause-follows
-returns-clause-follows c = sees_on c.args.chair.now.part c.turn_taken-taken.new.chair.part c.hang.new.chair.part c.turn_taken-taken.ensures.follows c.hang.ensures.follows
+returns-clause-follows c =
+    sees_on c.args.chair.now.part c.turn_taken-taken.new.chair.part c.hang.new.chair.part c.turn_taken-taken.ensures.follows c.hang.ensures.follows

@@ -12,7 +12,8 @@ returns-then-row-eq1 c = let p = c.args.chair.now.part in record {
   queue = refl;
   follows = follows_none p;
   stands = c.requires.stands;
-  first = subst (λ (r : Row). HasFirst c.args.row.front r p) (sym c.empty.ensures) (first_only c.args.row p c.requires.has_row c.requires.some c.if-row-eq1.true);
+  first =
+      subst (λ (r : Row). HasFirst c.args.row.front r p) (sym c.empty.ensures) (first_only c.args.row p c.requires.has_row c.requires.some c.if-row-eq1.true);
 }
 
 pub walk-word-requires-clause-number : goal.walk-word-requires-clause-number
@@ -23,12 +24,16 @@ walk-word-requires-clause-next c = first_walks c.args.row c.args.chair.now.part 
 
 pub overflow_sub-result : goal.overflow_sub-result
 overflow_sub-result c = let p = c.args.chair.now.part in
-    let found = found_number c.args.row p c.requires.has_row c.requires.some c.if-row-eq1.false c.walk-word.result c.walk-word.new.self.part c.walk-word.ensures.makes c.requires.stands in
+    let found =
+    found_number c.args.row p c.requires.has_row c.requires.some c.if-row-eq1.false c.walk-word.result c.walk-word.new.self.part
+    c.walk-word.ensures.makes c.requires.stands in
     omega (arith, found.0)
 
 pub overflow_cast-result : goal.overflow_cast-result
 overflow_cast-result c = let p = c.args.chair.now.part in
-    let found = found_number c.args.row p c.requires.has_row c.requires.some c.if-row-eq1.false c.walk-word.result c.walk-word.new.self.part c.walk-word.ensures.makes c.requires.stands in
+    let found =
+    found_number c.args.row p c.requires.has_row c.requires.some c.if-row-eq1.false c.walk-word.result c.walk-word.new.self.part
+    c.walk-word.ensures.makes c.requires.stands in
     omega (arith, found.1, number_small p.layout)
 
 pub returns : goal.returns

@@ -32,7 +32,8 @@ invariant_of-self-then-is_none c =
     let word = rw (← c.self.view_is) at c.linked-next.ensures in
     let next : c.linked-next.result ≡ None = search rules in
     let zero : get_or c.self.inside.words.items (link_place c.in-Some.number) 0 ≡ 0 = number_at-none _ (sym word ∙ next) in
-    let batch : reverse c.swap.new.y.items ≡ reverse c.self.inside.batch.items ++ c.in-Some.number ∷ reverse c.self.inside.walked.items = grind (arith, common_steps) in
+    let batch : reverse c.swap.new.y.items ≡ reverse c.self.inside.batch.items ++ c.in-Some.number ∷ reverse c.self.inside.walked.items =
+    grind (arith, common_steps) in
     let walked : reverse c.swap.new.x.items ≡ [] = grind (arith, common_steps) in
     rw (batch, walked, next) (stored_walk_end _ _ _ c.self.invariant c.in-Some.number c.in-Some.is zero)
 

@@ -38,7 +38,8 @@ invariant_of-self c = let s = c.self.inside in let o = c.self.invariant in let e
     let first = e.first in
     let told : Tells (Begin k ∷ []) p r = sees_then (λ _. Begin k ∷ []) p q r e.follows e.stands
     (begin_tells k c.begin.ensures.0 q r first.others (e.follows.seat_is ∙ o.number_is) first.stage_is makes) in
-    let t = record s { chair = c.begin.new.self; row = c.without_first-self-inside.result; running = Some k } in let g = owner_grows (Begin k ∷ []) 0 s t o told in
+    let t = record s { chair = c.begin.new.self; row = c.without_first-self-inside.result; running = Some k } in
+    let g = owner_grows (Begin k ∷ []) 0 s t o told in
     let idle : ¬ IsRunning p.seen = subst (λ (v : Known). ¬ IsRunning v.seen) (sym c.self.view_is) c.requires.idle in record {
       layout_is = told.layout_is ∙ o.layout_is;
       number_is = told.seat_is ∙ o.number_is;

@@ -13,23 +13,36 @@ use Rattle.wq_live.proofs.OwnerTells.{makes_stands, owner_of, chain_tells, chain
 use Rattle.wq_live.proofs.owner.Owner.chain.Goals as goal
 
 pub invariant_of-self : goal.invariant_of-self
-invariant_of-self c = let s = c.self.inside in let o = c.self.invariant in let k = c.args.item in let p = s.chair.part in let q = c.chain.new.self.part in let w = c.chain.result in let x = c.saturating_add-self-inside.result in
-    let told : Tells (ChainBusy k ∷ []) p q = subst (λ (b : Bool). MatchBool b (Tells (Chain k ∷ []) p q) (Tells (ChainBusy k ∷ []) p q)) (ne_eqb w 0 c.if-chain-ne0.true) (chain_tells k w p q o.number_is (owner_of p.stage (kept_batch s.chair.part.stage) o.has_row.stage_is) c.chain.ensures.makes) in
-    let t = record s { chair = c.chain.new.self; counts = record s.counts { chain_busy = x } } in let g = owner_grows (ChainBusy k ∷ []) 0 s t o told in record {
+invariant_of-self c =
+    let s = c.self.inside in
+    let o = c.self.invariant in
+    let k = c.args.item in let p = s.chair.part in let q = c.chain.new.self.part in let w = c.chain.result in let x = c.saturating_add-self-inside.result in
+    let told : Tells (ChainBusy k ∷ []) p q =
+    subst (λ (b : Bool). MatchBool b (Tells (Chain k ∷ []) p q) (Tells (ChainBusy k ∷ []) p q)) (ne_eqb w 0 c.if-chain-ne0.true)
+    (chain_tells k w p q o.number_is (owner_of p.stage (kept_batch s.chair.part.stage) o.has_row.stage_is) c.chain.ensures.makes) in
+    let t = record s { chair = c.chain.new.self; counts = record s.counts { chain_busy = x } } in
+    let g = owner_grows (ChainBusy k ∷ []) 0 s t o told in record {
       layout_is = told.layout_is ∙ o.layout_is;
       number_is = told.seat_is ∙ o.number_is;
       stands = makes_stands _ _ p q c.chain.ensures.makes;
       has_row = has_row_after (step.Chain k) w p q s.row o.has_row c.chain.ensures.makes (λ j v. refl)
-          (chain_stage k w p q (kept_batch p.stage) o.has_row.stage_is c.chain.ensures.makes ∙ ap (λ (b : Bool). Owns None [] (if b then kept_batch p.stage ++ k ∷ [] else kept_batch p.stage)) (ne_eqb w 0 c.if-chain-ne0.true));
+          (chain_stage k w p q (kept_batch p.stage) o.has_row.stage_is c.chain.ensures.makes ∙
+          ap (λ (b : Bool). Owns None [] (if b then kept_batch p.stage ++ k ∷ [] else kept_batch p.stage)) (ne_eqb w 0 c.if-chain-ne0.true));
       running_is = o.running_is ∙ sym (running_quiet (ChainBusy k ∷ []) 0 p.seen q.seen g refl refl);
       closed_is = o.closed_is ∙ sym (closed_quiet (ChainBusy k ∷ []) 0 p.seen q.seen g refl);
       counts_are = counts_busy (ChainBusy k ∷ []) 0 p.seen q.seen g refl refl refl s.counts o.counts_are x c.saturating_add-self-inside.ensures;
     }
 
 pub returns-then-chain-ne0 : goal.returns-then-chain-ne0
-returns-then-chain-ne0 c = let s = c.self.inside in let o = c.self.invariant in let k = c.args.item in let p = s.chair.part in let q = c.chain.new.self.part in let w = c.chain.result in let x = c.saturating_add-self-inside.result in
-    let told : Tells (ChainBusy k ∷ []) p q = subst (λ (b : Bool). MatchBool b (Tells (Chain k ∷ []) p q) (Tells (ChainBusy k ∷ []) p q)) (ne_eqb w 0 c.if-chain-ne0.true) (chain_tells k w p q o.number_is (owner_of p.stage (kept_batch s.chair.part.stage) o.has_row.stage_is) c.chain.ensures.makes) in
-    let t = record s { chair = c.chain.new.self; counts = record s.counts { chain_busy = x } } in owner_sees (ChainBusy k ∷ []) 0 s t c.args.self.now c.self.view_is o refl c.chain.ensures.queue_is told
+returns-then-chain-ne0 c =
+    let s = c.self.inside in
+    let o = c.self.invariant in
+    let k = c.args.item in let p = s.chair.part in let q = c.chain.new.self.part in let w = c.chain.result in let x = c.saturating_add-self-inside.result in
+    let told : Tells (ChainBusy k ∷ []) p q =
+    subst (λ (b : Bool). MatchBool b (Tells (Chain k ∷ []) p q) (Tells (ChainBusy k ∷ []) p q)) (ne_eqb w 0 c.if-chain-ne0.true)
+    (chain_tells k w p q o.number_is (owner_of p.stage (kept_batch s.chair.part.stage) o.has_row.stage_is) c.chain.ensures.makes) in
+    let t = record s { chair = c.chain.new.self; counts = record s.counts { chain_busy = x } } in
+    owner_sees (ChainBusy k ∷ []) 0 s t c.args.self.now c.self.view_is o refl c.chain.ensures.queue_is told
 
 pub hang-self-inside-requires-clause-stands : goal.hang-self-inside-requires-clause-stands
 hang-self-inside-requires-clause-stands c = makes_stands _ _ c.self.inside.chair.part c.chain.new.self.part c.chain.ensures.makes
@@ -45,7 +58,8 @@ pub invariant_of-self-2 : goal.invariant_of-self-2
 invariant_of-self-2 c = let s = c.self.inside in let o = c.self.invariant in let k = c.args.item in let p = s.chair.part in
     let q = c.chain.new.self.part in let w = c.chain.result in let x = c.saturating_add-self-inside-2.result in
     let zero : w ≡ 0 = omega (arith, c.if-chain-ne0.false) in let e = c.hang-self-inside.ensures in let r = c.hang-self-inside.new.chair.part in
-    let told : Tells (Chain k ∷ []) p r = followed (Chain k ∷ []) 0 p q r (subst (λ (b : Bool). MatchBool b (Tells (Chain k ∷ []) p q) (Tells (ChainBusy k ∷ []) p q)) (eq-eqb w 0 zero)
+    let told : Tells (Chain k ∷ []) p r =
+    followed (Chain k ∷ []) 0 p q r (subst (λ (b : Bool). MatchBool b (Tells (Chain k ∷ []) p q) (Tells (ChainBusy k ∷ []) p q)) (eq-eqb w 0 zero)
     (chain_tells k w p q o.number_is (owner_of p.stage (kept_batch p.stage) o.has_row.stage_is) c.chain.ensures.makes)) e.follows e.stands in
     let t = record s { chair = c.hang-self-inside.new.chair; row = c.hang-self-inside.result; counts = record s.counts { chained = x } } in
     let g = owner_grows (Chain k ∷ []) 0 s t o told in record {
@@ -62,7 +76,8 @@ pub returns : goal.returns
 returns c = let s = c.self.inside in let o = c.self.invariant in let k = c.args.item in let p = s.chair.part in
     let q = c.chain.new.self.part in let w = c.chain.result in let x = c.saturating_add-self-inside-2.result in
     let zero : w ≡ 0 = omega (arith, c.if-chain-ne0.false) in let e = c.hang-self-inside.ensures in let r = c.hang-self-inside.new.chair.part in
-    let told : Tells (Chain k ∷ []) p r = followed (Chain k ∷ []) 0 p q r (subst (λ (b : Bool). MatchBool b (Tells (Chain k ∷ []) p q) (Tells (ChainBusy k ∷ []) p q)) (eq-eqb w 0 zero)
+    let told : Tells (Chain k ∷ []) p r =
+    followed (Chain k ∷ []) 0 p q r (subst (λ (b : Bool). MatchBool b (Tells (Chain k ∷ []) p q) (Tells (ChainBusy k ∷ []) p q)) (eq-eqb w 0 zero)
     (chain_tells k w p q o.number_is (owner_of p.stage (kept_batch p.stage) o.has_row.stage_is) c.chain.ensures.makes)) e.follows e.stands in
     let t = record s { chair = c.hang-self-inside.new.chair; row = c.hang-self-inside.result; counts = record s.counts { chained = x } } in
     (refl, owner_sees (Chain k ∷ []) 0 s t c.args.self.now c.self.view_is o refl (e.queue ∙ c.chain.ensures.queue_is) told)

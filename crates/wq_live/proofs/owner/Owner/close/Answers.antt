@@ -32,7 +32,8 @@ invariant_of-self c = let s = c.self.inside in let o = c.self.invariant in let p
     let e = c.walk_all-self-inside.ensures in let r = c.walk_all-self-inside.new.chair.part in let makes = c.close-word.ensures.makes in
     let told : Tells (Close ∷ []) p r = followed (Close ∷ []) 0 p q r
     (close_tells c.close-word.result p q o.number_is (owner_of p.stage (kept_batch p.stage) o.has_row.stage_is) makes) e.follows e.stands in
-    let t = record s { chair = c.walk_all-self-inside.new.chair; row = c.walk_all-self-inside.result; closed = true } in let g = owner_grows (Close ∷ []) 0 s t o told in record {
+    let t = record s { chair = c.walk_all-self-inside.new.chair; row = c.walk_all-self-inside.result; closed = true } in
+    let g = owner_grows (Close ∷ []) 0 s t o told in record {
       layout_is = told.layout_is ∙ o.layout_is;
       number_is = told.seat_is ∙ o.number_is;
       stands = e.stands;
@@ -47,14 +48,16 @@ returns-clause-seen c = let s = c.self.inside in let o = c.self.invariant in let
     let e = c.walk_all-self-inside.ensures in let r = c.walk_all-self-inside.new.chair.part in let makes = c.close-word.ensures.makes in
     let told : Tells (Close ∷ []) p r = followed (Close ∷ []) 0 p q r
     (close_tells c.close-word.result p q o.number_is (owner_of p.stage (kept_batch p.stage) o.has_row.stage_is) makes) e.follows e.stands in
-    owner_sees (Close ∷ []) 0 s (record s { chair = c.walk_all-self-inside.new.chair; row = c.walk_all-self-inside.result; closed = true }) c.args.self.now c.self.view_is
+    owner_sees (Close ∷ []) 0 s
+    (record s { chair = c.walk_all-self-inside.new.chair; row = c.walk_all-self-inside.result; closed = true }) c.args.self.now c.self.view_is
     o refl (e.queue ∙ c.close-word.ensures.queue_is) told
 
 pub returns-clause-takes : goal.returns-clause-takes
 returns-clause-takes c = let s = c.self.inside in let o = c.self.invariant in let p = s.chair.part in let q = c.close-word.new.self.part in
     let e = c.walk_all-self-inside.ensures in let r = c.walk_all-self-inside.new.chair.part in
     close_takes c.close-word.result p q r (kept_batch p.stage) (kept_batch r.stage) (c.walk_all-self-inside.result.count - s.row.count) o.number_is
-    o.has_row.stage_is e.follows e.stands e.has_row.stage_is (omega (arith, e.more, o.has_row.row_is.count_is, e.has_row.row_is.count_is)) c.close-word.ensures.makes
+    o.has_row.stage_is e.follows e.stands e.has_row.stage_is
+    (omega (arith, e.more, o.has_row.row_is.count_is, e.has_row.row_is.count_is)) c.close-word.ensures.makes
 
 pub overflow_sub-result : goal.overflow_sub-result
 overflow_sub-result c = c.walk_all-self-inside.ensures.more

@@ -12,9 +12,12 @@ use Rattle.wq_live.proofs.OwnerTells.{makes_stands, owner_of, end_tells, end_sta
 use Rattle.wq_live.proofs.owner.Owner.end.Goals as goal
 
 pub invariant_of-self : goal.invariant_of-self
-invariant_of-self c = let s = c.self.inside in let o = c.self.invariant in let p = s.chair.part in let q = c.end.new.self.part in let makes = c.end.ensures.1.makes in
-    let runs : IsRunning p.seen = subst (λ (v : Known). IsRunning v.seen) (sym c.self.view_is) c.requires.runs in let k = (runs_some p.seen runs).0 in let x = c.saturating_add-self-inside.result in
-    let told : Tells (End k ∷ []) p q = end_tells k c.end.ensures.0 p q o.number_is (owner_of p.stage (kept_batch p.stage) o.has_row.stage_is) (runs_some p.seen runs).1 makes in
+invariant_of-self c =
+    let s = c.self.inside in let o = c.self.invariant in let p = s.chair.part in let q = c.end.new.self.part in let makes = c.end.ensures.1.makes in
+    let runs : IsRunning p.seen = subst (λ (v : Known). IsRunning v.seen) (sym c.self.view_is) c.requires.runs in
+    let k = (runs_some p.seen runs).0 in let x = c.saturating_add-self-inside.result in
+    let told : Tells (End k ∷ []) p q =
+    end_tells k c.end.ensures.0 p q o.number_is (owner_of p.stage (kept_batch p.stage) o.has_row.stage_is) (runs_some p.seen runs).1 makes in
     let g = owner_grows (End k ∷ []) 0 s (record s { chair = c.end.new.self; running = None; counts = record s.counts { ended = x } }) o told in record {
       layout_is = told.layout_is ∙ o.layout_is;
       number_is = told.seat_is ∙ o.number_is;
@@ -30,6 +33,8 @@ pub returns : goal.returns
 returns c = record {
   seen = λ k is. let s = c.self.inside in let o = c.self.invariant in let p = s.chair.part in let q = c.end.new.self.part in
       let known : running p.seen ≡ Some k = ap (λ (v : Known). running v.seen) c.self.view_is ∙ is in
-      owner_sees (End k ∷ []) 0 s (record s { chair = c.end.new.self; running = None; counts = record s.counts { ended = c.saturating_add-self-inside.result } }) c.args.self.now c.self.view_is o refl c.end.ensures.1.queue_is
+      owner_sees (End k ∷ []) 0 s
+      (record s { chair = c.end.new.self; running = None; counts = record s.counts { ended = c.saturating_add-self-inside.result } })
+      c.args.self.now c.self.view_is o refl c.end.ensures.1.queue_is
       (end_tells k c.end.ensures.0 p q o.number_is (owner_of p.stage (kept_batch p.stage) o.has_row.stage_is) known c.end.ensures.1.makes);
 }

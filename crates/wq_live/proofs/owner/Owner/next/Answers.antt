@@ -7,7 +7,8 @@ use Rattle.wq_live.proofs.owner.Owner.next.Goals as goal
 
 pub returns-then-self-eq0 : goal.returns-then-self-eq0
 returns-then-self-eq0 c = let s = c.self.inside in let o = c.self.invariant in
-    let none : kept_batch s.chair.part.stage ≡ [] = none_counted (kept_batch s.chair.part.stage) (omega (arith, c.if-self-eq0.true, o.has_row.row_is.count_is)) in
+    let none : kept_batch s.chair.part.stage ≡ [] =
+    none_counted (kept_batch s.chair.part.stage) (omega (arith, c.if-self-eq0.true, o.has_row.row_is.count_is)) in
     ap (λ (xs : List ℕ). slice_get xs 0) (sym none ∙ owner_batch s c.args.self.now c.self.view_is o)
 
 pub returns : goal.returns

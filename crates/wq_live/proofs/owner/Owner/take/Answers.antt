@@ -36,7 +36,8 @@ invariant_of-self c = let s = c.self.inside in let o = c.self.invariant in let p
     let e = c.walk_all-self-inside.ensures in let r = c.walk_all-self-inside.new.chair.part in let makes = c.take-word.ensures.makes in
     let told : Tells (Take ∷ []) p r = followed (Take ∷ []) 0 p q r
     (take_tells c.take-word.result p q o.number_is (owner_of p.stage (kept_batch p.stage) o.has_row.stage_is) makes) e.follows e.stands in
-    let t = record s { chair = c.walk_all-self-inside.new.chair; row = c.walk_all-self-inside.result } in let g = owner_grows (Take ∷ []) 0 s t o told in record {
+    let t = record s { chair = c.walk_all-self-inside.new.chair; row = c.walk_all-self-inside.result } in
+    let g = owner_grows (Take ∷ []) 0 s t o told in record {
       layout_is = told.layout_is ∙ o.layout_is;
       number_is = told.seat_is ∙ o.number_is;
       stands = e.stands;
