@@ -13,8 +13,8 @@
 struct queue {
     _Atomic uint64_t *words; // the head, a link for each number, an item word for each number, the count of ended ones
     uint32_t numbers;
-    uint32_t *batch; // what was taken and has not begun, newest first
-    uint32_t waiting;
+    uint32_t front;   // of what was taken and has not begun, the links lead from the first number on, oldest first
+    uint32_t waiting; // how many they are
     uint64_t ended;
 };
 
@@ -42,14 +42,24 @@ __attribute__((noinline)) static bool queue_try(struct queue *queue, uint32_t nu
     return false;
 }
 
-// Takes the whole list, and walks it from the newest number to the oldest.
+// Takes the whole list, walks it from the newest number to the oldest, and turns each link.
 __attribute__((noinline)) static void take(struct queue *queue) {
     uint64_t word = atomic_exchange(&queue->words[0], 0);
+    if (word == 0) {
+        return;
+    }
+    uint32_t front = (uint32_t)(word - 1);
+    uint32_t count = 1;
+    word = atomic_load(link_of(queue, front));
     while (word != 0) {
         uint32_t number = (uint32_t)(word - 1);
         word = atomic_load(link_of(queue, number));
-        queue->batch[queue->waiting++] = number;
+        atomic_store(link_of(queue, number), (uint64_t)front + 1);
+        front = number;
+        count++;
     }
+    queue->front = front;
+    queue->waiting = count;
 }
 
 __attribute__((noinline)) static uint64_t execute_batch(struct queue *queue, uint64_t limit) {
@@ -58,7 +68,11 @@ __attribute__((noinline)) static uint64_t execute_batch(struct queue *queue, uin
     }
     uint64_t count = 0;
     while (count < limit && queue->waiting != 0) {
-        uint32_t number = queue->batch[--queue->waiting];
+        uint32_t number = queue->front;
+        if (queue->waiting > 1) {
+            queue->front = (uint32_t)(atomic_load(link_of(queue, number)) - 1);
+        }
+        queue->waiting--;
         atomic_fetch_and(item_of(queue, number), 0);
         atomic_fetch_add(&queue->words[1 + 2 * (size_t)queue->numbers], 1);
         queue->ended++;
@@ -76,8 +90,7 @@ int main(int argc, char **argv) {
     uint64_t total = strtoull(argv[2], NULL, 10);
     struct queue queue = {.numbers = slice + 2};
     queue.words = calloc(2 + 2 * (size_t)queue.numbers, sizeof *queue.words);
-    queue.batch = calloc(queue.numbers, sizeof *queue.batch);
-    if (slice == 0 || queue.words == NULL || queue.batch == NULL) {
+    if (slice == 0 || queue.words == NULL) {
         return 3;
     }
     struct timespec start, end;
@@ -92,7 +105,6 @@ int main(int argc, char **argv) {
     timespec_get(&end, TIME_UTC);
     printf("items %" PRIu64 " nanos %" PRId64 "\n", ended,
            (int64_t)(end.tv_sec - start.tv_sec) * 1000000000 + (end.tv_nsec - start.tv_nsec));
-    free(queue.batch);
     free(queue.words);
     return 0;
 }

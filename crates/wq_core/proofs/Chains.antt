@@ -9,8 +9,8 @@ use Rattle.std.proofs.lemmas.Grind.{reverse_onto}
 use mathlib.Core.List.{reverse_aux}
 use Rattle.wq_words.specs.Head.{head_word}
 use Rattle.wq_words.proofs.Growing.{slice_get_last}
-use Rattle.wq_core.specs.Words.{link_place, number_at}
-use Rattle.wq_core.specs.Sound.{head_of_list, word_at, IsChain, AreChained}
+use Rattle.wq_core.specs.Words.{link_place, number_at, word_at}
+use Rattle.wq_core.specs.Sound.{head_of_list, IsChain, AreChained}
 
 -- how often k stands in a list
 abbrev pub times : ℕ → List ℕ → ℕ

@@ -6,6 +6,8 @@ pub mod Writes
 pub mod KeptSound
 pub mod SenderSteps
 pub mod OwnerSteps
+pub mod Turning
+pub mod Fitting
 pub mod Schedules
 pub mod Stored
 pub mod Taken

@@ -12,9 +12,9 @@ use Rattle.wq_core.specs.declared.step.Private.{Private}
 use Rattle.wq_core.specs.declared.step.Seat.{Seat}
 use Rattle.wq_core.specs.declared.step.Seat.TheVariants.{Sender, Owner}
 use Rattle.wq_core.specs.declared.step.Step.{Step}
-use Rattle.wq_core.specs.declared.step.Step.TheVariants.{Hold, Look, Link, Push, Back, Check, Take, Close, Walk, Begin, End, Chain}
+use Rattle.wq_core.specs.declared.step.Step.TheVariants.{Hold, Look, Link, Push, Back, Check, Take, Close, Walk, Begin, End, Chain, Turn}
 use Rattle.wq_core.specs.declared.step.StepError.{StepError}
-use Rattle.wq_core.specs.Words.{word_count}
+use Rattle.wq_core.specs.Words.{word_count, word_at}
 use Rattle.wq_core.specs.Machine.{Machine, opening, nothing_seen, head, link, item_word, private, seen_word, after_walk, after_begin, after_end, after}
 use Rattle.wq_core.specs.Refusal.{IsMade, IsRefused}
 use Rattle.wq_core.specs.Schedule.{Leads, Leaves, IsFirstRefusal}
@@ -22,6 +22,7 @@ use Rattle.wq_core.specs.Sound.{IsSound}
 use Rattle.wq_words.proofs.Running.{runs_some}
 use Rattle.wq_core.proofs.SenderSteps.{sound_hold, sound_busy, sound_look, sound_lost, sound_link, sound_push, sound_back}
 use Rattle.wq_core.proofs.OwnerSteps.{sound_take, sound_close, sound_walk_end, sound_walk_on, sound_begin, sound_end, sound_chain, sound_chain_busy}
+use Rattle.wq_core.proofs.Turning.{sound_turn}
 
 pub either : (q : Bool) (P : Machine → Type 0) (a b : Machine) → (q ≡ true → P a) → (q ≡ false → P b) → P (if q then a else b)
 either true P a b holds fails = holds refl
@@ -32,9 +33,9 @@ pub seen_some : (p : Option ℕ) → p ≢ None → p ≡ Some (unwrap_or p 0)
 seen_some None ne = absurd (ne refl)
 seen_some (Some w) ne = refl
 
-walk_sound : (m : Machine) → IsSound m → (c : Option ℕ) → m.cursor ≡ c → c ≢ None → IsSound (after_walk m c)
-walk_sound m o None is ne = absurd (ne refl)
-walk_sound m o (Some k) is ne =
+walk_sound : (m : Machine) → IsSound m → (c : Option ℕ) → m.cursor ≡ c → IsSound (after_walk m c)
+walk_sound m o None is = o
+walk_sound m o (Some k) is =
     either (link m k == 0) IsSound _ _ (λ e. sound_walk_end m o k is (eqb-true (link m k) 0 e)) (λ e. sound_walk_on m o k is (eqb-false (link m k) 0 e))
 
 begin_sound : (m : Machine) → IsSound m → (b : List ℕ) → m.batch ≡ b → b ≢ [] → m.cursor ≡ None → ¬ IsRunning m.history → IsSound (after_begin m b)
@@ -60,9 +61,10 @@ sound_after m (Sender s) Walk o made = absurd made.1
 sound_after m (Sender s) Begin o made = absurd made.1
 sound_after m (Sender s) End o made = absurd made.1
 sound_after m (Sender s) (Chain k) o made = absurd made.1
+sound_after m (Sender s) (Turn k next) o made = absurd made.1
 sound_after m Owner Take o made = sound_take m o made.1.0 made.1.1 made.1.2
 sound_after m Owner Close o made = sound_close m o made.1.0 made.1.1
-sound_after m Owner Walk o made = walk_sound m o m.cursor refl made.1
+sound_after m Owner Walk o made = walk_sound m o m.cursor refl
 sound_after m Owner Begin o made = begin_sound m o m.batch refl made.1.1 made.1.0 made.1.2
 sound_after m Owner End o made =
     let r = runs_some m.history made.1 in
@@ -70,6 +72,7 @@ sound_after m Owner End o made =
 sound_after m Owner (Chain k) o made =
     either (item_word m k == 0) IsSound _ _ (λ e. sound_chain m o k made.0.1 made.1.0 made.1.1 made.1.2 (eqb-true (item_word m k) 0 e))
     (λ e. sound_chain_busy m o k made.0.1 made.1.0 made.1.2 (eqb-false (item_word m k) 0 e))
+sound_after m Owner (Turn k next) o made = sound_turn m o k made.1 (word_at next) made.0.1.0
 sound_after m Owner (Hold k) o made = absurd made.1
 sound_after m Owner Look o made = absurd made.1
 sound_after m Owner (Link k) o made = absurd made.1

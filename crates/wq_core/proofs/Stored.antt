@@ -13,17 +13,32 @@ use Rattle.wq_words.specs.Keeper.{Keeper, Home, Sender, Listed, Owner, taken_ove
 use Rattle.wq_words.proofs.Growing.{growing, slice_get_last}
 use Rattle.wq_words.proofs.Order.{in_order}
 use Rattle.wq_words.proofs.Prefixes.{prefix_length}
-use Rattle.wq_core.specs.Words.{closed_word, number_at}
-use Rattle.wq_core.specs.Machine.{Machine, opening, nothing_seen, head, link, item_word, done_word, private, seen_word, with_head, with_link, with_item, with_done, with_private, happened, unlinked}
+use Rattle.wq_words.proofs.Running.{runs_some}
+use Rattle.wq_core.specs.declared.step.Private.{Private}
+use Rattle.wq_core.specs.Words.{link_place, word_count, closed_word, number_at}
+use Rattle.wq_core.specs.Machine.{Machine, opening, nothing_seen, head, link, item_word, done_word, private, seen_word, with_head, with_link, with_item, with_done, with_private, happened, unlinked, StandsIn}
 use Rattle.wq_core.specs.Sound.{IsChain, IsSound}
 use Rattle.wq_core.specs.Stored.{holder, IsStored}
 use Rattle.wq_core.proofs.Privates.{gives_hold, gives_push, gives_back, gives_begin, gives_chain, follow_give, follow_same, follow_quiet}
 use Rattle.wq_core.proofs.Schedules.{sound_opening, all_alike}
-use Rattle.wq_words.proofs.Running.{runs_some}
 use Rattle.wq_core.proofs.SenderSteps.{sound_hold, sound_busy, sound_look, sound_link, sound_push, sound_lost, sound_back}
 use Rattle.wq_core.proofs.OwnerSteps.{sound_take, sound_close, sound_walk_end, sound_walk_on, sound_begin, sound_end, sound_chain, sound_chain_busy, first_of_batch}
 use Rattle.wq_core.proofs.KeptSound.{home_from_clear, sender_from_holds, holds_from_keeper}
-use Rattle.wq_core.proofs.Heads.{head_open}
+use Rattle.wq_core.proofs.Heads.{head_open, head_of_closed}
+use Rattle.wq_core.proofs.Turning.{sound_turn}
+use Rattle.wq_core.proofs.Fitting.{fit_head, fit_item, fit_done, fit_link, fit_look}
+
+-- the number that a word of a chain links to is one of the queue's
+chain_fits : (n : ℕ) (ws : List ℕ) (w : ℕ) (ks : List ℕ) → IsChain n ws w ks → w ≤ n
+chain_fits n ws w [] c = omega (arith, c)
+chain_fits n ws w (k ∷ ks) c = omega (arith, c.0, c.1)
+
+pub head_fits : (m : Machine) → IsSound m → ¬ IsClosed m.history → head m ≤ number_count m.layout
+head_fits m o opens = rw (head_open m o opens) (chain_fits (number_count m.layout) m.words _ (listed m.history) o.chains.list_chain)
+
+-- a head that was seen, and was not closed, would be the link to a number or the end
+head_seen : (m : Machine) → IsSound m → (w : ℕ) → head m ≡ w → w ≢ closed_word → w ≤ number_count m.layout
+head_seen m o w is unclosed = omega (arith, is, head_fits m o (λ closed. unclosed (sym is ∙ o.head_is ∙ head_of_closed m.history closed)))
 
 held_over : (x : Keeper) → holder (taken_over x) ≡ holder x
 held_over Home = refl
@@ -41,6 +56,8 @@ module _ (m : Machine) (holders : List (Option ℕ)) (runs : Option ℕ) (o : Is
         follow_give holder None (λ j. j) _ holders m.history (Hold s k) k (Sender s) (λ j e. e) (omega (arith, o.has_holders, number))
         (gives_hold s k) o.holders_are;
     running_is = simp growing o.running_is;
+    links_fit = fit_item _ m.words 1 o.links_fit k;
+    looks_fit = o.looks_fit;
   }
 
   pub stored_busy : (s k : ℕ) → s < m.layout.senders → k < number_count m.layout → item_word m k ≢ 0 → IsStored (happened m (Busy s k)) holders runs
@@ -49,20 +66,30 @@ module _ (m : Machine) (holders : List (Option ℕ)) (runs : Option ℕ) (o : Is
     has_holders = o.has_holders;
     holders_are = follow_quiet holder None (λ j. j) _ holders m.history (Busy s k) (λ j x. refl) o.holders_are;
     running_is = simp growing o.running_is;
+    links_fit = o.links_fit;
+    looks_fit = o.looks_fit;
   }
 
   pub stored_look : (s : ℕ) → s < m.layout.senders → IsStored (with_private m s (record { seen = Some (head m); linked = None })) holders runs
-  stored_look s seat = record { sound = sound_look m o.sound s seat; has_holders = o.has_holders; holders_are = o.holders_are; running_is = o.running_is }
+  stored_look s seat = record {
+    sound = sound_look m o.sound s seat;
+    has_holders = o.has_holders;
+    holders_are = o.holders_are;
+    running_is = o.running_is;
+    links_fit = o.links_fit;
+    looks_fit = fit_look _ m.seats s _ (omega (arith, o.sound.has_seats, seat)) (λ w is unclosed. head_seen m o.sound w (cc is) unclosed) o.looks_fit;
+  }
 
   pub stored_link : (s k w : ℕ) → s < m.layout.senders → k < number_count m.layout → Holds m.history s k → (private m s).seen ≡ Some w → w ≢ closed_word
       → IsStored (with_private (with_link m k w) s (record (private m s) { linked = Some k })) holders runs
-  stored_link s k w seat number holds seen unclosed =
-      record {
-        sound = sound_link m o.sound s k w seat number holds seen unclosed;
-        has_holders = o.has_holders;
-        holders_are = o.holders_are;
-        running_is = o.running_is;
-      }
+  stored_link s k w seat number holds seen unclosed = record {
+    sound = sound_link m o.sound s k w seat number holds seen unclosed;
+    has_holders = o.has_holders;
+    holders_are = o.holders_are;
+    running_is = o.running_is;
+    links_fit = fit_link _ m.words w o.links_fit k (omega (arith, o.sound.has_words, number)) (o.looks_fit s w seen unclosed);
+    looks_fit = fit_look _ m.seats s _ (omega (arith, o.sound.has_seats, seat)) (λ v is unclosed'. o.looks_fit s v is unclosed') o.looks_fit;
+  }
 
   pub stored_push : (s k : ℕ) → s < m.layout.senders → k < number_count m.layout → (private m s).linked ≡ Some k → head m ≡ seen_word m s
       → IsStored (happened (with_private (with_head m (k + 1)) s nothing_seen) (Push s k)) (set holders k None) runs
@@ -73,10 +100,19 @@ module _ (m : Machine) (holders : List (Option ℕ)) (runs : Option ℕ) (o : Is
         follow_give holder None (λ j. j) _ holders m.history (Push s k) k Listed (λ j e. e) (omega (arith, o.has_holders, number))
         (gives_push s k) o.holders_are;
     running_is = simp growing o.running_is;
+    links_fit = fit_head _ m.words (k + 1) o.links_fit;
+    looks_fit = fit_look _ m.seats s nothing_seen (omega (arith, o.sound.has_seats, seat)) (λ w is. absurd (cc is)) o.looks_fit;
   }
 
   pub stored_lost : (s : ℕ) → s < m.layout.senders → IsStored (with_private m s nothing_seen) holders runs
-  stored_lost s seat = record { sound = sound_lost m o.sound s seat; has_holders = o.has_holders; holders_are = o.holders_are; running_is = o.running_is }
+  stored_lost s seat = record {
+    sound = sound_lost m o.sound s seat;
+    has_holders = o.has_holders;
+    holders_are = o.holders_are;
+    running_is = o.running_is;
+    links_fit = o.links_fit;
+    looks_fit = fit_look _ m.seats s nothing_seen (omega (arith, o.sound.has_seats, seat)) (λ w is. absurd (cc is)) o.looks_fit;
+  }
 
   pub stored_back : (s k : ℕ) (why : Why) → s < m.layout.senders → k < number_count m.layout → Holds m.history s k
       → (why ≡ Closed → (private m s).seen ≡ Some closed_word)
@@ -88,6 +124,8 @@ module _ (m : Machine) (holders : List (Option ℕ)) (runs : Option ℕ) (o : Is
         follow_give holder None (λ j. j) _ holders m.history (Back s k why) k Home (λ j e. e) (omega (arith, o.has_holders, number))
         (gives_back s k why) o.holders_are;
     running_is = simp growing o.running_is;
+    links_fit = fit_item _ m.words 0 o.links_fit k;
+    looks_fit = fit_look _ m.seats s _ (omega (arith, o.sound.has_seats, seat)) (λ w is unclosed. o.looks_fit s w is unclosed) o.looks_fit;
   }
 
   pub stored_take : ¬ IsClosed m.history → m.cursor ≡ None → m.batch ≡ []
@@ -97,6 +135,8 @@ module _ (m : Machine) (holders : List (Option ℕ)) (runs : Option ℕ) (o : Is
     has_holders = o.has_holders;
     holders_are = follow_quiet holder None (λ j. j) _ holders m.history Take (λ j x. held_over x) o.holders_are;
     running_is = simp growing o.running_is;
+    links_fit = fit_head _ m.words 0 o.links_fit;
+    looks_fit = o.looks_fit;
   }
 
   pub stored_close : ¬ IsClosed m.history → m.cursor ≡ None
@@ -106,16 +146,40 @@ module _ (m : Machine) (holders : List (Option ℕ)) (runs : Option ℕ) (o : Is
     has_holders = o.has_holders;
     holders_are = follow_quiet holder None (λ j. j) _ holders m.history Close (λ j x. held_over x) o.holders_are;
     running_is = simp growing o.running_is;
+    links_fit = fit_head _ m.words closed_word o.links_fit;
+    looks_fit = o.looks_fit;
   }
 
   pub stored_walk_end : (k : ℕ) → m.cursor ≡ Some k → link m k ≡ 0
       → IsStored (record m { cursor = None; walked = []; batch = m.batch ++ k ∷ m.walked }) holders runs
-  stored_walk_end k on is =
-      record { sound = sound_walk_end m o.sound k on is; has_holders = o.has_holders; holders_are = o.holders_are; running_is = o.running_is }
+  stored_walk_end k on is = record {
+    sound = sound_walk_end m o.sound k on is;
+    has_holders = o.has_holders;
+    holders_are = o.holders_are;
+    running_is = o.running_is;
+    links_fit = o.links_fit;
+    looks_fit = o.looks_fit;
+  }
 
   pub stored_walk_on : (k : ℕ) → m.cursor ≡ Some k → link m k ≢ 0 → IsStored (record m { cursor = number_at (link m k); walked = k ∷ m.walked }) holders runs
-  stored_walk_on k on more =
-      record { sound = sound_walk_on m o.sound k on more; has_holders = o.has_holders; holders_are = o.holders_are; running_is = o.running_is }
+  stored_walk_on k on more = record {
+    sound = sound_walk_on m o.sound k on more;
+    has_holders = o.has_holders;
+    holders_are = o.holders_are;
+    running_is = o.running_is;
+    links_fit = o.links_fit;
+    looks_fit = o.looks_fit;
+  }
+
+  pub stored_turn : (k v : ℕ) → StandsIn m.walked m.batch k → k < number_count m.layout → v ≤ number_count m.layout → IsStored (with_link m k v) holders runs
+  stored_turn k v stands number small = record {
+    sound = sound_turn m o.sound k stands v number;
+    has_holders = o.has_holders;
+    holders_are = o.holders_are;
+    running_is = o.running_is;
+    links_fit = fit_link _ m.words v o.links_fit k (omega (arith, o.sound.has_words, number)) small;
+    looks_fit = o.looks_fit;
+  }
 
   pub stored_begin : (k : ℕ) (rest : List ℕ) → m.cursor ≡ None → m.batch ≡ k ∷ rest → ¬ IsRunning m.history
       → IsStored (happened (record (with_item m k 0) { batch = rest }) (Begin k)) holders (Some k)
@@ -129,6 +193,8 @@ module _ (m : Machine) (holders : List (Option ℕ)) (runs : Option ℕ) (o : Is
         holders_are =
             follow_same holder None (λ j. j) _ holders m.history (Begin k) k Home (gives_begin k) (sym (free (keeper m.history k) refl)) o.holders_are;
         running_is = simp growing (rw last (sym (slice_get_last (begun m.history) k [])));
+        links_fit = fit_item _ m.words 0 o.links_fit k;
+        looks_fit = o.looks_fit;
       }
     where
       free : (x : Keeper) → keeper m.history k ≡ x → holder x ≡ None
@@ -145,6 +211,8 @@ module _ (m : Machine) (holders : List (Option ℕ)) (runs : Option ℕ) (o : Is
         running_is =
             simp growing
             (sym (slice_get_past (begun m.history) (length (ended m.history ++ k ∷ [])) (simp length-append (omega (arith, order.one_at_a_time)))));
+        links_fit = fit_done _ m.words ((done_word m + 1) % 2 ^ 64) o.links_fit;
+        looks_fit = o.looks_fit;
       }
 
   pub stored_chain : (k : ℕ) → k < m.layout.items → IsClosed m.history → m.cursor ≡ None → IsRunning m.history → item_word m k ≡ 0
@@ -156,6 +224,8 @@ module _ (m : Machine) (holders : List (Option ℕ)) (runs : Option ℕ) (o : Is
         has_holders = o.has_holders;
         holders_are = follow_same holder None (λ j. j) _ holders m.history (Chain k) k Owner (gives_chain k) (rw home refl) o.holders_are;
         running_is = simp growing o.running_is;
+        links_fit = fit_item _ m.words 1 o.links_fit k;
+        looks_fit = o.looks_fit;
       }
 
   pub stored_chain_busy : (k : ℕ) → k < m.layout.items → IsClosed m.history → IsRunning m.history → item_word m k ≢ 0
@@ -165,6 +235,8 @@ module _ (m : Machine) (holders : List (Option ℕ)) (runs : Option ℕ) (o : Is
     has_holders = o.has_holders;
     holders_are = follow_quiet holder None (λ j. j) _ holders m.history (ChainBusy k) (λ j x. refl) o.holders_are;
     running_is = simp growing o.running_is;
+    links_fit = o.links_fit;
+    looks_fit = o.looks_fit;
   }
 
   -- the stored holder is the sender that holds the number, and something is stored as running exactly while a number runs
@@ -186,23 +258,6 @@ module _ (m : Machine) (holders : List (Option ℕ)) (runs : Option ℕ) (o : Is
       some : (r : Option ℕ) → r ≡ running m.history → r ≢ None → IsRunning m.history
       some None is ne = absurd (ne refl)
       some (Some k) is ne = slice_get_within (begun m.history) (length (ended m.history)) k (sym is)
-
--- the number that a word of a chain links to is one of the queue's
-chain_fits : (n : ℕ) (ws : List ℕ) (w : ℕ) (ks : List ℕ) → IsChain n ws w ks → w ≤ n
-chain_fits n ws w [] c = omega (arith, c)
-chain_fits n ws w (k ∷ ks) c = omega (arith, c.0, c.1)
-
-pub head_fits : (m : Machine) → IsSound m → ¬ IsClosed m.history → head m ≤ number_count m.layout
-head_fits m o opens = rw (head_open m o opens) (chain_fits (number_count m.layout) m.words _ (listed m.history) o.chains.list_chain)
-
-pub link_fits : (m : Machine) → IsSound m → (k : ℕ) → m.cursor ≡ Some k → link m k ≤ number_count m.layout
-link_fits m o k on = go o.chains.remaining (rw on at o.chains.walk_chain)
-  where
-    go : (ks : List ℕ) → IsChain (number_count m.layout) m.words (k + 1) ks → link m k ≤ number_count m.layout
-    go [] c = absurd (omega (arith, c))
-    go (j ∷ js) c =
-        let same : j ≡ k = omega (arith, c.0) in
-        rw same at (chain_fits (number_count m.layout) m.words _ js c.2)
 
 -- a list whose reverse is not empty, by its last element
 pub by_last : (xs ys : List ℕ) (k : ℕ) → xs ≡ ys ++ k ∷ [] → reverse xs ≡ k ∷ reverse ys
@@ -226,4 +281,6 @@ stored_opening layout = record {
   has_holders = length-replicate _ _;
   holders_are = λ k lt. all_alike _ k None;
   running_is = refl;
+  links_fit = λ k lt. omega (arith, all_alike {A = ℕ} (word_count (number_count layout)) (link_place k) 0);
+  looks_fit = λ s w is. absurd (cc (is, ap (λ (p : Private). p.seen) (all_alike layout.senders s nothing_seen)));
 }

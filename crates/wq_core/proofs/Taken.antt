@@ -1,19 +1,25 @@
--- What the head's chain spells, what a push finds there, and what the owner's batch is.
-use Rattle.std.proofs.Common.{◌≡◌, ℕ, ◌+◌, ◌==◌, Bool, true, false, if◌then◌else◌, List, [], ◌∷◌, ◌++◌, length, take, drop, reverse, None, unwrap_or, refl, sym, ap, ◌∙◌, arith, length-append}
-use Rattle.std.proofs.lemmas.Bool.{ne_eqb, eqb-true}
-use Rattle.std.proofs.lemmas.List.{append-nil, length-reverse, take_at, drop_at}
+-- What the head's chain spells, what a push finds there, what the owner's batch is, and that no sender touches its links.
+use Rattle.std.proofs.Common.{◌≡◌, ℕ, ◌+◌, ◌==◌, Bool, true, false, if◌then◌else◌, List, [], ◌∷◌, ◌++◌, length, take, drop, reverse, get_or, set, Option, None, Some, unwrap_or, ◌%◌, ◌^◌, refl, sym, ap, ◌∙◌, arith, length-append}
+use Rattle.std.proofs.lemmas.Bool.{ne_eqb, eqb-true, eqb-false}
+use Rattle.std.proofs.lemmas.List.{append-nil, length-reverse, take_at, drop_at, get_or-set_other, get_or-set_same}
 use Rattle.wq_words.specs.Numbers.{number_count}
 use Rattle.wq_words.specs.Head.{head_word}
-use Rattle.wq_words.specs.History.{accepted, begun, taken, first, IsClosed}
+use Rattle.wq_words.specs.History.{accepted, begun, taken, first, IsClosed, running}
 use Rattle.wq_words.specs.Listed.{listed}
 use Rattle.wq_words.proofs.Listed.{length-accepted, fresh-open}
-use Rattle.wq_core.specs.declared.step.Seat.TheVariants.{Sender}
-use Rattle.wq_core.specs.declared.step.Step.TheVariants.{Push}
+use Rattle.wq_core.specs.declared.step.Seat.TheVariants.{Sender, Owner}
+use Rattle.wq_words.specs.Keeper.{keeper}
+use Rattle.wq_core.specs.declared.step.Step.{Step}
+use Rattle.wq_core.specs.declared.step.Step.TheVariants.{Hold, Look, Link, Push, Back, Check, Take, Close, Walk, Begin, End, Chain, Turn}
+use Rattle.wq_core.specs.Words.{head_place, link_place, item_place, done_place, closed_word, word_at}
 use Rattle.wq_core.specs.declared.step.Reply.TheVariants.{Pushed, Lost}
-use Rattle.wq_core.specs.Machine.{Machine, head, seen_word, reply_to}
+use Rattle.wq_core.specs.Machine.{Machine, head, link, item_word, done_word, seen_word, after_walk, after_begin, after_end, after, reply_to, StandsIn}
 use Rattle.wq_core.specs.Refusal.{IsMade}
 use Rattle.wq_core.specs.Sound.{head_of_list, IsChain, IsSound}
 use Rattle.wq_core.proofs.Chains.{chain_zero}
+use Rattle.wq_core.proofs.Turning.{stands_number, no_senders}
+use Rattle.wq_core.proofs.Schedules.{either}
+use Rattle.wq_core.proofs.KeptSound.{sender_from_holds}
 use Rattle.wq_core.proofs.Heads.{head_open, head_of_closed}
 
 -- between two calls of the owner the batch is what is taken and has not begun
@@ -64,3 +70,62 @@ pushed_first m s k q o made is = go (head m == seen_word m s) refl is
         let said : (seen_word m s == 0) ≡ q = cc is' in
         sym said ∙ ap (λ w. w == 0) (sym won) ∙ head_first m o (opens won)
     go false e is' = absurd cc
+
+-- the link of k after a step of the owner, where it was this word before
+abbrev pub link_after : Step → ℕ → ℕ → ℕ
+link_after (Turn j next) k w = if j == k then word_at next else w
+link_after _ k w = w
+
+module _ (m : Machine) (o : IsSound m) (k : ℕ) (stands : StandsIn m.walked m.batch k) where
+  item_written : (j v : ℕ) → get_or (set m.words (item_place (number_count m.layout) j) v) (link_place k) 0 ≡ link m k
+  item_written j v = get_or-set_other m.words (item_place (number_count m.layout) j) (link_place k) v 0 (λ e. omega (arith, e, stands_number m o k stands))
+
+  head_written : (v : ℕ) → get_or (set m.words head_place v) (link_place k) 0 ≡ link m k
+  head_written v = get_or-set_other m.words head_place (link_place k) v 0 (λ e. omega (arith, e))
+
+  done_written : (v : ℕ) → get_or (set m.words (done_place (number_count m.layout)) v) (link_place k) 0 ≡ link m k
+  done_written v = get_or-set_other m.words (done_place (number_count m.layout)) (link_place k) v 0 (λ e. omega (arith, e, stands_number m o k stands))
+
+  -- no sender's step writes the link of a number that was taken and has not begun
+  pub sender_links : (s : ℕ) (step : Step) → IsMade m (Sender s) step → link (after m (Sender s) step) k ≡ link m k
+  sender_links s (Hold j) made = either (item_word m j == 0) (λ x. link x k ≡ link m k) _ _ (λ e. item_written j 1) (λ e. refl)
+  sender_links s Look made = refl
+  sender_links s (Link j) made =
+      get_or-set_other m.words (link_place j) (link_place k) (seen_word m s) 0
+      (λ e. (let same : k ≡ j = omega (arith, e) in no_senders m o k stands s (ap (keeper m.history) same ∙ sender_from_holds m o s j made.1.0)))
+  sender_links s (Push j) made = either (head m == seen_word m s) (λ x. link x k ≡ link m k) _ _ (λ e. head_written (j + 1)) (λ e. refl)
+  sender_links s (Back j why) made = item_written j 0
+  sender_links s (Check j) made = refl
+  sender_links s _ made = absurd made.1
+
+  walk_links : (c : Option ℕ) → link (after_walk m c) k ≡ link m k
+  walk_links None = refl
+  walk_links (Some j) = either (link m j == 0) (λ x. link x k ≡ link m k) _ _ (λ e. refl) (λ e. refl)
+
+  begin_links : (b : List ℕ) → link (after_begin m b) k ≡ link m k
+  begin_links [] = refl
+  begin_links (j ∷ js) = item_written j 0
+
+  end_links : (r : Option ℕ) → link (after_end m r) k ≡ link m k
+  end_links None = refl
+  end_links (Some j) = done_written ((done_word m + 1) % 2 ^ 64)
+
+  turn_links : (j v : ℕ) (b : Bool) → (j == k) ≡ b → get_or (set m.words (link_place j) v) (link_place k) 0 ≡ (if b then v else link m k)
+  turn_links j v true e = rw (eqb-true j k e) (get_or-set_same m.words (link_place k) v 0 (omega (arith, o.has_words, stands_number m o k stands)))
+  turn_links j v false e = get_or-set_other m.words (link_place j) (link_place k) v 0 (λ same. eqb-false j k e (omega (arith, same)))
+
+  -- and of the owner's only a Turn of that number
+  pub owner_links : (step : Step) → link (after m Owner step) k ≡ link_after step k (link m k)
+  owner_links Take = head_written 0
+  owner_links Close = head_written closed_word
+  owner_links Walk = walk_links m.cursor
+  owner_links Begin = begin_links m.batch
+  owner_links End = end_links (running m.history)
+  owner_links (Chain j) = either (item_word m j == 0) (λ x. link x k ≡ link m k) _ _ (λ e. item_written j 1) (λ e. refl)
+  owner_links (Turn j next) = turn_links j (word_at next) (j == k) refl
+  owner_links (Hold j) = refl
+  owner_links Look = refl
+  owner_links (Link j) = refl
+  owner_links (Push j) = refl
+  owner_links (Back j why) = refl
+  owner_links (Check j) = refl

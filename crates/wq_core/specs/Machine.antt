@@ -1,6 +1,6 @@
 -- The machine of an ordered workqueue: the words of its table, what each seat keeps in private, and what has happened.
 -- A step is one operation on one word. For each kind of step: when it is enabled, the machine after it, and its reply.
-use Rattle.std.specs.Prelude.{◌≡◌, ◌≢◌, ℕ, ◌+◌, ◌%◌, ◌^◌, ◌==◌, if◌then◌else◌, List, [], ◌∷◌, ◌++◌, get_or, set, replicate, Option, Some, None, unwrap_or}
+use Rattle.std.specs.Prelude.{◌≡◌, ◌≢◌, ℕ, ◌+◌, ◌%◌, ◌^◌, ◌==◌, if◌then◌else◌, List, [], ◌∷◌, ◌++◌, get_or, set, replicate, Option, Some, None, unwrap_or, ◌⊎◌, Contains}
 use Rattle.wq_words.specs.declared.layout.Layout.{Layout}
 use Rattle.wq_words.specs.declared.event.Why.TheVariants.{Closed}
 use Rattle.wq_words.specs.declared.event.Event.{Event}
@@ -11,10 +11,10 @@ use Rattle.wq_core.specs.declared.step.Private.{Private}
 use Rattle.wq_core.specs.declared.step.Seat.{Seat}
 use Rattle.wq_core.specs.declared.step.Seat.TheVariants.{Sender, Owner}
 use Rattle.wq_core.specs.declared.step.Step.{Step}
-use Rattle.wq_core.specs.declared.step.Step.TheVariants.{Hold, Look, Link, Push, Back, Check, Take, Close, Walk, Begin, End, Chain}
+use Rattle.wq_core.specs.declared.step.Step.TheVariants.{Hold, Look, Link, Push, Back, Check, Take, Close, Walk, Begin, End, Chain, Turn}
 use Rattle.wq_core.specs.declared.step.Reply.{Reply}
 use Rattle.wq_core.specs.declared.step.Reply.TheVariants as reply
-use Rattle.wq_core.specs.Words.{head_place, link_place, item_place, done_place, word_count, closed_word, number_at, head_at}
+use Rattle.wq_core.specs.Words.{head_place, link_place, item_place, done_place, word_count, closed_word, number_at, word_at, head_at}
 
 -- Which numbers a sender holds, whether the queue is closed and which number runs are read off the history.
 pub record Machine : Type 0 where
@@ -61,6 +61,10 @@ private m s = get_or m.seats s nothing_seen
 abbrev pub seen_word : Machine → ℕ → ℕ
 seen_word m s = unwrap_or (private m s).seen 0
 
+-- the owner walked k, or k waits in its batch
+abbrev pub StandsIn : List ℕ → List ℕ → ℕ → Type 0
+StandsIn walked batch k = Contains walked k ⊎ Contains batch k
+
 -- the step is one of the seat's kinds and may be made now
 abbrev pub IsEnabled : Machine → Seat → Step → Type 0
 IsEnabled m (Sender s) (Hold k) = Unit {0}
@@ -71,10 +75,11 @@ IsEnabled m (Sender s) (Back k why) = Holds m.history s k × (why ≡ Closed →
 IsEnabled m (Sender s) (Check k) = Unit {0}
 IsEnabled m Owner Take = (¬ IsClosed m.history) × (m.cursor ≡ None) × (m.batch ≡ [])
 IsEnabled m Owner Close = (¬ IsClosed m.history) × (m.cursor ≡ None)
-IsEnabled m Owner Walk = m.cursor ≢ None
+IsEnabled m Owner Walk = (m.cursor ≢ None) ⊎ (m.batch ≢ [])
 IsEnabled m Owner Begin = (m.cursor ≡ None) × (m.batch ≢ []) × (¬ IsRunning m.history)
 IsEnabled m Owner End = IsRunning m.history
 IsEnabled m Owner (Chain k) = IsClosed m.history × (m.cursor ≡ None) × IsRunning m.history
+IsEnabled m Owner (Turn k next) = StandsIn m.walked m.batch k
 IsEnabled m seat step = ⊥
 
 -- a word is written, a sender keeps other things, an event is added
@@ -144,11 +149,16 @@ after m Owner (Chain k) =
     if item_word m k == 0
     then happened (record (with_item m k 1) { batch = m.batch ++ k ∷ [] }) (event.Chain k)
     else happened m (event.ChainBusy k)
+after m Owner (Turn k next) = with_link m k (word_at next)
 after m seat step = m
 
 abbrev pub first_of : List ℕ → ℕ
 first_of [] = 0
 first_of (k ∷ ks) = k
+
+-- the number whose link a walk loads: what is to be walked next, and once all is walked the first of the batch
+abbrev pub walk_number : Machine → ℕ
+walk_number m = unwrap_or m.cursor (first_of m.batch)
 
 -- what the step is answered
 abbrev pub reply_to : Machine → Seat → Step → Reply
@@ -160,8 +170,9 @@ reply_to m (Sender s) (Back k why) = reply.GivenBack
 reply_to m (Sender s) (Check k) = if item_word m k == 0 then reply.Idle else reply.Pending
 reply_to m Owner Take = reply.Took (head_at (head m))
 reply_to m Owner Close = reply.Closed (head_at (head m))
-reply_to m Owner Walk = reply.Walked (number_at (link m (unwrap_or m.cursor 0)))
+reply_to m Owner Walk = reply.Walked (number_at (link m (walk_number m)))
 reply_to m Owner Begin = reply.Began (first_of m.batch)
 reply_to m Owner End = reply.Ended (unwrap_or (running m.history) 0)
 reply_to m Owner (Chain k) = if item_word m k == 0 then reply.Chained else reply.ChainBusy
+reply_to m Owner (Turn k next) = reply.Turned
 reply_to m seat step = reply.Idle

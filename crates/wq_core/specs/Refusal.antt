@@ -1,11 +1,11 @@
 -- Which steps the machine makes, and why it refuses the others.
-use Rattle.std.specs.Prelude.{◌≡◌, ◌<◌, Bool, true, false}
+use Rattle.std.specs.Prelude.{◌≡◌, ◌<◌, Bool, true, false, IfSome}
 use Rattle.wq_words.specs.declared.layout.Layout.{Layout}
 use Rattle.wq_words.specs.Numbers.{number_count}
 use Rattle.wq_core.specs.declared.step.Seat.{Seat}
 use Rattle.wq_core.specs.declared.step.Seat.TheVariants.{Sender, Owner}
 use Rattle.wq_core.specs.declared.step.Step.{Step}
-use Rattle.wq_core.specs.declared.step.Step.TheVariants.{Hold, Look, Link, Push, Back, Check, Chain}
+use Rattle.wq_core.specs.declared.step.Step.TheVariants.{Hold, Look, Link, Push, Back, Check, Chain, Turn}
 use Rattle.wq_core.specs.declared.step.StepError.{StepError}
 use Rattle.wq_core.specs.declared.step.StepError.TheVariants.{NoSeat, NoItem, NotEnabled, Memory}
 use Rattle.wq_core.specs.Machine.{Machine, IsEnabled}
@@ -25,7 +25,7 @@ abbrev pub IsSeated : Layout → Seat → Step → Type 0
 IsSeated layout (Sender s) step = (s < layout.senders) × (is_senders step ≡ true)
 IsSeated layout Owner step = is_senders step ≡ false
 
--- the step's number is one of the queue's, and one of its items where it is chained
+-- the step's numbers are of the queue's, and one of its items where it is chained
 abbrev pub IsNumbered : Layout → Step → Type 0
 IsNumbered layout (Hold k) = k < number_count layout
 IsNumbered layout (Link k) = k < number_count layout
@@ -33,6 +33,7 @@ IsNumbered layout (Push k) = k < number_count layout
 IsNumbered layout (Back k why) = k < number_count layout
 IsNumbered layout (Check k) = k < number_count layout
 IsNumbered layout (Chain k) = k < layout.items
+IsNumbered layout (Turn k next) = (k < number_count layout) × IfSome next (λ j. j < number_count layout)
 IsNumbered layout _ = Unit {0}
 
 abbrev pub IsPlaced : Layout → Seat → Step → Type 0

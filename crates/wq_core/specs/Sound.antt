@@ -9,7 +9,7 @@ use Rattle.wq_words.specs.Numbers.{number_count}
 use Rattle.wq_words.specs.History.{accepted, begun, ended, pending, closed, Holds, IsClosed}
 use Rattle.wq_words.specs.Legal.{IsLegal}
 use Rattle.wq_words.specs.Listed.{listed}
-use Rattle.wq_core.specs.Words.{link_place, word_count, closed_word}
+use Rattle.wq_core.specs.Words.{link_place, word_count, closed_word, word_at}
 use Rattle.wq_core.specs.Machine.{Machine, head, link, item_word, done_word, private}
 
 -- the head of a list of numbers, newest first
@@ -20,11 +20,6 @@ head_of_list (k ∷ ks) = Item k
 -- the head that the history leaves
 abbrev pub head_of : List Event → Head
 head_of h = if closed h then Closed else head_of_list (listed h)
-
--- the word that links to a number, or to none
-abbrev pub word_at : Option ℕ → ℕ
-word_at None = 0
-word_at (Some k) = k + 1
 
 -- from this word the links spell these numbers of a queue of n
 abbrev pub IsChain : ℕ → List ℕ → ℕ → List ℕ → Type 0

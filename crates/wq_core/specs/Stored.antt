@@ -1,12 +1,13 @@
 -- The machine as it is kept in memory, and what is kept beside it to answer at once.
-use Rattle.std.specs.Prelude.{◌≡◌, ℕ, ◌<◌, List, length, reverse, get_or, Option, Some, None}
+use Rattle.std.specs.Prelude.{◌≡◌, ◌≢◌, ℕ, ◌<◌, ◌≤◌, List, length, reverse, get_or, Option, Some, None}
 use Rattle.wq_words.specs.declared.layout.Layout.{Layout}
 use Rattle.wq_words.specs.declared.event.Event.{Event}
 use Rattle.wq_words.specs.Numbers.{number_count}
 use Rattle.wq_words.specs.History.{running}
 use Rattle.wq_words.specs.Keeper.{Keeper, Sender, keeper}
 use Rattle.wq_core.specs.declared.step.Private.{Private}
-use Rattle.wq_core.specs.Machine.{Machine}
+use Rattle.wq_core.specs.Words.{link_place, closed_word}
+use Rattle.wq_core.specs.Machine.{Machine, nothing_seen}
 use Rattle.wq_core.specs.Sound.{IsSound}
 
 -- the machine in these parts: what was walked stands newest first, and so does the batch
@@ -23,9 +24,20 @@ abbrev pub holder : Keeper → Option ℕ
 holder (Sender s) = Some s
 holder _ = None
 
--- the machine is sound, and beside it stand who holds each number and which number runs
+-- each link is the end or leads to a number below n
+abbrev pub LinksFit : ℕ → List ℕ → Type 0
+LinksFit n words = (k : ℕ) → k < n → get_or words (link_place k) 0 ≤ n
+
+-- and so would the link to a head that a sender saw, where that was not closed
+abbrev pub LooksFit : ℕ → List Private → Type 0
+LooksFit n seats = (s w : ℕ) → (get_or seats s nothing_seen).seen ≡ Some w → w ≢ closed_word → w ≤ n
+
+-- the machine is sound, beside it stand who holds each number and which number runs, and each word that is stored as a link
+-- leads to a number
 pub record IsStored (m : Machine) (holders : List (Option ℕ)) (runs : Option ℕ) : Type 0 where
   pub sound : IsSound m
   pub has_holders : length holders ≡ number_count m.layout
   pub holders_are : FollowKeepers holder None (λ k. k) (number_count m.layout) holders m.history
   pub running_is : runs ≡ running m.history
+  pub links_fit : LinksFit (number_count m.layout) m.words
+  pub looks_fit : LooksFit (number_count m.layout) m.seats

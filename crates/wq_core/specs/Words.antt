@@ -29,6 +29,11 @@ closed_word = head_word Closed
 abbrev pub number_at : ℕ → Option ℕ
 number_at word = if word == 0 then None else Some (word - 1)
 
+-- the word that links to a number, or to none
+abbrev pub word_at : Option ℕ → ℕ
+word_at None = 0
+word_at (Some k) = k + 1
+
 -- what a head word says
 abbrev pub head_at : ℕ → Head
 head_at word = if word == 0 then Empty else (if word == closed_word then Closed else Item (word - 1))

@@ -1,16 +1,17 @@
 //! The machine in memory, step by step.
-ghost use Rattle.std.specs.Prelude.{◌≡◌, ◌<◌, ◌↔◌, IsTrue, IfOk, IfErr, OnOk, OnErr, length, get_or, Some, None};
+ghost use Rattle.std.specs.Prelude.{◌≡◌, ◌<◌, ◌↔◌, IsTrue, IfOk, IfErr, IfSome, OnOk, OnErr, length, get_or, Some, None};
 ghost use Rattle.wq_words.specs.declared.layout.Layout.{Layout};
 ghost use Rattle.wq_words.specs.Numbers.{number_count};
 ghost use Rattle.wq_words.specs.History.{accepted, begun, Holds, IsClosed, IsRunning};
 ghost use Rattle.wq_core.specs.declared.step.Seat.TheVariants.{Sender, Owner};
-ghost use Rattle.wq_core.specs.declared.step.Step.TheVariants.{Hold, Look, Link, Push, Back, Check, Take, Close, Walk, Begin, End, Chain};
-ghost use Rattle.wq_core.specs.Machine.{opening, IsEnabled, after, reply_to, nothing_seen, private, unlinked};
+ghost use Rattle.wq_core.specs.declared.step.Step.TheVariants.{Hold, Look, Link, Push, Back, Check, Take, Close, Walk, Begin, End, Chain, Turn};
+ghost use Rattle.wq_core.specs.Words.{number_at};
+ghost use Rattle.wq_core.specs.Machine.{opening, IsEnabled, after, reply_to, nothing_seen, private, link, unlinked};
 ghost use Rattle.wq_core.specs.Sound.{IsSound};
 ghost use Rattle.wq_core.specs.Refusal.{is_senders, IsSeated, IsNumbered, IsPlaced, IsMade, IsRefused};
 
 use crate::place::{
-    HEAD, done_place, head_at, item_place, link_place, number_at, word, word_count,
+    HEAD, done_place, head_at, item_place, link_place, number_at, word, word_at, word_count,
 };
 use crate::step::{Private, Reply, Seat, Step, StepError};
 use std::alloc::{AllocError, Global};
@@ -153,13 +154,16 @@ impl Core {
                 !self.is_closed() && self.cursor.is_none() && self.batch.is_empty()
             }
             (Seat::Owner, Step::Close) => !self.is_closed() && self.cursor.is_none(),
-            (Seat::Owner, Step::Walk) => self.cursor.is_some(),
+            (Seat::Owner, Step::Walk) => self.cursor.is_some() || !self.batch.is_empty(),
             (Seat::Owner, Step::Begin) => {
                 self.cursor.is_none() && !self.batch.is_empty() && !self.is_running()
             }
             (Seat::Owner, Step::End) => self.is_running(),
             (Seat::Owner, Step::Chain(_)) => {
                 self.is_closed() && self.cursor.is_none() && self.is_running()
+            }
+            (Seat::Owner, Step::Turn(number, _)) => {
+                self.walked.contains(&number) || self.batch.contains(&number)
             }
             _ => unreachable!(),
         }
@@ -211,6 +215,7 @@ impl Core {
             (Seat::Owner, Step::Begin) => self.begin(),
             (Seat::Owner, Step::End) => self.end(),
             (Seat::Owner, Step::Chain(number)) => self.chain(number),
+            (Seat::Owner, Step::Turn(number, next)) => Ok(self.turn(number, next)),
             _ => unreachable!(),
         }
     }
@@ -337,9 +342,10 @@ impl Core {
         ensures unchanged { OnErr result (self.new ≡ self.old) }
     {
         let Some(number) = self.cursor else {
-            unreachable!()
+            let first = self.batch[self.batch.len() - 1];
+            return Ok(Reply::Walked(self.linked(first)));
         };
-        let next = number_at(word(&self.words, link_place(number)));
+        let next = self.linked(number);
         self.walked.reserve(self.batch.len() + 1)?;
         self.walked.push(number)?;
         self.cursor = next;
@@ -348,6 +354,14 @@ impl Core {
             std::mem::swap(&mut self.walked, &mut self.batch);
         }
         Ok(Reply::Walked(next))
+    }
+
+    // The number that the link of this one leads to, if any.
+    fn linked(&self, number: u32) -> Option<u32>
+        requires { number < number_count self.now.layout }
+        ensures { result ≡ number_at (link self.now number) }
+    {
+        number_at(word(&self.words, link_place(number)))
     }
 
     fn begin(&mut self) -> Result<Reply, AllocError>
@@ -400,6 +414,15 @@ impl Core {
         self.words[place] = 1;
         Ok(Reply::Chained)
     }
+
+    fn turn(&mut self, number: u32, next: Option<u32>) -> Reply
+        requires { IsMade self.old Owner (Turn number next) }
+        ensures reply { result ≡ reply_to self.old Owner (Turn number next) }
+        ensures after { self.new ≡ after self.old Owner (Turn number next) }
+    {
+        self.words[link_place(number)] = word_at(next);
+        Reply::Turned
+    }
 }
 
 // Whether the step is one of a sender's kinds.
@@ -413,7 +436,13 @@ fn is_senders(step: Step) -> bool
         | Step::Push(_)
         | Step::Back(_, _)
         | Step::Check(_) => true,
-        Step::Take | Step::Close | Step::Walk | Step::Begin | Step::End | Step::Chain(_) => false,
+        Step::Take
+        | Step::Close
+        | Step::Walk
+        | Step::Begin
+        | Step::End
+        | Step::Chain(_)
+        | Step::Turn(_, _) => false,
     }
 }
 
@@ -437,7 +466,18 @@ fn is_numbered(layout: Layout, step: Step) -> bool
         | Step::Back(number, _)
         | Step::Check(number) => number < count,
         Step::Chain(number) => number < layout.items,
+        Step::Turn(number, next) => number < count && is_below(next, count),
         _ => true,
+    }
+}
+
+// Whether the number, where there is one, is below a count.
+fn is_below(number: Option<u32>, count: u32) -> bool
+    ensures { IsTrue result ↔ IfSome number (λ k. k < count) }
+{
+    match number {
+        Some(number) => number < count,
+        None => true,
     }
 }
 

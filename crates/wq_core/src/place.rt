@@ -3,7 +3,7 @@
 ghost use Rattle.std.specs.Prelude.{◌≡◌, ◌≢◌, ◌<◌, ◌≤◌, ◌^◌, get_or, length};
 ghost use Rattle.wq_words.specs.declared.layout.Layout.{Layout};
 ghost use Rattle.wq_words.specs.Numbers.{number_count};
-ghost use Rattle.wq_core.specs.Words.{link_place, item_place, done_place, word_count, closed_word, number_at, head_at};
+ghost use Rattle.wq_core.specs.Words.{link_place, item_place, done_place, word_count, closed_word, number_at, word_at, head_at};
 
 use wq_words::{Head, Layout};
 
@@ -58,6 +58,16 @@ pub fn number_at(word: u64) -> Option<u32>
         Head::Item(number) => Some(number),
         Head::Empty => None,
         Head::Closed => unreachable!(),
+    }
+}
+
+/// The word that links to a number, or to none.
+pub fn word_at(next: Option<u32>) -> u64
+    ensures { result ≡ word_at next }
+{
+    match next {
+        Some(number) => Head::Item(number).to_word(),
+        None => Head::Empty.to_word(),
     }
 }
 

@@ -30,7 +30,7 @@ pub enum Step {
     Take,
     /// Takes the whole list and leaves the closed mark.
     Close,
-    /// Loads the link of the number that is to be walked next.
+    /// Loads the link of the number that is to be walked next, or of the oldest taken number once all is walked.
     Walk,
     /// Clears the PENDING bit of the oldest taken number, which then runs.
     Begin,
@@ -38,6 +38,9 @@ pub enum Step {
     End,
     /// Sets an item's PENDING bit and queues it behind all that waits (chain queueing in `drain_workqueue`).
     Chain(u32),
+    /// Stores the link of a number that was taken and walked and has not begun (`llist_reverse_order`): another number, or
+    /// the end.
+    Turn(u32, Option<u32>),
 }
 
 /// What an enabled step is answered.
@@ -65,7 +68,7 @@ pub enum Reply {
     Took(Head),
     /// To Close: the head that was taken.
     Closed(Head),
-    /// To Walk: the number that is linked behind the one walked, if any.
+    /// To Walk: the number that the link leads to, if any.
     Walked(Option<u32>),
     /// To Begin: the number that runs now.
     Began(u32),
@@ -75,6 +78,8 @@ pub enum Reply {
     Chained,
     /// To Chain: the bit was set.
     ChainBusy,
+    /// To Turn.
+    Turned,
 }
 
 /// Why a step was not made, the first of these that fits. The machine is then as it was.
@@ -83,7 +88,7 @@ pub enum StepError {
     /// The seat is none of the queue's, or the step is not one of its kinds.
     #[error("no step of a seat of the queue")]
     NoSeat,
-    /// The number is none of the queue's, or is chained and no item.
+    /// A number is none of the queue's, or is chained and no item.
     #[error("no number of the queue")]
     NoItem,
     /// The machine does not allow the step as it is.

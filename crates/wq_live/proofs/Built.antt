@@ -1,11 +1,10 @@
 -- The senders and the owner of a new queue.
-use Rattle.std.proofs.Common.{◌≡◌, ℕ, zero, suc, ◌+◌, ◌<◌, ◌≤◌, Bool, true, false, ◌==◌, List, [], ◌∷◌, ◌++◌, length, get_or, None, sym, refl, ap, ◌∙◌, subst, arith, length-append}
+use Rattle.std.proofs.Common.{◌≡◌, ℕ, zero, suc, ◌+◌, ◌<◌, Bool, true, false, ◌==◌, List, [], ◌∷◌, ◌++◌, length, get_or, None, sym, refl, ap, ◌∙◌, subst, arith, length-append}
 use Rattle.std.proofs.Math.ListN.{get_or-append}
 use Rattle.std.proofs.Math.Seq.{get_or-append_seam}
 use Rattle.std.proofs.lemmas.Bool.{eqb-true, eqb-false}
 use Rattle.atomic_table.specs.Seated.{TableId}
 use Rattle.wq_words.specs.declared.layout.Layout.{Layout}
-use Rattle.wq_words.specs.Numbers.{number_count}
 use Rattle.wq_words.specs.Legal.{IsLegal}
 use Rattle.wq_words.proofs.Legal.{legal_nil}
 use Rattle.wq_core.specs.Machine.{opening}
@@ -14,10 +13,13 @@ use Rattle.wq_table.specs.Chair.{Standing, IsSender, owner_chair, sender_chair, 
 use Rattle.wq_live.specs.declared.sender.Sender.TheInside as sender
 use Rattle.wq_live.specs.declared.owner.Owner.TheInside as owner
 use Rattle.wq_words.specs.History.{closed, running}
-use Rattle.wq_table.specs.declared.table.Stage.TheVariants as stage
 use Rattle.wq_words.specs.Seen.{owner_seat}
 use Rattle.wq_live.specs.Known.{new_owner, new_sender, new_senders}
 use Rattle.wq_live.specs.Counts.{sender_counts, owner_counts}
+use Rattle.wq_live.specs.declared.row.Row.{Row}
+use Rattle.wq_live.specs.Row.{IsRowOf}
+use Rattle.wq_table.proofs.Views.{none_stands}
+use Rattle.wq_live.proofs.Linking.{has_row}
 use Rattle.wq_live.specs.Sits.{sender_view, owner_view, Sends, Stands, OwnsQueue}
 
 pub length-sender_chairs : (q : TableId) (l : Layout) (n : ℕ) → length (sender_chairs q l n) ≡ n
@@ -56,21 +58,20 @@ pub stands_new : (l : Layout) (p : Standing) → p ≡ owner_chair p.queue l →
 stands_new l p is = subst (λ (x : Standing). Stands x.part) (sym is) record {
   machine = opening l;
   sound = sound_opening l;
-  fits = record { layout_is = refl; begins = ([], refl); mine = refl; keeps = (refl, refl, refl, refl) };
+  fits = record { layout_is = refl; begins = ([], refl); mine = refl; keeps = (refl, refl, refl, refl); links = λ k there. absurd (none_stands k there) };
   seen_is = refl;
 }
 
 -- the owner of a new queue
-pub executes_new : (s : owner.Inside) → s.chair ≡ owner_chair s.chair.queue s.layout → s.batch.items ≡ [] → s.batch.chained ≡ []
-    → number_count s.layout ≤ s.batch.room
+pub executes_new : (s : owner.Inside) → s.chair ≡ owner_chair s.chair.queue s.layout → s.row ≡ record { front = 0; last = 0; count = 0 }
     → s.running ≡ None → s.closed ≡ false → s.counts ≡ record { chained = 0; chain_busy = 0; ended = 0 } → OwnsQueue s
-executes_new s is batch none room runs shut counts = let seen : s.chair.part.seen ≡ [] = ap (λ (x : Standing). x.part.seen) is in record {
+executes_new s is row runs shut counts = let seen : s.chair.part.seen ≡ [] = ap (λ (x : Standing). x.part.seen) is in record {
   layout_is = ap (λ (x : Standing). x.part.layout) is;
   number_is = ap (λ (x : Standing). x.part.seat) is;
   stands = stands_new s.layout s.chair is;
-  stage_is = ap (λ (x : Standing). x.part.stage) is ∙ ap (stage.Owns None []) (sym batch);
-  room = room;
-  none_chained = λ _. none;
+  has_row =
+      has_row s.chair.part s.row [] (ap (λ (x : Standing). x.part.stage) is)
+      (subst (λ (r : Row). IsRowOf s.chair.part.words r []) (sym row) (record { count_is = refl; spells = tt }));
   running_is = runs ∙ ap running (sym seen);
   closed_is = shut ∙ ap closed (sym seen);
   counts_are = counts ∙ ap owner_counts (sym seen);

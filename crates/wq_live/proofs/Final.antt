@@ -27,7 +27,7 @@ use Rattle.wq_live.specs.declared.owner.Owner.TheInside.{Inside}
 use Rattle.wq_live.specs.Known.{Known}
 use Rattle.wq_live.specs.Answers.{IsFinal}
 use Rattle.wq_live.proofs.OwnerTells.{stands_legal}
-use Rattle.wq_live.specs.Sits.{owner_view, Stands, OwnsQueue}
+use Rattle.wq_live.specs.Sits.{owner_view, Stands, OwnsQueue, kept_batch}
 use Rattle.wq_live.proofs.Taken.{rested_lengths}
 
 -- nothing is accepted, begins or ends by the event
@@ -128,19 +128,23 @@ none_length [] none = refl
 none_length (x ∷ xs) none = absurd (omega arith)
 
 -- an owner that knows its queue closed, with nothing that waits or runs
-pub owner_complete : (s : Inside) (now : Known) → owner_view s ≡ now → OwnsQueue s → s.closed ≡ true → length s.batch.items ≡ 0
-    → is_some s.running ≡ false → IsComplete now.seen
+pub owner_complete : (s : Inside) (now : Known) → owner_view s ≡ now → OwnsQueue s → s.closed ≡ true → s.row.count ≡ 0 → is_some s.running ≡ false
+    → IsComplete now.seen
 owner_complete s now view o shut none idle = let p = s.chair.part in
     subst (λ (v : Known). IsComplete v.seen) view
-    (complete_rested p.layout p.seen s.batch.items (stands_legal p o.stands) (IsClosed_from_closed p.seen (sym o.closed_is ∙ shut))
-    (stands_lengths p s.batch.items o.stands o.stage_is) (none_length s.batch.items none) (running_none p.seen (ap is_some (sym o.running_is) ∙ idle)))
+    (complete_rested p.layout p.seen (kept_batch s.chair.part.stage) (stands_legal p o.stands) (IsClosed_from_closed p.seen (sym o.closed_is ∙ shut))
+    (stands_lengths p (kept_batch s.chair.part.stage) o.stands o.has_row.stage_is)
+    (none_length (kept_batch s.chair.part.stage) (omega (arith, none, o.has_row.row_is.count_is)))
+    (running_none p.seen (ap is_some (sym o.running_is) ∙ idle)))
 
 -- and one that has run to the end knows it
 pub owner_rested : (s : Inside) (now : Known) → owner_view s ≡ now → OwnsQueue s → IsComplete now.seen
-    → (s.closed ≡ true) × (length s.batch.items ≡ 0) × (is_some s.running ≡ false)
+    → (s.closed ≡ true) × (s.row.count ≡ 0) × (is_some s.running ≡ false)
 owner_rested s now view o complete = let p = s.chair.part in let known : IsComplete p.seen = subst (λ (v : Known). IsComplete v.seen) (sym view) complete in
-    let rest = complete_none p.layout p.seen s.batch.items (stands_legal p o.stands) (stands_lengths p s.batch.items o.stands o.stage_is) known in (
+    let rest =
+    complete_none p.layout p.seen (kept_batch s.chair.part.stage) (stands_legal p o.stands)
+    (stands_lengths p (kept_batch s.chair.part.stage) o.stands o.has_row.stage_is) known in (
       o.closed_is ∙ closed_from_IsClosed p.seen known.0,
-      rest.0,
+      omega (arith, rest.0, o.has_row.row_is.count_is),
       is_false (is_some s.running) (λ some. rest.1 (running_some p.seen (running p.seen) refl (ap is_some (sym o.running_is) ∙ some))),
     )

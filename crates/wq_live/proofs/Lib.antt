@@ -4,9 +4,11 @@ pub mod Counting
 pub mod Sends
 pub mod Flushed
 pub mod Waiting
-pub mod Row
+pub mod Rows
 pub mod Owned
 pub mod OwnerTells
+pub mod Linking
+pub mod Hanging
 pub mod Taken
 pub mod Taking
 pub mod Meeting

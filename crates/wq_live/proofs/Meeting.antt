@@ -12,22 +12,23 @@ use Rattle.wq_words.proofs.Prefixes.{prefix_self}
 use Rattle.wq_live.specs.declared.owner.Owner.TheInside.{Inside}
 use Rattle.wq_live.specs.declared.sender.Sender.TheInside as sender
 use Rattle.wq_live.specs.Known.{Known, Sees}
-use Rattle.wq_live.specs.Sits.{owner_view, sender_view, Sends, Stands, OwnsQueue}
+use Rattle.wq_live.specs.Sits.{owner_view, sender_view, Sends, Stands, HasRow, OwnsQueue}
 use Rattle.wq_live.proofs.Tells.{Tells, meet_tells}
 use Rattle.wq_live.proofs.Owned.{running_quiet, closed_quiet, counts_quiet}
 use Rattle.wq_live.proofs.OwnerTells.{owner_grows, owner_sees}
 
-meet_stands : (m : Machine) (p q : Part) → IsSound m → IsPartOf m p → q ≡ part p.seat p.layout m.history p.stage → Stands q
+meet_stands : (m : Machine) (p q : Part) → IsSound m → IsPartOf m p → q ≡ part p.seat p.layout m.history p.words p.stage → Stands q
 meet_stands m p q sound f is = subst Stands (sym is) record {
   machine = m;
   sound = sound;
-  fits = record { layout_is = f.layout_is; begins = prefix_self m.history; mine = refl; keeps = f.keeps };
+  fits = record { layout_is = f.layout_is; begins = prefix_self m.history; mine = refl; keeps = f.keeps; links = f.links };
   seen_is = refl;
 }
 
 module _ (s : Inside) (q : Standing) (m : Machine) (sound : IsSound m) (f : IsPartOf m s.chair.part)
-    (is : q ≡ record { queue = s.chair.queue; part = part s.chair.part.seat s.chair.part.layout m.history s.chair.part.stage }) (executes : OwnsQueue s) where
-  parts : q.part ≡ part s.chair.part.seat s.chair.part.layout m.history s.chair.part.stage
+    (is : q ≡ record { queue = s.chair.queue; part = part s.chair.part.seat s.chair.part.layout m.history s.chair.part.words s.chair.part.stage })
+    (executes : OwnsQueue s) where
+  parts : q.part ≡ part s.chair.part.seat s.chair.part.layout m.history s.chair.part.words s.chair.part.stage
   parts = ap (λ (x : Standing). x.part) is
 
   told : Tells [] s.chair.part q.part
@@ -38,9 +39,7 @@ module _ (s : Inside) (q : Standing) (m : Machine) (sound : IsSound m) (f : IsPa
     layout_is = told.layout_is ∙ executes.layout_is;
     number_is = told.seat_is ∙ executes.number_is;
     stands = meet_stands m s.chair.part q.part sound f parts;
-    stage_is = ap (λ (x : Part). x.stage) parts ∙ executes.stage_is;
-    room = executes.room;
-    none_chained = executes.none_chained;
+    has_row = subst (HasRow s.row) (sym parts) (record { stage_is = executes.has_row.stage_is; row_is = executes.has_row.row_is });
     running_is = executes.running_is ∙ sym (running_quiet [] 0 v w g refl refl);
     closed_is = executes.closed_is ∙ sym (closed_quiet [] 0 v w g refl);
     counts_are = counts_quiet [] 0 v w g refl refl refl s.counts executes.counts_are;

@@ -1,15 +1,15 @@
 -- What the owner's own events say of a history.
-use Rattle.std.proofs.Common.{◌≡◌, ℕ, ◌+◌, Bool, true, false, cond, eqb, List, [], ◌∷◌, ◌++◌, length, Option, Some, None, nat_lt, sym, refl, ap, ◌∙◌, arith, length-append}
-use Rattle.std.specs.Prelude.{count_by, filter_map, slice_get}
+use Rattle.std.proofs.Common.{◌≡◌, ℕ, ◌+◌, true, List, [], ◌∷◌, ◌++◌, length, Some, None, nat_lt, sym, ap, ◌∙◌, arith, length-append, subst}
+use Rattle.std.specs.Prelude.{count_by, slice_get}
 use Rattle.std.proofs.lemmas.List.{append-nil}
 use Rattle.std.proofs.lemmas.List.Elements.{filter_map-append}
 use Rattle.std.proofs.lemmas.Option.{slice_get_past}
 use Rattle.std.proofs.lemmas.Bool.{lt-ltb}
 use Rattle.wq_words.proofs.Growing.{slice_get_last}
 use Rattle.wq_words.specs.declared.event.Event.{Event}
-use Rattle.wq_words.specs.declared.event.Event.TheVariants.{Close, Begin, End, Chain, ChainBusy}
-use Rattle.wq_words.specs.History.{begun, begun_by, ended, ended_by, running, closed, is_close}
-use Rattle.wq_words.specs.Seen.{owner_seat, seat_of, own, Grows}
+use Rattle.wq_words.specs.declared.event.Event.TheVariants.{Close, Begin, End}
+use Rattle.wq_words.specs.History.{begun, begun_by, ended, ended_by, running, closed, is_close, IsRunning}
+use Rattle.wq_words.specs.Seen.{owner_seat, Grows}
 use Rattle.wq_live.specs.declared.counts.OwnerCounts.{OwnerCounts}
 use Rattle.wq_words.specs.Counting.{is_chain, is_chain_busy}
 use Rattle.wq_words.proofs.Counting.{chain_own, chain_busy_own}
@@ -110,6 +110,14 @@ module _ (xs : List Event) (n : ℕ) (v w : List Event) (g : Grows owner_seat xs
             (same_capped old.ended (length (ended v)) (ap (λ (x : OwnerCounts). x.ended) is)) i;
       })
       ∙ counts_on 0 1 0 ca cb cd old is
+
+-- nothing runs where nothing ran before and no own event came
+pub rests_on : (c : ℕ) (v w : List Event) → c ≡ owner_seat → Grows c [] 0 v w → ¬ IsRunning v → ¬ IsRunning w
+rests_on c v w mine grows rests runs =
+    let g : Grows owner_seat [] 0 v w = subst (λ (d : ℕ). Grows d [] 0 v w) mine grows in
+    let bs = ap (λ (xs : List ℕ). length xs) (begun_on [] 0 v w g ∙ append-nil (begun v)) in
+    let es = ap (λ (xs : List ℕ). length xs) (ended_on [] 0 v w g ∙ append-nil (ended v)) in
+    rests (omega (arith, runs, bs, es))
 
 -- what runs once k began, and once what ran has ended
 pub running_begun : (k n : ℕ) (v w : List Event) → Grows owner_seat (Begin k ∷ []) n v w → length (ended v) ≡ length (begun v) → running w ≡ Some k

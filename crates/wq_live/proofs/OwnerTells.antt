@@ -25,7 +25,7 @@ use Rattle.wq_words.proofs.Seen.{own_one, begun_same, ended_same}
 use Rattle.wq_live.specs.declared.owner.Owner.TheInside.{Inside}
 use Rattle.wq_live.specs.Known.{Known, Sees}
 use Rattle.wq_live.specs.Batch.{batch}
-use Rattle.wq_live.specs.Sits.{owner_view, Stands, OwnsQueue, walking}
+use Rattle.wq_live.specs.Sits.{owner_view, Stands, OwnsQueue, kept_batch, walking}
 use Rattle.wq_live.proofs.Tells.{Tells, TellsSo, tells}
 
 pub makes_stands : (step : Step) (word : ℕ) (p q : Part) → Makes step word p q → Stands q
@@ -218,8 +218,9 @@ pub owner_number : (xs : List Event) (n : ℕ) (s t : Inside) → OwnsQueue s �
 owner_number xs n s t executes told = told.seat_is ∙ executes.number_is
 
 -- the batch that the owner keeps is that of what it has seen
-pub owner_batch : (s : Inside) (now : Known) → owner_view s ≡ now → OwnsQueue s → s.batch.items ≡ batch now.seen
-owner_batch s now view executes = stands_batch s.chair.part s.batch.items executes.stands executes.stage_is ∙ ap (λ (v : Known). batch v.seen) view
+pub owner_batch : (s : Inside) (now : Known) → owner_view s ≡ now → OwnsQueue s → kept_batch s.chair.part.stage ≡ batch now.seen
+owner_batch s now view executes =
+    stands_batch s.chair.part (kept_batch s.chair.part.stage) executes.stands executes.has_row.stage_is ∙ ap (λ (v : Known). batch v.seen) view
 
 -- nothing runs, or one does
 pub owner_idle : (p : Part) → Stands p → ¬ IsRunning p.seen → length (ended p.seen) ≡ length (begun p.seen)

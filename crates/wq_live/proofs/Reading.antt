@@ -1,10 +1,6 @@
 -- What the owner's answers say of its history.
-use Rattle.std.proofs.Common.{◌≡◌, ◌≢◌, ℕ, false, true, List, [], ◌∷◌, length, Some, None, slice_get, refl}
-use Rattle.std.proofs.lemmas.Bool.{ltb-true}
-use Rattle.std.specs.Prelude.{count_by}
-use Rattle.std.proofs.lemmas.Option.{slice_get_within}
+use Rattle.std.proofs.Common.{◌≡◌, ◌≢◌, ℕ, List, [], ◌∷◌, Some, None, slice_get, refl}
 use Rattle.wq_words.specs.declared.event.Event.{Event}
-use Rattle.wq_words.specs.History.{begun, ended, IsClosed, is_close, closed, IsRunning, running}
 use Rattle.wq_words.proofs.Closed.{open_from_closed, IsClosed_from_closed}
 use Rattle.wq_words.proofs.Running.{runs_from_running, rests_from_running}
 use Rattle.wq_live.specs.Batch.{batch, next_of}

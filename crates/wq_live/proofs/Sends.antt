@@ -115,16 +115,18 @@ hold_held k false s t sees is = absurd (false≢true is)
 
 -- a sender that another met
 pub meet_sends : (s t : Inside) (m : Machine) → IsSound m → IsPartOf m s.chair.part
-    → t.chair ≡ record { queue = s.chair.queue; part = part s.chair.part.seat s.chair.part.layout m.history s.chair.part.stage } → t.layout ≡ s.layout
+    → t.chair ≡ record { queue = s.chair.queue; part = part s.chair.part.seat s.chair.part.layout m.history s.chair.part.words s.chair.part.stage }
+    → t.layout ≡ s.layout
     → t.number ≡ s.number → t.counts ≡ s.counts → Sends s → Sends t
 meet_sends s t m sound f is layout number counts sends =
-    let parts : t.chair.part ≡ part s.chair.part.seat s.chair.part.layout m.history s.chair.part.stage = ap (λ (x : Standing). x.part) is in
+    let parts : t.chair.part ≡ part s.chair.part.seat s.chair.part.layout m.history s.chair.part.words s.chair.part.stage = ap (λ (x : Standing). x.part) is in
     let told = meet_tells m s.chair.part t.chair.part sound f parts in
     sends_tells s t [] 0 sends layout number told (meet_sender m s.chair.part t.chair.part parts sends.stage)
     (counts ∙ counts_none s.number 0 s.chair.part.seen t.chair.part.seen s.counts sends.counts_are (grows_tells s t (λ z. []) 0 sends told))
 
 pub meet_sees : (s t : Inside) (now : Known) (m : Machine) → IsSound m → IsPartOf m s.chair.part
-    → t.chair ≡ record { queue = s.chair.queue; part = part s.chair.part.seat s.chair.part.layout m.history s.chair.part.stage } → t.layout ≡ s.layout
+    → t.chair ≡ record { queue = s.chair.queue; part = part s.chair.part.seat s.chair.part.layout m.history s.chair.part.words s.chair.part.stage }
+    → t.layout ≡ s.layout
     → t.number ≡ s.number → sender_view s ≡ now → Sends s → Sees [] 0 now (sender_view t)
 meet_sees s t now m sound f is layout number view sends =
     sees_tells s t now (λ z. []) 0 view sends layout number (ap (λ (x : Standing). x.queue) is)

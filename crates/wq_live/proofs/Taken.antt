@@ -15,10 +15,11 @@ use Rattle.wq_words.specs.Listed.{listed}
 use Rattle.wq_words.specs.Legal.{IsLegal}
 use Rattle.wq_words.proofs.Growing.{take_length}
 use Rattle.wq_words.proofs.Legal.{legal_front, legal_next}
-use Rattle.wq_words.proofs.Listed.{taken_closed, taken_push_same, taken_push_push, taken_push_take, is_listed, fresh-open}
 use Rattle.wq_words.proofs.Closed.{closed_from_IsClosed, closed_from_open, closed_push_no}
+use Rattle.wq_words.proofs.Listed.{taken_closed, taken_push_same, taken_push_push, taken_push_take, is_listed, fresh-open}
 use Rattle.wq_core.specs.Machine.{Machine}
-use Rattle.wq_core.specs.Sound.{IsSound, IsChain, word_at}
+use Rattle.wq_core.specs.Words.{word_at}
+use Rattle.wq_core.specs.Sound.{IsSound, IsChain}
 use Rattle.wq_core.proofs.Chains.{chain_zero}
 use Rattle.wq_words.specs.Seen.{owner_seat, own, Grows}
 use Rattle.wq_live.specs.Batch.{batch, TakesAll}

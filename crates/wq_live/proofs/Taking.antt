@@ -1,5 +1,5 @@
 -- What a take or a close and the walk after it leave.
-use Rattle.std.proofs.Common.{◌≡◌, ℕ, ◌+◌, ◌<◌, ◌≤◌, List, [], ◌∷◌, ◌++◌, length, None, refl, ap, ◌∙◌, subst, arith, append_assoc}
+use Rattle.std.proofs.Common.{◌≡◌, ℕ, ◌+◌, ◌<◌, ◌≤◌, List, [], ◌∷◌, ◌++◌, length, None, refl, ap, ◌∙◌, subst, arith, append_assoc, sym}
 use Rattle.std.proofs.lemmas.List.{append-nil}
 use Rattle.wq_words.specs.declared.layout.Layout.{Layout}
 use Rattle.wq_words.specs.declared.event.Event.{Event}
@@ -19,7 +19,7 @@ use Rattle.wq_table.specs.Plays.{Makes}
 use Rattle.wq_live.specs.Batch.{TakesAll}
 use Rattle.wq_live.specs.Sits.{Stands, OnlySees}
 use Rattle.wq_live.proofs.Growing.{grows_on}
-use Rattle.wq_live.proofs.Tells.{Tells, TellsSo, seen_after}
+use Rattle.wq_live.proofs.Tells.{Tells, TellsSo, tells_then, seen_after}
 use Rattle.wq_live.proofs.OwnerTells.{stands_batch, stands_legal, owner_of, after_take, after_close}
 use Rattle.wq_live.proofs.Taken.{rested_lengths, takes_all, closes_all}
 
@@ -62,6 +62,18 @@ module _ (word : ℕ) (p q r : Part) (ks js : List ℕ) (count : ℕ) (mine : p.
       closes_all r.layout m.history follows.grows.new r.seen ks js count (stands_legal r stands) is (none_after makes.seat_is)
       (lengths m makes.sound makes.fits.keeps) (stands_batch r js stands stage') total
 
+-- what was seen without an event of one's own, and a step after it
+pub sees_tells : (p q : Part) → OnlySees p q → Stands q → Tells [] p q
+sees_tells p q follows stands = record {
+  layout_is = follows.layout_is;
+  seat_is = follows.seat_is;
+  grows = follows.grows;
+  legal = subst (λ (l : Layout). IsLegal l q.seen) follows.layout_is (stands_legal q stands);
+}
+
+pub sees_then : (ys : ℕ → List Event) (p q r : Part) → OnlySees p q → Stands q → Tells (ys q.seat) q r → Tells (ys p.seat) p r
+sees_then ys p q r follows stands told = tells_then ys 0 0 p q r (sees_tells p q follows stands) told
+
 -- the step and the walk after it, for the calls
 pub layout_at : (l l' : Layout) (n : ℕ) → l ≡ l' → number_count l ≤ n → number_count l' ≤ n
 layout_at l l' n is less = subst (λ (x : Layout). number_count x ≤ n) is less
@@ -72,6 +84,16 @@ follows_on p q r follows told = record {
   seat_is = told.seat_is ∙ follows.seat_is;
   grows = grows_on p.seat [] [] 0 0 0 p.seen q.seen r.seen (omega arith) follows.grows
       (subst (λ (c : ℕ). Grows c [] 0 q.seen r.seen) follows.seat_is told.grows);
+}
+
+pub follows_none : (p : Part) → OnlySees p p
+follows_none p = record { layout_is = refl; seat_is = refl; grows = record { new = []; is = sym (append-nil p.seen); mine = refl; theirs = omega arith } }
+
+pub sees_on : (p q r : Part) → OnlySees p q → OnlySees q r → OnlySees p r
+sees_on p q r a b = record {
+  layout_is = b.layout_is ∙ a.layout_is;
+  seat_is = b.seat_is ∙ a.seat_is;
+  grows = grows_on p.seat [] [] 0 0 0 p.seen q.seen r.seen (omega arith) a.grows (subst (λ (c : ℕ). Grows c [] 0 q.seen r.seen) a.seat_is b.grows);
 }
 
 -- a queue has few numbers

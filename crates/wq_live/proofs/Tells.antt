@@ -17,7 +17,7 @@ use Rattle.wq_words.proofs.Listed.{fresh-open}
 use Rattle.wq_words.proofs.Closed.{closed_from_open}
 use Rattle.wq_core.specs.declared.step.Private.{Private}
 use Rattle.wq_core.specs.declared.step.Step.{Step}
-use Rattle.wq_core.specs.declared.step.Step.TheVariants.{Hold, Look, Link, Push, Back, Check, Take, Close, Walk, Begin, End, Chain}
+use Rattle.wq_core.specs.declared.step.Step.TheVariants.{Hold, Look, Link, Push, Back, Check, Take, Close, Walk, Begin, End, Chain, Turn}
 use Rattle.wq_core.specs.Machine.{Machine, nothing_seen, private, seen_word, head, item_word, with_head, with_link, with_item, with_private, happened, unlinked, after}
 use Rattle.wq_core.specs.Sound.{IsSound, head_of, head_of_list}
 use Rattle.wq_table.specs.declared.table.Part.{Part}
@@ -94,6 +94,7 @@ sender_after (Sends r) Walk word is = tt
 sender_after (Sends r) Begin word is = tt
 sender_after (Sends r) End word is = tt
 sender_after (Sends r) (Chain k) word is = tt
+sender_after (Sends r) (Turn k _) word is = tt
 sender_after (Owns a b d) step word is = elim is [ ]
 
 pub sender_made : (step : Step) (word : ℕ) (p q : Part) → Makes step word p q → IsSender p.stage → IsSender q.stage
@@ -265,7 +266,7 @@ check_tells k word p q is small makes =
     }
 
 -- what a meeting tells each of the two
-pub meet_tells : (m : Machine) (p q : Part) → IsSound m → IsPartOf m p → q ≡ part p.seat p.layout m.history p.stage → Tells [] p q
+pub meet_tells : (m : Machine) (p q : Part) → IsSound m → IsPartOf m p → q ≡ part p.seat p.layout m.history p.words p.stage → Tells [] p q
 meet_tells m p q sound f is = let seen : q.seen ≡ m.history = ap (λ (x : Part). x.seen) is in record {
   layout_is = ap (λ (x : Part). x.layout) is;
   seat_is = ap (λ (x : Part). x.seat) is;
@@ -273,5 +274,5 @@ meet_tells m p q sound f is = let seen : q.seen ≡ m.history = ap (λ (x : Part
   legal = subst (λ (z : Layout × List Event). IsLegal z.0 z.1) (λ i. (sym f.layout_is i, sym seen i)) sound.legal;
 }
 
-pub meet_sender : (m : Machine) (p q : Part) → q ≡ part p.seat p.layout m.history p.stage → IsSender p.stage → IsSender q.stage
+pub meet_sender : (m : Machine) (p q : Part) → q ≡ part p.seat p.layout m.history p.words p.stage → IsSender p.stage → IsSender q.stage
 meet_sender m p q is sender = subst IsSender (sym (ap (λ (x : Part). x.stage) is)) sender

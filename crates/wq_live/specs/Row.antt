@@ -1,12 +1,23 @@
--- The numbers that wait for the owner, as a clause sees them.
-use Rattle.std.specs.Prelude.{ℕ, List, ◌++◌, reverse, vec_capacity}
-use Rattle.wq_live.specs.declared.batch.Batch.TheInside.{Inside}
+-- What waits for the owner, as the links have it.
+use Rattle.std.specs.Prelude.{◌≡◌, ℕ, ◌+◌, List, [], ◌∷◌, length, get_or}
+use Rattle.wq_core.specs.Words.{link_place}
+use Rattle.wq_live.specs.declared.row.Row.{Row}
 
--- all of them, oldest first; those at the end that were chained; and for how many there is room
-pub record Row : Type 0 where
-  pub items : List ℕ
-  pub chained : List ℕ
-  pub room : ℕ
+-- the link of the number k
+abbrev pub link_in : List ℕ → ℕ → ℕ
+link_in words k = get_or words (link_place k) 0
 
-abbrev pub row_view : Inside → Row
-row_view b = record { items = reverse b.taken.items ++ b.chained.items; chained = b.chained.items; room = vec_capacity b.taken }
+-- from the number k the links lead on to these, one after another, of which this is the last
+abbrev pub LinksOn : List ℕ → ℕ → ℕ → List ℕ → Type 0
+LinksOn words k last [] = last ≡ k
+LinksOn words k last (j ∷ js) = (link_in words k ≡ j + 1) × LinksOn words j last js
+
+-- from the front to the last the links spell these numbers
+abbrev pub Spells : List ℕ → ℕ → ℕ → List ℕ → Type 0
+Spells words front last [] = Unit {0}
+Spells words front last (k ∷ ks) = (front ≡ k) × LinksOn words k last ks
+
+-- the row has these numbers, oldest first
+pub record IsRowOf (words : List ℕ) (row : Row) (ks : List ℕ) : Type 0 where
+  pub count_is : row.count ≡ length ks
+  pub spells : Spells words row.front row.last ks

@@ -1,6 +1,5 @@
 -- A sender's and an owner's fields, as a clause sees them.
-use Rattle.std.specs.Prelude.{◌≡◌, false, ℕ, ◌-◌, ◌≤◌, ◌==◌, if◌then◌else◌, List, [], ◌++◌, Some, None}
-use Rattle.wq_words.specs.Numbers.{number_count}
+use Rattle.std.specs.Prelude.{◌≡◌, ℕ, ◌-◌, ◌==◌, if◌then◌else◌, List, [], ◌∷◌, ◌++◌, Some, None}
 use Rattle.wq_words.specs.History.{closed, running}
 use Rattle.wq_words.specs.Legal.{IsLegal}
 use Rattle.wq_core.specs.Machine.{Machine}
@@ -13,6 +12,8 @@ use Rattle.wq_table.specs.Law.{IsPartOf}
 use Rattle.wq_table.specs.Chair.{IsSender}
 use Rattle.wq_live.specs.declared.sender.Sender.TheInside as sender
 use Rattle.wq_live.specs.declared.owner.Owner.TheInside as owner
+use Rattle.wq_live.specs.declared.row.Row.{Row}
+use Rattle.wq_live.specs.Row.{IsRowOf}
 use Rattle.wq_live.specs.Known.{Known}
 use Rattle.wq_live.specs.Counts.{sender_counts, owner_counts}
 
@@ -37,14 +38,22 @@ pub record Stands (p : Part) : Type 0 where
   pub fits : IsPartOf machine p
   pub seen_is : p.seen ≡ machine.history
 
--- the chair is the owner's, which has walked all that it took, and what is kept beside it is of what it has seen
+-- what the owner keeps as its batch
+abbrev pub kept_batch : Stage → List ℕ
+kept_batch (stage.Sends p) = []
+kept_batch (stage.Owns cursor walked batch) = batch
+
+-- the owner has walked all that it took, and the row has its batch
+pub record HasRow (row : Row) (p : Part) : Type 0 where
+  pub stage_is : p.stage ≡ stage.Owns None [] (kept_batch p.stage)
+  pub row_is : IsRowOf p.words row (kept_batch p.stage)
+
+-- the chair is the owner's, the row has its batch, and what is kept beside it is of what it has seen
 pub record OwnsQueue (s : owner.Inside) : Type 0 where
   pub layout_is : s.chair.part.layout ≡ s.layout
   pub number_is : s.chair.part.seat ≡ owner_seat
   pub stands : Stands s.chair.part
-  pub stage_is : s.chair.part.stage ≡ stage.Owns None [] s.batch.items
-  pub room : number_count s.layout ≤ s.batch.room
-  pub none_chained : s.closed ≡ false → s.batch.chained ≡ []
+  pub has_row : HasRow s.row s.chair.part
   pub running_is : s.running ≡ running s.chair.part.seen
   pub closed_is : s.closed ≡ closed s.chair.part.seen
   pub counts_are : s.counts ≡ owner_counts s.chair.part.seen
@@ -53,11 +62,27 @@ pub record OwnsQueue (s : owner.Inside) : Type 0 where
 abbrev pub walking : ℕ → List ℕ → List ℕ → Stage
 walking word walked batch = if word == 0 then stage.Owns None [] (batch ++ walked) else stage.Owns (Some (word - 1)) walked batch
 
--- what was walked so far stands before the batch; its place is behind it
-pub record Walks (word : ℕ) (old new : List ℕ) (s : Stage) : Type 0 where
-  pub walked : List ℕ
-  pub items : new ≡ walked ++ old
-  pub stage : s ≡ walking word walked old
+-- From p to q what was taken was walked and turned: it stands behind the batch ks, and the row has it. The row of the batch
+-- has it still.
+pub record Turned (ks : List ℕ) (row : Row) (p q : Part) : Type 0 where
+  pub taken : List ℕ
+  pub stage_is : q.stage ≡ stage.Owns None [] (ks ++ taken)
+  pub row_is : IsRowOf q.words row taken
+  pub old_row : (r : Row) → IsRowOf p.words r ks → IsRowOf q.words r ks
+
+-- the batch is what one row has and, behind it, what the other has
+pub record HasBoth (row more : Row) (p : Part) : Type 0 where
+  pub front : List ℕ
+  pub back : List ℕ
+  pub stage_is : p.stage ≡ stage.Owns None [] (front ++ back)
+  pub front_is : IsRowOf p.words row front
+  pub back_is : IsRowOf p.words more back
+
+-- the batch is k and, behind it, what the row has
+pub record HasFirst (k : ℕ) (rest : Row) (p : Part) : Type 0 where
+  pub others : List ℕ
+  pub stage_is : p.stage ≡ stage.Owns None [] (k ∷ others)
+  pub row_is : IsRowOf p.words rest others
 
 -- the same seat has seen more, and made no event
 pub record OnlySees (p q : Part) : Type 0 where

@@ -2,10 +2,10 @@
 #![tactic(auto)]
 
 mod answer;
-mod batch;
 mod counts;
 mod making;
 mod owner;
+mod row;
 mod sender;
 
 pub use answer::Done;

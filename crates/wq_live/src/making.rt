@@ -4,9 +4,9 @@ ghost use Rattle.atomic_table.specs.Seated.{TableId};
 ghost use Rattle.wq_table.specs.Chair.{sender_chairs};
 ghost use Rattle.wq_live.specs.Known.{new_owner, new_senders};
 
-use crate::batch::Batch;
 use crate::counts::{OwnerCounts, SenderCounts};
 use crate::owner::Owner;
+use crate::row::Row;
 use crate::sender::Sender;
 use std::alloc::{AllocError, Global};
 use thiserror::Error;
@@ -58,14 +58,12 @@ fn seat_senders(alloc: Global, layout: Layout, seats: Vec<Chair>) -> Result<Vec<
 pub fn build(alloc: Global, layout: Layout) -> Result<(Owner, Vec<Sender>), BuildError>
     ensures { IfOk result (λ r. (r.0 ≡ new_owner r.0.queue layout) × (r.1.items ≡ new_senders r.0.queue layout layout.senders)) }
 {
-    let count = layout.number_count() as usize;
-    let batch = Batch::with_room(alloc, count)?;
     let (chair, seats) = chairs(alloc, layout)?;
     let senders = seat_senders(alloc, layout, seats)?;
     let owner = Owner {
         chair,
         layout,
-        batch,
+        row: Row::empty(),
         running: None,
         closed: false,
         counts: OwnerCounts {

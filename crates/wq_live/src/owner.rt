@@ -1,19 +1,19 @@
 //! The owner of a queue.
-ghost use Rattle.std.specs.Prelude.{◌≡◌, ◌≢◌, ℕ, ◌<◌, ◌≤◌, ◌↔◌, [], ◌∷◌, Some, None, IsSome, IfSome, length};
+ghost use Rattle.std.specs.Prelude.{◌≡◌, ◌≢◌, ℕ, ◌+◌, ◌<◌, ◌≤◌, ◌↔◌, [], ◌∷◌, Some, None, IsSome, IfSome, length};
 ghost use Rattle.wq_words.specs.declared.event.Event.TheVariants.{Take, Close, Begin, End};
 ghost use Rattle.wq_words.specs.Numbers.{number_count};
 ghost use Rattle.wq_words.specs.History.{IsClosed, closed, IsRunning, running, ended};
 ghost use Rattle.wq_words.specs.Legal.{IsLegal, IsComplete};
-ghost use Rattle.wq_table.specs.declared.table.Stage.TheVariants as stage;
 ghost use Rattle.wq_live.specs.Known.{Sees};
 ghost use Rattle.wq_live.specs.Answers.{Chains, IsFinal};
 ghost use Rattle.wq_live.specs.Batch.{batch, next_of, TakesAll};
 ghost use Rattle.wq_live.specs.Counts.{capped, owner_counts};
-ghost use Rattle.wq_live.specs.Sits.{Stands, OnlySees, Walks, walking};
+ghost use Rattle.wq_live.specs.Row.{IsRowOf};
+ghost use Rattle.wq_live.specs.Sits.{Stands, OnlySees, HasRow, Turned, HasBoth, HasFirst, kept_batch, walking};
 
 use crate::answer::Done;
-use crate::batch::Batch;
 use crate::counts::OwnerCounts;
+use crate::row::Row;
 use std::marker::Model;
 use wq_table::Chair;
 use wq_words::{Answer, Layout};
@@ -24,7 +24,7 @@ use wq_words::{Answer, Layout};
 pub struct Owner {
     pub(crate) chair: Chair,
     pub(crate) layout: Layout,
-    pub(crate) batch: Batch,
+    pub(crate) row: Row,
     pub(crate) running: Option<u32>,
     pub(crate) closed: bool,
     pub(crate) counts: OwnerCounts,
@@ -42,43 +42,90 @@ impl Model for Owner {
     ghost invariant = { OwnsQueue };
 }
 
-// Walks what was taken, from the number of this word on, and puts it before the batch, oldest first.
-fn walk_to_front(chair: &mut Chair, batch: &mut Batch, word: u64)
+// Walks what was taken, from the number of this word on, and turns its links, so that it stands oldest first.
+fn turn_taken(chair: &mut Chair, word: u64) -> Row
     requires stands { Stands chair.old.part }
-    requires stage { chair.old.part.stage ≡ walking word [] batch.old.items }
-    requires room { number_count chair.old.part.layout ≤ batch.old.room }
+    requires stage { chair.old.part.stage ≡ walking word [] (kept_batch chair.old.part.stage) }
     ensures queue { chair.new.queue ≡ chair.old.queue }
     ensures follows { OnlySees chair.old.part chair.new.part }
     ensures stands { Stands chair.new.part }
-    ensures chained { batch.new.chained ≡ batch.old.chained }
-    ensures walks { Walks 0 batch.old.items batch.new.items chair.new.part.stage }
-    ensures room { batch.new.room ≡ batch.old.room }
+    ensures turned { Turned (kept_batch chair.old.part.stage) result chair.old.part chair.new.part }
 {
-    let mut word = word;
+    if word == 0 {
+        return Row::empty();
+    }
+    let last = (word - 1) as u32;
+    let mut row = Row::of_one(last);
+    let mut word = chair.walk(last);
     while word != 0 {
         let number = (word - 1) as u32;
         word = chair.walk(number);
-        batch.put_first(number);
+        chair.turn(number, row.front);
+        row.front = number;
+        row.count += 1;
     }
+    row
 }
 
-// Walks what was taken, from the number of this word on, and puts it behind the batch, oldest first.
-fn walk_all(chair: &mut Chair, batch: &mut Batch, word: u64)
+// Hangs one row behind another, by one link.
+fn hang(chair: &mut Chair, row: Row, more: Row) -> Row
     requires stands { Stands chair.old.part }
-    requires stage { chair.old.part.stage ≡ walking word [] batch.old.items }
-    requires room { number_count chair.old.part.layout ≤ batch.old.room }
-    requires none_chained { batch.old.chained ≡ [] }
+    requires both { HasBoth row more chair.old.part }
     ensures queue { chair.new.queue ≡ chair.old.queue }
     ensures follows { OnlySees chair.old.part chair.new.part }
     ensures stands { Stands chair.new.part }
-    ensures none_chained { batch.new.chained ≡ [] }
-    ensures stage { chair.new.part.stage ≡ stage.Owns None [] batch.new.items }
-    ensures more { length batch.old.items ≤ length batch.new.items }
-    ensures room { batch.new.room ≡ batch.old.room }
+    ensures stage { chair.new.part.stage ≡ chair.old.part.stage }
+    ensures has_row { HasRow result chair.new.part }
+    ensures count { result.count ≡ row.count + more.count }
 {
-    let had = batch.len();
-    walk_to_front(chair, batch, word);
-    batch.turn(had);
+    if more.count == 0 {
+        return row;
+    }
+    if row.count == 0 {
+        return more;
+    }
+    chair.turn(row.last, more.front);
+    Row {
+        front: row.front,
+        last: more.last,
+        count: row.count + more.count,
+    }
+}
+
+// Walks what was taken, from the number of this word on, and hangs it behind what waits.
+fn walk_all(chair: &mut Chair, row: Row, word: u64) -> Row
+    requires stands { Stands chair.old.part }
+    requires stage { chair.old.part.stage ≡ walking word [] (kept_batch chair.old.part.stage) }
+    requires row { IsRowOf chair.old.part.words row (kept_batch chair.old.part.stage) }
+    ensures queue { chair.new.queue ≡ chair.old.queue }
+    ensures follows { OnlySees chair.old.part chair.new.part }
+    ensures stands { Stands chair.new.part }
+    ensures has_row { HasRow result chair.new.part }
+    ensures more { row.count ≤ result.count }
+{
+    let taken = turn_taken(chair, word);
+    hang(chair, row, taken)
+}
+
+// What is left of a row without its first number, whose link is loaded while nobody else can write it.
+fn without_first(chair: &mut Chair, row: Row) -> Row
+    requires stands { Stands chair.old.part }
+    requires has_row { HasRow row chair.old.part }
+    requires some { 0 < row.count }
+    ensures queue { chair.new.queue ≡ chair.old.queue }
+    ensures follows { OnlySees chair.old.part chair.new.part }
+    ensures stands { Stands chair.new.part }
+    ensures first { HasFirst row.front result chair.new.part }
+{
+    if row.count == 1 {
+        return Row::empty();
+    }
+    let word = chair.walk(row.front);
+    Row {
+        front: (word - 1) as u32,
+        last: row.last,
+        count: row.count - 1,
+    }
 }
 
 impl Owner {
@@ -105,8 +152,8 @@ impl Owner {
         ensures takes { TakesAll Take result self.new.seen }
     {
         let word = self.chair.take();
-        walk_all(&mut self.chair, &mut self.batch, word);
-        self.batch.len() as u32
+        self.row = walk_all(&mut self.chair, self.row, word);
+        self.row.count
     }
 
     /// Closes the queue, takes all that stands on the list, and answers how many that is. What a sender queues from now
@@ -116,18 +163,21 @@ impl Owner {
         ensures seen { Sees (Close ∷ []) 0 self.old self.new }
         ensures takes { TakesAll Close result self.new.seen }
     {
-        let had = self.batch.len();
+        let had = self.row.count;
         let word = self.chair.close();
         self.closed = true;
-        walk_all(&mut self.chair, &mut self.batch, word);
-        (self.batch.len() - had) as u32
+        self.row = walk_all(&mut self.chair, self.row, word);
+        self.row.count - had
     }
 
     /// The oldest number that was taken and has not begun.
     pub fn next(&self) -> Option<u32>
         ensures { result ≡ next_of self.now.seen }
     {
-        self.batch.oldest()
+        if self.row.count == 0 {
+            return None;
+        }
+        Some(self.row.front)
     }
 
     /// How many numbers were taken and have not begun.
@@ -135,8 +185,7 @@ impl Owner {
         ensures count { result ≡ length (batch self.now.seen) }
         ensures few { result ≤ number_count self.now.layout }
     {
-        let numbers = &self.batch;
-        numbers.len() as u32
+        self.row.count
     }
 
     /// Begins the execution of `next`, and clears its PENDING bit first, so that it can be queued again while it runs.
@@ -146,9 +195,8 @@ impl Owner {
         ensures next { next_of self.old.seen ≡ Some result }
         ensures seen { Sees (Begin result ∷ []) 0 self.old self.new }
     {
-        let Some(number) = self.batch.pop() else {
-            unreachable!()
-        };
+        let number = self.row.front;
+        self.row = without_first(&mut self.chair, self.row);
         self.chair.begin(number);
         self.running = Some(number);
         number
@@ -176,7 +224,7 @@ impl Owner {
             self.counts.chain_busy = self.counts.chain_busy.saturating_add(1);
             return Answer::Pending;
         }
-        self.batch.chain(item);
+        self.row = hang(&mut self.chair, self.row, Row::of_one(item));
         self.counts.chained = self.counts.chained.saturating_add(1);
         Answer::Queued { first: false }
     }
@@ -201,7 +249,7 @@ impl Owner {
         ensures count { IfSome result (λ done. done.ended ≡ capped (length (ended self.now.seen))) }
         ensures last { IsSome result → IsFinal self.now.layout self.now.seen }
     {
-        if !self.closed || !self.batch.is_empty() || self.running.is_some() {
+        if !self.closed || self.row.count != 0 || self.running.is_some() {
             return None;
         }
         Some(Done {

@@ -36,6 +36,7 @@ reply_text layout (reply.Walked (Some k)) = codes "next" ++ named layout k
 reply_text layout (reply.Began k) = codes "began" ++ named layout k
 reply_text layout (reply.Ended k) = codes "ended" ++ named layout k
 reply_text layout reply.Chained = codes "chained"
+reply_text layout reply.Turned = codes "turned"
 reply_text layout reply.ChainBusy = codes "busy"
 
 abbrev pub cause_text : Why → List ℕ

@@ -56,6 +56,7 @@ fn write_reply(layout: &Layout, reply: Reply, out: &mut String) -> Result<(), Al
         Reply::Began(number) => write_named(layout, "began", number, out),
         Reply::Ended(number) => write_named(layout, "ended", number, out),
         Reply::Chained => out.push_str("chained"),
+        Reply::Turned => out.push_str("turned"),
     }
 }
 

@@ -8,17 +8,18 @@ use Rattle.wq_words.specs.History.{running}
 use Rattle.wq_core.specs.declared.step.Private.{Private}
 use Rattle.wq_core.specs.declared.step.Seat.TheVariants.{Owner}
 use Rattle.wq_core.specs.declared.step.Step.{Step}
-use Rattle.wq_core.specs.declared.step.Step.TheVariants.{Hold, Look, Link, Push, Back, Check, Take, Close, Walk, Begin, End, Chain}
+use Rattle.wq_core.specs.declared.step.Step.TheVariants.{Hold, Look, Link, Push, Back, Check, Take, Close, Walk, Begin, End, Chain, Turn}
 use Rattle.wq_core.specs.Words.{number_at}
-use Rattle.wq_core.specs.Machine.{Machine, nothing_seen, private, seen_word, head, link, item_word, with_item, with_private, happened, unlinked, after_walk, after_begin, after_end, after}
+use Rattle.wq_core.specs.Machine.{Machine, nothing_seen, private, seen_word, head, link, item_word, with_item, with_private, happened, unlinked, after_walk, after_begin, after_end, after, first_of, StandsIn}
 use Rattle.wq_core.specs.Refusal.{IsMade}
 use Rattle.wq_core.specs.Sound.{IsSound}
 use Rattle.wq_table.specs.declared.table.Part.{Part}
 use Rattle.wq_table.specs.declared.table.Stage.{Stage}
 use Rattle.wq_table.specs.declared.table.Stage.TheVariants.{Sends, Owns}
 use Rattle.wq_words.specs.Seen.{owner_seat, seat_of, own}
-use Rattle.wq_table.specs.Law.{seat_at, HasStage, IsPartOf}
-use Rattle.wq_table.specs.Plays.{word_found, stage_after, walked_on, tail_of}
+use Rattle.wq_table.specs.Law.{seat_at, HasStage, IsPartOf, HasLinks}
+use Rattle.wq_core.proofs.Taken.{sender_links}
+use Rattle.wq_table.specs.Plays.{word_found, stage_after, walked_by, tail_of}
 use Rattle.wq_words.proofs.Seen.{own_none, own_same}
 use Rattle.wq_words.proofs.Prefixes.{prefix_append}
 
@@ -90,8 +91,9 @@ module _ (m : Machine) (c : ℕ) (is : c ≡ owner_seat) where
     owner = λ ne. absurd (ne is);
   }
 
-  turned : (cursor : Option ℕ) (walked batch : List ℕ) → Change m (record m { cursor = cursor; walked = walked; batch = batch }) c
-  turned cursor walked batch = record {
+  turned : (words : List ℕ) (cursor : Option ℕ) (walked batch : List ℕ)
+      → Change m (record m { words = words; cursor = cursor; walked = walked; batch = batch }) c
+  turned words cursor walked batch = record {
     layout_is = refl;
     new = [];
     history_is = sym (append-nil m.history);
@@ -102,8 +104,8 @@ module _ (m : Machine) (c : ℕ) (is : c ≡ owner_seat) where
 
   change_walk : (cursor : Option ℕ) → Change m (after_walk m cursor) c
   change_walk None = unchanged m c
-  change_walk (Some k) = change_either m _ _ c (link m k == 0) (turned None [] (m.batch ++ k ∷ m.walked))
-      (turned (number_at (link m k)) (k ∷ m.walked) m.batch)
+  change_walk (Some k) = change_either m _ _ c (link m k == 0) (turned m.words None [] (m.batch ++ k ∷ m.walked))
+      (turned m.words (number_at (link m k)) (k ∷ m.walked) m.batch)
 
   change_begin : (batch : List ℕ) → Change m (after_begin m batch) c
   change_begin [] = unchanged m c
@@ -130,6 +132,7 @@ changes m c (Owns cursor walked batch) End keeps = change_end m c keeps.0 (runni
 changes m c (Owns cursor walked batch) (Chain k) keeps =
     change_either m _ _ c (item_word m k == 0) (did m c keeps.0 _ m.cursor m.walked _ (event.Chain k) refl)
     (did m c keeps.0 m.words m.cursor m.walked m.batch (event.ChainBusy k) refl)
+changes m c (Owns cursor walked batch) (Turn k next) keeps = turned m c keeps.0 _ m.cursor m.walked m.batch
 changes m c (Owns cursor walked batch) _ keeps = unchanged m c
 
 keeps_other : (m n : Machine) (c d : ℕ) (stage : Stage) → Change m n c → d ≢ c → HasStage m d stage → HasStage n d stage
@@ -137,23 +140,44 @@ keeps_other m n c d (Sends p) change ne keeps = (omega (arith, ap (λ (l : Layou
 keeps_other m n c d (Owns cursor walked batch) change ne keeps =
     let same = change.owner (λ e. ne (keeps.0 ∙ sym e)) in (keeps.0, same.0 ∙ keeps.1, same.1 ∙ keeps.2, same.2 ∙ keeps.3)
 
+-- the links that a seat knows, once another has made its step
+links_other : (m n : Machine) (c d : ℕ) (stage : Stage) (words : List ℕ)
+    → (c ≢ owner_seat → (k : ℕ) → StandsIn m.walked m.batch k → link n k ≡ link m k) → d ≢ c → HasStage m d stage → HasLinks m words stage
+    → HasLinks n words stage
+links_other m n c d (Sends p) words spared ne keeps links = tt
+links_other m n c d (Owns cursor walked batch) words spared ne keeps links = λ k there.
+    spared (λ e. ne (keeps.0 ∙ sym e)) k (subst (λ (z : List ℕ × List ℕ). StandsIn z.0 z.1 k) (λ i. (sym keeps.2 i, sym keeps.3 i)) there) ∙ links k there
+
+-- the owner knows the links of the words themselves
+pub links_known : (m : Machine) (stage : Stage) → HasLinks m m.words stage
+links_known m (Sends p) = tt
+links_known m (Owns cursor walked batch) = λ k there. refl
+
+-- a step leaves the links of what the owner took and has not begun, where it is a sender's
+pub links_spared : (m : Machine) (c : ℕ) (stage : Stage) (step : Step) → IsSound m → HasStage m c stage → IsMade m (seat_at c stage) step → c ≢ owner_seat
+    → (k : ℕ) → StandsIn m.walked m.batch k → link (after m (seat_at c stage) step) k ≡ link m k
+links_spared m c (Sends p) step sound keeps made ne k stands = sender_links m sound k stands c step made
+links_spared m c (Owns cursor walked batch) step sound keeps made ne k stands = absurd (ne keeps.0)
+
 -- the part of another seat still fits
-pub fits_other : (m n : Machine) (c : ℕ) (q : Part) → Change m n c → q.seat ≢ c → IsPartOf m q → IsPartOf n q
-fits_other m n c q change ne fits = record {
+pub fits_other : (m n : Machine) (c : ℕ) (q : Part) → Change m n c → (c ≢ owner_seat → (k : ℕ) → StandsIn m.walked m.batch k → link n k ≡ link m k)
+    → q.seat ≢ c → IsPartOf m q → IsPartOf n q
+fits_other m n c q change spared ne fits = record {
   layout_is = fits.layout_is ∙ sym change.layout_is;
   begins = rw change.history_is (prefix_append q.seen m.history change.new fits.begins);
   mine = ap (own q.seat) change.history_is ∙ (own_same q.seat m.history change.new (change.by q.seat ne) ∙ fits.mine);
   keeps = keeps_other m n c q.seat q.stage change ne fits.keeps;
+  links = links_other m n c q.seat q.stage q.words spared ne fits.keeps fits.links;
 }
 
 keeps_either : (x y : Machine) (c : ℕ) (b : Bool) (stage : Stage) → HasStage x c stage → HasStage y c stage → HasStage (if b then x else y) c stage
 keeps_either x y c true stage p q = p
 keeps_either x y c false stage p q = q
 
-keeps_walk : (m : Machine) (c : ℕ) (cursor : Option ℕ) → c ≡ owner_seat → cursor ≢ None
-    → HasStage (after_walk m cursor) c (walked_on (unwrap_or cursor 0) m.walked m.batch (link m (unwrap_or cursor 0)))
-keeps_walk m c None is some = absurd (some refl)
-keeps_walk m c (Some k) is some = go (link m k == 0)
+keeps_walk : (m : Machine) (c : ℕ) (cursor : Option ℕ) → c ≡ owner_seat → m.cursor ≡ cursor
+    → HasStage (after_walk m cursor) c (walked_by cursor m.walked m.batch (link m (unwrap_or cursor (first_of m.batch))))
+keeps_walk m c None is at = (is, at, refl, refl)
+keeps_walk m c (Some k) is at = go (link m k == 0)
   where
     go : (b : Bool)
         → HasStage
@@ -205,7 +229,7 @@ keeps_after m c (Owns cursor walked batch) Take sound keeps made = (keeps.0, ref
 keeps_after m c (Owns cursor walked batch) Close sound keeps made = (keeps.0, refl, keeps.2, keeps.3)
 keeps_after m c (Owns cursor walked batch) Walk sound keeps made =
     subst (λ (st : Stage). HasStage (after m Owner Walk) c (stage_after st Walk (word_found m c Walk))) (own_again m c cursor walked batch keeps)
-    (keeps_walk m c m.cursor keeps.0 made.1)
+    (keeps_walk m c m.cursor keeps.0 refl)
 keeps_after m c (Owns cursor walked batch) Begin sound keeps made =
     subst (λ (st : Stage). HasStage (after m Owner Begin) c (stage_after st Begin (word_found m c Begin))) (own_again m c cursor walked batch keeps)
     (keeps_begin m c m.batch keeps.0 made.1.1)
@@ -215,4 +239,5 @@ keeps_after m c (Owns cursor walked batch) End sound keeps made =
 keeps_after m c (Owns cursor walked batch) (Chain k) sound keeps made =
     subst (λ (st : Stage). HasStage (after m Owner (Chain k)) c (stage_after st (Chain k) (word_found m c (Chain k))))
     (own_again m c cursor walked batch keeps) (keeps_chain m c k (item_word m k == 0) keeps.0)
+keeps_after m c (Owns cursor walked batch) (Turn k next) sound keeps made = keeps
 keeps_after m c (Owns cursor walked batch) _ sound keeps made = absurd made.1

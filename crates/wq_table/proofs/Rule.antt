@@ -6,15 +6,16 @@ use Rattle.atomic_table.specs.Table.{State, keeps, Allows}
 use Rattle.atomic_table.proofs.Lists.{at_set}
 use Rattle.wq_words.specs.declared.layout.Layout.{Layout}
 use Rattle.wq_core.specs.declared.step.Step.{Step}
-use Rattle.wq_core.specs.Machine.{Machine, after}
+use Rattle.wq_core.specs.Machine.{Machine, link, after, StandsIn}
 use Rattle.wq_core.specs.Refusal.{IsMade}
 use Rattle.wq_core.specs.Sound.{IsSound}
 use Rattle.wq_table.specs.declared.table.Part.{Part}
+use Rattle.wq_words.specs.Seen.{owner_seat}
 use Rattle.wq_table.specs.Law.{View, part, seat_at, IsPartOf, ArePartsAt, Kept}
 use Rattle.wq_table.specs.Plays.{Sat, word_found, stage_after, Performs, MakesAlone}
 use Rattle.wq_core.proofs.Schedules.{sound_after}
 use Rattle.wq_words.proofs.Prefixes.{prefix_self}
-use Rattle.wq_table.proofs.Changes.{Change, changes, fits_other, keeps_after}
+use Rattle.wq_table.proofs.Changes.{Change, changes, fits_other, keeps_after, links_known, links_spared}
 
 abbrev Table : Type 0
 Table = State (Unit {0}) View
@@ -23,14 +24,16 @@ abbrev Carried : Type 0
 Carried = List (ℕ × Unit {0})
 
 -- the parts of another view still fit
-all_other : (m n : Machine) (who : ℕ → ℕ) (c i j : ℕ) (v : View) → Change m n c → who c ≡ i → j ≢ i → ArePartsAt m who j v → ArePartsAt n who j v
-all_other m n who c i j [] change here away all = tt
-all_other m n who c i j (q ∷ qs) change here away all =
-    (fits_other m n c q change (λ e. away (sym all.1 ∙ (ap who e ∙ here))) all.0, all.1, all.2, all_other m n who c i j qs change here away all.3)
+all_other : (m n : Machine) (who : ℕ → ℕ) (c i j : ℕ) (v : View) → Change m n c
+    → (c ≢ owner_seat → (k : ℕ) → StandsIn m.walked m.batch k → link n k ≡ link m k) → who c ≡ i → j ≢ i → ArePartsAt m who j v → ArePartsAt n who j v
+all_other m n who c i j [] change spared here away all = tt
+all_other m n who c i j (q ∷ qs) change spared here away all =
+    (fits_other m n c q change spared (λ e. away (sym all.1 ∙ (ap who e ∙ here))) all.0, all.1, all.2, all_other m n who c i j qs change spared here away all.3)
 
 -- the part after the step
 abbrev pub next_part : Machine → Part → Step → Part
-next_part m p step = part p.seat p.layout (after m (seat_at p.seat p.stage) step).history (stage_after p.stage step (word_found m p.seat step))
+next_part m p step = part p.seat p.layout (after m (seat_at p.seat p.stage) step).history (after m (seat_at p.seat p.stage) step).words
+    (stage_after p.stage step (word_found m p.seat step))
 
 next_fits : (m : Machine) (p : Part) (step : Step) → IsSound m → IsPartOf m p → IsMade m (seat_at p.seat p.stage) step
     → IsPartOf (after m (seat_at p.seat p.stage) step) (next_part m p step)
@@ -39,6 +42,7 @@ next_fits m p step sound fits made = record {
   begins = prefix_self (after m (seat_at p.seat p.stage) step).history;
   mine = refl;
   keeps = keeps_after m p.seat p.stage step sound fits.keeps made;
+  links = links_known (after m (seat_at p.seat p.stage) step) (stage_after p.stage step (word_found m p.seat step));
 }
 
 module _ (layout : Layout) (slots id : ℕ) (p : Part) (cs : Carried) (σ : Layout → Step) (i : ℕ) (f g : ℕ → ℕ) (performs : Performs p (σ p.layout) i f g) where
@@ -50,7 +54,8 @@ module _ (layout : Layout) (slots id : ℕ) (p : Part) (cs : Carried) (σ : Layo
       let found : g (get_or s.words i 0) ≡ word_found m p.seat (σ p.layout) = ap (λ (ws : List ℕ). g (get_or ws i 0)) r.words_are ∙
       performs.finds m r.sound fits in
       let q = next_part m p (σ p.layout) in let q_fits = next_fits m p (σ p.layout) r.sound fits made in
-      let change = changes m p.seat p.stage (σ p.layout) fits.keeps in (
+      let change = changes m p.seat p.stage (σ p.layout) fits.keeps in
+      let spared = links_spared m p.seat p.stage (σ p.layout) r.sound fits.keeps made in (
         q ∷ [],
         keeps,
         tt,
@@ -62,7 +67,7 @@ module _ (layout : Layout) (slots id : ℕ) (p : Part) (cs : Carried) (σ : Layo
           words_are = ap (λ (ws : List ℕ). set ws i (f (get_or ws i 0))) r.words_are ∙ sym (performs.writes m r.sound fits);
           seats = λ j v there. ⊎_elim
               (λ (t : (j ≡ id) × (q ∷ [] ≡ v)). subst (λ (z : ℕ × View). ArePartsAt next r.who z.0 z.1) (λ k. (sym t.0 k, t.1 k)) (q_fits, here, tt, tt))
-              (λ (t : (j ≢ id) × (get_elem? s.views j ≡ some v)). all_other m next r.who p.seat id j v change here t.0 (r.seats j v t.1))
+              (λ (t : (j ≢ id) × (get_elem? s.views j ≡ some v)). all_other m next r.who p.seat id j v change spared here t.0 (r.seats j v t.1))
               (at_set s.views id j (q ∷ []) v there);
         },
         record {
@@ -80,6 +85,7 @@ module _ (layout : Layout) (slots id : ℕ) (p : Part) (cs : Carried) (σ : Layo
             fits_after = q_fits;
             seat_is = refl;
             seen_is = refl;
+            words_are = refl;
             stage_is = ap (stage_after p.stage (σ p.layout)) (sym found);
           };
         },

@@ -1,5 +1,5 @@
 -- Each kind of step: the seat that makes it may, and its word becomes what the table's operation makes of it.
-use Rattle.std.proofs.Common.{◌≡◌, ◌≢◌, ℕ, ◌+◌, ◌-◌, ◌%◌, ◌^◌, ◌<◌, Bool, true, false, ◌==◌, eqb, if◌then◌else◌, List, [], ◌∷◌, ◌++◌, length, get_or, set, Option, Some, None, unwrap_or, sym, refl, ap, ◌∙◌, subst, arith}
+use Rattle.std.proofs.Common.{◌≡◌, ◌≢◌, ℕ, ◌+◌, ◌-◌, ◌%◌, ◌^◌, ◌<◌, Bool, true, false, ◌==◌, eqb, if◌then◌else◌, List, [], ◌∷◌, ◌++◌, length, get_or, set, Option, Some, None, unwrap_or, sym, refl, ap, ◌∙◌, subst, arith, inl, inr}
 use Rattle.std.specs.Prelude.{bit_or, bit_and}
 use Rattle.std.proofs.lemmas.Bool.{eqb-false, eqb-true}
 use Rattle.std.proofs.lemmas.Option.{slice_get-get_or}
@@ -16,16 +16,16 @@ use Rattle.wq_words.specs.History.{begun, ended, Holds, IsClosed, IsRunning, run
 use Rattle.wq_core.specs.declared.step.Private.{Private}
 use Rattle.wq_core.specs.declared.step.Seat.TheVariants.{Sender}
 use Rattle.wq_core.specs.declared.step.Step.{Step}
-use Rattle.wq_core.specs.declared.step.Step.TheVariants.{Hold, Look, Link, Push, Back, Check, Take, Close, Walk, Begin, End, Chain}
+use Rattle.wq_core.specs.declared.step.Step.TheVariants.{Hold, Look, Link, Push, Back, Check, Take, Close, Walk, Begin, End, Chain, Turn}
 use Rattle.wq_core.specs.Words.{link_place, item_place, done_place, closed_word, number_at}
-use Rattle.wq_core.specs.Machine.{Machine, seen_word, head, link, item_word, after_walk, after_begin, after_end, after}
+use Rattle.wq_core.specs.Machine.{Machine, seen_word, head, link, item_word, after_walk, after_begin, after_end, after, first_of, StandsIn}
 use Rattle.wq_core.specs.Sound.{IsSound}
 use Rattle.wq_table.specs.declared.table.Part.{Part}
 use Rattle.wq_table.specs.declared.table.Stage.{Stage}
 use Rattle.wq_table.specs.declared.table.Stage.TheVariants.{Sends, Owns}
 use Rattle.wq_table.specs.Law.{part}
 use Rattle.wq_table.specs.Plays.{Performs, item_at}
-use Rattle.wq_table.specs.Chair.{IsSender, HasSeen, HasLinked, IsOwner, IsRested, HasNone, IsToWalk, IsToBegin}
+use Rattle.wq_table.specs.Chair.{IsSender, HasSeen, HasLinked, IsOwner, IsRested, HasNone, IsToWalk, IsToTurn, IsToBegin}
 use Rattle.wq_words.proofs.Running.{runs_some}
 use Rattle.wq_words.proofs.Seen.{held_same, closed_same, running_same}
 
@@ -88,9 +88,9 @@ linked p step i k f g at performs = let back : k ≡ i - link_place 0 = sym (num
 pub number_pushed : (word k : ℕ) → word ≡ head_word (Item k) → word - 1 ≡ k
 number_pushed word k is = omega arith
 
-module _ (c : ℕ) (layout : Layout) (seen : List Event) where
+module _ (c : ℕ) (layout : Layout) (seen : List Event) (words : List ℕ) where
   pub performs_hold : (k : ℕ) (stage : Stage) → IsSender stage → k < number_count layout
-      → Performs (part c layout seen stage) (Hold k) (item_place (number_count layout) k) (λ n. bit_or n 1) (λ n. n)
+      → Performs (part c layout seen words stage) (Hold k) (item_place (number_count layout) k) (λ n. bit_or n 1) (λ n. n)
   performs_hold k (Sends p) sender number = record {
     made = λ m sound fits. (((fits.keeps.0, refl), rw (← fits.layout_is) number), tt);
     writes = λ m sound fits. rw fits.layout_is
@@ -99,7 +99,7 @@ module _ (c : ℕ) (layout : Layout) (seen : List Event) where
   }
   performs_hold k (Owns cursor walked batch) sender number = absurd sender
 
-  pub performs_look : (stage : Stage) → IsSender stage → Performs (part c layout seen stage) Look 0 (λ n. n) (λ n. n)
+  pub performs_look : (stage : Stage) → IsSender stage → Performs (part c layout seen words stage) Look 0 (λ n. n) (λ n. n)
   performs_look (Sends p) sender = record {
     made = λ m sound fits. (((fits.keeps.0, refl), tt), tt);
     writes = λ m sound fits. loads m.words 0;
@@ -108,7 +108,7 @@ module _ (c : ℕ) (layout : Layout) (seen : List Event) where
   performs_look (Owns cursor walked batch) sender = absurd sender
 
   pub performs_check : (k : ℕ) (stage : Stage) → IsSender stage → k < number_count layout
-      → Performs (part c layout seen stage) (Check k) (item_place (number_count layout) k) (λ n. n) (λ n. n)
+      → Performs (part c layout seen words stage) (Check k) (item_place (number_count layout) k) (λ n. n) (λ n. n)
   performs_check k (Sends p) sender number = record {
     made = λ m sound fits. (((fits.keeps.0, refl), rw (← fits.layout_is) number), tt);
     writes = λ m sound fits. loads m.words _;
@@ -117,7 +117,7 @@ module _ (c : ℕ) (layout : Layout) (seen : List Event) where
   performs_check k (Owns cursor walked batch) sender number = absurd sender
 
   pub performs_link : (k w : ℕ) (stage : Stage) → k < number_count layout → Holds seen c k → HasSeen w stage → w ≢ closed_word
-      → Performs (part c layout seen stage) (Link k) (link_place k) (λ n. w) (λ n. w)
+      → Performs (part c layout seen words stage) (Link k) (link_place k) (λ n. w) (λ n. w)
   performs_link k w (Sends p) number holds is unclosed = record {
     made = λ m sound fits. (
       ((fits.keeps.0, refl), rw (← fits.layout_is) number),
@@ -134,7 +134,7 @@ module _ (c : ℕ) (layout : Layout) (seen : List Event) where
   performs_link k w (Owns cursor walked batch) number holds is unclosed = absurd is
 
   pub performs_push : (k w : ℕ) (stage : Stage) → k < number_count layout → HasLinked w k stage
-      → Performs (part c layout seen stage) (Push k) 0 (λ n. either (eqb n w) (k + 1) n) (λ n. n)
+      → Performs (part c layout seen words stage) (Push k) 0 (λ n. either (eqb n w) (k + 1) n) (λ n. n)
   performs_push k w (Sends p) number is = record {
     made = λ m sound fits. (((fits.keeps.0, refl), rw (← fits.layout_is) number), ap (λ (p : Private). p.linked) fits.keeps.1 ∙ is.1);
     writes = λ m sound fits.
@@ -147,7 +147,7 @@ module _ (c : ℕ) (layout : Layout) (seen : List Event) where
 
   pub performs_back : (k : ℕ) (why : Why) (stage : Stage) → IsSender stage → k < number_count layout → Holds seen c k
       → (why ≡ Closed → HasSeen closed_word stage)
-      → Performs (part c layout seen stage) (Back k why) (item_place (number_count layout) k) (λ n. bit_and n 0) (λ n. n)
+      → Performs (part c layout seen words stage) (Back k why) (item_place (number_count layout) k) (λ n. bit_and n 0) (λ n. n)
   performs_back k why (Sends p) sender number holds sees = record {
     made = λ m sound fits. (
       ((fits.keeps.0, refl), rw (← fits.layout_is) number),
@@ -160,7 +160,7 @@ module _ (c : ℕ) (layout : Layout) (seen : List Event) where
   }
   performs_back k why (Owns cursor walked batch) sender number holds sees = absurd sender
 
-  pub performs_take : (stage : Stage) → ¬ IsClosed seen → IsRested stage → HasNone stage → Performs (part c layout seen stage) Take 0 (λ n. 0) (λ n. n)
+  pub performs_take : (stage : Stage) → ¬ IsClosed seen → IsRested stage → HasNone stage → Performs (part c layout seen words stage) Take 0 (λ n. 0) (λ n. n)
   performs_take (Sends p) unclosed rested none = absurd rested
   performs_take (Owns cursor walked batch) unclosed rested none = record {
     made = λ m sound fits. (
@@ -175,7 +175,7 @@ module _ (c : ℕ) (layout : Layout) (seen : List Event) where
     finds = λ m sound fits. refl;
   }
 
-  pub performs_close : (stage : Stage) → ¬ IsClosed seen → IsRested stage → Performs (part c layout seen stage) Close 0 (λ n. closed_word) (λ n. n)
+  pub performs_close : (stage : Stage) → ¬ IsClosed seen → IsRested stage → Performs (part c layout seen words stage) Close 0 (λ n. closed_word) (λ n. n)
   performs_close (Sends p) unclosed rested = absurd rested
   performs_close (Owns cursor walked batch) unclosed rested = record {
     made = λ m sound fits. (
@@ -202,16 +202,34 @@ module _ (c : ℕ) (layout : Layout) (seen : List Event) where
       go true = refl
       go false = refl
 
-  pub performs_walk : (k : ℕ) (stage : Stage) → IsToWalk k stage → Performs (part c layout seen stage) Walk (link_place k) (λ n. n) (λ n. n)
+  pub performs_walk : (k : ℕ) (stage : Stage) → IsToWalk k stage → Performs (part c layout seen words stage) Walk (link_place k) (λ n. n) (λ n. n)
   performs_walk k (Sends p) is = absurd is
-  performs_walk k (Owns cursor walked batch) is = record {
-    made = λ m sound fits. ((refl, tt), λ e. absurd (cc (e, fits.keeps.1, is)));
+  performs_walk k (Owns (Some j) walked batch) is = record {
+    made = λ m sound fits. ((refl, tt), inl (λ e. absurd (cc (e, fits.keeps.1))));
     writes = λ m sound fits. walk_words m m.cursor ∙ loads m.words _;
-    finds = λ m sound fits. ap (λ (o : Option ℕ). link m (unwrap_or o 0)) (sym (fits.keeps.1 ∙ is));
+    finds = λ m sound fits. ap (λ (o : Option ℕ). link m (unwrap_or o (first_of m.batch))) (sym (fits.keeps.1 ∙ ap Some is));
+  }
+  performs_walk k (Owns None walked []) is = absurd is
+  performs_walk k (Owns None walked (j ∷ js)) is = record {
+    made = λ m sound fits. ((refl, tt), inr (λ e. absurd (cc (e, fits.keeps.3))));
+    writes = λ m sound fits. walk_words m m.cursor ∙ loads m.words _;
+    finds = λ m sound fits. sym (rw (fits.keeps.1, fits.keeps.3, is) refl);
+  }
+
+  pub performs_turn : (k j : ℕ) (stage : Stage) → k < number_count layout → j < number_count layout → IsToTurn k stage
+      → Performs (part c layout seen words stage) (Turn k (Some j)) (link_place k) (λ n. j + 1) (λ n. j + 1)
+  performs_turn k j (Sends p) number next is = absurd is
+  performs_turn k j (Owns cursor walked batch) number next is = record {
+    made = λ m sound fits. (
+      (refl, (rw (← fits.layout_is) number, rw (← fits.layout_is) next)),
+      subst (λ (z : List ℕ × List ℕ). StandsIn z.0 z.1 k) (λ i. (sym fits.keeps.2 i, sym fits.keeps.3 i)) is,
+    );
+    writes = λ m sound fits. refl;
+    finds = λ m sound fits. refl;
   }
 
   pub performs_begin : (k : ℕ) (stage : Stage) → k < number_count layout → IsToBegin k stage → ¬ IsRunning seen
-      → Performs (part c layout seen stage) Begin (item_place (number_count layout) k) (λ n. bit_and n 0) (λ n. n)
+      → Performs (part c layout seen words stage) Begin (item_place (number_count layout) k) (λ n. bit_and n 0) (λ n. n)
   performs_begin k (Sends p) number is rests = absurd is
   performs_begin k (Owns cursor walked []) number is rests = absurd is
   performs_begin k (Owns cursor walked (j ∷ js)) number is rests = record {
@@ -229,7 +247,7 @@ module _ (c : ℕ) (layout : Layout) (seen : List Event) where
   }
 
   pub performs_end : (stage : Stage) → IsOwner stage → IsRunning seen
-      → Performs (part c layout seen stage) End (done_place (number_count layout)) (λ n. (n + 1) % 2 ^ 64) (λ n. n)
+      → Performs (part c layout seen words stage) End (done_place (number_count layout)) (λ n. (n + 1) % 2 ^ 64) (λ n. n)
   performs_end (Sends p) owner runs = absurd owner
   performs_end (Owns cursor walked batch) owner runs = record {
     made = λ m sound fits. ((refl, tt), running_same seen m.history (rw (← fits.keeps.0) fits.mine) runs);
@@ -240,7 +258,7 @@ module _ (c : ℕ) (layout : Layout) (seen : List Event) where
   }
 
   pub performs_chain : (k : ℕ) (stage : Stage) → k < layout.items → IsClosed seen → IsRested stage → IsRunning seen
-      → Performs (part c layout seen stage) (Chain k) (item_place (number_count layout) k) (λ n. bit_or n 1) (λ n. n)
+      → Performs (part c layout seen words stage) (Chain k) (item_place (number_count layout) k) (λ n. bit_or n 1) (λ n. n)
   performs_chain k (Sends p) item closed rested runs = absurd rested
   performs_chain k (Owns cursor walked batch) item closed rested runs = record {
     made = λ m sound fits. (

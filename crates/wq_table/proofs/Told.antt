@@ -50,7 +50,7 @@ item_in s it i k sits is at = at ∙ ap (λ (n : ℕ). item_place n k) (numbered
 
 -- what a seat has seen after it met another
 abbrev pub seen_all : Machine → Part → Part
-seen_all m p = part p.seat p.layout m.history p.stage
+seen_all m p = part p.seat p.layout m.history p.words p.stage
 
 -- two seats are joined, look, and are cut again
 pub met : (this that this' that' : Standing) (l k : Layout) (me other both sees mine theirs : Sat) (mine_views their_views : List View)

@@ -8,7 +8,7 @@ use Rattle.atomic_table.proofs.Lists.{at_set, set_else}
 use Rattle.wq_words.specs.declared.layout.Layout.{Layout}
 use Rattle.wq_words.specs.Numbers.{number_count}
 use Rattle.wq_core.specs.Words.{word_count}
-use Rattle.wq_core.specs.Machine.{Machine, nothing_seen, opening as opening_machine}
+use Rattle.wq_core.specs.Machine.{Machine, nothing_seen, opening as opening_machine, StandsIn}
 use Rattle.wq_words.specs.Seen.{owner_seat}
 use Rattle.wq_table.specs.Law.{View, IsPartOf, Apart, ArePartsAt, Kept, sender_part, owner_part, row, opening_view, front_of, rest_of}
 use Rattle.wq_table.specs.Plays.{Sat, all_see, AllOf, meets}
@@ -113,7 +113,7 @@ module _ (m : Machine) where
   fit_all : (who : ℕ → ℕ) (i : ℕ) (v : View) → ArePartsAt m who i v → ArePartsAt m who i (all_see m.history v)
   fit_all who i [] all = tt
   fit_all who i (p ∷ ps) all = let fits : IsPartOf m p = all.0 in (
-    record { layout_is = fits.layout_is; begins = prefix_self m.history; mine = refl; keeps = fits.keeps },
+    record { layout_is = fits.layout_is; begins = prefix_self m.history; mine = refl; keeps = fits.keeps; links = fits.links },
     all.1,
     apart_all p.seat ps all.2,
     fit_all who i ps all.3,
@@ -151,10 +151,20 @@ private_opening (suc n) zero = refl
 private_opening (suc n) (suc s) = private_opening n s
 
 opening_sender : (l : Layout) (c : ℕ) → c < l.senders → IsPartOf (opening_machine l) (sender_part l c)
-opening_sender l c below = record { layout_is = refl; begins = prefix_self []; mine = refl; keeps = (below, private_opening l.senders c) }
+opening_sender l c below = record { layout_is = refl; begins = prefix_self []; mine = refl; keeps = (below, private_opening l.senders c); links = tt }
+
+-- nothing stands in two empty lists
+pub none_stands : (k : ℕ) → StandsIn [] [] k → ⊥
+none_stands k = ⊎_elim (λ there. let lt = there.1 in omega arith) (λ there. let lt = there.1 in omega arith)
 
 opening_owner : (l : Layout) → IsPartOf (opening_machine l) (owner_part l)
-opening_owner l = record { layout_is = refl; begins = prefix_self []; mine = refl; keeps = (refl, refl, refl, refl) }
+opening_owner l = record {
+  layout_is = refl;
+  begins = prefix_self [];
+  mine = refl;
+  keeps = (refl, refl, refl, refl);
+  links = λ k there. absurd (none_stands k there);
+}
 
 row_fits : (l : Layout) (a m : ℕ) → a + m ≤ l.senders → ArePartsAt (opening_machine l) (λ _. 0) 0 (row l a m)
 row_fits l a zero small = (opening_owner l, refl, tt, tt)

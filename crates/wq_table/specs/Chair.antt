@@ -3,7 +3,7 @@ use Rattle.std.specs.Prelude.{◌≡◌, ℕ, zero, suc, List, [], ◌∷◌, �
 use Rattle.atomic_table.specs.Seated.{TableId}
 use Rattle.wq_words.specs.declared.layout.Layout.{Layout}
 use Rattle.wq_core.specs.declared.step.Step.{Step}
-use Rattle.wq_core.specs.Machine.{Machine}
+use Rattle.wq_core.specs.Machine.{Machine, StandsIn}
 use Rattle.wq_core.specs.Sound.{IsSound}
 use Rattle.wq_table.specs.declared.table.Part.{Part}
 use Rattle.wq_table.specs.declared.table.Stage.{Stage}
@@ -46,10 +46,17 @@ abbrev pub HasNone : Stage → Type 0
 HasNone (Sends p) = ⊥
 HasNone (Owns cursor walked batch) = batch ≡ []
 
--- the owner walks k next
+-- the owner walks k next, or has walked all that it took and k is the oldest number of its batch
 abbrev pub IsToWalk : ℕ → Stage → Type 0
 IsToWalk k (Sends p) = ⊥
-IsToWalk k (Owns cursor walked batch) = cursor ≡ Some k
+IsToWalk k (Owns (Some j) walked batch) = j ≡ k
+IsToWalk k (Owns None walked []) = ⊥
+IsToWalk k (Owns None walked (j ∷ js)) = j ≡ k
+
+-- the owner walked k, or k waits in its batch
+abbrev pub IsToTurn : ℕ → Stage → Type 0
+IsToTurn k (Sends p) = ⊥
+IsToTurn k (Owns cursor walked batch) = StandsIn walked batch k
 
 -- the owner has walked all that it took, and k is the oldest number of its batch
 abbrev pub IsToBegin : ℕ → Stage → Type 0
@@ -64,7 +71,7 @@ pub record Steps (step : Step) (word : ℕ) (old new : Standing) : Type 0 where
 
 -- a seat that has seen all that has happened, and keeps what it kept
 abbrev pub seeing : Machine → Standing → Standing
-seeing m it = record { queue = it.queue; part = part it.part.seat it.part.layout m.history it.part.stage }
+seeing m it = record { queue = it.queue; part = part it.part.seat it.part.layout m.history it.part.words it.part.stage }
 
 -- both have seen all that has happened
 pub record Meet (this that this' that' : Standing) : Type 0 where

@@ -1,5 +1,5 @@
 -- The rule of the table, and how its views are cut.
-use Rattle.std.specs.Prelude.{◌≡◌, ◌≢◌, ℕ, zero, suc, ◌+◌, ◌<◌, List, [], ◌∷◌, None}
+use Rattle.std.specs.Prelude.{◌≡◌, ◌≢◌, ℕ, zero, suc, ◌+◌, ◌<◌, List, [], ◌∷◌, get_or, None}
 use mathlib.Core.Option.{some}
 use mathlib.Core.List.{IsPrefix}
 use lib.ListN.{get_elem?}
@@ -8,7 +8,8 @@ use Rattle.wq_words.specs.declared.layout.Layout.{Layout}
 use Rattle.wq_words.specs.declared.event.Event.{Event}
 use Rattle.wq_core.specs.declared.step.Seat.{Seat}
 use Rattle.wq_core.specs.declared.step.Seat.TheVariants.{Sender, Owner}
-use Rattle.wq_core.specs.Machine.{Machine, nothing_seen, private}
+use Rattle.wq_core.specs.Words.{link_place}
+use Rattle.wq_core.specs.Machine.{Machine, nothing_seen, private, link, StandsIn}
 use Rattle.wq_core.specs.Sound.{IsSound}
 use Rattle.wq_table.specs.declared.table.Part.{Part}
 use Rattle.wq_table.specs.declared.table.Stage.{Stage}
@@ -19,8 +20,8 @@ use Rattle.wq_words.specs.Seen.{owner_seat, own}
 abbrev pub View : Type 0
 View = List Part
 
-abbrev pub part : ℕ → Layout → List Event → Stage → Part
-part c layout seen stage = record { seat = c; layout = layout; seen = seen; stage = stage }
+abbrev pub part : ℕ → Layout → List Event → List ℕ → Stage → Part
+part c layout seen words stage = record { seat = c; layout = layout; seen = seen; words = words; stage = stage }
 
 -- the seat of the machine that the part is of
 abbrev pub seat_at : ℕ → Stage → Seat
@@ -32,12 +33,19 @@ abbrev pub HasStage : Machine → ℕ → Stage → Type 0
 HasStage m c (Sends p) = (c < m.layout.senders) × (private m c ≡ p)
 HasStage m c (Owns cursor walked batch) = (c ≡ owner_seat) × (m.cursor ≡ cursor) × (m.walked ≡ walked) × (m.batch ≡ batch)
 
--- the part is of a seat of the machine: what it has seen begins the history, with all the events of that seat
+-- each number that the owner walked or that waits in its batch has the link that it has in these words
+abbrev pub HasLinks : Machine → List ℕ → Stage → Type 0
+HasLinks m words (Sends p) = Unit {0}
+HasLinks m words (Owns cursor walked batch) = (k : ℕ) → StandsIn walked batch k → link m k ≡ get_or words (link_place k) 0
+
+-- The part is of a seat of the machine: what it has seen begins the history, with all the events of that seat. What the
+-- owner took and has not begun is linked as its last step left it.
 pub record IsPartOf (m : Machine) (p : Part) : Type 0 where
   pub layout_is : p.layout ≡ m.layout
   pub begins : IsPrefix p.seen m.history
   pub mine : own p.seat m.history ≡ own p.seat p.seen
   pub keeps : HasStage m p.seat p.stage
+  pub links : HasLinks m p.words p.stage
 
 -- none of the view's parts is of this seat
 abbrev pub Apart : ℕ → View → Type 0
@@ -59,10 +67,10 @@ pub record Kept (layout : Layout) (s : State (Unit {0}) View) : Type 0 where
   pub seats : (i : ℕ) (v : View) → get_elem? s.views i ≡ some v → ArePartsAt machine who i v
 
 abbrev pub sender_part : Layout → ℕ → Part
-sender_part layout c = part c layout [] (Sends nothing_seen)
+sender_part layout c = part c layout [] [] (Sends nothing_seen)
 
 abbrev pub owner_part : Layout → Part
-owner_part layout = part owner_seat layout [] (Owns None [] [])
+owner_part layout = part owner_seat layout [] [] (Owns None [] [])
 
 -- the senders c, c + 1 .. of m, and the owner
 abbrev pub row : Layout → ℕ → ℕ → View

@@ -1,14 +1,14 @@
 -- What a step tells the seat that makes it: the machine was sound just before, the seat was of it, and has now seen all that has happened.
-use Rattle.std.specs.Prelude.{◌≡◌, ℕ, ◌-◌, ◌==◌, if◌then◌else◌, List, [], ◌∷◌, ◌++◌, get_or, set, Some, None, unwrap_or}
+use Rattle.std.specs.Prelude.{◌≡◌, ℕ, ◌-◌, ◌==◌, if◌then◌else◌, List, [], ◌∷◌, ◌++◌, get_or, set, Option, Some, None}
 use Rattle.atomic_table.specs.Table.{Me, Step as TableStep}
 use Rattle.wq_words.specs.declared.layout.Layout.{Layout}
 use Rattle.wq_words.specs.Numbers.{number_count}
 use Rattle.wq_words.specs.declared.event.Why.TheVariants.{Closed, Contended, Cancelled}
 use Rattle.wq_words.specs.declared.event.Event.{Event}
 use Rattle.wq_core.specs.declared.step.Step.{Step}
-use Rattle.wq_core.specs.declared.step.Step.TheVariants.{Hold, Look, Link, Push, Back, Check, Take, Close, Walk, Begin, End, Chain}
-use Rattle.wq_core.specs.Words.{link_place, item_place, number_at}
-use Rattle.wq_core.specs.Machine.{Machine, nothing_seen, unlinked, head, link, item_word, done_word, seen_word, first_of, after}
+use Rattle.wq_core.specs.declared.step.Step.TheVariants.{Hold, Look, Link, Push, Back, Check, Take, Close, Walk, Begin, End, Chain, Turn}
+use Rattle.wq_core.specs.Words.{link_place, item_place, number_at, word_at}
+use Rattle.wq_core.specs.Machine.{Machine, nothing_seen, unlinked, head, link, item_word, done_word, seen_word, first_of, walk_number, after}
 use Rattle.wq_core.specs.Refusal.{IsMade}
 use Rattle.wq_core.specs.Sound.{IsSound}
 use Rattle.wq_table.specs.declared.table.Part.{Part}
@@ -29,10 +29,11 @@ word_found m c (Back k why) = item_word m k
 word_found m c (Check k) = item_word m k
 word_found m c Take = head m
 word_found m c Close = head m
-word_found m c Walk = link m (unwrap_or m.cursor 0)
+word_found m c Walk = link m (walk_number m)
 word_found m c Begin = item_word m (first_of m.batch)
 word_found m c End = done_word m
 word_found m c (Chain k) = item_word m k
+word_found m c (Turn k next) = word_at next
 
 abbrev pub tail_of : List ℕ → List ℕ
 tail_of [] = []
@@ -41,6 +42,11 @@ tail_of (k ∷ ks) = ks
 -- the owner walked k, and found this link
 abbrev pub walked_on : ℕ → List ℕ → List ℕ → ℕ → Stage
 walked_on k walked batch word = if word == 0 then Owns None [] (batch ++ k ∷ walked) else Owns (number_at word) (k ∷ walked) batch
+
+-- the owner found this link of the number that it was to walk, or, having walked all, of the oldest of its batch
+abbrev pub walked_by : Option ℕ → List ℕ → List ℕ → ℕ → Stage
+walked_by None walked batch word = Owns None walked batch
+walked_by (Some k) walked batch word = walked_on k walked batch word
 
 -- what the seat keeps after a step that found this word
 abbrev pub stage_after : Stage → Step → ℕ → Stage
@@ -51,7 +57,7 @@ stage_after (Sends p) (Back k why) word = Sends (unlinked p k)
 stage_after (Sends p) _ word = Sends p
 stage_after (Owns cursor walked batch) Take word = Owns (number_at word) walked batch
 stage_after (Owns cursor walked batch) Close word = Owns (number_at word) walked batch
-stage_after (Owns cursor walked batch) Walk word = walked_on (unwrap_or cursor 0) walked batch word
+stage_after (Owns cursor walked batch) Walk word = walked_by cursor walked batch word
 stage_after (Owns cursor walked batch) Begin word = Owns cursor walked (tail_of batch)
 stage_after (Owns cursor walked batch) (Chain k) word = Owns cursor walked (if word == 0 then batch ++ k ∷ [] else batch)
 stage_after (Owns cursor walked batch) _ word = Owns cursor walked batch
@@ -66,6 +72,7 @@ pub record Makes (step : Step) (word : ℕ) (p q : Part) : Type 0 where
   pub fits_after : IsPartOf (after before (seat_at p.seat p.stage) step) q
   pub seat_is : q.seat ≡ p.seat
   pub seen_is : q.seen ≡ (after before (seat_at p.seat p.stage) step).history
+  pub words_are : q.words ≡ (after before (seat_at p.seat p.stage) step).words
   pub stage_is : q.stage ≡ stage_after p.stage step word
 
 -- Whatever machine the part is of, the step is made, makes f of its word, which has the place i, and finds g of it
@@ -86,12 +93,16 @@ pub record MakesAlone (step : Layout → Step) (me : Sat) (word : ℕ) (me' : Sa
 abbrev pub Told : Type 1
 Told = TableStep (Unit {0}) → Sat → ℕ → Sat → Type 0
 
--- the step of a seat that an operation is, by the place of its word and, where it is exchanged, the new word
+-- the step of a seat that an operation is, by the place of its word and, where it is stored or exchanged, the new word
 abbrev pub Kind : Type 0
 Kind = ℕ → ℕ → Layout → Step
 
 abbrev pub tells : Kind → Told
 tells kind s = MakesAlone (kind s.word s.second)
+
+-- a store has its new word elsewhere
+abbrev pub stores : Kind → Told
+stores kind s = MakesAlone (kind s.word s.first)
 
 -- the number whose item word has this place
 abbrev pub item_at : ℕ → Layout → ℕ
@@ -130,6 +141,9 @@ closes i new layout = Close
 abbrev pub walks : Kind
 walks i new layout = Walk
 
+abbrev pub turns : Kind
+turns i new layout = Turn (i - link_place 0) (Some (new - 1))
+
 abbrev pub begins : Kind
 begins i new layout = Begin
 
@@ -142,7 +156,7 @@ chains i new layout = Chain (item_at i layout)
 -- each part has seen h
 abbrev pub all_see : List Event → View → View
 all_see h [] = []
-all_see h (p ∷ ps) = part p.seat p.layout h p.stage ∷ all_see h ps
+all_see h (p ∷ ps) = part p.seat p.layout h p.words p.stage ∷ all_see h ps
 
 abbrev pub AllOf : Machine → View → Type 0
 AllOf m [] = Unit {0}

@@ -7,12 +7,12 @@ ghost use Rattle.wq_words.specs.Numbers.{number_count};
 ghost use Rattle.wq_words.specs.declared.event.Why.TheVariants.{Closed, Contended, Cancelled};
 ghost use Rattle.wq_words.specs.History.{Holds, IsClosed, IsRunning};
 ghost use Rattle.wq_core.specs.Words.{word_count, closed_word};
-ghost use Rattle.wq_core.specs.declared.step.Step.TheVariants.{Hold, Look, Link, Push, Back, Check, Take, Close, Walk, Begin, End, Chain};
-ghost use Rattle.wq_table.specs.Chair.{IsSender, HasSeen, HasLinked, HasNone, IsOwner, IsToWalk, IsToBegin, IsRested, Steps, Meet, MeetAll};
+ghost use Rattle.wq_core.specs.declared.step.Step.TheVariants.{Hold, Look, Link, Push, Back, Check, Take, Close, Walk, Begin, End, Chain, Turn};
+ghost use Rattle.wq_table.specs.Chair.{IsSender, HasSeen, HasLinked, HasNone, IsOwner, IsToWalk, IsToTurn, IsToBegin, IsRested, Steps, Meet, MeetAll};
 
 use super::table::{
     Begins, Both, Cancels, Chains, Checks, Closes, Ends, FindsClosed, GivesUp, Kind, Links, Looks,
-    Makes, Marks, Meets, Off, Part, Pushes, Seated, Takes, Walks, Words,
+    Makes, Marks, Meets, Off, Part, Pushes, Seated, Stores, Takes, Turns, Walks, Words,
 };
 use atomic_table::Badge;
 use std::collections::LinkedList;
@@ -67,11 +67,11 @@ impl Chair {
 
     fn store<K: Kind>(&mut self, place: usize, new: u64)
         requires place { place < word_count (number_count self.old.part.layout) }
-        requires performs { Performs self.old.part (K.step place 0 self.old.part.layout) place (λ n. new) (λ n. new) }
-        ensures { Steps (K.step place 0 self.old.part.layout) new self.old self.new }
+        requires performs { Performs self.old.part (K.step place new self.old.part.layout) place (λ n. new) (λ n. new) }
+        ensures { Steps (K.step place new self.old.part.layout) new self.old self.new }
     {
         let mut seat = rise(&mut self.badge);
-        self.words.shared.store::<Makes<K>>(&mut seat, place, new);
+        self.words.shared.store::<Stores<K>>(&mut seat, place, new);
         self.badge = seat.into_badge();
     }
 
@@ -248,7 +248,7 @@ impl Chair {
         self.swap::<Closes>(HEAD, word)
     }
 
-    /// The owner loads the link of the number that it walks next.
+    /// The owner loads the link of the number that it walks next, or of the oldest number of its batch once it has walked all.
     pub fn walk(&mut self, number: u32) -> u64
         requires number { number < number_count self.old.part.layout }
         requires next { IsToWalk number self.old.part.stage }
@@ -256,6 +256,18 @@ impl Chair {
     {
         let place = link_place(number);
         self.load::<Walks>(place)
+    }
+
+    /// The owner stores a number as the link of one that it walked or that waits in its batch.
+    pub fn turn(&mut self, number: u32, next: u32)
+        requires number { number < number_count self.old.part.layout }
+        requires next { next < number_count self.old.part.layout }
+        requires taken { IsToTurn number self.old.part.stage }
+        ensures { Steps (Turn number (Some next)) (next + 1) self.old self.new }
+    {
+        let place = link_place(number);
+        let word = Head::Item(next).to_word();
+        self.store::<Turns>(place, word);
     }
 
     /// The owner clears the PENDING bit of the oldest number of its batch, which then runs.

@@ -6,12 +6,13 @@ use std::marker::PhantomData;
 use wq_core::Private;
 use wq_words::{Event, Layout};
 
-/// What a seat of a queue knows: its number, the layout, the history that it has seen, and what it keeps in private. No
-/// value of it is made.
+/// What a seat of a queue knows: its number, the layout, the history that it has seen, the words as its last step left
+/// them, and what it keeps in private. No value of it is made.
 pub struct Part {
     pub seat: u64,
     pub layout: Layout,
     pub seen: LinkedList<Event>,
+    pub words: LinkedList<u64>,
     pub stage: Stage,
 }
 
@@ -23,8 +24,9 @@ pub enum Stage {
     Owns(Option<u32>, LinkedList<u32>, LinkedList<u32>),
 }
 
-/// The rule: the words and the private parts of all seats are a sound state of the machine, and each seat has seen a
-/// beginning of its history, with all its own events.
+/// The rule: the words and the private parts of all seats are a sound state of the machine, each seat has seen a
+/// beginning of its history, with all its own events, and the links of what the owner took and has not begun are as the
+/// owner left them.
 pub struct Law;
 
 impl TableRule<(), LinkedList<Part>, Layout> for Law {
@@ -55,6 +57,17 @@ impl<K: Kind> Play<(), LinkedList<Part>> for Makes<K> {
     ghost use Rattle.wq_table.specs.Plays.{tells};
 
     ghost then = { tells K.step };
+}
+
+// The same of a store, where the new word says which step it is.
+pub(crate) struct Stores<K> {
+    of: PhantomData<K>,
+}
+
+impl<K: Kind> Play<(), LinkedList<Part>> for Stores<K> {
+    ghost use Rattle.wq_table.specs.Plays.{stores};
+
+    ghost then = { stores K.step };
 }
 
 pub(crate) struct Marks;
@@ -143,6 +156,14 @@ impl Kind for Walks {
     ghost use Rattle.wq_table.specs.Plays.{walks};
 
     ghost step = { walks };
+}
+
+pub(crate) struct Turns;
+
+impl Kind for Turns {
+    ghost use Rattle.wq_table.specs.Plays.{turns};
+
+    ghost step = { turns };
 }
 
 pub(crate) struct Begins;

@@ -1,7 +1,7 @@
 use std::test::Fail;
 use wq_core::Reply::{
     Began, Busy, ChainBusy, Chained, Closed, Ended, GivenBack, Held, Idle, Linked, Looked, Lost,
-    Pending, Pushed, Took, Walked,
+    Pending, Pushed, Took, Turned, Walked,
 };
 use wq_core::Step::{Back, Begin, Chain, Check, Close, End, Hold, Link, Look, Push, Take, Walk};
 use wq_core::{
@@ -188,6 +188,50 @@ fn not_enabled(rt: HostRuntime) -> Result<(), Fail> {
     Ok(())
 }
 
+/// Links of a batch are turned only between the walk of a number and its begin, and a walk over a batch loads the link of
+/// its first number.
+#[test]
+fn turned_links(rt: HostRuntime) -> Result<(), Fail> {
+    let layout = Layout::new(4, 1, 2)?;
+    let refused = Err(StepError::NotEnabled);
+    let row = [
+        (S0, Hold(0), Ok(Held)),
+        (S0, Look, Ok(Looked(Head::Empty))),
+        (S0, Link(0), Ok(Linked)),
+        (S0, Push(0), Ok(Pushed { first: true })),
+        (S0, Hold(1), Ok(Held)),
+        (S0, Look, Ok(Looked(Head::Item(0)))),
+        (S0, Link(1), Ok(Linked)),
+        (O, Step::Turn(1, None), refused),
+        (S0, Push(1), Ok(Pushed { first: false })),
+        (O, Step::Turn(1, None), refused),
+        (O, Take, Ok(Took(Head::Item(1)))),
+        (O, Step::Turn(1, None), refused),
+        (O, Walk, Ok(Walked(Some(0)))),
+        (O, Step::Turn(1, None), Ok(Turned)),
+        (O, Step::Turn(0, Some(1)), refused),
+        (O, Walk, Ok(Walked(None))),
+        (O, Step::Turn(0, Some(1)), Ok(Turned)),
+        (O, Walk, Ok(Walked(Some(1)))),
+        (O, Step::Turn(0, Some(5)), Ok(Turned)),
+        (O, Walk, Ok(Walked(Some(5)))),
+        (O, Begin, Ok(Began(0))),
+        (O, Step::Turn(0, None), refused),
+        (O, End, Ok(Ended(0))),
+        (O, Walk, Ok(Walked(None))),
+        (O, Begin, Ok(Began(1))),
+        (O, Walk, refused),
+    ];
+    let mut core = Core::new(rt.alloc(), layout)?;
+    for (seat, step, answer) in row {
+        assert_eq!(rt; core.step(seat, step), answer, "{step:?}");
+        assert_eq!(rt; check_history(&layout, core.history()), Ok(()), "{step:?}");
+    }
+    assert_eq!(rt; &core.accepted()?[..], [0u32, 1].as_slice());
+    assert_eq!(rt; &core.begun()?[..], [0u32, 1].as_slice());
+    Ok(())
+}
+
 /// Each refusal, the first that fits, of a queue of 4 items, 1 barrier and 2 senders: 4 is the barrier, 5 the stop item.
 #[test]
 fn refusals(rt: HostRuntime) -> Result<(), Fail> {
@@ -202,6 +246,10 @@ fn refusals(rt: HostRuntime) -> Result<(), Fail> {
         (S1, Hold(6), StepError::NoItem),
         (S0, Push(6), StepError::NoItem),
         (O, Chain(4), StepError::NoItem),
+        (S0, Step::Turn(0, None), StepError::NoSeat),
+        (O, Step::Turn(6, None), StepError::NoItem),
+        (O, Step::Turn(0, Some(6)), StepError::NoItem),
+        (O, Step::Turn(0, Some(5)), StepError::NotEnabled),
         (S0, Link(5), StepError::NotEnabled),
         (S0, Push(0), StepError::NotEnabled),
         (S0, Back(0, Why::Cancelled), StepError::NotEnabled),

@@ -12,7 +12,7 @@ use Rattle.wq_core.specs.declared.step.Step.TheVariants as step
 use Rattle.wq_text.specs.declared.fault.Kind.{Kind}
 use Rattle.wq_text.specs.declared.turn.Action.{Action}
 use Rattle.wq_text.specs.declared.turn.Action.TheVariants as action
-use Rattle.wq_text.specs.Arguments.{sender, item, barrier, no_word, one_word, one}
+use Rattle.wq_text.specs.Arguments.{sender, item, barrier, no_word, one_word, two_words, one}
 use Rattle.wq_text.specs.Fault.{◌>>=◌, of_none, of_one, of_two}
 use Rattle.wq_text.specs.Line.{Grammar, Lines, line_gives}
 use Rattle.wq_text.specs.Word.{other_words}
@@ -34,6 +34,10 @@ barrier_or_item l w None = item l w
 unfoldable pub number_of_queue : Layout → List ℕ → Result ℕ Kind
 number_of_queue l w = if bytes_eq w (codes "stop") then Ok (stop_number l) else barrier_or_item l w (after_b w)
 
+-- where a link leads: to a number of the queue, or to none
+unfoldable pub link_of : Layout → List ℕ → Result (Option ℕ) Kind
+link_of l w = if bytes_eq w (codes "end") then Ok None else of_one Some (number_of_queue l w)
+
 -- the steps of the owner, those of a sender, and the causes of giving back
 unfoldable pub owners_action : List ℕ → Option Action
 owners_action w =
@@ -43,6 +47,7 @@ owners_action w =
     else if bytes_eq w (codes "begin") then Some action.Begin
     else if bytes_eq w (codes "end") then Some action.End
     else if bytes_eq w (codes "chain") then Some action.Chain
+    else if bytes_eq w (codes "turn") then Some action.Turn
     else None
 
 unfoldable pub cause_at : List ℕ → Option Why
@@ -85,6 +90,14 @@ seat_and_number l w ws = do
   k ← number_of_queue l v
   Ok (s, k)
 
+-- a number of the queue and where its link leads, word by word from the left
+abbrev pub number_and_link : Layout → List (List ℕ) → Result (ℕ × Option ℕ) Kind
+number_and_link l ws = do
+  w ← two_words ws
+  k ← number_of_queue l w.0
+  next ← link_of l w.1
+  Ok (k, next)
+
 abbrev pub without_last : List (List ℕ) → List (List ℕ)
 without_last ws = take (length ws - 1) ws
 
@@ -102,6 +115,7 @@ turn_gives l action.Walk w ws = of_none (seat.Owner, step.Walk) (no_word ws)
 turn_gives l action.Begin w ws = of_none (seat.Owner, step.Begin) (no_word ws)
 turn_gives l action.End w ws = of_none (seat.Owner, step.End) (no_word ws)
 turn_gives l action.Chain w ws = of_one (λ k. (seat.Owner, step.Chain k)) (one (item l) ws)
+turn_gives l action.Turn w ws = of_two (λ k next. (seat.Owner, step.Turn k next)) (number_and_link l ws)
 
 abbrev pub schedule_grammar : Grammar Action Turn
 schedule_grammar = record { version = codes "steps 1"; most_senders = 64; names = action_at; asks = λ l a w ws. turn_gives l a w (other_words ws) }

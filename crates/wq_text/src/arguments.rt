@@ -90,7 +90,7 @@ pub(crate) fn one_word<'a>(words: &[&'a str]) -> Result<&'a str, LineError>
     }
 }
 
-fn two_words<'a>(words: &[&'a str]) -> Result<(&'a str, &'a str), LineError>
+pub(crate) fn two_words<'a>(words: &[&'a str]) -> Result<(&'a str, &'a str), LineError>
     ensures { LineGivesAs (λ w. (w.0.now, w.1.now)) result (two_words (map (λ w. w.now) words.now)) }
 {
     match words {

@@ -1,13 +1,13 @@
 //! The steps of a schedule, as words.
-ghost use Rattle.std.specs.Prelude.{◌≡◌, ◌<◌, map, MatchOption, IfOk};
+ghost use Rattle.std.specs.Prelude.{◌≡◌, ◌<◌, map, MatchOption, IfOk, IfSome};
 ghost use Rattle.wq_words.specs.Numbers.{number_count};
 ghost use Rattle.wq_text.specs.Fault.{LineGives, of_none};
 ghost use Rattle.wq_text.specs.Word.{other_words};
-ghost use Rattle.wq_text.specs.Turn.{after_b, number_of_queue, owners_action, senders_action, cause_at, action_at, seat_alone, seat_and_number, without_last, turn_gives};
+ghost use Rattle.wq_text.specs.Turn.{after_b, number_of_queue, link_of, owners_action, senders_action, cause_at, action_at, seat_alone, seat_and_number, number_and_link, without_last, turn_gives};
 ghost use Rattle.wq_text.specs.Turns.{PlacedIn};
 ghost use Rattle.wq_text.specs.Arguments.{no_word};
 
-use crate::arguments::{barrier, item, no_word, one_word, sender};
+use crate::arguments::{barrier, item, no_word, one_word, sender, two_words};
 use crate::fault::LineError;
 use wq_core::{Seat, Step};
 use wq_words::{Layout, Why};
@@ -27,6 +27,7 @@ pub(crate) enum Action {
     Begin,
     End,
     Chain,
+    Turn,
 }
 
 fn digits_of_barrier(word: &str) -> Option<&str>
@@ -61,6 +62,7 @@ fn owners_action(word: &str) -> Option<Action>
         "begin" => Some(Action::Begin),
         "end" => Some(Action::End),
         "chain" => Some(Action::Chain),
+        "turn" => Some(Action::Turn),
         _ => None,
     }
 }
@@ -108,6 +110,28 @@ fn seat_and_number(layout: Layout, first: &str, words: &[&str]) -> Result<(u32, 
     let sender = sender(layout, first)?;
     let number = number_of_queue(layout, word)?;
     Ok((sender, number))
+}
+
+// Where a link leads: to a number of the queue, or to none.
+#[tactic(auto, unfolding(crate::specs::Turn::link_of))]
+fn link_of(layout: Layout, word: &str) -> Result<Option<u32>, LineError>
+    ensures exact { LineGives result (link_of layout word.now) }
+    ensures within { IfOk result (λ next. IfSome next (λ k. k < number_count layout)) }
+{
+    if word == "end" {
+        return Ok(None);
+    }
+    Ok(Some(number_of_queue(layout, word)?))
+}
+
+fn number_and_link(layout: Layout, words: &[&str]) -> Result<(u32, Option<u32>), LineError>
+    ensures exact { LineGives result (number_and_link layout (map (λ w. w.now) words.now)) }
+    ensures within { IfOk result (λ n. (n.0 < number_count layout) × IfSome n.1 (λ k. k < number_count layout)) }
+{
+    let (word, next_word) = two_words(words)?;
+    let number = number_of_queue(layout, word)?;
+    let next = link_of(layout, next_word)?;
+    Ok((number, next))
 }
 
 // An owner's step with no further words.
@@ -160,6 +184,10 @@ pub(crate) fn turn(
         Action::Begin => owners_turn(Step::Begin, words),
         Action::End => owners_turn(Step::End, words),
         Action::Chain => Ok((Seat::Owner, Step::Chain(item(layout, one_word(words)?)?))),
+        Action::Turn => {
+            let (number, next) = number_and_link(layout, words)?;
+            Ok((Seat::Owner, Step::Turn(number, next)))
+        }
     }
 }
 

@@ -2,10 +2,10 @@
 ghost use Rattle.std.specs.Prelude.{◌≡◌, IfSome};
 
 use super::reading::{begin, chain, close, end, execute_one, take};
-use wq_live::{Answer, Done, Owner, OwnerCounts, Posted, Sender, SenderCounts, build};
 use std::alloc::Global;
 use std::sync::Wait;
 use std::test::Fail;
+use wq_live::{Answer, Done, Owner, OwnerCounts, Posted, Sender, SenderCounts, build};
 use wq_words::Layout;
 
 /// A queue of 4 items, 2 barriers and 2 senders.

@@ -1,6 +1,6 @@
 //! A queue that was refused memory. The allocations are refused one at a time from outside.
-use wq_live::{BuildError, build};
 use std::test::Fail;
+use wq_live::{BuildError, build};
 use wq_words::Layout;
 
 /// Where an allocation of the first queue is refused it is not made, and the next is.

@@ -1,9 +1,9 @@
 //! Senders and the owner in threads of their own.
 use super::reading::{close, execute_one};
-use wq_live::{Answer, Owner, Sender, build};
 use std::sync::Wait;
 use std::test::Fail;
 use std::thread::{join_mut, yield_now};
+use wq_live::{Answer, Owner, Sender, build};
 use wq_words::Layout;
 
 /// Queues these items in order, each again where it was contended, at most 1,000 times. Answers how many were queued.

@@ -1,11 +1,12 @@
-use Rattle.std.proofs.Common.{[], length, None, ap, sym, ◌∙◌, arith, length-append, List, ℕ}
-use Rattle.wq_table.specs.declared.table.Stage.TheVariants.{Owns}
+use Rattle.wq_live.specs.Sits.{kept_batch}
+use Rattle.wq_live.proofs.Taking.{sees_on}
+use Rattle.wq_live.proofs.Hanging.{taken_behind}
 use Rattle.wq_live.proofs.owner.walk_all.Goals as goal
 
-pub turn-requires-clause-count : goal.turn-requires-clause-count
-turn-requires-clause-count c = let w = c.walk_to_front.ensures.walks in
-    omega (arith, c.len-had.ensures, ap (λ (xs : List ℕ). length xs) w.items, length-append w.walked c.args.batch.now.items)
+pub hang-requires-clause-both : goal.hang-requires-clause-both
+hang-requires-clause-both c = let p = c.args.chair.now.part in
+    taken_behind (kept_batch p.stage) c.args.row c.turn_taken-taken.result p c.turn_taken-taken.new.chair.part c.requires.row c.turn_taken-taken.ensures.turned
 
-pub returns-clause-stage : goal.returns-clause-stage
-returns-clause-stage c = let w = c.walk_to_front.ensures.walks in let ks = c.args.batch.now.items in
-    w.stage ∙ ap (Owns None []) (sym (c.turn.ensures.items w.walked ks w.items (sym c.len-had.ensures)))
+pub returns-clause-follows : goal.returns-clause-follows
+returns-clause-follows c =
+    sees_on c.args.chair.now.part c.turn_taken-taken.new.chair.part c.hang.new.chair.part c.turn_taken-taken.ensures.follows c.hang.ensures.follows

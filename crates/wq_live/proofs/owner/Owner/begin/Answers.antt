@@ -1,57 +1,68 @@
-use Rattle.std.proofs.Common.{◌≡◌, ◌≢◌, ◌<◌, ◌≤◌, ℕ, List, [], ◌∷◌, length, Some, None, IsSome, slice_get, ap, sym, subst, refl, ◌∙◌, arith}
-use Rattle.std.proofs.lemmas.Bool.{false≢true}
+use Rattle.std.proofs.Common.{◌≢◌, ◌<◌, ℕ, List, [], ◌∷◌, length, Some, slice_get, ap, sym, subst, refl, ◌∙◌, arith}
 use Rattle.wq_words.specs.declared.event.Event.TheVariants.{Begin}
-use Rattle.wq_words.specs.Numbers.{number_count}
 use Rattle.wq_words.specs.History.{IsRunning}
-use Rattle.wq_table.specs.declared.table.Stage.TheVariants.{Owns}
 use Rattle.wq_live.specs.Known.{Known}
+use Rattle.wq_live.specs.Sits.{kept_batch}
 use Rattle.wq_live.proofs.Tells.{Tells}
-use Rattle.wq_live.proofs.Owned.{running_begun, closed_quiet, counts_quiet}
-use Rattle.wq_live.proofs.Waiting.{stands_next}
-use Rattle.wq_live.proofs.OwnerTells.{makes_stands, begin_tells, begin_stage, owner_batch, owner_idle, owner_grows, owner_sees}
+use Rattle.wq_live.proofs.Owned.{running_begun, closed_quiet, counts_quiet, rests_on}
+use Rattle.wq_live.proofs.Taking.{sees_then}
+use Rattle.wq_live.proofs.Hanging.{first_of_row, first_known, begun_row}
+use Rattle.wq_live.proofs.OwnerTells.{makes_stands, to_begin, begin_tells, begin_stage, owner_batch, owner_idle, owner_grows, owner_sees}
 use Rattle.wq_live.proofs.owner.Owner.begin.Goals as goal
 
 some_length : (xs : List ℕ) → xs ≢ [] → 0 < length xs
 some_length [] some = absurd (some refl)
 some_length (x ∷ xs) some = omega arith
 
-pub unreachable-requires : goal.unreachable-requires
-unreachable-requires c = let s = c.self.inside in
-    let some : s.batch.items ≢ [] = λ none. c.requires.waits (sym (owner_batch s c.args.self.now c.self.view_is c.self.invariant) ∙ none) in
-    let found : IsSome c.pop.result = c.pop.ensures.some.1 (omega (arith, some_length s.batch.items some)) in
-    absurd (false≢true (subst IsSome c.in_default.is found))
+pub without_first-self-inside-requires-clause-some : goal.without_first-self-inside-requires-clause-some
+without_first-self-inside-requires-clause-some c = let s = c.self.inside in let o = c.self.invariant in
+    let some : kept_batch s.chair.part.stage ≢ [] = λ none. c.requires.waits (sym (owner_batch s c.args.self.now c.self.view_is o) ∙ none) in
+    omega (arith, some_length (kept_batch s.chair.part.stage) some, o.has_row.row_is.count_is)
 
 pub begin-requires-clause-number : goal.begin-requires-clause-number
-begin-requires-clause-number c = let s = c.self.inside in
-    let items : s.batch.items ≡ c.in-Some.number ∷ c.pop.new.self.items = c.in-Some.ensures.items in
-    stands_next s.chair.part c.in-Some.number c.pop.new.self.items c.self.invariant.stands (c.self.invariant.stage_is ∙ ap (Owns None []) items)
+begin-requires-clause-number c = let e = c.without_first-self-inside.ensures in let q = c.without_first-self-inside.new.chair.part in
+    first_known c.self.inside.row.front c.without_first-self-inside.result q e.stands e.first
+
+pub begin-requires-clause-next : goal.begin-requires-clause-next
+begin-requires-clause-next c = let e = c.without_first-self-inside.ensures in let q = c.without_first-self-inside.new.chair.part in
+    to_begin q.stage c.self.inside.row.front e.first.others e.first.stage_is
+
+pub begin-requires-clause-rests : goal.begin-requires-clause-rests
+begin-requires-clause-rests c = let s = c.self.inside in let o = c.self.invariant in let e = c.without_first-self-inside.ensures in
+    let p = s.chair.part in let q = c.without_first-self-inside.new.chair.part in
+    rests_on p.seat p.seen q.seen o.number_is e.follows.grows (subst (λ (v : Known). ¬ IsRunning v.seen) (sym c.self.view_is) c.requires.idle)
 
 pub invariant_of-self : goal.invariant_of-self
-invariant_of-self c = let s = c.self.inside in let o = c.self.invariant in let k = c.in-Some.number in let rest = c.pop.new.self.items in
-    let p = s.chair.part in let q = c.begin.new.self.part in let makes = c.begin.ensures.1.makes in
-    let items : s.batch.items ≡ k ∷ rest = c.in-Some.ensures.items in let stage : p.stage ≡ Owns None [] (k ∷ rest) = o.stage_is ∙ ap (Owns None []) items in
-    let told : Tells (Begin k ∷ []) p q = begin_tells k c.begin.ensures.0 p q rest o.number_is stage makes in
-    let t = record s { chair = c.begin.new.self; batch = c.pop.new.self; running = Some k } in let g = owner_grows (Begin k ∷ []) 0 s t o told in
+invariant_of-self c = let s = c.self.inside in let o = c.self.invariant in let e = c.without_first-self-inside.ensures in let k = s.row.front in
+    let p = s.chair.part in let q = c.without_first-self-inside.new.chair.part in let r = c.begin.new.self.part in let makes = c.begin.ensures.1.makes in
+    let first = e.first in
+    let told : Tells (Begin k ∷ []) p r = sees_then (λ _. Begin k ∷ []) p q r e.follows e.stands
+    (begin_tells k c.begin.ensures.0 q r first.others (e.follows.seat_is ∙ o.number_is) first.stage_is makes) in
+    let t = record s { chair = c.begin.new.self; row = c.without_first-self-inside.result; running = Some k } in
+    let g = owner_grows (Begin k ∷ []) 0 s t o told in
     let idle : ¬ IsRunning p.seen = subst (λ (v : Known). ¬ IsRunning v.seen) (sym c.self.view_is) c.requires.idle in record {
       layout_is = told.layout_is ∙ o.layout_is;
       number_is = told.seat_is ∙ o.number_is;
-      stands = makes_stands _ _ p q makes;
-      stage_is = begin_stage k c.begin.ensures.0 p q rest stage makes;
-      room = subst (λ (n : ℕ). number_count s.layout ≤ n) (sym c.pop.ensures.room) o.room;
-      none_chained = λ opens. c.pop.ensures.none_chained (o.none_chained opens);
-      running_is = sym (running_begun k 0 p.seen q.seen g (owner_idle p o.stands idle));
-      closed_is = o.closed_is ∙ sym (closed_quiet (Begin k ∷ []) 0 p.seen q.seen g refl);
-      counts_are = counts_quiet (Begin k ∷ []) 0 p.seen q.seen g refl refl refl s.counts o.counts_are;
+      stands = makes_stands _ _ q r makes;
+      has_row = begun_row k c.begin.ensures.0 c.without_first-self-inside.result q r first makes
+          (begin_stage k c.begin.ensures.0 q r first.others first.stage_is makes);
+      running_is = sym (running_begun k 0 p.seen r.seen g (owner_idle p o.stands idle));
+      closed_is = o.closed_is ∙ sym (closed_quiet (Begin k ∷ []) 0 p.seen r.seen g refl);
+      counts_are = counts_quiet (Begin k ∷ []) 0 p.seen r.seen g refl refl refl s.counts o.counts_are;
     }
 
 pub returns-clause-next : goal.returns-clause-next
-returns-clause-next c = let s = c.self.inside in let items : s.batch.items ≡ c.in-Some.number ∷ c.pop.new.self.items = c.in-Some.ensures.items in
-    ap (λ (xs : List ℕ). slice_get xs 0) (sym (owner_batch s c.args.self.now c.self.view_is c.self.invariant) ∙ items)
+returns-clause-next c = let s = c.self.inside in let o = c.self.invariant in
+    let some : kept_batch s.chair.part.stage ≢ [] = λ none. c.requires.waits (sym (owner_batch s c.args.self.now c.self.view_is o) ∙ none) in
+    let more : 0 < s.row.count = omega (arith, some_length (kept_batch s.chair.part.stage) some, o.has_row.row_is.count_is) in
+    let front = first_of_row s.row s.chair.part o.has_row more in
+    ap (λ (xs : List ℕ). slice_get xs 0) (sym (owner_batch s c.args.self.now c.self.view_is o) ∙ ap kept_batch front.1)
 
 pub returns-clause-seen : goal.returns-clause-seen
-returns-clause-seen c = let s = c.self.inside in let o = c.self.invariant in let k = c.in-Some.number in let rest = c.pop.new.self.items in
-    let p = s.chair.part in let q = c.begin.new.self.part in let makes = c.begin.ensures.1.makes in
-    let items : s.batch.items ≡ k ∷ rest = c.in-Some.ensures.items in let stage : p.stage ≡ Owns None [] (k ∷ rest) = o.stage_is ∙ ap (Owns None []) items in
-    let told : Tells (Begin k ∷ []) p q = begin_tells k c.begin.ensures.0 p q rest o.number_is stage makes in
-    let t = record s { chair = c.begin.new.self; batch = c.pop.new.self; running = Some k } in
-    owner_sees (Begin k ∷ []) 0 s t c.args.self.now c.self.view_is o refl c.begin.ensures.1.queue_is told
+returns-clause-seen c = let s = c.self.inside in let o = c.self.invariant in let e = c.without_first-self-inside.ensures in let k = s.row.front in
+    let p = s.chair.part in let q = c.without_first-self-inside.new.chair.part in let r = c.begin.new.self.part in let makes = c.begin.ensures.1.makes in
+    let first = e.first in
+    let told : Tells (Begin k ∷ []) p r = sees_then (λ _. Begin k ∷ []) p q r e.follows e.stands
+    (begin_tells k c.begin.ensures.0 q r first.others (e.follows.seat_is ∙ o.number_is) first.stage_is makes) in
+    let t = record s { chair = c.begin.new.self; row = c.without_first-self-inside.result; running = Some k } in
+    owner_sees (Begin k ∷ []) 0 s t c.args.self.now c.self.view_is o refl (c.begin.ensures.1.queue_is ∙ e.queue) told

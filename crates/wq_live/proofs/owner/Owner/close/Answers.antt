@@ -1,50 +1,43 @@
-use Rattle.std.proofs.Common.{◌≤◌, ◌-◌, ℕ, [], ◌∷◌, true, sym, subst, refl, ◌∙◌, arith}
+use Rattle.std.proofs.Common.{◌-◌, true, [], ◌∷◌, sym, subst, refl, ◌∙◌, arith}
 use Rattle.wq_words.specs.declared.event.Event.TheVariants.{Close}
-use Rattle.wq_words.specs.Numbers.{number_count}
+use Rattle.wq_core.specs.declared.step.Step.TheVariants as step
 use Rattle.wq_words.specs.History.{IsClosed}
-use Rattle.wq_words.proofs.Closed.{closed_from_open}
 use Rattle.wq_live.specs.Known.{Known}
+use Rattle.wq_live.specs.Sits.{kept_batch}
 use Rattle.wq_live.proofs.Tells.{Tells}
 use Rattle.wq_live.proofs.Owned.{running_quiet, closed_closed, counts_quiet}
-use Rattle.wq_live.proofs.Waiting.{stands_rested}
 use Rattle.wq_live.proofs.OwnerTells.{makes_stands, owner_of, close_tells, close_stage, owner_grows, owner_sees}
-use Rattle.wq_live.proofs.Taking.{followed, close_takes, layout_at, number_small}
+use Rattle.wq_live.proofs.Linking.{walks_kept, walks_row}
+use Rattle.wq_live.proofs.Taking.{followed, close_takes}
 use Rattle.wq_live.proofs.owner.Owner.close.Goals as goal
 
 pub close-word-requires-clause-open : goal.close-word-requires-clause-open
 close-word-requires-clause-open c = subst (λ (v : Known). ¬ IsClosed v.seen) (sym c.self.view_is) c.requires.open
 
-pub walk_all-requires-clause-stands : goal.walk_all-requires-clause-stands
-walk_all-requires-clause-stands c = makes_stands _ _ c.self.inside.chair.part c.close-word.new.self.part c.close-word.ensures.makes
+pub walk_all-self-inside-requires-clause-stands : goal.walk_all-self-inside-requires-clause-stands
+walk_all-self-inside-requires-clause-stands c = makes_stands _ _ c.self.inside.chair.part c.close-word.new.self.part c.close-word.ensures.makes
 
-pub walk_all-requires-clause-stage : goal.walk_all-requires-clause-stage
-walk_all-requires-clause-stage c = let s = c.self.inside in
-    close_stage c.close-word.result s.chair.part c.close-word.new.self.part s.batch.items c.self.invariant.stage_is c.close-word.ensures.makes
+pub walk_all-self-inside-requires-clause-stage : goal.walk_all-self-inside-requires-clause-stage
+walk_all-self-inside-requires-clause-stage c = let p = c.self.inside.chair.part in let q = c.close-word.new.self.part in
+    walks_kept q.stage c.close-word.result (kept_batch p.stage)
+    (close_stage c.close-word.result p q (kept_batch p.stage) c.self.invariant.has_row.stage_is c.close-word.ensures.makes)
 
-pub walk_all-requires-clause-room : goal.walk_all-requires-clause-room
-walk_all-requires-clause-room c = let s = c.self.inside in let o = c.self.invariant in let p = s.chair.part in let q = c.close-word.new.self.part in
-    layout_at s.layout q.layout s.batch.room
-    (sym (((close_tells c.close-word.result p q o.number_is (owner_of p.stage s.batch.items o.stage_is) c.close-word.ensures.makes).layout_is) ∙
-    o.layout_is)) o.room
-
-pub walk_all-requires-clause-none_chained : goal.walk_all-requires-clause-none_chained
-walk_all-requires-clause-none_chained c = let s = c.self.inside in let o = c.self.invariant in let p = s.chair.part in
-    let opens : ¬ IsClosed p.seen = subst (λ (v : Known). ¬ IsClosed v.seen) (sym c.self.view_is) c.requires.open in
-    o.none_chained (o.closed_is ∙ closed_from_open p.seen opens)
+pub walk_all-self-inside-requires-clause-row : goal.walk_all-self-inside-requires-clause-row
+walk_all-self-inside-requires-clause-row c = let s = c.self.inside in let o = c.self.invariant in let p = s.chair.part in let q = c.close-word.new.self.part in
+    walks_row step.Close c.close-word.result p q s.row o.has_row c.close-word.ensures.makes (λ k w. refl)
+    (close_stage c.close-word.result p q (kept_batch p.stage) o.has_row.stage_is c.close-word.ensures.makes)
 
 pub invariant_of-self : goal.invariant_of-self
 invariant_of-self c = let s = c.self.inside in let o = c.self.invariant in let p = s.chair.part in let q = c.close-word.new.self.part in
-    let e = c.walk_all.ensures in let r = c.walk_all.new.chair.part in let makes = c.close-word.ensures.makes in
+    let e = c.walk_all-self-inside.ensures in let r = c.walk_all-self-inside.new.chair.part in let makes = c.close-word.ensures.makes in
     let told : Tells (Close ∷ []) p r = followed (Close ∷ []) 0 p q r
-    (close_tells c.close-word.result p q o.number_is (owner_of p.stage s.batch.items o.stage_is) makes) e.follows e.stands in
-    let t = record s { chair = c.walk_all.new.chair; batch = c.walk_all.new.batch; closed = true } in let g = owner_grows (Close ∷ []) 0 s t o told in
-    record {
+    (close_tells c.close-word.result p q o.number_is (owner_of p.stage (kept_batch p.stage) o.has_row.stage_is) makes) e.follows e.stands in
+    let t = record s { chair = c.walk_all-self-inside.new.chair; row = c.walk_all-self-inside.result; closed = true } in
+    let g = owner_grows (Close ∷ []) 0 s t o told in record {
       layout_is = told.layout_is ∙ o.layout_is;
       number_is = told.seat_is ∙ o.number_is;
       stands = e.stands;
-      stage_is = e.stage;
-      room = subst (λ (n : ℕ). number_count s.layout ≤ n) (sym e.room) o.room;
-      none_chained = λ _. e.none_chained;
+      has_row = e.has_row;
       running_is = o.running_is ∙ sym (running_quiet (Close ∷ []) 0 p.seen r.seen g refl refl);
       closed_is = sym (closed_closed 0 p.seen r.seen g);
       counts_are = counts_quiet (Close ∷ []) 0 p.seen r.seen g refl refl refl s.counts o.counts_are;
@@ -52,22 +45,19 @@ invariant_of-self c = let s = c.self.inside in let o = c.self.invariant in let p
 
 pub returns-clause-seen : goal.returns-clause-seen
 returns-clause-seen c = let s = c.self.inside in let o = c.self.invariant in let p = s.chair.part in let q = c.close-word.new.self.part in
-    let e = c.walk_all.ensures in let r = c.walk_all.new.chair.part in let makes = c.close-word.ensures.makes in
+    let e = c.walk_all-self-inside.ensures in let r = c.walk_all-self-inside.new.chair.part in let makes = c.close-word.ensures.makes in
     let told : Tells (Close ∷ []) p r = followed (Close ∷ []) 0 p q r
-    (close_tells c.close-word.result p q o.number_is (owner_of p.stage s.batch.items o.stage_is) makes) e.follows e.stands in
+    (close_tells c.close-word.result p q o.number_is (owner_of p.stage (kept_batch p.stage) o.has_row.stage_is) makes) e.follows e.stands in
     owner_sees (Close ∷ []) 0 s
-    (record s { chair = c.walk_all.new.chair; batch = c.walk_all.new.batch; closed = true }) c.args.self.now c.self.view_is o refl
-    (e.queue ∙ c.close-word.ensures.queue_is) told
+    (record s { chair = c.walk_all-self-inside.new.chair; row = c.walk_all-self-inside.result; closed = true }) c.args.self.now c.self.view_is
+    o refl (e.queue ∙ c.close-word.ensures.queue_is) told
 
 pub returns-clause-takes : goal.returns-clause-takes
 returns-clause-takes c = let s = c.self.inside in let o = c.self.invariant in let p = s.chair.part in let q = c.close-word.new.self.part in
-    let e = c.walk_all.ensures in let r = c.walk_all.new.chair.part in let js = c.walk_all.new.batch.items in
-    close_takes c.close-word.result p q r s.batch.items js (c.len.result - c.len-had.result) o.number_is o.stage_is e.follows e.stands e.stage
-    (omega (arith, c.len.ensures, c.len-had.ensures, e.more)) c.close-word.ensures.makes
-
-pub overflow_cast-result : goal.overflow_cast-result
-overflow_cast-result c = let e = c.walk_all.ensures in let r = c.walk_all.new.chair.part in
-    let few = stands_rested r c.walk_all.new.batch.items e.stands e.stage in omega (arith, few, number_small r.layout, c.len.ensures)
+    let e = c.walk_all-self-inside.ensures in let r = c.walk_all-self-inside.new.chair.part in
+    close_takes c.close-word.result p q r (kept_batch p.stage) (kept_batch r.stage) (c.walk_all-self-inside.result.count - s.row.count) o.number_is
+    o.has_row.stage_is e.follows e.stands e.has_row.stage_is
+    (omega (arith, e.more, o.has_row.row_is.count_is, e.has_row.row_is.count_is)) c.close-word.ensures.makes
 
 pub overflow_sub-result : goal.overflow_sub-result
-overflow_sub-result c = let e = c.walk_all.ensures in omega (arith, c.len.ensures, c.len-had.ensures, e.more)
+overflow_sub-result c = c.walk_all-self-inside.ensures.more

@@ -5,23 +5,25 @@ use Rattle.wq_words.proofs.Running.{runs_some}
 use Rattle.wq_live.specs.Known.{Known}
 use Rattle.wq_live.proofs.Tells.{Tells}
 use Rattle.wq_live.proofs.Owned.{running_ended, closed_quiet, counts_ended}
+use Rattle.wq_core.specs.declared.step.Step.TheVariants as step
+use Rattle.wq_live.specs.Sits.{kept_batch}
+use Rattle.wq_live.proofs.Linking.{has_row_after}
 use Rattle.wq_live.proofs.OwnerTells.{makes_stands, owner_of, end_tells, end_stage, owner_runs, owner_grows, owner_sees}
 use Rattle.wq_live.proofs.owner.Owner.end.Goals as goal
 
 pub invariant_of-self : goal.invariant_of-self
-invariant_of-self c = let s = c.self.inside in let o = c.self.invariant in let p = s.chair.part in let q = c.end.new.self.part in
-    let makes = c.end.ensures.1.makes in
-    let runs : IsRunning p.seen = subst (λ (v : Known). IsRunning v.seen) (sym c.self.view_is) c.requires.runs in let k = (runs_some p.seen runs).0 in
-    let x = c.saturating_add-self-inside.result in
-    let told : Tells (End k ∷ []) p q = end_tells k c.end.ensures.0 p q o.number_is (owner_of p.stage s.batch.items o.stage_is)
-    (runs_some p.seen runs).1 makes in
+invariant_of-self c =
+    let s = c.self.inside in let o = c.self.invariant in let p = s.chair.part in let q = c.end.new.self.part in let makes = c.end.ensures.1.makes in
+    let runs : IsRunning p.seen = subst (λ (v : Known). IsRunning v.seen) (sym c.self.view_is) c.requires.runs in
+    let k = (runs_some p.seen runs).0 in let x = c.saturating_add-self-inside.result in
+    let told : Tells (End k ∷ []) p q =
+    end_tells k c.end.ensures.0 p q o.number_is (owner_of p.stage (kept_batch p.stage) o.has_row.stage_is) (runs_some p.seen runs).1 makes in
     let g = owner_grows (End k ∷ []) 0 s (record s { chair = c.end.new.self; running = None; counts = record s.counts { ended = x } }) o told in record {
       layout_is = told.layout_is ∙ o.layout_is;
       number_is = told.seat_is ∙ o.number_is;
       stands = makes_stands _ _ p q makes;
-      stage_is = end_stage c.end.ensures.0 p q s.batch.items o.stage_is makes;
-      room = o.room;
-      none_chained = o.none_chained;
+      has_row = has_row_after step.End c.end.ensures.0 p q s.row o.has_row makes (λ j v. refl)
+          (end_stage c.end.ensures.0 p q (kept_batch p.stage) o.has_row.stage_is makes);
       running_is = sym (running_ended k 0 p.seen q.seen g (owner_runs p o.stands runs));
       closed_is = o.closed_is ∙ sym (closed_quiet (End k ∷ []) 0 p.seen q.seen g refl);
       counts_are = counts_ended (End k ∷ []) 0 p.seen q.seen g refl refl refl s.counts o.counts_are x c.saturating_add-self-inside.ensures;
@@ -34,5 +36,5 @@ returns c = record {
       owner_sees (End k ∷ []) 0 s
       (record s { chair = c.end.new.self; running = None; counts = record s.counts { ended = c.saturating_add-self-inside.result } })
       c.args.self.now c.self.view_is o refl c.end.ensures.1.queue_is
-      (end_tells k c.end.ensures.0 p q o.number_is (owner_of p.stage s.batch.items o.stage_is) known c.end.ensures.1.makes);
+      (end_tells k c.end.ensures.0 p q o.number_is (owner_of p.stage (kept_batch p.stage) o.has_row.stage_is) known c.end.ensures.1.makes);
 }

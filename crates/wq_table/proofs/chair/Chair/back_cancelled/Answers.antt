@@ -10,7 +10,7 @@ pub and-requires-clause-performs : goal.and-requires-clause-performs
 and-requires-clause-performs c = let p = c.args.self.now.part in let k = c.args.number in
     placed p (λ (n : ℕ). Back n Cancelled) _ k _ _
     (item_in c.self.inside c.args.self.now _ k c.self.invariant c.self.view_is c.item_place-place.ensures)
-    (performs_back p.seat p.layout p.seen k Cancelled p.stage c.requires.sender c.requires.number c.requires.held (λ e. search rules))
+    (performs_back p.seat p.layout p.seen p.words k Cancelled p.stage c.requires.sender c.requires.number c.requires.held (λ e. search rules))
 
 pub returns : goal.returns
 returns c = let back = number_placed _ c.args.number c.args.self.now.part.layout
