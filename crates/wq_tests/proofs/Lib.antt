@@ -1,1 +1,2 @@
 pub mod Fresh
+pub mod Teams

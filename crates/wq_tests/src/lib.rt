@@ -18,3 +18,5 @@ mod script;
 mod text;
 #[cfg(test)]
 mod words;
+#[cfg(test)]
+mod worker;

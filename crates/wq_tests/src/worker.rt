@@ -1,0 +1,8 @@
+//! Workers: worked rows, books, and what threads see.
+mod books;
+mod clearing;
+mod contention;
+mod crew;
+mod rows;
+mod serving;
+mod team;
