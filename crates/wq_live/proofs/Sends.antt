@@ -23,6 +23,8 @@ use Rattle.wq_live.specs.Counts.{sender_counts}
 use Rattle.wq_live.specs.Sits.{sender_view, Sends}
 use Rattle.wq_live.proofs.Tells.{TellsSo, meet_tells, meet_sender}
 use Rattle.wq_live.proofs.Growing.{grows_on, grows_held, grows_less}
+use Rattle.wq_words.proofs.Seen.{starts_own}
+use Rattle.wq_words.proofs.Seen.{stops_own}
 
 -- what a step of the chair tells its sender
 pub grows_tells : (s t : Inside) (xs : ℕ → List Event) (n : ℕ) → Sends s → TellsSo (xs s.chair.part.seat) n s.chair.part t.chair.part
@@ -85,15 +87,6 @@ sees_held k n s t sees have = subst (λ (c : ℕ). Holds t.seen c k) (sym sees.s
 and_false : (a : Bool) → (a && false) ≡ false
 and_false true = refl
 and_false false = refl
-
-starts_own : (s k : ℕ) (e : Event) → eqb (seat_of e) s ≡ false → starts_hold s k e ≡ false
-starts_own s k (Hold t j) is = ap (λ (b : Bool). (j == k) && b) is ∙ and_false (j == k)
-starts_own s k _ is = refl
-
-stops_own : (s k : ℕ) (e : Event) → eqb (seat_of e) s ≡ false → stops_hold s k e ≡ false
-stops_own s k (Push t j) is = ap (λ (b : Bool). (j == k) && b) is ∙ and_false (j == k)
-stops_own s k (Back t j why) is = ap (λ (b : Bool). (j == k) && b) is ∙ and_false (j == k)
-stops_own s k _ is = refl
 
 -- who began to hold holds
 pub sees_hold : (k n : ℕ) (s t : Known) → Sees (Hold s.number k ∷ []) n s t → Holds t.seen t.number k

@@ -53,46 +53,9 @@ use Rattle.wq_worker.specs.Book.{BookState, IsLedgerOf}
 use Rattle.wq_worker.specs.Balance.{largest, AreWhole, AreOwnerWhole, ledgers_of, HasOne, IsFault, IsUnbalanced, of_sender, of_worker}
 use Rattle.wq_race.specs.Outcome.{ledger_of}
 use Rattle.wq_race.proofs.Whole.{queued_own}
-
-pending_own : (s : ℕ) (e : Event) → eqb (seat_of e) s ≡ false → is_pending_by s e ≡ false
-pending_own s (Busy t k) is = is
-pending_own s (Hold t k) is = refl
-pending_own s (Push t k) is = refl
-pending_own s (Back t k w) is = refl
-pending_own s Take is = refl
-pending_own s Close is = refl
-pending_own s (Begin k) is = refl
-pending_own s (End k) is = refl
-pending_own s (Chain k) is = refl
-pending_own s (ChainBusy k) is = refl
-
-closed_own : (s : ℕ) (e : Event) → eqb (seat_of e) s ≡ false → is_closed_by s e ≡ false
-closed_own s (Back t k why.Closed) is = is
-closed_own s (Back t k why.Contended) is = refl
-closed_own s (Back t k why.Cancelled) is = refl
-closed_own s (Hold t k) is = refl
-closed_own s (Busy t k) is = refl
-closed_own s (Push t k) is = refl
-closed_own s Take is = refl
-closed_own s Close is = refl
-closed_own s (Begin k) is = refl
-closed_own s (End k) is = refl
-closed_own s (Chain k) is = refl
-closed_own s (ChainBusy k) is = refl
-
-contended_own : (s : ℕ) (e : Event) → eqb (seat_of e) s ≡ false → is_contended_by s e ≡ false
-contended_own s (Back t k why.Contended) is = is
-contended_own s (Back t k why.Closed) is = refl
-contended_own s (Back t k why.Cancelled) is = refl
-contended_own s (Hold t k) is = refl
-contended_own s (Busy t k) is = refl
-contended_own s (Push t k) is = refl
-contended_own s Take is = refl
-contended_own s Close is = refl
-contended_own s (Begin k) is = refl
-contended_own s (End k) is = refl
-contended_own s (Chain k) is = refl
-contended_own s (ChainBusy k) is = refl
+use Rattle.wq_words.proofs.Counting.{pending_own}
+use Rattle.wq_words.proofs.Counting.{closed_own}
+use Rattle.wq_words.proofs.Counting.{contended_own}
 
 pub count_few : (p : Event → Bool) (h : List Event) → count_by p h ≤ length h
 count_few p [] = omega arith

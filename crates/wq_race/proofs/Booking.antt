@@ -10,7 +10,8 @@ use Rattle.wq_live.proofs.Counting.{counts_none}
 use Rattle.wq_worker.specs.declared.book.Ledger.{Ledger}
 use Rattle.wq_worker.specs.Book.{BookState}
 use Rattle.wq_race.specs.Outcome.{HasHeard, ledger_of}
-use Rattle.wq_race.proofs.Meeting.{grows_same, prefix_on}
+use Rattle.wq_words.proofs.Seen.{grows_same}
+use Rattle.wq_words.proofs.Prefixes.{prefix_on}
 
 pub heard_still : (b : BookState) → HasHeard b b
 heard_still b = record { queue_is = refl; layout_is = refl; own_is = refl; begins = ([], append-nil b.seen); idle = refl }

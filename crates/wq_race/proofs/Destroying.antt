@@ -10,7 +10,7 @@ use Rattle.wq_worker.specs.State.{WorkerState}
 use Rattle.wq_worker.specs.Book.{BookState}
 use Rattle.wq_race.specs.declared.idle.Idle.{Idle}
 use Rattle.wq_race.specs.Outcome.{HasGoneOn, HasEnded}
-use Rattle.wq_race.proofs.Meeting.{prefix_on}
+use Rattle.wq_words.proofs.Prefixes.{prefix_on}
 
 pub goes_still : (a : WorkerState Idle) → ¬ IsRunning a.seen → IsLegal a.layout a.seen → HasGoneOn a a
 goes_still a idle legal = record {

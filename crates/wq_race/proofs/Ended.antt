@@ -63,7 +63,8 @@ use Rattle.wq_race.specs.declared.team.Team.{Team}
 use Rattle.wq_race.specs.declared.outcome.Outcome.{Outcome}
 use Rattle.wq_race.specs.Race.{items_at, IsOfStop, HasRun}
 use Rattle.wq_race.specs.Outcome.{queueings, Tells, IsWhole, IsTold, HasMet, AllKnown, HasEnded, HasHeard, ledger_of}
-use Rattle.wq_race.proofs.Meeting.{prefix_on, own_between}
+use Rattle.wq_words.proofs.Seen.{own_between}
+use Rattle.wq_words.proofs.Prefixes.{prefix_on}
 use Rattle.wq_race.proofs.Running.{own_room}
 use Rattle.wq_race.proofs.Serving.{chains_same, asks_same}
 use Rattle.wq_race.proofs.Events.{Has, own_has, was_allowed}

@@ -2,6 +2,7 @@ pub mod Members
 pub mod Same
 pub mod Made
 pub mod Queueing
+mod Still
 pub mod Serving
 pub mod Meeting
 pub mod Destroying

@@ -38,15 +38,13 @@ use Rattle.wq_live.specs.Answers.{Answers}
 use Rattle.wq_worker.specs.Follow.{Queues, pushed, busy, refused}
 use Rattle.wq_worker.proofs.Follow.{follows_push}
 use Rattle.wq_race.specs.Race.{HasQueued, IsOfStop, HasStopped}
+use Rattle.wq_words.proofs.Seen.{grows_none as grows_still}
 
 pub same_still : (a : Known) → IsSame a a
 same_still a = record { queue_is = refl; layout_is = refl; number_is = refl }
 
 pub same_on : (a b c : Known) → IsSame a b → IsSame b c → IsSame a c
 same_on a b c x y = record { queue_is = y.queue_is ∙ x.queue_is; layout_is = y.layout_is ∙ x.layout_is; number_is = y.number_is ∙ x.number_is }
-
-pub grows_still : (c : ℕ) (v : List Event) → Grows c [] 0 v v
-grows_still c v = record { new = []; is = sym (append-nil v); mine = refl; theirs = omega arith }
 
 pub grows_on : (c n m : ℕ) (xs ys u v w : List Event) → Grows c xs n u v → Grows c ys m v w → Grows c (xs ++ ys) 0 u w
 grows_on c n m xs ys u v w a b = record {

@@ -49,89 +49,22 @@ use Rattle.wq_worker.specs.State.{WorkerState, items_among, Moves}
 use Rattle.wq_worker.specs.Step.{Starts, item, other, owed, Ends, ends, Owes, owes, Runs}
 use Rattle.wq_worker.specs.Rows.{Row, none, more, IsExecution, IsNotStop, Serves, Closes, was_closed, closes}
 use Rattle.wq_worker.proofs.Owned.{count_by-append, filter-filter, owner_of_both, stays}
-use Rattle.wq_worker.proofs.Running.{runs_some}
+use Rattle.wq_words.proofs.Running.{runs_from_running as runs_some}
 use Rattle.wq_worker.proofs.State.{quiet_taking}
 use Rattle.wq_race.specs.declared.idle.Idle.{Idle}
 use Rattle.wq_worker.specs.Book.{BookState, Destroys, LeavesUnfinished}
 use Rattle.wq_race.specs.Race.{HasServed}
 use Rattle.wq_race.specs.Outcome.{HasGoneOn, HasEnded}
-
--- the sender s made none of these events, the owner chained nothing by them, and closed so often
-pub record Still (s n : ℕ) (xs : List Event) : Type 0 where
-  pub unsent : own s xs ≡ []
-  pub unchained : count_by is_chain xs ≡ 0
-  pub unasked : count_by is_chain_busy xs ≡ 0
-  pub closes_is : count_by is_close xs ≡ n
-
-still_none : (s : ℕ) → Still s 0 []
-still_none s = record { unsent = refl; unchained = refl; unasked = refl; closes_is = refl }
-
-still_on : (s m n : ℕ) (xs ys : List Event) → Still s m xs → Still s n ys → Still s (m + n) (xs ++ ys)
-still_on s m n xs ys a b = record {
-  unsent = own-append s xs ys ∙ (λ i. a.unsent i ++ b.unsent i);
-  unchained = omega (arith, count_by-append is_chain xs ys, a.unchained, b.unchained);
-  unasked = omega (arith, count_by-append is_chain_busy xs ys, a.unasked, b.unasked);
-  closes_is = omega (arith, count_by-append is_close xs ys, a.closes_is, b.closes_is);
-}
-
-still_take : (s : ℕ) → s ≢ owner_seat → Still s 0 (Take ∷ [])
-still_take s not = record { unsent = own_none owner_seat Take refl s not; unchained = refl; unasked = refl; closes_is = refl }
-
-still_begin : (s k : ℕ) → s ≢ owner_seat → Still s 0 (Begin k ∷ [])
-still_begin s k not = record { unsent = own_none owner_seat (Begin k) refl s not; unchained = refl; unasked = refl; closes_is = refl }
-
-still_end : (s k : ℕ) → s ≢ owner_seat → Still s 0 (End k ∷ [])
-still_end s k not = record { unsent = own_none owner_seat (End k) refl s not; unchained = refl; unasked = refl; closes_is = refl }
-
-still_close : (s : ℕ) → s ≢ owner_seat → Still s 1 (Close ∷ [])
-still_close s not = record { unsent = own_none owner_seat Close refl s not; unchained = refl; unasked = refl; closes_is = refl }
-
-still_taking : (s : ℕ) → s ≢ owner_seat → (h : List Event) → Still s 0 (taking h)
-still_taking s not h = each (next_of h) (closed h)
-  where
-    each : (o : Option ℕ) (b : Bool) → Still s 0 (taking_of o b)
-    each None true = still_none s
-    each None false = still_take s not
-    each (Some k) b = still_none s
-
--- what the owner alone makes is counted in its own events
-chain_own : (e : Event) → eqb (seat_of e) owner_seat ≡ false → is_chain e ≡ false
-chain_own (Chain k) is = absurd (cc)
-chain_own (Hold s k) is = refl
-chain_own (Busy s k) is = refl
-chain_own (Push s k) is = refl
-chain_own (Back s k why) is = refl
-chain_own Take is = refl
-chain_own Close is = refl
-chain_own (Begin k) is = refl
-chain_own (End k) is = refl
-chain_own (ChainBusy k) is = refl
-
-chain_busy_own : (e : Event) → eqb (seat_of e) owner_seat ≡ false → is_chain_busy e ≡ false
-chain_busy_own (Chain k) is = refl
-chain_busy_own (Hold s k) is = refl
-chain_busy_own (Busy s k) is = refl
-chain_busy_own (Push s k) is = refl
-chain_busy_own (Back s k why) is = refl
-chain_busy_own Take is = refl
-chain_busy_own Close is = refl
-chain_busy_own (Begin k) is = refl
-chain_busy_own (End k) is = refl
-chain_busy_own (ChainBusy k) is = absurd (cc)
-
-or_left : (b c : Bool) → (b || c) ≡ false → b ≡ false
-or_left true c is = absurd (cc)
-or_left false c is = refl
-
-or_right : (b c : Bool) → (b || c) ≡ false → c ≡ false
-or_right true c is = absurd (cc)
-or_right false c is = is
+use Rattle.std.proofs.lemmas.Bool.{or_parts}
+use Rattle.wq_words.proofs.Counting.{chain_own}
+use Rattle.wq_words.proofs.Counting.{chain_busy_own}
+use Rattle.wq_race.proofs.Still.{Still, still_none, still_on, still_take, still_begin, still_end, still_close, still_taking}
 
 own_of_ours : (s : ℕ) (es : List Event) → own s (filter (is_ours s) es) ≡ own s es
-own_of_ours s es = filter-filter (λ e. seat_of e == s) (is_ours s) (λ e is. or_left (seat_of e == s) (seat_of e == owner_seat) is) es
+own_of_ours s es = filter-filter (λ e. seat_of e == s) (is_ours s) (λ e is. (or_parts (seat_of e == s) (seat_of e == owner_seat) is).0) es
 
 owner_of_ours : (s : ℕ) (es : List Event) → own owner_seat (filter (is_ours s) es) ≡ own owner_seat es
-owner_of_ours s es = filter-filter (λ e. seat_of e == owner_seat) (is_ours s) (λ e is. or_right (seat_of e == s) (seat_of e == owner_seat) is) es
+owner_of_ours s es = filter-filter (λ e. seat_of e == owner_seat) (is_ours s) (λ e is. (or_parts (seat_of e == s) (seat_of e == owner_seat) is).1) es
 
 pub chains_same : (v w : List Event) → own owner_seat w ≡ own owner_seat v → count_by is_chain w ≡ count_by is_chain v
 chains_same v w same = count_own is_chain owner_seat chain_own w ∙ (ap (count_by is_chain) same ∙ sym (count_own is_chain owner_seat chain_own v))

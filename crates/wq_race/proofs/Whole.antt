@@ -54,6 +54,7 @@ use Rattle.wq_race.specs.Race.{items_at, IsOfStop}
 use Rattle.wq_race.specs.Outcome.{queueings}
 use Rattle.wq_race.proofs.Running.{own_room}
 use Rattle.wq_race.proofs.Events.{
+use Rattle.wq_words.proofs.Counting.{queued_own as push_own}
   Has,
   has_own,
   own_has,
@@ -106,19 +107,6 @@ whose n s lt = elim (cases_lt s n) [
     | inr le ↦ workers (omega (arith, ge, le))
   ]
 ]
-
--- a sender's pushes stand among its own events
-push_own : (s : ℕ) (e : Event) → eqb (seat_of e) s ≡ false → is_queued_by s e ≡ false
-push_own s (Push t k) is = is
-push_own s (Hold t k) is = refl
-push_own s (Busy t k) is = refl
-push_own s (Back t k w) is = refl
-push_own s Take is = refl
-push_own s Close is = refl
-push_own s (Begin k) is = refl
-push_own s (End k) is = refl
-push_own s (Chain k) is = refl
-push_own s (ChainBusy k) is = refl
 
 pub queued_own : (s : ℕ) (h : List Event) → count_by (is_queued_by s) h ≡ count_by (is_queued_by s) (own s h)
 queued_own s h = count_own (is_queued_by s) s (push_own s) h

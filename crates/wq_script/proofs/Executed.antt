@@ -26,7 +26,8 @@ use Rattle.wq_meaning.specs.Execution.{follow_of, take_events, follow_events, af
 use Rattle.wq_meaning.proofs.Growing.{accepted-append, begun-append, count-append, accepted-count, pushes-split, fresh-more, fresh-take}
 use Rattle.wq_script.specs.Quiet.{Quiet}
 use Rattle.wq_script.proofs.Alone.{all_ours}
-use Rattle.wq_script.proofs.Queueings.{busy_events, push_events, refused_events, not_pending, not_closed, is_pending, closed_on, last_own}
+use Rattle.wq_script.proofs.Queueings.{busy_events, push_events, refused_events, not_pending, is_pending, closed_on, last_own}
+use Rattle.wq_words.proofs.Closed.{closed_from_open as not_closed}
 
 -- what the worker added, where it was quiet
 pub exact : (wide : Layout) (n : ℕ) (h v z xs : List Event) (m : ℕ) → Quiet wide n h z → Adds n xs m h v → IsPrefix v z

@@ -14,6 +14,8 @@ use Rattle.wq_words.proofs.Seen.{own-append, own_one}
 use Rattle.wq_meaning.specs.Queueing.{queue_events}
 use Rattle.wq_meaning.proofs.Growing.{fresh-more}
 use Rattle.wq_words.proofs.Prefixes.{right_nil}
+use Rattle.wq_words.proofs.Closed.{closed_from_open as not_closed}
+use Rattle.wq_words.proofs.Closed.{closed_from_IsClosed as is_closed}
 
 -- the answers of the tests by which a script's meaning goes
 pub not_pending : (h : List Event) (k : ℕ) → ¬ IsPending h k → pending h k ≡ false
@@ -21,12 +23,6 @@ not_pending h k clear = le-ltb _ _ (omega (arith, clear))
 
 pub is_pending : (h : List Event) (k : ℕ) → IsPending h k → pending h k ≡ true
 is_pending h k is = lt-ltb _ _ is
-
-pub not_closed : (h : List Event) → ¬ IsClosed h → closed h ≡ false
-not_closed h shut = le-ltb _ _ (omega (arith, shut))
-
-pub is_closed : (h : List Event) → IsClosed h → closed h ≡ true
-is_closed h is = lt-ltb _ _ is
 
 -- an event that closes nothing
 pub closed_on : (h : List Event) (e : Event) → is_close e ≡ false → count_by is_close (h ++ e ∷ []) ≡ count_by is_close h

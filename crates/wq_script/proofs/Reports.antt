@@ -22,6 +22,7 @@ use Rattle.wq_script.specs.declared.seats.Seats.{Seats}
 use Rattle.wq_script.specs.declared.tally.Tally.{Tally}
 use Rattle.wq_script.specs.Engine.{Meets}
 use Rattle.wq_script.proofs.Meetings.{engine}
+use Rattle.wq_words.proofs.Counting.{chain_busy_own as chain_busy_only}
 
 queued_only : (w : ℕ) (e : Event) → eqb (seat_of e) w ≡ false → is_queued_by w e ≡ false
 queued_only w (Push s k) is = is
@@ -72,18 +73,6 @@ chain_only Close is = refl
 chain_only (Begin k) is = refl
 chain_only (End k) is = refl
 chain_only (ChainBusy k) is = refl
-
-chain_busy_only : (e : Event) → eqb (seat_of e) owner_seat ≡ false → is_chain_busy e ≡ false
-chain_busy_only (ChainBusy k) is = absurd (cc)
-chain_busy_only (Hold s k) is = refl
-chain_busy_only (Busy s k) is = refl
-chain_busy_only (Push s k) is = refl
-chain_busy_only (Back s k y) is = refl
-chain_busy_only Take is = refl
-chain_busy_only Close is = refl
-chain_busy_only (Begin k) is = refl
-chain_busy_only (End k) is = refl
-chain_busy_only (Chain k) is = refl
 
 -- a count of one seat's events is the same wherever its events are
 same_count : (p : Event → Bool) (c : ℕ) → ((e : Event) → eqb (seat_of e) c ≡ false → p e ≡ false) → (v h : List Event) → own c v ≡ own c h

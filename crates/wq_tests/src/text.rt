@@ -3,7 +3,6 @@ mod schedules;
 mod scripts;
 
 use std::alloc::{AllocError, Global};
-use std::test::Fail;
 use wq_text::ParseError;
 
 // `read`, or the refusal as it is printed.

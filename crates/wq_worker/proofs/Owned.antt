@@ -1,5 +1,6 @@
 -- What has begun and ended, and whether the queue is closed, changes by the owner's events alone.
 use Rattle.std.proofs.Common.{◌≡◌, ℕ, ◌+◌, Bool, true, false, cond, ◌||◌, ◌==◌, List, [], ◌∷◌, ◌++◌, sym, refl, ap, ◌∙◌, arith}
+use Rattle.std.proofs.lemmas.Bool.{or_parts}
 use Rattle.std.specs.Prelude.{filter, count_by}
 use Rattle.std.proofs.lemmas.List.{append-nil}
 use Rattle.std.proofs.lemmas.List.Elements.{filter_map-append}
@@ -38,17 +39,13 @@ pub record OwnerAdds (es v w : List Event) : Type 0 where
 pub owner_grows : (es : List Event) (n : ℕ) (v w : List Event) → Grows owner_seat es n v w → OwnerAdds es v w
 owner_grows es n v w g = record { begun_is = begun_on es n v w g; ended_is = ended_on es n v w g; closes = closes_on es n v w g }
 
-or_right : (b c : Bool) → (b || c) ≡ false → c ≡ false
-or_right true c is = absurd (cc)
-or_right false c is = is
-
 pub owner_of_both : (s : ℕ) (es : List Event) (n : ℕ) (v w : List Event) → Adds s es n v w → OwnerAdds es v w
 owner_of_both s es n v w a =
     let mine = own owner_seat es in
     let g : Grows owner_seat mine 0 v w = record {
       new = a.new;
       is = a.is;
-      mine = sym (filter-filter (λ e. seat_of e == owner_seat) (is_ours s) (λ e none. or_right (seat_of e == s) (seat_of e == owner_seat) none) a.new)
+      mine = sym (filter-filter (λ e. seat_of e == owner_seat) (is_ours s) (λ e none. (or_parts (seat_of e == s) (seat_of e == owner_seat) none).1) a.new)
           ∙ ap (own owner_seat) a.ours;
       theirs = omega arith;
     } in

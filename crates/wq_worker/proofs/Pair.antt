@@ -9,12 +9,8 @@ use Rattle.wq_live.proofs.Sends.{sees_on}
 use Rattle.wq_worker.specs.Seats.{Adds}
 use Rattle.wq_worker.specs.Pair.{Paired, Both}
 use Rattle.wq_worker.proofs.Seats.{adds_owner, adds_sender, adds_on, adds_none}
-
-same_on : (s t u : Known) → IsSame s t → IsSame t u → IsSame s u
-same_on s t u a b = record { queue_is = b.queue_is ∙ a.queue_is; layout_is = b.layout_is ∙ a.layout_is; number_is = b.number_is ∙ a.number_is }
-
-same_still : (s : Known) → IsSame s s
-same_still s = record { queue_is = refl; layout_is = refl; number_is = refl }
+use Rattle.wq_live.proofs.Sends.{same_on}
+use Rattle.wq_live.proofs.Sends.{same_none as same_still}
 
 pub sees_still : (xs : List Event) (n m : ℕ) (s t u : Known) → Sees xs n s t → Sees [] m t u → Sees xs n s u
 sees_still xs n m s t u a b = subst (λ (z : List Event). Sees z n s u) (append-nil xs) (sees_on (λ z. xs) (λ z. []) n m n s t u (omega arith) a b)

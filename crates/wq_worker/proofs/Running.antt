@@ -17,15 +17,6 @@ use Rattle.wq_words.proofs.Prefixes.{prefix_length}
 use Rattle.wq_words.proofs.Closed.{closed_from_IsClosed}
 use Rattle.wq_worker.proofs.Owned.{OwnerAdds}
 
-pub runs_some : (h : List Event) (k : ℕ) → running h ≡ Some k → IsRunning h
-runs_some h k is = slice_get_within (begun h) (length (ended h)) k is
-
-pub runs_none : (h : List Event) → running h ≡ None → ¬ IsRunning h
-runs_none h is = λ less. let some = slice_get-get_or (begun h) (length (ended h)) 0 less in absurd (cc)
-
-pub none_runs : (h : List Event) → ¬ IsRunning h → running h ≡ None
-none_runs h idle = slice_get_past (begun h) (length (ended h)) (omega arith)
-
 -- begun after nothing ran
 pub runs_begun : (layout : Layout) (k : ℕ) (es v w : List Event) → IsLegal layout v → ¬ IsRunning v → begun es ≡ k ∷ [] → ended es ≡ []
     → OwnerAdds es v w → running w ≡ Some k
@@ -44,9 +35,6 @@ idle_ended layout k es v w legal begins ends o =
     let e : length (ended w) ≡ length (ended v) + 1 =
     ap (length {A = ℕ}) (o.ended_is ∙ ap (λ (z : List ℕ). ended v ++ z) ends) ∙ length-append (ended v) (k ∷ []) in
     λ less. omega (arith, order.one_at_a_time, b, e, less)
-
-pub false_open : (h : List Event) → closed h ≡ false → ¬ IsClosed h
-false_open h is = λ less. let shut = closed_from_IsClosed h less in absurd (cc)
 
 -- each number of a list is one of the queue
 abbrev pub AreNumbers : Layout → List ℕ → Type 0

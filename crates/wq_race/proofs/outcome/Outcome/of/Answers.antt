@@ -7,7 +7,7 @@ use Rattle.wq_worker.specs.declared.book.Ledger.{Ledger}
 use Rattle.std.specs.Prelude.{All}
 use Rattle.wq_live.specs.Counts.{sender_counts}
 use Rattle.wq_race.specs.Outcome.{IsWhole, ledger_of}
-use Rattle.wq_race.proofs.Meeting.{prefix_on}
+use Rattle.wq_words.proofs.Prefixes.{prefix_on}
 use Rattle.wq_race.proofs.Booking.{heard_on}
 use Rattle.wq_race.proofs.Ended.{IsOver, surely, never_unbalanced, tells, ran_all, all_counted, senders_count}
 use Rattle.wq_race.proofs.outcome.Outcome.of.Goals as goal

@@ -6,7 +6,8 @@ use Rattle.wq_words.specs.History.{running}
 use Rattle.wq_worker.specs.Pair.{Both}
 use Rattle.wq_worker.specs.State.{WorkerState, AreWorkerParts}
 use Rattle.wq_worker.specs.Step.{Owes, Ends, Runs}
-use Rattle.wq_worker.proofs.Running.{runs_some, number_runs}
+use Rattle.wq_worker.proofs.Running.{number_runs}
+use Rattle.wq_words.proofs.Running.{runs_from_running as runs_some}
 use Rattle.wq_worker.proofs.Follow.{advance_stays, advance_layout, advance_pairs}
 use Rattle.wq_worker.proofs.State.{advance_fits, fit_ended}
 use Rattle.wq_worker.proofs.Step.{state_of, advance_owes, advance_ends, runs_kind}

@@ -1,6 +1,6 @@
 use Rattle.std.proofs.Common.{rules, ◌≡◌, None}
 use Rattle.wq_words.specs.History.{running}
-use Rattle.wq_worker.proofs.Running.{runs_none}
+use Rattle.wq_words.proofs.Running.{rests_from_running as runs_none}
 use Rattle.wq_worker.proofs.Rows.{worker_on, moves_same, runs_same, runs_legal}
 use Rattle.wq_worker.proofs.Step.{runs_fresh}
 use Rattle.wq_worker.proofs.worker.Worker.run_one.Goals as goal
