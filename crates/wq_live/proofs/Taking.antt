@@ -89,8 +89,8 @@ follows_on p q r follows told = record {
 pub follows_none : (p : Part) → OnlySees p p
 follows_none p = record { layout_is = refl; seat_is = refl; grows = record { new = []; is = sym (append-nil p.seen); mine = refl; theirs = omega arith } }
 
-pub sees_on : (p q r : Part) → OnlySees p q → OnlySees q r → OnlySees p r
-sees_on p q r a b = record {
+pub follows_both : (p q r : Part) → OnlySees p q → OnlySees q r → OnlySees p r
+follows_both p q r a b = record {
   layout_is = b.layout_is ∙ a.layout_is;
   seat_is = b.seat_is ∙ a.seat_is;
   grows = grows_on p.seat [] [] 0 0 0 p.seen q.seen r.seen (omega arith) a.grows (subst (λ (c : ℕ). Grows c [] 0 q.seen r.seen) a.seat_is b.grows);

@@ -107,6 +107,42 @@ fn owner_executes_while_two_threads_queue(rt: HostRuntime) -> Result<(), Fail> {
     Ok(())
 }
 
+/// Queues three items again and again, each where it is no longer pending. Answers how many were queued.
+fn queue_again(sender: &mut Sender, rounds: u32) -> u32 {
+    let mut queued = 0u32;
+    for _ in 0..rounds {
+        for item in 0..3u32 {
+            if item >= sender.layout().items {
+                return queued;
+            }
+            if let Answer::Queued { .. } = sender.queue_tries(item, 8) {
+                queued = queued.wrapping_add(1);
+            }
+        }
+    }
+    queued
+}
+
+/// What has begun is queued again, and linked anew, while others of its batch wait.
+#[test]
+fn items_are_queued_again_while_a_batch_waits(rt: HostRuntime) -> Result<(), Fail> {
+    let layout = Layout::new(4, 1, 1)?;
+    let (mut owner, mut senders) = build(rt.alloc(), layout)?;
+    let mut sender = senders.pop().expect(&rt, "sender 0");
+    let mut executed = Vec::new(rt.alloc());
+    let (queued, running) = join_mut(
+        &rt,
+        &mut || queue_again(&mut sender, 2000),
+        &mut || execute_for(&mut owner, 4000, &mut executed),
+    );
+    assert!(rt; running);
+    assert!(rt; close(&mut owner).is_some());
+    assert!(rt; execute_for(&mut owner, 4, &mut executed));
+    assert_eq!(rt; executed.len(), queued as usize);
+    assert!(rt; owner.done().is_some());
+    Ok(())
+}
+
 /// Flushes by barrier 0. True where the barrier was queued and has been executed.
 fn flush<R: Wait>(rt: &R, sender: &mut Sender) -> bool {
     if sender.layout().barriers == 0 {

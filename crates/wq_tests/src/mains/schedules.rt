@@ -58,6 +58,11 @@ fn outputs(rt: HostRuntime) -> Result<(), Fail> {
             "0 hold 0\n0 look\n0 link 0\n0 push 0\no chain 1\no close\no walk\no chain 1\no begin\no chain 1\no chain 1\no end\no begin\no end\no close\n",
             "held\nempty\nlinked\npushed first\nnot enabled\nclosed item 0\nend\nnot enabled\nbegan 0\nchained 1\nbusy\nended 0\nbegan 1\nended 1\nnot enabled\naccepted 0 1\nbegun 0 1\n",
         ),
+        // Links turned: none before the walk of a number, and none after its begin.
+        (
+            "0 hold 0\n0 look\n0 link 0\n0 push 0\n0 hold 1\n0 look\n0 link 1\n0 push 1\no take\no turn 1 end\no walk\no turn 1 end\no walk\no turn 0 1\no walk\no begin\no turn 0 end\no end\no walk\no begin\n",
+            "held\nempty\nlinked\npushed first\nheld\nitem 0\nlinked\npushed\ntook item 1\nnot enabled\nnext 0\nturned\nend\nturned\nnext 1\nbegan 0\nnot enabled\nended 0\nend\nbegan 1\naccepted 0 1\nbegun 0 1\n",
+        ),
         // Barriers and the stop item by their names, and each cause of a give-back.
         (
             "0 hold b0\n0 look\n0 link b0\n0 push b0\n1 hold stop\n1 look\n1 link stop\n1 push stop\no take\no walk\no walk\no begin\no end\no begin\n0 hold 3\n0 back 3 closed\n0 back 3 contended\n0 back 3 cancelled\n0 hold 3\n0 check 3\n0 back 3 cancelled\n0 check 3\n",

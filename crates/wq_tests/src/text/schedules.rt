@@ -18,6 +18,7 @@ fn fourth_lines_of_schedules(rt: HostRuntime) -> Result<(), Fail> {
             "o take\no close\no walk\no begin\no end\no chain 3\n",
             "read",
         ),
+        ("o turn 0 1\no turn b0 stop\no turn stop end\n", "read"),
         ("barriers 2\n0 hold b1\n", "read"),
         ("0 hold 0\nbarriers 2\n", "line 5: Header"),
         ("0 hold 0", "line 4: Cut"),
@@ -50,6 +51,13 @@ fn fourth_lines_of_schedules(rt: HostRuntime) -> Result<(), Fail> {
         ("2 look\n", "line 4: Sender"),
         ("0 hold 4\n", "line 4: Item"),
         ("o chain 4\n", "line 4: Item"),
+        ("0 turn 0 1\n", "line 4: Word"),
+        ("o turn 0\n", "line 4: Count"),
+        ("o turn 0 1 2\n", "line 4: Count"),
+        ("o turn end 0\n", "line 4: Number"),
+        ("o turn 4 x\n", "line 4: Item"),
+        ("o turn 0 x\n", "line 4: Number"),
+        ("o turn b0 b1\n", "line 4: Barrier"),
         ("0 hold b1\n", "line 4: Barrier"),
     ];
     for (row, want) in rows {

@@ -1,5 +1,5 @@
 use Rattle.wq_live.specs.Sits.{kept_batch}
-use Rattle.wq_live.proofs.Taking.{sees_on}
+use Rattle.wq_live.proofs.Taking.{follows_both}
 use Rattle.wq_live.proofs.Hanging.{taken_behind}
 use Rattle.wq_live.proofs.owner.walk_all.Goals as goal
 
@@ -9,4 +9,4 @@ hang-requires-clause-both c = let p = c.args.chair.now.part in
 
 pub returns-clause-follows : goal.returns-clause-follows
 returns-clause-follows c =
-    sees_on c.args.chair.now.part c.turn_taken-taken.new.chair.part c.hang.new.chair.part c.turn_taken-taken.ensures.follows c.hang.ensures.follows
+    follows_both c.args.chair.now.part c.turn_taken-taken.new.chair.part c.hang.new.chair.part c.turn_taken-taken.ensures.follows c.hang.ensures.follows
