@@ -10,7 +10,6 @@ run: build
 
 test:
 	rt ci
-	$(MAKE) examples
 
 # Says what it does and how long that takes, and shows a line for each crate.
 build:
