@@ -53,8 +53,8 @@ use Rattle.wq_race.specs.Plan.{IsLayoutOf}
 use Rattle.wq_race.specs.Race.{items_at, IsOfStop}
 use Rattle.wq_race.specs.Outcome.{queueings}
 use Rattle.wq_race.proofs.Running.{own_room}
-use Rattle.wq_race.proofs.Events.{
 use Rattle.wq_words.proofs.Counting.{queued_own as push_own}
+use Rattle.wq_race.proofs.Events.{
   Has,
   has_own,
   own_has,

@@ -70,7 +70,7 @@ fn answer<O: Write, E: Write>(alloc: Global, error: Error, output: &mut O, fault
     2
 }
 
-/// Runs what the words ask for, the program's own name first. Files are opened by `open`, and threads made by `threads`. The
+/// Runs what the words ask for, the program's own name first. Files are opened by `opener`, and threads made by `threads`. The
 /// answer is the exit status: 0 where the result, help or the version was written; 1 where the text was refused, the words or
 /// the file could not be read, or the output not be written; 2 where the words were refused; 3 for want of memory or of a
 /// thread.
@@ -78,7 +78,7 @@ pub fn run<T, R, P, I, O, E>(
     threads: &T,
     alloc: Global,
     words: io::Result<Vec<String>>,
-    open: P,
+    opener: P,
     streams: Streams<I, O, E>,
 ) -> u8
 where
@@ -88,7 +88,7 @@ where
     I: Read + Drop,
     O: Write + Drop,
     E: Write + Drop,
-    requires { P.IsAlwaysCallable open }
+    requires { P.IsAlwaysCallable opener }
 {
     let Streams {
         input,
@@ -107,7 +107,7 @@ where
     let Source::File(path) = task.source else {
         return run_text(threads, alloc, task.kind, input, output, faults);
     };
-    match open(path) {
+    match opener(path) {
         Ok(file) => run_text(threads, alloc, task.kind, file, output, faults),
         Err(error) => end(Err(unread(&error)), output, faults),
     }
