@@ -9,7 +9,7 @@ use Rattle.wq_table.specs.declared.table.Stage.TheVariants.{Owns}
 use Rattle.wq_table.specs.Plays.{Makes}
 use Rattle.wq_table.specs.Chair.{IsToWalk, IsToTurn}
 use Rattle.wq_live.specs.declared.row.Row.{Row}
-use Rattle.wq_live.specs.Row.{link_in, LinksOn, Spells, IsRowOf}
+use Rattle.wq_live.specs.Row.{link_in, LinksOn, LinksFrom, IsRowOf}
 use Rattle.wq_live.specs.Sits.{Stands, HasRow, Turned, HasBoth, HasFirst, kept_batch}
 use Rattle.wq_live.proofs.Rows.{on_same, last_in, on_hung, none_counted}
 use Rattle.wq_live.proofs.Tells.{Tells}
@@ -27,7 +27,7 @@ front_counted ws row (k ∷ ks) is some = subst (λ (j : ℕ). 0 < times j (k �
 -- the second row spelled behind the first, where the last link of the first was turned
 hung : (ws ws' : List ℕ) (row more : Row) (ks js : List ℕ) → row.count ≢ 0 → more.count ≢ 0 → times row.last ks ≤ 1
     → ((i : ℕ) → i ≢ row.last → 0 < times i ks → link_in ws' i ≡ link_in ws i) → ((i : ℕ) → 0 < times i js → link_in ws' i ≡ link_in ws i)
-    → link_in ws' row.last ≡ more.front + 1 → IsRowOf ws row ks → IsRowOf ws more js → Spells ws' row.front more.last (ks ++ js)
+    → link_in ws' row.last ≡ more.front + 1 → IsRowOf ws row ks → IsRowOf ws more js → LinksFrom ws' row.front more.last (ks ++ js)
 hung ws ws' row more [] js some some' once same behind turned is is' = absurd (some is.count_is)
 hung ws ws' row more (k ∷ ks) [] some some' once same behind turned is is' = absurd (some' is'.count_is)
 hung ws ws' row more (k ∷ ks) (j ∷ js) some some' once same behind turned is is' = (

@@ -13,11 +13,11 @@ LinksOn words k last [] = last ≡ k
 LinksOn words k last (j ∷ js) = (link_in words k ≡ j + 1) × LinksOn words j last js
 
 -- from the front to the last the links spell these numbers
-abbrev pub Spells : List ℕ → ℕ → ℕ → List ℕ → Type 0
-Spells words front last [] = Unit {0}
-Spells words front last (k ∷ ks) = (front ≡ k) × LinksOn words k last ks
+abbrev pub LinksFrom : List ℕ → ℕ → ℕ → List ℕ → Type 0
+LinksFrom words front last [] = Unit {0}
+LinksFrom words front last (k ∷ ks) = (front ≡ k) × LinksOn words k last ks
 
 -- the row has these numbers, oldest first
 pub record IsRowOf (words : List ℕ) (row : Row) (ks : List ℕ) : Type 0 where
   pub count_is : row.count ≡ length ks
-  pub spells : Spells words row.front row.last ks
+  pub spells : LinksFrom words row.front row.last ks
