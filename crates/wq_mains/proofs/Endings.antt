@@ -30,6 +30,14 @@ module _ (Means : List ℕ → List ℕ → Type 0) (HasNone : List ℕ → Fail
   fails_unmade text (failure.Refused refusal) never none = none
   fails_unmade text (failure.RefusedPlan refusal) never none = none
 
+  -- of a text that was read nothing is made, for such a cause
+  pub fails_made : {X : Type 0} (result : Result X Failure) (remaining : Option (List ℕ)) (text given : List ℕ)
+      → ((t : List ℕ) → HasNone t failure.Unwritable → ⊥) → IfSome remaining (λ bytes. text ≡ take limit bytes) → given ≡ text
+      → IfErr result (HasNone given) → IfErr result (λ cause. IfSome remaining (λ bytes. Fails Means HasNone (take limit bytes) cause))
+  fails_made (Ok x) remaining text given never is same none = tt
+  fails_made (Err f) remaining text given never is same none =
+      of_read (λ t. Fails Means HasNone t f) limit remaining text is (fails_unmade text f (never text) (subst (λ t. HasNone t f) same none))
+
   pub fails_at_end : {X : Type 0} (items : X → List ℕ) (remaining : Option (List ℕ)) (output : Result X Failure) (cause : Failure)
       → IfOk output (λ x. IfSome remaining (λ bytes. Means (take limit bytes) (items x)))
       → IfErr output (λ f. IfSome remaining (λ bytes. Fails Means HasNone (take limit bytes) f))
