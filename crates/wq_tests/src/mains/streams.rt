@@ -163,7 +163,7 @@ fn reader_fails(rt: HostRuntime) {
 /// A write or the flush that fails at each call in turn ends with status 1, and what was written begins the output.
 fn check_writer<T: Abort + Threads + Wait + Sync>(rt: &T, alloc: Global, row: &Row) {
     let main = row.main;
-    for calls in 0..row.writes + 2 {
+    for calls in 0..row.writes.saturating_add(2) {
         let mut writer = CutWriter {
             taken: Vec::new(alloc),
             calls,
