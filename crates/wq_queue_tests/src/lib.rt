@@ -1,0 +1,10 @@
+//! Tests of queues, workers and delay tables by their public calls alone: what their contracts promise nobody. Each module is
+//! named after the crate that it tests.
+#![tactic(auto)]
+
+#[cfg(test)]
+mod delay;
+#[cfg(test)]
+mod live;
+#[cfg(test)]
+mod worker;
