@@ -96,7 +96,8 @@ linked_turn n words seats h k v free old s j is =
 
 module _ (m : Machine) (o : IsSound m) (k : ℕ) where
   count_of :
-      times k (accepted m.history) ≡ times k (begun m.history) + (times k m.batch + (times k o.chains.remaining + times k m.walked)) + times k (listed m.history)
+      times k (accepted m.history)
+      ≡ times k (begun m.history) + (times k m.batch + (times k o.chains.remaining + times k m.walked)) + times k (listed m.history)
   count_of =
       let a = o.chains in
       omega (

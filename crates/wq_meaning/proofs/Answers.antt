@@ -47,14 +47,17 @@ modified_given armed.Contended alone room = absurd (alone refl)
 modified_given armed.TooFar alone room = (λ e. cc, λ e. cc)
 modified_given armed.Memory alone room = absurd (room refl)
 
-pub modify_given : (k delay : ℕ) (h : List Event) (t : DelayTable) → (modify_answer k delay h t ≢ modified.Contended) × (modify_answer k delay h t ≢ modified.Memory)
+pub modify_given : (k delay : ℕ) (h : List Event) (t : DelayTable) → (modify_answer k delay h t ≢ modified.Contended)
+    × (modify_answer k delay h t ≢ modified.Memory)
 modify_given k delay h t =
     let off = arm_given k delay h t in
     each (is_too_far delay t) (on_table k t.entries) ((delay == 0) && closed h) (modified_given (arm_answer k delay h t) off.0 off.1)
   where
     each : (far on back : Bool) → (modified_of (arm_answer k delay h t) ≢ modified.Contended) × (modified_of (arm_answer k delay h t) ≢ modified.Memory)
-        → ((if far then modified.TooFar else if on then (if back then modified.Closed else modified.Moved) else modified_of (arm_answer k delay h t)) ≢ modified.Contended)
-        × ((if far then modified.TooFar else if on then (if back then modified.Closed else modified.Moved) else modified_of (arm_answer k delay h t)) ≢ modified.Memory)
+        → ((if far then modified.TooFar else if on then (if back then modified.Closed else modified.Moved)
+        else modified_of (arm_answer k delay h t)) ≢ modified.Contended)
+        × ((if far then modified.TooFar else if on then (if back then modified.Closed else modified.Moved)
+        else modified_of (arm_answer k delay h t)) ≢ modified.Memory)
     each true on back given = (λ e. cc, λ e. cc)
     each false true true given = (λ e. cc, λ e. cc)
     each false true false given = (λ e. cc, λ e. cc)

@@ -59,7 +59,8 @@ module _ (s k delay : ℕ) (h : List Event) (t : DelayTable) where
     no (is_too_far delay t) _ _ near ∙ no (queues_now k delay h) _ _ later,
   )
 
-  pub modify_far : is_too_far delay t ≡ true → (modify_events s k delay h t ≡ []) × (modify_table k delay h t ≡ t) × (modify_answer k delay h t ≡ modified.TooFar)
+  pub modify_far : is_too_far delay t ≡ true → (modify_events s k delay h t ≡ []) × (modify_table k delay h t ≡ t)
+      × (modify_answer k delay h t ≡ modified.TooFar)
   modify_far far = (yes (is_too_far delay t) _ _ far, yes (is_too_far delay t) _ _ far, yes (is_too_far delay t) _ _ far)
 
   pub modify_off : is_too_far delay t ≡ false → on_table k t.entries ≡ false → (modify_events s k delay h t ≡ arm_events s k delay h t)

@@ -7,7 +7,7 @@ use Rattle.wq_words.specs.declared.event.Event.TheVariants.{Hold, Busy, Push, Ba
 use Rattle.wq_words.specs.declared.event.Why.TheVariants as why
 use Rattle.wq_words.specs.History.{begun, ended, closed, pending, taken, next}
 use Rattle.wq_meaning.specs.Execution.{no_follow, follow_of, take_events, follow_events, after_follow, after_run, after_execution, after_executions, go_on}
-use Rattle.wq_meaning.proofs.Growing.{ended-append}
+use Rattle.wq_words.proofs.Appended.{ended-append}
 
 -- queueing what follows ends nothing
 ended_follow : (worker k : ℕ) (h : List Event) → ended (follow_events worker k h) ≡ []

@@ -130,5 +130,8 @@ kept_all layout s (c ∷ cs) k = kept_all layout (state_after layout s c) cs (ke
 
 pub final_in_order : (layout : Layout) (commands : List Command) → IsInOrder (final_state layout commands).table.entries
 final_in_order layout commands =
-    let none : Kept (opening_state layout).table = record { order = λ i j d _ lt. absurd (omega (arith, lt)); numbers = λ i d lt. absurd (omega (arith, lt)) } in
+    let none : Kept (opening_state layout).table = record {
+      order = λ i j d _ lt. absurd (omega (arith, lt));
+      numbers = λ i d lt. absurd (omega (arith, lt));
+    } in
     (kept_all layout (opening_state layout) commands none).order

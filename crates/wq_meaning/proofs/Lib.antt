@@ -1,4 +1,3 @@
-pub mod Growing
 pub mod Executions
 pub mod Answers
 pub mod Armings

@@ -9,7 +9,8 @@ use Rattle.wq_meaning.specs.Commands.{ScriptState, state_after, lines, output_fr
 pub left_at : (commands : List Command) (i : ℕ) (d : Command) → i < length commands → drop i commands ≡ get_or commands i d ∷ drop (i + 1) commands
 left_at commands i d lt = rw (add-one, drop-cons commands i d lt) refl
 
-pub output_more : (layout : Layout) (s : ScriptState) (commands : List Command) (i : ℕ) (c : Command) (out new all : List ℕ) → drop i commands ≡ c ∷ drop (i + 1) commands
+pub output_more : (layout : Layout) (s : ScriptState) (commands : List Command) (i : ℕ) (c : Command) (out new all : List ℕ)
+    → drop i commands ≡ c ∷ drop (i + 1) commands
     → new ≡ out ++ lines layout s (state_after layout s c) c
     → out ++ output_from layout s (drop i commands) ≡ all → new ++ output_from layout (state_after layout s c) (drop (i + 1) commands) ≡ all
 unfolding output_from
@@ -18,6 +19,7 @@ output_more layout s commands i c out new all left wrote so_far =
     ∙ append_assoc out (lines layout s (state_after layout s c) c) (output_from layout (state_after layout s c) (drop (i + 1) commands))
     ∙ ap (λ cs. out ++ output_from layout s cs) (sym left) ∙ so_far
 
-pub output_done : (layout : Layout) (s : ScriptState) (commands : List Command) (out all : List ℕ) → commands ≡ [] → out ++ output_from layout s commands ≡ all → out ≡ all
+pub output_done : (layout : Layout) (s : ScriptState) (commands : List Command) (out all : List ℕ) → commands ≡ []
+    → out ++ output_from layout s commands ≡ all → out ≡ all
 unfolding output_from
 output_done layout s commands out all none so_far = sym (append-nil out) ∙ ap (λ cs. out ++ output_from layout s cs) (sym none) ∙ so_far

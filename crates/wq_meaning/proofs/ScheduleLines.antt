@@ -18,22 +18,26 @@ continues_at_first layout turns m out first nothing n rest given =
     let Q : List ℕ → Type 0 = λ x. AllGive (opening layout) turns n (x ++ rest) in
     subst Q (sym nothing) (subst P first given)
 
-pub continues_behind : (layout : Layout) (turns : List Turn) (i : ℕ) (d : Turn) (m next : Machine) (out new : List ℕ) → i < length turns → GivesBehind m (get_or turns i d) next out new
+pub continues_behind : (layout : Layout) (turns : List Turn) (i : ℕ) (d : Turn) (m next : Machine) (out new : List ℕ)
+    → i < length turns → GivesBehind m (get_or turns i d) next out new
     → Continues layout turns m (drop i turns) out → Continues layout turns next (drop (i + 1) turns) new
 continues_behind layout turns i d m next out new lt gives so_far n rest given =
     let left : drop i turns ≡ get_or turns i d ∷ drop (i + 1) turns = rw (add-one, drop-cons turns i d lt) refl in
     let P : List Turn → Type 0 = λ ts. AllGive m ts n (gives.0 ++ rest) in
     let Q : List ℕ → Type 0 = λ xs. AllGive (opening layout) turns n xs in
-    subst Q (sym (append_assoc out gives.0 rest) ∙ ap (λ x. x ++ rest) (sym gives.2)) (so_far n (gives.0 ++ rest) (subst P (sym left) (next, gives.0, rest, gives.1, given, refl)))
+    subst Q (sym (append_assoc out gives.0 rest) ∙ ap (λ x. x ++ rest) (sym gives.2))
+    (so_far n (gives.0 ++ rest) (subst P (sym left) (next, gives.0, rest, gives.1, given, refl)))
 
-pub output_whole : (layout : Layout) (turns left : List Turn) (m : Machine) (out text : List ℕ) → left ≡ [] → Continues layout turns m left out → text ≡ out ++ ending m → IsScheduleOutput layout turns text
+pub output_whole : (layout : Layout) (turns left : List Turn) (m : Machine) (out text : List ℕ) → left ≡ []
+    → Continues layout turns m left out → text ≡ out ++ ending m → IsScheduleOutput layout turns text
 output_whole layout turns left m out text none so_far whole =
     let P : List Turn → Type 0 = λ ts. AllGive m ts m [] in
     let Q : List ℕ → Type 0 = λ xs. AllGive (opening layout) turns m xs in
     record { machine = m; lines = out; given = subst Q (append-nil out) (so_far m [] (subst P (sym none) (refl, refl))); whole = whole }
 
 -- the two rows that are written behind the lines are the ending
-pub ends_with_rows : (m : Machine) (shown : Layout) (layout : Layout) (ks js : List ℕ) (out mid text : List ℕ) → shown ≡ layout → m.layout ≡ layout → ks ≡ accepted m.history → js ≡ begun m.history
+pub ends_with_rows : (m : Machine) (shown : Layout) (layout : Layout) (ks js : List ℕ) (out mid text : List ℕ) → shown ≡ layout
+    → m.layout ≡ layout → ks ≡ accepted m.history → js ≡ begun m.history
     → mid ≡ out ++ row_text shown (codes "accepted") ks → text ≡ mid ++ row_text shown (codes "begun") js → text ≡ out ++ ending m
 ends_with_rows m shown layout ks js out mid text same own first second one two =
     let here : shown ≡ m.layout = same ∙ sym own in

@@ -64,7 +64,8 @@ rows_few : (w : ℕ) (follows : List (ArrayVec ℕ)) (ends : ℕ → Bool) (n : 
 rows_few w follows ends n h one more None = omega (arith, one)
 rows_few w follows ends n h one more (Some k) = stop (ends k)
   where
-    stop : (b : Bool) → length (if b then after_execution w follows h else after_executions w follows ends n (after_execution w follows h)) ≤ length h + 11 * suc n
+    stop : (b : Bool) → length (if b then after_execution w follows h else after_executions w follows ends n (after_execution w follows h))
+        ≤ length h + 11 * suc n
     stop true = omega (arith, one)
     stop false = omega (arith, one, more)
 
@@ -96,7 +97,8 @@ split_few p [] = omega arith
 split_few p (x ∷ xs) = each (p x) (split_few p xs)
   where
     each : (b : Bool) → length (filter p xs) + length (filter (λ x. not (p x)) xs) ≡ length xs
-        → length (cond b (x ∷ filter p xs) (filter p xs)) + length (cond (not b) (x ∷ filter (λ x. not (p x)) xs) (filter (λ x. not (p x)) xs)) ≡ suc (length xs)
+        → length (cond b (x ∷ filter p xs) (filter p xs)) + length (cond (not b) (x ∷ filter (λ x. not (p x)) xs) (filter (λ x. not (p x)) xs))
+        ≡ suc (length xs)
     each true is = omega (arith, is)
     each false is = omega (arith, is)
 

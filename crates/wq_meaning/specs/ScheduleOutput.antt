@@ -38,7 +38,8 @@ pub record IsScheduleOutput (layout : Layout) (turns : List Turn) (text : List �
 
 -- a schedule has one output at most
 abbrev pub HasOneOutput : Type 0
-HasOneOutput = (layout : Layout) (turns : List Turn) (text other : List ℕ) → IsScheduleOutput layout turns text → IsScheduleOutput layout turns other → text ≡ other
+HasOneOutput = (layout : Layout) (turns : List Turn) (text other : List ℕ) → IsScheduleOutput layout turns text
+    → IsScheduleOutput layout turns other → text ≡ other
 
 -- a turn's text was written behind what was there before
 abbrev pub GivesBehind : Machine → Turn → Machine → List ℕ → List ℕ → Type 0

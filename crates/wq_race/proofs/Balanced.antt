@@ -129,7 +129,9 @@ one_at s b (x ∷ xs) d all low high =
       | inr le ↦
           let same : x.number ≡ s = omega (arith, at, low, le) in
           let place : s - b ≡ 0 = omega (arith, le) in
-          keep s (ledger_of x) (map ledger_of xs) same ∙ (ap (λ (ls : List Ledger). ledger_of x ∷ ls) (none_at s (b + 1) xs (numbered_rest b x xs all) (inl (omega (arith, low, le)))) ∙ ap (λ (i : ℕ). ledger_of (get_or (x ∷ xs) i d) ∷ []) (sym place))
+          keep s (ledger_of x) (map ledger_of xs) same ∙ (ap (λ (ls : List Ledger). ledger_of x ∷ ls)
+          (none_at s (b + 1) xs (numbered_rest b x xs all) (inl (omega (arith, low, le))))
+          ∙ ap (λ (i : ℕ). ledger_of (get_or (x ∷ xs) i d) ∷ []) (sym place))
     ]
 
 -- each sender's ledger, and the program's behind them

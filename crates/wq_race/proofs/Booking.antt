@@ -37,7 +37,8 @@ heard_on a b c x y = record {
 -- a sender that made no event has the ledger that it had
 pub ledger_same : (a b : Known) (l : Ledger) → Sees [] 0 a b → l.number ≡ a.number → l.counts ≡ sender_counts b.number b.seen → l ≡ ledger_of a
 ledger_same a b l s number counts =
-    let same : sender_counts a.number a.seen ≡ sender_counts a.number b.seen = counts_none a.number 0 a.seen b.seen (sender_counts a.number a.seen) refl s.grows in
+    let same : sender_counts a.number a.seen ≡ sender_counts a.number b.seen = counts_none a.number 0 a.seen b.seen
+    (sender_counts a.number a.seen) refl s.grows in
     let now : l.counts ≡ sender_counts a.number a.seen = counts ∙ (ap (λ (n : ℕ). sender_counts n b.seen) s.same.number_is ∙ sym same) in
     λ i. record { number = number i; counts = now i }
 

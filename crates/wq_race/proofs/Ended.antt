@@ -52,10 +52,10 @@ use Rattle.wq_worker.specs.Book.{BookState, IsLedgerOf}
 use Rattle.wq_worker.specs.declared.book.Ledger.{Ledger}
 use Rattle.wq_worker.specs.declared.balance.Unbalanced.{Unbalanced}
 use Rattle.wq_worker.specs.Balance.{AreWhole, AreOwnerWhole, ledgers_of, HasOne, IsUnbalanced}
-use Rattle.wq_worker.proofs.Pushes.{is_queued_below, below_more, below_all, length-accepted_pushes}
+use Rattle.wq_worker.proofs.Pushes.{is_queued_below, below_more, below_all}
 use Rattle.wq_worker.specs.State.{WorkerState, items_among}
 use Rattle.wq_worker.specs.Follow.{Follows}
-use Rattle.wq_worker.proofs.Owned.{count_by-append}
+use Rattle.wq_words.proofs.Appended.{count_by-append, accepted-count}
 use Rattle.wq_worker.proofs.Draining.{begun-complete}
 use Rattle.wq_race.specs.declared.idle.Idle.{Idle}
 use Rattle.wq_race.specs.declared.plan.Plan.{Plan}
@@ -103,7 +103,8 @@ pub record IsOver (plan : Plan) (team : Team) (w : WorkerState Idle) (senders : 
   pub told : All (IsTold book.seen) senders
   pub program : (later : List Event) × IsPrefix book.seen later × (own (plan.senders + 1) later ≡ own (plan.senders + 1) team.program.seen)
 
-module _ (plan : Plan) (team : Team) (w : WorkerState Idle) (senders : List Known) (work : Idle) (book : BookState) (o : IsOver plan team w senders work book) where
+module _ (plan : Plan) (team : Team) (w : WorkerState Idle) (senders : List Known) (work : Idle) (book : BookState)
+    (o : IsOver plan team w senders work book) where
   size : book.layout ≡ team.worker.layout
   size = o.ended.layout_is ∙ o.met.layout_is
 
@@ -123,8 +124,10 @@ module _ (plan : Plan) (team : Team) (w : WorkerState Idle) (senders : List Know
       let number : now.number ≡ s = k.same.number_is ∙ first.number_is in
       let t = o.told s d (omega (arith, lt, o.run.count, o.known.count)) in
       let later : own s t.0 ≡ own s now.seen = subst (λ (c : ℕ). own c t.0 ≡ own c now.seen) number t.2 in
-      let heard : own s book.seen ≡ own s now.seen = own_between s now.seen book.seen t.0 (prefix_on now.seen w.seen book.seen k.known o.ended.begins) t.1 later in
-      let before : own s now.seen ≡ own s (get_or team.senders.items s d).seen = subst (λ (c : ℕ). own c now.seen ≡ own c (get_or team.senders.items s d).seen) first.number_is k.mine in
+      let heard : own s book.seen ≡ own s now.seen = own_between s now.seen book.seen t.0
+      (prefix_on now.seen w.seen book.seen k.known o.ended.begins) t.1 later in
+      let before : own s now.seen ≡ own s (get_or team.senders.items s d).seen = subst
+      (λ (c : ℕ). own c now.seen ≡ own c (get_or team.senders.items s d).seen) first.number_is k.mine in
       record {
         number_is = number;
         told = heard;
@@ -140,7 +143,8 @@ module _ (plan : Plan) (team : Team) (w : WorkerState Idle) (senders : List Know
   is_race =
       let number : w.number ≡ plan.senders = o.met.number_is ∙ o.run.number_is in
       let sent : own plan.senders book.seen ≡ own plan.senders w.seen = subst (λ (c : ℕ). own c book.seen ≡ own c w.seen) number o.ended.unsent in
-      let before : own plan.senders w.seen ≡ own plan.senders team.worker.seen = subst (λ (c : ℕ). own c w.seen ≡ own c team.worker.seen) o.run.number_is o.met.unsent in
+      let before : own plan.senders w.seen ≡ own plan.senders team.worker.seen = subst
+      (λ (c : ℕ). own c w.seen ≡ own c team.worker.seen) o.run.number_is o.met.unsent in
       let p = o.program in
       record {
         sized = o.run.layout;
@@ -227,12 +231,13 @@ module _ (plan : Plan) (team : Team) (w : WorkerState Idle) (senders : List Know
   few_ended =
       let n = plan.senders in let l = team.worker.layout in let h = book.seen in
       let size_is : l.senders ≡ n + 1 + 1 = omega (arith, o.run.layout.senders_is) in
-      let pushes_is : count_by (is_queued_below (n + 1 + 1)) h ≡ count_by is_push h = subst (λ (k : ℕ). count_by (is_queued_below k) h ≡ count_by is_push h) size_is (below_all l h legal) in
+      let pushes_is : count_by (is_queued_below (n + 1 + 1)) h ≡ count_by is_push h = subst
+      (λ (k : ℕ). count_by (is_queued_below k) h ≡ count_by is_push h) size_is (below_all l h legal) in
       let workers : count_by (is_queued_by n) h ≡ 0 = queued_own n h ∙ ap (count_by (is_queued_by n)) is_race.unsent in
       omega (
         arith,
         o.ended.complete.1,
-        length-accepted_pushes h,
+        accepted-count h,
         is_race.unchained,
         pushes_is,
         below_more (n + 1) h,

@@ -74,7 +74,8 @@ passed_on false e x xs h = h
 -- an event stands among those of its seat
 pub has_own : (e : Event) (h : List Event) → Has e h → Has e (own (seat_of e) h)
 has_own e [] has = absurd has
-has_own e (x ∷ xs) (inl is) = subst (λ (y : Event). Has e (cond (seat_of y == seat_of e) (y ∷ own (seat_of e) xs) (own (seat_of e) xs))) is (kept (seat_of e == seat_of e) e e (own (seat_of e) xs) (eq-eqb (seat_of e) (seat_of e) refl))
+has_own e (x ∷ xs) (inl is) = subst (λ (y : Event). Has e (cond (seat_of y == seat_of e) (y ∷ own (seat_of e) xs) (own (seat_of e) xs))) is
+    (kept (seat_of e == seat_of e) e e (own (seat_of e) xs) (eq-eqb (seat_of e) (seat_of e) refl))
 has_own e (x ∷ xs) (inr has) = passed_on (seat_of x == seat_of e) e x (own (seat_of e) xs) (has_own e xs has)
 
 was : (b : Bool) (e x : Event) (xs ys : List Event) → (Has e xs → Has e ys) → Has e (cond b (x ∷ xs) xs) → (e ≡ x) ⊎ Has e ys
@@ -256,7 +257,8 @@ row_pushed n s a (suc m) es room free opens f =
     let in_first : (e : Event) → Has e f.0 → Has e es = λ e h. subst (Has e) (sym f.2) (has_left e f.0 f.1 h) in
     let in_rest : (e : Event) → Has e f.1 → Has e es = λ e h. subst (Has e) (sym f.2) (has_right e f.0 f.1 h) in
     let one = one_pushed n s a f.0 (omega (arith, room)) (λ h. free a (in_first (Busy s a) h)) (λ h. opens a (in_first (Back s a why.Closed) h)) f.3 in
-    let rest = row_pushed n s (a + 1) m f.1 (omega (arith, room)) (λ k h. free k (in_rest (Busy s k) h)) (λ k h. opens k (in_rest (Back s k why.Closed) h)) f.4 in
+    let rest = row_pushed n s (a + 1) m f.1 (omega (arith, room)) (λ k h. free k (in_rest (Busy s k) h))
+    (λ k h. opens k (in_rest (Back s k why.Closed) h)) f.4 in
     f.2 ∙ (λ i. one i ++ rest i)
 
 -- a number of the rows of two senders is a number of one

@@ -1,31 +1,16 @@
 -- The seats of a new team.
-use Rattle.std.proofs.Common.{◌≡◌, ℕ, zero, suc, ◌+◌, List, [], ◌∷◌, ◌++◌, length, refl, sym, ap, ◌∙◌, subst, arith, length-append}
+use Rattle.std.proofs.Common.{◌≡◌, ℕ, ◌+◌, List, [], ◌∷◌, ◌++◌, length, refl, sym, ap, ◌∙◌, subst, arith, length-append}
 use Rattle.wq_live.specs.Known.{QueueId}
 use Rattle.wq_words.specs.declared.layout.Layout.{Layout}
 use Rattle.wq_words.specs.declared.event.Event.{Event}
 use Rattle.wq_words.specs.Legal.{IsLegal}
 use Rattle.wq_words.specs.Seen.{owner_seat, own, Grows}
 use Rattle.wq_live.specs.Known.{Known, new_owner, new_sender, new_senders}
+use Rattle.wq_live.proofs.NewSenders.{two_less}
 use Rattle.wq_race.specs.declared.plan.Plan.{Plan}
 use Rattle.wq_race.specs.declared.team.Team.{Team}
 use Rattle.wq_race.specs.Plan.{IsLayoutOf}
 use Rattle.wq_race.specs.Team.{IsNewTeam}
-
-module _ {A : Type 0} where
-  none_and_one : (xs : List A) (x : A) → [] ≡ xs ++ x ∷ [] → ⊥
-  none_and_one [] x is = cc
-  none_and_one (y ∷ xs) x is = cc
-
-  ends_alike : (xs ys : List A) (x y : A) → xs ++ x ∷ [] ≡ ys ++ y ∷ [] → (xs ≡ ys) × (x ≡ y)
-  ends_alike [] [] x y is = (refl, cc)
-  ends_alike [] (z ∷ ys) x y is = let rest : [] ≡ ys ++ y ∷ [] = cc in absurd (none_and_one ys y rest)
-  ends_alike (z ∷ xs) [] x y is = let rest : [] ≡ xs ++ x ∷ [] = cc in absurd (none_and_one xs x rest)
-  ends_alike (z ∷ xs) (w ∷ ys) x y is = let tails : xs ++ x ∷ [] ≡ ys ++ y ∷ [] = cc in let r = ends_alike xs ys x y tails in
-      let same : z ≡ w = cc in ((λ i. same i ∷ r.0 i), r.1)
-
-pub length-new_senders : (q : QueueId) (l : Layout) (n : ℕ) → length (new_senders q l n) ≡ n
-length-new_senders q l zero = refl
-length-new_senders q l (suc m) = omega (arith, length-append (new_senders q l m) (new_sender q l m ∷ []), length-new_senders q l m)
 
 -- the senders of a new queue, of which the last two are taken
 pub record IsShared (q : QueueId) (l : Layout) (n : ℕ) (xs : List Known) (own program : Known) : Type 0 where
@@ -36,11 +21,8 @@ pub record IsShared (q : QueueId) (l : Layout) (n : ℕ) (xs : List Known) (own 
 pub shared : (q : QueueId) (l : Layout) (n : ℕ) (all more xs : List Known) (own program : Known) → l.senders ≡ n + 2
     → all ≡ new_senders q l l.senders → all ≡ more ++ program ∷ [] → more ≡ xs ++ own ∷ [] → IsShared q l n xs own program
 shared q l n all more xs own program count made one two =
-    let last : l.senders ≡ suc (n + 1) = omega (arith, count) in
-    let before : n + 1 ≡ suc n = omega arith in
-    let first = ends_alike more (new_senders q l (n + 1)) program (new_sender q l (n + 1)) (sym one ∙ (made ∙ ap (new_senders q l) last)) in
-    let second = ends_alike xs (new_senders q l n) own (new_sender q l n) (sym two ∙ (first.0 ∙ ap (new_senders q l) before)) in
-    record { rest_is = second.0; own_is = second.1; program_is = first.1 }
+    let less = two_less q l n l.senders all more xs own program count made one two in
+    record { rest_is = less.0; own_is = less.1; program_is = less.2 }
 
 pub length-last : (xs ys : List Known) (x : Known) (n : ℕ) → length xs ≡ n → xs ≡ ys ++ x ∷ [] → length ys + 1 ≡ n
 length-last xs ys x n count is = omega (arith, count, ap length is, length-append ys (x ∷ []))
@@ -63,7 +45,8 @@ new_team plan l o mine program xs t sized owner s senders last queue layout numb
       number_is = number ∙ at;
       program_is = last ∙ (s.program_is ∙ (λ i. new_sender (sym queue i) (sym same i) (plan.senders + 1)));
       untouched = own-new owner_seat 0 o.seen t.worker.seen (ap (λ (k : Known). k.seen) owner) grows_owner;
-      unsent = subst (λ (n : ℕ). own n t.worker.seen ≡ []) (sym number) (own-new mine.number 0 mine.seen t.worker.seen (ap (λ (k : Known). k.seen) s.own_is) grows_own);
+      unsent = subst (λ (n : ℕ). own n t.worker.seen ≡ []) (sym number)
+          (own-new mine.number 0 mine.seen t.worker.seen (ap (λ (k : Known). k.seen) s.own_is) grows_own);
       unrun = unrun;
       legal = legal;
     }

@@ -24,17 +24,12 @@ use Rattle.std.proofs.Common.{
   arith,
   append_assoc,
 }
-use Rattle.std.specs.Prelude.{filter}
-use Rattle.std.proofs.lemmas.Bool.{cases_lt}
 use Rattle.std.proofs.lemmas.List.{append-nil}
 use mathlib.Core.List.{IsPrefix}
 use Rattle.wq_words.specs.declared.event.Event.{Event}
 use Rattle.wq_words.specs.Legal.{IsLegal}
-use Rattle.wq_words.specs.Seen.{owner_seat, seat_of, own, Grows}
-use Rattle.wq_words.proofs.Seen.{own-append}
-use Rattle.wq_words.proofs.Prefixes.{nothing_more}
+use Rattle.wq_words.specs.Seen.{owner_seat, own}
 use Rattle.wq_live.specs.Known.{Known, Sees}
-use Rattle.wq_words.specs.Seen.{is_ours}
 use Rattle.wq_worker.specs.State.{WorkerState, Moves}
 use Rattle.wq_race.specs.declared.idle.Idle.{Idle}
 use Rattle.wq_race.specs.Outcome.{HasMet, IsKnown}
@@ -70,10 +65,3 @@ known_one a b seen s both = record {
 
 pub known_more : (a b : Known) (v w : List Event) → IsPrefix v w → IsKnown v a b → IsKnown w a b
 known_more a b v w more k = record { same = k.same; mine = k.mine; known = prefix_on b.seen v w k.known more; legal = k.legal }
-
--- what holds of each place below i and of i holds of each below the next
-pub one_more : (P : ℕ → Known → Type 0) (i : ℕ) → ((k : ℕ) (d : Known) → k < i → P k d) → ((d : Known) → P i d) → (k : ℕ) (d : Known) → k < i + 1 → P k d
-one_more P i below here k d lt = elim (cases_lt k i) [
-  | inl less ↦ below k d less
-  | inr ge ↦ let same : i ≡ k = omega (arith, lt, ge) in subst (λ (j : ℕ). P j d) same (here d)
-]

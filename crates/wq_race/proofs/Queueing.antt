@@ -76,12 +76,14 @@ queued_more ks k a b c x y =
     let fs = y.queued.0 in
     let all : y.events ≡ fs = y.queued.2 ∙ (ap (λ (z : List Event). fs ++ z) y.queued.4 ∙ append-nil fs) in
     let q : Queues a.layout.items a.number false k y.events = subst (λ (z : List Event). Queues a.layout.items a.number false k z) (sym all)
-    (subst (λ (n : ℕ). Queues a.layout.items n false k fs) x.same.number_is (subst (λ (l : Layout). Queues l.items b.number false k fs) x.same.layout_is y.queued.3)) in
+    (subst (λ (n : ℕ). Queues a.layout.items n false k fs) x.same.number_is
+    (subst (λ (l : Layout). Queues l.items b.number false k fs) x.same.layout_is y.queued.3)) in
     record {
       same = same_on a b c x.same y.same;
       events = x.events ++ y.events;
       queued = follows_push a.layout.items a.number false ks k x.events y.events x.queued q;
-      grows = grows_on a.number 0 0 x.events y.events a.seen b.seen c.seen x.grows (subst (λ (n : ℕ). Grows n y.events 0 b.seen c.seen) x.same.number_is y.grows);
+      grows = grows_on a.number 0 0 x.events y.events a.seen b.seen c.seen x.grows
+          (subst (λ (n : ℕ). Grows n y.events 0 b.seen c.seen) x.same.number_is y.grows);
     }
 
 range-more : (a n : ℕ) → range_with_len a (suc n) ≡ range_with_len a n ++ (a + n) ∷ []

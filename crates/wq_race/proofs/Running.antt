@@ -9,7 +9,7 @@ use Rattle.wq_words.specs.declared.event.Event.{Event}
 use Rattle.wq_words.specs.History.{IsRunning, is_close}
 use Rattle.wq_words.specs.Seen.{owner_seat, own, Grows}
 use Rattle.wq_words.proofs.Seen.{closed_count, begun_same}
-use Rattle.wq_live.specs.Known.{Known, new_sender, new_senders}
+use Rattle.wq_live.specs.Known.{Known, new_sender}
 use Rattle.wq_words.specs.Counting.{is_chain, is_chain_busy}
 use Rattle.wq_worker.specs.Follow.{Follows}
 use Rattle.wq_worker.specs.State.{WorkerState}
@@ -19,8 +19,7 @@ use Rattle.wq_race.specs.declared.team.Team.{Team}
 use Rattle.wq_race.specs.Plan.{IsLayoutOf}
 use Rattle.wq_race.specs.Team.{IsNewTeam}
 use Rattle.wq_race.specs.Race.{items_at, HasQueued, IsOfStop, HasStopped, HasServed, AllQueued, IsQueuer, HasRun}
-use Rattle.wq_race.proofs.Made.{length-new_senders}
-use Rattle.wq_race.proofs.Same.{each_more}
+use Rattle.wq_live.proofs.NewSenders.{length-new_senders, new_sender_at}
 use Rattle.wq_race.proofs.Serving.{chains_same, asks_same}
 
 pub untouched_open : (h : List Event) → own owner_seat h ≡ [] → count_by is_close h ≡ 0
@@ -47,19 +46,12 @@ own_room s (suc n) m lt = elim (cases_lt s n) [
     times_suc : (n m : ℕ) → suc n * m ≡ n * m + m
     times_suc n m = omega arith
 
-pub new_at : (q : QueueId) (l : Layout) (n i : ℕ) (d : Known) → i < n → get_or (new_senders q l n) i d ≡ new_sender q l i
-new_at q l zero i d lt = absurd (omega (arith, lt))
-new_at q l (suc n) i d lt =
-    let P : ℕ → Known → Type 0 = λ i k. i < suc n → k ≡ new_sender q l i in
-    each_more P (new_senders q l n) (new_sender q l n) (λ i d less more. new_at q l n i d (omega (arith, less, length-new_senders q l n)))
-    (λ less. ap (new_sender q l) (sym (length-new_senders q l n))) i d (omega (arith, lt, length-new_senders q l (suc n))) lt
-
 pub rooms : (plan : Plan) (t : Team) → IsNewTeam plan t → (i : ℕ) (d : Known) → i < length t.senders.items
     → (get_or t.senders.items i d).number * plan.own + plan.own ≤ (get_or t.senders.items i d).layout.items
 rooms plan t new i d lt =
     let q = t.worker.queue in let l = t.worker.layout in
     let few : i < plan.senders = omega (arith, lt, ap length new.senders_are, length-new_senders q l plan.senders) in
-    let at : get_or t.senders.items i d ≡ new_sender q l i = ap (λ (xs : List Known). get_or xs i d) new.senders_are ∙ new_at q l plan.senders i d few in
+    let at : get_or t.senders.items i d ≡ new_sender q l i = ap (λ (xs : List Known). get_or xs i d) new.senders_are ∙ new_sender_at q l plan.senders i d few in
     subst (λ (k : Known). k.number * plan.own + plan.own ≤ k.layout.items) (sym at) (omega (arith, own_room i plan.senders plan.own few, new.layout.items_is))
 
 -- what a seat that had seen nothing has made
@@ -77,7 +69,8 @@ queuer m i q l w a b queue layout at h =
       queue_is = h.same.queue_is ∙ (ap (λ (k : Known). k.queue) at ∙ sym queue);
       layout_is = h.same.layout_is ∙ size;
       queued = subst (λ (k : Layout). Follows k.items i false (items_at i m) (own i b.seen)) size
-          (subst (λ (n : ℕ). Follows a.layout.items n false (items_at n m) (own n b.seen)) number (subst (λ (es : List Event). Follows a.layout.items a.number false (items_at a.number m) es) (sym mine) h.queued));
+          (subst (λ (n : ℕ). Follows a.layout.items n false (items_at n m) (own n b.seen)) number
+          (subst (λ (es : List Event). Follows a.layout.items a.number false (items_at a.number m) es) (sym mine) h.queued));
     }
 
 pub has_run : (plan : Plan) (old new : Team) → IsNewTeam plan old → HasServed old.worker new.worker
@@ -93,8 +86,9 @@ has_run plan old new n served all stopped =
       layout = subst (IsLayoutOf plan.senders plan.own) (sym served.layout_is) n.layout;
       count = all.count ∙ count;
       each = λ i d lt.
-          let at : get_or old.senders.items i d ≡ new_sender q l i = ap (λ (xs : List Known). get_or xs i d) n.senders_are ∙ new_at q l plan.senders i d lt in
-          queuer plan.own i q l new.worker (get_or old.senders.items i d) (get_or new.senders.items i d) served.queue_is served.layout_is at (all.each i d (omega (arith, lt, count)));
+          let at : get_or old.senders.items i d ≡ new_sender q l i = ap (λ (xs : List Known). get_or xs i d) n.senders_are ∙ new_sender_at q l plan.senders i d lt in
+          queuer plan.own i q l new.worker (get_or old.senders.items i d) (get_or new.senders.items i d) served.queue_is served.layout_is at
+          (all.each i d (omega (arith, lt, count)));
       number_is = served.number_is ∙ n.number_is;
       unsent = subst (λ (c : ℕ). own c new.worker.seen ≡ []) n.number_is (served.unsent ∙ n.unsent);
       unchained = served.unchained ∙ untouched_unchained old.worker.seen n.untouched;
@@ -105,6 +99,7 @@ has_run plan old new n served all stopped =
       legal = served.legal;
       program_number = stopped.same.number_is ∙ p;
       program_queue = stopped.same.queue_is ∙ (ap (λ (k : Known). k.queue) n.program_is ∙ sym served.queue_is);
-      stops = subst (λ (k : Layout). AllByRecursion (IsOfStop k) (own (plan.senders + 1) new.program.seen)) size (subst (λ (es : List Event). AllByRecursion (IsOfStop old.program.layout) es) (sym mine) stopped.stops);
+      stops = subst (λ (k : Layout). AllByRecursion (IsOfStop k) (own (plan.senders + 1) new.program.seen)) size
+          (subst (λ (es : List Event). AllByRecursion (IsOfStop old.program.layout) es) (sym mine) stopped.stops);
       few_stops = omega (arith, ap length mine, stopped.few_events);
     }

@@ -48,7 +48,8 @@ use Rattle.wq_worker.specs.Follow.{Follows}
 use Rattle.wq_worker.specs.State.{WorkerState, items_among, Moves}
 use Rattle.wq_worker.specs.Step.{Starts, item, other, owed, Ends, ends, Owes, owes, Runs}
 use Rattle.wq_worker.specs.Rows.{Row, none, more, IsExecution, IsNotStop, Serves, Closes, was_closed, closes}
-use Rattle.wq_worker.proofs.Owned.{count_by-append, filter-filter, owner_of_both, stays}
+use Rattle.wq_worker.proofs.Owned.{filter-filter, owner_of_both, stays}
+use Rattle.wq_words.proofs.Appended.{count_by-append}
 use Rattle.wq_words.proofs.Running.{runs_from_running as runs_some}
 use Rattle.wq_worker.proofs.State.{quiet_taking}
 use Rattle.wq_race.specs.declared.idle.Idle.{Idle}
@@ -148,11 +149,13 @@ module _ (may : Idle → ℕ → List ℕ → Idle → Type 0) (asks_nothing : (
       → Starts may a k f v es → Started a f es
   started a k f v es not idle (item rests lt ran is) = record {
     none = asks_nothing a.work k f v ran;
-    still = subst (Still a.number 0) (sym is) (still_on a.number 0 0 (taking a.seen) (Begin k ∷ []) (still_taking a.number not a.seen) (still_begin a.number k not));
+    still = subst (Still a.number 0) (sym is) (still_on a.number 0 0 (taking a.seen) (Begin k ∷ []) (still_taking a.number not a.seen)
+        (still_begin a.number k not));
   }
   started a k f v es not idle (other rests ge is_none same is) = record {
     none = is_none;
-    still = subst (Still a.number 0) (sym is) (still_on a.number 0 0 (taking a.seen) (Begin k ∷ []) (still_taking a.number not a.seen) (still_begin a.number k not));
+    still = subst (Still a.number 0) (sym is) (still_on a.number 0 0 (taking a.seen) (Begin k ∷ []) (still_taking a.number not a.seen)
+        (still_begin a.number k not));
   }
   started a k f v es not idle (owed runs left same is) = absurd (idle (runs_some a.seen k runs))
 
@@ -160,7 +163,8 @@ module _ (may : Idle → ℕ → List ℕ → Idle → Type 0) (asks_nothing : (
   ends_plain k a b not idle (ends f es fs st told moved rests) =
       let s = started a k f b.work es not idle st in
       let no_follow : fs ≡ [] = subst (λ (ks : List ℕ). Follows a.layout.items a.number (closed a.seen) ks fs) s.none told in
-      let still : Still a.number 0 (es ++ (fs ++ End k ∷ [])) = still_on a.number 0 0 es (fs ++ End k ∷ []) s.still (subst (λ (z : List Event). Still a.number 0 (z ++ End k ∷ [])) (sym no_follow) (still_end a.number k not)) in
+      let still : Still a.number 0 (es ++ (fs ++ End k ∷ [])) = still_on a.number 0 0 es (fs ++ End k ∷ []) s.still
+      (subst (λ (z : List Event). Still a.number 0 (z ++ End k ∷ [])) (sym no_follow) (still_end a.number k not)) in
       moves_plain (es ++ (fs ++ End k ∷ [])) 0 a b still rests moved
 
   nothing_plain : (a b : WorkerState Idle) → a.number ≢ owner_seat → ¬ IsRunning a.seen → Moves (taking a.seen) 0 a b → Plain 0 a b

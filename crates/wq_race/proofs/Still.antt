@@ -48,7 +48,8 @@ use Rattle.wq_worker.specs.Follow.{Follows}
 use Rattle.wq_worker.specs.State.{WorkerState, items_among, Moves}
 use Rattle.wq_worker.specs.Step.{Starts, item, other, owed, Ends, ends, Owes, owes, Runs}
 use Rattle.wq_worker.specs.Rows.{Row, none, more, IsExecution, IsNotStop, Serves, Closes, was_closed, closes}
-use Rattle.wq_worker.proofs.Owned.{count_by-append, filter-filter, owner_of_both, stays}
+use Rattle.wq_worker.proofs.Owned.{filter-filter, owner_of_both, stays}
+use Rattle.wq_words.proofs.Appended.{count_by-append}
 use Rattle.wq_words.proofs.Running.{runs_from_running as runs_some}
 use Rattle.wq_worker.proofs.State.{quiet_taking}
 use Rattle.wq_race.specs.declared.idle.Idle.{Idle}

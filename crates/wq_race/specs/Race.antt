@@ -73,7 +73,8 @@ AreThreads own senders threads = (i : ℕ) (d : PromisedHandle Sender QueuesOwn)
 -- each of these senders queued its own items
 pub record AllQueued (own : ℕ) (olds news : List Known) : Type 0 where
   pub count : length news ≡ length olds
-  pub each : (i : ℕ) (d : Known) → i < length olds → HasQueued (items_at (slice_index_or olds i d).number own) (slice_index_or olds i d) (slice_index_or news i d)
+  pub each : (i : ℕ) (d : Known) → i < length olds → HasQueued (items_at (slice_index_or olds i d).number own) (slice_index_or olds i d)
+      (slice_index_or news i d)
 
 -- The sender of this number, of the queue of the worker: its events are the queueings of its own items.
 pub record IsQueuer (own_items : ℕ) (worker : WorkerState Idle) (i : ℕ) (s : Known) : Type 0 where

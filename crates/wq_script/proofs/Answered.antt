@@ -17,7 +17,7 @@ use Rattle.wq_words.specs.Armed.{armed_of, modified_of}
 use Rattle.wq_words.specs.DelayTable.{DelayTable, on_table, is_too_far}
 use Rattle.wq_meaning.specs.Queueing.{queue_events, queue_answer}
 use Rattle.wq_meaning.specs.Arming.{queues_now, arm_events, arm_answer, cancel_events, modify_events, modify_answer, due_items, advance_events}
-use Rattle.wq_meaning.proofs.Growing.{count-append}
+use Rattle.wq_words.proofs.Appended.{count_by-append}
 use Rattle.wq_script.specs.declared.tally.Tally.{Tally}
 use Rattle.wq_script.specs.Counting.{Tallied, counted, counted_armed, counted_push, counted_modified, counted_posts}
 use Rattle.wq_script.proofs.Tallies.{Foreign, all_foreign, tallied_on}
@@ -155,17 +155,17 @@ record AreMany (es : List Event) (pushed refused : ℕ) : Type 0 where
 posts_pushed : (s : ℕ) (ks : List ℕ) → AreMany (map (λ k. Push s k) ks) (length ks) 0
 posts_pushed s [] = record { pushes = refl; busy = refl; refusals = refl }
 posts_pushed s (k ∷ ks) = let r = posts_pushed s ks in let es : List Event = map (λ k. Push s k) ks in record {
-  pushes = omega (arith, r.pushes, count-append is_push (Push s k ∷ []) es);
-  busy = omega (arith, r.busy, count-append is_busy (Push s k ∷ []) es);
-  refusals = omega (arith, r.refusals, count-append is_refusal (Push s k ∷ []) es);
+  pushes = omega (arith, r.pushes, count_by-append is_push (Push s k ∷ []) es);
+  busy = omega (arith, r.busy, count_by-append is_busy (Push s k ∷ []) es);
+  refusals = omega (arith, r.refusals, count_by-append is_refusal (Push s k ∷ []) es);
 }
 
 posts_refused : (s : ℕ) (ks : List ℕ) → AreMany (map (λ k. Back s k why.Closed) ks) 0 (length ks)
 posts_refused s [] = record { pushes = refl; busy = refl; refusals = refl }
 posts_refused s (k ∷ ks) = let r = posts_refused s ks in let es : List Event = map (λ k. Back s k why.Closed) ks in record {
-  pushes = omega (arith, r.pushes, count-append is_push (Back s k why.Closed ∷ []) es);
-  busy = omega (arith, r.busy, count-append is_busy (Back s k why.Closed ∷ []) es);
-  refusals = omega (arith, r.refusals, count-append is_refusal (Back s k why.Closed ∷ []) es);
+  pushes = omega (arith, r.pushes, count_by-append is_push (Back s k why.Closed ∷ []) es);
+  busy = omega (arith, r.busy, count_by-append is_busy (Back s k why.Closed ∷ []) es);
+  refusals = omega (arith, r.refusals, count_by-append is_refusal (Back s k why.Closed ∷ []) es);
 }
 
 pub advance_counts : (w s tick : ℕ) (h : List Event) (t : Tally) (table : DelayTable) → s ≢ w → s ≢ owner_seat → Tallied t w h

@@ -129,7 +129,8 @@ pub sender_asked : (layout : Layout) (s t : Seats) (h : List Event) (p k : ℕ) 
 sender_asked layout s t h p k a x z g lt is told gathered =
     let less : p < layout.senders = omega (arith, lt, g.count) in
     let number : x.number ≡ p = ap (λ (v : Known). v.number) is ∙ (g.senders p x less).number_is in
-    let both = asked layout t h p k x z (λ xs n sees. sender_acts layout s t h g p x z xs n less is sees gathered.sender gathered.owner gathered.delay gathered.senders gathered.work.tries_is gathered.legal) a number told in
+    let both = asked layout t h p k x z (λ xs n sees. sender_acts layout s t h g p x z xs n less is sees gathered.sender
+    gathered.owner gathered.delay gathered.senders gathered.work.tries_is gathered.legal) a number told in
     record { answer = both.0; seated = both.1; work = gathered.work; table = gathered.table }
 
 -- a sender looked at a PENDING bit
@@ -138,7 +139,8 @@ pub sender_looked : (layout : Layout) (s t : Seats) (h : List Event) (p : ℕ) (
     → Sees [] 0 x z → Gathers z.seen (with_sender s p z) t → Goes layout h s t × (z.seen ≡ h)
 sender_looked layout s t h p x z g lt is sees gathered =
     let less : p < layout.senders = omega (arith, lt, g.count) in
-    let a = sender_acts layout s t h g p x z [] 0 less is sees gathered.sender gathered.owner gathered.delay gathered.senders gathered.work.tries_is gathered.legal in (
+    let a = sender_acts layout s t h g p x z [] 0 less is sees gathered.sender gathered.owner gathered.delay gathered.senders
+    gathered.work.tries_is gathered.legal in (
       record { seated = subst (λ (y : List Event). Seated layout t y) (append-nil h) a.seated; work = gathered.work; table = gathered.table },
       a.is ∙ append-nil h,
     )
@@ -151,13 +153,18 @@ pub worker_closes : (layout : Layout) (s t : Seats) (h : List Event) (w : Worker
     → Moves (Close ∷ []) 0 s.worker w → w.work ≡ s.worker.work → w.unqueued ≡ s.worker.unqueued → TakesAll Close taken w.seen
     → Gathers w.seen (record { worker = w; delay = s.delay; senders = s.senders }) t → Goes layout (h ++ close_events h) s t × (Some taken ≡ close_answer h)
 worker_closes layout s t h w taken g is_open moves work left takes gathered =
-    let a = (worker_acts layout s t h g w (Close ∷ []) 0 moves gathered.sender gathered.owner gathered.delay gathered.senders gathered.work.tries_is gathered.legal).0 in
+    let a = (worker_acts layout s t h g w (Close ∷ []) 0 moves gathered.sender gathered.owner gathered.delay gathered.senders
+    gathered.work.tries_is gathered.legal).0 in
     let not_yet : closed h ≡ false = sym (worker_closed layout s h g) ∙ is_open in
     let events : Close ∷ [] ≡ close_events h = sym (ap (λ (b : Bool). if b then [] else Close ∷ []) not_yet) in
     let last = last_own owner_seat takes.before takes.after h Close Close (sym takes.is ∙ a.is) takes.last refl in (
       record {
         seated = subst (λ (ys : List Event). Seated layout t (h ++ ys)) events a.seated;
-        work = record { work_is = gathered.work.work_is ∙ work; unqueued_is = gathered.work.unqueued_is ∙ left; tries_is = gathered.work.tries_is ∙ moves.tries };
+        work = record {
+          work_is = gathered.work.work_is ∙ work;
+          unqueued_is = gathered.work.unqueued_is ∙ left;
+          tries_is = gathered.work.tries_is ∙ moves.tries;
+        };
         table = gathered.table;
       },
       ap (λ (n : ℕ). Some n) (takes.count_is ∙ ap fresh last.1) ∙ sym (ap (λ (b : Bool). if b then None else Some (fresh h)) not_yet),

@@ -23,7 +23,7 @@ use Rattle.wq_worker.specs.Seats.{Adds, taking, taking_of, NothingWaits, at_take
 use Rattle.wq_worker.specs.Follow.{Queues, Follows, passed, pushed, busy, refused, chained, chain_busy}
 use Rattle.wq_meaning.specs.Queueing.{queue_events, chain_events}
 use Rattle.wq_meaning.specs.Execution.{follow_of, take_events, follow_events, after_follow, after_run, after_execution}
-use Rattle.wq_meaning.proofs.Growing.{accepted-append, begun-append, count-append, accepted-count, pushes-split, fresh-more, fresh-take}
+use Rattle.wq_words.proofs.Appended.{accepted-append, begun-append, count_by-append, accepted-count, pushes-split, fresh-more, fresh-take}
 use Rattle.wq_script.specs.Quiet.{Quiet}
 use Rattle.wq_script.proofs.Alone.{all_ours}
 use Rattle.wq_script.proofs.Queueings.{busy_events, push_events, refused_events, not_pending, is_pending, closed_on, last_own}
@@ -195,7 +195,7 @@ fresh_on g [] none = ap fresh (append-nil g) ∙ omega arith
 fresh_on g (e ∷ es) none =
     let stays : is_take e ≡ false = each (is_take e) refl in
     let rest = fresh_on (g ++ e ∷ []) es (own_rest owner_seat e es none) in
-    ap fresh (sym (append_assoc g (e ∷ []) es)) ∙ (rest ∙ omega (arith, fresh-more g e stays, count-append is_push (e ∷ []) es))
+    ap fresh (sym (append_assoc g (e ∷ []) es)) ∙ (rest ∙ omega (arith, fresh-more g e stays, count_by-append is_push (e ∷ []) es))
   where
     each : (b : Bool) → is_take e ≡ b → b ≡ false
     each true is = let mine =
@@ -218,7 +218,7 @@ module _ (wide : Layout) where
       let newer : fresh h ≡ 0 + count_by is_push after = ap fresh (is ∙ two)
       ∙ (fresh_on (before ++ Take ∷ []) after none ∙ ap (λ (m : ℕ). m + count_by is_push after) (fresh-take before)) in
       let all : count_by is_push h ≡ count_by is_push before + count_by is_push after =
-      ap (count_by is_push) is ∙ (count-append is_push before (Take ∷ after) ∙ omega (arith, count-append is_push (Take ∷ []) after)) in
+      ap (count_by is_push) is ∙ (count_by-append is_push before (Take ∷ after) ∙ omega (arith, count_by-append is_push (Take ∷ []) after)) in
       let open_taken : taken h ≡ count_by is_push (before_last is_take h) =
       ap (λ (b : Bool). if b then length (accepted h) else count_by is_push (before_last is_take h)) is_open in
       let first_begun : length (begun h) ≡ length (begun before) =
@@ -234,7 +234,7 @@ module _ (wide : Layout) where
       let allowed = legal_next wide before Take after (subst (λ (x : List Event). IsLegal wide x) is legal) in
       let rest : count_by is_close after ≡ 0 = closed_count [] after none in
       let same : count_by is_close h ≡ count_by is_close before = ap (count_by is_close) is
-      ∙ (count-append is_close before (Take ∷ after) ∙ omega (arith, count-append is_close (Take ∷ []) after, rest)) in
+      ∙ (count_by-append is_close before (Take ∷ after) ∙ omega (arith, count_by-append is_close (Take ∷ []) after, rest)) in
       not_closed h (λ shut. allowed.2 (omega (arith, shut, same)))
 
   -- the worker answers that nothing waits only where nothing is next

@@ -1,11 +1,10 @@
 -- Seats that make no event, and hear what others have seen.
-use Rattle.std.proofs.Common.{◌≡◌, ℕ, ◌+◌, ◌<◌, Bool, true, false, cond, ◌||◌, ◌==◌, List, [], ◌∷◌, ◌++◌, length, get_or, set, arith, inl, inr, refl, sym, ap, ◌∙◌, subst, append_assoc}
-use Rattle.std.specs.Prelude.{filter}
+use Rattle.std.proofs.Common.{◌≡◌, ℕ, ◌+◌, ◌<◌, List, [], ◌++◌, length, get_or, set, arith, inl, inr, refl, sym, ap, ◌∙◌, subst}
 use Rattle.std.proofs.lemmas.List.{append-nil, get_or-set_other, get_or-set_same, get_or_default, length-set}
-use Rattle.std.proofs.lemmas.Bool.{cases_lt, cases_eq}
+use Rattle.std.proofs.lemmas.Bool.{cases_eq}
 use mathlib.Core.List.{IsPrefix}
 use Rattle.wq_words.specs.declared.event.Event.{Event}
-use Rattle.wq_words.specs.Seen.{owner_seat, seat_of, own, Grows}
+use Rattle.wq_words.specs.Seen.{owner_seat, own}
 use Rattle.wq_words.proofs.Prefixes.{prefix_self, prefix_on}
 use Rattle.wq_words.proofs.Seen.{own-append, none_of, grows_begins, grows_same}
 use Rattle.wq_live.specs.Known.{Known, Sees}
@@ -42,13 +41,6 @@ hears_hub told hub hub' k k' knows this that both = record {
   stays = sees_stays 0 k k' that;
   knows = subst (λ (x : List Event). IsPrefix told x) (sym both) (prefix_on told hub.seen hub'.seen knows (sees_stays 0 hub hub' this).begins);
 }
-
--- what holds of each place below i and of i holds of each below the next
-pub one_more : (P : ℕ → Known → Type 0) (i : ℕ) → ((k : ℕ) (d : Known) → k < i → P k d) → ((d : Known) → P i d) → (k : ℕ) (d : Known) → k < i + 1 → P k d
-one_more P i below here k d lt = elim (cases_lt k i) [
-  | inl less ↦ below k d less
-  | inr ge ↦ let same : i ≡ k = omega (arith, lt, ge) in subst (λ (j : ℕ). P j d) same (here d)
-]
 
 pub same_table_on : (a b c : DelayState) → IsSameTable a b → IsSameTable b c → IsSameTable a c
 same_table_on a b c x y = y ∙ x

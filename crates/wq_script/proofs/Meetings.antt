@@ -12,7 +12,7 @@ use Rattle.wq_words.specs.DelayTable.{DelayTable}
 use Rattle.wq_meaning.specs.Queueing.{queue_events, queue_answer, close_events}
 use Rattle.wq_meaning.specs.Execution.{after_executions, ended_since}
 use Rattle.wq_meaning.specs.Commands.{ScriptState}
-use Rattle.wq_meaning.proofs.Growing.{begun-append, ended-append}
+use Rattle.wq_words.proofs.Appended.{begun-append, ended-append}
 use Rattle.wq_script.specs.declared.engine.Engine.{Engine}
 use Rattle.wq_script.specs.declared.seats.Seats.{Seats}
 use Rattle.wq_script.specs.declared.tally.Tally.{Tally}

@@ -12,7 +12,7 @@ use Rattle.wq_words.proofs.Legal.{legal_next}
 use Rattle.wq_words.specs.Seen.{seat_of, own}
 use Rattle.wq_words.proofs.Seen.{own-append, own_one}
 use Rattle.wq_meaning.specs.Queueing.{queue_events}
-use Rattle.wq_meaning.proofs.Growing.{fresh-more}
+use Rattle.wq_words.proofs.Appended.{fresh-more}
 use Rattle.wq_words.proofs.Prefixes.{right_nil}
 use Rattle.wq_words.proofs.Closed.{closed_from_open as not_closed}
 use Rattle.wq_words.proofs.Closed.{closed_from_IsClosed as is_closed}

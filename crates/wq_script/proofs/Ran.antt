@@ -20,7 +20,8 @@ pub row_ran : (layout : Layout) (s t : Seats) (h : List Event) (w : WorkerState 
     → Seated layout s h → ¬ IsRunning h → HasLists layout s
     → ExecutesRow limit ends s.worker w ran → Gathers w.seen (record { worker = w; delay = s.delay; senders = s.senders }) t → Ran layout h limit ends s t ran
 row_ran layout s t h w limit ends ran g idle lists row gathered =
-    let both = worker_acts layout s t h g w row.events row.others row.moves gathered.sender gathered.owner gathered.delay gathered.senders gathered.work.tries_is gathered.legal in
+    let both = worker_acts layout s t h g w row.events row.others row.moves gathered.sender gathered.owner gathered.delay
+    gathered.senders gathered.work.tries_is gathered.legal in
     let a = both.0 in
     let follows = s.worker.work.follows.items in
     let ready : IsWorkerIdle g.wide s.worker = record {

@@ -17,7 +17,7 @@ use Rattle.wq_worker.specs.declared.totals.Totals.{Totals}
 use Rattle.wq_worker.specs.Totals.{own_totals}
 use Rattle.wq_words.specs.Counting.{is_chain, is_busy, is_refusal}
 use Rattle.wq_meaning.specs.Commands.{ScriptState}
-use Rattle.wq_meaning.proofs.Growing.{accepted-count, count-append}
+use Rattle.wq_words.proofs.Appended.{accepted-count, count_by-append}
 use Rattle.wq_script.specs.declared.seats.Seats.{Seats}
 use Rattle.wq_script.specs.declared.tally.Tally.{Tally}
 use Rattle.wq_script.specs.Engine.{Meets}
@@ -81,7 +81,7 @@ same_count p c only v h same = count_own p c only v ∙ (ap (count_by p) same �
 
 same_chain : (h : List Event) → count_by live.is_chain h ≡ count_by is_chain h
 same_chain [] = refl
-same_chain (e ∷ es) = omega (arith, same_chain es, one e, count-append live.is_chain (e ∷ []) es, count-append is_chain (e ∷ []) es)
+same_chain (e ∷ es) = omega (arith, same_chain es, one e, count_by-append live.is_chain (e ∷ []) es, count_by-append is_chain (e ∷ []) es)
   where
     one : (e : Event) → count_by live.is_chain (e ∷ []) ≡ count_by is_chain (e ∷ [])
     one (Hold s k) = refl

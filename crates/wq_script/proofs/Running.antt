@@ -24,7 +24,7 @@ use Rattle.wq_worker.specs.Step.{Starts, item, other, owed, Ends, ends, Owes, ow
 use Rattle.wq_worker.specs.Follow.{Follows}
 use Rattle.wq_meaning.specs.Execution.{no_follow, follow_of, take_events, after_run, after_execution, after_executions, go_on, ended_since}
 use Rattle.wq_meaning.proofs.Executions.{ended_execution, row_goes_on}
-use Rattle.wq_meaning.proofs.Growing.{begun-append, ended-append}
+use Rattle.wq_words.proofs.Appended.{begun-append, ended-append}
 use Rattle.wq_script.specs.declared.lists.Lists.{Lists}
 use Rattle.wq_script.specs.Quiet.{ListsFit, Quiet, IsWorkerIdle, Executed, ExecutesOne, ExecutesRow}
 use Rattle.wq_words.proofs.Prefixes.{right_nil, prefix_on}

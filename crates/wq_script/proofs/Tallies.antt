@@ -15,7 +15,7 @@ use Rattle.wq_words.specs.Seen.{owner_seat, seat_of}
 use Rattle.wq_words.specs.Counting.{is_queued_by, is_pending_by, is_closed_by, is_chain_busy}
 use Rattle.wq_words.specs.Seen.{is_ours}
 use Rattle.wq_words.specs.Counting.{is_busy, is_refusal}
-use Rattle.wq_meaning.proofs.Growing.{count-append, begun-append, ended-append}
+use Rattle.wq_words.proofs.Appended.{count_by-append, begun-append, ended-append}
 use Rattle.wq_script.specs.declared.tally.Tally.{Tally}
 use Rattle.wq_script.specs.Counting.{Tallied}
 
@@ -51,10 +51,10 @@ all_foreign w s (e ∷ es) a b all =
     let one = one_foreign w e (λ is. a (sym all.0 ∙ is)) (λ is. b (sym all.0 ∙ is)) in
     let rest = all_foreign w s es a b all.1 in
     record {
-      queued = omega (arith, count-append (is_queued_by w) (e ∷ []) es, one.queued, rest.queued);
-      pending = omega (arith, count-append (is_pending_by w) (e ∷ []) es, one.pending, rest.pending);
-      refused = omega (arith, count-append (is_closed_by w) (e ∷ []) es, one.refused, rest.refused);
-      chain_busy = omega (arith, count-append is_chain_busy (e ∷ []) es, one.chain_busy, rest.chain_busy);
+      queued = omega (arith, count_by-append (is_queued_by w) (e ∷ []) es, one.queued, rest.queued);
+      pending = omega (arith, count_by-append (is_pending_by w) (e ∷ []) es, one.pending, rest.pending);
+      refused = omega (arith, count_by-append (is_closed_by w) (e ∷ []) es, one.refused, rest.refused);
+      chain_busy = omega (arith, count_by-append is_chain_busy (e ∷ []) es, one.chain_busy, rest.chain_busy);
       begun = begun-append (e ∷ []) es ∙ (λ i. one.begun i ++ rest.begun i);
       ended = ended-append (e ∷ []) es ∙ (λ i. one.ended i ++ rest.ended i);
     }
@@ -62,9 +62,9 @@ all_foreign w s (e ∷ es) a b all =
 pub tallied_on : (t u : Tally) (w : ℕ) (h es : List Event) → Tallied t w h → Foreign w es → u.queued ≡ t.queued + count_by is_push es
     → u.busy ≡ t.busy + count_by is_busy es → u.refused ≡ t.refused + count_by is_refusal es → Tallied u w (h ++ es)
 tallied_on t u w h es told f q b r = record {
-  queued = omega (arith, told.queued, f.queued, q, count-append (is_queued_by w) h es, count-append is_push h es);
-  busy = omega (arith, told.busy, f.pending, f.chain_busy, b, count-append (is_pending_by w) h es, count-append is_chain_busy h es, count-append is_busy h es);
-  refused = omega (arith, told.refused, f.refused, r, count-append (is_closed_by w) h es, count-append is_refusal h es);
+  queued = omega (arith, told.queued, f.queued, q, count_by-append (is_queued_by w) h es, count_by-append is_push h es);
+  busy = omega (arith, told.busy, f.pending, f.chain_busy, b, count_by-append (is_pending_by w) h es, count_by-append is_chain_busy h es, count_by-append is_busy h es);
+  refused = omega (arith, told.refused, f.refused, r, count_by-append (is_closed_by w) h es, count_by-append is_refusal h es);
 }
 
 pub idle_on : (w : ℕ) (h es : List Event) → Foreign w es → ¬ IsRunning h → ¬ IsRunning (h ++ es)
@@ -124,22 +124,22 @@ all_own layout w (e ∷ es) few has none =
     let one = one_own layout w e few has.0 first.0 in
     let rest = all_own layout w es few has.1 first.1 in
     record {
-      queued = omega (arith, one.queued, rest.queued, count-append (is_queued_by w) (e ∷ []) es, count-append is_push (e ∷ []) es);
+      queued = omega (arith, one.queued, rest.queued, count_by-append (is_queued_by w) (e ∷ []) es, count_by-append is_push (e ∷ []) es);
       busy = omega (
         arith,
         one.busy,
         rest.busy,
-        count-append (is_pending_by w) (e ∷ []) es,
-        count-append is_chain_busy
+        count_by-append (is_pending_by w) (e ∷ []) es,
+        count_by-append is_chain_busy
             (e ∷ []) es,
-        count-append is_busy (e ∷ []) es,
+        count_by-append is_busy (e ∷ []) es,
       );
-      refused = omega (arith, one.refused, rest.refused, count-append (is_closed_by w) (e ∷ []) es, count-append is_refusal (e ∷ []) es);
+      refused = omega (arith, one.refused, rest.refused, count_by-append (is_closed_by w) (e ∷ []) es, count_by-append is_refusal (e ∷ []) es);
     }
 
 pub tallied_own : (t : Tally) (w : ℕ) (h es : List Event) → Tallied t w h → Own w es → Tallied t w (h ++ es)
 tallied_own t w h es told own = record {
-  queued = omega (arith, told.queued, own.queued, count-append (is_queued_by w) h es, count-append is_push h es);
-  busy = omega (arith, told.busy, own.busy, count-append (is_pending_by w) h es, count-append is_chain_busy h es, count-append is_busy h es);
-  refused = omega (arith, told.refused, own.refused, count-append (is_closed_by w) h es, count-append is_refusal h es);
+  queued = omega (arith, told.queued, own.queued, count_by-append (is_queued_by w) h es, count_by-append is_push h es);
+  busy = omega (arith, told.busy, own.busy, count_by-append (is_pending_by w) h es, count_by-append is_chain_busy h es, count_by-append is_busy h es);
+  refused = omega (arith, told.refused, own.refused, count_by-append (is_closed_by w) h es, count_by-append is_refusal h es);
 }

@@ -12,3 +12,4 @@ pub mod Headlines
 pub mod Seen
 pub mod DelayTable
 pub mod Counting
+pub mod Appended

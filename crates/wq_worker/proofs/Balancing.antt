@@ -15,7 +15,8 @@ use Rattle.wq_worker.specs.declared.book.Ledger.{Ledger}
 use Rattle.wq_worker.specs.declared.totals.Totals.{Totals}
 use Rattle.wq_worker.specs.Book.{IsLedgerOf, IsSettled}
 use Rattle.wq_worker.specs.Balance.{largest, AreWhole, AreOwnerWhole, ledgers_of, HasOne, HaveOne, met_total, SumsMet, Balances}
-use Rattle.wq_worker.proofs.Pushes.{not_same, is_queued_below, below_more, below_none, below_all, none_above, queued_made, length-accepted_pushes}
+use Rattle.wq_worker.proofs.Pushes.{not_same, is_queued_below, below_more, below_none, below_all, none_above, queued_made}
+use Rattle.wq_words.proofs.Appended.{accepted-count}
 use Rattle.wq_worker.proofs.Summing.{cond_next, total_next, total_skip, total_none, kept_first}
 
 module _ (layout : Layout) (h : List Event) (legal : IsLegal layout h) (ledgers : List Ledger) (made : All (IsLedgerOf h) ledgers) (seat : ℕ) where
@@ -99,7 +100,7 @@ balances owner own ledgers met totals settled made sums whole owner_whole q ch e
       queued_is = queued;
       chained_is = chained;
       executed_is = executed;
-      balance = omega (arith, queued, chained, executed, length-accepted_pushes h, settled.complete.1);
+      balance = omega (arith, queued, chained, executed, accepted-count h, settled.complete.1);
       pending_is = omega (arith, pe, sums.pending_is, busy);
       closed_is = omega (arith, cl, sums.closed_is);
       contended_is = omega (arith, co, sums.contended_is);

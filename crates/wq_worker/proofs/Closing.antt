@@ -1,5 +1,5 @@
 -- What no longer changes once the queue is closed, and where nothing waits.
-use Rattle.std.proofs.Common.{◌≡◌, ℕ, zero, suc, ◌<◌, ◌==◌, Bool, true, false, cond, List, [], ◌∷◌, ◌++◌, length, take, drop, None, slice_get, sym, refl, ap}
+use Rattle.std.proofs.Common.{◌≡◌, ℕ, zero, suc, ◌<◌, ◌==◌, List, [], ◌∷◌, ◌++◌, length, take, drop, None, slice_get, sym, refl, ap}
 use Rattle.std.proofs.Common.{◌∙◌, subst, arith, append_assoc}
 use Rattle.std.proofs.lemmas.List.{append-nil, take_all}
 use Rattle.std.proofs.lemmas.List.Elements.{filter-append}
@@ -12,19 +12,14 @@ use Rattle.wq_words.proofs.Listed.{taken_closed, accepted_push_none}
 use Rattle.wq_words.proofs.Closed.{closed_from_IsClosed}
 use Rattle.wq_words.proofs.Legal.{legal_next}
 use Rattle.wq_words.specs.Seen.{owner_seat, seat_of, own, Grows}
+use Rattle.wq_words.proofs.Seen.{own_rest}
 use Rattle.wq_live.specs.Batch.{batch, next_of, TakesAll}
 use Rattle.wq_worker.specs.Seats.{NothingWaits, at_take, at_all}
-use Rattle.wq_worker.proofs.Owned.{count_by-append, owner_grows, quiet_none, Stays, stays}
-
-none_first : {A : Type 0} (b : Bool) (x : A) (xs : List A) → cond b (x ∷ xs) xs ≡ [] → xs ≡ []
-none_first true x xs is = absurd (cc)
-none_first false x xs is = is
+use Rattle.wq_worker.proofs.Owned.{owner_grows, quiet_none, Stays, stays}
+use Rattle.wq_words.proofs.Appended.{count_by-append}
 
 pub still_closed : (v w : List Event) → IsClosed v → IsClosed (v ++ w)
 still_closed v w shut = omega (arith, count_by-append is_close v w, shut)
-
-none_rest : (e : Event) (new : List Event) → own owner_seat (e ∷ new) ≡ [] → own owner_seat new ≡ []
-none_rest e new none = none_first (seat_of e == owner_seat) e (own owner_seat new) none
 
 module _ (layout : Layout) where
   accepted_more : (v : List Event) (e : Event) (new : List Event) → accepted_by e ≡ None → accepted ((v ++ e ∷ []) ++ new) ≡ accepted (v ++ e ∷ [])
@@ -40,13 +35,13 @@ module _ (layout : Layout) where
   accepted_closed v (Push s k ∷ new) legal shut none = absurd ((legal_next layout v (Push s k) new legal).2.1 shut)
   accepted_closed v (Hold s k ∷ new) legal shut none =
       accepted_more v (Hold s k) new refl (accepted_closed (v ++ Hold s k ∷ []) new (legal_rest v (Hold s k) new legal)
-      (still_closed v (Hold s k ∷ []) shut) (none_rest (Hold s k) new none))
+      (still_closed v (Hold s k ∷ []) shut) (own_rest owner_seat (Hold s k) new none))
   accepted_closed v (Busy s k ∷ new) legal shut none =
       accepted_more v (Busy s k) new refl (accepted_closed (v ++ Busy s k ∷ []) new (legal_rest v (Busy s k) new legal)
-      (still_closed v (Busy s k ∷ []) shut) (none_rest (Busy s k) new none))
+      (still_closed v (Busy s k ∷ []) shut) (own_rest owner_seat (Busy s k) new none))
   accepted_closed v (Back s k why ∷ new) legal shut none =
       accepted_more v (Back s k why) new refl (accepted_closed (v ++ Back s k why ∷ []) new (legal_rest v (Back s k why) new legal)
-      (still_closed v (Back s k why ∷ []) shut) (none_rest (Back s k why) new none))
+      (still_closed v (Back s k why ∷ []) shut) (own_rest owner_seat (Back s k why) new none))
   accepted_closed v (Take ∷ new) legal shut none = absurd (cc)
   accepted_closed v (Close ∷ new) legal shut none = absurd (cc)
   accepted_closed v (Begin k ∷ new) legal shut none = absurd (cc)

@@ -23,7 +23,8 @@ use Rattle.wq_worker.specs.Seats.{Adds, taking, NothingWaits, at_take, at_all}
 use Rattle.wq_worker.specs.State.{WorkerState}
 use Rattle.wq_worker.specs.Step.{Ends, ends, Owes, owes, Runs}
 use Rattle.wq_worker.specs.Rows.{IsExecution}
-use Rattle.wq_worker.proofs.Owned.{count_by-append, IsQuiet, owner_of_both, stays}
+use Rattle.wq_worker.proofs.Owned.{IsQuiet, owner_of_both, stays}
+use Rattle.wq_words.proofs.Appended.{count_by-append}
 use Rattle.wq_worker.proofs.Closing.{batch-closed}
 use Rattle.wq_worker.proofs.State.{quiet_taking}
 

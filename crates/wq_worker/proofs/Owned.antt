@@ -4,17 +4,14 @@ use Rattle.std.proofs.lemmas.Bool.{or_parts}
 use Rattle.std.specs.Prelude.{filter, count_by}
 use Rattle.std.proofs.lemmas.List.{append-nil}
 use Rattle.std.proofs.lemmas.List.Elements.{filter_map-append}
-use Rattle.std.proofs.lemmas.List.Sums.{sum_by-append}
 use Rattle.wq_words.specs.declared.event.Event.{Event}
 use Rattle.wq_words.specs.History.{begun_by, ended_by, is_close, begun, ended, closed, running}
 use Rattle.wq_words.specs.Seen.{owner_seat, seat_of, own, Grows}
+use Rattle.wq_words.proofs.Appended.{count_by-append}
 use Rattle.wq_words.proofs.Seen.{begun_same, ended_same, closed_count}
 use Rattle.wq_live.proofs.Owned.{begun_on, ended_on, closes_on}
 use Rattle.wq_words.specs.Seen.{is_ours}
 use Rattle.wq_worker.specs.Seats.{Adds}
-
-pub count_by-append : (p : Event → Bool) (xs ys : List Event) → count_by p (xs ++ ys) ≡ count_by p xs + count_by p ys
-count_by-append p xs ys = sum_by-append (λ x. cond (p x) 1 0) xs ys
 
 module _ {A : Type 0} (p q : A → Bool) (only : (x : A) → q x ≡ false → p x ≡ false) where
   keep_step : (b : Bool) (x : A) (ys xs : List A) → (b ≡ false → p x ≡ false) → filter p ys ≡ filter p xs

@@ -1,27 +1,22 @@
 -- How often each sender pushed, and what was accepted.
 use Rattle.std.proofs.Common.{◌≡◌, ◌≢◌, ℕ, ◌+◌, ◌<◌, ◌≤◌, Bool, true, false, cond, ◌==◌, List, [], ◌∷◌}
-use Rattle.std.proofs.Common.{◌++◌, length, refl, sym, ap, subst, arith, eq-eqb, length-append}
-use Rattle.std.specs.Prelude.{count_by, filter_map, nat_lt, min}
+use Rattle.std.proofs.Common.{◌++◌, refl, sym, ap, subst, arith, eq-eqb}
+use Rattle.std.specs.Prelude.{count_by, nat_lt, min}
 use Rattle.std.proofs.lemmas.Bool.{ltb-true, ltb-false, lt-ltb, le-ltb, eqb-true}
-use Rattle.std.proofs.lemmas.List.Elements.{filter_map-append}
-use Rattle.std.proofs.lemmas.List.Sums.{sum_by-cons}
 use Rattle.wq_words.specs.declared.layout.Layout.{Layout}
 use Rattle.wq_words.specs.declared.event.Event.{Event}
 use Rattle.wq_words.specs.declared.event.Event.TheVariants.{Hold, Busy, Push, Back, Take, Close, Begin, End, Chain, ChainBusy}
-use Rattle.wq_words.specs.History.{accepted_by, accepted, is_push, IsClosed}
+use Rattle.wq_words.specs.History.{accepted, is_push, IsClosed}
 use Rattle.wq_words.specs.Legal.{IsLegal, IsAllowed}
 use Rattle.wq_words.proofs.Growing.{count_by_push}
 use Rattle.wq_words.proofs.Legal.{legal_induction, legal_next}
 use Rattle.wq_live.specs.declared.counts.SenderCounts.{SenderCounts}
-use Rattle.wq_words.specs.Counting.{is_queued_by, is_chain}
+use Rattle.wq_words.specs.Counting.{is_queued_by}
 use Rattle.wq_worker.specs.declared.book.Ledger.{Ledger}
 use Rattle.wq_worker.specs.Book.{IsLedgerOf}
 use Rattle.wq_worker.specs.Balance.{largest}
-use Rattle.wq_worker.proofs.Owned.{count_by-append}
+use Rattle.wq_words.proofs.Appended.{count_by-append, count_by-cons}
 use Rattle.wq_worker.proofs.Closing.{still_closed, legal_rest}
-
-count_by-cons : (p : Event → Bool) (e : Event) (es : List Event) → count_by p (e ∷ es) ≡ cond (p e) 1 0 + count_by p es
-count_by-cons p e es = sum_by-cons (λ x. cond (p x) 1 0) e es
 
 -- the push of a sender below n
 abbrev pub is_queued_below : ℕ → Event → Bool
@@ -148,29 +143,3 @@ module _ (layout : Layout) where
       let c : ledger.counts.queued ≡ min (count_by (is_queued_by s) m.met) 18446744073709551615 = ap (λ (z : SenderCounts). z.queued) m.counts_are in
       let parts = ap (count_by (is_queued_by s)) is in
       omega (arith, c, whole, late, parts, count_by-append (is_queued_by s) m.met rest)
-
-accepted_one : (e : Event) → length (filter_map accepted_by (e ∷ [])) ≡ cond (is_push e) 1 0 + cond (is_chain e) 1 0
-accepted_one (Push s k) = refl
-accepted_one (Hold s k) = refl
-accepted_one (Busy s k) = refl
-accepted_one (Back s k why) = refl
-accepted_one Take = refl
-accepted_one Close = refl
-accepted_one (Begin k) = refl
-accepted_one (End k) = refl
-accepted_one (Chain k) = refl
-accepted_one (ChainBusy k) = refl
-
-pub length-accepted_pushes : (h : List Event) → length (accepted h) ≡ count_by is_push h + count_by is_chain h
-length-accepted_pushes [] = refl
-length-accepted_pushes (e ∷ es) =
-    let parts = ap (length {A = ℕ}) (filter_map-append accepted_by (e ∷ []) es) in
-    omega (
-      arith,
-      parts,
-      length-append (filter_map accepted_by (e ∷ [])) (accepted es),
-      accepted_one e,
-      length-accepted_pushes es,
-      count_by-cons is_push e es,
-      count_by-cons is_chain e es,
-    )

@@ -16,7 +16,8 @@ use Rattle.wq_worker.specs.Pair.{Paired, Both, QueuesRest, finished, contended}
 use Rattle.wq_worker.specs.State.{WorkerState, Moves}
 use Rattle.wq_worker.specs.Step.{IsKind, Starts, item, other, owed, Ends, ends, Owes, owes, Runs, Begins}
 use Rattle.wq_worker.proofs.Seats.{adds_on}
-use Rattle.wq_worker.proofs.Owned.{owner_of_both, count_by-append}
+use Rattle.wq_worker.proofs.Owned.{owner_of_both}
+use Rattle.wq_words.proofs.Appended.{count_by-append}
 use Rattle.wq_worker.proofs.Running.{runs_begun, idle_ended}
 use Rattle.wq_words.proofs.Running.{runs_from_running as runs_some}
 use Rattle.wq_worker.proofs.Pair.{both_on}

@@ -11,7 +11,8 @@ pub loop-seat-preserved : goal.loop-seat-preserved
 loop-seat-preserved c =
     let turns : List Turn = c.args.schedule.now.turns.items in
     let lt : c.loop-seat.seat-index < length turns = omega (arith, ap length c.turns-seat-items.ensures.value) in
-    let P : List Turn → Type 0 = λ ts. GivesBehind c.loop-seat.core (get_or ts c.loop-seat.seat-index (Sender 0, Hold 0)) c.make_turn.new.core (string_bytes c.loop-seat.out) (string_bytes c.make_turn.new.out) in
+    let P : List Turn → Type 0 = λ ts. GivesBehind c.loop-seat.core (get_or ts c.loop-seat.seat-index (Sender 0, Hold 0)) c.make_turn.new.core
+    (string_bytes c.loop-seat.out) (string_bytes c.make_turn.new.out) in
     record {
       same = c.in_ok-make_turn.ensures.same ∙ c.layout-layout.ensures;
       told = continues_behind c.args.schedule.now.layout turns c.loop-seat.seat-index (Sender 0, Hold 0) c.loop-seat.core c.make_turn.new.core _ _ lt
@@ -21,5 +22,8 @@ loop-seat-preserved c =
 pub returns : goal.returns
 returns c =
     let turns : List Turn = c.args.schedule.now.turns.items in
-    output_whole c.args.schedule.now.layout turns _ c.loop-seat.core _ _ (drop_of_length-le turns (omega (arith, ap length c.turns-seat-items.ensures.value))) c.loop-seat.invariant.told
-    (ends_with_rows c.loop-seat.core _ _ _ _ _ _ _ c.layout-layout.ensures c.loop-seat.invariant.same (c.deref.ensures.value ∙ c.in_ok-accepted.ensures) (c.deref-2.ensures.value ∙ c.in_ok-begun.ensures) c.in_ok-write_row.ensures c.in_ok-write_row-2.ensures)
+    output_whole c.args.schedule.now.layout turns _ c.loop-seat.core _ _
+    (drop_of_length-le turns (omega (arith, ap length c.turns-seat-items.ensures.value))) c.loop-seat.invariant.told
+    (ends_with_rows c.loop-seat.core _ _ _ _ _ _ _ c.layout-layout.ensures c.loop-seat.invariant.same
+    (c.deref.ensures.value ∙ c.in_ok-accepted.ensures) (c.deref-2.ensures.value ∙ c.in_ok-begun.ensures) c.in_ok-write_row.ensures
+    c.in_ok-write_row-2.ensures)

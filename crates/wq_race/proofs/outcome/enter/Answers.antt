@@ -15,4 +15,5 @@ returns-clause-made c =
 pub returns-clause-ledger : goal.returns-clause-ledger
 returns-clause-ledger c =
     let m = c.meet-ledger.ensures in
-    c.in_ok-push.ensures.items ∙ ap (λ (l : Ledger). c.args.ledgers.now.items ++ l ∷ []) (ledger_same c.args.sender.now c.meet-ledger.new.sender c.meet-ledger.result m.sender m.number m.counts)
+    c.in_ok-push.ensures.items ∙ ap (λ (l : Ledger). c.args.ledgers.now.items ++ l ∷ [])
+    (ledger_same c.args.sender.now c.meet-ledger.new.sender c.meet-ledger.result m.sender m.number m.counts)

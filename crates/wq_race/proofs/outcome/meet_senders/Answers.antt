@@ -2,9 +2,9 @@ use Rattle.std.proofs.Common.{◌≡◌, ◌≢◌, ℕ, ◌<◌, List, length, 
 use Rattle.std.proofs.lemmas.List.{get_or-set_other, get_or-set_same, get_or_default}
 use Rattle.wq_words.specs.declared.event.Event.{Event}
 use Rattle.wq_live.specs.Known.{Known}
-use Rattle.wq_words.proofs.Growing.{take_length}
+use Rattle.wq_words.proofs.Growing.{each_place_more, take_length}
 use Rattle.wq_race.specs.Outcome.{IsKnown, AllKnown}
-use Rattle.wq_race.proofs.Meeting.{met_still, met_more, known_one, known_more, one_more}
+use Rattle.wq_race.proofs.Meeting.{met_still, met_more, known_one, known_more}
 use Rattle.wq_race.proofs.outcome.meet_senders.Goals as goal
 
 pub loop-sender-init : goal.loop-sender-init
@@ -17,7 +17,8 @@ loop-sender-init c = record {
 pub meet-requires : goal.meet-requires
 meet-requires c =
     let i : ℕ = c.loop-sender.sender-index in
-    sym (c.loop-sender.invariant.worker.queue_is ∙ sym (ap (λ (k : Known). k.queue) (c.loop-sender.invariant.rest i c.sender-item.result (omega arith)) ∙ c.requires.one i c.sender-item.result (omega (arith, c.loop-sender-test.true, ap length c.deref_mut-sender-items.ensures.value))))
+    sym (c.loop-sender.invariant.worker.queue_is ∙ sym (ap (λ (k : Known). k.queue) (c.loop-sender.invariant.rest i c.sender-item.result (omega arith))
+    ∙ c.requires.one i c.sender-item.result (omega (arith, c.loop-sender-test.true, ap length c.deref_mut-sender-items.ensures.value))))
 
 pub loop-sender-preserved : goal.loop-sender-preserved
 loop-sender-preserved c =
@@ -31,7 +32,7 @@ loop-sender-preserved c =
     let here : i < length nows = omega (arith, c.loop-sender.auto.sender-items, c.loop-sender-test.true) in
     record {
       worker = met_more c.args.worker.now c.loop-sender.worker c.meet.new.self met m.worker;
-      each = one_more (λ k d. IsKnown next (get_or olds k d) (get_or (set nows i k') k d)) i
+      each = each_place_more (λ k d. IsKnown next (get_or olds k d) (get_or (set nows i k') k d)) i
           (λ k d lt. let ne : k ≢ i = omega arith in subst (λ (x : Known). IsKnown next (get_or olds k d) x) (sym (get_or-set_other nows i k k' d ne))
           (known_more (get_or olds k d) (get_or nows k d) c.loop-sender.worker.seen next (
             m.worker.adds.new,
@@ -50,7 +51,8 @@ returns-clause-senders c =
     let olds : List Known = c.args.senders.now.items in
     let same : length nows ≡ length olds = c.loop-sender.auto.sender-items ∙ ap length c.deref_mut-sender-items.ensures.value in
     let long : c.args.senders.now.len ≡ length nows = sym c.deref_mut-sender-items.ensures.len ∙ sym c.loop-sender.auto.sender-items in
-    let whole : take c.args.senders.now.len (nows ++ drop (length nows) olds) ≡ nows = ap (λ (n : ℕ). take n (nows ++ drop (length nows) olds)) long ∙ take_length nows (drop (length nows) olds) in
+    let whole : take c.args.senders.now.len (nows ++ drop (length nows) olds) ≡ nows =
+    ap (λ (n : ℕ). take n (nows ++ drop (length nows) olds)) long ∙ take_length nows (drop (length nows) olds) in
     subst (λ (xs : List Known). AllKnown seen olds xs) (sym whole) record {
       count = same;
       each = λ i d lt. c.loop-sender.invariant.each i d (omega (arith, lt, ap length c.deref_mut-sender-items.ensures.value, c.loop-sender-test.false));

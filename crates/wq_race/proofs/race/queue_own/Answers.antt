@@ -17,10 +17,12 @@ queue_item-requires g c =
     omega (arith, c.requires, c.loop-item-test.true, first, size)
 
 pub loop-item-preserved : goal.loop-item-preserved
-loop-item-preserved g c = queued_next (c.number.result * c.args.own) c.loop-item.item c.args.sender c.loop-item.sender c.queue_item.new.sender c.loop-item.auto.item c.loop-item.invariant c.queue_item.ensures
+loop-item-preserved g c = queued_next (c.number.result * c.args.own) c.loop-item.item c.args.sender c.loop-item.sender
+    c.queue_item.new.sender c.loop-item.auto.item c.loop-item.invariant c.queue_item.ensures
 
 pub returns : goal.returns
 returns g c =
     let own = c.args.own in let first = c.number.result * own in
     let all : c.loop-item.item - first ≡ own = omega (arith, c.loop-item-test.false, c.loop-item.auto.item, c.loop-item.auto.item-end) in
-    subst (λ (n : ℕ). HasQueued (items_at n own) c.args.sender c.loop-item.sender) c.number.ensures (subst (λ (n : ℕ). HasQueued (range_with_len first n) c.args.sender c.loop-item.sender) all c.loop-item.invariant)
+    subst (λ (n : ℕ). HasQueued (items_at n own) c.args.sender c.loop-item.sender) c.number.ensures
+    (subst (λ (n : ℕ). HasQueued (range_with_len first n) c.args.sender c.loop-item.sender) all c.loop-item.invariant)

@@ -19,7 +19,8 @@ loop-sender-preserved g c =
     let P : ℕ → PromisedHandle Sender QueuesOwn → Type 0 = λ k handle. (e : Known)
     → (handle.promise.0.value ≡ get_or all k e) × (handle.promise.1 ≡ c.args.own) in
     let here : P (length xs) h = λ e.
-    let at : get_or all (length l.yielded) c.in-Some.sender ≡ get_or all (length l.yielded) e = get_or_default all (length l.yielded) c.in-Some.sender e turn.0 in
+    let at : get_or all (length l.yielded) c.in-Some.sender ≡ get_or all (length l.yielded) e = get_or_default all
+    (length l.yielded) c.in-Some.sender e turn.0 in
     (c.in-Some-start_sender.ensures.0 ∙ (turn.1 ∙ (at ∙ ap (λ (k : ℕ). get_or all k e) (sym l.invariant.count))), c.in-Some-start_sender.ensures.1) in
     record {
       count = ap length kept ∙ omega (arith, l.invariant.count, length-append xs (h ∷ []), length-append l.yielded (c.in-Some.sender ∷ []));
@@ -30,5 +31,6 @@ loop-sender-preserved g c =
 pub returns-then-not-keep-clause-given : goal.returns-then-not-keep-clause-given
 returns-then-not-keep-clause-given g c = λ k d e lt.
     let kept = c.if-not-keep.ensures in
-    subst (λ (hs : List (PromisedHandle Sender QueuesOwn)). ((get_or hs k d).promise.0.value ≡ get_or c.args.senders.items k e) × ((get_or hs k d).promise.1 ≡ c.args.own)) (sym kept)
+    subst (λ (hs : List (PromisedHandle Sender QueuesOwn)). ((get_or hs k d).promise.0.value ≡ get_or c.args.senders.items k e)
+    × ((get_or hs k d).promise.1 ≡ c.args.own)) (sym kept)
     (c.loop-sender.invariant.given k d e (omega (arith, lt, ap length kept)))

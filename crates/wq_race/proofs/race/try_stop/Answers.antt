@@ -16,7 +16,8 @@ returns-then-ne c =
 pub loop-preserved : goal.loop-preserved
 loop-preserved c =
     let n = c.loop.counter in
-    stopped_fewer (2 * n + 2) (2 * (n + 1)) c.args.program.now c.request_stop.new.program (omega arith) (stopped_more (2 * n) c.args.program.now c.loop.program c.request_stop.new.program c.loop.invariant c.request_stop.ensures)
+    stopped_fewer (2 * n + 2) (2 * (n + 1)) c.args.program.now c.request_stop.new.program (omega arith)
+    (stopped_more (2 * n) c.args.program.now c.loop.program c.request_stop.new.program c.loop.invariant c.request_stop.ensures)
 
 pub returns : goal.returns
 returns c = stopped_fewer (2 * c.loop.counter) 8589934592 c.args.program.now c.loop.program (omega (arith, c.loop.auto.counter-end)) c.loop.invariant

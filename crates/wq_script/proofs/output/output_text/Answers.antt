@@ -75,6 +75,7 @@ returns-clause-output c =
 
 pub returns-clause-legal : goal.returns-clause-legal
 returns-clause-legal c =
-    final_legal c.loop-command.engine c.args.script.now.layout c.loop-command.invariant.told.0 c.args.script.now.commands.items _ c.loop-command.invariant.layout
+    final_legal c.loop-command.engine c.args.script.now.layout c.loop-command.invariant.told.0 c.args.script.now.commands.items
+    _ c.loop-command.invariant.layout
     c.loop-command.invariant.told.1 (drop_of_length-le c.args.script.now.commands.items
     (omega (arith, ap length c.commands-command-items.ensures))) c.loop-command.invariant.told.4

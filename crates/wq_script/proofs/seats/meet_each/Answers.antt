@@ -2,9 +2,9 @@ use Rattle.std.proofs.Common.{◌≡◌, ◌≢◌, ℕ, ◌<◌, List, [], leng
 use Rattle.std.proofs.lemmas.List.{get_or-set_other, get_or-set_same, get_or_default}
 use Rattle.wq_words.specs.declared.event.Event.{Event}
 use Rattle.wq_live.specs.Known.{Known}
-use Rattle.wq_words.proofs.Growing.{take_length}
+use Rattle.wq_words.proofs.Growing.{each_place_more, take_length}
 use Rattle.wq_script.specs.Seats.{Hears, AllHear}
-use Rattle.wq_script.proofs.Hearing.{stays_on, sees_stays, hears_hub, one_more, same_table_on, keeps_same}
+use Rattle.wq_script.proofs.Hearing.{stays_on, sees_stays, hears_hub, same_table_on, keeps_same}
 use Rattle.wq_script.proofs.seats.meet_each.Goals as goal
 
 pub meet-requires : goal.meet-requires
@@ -28,7 +28,7 @@ loop-sender-preserved c =
     record {
       delay = stays_on c.args.delay.now.sender c.loop-sender.delay.sender c.meet.new.self.sender hub (sees_stays 0 _ _ m.this.seen);
       table = same_table_on c.args.delay.now c.loop-sender.delay c.meet.new.self c.loop-sender.invariant.table (keeps_same [] 0 _ _ m.this);
-      each = one_more (λ k d. Hears told (get_or olds k d) (get_or (set nows i k') k d)) i
+      each = each_place_more (λ k d. Hears told (get_or olds k d) (get_or (set nows i k') k d)) i
           (λ k d lt. let ne : k ≢ i =
           omega arith in subst (λ (x : Known). Hears told (get_or olds k d) x) (sym (get_or-set_other nows i k k' d ne))
           (c.loop-sender.invariant.each k d lt))

@@ -13,7 +13,8 @@ use Rattle.wq_race.proofs.Ended.{IsOver, surely, never_unbalanced, tells, ran_al
 use Rattle.wq_race.proofs.outcome.Outcome.of.Goals as goal
 
 pub destroy-work-requires-clause-idle : goal.destroy-work-requires-clause-idle
-destroy-work-requires-clause-idle g c = λ runs. c.requires.run.1.idle (running_same c.meet_senders.new.worker.seen c.args.team.worker.seen (sym c.meet_senders.ensures.worker.idle) runs)
+destroy-work-requires-clause-idle g c = λ runs. c.requires.run.1.idle
+    (running_same c.meet_senders.new.worker.seen c.args.team.worker.seen (sym c.meet_senders.ensures.worker.idle) runs)
 
 pub is_balanced-requires : goal.is_balanced-requires
 is_balanced-requires g c = subst (All (IsLedgerOf c.enter.new.book.seen)) (sym c.deref-2.ensures.value) c.in_ok-enter.ensures.made
@@ -36,12 +37,14 @@ returns g c = λ plan run.
       );
     } in
     let count = senders_count plan c.args.team w xs work book over in
-    let all = subst (λ (ks : List Known). All (λ (s : Known). (sender_counts s.number s.seen).queued ≡ plan.own) ks) (sym c.deref.ensures.value) (all_counted plan c.args.team w xs work book over) in
+    let all = subst (λ (ks : List Known). All (λ (s : Known). (sender_counts s.number s.seen).queued ≡ plan.own) ks)
+    (sym c.deref.ensures.value) (all_counted plan c.args.team w xs work book over) in
     let long : length c.deref.result.now ≡ plan.senders = ap length c.deref.ensures.value ∙ count in
     let product : length c.deref.result.now * plan.own ≡ plan.senders * plan.own = ap (λ (n : ℕ). n * plan.own) long in
     let made : IsLedgerOf book.seen book.own = subst (λ (b : BookState). IsLedgerOf b.seen b.own) c.book.view_is c.book.invariant.made in
     let ledgers = c.in_ok-enter.ensures.ledger ∙ ap (λ (ls : List Ledger). ls ++ ledger_of c.args.team.program ∷ []) c.in_ok-enter_all.ensures.ledgers in
-    let never = never_unbalanced plan c.args.team w xs work book over c.enter.new.book c.deref-2.result.now made (heard_on book c.enter_all.new.book c.enter.new.book first last) (c.deref-2.ensures.value ∙ ledgers) in
+    let never = never_unbalanced plan c.args.team w xs work book over c.enter.new.book c.deref-2.result.now made
+    (heard_on book c.enter_all.new.book c.enter.new.book first last) (c.deref-2.ensures.value ∙ ledgers) in
     let whole : IsWhole plan _ = record {
       accepted_is = c.queued_by-accepted.ensures plan.own all (omega (arith, product, plan.in_limits.few_items)) ∙ product;
       balanced = surely c.is_balanced.result _ _ c.is_balanced.ensures (λ fault. never fault.0 fault.1);

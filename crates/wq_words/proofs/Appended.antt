@@ -1,18 +1,21 @@
--- What a history says when it grows by some events.
-use Rattle.std.proofs.Common.{◌≡◌, ℕ, suc, ◌+◌, ◌-◌, ◌≤◌, Bool, true, false, cond, not, List, [], ◌∷◌, ◌++◌, length, drop, refl, sym, ap, ◌∙◌, append_assoc, arith, count_by, reverse, length-append, take, get_or, ◌<◌, inl, inr, take-append-drop, drop-cons}
+-- What a history says when some events are put behind it.
+use Rattle.std.proofs.Common.{◌≡◌, ℕ, suc, ◌+◌, ◌-◌, ◌≤◌, Bool, true, false, cond, not, List, [], ◌∷◌, ◌++◌, length, drop, refl, sym, ap, ◌∙◌, arith, count_by, reverse, length-append, take, get_or, ◌<◌, inl, inr, take-append-drop, drop-cons}
 use Rattle.std.specs.List.{after_last, before_last, prefix_len}
 use Rattle.std.proofs.lemmas.List.{append-nil, reverse-append, length-reverse, drop-append-le, get_or-reverse}
 use Rattle.std.proofs.Math.Seq.{drop-append_seam}
 use Rattle.std.proofs.lemmas.Bool.{cases_lt}
 use Rattle.std.proofs.lemmas.List.Elements.{filter_map-append}
-use Rattle.std.proofs.lemmas.List.Sums.{sum_by-append, prefix_len-le-length, prefix_len_stops}
+use Rattle.std.proofs.lemmas.List.Sums.{sum_by-append, sum_by-cons, prefix_len-le-length, prefix_len_stops}
 use Rattle.wq_words.specs.declared.event.Event.{Event}
 use Rattle.wq_words.specs.declared.event.Event.TheVariants.{Hold, Busy, Push, Back, Take, Close, Begin, End, Chain, ChainBusy}
 use Rattle.wq_words.specs.History.{accepted, accepted_by, begun, begun_by, ended, ended_by, fresh, is_push, is_take}
 use Rattle.wq_words.specs.Counting.{is_chain}
 
-pub count-append : {X : Type 0} (p : X → Bool) (xs ys : List X) → count_by p (xs ++ ys) ≡ count_by p xs + count_by p ys
-count-append p xs ys = sum_by-append (λ x. cond (p x) 1 0) xs ys
+pub count_by-append : {X : Type 0} (p : X → Bool) (xs ys : List X) → count_by p (xs ++ ys) ≡ count_by p xs + count_by p ys
+count_by-append p xs ys = sum_by-append (λ x. cond (p x) 1 0) xs ys
+
+pub count_by-cons : {X : Type 0} (p : X → Bool) (x : X) (xs : List X) → count_by p (x ∷ xs) ≡ cond (p x) 1 0 + count_by p xs
+count_by-cons p x xs = sum_by-cons (λ y. cond (p y) 1 0) x xs
 
 pub accepted-append : (h es : List Event) → accepted (h ++ es) ≡ accepted h ++ accepted es
 accepted-append h es = filter_map-append accepted_by h es
@@ -37,11 +40,12 @@ after_last-no {X} p xs x fails =
 after_last-yes : {X : Type 0} (p : X → Bool) (xs : List X) (x : X) → p x ≡ true → after_last p (xs ++ x ∷ []) ≡ []
 after_last-yes {X} p xs x passes =
     let e : length (xs ++ x ∷ []) - 0 ≡ length (xs ++ x ∷ []) = omega arith in
-    rw (reverse-append xs (x ∷ []), passes, e) (ap (λ (ys : List X). drop (length (xs ++ x ∷ [])) ys) (sym (append-nil (xs ++ x ∷ []))) ∙ drop-append_seam (xs ++ x ∷ []) [])
+    rw (reverse-append xs (x ∷ []), passes, e) (ap (λ (ys : List X). drop (length (xs ++ x ∷ [])) ys) (sym (append-nil (xs ++ x ∷ [])))
+    ∙ drop-append_seam (xs ++ x ∷ []) [])
 
 -- an event that is no Take
 pub fresh-more : (h : List Event) (e : Event) → is_take e ≡ false → fresh (h ++ e ∷ []) ≡ fresh h + count_by is_push (e ∷ [])
-fresh-more h e stays = rw (after_last-no is_take h e stays) (count-append is_push (after_last is_take h) (e ∷ []))
+fresh-more h e stays = rw (after_last-no is_take h e stays) (count_by-append is_push (after_last is_take h) (e ∷ []))
 
 pub fresh-take : (h : List Event) → fresh (h ++ Take ∷ []) ≡ 0
 fresh-take h = rw (after_last-yes is_take h Take refl) refl
@@ -61,7 +65,7 @@ accepted-cons (ChainBusy k) es = omega arith
 -- as many are accepted as were pushed and chained
 pub accepted-count : (h : List Event) → length (accepted h) ≡ count_by is_push h + count_by is_chain h
 accepted-count [] = refl
-accepted-count (e ∷ es) = omega (arith, accepted-cons e es, count-append is_push (e ∷ []) es, count-append is_chain (e ∷ []) es, accepted-count es)
+accepted-count (e ∷ es) = omega (arith, accepted-cons e es, count_by-append is_push (e ∷ []) es, count_by-append is_chain (e ∷ []) es, accepted-count es)
 
 -- the last Take stands between what is before it and what is after it
 last_take : (h : List Event) (n : ℕ) → n < length h → not (is_take (get_or (reverse h) n Take)) ≡ false → is_take (get_or h (length h - 1 - n) Take) ≡ true
@@ -83,13 +87,14 @@ no_push (End k) e = refl
 no_push (Chain k) e = refl
 no_push (ChainBusy k) e = refl
 
-cut_there : (h : List Event) (j : ℕ) → j < length h → is_take (get_or h j Take) ≡ true → count_by is_push (take j h) + count_by is_push (drop (suc j) h) ≡ count_by is_push h
+cut_there : (h : List Event) (j : ℕ) → j < length h → is_take (get_or h j Take) ≡ true
+    → count_by is_push (take j h) + count_by is_push (drop (suc j) h) ≡ count_by is_push h
 cut_there h j lt e =
     let x : Event = get_or h j Take in
     let whole : take j h ++ (x ∷ drop (suc j) h) ≡ h = rw (← drop-cons h j Take lt) (take-append-drop j h) in
     let none = no_push x e in
-    let two = count-append is_push (take j h) (x ∷ drop (suc j) h) in
-    let one = count-append is_push (x ∷ []) (drop (suc j) h) in
+    let two = count_by-append is_push (take j h) (x ∷ drop (suc j) h) in
+    let one = count_by-append is_push (x ∷ []) (drop (suc j) h) in
     omega (arith, none, two, one, ap (count_by is_push) whole)
 
 pub pushes-split : (h : List Event) → count_by is_push (before_last is_take h) + fresh h ≡ count_by is_push h
