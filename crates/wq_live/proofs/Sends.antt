@@ -1,5 +1,5 @@
 -- What a sender sees, step after step and call after call.
-use Rattle.std.proofs.Common.{◌≡◌, ℕ, ◌+◌, ◌≤◌, Bool, true, false, eqb, ◌==◌, ◌&&◌, List, [], ◌∷◌, ◌++◌, sym, refl, ap, ◌∙◌, subst, arith, append_assoc, eq-eqb, IsTrue}
+use Rattle.std.proofs.Common.{◌≡◌, ℕ, ◌+◌, ◌≤◌, Bool, true, false, ◌==◌, ◌&&◌, List, [], ◌∷◌, ◌++◌, sym, refl, ap, ◌∙◌, subst, arith, append_assoc, eq-eqb, IsTrue}
 use Rattle.std.proofs.lemmas.Bool.{false≢true}
 use Rattle.wq_core.specs.Machine.{Machine}
 use Rattle.wq_core.specs.Sound.{IsSound}
@@ -7,12 +7,12 @@ use Rattle.wq_table.specs.Law.{part, IsPartOf}
 use Rattle.wq_table.specs.Chair.{Standing}
 use Rattle.wq_words.specs.declared.layout.Layout.{Layout}
 use Rattle.wq_words.specs.declared.event.Event.{Event}
-use Rattle.wq_words.specs.declared.event.Event.TheVariants.{Hold, Push, Back}
+use Rattle.wq_words.specs.declared.event.Event.TheVariants.{Hold, Push}
 use Rattle.wq_words.specs.History.{Holds, starts_hold, stops_hold}
 use Rattle.wq_words.specs.Legal.{IsLegal}
 use Rattle.wq_words.proofs.Legal.{legal_front}
 use Rattle.wq_words.proofs.Keepers.{kept}
-use Rattle.wq_words.specs.Seen.{seat_of, Grows}
+use Rattle.wq_words.specs.Seen.{Grows}
 use Rattle.wq_words.proofs.Seen.{own-append}
 use Rattle.wq_live.specs.Answers.{IsPushed, TestsAndSets}
 use Rattle.wq_live.proofs.Counting.{count_on, count_one, counts_none}

@@ -4,6 +4,7 @@ ghost use Rattle.wq_words.specs.declared.event.Event.TheVariants.{Take, Close, B
 ghost use Rattle.wq_words.specs.Numbers.{number_count};
 ghost use Rattle.wq_words.specs.History.{IsClosed, closed, IsRunning, running, ended};
 ghost use Rattle.wq_words.specs.Legal.{IsLegal, IsComplete};
+ghost use Rattle.wq_words.specs.Headline.{KeepsHeadline};
 ghost use Rattle.wq_live.specs.Known.{Sees};
 ghost use Rattle.wq_live.specs.Answers.{Chains, IsFinal};
 ghost use Rattle.wq_live.specs.Batch.{batch, next_of, TakesAll};
@@ -137,9 +138,11 @@ impl Owner {
         self.layout
     }
 
-    /// What it has seen is a legal history of its queue.
+    /// What it has seen is a legal history of its queue, so it keeps the headline: what was accepted is executed in its order,
+    /// once, and one at a time.
     pub fn legal(&self)
         ensures legal { IsLegal self.now.layout self.now.seen }
+        ensures headline { KeepsHeadline self.now.seen }
     {
         let _ = &self.counts;
     }

@@ -5,6 +5,7 @@ ghost use Rattle.wq_words.specs.declared.event.Why.TheVariants as why;
 ghost use Rattle.wq_words.specs.History.{pending, Holds};
 ghost use Rattle.wq_words.specs.Numbers.{barrier_number, stop_number, number_count};
 ghost use Rattle.wq_words.specs.Legal.{IsLegal};
+ghost use Rattle.wq_words.specs.Headline.{KeepsHeadline};
 ghost use Rattle.wq_words.specs.Seen.{owner_seat};
 ghost use Rattle.wq_words.specs.declared.answer.Answer.TheVariants.{Queued, Contended};
 ghost use Rattle.wq_live.specs.Known.{Sees};
@@ -56,9 +57,11 @@ impl Sender {
         self.layout
     }
 
-    /// What it has seen is a legal history of its queue.
+    /// What it has seen is a legal history of its queue, so it keeps the headline: what was accepted is executed in its order,
+    /// once, and one at a time.
     pub fn legal(&self)
         ensures legal { IsLegal self.now.layout self.now.seen }
+        ensures headline { KeepsHeadline self.now.seen }
     {
         let _ = &self.counts;
     }
