@@ -143,6 +143,96 @@ fn next_events(rt: HostRuntime) -> Result<(), Fail> {
     Ok(())
 }
 
+/// What is allowed after a close, of a queue on whose list are 0 and 1, while sender 1 holds the barrier 2: where nothing runs, and
+/// where 0 does. Of what is not allowed one premise alone fails.
+#[test]
+fn events_of_a_closed_queue(rt: HostRuntime) -> Result<(), Fail> {
+    let layout = Layout::new(2, 1, 2)?;
+    for (event, idle, running) in [
+        (Hold(0, 3), true, true),
+        (Hold(0, 1), false, false),
+        (Hold(0, 0), false, true),
+        (Busy(0, 1), true, true),
+        (Busy(0, 0), true, false),
+        (Push(1, 2), false, false),
+        (Back(1, 2, Why::Closed), true, true),
+        (Back(1, 2, Why::Cancelled), true, true),
+        (Back(1, 2, Why::Contended), true, true),
+        (Back(0, 2, Why::Closed), false, false),
+        (Back(1, 1, Why::Closed), false, false),
+        (Take, false, false),
+        (Close, false, false),
+        (Begin(0), true, false),
+        (Begin(1), false, false),
+        (End(0), false, true),
+        (End(1), false, false),
+        (Chain(0), false, true),
+        (Chain(1), false, false),
+        (ChainBusy(0), false, false),
+        (ChainBusy(1), false, true),
+    ] {
+        let mut history = Vec::new(rt.alloc());
+        for before in [
+            Hold(0, 0),
+            Push(0, 0),
+            Hold(0, 1),
+            Push(0, 1),
+            Hold(1, 2),
+            Close,
+        ] {
+            history.push(before)?;
+        }
+        history.push(event)?;
+        assert_eq!(rt;
+            check_history(&layout, &history).is_ok(),
+            idle,
+            "idle: {event:?}"
+        );
+        history.pop();
+        history.push(Begin(0))?;
+        history.push(event)?;
+        assert_eq!(rt;
+            check_history(&layout, &history).is_ok(),
+            running,
+            "running: {event:?}"
+        );
+    }
+    Ok(())
+}
+
+/// What is allowed while 0 runs and the queue is open, 1 is on its list and sender 1 holds the barrier 2. Of what is not allowed
+/// one premise alone fails.
+#[test]
+fn events_of_an_open_queue_that_runs(rt: HostRuntime) -> Result<(), Fail> {
+    let layout = Layout::new(2, 1, 2)?;
+    for (event, is_allowed) in [
+        (Hold(0, 0), true),
+        (Push(1, 2), true),
+        (Back(1, 2, Why::Closed), false),
+        (Take, true),
+        (Close, true),
+        (Begin(1), false),
+        (End(0), true),
+        (End(1), false),
+        (Chain(0), false),
+        (ChainBusy(1), false),
+    ] {
+        let history = [
+            Hold(0, 0),
+            Push(0, 0),
+            Hold(0, 1),
+            Push(0, 1),
+            Hold(1, 2),
+            Take,
+            Begin(0),
+            event,
+        ];
+        let found = check_history(&layout, &history);
+        assert_eq!(rt; found.is_ok(), is_allowed, "{event:?}");
+    }
+    Ok(())
+}
+
 /// 400 rounds of a queueing, a take and an execution.
 #[test]
 fn long_history(rt: HostRuntime) -> Result<(), Fail> {
