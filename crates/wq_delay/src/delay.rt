@@ -3,7 +3,8 @@ ghost use Rattle.std.specs.Prelude.{◌≡◌, ℕ, ◌+◌, ◌^◌, ◌<◌, �
 ghost use Rattle.wq_words.specs.declared.answer.Armed.TheVariants as armed;
 ghost use Rattle.wq_words.specs.declared.answer.Modified.TheVariants as modified;
 ghost use Rattle.wq_words.specs.History.{Holds};
-ghost use Rattle.wq_live.specs.Known.{Sees};
+ghost use Rattle.wq_words.specs.Headline.{KeepsHeadline};
+ghost use Rattle.wq_live.specs.Known.{IsSame, Sees};
 ghost use Rattle.wq_words.specs.DelayTable.{items, on_table, due_part, is_too_far};
 ghost use Rattle.wq_delay.specs.Delay.{IsFit, KeepsTable, Arms, Cancels, Modifies, PostsOne, PostsDue, Advances, GivesBack};
 
@@ -69,9 +70,11 @@ impl Delay {
         }
     }
 
-    /// What holds of every delay table: its items stand in order, and are those that its sender holds.
+    /// What holds of every delay table: its items stand in order, and are those that its sender holds. What its sender has seen
+    /// is legal, so it keeps the headline.
     pub fn fit(&self)
-        ensures { IsFit self.now }
+        ensures fit { IsFit self.now }
+        ensures headline { KeepsHeadline self.now.sender.seen }
     {
         let _ = &self.sender;
     }
@@ -97,6 +100,7 @@ impl Delay {
         requires item { item < self.old.sender.layout.items }
         requires tries { 0 < tries }
         ensures answer { Arms item delay tries result self.old self.new }
+        ensures same { IsSame self.old.sender self.new.sender }
         ensures far { (result ≡ armed.TooFar) ↔ IsTrue (is_too_far delay self.old.table) }
     {
         let Some(due) = tick_after(self.tick, self.next, delay) else {
@@ -119,7 +123,8 @@ impl Delay {
     /// Takes an item off the table and gives it back (`cancel_delayed_work`). False where it is not on the table.
     pub fn cancel(&mut self, item: u32) -> bool
         requires { item < self.old.sender.layout.items }
-        ensures { Cancels item result self.old self.new }
+        ensures answer { Cancels item result self.old self.new }
+        ensures same { IsSame self.old.sender self.new.sender }
     {
         if !self.table.take(item) {
             return false;
@@ -134,6 +139,7 @@ impl Delay {
         requires item { item < self.old.sender.layout.items }
         requires tries { 0 < tries }
         ensures answer { Modifies item delay tries result self.old self.new }
+        ensures same { IsSame self.old.sender self.new.sender }
         ensures far { (result ≡ modified.TooFar) ↔ IsTrue (is_too_far delay self.old.table) }
     {
         let Some(due) = tick_after(self.tick, self.next, delay) else {
@@ -212,7 +218,8 @@ impl Delay {
     /// closed an item is given back. Where a post is contended the call ends, and it stays on the table with those after it.
     pub fn advance(&mut self, now: u64, tries: u32) -> Result<Advance, Backwards>
         requires { 0 < tries }
-        ensures { Advances now tries result self.old self.new }
+        ensures answer { Advances now tries result self.old self.new }
+        ensures same { IsSame self.old.sender self.new.sender }
     {
         if now < self.tick {
             return Err(Backwards);

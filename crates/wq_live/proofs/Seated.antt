@@ -1,12 +1,9 @@
--- The seats of a new queue, and what keeps them of one queue.
+-- The seats of a new queue.
 use Rattle.std.proofs.Common.{◌≡◌, ℕ, zero, suc, List, [], ◌∷◌, ◌++◌, refl}
 use Rattle.std.specs.List.{AllByRecursion}
 use Rattle.atomic_table.specs.Seated.{TableId}
 use Rattle.wq_words.specs.declared.layout.Layout.{Layout}
-use Rattle.wq_words.specs.declared.answer.Answer.{Answer}
-use Rattle.wq_words.specs.declared.answer.Answer.TheVariants as answer
 use Rattle.wq_live.specs.Known.{Known, new_sender, new_senders}
-use Rattle.wq_live.specs.Answers.{Answers}
 
 abbrev pub AllAt : TableId → List Known → Type 0
 AllAt q xs = AllByRecursion (λ x. x.queue ≡ q) xs
@@ -23,10 +20,3 @@ all_at-less q (y ∷ ys) x all = let rest = all_at-less q ys x all.1 in ((all.0,
 pub all_at-new : (q : TableId) (l : Layout) (n : ℕ) → AllAt q (new_senders q l n)
 all_at-new q l zero = tt
 all_at-new q l (suc m) = all_at-more q (new_senders q l m) (new_sender q l m) (all_at-new q l m) refl
-
--- an answer is of the same queue
-pub queue_from_answers : (k tries : ℕ) (a : Answer) (old new : Known) → Answers k tries a old new → new.queue ≡ old.queue
-queue_from_answers k tries (answer.Queued first) old new sees = sees.0.same.queue_is
-queue_from_answers k tries answer.Pending old new sees = sees.same.queue_is
-queue_from_answers k tries answer.Closed old new sees = sees.same.queue_is
-queue_from_answers k tries answer.Contended old new sees = sees.same.queue_is

@@ -5,7 +5,7 @@ ghost use Rattle.wq_words.specs.Numbers.{number_count};
 ghost use Rattle.wq_words.specs.History.{IsClosed, closed, IsRunning, running, ended};
 ghost use Rattle.wq_words.specs.Legal.{IsLegal, IsComplete};
 ghost use Rattle.wq_words.specs.Headline.{KeepsHeadline};
-ghost use Rattle.wq_live.specs.Known.{Sees};
+ghost use Rattle.wq_live.specs.Known.{IsSame, Sees};
 ghost use Rattle.wq_live.specs.Answers.{Chains, IsFinal};
 ghost use Rattle.wq_live.specs.Batch.{batch, next_of, TakesAll};
 ghost use Rattle.wq_live.specs.Counts.{capped, owner_counts};
@@ -209,6 +209,7 @@ impl Owner {
     pub fn end(&mut self)
         requires runs { IsRunning self.old.seen }
         ensures seen { (k : ℕ) → running self.old.seen ≡ Some k → Sees (End k ∷ []) 0 self.old self.new }
+        ensures same { IsSame self.old self.new }
     {
         self.chair.end();
         self.running = None;
@@ -221,7 +222,8 @@ impl Owner {
         requires item { item < self.old.layout.items }
         requires shut { IsClosed self.old.seen }
         requires runs { IsRunning self.old.seen }
-        ensures { Chains item result self.old self.new }
+        ensures answer { Chains item result self.old self.new }
+        ensures same { IsSame self.old self.new }
     {
         if self.chair.chain(item) != 0 {
             self.counts.chain_busy = self.counts.chain_busy.saturating_add(1);

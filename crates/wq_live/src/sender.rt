@@ -8,7 +8,7 @@ ghost use Rattle.wq_words.specs.Legal.{IsLegal};
 ghost use Rattle.wq_words.specs.Headline.{KeepsHeadline};
 ghost use Rattle.wq_words.specs.Seen.{owner_seat};
 ghost use Rattle.wq_words.specs.declared.answer.Answer.TheVariants.{Queued, Contended};
-ghost use Rattle.wq_live.specs.Known.{Sees};
+ghost use Rattle.wq_live.specs.Known.{IsSame, Sees};
 ghost use Rattle.wq_live.specs.Answers.{TestsAndSets, Answers, Posts, HasFlushed};
 ghost use Rattle.wq_live.specs.Counts.{sender_counts};
 
@@ -194,6 +194,7 @@ impl Sender {
     pub fn hold(&mut self, item: u32) -> bool
         requires item { item < self.old.layout.items }
         ensures seen { TestsAndSets item result self.old self.new }
+        ensures same { IsSame self.old self.new }
         ensures held { IsTrue result → Holds self.new.seen self.new.number item }
     {
         self.hold_number(item)
@@ -205,7 +206,8 @@ impl Sender {
         requires item { item < self.old.layout.items }
         requires tries { 0 < tries }
         requires held { Holds self.old.seen self.old.number item }
-        ensures { Posts item tries result self.old self.new }
+        ensures answer { Posts item tries result self.old self.new }
+        ensures same { IsSame self.old self.new }
     {
         self.push_tries(item, tries)
     }
@@ -215,7 +217,8 @@ impl Sender {
     pub fn queue_tries(&mut self, item: u32, tries: u32) -> Answer
         requires item { item < self.old.layout.items }
         requires tries { 0 < tries }
-        ensures { Answers item tries result self.old self.new }
+        ensures answer { Answers item tries result self.old self.new }
+        ensures same { IsSame self.old self.new }
     {
         self.queue_number(item, tries)
     }
@@ -224,6 +227,7 @@ impl Sender {
     pub fn queue<R: Wait>(&mut self, rt: &R, item: u32) -> Answer
         requires item { item < self.old.layout.items }
         ensures answer { Answers item 0 result self.old self.new }
+        ensures same { IsSame self.old self.new }
         ensures settled { result ≢ Contended }
     {
         self.queue_waiting(rt, item)
@@ -242,7 +246,8 @@ impl Sender {
     pub fn flush_begin(&mut self, barrier: u32, tries: u32) -> Answer
         requires barrier { barrier < self.old.layout.barriers }
         requires tries { 0 < tries }
-        ensures { Answers (barrier_number self.old.layout barrier) tries result self.old self.new }
+        ensures answer { Answers (barrier_number self.old.layout barrier) tries result self.old self.new }
+        ensures same { IsSame self.old self.new }
     {
         let number = self.layout.barrier(barrier);
         self.queue_number(number, tries)
@@ -264,6 +269,7 @@ impl Sender {
     pub fn flush<R: Wait>(&mut self, rt: &R, barrier: u32) -> Answer
         requires barrier { barrier < self.old.layout.barriers }
         ensures answer { Answers (barrier_number self.old.layout barrier) 0 result self.old self.new }
+        ensures same { IsSame self.old self.new }
         ensures settled { result ≢ Contended }
         ensures flushed { (first : _) → result ≡ Queued first → HasFlushed (barrier_number self.old.layout barrier) self.new.seen }
     {
@@ -284,7 +290,8 @@ impl Sender {
     /// Queues the stop item, which has the last number of the queue, with at most so many tries.
     pub fn request_stop(&mut self, tries: u32) -> Answer
         requires tries { 0 < tries }
-        ensures { Answers (stop_number self.old.layout) tries result self.old self.new }
+        ensures answer { Answers (stop_number self.old.layout) tries result self.old self.new }
+        ensures same { IsSame self.old self.new }
     {
         let stop = self.layout.stop();
         self.queue_number(stop, tries)

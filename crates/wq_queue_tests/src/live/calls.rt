@@ -34,7 +34,6 @@ fn hold_then(sender: &mut Sender, item: u32, post: bool) -> Option<Posted> {
 }
 
 /// Queues an item in one try.
-#[tactic(auto, using(wq_live::proofs::Seated::queue_from_answers))]
 fn queue_once(sender: &mut Sender, item: u32) -> Option<Answer>
     ensures { sender.new.queue ≡ sender.old.queue }
 {

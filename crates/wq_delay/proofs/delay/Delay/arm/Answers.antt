@@ -11,7 +11,7 @@ pub invariant_of-self : goal.invariant_of-self
 invariant_of-self c =
     let i = c.self.inside in
     sound_queued i.table.size c.args.item c.args.tries c.queue_tries.result i.sender c.queue_tries.new.self i.tick i.next i.table.entries
-    c.queue_tries.ensures c.self.invariant
+    c.queue_tries.ensures.answer c.self.invariant
 
 pub invariant_of-self-then-not-hold : goal.invariant_of-self-then-not-hold
 invariant_of-self-then-not-hold c =

@@ -13,8 +13,8 @@ invariant_of-self c =
     let same = c.take.ensures.entries ∙ without_off c.args.item i.table.entries (sym c.if-not-take.ensures.answer) in
     (c.take.ensures.size ∙ c.self.invariant.0, subst (λ (z : List Entry). IsFit (state i.sender i.tick i.next z)) (sym same) c.self.invariant.1)
 
-pub returns-then-not-take : goal.returns-then-not-take
-returns-then-not-take c =
+pub returns-then-not-take-clause-answer : goal.returns-then-not-take-clause-answer
+returns-then-not-take-clause-answer c =
     let i = c.self.inside in
     let off : on_table c.args.item i.table.entries ≡ false = sym c.if-not-take.ensures.answer in
     let same = c.take.ensures.entries ∙ without_off c.args.item i.table.entries off in (

@@ -42,7 +42,8 @@ returns-then-chain-ne0 c =
     subst (λ (b : Bool). MatchBool b (Tells (Chain k ∷ []) p q) (Tells (ChainBusy k ∷ []) p q)) (ne_eqb w 0 c.if-chain-ne0.true)
     (chain_tells k w p q o.number_is (owner_of p.stage (kept_batch s.chair.part.stage) o.has_row.stage_is) c.chain.ensures.makes) in
     let t = record s { chair = c.chain.new.self; counts = record s.counts { chain_busy = x } } in
-    owner_sees (ChainBusy k ∷ []) 0 s t c.args.self.now c.self.view_is o refl c.chain.ensures.queue_is told
+    let sees = owner_sees (ChainBusy k ∷ []) 0 s t c.args.self.now c.self.view_is o refl c.chain.ensures.queue_is told in
+    record { answer = sees; same = sees.same }
 
 pub hang-self-inside-requires-clause-stands : goal.hang-self-inside-requires-clause-stands
 hang-self-inside-requires-clause-stands c = makes_stands _ _ c.self.inside.chair.part c.chain.new.self.part c.chain.ensures.makes
@@ -80,4 +81,5 @@ returns c = let s = c.self.inside in let o = c.self.invariant in let k = c.args.
     followed (Chain k ∷ []) 0 p q r (subst (λ (b : Bool). MatchBool b (Tells (Chain k ∷ []) p q) (Tells (ChainBusy k ∷ []) p q)) (eq-eqb w 0 zero)
     (chain_tells k w p q o.number_is (owner_of p.stage (kept_batch p.stage) o.has_row.stage_is) c.chain.ensures.makes)) e.follows e.stands in
     let t = record s { chair = c.hang-self-inside.new.chair; row = c.hang-self-inside.result; counts = record s.counts { chained = x } } in
-    (refl, owner_sees (Chain k ∷ []) 0 s t c.args.self.now c.self.view_is o refl (e.queue ∙ c.chain.ensures.queue_is) told)
+    let sees = owner_sees (Chain k ∷ []) 0 s t c.args.self.now c.self.view_is o refl (e.queue ∙ c.chain.ensures.queue_is) told in
+    record { answer = (refl, sees); same = sees.same }

@@ -18,4 +18,4 @@ returns c = λ layout h g.
     sender_asked layout s t h p (layout.items + c.args.barrier) c.flush_begin-answer.result x z g c.requires.place c.index_mut.ensures.value
     (subst (λ (m : ℕ). Answers (m + c.args.barrier) 1 c.flush_begin-answer.result x z)
     (ap (λ (l : Layout). l.items) (seat_layout layout s h p x g c.requires.place c.index_mut.ensures.value ∙ g.delay.layout_is)
-    ∙ g.wider.items) c.flush_begin-answer.ensures) all
+    ∙ g.wider.items) c.flush_begin-answer.ensures.answer) all

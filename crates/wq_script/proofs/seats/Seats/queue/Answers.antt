@@ -13,4 +13,4 @@ returns c = λ layout h g.
     let t = c.gather.new.self in
     let all : Gathers z.seen (with_sender s p z) t =
     subst (λ (v : Known). Gathers v.seen (with_sender s p z) t) (get_or-set_same s.senders.items p z x c.requires.place) (c.gather.ensures.sender x) in
-    sender_asked layout s t h p c.args.item c.queue_tries-answer.result x z g c.requires.place c.index_mut.ensures.value c.queue_tries-answer.ensures all
+    sender_asked layout s t h p c.args.item c.queue_tries-answer.result x z g c.requires.place c.index_mut.ensures.value c.queue_tries-answer.ensures.answer all

@@ -19,4 +19,4 @@ returns c = λ layout h g.
     (subst (λ (m : ℕ). Answers m 1 c.request_stop-answer.result x z)
     ((λ i. ap (λ (l : Layout). l.items) (seat_layout layout s h p x g c.requires.place c.index_mut.ensures.value ∙ g.delay.layout_is) i
     + ap (λ (l : Layout). l.barriers) (seat_layout layout s h p x g c.requires.place c.index_mut.ensures.value ∙ g.delay.layout_is) i)
-    ∙ (λ i. g.wider.items i + g.wider.barriers i)) c.request_stop-answer.ensures) all
+    ∙ (λ i. g.wider.items i + g.wider.barriers i)) c.request_stop-answer.ensures.answer) all
