@@ -92,11 +92,16 @@ fn help_and_refused_words(rt: HostRuntime) -> std::result::Result<(), Fail> {
     for part in ["Usage: wqrun [COMMAND]\n", "Exit status:\n", "/dev/stdin"] {
         assert!(rt; text.contains(part), "{part}");
     }
-    for command in ["script", "steps", "live"] {
+    for (command, part) in [
+        ("script", "modify K D"),
+        ("steps", "o turn K L"),
+        ("live", "own"),
+    ] {
         let line = format!(in rt.alloc(); "wqrun {command} --help")?;
         let help = run_words(&rt, rt.alloc(), Ok(words_of(rt.alloc(), &line)?));
         assert_eq!(rt; help.status, 0, "{command}");
         let text = String::from_utf8(help.output)?;
+        assert!(rt; text.contains(part), "{command}");
         assert!(rt; text.contains("Example:\n"), "{command}");
     }
     let refused = run_words(&rt, rt.alloc(), Ok(words_of(rt.alloc(), "wqrun race a")?));
@@ -208,6 +213,24 @@ fn words_that_are_no_text(rt: HostRuntime) {
         assert!(rt; left.output.is_empty());
         assert_eq!(rt; left.faults.as_slice(), b"file: Unreadable\n".as_slice());
     }
+}
+
+/// A whole run. Where an allocation is refused, want of memory is the answer and no other (`make memory` refuses each in turn).
+#[test]
+fn refused_memory(rt: HostRuntime) {
+    let alloc = rt.alloc();
+    let words = command_words(&OneWord {
+        alloc,
+        word: b"--version",
+    });
+    let left = run_words(&rt, alloc, words);
+    if left.status == 3 {
+        assert!(rt; left.output.is_empty());
+        assert_eq!(rt; left.faults.as_slice(), b"memory\n".as_slice());
+        return;
+    }
+    assert_eq!(rt; left.status, 0);
+    assert!(rt; left.faults.is_empty());
 }
 
 #[test]
