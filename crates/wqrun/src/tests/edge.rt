@@ -215,24 +215,6 @@ fn words_that_are_no_text(rt: HostRuntime) {
     }
 }
 
-/// A whole run. Where an allocation is refused, want of memory is the answer and no other (`make memory` refuses each in turn).
-#[test]
-fn refused_memory(rt: HostRuntime) {
-    let alloc = rt.alloc();
-    let words = command_words(&OneWord {
-        alloc,
-        word: b"--version",
-    });
-    let left = run_words(&rt, alloc, words);
-    if left.status == 3 {
-        assert!(rt; left.output.is_empty());
-        assert_eq!(rt; left.faults.as_slice(), b"memory\n".as_slice());
-        return;
-    }
-    assert_eq!(rt; left.status, 0);
-    assert!(rt; left.faults.is_empty());
-}
-
 #[test]
 fn no_memory_for_words(rt: HostRuntime) {
     let left = run_words(&rt, rt.alloc(), Err(Error::from(AllocError)));
