@@ -2,11 +2,12 @@
 SHELL := /bin/bash
 PREFIX ?= /usr/local
 PROGRAM := crates/wqrun/out/wqrun
+EXAMPLES := crates/wq_examples/data
 
 .PHONY: run test build install bench examples memory
 
 run: build
-	$(PROGRAM) script examples/first.wq
+	$(PROGRAM) script $(EXAMPLES)/first.wq
 
 test:
 	rt ci
@@ -22,7 +23,7 @@ install: build
 
 # Each example writes what is stored beside it, and ends with the status that is stored.
 examples: build
-	examples/check.sh $(PROGRAM)
+	checks/examples.sh $(PROGRAM)
 
 # The tests of memory with each allocation refused in turn; some minutes a crate.
 memory:

@@ -10,6 +10,7 @@ use std::process::Abort;
 use std::sync::Wait;
 use std::test::Fail;
 use std::thread::{Scope, Threads, scope, scope_env, yield_now};
+use std::time::{Duration, Instant};
 use wq_live::Sender;
 
 /// How often it is looked whether the worker has begun an item.
@@ -43,19 +44,21 @@ fn queue_first<R: Abort + Wait>(rt: &R, sender: &mut Sender, parker: &Parker) {
     queue_item(rt, sender, 0, parker.unparker());
 }
 
-/// A queueing wakes who parks: a park after it returns.
+/// A queueing wakes who parks: a park after it returns at once.
 #[test]
 fn a_queueing_wakes(rt: HostRuntime) -> Result<(), Fail> {
     let mut team = team_of(&rt, rt.alloc(), PLAN);
     let parker = Parker::new(rt.alloc())?;
     queue_first(&rt, &mut team.program, &parker);
-    parker.park(&rt);
+    let before = Instant::now(&rt)?;
+    parker.park_timeout(&rt, Duration::from_secs(20));
+    assert!(rt; before.elapsed(&rt)? < Duration::from_secs(20));
     Ok(())
 }
 
-/// Whether an item that was queued has begun, within some looks.
-fn has_begun<R: Abort>(rt: &R, program: &mut Sender) -> bool {
-    for _ in 0..LOOKS {
+/// Whether the item of this number, which was queued, has begun, within so many looks.
+fn has_begun<R: Abort>(rt: &R, program: &mut Sender, looks: u32) -> bool {
+    for _ in 0..looks {
         assert!(rt; 0 < program.layout().items);
         if !program.is_pending(0) {
             return true;
@@ -73,7 +76,8 @@ fn executed_by<R: Abort + Threads>(rt: &R, serving: Serving) -> u128 {
     }
 }
 
-/// Whether the worker began an item while the stop item was withheld, and how many executions it made in all.
+/// Whether the worker began item 0 while the stop item was withheld, within so many looks after all senders had ended, and how many
+/// executions it made in all.
 fn run_withheld<'s, E, R: Abort + Threads + Wait + Sync>(
     scope: &Scope<'s, E>,
     rt: &'s R,
@@ -81,6 +85,7 @@ fn run_withheld<'s, E, R: Abort + Threads + Wait + Sync>(
     plan: Plan,
     team: Team,
     parker: Parker,
+    looks: u32,
 ) -> (bool, u128)
     requires { IsNewTeam plan team }
 {
@@ -93,25 +98,53 @@ fn run_withheld<'s, E, R: Abort + Threads + Wait + Sync>(
     if let Err(error) = senders {
         panic!(rt; "{error}");
     }
-    let has_begun = has_begun(rt, &mut program);
+    let has_begun = has_begun(rt, &mut program, looks);
     stop(rt, &mut program, &unparker);
     (has_begun, executed_by(rt, serving))
 }
 
-/// Senders wake the worker, which runs while they queue and does not wait for the stop item.
-#[test]
-fn worker_runs_before_the_stop(rt: HostRuntime) -> Result<(), Fail> {
-    let plan = PLAN;
-    let team = team_of(&rt, rt.alloc(), plan);
-    let parker = Parker::new(rt.alloc())?;
-    let (has_begun, executed) = scope(
+/// Runs a plan, with the stop item withheld.
+fn run_in_scope<R: Abort + AllocGlobal + Threads + Wait + Sync>(
+    rt: &R,
+    plan: Plan,
+    looks: u32,
+) -> (bool, u128) {
+    let team = team_of(rt, rt.alloc(), plan);
+    let Ok(parker) = Parker::new(rt.alloc()) else {
+        panic!(rt; "memory")
+    };
+    scope(
         scope_env(),
-        &rt,
+        rt,
         |scope| -> (bool, u128)
             requires { IsNewTeam plan team }
-        { run_withheld(scope, &rt, rt.alloc(), plan, team, parker) },
-    );
+        { run_withheld(scope, rt, rt.alloc(), plan, team, parker, looks) },
+    )
+}
+
+/// Senders wake the worker, which does not wait for the stop item.
+#[test]
+fn worker_runs_before_the_stop(rt: HostRuntime) {
+    let (has_begun, executed) = run_in_scope(&rt, PLAN, LOOKS);
     assert!(rt; has_begun);
     assert_eq!(rt; executed, 33);
-    Ok(())
+}
+
+/// The worker runs while the senders queue: in most of 20 turns it has begun their first item when all of them have ended. In
+/// one turn it may come late, where the machine is busy.
+#[test]
+fn worker_runs_beside_the_senders(rt: HostRuntime) {
+    let mut begun = 0u32;
+    for _ in 0..20u32 {
+        let plan = Plan {
+            senders: 4,
+            own: 1024,
+        };
+        let (has_begun, executed) = run_in_scope(&rt, plan, 1);
+        assert_eq!(rt; executed, 4097);
+        if has_begun {
+            begun = begun.wrapping_add(1);
+        }
+    }
+    assert!(rt; begun >= 5, "{begun}");
 }

@@ -60,8 +60,8 @@ Example:
         more: "\
 Steps of a sender S: S hold K, S look, S link K, S push K, S check K, and
   S back K closed (or contended, or cancelled)
-Steps of the owner: o take, o close, o walk, o begin, o end, o chain K
-K is an item, bB the barrier B, or stop the stop item.
+Steps of the owner: o take, o close, o walk, o begin, o end, o chain K, o turn K L
+K is an item, bB the barrier B, or stop the stop item; L is one of these, or end.
 
 Example:
   printf 'steps 1\\nitems 4\\nsenders 2\\n0 hold 1\\n0 look\\n0 link 1\\n0 push 1\\no take\\n' | wqrun steps /dev/stdin",

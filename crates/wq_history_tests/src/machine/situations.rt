@@ -175,7 +175,7 @@ const QUEUED: [(Seat, Step); 8] = [
 ];
 
 /// What the owner does once 0 and 1 are queued, and steps that are tried then.
-const OWNERS: [Situation; 11] = [
+const OWNERS: [Situation; 13] = [
     Situation {
         what: "a list that is not taken",
         made: &[],
@@ -331,6 +331,43 @@ const OWNERS: [Situation; 11] = [
             (O, Take, None),
             (O, Close, None),
             (O, Begin, Some(Began(0))),
+        ],
+    },
+    Situation {
+        what: "a closed queue of which the last number runs",
+        made: &[
+            (O, Close),
+            (O, Walk),
+            (O, Walk),
+            (O, Begin),
+            (O, End),
+            (O, Begin),
+        ],
+        tried: &[
+            (O, Take, None),
+            (O, Close, None),
+            (O, Begin, None),
+            (O, Chain(1), Some(Chained)),
+        ],
+    },
+    Situation {
+        what: "a closed queue that has run to its end",
+        made: &[
+            (O, Close),
+            (O, Walk),
+            (O, Walk),
+            (O, Begin),
+            (O, End),
+            (O, Begin),
+            (O, End),
+        ],
+        tried: &[
+            (O, Take, None),
+            (O, Close, None),
+            (O, Walk, None),
+            (O, Begin, None),
+            (O, Chain(1), None),
+            (S0, Hold(0), Some(Reply::Held)),
         ],
     },
 ];

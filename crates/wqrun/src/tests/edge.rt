@@ -92,11 +92,16 @@ fn help_and_refused_words(rt: HostRuntime) -> std::result::Result<(), Fail> {
     for part in ["Usage: wqrun [COMMAND]\n", "Exit status:\n", "/dev/stdin"] {
         assert!(rt; text.contains(part), "{part}");
     }
-    for command in ["script", "steps", "live"] {
+    for (command, part) in [
+        ("script", "modify K D"),
+        ("steps", "o turn K L"),
+        ("live", "own"),
+    ] {
         let line = format!(in rt.alloc(); "wqrun {command} --help")?;
         let help = run_words(&rt, rt.alloc(), Ok(words_of(rt.alloc(), &line)?));
         assert_eq!(rt; help.status, 0, "{command}");
         let text = String::from_utf8(help.output)?;
+        assert!(rt; text.contains(part), "{command}");
         assert!(rt; text.contains("Example:\n"), "{command}");
     }
     let refused = run_words(&rt, rt.alloc(), Ok(words_of(rt.alloc(), "wqrun race a")?));
