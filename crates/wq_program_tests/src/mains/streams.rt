@@ -1,4 +1,4 @@
-//! Streams that fail at one call, each in turn, under each of the mains.
+//! Streams that fail at one call alone, each in turn, under each of the mains.
 use std::alloc::Global;
 use std::io::{Error, ErrorKind, Read, Result, Write};
 use std::process::Abort;
@@ -64,7 +64,14 @@ fn run<T: Threads + Wait + Sync, R: Read + Drop, W: Write, F: Write>(
     }
 }
 
-/// Gives a text a few bytes a call, and fails after so many calls.
+/// Counts a call down. True once, at the call that comes when none are left.
+fn is_due(calls: &mut u32) -> bool {
+    let is_due = *calls == 0;
+    *calls = calls.wrapping_sub(1);
+    is_due
+}
+
+/// Gives a text a few bytes a call, and fails once, after so many calls: who passes over that gets the rest.
 #[derive(Drop)]
 struct CutReader<'a> {
     rest: &'a [u8],
@@ -74,10 +81,9 @@ struct CutReader<'a> {
 
 impl Read for CutReader<'_> {
     fn read(&mut self, buffer: &mut [u8]) -> Result<usize> {
-        if self.calls == 0 {
+        if is_due(&mut self.calls) {
             return Err(Error::from(self.cause));
         }
-        self.calls -= 1;
         let count = self.rest.len().min(buffer.len()).min(8);
         buffer[..count].copy_from_slice(&self.rest[..count]);
         self.rest = &self.rest[count..];
@@ -85,7 +91,7 @@ impl Read for CutReader<'_> {
     }
 }
 
-/// Takes a few bytes a call, and fails after so many calls.
+/// Takes a few bytes a call, and fails once, after so many calls: what is written then is taken again.
 #[derive(Drop)]
 struct CutWriter {
     taken: Vec<u8>,
@@ -94,20 +100,18 @@ struct CutWriter {
 
 impl Write for CutWriter {
     fn write(&mut self, bytes: &[u8]) -> Result<usize> {
-        if self.calls == 0 {
+        if is_due(&mut self.calls) {
             return Err(Error::from(ErrorKind::BrokenPipe));
         }
-        self.calls -= 1;
         let count = bytes.len().min(8);
         self.taken.extend_from_slice(&bytes[..count])?;
         Ok(count)
     }
 
     fn flush(&mut self) -> Result<()> {
-        if self.calls == 0 {
+        if is_due(&mut self.calls) {
             return Err(Error::from(ErrorKind::BrokenPipe));
         }
-        self.calls -= 1;
         Ok(())
     }
 }

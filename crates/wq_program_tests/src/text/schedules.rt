@@ -104,7 +104,8 @@ fn headers_of_schedules(rt: HostRuntime) -> Result<(), Fail> {
 
 #[test]
 fn turns_that_a_text_spells(rt: HostRuntime) -> Result<(), Fail> {
-    let text = "steps 1\nitems 4\nsenders 2\n1 hold b0\n0 back stop closed\no chain 3\no turn 1 end\no turn stop b0\n";
+    let text =
+        "steps 1\nitems 4\nsenders 2\n1 hold b0\n0 back stop closed\no chain 3\no turn 1 end\no turn stop b0\n";
     match parse_steps(rt.alloc(), text.as_bytes()) {
         Ok(schedule) => {
             let want = [
