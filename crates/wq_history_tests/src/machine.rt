@@ -1,3 +1,5 @@
+mod stopped;
+
 use std::test::Fail;
 use wq_core::Reply::{
     Began, Busy, ChainBusy, Chained, Closed, Ended, GivenBack, Held, Idle, Linked, Looked, Lost,
