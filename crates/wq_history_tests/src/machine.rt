@@ -1,4 +1,5 @@
 mod situations;
+mod stopped;
 
 use std::test::Fail;
 use wq_core::Reply::{

@@ -3,4 +3,5 @@ mod calls;
 mod memory;
 mod reading;
 mod rows;
+mod stopped;
 mod threads;
