@@ -6,6 +6,7 @@ use Rattle.wq_words.specs.declared.event.Event.{Event}
 use Rattle.wq_words.specs.Legal.{IsLegal}
 use Rattle.wq_words.specs.Seen.{owner_seat, own, Grows}
 use Rattle.wq_live.specs.Known.{Known, new_owner, new_sender, new_senders}
+use Rattle.wq_live.proofs.Seated.{made_nothing}
 use Rattle.wq_race.specs.declared.plan.Plan.{Plan}
 use Rattle.wq_race.specs.declared.team.Team.{Team}
 use Rattle.wq_race.specs.Plan.{IsLayoutOf}
@@ -22,10 +23,6 @@ module _ {A : Type 0} where
   ends_alike (z ∷ xs) [] x y is = let rest : [] ≡ xs ++ x ∷ [] = cc in absurd (none_and_one xs x rest)
   ends_alike (z ∷ xs) (w ∷ ys) x y is = let tails : xs ++ x ∷ [] ≡ ys ++ y ∷ [] = cc in let r = ends_alike xs ys x y tails in
       let same : z ≡ w = cc in ((λ i. same i ∷ r.0 i), r.1)
-
-pub length-new_senders : (q : QueueId) (l : Layout) (n : ℕ) → length (new_senders q l n) ≡ n
-length-new_senders q l zero = refl
-length-new_senders q l (suc m) = omega (arith, length-append (new_senders q l m) (new_sender q l m ∷ []), length-new_senders q l m)
 
 -- the senders of a new queue, of which the last two are taken
 pub record IsShared (q : QueueId) (l : Layout) (n : ℕ) (xs : List Known) (own program : Known) : Type 0 where
@@ -45,10 +42,6 @@ shared q l n all more xs own program count made one two =
 pub length-last : (xs ys : List Known) (x : Known) (n : ℕ) → length xs ≡ n → xs ≡ ys ++ x ∷ [] → length ys + 1 ≡ n
 length-last xs ys x n count is = omega (arith, count, ap length is, length-append ys (x ∷ []))
 
--- what a seat that had seen nothing has made, where it made no event
-pub own-new : (c n : ℕ) (v w : List Event) → v ≡ [] → Grows c [] n v w → own c w ≡ []
-own-new c n v w none g = ap (own c) (g.is ∙ ap (λ (x : List Event). x ++ g.new) none) ∙ g.mine
-
 pub new_team : (plan : Plan) (l : Layout) (o mine program : Known) (xs : List Known) (t : Team) → IsLayoutOf plan.senders plan.own l
     → o ≡ new_owner o.queue l → IsShared o.queue l plan.senders xs mine program
     → t.senders.items ≡ xs → t.program ≡ program → t.worker.queue ≡ o.queue → t.worker.layout ≡ o.layout → t.worker.number ≡ mine.number
@@ -62,8 +55,8 @@ new_team plan l o mine program xs t sized owner s senders last queue layout numb
       senders_are = senders ∙ (s.rest_is ∙ (λ i. new_senders (sym queue i) (sym same i) plan.senders));
       number_is = number ∙ at;
       program_is = last ∙ (s.program_is ∙ (λ i. new_sender (sym queue i) (sym same i) (plan.senders + 1)));
-      untouched = own-new owner_seat 0 o.seen t.worker.seen (ap (λ (k : Known). k.seen) owner) grows_owner;
-      unsent = subst (λ (n : ℕ). own n t.worker.seen ≡ []) (sym number) (own-new mine.number 0 mine.seen t.worker.seen (ap (λ (k : Known). k.seen) s.own_is) grows_own);
+      untouched = made_nothing owner_seat 0 o.seen t.worker.seen (ap (λ (k : Known). k.seen) owner) grows_owner;
+      unsent = subst (λ (n : ℕ). own n t.worker.seen ≡ []) (sym number) (made_nothing mine.number 0 mine.seen t.worker.seen (ap (λ (k : Known). k.seen) s.own_is) grows_own);
       unrun = unrun;
       legal = legal;
     }

@@ -1,6 +1,5 @@
 -- The seats of a new queue.
-use Rattle.std.proofs.Common.{◌≡◌, ℕ, zero, suc, ◌+◌, ◌<◌, List, [], ◌∷◌, ◌++◌, length, get_or, inl, inr, refl, sym, ap, ◌∙◌, subst, arith, length-append}
-use Rattle.std.proofs.lemmas.Bool.{cases_lt}
+use Rattle.std.proofs.Common.{◌≡◌, ℕ, zero, suc, ◌+◌, ◌<◌, List, [], ◌∷◌, ◌++◌, length, get_or, refl, sym, ap, ◌∙◌, subst, arith, length-append}
 use Rattle.wq_live.specs.Known.{QueueId}
 use Rattle.wq_words.specs.declared.layout.Layout.{Layout}
 use Rattle.wq_words.specs.declared.event.Event.{Event}
@@ -9,6 +8,7 @@ use Rattle.wq_words.specs.Legal.{IsLegal}
 use Rattle.wq_words.proofs.Legal.{legal_nil}
 use Rattle.wq_words.specs.Seen.{owner_seat, own, Grows}
 use Rattle.wq_live.specs.Known.{Known, new_sender, new_owner, new_senders}
+use Rattle.wq_live.proofs.Seated.{length-new_senders, get_or-new_senders, made_nothing}
 use Rattle.wq_script.specs.declared.seats.Seats.{Seats}
 use Rattle.wq_script.specs.Seats.{IsAt, IsWider, Seated}
 
@@ -24,30 +24,6 @@ module _ {A : Type 0} where
   ends_alike (z ∷ xs) (w ∷ ys) x y is = let tails : xs ++ x ∷ [] ≡ ys ++ y ∷ [] = cc in let r = ends_alike xs ys x y tails in let same : z ≡ w =
       cc in ((λ i. same i ∷ r.0 i), r.1)
 
-  pub get_or-front : (xs : List A) (x : A) (i : ℕ) (d : A) → i < length xs → get_or (xs ++ x ∷ []) i d ≡ get_or xs i d
-  get_or-front [] x i d lt = absurd (omega (arith, lt))
-  get_or-front (y ∷ xs) x zero d lt = refl
-  get_or-front (y ∷ xs) x (suc i) d lt = get_or-front xs x i d (omega (arith, lt))
-
-  pub get_or-end : (xs : List A) (x : A) (d : A) → get_or (xs ++ x ∷ []) (length xs) d ≡ x
-  get_or-end [] x d = refl
-  get_or-end (y ∷ xs) x d = get_or-end xs x d
-
-pub length-new : (q : QueueId) (l : Layout) (n : ℕ) → length (new_senders q l n) ≡ n
-length-new q l zero = refl
-length-new q l (suc n) = length-append (new_senders q l n) (new_sender q l n ∷ []) ∙ omega (arith, length-new q l n)
-
-pub new_at : (q : QueueId) (l : Layout) (n i : ℕ) (d : Known) → i < n → get_or (new_senders q l n) i d ≡ new_sender q l i
-new_at q l zero i d lt = absurd (omega (arith, lt))
-new_at q l (suc n) i d lt = elim (cases_lt i n) [
-  | inl less ↦ get_or-front (new_senders q l n) (new_sender q l n) i d (omega (arith, less, length-new q l n)) ∙ new_at q l n i d less
-  | inr ge ↦
-      let is : length (new_senders q l n) ≡ i = omega (arith, lt, ge, length-new q l n) in
-      let same : n ≡ i = omega (arith, lt, ge) in
-      ap (λ (j : ℕ). get_or (new_senders q l n ++ new_sender q l n ∷ []) j d) (sym is)
-      ∙ (get_or-end (new_senders q l n) (new_sender q l n) d ∙ ap (new_sender q l) same)
-]
-
 -- the last two of the senders are taken away
 pub two_less : (q : QueueId) (l : Layout) (n m : ℕ) (xs ys zs : List Known) (a b : Known) → m ≡ n + 2 → xs ≡ new_senders q l m → xs ≡ ys ++ b ∷ []
     → ys ≡ zs ++ a ∷ []
@@ -58,9 +34,6 @@ two_less q l n m xs ys zs a b count made one two =
     let first = ends_alike ys (new_senders q l (n + 1)) b (new_sender q l (n + 1)) (sym one ∙ (made ∙ ap (new_senders q l) more)) in
     let second = ends_alike zs (new_senders q l n) a (new_sender q l n) (sym two ∙ (first.0 ∙ ap (new_senders q l) more2)) in
     (second.0, second.1, first.1)
-
-grown_none : (c : ℕ) (v w : List Event) (n : ℕ) → Grows c [] n v w → v ≡ [] → own c w ≡ []
-grown_none c v w n g none = ap (own c) (g.is ∙ ap (λ (x : List Event). x ++ g.new) none) ∙ g.mine
 
 pub new_seated : (layout wide : Layout) (q : QueueId) (s : Seats) (o a b : Known) → IsWider layout wide → o ≡ new_owner q wide
     → a ≡ new_sender q wide layout.senders → b ≡ new_sender q wide (layout.senders + 1)
@@ -73,9 +46,9 @@ new_seated layout wide q s o a b wider is_o is_a is_b senders queue lay number t
   wide = wide;
   wider = wider;
   legal = legal_nil wide;
-  count = ap length senders ∙ length-new q wide layout.senders;
+  count = ap length senders ∙ length-new_senders q wide layout.senders;
   senders = λ i d lt. let at : get_or s.senders.items i d ≡ new_sender q wide i = ap (λ (x : List Known). get_or x i d) senders
-      ∙ new_at q wide layout.senders i d lt in
+      ∙ get_or-new_senders q wide layout.senders i d lt in
       subst (λ (k : Known). IsAt q wide i [] k) (sym at) record { queue_is = refl; layout_is = refl; number_is = refl; begins = ([], refl); mine = refl };
   sender = record {
     queue_is = queue ∙ ap (λ (k : Known). k.queue) is_o;
@@ -83,14 +56,14 @@ new_seated layout wide q s o a b wider is_o is_a is_b senders queue lay number t
     number_is = number ∙ ap (λ (k : Known). k.number) is_a;
     begins = (s.worker.seen, refl);
     mine = subst (λ (n : ℕ). own n s.worker.seen ≡ []) (ap (λ (k : Known). k.number) is_a)
-        (grown_none a.number a.seen s.worker.seen 0 grows_a (ap (λ (k : Known). k.seen) is_a));
+        (made_nothing a.number 0 a.seen s.worker.seen (ap (λ (k : Known). k.seen) is_a) grows_a);
   };
   owner = record {
     queue_is = queue ∙ ap (λ (k : Known). k.queue) is_o;
     layout_is = lay ∙ ap (λ (k : Known). k.layout) is_o;
     number_is = refl;
     begins = (s.worker.seen, refl);
-    mine = grown_none owner_seat o.seen s.worker.seen 0 grows_o (ap (λ (k : Known). k.seen) is_o);
+    mine = made_nothing owner_seat 0 o.seen s.worker.seen (ap (λ (k : Known). k.seen) is_o) grows_o;
   };
   delay = subst (λ (k : Known). IsAt q wide (layout.senders + 1) [] k)
       (sym (delay ∙ is_b)) record { queue_is = refl; layout_is = refl; number_is = refl; begins = ([], refl); mine = refl };
