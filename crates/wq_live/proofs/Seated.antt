@@ -1,22 +1,69 @@
 -- The seats of a new queue.
-use Rattle.std.proofs.Common.{◌≡◌, ℕ, zero, suc, List, [], ◌∷◌, ◌++◌, refl}
-use Rattle.std.specs.List.{AllByRecursion}
-use Rattle.atomic_table.specs.Seated.{TableId}
+use Rattle.std.proofs.Common.{◌≡◌, ℕ, zero, suc, ◌+◌, ◌<◌, Bool, true, false, ◌==◌, List, [], ◌∷◌, ◌++◌, length, get_or, refl, sym, ap, ◌∙◌, subst, arith, length-append}
+use Rattle.std.specs.Prelude.{All}
+use Rattle.std.proofs.Math.ListN.{get_or-append}
+use Rattle.std.proofs.Math.Seq.{get_or-append_seam}
+use Rattle.std.proofs.lemmas.Bool.{eqb-true, eqb-false}
+use Rattle.std.proofs.lemmas.List.Elements.{All-append, All-cons, All-nil}
 use Rattle.wq_words.specs.declared.layout.Layout.{Layout}
-use Rattle.wq_live.specs.Known.{Known, new_sender, new_senders}
+use Rattle.wq_words.specs.declared.event.Event.{Event}
+use Rattle.wq_words.specs.History.{Holds}
+use Rattle.wq_words.specs.Seen.{own, Grows}
+use Rattle.wq_words.proofs.Growing.{ends_alike}
+use Rattle.wq_live.specs.Known.{QueueId, Known, new_sender, new_senders, AreNumbered}
 
-abbrev pub AllAt : TableId → List Known → Type 0
-AllAt q xs = AllByRecursion (λ x. x.queue ≡ q) xs
+pub length-new_senders : (q : QueueId) (l : Layout) (n : ℕ) → length (new_senders q l n) ≡ n
+length-new_senders q l zero = refl
+length-new_senders q l (suc m) = omega (arith, length-append (new_senders q l m) (new_sender q l m ∷ []), length-new_senders q l m)
 
-all_at-more : (q : TableId) (xs : List Known) (x : Known) → AllAt q xs → x.queue ≡ q → AllAt q (xs ++ x ∷ [])
-all_at-more q [] x all one = (one, tt)
-all_at-more q (y ∷ ys) x all one = (all.0, all_at-more q ys x all.1 one)
+pub get_or-new_senders : (q : QueueId) (l : Layout) (n i : ℕ) (d : Known) → i < n → get_or (new_senders q l n) i d ≡ new_sender q l i
+get_or-new_senders q l zero i d less = absurd (omega arith)
+get_or-new_senders q l (suc m) i d less = go (i == m) refl (get_or-new_senders q l m i d)
+  where
+    go : (b : Bool) → (i == m) ≡ b → (i < m → get_or (new_senders q l m) i d ≡ new_sender q l i)
+        → get_or (new_senders q l m ++ new_sender q l m ∷ []) i d ≡ new_sender q l i
+    go true e before = let same = eqb-true i m e in
+        ap (λ (j : ℕ). get_or (new_senders q l m ++ new_sender q l m ∷ []) j d) (same ∙ sym (length-new_senders q l m)) ∙
+        (get_or-append_seam (new_senders q l m) (new_sender q l m) [] d ∙ ap (new_sender q l) (sym same))
+    go false e before = let other = eqb-false i m e in
+        get_or-append (new_senders q l m) (new_sender q l m ∷ []) d i (omega (arith, length-new_senders q l m, other)) ∙ before (omega (arith, other))
 
--- the last of them, and the rest
-pub all_at-less : (q : TableId) (xs : List Known) (x : Known) → AllAt q (xs ++ x ∷ []) → AllAt q xs × (x.queue ≡ q)
-all_at-less q [] x all = (tt, all.0)
-all_at-less q (y ∷ ys) x all = let rest = all_at-less q ys x all.1 in ((all.0, rest.0), rest.1)
+-- what holds of each new sender holds of all
+pub all_new : (P : Known → Type 0) (q : QueueId) (l : Layout) (n : ℕ) → ((s : ℕ) → P (new_sender q l s)) → All P (new_senders q l n)
+all_new P q l zero each = All-nil P
+all_new P q l (suc m) each =
+    All-append P (new_senders q l m) (new_sender q l m ∷ []) (all_new P q l m each) (All-cons P (new_sender q l m) [] (each m) (All-nil P))
 
-pub all_at-new : (q : TableId) (l : Layout) (n : ℕ) → AllAt q (new_senders q l n)
-all_at-new q l zero = tt
-all_at-new q l (suc m) = all_at-more q (new_senders q l m) (new_sender q l m) (all_at-new q l m) refl
+pub free_new : (s k : ℕ) → ¬ Holds [] s k
+free_new s k holds = omega arith
+
+pub numbered_new : (q : QueueId) (l : Layout) (n : ℕ) → AreNumbered (new_senders q l n)
+numbered_new q l n k d low = ap (λ (s : Known). s.number) (get_or-new_senders q l n k d (omega (arith, low, length-new_senders q l n)))
+
+-- without the last of a row
+pub all_front : {A : Type 0} (P : A → Type 0) (xs : List A) (x : A) → All P (xs ++ x ∷ []) → All P xs
+all_front P xs x all k d low = subst P (get_or-append xs (x ∷ []) d k low) (all k d (omega (arith, low, length-append xs (x ∷ []))))
+
+pub all_last : {A : Type 0} (P : A → Type 0) (xs : List A) (x : A) → All P (xs ++ x ∷ []) → P x
+all_last P xs x all = subst P (get_or-append_seam xs x [] x) (all (length xs) x (omega (arith, length-append xs (x ∷ []))))
+
+pub numbered_front : (xs : List Known) (x : Known) → AreNumbered (xs ++ x ∷ []) → AreNumbered xs × (x.number ≡ length xs)
+numbered_front xs x all = (
+  λ k d low. sym (ap (λ (s : Known). s.number) (get_or-append xs (x ∷ []) d k low)) ∙ all k d (omega (arith, low, length-append xs (x ∷ []))),
+  sym (ap (λ (s : Known). s.number) (get_or-append_seam xs x [] x)) ∙ all (length xs) x (omega (arith, length-append xs (x ∷ []))),
+)
+
+-- what a seat that had seen nothing has made, where it made no event
+pub made_nothing : (c n : ℕ) (v w : List Event) → v ≡ [] → Grows c [] n v w → own c w ≡ []
+made_nothing c n v w none g = ap (own c) (g.is ∙ ap (λ (x : List Event). x ++ g.new) none) ∙ g.mine
+
+-- the last two of the senders are taken away
+pub two_less : (q : QueueId) (l : Layout) (n m : ℕ) (xs ys zs : List Known) (a b : Known) → m ≡ n + 2 → xs ≡ new_senders q l m → xs ≡ ys ++ b ∷ []
+    → ys ≡ zs ++ a ∷ []
+    → (zs ≡ new_senders q l n) × (a ≡ new_sender q l n) × (b ≡ new_sender q l (n + 1))
+two_less q l n m xs ys zs a b count made one two =
+    let more : m ≡ suc (n + 1) = omega (arith, count) in
+    let more2 : n + 1 ≡ suc n = omega arith in
+    let first = ends_alike ys (new_senders q l (n + 1)) b (new_sender q l (n + 1)) (sym one ∙ (made ∙ ap (new_senders q l) more)) in
+    let second = ends_alike zs (new_senders q l n) a (new_sender q l n) (sym two ∙ (first.0 ∙ ap (new_senders q l) more2)) in
+    (second.0, second.1, first.1)

@@ -1,5 +1,5 @@
 -- What a clause sees of a seat, a sender's or the owner's.
-use Rattle.std.specs.Prelude.{◌≡◌, ℕ, zero, suc, List, [], ◌∷◌, ◌++◌}
+use Rattle.std.specs.Prelude.{◌≡◌, ℕ, zero, suc, ◌<◌, List, [], ◌∷◌, ◌++◌, length, get_or}
 use Rattle.atomic_table.specs.Seated.{TableId}
 use Rattle.wq_words.specs.declared.layout.Layout.{Layout}
 use Rattle.wq_words.specs.declared.event.Event.{Event}
@@ -40,3 +40,7 @@ new_owner queue layout = record { queue = queue; layout = layout; number = owner
 abbrev pub new_senders : QueueId → Layout → ℕ → List Known
 new_senders queue layout zero = []
 new_senders queue layout (suc m) = new_senders queue layout m ++ new_sender queue layout m ∷ []
+
+-- each stands at the place of its number
+abbrev pub AreNumbered : List Known → Type 0
+AreNumbered xs = (k : ℕ) (d : Known) → k < length xs → (get_or xs k d).number ≡ k

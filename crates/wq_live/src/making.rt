@@ -1,8 +1,9 @@
 //! How a queue is made.
-ghost use Rattle.std.specs.Prelude.{◌≡◌, IfOk};
+ghost use Rattle.std.specs.Prelude.{◌≡◌, ℕ, [], All, length, IfOk};
 ghost use Rattle.atomic_table.specs.Seated.{TableId};
+ghost use Rattle.wq_words.specs.History.{Holds};
 ghost use Rattle.wq_table.specs.Chair.{sender_chairs};
-ghost use Rattle.wq_live.specs.Known.{new_owner, new_senders};
+ghost use Rattle.wq_live.specs.Known.{new_owner, new_senders, AreNumbered};
 
 use crate::counts::{OwnerCounts, SenderCounts};
 use crate::owner::Owner;
@@ -54,9 +55,16 @@ fn seat_senders(alloc: Global, layout: Layout, seats: Vec<Chair>) -> Result<Vec<
     Ok(senders)
 }
 
-/// The owner and the senders of a new queue, each sender at its number. All memory that the queue needs is taken here.
+/// The owner and the senders of a new queue, each sender at its number. They have seen nothing. All memory that the queue needs
+/// is taken here.
 pub fn build(alloc: Global, layout: Layout) -> Result<(Owner, Vec<Sender>), BuildError>
-    ensures { IfOk result (λ r. (r.0 ≡ new_owner r.0.queue layout) × (r.1.items ≡ new_senders r.0.queue layout layout.senders)) }
+    ensures made { IfOk result (λ r. (r.0 ≡ new_owner r.0.queue layout) × (r.1.items ≡ new_senders r.0.queue layout layout.senders)) }
+    ensures one { IfOk result (λ r. All (λ s. s.queue ≡ r.0.queue) r.1.items) }
+    ensures layouts { IfOk result (λ r. (r.0.layout ≡ layout) × All (λ s. s.layout ≡ layout) r.1.items) }
+    ensures count { IfOk result (λ r. length r.1.items ≡ layout.senders) }
+    ensures numbers { IfOk result (λ r. AreNumbered r.1.items) }
+    ensures unseen { IfOk result (λ r. (r.0.seen ≡ []) × All (λ s. s.seen ≡ []) r.1.items) }
+    ensures free { IfOk result (λ r. All (λ s. (k : ℕ) → ¬ Holds s.seen s.number k) r.1.items) }
 {
     let (chair, seats) = chairs(alloc, layout)?;
     let senders = seat_senders(alloc, layout, seats)?;

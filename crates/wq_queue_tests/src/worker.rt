@@ -1,5 +1,6 @@
 //! Workers: worked rows, books, and what threads see.
 mod books;
+mod built;
 mod clearing;
 mod contention;
 mod crew;

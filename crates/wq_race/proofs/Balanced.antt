@@ -39,9 +39,8 @@ use Rattle.std.proofs.lemmas.List.{append-nil}
 use Rattle.std.proofs.lemmas.List.Elements.{filter-append}
 use Rattle.std.proofs.lemmas.List.Sums.{sum_by-cons}
 use Rattle.wq_words.specs.declared.event.Event.{Event}
-use Rattle.wq_words.specs.declared.event.Event.TheVariants.{Hold, Busy, Push, Back, Take, Close, Begin, End, Chain, ChainBusy}
 use Rattle.wq_words.specs.declared.event.Why.TheVariants as why
-use Rattle.wq_words.specs.Seen.{seat_of, own}
+use Rattle.wq_words.specs.Seen.{own}
 use Rattle.wq_words.proofs.Seen.{count_own, own-append}
 use Rattle.wq_live.specs.Known.{Known}
 use Rattle.wq_words.specs.Counting.{is_queued_by, is_pending_by, is_closed_by, is_contended_by}

@@ -2,11 +2,10 @@
 use Rattle.std.proofs.Common.{◌≡◌, ℕ, ◌+◌, List, [], ◌∷◌, ◌++◌, length, refl, sym, ap, ◌∙◌, subst, arith, length-append}
 use Rattle.wq_live.specs.Known.{QueueId}
 use Rattle.wq_words.specs.declared.layout.Layout.{Layout}
-use Rattle.wq_words.specs.declared.event.Event.{Event}
 use Rattle.wq_words.specs.Legal.{IsLegal}
 use Rattle.wq_words.specs.Seen.{owner_seat, own, Grows}
 use Rattle.wq_live.specs.Known.{Known, new_owner, new_sender, new_senders}
-use Rattle.wq_live.proofs.NewSenders.{two_less}
+use Rattle.wq_live.proofs.Seated.{made_nothing, two_less}
 use Rattle.wq_race.specs.declared.plan.Plan.{Plan}
 use Rattle.wq_race.specs.declared.team.Team.{Team}
 use Rattle.wq_race.specs.Plan.{IsLayoutOf}
@@ -27,10 +26,6 @@ shared q l n all more xs own program count made one two =
 pub length-last : (xs ys : List Known) (x : Known) (n : ℕ) → length xs ≡ n → xs ≡ ys ++ x ∷ [] → length ys + 1 ≡ n
 length-last xs ys x n count is = omega (arith, count, ap length is, length-append ys (x ∷ []))
 
--- what a seat that had seen nothing has made, where it made no event
-pub own-new : (c n : ℕ) (v w : List Event) → v ≡ [] → Grows c [] n v w → own c w ≡ []
-own-new c n v w none g = ap (own c) (g.is ∙ ap (λ (x : List Event). x ++ g.new) none) ∙ g.mine
-
 pub new_team : (plan : Plan) (l : Layout) (o mine program : Known) (xs : List Known) (t : Team) → IsLayoutOf plan.senders plan.own l
     → o ≡ new_owner o.queue l → IsShared o.queue l plan.senders xs mine program
     → t.senders.items ≡ xs → t.program ≡ program → t.worker.queue ≡ o.queue → t.worker.layout ≡ o.layout → t.worker.number ≡ mine.number
@@ -44,9 +39,9 @@ new_team plan l o mine program xs t sized owner s senders last queue layout numb
       senders_are = senders ∙ (s.rest_is ∙ (λ i. new_senders (sym queue i) (sym same i) plan.senders));
       number_is = number ∙ at;
       program_is = last ∙ (s.program_is ∙ (λ i. new_sender (sym queue i) (sym same i) (plan.senders + 1)));
-      untouched = own-new owner_seat 0 o.seen t.worker.seen (ap (λ (k : Known). k.seen) owner) grows_owner;
+      untouched = made_nothing owner_seat 0 o.seen t.worker.seen (ap (λ (k : Known). k.seen) owner) grows_owner;
       unsent = subst (λ (n : ℕ). own n t.worker.seen ≡ []) (sym number)
-          (own-new mine.number 0 mine.seen t.worker.seen (ap (λ (k : Known). k.seen) s.own_is) grows_own);
+          (made_nothing mine.number 0 mine.seen t.worker.seen (ap (λ (k : Known). k.seen) s.own_is) grows_own);
       unrun = unrun;
       legal = legal;
     }

@@ -19,7 +19,7 @@ use Rattle.wq_race.specs.declared.team.Team.{Team}
 use Rattle.wq_race.specs.Plan.{IsLayoutOf}
 use Rattle.wq_race.specs.Team.{IsNewTeam}
 use Rattle.wq_race.specs.Race.{items_at, HasQueued, IsOfStop, HasStopped, HasServed, AllQueued, IsQueuer, HasRun}
-use Rattle.wq_live.proofs.NewSenders.{length-new_senders, new_sender_at}
+use Rattle.wq_live.proofs.Seated.{length-new_senders, get_or-new_senders}
 use Rattle.wq_race.proofs.Serving.{chains_same, asks_same}
 
 pub untouched_open : (h : List Event) → own owner_seat h ≡ [] → count_by is_close h ≡ 0
@@ -51,7 +51,8 @@ pub rooms : (plan : Plan) (t : Team) → IsNewTeam plan t → (i : ℕ) (d : Kno
 rooms plan t new i d lt =
     let q = t.worker.queue in let l = t.worker.layout in
     let few : i < plan.senders = omega (arith, lt, ap length new.senders_are, length-new_senders q l plan.senders) in
-    let at : get_or t.senders.items i d ≡ new_sender q l i = ap (λ (xs : List Known). get_or xs i d) new.senders_are ∙ new_sender_at q l plan.senders i d few in
+    let at : get_or t.senders.items i d ≡ new_sender q l i = ap (λ (xs : List Known). get_or xs i d) new.senders_are
+    ∙ get_or-new_senders q l plan.senders i d few in
     subst (λ (k : Known). k.number * plan.own + plan.own ≤ k.layout.items) (sym at) (omega (arith, own_room i plan.senders plan.own few, new.layout.items_is))
 
 -- what a seat that had seen nothing has made
@@ -86,7 +87,8 @@ has_run plan old new n served all stopped =
       layout = subst (IsLayoutOf plan.senders plan.own) (sym served.layout_is) n.layout;
       count = all.count ∙ count;
       each = λ i d lt.
-          let at : get_or old.senders.items i d ≡ new_sender q l i = ap (λ (xs : List Known). get_or xs i d) n.senders_are ∙ new_sender_at q l plan.senders i d lt in
+          let at : get_or old.senders.items i d ≡ new_sender q l i = ap (λ (xs : List Known). get_or xs i d) n.senders_are
+          ∙ get_or-new_senders q l plan.senders i d lt in
           queuer plan.own i q l new.worker (get_or old.senders.items i d) (get_or new.senders.items i d) served.queue_is served.layout_is at
           (all.each i d (omega (arith, lt, count)));
       number_is = served.number_is ∙ n.number_is;

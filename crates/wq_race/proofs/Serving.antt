@@ -30,22 +30,20 @@ use Rattle.std.specs.Prelude.{filter, count_by}
 use Rattle.std.proofs.lemmas.List.{append-nil}
 use Rattle.std.proofs.lemmas.List.Elements.{filter_map-append}
 use mathlib.Core.List.{IsPrefix}
-use Rattle.wq_words.specs.declared.layout.Layout.{Layout}
 use Rattle.wq_words.specs.declared.event.Event.{Event}
-use Rattle.wq_words.specs.declared.event.Event.TheVariants.{Hold, Busy, Push, Back, Take, Close, Begin, End, Chain, ChainBusy}
-use Rattle.wq_words.specs.History.{IsRunning, is_close, closed, accepted, begun, ended, ended_by}
+use Rattle.wq_words.specs.declared.event.Event.TheVariants.{Close, Begin, End}
+use Rattle.wq_words.specs.History.{IsRunning, is_close, closed, begun, ended, ended_by}
 use Rattle.wq_words.specs.Numbers.{stop_number}
 use Rattle.wq_words.specs.Legal.{IsLegal, IsComplete}
 use Rattle.wq_words.specs.Seen.{owner_seat, seat_of, own}
-use Rattle.wq_words.proofs.Seen.{own-append, own_none, count_own}
+use Rattle.wq_words.proofs.Seen.{own-append, count_own}
 use Rattle.wq_words.specs.Counting.{is_chain, is_chain_busy}
-use Rattle.wq_live.specs.Batch.{next_of}
 use Rattle.wq_worker.specs.declared.ran.Ran.{Ran}
 use Rattle.wq_worker.specs.declared.ran.Ran.TheVariants.{Item, Barrier, Stop, Nothing, Owing}
 use Rattle.wq_words.specs.Seen.{is_ours}
-use Rattle.wq_worker.specs.Seats.{taking, taking_of}
+use Rattle.wq_worker.specs.Seats.{taking}
 use Rattle.wq_worker.specs.Follow.{Follows}
-use Rattle.wq_worker.specs.State.{WorkerState, items_among, Moves}
+use Rattle.wq_worker.specs.State.{WorkerState, Moves}
 use Rattle.wq_worker.specs.Step.{Starts, item, other, owed, Ends, ends, Owes, owes, Runs}
 use Rattle.wq_worker.specs.Rows.{Row, none, more, IsExecution, IsNotStop, Serves, Closes, was_closed, closes}
 use Rattle.wq_worker.proofs.Owned.{filter-filter, owner_of_both, stays}
@@ -59,7 +57,7 @@ use Rattle.wq_race.specs.Outcome.{HasGoneOn, HasEnded}
 use Rattle.std.proofs.lemmas.Bool.{or_parts}
 use Rattle.wq_words.proofs.Counting.{chain_own}
 use Rattle.wq_words.proofs.Counting.{chain_busy_own}
-use Rattle.wq_race.proofs.Still.{Still, still_none, still_on, still_take, still_begin, still_end, still_close, still_taking}
+use Rattle.wq_race.proofs.Still.{Still, still_on, still_begin, still_end, still_close, still_taking}
 
 own_of_ours : (s : ℕ) (es : List Event) → own s (filter (is_ours s) es) ≡ own s es
 own_of_ours s es = filter-filter (λ e. seat_of e == s) (is_ours s) (λ e is. (or_parts (seat_of e == s) (seat_of e == owner_seat) is).0) es

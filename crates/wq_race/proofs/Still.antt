@@ -26,39 +26,17 @@ use Rattle.std.proofs.Common.{
   arith,
   append_assoc,
 }
-use Rattle.std.specs.Prelude.{filter, count_by}
-use Rattle.std.proofs.lemmas.List.{append-nil}
-use Rattle.std.proofs.lemmas.List.Elements.{filter_map-append}
-use mathlib.Core.List.{IsPrefix}
-use Rattle.wq_words.specs.declared.layout.Layout.{Layout}
+use Rattle.std.specs.Prelude.{count_by}
 use Rattle.wq_words.specs.declared.event.Event.{Event}
-use Rattle.wq_words.specs.declared.event.Event.TheVariants.{Hold, Busy, Push, Back, Take, Close, Begin, End, Chain, ChainBusy}
-use Rattle.wq_words.specs.History.{IsRunning, is_close, closed, accepted, begun, ended, ended_by}
-use Rattle.wq_words.specs.Numbers.{stop_number}
-use Rattle.wq_words.specs.Legal.{IsLegal, IsComplete}
-use Rattle.wq_words.specs.Seen.{owner_seat, seat_of, own}
-use Rattle.wq_words.proofs.Seen.{own-append, own_none, count_own}
+use Rattle.wq_words.specs.declared.event.Event.TheVariants.{Take, Close, Begin, End}
+use Rattle.wq_words.specs.History.{is_close, closed}
+use Rattle.wq_words.specs.Seen.{owner_seat, own}
+use Rattle.wq_words.proofs.Seen.{own-append, own_none}
 use Rattle.wq_words.specs.Counting.{is_chain, is_chain_busy}
 use Rattle.wq_live.specs.Batch.{next_of}
-use Rattle.wq_worker.specs.declared.ran.Ran.{Ran}
-use Rattle.wq_worker.specs.declared.ran.Ran.TheVariants.{Item, Barrier, Stop, Nothing, Owing}
-use Rattle.wq_words.specs.Seen.{is_ours}
 use Rattle.wq_worker.specs.Seats.{taking, taking_of}
-use Rattle.wq_worker.specs.Follow.{Follows}
-use Rattle.wq_worker.specs.State.{WorkerState, items_among, Moves}
-use Rattle.wq_worker.specs.Step.{Starts, item, other, owed, Ends, ends, Owes, owes, Runs}
-use Rattle.wq_worker.specs.Rows.{Row, none, more, IsExecution, IsNotStop, Serves, Closes, was_closed, closes}
-use Rattle.wq_worker.proofs.Owned.{filter-filter, owner_of_both, stays}
+use Rattle.wq_worker.specs.Rows.{none}
 use Rattle.wq_words.proofs.Appended.{count_by-append}
-use Rattle.wq_words.proofs.Running.{runs_from_running as runs_some}
-use Rattle.wq_worker.proofs.State.{quiet_taking}
-use Rattle.wq_race.specs.declared.idle.Idle.{Idle}
-use Rattle.wq_worker.specs.Book.{BookState, Destroys, LeavesUnfinished}
-use Rattle.wq_race.specs.Race.{HasServed}
-use Rattle.wq_race.specs.Outcome.{HasGoneOn, HasEnded}
-use Rattle.std.proofs.lemmas.Bool.{or_parts}
-use Rattle.wq_words.proofs.Counting.{chain_own}
-use Rattle.wq_words.proofs.Counting.{chain_busy_own}
 
 -- the sender s made none of these events, the owner chained nothing by them, and closed so often
 pub record Still (s n : ℕ) (xs : List Event) : Type 0 where

@@ -1,5 +1,5 @@
 -- The seats of a new queue.
-use Rattle.std.proofs.Common.{◌≡◌, ℕ, ◌+◌, List, [], ◌++◌, length, get_or, refl, sym, ap, ◌∙◌, subst, arith}
+use Rattle.std.proofs.Common.{◌≡◌, ℕ, ◌+◌, List, [], length, get_or, refl, sym, ap, ◌∙◌, subst, arith}
 use Rattle.wq_live.specs.Known.{QueueId}
 use Rattle.wq_words.specs.declared.layout.Layout.{Layout}
 use Rattle.wq_words.specs.declared.event.Event.{Event}
@@ -8,12 +8,9 @@ use Rattle.wq_words.specs.Legal.{IsLegal}
 use Rattle.wq_words.proofs.Legal.{legal_nil}
 use Rattle.wq_words.specs.Seen.{owner_seat, own, Grows}
 use Rattle.wq_live.specs.Known.{Known, new_sender, new_owner, new_senders}
-use Rattle.wq_live.proofs.NewSenders.{length-new_senders, new_sender_at}
+use Rattle.wq_live.proofs.Seated.{length-new_senders, get_or-new_senders, made_nothing}
 use Rattle.wq_script.specs.declared.seats.Seats.{Seats}
 use Rattle.wq_script.specs.Seats.{IsAt, IsWider, Seated}
-
-grown_none : (c : ℕ) (v w : List Event) (n : ℕ) → Grows c [] n v w → v ≡ [] → own c w ≡ []
-grown_none c v w n g none = ap (own c) (g.is ∙ ap (λ (x : List Event). x ++ g.new) none) ∙ g.mine
 
 pub new_seated : (layout wide : Layout) (q : QueueId) (s : Seats) (o a b : Known) → IsWider layout wide → o ≡ new_owner q wide
     → a ≡ new_sender q wide layout.senders → b ≡ new_sender q wide (layout.senders + 1)
@@ -28,7 +25,7 @@ new_seated layout wide q s o a b wider is_o is_a is_b senders queue lay number t
   legal = legal_nil wide;
   count = ap length senders ∙ length-new_senders q wide layout.senders;
   senders = λ i d lt. let at : get_or s.senders.items i d ≡ new_sender q wide i = ap (λ (x : List Known). get_or x i d) senders
-      ∙ new_sender_at q wide layout.senders i d lt in
+      ∙ get_or-new_senders q wide layout.senders i d lt in
       subst (λ (k : Known). IsAt q wide i [] k) (sym at) record { queue_is = refl; layout_is = refl; number_is = refl; begins = ([], refl); mine = refl };
   sender = record {
     queue_is = queue ∙ ap (λ (k : Known). k.queue) is_o;
@@ -36,14 +33,14 @@ new_seated layout wide q s o a b wider is_o is_a is_b senders queue lay number t
     number_is = number ∙ ap (λ (k : Known). k.number) is_a;
     begins = (s.worker.seen, refl);
     mine = subst (λ (n : ℕ). own n s.worker.seen ≡ []) (ap (λ (k : Known). k.number) is_a)
-        (grown_none a.number a.seen s.worker.seen 0 grows_a (ap (λ (k : Known). k.seen) is_a));
+        (made_nothing a.number 0 a.seen s.worker.seen (ap (λ (k : Known). k.seen) is_a) grows_a);
   };
   owner = record {
     queue_is = queue ∙ ap (λ (k : Known). k.queue) is_o;
     layout_is = lay ∙ ap (λ (k : Known). k.layout) is_o;
     number_is = refl;
     begins = (s.worker.seen, refl);
-    mine = grown_none owner_seat o.seen s.worker.seen 0 grows_o (ap (λ (k : Known). k.seen) is_o);
+    mine = made_nothing owner_seat 0 o.seen s.worker.seen (ap (λ (k : Known). k.seen) is_o) grows_o;
   };
   delay = subst (λ (k : Known). IsAt q wide (layout.senders + 1) [] k)
       (sym (delay ∙ is_b)) record { queue_is = refl; layout_is = refl; number_is = refl; begins = ([], refl); mine = refl };

@@ -63,7 +63,17 @@ pub tallied_on : (t u : Tally) (w : ℕ) (h es : List Event) → Tallied t w h �
     → u.busy ≡ t.busy + count_by is_busy es → u.refused ≡ t.refused + count_by is_refusal es → Tallied u w (h ++ es)
 tallied_on t u w h es told f q b r = record {
   queued = omega (arith, told.queued, f.queued, q, count_by-append (is_queued_by w) h es, count_by-append is_push h es);
-  busy = omega (arith, told.busy, f.pending, f.chain_busy, b, count_by-append (is_pending_by w) h es, count_by-append is_chain_busy h es, count_by-append is_busy h es);
+  busy = omega (
+    arith,
+    told.busy,
+    f.pending,
+    f.chain_busy,
+    b,
+    count_by-append (is_pending_by w) h es,
+    count_by-append is_chain_busy
+        h es,
+    count_by-append is_busy h es,
+  );
   refused = omega (arith, told.refused, f.refused, r, count_by-append (is_closed_by w) h es, count_by-append is_refusal h es);
 }
 

@@ -4,6 +4,7 @@
 
 mod balance;
 mod book;
+mod building;
 mod drained;
 mod ran;
 mod steps;
@@ -13,6 +14,7 @@ mod worker;
 
 pub use balance::Unbalanced;
 pub use book::{Book, Ledger};
+pub use building::Unbuilt;
 pub use drained::{Drained, Unfinished};
 pub use ran::Ran;
 pub use totals::Totals;

@@ -1,29 +1,32 @@
 //! A worker.
-ghost use Rattle.std.specs.Prelude.{◌≡◌, ◌+◌, ◌<◌, Some, None, [], ◌∷◌, length, MatchOption, MatchResult};
+ghost use Rattle.std.specs.Prelude.{◌≡◌, ℕ, ◌+◌, ◌<◌, Some, None, [], ◌∷◌, All, length, IfOk, IfErr, MatchOption, MatchResult};
 ghost use Rattle.std.specs.Fn.{FnOnceTakesAtMut, FnOnceReturnsAtMut};
 ghost use Rattle.wq_words.specs.declared.event.Event.TheVariants.{Close};
-ghost use Rattle.wq_words.specs.History.{accepted, begun, ended, closed, running, IsRunning, IsClosed};
+ghost use Rattle.wq_words.specs.History.{accepted, begun, ended, closed, running, Holds, IsRunning, IsClosed};
 ghost use Rattle.wq_words.specs.Seen.{owner_seat, Grows};
-ghost use Rattle.wq_live.specs.Known.{Sees};
+ghost use Rattle.wq_live.specs.Known.{AreNumbered, Sees};
 ghost use Rattle.wq_live.specs.Batch.{TakesAll};
 ghost use Rattle.wq_words.specs.Legal.{IsLegal, IsComplete};
 ghost use Rattle.wq_words.specs.Headline.{KeepsHeadline};
-ghost use Rattle.wq_worker.specs.State.{items_among, IsSameWorker, Moves, IsMadeOf};
+ghost use Rattle.wq_worker.specs.State.{items_among, IsSameWorker, Moves, IsMadeOf, IsNew};
 ghost use Rattle.wq_worker.specs.Step.{Runs, FindsNothing, Begins};
 ghost use Rattle.wq_worker.specs.Totals.{own_totals};
 ghost use Rattle.wq_worker.specs.Rows.{RunsSome, Drains, Serves, Closes};
 ghost use Rattle.wq_worker.specs.Book.{IsBookOf, Destroys, LeavesUnfinished};
 
 use crate::book::{Book, Ledger};
+use crate::building::Unbuilt;
 use crate::drained::{Drained, Unfinished, left_of};
 use crate::ran::Ran;
 use crate::steps::{begin_next, end_running, queue_rest};
 use crate::totals::Totals;
 use crate::work::{Follow, Work};
 use crossbeam_utils::sync::Parker;
+use std::alloc::Global;
 use std::marker::Model;
 use std::sync::Wait;
-use wq_live::{Owner, Sender};
+use wq_live::{Owner, Sender, build};
+use wq_words::Layout;
 
 /// An owner and a sender of one queue, and the work that runs its items.
 #[derive(Drop)]
@@ -68,6 +71,36 @@ impl<W: Work> Worker<W> {
             tries,
             follow: Follow::new(),
             at: 0,
+        }
+    }
+
+    /// A worker of a new queue, with the last of its senders, and the other senders, each at its number, which have seen
+    /// nothing. All memory that the queue needs is taken here; where it is refused the work is given back.
+    pub fn build(
+        alloc: Global,
+        layout: Layout,
+        work: W,
+        tries: u32,
+    ) -> Result<(Worker<W>, Vec<Sender>), Unbuilt<W>>
+        requires tries { 0 < tries }
+        requires unrun { W.log work ≡ [] }
+        ensures worker { IfOk result (λ r. IsNew layout work tries r.0) }
+        ensures one { IfOk result (λ r. All (λ s. s.queue ≡ r.0.queue) r.1.items) }
+        ensures layouts { IfOk result (λ r. All (λ s. s.layout ≡ layout) r.1.items) }
+        ensures count { IfOk result (λ r. length r.1.items + 1 ≡ layout.senders) }
+        ensures numbers { IfOk result (λ r. AreNumbered r.1.items × (r.0.number ≡ length r.1.items)) }
+        ensures unseen { IfOk result (λ r. All (λ s. s.seen ≡ []) r.1.items) }
+        ensures free { IfOk result (λ r. All (λ s. (k : ℕ) → ¬ Holds s.seen s.number k) r.1.items) }
+        ensures refused { IfErr result (λ e. e.work ≡ work) }
+    {
+        match build(alloc, layout) {
+            Ok((owner, mut senders)) => {
+                let Some(sender) = senders.pop() else {
+                    unreachable!()
+                };
+                Ok((Worker::new(owner, sender, work, tries), senders))
+            }
+            Err(error) => Err(Unbuilt { work, error }),
         }
     }
 

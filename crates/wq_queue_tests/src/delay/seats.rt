@@ -39,7 +39,8 @@ pub enum Said {
 
 /// The owner and the two senders of a new queue of so many items. The second sender holds nothing.
 pub fn seats(alloc: Global, items: u32) -> Option<(Owner, Sender, Sender)>
-    ensures { IfSome result (λ seats. (seats.2.queue ≡ seats.1.queue) × ((k : ℕ) → ¬ Holds seats.2.seen seats.2.number k)) }
+    ensures one { IfSome result (λ seats. seats.2.queue ≡ seats.1.queue) }
+    ensures free { IfSome result (λ seats. (k : ℕ) → ¬ Holds seats.2.seen seats.2.number k) }
 {
     let layout = Layout::new(items, 1, 2).ok()?;
     let Ok((owner, mut senders)) = build(alloc, layout) else {

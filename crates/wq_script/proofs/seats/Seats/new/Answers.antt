@@ -1,13 +1,13 @@
 use Rattle.std.proofs.Common.{[], ◌∷◌, length, ap, arith, length-append}
 use Rattle.wq_live.specs.Known.{Known}
 use Rattle.wq_script.specs.Seats.{IsWider}
-use Rattle.wq_live.proofs.NewSenders.{length-new_senders, two_less}
+use Rattle.wq_live.proofs.Seated.{length-new_senders, two_less}
 use Rattle.wq_script.proofs.Made.{new_seated, new_free}
 use Rattle.wq_script.proofs.seats.Seats.new.Goals as goal
 
 pub unreachable-requires-in_default-pop-2 : goal.unreachable-requires-in_default-pop-2
 unreachable-requires-in_default-pop-2 c =
-    let b = c.in-Ok-build.ensures in let w = c.in-Ok.ensures.ok in let f = c.in_default-pop-2.ensures.cases in let o = c.pop.new.self.ok in
+    let b = c.in-Ok-build.ensures.made in let w = c.in-Ok.ensures.ok in let f = c.in_default-pop-2.ensures.cases in let o = c.pop.new.self.ok in
     absurd (omega (
       arith,
       f.0,
@@ -21,19 +21,19 @@ unreachable-requires-in_default-pop-2 c =
     ))
 
 pub new-requires-3 : goal.new-requires-3
-new-requires-3 c = λ k. let b = c.in-Ok-build.ensures in let w = c.in-Ok.ensures.ok in
+new-requires-3 c = λ k. let b = c.in-Ok-build.ensures.made in let w = c.in-Ok.ensures.ok in
     let last = two_less _ c.in-Ok.wide c.args.layout.senders c.in-Ok.wide.senders c.in-Ok-build.senders.items c.pop.new.self.items
     c.pop-2.new.self.items c.in-Some-pop.sender c.in-Some.delayer w.2 b.1 c.in-Some.ensures.items c.in-Some-pop.ensures.items in
     new_free c.in-Some.delayer k (ap (λ (s : Known). s.seen) last.2)
 
 pub new-requires-4-clause-one : goal.new-requires-4-clause-one
-new-requires-4-clause-one c = let b = c.in-Ok-build.ensures in let w = c.in-Ok.ensures.ok in
+new-requires-4-clause-one c = let b = c.in-Ok-build.ensures.made in let w = c.in-Ok.ensures.ok in
     let last = two_less _ c.in-Ok.wide c.args.layout.senders c.in-Ok.wide.senders c.in-Ok-build.senders.items c.pop.new.self.items
     c.pop-2.new.self.items c.in-Some-pop.sender c.in-Some.delayer w.2 b.1 c.in-Some.ensures.items c.in-Some-pop.ensures.items in
     ap (λ (s : Known). s.queue) last.1
 
 pub returns-clause-seated : goal.returns-clause-seated
-returns-clause-seated c = let b = c.in-Ok-build.ensures in let w = c.in-Ok.ensures.ok in let n = c.new-4.ensures in
+returns-clause-seated c = let b = c.in-Ok-build.ensures.made in let w = c.in-Ok.ensures.ok in let n = c.new-4.ensures in
     let last = two_less _ c.in-Ok.wide c.args.layout.senders c.in-Ok.wide.senders c.in-Ok-build.senders.items c.pop.new.self.items
     c.pop-2.new.self.items c.in-Some-pop.sender c.in-Some.delayer w.2 b.1 c.in-Some.ensures.items c.in-Some-pop.ensures.items in
     let wider : IsWider c.args.layout c.in-Ok.wide = record { items = w.0; barriers = w.1; senders = w.2 } in

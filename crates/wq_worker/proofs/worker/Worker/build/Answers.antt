@@ -1,0 +1,41 @@
+use Rattle.std.proofs.Common.{◌≡◌, ℕ, [], ◌∷◌, ◌++◌, sym, ◌∙◌, subst}
+use Rattle.std.specs.Prelude.{All}
+use Rattle.wq_words.specs.History.{Holds}
+use Rattle.wq_words.specs.Seen.{owner_seat, own}
+use Rattle.wq_live.specs.Known.{Known, AreNumbered}
+use Rattle.wq_live.proofs.Seated.{all_front, all_last, numbered_front, made_nothing}
+use Rattle.wq_worker.proofs.worker.Worker.build.Goals as goal
+
+pub returns-in-Some-clause-worker : goal.returns-in-Some-clause-worker
+returns-in-Some-clause-worker g c = let n = c.new.ensures in let o = c.in-Ok.ensures in let w = c.new.result in let s = c.in-Some.sender in
+    let unseen = all_last (λ (k : Known). k.seen ≡ []) c.pop.new.self.items s (subst (All (λ (k : Known). k.seen ≡ [])) c.in-Some.ensures.items o.unseen.1) in
+    record {
+      layout_is = n.parts.1 ∙ o.layouts.0;
+      tries_is = n.parts.3;
+      unqueued_is = n.parts.4;
+      work_is = n.parts.5;
+      legal = n.legal;
+      untouched = made_nothing owner_seat 0 c.in-Ok.owner.seen w.seen o.unseen.0 n.owner;
+      unsent = subst (λ (k : ℕ). own k w.seen ≡ []) (sym n.parts.2) (made_nothing s.number 0 s.seen w.seen unseen n.sender);
+    }
+
+pub returns-in-Some-clause-one : goal.returns-in-Some-clause-one
+returns-in-Some-clause-one g c = let P = λ (k : Known). k.queue ≡ c.in-Ok.owner.queue in
+    λ k d low. all_front P c.pop.new.self.items c.in-Some.sender (subst (All P) c.in-Some.ensures.items c.in-Ok.ensures.one) k d low ∙ sym c.new.ensures.parts.0
+
+pub returns-in-Some-clause-layouts : goal.returns-in-Some-clause-layouts
+returns-in-Some-clause-layouts g c = let P = λ (k : Known). k.layout ≡ c.args.layout in
+    all_front P c.pop.new.self.items c.in-Some.sender (subst (All P) c.in-Some.ensures.items c.in-Ok.ensures.layouts.1)
+
+pub returns-in-Some-clause-numbers : goal.returns-in-Some-clause-numbers
+returns-in-Some-clause-numbers g c =
+    let both = numbered_front c.pop.new.self.items c.in-Some.sender (subst AreNumbered c.in-Some.ensures.items c.in-Ok.ensures.numbers) in
+    (both.0, c.new.ensures.parts.2 ∙ both.1)
+
+pub returns-in-Some-clause-unseen : goal.returns-in-Some-clause-unseen
+returns-in-Some-clause-unseen g c = let P = λ (k : Known). k.seen ≡ [] in
+    all_front P c.pop.new.self.items c.in-Some.sender (subst (All P) c.in-Some.ensures.items c.in-Ok.ensures.unseen.1)
+
+pub returns-in-Some-clause-free : goal.returns-in-Some-clause-free
+returns-in-Some-clause-free g c = let P = λ (s : Known). (k : ℕ) → ¬ Holds s.seen s.number k in
+    all_front P c.pop.new.self.items c.in-Some.sender (subst (All P) c.in-Some.ensures.items c.in-Ok.ensures.free)
