@@ -1,4 +1,5 @@
 //! Calls of a delay table in one thread.
+mod contended;
 mod memory;
 mod rows;
 mod seats;

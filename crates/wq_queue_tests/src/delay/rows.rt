@@ -159,6 +159,10 @@ fn dissolved_table_gives_its_items_back(rt: HostRuntime) -> Result<(), Fail> {
         call_sender(&mut other, Queue(3)),
         Answered(Answer::Queued { first: true })
     );
+    assert_eq!(rt;
+        call_sender(&mut sender, Queue(0)),
+        Answered(Answer::Queued { first: false })
+    );
     Ok(())
 }
 
