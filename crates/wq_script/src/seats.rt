@@ -93,8 +93,9 @@ impl Seats {
         let Ok(delay) = Delay::new(alloc, delayer, 0) else {
             return Err(AllocError);
         };
+        let worker = Worker::new(owner, sender, lists, 1);
         Ok(Seats {
-            worker: Worker::new(owner, sender, lists, 1),
+            worker,
             delay,
             senders,
         })
