@@ -14,6 +14,7 @@ ghost use Rattle.wq_live.specs.Counts.{sender_counts};
 
 use crate::counts::SenderCounts;
 use crate::owner::Owner;
+use crossbeam_utils::Backoff;
 use std::marker::Model;
 use std::sync::Wait;
 use wq_table::Chair;
@@ -137,15 +138,16 @@ impl Sender {
         self.chair.back_cancelled(item);
     }
 
-    // Tries to push a number that this sender holds, so many times, and at least once.
+    // Tries to push a number that this sender holds, so many times, and at least once. It spins between the tries.
     fn push_tries(&mut self, number: u32, tries: u32) -> Posted
         requires number { number < number_count self.old.layout }
         requires held { Holds self.old.seen self.old.number number }
         ensures { Posts number tries result self.old self.new }
     {
+        let backoff = Backoff::new();
         for _ in 1..tries {
             match self.attempt(number) {
-                Posted::Contended => {}
+                Posted::Contended => backoff.spin(),
                 posted => return posted,
             }
         }
@@ -179,11 +181,12 @@ impl Sender {
         if !self.hold_number(number) {
             return Answer::Pending;
         }
+        let backoff = Backoff::new();
         for _ in rt.forever() {
             match self.attempt(number) {
                 Posted::Queued { first } => return Answer::Queued { first },
                 Posted::Closed => return Answer::Closed,
-                Posted::Contended => {}
+                Posted::Contended => backoff.spin(),
             }
         }
         unreachable!()
@@ -276,10 +279,12 @@ impl Sender {
         let number = self.layout.barrier(barrier);
         match self.queue_waiting(rt, number) {
             Answer::Queued { first } => {
+                let backoff = Backoff::new();
                 for _ in rt.forever() {
                     if self.flush_done(barrier) {
                         return Answer::Queued { first };
                     }
+                    backoff.snooze();
                 }
                 unreachable!()
             }
