@@ -9,7 +9,7 @@ ghost use Rattle.wq_words.specs.Headline.{KeepsHeadline};
 ghost use Rattle.wq_words.specs.Seen.{owner_seat};
 ghost use Rattle.wq_words.specs.declared.answer.Answer.TheVariants.{Queued, Contended};
 ghost use Rattle.wq_live.specs.Known.{IsSame, Sees};
-ghost use Rattle.wq_live.specs.Answers.{TestsAndSets, Answers, Posts, HasFlushed};
+ghost use Rattle.wq_live.specs.Answers.{TestsAndSets, Answers, Posts, IsContended, HasFlushed};
 ghost use Rattle.wq_live.specs.Counts.{sender_counts};
 
 use crate::counts::SenderCounts;
@@ -157,7 +157,8 @@ impl Sender {
     // Queues a number, with at most so many tries.
     fn queue_number(&mut self, number: u32, tries: u32) -> Answer
         requires number { number < number_count self.old.layout }
-        ensures { Answers number tries result self.old self.new }
+        ensures answer { Answers number tries result self.old self.new }
+        ensures contended { result ≡ Contended → IsContended self.old.number number tries self.new.seen }
     {
         if !self.hold_number(number) {
             return Answer::Pending;
@@ -204,7 +205,8 @@ impl Sender {
     }
 
     /// Pushes an item that this sender holds, with at most so many tries (`llist_add`, which tries for as long as it
-    /// takes).
+    /// takes). Where it answers `Contended` it has made no event that marks its start, so the events of other seats that are
+    /// said to pay for the tries may be older than the call.
     pub fn post(&mut self, item: u32, tries: u32) -> Posted
         requires item { item < self.old.layout.items }
         requires tries { 0 < tries }
@@ -216,11 +218,12 @@ impl Sender {
     }
 
     /// Queues an item, with at most so many tries to push it (`queue_work`). `Contended` is answered only after as many
-    /// events of other seats.
+    /// events of other seats since it held the item.
     pub fn queue_tries(&mut self, item: u32, tries: u32) -> Answer
         requires item { item < self.old.layout.items }
         requires tries { 0 < tries }
         ensures answer { Answers item tries result self.old self.new }
+        ensures contended { result ≡ Contended → IsContended self.old.number item tries self.new.seen }
         ensures same { IsSame self.old self.new }
     {
         self.queue_number(item, tries)
@@ -250,6 +253,7 @@ impl Sender {
         requires barrier { barrier < self.old.layout.barriers }
         requires tries { 0 < tries }
         ensures answer { Answers (barrier_number self.old.layout barrier) tries result self.old self.new }
+        ensures contended { result ≡ Contended → IsContended self.old.number (barrier_number self.old.layout barrier) tries self.new.seen }
         ensures same { IsSame self.old self.new }
     {
         let number = self.layout.barrier(barrier);
@@ -296,6 +300,7 @@ impl Sender {
     pub fn request_stop(&mut self, tries: u32) -> Answer
         requires tries { 0 < tries }
         ensures answer { Answers (stop_number self.old.layout) tries result self.old self.new }
+        ensures contended { result ≡ Contended → IsContended self.old.number (stop_number self.old.layout) tries self.new.seen }
         ensures same { IsSame self.old self.new }
     {
         let stop = self.layout.stop();
