@@ -5,6 +5,7 @@ ghost use Rattle.wq_words.specs.declared.answer.Modified.TheVariants as modified
 ghost use Rattle.wq_words.specs.History.{Holds};
 ghost use Rattle.wq_words.specs.Headline.{KeepsHeadline};
 ghost use Rattle.wq_live.specs.Known.{IsSame, Sees};
+ghost use Rattle.wq_live.specs.Answers.{IsContended};
 ghost use Rattle.wq_words.specs.DelayTable.{items, on_table, due_part, is_too_far};
 ghost use Rattle.wq_delay.specs.Delay.{IsFit, KeepsTable, Arms, Cancels, Modifies, PostsOne, PostsDue, Advances, GivesBack};
 
@@ -100,6 +101,7 @@ impl Delay {
         requires item { item < self.old.sender.layout.items }
         requires tries { 0 < tries }
         ensures answer { Arms item delay tries result self.old self.new }
+        ensures contended { result ≡ armed.Contended → IsContended self.old.sender.number item tries self.new.sender.seen }
         ensures same { IsSame self.old.sender self.new.sender }
         ensures far { (result ≡ armed.TooFar) ↔ IsTrue (is_too_far delay self.old.table) }
     {
@@ -134,11 +136,13 @@ impl Delay {
     }
 
     /// Gives an item on the table a new tick, so many ticks from now, and a new arming, and with delay 0 queues it at once with
-    /// at most so many tries. Arms an idle item, as `arm` (`mod_delayed_work`). A delay is at most `2^32 - 1`.
+    /// at most so many tries. Arms an idle item, as `arm` (`mod_delayed_work`). A delay is at most `2^32 - 1`. Where the post of
+    /// an item on the table is contended, nothing of the call marks its start, as with `Sender::post`.
     pub fn modify(&mut self, item: u32, delay: u64, tries: u32) -> Modified
         requires item { item < self.old.sender.layout.items }
         requires tries { 0 < tries }
         ensures answer { Modifies item delay tries result self.old self.new }
+        ensures contended { result ≡ modified.Contended → on_table item self.old.table.entries ≡ false → IsContended self.old.sender.number item tries self.new.sender.seen }
         ensures same { IsSame self.old.sender self.new.sender }
         ensures far { (result ≡ modified.TooFar) ↔ IsTrue (is_too_far delay self.old.table) }
     {

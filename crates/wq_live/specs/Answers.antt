@@ -1,5 +1,5 @@
 -- What the answers of a queue mean: the caller's own events, in order.
-use Rattle.std.specs.Prelude.{◌≡◌, ℕ, true, false, Bool, List, [], ◌∷◌, ◌++◌}
+use Rattle.std.specs.Prelude.{◌≡◌, ℕ, ◌≤◌, true, false, Bool, List, [], ◌∷◌, ◌++◌, length}
 use mathlib.Core.List.{IsPrefix}
 use Rattle.wq_words.specs.declared.layout.Layout.{Layout}
 use Rattle.wq_words.specs.declared.event.Event.{Event}
@@ -33,6 +33,17 @@ Answers k tries (answer.Queued is_first) old new = Sees (Hold old.number k ∷ P
 Answers k tries answer.Pending old new = Sees (Busy old.number k ∷ []) 0 old new
 Answers k tries answer.Closed old new = Sees (Hold old.number k ∷ Back old.number k why.Closed ∷ []) 0 old new
 Answers k tries answer.Contended old new = Sees (Hold old.number k ∷ Back old.number k why.Contended ∷ []) tries old new
+
+-- The last events of sender s in h are its hold of k and, after lost tries, the give-back. Between the two stand at least n
+-- events, all of other seats.
+pub record IsContended (s k n : ℕ) (h : List Event) : Type 0 where
+  pub before : List Event
+  pub between : List Event
+  pub after : List Event
+  pub is : h ≡ before ++ Hold s k ∷ (between ++ Back s k why.Contended ∷ after)
+  pub none_between : own s between ≡ []
+  pub last : own s after ≡ []
+  pub paid : n ≤ length between
 
 -- a push of the held number k
 abbrev pub Posts : ℕ → ℕ → Posted → Known → Known → Type 0

@@ -9,12 +9,13 @@ ghost use Rattle.wq_words.specs.Headline.{KeepsHeadline};
 ghost use Rattle.wq_words.specs.Seen.{owner_seat};
 ghost use Rattle.wq_words.specs.declared.answer.Answer.TheVariants.{Queued, Contended};
 ghost use Rattle.wq_live.specs.Known.{IsSame, Sees};
-ghost use Rattle.wq_live.specs.Answers.{TestsAndSets, Answers, Posts, HasFlushed};
+ghost use Rattle.wq_live.specs.Answers.{TestsAndSets, Answers, Posts, IsContended, HasFlushed};
 ghost use Rattle.wq_live.specs.Counts.{sender_counts};
 ghost use Rattle.wq_live.specs.Laws.{IsStillEnd};
 
 use crate::counts::SenderCounts;
 use crate::owner::Owner;
+use crossbeam_utils::Backoff;
 use std::marker::Model;
 use std::sync::Wait;
 use wq_table::Chair;
@@ -138,15 +139,16 @@ impl Sender {
         self.chair.back_cancelled(item);
     }
 
-    // Tries to push a number that this sender holds, so many times, and at least once.
+    // Tries to push a number that this sender holds, so many times, and at least once. It spins between the tries.
     fn push_tries(&mut self, number: u32, tries: u32) -> Posted
         requires number { number < number_count self.old.layout }
         requires held { Holds self.old.seen self.old.number number }
         ensures { Posts number tries result self.old self.new }
     {
+        let backoff = Backoff::new();
         for _ in 1..tries {
             match self.attempt(number) {
-                Posted::Contended => {}
+                Posted::Contended => backoff.spin(),
                 posted => return posted,
             }
         }
@@ -156,7 +158,8 @@ impl Sender {
     // Queues a number, with at most so many tries.
     fn queue_number(&mut self, number: u32, tries: u32) -> Answer
         requires number { number < number_count self.old.layout }
-        ensures { Answers number tries result self.old self.new }
+        ensures answer { Answers number tries result self.old self.new }
+        ensures contended { result ≡ Contended → IsContended self.old.number number tries self.new.seen }
     {
         if !self.hold_number(number) {
             return Answer::Pending;
@@ -180,11 +183,12 @@ impl Sender {
         if !self.hold_number(number) {
             return Answer::Pending;
         }
+        let backoff = Backoff::new();
         for _ in rt.forever() {
             match self.attempt(number) {
                 Posted::Queued { first } => return Answer::Queued { first },
                 Posted::Closed => return Answer::Closed,
-                Posted::Contended => {}
+                Posted::Contended => backoff.spin(),
             }
         }
         unreachable!()
@@ -202,7 +206,8 @@ impl Sender {
     }
 
     /// Pushes an item that this sender holds, with at most so many tries (`llist_add`, which tries for as long as it
-    /// takes).
+    /// takes). Where it answers `Contended` it has made no event that marks its start, so the events of other seats that are
+    /// said to pay for the tries may be older than the call.
     pub fn post(&mut self, item: u32, tries: u32) -> Posted
         requires item { item < self.old.layout.items }
         requires tries { 0 < tries }
@@ -214,11 +219,12 @@ impl Sender {
     }
 
     /// Queues an item, with at most so many tries to push it (`queue_work`). `Contended` is answered only after as many
-    /// events of other seats.
+    /// events of other seats since it held the item.
     pub fn queue_tries(&mut self, item: u32, tries: u32) -> Answer
         requires item { item < self.old.layout.items }
         requires tries { 0 < tries }
         ensures answer { Answers item tries result self.old self.new }
+        ensures contended { result ≡ Contended → IsContended self.old.number item tries self.new.seen }
         ensures same { IsSame self.old self.new }
     {
         self.queue_number(item, tries)
@@ -248,6 +254,7 @@ impl Sender {
         requires barrier { barrier < self.old.layout.barriers }
         requires tries { 0 < tries }
         ensures answer { Answers (barrier_number self.old.layout barrier) tries result self.old self.new }
+        ensures contended { result ≡ Contended → IsContended self.old.number (barrier_number self.old.layout barrier) tries self.new.seen }
         ensures same { IsSame self.old self.new }
     {
         let number = self.layout.barrier(barrier);
@@ -277,10 +284,12 @@ impl Sender {
         let number = self.layout.barrier(barrier);
         match self.queue_waiting(rt, number) {
             Answer::Queued { first } => {
+                let backoff = Backoff::new();
                 for _ in rt.forever() {
                     if self.flush_done(barrier) {
                         return Answer::Queued { first };
                     }
+                    backoff.snooze();
                 }
                 unreachable!()
             }
@@ -292,6 +301,7 @@ impl Sender {
     pub fn request_stop(&mut self, tries: u32) -> Answer
         requires tries { 0 < tries }
         ensures answer { Answers (stop_number self.old.layout) tries result self.old self.new }
+        ensures contended { result ≡ Contended → IsContended self.old.number (stop_number self.old.layout) tries self.new.seen }
         ensures same { IsSame self.old self.new }
     {
         let stop = self.layout.stop();
