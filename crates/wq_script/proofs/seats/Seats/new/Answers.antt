@@ -26,14 +26,14 @@ new-requires-3 c = λ k. let b = c.in-Ok-build.ensures.made in let w = c.in-Ok.e
     c.pop-2.new.self.items c.in-Some-pop.sender c.in-Some.delayer w.2 b.1 c.in-Some.ensures.items c.in-Some-pop.ensures.items in
     new_free c.in-Some.delayer k (ap (λ (s : Known). s.seen) last.2)
 
-pub new-requires-4-clause-one : goal.new-requires-4-clause-one
-new-requires-4-clause-one c = let b = c.in-Ok-build.ensures.made in let w = c.in-Ok.ensures.ok in
+pub new-worker-requires-clause-one : goal.new-worker-requires-clause-one
+new-worker-requires-clause-one c = let b = c.in-Ok-build.ensures.made in let w = c.in-Ok.ensures.ok in
     let last = two_less _ c.in-Ok.wide c.args.layout.senders c.in-Ok.wide.senders c.in-Ok-build.senders.items c.pop.new.self.items
     c.pop-2.new.self.items c.in-Some-pop.sender c.in-Some.delayer w.2 b.1 c.in-Some.ensures.items c.in-Some-pop.ensures.items in
     ap (λ (s : Known). s.queue) last.1
 
 pub returns-clause-seated : goal.returns-clause-seated
-returns-clause-seated c = let b = c.in-Ok-build.ensures.made in let w = c.in-Ok.ensures.ok in let n = c.new-4.ensures in
+returns-clause-seated c = let b = c.in-Ok-build.ensures.made in let w = c.in-Ok.ensures.ok in let n = c.new-worker.ensures in
     let last = two_less _ c.in-Ok.wide c.args.layout.senders c.in-Ok.wide.senders c.in-Ok-build.senders.items c.pop.new.self.items
     c.pop-2.new.self.items c.in-Some-pop.sender c.in-Some.delayer w.2 b.1 c.in-Some.ensures.items c.in-Some-pop.ensures.items in
     let wider : IsWider c.args.layout c.in-Ok.wide = record { items = w.0; barriers = w.1; senders = w.2 } in
