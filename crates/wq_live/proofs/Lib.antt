@@ -16,3 +16,4 @@ pub mod Final
 pub mod Built
 pub mod Reading
 pub mod Seated
+pub mod Resting
