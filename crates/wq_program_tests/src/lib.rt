@@ -9,4 +9,6 @@ mod race;
 #[cfg(test)]
 mod script;
 #[cfg(test)]
+mod spoiled;
+#[cfg(test)]
 mod text;

@@ -1,4 +1,6 @@
 //! Streams that fail at one call alone, each in turn, under each of the mains.
+mod pieces;
+
 use std::alloc::Global;
 use std::io::{Error, ErrorKind, Read, Result, Write};
 use std::process::Abort;

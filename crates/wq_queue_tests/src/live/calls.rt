@@ -1,4 +1,6 @@
 //! Each call of a sender and of the owner, in one thread.
+mod refused;
+
 ghost use Rattle.std.specs.Prelude.{◌≡◌, IfSome};
 
 use super::reading::{begin, chain, close, end, execute_one, take};
