@@ -1,5 +1,6 @@
 pub mod Changes
 pub mod Rule
 pub mod Steps
+pub mod Present
 pub mod Views
 pub mod Told

@@ -1,5 +1,5 @@
 -- A step that the machine makes keeps the rule of the table, and tells its seat what it was.
-use Rattle.std.proofs.Common.{◌≡◌, ℕ, ◌≢◌, List, [], ◌∷◌, get_or, set, sym, refl, ap, ◌∙◌, subst, ⊎_elim}
+use Rattle.std.proofs.Common.{◌≡◌, ℕ, ◌≢◌, List, [], ◌∷◌, get_or, set, sym, refl, ap, ◌∙◌, subst, inl, ⊎_elim}
 use mathlib.Core.Option.{some}
 use lib.ListN.{get_elem?}
 use Rattle.atomic_table.specs.Table.{State, keeps, Allows}
@@ -11,10 +11,11 @@ use Rattle.wq_core.specs.Refusal.{IsMade}
 use Rattle.wq_core.specs.Sound.{IsSound}
 use Rattle.wq_table.specs.declared.table.Part.{Part}
 use Rattle.wq_words.specs.Seen.{owner_seat}
-use Rattle.wq_table.specs.Law.{View, part, seat_at, IsPartOf, ArePartsAt, Kept}
+use Rattle.wq_table.specs.Law.{View, part, seat_at, IsPartOf, ArePartsAt, HasSeat, HasSeenAll, Kept}
 use Rattle.wq_table.specs.Plays.{Sat, word_found, stage_after, Performs, MakesAlone}
 use Rattle.wq_core.proofs.Schedules.{sound_after}
 use Rattle.wq_words.proofs.Prefixes.{prefix_self}
+use Rattle.wq_table.proofs.Present.{stands_put, put_in}
 use Rattle.wq_table.proofs.Changes.{Change, changes, fits_other, keeps_after, links_known, links_spared}
 
 abbrev Table : Type 0
@@ -69,6 +70,8 @@ module _ (layout : Layout) (slots id : ℕ) (p : Part) (cs : Carried) (σ : Layo
               (λ (t : (j ≡ id) × (q ∷ [] ≡ v)). subst (λ (z : ℕ × View). ArePartsAt next r.who z.0 z.1) (λ k. (sym t.0 k, t.1 k)) (q_fits, here, tt, tt))
               (λ (t : (j ≢ id) × (get_elem? s.views j ≡ some v)). all_other m next r.who p.seat id j v change spared here t.0 (r.seats j v t.1))
               (at_set s.views id j (q ∷ []) v there);
+          present = λ c seat. stands_put s.views (HasSeat c) id (p ∷ []) (q ∷ []) (r.who c) at (λ has. has) (r.present c seat);
+          longest = (id, put_in s.views (HasSeenAll next.history) id (p ∷ []) (q ∷ []) at (inl refl));
         },
         record {
           from = p;

@@ -1,5 +1,5 @@
 -- The rule of the table, and how its views are cut.
-use Rattle.std.specs.Prelude.{◌≡◌, ◌≢◌, ℕ, zero, suc, ◌+◌, ◌<◌, List, [], ◌∷◌, get_or, None}
+use Rattle.std.specs.Prelude.{◌≡◌, ◌≢◌, ◌⊎◌, ℕ, zero, suc, ◌+◌, ◌<◌, List, [], ◌∷◌, get_or, None}
 use mathlib.Core.Option.{some}
 use mathlib.Core.List.{IsPrefix}
 use lib.ListN.{get_elem?}
@@ -57,7 +57,26 @@ abbrev pub ArePartsAt : Machine → (ℕ → ℕ) → ℕ → View → Type 0
 ArePartsAt m who i [] = Unit {0}
 ArePartsAt m who i (p ∷ ps) = IsPartOf m p × (who p.seat ≡ i) × Apart p.seat ps × ArePartsAt m who i ps
 
--- Between any two steps: what exists is the machine with its history, and at which place the view of each seat stands
+-- a seat of a queue of this size: a sender's or the owner's
+abbrev pub IsSeatOf : Layout → ℕ → Type 0
+IsSeatOf layout c = (c < layout.senders) ⊎ (c ≡ owner_seat)
+
+-- one of the view's parts is of this seat
+abbrev pub HasSeat : ℕ → View → Type 0
+HasSeat c [] = ⊥
+HasSeat c (p ∷ ps) = (p.seat ≡ c) ⊎ HasSeat c ps
+
+-- one of the view's parts has seen all of h
+abbrev pub HasSeenAll : List Event → View → Type 0
+HasSeenAll h [] = ⊥
+HasSeenAll h (p ∷ ps) = (p.seen ≡ h) ⊎ HasSeenAll h ps
+
+-- the view at the place i is so
+abbrev pub StandsAt : List View → ℕ → (View → Type 0) → Type 0
+StandsAt views i P = (v : View) × (get_elem? views i ≡ some v) × P v
+
+-- Between any two steps: what exists is the machine with its history, and at which place the view of each seat stands. Each
+-- seat of the queue stands there, and some seat has seen the whole history.
 pub record Kept (layout : Layout) (s : State (Unit {0}) View) : Type 0 where
   pub machine : Machine
   pub who : ℕ → ℕ
@@ -65,6 +84,8 @@ pub record Kept (layout : Layout) (s : State (Unit {0}) View) : Type 0 where
   pub layout_is : machine.layout ≡ layout
   pub words_are : s.words ≡ machine.words
   pub seats : (i : ℕ) (v : View) → get_elem? s.views i ≡ some v → ArePartsAt machine who i v
+  pub present : (c : ℕ) → IsSeatOf layout c → StandsAt s.views (who c) (HasSeat c)
+  pub longest : (i : ℕ) × StandsAt s.views i (HasSeenAll machine.history)
 
 abbrev pub sender_part : Layout → ℕ → Part
 sender_part layout c = part c layout [] [] (Sends nothing_seen)

@@ -25,8 +25,8 @@ pub enum Stage {
 }
 
 /// The rule: the words and the private parts of all seats are a sound state of the machine, each seat has seen a
-/// beginning of its history, with all its own events, and the links of what the owner took and has not begun are as the
-/// owner left them.
+/// beginning of its history, with all its own events, and some seat all of it, and the links of what the owner took and has
+/// not begun are as the owner left them.
 pub struct Law;
 
 impl TableRule<(), LinkedList<Part>, Layout> for Law {
