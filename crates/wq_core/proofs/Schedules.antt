@@ -17,7 +17,7 @@ use Rattle.wq_core.specs.declared.step.StepError.{StepError}
 use Rattle.wq_core.specs.Words.{word_count, word_at}
 use Rattle.wq_core.specs.Machine.{Machine, opening, nothing_seen, head, link, item_word, private, seen_word, after_walk, after_begin, after_end, after}
 use Rattle.wq_core.specs.Refusal.{IsMade, IsRefused}
-use Rattle.wq_core.specs.Schedule.{Leads, Leaves, IsFirstRefusal}
+use Rattle.wq_core.specs.Schedule.{Leads, Leaves, StopsAt}
 use Rattle.wq_core.specs.Sound.{IsSound}
 use Rattle.wq_words.proofs.Running.{runs_some}
 use Rattle.wq_core.proofs.SenderSteps.{sound_hold, sound_busy, sound_look, sound_lost, sound_link, sound_push, sound_back}
@@ -150,15 +150,15 @@ leads_push [] old mid seat step leads made = (rw leads at made, ap (λ m. after 
 leads_push (turn ∷ turns) old mid seat step leads made =
     (leads.0, leads_push turns (after old turn.0 turn.1) mid seat step leads.1 made)
 
-pub leaves_more : (layout : Layout) (turns : List (Seat × Step)) (place : ℕ) (d : Seat × Step) (m : Machine) → place < length turns
-    → Leaves layout (take place turns) m
+pub leads_more : (turns : List (Seat × Step)) (place : ℕ) (d : Seat × Step) (old m : Machine) → place < length turns
+    → Leads old (take place turns) m
     → IsMade m (get_or turns place d).0 (get_or turns place d).1
-    → Leaves layout (take (place + 1) turns) (after m (get_or turns place d).0 (get_or turns place d).1)
-leaves_more layout turns place d m lt leaves made =
-    rw (take_more turns place d lt) (leads_push (take place turns) (opening layout) m (get_or turns place d).0 (get_or turns place d).1 leaves made)
+    → Leads old (take (place + 1) turns) (after m (get_or turns place d).0 (get_or turns place d).1)
+leads_more turns place d old m lt leads made =
+    rw (take_more turns place d lt) (leads_push (take place turns) old m (get_or turns place d).0 (get_or turns place d).1 leads made)
 
-pub refused_at : (layout : Layout) (turns : List (Seat × Step)) (place : ℕ) (d : Seat × Step) (m : Machine) (why : StepError) → place < length turns
-    → Leaves layout (take place turns) m
-    → IsRefused m (get_or turns place d).0 (get_or turns place d).1 why → IsFirstRefusal layout turns place why
-refused_at layout turns place d m why lt leaves refused =
-    (m, leaves, (get_or turns place d).0, (get_or turns place d).1, slice_get-get_or turns place d lt, refused)
+pub stops_at : (turns : List (Seat × Step)) (place : ℕ) (d : Seat × Step) (old m : Machine) (why : StepError) → place < length turns
+    → Leads old (take place turns) m
+    → IsRefused m (get_or turns place d).0 (get_or turns place d).1 why → StopsAt old turns m place why
+stops_at turns place d old m why lt leads refused =
+    (leads, (get_or turns place d).0, (get_or turns place d).1, slice_get-get_or turns place d lt, refused)

@@ -39,6 +39,14 @@ IsNumbered layout _ = Unit {0}
 abbrev pub IsPlaced : Layout → Seat → Step → Type 0
 IsPlaced layout seat step = IsSeated layout seat step × IsNumbered layout step
 
+-- the kinds of steps that may take memory; the others add no event and walk to no number
+abbrev pub may_take_memory : Step → Bool
+may_take_memory Look = false
+may_take_memory (Link k) = false
+may_take_memory (Check k) = false
+may_take_memory (Turn k next) = false
+may_take_memory _ = true
+
 -- the machine makes the step
 abbrev pub IsMade : Machine → Seat → Step → Type 0
 IsMade m seat step = IsPlaced m.layout seat step × IsEnabled m seat step
@@ -48,4 +56,4 @@ abbrev pub IsRefused : Machine → Seat → Step → StepError → Type 0
 IsRefused m seat step NoSeat = ¬ IsSeated m.layout seat step
 IsRefused m seat step NoItem = IsSeated m.layout seat step × (¬ IsNumbered m.layout step)
 IsRefused m seat step NotEnabled = IsPlaced m.layout seat step × (¬ IsEnabled m seat step)
-IsRefused m seat step Memory = IsMade m seat step
+IsRefused m seat step Memory = IsMade m seat step × (may_take_memory step ≡ true)

@@ -17,10 +17,14 @@ Leads old (turn ∷ turns) new = IsMade old turn.0 turn.1 × Leads (after old tu
 abbrev pub Leaves : Layout → List (Seat × Step) → Machine → Type 0
 Leaves layout turns m = Leads (opening layout) turns m
 
--- all steps before this place are made, and the step there is the first that is refused, for this cause
+-- all steps before this place are made and lead from old to new, and the step there is the first that is refused, for this cause
+abbrev pub StopsAt : Machine → List (Seat × Step) → Machine → ℕ → StepError → Type 0
+StopsAt old turns new at why =
+    Leads old (take at turns) new × (seat : Seat) × (step : Step) × (slice_get turns at ≡ Some (seat, step)) × IsRefused new seat step why
+
+-- the first step of the schedule that is refused, from the opening
 abbrev pub IsFirstRefusal : Layout → List (Seat × Step) → ℕ → StepError → Type 0
-IsFirstRefusal layout turns at why =
-    (m : Machine) × Leaves layout (take at turns) m × (seat : Seat) × (step : Step) × (slice_get turns at ≡ Some (seat, step)) × IsRefused m seat step why
+IsFirstRefusal layout turns at why = (m : Machine) × StopsAt (opening layout) turns m at why
 
 -- no memory could be had for the opening state
 abbrev pub LacksOpening : ℕ → StepError → Type 0

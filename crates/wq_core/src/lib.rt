@@ -10,5 +10,5 @@ mod step;
 
 pub use laws::{chain_and_batch, each_step_keeps_sound, first_push};
 pub use machine::Core;
-pub use schedule::{ReplayError, replay};
+pub use schedule::{ReplayError, replay, replay_on};
 pub use step::{Private, Reply, Seat, Step, StepError};

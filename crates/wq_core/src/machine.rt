@@ -1,5 +1,5 @@
 //! The machine in memory, step by step.
-ghost use Rattle.std.specs.Prelude.{◌≡◌, ◌<◌, ◌↔◌, IsTrue, IfOk, IfErr, IfSome, OnOk, OnErr, length, get_or, Some, None};
+ghost use Rattle.std.specs.Prelude.{◌≡◌, ◌<◌, ◌↔◌, true, IsTrue, IfOk, IfErr, IfSome, OnOk, OnErr, length, get_or, Some, None};
 ghost use Rattle.wq_words.specs.declared.layout.Layout.{Layout};
 ghost use Rattle.wq_words.specs.Numbers.{number_count};
 ghost use Rattle.wq_words.specs.History.{accepted, begun, Holds, IsClosed, IsRunning};
@@ -8,7 +8,7 @@ ghost use Rattle.wq_core.specs.declared.step.Step.TheVariants.{Hold, Look, Link,
 ghost use Rattle.wq_core.specs.Words.{number_at};
 ghost use Rattle.wq_core.specs.Machine.{opening, IsEnabled, after, reply_to, nothing_seen, private, link, unlinked};
 ghost use Rattle.wq_core.specs.Sound.{IsSound};
-ghost use Rattle.wq_core.specs.Refusal.{is_senders, IsSeated, IsNumbered, IsPlaced, IsMade, IsRefused};
+ghost use Rattle.wq_core.specs.Refusal.{is_senders, IsSeated, IsNumbered, IsPlaced, may_take_memory, IsMade, IsRefused};
 
 use crate::place::{
     HEAD, done_place, head_at, item_place, link_place, number_at, word, word_at, word_count,
@@ -107,7 +107,8 @@ impl Core {
             .collect(self.alloc)
     }
 
-    /// One step of the machine, and its reply. After an error nothing has changed.
+    /// One step of the machine, and its reply. After an error nothing has changed. Only a step that adds an event or walks to
+    /// a number may want memory.
     pub fn step(&mut self, seat: Seat, step: Step) -> Result<Reply, StepError>
         ensures made { OnOk result (IsMade self.old seat step) }
         ensures reply { IfOk result (λ reply. reply ≡ reply_to self.old seat step) }
@@ -200,6 +201,7 @@ impl Core {
         requires { IsMade self.old seat step }
         ensures reply { IfOk result (λ reply. reply ≡ reply_to self.old seat step) }
         ensures after { OnOk result (self.new ≡ after self.old seat step) }
+        ensures memory { OnErr result (may_take_memory step ≡ true) }
         ensures unchanged { OnErr result (self.new ≡ self.old) }
     {
         match (seat, step) {

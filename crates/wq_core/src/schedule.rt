@@ -1,8 +1,8 @@
 //! Schedules, replayed on the machine.
-ghost use Rattle.std.specs.Prelude.{◌⊎◌, IfOk, IfErr};
+ghost use Rattle.std.specs.Prelude.{◌⊎◌, IfOk, IfErr, OnOk};
 ghost use Rattle.wq_words.specs.Legal.{IsLegal};
 ghost use Rattle.wq_words.specs.Headline.{KeepsHeadline};
-ghost use Rattle.wq_core.specs.Schedule.{Leaves, IsFirstRefusal, LacksOpening};
+ghost use Rattle.wq_core.specs.Schedule.{Leads, Leaves, StopsAt, IsFirstRefusal, LacksOpening};
 
 use crate::machine::Core;
 use crate::step::{Seat, Step, StepError};
@@ -35,11 +35,23 @@ pub fn replay(alloc: Global, layout: Layout, turns: &[(Seat, Step)]) -> Result<C
             });
         }
     };
+    match replay_on(&mut core, turns) {
+        Ok(()) => Ok(core),
+        Err(error) => Err(error),
+    }
+}
+
+/// The steps of a schedule, made one after another on a machine that is there. After an error the machine is as the steps
+/// before the refused one left it.
+pub fn replay_on(core: &mut Core, turns: &[(Seat, Step)]) -> Result<(), ReplayError>
+    ensures leads { OnOk result (Leads core.old turns.now core.new) }
+    ensures stops { IfErr result (λ error. StopsAt core.old turns.now core.new error.at error.why) }
+{
     for (at, (seat, step)) in turns.iter().enumerate() {
         match core.step(*seat, *step) {
             Ok(_) => {}
             Err(why) => return Err(ReplayError { at, why }),
         }
     }
-    Ok(core)
+    Ok(())
 }

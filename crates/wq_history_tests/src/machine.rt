@@ -6,7 +6,7 @@ use wq_core::Reply::{
 use wq_core::Step::{Back, Begin, Chain, Check, Close, End, Hold, Link, Look, Push, Take, Walk};
 use wq_core::{
     Core, ReplayError, Reply, Seat, Step, StepError, chain_and_batch, each_step_keeps_sound,
-    first_push, replay,
+    first_push, replay, replay_on,
 };
 use wq_words::{Event, Head, Layout, Why, check_history};
 
@@ -106,7 +106,7 @@ const CHAINED_ITEMS: [Turn; 15] = [
     (O, Begin, Began(0)),
 ];
 
-/// Each schedule step by step, and replayed as a whole, with what was accepted and begun at its end.
+/// Each schedule step by step, replayed as a whole, and in two parts, with what was accepted and begun at its end.
 #[test]
 fn schedules(rt: HostRuntime) -> Result<(), Fail> {
     let layout = Layout::new(4, 1, 2)?;
@@ -131,6 +131,9 @@ fn schedules(rt: HostRuntime) -> Result<(), Fail> {
         assert_eq!(rt; replayed.history(), core.history());
         assert_eq!(rt; &replayed.accepted()?[..], accepted);
         assert_eq!(rt; &replayed.begun()?[..], begun);
+        let mut parted = replay(rt.alloc(), layout, &turns[..2])?;
+        replay_on(&mut parted, &turns[2..])?;
+        assert_eq!(rt; parted.history(), core.history());
     }
     Ok(())
 }

@@ -1,0 +1,6 @@
+use Rattle.std.proofs.Common.{take}
+use Rattle.wq_core.specs.Schedule.{Leads}
+use Rattle.wq_core.proofs.schedule.replay_on.Given as goal
+
+abbrev pub invariant-loop-at : goal.invariant-loop-at
+invariant-loop-at l = Leads l.initial.core (take l.at l.turns) l.core
