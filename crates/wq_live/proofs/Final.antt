@@ -26,7 +26,8 @@ use Rattle.wq_words.proofs.Running.{runs_some}
 use Rattle.wq_live.specs.declared.owner.Owner.TheInside.{Inside}
 use Rattle.wq_live.specs.Known.{Known}
 use Rattle.wq_live.specs.Answers.{IsFinal}
-use Rattle.wq_live.proofs.OwnerTells.{stands_legal}
+use Rattle.wq_live.specs.Batch.{batch}
+use Rattle.wq_live.proofs.OwnerTells.{stands_legal, owner_batch}
 use Rattle.wq_live.specs.Sits.{owner_view, Stands, OwnsQueue, kept_batch}
 use Rattle.wq_live.proofs.Taken.{rested_lengths}
 
@@ -148,3 +149,13 @@ owner_rested s now view o complete = let p = s.chair.part in let known : IsCompl
       omega (arith, rest.0, o.has_row.row_is.count_is),
       is_false (is_some s.running) (λ some. rest.1 (running_some p.seen (running p.seen) refl (ap is_some (sym o.running_is) ∙ some))),
     )
+
+-- closed, with nothing that waits or runs, as the owner knows it
+pub owner_finished : (s : Inside) (now : Known) → owner_view s ≡ now → OwnsQueue s → IsClosed now.seen → batch now.seen ≡ [] → ¬ IsRunning now.seen
+    → (s.closed ≡ true) × (s.row.count ≡ 0) × (is_some s.running ≡ false)
+owner_finished s now view o shut none idle = let p = s.chair.part in (
+  o.closed_is ∙ closed_from_IsClosed p.seen (subst (λ (v : Known). IsClosed v.seen) (sym view) shut),
+  omega (arith, ap (λ (x : List ℕ). length x) (owner_batch s now view o ∙ none), o.has_row.row_is.count_is),
+  is_false (is_some s.running)
+      (λ some. idle (subst (λ (v : Known). IsRunning v.seen) view (running_some p.seen (running p.seen) refl (ap is_some (sym o.running_is) ∙ some)))),
+)

@@ -17,3 +17,4 @@ pub mod Built
 pub mod Reading
 pub mod Seated
 pub mod Contended
+pub mod Resting

@@ -3,4 +3,5 @@ pub mod Batch
 pub mod Row
 pub mod Counts
 pub mod Answers
+pub mod Laws
 pub mod Sits

@@ -153,6 +153,7 @@ impl Owner {
         requires empty { batch self.old.seen ≡ [] }
         ensures seen { Sees (Take ∷ []) 0 self.old self.new }
         ensures takes { TakesAll Take result self.new.seen }
+        ensures idle { ¬ IsRunning self.old.seen → ¬ IsRunning self.new.seen }
     {
         let word = self.chair.take();
         self.row = walk_all(&mut self.chair, self.row, word);
@@ -165,6 +166,8 @@ impl Owner {
         requires open { ¬ IsClosed self.old.seen }
         ensures seen { Sees (Close ∷ []) 0 self.old self.new }
         ensures takes { TakesAll Close result self.new.seen }
+        ensures idle { ¬ IsRunning self.old.seen → ¬ IsRunning self.new.seen }
+        ensures shut { IsClosed self.new.seen }
     {
         let had = self.row.count;
         let word = self.chair.close();
@@ -197,6 +200,9 @@ impl Owner {
         requires idle { ¬ IsRunning self.old.seen }
         ensures next { next_of self.old.seen ≡ Some result }
         ensures seen { Sees (Begin result ∷ []) 0 self.old self.new }
+        ensures runs { IsRunning self.new.seen }
+        ensures running { running self.new.seen ≡ Some result }
+        ensures shut { IsClosed self.old.seen → IsClosed self.new.seen }
     {
         let number = self.row.front;
         self.row = without_first(&mut self.chair, self.row);
@@ -210,6 +216,8 @@ impl Owner {
         requires runs { IsRunning self.old.seen }
         ensures seen { (k : ℕ) → running self.old.seen ≡ Some k → Sees (End k ∷ []) 0 self.old self.new }
         ensures same { IsSame self.old self.new }
+        ensures idle { ¬ IsRunning self.new.seen }
+        ensures shut { IsClosed self.old.seen → IsClosed self.new.seen }
     {
         self.chair.end();
         self.running = None;
@@ -253,6 +261,7 @@ impl Owner {
         ensures complete { IsSome result ↔ IsComplete self.now.seen }
         ensures count { IfSome result (λ done. done.ended ≡ capped (length (ended self.now.seen))) }
         ensures last { IsSome result → IsFinal self.now.layout self.now.seen }
+        ensures finished { IsClosed self.now.seen → batch self.now.seen ≡ [] → ¬ IsRunning self.now.seen → IsSome result }
     {
         if !self.closed || self.row.count != 0 || self.running.is_some() {
             return None;

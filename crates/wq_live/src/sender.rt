@@ -4,13 +4,14 @@ ghost use Rattle.wq_words.specs.declared.event.Event.TheVariants.{Back};
 ghost use Rattle.wq_words.specs.declared.event.Why.TheVariants as why;
 ghost use Rattle.wq_words.specs.History.{pending, Holds};
 ghost use Rattle.wq_words.specs.Numbers.{barrier_number, stop_number, number_count};
-ghost use Rattle.wq_words.specs.Legal.{IsLegal};
+ghost use Rattle.wq_words.specs.Legal.{IsLegal, IsComplete};
 ghost use Rattle.wq_words.specs.Headline.{KeepsHeadline};
 ghost use Rattle.wq_words.specs.Seen.{owner_seat};
 ghost use Rattle.wq_words.specs.declared.answer.Answer.TheVariants.{Queued, Contended};
 ghost use Rattle.wq_live.specs.Known.{IsSame, Sees};
 ghost use Rattle.wq_live.specs.Answers.{TestsAndSets, Answers, Posts, IsContended, HasFlushed};
 ghost use Rattle.wq_live.specs.Counts.{sender_counts};
+ghost use Rattle.wq_live.specs.Laws.{IsStillEnd};
 
 use crate::counts::SenderCounts;
 use crate::owner::Owner;
@@ -327,6 +328,7 @@ impl Sender {
         ensures layout { owner.old.layout ≡ self.old.layout }
         ensures number { self.old.number < self.old.layout.senders }
         ensures seat { owner.old.number ≡ owner_seat }
+        ensures last { IsComplete owner.old.seen → IsStillEnd owner.old.seen owner.new.seen }
     {
         self.chair.meet(&mut owner.chair);
     }
@@ -340,6 +342,7 @@ impl Sender {
         ensures owners { Sees [] 0 owner.old owner.new }
         ensures all { (other.new.seen ≡ self.new.seen) × (owner.new.seen ≡ self.new.seen) }
         ensures layout { (other.old.layout ≡ self.old.layout) × (owner.old.layout ≡ self.old.layout) }
+        ensures last { IsComplete owner.old.seen → IsStillEnd owner.old.seen owner.new.seen }
     {
         self.chair.meet_both(&mut other.chair, &mut owner.chair);
     }

@@ -1,6 +1,7 @@
 use Rattle.std.proofs.Common.{◌≢◌, ◌<◌, ℕ, List, [], ◌∷◌, length, Some, slice_get, ap, sym, subst, refl, ◌∙◌, arith}
 use Rattle.wq_words.specs.declared.event.Event.TheVariants.{Begin}
 use Rattle.wq_words.specs.History.{IsRunning}
+use Rattle.wq_words.proofs.Running.{runs_from_running}
 use Rattle.wq_live.specs.Known.{Known}
 use Rattle.wq_live.specs.Sits.{kept_batch}
 use Rattle.wq_live.proofs.Tells.{Tells}
@@ -66,3 +67,15 @@ returns-clause-seen c = let s = c.self.inside in let o = c.self.invariant in let
     (begin_tells k c.begin.ensures.0 q r first.others (e.follows.seat_is ∙ o.number_is) first.stage_is makes) in
     let t = record s { chair = c.begin.new.self; row = c.without_first-self-inside.result; running = Some k } in
     owner_sees (Begin k ∷ []) 0 s t c.args.self.now c.self.view_is o refl (c.begin.ensures.1.queue_is ∙ e.queue) told
+
+pub returns-clause-running : goal.returns-clause-running
+returns-clause-running c = let s = c.self.inside in let o = c.self.invariant in let e = c.without_first-self-inside.ensures in let k = s.row.front in
+    let p = s.chair.part in let q = c.without_first-self-inside.new.chair.part in let r = c.begin.new.self.part in let makes = c.begin.ensures.1.makes in
+    let told : Tells (Begin k ∷ []) p r = sees_then (λ _. Begin k ∷ []) p q r e.follows e.stands
+    (begin_tells k c.begin.ensures.0 q r e.first.others (e.follows.seat_is ∙ o.number_is) e.first.stage_is makes) in
+    let t = record s { chair = c.begin.new.self; row = c.without_first-self-inside.result; running = Some k } in
+    let idle : ¬ IsRunning p.seen = subst (λ (v : Known). ¬ IsRunning v.seen) (sym c.self.view_is) c.requires.idle in
+    running_begun k 0 p.seen r.seen (owner_grows (Begin k ∷ []) 0 s t o told) (owner_idle p o.stands idle)
+
+pub returns-clause-runs : goal.returns-clause-runs
+returns-clause-runs c = runs_from_running c.begin.new.self.part.seen c.self.inside.row.front (returns-clause-running c)

@@ -1,4 +1,4 @@
-use Rattle.std.proofs.Common.{◌-◌, true, [], ◌∷◌, sym, subst, refl, ◌∙◌, arith}
+use Rattle.std.proofs.Common.{◌-◌, true, [], ◌∷◌, ap, sym, subst, refl, ◌∙◌, arith}
 use Rattle.wq_words.specs.declared.event.Event.TheVariants.{Close}
 use Rattle.wq_core.specs.declared.step.Step.TheVariants as step
 use Rattle.wq_words.specs.History.{IsClosed}
@@ -7,6 +7,7 @@ use Rattle.wq_live.specs.Sits.{kept_batch}
 use Rattle.wq_live.proofs.Tells.{Tells}
 use Rattle.wq_live.proofs.Owned.{running_quiet, closed_closed, counts_quiet}
 use Rattle.wq_live.proofs.OwnerTells.{makes_stands, owner_of, close_tells, close_stage, owner_grows, owner_sees}
+use Rattle.wq_live.proofs.Resting.{quiet_idle}
 use Rattle.wq_live.proofs.Linking.{walks_kept, walks_row}
 use Rattle.wq_live.proofs.Taking.{followed, close_takes}
 use Rattle.wq_live.proofs.owner.Owner.close.Goals as goal
@@ -61,3 +62,6 @@ returns-clause-takes c = let s = c.self.inside in let o = c.self.invariant in le
 
 pub overflow_sub-result : goal.overflow_sub-result
 overflow_sub-result c = c.walk_all-self-inside.ensures.more
+
+pub returns-clause-idle : goal.returns-clause-idle
+returns-clause-idle c = quiet_idle (Close ∷ []) 0 c.args.self.now _ (sym (ap (λ (v : Known). v.number) c.self.view_is)) (returns-clause-seen c) refl refl

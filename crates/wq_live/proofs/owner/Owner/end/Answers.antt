@@ -1,13 +1,14 @@
 use Rattle.std.proofs.Common.{◌≡◌, ℕ, [], ◌∷◌, Some, None, ap, sym, subst, refl, ◌∙◌}
 use Rattle.wq_words.specs.declared.event.Event.TheVariants.{End}
 use Rattle.wq_words.specs.History.{IsRunning, running}
-use Rattle.wq_words.proofs.Running.{runs_some}
+use Rattle.wq_words.proofs.Running.{runs_some, rests_from_running}
 use Rattle.wq_live.specs.Known.{Known, Sees}
 use Rattle.wq_live.proofs.Tells.{Tells}
 use Rattle.wq_live.proofs.Owned.{running_ended, closed_quiet, counts_ended}
 use Rattle.wq_core.specs.declared.step.Step.TheVariants as step
 use Rattle.wq_live.specs.Sits.{kept_batch, owner_view}
 use Rattle.wq_live.proofs.Linking.{has_row_after}
+use Rattle.wq_live.proofs.Resting.{closed_stays}
 use Rattle.wq_live.proofs.OwnerTells.{makes_stands, owner_of, end_tells, end_stage, owner_runs, owner_grows, owner_sees}
 use Rattle.wq_live.proofs.owner.Owner.end.Goals as goal
 
@@ -32,8 +33,15 @@ invariant_of-self c =
 pub returns : goal.returns
 returns c = let s = c.self.inside in let o = c.self.invariant in let p = s.chair.part in let q = c.end.new.self.part in
     let t = record s { chair = c.end.new.self; running = None; counts = record s.counts { ended = c.saturating_add-self-inside.result } } in
+    let runs : IsRunning p.seen = subst (λ (v : Known). IsRunning v.seen) (sym c.self.view_is) c.requires.runs in
+    let some = runs_some p.seen runs in
+    let tells : (k : ℕ) → running p.seen ≡ Some k → Tells (End k ∷ []) p q = λ k known.
+    end_tells k c.end.ensures.0 p q o.number_is (owner_of p.stage (kept_batch p.stage) o.has_row.stage_is) known c.end.ensures.1.makes in
     let sees : (k : ℕ) → running p.seen ≡ Some k → Sees (End k ∷ []) 0 c.args.self.now (owner_view t) = λ k known.
-    owner_sees (End k ∷ []) 0 s t c.args.self.now c.self.view_is o refl c.end.ensures.1.queue_is
-    (end_tells k c.end.ensures.0 p q o.number_is (owner_of p.stage (kept_batch p.stage) o.has_row.stage_is) known c.end.ensures.1.makes) in
-    let some = runs_some p.seen (subst (λ (v : Known). IsRunning v.seen) (sym c.self.view_is) c.requires.runs) in
-    record { seen = λ k is. sees k (ap (λ (v : Known). running v.seen) c.self.view_is ∙ is); same = (sees some.0 some.1).same }
+    owner_sees (End k ∷ []) 0 s t c.args.self.now c.self.view_is o refl c.end.ensures.1.queue_is (tells k known) in record {
+      seen = λ k is. sees k (ap (λ (v : Known). running v.seen) c.self.view_is ∙ is);
+      same = (sees some.0 some.1).same;
+      shut = closed_stays (End some.0 ∷ []) 0 c.args.self.now (owner_view t) (sees some.0 some.1);
+      idle = rests_from_running q.seen
+          (running_ended some.0 0 p.seen q.seen (owner_grows (End some.0 ∷ []) 0 s t o (tells some.0 some.1)) (owner_runs p o.stands runs));
+    }

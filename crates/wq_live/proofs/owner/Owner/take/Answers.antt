@@ -7,6 +7,7 @@ use Rattle.wq_live.specs.Sits.{kept_batch}
 use Rattle.wq_live.proofs.Tells.{Tells}
 use Rattle.wq_live.proofs.Owned.{running_quiet, closed_quiet, counts_quiet}
 use Rattle.wq_live.proofs.OwnerTells.{makes_stands, owner_batch, owner_of, none_of, take_tells, take_stage, owner_grows, owner_sees}
+use Rattle.wq_live.proofs.Resting.{quiet_idle}
 use Rattle.wq_live.proofs.Linking.{walks_kept, walks_row}
 use Rattle.wq_live.proofs.Taking.{followed, take_takes}
 use Rattle.wq_live.proofs.owner.Owner.take.Goals as goal
@@ -61,3 +62,6 @@ returns-clause-takes c = let s = c.self.inside in let o = c.self.invariant in le
     let none = ap (λ (xs : List ℕ). length xs) (owner_batch s c.args.self.now c.self.view_is o ∙ c.requires.empty) in
     take_takes c.take-word.result p q r (kept_batch p.stage) (kept_batch r.stage) c.walk_all-self-inside.result.count o.number_is o.has_row.stage_is
     e.follows e.stands e.has_row.stage_is (omega (arith, none, e.has_row.row_is.count_is)) c.take-word.ensures.makes
+
+pub returns-clause-idle : goal.returns-clause-idle
+returns-clause-idle c = quiet_idle (Take ∷ []) 0 c.args.self.now _ (sym (ap (λ (v : Known). v.number) c.self.view_is)) (returns-clause-seen c) refl refl

@@ -1,6 +1,7 @@
-use Rattle.std.proofs.Common.{refl, ap, sym, ◌∙◌}
+use Rattle.std.proofs.Common.{[], refl, ap, sym, ◌∙◌}
 use Rattle.wq_table.specs.Chair.{Standing}
 use Rattle.wq_live.proofs.Sends.{meet_sends, meet_sees, meet_layout}
+use Rattle.wq_live.proofs.Resting.{complete_stays}
 use Rattle.wq_live.proofs.Meeting.{meet_executes, meet_owner_sees, meet_owner_layout}
 use Rattle.wq_live.proofs.sender.Sender.meet_both.Goals as goal
 
@@ -40,3 +41,6 @@ returns-clause-layout c = let e = c.meet_both.ensures in (
   meet_owner_layout c.self.inside c.owner.inside c.args.self.now c.args.owner.now e.machine e.this_fits e.third_fits c.self.view_is c.owner.view_is
       c.self.invariant c.owner.invariant,
 )
+
+pub returns-clause-last : goal.returns-clause-last
+returns-clause-last c = complete_stays [] 0 c.args.owner.now _ (returns-clause-owners c)

@@ -1,7 +1,8 @@
-use Rattle.std.proofs.Common.{refl, ap, sym, ◌∙◌}
+use Rattle.std.proofs.Common.{[], refl, ap, sym, ◌∙◌}
 use Rattle.wq_table.specs.Chair.{Standing}
 use Rattle.wq_live.specs.Known.{Known}
 use Rattle.wq_live.proofs.Sends.{meet_sends, meet_sees}
+use Rattle.wq_live.proofs.Resting.{complete_stays}
 use Rattle.wq_live.proofs.Meeting.{meet_executes, meet_owner_sees, meet_owner_layout, meet_low}
 use Rattle.wq_live.proofs.sender.Sender.meet_owner.Goals as goal
 
@@ -34,3 +35,6 @@ returns-clause-number c =
 
 pub returns-clause-seat : goal.returns-clause-seat
 returns-clause-seat c = sym (ap (λ (v : Known). v.number) c.owner.view_is)
+
+pub returns-clause-last : goal.returns-clause-last
+returns-clause-last c = complete_stays [] 0 c.args.owner.now _ (returns-clause-that c)

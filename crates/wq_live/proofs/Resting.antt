@@ -1,0 +1,55 @@
+-- What stays where a seat sees more.
+use Rattle.std.proofs.Common.{◌≡◌, ℕ, List, [], ◌∷◌, ◌++◌, ap, subst, ◌∙◌, cond, arith}
+use Rattle.wq_words.specs.declared.event.Event.{Event}
+use Rattle.wq_words.specs.declared.event.Event.TheVariants.{Hold, Busy, Push, Back}
+use Rattle.wq_words.specs.declared.event.Why.TheVariants as why
+use Rattle.wq_words.specs.declared.answer.Answer.{Answer}
+use Rattle.wq_words.specs.declared.answer.Answer.TheVariants.{Queued, Pending, Closed, Contended}
+use Rattle.std.proofs.lemmas.List.Elements.{filter_map-append}
+use Rattle.wq_words.specs.History.{accepted, accepted_by, begun, ended, IsRunning, is_close, IsClosed}
+use Rattle.std.specs.Prelude.{count_by}
+use Rattle.std.proofs.lemmas.List.Sums.{sum_by-append}
+use Rattle.wq_words.specs.Legal.{IsLegal, IsComplete}
+use Rattle.wq_words.specs.Seen.{owner_seat, own, Grows}
+use Rattle.wq_words.proofs.Running.{rests_from_running, running_from_rests}
+use Rattle.wq_live.specs.Known.{Known, Sees}
+use Rattle.wq_live.specs.Answers.{Answers}
+use Rattle.wq_live.specs.Laws.{queued_number, IsStillEnd}
+use Rattle.wq_live.proofs.Growing.{grows_own}
+use Rattle.wq_live.proofs.Owned.{running_quiet}
+use Rattle.wq_live.proofs.Final.{final}
+
+-- nothing runs where nothing ran before and the owner neither began nor ended
+pub quiet_idle : (xs : List Event) (n : ℕ) (old new : Known) → old.number ≡ owner_seat → Sees xs n old new → begun xs ≡ [] → ended xs ≡ []
+    → ¬ IsRunning old.seen → ¬ IsRunning new.seen
+quiet_idle xs n old new mine sees b e rests =
+    let g : Grows owner_seat xs n old.seen new.seen = subst (λ (d : ℕ). Grows d xs n old.seen new.seen) mine sees.grows in
+    rests_from_running new.seen (running_quiet xs n old.seen new.seen g b e ∙ running_from_rests old.seen rests)
+
+-- a closed queue stays closed
+pub closed_stays : (xs : List Event) (n : ℕ) (old new : Known) → Sees xs n old new → IsClosed old.seen → IsClosed new.seen
+closed_stays xs n old new sees shut =
+    let more = sum_by-append (λ e. cond (is_close e) 1 0) old.seen sees.grows.new in
+    omega (arith, shut, more, ap (λ (h : List Event). count_by is_close h) sees.grows.is)
+
+-- what has come to its end stays as it is
+pub complete_stays : (xs : List Event) (n : ℕ) (old new : Known) → Sees xs n old new → IsComplete old.seen → IsStillEnd old.seen new.seen
+complete_stays xs n old new sees complete =
+    let same = final new.layout old.seen complete sees.grows.new (subst (IsLegal new.layout) sees.grows.is sees.legal) in record {
+      accepted_is = ap accepted sees.grows.is ∙ same.0;
+      begun_is = ap begun sees.grows.is ∙ same.1;
+      ended_is = ap ended sees.grows.is ∙ same.2;
+    }
+
+accepted_on : (xs : List Event) (n : ℕ) (old new : Known) → Sees xs n old new
+    → accepted (own old.number new.seen) ≡ accepted (own old.number old.seen) ++ accepted xs
+accepted_on xs n old new sees =
+    ap accepted (grows_own old.number xs n old.seen new.seen sees.grows) ∙ filter_map-append accepted_by (own old.number old.seen) xs
+
+-- what a queueing adds to what was accepted of its sender
+pub queued_accepted : (k tries : ℕ) (a : Answer) (old new : Known) → Answers k tries a old new
+    → accepted (own old.number new.seen) ≡ accepted (own old.number old.seen) ++ queued_number k a
+queued_accepted k tries (Queued is_first) old new told = accepted_on (Hold old.number k ∷ Push old.number k ∷ []) 0 old new told.0
+queued_accepted k tries Pending old new told = accepted_on (Busy old.number k ∷ []) 0 old new told
+queued_accepted k tries Closed old new told = accepted_on (Hold old.number k ∷ Back old.number k why.Closed ∷ []) 0 old new told
+queued_accepted k tries Contended old new told = accepted_on (Hold old.number k ∷ Back old.number k why.Contended ∷ []) tries old new told

@@ -1,0 +1,17 @@
+-- What follows from what the calls of a queue say.
+use Rattle.std.specs.Prelude.{◌≡◌, ℕ, List, [], ◌∷◌}
+use Rattle.wq_words.specs.declared.event.Event.{Event}
+use Rattle.wq_words.specs.History.{accepted, begun, ended}
+use Rattle.wq_words.specs.declared.answer.Answer.{Answer}
+use Rattle.wq_words.specs.declared.answer.Answer.TheVariants.{Queued}
+
+-- the number, where its queueing was answered Queued
+abbrev pub queued_number : ℕ → Answer → List ℕ
+queued_number k (Queued is_first) = k ∷ []
+queued_number k _ = []
+
+-- what was seen first has accepted, begun and ended all that the later has
+pub record IsStillEnd (earlier later : List Event) : Type 0 where
+  pub accepted_is : accepted later ≡ accepted earlier
+  pub begun_is : begun later ≡ begun earlier
+  pub ended_is : ended later ≡ ended earlier
