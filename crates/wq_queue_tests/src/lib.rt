@@ -7,4 +7,6 @@ mod delay;
 #[cfg(test)]
 mod live;
 #[cfg(test)]
+mod own_threads;
+#[cfg(test)]
 mod worker;

@@ -1,0 +1,14 @@
+//! The example of a user's own threads.
+use std::test::Fail;
+use two_threads::run;
+use wq_words::Layout;
+
+/// All four queueings are accepted, and executed.
+#[test]
+fn runs_all_four(rt: HostRuntime) -> Result<(), Fail> {
+    let met = run(&rt, rt.alloc(), Layout::new(4, 1, 2)?)?;
+    assert_eq!(rt; met.owner.done().map(|done| done.ended), Some(4));
+    assert_eq!(rt; met.first.sender.counts().queued, 2);
+    assert_eq!(rt; met.second.sender.counts().queued, 2);
+    Ok(())
+}
