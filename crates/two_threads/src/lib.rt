@@ -2,6 +2,8 @@
 //! stands on public contracts alone.
 #![tactic(auto)]
 
+mod one_worker;
 mod threads;
 
+pub use one_worker::{Runs, queue_and_destroy};
 pub use threads::{Met, Told, queue_and_execute, run};

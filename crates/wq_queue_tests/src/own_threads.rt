@@ -1,6 +1,6 @@
-//! The example of a user's own threads.
+//! The examples of a user's own threads and of a worker.
 use std::test::Fail;
-use two_threads::run;
+use two_threads::{queue_and_destroy, run};
 use wq_words::Layout;
 
 /// All four queueings are accepted, and executed.
@@ -10,5 +10,13 @@ fn runs_all_four(rt: HostRuntime) -> Result<(), Fail> {
     assert_eq!(rt; met.owner.done().map(|done| done.ended), Some(4));
     assert_eq!(rt; met.first.sender.counts().queued, 2);
     assert_eq!(rt; met.second.sender.counts().queued, 2);
+    Ok(())
+}
+
+/// The worker runs to the end within its limit.
+#[test]
+fn worker_ends(rt: HostRuntime) -> Result<(), Fail> {
+    let left = queue_and_destroy(rt.alloc(), Layout::new(2, 1, 2)?)?;
+    assert!(rt; left.is_some());
     Ok(())
 }

@@ -15,7 +15,7 @@ pub struct Idle {
 
 impl Idle {
     pub fn new() -> Idle
-        ensures { result.ran.items ≡ [] }
+        ensures none { result.ran.items ≡ [] }
     {
         Idle {
             ran: Trail::new(),
@@ -25,7 +25,7 @@ impl Idle {
 
     /// How many items it ran. The count stops at `2^64 - 1`.
     pub fn count(&self) -> u64
-        ensures { result ≡ capped (length self.now.ran.items) }
+        ensures ran { result ≡ capped (length self.now.ran.items) }
     {
         self.count
     }

@@ -129,7 +129,7 @@ impl Outcome {
     /// One line: `accepted A ran R balanced yes`, or `balanced no`.
     #[tactic(auto, unfolding(crate::specs::Outcome::outcome_line))]
     pub fn write(self, out: &mut String) -> Result<(), AllocError>
-        ensures { OnOk result (string_bytes out.new ≡ string_bytes out.old ++ outcome_line self) }
+        ensures line { OnOk result (string_bytes out.new ≡ string_bytes out.old ++ outcome_line self) }
     {
         let balanced = yes_or_no(self.is_balanced);
         writeln!(
@@ -142,7 +142,7 @@ impl Outcome {
     /// Destroys the queue of a team that has run its race, and balances the book.
     pub fn of<R: Wait>(rt: &R, alloc: Global, team: Team) -> Result<Outcome, AllocError>
         requires run { (plan : Plan) × HasRun plan team }
-        ensures { (plan : Plan) → HasRun plan team → IfOk result (λ outcome. IsWhole plan outcome × Tells plan team.worker outcome) }
+        ensures told { (plan : Plan) → HasRun plan team → IfOk result (λ outcome. IsWhole plan outcome × Tells plan team.worker outcome) }
     {
         let Team {
             mut worker,

@@ -16,7 +16,7 @@ pub struct Plan {
 impl Plan {
     /// A queue with the senders' own items, one barrier, and two senders more: the worker's and the program's.
     pub fn layout(self) -> Layout
-        ensures { IsLayoutOf self.senders self.own result }
+        ensures size { IsLayoutOf self.senders self.own result }
     {
         match Layout::new(self.senders * self.own, 1, self.senders + 2) {
             Ok(layout) => layout,

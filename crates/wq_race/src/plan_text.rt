@@ -100,7 +100,7 @@ fn plan_of(value: &Value) -> Option<Plan>
 
 /// The plan that a text spells, or its first refusal.
 pub fn read_plan(alloc: Global, text: &[u8]) -> Result<Plan, PlanError>
-    ensures { MatchResult result (SpellsPlan text.now) (IsNoPlan text.now) }
+    ensures exact { MatchResult result (SpellsPlan text.now) (IsNoPlan text.now) }
 {
     if text.len() > MOST_BYTES {
         return Err(PlanError::Size);

@@ -33,7 +33,7 @@ fn take_last(senders: &mut Vec<Sender>) -> Sender
 impl Team {
     /// The seats of a new queue: the plan's senders by number, then the worker's and the program's.
     pub fn new(alloc: Global, plan: Plan) -> Result<Team, BuildError>
-        ensures { IfOk result (IsNewTeam plan) }
+        ensures made { IfOk result (IsNewTeam plan) }
     {
         let (owner, mut senders) = build(alloc, plan.layout())?;
         let program = take_last(&mut senders);

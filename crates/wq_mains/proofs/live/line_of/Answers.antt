@@ -6,8 +6,8 @@ pub returns-clause-line : goal.returns-clause-line
 returns-clause-line g c =
     let o = c.in_ok-outcome.outcome in record {
       plan = c.in_ok-plan.plan;
-      spells = c.in_ok-plan.ensures;
+      spells = c.in_ok-plan.ensures.exact;
       outcome = o;
       whole = c.in_ok-outcome.ensures.whole;
-      line_is = c.in_ok-write.ensures ∙ ap (λ (old : List ℕ). old ++ outcome_line o) c.new-line.ensures.bytes;
+      line_is = c.in_ok-write.ensures.line ∙ ap (λ (old : List ℕ). old ++ outcome_line o) c.new-line.ensures.bytes;
     }
