@@ -1,40 +1,39 @@
 #!/usr/bin/env bash
-# Runs the tests named refused_memory* of the crates that are named (of all that have one, without names) with their first
-# allocation refused, then their second, and so on until eight runs after one another had none to refuse. Each refusal must
-# end in want of memory, or the test must pass: a row that was refused more room than it wants goes on with what it wants.
+# Refuses each allocation of each call that takes memory, one at a time, and compares what came of it with refused_memory.report.
+# A case of wq_refused makes one call in such a way that its Nth allocation is the program's hundredth, and tells whether that one
+# was refused in the call. So one build serves all cases: for each call those up to a few after its last allocation.
+# With the word --all the report is made anew, from 60 cases for each call.
 set -euo pipefail
-cd "$(dirname "${BASH_SOURCE[0]}")/.."
-crates=("$@")
-if [ ${#crates[@]} -eq 0 ]; then
-    mapfile -t crates < <(grep -rl 'fn refused_memory' crates/*/src | cut -d/ -f2 | sort -u)
-fi
-for crate in "${crates[@]}"; do
-    wanting=0
-    passed=0
-    for refused in $(seq 1 400); do
-        said=$(cd "crates/$crate" && rt try --test --fail-alloc "$refused" 2>&1 || true)
-        # Of each such test: its verdict, and where it failed the line after it, which tells the error.
-        verdicts=$(awk '/^test .*refused_memory/ {print; told = /FAILED$/; next} told {print; told = 0}' <<<"$said")
-        if [ -z "$verdicts" ]; then
-            echo "$crate: no answer with allocation $refused refused"
-            exit 1
-        fi
-        failed=$(grep -c 'FAILED$' <<<"$verdicts" || true)
-        named=$(grep -c -E '^ *error: .*(Memory|NoRoom|AllocError)' <<<"$verdicts" || true)
-        if [ "$failed" != "$named" ]; then
-            echo "$crate: another answer than want of memory with allocation $refused refused"
-            echo "$verdicts"
-            exit 1
-        fi
-        if [ "$failed" != 0 ]; then
-            wanting=$((wanting + 1))
-            passed=0
-            continue
-        fi
-        passed=$((passed + 1))
-        if [ "$passed" = 8 ]; then
-            echo "$crate: of the first $((refused - 8)) allocations $wanting were answered by want of memory, and the others passed over"
-            break
-        fi
+cd "$(dirname "${BASH_SOURCE[0]}")"
+report=$PWD/refused_memory.report
+folder=$(mktemp -d)
+trap 'rm -rf "$folder"' EXIT
+mkdir "$folder/cases"
+while read -r call _ count _; do
+    if [ "${1:-}" = --all ]; then count=56; fi
+    for place in $(seq 1 $((count + 4))); do
+        echo "$call $place" >"$folder/cases/$call.$place"
     done
-done
+done <"$report"
+(cd ../crates/wq_refused && rt try --cases "$folder/cases" --fail-alloc 100) >"$folder/said" 2>&1 || true
+
+# For each call how many of its allocations were refused, and what it then answered: `again` is want of memory and then the right
+# answer, by what was left or came back; `right` that a row which was refused more room than it wants went on.
+awk -F': |, ' '
+    / refused (in|before|after) it$/ {
+        split($1, name, " ")
+        said[name[1]]++
+        if ($3 == "refused in it") { refused[name[1]]++; of[name[1] ": " $2]++ }
+        if ($3 == "refused after it") { after[name[1]]++; if ($2 != "right") print "without a refusal:", $0 }
+    }
+    / fault=/ && !/ fault=0 differs=0 no-answer=0 / { print }
+    END {
+        for (call in said) {
+            if (!after[call]) print call, "has more allocations than were refused"
+            print call, "refused", refused[call] + 0, "memory", of[call ": memory"] + 0, "again", of[call ": memory and again"] + 0, "right", of[call ": right"] + 0, "wrong", of[call ": wrong"] + 0
+        }
+    }' "$folder/said" | sort >"$folder/report"
+cat "$folder/report"
+if [ "${1:-}" = --all ]; then cp "$folder/report" "$report"; exit; fi
+diff "$report" "$folder/report"
+echo "as stored in checks/refused_memory.report"
