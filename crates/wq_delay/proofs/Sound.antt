@@ -31,7 +31,7 @@ on_err (Ok x) P is on = absurd (cc)
 on_err (Err e) P is on = on
 
 abbrev pub state : Known → ℕ → ℕ → List Entry → DelayState
-state p now next t = record { sender = p; table = record { entries = t; tick = now; next = next } }
+state p now next t = record { sender = p; table = record { entries = t; tick = now; next = next }; looked = 0 }
 
 -- a table of so many places over the layout's items
 abbrev pub IsSound : ℕ → DelayState → Type 0

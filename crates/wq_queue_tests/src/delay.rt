@@ -2,3 +2,4 @@
 mod memory;
 mod rows;
 mod seats;
+mod wheel;

@@ -102,7 +102,7 @@ fn execute(owner: &mut Owner) -> Said {
 }
 
 /// A call of the owner.
-fn call_owner(owner: &mut Owner, call: Call) -> Said {
+pub fn call_owner(owner: &mut Owner, call: Call) -> Said {
     match call {
         Call::Close => close(owner),
         Call::Take => take(owner),
