@@ -1,7 +1,7 @@
 -- What was gathered, once it is sorted, is the due part of the table.
-use Rattle.std.proofs.Common.{◌≡◌, ◌≢◌, ℕ, suc, ◌+◌, ◌<◌, ◌≤◌, ◌==◌, Bool, true, false, cond, not, ◌||◌, ◌&&◌, Option, Some, None, is_some, List, [], ◌∷◌, map, length, get_or, refl, sym, ap, ◌∙◌, subst, arith}
-use Rattle.std.specs.Prelude.{nat_lt, nat_le, filter}
-use Rattle.std.specs.List.{All, AllByRecursion, list_any, sum_by}
+use Rattle.std.proofs.Common.{◌≡◌, ◌≢◌, ℕ, suc, ◌+◌, ◌≤◌, ◌==◌, Bool, true, false, cond, ◌||◌, Option, Some, None, List, [], ◌∷◌, map, get_or, refl, sym, ap, ◌∙◌, subst, arith}
+use Rattle.std.specs.Prelude.{nat_lt, nat_le}
+use Rattle.std.specs.List.{All, AllByRecursion, sum_by}
 use Rattle.std.specs.List.Sorted.{IsPermutation, IsSortedBy}
 use Rattle.std.specs.declared.cmp.Ordering.{Ordering}
 use Rattle.std.specs.declared.cmp.Ordering.TheVariants.{Less, Equal, Greater}
@@ -14,7 +14,7 @@ use Rattle.std.proofs.lemmas.Bool.Decides.{nat_tests}
 use Rattle.wq_words.specs.DelayTable.{Entry, on_table, due_part, IsBefore, IsOrdered}
 use Rattle.wq_words.proofs.DelayTable.{all-more}
 use Rattle.wq_delay.specs.Rows.{entry_of, place_of, place_in, entries_of, AreApart, times, is_due, AreOnTable}
-use Rattle.wq_delay.proofs.Spelled.{some_same, place_off, place_first, place_behind, entries_rows, same_entries}
+use Rattle.wq_delay.proofs.Spelled.{place_off, entries_rows, same_entries}
 
 abbrev pub row_cmp : (ℕ × ℕ) × ℕ → (ℕ × ℕ) × ℕ → Ordering
 row_cmp x y = ordering_then (ordering_then (nat_cmp x.0.0 y.0.0) (nat_cmp x.0.1 y.0.1)) (nat_cmp x.1 y.1)
@@ -69,9 +69,11 @@ by_tests false false r s u v is = (refl, λ e. absurd (cc))
 not_after : (x y : (ℕ × ℕ) × ℕ) → is_lt (row_cmp y x) ≡ false → (x.0.0 ≤ y.0.0) × (x.0.0 ≡ y.0.0 → x.0.1 ≤ y.0.1)
 not_after x y is =
     let t = by_tests (nat_lt y.0.0 x.0.0) (y.0.0 == x.0.0) (nat_lt y.0.1 x.0.1) (y.0.1 == x.0.1) (nat_lt y.1 x.1) (y.1 == x.1) is in
-    let a : nat_lt y.0.0 x.0.0 ≡ false = t.0 in
-    (grind (arith, nat_tests), λ same. let e : (y.0.0 == x.0.0) ≡ true = grind (arith, nat_tests) in
-    let b : nat_lt y.0.1 x.0.1 ≡ false = t.1 e in grind (arith, nat_tests))
+    let a : nat_lt y.0.0 x.0.0 ≡ false = t.0 in (
+      grind (arith, nat_tests),
+      λ same. let e : (y.0.0 == x.0.0) ≡ true = grind (arith, nat_tests) in
+          let b : nat_lt y.0.1 x.0.1 ≡ false = t.1 e in grind (arith, nat_tests),
+    )
 
 sorted_tail : (x : (ℕ × ℕ) × ℕ) (xs : List ((ℕ × ℕ) × ℕ)) → AreSorted (x ∷ xs) → AreSorted xs
 sorted_tail x xs sorted k d low up =
@@ -95,9 +97,17 @@ sorted_ordered places (x ∷ y ∷ ys) apart on sorted =
     let other : x.0.1 ≢ y.0.1 = λ same. let k : x.1 ≡ y.1 = apart x.1 y.1 (x.0.0, x.0.1) (y.0.0, y.0.1) here there same in
     let a = on.single x.1 in let b = times_first (entry_of x) es in
     let c = times_first (entry_of y) (map entry_of ys) in let d = ap (λ (z : ℕ). times z es) k in omega arith in
-    let first : IsBefore (entry_of x) (entry_of y) = (order.0, λ same. let o = order.1 same in omega arith) in
-    ((first, all-more (IsBefore (entry_of y)) (IsBefore (entry_of x)) (λ g b. (omega (arith, b.0, first.0),
-    λ s. let u = first.1 (omega (arith, b.0, first.0)) in let v = b.1 (omega (arith, b.0, first.0)) in omega arith)) (map entry_of ys) rest.0), off, rest)
+    let first : IsBefore (entry_of x) (entry_of y) = (order.0, λ same. let o = order.1 same in omega arith) in (
+      (
+        first,
+        all-more (IsBefore (entry_of y)) (IsBefore (entry_of x)) (λ g b. (
+          omega (arith, b.0, first.0),
+          λ s. let u = first.1 (omega (arith, b.0, first.0)) in let v = b.1 (omega (arith, b.0, first.0)) in omega arith,
+        )) (map entry_of ys) rest.0,
+      ),
+      off,
+      rest,
+    )
 
 -- what is due of a place
 abbrev pub due_only : ℕ → Option (ℕ × ℕ) → Option (ℕ × ℕ)

@@ -1,5 +1,5 @@
 -- What goes off the table an item at a time.
-use Rattle.std.proofs.Common.{◌≡◌, ℕ, ◌+◌, ◌==◌, Bool, true, false, cond, not, ◌||◌, List, [], ◌∷◌, ◌++◌, map, length, refl, sym, ap, ◌∙◌, subst, arith, append_assoc, length-append}
+use Rattle.std.proofs.Common.{◌≡◌, ◌≢◌, ℕ, ◌+◌, ◌<◌, ◌≤◌, ◌==◌, Bool, true, false, cond, not, ◌||◌, ◌&&◌, List, [], ◌∷◌, ◌++◌, map, length, refl, sym, ap, ◌∙◌, subst, arith, append_assoc, length-append}
 use Rattle.std.proofs.lemmas.List.{append-nil}
 use Rattle.std.proofs.lemmas.List.Elements.{filter-append}
 use Rattle.wq_words.specs.declared.event.Event.{Event}
@@ -15,7 +15,8 @@ use Rattle.std.specs.List.Sorted.{IsPermutation}
 use Rattle.std.proofs.lemmas.List.Sorted.{IsPermutation-refl, IsPermutation-trans, IsPermutation-cons, IsPermutation-middle, IsPermutation-append_right}
 use Rattle.std.proofs.lemmas.Bool.{eqb-true}
 use Rattle.wq_delay.specs.Delay.{GivesBack}
-use Rattle.wq_words.proofs.DelayTable.{first_on, without_off}
+use Rattle.wq_words.proofs.DelayTable.{first_on, without_off, on_table-without}
+use Rattle.std.proofs.lemmas.Bool.Decides.{nat_tests}
 use Rattle.wq_delay.proofs.Sound.{state, IsSound, sound_keeps, sound_leaves, even_back, stops_back}
 
 grows_on : (c : ℕ) (xs ys : List Event) (n m : ℕ) (u v w : List Event) → Grows c xs n u v → Grows c ys m v w → Grows c (xs ++ ys) (n + m) u w
@@ -135,3 +136,26 @@ given_all size a b old t now next looked given off = record {
   same = subst (IsPermutation old) (ap (λ (z : List Entry). given.gone ++ z) (nothing_on t off) ∙ append-nil given.gone) given.split;
   seen = given.seen;
 }
+
+-- which items are left
+pub on_less : (j k : ℕ) (es fs : List Entry) → fs ≡ without k es → on_table j fs ≡ true → on_table j es ≡ true
+on_less j k es fs is on = by (j == k) (on_table j es) (sym (ap (on_table j) is ∙ on_table-without j k es) ∙ on)
+  where
+    by : (b c : Bool) → (not b && c) ≡ true → c ≡ true
+    by true c is = absurd (cc)
+    by false c is = is
+
+pub off_more : (j k : ℕ) (es fs : List Entry) → fs ≡ without k es → (j < k → on_table j es ≡ false) → j < k + 1 → on_table j fs ≡ false
+off_more j k es fs is off low = ap (on_table j) is ∙ (on_table-without j k es ∙ by (j == k) refl)
+  where
+    by : (b : Bool) → (j == k) ≡ b → (not b && on_table j es) ≡ false
+    by true same = refl
+    by false other = let ne : j ≢ k = grind (arith, nat_tests) in off (omega arith)
+
+pub all_off : (es : List Entry) (n m : ℕ) → ((k : ℕ) → on_table k es ≡ true → k < n) → n ≤ m → ((k : ℕ) → k < m → on_table k es ≡ false)
+    → (k : ℕ) → on_table k es ≡ false
+all_off es n m low all off k = by (on_table k es) refl
+  where
+    by : (b : Bool) → on_table k es ≡ b → on_table k es ≡ false
+    by false is = is
+    by true on = let l = low k on in off k (omega arith)

@@ -1,6 +1,6 @@
 -- A timetable that is led on: from what stood in the row to what stands there once the slots were looked at.
-use Rattle.std.proofs.Common.{◌≡◌, ◌≢◌, ℕ, ◌+◌, ◌<◌, ◌≤◌, ◌==◌, Bool, true, false, cond, not, ◌||◌, ◌&&◌, Option, Some, None, is_some, List, [], ◌∷◌, ◌++◌, map, length, refl, sym, ap, ◌∙◌, subst, arith}
-use Rattle.std.specs.Prelude.{nat_lt, nat_le, filter}
+use Rattle.std.proofs.Common.{◌≡◌, ℕ, ◌+◌, ◌<◌, ◌≤◌, ◌==◌, Bool, true, false, cond, ◌||◌, ◌&&◌, Option, Some, None, is_some, List, [], ◌∷◌, map, length, refl, sym, ap, ◌∙◌, subst, arith}
+use Rattle.std.specs.Prelude.{nat_le, filter}
 use Rattle.std.specs.List.{All}
 use Rattle.std.specs.List.Sorted.{IsPermutation}
 use Rattle.std.proofs.lemmas.List.Elements.{All-nil, All-cons, All-head, All-tail, All-map, All-weaker, All-filter}
@@ -8,9 +8,9 @@ use Rattle.std.proofs.lemmas.List.Sorted.{All-permutation, IsPermutation-map}
 use Rattle.std.proofs.lemmas.Bool.{eqb-true}
 use Rattle.std.proofs.lemmas.Bool.Decides.{nat_tests}
 use Rattle.wq_words.specs.DelayTable.{Entry, on_table, due_part, IsOrdered}
-use Rattle.wq_delay.specs.Rows.{entry_of, place_of, place_in, entries_of, IsWheel, times, waiting, later_than, is_place, stands, is_due, AreOnTable, IsGathering, IsTimetable}
+use Rattle.wq_delay.specs.Rows.{entry_of, place_in, entries_of, IsWheel, times, waiting, later_than, is_place, stands, is_due, AreOnTable, IsGathering, IsTimetable}
 use Rattle.wq_delay.proofs.Table.{place_some}
-use Rattle.wq_delay.proofs.Spelled.{some_same, entries_rows}
+use Rattle.wq_delay.proofs.Spelled.{entries_rows}
 use Rattle.wq_delay.proofs.Standing.{later_same}
 use Rattle.wq_delay.proofs.Looking.{times_off}
 use Rattle.wq_delay.proofs.Fitting.{place_low}

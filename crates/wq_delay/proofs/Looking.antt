@@ -1,17 +1,16 @@
 -- A slot is looked at place by place, and what is due is moved to the row.
-use Rattle.std.proofs.Common.{◌≡◌, ◌≢◌, ℕ, ◌+◌, ◌-◌, ◌*◌, ◌/◌, ◌%◌, ◌<◌, ◌≤◌, ◌==◌, Bool, true, false, cond, not, ◌||◌, Option, Some, None, List, [], ◌∷◌, ◌++◌, map, length, get_or, set, refl, sym, ap, ◌∙◌, subst, arith, zero, suc, mod-lt}
+use Rattle.std.proofs.Common.{◌≡◌, ◌≢◌, ℕ, ◌+◌, ◌-◌, ◌*◌, ◌/◌, ◌%◌, ◌<◌, ◌≤◌, ◌==◌, Bool, true, false, cond, ◌||◌, Option, Some, None, List, [], ◌∷◌, ◌++◌, length, set, refl, sym, ap, ◌∙◌, subst, arith, zero, suc, mod-lt}
 use Rattle.std.specs.Prelude.{nat_lt, nat_le, slice_index, min}
 use Rattle.std.specs.List.{All}
 use Rattle.std.proofs.Math.Nat.{mod-le, mod-add-div', add-mul-mod_self_right}
 use Rattle.std.proofs.lemmas.List.Elements.{All-push}
-use Rattle.std.proofs.lemmas.Bool.{eqb-true}
 use Rattle.std.proofs.lemmas.Bool.Decides.{nat_tests}
 use Rattle.wq_words.specs.DelayTable.{Entry, on_table}
 use Rattle.wq_words.proofs.DelayTable.{first_false, second_false}
 use Rattle.wq_delay.specs.Rings.{AreRings}
-use Rattle.wq_delay.specs.Rows.{place_in, head_by, number_by, IsWheel, times, waiting, IsGathering, StillWaits, IsClean}
-use Rattle.wq_delay.proofs.Rounds.{at_or, next_other}
-use Rattle.wq_delay.proofs.Wheel.{slot_low, wheel_without}
+use Rattle.wq_delay.specs.Rows.{place_in, head_by, number_by, times, waiting, IsGathering, StillWaits, IsClean}
+use Rattle.wq_delay.proofs.Rounds.{at_or}
+use Rattle.wq_delay.proofs.Wheel.{wheel_without}
 use Rattle.wq_delay.proofs.Spelled.{some_same}
 
 -- an entry more at the end of the row

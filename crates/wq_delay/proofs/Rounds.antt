@@ -94,7 +94,7 @@ module _ (n p h a : ℕ → ℕ) (m k t l : ℕ) (r : AreRings n p h a m) (k_low
       (λ nl z nk is. let at = sym (h_o x nk) ∙ (is ∙ h_k) in (
         λ s. not_t x z nl (sym (n_o x nk nl) ∙ (s ∙ (h_o x nk ∙ at))),
         let e = ap a' (n_o x nk nl) in let f = a_o (n x) (not_k x z nk) in
-        let g = top (n x) (r.next_low x z) (r.stays x z ∙ at) in omega arith,
+            let g = top (n x) (r.next_low x z) (r.stays x z ∙ at) in omega arith,
       )) low ne same
 
   below_old : (x y : ℕ) → x < m → y < m → x ≢ k → y ≢ k → h' x ≡ h' y → a' x < a' y → (n' x ≢ h' x) × (a' (n' x) ≤ a' y)

@@ -1,7 +1,6 @@
 -- What stands first, and how much stands on a table.
-use Rattle.std.proofs.Common.{◌≡◌, ℕ, zero, suc, ◌+◌, ◌<◌, ◌≤◌, Bool, true, false, cond, Option, List, [], ◌∷◌, ◌++◌, map, length, get_or, take, refl, sym, ap, ◌∙◌, subst, arith}
+use Rattle.std.proofs.Common.{◌≡◌, ℕ, zero, suc, ◌<◌, ◌≤◌, Bool, true, false, cond, Option, List, [], ◌∷◌, ◌++◌, map, length, get_or, take, refl, sym, ap, ◌∙◌, arith}
 use Rattle.std.specs.Prelude.{filter}
-use Rattle.std.specs.List.{All}
 use Rattle.wq_words.specs.DelayTable.{Entry, due_part, later_part}
 use Rattle.wq_words.proofs.DelayTable.{due_then_later}
 use Rattle.wq_delay.specs.Rows.{entry_of, entries_of, AreApart, IsFirstDue, stands, IsTimetable}

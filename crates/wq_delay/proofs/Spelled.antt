@@ -1,5 +1,5 @@
 -- The table that a list of places spells.
-use Rattle.std.proofs.Common.{◌≡◌, ◌≢◌, ℕ, zero, suc, ◌+◌, ◌-◌, ◌<◌, ◌≤◌, ◌==◌, Bool, true, false, cond, not, ◌||◌, ◌&&◌, Option, Some, None, is_some, List, [], ◌∷◌, get_or, refl, sym, ap, ◌∙◌, subst, arith}
+use Rattle.std.proofs.Common.{◌≡◌, ◌≢◌, ℕ, zero, suc, ◌+◌, ◌-◌, ◌<◌, ◌==◌, Bool, true, false, cond, Option, Some, None, is_some, List, [], ◌∷◌, refl, sym, ap, ◌∙◌, subst, arith}
 use Rattle.std.specs.Prelude.{nat_lt}
 use Rattle.std.specs.List.{AllByRecursion}
 use Rattle.std.proofs.lemmas.Bool.{eqb-true}
@@ -142,9 +142,17 @@ ordered_slotted e (f ∷ fs) ordered off apart = by (goes_before e f) refl (orde
 
     by : (b : Bool) → goes_before e f ≡ b → IsOrdered (slotted e fs) → IsOrdered (cond b (e ∷ f ∷ fs) (f ∷ slotted e fs))
     by true is rest =
-        let low = before is in
-        ((low, all-more (IsBefore f) (IsBefore e) (λ g b. (omega (arith, b.0, low.0),
-        λ s. let x = low.1 (omega (arith, b.0, low.0)) in let y = b.1 (omega (arith, b.0, low.0)) in omega arith)) fs ordered.0), off, ordered)
+        let low = before is in (
+          (
+            low,
+            all-more (IsBefore f) (IsBefore e) (λ g b. (
+              omega (arith, b.0, low.0),
+              λ s. let x = low.1 (omega (arith, b.0, low.0)) in let y = b.1 (omega (arith, b.0, low.0)) in omega arith,
+            )) fs ordered.0,
+          ),
+          off,
+          ordered,
+        )
     by false is rest = (all_slotted (IsBefore f) e fs (after is) ordered.0, away, rest)
 
 -- the entries of a list of places

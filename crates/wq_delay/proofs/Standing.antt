@@ -1,14 +1,14 @@
 -- A timetable after an item was put on it, and after one was taken off.
-use Rattle.std.proofs.Common.{◌≡◌, ◌≢◌, ℕ, ◌+◌, ◌%◌, ◌<◌, ◌≤◌, ◌==◌, Bool, true, false, cond, not, ◌||◌, ◌&&◌, Option, Some, None, is_some, List, [], ◌∷◌, map, length, get_or, set, take, refl, sym, ap, ◌∙◌, subst, arith, get_or-set_same, get_or-set_other}
+use Rattle.std.proofs.Common.{◌≡◌, ◌≢◌, ℕ, ◌+◌, ◌%◌, ◌<◌, ◌≤◌, ◌==◌, Bool, true, false, cond, not, ◌||◌, Option, Some, None, is_some, List, [], ◌∷◌, map, length, set, take, refl, sym, ap, ◌∙◌, subst, arith, get_or-set_same, get_or-set_other}
 use Rattle.std.specs.Prelude.{nat_lt, nat_le, filter, slice_index}
-use Rattle.std.specs.List.{All, AllByRecursion}
-use Rattle.std.proofs.lemmas.List.{length-set, get_or_past}
+use Rattle.std.specs.List.{All}
+use Rattle.std.proofs.lemmas.List.{length-set}
 use Rattle.std.proofs.lemmas.List.Elements.{All-head, All-tail, All-take, All-weaker}
 use Rattle.std.proofs.lemmas.Bool.{eqb-true}
 use Rattle.std.proofs.lemmas.Bool.Decides.{nat_tests}
 use Rattle.wq_words.specs.DelayTable.{Entry, on_table, due_part, placed, without, IsOrdered, AreArmedBefore}
 use Rattle.wq_words.proofs.DelayTable.{without_off}
-use Rattle.wq_delay.specs.Rows.{entry_of, place_of, place_in, AreRows, entries_of, AreApart, IsWheel, later_than, is_place, stands, IsTimetable}
+use Rattle.wq_delay.specs.Rows.{entry_of, place_in, AreRows, entries_of, AreApart, IsWheel, later_than, is_place, stands, IsTimetable}
 use Rattle.wq_delay.proofs.Rounds.{at_or}
 use Rattle.wq_delay.proofs.Wheel.{wheel_behind, wheel_without}
 use Rattle.wq_delay.proofs.Rows.{below_place, rows_placed, rows_without, known_on}

@@ -1,10 +1,10 @@
 -- A new timetable.
-use Rattle.std.proofs.Common.{◌≡◌, ℕ, zero, suc, ◌+◌, ◌<◌, ◌≤◌, Option, Some, None, List, [], ◌∷◌, length, get_or, replicate, refl, sym, ap, ◌∙◌, subst, arith}
-use Rattle.std.specs.List.{All, range_with_len}
+use Rattle.std.proofs.Common.{◌≡◌, ℕ, zero, suc, ◌+◌, ◌≤◌, Option, None, List, [], length, get_or, replicate, refl, sym, ap, ◌∙◌, arith}
+use Rattle.std.specs.List.{range_with_len}
 use Rattle.std.proofs.lemmas.List.Elements.{All-nil}
 use Rattle.std.proofs.lemmas.List.FromFn.{length-range_with_len, get_or-range_with_len}
 use Rattle.wq_words.specs.DelayTable.{Entry, due_part}
-use Rattle.wq_delay.specs.Rows.{place_in, AreApart, AreRows, entries_of, IsWheel, IsTimetable, head_by, number_by, later_than}
+use Rattle.wq_delay.specs.Rows.{place_in, AreApart, AreRows, entries_of, IsTimetable, head_by, later_than}
 use Rattle.wq_delay.proofs.Rounds.{rings_alone}
 use Rattle.wq_delay.proofs.Spelled.{entries_is}
 

@@ -1,10 +1,9 @@
 -- A wheel after an item was put behind the last of a slot, and after one was taken out.
-use Rattle.std.proofs.Common.{◌≡◌, ◌≢◌, ℕ, ◌+◌, ◌%◌, ◌<◌, ◌≤◌, Option, Some, None, List, length, set, get_or, refl, sym, ap, ◌∙◌, subst, arith, mod-lt, get_or-set_same, get_or-set_other}
+use Rattle.std.proofs.Common.{◌≡◌, ◌≢◌, ℕ, ◌+◌, ◌%◌, ◌<◌, ◌≤◌, Option, Some, None, List, length, set, get_or, refl, sym, ap, ◌∙◌, arith, mod-lt, get_or-set_same, get_or-set_other}
 use Rattle.std.proofs.lemmas.List.{length-set}
 use Rattle.std.specs.Prelude.{slice_index}
-use Rattle.wq_delay.specs.Rings.{AreRings}
 use Rattle.wq_delay.specs.Rows.{head_by, number_by, IsWheel}
-use Rattle.wq_delay.proofs.Rounds.{at_or, last_other, next_other, previous_other, rings_behind, rings_without}
+use Rattle.wq_delay.proofs.Rounds.{last_other, next_other, previous_other, rings_behind, rings_without}
 
 -- two writes into a row
 first_write : (xs : List ℕ) (i j x y : ℕ) → i < length xs → i ≢ j → get_or (set (set xs i x) j y) i 0 ≡ x

@@ -4,7 +4,8 @@ ghost use Rattle.wq_words.specs.declared.answer.Armed.TheVariants as armed;
 ghost use Rattle.wq_words.specs.declared.answer.Modified.TheVariants as modified;
 ghost use Rattle.wq_words.specs.History.{Holds};
 ghost use Rattle.wq_live.specs.Known.{Sees};
-ghost use Rattle.wq_words.specs.DelayTable.{items, on_table, due_part, is_too_far};
+ghost use Rattle.wq_words.specs.DelayTable.{items, on_table, due_part, is_too_far, IsOrdered};
+ghost use Rattle.wq_delay.specs.Rows.{IsFirstDue};
 ghost use Rattle.wq_delay.specs.Delay.{IsFit, KeepsTable, Arms, Cancels, Modifies, PostsOne, PostsDue, Advances, Looks, GivesBack};
 
 use crate::answer::{Advance, Backwards, NoRoom, armed_of, modified_of, modified_of_posted};
@@ -175,6 +176,16 @@ impl Delay {
         }
     }
 
+    // The first item on the table, where it is due at the present tick.
+    fn first_due(&mut self) -> Option<u32>
+        ensures same { self.new ≡ self.old }
+        ensures ordered { IsOrdered self.old.table.entries }
+        ensures first { MatchOption result (due_part self.old.table.tick self.old.table.entries ≡ []) (λ k. IsFirstDue self.old.table.tick k self.old.table.entries) }
+        ensures low { IfSome result (λ k. k < self.old.sender.layout.items) }
+    {
+        self.table.first_due()
+    }
+
     // Posts the items that are due at the present tick, in order, until a post is contended. How many were queued, and how
     // many given back.
     fn post_due(&mut self, tries: u32) -> (u32, u32)
@@ -185,9 +196,10 @@ impl Delay {
         ensures posts { PostsDue self.old.table.tick tries self.old self.new result.0 result.1 }
         ensures looked { self.new.looked ≡ self.old.looked }
     {
+        let _ = &self.sender;
         let mut pushed = 0;
         let mut refused = 0;
-        while let Some(item) = self.table.first_due() {
+        while let Some(item) = self.first_due() {
             match self.post_item(item, tries) {
                 Posted::Queued { .. } => pushed += 1,
                 Posted::Closed => refused += 1,

@@ -54,6 +54,7 @@ impl Plain {
 }
 
 /// A row of numbers that looks random (xorshift).
+#[derive(Drop)]
 struct Dice {
     state: u64,
 }

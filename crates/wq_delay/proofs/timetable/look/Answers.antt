@@ -1,4 +1,4 @@
-use Rattle.std.proofs.Common.{◌≡◌, ℕ, ◌+◌, ◌<◌, ◌≤◌, length, map, sym, subst, ◌∙◌, arith}
+use Rattle.std.proofs.Common.{◌≡◌, ℕ, ◌<◌, map, sym, subst, arith}
 use Rattle.std.specs.Prelude.{slice_index}
 use Rattle.std.specs.Vec.{vec_capacity, vec_len}
 use Rattle.std.proofs.lemmas.List.{get_or_read}
@@ -32,9 +32,11 @@ loop-item-preserved-else-place-now c =
     let next = c.loop-item.rings.next.items in let previous = c.loop-item.rings.previous.items in let ne = c.loop-item-test.true in
     let start = map entry_of c.args.row.now.items in let row = map entry_of c.loop-item.row.items in
     let step : c.index-after.result.now ≡ slice_index next x =
-    get_or_read next x c.index-after.result.now (omega (arith, l.low, l.gathering.wheel.next_length)) c.index-after.ensures 0 in
-    (subst (λ (z : ℕ). Looking places next previous start row c.args.head c.args.now z) (sym step)
-    (looking_pass places next previous start row c.args.head c.args.now c.requires.head.0 c.requires.head.1 x l ne c.in-Some.place c.in-Some.is c.if-place-now.false), c.loop-item.invariant.1)
+    get_or_read next x c.index-after.result.now (omega (arith, l.low, l.gathering.wheel.next_length)) c.index-after.ensures 0 in (
+      subst (λ (z : ℕ). Looking places next previous start row c.args.head c.args.now z) (sym step)
+          (looking_pass places next previous start row c.args.head c.args.now c.requires.head.0 c.requires.head.1 x l ne c.in-Some.place c.in-Some.is c.if-place-now.false),
+      c.loop-item.invariant.1,
+    )
 
 pub loop-item-preserved : goal.loop-item-preserved
 loop-item-preserved c =

@@ -1,6 +1,6 @@
-use Rattle.std.proofs.Common.{◌≡◌, ◌∙◌, List, ℕ, map, length, sym, ap, subst, refl, arith}
+use Rattle.std.proofs.Common.{◌≡◌, ◌∙◌, List, ℕ, map, length, sym, ap, subst, refl}
 use Rattle.std.specs.Prelude.{IfOk, Option}
-use Rattle.wq_words.specs.DelayTable.{Entry, items, due_part}
+use Rattle.wq_words.specs.DelayTable.{items, due_part}
 use Rattle.wq_delay.specs.Rows.{Rows, entry_of, entries_of, AreDueIn}
 use Rattle.wq_delay.proofs.Gathered.{sorted_is_due, on_table_permuted, same_on_table}
 use Rattle.wq_delay.proofs.Fitting.{gather_all, items_of_rows}

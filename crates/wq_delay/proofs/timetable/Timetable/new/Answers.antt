@@ -1,4 +1,4 @@
-use Rattle.std.proofs.Common.{◌≡◌, ◌+◌, List, Option, None, replicate, length, ℕ, refl, sym, subst, ◌∙◌, ap, rules, arith}
+use Rattle.std.proofs.Common.{◌≡◌, ◌+◌, List, Option, None, replicate, length, ℕ, refl, sym, subst, rules, arith}
 use Rattle.std.specs.Vec.{vec_capacity}
 use Rattle.wq_delay.specs.Rows.{IsTimetable}
 use Rattle.wq_delay.proofs.Starting.{no_entries, timetable_new}

@@ -1,6 +1,6 @@
-use Rattle.std.proofs.Common.{◌≡◌, ◌<◌, ◌==◌, true, false, not, ◌&&◌, Bool, List, sym, ap, subst, ◌∙◌, arith}
+use Rattle.std.proofs.Common.{◌≡◌, ◌<◌, ◌==◌, true, not, ◌&&◌, Bool, List, sym, ap, subst, ◌∙◌, arith}
 use Rattle.std.proofs.lemmas.Bool.Decides.{nat_tests}
-use Rattle.wq_words.specs.DelayTable.{Entry, on_table, without, AreArmedBefore}
+use Rattle.wq_words.specs.DelayTable.{Entry, on_table, AreArmedBefore}
 use Rattle.wq_words.proofs.DelayTable.{all-without, on_table-without}
 use Rattle.wq_delay.proofs.timetable.Timetable.replace.Goals as goal
 

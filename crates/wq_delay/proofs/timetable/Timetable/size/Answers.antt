@@ -1,4 +1,4 @@
-use Rattle.std.proofs.Common.{◌≡◌, ◌<◌, true, ℕ, subst, sym}
+use Rattle.std.proofs.Common.{◌≡◌, ◌<◌, true, ℕ, subst}
 use Rattle.wq_words.specs.DelayTable.{on_table}
 use Rattle.wq_delay.specs.Rows.{Rows, entries_of}
 use Rattle.wq_delay.proofs.Rows.{in_places}

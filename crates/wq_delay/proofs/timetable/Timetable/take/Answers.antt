@@ -1,4 +1,4 @@
-use Rattle.std.proofs.Common.{◌≡◌, ◌<◌, ◌≤◌, ◌-◌, Option, Some, None, is_some, List, get_or, set, map, ℕ, ap, sym, subst, ◌∙◌, false, arith}
+use Rattle.std.proofs.Common.{◌≡◌, ◌<◌, ◌≤◌, ◌-◌, Option, Some, None, is_some, List, get_or, set, ℕ, ap, sym, subst, ◌∙◌, arith}
 use Rattle.std.specs.Vec.{vec_capacity}
 use Rattle.std.proofs.lemmas.List.{get_or_read}
 use Rattle.wq_words.specs.DelayTable.{on_table, without}
@@ -37,8 +37,10 @@ overflow_sub-self c =
     let read = get_or_read places _ _ low c.index.ensures None in
     let some : get_or places c.args.item None ≡ Some c.in-Some.place = sym read ∙ c.in-Some.is in
     let counted = take_counted places i.rings.next.items i.rings.previous.items i.row.items _ i.front i.count i.tick c.self.invariant c.args.item low c.in-Some.place some in
-    elim c.if-place-self.branch [ then-place-self w ↦ subst (λ (z : Inside). 1 ≤ z.count) (sym w.self-inside-is) counted
-    | else-place-self w ↦ subst (λ (z : Inside). 1 ≤ z.count) (sym w.self-inside-is) counted ]
+    elim c.if-place-self.branch [
+      | then-place-self w ↦ subst (λ (z : Inside). 1 ≤ z.count) (sym w.self-inside-is) counted
+      | else-place-self w ↦ subst (λ (z : Inside). 1 ≤ z.count) (sym w.self-inside-is) counted
+    ]
 
 pub invariant_of-self : goal.invariant_of-self
 invariant_of-self c =
@@ -49,12 +51,14 @@ invariant_of-self c =
     let counted = take_counted places i.rings.next.items i.rings.previous.items i.row.items _ i.front i.count i.tick c.self.invariant c.args.item low c.in-Some.place some in
     let after = λ (z : Inside). IsTimetable (set z.places.items c.args.item None) z.rings.next.items z.rings.previous.items z.row.items
     (vec_capacity z.row) z.front (z.count - 1) z.tick in
-    elim c.if-place-self.branch [ then-place-self w ↦ subst after (sym w.self-inside-is)
-    (take_timetable places i.rings.next.items i.rings.previous.items i.row.items _ i.front i.count i.tick c.self.invariant c.args.item low c.in-Some.place some w.take_out.new.self.next.items w.take_out.new.self.previous.items (i.count - 1) (omega arith)
-    (take_waiting places i.rings.next.items i.rings.previous.items i.row.items _ i.front i.count i.tick c.self.invariant c.args.item low c.in-Some.place some w.take_out.new.self.next.items w.take_out.new.self.previous.items w.if-place-self.true w.take_out.ensures.next w.take_out.ensures.previous))
-    | else-place-self w ↦ subst after (sym w.self-inside-is)
-    (take_timetable places i.rings.next.items i.rings.previous.items i.row.items _ i.front i.count i.tick c.self.invariant c.args.item low c.in-Some.place some i.rings.next.items i.rings.previous.items (i.count - 1) (omega arith)
-    (take_due places i.rings.next.items i.rings.previous.items i.row.items _ i.front i.count i.tick c.self.invariant c.args.item low c.in-Some.place some w.if-place-self.false)) ]
+    elim c.if-place-self.branch [
+      | then-place-self w ↦ subst after (sym w.self-inside-is)
+          (take_timetable places i.rings.next.items i.rings.previous.items i.row.items _ i.front i.count i.tick c.self.invariant c.args.item low c.in-Some.place some w.take_out.new.self.next.items w.take_out.new.self.previous.items (i.count - 1) (omega arith)
+          (take_waiting places i.rings.next.items i.rings.previous.items i.row.items _ i.front i.count i.tick c.self.invariant c.args.item low c.in-Some.place some w.take_out.new.self.next.items w.take_out.new.self.previous.items w.if-place-self.true w.take_out.ensures.next w.take_out.ensures.previous))
+      | else-place-self w ↦ subst after (sym w.self-inside-is)
+          (take_timetable places i.rings.next.items i.rings.previous.items i.row.items _ i.front i.count i.tick c.self.invariant c.args.item low c.in-Some.place some i.rings.next.items i.rings.previous.items (i.count - 1) (omega arith)
+          (take_due places i.rings.next.items i.rings.previous.items i.row.items _ i.front i.count i.tick c.self.invariant c.args.item low c.in-Some.place some w.if-place-self.false))
+    ]
 
 pub returns-clause-answer : goal.returns-clause-answer
 returns-clause-answer c =
@@ -74,5 +78,7 @@ returns-clause-entries c =
     let entries = take_entries places i.rings.next.items i.rings.previous.items i.row.items _ i.front i.count i.tick c.self.invariant c.args.item low c.in-Some.place some
     ∙ ap (λ (z : Rows). without c.args.item z.entries) c.self.view_is in
     let after = λ (z : Inside). entries_of (set z.places.items c.args.item None) ≡ without c.args.item c.args.self.now.entries in
-    elim c.if-place-self.branch [ then-place-self w ↦ subst after (sym w.self-inside-is) entries
-    | else-place-self w ↦ subst after (sym w.self-inside-is) entries ]
+    elim c.if-place-self.branch [
+      | then-place-self w ↦ subst after (sym w.self-inside-is) entries
+      | else-place-self w ↦ subst after (sym w.self-inside-is) entries
+    ]
