@@ -7,7 +7,7 @@ use Rattle.wq_script.proofs.Moved.{advanced_so}
 use Rattle.wq_script.proofs.seats.Seats.advance.Goals as goal
 
 pub returns-in-Ok : goal.returns-in-Ok
-returns-in-Ok c = λ layout h g. let told = c.in-Ok.ensures in (
+returns-in-Ok c = λ layout h g. let told = c.in-Ok.ensures.advances in (
   told.0,
   c.in_ok-due.ensures,
   advanced_so layout c.args.self.now c.gather.new.self h g c.advance-advanced.new.self c.gather.ensures.delay c.fit.ensures
@@ -15,7 +15,7 @@ returns-in-Ok c = λ layout h g. let told = c.in-Ok.ensures in (
 )
 
 pub returns-in-Err : goal.returns-in-Err
-returns-in-Err c = λ layout h g. let told = c.in-Err.ensures in
+returns-in-Err c = λ layout h g. let told = c.in-Err.ensures.advances in
     let l = goes_nowhere layout c.args.self.now c.gather.new.self h g c.advance-advanced.new.self c.gather.ensures.delay told.1 c.fit.ensures in (
       told.0,
       record { seated = subst (λ (x : List Event). Seated layout c.gather.new.self x) (append-nil h) l.seated; table = l.table; work = l.work },

@@ -4,4 +4,4 @@ use Rattle.wq_script.proofs.seats.Seats.cancel.Goals as goal
 pub returns : goal.returns
 returns c = λ layout h g.
     cancelled_so layout c.args.self.now c.gather.new.self h g c.cancel-was_on_table.new.self c.gather.ensures.delay c.fit.ensures
-    c.args.item c.cancel-was_on_table.result c.cancel-was_on_table.ensures
+    c.args.item c.cancel-was_on_table.result c.cancel-was_on_table.ensures.answer
