@@ -35,7 +35,8 @@ impl Plain {
 
     fn put(&mut self, item: u32, delay: u64) -> Result<(), AllocError> {
         self.take(item);
-        self.entries.push((self.tick.wrapping_add(delay), self.next, item))?;
+        self.entries
+            .push((self.tick.wrapping_add(delay), self.next, item))?;
         self.entries.sort_unstable();
         self.next = self.next.wrapping_add(1);
         Ok(())
@@ -119,9 +120,20 @@ fn advance(
         return Ok(None);
     }
     let went = delay.advance(now, 1);
-    let slots = if now.wrapping_sub(plain.tick) < 256 { now.wrapping_sub(plain.tick) } else { 256 };
+    let slots = if now.wrapping_sub(plain.tick) < 256 {
+        now.wrapping_sub(plain.tick)
+    } else {
+        256
+    };
     plain.tick = now;
-    let Ok(Advance { pushed, refused, waiting }) = went else {
+    let Ok(
+        Advance {
+            pushed,
+            refused,
+            waiting,
+        },
+    ) = went
+    else {
         return Ok(None);
     };
     let out = pushed.wrapping_add(refused) as usize;
@@ -129,13 +141,15 @@ fn advance(
     for item in &due {
         plain.take(*item);
     }
-    let is_right = u64::from(delay.looked()) == slots && out == due.len() && waiting as usize == plain.entries.len() && delay.len() == plain.entries.len();
+    let is_right = u64::from(delay.looked()) == slots
+        && out == due.len()
+        && waiting as usize == plain.entries.len()
+        && delay.len() == plain.entries.len();
     Ok(is_right.then_some(due))
 }
 
 /// Executes all that was queued. Whether it is just the list.
-fn executes(owner: &mut Owner, sender: &mut Sender, delay: &mut Delay, due: &[u32]) -> bool
-{
+fn executes(owner: &mut Owner, sender: &mut Sender, delay: &mut Delay, due: &[u32]) -> bool {
     call_seat(owner, sender, delay, Take);
     for item in due {
         if call_seat(owner, sender, delay, Execute) != Executed(*item) {
@@ -172,7 +186,11 @@ fn run_alone(alloc: Global, seed: u64, tick: u64) -> Result<bool, AllocError> {
 #[test]
 fn runs_are_those_of_a_sorted_list(rt: HostRuntime) -> Result<(), Fail> {
     for seed in 1..10_001u64 {
-        let tick = if seed % 4 == 0 { u64::MAX - seed % 1000 } else { seed };
+        let tick = if seed % 4 == 0 {
+            u64::MAX - seed % 1000
+        } else {
+            seed
+        };
         assert!(rt; run_alone(rt.alloc(), seed, tick)?, "{seed}");
     }
     Ok(())
@@ -183,18 +201,33 @@ fn runs_are_those_of_a_sorted_list(rt: HostRuntime) -> Result<(), Fail> {
 fn looks_at_one_slot_a_tick(rt: HostRuntime) -> Result<(), Fail> {
     let (_owner, _sender, mut delay) = delayed(rt.alloc(), 4, 0).expect(&rt, "seats");
     for (item, ticks) in [(0, 256), (1, 1), (2, 257), (3, 512)] {
-        assert_eq!(rt; call_delay(&mut delay, Arm(item, ticks)), Said::Armed(Armed::OnTable));
+        assert_eq!(rt;
+            call_delay(&mut delay, Arm(item, ticks)),
+            Said::Armed(Armed::OnTable)
+        );
     }
     assert_eq!(rt; delay.looked(), 0);
-    assert_eq!(rt; call_delay(&mut delay, Call::Advance(1)), Said::Went(1, 0, 3));
+    assert_eq!(rt;
+        call_delay(&mut delay, Call::Advance(1)),
+        Said::Went(1, 0, 3)
+    );
     assert_eq!(rt; delay.looked(), 1);
     assert_eq!(rt; call_delay(&mut delay, Call::Advance(0)), Said::Backwards);
     assert_eq!(rt; delay.looked(), 1);
-    assert_eq!(rt; call_delay(&mut delay, Call::Advance(257)), Said::Went(2, 0, 1));
+    assert_eq!(rt;
+        call_delay(&mut delay, Call::Advance(257)),
+        Said::Went(2, 0, 1)
+    );
     assert_eq!(rt; delay.looked(), 256);
-    assert_eq!(rt; call_delay(&mut delay, Call::Advance(600)), Said::Went(1, 0, 0));
+    assert_eq!(rt;
+        call_delay(&mut delay, Call::Advance(600)),
+        Said::Went(1, 0, 0)
+    );
     assert_eq!(rt; delay.looked(), 256);
-    assert_eq!(rt; call_delay(&mut delay, Call::Advance(600)), Said::Went(0, 0, 0));
+    assert_eq!(rt;
+        call_delay(&mut delay, Call::Advance(600)),
+        Said::Went(0, 0, 0)
+    );
     assert_eq!(rt; delay.looked(), 0);
     Ok(())
 }
