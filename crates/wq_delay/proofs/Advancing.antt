@@ -1,16 +1,15 @@
 -- Due items that went out, one after another.
-use Rattle.std.proofs.Common.{◌≡◌, ℕ, ◌+◌, ◌<◌, ◌≤◌, inl, inr, Bool, true, false, cond, not, List, [], ◌∷◌, ◌++◌, length, refl, sym, ap, ◌∙◌, subst, arith, append_assoc, length-append}
-use Rattle.std.specs.Prelude.{nat_le, count_by}
+use Rattle.std.proofs.Common.{◌≡◌, ℕ, ◌+◌, ◌<◌, inl, inr, cond, List, [], ◌∷◌, ◌++◌, length, refl, sym, ap, ◌∙◌, subst, arith, append_assoc, length-append}
+use Rattle.std.specs.Prelude.{count_by}
 use Rattle.std.specs.List.{AllZip}
 use Rattle.std.proofs.lemmas.List.{append-nil}
-use Rattle.std.proofs.lemmas.Bool.Decides.{nat_tests}
 use Rattle.wq_words.specs.declared.event.Event.{Event}
 use Rattle.wq_words.specs.declared.event.Event.TheVariants.{Back, Push}
 use Rattle.wq_words.specs.declared.event.Why.TheVariants as why
 use Rattle.wq_words.specs.History.{is_push}
 use Rattle.wq_words.proofs.Growing.{count_by_push}
 use Rattle.wq_live.specs.Known.{Known, Sees}
-use Rattle.wq_words.specs.DelayTable.{Entry, DelayTable, on_table, due_part, later_part, without, IsOrdered}
+use Rattle.wq_words.specs.DelayTable.{Entry, DelayTable, due_part, later_part, without, IsOrdered}
 use Rattle.wq_delay.specs.Rows.{IsFirstDue}
 use Rattle.wq_delay.specs.Delay.{DelayState, IsFit, KeepsTable, TakesOff, IsOut, is_back, lost_tries, PostsDue}
 use Rattle.wq_words.proofs.DelayTable.{without_first, due_then_later, first_due_part, first_later_part}

@@ -1,5 +1,15 @@
+pub mod Rounds
+pub mod Wheel
+pub mod Spelled
 pub mod Table
 pub mod Rows
+pub mod Standing
+pub mod Looking
+pub mod Gathered
+pub mod Serving
+pub mod Fitting
+pub mod Leading
+pub mod Starting
 pub mod Held
 pub mod Sound
 pub mod Going

@@ -1,6 +1,5 @@
 -- A delay table stays fit.
-use Rattle.std.proofs.Common.{◌≡◌, ℕ, ◌+◌, ◌<◌, ◌==◌, Bool, true, false, is_err, cond, not, ◌||◌, ◌&&◌, List, [], ◌∷◌, refl, sym, ap, ◌∙◌, subst, arith}
-use Rattle.std.specs.Prelude.{Result, Ok, Err, OnOk, OnErr}
+use Rattle.std.proofs.Common.{◌≡◌, ℕ, ◌+◌, ◌<◌, ◌==◌, Bool, true, false, cond, not, ◌||◌, ◌&&◌, List, [], ◌∷◌, refl, sym, ap, ◌∙◌, subst, arith}
 use Rattle.std.proofs.lemmas.Bool.{eqb-true}
 use Rattle.std.proofs.lemmas.Bool.Decides.{nat_tests}
 use Rattle.wq_words.specs.declared.layout.Layout.{Layout}
@@ -17,25 +16,21 @@ use Rattle.wq_live.specs.Answers.{Answers, Posts}
 use Rattle.wq_words.specs.History.{Holds}
 use Rattle.wq_words.specs.Legal.{IsLegal}
 use Rattle.wq_words.specs.DelayTable.{Entry, on_table, placed, without}
-use Rattle.wq_delay.specs.Delay.{DelayState, IsFit}
+use Rattle.wq_delay.specs.Delay.{DelayState, FitsTable, IsFit}
 use Rattle.wq_words.proofs.DelayTable.{all-placed, all-without, all-more, on_table-placed, on_table-without, ordered-placed, ordered-without}
 use Rattle.wq_delay.proofs.Held.{starts, stops, HoldsAll, holds_same, holds_more, holds_less, free_before}
 
--- what a result that was tested says
-pub on_ok : {A E : Type 0} (r : Result A E) (P : Type 0) → is_err r ≡ false → OnOk r P → P
-on_ok (Ok x) P is on = on
-on_ok (Err e) P is on = absurd (cc)
-
-pub on_err : {A E : Type 0} (r : Result A E) (P : Type 0) → is_err r ≡ true → OnErr r P → P
-on_err (Ok x) P is on = absurd (cc)
-on_err (Err e) P is on = on
-
 abbrev pub state : Known → ℕ → ℕ → List Entry → DelayState
-state p now next t = record { sender = p; table = record { entries = t; tick = now; next = next } }
+state p now next t = record { sender = p; table = record { entries = t; tick = now; next = next }; looked = 0 }
 
 -- a table of so many places over the layout's items
 abbrev pub IsSound : ℕ → DelayState → Type 0
 IsSound size d = (size ≡ d.sender.layout.items) × IsFit d
+
+-- what is fit is so at every tick
+pub fit_at : (a : Known) (es : List Entry) (now later next : ℕ) → FitsTable a (record { entries = es; tick = now; next = next })
+    → FitsTable a (record { entries = es; tick = later; next = next })
+fit_at a es now later next fit = record { ordered = fit.ordered; armed = fit.armed; held = fit.held; legal = fit.legal }
 
 items_same : (xs : List Event) (n size : ℕ) (a b : Known) → Sees xs n a b → size ≡ a.layout.items → size ≡ b.layout.items
 items_same xs n size a b sees is = is ∙ ap (λ (z : Layout). z.items) (sym sees.same.layout_is)

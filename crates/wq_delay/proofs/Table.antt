@@ -15,7 +15,7 @@ place_some k (f ∷ fs) = by (k == f.item) (place_some k fs)
     by true is = refl
     by false is = is
 
-placed_at : {X : Type 0} (j a b : ℕ) (t p q : Bool) (x y z : X) → (j == a) ≡ p → (j == b) ≡ q → (a == b) ≡ false
+pub placed_at : {X : Type 0} (j a b : ℕ) (t p q : Bool) (x y z : X) → (j == a) ≡ p → (j == b) ≡ q → (a == b) ≡ false
     → cond q y (cond p x z) ≡ cond p x (cond q y z)
 placed_at j a b t true true x y z u v w = absurd (grind (arith, nat_tests))
 placed_at j a b t true false x y z u v w = refl

@@ -1,5 +1,5 @@
 -- What a clause sees of a delay table, and what its calls do to it.
-use Rattle.std.specs.Prelude.{◌≡◌, ℕ, ◌<◌, ◌≤◌, ◌↔◌, ◌⊎◌, Bool, true, false, MatchBool, IsTrue, Result, Ok, Err, List, [], ◌∷◌, ◌++◌, map, length, count_by}
+use Rattle.std.specs.Prelude.{◌≡◌, ℕ, ◌-◌, ◌<◌, ◌≤◌, min, ◌↔◌, ◌⊎◌, Bool, true, false, MatchBool, IsTrue, Result, Ok, Err, List, [], ◌∷◌, ◌++◌, map, length, count_by}
 use Rattle.std.specs.List.{AllZip}
 use Rattle.std.specs.List.Sorted.{IsPermutation}
 use Rattle.wq_words.specs.declared.event.Event.{Event}
@@ -19,17 +19,26 @@ use Rattle.wq_delay.specs.declared.answer.Advance.{Advance}
 use Rattle.wq_delay.specs.declared.answer.Backwards.{Backwards}
 use Rattle.wq_words.specs.DelayTable.{Entry, DelayTable, on_table, due_part, IsOrdered, AreArmedBefore, table_with, table_without, table_at}
 
--- a sender, and what it holds until its tick
+-- a sender, what it holds until its tick, and how many slots of its wheel the last advance looked at
 pub record DelayState : Type 0 where
   pub sender : Known
   pub table : DelayTable
+  pub looked : ℕ
 
 -- what holds of every delay table: the items on it are exactly the numbers that its sender holds
-pub record IsFit (d : DelayState) : Type 0 where
-  pub ordered : IsOrdered d.table.entries
-  pub armed : AreArmedBefore d.table.next d.table.entries
-  pub held : (k : ℕ) → IsTrue (on_table k d.table.entries) ↔ Holds d.sender.seen d.sender.number k
-  pub legal : IsLegal d.sender.layout d.sender.seen
+pub record FitsTable (sender : Known) (table : DelayTable) : Type 0 where
+  pub ordered : IsOrdered table.entries
+  pub armed : AreArmedBefore table.next table.entries
+  pub held : (k : ℕ) → IsTrue (on_table k table.entries) ↔ Holds sender.seen sender.number k
+  pub legal : IsLegal sender.layout sender.seen
+
+abbrev pub IsFit : DelayState → Type 0
+IsFit d = FitsTable d.sender d.table
+
+-- an answered advance by so many ticks looked at no more slots than ticks, and at no slot twice
+abbrev pub Looks : Result Advance Backwards → ℕ → DelayState → DelayState → Type 0
+Looks (Ok a) now old new = new.looked ≤ min (now - old.table.tick) 256
+Looks (Err e) now old new = new.looked ≡ old.looked
 
 -- The sender sees more, in which its own events are xs and at least n are of other seats. The table is this one now.
 pub record Becomes (xs : List Event) (n : ℕ) (table : DelayTable) (old new : DelayState) : Type 0 where

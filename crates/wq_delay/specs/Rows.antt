@@ -1,11 +1,14 @@
--- The rows of a timetable.
-use Rattle.std.specs.Prelude.{◌≡◌, ℕ, ◌≤◌, ◌==◌, Option, Some, None, if◌then◌else◌, List, [], ◌∷◌, slice_index_or}
-use Rattle.wq_words.specs.DelayTable.{Entry, IsOrdered}
+-- Where items stand, and the table that this spells.
+use Rattle.std.specs.Prelude.{◌≡◌, ℕ, ◌+◌, ◌≤◌, ◌<◌, ◌%◌, ◌==◌, Bool, false, ◌||◌, ◌&&◌, nat_lt, nat_le, Option, Some, None, if◌then◌else◌, List, [], ◌∷◌, map, filter, length, take, slice_index, slice_index_or}
+use Rattle.std.specs.List.{All}
+use Rattle.wq_words.specs.DelayTable.{Entry, on_table, due_part, IsOrdered}
+use Rattle.wq_delay.specs.Rings.{AreRings}
 
--- how many items there may be, and what stands on the table
+-- how many items there may be, what stands on the table, and the present tick
 pub record Rows : Type 0 where
   pub size : ℕ
   pub entries : List Entry
+  pub tick : ℕ
 
 abbrev pub entry_of : (ℕ × ℕ) × ℕ → Entry
 entry_of row = record { due = row.0.0; arming = row.0.1; item = row.1 }
@@ -15,10 +18,39 @@ abbrev pub place_of : ℕ → List Entry → Option (ℕ × ℕ)
 place_of k [] = None
 place_of k (e ∷ es) = if k == e.item then Some (e.due, e.arming) else place_of k es
 
+-- the same, from a list of places by item
+abbrev pub place_in : List (Option (ℕ × ℕ)) → ℕ → Option (ℕ × ℕ)
+place_in places k = slice_index_or places k None
+
 -- they are in order, and each item's place is known
 pub record AreRows (places : List (Option (ℕ × ℕ))) (es : List Entry) : Type 0 where
   pub ordered : IsOrdered es
-  pub known : (k : ℕ) → slice_index_or places k None ≡ place_of k es
+  pub known : (k : ℕ) → place_in places k ≡ place_of k es
+
+-- e goes out before f
+abbrev pub goes_before : Entry → Entry → Bool
+goes_before e f = nat_lt e.due f.due || (e.due == f.due && nat_lt e.arming f.arming)
+
+-- e among entries in order
+abbrev pub slotted : Entry → List Entry → List Entry
+slotted e [] = e ∷ []
+slotted e (f ∷ fs) = if goes_before e f then e ∷ f ∷ fs else f ∷ slotted e fs
+
+abbrev pub with_place : ℕ → Option (ℕ × ℕ) → List Entry → List Entry
+with_place k None es = es
+with_place k (Some p) es = slotted (record { due = p.0; arming = p.1; item = k }) es
+
+-- the entries of a list of places by item, from the item k on, in order
+abbrev pub entries_from : ℕ → List (Option (ℕ × ℕ)) → List Entry
+entries_from k [] = []
+entries_from k (o ∷ os) = with_place k o (entries_from (k + 1) os)
+
+abbrev pub entries_of : List (Option (ℕ × ℕ)) → List Entry
+entries_of places = entries_from 0 places
+
+-- no two items have one arming
+abbrev pub AreApart : List (Option (ℕ × ℕ)) → Type 0
+AreApart places = (j k : ℕ) (p q : ℕ × ℕ) → place_in places j ≡ Some p → place_in places k ≡ Some q → p.1 ≡ q.1 → j ≡ k
 
 -- the item k stands first and is due at the tick t
 pub record IsFirstDue (t k : ℕ) (es : List Entry) : Type 0 where
@@ -28,8 +60,80 @@ pub record IsFirstDue (t k : ℕ) (es : List Entry) : Type 0 where
   pub item_is : first.item ≡ k
   pub due : first.due ≤ t
 
--- the item k stood first and is gone
-pub record Pops (k : ℕ) (old new : List Entry) : Type 0 where
-  pub first : Entry
-  pub is : old ≡ first ∷ new
-  pub item_is : first.item ≡ k
+-- the wheel: what waits there, by item. The head of a slot stands behind all items.
+abbrev pub head_by : ℕ → ℕ → Option (ℕ × ℕ) → ℕ
+head_by size k None = k
+head_by size k (Some p) = size + p.0 % 256
+
+abbrev pub number_by : Option (ℕ × ℕ) → ℕ
+number_by None = 0
+number_by (Some p) = p.1 + 1
+
+pub record IsWheel (size : ℕ) (next previous : List ℕ) (waits : ℕ → Option (ℕ × ℕ)) : Type 0 where
+  pub next_length : length next ≡ size + 256
+  pub previous_length : length previous ≡ size + 256
+  pub heads : (k : ℕ) → size ≤ k → waits k ≡ None
+  pub rings : AreRings (slice_index next) (slice_index previous) (λ k. head_by size k (waits k)) (λ k. number_by (waits k)) (size + 256)
+
+-- what is due later than the tick t
+abbrev pub later_than : ℕ → Option (ℕ × ℕ) → Option (ℕ × ℕ)
+later_than t None = None
+later_than t (Some p) = if nat_le p.0 t then None else Some p
+
+-- the item still stands where a row says
+abbrev pub is_place : ℕ × ℕ → Option (ℕ × ℕ) → Bool
+is_place p None = false
+is_place p (Some q) = q.0 == p.0 && q.1 == p.1
+
+abbrev pub stands : List (Option (ℕ × ℕ)) → (ℕ × ℕ) × ℕ → Bool
+stands places e = is_place e.0 (place_in places e.1)
+
+-- how many of the entries are of the item k
+abbrev pub times : ℕ → List Entry → ℕ
+times k [] = 0
+times k (e ∷ es) = (if k == e.item then 1 else 0) + times k es
+
+-- the test whether a place is due at the tick t
+abbrev pub is_due : ℕ → Option (ℕ × ℕ) → Bool
+is_due t None = false
+is_due t (Some p) = nat_le p.0 t
+
+-- each entry says where its item stands, and no item stands twice
+pub record AreOnTable (places : List (Option (ℕ × ℕ))) (es : List Entry) : Type 0 where
+  pub valid : All (λ e. place_in places e.item ≡ Some (e.due, e.arming)) es
+  pub single : (k : ℕ) → times k es ≤ 1
+
+-- they are what is due at the tick t of the items below n
+pub record AreDueIn (places : List (Option (ℕ × ℕ))) (t n : ℕ) (es : List Entry) : Type 0 where
+  pub on : AreOnTable places es
+  pub which : (k : ℕ) → on_table k es ≡ (nat_lt k n && is_due t (place_in places k))
+
+-- what waits while entries were moved to the row
+abbrev pub waiting : List (Option (ℕ × ℕ)) → List Entry → ℕ → Option (ℕ × ℕ)
+waiting places row k = if on_table k row then None else place_in places k
+
+-- while a wheel is led on to a tick: what stands in the row is on the table and due, no item twice, and the rest waits
+pub record IsGathering (places : List (Option (ℕ × ℕ))) (next previous : List ℕ) (row : List Entry) (now : ℕ) : Type 0 where
+  pub wheel : IsWheel (length places) next previous (waiting places row)
+  pub valid : All (λ e. place_in places e.item ≡ Some (e.due, e.arming)) row
+  pub due : All (λ e. e.due ≤ now) row
+  pub single : (k : ℕ) → times k row ≤ 1
+
+-- what still waits waited before
+abbrev pub StillWaits : List (Option (ℕ × ℕ)) → List Entry → List Entry → Type 0
+StillWaits places old new = (k : ℕ) (p : ℕ × ℕ) → waiting places new k ≡ Some p → waiting places old k ≡ Some p
+
+-- nothing that is due waits in the slot with this head
+abbrev pub IsClean : List (Option (ℕ × ℕ)) → List Entry → ℕ → ℕ → Type 0
+IsClean places row head now = (k : ℕ) (p : ℕ × ℕ) → waiting places row k ≡ Some p → length places + p.0 % 256 ≡ head → now < p.0
+
+-- between two calls: what is due stands in the row, in order, and the rest waits
+pub record IsTimetable (places : List (Option (ℕ × ℕ))) (next previous : List ℕ) (row : List ((ℕ × ℕ) × ℕ)) (room front count tick : ℕ) : Type 0 where
+  pub few : length places ≤ 4096
+  pub apart : AreApart places
+  pub wheel : IsWheel (length places) next previous (λ k. later_than tick (place_in places k))
+  pub due_is : map entry_of (filter (stands places) row) ≡ due_part tick (entries_of places)
+  pub early : All (λ e. e.0.0 ≤ tick) row
+  pub passed : filter (stands places) (take front row) ≡ []
+  pub enough : length places ≤ room
+  pub count_is : count ≡ length (entries_of places)

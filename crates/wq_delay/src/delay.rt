@@ -6,8 +6,9 @@ ghost use Rattle.wq_words.specs.History.{Holds};
 ghost use Rattle.wq_words.specs.Headline.{KeepsHeadline};
 ghost use Rattle.wq_live.specs.Known.{IsSame, Sees};
 ghost use Rattle.wq_live.specs.Answers.{IsContended};
-ghost use Rattle.wq_words.specs.DelayTable.{items, on_table, due_part, is_too_far};
-ghost use Rattle.wq_delay.specs.Delay.{IsFit, KeepsTable, Arms, Cancels, Modifies, PostsOne, PostsDue, Advances, GivesBack};
+ghost use Rattle.wq_words.specs.DelayTable.{items, on_table, due_part, is_too_far, IsOrdered};
+ghost use Rattle.wq_delay.specs.Rows.{IsFirstDue};
+ghost use Rattle.wq_delay.specs.Delay.{IsFit, KeepsTable, Arms, Cancels, Modifies, PostsOne, PostsDue, Advances, Looks, GivesBack};
 
 use crate::answer::{Advance, Backwards, NoRoom, armed_of, modified_of, modified_of_posted};
 use crate::timetable::Timetable;
@@ -35,19 +36,19 @@ pub struct Delay {
     alloc: Global,
     sender: Sender,
     table: Timetable,
-    tick: u64,
     next: u128,
+    looked: u32,
 }
 
 impl Model for Delay {
     ghost use Rattle.std.specs.Prelude.{◌≡◌};
-    ghost use Rattle.wq_delay.specs.Delay.{DelayState, IsFit};
+    ghost use Rattle.wq_delay.specs.Delay.{DelayState, FitsTable};
 
     ghost Value = { DelayState };
 
-    ghost view = { λ d. record { sender = d.sender; table = record { entries = d.table.entries; tick = d.tick; next = d.next } } };
+    ghost view = { λ d. record { sender = d.sender; table = record { entries = d.table.entries; tick = d.table.tick; next = d.next }; looked = d.looked } };
 
-    ghost invariant = { λ d. (d.table.size ≡ d.sender.layout.items) × IsFit (record { sender = d.sender; table = record { entries = d.table.entries; tick = d.tick; next = d.next } }) };
+    ghost invariant = { λ d. (d.table.size ≡ d.sender.layout.items) × FitsTable d.sender (record { entries = d.table.entries; tick = d.table.tick; next = d.next }) };
 }
 
 impl Delay {
@@ -57,15 +58,16 @@ impl Delay {
         requires { (k : ℕ) → ¬ Holds sender.seen sender.number k }
         ensures made { IfOk result (λ d. (d.sender ≡ sender) × (d.table ≡ record { entries = []; tick = now; next = 0 })) }
         ensures fit { IfOk result IsFit }
+        ensures looked { IfOk result (λ d. d.looked ≡ 0) }
         ensures refused { IfErr result (λ e. e.sender ≡ sender) }
     {
-        match Timetable::new(alloc, sender.layout().items) {
+        match Timetable::new(alloc, sender.layout().items, now) {
             Ok(table) => Ok(Delay {
                 alloc,
                 sender,
                 table,
-                tick: now,
                 next: 0,
+                looked: 0,
             }),
             Err(AllocError) => Err(NoRoom { sender }),
         }
@@ -95,6 +97,13 @@ impl Delay {
         self.table.len()
     }
 
+    /// How many slots of the wheel the last answered advance looked at: at most one for each tick, and each slot at most once.
+    pub fn looked(&self) -> u32
+        ensures { result ≡ self.now.looked }
+    {
+        self.looked
+    }
+
     /// Puts an idle item on the table, due so many ticks from now, and with delay 0 queues it at once with at most so many
     /// tries (`queue_delayed_work`). A delay is at most `2^32 - 1`.
     pub fn arm(&mut self, item: u32, delay: u64, tries: u32) -> Armed
@@ -104,8 +113,9 @@ impl Delay {
         ensures contended { result ≡ armed.Contended → IsContended self.old.sender.number item tries self.new.sender.seen }
         ensures same { IsSame self.old.sender self.new.sender }
         ensures far { (result ≡ armed.TooFar) ↔ IsTrue (is_too_far delay self.old.table) }
+        ensures looked { self.new.looked ≡ self.old.looked }
     {
-        let Some(due) = tick_after(self.tick, self.next, delay) else {
+        let Some(due) = tick_after(self.table.tick(), self.next, delay) else {
             return Armed::TooFar;
         };
         if delay == 0 {
@@ -114,10 +124,7 @@ impl Delay {
         if !self.sender.hold(item) {
             return Armed::Pending;
         }
-        if self.table.put(item, due, self.next as u64).is_err() {
-            self.sender.give_back(item);
-            return Armed::Memory;
-        }
+        self.table.put(item, due, self.next as u64);
         self.next += 1;
         Armed::OnTable
     }
@@ -127,6 +134,7 @@ impl Delay {
         requires { item < self.old.sender.layout.items }
         ensures answer { Cancels item result self.old self.new }
         ensures same { IsSame self.old.sender self.new.sender }
+        ensures looked { self.new.looked ≡ self.old.looked }
     {
         if !self.table.take(item) {
             return false;
@@ -145,8 +153,9 @@ impl Delay {
         ensures contended { result ≡ modified.Contended → on_table item self.old.table.entries ≡ false → IsContended self.old.sender.number item tries self.new.sender.seen }
         ensures same { IsSame self.old.sender self.new.sender }
         ensures far { (result ≡ modified.TooFar) ↔ IsTrue (is_too_far delay self.old.table) }
+        ensures looked { self.new.looked ≡ self.old.looked }
     {
-        let Some(due) = tick_after(self.tick, self.next, delay) else {
+        let Some(due) = tick_after(self.table.tick(), self.next, delay) else {
             return Modified::TooFar;
         };
         if !self.table.has(item) {
@@ -155,9 +164,7 @@ impl Delay {
         if delay == 0 {
             return modified_of_posted(self.post_item(item, tries));
         }
-        if self.table.replace(item, due, self.next as u64).is_err() {
-            return Modified::Memory;
-        }
+        self.table.replace(item, due, self.next as u64);
         self.next += 1;
         Modified::Moved
     }
@@ -167,7 +174,8 @@ impl Delay {
         requires item { item < self.old.sender.layout.items }
         requires tries { 0 < tries }
         requires on { on_table item self.old.table.entries ≡ true }
-        ensures { PostsOne item tries result self.old self.new }
+        ensures posts { PostsOne item tries result self.old self.new }
+        ensures looked { self.new.looked ≡ self.old.looked }
     {
         match self.sender.post(item, tries) {
             Posted::Contended => Posted::Contended,
@@ -178,6 +186,16 @@ impl Delay {
         }
     }
 
+    // The first item on the table, where it is due at the present tick.
+    fn first_due(&mut self) -> Option<u32>
+        ensures same { self.new ≡ self.old }
+        ensures ordered { IsOrdered self.old.table.entries }
+        ensures first { MatchOption result (due_part self.old.table.tick self.old.table.entries ≡ []) (λ k. IsFirstDue self.old.table.tick k self.old.table.entries) }
+        ensures low { IfSome result (λ k. k < self.old.sender.layout.items) }
+    {
+        self.table.first_due()
+    }
+
     // Posts the items that are due at the present tick, in order, until a post is contended. How many were queued, and how
     // many given back.
     fn post_due(&mut self, tries: u32) -> (u32, u32)
@@ -186,11 +204,12 @@ impl Delay {
         ensures tick { self.new.table.tick ≡ self.old.table.tick }
         ensures sum { result.0 + result.1 + length self.new.table.entries ≡ length self.old.table.entries }
         ensures posts { PostsDue self.old.table.tick tries self.old self.new result.0 result.1 }
+        ensures looked { self.new.looked ≡ self.old.looked }
     {
-        let now = self.tick;
+        let _ = &self.sender;
         let mut pushed = 0;
         let mut refused = 0;
-        while let Some(item) = self.table.first_due(now) {
+        while let Some(item) = self.first_due() {
             match self.post_item(item, tries) {
                 Posted::Queued { .. } => pushed += 1,
                 Posted::Closed => refused += 1,
@@ -214,6 +233,7 @@ impl Delay {
         ensures that { Sees [] 0 other.old other.new }
         ensures both { other.new.seen ≡ self.new.sender.seen }
         ensures layout { other.old.layout ≡ self.old.sender.layout }
+        ensures looked { self.new.looked ≡ self.old.looked }
     {
         self.sender.meet(other);
     }
@@ -224,12 +244,13 @@ impl Delay {
         requires { 0 < tries }
         ensures answer { Advances now tries result self.old self.new }
         ensures same { IsSame self.old.sender self.new.sender }
+        ensures looked { Looks result now self.old self.new }
     {
-        if now < self.tick {
+        if now < self.table.tick() {
             return Err(Backwards);
         }
         let armed = self.table.len() as u32;
-        self.tick = now;
+        self.looked = self.table.lead_on(now);
         let (pushed, refused) = self.post_due(tries);
         Ok(Advance {
             pushed,
@@ -248,8 +269,10 @@ impl Delay {
             mut table,
             ..
         } = self;
-        while let Some(item) = table.pop() {
-            sender.give_back(item);
+        for item in 0..table.size() {
+            if table.take(item) {
+                sender.give_back(item);
+            }
         }
         sender
     }

@@ -3,6 +3,7 @@
 
 mod answer;
 mod delay;
+mod rings;
 mod timetable;
 
 pub use answer::{Advance, Backwards, NoRoom};

@@ -1,46 +1,190 @@
-//! Items by the ticks at which they are due.
-ghost use Rattle.std.specs.Prelude.{◌≡◌, ◌<◌, ◌≤◌, true, false, Some, None, [], map, length, OnOk, OnErr, IfOk, IfSome, MatchOption};
+//! Items by the ticks at which they are due: a wheel of slots, and a row of what is due.
+ghost use Rattle.std.specs.Prelude.{◌≡◌, ℕ, ◌<◌, ◌≤◌, ◌-◌, ◌^◌, true, false, [], length, min, IfOk, IfSome, MatchOption};
 ghost use Rattle.wq_words.specs.DelayTable.{items, on_table, due_part, placed, without, IsOrdered, AreArmedBefore};
-ghost use Rattle.wq_delay.specs.Rows.{IsFirstDue, Pops};
+ghost use Rattle.std.specs.Prelude.{map, filter, take, ◌+◌, slice_index_or};
+ghost use Rattle.std.specs.Vec.{vec_capacity};
+ghost use Rattle.std.specs.List.{All};
+ghost use Rattle.wq_delay.specs.Rows.{IsFirstDue, IsGathering, StillWaits, IsClean, waiting, entry_of, stands, AreDueIn};
 
+use crate::rings::Rings;
 use std::alloc::{AllocError, Global};
-use std::collections::BTreeMap;
+use std::cmp;
 use std::marker::Model;
 
-// The items by tick and number of arming, and for each item where it stands.
+// How many slots the wheel has: an item that is due at a tick stands in the slot of that number of ticks, modulo this.
+const SLOTS: u32 = 256;
+
+// A tick, and the number of an arming.
+type Place = (u64, u64);
+
+// Where each item stands, if it is on the table. What is due later than the present tick stands in the ring of its slot, in
+// the order of armings; the head of a slot's ring is the place behind all items, and of the slots before it. What is due stands
+// in the row, in order, from the place `front` on, among items that have left it.
 #[derive(Drop)]
 pub(crate) struct Timetable {
-    rows: BTreeMap<(u64, u64), u32>,
-    places: Vec<Option<(u64, u64)>>,
+    places: Vec<Option<Place>>,
+    rings: Rings,
+    row: Vec<(Place, u32)>,
+    front: usize,
+    count: usize,
+    tick: u64,
+}
+
+// Whether the item still stands where the row says.
+fn is_there(places: &[Option<Place>], entry: (Place, u32)) -> bool
+    ensures { result ≡ stands places.now entry }
+{
+    places.get(entry.1 as usize) == Some(&Some(entry.0))
+}
+
+// The first place from `front` on whose item still stands where the row says.
+fn first_there(places: &[Option<Place>], row: &[(Place, u32)], front: usize) -> usize
+    ensures passed { filter (stands places.now) (take front row.now) ≡ [] → filter (stands places.now) (take result row.now) ≡ [] }
+    ensures there { (d : (ℕ × ℕ) × ℕ) → result < length row.now → stands places.now (slice_index_or row.now result d) ≡ true }
+    ensures low { result ≤ length row.now }
+{
+    for at in front..row.len() {
+        if is_there(places, row[at]) {
+            return at;
+        }
+    }
+    row.len()
+}
+
+// What is due at a tick, by item.
+fn gather(
+    alloc: Global,
+    places: &[Option<Place>],
+    now: u64,
+) -> Result<Vec<(Place, u32)>, AllocError>
+    requires { length places.now ≤ 4096 }
+    ensures found { IfOk result (λ row. AreDueIn places.now now (length places.now) (map entry_of row.items)) }
+{
+    let mut row = Vec::new(alloc);
+    for item in 0..places.len() {
+        if let Some(place) = places[item] {
+            if place.0 <= now {
+                row.push((place, item as u32))?;
+            }
+        }
+    }
+    Ok(row)
+}
+
+// The items of a row, in order.
+fn items_of(alloc: Global, row: &[(Place, u32)]) -> Result<Vec<u32>, AllocError>
+    ensures { IfOk result (λ list. list.items ≡ map (λ e. e.1) row.now) }
+{
+    row.iter().map(|entry| entry.1).collect(alloc)
+}
+
+// Looks at the slot with this head, and moves what is due at the tick `now` to the row, in the order of the slot.
+fn look(
+    places: &[Option<Place>],
+    rings: &mut Rings,
+    row: &mut Vec<(Place, u32)>,
+    head: u32,
+    now: u64,
+)
+    requires gathering { IsGathering places.now rings.old.next.items rings.old.previous.items (map entry_of row.old.items) now }
+    requires head { (length places.now ≤ head) × (head < length places.now + 256) }
+    requires room { length places.now ≤ vec_capacity row.old }
+    ensures gathering { IsGathering places.now rings.new.next.items rings.new.previous.items (map entry_of row.new.items) now }
+    ensures room { length places.now ≤ vec_capacity row.new }
+    ensures fewer { StillWaits places.now (map entry_of row.old.items) (map entry_of row.new.items) }
+    ensures clean { IsClean places.now (map entry_of row.new.items) head now }
+{
+    let mut item = rings.next[head as usize];
+    while item != head {
+        let after = rings.next[item as usize];
+        if let Some(place) = places[item as usize] {
+            if place.0 <= now {
+                rings.take_out(item);
+                let _ = row.push((place, item));
+            }
+        }
+        item = after;
+    }
+}
+
+// Looks at the slots of the ticks after `tick` up to `now` in turn, or at each slot once where there are more ticks than slots.
+// How many slots it looked at.
+fn look_on(
+    places: &[Option<Place>],
+    rings: &mut Rings,
+    row: &mut Vec<(Place, u32)>,
+    tick: u64,
+    now: u64,
+) -> u32
+    requires few { length places.now ≤ 4096 }
+    requires gathering { IsGathering places.now rings.old.next.items rings.old.previous.items (map entry_of row.old.items) now }
+    requires room { length places.now ≤ vec_capacity row.old }
+    requires ahead { (k : ℕ) (p : ℕ × ℕ) → waiting places.now (map entry_of row.old.items) k ≡ Some p → tick < p.0 }
+    requires forward { tick ≤ now }
+    ensures gathering { IsGathering places.now rings.new.next.items rings.new.previous.items (map entry_of row.new.items) now }
+    ensures room { length places.now ≤ vec_capacity row.new }
+    ensures done { (k : ℕ) (p : ℕ × ℕ) → waiting places.now (map entry_of row.new.items) k ≡ Some p → now < p.0 }
+    ensures looked { result ≡ min (now - tick) 256 }
+{
+    let size = places.len() as u32;
+    let ticks = cmp::min(now - tick, SLOTS as u64);
+    let mut looked = 0;
+    for after in 0..ticks {
+        let slot = (tick + 1 + after) % SLOTS as u64;
+        look(places, rings, row, size + slot as u32, now);
+        looked += 1;
+    }
+    looked
 }
 
 impl Model for Timetable {
-    ghost use Rattle.std.specs.Prelude.{map, length};
-    ghost use Rattle.wq_delay.specs.Rows.{Rows, entry_of, AreRows};
+    ghost use Rattle.std.specs.Prelude.{length};
+    ghost use Rattle.std.specs.Vec.{vec_capacity};
+    ghost use Rattle.wq_delay.specs.Rows.{Rows, entries_of, IsTimetable};
 
     ghost Value = { Rows };
 
-    ghost view = { λ t. record { size = length t.places.items; entries = map entry_of t.rows.entries } };
+    ghost view = { λ t. record { size = length t.places.items; entries = entries_of t.places.items; tick = t.tick } };
 
-    ghost invariant = { λ t. AreRows t.places.items (map entry_of t.rows.entries) };
+    ghost invariant = { λ t. IsTimetable t.places.items t.rings.next.items t.rings.previous.items t.row.items (vec_capacity t.row) t.front t.count t.tick };
 }
 
 impl Timetable {
-    pub(crate) fn new(alloc: Global, size: u32) -> Result<Timetable, AllocError>
-        ensures { IfOk result (λ t. (t.size ≡ size) × (t.entries ≡ [])) }
+    pub(crate) fn new(alloc: Global, size: u32, now: u64) -> Result<Timetable, AllocError>
+        requires { size ≤ 4096 }
+        ensures { IfOk result (λ t. (t.size ≡ size) × (t.entries ≡ []) × (t.tick ≡ now)) }
     {
         Ok(Timetable {
-            rows: BTreeMap::new(alloc),
             places: vec![in alloc; None; size as usize]?,
+            rings: Rings::new(alloc, size + SLOTS)?,
+            row: Vec::with_capacity(alloc, size as usize)?,
+            front: 0,
+            count: 0,
+            tick: now,
         })
+    }
+
+    // How many items there may be: each that is on the table is below that.
+    pub(crate) fn size(&self) -> u32
+        ensures size { result ≡ self.now.size }
+        ensures low { (k : ℕ) → on_table k self.now.entries ≡ true → k < self.now.size }
+    {
+        self.places.len() as u32
     }
 
     // How many items are on the table.
     pub(crate) fn len(&self) -> usize
         ensures count { result ≡ length self.now.entries }
-        ensures few { result ≤ self.now.size }
+        ensures few { result ≤ 4096 }
     {
-        self.rows.len()
+        self.count
+    }
+
+    // The present tick.
+    pub(crate) fn tick(&self) -> u64
+        ensures { result ≡ self.now.tick }
+    {
+        self.tick
     }
 
     // Whether the item is on the table.
@@ -51,94 +195,91 @@ impl Timetable {
         self.places[item as usize].is_some()
     }
 
-    // Puts an item on the table that is not there, with a later arming than all that stand there.
-    pub(crate) fn put(&mut self, item: u32, due: u64, arming: u64) -> Result<(), AllocError>
+    // Puts an item on the table that is not there, later than the present tick, with a later arming than all that stand there.
+    pub(crate) fn put(&mut self, item: u32, due: u64, arming: u64)
         requires item { item < self.old.size }
         requires off { on_table item self.old.entries ≡ false }
+        requires later { self.old.tick < due }
         requires last { AreArmedBefore arming self.old.entries }
         ensures size { self.new.size ≡ self.old.size }
-        ensures put { OnOk result (self.new.entries ≡ placed (record { due = due; arming = arming; item = item }) self.old.entries) }
-        ensures refused { OnErr result (self.new.entries ≡ self.old.entries) }
+        ensures tick { self.new.tick ≡ self.old.tick }
+        ensures put { self.new.entries ≡ placed (record { due = due; arming = arming; item = item }) self.old.entries }
     {
-        let place = (due, arming);
-        self.rows.insert(place, item)?;
-        self.places[item as usize] = Some(place);
-        Ok(())
+        let slot = (due % SLOTS as u64) as u32;
+        let head = self.places.len() as u32 + slot;
+        self.places[item as usize] = Some((due, arming));
+        self.rings.put_behind(item, head);
+        self.count += 1;
     }
 
-    // Gives an item on the table another tick and a later arming than all that stand there.
-    pub(crate) fn replace(&mut self, item: u32, due: u64, arming: u64) -> Result<(), AllocError>
+    // Gives an item on the table another tick, later than the present one, and a later arming than all that stand there.
+    pub(crate) fn replace(&mut self, item: u32, due: u64, arming: u64)
         requires item { item < self.old.size }
-        requires on { on_table item self.old.entries ≡ true }
+        requires later { self.old.tick < due }
         requires last { AreArmedBefore arming self.old.entries }
         ensures size { self.new.size ≡ self.old.size }
-        ensures placed { OnOk result (self.new.entries ≡ placed (record { due = due; arming = arming; item = item }) (without item self.old.entries)) }
-        ensures refused { OnErr result (self.new.entries ≡ self.old.entries) }
+        ensures tick { self.new.tick ≡ self.old.tick }
+        ensures placed { self.new.entries ≡ placed (record { due = due; arming = arming; item = item }) (without item self.old.entries) }
     {
-        let Some(place) = self.places[item as usize] else {
-            unreachable!()
-        };
-        let later = (due, arming);
-        self.rows.insert(later, item)?;
-        self.rows.remove(&place);
-        self.places[item as usize] = Some(later);
-        Ok(())
+        self.take(item);
+        self.put(item, due, arming);
     }
 
     // Takes an item off the table. False where it is not there.
     pub(crate) fn take(&mut self, item: u32) -> bool
         requires { item < self.old.size }
         ensures size { self.new.size ≡ self.old.size }
+        ensures tick { self.new.tick ≡ self.old.tick }
         ensures answer { result ≡ on_table item self.old.entries }
         ensures entries { self.new.entries ≡ without item self.old.entries }
     {
         let Some(place) = self.places[item as usize] else {
             return false;
         };
-        self.rows.remove(&place);
+        if place.0 > self.tick {
+            self.rings.take_out(item);
+        }
         self.places[item as usize] = None;
+        self.count -= 1;
         true
     }
 
-    // Takes the first item off the table.
-    pub(crate) fn pop(&mut self) -> Option<u32>
+    // Leads the table on to a tick. How many slots it looked at.
+    pub(crate) fn lead_on(&mut self, now: u64) -> u32
+        requires { self.old.tick ≤ now }
         ensures size { self.new.size ≡ self.old.size }
-        ensures low { IfSome result (λ k. k < self.old.size) }
-        ensures popped { MatchOption result ((self.old.entries ≡ []) × (self.new.entries ≡ [])) (λ k. Pops k self.old.entries self.new.entries) }
+        ensures tick { self.new.tick ≡ now }
+        ensures entries { self.new.entries ≡ self.old.entries }
+        ensures looked { result ≡ min (now - self.old.tick) 256 }
     {
-        let Some((_, item)) = self.rows.pop_first() else {
-            return None;
-        };
-        self.places[item as usize] = None;
-        Some(item)
+        let places = self.places.as_slice();
+        self.row.retain(|entry| is_there(places, *entry));
+        self.front = 0;
+        let looked = look_on(places, &mut self.rings, &mut self.row, self.tick, now);
+        self.row.sort_unstable();
+        self.tick = now;
+        looked
     }
 
     // The first item, where it is due.
-    pub(crate) fn first_due(&self, now: u64) -> Option<u32>
-        ensures first { MatchOption result (due_part now self.now.entries ≡ []) (λ k. IsFirstDue now k self.now.entries) }
-        ensures low { IfSome result (λ k. k < self.now.size) }
+    pub(crate) fn first_due(&mut self) -> Option<u32>
+        ensures same { self.new ≡ self.old }
+        ensures first { MatchOption result (due_part self.old.tick self.old.entries ≡ []) (λ k. IsFirstDue self.old.tick k self.old.entries) }
+        ensures low { IfSome result (λ k. k < self.old.size) }
     {
-        let Some((place, item)) = self.rows.first_key_value() else {
-            return None;
-        };
-        if place.0 > now {
+        self.front = first_there(&self.places, &self.row, self.front);
+        if self.front == self.row.len() {
             return None;
         }
-        Some(*item)
+        Some(self.row[self.front].1)
     }
 
-    // The due items in order.
+    // The items that are due at a tick, in order.
     pub(crate) fn list_due(&self, alloc: Global, now: u64) -> Result<Vec<u32>, AllocError>
-        ensures due { IfOk result (λ list. list.items ≡ items (due_part now self.now.entries)) }
-        ensures ordered { IsOrdered self.now.entries }
+        ensures { IfOk result (λ list. list.items ≡ items (due_part now self.now.entries)) }
     {
-        let mut list = Vec::new(alloc);
-        for (place, item) in &self.rows {
-            if place.0 > now {
-                return Ok(list);
-            }
-            list.push(*item)?;
-        }
-        Ok(list)
+        let mut due = gather(alloc, &self.places, now)?;
+        due.sort_unstable();
+        items_of(alloc, &due)
     }
 }

@@ -6,7 +6,7 @@ use wq_script::{parse, run};
 const HEADER: &str = "wq 1\nitems 4\nsenders 2\n";
 
 /// What it shows, the commands behind the header, and the report.
-const SCRIPTS: [(&str, &str, &str); 22] = [
+const SCRIPTS: [(&str, &str, &str); 25] = [
     (
         "a report of nothing",
         "report\n",
@@ -116,6 +116,21 @@ const SCRIPTS: [(&str, &str, &str); 22] = [
         "armed after the close",
         "close\narm 0 5\narm 1 0\nadvance 5\n",
         "closed 0\non table\nfalse closed\nrefused 0\n",
+    ),
+    (
+        "due in one slot and in others",
+        "arm 0 256\narm 1 1\narm 2 257\narm 3 512\nadvance 1\nadvance 257\nadvance 600\n",
+        "on table\non table\non table\non table\npushed 1\npushed 0 2\npushed 3\n",
+    ),
+    (
+        "due in one jump",
+        "arm 0 1000\narm 1 999\narm 2 1000\narm 3 744\nadvance 1000\n",
+        "on table\non table\non table\non table\npushed 3 1 0 2\n",
+    ),
+    (
+        "at the last tick",
+        "advance 18446744073709551615\narm 0 1\nmodify 0 1\narm 0 0\n",
+        "pushed nothing\nfalse too far\ntoo far\ntrue first\n",
     ),
 ];
 

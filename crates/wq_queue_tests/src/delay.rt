@@ -3,3 +3,4 @@ mod contended;
 mod memory;
 mod rows;
 mod seats;
+mod wheel;

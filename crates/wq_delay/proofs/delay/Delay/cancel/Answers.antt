@@ -1,31 +1,34 @@
-use Rattle.std.proofs.Common.{◌≡◌, false, List, refl, sym, ap, subst, ◌∙◌}
+use Rattle.std.proofs.Common.{◌≡◌, false, List, refl, sym, subst, ◌∙◌}
 use Rattle.wq_words.specs.declared.event.Event.TheVariants.{Back}
 use Rattle.wq_words.specs.declared.event.Why.TheVariants.{Cancelled}
 use Rattle.wq_words.specs.DelayTable.{Entry, on_table}
 use Rattle.wq_delay.specs.Delay.{DelayState, IsFit}
 use Rattle.wq_words.proofs.DelayTable.{without_off}
-use Rattle.wq_delay.proofs.Sound.{state, sound_leaves, stops_back}
+use Rattle.wq_delay.proofs.Sound.{state, fit_at, sound_leaves, stops_back}
 use Rattle.wq_delay.proofs.delay.Delay.cancel.Goals as goal
 
 pub invariant_of-self : goal.invariant_of-self
 invariant_of-self c =
     let i = c.self.inside in
-    let same = c.take.ensures.entries ∙ without_off c.args.item i.table.entries (sym c.if-not-take.ensures.answer) in
-    (c.take.ensures.size ∙ c.self.invariant.0, subst (λ (z : List Entry). IsFit (state i.sender i.tick i.next z)) (sym same) c.self.invariant.1)
+    let same = c.take.ensures.entries ∙ without_off c.args.item i.table.entries (sym c.if-not-take.ensures.answer) in (
+      c.take.ensures.size ∙ c.self.invariant.0,
+      fit_at i.sender c.take.new.self.entries i.table.tick c.take.new.self.tick i.next
+          (subst (λ (z : List Entry). IsFit (state i.sender i.table.tick i.next z)) (sym same) c.self.invariant.1),
+    )
 
 pub returns-then-not-take-clause-answer : goal.returns-then-not-take-clause-answer
 returns-then-not-take-clause-answer c =
     let i = c.self.inside in
     let off : on_table c.args.item i.table.entries ≡ false = sym c.if-not-take.ensures.answer in
-    let same = c.take.ensures.entries ∙ without_off c.args.item i.table.entries off in (
+    let same = c.take.ensures.entries ∙ without_off c.args.item i.table.entries off in
+    let at = c.take.ensures.tick in (
       subst (λ (z : DelayState). on_table c.args.item z.table.entries ≡ false) c.self.view_is off,
-      ap
-          (λ (z : List Entry). state i.sender i.tick i.next z) same ∙ c.self.view_is,
+      (λ p. record { sender = i.sender; table = record { entries = same p; tick = at p; next = i.next }; looked = i.looked }) ∙ c.self.view_is,
     )
 
 pub invariant_of-self-2 : goal.invariant_of-self-2
 invariant_of-self-2 c =
     let i = c.self.inside in let k = c.args.item in let s = i.sender.number in
-    let sound = sound_leaves (Back s k Cancelled) i.table.size 0 k i.sender c.give_back.new.self i.tick i.next i.table.entries c.take.new.self.entries
+    let sound = sound_leaves (Back s k Cancelled) i.table.size 0 k i.sender c.give_back.new.self i.table.tick i.next i.table.entries c.take.new.self.entries
     c.give_back.ensures (λ j. refl) (λ j. stops_back s k j Cancelled) c.take.ensures.entries c.self.invariant in
-    (c.take.ensures.size ∙ sound.0, sound.1)
+    (c.take.ensures.size ∙ sound.0, fit_at c.give_back.new.self c.take.new.self.entries i.table.tick c.take.new.self.tick i.next sound.1)

@@ -1,9 +1,11 @@
-use Rattle.std.proofs.Common.{length}
+use Rattle.std.proofs.Common.{◌≡◌, ◌<◌, ℕ, true, false}
+use Rattle.wq_words.specs.DelayTable.{on_table}
 use Rattle.wq_delay.proofs.Going.{Given}
 use Rattle.wq_delay.proofs.delay.Delay.dissolve.Given as goal
 
 abbrev pub invariant-loop-item : goal.invariant-loop-item
-invariant-loop-item l = Given l.table.size l.initial.sender l.initial.table.entries l.sender l.table.entries
-
-abbrev pub decreases-loop-item : goal.decreases-loop-item
-decreases-loop-item l = length l.table.entries
+invariant-loop-item l =
+    Given l.table.size l.initial.sender l.initial.table.entries l.sender l.table.entries
+    × ((k : ℕ) → on_table k l.table.entries ≡ true → k < l.item-end)
+    × ((k : ℕ) → k < l.item → on_table k l.table.entries ≡ false)
+    × (l.table.size ≡ l.item-end)

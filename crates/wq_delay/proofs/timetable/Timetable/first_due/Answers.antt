@@ -1,23 +1,35 @@
-use Rattle.std.proofs.Common.{◌≡◌, ◌<◌, [], map, ℕ, true, subst}
-use Rattle.wq_words.specs.DelayTable.{on_table, due_part}
-use Rattle.wq_delay.specs.Rows.{Rows, entry_of, IsFirstDue}
-use Rattle.wq_words.proofs.DelayTable.{first_on}
-use Rattle.wq_delay.proofs.Rows.{first_late, first_now, in_places}
+use Rattle.std.proofs.Common.{◌≡◌, ◌<◌, ℕ, get_or, [], List, take, length, true, sym, ap, subst, ◌∙◌, arith}
+use Rattle.std.specs.Prelude.{Option, filter}
+use Rattle.wq_delay.specs.Rows.{Rows, stands, IsFirstDue}
+use Rattle.wq_delay.proofs.Serving.{first_served}
+use Rattle.wq_delay.proofs.Leading.{stands_low}
 use Rattle.wq_delay.proofs.timetable.Timetable.first_due.Goals as goal
-
-pub returns-then-place-now-clause-first : goal.returns-then-place-now-clause-first
-returns-then-place-now-clause-first c =
-    subst (λ (z : Rows). due_part c.args.now z.entries ≡ []) c.self.view_is
-    (first_late c.self.inside.rows.entries _ c.args.now c.in-Some.ensures.first c.self.invariant.ordered c.if-place-now.true)
 
 pub returns-clause-first : goal.returns-clause-first
 returns-clause-first c =
-    subst (λ (z : Rows). IsFirstDue c.args.now c.in-Some.item.now z.entries) c.self.view_is
-    (first_now c.self.inside.rows.entries (c.in-Some.place.now, c.in-Some.item.now) c.args.now c.in-Some.ensures.first c.if-place-now.false)
+    let i = c.self.inside in let f = c.first_there-self-inside in let n = f.result in
+    let places : List (Option (ℕ × ℕ)) = i.places.items in let row : List ((ℕ × ℕ) × ℕ) = i.row.items in
+    let pv : c.deref.result.now ≡ places = c.deref.ensures.value in let rv : c.deref-2.result.now ≡ row = c.deref-2.ensures.value in
+    let low : n < length row = let e = ap (length {A = (ℕ × ℕ) × ℕ}) rv in omega (arith, e, f.ensures.low, c.if-self-len.false, c.len.ensures, i.row.ok.0) in
+    let before = subst (λ (z : List (Option (ℕ × ℕ))). filter (stands z) (take i.front c.deref-2.result.now) ≡ []) (sym pv)
+    (subst (λ (z : List ((ℕ × ℕ) × ℕ)). filter (stands places) (take i.front z) ≡ []) (sym rv) c.self.invariant.passed) in
+    let passed = subst (λ (z : List (Option (ℕ × ℕ))). filter (stands z) (take n row) ≡ []) pv
+    (subst (λ (z : List ((ℕ × ℕ) × ℕ)). filter (stands c.deref.result.now) (take n z) ≡ []) rv (f.ensures.passed before)) in
+    let e = c.index.result.now in
+    let hit = ap (stands places) c.index.ensures ∙ subst (λ (z : List (Option (ℕ × ℕ))). stands z (get_or row n e) ≡ true) pv
+    (subst (λ (z : List ((ℕ × ℕ) × ℕ)). stands c.deref.result.now (get_or z n e) ≡ true) rv
+    (f.ensures.there e (let q = ap (length {A = (ℕ × ℕ) × ℕ}) rv in omega (arith, low)))) in
+    subst (λ (z : Rows). IsFirstDue z.tick e.1 z.entries) c.self.view_is
+    (first_served places i.rings.next.items i.rings.previous.items row _ i.front i.count i.tick c.self.invariant n e low passed c.index.ensures hit)
 
 pub returns-clause-low : goal.returns-clause-low
 returns-clause-low c =
-    let first = first_now c.self.inside.rows.entries (c.in-Some.place.now, c.in-Some.item.now) c.args.now c.in-Some.ensures.first c.if-place-now.false in
-    let on = subst (λ (z : ℕ). on_table z (map entry_of c.self.inside.rows.entries) ≡ true) first.item_is (first_on _ _ _ first.is) in
-    subst (λ (z : Rows). c.in-Some.item.now < z.size) c.self.view_is
-    (in_places c.self.inside.places.items (map entry_of c.self.inside.rows.entries) c.in-Some.item.now c.self.invariant on)
+    let i = c.self.inside in let f = c.first_there-self-inside in let n = f.result in
+    let places : List (Option (ℕ × ℕ)) = i.places.items in let row : List ((ℕ × ℕ) × ℕ) = i.row.items in
+    let pv : c.deref.result.now ≡ places = c.deref.ensures.value in let rv : c.deref-2.result.now ≡ row = c.deref-2.ensures.value in
+    let low : n < length row = let e = ap (length {A = (ℕ × ℕ) × ℕ}) rv in omega (arith, e, f.ensures.low, c.if-self-len.false, c.len.ensures, i.row.ok.0) in
+    let e = c.index.result.now in
+    let hit = ap (stands places) c.index.ensures ∙ subst (λ (z : List (Option (ℕ × ℕ))). stands z (get_or row n e) ≡ true) pv
+    (subst (λ (z : List ((ℕ × ℕ) × ℕ)). stands c.deref.result.now (get_or z n e) ≡ true) rv
+    (f.ensures.there e (let q = ap (length {A = (ℕ × ℕ) × ℕ}) rv in omega (arith, low)))) in
+    subst (λ (z : Rows). e.1 < z.size) c.self.view_is (stands_low places e hit)

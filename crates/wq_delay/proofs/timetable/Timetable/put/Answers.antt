@@ -1,19 +1,38 @@
-use Rattle.std.proofs.Common.{◌≡◌, ◌<◌, false, map, ap, sym, subst, ◌∙◌}
+use Rattle.std.proofs.Common.{◌≡◌, ℕ, ◌+◌, ◌%◌, ◌<◌, length, set, false, ap, sym, subst, ◌∙◌, refl, arith}
+use Rattle.std.specs.Prelude.{slice_index}
 use Rattle.wq_words.specs.DelayTable.{on_table, placed, AreArmedBefore}
-use Rattle.wq_delay.specs.Rows.{Rows, entry_of}
-use Rattle.wq_delay.proofs.Rows.{entries-insert, rows_placed}
+use Rattle.wq_delay.specs.Rows.{Rows}
+use Rattle.wq_delay.proofs.Standing.{put_entries, put_timetable}
+use Rattle.wq_delay.proofs.Serving.{few_entries}
 use Rattle.wq_delay.proofs.timetable.Timetable.put.Goals as goal
 
-pub returns-clause-put : goal.returns-clause-put
-returns-clause-put c =
-    let armed = subst (λ (z : Rows). AreArmedBefore c.args.arming z.entries) (sym c.self.view_is) c.requires.last in
-    ap (map entry_of) c.in_ok-insert.ensures.entries ∙ (entries-insert c.self.inside.rows.entries c.args.due c.args.arming c.args.item armed
-    ∙ ap (λ (z : Rows). placed (record { due = c.args.due; arming = c.args.arming; item = c.args.item }) z.entries) c.self.view_is)
+pub overflow_add-self : goal.overflow_add-self
+overflow_add-self c =
+    let t = c.self.invariant in let few = few_entries c.self.inside.places.items t.apart in
+    omega (arith, few, t.few, t.count_is)
 
-pub invariant_of-self-2 : goal.invariant_of-self-2
-invariant_of-self-2 c =
+pub invariant_of-self : goal.invariant_of-self
+invariant_of-self c =
+    let i = c.self.inside in
     let armed = subst (λ (z : Rows). AreArmedBefore c.args.arming z.entries) (sym c.self.view_is) c.requires.last in
     let low = subst (λ (z : Rows). c.args.item < z.size) (sym c.self.view_is) c.requires.item in
     let off = subst (λ (z : Rows). on_table c.args.item z.entries ≡ false) (sym c.self.view_is) c.requires.off in
-    rows_placed c.self.inside.places.items _ _ c.args.item c.args.due c.args.arming c.self.invariant low off armed
-    (ap (map entry_of) c.in_ok-insert.ensures.entries ∙ entries-insert c.self.inside.rows.entries c.args.due c.args.arming c.args.item armed)
+    let later = subst (λ (z : Rows). z.tick < c.args.due) (sym c.self.view_is) c.requires.later in
+    let head : c.len.result + c.args.due % 256 ≡ length i.places.items + c.args.due % 256 = omega (arith, c.len.ensures, i.places.ok.0) in
+    put_timetable i.places.items i.rings.next.items i.rings.previous.items i.row.items _ i.front i.count i.tick c.self.invariant c.args.item low
+    c.args.due c.args.arming off later armed c.put_behind.new.self.next.items c.put_behind.new.self.previous.items (i.count + 1) refl
+    (subst (λ (z : ℕ). c.put_behind.new.self.next.items ≡ set (set i.rings.next.items (slice_index i.rings.previous.items z) c.args.item) c.args.item z)
+    head c.put_behind.ensures.next)
+    (subst (λ (z : ℕ). c.put_behind.new.self.previous.items ≡ set (set i.rings.previous.items z c.args.item) c.args.item (slice_index i.rings.previous.items z))
+    head c.put_behind.ensures.previous)
+
+pub returns-clause-put : goal.returns-clause-put
+returns-clause-put c =
+    let i = c.self.inside in
+    let armed = subst (λ (z : Rows). AreArmedBefore c.args.arming z.entries) (sym c.self.view_is) c.requires.last in
+    let low = subst (λ (z : Rows). c.args.item < z.size) (sym c.self.view_is) c.requires.item in
+    let off = subst (λ (z : Rows). on_table c.args.item z.entries ≡ false) (sym c.self.view_is) c.requires.off in
+    let later = subst (λ (z : Rows). z.tick < c.args.due) (sym c.self.view_is) c.requires.later in
+    put_entries i.places.items i.rings.next.items i.rings.previous.items i.row.items _ i.front i.count i.tick c.self.invariant c.args.item low
+    c.args.due c.args.arming off later armed
+    ∙ ap (λ (z : Rows). placed (record { due = c.args.due; arming = c.args.arming; item = c.args.item }) z.entries) c.self.view_is

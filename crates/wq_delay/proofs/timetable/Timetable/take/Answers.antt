@@ -1,10 +1,15 @@
-use Rattle.std.proofs.Common.{◌<◌, Option, None, is_some, List, map, ℕ, ap, sym, subst, ◌∙◌}
+use Rattle.std.proofs.Common.{◌≡◌, ◌<◌, ◌≤◌, ◌-◌, Option, Some, None, is_some, List, get_or, set, ℕ, ap, sym, subst, ◌∙◌, arith}
+use Rattle.std.specs.Vec.{vec_capacity}
 use Rattle.std.proofs.lemmas.List.{get_or_read}
 use Rattle.wq_words.specs.DelayTable.{on_table, without}
-use Rattle.wq_delay.specs.Rows.{Rows, entry_of}
+use Rattle.wq_delay.specs.Rows.{Rows, entries_of, IsTimetable}
+use Rattle.wq_delay.specs.declared.timetable.Timetable.TheInside.{Inside}
 use Rattle.wq_words.proofs.DelayTable.{without_off}
-use Rattle.wq_delay.proofs.Rows.{entries-remove, rows_without, known_on}
+use Rattle.wq_delay.proofs.Rows.{known_on}
+use Rattle.wq_delay.proofs.Spelled.{entries_rows}
+use Rattle.wq_delay.proofs.Standing.{take_entries, take_timetable, take_waiting, take_due, take_counted}
 use Rattle.wq_delay.proofs.timetable.Timetable.take.Goals as goal
+use Rattle.wq_delay.proofs.timetable.Timetable.take.Goals.{then-place-self, else-place-self}
 
 pub returns-in_default-clause-answer : goal.returns-in_default-clause-answer
 returns-in_default-clause-answer c =
@@ -12,7 +17,8 @@ returns-in_default-clause-answer c =
     let low = subst (λ (z : Rows). c.args.item < z.size) (sym c.self.view_is) c.requires in
     let read = get_or_read places _ _ low c.index.ensures None in
     sym (ap is_some c.in_default.is)
-    ∙ (ap is_some read ∙ (known_on places _ c.args.item c.self.invariant ∙ ap (λ (z : Rows). on_table c.args.item z.entries) c.self.view_is))
+    ∙ (ap is_some read ∙ (known_on places (entries_of places) c.args.item (entries_rows places c.self.invariant.apart)
+    ∙ ap (λ (z : Rows). on_table c.args.item z.entries) c.self.view_is))
 
 pub returns-in_default-clause-entries : goal.returns-in_default-clause-entries
 returns-in_default-clause-entries c =
@@ -20,32 +26,59 @@ returns-in_default-clause-entries c =
     let low = subst (λ (z : Rows). c.args.item < z.size) (sym c.self.view_is) c.requires in
     let read = get_or_read places _ _ low c.index.ensures None in
     let off = sym (sym (ap is_some c.in_default.is)
-    ∙ (ap is_some read ∙ (known_on places _ c.args.item c.self.invariant ∙ ap (λ (z : Rows). on_table c.args.item z.entries) c.self.view_is))) in
+    ∙ (ap is_some read ∙ (known_on places (entries_of places) c.args.item (entries_rows places c.self.invariant.apart)
+    ∙ ap (λ (z : Rows). on_table c.args.item z.entries) c.self.view_is))) in
     sym (without_off c.args.item c.args.self.now.entries off)
+
+pub overflow_sub-self : goal.overflow_sub-self
+overflow_sub-self c =
+    let i = c.self.inside in let places : List (Option (ℕ × ℕ)) = i.places.items in
+    let low = subst (λ (z : Rows). c.args.item < z.size) (sym c.self.view_is) c.requires in
+    let read = get_or_read places _ _ low c.index.ensures None in
+    let some : get_or places c.args.item None ≡ Some c.in-Some.place = sym read ∙ c.in-Some.is in
+    let counted = take_counted places i.rings.next.items i.rings.previous.items i.row.items _ i.front i.count i.tick c.self.invariant c.args.item low c.in-Some.place some in
+    elim c.if-place-self.branch [
+      | then-place-self w ↦ subst (λ (z : Inside). 1 ≤ z.count) (sym w.self-inside-is) counted
+      | else-place-self w ↦ subst (λ (z : Inside). 1 ≤ z.count) (sym w.self-inside-is) counted
+    ]
 
 pub invariant_of-self : goal.invariant_of-self
 invariant_of-self c =
-    let places : List (Option (ℕ × ℕ)) = c.self.inside.places.items in
+    let i = c.self.inside in let places : List (Option (ℕ × ℕ)) = i.places.items in
     let low = subst (λ (z : Rows). c.args.item < z.size) (sym c.self.view_is) c.requires in
     let read = get_or_read places _ _ low c.index.ensures None in
-    let known = sym (c.self.invariant.known c.args.item) ∙ (sym read ∙ c.in-Some.is) in
-    rows_without places _ _ c.args.item c.self.invariant low (ap (map entry_of) c.remove.ensures.entries
-    ∙ entries-remove c.self.inside.rows.entries c.args.item c.in-Some.place c.self.invariant.ordered known)
+    let some : get_or places c.args.item None ≡ Some c.in-Some.place = sym read ∙ c.in-Some.is in
+    let counted = take_counted places i.rings.next.items i.rings.previous.items i.row.items _ i.front i.count i.tick c.self.invariant c.args.item low c.in-Some.place some in
+    let after = λ (z : Inside). IsTimetable (set z.places.items c.args.item None) z.rings.next.items z.rings.previous.items z.row.items
+    (vec_capacity z.row) z.front (z.count - 1) z.tick in
+    elim c.if-place-self.branch [
+      | then-place-self w ↦ subst after (sym w.self-inside-is)
+          (take_timetable places i.rings.next.items i.rings.previous.items i.row.items _ i.front i.count i.tick c.self.invariant c.args.item low c.in-Some.place some w.take_out.new.self.next.items w.take_out.new.self.previous.items (i.count - 1) (omega arith)
+          (take_waiting places i.rings.next.items i.rings.previous.items i.row.items _ i.front i.count i.tick c.self.invariant c.args.item low c.in-Some.place some w.take_out.new.self.next.items w.take_out.new.self.previous.items w.if-place-self.true w.take_out.ensures.next w.take_out.ensures.previous))
+      | else-place-self w ↦ subst after (sym w.self-inside-is)
+          (take_timetable places i.rings.next.items i.rings.previous.items i.row.items _ i.front i.count i.tick c.self.invariant c.args.item low c.in-Some.place some i.rings.next.items i.rings.previous.items (i.count - 1) (omega arith)
+          (take_due places i.rings.next.items i.rings.previous.items i.row.items _ i.front i.count i.tick c.self.invariant c.args.item low c.in-Some.place some w.if-place-self.false))
+    ]
 
 pub returns-clause-answer : goal.returns-clause-answer
 returns-clause-answer c =
     let places : List (Option (ℕ × ℕ)) = c.self.inside.places.items in
     let low = subst (λ (z : Rows). c.args.item < z.size) (sym c.self.view_is) c.requires in
     let read = get_or_read places _ _ low c.index.ensures None in
-    sym (ap is_some c.in-Some.is) ∙
-    (ap is_some read ∙ (known_on places _ c.args.item c.self.invariant ∙ ap (λ (z : Rows). on_table c.args.item z.entries) c.self.view_is))
+    sym (ap is_some c.in-Some.is)
+    ∙ (ap is_some read ∙ (known_on places (entries_of places) c.args.item (entries_rows places c.self.invariant.apart)
+    ∙ ap (λ (z : Rows). on_table c.args.item z.entries) c.self.view_is))
 
 pub returns-clause-entries : goal.returns-clause-entries
 returns-clause-entries c =
-    let places : List (Option (ℕ × ℕ)) = c.self.inside.places.items in
+    let i = c.self.inside in let places : List (Option (ℕ × ℕ)) = i.places.items in
     let low = subst (λ (z : Rows). c.args.item < z.size) (sym c.self.view_is) c.requires in
     let read = get_or_read places _ _ low c.index.ensures None in
-    let known = sym (c.self.invariant.known c.args.item) ∙ (sym read ∙ c.in-Some.is) in
-    ap (map entry_of) c.remove.ensures.entries
-    ∙ (entries-remove c.self.inside.rows.entries c.args.item c.in-Some.place c.self.invariant.ordered known
-    ∙ ap (λ (z : Rows). without c.args.item z.entries) c.self.view_is)
+    let some : get_or places c.args.item None ≡ Some c.in-Some.place = sym read ∙ c.in-Some.is in
+    let entries = take_entries places i.rings.next.items i.rings.previous.items i.row.items _ i.front i.count i.tick c.self.invariant c.args.item low c.in-Some.place some
+    ∙ ap (λ (z : Rows). without c.args.item z.entries) c.self.view_is in
+    let after = λ (z : Inside). entries_of (set z.places.items c.args.item None) ≡ without c.args.item c.args.self.now.entries in
+    elim c.if-place-self.branch [
+      | then-place-self w ↦ subst after (sym w.self-inside-is) entries
+      | else-place-self w ↦ subst after (sym w.self-inside-is) entries
+    ]

@@ -1,0 +1,140 @@
+-- How much stands in a row, and what is gathered item by item.
+use Rattle.std.proofs.Common.{◌≡◌, ℕ, ◌+◌, ◌<◌, ◌≤◌, ◌==◌, Bool, true, false, cond, ◌||◌, ◌&&◌, Option, Some, None, List, [], ◌∷◌, ◌++◌, map, length, is_ok, refl, sym, ap, ◌∙◌, subst, arith}
+use Rattle.std.specs.Prelude.{nat_lt, eqb, Result, Ok, Err, OnErr}
+use Rattle.std.specs.List.{All, IsDistinct}
+use Rattle.std.proofs.lemmas.List.{get_or_past, map-append}
+use Rattle.std.proofs.lemmas.List.Elements.{All-nil, All-head, All-tail, All-push}
+use Rattle.std.proofs.lemmas.Map.Steps.{length-le_from_distinct_below}
+use Rattle.std.proofs.lemmas.Bool.{eqb-true}
+use Rattle.std.proofs.lemmas.Bool.Decides.{nat_tests}
+use Rattle.wq_words.specs.DelayTable.{Entry, items, on_table}
+use Rattle.wq_delay.specs.Rows.{entry_of, place_in, times, is_due, AreOnTable, AreDueIn}
+use Rattle.wq_delay.proofs.Rounds.{at_or}
+use Rattle.wq_delay.proofs.Rows.{apart_items, any_item, length_items}
+use Rattle.wq_delay.proofs.Looking.{on_push, times_push, times_off}
+use Rattle.wq_delay.proofs.Gathered.{no_times, times_first, no_more_times}
+
+-- an entry that was pushed where there was room
+pub pushed : {A E : Type 0} (r : Result A E) (xs ys : List ((ℕ × ℕ) × ℕ)) (x : (ℕ × ℕ) × ℕ) (room size : ℕ)
+    → ys ≡ cond (is_ok r) (xs ++ x ∷ []) xs → OnErr r (room ≤ size) → size < room → map entry_of ys ≡ map entry_of xs ++ entry_of x ∷ []
+pushed (Ok a) xs ys x room size is full low = ap (map entry_of) is ∙ map-append entry_of xs (x ∷ [])
+pushed (Err e) xs ys x room size is full low = absurd (omega (arith, full))
+
+pub place_low : (places : List (Option (ℕ × ℕ))) (k : ℕ) (p : ℕ × ℕ) → place_in places k ≡ Some p → k < length places
+place_low places k p is = by (nat_lt k (length places)) refl
+  where
+    by : (b : Bool) → nat_lt k (length places) ≡ b → k < length places
+    by true lt = grind (arith, nat_tests)
+    by false ge = let high : length places ≤ k = grind (arith, nat_tests) in let none = get_or_past places k None high in absurd (cc)
+
+on_low : (places : List (Option (ℕ × ℕ))) (k : ℕ) (es : List Entry) → All (λ e. place_in places e.item ≡ Some (e.due, e.arming)) es
+    → on_table k es ≡ true → k < length places
+on_low places k [] valid on = absurd (cc)
+on_low places k (f ∷ fs) valid on =
+    by (k == f.item) refl on (λ rest. on_low places k fs (All-tail (λ e. place_in places e.item ≡ Some (e.due, e.arming)) f fs valid) rest)
+  where
+    by : (b : Bool) → (k == f.item) ≡ b → (b || on_table k fs) ≡ true → (on_table k fs ≡ true → k < length places) → k < length places
+    by true is _ rest =
+        let low = place_low places f.item (f.due, f.arming) (All-head (λ e. place_in places e.item ≡ Some (e.due, e.arming)) f fs valid) in
+        subst (λ (z : ℕ). z < length places) (sym (eqb-true k f.item is)) low
+    by false is on rest = rest on
+
+single_distinct : (es : List Entry) → ((k : ℕ) → times k es ≤ 1) → IsDistinct eqb (items es)
+unfolding IsDistinct
+single_distinct [] single = tt
+single_distinct (e ∷ es) single = (
+  apart_items e.item es (no_times e.item es (let a = single e.item in let b = times_first e es in omega arith)),
+  single_distinct es (λ k. let a = single k in let b = no_more_times k e es in omega arith),
+)
+
+few_rows : (places : List (Option (ℕ × ℕ))) (es : List Entry) → AreOnTable places es → length es ≤ length places
+few_rows places es on =
+    let low = length-le_from_distinct_below (items es) (length places) (single_distinct es on.single)
+    (λ k there. on_low places k es on.valid (sym (any_item k es) ∙ there)) in
+    omega (arith, low, length_items es)
+
+more_on_table : (places : List (Option (ℕ × ℕ))) (es : List Entry) (k : ℕ) (p : ℕ × ℕ) → AreOnTable places es → on_table k es ≡ false
+    → place_in places k ≡ Some p → AreOnTable places (es ++ record { due = p.0; arming = p.1; item = k } ∷ [])
+more_on_table places es k p on off is = record {
+  valid = All-push (λ e. place_in places e.item ≡ Some (e.due, e.arming)) es (record { due = p.0; arming = p.1; item = k }) on.valid is;
+  single = λ j. at_or (λ z. times z (es ++ record { due = p.0; arming = p.1; item = k } ∷ []) ≤ 1) k j
+      (one (k == k) (times_push k es (record { due = p.0; arming = p.1; item = k })) (times_off k es off))
+      (λ ne. same (j == k) (grind (arith, nat_tests)) (times_push j es (record { due = p.0; arming = p.1; item = k })) (on.single j));
+}
+  where
+    one : {n m : ℕ} (b : Bool) → n ≡ m + cond b 1 0 → m ≡ 0 → n ≤ 1
+    one true is none = omega arith
+    one false is none = omega arith
+
+    same : {n m : ℕ} (b : Bool) → b ≡ false → n ≡ m + cond b 1 0 → m ≤ 1 → n ≤ 1
+    same true off is few = absurd (cc)
+    same false off is few = omega arith
+
+-- where an item of the table does not stand in it, a row has room for it
+pub row_has_room : (places : List (Option (ℕ × ℕ))) (es : List Entry) (k : ℕ) (p : ℕ × ℕ) → AreOnTable places es → on_table k es ≡ false
+    → place_in places k ≡ Some p → length es < length places
+row_has_room places es k p on off is =
+    let few = few_rows places (es ++ record { due = p.0; arming = p.1; item = k } ∷ []) (more_on_table places es k p on off is) in
+    let n = longer es (record { due = p.0; arming = p.1; item = k }) in omega arith
+  where
+    longer : (xs : List Entry) (x : Entry) → length (xs ++ x ∷ []) ≡ length xs + 1
+    longer [] x = refl
+    longer (y ∷ ys) x = let e = longer ys x in omega arith
+
+pub length_map : (xs : List ((ℕ × ℕ) × ℕ)) → length (map entry_of xs) ≡ length xs
+length_map [] = refl
+length_map (x ∷ xs) = let e = length_map xs in omega arith
+
+-- what is gathered item by item
+pub gather_none : (places : List (Option (ℕ × ℕ))) (t : ℕ) → AreDueIn places t 0 []
+gather_none places t = record {
+  on = record { valid = All-nil (λ e. place_in places e.item ≡ Some (e.due, e.arming)); single = λ k. omega arith };
+  which = λ k. let e : nat_lt k 0 ≡ false = grind (arith, nat_tests) in rw e refl;
+}
+
+pub gather_more : (places : List (Option (ℕ × ℕ))) (t n : ℕ) (es fs : List Entry) (p : ℕ × ℕ) → AreDueIn places t n es → place_in places n ≡ Some p
+    → p.0 ≤ t → fs ≡ es ++ record { due = p.0; arming = p.1; item = n } ∷ [] → AreDueIn places t (n + 1) fs
+gather_more places t n es fs p due is low fs_is = subst (AreDueIn places t (n + 1)) (sym fs_is) (record {
+  on = more_on_table places es n p due.on off is;
+  which = λ k. on_push k es (record { due = p.0; arming = p.1; item = n }) ∙ at_or (λ z. (on_table z es || (z == n)) ≡ (nat_lt z (n + 1) && is_due t (place_in places z))) n k
+      (let a : (n == n) ≡ true = grind (arith, nat_tests) in let b : nat_lt n (n + 1) ≡ true = grind (arith, nat_tests) in
+      let d : is_due t (place_in places n) ≡ true = ap (is_due t) is ∙ (grind (arith, nat_tests)) in
+      rw (off, a, b) (sym d))
+      (λ ne. let a : (k == n) ≡ false = grind (arith, nat_tests) in let b : nat_lt k (n + 1) ≡ nat_lt k n = grind (arith, nat_tests) in
+      rw (a, b) (or_false (on_table k es) ∙ due.which k));
+})
+  where
+    off : on_table n es ≡ false
+    off = due.which n ∙ (let a : nat_lt n n ≡ false = grind (arith, nat_tests) in rw a refl)
+
+    or_false : (b : Bool) → (b || false) ≡ b
+    or_false true = refl
+    or_false false = refl
+
+pub gather_skip : (places : List (Option (ℕ × ℕ))) (t n : ℕ) (es : List Entry) → AreDueIn places t n es → is_due t (place_in places n) ≡ false
+    → AreDueIn places t (n + 1) es
+gather_skip places t n es due is = record {
+  on = due.on;
+  which = λ k. due.which k ∙ at_or (λ z. (nat_lt z n && is_due t (place_in places z)) ≡ (nat_lt z (n + 1) && is_due t (place_in places z))) n k
+      (rw is (and_false (nat_lt n n) ∙ sym (and_false (nat_lt n (n + 1)))))
+      (λ ne. let b : nat_lt k (n + 1) ≡ nat_lt k n = grind (arith, nat_tests) in rw b refl);
+}
+  where
+    and_false : (b : Bool) → (b && false) ≡ false
+    and_false true = refl
+    and_false false = refl
+
+pub gather_all : (places : List (Option (ℕ × ℕ))) (t n : ℕ) (es : List Entry) → AreDueIn places t n es → n ≡ length places
+    → (k : ℕ) → on_table k es ≡ is_due t (place_in places k)
+gather_all places t n es due n_is k = due.which k ∙ by (nat_lt k n) refl
+  where
+    by : (b : Bool) → nat_lt k n ≡ b → (b && is_due t (place_in places k)) ≡ is_due t (place_in places k)
+    by true lt = refl
+    by false ge = let high : length places ≤ k = grind (arith, nat_tests) in sym (ap (is_due t) (get_or_past places k None high))
+
+pub late_not_due : (t : ℕ) (p : ℕ × ℕ) (o : Option (ℕ × ℕ)) → o ≡ Some p → t < p.0 → is_due t o ≡ false
+late_not_due t p o is late = ap (is_due t) is ∙ (grind (arith, nat_tests))
+
+pub items_of_rows : (xs : List ((ℕ × ℕ) × ℕ)) → map (λ (e : (ℕ × ℕ) × ℕ). e.1) xs ≡ items (map entry_of xs)
+items_of_rows [] = refl
+items_of_rows (x ∷ xs) = ap (λ (z : List ℕ). x.1 ∷ z) (items_of_rows xs)

@@ -1,0 +1,318 @@
+-- A slot is looked at place by place, and what is due is moved to the row.
+use Rattle.std.proofs.Common.{◌≡◌, ◌≢◌, ℕ, ◌+◌, ◌-◌, ◌*◌, ◌/◌, ◌%◌, ◌<◌, ◌≤◌, ◌==◌, Bool, true, false, cond, ◌||◌, Option, Some, None, List, [], ◌∷◌, ◌++◌, length, set, refl, sym, ap, ◌∙◌, subst, arith, zero, suc, mod-lt}
+use Rattle.std.specs.Prelude.{nat_lt, nat_le, slice_index, min}
+use Rattle.std.specs.List.{All}
+use Rattle.std.proofs.Math.Nat.{mod-le, mod-add-div', add-mul-mod_self_right}
+use Rattle.std.proofs.lemmas.List.Elements.{All-push}
+use Rattle.std.proofs.lemmas.Bool.Decides.{nat_tests}
+use Rattle.wq_words.specs.DelayTable.{Entry, on_table}
+use Rattle.wq_words.proofs.DelayTable.{first_false, second_false}
+use Rattle.wq_delay.specs.Rings.{AreRings}
+use Rattle.wq_delay.specs.Rows.{place_in, head_by, number_by, times, waiting, IsGathering, StillWaits, IsClean}
+use Rattle.wq_delay.proofs.Rounds.{at_or}
+use Rattle.wq_delay.proofs.Wheel.{wheel_without}
+use Rattle.wq_delay.proofs.Spelled.{some_same}
+
+-- an entry more at the end of the row
+pub on_push : (j : ℕ) (es : List Entry) (e : Entry) → on_table j (es ++ e ∷ []) ≡ (on_table j es || (j == e.item))
+on_push j [] e = last (j == e.item)
+  where
+    last : (b : Bool) → (b || false) ≡ b
+    last true = refl
+    last false = refl
+on_push j (f ∷ fs) e = by (j == f.item) (on_push j fs e)
+  where
+    by : (b : Bool) → on_table j (fs ++ e ∷ []) ≡ (on_table j fs || (j == e.item))
+        → (b || on_table j (fs ++ e ∷ [])) ≡ ((b || on_table j fs) || (j == e.item))
+    by true is = refl
+    by false is = is
+
+pub times_push : (j : ℕ) (es : List Entry) (e : Entry) → times j (es ++ e ∷ []) ≡ times j es + cond (j == e.item) 1 0
+times_push j [] e = omega arith
+times_push j (f ∷ fs) e = by (cond (j == f.item) 1 0) (times_push j fs e)
+  where
+    by : (n : ℕ) → times j (fs ++ e ∷ []) ≡ times j fs + cond (j == e.item) 1 0
+        → n + times j (fs ++ e ∷ []) ≡ (n + times j fs) + cond (j == e.item) 1 0
+    by n is = omega arith
+
+pub times_off : (k : ℕ) (es : List Entry) → on_table k es ≡ false → times k es ≡ 0
+times_off k [] off = refl
+times_off k (f ∷ fs) off =
+    let is : (k == f.item) ≡ false = first_false (k == f.item) (on_table k fs) off in
+    let rest = times_off k fs (second_false (k == f.item) (on_table k fs) off) in rw is (omega arith)
+
+-- what waits stands on the table, and not in the row
+pub waits_there : (places : List (Option (ℕ × ℕ))) (row : List Entry) (k : ℕ) (p : ℕ × ℕ) → waiting places row k ≡ Some p
+    → (on_table k row ≡ false) × (place_in places k ≡ Some p)
+waits_there places row k p is = by (on_table k row) refl is
+  where
+    by : (b : Bool) → on_table k row ≡ b → cond b None (place_in places k) ≡ Some p → (on_table k row ≡ false) × (place_in places k ≡ Some p)
+    by true on same = absurd (cc)
+    by false off same = (off, same)
+
+pub waits_as : (places : List (Option (ℕ × ℕ))) (row : List Entry) (k : ℕ) → on_table k row ≡ false → waiting places row k ≡ place_in places k
+waits_as places row k off = rw off refl
+
+waits_not : (places : List (Option (ℕ × ℕ))) (row : List Entry) (k : ℕ) → on_table k row ≡ true → waiting places row k ≡ None
+waits_not places row k on = rw on refl
+
+-- a number above those of all places
+pub most : List (Option (ℕ × ℕ)) → ℕ
+most [] = 0
+most (o ∷ os) = number_by o + most os
+
+pub number_most : (places : List (Option (ℕ × ℕ))) (k : ℕ) → number_by (place_in places k) ≤ most places
+unfolding most
+number_most [] k = omega arith
+number_most (o ∷ os) zero = omega arith
+number_most (o ∷ os) (suc k) = let is = number_most os k in omega arith
+
+-- how far the head of the slot is
+pub steps_left : List (Option (ℕ × ℕ)) → ℕ → ℕ → ℕ
+steps_left places head x = cond (x == head) 0 (most places + 1 - number_by (place_in places x))
+
+-- at the place x of the slot with this head, nothing that is due waits before it
+pub record Looking (places : List (Option (ℕ × ℕ))) (next previous : List ℕ) (start row : List Entry) (head now x : ℕ) : Type 0 where
+  pub gathering : IsGathering places next previous row now
+  pub fewer : StillWaits places start row
+  pub low : x < length places + 256
+  pub here : head_by (length places) x (waiting places row x) ≡ head
+  pub done : (k : ℕ) (p : ℕ × ℕ) → waiting places row k ≡ Some p → length places + p.0 % 256 ≡ head
+      → (x ≢ head → p.1 + 1 < number_by (waiting places row x)) → now < p.0
+
+module _ (places : List (Option (ℕ × ℕ))) (next previous : List ℕ) (start row : List Entry) (head now : ℕ)
+    (high : length places ≤ head) (low : head < length places + 256) where
+  abbrev size : ℕ
+  size = length places
+
+  slot_item : (k : ℕ) (p : ℕ × ℕ) → waiting places row k ≡ Some p → head_by size k (waiting places row k) ≡ size + p.0 % 256
+  slot_item k p is = ap (head_by size k) is
+
+  number_item : (k : ℕ) (p : ℕ × ℕ) → waiting places row k ≡ Some p → number_by (waiting places row k) ≡ p.1 + 1
+  number_item k p is = ap number_by is
+
+  item_low : (g : IsGathering places next previous row now) → (k : ℕ) (p : ℕ × ℕ) → waiting places row k ≡ Some p → k < size
+  item_low g k p is = by (nat_lt k size) refl
+    where
+      by : (b : Bool) → nat_lt k size ≡ b → k < size
+      by true lt = grind (arith, nat_tests)
+      by false ge = let none = g.wheel.heads k (grind (arith, nat_tests)) in absurd (cc)
+
+  pub looking_init : IsGathering places next previous row now → Looking places next previous row row head now (slice_index next head)
+  looking_init g =
+      let r = g.wheel.rings in
+      let own : head_by size head (waiting places row head) ≡ head = ap (head_by size head) (g.wheel.heads head high) in
+      let zero_is : number_by (waiting places row head) ≡ 0 = ap number_by (g.wheel.heads head high) in record {
+        gathering = g;
+        fewer = λ k p is. is;
+        low = r.next_low head low;
+        here = r.stays head low ∙ own;
+        done = λ k p is slot below.
+            let k_low = item_low g k p is in let e = number_item k p is in
+            let near = r.nearest head k low (omega arith) (own ∙ (sym slot ∙ sym (slot_item k p is))) (omega arith) in
+            let f = below (λ s. near.0 (s ∙ sym own)) in let o = near.1 in absurd (omega arith);
+      }
+
+  pub looking_end : (x : ℕ) → Looking places next previous start row head now x → x ≡ head → IsClean places row head now
+  looking_end x l is k p at slot = l.done k p at slot (λ ne. absurd (ne is))
+
+  -- a place that is not the head is an item that waits in the slot
+  pub looking_item : (x : ℕ) → Looking places next previous start row head now x → x ≢ head
+      → (p : ℕ × ℕ) × (waiting places row x ≡ Some p) × (size + p.0 % 256 ≡ head)
+  looking_item x l ne = by (waiting places row x) refl l.here
+    where
+      by : (o : Option (ℕ × ℕ)) → waiting places row x ≡ o → head_by size x o ≡ head
+          → (p : ℕ × ℕ) × (waiting places row x ≡ Some p) × (size + p.0 % 256 ≡ head)
+      by None is at = absurd (ne at)
+      by (Some p) is at = (p, is, at)
+
+  module _ (x : ℕ) (l : Looking places next previous start row head now x) (ne : x ≢ head) where
+    abbrev y : ℕ
+    y = slice_index next x
+
+    r : AreRings (slice_index next) (slice_index previous) (λ k. head_by size k (waiting places row k)) (λ k. number_by (waiting places row k)) (size + 256)
+    r = l.gathering.wheel.rings
+
+    abbrev q : ℕ × ℕ
+    q = (looking_item x l ne).0
+
+    q_is : waiting places row x ≡ Some q
+    q_is = (looking_item x l ne).1
+
+    y_here : head_by size y (waiting places row y) ≡ head
+    y_here = r.stays x l.low ∙ l.here
+
+    y_rises : y ≢ head → number_by (waiting places row x) < number_by (waiting places row y)
+    y_rises far = r.rises x l.low (λ s. far (s ∙ l.here))
+
+    pub y_other : y ≢ x
+    y_other is = let e = ap (λ (z : ℕ). number_by (waiting places row z)) is in
+        let f = y_rises (λ s. ne (sym is ∙ s)) in omega arith
+
+    -- before the next place stands no more than before x, and x
+    nothing_between : (k : ℕ) (p : ℕ × ℕ) → k ≢ x → waiting places row k ≡ Some p → size + p.0 % 256 ≡ head
+        → (y ≢ head → p.1 + 1 < number_by (waiting places row y)) → now < p.0
+    nothing_between k p other is slot below =
+        let k_low : k < size + 256 = let e = item_low l.gathering k p is in omega arith in
+        let same : head_by size k (waiting places row k) ≡ head_by size x (waiting places row x) = slot_item k p is ∙ (slot ∙ sym l.here) in
+        let e = number_item k p is in
+        by (nat_lt (number_by (waiting places row x)) (number_by (waiting places row k))) (nat_lt (number_by (waiting places row k)) (number_by (waiting places row x)))
+        refl refl k_low same
+      where
+        by : (b c : Bool) → nat_lt (number_by (waiting places row x)) (number_by (waiting places row k)) ≡ b
+            → nat_lt (number_by (waiting places row k)) (number_by (waiting places row x)) ≡ c → k < size + 256
+            → head_by size k (waiting places row k) ≡ head_by size x (waiting places row x) → now < p.0
+        by true c up down k_low same =
+            let e = number_item k p is in
+            let near = r.nearest x k l.low k_low (sym same) (grind (arith, nat_tests)) in
+            let f = below (λ s. near.0 (s ∙ sym l.here)) in let o = near.1 in absurd (omega arith)
+        by false true up down k_low same =
+            let e = number_item k p is in
+            let less : number_by (waiting places row k) < number_by (waiting places row x) = grind (arith, nat_tests) in
+            l.done k p is slot (λ _. omega arith)
+        by false false up down k_low same =
+            let equal : number_by (waiting places row k) ≡ number_by (waiting places row x) = grind (arith, nat_tests) in
+            absurd (other (r.apart k x k_low l.low same equal))
+
+    -- x is not due
+    pub looking_pass : (p : ℕ × ℕ) → place_in places x ≡ Some p → now < p.0 → Looking places next previous start row head now y
+    looking_pass p at late = record {
+      gathering = l.gathering;
+      fewer = l.fewer;
+      low = r.next_low x l.low;
+      here = y_here;
+      done = λ k o is slot below. at_or (λ z. waiting places row z ≡ Some o → now < o.0) x k
+          (λ w. let e = some_same p o (sym at ∙ (waits_there places row x o w).1) in let f = ap (λ (z : ℕ × ℕ). z.0) e in omega arith)
+          (λ other w. nothing_between k o other w slot below) is;
+    }
+
+    pub item_here : (x < size) × (place_in places x ≡ Some q)
+    item_here = (item_low l.gathering x q q_is, (waits_there places row x q q_is).1)
+
+    pub nearer : steps_left places head y < steps_left places head x
+    unfolding steps_left
+    nearer =
+        let a = number_most places x in let b = number_most places y in
+        let c = ap number_by q_is in let d = ap number_by item_here.1 in
+        let no : (x == head) ≡ false = grind (arith, nat_tests) in
+        rw no (by (y == head) refl (omega arith))
+      where
+        less : (b : Bool) (o : Option (ℕ × ℕ)) → number_by (cond b None o) ≤ number_by o
+        less true o = omega arith
+        less false o = omega arith
+
+        by : (b : Bool) → (y == head) ≡ b → number_by (place_in places x) ≤ most places
+            → cond b 0 (most places + 1 - number_by (place_in places y)) < most places + 1 - number_by (place_in places x)
+        by true is few = omega arith
+        by false is few =
+            let far : y ≢ head = grind (arith, nat_tests) in
+            let up = y_rises far in let b = number_most places y in let c = ap number_by q_is in let d = ap number_by item_here.1 in
+            let e = less (on_table y row) (place_in places y) in omega arith
+
+    -- x is due, and is moved to the row
+    module _ (p : ℕ × ℕ) (at : place_in places x ≡ Some p) (due : p.0 ≤ now) (next' previous' : List ℕ) (row' : List Entry)
+        (row_is : row' ≡ row ++ record { due = p.0; arming = p.1; item = x } ∷ [])
+        (next_is : next' ≡ set (set next (slice_index previous x) (slice_index next x)) x x)
+        (previous_is : previous' ≡ set (set previous (slice_index next x) (slice_index previous x)) x x) where
+      abbrev e : Entry
+      e = record { due = p.0; arming = p.1; item = x }
+
+      off : on_table x row ≡ false
+      off = (waits_there places row x q q_is).0
+
+      on_row : (j : ℕ) → on_table j row' ≡ (on_table j row || (j == x))
+      on_row j = ap (on_table j) row_is ∙ on_push j row e
+
+      w_x : waiting places row' x ≡ None
+      w_x = waits_not places row' x (on_row x ∙ ap (λ (z : Bool). z || (x == x)) off ∙ (grind (arith, nat_tests)))
+
+      w_other : (j : ℕ) → j ≢ x → waiting places row' j ≡ waiting places row j
+      w_other j other =
+          let no : (j == x) ≡ false = grind (arith, nat_tests) in
+          ap (λ (z : Bool). cond z None (place_in places j)) (on_row j ∙ (ap (λ (z : Bool). on_table j row || z) no ∙ or_false (on_table j row)))
+        where
+          or_false : (b : Bool) → (b || false) ≡ b
+          or_false true = refl
+          or_false false = refl
+
+      still : (k : ℕ) (o : ℕ × ℕ) → waiting places row' k ≡ Some o → (k ≢ x) × (waiting places row k ≡ Some o)
+      still k o is = at_or (λ z. waiting places row' z ≡ Some o → (z ≢ x) × (waiting places row z ≡ Some o)) x k
+          (λ w. absurd (let n = w_x in cc))
+          (λ other w. (other, sym (w_other k other) ∙ w)) is
+
+      moved : IsGathering places next' previous' row' now
+      moved = record {
+        wheel = wheel_without size next previous next' previous' (waiting places row) (waiting places row') x q l.gathering.wheel item_here.0
+            q_is w_x w_other next_is previous_is;
+        valid = subst (All (λ f. place_in places f.item ≡ Some (f.due, f.arming))) (sym row_is)
+            (All-push (λ f. place_in places f.item ≡ Some (f.due, f.arming)) row e l.gathering.valid at);
+        due = subst (All (λ f. f.due ≤ now)) (sym row_is) (All-push (λ f. f.due ≤ now) row e l.gathering.due due);
+        single = λ k. let m = ap (times k) row_is ∙ times_push k row e in at_or (λ z. z ≡ k → times k row' ≤ 1) x k
+            (λ s. let n = times_off x row off in let c : times x row ≡ times k row = ap (λ (z : ℕ). times z row) s in one k (k == x) m (omega arith))
+            (λ other s. other_one k (k == x) (grind (arith, nat_tests)) m (l.gathering.single k)) refl;
+      }
+        where
+          one : (k : ℕ) (b : Bool) → times k row' ≡ times k row + cond b 1 0 → times k row ≡ 0 → times k row' ≤ 1
+          one k true is none = omega arith
+          one k false is none = omega arith
+
+          other_one : (k : ℕ) (b : Bool) → b ≡ false → times k row' ≡ times k row + cond b 1 0 → times k row ≤ 1 → times k row' ≤ 1
+          other_one k true off is few = absurd (cc)
+          other_one k false off is few = omega arith
+
+      pub looking_take : Looking places next' previous' start row' head now y
+      looking_take = record {
+        gathering = moved;
+        fewer = λ k o is. l.fewer k o (still k o is).1;
+        low = r.next_low x l.low;
+        here = ap (head_by size y) (w_other y y_other) ∙ y_here;
+        done = λ k o is slot below. nothing_between k o (still k o is).0 (still k o is).1 slot
+            (λ far. let b = below far in let m = ap number_by (w_other y y_other) in omega arith);
+      }
+
+-- the slots of the ticks after tick were looked at, up to so many
+pub record LookingOn (places : List (Option (ℕ × ℕ))) (next previous : List ℕ) (start row : List Entry) (tick now n : ℕ) : Type 0 where
+  pub gathering : IsGathering places next previous row now
+  pub fewer : StillWaits places start row
+  pub done : (j : ℕ) → j < n → (k : ℕ) (p : ℕ × ℕ) → waiting places row k ≡ Some p → p.0 % 256 ≡ (tick + 1 + j) % 256 → now < p.0
+
+pub looking_on_init : (places : List (Option (ℕ × ℕ))) (next previous : List ℕ) (row : List Entry) (tick now : ℕ)
+    → IsGathering places next previous row now → LookingOn places next previous row row tick now 0
+looking_on_init places next previous row tick now g = record {
+  gathering = g;
+  fewer = λ k p is. is;
+  done = λ j low k p is at. absurd (omega arith);
+}
+
+pub looking_on_more : (places : List (Option (ℕ × ℕ))) (next previous next' previous' : List ℕ) (start row row' : List Entry) (tick now n head : ℕ)
+    → LookingOn places next previous start row tick now n → head ≡ length places + (tick + 1 + n) % 256
+    → IsGathering places next' previous' row' now → StillWaits places row row' → IsClean places row' head now
+    → LookingOn places next' previous' start row' tick now (n + 1)
+looking_on_more places next previous next' previous' start row row' tick now n head l head_is g fewer clean = record {
+  gathering = g;
+  fewer = λ k p is. l.fewer k p (fewer k p is);
+  done = λ j low k p is at. at_or (λ z. z < n + 1 → p.0 % 256 ≡ (tick + 1 + z) % 256 → now < p.0) n j
+      (λ _ same. clean k p is (omega arith))
+      (λ other less same. l.done j (omega arith) k p (fewer k p is) same) low at;
+}
+
+-- the slot of a tick is among those looked at
+slot_of : (tick due now n : ℕ) → tick < due → due ≤ now → n ≡ min (now - tick) 256
+    → (j : ℕ) × (j < n) × (due % 256 ≡ (tick + 1 + j) % 256)
+slot_of tick due now n late early n_is =
+    let m : ℕ = due - (tick + 1) in let j : ℕ = m % 256 in
+    let whole = mod-add-div' m 256 in let less = mod-le m 256 in let small = mod-lt m {m = 256} (omega arith) in
+    let due_is : due ≡ tick + 1 + j + (m / 256) * 256 = omega arith in
+    (j, (omega arith), ap (λ (z : ℕ). z % 256) due_is ∙ add-mul-mod_self_right (tick + 1 + j) (m / 256) 256)
+
+pub looking_on_end : (places : List (Option (ℕ × ℕ))) (next previous : List ℕ) (start row : List Entry) (tick now n : ℕ)
+    → LookingOn places next previous start row tick now n → n ≡ min (now - tick) 256
+    → ((k : ℕ) (p : ℕ × ℕ) → waiting places start k ≡ Some p → tick < p.0)
+    → (k : ℕ) (p : ℕ × ℕ) → waiting places row k ≡ Some p → now < p.0
+looking_on_end places next previous start row tick now n l n_is ahead k p is = by (nat_le p.0 now) refl
+  where
+    by : (b : Bool) → nat_le p.0 now ≡ b → now < p.0
+    by false late = grind (arith, nat_tests)
+    by true early =
+        let s = slot_of tick p.0 now n (ahead k p (l.fewer k p is)) (grind (arith, nat_tests)) n_is in
+        l.done s.0 s.1 k p is s.2

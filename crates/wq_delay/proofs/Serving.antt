@@ -1,0 +1,54 @@
+-- What stands first, and how much stands on a table.
+use Rattle.std.proofs.Common.{◌≡◌, ℕ, zero, suc, ◌<◌, ◌≤◌, Bool, true, false, cond, Option, List, [], ◌∷◌, ◌++◌, map, length, get_or, take, refl, sym, ap, ◌∙◌, arith}
+use Rattle.std.specs.Prelude.{filter}
+use Rattle.wq_words.specs.DelayTable.{Entry, due_part, later_part}
+use Rattle.wq_words.proofs.DelayTable.{due_then_later}
+use Rattle.wq_delay.specs.Rows.{entry_of, entries_of, AreApart, IsFirstDue, stands, IsTimetable}
+use Rattle.wq_delay.proofs.Rows.{length-le-places}
+use Rattle.wq_delay.proofs.Spelled.{entries_rows}
+use Rattle.std.proofs.lemmas.List.Elements.{All-get_or}
+
+pub few_entries : (places : List (Option (ℕ × ℕ))) → AreApart places → length (entries_of places) ≤ length places
+few_entries places apart = length-le-places places (entries_of places) (entries_rows places apart)
+
+-- where nothing before it passes a test, what passes comes first
+pub first_kept : {X : Type 0} (p : X → Bool) (xs : List X) (i : ℕ) (d : X) → i < length xs → filter p (take i xs) ≡ [] → p (get_or xs i d) ≡ true
+    → (rest : List X) × (filter p xs ≡ get_or xs i d ∷ rest)
+first_kept p [] i d low none hit = absurd (omega arith)
+first_kept p (x ∷ xs) zero d low none hit = (filter p xs, rw hit refl)
+first_kept {X} p (x ∷ xs) (suc i) d low none hit = by (p x) none (λ rest. first_kept p xs i d (omega arith) rest hit)
+  where
+    by : (b : Bool) → cond b (x ∷ filter p (take i xs)) (filter p (take i xs)) ≡ []
+        → (filter p (take i xs) ≡ [] → (rest : List X) × (filter p xs ≡ get_or xs i d ∷ rest))
+        → (rest : List X) × (cond b (x ∷ filter p xs) (filter p xs) ≡ get_or xs i d ∷ rest)
+    by true is rest = absurd (cc)
+    by false is rest = rest is
+
+module _ (places : List (Option (ℕ × ℕ))) (next previous : List ℕ) (row : List ((ℕ × ℕ) × ℕ)) (room front count tick : ℕ)
+    (t : IsTimetable places next previous row room front count tick) where
+  pub front_moved : (n : ℕ) → filter (stands places) (take n row) ≡ [] → IsTimetable places next previous row room n count tick
+  front_moved n passed = record {
+    few = t.few;
+    apart = t.apart;
+    wheel = t.wheel;
+    due_is = t.due_is;
+    early = t.early;
+    passed = passed;
+    enough = t.enough;
+    count_is = t.count_is;
+  }
+
+  pub first_served : (n : ℕ) (e : (ℕ × ℕ) × ℕ) → n < length row → filter (stands places) (take n row) ≡ [] → e ≡ get_or row n e → stands places e ≡ true
+      → IsFirstDue tick e.1 (entries_of places)
+  first_served n e low passed is hit =
+      let k = first_kept (stands places) row n e low passed (ap (stands places) (sym is) ∙ hit) in
+      let due : entry_of e ∷ map entry_of k.0 ≡ due_part tick (entries_of places) =
+      ap (λ (z : (ℕ × ℕ) × ℕ). entry_of z ∷ map entry_of k.0) is ∙ (ap (map entry_of) (sym k.1) ∙ t.due_is) in
+      record {
+        first = entry_of e;
+        rest = map entry_of k.0 ++ later_part tick (entries_of places);
+        is = due_then_later tick (entries_of places) (entries_rows places t.apart).ordered
+            ∙ ap (λ (z : List Entry). z ++ later_part tick (entries_of places)) (sym due);
+        item_is = refl;
+        due = let low = All-get_or (λ r. r.0.0 ≤ tick) row n e low t.early in let f = ap (λ (z : (ℕ × ℕ) × ℕ). z.0.0) is in omega arith;
+      }
