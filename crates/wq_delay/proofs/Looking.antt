@@ -156,7 +156,8 @@ module _ (places : List (Option (ℕ × ℕ))) (next previous : List ℕ) (start
         let k_low : k < size + 256 = let e = item_low l.gathering k p is in omega arith in
         let same : head_by size k (waiting places row k) ≡ head_by size x (waiting places row x) = slot_item k p is ∙ (slot ∙ sym l.here) in
         let e = number_item k p is in
-        by (nat_lt (number_by (waiting places row x)) (number_by (waiting places row k))) (nat_lt (number_by (waiting places row k)) (number_by (waiting places row x)))
+        by (nat_lt (number_by (waiting places row x)) (number_by (waiting places row k)))
+        (nat_lt (number_by (waiting places row k)) (number_by (waiting places row x)))
         refl refl k_low same
       where
         by : (b c : Bool) → nat_lt (number_by (waiting places row x)) (number_by (waiting places row k)) ≡ b
