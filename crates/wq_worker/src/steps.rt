@@ -1,10 +1,11 @@
 //! Steps of an owner and a sender of one queue, after each of which both have seen the same.
-ghost use Rattle.std.specs.Prelude.{◌≡◌, ℕ, ◌<◌, ◌≤◌, Some, None, [], ◌∷◌, MatchOption, length, drop};
+ghost use Rattle.std.specs.Prelude.{◌≡◌, ℕ, ◌<◌, ◌≤◌, Some, None, false, [], ◌∷◌, MatchOption, length, drop, slice_index};
 ghost use Rattle.wq_words.specs.declared.event.Event.TheVariants.{End};
 ghost use Rattle.wq_words.specs.History.{closed, running, IsRunning};
 ghost use Rattle.wq_words.specs.Legal.{IsLegal};
 ghost use Rattle.wq_words.specs.Seen.{owner_seat};
 ghost use Rattle.wq_live.specs.Known.{Sees};
+ghost use Rattle.wq_live.specs.Answers.{IsContended};
 ghost use Rattle.wq_live.specs.Batch.{next_of};
 ghost use Rattle.wq_worker.specs.Seats.{taking, NothingWaits};
 ghost use Rattle.wq_worker.specs.Pair.{settled, Paired, Both, BothFindNothing, BothBegin, BothQueue, QueuesRest};
@@ -65,7 +66,8 @@ fn queue_one(owner: &mut Owner, sender: &mut Sender, item: u32, tries: u32) -> b
     requires paired { Paired owner.old sender.old }
     requires runs { IsRunning owner.old.seen }
     requires tries { 0 < tries }
-    ensures { BothQueue item tries result owner.old sender.old owner.new sender.new }
+    ensures queued { BothQueue item tries result owner.old sender.old owner.new sender.new }
+    ensures contended { result ≡ false → IsContended sender.old.number item tries sender.new.seen }
 {
     if item >= owner.layout().items {
         return true;
@@ -95,6 +97,7 @@ pub(crate) fn queue_rest(
     requires from { from ≤ length follow.now }
     ensures within { result ≤ length follow.now }
     ensures queued { QueuesRest tries (drop from follow.now) (drop result follow.now) owner.old sender.old owner.new sender.new }
+    ensures contended { result < length follow.now → IsContended sender.old.number (slice_index follow.now result) tries sender.new.seen }
 {
     let mut at = from;
     while at < follow.len() {

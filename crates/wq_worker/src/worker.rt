@@ -1,14 +1,16 @@
 //! A worker.
-ghost use Rattle.std.specs.Prelude.{◌≡◌, ℕ, ◌+◌, ◌<◌, Some, None, [], ◌∷◌, All, length, IfOk, IfErr, MatchOption, MatchResult};
+ghost use Rattle.std.specs.Prelude.{◌≡◌, ℕ, ◌+◌, ◌<◌, Some, None, [], ◌∷◌, All, length, slice_index, IfOk, IfErr, MatchOption, MatchResult};
 ghost use Rattle.std.specs.Fn.{FnOnceTakesAtMut, FnOnceReturnsAtMut};
 ghost use Rattle.wq_words.specs.declared.event.Event.TheVariants.{Close};
 ghost use Rattle.wq_words.specs.History.{accepted, begun, ended, closed, running, Holds, IsRunning, IsClosed};
 ghost use Rattle.wq_words.specs.Seen.{owner_seat, Grows};
 ghost use Rattle.wq_live.specs.Known.{AreNumbered, Sees};
+ghost use Rattle.wq_live.specs.Answers.{IsContended};
 ghost use Rattle.wq_live.specs.Batch.{TakesAll};
 ghost use Rattle.wq_words.specs.Legal.{IsLegal, IsComplete};
 ghost use Rattle.wq_words.specs.Headline.{KeepsHeadline};
 ghost use Rattle.wq_worker.specs.State.{items_among, IsSameWorker, Moves, IsMadeOf, IsNew};
+ghost use Rattle.wq_worker.specs.declared.ran.Ran.TheVariants.{Owing};
 ghost use Rattle.wq_worker.specs.Step.{Runs, FindsNothing, Begins};
 ghost use Rattle.wq_worker.specs.Totals.{own_totals};
 ghost use Rattle.wq_worker.specs.Rows.{RunsSome, Drains, Serves, Closes};
@@ -125,7 +127,8 @@ impl<W: Work> Worker<W> {
     // Queues what is left of the list and ends the execution.
     fn finish(&mut self, number: u32) -> Ran
         requires { running self.old.seen ≡ Some number }
-        ensures { Runs W.may result self.old self.new }
+        ensures runs { Runs W.may result self.old self.new }
+        ensures owed { (k : ℕ) → result ≡ Owing k → IsContended self.old.number (slice_index self.new.unqueued 0) self.old.tries self.new.seen }
     {
         let at = queue_rest(
             &mut self.owner,
@@ -170,6 +173,7 @@ impl<W: Work> Worker<W> {
     /// is contended the execution is owed, and the next call goes on with it.
     pub fn run_one(&mut self) -> Ran
         ensures runs { Runs W.may result self.old self.new }
+        ensures owed { (k : ℕ) → result ≡ Owing k → IsContended self.old.number (slice_index self.new.unqueued 0) self.old.tries self.new.seen }
         ensures same { IsSameWorker self.old self.new }
         ensures legal { IsLegal self.new.layout self.new.seen }
     {

@@ -1,5 +1,6 @@
 use Rattle.std.proofs.Common.{◌≡◌, ℕ, List, [], ◌∷◌, ◌+◌, get_or, drop, refl, sym, subst, arith}
 use Rattle.std.proofs.Math.ListN.{drop_of_length-le}
+use Rattle.wq_live.specs.Answers.{IsContended}
 use Rattle.wq_worker.specs.Pair.{QueuesRest}
 use Rattle.wq_worker.proofs.Pair.{both_still}
 use Rattle.wq_worker.proofs.Follow.{Sofar, sofar_runs, one_more, was_contended, all_queued, next_left}
@@ -23,7 +24,7 @@ returns-then-not-queue_one-clause-queued c =
     let next : drop at xs ≡ k ∷ js = next_left at xs c.loop-at-test.true in
     subst (λ (z : List ℕ). QueuesRest c.args.tries ks z o s q u) (sym next)
     (was_contended ks k js c.queue_one.result c.args.tries o s p t q u
-    (subst (λ (z : List ℕ). Sofar ks z o s p t) next c.loop-at.invariant.1) c.if-not-queue_one.true c.queue_one.ensures)
+    (subst (λ (z : List ℕ). Sofar ks z o s p t) next c.loop-at.invariant.1) c.if-not-queue_one.true c.queue_one.ensures.queued)
 
 pub loop-at-preserved : goal.loop-at-preserved
 loop-at-preserved c =
@@ -33,8 +34,13 @@ loop-at-preserved c =
     let next : drop at xs ≡ k ∷ js = next_left at xs c.loop-at-test.true in (
       omega arith,
       one_more ks k js c.queue_one.result c.args.tries o s p t q u
-          (subst (λ (z : List ℕ). Sofar ks z o s p t) next c.loop-at.invariant.1) c.if-not-queue_one.false c.queue_one.ensures,
+          (subst (λ (z : List ℕ). Sofar ks z o s p t) next c.loop-at.invariant.1) c.if-not-queue_one.false c.queue_one.ensures.queued,
     )
 
 pub returns-clause-queued : goal.returns-clause-queued
 returns-clause-queued c = all_queued _ _ _ _ _ _ _ (drop_of_length-le c.args.follow.now c.loop-at-test.false) c.loop-at.invariant.1
+
+pub returns-then-not-queue_one-clause-contended : goal.returns-then-not-queue_one-clause-contended
+returns-then-not-queue_one-clause-contended c less =
+    subst (λ (n : ℕ). IsContended n (get_or c.args.follow.now c.loop-at.at 0) c.args.tries c.queue_one.new.sender.seen)
+    c.loop-at.invariant.1.moved.sender.number_is (c.queue_one.ensures.contended c.if-not-queue_one.true)

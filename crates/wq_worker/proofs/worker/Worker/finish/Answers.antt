@@ -20,8 +20,8 @@ pub invariant_of-self : goal.invariant_of-self
 invariant_of-self g c = let i = c.self.inside in let adv = rw c.as_slice.ensures.value at c.queue_rest-at.ensures.queued in
     advance_fits _ i.tries i.at c.queue_rest-at.result i.follow.items _ _ _ _ _ _ c.self.invariant adv (omega arith)
 
-pub returns-then-at-len : goal.returns-then-at-len
-returns-then-at-len g c =
+pub returns-then-at-len-clause-runs : goal.returns-then-at-len-clause-runs
+returns-then-at-len-clause-runs g c =
     let i = c.self.inside in let r = c.queue_rest-at.result in let k = c.args.number in
     let adv = rw c.as_slice.ensures.value at c.queue_rest-at.ensures.queued in
     let low : r < length i.follow.items = omega arith in let fs = i.follow.items in let p = c.queue_rest-at.new.owner in let t = c.queue_rest-at.new.sender in
@@ -57,8 +57,8 @@ invariant_of-self-2 g c =
     (advance_stays _ _ _ _ _ _ _ c.queue_rest-at.ensures.queued).running_same ∙ runs_at a c.args.self.now (Some k) c.self.view_is c.requires in
     fit_ended k _ _ _ _ _ _ _ _ fit (c.end_running.ensures k runs)
 
-pub returns : goal.returns
-returns g c =
+pub returns-clause-runs : goal.returns-clause-runs
+returns-clause-runs g c =
     let i = c.self.inside in let r = c.queue_rest-at.result in let k = c.args.number in
     let adv = rw c.as_slice.ensures.value at c.queue_rest-at.ensures.queued in
     let fs = i.follow.items in let p = c.queue_rest-at.new.owner in let t = c.queue_rest-at.new.sender in let q = c.end_running.new.owner in

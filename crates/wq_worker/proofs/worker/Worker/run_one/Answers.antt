@@ -9,15 +9,15 @@ pub returns-clause-runs : goal.returns-clause-runs
 returns-clause-runs g c =
     let a = c.args.self.now in let none : running a.seen ≡ None = search rules in
     runs_fresh g.W.Work.may c.in-Some-start.number c.finish-2.result a c.start.new.self c.finish-2.new.self c.in-Some-start.ensures
-    (runs_none a.seen none) c.finish-2.ensures
+    (runs_none a.seen none) c.finish-2.ensures.runs
 
 pub returns-clause-same : goal.returns-clause-same
 returns-clause-same g c =
     worker_on c.args.self.now c.start.new.self c.finish-2.new.self (moves_same _ 0 c.args.self.now c.start.new.self c.in-Some-start.ensures.moves)
-    (runs_same g.W.Work.may c.finish-2.result c.start.new.self c.finish-2.new.self c.finish-2.ensures)
+    (runs_same g.W.Work.may c.finish-2.result c.start.new.self c.finish-2.new.self c.finish-2.ensures.runs)
 
 pub returns-clause-legal : goal.returns-clause-legal
-returns-clause-legal g c = runs_legal g.W.Work.may c.finish-2.result c.start.new.self c.finish-2.new.self c.finish-2.ensures
+returns-clause-legal g c = runs_legal g.W.Work.may c.finish-2.result c.start.new.self c.finish-2.new.self c.finish-2.ensures.runs
 
 pub returns-in_default-start-clause-runs : goal.returns-in_default-start-clause-runs
 returns-in_default-start-clause-runs g c =
@@ -31,7 +31,7 @@ pub returns-in_default-start-clause-legal : goal.returns-in_default-start-clause
 returns-in_default-start-clause-legal g c = c.in_default-start.ensures.2.legal
 
 pub returns-in-Some-clause-same : goal.returns-in-Some-clause-same
-returns-in-Some-clause-same g c = runs_same g.W.Work.may c.finish.result c.args.self.now c.finish.new.self c.finish.ensures
+returns-in-Some-clause-same g c = runs_same g.W.Work.may c.finish.result c.args.self.now c.finish.new.self c.finish.ensures.runs
 
 pub returns-in-Some-clause-legal : goal.returns-in-Some-clause-legal
-returns-in-Some-clause-legal g c = runs_legal g.W.Work.may c.finish.result c.args.self.now c.finish.new.self c.finish.ensures
+returns-in-Some-clause-legal g c = runs_legal g.W.Work.may c.finish.result c.args.self.now c.finish.new.self c.finish.ensures.runs
