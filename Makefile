@@ -25,7 +25,7 @@ install: build
 examples: build
 	checks/examples.sh $(PROGRAM)
 
-# The tests of memory with each allocation refused in turn; some minutes a crate.
+# The calls that take memory, with each allocation refused in turn; one to two minutes.
 memory:
 	checks/refused_memory.sh
 

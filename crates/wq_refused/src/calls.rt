@@ -176,34 +176,52 @@ fn replay_turns(alloc: Global) -> Said {
     }
 }
 
-/// Arms an item and moves it. None where memory was wanting, which left the table as it was.
-fn arm_and_move(delay: &mut Delay) -> Option<bool> {
-    if delay.layout().items == 0 {
+/// How many items a table has: as many as fill the first node of its map.
+const ITEMS: u32 = 11;
+
+/// Arms an item, where the table has it. None where memory was wanting, which left the table as it was.
+fn arm(delay: &mut Delay, item: u32) -> Option<bool> {
+    if item >= delay.layout().items {
         return Some(false);
     }
-    match delay.arm(0, 5, 1) {
-        Armed::OnTable | Armed::Pending => {}
-        Armed::Memory => return if delay.len() == 0 { None } else { Some(false) },
-        _ => return Some(false),
+    let before = delay.len();
+    match delay.arm(item, 5, 1) {
+        Armed::OnTable | Armed::Pending => Some(true),
+        Armed::Memory if delay.len() == before => None,
+        _ => Some(false),
     }
+}
+
+/// Moves the first item of a full table. None where memory was wanting, which left the table as it was.
+fn move_first(delay: &mut Delay) -> Option<bool> {
     if delay.layout().items == 0 {
         return Some(false);
     }
     match delay.modify(0, 9, 1) {
         Modified::Moved => Some(true),
-        Modified::Memory => if delay.len() == 1 { None } else { Some(false) },
+        Modified::Memory if delay.len() == ITEMS as usize => None,
         _ => Some(false),
     }
 }
 
-/// Whether the item is due at its tick and at none before. None where memory was wanting.
+/// Arms all items and moves the first. None where memory was wanting.
+fn arm_and_move(delay: &mut Delay) -> Option<bool> {
+    for item in 0..ITEMS {
+        if !arm(delay, item)? {
+            return Some(false);
+        }
+    }
+    move_first(delay)
+}
+
+/// Whether the moved item is due at its tick, behind the others, and not before. None where memory was wanting.
 fn is_due(delay: &Delay) -> Option<bool> {
     let early = delay.due_list(8).ok()?;
     let due = delay.due_list(9).ok()?;
-    Some(early.is_empty() && due.as_slice() == [0].as_slice())
+    Some(early.len() == 10 && due.last() == Some(&0))
 }
 
-/// Puts an item on a table and reads it, again where memory was wanting.
+/// Puts items on a table and reads it, again where memory was wanting.
 fn fill_table(mut delay: Delay) -> Said {
     let moved = arm_and_move(&mut delay);
     let again = moved.is_none() && arm_and_move(&mut delay) == Some(true);
@@ -218,7 +236,7 @@ fn fill_table(mut delay: Delay) -> Said {
 }
 
 fn make_table(alloc: Global) -> Said {
-    let Ok(layout) = Layout::new(4, 1, 1) else {
+    let Ok(layout) = Layout::new(ITEMS, 1, 1) else {
         return Said::Wrong;
     };
     let Ok((_owner, mut senders)) = build(alloc, layout) else {

@@ -45,8 +45,10 @@ const MOVED_AND_CANCELLED: [Turn; 10] = [
 ];
 
 /// An item that stands on the queue is left there, and a delay of 0 queues at once.
-const ON_THE_QUEUE: [Turn; 9] = [
+const ON_THE_QUEUE: [Turn; 11] = [
     (Queue(0), Answered(Answer::Queued { first: true })),
+    (Arm(0, 0), Said::Armed(Armed::Pending)),
+    (Arm(0, 1), Said::Armed(Armed::Pending)),
     (Cancel(0), Cancelled(false)),
     (Modify(0, 3), Said::Modified(Modified::Pending)),
     (Arm(1, 2), ON_TABLE),
