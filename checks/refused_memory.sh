@@ -30,7 +30,9 @@ awk -F': |, ' '
     END {
         for (call in said) {
             if (!after[call]) print call, "has more allocations than were refused"
-            print call, "refused", refused[call] + 0, "memory", of[call ": memory"] + 0, "again", of[call ": memory and again"] + 0, "right", of[call ": right"] + 0, "wrong", of[call ": wrong"] + 0
+            line = call " refused " refused[call] + 0
+            line = line " memory " of[call ": memory"] + 0 " again " of[call ": memory and again"] + 0
+            print line " right " of[call ": right"] + 0 " wrong " of[call ": wrong"] + 0
         }
     }' "$folder/said" | sort >"$folder/report"
 cat "$folder/report"

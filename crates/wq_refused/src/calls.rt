@@ -176,55 +176,52 @@ fn replay_turns(alloc: Global) -> Said {
     }
 }
 
-/// How many items a table has: as many as fill the first node of its map.
-const ITEMS: u32 = 11;
+/// How many items a table has, more than a node of a map holds.
+const ITEMS: u32 = 16;
 
-/// Arms an item, where the table has it. None where memory was wanting, which left the table as it was.
-fn arm(delay: &mut Delay, item: u32) -> Option<bool> {
+/// Arms an item that is not on the table and sets its delay anew. None where memory was wanting, which left the table as it was.
+fn arm_and_move(delay: &mut Delay, item: u32) -> Option<bool> {
     if item >= delay.layout().items {
         return Some(false);
     }
     let before = delay.len();
     match delay.arm(item, 5, 1) {
-        Armed::OnTable | Armed::Pending => Some(true),
-        Armed::Memory if delay.len() == before => None,
-        _ => Some(false),
+        Armed::OnTable | Armed::Pending => {}
+        Armed::Memory if delay.len() == before => return None,
+        _ => return Some(false),
     }
-}
-
-/// Moves the first item of a full table. None where memory was wanting, which left the table as it was.
-fn move_first(delay: &mut Delay) -> Option<bool> {
-    if delay.layout().items == 0 {
+    if item >= delay.layout().items {
         return Some(false);
     }
-    match delay.modify(0, 9, 1) {
+    let before = delay.len();
+    match delay.modify(item, 9, 1) {
         Modified::Moved => Some(true),
-        Modified::Memory if delay.len() == ITEMS as usize => None,
+        Modified::Memory if delay.len() == before => None,
         _ => Some(false),
     }
 }
 
-/// Arms all items and moves the first. None where memory was wanting.
-fn arm_and_move(delay: &mut Delay) -> Option<bool> {
+/// Arms and moves all items. None where memory was wanting.
+fn arm_all(delay: &mut Delay) -> Option<bool> {
     for item in 0..ITEMS {
-        if !arm(delay, item)? {
+        if !arm_and_move(delay, item)? {
             return Some(false);
         }
     }
-    move_first(delay)
+    Some(true)
 }
 
-/// Whether the moved item is due at its tick, behind the others, and not before. None where memory was wanting.
+/// Whether all items are due at their tick and none before. None where memory was wanting.
 fn is_due(delay: &Delay) -> Option<bool> {
     let early = delay.due_list(8).ok()?;
     let due = delay.due_list(9).ok()?;
-    Some(early.len() == 10 && due.last() == Some(&0))
+    Some(early.is_empty() && due.len() == ITEMS as usize)
 }
 
 /// Puts items on a table and reads it, again where memory was wanting.
 fn fill_table(mut delay: Delay) -> Said {
-    let moved = arm_and_move(&mut delay);
-    let again = moved.is_none() && arm_and_move(&mut delay) == Some(true);
+    let moved = arm_all(&mut delay);
+    let again = moved.is_none() && arm_all(&mut delay) == Some(true);
     if moved != Some(true) && !again {
         return Said::Wrong;
     }
