@@ -28,13 +28,9 @@ pub record Goes (layout : Layout) (h : List Event) (s t : Seats) : Type 0 where
   pub work : IsSameWork s.worker t.worker
   pub table : IsSameTable s.delay t.delay
 
--- nothing happened
-abbrev pub Looks : Layout → List Event → Seats → Seats → Type 0
-Looks layout h s t = Goes layout h s t
-
 -- nothing happened, and this is so of the history
 abbrev pub LooksAt : (Layout → List Event → Bool) → Bool → Seats → Seats → Type 0
-LooksAt what is s t = (layout : Layout) (h : List Event) → Seated layout s h → Looks layout h s t × (is ≡ what layout h)
+LooksAt what is s t = (layout : Layout) (h : List Event) → Seated layout s h → Goes layout h s t × (is ≡ what layout h)
 
 -- the queue is closed, where it was not, and this is how many that took
 abbrev pub ClosesAs : Option ℕ → Seats → Seats → Type 0

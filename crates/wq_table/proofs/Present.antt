@@ -8,7 +8,7 @@ use Rattle.wq_words.specs.declared.layout.Layout.{Layout}
 use Rattle.wq_words.specs.declared.event.Event.{Event}
 use Rattle.wq_words.specs.Seen.{owner_seat}
 use Rattle.wq_table.specs.declared.table.Part.{Part}
-use Rattle.wq_table.specs.Law.{View, HasSeat, HasSeenAll, StandsAt, IsSeatOf, row, opening_view}
+use Rattle.wq_table.specs.Law.{View, HasPartOf, HasSeenAll, StandsAt, IsSeatOf, row, opening_view}
 use Rattle.wq_table.specs.Plays.{all_see}
 
 -- the place is the one, or another
@@ -50,11 +50,11 @@ module _ (views : List View) (P : View → Type 0) where
   pub stands_last : (b : View) → P b → StandsAt (views ++ b ∷ []) (length views) P
   stands_last b has = (b, at_last views b, has)
 
-pub seat_both : (c : ℕ) (w v : View) → HasSeat c w ⊎ HasSeat c v → HasSeat c (w ++ v)
-seat_both c [] v has = ⊎_elim (λ (e : ⊥). absurd e) (λ (e : HasSeat c v). e) has
+pub seat_both : (c : ℕ) (w v : View) → HasPartOf c w ⊎ HasPartOf c v → HasPartOf c (w ++ v)
+seat_both c [] v has = ⊎_elim (λ (e : ⊥). absurd e) (λ (e : HasPartOf c v). e) has
 seat_both c (p ∷ ps) v has = ⊎_elim
-    (λ (e : (p.seat ≡ c) ⊎ HasSeat c ps). ⊎_elim (λ (x : p.seat ≡ c). inl x) (λ (x : HasSeat c ps). inr (seat_both c ps v (inl x))) e)
-    (λ (e : HasSeat c v). inr (seat_both c ps v (inr e))) has
+    (λ (e : (p.seat ≡ c) ⊎ HasPartOf c ps). ⊎_elim (λ (x : p.seat ≡ c). inl x) (λ (x : HasPartOf c ps). inr (seat_both c ps v (inl x))) e)
+    (λ (e : HasPartOf c v). inr (seat_both c ps v (inr e))) has
 
 pub seen_both : (h : List Event) (w v : View) → HasSeenAll h w ⊎ HasSeenAll h v → HasSeenAll h (w ++ v)
 seen_both h [] v has = ⊎_elim (λ (e : ⊥). absurd e) (λ (e : HasSeenAll h v). e) has
@@ -62,20 +62,20 @@ seen_both h (p ∷ ps) v has = ⊎_elim
     (λ (e : (p.seen ≡ h) ⊎ HasSeenAll h ps). ⊎_elim (λ (x : p.seen ≡ h). inl x) (λ (x : HasSeenAll h ps). inr (seen_both h ps v (inl x))) e)
     (λ (e : HasSeenAll h v). inr (seen_both h ps v (inr e))) has
 
-pub seat_meets : (c : ℕ) (h : List Event) (v : View) → HasSeat c v → HasSeat c (all_see h v)
+pub seat_meets : (c : ℕ) (h : List Event) (v : View) → HasPartOf c v → HasPartOf c (all_see h v)
 seat_meets c h [] has = has
-seat_meets c h (p ∷ ps) has = ⊎_elim (λ (x : p.seat ≡ c). inl x) (λ (x : HasSeat c ps). inr (seat_meets c h ps x)) has
+seat_meets c h (p ∷ ps) has = ⊎_elim (λ (x : p.seat ≡ c). inl x) (λ (x : HasPartOf c ps). inr (seat_meets c h ps x)) has
 
 pub seen_meets : (h : List Event) (v : View) → HasSeenAll h v → HasSeenAll h (all_see h v)
 seen_meets h [] has = has
 seen_meets h (p ∷ ps) has = inl refl
 
-row_sender : (l : Layout) (c a m : ℕ) → a ≤ c → c < a + m → HasSeat c (row l a m)
+row_sender : (l : Layout) (c a m : ℕ) → a ≤ c → c < a + m → HasPartOf c (row l a m)
 row_sender l c a zero from to = absurd (omega (arith, from, to))
 row_sender l c a (suc m) from to = ⊎_elim (λ (e : a ≡ c). inl e) (λ (e : a ≢ c). inr (row_sender l c (a + 1) m (omega (arith, from, e)) (omega (arith, to))))
     (same_or_other a c)
 
-row_owner : (l : Layout) (a m : ℕ) → HasSeat owner_seat (row l a m)
+row_owner : (l : Layout) (a m : ℕ) → HasPartOf owner_seat (row l a m)
 row_owner l a zero = inl refl
 row_owner l a (suc m) = inr (row_owner l (a + 1) m)
 
@@ -83,12 +83,12 @@ row_seen : (l : Layout) (a m : ℕ) → HasSeenAll [] (row l a m)
 row_seen l a zero = inl refl
 row_seen l a (suc m) = inl refl
 
-pub present_open : (l : Layout) (c : ℕ) → IsSeatOf l c → StandsAt (opening_view l ∷ []) 0 (HasSeat c)
+pub present_open : (l : Layout) (c : ℕ) → IsSeatOf l c → StandsAt (opening_view l ∷ []) 0 (HasPartOf c)
 present_open l c seat = (
   opening_view l,
   refl,
   ⊎_elim (λ (low : c < l.senders). row_sender l c 0 l.senders (omega arith) (omega (arith, low)))
-      (λ (e : c ≡ owner_seat). subst (λ (d : ℕ). HasSeat d (opening_view l)) (sym e) (row_owner l 0 l.senders)) seat,
+      (λ (e : c ≡ owner_seat). subst (λ (d : ℕ). HasPartOf d (opening_view l)) (sym e) (row_owner l 0 l.senders)) seat,
 )
 
 pub longest_open : (l : Layout) → StandsAt (opening_view l ∷ []) 0 (HasSeenAll [])
@@ -105,16 +105,16 @@ module _ (views : List View) (id : ℕ) (p : Part) (ps : View) (at : get_elem? v
   stays_in : (P : View → Type 0) (j : ℕ) → (P (p ∷ ps) → P ps) → StandsAt views j P → StandsAt cut j P
   stays_in P j keep has = stands_behind (set views id ps) P (p ∷ []) j (stands_put views P id (p ∷ ps) ps j at keep has)
 
-  rest_seat : (c : ℕ) → p.seat ≢ c → HasSeat c (p ∷ ps) → HasSeat c ps
-  rest_seat c ne has = ⊎_elim (λ (e : p.seat ≡ c). absurd (ne e)) (λ (e : HasSeat c ps). e) has
+  rest_seat : (c : ℕ) → p.seat ≢ c → HasPartOf c (p ∷ ps) → HasPartOf c ps
+  rest_seat c ne has = ⊎_elim (λ (e : p.seat ≡ c). absurd (ne e)) (λ (e : HasPartOf c ps). e) has
 
-  pub cut_present : (who : ℕ → ℕ) (c : ℕ) → StandsAt views (who c) (HasSeat c)
-      → StandsAt cut (cond (eqb c p.seat) (length views) (who c)) (HasSeat c)
+  pub cut_present : (who : ℕ → ℕ) (c : ℕ) → StandsAt views (who c) (HasPartOf c)
+      → StandsAt cut (cond (eqb c p.seat) (length views) (who c)) (HasPartOf c)
   cut_present who c has = go (eqb c p.seat) refl
     where
-      go : (b : Bool) → eqb c p.seat ≡ b → StandsAt cut (cond b (length views) (who c)) (HasSeat c)
-      go true e = moves_to (HasSeat c) (inl (sym (eqb-true c p.seat e)))
-      go false e = let other = eqb-false c p.seat e in stays_in (HasSeat c) (who c) (rest_seat c (λ x. other (sym x))) has
+      go : (b : Bool) → eqb c p.seat ≡ b → StandsAt cut (cond b (length views) (who c)) (HasPartOf c)
+      go true e = moves_to (HasPartOf c) (inl (sym (eqb-true c p.seat e)))
+      go false e = let other = eqb-false c p.seat e in stays_in (HasPartOf c) (who c) (rest_seat c (λ x. other (sym x))) has
 
   pub cut_longest : (h : List Event) (i : ℕ) → StandsAt views i (HasSeenAll h) → (j : ℕ) × StandsAt cut j (HasSeenAll h)
   cut_longest h i (v, is, has) = ⊎_elim

@@ -11,7 +11,7 @@ use Rattle.wq_core.specs.Refusal.{IsMade}
 use Rattle.wq_core.specs.Sound.{IsSound}
 use Rattle.wq_table.specs.declared.table.Part.{Part}
 use Rattle.wq_words.specs.Seen.{owner_seat}
-use Rattle.wq_table.specs.Law.{View, part, seat_at, IsPartOf, ArePartsAt, HasSeat, HasSeenAll, Kept}
+use Rattle.wq_table.specs.Law.{View, part, seat_at, IsPartOf, ArePartsAt, HasPartOf, HasSeenAll, Kept}
 use Rattle.wq_table.specs.Plays.{Sat, word_found, stage_after, Performs, MakesAlone}
 use Rattle.wq_core.proofs.Schedules.{sound_after}
 use Rattle.wq_words.proofs.Prefixes.{prefix_self}
@@ -70,7 +70,7 @@ module _ (layout : Layout) (slots id : ℕ) (p : Part) (cs : Carried) (σ : Layo
               (λ (t : (j ≡ id) × (q ∷ [] ≡ v)). subst (λ (z : ℕ × View). ArePartsAt next r.who z.0 z.1) (λ k. (sym t.0 k, t.1 k)) (q_fits, here, tt, tt))
               (λ (t : (j ≢ id) × (get_elem? s.views j ≡ some v)). all_other m next r.who p.seat id j v change spared here t.0 (r.seats j v t.1))
               (at_set s.views id j (q ∷ []) v there);
-          present = λ c seat. stands_put s.views (HasSeat c) id (p ∷ []) (q ∷ []) (r.who c) at (λ has. has) (r.present c seat);
+          present = λ c seat. stands_put s.views (HasPartOf c) id (p ∷ []) (q ∷ []) (r.who c) at (λ has. has) (r.present c seat);
           longest = (id, put_in s.views (HasSeenAll next.history) id (p ∷ []) (q ∷ []) at (inl refl));
         },
         record {

@@ -11,7 +11,7 @@ use Rattle.wq_core.specs.Words.{word_count}
 use Rattle.wq_core.specs.Machine.{Machine, nothing_seen, opening as opening_machine, StandsIn}
 use Rattle.wq_words.specs.Seen.{owner_seat}
 use Rattle.wq_table.proofs.Present.{stands_put, stands_behind, cut_present, cut_longest, joined_at, seat_both, seen_both, seat_meets, seen_meets, present_open, longest_open}
-use Rattle.wq_table.specs.Law.{View, IsPartOf, Apart, ArePartsAt, HasSeat, HasSeenAll, Kept, sender_part, owner_part, row, opening_view, front_of, rest_of}
+use Rattle.wq_table.specs.Law.{View, IsPartOf, Apart, ArePartsAt, HasPartOf, HasSeenAll, Kept, sender_part, owner_part, row, opening_view, front_of, rest_of}
 use Rattle.wq_table.specs.Plays.{Sat, all_see, AllOf, meets}
 use Rattle.wq_core.proofs.Schedules.{sound_opening}
 use Rattle.wq_words.proofs.Prefixes.{prefix_self}
@@ -62,8 +62,8 @@ offs l id [] s r at = let m = r.machine in record {
       (λ (t : get_elem? (set s.views id []) j ≡ some w). ⊎_elim (λ (u : (j ≡ id) × ([] ≡ w)). subst (λ (z : View). ArePartsAt m r.who j z) u.1 tt)
       (λ (u : (j ≢ id) × (get_elem? s.views j ≡ some w)). r.seats j w u.1) (at_set s.views id j [] w t))
       (λ (t : (j ≡ length (set s.views id [])) × ([] ≡ w)). subst (λ (z : View). ArePartsAt m r.who j z) t.1 tt) (at_end (set s.views id []) [] w j there);
-  present = λ c seat. stands_behind (set s.views id []) (HasSeat c) [] (r.who c)
-      (stands_put s.views (HasSeat c) id [] [] (r.who c) at (λ has. has) (r.present c seat));
+  present = λ c seat. stands_behind (set s.views id []) (HasPartOf c) [] (r.who c)
+      (stands_put s.views (HasPartOf c) id [] [] (r.who c) at (λ has. has) (r.present c seat));
   longest = (
     r.longest.0,
     stands_behind (set s.views id []) (HasSeenAll m.history) [] r.longest.0
@@ -112,7 +112,7 @@ boths l id v other w s r at apart there =
           (fit_both m r.who who' id other apart goes w v (r.seats other w at_other) mine (refit m r.who who' id id v (stays id (λ e. apart (sym e))) mine)))
           (λ (x : (j ≢ id) × (get_elem? s.views j ≡ some u)). refit m r.who who' j j u (stays j ne) (r.seats j u x.1)) (at_set s.views id j (w ++ v) u t.1))
           (at_set (set s.views id (w ++ v)) other j [] u here);
-      present = λ c seat. joined_at s.views (HasSeat c) id other v w apart at at_other (seat_both c w v) (r.who c) (r.present c seat);
+      present = λ c seat. joined_at s.views (HasPartOf c) id other v w apart at at_other (seat_both c w v) (r.who c) (r.present c seat);
       longest = (
         cond (eqb r.longest.0 other) id r.longest.0,
         joined_at s.views (HasSeenAll m.history) id other v w apart at at_other (seen_both m.history w v) r.longest.0 r.longest.1,
@@ -152,7 +152,7 @@ meets_goes l slots id me s r _ at _ = let m = r.machine in let all = r.seats id 
     seats = λ j v there. ⊎_elim
         (λ (t : (j ≡ id) × (seen ≡ v)). subst (λ (x : ℕ × View). ArePartsAt m r.who x.0 x.1) (λ i. (sym t.0 i, t.1 i)) (fit_all m r.who id me.0 all))
         (λ (t : (j ≢ id) × (get_elem? s.views j ≡ some v)). r.seats j v t.1) (at_set s.views id j seen v there);
-    present = λ c seat. stands_put s.views (HasSeat c) id me.0 seen (r.who c) at (seat_meets c m.history me.0) (r.present c seat);
+    present = λ c seat. stands_put s.views (HasPartOf c) id me.0 seen (r.who c) at (seat_meets c m.history me.0) (r.present c seat);
     longest = (r.longest.0, stands_put s.views (HasSeenAll m.history) id me.0 seen r.longest.0 at (seen_meets m.history me.0) r.longest.1);
   },
   record { machine = m; sound = r.sound; all = all_of m r.who id me.0 all; is = refl; slots = refl },

@@ -62,9 +62,9 @@ abbrev pub IsSeatOf : Layout → ℕ → Type 0
 IsSeatOf layout c = (c < layout.senders) ⊎ (c ≡ owner_seat)
 
 -- one of the view's parts is of this seat
-abbrev pub HasSeat : ℕ → View → Type 0
-HasSeat c [] = ⊥
-HasSeat c (p ∷ ps) = (p.seat ≡ c) ⊎ HasSeat c ps
+abbrev pub HasPartOf : ℕ → View → Type 0
+HasPartOf c [] = ⊥
+HasPartOf c (p ∷ ps) = (p.seat ≡ c) ⊎ HasPartOf c ps
 
 -- one of the view's parts has seen all of h
 abbrev pub HasSeenAll : List Event → View → Type 0
@@ -84,7 +84,7 @@ pub record Kept (layout : Layout) (s : State (Unit {0}) View) : Type 0 where
   pub layout_is : machine.layout ≡ layout
   pub words_are : s.words ≡ machine.words
   pub seats : (i : ℕ) (v : View) → get_elem? s.views i ≡ some v → ArePartsAt machine who i v
-  pub present : (c : ℕ) → IsSeatOf layout c → StandsAt s.views (who c) (HasSeat c)
+  pub present : (c : ℕ) → IsSeatOf layout c → StandsAt s.views (who c) (HasPartOf c)
   pub longest : (i : ℕ) × StandsAt s.views i (HasSeenAll machine.history)
 
 abbrev pub sender_part : Layout → ℕ → Part
