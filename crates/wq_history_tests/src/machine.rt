@@ -141,24 +141,6 @@ fn schedules(rt: HostRuntime) -> Result<(), Fail> {
     Ok(())
 }
 
-/// A whole replay. Where an allocation is refused, want of memory is the answer and no other (`make memory` refuses each in
-/// turn).
-#[test]
-fn refused_memory(rt: HostRuntime) -> Result<(), Fail> {
-    let layout = Layout::new(4, 1, 2)?;
-    let turns = QUEUED_AGAIN.map(|(seat, step, _)| (seat, step));
-    match replay(rt.alloc(), layout, &turns) {
-        Ok(core) => {
-            assert_eq!(rt; core.history().len(), 14);
-            Ok(())
-        }
-        Err(refused) => {
-            assert_eq!(rt; refused.why, StepError::Memory);
-            Err(refused)?
-        }
-    }
-}
-
 /// Steps that are not enabled change nothing, and those after them are made.
 #[test]
 fn not_enabled(rt: HostRuntime) -> Result<(), Fail> {

@@ -18,4 +18,3 @@ pub mod Reading
 pub mod Seated
 pub mod Resting
 pub mod Contended
-pub mod Resting

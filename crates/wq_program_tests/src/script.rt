@@ -212,16 +212,3 @@ fn all_senders(rt: HostRuntime) -> Result<(), Fail> {
     let report = format!(in alloc; "{answers}ran{ran}\ntrue first\n")?;
     check_report(&rt, "all senders", &text, &report)
 }
-
-/// A script that is read and run. Where an allocation is refused, want of memory is the answer and no other (`make memory`
-/// refuses each in turn).
-#[test]
-fn refused_memory(rt: HostRuntime) -> Result<(), Fail> {
-    let text =
-        "wq 1\nitems 2\nsenders 1\nfollow 0 1\nqueue 0 0\narm 1 1\nadvance 1\nclose\ndrain 9\n";
-    let script = parse(rt.alloc(), text.as_bytes())?;
-    let report = run(rt.alloc(), &script)?;
-    let lines = "true first\non table\npushed 1\nclosed 2\nran 0 1\nempty\n";
-    assert_eq!(rt; report.as_slice(), lines.as_bytes());
-    Ok(())
-}

@@ -1,6 +1,5 @@
 //! Calls of a delay table in one thread.
 mod contended;
-mod memory;
 mod rows;
 mod seats;
 mod wheel;

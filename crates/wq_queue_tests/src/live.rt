@@ -1,7 +1,6 @@
 //! Calls of a queue in one thread and in several.
 mod calls;
 mod contended;
-mod memory;
 mod reading;
 mod rows;
 mod stopped;
