@@ -96,7 +96,8 @@ pub gather_more : (places : List (Option (ℕ × ℕ))) (t n : ℕ) (es fs : Lis
     → p.0 ≤ t → fs ≡ es ++ record { due = p.0; arming = p.1; item = n } ∷ [] → AreDueIn places t (n + 1) fs
 gather_more places t n es fs p due is low fs_is = subst (AreDueIn places t (n + 1)) (sym fs_is) (record {
   on = more_on_table places es n p due.on off is;
-  which = λ k. on_push k es (record { due = p.0; arming = p.1; item = n }) ∙ at_or (λ z. (on_table z es || (z == n)) ≡ (nat_lt z (n + 1) && is_due t (place_in places z))) n k
+  which = λ k. on_push k es (record { due = p.0; arming = p.1; item = n }) ∙ at_or (λ z. (on_table z es || (z == n)) ≡ (nat_lt z (n + 1) && is_due t
+      (place_in places z))) n k
       (let a : (n == n) ≡ true = grind (arith, nat_tests) in let b : nat_lt n (n + 1) ≡ true = grind (arith, nat_tests) in
       let d : is_due t (place_in places n) ≡ true = ap (is_due t) is ∙ (grind (arith, nat_tests)) in
       rw (off, a, b) (sym d))

@@ -97,7 +97,8 @@ module _ (places : List (Option (ℕ × ℕ))) (next previous : List ℕ) (row :
   pub gathering_start : IsGathering places next previous (map entry_of kept) now
   gathering_start = record {
     wheel = subst (λ (z : ℕ → Option (ℕ × ℕ)). IsWheel (length places) next previous z) (λ i k. sym (start_waits k) i) t.wheel;
-    valid = subst (λ (z : List ((ℕ × ℕ) × ℕ)). All (λ e. place_in places e.item ≡ Some (e.due, e.arming)) (map entry_of z)) (sym kept_is) (kept_valid places row);
+    valid = subst (λ (z : List ((ℕ × ℕ) × ℕ)). All (λ e. place_in places e.item ≡ Some (e.due, e.arming)) (map entry_of z)) (sym kept_is)
+        (kept_valid places row);
     due = subst (λ (z : List ((ℕ × ℕ) × ℕ)). All (λ e. e.due ≤ now) (map entry_of z)) (sym kept_is)
         (All-map (λ e. e.due ≤ now) entry_of (filter (stands places) row)
         (All-weaker (λ r. r.0.0 ≤ tick) (λ r. r.0.0 ≤ now) (λ r early. omega arith) (filter (stands places) row)

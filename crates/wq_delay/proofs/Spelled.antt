@@ -136,7 +136,8 @@ ordered_slotted e (f ∷ fs) ordered off apart = by (goes_before e f) refl (orde
 
     away : on_table f.item (slotted e fs) ≡ false
     away =
-        let other : (f.item == e.item) ≡ false = let o : (e.item == f.item) ≡ false = first_false (e.item == f.item) (on_table e.item fs) off in grind (arith, nat_tests) in
+        let other : (f.item == e.item) ≡ false = let o : (e.item == f.item) ≡ false = first_false (e.item == f.item) (on_table e.item fs) off in grind
+        (arith, nat_tests) in
         off_place f.item (slotted e fs) (place_of-slotted f.item e fs (second_false (e.item == f.item) (on_table e.item fs) off)
         ∙ (ap (λ (z : Bool). cond z (Some (e.due, e.arming)) (place_of f.item fs)) other ∙ place_off f.item fs ordered.1))
 

@@ -16,7 +16,8 @@ loop-item-preserved c =
     let row : List ((ℕ × ℕ) × ℕ) = c.loop-item.row.items in
     elim c.match-places-item.branch [
       | in-Some+then-place-now+in_ok-push w ↦ rw w.row-is
-          (gather_more places now n (map entry_of row) (map entry_of w.push.new.self.items) w.in-Some.place c.loop-item.invariant w.in-Some.is w.if-place-now.true
+          (gather_more places now n (map entry_of row)
+          (map entry_of w.push.new.self.items) w.in-Some.place c.loop-item.invariant w.in-Some.is w.if-place-now.true
           (ap (map entry_of) w.in_ok-push.ensures.items ∙ map-append entry_of row ((w.in-Some.place, n) ∷ [])))
       | in-Some+else-place-now w ↦ rw w.row-is
           (gather_skip places now n (map entry_of row) c.loop-item.invariant (late_not_due now w.in-Some.place _ w.in-Some.is w.if-place-now.false))

@@ -14,7 +14,8 @@ pub loop-item-preserved-in-Queued : goal.loop-item-preserved-in-Queued
 loop-item-preserved-in-Queued c =
     let l = c.loop-item in let first = c.in-Some.ensures.first in
     let order = c.in-Some.ensures.ordered in let same = c.in-Some.ensures.same in let now = c.args.self.now.table.tick in
-    let leaves = subst (λ (z : DelayState). TakesOff (Push z.sender.number c.in-Some.item ∷ []) c.in-Some.item z c.post_item.new.self) same c.in-Queued.ensures.posts in
+    let leaves = subst (λ (z : DelayState). TakesOff
+    (Push z.sender.number c.in-Some.item ∷ []) c.in-Some.item z c.post_item.new.self) same c.in-Queued.ensures.posts in
     let looked = c.in-Queued.ensures.looked ∙ (ap (λ (z : DelayState). z.looked) same ∙ l.invariant.1) in
     let at : l.self.table.tick ≡ now = l.invariant.0.tick_is in (
       going_pushed now c.in-Some.item l.pushed l.refused c.args.self.now l.self c.post_item.new.self
@@ -26,7 +27,8 @@ pub loop-item-preserved : goal.loop-item-preserved
 loop-item-preserved c =
     let l = c.loop-item in let first = c.in-Some.ensures.first in
     let order = c.in-Some.ensures.ordered in let same = c.in-Some.ensures.same in let now = c.args.self.now.table.tick in
-    let leaves = subst (λ (z : DelayState). TakesOff (Back z.sender.number c.in-Some.item why.Closed ∷ []) c.in-Some.item z c.post_item.new.self) same c.in-Closed.ensures.posts in
+    let leaves = subst (λ (z : DelayState). TakesOff
+    (Back z.sender.number c.in-Some.item why.Closed ∷ []) c.in-Some.item z c.post_item.new.self) same c.in-Closed.ensures.posts in
     let looked = c.in-Closed.ensures.looked ∙ (ap (λ (z : DelayState). z.looked) same ∙ l.invariant.1) in
     let at : l.self.table.tick ≡ now = l.invariant.0.tick_is in (
       going_refused now c.in-Some.item l.pushed l.refused c.args.self.now l.self c.post_item.new.self
@@ -38,8 +40,10 @@ pub loop-item-smaller-in-Queued : goal.loop-item-smaller-in-Queued
 loop-item-smaller-in-Queued c =
     let l = c.loop-item in let first = c.in-Some.ensures.first in
     let order = c.in-Some.ensures.ordered in let same = c.in-Some.ensures.same in let now = c.args.self.now.table.tick in
-    let leaves = subst (λ (z : DelayState). TakesOff (Push z.sender.number c.in-Some.item ∷ []) c.in-Some.item z c.post_item.new.self) same c.in-Queued.ensures.posts in
-    fewer_left l.self.table.tick c.in-Some.item l.self.table.entries c.post_item.new.self.table.entries order first (ap (λ (z : DelayTable). z.entries) leaves.table_is)
+    let leaves = subst (λ (z : DelayState). TakesOff
+    (Push z.sender.number c.in-Some.item ∷ []) c.in-Some.item z c.post_item.new.self) same c.in-Queued.ensures.posts in
+    fewer_left l.self.table.tick c.in-Some.item l.self.table.entries c.post_item.new.self.table.entries order first (ap (λ
+    (z : DelayTable). z.entries) leaves.table_is)
 
 pub loop-item-smaller : goal.loop-item-smaller
 loop-item-smaller c =
@@ -47,7 +51,8 @@ loop-item-smaller c =
     let order = c.in-Some.ensures.ordered in let same = c.in-Some.ensures.same in let now = c.args.self.now.table.tick in
     let leaves = subst (λ (z : DelayState). TakesOff (Back z.sender.number c.in-Some.item why.Closed ∷ []) c.in-Some.item z c.post_item.new.self) same
     c.in-Closed.ensures.posts in
-    fewer_left l.self.table.tick c.in-Some.item l.self.table.entries c.post_item.new.self.table.entries order first (ap (λ (z : DelayTable). z.entries) leaves.table_is)
+    fewer_left l.self.table.tick c.in-Some.item l.self.table.entries c.post_item.new.self.table.entries order first (ap (λ
+    (z : DelayTable). z.entries) leaves.table_is)
 
 pub returns-in-Contended-clause-posts : goal.returns-in-Contended-clause-posts
 returns-in-Contended-clause-posts c =

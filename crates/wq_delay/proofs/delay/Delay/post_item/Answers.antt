@@ -5,7 +5,8 @@ use Rattle.wq_delay.proofs.delay.Delay.post_item.Goals as goal
 pub invariant_of-self : goal.invariant_of-self
 invariant_of-self c =
     let i = c.self.inside in
-    sound_keeps [] c.args.tries i.table.size i.sender c.post.new.self i.table.tick i.next i.table.tick i.table.entries c.in-Contended.ensures (λ j. refl) c.self.invariant
+    sound_keeps [] c.args.tries i.table.size i.sender c.post.new.self i.table.tick i.next i.table.tick i.table.entries c.in-Contended.ensures
+    (λ j. refl) c.self.invariant
 
 pub invariant_of-self-in_default : goal.invariant_of-self-in_default
 invariant_of-self-in_default c =

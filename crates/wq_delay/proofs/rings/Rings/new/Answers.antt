@@ -8,4 +8,5 @@ returns-clause-next c =
 
 pub returns-clause-previous : goal.returns-clause-previous
 returns-clause-previous c =
-    items_from_collect {E = ℕ} (Ok c.in_ok-previous.previous) c.in_ok-previous.ensures.ran (YieldsList-from_range 0 c.args.places c.args.places refl (omega arith))
+    items_from_collect {E = ℕ} (Ok c.in_ok-previous.previous) c.in_ok-previous.ensures.ran (YieldsList-from_range 0 c.args.places c.args.places refl
+    (omega arith))

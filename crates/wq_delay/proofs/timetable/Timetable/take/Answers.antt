@@ -36,7 +36,8 @@ overflow_sub-self c =
     let low = subst (λ (z : Rows). c.args.item < z.size) (sym c.self.view_is) c.requires in
     let read = get_or_read places _ _ low c.index.ensures None in
     let some : get_or places c.args.item None ≡ Some c.in-Some.place = sym read ∙ c.in-Some.is in
-    let counted = take_counted places i.rings.next.items i.rings.previous.items i.row.items _ i.front i.count i.tick c.self.invariant c.args.item low c.in-Some.place some in
+    let counted = take_counted places i.rings.next.items i.rings.previous.items i.row.items _ i.front i.count i.tick c.self.invariant c.args.item low
+    c.in-Some.place some in
     elim c.if-place-self.branch [
       | then-place-self w ↦ subst (λ (z : Inside). 1 ≤ z.count) (sym w.self-inside-is) counted
       | else-place-self w ↦ subst (λ (z : Inside). 1 ≤ z.count) (sym w.self-inside-is) counted
@@ -48,16 +49,22 @@ invariant_of-self c =
     let low = subst (λ (z : Rows). c.args.item < z.size) (sym c.self.view_is) c.requires in
     let read = get_or_read places _ _ low c.index.ensures None in
     let some : get_or places c.args.item None ≡ Some c.in-Some.place = sym read ∙ c.in-Some.is in
-    let counted = take_counted places i.rings.next.items i.rings.previous.items i.row.items _ i.front i.count i.tick c.self.invariant c.args.item low c.in-Some.place some in
+    let counted = take_counted places i.rings.next.items i.rings.previous.items i.row.items _ i.front i.count i.tick c.self.invariant c.args.item low
+    c.in-Some.place some in
     let after = λ (z : Inside). IsTimetable (set z.places.items c.args.item None) z.rings.next.items z.rings.previous.items z.row.items
     (vec_capacity z.row) z.front (z.count - 1) z.tick in
     elim c.if-place-self.branch [
       | then-place-self w ↦ subst after (sym w.self-inside-is)
-          (take_timetable places i.rings.next.items i.rings.previous.items i.row.items _ i.front i.count i.tick c.self.invariant c.args.item low c.in-Some.place some w.take_out.new.self.next.items w.take_out.new.self.previous.items (i.count - 1) (omega arith)
-          (take_waiting places i.rings.next.items i.rings.previous.items i.row.items _ i.front i.count i.tick c.self.invariant c.args.item low c.in-Some.place some w.take_out.new.self.next.items w.take_out.new.self.previous.items w.if-place-self.true w.take_out.ensures.next w.take_out.ensures.previous))
+          (take_timetable places i.rings.next.items i.rings.previous.items i.row.items _ i.front i.count i.tick c.self.invariant c.args.item low
+          c.in-Some.place some w.take_out.new.self.next.items w.take_out.new.self.previous.items (i.count - 1) (omega arith)
+          (take_waiting places i.rings.next.items i.rings.previous.items i.row.items _ i.front i.count i.tick c.self.invariant c.args.item low
+          c.in-Some.place some w.take_out.new.self.next.items w.take_out.new.self.previous.items w.if-place-self.true w.take_out.ensures.next
+          w.take_out.ensures.previous))
       | else-place-self w ↦ subst after (sym w.self-inside-is)
-          (take_timetable places i.rings.next.items i.rings.previous.items i.row.items _ i.front i.count i.tick c.self.invariant c.args.item low c.in-Some.place some i.rings.next.items i.rings.previous.items (i.count - 1) (omega arith)
-          (take_due places i.rings.next.items i.rings.previous.items i.row.items _ i.front i.count i.tick c.self.invariant c.args.item low c.in-Some.place some w.if-place-self.false))
+          (take_timetable places i.rings.next.items i.rings.previous.items i.row.items _ i.front i.count i.tick c.self.invariant c.args.item low
+          c.in-Some.place some i.rings.next.items i.rings.previous.items (i.count - 1) (omega arith)
+          (take_due places i.rings.next.items i.rings.previous.items i.row.items _ i.front i.count i.tick c.self.invariant c.args.item low
+          c.in-Some.place some w.if-place-self.false))
     ]
 
 pub returns-clause-answer : goal.returns-clause-answer
@@ -75,7 +82,8 @@ returns-clause-entries c =
     let low = subst (λ (z : Rows). c.args.item < z.size) (sym c.self.view_is) c.requires in
     let read = get_or_read places _ _ low c.index.ensures None in
     let some : get_or places c.args.item None ≡ Some c.in-Some.place = sym read ∙ c.in-Some.is in
-    let entries = take_entries places i.rings.next.items i.rings.previous.items i.row.items _ i.front i.count i.tick c.self.invariant c.args.item low c.in-Some.place some
+    let entries = take_entries places i.rings.next.items i.rings.previous.items i.row.items _ i.front i.count i.tick c.self.invariant c.args.item low
+    c.in-Some.place some
     ∙ ap (λ (z : Rows). without c.args.item z.entries) c.self.view_is in
     let after = λ (z : Inside). entries_of (set z.places.items c.args.item None) ≡ without c.args.item c.args.self.now.entries in
     elim c.if-place-self.branch [
