@@ -34,3 +34,4 @@ bench: build
 	cd crates/wq_bench && rt run
 	bench/script.sh $(PROGRAM)
 	bench/items.sh crates/wq_bench/out/wq_bench
+	bench/delays.sh crates/wq_bench/out/wq_bench

@@ -89,8 +89,11 @@ sorted_ordered places (x ∷ y ∷ ys) apart on sorted =
     let all = on.valid in
     let rest_valid = All-tail (λ e. place_in places e.item ≡ Some (e.due, e.arming)) (entry_of x) es all in
     let rest = sorted_ordered places (y ∷ ys) apart
-    (record { valid = rest_valid; single = λ k. let a = on.single k in let b = no_more_times k (entry_of x) es in omega arith })
-    (sorted_tail x (y ∷ ys) sorted) in
+    (record {
+      valid = rest_valid;
+      single = λ k. let a = on.single k in
+          let b = no_more_times k (entry_of x) es in omega arith;
+    }) (sorted_tail x (y ∷ ys) sorted) in
     let off : on_table x.1 es ≡ false = no_times x.1 es (let a = on.single x.1 in let b = times_first (entry_of x) es in omega arith) in
     let here = All-head (λ e. place_in places e.item ≡ Some (e.due, e.arming)) (entry_of x) es all in
     let there = All-head (λ e. place_in places e.item ≡ Some (e.due, e.arming)) (entry_of y) (map entry_of ys) rest_valid in

@@ -5,6 +5,7 @@ pub mod Table
 pub mod Rows
 pub mod Standing
 pub mod Looking
+pub mod Slots
 pub mod Gathered
 pub mod Serving
 pub mod Fitting

@@ -2,7 +2,7 @@ use Rattle.std.proofs.Common.{◌≡◌, refl, ◌∙◌, ◌-◌, map, arith}
 use Rattle.std.specs.Prelude.{min}
 use Rattle.std.proofs.lemmas.Bool.Decides.{nat_tests}
 use Rattle.wq_delay.specs.Rows.{entry_of}
-use Rattle.wq_delay.proofs.Looking.{looking_on_init, looking_on_end}
+use Rattle.wq_delay.proofs.Slots.{looking_on_init, looking_on_end}
 use Rattle.wq_delay.proofs.timetable.look_on.Goals as goal
 
 pub loop-after-init : goal.loop-after-init

@@ -23,7 +23,8 @@ invariant_of-self c =
     c.args.due c.args.arming off later armed c.put_behind.new.self.next.items c.put_behind.new.self.previous.items (i.count + 1) refl
     (subst (λ (z : ℕ). c.put_behind.new.self.next.items ≡ set (set i.rings.next.items (slice_index i.rings.previous.items z) c.args.item) c.args.item z)
     head c.put_behind.ensures.next)
-    (subst (λ (z : ℕ). c.put_behind.new.self.previous.items ≡ set (set i.rings.previous.items z c.args.item) c.args.item (slice_index i.rings.previous.items z))
+    (subst (λ (z : ℕ). c.put_behind.new.self.previous.items ≡ set (set i.rings.previous.items z c.args.item) c.args.item
+    (slice_index i.rings.previous.items z))
     head c.put_behind.ensures.previous)
 
 pub returns-clause-put : goal.returns-clause-put

@@ -1,0 +1,105 @@
+//! Measures a delay table: its items are armed, moved and cancelled, and armed again and let go tick by tick, in rounds.
+ghost use Rattle.std.specs.Prelude.{◌≡◌, [], IfSome};
+
+use crate::execute::execute_batch;
+use std::alloc::Global;
+use std::io;
+use std::time::{Duration, Instant};
+use wq_delay::Delay;
+use wq_live::{Owner, Sender, build};
+use wq_words::Layout;
+
+// How many items are due at one tick.
+const A_TICK: u32 = 16;
+
+// The owner and the sender of a new queue of so many items.
+fn seats(alloc: Global, items: u32) -> Option<(Owner, Sender)>
+    ensures { IfSome result (λ seats. seats.1.seen ≡ []) }
+{
+    let layout = Layout::new(items, 1, 1).ok()?;
+    let Ok((owner, mut senders)) = build(alloc, layout) else {
+        return None;
+    };
+    let sender = senders.pop()?;
+    Some((owner, sender))
+}
+
+// A tick for an item, among so many.
+fn due(item: u32, step: u64, ticks: u64) -> u64 {
+    u64::from(item)
+        .wrapping_mul(step)
+        .checked_rem(ticks)
+        .unwrap_or(0)
+        .saturating_add(1)
+}
+
+fn arm_all(delay: &mut Delay, ticks: u64) {
+    for item in 0..delay.layout().items {
+        if item < delay.layout().items {
+            let _ = delay.arm(item, due(item, 7, ticks), 1);
+        }
+    }
+}
+
+fn move_all(delay: &mut Delay, ticks: u64) {
+    for item in 0..delay.layout().items {
+        if item < delay.layout().items {
+            let _ = delay.modify(item, due(item, 11, ticks), 1);
+        }
+    }
+}
+
+fn cancel_all(delay: &mut Delay) {
+    for item in 0..delay.layout().items {
+        if item < delay.layout().items {
+            let _ = delay.cancel(item);
+        }
+    }
+}
+
+// Lets all go, tick by tick, and answers how many went.
+fn let_go(delay: &mut Delay, tick: u64, ticks: u64) -> u64 {
+    let mut went = 0u64;
+    for after in 0..ticks {
+        if let Ok(advance) = delay.advance(tick.saturating_add(after).saturating_add(1), 1) {
+            went = went.saturating_add(u64::from(advance.pushed));
+        }
+    }
+    went
+}
+
+/// How long arming, moving, cancelling and letting go took in so many rounds over so many items.
+pub fn measure(
+    rt: &HostRuntime,
+    alloc: Global,
+    items: u32,
+    rounds: u64,
+) -> io::Result<Option<[Duration; 4]>> {
+    let Some((mut owner, sender)) = seats(alloc, items) else {
+        return Ok(None);
+    };
+    let Ok(mut delay) = Delay::new(alloc, sender, 0) else {
+        return Ok(None);
+    };
+    let ticks = u64::from((items / A_TICK).max(1));
+    let mut times = [Duration::ZERO; 4];
+    for round in 0..rounds {
+        let start = Instant::now(rt)?;
+        arm_all(&mut delay, ticks);
+        let armed = start.elapsed(rt)?;
+        move_all(&mut delay, ticks);
+        let moved = start.elapsed(rt)?;
+        cancel_all(&mut delay);
+        let cancelled = start.elapsed(rt)?;
+        arm_all(&mut delay, ticks);
+        let again = start.elapsed(rt)?;
+        let went = let_go(&mut delay, round.saturating_mul(ticks), ticks);
+        let gone = start.elapsed(rt)?;
+        let _ = execute_batch(&mut owner, went);
+        times[0] = times[0].saturating_add(armed);
+        times[1] = times[1].saturating_add(moved.saturating_sub(armed));
+        times[2] = times[2].saturating_add(cancelled.saturating_sub(moved));
+        times[3] = times[3].saturating_add(gone.saturating_sub(again));
+    }
+    Ok(Some(times))
+}
