@@ -221,7 +221,7 @@ impl Delay {
 
     /// The items that are due at a tick, in the order in which they go out: by their ticks, and at one tick by their armings.
     pub fn due_list(&self, now: u64) -> Result<Vec<u32>, AllocError>
-        ensures { IfOk result (λ list. list.items ≡ items (due_part now self.now.table.entries)) }
+        ensures listed { IfOk result (λ list. list.items ≡ items (due_part now self.now.table.entries)) }
     {
         self.table.list_due(self.alloc, now)
     }

@@ -178,7 +178,7 @@ impl Owner {
 
     /// The oldest number that was taken and has not begun.
     pub fn next(&self) -> Option<u32>
-        ensures { result ≡ next_of self.now.seen }
+        ensures first { result ≡ next_of self.now.seen }
     {
         if self.row.count == 0 {
             return None;
@@ -244,14 +244,14 @@ impl Owner {
 
     /// Whether it has closed the queue.
     pub fn is_closed(&self) -> bool
-        ensures { result ≡ closed self.now.seen }
+        ensures closed { result ≡ closed self.now.seen }
     {
         self.closed
     }
 
     /// The number that runs.
     pub fn running(&self) -> Option<u32>
-        ensures { result ≡ running self.now.seen }
+        ensures runs { result ≡ running self.now.seen }
     {
         self.running
     }
@@ -273,7 +273,7 @@ impl Owner {
 
     /// What it has counted of its own events.
     pub fn counts(&self) -> OwnerCounts
-        ensures { result ≡ owner_counts self.now.seen }
+        ensures counted { result ≡ owner_counts self.now.seen }
     {
         self.counts
     }

@@ -70,7 +70,7 @@ impl Sender {
 
     /// What it has counted of its own events.
     pub fn counts(&self) -> SenderCounts
-        ensures { result ≡ sender_counts self.now.number self.now.seen }
+        ensures counted { result ≡ sender_counts self.now.number self.now.seen }
     {
         self.counts
     }

@@ -251,7 +251,7 @@ impl<W: Work> Worker<W> {
 
     /// What the worker's own two seats have counted.
     pub fn counts(&self) -> Totals
-        ensures { result ≡ own_totals self.now.number self.now.seen }
+        ensures counted { result ≡ own_totals self.now.number self.now.seen }
     {
         Totals::of(self.sender.counts(), self.owner.counts())
     }

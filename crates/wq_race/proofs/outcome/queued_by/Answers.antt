@@ -11,7 +11,7 @@ loop-sender-init c = λ own all few. omega arith
 pub loop-sender-preserved : goal.loop-sender-preserved
 loop-sender-preserved c = λ own all few.
     let i = c.loop-sender.sender-index in let s : Known = c.sender-item.result in
-    let one : c.from.result ≡ own = c.from.ensures ∙ (ap (λ (k : SenderCounts). k.queued) c.counts.ensures
+    let one : c.from.result ≡ own = c.from.ensures ∙ (ap (λ (k : SenderCounts). k.queued) c.counts.ensures.counted
     ∙ (ap (λ (k : Known). (sender_counts k.number k.seen).queued) c.sender-item.is ∙ all i s c.loop-sender-test.true)) in
     let room = own_room i (length c.args.senders.now) own c.loop-sender-test.true in
     let next : (i + 1) * own ≡ i * own + own = omega arith in

@@ -14,7 +14,7 @@ pub returns-then-is_closed-clause-queued : goal.returns-then-is_closed-clause-qu
 returns-then-is_closed-clause-queued c =
     let m = c.meet_owner.ensures in let o = c.args.owner.now in let s = c.args.sender.now in
     let size : c.layout.result.items ≡ s.layout.items = ap (λ (l : Layout). l.items) (c.layout.ensures.layout ∙ sym c.requires.paired.layout) in
-    let low : c.args.item < s.layout.items = omega arith in let shut : closed o.seen ≡ true = sym c.is_closed.ensures ∙ c.if-is_closed.true in
+    let low : c.args.item < s.layout.items = omega arith in let shut : closed o.seen ≡ true = sym c.is_closed.ensures.closed ∙ c.if-is_closed.true in
     told_chain c.args.item c.chain.result o s c.chain.new.self c.meet_owner.new.owner c.meet_owner.new.self c.requires.paired low shut c.chain.ensures.answer
     m.that m.this m.both
 
@@ -23,7 +23,7 @@ returns-clause-queued c =
     let m = c.meet_owner-2.ensures in let o = c.args.owner.now in let s = c.args.sender.now in let q = c.meet_owner-2.new.owner in
     let u = c.meet_owner-2.new.self in
     let size : c.layout.result.items ≡ s.layout.items = ap (λ (l : Layout). l.items) (c.layout.ensures.layout ∙ sym c.requires.paired.layout) in
-    let low : c.args.item < s.layout.items = omega arith in let opens : closed o.seen ≡ false = sym c.is_closed.ensures ∙ c.if-is_closed.false in
+    let low : c.args.item < s.layout.items = omega arith in let opens : closed o.seen ≡ false = sym c.is_closed.ensures.closed ∙ c.if-is_closed.false in
     subst (λ (b : Bool). (x : List Event) × Attempts s.layout.items s.number (closed o.seen) c.args.item b x × Both x (cond b 0 c.args.tries) o s q u)
     (sym c.is_settled.ensures)
     (told_send c.args.item c.args.tries c.queue_tries-answer.result o s c.queue_tries-answer.new.self q u c.requires.paired low opens

@@ -9,9 +9,9 @@ pub returns-then-self-eq0 : goal.returns-then-self-eq0
 returns-then-self-eq0 c = let s = c.self.inside in let o = c.self.invariant in
     let none : kept_batch s.chair.part.stage ≡ [] =
     none_counted (kept_batch s.chair.part.stage) (omega (arith, c.if-self-eq0.true, o.has_row.row_is.count_is)) in
-    ap (λ (xs : List ℕ). slice_get xs 0) (sym none ∙ owner_batch s c.args.self.now c.self.view_is o)
+    record { first = ap (λ (xs : List ℕ). slice_get xs 0) (sym none ∙ owner_batch s c.args.self.now c.self.view_is o) }
 
 pub returns : goal.returns
 returns c = let s = c.self.inside in let o = c.self.invariant in
     let front = first_of_row s.row s.chair.part o.has_row (omega (arith, c.if-self-eq0.false)) in
-    ap (λ (xs : List ℕ). slice_get xs 0) (sym (ap kept_batch front.1) ∙ owner_batch s c.args.self.now c.self.view_is o)
+    record { first = ap (λ (xs : List ℕ). slice_get xs 0) (sym (ap kept_batch front.1) ∙ owner_batch s c.args.self.now c.self.view_is o) }

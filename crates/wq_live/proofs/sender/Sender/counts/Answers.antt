@@ -4,4 +4,6 @@ use Rattle.wq_live.specs.Counts.{sender_counts}
 use Rattle.wq_live.proofs.sender.Sender.counts.Goals as goal
 
 pub returns : goal.returns
-returns c = subst (λ (v : Known). c.self.inside.counts ≡ sender_counts v.number v.seen) c.self.view_is c.self.invariant.counts_are
+returns c = record {
+  counted = subst (λ (v : Known). c.self.inside.counts ≡ sender_counts v.number v.seen) c.self.view_is c.self.invariant.counts_are;
+}

@@ -9,7 +9,7 @@ use Rattle.wq_script.proofs.seats.Seats.advance.Goals as goal
 pub returns-in-Ok : goal.returns-in-Ok
 returns-in-Ok c = λ layout h g. let told = c.in-Ok.ensures.answer in (
   told.0,
-  c.in_ok-due.ensures,
+  c.in_ok-due.ensures.listed,
   advanced_so layout c.args.self.now c.gather.new.self h g c.advance-advanced.new.self c.gather.ensures.delay c.fit.ensures.fit
       c.args.tick c.in-Ok.field-0.pushed c.in-Ok.field-0.refused told.1,
 )

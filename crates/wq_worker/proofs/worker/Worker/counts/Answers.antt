@@ -7,6 +7,6 @@ use Rattle.wq_worker.proofs.worker.Worker.counts.Goals as goal
 pub returns : goal.returns
 returns g c =
     let i = c.self.inside in
-    let told = c.of.ensures i.sender.number i.owner.seen (c.counts.ensures ∙ ap
-    (sender_counts i.sender.number) c.self.invariant.paired.seen) c.counts-2.ensures in
-    subst (λ (z : WorkerState g.row.W.Denot). c.of.result ≡ own_totals z.number z.seen) c.self.view_is told
+    let told = c.of.ensures i.sender.number i.owner.seen (c.counts.ensures.counted ∙ ap
+    (sender_counts i.sender.number) c.self.invariant.paired.seen) c.counts-2.ensures.counted in
+    record { counted = subst (λ (z : WorkerState g.row.W.Denot). c.of.result ≡ own_totals z.number z.seen) c.self.view_is told }
