@@ -1,5 +1,5 @@
 //! The delay table of a queue.
-ghost use Rattle.std.specs.Prelude.{◌≡◌, ℕ, ◌+◌, ◌^◌, ◌<◌, ◌↔◌, IfOk, IfErr, IfSome, IsTrue, [], length, true, false, MatchOption};
+ghost use Rattle.std.specs.Prelude.{◌≡◌, ◌≢◌, ℕ, ◌+◌, ◌^◌, ◌<◌, ◌↔◌, IfOk, IfErr, IfSome, IsTrue, [], length, true, false, MatchOption};
 ghost use Rattle.wq_words.specs.declared.answer.Armed.TheVariants as armed;
 ghost use Rattle.wq_words.specs.declared.answer.Modified.TheVariants as modified;
 ghost use Rattle.wq_words.specs.History.{Holds};
@@ -113,6 +113,7 @@ impl Delay {
         ensures contended { result ≡ armed.Contended → IsContended self.old.sender.number item tries self.new.sender.seen }
         ensures same { IsSame self.old.sender self.new.sender }
         ensures far { (result ≡ armed.TooFar) ↔ IsTrue (is_too_far delay self.old.table) }
+        ensures memory { result ≢ armed.Memory }
         ensures looked { self.new.looked ≡ self.old.looked }
     {
         let Some(due) = tick_after(self.table.tick(), self.next, delay) else {
@@ -153,6 +154,7 @@ impl Delay {
         ensures contended { result ≡ modified.Contended → on_table item self.old.table.entries ≡ false → IsContended self.old.sender.number item tries self.new.sender.seen }
         ensures same { IsSame self.old.sender self.new.sender }
         ensures far { (result ≡ modified.TooFar) ↔ IsTrue (is_too_far delay self.old.table) }
+        ensures memory { result ≢ modified.Memory }
         ensures looked { self.new.looked ≡ self.old.looked }
     {
         let Some(due) = tick_after(self.table.tick(), self.next, delay) else {
