@@ -81,7 +81,7 @@ const DELAYS: [u64; 8] = [1, 1, 2, 255, 256, 257, 512, 4_294_967_295];
 
 /// What a script calls so, with what the list says.
 fn change(dice: &mut Dice, delay: &mut Delay, plain: &mut Plain) -> Result<bool, AllocError> {
-    let item = dice.roll(u64::from(ITEMS)) as u32;
+    let item = (dice.roll(u64::from(ITEMS)) & 15) as u32;
     let ticks = DELAYS[(dice.roll(8) & 7) as usize];
     let fits = plain.tick.checked_add(ticks).is_some();
     Ok(match dice.roll(3) {
