@@ -134,6 +134,8 @@ fn serve_until_owing<R: Abort + Clock + Threads + Wait + Sync>(
         if worker.counts().contended > 0 {
             return true;
         }
+        // The last request found the stop item executed and queued it once more.
+        serve(rt, worker, parker);
     }
     false
 }
