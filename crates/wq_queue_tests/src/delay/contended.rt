@@ -7,7 +7,7 @@ use wq_delay::{Armed, Delay, Modified};
 use wq_live::{Owner, Sender};
 
 /// How often each call is made at most.
-const ROUNDS: u64 = 2_500_000;
+const ROUNDS: u64 = 6_000_000;
 
 /// The item that is queued last.
 const LAST: u32 = 3;

@@ -7,7 +7,7 @@ use wq_live::{Answer, Owner, Posted, Sender, build};
 use wq_words::Layout;
 
 /// How often each call is made at most.
-const ROUNDS: u32 = 2_000_000;
+const ROUNDS: u32 = 10_000_000;
 
 /// The number of the second barrier of 4 items.
 const LAST: u32 = 5;
