@@ -1,6 +1,7 @@
 //! Calls of a delay table with one try each, of which some are lost to the steps of another thread.
 use super::seats::Call::{Advance, Arm, Cancel, Execute, Modify, Queue, Take};
 use super::seats::{Said, call_delay, call_owner, call_sender, delayed};
+use std::hint::spin_loop;
 use std::test::Fail;
 use std::thread::join_mut;
 use wq_delay::{Armed, Delay, Modified};
@@ -35,6 +36,13 @@ fn are_contended(delay: &mut Delay, tick: u64) -> [bool; 3] {
     [arm, modify, advance]
 }
 
+// Time for the other thread, without which all is pending.
+fn pause() {
+    for _ in 0..32u32 {
+        spin_loop();
+    }
+}
+
 /// Makes the calls until each was contended, and then ends the other thread.
 fn contend(delay: &mut Delay) -> [bool; 3] {
     let mut all = [false; 3];
@@ -44,6 +52,7 @@ fn contend(delay: &mut Delay) -> [bool; 3] {
         if all == [true; 3] {
             break;
         }
+        pause();
     }
     for _ in 0..ROUNDS {
         if call_delay(delay, Arm(LAST, 0)) != Said::Armed(Armed::Contended) {

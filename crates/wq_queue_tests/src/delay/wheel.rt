@@ -272,7 +272,7 @@ fn contended_items_go_first(rt: HostRuntime) -> Result<(), Fail> {
     let (mut owner, mut sender, mut delay) = delayed(rt.alloc(), 16, 0).expect(&rt, "seats");
     let mut plain = Plain::new(rt.alloc(), 0);
     let mut contended = 0u32;
-    for seed in 1..1001u64 {
+    for seed in 1..5001u64 {
         let (_, ran) = join_mut(
             &rt,
             &mut || disturb(&mut owner, &mut sender),

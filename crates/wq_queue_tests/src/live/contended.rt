@@ -1,6 +1,7 @@
 //! Calls with one try each, of which some are lost to the steps of another thread.
 use super::reading::execute_one;
 use std::alloc::Global;
+use std::hint::spin_loop;
 use std::test::Fail;
 use std::thread::join_mut;
 use wq_live::{Answer, Owner, Posted, Sender, build};
@@ -57,6 +58,13 @@ fn are_contended(sender: &mut Sender) -> [bool; 3] {
     seen
 }
 
+// Time for the other thread, without which all is pending.
+fn pause() {
+    for _ in 0..32u32 {
+        spin_loop();
+    }
+}
+
 /// Makes the calls until each was contended, and then ends the other thread.
 fn contend(sender: &mut Sender) -> [bool; 4] {
     let mut all = [false; 4];
@@ -72,6 +80,7 @@ fn contend(sender: &mut Sender) -> [bool; 4] {
         if all == [true; 4] {
             break;
         }
+        pause();
     }
     if 1 < sender.layout().barriers {
         sender.flush_begin(1, u32::MAX);
