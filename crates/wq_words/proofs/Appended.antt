@@ -7,7 +7,7 @@ use Rattle.std.proofs.lemmas.Bool.{cases_lt}
 use Rattle.std.proofs.lemmas.List.Elements.{filter_map-append}
 use Rattle.std.proofs.lemmas.List.Sums.{sum_by-append, sum_by-cons, prefix_len-le-length, prefix_len_stops}
 use Rattle.wq_words.specs.declared.event.Event.{Event}
-use Rattle.wq_words.specs.declared.event.Event.TheVariants.{Hold, Busy, Push, Back, Take, Close, Begin, End, Chain, ChainBusy}
+use Rattle.wq_words.specs.declared.event.Event.TheVariants.{Hold, Busy, Push, Back, Take, Close, Begin, End, Chain, ChainBusy, Rest}
 use Rattle.wq_words.specs.History.{accepted, accepted_by, begun, begun_by, ended, ended_by, fresh, is_push, is_take}
 use Rattle.wq_words.specs.Counting.{is_chain}
 
@@ -61,6 +61,7 @@ accepted-cons (Begin k) es = omega arith
 accepted-cons (End k) es = omega arith
 accepted-cons (Chain k) es = omega arith
 accepted-cons (ChainBusy k) es = omega arith
+accepted-cons Rest es = omega arith
 
 -- as many are accepted as were pushed and chained
 pub accepted-count : (h : List Event) → length (accepted h) ≡ count_by is_push h + count_by is_chain h
@@ -86,6 +87,7 @@ no_push (Begin k) e = refl
 no_push (End k) e = refl
 no_push (Chain k) e = refl
 no_push (ChainBusy k) e = refl
+no_push Rest e = refl
 
 cut_there : (h : List Event) (j : ℕ) → j < length h → is_take (get_or h j Take) ≡ true
     → count_by is_push (take j h) + count_by is_push (drop (suc j) h) ≡ count_by is_push h

@@ -9,7 +9,7 @@ use Rattle.std.proofs.lemmas.Option.{slice_get_within}
 use mathlib.Core.List.{IsPrefix}
 use Rattle.wq_words.specs.declared.layout.Layout.{Layout}
 use Rattle.wq_words.specs.declared.event.Event.{Event}
-use Rattle.wq_words.specs.declared.event.Event.TheVariants.{Hold, Busy, Push, Back, Take, Close, Begin, End, Chain, ChainBusy}
+use Rattle.wq_words.specs.declared.event.Event.TheVariants.{Hold, Busy, Push, Back, Take, Close, Begin, End, Chain, ChainBusy, Rest}
 use Rattle.wq_words.specs.History.{accepted_by, begun_by, ended_by, accepted, begun, ended, starts_hold, stops_hold, is_close, IsPending, Holds}
 use Rattle.wq_words.specs.Legal.{IsAllowed, IsLegal, IsComplete}
 use Rattle.wq_words.specs.Keeper.{Keeper, Home, Sender, Listed, Owner, keeper}
@@ -52,6 +52,7 @@ begin_from_begun_by Close k is = absurd cc
 begin_from_begun_by (End j) k is = absurd cc
 begin_from_begun_by (Chain j) k is = absurd cc
 begin_from_begun_by (ChainBusy j) k is = absurd cc
+begin_from_begun_by Rest k is = absurd cc
 
 end_from_ended_by : (e : Event) (k : ℕ) → ended_by e ≡ Some k → e ≡ End k
 end_from_ended_by (End j) k is = cc
@@ -64,6 +65,7 @@ end_from_ended_by Close k is = absurd cc
 end_from_ended_by (Begin j) k is = absurd cc
 end_from_ended_by (Chain j) k is = absurd cc
 end_from_ended_by (ChainBusy j) k is = absurd cc
+end_from_ended_by Rest k is = absurd cc
 
 hold_from_starts_hold : (s k : ℕ) (e : Event) → starts_hold s k e ≡ true → e ≡ Hold s k
 hold_from_starts_hold s k (Hold t j) is =
@@ -77,6 +79,7 @@ hold_from_starts_hold s k (Begin j) is = absurd cc
 hold_from_starts_hold s k (End j) is = absurd cc
 hold_from_starts_hold s k (Chain j) is = absurd cc
 hold_from_starts_hold s k (ChainBusy j) is = absurd cc
+hold_from_starts_hold s k Rest is = absurd cc
 
 -- who holds a number at the end of a history has held it since a Hold of its own
 abbrev HasHold : ℕ → ℕ → List Event → Type 0

@@ -13,3 +13,4 @@ pub mod Seen
 pub mod DelayTable
 pub mod Counting
 pub mod Appended
+pub mod Rest

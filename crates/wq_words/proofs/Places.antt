@@ -8,7 +8,7 @@ use Rattle.std.proofs.lemmas.Bool.{eqb-true, eq-eqb, cases_lt}
 use mathlib.Core.List.{IsPrefix}
 use Rattle.wq_words.specs.declared.layout.Layout.{Layout}
 use Rattle.wq_words.specs.declared.event.Event.{Event}
-use Rattle.wq_words.specs.declared.event.Event.TheVariants.{Hold, Busy, Push, Back, Take, Close, Begin, End, Chain, ChainBusy}
+use Rattle.wq_words.specs.declared.event.Event.TheVariants.{Hold, Busy, Push, Back, Take, Close, Begin, End, Chain, ChainBusy, Rest}
 use Rattle.wq_words.specs.History.{accepted_by, accepted, begun_by, begun, taken, closed, is_close, is_take}
 use Rattle.wq_words.specs.Legal.{MayFollow, IsLegal}
 use Rattle.wq_words.specs.Keeper.{Keeper, Home, Sender, Listed, Owner, Keeps, taken_over, keeper_after, keeper}
@@ -107,6 +107,7 @@ module _ (k : ℕ) (h : List Event) where
   placed_after (Back s j why) may order l le o = same_place (Back s j why) refl refl refl refl (returned _ _ _ k (j == k) _ o)
   placed_after (End j) may order l le o = same_place (End j) refl refl refl refl o
   placed_after (ChainBusy j) may order l le o = same_place (ChainBusy j) refl refl refl refl o
+  placed_after Rest may order l le o = same_place Rest refl refl refl refl o
   placed_after (Push s j) may order l le o =
       stands_at k (begun_same (Push s j) refl) (taken_push_push h s j (closed_from_open h may.1)) (filter_map_push_some accepted_by h (Push s j) j refl)
       (keeper_push (Push s j))

@@ -5,7 +5,7 @@ use Rattle.wq_words.specs.declared.history.HistoryFault.{HistoryFault}
 use Rattle.wq_words.specs.declared.history.HistoryFault.TheVariants.{NoSeat, NoItem, NotAllowed}
 use Rattle.wq_words.specs.declared.event.Why.TheVariants.{Closed}
 use Rattle.wq_words.specs.declared.event.Event.{Event}
-use Rattle.wq_words.specs.declared.event.Event.TheVariants.{Hold, Busy, Push, Back, Take, Close, Begin, End, Chain, ChainBusy}
+use Rattle.wq_words.specs.declared.event.Event.TheVariants.{Hold, Busy, Push, Back, Take, Close, Begin, End, Chain, ChainBusy, Rest}
 use Rattle.wq_words.specs.Numbers.{number_count}
 use Rattle.wq_words.specs.History.{accepted, ended, IsRunning, running, next, IsPending, Holds, IsClosed}
 
@@ -21,6 +21,7 @@ MayFollow h (Begin k) = (¬ IsRunning h) × (next h ≡ Some k)
 MayFollow h (End k) = running h ≡ Some k
 MayFollow h (Chain k) = IsClosed h × IsRunning h × (¬ IsPending h k)
 MayFollow h (ChainBusy k) = IsClosed h × IsRunning h × IsPending h k
+MayFollow h Rest = (¬ IsClosed h) × (length (ended h) ≡ length (accepted h))
 
 -- the event's seat is one of the queue's
 abbrev pub HasSeat : Layout → Event → Type 0
@@ -42,6 +43,7 @@ HasNumber layout (Begin k) = k < number_count layout
 HasNumber layout (End k) = k < number_count layout
 HasNumber layout (Chain k) = k < layout.items
 HasNumber layout (ChainBusy k) = k < layout.items
+HasNumber layout Rest = Unit {0}
 
 abbrev pub IsAllowed : Layout → List Event → Event → Type 0
 IsAllowed layout h e = HasSeat layout e × HasNumber layout e × MayFollow h e

@@ -10,3 +10,4 @@ pub mod Seen
 pub mod Counting
 pub mod DelayTable
 pub mod Armed
+pub mod Rest

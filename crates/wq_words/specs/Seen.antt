@@ -1,7 +1,7 @@
 -- Whose an event is, and what a seat sees come new.
 use Rattle.std.specs.Prelude.{◌≡◌, ℕ, ◌≤◌, not, ◌==◌, Bool, ◌||◌, List, ◌++◌, length, filter}
 use Rattle.wq_words.specs.declared.event.Event.{Event}
-use Rattle.wq_words.specs.declared.event.Event.TheVariants.{Hold, Busy, Push, Back, Take, Close, Begin, End, Chain, ChainBusy}
+use Rattle.wq_words.specs.declared.event.Event.TheVariants.{Hold, Busy, Push, Back, Take, Close, Begin, End, Chain, ChainBusy, Rest}
 
 -- the owner's seat; a sender's is its number
 abbrev pub owner_seat : ℕ
@@ -19,6 +19,7 @@ seat_of (Begin k) = owner_seat
 seat_of (End k) = owner_seat
 seat_of (Chain k) = owner_seat
 seat_of (ChainBusy k) = owner_seat
+seat_of Rest = owner_seat
 
 -- the events of the seat c, and those of all others
 abbrev pub own : ℕ → List Event → List Event

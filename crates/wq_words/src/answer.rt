@@ -4,8 +4,8 @@
 #[derive(Clone, Copy, Debug, PartialEq, Eq)]
 pub enum Answer {
     /// The number was queued, and will be executed once (`queue_work` answers true). `first` says that the list was empty
-    /// (`llist_add` answers true).
-    Queued { first: bool },
+    /// (`llist_add` answers true), `wakes` that the queue rested: who parks its owner after a rest wakes it.
+    Queued { first: bool, wakes: bool },
     /// The number was pending already, and nothing was changed (`queue_work` answers false).
     Pending,
     /// The queue is closed. The number is not held by the caller.
@@ -18,7 +18,7 @@ pub enum Answer {
 #[derive(Clone, Copy, Debug, PartialEq, Eq)]
 pub enum Posted {
     /// The number was queued, as `Answer::Queued`.
-    Queued { first: bool },
+    Queued { first: bool, wakes: bool },
     /// The queue is closed, and the number was given back.
     Closed,
     /// Other seats changed the list at each try. The number is still held.
@@ -28,8 +28,8 @@ pub enum Posted {
 /// What an arming answers.
 #[derive(Clone, Copy, Debug, PartialEq, Eq)]
 pub enum Armed {
-    /// The delay is 0 and the item was queued. `first` says that the list was empty (`llist_add` answers true).
-    Queued { first: bool },
+    /// The delay is 0 and the item was queued, as `Answer::Queued`.
+    Queued { first: bool, wakes: bool },
     /// The item stands on the table (`queue_delayed_work` answers true).
     OnTable,
     /// The item was pending already, and nothing was changed (`queue_delayed_work` answers false).

@@ -67,6 +67,15 @@ pub(crate) fn is_closed(history: &[Event]) -> bool
     close_count(history) > 0
 }
 
+pub(crate) fn accepted_count(history: &[Event]) -> usize
+    ensures { result ≡ length (accepted history.now) }
+{
+    history
+        .iter()
+        .filter_map(|event| event.accepted_number())
+        .count()
+}
+
 fn begun_count(history: &[Event]) -> usize
     ensures { result ≡ length (begun history.now) }
 {
@@ -76,7 +85,7 @@ fn begun_count(history: &[Event]) -> usize
         .count()
 }
 
-fn ended_count(history: &[Event]) -> usize
+pub(crate) fn ended_count(history: &[Event]) -> usize
     ensures { result ≡ length (ended history.now) }
 {
     history

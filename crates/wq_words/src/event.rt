@@ -42,6 +42,9 @@ pub enum Event {
     Chain(u32),
     /// After the close, the running execution found the PENDING bit set.
     ChainBusy(u32),
+    /// The owner, with all that was accepted executed, found the list empty and left it marked as resting: the next push
+    /// wakes it.
+    Rest,
 }
 
 impl Event {
@@ -154,7 +157,7 @@ impl Event {
             | Event::Begin(number)
             | Event::End(number) => number < count,
             Event::Chain(number) | Event::ChainBusy(number) => number < layout.items,
-            Event::Take | Event::Close => true,
+            Event::Take | Event::Close | Event::Rest => true,
         }
     }
 }

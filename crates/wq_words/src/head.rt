@@ -1,7 +1,11 @@
 //! The codes of the head word.
 ghost use Rattle.std.specs.Prelude.{◌≡◌, Some, IfSome};
 ghost use Rattle.wq_words.specs.declared.head.Head.{Head};
-ghost use Rattle.wq_words.specs.Head.{head_word, IsCodable};
+ghost use Rattle.wq_words.specs.Head.{head_word, IsWordOf, IsCodable};
+
+/// The word of an empty list that does not rest: its owner has taken since it rested last, so a push need not wake it. An
+/// empty list that rests has the word 0.
+pub const BUSY: u64 = u64::MAX - 1;
 
 /// What the head word of a queue says: the list is empty, this number was pushed last, or the queue is closed.
 #[derive(Clone, Copy, Debug, PartialEq, Eq)]
@@ -26,12 +30,12 @@ impl Head {
         }
     }
 
-    /// What the word codes, which is what `to_word` was given; `None` for a word that codes nothing.
+    /// What the word codes: what `to_word` was given, and `Empty` for `BUSY` too; `None` for a word that codes nothing.
     pub fn from_word(word: u64) -> Option<Head>
-        ensures coded { IfSome result (λ head. IsCodable head × (head_word head ≡ word)) }
-        ensures given_back { (head : Head) → IsCodable head → head_word head ≡ word → result ≡ Some head }
+        ensures coded { IfSome result (λ head. IsCodable head × IsWordOf head word) }
+        ensures given_back { (head : Head) → IsCodable head → IsWordOf head word → result ≡ Some head }
     {
-        if word == 0 {
+        if word == 0 || word == BUSY {
             return Some(Head::Empty);
         }
         if word == u64::MAX {

@@ -3,7 +3,9 @@ ghost use Rattle.std.specs.Prelude.{◌↔◌, IsTrue, OnOk, IfErr, IfSome, IfNo
 ghost use Rattle.wq_words.specs.Legal.{MayFollow, IsAllowed, HasFault, IsLegal, IsFirstFault};
 ghost use Rattle.wq_words.specs.History.{IsClosed, IsRunning};
 
-use crate::counts::{holds, is_closed, is_pending, is_running, next, running};
+use crate::counts::{
+    accepted_count, ended_count, holds, is_closed, is_pending, is_running, next, running,
+};
 use crate::event::{Event, Why};
 use crate::layout::Layout;
 use thiserror::Error;
@@ -48,6 +50,7 @@ fn may_follow(history: &[Event], event: Event) -> bool
         Event::End(number) => running(history) == Some(number),
         Event::Chain(number) => may_chain(history) && !is_pending(history, number),
         Event::ChainBusy(number) => may_chain(history) && is_pending(history, number),
+        Event::Rest => !is_closed(history) && ended_count(history) == accepted_count(history),
     }
 }
 

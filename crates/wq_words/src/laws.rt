@@ -9,6 +9,7 @@ ghost use Rattle.wq_words.specs.Legal.{IsLegal};
 ghost use Rattle.wq_words.specs.Listed.{listed};
 ghost use Rattle.wq_words.specs.Keeper.{Keeper, Keeps, keeper};
 ghost use Rattle.wq_words.specs.Headline.{KeepsHeadline};
+ghost use Rattle.wq_words.specs.Rest.{WakesOnceARest};
 
 /// Each accepted queueing is executed at most once, and exactly once where the history is complete. Executions never
 /// overlap, and follow the order in which the queueings were accepted, so each sender's are first in first out. No push
@@ -44,4 +45,11 @@ pub fn one_runs()
 pub fn pending_and_closed()
     ensures pending { (h : List Event) (k : ℕ) → IsTrue (pending h k) ↔ IsPending h k }
     ensures closed { (h : List Event) → IsTrue (closed h) ↔ IsClosed h }
+{}
+
+/// Of the pushes between two rests that follow one another at most one wakes the queue, and just one where the queue was
+/// first taken after a push: who wakes the owner on `wakes` alone does so once a rest. A take sets a resting queue to work
+/// without a wake. It holds of each list of events, legal or not.
+pub fn one_wakes()
+    ensures { (h : List Event) → WakesOnceARest h }
 {}

@@ -12,7 +12,7 @@ mod numbers;
 
 pub use answer::{Answer, Armed, Modified, Posted};
 pub use event::{Event, Why};
-pub use head::Head;
+pub use head::{BUSY, Head};
 pub use history::{HistoryError, HistoryFault, check_history};
-pub use laws::{headline, one_keeper, one_runs, pending_and_closed, pending_list};
+pub use laws::{headline, one_keeper, one_runs, one_wakes, pending_and_closed, pending_list};
 pub use layout::{Layout, LayoutError};

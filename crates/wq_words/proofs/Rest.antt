@@ -1,0 +1,164 @@
+-- A queue that rests with one more event, and which pushes wake it.
+use Rattle.std.proofs.Common.{◌≡◌, ◌≢◌, ℕ, zero, suc, ◌+◌, ◌-◌, ◌<◌, ◌≤◌, ◌==◌, Bool, true, false, not, ◌&&◌, ◌||◌, cond, List, [], ◌∷◌, ◌++◌, length, take, None, Some, slice_get, get_or, refl, sym, ap, ◌∙◌, arith, add-zero, inl, inr, ◌⊎◌}
+use Rattle.std.specs.List.{count_by, after_last}
+use Rattle.std.proofs.lemmas.Bool.Decides.{nat_tests}
+use Rattle.std.proofs.lemmas.Option.{slice_get_within, slice_get-get_or}
+use Rattle.wq_words.specs.declared.event.Event.{Event}
+use Rattle.wq_words.specs.declared.event.Event.TheVariants.{Hold, Busy, Push, Back, Take, Close, Begin, End, Chain, ChainBusy, Rest}
+use Rattle.wq_words.specs.Rest.{is_rest, is_push_or_take, wakes, WakesAt, BeginsStretch, WakesOnce, WakesBeforeTake, NoneWakesAfterTake, WakesOnceARest}
+use Rattle.wq_words.proofs.Growing.{count_by_push, take_more_some}
+use Rattle.wq_words.proofs.Listed.{after_last_push_yes, after_last_push_no}
+
+-- whether the queue rests after an event, where it did or did not before
+abbrev pub wakes_after : Bool → Event → Bool
+wakes_after q e = is_rest e || (q && not (is_push_or_take e))
+
+and_true : (b : Bool) → b ≡ (b && true)
+and_true true = refl
+and_true false = refl
+
+no_and : (b : Bool) → false ≡ (b && false)
+no_and true = refl
+no_and false = refl
+
+not_zero : (n : ℕ) → 0 < n → (n == 0) ≡ false
+not_zero n lt = grind (arith, nat_tests)
+
+one_more : (n : ℕ) (b : Bool) → ((n + cond b 1 0) == 0) ≡ ((n == 0) && not b)
+one_more n true = not_zero (n + 1) (omega arith) ∙ no_and (n == 0)
+one_more n false = ap (λ (m : ℕ). m == 0) (add-zero n) ∙ and_true (n == 0)
+
+pub wakes_push : (h : List Event) (e : Event) → wakes (h ++ e ∷ []) ≡ wakes_after (wakes h) e
+wakes_push h e = go (is_rest e) refl
+  where
+    go : (b : Bool) → is_rest e ≡ b → wakes (h ++ e ∷ []) ≡ (b || (wakes h && not (is_push_or_take e)))
+    go true is = rw (after_last_push_yes is_rest h e is) refl
+    go false is =
+        ap (λ (es : List Event). count_by is_push_or_take es == 0) (after_last_push_no is_rest h e is)
+        ∙ ap (λ (n : ℕ). n == 0) (count_by_push is_push_or_take (after_last is_rest h) e)
+        ∙ one_more (count_by is_push_or_take (after_last is_rest h)) (is_push_or_take e)
+
+-- an event that is neither Push, Take nor Rest leaves a queue resting or at work
+pub wakes_quiet : (h : List Event) (e : Event) → is_rest e ≡ false → is_push_or_take e ≡ false → wakes (h ++ e ∷ []) ≡ wakes h
+wakes_quiet h e no_rest no_work = wakes_push h e ∙ rw (no_rest, no_work) (sym (and_true (wakes h)))
+
+worked : (q : Bool) (e : Event) → is_push_or_take e ≡ true → wakes_after q e ≡ false
+worked true (Push s k) is = refl
+worked false (Push s k) is = refl
+worked true Take is = refl
+worked false Take is = refl
+worked q (Hold s k) is = absurd cc
+worked q (Busy s k) is = absurd cc
+worked q (Back s k why) is = absurd cc
+worked q Close is = absurd cc
+worked q (Begin k) is = absurd cc
+worked q (End k) is = absurd cc
+worked q (Chain k) is = absurd cc
+worked q (ChainBusy k) is = absurd cc
+worked q Rest is = absurd cc
+
+-- a queue at work stays at work, but for a Rest
+at_work : (e : Event) → (wakes_after false e ≡ false) ⊎ (e ≡ Rest)
+at_work Rest = inr refl
+at_work (Hold s k) = inl refl
+at_work (Busy s k) = inl refl
+at_work (Push s k) = inl refl
+at_work (Back s k why) = inl refl
+at_work Take = inl refl
+at_work Close = inl refl
+at_work (Begin k) = inl refl
+at_work (End k) = inl refl
+at_work (Chain k) = inl refl
+at_work (ChainBusy k) = inl refl
+
+-- a queue that rests goes on resting, but for a Push or a Take
+at_rest : (e : Event) → (wakes_after true e ≡ true) ⊎ (((s : ℕ) × (k : ℕ) × (e ≡ Push s k)) ⊎ (e ≡ Take))
+at_rest (Push s k) = inr (inl (s, k, refl))
+at_rest Take = inr (inr refl)
+at_rest (Hold s k) = inl refl
+at_rest (Busy s k) = inl refl
+at_rest (Back s k why) = inl refl
+at_rest Close = inl refl
+at_rest (Begin k) = inl refl
+at_rest (End k) = inl refl
+at_rest (Chain k) = inl refl
+at_rest (ChainBusy k) = inl refl
+at_rest Rest = inl refl
+
+module _ (h : List Event) where
+  at_next : (place : ℕ) (e : Event) → slice_get h place ≡ Some e → wakes (take (place + 1) h) ≡ wakes_after (wakes (take place h)) e
+  at_next place e at = ap wakes (take_more_some h place e at) ∙ wakes_push (take place h) e
+
+  abbrev HasRest : ℕ → ℕ → Type 0
+  HasRest from to = (rest : ℕ) × (from < rest) × (rest < to) × (slice_get h rest ≡ Some Rest)
+
+  -- from a Push or a Take on the queue is at work, or a Rest has come
+  after_work : (from : ℕ) (e : Event) → slice_get h from ≡ Some e → is_push_or_take e ≡ true → (n : ℕ) → from + 1 + n ≤ length h
+      → (wakes (take (from + 1 + n) h) ≡ false) ⊎ HasRest from (from + 1 + n)
+  after_work from e at is zero le =
+      let here : from + 1 + 0 ≡ from + 1 = omega arith in
+      inl (ap (λ (i : ℕ). wakes (take i h)) here ∙ at_next from e at ∙ worked (wakes (take from h)) e is)
+  after_work from e at is (suc n) le =
+      let next : from + 1 + suc n ≡ from + 1 + n + 1 = omega arith in
+      let x : Event = get_or h (from + 1 + n) e in
+      let there : slice_get h (from + 1 + n) ≡ Some x = slice_get-get_or h (from + 1 + n) e (omega (arith, le)) in
+      elim (after_work from e at is n (omega (arith, le))) [
+        | inl still ↦
+            elim (at_work x) [
+              | inl on ↦ inl (ap (λ (i : ℕ). wakes (take i h)) next ∙ at_next (from + 1 + n) x there ∙ ap (λ (q : Bool). wakes_after q x) still ∙ on)
+              | inr rests ↦ inr (from + 1 + n, omega arith, omega arith, there ∙ ap Some rests)
+            ]
+        | inr rest ↦ inr (rest.0, rest.1, omega (arith, rest.2), rest.3)
+      ]
+
+  -- a push that wakes after a Push or a Take has a Rest before it
+  rest_between : (from push : ℕ) (e : Event) → from < push → slice_get h from ≡ Some e → is_push_or_take e ≡ true → WakesAt h push → HasRest from push
+  rest_between from push e less at is wakes_there =
+      let size : push < length h = slice_get_within h push _ wakes_there.2 in
+      let same : from + 1 + (push - (from + 1)) ≡ push = omega (arith, less) in
+      elim (after_work from e at is (push - (from + 1)) (omega (arith, less, size))) [
+        | inl still ↦ absurd (cc (ap (λ (i : ℕ). wakes (take i h)) (sym same) ∙ still, wakes_there.3))
+        | inr rest ↦ (rest.0, rest.1, omega (arith, rest.2, same), rest.3)
+      ]
+
+  -- from a place at which the queue rests, with no Take from there on, it goes on resting, or a push wakes it
+  still_rests : (from : ℕ) → wakes (take from h) ≡ true → (n : ℕ) → from + n ≤ length h
+      → ((place : ℕ) → from ≤ place → place < from + n → slice_get h place ≢ Some Take)
+      → (wakes (take (from + n) h) ≡ true) ⊎ ((place : ℕ) × (from ≤ place) × (place < from + n) × WakesAt h place)
+  still_rests from rests zero le none = let here : from + 0 ≡ from = omega arith in inl (ap (λ (i : ℕ). wakes (take i h)) here ∙ rests)
+  still_rests from rests (suc n) le none =
+      let next : from + suc n ≡ from + n + 1 = omega arith in
+      let x : Event = get_or h (from + n) Take in
+      let there : slice_get h (from + n) ≡ Some x = slice_get-get_or h (from + n) Take (omega (arith, le)) in
+      elim (still_rests from rests n (omega (arith, le)) (λ place from_le lt. none place from_le (omega (arith, lt)))) [
+        | inr woken ↦ inr (woken.0, woken.1, omega (arith, woken.2), woken.3)
+        | inl still ↦
+            elim (at_rest x) [
+              | inl on ↦ inl (ap (λ (i : ℕ). wakes (take i h)) next ∙ at_next (from + n) x there ∙ ap (λ (q : Bool). wakes_after q x) still ∙ on)
+              | inr (inl push) ↦ inr (from + n, omega arith, omega arith, (push.0, push.1, there ∙ ap Some push.2, still))
+              | inr (inr takes) ↦ absurd (none (from + n) (omega arith) (omega arith) (there ∙ ap Some takes))
+            ]
+      ]
+
+  rests_at_stretch : (from : ℕ) → BeginsStretch h from → wakes (take from h) ≡ true
+  rests_at_stretch from (inl start) = ap (λ (i : ℕ). wakes (take i h)) start
+  rests_at_stretch from (inr rest) =
+      ap (λ (i : ℕ). wakes (take i h)) rest.1 ∙ at_next rest.0 Rest rest.2
+
+  wakes_once : WakesOnce h
+  wakes_once first second less one two = rest_between first second (Push one.0 one.1) less one.2 refl two
+
+  wakes_before_take : WakesBeforeTake h
+  wakes_before_take from push s k begins le at none =
+      let size : push < length h = slice_get_within h push _ at in
+      let same : from + (push - from) ≡ push = omega (arith, le) in
+      elim (still_rests from (rests_at_stretch from begins) (push - from) (omega (arith, le, size)) (λ place from_le lt. none place from_le (omega (arith, lt, same)))) [
+        | inl still ↦ (push, le, omega arith, (s, k, at, ap (λ (i : ℕ). wakes (take i h)) (sym same) ∙ still))
+        | inr woken ↦ (woken.0, woken.1, omega (arith, woken.2, same), woken.3)
+      ]
+
+  none_wakes_after_take : NoneWakesAfterTake h
+  none_wakes_after_take taken push less at woken = rest_between taken push Take less at refl woken
+
+  pub wakes_once_a_rest : WakesOnceARest h
+  wakes_once_a_rest = record { once = wakes_once; before_take = wakes_before_take; none_after_take = none_wakes_after_take }

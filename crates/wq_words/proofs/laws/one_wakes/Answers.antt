@@ -1,0 +1,5 @@
+use Rattle.wq_words.proofs.Rest.{wakes_once_a_rest}
+use Rattle.wq_words.proofs.laws.one_wakes.Goals as goal
+
+pub returns : goal.returns
+returns c = wakes_once_a_rest
