@@ -5,16 +5,17 @@ use Rattle.wq_words.specs.declared.layout.Layout.{Layout}
 use Rattle.wq_words.specs.declared.event.Why.TheVariants.{Closed}
 use Rattle.wq_words.specs.declared.event.Event.{Event}
 use Rattle.wq_words.specs.declared.event.Event.TheVariants as event
+use Rattle.wq_words.specs.Head.{busy_word}
 use Rattle.wq_words.specs.Numbers.{number_count}
 use Rattle.wq_words.specs.History.{Holds, IsClosed, IsRunning, running}
 use Rattle.wq_core.specs.declared.step.Private.{Private}
 use Rattle.wq_core.specs.declared.step.Seat.{Seat}
 use Rattle.wq_core.specs.declared.step.Seat.TheVariants.{Sender, Owner}
 use Rattle.wq_core.specs.declared.step.Step.{Step}
-use Rattle.wq_core.specs.declared.step.Step.TheVariants.{Hold, Look, Link, Push, Back, Check, Take, Close, Walk, Begin, End, Chain, Turn}
+use Rattle.wq_core.specs.declared.step.Step.TheVariants.{Hold, Look, Link, Push, Back, Check, Take, Close, Walk, Begin, End, Chain, Turn, Rest}
 use Rattle.wq_core.specs.declared.step.Reply.{Reply}
 use Rattle.wq_core.specs.declared.step.Reply.TheVariants as reply
-use Rattle.wq_core.specs.Words.{head_place, link_place, item_place, done_place, word_count, closed_word, number_at, word_at, head_at}
+use Rattle.wq_core.specs.Words.{head_place, link_place, item_place, done_place, word_count, closed_word, idle_word, link_word, number_at, word_at, head_at}
 
 -- Which numbers a sender holds, whether the queue is closed and which number runs are read off the history.
 pub record Machine : Type 0 where
@@ -80,6 +81,7 @@ IsEnabled m Owner Begin = (m.cursor ≡ None) × (m.batch ≢ []) × (¬ IsRunni
 IsEnabled m Owner End = IsRunning m.history
 IsEnabled m Owner (Chain k) = IsClosed m.history × (m.cursor ≡ None) × IsRunning m.history
 IsEnabled m Owner (Turn k next) = StandsIn m.walked m.batch k
+IsEnabled m Owner Rest = (¬ IsClosed m.history) × (m.cursor ≡ None) × (m.batch ≡ []) × (¬ IsRunning m.history)
 IsEnabled m seat step = ⊥
 
 -- a word is written, a sender keeps other things, an event is added
@@ -133,15 +135,15 @@ abbrev pub after : Machine → Seat → Step → Machine
 after m (Sender s) (Hold k) =
     if item_word m k == 0 then happened (with_item m k 1) (event.Hold s k) else happened m (event.Busy s k)
 after m (Sender s) Look = with_private m s (record { seen = Some (head m); linked = None })
-after m (Sender s) (Link k) = with_private (with_link m k (seen_word m s)) s (record (private m s) { linked = Some k })
+after m (Sender s) (Link k) = with_private (with_link m k (link_word (seen_word m s))) s (record (private m s) { linked = Some k })
 after m (Sender s) (Push k) =
     if head m == seen_word m s
     then happened (with_private (with_head m (k + 1)) s nothing_seen) (event.Push s k)
     else with_private m s nothing_seen
 after m (Sender s) (Back k why) = happened (with_private (with_item m k 0) s (unlinked (private m s) k)) (event.Back s k why)
 after m (Sender s) (Check k) = m
-after m Owner Take = happened (record (with_head m 0) { cursor = number_at (head m) }) event.Take
-after m Owner Close = happened (record (with_head m closed_word) { cursor = number_at (head m) }) event.Close
+after m Owner Take = happened (record (with_head m busy_word) { cursor = number_at (link_word (head m)) }) event.Take
+after m Owner Close = happened (record (with_head m closed_word) { cursor = number_at (link_word (head m)) }) event.Close
 after m Owner Walk = after_walk m m.cursor
 after m Owner Begin = after_begin m m.batch
 after m Owner End = after_end m (running m.history)
@@ -150,6 +152,7 @@ after m Owner (Chain k) =
     then happened (record (with_item m k 1) { batch = m.batch ++ k ∷ [] }) (event.Chain k)
     else happened m (event.ChainBusy k)
 after m Owner (Turn k next) = with_link m k (word_at next)
+after m Owner Rest = if head m == busy_word then happened (with_head m idle_word) event.Rest else m
 after m seat step = m
 
 abbrev pub first_of : List ℕ → ℕ
@@ -165,7 +168,7 @@ abbrev pub reply_to : Machine → Seat → Step → Reply
 reply_to m (Sender s) (Hold k) = if item_word m k == 0 then reply.Held else reply.Busy
 reply_to m (Sender s) Look = reply.Looked (head_at (head m))
 reply_to m (Sender s) (Link k) = reply.Linked
-reply_to m (Sender s) (Push k) = if head m == seen_word m s then reply.Pushed (seen_word m s == 0) else reply.Lost
+reply_to m (Sender s) (Push k) = if head m == seen_word m s then reply.Pushed (link_word (seen_word m s) == 0) (seen_word m s == idle_word) else reply.Lost
 reply_to m (Sender s) (Back k why) = reply.GivenBack
 reply_to m (Sender s) (Check k) = if item_word m k == 0 then reply.Idle else reply.Pending
 reply_to m Owner Take = reply.Took (head_at (head m))
@@ -175,4 +178,5 @@ reply_to m Owner Begin = reply.Began (first_of m.batch)
 reply_to m Owner End = reply.Ended (unwrap_or (running m.history) 0)
 reply_to m Owner (Chain k) = if item_word m k == 0 then reply.Chained else reply.ChainBusy
 reply_to m Owner (Turn k next) = reply.Turned
+reply_to m Owner Rest = if head m == busy_word then reply.Rested else reply.Lost
 reply_to m seat step = reply.Idle

@@ -1,16 +1,17 @@
 -- What every step keeps.
-use Rattle.std.specs.Prelude.{◌≡◌, ◌≢◌, ℕ, ◌+◌, ◌%◌, ◌^◌, ◌<◌, if◌then◌else◌, List, [], ◌∷◌, ◌++◌, length, reverse, get_or, Option, Some, None}
+use Rattle.std.specs.Prelude.{◌≡◌, ◌≢◌, ℕ, Bool, true, ◌+◌, ◌%◌, ◌^◌, ◌<◌, if◌then◌else◌, List, [], ◌∷◌, ◌++◌, length, reverse, get_or, Option, Some, None}
 use mathlib.Core.List.{reverse_aux}
 use Rattle.wq_words.specs.declared.head.Head.{Head}
 use Rattle.wq_words.specs.declared.head.Head.TheVariants.{Empty, Item, Closed}
 use Rattle.wq_words.specs.declared.event.Event.{Event}
-use Rattle.wq_words.specs.Head.{head_word}
+use Rattle.wq_words.specs.Head.{head_word, busy_word}
 use Rattle.wq_words.specs.Numbers.{number_count}
 use Rattle.wq_words.specs.History.{accepted, begun, ended, pending, closed, Holds, IsClosed}
 use Rattle.wq_words.specs.Legal.{IsLegal}
 use Rattle.wq_words.specs.Listed.{listed}
-use Rattle.wq_core.specs.Words.{link_place, word_count, closed_word, word_at}
-use Rattle.wq_core.specs.Machine.{Machine, head, link, item_word, done_word, private}
+use Rattle.wq_words.specs.Rest.{wakes}
+use Rattle.wq_core.specs.Words.{link_place, word_count, closed_word, idle_word, link_word, word_at}
+use Rattle.wq_core.specs.Machine.{Machine, head, link, item_word, done_word, private, seen_word}
 
 -- the head of a list of numbers, newest first
 abbrev pub head_of_list : List ℕ → Head
@@ -20,6 +21,15 @@ head_of_list (k ∷ ks) = Item k
 -- the head that the history leaves
 abbrev pub head_of : List Event → Head
 head_of h = if closed h then Closed else head_of_list (listed h)
+
+-- the word of a head: that of an empty list says whether it rests
+abbrev pub marked : Bool → Head → ℕ
+marked rests Empty = if rests then idle_word else busy_word
+marked rests x = head_word x
+
+-- the head word that the history leaves
+abbrev pub head_word_of : List Event → ℕ
+head_word_of h = marked (wakes h) (head_of h)
 
 -- from this word the links spell these numbers of a queue of n
 abbrev pub IsChain : ℕ → List ℕ → ℕ → List ℕ → Type 0
@@ -39,14 +49,16 @@ pub record IsSound (m : Machine) : Type 0 where
   pub has_words : length m.words ≡ word_count (number_count m.layout)
   pub has_seats : length m.seats ≡ m.layout.senders
   pub legal : IsLegal m.layout m.history
-  pub head_is : head m ≡ head_word (head_of m.history)
+  pub head_is : head m ≡ head_word_of m.history
+  -- a queue that rests has nothing on its list
+  pub rests : wakes m.history ≡ true → listed m.history ≡ []
   -- the item words are the PENDING bits
   pub items_are : (k : ℕ) → k < number_count m.layout → item_word m k ≡ (if pending m.history k then 1 else 0)
   -- the done word counts the ended executions, as far as a word can
   pub done_is : done_word m ≡ length (ended m.history) % 2 ^ 64
   pub chains : AreChained (number_count m.layout) m.words m.cursor m.walked m.batch (accepted m.history) (begun m.history) (listed m.history)
-  -- what a sender linked it holds, and the link is the head word that it saw, which was not the closed one
+  -- what a sender linked it holds, and the link leads to the head that it saw, which was not the closed one
   pub linked : (s k : ℕ) → (private m s).linked ≡ Some k
-      → (k < number_count m.layout) × Holds m.history s k × ((private m s).seen ≡ Some (link m k)) × (link m k ≢ closed_word)
+      → (k < number_count m.layout) × Holds m.history s k × ((private m s).seen ≢ None) × (link m k ≡ link_word (seen_word m s)) × (link m k ≢ closed_word)
   -- what was seen closed is closed
   pub seen : (s : ℕ) → (private m s).seen ≡ Some closed_word → IsClosed m.history

@@ -3,7 +3,7 @@
 use Rattle.std.specs.Prelude.{ℕ, ◌+◌, ◌-◌, ◌*◌, ◌==◌, if◌then◌else◌, Option, Some, None}
 use Rattle.wq_words.specs.declared.head.Head.{Head}
 use Rattle.wq_words.specs.declared.head.Head.TheVariants.{Empty, Item, Closed}
-use Rattle.wq_words.specs.Head.{head_word}
+use Rattle.wq_words.specs.Head.{head_word, busy_word}
 
 -- where each word stands
 abbrev pub head_place : ℕ
@@ -25,7 +25,15 @@ word_count n = 2 * n + 2
 abbrev pub closed_word : ℕ
 closed_word = head_word Closed
 
--- the number that a link or a head that is not closed stands for
+-- the head word of an empty list that rests
+abbrev pub idle_word : ℕ
+idle_word = head_word Empty
+
+-- the word that links to what stands at a head: that of an empty list is the end, whether it rests or not
+abbrev pub link_word : ℕ → ℕ
+link_word word = if word == busy_word then 0 else word
+
+-- the number that a link stands for
 abbrev pub number_at : ℕ → Option ℕ
 number_at word = if word == 0 then None else Some (word - 1)
 
@@ -34,6 +42,10 @@ abbrev pub word_at : Option ℕ → ℕ
 word_at None = 0
 word_at (Some k) = k + 1
 
+-- what a word says as a link, or as the head of a closed queue
+abbrev pub said_at : ℕ → Head
+said_at word = if word == 0 then Empty else (if word == closed_word then Closed else Item (word - 1))
+
 -- what a head word says
 abbrev pub head_at : ℕ → Head
-head_at word = if word == 0 then Empty else (if word == closed_word then Closed else Item (word - 1))
+head_at word = said_at (link_word word)

@@ -5,6 +5,7 @@ ghost use Rattle.wq_words.specs.declared.layout.Layout.{Layout};
 ghost use Rattle.wq_words.specs.Numbers.{number_count};
 ghost use Rattle.wq_words.specs.History.{accepted, begun, taken, first, IsClosed};
 ghost use Rattle.wq_words.specs.Listed.{listed};
+ghost use Rattle.wq_words.specs.Rest.{wakes};
 ghost use Rattle.wq_core.specs.declared.step.Seat.{Seat};
 ghost use Rattle.wq_core.specs.declared.step.Seat.TheVariants.{Sender};
 ghost use Rattle.wq_core.specs.declared.step.Step.{Step};
@@ -34,9 +35,10 @@ pub fn chain_and_batch(core: &Core)
 }
 
 /// A push that wins says that it was the first exactly where nothing was pushed since the last take (`llist_add` answers
-/// true where the list was empty before).
+/// true where the list was empty before), and that it wakes exactly where nothing was pushed or taken since the last rest.
 pub fn first_push(core: &Core)
-    ensures { (s k : ℕ) (q : Bool) → IsMade core.now (Sender s) (Push k) → reply_to core.now (Sender s) (Push k) ≡ Pushed q → q ≡ first core.now.history }
+    ensures first { (s k : ℕ) (p q : Bool) → IsMade core.now (Sender s) (Push k) → reply_to core.now (Sender s) (Push k) ≡ Pushed p q → p ≡ first core.now.history }
+    ensures wakes { (s k : ℕ) (p q : Bool) → IsMade core.now (Sender s) (Push k) → reply_to core.now (Sender s) (Push k) ≡ Pushed p q → q ≡ wakes core.now.history }
 {
     core.sound();
 }

@@ -4,19 +4,20 @@ ghost use Rattle.wq_words.specs.declared.layout.Layout.{Layout};
 ghost use Rattle.wq_words.specs.Numbers.{number_count};
 ghost use Rattle.wq_words.specs.History.{accepted, begun, Holds, IsClosed, IsRunning};
 ghost use Rattle.wq_core.specs.declared.step.Seat.TheVariants.{Sender, Owner};
-ghost use Rattle.wq_core.specs.declared.step.Step.TheVariants.{Hold, Look, Link, Push, Back, Check, Take, Close, Walk, Begin, End, Chain, Turn};
+ghost use Rattle.wq_core.specs.declared.step.Step.TheVariants.{Hold, Look, Link, Push, Back, Check, Take, Close, Walk, Begin, End, Chain, Turn, Rest};
 ghost use Rattle.wq_core.specs.Words.{number_at};
 ghost use Rattle.wq_core.specs.Machine.{opening, IsEnabled, after, reply_to, nothing_seen, private, link, unlinked};
 ghost use Rattle.wq_core.specs.Sound.{IsSound};
 ghost use Rattle.wq_core.specs.Refusal.{is_senders, IsSeated, IsNumbered, IsPlaced, may_take_memory, IsMade, IsRefused};
 
 use crate::place::{
-    HEAD, done_place, head_at, item_place, link_place, number_at, word, word_at, word_count,
+    HEAD, done_place, head_at, item_place, link_place, link_word, number_at, word, word_at,
+    word_count,
 };
 use crate::step::{Private, Reply, Seat, Step, StepError};
 use std::alloc::{AllocError, Global};
 use std::marker::Model;
-use wq_words::{Event, Head, Layout, Why};
+use wq_words::{BUSY, Event, Head, Layout, Why};
 
 const NOTHING_SEEN: Private = Private {
     seen: None,
@@ -166,6 +167,12 @@ impl Core {
             (Seat::Owner, Step::Turn(number, _)) => {
                 self.walked.contains(&number) || self.batch.contains(&number)
             }
+            (Seat::Owner, Step::Rest) => {
+                !self.is_closed()
+                    && self.cursor.is_none()
+                    && self.batch.is_empty()
+                    && !self.is_running()
+            }
             _ => unreachable!(),
         }
     }
@@ -218,6 +225,7 @@ impl Core {
             (Seat::Owner, Step::End) => self.end(),
             (Seat::Owner, Step::Chain(number)) => self.chain(number),
             (Seat::Owner, Step::Turn(number, next)) => Ok(self.turn(number, next)),
+            (Seat::Owner, Step::Rest) => self.rest(),
             _ => unreachable!(),
         }
     }
@@ -258,7 +266,7 @@ impl Core {
         ensures after { self.new ≡ after self.old (Sender sender) (Link number) }
     {
         let seat = private_at(&self.seats, sender);
-        self.words[link_place(number)] = seat.seen.unwrap_or(0);
+        self.words[link_place(number)] = link_word(seat.seen.unwrap_or(0));
         self.seats[sender as usize] = Private {
             seen: seat.seen,
             linked: Some(number),
@@ -282,7 +290,8 @@ impl Core {
         self.holders[number as usize] = None;
         self.seats[sender as usize] = NOTHING_SEEN;
         Ok(Reply::Pushed {
-            first: seen == Head::Empty.to_word(),
+            first: link_word(seen) == Head::Empty.to_word(),
+            wakes: seen == Head::Empty.to_word(),
         })
     }
 
@@ -319,8 +328,8 @@ impl Core {
     {
         let head = word(&self.words, HEAD);
         self.history.push(Event::Take)?;
-        self.words[HEAD] = Head::Empty.to_word();
-        self.cursor = number_at(head);
+        self.words[HEAD] = BUSY;
+        self.cursor = number_at(link_word(head));
         Ok(Reply::Took(head_at(head)))
     }
 
@@ -333,7 +342,7 @@ impl Core {
         let head = word(&self.words, HEAD);
         self.history.push(Event::Close)?;
         self.words[HEAD] = Head::Closed.to_word();
-        self.cursor = number_at(head);
+        self.cursor = number_at(link_word(head));
         Ok(Reply::Closed(head_at(head)))
     }
 
@@ -425,6 +434,20 @@ impl Core {
         self.words[link_place(number)] = word_at(next);
         Reply::Turned
     }
+
+    fn rest(&mut self) -> Result<Reply, AllocError>
+        requires { IsMade self.old Owner Rest }
+        ensures reply { IfOk result (λ reply. reply ≡ reply_to self.old Owner Rest) }
+        ensures after { OnOk result (self.new ≡ after self.old Owner Rest) }
+        ensures unchanged { OnErr result (self.new ≡ self.old) }
+    {
+        if word(&self.words, HEAD) != BUSY {
+            return Ok(Reply::Lost);
+        }
+        self.history.push(Event::Rest)?;
+        self.words[HEAD] = Head::Empty.to_word();
+        Ok(Reply::Rested)
+    }
 }
 
 // Whether the step is one of a sender's kinds.
@@ -444,7 +467,8 @@ fn is_senders(step: Step) -> bool
         | Step::Begin
         | Step::End
         | Step::Chain(_)
-        | Step::Turn(_, _) => false,
+        | Step::Turn(_, _)
+        | Step::Rest => false,
     }
 }
 

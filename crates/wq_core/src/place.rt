@@ -3,9 +3,9 @@
 ghost use Rattle.std.specs.Prelude.{◌≡◌, ◌≢◌, ◌<◌, ◌≤◌, ◌^◌, get_or, length};
 ghost use Rattle.wq_words.specs.declared.layout.Layout.{Layout};
 ghost use Rattle.wq_words.specs.Numbers.{number_count};
-ghost use Rattle.wq_core.specs.Words.{link_place, item_place, done_place, word_count, closed_word, number_at, word_at, head_at};
+ghost use Rattle.wq_core.specs.Words.{link_place, item_place, done_place, word_count, closed_word, link_word, number_at, word_at, head_at};
 
-use wq_words::{Head, Layout};
+use wq_words::{BUSY, Head, Layout};
 
 /// Where the head stands.
 pub const HEAD: usize = 0;
@@ -38,9 +38,17 @@ pub fn done_place(layout: Layout) -> usize
     1 + 2 * layout.number_count() as usize
 }
 
+/// The word that links to what stands at a head that is not closed: the end where the list is empty, whether it rests or
+/// not.
+pub fn link_word(word: u64) -> u64
+    ensures { result ≡ link_word word }
+{
+    if word == BUSY { 0 } else { word }
+}
+
 /// What a head word says.
 pub fn head_at(word: u64) -> Head
-    requires { word ≢ closed_word → word ≤ 2 ^ 32 }
+    requires { word ≢ closed_word → link_word word ≤ 2 ^ 32 }
     ensures { result ≡ head_at word }
 {
     match Head::from_word(word) {
@@ -49,7 +57,7 @@ pub fn head_at(word: u64) -> Head
     }
 }
 
-/// The number that a link, or a head that is not closed, stands for.
+/// The number that a link stands for.
 pub fn number_at(word: u64) -> Option<u32>
     requires { word ≤ 2 ^ 32 }
     ensures { result ≡ number_at word }

@@ -41,6 +41,8 @@ pub enum Step {
     /// Stores the link of a number that was taken and walked and has not begun (`llist_reverse_order`): another number, or
     /// the end.
     Turn(u32, Option<u32>),
+    /// Marks the empty list as resting, where nothing was pushed since the last Take.
+    Rest,
 }
 
 /// What an enabled step is answered.
@@ -54,9 +56,9 @@ pub enum Reply {
     Looked(Head),
     /// To Link.
     Linked,
-    /// To Push: the exchange was made, and `first` says that the list was empty.
-    Pushed { first: bool },
-    /// To Push: the head was another, and nothing was exchanged.
+    /// To Push: the exchange was made. `first` says that the list was empty, `wakes` that it rested.
+    Pushed { first: bool, wakes: bool },
+    /// To Push and Rest: the head was another, and nothing was exchanged.
     Lost,
     /// To Back.
     GivenBack,
@@ -80,6 +82,8 @@ pub enum Reply {
     ChainBusy,
     /// To Turn.
     Turned,
+    /// To Rest: the list is marked as resting.
+    Rested,
 }
 
 /// Why a step was not made, the first of these that fits. The machine is then as it was.

@@ -9,14 +9,14 @@ use Rattle.wq_words.specs.declared.answer.Modified.{Modified}
 use Rattle.wq_words.specs.declared.answer.Modified.TheVariants as modified
 
 abbrev pub armed_of : Answer → Armed
-armed_of (answer.Queued is_first) = armed.Queued is_first
+armed_of (answer.Queued is_first wakes) = armed.Queued is_first wakes
 armed_of answer.Pending = armed.Pending
 armed_of answer.Closed = armed.Closed
 armed_of answer.Contended = armed.Contended
 
 -- what a modification that arms the item answers
 abbrev pub modified_of : Armed → Modified
-modified_of (armed.Queued is_first) = modified.WasIdle
+modified_of (armed.Queued is_first wakes) = modified.WasIdle
 modified_of armed.OnTable = modified.WasIdle
 modified_of armed.Pending = modified.Pending
 modified_of armed.Closed = modified.Closed
@@ -26,6 +26,6 @@ modified_of armed.Memory = modified.Memory
 
 -- what a modification that posts the item answers
 abbrev pub modified_of_posted : Posted → Modified
-modified_of_posted (posted.Queued is_first) = modified.Moved
+modified_of_posted (posted.Queued is_first wakes) = modified.Moved
 modified_of_posted posted.Closed = modified.Closed
 modified_of_posted posted.Contended = modified.Contended
