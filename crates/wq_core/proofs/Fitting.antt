@@ -3,7 +3,7 @@ use Rattle.std.proofs.Common.{◌≡◌, ◌≢◌, ℕ, ◌<◌, ◌≤◌, Lis
 use Rattle.std.proofs.lemmas.List.{get_or-set_other, get_or-set_same}
 use Rattle.std.proofs.lemmas.Bool.{cases_eq}
 use Rattle.wq_core.specs.declared.step.Private.{Private}
-use Rattle.wq_core.specs.Words.{link_place, item_place, done_place, head_place, closed_word}
+use Rattle.wq_core.specs.Words.{link_place, item_place, done_place, head_place, closed_word, link_word}
 use Rattle.wq_core.specs.Machine.{nothing_seen}
 use Rattle.wq_core.specs.Stored.{LinksFit, LooksFit}
 
@@ -29,7 +29,7 @@ module _ (n : ℕ) (ws : List ℕ) (v : ℕ) (fit : LinksFit n ws) where
       ]
 
 -- what sender s has seen now
-pub fit_look : (n : ℕ) (seats : List Private) (s : ℕ) (p : Private) → s < length seats → ((w : ℕ) → p.seen ≡ Some w → w ≢ closed_word → w ≤ n)
+pub fit_look : (n : ℕ) (seats : List Private) (s : ℕ) (p : Private) → s < length seats → ((w : ℕ) → p.seen ≡ Some w → w ≢ closed_word → link_word w ≤ n)
     → LooksFit n seats → LooksFit n (set seats s p)
 fit_look n seats s p in' new old t w is unclosed =
     elim (cases_eq t s) [

@@ -5,8 +5,8 @@ use Rattle.wq_words.specs.declared.layout.Layout.{Layout}
 use Rattle.wq_words.specs.declared.event.Event.{Event}
 use Rattle.wq_words.specs.declared.event.Event.TheVariants.{Push, Chain}
 use Rattle.wq_words.specs.Numbers.{number_count}
-use Rattle.wq_words.specs.Head.{head_word}
-use Rattle.wq_words.specs.History.{accepted, begun, ended, accepted_by, begun_by, ended_by, pending, is_close, Holds, IsPending, IsClosed}
+use Rattle.wq_words.specs.Rest.{wakes}
+use Rattle.wq_words.specs.History.{accepted, begun, ended, accepted_by, begun_by, ended_by, pending, Holds, IsPending, IsClosed}
 use Rattle.wq_words.specs.Listed.{listed_after, listed}
 use Rattle.wq_words.specs.Legal.{IsAllowed, IsLegal}
 use Rattle.wq_words.specs.Keeper.{Keeper, Home, Sender, Listed, Owner, keeper_after, keeper}
@@ -15,11 +15,11 @@ use Rattle.wq_words.proofs.Legal.{legal_push, legal_induction}
 use Rattle.wq_words.proofs.Keepers.{pending_bit, kept, home_from_bit, sender_from_bit}
 use Rattle.wq_core.specs.Words.{item_place, word_count, closed_word}
 use Rattle.wq_core.specs.Machine.{Machine, head, item_word, done_word, private, happened}
-use Rattle.wq_core.specs.Sound.{head_of, AreChained, IsSound}
+use Rattle.wq_core.specs.Sound.{head_word_of, AreChained, IsSound}
 use Rattle.wq_core.specs.Stored.{FollowKeepers}
 use Rattle.wq_core.proofs.Chains.{times}
 use Rattle.wq_core.proofs.Privates.{follow_quiet, AreLinked, linked_quiet, seen_after}
-use Rattle.wq_core.proofs.Heads.{head_of_quiet, ended_quiet}
+use Rattle.wq_core.proofs.Heads.{IsQuiet, head_word_quiet, rests_quiet, ended_quiet}
 
 -- each accepted number is one of the queue's
 pub accepted_number : (layout : Layout) (h : List Event) → IsLegal layout h → (i k : ℕ) → slice_get (accepted h) i ≡ Some k → k < number_count layout
@@ -58,7 +58,8 @@ pub record IsKeptSound (m : Machine) : Type 0 where
   pub has_words : length m.words ≡ word_count (number_count m.layout)
   pub has_seats : length m.seats ≡ m.layout.senders
   pub legal : IsLegal m.layout m.history
-  pub head_is : head m ≡ head_word (head_of m.history)
+  pub head_is : head m ≡ head_word_of m.history
+  pub rests : wakes m.history ≡ true → listed m.history ≡ []
   pub items_are : FollowKeepers pending_bit 0 (item_place (number_count m.layout)) (number_count m.layout) m.words m.history
   pub done_is : done_word m ≡ length (ended m.history) % 2 ^ 64
   pub chains : AreChained (number_count m.layout) m.words m.cursor m.walked m.batch (accepted m.history) (begun m.history) (listed m.history)
@@ -71,6 +72,7 @@ by_keepers m o = record {
   has_seats = o.has_seats;
   legal = o.legal;
   head_is = o.head_is;
+  rests = o.rests;
   items_are = λ k lt. o.items_are k lt ∙ pending_word m.layout m.history o.legal k;
   done_is = o.done_is;
   chains = o.chains;
@@ -84,6 +86,7 @@ from_keepers m o = record {
   has_seats = o.has_seats;
   legal = o.legal;
   head_is = o.head_is;
+  rests = o.rests;
   items_are = λ k lt. o.items_are k lt ∙ sym (pending_word m.layout m.history o.legal k);
   done_is = o.done_is;
   chains = o.chains;
@@ -117,15 +120,16 @@ module _ (m : Machine) (o : IsSound m) where
 
   -- an event that changes nothing but the history, and moves no number
   pub sound_quiet : (e : Event) → IsAllowed m.layout m.history e → ((j : ℕ) (x : Keeper) → keeper_after j x e ≡ x) → accepted_by e ≡ None
-      → begun_by e ≡ None → ended_by e ≡ None → ((ks : List ℕ) → listed_after ks e ≡ ks) → is_close e ≡ false
+      → begun_by e ≡ None → ended_by e ≡ None → ((ks : List ℕ) → listed_after ks e ≡ ks) → IsQuiet e
       → IsSound (happened m e)
-  sound_quiet e allowed spares no_accept no_begin no_end no_list no_close =
+  sound_quiet e allowed spares no_accept no_begin no_end no_list quiet =
       let b = by_keepers m o in
       from_keepers (happened m e) (record {
         has_words = o.has_words;
         has_seats = o.has_seats;
         legal = legal_push m.layout m.history e o.legal allowed;
-        head_is = o.head_is ∙ ap head_word (sym (head_of_quiet m.history e no_close (no_list (listed m.history))));
+        head_is = o.head_is ∙ sym (head_word_quiet m.history e quiet (no_list (listed m.history)));
+        rests = rests_quiet m.history e quiet (no_list (listed m.history)) o.rests;
         items_are = follow_quiet pending_bit 0 (item_place (number_count m.layout)) _ m.words m.history e (λ j x. ap pending_bit (spares j x)) b.items_are;
         done_is = o.done_is ∙ ap (λ z. z % 2 ^ 64) (sym (ended_quiet m.history e no_end));
         chains = simp (growing, no_accept, no_begin, no_list) o.chains;

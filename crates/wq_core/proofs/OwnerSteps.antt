@@ -1,11 +1,12 @@
 -- Each of the owner's steps keeps what is sound: one lemma a step.
-use Rattle.std.proofs.Common.{◌≡◌, ◌≢◌, ℕ, ◌+◌, ◌%◌, ◌^◌, ◌<◌, false, List, [], ◌∷◌, ◌++◌, length, Option, None, Some, slice_get, refl, sym, ap, ◌∙◌, arith, length-set}
-use Rattle.std.proofs.lemmas.List.{get_or-set_same, length_push}
+use Rattle.std.proofs.Common.{◌≡◌, ◌≢◌, ℕ, ◌+◌, ◌%◌, ◌^◌, ◌<◌, true, false, List, [], ◌∷◌, ◌++◌, length, Option, None, Some, slice_get, refl, sym, ap, ◌∙◌, arith, length-set}
+use Rattle.std.proofs.lemmas.List.{get_or-set_same, length_push, append-nil}
 use Rattle.std.proofs.lemmas.List.Sums.{fold_push}
 use Rattle.std.proofs.Math.Nat.{add-mod-mod}
-use Rattle.wq_words.specs.declared.event.Event.TheVariants.{Take, Close, Begin, End, Chain, ChainBusy}
+use Rattle.wq_words.specs.declared.event.Event.TheVariants.{Take, Close, Begin, End, Chain, ChainBusy, Rest}
 use Rattle.wq_words.specs.Numbers.{number_count}
-use Rattle.wq_words.specs.Head.{head_word}
+use Rattle.wq_words.specs.Head.{busy_word}
+use Rattle.wq_words.specs.Rest.{wakes}
 use Rattle.wq_words.specs.History.{accepted, begun, ended, ended_by, closed, is_close, IsClosed, IsRunning, running}
 use Rattle.wq_words.specs.Listed.{listed_after, listed}
 use Rattle.wq_words.specs.Keeper.{Keeper, Home, Sender, Listed, Owner, taken_over, keeper}
@@ -15,13 +16,15 @@ use Rattle.wq_words.proofs.Legal.{legal_push}
 use Rattle.wq_words.proofs.Listed.{listed-closed}
 use Rattle.wq_words.proofs.Closed.{closed_from_open, closed_push_no}
 use Rattle.wq_words.proofs.Keepers.{pending_bit}
-use Rattle.wq_core.specs.Words.{item_place, done_place, head_place, closed_word, number_at}
+use Rattle.wq_core.specs.Words.{item_place, done_place, head_place, closed_word, idle_word, link_word, number_at}
 use Rattle.wq_core.specs.Machine.{Machine, head, link, item_word, done_word, with_head, with_item, with_done, happened}
-use Rattle.wq_core.specs.Sound.{head_of, AreChained, IsSound}
-use Rattle.wq_core.proofs.Chains.{chained_take, chained_begin, chained_walk_on, chained_walk_end, chained_chain, cursor_number}
+use Rattle.wq_words.proofs.Prefixes.{prefix_length}
+use Rattle.wq_words.proofs.Rest.{wakes_push_work, wakes_push_rest}
+use Rattle.wq_core.specs.Sound.{head_word_of, AreChained, IsSound}
+use Rattle.wq_core.proofs.Chains.{chain_zero, chained_take, chained_begin, chained_walk_on, chained_walk_end, chained_chain, cursor_number}
 use Rattle.wq_core.proofs.Privates.{gives_begin, gives_chain, follow_give, follow_quiet, linked_quiet, linked_spares, seen_after}
 use Rattle.wq_core.proofs.Writes.{head_of-item, done_of-item, chains_of-item, linked_of-item, done_of-head, items_of-head, chains_of-head, linked_of-head, head_of-done, items_of-done, chains_of-done, linked_of-done}
-use Rattle.wq_core.proofs.Heads.{head_of_closed, head_of_quiet, ended_quiet, head_open}
+use Rattle.wq_core.proofs.Heads.{head_of_closed, quiet, head_word_quiet, rests_quiet, ended_quiet, head_open, busy_list}
 use Rattle.wq_core.proofs.KeptSound.{accepted_number, by_keepers, from_keepers, home_from_clear, idle_from_home, pending_from_set, away_from_sender, sound_quiet}
 
 module _ (m : Machine) (o : IsSound m) where
@@ -32,41 +35,45 @@ module _ (m : Machine) (o : IsSound m) where
   taken_bit Listed = refl
   taken_bit Owner = refl
 
-  pub sound_take : ¬ IsClosed m.history → m.cursor ≡ None → m.batch ≡ [] → IsSound (happened (record (with_head m 0) { cursor = number_at (head m) }) Take)
+  pub sound_take : ¬ IsClosed m.history → m.cursor ≡ None → m.batch ≡ [] → IsSound (happened (record (with_head m busy_word) { cursor = number_at (link_word (head m)) }) Take)
   sound_take unclosed still empty =
       let b = by_keepers m o in
       let n : ℕ = number_count m.layout in
       let a = rw still at o.chains in
       let walked : m.walked ≡ [] = a.rested refl in
-      let c = chained_take n m.words m.walked m.batch _ _ _ (head m) (head_open m o unclosed) a in
+      let c = chained_take n m.words m.walked m.batch _ _ _ (link_word (head m)) (head_open m o unclosed) a in
       let list : listed (m.history ++ Take ∷ []) ≡ [] = fold_push listed_after [] m.history Take in
       let opened : closed (m.history ++ Take ∷ []) ≡ false = closed_push_no m.history Take refl ∙ closed_from_open m.history unclosed in
-      let now : head_word (head_of (m.history ++ Take ∷ [])) ≡ 0 = rw (opened, list) refl in
-      from_keepers (happened (record (with_head m 0) { cursor = number_at (head m) }) Take) (record {
-        has_words = length-set m.words head_place 0 ∙ o.has_words;
+      let works : wakes (m.history ++ Take ∷ []) ≡ false = wakes_push_work m.history Take refl in
+      let now : head_word_of (m.history ++ Take ∷ []) ≡ busy_word = rw (opened, list, works) refl in
+      from_keepers (happened (record (with_head m busy_word) { cursor = number_at (link_word (head m)) }) Take) (record {
+        has_words = length-set m.words head_place busy_word ∙ o.has_words;
         has_seats = o.has_seats;
         legal = legal_push m.layout m.history Take o.legal (tt, tt, unclosed);
-        head_is = get_or-set_same m.words head_place 0 0 (omega (arith, o.has_words)) ∙ sym now;
-        items_are = follow_quiet pending_bit 0 (item_place n) n _ m.history Take (λ j x. taken_bit x) (items_of-head n m.words 0 m.history b.items_are);
-        done_is = done_of-head n m.words 0 ∙ o.done_is ∙ ap (λ z. z % 2 ^ 64) (sym (ended_quiet m.history Take refl));
-        chains = simp growing (rw walked (chains_of-head n m.words 0 _ _ _ _ _ _ c));
-        linked = linked_quiet n _ m.seats m.history Take (λ j s. refl) (linked_of-head n m.words 0 m.seats m.history b.linked);
+        head_is = get_or-set_same m.words head_place busy_word 0 (omega (arith, o.has_words)) ∙ sym now;
+        rests = λ on. list;
+        items_are = follow_quiet pending_bit 0 (item_place n) n _ m.history Take (λ j x. taken_bit x) (items_of-head n m.words busy_word m.history b.items_are);
+        done_is = done_of-head n m.words busy_word ∙ o.done_is ∙ ap (λ z. z % 2 ^ 64) (sym (ended_quiet m.history Take refl));
+        chains = simp growing (rw walked (chains_of-head n m.words busy_word _ _ _ _ _ _ c));
+        linked = linked_quiet n _ m.seats m.history Take (λ j s. refl) (linked_of-head n m.words busy_word m.seats m.history b.linked);
         seen = seen_after m.seats m.history Take o.seen;
       })
 
-  pub sound_close : ¬ IsClosed m.history → m.cursor ≡ None → IsSound (happened (record (with_head m closed_word) { cursor = number_at (head m) }) Close)
+  pub sound_close : ¬ IsClosed m.history → m.cursor ≡ None → IsSound (happened (record (with_head m closed_word) { cursor = number_at (link_word (head m)) }) Close)
   sound_close unclosed still =
       let b = by_keepers m o in
       let n : ℕ = number_count m.layout in
       let a = rw still at o.chains in
       let walked : m.walked ≡ [] = a.rested refl in
-      let c = chained_take n m.words m.walked m.batch _ _ _ (head m) (head_open m o unclosed) a in
+      let c = chained_take n m.words m.walked m.batch _ _ _ (link_word (head m)) (head_open m o unclosed) a in
       let is : IsClosed (m.history ++ Close ∷ []) = omega (arith, count_by_push is_close m.history Close) in
-      from_keepers (happened (record (with_head m closed_word) { cursor = number_at (head m) }) Close) (record {
+      let list : listed (m.history ++ Close ∷ []) ≡ [] = fold_push listed_after [] m.history Close in
+      from_keepers (happened (record (with_head m closed_word) { cursor = number_at (link_word (head m)) }) Close) (record {
         has_words = length-set m.words head_place closed_word ∙ o.has_words;
         has_seats = o.has_seats;
         legal = legal_push m.layout m.history Close o.legal (tt, tt, unclosed);
         head_is = get_or-set_same m.words head_place closed_word 0 (omega (arith, o.has_words)) ∙ sym (head_of_closed (m.history ++ Close ∷ []) is);
+        rests = λ on. list;
         items_are =
             follow_quiet pending_bit 0 (item_place n) n _ m.history Close (λ j x. taken_bit x) (items_of-head n m.words closed_word m.history b.items_are);
         done_is = done_of-head n m.words closed_word ∙ o.done_is ∙ ap (λ z. z % 2 ^ 64) (sym (ended_quiet m.history Close refl));
@@ -84,6 +91,7 @@ module _ (m : Machine) (o : IsSound m) where
     has_seats = o.has_seats;
     legal = o.legal;
     head_is = o.head_is;
+    rests = o.rests;
     items_are = o.items_are;
     done_is = o.done_is;
     chains = a;
@@ -123,7 +131,8 @@ module _ (m : Machine) (o : IsSound m) where
         has_words = length-set m.words (item_place n k) 0 ∙ o.has_words;
         has_seats = o.has_seats;
         legal = legal_push m.layout m.history (Begin k) o.legal (tt, number, (idle, f.1));
-        head_is = head_of-item n m.words 0 k number ∙ o.head_is ∙ ap head_word (sym (head_of_quiet m.history (Begin k) refl refl));
+        head_is = head_of-item n m.words 0 k number ∙ o.head_is ∙ sym (head_word_quiet m.history (Begin k) (quiet refl refl refl) refl);
+        rests = rests_quiet m.history (Begin k) (quiet refl refl refl) refl o.rests;
         items_are =
             follow_give pending_bit 0 (item_place n) n m.words m.history (Begin k) k Home (λ j e. omega (arith, e)) (omega (arith, o.has_words, number))
             (gives_begin k) b.items_are;
@@ -151,7 +160,8 @@ module _ (m : Machine) (o : IsSound m) where
         has_words = length-set m.words (done_place n) v ∙ o.has_words;
         has_seats = o.has_seats;
         legal = legal_push m.layout m.history (End k) o.legal (tt, number, runs);
-        head_is = head_of-done n m.words v ∙ o.head_is ∙ ap head_word (sym (head_of_quiet m.history (End k) refl refl));
+        head_is = head_of-done n m.words v ∙ o.head_is ∙ sym (head_word_quiet m.history (End k) (quiet refl refl refl) refl);
+        rests = rests_quiet m.history (End k) (quiet refl refl refl) refl o.rests;
         items_are = follow_quiet pending_bit 0 (item_place n) n _ m.history (End k) (λ j x. refl) (items_of-done n m.words v m.history b.items_are);
         done_is = get_or-set_same m.words (done_place n) v 0 (omega (arith, o.has_words)) ∙ count;
         chains = simp growing (chains_of-done n m.words v _ _ _ _ _ _ o.chains);
@@ -174,7 +184,8 @@ module _ (m : Machine) (o : IsSound m) where
         has_words = length-set m.words (item_place n k) 1 ∙ o.has_words;
         has_seats = o.has_seats;
         legal = legal_push m.layout m.history (Chain k) o.legal (tt, item, (is, runs, idle_from_home m o k home));
-        head_is = head_of-item n m.words 1 k number ∙ o.head_is ∙ ap head_word (sym (head_of_quiet m.history (Chain k) refl refl));
+        head_is = head_of-item n m.words 1 k number ∙ o.head_is ∙ sym (head_word_quiet m.history (Chain k) (quiet refl refl refl) refl);
+        rests = rests_quiet m.history (Chain k) (quiet refl refl refl) refl o.rests;
         items_are =
             follow_give pending_bit 0 (item_place n) n m.words m.history (Chain k) k Owner (λ j e. omega (arith, e)) (omega (arith, o.has_words, number))
             (gives_chain k) b.items_are;
@@ -188,4 +199,37 @@ module _ (m : Machine) (o : IsSound m) where
 
   pub sound_chain_busy : (k : ℕ) → k < m.layout.items → IsClosed m.history → IsRunning m.history → item_word m k ≢ 0 → IsSound (happened m (ChainBusy k))
   sound_chain_busy k item is runs set' =
-      sound_quiet m o (ChainBusy k) (tt, item, (is, runs, pending_from_set m o k (omega (arith, item)) set')) (λ j x. refl) refl refl refl (λ ks. refl) refl
+      sound_quiet m o (ChainBusy k) (tt, item, (is, runs, pending_from_set m o k (omega (arith, item)) set')) (λ j x. refl) refl refl refl (λ ks. refl) (quiet refl refl refl)
+
+  -- where nothing is listed, nothing taken waits and nothing runs, as many ended as were accepted
+  all_ended : m.cursor ≡ None → m.batch ≡ [] → ¬ IsRunning m.history → listed m.history ≡ [] → length (ended m.history) ≡ length (accepted m.history)
+  all_ended still empty idle none =
+      let a = rw (still, empty, none) at o.chains in
+      let walked : m.walked ≡ [] = a.rested refl in
+      let remains : a.remaining ≡ [] = chain_zero (number_count m.layout) m.words a.remaining a.walk_chain in
+      let order : accepted m.history ≡ begun m.history = rw (walked, remains) at a.order ∙ simp append-nil in
+      let ends = prefix_length (ended m.history) (begun m.history) (in_order m.layout m.history o.legal).ended_first in
+      omega (arith, idle, ends, ap length order)
+
+  pub sound_rest : ¬ IsClosed m.history → m.cursor ≡ None → m.batch ≡ [] → ¬ IsRunning m.history → head m ≡ busy_word
+      → IsSound (happened (with_head m idle_word) Rest)
+  sound_rest unclosed still empty idle busy =
+      let b = by_keepers m o in
+      let n : ℕ = number_count m.layout in
+      let none : listed m.history ≡ [] = busy_list m o unclosed busy in
+      let list : listed (m.history ++ Rest ∷ []) ≡ [] = fold_push listed_after [] m.history Rest ∙ none in
+      let opened : closed (m.history ++ Rest ∷ []) ≡ false = closed_push_no m.history Rest refl ∙ closed_from_open m.history unclosed in
+      let rested : wakes (m.history ++ Rest ∷ []) ≡ true = wakes_push_rest m.history in
+      let now : head_word_of (m.history ++ Rest ∷ []) ≡ idle_word = rw (opened, list, rested) refl in
+      from_keepers (happened (with_head m idle_word) Rest) (record {
+        has_words = length-set m.words head_place idle_word ∙ o.has_words;
+        has_seats = o.has_seats;
+        legal = legal_push m.layout m.history Rest o.legal (tt, tt, (unclosed, all_ended still empty idle none));
+        head_is = get_or-set_same m.words head_place idle_word 0 (omega (arith, o.has_words)) ∙ sym now;
+        rests = λ on. list;
+        items_are = follow_quiet pending_bit 0 (item_place n) n _ m.history Rest (λ j x. refl) (items_of-head n m.words idle_word m.history b.items_are);
+        done_is = done_of-head n m.words idle_word ∙ o.done_is ∙ ap (λ z. z % 2 ^ 64) (sym (ended_quiet m.history Rest refl));
+        chains = simp growing (chains_of-head n m.words idle_word _ _ _ _ _ _ o.chains);
+        linked = linked_quiet n _ m.seats m.history Rest (λ j s. refl) (linked_of-head n m.words idle_word m.seats m.history b.linked);
+        seen = seen_after m.seats m.history Rest o.seen;
+      })

@@ -10,7 +10,7 @@ use Rattle.wq_words.specs.History.{IsClosed}
 use Rattle.wq_words.specs.Keeper.{Keeper, Home, Sender, Listed, Owner, keeper_after, keeper}
 use Rattle.wq_words.proofs.Closed.{closed_stays}
 use Rattle.wq_core.specs.declared.step.Private.{Private}
-use Rattle.wq_core.specs.Words.{link_place, closed_word}
+use Rattle.wq_core.specs.Words.{link_place, closed_word, link_to}
 use Rattle.wq_core.specs.Machine.{nothing_seen, other_than, unlinked}
 use Rattle.wq_core.specs.Stored.{FollowKeepers}
 
@@ -76,9 +76,9 @@ pub follow_set : {X : Type 0} (f : Keeper → X) (default : X) (place : ℕ → 
     → FollowKeepers f default place n xs h → FollowKeepers f default place n (set xs i v) h
 follow_set f default place n xs h i v other old k lt = get_or-set_other xs i (place k) v default (other k lt) ∙ old k lt
 
--- what sender s linked is a number of the queue that it keeps, and its link is the word that it has seen, which is not the closed one
+-- what sender s linked is a number of the queue that it keeps, and its link leads to the head that it has seen, which is not the closed one
 abbrev pub Linked : ℕ → List ℕ → Private → List Event → ℕ → ℕ → Type 0
-Linked n words p h s k = (k < n) × (keeper h k ≡ Sender s) × (p.seen ≡ Some (get_or words (link_place k) 0)) × (get_or words (link_place k) 0 ≢ closed_word)
+Linked n words p h s k = (k < n) × (keeper h k ≡ Sender s) × (link_to p.seen ≡ Some (get_or words (link_place k) 0)) × (get_or words (link_place k) 0 ≢ closed_word)
 
 abbrev pub AreLinked : ℕ → List ℕ → List Private → List Event → Type 0
 AreLinked n words seats h = (s k : ℕ) → (get_or seats s nothing_seen).linked ≡ Some k → Linked n words (get_or seats s nothing_seen) h s k
@@ -126,7 +126,7 @@ linked_give n words seats h e s k p in' spares mine keeps old t j is =
         let here : get_or (set seats s p) t nothing_seen ≡ p = rw same (get_or-set_same seats s p nothing_seen in') in
         let kept = keeps j (rw here at is) in
         let o = old s j (kept.1) in
-        (o.0, keeper_push h e j ∙ spares j (keeper h j) (kept.0) ∙ rw same (o.1), rw here (kept.2 ∙ o.2), o.3)
+        (o.0, keeper_push h e j ∙ spares j (keeper h j) (kept.0) ∙ rw same (o.1), rw here (ap link_to (kept.2) ∙ o.2), o.3)
 
     others : t ≢ s → Linked n words (get_or (set seats s p) t nothing_seen) (h ++ e ∷ []) t j
     others ne =
@@ -137,7 +137,7 @@ linked_give n words seats h e s k p in' spares mine keeps old t j is =
 
 -- sender s links a number that it keeps
 pub linked_link : (n : ℕ) (words : List ℕ) (seats : List Private) (h : List Event) (s k w : ℕ) → s < length seats → k < n
-    → link_place k < length words → keeper h k ≡ Sender s → (get_or seats s nothing_seen).seen ≡ Some w → w ≢ closed_word
+    → link_place k < length words → keeper h k ≡ Sender s → link_to (get_or seats s nothing_seen).seen ≡ Some w → w ≢ closed_word
     → AreLinked n words seats h → AreLinked n (set words (link_place k) w) (set seats s (record (get_or seats s nothing_seen) { linked = Some k })) h
 linked_link n words seats h s k w in' number room mine seen unclosed old t j is =
     elim (cases_eq t s) [ inl same ↦ own same | inr ne ↦ others ne ]

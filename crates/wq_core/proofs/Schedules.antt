@@ -12,16 +12,18 @@ use Rattle.wq_core.specs.declared.step.Private.{Private}
 use Rattle.wq_core.specs.declared.step.Seat.{Seat}
 use Rattle.wq_core.specs.declared.step.Seat.TheVariants.{Sender, Owner}
 use Rattle.wq_core.specs.declared.step.Step.{Step}
-use Rattle.wq_core.specs.declared.step.Step.TheVariants.{Hold, Look, Link, Push, Back, Check, Take, Close, Walk, Begin, End, Chain, Turn}
+use Rattle.wq_core.specs.declared.step.Step.TheVariants.{Hold, Look, Link, Push, Back, Check, Take, Close, Walk, Begin, End, Chain, Turn, Rest}
 use Rattle.wq_core.specs.declared.step.StepError.{StepError}
-use Rattle.wq_core.specs.Words.{word_count, word_at}
+use Rattle.wq_words.specs.Head.{busy_word}
+use Rattle.wq_core.specs.Words.{word_count, link_word, link_to, word_at}
 use Rattle.wq_core.specs.Machine.{Machine, opening, nothing_seen, head, link, item_word, private, seen_word, after_walk, after_begin, after_end, after}
 use Rattle.wq_core.specs.Refusal.{IsMade, IsRefused}
 use Rattle.wq_core.specs.Schedule.{Leads, Leaves, StopsAt}
 use Rattle.wq_core.specs.Sound.{IsSound}
 use Rattle.wq_words.proofs.Running.{runs_some}
 use Rattle.wq_core.proofs.SenderSteps.{sound_hold, sound_busy, sound_look, sound_lost, sound_link, sound_push, sound_back}
-use Rattle.wq_core.proofs.OwnerSteps.{sound_take, sound_close, sound_walk_end, sound_walk_on, sound_begin, sound_end, sound_chain, sound_chain_busy}
+use Rattle.wq_core.proofs.OwnerSteps.{sound_take, sound_close, sound_walk_end, sound_walk_on, sound_begin, sound_end, sound_chain, sound_chain_busy, sound_rest}
+use Rattle.wq_core.proofs.Heads.{link_open}
 use Rattle.wq_core.proofs.Turning.{sound_turn}
 
 pub either : (q : Bool) (P : Machine → Type 0) (a b : Machine) → (q ≡ true → P a) → (q ≡ false → P b) → P (if q then a else b)
@@ -49,7 +51,7 @@ sound_after m (Sender s) (Hold k) o made =
 sound_after m (Sender s) Look o made = sound_look m o s made.0.0.0
 sound_after m (Sender s) (Link k) o made =
     let is = seen_some (private m s).seen made.1.1 in
-    sound_link m o s k (seen_word m s) made.0.0.0 made.0.1 made.1.0 is (λ e. made.1.2 (is ∙ ap Some e))
+    sound_link m o s k (link_word (seen_word m s)) made.0.0.0 made.0.1 made.1.0 (ap link_to is) (link_open (seen_word m s) (λ e. made.1.2 (is ∙ ap Some e)))
 sound_after m (Sender s) (Push k) o made =
     either (head m == seen_word m s) IsSound _ _ (λ e. sound_push m o s k made.0.0.0 made.0.1 made.1 (eqb-true (head m) (seen_word m s) e))
     (λ e. sound_lost m o s made.0.0.0)
@@ -62,6 +64,7 @@ sound_after m (Sender s) Begin o made = absurd made.1
 sound_after m (Sender s) End o made = absurd made.1
 sound_after m (Sender s) (Chain k) o made = absurd made.1
 sound_after m (Sender s) (Turn k next) o made = absurd made.1
+sound_after m (Sender s) Rest o made = absurd made.1
 sound_after m Owner Take o made = sound_take m o made.1.0 made.1.1 made.1.2
 sound_after m Owner Close o made = sound_close m o made.1.0 made.1.1
 sound_after m Owner Walk o made = walk_sound m o m.cursor refl
@@ -73,6 +76,8 @@ sound_after m Owner (Chain k) o made =
     either (item_word m k == 0) IsSound _ _ (λ e. sound_chain m o k made.0.1 made.1.0 made.1.1 made.1.2 (eqb-true (item_word m k) 0 e))
     (λ e. sound_chain_busy m o k made.0.1 made.1.0 made.1.2 (eqb-false (item_word m k) 0 e))
 sound_after m Owner (Turn k next) o made = sound_turn m o k made.1 (word_at next) made.0.1.0
+sound_after m Owner Rest o made =
+    either (head m == busy_word) IsSound _ _ (λ e. sound_rest m o made.1.0 made.1.1 made.1.2 made.1.3 (eqb-true (head m) busy_word e)) (λ e. o)
 sound_after m Owner (Hold k) o made = absurd made.1
 sound_after m Owner Look o made = absurd made.1
 sound_after m Owner (Link k) o made = absurd made.1
@@ -91,6 +96,7 @@ sound_opening layout = record {
   has_seats = length-replicate _ _;
   legal = legal_nil layout;
   head_is = all_alike (word_count (number_count layout)) _ 0;
+  rests = λ on. refl;
   items_are = λ k lt. all_alike (word_count (number_count layout)) _ 0;
   done_is = all_alike (word_count (number_count layout)) _ 0;
   chains = record { remaining = []; list_chain = refl; walk_chain = refl; order = refl; rested = λ _. refl };
@@ -133,6 +139,7 @@ layout_after m Owner End = end (running m.history)
     end None = refl
     end (Some k) = refl
 layout_after m Owner (Chain k) = either (item_word m k == 0) (λ x. x.layout ≡ m.layout) _ _ (λ e. refl) (λ e. refl)
+layout_after m Owner Rest = either (head m == busy_word) (λ x. x.layout ≡ m.layout) _ _ (λ e. refl) (λ e. refl)
 layout_after m _ _ = refl
 
 layout_leads : (turns : List (Seat × Step)) (old new : Machine) → Leads old turns new → new.layout ≡ old.layout

@@ -1,12 +1,11 @@
 -- Each of a sender's steps keeps what is sound: one lemma a step.
-use Rattle.std.proofs.Common.{◌≡◌, ◌≢◌, ℕ, ◌+◌, ◌%◌, ◌^◌, ◌<◌, false, [], ◌∷◌, ◌++◌, length, None, Some, refl, sym, ap, ◌∙◌, arith, length-set, unwrap_or}
+use Rattle.std.proofs.Common.{◌≡◌, ◌≢◌, ℕ, ◌+◌, ◌%◌, ◌^◌, ◌<◌, false, [], ◌∷◌, ◌++◌, length, None, Some, refl, sym, ap, ◌∙◌, arith, length-set}
 use Rattle.std.proofs.lemmas.List.{get_or-set_same}
 use Rattle.std.proofs.lemmas.List.Sums.{fold_push}
 use Rattle.wq_words.specs.declared.event.Why.{Why}
 use Rattle.wq_words.specs.declared.event.Why.TheVariants.{Closed}
 use Rattle.wq_words.specs.declared.event.Event.TheVariants.{Hold, Busy, Push, Back}
 use Rattle.wq_words.specs.Numbers.{number_count}
-use Rattle.wq_words.specs.Head.{head_word}
 use Rattle.wq_words.specs.History.{closed, Holds, IsClosed}
 use Rattle.wq_words.specs.Listed.{listed_after, listed}
 use Rattle.wq_words.specs.Keeper.{Home, Sender, Listed}
@@ -14,14 +13,15 @@ use Rattle.wq_words.proofs.Growing.{growing}
 use Rattle.wq_words.proofs.Legal.{legal_push}
 use Rattle.wq_words.proofs.Closed.{closed_from_open, closed_push_no}
 use Rattle.wq_words.proofs.Keepers.{pending_bit}
-use Rattle.wq_core.specs.Words.{link_place, item_place, head_place, closed_word}
+use Rattle.wq_words.proofs.Rest.{wakes_push_work}
+use Rattle.wq_core.specs.Words.{link_place, item_place, head_place, closed_word, link_word, link_to}
 use Rattle.wq_core.specs.declared.step.Private.{Private}
 use Rattle.wq_core.specs.Machine.{Machine, nothing_seen, head, link, item_word, private, seen_word, with_head, with_link, with_item, with_private, happened, unlinked}
-use Rattle.wq_core.specs.Sound.{head_of, IsSound}
+use Rattle.wq_core.specs.Sound.{head_word_of, IsSound}
 use Rattle.wq_core.proofs.Chains.{chained_set, chained_push}
 use Rattle.wq_core.proofs.Privates.{gives_hold, gives_push, gives_back, follow_give, follow_same, linked_spares, linked_give, keeps_unlinked, linked_link, linked_forget, seen_after, seen_set}
 use Rattle.wq_core.proofs.Writes.{head_of-item, done_of-item, chains_of-item, linked_of-item, done_of-head, items_of-head, chains_of-head, linked_of-head, head_of-link, done_of-link, items_of-link}
-use Rattle.wq_core.proofs.Heads.{head_of_closed, head_of_quiet, ended_quiet, closed_from_head, head_open}
+use Rattle.wq_core.proofs.Heads.{head_of_closed, quiet, head_word_quiet, rests_quiet, ended_quiet, closed_from_head, head_open, link_seen}
 use Rattle.wq_core.proofs.KeptSound.{by_keepers, from_keepers, home_from_clear, idle_from_home, pending_from_set, sender_from_holds, away_from_sender, sound_quiet}
 
 module _ (m : Machine) (o : IsSound m) where
@@ -34,7 +34,8 @@ module _ (m : Machine) (o : IsSound m) where
         has_words = length-set m.words (item_place n k) 1 ∙ o.has_words;
         has_seats = o.has_seats;
         legal = legal_push m.layout m.history (Hold s k) o.legal (seat, number, idle_from_home m o k home);
-        head_is = head_of-item n m.words 1 k number ∙ o.head_is ∙ ap head_word (sym (head_of_quiet m.history (Hold s k) refl refl));
+        head_is = head_of-item n m.words 1 k number ∙ o.head_is ∙ sym (head_word_quiet m.history (Hold s k) (quiet refl refl refl) refl);
+        rests = rests_quiet m.history (Hold s k) (quiet refl refl refl) refl o.rests;
         items_are =
             follow_give pending_bit 0 (item_place n) n m.words m.history (Hold s k) k (Sender s) (λ j e. omega (arith, e)) (omega (arith, o.has_words, number))
             (gives_hold s k) b.items_are;
@@ -48,7 +49,7 @@ module _ (m : Machine) (o : IsSound m) where
 
   pub sound_busy : (s k : ℕ) → s < m.layout.senders → k < number_count m.layout → item_word m k ≢ 0 → IsSound (happened m (Busy s k))
   sound_busy s k seat number set' =
-      sound_quiet m o (Busy s k) (seat, number, pending_from_set m o k number set') (λ j x. refl) refl refl refl (λ ks. refl) refl
+      sound_quiet m o (Busy s k) (seat, number, pending_from_set m o k number set') (λ j x. refl) refl refl refl (λ ks. refl) (quiet refl refl refl)
 
   -- a sender keeps other things in private, and has linked nothing
   sound_private : (s : ℕ) (p : Private) → s < m.layout.senders → p.linked ≡ None → (p.seen ≡ Some closed_word → IsClosed m.history)
@@ -61,6 +62,7 @@ module _ (m : Machine) (o : IsSound m) where
         has_seats = length-set m.seats s p ∙ o.has_seats;
         legal = o.legal;
         head_is = o.head_is;
+        rests = o.rests;
         items_are = b.items_are;
         done_is = o.done_is;
         chains = o.chains;
@@ -74,7 +76,7 @@ module _ (m : Machine) (o : IsSound m) where
   pub sound_lost : (s : ℕ) → s < m.layout.senders → IsSound (with_private m s nothing_seen)
   sound_lost s seat = sound_private s nothing_seen seat refl (λ is. absurd (cc is))
 
-  pub sound_link : (s k w : ℕ) → s < m.layout.senders → k < number_count m.layout → Holds m.history s k → (private m s).seen ≡ Some w → w ≢ closed_word
+  pub sound_link : (s k w : ℕ) → s < m.layout.senders → k < number_count m.layout → Holds m.history s k → link_to (private m s).seen ≡ Some w → w ≢ closed_word
       → IsSound (with_private (with_link m k w) s (record (private m s) { linked = Some k }))
   sound_link s k w seat number holds sees unclosed =
       let b = by_keepers m o in
@@ -87,6 +89,7 @@ module _ (m : Machine) (o : IsSound m) where
         has_seats = length-set m.seats s _ ∙ o.has_seats;
         legal = o.legal;
         head_is = head_of-link n m.words w k number ∙ o.head_is;
+        rests = o.rests;
         items_are = items_of-link n m.words w k number m.history b.items_are;
         done_is = done_of-link n m.words w k number ∙ o.done_is;
         chains =
@@ -103,17 +106,18 @@ module _ (m : Machine) (o : IsSound m) where
       let n : ℕ = number_count m.layout in
       let in' : s < length m.seats = omega (arith, o.has_seats, seat) in
       let l = b.linked s k linked in
-      let spelled : head m ≡ link m k = won ∙ ap (λ v. unwrap_or v 0) l.2 in
-      let not_closed : ¬ IsClosed m.history = λ c. l.3 (sym spelled ∙ o.head_is ∙ head_of_closed m.history c) in
+      let spelled : link_word (head m) ≡ link m k = ap link_word won ∙ link_seen (private m s).seen _ l.2 in
+      let not_closed : ¬ IsClosed m.history = λ c. l.3 (sym spelled ∙ ap link_word (o.head_is ∙ head_of_closed m.history c)) in
       let holds : Holds m.history s k = (o.linked s k linked).1 in
       let list : listed (m.history ++ Push s k ∷ []) ≡ k ∷ listed m.history = fold_push listed_after [] m.history (Push s k) in
       let opened : closed (m.history ++ Push s k ∷ []) ≡ false = closed_push_no m.history (Push s k) refl ∙ closed_from_open m.history not_closed in
-      let now : head_word (head_of (m.history ++ Push s k ∷ [])) ≡ k + 1 = rw (opened, list) refl in
+      let now : head_word_of (m.history ++ Push s k ∷ []) ≡ k + 1 = rw (opened, list) refl in
       from_keepers (happened (with_private (with_head m (k + 1)) s nothing_seen) (Push s k)) (record {
         has_words = length-set m.words head_place (k + 1) ∙ o.has_words;
         has_seats = length-set m.seats s _ ∙ o.has_seats;
         legal = legal_push m.layout m.history (Push s k) o.legal (seat, number, (holds, not_closed));
         head_is = get_or-set_same m.words head_place (k + 1) 0 (omega (arith, o.has_words)) ∙ sym now;
+        rests = λ on. absurd (cc (on, wakes_push_work m.history (Push s k) refl));
         items_are =
             follow_same pending_bit 0 (item_place n) n _ m.history (Push s k) k Listed (gives_push s k) (rw l.1 refl)
             (items_of-head n m.words (k + 1) m.history b.items_are);
@@ -139,7 +143,8 @@ module _ (m : Machine) (o : IsSound m) where
         has_words = length-set m.words (item_place n k) 0 ∙ o.has_words;
         has_seats = length-set m.seats s _ ∙ o.has_seats;
         legal = legal_push m.layout m.history (Back s k why) o.legal (seat, number, (holds, λ e. o.seen s (sees e)));
-        head_is = head_of-item n m.words 0 k number ∙ o.head_is ∙ ap head_word (sym (head_of_quiet m.history (Back s k why) refl refl));
+        head_is = head_of-item n m.words 0 k number ∙ o.head_is ∙ sym (head_word_quiet m.history (Back s k why) (quiet refl refl refl) refl);
+        rests = rests_quiet m.history (Back s k why) (quiet refl refl refl) refl o.rests;
         items_are =
             follow_give pending_bit 0 (item_place n) n m.words m.history (Back s k why) k Home (λ j e. omega (arith, e)) (omega (arith, o.has_words, number))
             (gives_back s k why) b.items_are;

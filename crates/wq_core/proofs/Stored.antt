@@ -3,10 +3,11 @@ use Rattle.std.proofs.Common.{◌≡◌, ◌≢◌, ℕ, ◌+◌, ◌<◌, ◌�
 use Rattle.std.proofs.lemmas.List.{length-replicate, reverse-append, take_all, take_more}
 use Rattle.std.proofs.lemmas.Option.{slice_get_past, slice_get_within}
 use Rattle.wq_words.specs.declared.layout.Layout.{Layout}
-use Rattle.wq_words.specs.declared.event.Event.TheVariants.{Hold, Busy, Push, Back, Take, Close, Begin, End, Chain, ChainBusy}
+use Rattle.wq_words.specs.declared.event.Event.TheVariants.{Hold, Busy, Push, Back, Take, Close, Begin, End, Chain, ChainBusy, Rest}
 use Rattle.wq_words.specs.declared.event.Why.{Why}
 use Rattle.wq_words.specs.declared.event.Why.TheVariants.{Closed}
 use Rattle.wq_words.specs.Numbers.{number_count}
+use Rattle.wq_words.specs.Head.{busy_word}
 use Rattle.wq_words.specs.History.{begun, ended, running, Holds, IsRunning, IsClosed}
 use Rattle.wq_words.specs.Listed.{listed}
 use Rattle.wq_words.specs.Keeper.{Keeper, Home, Sender, Listed, Owner, taken_over, keeper}
@@ -15,16 +16,16 @@ use Rattle.wq_words.proofs.Order.{in_order}
 use Rattle.wq_words.proofs.Prefixes.{prefix_length}
 use Rattle.wq_words.proofs.Running.{runs_some}
 use Rattle.wq_core.specs.declared.step.Private.{Private}
-use Rattle.wq_core.specs.Words.{link_place, word_count, closed_word, number_at}
+use Rattle.wq_core.specs.Words.{link_place, word_count, closed_word, idle_word, link_word, link_to, number_at}
 use Rattle.wq_core.specs.Machine.{Machine, opening, nothing_seen, head, link, item_word, done_word, private, seen_word, with_head, with_link, with_item, with_done, with_private, happened, unlinked, StandsIn}
 use Rattle.wq_core.specs.Sound.{IsChain, IsSound}
 use Rattle.wq_core.specs.Stored.{holder, IsStored}
 use Rattle.wq_core.proofs.Privates.{gives_hold, gives_push, gives_back, gives_begin, gives_chain, follow_give, follow_same, follow_quiet}
 use Rattle.wq_core.proofs.Schedules.{sound_opening, all_alike}
 use Rattle.wq_core.proofs.SenderSteps.{sound_hold, sound_busy, sound_look, sound_link, sound_push, sound_lost, sound_back}
-use Rattle.wq_core.proofs.OwnerSteps.{sound_take, sound_close, sound_walk_end, sound_walk_on, sound_begin, sound_end, sound_chain, sound_chain_busy, first_of_batch}
+use Rattle.wq_core.proofs.OwnerSteps.{sound_take, sound_close, sound_walk_end, sound_walk_on, sound_begin, sound_end, sound_chain, sound_chain_busy, sound_rest, first_of_batch}
 use Rattle.wq_core.proofs.KeptSound.{home_from_clear, sender_from_holds, holds_from_keeper}
-use Rattle.wq_core.proofs.Heads.{head_open, head_of_closed}
+use Rattle.wq_core.proofs.Heads.{head_open, head_of_closed, link_open}
 use Rattle.wq_core.proofs.Turning.{sound_turn}
 use Rattle.wq_core.proofs.Fitting.{fit_head, fit_item, fit_done, fit_link, fit_look}
 
@@ -33,12 +34,12 @@ chain_fits : (n : ℕ) (ws : List ℕ) (w : ℕ) (ks : List ℕ) → IsChain n w
 chain_fits n ws w [] c = omega (arith, c)
 chain_fits n ws w (k ∷ ks) c = omega (arith, c.0, c.1)
 
-pub head_fits : (m : Machine) → IsSound m → ¬ IsClosed m.history → head m ≤ number_count m.layout
+pub head_fits : (m : Machine) → IsSound m → ¬ IsClosed m.history → link_word (head m) ≤ number_count m.layout
 head_fits m o opens = rw (head_open m o opens) (chain_fits (number_count m.layout) m.words _ (listed m.history) o.chains.list_chain)
 
 -- a head that was seen, and was not closed, would be the link to a number or the end
-head_seen : (m : Machine) → IsSound m → (w : ℕ) → head m ≡ w → w ≢ closed_word → w ≤ number_count m.layout
-head_seen m o w is unclosed = omega (arith, is, head_fits m o (λ closed. unclosed (sym is ∙ o.head_is ∙ head_of_closed m.history closed)))
+head_seen : (m : Machine) → IsSound m → (w : ℕ) → head m ≡ w → w ≢ closed_word → link_word w ≤ number_count m.layout
+head_seen m o w is unclosed = omega (arith, ap link_word is, head_fits m o (λ closed. unclosed (sym is ∙ o.head_is ∙ head_of_closed m.history closed)))
 
 held_over : (x : Keeper) → holder (taken_over x) ≡ holder x
 held_over Home = refl
@@ -81,13 +82,13 @@ module _ (m : Machine) (holders : List (Option ℕ)) (runs : Option ℕ) (o : Is
   }
 
   pub stored_link : (s k w : ℕ) → s < m.layout.senders → k < number_count m.layout → Holds m.history s k → (private m s).seen ≡ Some w → w ≢ closed_word
-      → IsStored (with_private (with_link m k w) s (record (private m s) { linked = Some k })) holders runs
+      → IsStored (with_private (with_link m k (link_word w)) s (record (private m s) { linked = Some k })) holders runs
   stored_link s k w seat number holds seen unclosed = record {
-    sound = sound_link m o.sound s k w seat number holds seen unclosed;
+    sound = sound_link m o.sound s k (link_word w) seat number holds (ap link_to seen) (link_open w unclosed);
     has_holders = o.has_holders;
     holders_are = o.holders_are;
     running_is = o.running_is;
-    links_fit = fit_link _ m.words w o.links_fit k (omega (arith, o.sound.has_words, number)) (o.looks_fit s w seen unclosed);
+    links_fit = fit_link _ m.words (link_word w) o.links_fit k (omega (arith, o.sound.has_words, number)) (o.looks_fit s w seen unclosed);
     looks_fit = fit_look _ m.seats s _ (omega (arith, o.sound.has_seats, seat)) (λ v is unclosed'. o.looks_fit s v is unclosed') o.looks_fit;
   }
 
@@ -129,24 +130,35 @@ module _ (m : Machine) (holders : List (Option ℕ)) (runs : Option ℕ) (o : Is
   }
 
   pub stored_take : ¬ IsClosed m.history → m.cursor ≡ None → m.batch ≡ []
-      → IsStored (happened (record (with_head m 0) { cursor = number_at (head m) }) Take) holders runs
+      → IsStored (happened (record (with_head m busy_word) { cursor = number_at (link_word (head m)) }) Take) holders runs
   stored_take unclosed still empty = record {
     sound = sound_take m o.sound unclosed still empty;
     has_holders = o.has_holders;
     holders_are = follow_quiet holder None (λ j. j) _ holders m.history Take (λ j x. held_over x) o.holders_are;
     running_is = simp growing o.running_is;
-    links_fit = fit_head _ m.words 0 o.links_fit;
+    links_fit = fit_head _ m.words busy_word o.links_fit;
     looks_fit = o.looks_fit;
   }
 
   pub stored_close : ¬ IsClosed m.history → m.cursor ≡ None
-      → IsStored (happened (record (with_head m closed_word) { cursor = number_at (head m) }) Close) holders runs
+      → IsStored (happened (record (with_head m closed_word) { cursor = number_at (link_word (head m)) }) Close) holders runs
   stored_close unclosed still = record {
     sound = sound_close m o.sound unclosed still;
     has_holders = o.has_holders;
     holders_are = follow_quiet holder None (λ j. j) _ holders m.history Close (λ j x. held_over x) o.holders_are;
     running_is = simp growing o.running_is;
     links_fit = fit_head _ m.words closed_word o.links_fit;
+    looks_fit = o.looks_fit;
+  }
+
+  pub stored_rest : ¬ IsClosed m.history → m.cursor ≡ None → m.batch ≡ [] → ¬ IsRunning m.history → head m ≡ busy_word
+      → IsStored (happened (with_head m idle_word) Rest) holders runs
+  stored_rest unclosed still empty idle busy = record {
+    sound = sound_rest m o.sound unclosed still empty idle busy;
+    has_holders = o.has_holders;
+    holders_are = follow_quiet holder None (λ j. j) _ holders m.history Rest (λ j x. refl) o.holders_are;
+    running_is = simp growing o.running_is;
+    links_fit = fit_head _ m.words idle_word o.links_fit;
     looks_fit = o.looks_fit;
   }
 

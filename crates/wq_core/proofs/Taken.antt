@@ -1,26 +1,27 @@
 -- What the head's chain spells, what a push finds there, what the owner's batch is, and that no sender touches its links.
-use Rattle.std.proofs.Common.{◌≡◌, ℕ, ◌+◌, ◌==◌, Bool, true, false, if◌then◌else◌, List, [], ◌∷◌, ◌++◌, length, take, drop, reverse, get_or, set, Option, None, Some, unwrap_or, ◌%◌, ◌^◌, refl, sym, ap, ◌∙◌, arith, length-append}
+use Rattle.std.proofs.Common.{◌≡◌, ℕ, ◌+◌, ◌==◌, Bool, true, false, if◌then◌else◌, List, [], ◌∷◌, ◌++◌, length, take, drop, reverse, get_or, set, Option, None, Some, ◌%◌, ◌^◌, refl, sym, ap, ◌∙◌, arith, length-append}
 use Rattle.std.proofs.lemmas.Bool.{ne_eqb, eqb-true, eqb-false}
 use Rattle.std.proofs.lemmas.List.{append-nil, length-reverse, take_at, drop_at, get_or-set_other, get_or-set_same}
 use Rattle.wq_words.specs.Numbers.{number_count}
-use Rattle.wq_words.specs.Head.{head_word}
+use Rattle.wq_words.specs.Head.{head_word, busy_word}
+use Rattle.wq_words.specs.Rest.{wakes}
 use Rattle.wq_words.specs.History.{accepted, begun, taken, first, IsClosed, running}
 use Rattle.wq_words.specs.Listed.{listed}
 use Rattle.wq_words.proofs.Listed.{length-accepted, fresh-open}
 use Rattle.wq_core.specs.declared.step.Seat.TheVariants.{Sender, Owner}
 use Rattle.wq_words.specs.Keeper.{keeper}
 use Rattle.wq_core.specs.declared.step.Step.{Step}
-use Rattle.wq_core.specs.declared.step.Step.TheVariants.{Hold, Look, Link, Push, Back, Check, Take, Close, Walk, Begin, End, Chain, Turn}
-use Rattle.wq_core.specs.Words.{head_place, link_place, item_place, done_place, closed_word, word_at}
+use Rattle.wq_core.specs.declared.step.Step.TheVariants.{Hold, Look, Link, Push, Back, Check, Take, Close, Walk, Begin, End, Chain, Turn, Rest}
+use Rattle.wq_core.specs.Words.{head_place, link_place, item_place, done_place, closed_word, idle_word, link_word, word_at}
 use Rattle.wq_core.specs.declared.step.Reply.TheVariants.{Pushed, Lost}
-use Rattle.wq_core.specs.Machine.{Machine, head, link, item_word, done_word, seen_word, after_walk, after_begin, after_end, after, reply_to, StandsIn}
+use Rattle.wq_core.specs.Machine.{Machine, head, link, item_word, done_word, private, seen_word, after_walk, after_begin, after_end, after, reply_to, StandsIn}
 use Rattle.wq_core.specs.Refusal.{IsMade}
-use Rattle.wq_core.specs.Sound.{head_of_list, IsChain, IsSound}
+use Rattle.wq_core.specs.Sound.{head_of_list, marked, IsChain, IsSound}
 use Rattle.wq_core.proofs.Chains.{chain_zero}
 use Rattle.wq_core.proofs.Turning.{stands_number, no_senders}
 use Rattle.wq_core.proofs.Schedules.{either}
 use Rattle.wq_core.proofs.KeptSound.{sender_from_holds}
-use Rattle.wq_core.proofs.Heads.{head_open, head_of_closed}
+use Rattle.wq_core.proofs.Heads.{head_open, head_marked, head_of_closed, link_seen}
 
 -- between two calls of the owner the batch is what is taken and has not begun
 pub batch_is : (m : Machine) → IsSound m → m.cursor ≡ None → m.batch ≡ drop (length (begun m.history)) (take (taken m.history) (accepted m.history))
@@ -43,33 +44,47 @@ batch_is m o still =
     sym (ap (λ l. drop (length (begun m.history)) l) front ∙ drop_at (begun m.history) m.batch (length (begun m.history)) refl)
 
 -- while the queue is open, the links spell from the head what was pushed since the last take, newest first
-pub chain_open : (m : Machine) → IsSound m → ¬ IsClosed m.history → IsChain (number_count m.layout) m.words (head m) (listed m.history)
+pub chain_open : (m : Machine) → IsSound m → ¬ IsClosed m.history → IsChain (number_count m.layout) m.words (link_word (head m)) (listed m.history)
 chain_open m o opens = rw (head_open m o opens) o.chains.list_chain
 
 -- while the queue is open, the head is empty where a push would be the first
-pub head_first : (m : Machine) → IsSound m → ¬ IsClosed m.history → (head m == 0) ≡ first m.history
+pub head_first : (m : Machine) → IsSound m → ¬ IsClosed m.history → (link_word (head m) == 0) ≡ first m.history
 head_first m o opens = ap (λ w. w == 0) (head_open m o opens) ∙ go (listed m.history) ∙ ap (λ w. w == 0) (sym (fresh-open m.layout m.history o.legal opens))
   where
     go : (ks : List ℕ) → (head_word (head_of_list ks) == 0) ≡ (length ks == 0)
     go [] = refl
     go (k ∷ ks) = ne_eqb (k + 1) 0 (λ e. omega (arith, e)) ∙ sym (ne_eqb (length (k ∷ ks)) 0 (λ e. omega (arith, e)))
 
--- a push that wins says `first` where nothing was pushed since the last take
-pub pushed_first : (m : Machine) (s k : ℕ) (q : Bool) → IsSound m → IsMade m (Sender s) (Push k) → reply_to m (Sender s) (Push k) ≡ Pushed q
-    → q ≡ first m.history
-pushed_first m s k q o made is = go (head m == seen_word m s) refl is
+-- and it is the idle one where the queue rests
+pub head_wakes : (m : Machine) → IsSound m → ¬ IsClosed m.history → (head m == idle_word) ≡ wakes m.history
+head_wakes m o opens = ap (λ w. w == idle_word) (head_marked m o opens) ∙ go (wakes m.history) refl (listed m.history) refl
   where
-    opens : head m ≡ seen_word m s → ¬ IsClosed m.history
-    opens won closed =
-        let l = o.linked s k made.1 in
-        l.3 (sym (ap (λ v. unwrap_or v 0) l.2) ∙ sym won ∙ o.head_is ∙ head_of_closed m.history closed)
+    go : (q : Bool) → wakes m.history ≡ q → (ks : List ℕ) → listed m.history ≡ ks → (marked q (head_of_list ks) == idle_word) ≡ q
+    go true on [] same = refl
+    go false on [] same = refl
+    go true on (k ∷ ks) same = absurd (cc (same, o.rests on))
+    go false on (k ∷ ks) same = ne_eqb (k + 1) 0 (λ e. omega (arith, e))
 
-    go : (b : Bool) → (head m == seen_word m s) ≡ b → (if b then Pushed (seen_word m s == 0) else Lost) ≡ Pushed q → q ≡ first m.history
-    go true e is' =
-        let won : head m ≡ seen_word m s = eqb-true (head m) (seen_word m s) e in
-        let said : (seen_word m s == 0) ≡ q = cc is' in
-        sym said ∙ ap (λ w. w == 0) (sym won) ∙ head_first m o (opens won)
-    go false e is' = absurd cc
+-- a push that wins says `first` where nothing was pushed since the last take, and `wakes` where the queue rests
+module _ (m : Machine) (s k : ℕ) (p q : Bool) (o : IsSound m) (made : IsMade m (Sender s) (Push k)) (is : reply_to m (Sender s) (Push k) ≡ Pushed p q) where
+  opens : head m ≡ seen_word m s → ¬ IsClosed m.history
+  opens won closed =
+      let l = o.linked s k made.1 in
+      l.3 (sym (link_seen (private m s).seen _ l.2) ∙ ap link_word (sym won ∙ o.head_is ∙ head_of_closed m.history closed))
+
+  said : (head m ≡ seen_word m s) × ((link_word (seen_word m s) == 0) ≡ p) × ((seen_word m s == idle_word) ≡ q)
+  said = go (head m == seen_word m s) refl is
+    where
+      go : (b : Bool) → (head m == seen_word m s) ≡ b → (if b then Pushed (link_word (seen_word m s) == 0) (seen_word m s == idle_word) else Lost) ≡ Pushed p q
+          → (head m ≡ seen_word m s) × ((link_word (seen_word m s) == 0) ≡ p) × ((seen_word m s == idle_word) ≡ q)
+      go true e is' = (eqb-true (head m) (seen_word m s) e, cc is', cc is')
+      go false e is' = absurd cc
+
+  pub pushed_first : p ≡ first m.history
+  pushed_first = sym said.1 ∙ ap (λ w. link_word w == 0) (sym said.0) ∙ head_first m o (opens said.0)
+
+  pub pushed_wakes : q ≡ wakes m.history
+  pushed_wakes = sym said.2 ∙ ap (λ w. w == idle_word) (sym said.0) ∙ head_wakes m o (opens said.0)
 
 -- the link of k after a step of the owner, where it was this word before
 abbrev pub link_after : Step → ℕ → ℕ → ℕ
@@ -91,7 +106,7 @@ module _ (m : Machine) (o : IsSound m) (k : ℕ) (stands : StandsIn m.walked m.b
   sender_links s (Hold j) made = either (item_word m j == 0) (λ x. link x k ≡ link m k) _ _ (λ e. item_written j 1) (λ e. refl)
   sender_links s Look made = refl
   sender_links s (Link j) made =
-      get_or-set_other m.words (link_place j) (link_place k) (seen_word m s) 0
+      get_or-set_other m.words (link_place j) (link_place k) (link_word (seen_word m s)) 0
       (λ e. (let same : k ≡ j = omega (arith, e) in no_senders m o k stands s (ap (keeper m.history) same ∙ sender_from_holds m o s j made.1.0)))
   sender_links s (Push j) made = either (head m == seen_word m s) (λ x. link x k ≡ link m k) _ _ (λ e. head_written (j + 1)) (λ e. refl)
   sender_links s (Back j why) made = item_written j 0
@@ -116,13 +131,14 @@ module _ (m : Machine) (o : IsSound m) (k : ℕ) (stands : StandsIn m.walked m.b
 
   -- and of the owner's only a Turn of that number
   pub owner_links : (step : Step) → link (after m Owner step) k ≡ link_after step k (link m k)
-  owner_links Take = head_written 0
+  owner_links Take = head_written busy_word
   owner_links Close = head_written closed_word
   owner_links Walk = walk_links m.cursor
   owner_links Begin = begin_links m.batch
   owner_links End = end_links (running m.history)
   owner_links (Chain j) = either (item_word m j == 0) (λ x. link x k ≡ link m k) _ _ (λ e. item_written j 1) (λ e. refl)
   owner_links (Turn j next) = turn_links j (word_at next) (j == k) refl
+  owner_links Rest = either (head m == busy_word) (λ x. link x k ≡ link m k) _ _ (λ e. head_written idle_word) (λ e. refl)
   owner_links (Hold j) = refl
   owner_links Look = refl
   owner_links (Link j) = refl

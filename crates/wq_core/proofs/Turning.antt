@@ -140,6 +140,7 @@ module _ (m : Machine) (o : IsSound m) (k : ℕ) (stands : StandsIn m.walked m.b
         has_seats = o.has_seats;
         legal = o.legal;
         head_is = head_of-link n m.words v k number ∙ o.head_is;
+        rests = o.rests;
         items_are = items_of-link n m.words v k number m.history b.items_are;
         done_is = done_of-link n m.words v k number ∙ o.done_is;
         chains = chained_turn n m.words m.cursor m.walked m.batch _ _ _ k v (times_stands m.walked m.batch k stands) (accepted_once m o k) o.chains;

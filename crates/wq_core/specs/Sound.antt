@@ -1,5 +1,5 @@
 -- What every step keeps.
-use Rattle.std.specs.Prelude.{◌≡◌, ◌≢◌, ℕ, Bool, true, ◌+◌, ◌%◌, ◌^◌, ◌<◌, if◌then◌else◌, List, [], ◌∷◌, ◌++◌, length, reverse, get_or, Option, Some, None}
+use Rattle.std.specs.Prelude.{◌≡◌, ◌≢◌, ℕ, Bool, true, Some, ◌+◌, ◌%◌, ◌^◌, ◌<◌, if◌then◌else◌, List, [], ◌∷◌, ◌++◌, length, reverse, get_or, Option, Some, None}
 use mathlib.Core.List.{reverse_aux}
 use Rattle.wq_words.specs.declared.head.Head.{Head}
 use Rattle.wq_words.specs.declared.head.Head.TheVariants.{Empty, Item, Closed}
@@ -10,8 +10,8 @@ use Rattle.wq_words.specs.History.{accepted, begun, ended, pending, closed, Hold
 use Rattle.wq_words.specs.Legal.{IsLegal}
 use Rattle.wq_words.specs.Listed.{listed}
 use Rattle.wq_words.specs.Rest.{wakes}
-use Rattle.wq_core.specs.Words.{link_place, word_count, closed_word, idle_word, link_word, word_at}
-use Rattle.wq_core.specs.Machine.{Machine, head, link, item_word, done_word, private, seen_word}
+use Rattle.wq_core.specs.Words.{link_place, word_count, closed_word, idle_word, link_to, word_at}
+use Rattle.wq_core.specs.Machine.{Machine, head, link, item_word, done_word, private}
 
 -- the head of a list of numbers, newest first
 abbrev pub head_of_list : List ℕ → Head
@@ -59,6 +59,6 @@ pub record IsSound (m : Machine) : Type 0 where
   pub chains : AreChained (number_count m.layout) m.words m.cursor m.walked m.batch (accepted m.history) (begun m.history) (listed m.history)
   -- what a sender linked it holds, and the link leads to the head that it saw, which was not the closed one
   pub linked : (s k : ℕ) → (private m s).linked ≡ Some k
-      → (k < number_count m.layout) × Holds m.history s k × ((private m s).seen ≢ None) × (link m k ≡ link_word (seen_word m s)) × (link m k ≢ closed_word)
+      → (k < number_count m.layout) × Holds m.history s k × (link_to (private m s).seen ≡ Some (link m k)) × (link m k ≢ closed_word)
   -- what was seen closed is closed
   pub seen : (s : ℕ) → (private m s).seen ≡ Some closed_word → IsClosed m.history

@@ -33,6 +33,11 @@ idle_word = head_word Empty
 abbrev pub link_word : ℕ → ℕ
 link_word word = if word == busy_word then 0 else word
 
+-- the link to the head that was seen, if one was
+abbrev pub link_to : Option ℕ → Option ℕ
+link_to None = None
+link_to (Some word) = Some (link_word word)
+
 -- the number that a link stands for
 abbrev pub number_at : ℕ → Option ℕ
 number_at word = if word == 0 then None else Some (word - 1)

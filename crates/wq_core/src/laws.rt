@@ -13,6 +13,7 @@ ghost use Rattle.wq_core.specs.declared.step.Step.TheVariants.{Push};
 ghost use Rattle.wq_core.specs.declared.step.Reply.TheVariants.{Pushed};
 ghost use Rattle.wq_core.specs.Machine.{Machine, opening, head, after, reply_to};
 ghost use Rattle.wq_core.specs.Refusal.{IsMade};
+ghost use Rattle.wq_core.specs.Words.{link_word};
 ghost use Rattle.wq_core.specs.Sound.{IsChain, IsSound};
 
 use crate::machine::Core;
@@ -28,7 +29,7 @@ pub fn each_step_keeps_sound()
 /// oldest first.
 pub fn chain_and_batch(core: &Core)
     ensures sound { IsSound core.now }
-    ensures chain { ¬ IsClosed core.now.history → IsChain (number_count core.now.layout) core.now.words (head core.now) (listed core.now.history) }
+    ensures chain { ¬ IsClosed core.now.history → IsChain (number_count core.now.layout) core.now.words (link_word (head core.now)) (listed core.now.history) }
     ensures batch { core.now.cursor ≡ None → core.now.batch ≡ drop (length (begun core.now.history)) (take (taken core.now.history) (accepted core.now.history)) }
 {
     core.sound();

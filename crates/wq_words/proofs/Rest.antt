@@ -57,6 +57,12 @@ worked q (Chain k) is = absurd cc
 worked q (ChainBusy k) is = absurd cc
 worked q Rest is = absurd cc
 
+pub wakes_push_work : (h : List Event) (e : Event) → is_push_or_take e ≡ true → wakes (h ++ e ∷ []) ≡ false
+wakes_push_work h e is = wakes_push h e ∙ worked (wakes h) e is
+
+pub wakes_push_rest : (h : List Event) → wakes (h ++ Rest ∷ []) ≡ true
+wakes_push_rest h = wakes_push h Rest
+
 -- a queue at work stays at work, but for a Rest
 at_work : (e : Event) → (wakes_after false e ≡ false) ⊎ (e ≡ Rest)
 at_work Rest = inr refl

@@ -1,5 +1,8 @@
-use Rattle.wq_core.proofs.Taken.{pushed_first}
+use Rattle.wq_core.proofs.Taken.{pushed_first, pushed_wakes}
 use Rattle.wq_core.proofs.laws.first_push.Goals as goal
 
 pub returns : goal.returns
-returns c = λ s k q made is. pushed_first _ s k q c.sound.ensures made is
+returns c = record {
+  first = λ s k p q made is. pushed_first _ s k p q c.sound.ensures made is;
+  wakes = λ s k p q made is. pushed_wakes _ s k p q c.sound.ensures made is;
+}
