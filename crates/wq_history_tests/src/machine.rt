@@ -4,9 +4,11 @@ mod stopped;
 use std::test::Fail;
 use wq_core::Reply::{
     Began, Busy, ChainBusy, Chained, Closed, Ended, GivenBack, Held, Idle, Linked, Looked, Lost,
-    Pending, Pushed, Took, Turned, Walked,
+    Pending, Pushed, Rested, Took, Turned, Walked,
 };
-use wq_core::Step::{Back, Begin, Chain, Check, Close, End, Hold, Link, Look, Push, Take, Walk};
+use wq_core::Step::{
+    Back, Begin, Chain, Check, Close, End, Hold, Link, Look, Push, Rest, Take, Walk,
+};
 use wq_core::{
     Core, ReplayError, Reply, Seat, Step, StepError, chain_and_batch, each_step_keeps_sound,
     first_push, replay, replay_on,
@@ -21,12 +23,28 @@ const O: Seat = Seat::Owner;
 
 type Turn = (Seat, Step, Reply);
 
+/// A push that is the first of a queue that rests, one that is the first of a queue at work, and one that is not the first.
+const WAKES: Reply = Pushed {
+    first: true,
+    wakes: true,
+};
+
+const FIRST: Reply = Pushed {
+    first: true,
+    wakes: false,
+};
+
+const BEHIND: Reply = Pushed {
+    first: false,
+    wakes: false,
+};
+
 /// An exchange that wins although the head's number was taken, begun and queued again since it was looked at.
 const QUEUED_AGAIN: [Turn; 23] = [
     (S0, Hold(0), Held),
     (S0, Look, Looked(Head::Empty)),
     (S0, Link(0), Linked),
-    (S0, Push(0), Pushed { first: true }),
+    (S0, Push(0), WAKES),
     (S1, Hold(1), Held),
     (S1, Look, Looked(Head::Item(0))),
     (O, Take, Took(Head::Item(0))),
@@ -35,9 +53,9 @@ const QUEUED_AGAIN: [Turn; 23] = [
     (S0, Hold(0), Held),
     (S0, Look, Looked(Head::Empty)),
     (S0, Link(0), Linked),
-    (S0, Push(0), Pushed { first: true }),
+    (S0, Push(0), FIRST),
     (S1, Link(1), Linked),
-    (S1, Push(1), Pushed { first: false }),
+    (S1, Push(1), BEHIND),
     (O, End, Ended(0)),
     (O, Take, Took(Head::Item(1))),
     (O, Walk, Walked(Some(0))),
@@ -56,11 +74,11 @@ const LOST_EXCHANGE: [Turn; 11] = [
     (S1, Look, Looked(Head::Empty)),
     (S0, Link(0), Linked),
     (S1, Link(1), Linked),
-    (S0, Push(0), Pushed { first: true }),
+    (S0, Push(0), WAKES),
     (S1, Push(1), Lost),
     (S1, Look, Looked(Head::Item(0))),
     (S1, Link(1), Linked),
-    (S1, Push(1), Pushed { first: false }),
+    (S1, Push(1), BEHIND),
 ];
 
 /// A close between the link and the exchange.
@@ -82,7 +100,7 @@ const STALLED_SENDER: [Turn; 11] = [
     (S1, Hold(3), Held),
     (S1, Look, Looked(Head::Empty)),
     (S1, Link(3), Linked),
-    (S1, Push(3), Pushed { first: true }),
+    (S1, Push(3), WAKES),
     (O, Take, Took(Head::Item(3))),
     (O, Walk, Walked(None)),
     (O, Begin, Began(3)),
@@ -96,7 +114,7 @@ const CHAINED_ITEMS: [Turn; 15] = [
     (S0, Look, Looked(Head::Empty)),
     (S0, Link(0), Linked),
     (S0, Check(0), Pending),
-    (S0, Push(0), Pushed { first: true }),
+    (S0, Push(0), WAKES),
     (O, Close, Closed(Head::Item(0))),
     (O, Walk, Walked(None)),
     (O, Begin, Began(0)),
@@ -109,16 +127,39 @@ const CHAINED_ITEMS: [Turn; 15] = [
     (O, Begin, Began(0)),
 ];
 
+/// An owner that rests, and a push that lost its exchange to the rest.
+const RESTING_QUEUE: [Turn; 18] = [
+    (O, Rest, Lost),
+    (O, Take, Took(Head::Empty)),
+    (S0, Hold(0), Held),
+    (S0, Look, Looked(Head::Empty)),
+    (O, Rest, Rested),
+    (S0, Link(0), Linked),
+    (S0, Push(0), Lost),
+    (S0, Look, Looked(Head::Empty)),
+    (S0, Link(0), Linked),
+    (S0, Push(0), WAKES),
+    (O, Rest, Lost),
+    (O, Take, Took(Head::Item(0))),
+    (O, Walk, Walked(None)),
+    (O, Begin, Began(0)),
+    (O, End, Ended(0)),
+    (O, Rest, Rested),
+    (O, Rest, Lost),
+    (O, Take, Took(Head::Empty)),
+];
+
 /// Each schedule step by step, replayed as a whole, and in two parts, with what was accepted and begun at its end.
 #[test]
 fn schedules(rt: HostRuntime) -> Result<(), Fail> {
     let layout = Layout::new(4, 1, 2)?;
-    let rows: [(&[Turn], &[u32], &[u32]); 5] = [
+    let rows: [(&[Turn], &[u32], &[u32]); 6] = [
         (&QUEUED_AGAIN, &[0, 0, 1], &[0, 0, 1]),
         (&LOST_EXCHANGE, &[0, 1], &[]),
         (&CLOSED_BETWEEN, &[], &[]),
         (&STALLED_SENDER, &[3], &[3]),
         (&CHAINED_ITEMS, &[0, 1, 0], &[0, 1, 0]),
+        (&RESTING_QUEUE, &[0], &[0]),
     ];
     for (row, accepted, begun) in rows {
         let mut core = Core::new(rt.alloc(), layout)?;
@@ -152,7 +193,7 @@ fn not_enabled(rt: HostRuntime) -> Result<(), Fail> {
         (S0, Hold(0), Ok(Held)),
         (S0, Look, Ok(Looked(Head::Empty))),
         (S0, Link(0), Ok(Linked)),
-        (S0, Push(0), Ok(Pushed { first: true })),
+        (S0, Push(0), Ok(WAKES)),
         (O, Take, Ok(Took(Head::Item(0)))),
         (O, Begin, refused),
         (O, Walk, Ok(Walked(None))),
@@ -187,12 +228,12 @@ fn turned_links(rt: HostRuntime) -> Result<(), Fail> {
         (S0, Hold(0), Ok(Held)),
         (S0, Look, Ok(Looked(Head::Empty))),
         (S0, Link(0), Ok(Linked)),
-        (S0, Push(0), Ok(Pushed { first: true })),
+        (S0, Push(0), Ok(WAKES)),
         (S0, Hold(1), Ok(Held)),
         (S0, Look, Ok(Looked(Head::Item(0)))),
         (S0, Link(1), Ok(Linked)),
         (O, Step::Turn(1, None), refused),
-        (S0, Push(1), Ok(Pushed { first: false })),
+        (S0, Push(1), Ok(BEHIND)),
         (O, Step::Turn(1, None), refused),
         (O, Take, Ok(Took(Head::Item(1)))),
         (O, Step::Turn(1, None), refused),
@@ -236,6 +277,7 @@ fn refusals(rt: HostRuntime) -> Result<(), Fail> {
         (S0, Push(6), StepError::NoItem),
         (O, Chain(4), StepError::NoItem),
         (S0, Step::Turn(0, None), StepError::NoSeat),
+        (S0, Rest, StepError::NoSeat),
         (O, Step::Turn(6, None), StepError::NoItem),
         (O, Step::Turn(0, Some(6)), StepError::NoItem),
         (O, Step::Turn(0, Some(5)), StepError::NotEnabled),

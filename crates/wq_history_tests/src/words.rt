@@ -1,8 +1,8 @@
 use std::test::Fail;
-use wq_words::Event::{Back, Begin, Busy, Chain, ChainBusy, Close, End, Hold, Push, Take};
+use wq_words::Event::{Back, Begin, Busy, Chain, ChainBusy, Close, End, Hold, Push, Rest, Take};
 use wq_words::{
-    Event, Head, HistoryError, HistoryFault, Layout, LayoutError, Why, check_history, headline,
-    one_keeper, one_runs, pending_and_closed, pending_list,
+    BUSY, Event, Head, HistoryError, HistoryFault, Layout, LayoutError, Why, check_history,
+    headline, one_keeper, one_runs, one_wakes, pending_and_closed, pending_list,
 };
 
 #[test]
@@ -38,9 +38,11 @@ fn head_codes(rt: HostRuntime) {
         assert_eq!(rt; Head::from_word(word), Some(head), "from_word({word})");
         assert_eq!(rt; head.to_word(), word, "{head:?}");
     }
-    for word in [(1 << 32) + 1, u64::MAX - 1] {
+    for word in [(1 << 32) + 1, u64::MAX - 2] {
         assert_eq!(rt; Head::from_word(word), None, "from_word({word})");
     }
+    assert_eq!(rt; BUSY, u64::MAX - 1);
+    assert_eq!(rt; Head::from_word(BUSY), Some(Head::Empty));
 }
 
 fn fault(place: usize, kind: HistoryFault) -> Option<HistoryError> {
@@ -123,6 +125,7 @@ fn next_events(rt: HostRuntime) -> Result<(), Fail> {
         (End(1), not_allowed),
         (Chain(0), not_allowed),
         (ChainBusy(1), not_allowed),
+        (Rest, not_allowed),
         (Chain(2), fault(5, HistoryFault::NoItem)),
         (ChainBusy(3), fault(5, HistoryFault::NoItem)),
     ] {
@@ -216,6 +219,7 @@ fn events_of_an_open_queue_that_runs(rt: HostRuntime) -> Result<(), Fail> {
         (End(1), false),
         (Chain(0), false),
         (ChainBusy(1), false),
+        (Rest, false),
     ] {
         let history = [
             Hold(0, 0),
@@ -229,6 +233,30 @@ fn events_of_an_open_queue_that_runs(rt: HostRuntime) -> Result<(), Fail> {
         ];
         let found = check_history(&layout, &history);
         assert_eq!(rt; found.is_ok(), is_allowed, "{event:?}");
+    }
+    Ok(())
+}
+
+/// A rest is allowed where the queue is open and as many have ended as were accepted, taken or not, and another may follow it.
+#[test]
+fn rests(rt: HostRuntime) -> Result<(), Fail> {
+    let layout = Layout::new(2, 1, 2)?;
+    let rows: [(&[Event], bool); 8] = [
+        (&[Rest], true),
+        (&[Rest, Rest], true),
+        (&[Hold(0, 0), Rest, Push(0, 0)], true),
+        (&[Hold(0, 0), Push(0, 0), Rest], false),
+        (&[Hold(0, 0), Push(0, 0), Take, Begin(0), Rest], false),
+        (
+            &[Hold(0, 0), Push(0, 0), Take, Begin(0), End(0), Rest],
+            true,
+        ),
+        (&[Hold(0, 0), Push(0, 0), Begin(0), End(0), Rest], true),
+        (&[Close, Rest], false),
+    ];
+    for (history, is_legal) in rows {
+        let found = check_history(&layout, history);
+        assert_eq!(rt; found.is_ok(), is_legal, "{history:?}");
     }
     Ok(())
 }
@@ -272,6 +300,7 @@ fn laws(rt: HostRuntime) -> Result<(), Fail> {
             pending_list();
             one_runs();
             pending_and_closed();
+            one_wakes();
         }
         Err(error) => assert_eq!(rt; Some(error), None),
     }

@@ -2,6 +2,7 @@
 use Rattle.std.proofs.Common.{◌≡◌, ◌≢◌, ℕ, ◌==◌, ◌&&◌, Bool, true, false, List, if◌then◌else◌, refl}
 use Rattle.wq_words.specs.declared.event.Event.{Event}
 use Rattle.wq_words.specs.History.{pending, closed, first}
+use Rattle.wq_words.specs.Rest.{wakes}
 use Rattle.wq_words.specs.declared.answer.Answer.TheVariants as answer
 use Rattle.wq_words.specs.declared.answer.Armed.{Armed}
 use Rattle.wq_words.specs.declared.answer.Armed.TheVariants as armed
@@ -12,24 +13,24 @@ use Rattle.wq_meaning.specs.Queueing.{queue_answer}
 use Rattle.wq_meaning.specs.Arming.{queues_now, arm_answer, modify_answer}
 
 -- by the tests on which a queueing rests
-each_queueing : (set shut is_first : Bool) → (if set then answer.Pending else if shut then answer.Closed else answer.Queued is_first) ≢ answer.Contended
-each_queueing true shut is_first = λ e. cc
-each_queueing false true is_first = λ e. cc
-each_queueing false false is_first = λ e. cc
+each_queueing : (set shut is_first wakes_it : Bool) → (if set then answer.Pending else if shut then answer.Closed else answer.Queued is_first wakes_it) ≢ answer.Contended
+each_queueing true shut is_first wakes_it = λ e. cc
+each_queueing false true is_first wakes_it = λ e. cc
+each_queueing false false is_first wakes_it = λ e. cc
 
 pub queue_uncontended : (k : ℕ) (h : List Event) → queue_answer k h ≢ answer.Contended
-queue_uncontended k h = each_queueing (pending h k) (closed h) (first h)
+queue_uncontended k h = each_queueing (pending h k) (closed h) (first h) (wakes h)
 
 -- an arming that is a queueing
-each_now : (set shut is_first : Bool)
-    → (armed_of (if set then answer.Pending else if shut then answer.Closed else answer.Queued is_first) ≢ armed.Contended)
-    × (armed_of (if set then answer.Pending else if shut then answer.Closed else answer.Queued is_first) ≢ armed.Memory)
-each_now true shut is_first = (λ e. cc, λ e. cc)
-each_now false true is_first = (λ e. cc, λ e. cc)
-each_now false false is_first = (λ e. cc, λ e. cc)
+each_now : (set shut is_first wakes_it : Bool)
+    → (armed_of (if set then answer.Pending else if shut then answer.Closed else answer.Queued is_first wakes_it) ≢ armed.Contended)
+    × (armed_of (if set then answer.Pending else if shut then answer.Closed else answer.Queued is_first wakes_it) ≢ armed.Memory)
+each_now true shut is_first wakes_it = (λ e. cc, λ e. cc)
+each_now false true is_first wakes_it = (λ e. cc, λ e. cc)
+each_now false false is_first wakes_it = (λ e. cc, λ e. cc)
 
 pub arm_given : (k delay : ℕ) (h : List Event) (t : DelayTable) → (arm_answer k delay h t ≢ armed.Contended) × (arm_answer k delay h t ≢ armed.Memory)
-arm_given k delay h t = each (is_too_far delay t) (queues_now k delay h) (each_now (pending h k) (closed h) (first h))
+arm_given k delay h t = each (is_too_far delay t) (queues_now k delay h) (each_now (pending h k) (closed h) (first h) (wakes h))
   where
     each : (far now : Bool) → (armed_of (queue_answer k h) ≢ armed.Contended) × (armed_of (queue_answer k h) ≢ armed.Memory)
         → ((if far then armed.TooFar else if now then armed_of (queue_answer k h) else armed.OnTable) ≢ armed.Contended)
@@ -39,7 +40,7 @@ arm_given k delay h t = each (is_too_far delay t) (queues_now k delay h) (each_n
     each false false given = (λ e. cc, λ e. cc)
 
 modified_given : (a : Armed) → a ≢ armed.Contended → a ≢ armed.Memory → (modified_of a ≢ modified.Contended) × (modified_of a ≢ modified.Memory)
-modified_given (armed.Queued is_first) alone room = (λ e. cc, λ e. cc)
+modified_given (armed.Queued is_first wakes_it) alone room = (λ e. cc, λ e. cc)
 modified_given armed.OnTable alone room = (λ e. cc, λ e. cc)
 modified_given armed.Pending alone room = (λ e. cc, λ e. cc)
 modified_given armed.Closed alone room = (λ e. cc, λ e. cc)

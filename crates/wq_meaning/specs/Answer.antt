@@ -10,14 +10,14 @@ use Rattle.wq_words.specs.declared.answer.Modified.{Modified}
 use Rattle.wq_words.specs.declared.answer.Modified.TheVariants as modified
 
 abbrev pub answer_text : Answer → List ℕ
-answer_text (answer.Queued true) = codes "true first"
-answer_text (answer.Queued false) = codes "true"
+answer_text (answer.Queued true wakes) = codes "true first"
+answer_text (answer.Queued false wakes) = codes "true"
 answer_text answer.Pending = codes "false pending"
 answer_text answer.Closed = codes "false closed"
 answer_text answer.Contended = []
 
 abbrev pub armed_text : Armed → List ℕ
-armed_text (armed.Queued is_first) = answer_text (answer.Queued is_first)
+armed_text (armed.Queued is_first wakes) = answer_text (answer.Queued is_first wakes)
 armed_text armed.OnTable = codes "on table"
 armed_text armed.Pending = answer_text answer.Pending
 armed_text armed.Closed = answer_text answer.Closed

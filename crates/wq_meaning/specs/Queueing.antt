@@ -4,6 +4,7 @@ use Rattle.wq_words.specs.declared.event.Event.{Event}
 use Rattle.wq_words.specs.declared.event.Event.TheVariants.{Hold, Busy, Push, Back, Close, Chain, ChainBusy}
 use Rattle.wq_words.specs.declared.event.Why.TheVariants as why
 use Rattle.wq_words.specs.History.{pending, closed, fresh, first}
+use Rattle.wq_words.specs.Rest.{wakes}
 use Rattle.wq_words.specs.declared.answer.Answer.{Answer}
 use Rattle.wq_words.specs.declared.answer.Answer.TheVariants as answer
 
@@ -18,7 +19,7 @@ abbrev pub queue_answer : ℕ → List Event → Answer
 queue_answer k h =
     if pending h k then answer.Pending
     else if closed h then answer.Closed
-    else answer.Queued (first h)
+    else answer.Queued (first h) (wakes h)
 
 -- a queueing of number k by the execution that runs after the close
 abbrev pub chain_events : ℕ → List Event → List Event

@@ -23,8 +23,8 @@ reply_text layout reply.Held = codes "held"
 reply_text layout reply.Busy = codes "busy"
 reply_text layout (reply.Looked head) = head_text layout head
 reply_text layout reply.Linked = codes "linked"
-reply_text layout (reply.Pushed true) = codes "pushed first"
-reply_text layout (reply.Pushed false) = codes "pushed"
+reply_text layout (reply.Pushed true wakes) = codes "pushed first"
+reply_text layout (reply.Pushed false wakes) = codes "pushed"
 reply_text layout reply.Lost = codes "lost"
 reply_text layout reply.GivenBack = codes "back"
 reply_text layout reply.Pending = codes "pending"
@@ -38,6 +38,7 @@ reply_text layout (reply.Ended k) = codes "ended" ++ named layout k
 reply_text layout reply.Chained = codes "chained"
 reply_text layout reply.Turned = codes "turned"
 reply_text layout reply.ChainBusy = codes "busy"
+reply_text layout reply.Rested = codes "rested"
 
 abbrev pub cause_text : Why → List ℕ
 cause_text why.Closed = codes " closed"

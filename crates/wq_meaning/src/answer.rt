@@ -16,8 +16,8 @@ pub fn answer_text(answer: Answer) -> &'static str
     ensures { result.now ≡ answer_text answer }
 {
     match answer {
-        Answer::Queued { first: true } => "true first",
-        Answer::Queued { first: false } => "true",
+        Answer::Queued { first: true, .. } => "true first",
+        Answer::Queued { first: false, .. } => "true",
         Answer::Pending => "false pending",
         Answer::Closed => "false closed",
         Answer::Contended => unreachable!(),
@@ -31,7 +31,7 @@ pub fn armed_text(armed: Armed) -> &'static str
     ensures { result.now ≡ armed_text armed }
 {
     match armed {
-        Armed::Queued { first } => answer_text(Answer::Queued { first }),
+        Armed::Queued { first, wakes } => answer_text(Answer::Queued { first, wakes }),
         Armed::OnTable => "on table",
         Armed::Pending => answer_text(Answer::Pending),
         Armed::Closed => answer_text(Answer::Closed),

@@ -44,7 +44,7 @@ fn write_reply(layout: &Layout, reply: Reply, out: &mut String) -> Result<(), Al
         Reply::Busy | Reply::ChainBusy => out.push_str("busy"),
         Reply::Looked(head) => write_head(layout, head, out),
         Reply::Linked => out.push_str("linked"),
-        Reply::Pushed { first } => out.push_str(either(first, "pushed first", "pushed")),
+        Reply::Pushed { first, .. } => out.push_str(either(first, "pushed first", "pushed")),
         Reply::Lost => out.push_str("lost"),
         Reply::GivenBack => out.push_str("back"),
         Reply::Pending => out.push_str("pending"),
@@ -57,6 +57,7 @@ fn write_reply(layout: &Layout, reply: Reply, out: &mut String) -> Result<(), Al
         Reply::Ended(number) => write_named(layout, "ended", number, out),
         Reply::Chained => out.push_str("chained"),
         Reply::Turned => out.push_str("turned"),
+        Reply::Rested => out.push_str("rested"),
     }
 }
 

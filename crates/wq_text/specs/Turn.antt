@@ -48,6 +48,7 @@ owners_action w =
     else if bytes_eq w (codes "end") then Some action.End
     else if bytes_eq w (codes "chain") then Some action.Chain
     else if bytes_eq w (codes "turn") then Some action.Turn
+    else if bytes_eq w (codes "rest") then Some action.Rest
     else None
 
 unfoldable pub cause_at : List ℕ → Option Why
@@ -114,6 +115,7 @@ turn_gives l action.Close w ws = of_none (seat.Owner, step.Close) (no_word ws)
 turn_gives l action.Walk w ws = of_none (seat.Owner, step.Walk) (no_word ws)
 turn_gives l action.Begin w ws = of_none (seat.Owner, step.Begin) (no_word ws)
 turn_gives l action.End w ws = of_none (seat.Owner, step.End) (no_word ws)
+turn_gives l action.Rest w ws = of_none (seat.Owner, step.Rest) (no_word ws)
 turn_gives l action.Chain w ws = of_one (λ k. (seat.Owner, step.Chain k)) (one (item l) ws)
 turn_gives l action.Turn w ws = of_two (λ k next. (seat.Owner, step.Turn k next)) (number_and_link l ws)
 

@@ -35,6 +35,7 @@ IsNumbered-prop layout step.Close = Unit-prop
 IsNumbered-prop layout step.Walk = Unit-prop
 IsNumbered-prop layout step.Begin = Unit-prop
 IsNumbered-prop layout step.End = Unit-prop
+IsNumbered-prop layout step.Rest = Unit-prop
 IsNumbered-prop layout (step.Chain k) = le_prop
 IsNumbered-prop layout (step.Turn k next) = ×_prop le_prop (IfBelow-prop (number_count layout) next)
 

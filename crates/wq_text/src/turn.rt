@@ -28,6 +28,7 @@ pub(crate) enum Action {
     End,
     Chain,
     Turn,
+    Rest,
 }
 
 fn digits_of_barrier(word: &str) -> Option<&str>
@@ -63,6 +64,7 @@ fn owners_action(word: &str) -> Option<Action>
         "end" => Some(Action::End),
         "chain" => Some(Action::Chain),
         "turn" => Some(Action::Turn),
+        "rest" => Some(Action::Rest),
         _ => None,
     }
 }
@@ -183,6 +185,7 @@ pub(crate) fn turn(
         Action::Walk => owners_turn(Step::Walk, words),
         Action::Begin => owners_turn(Step::Begin, words),
         Action::End => owners_turn(Step::End, words),
+        Action::Rest => owners_turn(Step::Rest, words),
         Action::Chain => Ok((Seat::Owner, Step::Chain(item(layout, one_word(words)?)?))),
         Action::Turn => {
             let (number, next) = number_and_link(layout, words)?;

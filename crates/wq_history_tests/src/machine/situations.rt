@@ -1,12 +1,14 @@
 //! The step table: in each situation steps that are enabled, with their replies, and steps of which one premise alone fails.
-use super::{O, S0, S1};
+use super::{O, S0, S1, WAKES};
 use std::alloc::Global;
 use std::process::Abort;
 use std::test::Fail;
 use wq_core::Reply::{
-    Began, ChainBusy, Chained, Closed, Ended, GivenBack, Linked, Lost, Pushed, Took, Turned, Walked,
+    Began, ChainBusy, Chained, Closed, Ended, GivenBack, Linked, Lost, Rested, Took, Turned, Walked,
 };
-use wq_core::Step::{Back, Begin, Chain, Close, End, Hold, Link, Look, Push, Take, Turn, Walk};
+use wq_core::Step::{
+    Back, Begin, Chain, Close, End, Hold, Link, Look, Push, Rest, Take, Turn, Walk,
+};
 use wq_core::{Core, Reply, Seat, Step, StepError};
 use wq_words::{Head, Layout, Why, check_history};
 
@@ -49,7 +51,7 @@ const SENDERS: [Situation; 7] = [
         what: "a sender that linked one of its two numbers",
         made: &[(S0, Hold(0)), (S0, Hold(2)), (S0, Look), (S0, Link(0))],
         tried: &[
-            (S0, Push(0), Some(Pushed { first: true })),
+            (S0, Push(0), Some(WAKES)),
             (S0, Push(2), None),
             (S0, Link(2), Some(Linked)),
             (S1, Push(0), None),
@@ -101,7 +103,7 @@ const SENDERS: [Situation; 7] = [
             (S0, Link(0)),
             (S0, Back(2, Why::Cancelled)),
         ],
-        tried: &[(S0, Push(0), Some(Pushed { first: true }))],
+        tried: &[(S0, Push(0), Some(WAKES))],
     },
 ];
 
@@ -175,7 +177,7 @@ const QUEUED: [(Seat, Step); 8] = [
 ];
 
 /// What the owner does once 0 and 1 are queued, and steps that are tried then.
-const OWNERS: [Situation; 13] = [
+const OWNERS: [Situation; 15] = [
     Situation {
         what: "a list that is not taken",
         made: &[],
@@ -186,6 +188,7 @@ const OWNERS: [Situation; 13] = [
             (O, Begin, None),
             (O, End, None),
             (O, Turn(1, None), None),
+            (O, Rest, Some(Lost)),
         ],
     },
     Situation {
@@ -197,6 +200,7 @@ const OWNERS: [Situation; 13] = [
             (O, Begin, None),
             (O, Walk, Some(Walked(Some(0)))),
             (O, Turn(1, None), None),
+            (O, Rest, None),
         ],
     },
     Situation {
@@ -221,6 +225,7 @@ const OWNERS: [Situation; 13] = [
             (O, Chain(2), None),
             (O, Turn(0, None), Some(Turned)),
             (O, Turn(2, None), None),
+            (O, Rest, None),
         ],
     },
     Situation {
@@ -251,6 +256,7 @@ const OWNERS: [Situation; 13] = [
             (O, Walk, None),
             (O, Begin, None),
             (O, End, Some(Ended(1))),
+            (O, Rest, None),
         ],
     },
     Situation {
@@ -269,6 +275,52 @@ const OWNERS: [Situation; 13] = [
             (O, Begin, None),
             (O, End, None),
             (O, Close, Some(Closed(Head::Empty))),
+            (O, Rest, Some(Rested)),
+        ],
+    },
+    Situation {
+        what: "a queue that rests",
+        made: &[
+            (O, Take),
+            (O, Walk),
+            (O, Walk),
+            (O, Begin),
+            (O, End),
+            (O, Begin),
+            (O, End),
+            (O, Rest),
+        ],
+        tried: &[
+            (O, Rest, Some(Lost)),
+            (O, Take, Some(Took(Head::Empty))),
+            (O, Close, Some(Closed(Head::Empty))),
+            (S0, Look, Some(Reply::Looked(Head::Empty))),
+        ],
+    },
+    Situation {
+        what: "a queue at work that was pushed to",
+        made: &[
+            (O, Take),
+            (O, Walk),
+            (O, Walk),
+            (O, Begin),
+            (O, End),
+            (O, Begin),
+            (O, End),
+            (S0, Hold(2)),
+            (S0, Look),
+            (S0, Link(2)),
+        ],
+        tried: &[
+            (
+                S0,
+                Push(2),
+                Some(Reply::Pushed {
+                    first: true,
+                    wakes: false,
+                }),
+            ),
+            (O, Rest, Some(Rested)),
         ],
     },
     Situation {
@@ -368,6 +420,7 @@ const OWNERS: [Situation; 13] = [
             (O, Begin, None),
             (O, Chain(1), None),
             (S0, Hold(0), Some(Reply::Held)),
+            (O, Rest, None),
         ],
     },
 ];

@@ -1,10 +1,11 @@
 //! A seat that stops at any place of a schedule: what the others still do is legal, and runs in the order of its acceptance.
 use super::{
-    CHAINED_ITEMS, CLOSED_BETWEEN, LOST_EXCHANGE, O, QUEUED_AGAIN, S0, S1, STALLED_SENDER, Turn,
+    BEHIND, CHAINED_ITEMS, CLOSED_BETWEEN, LOST_EXCHANGE, O, QUEUED_AGAIN, RESTING_QUEUE, S0, S1,
+    STALLED_SENDER, Turn, WAKES,
 };
 use std::alloc::{AllocError, Global};
 use std::test::Fail;
-use wq_core::Reply::{Began, Ended, Held, Linked, Looked, Pushed, Took, Turned, Walked};
+use wq_core::Reply::{Began, Ended, Held, Linked, Looked, Took, Turned, Walked};
 use wq_core::Step::{Begin, End, Hold, Link, Look, Push, Take, Walk};
 use wq_core::{Core, Seat, Step, StepError};
 use wq_words::{Head, Layout, check_history};
@@ -14,11 +15,11 @@ const TURNED_LINKS: [Turn; 19] = [
     (S0, Hold(0), Held),
     (S0, Look, Looked(Head::Empty)),
     (S0, Link(0), Linked),
-    (S0, Push(0), Pushed { first: true }),
+    (S0, Push(0), WAKES),
     (S0, Hold(1), Held),
     (S0, Look, Looked(Head::Item(0))),
     (S0, Link(1), Linked),
-    (S0, Push(1), Pushed { first: false }),
+    (S0, Push(1), BEHIND),
     (O, Take, Took(Head::Item(1))),
     (O, Walk, Walked(Some(0))),
     (O, Step::Turn(1, None), Turned),
@@ -68,13 +69,14 @@ fn steps_without(
 #[test]
 fn each_seat_stops_at_each_place(rt: HostRuntime) -> Result<(), Fail> {
     let layout = Layout::new(4, 1, 2)?;
-    let rows: [&[Turn]; 6] = [
+    let rows: [&[Turn]; 7] = [
         &QUEUED_AGAIN,
         &LOST_EXCHANGE,
         &CLOSED_BETWEEN,
         &STALLED_SENDER,
         &CHAINED_ITEMS,
         &TURNED_LINKS,
+        &RESTING_QUEUE,
     ];
     for row in rows {
         for stopped in [S0, S1, O] {
