@@ -60,7 +60,8 @@ Example:
         more: "\
 Steps of a sender S: S hold K, S look, S link K, S push K, S check K, and
   S back K closed (or contended, or cancelled)
-Steps of the owner: o take, o close, o walk, o begin, o end, o chain K, o turn K L
+Steps of the owner: o take, o close, o walk, o begin, o end, o chain K, o turn K L,
+  o rest
 K is an item, bB the barrier B, or stop the stop item; L is one of these, or end.
 
 Example:

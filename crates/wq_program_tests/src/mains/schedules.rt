@@ -63,6 +63,12 @@ fn outputs(rt: HostRuntime) -> Result<(), Fail> {
             "0 hold 0\n0 look\n0 link 0\n0 push 0\n0 hold 1\n0 look\n0 link 1\n0 push 1\no take\no turn 1 end\no walk\no turn 1 end\no walk\no turn 0 1\no walk\no begin\no turn 0 end\no end\no walk\no begin\n",
             "held\nempty\nlinked\npushed first\nheld\nitem 0\nlinked\npushed\ntook item 1\nnot enabled\nnext 0\nturned\nend\nturned\nnext 1\nbegan 0\nnot enabled\nended 0\nend\nbegan 1\naccepted 0 1\nbegun 0 1\n",
         ),
+        // An owner that rests: never before its first take, never with something pushed, once a take; a push that looked before
+        // the rest loses its exchange.
+        (
+            "o rest\no take\n0 hold 0\n0 look\no rest\n0 link 0\n0 push 0\n0 look\n0 link 0\n0 push 0\no rest\no take\no rest\n",
+            "lost\ntook empty\nheld\nempty\nrested\nlinked\nlost\nempty\nlinked\npushed first\nlost\ntook item 0\nnot enabled\naccepted 0\nbegun nothing\n",
+        ),
         // Barriers and the stop item by their names, and each cause of a give-back.
         (
             "0 hold b0\n0 look\n0 link b0\n0 push b0\n1 hold stop\n1 look\n1 link stop\n1 push stop\no take\no walk\no walk\no begin\no end\no begin\n0 hold 3\n0 back 3 closed\n0 back 3 contended\n0 back 3 cancelled\n0 hold 3\n0 check 3\n0 back 3 cancelled\n0 check 3\n",

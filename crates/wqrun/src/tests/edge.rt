@@ -95,6 +95,7 @@ fn help_and_refused_words(rt: HostRuntime) -> std::result::Result<(), Fail> {
     for (command, part) in [
         ("script", "modify K D"),
         ("steps", "o turn K L"),
+        ("steps", "o rest"),
         ("live", "own"),
     ] {
         let line = format!(in rt.alloc(); "wqrun {command} --help")?;
