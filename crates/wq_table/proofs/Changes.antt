@@ -8,7 +8,8 @@ use Rattle.wq_words.specs.History.{running}
 use Rattle.wq_core.specs.declared.step.Private.{Private}
 use Rattle.wq_core.specs.declared.step.Seat.TheVariants.{Owner}
 use Rattle.wq_core.specs.declared.step.Step.{Step}
-use Rattle.wq_core.specs.declared.step.Step.TheVariants.{Hold, Look, Link, Push, Back, Check, Take, Close, Walk, Begin, End, Chain, Turn}
+use Rattle.wq_core.specs.declared.step.Step.TheVariants.{Hold, Look, Link, Push, Back, Check, Take, Close, Walk, Begin, End, Chain, Turn, Rest}
+use Rattle.wq_words.specs.Head.{busy_word}
 use Rattle.wq_core.specs.Words.{number_at}
 use Rattle.wq_core.specs.Machine.{Machine, nothing_seen, private, seen_word, head, link, item_word, with_item, with_private, happened, unlinked, after_walk, after_begin, after_end, after, first_of, StandsIn}
 use Rattle.wq_core.specs.Refusal.{IsMade}
@@ -133,6 +134,8 @@ changes m c (Owns cursor walked batch) (Chain k) keeps =
     change_either m _ _ c (item_word m k == 0) (did m c keeps.0 _ m.cursor m.walked _ (event.Chain k) refl)
     (did m c keeps.0 m.words m.cursor m.walked m.batch (event.ChainBusy k) refl)
 changes m c (Owns cursor walked batch) (Turn k next) keeps = turned m c keeps.0 _ m.cursor m.walked m.batch
+changes m c (Owns cursor walked batch) Rest keeps =
+    change_either m _ _ c (head m == busy_word) (did m c keeps.0 _ m.cursor m.walked m.batch event.Rest refl) (unchanged m c)
 changes m c (Owns cursor walked batch) _ keeps = unchanged m c
 
 keeps_other : (m n : Machine) (c d : ℕ) (stage : Stage) → Change m n c → d ≢ c → HasStage m d stage → HasStage n d stage
@@ -240,4 +243,5 @@ keeps_after m c (Owns cursor walked batch) (Chain k) sound keeps made =
     subst (λ (st : Stage). HasStage (after m Owner (Chain k)) c (stage_after st (Chain k) (word_found m c (Chain k))))
     (own_again m c cursor walked batch keeps) (keeps_chain m c k (item_word m k == 0) keeps.0)
 keeps_after m c (Owns cursor walked batch) (Turn k next) sound keeps made = keeps
+keeps_after m c (Owns cursor walked batch) Rest sound keeps made = keeps_either _ _ c (head m == busy_word) (Owns cursor walked batch) keeps keeps
 keeps_after m c (Owns cursor walked batch) _ sound keeps made = absurd made.1

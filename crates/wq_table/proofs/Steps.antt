@@ -1,8 +1,7 @@
 -- Each kind of step: the seat that makes it may, and its word becomes what the table's operation makes of it.
-use Rattle.std.proofs.Common.{◌≡◌, ◌≢◌, ℕ, ◌+◌, ◌-◌, ◌%◌, ◌^◌, ◌<◌, Bool, true, false, ◌==◌, eqb, if◌then◌else◌, List, [], ◌∷◌, ◌++◌, length, get_or, set, Option, Some, None, unwrap_or, sym, refl, ap, ◌∙◌, subst, arith, inl, inr}
+use Rattle.std.proofs.Common.{◌≡◌, ◌≢◌, ℕ, ◌+◌, ◌-◌, ◌%◌, ◌^◌, ◌<◌, Bool, true, false, ◌==◌, eqb, if◌then◌else◌, List, [], ◌∷◌, ◌++◌, get_or, set, Option, Some, None, unwrap_or, sym, refl, ap, ◌∙◌, subst, arith, inl, inr}
 use Rattle.std.specs.Prelude.{bit_or, bit_and}
 use Rattle.std.proofs.lemmas.Bool.{eqb-false, eqb-true}
-use Rattle.std.proofs.lemmas.Option.{slice_get-get_or}
 use prog.Atomic.{either}
 use lib.Seq.{set-get_or}
 use Rattle.wq_words.specs.declared.layout.Layout.{Layout}
@@ -11,13 +10,13 @@ use Rattle.wq_words.specs.declared.event.Why.TheVariants.{Closed}
 use Rattle.wq_words.specs.declared.event.Event.{Event}
 use Rattle.wq_words.specs.Numbers.{number_count}
 use Rattle.wq_words.specs.declared.head.Head.TheVariants.{Item}
-use Rattle.wq_words.specs.Head.{head_word}
-use Rattle.wq_words.specs.History.{begun, ended, Holds, IsClosed, IsRunning, running}
+use Rattle.wq_words.specs.Head.{head_word, busy_word}
+use Rattle.wq_words.specs.History.{Holds, IsClosed, IsRunning}
 use Rattle.wq_core.specs.declared.step.Private.{Private}
 use Rattle.wq_core.specs.declared.step.Seat.TheVariants.{Sender}
 use Rattle.wq_core.specs.declared.step.Step.{Step}
-use Rattle.wq_core.specs.declared.step.Step.TheVariants.{Hold, Look, Link, Push, Back, Check, Take, Close, Walk, Begin, End, Chain, Turn}
-use Rattle.wq_core.specs.Words.{link_place, item_place, done_place, closed_word, number_at}
+use Rattle.wq_core.specs.declared.step.Step.TheVariants.{Hold, Look, Link, Push, Back, Check, Take, Close, Walk, Begin, End, Chain, Turn, Rest}
+use Rattle.wq_core.specs.Words.{link_place, item_place, done_place, closed_word, idle_word, link_word, number_at}
 use Rattle.wq_core.specs.Machine.{Machine, seen_word, head, link, item_word, after_walk, after_begin, after_end, after, first_of, StandsIn}
 use Rattle.wq_core.specs.Sound.{IsSound}
 use Rattle.wq_table.specs.declared.table.Part.{Part}
@@ -117,7 +116,7 @@ module _ (c : ℕ) (layout : Layout) (seen : List Event) (words : List ℕ) wher
   performs_check k (Owns cursor walked batch) sender number = absurd sender
 
   pub performs_link : (k w : ℕ) (stage : Stage) → k < number_count layout → Holds seen c k → HasSeen w stage → w ≢ closed_word
-      → Performs (part c layout seen words stage) (Link k) (link_place k) (λ n. w) (λ n. w)
+      → Performs (part c layout seen words stage) (Link k) (link_place k) (λ n. link_word w) (λ n. link_word w)
   performs_link k w (Sends p) number holds is unclosed = record {
     made = λ m sound fits. (
       ((fits.keeps.0, refl), rw (← fits.layout_is) number),
@@ -127,9 +126,9 @@ module _ (c : ℕ) (layout : Layout) (seen : List Event) (words : List ℕ) wher
         (λ e. let s = ap (λ (p : Private). p.seen) fits.keeps.1 in let same : w ≡ closed_word = cc (s, e, is) in unclosed same),
       ),
     );
-    writes = λ m sound fits. ap (λ (v : ℕ). set m.words (link_place k) v) (ap (λ (p : Private). unwrap_or p.seen 0) fits.keeps.1 ∙
+    writes = λ m sound fits. ap (λ (v : ℕ). set m.words (link_place k) (link_word v)) (ap (λ (p : Private). unwrap_or p.seen 0) fits.keeps.1 ∙
         ap (λ (o : Option ℕ). unwrap_or o 0) is);
-    finds = λ m sound fits. sym (ap (λ (p : Private). unwrap_or p.seen 0) fits.keeps.1 ∙ ap (λ (o : Option ℕ). unwrap_or o 0) is);
+    finds = λ m sound fits. ap link_word (sym (ap (λ (p : Private). unwrap_or p.seen 0) fits.keeps.1 ∙ ap (λ (o : Option ℕ). unwrap_or o 0) is));
   }
   performs_link k w (Owns cursor walked batch) number holds is unclosed = absurd is
 
@@ -160,7 +159,8 @@ module _ (c : ℕ) (layout : Layout) (seen : List Event) (words : List ℕ) wher
   }
   performs_back k why (Owns cursor walked batch) sender number holds sees = absurd sender
 
-  pub performs_take : (stage : Stage) → ¬ IsClosed seen → IsRested stage → HasNone stage → Performs (part c layout seen words stage) Take 0 (λ n. 0) (λ n. n)
+  pub performs_take : (stage : Stage) → ¬ IsClosed seen → IsRested stage → HasNone stage
+      → Performs (part c layout seen words stage) Take 0 (λ n. busy_word) (λ n. n)
   performs_take (Sends p) unclosed rested none = absurd rested
   performs_take (Owns cursor walked batch) unclosed rested none = record {
     made = λ m sound fits. (
@@ -272,4 +272,21 @@ module _ (c : ℕ) (layout : Layout) (seen : List Event) (words : List ℕ) wher
     writes = λ m sound fits. rw fits.layout_is
         (sets_bit _ _ m.words _ (item_word m k) refl refl refl (item_word-bit m sound k (rw (← fits.layout_is) (omega arith))) (item_word m k == 0) refl);
     finds = λ m sound fits. rw fits.layout_is refl;
+  }
+
+  pub performs_rest : (stage : Stage) → ¬ IsClosed seen → IsRested stage → HasNone stage → ¬ IsRunning seen
+      → Performs (part c layout seen words stage) Rest 0 (λ n. either (eqb n busy_word) idle_word n) (λ n. n)
+  performs_rest (Sends p) unclosed rested none idle = absurd rested
+  performs_rest (Owns cursor walked batch) unclosed rested none idle = record {
+    made = λ m sound fits. (
+      (refl, tt),
+      (
+        (λ closed. unclosed (closed_same m.history seen (rw (← fits.keeps.0) (sym fits.mine)) closed)),
+        fits.keeps.1 ∙ rested,
+        fits.keeps.3 ∙ none,
+        (λ runs. idle (running_same m.history seen (rw (← fits.keeps.0) (sym fits.mine)) runs)),
+      ),
+    );
+    writes = λ m sound fits. exchanges _ _ m.words busy_word idle_word (head m) refl refl refl (head m == busy_word) refl;
+    finds = λ m sound fits. refl;
   }

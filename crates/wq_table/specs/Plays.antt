@@ -6,8 +6,8 @@ use Rattle.wq_words.specs.Numbers.{number_count}
 use Rattle.wq_words.specs.declared.event.Why.TheVariants.{Closed, Contended, Cancelled}
 use Rattle.wq_words.specs.declared.event.Event.{Event}
 use Rattle.wq_core.specs.declared.step.Step.{Step}
-use Rattle.wq_core.specs.declared.step.Step.TheVariants.{Hold, Look, Link, Push, Back, Check, Take, Close, Walk, Begin, End, Chain, Turn}
-use Rattle.wq_core.specs.Words.{link_place, item_place, number_at, word_at}
+use Rattle.wq_core.specs.declared.step.Step.TheVariants.{Hold, Look, Link, Push, Back, Check, Take, Close, Walk, Begin, End, Chain, Turn, Rest}
+use Rattle.wq_core.specs.Words.{link_place, item_place, link_word, number_at, word_at}
 use Rattle.wq_core.specs.Machine.{Machine, nothing_seen, unlinked, head, link, item_word, done_word, seen_word, first_of, walk_number, after}
 use Rattle.wq_core.specs.Refusal.{IsMade}
 use Rattle.wq_core.specs.Sound.{IsSound}
@@ -23,7 +23,7 @@ Sat = Me (Unit {0}) View
 abbrev pub word_found : Machine → ℕ → Step → ℕ
 word_found m c (Hold k) = item_word m k
 word_found m c Look = head m
-word_found m c (Link k) = seen_word m c
+word_found m c (Link k) = link_word (seen_word m c)
 word_found m c (Push k) = head m
 word_found m c (Back k why) = item_word m k
 word_found m c (Check k) = item_word m k
@@ -34,6 +34,7 @@ word_found m c Begin = item_word m (first_of m.batch)
 word_found m c End = done_word m
 word_found m c (Chain k) = item_word m k
 word_found m c (Turn k next) = word_at next
+word_found m c Rest = head m
 
 abbrev pub tail_of : List ℕ → List ℕ
 tail_of [] = []
@@ -55,8 +56,8 @@ stage_after (Sends p) (Link k) word = Sends (record p { linked = Some k })
 stage_after (Sends p) (Push k) word = Sends nothing_seen
 stage_after (Sends p) (Back k why) word = Sends (unlinked p k)
 stage_after (Sends p) _ word = Sends p
-stage_after (Owns cursor walked batch) Take word = Owns (number_at word) walked batch
-stage_after (Owns cursor walked batch) Close word = Owns (number_at word) walked batch
+stage_after (Owns cursor walked batch) Take word = Owns (number_at (link_word word)) walked batch
+stage_after (Owns cursor walked batch) Close word = Owns (number_at (link_word word)) walked batch
 stage_after (Owns cursor walked batch) Walk word = walked_by cursor walked batch word
 stage_after (Owns cursor walked batch) Begin word = Owns cursor walked (tail_of batch)
 stage_after (Owns cursor walked batch) (Chain k) word = Owns cursor walked (if word == 0 then batch ++ k ∷ [] else batch)
@@ -152,6 +153,9 @@ ends i new layout = End
 
 abbrev pub chains : Kind
 chains i new layout = Chain (item_at i layout)
+
+abbrev pub rests : Kind
+rests i new layout = Rest
 
 -- each part has seen h
 abbrev pub all_see : List Event → View → View

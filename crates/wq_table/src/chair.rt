@@ -6,21 +6,21 @@ ghost use Rattle.wq_table.specs.Plays.{Performs};
 ghost use Rattle.wq_words.specs.Numbers.{number_count};
 ghost use Rattle.wq_words.specs.declared.event.Why.TheVariants.{Closed, Contended, Cancelled};
 ghost use Rattle.wq_words.specs.History.{Holds, IsClosed, IsRunning};
-ghost use Rattle.wq_core.specs.Words.{word_count, closed_word};
-ghost use Rattle.wq_core.specs.declared.step.Step.TheVariants.{Hold, Look, Link, Push, Back, Check, Take, Close, Walk, Begin, End, Chain, Turn};
+ghost use Rattle.wq_core.specs.Words.{word_count, closed_word, link_word};
+ghost use Rattle.wq_core.specs.declared.step.Step.TheVariants.{Hold, Look, Link, Push, Back, Check, Take, Close, Walk, Begin, End, Chain, Turn, Rest};
 ghost use Rattle.wq_table.specs.Chair.{IsSender, HasSeen, HasLinked, HasNone, IsOwner, IsToWalk, IsToTurn, IsToBegin, IsRested, Steps, Meet, MeetAll};
 
 use super::table::{
     Begins, Both, Cancels, Chains, Checks, Closes, Ends, FindsClosed, GivesUp, Kind, Links, Looks,
-    Makes, Marks, Meets, Off, Part, Pushes, Seated, Stores, Takes, Turns, Walks, Words,
+    Makes, Marks, Meets, Off, Part, Pushes, Rests, Seated, Stores, Takes, Turns, Walks, Words,
 };
 use atomic_table::Badge;
 use std::collections::LinkedList;
 use std::marker::Model;
 use std::mem::replace;
 use std::sync::Arc;
-use wq_core::place::{HEAD, done_place, item_place, link_place};
-use wq_words::{Head, Layout};
+use wq_core::place::{HEAD, done_place, item_place, link_place, link_word};
+use wq_words::{BUSY, Head, Layout};
 
 /// A seat of a queue: a sender's or the owner's. Each of its steps is one operation on one word of the table.
 #[derive(Drop)]
@@ -162,16 +162,17 @@ impl Chair {
         self.load::<Looks>(HEAD)
     }
 
-    /// A sender stores the head that it saw as the link of a number that it holds.
+    /// A sender stores the link to the head that it saw as the link of a number that it holds.
     pub fn link(&mut self, number: u32, seen: u64)
         requires number { number < number_count self.old.part.layout }
         requires held { Holds self.old.part.seen self.old.part.seat number }
         requires seen { HasSeen seen self.old.part.stage }
         requires open { seen ≢ closed_word }
-        ensures { Steps (Link number) seen self.old self.new }
+        ensures { Steps (Link number) (link_word seen) self.old self.new }
     {
         let place = link_place(number);
-        self.store::<Links>(place, seen);
+        let word = link_word(seen);
+        self.store::<Links>(place, word);
     }
 
     /// A sender exchanges the head that it saw for the number that it linked to it, and learns the head as it was.
@@ -227,15 +228,14 @@ impl Chair {
         self.load::<Checks>(place)
     }
 
-    /// The owner takes the whole list, and learns the head as it was.
+    /// The owner takes the whole list, leaves the mark of a queue at work, and learns the head as it was.
     pub fn take(&mut self) -> u64
         requires open { ¬ IsClosed self.old.part.seen }
         requires rested { IsRested self.old.part.stage }
         requires empty { HasNone self.old.part.stage }
         ensures { Steps Take result self.old self.new }
     {
-        let word = Head::Empty.to_word();
-        self.swap::<Takes>(HEAD, word)
+        self.swap::<Takes>(HEAD, BUSY)
     }
 
     /// The owner takes the whole list and leaves the closed mark.
@@ -301,6 +301,19 @@ impl Chair {
     {
         let place = item_place(self.layout, number);
         self.or::<Chains>(place, 1)
+    }
+
+    /// The owner, with nothing that waits or runs, exchanges the mark of a queue at work for that of a queue that rests, and
+    /// learns the head as it was.
+    pub fn rest(&mut self) -> u64
+        requires open { ¬ IsClosed self.old.part.seen }
+        requires rested { IsRested self.old.part.stage }
+        requires empty { HasNone self.old.part.stage }
+        requires idle { ¬ IsRunning self.old.part.seen }
+        ensures { Steps Rest result self.old self.new }
+    {
+        let word = Head::Empty.to_word();
+        self.exchange::<Rests>(HEAD, BUSY, word)
     }
 
     /// Two seats of one queue meet: afterwards each has seen all that has happened.

@@ -190,6 +190,14 @@ impl Kind for Chains {
     ghost step = { chains };
 }
 
+pub(crate) struct Rests;
+
+impl Kind for Rests {
+    ghost use Rattle.wq_table.specs.Plays.{rests};
+
+    ghost step = { rests };
+}
+
 pub(crate) struct Meets;
 
 impl Play<(), LinkedList<Part>> for Meets {

@@ -1,4 +1,4 @@
-use Rattle.std.proofs.Common.{ℕ, ◌-◌, ◌==◌, sym, subst}
+use Rattle.std.proofs.Common.{ℕ, ◌==◌, sym, subst}
 use prog.Atomic.{either}
 use Rattle.wq_core.specs.declared.step.Step.TheVariants.{Push}
 use Rattle.wq_table.specs.Plays.{Performs}

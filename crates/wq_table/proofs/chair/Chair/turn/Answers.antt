@@ -1,6 +1,5 @@
-use Rattle.std.proofs.Common.{◌≡◌, ℕ, ◌+◌, ◌-◌, Some, sym, subst}
+use Rattle.std.proofs.Common.{ℕ, Some, sym, subst}
 use Rattle.wq_core.specs.declared.step.Step.TheVariants.{Turn}
-use Rattle.wq_core.specs.Words.{link_place}
 use Rattle.wq_table.specs.Plays.{Performs}
 use Rattle.wq_table.specs.Chair.{Steps}
 use Rattle.wq_table.proofs.Steps.{number_linked, number_pushed, performs_turn}

@@ -1,0 +1,12 @@
+use Rattle.std.proofs.Common.{ℕ, ◌==◌, sym, subst}
+use prog.Atomic.{either}
+use Rattle.wq_words.specs.Head.{busy_word}
+use Rattle.wq_core.specs.declared.step.Step.TheVariants.{Rest}
+use Rattle.wq_table.specs.Plays.{Performs}
+use Rattle.wq_table.proofs.Steps.{performs_rest}
+use Rattle.wq_table.proofs.chair.Chair.rest.Goals as goal
+
+pub exchange-requires-clause-performs : goal.exchange-requires-clause-performs
+exchange-requires-clause-performs c = let p = c.args.self.now.part in
+    subst (λ (w : ℕ). Performs p Rest 0 (λ n. either (n == busy_word) w n) (λ n. n)) (sym c.to_word-word.ensures)
+    (performs_rest p.seat p.layout p.seen p.words p.stage c.requires.open c.requires.rested c.requires.empty c.requires.idle)
