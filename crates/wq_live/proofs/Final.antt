@@ -7,7 +7,7 @@ use Rattle.std.proofs.lemmas.List.Elements.{filter_map-append}
 use Rattle.std.proofs.lemmas.Option.{slice_get_past}
 use Rattle.wq_words.specs.declared.layout.Layout.{Layout}
 use Rattle.wq_words.specs.declared.event.Event.{Event}
-use Rattle.wq_words.specs.declared.event.Event.TheVariants.{Hold, Busy, Push, Back, Take, Close, Begin, End, Chain, ChainBusy}
+use Rattle.wq_words.specs.declared.event.Event.TheVariants.{Hold, Busy, Push, Back, Take, Close, Begin, End, Chain, ChainBusy, Rest}
 use Rattle.wq_words.specs.History.{accepted, accepted_by, begun, begun_by, ended, ended_by, is_close, IsClosed, IsRunning, running}
 use Rattle.wq_words.specs.Listed.{listed}
 use Rattle.wq_words.specs.Legal.{MayFollow, IsLegal, IsComplete}
@@ -63,6 +63,7 @@ quiet h (Back s k why) out may = record { accepts = refl; begins = refl; ends = 
 quiet h Take out may = record { accepts = refl; begins = refl; ends = refl }
 quiet h Close out may = record { accepts = refl; begins = refl; ends = refl }
 quiet h (ChainBusy k) out may = record { accepts = refl; begins = refl; ends = refl }
+quiet h Rest out may = record { accepts = refl; begins = refl; ends = refl }
 
 one_quiet : (f : Event → Option ℕ) (h : List Event) (e : Event) → filter_map f (e ∷ []) ≡ [] → filter_map f (h ++ e ∷ []) ≡ filter_map f h
 one_quiet f h e none = filter_map-append f h (e ∷ []) ∙ (ap (λ (x : List ℕ). filter_map f h ++ x) none ∙ append-nil (filter_map f h))

@@ -4,8 +4,7 @@ use Rattle.std.proofs.lemmas.List.{append-nil}
 use mathlib.Core.List.{IsPrefix}
 use Rattle.wq_words.specs.declared.event.Event.{Event}
 use Rattle.wq_words.specs.History.{Holds}
-use Rattle.wq_core.specs.Sound.{head_of}
-use Rattle.wq_words.specs.Head.{head_word}
+use Rattle.wq_core.specs.Sound.{head_word_of}
 use Rattle.wq_words.specs.Seen.{seat_of, own, others, Grows}
 use Rattle.wq_words.proofs.Seen.{own-append, others-append, none_new, held_same}
 
@@ -41,11 +40,11 @@ not_own c true e es is = cc
 not_own c false e es is = refl
 
 -- where the head is another and no own event came, another's came
-some_new : (c : ℕ) (v w new : List Event) (n : ℕ) → head_word (head_of v) ≡ n → head_word (head_of w) ≢ n → w ≡ v ++ new → own c new ≡ []
+some_new : (c : ℕ) (v w new : List Event) (n : ℕ) → head_word_of v ≡ n → head_word_of w ≢ n → w ≡ v ++ new → own c new ≡ []
     → 1 ≤ length (others c new)
-some_new c v w [] n was is e o = absurd (is (ap (λ (x : List Event). head_word (head_of x)) (e ∙ append-nil v) ∙ was))
+some_new c v w [] n was is e o = absurd (is (ap head_word_of (e ∙ append-nil v) ∙ was))
 some_new c v w (x ∷ xs) n was is e o = let none = not_own c (eqb (seat_of x) c) x xs o in
     subst (λ (b : Bool). 1 ≤ length (cond (not b) (x ∷ others c xs) (others c xs))) (sym none) (omega arith)
 
-pub grows_others : (c : ℕ) (v w : List Event) (n : ℕ) → head_word (head_of v) ≡ n → head_word (head_of w) ≢ n → Grows c [] 0 v w → Grows c [] 1 v w
+pub grows_others : (c : ℕ) (v w : List Event) (n : ℕ) → head_word_of v ≡ n → head_word_of w ≢ n → Grows c [] 0 v w → Grows c [] 1 v w
 grows_others c v w n was is g = record { new = g.new; is = g.is; mine = g.mine; theirs = some_new c v w g.new n was is g.is g.mine }

@@ -18,3 +18,4 @@ pub mod Reading
 pub mod Seated
 pub mod Resting
 pub mod Contended
+pub mod Rest

@@ -236,10 +236,10 @@ turning_done ks word row p q is turning = record {
 pub walks_kept : (st : Stage) (word : ℕ) (ks : List ℕ) → st ≡ walking word [] ks → st ≡ walking word [] (kept_batch st)
 walks_kept st word ks is = is ∙ ap (walking word []) (sym (ap kept_batch is ∙ kept_walking word ks))
 
-pub walks_row : (step : Step) (word : ℕ) (p q : Part) (row : Row) → HasRow row p → Makes step word p q → ((k w : ℕ) → link_after step k w ≡ w)
+pub walks_row : (step : Step) (found word : ℕ) (p q : Part) (row : Row) → HasRow row p → Makes step found p q → ((k w : ℕ) → link_after step k w ≡ w)
     → q.stage ≡ walking word [] (kept_batch p.stage) → IsRowOf q.words row (kept_batch q.stage)
-walks_row step word p q row has makes quiet is = subst (IsRowOf q.words row) (sym (ap kept_batch is ∙ kept_walking word (kept_batch p.stage)))
-    (row_after step word p q None [] (kept_batch p.stage) (kept_batch p.stage) has.stage_is makes quiet (λ j. omega arith) row has.row_is)
+walks_row step found word p q row has makes quiet is = subst (IsRowOf q.words row) (sym (ap kept_batch is ∙ kept_walking word (kept_batch p.stage)))
+    (row_after step found p q None [] (kept_batch p.stage) (kept_batch p.stage) has.stage_is makes quiet (λ j. omega arith) row has.row_is)
 
 -- nothing was taken
 pub turning_none : (word : ℕ) (p : Part) → word ≡ 0 → p.stage ≡ walking word [] (kept_batch p.stage)

@@ -11,7 +11,8 @@ use Rattle.wq_words.proofs.Prefixes.{prefix_length}
 use Rattle.wq_words.specs.Legal.{IsLegal}
 use Rattle.wq_core.specs.declared.step.Step.{Step}
 use Rattle.wq_core.specs.declared.step.Step.TheVariants.{Take, Close, Walk, Begin, End, Chain}
-use Rattle.wq_core.specs.Words.{closed_word, number_at}
+use Rattle.wq_words.specs.Head.{busy_word}
+use Rattle.wq_core.specs.Words.{closed_word, link_word, number_at}
 use Rattle.wq_core.specs.Machine.{Machine, head, link, item_word, with_head, with_item, happened, walked_past, after_walk, after_begin, after_end, after}
 use Rattle.wq_core.proofs.Taken.{batch_is}
 use Rattle.wq_table.specs.declared.table.Part.{Part}
@@ -60,12 +61,12 @@ pub to_begin : (st : Stage) (k : ℕ) (ks : List ℕ) → st ≡ Owns None [] (k
 to_begin st k ks is = subst (IsToBegin k) (sym is) (refl, refl)
 
 pub after_take : (m : Machine) (c : ℕ) (st : Stage) → IsOwner st
-    → after m (seat_at c st) Take ≡ happened (record (with_head m 0) { cursor = number_at (head m) }) event.Take
+    → after m (seat_at c st) Take ≡ happened (record (with_head m busy_word) { cursor = number_at (link_word (head m)) }) event.Take
 after_take m c (Owns a b d) is = refl
 after_take m c (Sends r) is = elim is [ ]
 
 pub after_close : (m : Machine) (c : ℕ) (st : Stage) → IsOwner st
-    → after m (seat_at c st) Close ≡ happened (record (with_head m closed_word) { cursor = number_at (head m) }) event.Close
+    → after m (seat_at c st) Close ≡ happened (record (with_head m closed_word) { cursor = number_at (link_word (head m)) }) event.Close
 after_close m c (Owns a b d) is = refl
 after_close m c (Sends r) is = elim is [ ]
 
@@ -84,11 +85,11 @@ to_walk word ks = go (word == 0)
     go true = ap (Owns None []) (sym (append-nil ks))
     go false = refl
 
-pub take_stage : (word : ℕ) (p q : Part) (ks : List ℕ) → p.stage ≡ Owns None [] ks → Makes Take word p q → q.stage ≡ walking word [] ks
-take_stage word p q ks is makes = makes.stage_is ∙ (ap (λ (st : Stage). stage_after st Take word) is ∙ to_walk word ks)
+pub take_stage : (word : ℕ) (p q : Part) (ks : List ℕ) → p.stage ≡ Owns None [] ks → Makes Take word p q → q.stage ≡ walking (link_word word) [] ks
+take_stage word p q ks is makes = makes.stage_is ∙ (ap (λ (st : Stage). stage_after st Take word) is ∙ to_walk (link_word word) ks)
 
-pub close_stage : (word : ℕ) (p q : Part) (ks : List ℕ) → p.stage ≡ Owns None [] ks → Makes Close word p q → q.stage ≡ walking word [] ks
-close_stage word p q ks is makes = makes.stage_is ∙ (ap (λ (st : Stage). stage_after st Close word) is ∙ to_walk word ks)
+pub close_stage : (word : ℕ) (p q : Part) (ks : List ℕ) → p.stage ≡ Owns None [] ks → Makes Close word p q → q.stage ≡ walking (link_word word) [] ks
+close_stage word p q ks is makes = makes.stage_is ∙ (ap (λ (st : Stage). stage_after st Close word) is ∙ to_walk (link_word word) ks)
 
 -- a walk that has not come to the end, and one that has
 pub walking_on : (word : ℕ) (walked ks : List ℕ) → word ≢ 0 → walking word walked ks ≡ Owns (Some (word - 1)) walked ks

@@ -16,7 +16,7 @@ use Rattle.wq_live.specs.Known.{Known, Sees}
 use Rattle.wq_live.specs.Answers.{Answers}
 use Rattle.wq_live.specs.Laws.{queued_number, IsStillEnd}
 use Rattle.wq_live.proofs.Growing.{grows_own}
-use Rattle.wq_live.proofs.Owned.{running_quiet}
+use Rattle.wq_live.proofs.Owned.{closes_on, running_quiet}
 use Rattle.wq_live.proofs.Final.{final}
 
 -- nothing runs where nothing ran before and the owner neither began nor ended
@@ -31,6 +31,13 @@ pub closed_stays : (xs : List Event) (n : ℕ) (old new : Known) → Sees xs n o
 closed_stays xs n old new sees shut =
     let more = sum_by-append (λ e. cond (is_close e) 1 0) old.seen sees.grows.new in
     omega (arith, shut, more, ap (λ (h : List Event). count_by is_close h) sees.grows.is)
+
+-- an open queue stays open where its owner closes nothing
+pub open_stays : (xs : List Event) (n : ℕ) (old new : Known) → old.number ≡ owner_seat → Sees xs n old new → count_by is_close xs ≡ 0
+    → ¬ IsClosed old.seen → ¬ IsClosed new.seen
+open_stays xs n old new mine sees none opens shut =
+    let g : Grows owner_seat xs n old.seen new.seen = subst (λ (d : ℕ). Grows d xs n old.seen new.seen) mine sees.grows in
+    opens (omega (arith, shut, none, closes_on xs n old.seen new.seen g))
 
 -- what has come to its end stays as it is
 pub complete_stays : (xs : List Event) (n : ℕ) (old new : Known) → Sees xs n old new → IsComplete old.seen → IsStillEnd old.seen new.seen
@@ -49,7 +56,7 @@ accepted_on xs n old new sees =
 -- what a queueing adds to what was accepted of its sender
 pub queued_accepted : (k tries : ℕ) (a : Answer) (old new : Known) → Answers k tries a old new
     → accepted (own old.number new.seen) ≡ accepted (own old.number old.seen) ++ queued_number k a
-queued_accepted k tries (Queued is_first) old new told = accepted_on (Hold old.number k ∷ Push old.number k ∷ []) 0 old new told.0
+queued_accepted k tries (Queued is_first is_waking) old new told = accepted_on (Hold old.number k ∷ Push old.number k ∷ []) 0 old new told.0
 queued_accepted k tries Pending old new told = accepted_on (Busy old.number k ∷ []) 0 old new told
 queued_accepted k tries Closed old new told = accepted_on (Hold old.number k ∷ Back old.number k why.Closed ∷ []) 0 old new told
 queued_accepted k tries Contended old new told = accepted_on (Hold old.number k ∷ Back old.number k why.Contended ∷ []) tries old new told

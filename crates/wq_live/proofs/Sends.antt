@@ -100,13 +100,14 @@ sees_hold k n s t sees =
     subst (λ (d : ℕ). Holds t.seen d k) (sym sees.same.number_is) (omega (arith, starts, stops, one, none, before))
 
 -- a push stays the last of its sender's events where no other comes
-pub pushed_on : (s k n : ℕ) (b : Bool) (v w : List Event) → IsPushed s k b v → Grows s [] n v w → IsPushed s k b w
-pushed_on s k n b v w p g = record {
+pub pushed_on : (s k n : ℕ) (a b : Bool) (v w : List Event) → IsPushed s k a b v → Grows s [] n v w → IsPushed s k a b w
+pushed_on s k n a b v w p g = record {
   before = p.before;
   after = p.after ++ g.new;
   is = g.is ∙ (ap (λ (x : List Event). x ++ g.new) p.is ∙ append_assoc p.before (Push s k ∷ p.after) g.new);
   last = own-append s p.after g.new ∙ (λ i. p.last i ++ g.mine i);
   first_is = p.first_is;
+  wakes_is = p.wakes_is;
 }
 
 pub hold_held : (k : ℕ) (b : Bool) (s t : Known) → TestsAndSets k b s t → IsTrue b → Holds t.seen t.number k
@@ -140,9 +141,9 @@ meet_layout s t now now' m f g view view' sends sends' =
     (sym sends'.layout_is ∙ (g.layout_is ∙ (sym f.layout_is ∙ (sends.layout_is ∙ ap (λ (v : Known). v.layout) view))))
 
 -- what was queued stays queued where no own event comes
-pub queued_on : (k n : ℕ) (b : Bool) (s t u : Known) → Sees (Hold s.number k ∷ Push s.number k ∷ []) n s t × IsPushed s.number k b t.seen → Sees [] 0 t u
-    → Sees (Hold s.number k ∷ Push s.number k ∷ []) n s u × IsPushed s.number k b u.seen
-queued_on k n b s t u queued sees = (
+pub queued_on : (k n : ℕ) (a b : Bool) (s t u : Known) → Sees (Hold s.number k ∷ Push s.number k ∷ []) n s t × IsPushed s.number k a b t.seen
+    → Sees [] 0 t u → Sees (Hold s.number k ∷ Push s.number k ∷ []) n s u × IsPushed s.number k a b u.seen
+queued_on k n a b s t u queued sees = (
   sees_on (λ z. Hold z k ∷ Push z k ∷ []) (λ z. []) n 0 n s t u (omega arith) queued.0 sees,
-  pushed_on s.number k 0 b t.seen u.seen queued.1 (subst (λ (c : ℕ). Grows c [] 0 t.seen u.seen) queued.0.same.number_is sees.grows),
+  pushed_on s.number k 0 a b t.seen u.seen queued.1 (subst (λ (c : ℕ). Grows c [] 0 t.seen u.seen) queued.0.same.number_is sees.grows),
 )

@@ -8,7 +8,7 @@ use Rattle.std.proofs.lemmas.List.{length-reverse}
 use mathlib.Core.List.{reverse_aux}
 use Rattle.wq_words.specs.declared.layout.Layout.{Layout}
 use Rattle.wq_words.specs.declared.event.Event.{Event}
-use Rattle.wq_words.specs.declared.event.Event.TheVariants.{Hold, Busy, Push, Back, Take, Close, Begin, End, Chain, ChainBusy}
+use Rattle.wq_words.specs.declared.event.Event.TheVariants.{Hold, Busy, Push, Back, Take, Close, Begin, End, Chain, ChainBusy, Rest}
 use Rattle.wq_words.specs.Numbers.{number_count}
 use Rattle.wq_words.specs.History.{accepted, accepted_by, begun, closed, is_close, IsClosed, taken}
 use Rattle.wq_words.specs.Listed.{listed}
@@ -53,6 +53,7 @@ taken_others (Begin k ∷ es) h opens none = absurd (cc)
 taken_others (End k ∷ es) h opens none = absurd (cc)
 taken_others (Chain k ∷ es) h opens none = absurd (cc)
 taken_others (ChainBusy k ∷ es) h opens none = absurd (cc)
+taken_others (Rest ∷ es) h opens none = absurd (cc)
 
 closed_stays : (h : List Event) (e : Event) → IsClosed h → IsClosed (h ++ e ∷ [])
 closed_stays h e is = let some = sum_by-append (λ x. cond (is_close x) 1 0) h (e ∷ []) in omega arith
@@ -80,6 +81,7 @@ accepted_others layout (Begin k ∷ es) h shut legal none = absurd (cc)
 accepted_others layout (End k ∷ es) h shut legal none = absurd (cc)
 accepted_others layout (Chain k ∷ es) h shut legal none = absurd (cc)
 accepted_others layout (ChainBusy k ∷ es) h shut legal none = absurd (cc)
+accepted_others layout (Rest ∷ es) h shut legal none = absurd (cc)
 
 -- what is accepted has begun, is in the batch, or is on the list
 pub rested_lengths : (m : Machine) → IsSound m → m.cursor ≡ None

@@ -1,25 +1,22 @@
 -- What each kind of step tells the seat that makes it.
 use Rattle.std.proofs.lemmas.Bool.{eqb-true, eqb-false}
-use Rattle.std.proofs.Common.{◌≡◌, ◌≢◌, ℕ, ◌+◌, ◌<◌, Bool, true, false, not, ◌==◌, if◌then◌else◌, List, [], ◌∷◌, ◌++◌, length, Option, Some, None, unwrap_or, sym, refl, ap, ◌∙◌, subst, arith, ne_eqb, MatchBool}
+use Rattle.std.proofs.Common.{◌≡◌, ◌≢◌, ℕ, ◌+◌, ◌<◌, Bool, true, false, not, ◌==◌, if◌then◌else◌, List, [], ◌∷◌, ◌++◌, Option, Some, None, unwrap_or, sym, refl, ap, ◌∙◌, subst, arith, MatchBool}
 use Rattle.std.proofs.lemmas.List.{append-nil}
 use Rattle.wq_words.specs.declared.layout.Layout.{Layout}
 use Rattle.wq_words.specs.declared.event.Why.{Why}
 use Rattle.wq_words.specs.declared.event.Event.{Event}
 use Rattle.wq_words.specs.declared.event.Event.TheVariants as event
-use Rattle.wq_words.specs.Head.{head_word}
-use Rattle.wq_words.specs.declared.head.Head.TheVariants.{Closed}
 use Rattle.wq_words.specs.Numbers.{number_count}
-use Rattle.wq_words.specs.History.{Holds, pending, first, IsClosed}
-use Rattle.wq_words.specs.Listed.{listed}
+use Rattle.wq_words.specs.History.{Holds, pending}
 use Rattle.wq_words.specs.Legal.{IsLegal}
 use Rattle.wq_words.proofs.Legal.{legal_next}
-use Rattle.wq_words.proofs.Listed.{fresh-open}
-use Rattle.wq_words.proofs.Closed.{closed_from_open}
 use Rattle.wq_core.specs.declared.step.Private.{Private}
 use Rattle.wq_core.specs.declared.step.Step.{Step}
-use Rattle.wq_core.specs.declared.step.Step.TheVariants.{Hold, Look, Link, Push, Back, Check, Take, Close, Walk, Begin, End, Chain, Turn}
+use Rattle.wq_core.specs.declared.step.Step.TheVariants.{Hold, Look, Link, Push, Back, Check, Take, Close, Walk, Begin, End, Chain, Turn, Rest}
+use Rattle.wq_core.specs.Words.{link_word}
 use Rattle.wq_core.specs.Machine.{Machine, nothing_seen, private, seen_word, head, item_word, with_head, with_link, with_item, with_private, happened, unlinked, after}
-use Rattle.wq_core.specs.Sound.{IsSound, head_of, head_of_list}
+use Rattle.wq_core.specs.Sound.{IsSound, head_word_of}
+use Rattle.wq_core.proofs.Taken.{head_first, head_wakes}
 use Rattle.wq_table.specs.declared.table.Part.{Part}
 use Rattle.wq_table.specs.declared.table.Stage.{Stage}
 use Rattle.wq_table.specs.declared.table.Stage.TheVariants.{Sends, Owns}
@@ -56,7 +53,7 @@ tells_then ys n m p q r a b = record {
 }
 
 -- where the head is another and no own event came, another's came
-pub tells_others : (w : ℕ) (p q : Part) → head_word (head_of p.seen) ≡ w → head_word (head_of q.seen) ≢ w → Tells [] p q → TellsSo [] 1 p q
+pub tells_others : (w : ℕ) (p q : Part) → head_word_of p.seen ≡ w → head_word_of q.seen ≢ w → Tells [] p q → TellsSo [] 1 p q
 tells_others w p q was is told = record
     { layout_is = told.layout_is; seat_is = told.seat_is; grows = grows_others p.seat p.seen q.seen w was is told.grows; legal = told.legal }
 
@@ -95,6 +92,7 @@ sender_after (Sends r) Begin word is = tt
 sender_after (Sends r) End word is = tt
 sender_after (Sends r) (Chain k) word is = tt
 sender_after (Sends r) (Turn k _) word is = tt
+sender_after (Sends r) Rest word is = tt
 sender_after (Owns a b d) step word is = elim is [ ]
 
 pub sender_made : (step : Step) (word : ℕ) (p q : Part) → Makes step word p q → IsSender p.stage → IsSender q.stage
@@ -129,20 +127,20 @@ seen_look word (Owns a b d) is = elim is [ ]
 
 pub record Looks (word : ℕ) (p q : Part) : Type 0 where
   pub told : Tells [] p q
-  pub head_is : head_word (head_of q.seen) ≡ word
+  pub head_is : head_word_of q.seen ≡ word
   pub has_seen : HasSeen word q.stage
 
 pub look_tells : (word : ℕ) (p q : Part) → IsSender p.stage → Makes Look word p q → Looks word p q
 look_tells word p q is makes =
     let e = after_look makes.before p.seat p.stage is in record {
       told = tells Look word p q makes _ [] e refl (sym (append-nil makes.before.history)) refl;
-      head_is = ap (λ (h : List Event). head_word (head_of h)) (makes.seen_is ∙ ap (λ (x : Machine). x.history) e) ∙
+      head_is = ap head_word_of (makes.seen_is ∙ ap (λ (x : Machine). x.history) e) ∙
           (sym makes.sound.head_is ∙ sym makes.word_is);
       has_seen = subst (HasSeen word) (sym makes.stage_is) (seen_look word p.stage is);
     }
 
 after_link : (m : Machine) (c k : ℕ) (st : Stage) → IsSender st
-    → after m (seat_at c st) (Link k) ≡ with_private (with_link m k (seen_word m c)) c (record (private m c) { linked = Some k })
+    → after m (seat_at c st) (Link k) ≡ with_private (with_link m k (link_word (seen_word m c))) c (record (private m c) { linked = Some k })
 after_link m c k (Sends r) is = refl
 after_link m c k (Owns a b d) is = elim is [ ]
 
@@ -165,16 +163,6 @@ link_tells k word found p q is makes = record {
   has_linked = subst (HasLinked word k) (sym makes.stage_is) (linked_link k word found p.stage is);
 }
 
--- the list is empty where the head is
-empty_head : (ks : List ℕ) → (head_word (head_of_list ks) == 0) ≡ (length ks == 0)
-empty_head [] = refl
-empty_head (k ∷ ks) = ne_eqb (k + 1) 0 (λ e. omega arith) ∙ sym (ne_eqb (length (k ∷ ks)) 0 (λ e. omega arith))
-
-pub first_head : (layout : Layout) (h : List Event) → IsLegal layout h → ¬ IsClosed h → (head_word (head_of h) == 0) ≡ first h
-first_head layout h legal opens =
-    ap (λ (b : Bool). head_word (if b then Closed else head_of_list (listed h)) == 0) (closed_from_open h opens) ∙
-    (empty_head (listed h) ∙ ap (λ (n : ℕ). n == 0) (sym (fresh-open layout h legal opens)))
-
 after_push : (m : Machine) (c k w : ℕ) (st : Stage) → HasLinked w k st → HasStage m c st
     → after m (seat_at c st) (Push k) ≡
     (if head m == w then happened (with_private (with_head m (k + 1)) c nothing_seen) (event.Push c k) else with_private m c nothing_seen)
@@ -190,12 +178,12 @@ linked_sender k w (Owns a b d) is = elim is [ ]
 -- pushed, as the newest event
 pub record Wins (k w : ℕ) (p q : Part) : Type 0 where
   pub told : Tells (event.Push p.seat k ∷ []) p q
-  pub pushed : IsPushed p.seat k (w == 0) q.seen
+  pub pushed : IsPushed p.seat k (link_word w == 0) (w == 0) q.seen
 
 -- the head was another
 pub record Loses (w : ℕ) (p q : Part) : Type 0 where
   pub told : Tells [] p q
-  pub head_is : head_word (head_of q.seen) ≢ w
+  pub head_is : head_word_of q.seen ≢ w
 
 pub push_tells : (k w word : ℕ) (p q : Part) → HasLinked w k p.stage → Makes (Push k) word p q → MatchBool (word == w) (Wins k w p q) (Loses w p q)
 push_tells k w word p q is makes =
@@ -214,7 +202,8 @@ push_tells k w word p q is makes =
             after = [];
             is = seen;
             last = refl;
-            first_is = ap (λ (x : ℕ). x == 0) (sym (eqb-true (head m) w same) ∙ makes.sound.head_is) ∙ first_head m.layout h makes.sound.legal allowed.2.1;
+            first_is = ap (λ (x : ℕ). link_word x == 0) (sym (eqb-true (head m) w same)) ∙ head_first m makes.sound allowed.2.1;
+            wakes_is = ap (λ (x : ℕ). x == 0) (sym (eqb-true (head m) w same)) ∙ head_wakes m makes.sound allowed.2.1;
           };
         }
 
@@ -223,7 +212,7 @@ push_tells k w word p q is makes =
     lost e other = let m = makes.before in record {
       told = tells (Push k) word p q makes _ [] e refl (sym (append-nil m.history)) refl;
       head_is = λ same. eqb-false (head m) w other (makes.sound.head_is ∙
-          (ap (λ (h : List Event). head_word (head_of h)) (sym (makes.seen_is ∙ ap (λ (x : Machine). x.history) e)) ∙ same));
+          (ap head_word_of (sym (makes.seen_is ∙ ap (λ (x : Machine). x.history) e)) ∙ same));
     }
 
     go : (b : Bool) → (head makes.before == w) ≡ b

@@ -9,7 +9,7 @@ use Rattle.std.proofs.lemmas.Bool.{eqb-true}
 use mathlib.Core.List.{reverse_aux}
 use Rattle.wq_words.specs.declared.layout.Layout.{Layout}
 use Rattle.wq_words.specs.declared.event.Event.{Event}
-use Rattle.wq_words.specs.declared.event.Event.TheVariants.{Hold, Busy, Push, Back, Take, Close, Begin, End, Chain, ChainBusy}
+use Rattle.wq_words.specs.declared.event.Event.TheVariants.{Hold, Busy, Push, Back, Take, Close, Begin, End, Chain, ChainBusy, Rest}
 use Rattle.wq_words.specs.Numbers.{number_count}
 use Rattle.wq_words.specs.History.{accepted, accepted_by, begun}
 use Rattle.wq_words.specs.Listed.{listed}
@@ -82,6 +82,7 @@ below_event layout h Close allowed before q is = before q (subst (λ (x : List �
 below_event layout h (Begin k) allowed before q is = before q (subst (λ (x : List ℕ). 1 ≤ times q x) (accepted_quiet h (Begin k) refl) is)
 below_event layout h (End k) allowed before q is = before q (subst (λ (x : List ℕ). 1 ≤ times q x) (accepted_quiet h (End k) refl) is)
 below_event layout h (ChainBusy k) allowed before q is = before q (subst (λ (x : List ℕ). 1 ≤ times q x) (accepted_quiet h (ChainBusy k) refl) is)
+below_event layout h Rest allowed before q is = before q (subst (λ (x : List ℕ). 1 ≤ times q x) (accepted_quiet h Rest refl) is)
 
 -- what is accepted is below the count of numbers
 pub accepted_below : (layout : Layout) (h : List Event) → IsLegal layout h → (q : ℕ) → 1 ≤ times q (accepted h) → q < number_count layout

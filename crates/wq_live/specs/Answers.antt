@@ -7,6 +7,7 @@ use Rattle.wq_words.specs.declared.event.Event.TheVariants.{Hold, Busy, Push, Ba
 use Rattle.wq_words.specs.declared.event.Why.TheVariants as why
 use Rattle.wq_words.specs.History.{accepted, begun, ended, first}
 use Rattle.wq_words.specs.Legal.{IsLegal}
+use Rattle.wq_words.specs.Rest.{wakes}
 use Rattle.wq_words.specs.Seen.{own}
 use Rattle.wq_words.specs.declared.answer.Answer.{Answer}
 use Rattle.wq_words.specs.declared.answer.Answer.TheVariants as answer
@@ -14,13 +15,15 @@ use Rattle.wq_words.specs.declared.answer.Posted.{Posted}
 use Rattle.wq_words.specs.declared.answer.Posted.TheVariants as posted
 use Rattle.wq_live.specs.Known.{Known, Sees}
 
--- the last event of sender s in h is the push of k, and whether it was the first on the list is as said
-pub record IsPushed (s k : ℕ) (is_first : Bool) (h : List Event) : Type 0 where
+-- the last event of sender s in h is the push of k, and whether it was the first on the list, and whether it woke a resting queue,
+-- is as said
+pub record IsPushed (s k : ℕ) (is_first is_waking : Bool) (h : List Event) : Type 0 where
   pub before : List Event
   pub after : List Event
   pub is : h ≡ before ++ Push s k ∷ after
   pub last : own s after ≡ []
   pub first_is : is_first ≡ first before
+  pub wakes_is : is_waking ≡ wakes before
 
 -- the test-and-set of the number k's bit: true where it was clear
 abbrev pub TestsAndSets : ℕ → Bool → Known → Known → Type 0
@@ -29,7 +32,8 @@ TestsAndSets k false old new = Sees (Busy old.number k ∷ []) 0 old new
 
 -- a queueing of the number k
 abbrev pub Answers : ℕ → ℕ → Answer → Known → Known → Type 0
-Answers k tries (answer.Queued is_first) old new = Sees (Hold old.number k ∷ Push old.number k ∷ []) 0 old new × IsPushed old.number k is_first new.seen
+Answers k tries (answer.Queued is_first is_waking) old new =
+    Sees (Hold old.number k ∷ Push old.number k ∷ []) 0 old new × IsPushed old.number k is_first is_waking new.seen
 Answers k tries answer.Pending old new = Sees (Busy old.number k ∷ []) 0 old new
 Answers k tries answer.Closed old new = Sees (Hold old.number k ∷ Back old.number k why.Closed ∷ []) 0 old new
 Answers k tries answer.Contended old new = Sees (Hold old.number k ∷ Back old.number k why.Contended ∷ []) tries old new
@@ -47,13 +51,13 @@ pub record IsContended (s k n : ℕ) (h : List Event) : Type 0 where
 
 -- a push of the held number k
 abbrev pub Posts : ℕ → ℕ → Posted → Known → Known → Type 0
-Posts k tries (posted.Queued is_first) old new = Sees (Push old.number k ∷ []) 0 old new × IsPushed old.number k is_first new.seen
+Posts k tries (posted.Queued is_first is_waking) old new = Sees (Push old.number k ∷ []) 0 old new × IsPushed old.number k is_first is_waking new.seen
 Posts k tries posted.Closed old new = Sees (Back old.number k why.Closed ∷ []) 0 old new
 Posts k tries posted.Contended old new = Sees [] tries old new
 
 -- a chaining of the item k
 abbrev pub Chains : ℕ → Answer → Known → Known → Type 0
-Chains k (answer.Queued is_first) old new = (is_first ≡ false) × Sees (Chain k ∷ []) 0 old new
+Chains k (answer.Queued is_first is_waking) old new = (is_first ≡ false) × (is_waking ≡ false) × Sees (Chain k ∷ []) 0 old new
 Chains k answer.Pending old new = Sees (ChainBusy k ∷ []) 0 old new
 Chains k answer.Closed old new = ⊥
 Chains k answer.Contended old new = ⊥

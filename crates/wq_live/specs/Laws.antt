@@ -7,7 +7,7 @@ use Rattle.wq_words.specs.declared.answer.Answer.TheVariants.{Queued}
 
 -- the number, where its queueing was answered Queued
 abbrev pub queued_number : ℕ → Answer → List ℕ
-queued_number k (Queued is_first) = k ∷ []
+queued_number k (Queued is_first is_waking) = k ∷ []
 queued_number k _ = []
 
 -- what was seen first has accepted, begun and ended all that the later has

@@ -1,5 +1,5 @@
 //! The owner of a queue.
-ghost use Rattle.std.specs.Prelude.{◌≡◌, ◌≢◌, ℕ, ◌+◌, ◌<◌, ◌≤◌, ◌↔◌, [], ◌∷◌, Some, None, IsSome, IfSome, length};
+ghost use Rattle.std.specs.Prelude.{◌≡◌, ◌≢◌, ℕ, ◌+◌, ◌<◌, ◌≤◌, ◌↔◌, false, [], ◌∷◌, Some, None, IsSome, IsTrue, IfSome, length};
 ghost use Rattle.wq_words.specs.declared.event.Event.TheVariants.{Take, Close, Begin, End};
 ghost use Rattle.wq_words.specs.Numbers.{number_count};
 ghost use Rattle.wq_words.specs.History.{IsClosed, closed, IsRunning, running, ended};
@@ -8,6 +8,7 @@ ghost use Rattle.wq_words.specs.Headline.{KeepsHeadline};
 ghost use Rattle.wq_live.specs.Known.{IsSame, Sees};
 ghost use Rattle.wq_live.specs.Answers.{Chains, IsFinal};
 ghost use Rattle.wq_live.specs.Batch.{batch, next_of, TakesAll};
+ghost use Rattle.wq_live.specs.Rest.{Rests, HasRested, MayNotRest};
 ghost use Rattle.wq_live.specs.Counts.{capped, owner_counts};
 ghost use Rattle.wq_live.specs.Row.{IsRowOf};
 ghost use Rattle.wq_live.specs.Sits.{Stands, OnlySees, HasRow, Turned, HasBoth, HasFirst, kept_batch, walking};
@@ -16,8 +17,9 @@ use crate::answer::Done;
 use crate::counts::OwnerCounts;
 use crate::row::Row;
 use std::marker::Model;
+use wq_core::place::link_word;
 use wq_table::Chair;
-use wq_words::{Answer, Layout};
+use wq_words::{Answer, BUSY, Layout};
 
 /// The owner of a queue, who takes what was pushed and executes it, one number at a time, in the order of the pushes. It
 /// may be moved to another thread. No call takes a lock or memory, or waits.
@@ -155,8 +157,8 @@ impl Owner {
         ensures takes { TakesAll Take result self.new.seen }
         ensures idle { ¬ IsRunning self.old.seen → ¬ IsRunning self.new.seen }
     {
-        let word = self.chair.take();
-        self.row = walk_all(&mut self.chair, self.row, word);
+        let head = self.chair.take();
+        self.row = walk_all(&mut self.chair, self.row, link_word(head));
         self.row.count
     }
 
@@ -170,9 +172,9 @@ impl Owner {
         ensures shut { IsClosed self.new.seen }
     {
         let had = self.row.count;
-        let word = self.chair.close();
+        let head = self.chair.close();
         self.closed = true;
-        self.row = walk_all(&mut self.chair, self.row, word);
+        self.row = walk_all(&mut self.chair, self.row, link_word(head));
         self.row.count - had
     }
 
@@ -224,6 +226,29 @@ impl Owner {
         self.counts.ended = self.counts.ended.saturating_add(1);
     }
 
+    /// Says once that the queue rests: true where all that was accepted has ended, the owner has taken since it rested last,
+    /// and nothing was pushed since that take. The next push then answers `wakes`.
+    ///
+    /// An owner that serves by a loop of its own takes, executes what it took, rests, parks its thread where that answered
+    /// true, and begins again with a take. Its senders unpark it on `wakes` alone: once a rest, and not once an item. No
+    /// wake-up is missed, which is not proved: a push that came before the rest makes it answer false, and then the owner does
+    /// not park; the first push after it answers `wakes`, and its sender unparks the owner, also one that is yet to park. An
+    /// owner that never rests, as by `serve` of `wq_worker`, is to be woken on `first`, once a take.
+    pub fn rest(&mut self) -> bool
+        requires open { ¬ IsClosed self.old.seen }
+        requires empty { batch self.old.seen ≡ [] }
+        requires idle { ¬ IsRunning self.old.seen }
+        ensures seen { Rests result self.old self.new }
+        ensures rested { IsTrue result → HasRested self.new.seen }
+        ensures refused { result ≡ false → MayNotRest self.new.seen }
+        ensures same { IsSame self.old self.new }
+        ensures unclosed { ¬ IsClosed self.new.seen }
+        ensures empty { batch self.new.seen ≡ [] }
+        ensures idle { ¬ IsRunning self.new.seen }
+    {
+        self.chair.rest() == BUSY
+    }
+
     /// Queues an item behind all that waits, from the execution that runs after the close (chain queueing in
     /// `drain_workqueue`). `Pending` where its bit was set.
     pub fn chain(&mut self, item: u32) -> Answer
@@ -239,7 +264,10 @@ impl Owner {
         }
         self.row = hang(&mut self.chair, self.row, Row::of_one(item));
         self.counts.chained = self.counts.chained.saturating_add(1);
-        Answer::Queued { first: false }
+        Answer::Queued {
+            first: false,
+            wakes: false,
+        }
     }
 
     /// Whether it has closed the queue.

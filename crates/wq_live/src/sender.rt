@@ -18,11 +18,15 @@ use crate::owner::Owner;
 use crossbeam_utils::Backoff;
 use std::marker::Model;
 use std::sync::Wait;
+use wq_core::place::link_word;
 use wq_table::Chair;
 use wq_words::{Answer, Head, Layout, Posted};
 
 /// A sender of a queue. It may be moved to another thread. No call takes a lock or memory, and only `queue` and `flush`
 /// may wait.
+///
+/// An answer `Queued` says whether to wake the owner: one that rests before it parks (`Owner::rest`) on `wakes`, once a rest,
+/// and one that serves by `serve` of `wq_worker` on `first`, once a take.
 #[derive(Drop)]
 pub struct Sender {
     pub(crate) chair: Chair,
@@ -105,7 +109,8 @@ impl Sender {
         if self.chair.push(number, word) == word {
             self.counts.queued = self.counts.queued.saturating_add(1);
             return Posted::Queued {
-                first: word == empty,
+                first: link_word(word) == empty,
+                wakes: word == empty,
             };
         }
         Posted::Contended
@@ -165,7 +170,7 @@ impl Sender {
             return Answer::Pending;
         }
         match self.push_tries(number, tries) {
-            Posted::Queued { first } => Answer::Queued { first },
+            Posted::Queued { first, wakes } => Answer::Queued { first, wakes },
             Posted::Closed => Answer::Closed,
             Posted::Contended => {
                 self.give_up(number);
@@ -186,7 +191,7 @@ impl Sender {
         let backoff = Backoff::new();
         for _ in rt.forever() {
             match self.attempt(number) {
-                Posted::Queued { first } => return Answer::Queued { first },
+                Posted::Queued { first, wakes } => return Answer::Queued { first, wakes },
                 Posted::Closed => return Answer::Closed,
                 Posted::Contended => backoff.spin(),
             }
@@ -279,15 +284,15 @@ impl Sender {
         ensures answer { Answers (barrier_number self.old.layout barrier) 0 result self.old self.new }
         ensures same { IsSame self.old self.new }
         ensures settled { result ≢ Contended }
-        ensures flushed { (first : _) → result ≡ Queued first → HasFlushed (barrier_number self.old.layout barrier) self.new.seen }
+        ensures flushed { (first wakes : _) → result ≡ Queued first wakes → HasFlushed (barrier_number self.old.layout barrier) self.new.seen }
     {
         let number = self.layout.barrier(barrier);
         match self.queue_waiting(rt, number) {
-            Answer::Queued { first } => {
+            Answer::Queued { first, wakes } => {
                 let backoff = Backoff::new();
                 for _ in rt.forever() {
                     if self.flush_done(barrier) {
-                        return Answer::Queued { first };
+                        return Answer::Queued { first, wakes };
                     }
                     backoff.snooze();
                 }

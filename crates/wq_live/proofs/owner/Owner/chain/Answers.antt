@@ -82,4 +82,4 @@ returns c = let s = c.self.inside in let o = c.self.invariant in let k = c.args.
     (chain_tells k w p q o.number_is (owner_of p.stage (kept_batch p.stage) o.has_row.stage_is) c.chain.ensures.makes)) e.follows e.stands in
     let t = record s { chair = c.hang-self-inside.new.chair; row = c.hang-self-inside.result; counts = record s.counts { chained = x } } in
     let sees = owner_sees (Chain k ∷ []) 0 s t c.args.self.now c.self.view_is o refl (e.queue ∙ c.chain.ensures.queue_is) told in
-    record { answer = (refl, sees); same = sees.same }
+    record { answer = (refl, refl, sees); same = sees.same }

@@ -1,9 +1,9 @@
-use Rattle.std.proofs.Common.{◌-◌, true, [], ◌∷◌, ap, sym, subst, refl, ◌∙◌, arith}
+use Rattle.std.proofs.Common.{ℕ, ◌-◌, true, [], ◌∷◌, ap, sym, subst, refl, ◌∙◌, arith}
 use Rattle.wq_words.specs.declared.event.Event.TheVariants.{Close}
 use Rattle.wq_core.specs.declared.step.Step.TheVariants as step
 use Rattle.wq_words.specs.History.{IsClosed}
 use Rattle.wq_live.specs.Known.{Known}
-use Rattle.wq_live.specs.Sits.{kept_batch}
+use Rattle.wq_live.specs.Sits.{kept_batch, walking}
 use Rattle.wq_live.proofs.Tells.{Tells}
 use Rattle.wq_live.proofs.Owned.{running_quiet, closed_closed, counts_quiet}
 use Rattle.wq_live.proofs.OwnerTells.{makes_stands, owner_of, close_tells, close_stage, owner_grows, owner_sees}
@@ -12,27 +12,29 @@ use Rattle.wq_live.proofs.Linking.{walks_kept, walks_row}
 use Rattle.wq_live.proofs.Taking.{followed, close_takes}
 use Rattle.wq_live.proofs.owner.Owner.close.Goals as goal
 
-pub close-word-requires-clause-open : goal.close-word-requires-clause-open
-close-word-requires-clause-open c = subst (λ (v : Known). ¬ IsClosed v.seen) (sym c.self.view_is) c.requires.open
+pub close-head-requires-clause-open : goal.close-head-requires-clause-open
+close-head-requires-clause-open c = subst (λ (v : Known). ¬ IsClosed v.seen) (sym c.self.view_is) c.requires.open
 
 pub walk_all-self-inside-requires-clause-stands : goal.walk_all-self-inside-requires-clause-stands
-walk_all-self-inside-requires-clause-stands c = makes_stands _ _ c.self.inside.chair.part c.close-word.new.self.part c.close-word.ensures.makes
+walk_all-self-inside-requires-clause-stands c = makes_stands _ _ c.self.inside.chair.part c.close-head.new.self.part c.close-head.ensures.makes
 
 pub walk_all-self-inside-requires-clause-stage : goal.walk_all-self-inside-requires-clause-stage
-walk_all-self-inside-requires-clause-stage c = let p = c.self.inside.chair.part in let q = c.close-word.new.self.part in
-    walks_kept q.stage c.close-word.result (kept_batch p.stage)
-    (close_stage c.close-word.result p q (kept_batch p.stage) c.self.invariant.has_row.stage_is c.close-word.ensures.makes)
+walk_all-self-inside-requires-clause-stage c = let p = c.self.inside.chair.part in let q = c.close-head.new.self.part in
+    walks_kept q.stage c.link_word.result (kept_batch p.stage)
+    (close_stage c.close-head.result p q (kept_batch p.stage) c.self.invariant.has_row.stage_is c.close-head.ensures.makes ∙
+    ap (λ (w : ℕ). walking w [] (kept_batch p.stage)) (sym c.link_word.ensures))
 
 pub walk_all-self-inside-requires-clause-row : goal.walk_all-self-inside-requires-clause-row
-walk_all-self-inside-requires-clause-row c = let s = c.self.inside in let o = c.self.invariant in let p = s.chair.part in let q = c.close-word.new.self.part in
-    walks_row step.Close c.close-word.result p q s.row o.has_row c.close-word.ensures.makes (λ k w. refl)
-    (close_stage c.close-word.result p q (kept_batch p.stage) o.has_row.stage_is c.close-word.ensures.makes)
+walk_all-self-inside-requires-clause-row c = let s = c.self.inside in let o = c.self.invariant in let p = s.chair.part in let q = c.close-head.new.self.part in
+    walks_row step.Close c.close-head.result c.link_word.result p q s.row o.has_row c.close-head.ensures.makes (λ k w. refl)
+    (close_stage c.close-head.result p q (kept_batch p.stage) o.has_row.stage_is c.close-head.ensures.makes ∙
+    ap (λ (w : ℕ). walking w [] (kept_batch p.stage)) (sym c.link_word.ensures))
 
 pub invariant_of-self : goal.invariant_of-self
-invariant_of-self c = let s = c.self.inside in let o = c.self.invariant in let p = s.chair.part in let q = c.close-word.new.self.part in
-    let e = c.walk_all-self-inside.ensures in let r = c.walk_all-self-inside.new.chair.part in let makes = c.close-word.ensures.makes in
+invariant_of-self c = let s = c.self.inside in let o = c.self.invariant in let p = s.chair.part in let q = c.close-head.new.self.part in
+    let e = c.walk_all-self-inside.ensures in let r = c.walk_all-self-inside.new.chair.part in let makes = c.close-head.ensures.makes in
     let told : Tells (Close ∷ []) p r = followed (Close ∷ []) 0 p q r
-    (close_tells c.close-word.result p q o.number_is (owner_of p.stage (kept_batch p.stage) o.has_row.stage_is) makes) e.follows e.stands in
+    (close_tells c.close-head.result p q o.number_is (owner_of p.stage (kept_batch p.stage) o.has_row.stage_is) makes) e.follows e.stands in
     let t = record s { chair = c.walk_all-self-inside.new.chair; row = c.walk_all-self-inside.result; closed = true } in
     let g = owner_grows (Close ∷ []) 0 s t o told in record {
       layout_is = told.layout_is ∙ o.layout_is;
@@ -45,20 +47,20 @@ invariant_of-self c = let s = c.self.inside in let o = c.self.invariant in let p
     }
 
 pub returns-clause-seen : goal.returns-clause-seen
-returns-clause-seen c = let s = c.self.inside in let o = c.self.invariant in let p = s.chair.part in let q = c.close-word.new.self.part in
-    let e = c.walk_all-self-inside.ensures in let r = c.walk_all-self-inside.new.chair.part in let makes = c.close-word.ensures.makes in
+returns-clause-seen c = let s = c.self.inside in let o = c.self.invariant in let p = s.chair.part in let q = c.close-head.new.self.part in
+    let e = c.walk_all-self-inside.ensures in let r = c.walk_all-self-inside.new.chair.part in let makes = c.close-head.ensures.makes in
     let told : Tells (Close ∷ []) p r = followed (Close ∷ []) 0 p q r
-    (close_tells c.close-word.result p q o.number_is (owner_of p.stage (kept_batch p.stage) o.has_row.stage_is) makes) e.follows e.stands in
+    (close_tells c.close-head.result p q o.number_is (owner_of p.stage (kept_batch p.stage) o.has_row.stage_is) makes) e.follows e.stands in
     owner_sees (Close ∷ []) 0 s
     (record s { chair = c.walk_all-self-inside.new.chair; row = c.walk_all-self-inside.result; closed = true }) c.args.self.now c.self.view_is
-    o refl (e.queue ∙ c.close-word.ensures.queue_is) told
+    o refl (e.queue ∙ c.close-head.ensures.queue_is) told
 
 pub returns-clause-takes : goal.returns-clause-takes
-returns-clause-takes c = let s = c.self.inside in let o = c.self.invariant in let p = s.chair.part in let q = c.close-word.new.self.part in
+returns-clause-takes c = let s = c.self.inside in let o = c.self.invariant in let p = s.chair.part in let q = c.close-head.new.self.part in
     let e = c.walk_all-self-inside.ensures in let r = c.walk_all-self-inside.new.chair.part in
-    close_takes c.close-word.result p q r (kept_batch p.stage) (kept_batch r.stage) (c.walk_all-self-inside.result.count - s.row.count) o.number_is
+    close_takes c.close-head.result p q r (kept_batch p.stage) (kept_batch r.stage) (c.walk_all-self-inside.result.count - s.row.count) o.number_is
     o.has_row.stage_is e.follows e.stands e.has_row.stage_is
-    (omega (arith, e.more, o.has_row.row_is.count_is, e.has_row.row_is.count_is)) c.close-word.ensures.makes
+    (omega (arith, e.more, o.has_row.row_is.count_is, e.has_row.row_is.count_is)) c.close-head.ensures.makes
 
 pub overflow_sub-result : goal.overflow_sub-result
 overflow_sub-result c = c.walk_all-self-inside.ensures.more

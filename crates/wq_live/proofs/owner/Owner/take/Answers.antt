@@ -3,7 +3,7 @@ use Rattle.wq_words.specs.declared.event.Event.TheVariants.{Take}
 use Rattle.wq_core.specs.declared.step.Step.TheVariants as step
 use Rattle.wq_words.specs.History.{IsClosed}
 use Rattle.wq_live.specs.Known.{Known}
-use Rattle.wq_live.specs.Sits.{kept_batch}
+use Rattle.wq_live.specs.Sits.{kept_batch, walking}
 use Rattle.wq_live.proofs.Tells.{Tells}
 use Rattle.wq_live.proofs.Owned.{running_quiet, closed_quiet, counts_quiet}
 use Rattle.wq_live.proofs.OwnerTells.{makes_stands, owner_batch, owner_of, none_of, take_tells, take_stage, owner_grows, owner_sees}
@@ -12,31 +12,33 @@ use Rattle.wq_live.proofs.Linking.{walks_kept, walks_row}
 use Rattle.wq_live.proofs.Taking.{followed, take_takes}
 use Rattle.wq_live.proofs.owner.Owner.take.Goals as goal
 
-pub take-word-requires-clause-open : goal.take-word-requires-clause-open
-take-word-requires-clause-open c = subst (λ (v : Known). ¬ IsClosed v.seen) (sym c.self.view_is) c.requires.open
+pub take-head-requires-clause-open : goal.take-head-requires-clause-open
+take-head-requires-clause-open c = subst (λ (v : Known). ¬ IsClosed v.seen) (sym c.self.view_is) c.requires.open
 
-pub take-word-requires-clause-empty : goal.take-word-requires-clause-empty
-take-word-requires-clause-empty c = let s = c.self.inside in let o = c.self.invariant in
+pub take-head-requires-clause-empty : goal.take-head-requires-clause-empty
+take-head-requires-clause-empty c = let s = c.self.inside in let o = c.self.invariant in
     none_of s.chair.part.stage (kept_batch s.chair.part.stage) o.has_row.stage_is (owner_batch s c.args.self.now c.self.view_is o ∙ c.requires.empty)
 
 pub walk_all-self-inside-requires-clause-stands : goal.walk_all-self-inside-requires-clause-stands
-walk_all-self-inside-requires-clause-stands c = makes_stands _ _ c.self.inside.chair.part c.take-word.new.self.part c.take-word.ensures.makes
+walk_all-self-inside-requires-clause-stands c = makes_stands _ _ c.self.inside.chair.part c.take-head.new.self.part c.take-head.ensures.makes
 
 pub walk_all-self-inside-requires-clause-stage : goal.walk_all-self-inside-requires-clause-stage
-walk_all-self-inside-requires-clause-stage c = let p = c.self.inside.chair.part in let q = c.take-word.new.self.part in
-    walks_kept q.stage c.take-word.result (kept_batch p.stage)
-    (take_stage c.take-word.result p q (kept_batch p.stage) c.self.invariant.has_row.stage_is c.take-word.ensures.makes)
+walk_all-self-inside-requires-clause-stage c = let p = c.self.inside.chair.part in let q = c.take-head.new.self.part in
+    walks_kept q.stage c.link_word.result (kept_batch p.stage)
+    (take_stage c.take-head.result p q (kept_batch p.stage) c.self.invariant.has_row.stage_is c.take-head.ensures.makes ∙
+    ap (λ (w : ℕ). walking w [] (kept_batch p.stage)) (sym c.link_word.ensures))
 
 pub walk_all-self-inside-requires-clause-row : goal.walk_all-self-inside-requires-clause-row
-walk_all-self-inside-requires-clause-row c = let s = c.self.inside in let o = c.self.invariant in let p = s.chair.part in let q = c.take-word.new.self.part in
-    walks_row step.Take c.take-word.result p q s.row o.has_row c.take-word.ensures.makes (λ k w. refl)
-    (take_stage c.take-word.result p q (kept_batch p.stage) o.has_row.stage_is c.take-word.ensures.makes)
+walk_all-self-inside-requires-clause-row c = let s = c.self.inside in let o = c.self.invariant in let p = s.chair.part in let q = c.take-head.new.self.part in
+    walks_row step.Take c.take-head.result c.link_word.result p q s.row o.has_row c.take-head.ensures.makes (λ k w. refl)
+    (take_stage c.take-head.result p q (kept_batch p.stage) o.has_row.stage_is c.take-head.ensures.makes ∙
+    ap (λ (w : ℕ). walking w [] (kept_batch p.stage)) (sym c.link_word.ensures))
 
 pub invariant_of-self : goal.invariant_of-self
-invariant_of-self c = let s = c.self.inside in let o = c.self.invariant in let p = s.chair.part in let q = c.take-word.new.self.part in
-    let e = c.walk_all-self-inside.ensures in let r = c.walk_all-self-inside.new.chair.part in let makes = c.take-word.ensures.makes in
+invariant_of-self c = let s = c.self.inside in let o = c.self.invariant in let p = s.chair.part in let q = c.take-head.new.self.part in
+    let e = c.walk_all-self-inside.ensures in let r = c.walk_all-self-inside.new.chair.part in let makes = c.take-head.ensures.makes in
     let told : Tells (Take ∷ []) p r = followed (Take ∷ []) 0 p q r
-    (take_tells c.take-word.result p q o.number_is (owner_of p.stage (kept_batch p.stage) o.has_row.stage_is) makes) e.follows e.stands in
+    (take_tells c.take-head.result p q o.number_is (owner_of p.stage (kept_batch p.stage) o.has_row.stage_is) makes) e.follows e.stands in
     let t = record s { chair = c.walk_all-self-inside.new.chair; row = c.walk_all-self-inside.result } in
     let g = owner_grows (Take ∷ []) 0 s t o told in record {
       layout_is = told.layout_is ∙ o.layout_is;
@@ -49,19 +51,19 @@ invariant_of-self c = let s = c.self.inside in let o = c.self.invariant in let p
     }
 
 pub returns-clause-seen : goal.returns-clause-seen
-returns-clause-seen c = let s = c.self.inside in let o = c.self.invariant in let p = s.chair.part in let q = c.take-word.new.self.part in
-    let e = c.walk_all-self-inside.ensures in let r = c.walk_all-self-inside.new.chair.part in let makes = c.take-word.ensures.makes in
+returns-clause-seen c = let s = c.self.inside in let o = c.self.invariant in let p = s.chair.part in let q = c.take-head.new.self.part in
+    let e = c.walk_all-self-inside.ensures in let r = c.walk_all-self-inside.new.chair.part in let makes = c.take-head.ensures.makes in
     let told : Tells (Take ∷ []) p r = followed (Take ∷ []) 0 p q r
-    (take_tells c.take-word.result p q o.number_is (owner_of p.stage (kept_batch p.stage) o.has_row.stage_is) makes) e.follows e.stands in
+    (take_tells c.take-head.result p q o.number_is (owner_of p.stage (kept_batch p.stage) o.has_row.stage_is) makes) e.follows e.stands in
     owner_sees (Take ∷ []) 0 s (record s { chair = c.walk_all-self-inside.new.chair; row = c.walk_all-self-inside.result }) c.args.self.now c.self.view_is
-    o refl (e.queue ∙ c.take-word.ensures.queue_is) told
+    o refl (e.queue ∙ c.take-head.ensures.queue_is) told
 
 pub returns-clause-takes : goal.returns-clause-takes
-returns-clause-takes c = let s = c.self.inside in let o = c.self.invariant in let p = s.chair.part in let q = c.take-word.new.self.part in
+returns-clause-takes c = let s = c.self.inside in let o = c.self.invariant in let p = s.chair.part in let q = c.take-head.new.self.part in
     let e = c.walk_all-self-inside.ensures in let r = c.walk_all-self-inside.new.chair.part in
     let none = ap (λ (xs : List ℕ). length xs) (owner_batch s c.args.self.now c.self.view_is o ∙ c.requires.empty) in
-    take_takes c.take-word.result p q r (kept_batch p.stage) (kept_batch r.stage) c.walk_all-self-inside.result.count o.number_is o.has_row.stage_is
-    e.follows e.stands e.has_row.stage_is (omega (arith, none, e.has_row.row_is.count_is)) c.take-word.ensures.makes
+    take_takes c.take-head.result p q r (kept_batch p.stage) (kept_batch r.stage) c.walk_all-self-inside.result.count o.number_is o.has_row.stage_is
+    e.follows e.stands e.has_row.stage_is (omega (arith, none, e.has_row.row_is.count_is)) c.take-head.ensures.makes
 
 pub returns-clause-idle : goal.returns-clause-idle
 returns-clause-idle c = quiet_idle (Take ∷ []) 0 c.args.self.now _ (sym (ap (λ (v : Known). v.number) c.self.view_is)) (returns-clause-seen c) refl refl

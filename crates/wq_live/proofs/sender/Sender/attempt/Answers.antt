@@ -39,19 +39,19 @@ returns-then-word-closed c = let s = c.self.inside in let k = c.args.number in l
     (λ z. Back z k Closed ∷ []) 0 c.self.view_is c.self.invariant refl refl
     (c.back_closed.ensures.1.queue_is ∙ c.look-word.ensures.queue_is) (closed c)
 
-won : (c : goal.After-self-then-push-word-1) → Wins c.args.number c.look-word.result c.link.new.self.part c.push.new.self.part
+won : (c : goal.After-link_word) → Wins c.args.number c.look-word.result c.link.new.self.part c.push.new.self.part
 won c = let s = c.self.inside in let k = c.args.number in let w = c.look-word.result in let p = c.look-word.new.self.part in
     let q = c.link.new.self.part in let r = c.push.new.self.part in
     let looked = look_tells w s.chair.part p c.self.invariant.stage c.look-word.ensures.makes in
-    let linked = link_tells k w w p q looked.has_seen c.link.ensures.makes in
+    let linked = link_tells k w _ p q looked.has_seen c.link.ensures.makes in
     subst (λ (b : Bool). MatchBool b (Wins k w q r) (Loses w q r)) (eq-eqb c.push.result w c.if-push-word.true)
     (push_tells k w c.push.result q r linked.has_linked c.push.ensures.makes)
 
-pushed : (c : goal.After-self-then-push-word-1) → Tells (Push c.self.inside.chair.part.seat c.args.number ∷ []) c.self.inside.chair.part c.push.new.self.part
+pushed : (c : goal.After-link_word) → Tells (Push c.self.inside.chair.part.seat c.args.number ∷ []) c.self.inside.chair.part c.push.new.self.part
 pushed c = let s = c.self.inside in let k = c.args.number in let w = c.look-word.result in let p = c.look-word.new.self.part in
     let q = c.link.new.self.part in let r = c.push.new.self.part in
     let looked = look_tells w s.chair.part p c.self.invariant.stage c.look-word.ensures.makes in
-    let linked = link_tells k w w p q looked.has_seen c.link.ensures.makes in
+    let linked = link_tells k w _ p q looked.has_seen c.link.ensures.makes in
     tells_then (λ z. Push z k ∷ []) 0 0 s.chair.part q r (tells_then (λ z. []) 0 0 s.chair.part p q looked.told linked.told) (won c).told
 
 pub invariant_of-self-then-push-word : goal.invariant_of-self-then-push-word
@@ -72,14 +72,15 @@ returns-then-push-word c = let s = c.self.inside in let k = c.args.number in let
           (record s { chair = new; counts = record s.counts { queued = c.saturating_add-self-inside-then-push-word.result } }) c.args.self.now
           (λ z. Push z k ∷ []) 0 c.self.view_is c.self.invariant refl refl
           (c.push.ensures.queue_is ∙ (c.link.ensures.queue_is ∙ c.look-word.ensures.queue_is)) (pushed c),
-      subst (λ (z : ℕ × ℕ). IsPushed z.0 k (w == z.1) new.part.seen) (λ i. (seat i, sym c.to_word-empty.ensures i)) (won c).pushed,
+      subst (λ (z : ℕ × ℕ × ℕ). IsPushed z.0 k (z.1 == z.2) (w == z.2) new.part.seen)
+          (λ i. (seat i, sym c.link_word.ensures i, sym c.to_word-empty.ensures i)) (won c).pushed,
     )
 
 lost : (c : goal.Else-push-word) → TellsSo [] 1 c.self.inside.chair.part c.push.new.self.part
 lost c = let s = c.self.inside in let k = c.args.number in let w = c.look-word.result in let p = c.look-word.new.self.part in
     let q = c.link.new.self.part in let r = c.push.new.self.part in
     let looked = look_tells w s.chair.part p c.self.invariant.stage c.look-word.ensures.makes in
-    let linked = link_tells k w w p q looked.has_seen c.link.ensures.makes in
+    let linked = link_tells k w _ p q looked.has_seen c.link.ensures.makes in
     let lose : Loses w q r = subst (λ (b : Bool). MatchBool b (Wins k w q r) (Loses w q r)) (ne_eqb c.push.result w c.if-push-word.false)
     (push_tells k w c.push.result q r linked.has_linked c.push.ensures.makes) in
     tells_then (λ z. []) 0 1 s.chair.part p r looked.told
