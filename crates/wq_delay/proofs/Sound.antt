@@ -58,7 +58,7 @@ even_back s i k w = omega arith
 
 pub sound_queued : (size k tries : ℕ) (r : Answer) (a b : Known) (now next : ℕ) (t : List Entry) → Answers k tries r a b
     → IsSound size (state a now next t) → IsSound size (state b now next t)
-sound_queued size k tries (answer.Queued is_first) a b now next t told sound = sound_keeps _ _ size a b now next now t told.0 (even_pushed a.number k) sound
+sound_queued size k tries (answer.Queued is_first wakes) a b now next t told sound = sound_keeps _ _ size a b now next now t told.0 (even_pushed a.number k) sound
 sound_queued size k tries answer.Pending a b now next t told sound = sound_keeps _ _ size a b now next now t told (λ j. refl) sound
 sound_queued size k tries answer.Closed a b now next t told sound =
     sound_keeps _ _ size a b now next now t told (λ j. even_back a.number k j why.Closed) sound
@@ -127,7 +127,7 @@ sound_empty size now a t none is legal free = (
 pub sound_posted : (size k tries : ℕ) (r : Posted) (a b : Known) (now next : ℕ) (t u : List Entry) → (r ≡ posted.Contended → ⊥)
     → Posts k tries r a b → u ≡ without k t
     → IsSound size (state a now next t) → IsSound size (state b now next u)
-sound_posted size k tries (posted.Queued is_first) a b now next t u won told is sound =
+sound_posted size k tries (posted.Queued is_first wakes) a b now next t u won told is sound =
     sound_leaves (Push a.number k) size 0 k a b now next t u told.0 (λ j. refl) (λ j. stops_push a.number k j) is sound
 sound_posted size k tries posted.Closed a b now next t u won told is sound =
     sound_leaves (Back a.number k why.Closed) size 0 k a b now next t u told (λ j. refl) (λ j. stops_back a.number k j why.Closed) is sound
@@ -135,7 +135,7 @@ sound_posted size k tries posted.Contended a b now next t u won told is sound = 
 
 pub sound_contended : (size k tries : ℕ) (r : Posted) (a b : Known) (now next : ℕ) (t : List Entry) → r ≡ posted.Contended → Posts k tries r a b
     → IsSound size (state a now next t) → IsSound size (state b now next t)
-sound_contended size k tries (posted.Queued is_first) a b now next t lost told sound = absurd (cc)
+sound_contended size k tries (posted.Queued is_first wakes) a b now next t lost told sound = absurd (cc)
 sound_contended size k tries posted.Closed a b now next t lost told sound = absurd (cc)
 sound_contended size k tries posted.Contended a b now next t lost told sound = sound_keeps [] tries size a b now next now t told (λ j. refl) sound
 

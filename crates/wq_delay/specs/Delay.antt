@@ -59,8 +59,9 @@ TakesOff xs k old new = Becomes xs 0 (table_without k old.table) old new
 
 -- an arming of the item k
 abbrev pub Arms : ℕ → ℕ → ℕ → Armed → DelayState → DelayState → Type 0
-Arms k delay tries (armed.Queued is_first) old new =
-    (delay ≡ 0) × KeepsTable (Hold old.sender.number k ∷ Push old.sender.number k ∷ []) 0 old new × IsPushed old.sender.number k is_first new.sender.seen
+Arms k delay tries (armed.Queued is_first wakes) old new =
+    (delay ≡ 0) × KeepsTable (Hold old.sender.number k ∷ Push old.sender.number k ∷ []) 0 old new
+    × IsPushed old.sender.number k is_first wakes new.sender.seen
 Arms k delay tries armed.OnTable old new = (0 < delay) × PutsOn (Hold old.sender.number k ∷ []) k delay old.table old new
 Arms k delay tries armed.Pending old new = KeepsTable (Busy old.sender.number k ∷ []) 0 old new
 Arms k delay tries armed.Closed old new =
@@ -90,7 +91,7 @@ Rearms k delay tries modified.Memory old new = (0 < delay) × (new ≡ old)
 -- a modification of the item k, which is not on the table: it is armed
 abbrev pub ArmsAnew : ℕ → ℕ → ℕ → Modified → DelayState → DelayState → Type 0
 ArmsAnew k delay tries modified.WasIdle old new =
-    ((is_first : Bool) × Arms k delay tries (armed.Queued is_first) old new) ⊎ Arms k delay tries armed.OnTable old new
+    ((is_first : Bool) × (wakes : Bool) × Arms k delay tries (armed.Queued is_first wakes) old new) ⊎ Arms k delay tries armed.OnTable old new
 ArmsAnew k delay tries modified.Moved old new = ⊥
 ArmsAnew k delay tries modified.Pending old new = Arms k delay tries armed.Pending old new
 ArmsAnew k delay tries modified.Closed old new = Arms k delay tries armed.Closed old new
@@ -116,7 +117,7 @@ lost_tries (e ∷ es) tries = tries
 
 -- The item k, which is on the table, is posted: it leaves the table, unless the post is contended.
 abbrev pub PostsOne : ℕ → ℕ → Posted → DelayState → DelayState → Type 0
-PostsOne k tries (posted.Queued is_first) old new = TakesOff (Push old.sender.number k ∷ []) k old new
+PostsOne k tries (posted.Queued is_first wakes) old new = TakesOff (Push old.sender.number k ∷ []) k old new
 PostsOne k tries posted.Closed old new = TakesOff (Back old.sender.number k why.Closed ∷ []) k old new
 PostsOne k tries posted.Contended old new = KeepsTable [] tries old new
 

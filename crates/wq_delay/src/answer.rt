@@ -12,7 +12,7 @@ pub(crate) fn armed_of(answer: Answer) -> Armed
     ensures { result ≡ armed_of answer }
 {
     match answer {
-        Answer::Queued { first } => Armed::Queued { first },
+        Answer::Queued { first, wakes } => Armed::Queued { first, wakes },
         Answer::Pending => Armed::Pending,
         Answer::Closed => Armed::Closed,
         Answer::Contended => Armed::Contended,

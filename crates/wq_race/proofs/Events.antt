@@ -35,7 +35,7 @@ use Rattle.std.proofs.lemmas.Bool.{eqb-true, cases_lt}
 use Rattle.std.proofs.lemmas.List.Sums.{sum_by-cons}
 use Rattle.wq_words.specs.declared.layout.Layout.{Layout}
 use Rattle.wq_words.specs.declared.event.Event.{Event}
-use Rattle.wq_words.specs.declared.event.Event.TheVariants.{Hold, Busy, Push, Back, Take, Close, Begin, End, Chain, ChainBusy}
+use Rattle.wq_words.specs.declared.event.Event.TheVariants.{Hold, Busy, Push, Back, Take, Close, Begin, End, Chain, ChainBusy, Rest}
 use Rattle.wq_words.specs.declared.event.Why.TheVariants as why
 use Rattle.wq_words.specs.History.{sets_pending}
 use Rattle.wq_words.specs.Legal.{IsLegal, IsAllowed}
@@ -143,6 +143,7 @@ set_by k Close h is has = absurd (cc)
 set_by k (Begin j) h is has = absurd (cc)
 set_by k (End j) h is has = absurd (cc)
 set_by k (ChainBusy j) h is has = absurd (cc)
+set_by k Rest h is has = absurd (cc)
 
 pub busy_set : (layout : Layout) (s k : ℕ) (h : List Event) → IsLegal layout h → Has (Busy s k) h → IsSet k h
 busy_set layout s k h legal has =

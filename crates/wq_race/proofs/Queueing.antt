@@ -63,7 +63,7 @@ one_queued k n es old new q s = record {
 }
 
 pub queued_one : (k : ℕ) (a : Answer) (old new : Known) → k < old.layout.items → Answers k 0 a old new → a ≢ answer.Contended → HasQueued (k ∷ []) old new
-queued_one k (answer.Queued first) old new lt h not = one_queued k 0 _ old new (pushed lt refl refl) h.0
+queued_one k (answer.Queued first wakes) old new lt h not = one_queued k 0 _ old new (pushed lt refl refl) h.0
 queued_one k answer.Pending old new lt h not = one_queued k 0 _ old new (busy lt refl refl) h
 queued_one k answer.Closed old new lt h not = one_queued k 0 _ old new (refused lt refl refl) h
 queued_one k answer.Contended old new lt h not = absurd (not refl)
@@ -114,7 +114,7 @@ one_stopped n es old new all few s = record {
 }
 
 pub stopped_one : (tries : ℕ) (a : Answer) (old new : Known) → Answers (stop_number old.layout) tries a old new → HasStopped 2 old new
-stopped_one tries (answer.Queued first) old new h = one_stopped 0 _ old new (refl, (refl, tt)) (omega arith) h.0
+stopped_one tries (answer.Queued first wakes) old new h = one_stopped 0 _ old new (refl, (refl, tt)) (omega arith) h.0
 stopped_one tries answer.Pending old new h = one_stopped 0 _ old new (refl, tt) (omega arith) h
 stopped_one tries answer.Closed old new h = one_stopped 0 _ old new (refl, (refl, tt)) (omega arith) h
 stopped_one tries answer.Contended old new h = one_stopped tries _ old new (refl, (refl, tt)) (omega arith) h

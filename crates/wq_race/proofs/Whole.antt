@@ -37,7 +37,7 @@ use Rattle.std.proofs.lemmas.List.FromFn.{length-range_with_len}
 use Rattle.std.proofs.lemmas.List.Sums.{sum_by-cons}
 use Rattle.wq_words.specs.declared.layout.Layout.{Layout}
 use Rattle.wq_words.specs.declared.event.Event.{Event}
-use Rattle.wq_words.specs.declared.event.Event.TheVariants.{Hold, Busy, Push, Back, Take, Close, Begin, End, Chain, ChainBusy}
+use Rattle.wq_words.specs.declared.event.Event.TheVariants.{Hold, Busy, Push, Back, Take, Close, Begin, End, Chain, ChainBusy, Rest}
 use Rattle.wq_words.specs.declared.event.Why.TheVariants as why
 use Rattle.wq_words.specs.Numbers.{stop_number}
 use Rattle.wq_words.specs.History.{accepted_by, accepted}
@@ -186,6 +186,7 @@ module _ (n m : ℕ) (layout : Layout) (h : List Event) (r : IsRace n m layout h
   agree (Begin k) has = refl
   agree (End k) has = refl
   agree (ChainBusy k) has = refl
+  agree Rest has = refl
 
   items_counted : (es : List Event) → ((e : Event) → Has e es → length (items_among layout (accepted (e ∷ []))) ≡ cond (is_queued_below n e) 1 0)
       → length (items_among layout (accepted es)) ≡ count_by (is_queued_below n) es

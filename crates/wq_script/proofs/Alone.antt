@@ -7,7 +7,7 @@ use Rattle.std.proofs.lemmas.List.Elements.{filter-append}
 use mathlib.Core.List.{IsPrefix}
 use Rattle.wq_words.specs.declared.layout.Layout.{Layout}
 use Rattle.wq_words.specs.declared.event.Event.{Event}
-use Rattle.wq_words.specs.declared.event.Event.TheVariants.{Hold, Busy, Push, Back, Take, Close, Begin, End, Chain, ChainBusy}
+use Rattle.wq_words.specs.declared.event.Event.TheVariants.{Hold, Busy, Push, Back, Take, Close, Begin, End, Chain, ChainBusy, Rest}
 use Rattle.wq_words.specs.Legal.{IsLegal, HasSeat}
 use Rattle.wq_words.proofs.Legal.{legal_next, legal_front}
 use Rattle.wq_words.specs.Seen.{seat_of, owner_seat, own}
@@ -29,6 +29,7 @@ seat_held layout (Begin k) has = inr refl
 seat_held layout (End k) has = inr refl
 seat_held layout (Chain k) has = inr refl
 seat_held layout (ChainBusy k) has = inr refl
+seat_held layout Rest has = inr refl
 
 -- each event of a legal history is of a seat of the queue
 abbrev pub OfSeats : Layout → List Event → Type 0

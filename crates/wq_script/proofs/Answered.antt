@@ -10,6 +10,7 @@ use Rattle.wq_words.specs.Seen.{owner_seat, seat_of}
 use Rattle.wq_words.specs.Counting.{is_busy, is_refusal}
 use Rattle.wq_words.specs.declared.layout.Layout.{Layout}
 use Rattle.wq_words.specs.declared.answer.Answer.{Answer}
+use Rattle.wq_words.specs.Rest.{wakes}
 use Rattle.wq_words.specs.declared.answer.Answer.TheVariants as answer
 use Rattle.wq_words.specs.declared.answer.Armed.TheVariants as armed
 use Rattle.wq_words.specs.declared.answer.Modified.TheVariants as modified
@@ -69,7 +70,7 @@ module _ (w s k : ℕ) (h : List Event) (t : Tally) (other : s ≢ w) (no_owner 
 
   -- a queueing by the tests on which it rests
   abbrev answers : (set shut : Bool) → Answer
-  answers set shut = if set then answer.Pending else (if shut then answer.Closed else answer.Queued (first h))
+  answers set shut = if set then answer.Pending else (if shut then answer.Closed else answer.Queued (first h) (wakes h))
 
   abbrev adds : (set shut : Bool) → List Event
   adds set shut = if set then Busy s k ∷ [] else (if shut then Hold s k ∷ Back s k why.Closed ∷ [] else Hold s k ∷ Push s k ∷ [])

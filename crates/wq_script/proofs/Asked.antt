@@ -9,6 +9,8 @@ use Rattle.wq_words.specs.declared.event.Event.TheVariants.{Hold, Busy, Push, Ba
 use Rattle.wq_words.specs.declared.event.Why.TheVariants as why
 use Rattle.wq_words.specs.History.{pending, closed, first, fresh}
 use Rattle.wq_words.specs.Seen.{owner_seat}
+use Rattle.wq_words.specs.Rest.{wakes}
+use Rattle.wq_words.proofs.Rest.{wakes_quiet}
 use Rattle.wq_words.proofs.Seen.{closed_count}
 use Rattle.wq_words.specs.declared.answer.Answer.{Answer}
 use Rattle.wq_words.specs.declared.answer.Answer.TheVariants as answer
@@ -27,35 +29,37 @@ use Rattle.wq_script.proofs.Queueings.{busy_events, push_events, refused_events,
 
 -- the answer of a queueing by the tests on which it rests
 answer_pending : (h : List Event) (k : ℕ) → pending h k ≡ true → queue_answer k h ≡ answer.Pending
-answer_pending h k set = ap (λ (b : Bool). if b then answer.Pending else (if closed h then answer.Closed else answer.Queued (first h))) set
+answer_pending h k set = ap (λ (b : Bool). if b then answer.Pending else (if closed h then answer.Closed else answer.Queued (first h) (wakes h))) set
 
 answer_closed : (h : List Event) (k : ℕ) → pending h k ≡ false → closed h ≡ true → queue_answer k h ≡ answer.Closed
-answer_closed h k clear shut = ap (λ (b : Bool). if b then answer.Pending else (if closed h then answer.Closed else answer.Queued (first h))) clear
-    ∙ ap (λ (b : Bool). if b then answer.Closed else answer.Queued (first h)) shut
+answer_closed h k clear shut = ap (λ (b : Bool). if b then answer.Pending else (if closed h then answer.Closed else answer.Queued (first h) (wakes h))) clear
+    ∙ ap (λ (b : Bool). if b then answer.Closed else answer.Queued (first h) (wakes h)) shut
 
-answer_queued : (h : List Event) (k : ℕ) → pending h k ≡ false → closed h ≡ false → queue_answer k h ≡ answer.Queued (first h)
-answer_queued h k clear is_open = ap (λ (b : Bool). if b then answer.Pending else (if closed h then answer.Closed else answer.Queued (first h))) clear
-    ∙ ap (λ (b : Bool). if b then answer.Closed else answer.Queued (first h)) is_open
+answer_queued : (h : List Event) (k : ℕ) → pending h k ≡ false → closed h ≡ false → queue_answer k h ≡ answer.Queued (first h) (wakes h)
+answer_queued h k clear is_open = ap (λ (b : Bool). if b then answer.Pending else (if closed h then answer.Closed else answer.Queued (first h) (wakes h))) clear
+    ∙ ap (λ (b : Bool). if b then answer.Closed else answer.Queued (first h) (wakes h)) is_open
 
--- what was pushed last was the first on the list where it would have been before the hold
-pushed_first : (h : List Event) (p k : ℕ) (f : Bool) (z : List Event) → z ≡ h ++ Hold p k ∷ Push p k ∷ [] → IsPushed p k f z → f ≡ first h
-pushed_first h p k f z is pushed =
+-- what was pushed last was the first on the list, and woke the queue, where it would have before the hold
+pushed_first : (h : List Event) (p k : ℕ) (f w : Bool) (z : List Event) → z ≡ h ++ Hold p k ∷ Push p k ∷ [] → IsPushed p k f w z
+    → (f ≡ first h) × (w ≡ wakes h)
+pushed_first h p k f w z is pushed =
     let same : pushed.before ++ Push p k ∷ pushed.after ≡ (h ++ Hold p k ∷ []) ++ Push p k ∷ [] = sym pushed.is
     ∙ (is ∙ sym (append_assoc h (Hold p k ∷ []) (Push p k ∷ []))) in
     let last = last_own p pushed.before pushed.after (h ++ Hold p k ∷ []) (Push p k) (Push p k) same pushed.last refl in
-    pushed.first_is ∙ (ap first last.1 ∙ first_held h p k)
+    (pushed.first_is ∙ (ap first last.1 ∙ first_held h p k), pushed.wakes_is ∙ (ap wakes last.1 ∙ wakes_quiet h (Hold p k) refl refl))
 
 module _ (layout : Layout) (t : Seats) (h : List Event) (p k : ℕ) (x z : Known)
     (acts : (xs : List Event) (n : ℕ) → Sees xs n x z → Acts layout t h x.seen z.seen xs n) where
   -- the answer to a queueing of a seat that acted alone
   pub asked : (a : Answer) → x.number ≡ p → Answers k 1 a x z → (a ≡ queue_answer k h) × Seated layout t (h ++ queue_events p k h)
-  asked (answer.Queued f) number told =
+  asked (answer.Queued f w) number told =
       let xs : List Event = Hold p k ∷ Push p k ∷ [] in
       let sees : Sees xs 0 x z = subst (λ (m : ℕ). Sees (Hold m k ∷ Push m k ∷ []) 0 x z) number told.0 in
       let a : Acts layout t h x.seen z.seen xs 0 = acts xs 0 sees in
       let e = push_events a.seated.wide h p k a.seated.legal in
-      let pushed : IsPushed p k f z.seen = subst (λ (m : ℕ). IsPushed m k f z.seen) number told.1 in (
-        ap answer.Queued (pushed_first h p k f z.seen a.is pushed) ∙ sym (answer_queued h k e.0 e.1),
+      let pushed : IsPushed p k f w z.seen = subst (λ (m : ℕ). IsPushed m k f w z.seen) number told.1 in
+      let said = pushed_first h p k f w z.seen a.is pushed in (
+        ap (λ (b : Bool). answer.Queued b w) said.0 ∙ (ap (answer.Queued (first h)) said.1 ∙ sym (answer_queued h k e.0 e.1)),
         subst (λ (ys : List Event). Seated layout t (h ++ ys)) e.2 a.seated,
       )
   asked answer.Pending number told =
@@ -105,7 +109,7 @@ pub seat_layout : (layout : Layout) (s : Seats) (h : List Event) (p : ℕ) (x : 
 seat_layout layout s h p x g lt is = ap (λ (v : Known). v.layout) is ∙ ((g.senders p x (omega (arith, lt, g.count))).layout_is ∙ sym g.delay.layout_is)
 
 answers_stay : (k : ℕ) (a : Answer) (x z : Known) → Answers k 1 a x z → x.queue ≡ z.queue
-answers_stay k (answer.Queued f) x z told = sym told.0.same.queue_is
+answers_stay k (answer.Queued f w) x z told = sym told.0.same.queue_is
 answers_stay k answer.Pending x z told = sym told.same.queue_is
 answers_stay k answer.Closed x z told = sym told.same.queue_is
 answers_stay k answer.Contended x z told = sym told.same.queue_is

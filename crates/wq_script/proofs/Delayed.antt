@@ -83,10 +83,10 @@ module _ (layout : Layout) (s t : Seats) (h : List Event) (g : Seated layout s h
 
     pub armed_so : (a : Armed) → ((a ≡ armed.TooFar) ↔ IsTrue (is_too_far delay s.delay.table)) → ¬ (a ≡ armed.Memory)
         → Arms k delay 1 a s.delay d → IsArmedSo a
-    armed_so (armed.Queued f) far room told =
-        let n = near (armed.Queued f) far (λ e. cc) in
-        let b = asked layout t h p k s.delay.sender d.sender acts (queueing.Queued f) g.delay.number_is (told.1.seen, told.2) in
-        queued_so (armed.Queued f) n (now_at_once k delay h told.0) b.1 told.1.table_is (ap armed_of b.0)
+    armed_so (armed.Queued f w) far room told =
+        let n = near (armed.Queued f w) far (λ e. cc) in
+        let b = asked layout t h p k s.delay.sender d.sender acts (queueing.Queued f w) g.delay.number_is (told.1.seen, told.2) in
+        queued_so (armed.Queued f w) n (now_at_once k delay h told.0) b.1 told.1.table_is (ap armed_of b.0)
     armed_so armed.Pending far room told =
         let n = near armed.Pending far (λ e. cc) in
         let b = asked layout t h p k s.delay.sender d.sender acts queueing.Pending g.delay.number_is told.seen in

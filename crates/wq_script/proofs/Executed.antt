@@ -10,7 +10,7 @@ use mathlib.Core.List.{IsPrefix}
 use Rattle.arrayvec.specs.ArrayVec.{ArrayVec}
 use Rattle.wq_words.specs.declared.layout.Layout.{Layout}
 use Rattle.wq_words.specs.declared.event.Event.{Event}
-use Rattle.wq_words.specs.declared.event.Event.TheVariants.{Hold, Busy, Push, Back, Take, Close, Begin, End, Chain, ChainBusy}
+use Rattle.wq_words.specs.declared.event.Event.TheVariants.{Hold, Busy, Push, Back, Take, Close, Begin, End, Chain, ChainBusy, Rest}
 use Rattle.wq_words.specs.declared.event.Why.TheVariants as why
 use Rattle.wq_words.specs.History.{accepted, begun, next, taken, closed, is_close, is_push, is_take, fresh}
 use Rattle.wq_words.specs.Legal.{IsLegal}
@@ -188,6 +188,7 @@ is_take_own (Begin k) is = absurd (false≢true is)
 is_take_own (End k) is = absurd (false≢true is)
 is_take_own (Chain k) is = absurd (false≢true is)
 is_take_own (ChainBusy k) is = absurd (false≢true is)
+is_take_own Rest is = absurd (false≢true is)
 
 -- events of which none is the owner's push what they push
 fresh_on : (g es : List Event) → own owner_seat es ≡ [] → fresh (g ++ es) ≡ fresh g + count_by is_push es

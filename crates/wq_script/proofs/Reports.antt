@@ -2,7 +2,7 @@
 use Rattle.std.proofs.Common.{◌≡◌, ℕ, ◌+◌, ◌≤◌, ◌^◌, Bool, false, eqb, List, [], ◌∷◌, length, refl, sym, ap, ◌∙◌, arith, count_by}
 use Rattle.std.proofs.lemmas.List.Sums.{count_by-le-length}
 use Rattle.wq_words.specs.declared.event.Event.{Event}
-use Rattle.wq_words.specs.declared.event.Event.TheVariants.{Hold, Busy, Push, Back, Take, Close, Begin, End, Chain, ChainBusy}
+use Rattle.wq_words.specs.declared.event.Event.TheVariants.{Hold, Busy, Push, Back, Take, Close, Begin, End, Chain, ChainBusy, Rest}
 use Rattle.wq_words.specs.declared.event.Why.TheVariants as why
 use Rattle.wq_words.specs.declared.layout.Layout.{Layout}
 use Rattle.wq_words.specs.History.{accepted, begun, ended, is_push}
@@ -35,6 +35,7 @@ queued_only w (Begin k) is = refl
 queued_only w (End k) is = refl
 queued_only w (Chain k) is = refl
 queued_only w (ChainBusy k) is = refl
+queued_only w Rest is = refl
 
 pending_only : (w : ℕ) (e : Event) → eqb (seat_of e) w ≡ false → is_pending_by w e ≡ false
 pending_only w (Busy s k) is = is
@@ -47,6 +48,7 @@ pending_only w (Begin k) is = refl
 pending_only w (End k) is = refl
 pending_only w (Chain k) is = refl
 pending_only w (ChainBusy k) is = refl
+pending_only w Rest is = refl
 
 closed_only : (w : ℕ) (e : Event) → eqb (seat_of e) w ≡ false → is_closed_by w e ≡ false
 closed_only w (Back s k why.Closed) is = is
@@ -61,6 +63,7 @@ closed_only w (Begin k) is = refl
 closed_only w (End k) is = refl
 closed_only w (Chain k) is = refl
 closed_only w (ChainBusy k) is = refl
+closed_only w Rest is = refl
 
 chain_only : (e : Event) → eqb (seat_of e) owner_seat ≡ false → live.is_chain e ≡ false
 chain_only (Chain k) is = absurd (cc)
@@ -73,6 +76,7 @@ chain_only Close is = refl
 chain_only (Begin k) is = refl
 chain_only (End k) is = refl
 chain_only (ChainBusy k) is = refl
+chain_only Rest is = refl
 
 -- a count of one seat's events is the same wherever its events are
 same_count : (p : Event → Bool) (c : ℕ) → ((e : Event) → eqb (seat_of e) c ≡ false → p e ≡ false) → (v h : List Event) → own c v ≡ own c h
@@ -94,6 +98,7 @@ same_chain (e ∷ es) = omega (arith, same_chain es, one e, count_by-append live
     one (End k) = refl
     one (Chain k) = refl
     one (ChainBusy k) = refl
+    one Rest = refl
 
 -- what the counts of an engine come to
 pub record Sums (x : Tally) (t : Totals) (h : List Event) : Type 0 where

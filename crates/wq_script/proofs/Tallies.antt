@@ -6,7 +6,7 @@ use Rattle.std.proofs.lemmas.List.{append-nil}
 use Rattle.std.proofs.lemmas.Bool.{false≢true}
 use Rattle.wq_words.specs.declared.layout.Layout.{Layout}
 use Rattle.wq_words.specs.declared.event.Event.{Event}
-use Rattle.wq_words.specs.declared.event.Event.TheVariants.{Hold, Busy, Push, Back, Take, Close, Begin, End, Chain, ChainBusy}
+use Rattle.wq_words.specs.declared.event.Event.TheVariants.{Hold, Busy, Push, Back, Take, Close, Begin, End, Chain, ChainBusy, Rest}
 use Rattle.wq_words.specs.declared.event.Why.TheVariants as why
 use Rattle.wq_words.specs.History.{begun, ended, is_push, IsRunning}
 use Rattle.wq_words.specs.Legal.{IsLegal, HasSeat}
@@ -44,6 +44,7 @@ one_foreign w (Begin k) a b = absurd (b refl)
 one_foreign w (End k) a b = absurd (b refl)
 one_foreign w (Chain k) a b = absurd (b refl)
 one_foreign w (ChainBusy k) a b = absurd (b refl)
+one_foreign w Rest a b = absurd (b refl)
 
 pub all_foreign : (w s : ℕ) (es : List Event) → s ≢ w → s ≢ owner_seat → AllByRecursion (λ e. seat_of e ≡ s) es → Foreign w es
 all_foreign w s [] a b all = record { queued = refl; pending = refl; refused = refl; chain_busy = refl; begun = refl; ended = refl }
@@ -121,6 +122,7 @@ one_own layout w (Begin k) few has ours = record { queued = refl; busy = refl; r
 one_own layout w (End k) few has ours = record { queued = refl; busy = refl; refused = refl }
 one_own layout w (Chain k) few has ours = record { queued = refl; busy = refl; refused = refl }
 one_own layout w (ChainBusy k) few has ours = record { queued = refl; busy = refl; refused = refl }
+one_own layout w Rest few has ours = record { queued = refl; busy = refl; refused = refl }
 
 none_first : {A : Type 0} (b : Bool) (x : A) (xs : List A) → cond b (x ∷ xs) xs ≡ [] → (b ≡ false) × (xs ≡ [])
 none_first true x xs is = absurd (cc)

@@ -20,13 +20,13 @@ pub record Tallied (t : Tally) (w : ℕ) (h : List Event) : Type 0 where
 
 -- one more, by its answer
 abbrev pub counted : Answer → Tally → Tally
-counted (answer.Queued is_first) t = record t { queued = t.queued + 1 }
+counted (answer.Queued is_first wakes) t = record t { queued = t.queued + 1 }
 counted answer.Pending t = record t { busy = t.busy + 1 }
 counted answer.Closed t = record t { refused = t.refused + 1 }
 counted answer.Contended t = t
 
 abbrev pub counted_armed : Armed → Tally → Tally
-counted_armed (armed.Queued is_first) t = record t { queued = t.queued + 1 }
+counted_armed (armed.Queued is_first wakes) t = record t { queued = t.queued + 1 }
 counted_armed armed.Pending t = record t { busy = t.busy + 1 }
 counted_armed armed.Closed t = record t { refused = t.refused + 1 }
 counted_armed _ t = t

@@ -46,7 +46,7 @@ fn armed_or_memory(armed: Armed) -> Result<Armed, AllocError>
 {
     match armed {
         Armed::Memory => Err(AllocError),
-        Armed::Queued { first } => Ok(Armed::Queued { first }),
+        Armed::Queued { first, wakes } => Ok(Armed::Queued { first, wakes }),
         Armed::OnTable => Ok(Armed::OnTable),
         Armed::Pending => Ok(Armed::Pending),
         Armed::Closed => Ok(Armed::Closed),

@@ -4,7 +4,7 @@ use Rattle.std.proofs.Common.{◌∙◌, subst, arith, append_assoc}
 use Rattle.std.proofs.lemmas.List.{append-nil, take_all}
 use Rattle.std.proofs.lemmas.List.Elements.{filter-append}
 use Rattle.wq_words.specs.declared.event.Event.{Event}
-use Rattle.wq_words.specs.declared.event.Event.TheVariants.{Hold, Busy, Push, Back, Take, Close, Begin, End, Chain, ChainBusy}
+use Rattle.wq_words.specs.declared.event.Event.TheVariants.{Hold, Busy, Push, Back, Take, Close, Begin, End, Chain, ChainBusy, Rest}
 use Rattle.wq_words.specs.declared.layout.Layout.{Layout}
 use Rattle.wq_words.specs.History.{accepted_by, accepted, begun, is_close, IsClosed}
 use Rattle.wq_words.specs.Legal.{IsLegal}
@@ -48,6 +48,7 @@ module _ (layout : Layout) where
   accepted_closed v (End k ∷ new) legal shut none = absurd (cc)
   accepted_closed v (Chain k ∷ new) legal shut none = absurd (cc)
   accepted_closed v (ChainBusy k ∷ new) legal shut none = absurd (cc)
+  accepted_closed v (Rest ∷ new) legal shut none = absurd (cc)
 
 pub batch-closed : (h : List Event) → IsClosed h → batch h ≡ drop (length (begun h)) (accepted h)
 batch-closed h shut =

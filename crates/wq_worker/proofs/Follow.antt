@@ -45,8 +45,8 @@ follows_push n s b (j ∷ ks) k es fs t q =
 pub told_chain : (item : ℕ) (a : Answer) (o s p q u : Known) → Paired o s → item < s.layout.items → closed o.seen ≡ true → Chains item a o p
     → Sees [] 0 p q → Sees [] 0 s u → q.seen ≡ u.seen
     → (es : List Event) × Queues s.layout.items s.number (closed o.seen) item es × Both es 0 o s q u
-told_chain item (answer.Queued is_first) o s p q u pair low shut h b c both =
-    (Chain item ∷ [], chained low shut refl, met_owner (Chain item ∷ []) 0 0 0 o s p q u pair h.1 b c both)
+told_chain item (answer.Queued is_first wakes) o s p q u pair low shut h b c both =
+    (Chain item ∷ [], chained low shut refl, met_owner (Chain item ∷ []) 0 0 0 o s p q u pair h.2 b c both)
 told_chain item answer.Pending o s p q u pair low shut h b c both =
     (ChainBusy item ∷ [], chain_busy low shut refl, met_owner (ChainBusy item ∷ []) 0 0 0 o s p q u pair h b c both)
 told_chain item answer.Closed o s p q u pair low shut h b c both = absurd h
@@ -55,7 +55,7 @@ told_chain item answer.Contended o s p q u pair low shut h b c both = absurd h
 pub told_send : (item tries : ℕ) (a : Answer) (o s t q u : Known) → Paired o s → item < s.layout.items → closed o.seen ≡ false
     → Answers item tries a s t → Sees [] 0 t u → Sees [] 0 o q → q.seen ≡ u.seen
     → (es : List Event) × Attempts s.layout.items s.number (closed o.seen) item (settled a) es × Both es (cond (settled a) 0 tries) o s q u
-told_send item tries (answer.Queued is_first) o s t q u pair low opens h b c both =
+told_send item tries (answer.Queued is_first wakes) o s t q u pair low opens h b c both =
     let es = Hold s.number item ∷ Push s.number item ∷ [] in (es, pushed low opens refl, met_sender es 0 0 0 o s t q u pair h.0 b c both)
 told_send item tries answer.Pending o s t q u pair low opens h b c both =
     let es = Busy s.number item ∷ [] in (es, busy low opens refl, met_sender es 0 0 0 o s t q u pair h b c both)

@@ -12,3 +12,4 @@ pub mod Pushes
 pub mod Summing
 pub mod Balancing
 pub mod Rows
+pub mod Others

@@ -5,7 +5,7 @@ use Rattle.std.specs.Prelude.{count_by, nat_lt, min}
 use Rattle.std.proofs.lemmas.Bool.{ltb-true, ltb-false, lt-ltb, le-ltb, eqb-true}
 use Rattle.wq_words.specs.declared.layout.Layout.{Layout}
 use Rattle.wq_words.specs.declared.event.Event.{Event}
-use Rattle.wq_words.specs.declared.event.Event.TheVariants.{Hold, Busy, Push, Back, Take, Close, Begin, End, Chain, ChainBusy}
+use Rattle.wq_words.specs.declared.event.Event.TheVariants.{Hold, Busy, Push, Back, Take, Close, Begin, End, Chain, ChainBusy, Rest}
 use Rattle.wq_words.specs.History.{accepted, is_push, IsClosed}
 use Rattle.wq_words.specs.Legal.{IsLegal, IsAllowed}
 use Rattle.wq_words.proofs.Growing.{count_by_push}
@@ -44,6 +44,7 @@ one_below n (Begin k) = refl
 one_below n (End k) = refl
 one_below n (Chain k) = refl
 one_below n (ChainBusy k) = refl
+one_below n Rest = refl
 
 pub below_more : (n : ℕ) (h : List Event) → count_by (is_queued_below (n + 1)) h ≡ count_by (is_queued_below n) h + count_by (is_queued_by n) h
 below_more n [] = refl
@@ -68,6 +69,7 @@ none_event (Begin k) = refl
 none_event (End k) = refl
 none_event (Chain k) = refl
 none_event (ChainBusy k) = refl
+none_event Rest = refl
 
 pub below_none : (h : List Event) → count_by (is_queued_below 0) h ≡ 0
 below_none [] = refl
@@ -85,6 +87,7 @@ module _ (layout : Layout) where
   one_all (End k) h a = refl
   one_all (Chain k) h a = refl
   one_all (ChainBusy k) h a = refl
+  one_all Rest h a = refl
 
   -- each push is of a sender of the queue
   pub below_all : (h : List Event) → IsLegal layout h → count_by (is_queued_below layout.senders) h ≡ count_by is_push h
@@ -106,6 +109,7 @@ module _ (layout : Layout) where
   one_above s (End k) h high a = refl
   one_above s (Chain k) h high a = refl
   one_above s (ChainBusy k) h high a = refl
+  one_above s Rest h high a = refl
 
   pub none_above : (s : ℕ) → layout.senders ≤ s → (h : List Event) → IsLegal layout h → count_by (is_queued_by s) h ≡ 0
   none_above s high = legal_induction layout (λ h. count_by (is_queued_by s) h ≡ 0) refl
@@ -123,6 +127,7 @@ module _ (layout : Layout) where
   one_late v (End k) a shut s = refl
   one_late v (Chain k) a shut s = refl
   one_late v (ChainBusy k) a shut s = refl
+  one_late v Rest a shut s = refl
 
   late_none : (s : ℕ) (v new : List Event) → IsLegal layout (v ++ new) → IsClosed v → count_by (is_queued_by s) new ≡ 0
   late_none s v [] legal shut = refl

@@ -5,7 +5,7 @@ use Rattle.std.proofs.lemmas.Option.{slice_get_within, slice_get_past, slice_get
 use Rattle.std.proofs.lemmas.List.{append-nil}
 use Rattle.std.proofs.lemmas.List.Elements.{filter_map-append}
 use Rattle.wq_words.specs.declared.event.Event.{Event}
-use Rattle.wq_words.specs.declared.event.Event.TheVariants.{Hold, Busy, Push, Back, Take, Close, Begin, End, Chain, ChainBusy}
+use Rattle.wq_words.specs.declared.event.Event.TheVariants.{Hold, Busy, Push, Back, Take, Close, Begin, End, Chain, ChainBusy, Rest}
 use Rattle.wq_words.specs.declared.layout.Layout.{Layout}
 use Rattle.wq_words.specs.Numbers.{number_count}
 use Rattle.wq_words.specs.History.{begun_by, begun, ended, running, IsRunning, closed, IsClosed}
@@ -55,6 +55,7 @@ begun_after layout h Close a all = subst (AreNumbers layout) (sym (filter_map_pu
 begun_after layout h (End k) a all = subst (AreNumbers layout) (sym (filter_map_push_none begun_by h (End k) refl ∙ append-nil (begun h))) all
 begun_after layout h (Chain k) a all = subst (AreNumbers layout) (sym (filter_map_push_none begun_by h (Chain k) refl ∙ append-nil (begun h))) all
 begun_after layout h (ChainBusy k) a all = subst (AreNumbers layout) (sym (filter_map_push_none begun_by h (ChainBusy k) refl ∙ append-nil (begun h))) all
+begun_after layout h Rest a all = subst (AreNumbers layout) (sym (filter_map_push_none begun_by h Rest refl ∙ append-nil (begun h))) all
 
 pub begun_numbers : (layout : Layout) (h : List Event) → IsLegal layout h → AreNumbers layout (begun h)
 begun_numbers layout h legal =

@@ -2,6 +2,7 @@ pub mod Seats
 pub mod Follow
 pub mod Pair
 pub mod State
+pub mod Resting
 pub mod Step
 pub mod Totals
 pub mod Rows

@@ -1,5 +1,5 @@
 -- An owner and a sender of one queue that have seen the same.
-use Rattle.std.specs.Prelude.{◌≡◌, ℕ, ◌<◌, Bool, true, false, cond, List, [], ◌∷◌, ◌++◌}
+use Rattle.std.specs.Prelude.{◌≡◌, ℕ, ◌<◌, Bool, true, false, cond, None, List, [], ◌∷◌, ◌++◌}
 use Rattle.wq_words.specs.declared.event.Event.{Event}
 use Rattle.wq_words.specs.declared.event.Event.TheVariants.{Begin}
 use Rattle.wq_words.specs.History.{closed}
@@ -8,6 +8,7 @@ use Rattle.wq_words.specs.Seen.{owner_seat}
 use Rattle.wq_words.specs.declared.answer.Answer.{Answer}
 use Rattle.wq_words.specs.declared.answer.Answer.TheVariants as answer
 use Rattle.wq_live.specs.Known.{Known, IsSame}
+use Rattle.wq_live.specs.Batch.{next_of}
 use Rattle.wq_worker.specs.Seats.{Adds, taking, NothingWaits}
 use Rattle.wq_worker.specs.Follow.{Queues, Follows, contended_of}
 
@@ -26,7 +27,7 @@ pub record Both (xs : List Event) (n : ℕ) (o s p t : Known) : Type 0 where
   pub adds : Adds s.number xs n o.seen p.seen
 
 abbrev pub settled : Answer → Bool
-settled (answer.Queued is_first) = true
+settled (answer.Queued is_first wakes) = true
 settled answer.Pending = true
 settled answer.Closed = true
 settled answer.Contended = false
@@ -38,7 +39,7 @@ Attempts n s is_closed k false es = (k < n) × (is_closed ≡ false) × (es ≡ 
 
 -- nothing waits
 abbrev pub BothFindNothing : Known → Known → Known → Known → Type 0
-BothFindNothing o s p t = NothingWaits p.seen × Both (taking o.seen) 0 o s p t
+BothFindNothing o s p t = NothingWaits p.seen × Both (taking o.seen) 0 o s p t × (next_of p.seen ≡ None)
 
 -- the number k has begun
 abbrev pub BothBegin : ℕ → Known → Known → Known → Known → Type 0

@@ -8,6 +8,7 @@ use Rattle.wq_words.specs.History.{closed, running, IsRunning}
 use Rattle.wq_worker.specs.declared.ran.Ran.{Ran}
 use Rattle.wq_worker.specs.declared.ran.Ran.TheVariants.{Item, Barrier, Stop, Nothing, Owing}
 use Rattle.wq_worker.specs.Seats.{taking, NothingWaits}
+use Rattle.wq_worker.specs.Resting.{HasNoneLeft}
 use Rattle.wq_worker.specs.Follow.{Follows, contended_of}
 use Rattle.wq_worker.specs.State.{WorkerState, Moves}
 
@@ -21,7 +22,7 @@ IsKind layout k (Owing j) = ⊥
 
 -- nothing waits, and the work was not touched
 abbrev pub FindsNothing : {W : Type 0} → WorkerState W → WorkerState W → Type 0
-FindsNothing a b = NothingWaits b.seen × (b.work ≡ a.work) × Moves (taking a.seen) 0 a b
+FindsNothing a b = NothingWaits b.seen × (b.work ≡ a.work) × Moves (taking a.seen) 0 a b × HasNoneLeft b.seen
 
 module _ {W : Type 0} (may : W → ℕ → List ℕ → W → Type 0) where
   -- The execution of k has begun, after the events es: f is to be queued, and the work is v. An item was run, by which the

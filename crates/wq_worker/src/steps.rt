@@ -1,13 +1,15 @@
 //! Steps of an owner and a sender of one queue, after each of which both have seen the same.
 ghost use Rattle.std.specs.Prelude.{◌≡◌, ℕ, ◌<◌, ◌≤◌, Some, None, false, [], ◌∷◌, MatchOption, length, drop, slice_index};
 ghost use Rattle.wq_words.specs.declared.event.Event.TheVariants.{End};
-ghost use Rattle.wq_words.specs.History.{closed, running, IsRunning};
+ghost use Rattle.wq_words.specs.History.{closed, running, IsRunning, IsClosed};
 ghost use Rattle.wq_words.specs.Legal.{IsLegal};
 ghost use Rattle.wq_words.specs.Seen.{owner_seat};
 ghost use Rattle.wq_live.specs.Known.{Sees};
 ghost use Rattle.wq_live.specs.Answers.{IsContended};
 ghost use Rattle.wq_live.specs.Batch.{next_of};
+ghost use Rattle.wq_live.specs.Rest.{MayNotRest};
 ghost use Rattle.wq_worker.specs.Seats.{taking, NothingWaits};
+ghost use Rattle.wq_worker.specs.Resting.{HasNoneLeft, rest_events};
 ghost use Rattle.wq_worker.specs.Pair.{settled, Paired, Both, BothFindNothing, BothBegin, BothQueue, QueuesRest};
 
 use wq_live::{Answer, Owner, Sender};
@@ -49,6 +51,31 @@ pub(crate) fn begin_next(owner: &mut Owner, sender: &mut Sender) -> Option<u32>
     let number = owner.begin();
     sender.meet_owner(owner);
     Some(number)
+}
+
+/// Makes the take that a begin would make, and answers the oldest number that was taken and has not begun.
+pub(crate) fn take_next(owner: &mut Owner, sender: &mut Sender) -> Option<u32>
+    requires paired { Paired owner.old sender.old }
+    ensures both { Both (taking owner.old.seen) 0 owner.old sender.old owner.new sender.new }
+    ensures next { result ≡ next_of owner.new.seen }
+    ensures nothing { result ≡ None → NothingWaits owner.new.seen }
+{
+    take_where_empty(owner);
+    sender.meet_owner(owner);
+    owner.next()
+}
+
+/// Rests, where nothing is left. False where something was pushed since the last take, or where the queue rests already.
+pub(crate) fn rest(owner: &mut Owner, sender: &mut Sender) -> bool
+    requires paired { Paired owner.old sender.old }
+    requires open { ¬ IsClosed owner.old.seen }
+    requires none { HasNoneLeft owner.old.seen }
+    ensures both { Both (rest_events result) 0 owner.old sender.old owner.new sender.new }
+    ensures refused { result ≡ false → MayNotRest owner.new.seen }
+{
+    let rests = owner.rest();
+    sender.meet_owner(owner);
+    rests
 }
 
 /// Ends what runs.

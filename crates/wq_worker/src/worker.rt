@@ -7,20 +7,22 @@ ghost use Rattle.wq_words.specs.Seen.{owner_seat, Grows};
 ghost use Rattle.wq_live.specs.Known.{AreNumbered, Sees};
 ghost use Rattle.wq_live.specs.Answers.{IsContended};
 ghost use Rattle.wq_live.specs.Batch.{TakesAll};
+ghost use Rattle.wq_live.specs.Rest.{MayNotRest};
 ghost use Rattle.wq_words.specs.Legal.{IsLegal, IsComplete};
 ghost use Rattle.wq_words.specs.Headline.{KeepsHeadline};
 ghost use Rattle.wq_worker.specs.State.{items_among, IsSameWorker, Moves, IsMadeOf, IsNew};
-ghost use Rattle.wq_worker.specs.declared.ran.Ran.TheVariants.{Owing};
+ghost use Rattle.wq_worker.specs.declared.ran.Ran.TheVariants.{Nothing, Owing};
 ghost use Rattle.wq_worker.specs.Step.{Runs, FindsNothing, Begins};
 ghost use Rattle.wq_worker.specs.Totals.{own_totals};
 ghost use Rattle.wq_worker.specs.Rows.{RunsSome, Drains, Serves, Closes};
+ghost use Rattle.wq_worker.specs.Resting.{HasNoneLeft, rest_events, LeavesWork, IsReady, IsUnready};
 ghost use Rattle.wq_worker.specs.Book.{IsBookOf, Destroys, LeavesUnfinished};
 
 use crate::book::{Book, Ledger};
 use crate::building::Unbuilt;
 use crate::drained::{Drained, Unfinished, left_of};
 use crate::ran::Ran;
-use crate::steps::{begin_next, end_running, queue_rest};
+use crate::steps::{begin_next, end_running, queue_rest, rest, take_next};
 use crate::totals::Totals;
 use crate::work::{Follow, Work};
 use crossbeam_utils::sync::Parker;
@@ -128,6 +130,7 @@ impl<W: Work> Worker<W> {
     fn finish(&mut self, number: u32) -> Ran
         requires { running self.old.seen ≡ Some number }
         ensures runs { Runs W.may result self.old self.new }
+        ensures some { result ≡ Nothing → ⊥ }
         ensures owed { (k : ℕ) → result ≡ Owing k → IsContended self.old.number (slice_index self.new.unqueued 0) self.old.tries self.new.seen }
     {
         let at = queue_rest(
@@ -174,6 +177,7 @@ impl<W: Work> Worker<W> {
     pub fn run_one(&mut self) -> Ran
         ensures runs { Runs W.may result self.old self.new }
         ensures owed { (k : ℕ) → result ≡ Owing k → IsContended self.old.number (slice_index self.new.unqueued 0) self.old.tries self.new.seen }
+        ensures none { result ≡ Nothing → HasNoneLeft self.new.seen }
         ensures same { IsSameWorker self.old self.new }
         ensures legal { IsLegal self.new.layout self.new.seen }
     {
@@ -184,6 +188,35 @@ impl<W: Work> Worker<W> {
             return Ran::Nothing;
         };
         self.finish(number)
+    }
+
+    /// Makes the take that `run_one` would make, and answers the oldest number that was taken and has not begun, which is what
+    /// `run_one` executes next. `None` where an execution is owed, or where nothing waits.
+    pub fn ready(&mut self) -> Option<u32>
+        ensures { MatchOption result (IsUnready self.old self.new) (λ k. IsReady self.old k self.new) }
+    {
+        if self.owner.running().is_some() {
+            return None;
+        }
+        take_next(&mut self.owner, &mut self.sender)
+    }
+
+    /// Says once that the queue rests: true where all that was accepted has ended, nothing was pushed since the last take, and
+    /// the queue did not rest already. The next queueing then answers `wakes`. Where it answers false, run on: something was
+    /// pushed, or nothing was taken since the last rest.
+    ///
+    /// A loop of one's own runs until `run_one` answers `Nothing`, rests, and parks where that answered true or the queue
+    /// rests already; its senders unpark it where their answer says `wakes`, once a rest and not once an item. No wake-up is
+    /// missed then (this is not proved): a push before the rest makes the rest answer false, and the first push after it says
+    /// `wakes`; what unparks a worker that has not parked yet keeps its next park from waiting.
+    pub fn rest(&mut self) -> bool
+        requires open { ¬ IsClosed self.old.seen }
+        requires none { HasNoneLeft self.old.seen }
+        ensures work { LeavesWork self.old self.new }
+        ensures events { Moves (rest_events result) 0 self.old self.new }
+        ensures refused { result ≡ false → MayNotRest self.new.seen }
+    {
+        rest(&mut self.owner, &mut self.sender)
     }
 
     /// Executes up to so many numbers, and answers how many executions ended. It stops at the limit, after the stop item,

@@ -6,6 +6,7 @@ use Rattle.wq_live.proofs.Sends.{sees_on}
 use Rattle.wq_worker.specs.Seats.{taking}
 use Rattle.wq_worker.proofs.Owned.{stays, owner_grows}
 use Rattle.wq_worker.proofs.Closing.{nothing_still}
+use Rattle.wq_worker.proofs.Others.{next_still}
 use Rattle.wq_worker.proofs.Pair.{met_owner, owner_grew}
 use Rattle.wq_worker.proofs.State.{quiet_taking}
 use Rattle.wq_worker.proofs.steps.begin_next.Goals as goal
@@ -19,6 +20,7 @@ returns-then-is_none c =
     subst (λ (z : ℕ). Grows z [] 0 p.seen q.seen) (e.seen.same.number_is ∙ c.requires.paired.seat) m.that.grows in (
       nothing_still q.layout 0 p.seen q.seen still m.that.legal (e.empty none),
       met_owner (taking o.seen) 0 0 0 o _ p q _ c.requires.paired e.seen m.that m.this m.both,
+      next_still q.layout p.seen q.seen still.new still.is m.that.legal still.mine ∙ none,
     )
 
 pub begin-number-requires-clause-idle : goal.begin-number-requires-clause-idle

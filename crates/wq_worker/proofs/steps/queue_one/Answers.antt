@@ -30,7 +30,7 @@ returns-clause-queued c =
     c.queue_tries-answer.ensures.answer m.this m.that m.both)
 
 unsettled : (a : Answer) → settled a ≡ false → a ≡ answer.Contended
-unsettled (answer.Queued first) is = absurd (cc)
+unsettled (answer.Queued first wakes) is = absurd (cc)
 unsettled answer.Pending is = absurd (cc)
 unsettled answer.Closed is = absurd (cc)
 unsettled answer.Contended is = refl

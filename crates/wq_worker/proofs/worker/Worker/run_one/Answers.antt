@@ -35,3 +35,12 @@ returns-in-Some-clause-same g c = runs_same g.W.Work.may c.finish.result c.args.
 
 pub returns-in-Some-clause-legal : goal.returns-in-Some-clause-legal
 returns-in-Some-clause-legal g c = runs_legal g.W.Work.may c.finish.result c.args.self.now c.finish.new.self c.finish.ensures.runs
+
+pub returns-clause-none : goal.returns-clause-none
+returns-clause-none g c is = absurd (c.finish-2.ensures.some is)
+
+pub returns-in_default-start-clause-none : goal.returns-in_default-start-clause-none
+returns-in_default-start-clause-none g c is = c.in_default-start.ensures.3
+
+pub returns-in-Some-clause-none : goal.returns-in-Some-clause-none
+returns-in-Some-clause-none g c is = absurd (c.finish.ensures.some is)

@@ -24,11 +24,14 @@ pub returns-in_default : goal.returns-in_default
 returns-in_default g c =
     let i = c.self.inside in let o = i.owner in let p = c.begin_next-begun.new.owner in let t = c.begin_next-begun.new.sender in
     let b : Both (taking o.seen) 0 o i.sender p t = c.in_default.ensures.1 in let left = drop i.at i.follow.items in
+    let s = stays (taking o.seen) o.seen p.seen (quiet_taking o.seen) (owner_of_both i.sender.number (taking o.seen) 0 o.seen p.seen b.adds) in
+    let idle : ¬ IsRunning o.seen = subst (λ (z : WorkerState g.row.W.Denot). ¬ IsRunning z.seen) (sym c.self.view_is) c.requires in
     let w : WorkerState g.row.W.Denot = state_of p t i.tries left i.work in (
       c.in_default.ensures.0,
       ap (λ (z : WorkerState g.row.W.Denot). z.work) c.self.view_is,
       subst (λ (z : WorkerState g.row.W.Denot). Moves (taking z.seen) 0 z w) c.self.view_is
           (moves_by (taking o.seen) 0 i.tries left left i.work i.work o i.sender p t b),
+      (rw (s.begun_same, s.ended_same) idle, c.in_default.ensures.2),
     )
 
 pub invariant_of-self-then-number-layout : goal.invariant_of-self-then-number-layout
