@@ -4,6 +4,7 @@ mod built;
 mod clearing;
 mod contention;
 mod crew;
+mod resting;
 mod rows;
 mod serving;
 mod team;

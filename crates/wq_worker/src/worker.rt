@@ -214,6 +214,8 @@ impl<W: Work> Worker<W> {
         requires none { HasNoneLeft self.old.seen }
         ensures work { LeavesWork self.old self.new }
         ensures events { Moves (rest_events result) 0 self.old self.new }
+        ensures open { ¬ IsClosed self.new.seen }
+        ensures none { HasNoneLeft self.new.seen }
         ensures refused { result ≡ false → MayNotRest self.new.seen }
     {
         rest(&mut self.owner, &mut self.sender)

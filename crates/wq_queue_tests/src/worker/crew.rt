@@ -47,12 +47,12 @@ fn queue_pair<R: Abort + Threads + Wait + Sync>(
 
 /// Senders 0 to 4 of a queue.
 #[derive(Drop)]
-struct Crew {
-    first: Sender,
-    second: Sender,
-    third: Sender,
-    fourth: Sender,
-    last: Sender,
+pub(crate) struct Crew {
+    pub(crate) first: Sender,
+    pub(crate) second: Sender,
+    pub(crate) third: Sender,
+    pub(crate) fourth: Sender,
+    pub(crate) last: Sender,
 }
 
 /// Four senders queue their own items in threads, and then the last one the stop item.
@@ -83,7 +83,7 @@ fn enter<R: Abort>(rt: &R, book: &mut Book, ledgers: &mut Vec<Ledger>, sender: &
     ledgers.push(ledger).expect(rt, "memory for a ledger");
 }
 
-fn new_crew<R: Abort>(rt: &R, owner: &Owner, senders: &mut Vec<Sender>) -> Crew
+pub(crate) fn new_crew<R: Abort>(rt: &R, owner: &Owner, senders: &mut Vec<Sender>) -> Crew
     requires { All (λ s. s.queue ≡ owner.now.queue) senders.old.items }
     ensures { (result.first.queue ≡ owner.now.queue) × (result.second.queue ≡ owner.now.queue) × (result.third.queue ≡ owner.now.queue) × (result.fourth.queue ≡ owner.now.queue) × (result.last.queue ≡ owner.now.queue) }
 {
