@@ -13,3 +13,4 @@ pub mod Summing
 pub mod Balancing
 pub mod Rows
 pub mod Others
+pub mod Resting

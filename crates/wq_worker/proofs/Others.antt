@@ -1,13 +1,12 @@
 -- What the owner knows of its batch, and of why it does not rest, stays while others alone add events.
-use Rattle.std.proofs.Common.{◌≡◌, ℕ, ◌+◌, ◌<◌, ◌≤◌, ◌==◌, Bool, true, false, List, [], ◌∷◌, ◌++◌, length, take, drop, reverse, None, Some, Option, slice_get, inl, inr, ◌⊎◌, refl, sym, ap, ◌∙◌, subst, arith, append_assoc, length-append}
+use Rattle.std.proofs.Common.{◌≡◌, ℕ, ◌<◌, ◌≤◌, ◌==◌, false, List, [], ◌∷◌, ◌++◌, length, drop, None, slice_get, inl, inr, refl, sym, ap, ◌∙◌, subst, arith, append_assoc}
 use Rattle.std.proofs.lemmas.Bool.Decides.{nat_tests}
 use Rattle.std.proofs.lemmas.List.{append-nil, take-append-le}
 use Rattle.wq_words.specs.declared.layout.Layout.{Layout}
 use Rattle.wq_words.specs.declared.event.Event.{Event}
 use Rattle.wq_words.specs.declared.event.Event.TheVariants.{Hold, Busy, Push, Back, Take, Close, Begin, End, Chain, ChainBusy, Rest}
-use Rattle.wq_words.specs.History.{accepted_by, accepted, begun_by, begun, taken, fresh, first, is_push, is_close, is_take}
+use Rattle.wq_words.specs.History.{accepted_by, accepted, begun_by, begun, taken, fresh, is_push, is_close, is_take}
 use Rattle.wq_words.specs.Legal.{IsLegal}
-use Rattle.wq_words.specs.Listed.{listed}
 use Rattle.wq_words.specs.Rest.{wakes}
 use Rattle.wq_words.specs.Seen.{owner_seat, own}
 use Rattle.wq_words.proofs.Closed.{closed_from_open}

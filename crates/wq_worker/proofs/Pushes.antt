@@ -6,7 +6,7 @@ use Rattle.std.proofs.lemmas.Bool.{ltb-true, ltb-false, lt-ltb, le-ltb, eqb-true
 use Rattle.wq_words.specs.declared.layout.Layout.{Layout}
 use Rattle.wq_words.specs.declared.event.Event.{Event}
 use Rattle.wq_words.specs.declared.event.Event.TheVariants.{Hold, Busy, Push, Back, Take, Close, Begin, End, Chain, ChainBusy, Rest}
-use Rattle.wq_words.specs.History.{accepted, is_push, IsClosed}
+use Rattle.wq_words.specs.History.{is_push, IsClosed}
 use Rattle.wq_words.specs.Legal.{IsLegal, IsAllowed}
 use Rattle.wq_words.proofs.Growing.{count_by_push}
 use Rattle.wq_words.proofs.Legal.{legal_induction, legal_next}

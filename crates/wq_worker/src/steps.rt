@@ -71,7 +71,7 @@ pub(crate) fn rest(owner: &mut Owner, sender: &mut Sender) -> bool
     requires open { ¬ IsClosed owner.old.seen }
     requires none { HasNoneLeft owner.old.seen }
     ensures both { Both (rest_events result) 0 owner.old sender.old owner.new sender.new }
-    ensures open { ¬ IsClosed owner.new.seen }
+    ensures unclosed { ¬ IsClosed owner.new.seen }
     ensures none { HasNoneLeft owner.new.seen }
     ensures refused { result ≡ false → MayNotRest owner.new.seen }
 {

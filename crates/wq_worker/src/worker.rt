@@ -1,5 +1,5 @@
 //! A worker.
-ghost use Rattle.std.specs.Prelude.{◌≡◌, ℕ, ◌+◌, ◌<◌, Some, None, [], ◌∷◌, All, length, slice_index, IfOk, IfErr, MatchOption, MatchResult};
+ghost use Rattle.std.specs.Prelude.{◌≡◌, ℕ, ◌+◌, ◌<◌, false, Some, None, [], ◌∷◌, All, length, slice_index, IfOk, IfErr, MatchOption, MatchResult};
 ghost use Rattle.std.specs.Fn.{FnOnceTakesAtMut, FnOnceReturnsAtMut};
 ghost use Rattle.wq_words.specs.declared.event.Event.TheVariants.{Close};
 ghost use Rattle.wq_words.specs.History.{accepted, begun, ended, closed, running, Holds, IsRunning, IsClosed};
@@ -214,7 +214,7 @@ impl<W: Work> Worker<W> {
         requires none { HasNoneLeft self.old.seen }
         ensures work { LeavesWork self.old self.new }
         ensures events { Moves (rest_events result) 0 self.old self.new }
-        ensures open { ¬ IsClosed self.new.seen }
+        ensures unclosed { ¬ IsClosed self.new.seen }
         ensures none { HasNoneLeft self.new.seen }
         ensures refused { result ≡ false → MayNotRest self.new.seen }
     {

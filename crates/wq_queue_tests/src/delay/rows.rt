@@ -24,7 +24,13 @@ const IN_ORDER: [Turn; 14] = [
     (Execute, Executed(0)),
     (Execute, Executed(1)),
     (Execute, NotAllowed),
-    (Arm(3, 0), Said::Armed(Armed::Queued { first: true, wakes: true })),
+    (
+        Arm(3, 0),
+        Said::Armed(Armed::Queued {
+            first: true,
+            wakes: true,
+        }),
+    ),
     (Arm(1, 4_294_967_296), Said::Armed(Armed::TooFar)),
     (Advance(4), Said::Backwards),
     (Advance(5), Went(0, 0, 0)),
@@ -46,7 +52,13 @@ const MOVED_AND_CANCELLED: [Turn; 10] = [
 
 /// An item that stands on the queue is left there, and a delay of 0 queues at once.
 const ON_THE_QUEUE: [Turn; 11] = [
-    (Queue(0), Answered(Answer::Queued { first: true, wakes: true })),
+    (
+        Queue(0),
+        Answered(Answer::Queued {
+            first: true,
+            wakes: true,
+        }),
+    ),
     (Arm(0, 0), Said::Armed(Armed::Pending)),
     (Arm(0, 1), Said::Armed(Armed::Pending)),
     (Cancel(0), Cancelled(false)),
@@ -81,7 +93,13 @@ const LAST_TICK: [Turn; 4] = [
     (Advance(u64::MAX), Went(0, 0, 0)),
     (Arm(0, 1), Said::Armed(Armed::TooFar)),
     (Modify(0, 1), Said::Modified(Modified::TooFar)),
-    (Arm(0, 0), Said::Armed(Armed::Queued { first: true, wakes: true })),
+    (
+        Arm(0, 0),
+        Said::Armed(Armed::Queued {
+            first: true,
+            wakes: true,
+        }),
+    ),
 ];
 
 /// An item that is due at the last tick, and is not moved past it.
@@ -159,11 +177,17 @@ fn dissolved_table_gives_its_items_back(rt: HostRuntime) -> Result<(), Fail> {
     }
     assert_eq!(rt;
         call_sender(&mut other, Queue(3)),
-        Answered(Answer::Queued { first: true, wakes: true })
+        Answered(Answer::Queued {
+            first: true,
+            wakes: true
+        })
     );
     assert_eq!(rt;
         call_sender(&mut sender, Queue(0)),
-        Answered(Answer::Queued { first: false, wakes: false })
+        Answered(Answer::Queued {
+            first: false,
+            wakes: false
+        })
     );
     Ok(())
 }

@@ -83,12 +83,18 @@ fn reads(sender: &mut Sender, item: u32, barrier: u32) -> (Option<bool>, Option<
 #[test]
 fn senders_queue_each_item_once(rt: HostRuntime) -> Result<(), Fail> {
     let (mut owner, mut first, mut second) = seats(rt.alloc()).expect(&rt, "seats");
-    let queued = Some(Answer::Queued { first: false, wakes: false });
+    let queued = Some(Answer::Queued {
+        first: false,
+        wakes: false,
+    });
     assert_eq!(rt; (first.number(), second.number()), (0, 1));
     assert_eq!(rt; first.layout(), owner.layout());
     assert_eq!(rt;
         hold_then(&mut first, 0, true),
-        Some(Posted::Queued { first: true, wakes: true })
+        Some(Posted::Queued {
+            first: true,
+            wakes: true
+        })
     );
     assert_eq!(rt; hold_then(&mut second, 0, true), None);
     assert_eq!(rt; queue_once(&mut second, 1), queued);
@@ -129,14 +135,26 @@ fn senders_queue_each_item_once(rt: HostRuntime) -> Result<(), Fail> {
 #[test]
 fn closed_queue_takes_chained_items_alone(rt: HostRuntime) -> Result<(), Fail> {
     let (mut owner, mut first, mut second) = seats(rt.alloc()).expect(&rt, "seats");
-    assert_eq!(rt; second.request_stop(1), Answer::Queued { first: true, wakes: true });
+    assert_eq!(rt;
+        second.request_stop(1),
+        Answer::Queued {
+            first: true,
+            wakes: true
+        }
+    );
     assert_eq!(rt; chain(&mut owner, 1), None);
     assert_eq!(rt; close(&mut owner), Some(1));
     assert!(rt; owner.is_closed());
     assert_eq!(rt; queue_once(&mut first, 2), Some(Answer::Closed));
     assert_eq!(rt; begin(&mut owner), Some(6));
     assert_eq!(rt; owner.running(), Some(6));
-    assert_eq!(rt; chain(&mut owner, 1), Some(Answer::Queued { first: false, wakes: false }));
+    assert_eq!(rt;
+        chain(&mut owner, 1),
+        Some(Answer::Queued {
+            first: false,
+            wakes: false
+        })
+    );
     assert_eq!(rt; chain(&mut owner, 1), Some(Answer::Pending));
     assert_eq!(rt; end(&mut owner), Some(6));
     assert_eq!(rt; owner.done(), None);
@@ -167,7 +185,10 @@ fn owner_takes_what_was_queued_before_it_met(rt: HostRuntime) -> Result<(), Fail
     let (mut owner, mut first, mut second) = seats(rt.alloc()).expect(&rt, "seats");
     assert_eq!(rt;
         queue_once(&mut first, 2),
-        Some(Answer::Queued { first: true, wakes: true })
+        Some(Answer::Queued {
+            first: true,
+            wakes: true
+        })
     );
     first.meet_owner(&mut owner);
     second.meet(&mut first);

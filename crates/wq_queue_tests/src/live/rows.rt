@@ -63,7 +63,10 @@ fn begun_items_are_queued_again_behind_a_batch(rt: HostRuntime) -> Result<(), Fa
 #[test]
 fn closed_behind_a_batch_and_chained_behind_that(rt: HostRuntime) -> Result<(), Fail> {
     let (mut owner, mut sender) = seats(rt.alloc(), 6).expect(&rt, "seats");
-    let chained = Some(Answer::Queued { first: false, wakes: false });
+    let chained = Some(Answer::Queued {
+        first: false,
+        wakes: false,
+    });
     assert_eq!(rt; queue_each(&mut sender, &[0, 1]), 2);
     assert_eq!(rt; take(&mut owner), Some(2));
     assert_eq!(rt; queue_each(&mut sender, &[2, 3]), 2);

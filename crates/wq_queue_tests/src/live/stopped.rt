@@ -6,9 +6,15 @@ use std::thread::join_mut;
 use wq_live::{Answer, Done, Owner, Sender, build};
 use wq_words::Layout;
 
-const FIRST: Answer = Answer::Queued { first: true, wakes: true };
+const FIRST: Answer = Answer::Queued {
+    first: true,
+    wakes: true,
+};
 
-const NEXT: Answer = Answer::Queued { first: false, wakes: false };
+const NEXT: Answer = Answer::Queued {
+    first: false,
+    wakes: false,
+};
 
 /// A queue of so many items, a barrier and two senders.
 fn seats(alloc: Global, items: u32) -> Option<(Owner, Sender, Sender)> {

@@ -18,7 +18,17 @@ fn run_two(alloc: Global) -> Option<usize> {
     let Ok((work, _book)) = worker.destroy(2) else {
         return None;
     };
-    if first == (Answer::Queued { first: true, wakes: true }) && second == (Answer::Queued { first: false, wakes: false }) {
+    if first
+        == (Answer::Queued {
+            first: true,
+            wakes: true,
+        })
+        && second
+            == (Answer::Queued {
+                first: false,
+                wakes: false,
+            })
+    {
         return Some(work.order.len());
     }
     None

@@ -148,6 +148,12 @@ pub(crate) fn stop(sender: &mut Sender, unparker: &Unparker) -> Answer
     answer
 }
 
-pub(crate) const QUEUED: Answer = Answer::Queued { first: false, wakes: false };
+pub(crate) const QUEUED: Answer = Answer::Queued {
+    first: false,
+    wakes: false,
+};
 
-pub(crate) const FIRST: Answer = Answer::Queued { first: true, wakes: true };
+pub(crate) const FIRST: Answer = Answer::Queued {
+    first: true,
+    wakes: true,
+};

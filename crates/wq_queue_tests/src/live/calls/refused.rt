@@ -17,8 +17,17 @@ fn flush<R: Wait>(rt: &R, sender: &mut Sender, barrier: u32) -> Option<Answer> {
 #[test]
 fn pending_and_closed(rt: HostRuntime) -> Result<(), Fail> {
     let (mut owner, mut first, mut second) = seats(rt.alloc()).expect(&rt, "seats");
-    let queued = Some(Answer::Queued { first: false, wakes: false });
-    assert_eq!(rt; first.request_stop(1), Answer::Queued { first: true, wakes: true });
+    let queued = Some(Answer::Queued {
+        first: false,
+        wakes: false,
+    });
+    assert_eq!(rt;
+        first.request_stop(1),
+        Answer::Queued {
+            first: true,
+            wakes: true
+        }
+    );
     assert_eq!(rt; queue_once(&mut first, 0), queued);
     assert_eq!(rt; flush_once(&mut first, 0), queued);
     assert_eq!(rt; second.request_stop(1), Answer::Pending);

@@ -1,4 +1,4 @@
-use Rattle.std.proofs.Common.{◌≡◌, ℕ, Bool, true, false, List, [], ◌∷◌, slice_get, sym, ap, ◌∙◌, subst}
+use Rattle.std.proofs.Common.{ℕ, Bool, true, false, List, [], slice_get, sym, ap, ◌∙◌, subst}
 use Rattle.wq_words.specs.Seen.{owner_seat, Grows}
 use Rattle.wq_live.specs.Known.{Known, Sees}
 use Rattle.wq_live.specs.Rest.{Rests, MayNotRest}
@@ -21,14 +21,14 @@ returns-clause-both c =
     met_owner (rest_events c.rest-rests.result) 0 0 0 o _ p c.meet_owner.new.owner _ c.requires.paired
     (seen_of c.rest-rests.result o p c.rest-rests.ensures.seen) m.that m.this m.both
 
-pub returns-clause-open : goal.returns-clause-open
-returns-clause-open c =
+pub returns-clause-unclosed : goal.returns-clause-unclosed
+returns-clause-unclosed c =
     let m = c.meet_owner.ensures in let p = c.rest-rests.new.self in let q = c.meet_owner.new.owner in
     let seat = (seen_of c.rest-rests.result c.args.owner.now p c.rest-rests.ensures.seen).same.number_is in
     let still : Grows owner_seat [] 0 p.seen q.seen =
     subst (λ (z : ℕ). Grows z [] 0 p.seen q.seen) (seat ∙ c.requires.paired.seat) m.that.grows in
     let s = stays [] p.seen q.seen quiet_none (owner_grows [] 0 p.seen q.seen still) in
-    rw s.closes_same c.rest-rests.ensures.open
+    rw s.closes_same c.rest-rests.ensures.unclosed
 
 pub returns-clause-none : goal.returns-clause-none
 returns-clause-none c =

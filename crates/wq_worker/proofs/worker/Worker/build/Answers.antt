@@ -1,4 +1,4 @@
-use Rattle.std.proofs.Common.{◌≡◌, ℕ, [], ◌∷◌, ◌++◌, sym, ◌∙◌, subst}
+use Rattle.std.proofs.Common.{◌≡◌, ℕ, [], sym, ◌∙◌, subst}
 use Rattle.std.specs.Prelude.{All}
 use Rattle.wq_words.specs.History.{Holds}
 use Rattle.wq_words.specs.Seen.{owner_seat, own}
