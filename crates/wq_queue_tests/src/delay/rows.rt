@@ -28,7 +28,7 @@ const IN_ORDER: [Turn; 14] = [
         Arm(3, 0),
         Said::Armed(Armed::Queued {
             first: true,
-            wakes: true,
+            wakes: false,
         }),
     ),
     (Arm(1, 4_294_967_296), Said::Armed(Armed::TooFar)),

@@ -6,9 +6,14 @@ use std::thread::join_mut;
 use wq_live::{Answer, Done, Owner, Sender, build};
 use wq_words::Layout;
 
-const FIRST: Answer = Answer::Queued {
+const WAKES: Answer = Answer::Queued {
     first: true,
     wakes: true,
+};
+
+const FIRST: Answer = Answer::Queued {
+    first: true,
+    wakes: false,
 };
 
 const NEXT: Answer = Answer::Queued {
@@ -45,7 +50,7 @@ fn hold(sender: &mut Sender, item: u32) -> bool {
 #[test]
 fn owner_stops_with_a_batch(rt: HostRuntime) -> Result<(), Fail> {
     let (mut owner, mut first, mut second) = seats(rt.alloc(), 4).expect(&rt, "seats");
-    assert_eq!(rt; queue(&mut first, 0), Some(FIRST));
+    assert_eq!(rt; queue(&mut first, 0), Some(WAKES));
     assert_eq!(rt; queue(&mut first, 1), Some(NEXT));
     assert_eq!(rt; take(&mut owner), Some(2));
     drop(owner);
