@@ -1,12 +1,12 @@
 #!/usr/bin/env bash
 # Queues and executes items in one thread by the program given and by the same scheme in C, five times in turn, and counts
-# the instructions of both where valgrind is there; then 1, 2 and 3 sender threads.
+# the instructions of both where valgrind is there. `threads.py` measures sender threads.
 set -euo pipefail
 program=$1
 scheme=$(mktemp)
 counts=$(mktemp)
 trap 'rm -f "$scheme" "$counts"' EXIT
-"${CC:-cc}" -std=c11 -O2 -o "$scheme" "$(dirname "${BASH_SOURCE[0]}")/scheme.c"
+"${CC:-cc}" -std=c11 -D_GNU_SOURCE -O2 -pthread -o "$scheme" "$(dirname "${BASH_SOURCE[0]}")/scheme.c"
 
 # The instructions of a command's whole run, in units of its million items.
 instructions() {
@@ -17,14 +17,9 @@ instructions() {
 grep -m1 'model name' /proc/cpuinfo | cut -d: -f2 | sed 's/^ //'
 for _ in 1 2 3 4 5; do
   echo "queue: $("$program" 0 256 5000000)"
-  echo "in C:  $("$scheme" 256 5000000)"
+  echo "in C:  $("$scheme" eager 0 256 5000000)"
 done
 if command -v valgrind > /dev/null; then
   echo "queue: $(instructions "$program" 0 256 1000000)"
-  echo "in C:  $(instructions "$scheme" 256 1000000)"
+  echo "in C:  $(instructions "$scheme" eager 0 256 1000000)"
 fi
-for senders in 1 2 3; do
-  for _ in 1 2 3 4 5; do
-    echo "$senders senders: $("$program" "$senders" 256 2000000)"
-  done
-done

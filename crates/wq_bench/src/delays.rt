@@ -4,7 +4,7 @@ ghost use Rattle.std.specs.Prelude.{◌≡◌, [], IfSome};
 use crate::execute::execute_batch;
 use std::alloc::Global;
 use std::io;
-use std::time::{Duration, Instant};
+use std::time::{Clock, Duration, Instant};
 use wq_delay::Delay;
 use wq_live::{Owner, Sender, build};
 use wq_words::Layout;
@@ -69,8 +69,8 @@ fn let_go(delay: &mut Delay, tick: u64, ticks: u64) -> u64 {
 }
 
 /// How long arming, moving, cancelling and letting go took in so many rounds over so many items.
-pub fn measure(
-    rt: &HostRuntime,
+pub fn measure<R: Clock>(
+    rt: &R,
     alloc: Global,
     items: u32,
     rounds: u64,

@@ -1,21 +1,25 @@
 //! What a run measures.
+use crate::pace::Pace;
+use std::alloc::AllocError;
 use thiserror::Error;
 use wq_live::BuildError;
 use wq_words::{Layout, LayoutError};
+use wq_worker::{Unbuilt, Work};
 
-/// How many senders there are, how many items each of them queues, and how many executions end in all.
+/// How many senders there are, how many items each of them queues, how many executions end in all, and how the owner goes on.
 #[derive(Clone, Copy, Debug)]
 pub struct Plan {
     pub senders: u32,
     pub slice: u32,
     pub total: u64,
+    pub pace: Pace,
 }
 
 /// Why a plan was not run.
 #[derive(Clone, Copy, Debug, PartialEq, Eq, Error)]
 pub enum PlanError {
     /// Another count of words, or a word that is no number.
-    #[error("usage: wq_bench SENDERS SLICE TOTAL")]
+    #[error("usage: wq_bench [eager] [serve] SENDERS SLICE TOTAL | [eager] lone ROUNDS MICROS | delays ITEMS ROUNDS")]
     Words,
     /// More senders or items than a queue has.
     #[error("plan: {0}")]
@@ -26,6 +30,18 @@ pub enum PlanError {
     /// A thread could not be made.
     #[error("no thread")]
     NoThread,
+}
+
+impl From<AllocError> for PlanError {
+    fn from(_: AllocError) -> PlanError {
+        PlanError::Memory
+    }
+}
+
+impl<W: Work + Drop> From<Unbuilt<W>> for PlanError {
+    fn from(_: Unbuilt<W>) -> PlanError {
+        PlanError::Memory
+    }
 }
 
 impl From<BuildError> for PlanError {
@@ -51,16 +67,18 @@ impl Plan {
             senders: 2,
             slice: 64,
             total: 4096,
+            pace: Pace::Patient,
         }
     }
 
     /// The plan that three words spell.
-    pub fn read(senders: &str, slice: &str, total: &str) -> Result<Plan, PlanError> {
+    pub fn read(senders: &str, slice: &str, total: &str, pace: Pace) -> Result<Plan, PlanError> {
         match (senders.parse(), slice.parse(), total.parse()) {
             (Ok(senders), Ok(slice), Ok(total)) => Ok(Plan {
                 senders,
                 slice,
                 total,
+                pace,
             }),
             _ => Err(PlanError::Words),
         }
@@ -70,5 +88,12 @@ impl Plan {
     pub fn layout(self) -> Result<Layout, LayoutError> {
         let senders = self.senders.max(1);
         Layout::new(senders.saturating_mul(self.slice), 1, senders)
+    }
+
+    /// The same with one sender more, which is the worker's.
+    pub fn layout_with_worker(self) -> Result<Layout, LayoutError> {
+        let senders = self.senders.max(1);
+        let items = senders.saturating_mul(self.slice);
+        Layout::new(items, 1, senders.saturating_add(1))
     }
 }

@@ -1,40 +1,16 @@
 //! Senders in threads of their own, and the owner in this one.
+use crate::counts::Counts;
 use crate::execute::execute_batch;
+use crate::offer::offer;
 use crate::plan::{Plan, PlanError};
 use std::alloc::Global;
-use std::hint::spin_loop;
-use std::thread::{self, JoinHandle, Threads, yield_now};
+use std::thread::{self, JoinHandle, Threads};
 use wq_live::{Answer, Owner, Sender};
-
-/// Passes some time between two tries of a number that is still pending.
-fn pause(turn: u64) {
-    for _ in 0..16 {
-        spin_loop();
-    }
-    if turn % 64 == 63 {
-        yield_now();
-    }
-}
-
-/// Queues an item once it is no longer pending. False where the queue is closed.
-fn offer(sender: &mut Sender, item: u32) -> bool {
-    for turn in 0..u64::MAX {
-        if item >= sender.layout().items {
-            return false;
-        }
-        match sender.queue_tries(item, 1000) {
-            Answer::Queued { .. } => return true,
-            Answer::Closed => return false,
-            Answer::Pending | Answer::Contended => pause(turn),
-        }
-    }
-    false
-}
 
 /// Queues each item of a slice. False where the queue is closed.
 fn offer_slice(sender: &mut Sender, from: u32, to: u32) -> bool {
     for item in from..to {
-        if !offer(sender, item) {
+        if offer(sender, item) == Answer::Closed {
             return false;
         }
     }
@@ -53,19 +29,17 @@ fn feed(mut sender: Sender, slice: u32) {
 }
 
 /// Executes until so many items have ended.
-fn execute(owner: &mut Owner, total: u64) -> u64 {
-    let mut ended = 0u64;
+fn execute(owner: &mut Owner, plan: Plan) -> Counts {
+    let mut counts = Counts::none();
     for _ in 0..u64::MAX {
-        if ended >= total {
+        if counts.items >= plan.total {
             break;
         }
-        let count = execute_batch(owner, total - ended);
-        if count == 0 {
-            spin_loop();
-        }
-        ended = ended.saturating_add(count);
+        let count = execute_batch(owner, plan.total - counts.items);
+        counts = counts.with_take(count);
+        plan.pace.after_take(count);
     }
-    ended
+    counts
 }
 
 /// Closes the queue and executes what is left of it, so that no sender waits for an item that would be pending for ever.
@@ -104,14 +78,14 @@ pub fn run<R: Threads>(
     mut owner: Owner,
     senders: Vec<Sender>,
     plan: Plan,
-) -> Result<u64, PlanError> {
+) -> Result<Counts, PlanError> {
     let wanted = senders.len();
     let threads = start(rt, alloc, senders, plan.slice);
     let all = threads.len() == wanted;
-    let ended = if all {
-        execute(&mut owner, plan.total)
+    let counts = if all {
+        execute(&mut owner, plan)
     } else {
-        0
+        Counts::none()
     };
     finish(&mut owner);
     for thread in threads {
@@ -120,5 +94,5 @@ pub fn run<R: Threads>(
     if !all {
         return Err(PlanError::NoThread);
     }
-    Ok(ended)
+    Ok(counts)
 }

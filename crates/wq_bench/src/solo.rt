@@ -1,4 +1,5 @@
 //! Queueing and executing in one thread.
+use crate::counts::Counts;
 use crate::execute::execute_batch;
 use wq_live::{Owner, Sender};
 
@@ -12,17 +13,17 @@ fn queue_all(sender: &mut Sender) {
 }
 
 /// Queues all items and executes them, again and again until so many have ended.
-pub fn run(mut owner: Owner, mut senders: Vec<Sender>, total: u64) -> u64 {
+pub fn run(mut owner: Owner, mut senders: Vec<Sender>, total: u64) -> Counts {
     let Some(mut sender) = senders.pop() else {
-        return 0;
+        return Counts::none();
     };
-    let mut ended = 0u64;
+    let mut counts = Counts::none();
     for _ in 0..total {
-        if ended >= total {
+        if counts.items >= total {
             break;
         }
         queue_all(&mut sender);
-        ended = ended.saturating_add(execute_batch(&mut owner, total - ended));
+        counts = counts.with_take(execute_batch(&mut owner, total - counts.items));
     }
-    ended
+    counts
 }

@@ -21,6 +21,7 @@ ghost use Rattle.wq_worker.specs.Book.{IsBookOf, Destroys, LeavesUnfinished};
 use crate::book::{Book, Ledger};
 use crate::building::Unbuilt;
 use crate::drained::{Drained, Unfinished, left_of};
+use crate::patience::Patience;
 use crate::ran::Ran;
 use crate::steps::{begin_next, end_running, queue_rest, rest, take_next};
 use crate::totals::Totals;
@@ -222,7 +223,8 @@ impl<W: Work> Worker<W> {
     }
 
     /// Executes up to so many numbers, and answers how many executions ended. It stops at the limit, after the stop item,
-    /// where nothing waits, or where an execution is owed.
+    /// where nothing waits, or where an execution is owed. No time passes in it: a loop of one's own over this call, or over an
+    /// `Owner`, takes more at a time where it passes `PAUSE` `spin_loop`s after fewer than `SHORT_TAKE` executions.
     pub fn run_some(&mut self, limit: u32) -> u32
         ensures runs { RunsSome W.may limit result self.old self.new }
         ensures same { IsSameWorker self.old self.new }
@@ -321,19 +323,21 @@ impl<W: Work> Worker<W> {
     }
 
     /// Executes until the stop item ran. It parks where nothing waits, so who queues something unparks it, and goes on at once
-    /// where an execution is owed.
+    /// where an execution is owed. Some time passes after a take of fewer than `SHORT_TAKE` numbers, and before it parks, so that
+    /// a busy queue is taken from seldom and pays for no wake-up.
     pub fn serve<R: Wait>(&mut self, rt: &R, parker: &Parker)
         requires open { ¬ IsClosed self.old.seen }
         ensures serves { Serves W.may self.old self.new }
         ensures same { IsSameWorker self.old self.new }
         ensures legal { IsLegal self.new.layout self.new.seen }
     {
+        let mut patience = Patience::new();
         for _ in rt.forever() {
             match self.run_one() {
                 Ran::Stop => return,
-                Ran::Nothing => parker.park(rt),
-                Ran::Item(_) => {}
-                Ran::Barrier(_) => {}
+                Ran::Nothing => patience.rest(rt, parker),
+                Ran::Item(_) => patience.after_execution(self.owner.waiting()),
+                Ran::Barrier(_) => patience.after_execution(self.owner.waiting()),
                 Ran::Owing(_) => {}
             }
         }

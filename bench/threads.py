@@ -1,0 +1,135 @@
+#!/usr/bin/env python3
+"""Times items that sender threads queue and another thread executes, by the program given and in C, with patience and without.
+
+usage: threads.py PROGRAM ROUNDS [ITEMS [WORD..]]
+
+Each round runs each row once in each cell, in turn, with so many items (500,000). The words stand in front of each command, as
+`chrt -f 10`, under which the threads that are measured go before all other work. The first table has for each row the median in
+nanoseconds an item with its quartiles, and below how many items a take found; the second one has the time until one item ran that
+was queued so many microseconds after the last one.
+"""
+import os
+import resource
+import subprocess
+import sys
+import tempfile
+import time
+
+HERE = os.path.dirname(os.path.abspath(__file__))
+CELLS = [(senders, size) for size in (256, 16) for senders in (1, 2, 3)]
+GAPS = (0, 2, 5, 20, 1000)
+TICK = os.sysconf('SC_CLK_TCK')
+
+
+def busy():
+    """Processor seconds that the machine has spent on anything so far."""
+    with open('/proc/stat') as stat:
+        fields = [int(word) for word in stat.readline().split()[1:]]
+    return (sum(fields[:3]) + sum(fields[5:8])) / TICK
+
+
+def own():
+    """Processor seconds of this process and its children so far."""
+    return sum(use.ru_utime + use.ru_stime for use in map(resource.getrusage, (resource.RUSAGE_SELF, resource.RUSAGE_CHILDREN)))
+
+
+def output(command):
+    """What a command printed, word by word, after a pause that leaves the machine to others."""
+    time.sleep(0.05)
+    return subprocess.run(command, check=True, capture_output=True, text=True, timeout=60).stdout.replace(',', '').split()
+
+
+def items(command):
+    """Nanoseconds an item, and items a take."""
+    words = output(command)
+    values = {words[at]: int(words[at + 1]) for at in range(0, len(words), 2)}
+    return values['nanos'] / values['items'], values['items'] / values['takes']
+
+
+def lone(command):
+    """The median of the times of one item, and their 95th percentile."""
+    words = output(command)
+    return int(words[1]), int(words[4])
+
+
+def at(values, part):
+    return sorted(values)[min(len(values) - 1, int(len(values) * part))]
+
+
+def compiled(folder, name, *flags):
+    """The program of a file in C."""
+    program = os.path.join(folder, '-'.join((name, *flags)))
+    source = os.path.join(HERE, name + '.c')
+    subprocess.run([os.environ.get('CC', 'cc'), '-std=c11', '-D_GNU_SOURCE', '-O2', '-pthread', *flags, '-o', program, source], check=True)
+    return program
+
+
+def rows(program, scheme, kernel):
+    """The rows of the first table: a name, and the command without its numbers."""
+    yield 'this queue, with patience', [program]
+    yield 'this queue, without', [program, 'eager']
+    for name, peer in (('the same words in C', scheme), ("the kernel's steps in C", kernel)):
+        yield f'{name}, with patience', [peer, 'patient']
+        yield f'{name}, without', [peer, 'eager']
+    yield '`Worker::serve`', [program, 'serve']
+    yield 'a worker without patience', [program, 'eager', 'serve']
+
+
+def lone_rows(program, futex):
+    """The rows of the second table."""
+    yield '`Worker::serve`', [program, 'lone']
+    yield 'a worker without patience', [program, 'eager', 'lone']
+    yield 'a futex in C', [futex]
+
+
+def measured(rounds, table, cells, numbers, read):
+    """What each row has given in each cell, in the order of the rounds."""
+    got = {}
+    for turn in range(rounds):
+        for name, command in table:
+            for cell in cells:
+                got.setdefault((name, cell), []).append(read(command + [str(word) for word in numbers(cell)]))
+        print(f'round {turn + 1} of {rounds}', file=sys.stderr)
+    return got
+
+
+def show(cells):
+    print('| ' + ' | '.join(cells) + ' |')
+
+
+def show_items(table, got):
+    show(['senders, slice'] + [f'{senders}, {size}' for senders, size in CELLS])
+    show(['---'] * (len(CELLS) + 1))
+    for name, _ in table:
+        nanos = [[pair[0] for pair in got[name, cell]] for cell in CELLS]
+        takes = [[pair[1] for pair in got[name, cell]] for cell in CELLS]
+        show([name] + [f'{at(row, .5):.0f} ({at(row, .25):.0f} to {at(row, .75):.0f})' for row in nanos])
+        show(['items a take'] + [f'{at(row, .5):.0f}' for row in takes])
+
+
+def show_lone(table, got):
+    show(['microseconds before'] + [str(gap) for gap in GAPS])
+    show(['---'] * (len(GAPS) + 1))
+    for name, _ in table:
+        pairs = [[at([pair[part] for pair in got[name, gap]], .5) / 1000 for part in (0, 1)] for gap in GAPS]
+        show([name] + [f'{middle:.1f} (95th {high:.1f})' for middle, high in pairs])
+
+
+def main():
+    program, rounds = os.path.abspath(sys.argv[1]), int(sys.argv[2])
+    count = int(sys.argv[3]) if len(sys.argv) > 3 else 500000
+    before = sys.argv[4:]
+    start, used, mine = time.monotonic(), busy(), own()
+    with tempfile.TemporaryDirectory() as folder:
+        peers = compiled(folder, 'scheme'), compiled(folder, 'scheme', '-DKERNEL=1')
+        table = [(name, before + words) for name, words in rows(program, *peers)]
+        lone_table = [(name, before + words) for name, words in lone_rows(program, compiled(folder, 'lone'))]
+        show_items(table, measured(rounds, table, CELLS, lambda cell: (*cell, count), items))
+        print()
+        show_lone(lone_table, measured(rounds, lone_table, GAPS, lambda gap: (200, gap), lone))
+    others = (busy() - used - (own() - mine)) / (time.monotonic() - start)
+    print(f'{os.cpu_count()} processors, of which other processes used {others:.1f} in the mean')
+
+
+if __name__ == '__main__':
+    main()

@@ -1,0 +1,25 @@
+//! How the owner, or a worker, goes from one take to the next.
+use std::hint::spin_loop;
+use wq_worker::{PAUSE, SHORT_TAKE};
+
+/// With patience or without.
+#[derive(Clone, Copy, Debug, PartialEq, Eq)]
+pub enum Pace {
+    /// Some time passes after a short take, as `Worker::serve` has it.
+    Patient,
+    /// The next take comes at once.
+    Eager,
+}
+
+impl Pace {
+    /// Passes some time after a take of so many numbers, or none.
+    pub fn after_take(self, count: u64) {
+        if self == Pace::Patient && count < u64::from(SHORT_TAKE) {
+            for _ in 0..PAUSE {
+                spin_loop();
+            }
+        } else if count == 0 {
+            spin_loop();
+        }
+    }
+}
