@@ -246,7 +246,8 @@ impl Owner {
         ensures empty { batch self.new.seen ≡ [] }
         ensures idle { ¬ IsRunning self.new.seen }
     {
-        self.chair.rest() == BUSY
+        let head = self.chair.rest();
+        head == BUSY
     }
 
     /// Queues an item behind all that waits, from the execution that runs after the close (chain queueing in
