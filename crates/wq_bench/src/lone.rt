@@ -44,7 +44,7 @@ fn ring<R: Clock>(
     runs: u64,
 ) -> io::Result<Duration> {
     let start = Instant::now(rt)?;
-    if offer(sender, 0) == (Answer::Queued { first: true }) {
+    if let Answer::Queued { first: true, .. } = offer(sender, 0) {
         unparker.unpark();
     }
     for _ in 0..u64::MAX {

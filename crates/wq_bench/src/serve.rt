@@ -48,7 +48,7 @@ impl Post {
     /// Queues an item and wakes the worker where the list was empty. False where the queue is closed.
     fn offer(&mut self, item: u32) -> bool {
         let answer = offer(&mut self.sender, item);
-        if answer == (Answer::Queued { first: true }) {
+        if let Answer::Queued { first: true, .. } = answer {
             self.calls.firsts = self.calls.firsts.saturating_add(1);
             self.calls.unparks = self.calls.unparks.saturating_add(1);
             self.unparker.unpark();
