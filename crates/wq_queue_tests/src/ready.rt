@@ -1,0 +1,3 @@
+//! Ready queues, in one thread and in several.
+mod rows;
+mod threads;

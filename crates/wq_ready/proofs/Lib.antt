@@ -1,0 +1,5 @@
+pub mod Legal
+pub mod Order
+pub mod Seen
+pub mod Kept
+pub mod Callers

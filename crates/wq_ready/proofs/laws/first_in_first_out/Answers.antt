@@ -1,0 +1,5 @@
+use Rattle.wq_ready.proofs.Order.{keeps_order}
+use Rattle.wq_ready.proofs.laws.first_in_first_out.Goals as goal
+
+pub returns : goal.returns
+returns c = keeps_order
