@@ -11,7 +11,7 @@ use Rattle.wq_ready.specs.declared.size.Size.{Size}
 use Rattle.wq_ready.specs.declared.event.ReadyEvent.{ReadyEvent}
 use Rattle.wq_ready.specs.declared.event.ReadyEvent.TheVariants.{Announce, Pick}
 use Rattle.wq_ready.specs.History.{announced_by, picked_by, announced, picked}
-use Rattle.wq_ready.specs.Legal.{IsAllowed, IsLegal}
+use Rattle.wq_ready.specs.Legal.{IsReadyAllowed, IsReadyLegal}
 use Rattle.wq_ready.specs.Order.{IsPickOf, EachPickHasAnnounce, ArePickedInOrder, KeepsOrder}
 use Rattle.wq_ready.proofs.Legal.{legal_induction, announce_from}
 
@@ -29,12 +29,12 @@ announces queues xs ys q o not_full = record {
 picks : (queues : ℕ) (xs ys : List ℕ) (q : ℕ) → AreInTurn queues xs ys → slice_get xs (length ys) ≡ Some q → AreInTurn queues xs (ys ++ q ∷ [])
 picks queues xs ys q o at = record { first = prefix_step ys xs q o.first at; room = let le = o.room in simp length-append (omega arith) }
 
-turn_after : (size : Size) (h : List ReadyEvent) (e : ReadyEvent) → IsAllowed size h e → AreInTurn size.queues (announced h) (picked h)
+turn_after : (size : Size) (h : List ReadyEvent) (e : ReadyEvent) → IsReadyAllowed size h e → AreInTurn size.queues (announced h) (picked h)
     → AreInTurn size.queues (announced (h ++ e ∷ [])) (picked (h ++ e ∷ []))
 turn_after size h (Announce c q) a o = simp growing (announces _ _ _ q o a.follows)
 turn_after size h (Pick c q) a o = simp growing (picks _ _ _ q o a.follows)
 
-in_turn : (size : Size) (h : List ReadyEvent) → IsLegal size h → AreInTurn size.queues (announced h) (picked h)
+in_turn : (size : Size) (h : List ReadyEvent) → IsReadyLegal size h → AreInTurn size.queues (announced h) (picked h)
 in_turn size h legal =
     legal_induction size (λ g. AreInTurn size.queues (announced g) (picked g)) (record { first = ([], refl); room = omega arith })
     (turn_after size) h legal
@@ -44,7 +44,7 @@ at_take h n i e at =
     let lt : i < n = omega (arith, slice_get_within (take n h) i e at, length-take n h) in
     (lt, sym (slice_get-take h n i lt) ∙ at)
 
-module _ (size : Size) (h : List ReadyEvent) (legal : IsLegal size h) where
+module _ (size : Size) (h : List ReadyEvent) (legal : IsReadyLegal size h) where
   pick_of_announced : EachPickHasAnnounce h
   pick_of_announced pick c q at =
       found (comes_from announced_by (take pick h) (length (picked (take pick h))) q (legal.allows pick (Pick c q) at).follows)
@@ -84,7 +84,7 @@ picked_in_order h first second announce later lt one other =
       ))
     ]
 
-pub keeps_order : (size : Size) (h : List ReadyEvent) → IsLegal size h → KeepsOrder size h
+pub keeps_order : (size : Size) (h : List ReadyEvent) → IsReadyLegal size h → KeepsOrder size h
 keeps_order size h legal = record {
   picked_in_order = (in_turn size h legal).first;
   pick_of_announced = pick_of_announced size h legal;

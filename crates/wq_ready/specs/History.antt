@@ -27,8 +27,8 @@ abbrev pub picked : List ReadyEvent → List ℕ
 picked h = filter_map picked_by h
 
 -- the queue to pick next: of the Announce events, counted from 0, that at the place `number of Pick events` has it
-abbrev pub next : List ReadyEvent → Option ℕ
-next h = slice_get (announced h) (length (picked h))
+abbrev pub next_queue : List ReadyEvent → Option ℕ
+next_queue h = slice_get (announced h) (length (picked h))
 
 -- the Announce events are the Pick events plus the number of queues
 abbrev pub IsFull : ℕ → List ReadyEvent → Type 0

@@ -8,32 +8,32 @@ use Rattle.wq_ready.specs.declared.event.ReadyEvent.{ReadyEvent}
 use Rattle.wq_ready.specs.declared.event.ReadyEvent.TheVariants.{Announce, Pick}
 use Rattle.wq_ready.specs.declared.rule.Part.{Part}
 use Rattle.wq_ready.specs.History.{announced, picked}
-use Rattle.wq_ready.specs.Legal.{IsLegal}
-use Rattle.wq_ready.specs.Seen.{own, Grows}
+use Rattle.wq_ready.specs.Legal.{IsReadyLegal}
+use Rattle.wq_ready.specs.Seen.{own_ready, GrowsReady}
 
-abbrev pub part : Size → ℕ → ℕ → List ReadyEvent → Part
-part size first count seen = record { size = size; first = first; count = count; seen = seen }
+abbrev pub ready_part : Size → ℕ → ℕ → List ReadyEvent → Part
+ready_part size first count seen = record { size = size; first = first; count = count; seen = seen }
 
 -- the first pass, before it was told the size
-abbrev pub opening : Part
-opening = part (record { queues = 0; callers = 0 }) 0 0 []
+abbrev pub opening_part : Part
+opening_part = ready_part (record { queues = 0; callers = 0 }) 0 0 []
 
 -- all callers of a new ready queue, none of them, and one
 abbrev pub all_callers : Size → Part
-all_callers size = part size 0 size.callers []
+all_callers size = ready_part size 0 size.callers []
 
 abbrev pub no_caller : Size → Part
-no_caller size = part size 0 0 []
+no_caller size = ready_part size 0 0 []
 
 abbrev pub one_caller : Size → ℕ → List ReadyEvent → Part
-one_caller size number seen = part size number 1 seen
+one_caller size number seen = ready_part size number 1 seen
 
 -- the first of the callers, and those behind it
 abbrev pub first_caller : Part → Part
 first_caller p = one_caller p.size p.first p.seen
 
 abbrev pub later_callers : Part → Part
-later_callers p = part p.size (p.first + 1) (p.count - 1) p.seen
+later_callers p = ready_part p.size (p.first + 1) (p.count - 1) p.seen
 
 -- it speaks for the caller c
 abbrev pub SpeaksFor : Part → ℕ → Type 0
@@ -41,31 +41,31 @@ SpeaksFor p c = (p.first ≤ c) × (c < p.first + p.count)
 
 -- The pass with the number i knows a beginning of the history, with all events of the callers that it speaks for. The keeper
 -- of a caller is the number of the pass that speaks for it.
-pub record Fits (size : Size) (history : List ReadyEvent) (keeper : ℕ → ℕ) (i : ℕ) (p : Part) : Type 0 where
+pub record FitsReady (size : Size) (history : List ReadyEvent) (keeper : ℕ → ℕ) (i : ℕ) (p : Part) : Type 0 where
   pub size_is : p.size ≡ size
   pub within : p.first + p.count ≤ size.callers
   pub begins : IsPrefix p.seen history
   pub keeps : (c : ℕ) → SpeaksFor p c → keeper c ≡ i
-  pub knows : (c : ℕ) → SpeaksFor p c → own c history ≡ own c p.seen
+  pub knows : (c : ℕ) → SpeaksFor p c → own_ready c history ≡ own_ready c p.seen
 
 -- What waits is what one legal history has announced and not picked, and each pass fits to that history. Until the size is told
 -- there is one pass.
-pub record Keeps (size : Size) (waiting : List ℕ) (parts : List Part) : Type 0 where
+pub record KeepsReady (size : Size) (waiting : List ℕ) (parts : List Part) : Type 0 where
   pub history : List ReadyEvent
   pub keeper : ℕ → ℕ
-  pub legal : IsLegal size history
+  pub legal : IsReadyLegal size history
   pub waits : announced history ≡ picked history ++ waiting
-  pub fits : (i : ℕ) (p : Part) → get_elem? parts i ≡ some p → Fits size history keeper i p
+  pub fits : (i : ℕ) (p : Part) → get_elem? parts i ≡ some p → FitsReady size history keeper i p
   pub lone : size.queues ≡ 0 → length parts ≡ 1
 
-abbrev pub Kept : List ℕ → List Part → Type 0
-Kept waiting parts = (size : Size) × Keeps size waiting parts
+abbrev pub KeptReady : List ℕ → List Part → Type 0
+KeptReady waiting parts = (size : Size) × KeepsReady size waiting parts
 
 -- the event happens, and the pass has seen it
 pub record Happens (e : ReadyEvent) (old new : Part) : Type 0 where
-  pub same : new ≡ part old.size old.first old.count new.seen
-  pub grows : Grows old.first (e ∷ []) old.seen new.seen
-  pub legal : IsLegal new.size new.seen
+  pub same : new ≡ ready_part old.size old.first old.count new.seen
+  pub grows : GrowsReady old.first (e ∷ []) old.seen new.seen
+  pub legal : IsReadyLegal new.size new.seen
 
 abbrev pub announces : Part → ℕ → Part → Type 0
 announces old q new = Happens (Announce old.first q) old new
@@ -76,6 +76,6 @@ picks old q new = (q < old.size.queues) × Happens (Pick old.first q) old new
 -- these wait after some legal history that goes on from what was seen, with no event of the first caller added
 pub record CanWait (p : Part) (waiting : List ℕ) : Type 0 where
   pub history : List ReadyEvent
-  pub grows : Grows p.first [] p.seen history
-  pub legal : IsLegal p.size history
+  pub grows : GrowsReady p.first [] p.seen history
+  pub legal : IsReadyLegal p.size history
   pub waits : announced history ≡ picked history ++ waiting

@@ -1,6 +1,6 @@
 //! A caller of a ready queue.
 ghost use Rattle.std.specs.Prelude.{◌≡◌, ◌<◌};
-ghost use Rattle.wq_ready.specs.Legal.{IsLegal};
+ghost use Rattle.wq_ready.specs.Legal.{IsReadyLegal};
 ghost use Rattle.wq_ready.specs.Order.{KeepsOrder};
 
 use crate::rule::Part;
@@ -15,9 +15,9 @@ pub struct Caller {
 }
 
 impl Model for Caller {
-    ghost use Rattle.wq_ready.specs.Known.{Known};
+    ghost use Rattle.wq_ready.specs.Known.{CallerState};
 
-    ghost Value = { Known };
+    ghost Value = { CallerState };
 
     ghost use Rattle.wq_ready.specs.Views.{caller_view, Calls};
 
@@ -37,7 +37,7 @@ impl Caller {
 
     /// What it has seen is a legal history of its ready queue, so what was announced is picked in its order, once.
     pub fn legal(&self)
-        ensures legal { IsLegal self.now.ready.size self.now.seen }
+        ensures legal { IsReadyLegal self.now.ready.size self.now.seen }
         ensures order { KeepsOrder self.now.ready.size self.now.seen }
     {
         let _ = &self.number;

@@ -2,7 +2,7 @@
 ghost use Rattle.std.specs.Prelude.{◌≡◌, ◌↔◌, ◌<◌, ◌≤◌, Err, IfOk, IfSome, All, length};
 ghost use Rattle.crossbeam_queue.specs.Passes.{view, IsPassOf};
 ghost use Rattle.wq_ready.specs.declared.ready_queue.AnnounceError.TheVariants.{NoQueue};
-ghost use Rattle.wq_ready.specs.Rule.{opening, all_callers};
+ghost use Rattle.wq_ready.specs.Rule.{opening_part, all_callers};
 ghost use Rattle.wq_ready.specs.Known.{IsCallerOf, new_callers};
 ghost use Rattle.wq_ready.specs.Answers.{Announces, Picks};
 
@@ -39,17 +39,17 @@ impl Model for ReadyQueue {
 
     ghost Value = { Identity };
 
-    ghost use Rattle.wq_ready.specs.Views.{ready_view, HasRoom};
+    ghost use Rattle.wq_ready.specs.Views.{ready_view, HasPlaces};
 
     ghost view = { ready_view };
 
-    ghost invariant = { HasRoom };
+    ghost invariant = { HasPlaces };
 }
 
 // Tells the first pass the size.
 fn tell_size<B: HasSize>(numbers: &Numbers, pass: &mut Pass<u32, Part>, size: Size)
     requires size { (size ≡ B.size) × (0 < size.queues) }
-    requires pass { IsPassOf numbers.now pass.old × (view pass.old ≡ opening) }
+    requires pass { IsPassOf numbers.now pass.old × (view pass.old ≡ opening_part) }
     ensures { IsPassOf numbers.now pass.new × (view pass.new ≡ all_callers size) }
 {
     let _ = size;

@@ -19,11 +19,11 @@ pub struct Part {
 pub struct Law;
 
 impl Protocol<u32, Part> for Law {
-    ghost use Rattle.wq_ready.specs.Rule.{Kept, opening};
+    ghost use Rattle.wq_ready.specs.Rule.{KeptReady, opening_part};
 
-    ghost holds = { Kept };
+    ghost holds = { KeptReady };
 
-    ghost first = { opening };
+    ghost first = { opening_part };
 }
 
 /// Numbers of queues, under that rule.
@@ -48,9 +48,9 @@ pub struct Sizes<B> {
 impl<B: HasSize> Split<Part> for Sizes<B> {
     ghost use Rattle.wq_ready.specs.Rule.{all_callers, no_caller};
 
-    ghost left = { λ part. all_callers B.size };
+    ghost left = { λ ready_part. all_callers B.size };
 
-    ghost right = { λ part. no_caller B.size };
+    ghost right = { λ ready_part. no_caller B.size };
 }
 
 /// The first caller gets a pass of its own.

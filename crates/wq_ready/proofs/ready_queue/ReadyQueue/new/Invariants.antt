@@ -1,6 +1,6 @@
 use Rattle.std.proofs.Common.{◌≡◌, ◌-◌, []}
 use Rattle.crossbeam_queue.specs.Passes.{view, IsPassOf}
-use Rattle.wq_ready.specs.Rule.{part}
+use Rattle.wq_ready.specs.Rule.{ready_part}
 use Rattle.wq_ready.specs.Known.{new_callers}
 use Rattle.wq_ready.proofs.ready_queue.ReadyQueue.new.Given as goal
 
@@ -9,5 +9,5 @@ ghosts-tell_size a = record { size = a.size }
 
 abbrev pub invariant-loop-number : goal.invariant-loop-number
 invariant-loop-number l =
-    IsPassOf l.numbers l.pass × (view l.pass ≡ part l.size l.number (l.size.callers - l.number) [])
+    IsPassOf l.numbers l.pass × (view l.pass ≡ ready_part l.size l.number (l.size.callers - l.number) [])
     × (l.callers.items ≡ new_callers (record { id = l.numbers.table.shared.table_id; size = l.size }) l.number)
