@@ -28,8 +28,7 @@ counted p (y ∷ xs) i zero x at is lt = absurd (omega arith)
 counted p (y ∷ xs) zero (suc n) x at is lt =
     let same : p y ≡ true = cc in
     omega (arith, rw same at (sum_by-cons (λ z. cond (p z) 1 0) y (take n xs)))
-counted p (y ∷ xs) (suc i) (suc n) x at is lt =
-    omega (arith, sum_by-cons (λ z. cond (p z) 1 0) y (take n xs), counted p xs i n x at is (omega arith))
+counted p (y ∷ xs) (suc i) (suc n) x at is lt = omega (arith, sum_by-cons (λ z. cond (p z) 1 0) y (take n xs), counted p xs i n x at is (omega arith))
 
 pub legal_take : (layout : Layout) (h : List Event) (n : ℕ) → IsLegal layout h → IsLegal layout (take n h)
 legal_take layout h n legal = legal_front layout (take n h) (drop n h) (rw take-append-drop legal)
@@ -68,8 +67,7 @@ end_from_ended_by (ChainBusy j) k is = absurd cc
 end_from_ended_by Rest k is = absurd cc
 
 hold_from_starts_hold : (s k : ℕ) (e : Event) → starts_hold s k e ≡ true → e ≡ Hold s k
-hold_from_starts_hold s k (Hold t j) is =
-    let same = and_parts (j == k) (t == s) is in cc (eqb-true j k same.0, eqb-true t s same.1)
+hold_from_starts_hold s k (Hold t j) is = let same = and_parts (j == k) (t == s) is in cc (eqb-true j k same.0, eqb-true t s same.1)
 hold_from_starts_hold s k (Busy t j) is = absurd cc
 hold_from_starts_hold s k (Push t j) is = absurd cc
 hold_from_starts_hold s k (Back t j why) is = absurd cc
