@@ -73,6 +73,7 @@ def rows(program, scheme, kernel):
         yield f'{name}, without', [peer, 'eager']
     yield '`Worker::serve`', [program, 'serve']
     yield 'a worker without patience', [program, 'eager', 'serve']
+    yield 'a worker that rests, woken on `wakes`', [program, 'resting', 'serve']
 
 
 def lone_rows(program, futex):

@@ -3,7 +3,8 @@
 //! which the last is how many takes found something. With 0 senders this thread queues a slice and executes it in turn. After a
 //! short take the owner passes some time, as `Worker::serve` does, and after the word `eager` it does not.
 //!
-//! `wq_bench serve SENDERS SLICE TOTAL` measures a worker that serves, and prints `unparks U` besides; `wq_bench lone ROUNDS
+//! `wq_bench serve SENDERS SLICE TOTAL` measures a worker that serves, and prints `unparks U` besides; after the word `resting`
+//! the worker rests before it parks, and its senders wake it on `wakes` alone. `wq_bench lone ROUNDS
 //! MICROS` queues one item to such a worker so many microseconds after the last one ran, and prints the median and the 95th
 //! percentile of the time until it ran. `wq_bench delays ITEMS ROUNDS` measures a delay table; it prints what an arming, a move, a
 //! cancel and letting go took an item.
@@ -179,6 +180,7 @@ fn main(rt: HostRuntime) -> io::Result<ExitCode> {
     match words.as_slice() {
         [] => measure(&rt, Pace::Patient, &[]),
         [_, word, rest @ ..] if word.as_str() == "eager" => measure(&rt, Pace::Eager, rest),
+        [_, word, rest @ ..] if word.as_str() == "resting" => measure(&rt, Pace::Resting, rest),
         [_, rest @ ..] => measure(&rt, Pace::Patient, rest),
     }
 }

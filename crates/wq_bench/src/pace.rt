@@ -2,13 +2,16 @@
 use std::hint::spin_loop;
 use wq_worker::{PAUSE, SHORT_TAKE};
 
-/// With patience or without.
+/// With patience or without, and whether it rests before it parks.
 #[derive(Clone, Copy, Debug, PartialEq, Eq)]
 pub enum Pace {
     /// Some time passes after a short take, as `Worker::serve` has it.
     Patient,
     /// The next take comes at once.
     Eager,
+    /// The next take comes at once, and a worker that finds nothing rests before it parks, so that its senders wake it on
+    /// `wakes` alone.
+    Resting,
 }
 
 impl Pace {

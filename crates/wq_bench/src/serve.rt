@@ -1,4 +1,6 @@
 //! A worker that serves in this thread, and senders in threads of their own that wake it.
+ghost use Rattle.wq_worker.specs.Resting.{HasNoneLeft};
+
 use crate::counts::Counts;
 use crate::offer::offer;
 use crate::pace::Pace;
@@ -39,19 +41,28 @@ impl Calls {
 #[derive(Drop)]
 struct Post {
     sender: Sender,
+    pace: Pace,
     calls: Calls,
     unparker: Unparker,
     shown: Arc<AtomicU64, Global>,
 }
 
 impl Post {
-    /// Queues an item and wakes the worker where the list was empty. False where the queue is closed.
+    /// Queues an item and wakes the worker where the list was empty, or, where that rests, where it rested. False where the
+    /// queue is closed.
     fn offer(&mut self, item: u32) -> bool {
         let answer = offer(&mut self.sender, item);
-        if let Answer::Queued { first: true, .. } = answer {
-            self.calls.firsts = self.calls.firsts.saturating_add(1);
-            self.calls.unparks = self.calls.unparks.saturating_add(1);
-            self.unparker.unpark();
+        if let Answer::Queued { first, wakes } = answer {
+            self.calls.firsts = self.calls.firsts.saturating_add(u64::from(first));
+            let is_asked = if self.pace == Pace::Resting {
+                wakes
+            } else {
+                first
+            };
+            if is_asked {
+                self.calls.unparks = self.calls.unparks.saturating_add(1);
+                self.unparker.unpark();
+            }
         }
         answer != Answer::Closed
     }
@@ -82,6 +93,15 @@ impl Post {
     }
 }
 
+/// Parks where nothing waits, and rests before where that is wanted: something that was pushed keeps it from both.
+fn park<R: Wait>(rt: &R, worker: &mut Worker<Runs>, parker: &Parker, pace: Pace)
+    requires { HasNoneLeft worker.old.seen }
+{
+    if pace != Pace::Resting || worker.is_closed() || worker.rest() {
+        parker.park(rt);
+    }
+}
+
 /// Executes until the stop item ran: `serve`, or what a loop without patience does.
 pub fn serve<R: Wait>(rt: &R, worker: &mut Worker<Runs>, parker: &Parker, pace: Pace) {
     if pace == Pace::Patient {
@@ -93,7 +113,7 @@ pub fn serve<R: Wait>(rt: &R, worker: &mut Worker<Runs>, parker: &Parker, pace: 
     for _ in rt.forever() {
         match worker.run_one() {
             Ran::Stop => return,
-            Ran::Nothing => parker.park(rt),
+            Ran::Nothing => park(rt, worker, parker, pace),
             _ => {}
         }
     }
@@ -104,7 +124,7 @@ fn start<R: Threads>(
     rt: &R,
     alloc: Global,
     senders: Vec<Sender>,
-    slice: u32,
+    plan: Plan,
     unparker: &Unparker,
     shown: &Arc<AtomicU64, Global>,
 ) -> Vec<JoinHandle<Calls>> {
@@ -118,11 +138,12 @@ fn start<R: Threads>(
         };
         let post = Post {
             sender,
+            pace: plan.pace,
             calls: Calls::none(),
             unparker,
             shown,
         };
-        match thread::spawn(rt, move || post.feed(slice)) {
+        match thread::spawn(rt, move || post.feed(plan.slice)) {
             Ok(thread) => {
                 if threads.push(thread).is_err() {
                     break;
@@ -164,7 +185,7 @@ pub fn run<R: Threads + Wait>(
     let (mut worker, senders) = Worker::build(alloc, plan.layout_with_worker()?, work, 1)?;
     let parker = Parker::new(alloc)?;
     let wanted = senders.len();
-    let threads = start(rt, alloc, senders, plan.slice, parker.unparker(), &shown);
+    let threads = start(rt, alloc, senders, plan, parker.unparker(), &shown);
     let all = threads.len() == wanted;
     if all {
         serve(rt, &mut worker, &parker, plan.pace);

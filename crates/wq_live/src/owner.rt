@@ -149,7 +149,8 @@ impl Owner {
         let _ = &self.counts;
     }
 
-    /// Takes all that stands on the list, and answers how many that is (`llist_del_all`).
+    /// Takes all that stands on the list, and answers how many that is (`llist_del_all`). An owner that serves by a loop of its
+    /// own takes more at a time where some time passes after a short take: `wq_worker` has the bounds that its `serve` uses.
     pub fn take(&mut self) -> u32
         requires open { ¬ IsClosed self.old.seen }
         requires empty { batch self.old.seen ≡ [] }

@@ -53,7 +53,7 @@ impl Patience {
 
     /// Where nothing waits. It snoozes some times before it parks, so that a queue that gets its next number soon pays for no call of
     /// the system.
-    pub(crate) fn rest<R: Wait>(&mut self, rt: &R, parker: &Parker) {
+    pub(crate) fn snooze_or_park<R: Wait>(&mut self, rt: &R, parker: &Parker) {
         if self.idle.is_completed() {
             parker.park(rt);
         } else {

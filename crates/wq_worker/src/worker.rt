@@ -335,7 +335,7 @@ impl<W: Work> Worker<W> {
         for _ in rt.forever() {
             match self.run_one() {
                 Ran::Stop => return,
-                Ran::Nothing => patience.rest(rt, parker),
+                Ran::Nothing => patience.snooze_or_park(rt, parker),
                 Ran::Item(_) => patience.after_execution(self.owner.waiting()),
                 Ran::Barrier(_) => patience.after_execution(self.owner.waiting()),
                 Ran::Owing(_) => {}
