@@ -35,7 +35,8 @@ module _ (m : Machine) (o : IsSound m) where
   taken_bit Listed = refl
   taken_bit Owner = refl
 
-  pub sound_take : ¬ IsClosed m.history → m.cursor ≡ None → m.batch ≡ [] → IsSound (happened (record (with_head m busy_word) { cursor = number_at (link_word (head m)) }) Take)
+  pub sound_take : ¬ IsClosed m.history → m.cursor ≡ None → m.batch ≡ []
+      → IsSound (happened (record (with_head m busy_word) { cursor = number_at (link_word (head m)) }) Take)
   sound_take unclosed still empty =
       let b = by_keepers m o in
       let n : ℕ = number_count m.layout in
@@ -59,7 +60,8 @@ module _ (m : Machine) (o : IsSound m) where
         seen = seen_after m.seats m.history Take o.seen;
       })
 
-  pub sound_close : ¬ IsClosed m.history → m.cursor ≡ None → IsSound (happened (record (with_head m closed_word) { cursor = number_at (link_word (head m)) }) Close)
+  pub sound_close : ¬ IsClosed m.history → m.cursor ≡ None
+      → IsSound (happened (record (with_head m closed_word) { cursor = number_at (link_word (head m)) }) Close)
   sound_close unclosed still =
       let b = by_keepers m o in
       let n : ℕ = number_count m.layout in
@@ -199,7 +201,8 @@ module _ (m : Machine) (o : IsSound m) where
 
   pub sound_chain_busy : (k : ℕ) → k < m.layout.items → IsClosed m.history → IsRunning m.history → item_word m k ≢ 0 → IsSound (happened m (ChainBusy k))
   sound_chain_busy k item is runs set' =
-      sound_quiet m o (ChainBusy k) (tt, item, (is, runs, pending_from_set m o k (omega (arith, item)) set')) (λ j x. refl) refl refl refl (λ ks. refl) (quiet refl refl refl)
+      sound_quiet m o (ChainBusy k) (tt, item, (is, runs, pending_from_set m o k (omega (arith, item)) set')) (λ j x. refl) refl refl refl (λ ks. refl)
+      (quiet refl refl refl)
 
   -- where nothing is listed, nothing taken waits and nothing runs, as many ended as were accepted
   all_ended : m.cursor ≡ None → m.batch ≡ [] → ¬ IsRunning m.history → listed m.history ≡ [] → length (ended m.history) ≡ length (accepted m.history)

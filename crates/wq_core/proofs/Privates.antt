@@ -78,7 +78,8 @@ follow_set f default place n xs h i v other old k lt = get_or-set_other xs i (pl
 
 -- what sender s linked is a number of the queue that it keeps, and its link leads to the head that it has seen, which is not the closed one
 abbrev pub Linked : ℕ → List ℕ → Private → List Event → ℕ → ℕ → Type 0
-Linked n words p h s k = (k < n) × (keeper h k ≡ Sender s) × (link_to p.seen ≡ Some (get_or words (link_place k) 0)) × (get_or words (link_place k) 0 ≢ closed_word)
+Linked n words p h s k =
+    (k < n) × (keeper h k ≡ Sender s) × (link_to p.seen ≡ Some (get_or words (link_place k) 0)) × (get_or words (link_place k) 0 ≢ closed_word)
 
 abbrev pub AreLinked : ℕ → List ℕ → List Private → List Event → Type 0
 AreLinked n words seats h = (s k : ℕ) → (get_or seats s nothing_seen).linked ≡ Some k → Linked n words (get_or seats s nothing_seen) h s k

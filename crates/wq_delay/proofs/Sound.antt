@@ -58,7 +58,8 @@ even_back s i k w = omega arith
 
 pub sound_queued : (size k tries : ℕ) (r : Answer) (a b : Known) (now next : ℕ) (t : List Entry) → Answers k tries r a b
     → IsSound size (state a now next t) → IsSound size (state b now next t)
-sound_queued size k tries (answer.Queued is_first wakes) a b now next t told sound = sound_keeps _ _ size a b now next now t told.0 (even_pushed a.number k) sound
+sound_queued size k tries (answer.Queued is_first wakes) a b now next t told sound =
+    sound_keeps _ _ size a b now next now t told.0 (even_pushed a.number k) sound
 sound_queued size k tries answer.Pending a b now next t told sound = sound_keeps _ _ size a b now next now t told (λ j. refl) sound
 sound_queued size k tries answer.Closed a b now next t told sound =
     sound_keeps _ _ size a b now next now t told (λ j. even_back a.number k j why.Closed) sound

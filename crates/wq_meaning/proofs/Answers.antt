@@ -13,7 +13,8 @@ use Rattle.wq_meaning.specs.Queueing.{queue_answer}
 use Rattle.wq_meaning.specs.Arming.{queues_now, arm_answer, modify_answer}
 
 -- by the tests on which a queueing rests
-each_queueing : (set shut is_first wakes_it : Bool) → (if set then answer.Pending else if shut then answer.Closed else answer.Queued is_first wakes_it) ≢ answer.Contended
+each_queueing : (set shut is_first wakes_it : Bool)
+    → (if set then answer.Pending else if shut then answer.Closed else answer.Queued is_first wakes_it) ≢ answer.Contended
 each_queueing true shut is_first wakes_it = λ e. cc
 each_queueing false true is_first wakes_it = λ e. cc
 each_queueing false false is_first wakes_it = λ e. cc

@@ -160,7 +160,8 @@ module _ (layout : Layout) (s t : Seats) (h : List Event) (g : Seated layout s h
 
     off_told : (a : Modified) → on_table k s.delay.table.entries ≡ false → TellsFar a → ¬ (a ≡ modified.Memory) → ArmsAnew k delay 1 a s.delay d
         → IsModifiedSo a
-    off_told modified.WasIdle at far room (inl told) = armed_told (armed.Queued told.0 told.1) at (λ beyond. absurd (cc (far.1 beyond))) (λ e. cc) (λ e. cc) told.2
+    off_told modified.WasIdle at far room (inl told) =
+        armed_told (armed.Queued told.0 told.1) at (λ beyond. absurd (cc (far.1 beyond))) (λ e. cc) (λ e. cc) told.2
     off_told modified.WasIdle at far room (inr told) = armed_told armed.OnTable at (λ beyond. absurd (cc (far.1 beyond))) (λ e. cc) (λ e. cc) told
     off_told modified.Moved at far room told = absurd told
     off_told modified.Pending at far room told = armed_told armed.Pending at (λ beyond. absurd (cc (far.1 beyond))) (λ e. cc) (λ e. cc) told

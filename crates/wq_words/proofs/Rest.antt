@@ -158,7 +158,8 @@ module _ (h : List Event) where
   wakes_before_take from push s k begins le at none =
       let size : push < length h = slice_get_within h push _ at in
       let same : from + (push - from) ≡ push = omega (arith, le) in
-      elim (still_rests from (rests_at_stretch from begins) (push - from) (omega (arith, le, size)) (λ place from_le lt. none place from_le (omega (arith, lt, same)))) [
+      let none_there = λ (place : ℕ) (from_le : from ≤ place) (lt : place < from + (push - from)). none place from_le (omega (arith, lt, same)) in
+      elim (still_rests from (rests_at_stretch from begins) (push - from) (omega (arith, le, size)) none_there) [
         | inl still ↦ (push, le, omega arith, (s, k, at, ap (λ (i : ℕ). wakes (take i h)) (sym same) ∙ still))
         | inr woken ↦ (woken.0, woken.1, omega (arith, woken.2, same), woken.3)
       ]
