@@ -172,6 +172,13 @@ impl<W: Work> Worker<W> {
         let _ = &self.owner;
     }
 
+    /// How large the queue is.
+    pub fn layout(&self) -> Layout
+        ensures { result ≡ self.now.layout }
+    {
+        self.owner.layout()
+    }
+
     /// Executes the oldest number, after a take where nothing taken waits and the queue is open. What the work asks for is
     /// queued before the execution ends, by the worker's sender, or chained by the owner once the queue is closed. Where that
     /// is contended the execution is owed, and the next call goes on with it.

@@ -1,0 +1,81 @@
+-- One queue more in hand, and one more taken apart.
+use Rattle.std.proofs.Common.{◌≡◌, ℕ, zero, suc, ◌+◌, ◌<◌, ◌≤◌, List, [], ◌∷◌, ◌++◌, map, length, take, refl, sym, ap, ◌∙◌, subst, arith, length-append, All, Some, None, Option, slice_get}
+use Rattle.std.proofs.lemmas.List.{take_all}
+use Rattle.std.proofs.lemmas.List.Elements.{All-append}
+use Rattle.wq_words.specs.Legal.{IsComplete}
+use Rattle.wq_words.proofs.Growing.{take_more_some}
+use Rattle.wq_worker.specs.Book.{BookState}
+use Rattle.wq_pool.specs.declared.worker_id.WorkerId.{WorkerId}
+use Rattle.wq_pool.specs.Known.{SlotsState, TurnState, turn_id}
+use Rattle.wq_pool.specs.Drained.{IsDrained}
+use Rattle.wq_pool.specs.Finish.{AreFirst, AreComplete, IsLeftAt, LeavesOf, FirstLeft}
+use Rattle.wq_pool.specs.Finished.{IsFinished, AreFinished}
+use Rattle.wq_pool.specs.Slots.{IsWorkerAt}
+use Rattle.wq_pool.proofs.Draining.{left_complete}
+
+pub map_same : {A : Type 0} (xs : List A) → map (λ (x : A). x) xs ≡ xs
+map_same [] = refl
+map_same (x ∷ xs) = ap (λ ys. x ∷ ys) (map_same xs)
+
+map_last : {A B : Type 0} (f : A → B) (xs : List A) (x : A) → map f (xs ++ x ∷ []) ≡ map f xs ++ f x ∷ []
+map_last f [] x = refl
+map_last f (y ∷ ys) x = ap (λ zs. f y ∷ zs) (map_last f ys x)
+
+all_one : {A : Type 0} (P : A → Type 0) (x : A) → P x → All P (x ∷ [])
+all_one P x p zero d low = p
+all_one P x p (suc k) d low = absurd (omega arith)
+
+module _ {W : Type 0} where
+  pub first_more : (slots : SlotsState) (turns new : List (TurnState W)) (t : TurnState W) → AreFirst slots turns → length turns < length slots.workers
+      → t.slots ≡ slots.id → IsWorkerAt slots.workers (length turns) t.worker → new ≡ turns ++ t ∷ [] → AreFirst slots new
+  first_more slots turns new t first low here worker_is is =
+      let n = length turns in
+      let long : length (turns ++ t ∷ []) ≡ n + 1 = length-append turns (t ∷ []) in
+      subst (AreFirst slots) (sym is) record {
+        few = omega (arith, long, low);
+        slots_are = All-append (λ (u : TurnState W). u.slots ≡ slots.id) turns (t ∷ []) first.slots_are
+            (all_one (λ (u : TurnState W). u.slots ≡ slots.id) t here);
+        workers_are = map_last turn_id turns t
+            ∙ (ap (λ (ids : List WorkerId). ids ++ turn_id t ∷ []) first.workers_are
+            ∙ (sym (take_more_some slots.workers n (turn_id t) worker_is) ∙ ap (λ (k : ℕ). take k slots.workers) (sym long)));
+      }
+
+  -- something is left of the queue, or nothing is
+  pub left_more : (slots : SlotsState) (left left' : Option (ℕ × ℕ)) (turns new : List (TurnState W)) (t : TurnState W) (more : ℕ)
+      → LeavesOf slots turns left → FirstLeft left (length turns) more left' → IsWorkerAt slots.workers (length turns) t.worker → IsDrained more t.worker
+      → new ≡ turns ++ t ∷ [] → LeavesOf slots new left'
+  left_more slots (Some first) left' turns new t more old told worker_is drained is =
+      subst (λ (o : Option (ℕ × ℕ)). LeavesOf slots new o) (sym told) old
+  left_more slots None left' turns new t zero old told worker_is drained is =
+      subst (λ (o : Option (ℕ × ℕ)). LeavesOf slots new o) (sym told)
+      (subst (λ (ts : List (TurnState W)). AreComplete ts) (sym is)
+      (All-append (λ (u : TurnState W). IsComplete u.worker.seen) turns (t ∷ []) old
+      (all_one (λ (u : TurnState W). IsComplete u.worker.seen) t (left_complete t.worker drained))))
+  left_more slots None left' turns new t (suc more) old told worker_is drained is =
+      subst (λ (o : Option (ℕ × ℕ)). LeavesOf slots new o) (sym told)
+      record { worker = t.worker; worker_is = worker_is; drained = drained; some_left = omega arith }
+
+  pub all_complete : (slots : SlotsState) (left : Option (ℕ × ℕ)) (turns : List (TurnState W)) → left ≡ None → LeavesOf slots turns left → AreComplete turns
+  all_complete slots left turns is leaves = subst (λ (o : Option (ℕ × ℕ)). LeavesOf slots turns o) is leaves
+
+  pub is_left : (slots : SlotsState) (left : Option (ℕ × ℕ)) (turns : List (TurnState W)) (one : ℕ × ℕ) → left ≡ Some one → LeavesOf slots turns left
+      → IsLeftAt W slots.workers one.0 one.1
+  is_left slots left turns one is leaves = subst (λ (o : Option (ℕ × ℕ)). LeavesOf slots turns o) is leaves
+
+  pub all_workers : (slots : SlotsState) (turns : List (TurnState W)) → AreFirst slots turns → length turns ≡ length slots.workers
+      → map turn_id turns ≡ slots.workers
+  all_workers slots turns first all =
+      first.workers_are ∙ (ap (λ (k : ℕ). take k slots.workers) all ∙ take_all (length slots.workers) slots.workers (omega arith))
+
+  pub finished_more : (log : W → List ℕ) (ids : List WorkerId) (done : List (W × BookState)) (id : WorkerId) (one : W × BookState)
+      → AreFinished log ids done → IsFinished log id one → AreFinished log (ids ++ id ∷ []) (done ++ one ∷ [])
+  finished_more log [] [] id one all is = (is, tt)
+  finished_more log [] (d ∷ done) id one all is = absurd all
+  finished_more log (i ∷ ids) [] id one all is = absurd all
+  finished_more log (i ∷ ids) (d ∷ done) id one all is = (all.0, finished_more log ids done id one all.1 is)
+
+  pub finished_next : (log : W → List ℕ) (turns : List (TurnState W)) (t : TurnState W) (done new : List (W × BookState)) (one : W × BookState)
+      → AreFinished log (map turn_id turns) done → IsFinished log (turn_id t) one → new ≡ done ++ one ∷ [] → AreFinished log (map turn_id (turns ++ t ∷ [])) new
+  finished_next log turns t done new one all is new_is =
+      subst (λ (z : List WorkerId × List (W × BookState)). AreFinished log z.0 z.1) (λ i. (sym (map_last turn_id turns t) i, sym new_is i))
+      (finished_more log (map turn_id turns) done (turn_id t) one all is)

@@ -1,0 +1,27 @@
+-- A caller that goes on.
+use Rattle.std.proofs.Common.{◌≡◌, ℕ, List, [], ◌++◌, Option, Some, None, refl, sym, ◌∙◌, ap, subst, append_assoc}
+use Rattle.std.proofs.lemmas.List.{append-nil}
+use mathlib.Core.List.{IsPrefix}
+use Rattle.wq_ready.specs.declared.event.ReadyEvent.{ReadyEvent}
+use Rattle.wq_ready.specs.Answers.{Picks}
+use Rattle.wq_ready.specs.Known.{CallerState, IsSameCaller}
+use Rattle.wq_pool.specs.Pool.{GoesOnFrom}
+
+pub goes_still : (a : CallerState) → GoesOnFrom a a
+goes_still a = record { same = record { ready_is = refl; number_is = refl }; begins = ([], append-nil a.seen) }
+
+pub goes_on : (a b c : CallerState) → GoesOnFrom a b → GoesOnFrom b c → GoesOnFrom a c
+goes_on a b c p q = record {
+  same = record { ready_is = q.same.ready_is ∙ p.same.ready_is; number_is = q.same.number_is ∙ p.same.number_is };
+  begins = (
+    p.begins.0 ++ q.begins.0,
+    sym (append_assoc a.seen p.begins.0 q.begins.0) ∙ (ap (λ (z : List ReadyEvent). z ++ q.begins.0) p.begins.1 ∙ q.begins.1),
+  );
+}
+
+pub goes_by_pick : (r : Option ℕ) (a b : CallerState) → Picks r a b → GoesOnFrom a b
+goes_by_pick (Some q) a b t = record { same = t.same; begins = (t.grows.new, sym t.grows.is) }
+goes_by_pick None a b t = subst (λ (z : CallerState). GoesOnFrom a z) (sym t.0) (goes_still a)
+
+pub goes_between : (a a' b b' : CallerState) → a ≡ a' → b ≡ b' → GoesOnFrom a b → GoesOnFrom a' b'
+goes_between a a' b b' p q g = subst (λ (z : CallerState × CallerState). GoesOnFrom z.0 z.1) (λ i. (p i, q i)) g

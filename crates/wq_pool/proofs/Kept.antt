@@ -1,0 +1,183 @@
+-- Each step of a seat keeps the rule of the slots.
+use Rattle.std.proofs.Common.{◌≡◌, ◌≢◌, ℕ, zero, suc, ◌<◌, eqb, List, [], ◌∷◌, map, length, get_or, set, replicate, sym, refl, ap, ◌∙◌, subst, arith}
+use Rattle.std.proofs.Common.{length-set, get_or-set_same, get_or-set_other, eq-eqb, ne_eqb, Bool, Option, Some, None, slice_get, MatchBool, cond, inl, inr}
+use Rattle.std.proofs.lemmas.List.{length-replicate}
+use Rattle.std.proofs.lemmas.Option.{none-some}
+use mathlib.Core.Option.{some, none, some-injective, some-ne-none}
+use mathlib.Core.Logic.{dite}
+use native.Mathlib.Decide.{ℕ_discrete}
+use prog.Atomic.{either}
+use lib.ListN.{get_elem?}
+use lib.Seq.{set-get_or}
+use Rattle.atomic_table.specs.Table.{State, step, keeps, takes, gives, Act, Allows, Enters, stepped, opening, carried_after, Valid}
+use Rattle.atomic_table.proofs.Lists.{at_set, at_snoc, set_here, set_else, set_again}
+use Rattle.wq_worker.specs.State.{WorkerState}
+use Rattle.wq_pool.specs.declared.slots.Hand.{Hand}
+use Rattle.wq_pool.specs.declared.worker_id.WorkerId.{WorkerId}
+use Rattle.wq_pool.specs.WorkerId.{worker_id}
+use Rattle.wq_pool.specs.Slots.{KeptSlots, empty_hand, hand_with, IsWorkerAt, SlotSat, comes, picks_up, lays_down}
+
+abbrev SlotsNow : Type 0 → Type 0
+SlotsNow W = State (Option (WorkerState W)) Hand
+
+-- a hand is empty or has one queue
+empty_has : (workers : List WorkerId) (hand : Hand) (q : ℕ) → empty_hand workers ≡ hand → hand.queue ≡ Some q → ⊥
+empty_has workers hand q is has = none-some q (ap (λ (h : Hand). h.queue) is ∙ has)
+
+queue_in : Option ℕ → ℕ
+queue_in None = 0
+queue_in (Some q) = q
+
+one_queue : (workers : List WorkerId) (hand : Hand) (q k : ℕ) → hand_with workers q ≡ hand → hand.queue ≡ Some k → q ≡ k
+unfolding queue_in
+one_queue workers hand q k is has = ap queue_in (ap (λ (h : Hand). h.queue) is ∙ has)
+
+workers_of : (workers : List WorkerId) (hand : Hand) → empty_hand workers ≡ hand → hand.workers ≡ workers
+workers_of workers hand is = ap (λ (h : Hand). h.workers) (sym is)
+
+lone_seat : (workers : List WorkerId) (seat : ℕ) (hand : Hand) → get_elem? (empty_hand workers ∷ []) seat ≡ some hand → empty_hand workers ≡ hand
+lone_seat workers zero hand at = some-injective (empty_hand workers) hand at
+lone_seat workers (suc seat) hand at = absurd (some-ne-none hand (sym at))
+
+pub length-map : {A B : Type 0} (f : A → B) (xs : List A) → length (map f xs) ≡ length xs
+length-map f [] = refl
+length-map f (x ∷ xs) = ap suc (length-map f xs)
+
+module _ {W : Type 0} where
+  pub comes_allowed : (workers : List WorkerId) (slots q : ℕ)
+      → Enters (KeptSlots {W = W} workers) slots q (λ n hand. comes {W = W} (step slots q 0 0 none) (empty_hand workers, []) n (hand, []))
+  comes_allowed workers slots q s kept deep small = (
+    empty_hand workers,
+    record {
+      words_count = kept.words_count;
+      slots_count = kept.slots_count;
+      keeper = kept.keeper;
+      in_slot = kept.in_slot;
+      told = λ seat hand at. elim (at_snoc s.views (empty_hand workers) hand seat at) [
+        | inl old ↦ kept.told seat hand old
+        | inr is ↦ workers_of workers hand is
+      ];
+      in_hand = λ seat hand at k has. elim (at_snoc s.views (empty_hand workers) hand seat at) [
+        | inl old ↦ kept.in_hand seat hand old k has
+        | inr is ↦ absurd (empty_has workers hand k is has)
+      ];
+    },
+    refl,
+  )
+
+  -- what a picking up leaves, where the queue was in its slot or not
+  abbrev Leaves : List WorkerId → ℕ → ℕ → SlotsNow W → Bool → Type 0
+  Leaves workers seat q s found = (hand : Hand) × (act : Act (Option (WorkerState W))) × Valid s.homes [] act
+      × KeptSlots workers (stepped s q (either found 1 (get_or s.words q 0)) seat [] hand act)
+      × MatchBool found ((hand ≡ hand_with workers q) × (w : WorkerState W) × (carried_after [] act ≡ (q, Some w) ∷ []) × IsWorkerAt workers q w)
+      (◌≡◌ {A = SlotSat W} (hand, carried_after [] act) (empty_hand workers, []))
+
+  abbrev picked_state : List WorkerId → ℕ → ℕ → SlotsNow W → SlotsNow W
+  picked_state workers seat q s = record { words = set s.words q 1; homes = set s.homes q none; views = set s.views seat (hand_with workers q) }
+
+  picked : (workers : List WorkerId) (seat q : ℕ) (s : SlotsNow W) → q < length workers → KeptSlots workers s → get_or s.words q 0 ≡ 0
+      → KeptSlots workers (picked_state workers seat q s)
+  picked workers seat q s within kept free =
+      let wide = kept.words_count in
+      record {
+        words_count = length-set s.words q 1 ∙ kept.words_count;
+        slots_count = length-set s.homes q none ∙ kept.slots_count;
+        keeper = λ k. cond (eqb k q) seat (kept.keeper k);
+        in_slot = λ k low is_zero. dite (ℕ_discrete k q)
+            (λ same. let one : get_or (set s.words q 1) q 0 ≡ 1 = get_or-set_same s.words q 1 0 (omega arith) in
+            let none_left : get_or (set s.words q 1) q 0 ≡ 0 = subst (λ (z : ℕ). get_or (set s.words q 1) z 0 ≡ 0) same is_zero in absurd (omega arith))
+            (λ other. let old = kept.in_slot k low (sym (get_or-set_other s.words q k 1 0 (λ e. other (omega arith))) ∙ is_zero) in
+            (old.0, set_else s.homes q k none other ∙ old.1, old.2));
+        told = λ i hand at. elim (at_set s.views seat i (hand_with workers q) hand at) [
+          | inl mine ↦ ap (λ (h : Hand). h.workers) (sym mine.1)
+          | inr old ↦ kept.told i hand old.1
+        ];
+        in_hand = λ i hand at k has. elim (at_set s.views seat i (hand_with workers q) hand at) [
+          | inl mine ↦
+              subst (λ (z : ℕ). (z < length workers) × (get_or (set s.words q 1) z 0 ≡ 1) × (cond (eqb z q) seat (kept.keeper z) ≡ i))
+              (one_queue workers hand q k mine.1 has)
+              (within, get_or-set_same s.words q 1 0 (omega arith), ap (λ b. cond b seat (kept.keeper q)) (eq-eqb q q refl) ∙ sym mine.0)
+          | inr old ↦
+              let held = kept.in_hand i hand old.1 k has in let one = held.1 in
+              let apart : k ≢ q = λ e. let is_zero : get_or s.words k 0 ≡ 0 = subst (λ (z : ℕ). get_or s.words z 0 ≡ 0) (sym e) free in omega arith in
+              (held.0, get_or-set_other s.words q k 1 0 (λ e. apart (omega arith)) ∙ held.1, ap (λ b. cond b seat (kept.keeper k)) (ne_eqb k q apart) ∙ held.2)
+        ];
+      }
+
+  missed : (workers : List WorkerId) (seat q : ℕ) (s : SlotsNow W) → KeptSlots workers s → get_elem? s.views seat ≡ some (empty_hand workers)
+      → KeptSlots workers record { words = set s.words q (get_or s.words q 0); homes = s.homes; views = set s.views seat (empty_hand workers) }
+  missed workers seat q s kept at =
+      subst (λ (t : SlotsNow W). KeptSlots workers t)
+      (λ i. record { words = sym (set-get_or s.words q 0) i; homes = s.homes; views = sym (set_again s.views seat (empty_hand workers) at) i }) kept
+
+  picks_empty : (workers : List WorkerId) (slots seat q : ℕ) → q < length workers
+      → Allows (KeptSlots {W = W} workers) slots seat (empty_hand workers, []) q (λ n. either (eqb n 0) 1 n)
+      (picks_up {W = W} (step slots q 0 1 none) (empty_hand workers, []))
+  picks_empty workers slots seat q within s kept deep at small =
+      let n = get_or s.words q 0 in
+      dite (ℕ_discrete n 0)
+      (λ free. let lies = kept.in_slot q within free in
+      subst (Leaves workers seat q s) (sym (eq-eqb n 0 free))
+      (hand_with workers q, takes q (Some lies.0), lies.1, picked workers seat q s within kept free, (refl, lies.0, refl, lies.2)))
+      (λ out. subst (Leaves workers seat q s) (sym (ne_eqb n 0 out)) (empty_hand workers, keeps, tt, missed workers seat q s kept at, refl))
+
+  pub picks_allowed : (workers : List WorkerId) (slots seat q : ℕ) (me : SlotSat W) → q < length workers → me ≡ (empty_hand workers, [])
+      → Allows (KeptSlots {W = W} workers) slots seat me q (λ n. either (eqb n 0) 1 n) (picks_up {W = W} (step slots q 0 1 none) me)
+  picks_allowed workers slots seat q me within is =
+      subst (λ (m : SlotSat W). Allows (KeptSlots {W = W} workers) slots seat m q (λ n. either (eqb n 0) 1 n) (picks_up {W = W} (step slots q 0 1 none) m)) (sym is)
+      (picks_empty workers slots seat q within)
+
+  pub lays_allowed : (workers mine : List WorkerId) (slots seat q : ℕ) (w : WorkerState W) → IsWorkerAt mine q w
+      → Allows (KeptSlots {W = W} workers) slots seat (hand_with mine q, (q, Some w) ∷ []) q (λ _. 0)
+      (lays_down {W = W} (step slots q 0 0 none) (hand_with mine q, (q, Some w) ∷ []))
+  lays_allowed workers mine slots seat q w worker_is s kept deep at small =
+      let mine_is : mine ≡ workers = kept.told seat (hand_with mine q) at in
+      let held = kept.in_hand seat (hand_with mine q) at q refl in
+      let within = held.0 in let wide = kept.words_count in let homes = kept.slots_count in (
+        empty_hand mine,
+        gives,
+        tt,
+        record {
+          words_count = length-set s.words q 0 ∙ kept.words_count;
+          slots_count = length-set s.homes q (some (Some w)) ∙ kept.slots_count;
+          keeper = kept.keeper;
+          in_slot = λ k low is_zero. dite (ℕ_discrete k q)
+              (λ same. subst
+              (λ (z : ℕ). (v : WorkerState W) × (get_elem? (set s.homes q (some (Some w))) z ≡ some (some (Some v))) × IsWorkerAt workers z v) (sym same)
+              (w, set_here s.homes q (some (Some w)) (omega arith), subst (λ (ids : List WorkerId). IsWorkerAt ids q w) mine_is worker_is))
+              (λ other. let old = kept.in_slot k low (sym (get_or-set_other s.words q k 0 0 (λ e. other (omega arith))) ∙ is_zero) in
+              (old.0, set_else s.homes q k (some (Some w)) other ∙ old.1, old.2));
+          told = λ i hand at'. elim (at_set s.views seat i (empty_hand mine) hand at') [
+            | inl own ↦ ap (λ (h : Hand). h.workers) (sym own.1) ∙ mine_is
+            | inr old ↦ kept.told i hand old.1
+          ];
+          in_hand = λ i hand at' k has. elim (at_set s.views seat i (empty_hand mine) hand at') [
+            | inl own ↦ absurd (empty_has mine hand k own.1 has)
+            | inr old ↦
+                let theirs = kept.in_hand i hand old.1 k has in let other = old.0 in
+                let apart : k ≢ q = λ e. other (sym theirs.2 ∙ ap kept.keeper e ∙ held.2) in
+                (theirs.0, get_or-set_other s.words q k 0 0 (λ e. apart (omega arith)) ∙ theirs.1, theirs.2)
+          ];
+        },
+        refl,
+      )
+
+  at_start : (ws : List (WorkerState W)) (q : ℕ) → q < length (map worker_id ws)
+      → (w : WorkerState W) × (get_elem? (map some (map Some ws)) q ≡ some (some (Some w))) × IsWorkerAt (map worker_id ws) q w
+  at_start [] q low = absurd (omega arith)
+  at_start (w ∷ ws) zero low = (w, refl, refl)
+  at_start (w ∷ ws) (suc q) low = at_start ws q (omega arith)
+
+  -- the slots are made
+  pub opens : (ws : List (WorkerState W)) (words : List ℕ) (slots : List (Option (WorkerState W))) → words ≡ replicate (length ws) 0 → slots ≡ map Some ws
+      → KeptSlots (map worker_id ws) (opening words slots (empty_hand (map worker_id ws)))
+  opens ws words slots words_are slots_are =
+      let ids = map worker_id ws in
+      subst (λ (z : List ℕ × List (Option (WorkerState W))). KeptSlots ids (opening z.0 z.1 (empty_hand ids))) (λ i. (sym words_are i, sym slots_are i)) record {
+        words_count = length-replicate (length ws) 0 ∙ sym (length-map worker_id ws);
+        slots_count = length-map some (map Some ws) ∙ (length-map Some ws ∙ sym (length-map worker_id ws));
+        keeper = λ _. 0;
+        in_slot = λ q low is_zero. at_start ws q low;
+        told = λ seat hand at. workers_of ids hand (lone_seat ids seat hand at);
+        in_hand = λ seat hand at q has. absurd (empty_has ids hand q (lone_seat ids seat hand at) has);
+      }

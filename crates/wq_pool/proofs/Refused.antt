@@ -1,0 +1,219 @@
+-- After a rest that was refused the next take finds something.
+use Rattle.std.proofs.Common.{◌≡◌, ℕ, ◌+◌, ◌<◌, ◌≤◌, ◌==◌, ◌||◌, Bool, true, false, cond, List, [], ◌∷◌, ◌++◌, length, take, drop, None, inl, inr, refl, sym, ap, ◌∙◌, subst, arith, append_assoc}
+use Rattle.std.proofs.Common.{length-append, length-drop}
+use Rattle.std.specs.Prelude.{filter}
+use Rattle.std.proofs.lemmas.Bool.{or_parts}
+use Rattle.std.proofs.lemmas.Bool.Decides.{nat_tests}
+use Rattle.std.proofs.lemmas.List.{append-nil, length-take-le}
+use Rattle.std.proofs.lemmas.List.Elements.{filter-append, filter_map-append}
+use Rattle.std.proofs.lemmas.List.Sums.{fold_push}
+use Rattle.wq_words.specs.declared.layout.Layout.{Layout}
+use Rattle.wq_words.specs.declared.event.Event.{Event}
+use Rattle.wq_words.specs.declared.event.Event.TheVariants.{Hold, Busy, Push, Back, Take, Close, Begin, End, Chain, ChainBusy, Rest}
+use Rattle.wq_words.specs.History.{accepted_by, accepted, begun, is_take, taken, fresh, first, IsClosed}
+use Rattle.wq_words.specs.Legal.{IsLegal, IsComplete}
+use Rattle.wq_words.specs.Listed.{listed, listed_after}
+use Rattle.wq_words.specs.Rest.{wakes}
+use Rattle.wq_words.specs.Seen.{owner_seat, seat_of, own, is_ours, Grows}
+use Rattle.wq_words.proofs.Closed.{closed_from_open, open_from_closed}
+use Rattle.wq_words.proofs.Legal.{legal_front, legal_next}
+use Rattle.wq_words.proofs.Listed.{accepted_push_none, taken_push_same, taken_push_push, length-accepted, fresh-open}
+use Rattle.wq_words.proofs.Order.{in_order}
+use Rattle.wq_words.proofs.Prefixes.{prefix_length}
+use Rattle.wq_words.proofs.Rest.{wakes_quiet, wakes_push_work}
+use Rattle.wq_words.proofs.Seen.{own_rest}
+use Rattle.wq_live.specs.Batch.{batch, next_of}
+use Rattle.wq_live.specs.Rest.{MayNotRest}
+use Rattle.wq_worker.specs.Resting.{HasNoneLeft}
+use Rattle.wq_worker.specs.Seats.{Adds, taking, taking_of, NothingWaits, at_take, at_all}
+use Rattle.wq_worker.proofs.Closing.{legal_rest}
+use Rattle.wq_worker.proofs.Draining.{left_idle}
+use Rattle.wq_worker.proofs.Others.{none_waits, next_still}
+use Rattle.wq_worker.proofs.Owned.{filter-filter, owner_grows, owner_of_both, stays, quiet_none}
+
+-- of what came new the owner's events are those of what the worker's two seats added
+pub owner_new : (s n : ℕ) (xs v w : List Event) (adds : Adds s xs n v w) → own owner_seat adds.new ≡ own owner_seat xs
+owner_new s n xs v w adds =
+    sym (filter-filter (λ e. seat_of e == owner_seat) (is_ours s) (λ e none. (or_parts (seat_of e == s) (seat_of e == owner_seat) none).1) adds.new)
+    ∙ ap (own owner_seat) adds.ours
+
+-- what was taken and waits still does where the worker's seats add nothing
+pub next_kept : (layout : Layout) (s n : ℕ) (v w : List Event) → Adds s [] n v w → IsLegal layout w → next_of w ≡ next_of v
+next_kept layout s n v w adds legal = next_still layout v w adds.new adds.is legal (owner_new s n [] v w adds)
+
+-- a closed queue of which nothing is left has run to its end
+pub none_left_complete : (layout : Layout) (h : List Event) → IsLegal layout h → IsClosed h → HasNoneLeft h → IsComplete h
+none_left_complete layout h legal shut none =
+    (shut, omega (arith, left_idle layout h legal shut none.0, ap (length {A = ℕ}) (none_waits h none.1)))
+
+-- a queue at work stays at work while other seats alone add events
+at_work_still : (v new : List Event) → own owner_seat new ≡ [] → wakes v ≡ false → wakes (v ++ new) ≡ false
+at_work_still v [] none works = ap wakes (append-nil v) ∙ works
+at_work_still v (Push s k ∷ new) none works =
+    ap wakes (sym (append_assoc v (Push s k ∷ []) new))
+    ∙ at_work_still (v ++ Push s k ∷ []) new (own_rest owner_seat (Push s k) new none) (wakes_push_work v (Push s k) refl)
+at_work_still v (Hold s k ∷ new) none works =
+    ap wakes (sym (append_assoc v (Hold s k ∷ []) new))
+    ∙ at_work_still (v ++ Hold s k ∷ []) new (own_rest owner_seat (Hold s k) new none) (wakes_quiet v (Hold s k) refl refl ∙ works)
+at_work_still v (Busy s k ∷ new) none works =
+    ap wakes (sym (append_assoc v (Busy s k ∷ []) new))
+    ∙ at_work_still (v ++ Busy s k ∷ []) new (own_rest owner_seat (Busy s k) new none) (wakes_quiet v (Busy s k) refl refl ∙ works)
+at_work_still v (Back s k why ∷ new) none works =
+    ap wakes (sym (append_assoc v (Back s k why ∷ []) new))
+    ∙ at_work_still (v ++ Back s k why ∷ []) new (own_rest owner_seat (Back s k why) new none) (wakes_quiet v (Back s k why) refl refl ∙ works)
+at_work_still v (Take ∷ new) none works = absurd (cc)
+at_work_still v (Close ∷ new) none works = absurd (cc)
+at_work_still v (Begin k ∷ new) none works = absurd (cc)
+at_work_still v (End k ∷ new) none works = absurd (cc)
+at_work_still v (Chain k ∷ new) none works = absurd (cc)
+at_work_still v (ChainBusy k ∷ new) none works = absurd (cc)
+at_work_still v (Rest ∷ new) none works = absurd (cc)
+
+abbrev behind : List Event → List Event
+behind [] = []
+behind (e ∷ es) = es
+
+abbrev first_takes : List Event → Bool
+first_takes [] = false
+first_takes (e ∷ es) = is_take e
+
+-- a take stands behind an event that is none
+take_behind : (b : Bool) (e : Event) (es : List Event) → is_take e ≡ false → cond b (e ∷ es) es ≡ Take ∷ [] → es ≡ Take ∷ []
+take_behind true e es other is = let takes : is_take e ≡ true = ap first_takes is in absurd (cc (other, takes))
+take_behind false e es other is = is
+
+some_from : (n : ℕ) → (n == 0) ≡ false → 0 < n
+some_from n is = grind (arith, nat_tests)
+
+module _ (layout : Layout) where
+  -- no other seat takes
+  taken_step : (v : List Event) (e : Event) (new : List Event) → taken ((v ++ e ∷ []) ++ new) ≡ taken (v ++ e ∷ []) → taken (v ++ e ∷ []) ≡ taken v
+      → taken (v ++ e ∷ new) ≡ taken v
+  taken_step v e new later one = ap taken (sym (append_assoc v (e ∷ []) new)) ∙ (later ∙ one)
+
+  taken_still : (v new : List Event) → IsLegal layout (v ++ new) → own owner_seat new ≡ [] → taken (v ++ new) ≡ taken v
+  taken_still v [] legal none = ap taken (append-nil v)
+  taken_still v (Push s k ∷ new) legal none =
+      taken_step v (Push s k) new (taken_still (v ++ Push s k ∷ []) new (legal_rest layout v (Push s k) new legal) (own_rest owner_seat (Push s k) new none))
+      (taken_push_push v s k (closed_from_open v (legal_next layout v (Push s k) new legal).2.1))
+  taken_still v (Hold s k ∷ new) legal none =
+      taken_step v (Hold s k) new (taken_still (v ++ Hold s k ∷ []) new (legal_rest layout v (Hold s k) new legal) (own_rest owner_seat (Hold s k) new none))
+      (taken_push_same v (Hold s k) refl refl refl)
+  taken_still v (Busy s k ∷ new) legal none =
+      taken_step v (Busy s k) new (taken_still (v ++ Busy s k ∷ []) new (legal_rest layout v (Busy s k) new legal) (own_rest owner_seat (Busy s k) new none))
+      (taken_push_same v (Busy s k) refl refl refl)
+  taken_still v (Back s k why ∷ new) legal none =
+      taken_step v (Back s k why) new
+      (taken_still (v ++ Back s k why ∷ []) new (legal_rest layout v (Back s k why) new legal) (own_rest owner_seat (Back s k why) new none))
+      (taken_push_same v (Back s k why) refl refl refl)
+  taken_still v (Take ∷ new) legal none = absurd (cc)
+  taken_still v (Close ∷ new) legal none = absurd (cc)
+  taken_still v (Begin k ∷ new) legal none = absurd (cc)
+  taken_still v (End k ∷ new) legal none = absurd (cc)
+  taken_still v (Chain k ∷ new) legal none = absurd (cc)
+  taken_still v (ChainBusy k ∷ new) legal none = absurd (cc)
+  taken_still v (Rest ∷ new) legal none = absurd (cc)
+
+  -- a take takes all that was accepted
+  taken_all : (v : List Event) → IsLegal layout (v ++ Take ∷ []) → taken (v ++ Take ∷ []) ≡ length (accepted v)
+  taken_all v legal =
+      let none : listed (v ++ Take ∷ []) ≡ [] = fold_push listed_after [] v Take in
+      omega (arith, length-accepted layout (v ++ Take ∷ []) legal, ap (length {A = ℕ}) none, ap (length {A = ℕ}) (accepted_push_none v Take refl))
+
+  accepted_more : (v new : List Event) → length (accepted v) ≤ length (accepted (v ++ new))
+  accepted_more v new =
+      omega (arith, ap (length {A = ℕ}) (filter_map-append accepted_by v new), length-append (accepted v) (accepted new))
+
+  takes_step : (v : List Event) (e : Event) (new : List Event) → length (accepted (v ++ e ∷ [])) ≤ taken ((v ++ e ∷ []) ++ new)
+      → length (accepted v) ≤ taken (v ++ e ∷ new)
+  takes_step v e new later = omega (arith, accepted_more v (e ∷ []), later, ap taken (append_assoc v (e ∷ []) new))
+
+  -- and so does one that other seats' events surround
+  takes_later : (v new : List Event) → IsLegal layout (v ++ new) → own owner_seat new ≡ Take ∷ [] → length (accepted v) ≤ taken (v ++ new)
+  takes_later v [] legal one = absurd (cc)
+  takes_later v (Take ∷ new) legal one =
+      let l = legal_rest layout v Take new legal in
+      let none : own owner_seat new ≡ [] = ap behind one in
+      omega (
+        arith,
+        ap taken (append_assoc v (Take ∷ []) new),
+        taken_still (v ++ Take ∷ []) new l none,
+        taken_all v (legal_front layout (v ++ Take ∷ []) new l),
+      )
+  takes_later v (Push s k ∷ new) legal one =
+      takes_step v (Push s k) new
+      (takes_later (v ++ Push s k ∷ []) new (legal_rest layout v (Push s k) new legal) (take_behind (s == owner_seat) (Push s k) (own owner_seat new) refl one))
+  takes_later v (Hold s k ∷ new) legal one =
+      takes_step v (Hold s k) new
+      (takes_later (v ++ Hold s k ∷ []) new (legal_rest layout v (Hold s k) new legal) (take_behind (s == owner_seat) (Hold s k) (own owner_seat new) refl one))
+  takes_later v (Busy s k ∷ new) legal one =
+      takes_step v (Busy s k) new
+      (takes_later (v ++ Busy s k ∷ []) new (legal_rest layout v (Busy s k) new legal) (take_behind (s == owner_seat) (Busy s k) (own owner_seat new) refl one))
+  takes_later v (Back s k why ∷ new) legal one =
+      takes_step v (Back s k why) new
+      (takes_later (v ++ Back s k why ∷ []) new (legal_rest layout v (Back s k why) new legal)
+      (take_behind (s == owner_seat) (Back s k why) (own owner_seat new) refl one))
+  takes_later v (Close ∷ new) legal one = absurd (cc (ap first_takes one))
+  takes_later v (Begin k ∷ new) legal one = absurd (cc (ap first_takes one))
+  takes_later v (End k ∷ new) legal one = absurd (cc (ap first_takes one))
+  takes_later v (Chain k ∷ new) legal one = absurd (cc (ap first_takes one))
+  takes_later v (ChainBusy k ∷ new) legal one = absurd (cc (ap first_takes one))
+  takes_later v (Rest ∷ new) legal one = absurd (cc (ap first_takes one))
+
+  -- After the owner's last take something was pushed, and after the next take something waits.
+  pushed_waits : (before after c d new : List Event) → c ≡ before ++ Take ∷ after → own owner_seat after ≡ [] → IsLegal layout c → ¬ IsClosed c
+      → first c ≡ false → d ≡ c ++ new → own owner_seat new ≡ Take ∷ [] → IsLegal layout d → next_of d ≡ None → ⊥
+  pushed_waits before after c d new c_is none legal opens pushed d_is one later nothing =
+      let l : IsLegal layout ((before ++ Take ∷ []) ++ after) = legal_rest layout before Take after (subst (IsLegal layout) c_is legal) in
+      let m : IsLegal layout (before ++ Take ∷ []) = legal_front layout (before ++ Take ∷ []) after l in
+      let t : taken c ≡ length (accepted before) =
+      ap taken c_is ∙ (ap taken (sym (append_assoc before (Take ∷ []) after)) ∙ (taken_still (before ++ Take ∷ []) after l none ∙ taken_all before m)) in
+      let g : Grows owner_seat (Take ∷ []) 0 before c = record { new = Take ∷ after; is = c_is; mine = ap (λ (z : List Event). Take ∷ z) none; theirs = omega arith } in
+      let b : length (begun c) ≡ length (begun before) =
+      ap (length {A = ℕ}) ((owner_grows (Take ∷ []) 0 before c g).begun_is ∙ append-nil (begun before)) in
+      let o = in_order layout before (legal_front layout before (Take ∷ []) m) in
+      let few = prefix_length (begun before) (accepted before) o.begun_first in
+      let some : 0 < fresh c = some_from (fresh c) pushed in
+      let h : Grows owner_seat (Take ∷ []) 0 c d = record { new = new; is = d_is; mine = one; theirs = omega arith } in
+      let e : length (begun d) ≡ length (begun c) = ap (length {A = ℕ}) ((owner_grows (Take ∷ []) 0 c d h).begun_is ∙ append-nil (begun c)) in
+      let took : length (accepted c) ≤ taken d =
+      subst (λ (z : List Event). length (accepted c) ≤ taken z) (sym d_is) (takes_later c new (subst (IsLegal layout) d_is later) one) in
+      let empty : length (batch d) ≡ 0 = ap (length {A = ℕ}) (none_waits d nothing) in
+      let room = length-accepted layout d later in
+      let size : length (take (taken d) (accepted d)) ≡ taken d = length-take-le (taken d) (accepted d) (omega (arith, room)) in
+      omega (
+        arith,
+        t,
+        b,
+        few,
+        some,
+        e,
+        took,
+        empty,
+        size,
+        length-drop (length (begun d)) (take (taken d) (accepted d)),
+        length-accepted layout c legal,
+        fresh-open layout c legal opens,
+      )
+
+-- A worker of which nothing was left and whose rest was refused finds something by its next take.
+pub refused_waits : (layout : Layout) (s : ℕ) (b c d : List Event) → NothingWaits b → Adds s [] 0 b c → MayNotRest c → IsLegal layout c → ¬ IsClosed c
+    → next_of c ≡ None → Adds s (taking c) 0 c d → IsLegal layout d → next_of d ≡ None → ⊥
+refused_waits layout s b c d (at_all shut none) quiet why legal opens empty more later nothing =
+    let same = stays [] b c quiet_none (owner_of_both s [] 0 b c quiet) in opens (subst (λ (z : ℕ). 0 < z) (sym same.closes_same) shut)
+refused_waits layout s b c d (at_take before after b_is last none) quiet why legal opens empty more later nothing =
+    let c_is : c ≡ before ++ Take ∷ (after ++ quiet.new) =
+    quiet.is ∙ (ap (λ (z : List Event). z ++ quiet.new) b_is ∙ append_assoc before (Take ∷ after) quiet.new) in
+    let behind_none : own owner_seat (after ++ quiet.new) ≡ [] =
+    filter-append (λ e. seat_of e == owner_seat) after quiet.new
+    ∙ (ap (λ (z : List Event). z ++ own owner_seat quiet.new) last ∙ owner_new s 0 [] b c quiet) in
+    let works : wakes c ≡ false =
+    ap wakes c_is
+    ∙ (ap wakes (sym (append_assoc before (Take ∷ []) (after ++ quiet.new)))
+    ∙ at_work_still (before ++ Take ∷ []) (after ++ quiet.new) behind_none (wakes_push_work before Take refl)) in
+    let take_is : taking c ≡ Take ∷ [] = rw (empty, closed_from_open c opens) refl in
+    let one : own owner_seat more.new ≡ Take ∷ [] = owner_new s 0 (taking c) c d more ∙ ap (own owner_seat) take_is in
+    elim why [
+      | inl pushed ↦ pushed_waits layout before (after ++ quiet.new) c d more.new c_is behind_none legal opens pushed more.is one later nothing
+      | inr rests ↦ absurd (cc (works, rests))
+    ]

@@ -1,0 +1,8 @@
+use Rattle.std.proofs.Common.{◌≡◌, ◌≤◌, length}
+use Rattle.std.specs.Vec.{vec_len, vec_capacity}
+use Rattle.wq_pool.specs.Finish.{AreFirst, LeavesOf}
+use Rattle.wq_pool.proofs.finish.gather.Given as goal
+
+abbrev pub invariant-loop-queue : goal.invariant-loop-queue
+invariant-loop-queue g l =
+    AreFirst l.slots l.all.items × (vec_len l.all ≡ l.queue) × (length l.slots.workers ≤ vec_capacity l.all) × LeavesOf l.slots l.all.items l.left

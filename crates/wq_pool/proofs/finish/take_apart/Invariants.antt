@@ -1,0 +1,10 @@
+use Rattle.std.proofs.Common.{◌≡◌, ◌≤◌, map, length}
+use Rattle.std.specs.Vec.{vec_len, vec_capacity}
+use Rattle.wq_pool.specs.Finished.{AreFinished}
+use Rattle.wq_pool.specs.Known.{turn_id}
+use Rattle.wq_pool.proofs.finish.take_apart.Given as goal
+
+abbrev pub invariant-loop-worked : goal.invariant-loop-worked
+invariant-loop-worked g l =
+    (goal.iterator-loop-worked g).can_next l.worked-iterator × (goal.iterator-loop-worked g).is_finite l.worked-iterator
+    × AreFinished g.W.Work.log (map turn_id l.yielded) l.finished.items × (vec_len l.finished ≡ length l.yielded) × (vec_len l.fn.all ≤ vec_capacity l.finished)

@@ -1,0 +1,5 @@
+use Rattle.wq_pool.specs.Pool.{GoesOnFrom}
+use Rattle.wq_pool.proofs.pool.Pool.serve.Given as goal
+
+abbrev pub invariant-loop : goal.invariant-loop
+invariant-loop g l = GoesOnFrom l.initial.caller l.caller

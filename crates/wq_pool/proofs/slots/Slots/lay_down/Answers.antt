@@ -1,0 +1,15 @@
+use Rattle.std.proofs.Common.{rules, ap, sym, ◌∙◌, ◌≡◌, ◌<◌, subst}
+use Rattle.atomic_table.specs.Seated.{TableId}
+use Rattle.wq_pool.specs.Known.{SlotsState, TurnState}
+use Rattle.wq_pool.proofs.Hands.{lays_filled}
+use Rattle.wq_pool.proofs.slots.Slots.lay_down.Goals as goal
+
+pub swap-requires : goal.swap-requires
+swap-requires g c =
+    let w = c.worked in
+    let same : w.inside.seat.table_id ≡ c.self.inside.table.shared.table_id =
+    ap (λ (t : TurnState _). t.slots) w.view_is ∙ (c.requires ∙ sym (ap (λ (s : SlotsState). s.id) c.self.view_is)) in (
+      search rules,
+      subst (λ (t : TableId). w.inside.queue < t.words) same w.invariant.within,
+      lays_filled _ _ _ _ w.inside.seat.me _ _ w.invariant.taken w.invariant.worker_is c.exchange.ensures.3,
+    )

@@ -1,0 +1,11 @@
+pub mod Owes
+pub mod WorkerId
+pub mod Known
+pub mod Slots
+pub mod Steps
+pub mod Drained
+pub mod Finished
+pub mod Views
+pub mod Pool
+pub mod PoolView
+pub mod Finish

@@ -1,0 +1,20 @@
+-- What the calls of a pool say.
+use Rattle.std.specs.Prelude.{◌≡◌, ◌⊎◌, ℕ, ◌<◌, List, slice_get, Some}
+use mathlib.Core.List.{IsPrefix}
+use Rattle.wq_ready.specs.Known.{CallerState, IsSameCaller}
+use Rattle.wq_pool.specs.Known.{PoolState, TurnState}
+use Rattle.wq_pool.specs.Slots.{IsWorkerAt}
+
+-- no pool has so many queues
+abbrev pub IsNoPool : ℕ → Type 0
+IsNoPool count = (count ≡ 0) ⊎ (256 < count)
+
+-- the very queue of its number, in hand
+pub record IsTurnOf {W : Type 0} (pool : PoolState) (turn : TurnState W) : Type 0 where
+  pub slots_is : turn.slots ≡ pool.slots
+  pub worker_is : IsWorkerAt pool.workers turn.queue turn.worker
+
+-- the same caller, who has seen at least what it had seen
+pub record GoesOnFrom (old new : CallerState) : Type 0 where
+  pub same : IsSameCaller old new
+  pub begins : IsPrefix old.seen new.seen

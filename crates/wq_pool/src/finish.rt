@@ -1,0 +1,152 @@
+//! The end of a pool: every queue is closed and drained, and then all are taken apart.
+ghost use Rattle.std.specs.Prelude.{◌≡◌, ◌<◌, ◌≤◌, [], map, length, All, IfOk, IfErr, IfNone, IfSome};
+ghost use Rattle.std.specs.Vec.{vec_len, vec_capacity};
+ghost use Rattle.wq_pool.specs.Known.{turn_id};
+ghost use Rattle.wq_pool.specs.Finish.{AreFirst, AreComplete, LeavesOf, FirstLeft, IsPoolFault};
+ghost use Rattle.wq_pool.specs.Finished.{AreFinished};
+
+use crate::pool::Pool;
+use crate::slots::Slots;
+use crate::turn::Worked;
+use std::fmt;
+use thiserror::Error;
+use wq_worker::{Book, Work};
+
+/// A pool that could not be taken apart. It is given back.
+#[derive(Drop, Error)]
+pub enum PoolFault<W: Work> {
+    /// The queue is not in its slot. Those before it are closed, and so many were executed of each as the limit says, or all.
+    #[error("the queue {queue} is not in its slot")]
+    Out {
+        pool: Pool<W>,
+        queue: u32,
+    },
+    /// So many numbers of the queue are accepted and have not ended. All queues are closed.
+    #[error("{left} numbers of the queue {queue} are accepted and have not ended")]
+    Unfinished {
+        pool: Pool<W>,
+        queue: u32,
+        left: u32,
+    },
+    /// No memory could be had. No queue was touched.
+    #[error("no memory")]
+    Memory {
+        pool: Pool<W>,
+    },
+}
+
+impl<W: Work> fmt::Debug for PoolFault<W> {
+    fn fmt<O: fmt::Write>(&self, f: &mut fmt::Formatter<O>) -> fmt::Result {
+        match self {
+            PoolFault::Out { queue, .. } => f.debug_struct("Out").field("queue", queue).finish(),
+            PoolFault::Unfinished { queue, left, .. } => f
+                .debug_struct("Unfinished")
+                .field("queue", queue)
+                .field("left", left)
+                .finish(),
+            PoolFault::Memory { .. } => f.write_str("Memory"),
+        }
+    }
+}
+
+// The queues that were picked up, by place, each drained; the first of them of which something is left, and how much; and the
+// first queue that was out.
+struct Gathered<W: Work> {
+    all: Vec<Worked<W>>,
+    left: Option<(u32, u32)>,
+    out: Option<u32>,
+}
+
+fn first_left(left: Option<(u32, u32)>, queue: u32, more: u32) -> Option<(u32, u32)>
+    ensures { FirstLeft left queue more result }
+{
+    match left {
+        Some(first) => Some(first),
+        None => if more > 0 { Some((queue, more)) } else { None },
+    }
+}
+
+// Picks up each queue in turn, closes it, and executes up to so many of its numbers.
+fn gather<W: Work + Drop>(slots: &Slots<W>, mut all: Vec<Worked<W>>, limit: u32) -> Gathered<W>
+    requires room { (all.items ≡ []) × (length slots.now.workers ≤ vec_capacity all) }
+    ensures first { AreFirst slots.now result.all.items }
+    ensures all { IfNone result.out (length result.all.items ≡ length slots.now.workers) }
+    ensures left { LeavesOf slots.now result.all.items result.left }
+    ensures out { IfSome result.out (λ queue. queue < length slots.now.workers) }
+{
+    let mut left = None;
+    for queue in 0..slots.count() {
+        let Some(turn) = slots.pick_up(queue) else {
+            return Gathered {
+                all,
+                left,
+                out: Some(queue),
+            };
+        };
+        let mut worked = turn.into_worked();
+        let more = worked.drain(limit);
+        left = first_left(left, queue, more);
+        all.push_reserved(worked);
+    }
+    Gathered {
+        all,
+        left,
+        out: None,
+    }
+}
+
+fn lay_all<W: Work + Drop>(slots: &Slots<W>, mut all: Vec<Worked<W>>)
+    requires { All (λ worked. worked.slots ≡ slots.now.id) all.items }
+{
+    while let Some(worked) = all.pop() {
+        slots.lay_down(worked);
+    }
+}
+
+fn take_apart<W: Work + Drop>(all: Vec<Worked<W>>, mut finished: Vec<(W, Book)>) -> Vec<(W, Book)>
+    requires room { (finished.items ≡ []) × (vec_len all ≤ vec_capacity finished) }
+    requires complete { AreComplete all.items }
+    ensures { AreFinished W.log (map turn_id all.items) result.items }
+{
+    for worked in all {
+        finished.push_reserved(worked.into_parts());
+    }
+    finished
+}
+
+impl<W: Work + Drop> Pool<W> {
+    /// Closes every queue and executes what is left of each, up to so many numbers of each, and then takes all apart: the works and
+    /// the books, by place. Each queue is tried once: one that is in a turn is out.
+    ///
+    /// # Errors
+    /// `Memory` before any queue is touched; `Out` for the first queue that is not in its slot; `Unfinished` for the first queue
+    /// with something left. The pool is given back, with all queues in their slots that were there.
+    pub fn finish(self, limit: u32) -> Result<Vec<(W, Book)>, PoolFault<W>>
+        ensures finished { IfOk result (λ finished. AreFinished W.log self.workers finished.items) }
+        ensures fault { IfErr result (IsPoolFault self) }
+    {
+        let count = self.slots.count() as usize;
+        let Ok(all) = Vec::with_capacity(self.alloc, count) else {
+            return Err(PoolFault::Memory { pool: self });
+        };
+        let Ok(finished) = Vec::with_capacity(self.alloc, count) else {
+            return Err(PoolFault::Memory { pool: self });
+        };
+        let Gathered { all, left, out } = gather(&self.slots, all, limit);
+        match (out, left) {
+            (Some(queue), _) => {
+                lay_all(&self.slots, all);
+                Err(PoolFault::Out { pool: self, queue })
+            }
+            (None, Some((queue, left))) => {
+                lay_all(&self.slots, all);
+                Err(PoolFault::Unfinished {
+                    pool: self,
+                    queue,
+                    left,
+                })
+            }
+            (None, None) => Ok(take_apart(all, finished)),
+        }
+    }
+}

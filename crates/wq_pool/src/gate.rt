@@ -1,0 +1,10 @@
+//! What is called around each execution of an item.
+
+/// Called by the thread that has the queue in hand, around each execution of an item.
+pub trait Gate {
+    /// The item is about to be run.
+    fn before(&self, queue: u32, item: u32);
+
+    /// The item's execution has ended.
+    fn after(&self, queue: u32, item: u32);
+}

@@ -1,0 +1,162 @@
+//! A pool.
+ghost use Rattle.std.specs.Prelude.{◌≡◌, ◌↔◌, ◌<◌, ◌≤◌, Err, map, length, option_map, All, IfOk, IfErr, IfSome};
+ghost use Rattle.wq_words.specs.History.{IsRunning};
+ghost use Rattle.wq_ready.specs.declared.ready_queue.AnnounceError.TheVariants as announce_error;
+ghost use Rattle.wq_ready.specs.Answers.{Announces, Picks};
+ghost use Rattle.wq_ready.specs.Known.{IsCallerOf, new_callers};
+ghost use Rattle.wq_pool.specs.declared.pool.PoolError.TheVariants as pool_error;
+ghost use Rattle.wq_pool.specs.Known.{queue_in_turn};
+ghost use Rattle.wq_pool.specs.Pool.{IsTurnOf, IsNoPool};
+ghost use Rattle.wq_pool.specs.WorkerId.{worker_id};
+
+use crate::served::Served;
+use crate::slots::Slots;
+use crate::turn::{Turn, Worked};
+use std::alloc::Global;
+use std::marker::Model;
+use std::sync::Wait;
+use std::sync::atomic::AtomicU64;
+use std::sync::atomic::Ordering::SeqCst;
+use std::thread;
+use thiserror::Error;
+use wq_ready::{AnnounceError, Caller, ReadyQueue, Size};
+use wq_worker::Work;
+
+/// The most queues of a pool.
+const MOST_QUEUES: usize = 256;
+
+/// Why no pool was made.
+#[derive(Clone, Copy, Debug, PartialEq, Eq, Error)]
+pub enum PoolError {
+    /// No queue was handed in, or more than 256.
+    #[error("a pool has 1 to 256 queues")]
+    NoQueue,
+    /// No memory could be had.
+    #[error("no memory")]
+    Memory,
+}
+
+/// Queues, each by its place, and the ready queue of those that were announced. Threads share it by `&`. No call takes a lock,
+/// and none but `new`, `run` and `finish` takes memory.
+#[derive(Drop)]
+pub struct Pool<W: Work> {
+    pub(crate) slots: Slots<W>,
+    ready: ReadyQueue,
+    // How many queues have run their stop item.
+    pub(crate) stopped: AtomicU64,
+    pub(crate) alloc: Global,
+}
+
+impl<W: Work> Model for Pool<W> {
+    ghost use Rattle.wq_pool.specs.Known.{PoolState};
+
+    ghost Value = { PoolState };
+
+    ghost use Rattle.wq_pool.specs.PoolView.{pool_view, HasReadyQueue};
+
+    ghost view = { pool_view };
+
+    ghost invariant = { HasReadyQueue };
+}
+
+impl<W: Work + Drop> Pool<W> {
+    /// A pool of these queues, each known by its place, and its callers, each at its number. The queues stay as they are: one
+    /// whose worker has taken something is to be announced once, since no push says `wakes` before its first rest.
+    ///
+    /// # Errors
+    /// `NoQueue` exactly where no queue is handed in, or more than 256. What was handed in is dropped.
+    pub fn new(
+        alloc: Global,
+        queues: Vec<Served<W>>,
+        callers: u32,
+    ) -> Result<(Pool<W>, Vec<Caller>), PoolError>
+        ensures no_queue { (result ≡ Err pool_error.NoQueue) ↔ IsNoPool (length queues.items) }
+        ensures workers { IfOk result (λ r. r.0.workers ≡ map worker_id queues.items) }
+        ensures size { IfOk result (λ r. r.0.ready.size ≡ record { queues = length queues.items; callers = callers }) }
+        ensures callers { IfOk result (λ r. r.1.items ≡ new_callers r.0.ready callers) }
+        ensures ready { IfOk result (λ r. All (IsCallerOf r.0.ready) r.1.items) }
+    {
+        let count = queues.len();
+        if count == 0 || count > MOST_QUEUES {
+            return Err(PoolError::NoQueue);
+        }
+        let size = Size {
+            queues: count as u32,
+            callers,
+        };
+        let Ok(slots) = Slots::new(alloc, queues) else {
+            return Err(PoolError::Memory);
+        };
+        let Ok((ready, all)) = ReadyQueue::new(alloc, size) else {
+            return Err(PoolError::Memory);
+        };
+        let pool = Pool {
+            slots,
+            ready,
+            stopped: AtomicU64::new(0),
+            alloc,
+        };
+        Ok((pool, all))
+    }
+
+    /// Announces a queue: it waits behind all that were announced before. A sender whose answer says `wakes` announces its queue.
+    ///
+    /// # Errors
+    /// `NoQueue` exactly where the pool has no queue of this number. `Full` only where as many announcements waited, at one moment
+    /// of the call, as the pool has queues.
+    pub fn announce<R: Wait>(
+        &self,
+        rt: &R,
+        caller: &mut Caller,
+        queue: u32,
+    ) -> Result<(), AnnounceError>
+        requires { IsCallerOf self.now.ready caller.old }
+        ensures no_queue { (result ≡ Err announce_error.NoQueue) ↔ (length self.now.workers ≤ queue) }
+        ensures seen { Announces queue result caller.old caller.new }
+    {
+        self.ready.announce(rt, caller, queue)
+    }
+
+    /// Takes the queue that was announced first in hand. It waits while another has that queue. `None` only where nothing was
+    /// announced at one moment of the call.
+    pub fn pick<R: Wait>(&self, rt: &R, caller: &mut Caller) -> Option<Turn<W>>
+        requires { IsCallerOf self.now.ready caller.old }
+        ensures seen { Picks (option_map queue_in_turn result) caller.old caller.new }
+        ensures turn { IfSome result (IsTurnOf self.now) }
+        ensures idle { IfSome result (λ turn. ¬ IsRunning turn.worker.seen) }
+    {
+        match self.ready.pick(rt, caller) {
+            Some(queue) => Some(self.fetch(rt, queue)),
+            None => None,
+        }
+    }
+
+    // Tries until the queue is in its slot.
+    fn fetch<R: Wait>(&self, rt: &R, queue: u32) -> Turn<W>
+        requires { queue < length self.now.workers }
+        ensures turn { IsTurnOf self.now result }
+        ensures queue { result.queue ≡ queue }
+        ensures idle { ¬ IsRunning result.worker.seen }
+    {
+        for _ in rt.forever() {
+            if let Some(turn) = self.slots.pick_up(queue) {
+                return turn;
+            }
+            thread::yield_now();
+        }
+        unreachable!()
+    }
+
+    /// Lays a queue that was worked at in its slot again.
+    pub fn put_back(&self, caller: &mut Caller, mut worked: Worked<W>)
+        requires caller { IsCallerOf self.now.ready caller.old }
+        requires worked { worked.slots ≡ self.now.slots }
+        ensures { caller.new ≡ caller.old }
+    {
+        let _ = caller;
+        if worked.served.count_stop() {
+            self.stopped.fetch_add(1, SeqCst);
+        }
+        self.slots.lay_down(worked);
+    }
+}
