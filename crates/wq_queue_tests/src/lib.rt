@@ -1,4 +1,4 @@
-//! Tests of queues, workers, delay tables and ready queues by their public calls alone: what their contracts promise nobody.
+//! Tests of queues, workers and delay tables by their public calls alone: what their contracts promise nobody.
 //! Each module is named after the crate that it tests.
 #![tactic(auto)]
 
@@ -8,7 +8,5 @@ mod delay;
 mod live;
 #[cfg(test)]
 mod own_threads;
-#[cfg(test)]
-mod ready;
 #[cfg(test)]
 mod worker;

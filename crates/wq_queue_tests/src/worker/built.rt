@@ -1,8 +1,7 @@
-//! A worker, two queueings and a destroy: all that is required is proved by the contracts alone, so no proof file stands here.
-use crate::worker::team::Fixed;
+//! A worker, two queueings and a destroy, by the contracts alone: no proof file stands here.
+use crate::worker::team::{FIRST, Fixed, QUEUED};
 use std::alloc::Global;
 use std::test::Fail;
-use wq_live::Answer;
 use wq_words::Layout;
 use wq_worker::Worker;
 
@@ -14,21 +13,14 @@ fn run_two(alloc: Global) -> Option<usize> {
     };
     let mut sender = senders.pop()?;
     let first = sender.queue_tries(0, 1);
+    if sender.layout().items < 2 {
+        return None;
+    }
     let second = sender.queue_tries(1, 1);
     let Ok((work, _book)) = worker.destroy(2) else {
         return None;
     };
-    if first
-        == (Answer::Queued {
-            first: true,
-            wakes: true,
-        })
-        && second
-            == (Answer::Queued {
-                first: false,
-                wakes: false,
-            })
-    {
+    if first == FIRST && second == QUEUED {
         return Some(work.order.len());
     }
     None

@@ -1,3 +1,0 @@
-//! Ready queues, in one thread and in several.
-mod rows;
-mod threads;
