@@ -9,24 +9,23 @@ use Rattle.std.proofs.lemmas.List.Elements.{filter-append, filter_map-append}
 use Rattle.std.proofs.lemmas.List.Sums.{fold_push}
 use Rattle.wq_words.specs.declared.layout.Layout.{Layout}
 use Rattle.wq_words.specs.declared.event.Event.{Event}
-use Rattle.wq_words.specs.declared.event.Event.TheVariants.{Hold, Busy, Push, Back, Take, Close, Begin, End, Chain, ChainBusy, Rest}
+use Rattle.wq_words.specs.declared.event.Event.TheVariants.{Hold, Busy, Push, Back, Take}
 use Rattle.wq_words.specs.History.{accepted_by, accepted, begun, is_take, taken, fresh, first, IsClosed}
 use Rattle.wq_words.specs.Legal.{IsLegal, IsComplete}
 use Rattle.wq_words.specs.Listed.{listed, listed_after}
 use Rattle.wq_words.specs.Rest.{wakes}
 use Rattle.wq_words.specs.Seen.{owner_seat, seat_of, own, is_ours, Grows}
 use Rattle.wq_words.proofs.Closed.{closed_from_open, open_from_closed}
-use Rattle.wq_words.proofs.Legal.{legal_front, legal_next}
+use Rattle.wq_words.proofs.Legal.{legal_front, legal_next, legal_rest}
 use Rattle.wq_words.proofs.Listed.{accepted_push_none, taken_push_same, taken_push_push, length-accepted, fresh-open}
 use Rattle.wq_words.proofs.Order.{in_order}
 use Rattle.wq_words.proofs.Prefixes.{prefix_length}
 use Rattle.wq_words.proofs.Rest.{wakes_quiet, wakes_push_work}
-use Rattle.wq_words.proofs.Seen.{own_rest}
+use Rattle.wq_words.proofs.OtherSeats.{others_keep, surrounds}
 use Rattle.wq_live.specs.Batch.{batch, next_of}
 use Rattle.wq_live.specs.Rest.{MayNotRest}
 use Rattle.wq_worker.specs.Resting.{HasNoneLeft}
 use Rattle.wq_worker.specs.Seats.{Adds, taking, taking_of, NothingWaits, at_take, at_all}
-use Rattle.wq_worker.proofs.Closing.{legal_rest}
 use Rattle.wq_worker.proofs.Draining.{left_idle}
 use Rattle.wq_worker.proofs.Others.{none_waits, next_still}
 use Rattle.wq_worker.proofs.Owned.{filter-filter, owner_grows, owner_of_both, stays, quiet_none}
@@ -47,72 +46,28 @@ none_left_complete layout h legal shut none =
     (shut, omega (arith, left_idle layout h legal shut none.0, ap (length {A = ℕ}) (none_waits h none.1)))
 
 -- a queue at work stays at work while other seats alone add events
-at_work_still : (v new : List Event) → own owner_seat new ≡ [] → wakes v ≡ false → wakes (v ++ new) ≡ false
-at_work_still v [] none works = ap wakes (append-nil v) ∙ works
-at_work_still v (Push s k ∷ new) none works =
-    ap wakes (sym (append_assoc v (Push s k ∷ []) new))
-    ∙ at_work_still (v ++ Push s k ∷ []) new (own_rest owner_seat (Push s k) new none) (wakes_push_work v (Push s k) refl)
-at_work_still v (Hold s k ∷ new) none works =
-    ap wakes (sym (append_assoc v (Hold s k ∷ []) new))
-    ∙ at_work_still (v ++ Hold s k ∷ []) new (own_rest owner_seat (Hold s k) new none) (wakes_quiet v (Hold s k) refl refl ∙ works)
-at_work_still v (Busy s k ∷ new) none works =
-    ap wakes (sym (append_assoc v (Busy s k ∷ []) new))
-    ∙ at_work_still (v ++ Busy s k ∷ []) new (own_rest owner_seat (Busy s k) new none) (wakes_quiet v (Busy s k) refl refl ∙ works)
-at_work_still v (Back s k why ∷ new) none works =
-    ap wakes (sym (append_assoc v (Back s k why ∷ []) new))
-    ∙ at_work_still (v ++ Back s k why ∷ []) new (own_rest owner_seat (Back s k why) new none) (wakes_quiet v (Back s k why) refl refl ∙ works)
-at_work_still v (Take ∷ new) none works = absurd (cc)
-at_work_still v (Close ∷ new) none works = absurd (cc)
-at_work_still v (Begin k ∷ new) none works = absurd (cc)
-at_work_still v (End k ∷ new) none works = absurd (cc)
-at_work_still v (Chain k ∷ new) none works = absurd (cc)
-at_work_still v (ChainBusy k ∷ new) none works = absurd (cc)
-at_work_still v (Rest ∷ new) none works = absurd (cc)
-
-abbrev behind : List Event → List Event
-behind [] = []
-behind (e ∷ es) = es
-
-abbrev first_takes : List Event → Bool
-first_takes [] = false
-first_takes (e ∷ es) = is_take e
-
--- a take stands behind an event that is none
-take_behind : (b : Bool) (e : Event) (es : List Event) → is_take e ≡ false → cond b (e ∷ es) es ≡ Take ∷ [] → es ≡ Take ∷ []
-take_behind true e es other is = let takes : is_take e ≡ true = ap first_takes is in absurd (cc (other, takes))
-take_behind false e es other is = is
+at_work_still : (layout : Layout) (v new : List Event) → IsLegal layout (v ++ new) → own owner_seat new ≡ [] → wakes v ≡ false → wakes (v ++ new) ≡ false
+at_work_still layout =
+    others_keep layout (λ w. wakes w ≡ false) (record {
+      push = λ w s k l works. wakes_push_work w (Push s k) refl;
+      hold = λ w s k works. wakes_quiet w (Hold s k) refl refl ∙ works;
+      busy = λ w s k works. wakes_quiet w (Busy s k) refl refl ∙ works;
+      back = λ w s k why works. wakes_quiet w (Back s k why) refl refl ∙ works;
+    })
 
 some_from : (n : ℕ) → (n == 0) ≡ false → 0 < n
 some_from n is = grind (arith, nat_tests)
 
 module _ (layout : Layout) where
   -- no other seat takes
-  taken_step : (v : List Event) (e : Event) (new : List Event) → taken ((v ++ e ∷ []) ++ new) ≡ taken (v ++ e ∷ []) → taken (v ++ e ∷ []) ≡ taken v
-      → taken (v ++ e ∷ new) ≡ taken v
-  taken_step v e new later one = ap taken (sym (append_assoc v (e ∷ []) new)) ∙ (later ∙ one)
-
   taken_still : (v new : List Event) → IsLegal layout (v ++ new) → own owner_seat new ≡ [] → taken (v ++ new) ≡ taken v
-  taken_still v [] legal none = ap taken (append-nil v)
-  taken_still v (Push s k ∷ new) legal none =
-      taken_step v (Push s k) new (taken_still (v ++ Push s k ∷ []) new (legal_rest layout v (Push s k) new legal) (own_rest owner_seat (Push s k) new none))
-      (taken_push_push v s k (closed_from_open v (legal_next layout v (Push s k) new legal).2.1))
-  taken_still v (Hold s k ∷ new) legal none =
-      taken_step v (Hold s k) new (taken_still (v ++ Hold s k ∷ []) new (legal_rest layout v (Hold s k) new legal) (own_rest owner_seat (Hold s k) new none))
-      (taken_push_same v (Hold s k) refl refl refl)
-  taken_still v (Busy s k ∷ new) legal none =
-      taken_step v (Busy s k) new (taken_still (v ++ Busy s k ∷ []) new (legal_rest layout v (Busy s k) new legal) (own_rest owner_seat (Busy s k) new none))
-      (taken_push_same v (Busy s k) refl refl refl)
-  taken_still v (Back s k why ∷ new) legal none =
-      taken_step v (Back s k why) new
-      (taken_still (v ++ Back s k why ∷ []) new (legal_rest layout v (Back s k why) new legal) (own_rest owner_seat (Back s k why) new none))
-      (taken_push_same v (Back s k why) refl refl refl)
-  taken_still v (Take ∷ new) legal none = absurd (cc)
-  taken_still v (Close ∷ new) legal none = absurd (cc)
-  taken_still v (Begin k ∷ new) legal none = absurd (cc)
-  taken_still v (End k ∷ new) legal none = absurd (cc)
-  taken_still v (Chain k ∷ new) legal none = absurd (cc)
-  taken_still v (ChainBusy k ∷ new) legal none = absurd (cc)
-  taken_still v (Rest ∷ new) legal none = absurd (cc)
+  taken_still v new legal none =
+      others_keep layout (λ w. taken w ≡ taken v) (record {
+        push = λ w s k l same. taken_push_push w s k (closed_from_open w (legal_next layout w (Push s k) [] l).2.1) ∙ same;
+        hold = λ w s k same. taken_push_same w (Hold s k) refl refl refl ∙ same;
+        busy = λ w s k same. taken_push_same w (Busy s k) refl refl refl ∙ same;
+        back = λ w s k why same. taken_push_same w (Back s k why) refl refl refl ∙ same;
+      }) v new legal none refl
 
   -- a take takes all that was accepted
   taken_all : (v : List Event) → IsLegal layout (v ++ Take ∷ []) → taken (v ++ Take ∷ []) ≡ length (accepted v)
@@ -124,41 +79,20 @@ module _ (layout : Layout) where
   accepted_more v new =
       omega (arith, ap (length {A = ℕ}) (filter_map-append accepted_by v new), length-append (accepted v) (accepted new))
 
-  takes_step : (v : List Event) (e : Event) (new : List Event) → length (accepted (v ++ e ∷ [])) ≤ taken ((v ++ e ∷ []) ++ new)
-      → length (accepted v) ≤ taken (v ++ e ∷ new)
-  takes_step v e new later = omega (arith, accepted_more v (e ∷ []), later, ap taken (append_assoc v (e ∷ []) new))
-
   -- and so does one that other seats' events surround
   takes_later : (v new : List Event) → IsLegal layout (v ++ new) → own owner_seat new ≡ Take ∷ [] → length (accepted v) ≤ taken (v ++ new)
-  takes_later v [] legal one = absurd (cc)
-  takes_later v (Take ∷ new) legal one =
-      let l = legal_rest layout v Take new legal in
-      let none : own owner_seat new ≡ [] = ap behind one in
+  takes_later v new legal one =
+      let t = surrounds owner_seat Take new one in
+      let is : v ++ new ≡ ((v ++ t.front) ++ Take ∷ []) ++ t.behind =
+      ap (λ (x : List Event). v ++ x) t.is ∙ (sym (append_assoc v t.front (Take ∷ t.behind)) ∙ sym (append_assoc (v ++ t.front) (Take ∷ []) t.behind)) in
+      let l : IsLegal layout (((v ++ t.front) ++ Take ∷ []) ++ t.behind) = subst (IsLegal layout) is legal in
       omega (
         arith,
-        ap taken (append_assoc v (Take ∷ []) new),
-        taken_still (v ++ Take ∷ []) new l none,
-        taken_all v (legal_front layout (v ++ Take ∷ []) new l),
+        accepted_more v t.front,
+        taken_all (v ++ t.front) (legal_front layout ((v ++ t.front) ++ Take ∷ []) t.behind l),
+        taken_still ((v ++ t.front) ++ Take ∷ []) t.behind l t.behind_none,
+        ap taken is,
       )
-  takes_later v (Push s k ∷ new) legal one =
-      takes_step v (Push s k) new
-      (takes_later (v ++ Push s k ∷ []) new (legal_rest layout v (Push s k) new legal) (take_behind (s == owner_seat) (Push s k) (own owner_seat new) refl one))
-  takes_later v (Hold s k ∷ new) legal one =
-      takes_step v (Hold s k) new
-      (takes_later (v ++ Hold s k ∷ []) new (legal_rest layout v (Hold s k) new legal) (take_behind (s == owner_seat) (Hold s k) (own owner_seat new) refl one))
-  takes_later v (Busy s k ∷ new) legal one =
-      takes_step v (Busy s k) new
-      (takes_later (v ++ Busy s k ∷ []) new (legal_rest layout v (Busy s k) new legal) (take_behind (s == owner_seat) (Busy s k) (own owner_seat new) refl one))
-  takes_later v (Back s k why ∷ new) legal one =
-      takes_step v (Back s k why) new
-      (takes_later (v ++ Back s k why ∷ []) new (legal_rest layout v (Back s k why) new legal)
-      (take_behind (s == owner_seat) (Back s k why) (own owner_seat new) refl one))
-  takes_later v (Close ∷ new) legal one = absurd (cc (ap first_takes one))
-  takes_later v (Begin k ∷ new) legal one = absurd (cc (ap first_takes one))
-  takes_later v (End k ∷ new) legal one = absurd (cc (ap first_takes one))
-  takes_later v (Chain k ∷ new) legal one = absurd (cc (ap first_takes one))
-  takes_later v (ChainBusy k ∷ new) legal one = absurd (cc (ap first_takes one))
-  takes_later v (Rest ∷ new) legal one = absurd (cc (ap first_takes one))
 
   -- After the owner's last take something was pushed, and after the next take something waits.
   pushed_waits : (before after c d new : List Event) → c ≡ before ++ Take ∷ after → own owner_seat after ≡ [] → IsLegal layout c → ¬ IsClosed c
@@ -210,7 +144,8 @@ refused_waits layout s b c d (at_take before after b_is last none) quiet why leg
     let works : wakes c ≡ false =
     ap wakes c_is
     ∙ (ap wakes (sym (append_assoc before (Take ∷ []) (after ++ quiet.new)))
-    ∙ at_work_still (before ++ Take ∷ []) (after ++ quiet.new) behind_none (wakes_push_work before Take refl)) in
+    ∙ at_work_still layout (before ++ Take ∷ []) (after ++ quiet.new) (subst (IsLegal layout) (c_is ∙ sym (append_assoc before (Take ∷ []) (after ++ quiet.new))) legal) behind_none
+    (wakes_push_work before Take refl)) in
     let take_is : taking c ≡ Take ∷ [] = rw (empty, closed_from_open c opens) refl in
     let one : own owner_seat more.new ≡ Take ∷ [] = owner_new s 0 (taking c) c d more ∙ ap (own owner_seat) take_is in
     elim why [

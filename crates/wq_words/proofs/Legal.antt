@@ -22,6 +22,9 @@ pub legal_front : (layout : Layout) (h rest : List Event) → IsLegal layout (h 
 legal_front layout h rest legal place e at =
     rw (take_append h rest place e at) at (legal place e (slice_get_append h rest place e at))
 
+pub legal_rest : (layout : Layout) (h : List Event) (e : Event) (rest : List Event) → IsLegal layout (h ++ e ∷ rest) → IsLegal layout ((h ++ e ∷ []) ++ rest)
+legal_rest layout h e rest legal = subst (IsLegal layout) (sym (append_assoc h (e ∷ []) rest)) legal
+
 pub legal_next : (layout : Layout) (h : List Event) (e : Event) (rest : List Event) → IsLegal layout (h ++ e ∷ rest) → IsAllowed layout h e
 legal_next layout h e rest legal = rw (take_length h (e ∷ rest)) at (legal (length h) e (slice_get_last h e rest))
 

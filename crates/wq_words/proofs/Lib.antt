@@ -10,6 +10,7 @@ pub mod Places
 pub mod Ranks
 pub mod Headlines
 pub mod Seen
+pub mod OtherSeats
 pub mod DelayTable
 pub mod Counting
 pub mod Appended

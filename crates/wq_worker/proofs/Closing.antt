@@ -4,7 +4,7 @@ use Rattle.std.proofs.Common.{◌∙◌, subst, arith, append_assoc}
 use Rattle.std.proofs.lemmas.List.{append-nil, take_all}
 use Rattle.std.proofs.lemmas.List.Elements.{filter-append}
 use Rattle.wq_words.specs.declared.event.Event.{Event}
-use Rattle.wq_words.specs.declared.event.Event.TheVariants.{Hold, Busy, Push, Back, Take, Close, Begin, End, Chain, ChainBusy, Rest}
+use Rattle.wq_words.specs.declared.event.Event.TheVariants.{Hold, Busy, Push, Back, Take, Close}
 use Rattle.wq_words.specs.declared.layout.Layout.{Layout}
 use Rattle.wq_words.specs.History.{accepted_by, accepted, begun, is_close, IsClosed}
 use Rattle.wq_words.specs.Legal.{IsLegal}
@@ -12,7 +12,7 @@ use Rattle.wq_words.proofs.Listed.{taken_closed, accepted_push_none}
 use Rattle.wq_words.proofs.Closed.{closed_from_IsClosed}
 use Rattle.wq_words.proofs.Legal.{legal_next}
 use Rattle.wq_words.specs.Seen.{owner_seat, seat_of, own, Grows}
-use Rattle.wq_words.proofs.Seen.{own_rest}
+use Rattle.wq_words.proofs.OtherSeats.{others_keep}
 use Rattle.wq_live.specs.Batch.{batch, next_of, TakesAll}
 use Rattle.wq_worker.specs.Seats.{NothingWaits, at_take, at_all}
 use Rattle.wq_worker.proofs.Owned.{owner_grows, quiet_none, Stays, stays}
@@ -21,34 +21,20 @@ use Rattle.wq_words.proofs.Appended.{count_by-append}
 pub still_closed : (v w : List Event) → IsClosed v → IsClosed (v ++ w)
 still_closed v w shut = omega (arith, count_by-append is_close v w, shut)
 
-module _ (layout : Layout) where
-  accepted_more : (v : List Event) (e : Event) (new : List Event) → accepted_by e ≡ None → accepted ((v ++ e ∷ []) ++ new) ≡ accepted (v ++ e ∷ [])
-      → accepted (v ++ e ∷ new) ≡ accepted v
-  accepted_more v e new passes rest = ap accepted (sym (append_assoc v (e ∷ []) new)) ∙ (rest ∙ accepted_push_none v e passes)
-
-  pub legal_rest : (v : List Event) (e : Event) (new : List Event) → IsLegal layout (v ++ e ∷ new) → IsLegal layout ((v ++ e ∷ []) ++ new)
-  legal_rest v e new legal = subst (IsLegal layout) (sym (append_assoc v (e ∷ []) new)) legal
-
-  -- a closed queue accepts nothing but by its owner
-  pub accepted_closed : (v new : List Event) → IsLegal layout (v ++ new) → IsClosed v → own owner_seat new ≡ [] → accepted (v ++ new) ≡ accepted v
-  accepted_closed v [] legal shut none = ap accepted (append-nil v)
-  accepted_closed v (Push s k ∷ new) legal shut none = absurd ((legal_next layout v (Push s k) new legal).2.1 shut)
-  accepted_closed v (Hold s k ∷ new) legal shut none =
-      accepted_more v (Hold s k) new refl (accepted_closed (v ++ Hold s k ∷ []) new (legal_rest v (Hold s k) new legal)
-      (still_closed v (Hold s k ∷ []) shut) (own_rest owner_seat (Hold s k) new none))
-  accepted_closed v (Busy s k ∷ new) legal shut none =
-      accepted_more v (Busy s k) new refl (accepted_closed (v ++ Busy s k ∷ []) new (legal_rest v (Busy s k) new legal)
-      (still_closed v (Busy s k ∷ []) shut) (own_rest owner_seat (Busy s k) new none))
-  accepted_closed v (Back s k why ∷ new) legal shut none =
-      accepted_more v (Back s k why) new refl (accepted_closed (v ++ Back s k why ∷ []) new (legal_rest v (Back s k why) new legal)
-      (still_closed v (Back s k why ∷ []) shut) (own_rest owner_seat (Back s k why) new none))
-  accepted_closed v (Take ∷ new) legal shut none = absurd (cc)
-  accepted_closed v (Close ∷ new) legal shut none = absurd (cc)
-  accepted_closed v (Begin k ∷ new) legal shut none = absurd (cc)
-  accepted_closed v (End k ∷ new) legal shut none = absurd (cc)
-  accepted_closed v (Chain k ∷ new) legal shut none = absurd (cc)
-  accepted_closed v (ChainBusy k ∷ new) legal shut none = absurd (cc)
-  accepted_closed v (Rest ∷ new) legal shut none = absurd (cc)
+-- a closed queue accepts nothing but by its owner
+pub accepted_closed : (layout : Layout) (v new : List Event) → IsLegal layout (v ++ new) → IsClosed v → own owner_seat new ≡ []
+    → accepted (v ++ new) ≡ accepted v
+accepted_closed layout v new legal shut none =
+    (others_keep layout (λ w. IsClosed w × (accepted w ≡ accepted v)) (record {
+      push = λ w s k l p. absurd ((legal_next layout w (Push s k) [] l).2.1 p.0);
+      hold = λ w s k. quiet w (Hold s k) refl;
+      busy = λ w s k. quiet w (Busy s k) refl;
+      back = λ w s k why. quiet w (Back s k why) refl;
+    }) v new legal none (shut, refl)).1
+  where
+    quiet : (w : List Event) (e : Event) → accepted_by e ≡ None → IsClosed w × (accepted w ≡ accepted v)
+        → IsClosed (w ++ e ∷ []) × (accepted (w ++ e ∷ []) ≡ accepted v)
+    quiet w e passes p = (still_closed w (e ∷ []) p.0, accepted_push_none w e passes ∙ p.1)
 
 pub batch-closed : (h : List Event) → IsClosed h → batch h ≡ drop (length (begun h)) (accepted h)
 batch-closed h shut =

@@ -1,20 +1,20 @@
 -- What the owner knows of its batch, and of why it does not rest, stays while others alone add events.
-use Rattle.std.proofs.Common.{◌≡◌, ℕ, ◌<◌, ◌≤◌, ◌==◌, false, List, [], ◌∷◌, ◌++◌, length, drop, None, slice_get, inl, inr, refl, sym, ap, ◌∙◌, subst, arith, append_assoc}
+use Rattle.std.proofs.Common.{◌≡◌, ℕ, ◌<◌, ◌≤◌, ◌==◌, false, List, [], ◌∷◌, ◌++◌, length, drop, None, slice_get, inl, inr, refl, sym, ap, ◌∙◌, subst, arith}
 use Rattle.std.proofs.lemmas.Bool.Decides.{nat_tests}
 use Rattle.std.proofs.lemmas.List.{append-nil, take-append-le}
 use Rattle.wq_words.specs.declared.layout.Layout.{Layout}
 use Rattle.wq_words.specs.declared.event.Event.{Event}
-use Rattle.wq_words.specs.declared.event.Event.TheVariants.{Hold, Busy, Push, Back, Take, Close, Begin, End, Chain, ChainBusy, Rest}
+use Rattle.wq_words.specs.declared.event.Event.TheVariants.{Hold, Busy, Push, Back}
 use Rattle.wq_words.specs.History.{accepted_by, accepted, begun_by, begun, taken, fresh, is_push, is_close, is_take}
 use Rattle.wq_words.specs.Legal.{IsLegal}
-use Rattle.wq_words.specs.Rest.{wakes}
+use Rattle.wq_words.specs.Rest.{wakes, is_rest, is_push_or_take}
 use Rattle.wq_words.specs.Seen.{owner_seat, own}
 use Rattle.wq_words.proofs.Closed.{closed_from_open}
 use Rattle.wq_words.proofs.Growing.{filter_map_push_some, filter_map_push_none}
 use Rattle.wq_words.proofs.Legal.{legal_front, legal_next}
+use Rattle.wq_words.proofs.OtherSeats.{others_keep}
 use Rattle.wq_words.proofs.Listed.{accepted_push_none, taken_push_same, taken_push_push, fresh_push, length-accepted}
 use Rattle.wq_words.proofs.Rest.{wakes_quiet}
-use Rattle.wq_words.proofs.Seen.{own_rest}
 use Rattle.wq_live.specs.Batch.{batch, next_of}
 use Rattle.wq_live.specs.Rest.{MayNotRest}
 
@@ -37,40 +37,18 @@ pushed_batch layout v s k legal =
     rw (begun_still v (Push s k) refl, taken_push_push v s k (closed_from_open v opens), more)
     (ap (drop (length (begun v))) (take-append-le (taken v) (accepted v) (k ∷ []) few))
 
-module _ (layout : Layout) where
-  split : (v : List Event) (e : Event) (new : List Event) → IsLegal layout (v ++ e ∷ new) → IsLegal layout ((v ++ e ∷ []) ++ new)
-  split v e new legal = subst (IsLegal layout) (sym (append_assoc v (e ∷ []) new)) legal
+pub batch_still : (layout : Layout) (v new : List Event) → IsLegal layout (v ++ new) → own owner_seat new ≡ [] → batch (v ++ new) ≡ batch v
+batch_still layout v new legal none =
+    others_keep layout (λ w. batch w ≡ batch v) (record {
+      push = λ w s k l same. pushed_batch layout w s k l ∙ same;
+      hold = λ w s k same. quiet_batch w (Hold s k) refl refl refl refl ∙ same;
+      busy = λ w s k same. quiet_batch w (Busy s k) refl refl refl refl ∙ same;
+      back = λ w s k why same. quiet_batch w (Back s k why) refl refl refl refl ∙ same;
+    }) v new legal none refl
 
-  step : (v : List Event) (e : Event) (new : List Event) → batch ((v ++ e ∷ []) ++ new) ≡ batch (v ++ e ∷ []) → batch (v ++ e ∷ []) ≡ batch v
-      → batch (v ++ e ∷ new) ≡ batch v
-  step v e new rest one = ap batch (sym (append_assoc v (e ∷ []) new)) ∙ (rest ∙ one)
-
-  pub batch_still : (v new : List Event) → IsLegal layout (v ++ new) → own owner_seat new ≡ [] → batch (v ++ new) ≡ batch v
-  batch_still v [] legal none = ap batch (append-nil v)
-  batch_still v (Push s k ∷ new) legal none =
-      let l = split v (Push s k) new legal in
-      step v (Push s k) new (batch_still (v ++ Push s k ∷ []) new l (own_rest owner_seat (Push s k) new none))
-      (pushed_batch layout v s k (legal_front layout (v ++ Push s k ∷ []) new l))
-  batch_still v (Hold s k ∷ new) legal none =
-      step v (Hold s k) new (batch_still (v ++ Hold s k ∷ []) new (split v (Hold s k) new legal) (own_rest owner_seat (Hold s k) new none))
-      (quiet_batch v (Hold s k) refl refl refl refl)
-  batch_still v (Busy s k ∷ new) legal none =
-      step v (Busy s k) new (batch_still (v ++ Busy s k ∷ []) new (split v (Busy s k) new legal) (own_rest owner_seat (Busy s k) new none))
-      (quiet_batch v (Busy s k) refl refl refl refl)
-  batch_still v (Back s k why ∷ new) legal none =
-      step v (Back s k why) new (batch_still (v ++ Back s k why ∷ []) new (split v (Back s k why) new legal) (own_rest owner_seat (Back s k why) new none))
-      (quiet_batch v (Back s k why) refl refl refl refl)
-  batch_still v (Take ∷ new) legal none = absurd (cc)
-  batch_still v (Close ∷ new) legal none = absurd (cc)
-  batch_still v (Begin k ∷ new) legal none = absurd (cc)
-  batch_still v (End k ∷ new) legal none = absurd (cc)
-  batch_still v (Chain k ∷ new) legal none = absurd (cc)
-  batch_still v (ChainBusy k ∷ new) legal none = absurd (cc)
-  batch_still v (Rest ∷ new) legal none = absurd (cc)
-
-  pub next_still : (v w new : List Event) → w ≡ v ++ new → IsLegal layout w → own owner_seat new ≡ [] → next_of w ≡ next_of v
-  next_still v w new is legal none =
-      ap next_of is ∙ ap (λ (ks : List ℕ). slice_get ks 0) (batch_still v new (subst (IsLegal layout) is legal) none)
+pub next_still : (layout : Layout) (v w new : List Event) → w ≡ v ++ new → IsLegal layout w → own owner_seat new ≡ [] → next_of w ≡ next_of v
+next_still layout v w new is legal none =
+    ap next_of is ∙ ap (λ (ks : List ℕ). slice_get ks 0) (batch_still layout v new (subst (IsLegal layout) is legal) none)
 
 -- nothing that was taken waits
 pub none_waits : (h : List Event) → next_of h ≡ None → batch h ≡ []
@@ -95,27 +73,15 @@ quiet_refuses v e no_take no_push still (inl pushed) =
     inl (not_first (fresh (v ++ e ∷ [])) (omega (arith, some_fresh (fresh v) pushed, rw no_push at (fresh_push v e no_take))))
 quiet_refuses v e no_take no_push still (inr rests) = inr (still ∙ rests)
 
-pub refuses_still : (v new : List Event) → own owner_seat new ≡ [] → MayNotRest v → MayNotRest (v ++ new)
-refuses_still v [] none why = subst MayNotRest (sym (append-nil v)) why
-refuses_still v (Push s k ∷ new) none why =
-    subst MayNotRest (append_assoc v (Push s k ∷ []) new)
-    (refuses_still (v ++ Push s k ∷ []) new (own_rest owner_seat (Push s k) new none) (pushed_refuses v s k))
-refuses_still v (Hold s k ∷ new) none why =
-    subst MayNotRest (append_assoc v (Hold s k ∷ []) new)
-    (refuses_still (v ++ Hold s k ∷ []) new (own_rest owner_seat (Hold s k) new none)
-    (quiet_refuses v (Hold s k) refl refl (wakes_quiet v (Hold s k) refl refl) why))
-refuses_still v (Busy s k ∷ new) none why =
-    subst MayNotRest (append_assoc v (Busy s k ∷ []) new)
-    (refuses_still (v ++ Busy s k ∷ []) new (own_rest owner_seat (Busy s k) new none)
-    (quiet_refuses v (Busy s k) refl refl (wakes_quiet v (Busy s k) refl refl) why))
-refuses_still v (Back s k w ∷ new) none why =
-    subst MayNotRest (append_assoc v (Back s k w ∷ []) new)
-    (refuses_still (v ++ Back s k w ∷ []) new (own_rest owner_seat (Back s k w) new none)
-    (quiet_refuses v (Back s k w) refl refl (wakes_quiet v (Back s k w) refl refl) why))
-refuses_still v (Take ∷ new) none why = absurd (cc)
-refuses_still v (Close ∷ new) none why = absurd (cc)
-refuses_still v (Begin k ∷ new) none why = absurd (cc)
-refuses_still v (End k ∷ new) none why = absurd (cc)
-refuses_still v (Chain k ∷ new) none why = absurd (cc)
-refuses_still v (ChainBusy k ∷ new) none why = absurd (cc)
-refuses_still v (Rest ∷ new) none why = absurd (cc)
+quiet : (v : List Event) (e : Event) → is_take e ≡ false → is_push e ≡ false → is_rest e ≡ false → is_push_or_take e ≡ false → MayNotRest v
+    → MayNotRest (v ++ e ∷ [])
+quiet v e no_take no_push no_rest no_work = quiet_refuses v e no_take no_push (wakes_quiet v e no_rest no_work)
+
+pub refuses_still : (layout : Layout) (v new : List Event) → IsLegal layout (v ++ new) → own owner_seat new ≡ [] → MayNotRest v → MayNotRest (v ++ new)
+refuses_still layout =
+    others_keep layout MayNotRest (record {
+      push = λ w s k l why. pushed_refuses w s k;
+      hold = λ w s k. quiet w (Hold s k) refl refl refl refl;
+      busy = λ w s k. quiet w (Busy s k) refl refl refl refl;
+      back = λ w s k why. quiet w (Back s k why) refl refl refl refl;
+    })

@@ -9,14 +9,14 @@ use Rattle.wq_words.specs.declared.event.Event.TheVariants.{Hold, Busy, Push, Ba
 use Rattle.wq_words.specs.History.{is_push, IsClosed}
 use Rattle.wq_words.specs.Legal.{IsLegal, IsAllowed}
 use Rattle.wq_words.proofs.Growing.{count_by_push}
-use Rattle.wq_words.proofs.Legal.{legal_induction, legal_next}
+use Rattle.wq_words.proofs.Legal.{legal_induction, legal_next, legal_rest}
 use Rattle.wq_live.specs.declared.counts.SenderCounts.{SenderCounts}
 use Rattle.wq_words.specs.Counting.{is_queued_by}
 use Rattle.wq_worker.specs.declared.book.Ledger.{Ledger}
 use Rattle.wq_worker.specs.Book.{IsLedgerOf}
 use Rattle.wq_worker.specs.Balance.{largest}
 use Rattle.wq_words.proofs.Appended.{count_by-append, count_by-cons}
-use Rattle.wq_worker.proofs.Closing.{still_closed, legal_rest}
+use Rattle.wq_worker.proofs.Closing.{still_closed}
 
 -- the push of a sender below n
 abbrev pub is_queued_below : ℕ → Event → Bool

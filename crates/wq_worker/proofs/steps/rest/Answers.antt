@@ -1,5 +1,6 @@
 use Rattle.std.proofs.Common.{ℕ, Bool, true, false, List, [], slice_get, sym, ap, ◌∙◌, subst}
 use Rattle.wq_words.specs.Seen.{owner_seat, Grows}
+use Rattle.wq_words.specs.Legal.{IsLegal}
 use Rattle.wq_live.specs.Known.{Known, Sees}
 use Rattle.wq_live.specs.Rest.{Rests, MayNotRest}
 use Rattle.wq_worker.specs.Resting.{rest_events}
@@ -48,4 +49,6 @@ returns-clause-refused c lost =
     let seat = (seen_of c.rest-rests.result c.args.owner.now p c.rest-rests.ensures.seen).same.number_is in
     let still : Grows owner_seat [] 0 p.seen q.seen =
     subst (λ (z : ℕ). Grows z [] 0 p.seen q.seen) (seat ∙ c.requires.paired.seat) m.that.grows in
-    subst MayNotRest (sym still.is) (refuses_still p.seen still.new still.mine (c.rest-rests.ensures.refused lost))
+    subst MayNotRest (sym still.is) (
+      refuses_still q.layout p.seen still.new (subst (IsLegal q.layout) still.is m.that.legal) still.mine (c.rest-rests.ensures.refused lost)
+    )

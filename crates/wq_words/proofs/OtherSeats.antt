@@ -1,0 +1,83 @@
+-- What stays while every seat but the owner adds events.
+use Rattle.std.proofs.Common.{◌≡◌, ℕ, ◌==◌, Bool, true, false, cond, List, [], ◌∷◌, ◌++◌, sym, refl, ap, ◌∙◌, subst, append_assoc}
+use Rattle.std.proofs.lemmas.List.{append-nil}
+use Rattle.wq_words.specs.declared.layout.Layout.{Layout}
+use Rattle.wq_words.specs.declared.event.Event.{Event}
+use Rattle.wq_words.specs.declared.event.Event.TheVariants.{Hold, Busy, Push, Back, Take, Close, Begin, End, Chain, ChainBusy, Rest}
+use Rattle.wq_words.specs.declared.event.Why.{Why}
+use Rattle.wq_words.specs.Legal.{IsLegal}
+use Rattle.wq_words.specs.Seen.{owner_seat, seat_of, own}
+use Rattle.wq_words.proofs.Legal.{legal_front, legal_rest}
+use Rattle.wq_words.proofs.Seen.{own_rest}
+
+-- what each event of a sender keeps
+pub record OthersKeep (layout : Layout) (P : List Event → Type 0) : Type 0 where
+  pub push : (v : List Event) (s k : ℕ) → IsLegal layout (v ++ Push s k ∷ []) → P v → P (v ++ Push s k ∷ [])
+  pub hold : (v : List Event) (s k : ℕ) → P v → P (v ++ Hold s k ∷ [])
+  pub busy : (v : List Event) (s k : ℕ) → P v → P (v ++ Busy s k ∷ [])
+  pub back : (v : List Event) (s k : ℕ) (why : Why) → P v → P (v ++ Back s k why ∷ [])
+
+module _ (layout : Layout) (P : List Event → Type 0) (keep : OthersKeep layout P) where
+  -- all the events of others keep
+  pub others_keep : (v new : List Event) → IsLegal layout (v ++ new) → own owner_seat new ≡ [] → P v → P (v ++ new)
+  others_keep v [] legal none p = subst P (sym (append-nil v)) p
+  others_keep v (Push s k ∷ new) legal none p =
+      let l = legal_rest layout v (Push s k) new legal in
+      subst P (append_assoc v (Push s k ∷ []) new)
+      (others_keep (v ++ Push s k ∷ []) new l (own_rest owner_seat (Push s k) new none) (keep.push v s k (legal_front layout (v ++ Push s k ∷ []) new l) p))
+  others_keep v (Hold s k ∷ new) legal none p =
+      subst P (append_assoc v (Hold s k ∷ []) new)
+      (others_keep (v ++ Hold s k ∷ []) new (legal_rest layout v (Hold s k) new legal) (own_rest owner_seat (Hold s k) new none) (keep.hold v s k p))
+  others_keep v (Busy s k ∷ new) legal none p =
+      subst P (append_assoc v (Busy s k ∷ []) new)
+      (others_keep (v ++ Busy s k ∷ []) new (legal_rest layout v (Busy s k) new legal) (own_rest owner_seat (Busy s k) new none) (keep.busy v s k p))
+  others_keep v (Back s k why ∷ new) legal none p =
+      subst P (append_assoc v (Back s k why ∷ []) new)
+      (others_keep (v ++ Back s k why ∷ []) new (legal_rest layout v (Back s k why) new legal) (own_rest owner_seat (Back s k why) new none)
+      (keep.back v s k why p))
+  others_keep v (Take ∷ new) legal none p = absurd (cc)
+  others_keep v (Close ∷ new) legal none p = absurd (cc)
+  others_keep v (Begin k ∷ new) legal none p = absurd (cc)
+  others_keep v (End k ∷ new) legal none p = absurd (cc)
+  others_keep v (Chain k ∷ new) legal none p = absurd (cc)
+  others_keep v (ChainBusy k ∷ new) legal none p = absurd (cc)
+  others_keep v (Rest ∷ new) legal none p = absurd (cc)
+
+-- where the one event of a seat stands among others'
+pub record Surrounds (c : ℕ) (e : Event) (new : List Event) : Type 0 where
+  pub front : List Event
+  pub behind : List Event
+  pub is : new ≡ front ++ e ∷ behind
+  pub front_none : own c front ≡ []
+  pub behind_none : own c behind ≡ []
+
+abbrev first : Event → List Event → Event
+first d [] = d
+first d (e ∷ es) = e
+
+abbrev behind_first : List Event → List Event
+behind_first [] = []
+behind_first (e ∷ es) = es
+
+pub surrounds : (c : ℕ) (e : Event) (new : List Event) → own c new ≡ e ∷ [] → Surrounds c e new
+surrounds c e [] one = absurd (cc)
+surrounds c e (d ∷ new) one = each (seat_of d == c) refl one (surrounds c e new)
+  where
+    each : (b : Bool) → (seat_of d == c) ≡ b → cond b (d ∷ own c new) (own c new) ≡ e ∷ [] → (own c new ≡ e ∷ [] → Surrounds c e new)
+        → Surrounds c e (d ∷ new)
+    each true mine is go = record {
+      front = [];
+      behind = new;
+      is = ap (λ (x : Event). x ∷ new) (ap (first e) is);
+      front_none = refl;
+      behind_none = ap behind_first is;
+    }
+    each false other is go =
+        let later = go is in
+        record {
+          front = d ∷ later.front;
+          behind = later.behind;
+          is = ap (λ (x : List Event). d ∷ x) later.is;
+          front_none = ap (λ (b : Bool). cond b (d ∷ own c later.front) (own c later.front)) other ∙ later.front_none;
+          behind_none = later.behind_none;
+        }
