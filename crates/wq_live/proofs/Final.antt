@@ -125,7 +125,7 @@ is_false : (b : Bool) → (b ≡ true → ⊥) → b ≡ false
 is_false true no_way = absurd (no_way refl)
 is_false false no_way = refl
 
-none_length : (xs : List ℕ) → length xs ≡ 0 → xs ≡ []
+pub none_length : (xs : List ℕ) → length xs ≡ 0 → xs ≡ []
 none_length [] none = refl
 none_length (x ∷ xs) none = absurd (omega arith)
 

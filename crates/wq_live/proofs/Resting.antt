@@ -1,5 +1,7 @@
 -- What stays where a seat sees more.
-use Rattle.std.proofs.Common.{◌≡◌, ℕ, List, [], ◌∷◌, ◌++◌, ap, subst, ◌∙◌, cond, arith}
+use Rattle.std.proofs.Common.{◌≡◌, ℕ, ◌==◌, Bool, true, false, List, [], ◌∷◌, ◌++◌, length, Option, Some, None, refl, sym, ap, subst, ◌∙◌, cond, arith, length-append}
+use Rattle.std.specs.List.{cons_option}
+use Rattle.std.proofs.lemmas.List.{append-nil}
 use Rattle.wq_words.specs.declared.event.Event.{Event}
 use Rattle.wq_words.specs.declared.event.Event.TheVariants.{Hold, Busy, Push, Back}
 use Rattle.wq_words.specs.declared.event.Why.TheVariants as why
@@ -10,14 +12,15 @@ use Rattle.wq_words.specs.History.{accepted, accepted_by, begun, ended, IsRunnin
 use Rattle.std.specs.Prelude.{count_by}
 use Rattle.std.proofs.lemmas.List.Sums.{sum_by-append}
 use Rattle.wq_words.specs.Legal.{IsLegal, IsComplete}
-use Rattle.wq_words.specs.Seen.{owner_seat, own, Grows}
+use Rattle.wq_words.specs.Seen.{owner_seat, seat_of, own, Grows}
+use Rattle.wq_words.proofs.Seen.{own-append}
 use Rattle.wq_words.proofs.Running.{rests_from_running, running_from_rests}
 use Rattle.wq_live.specs.Known.{Known, Sees}
 use Rattle.wq_live.specs.Answers.{Answers}
 use Rattle.wq_live.specs.Laws.{queued_number, IsStillEnd}
 use Rattle.wq_live.proofs.Growing.{grows_own}
 use Rattle.wq_live.proofs.Owned.{closes_on, running_quiet}
-use Rattle.wq_live.proofs.Final.{final}
+use Rattle.wq_live.proofs.Final.{final, none_length}
 
 -- nothing runs where nothing ran before and the owner neither began nor ended
 pub quiet_idle : (xs : List Event) (n : ℕ) (old new : Known) → old.number ≡ owner_seat → Sees xs n old new → begun xs ≡ [] → ended xs ≡ []
@@ -39,11 +42,36 @@ open_stays xs n old new mine sees none opens shut =
     let g : Grows owner_seat xs n old.seen new.seen = subst (λ (d : ℕ). Grows d xs n old.seen new.seen) mine sees.grows in
     opens (omega (arith, shut, none, closes_on xs n old.seen new.seen g))
 
+-- where nothing is accepted, nothing is of any seat
+none_first : (o : Option ℕ) (ks : List ℕ) → cons_option o ks ≡ [] → (o ≡ None) × (ks ≡ [])
+none_first None ks none = (refl, none)
+none_first (Some k) ks none = absurd (cc)
+
+none_kept : (b : Bool) (e : Event) (es : List Event) → accepted_by e ≡ None → accepted es ≡ [] → accepted (cond b (e ∷ es) es) ≡ []
+none_kept true e es first none = rw first none
+none_kept false e es first none = none
+
+own_none : (s : ℕ) (es : List Event) → accepted es ≡ [] → accepted (own s es) ≡ []
+own_none s [] none = refl
+own_none s (e ∷ es) none = let both = none_first (accepted_by e) (accepted es) none in
+    none_kept (seat_of e == s) e (own s es) both.0 (own_none s es both.1)
+
+none_more : (h es : List Event) → accepted (h ++ es) ≡ accepted h → accepted es ≡ []
+none_more h es same =
+    none_length (accepted es) (omega (arith, ap length (sym (filter_map-append accepted_by h es) ∙ same), length-append (accepted h) (accepted es)))
+
+own_still : (s : ℕ) (h es : List Event) → accepted es ≡ [] → accepted (own s (h ++ es)) ≡ accepted (own s h)
+own_still s h es none =
+    ap accepted (own-append s h es) ∙ (filter_map-append accepted_by (own s h) (own s es)
+    ∙ (ap (λ (ks : List ℕ). accepted (own s h) ++ ks) (own_none s es none) ∙ append-nil (accepted (own s h))))
+
 -- what has come to its end stays as it is
 pub complete_stays : (xs : List Event) (n : ℕ) (old new : Known) → Sees xs n old new → IsComplete old.seen → IsStillEnd old.seen new.seen
 complete_stays xs n old new sees complete =
     let same = final new.layout old.seen complete sees.grows.new (subst (IsLegal new.layout) sees.grows.is sees.legal) in record {
       accepted_is = ap accepted sees.grows.is ∙ same.0;
+      of_each = λ s. ap (λ (h : List Event). accepted (own s h)) sees.grows.is
+          ∙ own_still s old.seen sees.grows.new (none_more old.seen sees.grows.new same.0);
       begun_is = ap begun sees.grows.is ∙ same.1;
       ended_is = ap ended sees.grows.is ∙ same.2;
     }

@@ -57,6 +57,13 @@ numbered_front xs x all = (
 pub made_nothing : (c n : ℕ) (v w : List Event) → v ≡ [] → Grows c [] n v w → own c w ≡ []
 made_nothing c n v w none g = ap (own c) (g.is ∙ ap (λ (x : List Event). x ++ g.new) none) ∙ g.mine
 
+-- the last of the senders is taken away
+pub one_less : (q : QueueId) (l : Layout) (m : ℕ) (xs ys : List Known) (b : Known) → xs ≡ new_senders q l m → xs ≡ ys ++ b ∷ []
+    → (ys ≡ new_senders q l (length ys)) × (b ≡ new_sender q l (length ys))
+one_less q l m xs ys b made one =
+    let count : m ≡ suc (length ys) = omega (arith, length-new_senders q l m, ap length (sym made ∙ one), length-append ys (b ∷ [])) in
+    ends_alike ys (new_senders q l (length ys)) b (new_sender q l (length ys)) (sym one ∙ (made ∙ ap (new_senders q l) count))
+
 -- the last two of the senders are taken away
 pub two_less : (q : QueueId) (l : Layout) (n m : ℕ) (xs ys zs : List Known) (a b : Known) → m ≡ n + 2 → xs ≡ new_senders q l m → xs ≡ ys ++ b ∷ []
     → ys ≡ zs ++ a ∷ []

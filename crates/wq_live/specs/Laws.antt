@@ -2,6 +2,7 @@
 use Rattle.std.specs.Prelude.{◌≡◌, ℕ, List, [], ◌∷◌}
 use Rattle.wq_words.specs.declared.event.Event.{Event}
 use Rattle.wq_words.specs.History.{accepted, begun, ended}
+use Rattle.wq_words.specs.Seen.{own}
 use Rattle.wq_words.specs.declared.answer.Answer.{Answer}
 use Rattle.wq_words.specs.declared.answer.Answer.TheVariants.{Queued}
 
@@ -10,8 +11,9 @@ abbrev pub queued_number : ℕ → Answer → List ℕ
 queued_number k (Queued is_first is_waking) = k ∷ []
 queued_number k _ = []
 
--- what was seen first has accepted, begun and ended all that the later has
+-- what was seen first has accepted, begun and ended all that the later has, and all that it accepted of each seat
 pub record IsStillEnd (earlier later : List Event) : Type 0 where
   pub accepted_is : accepted later ≡ accepted earlier
+  pub of_each : (s : ℕ) → accepted (own s later) ≡ accepted (own s earlier)
   pub begun_is : begun later ≡ begun earlier
   pub ended_is : ended later ≡ ended earlier

@@ -74,6 +74,7 @@ impl<W: Work + Drop> Pool<W> {
         ensures workers { IfOk result (λ r. r.0.workers ≡ map worker_id queues.items) }
         ensures size { IfOk result (λ r. r.0.ready.size ≡ record { queues = length queues.items; callers = callers }) }
         ensures callers { IfOk result (λ r. r.1.items ≡ new_callers r.0.ready callers) }
+        ensures count { IfOk result (λ r. length r.1.items ≡ callers) }
         ensures ready { IfOk result (λ r. All (IsCallerOf r.0.ready) r.1.items) }
     {
         let count = queues.len();

@@ -3,7 +3,7 @@ use Rattle.std.specs.Prelude.{◌≡◌, ℕ, ◌<◌, ◌≤◌, List, [], filt
 use Rattle.wq_live.specs.Known.{QueueId}
 use Rattle.wq_words.specs.declared.layout.Layout.{Layout}
 use Rattle.wq_words.specs.declared.event.Event.{Event}
-use Rattle.wq_words.specs.History.{begun}
+use Rattle.wq_words.specs.History.{begun, IsRunning}
 use Rattle.wq_words.specs.Legal.{IsLegal}
 use Rattle.wq_words.specs.Seen.{owner_seat, own}
 use Rattle.wq_live.specs.Known.{Known}
@@ -30,13 +30,14 @@ abbrev pub IsMadeOf : {W : Type 0} → Known → Known → W → ℕ → WorkerS
 IsMadeOf owner sender work tries w =
     (w.queue ≡ owner.queue) × (w.layout ≡ owner.layout) × (w.number ≡ sender.number) × (w.tries ≡ tries) × (w.unqueued ≡ []) × (w.work ≡ work)
 
--- a worker of a new queue of this size with this work, with so many tries: its two seats have made no event
+-- a worker of a new queue of this size with this work, with so many tries: its two seats have made no event, and nothing runs
 pub record IsNew {W : Type 0} (layout : Layout) (work : W) (tries : ℕ) (w : WorkerState W) : Type 0 where
   pub layout_is : w.layout ≡ layout
   pub tries_is : w.tries ≡ tries
   pub unqueued_is : w.unqueued ≡ []
   pub work_is : w.work ≡ work
   pub legal : IsLegal w.layout w.seen
+  pub idle : ¬ IsRunning w.seen
   pub untouched : own owner_seat w.seen ≡ []
   pub unsent : own w.number w.seen ≡ []
 

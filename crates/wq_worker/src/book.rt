@@ -5,6 +5,7 @@ ghost use Rattle.wq_words.specs.Headline.{KeepsHeadline};
 ghost use Rattle.wq_words.specs.Seen.{owner_seat, Grows};
 ghost use Rattle.wq_live.specs.Known.{Sees};
 ghost use Rattle.wq_live.specs.Counts.{sender_counts};
+ghost use Rattle.wq_live.specs.Laws.{IsStillEnd};
 ghost use Rattle.wq_worker.specs.Book.{IsLedgerOf, IsSettled};
 ghost use Rattle.wq_worker.specs.Balance.{Balances, IsUnbalanced};
 
@@ -79,6 +80,7 @@ impl Book {
         ensures sender { Sees [] 0 sender.old sender.new }
         ensures layout { sender.old.layout ≡ self.old.layout }
         ensures both { sender.new.seen ≡ self.new.seen }
+        ensures last { IsStillEnd self.old.seen self.new.seen }
     {
         sender.meet_owner(&mut self.owner);
         Ledger::of(sender)

@@ -4,7 +4,7 @@ ghost use Rattle.std.specs.Fn.{FnOnceTakesAtMut, FnOnceReturnsAtMut};
 ghost use Rattle.wq_words.specs.declared.event.Event.TheVariants.{Close};
 ghost use Rattle.wq_words.specs.History.{accepted, begun, ended, closed, running, Holds, IsRunning, IsClosed};
 ghost use Rattle.wq_words.specs.Seen.{owner_seat, Grows};
-ghost use Rattle.wq_live.specs.Known.{AreNumbered, Sees};
+ghost use Rattle.wq_live.specs.Known.{AreNumbered, Sees, new_senders};
 ghost use Rattle.wq_live.specs.Answers.{IsContended};
 ghost use Rattle.wq_live.specs.Batch.{TakesAll};
 ghost use Rattle.wq_live.specs.Rest.{MayNotRest};
@@ -67,6 +67,7 @@ impl<W: Work> Worker<W> {
         ensures owner { Grows owner_seat [] 0 owner.seen result.seen }
         ensures sender { Grows sender.number [] 0 sender.seen result.seen }
         ensures legal { IsLegal result.layout result.seen }
+        ensures idle { ¬ IsRunning result.seen }
     {
         sender.meet_owner(&mut owner);
         Worker {
@@ -90,6 +91,7 @@ impl<W: Work> Worker<W> {
         requires tries { 0 < tries }
         requires unrun { W.log work ≡ [] }
         ensures worker { IfOk result (λ r. IsNew layout work tries r.0) }
+        ensures senders { IfOk result (λ r. r.1.items ≡ new_senders r.0.queue layout r.0.number) }
         ensures one { IfOk result (λ r. All (λ s. s.queue ≡ r.0.queue) r.1.items) }
         ensures layouts { IfOk result (λ r. All (λ s. s.layout ≡ layout) r.1.items) }
         ensures count { IfOk result (λ r. length r.1.items + 1 ≡ layout.senders) }

@@ -2,6 +2,7 @@ use Rattle.std.proofs.Common.{ℕ, List, [], sym, ap, ◌∙◌, subst}
 use Rattle.std.proofs.lemmas.List.{append-nil}
 use Rattle.wq_words.specs.declared.event.Event.{Event}
 use Rattle.wq_words.specs.Seen.{owner_seat, Grows}
+use Rattle.wq_live.specs.Laws.{IsStillEnd}
 use Rattle.wq_worker.specs.Book.{BookState, IsLedgerOf}
 use Rattle.wq_worker.proofs.Meeting.{complete_still, made_still}
 use Rattle.wq_worker.proofs.book.Book.meet.Goals as goal
@@ -45,3 +46,7 @@ returns-clause-owner c =
 
 pub returns-clause-layout : goal.returns-clause-layout
 returns-clause-layout c = sym c.meet_owner.ensures.layout ∙ ap (λ (z : BookState). z.layout) c.self.view_is
+
+pub returns-clause-last : goal.returns-clause-last
+returns-clause-last c =
+    let q = c.meet_owner.new.owner in subst (λ (z : BookState). IsStillEnd z.seen q.seen) c.self.view_is (c.meet_owner.ensures.last c.self.invariant.complete)

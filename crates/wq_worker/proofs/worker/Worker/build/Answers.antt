@@ -1,9 +1,9 @@
-use Rattle.std.proofs.Common.{◌≡◌, ℕ, [], sym, ◌∙◌, subst}
+use Rattle.std.proofs.Common.{◌≡◌, ℕ, [], length, sym, ap, ◌∙◌, subst}
 use Rattle.std.specs.Prelude.{All}
 use Rattle.wq_words.specs.History.{Holds}
 use Rattle.wq_words.specs.Seen.{owner_seat, own}
-use Rattle.wq_live.specs.Known.{Known, AreNumbered}
-use Rattle.wq_live.proofs.Seated.{all_front, all_last, numbered_front, made_nothing}
+use Rattle.wq_live.specs.Known.{QueueId, Known, new_senders, AreNumbered}
+use Rattle.wq_live.proofs.Seated.{one_less, all_front, all_last, numbered_front, made_nothing}
 use Rattle.wq_worker.proofs.worker.Worker.build.Goals as goal
 
 pub returns-in-Some-clause-worker : goal.returns-in-Some-clause-worker
@@ -15,9 +15,17 @@ returns-in-Some-clause-worker g c = let n = c.new.ensures in let o = c.in-Ok.ens
       unqueued_is = n.parts.4;
       work_is = n.parts.5;
       legal = n.legal;
+      idle = n.idle;
       untouched = made_nothing owner_seat 0 c.in-Ok.owner.seen w.seen o.unseen.0 n.owner;
       unsent = subst (λ (k : ℕ). own k w.seen ≡ []) (sym n.parts.2) (made_nothing s.number 0 s.seen w.seen unseen n.sender);
     }
+
+pub returns-in-Some-clause-senders : goal.returns-in-Some-clause-senders
+returns-in-Some-clause-senders g c =
+    let o = c.in-Ok.ensures in let parts = c.new.ensures.parts in let xs = c.pop.new.self.items in let l = c.args.layout in
+    let last = one_less c.in-Ok.owner.queue l l.senders c.in-Ok.senders.items xs c.in-Some.sender o.made.1 c.in-Some.ensures.items in
+    let number = parts.2 ∙ ap (λ (k : Known). k.number) last.1 in
+    last.0 ∙ (ap (λ (q : QueueId). new_senders q l (length xs)) (sym parts.0) ∙ ap (new_senders c.new.result.queue l) (sym number))
 
 pub returns-in-Some-clause-one : goal.returns-in-Some-clause-one
 returns-in-Some-clause-one g c = let P = λ (k : Known). k.queue ≡ c.in-Ok.owner.queue in
