@@ -93,6 +93,7 @@ impl ReadyQueue {
         requires { IsCallerOf self.now caller.old }
         ensures no_queue { (result ≡ Err NoQueue) ↔ (self.now.size.queues ≤ queue) }
         ensures seen { Announces queue result caller.old caller.new }
+        ensures caller { IsCallerOf self.now caller.new }
     {
         if queue >= self.size.queues {
             return Err(AnnounceError::NoQueue);
@@ -111,6 +112,7 @@ impl ReadyQueue {
         requires { IsCallerOf self.now caller.old }
         ensures queue { IfSome result (λ queue. queue < self.now.size.queues) }
         ensures seen { Picks result caller.old caller.new }
+        ensures caller { IsCallerOf self.now caller.new }
     {
         self.numbers.pop_as::<Picking, R>(rt, &mut caller.pass)
     }

@@ -98,6 +98,7 @@ impl<W: Work> Worker<W> {
         ensures numbers { IfOk result (λ r. AreNumbered r.1.items × (r.0.number ≡ length r.1.items)) }
         ensures unseen { IfOk result (λ r. All (λ s. s.seen ≡ []) r.1.items) }
         ensures free { IfOk result (λ r. All (λ s. (k : ℕ) → ¬ Holds s.seen s.number k) r.1.items) }
+        ensures idle { IfOk result (λ r. ¬ IsRunning r.0.seen) }
         ensures refused { IfErr result (λ e. e.work ≡ work) }
     {
         match build(alloc, layout) {

@@ -1,0 +1,3 @@
+//! Ready queues: worked rows, and callers in threads.
+mod rows;
+mod threads;
