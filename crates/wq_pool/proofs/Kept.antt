@@ -124,7 +124,8 @@ module _ {W : Type 0} where
   pub picks_allowed : (workers : List WorkerId) (slots seat q : ℕ) (me : SlotSat W) → q < length workers → me ≡ (empty_hand workers, [])
       → Allows (KeptSlots {W = W} workers) slots seat me q (λ n. either (eqb n 0) 1 n) (picks_up {W = W} (step slots q 0 1 none) me)
   picks_allowed workers slots seat q me within is =
-      subst (λ (m : SlotSat W). Allows (KeptSlots {W = W} workers) slots seat m q (λ n. either (eqb n 0) 1 n) (picks_up {W = W} (step slots q 0 1 none) m)) (sym is)
+      subst (λ (m : SlotSat W). Allows (KeptSlots {W = W} workers) slots seat m q (λ n. either (eqb n 0) 1 n) (picks_up {W = W} (step slots q 0 1 none) m))
+      (sym is)
       (picks_empty workers slots seat q within)
 
   pub lays_allowed : (workers mine : List WorkerId) (slots seat q : ℕ) (w : WorkerState W) → IsWorkerAt mine q w
@@ -173,7 +174,8 @@ module _ {W : Type 0} where
       → KeptSlots (map worker_id ws) (opening words slots (empty_hand (map worker_id ws)))
   opens ws words slots words_are slots_are =
       let ids = map worker_id ws in
-      subst (λ (z : List ℕ × List (Option (WorkerState W))). KeptSlots ids (opening z.0 z.1 (empty_hand ids))) (λ i. (sym words_are i, sym slots_are i)) record {
+      subst (λ (z : List ℕ × List (Option (WorkerState W))). KeptSlots ids (opening z.0 z.1 (empty_hand ids)))
+      (λ i. (sym words_are i, sym slots_are i)) record {
         words_count = length-replicate (length ws) 0 ∙ sym (length-map worker_id ws);
         slots_count = length-map some (map Some ws) ∙ (length-map Some ws ∙ sym (length-map worker_id ws));
         keeper = λ _. 0;

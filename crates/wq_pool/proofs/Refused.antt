@@ -102,7 +102,12 @@ module _ (layout : Layout) where
       let m : IsLegal layout (before ++ Take ∷ []) = legal_front layout (before ++ Take ∷ []) after l in
       let t : taken c ≡ length (accepted before) =
       ap taken c_is ∙ (ap taken (sym (append_assoc before (Take ∷ []) after)) ∙ (taken_still (before ++ Take ∷ []) after l none ∙ taken_all before m)) in
-      let g : Grows owner_seat (Take ∷ []) 0 before c = record { new = Take ∷ after; is = c_is; mine = ap (λ (z : List Event). Take ∷ z) none; theirs = omega arith } in
+      let g : Grows owner_seat (Take ∷ []) 0 before c = record {
+        new = Take ∷ after;
+        is = c_is;
+        mine = ap (λ (z : List Event). Take ∷ z) none;
+        theirs = omega arith;
+      } in
       let b : length (begun c) ≡ length (begun before) =
       ap (length {A = ℕ}) ((owner_grows (Take ∷ []) 0 before c g).begun_is ∙ append-nil (begun before)) in
       let o = in_order layout before (legal_front layout before (Take ∷ []) m) in
@@ -144,8 +149,9 @@ refused_waits layout s b c d (at_take before after b_is last none) quiet why leg
     let works : wakes c ≡ false =
     ap wakes c_is
     ∙ (ap wakes (sym (append_assoc before (Take ∷ []) (after ++ quiet.new)))
-    ∙ at_work_still layout (before ++ Take ∷ []) (after ++ quiet.new) (subst (IsLegal layout) (c_is ∙ sym (append_assoc before (Take ∷ []) (after ++ quiet.new))) legal) behind_none
-    (wakes_push_work before Take refl)) in
+    ∙ at_work_still layout (before ++ Take ∷ []) (after ++ quiet.new) (
+      subst (IsLegal layout) (c_is ∙ sym (append_assoc before (Take ∷ []) (after ++ quiet.new))) legal
+    ) behind_none (wakes_push_work before Take refl)) in
     let take_is : taking c ≡ Take ∷ [] = rw (empty, closed_from_open c opens) refl in
     let one : own owner_seat more.new ≡ Take ∷ [] = owner_new s 0 (taking c) c d more ∙ ap (own owner_seat) take_is in
     elim why [

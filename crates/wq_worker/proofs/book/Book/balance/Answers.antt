@@ -11,7 +11,8 @@ use Rattle.wq_worker.proofs.book.Book.balance.Goals as goal
 
 pub returns : goal.returns
 returns c =
-    let o = c.self.inside.owner in let own = c.self.inside.own in let ls = c.args.ledgers.now in let met = c.in_ok-met.met in let oc = c.counts-owner.ensures.counted in
+    let o = c.self.inside.owner in let own = c.self.inside.own in let ls = c.args.ledgers.now in
+    let met = c.in_ok-met.met in let oc = c.counts-owner.ensures.counted in
     let a = c.with.ensures.sums in let b = c.with_owner.ensures in
     let made : All (IsLedgerOf o.seen) ls = subst (λ (z : BookState). All (IsLedgerOf z.seen) ls) (sym c.self.view_is) c.requires in
     let sums : SumsMet ls own.number o.layout.senders met =
