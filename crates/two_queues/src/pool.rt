@@ -1,0 +1,262 @@
+//! The two queues and their pool.
+ghost use Rattle.std.specs.Prelude.{◌≡◌, ◌+◌, ◌≤◌, ◌<◌, ◌∷◌, [], All, IfOk, length};
+ghost use Rattle.wq_words.specs.History.{accepted, IsRunning};
+ghost use Rattle.wq_words.specs.Seen.{own};
+ghost use Rattle.wq_live.specs.Known.{new_sender};
+ghost use Rattle.wq_ready.specs.Known.{IsCallerOf};
+ghost use Rattle.wq_worker.specs.State.{items_among};
+ghost use Rattle.wq_pool.specs.Finished.{AreFinished};
+ghost use Rattle.wq_pool.specs.WorkerId.{worker_id};
+ghost use Rattle.two_queues.specs.Ended.{IsNewLine, HaveQueued, RanAll};
+
+use crate::queueing::{Line, Seat, Told, queue_all};
+use crate::work::{Open, Runs};
+use std::alloc::{AllocError, Global};
+use std::sync::Wait;
+use std::thread::{Threads, join};
+use thiserror::Error;
+use wq_live::{Sender, own_events_stay};
+use wq_pool::{Caller, Pool, PoolFault, Served};
+use wq_words::Layout;
+use wq_worker::{Book, Worker};
+
+// Two for the workers, four for the senders, and one for the program itself.
+const CALLERS: u32 = 7;
+
+// So many numbers of each queue are executed at a time, where some are left at the end.
+const EXECUTIONS: u32 = 1024;
+
+/// Why the queues did not come to their end.
+#[derive(Clone, Copy, Debug, PartialEq, Eq, Error)]
+pub enum RunError {
+    /// No memory could be had.
+    #[error("no memory")]
+    Memory,
+    /// This queue was not in the pool when all workers had ended.
+    #[error("the queue {queue} is out")]
+    Out { queue: u32 },
+}
+
+impl From<AllocError> for RunError {
+    fn from(_error: AllocError) -> RunError {
+        RunError::Memory
+    }
+}
+
+/// A queue that has run to its end: its work and its book, and its senders with what they were told.
+#[derive(Drop)]
+pub struct Ended {
+    pub work: Runs,
+    pub book: Book,
+    pub first: Told,
+    pub second: Told,
+}
+
+// The senders of a new queue.
+type Senders = (Sender, Sender, Sender);
+
+// A new queue.
+fn build(alloc: Global, layout: Layout) -> Result<(Worker<Runs>, Senders), RunError>
+    requires { layout.senders ≡ 4 }
+    ensures worker { IfOk result (λ r. (r.0.layout ≡ layout) × (¬ IsRunning r.0.seen)) }
+    ensures first { IfOk result (λ r. r.1.0 ≡ new_sender r.0.queue layout 0) }
+    ensures second { IfOk result (λ r. r.1.1 ≡ new_sender r.0.queue layout 1) }
+{
+    let Ok((worker, mut senders)) = Worker::build(alloc, layout, Runs::new(), 1) else {
+        return Err(RunError::Memory);
+    };
+    let Some(last) = senders.pop() else {
+        unreachable!()
+    };
+    let Some(second) = senders.pop() else {
+        unreachable!()
+    };
+    let Some(first) = senders.pop() else {
+        unreachable!()
+    };
+    Ok((worker, (first, second, last)))
+}
+
+// A pool of two queues, and its callers.
+fn pool_of(
+    alloc: Global,
+    one: Worker<Runs>,
+    two: Worker<Runs>,
+) -> Result<(Pool<Runs>, Vec<Caller>), RunError>
+    requires idle { (¬ IsRunning one.seen) × (¬ IsRunning two.seen) }
+    ensures workers { IfOk result (λ r. r.0.workers ≡ worker_id one ∷ worker_id two ∷ []) }
+    ensures callers { IfOk result (λ r. All (IsCallerOf r.0.ready) r.1.items × (length r.1.items ≡ 7)) }
+{
+    let Ok(queues) = Vec::from_array(alloc, [Served::new(one), Served::new(two)]) else {
+        return Err(RunError::Memory);
+    };
+    match Pool::new(alloc, queues, CALLERS) {
+        Ok(made) => Ok(made),
+        Err(_) => Err(RunError::Memory),
+    }
+}
+
+// The next caller of a pool.
+fn caller_of(pool: &Pool<Runs>, callers: &mut Vec<Caller>) -> Caller
+    requires some { 0 < length callers.old.items }
+    requires all { All (IsCallerOf pool.now.ready) callers.old.items }
+    ensures one { IsCallerOf pool.now.ready result }
+    ensures all { All (IsCallerOf pool.now.ready) callers.new.items }
+    ensures count { length callers.new.items + 1 ≡ length callers.old.items }
+{
+    let Some(caller) = callers.pop() else {
+        unreachable!()
+    };
+    caller
+}
+
+// The senders of the pool's queue of this number, two of them with callers.
+fn line_of(pool: &Pool<Runs>, callers: &mut Vec<Caller>, queue: u32, senders: Senders) -> Line
+    requires some { 2 ≤ length callers.old.items }
+    requires all { All (IsCallerOf pool.now.ready) callers.old.items }
+    requires items { 4 ≤ senders.0.layout.items }
+    requires first { senders.0 ≡ new_sender senders.0.queue senders.0.layout 0 }
+    requires second { senders.1 ≡ new_sender senders.0.queue senders.0.layout 1 }
+    ensures line { IsNewLine pool.now.ready result }
+    ensures queue { result.first.sender.queue ≡ senders.0.queue }
+    ensures all { All (IsCallerOf pool.now.ready) callers.new.items }
+    ensures count { length callers.new.items + 2 ≡ length callers.old.items }
+{
+    let (first, second, last) = senders;
+    Line {
+        first: Seat {
+            queue,
+            sender: first,
+            caller: caller_of(pool, callers),
+        },
+        second: Seat {
+            queue,
+            sender: second,
+            caller: caller_of(pool, callers),
+        },
+        last,
+    }
+}
+
+// What the workers do until both stop items ran.
+fn work<R: Threads + Wait + Sync>(
+    rt: &R,
+    pool: &Pool<Runs>,
+    mut workers: Vec<Caller>,
+) -> Result<(), AllocError>
+    requires { All (IsCallerOf pool.now.ready) workers.items }
+{
+    pool.run(rt, workers.as_mut_slice(), &Open)
+}
+
+// The workers serve both queues, while the senders queue.
+fn serve<R: Threads + Wait + Sync>(
+    rt: &R,
+    pool: &Pool<Runs>,
+    mut callers: Vec<Caller>,
+    one: Senders,
+    two: Senders,
+) -> Result<((Told, Told), (Told, Told)), RunError>
+    requires callers { All (IsCallerOf pool.now.ready) callers.items × (length callers.items ≡ 7) }
+    requires items { (4 ≤ one.0.layout.items) × (4 ≤ two.0.layout.items) }
+    requires one { (one.0 ≡ new_sender one.0.queue one.0.layout 0) × (one.1 ≡ new_sender one.0.queue one.0.layout 1) }
+    requires two { (two.0 ≡ new_sender two.0.queue two.0.layout 0) × (two.1 ≡ new_sender two.0.queue two.0.layout 1) }
+    ensures one { IfOk result (λ told. HaveQueued one.0.queue told.0.0 told.0.1) }
+    ensures two { IfOk result (λ told. HaveQueued two.0.queue told.1.0 told.1.1) }
+{
+    let one = line_of(pool, &mut callers, 0, one);
+    let two = line_of(pool, &mut callers, 1, two);
+    let caller = caller_of(pool, &mut callers);
+    let (ran, told) = join(
+        rt,
+        move ||
+            requires { All (IsCallerOf pool.now.ready) callers.items }
+        { work(rt, pool, callers) },
+        move ||
+            requires { IsCallerOf pool.now.ready caller × IsNewLine pool.now.ready one × IsNewLine pool.now.ready two }
+            ensures { HaveQueued one.first.sender.queue result.0.0 result.0.1 × HaveQueued two.first.sender.queue result.1.0 result.1.1 }
+        { queue_all(rt, pool, caller, one, two) },
+    );
+    ran?;
+    Ok(told)
+}
+
+// Takes the pool apart. Where something is left of a queue it goes on.
+fn finish<R: Wait>(rt: &R, pool: Pool<Runs>) -> Result<Vec<(Runs, Book)>, RunError>
+    ensures { IfOk result (λ all. AreFinished (λ work. work.ran.items) pool.workers all.items) }
+{
+    let mut pool = pool;
+    for _ in rt.forever() {
+        match pool.finish(EXECUTIONS) {
+            Ok(all) => return Ok(all),
+            Err(PoolFault::Unfinished { pool: same, .. }) => pool = same,
+            Err(PoolFault::Out { queue, .. }) => return Err(RunError::Out { queue }),
+            Err(PoolFault::Memory { .. }) => return Err(RunError::Memory),
+        }
+    }
+    unreachable!()
+}
+
+// Both senders meet the book, so that all that they queued is in it.
+fn meet(book: &mut Book, first: &mut Sender, second: &mut Sender)
+    requires { (first.old.queue ≡ book.old.queue) × (second.old.queue ≡ book.old.queue) }
+    ensures same { (book.new.queue ≡ book.old.queue) × (book.new.layout ≡ book.old.layout) }
+    ensures senders { (first.new.queue ≡ first.old.queue) × (second.new.queue ≡ second.old.queue) }
+    ensures accepted { accepted book.new.seen ≡ accepted book.old.seen }
+    ensures of_first { accepted (own first.old.number book.new.seen) ≡ accepted (own first.old.number first.old.seen) }
+    ensures of_second { accepted (own second.old.number book.new.seen) ≡ accepted (own second.old.number second.old.seen) }
+{
+    own_events_stay();
+    book.meet(first);
+    book.meet(second);
+}
+
+// What a queue has done, with what its senders were told.
+fn end_of(finished: (Runs, Book), told: (Told, Told)) -> Ended
+    requires told { HaveQueued finished.1.queue told.0 told.1 }
+    requires ran { finished.0.ran.items ≡ items_among finished.1.layout (accepted finished.1.seen) }
+    ensures layout { result.book.layout ≡ finished.1.layout }
+    ensures history { RanAll result.book.layout result.book.seen result }
+{
+    let (work, mut book) = finished;
+    let (mut first, mut second) = told;
+    meet(&mut book, &mut first.sender, &mut second.sender);
+    book.legal();
+    Ended {
+        work,
+        book,
+        first,
+        second,
+    }
+}
+
+/// Two new queues of this size, each with its worker, in a pool that two threads serve. Four senders, two of each queue, queue
+/// two items each in threads of their own, and when they have ended the stop items follow. What each queue has done is given
+/// in its order.
+///
+/// # Errors
+/// `Memory` where no memory could be had; `Out` where a queue is not in the pool in the end.
+pub fn run<R: Threads + Wait + Sync>(
+    rt: &R,
+    alloc: Global,
+    layout: Layout,
+) -> Result<(Ended, Ended), RunError>
+    requires items { 4 ≤ layout.items }
+    requires senders { layout.senders ≡ 4 }
+    ensures layouts { IfOk result (λ queues. (queues.0.book.layout ≡ layout) × (queues.1.book.layout ≡ layout)) }
+    ensures first { IfOk result (λ queues. RanAll queues.0.book.layout queues.0.book.seen queues.0) }
+    ensures second { IfOk result (λ queues. RanAll queues.1.book.layout queues.1.book.seen queues.1) }
+{
+    let (one, of_one) = build(alloc, layout)?;
+    let (two, of_two) = build(alloc, layout)?;
+    let (pool, callers) = pool_of(alloc, one, two)?;
+    let (told_one, told_two) = serve(rt, &pool, callers, of_one, of_two)?;
+    let mut finished = finish(rt, pool)?.into_iter();
+    let Some(first) = finished.next() else {
+        unreachable!()
+    };
+    let Some(second) = finished.next() else {
+        unreachable!()
+    };
+    Ok((end_of(first, told_one), end_of(second, told_two)))
+}

@@ -1,0 +1,166 @@
+//! Senders in threads of their own, and the stop item.
+ghost use Rattle.std.specs.Prelude.{◌≡◌, ◌<◌, ◌≤◌, ◌++◌, []};
+ghost use Rattle.wq_words.specs.History.{accepted};
+ghost use Rattle.wq_words.specs.Seen.{own};
+ghost use Rattle.wq_live.specs.Known.{IsSame};
+ghost use Rattle.wq_live.specs.Laws.{queued_number};
+ghost use Rattle.wq_ready.specs.Known.{IsCallerOf};
+ghost use Rattle.two_queues.specs.Ended.{IsNewLine, HasQueued, HaveQueued};
+
+use crate::work::Runs;
+use std::sync::Wait;
+use std::thread::{Threads, join, yield_now};
+use wq_live::{Answer, Sender, queued_is_accepted};
+use wq_pool::{Caller, Pool};
+
+// So many times the stop item is tried to be pushed at a time.
+const TRIES: u32 = 64;
+
+/// A sender, and what its two queueings were answered.
+#[derive(Drop)]
+pub struct Told {
+    pub sender: Sender,
+    pub one: Answer,
+    pub two: Answer,
+}
+
+/// A sender of the pool's queue of this number, and a caller that announces it.
+#[derive(Drop)]
+pub(crate) struct Seat {
+    pub(crate) queue: u32,
+    pub(crate) sender: Sender,
+    pub(crate) caller: Caller,
+}
+
+/// The senders of one queue: two for threads, and one for the stop item.
+#[derive(Drop)]
+pub(crate) struct Line {
+    pub(crate) first: Seat,
+    pub(crate) second: Seat,
+    pub(crate) last: Sender,
+}
+
+// Tries until there is room among the announcements: the queues that were announced are picked meanwhile.
+fn announce<R: Wait>(rt: &R, pool: &Pool<Runs>, seat: &mut Seat)
+    requires caller { IsCallerOf pool.now.ready seat.old.caller }
+    ensures caller { IsCallerOf pool.now.ready seat.new.caller }
+    ensures sender { seat.new.sender ≡ seat.old.sender }
+{
+    for _ in rt.forever() {
+        if pool.announce(rt, &mut seat.caller, seat.queue).is_ok() {
+            return;
+        }
+        yield_now();
+    }
+}
+
+// One queueing. Where it wakes the queue, this is announced, so that a worker picks it.
+fn queue<R: Wait>(rt: &R, pool: &Pool<Runs>, seat: &mut Seat, item: u32) -> Answer
+    requires caller { IsCallerOf pool.now.ready seat.old.caller }
+    requires item { item < seat.old.sender.layout.items }
+    ensures caller { IsCallerOf pool.now.ready seat.new.caller }
+    ensures same { IsSame seat.old.sender seat.new.sender }
+    ensures accepted { accepted (own seat.old.sender.number seat.new.sender.seen) ≡ accepted (own seat.old.sender.number seat.old.sender.seen) ++ queued_number item result }
+{
+    queued_is_accepted();
+    let answer = seat.sender.queue(rt, item);
+    if let Answer::Queued { wakes: true, .. } = answer {
+        announce(rt, pool, seat);
+    }
+    answer
+}
+
+// What a thread does: two queueings, one after the other.
+fn queue_two<R: Wait>(rt: &R, pool: &Pool<Runs>, mut seat: Seat, one: u32, two: u32) -> Told
+    requires caller { IsCallerOf pool.now.ready seat.caller }
+    requires one { one < seat.sender.layout.items }
+    requires two { two < seat.sender.layout.items }
+    requires new { seat.sender.seen ≡ [] }
+    ensures { HasQueued one two seat result }
+{
+    let first = queue(rt, pool, &mut seat, one);
+    let second = queue(rt, pool, &mut seat, two);
+    let Seat { sender, .. } = seat;
+    Told {
+        sender,
+        one: first,
+        two: second,
+    }
+}
+
+// The two senders of a queue, each in a thread of its own. The last one is given back.
+fn queue_both<R: Threads + Wait + Sync>(
+    rt: &R,
+    pool: &Pool<Runs>,
+    line: Line,
+) -> ((Told, Told), Sender)
+    requires { IsNewLine pool.now.ready line }
+    ensures { HaveQueued line.first.sender.queue result.0.0 result.0.1 }
+{
+    let Line {
+        first,
+        second,
+        last,
+    } = line;
+    let told = join(
+        rt,
+        move ||
+            requires { IsCallerOf pool.now.ready first.caller × (2 ≤ first.sender.layout.items) × (first.sender.seen ≡ []) }
+            ensures { HasQueued 0 1 first result }
+        { queue_two(rt, pool, first, 0, 1) },
+        move ||
+            requires { IsCallerOf pool.now.ready second.caller × (4 ≤ second.sender.layout.items) × (second.sender.seen ≡ []) }
+            ensures { HasQueued 2 3 second result }
+        { queue_two(rt, pool, second, 2, 3) },
+    );
+    (told, last)
+}
+
+// Queues the stop item behind all that was queued before. The caller is given back.
+fn stop<R: Wait>(rt: &R, pool: &Pool<Runs>, mut seat: Seat) -> Caller
+    requires { IsCallerOf pool.now.ready seat.caller }
+    ensures { IsCallerOf pool.now.ready result }
+{
+    for _ in rt.forever() {
+        match seat.sender.request_stop(TRIES) {
+            Answer::Contended => {}
+            Answer::Queued { wakes: true, .. } => {
+                announce(rt, pool, &mut seat);
+                break;
+            }
+            _ => break,
+        }
+    }
+    let Seat { caller, .. } = seat;
+    caller
+}
+
+/// All four senders queue, and when they have ended both stop items follow.
+pub(crate) fn queue_all<R: Threads + Wait + Sync>(
+    rt: &R,
+    pool: &Pool<Runs>,
+    caller: Caller,
+    one: Line,
+    two: Line,
+) -> ((Told, Told), (Told, Told))
+    requires caller { IsCallerOf pool.now.ready caller }
+    requires one { IsNewLine pool.now.ready one }
+    requires two { IsNewLine pool.now.ready two }
+    ensures one { HaveQueued one.first.sender.queue result.0.0 result.0.1 }
+    ensures two { HaveQueued two.first.sender.queue result.1.0 result.1.1 }
+{
+    let ((told, last), (told_two, last_two)) = join(
+        rt,
+        move ||
+            requires { IsNewLine pool.now.ready one }
+            ensures { HaveQueued one.first.sender.queue result.0.0 result.0.1 }
+        { queue_both(rt, pool, one) },
+        move ||
+            requires { IsNewLine pool.now.ready two }
+            ensures { HaveQueued two.first.sender.queue result.0.0 result.0.1 }
+        { queue_both(rt, pool, two) },
+    );
+    let caller = stop(rt, pool, Seat { queue: 0, sender: last, caller });
+    let _caller = stop(rt, pool, Seat { queue: 1, sender: last_two, caller });
+    (told, told_two)
+}
