@@ -8,6 +8,7 @@ Each round runs each row once in each cell, in turn, with so many items (500,000
 nanoseconds an item with its quartiles, and below how many items a take found; the second one has the time until one item ran that
 was queued so many microseconds after the last one.
 """
+import contextlib
 import os
 import resource
 import subprocess
@@ -56,11 +57,12 @@ def at(values, part):
     return sorted(values)[min(len(values) - 1, int(len(values) * part))]
 
 
-def compiled(folder, name, *flags):
+def compiled(folder, name, *flags, libraries=()):
     """The program of a file in C."""
     program = os.path.join(folder, '-'.join((name, *flags)))
     source = os.path.join(HERE, name + '.c')
-    subprocess.run([os.environ.get('CC', 'cc'), '-std=c11', '-D_GNU_SOURCE', '-O2', '-pthread', *flags, '-o', program, source], check=True)
+    command = [os.environ.get('CC', 'cc'), '-std=c11', '-D_GNU_SOURCE', '-O2', '-pthread', *flags, '-o', program, source, *libraries]
+    subprocess.run(command, check=True)
     return program
 
 
@@ -94,6 +96,16 @@ def measured(rounds, table, cells, numbers, read):
     return got
 
 
+@contextlib.contextmanager
+def folder_and_load():
+    """A folder for what is compiled; afterwards it prints how many processors other processes used meanwhile."""
+    start, used, mine = time.monotonic(), busy(), own()
+    with tempfile.TemporaryDirectory() as folder:
+        yield folder
+    others = (busy() - used - (own() - mine)) / (time.monotonic() - start)
+    print(f'{os.cpu_count()} processors, of which other processes used {others:.1f} in the mean')
+
+
 def show(cells):
     print('| ' + ' | '.join(cells) + ' |')
 
@@ -120,16 +132,13 @@ def main():
     program, rounds = os.path.abspath(sys.argv[1]), int(sys.argv[2])
     count = int(sys.argv[3]) if len(sys.argv) > 3 else 500000
     before = sys.argv[4:]
-    start, used, mine = time.monotonic(), busy(), own()
-    with tempfile.TemporaryDirectory() as folder:
+    with folder_and_load() as folder:
         peers = compiled(folder, 'scheme'), compiled(folder, 'scheme', '-DKERNEL=1')
         table = [(name, before + words) for name, words in rows(program, *peers)]
         lone_table = [(name, before + words) for name, words in lone_rows(program, compiled(folder, 'lone'))]
         show_items(table, measured(rounds, table, CELLS, lambda cell: (*cell, count), items))
         print()
         show_lone(lone_table, measured(rounds, lone_table, GAPS, lambda gap: (200, gap), lone))
-    others = (busy() - used - (own() - mine)) / (time.monotonic() - start)
-    print(f'{os.cpu_count()} processors, of which other processes used {others:.1f} in the mean')
 
 
 if __name__ == '__main__':

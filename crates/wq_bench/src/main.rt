@@ -7,9 +7,11 @@
 //! the worker rests before it parks, and its senders wake it on `wakes` alone. `wq_bench lone ROUNDS
 //! MICROS` queues one item to such a worker so many microseconds after the last one ran, and prints the median and the 95th
 //! percentile of the time until it ran. `wq_bench delays ITEMS ROUNDS` measures a delay table; it prints what an arming, a move, a
-//! cancel and letting go took an item.
+//! cancel and letting go took an item. `wq_bench pool QUEUES WORKERS SENDERS TOTAL` measures a pool of so many workers: each sender
+//! queues on all queues in turn, and it prints `items N nanos T picks K strays S`, of which the last is how many items ran out of
+//! their sender's order.
 //!
-//! Without words it prints `items N` for a small plan, which depends on no clock.
+//! Without words it prints `items N` for a small plan of one queue and for one of a pool, which depends on no clock.
 #![tactic(auto)]
 
 mod counts;
@@ -19,6 +21,7 @@ mod lone;
 mod offer;
 mod pace;
 mod plan;
+mod pool;
 mod race;
 mod runs;
 mod serve;
@@ -28,6 +31,7 @@ use counts::Counts;
 use lone::Rounds;
 use pace::Pace;
 use plan::{Plan, PlanError};
+use pool::{PoolCounts, PoolPlan};
 use std::alloc::Global;
 use std::io;
 use std::process::ExitCode;
@@ -52,12 +56,16 @@ fn run<R: Threads>(rt: &R, alloc: Global, plan: Plan) -> Result<Counts, PlanErro
     race::run(rt, alloc, owner, senders, plan)
 }
 
-/// Runs the small plan, and prints what depends on no clock.
+/// Runs the small plans, and prints what depends on no clock.
 fn show_small<R: Runtime + Alloc<A = Global> + Threads + Wait + Sync>(
     rt: &R,
 ) -> io::Result<ExitCode> {
     match run(rt, rt.alloc(), Plan::small()) {
         Ok(counts) => println!(rt; "items {}", counts.items)?,
+        Err(error) => return refuse(rt, error),
+    }
+    match pool::run(rt, rt.alloc(), PoolPlan::small()) {
+        Ok(counts) => println!(rt; "pool items {} strays {}", counts.items, counts.strays)?,
         Err(error) => return refuse(rt, error),
     }
     Ok(ExitCode::SUCCESS)
@@ -91,6 +99,27 @@ fn show_serve<R: Runtime + Alloc<A = Global> + Threads + Wait + Sync>(
             "items {items} nanos {nanos} takes {takes} unparks {}",
             calls.unparks
         )?,
+        Err(error) => return refuse(rt, error),
+    }
+    Ok(ExitCode::SUCCESS)
+}
+
+/// Runs a pool's plan, and prints its time.
+fn show_pool<R: Runtime + Alloc<A = Global> + Threads + Wait + Sync>(
+    rt: &R,
+    plan: PoolPlan,
+) -> io::Result<ExitCode> {
+    let start = Instant::now(rt)?;
+    let ran = pool::run(rt, rt.alloc(), plan);
+    let nanos = start.elapsed(rt)?.as_nanos();
+    match ran {
+        Ok(
+            PoolCounts {
+                items,
+                picks,
+                strays,
+            },
+        ) => println!(rt; "items {items} nanos {nanos} picks {picks} strays {strays}")?,
         Err(error) => return refuse(rt, error),
     }
     Ok(ExitCode::SUCCESS)
@@ -168,6 +197,12 @@ fn measure<R: Runtime + Alloc<A = Global> + Threads + Wait + Sync>(
         [word, senders, slice, total] if word.as_str() == "serve" => {
             match Plan::read(senders, slice, total, pace) {
                 Ok(plan) => show_serve(rt, plan),
+                Err(error) => refuse(rt, error),
+            }
+        }
+        [word, queues, workers, senders, total] if word.as_str() == "pool" => {
+            match PoolPlan::read(queues, workers, senders, total) {
+                Ok(plan) => show_pool(rt, plan),
                 Err(error) => refuse(rt, error),
             }
         }

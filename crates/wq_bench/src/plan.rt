@@ -1,8 +1,9 @@
 //! What a run measures.
 use crate::pace::Pace;
-use std::alloc::AllocError;
+use std::alloc::{AllocError, AllocFailed};
 use thiserror::Error;
 use wq_live::BuildError;
+use wq_pool::PoolError;
 use wq_words::{Layout, LayoutError};
 use wq_worker::{Unbuilt, Work};
 
@@ -19,7 +20,7 @@ pub struct Plan {
 #[derive(Clone, Copy, Debug, PartialEq, Eq, Error)]
 pub enum PlanError {
     /// Another count of words, or a word that is no number.
-    #[error("usage: wq_bench [eager | resting] [serve] SENDERS SLICE TOTAL | [eager] lone ROUNDS MICROS | delays ITEMS ROUNDS")]
+    #[error("usage: wq_bench [eager | resting] [serve] SENDERS SLICE TOTAL | [eager] lone ROUNDS MICROS | delays ITEMS ROUNDS | pool QUEUES WORKERS SENDERS TOTAL")]
     Words,
     /// More senders or items than a queue has.
     #[error("plan: {0}")]
@@ -30,10 +31,19 @@ pub enum PlanError {
     /// A thread could not be made.
     #[error("no thread")]
     NoThread,
+    /// A pool that could not be taken apart.
+    #[error("a queue has not run to its end")]
+    Unfinished,
 }
 
 impl From<AllocError> for PlanError {
     fn from(_: AllocError) -> PlanError {
+        PlanError::Memory
+    }
+}
+
+impl<T: Drop> From<AllocFailed<T>> for PlanError {
+    fn from(_: AllocFailed<T>) -> PlanError {
         PlanError::Memory
     }
 }
@@ -50,12 +60,21 @@ impl From<BuildError> for PlanError {
     }
 }
 
+impl From<PoolError> for PlanError {
+    fn from(error: PoolError) -> PlanError {
+        match error {
+            PoolError::NoQueue => PlanError::Words,
+            PoolError::Memory => PlanError::Memory,
+        }
+    }
+}
+
 impl PlanError {
     /// The status that the program ends with.
     pub fn status(self) -> u8 {
         match self {
             PlanError::Words | PlanError::Limits(_) => 2,
-            PlanError::Memory | PlanError::NoThread => 3,
+            PlanError::Memory | PlanError::NoThread | PlanError::Unfinished => 3,
         }
     }
 }
