@@ -114,6 +114,7 @@ impl<W: Work + Drop> Pool<W> {
         requires { IsCallerOf self.now.ready caller.old }
         ensures no_queue { (result ≡ Err announce_error.NoQueue) ↔ (length self.now.workers ≤ queue) }
         ensures seen { Announces queue result caller.old caller.new }
+        ensures caller { IsCallerOf self.now.ready caller.new }
     {
         self.ready.announce(rt, caller, queue)
     }
@@ -123,6 +124,7 @@ impl<W: Work + Drop> Pool<W> {
     pub fn pick<R: Wait>(&self, rt: &R, caller: &mut Caller) -> Option<Turn<W>>
         requires { IsCallerOf self.now.ready caller.old }
         ensures seen { Picks (option_map queue_in_turn result) caller.old caller.new }
+        ensures caller { IsCallerOf self.now.ready caller.new }
         ensures turn { IfSome result (IsTurnOf self.now) }
         ensures idle { IfSome result (λ turn. ¬ IsRunning turn.worker.seen) }
     {

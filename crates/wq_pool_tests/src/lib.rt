@@ -2,4 +2,6 @@
 #![tactic(auto)]
 
 #[cfg(test)]
+mod pool;
+#[cfg(test)]
 mod ready;

@@ -1,0 +1,5 @@
+//! Pools: worked rows, turns, and what threads see.
+mod overlap;
+mod rows;
+mod team;
+mod turns;

@@ -1,0 +1,121 @@
+//! Worked rows of a pool.
+ghost use Rattle.std.specs.Prelude.{◌≡◌};
+
+use crate::pool::team::{Logging, Open, filled, new_pool, two_filled};
+use std::alloc::Global;
+use std::process::Abort;
+use std::test::Fail;
+use wq_pool::{AnnounceError, Pool, PoolError, PoolFault, Served, Turn, Worked};
+
+/// Finishes a pool of which a queue is out, and gives it back with the number of the queue.
+fn finish_out<R: Abort>(rt: &R, pool: Pool<Logging>, limit: u32) -> (Pool<Logging>, u32)
+    ensures { result.0 ≡ pool }
+{
+    match pool.finish(limit) {
+        Err(PoolFault::Out { pool, queue }) => (pool, queue),
+        _ => panic!(rt; "no queue was out"),
+    }
+}
+
+/// Finishes a pool that is not executed within the limit, and gives it back with the number of the queue and what is left of it.
+fn finish_unfinished<R: Abort>(
+    rt: &R,
+    pool: Pool<Logging>,
+    limit: u32,
+) -> (Pool<Logging>, u32, u32) {
+    match pool.finish(limit) {
+        Err(PoolFault::Unfinished { pool, queue, left }) => (pool, queue, left),
+        _ => panic!(rt; "nothing was left"),
+    }
+}
+
+fn work<R: Abort>(rt: &R, turn: Turn<Logging>) -> Worked<Logging>
+    ensures { result.slots ≡ turn.slots }
+{
+    match turn.work(9, &Open) {
+        Ok(worked) => worked,
+        Err(_) => panic!(rt; "something was left"),
+    }
+}
+
+/// As many announcements wait as there are queues, whichever they are of.
+#[test]
+fn announced_until_full(rt: HostRuntime) -> Result<(), Fail> {
+    let queues = two_filled(&rt, rt.alloc(), 0, 0);
+    let (pool, mut caller) = new_pool(&rt, rt.alloc(), queues);
+    assert_eq!(rt; pool.announce(&rt, &mut caller, 0), Ok(()));
+    assert_eq!(rt; pool.announce(&rt, &mut caller, 0), Ok(()));
+    assert_eq!(rt;
+        pool.announce(&rt, &mut caller, 1),
+        Err(AnnounceError::Full)
+    );
+    assert_eq!(rt;
+        pool.announce(&rt, &mut caller, 2),
+        Err(AnnounceError::NoQueue)
+    );
+    Ok(())
+}
+
+/// Two queues are in one hand, in the order in which they were announced. They are out until they are put back.
+#[test]
+fn in_hand_is_out(rt: HostRuntime) -> Result<(), Fail> {
+    let queues = two_filled(&rt, rt.alloc(), 2, 1);
+    let (pool, mut caller) = new_pool(&rt, rt.alloc(), queues);
+    assert_eq!(rt; pool.announce(&rt, &mut caller, 1), Ok(()));
+    assert_eq!(rt; pool.announce(&rt, &mut caller, 0), Ok(()));
+    let one = pool.pick(&rt, &mut caller).expect(&rt, "a turn");
+    let other = pool.pick(&rt, &mut caller).expect(&rt, "a second turn");
+    assert_eq!(rt; (one.queue(), other.queue()), (1, 0));
+    assert!(rt; pool.pick(&rt, &mut caller).is_none());
+    let (pool, queue) = finish_out(&rt, pool, 9);
+    assert_eq!(rt; queue, 0);
+    let one = work(&rt, one);
+    let other = work(&rt, other);
+    pool.put_back(&mut caller, one);
+    pool.put_back(&mut caller, other);
+    let finished = pool.finish(9)?;
+    let [(zero, _), (one, _)] = finished.as_slice() else {
+        return Err(Fail::new("not two queues"));
+    };
+    assert_eq!(rt; zero.order.as_slice(), [0, 1].as_slice());
+    assert_eq!(rt; one.order.as_slice(), [0].as_slice());
+    Ok(())
+}
+
+/// What was queued and never announced is executed at the end, so many of each queue as the limit says.
+#[test]
+fn finish_executes_to_its_limit(rt: HostRuntime) -> Result<(), Fail> {
+    let queues = two_filled(&rt, rt.alloc(), 2, 0);
+    let (pool, _caller) = new_pool(&rt, rt.alloc(), queues);
+    let (pool, queue, left) = finish_unfinished(&rt, pool, 1);
+    assert_eq!(rt; (queue, left), (0, 1));
+    let finished = pool.finish(1)?;
+    assert_eq!(rt; finished.len(), 2);
+    assert_eq!(rt; finished[0].0.order.as_slice(), [0, 1].as_slice());
+    Ok(())
+}
+
+/// So many queues in which nothing is queued.
+fn empty_queues<R: Abort>(rt: &R, alloc: Global, count: u32) -> Vec<Served<Logging>> {
+    let mut queues = Vec::new(alloc);
+    for _ in 0..count {
+        let (served, _sender) = filled(rt, alloc, 0);
+        queues.push(served).expect(rt, "memory");
+    }
+    queues
+}
+
+/// Why no pool of so many queues is made.
+fn refused<R: Abort>(rt: &R, alloc: Global, count: u32) -> Option<PoolError> {
+    Pool::new(alloc, empty_queues(rt, alloc, count), 1).err()
+}
+
+/// A pool has 1 to 256 queues.
+#[test]
+fn queues_of_a_pool(rt: HostRuntime) -> Result<(), Fail> {
+    assert_eq!(rt; refused(&rt, rt.alloc(), 0), Some(PoolError::NoQueue));
+    assert_eq!(rt; refused(&rt, rt.alloc(), 1), None);
+    assert_eq!(rt; refused(&rt, rt.alloc(), 256), None);
+    assert_eq!(rt; refused(&rt, rt.alloc(), 257), Some(PoolError::NoQueue));
+    Ok(())
+}

@@ -1,0 +1,148 @@
+//! Queues for a pool, and the callers of it.
+ghost use Rattle.std.specs.Prelude.{◌≡◌, [], All, map};
+ghost use Rattle.wq_ready.specs.Known.{IsCallerOf};
+ghost use Rattle.wq_pool.specs.WorkerId.{worker_id};
+
+use arrayvec::ArrayVec;
+use std::alloc::Global;
+use std::process::Abort;
+use std::sync::Wait;
+use trail::Trail;
+use wq_live::{Answer, Sender};
+use wq_pool::{Caller, Gate, Pool, Served};
+use wq_words::Layout;
+use wq_worker::{Follow, Work, Worker};
+
+/// A work that asks for nothing, and keeps what it ran.
+#[derive(Drop)]
+pub(crate) struct Logging {
+    pub(crate) ran: Trail,
+    pub(crate) order: ArrayVec<u32, 64>,
+}
+
+impl Logging {
+    pub(crate) fn new() -> Logging
+        ensures { result.ran.items ≡ [] }
+    {
+        Logging {
+            ran: Trail::new(),
+            order: ArrayVec::new(),
+        }
+    }
+}
+
+impl Work for Logging {
+    ghost log = { λ w. w.ran.items };
+
+    ghost may = { λ w k f v. Unit {0} };
+
+    fn run(&mut self, item: u32) -> Follow {
+        self.ran = self.ran.and(item);
+        let _ = self.order.try_push(item);
+        Follow::new()
+    }
+}
+
+/// A gate that looks at nothing.
+pub(crate) struct Open;
+
+impl Gate for Open {
+    fn before(&self, queue: u32, item: u32) {
+        let _ = (queue, item);
+    }
+
+    fn after(&self, queue: u32, item: u32) {
+        let _ = (queue, item);
+    }
+}
+
+/// A new queue, and the senders of it that are not its worker's.
+pub(crate) fn new_queue<R: Abort, W: Work + Drop>(
+    rt: &R,
+    alloc: Global,
+    layout: Layout,
+    work: W,
+) -> (Served<W>, Vec<Sender>)
+    requires { W.log work ≡ [] }
+    ensures { All (λ s. s.queue ≡ result.0.queue) result.1.items }
+{
+    let Ok((worker, senders)) = Worker::build(alloc, layout, work, 1) else {
+        panic!(rt; "no memory for a queue")
+    };
+    (Served::new(worker), senders)
+}
+
+pub(crate) fn queue_item<R: Abort>(rt: &R, sender: &mut Sender, item: u32) -> Answer
+    ensures { sender.new.queue ≡ sender.old.queue }
+{
+    assert!(rt; item < sender.layout().items);
+    sender.queue_tries(item, 1)
+}
+
+/// A queue of four items in which those below a number are queued, and its sender.
+pub(crate) fn filled<R: Abort>(rt: &R, alloc: Global, count: u32) -> (Served<Logging>, Sender) {
+    let layout = Layout::new(4, 1, 2).expect(rt, "a layout");
+    let (served, mut senders) = new_queue(rt, alloc, layout, Logging::new());
+    let mut sender = senders.pop().expect(rt, "a sender");
+    for item in 0..count {
+        queue_item(rt, &mut sender, item);
+    }
+    (served, sender)
+}
+
+/// Two queues, with so many items queued in each.
+pub(crate) fn two_filled<R: Abort>(
+    rt: &R,
+    alloc: Global,
+    first: u32,
+    second: u32,
+) -> Vec<Served<Logging>> {
+    let mut queues = Vec::new(alloc);
+    let (one, _sender) = filled(rt, alloc, first);
+    let (other, _sender) = filled(rt, alloc, second);
+    queues.push(one).expect(rt, "memory");
+    queues.push(other).expect(rt, "memory");
+    queues
+}
+
+pub(crate) fn take_last<R: Abort>(rt: &R, pool: &Pool<Logging>, callers: &mut Vec<Caller>) -> Caller
+    requires { All (IsCallerOf pool.now.ready) callers.old.items }
+    ensures rest { All (IsCallerOf pool.now.ready) callers.new.items }
+    ensures last { IsCallerOf pool.now.ready result }
+{
+    let _ = pool;
+    callers.pop().expect(rt, "a caller")
+}
+
+/// A pool of these queues, and one caller of it.
+pub(crate) fn new_pool<R: Abort>(
+    rt: &R,
+    alloc: Global,
+    queues: Vec<Served<Logging>>,
+) -> (Pool<Logging>, Caller)
+    ensures { IsCallerOf result.0.ready result.1 }
+{
+    let (pool, mut callers) = Pool::new(alloc, queues, 1).expect(rt, "a pool");
+    let caller = take_last(rt, &pool, &mut callers);
+    (pool, caller)
+}
+
+/// A caller with its pool.
+#[derive(Drop)]
+pub(crate) struct Guest<'a> {
+    pub(crate) pool: &'a Pool<Logging>,
+    pub(crate) caller: Caller,
+    ghost is_caller: { IsCallerOf pool.now.ready caller },
+}
+
+impl<'a> Guest<'a> {
+    pub(crate) fn new(pool: &'a Pool<Logging>, caller: Caller) -> Guest<'a>
+        requires { IsCallerOf pool.now.ready caller }
+    {
+        Guest { pool, caller }
+    }
+
+    pub(crate) fn announce<R: Wait>(&mut self, rt: &R, queue: u32) -> bool {
+        self.pool.announce(rt, &mut self.caller, queue).is_ok()
+    }
+}
