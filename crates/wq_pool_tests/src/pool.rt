@@ -1,4 +1,6 @@
 //! Pools: worked rows, turns, and what threads see.
+mod crowd;
+mod hands;
 mod overlap;
 mod rows;
 mod team;

@@ -1,11 +1,11 @@
 //! Worked rows of a pool.
 ghost use Rattle.std.specs.Prelude.{◌≡◌};
 
-use crate::pool::team::{Logging, Open, filled, new_pool, two_filled};
+use crate::pool::team::{Logging, Open, filled, new_pool, two_filled, work};
 use std::alloc::Global;
 use std::process::Abort;
 use std::test::Fail;
-use wq_pool::{AnnounceError, Pool, PoolError, PoolFault, Served, Turn, Worked};
+use wq_pool::{AnnounceError, Pool, PoolError, PoolFault, Served};
 
 /// Finishes a pool of which a queue is out, and gives it back with the number of the queue.
 fn finish_out<R: Abort>(rt: &R, pool: Pool<Logging>, limit: u32) -> (Pool<Logging>, u32)
@@ -26,15 +26,6 @@ fn finish_unfinished<R: Abort>(
     match pool.finish(limit) {
         Err(PoolFault::Unfinished { pool, queue, left }) => (pool, queue, left),
         _ => panic!(rt; "nothing was left"),
-    }
-}
-
-fn work<R: Abort>(rt: &R, turn: Turn<Logging>) -> Worked<Logging>
-    ensures { result.slots ≡ turn.slots }
-{
-    match turn.work(9, &Open) {
-        Ok(worked) => worked,
-        Err(_) => panic!(rt; "something was left"),
     }
 }
 
@@ -69,8 +60,8 @@ fn in_hand_is_out(rt: HostRuntime) -> Result<(), Fail> {
     assert!(rt; pool.pick(&rt, &mut caller).is_none());
     let (pool, queue) = finish_out(&rt, pool, 9);
     assert_eq!(rt; queue, 0);
-    let one = work(&rt, one);
-    let other = work(&rt, other);
+    let one = work(&rt, one, 9, &Open);
+    let other = work(&rt, other, 9, &Open);
     pool.put_back(&mut caller, one);
     pool.put_back(&mut caller, other);
     let finished = pool.finish(9)?;

@@ -6,10 +6,10 @@ ghost use Rattle.wq_pool.specs.WorkerId.{worker_id};
 use arrayvec::ArrayVec;
 use std::alloc::Global;
 use std::process::Abort;
-use std::sync::Wait;
+use std::sync::{Mutex, Wait};
 use trail::Trail;
 use wq_live::{Answer, Sender};
-use wq_pool::{Caller, Gate, Pool, Served};
+use wq_pool::{Caller, Gate, Pool, Served, Turn, Worked};
 use wq_words::Layout;
 use wq_worker::{Follow, Work, Worker};
 
@@ -144,5 +144,41 @@ impl<'a> Guest<'a> {
 
     pub(crate) fn announce<R: Wait>(&mut self, rt: &R, queue: u32) -> bool {
         self.pool.announce(rt, &mut self.caller, queue).is_ok()
+    }
+}
+
+/// So many callers with their pool, each under a lock of its own.
+pub(crate) fn take_guests<'a, R: Abort>(
+    rt: &R,
+    alloc: Global,
+    pool: &'a Pool<Logging>,
+    callers: &mut Vec<Caller>,
+    count: u32,
+) -> Vec<Mutex<Guest<'a>>>
+    requires { All (IsCallerOf pool.now.ready) callers.old.items }
+    ensures { All (IsCallerOf pool.now.ready) callers.new.items }
+{
+    let mut guests = Vec::new(alloc);
+    for _turn in 0..count {
+        let caller = take_last(rt, pool, callers);
+        guests
+            .push(Mutex::new(Guest::new(pool, caller)))
+            .expect(rt, "memory");
+    }
+    guests
+}
+
+/// Works at a queue to the end.
+pub(crate) fn work<R: Abort, G: Gate>(
+    rt: &R,
+    turn: Turn<Logging>,
+    limit: u32,
+    gate: &G,
+) -> Worked<Logging>
+    ensures { result.slots ≡ turn.slots }
+{
+    match turn.work(limit, gate) {
+        Ok(worked) => worked,
+        Err(_) => panic!(rt; "something was left"),
     }
 }
