@@ -57,7 +57,7 @@ impl Model for Core {
 impl Core {
     /// A queue in which nothing has happened.
     pub fn new(alloc: Global, layout: Layout) -> Result<Core, AllocError>
-        ensures { IfOk result (λ core. core ≡ opening layout) }
+        ensures opening { IfOk result (λ core. core ≡ opening layout) }
     {
         let count = layout.number_count() as usize;
         Ok(Core {
@@ -76,21 +76,21 @@ impl Core {
 
     /// The machine's invariant, which a caller has in hand after the call. It computes nothing.
     pub fn sound(&self)
-        ensures { IsSound self.now }
+        ensures holds { IsSound self.now }
     {
         let _ = &self.words;
     }
 
     /// The events so far, oldest first.
     pub fn history(&self) -> &[Event]
-        ensures { result.now ≡ self.now.history }
+        ensures events { result.now ≡ self.now.history }
     {
         &self.history
     }
 
     /// The numbers whose queueing was answered true, or that were chained, in order.
     pub fn accepted(&self) -> Result<Vec<u32>, AllocError>
-        ensures { IfOk result (λ numbers. numbers.items ≡ accepted self.now.history) }
+        ensures numbers { IfOk result (λ numbers. numbers.items ≡ accepted self.now.history) }
     {
         self.history
             .iter()
@@ -100,7 +100,7 @@ impl Core {
 
     /// The numbers that have begun to execute, in order.
     pub fn begun(&self) -> Result<Vec<u32>, AllocError>
-        ensures { IfOk result (λ numbers. numbers.items ≡ begun self.now.history) }
+        ensures numbers { IfOk result (λ numbers. numbers.items ≡ begun self.now.history) }
     {
         self.history
             .iter()

@@ -12,28 +12,28 @@ pub const HEAD: usize = 0;
 
 /// How many words the queue has.
 pub fn word_count(layout: Layout) -> usize
-    ensures { result ≡ word_count (number_count layout) }
+    ensures words { result ≡ word_count (number_count layout) }
 {
     2 * layout.number_count() as usize + 2
 }
 
 /// Where the link of a number stands.
 pub fn link_place(number: u32) -> usize
-    ensures { result ≡ link_place number }
+    ensures place { result ≡ link_place number }
 {
     1 + number as usize
 }
 
 /// Where the item word of a number stands.
 pub fn item_place(layout: Layout, number: u32) -> usize
-    ensures { result ≡ item_place (number_count layout) number }
+    ensures place { result ≡ item_place (number_count layout) number }
 {
     1 + layout.number_count() as usize + number as usize
 }
 
 /// Where the count of ended executions stands.
 pub fn done_place(layout: Layout) -> usize
-    ensures { result ≡ done_place (number_count layout) }
+    ensures place { result ≡ done_place (number_count layout) }
 {
     1 + 2 * layout.number_count() as usize
 }
@@ -41,7 +41,7 @@ pub fn done_place(layout: Layout) -> usize
 /// The word that links to what stands at a head that is not closed: the end where the list is empty, whether it rests or
 /// not.
 pub fn link_word(word: u64) -> u64
-    ensures { result ≡ link_word word }
+    ensures word { result ≡ link_word word }
 {
     if word == BUSY { 0 } else { word }
 }
@@ -49,7 +49,7 @@ pub fn link_word(word: u64) -> u64
 /// What a head word says.
 pub fn head_at(word: u64) -> Head
     requires { word ≢ closed_word → link_word word ≤ 2 ^ 32 }
-    ensures { result ≡ head_at word }
+    ensures head { result ≡ head_at word }
 {
     match Head::from_word(word) {
         Some(head) => head,
@@ -60,7 +60,7 @@ pub fn head_at(word: u64) -> Head
 /// The number that a link stands for.
 pub fn number_at(word: u64) -> Option<u32>
     requires { word ≤ 2 ^ 32 }
-    ensures { result ≡ number_at word }
+    ensures number { result ≡ number_at word }
 {
     match head_at(word) {
         Head::Item(number) => Some(number),
@@ -71,7 +71,7 @@ pub fn number_at(word: u64) -> Option<u32>
 
 /// The word that links to a number, or to none.
 pub fn word_at(next: Option<u32>) -> u64
-    ensures { result ≡ word_at next }
+    ensures word { result ≡ word_at next }
 {
     match next {
         Some(number) => Head::Item(number).to_word(),

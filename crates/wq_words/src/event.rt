@@ -50,7 +50,7 @@ pub enum Event {
 impl Event {
     /// The number that is accepted by it: it was pushed or chained.
     pub fn accepted_number(self) -> Option<u32>
-        ensures { result ≡ accepted_by self }
+        ensures accepted { result ≡ accepted_by self }
     {
         match self {
             Event::Push(_, number) | Event::Chain(number) => Some(number),
@@ -60,7 +60,7 @@ impl Event {
 
     /// The number whose execution begins with it.
     pub fn begun_number(self) -> Option<u32>
-        ensures { result ≡ begun_by self }
+        ensures begun { result ≡ begun_by self }
     {
         match self {
             Event::Begin(number) => Some(number),

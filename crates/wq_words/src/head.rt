@@ -21,7 +21,7 @@ pub enum Head {
 impl Head {
     /// The word that codes it: 0 for `Empty`, the number and 1 for `Item`, all bits set for `Closed`.
     pub fn to_word(self) -> u64
-        ensures { result ≡ head_word self }
+        ensures word { result ≡ head_word self }
     {
         match self {
             Head::Empty => 0,

@@ -16,13 +16,13 @@ ghost use Rattle.wq_words.specs.Rest.{WakesOnceARest};
 /// follows the close. Each push has a hold of its own, which found the number not pending, and no two senders hold one
 /// number (`alloc_ordered_workqueue` and `queue_work` of Linux's `core-api/workqueue`).
 pub fn headline()
-    ensures { (layout : Layout) (h : List Event) → IsLegal layout h → KeepsHeadline h }
+    ensures each_legal { (layout : Layout) (h : List Event) → IsLegal layout h → KeepsHeadline h }
 {}
 
 /// Each number has just one keeper: nobody, the sender that holds it, the list, or the owner. The events, one by one,
 /// give the same keeper as the counts do.
 pub fn one_keeper()
-    ensures { (layout : Layout) (h : List Event) → IsLegal layout h → (k : ℕ) (x : Keeper) → Keeps h k x ↔ (keeper h k ≡ x) }
+    ensures agrees { (layout : Layout) (h : List Event) → IsLegal layout h → (k : ℕ) (x : Keeper) → Keeps h k x ↔ (keeper h k ≡ x) }
 {}
 
 /// The list, which stands newest first (`llist.h`), is all that was accepted and not taken. While the queue is open, as
@@ -51,5 +51,5 @@ pub fn pending_and_closed()
 /// first taken after a push: who wakes the owner on `wakes` alone does so once a rest. A take sets a resting queue to work
 /// without a wake. It holds of each list of events, legal or not.
 pub fn one_wakes()
-    ensures { (h : List Event) → WakesOnceARest h }
+    ensures once_a_rest { (h : List Event) → WakesOnceARest h }
 {}

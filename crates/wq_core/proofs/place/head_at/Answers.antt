@@ -13,4 +13,4 @@ pub returns : goal.returns
 returns c =
     let coded = head_coded c.args.word c.requires in
     let is : c.from_word.result ≡ Some (head_at c.args.word) = c.from_word.ensures.given_back (head_at c.args.word) coded.0 coded.1 in
-    cc (is, c.in-Some.is)
+    record { head = cc (is, c.in-Some.is) }

@@ -2,4 +2,4 @@ use Rattle.wq_words.proofs.Headlines.{keeps_headline}
 use Rattle.wq_words.proofs.laws.headline.Goals as goal
 
 pub returns : goal.returns
-returns c = keeps_headline
+returns c = record { each_legal = keeps_headline }

@@ -2,4 +2,4 @@ use Rattle.wq_words.proofs.Places.{keeps-keeper}
 use Rattle.wq_words.proofs.laws.one_keeper.Goals as goal
 
 pub returns : goal.returns
-returns c = keeps-keeper
+returns c = record { agrees = keeps-keeper }

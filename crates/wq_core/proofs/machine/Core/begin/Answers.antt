@@ -10,14 +10,14 @@ index_mut-requires c =
     let len : c.len-last.result ≡ length c.self.inside.batch.items = omega arith in
     let split = by_top c.self.inside.batch.items c.index-number.result.now made.1.1 (rw len at c.index-number.ensures) in
     let first = first_of_batch _ o c.index-number.result.now _ made.1.0 split in
-    omega (arith, first.0, o.has_words, c.item_place-bit.ensures)
+    omega (arith, first.0, o.has_words, c.item_place-bit.ensures.place)
 
 pub invariant_of-self-2 : goal.invariant_of-self-2
 invariant_of-self-2 c =
     let made = rw (← c.self.view_is) at c.requires in
     let len : c.len-last.result ≡ length c.self.inside.batch.items = omega arith in
     let split = by_top c.self.inside.batch.items c.index-number.result.now made.1.1 (rw len at c.index-number.ensures) in
-    rw (c.in_ok-push.ensures.items, c.truncate.ensures.items, len, c.item_place-bit.ensures)
+    rw (c.in_ok-push.ensures.items, c.truncate.ensures.items, len, c.item_place-bit.ensures.place)
     (stored_begin _ _ _ c.self.invariant c.index-number.result.now _ made.1.0 split made.1.2)
 
 pub returns-clause-reply : goal.returns-clause-reply
@@ -32,4 +32,4 @@ returns-clause-after c =
     let made = rw (← c.self.view_is) at c.requires in
     let len : c.len-last.result ≡ length c.self.inside.batch.items = omega arith in
     let split = by_top c.self.inside.batch.items c.index-number.result.now made.1.1 (rw len at c.index-number.ensures) in
-    rw (← c.self.view_is, split, ← c.self.view_is, c.in_ok-push.ensures.items, c.truncate.ensures.items, len, c.item_place-bit.ensures) refl
+    rw (← c.self.view_is, split, ← c.self.view_is, c.in_ok-push.ensures.items, c.truncate.ensures.items, len, c.item_place-bit.ensures.place) refl

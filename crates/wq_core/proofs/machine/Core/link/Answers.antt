@@ -7,5 +7,5 @@ pub invariant_of-self : goal.invariant_of-self
 invariant_of-self c =
     let made = rw (← c.self.view_is) at c.requires in
     let is = seen_some _ made.1.1 in
-    rw (c.link_place.ensures, c.link_word.ensures, c.unwrap_or.ensures, c.private_at-seat.ensures, c.deref.ensures.value)
+    rw (c.link_place.ensures.place, c.link_word.ensures.word, c.unwrap_or.ensures, c.private_at-seat.ensures, c.deref.ensures.value)
     (stored_link _ _ _ c.self.invariant c.args.sender c.args.number _ made.0.0.0 made.0.1 made.1.0 is (λ e. made.1.2 (is ∙ ap Some e)))

@@ -12,5 +12,5 @@ invariant_of-self-2 c =
     let made = rw (← c.self.view_is) at c.requires in
     let word = rw c.deref-2.ensures.value at c.word.ensures in
     let seen = rw (c.private_at.ensures, c.deref.ensures.value) at c.unwrap_or-seen.ensures in
-    rw (c.in_ok-push.ensures.items, c.to_word.ensures)
+    rw (c.in_ok-push.ensures.items, c.to_word.ensures.word)
     (stored_push _ _ _ c.self.invariant c.args.sender c.args.number made.0.0.0 made.0.1 made.1 (sym word ∙ c.if-word-seen.false ∙ seen))

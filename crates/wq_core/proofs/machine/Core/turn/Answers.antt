@@ -12,5 +12,5 @@ small layout (Some j) below = omega (arith, below)
 pub invariant_of-self : goal.invariant_of-self
 invariant_of-self c =
     let made = rw (← c.self.view_is) at c.requires in
-    rw (c.link_place.ensures, c.word_at.ensures)
+    rw (c.link_place.ensures.place, c.word_at.ensures.word)
     (stored_turn _ _ _ c.self.invariant c.args.number (word_at c.args.next) made.1 made.0.1.0 (small c.self.inside.layout c.args.next made.0.1.1))
