@@ -50,7 +50,7 @@ impl Model for Sender {
 impl Sender {
     /// Its number, which counts from 0 in the order of `build`.
     pub fn number(&self) -> u32
-        ensures { result ≡ self.now.number }
+        ensures seat { result ≡ self.now.number }
     {
         self.number
     }
@@ -139,7 +139,7 @@ impl Sender {
     pub fn give_back(&mut self, item: u32)
         requires item { item < self.old.layout.items }
         requires held { Holds self.old.seen self.old.number item }
-        ensures { Sees (Back self.old.number item why.Cancelled ∷ []) 0 self.old self.new }
+        ensures seen { Sees (Back self.old.number item why.Cancelled ∷ []) 0 self.old self.new }
     {
         self.chair.back_cancelled(item);
     }

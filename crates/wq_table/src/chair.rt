@@ -148,7 +148,7 @@ impl Chair {
     pub fn hold(&mut self, number: u32) -> u64
         requires sender { IsSender self.old.part.stage }
         requires number { number < number_count self.old.part.layout }
-        ensures { Steps (Hold number) result self.old self.new }
+        ensures step { Steps (Hold number) result self.old self.new }
     {
         let place = item_place(self.layout, number);
         self.or::<Marks>(place, 1)
@@ -157,7 +157,7 @@ impl Chair {
     /// A sender loads the head.
     pub fn look(&mut self) -> u64
         requires sender { IsSender self.old.part.stage }
-        ensures { Steps Look result self.old self.new }
+        ensures step { Steps Look result self.old self.new }
     {
         self.load::<Looks>(HEAD)
     }
@@ -168,7 +168,7 @@ impl Chair {
         requires held { Holds self.old.part.seen self.old.part.seat number }
         requires seen { HasSeen seen self.old.part.stage }
         requires open { seen ≢ closed_word }
-        ensures { Steps (Link number) (link_word seen) self.old self.new }
+        ensures step { Steps (Link number) (link_word seen) self.old self.new }
     {
         let place = link_place(number);
         let word = link_word(seen);
@@ -179,7 +179,7 @@ impl Chair {
     pub fn push(&mut self, number: u32, seen: u64) -> u64
         requires number { number < number_count self.old.part.layout }
         requires linked { HasLinked seen number self.old.part.stage }
-        ensures { Steps (Push number) result self.old self.new }
+        ensures step { Steps (Push number) result self.old self.new }
     {
         let word = Head::Item(number).to_word();
         self.exchange::<Pushes>(HEAD, seen, word)
@@ -190,7 +190,7 @@ impl Chair {
         requires number { number < number_count self.old.part.layout }
         requires held { Holds self.old.part.seen self.old.part.seat number }
         requires closed { HasSeen closed_word self.old.part.stage }
-        ensures { (word : ℕ) × Steps (Back number Closed) word self.old self.new }
+        ensures step { (word : ℕ) × Steps (Back number Closed) word self.old self.new }
     {
         let place = item_place(self.layout, number);
         self.and::<FindsClosed>(place, 0);
@@ -201,7 +201,7 @@ impl Chair {
         requires sender { IsSender self.old.part.stage }
         requires number { number < number_count self.old.part.layout }
         requires held { Holds self.old.part.seen self.old.part.seat number }
-        ensures { (word : ℕ) × Steps (Back number Contended) word self.old self.new }
+        ensures step { (word : ℕ) × Steps (Back number Contended) word self.old self.new }
     {
         let place = item_place(self.layout, number);
         self.and::<GivesUp>(place, 0);
@@ -212,7 +212,7 @@ impl Chair {
         requires sender { IsSender self.old.part.stage }
         requires number { number < number_count self.old.part.layout }
         requires held { Holds self.old.part.seen self.old.part.seat number }
-        ensures { (word : ℕ) × Steps (Back number Cancelled) word self.old self.new }
+        ensures step { (word : ℕ) × Steps (Back number Cancelled) word self.old self.new }
     {
         let place = item_place(self.layout, number);
         self.and::<Cancels>(place, 0);
@@ -222,7 +222,7 @@ impl Chair {
     pub fn check(&mut self, number: u32) -> u64
         requires sender { IsSender self.old.part.stage }
         requires number { number < number_count self.old.part.layout }
-        ensures { Steps (Check number) result self.old self.new }
+        ensures step { Steps (Check number) result self.old self.new }
     {
         let place = item_place(self.layout, number);
         self.load::<Checks>(place)
@@ -233,7 +233,7 @@ impl Chair {
         requires open { ¬ IsClosed self.old.part.seen }
         requires rested { IsRested self.old.part.stage }
         requires empty { HasNone self.old.part.stage }
-        ensures { Steps Take result self.old self.new }
+        ensures step { Steps Take result self.old self.new }
     {
         self.swap::<Takes>(HEAD, BUSY)
     }
@@ -242,7 +242,7 @@ impl Chair {
     pub fn close(&mut self) -> u64
         requires open { ¬ IsClosed self.old.part.seen }
         requires rested { IsRested self.old.part.stage }
-        ensures { Steps Close result self.old self.new }
+        ensures step { Steps Close result self.old self.new }
     {
         let word = Head::Closed.to_word();
         self.swap::<Closes>(HEAD, word)
@@ -252,7 +252,7 @@ impl Chair {
     pub fn walk(&mut self, number: u32) -> u64
         requires number { number < number_count self.old.part.layout }
         requires next { IsToWalk number self.old.part.stage }
-        ensures { Steps Walk result self.old self.new }
+        ensures step { Steps Walk result self.old self.new }
     {
         let place = link_place(number);
         self.load::<Walks>(place)
@@ -263,7 +263,7 @@ impl Chair {
         requires number { number < number_count self.old.part.layout }
         requires next { next < number_count self.old.part.layout }
         requires taken { IsToTurn number self.old.part.stage }
-        ensures { Steps (Turn number (Some next)) (next + 1) self.old self.new }
+        ensures step { Steps (Turn number (Some next)) (next + 1) self.old self.new }
     {
         let place = link_place(number);
         let word = Head::Item(next).to_word();
@@ -275,7 +275,7 @@ impl Chair {
         requires number { number < number_count self.old.part.layout }
         requires next { IsToBegin number self.old.part.stage }
         requires rests { ¬ IsRunning self.old.part.seen }
-        ensures { (word : ℕ) × Steps Begin word self.old self.new }
+        ensures step { (word : ℕ) × Steps Begin word self.old self.new }
     {
         let place = item_place(self.layout, number);
         self.and::<Begins>(place, 0);
@@ -285,7 +285,7 @@ impl Chair {
     pub fn end(&mut self)
         requires owner { IsOwner self.old.part.stage }
         requires runs { IsRunning self.old.part.seen }
-        ensures { (word : ℕ) × Steps End word self.old self.new }
+        ensures step { (word : ℕ) × Steps End word self.old self.new }
     {
         let place = done_place(self.layout);
         self.add::<Ends>(place, 1);
@@ -297,7 +297,7 @@ impl Chair {
         requires closed { IsClosed self.old.part.seen }
         requires rested { IsRested self.old.part.stage }
         requires runs { IsRunning self.old.part.seen }
-        ensures { Steps (Chain number) result self.old self.new }
+        ensures step { Steps (Chain number) result self.old self.new }
     {
         let place = item_place(self.layout, number);
         self.or::<Chains>(place, 1)
@@ -310,7 +310,7 @@ impl Chair {
         requires rested { IsRested self.old.part.stage }
         requires empty { HasNone self.old.part.stage }
         requires idle { ¬ IsRunning self.old.part.seen }
-        ensures { Steps Rest result self.old self.new }
+        ensures step { Steps Rest result self.old self.new }
     {
         let word = Head::Empty.to_word();
         self.exchange::<Rests>(HEAD, BUSY, word)
@@ -319,7 +319,7 @@ impl Chair {
     /// Two seats of one queue meet: afterwards each has seen all that has happened.
     pub fn meet(&mut self, other: &mut Chair)
         requires { self.old.queue ≡ other.old.queue }
-        ensures { Meet self.old other.old self.new other.new }
+        ensures both { Meet self.old other.old self.new other.new }
     {
         let theirs = rise(&mut other.badge);
         let words = &self.words.shared;
@@ -335,7 +335,7 @@ impl Chair {
     pub fn meet_both(&mut self, other: &mut Chair, third: &mut Chair)
         requires other { self.old.queue ≡ other.old.queue }
         requires third { self.old.queue ≡ third.old.queue }
-        ensures { MeetAll self.old other.old third.old self.new other.new third.new }
+        ensures all { MeetAll self.old other.old third.old self.new other.new third.new }
     {
         let others = rise(&mut other.badge);
         let thirds = rise(&mut third.badge);

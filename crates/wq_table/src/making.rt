@@ -12,7 +12,7 @@ use wq_words::Layout;
 
 /// The seats of a new queue: the owner's, and each sender's at its number. All growths are made here.
 pub fn chairs(alloc: Global, layout: Layout) -> Result<(Chair, Vec<Chair>), AllocError>
-    ensures { IfOk result (λ r. (r.0 ≡ owner_chair r.0.queue layout) × (r.1.items ≡ sender_chairs r.0.queue layout layout.senders)) }
+    ensures seats { IfOk result (λ r. (r.0 ≡ owner_chair r.0.queue layout) × (r.1.items ≡ sender_chairs r.0.queue layout layout.senders)) }
 {
     let count = layout.senders;
     let row = Vec::from_elem(alloc, 0u64, word_count(layout))?;

@@ -8,10 +8,10 @@ use Rattle.wq_live.proofs.Seated.{free_new, length-new_senders, all_new, numbere
 use Rattle.wq_live.proofs.making.build.Goals as goal
 
 pub invariant_of-owner : goal.invariant_of-owner
-invariant_of-owner c = executes_new _ c.in_ok-chair.ensures.0 c.empty.ensures refl refl refl
+invariant_of-owner c = executes_new _ c.in_ok-chair.ensures.seats.0 c.empty.ensures refl refl refl
 
 made : (c : goal.After-empty) → c.in_ok-senders.senders.items ≡ new_senders c.in_ok-chair.chair.queue c.args.layout c.args.layout.senders
-made c = c.in_ok-senders.ensures c.in_ok-chair.chair.queue c.in_ok-chair.ensures.1
+made c = c.in_ok-senders.ensures c.in_ok-chair.chair.queue c.in_ok-chair.ensures.seats.1
 
 pub returns-clause-one : goal.returns-clause-one
 returns-clause-one c = let q = c.in_ok-chair.chair.queue in let l = c.args.layout in let P = λ (s : Known). s.queue ≡ q in
@@ -29,7 +29,7 @@ returns-clause-numbers c = let l = c.args.layout in subst AreNumbered (sym (made
 
 pub returns-clause-unseen : goal.returns-clause-unseen
 returns-clause-unseen c = let q = c.in_ok-chair.chair.queue in let l = c.args.layout in let P = λ (s : Known). s.seen ≡ [] in
-    (ap (λ (x : Standing). x.part.seen) c.in_ok-chair.ensures.0, subst (All P) (sym (made c)) (all_new P q l l.senders (λ s. refl)))
+    (ap (λ (x : Standing). x.part.seen) c.in_ok-chair.ensures.seats.0, subst (All P) (sym (made c)) (all_new P q l l.senders (λ s. refl)))
 
 pub returns-clause-free : goal.returns-clause-free
 returns-clause-free c = let l = c.args.layout in let P = λ (s : Known). (k : ℕ) → ¬ Holds s.seen s.number k in

@@ -47,8 +47,8 @@ overflow_add-result c = let p = c.args.chair.now.part in let both = c.requires.b
 pub returns : goal.returns
 returns c =
     let row = c.args.row in let more = c.args.more in let p = c.args.chair.now.part in let q = c.turn.new.self.part in let both = c.requires.both in
-    let makes = c.turn.ensures.makes in let stage = hang_stage row more p c.requires.stands both q makes in record {
-      queue = c.turn.ensures.queue_is;
+    let makes = c.turn.ensures.step.makes in let stage = hang_stage row more p c.requires.stands both q makes in record {
+      queue = c.turn.ensures.step.queue_is;
       follows = follows_on p p q (follows_none p) (hang_tells row more p c.requires.stands both q makes);
       stands = makes_stands _ _ p q makes;
       stage = stage;

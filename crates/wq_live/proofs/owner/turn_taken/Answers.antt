@@ -31,9 +31,9 @@ walk-word-requires-clause-next c = let p = c.args.chair.now.part in let w = c.ar
 
 pub loop-word-init : goal.loop-word-init
 loop-word-init c = let p = c.args.chair.now.part in let w = c.args.word in let ks = kept_batch p.stage in
-    let q = c.walk-word.new.self.part in let found = c.walk-word.result in let makes = c.walk-word.ensures.makes in
+    let q = c.walk-word.new.self.part in let found = c.walk-word.result in let makes = c.walk-word.ensures.step.makes in
     let stage = c.requires.stage ∙ walking_on w [] ks c.if-word-eq0.false in record {
-      queue = c.walk-word.ensures.queue_is;
+      queue = c.walk-word.ensures.step.queue_is;
       follows = follows_on p p q (follows_none p) (walk_tells (w - 1) found p q [] ks stage makes);
       stands = makes_stands _ _ p q makes;
       turning = subst (λ (r : Row). Turning ks found r p q) (sym c.of_one-row.ensures) (turning_first (w - 1) found p q ks stage makes);
@@ -58,19 +58,19 @@ walk-word-requires-in-loop-word-clause-next c = let l = c.loop-word in let i = l
 
 pub turn-requires-clause-number : goal.turn-requires-clause-number
 turn-requires-clause-number c = let l = c.loop-word in let i = l.invariant in let p = l.chair.part in let t = c.walk-word-in-loop-word.new.self.part in
-    let walks = c.walk-word-in-loop-word.ensures.makes in
+    let walks = c.walk-word-in-loop-word.ensures.step.makes in
     turn_number (kept_batch c.args.chair.now.part.stage) l.word c.walk-word-in-loop-word.result l.row c.args.chair.now.part p i.turning c.loop-word-test.true t
     (makes_stands _ _ p t walks) walks
 
 pub turn-requires-clause-next : goal.turn-requires-clause-next
 turn-requires-clause-next c = let l = c.loop-word in let i = l.invariant in let p = l.chair.part in let t = c.walk-word-in-loop-word.new.self.part in
-    let walks = c.walk-word-in-loop-word.ensures.makes in
+    let walks = c.walk-word-in-loop-word.ensures.step.makes in
     front_number (kept_batch c.args.chair.now.part.stage) l.word c.walk-word-in-loop-word.result l.row c.args.chair.now.part p i.turning c.loop-word-test.true t
     (makes_stands _ _ p t walks) walks
 
 pub turn-requires-clause-taken : goal.turn-requires-clause-taken
 turn-requires-clause-taken c = let l = c.loop-word in let i = l.invariant in let p = l.chair.part in let t = c.walk-word-in-loop-word.new.self.part in
-    let walks = c.walk-word-in-loop-word.ensures.makes in
+    let walks = c.walk-word-in-loop-word.ensures.step.makes in
     turn_next (kept_batch c.args.chair.now.part.stage) l.word c.walk-word-in-loop-word.result l.row c.args.chair.now.part p i.turning c.loop-word-test.true t
     (makes_stands _ _ p t walks) walks
 
@@ -82,12 +82,12 @@ overflow_add-row c = let l = c.loop-word in let i = l.invariant in let p = l.cha
 pub loop-word-preserved : goal.loop-word-preserved
 loop-word-preserved c = let l = c.loop-word in let i = l.invariant in let o = c.args.chair.now.part in let p = l.chair.part in let w = l.word in
     let ks = kept_batch o.stage in let t = c.walk-word-in-loop-word.new.self.part in let found = c.walk-word-in-loop-word.result in
-    let walks = c.walk-word-in-loop-word.ensures.makes in let r = c.turn.new.self.part in let turns = c.turn.ensures.makes in
+    let walks = c.walk-word-in-loop-word.ensures.step.makes in let r = c.turn.new.self.part in let turns = c.turn.ensures.step.makes in
     let stands = makes_stands _ _ p t walks in let ne : w ≢ 0 = c.loop-word-test.true in
     let stage = i.turning.stage_is ∙ walking_on w (l.row.front ∷ i.turning.rest) ks ne in
     let walked : Tells [] p t = walk_tells (w - 1) found p t (l.row.front ∷ i.turning.rest) ks stage walks in
     let turned : Tells [] t r = turned_tells ks w found l.row o p i.turning ne t stands walks r turns in record {
-      queue = c.turn.ensures.queue_is ∙ (c.walk-word-in-loop-word.ensures.queue_is ∙ i.queue);
+      queue = c.turn.ensures.step.queue_is ∙ (c.walk-word-in-loop-word.ensures.step.queue_is ∙ i.queue);
       follows = follows_on o t r (follows_on o p t i.follows walked) turned;
       stands = makes_stands _ _ t r turns;
       turning = turning_next ks w found l.row o p i.turning ne t stands walks r turns;
@@ -96,7 +96,7 @@ loop-word-preserved c = let l = c.loop-word in let i = l.invariant in let o = c.
 pub loop-word-smaller : goal.loop-word-smaller
 loop-word-smaller c = let l = c.loop-word in let i = l.invariant in let o = c.args.chair.now.part in let p = l.chair.part in let w = l.word in
     let ks = kept_batch o.stage in let t = c.walk-word-in-loop-word.new.self.part in let found = c.walk-word-in-loop-word.result in
-    let walks = c.walk-word-in-loop-word.ensures.makes in let r = c.turn.new.self.part in let turns = c.turn.ensures.makes in
+    let walks = c.walk-word-in-loop-word.ensures.step.makes in let r = c.turn.new.self.part in let turns = c.turn.ensures.step.makes in
     let stands = makes_stands _ _ p t walks in let ne : w ≢ 0 = c.loop-word-test.true in
     let stage = i.turning.stage_is ∙ walking_on w (l.row.front ∷ i.turning.rest) ks ne in
     let walked : Tells [] p t = walk_tells (w - 1) found p t (l.row.front ∷ i.turning.rest) ks stage walks in

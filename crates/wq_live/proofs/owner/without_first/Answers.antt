@@ -26,21 +26,21 @@ pub overflow_sub-result : goal.overflow_sub-result
 overflow_sub-result c = let p = c.args.chair.now.part in
     let found =
     found_number c.args.row p c.requires.has_row c.requires.some c.if-row-eq1.false c.walk-word.result c.walk-word.new.self.part
-    c.walk-word.ensures.makes c.requires.stands in
+    c.walk-word.ensures.step.makes c.requires.stands in
     omega (arith, found.0)
 
 pub overflow_cast-result : goal.overflow_cast-result
 overflow_cast-result c = let p = c.args.chair.now.part in
     let found =
     found_number c.args.row p c.requires.has_row c.requires.some c.if-row-eq1.false c.walk-word.result c.walk-word.new.self.part
-    c.walk-word.ensures.makes c.requires.stands in
+    c.walk-word.ensures.step.makes c.requires.stands in
     omega (arith, found.1, number_small p.layout)
 
 pub returns : goal.returns
 returns c =
-    let row = c.args.row in let p = c.args.chair.now.part in let q = c.walk-word.new.self.part in let makes = c.walk-word.ensures.makes in
+    let row = c.args.row in let p = c.args.chair.now.part in let q = c.walk-word.new.self.part in let makes = c.walk-word.ensures.step.makes in
     let front = first_of_row row p c.requires.has_row c.requires.some in record {
-      queue = c.walk-word.ensures.queue_is;
+      queue = c.walk-word.ensures.step.queue_is;
       follows = follows_on p p q (follows_none p) (load_tells c.walk-word.result p q _ _ front.1 makes);
       stands = makes_stands _ _ p q makes;
       first = first_left row p c.requires.has_row c.requires.some c.if-row-eq1.false c.walk-word.result q makes;

@@ -10,7 +10,7 @@ use Rattle.wq_table.proofs.making.chairs.Goals as goal
 
 pub of_words-requires : goal.of_words-requires
 of_words-requires c = opens c.args.layout c.as_slice.result.now (c.as_slice.ensures.value ∙
-    (c.in_ok-row.ensures.items_if_clones_equal (λ y is. search rules) ∙ ap (λ (n : ℕ). replicate n 0) c.word_count.ensures))
+    (c.in_ok-row.ensures.items_if_clones_equal (λ y is. search rules) ∙ ap (λ (n : ℕ). replicate n 0) c.word_count.ensures.words))
 
 pub split_seat-theirs-requires : goal.split_seat-theirs-requires
 split_seat-theirs-requires c =
@@ -19,7 +19,7 @@ split_seat-theirs-requires c =
     let wide : c.deref.result.now.shared.table_id.words ≡ word_count (number_count c.args.layout) =
     ap (λ z. z.words) same ∙
     (ap (λ t. t.shared.table_id.words) c.in_ok-words.ensures.ok ∙
-    (c.in_ok-table.ensures.0 ∙ (c.as_slice.ensures.len ∙ (c.in_ok-row.ensures.len ∙ c.word_count.ensures)))) in
+    (c.in_ok-table.ensures.0 ∙ (c.as_slice.ensures.len ∙ (c.in_ok-row.ensures.len ∙ c.word_count.ensures.words)))) in
     (c.loop-number.invariant.0 ∙ sym same, omega (arith, wide), offs _ _ _)
 
 pub invariant_of-push : goal.invariant_of-push
@@ -31,7 +31,7 @@ invariant_of-push c =
     let clone = c.in_ok-words-2.ensures in let made = c.in_ok-words.ensures.ok in let table = c.in_ok-table.ensures in record {
       seated = c.into_badge.ensures.0 ∙ (c.split_seat-theirs.ensures.3 ∙ (inv.0 ∙ ap (λ t. t.shared.table_id) (sym clone)));
       wide = ap (λ t. t.shared.table_id.words) clone ∙
-          (ap (λ t. t.shared.table_id.words) made ∙ (table.0 ∙ (c.as_slice.ensures.len ∙ (c.in_ok-row.ensures.len ∙ c.word_count.ensures))));
+          (ap (λ t. t.shared.table_id.words) made ∙ (table.0 ∙ (c.as_slice.ensures.len ∙ (c.in_ok-row.ensures.len ∙ c.word_count.ensures.words))));
       keyed = ap (λ t. t.shared.key) clone ∙ (ap (λ t. t.shared.key) made ∙ table.5);
       sized = ap (λ p. p.layout) one.0;
       alone = one.1;

@@ -35,18 +35,18 @@ begin-requires-clause-rests c = let s = c.self.inside in let o = c.self.invarian
 
 pub invariant_of-self : goal.invariant_of-self
 invariant_of-self c = let s = c.self.inside in let o = c.self.invariant in let e = c.without_first-self-inside.ensures in let k = s.row.front in
-    let p = s.chair.part in let q = c.without_first-self-inside.new.chair.part in let r = c.begin.new.self.part in let makes = c.begin.ensures.1.makes in
+    let p = s.chair.part in let q = c.without_first-self-inside.new.chair.part in let r = c.begin.new.self.part in let makes = c.begin.ensures.step.1.makes in
     let first = e.first in
     let told : Tells (Begin k ∷ []) p r = sees_then (λ _. Begin k ∷ []) p q r e.follows e.stands
-    (begin_tells k c.begin.ensures.0 q r first.others (e.follows.seat_is ∙ o.number_is) first.stage_is makes) in
+    (begin_tells k c.begin.ensures.step.0 q r first.others (e.follows.seat_is ∙ o.number_is) first.stage_is makes) in
     let t = record s { chair = c.begin.new.self; row = c.without_first-self-inside.result; running = Some k } in
     let g = owner_grows (Begin k ∷ []) 0 s t o told in
     let idle : ¬ IsRunning p.seen = subst (λ (v : Known). ¬ IsRunning v.seen) (sym c.self.view_is) c.requires.idle in record {
       layout_is = told.layout_is ∙ o.layout_is;
       number_is = told.seat_is ∙ o.number_is;
       stands = makes_stands _ _ q r makes;
-      has_row = begun_row k c.begin.ensures.0 c.without_first-self-inside.result q r first makes
-          (begin_stage k c.begin.ensures.0 q r first.others first.stage_is makes);
+      has_row = begun_row k c.begin.ensures.step.0 c.without_first-self-inside.result q r first makes
+          (begin_stage k c.begin.ensures.step.0 q r first.others first.stage_is makes);
       running_is = sym (running_begun k 0 p.seen r.seen g (owner_idle p o.stands idle));
       closed_is = o.closed_is ∙ sym (closed_quiet (Begin k ∷ []) 0 p.seen r.seen g refl);
       counts_are = counts_quiet (Begin k ∷ []) 0 p.seen r.seen g refl refl refl s.counts o.counts_are;
@@ -61,18 +61,18 @@ returns-clause-next c = let s = c.self.inside in let o = c.self.invariant in
 
 pub returns-clause-seen : goal.returns-clause-seen
 returns-clause-seen c = let s = c.self.inside in let o = c.self.invariant in let e = c.without_first-self-inside.ensures in let k = s.row.front in
-    let p = s.chair.part in let q = c.without_first-self-inside.new.chair.part in let r = c.begin.new.self.part in let makes = c.begin.ensures.1.makes in
+    let p = s.chair.part in let q = c.without_first-self-inside.new.chair.part in let r = c.begin.new.self.part in let makes = c.begin.ensures.step.1.makes in
     let first = e.first in
     let told : Tells (Begin k ∷ []) p r = sees_then (λ _. Begin k ∷ []) p q r e.follows e.stands
-    (begin_tells k c.begin.ensures.0 q r first.others (e.follows.seat_is ∙ o.number_is) first.stage_is makes) in
+    (begin_tells k c.begin.ensures.step.0 q r first.others (e.follows.seat_is ∙ o.number_is) first.stage_is makes) in
     let t = record s { chair = c.begin.new.self; row = c.without_first-self-inside.result; running = Some k } in
-    owner_sees (Begin k ∷ []) 0 s t c.args.self.now c.self.view_is o refl (c.begin.ensures.1.queue_is ∙ e.queue) told
+    owner_sees (Begin k ∷ []) 0 s t c.args.self.now c.self.view_is o refl (c.begin.ensures.step.1.queue_is ∙ e.queue) told
 
 pub returns-clause-running : goal.returns-clause-running
 returns-clause-running c = let s = c.self.inside in let o = c.self.invariant in let e = c.without_first-self-inside.ensures in let k = s.row.front in
-    let p = s.chair.part in let q = c.without_first-self-inside.new.chair.part in let r = c.begin.new.self.part in let makes = c.begin.ensures.1.makes in
+    let p = s.chair.part in let q = c.without_first-self-inside.new.chair.part in let r = c.begin.new.self.part in let makes = c.begin.ensures.step.1.makes in
     let told : Tells (Begin k ∷ []) p r = sees_then (λ _. Begin k ∷ []) p q r e.follows e.stands
-    (begin_tells k c.begin.ensures.0 q r e.first.others (e.follows.seat_is ∙ o.number_is) e.first.stage_is makes) in
+    (begin_tells k c.begin.ensures.step.0 q r e.first.others (e.follows.seat_is ∙ o.number_is) e.first.stage_is makes) in
     let t = record s { chair = c.begin.new.self; row = c.without_first-self-inside.result; running = Some k } in
     let idle : ¬ IsRunning p.seen = subst (λ (v : Known). ¬ IsRunning v.seen) (sym c.self.view_is) c.requires.idle in
     running_begun k 0 p.seen r.seen (owner_grows (Begin k ∷ []) 0 s t o told) (owner_idle p o.stands idle)

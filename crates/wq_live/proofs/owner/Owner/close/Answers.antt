@@ -16,23 +16,23 @@ pub close-head-requires-clause-open : goal.close-head-requires-clause-open
 close-head-requires-clause-open c = subst (λ (v : Known). ¬ IsClosed v.seen) (sym c.self.view_is) c.requires.open
 
 pub walk_all-self-inside-requires-clause-stands : goal.walk_all-self-inside-requires-clause-stands
-walk_all-self-inside-requires-clause-stands c = makes_stands _ _ c.self.inside.chair.part c.close-head.new.self.part c.close-head.ensures.makes
+walk_all-self-inside-requires-clause-stands c = makes_stands _ _ c.self.inside.chair.part c.close-head.new.self.part c.close-head.ensures.step.makes
 
 pub walk_all-self-inside-requires-clause-stage : goal.walk_all-self-inside-requires-clause-stage
 walk_all-self-inside-requires-clause-stage c = let p = c.self.inside.chair.part in let q = c.close-head.new.self.part in
     walks_kept q.stage c.link_word.result (kept_batch p.stage)
-    (close_stage c.close-head.result p q (kept_batch p.stage) c.self.invariant.has_row.stage_is c.close-head.ensures.makes ∙
-    ap (λ (w : ℕ). walking w [] (kept_batch p.stage)) (sym c.link_word.ensures))
+    (close_stage c.close-head.result p q (kept_batch p.stage) c.self.invariant.has_row.stage_is c.close-head.ensures.step.makes ∙
+    ap (λ (w : ℕ). walking w [] (kept_batch p.stage)) (sym c.link_word.ensures.word))
 
 pub walk_all-self-inside-requires-clause-row : goal.walk_all-self-inside-requires-clause-row
 walk_all-self-inside-requires-clause-row c = let s = c.self.inside in let o = c.self.invariant in let p = s.chair.part in let q = c.close-head.new.self.part in
-    walks_row step.Close c.close-head.result c.link_word.result p q s.row o.has_row c.close-head.ensures.makes (λ k w. refl)
-    (close_stage c.close-head.result p q (kept_batch p.stage) o.has_row.stage_is c.close-head.ensures.makes ∙
-    ap (λ (w : ℕ). walking w [] (kept_batch p.stage)) (sym c.link_word.ensures))
+    walks_row step.Close c.close-head.result c.link_word.result p q s.row o.has_row c.close-head.ensures.step.makes (λ k w. refl)
+    (close_stage c.close-head.result p q (kept_batch p.stage) o.has_row.stage_is c.close-head.ensures.step.makes ∙
+    ap (λ (w : ℕ). walking w [] (kept_batch p.stage)) (sym c.link_word.ensures.word))
 
 pub invariant_of-self : goal.invariant_of-self
 invariant_of-self c = let s = c.self.inside in let o = c.self.invariant in let p = s.chair.part in let q = c.close-head.new.self.part in
-    let e = c.walk_all-self-inside.ensures in let r = c.walk_all-self-inside.new.chair.part in let makes = c.close-head.ensures.makes in
+    let e = c.walk_all-self-inside.ensures in let r = c.walk_all-self-inside.new.chair.part in let makes = c.close-head.ensures.step.makes in
     let told : Tells (Close ∷ []) p r = followed (Close ∷ []) 0 p q r
     (close_tells c.close-head.result p q o.number_is (owner_of p.stage (kept_batch p.stage) o.has_row.stage_is) makes) e.follows e.stands in
     let t = record s { chair = c.walk_all-self-inside.new.chair; row = c.walk_all-self-inside.result; closed = true } in
@@ -48,19 +48,19 @@ invariant_of-self c = let s = c.self.inside in let o = c.self.invariant in let p
 
 pub returns-clause-seen : goal.returns-clause-seen
 returns-clause-seen c = let s = c.self.inside in let o = c.self.invariant in let p = s.chair.part in let q = c.close-head.new.self.part in
-    let e = c.walk_all-self-inside.ensures in let r = c.walk_all-self-inside.new.chair.part in let makes = c.close-head.ensures.makes in
+    let e = c.walk_all-self-inside.ensures in let r = c.walk_all-self-inside.new.chair.part in let makes = c.close-head.ensures.step.makes in
     let told : Tells (Close ∷ []) p r = followed (Close ∷ []) 0 p q r
     (close_tells c.close-head.result p q o.number_is (owner_of p.stage (kept_batch p.stage) o.has_row.stage_is) makes) e.follows e.stands in
     owner_sees (Close ∷ []) 0 s
     (record s { chair = c.walk_all-self-inside.new.chair; row = c.walk_all-self-inside.result; closed = true }) c.args.self.now c.self.view_is
-    o refl (e.queue ∙ c.close-head.ensures.queue_is) told
+    o refl (e.queue ∙ c.close-head.ensures.step.queue_is) told
 
 pub returns-clause-takes : goal.returns-clause-takes
 returns-clause-takes c = let s = c.self.inside in let o = c.self.invariant in let p = s.chair.part in let q = c.close-head.new.self.part in
     let e = c.walk_all-self-inside.ensures in let r = c.walk_all-self-inside.new.chair.part in
     close_takes c.close-head.result p q r (kept_batch p.stage) (kept_batch r.stage) (c.walk_all-self-inside.result.count - s.row.count) o.number_is
     o.has_row.stage_is e.follows e.stands e.has_row.stage_is
-    (omega (arith, e.more, o.has_row.row_is.count_is, e.has_row.row_is.count_is)) c.close-head.ensures.makes
+    (omega (arith, e.more, o.has_row.row_is.count_is, e.has_row.row_is.count_is)) c.close-head.ensures.step.makes
 
 pub overflow_sub-result : goal.overflow_sub-result
 overflow_sub-result c = c.walk_all-self-inside.ensures.more

@@ -17,7 +17,7 @@ pub returns-then-flush_done-clause-answer : goal.returns-then-flush_done-clause-
 returns-then-flush_done-clause-answer g c = let s = c.args.self.now in let q = c.queue_waiting.new.self in let t = c.flush_done.new.self in
     let first = c.in-Queued.first in let wakes = c.in-Queued.wakes in
     let number : c.barrier-number.result ≡ barrier_number s.layout c.args.barrier =
-    c.barrier-number.ensures ∙ ap (λ (v : Known). barrier_number v.layout c.args.barrier) c.self.view_is in
+    c.barrier-number.ensures.number ∙ ap (λ (v : Known). barrier_number v.layout c.args.barrier) c.self.view_is in
     queued_on (barrier_number s.layout c.args.barrier) 0 first wakes s q t
     (subst (λ (k : ℕ). Sees (Hold s.number k ∷ Push s.number k ∷ []) 0 s q × IsPushed s.number k first wakes q.seen) number c.in-Queued.ensures.answer)
     (sees_on (λ z. []) (λ z. []) 0 0 0 q c.loop.self t (omega arith) c.loop.invariant.2 c.flush_done.ensures.seen)

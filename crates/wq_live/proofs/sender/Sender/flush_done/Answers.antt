@@ -6,7 +6,7 @@ use Rattle.wq_live.proofs.Flushed.{flushed}
 use Rattle.wq_live.proofs.sender.Sender.flush_done.Goals as goal
 
 number_is : (c : goal.After-is_number_pending) → c.barrier-number.result ≡ barrier_number c.args.self.now.layout c.args.barrier
-number_is c = c.barrier-number.ensures ∙ ap (λ (v : Known). barrier_number v.layout c.args.barrier) c.self.view_is
+number_is c = c.barrier-number.ensures.number ∙ ap (λ (v : Known). barrier_number v.layout c.args.barrier) c.self.view_is
 
 pub returns-clause-clear : goal.returns-clause-clear
 returns-clause-clear c = ap not (c.is_number_pending.ensures.pending ∙ ap (λ (k : ℕ). pending c.is_number_pending.new.self.seen k) (number_is c))

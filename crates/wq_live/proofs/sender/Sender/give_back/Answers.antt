@@ -10,7 +10,7 @@ pub back_cancelled-requires-clause-held : goal.back_cancelled-requires-clause-he
 back_cancelled-requires-clause-held c = holds_view c.self.inside c.args.self.now c.args.item c.self.view_is c.self.invariant c.requires.held
 
 pub invariant_of-self : goal.invariant_of-self
-invariant_of-self c = let s = c.self.inside in let k = c.args.item in let steps = c.back_cancelled.ensures.1 in let new = c.back_cancelled.new.self in
+invariant_of-self c = let s = c.self.inside in let k = c.args.item in let steps = c.back_cancelled.ensures.step.1 in let new = c.back_cancelled.new.self in
     let told : Tells
     (Back s.chair.part.seat k Cancelled ∷ []) s.chair.part new.part = back_tells k _ Cancelled s.chair.part new.part c.self.invariant.stage steps.makes in
     let stage = sender_made _ _ _ _ steps.makes c.self.invariant.stage in
@@ -19,6 +19,8 @@ invariant_of-self c = let s = c.self.inside in let k = c.args.item in let steps 
     (grows_tells s (record s { chair = new }) (λ z. Back z k Cancelled ∷ []) 0 c.self.invariant told))
 
 pub returns : goal.returns
-returns c = let s = c.self.inside in let k = c.args.item in let steps = c.back_cancelled.ensures.1 in let new = c.back_cancelled.new.self in
-    sees_tells s (record s { chair = new }) c.args.self.now (λ z. Back z k Cancelled ∷ []) 0 c.self.view_is c.self.invariant refl refl steps.queue_is
-    (back_tells k _ Cancelled s.chair.part new.part c.self.invariant.stage steps.makes)
+returns c = let s = c.self.inside in let k = c.args.item in let steps = c.back_cancelled.ensures.step.1 in let new = c.back_cancelled.new.self in
+    record {
+      seen = sees_tells s (record s { chair = new }) c.args.self.now (λ z. Back z k Cancelled ∷ []) 0 c.self.view_is c.self.invariant refl refl steps.queue_is
+    (back_tells k _ Cancelled s.chair.part new.part c.self.invariant.stage steps.makes);
+    }

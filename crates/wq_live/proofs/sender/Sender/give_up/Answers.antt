@@ -11,7 +11,7 @@ back_contended-requires-clause-held c = holds_view c.self.inside c.args.self.now
 
 pub invariant_of-self : goal.invariant_of-self
 invariant_of-self c = let s = c.self.inside in let k = c.args.number in let x = c.saturating_add-self-inside.result in
-    let steps = c.back_contended.ensures.1 in let new = c.back_contended.new.self in
+    let steps = c.back_contended.ensures.step.1 in let new = c.back_contended.new.self in
     let told : Tells
     (Back s.chair.part.seat k Contended ∷ []) s.chair.part new.part = back_tells k _ Contended s.chair.part new.part c.self.invariant.stage steps.makes in
     let stage = sender_made _ _ _ _ steps.makes c.self.invariant.stage in
@@ -20,7 +20,7 @@ invariant_of-self c = let s = c.self.inside in let k = c.args.number in let x = 
     (grows_tells s (record s { chair = new }) (λ z. Back z k Contended ∷ []) 0 c.self.invariant told))
 
 pub returns : goal.returns
-returns c = let s = c.self.inside in let k = c.args.number in let steps = c.back_contended.ensures.1 in let new = c.back_contended.new.self in
+returns c = let s = c.self.inside in let k = c.args.number in let steps = c.back_contended.ensures.step.1 in let new = c.back_contended.new.self in
     sees_tells s (record s { chair = new; counts = record s.counts { contended = c.saturating_add-self-inside.result } }) c.args.self.now
     (λ z. Back z k Contended ∷ []) 0 c.self.view_is c.self.invariant refl refl steps.queue_is
     (back_tells k _ Contended s.chair.part new.part c.self.invariant.stage steps.makes)

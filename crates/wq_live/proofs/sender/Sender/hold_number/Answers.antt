@@ -8,15 +8,15 @@ use Rattle.wq_live.proofs.sender.Sender.hold_number.Goals as goal
 held : (c : goal.Then-hold-eq0) → Tells (Hold c.self.inside.chair.part.seat c.args.number ∷ []) c.self.inside.chair.part c.hold.new.self.part
 held c = let p = c.self.inside.chair.part in let q = c.hold.new.self.part in let k = c.args.number in
     subst (λ (b : Bool). MatchBool b (Tells (Hold p.seat k ∷ []) p q) (Tells (Busy p.seat k ∷ []) p q)) (eq-eqb c.hold.result 0 c.if-hold-eq0.true)
-    (hold_tells k c.hold.result p q c.self.invariant.stage c.hold.ensures.makes)
+    (hold_tells k c.hold.result p q c.self.invariant.stage c.hold.ensures.step.makes)
 
 busy : (c : goal.After-self-1) → Tells (Busy c.self.inside.chair.part.seat c.args.number ∷ []) c.self.inside.chair.part c.hold.new.self.part
 busy c = let p = c.self.inside.chair.part in let q = c.hold.new.self.part in let k = c.args.number in
     subst (λ (b : Bool). MatchBool b (Tells (Hold p.seat k ∷ []) p q) (Tells (Busy p.seat k ∷ []) p q)) (ne_eqb c.hold.result 0 c.if-hold-eq0.false)
-    (hold_tells k c.hold.result p q c.self.invariant.stage c.hold.ensures.makes)
+    (hold_tells k c.hold.result p q c.self.invariant.stage c.hold.ensures.step.makes)
 
 pub invariant_of-self : goal.invariant_of-self
-invariant_of-self c = let s = c.self.inside in let k = c.args.number in let stage = sender_made _ _ _ _ c.hold.ensures.makes c.self.invariant.stage in
+invariant_of-self c = let s = c.self.inside in let k = c.args.number in let stage = sender_made _ _ _ _ c.hold.ensures.step.makes c.self.invariant.stage in
     sends_tells s (record s { chair = c.hold.new.self }) _ 0 c.self.invariant refl refl (held c) stage
     (counts_hold s.number 0 s.chair.part.seen c.hold.new.self.part.seen s.counts c.self.invariant.counts_are k
     (grows_tells s (record s { chair = c.hold.new.self }) (λ z. Hold z k ∷ []) 0 c.self.invariant (held c)))
@@ -25,12 +25,12 @@ pub returns-then-hold-eq0 : goal.returns-then-hold-eq0
 returns-then-hold-eq0 c = let s = c.self.inside in let k = c.args.number in
     record {
       seen = sees_tells s (record s { chair = c.hold.new.self }) c.args.self.now
-          (λ z. Hold z k ∷ []) 0 c.self.view_is c.self.invariant refl refl c.hold.ensures.queue_is (held c);
+          (λ z. Hold z k ∷ []) 0 c.self.view_is c.self.invariant refl refl c.hold.ensures.step.queue_is (held c);
     }
 
 pub invariant_of-self-2 : goal.invariant_of-self-2
 invariant_of-self-2 c = let s = c.self.inside in let k = c.args.number in let x = c.saturating_add-self-inside.result in
-    let stage = sender_made _ _ _ _ c.hold.ensures.makes c.self.invariant.stage in
+    let stage = sender_made _ _ _ _ c.hold.ensures.step.makes c.self.invariant.stage in
     sends_tells s (record s { chair = c.hold.new.self; counts = record s.counts { pending = x } }) _ 0 c.self.invariant refl refl (busy c) stage
     (counts_busy s.number 0 s.chair.part.seen c.hold.new.self.part.seen s.counts c.self.invariant.counts_are k x c.saturating_add-self-inside.ensures
     (grows_tells s (record s { chair = c.hold.new.self }) (λ z. Busy z k ∷ []) 0 c.self.invariant (busy c)))
@@ -40,5 +40,5 @@ returns c = let s = c.self.inside in let k = c.args.number in
     record {
       seen = sees_tells s
           (record s { chair = c.hold.new.self; counts = record s.counts { pending = c.saturating_add-self-inside.result } }) c.args.self.now
-          (λ z. Busy z k ∷ []) 0 c.self.view_is c.self.invariant refl refl c.hold.ensures.queue_is (busy c);
+          (λ z. Busy z k ∷ []) 0 c.self.view_is c.self.invariant refl refl c.hold.ensures.step.queue_is (busy c);
     }

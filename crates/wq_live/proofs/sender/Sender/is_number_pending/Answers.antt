@@ -8,7 +8,7 @@ use Rattle.wq_live.proofs.Sends.{grows_tells, sends_tells, sees_tells}
 use Rattle.wq_live.proofs.sender.Sender.is_number_pending.Goals as goal
 
 pub invariant_of-self : goal.invariant_of-self
-invariant_of-self c = let s = c.self.inside in let t = record s { chair = c.check.new.self } in let made = c.check.ensures.makes in
+invariant_of-self c = let s = c.self.inside in let t = record s { chair = c.check.new.self } in let made = c.check.ensures.step.makes in
     let layout : s.chair.part.layout ≡ c.args.self.now.layout = c.self.invariant.layout_is ∙ ap (λ (v : Known). v.layout) c.self.view_is in
     let told : Tells [] s.chair.part t.chair.part =
     (check_tells c.args.number c.check.result s.chair.part t.chair.part c.self.invariant.stage
@@ -21,12 +21,12 @@ flip true = refl
 flip false = refl
 
 pub returns : goal.returns
-returns c = let s = c.self.inside in let t = record s { chair = c.check.new.self } in let made = c.check.ensures.makes in
+returns c = let s = c.self.inside in let t = record s { chair = c.check.new.self } in let made = c.check.ensures.step.makes in
     let layout : s.chair.part.layout ≡ c.args.self.now.layout = c.self.invariant.layout_is ∙ ap (λ (v : Known). v.layout) c.self.view_is in
     let checks = check_tells c.args.number c.check.result s.chair.part t.chair.part c.self.invariant.stage
     (subst (λ (l : Layout). c.args.number < number_count l) (sym layout) c.requires.number) made in
     record {
       seen = sees_tells s t c.args.self.now
-          (λ z. []) 0 c.self.view_is c.self.invariant refl refl c.check.ensures.queue_is checks.told;
+          (λ z. []) 0 c.self.view_is c.self.invariant refl refl c.check.ensures.step.queue_is checks.told;
       pending = ap not checks.clear ∙ flip _;
     }

@@ -6,5 +6,5 @@ use Rattle.wq_table.proofs.chair.Chair.begin.Goals as goal
 
 pub and-requires-clause-performs : goal.and-requires-clause-performs
 and-requires-clause-performs c = let p = c.args.self.now.part in let k = c.args.number in
-    placed p (λ (n : ℕ). Begin) _ k _ _ (item_in c.self.inside c.args.self.now _ k c.self.invariant c.self.view_is c.item_place-place.ensures)
+    placed p (λ (n : ℕ). Begin) _ k _ _ (item_in c.self.inside c.args.self.now _ k c.self.invariant c.self.view_is c.item_place-place.ensures.place)
     (performs_begin p.seat p.layout p.seen p.words k p.stage c.requires.number c.requires.next c.requires.rests)

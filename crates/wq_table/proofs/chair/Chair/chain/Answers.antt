@@ -7,10 +7,10 @@ use Rattle.wq_table.proofs.chair.Chair.chain.Goals as goal
 
 pub or-requires-clause-performs : goal.or-requires-clause-performs
 or-requires-clause-performs c = let p = c.args.self.now.part in let k = c.args.number in
-    placed p (λ (n : ℕ). Chain n) _ k _ _ (item_in c.self.inside c.args.self.now _ k c.self.invariant c.self.view_is c.item_place-place.ensures)
+    placed p (λ (n : ℕ). Chain n) _ k _ _ (item_in c.self.inside c.args.self.now _ k c.self.invariant c.self.view_is c.item_place-place.ensures.place)
     (performs_chain p.seat p.layout p.seen p.words k p.stage c.requires.item c.requires.closed c.requires.rested c.requires.runs)
 
 pub returns : goal.returns
 returns c = let back = number_placed _ c.args.number c.args.self.now.part.layout
-    (item_in c.self.inside c.args.self.now _ c.args.number c.self.invariant c.self.view_is c.item_place-place.ensures) in
-    subst (λ (n : ℕ). Steps (Chain n) c.or.result c.args.self.now c.or.new.self) back c.or.ensures
+    (item_in c.self.inside c.args.self.now _ c.args.number c.self.invariant c.self.view_is c.item_place-place.ensures.place) in
+    record { step = subst (λ (n : ℕ). Steps (Chain n) c.or.result c.args.self.now c.or.new.self) back c.or.ensures }

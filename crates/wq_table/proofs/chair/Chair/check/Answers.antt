@@ -7,10 +7,10 @@ use Rattle.wq_table.proofs.chair.Chair.check.Goals as goal
 
 pub load-requires-clause-performs : goal.load-requires-clause-performs
 load-requires-clause-performs c = let p = c.args.self.now.part in let k = c.args.number in
-    placed p (λ (n : ℕ). Check n) _ k _ _ (item_in c.self.inside c.args.self.now _ k c.self.invariant c.self.view_is c.item_place-place.ensures)
+    placed p (λ (n : ℕ). Check n) _ k _ _ (item_in c.self.inside c.args.self.now _ k c.self.invariant c.self.view_is c.item_place-place.ensures.place)
     (performs_check p.seat p.layout p.seen p.words k p.stage c.requires.sender c.requires.number)
 
 pub returns : goal.returns
 returns c = let back = number_placed _ c.args.number c.args.self.now.part.layout
-    (item_in c.self.inside c.args.self.now _ c.args.number c.self.invariant c.self.view_is c.item_place-place.ensures) in
-    subst (λ (n : ℕ). Steps (Check n) c.load.result c.args.self.now c.load.new.self) back c.load.ensures
+    (item_in c.self.inside c.args.self.now _ c.args.number c.self.invariant c.self.view_is c.item_place-place.ensures.place) in
+    record { step = subst (λ (n : ℕ). Steps (Check n) c.load.result c.args.self.now c.load.new.self) back c.load.ensures }

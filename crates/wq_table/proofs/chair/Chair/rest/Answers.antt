@@ -8,5 +8,5 @@ use Rattle.wq_table.proofs.chair.Chair.rest.Goals as goal
 
 pub exchange-requires-clause-performs : goal.exchange-requires-clause-performs
 exchange-requires-clause-performs c = let p = c.args.self.now.part in
-    subst (λ (w : ℕ). Performs p Rest 0 (λ n. either (n == busy_word) w n) (λ n. n)) (sym c.to_word-word.ensures)
+    subst (λ (w : ℕ). Performs p Rest 0 (λ n. either (n == busy_word) w n) (λ n. n)) (sym c.to_word-word.ensures.word)
     (performs_rest p.seat p.layout p.seen p.words p.stage c.requires.open c.requires.rested c.requires.empty c.requires.idle)
