@@ -22,5 +22,5 @@ pub returns : goal.returns
 returns c = let s = c.self.inside in let k = c.args.item in let steps = c.back_cancelled.ensures.step.1 in let new = c.back_cancelled.new.self in
     record {
       seen = sees_tells s (record s { chair = new }) c.args.self.now (λ z. Back z k Cancelled ∷ []) 0 c.self.view_is c.self.invariant refl refl steps.queue_is
-    (back_tells k _ Cancelled s.chair.part new.part c.self.invariant.stage steps.makes);
+          (back_tells k _ Cancelled s.chair.part new.part c.self.invariant.stage steps.makes);
     }

@@ -14,6 +14,6 @@ store-requires-clause-performs c = let p = c.args.self.now.part in let k = c.arg
 
 pub returns : goal.returns
 returns c = record {
-   step = subst (λ (z : ℕ × ℕ). Steps (Link z.0) z.1 c.args.self.now c.store.new.self)
-    (λ i. (number_linked _ c.args.number c.link_place-place.ensures.place i, c.link_word-word.ensures.word i)) c.store.ensures;
- }
+  step = subst (λ (z : ℕ × ℕ). Steps (Link z.0) z.1 c.args.self.now c.store.new.self)
+      (λ i. (number_linked _ c.args.number c.link_place-place.ensures.place i, c.link_word-word.ensures.word i)) c.store.ensures;
+}

@@ -22,8 +22,8 @@ returns c =
     let other = alone_in c.other.inside c.args.other.now c.rise-theirs.result.me c.other.invariant c.other.view_is c.rise-theirs.ensures.view in
     record {
       both = met c.args.self.now c.args.other.now _ _ c.self.inside.layout c.other.inside.layout c.rise-seat.result.me c.rise-theirs.result.me
-    c.join_seat.new.seat.me c.load.new.seat.me c.split_seat-theirs.new.seat.me c.split_seat-theirs.result.me
-    c.into_badge-2.result.views c.into_badge.result.views alone other (ap (λ m. m.0) c.join_seat.ensures.2) c.load.ensures.2
-    (ap (λ m. m.0) c.split_seat-theirs.ensures.2) (ap (λ m. m.0) c.split_seat-theirs.ensures.4) c.into_badge-2.ensures.2 c.into_badge.ensures.2
-    (search rules) (search rules) refl refl;
+          c.join_seat.new.seat.me c.load.new.seat.me c.split_seat-theirs.new.seat.me c.split_seat-theirs.result.me
+          c.into_badge-2.result.views c.into_badge.result.views alone other (ap (λ m. m.0) c.join_seat.ensures.2) c.load.ensures.2
+          (ap (λ m. m.0) c.split_seat-theirs.ensures.2) (ap (λ m. m.0) c.split_seat-theirs.ensures.4) c.into_badge-2.ensures.2 c.into_badge.ensures.2
+          (search rules) (search rules) refl refl;
     }

@@ -32,12 +32,12 @@ returns c =
     let third = alone_in c.third.inside c.args.third.now c.rise-thirds.result.me c.third.invariant c.third.view_is c.rise-thirds.ensures.view in
     record {
       all = met_all c.args.self.now c.args.other.now c.args.third.now _ _ _ c.self.inside.layout c.other.inside.layout c.third.inside.layout
-    c.rise-seat.result.me c.rise-others.result.me c.rise-thirds.result.me
-    c.join_seat.new.seat.me c.join_seat-2.new.seat.me c.load.new.seat.me c.split_seat-thirds.new.seat.me c.split_seat-others.new.seat.me
-    c.split_seat-others.result.me c.split_seat-thirds.result.me
-    c.into_badge-3.result.views c.into_badge-2.result.views c.into_badge.result.views alone other third (ap (λ m. m.0) c.join_seat.ensures.2)
-    (ap (λ m. m.0) c.join_seat-2.ensures.2) c.load.ensures.2
-    (ap (λ m. m.0) c.split_seat-thirds.ensures.2) (ap (λ m. m.0) c.split_seat-thirds.ensures.4) (ap (λ m. m.0) c.split_seat-others.ensures.2)
-    (ap (λ m. m.0) c.split_seat-others.ensures.4)
-    c.into_badge-3.ensures.2 c.into_badge-2.ensures.2 c.into_badge.ensures.2 (search rules) (search rules) (search rules) refl refl refl;
+          c.rise-seat.result.me c.rise-others.result.me c.rise-thirds.result.me
+          c.join_seat.new.seat.me c.join_seat-2.new.seat.me c.load.new.seat.me c.split_seat-thirds.new.seat.me c.split_seat-others.new.seat.me
+          c.split_seat-others.result.me c.split_seat-thirds.result.me
+          c.into_badge-3.result.views c.into_badge-2.result.views c.into_badge.result.views alone other third (ap (λ m. m.0) c.join_seat.ensures.2)
+          (ap (λ m. m.0) c.join_seat-2.ensures.2) c.load.ensures.2
+          (ap (λ m. m.0) c.split_seat-thirds.ensures.2) (ap (λ m. m.0) c.split_seat-thirds.ensures.4) (ap (λ m. m.0) c.split_seat-others.ensures.2)
+          (ap (λ m. m.0) c.split_seat-others.ensures.4)
+          c.into_badge-3.ensures.2 c.into_badge-2.ensures.2 c.into_badge.ensures.2 (search rules) (search rules) (search rules) refl refl refl;
     }

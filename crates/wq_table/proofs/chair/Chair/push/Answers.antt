@@ -13,6 +13,6 @@ exchange-requires-clause-performs c = let p = c.args.self.now.part in let k = c.
 
 pub returns : goal.returns
 returns c = record {
-   step = subst (λ (n : ℕ). Steps (Push n) c.exchange.result c.args.self.now c.exchange.new.self)
-    (number_pushed _ c.args.number c.to_word-word.ensures.word) c.exchange.ensures;
- }
+  step = subst (λ (n : ℕ). Steps (Push n) c.exchange.result c.args.self.now c.exchange.new.self)
+      (number_pushed _ c.args.number c.to_word-word.ensures.word) c.exchange.ensures;
+}

@@ -18,5 +18,5 @@ pub returns : goal.returns
 returns c = let word = c.to_word-word.ensures.word in
     record {
       step = subst (λ (z : (ℕ × ℕ) × ℕ). Steps (Turn z.0.0 (Some z.0.1)) z.1 c.args.self.now c.store.new.self)
-    (λ i. ((number_linked _ c.args.number c.link_place-place.ensures.place i, number_pushed _ c.args.next word i), word i)) c.store.ensures;
+          (λ i. ((number_linked _ c.args.number c.link_place-place.ensures.place i, number_pushed _ c.args.next word i), word i)) c.store.ensures;
     }
