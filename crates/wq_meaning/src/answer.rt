@@ -13,7 +13,7 @@ use wq_words::{Answer, Armed, Modified};
 /// What a queueing answers, without the line's end. A script's queueing is never contended: no other seat steps meanwhile.
 pub fn answer_text(answer: Answer) -> &'static str
     requires alone { answer ≢ answer_variants.Contended }
-    ensures { result.now ≡ answer_text answer }
+    ensures text { result.now ≡ answer_text answer }
 {
     match answer {
         Answer::Queued { first: true, .. } => "true first",
@@ -28,7 +28,7 @@ pub fn answer_text(answer: Answer) -> &'static str
 pub fn armed_text(armed: Armed) -> &'static str
     requires alone { armed ≢ armed_variants.Contended }
     requires memory { armed ≢ armed_variants.Memory }
-    ensures { result.now ≡ armed_text armed }
+    ensures text { result.now ≡ armed_text armed }
 {
     match armed {
         Armed::Queued { first, wakes } => answer_text(Answer::Queued { first, wakes }),
@@ -45,7 +45,7 @@ pub fn armed_text(armed: Armed) -> &'static str
 pub fn modified_text(modified: Modified) -> &'static str
     requires alone { modified ≢ modified_variants.Contended }
     requires memory { modified ≢ modified_variants.Memory }
-    ensures { result.now ≡ modified_text modified }
+    ensures text { result.now ≡ modified_text modified }
 {
     match modified {
         Modified::WasIdle => "was idle",
@@ -59,7 +59,7 @@ pub fn modified_text(modified: Modified) -> &'static str
 
 /// Writes what a close answers: how many it took, or that the queue was closed before.
 pub fn write_close(taken: Option<u64>, out: &mut String) -> Result<(), AllocError>
-    ensures { OnOk result (string_bytes out.new ≡ string_bytes out.old ++ line (close_text taken)) }
+    ensures written { OnOk result (string_bytes out.new ≡ string_bytes out.old ++ line (close_text taken)) }
 {
     match taken {
         None => write_line("already closed", out),

@@ -8,21 +8,21 @@ use wq_words::Layout;
 
 /// One of two texts.
 pub fn either(test: bool, yes: &'static str, no: &'static str) -> &'static str
-    ensures { result.now ≡ (if test then yes.now else no.now) }
+    ensures chosen { result.now ≡ (if test then yes.now else no.now) }
 {
     if test { yes } else { no }
 }
 
 /// Writes a text on a line of its own.
 pub fn write_line(text: &str, out: &mut String) -> Result<(), AllocError>
-    ensures { OnOk result (string_bytes out.new ≡ string_bytes out.old ++ line text.now) }
+    ensures written { OnOk result (string_bytes out.new ≡ string_bytes out.old ++ line text.now) }
 {
     writeln!(out, "{text}")
 }
 
 /// Writes whether a drain emptied the queue, or how many are left.
 pub fn write_left(left: u64, out: &mut String) -> Result<(), AllocError>
-    ensures { OnOk result (string_bytes out.new ≡ string_bytes out.old ++ line (left_text left)) }
+    ensures written { OnOk result (string_bytes out.new ≡ string_bytes out.old ++ line (left_text left)) }
 {
     if left == 0 {
         return write_line("empty", out);
@@ -32,14 +32,14 @@ pub fn write_left(left: u64, out: &mut String) -> Result<(), AllocError>
 
 /// What an advance says of the items that were due.
 pub fn advance_word(is_closed: bool, posted: &[u32]) -> &'static str
-    ensures { result.now ≡ advance_word is_closed posted.now }
+    ensures text { result.now ≡ advance_word is_closed posted.now }
 {
     either(is_closed && !posted.is_empty(), "refused", "pushed")
 }
 
 /// Writes a space and the name of a number.
 pub fn write_name(layout: &Layout, number: u32, out: &mut String) -> Result<(), AllocError>
-    ensures { OnOk result (string_bytes out.new ≡ string_bytes out.old ++ named layout.now number) }
+    ensures written { OnOk result (string_bytes out.new ≡ string_bytes out.old ++ named layout.now number) }
 {
     if number < layout.items {
         write!(out, " {number}")
@@ -71,7 +71,7 @@ pub fn write_row(
     numbers: &[u32],
     out: &mut String,
 ) -> Result<(), AllocError>
-    ensures { OnOk result (string_bytes out.new ≡ string_bytes out.old ++ row_text layout.now word.now numbers.now) }
+    ensures written { OnOk result (string_bytes out.new ≡ string_bytes out.old ++ row_text layout.now word.now numbers.now) }
 {
     out.push_str(word)?;
     write_list(layout, numbers, out)?;

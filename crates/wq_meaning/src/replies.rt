@@ -94,7 +94,7 @@ pub fn write_made(
     reply: Reply,
     out: &mut String,
 ) -> Result<(), AllocError>
-    ensures { OnOk result (string_bytes out.new ≡ string_bytes out.old ++ line (made_text layout.now step reply)) }
+    ensures written { OnOk result (string_bytes out.new ≡ string_bytes out.old ++ line (made_text layout.now step reply)) }
 {
     write_reply(layout, reply, out)?;
     write_again(layout, step, reply, out)?;

@@ -34,7 +34,7 @@ fn write_count(word: &str, count: u64, out: &mut String) -> Result<(), AllocErro
 impl Counts {
     /// Writes the seven lines of a report.
     pub fn write(self, out: &mut String) -> Result<(), AllocError>
-        ensures { OnOk result (string_bytes out.new ≡ string_bytes out.old ++ report_text self) }
+        ensures written { OnOk result (string_bytes out.new ≡ string_bytes out.old ++ report_text self) }
     {
         write_count("accepted", self.accepted, out)?;
         write_count("chained", self.chained, out)?;

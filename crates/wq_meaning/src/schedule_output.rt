@@ -52,7 +52,7 @@ fn output_text(alloc: Global, schedule: &Schedule) -> Result<String, AllocError>
 /// enabled` where the machine does not allow it, which changes nothing; and last the numbers that were accepted and those
 /// that have begun, in order. The only error is want of memory.
 pub fn run_steps(alloc: Global, schedule: &Schedule) -> Result<Vec<u8>, RunError>
-    ensures { IfOk result (λ bytes. IsScheduleOutput (schedule_layout schedule.now) (turns_of schedule.now) bytes.items) }
+    ensures output { IfOk result (λ bytes. IsScheduleOutput (schedule_layout schedule.now) (turns_of schedule.now) bytes.items) }
 {
     match output_text(alloc, schedule) {
         Ok(text) => Ok(text.into_bytes()),
@@ -62,5 +62,5 @@ pub fn run_steps(alloc: Global, schedule: &Schedule) -> Result<Vec<u8>, RunError
 
 /// The output of a schedule is one: its definition leaves no choice. A law, which computes nothing.
 pub fn one_output()
-    ensures { HasOneOutput }
+    ensures unique { HasOneOutput }
 {}

@@ -52,7 +52,7 @@ fn has_items(layout: &Layout, items: &[u32]) -> bool
 impl Command {
     /// Whether the queue has the senders, items and barriers that the command names.
     pub fn fits(&self, layout: &Layout) -> bool
-        ensures { IsTrue result ↔ Fits layout.now self.now }
+        ensures within { IsTrue result ↔ Fits layout.now self.now }
     {
         match self {
             Command::Queue { sender, item } => *sender < layout.senders && *item < layout.items,

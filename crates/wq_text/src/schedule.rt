@@ -27,7 +27,7 @@ impl Schedule {
 
     /// The numbers of its queue.
     pub fn layout(&self) -> &Layout
-        ensures { result.now ≡ schedule_layout self.now }
+        ensures numbers { result.now ≡ schedule_layout self.now }
     {
         &self.layout
     }

@@ -32,14 +32,14 @@ impl Script {
 
     /// The numbers of its queue.
     pub fn layout(&self) -> &Layout
-        ensures { result.now ≡ layout_of self.now }
+        ensures numbers { result.now ≡ layout_of self.now }
     {
         &self.layout
     }
 
     /// What is asked of the queue, in turn.
     pub fn commands(&self) -> &[Command]
-        ensures { result.now ≡ commands_of self.now }
+        ensures asked { result.now ≡ commands_of self.now }
     {
         &self.commands
     }

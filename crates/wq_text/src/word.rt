@@ -32,5 +32,5 @@ pub(crate) fn words_of(alloc: Global, line: &str) -> Result<Vec<&str>, AllocErro
 
 /// A word is a number exactly where it is the decimal of one below 2^64.
 pub fn reads_decimals()
-    ensures { ReadsDecimals }
+    ensures exactly { ReadsDecimals }
 {}

@@ -14,7 +14,7 @@ loop-seat-preserved c =
     let P : List Turn → Type 0 = λ ts. GivesBehind c.loop-seat.core (get_or ts c.loop-seat.seat-index (Sender 0, Hold 0)) c.make_turn.new.core
     (string_bytes c.loop-seat.out) (string_bytes c.make_turn.new.out) in
     record {
-      same = c.in_ok-make_turn.ensures.same ∙ c.layout-layout.ensures;
+      same = c.in_ok-make_turn.ensures.same ∙ c.layout-layout.ensures.numbers;
       told = continues_behind c.args.schedule.now.layout turns c.loop-seat.seat-index (Sender 0, Hold 0) c.loop-seat.core c.make_turn.new.core _ _ lt
           (subst P c.turns-seat-items.ensures.value c.in_ok-make_turn.ensures.gives) c.loop-seat.invariant.told;
     }
@@ -24,6 +24,6 @@ returns c =
     let turns : List Turn = c.args.schedule.now.turns.items in
     output_whole c.args.schedule.now.layout turns _ c.loop-seat.core _ _
     (drop_of_length-le turns (omega (arith, ap length c.turns-seat-items.ensures.value))) c.loop-seat.invariant.told
-    (ends_with_rows c.loop-seat.core _ _ _ _ _ _ _ c.layout-layout.ensures c.loop-seat.invariant.same
-    (c.deref.ensures.value ∙ c.in_ok-accepted.ensures) (c.deref-2.ensures.value ∙ c.in_ok-begun.ensures) c.in_ok-write_row.ensures
-    c.in_ok-write_row-2.ensures)
+    (ends_with_rows c.loop-seat.core _ _ _ _ _ _ _ c.layout-layout.ensures.numbers c.loop-seat.invariant.same
+    (c.deref.ensures.value ∙ c.in_ok-accepted.ensures.numbers) (c.deref-2.ensures.value ∙ c.in_ok-begun.ensures.numbers) c.in_ok-write_row.ensures.written
+    c.in_ok-write_row-2.ensures.written)
