@@ -92,14 +92,14 @@ impl Delay {
 
     /// How many items are on the table.
     pub fn len(&self) -> usize
-        ensures { result ≡ length self.now.table.entries }
+        ensures entries { result ≡ length self.now.table.entries }
     {
         self.table.len()
     }
 
     /// How many slots of the wheel the last answered advance looked at: at most one for each tick, and each slot at most once.
     pub fn looked(&self) -> u32
-        ensures { result ≡ self.now.looked }
+        ensures count { result ≡ self.now.looked }
     {
         self.looked
     }

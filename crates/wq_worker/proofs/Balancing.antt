@@ -11,15 +11,14 @@ use Rattle.wq_words.specs.Legal.{IsLegal}
 use Rattle.wq_live.specs.Known.{Known}
 use Rattle.wq_words.specs.Counting.{is_queued_by, is_chain, is_chain_busy}
 use Rattle.wq_live.specs.Counts.{capped, owner_counts}
-use Rattle.wq_worker.specs.declared.book.Ledger.{Ledger}
 use Rattle.wq_worker.specs.declared.totals.Totals.{Totals}
-use Rattle.wq_worker.specs.Book.{IsLedgerOf, IsSettled}
+use Rattle.wq_worker.specs.Book.{LedgerState, IsLedgerOf, IsSettled}
 use Rattle.wq_worker.specs.Balance.{largest, AreWhole, AreOwnerWhole, ledgers_of, HasOne, HaveOne, met_total, SumsMet, Balances}
 use Rattle.wq_worker.proofs.Pushes.{not_same, is_queued_below, below_more, below_none, below_all, none_above, queued_made}
 use Rattle.wq_words.proofs.Appended.{accepted-count}
 use Rattle.wq_worker.proofs.Summing.{cond_next, total_next, total_skip, total_none, kept_first}
 
-module _ (layout : Layout) (h : List Event) (legal : IsLegal layout h) (ledgers : List Ledger) (made : All (IsLedgerOf h) ledgers) (seat : ℕ) where
+module _ (layout : Layout) (h : List Event) (legal : IsLegal layout h) (ledgers : List LedgerState) (made : All (IsLedgerOf h) ledgers) (seat : ℕ) where
   abbrev own_below : ℕ → ℕ
   own_below n = cond (nat_lt seat n) (count_by (is_queued_by seat) h) 0
 
@@ -27,9 +26,9 @@ module _ (layout : Layout) (h : List Event) (legal : IsLegal layout h) (ledgers 
   one_met n one =
       let l = one.0 in let k = kept_first (IsLedgerOf h) (λ z. z.number == n) ledgers l [] made one.1 in
       let same : l.number ≡ n = eqb-true l.number n k.1 in
-      let alone = ap (sum_by (λ (z : Ledger). z.counts.queued)) one.1 in
+      let alone = ap (sum_by (λ (z : LedgerState). z.counts.queued)) one.1 in
       let whole = queued_made layout h l legal k.0 one.2.0 in
-      alone ∙ (sum_by-cons (λ (z : Ledger). z.counts.queued) l [] ∙ (omega arith ∙ (whole ∙ ap (λ (z : ℕ). count_by (is_queued_by z) h) same)))
+      alone ∙ (sum_by-cons (λ (z : LedgerState). z.counts.queued) l [] ∙ (omega arith ∙ (whole ∙ ap (λ (z : ℕ). count_by (is_queued_by z) h) same)))
 
   next_met : (n : ℕ) (b : Bool) → (n == seat) ≡ b → HaveOne ledgers seat (n + 1)
       → met_total (λ c. c.queued) seat n ledgers + own_below n ≡ count_by (is_queued_below n) h
@@ -78,7 +77,7 @@ whole_is : (n : ℕ) → capped n ≢ largest → capped n ≡ n
 whole_is n less = omega arith
 
 -- the sums of a book whose ledgers do
-pub balances : (owner : Known) (own : Ledger) (ledgers : List Ledger) (met totals : Totals) → IsSettled owner own
+pub balances : (owner : Known) (own : LedgerState) (ledgers : List LedgerState) (met totals : Totals) → IsSettled owner own
     → All (IsLedgerOf owner.seen) ledgers → SumsMet ledgers own.number owner.layout.senders met → AreWhole own.counts → AreOwnerWhole (owner_counts owner.seen)
     → totals.queued ≡ met.queued + own.counts.queued → totals.chained ≡ (owner_counts owner.seen).chained → totals.executed ≡ (owner_counts owner.seen).ended
     → totals.pending ≡ (met.pending + own.counts.pending) +

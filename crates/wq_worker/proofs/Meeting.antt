@@ -9,9 +9,8 @@ use Rattle.wq_words.proofs.Prefixes.{prefix_append}
 use Rattle.wq_words.specs.Seen.{owner_seat, Grows}
 use Rattle.wq_live.specs.Known.{Known, Sees}
 use Rattle.wq_live.proofs.Final.{final}
-use Rattle.wq_worker.specs.declared.book.Ledger.{Ledger}
 use Rattle.wq_worker.specs.Pair.{Paired, Both}
-use Rattle.wq_worker.specs.Book.{IsLedgerOf}
+use Rattle.wq_worker.specs.Book.{LedgerState, IsLedgerOf}
 use Rattle.wq_worker.proofs.Seats.{adds_owner}
 use Rattle.wq_worker.proofs.Owned.{quiet_none, owner_grows, Stays, stays}
 use Rattle.wq_worker.proofs.Pair.{paired_after, owner_grew}
@@ -34,7 +33,7 @@ complete_still layout n v w g legal done =
     let a : accepted w ≡ accepted v = ap accepted g.is ∙ (final layout v done g.new (subst (IsLegal layout) g.is legal)).0 in
     (subst (λ (z : ℕ). 0 < z) (sym s.closes_same) done.0, rw (a, s.ended_same) done.1)
 
-pub made_still : (c : ℕ) (n : ℕ) (v w : List Event) (ledger : Ledger) → Grows c [] n v w → IsLedgerOf v ledger → IsLedgerOf w ledger
+pub made_still : (c : ℕ) (n : ℕ) (v w : List Event) (ledger : LedgerState) → Grows c [] n v w → IsLedgerOf v ledger → IsLedgerOf w ledger
 made_still c n v w ledger g m = record {
   met = m.met;
   before = subst (λ (z : List Event). IsPrefix m.met z) (sym g.is) (prefix_append m.met v g.new m.before);

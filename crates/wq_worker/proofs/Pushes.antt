@@ -12,8 +12,7 @@ use Rattle.wq_words.proofs.Growing.{count_by_push}
 use Rattle.wq_words.proofs.Legal.{legal_induction, legal_next, legal_rest}
 use Rattle.wq_live.specs.declared.counts.SenderCounts.{SenderCounts}
 use Rattle.wq_words.specs.Counting.{is_queued_by}
-use Rattle.wq_worker.specs.declared.book.Ledger.{Ledger}
-use Rattle.wq_worker.specs.Book.{IsLedgerOf}
+use Rattle.wq_worker.specs.Book.{LedgerState, IsLedgerOf}
 use Rattle.wq_worker.specs.Balance.{largest}
 use Rattle.wq_words.proofs.Appended.{count_by-append, count_by-cons}
 use Rattle.wq_worker.proofs.Closing.{still_closed}
@@ -140,7 +139,7 @@ module _ (layout : Layout) where
       )
 
   -- what a sender had pushed by the close it has pushed in all
-  pub queued_made : (h : List Event) (ledger : Ledger) → IsLegal layout h → IsLedgerOf h ledger → ledger.counts.queued ≢ largest
+  pub queued_made : (h : List Event) (ledger : LedgerState) → IsLegal layout h → IsLedgerOf h ledger → ledger.counts.queued ≢ largest
       → ledger.counts.queued ≡ count_by (is_queued_by ledger.number) h
   queued_made h ledger legal m whole =
       let s = ledger.number in let rest = m.before.0 in let is : m.met ++ rest ≡ h = m.before.1 in

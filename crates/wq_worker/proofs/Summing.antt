@@ -5,7 +5,7 @@ use Rattle.std.specs.Prelude.{IsSome, sum_by, filter, nat_lt, All}
 use Rattle.std.proofs.lemmas.Bool.{cases_lt, ltb-true, ltb-false, lt-ltb, le-ltb, eqb-true}
 use Rattle.std.proofs.lemmas.List.Sums.{sum_by-cons}
 use Rattle.wq_live.specs.declared.counts.SenderCounts.{SenderCounts}
-use Rattle.wq_worker.specs.declared.book.Ledger.{Ledger}
+use Rattle.wq_worker.specs.Book.{LedgerState}
 use Rattle.wq_worker.specs.declared.totals.Totals.{Totals}
 use Rattle.wq_worker.specs.Balance.{AreWhole, ledgers_of, HasOne, HaveOne, met_total, SumsMet}
 use Rattle.wq_worker.specs.Totals.{none, with_sender, HasGrown}
@@ -31,15 +31,15 @@ apart_at : (m n seat : ℕ) → n ≢ seat → (s : Bool) → (m == seat) ≡ s 
 apart_at m n seat other true is same = let a : m ≡ seat = eqb-true m seat is in let b : m ≡ n = eqb-true m n same in absurd (other (sym b ∙ a))
 apart_at m n seat other false is same = refl
 
-sum_by-kept : (f : Ledger → ℕ) (b : Bool) (l : Ledger) (ls : List Ledger) → sum_by f (cond b (l ∷ ls) ls) ≡ cond b (f l) 0 + sum_by f ls
+sum_by-kept : (f : LedgerState → ℕ) (b : Bool) (l : LedgerState) (ls : List LedgerState) → sum_by f (cond b (l ∷ ls) ls) ≡ cond b (f l) 0 + sum_by f ls
 sum_by-kept f true l ls = sum_by-cons f l ls
 sum_by-kept f false l ls = omega arith
 
 module _ (f : SenderCounts → ℕ) (seat : ℕ) where
-  abbrev counted : ℕ → Ledger → ℕ
+  abbrev counted : ℕ → LedgerState → ℕ
   counted n l = cond (nat_lt l.number n && not (l.number == seat)) (f l.counts) 0
 
-  counted_next : (n : ℕ) (l : Ledger) → n ≢ seat → counted (n + 1) l ≡ counted n l + cond (l.number == n) (f l.counts) 0
+  counted_next : (n : ℕ) (l : LedgerState) → n ≢ seat → counted (n + 1) l ≡ counted n l + cond (l.number == n) (f l.counts) 0
   counted_next n l other =
       let m = l.number in let x : ℕ = cond (not (m == seat)) (f l.counts) 0 in
       cond_and (nat_lt m (n + 1)) (not (m == seat)) (f l.counts)
@@ -50,26 +50,26 @@ module _ (f : SenderCounts → ℕ) (seat : ℕ) where
         cond_not (m == n) (m == seat) (f l.counts) (apart_at m n seat other (m == seat) refl),
       ))
 
-  counted_skip : (l : Ledger) (s : Bool) → (l.number == seat) ≡ s → cond {A = ℕ} (l.number == seat) (cond (not (l.number == seat)) (f l.counts) 0) 0 ≡ 0
+  counted_skip : (l : LedgerState) (s : Bool) → (l.number == seat) ≡ s → cond {A = ℕ} (l.number == seat) (cond (not (l.number == seat)) (f l.counts) 0) 0 ≡ 0
   counted_skip l s is = rw is (skipped s)
     where
       skipped : (s : Bool) → cond {A = ℕ} s (cond (not s) (f l.counts) 0) 0 ≡ 0
       skipped true = refl
       skipped false = refl
 
-  counted_same : (l : Ledger) → counted (seat + 1) l ≡ counted seat l
+  counted_same : (l : LedgerState) → counted (seat + 1) l ≡ counted seat l
   counted_same l =
       let m = l.number in let x : ℕ = cond (not (m == seat)) (f l.counts) 0 in
       cond_and (nat_lt m (seat + 1)) (not (m == seat)) (f l.counts)
       ∙ (cond_next (nat_lt m seat) (m == seat) m seat x refl refl
       ∙ omega (arith, cond_and (nat_lt m seat) (not (m == seat)) (f l.counts), counted_skip l (m == seat) refl))
 
-  counted_none : (l : Ledger) → counted 0 l ≡ 0
+  counted_none : (l : LedgerState) → counted 0 l ≡ 0
   counted_none l =
       cond_and (nat_lt l.number 0) (not (l.number == seat)) (f l.counts) ∙ ap (λ (b : Bool). cond b (cond (not (l.number == seat)) (f l.counts) 0) 0)
       (le-ltb l.number 0 (omega arith))
 
-  pub total_next : (n : ℕ) (ls : List Ledger) → n ≢ seat → met_total f seat (n + 1) ls ≡ met_total f seat n ls + sum_by (λ l. f l.counts) (ledgers_of n ls)
+  pub total_next : (n : ℕ) (ls : List LedgerState) → n ≢ seat → met_total f seat (n + 1) ls ≡ met_total f seat n ls + sum_by (λ l. f l.counts) (ledgers_of n ls)
   total_next n [] other = refl
   total_next n (l ∷ ls) other =
       omega (
@@ -81,43 +81,43 @@ module _ (f : SenderCounts → ℕ) (seat : ℕ) where
         total_next n ls other,
       )
 
-  pub total_skip : (ls : List Ledger) → met_total f seat (seat + 1) ls ≡ met_total f seat seat ls
+  pub total_skip : (ls : List LedgerState) → met_total f seat (seat + 1) ls ≡ met_total f seat seat ls
   total_skip [] = refl
   total_skip (l ∷ ls) = omega (arith, sum_by-cons (counted (seat + 1)) l ls, sum_by-cons (counted seat) l ls, counted_same l, total_skip ls)
 
-  pub total_none : (ls : List Ledger) → met_total f seat 0 ls ≡ 0
+  pub total_none : (ls : List LedgerState) → met_total f seat 0 ls ≡ 0
   total_none [] = refl
   total_none (l ∷ ls) = omega (arith, sum_by-cons (counted 0) l ls, counted_none l, total_none ls)
 
 -- what a filter kept first is of the list, and passes
-module _ (P : Ledger → Type 0) (p : Ledger → Bool) where
-  kept_step : (b : Bool) (x l : Ledger) (xs ls : List Ledger) → p x ≡ b → P x → (filter p xs ≡ l ∷ ls → P l × (p l ≡ true))
+module _ (P : LedgerState → Type 0) (p : LedgerState → Bool) where
+  kept_step : (b : Bool) (x l : LedgerState) (xs ls : List LedgerState) → p x ≡ b → P x → (filter p xs ≡ l ∷ ls → P l × (p l ≡ true))
       → cond b (x ∷ filter p xs) (filter p xs) ≡ l ∷ ls → P l × (p l ≡ true)
-  kept_step true x l xs ls passes here rest is = let same : x ≡ l = cc in subst (λ (z : Ledger). P z × (p z ≡ true)) same (here, passes)
+  kept_step true x l xs ls passes here rest is = let same : x ≡ l = cc in subst (λ (z : LedgerState). P z × (p z ≡ true)) same (here, passes)
   kept_step false x l xs ls passes here rest is = rest is
 
-  pub kept_first : (xs : List Ledger) (l : Ledger) (ls : List Ledger) → All P xs → filter p xs ≡ l ∷ ls → P l × (p l ≡ true)
+  pub kept_first : (xs : List LedgerState) (l : LedgerState) (ls : List LedgerState) → All P xs → filter p xs ≡ l ∷ ls → P l × (p l ≡ true)
   kept_first [] l ls all is = absurd (cc)
   kept_first (x ∷ xs) l ls all is = kept_step (p x) x l xs ls refl (all 0 x (omega arith)) (kept_first xs l ls (λ k d low. all (suc k) d (omega arith))) is
 
 -- the list of one ledger, or of none
-abbrev pub listed_one : Option Ledger → List Ledger
+abbrev pub listed_one : Option LedgerState → List LedgerState
 listed_one None = []
 listed_one (Some ledger) = ledger ∷ []
 
-pub some_length : (o : Option Ledger) → IsSome o → length (listed_one o) ≡ 1
+pub some_length : (o : Option LedgerState) → IsSome o → length (listed_one o) ≡ 1
 some_length (Some ledger) is = refl
 some_length None is = absurd (cc)
 
-one_sum : (f : SenderCounts → ℕ) (n : ℕ) (ls : List Ledger) (l : Ledger) → ledgers_of n ls ≡ l ∷ [] → sum_by (λ z. f z.counts) (ledgers_of n ls) ≡ f l.counts
-one_sum f n ls l is = let e = sum_by-cons (λ (z : Ledger). f z.counts) l [] in let same = ap (sum_by (λ (z : Ledger). f z.counts)) is in omega (arith, e, same)
+one_sum : (f : SenderCounts → ℕ) (n : ℕ) (ls : List LedgerState) (l : LedgerState) → ledgers_of n ls ≡ l ∷ [] → sum_by (λ z. f z.counts) (ledgers_of n ls) ≡ f l.counts
+one_sum f n ls l is = let e = sum_by-cons (λ (z : LedgerState). f z.counts) l [] in let same = ap (sum_by (λ (z : LedgerState). f z.counts)) is in omega (arith, e, same)
 
-have_next : (ledgers : List Ledger) (seat n : ℕ) → HaveOne ledgers seat n → (n ≢ seat → HasOne ledgers n) → HaveOne ledgers seat (n + 1)
+have_next : (ledgers : List LedgerState) (seat n : ℕ) → HaveOne ledgers seat n → (n ≢ seat → HasOne ledgers n) → HaveOne ledgers seat (n + 1)
 have_next ledgers seat n all here s low other =
     ⊎_elim (λ (less : s < n). all s less other) (λ (more : n ≤ s). let same : s ≡ n = omega arith in subst (λ (z : ℕ). HasOne ledgers z) (sym same)
     (here (λ (is : n ≡ seat). other (same ∙ is)))) (cases_lt s n)
 
-pub sums_none : (ledgers : List Ledger) (seat : ℕ) (met : Totals) → met ≡ none → SumsMet ledgers seat 0 met
+pub sums_none : (ledgers : List LedgerState) (seat : ℕ) (met : Totals) → met ≡ none → SumsMet ledgers seat 0 met
 sums_none ledgers seat met is = record {
   have_one = λ s low other. absurd (omega (arith, low));
   queued_is = ap (λ (t : Totals). t.queued) is ∙ sym (total_none (λ c. c.queued) seat ledgers);
@@ -130,7 +130,7 @@ sums_none ledgers seat met is = record {
   contended_room = omega (arith, ap (λ (t : Totals). t.contended) is);
 }
 
-pub sums_next : (ledgers : List Ledger) (seat n : ℕ) (met : Totals) (l : Ledger) (more : Totals) → SumsMet ledgers seat n met → n ≢ seat
+pub sums_next : (ledgers : List LedgerState) (seat n : ℕ) (met : Totals) (l : LedgerState) (more : Totals) → SumsMet ledgers seat n met → n ≢ seat
     → ledgers_of n ledgers ≡ l ∷ [] → AreWhole l.counts → more ≡ with_sender l.counts met
     → HasGrown met more → SumsMet ledgers seat (n + 1) more
 sums_next ledgers seat n met l more sums other one whole is room = record {
@@ -169,10 +169,10 @@ sums_next ledgers seat n met l more sums other one whole is room = record {
   contended_room = omega (arith, sums.contended_room, room.3);
 }
 
-skip_at : (f : SenderCounts → ℕ) (seat n : ℕ) (ls : List Ledger) → n ≡ seat → met_total f seat (n + 1) ls ≡ met_total f seat n ls
+skip_at : (f : SenderCounts → ℕ) (seat n : ℕ) (ls : List LedgerState) → n ≡ seat → met_total f seat (n + 1) ls ≡ met_total f seat n ls
 skip_at f seat n ls same = subst (λ (z : ℕ). met_total f seat (z + 1) ls ≡ met_total f seat z ls) (sym same) (total_skip f seat ls)
 
-pub sums_skip : (ledgers : List Ledger) (seat n : ℕ) (met more : Totals) → SumsMet ledgers seat n met → n ≡ seat → more ≡ met
+pub sums_skip : (ledgers : List LedgerState) (seat n : ℕ) (met more : Totals) → SumsMet ledgers seat n met → n ≡ seat → more ≡ met
     → SumsMet ledgers seat (n + 1) more
 sums_skip ledgers seat n met more sums same is = record {
   have_one = have_next ledgers seat n sums.have_one (λ other. absurd (other same));

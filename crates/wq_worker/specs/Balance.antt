@@ -6,11 +6,10 @@ use Rattle.wq_live.specs.declared.counts.SenderCounts.{SenderCounts}
 use Rattle.wq_live.specs.declared.counts.OwnerCounts.{OwnerCounts}
 use Rattle.wq_words.specs.Counting.{is_chain, is_chain_busy}
 use Rattle.wq_live.specs.Counts.{owner_counts}
-use Rattle.wq_worker.specs.declared.book.Ledger.{Ledger}
 use Rattle.wq_worker.specs.declared.totals.Totals.{Totals}
 use Rattle.wq_worker.specs.declared.balance.Unbalanced.{Unbalanced}
 use Rattle.wq_worker.specs.declared.balance.Unbalanced.TheVariants.{Missing, Twice, Saturated}
-use Rattle.wq_worker.specs.Book.{BookState, IsLedgerOf}
+use Rattle.wq_worker.specs.Book.{LedgerState, BookState, IsLedgerOf}
 
 abbrev pub largest : ℕ
 largest = 2 ^ 64 - 1
@@ -23,29 +22,29 @@ abbrev pub AreOwnerWhole : OwnerCounts → Type 0
 AreOwnerWhole counts = (counts.chained ≢ largest) × (counts.chain_busy ≢ largest) × (counts.ended ≢ largest)
 
 -- the ledgers of the sender s
-abbrev pub ledgers_of : ℕ → List Ledger → List Ledger
+abbrev pub ledgers_of : ℕ → List LedgerState → List LedgerState
 ledgers_of s ledgers = filter (λ ledger. ledger.number == s) ledgers
 
 -- the sender s has one ledger, with these counts, of which none is saturated
-abbrev pub HasOne : List Ledger → ℕ → Type 0
-HasOne ledgers s = (ledger : Ledger) × (ledgers_of s ledgers ≡ ledger ∷ []) × AreWhole ledger.counts
+abbrev pub HasOne : List LedgerState → ℕ → Type 0
+HasOne ledgers s = (ledger : LedgerState) × (ledgers_of s ledgers ≡ ledger ∷ []) × AreWhole ledger.counts
 
 -- why the ledgers of the sender s do not do
-abbrev pub IsFault : List Ledger → ℕ → Unbalanced → Type 0
+abbrev pub IsFault : List LedgerState → ℕ → Unbalanced → Type 0
 IsFault ledgers s (Missing t) = (t ≡ s) × (ledgers_of s ledgers ≡ [])
 IsFault ledgers s (Twice t) = (t ≡ s) × (2 ≤ length (ledgers_of s ledgers))
-IsFault ledgers s (Saturated t) = (t ≡ s) × (ledger : Ledger) × (ledgers_of s ledgers ≡ ledger ∷ []) × (¬ AreWhole ledger.counts)
+IsFault ledgers s (Saturated t) = (t ≡ s) × (ledger : LedgerState) × (ledgers_of s ledgers ≡ ledger ∷ []) × (¬ AreWhole ledger.counts)
 
 -- each sender below n but this one has one ledger
-abbrev pub HaveOne : List Ledger → ℕ → ℕ → Type 0
+abbrev pub HaveOne : List LedgerState → ℕ → ℕ → Type 0
 HaveOne ledgers seat n = (s : ℕ) → s < n → s ≢ seat → HasOne ledgers s
 
 -- the sum of a count over the ledgers of the senders below n but this one
-abbrev pub met_total : (SenderCounts → ℕ) → ℕ → ℕ → List Ledger → ℕ
+abbrev pub met_total : (SenderCounts → ℕ) → ℕ → ℕ → List LedgerState → ℕ
 met_total count seat n ledgers = sum_by (λ ledger. if (nat_lt ledger.number n && not (ledger.number == seat)) then count ledger.counts else 0) ledgers
 
 -- the sums over the ledgers of the senders below n but this one, which each has one
-pub record SumsMet (ledgers : List Ledger) (seat n : ℕ) (met : Totals) : Type 0 where
+pub record SumsMet (ledgers : List LedgerState) (seat n : ℕ) (met : Totals) : Type 0 where
   pub have_one : HaveOne ledgers seat n
   pub queued_is : met.queued ≡ met_total (λ c. c.queued) seat n ledgers
   pub pending_is : met.pending ≡ met_total (λ c. c.pending) seat n ledgers
@@ -57,12 +56,12 @@ pub record SumsMet (ledgers : List Ledger) (seat n : ℕ) (met : Totals) : Type 
   pub contended_room : met.contended ≤ n * 2 ^ 64
 
 -- the first fault of a sender below n but this one
-abbrev pub FaultsBelow : List Ledger → ℕ → ℕ → Unbalanced → Type 0
+abbrev pub FaultsBelow : List LedgerState → ℕ → ℕ → Unbalanced → Type 0
 FaultsBelow ledgers seat n fault = (s : ℕ) × (s < n) × (s ≢ seat) × HaveOne ledgers seat s × IsFault ledgers s fault
 
 -- Each sender but the worker's has one ledger, and no count is saturated. Queued and chained are all that was accepted, as
 -- many as were executed; the other counts are what each sender had counted as it met the book, the worker's as the book was made.
-pub record Balances (book : BookState) (ledgers : List Ledger) (totals : Totals) : Type 0 where
+pub record Balances (book : BookState) (ledgers : List LedgerState) (totals : Totals) : Type 0 where
   pub have_one : HaveOne ledgers book.own.number book.layout.senders
   pub own_made : IsLedgerOf book.seen book.own
   pub own_whole : AreWhole book.own.counts
@@ -78,7 +77,7 @@ pub record Balances (book : BookState) (ledgers : List Ledger) (totals : Totals)
 
 -- The first fault by sender number, and, where the senders' ledgers do, that a count of the worker's sender or of the owner
 -- is saturated.
-pub data IsUnbalanced (book : BookState) (ledgers : List Ledger) (fault : Unbalanced) : Type 0 where
+pub data IsUnbalanced (book : BookState) (ledgers : List LedgerState) (fault : Unbalanced) : Type 0 where
   of_sender : FaultsBelow ledgers book.own.number book.layout.senders fault → IsUnbalanced book ledgers fault
   of_worker : HaveOne ledgers book.own.number book.layout.senders → ¬ (AreWhole book.own.counts × AreOwnerWhole (owner_counts book.seen))
       → fault ≡ Saturated book.own.number → IsUnbalanced book ledgers fault

@@ -42,7 +42,7 @@ fn only_ledger(ledgers: &[Ledger], number: u32) -> Result<Ledger, Unbalanced>
 {
     let mut found = None;
     for ledger in ledgers {
-        if ledger.number == number {
+        if ledger.number() == number {
             if found.is_some() {
                 return Err(Unbalanced::Twice(number));
             }
@@ -60,7 +60,7 @@ fn whole_ledger(ledgers: &[Ledger], number: u32) -> Result<Ledger, Unbalanced>
     ensures { MatchResult result (λ ledger. (ledgers_of number ledgers.now ≡ ledger ∷ []) × AreWhole ledger.counts) (λ fault. IsFault ledgers.now number fault) }
 {
     let ledger = only_ledger(ledgers, number)?;
-    if !is_whole(ledger.counts) {
+    if !is_whole(ledger.counts()) {
         return Err(Unbalanced::Saturated(number));
     }
     Ok(ledger)
@@ -74,7 +74,7 @@ pub(crate) fn sum_met(ledgers: &[Ledger], seat: u32, senders: u32) -> Result<Tot
     for number in 0..senders {
         if number != seat {
             let ledger = whole_ledger(ledgers, number)?;
-            met = met.with(ledger.counts);
+            met = met.with(ledger.counts());
         }
     }
     Ok(met)

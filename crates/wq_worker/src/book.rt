@@ -14,11 +14,21 @@ use crate::totals::Totals;
 use std::marker::Model;
 use wq_live::{Owner, Sender, SenderCounts};
 
-/// What one sender has counted.
+/// What one sender has counted. `Book::meet` alone makes it.
 #[derive(Clone, Copy, Debug, PartialEq, Eq)]
 pub struct Ledger {
-    pub(crate) number: u32,
-    pub(crate) counts: SenderCounts,
+    number: u32,
+    counts: SenderCounts,
+}
+
+impl Model for Ledger {
+    ghost use Rattle.wq_worker.specs.Book.{LedgerState};
+
+    ghost Value = { LedgerState };
+
+    ghost view = { λ l. record { number = l.number; counts = l.counts } };
+
+    ghost inverse = { λ s. record { number = s.number; counts = s.counts } };
 }
 
 impl Ledger {
@@ -30,6 +40,20 @@ impl Ledger {
             number: sender.number(),
             counts: sender.counts(),
         }
+    }
+
+    /// The number of its sender.
+    pub fn number(&self) -> u32
+        ensures seat { result ≡ self.now.number }
+    {
+        self.number
+    }
+
+    /// What its sender had counted as it met the book.
+    pub fn counts(&self) -> SenderCounts
+        ensures counted { result ≡ self.now.counts }
+    {
+        self.counts
     }
 }
 
@@ -89,14 +113,15 @@ impl Book {
     /// The sums of all counts, where each sender but the worker's has one ledger of this book and no count is saturated.
     pub fn balance(&self, ledgers: &[Ledger]) -> Result<Totals, Unbalanced>
         requires { All (IsLedgerOf self.now.seen) ledgers.now }
-        ensures { MatchResult result (Balances self.now ledgers.now) (IsUnbalanced self.now ledgers.now) }
+        ensures outcome { MatchResult result (Balances self.now ledgers.now) (IsUnbalanced self.now ledgers.now) }
     {
-        let own = self.own;
+        let number = self.own.number();
+        let own = self.own.counts();
         let owner = self.owner.counts();
-        let met = sum_met(ledgers, own.number, self.owner.layout().senders)?;
-        if !is_whole(own.counts) || !is_owner_whole(owner) {
-            return Err(Unbalanced::Saturated(own.number));
+        let met = sum_met(ledgers, number, self.owner.layout().senders)?;
+        if !is_whole(own) || !is_owner_whole(owner) {
+            return Err(Unbalanced::Saturated(number));
         }
-        Ok(met.with(own.counts).with_owner(owner))
+        Ok(met.with(own).with_owner(owner))
     }
 }

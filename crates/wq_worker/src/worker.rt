@@ -163,21 +163,21 @@ impl<W: Work> Worker<W> {
 
     /// The work has run the items that have begun, in this order.
     pub fn logged(&self)
-        ensures { W.log self.now.work ≡ items_among self.now.layout (begun self.now.seen) }
+        ensures log { W.log self.now.work ≡ items_among self.now.layout (begun self.now.seen) }
     {
         let _ = &self.owner;
     }
 
     /// The worker's sender is one of its queue's.
     pub fn seated(&self)
-        ensures { self.now.number < self.now.layout.senders }
+        ensures in_layout { self.now.number < self.now.layout.senders }
     {
         let _ = &self.owner;
     }
 
     /// How large the queue is.
     pub fn layout(&self) -> Layout
-        ensures { result ≡ self.now.layout }
+        ensures size { result ≡ self.now.layout }
     {
         self.owner.layout()
     }
@@ -204,7 +204,7 @@ impl<W: Work> Worker<W> {
     /// Makes the take that `run_one` would make, and answers the oldest number that was taken and has not begun, which is what
     /// `run_one` executes next. `None` where an execution is owed, or where nothing waits.
     pub fn ready(&mut self) -> Option<u32>
-        ensures { MatchOption result (IsUnready self.old self.new) (λ k. IsReady self.old k self.new) }
+        ensures outcome { MatchOption result (IsUnready self.old self.new) (λ k. IsReady self.old k self.new) }
     {
         if self.owner.running().is_some() {
             return None;
@@ -387,7 +387,7 @@ impl<W: Work> Worker<W> {
     /// Closes the queue where it is open, executes what is left, at most so many, and gives the work back with the book
     /// (`destroy_workqueue`). Where more is left it gives the worker back.
     pub fn destroy(mut self, limit: u32) -> Result<(W, Book), Unfinished<W>>
-        ensures { MatchResult result (λ done. Destroys W.log W.may limit self done.0 done.1) (λ unfinished. LeavesUnfinished W.log W.may limit self unfinished.worker unfinished.left) }
+        ensures outcome { MatchResult result (λ done. Destroys W.log W.may limit self done.0 done.1) (λ unfinished. LeavesUnfinished W.log W.may limit self unfinished.worker unfinished.left) }
     {
         self.close_where_open();
         match self.drain(limit) {

@@ -1,12 +1,18 @@
-use Rattle.std.proofs.Common.{◌+◌, sym, subst}
+use Rattle.std.proofs.Common.{◌≡◌, ◌+◌, sym, subst, ap, ◌∙◌}
 use Rattle.wq_worker.proofs.Summing.{sums_none, sums_next, sums_skip}
 use Rattle.wq_worker.specs.Balance.{SumsMet}
+use Rattle.wq_live.specs.declared.counts.SenderCounts.{SenderCounts}
 use Rattle.wq_worker.specs.declared.totals.Totals.{Totals}
+use Rattle.wq_worker.specs.Totals.{with_sender}
 use Rattle.wq_worker.proofs.balance.sum_met.Goals as goal
 use Rattle.wq_worker.proofs.balance.sum_met.Goals.{then-number-seat+in_ok-ledger, else-number-seat}
 
 pub loop-number-init : goal.loop-number-init
 loop-number-init c = sums_none c.args.ledgers.now c.args.seat c.none-met.result c.none-met.ensures
+
+-- the sums with the counts that a ledger answers
+counted : (met more : Totals) (said counts : SenderCounts) → more ≡ with_sender said met → said ≡ counts → more ≡ with_sender counts met
+counted met more said counts sums is = sums ∙ ap (λ (z : SenderCounts). with_sender z met) is
 
 pub loop-number-preserved : goal.loop-number-preserved
 loop-number-preserved c =
@@ -14,6 +20,6 @@ loop-number-preserved c =
     elim c.if-number-seat.branch [
       | then-number-seat+in_ok-ledger w ↦ subst (λ (z : Totals). SumsMet ls seat (n + 1) z) (sym w.met-is)
           (sums_next ls seat n c.loop-number.met w.in_ok-ledger.ledger w.with-met.result c.loop-number.invariant w.if-number-seat.true
-          w.in_ok-ledger.ensures.0 w.in_ok-ledger.ensures.1 w.with-met.ensures.sums w.with-met.ensures.room)
+          w.in_ok-ledger.ensures.0 w.in_ok-ledger.ensures.1 (counted _ _ _ _ w.with-met.ensures.sums w.counts.ensures.counted) w.with-met.ensures.room)
       | else-number-seat w ↦ sums_skip ls seat n c.loop-number.met c.if-number-seat.met c.loop-number.invariant w.if-number-seat.false w.met-is
     ]

@@ -30,5 +30,5 @@ pub invariant_of-self-2 : goal.invariant_of-self-2
 invariant_of-self-2 c =
     let i = c.self.inside in let k = c.args.item in let s = i.sender.number in
     let sound = sound_leaves (Back s k Cancelled) i.table.size 0 k i.sender c.give_back.new.self i.table.tick i.next i.table.entries c.take.new.self.entries
-    c.give_back.ensures (λ j. refl) (λ j. stops_back s k j Cancelled) c.take.ensures.entries c.self.invariant in
+    c.give_back.ensures.seen (λ j. refl) (λ j. stops_back s k j Cancelled) c.take.ensures.entries c.self.invariant in
     (c.take.ensures.size ∙ sound.0, fit_at c.give_back.new.self c.take.new.self.entries i.table.tick c.take.new.self.tick i.next sound.1)

@@ -27,7 +27,7 @@ loop-item-preserved c =
       elim c.if-take.branch [
         | then-take w ↦ subst (λ (s : Known). Given t.new.self.size i.sender i.table.entries s t.new.self.entries) (sym w.sender-is)
             (left w.give_back.new.self (given_more l.table.size k i.sender l.sender w.give_back.new.self i.table.entries l.table.entries t.new.self.entries
-            l.invariant.0 (sym t.ensures.answer ∙ w.if-take.true) t.ensures.entries w.give_back.ensures))
+            l.invariant.0 (sym t.ensures.answer ∙ w.if-take.true) t.ensures.entries w.give_back.ensures.seen))
         | else-take w ↦ subst (λ (s : Known). Given t.new.self.size i.sender i.table.entries s t.new.self.entries) (sym w.sender-is)
             (left l.sender (given_same l.table.size i.sender l.sender i.table.entries l.table.entries t.new.self.entries
             (t.ensures.entries ∙ without_off k l.table.entries (sym t.ensures.answer ∙ w.if-take.false)) l.invariant.0))

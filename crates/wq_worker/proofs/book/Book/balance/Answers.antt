@@ -1,9 +1,11 @@
-use Rattle.std.proofs.Common.{rules, sym, ap, ◌∙◌, subst}
+use Rattle.std.proofs.Common.{ℕ, rules, sym, ap, ◌∙◌, subst}
 use Rattle.std.specs.Prelude.{All}
 use Rattle.wq_words.specs.declared.layout.Layout.{Layout}
+use Rattle.wq_live.specs.declared.counts.SenderCounts.{SenderCounts}
 use Rattle.wq_live.specs.declared.counts.OwnerCounts.{OwnerCounts}
 use Rattle.wq_live.specs.Counts.{owner_counts}
 use Rattle.wq_worker.specs.declared.totals.Totals.{Totals}
+use Rattle.wq_worker.specs.Totals.{with_sender}
 use Rattle.wq_worker.specs.Book.{BookState, IsLedgerOf}
 use Rattle.wq_worker.specs.Balance.{AreWhole, AreOwnerWhole, SumsMet, Balances}
 use Rattle.wq_worker.proofs.Balancing.{balances}
@@ -13,17 +15,19 @@ pub returns : goal.returns
 returns c =
     let o = c.self.inside.owner in let own = c.self.inside.own in let ls = c.args.ledgers.now in
     let met = c.in_ok-met.met in let oc = c.counts-owner.ensures.counted in
-    let a = c.with.ensures.sums in let b = c.with_owner.ensures in
+    let a = c.with.ensures.sums ∙ ap (λ (z : SenderCounts). with_sender z met) c.counts-own.ensures.counted in let b = c.with_owner.ensures in
     let made : All (IsLedgerOf o.seen) ls = subst (λ (z : BookState). All (IsLedgerOf z.seen) ls) (sym c.self.view_is) c.requires in
     let sums : SumsMet ls own.number o.layout.senders met =
-    subst (λ (z : Layout). SumsMet ls own.number z.senders met) c.layout.ensures.layout c.in_ok-met.ensures in
+    subst (λ (z : ℕ × Layout). SumsMet ls z.0 z.1.senders met) (λ i. (c.number-number.ensures.seat i, c.layout.ensures.layout i)) c.in_ok-met.ensures in
     let whole : AreWhole own.counts = search rules in
     let owner_whole : AreOwnerWhole (owner_counts o.seen) = subst AreOwnerWhole oc (search rules) in
-    subst (λ (z : BookState). Balances z ls c.with_owner.result) c.self.view_is
-    (balances o own ls met c.with_owner.result c.self.invariant made sums whole owner_whole
-    (ap (λ (t : Totals). t.queued) b ∙ ap (λ (t : Totals). t.queued) a)
-    (ap (λ (t : Totals). t.chained) b ∙ ap (λ (z : OwnerCounts). z.chained) oc)
-    (ap (λ (t : Totals). t.executed) b ∙ ap (λ (z : OwnerCounts). z.ended) oc)
-    (cc (ap (λ (t : Totals). t.pending) b, ap (λ (t : Totals). t.pending) a, ap (λ (z : OwnerCounts). z.chain_busy) oc))
-    (ap (λ (t : Totals). t.closed) b ∙ ap (λ (t : Totals). t.closed) a)
-    (ap (λ (t : Totals). t.contended) b ∙ ap (λ (t : Totals). t.contended) a))
+    record {
+      outcome = subst (λ (z : BookState). Balances z ls c.with_owner.result) c.self.view_is
+          (balances o own ls met c.with_owner.result c.self.invariant made sums whole owner_whole
+          (ap (λ (t : Totals). t.queued) b ∙ ap (λ (t : Totals). t.queued) a)
+          (ap (λ (t : Totals). t.chained) b ∙ ap (λ (z : OwnerCounts). z.chained) oc)
+          (ap (λ (t : Totals). t.executed) b ∙ ap (λ (z : OwnerCounts). z.ended) oc)
+          (cc (ap (λ (t : Totals). t.pending) b, ap (λ (t : Totals). t.pending) a, ap (λ (z : OwnerCounts). z.chain_busy) oc))
+          (ap (λ (t : Totals). t.closed) b ∙ ap (λ (t : Totals). t.closed) a)
+          (ap (λ (t : Totals). t.contended) b ∙ ap (λ (t : Totals). t.contended) a));
+    }

@@ -8,32 +8,36 @@ returns-in-Empty g c =
     let shut = c.close_where_open.new.self in let last = c.drain.new.self in
     let same = worker_on c.args.self shut last (closes_same c.args.self shut c.close_where_open.ensures.closes) e.same in
     record {
-      closed = shut;
-      last = last;
-      steps = d.0;
-      closes = c.close_where_open.ensures.closes;
-      within = d.1;
-      row = d.2;
-      same = same;
-      complete = d.3;
-      work_is = c.into_book.ensures.work;
-      queue_is = b.0 ∙ same.queue_is;
-      layout_is = b.1 ∙ same.layout_is;
-      own_is = b.3 ∙ same.number_is;
-      seen_is = b.2;
-      legal = rw (b.1, b.2) e.legal;
-      ran_accepted = rw (b.1, b.2) c.into_book.ensures.logged;
+      outcome = record {
+        closed = shut;
+        last = last;
+        steps = d.0;
+        closes = c.close_where_open.ensures.closes;
+        within = d.1;
+        row = d.2;
+        same = same;
+        complete = d.3;
+        work_is = c.into_book.ensures.work;
+        queue_is = b.0 ∙ same.queue_is;
+        layout_is = b.1 ∙ same.layout_is;
+        own_is = b.3 ∙ same.number_is;
+        seen_is = b.2;
+        legal = rw (b.1, b.2) e.legal;
+        ran_accepted = rw (b.1, b.2) c.into_book.ensures.logged;
+      };
     }
 
 pub returns-in-TooLong : goal.returns-in-TooLong
 returns-in-TooLong g c =
     let e = c.in-TooLong.ensures in let t = e.drains in let shut = c.close_where_open.new.self in
     record {
-      closed = shut;
-      closes = c.close_where_open.ensures.closes;
-      row = t.0;
-      same = worker_on c.args.self shut c.drain.new.self (closes_same c.args.self shut c.close_where_open.ensures.closes) e.same;
-      legal = e.legal;
-      some_left = t.1;
-      left_is = t.2;
+      outcome = record {
+        closed = shut;
+        closes = c.close_where_open.ensures.closes;
+        row = t.0;
+        same = worker_on c.args.self shut c.drain.new.self (closes_same c.args.self shut c.close_where_open.ensures.closes) e.same;
+        legal = e.legal;
+        some_left = t.1;
+        left_is = t.2;
+      };
     }

@@ -28,6 +28,8 @@ returns g c =
     let idle : ¬ IsRunning p.seen = rw (s.begun_same, s.ended_same) (runs_none o.seen none) in
     let a : WorkerState g.row.W.Denot = state_of o i.sender i.tries left i.work in
     let w : WorkerState g.row.W.Denot = state_of p t i.tries left i.work in
-    subst (λ (z : WorkerState g.row.W.Denot). MatchOption c.take_next.result (IsUnready z w) (λ k. IsReady z k w)) c.self.view_is
-    (ready_told a w c.take_next.result c.take_next.ensures.next c.take_next.ensures.nothing idle
-    (moves_by (taking o.seen) 0 i.tries left left i.work i.work o i.sender p t b) (refl, refl))
+    record {
+      outcome = subst (λ (z : WorkerState g.row.W.Denot). MatchOption c.take_next.result (IsUnready z w) (λ k. IsReady z k w)) c.self.view_is
+          (ready_told a w c.take_next.result c.take_next.ensures.next c.take_next.ensures.nothing idle
+          (moves_by (taking o.seen) 0 i.tries left left i.work i.work o i.sender p t b) (refl, refl));
+    }

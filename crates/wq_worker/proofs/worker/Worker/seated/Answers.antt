@@ -6,5 +6,7 @@ use Rattle.wq_worker.proofs.worker.Worker.seated.Goals as goal
 pub returns : goal.returns
 returns g c =
     let i = c.self.inside in let fit = c.self.invariant in
-    subst (λ (z : WorkerState g.row.W.Denot). z.number < z.layout.senders) c.self.view_is
-    (subst (λ (l : Layout). i.sender.number < l.senders) fit.paired.layout fit.numbered)
+    record {
+      in_layout = subst (λ (z : WorkerState g.row.W.Denot). z.number < z.layout.senders) c.self.view_is
+          (subst (λ (l : Layout). i.sender.number < l.senders) fit.paired.layout fit.numbered);
+    }
