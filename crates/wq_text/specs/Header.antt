@@ -4,6 +4,7 @@ use Rattle.std.specs.Str.{bytes_eq}
 use borrow.Author.Tests.{leb-true}
 use Rattle.wq_words.specs.declared.layout.Layout.{Layout}
 use Rattle.wq_words.specs.Limits.{AreInLimits, IsBetween}
+use Rattle.wq_words.specs.Layout.{layout_of_numbers}
 use Rattle.wq_text.specs.declared.fault.Kind.{Kind}
 use Rattle.wq_text.specs.declared.fault.Kind.TheVariants as kind
 use Rattle.wq_text.specs.declared.header.Stage.{Stage}
@@ -52,7 +53,7 @@ in_limits items barriers senders = three_of (within 1 items 4096) (within 1 barr
 
 -- the layout of these numbers, or the fault k where they are out of the limits of a queue
 abbrev pub with_limits : Kind → (items barriers senders : ℕ) → Option (AreInLimits items barriers senders) → Result Layout Kind
-with_limits k items barriers senders (Some h) = Ok (record { items = items; barriers = barriers; senders = senders; in_limits = h })
+with_limits k items barriers senders (Some h) = Ok (layout_of_numbers items barriers senders h)
 with_limits k items barriers senders None = Err k
 
 unfoldable pub limited : Kind → ℕ → ℕ → ℕ → Result Layout Kind

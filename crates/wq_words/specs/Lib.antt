@@ -1,5 +1,6 @@
 pub mod Limits
 pub mod Numbers
+pub mod Layout
 pub mod Head
 pub mod History
 pub mod Legal
