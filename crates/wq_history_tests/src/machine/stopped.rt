@@ -1,36 +1,55 @@
 //! A seat that stops at any place of a schedule: what the others still do is legal, and runs in the order of its acceptance.
 use super::{
-    BEHIND, CHAINED_ITEMS, CLOSED_BETWEEN, LOST_EXCHANGE, O, QUEUED_AGAIN, RESTING_QUEUE, S0, S1,
-    STALLED_SENDER, Turn, WAKES,
+    CHAINED_ITEMS, CLOSED_BETWEEN, LOST_EXCHANGE, O, QUEUED_AGAIN, RESTING_QUEUE, S0, S1,
+    STALLED_SENDER, Turn,
 };
 use std::alloc::{AllocError, Global};
+use std::process::Abort;
 use std::test::Fail;
-use wq_core::Reply::{Began, Ended, Held, Linked, Looked, Took, Turned, Walked};
-use wq_core::Step::{Begin, End, Hold, Link, Look, Push, Take, Walk};
+use wq_core::Step::{Begin, End, Hold, Link, Look, Push, Rest, Take, Walk};
 use wq_core::{Core, Seat, Step, StepError};
-use wq_words::{Head, Layout, check_history};
+use wq_words::{Layout, check_history};
 
-/// Two numbers of one sender, whose links the owner turns.
-const TURNED_LINKS: [Turn; 19] = [
-    (S0, Hold(0), Held),
-    (S0, Look, Looked(Head::Empty)),
-    (S0, Link(0), Linked),
-    (S0, Push(0), WAKES),
-    (S0, Hold(1), Held),
-    (S0, Look, Looked(Head::Item(0))),
-    (S0, Link(1), Linked),
-    (S0, Push(1), BEHIND),
-    (O, Take, Took(Head::Item(1))),
-    (O, Walk, Walked(Some(0))),
-    (O, Step::Turn(1, None), Turned),
-    (O, Walk, Walked(None)),
-    (O, Step::Turn(0, Some(1)), Turned),
-    (O, Walk, Walked(Some(1))),
-    (O, Begin, Began(0)),
-    (O, End, Ended(0)),
-    (O, Walk, Walked(None)),
-    (O, Begin, Began(1)),
-    (O, End, Ended(1)),
+/// Two numbers of one sender, whose links the owner turns: not before a number's walk, and not after its begin.
+const TURNED_LINKS: [(Seat, Step); 20] = [
+    (S0, Hold(0)),
+    (S0, Look),
+    (S0, Link(0)),
+    (S0, Push(0)),
+    (S0, Hold(1)),
+    (S0, Look),
+    (S0, Link(1)),
+    (S0, Push(1)),
+    (O, Take),
+    (O, Step::Turn(1, None)),
+    (O, Walk),
+    (O, Step::Turn(1, None)),
+    (O, Walk),
+    (O, Step::Turn(0, Some(1))),
+    (O, Walk),
+    (O, Begin),
+    (O, Step::Turn(0, None)),
+    (O, End),
+    (O, Walk),
+    (O, Begin),
+];
+
+/// An owner that rests between a sender's look and its push, and tries to before its first take, with something pushed, and with
+/// something to be walked.
+const REST_IN_A_PUSH: [(Seat, Step); 13] = [
+    (O, Rest),
+    (O, Take),
+    (S0, Hold(0)),
+    (S0, Look),
+    (O, Rest),
+    (S0, Link(0)),
+    (S0, Push(0)),
+    (S0, Look),
+    (S0, Link(0)),
+    (S0, Push(0)),
+    (O, Rest),
+    (O, Take),
+    (O, Rest),
 ];
 
 /// Makes a step, where it is enabled. False where it is refused for another cause, where the history is then not legal, or
@@ -49,12 +68,12 @@ fn goes_on(core: &mut Core, layout: &Layout, seat: Seat, step: Step) -> Result<b
 fn steps_without(
     alloc: Global,
     layout: Layout,
-    row: &[Turn],
+    row: &[(Seat, Step)],
     stopped: Seat,
     place: usize,
 ) -> Result<usize, AllocError> {
     let mut core = Core::new(alloc, layout)?;
-    for (at, (seat, step, _)) in row.iter().enumerate() {
+    for (at, (seat, step)) in row.iter().enumerate() {
         if at >= place && *seat == stopped {
             continue;
         }
@@ -65,28 +84,42 @@ fn steps_without(
     Ok(row.len())
 }
 
-/// Each seat stops at each place of each schedule.
+/// Each seat stops at each place of a schedule.
+fn check_row<R: Abort + AllocGlobal>(rt: &R, row: &[(Seat, Step)]) -> Result<(), Fail> {
+    let layout = Layout::new(4, 1, 2)?;
+    for stopped in [S0, S1, O] {
+        for place in 0..row.len() {
+            let steps = steps_without(rt.alloc(), layout, row, stopped, place)?;
+            assert_eq!(rt; steps, row.len(), "{stopped:?} at {place} of {row:?}");
+        }
+    }
+    Ok(())
+}
+
+/// The steps of a schedule, without what they are answered.
+fn steps_of(alloc: Global, row: &[Turn]) -> Result<Vec<(Seat, Step)>, AllocError> {
+    let mut steps = Vec::new(alloc);
+    for (seat, step, _) in row {
+        steps.push((*seat, *step))?;
+    }
+    Ok(steps)
+}
+
 #[test]
 fn each_seat_stops_at_each_place(rt: HostRuntime) -> Result<(), Fail> {
-    let layout = Layout::new(4, 1, 2)?;
-    let rows: [&[Turn]; 7] = [
+    let rows: [&[Turn]; 6] = [
         &QUEUED_AGAIN,
         &LOST_EXCHANGE,
         &CLOSED_BETWEEN,
         &STALLED_SENDER,
         &CHAINED_ITEMS,
-        &TURNED_LINKS,
         &RESTING_QUEUE,
     ];
     for row in rows {
-        for stopped in [S0, S1, O] {
-            for place in 0..row.len() {
-                let steps = steps_without(rt.alloc(), layout, row, stopped, place)?;
-                assert_eq!(rt; steps, row.len(), "{stopped:?} at {place} of {row:?}");
-            }
-        }
+        check_row(&rt, &steps_of(rt.alloc(), row)?)?;
     }
-    Ok(())
+    check_row(&rt, &TURNED_LINKS)?;
+    check_row(&rt, &REST_IN_A_PUSH)
 }
 
 /// What the others do to the end although a seat stopped in the midst of a push: the other's item is accepted and runs.
