@@ -1,4 +1,5 @@
 //! The calls, and whether each gives its right answer or says that memory is wanting.
+use crate::pool::serve_pool;
 use crate::streams::Page;
 use std::alloc::{AllocError, Global};
 use std::fmt;
@@ -18,6 +19,7 @@ pub enum Call {
     Build,
     Replay,
     Table,
+    Pool,
     Script(&'static str, &'static str),
     Main(Main, &'static str, &'static str),
 }
@@ -51,10 +53,11 @@ impl fmt::Display for Said {
     }
 }
 
-pub const CALLS: [(&str, Call); 8] = [
+pub const CALLS: [(&str, Call); 10] = [
     ("build", Call::Build),
     ("replay", Call::Replay),
     ("table", Call::Table),
+    ("pool", Call::Pool),
     (
         "following",
         Call::Script(
@@ -67,6 +70,13 @@ pub const CALLS: [(&str, Call); 8] = [
         Call::Script(
             "wq 1\nitems 4\nsenders 2\narm 0 5\narm 1 5\narm 2 3\nqueue 0 0\nadvance 5\nrun 9\narm 3 0\narm 1 4294967296\nadvance 4\n",
             "on table\non table\non table\nfalse pending\npushed 2 0 1\nran 2 0 1\ntrue first\nfalse too far\nfalse backwards\n",
+        ),
+    ),
+    (
+        "jump",
+        Call::Script(
+            "wq 1\nitems 4\nsenders 2\narm 0 1000\narm 1 999\narm 2 1000\narm 3 744\nadvance 1000\n",
+            "on table\non table\non table\non table\npushed 3 1 0 2\n",
         ),
     ),
     (
@@ -95,7 +105,7 @@ pub const CALLS: [(&str, Call); 8] = [
     ),
 ];
 
-fn right(is_right: bool) -> Said {
+pub fn right(is_right: bool) -> Said {
     if is_right { Said::Right } else { Said::Wrong }
 }
 
@@ -296,6 +306,7 @@ pub fn make<T: Threads + Wait + Sync>(rt: &T, alloc: Global, call: Call) -> Said
         Call::Build => build_queue(alloc),
         Call::Replay => replay_turns(alloc),
         Call::Table => make_table(alloc),
+        Call::Pool => serve_pool(rt, alloc),
         Call::Script(text, report) => run_script(alloc, text, report),
         Call::Main(main, text, output) => run_main(rt, alloc, main, text, output),
     }

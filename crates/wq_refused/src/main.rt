@@ -3,6 +3,7 @@
 #![tactic(auto)]
 
 mod calls;
+mod pool;
 mod streams;
 
 use calls::{CALLS, Call, Said, make};

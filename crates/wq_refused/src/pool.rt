@@ -1,0 +1,121 @@
+//! A pool of two queues, from its making to its end.
+ghost use Rattle.std.specs.Prelude.{◌≡◌, []};
+
+use crate::calls::{Said, right};
+use std::alloc::Global;
+use std::slice;
+use std::sync::Wait;
+use std::thread::Threads;
+use trail::Trail;
+use wq_pool::{Gate, Pool, PoolError, PoolFault, Served};
+use wq_words::Layout;
+use wq_worker::{Book, Follow, Work, Worker};
+
+/// Counts its runs.
+#[derive(Drop)]
+struct Counter {
+    ran: Trail,
+    runs: u32,
+}
+
+impl Work for Counter {
+    ghost log = { λ w. w.ran.items };
+
+    ghost may = { λ w k follow v. follow ≡ [] };
+
+    fn run(&mut self, item: u32) -> Follow {
+        self.ran = self.ran.and(item);
+        self.runs = self.runs.saturating_add(1);
+        Follow::new()
+    }
+}
+
+/// Nothing is done around an execution.
+struct Open;
+
+impl Gate for Open {
+    fn before(&self, _queue: u32, _item: u32) {}
+
+    fn after(&self, _queue: u32, _item: u32) {}
+}
+
+/// A queue on which an item and the stop item stand. None where memory was wanting.
+fn queue(alloc: Global, layout: Layout) -> Option<Served<Counter>> {
+    let work = Counter {
+        ran: Trail::new(),
+        runs: 0,
+    };
+    let Ok((worker, mut senders)) = Worker::build(alloc, layout, work, 1) else {
+        return None;
+    };
+    let mut sender = senders.pop()?;
+    if sender.layout().items > 0 {
+        sender.queue_tries(0, 1);
+    }
+    sender.request_stop(1);
+    Some(Served::new(worker))
+}
+
+/// Two queues. None where memory was wanting.
+fn queues(alloc: Global) -> Option<Vec<Served<Counter>>> {
+    let layout = Layout::new(1, 1, 2).ok()?;
+    let mut queues = Vec::new(alloc);
+    for _ in 0..2 {
+        queues.push(queue(alloc, layout)?).ok()?;
+    }
+    Some(queues)
+}
+
+/// Whether there are two works, and each has run its item.
+fn have_run(finished: &[(Counter, Book)]) -> bool {
+    let mut all = finished.len() == 2;
+    for (work, _) in finished {
+        all = all && work.runs == 1;
+    }
+    all
+}
+
+/// Takes the pool apart, for which memory was wanting before.
+fn finish_again(pool: Pool<Counter>) -> Said {
+    match pool.finish(9) {
+        Ok(finished) => if have_run(&finished) {
+            Said::Again
+        } else {
+            Said::Wrong
+        },
+        Err(_fault) => Said::Wrong,
+    }
+}
+
+/// Takes the pool apart, once more where memory was wanting.
+fn finish(pool: Pool<Counter>) -> Said {
+    match pool.finish(9) {
+        Ok(finished) => right(have_run(&finished)),
+        Err(PoolFault::Memory { pool }) => finish_again(pool),
+        Err(_fault) => Said::Wrong,
+    }
+}
+
+/// Makes a pool of two queues, announces both, serves them in one thread until each has run its stop item, and takes the pool apart.
+pub fn serve_pool<T: Threads + Wait + Sync>(rt: &T, alloc: Global) -> Said {
+    let Some(queues) = queues(alloc) else {
+        return Said::Memory;
+    };
+    let (pool, mut callers) = match Pool::new(alloc, queues, 1) {
+        Ok(made) => made,
+        Err(PoolError::Memory) => return Said::Memory,
+        Err(PoolError::NoQueue) => return Said::Wrong,
+    };
+    let Some(mut caller) = callers.pop() else {
+        return Said::Wrong;
+    };
+    let first = pool.announce(rt, &mut caller, 0);
+    let second = pool.announce(rt, &mut caller, 1);
+    if first.is_err() || second.is_err() {
+        return Said::Wrong;
+    }
+    match pool.run(rt, slice::from_mut(&mut caller), &Open) {
+        Ok(()) => finish(pool),
+        Err(_) => Said::Wrong,
+    }
+}
