@@ -20,7 +20,7 @@ use wq_pool::{Caller, Pool, PoolFault, Served};
 use wq_words::Layout;
 use wq_worker::{Book, Worker};
 
-// Two for the workers, four for the senders, and one for the program itself.
+// Two for the workers, one for each of the four senders, and one for the program itself.
 const CALLERS: u32 = 7;
 
 // So many numbers of each queue are executed at a time, where some are left at the end.
@@ -52,7 +52,7 @@ pub struct Ended {
     pub second: Told,
 }
 
-// The senders of a new queue.
+// The senders of a new queue: two for threads, and one for the stop item.
 type Senders = (Sender, Sender, Sender);
 
 // A new queue.
@@ -77,7 +77,7 @@ fn build(alloc: Global, layout: Layout) -> Result<(Worker<Runs>, Senders), RunEr
     Ok((worker, (first, second, last)))
 }
 
-// A pool of two queues, and its callers.
+// A pool of the two queues, and its callers.
 fn pool_of(
     alloc: Global,
     one: Worker<Runs>,
@@ -90,13 +90,13 @@ fn pool_of(
     let Ok(queues) = Vec::from_array(alloc, [Served::new(one), Served::new(two)]) else {
         return Err(RunError::Memory);
     };
-    match Pool::new(alloc, queues, CALLERS) {
-        Ok(made) => Ok(made),
-        Err(_) => Err(RunError::Memory),
-    }
+    let Ok(made) = Pool::new(alloc, queues, CALLERS) else {
+        return Err(RunError::Memory);
+    };
+    Ok(made)
 }
 
-// The next caller of a pool.
+// One of the callers that are left.
 fn caller_of(pool: &Pool<Runs>, callers: &mut Vec<Caller>) -> Caller
     requires some { 0 < length callers.old.items }
     requires all { All (IsCallerOf pool.now.ready) callers.old.items }
@@ -110,46 +110,22 @@ fn caller_of(pool: &Pool<Runs>, callers: &mut Vec<Caller>) -> Caller
     caller
 }
 
-// The senders of the pool's queue of this number, two of them with callers.
-fn line_of(pool: &Pool<Runs>, callers: &mut Vec<Caller>, queue: u32, senders: Senders) -> Line
-    requires some { 2 ≤ length callers.old.items }
+// A sender of the pool's queue of this number, with a caller of its own.
+fn seat_of(pool: &Pool<Runs>, callers: &mut Vec<Caller>, queue: u32, sender: Sender) -> Seat
+    requires some { 0 < length callers.old.items }
     requires all { All (IsCallerOf pool.now.ready) callers.old.items }
-    requires items { 4 ≤ senders.0.layout.items }
-    requires first { senders.0 ≡ new_sender senders.0.queue senders.0.layout 0 }
-    requires second { senders.1 ≡ new_sender senders.0.queue senders.0.layout 1 }
-    ensures line { IsNewLine pool.now.ready result }
-    ensures queue { result.first.sender.queue ≡ senders.0.queue }
+    ensures seat { IsCallerOf pool.now.ready result.caller × (result.sender ≡ sender) }
     ensures all { All (IsCallerOf pool.now.ready) callers.new.items }
-    ensures count { length callers.new.items + 2 ≡ length callers.old.items }
+    ensures count { length callers.new.items + 1 ≡ length callers.old.items }
 {
-    let (first, second, last) = senders;
-    Line {
-        first: Seat {
-            queue,
-            sender: first,
-            caller: caller_of(pool, callers),
-        },
-        second: Seat {
-            queue,
-            sender: second,
-            caller: caller_of(pool, callers),
-        },
-        last,
+    Seat {
+        queue,
+        sender,
+        caller: caller_of(pool, callers),
     }
 }
 
-// What the workers do until both stop items ran.
-fn work<R: Threads + Wait + Sync>(
-    rt: &R,
-    pool: &Pool<Runs>,
-    mut workers: Vec<Caller>,
-) -> Result<(), AllocError>
-    requires { All (IsCallerOf pool.now.ready) workers.items }
-{
-    pool.run(rt, workers.as_mut_slice(), &Open)
-}
-
-// The workers serve both queues, while the senders queue.
+// The workers serve both queues in threads of their own, while the senders queue.
 fn serve<R: Threads + Wait + Sync>(
     rt: &R,
     pool: &Pool<Runs>,
@@ -164,14 +140,22 @@ fn serve<R: Threads + Wait + Sync>(
     ensures one { IfOk result (λ told. HaveQueued one.0.queue told.0.0 told.0.1) }
     ensures two { IfOk result (λ told. HaveQueued two.0.queue told.1.0 told.1.1) }
 {
-    let one = line_of(pool, &mut callers, 0, one);
-    let two = line_of(pool, &mut callers, 1, two);
+    let one = Line {
+        first: seat_of(pool, &mut callers, 0, one.0),
+        second: seat_of(pool, &mut callers, 0, one.1),
+        last: one.2,
+    };
+    let two = Line {
+        first: seat_of(pool, &mut callers, 1, two.0),
+        second: seat_of(pool, &mut callers, 1, two.1),
+        last: two.2,
+    };
     let caller = caller_of(pool, &mut callers);
     let (ran, told) = join(
         rt,
         move ||
             requires { All (IsCallerOf pool.now.ready) callers.items }
-        { work(rt, pool, callers) },
+        { pool.run(rt, callers.as_mut_slice(), &Open) },
         move ||
             requires { IsCallerOf pool.now.ready caller × IsNewLine pool.now.ready one × IsNewLine pool.now.ready two }
             ensures { HaveQueued one.first.sender.queue result.0.0 result.0.1 × HaveQueued two.first.sender.queue result.1.0 result.1.1 }
@@ -211,7 +195,7 @@ fn meet(book: &mut Book, first: &mut Sender, second: &mut Sender)
     book.meet(second);
 }
 
-// What a queue has done, with what its senders were told.
+// What a queue has done, and what its senders were told.
 fn end_of(finished: (Runs, Book), told: (Told, Told)) -> Ended
     requires told { HaveQueued finished.1.queue told.0 told.1 }
     requires ran { finished.0.ran.items ≡ items_among finished.1.layout (accepted finished.1.seen) }
@@ -230,9 +214,9 @@ fn end_of(finished: (Runs, Book), told: (Told, Told)) -> Ended
     }
 }
 
-/// Two new queues of this size, each with its worker, in a pool that two threads serve. Four senders, two of each queue, queue
-/// two items each in threads of their own, and when they have ended the stop items follow. What each queue has done is given
-/// in its order.
+/// Two new queues of this size in a pool, which two threads serve, while four senders, two of each queue, queue two items each
+/// in threads of their own. When these have ended the stop items follow, and the pool is taken apart. What each queue has done
+/// is given in its order.
 ///
 /// # Errors
 /// `Memory` where no memory could be had; `Out` where a queue is not in the pool in the end.
@@ -243,20 +227,20 @@ pub fn run<R: Threads + Wait + Sync>(
 ) -> Result<(Ended, Ended), RunError>
     requires items { 4 ≤ layout.items }
     requires senders { layout.senders ≡ 4 }
-    ensures layouts { IfOk result (λ queues. (queues.0.book.layout ≡ layout) × (queues.1.book.layout ≡ layout)) }
-    ensures first { IfOk result (λ queues. RanAll queues.0.book.layout queues.0.book.seen queues.0) }
-    ensures second { IfOk result (λ queues. RanAll queues.1.book.layout queues.1.book.seen queues.1) }
+    ensures layouts { IfOk result (λ ended. (ended.0.book.layout ≡ layout) × (ended.1.book.layout ≡ layout)) }
+    ensures first { IfOk result (λ ended. RanAll ended.0.book.layout ended.0.book.seen ended.0) }
+    ensures second { IfOk result (λ ended. RanAll ended.1.book.layout ended.1.book.seen ended.1) }
 {
     let (one, of_one) = build(alloc, layout)?;
     let (two, of_two) = build(alloc, layout)?;
     let (pool, callers) = pool_of(alloc, one, two)?;
     let (told_one, told_two) = serve(rt, &pool, callers, of_one, of_two)?;
     let mut finished = finish(rt, pool)?.into_iter();
-    let Some(first) = finished.next() else {
+    let Some(one) = finished.next() else {
         unreachable!()
     };
-    let Some(second) = finished.next() else {
+    let Some(two) = finished.next() else {
         unreachable!()
     };
-    Ok((end_of(first, told_one), end_of(second, told_two)))
+    Ok((end_of(one, told_one), end_of(two, told_two)))
 }

@@ -160,7 +160,23 @@ pub(crate) fn queue_all<R: Threads + Wait + Sync>(
             ensures { HaveQueued two.first.sender.queue result.0.0 result.0.1 }
         { queue_both(rt, pool, two) },
     );
-    let caller = stop(rt, pool, Seat { queue: 0, sender: last, caller });
-    let _caller = stop(rt, pool, Seat { queue: 1, sender: last_two, caller });
+    let caller = stop(
+        rt,
+        pool,
+        Seat {
+            queue: 0,
+            sender: last,
+            caller,
+        },
+    );
+    let _caller = stop(
+        rt,
+        pool,
+        Seat {
+            queue: 1,
+            sender: last_two,
+            caller,
+        },
+    );
     (told, told_two)
 }
