@@ -157,11 +157,12 @@ fn send_and_stop<R: Abort + Threads + Wait + Sync>(
 fn run_workers<R: Abort + Threads + Wait + Sync>(
     rt: &R,
     pool: &Pool<Logging>,
-    workers: &mut [Caller],
+    workers: &mut Vec<Caller>,
 )
-    requires { All (IsCallerOf pool.now.ready) workers.old }
+    requires { All (IsCallerOf pool.now.ready) workers.old.items }
 {
-    pool.run(rt, workers, &Open).expect(rt, "threads");
+    pool.run(rt, workers.as_mut_slice(), &Open)
+        .expect(rt, "threads");
 }
 
 /// The pool runs while the senders queue.
@@ -181,7 +182,9 @@ fn serve_crowd<R: Abort + Threads + Wait + Sync>(
     let others = take_guests(rt, alloc, pool, &mut callers, QUEUES);
     join_mut(
         rt,
-        &mut || run_workers(rt, pool, callers.as_mut_slice()),
+        &mut ||
+            requires { All (IsCallerOf pool.now.ready) callers.items }
+        { run_workers(rt, pool, &mut callers) },
         &mut || send_and_stop(rt, guests.as_slice(), others.as_slice(), firsts, seconds),
     );
 }
