@@ -10,7 +10,7 @@ run: build
 	$(PROGRAM) script $(EXAMPLES)/first.wq
 
 test:
-	rt ci
+	.ci/run
 
 # Says what it does and how long that takes, and shows a line for each crate.
 build:
@@ -25,7 +25,7 @@ install: build
 examples: build
 	checks/examples.sh $(PROGRAM)
 
-# The calls that take memory, with each allocation refused in turn; one to two minutes.
+# The calls that take memory, with each allocation refused in turn, as the gate does; some minutes.
 memory:
 	checks/refused_memory.sh
 
