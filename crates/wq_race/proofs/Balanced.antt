@@ -45,10 +45,9 @@ use Rattle.wq_words.proofs.Seen.{count_own, own-append}
 use Rattle.wq_live.specs.Known.{Known}
 use Rattle.wq_words.specs.Counting.{is_queued_by, is_pending_by, is_closed_by, is_contended_by}
 use Rattle.wq_live.specs.Counts.{capped, sender_counts, owner_counts}
-use Rattle.wq_worker.specs.declared.book.Ledger.{Ledger}
 use Rattle.wq_worker.specs.declared.balance.Unbalanced.{Unbalanced}
 use Rattle.wq_worker.specs.declared.balance.Unbalanced.TheVariants.{Missing, Twice, Saturated}
-use Rattle.wq_worker.specs.Book.{BookState, IsLedgerOf}
+use Rattle.wq_worker.specs.Book.{LedgerState, BookState, IsLedgerOf}
 use Rattle.wq_worker.specs.Balance.{largest, AreWhole, AreOwnerWhole, ledgers_of, HasOne, IsFault, IsUnbalanced, of_sender, of_worker}
 use Rattle.wq_race.specs.Outcome.{ledger_of}
 use Rattle.wq_race.proofs.Whole.{queued_own}
@@ -90,10 +89,10 @@ AreNumbered b xs = (i : ℕ) (d : Known) → i < length xs → (get_or xs i d).n
 numbered_rest : (b : ℕ) (x : Known) (xs : List Known) → AreNumbered b (x ∷ xs) → AreNumbered (b + 1) xs
 numbered_rest b x xs all i d lt = let at : (get_or xs i d).number ≡ b + suc i = all (suc i) d (omega (arith, lt)) in omega (arith, at)
 
-keep : (s : ℕ) (l : Ledger) (ls : List Ledger) → l.number ≡ s → ledgers_of s (l ∷ ls) ≡ l ∷ ledgers_of s ls
+keep : (s : ℕ) (l : LedgerState) (ls : List LedgerState) → l.number ≡ s → ledgers_of s (l ∷ ls) ≡ l ∷ ledgers_of s ls
 keep s l ls is = ap (λ (b : Bool). cond b (l ∷ ledgers_of s ls) (ledgers_of s ls)) (eq-eqb l.number s is)
 
-skip : (s : ℕ) (l : Ledger) (ls : List Ledger) → l.number ≢ s → ledgers_of s (l ∷ ls) ≡ ledgers_of s ls
+skip : (s : ℕ) (l : LedgerState) (ls : List LedgerState) → l.number ≢ s → ledgers_of s (l ∷ ls) ≡ ledgers_of s ls
 skip s l ls not = at (l.number == s) refl
   where
     at : (b : Bool) → (l.number == s) ≡ b → ledgers_of s (l ∷ ls) ≡ ledgers_of s ls
@@ -128,7 +127,7 @@ one_at s b (x ∷ xs) d all low high =
       | inr le ↦
           let same : x.number ≡ s = omega (arith, at, low, le) in
           let place : s - b ≡ 0 = omega (arith, le) in
-          keep s (ledger_of x) (map ledger_of xs) same ∙ (ap (λ (ls : List Ledger). ledger_of x ∷ ls)
+          keep s (ledger_of x) (map ledger_of xs) same ∙ (ap (λ (ls : List LedgerState). ledger_of x ∷ ls)
           (none_at s (b + 1) xs (numbered_rest b x xs all) (inl (omega (arith, low, le))))
           ∙ ap (λ (i : ℕ). ledger_of (get_or (x ∷ xs) i d) ∷ []) (sym place))
     ]
@@ -138,30 +137,30 @@ pub one_ledger : (n s : ℕ) (xs : List Known) (program d : Known) → AreNumber
     → ledgers_of s (map ledger_of xs ++ ledger_of program ∷ []) ≡ ledger_of (get_or xs s d) ∷ []
 one_ledger n s xs program d all count last lt =
     let place : s - 0 ≡ s = omega arith in
-    filter-append (λ (l : Ledger). l.number == s) (map ledger_of xs) (ledger_of program ∷ [])
+    filter-append (λ (l : LedgerState). l.number == s) (map ledger_of xs) (ledger_of program ∷ [])
     ∙ ((λ i. one_at s 0 xs d all (omega arith) (omega (arith, lt, count)) i ++ skip s (ledger_of program) [] (λ is. omega (arith, is, last, lt)) i)
     ∙ (append-nil (ledger_of (get_or xs (s - 0) d) ∷ []) ∙ ap (λ (i : ℕ). ledger_of (get_or xs i d) ∷ []) place))
 
 pub last_ledger : (n : ℕ) (xs : List Known) (program : Known) → AreNumbered 0 xs → length xs ≡ n → program.number ≡ n + 1
     → ledgers_of (n + 1) (map ledger_of xs ++ ledger_of program ∷ []) ≡ ledger_of program ∷ []
 last_ledger n xs program all count last =
-    filter-append (λ (l : Ledger). l.number == n + 1) (map ledger_of xs) (ledger_of program ∷ [])
+    filter-append (λ (l : LedgerState). l.number == n + 1) (map ledger_of xs) (ledger_of program ∷ [])
     ∙ (λ i. none_at (n + 1) 0 xs all (inr (omega (arith, count))) i ++ keep (n + 1) (ledger_of program) [] last i)
 
 -- where a sender has one ledger, there is no fault of it
-pub no_fault : (ledgers : List Ledger) (s : ℕ) (fault : Unbalanced) → HasOne ledgers s → ¬ IsFault ledgers s fault
+pub no_fault : (ledgers : List LedgerState) (s : ℕ) (fault : Unbalanced) → HasOne ledgers s → ¬ IsFault ledgers s fault
 no_fault ledgers s (Missing t) one f = let no : one.0 ∷ [] ≡ [] = sym one.1 ∙ f.1 in absurd (cc)
 no_fault ledgers s (Twice t) one f = omega (arith, f.1, ap length one.1)
 no_fault ledgers s (Saturated t) one f = let both : one.0 ∷ [] ≡ f.1 ∷ [] = sym one.1 ∙ f.2 in let same : one.0 ≡ f.1 = cc in
-    f.3 (subst (λ (l : Ledger). AreWhole l.counts) same one.2)
+    f.3 (subst (λ (l : LedgerState). AreWhole l.counts) same one.2)
 
-pub always_balanced : (book : BookState) (ledgers : List Ledger) → ((s : ℕ) → s < book.layout.senders → s ≢ book.own.number → HasOne ledgers s)
+pub always_balanced : (book : BookState) (ledgers : List LedgerState) → ((s : ℕ) → s < book.layout.senders → s ≢ book.own.number → HasOne ledgers s)
     → AreWhole book.own.counts → AreOwnerWhole (owner_counts book.seen) → (fault : Unbalanced) → ¬ IsUnbalanced book ledgers fault
 always_balanced book ledgers ones mine owners fault (of_sender f) = no_fault ledgers f.0 fault (ones f.0 f.1 f.2) f.4
 always_balanced book ledgers ones mine owners fault (of_worker have not is) = not (mine, owners)
 
 -- a book made the ledger of a sender that made no event
-pub none_made : (h : List Event) (l : Ledger) → IsLedgerOf h l → own l.number h ≡ [] → AreWhole l.counts
+pub none_made : (h : List Event) (l : LedgerState) → IsLedgerOf h l → own l.number h ≡ [] → AreWhole l.counts
 none_made h l m none =
     let front : own l.number m.met ≡ [] = left (own l.number m.met) (own l.number m.before.0) (sym (own-append l.number m.met m.before.0)
     ∙ (ap (own l.number) m.before.1 ∙ none)) in

@@ -7,8 +7,7 @@ use Rattle.wq_words.specs.Seen.{owner_seat, Grows}
 use Rattle.wq_live.specs.Known.{Known, Sees}
 use Rattle.wq_live.specs.Counts.{sender_counts}
 use Rattle.wq_live.proofs.Counting.{counts_none}
-use Rattle.wq_worker.specs.declared.book.Ledger.{Ledger}
-use Rattle.wq_worker.specs.Book.{BookState}
+use Rattle.wq_worker.specs.Book.{LedgerState, BookState}
 use Rattle.wq_race.specs.Outcome.{HasHeard, ledger_of}
 use Rattle.wq_words.proofs.Seen.{grows_same}
 use Rattle.wq_words.proofs.Prefixes.{prefix_on}
@@ -35,7 +34,7 @@ heard_on a b c x y = record {
 }
 
 -- a sender that made no event has the ledger that it had
-pub ledger_same : (a b : Known) (l : Ledger) → Sees [] 0 a b → l.number ≡ a.number → l.counts ≡ sender_counts b.number b.seen → l ≡ ledger_of a
+pub ledger_same : (a b : Known) (l : LedgerState) → Sees [] 0 a b → l.number ≡ a.number → l.counts ≡ sender_counts b.number b.seen → l ≡ ledger_of a
 ledger_same a b l s number counts =
     let same : sender_counts a.number a.seen ≡ sender_counts a.number b.seen = counts_none a.number 0 a.seen b.seen
     (sender_counts a.number a.seen) refl s.grows in
@@ -44,7 +43,7 @@ ledger_same a b l s number counts =
 
 pub map-last : (xs : List Known) (x : Known) → map ledger_of (xs ++ x ∷ []) ≡ map ledger_of xs ++ ledger_of x ∷ []
 map-last [] x = refl
-map-last (y ∷ xs) x = ap (λ (ls : List Ledger). ledger_of y ∷ ls) (map-last xs x)
+map-last (y ∷ xs) x = ap (λ (ls : List LedgerState). ledger_of y ∷ ls) (map-last xs x)
 
 pub all_last : (P : Known → Type 0) (xs : List Known) (x : Known) → All P xs → P x → All P (xs ++ x ∷ [])
 all_last P xs x before here = All-append P xs (x ∷ []) before (All-cons P x [] here (All-nil P))

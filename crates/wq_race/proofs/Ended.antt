@@ -48,8 +48,7 @@ use Rattle.wq_words.proofs.Seen.{own-append, closed_count, ended_same}
 use Rattle.wq_live.specs.Known.{Known}
 use Rattle.wq_words.specs.Counting.{is_queued_by, is_chain, is_chain_busy}
 use Rattle.wq_live.specs.Counts.{sender_counts, owner_counts}
-use Rattle.wq_worker.specs.Book.{BookState, IsLedgerOf}
-use Rattle.wq_worker.specs.declared.book.Ledger.{Ledger}
+use Rattle.wq_worker.specs.Book.{LedgerState, BookState, IsLedgerOf}
 use Rattle.wq_worker.specs.declared.balance.Unbalanced.{Unbalanced}
 use Rattle.wq_worker.specs.Balance.{AreWhole, AreOwnerWhole, ledgers_of, HasOne, IsUnbalanced}
 use Rattle.wq_worker.proofs.Pushes.{is_queued_below, below_more, below_all}
@@ -251,7 +250,7 @@ module _ (plan : Plan) (team : Team) (w : WorkerState Idle) (senders : List Know
       )
 
   -- whatever the book has met since, the ledgers balance
-  pub never_unbalanced : (final : BookState) (ledgers : List Ledger) → IsLedgerOf book.seen book.own → HasHeard book final
+  pub never_unbalanced : (final : BookState) (ledgers : List LedgerState) → IsLedgerOf book.seen book.own → HasHeard book final
       → ledgers ≡ map ledger_of senders ++ ledger_of team.program ∷ [] → (fault : Unbalanced) → ¬ IsUnbalanced final ledgers fault
   never_unbalanced final ledgers made heard all fault =
       let n = plan.senders in
@@ -284,7 +283,7 @@ module _ (plan : Plan) (team : Team) (w : WorkerState Idle) (senders : List Know
           lt,
           few,
           ge,
-          λ (i : s ≡ n). not (i ∙ (sym number ∙ sym (ap (λ (l : Ledger). l.number) heard.own_is))),
+          λ (i : s ≡ n). not (i ∙ (sym number ∙ sym (ap (λ (l : LedgerState). l.number) heard.own_is))),
         ) in subst (HasOne ledgers) is last
       ] in
       let chains : count_by is_chain final.seen ≡ 0 = chains_same book.seen final.seen heard.idle ∙ is_race.unchained in
@@ -296,4 +295,4 @@ module _ (plan : Plan) (team : Team) (w : WorkerState Idle) (senders : List Know
         (λ is. omega (arith, is, asks)),
         (λ is. omega (arith, is, ends, few_ended)),
       ) in
-      always_balanced final ledgers ones (subst (λ (l : Ledger). AreWhole l.counts) (sym heard.own_is) mine) owners fault
+      always_balanced final ledgers ones (subst (λ (l : LedgerState). AreWhole l.counts) (sym heard.own_is) mine) owners fault

@@ -15,8 +15,7 @@ use Rattle.wq_race.specs.Race.{items_at, EndsWithStop}
 use Rattle.wq_live.specs.Known.{Known, IsSame}
 use Rattle.wq_words.specs.Counting.{is_chain, is_chain_busy}
 use Rattle.wq_live.specs.Counts.{sender_counts}
-use Rattle.wq_worker.specs.declared.book.Ledger.{Ledger}
-use Rattle.wq_worker.specs.Book.{BookState}
+use Rattle.wq_worker.specs.Book.{LedgerState, BookState}
 
 abbrev pub yes_or_no : Bool → List ℕ
 yes_or_no true = codes "yes"
@@ -98,7 +97,7 @@ pub record HasEnded (old : WorkerState Idle) (work : Idle) (book : BookState) : 
   pub ran_is : work.ran.items ≡ items_among book.layout (accepted book.seen)
 
 -- the ledger of a sender that makes no event more
-abbrev pub ledger_of : Known → Ledger
+abbrev pub ledger_of : Known → LedgerState
 ledger_of s = record { number = s.number; counts = sender_counts s.number s.seen }
 
 -- what came after the history is known not to be of the sender

@@ -1,8 +1,7 @@
 use Rattle.std.proofs.Common.{[], ◌∷◌, ◌++◌, sym, subst, ap, ◌∙◌}
 use Rattle.std.specs.Prelude.{All}
 use Rattle.std.proofs.lemmas.List.Elements.{All-append, All-cons, All-nil}
-use Rattle.wq_worker.specs.Book.{IsLedgerOf}
-use Rattle.wq_worker.specs.declared.book.Ledger.{Ledger}
+use Rattle.wq_worker.specs.Book.{LedgerState, IsLedgerOf}
 use Rattle.wq_race.proofs.Booking.{ledger_same}
 use Rattle.wq_race.proofs.outcome.enter.Goals as goal
 
@@ -15,5 +14,5 @@ returns-clause-made c =
 pub returns-clause-ledger : goal.returns-clause-ledger
 returns-clause-ledger c =
     let m = c.meet-ledger.ensures in
-    c.in_ok-push.ensures.items ∙ ap (λ (l : Ledger). c.args.ledgers.now.items ++ l ∷ [])
+    c.in_ok-push.ensures.items ∙ ap (λ (l : LedgerState). c.args.ledgers.now.items ++ l ∷ [])
     (ledger_same c.args.sender.now c.meet-ledger.new.sender c.meet-ledger.result m.sender m.number m.counts)

@@ -3,7 +3,7 @@ use Rattle.std.specs.Prelude.{All}
 use Rattle.std.proofs.lemmas.Iterator.Adapters.{YieldsList-from_vec}
 use Rattle.std.proofs.lemmas.Iterator.Consumers.{YieldsList-turn, YieldsList-end}
 use Rattle.wq_live.specs.Known.{Known}
-use Rattle.wq_worker.specs.declared.book.Ledger.{Ledger}
+use Rattle.wq_worker.specs.Book.{LedgerState}
 use Rattle.wq_race.specs.Outcome.{IsTold, ledger_of}
 use Rattle.wq_race.proofs.Booking.{heard_still, heard_on, map-last, map-same, all_last}
 use Rattle.wq_race.proofs.outcome.enter_all.Goals as goal
@@ -30,7 +30,7 @@ loop-sender-preserved c =
     record {
       book = heard;
       made = c.in_ok-enter.ensures.made;
-      ledgers = c.in_ok-enter.ensures.ledger ∙ (ap (λ (ls : List Ledger). ls ++ ledger_of s ∷ []) l.invariant.ledgers ∙ sym (map-last l.yielded s));
+      ledgers = c.in_ok-enter.ensures.ledger ∙ (ap (λ (ls : List LedgerState). ls ++ ledger_of s ∷ []) l.invariant.ledgers ∙ sym (map-last l.yielded s));
       told = all_last (IsTold c.args.book.now.seen) l.yielded s l.invariant.told (c.enter.new.book.seen, heard.begins, e.told);
     }
 

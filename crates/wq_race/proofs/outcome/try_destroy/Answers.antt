@@ -4,8 +4,8 @@ use Rattle.wq_race.proofs.outcome.try_destroy.Goals as goal
 
 pub returns-in-Ok : goal.returns-in-Ok
 returns-in-Ok c = destroys_on _ (λ w k f v none. none) _ (λ w. refl) 4294967295 c.args.worker c.in-Ok.done.0 c.in-Ok.done.1
-    c.requires.seat c.requires.idle c.requires.legal c.in-Ok.ensures
+    c.requires.seat c.requires.idle c.requires.legal c.in-Ok.ensures.outcome
 
 pub returns-in-Err : goal.returns-in-Err
 returns-in-Err c = leaves_on _ (λ w k f v none. none) _ 4294967295 c.args.worker c.in-Err.unfinished.worker _ c.requires.seat
-    c.requires.idle c.requires.legal c.in-Err.ensures
+    c.requires.idle c.requires.legal c.in-Err.ensures.outcome

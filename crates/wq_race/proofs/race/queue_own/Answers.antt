@@ -12,7 +12,7 @@ loop-item-init g c =
 pub queue_item-requires : goal.queue_item-requires
 queue_item-requires g c =
     let q = c.loop-item.invariant in
-    let first : c.number.result * c.args.own ≡ c.args.sender.number * c.args.own = ap (λ n. n * c.args.own) c.number.ensures in
+    let first : c.number.result * c.args.own ≡ c.args.sender.number * c.args.own = ap (λ n. n * c.args.own) c.number.ensures.seat in
     let size = ap (λ l. l.items) q.same.layout_is in
     omega (arith, c.requires, c.loop-item-test.true, first, size)
 
@@ -24,5 +24,5 @@ pub returns : goal.returns
 returns g c =
     let own = c.args.own in let first = c.number.result * own in
     let all : c.loop-item.item - first ≡ own = omega (arith, c.loop-item-test.false, c.loop-item.auto.item, c.loop-item.auto.item-end) in
-    subst (λ (n : ℕ). HasQueued (items_at n own) c.args.sender c.loop-item.sender) c.number.ensures
+    subst (λ (n : ℕ). HasQueued (items_at n own) c.args.sender c.loop-item.sender) c.number.ensures.seat
     (subst (λ (n : ℕ). HasQueued (range_with_len first n) c.args.sender c.loop-item.sender) all c.loop-item.invariant)

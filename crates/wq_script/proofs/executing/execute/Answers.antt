@@ -18,7 +18,7 @@ pub returns-in-Stop : goal.returns-in-Stop
 returns-in-Stop c =
     let e = c.in-Stop.ensures.runs in
     subst (λ (k : ℕ). ExecutesOne c.args.worker.now c.run_one.new.self (Some k))
-    (e.1 ∙ ((λ i. sym c.requires.items i + sym c.requires.barriers i) ∙ sym c.stop.ensures)) (ends_executes c.args.worker.now c.run_one.new.self e.0 e.2)
+    (e.1 ∙ ((λ i. sym c.requires.items i + sym c.requires.barriers i) ∙ sym c.stop.ensures.number)) (ends_executes c.args.worker.now c.run_one.new.self e.0 e.2)
 
 pub returns-in-Nothing : goal.returns-in-Nothing
 returns-in-Nothing c = nothing_executes c.args.worker.now c.run_one.new.self c.in-Nothing.ensures.runs

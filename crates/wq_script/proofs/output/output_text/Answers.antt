@@ -13,10 +13,10 @@ pub loop-command-init : goal.loop-command-init
 loop-command-init c =
     let P : Layout → Type 0 = λ l. Meets c.in_ok-engine.engine (opening_state l) in
     record {
-      layout = c.in_ok-engine.ensures.layout ∙ c.layout.ensures;
+      layout = c.in_ok-engine.ensures.layout ∙ c.layout.ensures.numbers;
       told = (
         opening_state c.args.script.now.layout,
-        subst P c.layout.ensures c.in_ok-engine.ensures.meets,
+        subst P c.layout.ensures.numbers c.in_ok-engine.ensures.meets,
         omega arith,
         ap (λ x. x ++ output_from c.args.script.now.layout (opening_state c.args.script.now.layout) c.args.script.now.commands.items) c.new-out.ensures.bytes,
         refl,
@@ -26,9 +26,9 @@ loop-command-init c =
 pub execute-requires-clause-fits : goal.execute-requires-clause-fits
 execute-requires-clause-fits c =
     let commands : List Command = c.args.script.now.commands.items in
-    let lt : c.loop-command.command-index < length commands = omega (arith, ap length c.commands-command-items.ensures) in
+    let lt : c.loop-command.command-index < length commands = omega (arith, ap length c.commands-command-items.ensures.asked) in
     let same : c.command-item.result ≡ get_or commands c.loop-command.command-index c.command-item.result = c.command-item.is
-    ∙ ap (λ xs. get_or xs c.loop-command.command-index c.command-item.result) c.commands-command-items.ensures in
+    ∙ ap (λ xs. get_or xs c.loop-command.command-index c.command-item.result) c.commands-command-items.ensures.asked in
     let P : Command → Type 0 = λ k. Fits c.args.script.now.layout k in
     let Q : Layout → Type 0 = λ l. Fits l c.command-item.result in
     subst Q (sym c.loop-command.invariant.layout) (subst P (sym same) (c.args.script.now.fits c.loop-command.command-index c.command-item.result lt))
@@ -36,15 +36,15 @@ execute-requires-clause-fits c =
 pub execute-requires-clause-ready : goal.execute-requires-clause-ready
 execute-requires-clause-ready c =
     let told = c.loop-command.invariant.told in
-    let lt : c.loop-command.command-index < length c.args.script.now.commands.items = omega (arith, ap length c.commands-command-items.ensures) in
+    let lt : c.loop-command.command-index < length c.args.script.now.commands.items = omega (arith, ap length c.commands-command-items.ensures.asked) in
     (told.0, told.1, omega (arith, told.2, lt, c.args.script.now.few))
 
 pub loop-command-preserved : goal.loop-command-preserved
 loop-command-preserved c =
     let commands : List Command = c.args.script.now.commands.items in
-    let lt : c.loop-command.command-index < length commands = omega (arith, ap length c.commands-command-items.ensures) in
+    let lt : c.loop-command.command-index < length commands = omega (arith, ap length c.commands-command-items.ensures.asked) in
     let same : c.command-item.result ≡ get_or commands c.loop-command.command-index c.command-item.result = c.command-item.is
-    ∙ ap (λ xs. get_or xs c.loop-command.command-index c.command-item.result) c.commands-command-items.ensures in
+    ∙ ap (λ xs. get_or xs c.loop-command.command-index c.command-item.result) c.commands-command-items.ensures.asked in
     let left : drop c.loop-command.command-index commands ≡ c.command-item.result ∷ drop (c.loop-command.command-index + 1) commands =
     left_at commands c.loop-command.command-index c.command-item.result lt ∙ ap (λ x. x ∷ drop (c.loop-command.command-index + 1) commands) (sym same) in
     let does = c.in_ok-execute.ensures in
@@ -71,11 +71,11 @@ loop-command-preserved c =
 pub returns-clause-output : goal.returns-clause-output
 returns-clause-output c =
     output_done c.args.script.now.layout c.loop-command.invariant.told.0 _ _ _
-    (drop_of_length-le c.args.script.now.commands.items (omega (arith, ap length c.commands-command-items.ensures))) c.loop-command.invariant.told.3
+    (drop_of_length-le c.args.script.now.commands.items (omega (arith, ap length c.commands-command-items.ensures.asked))) c.loop-command.invariant.told.3
 
 pub returns-clause-legal : goal.returns-clause-legal
 returns-clause-legal c =
     final_legal c.loop-command.engine c.args.script.now.layout c.loop-command.invariant.told.0 c.args.script.now.commands.items
     _ c.loop-command.invariant.layout
     c.loop-command.invariant.told.1 (drop_of_length-le c.args.script.now.commands.items
-    (omega (arith, ap length c.commands-command-items.ensures))) c.loop-command.invariant.told.4
+    (omega (arith, ap length c.commands-command-items.ensures.asked))) c.loop-command.invariant.told.4

@@ -29,7 +29,7 @@ returns-in_default c =
       meets = λ s m.
           subst (λ (t : ScriptState). Meets (engine e.layout b e.tally) t) (sym (so s m).0)
           (back_meets e.layout e.seats b e.tally s m (told e.layout s.history m.seated).1);
-      lines = λ s m few. wrote e.layout s s (command.Advance tick) _ _ (line (codes "false backwards")) (so s m).0 (so s m).1 c.in_ok-write_line.ensures;
+      lines = λ s m few. wrote e.layout s s (command.Advance tick) _ _ (line (codes "false backwards")) (so s m).0 (so s m).1 c.in_ok-write_line.ensures.written;
       room = λ s m. omega (arith, ap size (so s m).0);
     }
 
@@ -51,10 +51,10 @@ returns c =
       lines = λ s m few.
           let due = (goes s m).1 in
           let shut = c.is_closed-is_closed.ensures e.layout s.history m.seated in
-          let word = c.advance_word.ensures ∙ (ap (advance_word c.is_closed-is_closed.result) (c.deref.ensures.value ∙ due)
+          let word = c.advance_word.ensures.text ∙ (ap (advance_word c.is_closed-is_closed.result) (c.deref.ensures.value ∙ due)
           ∙ ap (λ b. advance_word b (due_items tick s.table)) shut) in
           wrote e.layout s (advanced e.layout s tick) (command.Advance tick) _ _ _ (so s m).0 (so s m).1
-          (c.in_ok-write_row.ensures ∙ (ap (λ w. string_bytes c.args.out.now ++ row_text e.layout w c.deref-2.result.now) word
+          (c.in_ok-write_row.ensures.written ∙ (ap (λ w. string_bytes c.args.out.now ++ row_text e.layout w c.deref-2.result.now) word
           ∙ ap (λ ks. string_bytes c.args.out.now ++ row_text e.layout (advance_word (closed s.history) (due_items tick s.table)) ks)
           (c.deref-2.ensures.value ∙ due)));
       room = λ s m.

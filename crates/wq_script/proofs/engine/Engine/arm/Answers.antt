@@ -26,7 +26,7 @@ returns c =
       lines = λ s m few.
           let same = (armed_meets e.layout e.seats c.arm.new.self e.tally c.arming.new.self s m k delay c.in_ok-armed.armed
           c.in_ok-armed.ensures c.arming.ensures).1 in
-          c.in_ok-write_line.ensures ∙ ap (λ x. string_bytes c.args.out.now ++ line x) (c.armed_text.ensures ∙ ap armed_text same);
+          c.in_ok-write_line.ensures.written ∙ ap (λ x. string_bytes c.args.out.now ++ line x) (c.armed_text.ensures.text ∙ ap armed_text same);
       room = λ s m.
           let adds = arm_few p k delay s.history s.table in
           omega (arith, length-append s.history (arm_events p k delay s.history s.table), adds, arm_table_few k delay s.history s.table);

@@ -15,7 +15,7 @@ returns c =
       meets = λ s m. (cancelled_meets e.layout e.seats b e.tally e.tally s m k was c.cancel-was_on_table.ensures refl).0;
       lines = λ s m few.
           let so = (cancelled_meets e.layout e.seats b e.tally e.tally s m k was c.cancel-was_on_table.ensures refl).1 in
-          c.in_ok-write_line.ensures ∙ ap (λ x. string_bytes c.args.out.now ++ line x)
-          (c.either.ensures ∙ ap (λ b. if b then codes "cancelled" else codes "not on table") so);
+          c.in_ok-write_line.ensures.written ∙ ap (λ x. string_bytes c.args.out.now ++ line x)
+          (c.either.ensures.chosen ∙ ap (λ b. if b then codes "cancelled" else codes "not on table") so);
       room = λ s m. omega (arith, length-append s.history (cancel_events p k s.table), cancel_few p k s.table, without_few k s.table.entries);
     }

@@ -9,8 +9,8 @@ returns c =
     record {
       layout = refl;
       meets = λ s m. looked_meets e.layout e.seats c.is_pending-is_pending.new.self e.tally s m (c.is_pending-is_pending.ensures e.layout s.history m.seated).0;
-      lines = λ s m few. c.in_ok-write_line.ensures
+      lines = λ s m few. c.in_ok-write_line.ensures.written
           ∙ ap (λ x. string_bytes c.args.out.now ++ line x)
-          (c.either.ensures ∙ ap (λ b. if b then codes "pending" else codes "idle") (c.is_pending-is_pending.ensures e.layout s.history m.seated).1);
+          (c.either.ensures.chosen ∙ ap (λ b. if b then codes "pending" else codes "idle") (c.is_pending-is_pending.ensures e.layout s.history m.seated).1);
       room = λ s m. omega arith;
     }

@@ -12,7 +12,7 @@ returns c =
     record {
       layout = refl;
       meets = λ s m. close_meets e.layout e.seats c.close-taken.new.self e.tally s m (c.close-taken.ensures e.layout s.history m.seated).0;
-      lines = λ s m few. c.in_ok-write_close.ensures
+      lines = λ s m few. c.in_ok-write_close.ensures.written
           ∙ ap (λ x. string_bytes c.args.out.now ++ line (close_text x)) (c.close-taken.ensures e.layout s.history m.seated).1;
       room = λ s m. omega (arith, length-append s.history (close_events s.history), close_few s.history);
     }

@@ -44,7 +44,7 @@ returns c = λ s m few.
     let e = c.args.self.now in
     let u : Sums e.tally c.counts-totals.result s.history =
     sums e.layout e.seats e.tally s c.counts-totals.result m (omega (arith, few)) c.counts-totals.ensures.counted in
-    let delayed : c.len.result ≡ length s.table.entries = c.len.ensures ∙ ap (λ (t : DelayTable). length t.entries) m.table in
+    let delayed : c.len.result ≡ length s.table.entries = c.len.ensures.entries ∙ ap (λ (t : DelayTable). length t.entries) m.table in
     λ i. record {
       accepted = u.accepts i;
       chained = u.chains i;

@@ -14,9 +14,9 @@ returns c =
     record {
       layout = refl;
       meets = λ s m. looked_meets e.layout e.seats c.is_flushed-is_flushed.new.self e.tally s m (c.is_flushed-is_flushed.ensures e.layout s.history m.seated).0;
-      lines = λ s m few. c.in_ok-write_line.ensures
+      lines = λ s m few. c.in_ok-write_line.ensures.written
           ∙ ap (λ x. string_bytes c.args.out.now ++ line x)
-          (c.either.ensures ∙ (ap (λ b. if b then codes "true" else codes "false") (c.is_flushed-is_flushed.ensures e.layout s.history m.seated).1
+          (c.either.ensures.chosen ∙ (ap (λ b. if b then codes "true" else codes "false") (c.is_flushed-is_flushed.ensures e.layout s.history m.seated).1
           ∙ turned _ (codes "true") (codes "false")));
       room = λ s m. omega arith;
     }

@@ -22,7 +22,7 @@ returns-then-not-is_closed c =
           subst (λ (t : ScriptState). Meets e t) (sym so.0) m;
       lines = λ s m few.
           let so = drain_open e.layout s c.args.limit (sym (c.is_closed.ensures e.layout s.history m.seated) ∙ c.if-not-is_closed.true) in
-          wrote e.layout s s (command.Drain c.args.limit) _ _ (line (codes "not closed")) so.0 so.1 c.in_ok-write_line.ensures;
+          wrote e.layout s s (command.Drain c.args.limit) _ _ (line (codes "not closed")) so.0 so.1 c.in_ok-write_line.ensures.written;
       room = λ s m.
           let so = drain_open e.layout s c.args.limit (sym (c.is_closed.ensures e.layout s.history m.seated) ∙ c.if-not-is_closed.true) in
           omega (arith, ap size so.0);
@@ -56,12 +56,12 @@ returns c =
           let so = drain_closed e.layout s c.args.limit (sym (c.is_closed.ensures e.layout s.history m.seated) ∙ c.if-not-is_closed.false) in
           let r = ran_meets e.layout e.seats c.run.new.self e.tally s c.args.limit (ends_at None) c.in_ok-ran.ran.items m
           (c.in_ok-ran.ensures s.history m.seated m.idle m.lists) in
-          let row = c.in_ok-write_row.ensures ∙ ap (λ ks. string_bytes c.args.out.now ++ row_text e.layout (codes "ran") ks) (c.deref.ensures.value ∙ r.1) in
+          let row = c.in_ok-write_row.ensures.written ∙ ap (λ ks. string_bytes c.args.out.now ++ row_text e.layout (codes "ran") ks) (c.deref.ensures.value ∙ r.1) in
           let size_now : size (drained e.layout s c.args.limit) ≤ 2305843009213693952 =
           omega (arith, executions_few e.layout.senders s.follows (ends_at None) c.args.limit s.history m.short, c.ranges.limit, few) in
           let left = ap (λ (counts : Counts). counts.waiting) (c.counts.ensures (drained e.layout s c.args.limit) r.0 size_now) in
           wrote e.layout s (drained e.layout s c.args.limit) (command.Drain c.args.limit) _ _ _ so.0 so.1
-          (c.in_ok-write_left.ensures ∙ (ap (λ x. x ++ line (left_text c.counts.result.waiting)) row ∙ (append_assoc (string_bytes c.args.out.now) _ _
+          (c.in_ok-write_left.ensures.written ∙ (ap (λ x. x ++ line (left_text c.counts.result.waiting)) row ∙ (append_assoc (string_bytes c.args.out.now) _ _
           ∙ ap (λ n. string_bytes c.args.out.now ++
           (row_text e.layout (codes "ran") (ended_since s.history (after_row e.layout s c.args.limit None)) ++ line (left_text n))) left)));
       room = λ s m.

@@ -26,7 +26,7 @@ returns c =
           asked_meets e.layout e.seats c.flush-answer.new.self e.tally c.queueing.new.self s c.args.sender k c.flush-answer.result c.requires.fits.0 m
           (c.flush-answer.ensures e.layout s.history m.seated) c.queueing.ensures;
       lines = λ s m few.
-          c.in_ok-write_line.ensures ∙ ap (λ x. string_bytes c.args.out.now ++ line x)
-          (c.answer_text.ensures ∙ ap answer_text (c.flush-answer.ensures e.layout s.history m.seated).answer);
+          c.in_ok-write_line.ensures.written ∙ ap (λ x. string_bytes c.args.out.now ++ line x)
+          (c.answer_text.ensures.text ∙ ap answer_text (c.flush-answer.ensures e.layout s.history m.seated).answer);
       room = λ s m. omega (arith, length-append s.history (queue_events c.args.sender k s.history), queue_few c.args.sender k s.history);
     }

@@ -27,7 +27,7 @@ returns c =
       lines = λ s m few.
           let same = (modified_meets e.layout e.seats c.modify.new.self e.tally c.modification.new.self s m k delay
           c.in_ok-modified.modified c.in_ok-modified.ensures c.modification.ensures).1 in
-          c.in_ok-write_line.ensures ∙ ap (λ x. string_bytes c.args.out.now ++ line x) (c.modified_text.ensures ∙ ap modified_text same);
+          c.in_ok-write_line.ensures.written ∙ ap (λ x. string_bytes c.args.out.now ++ line x) (c.modified_text.ensures.text ∙ ap modified_text same);
       room = λ s m.
           let adds = modify_few p k delay s.history s.table in
           omega (arith, length-append s.history (modify_events p k delay s.history s.table), adds, modify_table_few k delay s.history s.table);

@@ -22,7 +22,7 @@ returns c =
           asked_meets e.layout e.seats c.queue-answer.new.self e.tally c.queueing.new.self s c.args.sender k c.queue-answer.result c.requires.fits.0 m
           (c.queue-answer.ensures e.layout s.history m.seated) c.queueing.ensures;
       lines = λ s m few.
-          c.in_ok-write_line.ensures ∙ ap (λ x. string_bytes c.args.out.now ++ line x)
-          (c.answer_text.ensures ∙ ap answer_text (c.queue-answer.ensures e.layout s.history m.seated).answer);
+          c.in_ok-write_line.ensures.written ∙ ap (λ x. string_bytes c.args.out.now ++ line x)
+          (c.answer_text.ensures.text ∙ ap answer_text (c.queue-answer.ensures e.layout s.history m.seated).answer);
       room = λ s m. omega (arith, length-append s.history (queue_events c.args.sender k s.history), queue_few c.args.sender k s.history);
     }
