@@ -2,6 +2,7 @@
 mod crowd;
 mod hands;
 mod overlap;
+mod owing;
 mod rows;
 mod team;
 mod turns;

@@ -13,20 +13,29 @@ use wq_pool::{Caller, Gate, Pool, Served, Turn, Worked};
 use wq_words::Layout;
 use wq_worker::{Follow, Work, Worker};
 
-/// A work that asks for nothing, and keeps what it ran.
+/// A work that keeps what it ran. Where an item from a number on ran it asks for one below 100.
 #[derive(Drop)]
 pub(crate) struct Logging {
     pub(crate) ran: Trail,
     pub(crate) order: ArrayVec<u32, 64>,
+    asks_from: u32,
 }
 
 impl Logging {
+    /// It asks for nothing.
     pub(crate) fn new() -> Logging
+        ensures { result.ran.items ≡ [] }
+    {
+        Logging::asking(u32::MAX)
+    }
+
+    pub(crate) fn asking(asks_from: u32) -> Logging
         ensures { result.ran.items ≡ [] }
     {
         Logging {
             ran: Trail::new(),
             order: ArrayVec::new(),
+            asks_from,
         }
     }
 }
@@ -39,7 +48,11 @@ impl Work for Logging {
     fn run(&mut self, item: u32) -> Follow {
         self.ran = self.ran.and(item);
         let _ = self.order.try_push(item);
-        Follow::new()
+        let mut follow = Follow::new();
+        if item >= self.asks_from {
+            let _ = follow.try_push(item % 100);
+        }
+        follow
     }
 }
 
