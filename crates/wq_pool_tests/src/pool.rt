@@ -4,5 +4,6 @@ mod hands;
 mod overlap;
 mod owing;
 mod rows;
+mod running;
 mod team;
 mod turns;

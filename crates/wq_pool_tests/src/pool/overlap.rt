@@ -1,5 +1,5 @@
 //! Two workers of a pool run at the same time.
-use crate::pool::team::{Logging, filled, take_last};
+use crate::pool::team::{take_last, two_to_stop};
 use std::alloc::Global;
 use std::process::Abort;
 use std::sync::Wait;
@@ -7,7 +7,7 @@ use std::sync::atomic::AtomicU64;
 use std::sync::atomic::Ordering::SeqCst;
 use std::test::Fail;
 use std::thread::{Threads, yield_now};
-use wq_pool::{Gate, Pool, Served};
+use wq_pool::{Gate, Pool};
 
 /// So often queue 0 looks whether queue 1 was executed.
 const LOOKS: u32 = 1_000_000;
@@ -51,20 +51,9 @@ impl Gate for Waiting {
     }
 }
 
-/// Two queues, with item 0 and then the stop item queued in each.
-fn two_to_stop<R: Abort>(rt: &R, alloc: Global) -> Vec<Served<Logging>> {
-    let mut queues = Vec::new(alloc);
-    for _ in 0..2u32 {
-        let (served, mut sender) = filled(rt, alloc, 1);
-        sender.request_stop(1);
-        queues.push(served).expect(rt, "memory");
-    }
-    queues
-}
-
 /// Whether queue 1 was executed while queue 0 waited for that, with so many workers.
 fn do_overlap<R: Abort + Threads + Wait + Sync>(rt: &R, alloc: Global, workers: u32) -> bool {
-    let queues = two_to_stop(rt, alloc);
+    let queues = two_to_stop(rt, alloc, 1);
     let (pool, mut callers) = Pool::new(alloc, queues, workers.saturating_add(1)).expect(
         rt, "a pool",
     );

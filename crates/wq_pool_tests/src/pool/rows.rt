@@ -86,6 +86,36 @@ fn finish_executes_to_its_limit(rt: HostRuntime) -> Result<(), Fail> {
     Ok(())
 }
 
+/// The first queue with something left is named.
+#[test]
+fn first_left_is_named(rt: HostRuntime) -> Result<(), Fail> {
+    let queues = two_filled(&rt, rt.alloc(), 2, 3);
+    let (pool, _caller) = new_pool(&rt, rt.alloc(), queues);
+    let (pool, queue, left) = finish_unfinished(&rt, pool, 1);
+    assert_eq!(rt; (queue, left), (0, 1));
+    let (pool, queue, left) = finish_unfinished(&rt, pool, 1);
+    assert_eq!(rt; (queue, left), (1, 1));
+    let finished = pool.finish(1)?;
+    assert_eq!(rt; finished.len(), 2);
+    Ok(())
+}
+
+/// A queue that is out is named before one with something left, which was executed up to the limit.
+#[test]
+fn out_before_left(rt: HostRuntime) -> Result<(), Fail> {
+    let queues = two_filled(&rt, rt.alloc(), 2, 0);
+    let (pool, mut caller) = new_pool(&rt, rt.alloc(), queues);
+    pool.announce(&rt, &mut caller, 1)?;
+    let turn = pool.pick(&rt, &mut caller).expect(&rt, "a turn");
+    let (pool, queue) = finish_out(&rt, pool, 1);
+    assert_eq!(rt; queue, 1);
+    let worked = work(&rt, turn, 9, &Open);
+    pool.put_back(&mut caller, worked);
+    let finished = pool.finish(1)?;
+    assert_eq!(rt; finished.len(), 2);
+    Ok(())
+}
+
 /// So many queues in which nothing is queued.
 fn empty_queues<R: Abort>(rt: &R, alloc: Global, count: u32) -> Vec<Served<Logging>> {
     let mut queues = Vec::new(alloc);

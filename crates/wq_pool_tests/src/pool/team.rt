@@ -92,9 +92,9 @@ pub(crate) fn queue_item<R: Abort>(rt: &R, sender: &mut Sender, item: u32) -> An
     sender.queue_tries(item, 1)
 }
 
-/// A queue of four items in which those below a number are queued, and its sender.
+/// A queue in which the items below a number are queued, and its sender.
 pub(crate) fn filled<R: Abort>(rt: &R, alloc: Global, count: u32) -> (Served<Logging>, Sender) {
-    let layout = Layout::new(4, 1, 2).expect(rt, "a layout");
+    let layout = Layout::new(count.max(4), 1, 2).expect(rt, "a layout");
     let (served, mut senders) = new_queue(rt, alloc, layout, Logging::new());
     let mut sender = senders.pop().expect(rt, "a sender");
     for item in 0..count {
@@ -115,6 +115,17 @@ pub(crate) fn two_filled<R: Abort>(
     let (other, _sender) = filled(rt, alloc, second);
     queues.push(one).expect(rt, "memory");
     queues.push(other).expect(rt, "memory");
+    queues
+}
+
+/// Two queues, with so many items and then the stop item queued in each.
+pub(crate) fn two_to_stop<R: Abort>(rt: &R, alloc: Global, count: u32) -> Vec<Served<Logging>> {
+    let mut queues = Vec::new(alloc);
+    for _turn in 0..2u32 {
+        let (served, mut sender) = filled(rt, alloc, count);
+        sender.request_stop(1);
+        queues.push(served).expect(rt, "memory");
+    }
     queues
 }
 
