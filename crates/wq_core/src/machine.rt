@@ -281,7 +281,8 @@ impl Core {
         ensures unchanged { OnErr result (self.new ≡ self.old) }
     {
         let seen = private_at(&self.seats, sender).seen.unwrap_or(0);
-        if word(&self.words, HEAD) != seen {
+        let head = word(&self.words, HEAD);
+        if head != seen {
             self.seats[sender as usize] = NOTHING_SEEN;
             return Ok(Reply::Lost);
         }
@@ -441,7 +442,8 @@ impl Core {
         ensures after { OnOk result (self.new ≡ after self.old Owner Rest) }
         ensures unchanged { OnErr result (self.new ≡ self.old) }
     {
-        if word(&self.words, HEAD) != BUSY {
+        let head = word(&self.words, HEAD);
+        if head != BUSY {
             return Ok(Reply::Lost);
         }
         self.history.push(Event::Rest)?;

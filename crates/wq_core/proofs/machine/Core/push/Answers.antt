@@ -10,7 +10,7 @@ invariant_of-self c =
 pub invariant_of-self-2 : goal.invariant_of-self-2
 invariant_of-self-2 c =
     let made = rw (← c.self.view_is) at c.requires in
-    let word = rw c.deref-2.ensures.value at c.word.ensures in
+    let word = rw c.deref-2.ensures.value at c.word-head.ensures in
     let seen = rw (c.private_at.ensures, c.deref.ensures.value) at c.unwrap_or-seen.ensures in
     rw (c.in_ok-push.ensures.items, c.to_word.ensures.word)
-    (stored_push _ _ _ c.self.invariant c.args.sender c.args.number made.0.0.0 made.0.1 made.1 (sym word ∙ c.if-word-seen.false ∙ seen))
+    (stored_push _ _ _ c.self.invariant c.args.sender c.args.number made.0.0.0 made.0.1 made.1 (sym word ∙ c.if-head-seen.false ∙ seen))
