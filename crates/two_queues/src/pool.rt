@@ -1,8 +1,7 @@
 //! The two queues and their pool.
-ghost use Rattle.std.specs.Prelude.{◌≡◌, ◌+◌, ◌≤◌, ◌<◌, ◌∷◌, [], All, IfOk, length};
+ghost use Rattle.std.specs.Prelude.{◌≡◌, ◌+◌, ◌<◌, ◌≤◌, ◌∷◌, [], All, IfOk, length};
 ghost use Rattle.wq_words.specs.History.{accepted, IsRunning};
 ghost use Rattle.wq_words.specs.Seen.{own};
-ghost use Rattle.wq_live.specs.Known.{new_sender};
 ghost use Rattle.wq_ready.specs.Known.{IsCallerOf};
 ghost use Rattle.wq_worker.specs.State.{items_among};
 ghost use Rattle.wq_pool.specs.Finished.{AreFinished};
@@ -18,10 +17,7 @@ use thiserror::Error;
 use wq_live::{Sender, own_events_stay};
 use wq_pool::{Caller, Pool, PoolFault, Served};
 use wq_words::Layout;
-use wq_worker::{Book, Worker};
-
-// Two for the workers, one for each of the four senders, and one for the program itself.
-const CALLERS: u32 = 7;
+use wq_worker::{Book, Unbuilt, Worker};
 
 // So many numbers of each queue are executed at a time, where some are left at the end.
 const EXECUTIONS: u32 = 1024;
@@ -43,6 +39,12 @@ impl From<AllocError> for RunError {
     }
 }
 
+impl From<Unbuilt<Runs>> for RunError {
+    fn from(_unbuilt: Unbuilt<Runs>) -> RunError {
+        RunError::Memory
+    }
+}
+
 /// A queue that has run to its end: its work and its book, and its senders with what they were told.
 #[derive(Drop)]
 pub struct Ended {
@@ -52,32 +54,7 @@ pub struct Ended {
     pub second: Told,
 }
 
-// The senders of a new queue: two for threads, and one for the stop item.
-type Senders = (Sender, Sender, Sender);
-
-// A new queue.
-fn build(alloc: Global, layout: Layout) -> Result<(Worker<Runs>, Senders), RunError>
-    requires { layout.senders ≡ 4 }
-    ensures worker { IfOk result (λ r. (r.0.layout ≡ layout) × (¬ IsRunning r.0.seen)) }
-    ensures first { IfOk result (λ r. r.1.0 ≡ new_sender r.0.queue layout 0) }
-    ensures second { IfOk result (λ r. r.1.1 ≡ new_sender r.0.queue layout 1) }
-{
-    let Ok((worker, mut senders)) = Worker::build(alloc, layout, Runs::new(), 1) else {
-        return Err(RunError::Memory);
-    };
-    let Some(last) = senders.pop() else {
-        unreachable!()
-    };
-    let Some(second) = senders.pop() else {
-        unreachable!()
-    };
-    let Some(first) = senders.pop() else {
-        unreachable!()
-    };
-    Ok((worker, (first, second, last)))
-}
-
-// A pool of the two queues, and its callers.
+// A pool of two queues, and its callers.
 fn pool_of(
     alloc: Global,
     one: Worker<Runs>,
@@ -90,10 +67,10 @@ fn pool_of(
     let Ok(queues) = Vec::from_array(alloc, [Served::new(one), Served::new(two)]) else {
         return Err(RunError::Memory);
     };
-    let Ok(made) = Pool::new(alloc, queues, CALLERS) else {
-        return Err(RunError::Memory);
-    };
-    Ok(made)
+    match Pool::new(alloc, queues, 7) {
+        Ok(made) => Ok(made),
+        Err(_) => Err(RunError::Memory),
+    }
 }
 
 // One of the callers that are left.
@@ -110,52 +87,58 @@ fn caller_of(pool: &Pool<Runs>, callers: &mut Vec<Caller>) -> Caller
     caller
 }
 
-// A sender of the pool's queue of this number, with a caller of its own.
-fn seat_of(pool: &Pool<Runs>, callers: &mut Vec<Caller>, queue: u32, sender: Sender) -> Seat
-    requires some { 0 < length callers.old.items }
+// The senders of the pool's queue of this number, two of them with callers.
+fn line_of(pool: &Pool<Runs>, callers: &mut Vec<Caller>, queue: u32, senders: Vec<Sender>) -> Line
+    requires senders { length senders.items ≡ 3 }
+    requires some { 2 ≤ length callers.old.items }
     requires all { All (IsCallerOf pool.now.ready) callers.old.items }
-    ensures seat { IsCallerOf pool.now.ready result.caller × (result.sender ≡ sender) }
+    ensures senders { senders.items ≡ result.first.sender ∷ result.second.sender ∷ result.last ∷ [] }
+    ensures two { IsCallerOf pool.now.ready result.first.caller × IsCallerOf pool.now.ready result.second.caller }
     ensures all { All (IsCallerOf pool.now.ready) callers.new.items }
-    ensures count { length callers.new.items + 1 ≡ length callers.old.items }
+    ensures count { length callers.new.items + 2 ≡ length callers.old.items }
 {
-    Seat {
+    let Ok(senders) = <[Sender; 3]>::try_from(senders) else {
+        unreachable!()
+    };
+    let [sender, other, last] = senders;
+    let first = Seat {
         queue,
         sender,
         caller: caller_of(pool, callers),
+    };
+    let second = Seat {
+        queue,
+        sender: other,
+        caller: caller_of(pool, callers),
+    };
+    Line {
+        first,
+        second,
+        last,
     }
 }
 
-// The workers serve both queues in threads of their own, while the senders queue.
+// Two workers serve both queues in threads of their own, while the senders queue.
 fn serve<R: Threads + Wait + Sync>(
     rt: &R,
     pool: &Pool<Runs>,
-    mut callers: Vec<Caller>,
-    one: Senders,
-    two: Senders,
+    mut workers: Vec<Caller>,
+    caller: Caller,
+    one: Line,
+    two: Line,
 ) -> Result<((Told, Told), (Told, Told)), RunError>
-    requires callers { All (IsCallerOf pool.now.ready) callers.items × (length callers.items ≡ 7) }
-    requires items { (4 ≤ one.0.layout.items) × (4 ≤ two.0.layout.items) }
-    requires one { (one.0 ≡ new_sender one.0.queue one.0.layout 0) × (one.1 ≡ new_sender one.0.queue one.0.layout 1) }
-    requires two { (two.0 ≡ new_sender two.0.queue two.0.layout 0) × (two.1 ≡ new_sender two.0.queue two.0.layout 1) }
-    ensures one { IfOk result (λ told. HaveQueued one.0.queue told.0.0 told.0.1) }
-    ensures two { IfOk result (λ told. HaveQueued two.0.queue told.1.0 told.1.1) }
+    requires workers { All (IsCallerOf pool.now.ready) workers.items }
+    requires caller { IsCallerOf pool.now.ready caller }
+    requires one { IsNewLine pool.now.ready one }
+    requires two { IsNewLine pool.now.ready two }
+    ensures one { IfOk result (λ told. HaveQueued one.first.sender.queue told.0.0 told.0.1) }
+    ensures two { IfOk result (λ told. HaveQueued two.first.sender.queue told.1.0 told.1.1) }
 {
-    let one = Line {
-        first: seat_of(pool, &mut callers, 0, one.0),
-        second: seat_of(pool, &mut callers, 0, one.1),
-        last: one.2,
-    };
-    let two = Line {
-        first: seat_of(pool, &mut callers, 1, two.0),
-        second: seat_of(pool, &mut callers, 1, two.1),
-        last: two.2,
-    };
-    let caller = caller_of(pool, &mut callers);
     let (ran, told) = join(
         rt,
         move ||
-            requires { All (IsCallerOf pool.now.ready) callers.items }
-        { pool.run(rt, callers.as_mut_slice(), &Open) },
+            requires { All (IsCallerOf pool.now.ready) workers.items }
+        { pool.run(rt, workers.as_mut_slice(), &Open) },
         move ||
             requires { IsCallerOf pool.now.ready caller × IsNewLine pool.now.ready one × IsNewLine pool.now.ready two }
             ensures { HaveQueued one.first.sender.queue result.0.0 result.0.1 × HaveQueued two.first.sender.queue result.1.0 result.1.1 }
@@ -215,8 +198,7 @@ fn end_of(finished: (Runs, Book), told: (Told, Told)) -> Ended
 }
 
 /// Two new queues of this size in a pool, which two threads serve, while four senders, two of each queue, queue two items each
-/// in threads of their own. When these have ended the stop items follow, and the pool is taken apart. What each queue has done
-/// is given in its order.
+/// in threads of their own. When these have ended the stop items follow, and the pool is taken apart.
 ///
 /// # Errors
 /// `Memory` where no memory could be had; `Out` where a queue is not in the pool in the end.
@@ -231,10 +213,13 @@ pub fn run<R: Threads + Wait + Sync>(
     ensures first { IfOk result (λ ended. RanAll ended.0.book.layout ended.0.book.seen ended.0) }
     ensures second { IfOk result (λ ended. RanAll ended.1.book.layout ended.1.book.seen ended.1) }
 {
-    let (one, of_one) = build(alloc, layout)?;
-    let (two, of_two) = build(alloc, layout)?;
-    let (pool, callers) = pool_of(alloc, one, two)?;
-    let (told_one, told_two) = serve(rt, &pool, callers, of_one, of_two)?;
+    let (one, of_one) = Worker::build(alloc, layout, Runs::new(), 1)?;
+    let (two, of_two) = Worker::build(alloc, layout, Runs::new(), 1)?;
+    let (pool, mut callers) = pool_of(alloc, one, two)?;
+    let one = line_of(&pool, &mut callers, 0, of_one);
+    let two = line_of(&pool, &mut callers, 1, of_two);
+    let caller = caller_of(&pool, &mut callers);
+    let (told_one, told_two) = serve(rt, &pool, callers, caller, one, two)?;
     let mut finished = finish(rt, pool)?.into_iter();
     let Some(one) = finished.next() else {
         unreachable!()
@@ -242,5 +227,7 @@ pub fn run<R: Threads + Wait + Sync>(
     let Some(two) = finished.next() else {
         unreachable!()
     };
-    Ok((end_of(one, told_one), end_of(two, told_two)))
+    let one = end_of(one, told_one);
+    let two = end_of(two, told_two);
+    Ok((one, two))
 }

@@ -1,4 +1,4 @@
-//! Senders in threads of their own, and the stop item.
+//! Senders in threads of their own, and the stop items.
 ghost use Rattle.std.specs.Prelude.{◌≡◌, ◌<◌, ◌≤◌, ◌++◌, []};
 ghost use Rattle.wq_words.specs.History.{accepted};
 ghost use Rattle.wq_words.specs.Seen.{own};
@@ -12,9 +12,6 @@ use std::sync::Wait;
 use std::thread::{Threads, join, yield_now};
 use wq_live::{Answer, Sender, queued_is_accepted};
 use wq_pool::{Caller, Pool};
-
-// So many times the stop item is tried to be pushed at a time.
-const TRIES: u32 = 64;
 
 /// A sender, and what its two queueings were answered.
 #[derive(Drop)]
@@ -40,14 +37,13 @@ pub(crate) struct Line {
     pub(crate) last: Sender,
 }
 
-// Tries until there is room among the announcements: the queues that were announced are picked meanwhile.
-fn announce<R: Wait>(rt: &R, pool: &Pool<Runs>, seat: &mut Seat)
-    requires caller { IsCallerOf pool.now.ready seat.old.caller }
-    ensures caller { IsCallerOf pool.now.ready seat.new.caller }
-    ensures sender { seat.new.sender ≡ seat.old.sender }
+// Announces a queue that was woken. Where as many wait as there are queues, workers pick one of them meanwhile.
+fn announce<R: Wait>(rt: &R, pool: &Pool<Runs>, caller: &mut Caller, queue: u32)
+    requires { IsCallerOf pool.now.ready caller.old }
+    ensures { IsCallerOf pool.now.ready caller.new }
 {
     for _ in rt.forever() {
-        if pool.announce(rt, &mut seat.caller, seat.queue).is_ok() {
+        if pool.announce(rt, caller, queue).is_ok() {
             return;
         }
         yield_now();
@@ -65,7 +61,7 @@ fn queue<R: Wait>(rt: &R, pool: &Pool<Runs>, seat: &mut Seat, item: u32) -> Answ
     queued_is_accepted();
     let answer = seat.sender.queue(rt, item);
     if let Answer::Queued { wakes: true, .. } = answer {
-        announce(rt, pool, seat);
+        announce(rt, pool, &mut seat.caller, seat.queue);
     }
     answer
 }
@@ -88,7 +84,7 @@ fn queue_two<R: Wait>(rt: &R, pool: &Pool<Runs>, mut seat: Seat, one: u32, two: 
     }
 }
 
-// The two senders of a queue, each in a thread of its own. The last one is given back.
+// The senders of one queue, two of them in threads of their own. The last one is given back.
 fn queue_both<R: Threads + Wait + Sync>(
     rt: &R,
     pool: &Pool<Runs>,
@@ -116,30 +112,25 @@ fn queue_both<R: Threads + Wait + Sync>(
     (told, last)
 }
 
-// Queues the stop item behind all that was queued before. The caller is given back.
-fn stop<R: Wait>(rt: &R, pool: &Pool<Runs>, mut seat: Seat) -> Caller
-    requires { IsCallerOf pool.now.ready seat.caller }
-    ensures { IsCallerOf pool.now.ready result }
+// Queues the stop item, behind all that its queue has accepted.
+fn stop<R: Wait>(rt: &R, pool: &Pool<Runs>, caller: &mut Caller, queue: u32, mut sender: Sender)
+    requires { IsCallerOf pool.now.ready caller.old }
+    ensures { IsCallerOf pool.now.ready caller.new }
 {
     for _ in rt.forever() {
-        match seat.sender.request_stop(TRIES) {
+        match sender.request_stop(1) {
             Answer::Contended => {}
-            Answer::Queued { wakes: true, .. } => {
-                announce(rt, pool, &mut seat);
-                break;
-            }
-            _ => break,
+            Answer::Queued { wakes: true, .. } => return announce(rt, pool, caller, queue),
+            _ => return,
         }
     }
-    let Seat { caller, .. } = seat;
-    caller
 }
 
 /// All four senders queue, and when they have ended both stop items follow.
 pub(crate) fn queue_all<R: Threads + Wait + Sync>(
     rt: &R,
     pool: &Pool<Runs>,
-    caller: Caller,
+    mut caller: Caller,
     one: Line,
     two: Line,
 ) -> ((Told, Told), (Told, Told))
@@ -149,7 +140,7 @@ pub(crate) fn queue_all<R: Threads + Wait + Sync>(
     ensures one { HaveQueued one.first.sender.queue result.0.0 result.0.1 }
     ensures two { HaveQueued two.first.sender.queue result.1.0 result.1.1 }
 {
-    let ((told, last), (told_two, last_two)) = join(
+    let ((told_one, last_one), (told_two, last_two)) = join(
         rt,
         move ||
             requires { IsNewLine pool.now.ready one }
@@ -160,23 +151,7 @@ pub(crate) fn queue_all<R: Threads + Wait + Sync>(
             ensures { HaveQueued two.first.sender.queue result.0.0 result.0.1 }
         { queue_both(rt, pool, two) },
     );
-    let caller = stop(
-        rt,
-        pool,
-        Seat {
-            queue: 0,
-            sender: last,
-            caller,
-        },
-    );
-    let _caller = stop(
-        rt,
-        pool,
-        Seat {
-            queue: 1,
-            sender: last_two,
-            caller,
-        },
-    );
-    (told, told_two)
+    stop(rt, pool, &mut caller, 0, last_one);
+    stop(rt, pool, &mut caller, 1, last_two);
+    (told_one, told_two)
 }
