@@ -1,6 +1,8 @@
-//! Tests of ready queues and of pools by their public calls alone: what their contracts promise nobody.
+//! Tests of ready queues, of pools and of the example of a pool by their public calls alone: what their contracts promise nobody.
 #![tactic(auto)]
 
+#[cfg(test)]
+mod own_pool;
 #[cfg(test)]
 mod pool;
 #[cfg(test)]
