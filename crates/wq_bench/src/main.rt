@@ -7,9 +7,11 @@
 //! the worker rests before it parks, and its senders wake it on `wakes` alone. `wq_bench lone ROUNDS
 //! MICROS` queues one item to such a worker so many microseconds after the last one ran, and prints the median and the 95th
 //! percentile of the time until it ran. `wq_bench delays ITEMS ROUNDS` measures a delay table; it prints what an arming, a move, a
-//! cancel and letting go took an item. `wq_bench pool QUEUES WORKERS SENDERS TOTAL` measures a pool of so many workers: each sender
-//! queues on all queues in turn, and it prints `items N nanos T picks K strays S`, of which the last is how many items ran out of
-//! their sender's order.
+//! cancel and letting go took an item.
+//!
+//! `wq_bench pool QUEUES WORKERS SENDERS TOTAL` measures a pool of so many workers. Each sender queues on all queues in turn, and
+//! announces a queue where it was answered `wakes`. It prints `items N nanos T picks K strays S`, of which the last is how many
+//! items ran out of their sender's order.
 //!
 //! Without words it prints `items N` for a small plan of one queue and for one of a pool, which depends on no clock.
 #![tactic(auto)]

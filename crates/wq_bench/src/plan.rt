@@ -20,7 +20,8 @@ pub struct Plan {
 #[derive(Clone, Copy, Debug, PartialEq, Eq, Error)]
 pub enum PlanError {
     /// Another count of words, or a word that is no number.
-    #[error("usage: wq_bench [eager | resting] [serve] SENDERS SLICE TOTAL | [eager] lone ROUNDS MICROS | delays ITEMS ROUNDS | pool QUEUES WORKERS SENDERS TOTAL")]
+    #[error("usage: wq_bench [eager | resting] [serve] SENDERS SLICE TOTAL | [eager] lone ROUNDS MICROS | delays ITEMS ROUNDS \
+         | pool QUEUES WORKERS SENDERS TOTAL")]
     Words,
     /// More senders or items than a queue has.
     #[error("plan: {0}")]

@@ -192,7 +192,7 @@ fn counted(finished: &[(InOrder, Book)], picks: u64) -> PoolCounts {
     counts
 }
 
-/// Makes the queues and the pool, serves them while the senders queue their items and at last the stop items, and takes all apart.
+/// Makes the queues and the pool, serves it while the senders queue their items and at last the stop items, and takes all apart.
 pub fn run<R: Threads + Wait + Sync>(
     rt: &R,
     alloc: Global,
