@@ -150,7 +150,7 @@ refused_waits layout s b c d (at_take before after b_is last none) quiet why leg
     ap wakes c_is
     ∙ (ap wakes (sym (append_assoc before (Take ∷ []) (after ++ quiet.new)))
     ∙ at_work_still layout (before ++ Take ∷ []) (after ++ quiet.new) (
-      subst (IsLegal layout) (c_is ∙ sym (append_assoc before (Take ∷ []) (after ++ quiet.new))) legal
+    subst (IsLegal layout) (c_is ∙ sym (append_assoc before (Take ∷ []) (after ++ quiet.new))) legal
     ) behind_none (wakes_push_work before Take refl)) in
     let take_is : taking c ≡ Take ∷ [] = rw (empty, closed_from_open c opens) refl in
     let one : own owner_seat more.new ≡ Take ∷ [] = owner_new s 0 (taking c) c d more ∙ ap (own owner_seat) take_is in

@@ -50,5 +50,5 @@ returns-clause-refused c lost =
     let still : Grows owner_seat [] 0 p.seen q.seen =
     subst (λ (z : ℕ). Grows z [] 0 p.seen q.seen) (seat ∙ c.requires.paired.seat) m.that.grows in
     subst MayNotRest (sym still.is) (
-      refuses_still q.layout p.seen still.new (subst (IsLegal q.layout) still.is m.that.legal) still.mine (c.rest-rests.ensures.refused lost)
+    refuses_still q.layout p.seen still.new (subst (IsLegal q.layout) still.is m.that.legal) still.mine (c.rest-rests.ensures.refused lost)
     )
