@@ -118,7 +118,8 @@ fn line_of(pool: &Pool<Runs>, callers: &mut Vec<Caller>, queue: u32, senders: Ve
     }
 }
 
-// Two workers serve both queues in threads of their own, while the senders queue.
+// Two workers serve both queues in threads of their own, while the senders queue. Where no thread can be made `join` calls what
+// stands first last, so that the workers then find all that was queued.
 fn serve<R: Threads + Wait + Sync>(
     rt: &R,
     pool: &Pool<Runs>,
