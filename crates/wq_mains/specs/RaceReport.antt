@@ -4,16 +4,21 @@ use Rattle.wq_race.specs.declared.plan.Plan.{Plan}
 use Rattle.wq_race.specs.declared.outcome.Outcome.{Outcome}
 use Rattle.wq_race.specs.PlanText.{SpellsPlan, IsNoPlan}
 use Rattle.wq_race.specs.Outcome.{outcome_line, IsWhole}
+use Rattle.wq_pool_race.specs.Race.{IsLone}
+use Rattle.wq_pool_race.specs.Outcome.{TellsPlan}
 use Rattle.wq_mains.specs.declared.failure.Failure.{Failure}
+use Rattle.wq_pool_race.specs.Race.{IsLone}
+use Rattle.wq_pool_race.specs.Outcome.{TellsPlan}
 use Rattle.wq_mains.specs.declared.failure.Failure.TheVariants as failure
 
--- The text spells a plan, and this is the line of the outcome that accepted each of the plan's items once and ran it once,
--- and that balances.
+-- The text spells a plan, and this is the line of its outcome. Where one worker has one queue, each of the plan's items was
+-- accepted once and ran once, and the ledgers balance; any other outcome tells of a run of each of the plan's queues.
 pub record Races (text line : List ℕ) : Type 0 where
   pub plan : Plan
   pub spells : SpellsPlan text plan
   pub outcome : Outcome
-  pub whole : IsWhole plan outcome
+  pub whole : IsLone plan → IsWhole plan outcome
+  pub pooled : ¬ IsLone plan → TellsPlan plan outcome
   pub line_is : line ≡ outcome_line outcome
 
 -- the text has no outcome: it is refused for this, or memory or a thread was wanting

@@ -12,7 +12,8 @@ use std::alloc::Global;
 use std::io::{Read, Write};
 use std::sync::Wait;
 use std::thread::Threads;
-use wq_race::{read_plan, run_plan};
+use wq_pool_race::run_live;
+use wq_race::read_plan;
 
 // The line of the outcome of a plan's text.
 fn line_of<T: Threads + Wait + Sync>(rt: &T, alloc: Global, text: &[u8]) -> Result<String, Failure>
@@ -20,7 +21,7 @@ fn line_of<T: Threads + Wait + Sync>(rt: &T, alloc: Global, text: &[u8]) -> Resu
     ensures none { IfErr result (HasNoRace text.now) }
 {
     let plan = read_plan(alloc, text)?;
-    let outcome = run_plan(rt, alloc, plan)?;
+    let outcome = run_live(rt, alloc, plan)?;
     let mut line = String::new(alloc);
     outcome.write(&mut line)?;
     Ok(line)

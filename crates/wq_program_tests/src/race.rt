@@ -16,6 +16,7 @@ fn plan_of(rt: &impl Abort, alloc: Global, text: &[u8]) -> Plan {
 #[test]
 fn reads_a_plan(rt: HostRuntime) {
     let plan = plan_of(&rt, rt.alloc(), FIFTEEN);
+    assert_eq!(rt; (plan.queues, plan.workers), (1, 1));
     assert_eq!(rt; plan.senders, 3);
     assert_eq!(rt; plan.own, 5);
     let layout = plan.layout();
@@ -47,6 +48,30 @@ fn refusals(rt: HostRuntime) {
             Err(found) => assert_eq!(rt; found, refusal),
         }
     }
+}
+
+/// 1 to 8 queues and 1 to 8 workers.
+#[test]
+fn queues_and_workers(rt: HostRuntime) -> Result<(), Fail> {
+    for queues in 0..10u32 {
+        for workers in 0..10u32 {
+            let text = format!(in rt.alloc();
+                "{{\"queues\":{queues},\"workers\":{workers},\"senders\":32,\"own\":128}}"
+            )?;
+            match read_plan(rt.alloc(), text.as_bytes()) {
+                Ok(plan) => {
+                    assert!(rt; 1 <= queues && queues <= 8 && 1 <= workers && workers <= 8);
+                    assert_eq!(rt; (plan.queues, plan.workers), (queues, workers));
+                    assert_eq!(rt; (plan.senders, plan.own), (32, 128));
+                }
+                Err(refusal) => {
+                    assert_eq!(rt; refusal, PlanError::Limits);
+                    assert!(rt; queues < 1 || 8 < queues || workers < 1 || 8 < workers);
+                }
+            }
+        }
+    }
+    Ok(())
 }
 
 #[test]

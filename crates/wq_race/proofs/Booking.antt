@@ -1,6 +1,7 @@
 -- A book that meets senders.
-use Rattle.std.proofs.Common.{◌≡◌, ℕ, List, [], ◌∷◌, ◌++◌, map, refl, sym, ap, ◌∙◌}
-use Rattle.std.specs.Prelude.{All}
+use Rattle.std.proofs.Common.{◌≡◌, ℕ, suc, ◌+◌, ◌*◌, List, [], ◌∷◌, ◌++◌, map, length, refl, sym, ap, ◌∙◌, arith}
+use Rattle.std.specs.Prelude.{All, sum_by}
+use Rattle.std.proofs.lemmas.List.Sums.{sum_by-cons}
 use Rattle.std.proofs.lemmas.List.{append-nil}
 use Rattle.std.proofs.lemmas.List.Elements.{All-append, All-cons, All-nil}
 use Rattle.wq_words.specs.Seen.{owner_seat, Grows}
@@ -51,3 +52,12 @@ all_last P xs x before here = All-append P xs (x ∷ []) before (All-cons P x []
 pub map-same : (xs : List Known) → map (λ (x : Known). x) xs ≡ xs
 map-same [] = refl
 map-same (x ∷ xs) = ap (λ (ys : List Known). x ∷ ys) (map-same xs)
+
+-- what the senders queued in all, where each queued as many
+pub sum_same : (f : Known → ℕ) (c : ℕ) (xs : List Known) → All (λ (x : Known). f x ≡ c) xs → sum_by f xs ≡ length xs * c
+sum_same f c [] all = omega arith
+sum_same f c (x ∷ xs) all =
+    let here : f x ≡ c = all 0 x (omega arith) in
+    let rest : sum_by f xs ≡ length xs * c = sum_same f c xs (λ i d lt. all (suc i) d (omega (arith, lt))) in
+    let step : suc (length xs) * c ≡ length xs * c + c = omega arith in
+    omega (arith, sum_by-cons f x xs, here, rest, step)

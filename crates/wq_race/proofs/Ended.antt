@@ -70,7 +70,7 @@ use Rattle.wq_race.proofs.Events.{Has, own_has, was_allowed}
 use Rattle.wq_race.proofs.Whole.{IsRace, was_queued, all_accepted, below_counted, queued_own, pushes, length-queueings}
 use Rattle.wq_race.proofs.Balanced.{AreNumbered, whole_counts, count_few, one_ledger, last_ledger, none_made, always_balanced}
 
-all_front : (P : Event → Type 0) (xs ys : List Event) → AllByRecursion P (xs ++ ys) → AllByRecursion P xs
+pub all_front : (P : Event → Type 0) (xs ys : List Event) → AllByRecursion P (xs ++ ys) → AllByRecursion P xs
 all_front P [] ys all = tt
 all_front P (x ∷ xs) ys all = (all.0, all_front P xs ys all.1)
 

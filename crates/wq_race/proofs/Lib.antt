@@ -9,6 +9,7 @@ pub mod Destroying
 pub mod Running
 pub mod Booking
 pub mod Events
+pub mod Pushed
 pub mod Whole
 pub mod Balanced
 pub mod Ended

@@ -12,8 +12,6 @@ use Rattle.wq_words.proofs.Seen.{closed_count, begun_same}
 use Rattle.wq_live.specs.Known.{Known, new_sender}
 use Rattle.wq_words.specs.Counting.{is_chain, is_chain_busy}
 use Rattle.wq_worker.specs.Follow.{Follows}
-use Rattle.wq_worker.specs.State.{WorkerState}
-use Rattle.wq_race.specs.declared.idle.Idle.{Idle}
 use Rattle.wq_race.specs.declared.plan.Plan.{Plan}
 use Rattle.wq_race.specs.declared.team.Team.{Team}
 use Rattle.wq_race.specs.Plan.{IsLayoutOf}
@@ -59,15 +57,14 @@ rooms plan t new i d lt =
 pub own-first : (c : ℕ) (es v w : List Event) → v ≡ [] → Grows c es 0 v w → own c w ≡ es
 own-first c es v w none g = ap (own c) (g.is ∙ ap (λ (z : List Event). z ++ g.new) none) ∙ g.mine
 
-queuer : (m i : ℕ) (q : QueueId) (l : Layout) (w : WorkerState Idle) (a b : Known) → w.queue ≡ q → w.layout ≡ l → a ≡ new_sender q l i
-    → HasQueued (items_at a.number m) a b → IsQueuer m w i b
-queuer m i q l w a b queue layout at h =
+pub queuer : (m i : ℕ) (q : QueueId) (l : Layout) (a b : Known) → a ≡ new_sender q l i → HasQueued (items_at a.number m) a b → IsQueuer m q l i b
+queuer m i q l a b at h =
     let number : a.number ≡ i = ap (λ (k : Known). k.number) at in
-    let size : a.layout ≡ w.layout = ap (λ (k : Known). k.layout) at ∙ sym layout in
+    let size : a.layout ≡ l = ap (λ (k : Known). k.layout) at in
     let mine : own a.number b.seen ≡ h.events = own-first a.number h.events a.seen b.seen (ap (λ (k : Known). k.seen) at) h.grows in
     record {
       number_is = h.same.number_is ∙ number;
-      queue_is = h.same.queue_is ∙ (ap (λ (k : Known). k.queue) at ∙ sym queue);
+      queue_is = h.same.queue_is ∙ ap (λ (k : Known). k.queue) at;
       layout_is = h.same.layout_is ∙ size;
       queued = subst (λ (k : Layout). Follows k.items i false (items_at i m) (own i b.seen)) size
           (subst (λ (n : ℕ). Follows a.layout.items n false (items_at n m) (own n b.seen)) number
@@ -89,8 +86,9 @@ has_run plan old new n served all stopped =
       each = λ i d lt.
           let at : get_or old.senders.items i d ≡ new_sender q l i = ap (λ (xs : List Known). get_or xs i d) n.senders_are
           ∙ get_or-new_senders q l plan.senders i d lt in
-          queuer plan.own i q l new.worker (get_or old.senders.items i d) (get_or new.senders.items i d) served.queue_is served.layout_is at
-          (all.each i d (omega (arith, lt, count)));
+          let made = queuer plan.own i q l (get_or old.senders.items i d) (get_or new.senders.items i d) at (all.each i d (omega (arith, lt, count))) in
+          subst (λ (k : Layout). IsQueuer plan.own new.worker.queue k i (get_or new.senders.items i d)) (sym served.layout_is)
+          (subst (λ (k : QueueId). IsQueuer plan.own k l i (get_or new.senders.items i d)) (sym served.queue_is) made);
       number_is = served.number_is ∙ n.number_is;
       unsent = subst (λ (c : ℕ). own c new.worker.seen ≡ []) n.number_is (served.unsent ∙ n.unsent);
       unchained = served.unchained ∙ untouched_unchained old.worker.seen n.untouched;

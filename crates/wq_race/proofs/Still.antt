@@ -1,31 +1,5 @@
 -- Events by which a worker sends nothing, chains nothing and asks for nothing.
-use Rattle.std.proofs.Common.{
-  ◌≡◌,
-  ◌≢◌,
-  ℕ,
-  ◌+◌,
-  Bool,
-  true,
-  false,
-  eqb,
-  ◌||◌,
-  ◌==◌,
-  Option,
-  Some,
-  None,
-  List,
-  [],
-  ◌∷◌,
-  ◌++◌,
-  length,
-  refl,
-  sym,
-  ap,
-  ◌∙◌,
-  subst,
-  arith,
-  append_assoc,
-}
+use Rattle.std.proofs.Common.{◌≡◌, ◌≢◌, ℕ, ◌+◌, Bool, true, false, Option, Some, None, List, [], ◌∷◌, ◌++◌, refl, ◌∙◌, arith}
 use Rattle.std.specs.Prelude.{count_by}
 use Rattle.wq_words.specs.declared.event.Event.{Event}
 use Rattle.wq_words.specs.declared.event.Event.TheVariants.{Take, Close, Begin, End}
@@ -35,7 +9,6 @@ use Rattle.wq_words.proofs.Seen.{own-append, own_none}
 use Rattle.wq_words.specs.Counting.{is_chain, is_chain_busy}
 use Rattle.wq_live.specs.Batch.{next_of}
 use Rattle.wq_worker.specs.Seats.{taking, taking_of}
-use Rattle.wq_worker.specs.Rows.{none}
 use Rattle.wq_words.proofs.Appended.{count_by-append}
 
 -- the sender s made none of these events, the owner chained nothing by them, and closed so often

@@ -1,75 +1,28 @@
 -- A history in which the seats of a race did what they do.
-use Rattle.std.proofs.Common.{
-  ◌≡◌,
-  ℕ,
-  zero,
-  suc,
-  ◌+◌,
-  ◌*◌,
-  ◌<◌,
-  ◌≤◌,
-  Bool,
-  false,
-  cond,
-  eqb,
-  List,
-  [],
-  ◌∷◌,
-  ◌++◌,
-  length,
-  inl,
-  inr,
-  refl,
-  sym,
-  ap,
-  ◌∙◌,
-  subst,
-  arith,
-  eq-eqb,
-  length-append,
-  nat_lt,
-}
+use Rattle.std.proofs.Common.{◌≡◌, ℕ, zero, suc, ◌+◌, ◌*◌, ◌<◌, ◌≤◌, Bool, false, cond, List, [], ◌∷◌, length, refl, sym, ap, ◌∙◌, subst, arith, eq-eqb}
 use Rattle.std.specs.Prelude.{count_by}
 use Rattle.std.specs.List.{AllByRecursion}
-use Rattle.std.proofs.lemmas.Bool.{cases_lt, lt-ltb, le-ltb}
-use Rattle.std.proofs.lemmas.List.Elements.{filter_map-append, filter-append}
 use Rattle.std.proofs.lemmas.List.FromFn.{length-range_with_len}
 use Rattle.std.proofs.lemmas.List.Sums.{sum_by-cons}
 use Rattle.wq_words.specs.declared.layout.Layout.{Layout}
 use Rattle.wq_words.specs.declared.event.Event.{Event}
-use Rattle.wq_words.specs.declared.event.Event.TheVariants.{Hold, Busy, Push, Back, Take, Close, Begin, End, Chain, ChainBusy, Rest}
+use Rattle.wq_words.specs.declared.event.Event.TheVariants.{Hold, Busy, Push, Back}
 use Rattle.wq_words.specs.declared.event.Why.TheVariants as why
-use Rattle.wq_words.specs.Numbers.{stop_number}
-use Rattle.wq_words.specs.History.{accepted_by, accepted}
+use Rattle.wq_words.specs.History.{accepted}
 use Rattle.wq_words.specs.Legal.{IsLegal}
 use Rattle.wq_words.specs.Seen.{owner_seat, seat_of, own}
 use Rattle.wq_words.proofs.Seen.{count_own}
 use Rattle.wq_words.specs.Counting.{is_queued_by, is_chain}
 use Rattle.wq_worker.specs.State.{items_among}
 use Rattle.wq_worker.specs.Follow.{Follows}
-use Rattle.wq_worker.proofs.State.{items_among-item, items_among-other}
 use Rattle.wq_worker.proofs.Pushes.{is_queued_below, below_more, below_none}
 use Rattle.wq_race.specs.Plan.{IsLayoutOf}
 use Rattle.wq_race.specs.Race.{items_at, IsOfStop}
 use Rattle.wq_race.specs.Outcome.{queueings}
 use Rattle.wq_race.proofs.Running.{own_room}
+use Rattle.wq_race.proofs.Pushed.{IsShared, has_chain, Whose, plans, workers, programs, whose, seat_few, of_stop, below_items, stop_high, items_pushed}
 use Rattle.wq_words.proofs.Counting.{queued_own as push_own}
-use Rattle.wq_race.proofs.Events.{
-  Has,
-  has_own,
-  own_has,
-  busy_set,
-  IsSet,
-  by_hold,
-  by_chain,
-  hold_seat,
-  push_seat,
-  row_number,
-  IsWithin,
-  row_apart,
-  row_pushed,
-  same_row,
-}
+use Rattle.wq_race.proofs.Events.{Has, has_own, own_has, busy_set, IsSet, by_hold, by_chain, hold_seat, row_number, IsWithin, row_apart, row_pushed, same_row}
 
 -- n senders queued m items each, and no seat but theirs, the program's and the owner's made an event
 pub record IsRace (n m : ℕ) (layout : Layout) (h : List Event) : Type 0 where
@@ -81,32 +34,6 @@ pub record IsRace (n m : ℕ) (layout : Layout) (h : List Event) : Type 0 where
   pub unsent : own n h ≡ []
   pub unchained : count_by is_chain h ≡ 0
   pub stops : AllByRecursion (IsOfStop layout) (own (n + 1) h)
-
-has_chain : (k : ℕ) (h : List Event) → Has (Chain k) h → 0 < count_by is_chain h
-has_chain k [] has = absurd has
-has_chain k (x ∷ xs) (inl is) = let one : cond {A = ℕ} (is_chain x) 1 0 ≡ 1 = ap (λ (e : Event). cond {A = ℕ} (is_chain e) 1 0) (sym is) in
-    omega (arith, one, sum_by-cons (λ e. cond (is_chain e) 1 0) x xs)
-has_chain k (x ∷ xs) (inr has) = omega (arith, has_chain k xs has, sum_by-cons (λ e. cond (is_chain e) 1 0) x xs)
-
-stop_of : (layout : Layout) (e : Event) (es : List Event) → AllByRecursion (IsOfStop layout) es → Has e es → IsOfStop layout e
-stop_of layout e [] all has = absurd has
-stop_of layout e (x ∷ xs) all (inl is) = subst (IsOfStop layout) (sym is) all.0
-stop_of layout e (x ∷ xs) all (inr has) = stop_of layout e xs all.1 has
-
--- a sender's seat is one of the plan's, the worker's or the program's
-data Whose (n s : ℕ) : Type 0 where
-  plans : s < n → Whose n s
-  workers : s ≡ n → Whose n s
-  programs : s ≡ n + 1 → Whose n s
-
-whose : (n s : ℕ) → s < n + 2 → Whose n s
-whose n s lt = elim (cases_lt s n) [
-  | inl less ↦ plans less
-  | inr ge ↦ elim (cases_lt n s) [
-    | inl more ↦ programs (omega (arith, lt, more))
-    | inr le ↦ workers (omega (arith, ge, le))
-  ]
-]
 
 pub queued_own : (s : ℕ) (h : List Event) → count_by (is_queued_by s) h ≡ count_by (is_queued_by s) (own s h)
 queued_own s h = count_own (is_queued_by s) s (push_own s) h
@@ -125,20 +52,18 @@ length-queueings s [] = refl
 length-queueings s (k ∷ ks) = omega (arith, length-queueings s ks)
 
 module _ (n m : ℕ) (layout : Layout) (h : List Event) (r : IsRace n m layout h) where
-  seat_few : (s : ℕ) → s < layout.senders → s < n + 2
-  seat_few s lt = omega (arith, lt, r.sized.senders_is)
+  is_shared : IsShared n m layout h
+  is_shared = record {
+    sized = r.sized;
+    legal = r.legal;
+    queued = r.queued;
+    unpushed = queued_own n h ∙ ap (count_by (is_queued_by n)) r.unsent;
+    unchained = r.unchained;
+    stops = r.stops;
+  }
 
   nothing_sent : (e : Event) → seat_of e ≡ n → Has e h → ⊥
   nothing_sent e at has = subst (Has e) (ap (λ (c : ℕ). own c h) at ∙ r.unsent) (has_own e h has)
-
-  of_stop : (e : Event) → seat_of e ≡ n + 1 → Has e h → IsOfStop layout e
-  of_stop e at has = stop_of layout e (own (n + 1) h) r.stops (subst (λ (c : ℕ). Has e (own c h)) at (has_own e h has))
-
-  below_items : (s k : ℕ) → s < n → IsWithin (s * m) m k → k < layout.items
-  below_items s k lt w = omega (arith, own_room s n m lt, w.1, r.sized.items_is)
-
-  stop_high : (k : ℕ) → k ≡ stop_number layout → layout.items ≤ k
-  stop_high k is = omega (arith, is)
 
   pub was_free : (s k : ℕ) → s < n → ¬ Has (Busy s k) (own s h)
   was_free s k lt has = each (busy_set layout s k h r.legal (own_has s (Busy s k) h has))
@@ -152,10 +77,10 @@ module _ (n m : ℕ) (layout : Layout) (h : List Event) (r : IsRace n m layout h
           let same : s ≡ t = same_row s t m k mine (row_number layout.items t (t * m) m (Hold t k) (own t h) (r.queued t low) at) in
           row_apart layout.items s (s * m) m t s k (own s h) (r.queued s lt) (subst (λ (c : ℕ). Has (Hold t k) (own c h)) (sym same) at) has
       by t hold (workers is) = nothing_sent (Hold t k) is hold
-      by t hold (programs is) = let high = stop_high k (of_stop (Hold t k) is hold) in omega (arith, high, below_items s k lt mine)
+      by t hold (programs is) = let high = stop_high n m layout h is_shared k (of_stop n m layout h is_shared (Hold t k) is hold) in omega (arith, high, below_items n m layout h is_shared s k lt mine)
 
       each : IsSet k h → ⊥
-      each (by_hold t hold) = by t hold (whose n t (seat_few t (hold_seat layout t k h r.legal hold)))
+      each (by_hold t hold) = by t hold (whose n t (seat_few n m layout h is_shared t (hold_seat layout t k h r.legal hold)))
       each (by_chain chain) = omega (arith, has_chain k h chain, r.unchained)
 
   -- each sender's items were found free on an open queue
@@ -165,44 +90,6 @@ module _ (n m : ℕ) (layout : Layout) (h : List Event) (r : IsRace n m layout h
     own_room s n m lt,
     r.sized.items_is,
   )) (λ k. was_free s k lt) (λ k. r.opens s k lt) (r.queued s lt)
-
-  agree : (e : Event) → Has e h → length (items_among layout (accepted (e ∷ []))) ≡ cond (is_queued_below n e) 1 0
-  agree (Push t k) has = each (whose n t (seat_few t (push_seat layout t k h r.legal has)))
-    where
-      each : Whose n t → length (items_among layout (k ∷ [])) ≡ cond (nat_lt t n) 1 0
-      each (plans low) =
-          let w = row_number layout.items t (t * m) m (Push t k) (own t h) (r.queued t low) (has_own (Push t k) h has) in
-          ap length (items_among-item layout k (below_items t k low w)) ∙ sym (ap (λ (b : Bool). cond b 1 0) (lt-ltb t n low))
-      each (workers is) = absurd (nothing_sent (Push t k) is has)
-      each (programs is) =
-          let past : n ≤ t = omega (arith, is) in
-          ap length (items_among-other layout k (stop_high k (of_stop (Push t k) is has))) ∙ sym (ap (λ (b : Bool). cond b 1 0) (le-ltb t n past))
-  agree (Chain k) has = absurd (omega (arith, has_chain k h has, r.unchained))
-  agree (Hold s k) has = refl
-  agree (Busy s k) has = refl
-  agree (Back s k w) has = refl
-  agree Take has = refl
-  agree Close has = refl
-  agree (Begin k) has = refl
-  agree (End k) has = refl
-  agree (ChainBusy k) has = refl
-  agree Rest has = refl
-
-  items_counted : (es : List Event) → ((e : Event) → Has e es → length (items_among layout (accepted (e ∷ []))) ≡ cond (is_queued_below n e) 1 0)
-      → length (items_among layout (accepted es)) ≡ count_by (is_queued_below n) es
-  items_counted [] all = refl
-  items_counted (e ∷ es) all =
-      let one = all e (inl refl) in let rest = items_counted es (λ f has. all f (inr has)) in
-      let parts : items_among layout (accepted (e ∷ es)) ≡ items_among layout (accepted (e ∷ [])) ++ items_among layout (accepted es) =
-      ap (items_among layout) (filter_map-append accepted_by (e ∷ []) es) ∙ filter-append (λ k. nat_lt k layout.items) (accepted (e ∷ [])) (accepted es) in
-      omega (
-        arith,
-        ap length parts,
-        length-append (items_among layout (accepted (e ∷ []))) (items_among layout (accepted es)),
-        one,
-        rest,
-        sum_by-cons (λ x. cond (is_queued_below n x) 1 0) e es,
-      )
 
   queued_counted : (s : ℕ) → s < n → count_by (is_queued_by s) h ≡ m
   queued_counted s lt = queued_own s h ∙ (ap (count_by (is_queued_by s)) (was_queued s lt) ∙ (pushes s (items_at s m) ∙ length-range_with_len (s * m) m))
@@ -217,4 +104,4 @@ module _ (n m : ℕ) (layout : Layout) (h : List Event) (r : IsRace n m layout h
 
   -- as many items were accepted as the senders have
   pub all_accepted : length (items_among layout (accepted h)) ≡ n * m
-  all_accepted = items_counted h agree ∙ below_counted n (omega arith)
+  all_accepted = items_pushed n m layout h is_shared ∙ below_counted n (omega arith)

@@ -1,5 +1,5 @@
 -- The line that tells the outcome of a race, what its numbers mean, and how it was found.
-use Rattle.std.specs.Prelude.{◌≡◌, ℕ, ◌*◌, ◌^◌, ◌<◌, Bool, true, false, List, [], ◌∷◌, ◌++◌, length, codes, count_by, All, slice_index_or}
+use Rattle.std.specs.Prelude.{◌≡◌, ℕ, ◌*◌, ◌<◌, Bool, true, false, List, [], ◌∷◌, ◌++◌, length, codes, count_by, sum_by, slice_index_or}
 use Rattle.std.specs.Fmt.{decimal}
 use mathlib.Core.List.{IsPrefix}
 use Rattle.wq_words.specs.declared.event.Event.{Event}
@@ -112,7 +112,6 @@ pub record HasHeard (old new : BookState) : Type 0 where
   pub begins : IsPrefix old.seen new.seen
   pub idle : own owner_seat new.seen ≡ own owner_seat old.seen
 
--- what the senders have queued in all, where each has queued as many
-abbrev pub IsQueuedSum : List Known → ℕ → Type 0
-IsQueuedSum senders sum =
-    (own : ℕ) → All (λ s. (sender_counts s.number s.seen).queued ≡ own) senders → length senders * own < 2 ^ 128 → sum ≡ length senders * own
+-- what the senders have queued in all, by their counts
+abbrev pub queued_sum : List Known → ℕ
+queued_sum senders = sum_by (λ s. (sender_counts s.number s.seen).queued) senders

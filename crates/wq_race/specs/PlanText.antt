@@ -28,13 +28,13 @@ pub record HasKeys (d : Data) : Type 0 where
 abbrev pub whole_number_at : List ℕ → Data → Option ℕ
 whole_number_at key d = option_and_then as_u64 (option_and_then as_number (get key d))
 
--- one queue with one worker, and the senders of the plan with their items
+-- these are the plan's queues, workers, senders and own items
 pub record IsPlan (d : Data) (plan : Plan) : Type 0 where
-  pub queues : whole_number_at (codes "queues") d ≡ Some 1
-  pub workers : whole_number_at (codes "workers") d ≡ Some 1
+  pub queues : whole_number_at (codes "queues") d ≡ Some plan.queues
+  pub workers : whole_number_at (codes "workers") d ≡ Some plan.workers
   pub senders : whole_number_at (codes "senders") d ≡ Some plan.senders
   pub own : whole_number_at (codes "own") d ≡ Some plan.own
-  pub in_limits : AreInPlanLimits plan.senders plan.own
+  pub in_limits : AreInPlanLimits plan.queues plan.workers plan.senders plan.own
 
 -- the text is short enough, and this is what it says as JSON
 pub record Says (text : List ℕ) (d : Data) : Type 0 where

@@ -10,7 +10,7 @@ use Rattle.wq_words.specs.History.{IsRunning, is_close, ended}
 use Rattle.wq_words.specs.Legal.{IsLegal}
 use Rattle.wq_words.specs.Seen.{own, Grows}
 use Rattle.wq_live.specs.declared.sender.Sender.{Sender}
-use Rattle.wq_live.specs.Known.{Known, IsSame}
+use Rattle.wq_live.specs.Known.{QueueId, Known, IsSame}
 use Rattle.wq_words.specs.Counting.{is_chain, is_chain_busy}
 use Rattle.wq_worker.specs.Follow.{Follows}
 use Rattle.wq_worker.specs.State.{WorkerState}
@@ -76,19 +76,20 @@ pub record AllQueued (own : ℕ) (olds news : List Known) : Type 0 where
   pub each : (i : ℕ) (d : Known) → i < length olds → HasQueued (items_at (slice_index_or olds i d).number own) (slice_index_or olds i d)
       (slice_index_or news i d)
 
--- The sender of this number, of the queue of the worker: its events are the queueings of its own items.
-pub record IsQueuer (own_items : ℕ) (worker : WorkerState Idle) (i : ℕ) (s : Known) : Type 0 where
+-- The sender of this number, of this queue of this size: its events are the queueings of its own items.
+pub record IsQueuer (own_items : ℕ) (queue : QueueId) (layout : Layout) (i : ℕ) (s : Known) : Type 0 where
   pub number_is : s.number ≡ i
-  pub queue_is : s.queue ≡ worker.queue
-  pub layout_is : s.layout ≡ worker.layout
-  pub queued : Follows worker.layout.items i false (items_at i own_items) (own i s.seen)
+  pub queue_is : s.queue ≡ queue
+  pub layout_is : s.layout ≡ layout
+  pub queued : Follows layout.items i false (items_at i own_items) (own i s.seen)
 
 -- A team whose threads have ended: each of the plan's senders queued its own items, the program's tried to queue the stop
 -- item, and the worker served an open queue until the stop item had ended.
 pub record HasRun (plan : Plan) (team : Team) : Type 0 where
   pub layout : IsLayoutOf plan.senders plan.own team.worker.layout
   pub count : length team.senders.items ≡ plan.senders
-  pub each : (i : ℕ) (d : Known) → i < plan.senders → IsQueuer plan.own team.worker i (slice_index_or team.senders.items i d)
+  pub each : (i : ℕ) (d : Known) → i < plan.senders
+      → IsQueuer plan.own team.worker.queue team.worker.layout i (slice_index_or team.senders.items i d)
   pub number_is : team.worker.number ≡ plan.senders
   pub unsent : own plan.senders team.worker.seen ≡ []
   pub unchained : count_by is_chain team.worker.seen ≡ 0

@@ -8,10 +8,12 @@ mod plan_text;
 mod race;
 mod team;
 
-pub use outcome::Outcome;
+pub use idle::Idle;
+pub use outcome::{Outcome, enter, enter_all, is_balanced, queued_by};
 pub use plan::Plan;
 pub use plan_text::{PlanError, read_plan};
-pub use race::{RaceError, run_plan};
+pub use race::{RaceError, queue_stop, run_plan};
+pub use team::Team;
 
 #[cfg(test)]
 mod tests;

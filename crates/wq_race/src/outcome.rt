@@ -6,7 +6,7 @@ ghost use Rattle.wq_words.specs.Seen.{owner_seat, own};
 ghost use Rattle.wq_worker.specs.Book.{IsLedgerOf};
 ghost use Rattle.wq_worker.specs.Balance.{Balances, IsUnbalanced};
 ghost use Rattle.wq_race.specs.Race.{HasRun};
-ghost use Rattle.wq_race.specs.Outcome.{outcome_line, yes_or_no as said, Tells, IsWhole, HasMet, AllKnown, HasGoneOn, HasEnded, HasHeard, ledger_of, IsTold, IsQueuedSum};
+ghost use Rattle.wq_race.specs.Outcome.{outcome_line, yes_or_no as said, Tells, IsWhole, HasMet, AllKnown, HasGoneOn, HasEnded, HasHeard, ledger_of, IsTold, queued_sum};
 
 use crate::idle::Idle;
 use crate::plan::Plan;
@@ -24,8 +24,12 @@ pub struct Outcome {
     pub is_balanced: bool,
 }
 
-// The book meets a sender, whose ledger comes behind the others.
-fn enter(book: &mut Book, ledgers: &mut Vec<Ledger>, sender: &mut Sender) -> Result<(), AllocError>
+/// The book meets a sender, whose ledger comes behind the others.
+pub fn enter(
+    book: &mut Book,
+    ledgers: &mut Vec<Ledger>,
+    sender: &mut Sender,
+) -> Result<(), AllocError>
     requires one { sender.old.queue ≡ book.old.queue }
     requires made { All (IsLedgerOf book.old.seen) ledgers.old.items }
     ensures book { HasHeard book.old book.new }
@@ -38,8 +42,8 @@ fn enter(book: &mut Book, ledgers: &mut Vec<Ledger>, sender: &mut Sender) -> Res
     Ok(())
 }
 
-// A ledger for each of these senders.
-fn enter_all(
+/// A ledger for each of these senders.
+pub fn enter_all(
     book: &mut Book,
     ledgers: &mut Vec<Ledger>,
     senders: Vec<Sender>,
@@ -97,19 +101,19 @@ fn destroy<R: Wait>(rt: &R, mut worker: Worker<Idle>) -> (Idle, Book)
     unreachable!()
 }
 
-// How many items these senders queued.
-fn queued_by(senders: &[Sender]) -> u128
-    ensures { IsQueuedSum senders.now result }
+/// How many items these senders queued.
+pub fn queued_by(senders: &[Sender]) -> u128
+    ensures { result ≡ queued_sum senders.now }
 {
     let mut queued = 0u128;
     for sender in senders {
-        queued = queued.saturating_add(u128::from(sender.counts().queued));
+        queued += u128::from(sender.counts().queued);
     }
     queued
 }
 
-// Whether the ledgers balance.
-fn is_balanced(book: &Book, ledgers: &[Ledger]) -> bool
+/// Whether the ledgers balance.
+pub fn is_balanced(book: &Book, ledgers: &[Ledger]) -> bool
     requires { All (IsLedgerOf book.now.seen) ledgers.now }
     ensures { MatchBool result ((totals : Totals) × Balances book.now ledgers.now totals) ((fault : Unbalanced) × IsUnbalanced book.now ledgers.now fault) }
 {

@@ -12,6 +12,10 @@ use thiserror::Error;
 /// The longest text of a plan, in bytes.
 const MOST_BYTES: usize = 65_536;
 
+const MOST_QUEUES: u64 = 8;
+
+const MOST_WORKERS: u64 = 8;
+
 const MOST_SENDERS: u64 = 32;
 
 /// Over all senders.
@@ -83,7 +87,7 @@ fn plan_of(value: &Value) -> Option<Plan>
     let workers = number_at(value, "workers")?;
     let senders = number_at(value, "senders")?;
     let own = number_at(value, "own")?;
-    if queues != 1 || workers != 1 {
+    if queues < 1 || queues > MOST_QUEUES || workers < 1 || workers > MOST_WORKERS {
         return None;
     }
     if senders < 1 || senders > MOST_SENDERS || own < 1 || own > MOST_ITEMS {
@@ -93,6 +97,8 @@ fn plan_of(value: &Value) -> Option<Plan>
         return None;
     }
     Some(Plan {
+        queues: queues as u32,
+        workers: workers as u32,
         senders: senders as u32,
         own: own as u32,
     })

@@ -103,25 +103,36 @@ fn request_stop(program: &mut Sender) -> Answer
 }
 
 // Tries to queue the stop item, so often that it is queued.
-fn try_stop(program: &mut Sender) -> bool
+fn try_stop(program: &mut Sender) -> Answer
     ensures { HasStopped (2 * 2 ^ 32) program.old program.new }
 {
     for _ in 0..u32::MAX {
-        if request_stop(program) != Answer::Contended {
-            return true;
+        let answer = request_stop(program);
+        if answer != Answer::Contended {
+            return answer;
         }
     }
-    false
+    Answer::Contended
 }
 
-// Queues the stop item, and wakes the worker. Where all tries were in vain, nothing could stop the worker.
-pub(crate) fn stop<R: Wait>(rt: &R, program: &mut Sender, unparker: &Unparker)
+/// Queues the stop item, by the program's sender. Where all tries were in vain it waits for ever, since nothing could stop the
+/// worker.
+pub fn queue_stop<R: Wait>(rt: &R, program: &mut Sender) -> Answer
     ensures { HasStopped (2 * 2 ^ 32) program.old program.new }
 {
-    if !try_stop(program) {
+    let answer = try_stop(program);
+    if answer == Answer::Contended {
         for _ in rt.forever() {}
         unreachable!()
     }
+    answer
+}
+
+// Queues the stop item, and wakes the worker.
+pub(crate) fn stop<R: Wait>(rt: &R, program: &mut Sender, unparker: &Unparker)
+    ensures { HasStopped (2 * 2 ^ 32) program.old program.new }
+{
+    queue_stop(rt, program);
     unparker.unpark();
 }
 
@@ -325,7 +336,7 @@ pub(crate) fn run_team<R: Threads + Wait + Sync>(
     )
 }
 
-/// Runs a plan. Each sender is a thread that queues its own items in order, once each, and wakes the worker, which serves in
+/// Runs a plan on one queue with one worker, whatever its `queues` and `workers`. Each sender is a thread that queues its own items in order, once each, and wakes the worker, which serves in
 /// a thread of its own until the stop item; that is queued when all senders have ended. The queue is then destroyed.
 ///
 /// # Errors

@@ -16,7 +16,12 @@ use wq_live::Sender;
 /// How often it is looked whether the worker has begun an item.
 const LOOKS: u32 = 1_000_000;
 
-const PLAN: Plan = Plan { senders: 4, own: 8 };
+const PLAN: Plan = Plan {
+    queues: 1,
+    workers: 1,
+    senders: 4,
+    own: 8,
+};
 
 fn team_of<R: Abort>(rt: &R, alloc: Global, plan: Plan) -> Team
     ensures { IsNewTeam plan result }
@@ -137,6 +142,8 @@ fn worker_runs_beside_the_senders(rt: HostRuntime) {
     let mut begun = 0u32;
     for _ in 0..20u32 {
         let plan = Plan {
+            queues: 1,
+            workers: 1,
             senders: 4,
             own: 1024,
         };

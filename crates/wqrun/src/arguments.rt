@@ -70,14 +70,15 @@ Example:
     Row {
         name: "live",
         kind: Kind::Live,
-        about: "Runs a queue by live threads and prints whether its book balances",
+        about: "Runs queues by live threads and prints whether their books balance",
         file: "The path of a plan: a JSON object of four fields",
         more: "\
-Fields: queues and workers, which are 1; senders, 1 to 32, each a thread;
-  own, the items that each sender queues, 1 to 4096, and at most 4096 over all senders.
+Fields: queues, 1 to 8; workers, 1 to 8, the threads that serve them; senders, 1 to 32,
+  each a thread; own, the items that each sender queues on each queue, 1 to 4096, and at
+  most 4096 over all senders.
 
 Example:
-  echo '{\"queues\":1,\"workers\":1,\"senders\":4,\"own\":64}' | wqrun live /dev/stdin",
+  echo '{\"queues\":2,\"workers\":2,\"senders\":4,\"own\":64}' | wqrun live /dev/stdin",
     },
 ];
 

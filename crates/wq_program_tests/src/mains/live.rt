@@ -30,6 +30,46 @@ fn four_senders(rt: HostRuntime) -> Result<(), Fail> {
     Ok(())
 }
 
+/// Plans of several queues, several workers, or both, the largest among them.
+#[test]
+fn pools(rt: HostRuntime) -> Result<(), Fail> {
+    let rows: [(&[u8], &[u8]); 6] = [
+        (
+            b"{\"queues\":2,\"workers\":2,\"senders\":4,\"own\":64}",
+            b"accepted 512 ran 512 balanced yes\n",
+        ),
+        (
+            b"{\"queues\":1,\"workers\":2,\"senders\":4,\"own\":64}",
+            b"accepted 256 ran 256 balanced yes\n",
+        ),
+        (
+            b"{\"queues\":2,\"workers\":1,\"senders\":4,\"own\":64}",
+            b"accepted 512 ran 512 balanced yes\n",
+        ),
+        (
+            b"{\"queues\":1,\"workers\":8,\"senders\":1,\"own\":1}",
+            b"accepted 1 ran 1 balanced yes\n",
+        ),
+        (
+            b"{\"queues\":8,\"workers\":1,\"senders\":1,\"own\":4096}",
+            b"accepted 32768 ran 32768 balanced yes\n",
+        ),
+        (
+            b"{\"queues\":8,\"workers\":8,\"senders\":32,\"own\":128}",
+            b"accepted 32768 ran 32768 balanced yes\n",
+        ),
+    ];
+    for (text, line) in rows {
+        for turn in 0..10u32 {
+            let (status, output, faults) = run(&rt, rt.alloc(), text);
+            assert_eq!(rt; status, 0, "{turn}");
+            assert_eq!(rt; output.as_slice(), line, "{turn}");
+            assert!(rt; faults.is_empty(), "{turn}");
+        }
+    }
+    Ok(())
+}
+
 /// Twenty races each of as many senders as there may be, and of as many items.
 #[test]
 fn twenty_races(rt: HostRuntime) -> Result<(), Fail> {
@@ -55,7 +95,7 @@ fn twenty_races(rt: HostRuntime) -> Result<(), Fail> {
 
 #[test]
 fn refusals(rt: HostRuntime) -> Result<(), Fail> {
-    let rows: [(&[u8], &[u8]); 13] = [
+    let rows: [(&[u8], &[u8]); 16] = [
         (b"[]", b"plan: Keys\n"),
         (b"null", b"plan: Keys\n"),
         (b"1", b"plan: Keys\n"),
@@ -77,7 +117,19 @@ fn refusals(rt: HostRuntime) -> Result<(), Fail> {
             b"plan: Limits\n",
         ),
         (
-            b"{\"queues\":2,\"workers\":1,\"senders\":2,\"own\":1}",
+            b"{\"queues\":0,\"workers\":1,\"senders\":2,\"own\":1}",
+            b"plan: Limits\n",
+        ),
+        (
+            b"{\"queues\":9,\"workers\":1,\"senders\":2,\"own\":1}",
+            b"plan: Limits\n",
+        ),
+        (
+            b"{\"queues\":1,\"workers\":0,\"senders\":2,\"own\":1}",
+            b"plan: Limits\n",
+        ),
+        (
+            b"{\"queues\":1,\"workers\":9,\"senders\":2,\"own\":1}",
             b"plan: Limits\n",
         ),
         (

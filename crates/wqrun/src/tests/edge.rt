@@ -96,7 +96,7 @@ fn help_and_refused_words(rt: HostRuntime) -> std::result::Result<(), Fail> {
         ("script", "modify K D"),
         ("steps", "o turn K L"),
         ("steps", "o rest"),
-        ("live", "own"),
+        ("live", "workers, 1 to 8"),
     ] {
         let line = format!(in rt.alloc(); "wqrun {command} --help")?;
         let help = run_words(&rt, rt.alloc(), Ok(words_of(rt.alloc(), &line)?));

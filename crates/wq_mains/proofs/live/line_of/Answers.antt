@@ -9,5 +9,6 @@ returns-clause-line g c =
       spells = c.in_ok-plan.ensures.exact;
       outcome = o;
       whole = c.in_ok-outcome.ensures.whole;
+      pooled = c.in_ok-outcome.ensures.pooled;
       line_is = c.in_ok-write.ensures.line ∙ ap (λ (old : List ℕ). old ++ outcome_line o) c.new-line.ensures.bytes;
     }

@@ -1,4 +1,4 @@
-use Rattle.std.proofs.Common.{◌≡◌, ℕ, ◌*◌, ◌^◌, sym, subst}
+use Rattle.std.proofs.Common.{◌*◌, ◌^◌, subst}
 use Rattle.wq_worker.specs.State.{WorkerState}
 use Rattle.wq_live.specs.Known.{Known}
 use Rattle.wq_race.specs.declared.idle.Idle.{Idle}

@@ -8,16 +8,16 @@ loop-init c = stopped_fewer 0 0 c.args.program.now c.args.program.now (omega ari
 pub returns-then-ne : goal.returns-then-ne
 returns-then-ne c =
     let n = c.loop.counter in
-    stopped_fewer (2 * n + 2) 8589934592 c.args.program.now c.request_stop.new.program (omega (
+    stopped_fewer (2 * n + 2) 8589934592 c.args.program.now c.request_stop-answer.new.program (omega (
       arith,
       c.loop-test.true,
-    )) (stopped_more (2 * n) c.args.program.now c.loop.program c.request_stop.new.program c.loop.invariant c.request_stop.ensures)
+    )) (stopped_more (2 * n) c.args.program.now c.loop.program c.request_stop-answer.new.program c.loop.invariant c.request_stop-answer.ensures)
 
 pub loop-preserved : goal.loop-preserved
 loop-preserved c =
     let n = c.loop.counter in
-    stopped_fewer (2 * n + 2) (2 * (n + 1)) c.args.program.now c.request_stop.new.program (omega arith)
-    (stopped_more (2 * n) c.args.program.now c.loop.program c.request_stop.new.program c.loop.invariant c.request_stop.ensures)
+    stopped_fewer (2 * n + 2) (2 * (n + 1)) c.args.program.now c.request_stop-answer.new.program (omega arith)
+    (stopped_more (2 * n) c.args.program.now c.loop.program c.request_stop-answer.new.program c.loop.invariant c.request_stop-answer.ensures)
 
 pub returns : goal.returns
 returns c = stopped_fewer (2 * c.loop.counter) 8589934592 c.args.program.now c.loop.program (omega (arith, c.loop.auto.counter-end)) c.loop.invariant

@@ -1,4 +1,4 @@
-use Rattle.std.proofs.Common.{◌≡◌, ℕ, ◌*◌, List, [], ◌∷◌, ◌++◌, length, sym, ap, ◌∙◌, subst, arith}
+use Rattle.std.proofs.Common.{◌≡◌, ℕ, ◌*◌, List, [], ◌∷◌, ◌++◌, length, sym, ap, ◌∙◌, subst}
 use Rattle.wq_words.specs.Seen.{own}
 use Rattle.wq_words.proofs.Seen.{running_same}
 use Rattle.wq_live.specs.Known.{Known}
@@ -7,7 +7,7 @@ use Rattle.std.specs.Prelude.{All}
 use Rattle.wq_live.specs.Counts.{sender_counts}
 use Rattle.wq_race.specs.Outcome.{IsWhole, ledger_of}
 use Rattle.wq_words.proofs.Prefixes.{prefix_on}
-use Rattle.wq_race.proofs.Booking.{heard_on}
+use Rattle.wq_race.proofs.Booking.{heard_on, sum_same}
 use Rattle.wq_race.proofs.Ended.{IsOver, surely, never_unbalanced, tells, ran_all, all_counted, senders_count}
 use Rattle.wq_race.proofs.outcome.Outcome.of.Goals as goal
 
@@ -46,7 +46,8 @@ returns g c = record {
       let never = never_unbalanced plan c.args.team w xs work book over c.enter.new.book c.deref-2.result.now made
       (heard_on book c.enter_all.new.book c.enter.new.book first last) (c.deref-2.ensures.value ∙ ledgers) in
       let whole : IsWhole plan _ = record {
-        accepted_is = c.queued_by-accepted.ensures plan.own all (omega (arith, product, plan.in_limits.few_items)) ∙ product;
+        accepted_is = c.queued_by-accepted.ensures
+            ∙ (sum_same (λ (s : Known). (sender_counts s.number s.seen).queued) plan.own c.deref.result.now all ∙ product);
         balanced = surely c.is_balanced.result _ _ c.is_balanced.ensures (λ fault. never fault.0 fault.1);
         ran_is = c.from.ensures ∙ (c.count.ensures.ran ∙ ran_all plan c.args.team w xs work book over);
       } in

@@ -1,0 +1,51 @@
+use Rattle.std.proofs.Common.{◌≢◌, ℕ, ◌<◌, List, length, get_or, set, arith, sym, ap, ◌∙◌, subst}
+use Rattle.std.proofs.lemmas.List.{get_or-set_other, get_or-set_same, get_or_default}
+use Rattle.wq_words.specs.declared.event.Event.{Event}
+use Rattle.wq_words.proofs.Growing.{each_place_more}
+use Rattle.wq_live.specs.Known.{Known}
+use Rattle.wq_race.specs.Outcome.{IsKnown, AllKnown}
+use Rattle.wq_race.proofs.Booking.{heard_still, heard_one, heard_on}
+use Rattle.wq_race.proofs.Meeting.{known_one, known_more}
+use Rattle.wq_pool_race.proofs.Places.{whole_items}
+use Rattle.wq_pool_race.proofs.outcome.meet_all.Goals as goal
+
+pub loop-sender-init : goal.loop-sender-init
+loop-sender-init c = record {
+  book = heard_still c.args.book.now;
+  each = λ i d lt. absurd (omega (arith, lt));
+  rest = λ i d le. ap (λ (xs : List Known). get_or xs i d) c.deref_mut-sender-items.ensures.value;
+}
+
+pub meet-requires : goal.meet-requires
+meet-requires c =
+    let i : ℕ = c.loop-sender.sender-index in
+    sym (c.loop-sender.invariant.book.queue_is ∙ sym (ap (λ (k : Known). k.queue) (c.loop-sender.invariant.rest i c.sender-item.result (omega arith))
+    ∙ c.requires i c.sender-item.result (omega (arith, c.loop-sender-test.true, ap length c.deref_mut-sender-items.ensures.value))))
+
+pub loop-sender-preserved : goal.loop-sender-preserved
+loop-sender-preserved c =
+    let i : ℕ = c.loop-sender.sender-index in let m = c.meet.ensures in
+    let nows : List Known = c.loop-sender.sender-items in let olds : List Known = c.args.senders.now.items in
+    let next : List Event = c.meet.new.self.seen in let k' : Known = c.meet.new.sender in
+    let heard = heard_one c.loop-sender.book c.meet.new.self m.same m.owner in
+    let here : i < length nows = omega (arith, c.loop-sender.auto.sender-items, c.loop-sender-test.true) in
+    record {
+      book = heard_on c.args.book.now c.loop-sender.book c.meet.new.self c.loop-sender.invariant.book heard;
+      each = each_place_more (λ k d. IsKnown next (get_or olds k d) (get_or (set nows i k') k d)) i
+          (λ k d lt. let ne : k ≢ i = omega arith in subst (λ (x : Known). IsKnown next (get_or olds k d) x) (sym (get_or-set_other nows i k k' d ne))
+          (known_more (get_or olds k d) (get_or nows k d) c.loop-sender.book.seen next heard.begins (c.loop-sender.invariant.each k d lt)))
+          (λ d. subst (λ (x : Known). IsKnown next (get_or olds i d) x) (sym (get_or-set_same nows i k' d here))
+          (subst (λ (x : Known). IsKnown next x k') (get_or_default nows i c.sender-item.result d here ∙ c.loop-sender.invariant.rest i d (omega arith))
+          (known_one (get_or nows i c.sender-item.result) k' next m.sender m.both)));
+      rest = λ k d le. let ne : k ≢ i = omega arith in get_or-set_other nows i k k' d ne ∙ c.loop-sender.invariant.rest k d (omega arith);
+    }
+
+pub returns-clause-senders : goal.returns-clause-senders
+returns-clause-senders c =
+    let l = c.loop-sender in let olds = c.args.senders.now.items in let old_size = ap length c.deref_mut-sender-items.ensures.value in
+    let size = l.auto.sender-items ∙ old_size in
+    subst (λ (xs : List Known). AllKnown l.book.seen olds xs)
+    (sym (whole_items c.args.senders.now.len l.sender-items olds (size ∙ sym c.args.senders.now.ok.0))) record {
+      count = size;
+      each = λ i d lt. l.invariant.each i d (omega (arith, lt, old_size, c.loop-sender-test.false));
+    }

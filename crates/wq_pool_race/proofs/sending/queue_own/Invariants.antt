@@ -1,0 +1,12 @@
+use Rattle.std.proofs.Common.{◌-◌}
+use Rattle.std.specs.List.{range_with_len}
+use Rattle.wq_ready.specs.Known.{IsCallerOf}
+use Rattle.wq_race.specs.Race.{HasQueued}
+use Rattle.wq_pool_race.proofs.sending.queue_own.Given as goal
+
+-- the items before this one are queued
+abbrev pub invariant-loop-item : goal.invariant-loop-item
+invariant-loop-item g l = record {
+  caller : IsCallerOf l.pool.ready l.caller;
+  queued : HasQueued (range_with_len l.first (l.item - l.first)) l.fn.sender l.sender;
+}

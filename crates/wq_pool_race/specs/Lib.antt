@@ -1,0 +1,3 @@
+pub mod Teams
+pub mod Race
+pub mod Outcome

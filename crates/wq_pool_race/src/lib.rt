@@ -1,0 +1,10 @@
+//! A race of live threads on several queues: senders that each queue items of their own on every queue, and a pool of workers
+//! that serves them.
+#![tactic(auto)]
+
+mod outcome;
+mod race;
+mod sending;
+mod teams;
+
+pub use race::run_live;
