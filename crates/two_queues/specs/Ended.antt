@@ -23,7 +23,7 @@ pub record IsNewLine (ready : Identity) (line : Line) : Type 0 where
   pub callers : IsCallerOf ready line.first.caller × IsCallerOf ready line.second.caller
 
 -- the same sender has queued these items: just those of them were accepted whose queueing was answered Queued, in this order
-pub record HasQueued (one two : ℕ) (seat : Seat) (told : Told) : Type 0 where
+pub record QueuedBoth (one two : ℕ) (seat : Seat) (told : Told) : Type 0 where
   pub same : IsSame seat.sender told.sender
   pub accepted_is : accepted (own seat.sender.number told.sender.seen) ≡ queued_number one told.one ++ queued_number two told.two
 

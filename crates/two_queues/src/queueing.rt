@@ -5,7 +5,7 @@ ghost use Rattle.wq_words.specs.Seen.{own};
 ghost use Rattle.wq_live.specs.Known.{IsSame};
 ghost use Rattle.wq_live.specs.Laws.{queued_number};
 ghost use Rattle.wq_ready.specs.Known.{IsCallerOf};
-ghost use Rattle.two_queues.specs.Ended.{IsNewLine, HasQueued, HaveQueued};
+ghost use Rattle.two_queues.specs.Ended.{IsNewLine, QueuedBoth, HaveQueued};
 
 use crate::work::Runs;
 use std::sync::Wait;
@@ -56,7 +56,8 @@ fn queue<R: Wait>(rt: &R, pool: &Pool<Runs>, seat: &mut Seat, item: u32) -> Answ
     requires item { item < seat.old.sender.layout.items }
     ensures caller { IsCallerOf pool.now.ready seat.new.caller }
     ensures same { IsSame seat.old.sender seat.new.sender }
-    ensures accepted { accepted (own seat.old.sender.number seat.new.sender.seen) ≡ accepted (own seat.old.sender.number seat.old.sender.seen) ++ queued_number item result }
+    ensures accepted { accepted (own seat.old.sender.number seat.new.sender.seen) ≡ accepted (own seat.old.sender.number seat.old.sender.seen)
+        ++ queued_number item result }
 {
     queued_is_accepted();
     let answer = seat.sender.queue(rt, item);
@@ -72,7 +73,7 @@ fn queue_two<R: Wait>(rt: &R, pool: &Pool<Runs>, mut seat: Seat, one: u32, two: 
     requires one { one < seat.sender.layout.items }
     requires two { two < seat.sender.layout.items }
     requires new { seat.sender.seen ≡ [] }
-    ensures { HasQueued one two seat result }
+    ensures { QueuedBoth one two seat result }
 {
     let first = queue(rt, pool, &mut seat, one);
     let second = queue(rt, pool, &mut seat, two);
@@ -102,11 +103,11 @@ fn queue_both<R: Threads + Wait + Sync>(
         rt,
         move ||
             requires { IsCallerOf pool.now.ready first.caller × (2 ≤ first.sender.layout.items) × (first.sender.seen ≡ []) }
-            ensures { HasQueued 0 1 first result }
+            ensures { QueuedBoth 0 1 first result }
         { queue_two(rt, pool, first, 0, 1) },
         move ||
             requires { IsCallerOf pool.now.ready second.caller × (4 ≤ second.sender.layout.items) × (second.sender.seen ≡ []) }
-            ensures { HasQueued 2 3 second result }
+            ensures { QueuedBoth 2 3 second result }
         { queue_two(rt, pool, second, 2, 3) },
     );
     (told, last)

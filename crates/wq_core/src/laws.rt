@@ -30,7 +30,8 @@ pub fn each_step_keeps_sound()
 pub fn chain_and_batch(core: &Core)
     ensures sound { IsSound core.now }
     ensures chain { ¬ IsClosed core.now.history → IsChain (number_count core.now.layout) core.now.words (link_word (head core.now)) (listed core.now.history) }
-    ensures batch { core.now.cursor ≡ None → core.now.batch ≡ drop (length (begun core.now.history)) (take (taken core.now.history) (accepted core.now.history)) }
+    ensures batch { core.now.cursor ≡ None
+        → core.now.batch ≡ drop (length (begun core.now.history)) (take (taken core.now.history) (accepted core.now.history)) }
 {
     core.sound();
 }
@@ -38,8 +39,10 @@ pub fn chain_and_batch(core: &Core)
 /// A push that wins says that it was the first exactly where nothing was pushed since the last take (`llist_add` answers
 /// true where the list was empty before), and that it wakes exactly where nothing was pushed or taken since the last rest.
 pub fn first_push(core: &Core)
-    ensures first { (s k : ℕ) (p q : Bool) → IsMade core.now (Sender s) (Push k) → reply_to core.now (Sender s) (Push k) ≡ Pushed p q → p ≡ first core.now.history }
-    ensures wakes { (s k : ℕ) (p q : Bool) → IsMade core.now (Sender s) (Push k) → reply_to core.now (Sender s) (Push k) ≡ Pushed p q → q ≡ wakes core.now.history }
+    ensures first { (s k : ℕ) (p q : Bool) → IsMade core.now (Sender s) (Push k)
+        → reply_to core.now (Sender s) (Push k) ≡ Pushed p q → p ≡ first core.now.history }
+    ensures wakes { (s k : ℕ) (p q : Bool) → IsMade core.now (Sender s) (Push k)
+        → reply_to core.now (Sender s) (Push k) ≡ Pushed p q → q ≡ wakes core.now.history }
 {
     core.sound();
 }

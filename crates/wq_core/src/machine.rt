@@ -51,7 +51,8 @@ impl Model for Core {
 
     ghost view = { λ c. stored_machine c.layout c.words.items c.seats.items c.cursor c.walked.items c.batch.items c.history.items };
 
-    ghost invariant = { λ c. IsStored (stored_machine c.layout c.words.items c.seats.items c.cursor c.walked.items c.batch.items c.history.items) c.holders.items c.running };
+    ghost invariant = { λ c. IsStored (stored_machine c.layout c.words.items c.seats.items c.cursor c.walked.items c.batch.items c.history.items)
+        c.holders.items c.running };
 }
 
 impl Core {

@@ -21,7 +21,8 @@ const LONGEST: u64 = 4_294_967_295;
 
 // The tick after a delay, where neither the delay, nor the tick, nor the number of the next arming is too large.
 fn tick_after(now: u64, next: u128, delay: u64) -> Option<u64>
-    ensures far { MatchOption result (is_too_far delay (record { entries = []; tick = now; next = next }) ≡ true) (λ due. is_too_far delay (record { entries = []; tick = now; next = next }) ≡ false) }
+    ensures far { MatchOption result (is_too_far delay (record { entries = []; tick = now; next = next }) ≡ true)
+        (λ due. is_too_far delay (record { entries = []; tick = now; next = next }) ≡ false) }
     ensures due { IfSome result (λ due. due ≡ now + delay) }
 {
     if delay > LONGEST || next > u64::MAX as u128 {
@@ -48,7 +49,8 @@ impl Model for Delay {
 
     ghost view = { λ d. record { sender = d.sender; table = record { entries = d.table.entries; tick = d.table.tick; next = d.next }; looked = d.looked } };
 
-    ghost invariant = { λ d. (d.table.size ≡ d.sender.layout.items) × FitsTable d.sender (record { entries = d.table.entries; tick = d.table.tick; next = d.next }) };
+    ghost invariant = { λ d. (d.table.size ≡ d.sender.layout.items)
+        × FitsTable d.sender (record { entries = d.table.entries; tick = d.table.tick; next = d.next }) };
 }
 
 impl Delay {
@@ -151,7 +153,8 @@ impl Delay {
         requires item { item < self.old.sender.layout.items }
         requires tries { 0 < tries }
         ensures answer { Modifies item delay tries result self.old self.new }
-        ensures contended { result ≡ modified.Contended → on_table item self.old.table.entries ≡ false → IsContended self.old.sender.number item tries self.new.sender.seen }
+        ensures contended { result ≡ modified.Contended → on_table item self.old.table.entries ≡ false
+            → IsContended self.old.sender.number item tries self.new.sender.seen }
         ensures same { IsSame self.old.sender self.new.sender }
         ensures far { (result ≡ modified.TooFar) ↔ IsTrue (is_too_far delay self.old.table) }
         ensures memory { result ≢ modified.Memory }
@@ -192,7 +195,8 @@ impl Delay {
     fn first_due(&mut self) -> Option<u32>
         ensures same { self.new ≡ self.old }
         ensures ordered { IsOrdered self.old.table.entries }
-        ensures first { MatchOption result (due_part self.old.table.tick self.old.table.entries ≡ []) (λ k. IsFirstDue self.old.table.tick k self.old.table.entries) }
+        ensures first { MatchOption result (due_part self.old.table.tick self.old.table.entries ≡ [])
+            (λ k. IsFirstDue self.old.table.tick k self.old.table.entries) }
         ensures low { IfSome result (λ k. k < self.old.sender.layout.items) }
     {
         self.table.first_due()

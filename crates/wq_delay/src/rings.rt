@@ -42,8 +42,10 @@ impl Rings {
         requires place { (place < length self.old.next.items) × (place < length self.old.previous.items) }
         requires next { slice_index self.old.next.items place < length self.old.previous.items }
         requires previous { slice_index self.old.previous.items place < length self.old.next.items }
-        ensures next { self.new.next.items ≡ set (set self.old.next.items (slice_index self.old.previous.items place) (slice_index self.old.next.items place)) place place }
-        ensures previous { self.new.previous.items ≡ set (set self.old.previous.items (slice_index self.old.next.items place) (slice_index self.old.previous.items place)) place place }
+        ensures next { self.new.next.items
+            ≡ set (set self.old.next.items (slice_index self.old.previous.items place) (slice_index self.old.next.items place)) place place }
+        ensures previous { self.new.previous.items
+            ≡ set (set self.old.previous.items (slice_index self.old.next.items place) (slice_index self.old.previous.items place)) place place }
     {
         let after = self.next[place as usize];
         let before = self.previous[place as usize];

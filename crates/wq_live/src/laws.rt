@@ -10,7 +10,8 @@ ghost use Rattle.wq_live.specs.Laws.{queued_number};
 
 /// A queueing that is answered Queued adds its number to what was accepted of its sender; any other answer adds nothing.
 pub fn queued_is_accepted()
-    ensures grows { (k tries : ℕ) (a : Answer) (old new : Known) → Answers k tries a old new → accepted (own old.number new.seen) ≡ accepted (own old.number old.seen) ++ queued_number k a }
+    ensures grows { (k tries : ℕ) (a : Answer) (old new : Known) → Answers k tries a old new
+        → accepted (own old.number new.seen) ≡ accepted (own old.number old.seen) ++ queued_number k a }
 {}
 
 /// Where a seat sees more and makes no event, as at a meeting, its own events are those that it had made.

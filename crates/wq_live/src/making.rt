@@ -31,7 +31,8 @@ impl From<AllocError> for BuildError {
 // A sender in each seat, numbered from 0.
 fn seat_senders(alloc: Global, layout: Layout, seats: Vec<Chair>) -> Result<Vec<Sender>, BuildError>
     requires seats { (queue : TableId) × (seats.items ≡ sender_chairs queue layout layout.senders) }
-    ensures { (queue : TableId) → seats.items ≡ sender_chairs queue layout layout.senders → IfOk result (λ all. all.items ≡ new_senders queue layout layout.senders) }
+    ensures { (queue : TableId) → seats.items ≡ sender_chairs queue layout layout.senders → IfOk result
+        (λ all. all.items ≡ new_senders queue layout layout.senders) }
 {
     let mut senders = Vec::with_capacity(alloc, layout.senders as usize)?;
     let mut number = 0u32;

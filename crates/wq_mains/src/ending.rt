@@ -12,7 +12,8 @@ use std::io::Write;
 // Writes an output, where there is one. An empty one writes nothing; the writer is flushed.
 fn write_output<W: Write>(output: Result<Vec<u8>, Failure>, writer: &mut W) -> Result<(), Failure>
     ensures written { OnOk result (IsOkAnd output (λ bytes. Appends (W.contents writer.old) (W.contents writer.new) bytes.items)) }
-    ensures failed { IfErr result (λ cause. MatchResult output (λ _. cause ≡ Unwritable) (λ failure. cause ≡ failure) × IsUntouched cause writer.old writer.new) }
+    ensures failed { IfErr result
+        (λ cause. MatchResult output (λ _. cause ≡ Unwritable) (λ failure. cause ≡ failure) × IsUntouched cause writer.old writer.new) }
 {
     let output = output?;
     if writer.write_all(&output).is_err() {
@@ -32,7 +33,8 @@ pub fn end<W: Write, F: Write>(
     faults: &mut F,
 ) -> u8
     ensures written { result ≡ 0 → IsOkAnd output (λ bytes. Appends (W.contents writer.old) (W.contents writer.new) bytes.items) }
-    ensures failed { result ≢ 0 → (cause : Cause) × (result ≡ status_of cause) × MatchResult output (λ _. cause ≡ Unwritable) (λ failure. cause ≡ failure) × IsUntouched cause writer.old writer.new }
+    ensures failed { result ≢ 0 → (cause : Cause) × (result ≡ status_of cause)
+        × MatchResult output (λ _. cause ≡ Unwritable) (λ failure. cause ≡ failure) × IsUntouched cause writer.old writer.new }
     ensures status { (result ≡ 0) ⊎ ((result ≡ 1) ⊎ (result ≡ 3)) }
 {
     match write_output(output, writer) {

@@ -53,7 +53,8 @@ pub fn live_main<T: Threads + Wait + Sync, R: Read + Drop, W: Write, F: Write>(
     faults: &mut F,
 ) -> u8
     ensures written { result ≡ 0 → IfSome (R.remaining reader) (λ bytes. Writes Races (plan_read bytes) (W.contents writer.old) (W.contents writer.new)) }
-    ensures failed { result ≢ 0 → (cause : Cause) × (result ≡ status_of cause) × IsUntouched cause writer.old writer.new × IfSome (R.remaining reader) (λ bytes. Fails Races HasNoRace (plan_read bytes) cause) }
+    ensures failed { result ≢ 0 → (cause : Cause) × (result ≡ status_of cause) × IsUntouched cause writer.old writer.new
+        × IfSome (R.remaining reader) (λ bytes. Fails Races HasNoRace (plan_read bytes) cause) }
     ensures status { (result ≡ 0) ⊎ ((result ≡ 1) ⊎ (result ≡ 3)) }
 {
     end(read_line(rt, alloc, reader), writer, faults)

@@ -41,7 +41,8 @@ pub fn script_main<R: Read + Drop, W: Write, F: Write>(
     faults: &mut F,
 ) -> u8
     ensures written { result ≡ 0 → IfSome (R.remaining reader) (λ bytes. Writes Reports (text_read bytes) (W.contents writer.old) (W.contents writer.new)) }
-    ensures failed { result ≢ 0 → (cause : Cause) × (result ≡ status_of cause) × IsUntouched cause writer.old writer.new × IfSome (R.remaining reader) (λ bytes. Fails Reports HasNoReport (text_read bytes) cause) }
+    ensures failed { result ≢ 0 → (cause : Cause) × (result ≡ status_of cause) × IsUntouched cause writer.old writer.new
+        × IfSome (R.remaining reader) (λ bytes. Fails Reports HasNoReport (text_read bytes) cause) }
     ensures status { (result ≡ 0) ⊎ ((result ≡ 1) ⊎ (result ≡ 3)) }
 {
     end(read_report(alloc, reader), writer, faults)

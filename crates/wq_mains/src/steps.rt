@@ -42,7 +42,8 @@ pub fn steps_main<R: Read + Drop, W: Write, F: Write>(
     faults: &mut F,
 ) -> u8
     ensures written { result ≡ 0 → IfSome (R.remaining reader) (λ bytes. Writes Replays (text_read bytes) (W.contents writer.old) (W.contents writer.new)) }
-    ensures failed { result ≢ 0 → (cause : Cause) × (result ≡ status_of cause) × IsUntouched cause writer.old writer.new × IfSome (R.remaining reader) (λ bytes. Fails Replays HasNoOutput (text_read bytes) cause) }
+    ensures failed { result ≢ 0 → (cause : Cause) × (result ≡ status_of cause) × IsUntouched cause writer.old writer.new
+        × IfSome (R.remaining reader) (λ bytes. Fails Replays HasNoOutput (text_read bytes) cause) }
     ensures status { (result ≡ 0) ⊎ ((result ≡ 1) ⊎ (result ≡ 3)) }
 {
     end(read_output(alloc, reader), writer, faults)

@@ -78,7 +78,8 @@ impl<W: Work> Turn<W> {
     /// more is left the turn is given back: after so many executions, or where one is owed.
     pub fn work<G: Gate>(mut self, limit: u32, gate: &G) -> Result<Worked<W>, Turn<W>>
         ensures works { MatchResult result (λ worked. Finishes W.may limit self.worker worked.worker) (λ turn. Pauses W.may limit self.worker turn.worker) }
-        ensures ended { MatchResult result (λ worked. EndsWithin limit self.worker.seen worked.worker.seen) (λ turn. EndsWithin limit self.worker.seen turn.worker.seen) }
+        ensures ended { MatchResult result (λ worked. EndsWithin limit self.worker.seen worked.worker.seen)
+            (λ turn. EndsWithin limit self.worker.seen turn.worker.seen) }
         ensures same { MatchResult result (λ worked. IsSameTurn self worked) (λ turn. IsSameTurn self turn) }
     {
         if !self.runner.work(self.queue, limit, gate) {

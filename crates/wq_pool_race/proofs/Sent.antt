@@ -41,7 +41,8 @@ module _ (plan : Plan) (teams : Teams) (t : AreTeams plan teams) (count : length
           rooms = λ q x few.
               let within : q < length teams.served.items = omega (arith, few, size) in
               let at = t.senders s q someone d x low within in let sized = t.sized q someone within in
-              subst (λ (k : Known). k.number * plan.own + plan.own ≤ k.layout.items) (sym at) (omega (arith, own_room s plan.senders plan.own low, sized.items_is));
+              subst (λ (k : Known). k.number * plan.own + plan.own ≤ k.layout.items) (sym at)
+              (omega (arith, own_room s plan.senders plan.own low, sized.items_is));
         };
         places = omega (arith, t.programs_count, queues, count);
         few = omega (arith, t.programs_count, count, plan.in_limits.few_queues);

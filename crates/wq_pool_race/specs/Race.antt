@@ -26,7 +26,7 @@ pub record AreCallersOf (ready : Identity) (senders : ℕ) (callers : Callers) :
   pub count : length callers.senders.items ≡ senders
 
 -- a group with a sender for some of the pool's queues, each with room for its own items
-pub record IsReady (own_items : ℕ) (pool : PoolState) (group : Group) : Type 0 where
+pub record IsGroupFor (own_items : ℕ) (pool : PoolState) (group : Group) : Type 0 where
   pub places : length group.senders.items ≤ length pool.workers
   pub few : length group.senders.items ≤ 8
   pub rooms : All (λ s. s.number * own_items + own_items ≤ s.layout.items) group.senders.items
@@ -34,7 +34,7 @@ pub record IsReady (own_items : ℕ) (pool : PoolState) (group : Group) : Type 0
 -- groups and the program's senders, with the callers that their threads take
 pub record MayRun (own_items : ℕ) (pool : PoolState) (callers : Callers) (groups : List Group) (programs : List Known) : Type 0 where
   pub called : AreCallersOf pool.ready (length groups) callers
-  pub ready : All (IsReady own_items pool) groups
+  pub ready : All (IsGroupFor own_items pool) groups
   pub places : length programs ≤ length pool.workers
   pub few : length programs ≤ 8
 

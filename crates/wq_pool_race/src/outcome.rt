@@ -78,7 +78,8 @@ fn balance_one(
     mut program: Sender,
 ) -> Result<Outcome, AllocError>
     requires { (plan : Plan) × (id : WorkerId) × IsFinished (λ w. w.ran.items) id (work, book) × IsSent plan id group.senders.items program }
-    ensures { IfOk result (λ outcome. (plan : Plan) (id : WorkerId) → IsFinished (λ w. w.ran.items) id (work, book) → IsSent plan id group.senders.items program → (run : QueueRun) × IsQueueRun plan run × TellsRun run outcome) }
+    ensures { IfOk result (λ outcome. (plan : Plan) (id : WorkerId) → IsFinished (λ w. w.ran.items) id (work, book)
+        → IsSent plan id group.senders.items program → (run : QueueRun) × IsQueueRun plan run × TellsRun run outcome) }
 {
     let Group { mut senders } = group;
     meet_all(&mut book, &mut senders);
@@ -109,8 +110,10 @@ pub(crate) fn balance_all(
     mut by_queue: Vec<Group>,
     mut programs: Vec<Sender>,
 ) -> Result<Outcome, AllocError>
-    requires { (plan : Plan) × (ids : List WorkerId) × (length ids ≤ 8) × AreFinished (λ w. w.ran.items) ids finished.items × AllSent plan ids by_queue.items programs.items }
-    ensures { IfOk result (λ outcome. (plan : Plan) (ids : List WorkerId) → AreFinished (λ w. w.ran.items) ids finished.items → AllSent plan ids by_queue.items programs.items → (runs : List QueueRun) × (length runs ≡ length ids) × TellsRuns plan runs outcome) }
+    requires { (plan : Plan) × (ids : List WorkerId) × (length ids ≤ 8)
+        × AreFinished (λ w. w.ran.items) ids finished.items × AllSent plan ids by_queue.items programs.items }
+    ensures { IfOk result (λ outcome. (plan : Plan) (ids : List WorkerId) → AreFinished (λ w. w.ran.items) ids finished.items
+        → AllSent plan ids by_queue.items programs.items → (runs : List QueueRun) × (length runs ≡ length ids) × TellsRuns plan runs outcome) }
 {
     let mut all = Outcome {
         accepted: 0,

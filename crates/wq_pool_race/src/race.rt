@@ -6,7 +6,7 @@ ghost use Rattle.wq_worker.specs.State.{WorkerState};
 ghost use Rattle.wq_race.specs.Plan.{IsLayoutOf};
 ghost use Rattle.wq_race.specs.Race.{AllQueued};
 ghost use Rattle.wq_race.specs.Outcome.{IsWhole, Tells};
-ghost use Rattle.wq_pool_race.specs.Race.{IsLone, AreCallersOf, IsReady, MayRun, AreGroupThreads, AllGroupsQueued, AllStopped};
+ghost use Rattle.wq_pool_race.specs.Race.{IsLone, AreCallersOf, IsGroupFor, MayRun, AreGroupThreads, AllGroupsQueued, AllStopped};
 ghost use Rattle.wq_pool_race.specs.Outcome.{TellsPlan};
 
 use crate::outcome::{balance_all, finish};
@@ -104,7 +104,7 @@ fn start_group<'s, E, R: Wait + Sync>(
     own: u32,
 ) -> Option<PromisedHandle<Group, QueuesGroup>>
     requires caller { IsCallerOf pool.now.ready caller }
-    requires ready { IsReady own pool.now group }
+    requires ready { IsGroupFor own pool.now group }
     ensures { IfSome result (λ handle. (handle.promise.0.value ≡ group) × (handle.promise.1 ≡ own)) }
 {
     let given = QueuesGroup(Snapshot::of(&group), own);
@@ -112,7 +112,7 @@ fn start_group<'s, E, R: Wait + Sync>(
         .spawn_with(
             given,
             move ||
-                requires { IsCallerOf pool.now.ready caller × IsReady own pool.now group }
+                requires { IsCallerOf pool.now.ready caller × IsGroupFor own pool.now group }
             { queue_group(rt, pool, caller, group, own) },
         )
         .ok()
@@ -154,7 +154,7 @@ fn start_groups<'s, E, R: Threads + Wait + Sync>(
 ) -> Vec<PromisedHandle<Group, QueuesGroup>>
     requires callers { All (IsCallerOf pool.now.ready) callers.items }
     requires enough { length groups.items ≤ length callers.items }
-    requires ready { All (IsReady own pool.now) groups.items }
+    requires ready { All (IsGroupFor own pool.now) groups.items }
     ensures few { length result.items ≤ length groups.items }
     ensures given { AreGroupThreads own groups.items result.items }
 {
@@ -186,7 +186,7 @@ fn run_groups<'s, E, R: Threads + Wait + Sync>(
 ) -> Result<Vec<Group>, RaceError>
     requires callers { All (IsCallerOf pool.now.ready) callers.items }
     requires enough { length groups.items ≤ length callers.items }
-    requires ready { All (IsReady own pool.now) groups.items }
+    requires ready { All (IsGroupFor own pool.now) groups.items }
     ensures { IfOk result (λ back. AllGroupsQueued own groups.items back.items) }
 {
     let count = groups.len();
@@ -292,7 +292,8 @@ pub fn run_live<R: Threads + Wait + Sync>(
     plan: Plan,
 ) -> Result<Outcome, RaceError>
     ensures whole { IsLone plan → IfOk result (IsWhole plan) }
-    ensures told { IsLone plan → IfOk result (λ outcome. (worker : WorkerState Idle) × IsLayoutOf plan.senders plan.own worker.layout × Tells plan worker outcome) }
+    ensures told { IsLone plan → IfOk result
+        (λ outcome. (worker : WorkerState Idle) × IsLayoutOf plan.senders plan.own worker.layout × Tells plan worker outcome) }
     ensures pooled { ¬ IsLone plan → IfOk result (TellsPlan plan) }
     ensures same { IfOk result (λ outcome. outcome.accepted ≡ outcome.ran) }
 {

@@ -2,7 +2,7 @@
 ghost use Rattle.std.specs.Prelude.{◌≡◌, ℕ, ◌+◌, ◌*◌, ◌<◌, ◌≤◌, [], ◌∷◌, length};
 ghost use Rattle.wq_ready.specs.Known.{IsCallerOf};
 ghost use Rattle.wq_race.specs.Race.{items_at, HasQueued, AllQueued};
-ghost use Rattle.wq_pool_race.specs.Race.{IsReady, AllStopped};
+ghost use Rattle.wq_pool_race.specs.Race.{IsGroupFor, AllStopped};
 
 use crate::teams::Group;
 use std::sync::Wait;
@@ -87,7 +87,7 @@ pub(crate) fn queue_group<R: Wait>(
     own: u32,
 ) -> Group
     requires caller { IsCallerOf pool.now.ready caller }
-    requires ready { IsReady own pool.now group }
+    requires ready { IsGroupFor own pool.now group }
     ensures { AllQueued own group.senders.items result.senders.items }
 {
     let mut queue = 0u32;

@@ -85,7 +85,8 @@ const SCRIPTS: [(&str, &str, &str); 25] = [
     (
         "cancelled and moved",
         "arm 0 9\ncancel 0\ncancel 0\narm 0 9\nmodify 0 2\nadvance 2\nmodify 0 1\nmodify 1 1\nreport\n",
-        "on table\ncancelled\nnot on table\non table\nmoved\npushed 0\npending\nwas idle\naccepted 1\nchained 0\nexecuted 0\nbusy 1\nrefused 0\ndelayed 1\nwaiting 1\n",
+        "on table\ncancelled\nnot on table\non table\nmoved\npushed 0\npending\nwas idle\naccepted 1\nchained 0\nexecuted 0\nbusy 1\n\
+         refused 0\ndelayed 1\nwaiting 1\n",
     ),
     (
         "pending and not on the table",
@@ -143,13 +144,20 @@ const TEXTS: [(&str, &str, &str); 5] = [
     ),
     (
         "a queue to its end",
-        "wq 1\nitems 4\nsenders 2\nbarriers 2\nfollow 0 1 2\nfollow 2 3\nqueue 0 0\nqueue 1 0\nflush 1 1\ndone 1 1\nrun 9\ndone 1 1\nreport\nqueue 1 2\nclose\nqueue 0 1\nstop 0\ndrain 1\ndrain 9\nclose\nreport\n",
-        "true first\nfalse pending\ntrue\nfalse\nran 0 b1 1 2 3\ntrue\naccepted 5\nchained 0\nexecuted 5\nbusy 1\nrefused 0\ndelayed 0\nwaiting 0\ntrue first\nclosed 1\nfalse closed\nfalse closed\nran 2\ntoo long left 1\nran 3\nempty\nalready closed\naccepted 7\nchained 1\nexecuted 7\nbusy 1\nrefused 2\ndelayed 0\nwaiting 0\n",
+        "wq 1\nitems 4\nsenders 2\nbarriers 2\nfollow 0 1 2\nfollow 2 3\nqueue 0 0\nqueue 1 0\nflush 1 1\ndone 1 1\nrun 9\ndone 1 1\n\
+         report\nqueue 1 2\nclose\nqueue 0 1\nstop 0\ndrain 1\ndrain 9\nclose\nreport\n",
+        "true first\nfalse pending\ntrue\nfalse\nran 0 b1 1 2 3\ntrue\naccepted 5\nchained 0\nexecuted 5\nbusy 1\nrefused 0\ndelayed 0\n\
+         waiting 0\ntrue first\nclosed 1\nfalse closed\nfalse closed\nran 2\ntoo long left 1\nran 3\nempty\nalready closed\naccepted 7\n\
+         chained 1\nexecuted 7\nbusy 1\nrefused 2\ndelayed 0\nwaiting 0\n",
     ),
     (
         "a delay table to its end",
-        "wq 1\nitems 4\nsenders 2\narm 3 5\narm 3 1\nqueue 0 3\ncheck 3\nadvance 4\nmodify 3 2\narm 0 1\nadvance 6\nadvance 5\nrun 9\narm 1 0\nmodify 1 1\narm 2 1\ncancel 2\ncancel 2\narm 2 4294967296\narm 2 1\nreport\nclose\nadvance 7\ncheck 2\nreport\n",
-        "on table\nfalse pending\nfalse pending\npending\npushed nothing\nmoved\non table\npushed 0 3\nfalse backwards\nran 0 3\ntrue first\npending\non table\ncancelled\nnot on table\nfalse too far\non table\naccepted 3\nchained 0\nexecuted 2\nbusy 3\nrefused 0\ndelayed 1\nwaiting 1\nclosed 1\nrefused 2\nidle\naccepted 3\nchained 0\nexecuted 2\nbusy 3\nrefused 1\ndelayed 0\nwaiting 1\n",
+        "wq 1\nitems 4\nsenders 2\narm 3 5\narm 3 1\nqueue 0 3\ncheck 3\nadvance 4\nmodify 3 2\narm 0 1\nadvance 6\nadvance 5\nrun 9\n\
+         arm 1 0\nmodify 1 1\narm 2 1\ncancel 2\ncancel 2\narm 2 4294967296\narm 2 1\nreport\nclose\nadvance 7\ncheck 2\nreport\n",
+        "on table\nfalse pending\nfalse pending\npending\npushed nothing\nmoved\non table\npushed 0 3\nfalse backwards\nran 0 3\n\
+         true first\npending\non table\ncancelled\nnot on table\nfalse too far\non table\naccepted 3\nchained 0\nexecuted 2\nbusy 3\n\
+         refused 0\ndelayed 1\nwaiting 1\nclosed 1\nrefused 2\nidle\naccepted 3\nchained 0\nexecuted 2\nbusy 3\nrefused 1\ndelayed 0\n\
+         waiting 1\n",
     ),
     (
         "one item",

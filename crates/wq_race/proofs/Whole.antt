@@ -77,7 +77,8 @@ module _ (n m : ℕ) (layout : Layout) (h : List Event) (r : IsRace n m layout h
           let same : s ≡ t = same_row s t m k mine (row_number layout.items t (t * m) m (Hold t k) (own t h) (r.queued t low) at) in
           row_apart layout.items s (s * m) m t s k (own s h) (r.queued s lt) (subst (λ (c : ℕ). Has (Hold t k) (own c h)) (sym same) at) has
       by t hold (workers is) = nothing_sent (Hold t k) is hold
-      by t hold (programs is) = let high = stop_high n m layout h is_shared k (of_stop n m layout h is_shared (Hold t k) is hold) in omega (arith, high, below_items n m layout h is_shared s k lt mine)
+      by t hold (programs is) = let high = stop_high n m layout h is_shared k (of_stop n m layout h is_shared (Hold t k) is hold) in
+          omega (arith, high, below_items n m layout h is_shared s k lt mine)
 
       each : IsSet k h → ⊥
       each (by_hold t hold) = by t hold (whose n t (seat_few n m layout h is_shared t (hold_seat layout t k h r.legal hold)))

@@ -336,8 +336,9 @@ pub(crate) fn run_team<R: Threads + Wait + Sync>(
     )
 }
 
-/// Runs a plan on one queue with one worker, whatever its `queues` and `workers`. Each sender is a thread that queues its own items in order, once each, and wakes the worker, which serves in
-/// a thread of its own until the stop item; that is queued when all senders have ended. The queue is then destroyed.
+/// Runs a plan on one queue with one worker, whatever its `queues` and `workers`. Each sender is a thread that queues its own
+/// items in order, once each, and wakes the worker, which serves in a thread of its own until the stop item; that is queued when
+/// all senders have ended. The queue is then destroyed.
 ///
 /// # Errors
 /// Want of memory, or of a thread: those that were made have then gone to their end.

@@ -16,6 +16,7 @@ pub fn first_in_first_out()
 
 /// A caller that is the only one finds the ready queue full or empty only where what it has itself seen is.
 pub fn alone()
-    ensures full { (caller : CallerState) → caller.ready.size.callers ≡ 1 → caller.number ≡ 0 → CouldBe (IsFull caller.ready.size.queues) caller → IsFull caller.ready.size.queues caller.seen }
+    ensures full { (caller : CallerState) → caller.ready.size.callers ≡ 1 → caller.number ≡ 0
+        → CouldBe (IsFull caller.ready.size.queues) caller → IsFull caller.ready.size.queues caller.seen }
     ensures empty { (caller : CallerState) → caller.ready.size.callers ≡ 1 → caller.number ≡ 0 → CouldBe IsEmpty caller → IsEmpty caller.seen }
 {}

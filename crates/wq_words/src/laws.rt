@@ -38,7 +38,8 @@ pub fn pending_list()
 /// At most one number runs: none where as many ended as begun, else the number that was begun last.
 pub fn one_runs()
     ensures none { (layout : Layout) (h : List Event) → IsLegal layout h → ¬ IsRunning h ↔ (length (ended h) ≡ length (begun h)) }
-    ensures last { (layout : Layout) (h : List Event) → IsLegal layout h → (k : ℕ) → (running h ≡ Some k) ↔ (IsRunning h × (slice_get (begun h) (length (begun h) - 1) ≡ Some k)) }
+    ensures last { (layout : Layout) (h : List Event) → IsLegal layout h → (k : ℕ)
+        → (running h ≡ Some k) ↔ (IsRunning h × (slice_get (begun h) (length (begun h) - 1) ≡ Some k)) }
 {}
 
 /// Whether a number is pending and whether the queue is closed, as tests and as facts.

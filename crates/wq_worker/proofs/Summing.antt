@@ -109,8 +109,10 @@ pub some_length : (o : Option LedgerState) → IsSome o → length (listed_one o
 some_length (Some ledger) is = refl
 some_length None is = absurd (cc)
 
-one_sum : (f : SenderCounts → ℕ) (n : ℕ) (ls : List LedgerState) (l : LedgerState) → ledgers_of n ls ≡ l ∷ [] → sum_by (λ z. f z.counts) (ledgers_of n ls) ≡ f l.counts
-one_sum f n ls l is = let e = sum_by-cons (λ (z : LedgerState). f z.counts) l [] in let same = ap (sum_by (λ (z : LedgerState). f z.counts)) is in omega (arith, e, same)
+one_sum : (f : SenderCounts → ℕ) (n : ℕ) (ls : List LedgerState) (l : LedgerState)
+    → ledgers_of n ls ≡ l ∷ [] → sum_by (λ z. f z.counts) (ledgers_of n ls) ≡ f l.counts
+one_sum f n ls l is =
+    let e = sum_by-cons (λ (z : LedgerState). f z.counts) l [] in let same = ap (sum_by (λ (z : LedgerState). f z.counts)) is in omega (arith, e, same)
 
 have_next : (ledgers : List LedgerState) (seat n : ℕ) → HaveOne ledgers seat n → (n ≢ seat → HasOne ledgers n) → HaveOne ledgers seat (n + 1)
 have_next ledgers seat n all here s low other =

@@ -57,7 +57,8 @@ fn only_ledger(ledgers: &[Ledger], number: u32) -> Result<Ledger, Unbalanced>
 
 // The only ledger of a sender, with no count that is saturated.
 fn whole_ledger(ledgers: &[Ledger], number: u32) -> Result<Ledger, Unbalanced>
-    ensures { MatchResult result (λ ledger. (ledgers_of number ledgers.now ≡ ledger ∷ []) × AreWhole ledger.counts) (λ fault. IsFault ledgers.now number fault) }
+    ensures { MatchResult result (λ ledger. (ledgers_of number ledgers.now ≡ ledger ∷ []) × AreWhole ledger.counts)
+        (λ fault. IsFault ledgers.now number fault) }
 {
     let ledger = only_ledger(ledgers, number)?;
     if !is_whole(ledger.counts()) {

@@ -50,7 +50,15 @@ impl<W: Work> Model for Worker<W> {
 
     ghost Value = { WorkerState W };
 
-    ghost view = { λ w. record { queue = w.owner.queue; layout = w.owner.layout; number = w.sender.number; tries = w.tries; seen = w.owner.seen; unqueued = drop w.at w.follow.items; work = w.work } };
+    ghost view = { λ w. record {
+      queue = w.owner.queue;
+      layout = w.owner.layout;
+      number = w.sender.number;
+      tries = w.tries;
+      seen = w.owner.seen;
+      unqueued = drop w.at w.follow.items;
+      work = w.work;
+    } };
 
     ghost invariant = { λ w. AreWorkerParts (W.log w.work) w.tries w.at w.follow.items w.owner w.sender };
 }
@@ -387,7 +395,8 @@ impl<W: Work> Worker<W> {
     /// Closes the queue where it is open, executes what is left, at most so many, and gives the work back with the book
     /// (`destroy_workqueue`). Where more is left it gives the worker back.
     pub fn destroy(mut self, limit: u32) -> Result<(W, Book), Unfinished<W>>
-        ensures outcome { MatchResult result (λ done. Destroys W.log W.may limit self done.0 done.1) (λ unfinished. LeavesUnfinished W.log W.may limit self unfinished.worker unfinished.left) }
+        ensures outcome { MatchResult result (λ done. Destroys W.log W.may limit self done.0 done.1)
+            (λ unfinished. LeavesUnfinished W.log W.may limit self unfinished.worker unfinished.left) }
     {
         self.close_where_open();
         match self.drain(limit) {

@@ -99,7 +99,8 @@ fn follows_and_delays(rt: HostRuntime) -> Result<(), Fail> {
         ),
         (
             "arm 0 9\ncancel 0\ncancel 0\narm 0 9\nmodify 0 2\nadvance 2\nmodify 0 1\nmodify 1 1\nreport\n",
-            "on table\ncancelled\nnot on table\non table\nmoved\npushed 0\npending\nwas idle\naccepted 1\nchained 0\nexecuted 0\nbusy 1\nrefused 0\ndelayed 1\nwaiting 1\n",
+            "on table\ncancelled\nnot on table\non table\nmoved\npushed 0\npending\nwas idle\naccepted 1\nchained 0\nexecuted 0\nbusy 1\n\
+             refused 0\ndelayed 1\nwaiting 1\n",
         ),
         (
             "arm 0 1\nclose\nadvance 1\ncheck 0\n",

@@ -30,8 +30,10 @@ fn outputs(rt: HostRuntime) -> Result<(), Fail> {
         ("", "accepted nothing\nbegun nothing\n"),
         // An exchange that wins although the number at the head was taken, begun and queued again since the look: the link names the present head.
         (
-            "0 hold 0\n0 look\n0 link 0\n0 push 0\n1 hold 1\n1 look\no take\no walk\no begin\n0 hold 0\n0 look\n0 link 0\n0 push 0\n1 link 1\n1 push 1\no end\no take\no walk\no walk\no begin\no end\no begin\no end\n",
-            "held\nempty\nlinked\npushed first\nheld\nitem 0\ntook item 0\nend\nbegan 0\nheld\nempty\nlinked\npushed first\nlinked\npushed\nended 0\ntook item 1\nnext 0\nend\nbegan 0\nended 0\nbegan 1\nended 1\naccepted 0 0 1\nbegun 0 0 1\n",
+            "0 hold 0\n0 look\n0 link 0\n0 push 0\n1 hold 1\n1 look\no take\no walk\no begin\n0 hold 0\n0 look\n0 link 0\n0 push 0\n\
+             1 link 1\n1 push 1\no end\no take\no walk\no walk\no begin\no end\no begin\no end\n",
+            "held\nempty\nlinked\npushed first\nheld\nitem 0\ntook item 0\nend\nbegan 0\nheld\nempty\nlinked\npushed first\nlinked\npushed\n\
+             ended 0\ntook item 1\nnext 0\nend\nbegan 0\nended 0\nbegan 1\nended 1\naccepted 0 0 1\nbegun 0 0 1\n",
         ),
         // An exchange that is lost, and the try after it.
         (
@@ -56,12 +58,15 @@ fn outputs(rt: HostRuntime) -> Result<(), Fail> {
         // A chaining: of an idle item, of one that is pending, and none while the queue is open.
         (
             "0 hold 0\n0 look\n0 link 0\n0 push 0\no chain 1\no close\no walk\no chain 1\no begin\no chain 1\no chain 1\no end\no begin\no end\no close\n",
-            "held\nempty\nlinked\npushed first\nnot enabled\nclosed item 0\nend\nnot enabled\nbegan 0\nchained 1\nbusy\nended 0\nbegan 1\nended 1\nnot enabled\naccepted 0 1\nbegun 0 1\n",
+            "held\nempty\nlinked\npushed first\nnot enabled\nclosed item 0\nend\nnot enabled\nbegan 0\nchained 1\nbusy\nended 0\nbegan 1\n\
+             ended 1\nnot enabled\naccepted 0 1\nbegun 0 1\n",
         ),
         // Links turned: none before the walk of a number, and none after its begin.
         (
-            "0 hold 0\n0 look\n0 link 0\n0 push 0\n0 hold 1\n0 look\n0 link 1\n0 push 1\no take\no turn 1 end\no walk\no turn 1 end\no walk\no turn 0 1\no walk\no begin\no turn 0 end\no end\no walk\no begin\n",
-            "held\nempty\nlinked\npushed first\nheld\nitem 0\nlinked\npushed\ntook item 1\nnot enabled\nnext 0\nturned\nend\nturned\nnext 1\nbegan 0\nnot enabled\nended 0\nend\nbegan 1\naccepted 0 1\nbegun 0 1\n",
+            "0 hold 0\n0 look\n0 link 0\n0 push 0\n0 hold 1\n0 look\n0 link 1\n0 push 1\no take\no turn 1 end\no walk\no turn 1 end\n\
+             o walk\no turn 0 1\no walk\no begin\no turn 0 end\no end\no walk\no begin\n",
+            "held\nempty\nlinked\npushed first\nheld\nitem 0\nlinked\npushed\ntook item 1\nnot enabled\nnext 0\nturned\nend\nturned\n\
+             next 1\nbegan 0\nnot enabled\nended 0\nend\nbegan 1\naccepted 0 1\nbegun 0 1\n",
         ),
         // An owner that rests: never before its first take, never with something pushed, once a take; a push that looked before
         // the rest loses its exchange.
@@ -71,8 +76,12 @@ fn outputs(rt: HostRuntime) -> Result<(), Fail> {
         ),
         // Barriers and the stop item by their names, and each cause of a give-back.
         (
-            "0 hold b0\n0 look\n0 link b0\n0 push b0\n1 hold stop\n1 look\n1 link stop\n1 push stop\no take\no walk\no walk\no begin\no end\no begin\n0 hold 3\n0 back 3 closed\n0 back 3 contended\n0 back 3 cancelled\n0 hold 3\n0 check 3\n0 back 3 cancelled\n0 check 3\n",
-            "held\nempty\nlinked\npushed first\nheld\nitem b0\nlinked\npushed\ntook item stop\nnext b0\nend\nbegan b0\nended b0\nbegan stop\nheld\nnot enabled\nback contended\nnot enabled\nheld\npending\nback cancelled\nidle\naccepted b0 stop\nbegun b0 stop\n",
+            "0 hold b0\n0 look\n0 link b0\n0 push b0\n1 hold stop\n1 look\n1 link stop\n1 push stop\no take\no walk\no walk\no begin\n\
+             o end\no begin\n0 hold 3\n0 back 3 closed\n0 back 3 contended\n0 back 3 cancelled\n0 hold 3\n0 check 3\n0 back 3 cancelled\n\
+             0 check 3\n",
+            "held\nempty\nlinked\npushed first\nheld\nitem b0\nlinked\npushed\ntook item stop\nnext b0\nend\nbegan b0\nended b0\n\
+             began stop\nheld\nnot enabled\nback contended\nnot enabled\nheld\npending\nback cancelled\nidle\naccepted b0 stop\n\
+             begun b0 stop\n",
         ),
     ];
     for (steps, want) in rows {

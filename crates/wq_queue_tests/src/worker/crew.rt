@@ -61,7 +61,8 @@ fn queue_and_stop<R: Abort + Threads + Wait + Sync>(
     crew: &mut Crew,
     unparker: &Unparker,
 ) -> Answer
-    ensures pairs { (crew.new.first.queue ≡ crew.old.first.queue) × (crew.new.second.queue ≡ crew.old.second.queue) × (crew.new.third.queue ≡ crew.old.third.queue) × (crew.new.fourth.queue ≡ crew.old.fourth.queue) }
+    ensures pairs { (crew.new.first.queue ≡ crew.old.first.queue) × (crew.new.second.queue ≡ crew.old.second.queue)
+        × (crew.new.third.queue ≡ crew.old.third.queue) × (crew.new.fourth.queue ≡ crew.old.fourth.queue) }
     ensures last { crew.new.last.queue ≡ crew.old.last.queue }
 {
     join_mut(
@@ -85,7 +86,8 @@ fn enter<R: Abort>(rt: &R, book: &mut Book, ledgers: &mut Vec<Ledger>, sender: &
 
 pub(crate) fn new_crew<R: Abort>(rt: &R, owner: &Owner, senders: &mut Vec<Sender>) -> Crew
     requires { All (λ s. s.queue ≡ owner.now.queue) senders.old.items }
-    ensures { (result.first.queue ≡ owner.now.queue) × (result.second.queue ≡ owner.now.queue) × (result.third.queue ≡ owner.now.queue) × (result.fourth.queue ≡ owner.now.queue) × (result.last.queue ≡ owner.now.queue) }
+    ensures { (result.first.queue ≡ owner.now.queue) × (result.second.queue ≡ owner.now.queue)
+        × (result.third.queue ≡ owner.now.queue) × (result.fourth.queue ≡ owner.now.queue) × (result.last.queue ≡ owner.now.queue) }
 {
     Crew {
         last: take_last(rt, owner, senders),
@@ -103,7 +105,8 @@ fn serve_crew<R: Abort + Threads + Wait + Sync>(
     crew: &mut Crew,
 )
     ensures worker { worker.new.queue ≡ worker.old.queue }
-    ensures pairs { (crew.new.first.queue ≡ crew.old.first.queue) × (crew.new.second.queue ≡ crew.old.second.queue) × (crew.new.third.queue ≡ crew.old.third.queue) × (crew.new.fourth.queue ≡ crew.old.fourth.queue) }
+    ensures pairs { (crew.new.first.queue ≡ crew.old.first.queue) × (crew.new.second.queue ≡ crew.old.second.queue)
+        × (crew.new.third.queue ≡ crew.old.third.queue) × (crew.new.fourth.queue ≡ crew.old.fourth.queue) }
     ensures last { crew.new.last.queue ≡ crew.old.last.queue }
 {
     let mut parker = Parker::new(alloc).expect(rt, "memory for a parker");
@@ -116,7 +119,8 @@ fn serve_crew<R: Abort + Threads + Wait + Sync>(
 }
 
 fn enter_all<R: Abort>(rt: &R, alloc: Global, book: &mut Book, crew: &mut Crew) -> Vec<Ledger>
-    requires { (crew.old.first.queue ≡ book.old.queue) × (crew.old.second.queue ≡ book.old.queue) × (crew.old.third.queue ≡ book.old.queue) × (crew.old.fourth.queue ≡ book.old.queue) × (crew.old.last.queue ≡ book.old.queue) }
+    requires { (crew.old.first.queue ≡ book.old.queue) × (crew.old.second.queue ≡ book.old.queue)
+        × (crew.old.third.queue ≡ book.old.queue) × (crew.old.fourth.queue ≡ book.old.queue) × (crew.old.last.queue ≡ book.old.queue) }
     ensures { All (IsLedgerOf book.new.seen) result.items }
 {
     let mut ledgers = Vec::new(alloc);

@@ -55,7 +55,8 @@ loop-work-preserved c =
     let some : WorkerId = record { queue = c.in-Some.book.queue; layout = c.in-Some.book.layout; number = 0; tries = 0 } in
     let F : List WorkerId → Type 0 = λ ids. AreFinished {W = Idle} (λ w. w.ran.items) ids c.args.finished.items in
     let S : Plan → List WorkerId → Type 0 = λ plan ids. AllSent plan ids c.args.by_queue.items c.args.programs.items in
-    let at = λ (plan : Plan) (ids : List WorkerId) (f : F ids) (s : S plan ids). is_last plan ids c.args.finished.items c.args.by_queue.items c.args.programs.items f s some k (length l.finished.items) next
+    let at = λ (plan : Plan) (ids : List WorkerId) (f : F ids) (s : S plan ids). is_last plan ids c.args.finished.items c.args.by_queue.items
+    c.args.programs.items f s some k (length l.finished.items) next
     l.invariant.within l.finished.items c.pop.new.self.items one l.invariant.finished_are c.in-Some.ensures.items
     l.by_queue.items c.pop-in-Some.new.self.items c.in-Some-pop.group l.invariant.groups_are c.in-Some-pop.ensures.items
     l.programs.items c.pop-in-Some-2.new.self.items c.in-Some-pop-2.program l.invariant.programs_are c.in-Some-pop-2.ensures.items in

@@ -22,7 +22,8 @@ balance_all-requires g c =
     let t = c.in_ok-served.ensures in let plan = c.args.plan in let teams = c.in_ok-served.field-0 in let ids = map worker_id teams.served.items in
     let size : length ids ≡ plan.queues = length-map teams.served.items worker_id ∙ t.count in
     let finished : AreFinished {W = Idle} (λ w. w.ran.items) ids c.in_ok-finished.finished.items = subst
-    (λ (xs : List WorkerId). AreFinished {W = Idle} (λ w. w.ran.items) xs c.in_ok-finished.finished.items) c.in_ok-pool.ensures.workers c.in_ok-finished.ensures in (
+    (λ (xs : List WorkerId). AreFinished {W = Idle} (λ w. w.ran.items) xs c.in_ok-finished.finished.items)
+    c.in_ok-pool.ensures.workers c.in_ok-finished.ensures in (
       plan,
       ids,
       omega (arith, size, plan.in_limits.few_queues),
@@ -36,7 +37,8 @@ returns g c =
     let t = c.in_ok-served.ensures in let plan = c.args.plan in let teams = c.in_ok-served.field-0 in let ids = map worker_id teams.served.items in
     let size : length ids ≡ plan.queues = length-map teams.served.items worker_id ∙ t.count in
     let finished : AreFinished {W = Idle} (λ w. w.ran.items) ids c.in_ok-finished.finished.items = subst
-    (λ (xs : List WorkerId). AreFinished {W = Idle} (λ w. w.ran.items) xs c.in_ok-finished.finished.items) c.in_ok-pool.ensures.workers c.in_ok-finished.ensures in
+    (λ (xs : List WorkerId). AreFinished {W = Idle} (λ w. w.ran.items) xs c.in_ok-finished.finished.items)
+    c.in_ok-pool.ensures.workers c.in_ok-finished.ensures in
     let sent = all_sent plan teams t.teams t.count c.in_ok-groups.groups.items c.in_ok-by_queue.by_queue.items c.in_ok-groups.programs.items
     c.in_ok-groups.ensures.groups c.in_ok-by_queue.ensures c.in_ok-groups.ensures.programs in
     let told = c.in_ok-balance_all.ensures plan ids finished sent in

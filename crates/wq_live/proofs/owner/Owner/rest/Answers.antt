@@ -21,7 +21,8 @@ invariant_of-self c = let e = c.rest-head.ensures.step in
     rest_owns c.self.inside c.rest-head.new.self c.args.self.now c.rest-head.result c.self.view_is c.self.invariant e.queue_is e.makes c.requires.open
 
 pub returns : goal.returns
-returns c = let s = c.self.inside in let o = c.self.invariant in let e = c.rest-head.ensures.step in let q = c.rest-head.new.self in let w = c.rest-head.result in
+returns c = let s = c.self.inside in let o = c.self.invariant in let e = c.rest-head.ensures.step in let q = c.rest-head.new.self in
+    let w = c.rest-head.result in
     let now = c.args.self.now in let mine = sym (ap (λ (v : Known). v.number) c.self.view_is) in
     let sees = rest_sees s q now w c.self.view_is o e.queue_is e.makes c.requires.open in record {
       seen = sees;

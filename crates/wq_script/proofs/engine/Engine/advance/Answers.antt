@@ -29,7 +29,8 @@ returns-in_default c =
       meets = λ s m.
           subst (λ (t : ScriptState). Meets (engine e.layout b e.tally) t) (sym (so s m).0)
           (back_meets e.layout e.seats b e.tally s m (told e.layout s.history m.seated).1);
-      lines = λ s m few. wrote e.layout s s (command.Advance tick) _ _ (line (codes "false backwards")) (so s m).0 (so s m).1 c.in_ok-write_line.ensures.written;
+      lines = λ s m few. wrote e.layout s s (command.Advance tick) _ _ (line (codes "false backwards"))
+          (so s m).0 (so s m).1 c.in_ok-write_line.ensures.written;
       room = λ s m. omega (arith, ap size (so s m).0);
     }
 

@@ -56,7 +56,8 @@ returns c =
           let so = drain_closed e.layout s c.args.limit (sym (c.is_closed.ensures e.layout s.history m.seated) ∙ c.if-not-is_closed.false) in
           let r = ran_meets e.layout e.seats c.run.new.self e.tally s c.args.limit (ends_at None) c.in_ok-ran.ran.items m
           (c.in_ok-ran.ensures s.history m.seated m.idle m.lists) in
-          let row = c.in_ok-write_row.ensures.written ∙ ap (λ ks. string_bytes c.args.out.now ++ row_text e.layout (codes "ran") ks) (c.deref.ensures.value ∙ r.1) in
+          let row = c.in_ok-write_row.ensures.written ∙ ap (λ ks. string_bytes c.args.out.now ++ row_text e.layout (codes "ran") ks)
+          (c.deref.ensures.value ∙ r.1) in
           let size_now : size (drained e.layout s c.args.limit) ≤ 2305843009213693952 =
           omega (arith, executions_few e.layout.senders s.follows (ends_at None) c.args.limit s.history m.short, c.ranges.limit, few) in
           let left = ap (λ (counts : Counts). counts.waiting) (c.counts.ensures (drained e.layout s c.args.limit) r.0 size_now) in

@@ -21,6 +21,7 @@ returns c =
       layout = refl;
       meets = λ s m. (goes s m).0;
       lines = λ s m few.
-          c.in_ok-write_row.ensures.written ∙ ap (λ ks. string_bytes c.args.out.now ++ row_text e.layout (codes "ran") ks) (c.deref.ensures.value ∙ (goes s m).1);
+          c.in_ok-write_row.ensures.written ∙ ap (λ ks. string_bytes c.args.out.now ++ row_text e.layout (codes "ran") ks)
+          (c.deref.ensures.value ∙ (goes s m).1);
       room = λ s m. omega (arith, executions_few e.layout.senders s.follows ends limit s.history m.short, c.ranges.limit);
     }
