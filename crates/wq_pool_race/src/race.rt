@@ -1,5 +1,5 @@
 //! A run of several queues by live threads.
-ghost use Rattle.std.specs.Prelude.{◌≡◌, ℕ, ◌+◌, ◌<◌, ◌≤◌, if◌then◌else◌, [], ◌∷◌, ◌++◌, map, length, All, IfSome, IfOk};
+ghost use Rattle.std.specs.Prelude.{◌≡◌, ℕ, ◌+◌, ◌<◌, ◌≤◌, map, length, All, IfSome, IfOk};
 ghost use Rattle.wq_ready.specs.Known.{IsCallerOf};
 ghost use Rattle.wq_pool.specs.WorkerId.{worker_id};
 ghost use Rattle.wq_worker.specs.State.{WorkerState};
@@ -15,12 +15,10 @@ use crate::teams::{Group, Teams, turned};
 use std::alloc::Global;
 use std::snapshot::Snapshot;
 use std::sync::Wait;
-use std::thread::{
-    JoinHandle, Promise, PromisedHandle, Scope, Threads, join_promised, scope, scope_env,
-};
+use std::thread::{JoinHandle, Promise, PromisedHandle, Scope, Threads, scope, scope_env};
 use wq_live::Sender;
 use wq_pool::{Caller, Gate, Pool, PoolError, Served};
-use wq_race::{Idle, Outcome, Plan, RaceError, run_plan};
+use wq_race::{Idle, Outcome, Plan, RaceError, join_wanted, keep_handle, run_plan};
 
 /// Nothing is done around an execution.
 struct Still;
@@ -118,30 +116,6 @@ fn start_group<'s, E, R: Wait + Sync>(
         .ok()
 }
 
-// Keeps the handle of a thread; where no memory can be had for that, the thread is joined.
-fn keep<R: Threads>(
-    rt: &R,
-    handles: &mut Vec<PromisedHandle<Group, QueuesGroup>>,
-    handle: PromisedHandle<Group, QueuesGroup>,
-) -> bool
-    ensures { handles.new.items ≡ (if result then handles.old.items ++ handle ∷ [] else handles.old.items) }
-{
-    match handles.push(handle) {
-        Ok(()) => true,
-        Err(refused) => {
-            let _ = refused.value.join(rt);
-            false
-        }
-    }
-}
-
-// Joins threads whose groups nobody takes.
-fn join_all<R: Threads>(rt: &R, handles: Vec<PromisedHandle<Group, QueuesGroup>>) {
-    for handle in handles {
-        let _ = handle.join(rt);
-    }
-}
-
 // A thread for each group, up to the first that could not be made.
 fn start_groups<'s, E, R: Threads + Wait + Sync>(
     scope: &Scope<'s, E>,
@@ -166,7 +140,7 @@ fn start_groups<'s, E, R: Threads + Wait + Sync>(
         let Some(handle) = start_group(scope, rt, pool, caller, group, own) else {
             return handles;
         };
-        if !keep(rt, &mut handles, handle) {
+        if !keep_handle(rt, &mut handles, handle) {
             return handles;
         }
     }
@@ -191,15 +165,7 @@ fn run_groups<'s, E, R: Threads + Wait + Sync>(
 {
     let count = groups.len();
     let handles = start_groups(scope, rt, alloc, pool, callers, groups, own);
-    let are_all = handles.len() == count;
-    match join_promised(rt, handles) {
-        Ok(groups) if are_all => Ok(groups),
-        Ok(_) => Err(RaceError::Thread),
-        Err(refused) => {
-            join_all(rt, refused.value);
-            Err(RaceError::Memory)
-        }
-    }
+    join_wanted(rt, handles, count)
 }
 
 // The pool runs, and meanwhile the senders queue. When they have ended the stop items are queued, and then all have ended.

@@ -7,6 +7,7 @@ mod plan;
 mod plan_text;
 mod race;
 mod team;
+mod threads;
 
 pub use idle::Idle;
 pub use outcome::{Outcome, enter, enter_all, is_balanced, queued_by};
@@ -14,6 +15,7 @@ pub use plan::Plan;
 pub use plan_text::{PlanError, read_plan};
 pub use race::{RaceError, queue_stop, run_plan};
 pub use team::Team;
+pub use threads::{join_wanted, keep_handle};
 
 #[cfg(test)]
 mod tests;

@@ -1,5 +1,5 @@
 //! A run of a queue by live threads.
-ghost use Rattle.std.specs.Prelude.{◌≡◌, ◌≢◌, ◌+◌, ◌*◌, ◌^◌, ◌<◌, ◌≤◌, if◌then◌else◌, [], ◌∷◌, ◌++◌, length, IfSome, IfOk, All};
+ghost use Rattle.std.specs.Prelude.{◌≡◌, ◌≢◌, ◌+◌, ◌*◌, ◌^◌, ◌<◌, ◌≤◌, ◌∷◌, length, IfSome, IfOk, All};
 ghost use Rattle.wq_words.specs.History.{IsRunning, IsClosed};
 ghost use Rattle.wq_words.specs.Seen.{owner_seat};
 ghost use Rattle.wq_race.specs.Race.{items_at, HasQueued, HasStopped, HasServed, AreThreads, AllQueued, HasRun};
@@ -12,11 +12,12 @@ use crate::idle::Idle;
 use crate::outcome::Outcome;
 use crate::plan::Plan;
 use crate::team::Team;
+use crate::threads::{join_wanted, keep_handle};
 use crossbeam_utils::sync::{Parker, Unparker};
 use std::alloc::{AllocError, Global};
 use std::snapshot::Snapshot;
 use std::sync::Wait;
-use std::thread::{Promise, PromisedHandle, Scope, Threads, join_promised, scope, scope_env};
+use std::thread::{Promise, PromisedHandle, Scope, Threads, scope, scope_env};
 use thiserror::Error;
 use wq_live::{Answer, BuildError, Sender};
 use wq_worker::Worker;
@@ -181,30 +182,6 @@ fn start_worker<'s, E, R: Wait + Sync>(
         .ok()
 }
 
-// Keeps the handle of a thread; where no memory can be had for that, the thread is joined.
-fn keep<R: Threads>(
-    rt: &R,
-    handles: &mut Vec<PromisedHandle<Sender, QueuesOwn>>,
-    handle: PromisedHandle<Sender, QueuesOwn>,
-) -> bool
-    ensures { handles.new.items ≡ (if result then handles.old.items ++ handle ∷ [] else handles.old.items) }
-{
-    match handles.push(handle) {
-        Ok(()) => true,
-        Err(refused) => {
-            let _ = refused.value.join(rt);
-            false
-        }
-    }
-}
-
-// Joins threads whose senders nobody takes.
-fn join_all<R: Threads>(rt: &R, handles: Vec<PromisedHandle<Sender, QueuesOwn>>) {
-    for handle in handles {
-        let _ = handle.join(rt);
-    }
-}
-
 // A thread for each sender, up to the first that could not be made.
 fn start_senders<'s, E, R: Threads + Wait + Sync>(
     scope: &Scope<'s, E>,
@@ -226,7 +203,7 @@ fn start_senders<'s, E, R: Threads + Wait + Sync>(
         let Some(handle) = start_sender(scope, rt, sender, own, unparker) else {
             return handles;
         };
-        if !keep(rt, &mut handles, handle) {
+        if !keep_handle(rt, &mut handles, handle) {
             return handles;
         }
     }
@@ -248,15 +225,7 @@ fn run_senders<'s, E, R: Threads + Wait + Sync>(
 {
     let count = senders.len();
     let handles = start_senders(scope, rt, alloc, senders, own, unparker);
-    let are_all = handles.len() == count;
-    match join_promised(rt, handles) {
-        Ok(senders) if are_all => Ok(senders),
-        Ok(_) => Err(RaceError::Thread),
-        Err(refused) => {
-            join_all(rt, refused.value);
-            Err(RaceError::Memory)
-        }
-    }
+    join_wanted(rt, handles, count)
 }
 
 // The worker serves in a thread, and meanwhile the senders queue in theirs, which have all ended afterwards. The program's own

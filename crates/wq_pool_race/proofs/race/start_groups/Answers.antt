@@ -17,7 +17,7 @@ loop-group-preserved g c =
     let turn = YieldsList-turn (YieldsList-from_vec {s = c.into_iter-group-iterator.result} c.args.groups.items i.0 (i.1
     ∙ c.args.groups.ok.0)) l.yielded l.group-iterator l.yielded_by c.next.result c.next.new.self c.in-Some.group c.in-Some.is c.next.ensures.steps in
     let xs = l.handles.items in let h = c.in-Some-start_group.handle in let all = c.args.groups.items in
-    let kept = c.if-not-keep.ensures in
+    let kept = c.if-not-keep_handle.ensures.kept in
     let P : ℕ → PromisedHandle Group QueuesGroup → Type 0 = λ k handle. (e : Group)
     → (handle.promise.0.value ≡ get_or all k e) × (handle.promise.1 ≡ c.args.own) in
     let here : P (length xs) h = λ e.
@@ -35,9 +35,9 @@ loop-group-preserved g c =
       enough = omega (arith, l.invariant.enough, fewer, length-append l.yielded (c.in-Some.group ∷ []));
     }
 
-pub returns-then-not-keep-clause-given : goal.returns-then-not-keep-clause-given
-returns-then-not-keep-clause-given g c = λ k d e lt.
-    let kept = c.if-not-keep.ensures in
+pub returns-then-not-keep_handle-clause-given : goal.returns-then-not-keep_handle-clause-given
+returns-then-not-keep_handle-clause-given g c = λ k d e lt.
+    let kept = c.if-not-keep_handle.ensures.kept in
     subst (λ (hs : List (PromisedHandle Group QueuesGroup)). ((get_or hs k d).promise.0.value ≡ get_or c.args.groups.items k e)
     × ((get_or hs k d).promise.1 ≡ c.args.own)) (sym kept)
     (c.loop-group.invariant.given k d e (omega (arith, lt, ap length kept)))

@@ -15,7 +15,7 @@ loop-sender-preserved g c =
     let turn = YieldsList-turn (YieldsList-from_vec {s = c.into_iter-sender-iterator.result} c.args.senders.items i.0 (i.1
     ∙ c.args.senders.ok.0)) l.yielded l.sender-iterator l.yielded_by c.next.result c.next.new.self c.in-Some.sender c.in-Some.is c.next.ensures.steps in
     let xs = l.handles.items in let h = c.in-Some-start_sender.handle in let all = c.args.senders.items in
-    let kept = c.if-not-keep.ensures in
+    let kept = c.if-not-keep_handle.ensures.kept in
     let P : ℕ → PromisedHandle Sender QueuesOwn → Type 0 = λ k handle. (e : Known)
     → (handle.promise.0.value ≡ get_or all k e) × (handle.promise.1 ≡ c.args.own) in
     let here : P (length xs) h = λ e.
@@ -28,9 +28,9 @@ loop-sender-preserved g c =
           (each_more P xs h (λ k d lt e. l.invariant.given k d e lt) here k d (omega (arith, lt, ap length kept))) e;
     }
 
-pub returns-then-not-keep-clause-given : goal.returns-then-not-keep-clause-given
-returns-then-not-keep-clause-given g c = λ k d e lt.
-    let kept = c.if-not-keep.ensures in
+pub returns-then-not-keep_handle-clause-given : goal.returns-then-not-keep_handle-clause-given
+returns-then-not-keep_handle-clause-given g c = λ k d e lt.
+    let kept = c.if-not-keep_handle.ensures.kept in
     subst (λ (hs : List (PromisedHandle Sender QueuesOwn)). ((get_or hs k d).promise.0.value ≡ get_or c.args.senders.items k e)
     × ((get_or hs k d).promise.1 ≡ c.args.own)) (sym kept)
     (c.loop-sender.invariant.given k d e (omega (arith, lt, ap length kept)))
