@@ -2,7 +2,7 @@
 SHELL := /bin/bash
 PREFIX ?= /usr/local
 PROGRAM := crates/wqrun/out/wqrun
-EXAMPLES := crates/wq_examples/data
+EXAMPLES := examples
 
 .PHONY: run test build install bench examples memory
 

@@ -1,9 +1,8 @@
 #!/bin/bash
 # Runs each example with the program that is named, and compares what it writes, what it says of failures and its status with
 # what stands beside it: NAME.report, NAME.faults and NAME.status. Where one of them is missing, nothing and 0 are wanted.
-# The gate does the same by the program wq_examples, in whose data/ they stand, but for the words of the command line.
 program=${1:?usage: checks/examples.sh PROGRAM}
-folder=$(dirname "$0")/../crates/wq_examples/data
+folder=$(dirname "$0")/../examples
 faults=$(mktemp)
 trap 'rm -f "$faults"' EXIT
 
