@@ -6,7 +6,8 @@ use Rattle.wq_words.specs.declared.event.Event.{Event}
 use Rattle.wq_words.specs.declared.event.Event.TheVariants.{Close, End}
 use Rattle.wq_words.specs.History.{accepted, begun, ended, is_close, IsClosed, IsRunning}
 use Rattle.wq_words.specs.Legal.{IsLegal, IsComplete}
-use Rattle.wq_worker.specs.Book.{BookState, Destroys, LeavesUnfinished}
+use Rattle.wq_ledger.specs.Book.{BookState}
+use Rattle.wq_worker.specs.Destroy.{Destroys, LeavesUnfinished}
 use Rattle.wq_worker.specs.declared.ran.Ran.{Ran}
 use Rattle.wq_worker.specs.declared.ran.Ran.TheVariants.{Item, Barrier, Stop, Nothing, Owing}
 use Rattle.wq_worker.specs.declared.drained.Drained.{Drained}

@@ -4,7 +4,7 @@ use Rattle.std.proofs.lemmas.List.{take_all}
 use Rattle.std.proofs.lemmas.List.Elements.{All-append}
 use Rattle.wq_words.specs.Legal.{IsComplete}
 use Rattle.wq_words.proofs.Growing.{take_more_some}
-use Rattle.wq_worker.specs.Book.{BookState}
+use Rattle.wq_ledger.specs.Book.{BookState}
 use Rattle.wq_pool.specs.declared.worker_id.WorkerId.{WorkerId}
 use Rattle.wq_pool.specs.Known.{SlotsState, TurnState, turn_id}
 use Rattle.wq_pool.specs.Drained.{IsDrained}

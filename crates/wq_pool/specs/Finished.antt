@@ -2,7 +2,7 @@
 use Rattle.std.specs.Prelude.{◌≡◌, ℕ, List, [], ◌∷◌}
 use Rattle.wq_words.specs.History.{accepted}
 use Rattle.wq_words.specs.Legal.{IsLegal, IsComplete}
-use Rattle.wq_worker.specs.Book.{BookState}
+use Rattle.wq_ledger.specs.Book.{BookState}
 use Rattle.wq_worker.specs.State.{items_among}
 use Rattle.wq_pool.specs.declared.worker_id.WorkerId.{WorkerId}
 

@@ -18,14 +18,14 @@ use Rattle.wq_words.proofs.Seen.{own-append, own_between}
 use Rattle.wq_live.specs.Counts.{capped, sender_counts}
 use Rattle.wq_live.specs.Known.{Known}
 use Rattle.wq_live.proofs.Final.{final as stays_final}
-use Rattle.wq_worker.specs.declared.book.Ledger.{Ledger}
-use Rattle.wq_worker.specs.declared.totals.Totals.{Totals}
-use Rattle.wq_worker.specs.declared.balance.Unbalanced.{Unbalanced}
-use Rattle.wq_worker.specs.Balance.{Balances, IsUnbalanced}
-use Rattle.wq_worker.specs.Book.{BookState, IsLedgerOf}
+use Rattle.wq_ledger.specs.declared.book.Ledger.{Ledger}
+use Rattle.wq_ledger.specs.declared.totals.Totals.{Totals}
+use Rattle.wq_ledger.specs.declared.balance.Unbalanced.{Unbalanced}
+use Rattle.wq_ledger.specs.Balance.{Balances, IsUnbalanced}
+use Rattle.wq_ledger.specs.Book.{BookState, IsLedgerOf}
 use Rattle.wq_worker.specs.Follow.{Follows}
 use Rattle.wq_worker.specs.State.{items_among}
-use Rattle.wq_worker.proofs.Pushes.{is_queued_below, below_more, below_none, below_all}
+use Rattle.wq_ledger.proofs.Pushes.{is_queued_below, below_more, below_none, below_all}
 use Rattle.wq_race.specs.declared.idle.Idle.{Idle}
 use Rattle.wq_race.specs.declared.outcome.Outcome.{Outcome}
 use Rattle.wq_race.specs.declared.plan.Plan.{Plan}

@@ -10,11 +10,11 @@ use Rattle.wq_words.specs.History.{accepted, ended}
 use Rattle.wq_words.specs.Legal.{IsLegal, IsComplete}
 use Rattle.wq_words.specs.Seen.{own}
 use Rattle.wq_live.specs.Counts.{capped}
-use Rattle.wq_worker.specs.declared.book.Ledger.{Ledger}
-use Rattle.wq_worker.specs.declared.totals.Totals.{Totals}
-use Rattle.wq_worker.specs.declared.balance.Unbalanced.{Unbalanced}
-use Rattle.wq_worker.specs.Book.{BookState, IsLedgerOf}
-use Rattle.wq_worker.specs.Balance.{Balances, IsUnbalanced}
+use Rattle.wq_ledger.specs.declared.book.Ledger.{Ledger}
+use Rattle.wq_ledger.specs.declared.totals.Totals.{Totals}
+use Rattle.wq_ledger.specs.declared.balance.Unbalanced.{Unbalanced}
+use Rattle.wq_ledger.specs.Book.{BookState, IsLedgerOf}
+use Rattle.wq_ledger.specs.Balance.{Balances, IsUnbalanced}
 use Rattle.wq_worker.specs.Follow.{Follows}
 use Rattle.wq_worker.specs.State.{items_among}
 use Rattle.wq_race.specs.declared.outcome.Outcome.{Outcome}

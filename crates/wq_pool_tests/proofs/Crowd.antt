@@ -4,7 +4,7 @@ use Rattle.std.specs.Prelude.{slice_index_or}
 use Rattle.std.proofs.lemmas.List.{map_push, append-nil, length-map, take_all, drop_all}
 use Rattle.wq_live.specs.Known.{QueueId, Known}
 use Rattle.wq_worker.specs.State.{WorkerState}
-use Rattle.wq_worker.specs.Book.{BookState}
+use Rattle.wq_ledger.specs.Book.{BookState}
 use Rattle.wq_pool.specs.declared.worker_id.WorkerId.{WorkerId}
 use Rattle.wq_pool.specs.WorkerId.{worker_id}
 use Rattle.wq_pool.specs.Finished.{AreFinished}

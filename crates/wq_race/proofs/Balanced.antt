@@ -11,10 +11,10 @@ use Rattle.wq_words.proofs.Seen.{count_own, own-append}
 use Rattle.wq_live.specs.Known.{Known}
 use Rattle.wq_words.specs.Counting.{is_queued_by, is_pending_by, is_closed_by, is_contended_by}
 use Rattle.wq_live.specs.Counts.{capped, sender_counts, owner_counts}
-use Rattle.wq_worker.specs.declared.balance.Unbalanced.{Unbalanced}
-use Rattle.wq_worker.specs.declared.balance.Unbalanced.TheVariants.{Missing, Twice, Saturated}
-use Rattle.wq_worker.specs.Book.{LedgerState, BookState, IsLedgerOf}
-use Rattle.wq_worker.specs.Balance.{largest, AreWhole, AreOwnerWhole, ledgers_of, HasOne, IsFault, IsUnbalanced, of_sender, of_worker}
+use Rattle.wq_ledger.specs.declared.balance.Unbalanced.{Unbalanced}
+use Rattle.wq_ledger.specs.declared.balance.Unbalanced.TheVariants.{Missing, Twice, Saturated}
+use Rattle.wq_ledger.specs.Book.{LedgerState, BookState, IsLedgerOf}
+use Rattle.wq_ledger.specs.Balance.{largest, AreWhole, AreOwnerWhole, ledgers_of, HasOne, IsFault, IsUnbalanced, of_sender, of_worker}
 use Rattle.wq_race.specs.Outcome.{ledger_of}
 use Rattle.wq_race.proofs.Whole.{queued_own}
 use Rattle.wq_words.proofs.Counting.{pending_own}

@@ -8,7 +8,7 @@ use Rattle.wq_words.specs.Seen.{owner_seat, Grows}
 use Rattle.wq_live.specs.Known.{Known, Sees}
 use Rattle.wq_live.specs.Counts.{sender_counts}
 use Rattle.wq_live.proofs.Counting.{counts_none}
-use Rattle.wq_worker.specs.Book.{LedgerState, BookState}
+use Rattle.wq_ledger.specs.Book.{LedgerState, BookState}
 use Rattle.wq_race.specs.Outcome.{HasHeard, ledger_of}
 use Rattle.wq_words.proofs.Seen.{grows_same}
 use Rattle.wq_words.proofs.Prefixes.{prefix_on}

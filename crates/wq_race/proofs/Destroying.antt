@@ -5,7 +5,7 @@ use Rattle.wq_words.specs.History.{IsRunning}
 use Rattle.wq_words.specs.Legal.{IsLegal}
 use Rattle.wq_words.specs.Seen.{own}
 use Rattle.wq_worker.specs.State.{WorkerState}
-use Rattle.wq_worker.specs.Book.{BookState}
+use Rattle.wq_ledger.specs.Book.{BookState}
 use Rattle.wq_race.specs.declared.idle.Idle.{Idle}
 use Rattle.wq_race.specs.Outcome.{HasGoneOn, HasEnded}
 use Rattle.wq_words.proofs.Prefixes.{prefix_on}

@@ -48,10 +48,10 @@ use Rattle.wq_words.proofs.Seen.{own-append, closed_count, ended_same}
 use Rattle.wq_live.specs.Known.{Known}
 use Rattle.wq_words.specs.Counting.{is_queued_by, is_chain, is_chain_busy}
 use Rattle.wq_live.specs.Counts.{sender_counts, owner_counts}
-use Rattle.wq_worker.specs.Book.{LedgerState, BookState, IsLedgerOf}
-use Rattle.wq_worker.specs.declared.balance.Unbalanced.{Unbalanced}
-use Rattle.wq_worker.specs.Balance.{AreWhole, AreOwnerWhole, ledgers_of, HasOne, IsUnbalanced}
-use Rattle.wq_worker.proofs.Pushes.{is_queued_below, below_more, below_all}
+use Rattle.wq_ledger.specs.Book.{LedgerState, BookState, IsLedgerOf}
+use Rattle.wq_ledger.specs.declared.balance.Unbalanced.{Unbalanced}
+use Rattle.wq_ledger.specs.Balance.{AreWhole, AreOwnerWhole, ledgers_of, HasOne, IsUnbalanced}
+use Rattle.wq_ledger.proofs.Pushes.{is_queued_below, below_more, below_all}
 use Rattle.wq_worker.specs.State.{WorkerState, items_among}
 use Rattle.wq_worker.specs.Follow.{Follows}
 use Rattle.wq_words.proofs.Appended.{count_by-append, accepted-count}

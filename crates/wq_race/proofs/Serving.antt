@@ -25,7 +25,8 @@ use Rattle.wq_words.proofs.Appended.{count_by-append}
 use Rattle.wq_words.proofs.Running.{runs_from_running as runs_some}
 use Rattle.wq_worker.proofs.State.{quiet_taking}
 use Rattle.wq_race.specs.declared.idle.Idle.{Idle}
-use Rattle.wq_worker.specs.Book.{BookState, Destroys, LeavesUnfinished}
+use Rattle.wq_ledger.specs.Book.{BookState}
+use Rattle.wq_worker.specs.Destroy.{Destroys, LeavesUnfinished}
 use Rattle.wq_race.specs.Race.{HasServed}
 use Rattle.wq_race.specs.Outcome.{HasGoneOn, HasEnded}
 use Rattle.std.proofs.lemmas.Bool.{or_parts}

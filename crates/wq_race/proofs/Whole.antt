@@ -15,7 +15,7 @@ use Rattle.wq_words.proofs.Seen.{count_own}
 use Rattle.wq_words.specs.Counting.{is_queued_by, is_chain}
 use Rattle.wq_worker.specs.State.{items_among}
 use Rattle.wq_worker.specs.Follow.{Follows}
-use Rattle.wq_worker.proofs.Pushes.{is_queued_below, below_more, below_none}
+use Rattle.wq_ledger.proofs.Pushes.{is_queued_below, below_more, below_none}
 use Rattle.wq_race.specs.Plan.{IsLayoutOf}
 use Rattle.wq_race.specs.Race.{items_at, IsOfStop}
 use Rattle.wq_race.specs.Outcome.{queueings}

@@ -15,7 +15,7 @@ use Rattle.wq_race.specs.Race.{items_at, EndsWithStop}
 use Rattle.wq_live.specs.Known.{Known, IsSame}
 use Rattle.wq_words.specs.Counting.{is_chain, is_chain_busy}
 use Rattle.wq_live.specs.Counts.{sender_counts}
-use Rattle.wq_worker.specs.Book.{LedgerState, BookState}
+use Rattle.wq_ledger.specs.Book.{LedgerState, BookState}
 
 abbrev pub yes_or_no : Bool → List ℕ
 yes_or_no true = codes "yes"

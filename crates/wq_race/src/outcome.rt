@@ -3,8 +3,8 @@ ghost use Rattle.std.specs.Prelude.{◌≡◌, ◌≢◌, ◌<◌, [], ◌∷◌
 ghost use Rattle.wq_words.specs.History.{IsRunning};
 ghost use Rattle.wq_words.specs.Legal.{IsLegal};
 ghost use Rattle.wq_words.specs.Seen.{owner_seat, own};
-ghost use Rattle.wq_worker.specs.Book.{IsLedgerOf};
-ghost use Rattle.wq_worker.specs.Balance.{Balances, IsUnbalanced};
+ghost use Rattle.wq_ledger.specs.Book.{IsLedgerOf};
+ghost use Rattle.wq_ledger.specs.Balance.{Balances, IsUnbalanced};
 ghost use Rattle.wq_race.specs.Race.{HasRun};
 ghost use Rattle.wq_race.specs.Outcome.{outcome_line, yes_or_no as said, Tells, IsWhole, HasMet, AllKnown, HasGoneOn, HasEnded, HasHeard, ledger_of, IsTold, queued_sum};
 

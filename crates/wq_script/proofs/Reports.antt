@@ -13,8 +13,8 @@ use Rattle.wq_words.proofs.Seen.{count_own, ended_same}
 use Rattle.wq_words.specs.Counting as live
 use Rattle.wq_words.specs.Counting.{is_queued_by, is_pending_by, is_closed_by, is_chain_busy}
 use Rattle.wq_live.specs.Counts.{capped}
-use Rattle.wq_worker.specs.declared.totals.Totals.{Totals}
-use Rattle.wq_worker.specs.Totals.{own_totals}
+use Rattle.wq_ledger.specs.declared.totals.Totals.{Totals}
+use Rattle.wq_ledger.specs.Totals.{own_totals}
 use Rattle.wq_words.specs.Counting.{is_chain, is_busy, is_refusal}
 use Rattle.wq_meaning.specs.Commands.{ScriptState}
 use Rattle.wq_words.proofs.Appended.{accepted-count, count_by-append}

@@ -1,12 +1,12 @@
 -- What no longer changes once the queue is closed, and where nothing waits.
 use Rattle.std.proofs.Common.{◌≡◌, ℕ, zero, suc, ◌<◌, ◌==◌, List, [], ◌∷◌, ◌++◌, length, take, drop, None, slice_get, sym, refl, ap}
 use Rattle.std.proofs.Common.{◌∙◌, subst, arith, append_assoc}
-use Rattle.std.proofs.lemmas.List.{append-nil, take_all}
+use Rattle.std.proofs.lemmas.List.{take_all}
 use Rattle.std.proofs.lemmas.List.Elements.{filter-append}
 use Rattle.wq_words.specs.declared.event.Event.{Event}
 use Rattle.wq_words.specs.declared.event.Event.TheVariants.{Hold, Busy, Push, Back, Take, Close}
 use Rattle.wq_words.specs.declared.layout.Layout.{Layout}
-use Rattle.wq_words.specs.History.{accepted_by, accepted, begun, is_close, IsClosed}
+use Rattle.wq_words.specs.History.{accepted_by, accepted, begun, IsClosed}
 use Rattle.wq_words.specs.Legal.{IsLegal}
 use Rattle.wq_words.proofs.Listed.{taken_closed, accepted_push_none}
 use Rattle.wq_words.proofs.Closed.{closed_from_IsClosed}
@@ -16,10 +16,7 @@ use Rattle.wq_words.proofs.OtherSeats.{others_keep}
 use Rattle.wq_live.specs.Batch.{batch, next_of, TakesAll}
 use Rattle.wq_worker.specs.Seats.{NothingWaits, at_take, at_all}
 use Rattle.wq_worker.proofs.Owned.{owner_grows, quiet_none, Stays, stays}
-use Rattle.wq_words.proofs.Appended.{count_by-append}
-
-pub still_closed : (v w : List Event) → IsClosed v → IsClosed (v ++ w)
-still_closed v w shut = omega (arith, count_by-append is_close v w, shut)
+use Rattle.wq_ledger.proofs.Meeting.{still_closed}
 
 -- a closed queue accepts nothing but by its owner
 pub accepted_closed : (layout : Layout) (v new : List Event) → IsLegal layout (v ++ new) → IsClosed v → own owner_seat new ≡ []

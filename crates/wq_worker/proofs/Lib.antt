@@ -8,9 +8,6 @@ pub mod State
 pub mod Step
 pub mod Draining
 pub mod Meeting
-pub mod Pushes
-pub mod Summing
-pub mod Balancing
 pub mod Rows
 pub mod Others
 pub mod Resting

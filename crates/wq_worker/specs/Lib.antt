@@ -4,7 +4,5 @@ pub mod Pair
 pub mod State
 pub mod Resting
 pub mod Step
-pub mod Totals
 pub mod Rows
-pub mod Book
-pub mod Balance
+pub mod Destroy

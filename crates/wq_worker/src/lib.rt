@@ -2,23 +2,18 @@
 //! (`alloc_ordered_workqueue`).
 #![tactic(auto)]
 
-mod balance;
-mod book;
 mod building;
 mod drained;
 mod patience;
 mod ran;
 mod steps;
-mod totals;
 mod work;
 mod worker;
 
-pub use balance::Unbalanced;
-pub use book::{Book, Ledger};
 pub use building::Unbuilt;
 pub use drained::{Drained, Unfinished};
 pub use patience::{PAUSE, SHORT_TAKE};
 pub use ran::Ran;
-pub use totals::Totals;
 pub use work::{Follow, Work};
 pub use worker::Worker;
+pub use wq_ledger::{Book, Ledger, Totals, Unbalanced};

@@ -10,26 +10,25 @@ ghost use Rattle.wq_live.specs.Batch.{TakesAll};
 ghost use Rattle.wq_live.specs.Rest.{MayNotRest};
 ghost use Rattle.wq_words.specs.Legal.{IsLegal, IsComplete};
 ghost use Rattle.wq_words.specs.Headline.{KeepsHeadline};
+ghost use Rattle.wq_ledger.specs.Totals.{own_totals};
 ghost use Rattle.wq_worker.specs.State.{items_among, IsSameWorker, Moves, IsMadeOf, IsNew};
 ghost use Rattle.wq_worker.specs.declared.ran.Ran.TheVariants.{Nothing, Owing};
 ghost use Rattle.wq_worker.specs.Step.{Runs, FindsNothing, Begins};
-ghost use Rattle.wq_worker.specs.Totals.{own_totals};
 ghost use Rattle.wq_worker.specs.Rows.{RunsSome, Drains, Serves, Closes};
 ghost use Rattle.wq_worker.specs.Resting.{HasNoneLeft, rest_events, LeavesWork, IsReady, IsUnready};
-ghost use Rattle.wq_worker.specs.Book.{IsBookOf, Destroys, LeavesUnfinished};
+ghost use Rattle.wq_worker.specs.Destroy.{IsBookOf, Destroys, LeavesUnfinished};
 
-use crate::book::{Book, Ledger};
 use crate::building::Unbuilt;
 use crate::drained::{Drained, Unfinished, left_of};
 use crate::patience::Patience;
 use crate::ran::Ran;
 use crate::steps::{begin_next, end_running, queue_rest, rest, take_next};
-use crate::totals::Totals;
 use crate::work::{Follow, Work};
 use crossbeam_utils::sync::Parker;
 use std::alloc::Global;
 use std::marker::Model;
 use std::sync::Wait;
+use wq_ledger::{Book, Totals};
 use wq_live::{Owner, Sender, build};
 use wq_words::Layout;
 
@@ -377,8 +376,7 @@ impl<W: Work> Worker<W> {
             follow: _,
             at: _,
         } = self;
-        let own = Ledger::of(&sender);
-        (work, Book::new(owner, own))
+        (work, Book::new(owner, &sender))
     }
 
     // Closes the queue where it is open.

@@ -1,7 +1,7 @@
 //! Many queues with two senders each, and as many workers.
 ghost use Rattle.std.specs.Prelude.{◌≡◌, All};
 ghost use Rattle.wq_ready.specs.Known.{IsCallerOf};
-ghost use Rattle.wq_worker.specs.Book.{IsLedgerOf};
+ghost use Rattle.wq_ledger.specs.Book.{IsLedgerOf};
 ghost use Rattle.wq_pool_tests.specs.Crowd.{served_queues, sender_queues, worker_queues, book_queues};
 
 use crate::pool::team::{Guest, Logging, Open, new_queue, take_guests};

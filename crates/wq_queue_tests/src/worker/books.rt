@@ -1,5 +1,5 @@
 //! Books of ledgers, and why they do not balance.
-ghost use Rattle.wq_worker.specs.Book.{IsLedgerOf};
+ghost use Rattle.wq_ledger.specs.Book.{IsLedgerOf};
 
 use crate::worker::team::{FIRST, Fixed, QUEUED, destroy, new_team, queue_item};
 use std::test::Fail;

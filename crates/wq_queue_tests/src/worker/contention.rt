@@ -1,6 +1,6 @@
 //! Executions that are owed, since two senders push in between.
 ghost use Rattle.std.specs.Prelude.{◌≡◌, []};
-ghost use Rattle.wq_worker.specs.Book.{IsLedgerOf};
+ghost use Rattle.wq_ledger.specs.Book.{IsLedgerOf};
 
 use crate::worker::team::{destroy, new_queue, queue_item, serve, take_last};
 use crossbeam_utils::sync::{Parker, Unparker};

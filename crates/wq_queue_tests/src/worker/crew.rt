@@ -1,6 +1,6 @@
 //! Six senders of one queue, five of them in threads beside the worker.
 ghost use Rattle.std.specs.Prelude.{◌≡◌, All};
-ghost use Rattle.wq_worker.specs.Book.{IsLedgerOf};
+ghost use Rattle.wq_ledger.specs.Book.{IsLedgerOf};
 
 use crate::worker::team::{Fixed, destroy, new_queue, serve, stop, take_last};
 use crossbeam_utils::sync::{Parker, Unparker};

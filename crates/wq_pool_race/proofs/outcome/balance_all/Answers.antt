@@ -1,6 +1,6 @@
 use Rattle.std.proofs.Common.{◌≡◌, ◌+◌, List, [], ◌∷◌, length, get_or, refl, sym, ap, ◌∙◌, arith, length-append}
 use Rattle.std.proofs.lemmas.List.{take_all}
-use Rattle.wq_worker.specs.Book.{BookState}
+use Rattle.wq_ledger.specs.Book.{BookState}
 use Rattle.wq_race.specs.declared.idle.Idle.{Idle}
 use Rattle.wq_pool.specs.declared.worker_id.WorkerId.{WorkerId}
 use Rattle.wq_race.specs.declared.plan.Plan.{Plan}

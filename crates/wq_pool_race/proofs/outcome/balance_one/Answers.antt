@@ -2,7 +2,7 @@ use Rattle.std.proofs.Common.{◌≡◌, ℕ, ◌^◌, ◌<◌, ◌∙◌, sym, 
 use Rattle.std.specs.Prelude.{All}
 use Rattle.wq_words.specs.Legal.{IsLegal, IsComplete}
 use Rattle.wq_live.specs.declared.counts.SenderCounts.{SenderCounts}
-use Rattle.wq_worker.specs.Book.{BookState, IsLedgerOf}
+use Rattle.wq_ledger.specs.Book.{BookState, IsLedgerOf}
 use Rattle.wq_race.proofs.Booking.{heard_on}
 use Rattle.wq_race.specs.Outcome.{queued_sum}
 use Rattle.wq_pool_race.proofs.Done.{IsDone, few, run, is_run, tells_run}

@@ -3,7 +3,7 @@ use Rattle.std.specs.Prelude.{All}
 use Rattle.std.proofs.lemmas.Iterator.Adapters.{YieldsList-from_vec}
 use Rattle.std.proofs.lemmas.Iterator.Consumers.{YieldsList-turn, YieldsList-end}
 use Rattle.wq_live.specs.Known.{Known}
-use Rattle.wq_worker.specs.Book.{LedgerState}
+use Rattle.wq_ledger.specs.Book.{LedgerState}
 use Rattle.wq_race.specs.Outcome.{IsTold, ledger_of}
 use Rattle.wq_race.proofs.Booking.{heard_still, heard_on, map-last, map-same, all_last}
 use Rattle.wq_race.proofs.outcome.enter_all.Goals as goal

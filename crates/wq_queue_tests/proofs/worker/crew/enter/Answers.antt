@@ -1,7 +1,7 @@
 use Rattle.std.proofs.Common.{◌≡◌, [], ◌∷◌, ◌++◌, sym, subst}
 use Rattle.std.specs.Prelude.{All}
 use Rattle.std.proofs.lemmas.List.Elements.{All-append, All-cons, All-nil}
-use Rattle.wq_worker.specs.Book.{IsLedgerOf}
+use Rattle.wq_ledger.specs.Book.{IsLedgerOf}
 use Rattle.wq_queue_tests.proofs.worker.crew.enter.Goals as goal
 
 pub returns-clause-made : goal.returns-clause-made

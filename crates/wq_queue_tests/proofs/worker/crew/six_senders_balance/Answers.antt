@@ -1,6 +1,6 @@
 use Rattle.std.proofs.Common.{sym, subst}
 use Rattle.std.specs.Prelude.{All}
-use Rattle.wq_worker.specs.Book.{IsLedgerOf}
+use Rattle.wq_ledger.specs.Book.{IsLedgerOf}
 use Rattle.wq_queue_tests.proofs.worker.crew.six_senders_balance.Goals as goal
 
 pub balance-requires : goal.balance-requires

@@ -1,4 +1,4 @@
-use Rattle.wq_worker.specs.Book.{Destroys}
+use Rattle.wq_worker.specs.Destroy.{Destroys}
 use Rattle.wq_queue_tests.proofs.worker.team.destroy.Goals as goal
 
 pub returns : goal.returns

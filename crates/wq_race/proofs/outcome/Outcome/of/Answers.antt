@@ -2,7 +2,7 @@ use Rattle.std.proofs.Common.{◌≡◌, ℕ, ◌*◌, List, [], ◌∷◌, ◌+
 use Rattle.wq_words.specs.Seen.{own}
 use Rattle.wq_words.proofs.Seen.{running_same}
 use Rattle.wq_live.specs.Known.{Known}
-use Rattle.wq_worker.specs.Book.{LedgerState, BookState, IsLedgerOf}
+use Rattle.wq_ledger.specs.Book.{LedgerState, BookState, IsLedgerOf}
 use Rattle.std.specs.Prelude.{All}
 use Rattle.wq_live.specs.Counts.{sender_counts}
 use Rattle.wq_race.specs.Outcome.{IsWhole, ledger_of}

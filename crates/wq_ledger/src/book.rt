@@ -6,8 +6,8 @@ ghost use Rattle.wq_words.specs.Seen.{owner_seat, Grows};
 ghost use Rattle.wq_live.specs.Known.{Sees};
 ghost use Rattle.wq_live.specs.Counts.{sender_counts};
 ghost use Rattle.wq_live.specs.Laws.{IsStillEnd};
-ghost use Rattle.wq_worker.specs.Book.{IsLedgerOf, IsSettled};
-ghost use Rattle.wq_worker.specs.Balance.{Balances, IsUnbalanced};
+ghost use Rattle.wq_ledger.specs.Book.{IsLedgerOf, IsSettled};
+ghost use Rattle.wq_ledger.specs.Balance.{Balances, IsUnbalanced};
 
 use crate::balance::{Unbalanced, is_owner_whole, is_whole, sum_met};
 use crate::totals::Totals;
@@ -22,7 +22,7 @@ pub struct Ledger {
 }
 
 impl Model for Ledger {
-    ghost use Rattle.wq_worker.specs.Book.{LedgerState};
+    ghost use Rattle.wq_ledger.specs.Book.{LedgerState};
 
     ghost Value = { LedgerState };
 
@@ -65,7 +65,7 @@ pub struct Book {
 }
 
 impl Model for Book {
-    ghost use Rattle.wq_worker.specs.Book.{BookState, IsSettled};
+    ghost use Rattle.wq_ledger.specs.Book.{BookState, IsSettled};
 
     ghost Value = { BookState };
 
@@ -75,10 +75,20 @@ impl Model for Book {
 }
 
 impl Book {
-    pub(crate) fn new(owner: Owner, own: Ledger) -> Book
-        requires { IsSettled owner own }
-        ensures { result ≡ record { queue = owner.queue; layout = owner.layout; seen = owner.seen; own = own } }
+    /// The book of a queue that has run to the end, of its owner and the worker's own sender, which have seen the same. Other
+    /// senders have to meet it before their ledgers are in it.
+    pub fn new(owner: Owner, sender: &Sender) -> Book
+        requires one { sender.now.queue ≡ owner.queue }
+        requires complete { IsComplete owner.seen }
+        requires both { sender.now.seen ≡ owner.seen }
+        ensures queue { result.queue ≡ owner.queue }
+        ensures layout { result.layout ≡ owner.layout }
+        ensures seen { result.seen ≡ owner.seen }
+        ensures number { result.own.number ≡ sender.now.number }
+        ensures counts { result.own.counts ≡ sender_counts sender.now.number sender.now.seen }
     {
+        owner.legal();
+        let own = Ledger::of(sender);
         Book { owner, own }
     }
 

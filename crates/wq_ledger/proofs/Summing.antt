@@ -5,11 +5,11 @@ use Rattle.std.specs.Prelude.{IsSome, sum_by, filter, nat_lt, All}
 use Rattle.std.proofs.lemmas.Bool.{cases_lt, ltb-true, ltb-false, lt-ltb, le-ltb, eqb-true}
 use Rattle.std.proofs.lemmas.List.Sums.{sum_by-cons}
 use Rattle.wq_live.specs.declared.counts.SenderCounts.{SenderCounts}
-use Rattle.wq_worker.specs.Book.{LedgerState}
-use Rattle.wq_worker.specs.declared.totals.Totals.{Totals}
-use Rattle.wq_worker.specs.Balance.{AreWhole, ledgers_of, HasOne, HaveOne, met_total, SumsMet}
-use Rattle.wq_worker.specs.Totals.{none, with_sender, HasGrown}
-use Rattle.wq_worker.proofs.Pushes.{not_same}
+use Rattle.wq_ledger.specs.Book.{LedgerState}
+use Rattle.wq_ledger.specs.declared.totals.Totals.{Totals}
+use Rattle.wq_ledger.specs.Balance.{AreWhole, ledgers_of, HasOne, HaveOne, met_total, SumsMet}
+use Rattle.wq_ledger.specs.Totals.{none, with_sender, HasGrown}
+use Rattle.wq_ledger.proofs.Pushes.{not_same}
 
 pub cond_next : (a e : Bool) (m n x : ℕ) → nat_lt m n ≡ a → (m == n) ≡ e → cond {A = ℕ} (nat_lt m (n + 1)) x 0 ≡ cond a x 0 + cond e x 0
 cond_next true true m n x lt eq = let low : m < n = ltb-true m n lt in let same : m ≡ n = eqb-true m n eq in absurd (omega arith)

@@ -4,12 +4,12 @@ use Rattle.wq_words.specs.declared.layout.Layout.{Layout}
 use Rattle.wq_live.specs.declared.counts.SenderCounts.{SenderCounts}
 use Rattle.wq_live.specs.declared.counts.OwnerCounts.{OwnerCounts}
 use Rattle.wq_live.specs.Counts.{owner_counts}
-use Rattle.wq_worker.specs.declared.totals.Totals.{Totals}
-use Rattle.wq_worker.specs.Totals.{with_sender}
-use Rattle.wq_worker.specs.Book.{BookState, IsLedgerOf}
-use Rattle.wq_worker.specs.Balance.{AreWhole, AreOwnerWhole, SumsMet, Balances}
-use Rattle.wq_worker.proofs.Balancing.{balances}
-use Rattle.wq_worker.proofs.book.Book.balance.Goals as goal
+use Rattle.wq_ledger.specs.declared.totals.Totals.{Totals}
+use Rattle.wq_ledger.specs.Totals.{with_sender}
+use Rattle.wq_ledger.specs.Book.{BookState, IsLedgerOf}
+use Rattle.wq_ledger.specs.Balance.{AreWhole, AreOwnerWhole, SumsMet, Balances}
+use Rattle.wq_ledger.proofs.Balancing.{balances}
+use Rattle.wq_ledger.proofs.book.Book.balance.Goals as goal
 
 pub returns : goal.returns
 returns c =

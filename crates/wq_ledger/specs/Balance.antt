@@ -6,10 +6,10 @@ use Rattle.wq_live.specs.declared.counts.SenderCounts.{SenderCounts}
 use Rattle.wq_live.specs.declared.counts.OwnerCounts.{OwnerCounts}
 use Rattle.wq_words.specs.Counting.{is_chain, is_chain_busy}
 use Rattle.wq_live.specs.Counts.{owner_counts}
-use Rattle.wq_worker.specs.declared.totals.Totals.{Totals}
-use Rattle.wq_worker.specs.declared.balance.Unbalanced.{Unbalanced}
-use Rattle.wq_worker.specs.declared.balance.Unbalanced.TheVariants.{Missing, Twice, Saturated}
-use Rattle.wq_worker.specs.Book.{LedgerState, BookState, IsLedgerOf}
+use Rattle.wq_ledger.specs.declared.totals.Totals.{Totals}
+use Rattle.wq_ledger.specs.declared.balance.Unbalanced.{Unbalanced}
+use Rattle.wq_ledger.specs.declared.balance.Unbalanced.TheVariants.{Missing, Twice, Saturated}
+use Rattle.wq_ledger.specs.Book.{LedgerState, BookState, IsLedgerOf}
 
 abbrev pub largest : ℕ
 largest = 2 ^ 64 - 1

@@ -1,7 +1,7 @@
 use Rattle.std.proofs.Common.{◌≡◌, take}
-use Rattle.wq_worker.specs.Balance.{ledgers_of}
-use Rattle.wq_worker.proofs.Summing.{listed_one}
-use Rattle.wq_worker.proofs.balance.only_ledger.Given as goal
+use Rattle.wq_ledger.specs.Balance.{ledgers_of}
+use Rattle.wq_ledger.proofs.Summing.{listed_one}
+use Rattle.wq_ledger.proofs.balance.only_ledger.Given as goal
 
 abbrev pub invariant-loop-ledger : goal.invariant-loop-ledger
 invariant-loop-ledger l = ledgers_of l.number (take l.ledger-index l.ledgers) ≡ listed_one l.found

@@ -1,5 +1,5 @@
-use Rattle.wq_worker.specs.Balance.{SumsMet}
-use Rattle.wq_worker.proofs.balance.sum_met.Given as goal
+use Rattle.wq_ledger.specs.Balance.{SumsMet}
+use Rattle.wq_ledger.proofs.balance.sum_met.Given as goal
 
 abbrev pub invariant-loop-number : goal.invariant-loop-number
 invariant-loop-number l = SumsMet l.ledgers l.seat l.number l.met

@@ -11,12 +11,12 @@ use Rattle.wq_words.specs.Legal.{IsLegal}
 use Rattle.wq_live.specs.Known.{Known}
 use Rattle.wq_words.specs.Counting.{is_queued_by, is_chain, is_chain_busy}
 use Rattle.wq_live.specs.Counts.{capped, owner_counts}
-use Rattle.wq_worker.specs.declared.totals.Totals.{Totals}
-use Rattle.wq_worker.specs.Book.{LedgerState, IsLedgerOf, IsSettled}
-use Rattle.wq_worker.specs.Balance.{largest, AreWhole, AreOwnerWhole, ledgers_of, HasOne, HaveOne, met_total, SumsMet, Balances}
-use Rattle.wq_worker.proofs.Pushes.{not_same, is_queued_below, below_more, below_none, below_all, none_above, queued_made}
+use Rattle.wq_ledger.specs.declared.totals.Totals.{Totals}
+use Rattle.wq_ledger.specs.Book.{LedgerState, IsLedgerOf, IsSettled}
+use Rattle.wq_ledger.specs.Balance.{largest, AreWhole, AreOwnerWhole, ledgers_of, HasOne, HaveOne, met_total, SumsMet, Balances}
+use Rattle.wq_ledger.proofs.Pushes.{not_same, is_queued_below, below_more, below_none, below_all, none_above, queued_made}
 use Rattle.wq_words.proofs.Appended.{accepted-count}
-use Rattle.wq_worker.proofs.Summing.{cond_next, total_next, total_skip, total_none, kept_first}
+use Rattle.wq_ledger.proofs.Summing.{cond_next, total_next, total_skip, total_none, kept_first}
 
 module _ (layout : Layout) (h : List Event) (legal : IsLegal layout h) (ledgers : List LedgerState) (made : All (IsLedgerOf h) ledgers) (seat : ℕ) where
   abbrev own_below : ℕ → ℕ

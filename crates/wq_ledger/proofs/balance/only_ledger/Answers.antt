@@ -1,9 +1,9 @@
 use Rattle.std.proofs.Common.{rules, ◌≡◌, ℕ, ◌+◌, ◌==◌, cond, length, take, get_or, sym, refl, ap, ◌∙◌, arith, eq-eqb}
 use Rattle.std.specs.Prelude.{IsSome, count_by}
 use Rattle.std.proofs.lemmas.List.Sums.{length-filter, count_by_more_yes, sum_by-take-le}
-use Rattle.wq_worker.specs.Book.{LedgerState}
-use Rattle.wq_worker.proofs.Summing.{some_length}
-use Rattle.wq_worker.proofs.balance.only_ledger.Goals as goal
+use Rattle.wq_ledger.specs.Book.{LedgerState}
+use Rattle.wq_ledger.proofs.Summing.{some_length}
+use Rattle.wq_ledger.proofs.balance.only_ledger.Goals as goal
 
 pub returns-then-is_some : goal.returns-then-is_some
 returns-then-is_some c =

@@ -1,6 +1,6 @@
 //! Ledgers that balance, or why they do not.
 ghost use Rattle.std.specs.Prelude.{◌≡◌, ◌↔◌, ◌*◌, ◌<◌, [], ◌∷◌, IsTrue, MatchResult};
-ghost use Rattle.wq_worker.specs.Balance.{AreWhole, AreOwnerWhole, ledgers_of, IsFault, SumsMet, FaultsBelow};
+ghost use Rattle.wq_ledger.specs.Balance.{AreWhole, AreOwnerWhole, ledgers_of, IsFault, SumsMet, FaultsBelow};
 
 use crate::book::Ledger;
 use crate::totals::Totals;

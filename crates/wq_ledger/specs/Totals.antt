@@ -4,18 +4,22 @@ use Rattle.wq_words.specs.declared.event.Event.{Event}
 use Rattle.wq_live.specs.declared.counts.SenderCounts.{SenderCounts}
 use Rattle.wq_live.specs.declared.counts.OwnerCounts.{OwnerCounts}
 use Rattle.wq_live.specs.Counts.{sender_counts, owner_counts}
-use Rattle.wq_worker.specs.declared.totals.Totals.{Totals}
+use Rattle.wq_ledger.specs.declared.totals.Totals.{Totals}
 
--- the counts of a worker's two seats, the sender s and the owner; an item that a chaining found pending counts as pending
-abbrev pub own_totals : ℕ → List Event → Totals
-own_totals s h = record {
-  queued = (sender_counts s h).queued;
-  chained = (owner_counts h).chained;
-  executed = (owner_counts h).ended;
-  pending = (sender_counts s h).pending + (owner_counts h).chain_busy;
-  closed = (sender_counts s h).closed;
-  contended = (sender_counts s h).contended;
+-- the counts of a sender and of the owner; an item that a chaining found pending counts as pending
+abbrev pub totals_of : SenderCounts → OwnerCounts → Totals
+totals_of sender owner = record {
+  queued = sender.queued;
+  chained = owner.chained;
+  executed = owner.ended;
+  pending = sender.pending + owner.chain_busy;
+  closed = sender.closed;
+  contended = sender.contended;
 }
+
+-- the counts of a worker's two seats, the sender s and the owner, in this history
+abbrev pub own_totals : ℕ → List Event → Totals
+own_totals s h = totals_of (sender_counts s h) (owner_counts h)
 
 -- nothing counted
 abbrev pub none : Totals

@@ -12,10 +12,10 @@ use Rattle.wq_words.proofs.Growing.{count_by_push}
 use Rattle.wq_words.proofs.Legal.{legal_induction, legal_next, legal_rest}
 use Rattle.wq_live.specs.declared.counts.SenderCounts.{SenderCounts}
 use Rattle.wq_words.specs.Counting.{is_queued_by}
-use Rattle.wq_worker.specs.Book.{LedgerState, IsLedgerOf}
-use Rattle.wq_worker.specs.Balance.{largest}
+use Rattle.wq_ledger.specs.Book.{LedgerState, IsLedgerOf}
+use Rattle.wq_ledger.specs.Balance.{largest}
 use Rattle.wq_words.proofs.Appended.{count_by-append, count_by-cons}
-use Rattle.wq_worker.proofs.Closing.{still_closed}
+use Rattle.wq_ledger.proofs.Meeting.{still_closed}
 
 -- the push of a sender below n
 abbrev pub is_queued_below : ℕ → Event → Bool

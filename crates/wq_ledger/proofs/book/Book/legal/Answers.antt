@@ -2,8 +2,8 @@ use Rattle.std.proofs.Common.{subst}
 use Rattle.wq_words.specs.Legal.{IsLegal, IsComplete}
 use Rattle.wq_words.specs.Headline.{KeepsHeadline}
 use Rattle.wq_words.proofs.Headlines.{keeps_headline}
-use Rattle.wq_worker.specs.Book.{BookState}
-use Rattle.wq_worker.proofs.book.Book.legal.Goals as goal
+use Rattle.wq_ledger.specs.Book.{BookState}
+use Rattle.wq_ledger.proofs.book.Book.legal.Goals as goal
 
 pub returns-clause-legal : goal.returns-clause-legal
 returns-clause-legal c = subst (λ (z : BookState). IsLegal z.layout z.seen) c.self.view_is c.self.invariant.legal

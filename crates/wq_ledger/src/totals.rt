@@ -1,7 +1,6 @@
 //! The counts of a queue's seats, summed.
-ghost use Rattle.std.specs.Prelude.{◌≡◌, ◌+◌, ◌^◌, ◌<◌};
-ghost use Rattle.wq_live.specs.Counts.{sender_counts, owner_counts};
-ghost use Rattle.wq_worker.specs.Totals.{own_totals, none, with_sender, with_owner, HasRoom, HasGrown};
+ghost use Rattle.std.specs.Prelude.{◌≡◌, ◌^◌, ◌<◌};
+ghost use Rattle.wq_ledger.specs.Totals.{totals_of, none, with_sender, with_owner, HasRoom, HasGrown};
 
 use wq_live::{OwnerCounts, SenderCounts};
 
@@ -23,8 +22,9 @@ pub struct Totals {
 }
 
 impl Totals {
-    pub(crate) fn of(sender: SenderCounts, owner: OwnerCounts) -> Totals
-        ensures { (s : _) (h : _) → sender ≡ sender_counts s h → owner ≡ owner_counts h → result ≡ own_totals s h }
+    /// The counts of one sender and of the owner.
+    pub fn of(sender: SenderCounts, owner: OwnerCounts) -> Totals
+        ensures sums { result ≡ totals_of sender owner }
     {
         Totals {
             queued: u128::from(sender.queued),

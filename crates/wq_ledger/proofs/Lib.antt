@@ -1,0 +1,4 @@
+pub mod Meeting
+pub mod Pushes
+pub mod Summing
+pub mod Balancing

@@ -1,0 +1,42 @@
+-- What stays of a queue that is closed, and of a book, as more is seen.
+use Rattle.std.proofs.Common.{◌≡◌, ℕ, List, [], ◌++◌, sym, ap, ◌∙◌, subst, arith}
+use Rattle.std.proofs.lemmas.List.{append-nil}
+use mathlib.Core.List.{IsPrefix}
+use Rattle.wq_words.specs.declared.layout.Layout.{Layout}
+use Rattle.wq_words.specs.declared.event.Event.{Event}
+use Rattle.wq_words.specs.History.{is_close, IsClosed}
+use Rattle.wq_words.specs.Legal.{IsLegal, IsComplete}
+use Rattle.wq_words.specs.Seen.{Grows}
+use Rattle.wq_words.proofs.Appended.{count_by-append}
+use Rattle.wq_words.proofs.Prefixes.{prefix_append}
+use Rattle.wq_live.specs.Counts.{sender_counts}
+use Rattle.wq_live.proofs.Final.{final}
+use Rattle.wq_ledger.specs.Book.{LedgerState, IsLedgerOf}
+
+pub still_closed : (v w : List Event) → IsClosed v → IsClosed (v ++ w)
+still_closed v w shut = omega (arith, count_by-append is_close v w, shut)
+
+pub still_complete : (layout : Layout) (v new : List Event) → IsLegal layout (v ++ new) → IsComplete v → IsComplete (v ++ new)
+still_complete layout v new legal done = let same = final layout v done new legal in (still_closed v new done.0, rw (same.0, same.2) done.1)
+
+pub complete_still : (layout : Layout) (c n : ℕ) (v w : List Event) → Grows c [] n v w → IsLegal layout w → IsComplete v → IsComplete w
+complete_still layout c n v w g legal done =
+    subst (λ (z : List Event). IsComplete z) (sym g.is) (still_complete layout v g.new (subst (IsLegal layout) g.is legal) done)
+
+pub made_still : (c n : ℕ) (v w : List Event) (ledger : LedgerState) → Grows c [] n v w → IsLedgerOf v ledger → IsLedgerOf w ledger
+made_still c n v w ledger g m = record {
+  met = m.met;
+  before = subst (λ (z : List Event). IsPrefix m.met z) (sym g.is) (prefix_append m.met v g.new m.before);
+  shut = m.shut;
+  counts_are = m.counts_are;
+}
+
+-- what a sender that has seen all of a closed queue's history has counted
+pub made_now : (h v : List Event) (s : ℕ) (ledger : LedgerState) → v ≡ h → IsClosed h → ledger.number ≡ s → ledger.counts ≡ sender_counts s v
+    → IsLedgerOf h ledger
+made_now h v s ledger same shut number counts = record {
+  met = h;
+  before = ([], append-nil h);
+  shut = shut;
+  counts_are = counts ∙ (ap (sender_counts s) same ∙ ap (λ (z : ℕ). sender_counts z h) (sym number));
+}

@@ -1,0 +1,39 @@
+use Rattle.std.proofs.Common.{ℕ, [], sym, ap, ◌∙◌, subst}
+use Rattle.wq_words.specs.Seen.{owner_seat, Grows}
+use Rattle.wq_live.specs.Laws.{IsStillEnd}
+use Rattle.wq_ledger.specs.Book.{BookState, IsLedgerOf}
+use Rattle.wq_ledger.proofs.Meeting.{complete_still, made_still, made_now}
+use Rattle.wq_ledger.proofs.book.Book.meet.Goals as goal
+
+pub invariant_of-self : goal.invariant_of-self
+invariant_of-self c =
+    let o = c.self.inside.owner in let that = c.meet_owner.ensures.that in let q = c.meet_owner.new.owner in record {
+      legal = that.legal;
+      complete = complete_still q.layout o.number 0 o.seen q.seen that.grows that.legal c.self.invariant.complete;
+      made = made_still o.number 0 o.seen q.seen c.self.inside.own that.grows c.self.invariant.made;
+    }
+
+pub returns-clause-made : goal.returns-clause-made
+returns-clause-made c =
+    let o = c.self.inside.owner in let m = c.meet_owner.ensures in let q = c.meet_owner.new.owner in let u = c.meet_owner.new.self in
+    let done = complete_still q.layout o.number 0 o.seen q.seen m.that.grows m.that.legal c.self.invariant.complete in
+    made_now q.seen u.seen u.number c.of.result (sym m.both) done.0 c.of.ensures.number c.of.ensures.counts
+
+pub returns-clause-kept : goal.returns-clause-kept
+returns-clause-kept c ledger made =
+    let o = c.self.inside.owner in let m = c.meet_owner.ensures in let q = c.meet_owner.new.owner in
+    let old : IsLedgerOf o.seen ledger = subst (λ (z : BookState). IsLedgerOf z.seen ledger) (sym c.self.view_is) made in
+    made_still o.number 0 o.seen q.seen ledger m.that.grows old
+
+pub returns-clause-owner : goal.returns-clause-owner
+returns-clause-owner c =
+    let o = c.self.inside.owner in let m = c.meet_owner.ensures in let q = c.meet_owner.new.owner in
+    let g : Grows owner_seat [] 0 o.seen q.seen = subst (λ (z : ℕ). Grows z [] 0 o.seen q.seen) m.seat m.that.grows in
+    subst (λ (z : BookState). Grows owner_seat [] 0 z.seen q.seen) c.self.view_is g
+
+pub returns-clause-layout : goal.returns-clause-layout
+returns-clause-layout c = sym c.meet_owner.ensures.layout ∙ ap (λ (z : BookState). z.layout) c.self.view_is
+
+pub returns-clause-last : goal.returns-clause-last
+returns-clause-last c =
+    let q = c.meet_owner.new.owner in subst (λ (z : BookState). IsStillEnd z.seen q.seen) c.self.view_is (c.meet_owner.ensures.last c.self.invariant.complete)

@@ -1,0 +1,3 @@
+pub mod Totals
+pub mod Book
+pub mod Balance
