@@ -5,7 +5,7 @@ ghost use Rattle.wq_words.specs.Seen.{own};
 ghost use Rattle.wq_ready.specs.Known.{IsCallerOf};
 ghost use Rattle.wq_worker.specs.State.{items_among};
 ghost use Rattle.wq_pool.specs.Finished.{AreFinished};
-ghost use Rattle.wq_pool.specs.WorkerId.{worker_id};
+ghost use Rattle.wq_served.specs.WorkerId.{worker_id};
 ghost use Rattle.two_queues.specs.Ended.{IsNewLine, HaveQueued, RanAll};
 
 use crate::queueing::{Line, Seat, Told, queue_all};

@@ -5,13 +5,14 @@ use Rattle.std.proofs.lemmas.List.Elements.{All-append}
 use Rattle.wq_words.specs.Legal.{IsComplete}
 use Rattle.wq_words.proofs.Growing.{take_more_some}
 use Rattle.wq_ledger.specs.Book.{BookState}
-use Rattle.wq_pool.specs.declared.worker_id.WorkerId.{WorkerId}
+use Rattle.wq_served.specs.declared.worker_id.WorkerId.{WorkerId}
 use Rattle.wq_pool.specs.Known.{SlotsState, TurnState, turn_id}
-use Rattle.wq_pool.specs.Drained.{IsDrained}
+use Rattle.wq_served.specs.Drained.{IsDrained}
 use Rattle.wq_pool.specs.Finish.{AreFirst, AreComplete, IsLeftAt, LeavesOf, FirstLeft}
-use Rattle.wq_pool.specs.Finished.{IsFinished, AreFinished}
+use Rattle.wq_served.specs.Finished.{IsFinished}
+use Rattle.wq_pool.specs.Finished.{AreFinished}
 use Rattle.wq_pool.specs.Slots.{IsWorkerAt}
-use Rattle.wq_pool.proofs.Draining.{left_complete}
+use Rattle.wq_served.proofs.Draining.{left_complete}
 
 pub map_same : {A : Type 0} (xs : List A) → map (λ (x : A). x) xs ≡ xs
 map_same [] = refl

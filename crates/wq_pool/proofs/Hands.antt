@@ -3,7 +3,7 @@ use Rattle.std.proofs.Common.{◌≡◌, ℕ, List, [], ◌∷◌, replicate, sy
 use mathlib.Core.Option.{none}
 use Rattle.atomic_table.specs.Table.{step, Allows, rest}
 use Rattle.wq_worker.specs.State.{WorkerState}
-use Rattle.wq_pool.specs.declared.worker_id.WorkerId.{WorkerId}
+use Rattle.wq_served.specs.declared.worker_id.WorkerId.{WorkerId}
 use Rattle.wq_pool.specs.Slots.{KeptSlots, empty_hand, hand_with, IsWorkerAt, SlotSat, picks_up, lays_down}
 use Rattle.wq_pool.proofs.Kept.{lays_allowed}
 

@@ -13,8 +13,8 @@ use Rattle.atomic_table.specs.Table.{State, step, keeps, takes, gives, Act, Allo
 use Rattle.atomic_table.proofs.Lists.{at_set, at_snoc, set_here, set_else, set_again}
 use Rattle.wq_worker.specs.State.{WorkerState}
 use Rattle.wq_pool.specs.declared.slots.Hand.{Hand}
-use Rattle.wq_pool.specs.declared.worker_id.WorkerId.{WorkerId}
-use Rattle.wq_pool.specs.WorkerId.{worker_id}
+use Rattle.wq_served.specs.declared.worker_id.WorkerId.{WorkerId}
+use Rattle.wq_served.specs.WorkerId.{worker_id}
 use Rattle.wq_pool.specs.Slots.{KeptSlots, empty_hand, hand_with, IsWorkerAt, SlotSat, comes, picks_up, lays_down}
 
 abbrev SlotsNow : Type 0 → Type 0

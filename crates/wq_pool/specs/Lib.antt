@@ -1,9 +1,5 @@
-pub mod Owes
-pub mod WorkerId
 pub mod Known
 pub mod Slots
-pub mod Steps
-pub mod Drained
 pub mod Finished
 pub mod Views
 pub mod Pool

@@ -7,9 +7,8 @@ ghost use Rattle.wq_ready.specs.Known.{IsCallerOf, new_callers};
 ghost use Rattle.wq_pool.specs.declared.pool.PoolError.TheVariants as pool_error;
 ghost use Rattle.wq_pool.specs.Known.{queue_in_turn};
 ghost use Rattle.wq_pool.specs.Pool.{IsTurnOf, IsNoPool};
-ghost use Rattle.wq_pool.specs.WorkerId.{worker_id};
+ghost use Rattle.wq_served.specs.WorkerId.{worker_id};
 
-use crate::served::Served;
 use crate::slots::Slots;
 use crate::turn::{Turn, Worked};
 use std::alloc::Global;
@@ -20,6 +19,7 @@ use std::sync::atomic::Ordering::SeqCst;
 use std::thread;
 use thiserror::Error;
 use wq_ready::{AnnounceError, Caller, ReadyQueue, Size};
+use wq_served::Served;
 use wq_worker::Work;
 
 /// The most queues of a pool.

@@ -4,7 +4,6 @@ ghost use Rattle.wq_ready.specs.Known.{CallerState, IsCallerOf};
 ghost use Rattle.wq_pool.specs.Known.{IsSameTurn};
 ghost use Rattle.wq_pool.specs.Pool.{GoesOnFrom};
 
-use crate::gate::Gate;
 use crate::pool::Pool;
 use crate::turn::{Turn, Worked};
 use std::alloc::AllocError;
@@ -13,6 +12,7 @@ use std::sync::atomic::Ordering::SeqCst;
 use std::thread;
 use std::thread::Threads;
 use wq_ready::Caller;
+use wq_served::Gate;
 use wq_worker::Work;
 
 // So many executions are made before a queue's turn is looked at again.

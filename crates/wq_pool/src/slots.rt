@@ -1,17 +1,15 @@
 //! The queues of a pool in slots: each is in its slot, or in the hand of the one that picked it up.
 ghost use Rattle.std.specs.Prelude.{◌≡◌, ◌<◌, ◌^◌, Some, map, length, slice_get, IfOk, IfSome};
 ghost use Rattle.wq_words.specs.History.{IsRunning};
-ghost use Rattle.wq_pool.specs.WorkerId.{worker_id};
+ghost use Rattle.wq_served.specs.WorkerId.{worker_id};
 
-use crate::runner::Runner;
-use crate::served::Served;
 use crate::turn::{Turn, Worked};
-use crate::worker_id::WorkerId;
 use atomic_table::{Play, Seat, Table, TableRule};
 use std::alloc::{AllocError, Global};
 use std::collections::LinkedList;
 use std::marker::Model;
 use std::snapshot::Snapshot;
+use wq_served::{Runner, Served, WorkerId};
 use wq_worker::Work;
 
 /// What a seat knows: the queue that it has in hand, and which workers were handed in. No value of it is made.
@@ -28,7 +26,7 @@ pub struct Law;
 
 impl<W: Work> TableRule<Option<Served<W>>, Hand, Handed<W>> for Law {
     ghost use Rattle.std.specs.Prelude.{map};
-    ghost use Rattle.wq_pool.specs.WorkerId.{worker_id};
+    ghost use Rattle.wq_served.specs.WorkerId.{worker_id};
     ghost use Rattle.wq_pool.specs.Slots.{KeptSlots, empty_hand};
 
     ghost holds = { λ handed state. KeptSlots (map worker_id handed.value.items) state };

@@ -35,8 +35,8 @@ use Rattle.wq_race.proofs.Balanced.{count_few}
 use Rattle.wq_race.proofs.Ended.{all_front}
 use Rattle.wq_race.proofs.Pushed.{IsShared, items_pushed}
 use Rattle.wq_race.proofs.Whole.{queued_own}
-use Rattle.wq_pool.specs.declared.worker_id.WorkerId.{WorkerId}
-use Rattle.wq_pool.specs.Finished.{IsFinished}
+use Rattle.wq_served.specs.declared.worker_id.WorkerId.{WorkerId}
+use Rattle.wq_served.specs.Finished.{IsFinished}
 use Rattle.wq_pool_race.specs.Outcome.{QueueRun, IsQueueRun, accepted_items, ended_items, IsBalanced, IsFaulty, TellsRun, IsOutcomeOf}
 use Rattle.wq_pool_race.specs.Race.{IsSent}
 use Rattle.wq_pool_race.proofs.Counted.{follows_few, counts_on, spare, all_ended}

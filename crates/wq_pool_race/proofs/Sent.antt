@@ -11,9 +11,9 @@ use Rattle.wq_race.specs.declared.idle.Idle.{Idle}
 use Rattle.wq_race.specs.declared.plan.Plan.{Plan}
 use Rattle.wq_race.specs.Race.{HasStopped, IsOfStop, IsQueuer}
 use Rattle.wq_race.proofs.Running.{own_room, own-first, queuer}
-use Rattle.wq_pool.specs.declared.worker_id.WorkerId.{WorkerId}
+use Rattle.wq_served.specs.declared.worker_id.WorkerId.{WorkerId}
 use Rattle.wq_pool.specs.Known.{PoolState}
-use Rattle.wq_pool.specs.WorkerId.{worker_id}
+use Rattle.wq_served.specs.WorkerId.{worker_id}
 use Rattle.wq_pool_race.specs.declared.race.Callers.{Callers}
 use Rattle.wq_pool_race.specs.declared.teams.Group.{Group}
 use Rattle.wq_pool_race.specs.declared.teams.Teams.{Teams}

@@ -10,8 +10,9 @@ use Rattle.wq_worker.specs.State.{items_among}
 use Rattle.wq_race.specs.declared.idle.Idle.{Idle}
 use Rattle.wq_race.specs.declared.outcome.Outcome.{Outcome}
 use Rattle.wq_race.specs.declared.plan.Plan.{Plan}
-use Rattle.wq_pool.specs.declared.worker_id.WorkerId.{WorkerId}
-use Rattle.wq_pool.specs.Finished.{IsFinished, AreFinished}
+use Rattle.wq_served.specs.declared.worker_id.WorkerId.{WorkerId}
+use Rattle.wq_served.specs.Finished.{IsFinished}
+use Rattle.wq_pool.specs.Finished.{AreFinished}
 use Rattle.wq_pool_race.specs.declared.teams.Group.{Group}
 use Rattle.wq_pool_race.specs.Race.{IsSent, AllSent}
 use Rattle.wq_pool_race.specs.Outcome.{

@@ -1,8 +1,9 @@
 //! What a race over a pool did, and whether its books balance.
 ghost use Rattle.std.specs.Prelude.{◌≡◌, ℕ, ◌+◌, ◌^◌, ◌<◌, ◌≤◌, List, length, All, IfOk};
 ghost use Rattle.wq_live.specs.Known.{Known};
-ghost use Rattle.wq_pool.specs.declared.worker_id.WorkerId.{WorkerId};
-ghost use Rattle.wq_pool.specs.Finished.{IsFinished, AreFinished};
+ghost use Rattle.wq_served.specs.declared.worker_id.WorkerId.{WorkerId};
+ghost use Rattle.wq_served.specs.Finished.{IsFinished};
+ghost use Rattle.wq_pool.specs.Finished.{AreFinished};
 ghost use Rattle.wq_race.specs.Outcome.{HasHeard, AllKnown};
 ghost use Rattle.wq_pool_race.specs.Race.{IsSent, AllSent};
 ghost use Rattle.wq_pool_race.specs.Outcome.{QueueRun, IsQueueRun, TellsRun, TellsRuns, IsOutcomeOf, AreBoth};

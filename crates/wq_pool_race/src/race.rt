@@ -1,7 +1,7 @@
 //! A run of several queues by live threads.
 ghost use Rattle.std.specs.Prelude.{◌≡◌, ℕ, ◌+◌, ◌<◌, ◌≤◌, map, length, All, IfSome, IfOk};
 ghost use Rattle.wq_ready.specs.Known.{IsCallerOf};
-ghost use Rattle.wq_pool.specs.WorkerId.{worker_id};
+ghost use Rattle.wq_served.specs.WorkerId.{worker_id};
 ghost use Rattle.wq_worker.specs.State.{WorkerState};
 ghost use Rattle.wq_race.specs.Plan.{IsLayoutOf};
 ghost use Rattle.wq_race.specs.Race.{AllQueued};

@@ -5,8 +5,8 @@ use Rattle.std.proofs.lemmas.List.{map_push, append-nil, length-map, take_all, d
 use Rattle.wq_live.specs.Known.{QueueId, Known}
 use Rattle.wq_worker.specs.State.{WorkerState}
 use Rattle.wq_ledger.specs.Book.{BookState}
-use Rattle.wq_pool.specs.declared.worker_id.WorkerId.{WorkerId}
-use Rattle.wq_pool.specs.WorkerId.{worker_id}
+use Rattle.wq_served.specs.declared.worker_id.WorkerId.{WorkerId}
+use Rattle.wq_served.specs.WorkerId.{worker_id}
 use Rattle.wq_pool.specs.Finished.{AreFinished}
 use Rattle.wq_pool_tests.specs.Crowd.{served_queues, sender_queues, worker_queues, book_queues}
 

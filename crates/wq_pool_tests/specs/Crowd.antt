@@ -3,7 +3,7 @@ use Rattle.std.specs.Prelude.{List, map}
 use Rattle.wq_live.specs.Known.{QueueId, Known}
 use Rattle.wq_worker.specs.State.{WorkerState}
 use Rattle.wq_ledger.specs.Book.{BookState}
-use Rattle.wq_pool.specs.declared.worker_id.WorkerId.{WorkerId}
+use Rattle.wq_served.specs.declared.worker_id.WorkerId.{WorkerId}
 
 abbrev pub served_queues : {W : Type 0} → List (WorkerState W) → List QueueId
 served_queues {W} workers = map (λ (w : WorkerState W). w.queue) workers

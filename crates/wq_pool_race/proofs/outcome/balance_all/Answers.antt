@@ -2,7 +2,7 @@ use Rattle.std.proofs.Common.{◌≡◌, ◌+◌, List, [], ◌∷◌, length, g
 use Rattle.std.proofs.lemmas.List.{take_all}
 use Rattle.wq_ledger.specs.Book.{BookState}
 use Rattle.wq_race.specs.declared.idle.Idle.{Idle}
-use Rattle.wq_pool.specs.declared.worker_id.WorkerId.{WorkerId}
+use Rattle.wq_served.specs.declared.worker_id.WorkerId.{WorkerId}
 use Rattle.wq_race.specs.declared.plan.Plan.{Plan}
 use Rattle.wq_pool.specs.Finished.{AreFinished}
 use Rattle.wq_pool_race.specs.Race.{AllSent}

@@ -1,6 +1,6 @@
 use Rattle.std.proofs.Common.{◌≡◌, ◌+◌, ◌≤◌, List, length, take}
 use Rattle.wq_race.specs.declared.plan.Plan.{Plan}
-use Rattle.wq_pool.specs.declared.worker_id.WorkerId.{WorkerId}
+use Rattle.wq_served.specs.declared.worker_id.WorkerId.{WorkerId}
 use Rattle.wq_pool.specs.Finished.{AreFinished}
 use Rattle.wq_pool_race.specs.Outcome.{QueueRun, TellsRuns}
 use Rattle.wq_pool_race.specs.Race.{AllSent}

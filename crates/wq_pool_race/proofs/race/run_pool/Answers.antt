@@ -1,9 +1,9 @@
 use Rattle.std.proofs.Common.{◌≡◌, List, length, map, ◌∙◌, subst, arith}
 use Rattle.std.proofs.lemmas.List.{length-map}
 use Rattle.wq_race.specs.declared.idle.Idle.{Idle}
-use Rattle.wq_pool.specs.declared.worker_id.WorkerId.{WorkerId}
+use Rattle.wq_served.specs.declared.worker_id.WorkerId.{WorkerId}
 use Rattle.wq_pool.specs.Finished.{AreFinished}
-use Rattle.wq_pool.specs.WorkerId.{worker_id}
+use Rattle.wq_served.specs.WorkerId.{worker_id}
 use Rattle.wq_pool_race.proofs.Sent.{may_run, same_size, all_sent}
 use Rattle.wq_pool_race.proofs.race.run_pool.Goals as goal
 

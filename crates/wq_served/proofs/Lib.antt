@@ -1,0 +1,4 @@
+pub mod Refused
+pub mod Steps
+pub mod Settled
+pub mod Draining

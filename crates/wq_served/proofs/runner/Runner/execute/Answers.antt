@@ -1,0 +1,21 @@
+use Rattle.std.proofs.Common.{ap, subst}
+use Rattle.wq_worker.specs.Resting.{HasNoneLeft}
+use Rattle.wq_worker.specs.State.{WorkerState}
+use Rattle.wq_served.specs.declared.runner.Progress.TheVariants.{Owed}
+use Rattle.wq_served.specs.Steps.{Executes}
+use Rattle.wq_served.proofs.Settled.{owing_runs}
+use Rattle.wq_served.proofs.Steps.{something_runs}
+use Rattle.wq_served.proofs.runner.Runner.execute.Goals as goal
+
+pub invariant_of-self : goal.invariant_of-self
+invariant_of-self g c =
+    owing_runs g.W.Work.may c.in-Owing.field-0 c.self.inside.worker c.run_one.new.self c.in-Owing.ensures.runs
+
+pub returns-in-Owing : goal.returns-in-Owing
+returns-in-Owing g c =
+    subst (λ (w : WorkerState _). Executes g.W.Work.may Owed w c.run_one.new.self) c.self.view_is (c.in-Owing.field-0, c.in-Owing.ensures.runs)
+
+pub unreachable-requires : goal.unreachable-requires
+unreachable-requires g c =
+    let some : ¬ HasNoneLeft c.self.inside.worker.seen = rw (ap (λ (w : WorkerState _). w.seen) c.self.view_is) c.requires in
+    something_runs g.W.Work.may c.self.inside.worker c.run_one.new.self some c.in-Nothing.ensures.runs (c.run_one.ensures.none c.in-Nothing.is)

@@ -1,0 +1,11 @@
+use Rattle.std.proofs.Common.{ap}
+use Rattle.wq_words.specs.Legal.{IsComplete}
+use Rattle.wq_worker.specs.State.{WorkerState}
+use Rattle.wq_served.proofs.Draining.{never_unfinished}
+use Rattle.wq_served.proofs.served.Served.into_parts.Goals as goal
+
+pub unreachable-requires : goal.unreachable-requires
+unreachable-requires g c =
+    let a = c.self.inside.worker in let left = c.in-Err.field-0 in
+    let done : IsComplete a.seen = rw (ap (λ (w : WorkerState _). w.seen) c.self.view_is) c.requires in
+    never_unfinished g.W.Work.may g.W.Work.log a left.worker left.left done c.in-Err.ensures.outcome

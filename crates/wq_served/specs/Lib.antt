@@ -1,0 +1,5 @@
+pub mod Owes
+pub mod WorkerId
+pub mod Steps
+pub mod Drained
+pub mod Finished

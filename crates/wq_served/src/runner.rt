@@ -1,0 +1,172 @@
+//! A worker at work.
+ghost use Rattle.std.specs.Prelude.{◌≡◌};
+ghost use Rattle.wq_words.specs.History.{begun, IsRunning};
+ghost use Rattle.wq_words.specs.Legal.{IsLegal};
+ghost use Rattle.wq_words.specs.Headline.{KeepsHeadline};
+ghost use Rattle.wq_worker.specs.Resting.{HasNoneLeft};
+ghost use Rattle.wq_worker.specs.Seats.{NothingWaits};
+ghost use Rattle.wq_worker.specs.State.{items_among};
+ghost use Rattle.wq_served.specs.Steps.{Settles, Executes, Advances, WorksOn};
+
+use crate::gate::Gate;
+use crate::served::{Served, StopItem};
+use std::marker::Model;
+use wq_worker::{Ran, Work, Worker};
+
+/// What a step came to.
+pub(crate) enum Progress {
+    /// An execution ended.
+    Ended,
+    /// An execution is owed.
+    Owed,
+    /// Nothing was left to do: the queue rests, or has run to its end.
+    Done,
+}
+
+/// A worker at work: one that may owe an execution, with its queue in the hand of one thread.
+#[derive(Drop)]
+pub struct Runner<W: Work> {
+    worker: Worker<W>,
+    owes: bool,
+    stop_item: StopItem,
+}
+
+impl<W: Work> Model for Runner<W> {
+    ghost use Rattle.wq_worker.specs.State.{WorkerState};
+    ghost use Rattle.wq_served.specs.Owes.{Owes};
+
+    ghost Value = { WorkerState W };
+
+    ghost view = { λ r. r.worker };
+
+    ghost invariant = { λ r. Owes r.owes r.worker.seen };
+}
+
+impl<W: Work> Runner<W> {
+    /// Takes a worker that owes nothing to work.
+    pub fn of(served: Served<W>) -> Runner<W>
+        ensures same { result ≡ served }
+        ensures idle { ¬ IsRunning result.seen }
+    {
+        Runner {
+            worker: served.worker,
+            owes: false,
+            stop_item: served.stop_item,
+        }
+    }
+
+    /// What the worker has seen is a legal history, so the queue keeps the headline. The work has run the items that have
+    /// begun, in this order.
+    pub fn legal(&self)
+        ensures legal { IsLegal self.now.layout self.now.seen }
+        ensures headline { KeepsHeadline self.now.seen }
+        ensures logged { W.log self.now.work ≡ items_among self.now.layout (begun self.now.seen) }
+    {
+        self.worker.legal();
+        self.worker.logged();
+    }
+
+    /// The worker at rest, where it owes nothing.
+    pub fn into_served(self) -> Served<W>
+        requires { ¬ IsRunning self.seen }
+        ensures same { result ≡ self }
+    {
+        Served {
+            worker: self.worker,
+            stop_item: self.stop_item,
+        }
+    }
+
+    // Rests, where nothing is left and the queue is open. Where that is refused something was pushed, since the worker has taken
+    // after its last rest, and the next take finds it.
+    fn rest(&mut self) -> Option<u32>
+        requires waits { NothingWaits self.old.seen }
+        requires none { HasNoneLeft self.old.seen }
+        ensures { Settles W.may result self.old self.new }
+    {
+        if self.worker.is_closed() {
+            return None;
+        }
+        if self.worker.rest() {
+            return None;
+        }
+        self.worker.ready()
+    }
+
+    // Answers the number to be begun next. `None` where nothing is left to do.
+    fn settle(&mut self) -> Option<u32>
+        requires { ¬ IsRunning self.old.seen }
+        ensures { Settles W.may result self.old self.new }
+    {
+        match self.worker.ready() {
+            Some(number) => Some(number),
+            None => self.rest(),
+        }
+    }
+
+    // Executes the next number, or goes on with the one that is owed.
+    fn execute<G: Gate>(&mut self, queue: u32, gate: &G) -> Progress
+        requires { ¬ HasNoneLeft self.old.seen }
+        ensures { Executes W.may result self.old self.new }
+    {
+        match self.worker.run_one() {
+            Ran::Item(item) => gate.after(queue, item),
+            Ran::Barrier(_) => {}
+            Ran::Stop => self.stop_item = self.stop_item.run(),
+            Ran::Owing(_) => {
+                self.owes = true;
+                return Progress::Owed;
+            }
+            Ran::Nothing => unreachable!(),
+        }
+        self.owes = false;
+        Progress::Ended
+    }
+
+    // The number is about to be executed.
+    fn pass_gate<G: Gate>(&self, queue: u32, number: u32, gate: &G) {
+        if number < self.worker.layout().items {
+            gate.before(queue, number);
+        }
+    }
+
+    // One execution, or none where nothing is left to do.
+    fn advance<G: Gate>(&mut self, queue: u32, gate: &G) -> Progress
+        ensures { Advances W.may result self.old self.new }
+    {
+        if self.owes {
+            return self.execute(queue, gate);
+        }
+        let Some(number) = self.settle() else {
+            return Progress::Done;
+        };
+        self.pass_gate(queue, number, gate);
+        self.execute(queue, gate)
+    }
+
+    /// Goes on with what is owed and with what waits, until nothing is left to do, but by no more executions than the limit. The
+    /// gate is called with the queue's number before and after each execution of an item; an execution that is owed, and gone on
+    /// with in a later call, has its first call of the gate in the earlier one.
+    ///
+    /// True where nothing is left to do: the last step was a rest that won, or the queue has run to its end, and no execution is
+    /// owed. False where something is left: after just as many executions as the limit a number waits that was taken, or an
+    /// execution is owed.
+    pub fn work<G: Gate>(&mut self, queue: u32, limit: u32, gate: &G) -> bool
+        ensures works { WorksOn W.may limit result self.old self.new }
+    {
+        for _ended in 0..limit {
+            match self.advance(queue, gate) {
+                Progress::Ended => {}
+                Progress::Owed => return false,
+                Progress::Done => return true,
+            }
+        }
+        if self.owes {
+            return false;
+        }
+        match self.settle() {
+            Some(_) => false,
+            None => true,
+        }
+    }
+}
