@@ -5,5 +5,6 @@ mod overlap;
 mod owing;
 mod rows;
 mod running;
+mod stopped;
 mod team;
 mod turns;

@@ -256,9 +256,10 @@ fn end_of(alloc: Global, text: &[u8]) -> End {
     }
 }
 
-/// A quarter of the texts, from this number on. Each kind of refusal comes of some, and a report of others.
-fn check_texts<R: Abort + AllocGlobal>(rt: &R, from: u64) -> Result<(), Fail> {
+/// A quarter of the texts, from this number on. Each kind of refusal comes of some, and a report of others. The seed is printed.
+fn check_texts<R: Abort + AllocGlobal + Print>(rt: &R, from: u64) -> Result<(), Fail> {
     let alloc = rt.alloc();
+    println!(rt; "spoiled texts of the seed {SEED:#x}, from {from} on")?;
     let mut reports = 0u32;
     let mut refusals = [0u32; 15];
     for number in from..from.saturating_add(TEXTS / 4) {
@@ -266,7 +267,7 @@ fn check_texts<R: Abort + AllocGlobal>(rt: &R, from: u64) -> Result<(), Fail> {
         let whole = script(alloc, &mut draws)?;
         if number % 16 == 0 {
             let end = end_of(alloc, whole.as_bytes());
-            assert!(rt; end == End::Report, "text {number} of {SEED}: {whole}");
+            assert!(rt; end == End::Report, "text {number} of {SEED:#x}: {whole}");
         }
         let text = spoil(alloc, &mut draws, whole.as_bytes())?;
         match end_of(alloc, &text) {
@@ -276,7 +277,7 @@ fn check_texts<R: Abort + AllocGlobal>(rt: &R, from: u64) -> Result<(), Fail> {
                     *count = count.saturating_add(1);
                 }
             }
-            End::Other => assert!(rt; false, "text {number} of {SEED}: {text:?}"),
+            End::Other => assert!(rt; false, "text {number} of {SEED:#x}: {text:?}"),
         }
     }
     assert!(rt; reports > 0);

@@ -5,6 +5,8 @@
 #[cfg(test)]
 mod delay;
 #[cfg(test)]
+mod latch;
+#[cfg(test)]
 mod live;
 #[cfg(test)]
 mod own_threads;

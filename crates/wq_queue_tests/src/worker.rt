@@ -7,4 +7,5 @@ mod crew;
 mod resting;
 mod rows;
 mod serving;
+mod stopping;
 mod team;

@@ -2,7 +2,7 @@
 ghost use Rattle.std.specs.Prelude.{All};
 ghost use Rattle.wq_ready.specs.Known.{IsCallerOf};
 
-use crate::pool::team::{Guest, Logging, filled, queue_item, take_guests, work};
+use crate::pool::team::{Counting, Guest, Logging, filled, queue_item, take_guests, work};
 use std::alloc::Global;
 use std::process::Abort;
 use std::sync::atomic::AtomicU64;
@@ -11,7 +11,7 @@ use std::sync::{Mutex, Wait};
 use std::test::Fail;
 use std::thread::{Threads, for_each_mut, yield_now};
 use wq_live::{Answer, Sender};
-use wq_pool::{Caller, Gate, Pool, Served};
+use wq_pool::{Caller, Pool, Served};
 
 const QUEUES: u32 = 3;
 
@@ -19,23 +19,6 @@ const THREADS: u32 = 4;
 
 /// So many items are run before the threads end.
 const ITEMS: u64 = 10_000;
-
-/// Counts what was run.
-#[derive(Drop)]
-struct Counting {
-    ran: AtomicU64,
-}
-
-impl Gate for Counting {
-    fn before(&self, queue: u32, item: u32) {
-        let _ = (queue, item);
-    }
-
-    fn after(&self, queue: u32, item: u32) {
-        let _ = (queue, item);
-        self.ran.fetch_add(1, SeqCst);
-    }
-}
 
 /// What the threads share: the senders by their queues' places, how often they queued, and the gate.
 #[derive(Drop)]
@@ -56,7 +39,7 @@ impl Board {
     }
 
     fn has_run_all(&self) -> bool {
-        self.gate.ran.load(SeqCst) >= ITEMS
+        self.gate.count() >= ITEMS
     }
 }
 
@@ -72,9 +55,7 @@ fn open_board<R: Abort>(rt: &R, alloc: Global) -> (Vec<Served<Logging>>, Board) 
     let board = Board {
         senders,
         queued: AtomicU64::new(0),
-        gate: Counting {
-            ran: AtomicU64::new(0),
-        },
+        gate: Counting::new(),
     };
     (queues, board)
 }
@@ -148,6 +129,6 @@ fn handed_on_between_threads(rt: HostRuntime) -> Result<(), Fail> {
     let finished = pool.finish(0)?;
     assert_eq!(rt; finished.len(), 3);
     assert!(rt; board.has_run_all());
-    assert_eq!(rt; board.gate.ran.load(SeqCst), board.queued.load(SeqCst));
+    assert_eq!(rt; board.gate.count(), board.queued.load(SeqCst));
     Ok(())
 }

@@ -8,7 +8,7 @@ use std::test::Fail;
 use wq_pool::{AnnounceError, Pool, PoolError, PoolFault, Served};
 
 /// Finishes a pool of which a queue is out, and gives it back with the number of the queue.
-fn finish_out<R: Abort>(rt: &R, pool: Pool<Logging>, limit: u32) -> (Pool<Logging>, u32)
+pub(super) fn finish_out<R: Abort>(rt: &R, pool: Pool<Logging>, limit: u32) -> (Pool<Logging>, u32)
     ensures { result.0 ≡ pool }
 {
     match pool.finish(limit) {

@@ -6,6 +6,8 @@ ghost use Rattle.wq_served.specs.WorkerId.{worker_id};
 use arrayvec::ArrayVec;
 use std::alloc::Global;
 use std::process::Abort;
+use std::sync::atomic::AtomicU64;
+use std::sync::atomic::Ordering::SeqCst;
 use std::sync::{Mutex, Wait};
 use trail::Trail;
 use wq_live::{Answer, Sender};
@@ -66,6 +68,35 @@ impl Gate for Open {
 
     fn after(&self, queue: u32, item: u32) {
         let _ = (queue, item);
+    }
+}
+
+/// A gate that counts what was run.
+#[derive(Drop)]
+pub(crate) struct Counting {
+    ran: AtomicU64,
+}
+
+impl Counting {
+    pub(crate) fn new() -> Counting {
+        Counting {
+            ran: AtomicU64::new(0),
+        }
+    }
+
+    pub(crate) fn count(&self) -> u64 {
+        self.ran.load(SeqCst)
+    }
+}
+
+impl Gate for Counting {
+    fn before(&self, queue: u32, item: u32) {
+        let _ = (queue, item);
+    }
+
+    fn after(&self, queue: u32, item: u32) {
+        let _ = (queue, item);
+        self.ran.fetch_add(1, SeqCst);
     }
 }
 

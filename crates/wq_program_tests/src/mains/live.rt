@@ -16,7 +16,7 @@ fn run<T: Threads + Wait + Sync>(
     (status, output, faults)
 }
 
-const FOUR: &[u8] = b"{\"queues\": 1, \"workers\": 1, \"senders\": 4, \"own\": 64}\n";
+const FOUR: &[u8] = b"{\"queues\":1,\"workers\":1,\"senders\":4,\"own\":64}";
 
 #[test]
 fn four_senders(rt: HostRuntime) -> Result<(), Fail> {
@@ -155,10 +155,10 @@ fn refusals(rt: HostRuntime) -> Result<(), Fail> {
     Ok(())
 }
 
-/// Each text that the plan begins with is no JSON.
+/// Each text that the plan begins with, but that lacks its closing brace, is no JSON.
 #[test]
 fn prefixes(rt: HostRuntime) -> Result<(), Fail> {
-    for end in 0..FOUR.len() - 1 {
+    for end in 0..FOUR.len() {
         let (status, _, faults) = run(&rt, rt.alloc(), &FOUR[..end]);
         assert_eq!(rt; status, 1, "{end}");
         assert_eq!(rt; faults.as_slice(), b"plan: Json\n".as_slice(), "{end}");

@@ -169,6 +169,51 @@ fn refusals(rt: HostRuntime) -> Result<(), Fail> {
     Ok(())
 }
 
+/// Beginnings of a text: those of the first number of bytes up to the second, less one, end with this status, and this is written
+/// and this is said of failures.
+type Beginnings = (usize, usize, u8, &'static str, &'static str);
+
+fn check_beginnings<R: Abort + AllocGlobal>(rt: &R, text: &[u8], row: Beginnings) {
+    let (from, to, status, output, faults) = row;
+    for end in from..to {
+        let beginning = text.get(..end).expect(rt, "a beginning");
+        let got = run_text(rt.alloc(), beginning);
+        assert_eq!(rt; got.status, status, "{end}");
+        assert_eq!(rt; got.output.as_slice(), output.as_bytes(), "{end}");
+        assert_eq!(rt; got.faults.as_slice(), faults.as_bytes(), "{end}");
+    }
+}
+
+/// A script of three commands, and each text that it begins with.
+#[test]
+fn beginnings(rt: HostRuntime) -> Result<(), Fail> {
+    let text: &[u8] = b"wq 1\nitems 4\nsenders 2\nqueue 0 1\nqueue 1 2\nrun 9\n";
+    let rows: [Beginnings; 13] = [
+        (0, 1, 1, "", "line 1: Version\n"),
+        (1, 5, 1, "", "line 1: Cut\n"),
+        (5, 6, 1, "", "line 2: Header\n"),
+        (6, 13, 1, "", "line 2: Cut\n"),
+        (13, 14, 1, "", "line 3: Header\n"),
+        (14, 23, 1, "", "line 3: Cut\n"),
+        (23, 24, 0, "", ""),
+        (24, 33, 1, "", "line 4: Cut\n"),
+        (33, 34, 0, "true first\n", ""),
+        (34, 43, 1, "", "line 5: Cut\n"),
+        (43, 44, 0, "true first\ntrue\n", ""),
+        (44, 49, 1, "", "line 6: Cut\n"),
+        (49, 50, 0, "true first\ntrue\nran 1 2\n", ""),
+    ];
+    assert_eq!(rt; text.len(), 49);
+    let mut next = 0usize;
+    for row in rows {
+        assert_eq!(rt; row.0, next);
+        check_beginnings(&rt, text, row);
+        next = row.1;
+    }
+    assert_eq!(rt; next, 50);
+    Ok(())
+}
+
 /// A text of comments that has as many bytes as a script may have.
 fn longest_text(alloc: Global) -> Result<String, AllocError> {
     let mut text = String::new(alloc);

@@ -117,26 +117,6 @@ fn headers(rt: HostRuntime) -> Result<(), Fail> {
 }
 
 #[test]
-fn beginnings(rt: HostRuntime) -> Result<(), Fail> {
-    let alloc = rt.alloc();
-    let text = "wq 1\nitems 4\nsenders 2\nqueue 0 1\nqueue 1 2\nrun 9\n";
-    for end in 0..text.len() {
-        let beginning = &text.as_bytes()[..end];
-        let lines = beginning.iter().filter(|byte| **byte == b'\n').count();
-        let want = match end {
-            0 => format!(in alloc; "line 1: Version")?,
-            5 => format!(in alloc; "line 2: Header")?,
-            13 => format!(in alloc; "line 3: Header")?,
-            23 | 33 | 43 => format!(in alloc; "read")?,
-            _ => format!(in alloc; "line {}: Cut", lines + 1)?,
-        };
-        let got = outcome(alloc, parse(alloc, beginning))?;
-        assert_eq!(rt; got.as_str(), want.as_str(), "{end}");
-    }
-    Ok(())
-}
-
-#[test]
 fn sizes(rt: HostRuntime) -> Result<(), Fail> {
     let alloc = rt.alloc();
     let mut text = longest(alloc, "wq 1\nitems 4\nsenders 2\n")?;

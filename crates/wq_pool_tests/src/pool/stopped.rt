@@ -1,0 +1,77 @@
+//! A caller that stops with a turn in hand: its queue is out, and all others go on to their ends.
+ghost use Rattle.std.specs.Prelude.{All};
+ghost use Rattle.wq_ready.specs.Known.{IsCallerOf};
+
+use crate::pool::rows::finish_out;
+use crate::pool::team::{Counting, Guest, Logging, Open, filled, take_last, two_filled, work};
+use std::alloc::Global;
+use std::process::Abort;
+use std::sync::Wait;
+use std::test::Fail;
+use std::thread::{Threads, join_mut};
+use wq_pool::{Caller, Pool, Served, Turn};
+
+/// Three queues, with three items queued in each.
+fn three_filled<R: Abort>(rt: &R, alloc: Global) -> Vec<Served<Logging>> {
+    let mut queues = two_filled(rt, alloc, 3, 3);
+    let (last, _sender) = filled(rt, alloc, 3);
+    queues.push(last).expect(rt, "memory");
+    queues
+}
+
+/// Announces queue 1, picks it, and works at one of its items.
+fn work_one<R: Abort + Wait>(rt: &R, pool: &Pool<Logging>, mut caller: Caller) -> Turn<Logging>
+    requires { IsCallerOf pool.now.ready caller }
+{
+    let is_announced = pool.announce(rt, &mut caller, 1).is_ok();
+    assert!(rt; is_announced);
+    let turn = pool.pick(rt, &mut caller).expect(rt, "a turn");
+    match turn.work(1, &Open) {
+        Ok(_) => panic!(rt; "nothing was left"),
+        Err(turn) => turn,
+    }
+}
+
+/// Announces a queue, picks one, works at it to its end and puts it back.
+fn serve_one<R: Abort + Wait>(rt: &R, guest: &mut Guest<'_>, queue: u32, gate: &Counting) {
+    assert!(rt; guest.announce(rt, queue));
+    let turn = guest.pool.pick(rt, &mut guest.caller).expect(rt, "a turn");
+    let worked = work(rt, turn, 9, gate);
+    guest.pool.put_back(&mut guest.caller, worked);
+}
+
+/// Two callers serve queues 0 and 2, each in a thread of its own. How many items they ran.
+fn serve_others<R: Abort + Threads + Wait + Sync>(
+    rt: &R,
+    pool: &Pool<Logging>,
+    mut callers: Vec<Caller>,
+) -> u64
+    requires { All (IsCallerOf pool.now.ready) callers.items }
+{
+    let gate = Counting::new();
+    let mut first = Guest::new(pool, take_last(rt, pool, &mut callers));
+    let mut second = Guest::new(pool, take_last(rt, pool, &mut callers));
+    join_mut(
+        rt,
+        &mut || serve_one(rt, &mut first, 0, &gate),
+        &mut || serve_one(rt, &mut second, 2, &gate),
+    );
+    gate.count()
+}
+
+/// A caller stops with a turn in hand of which it has worked a part. The others serve all other queues to their ends. The queue is
+/// out then, and stays out where the turn is dropped.
+#[test]
+fn others_end_while_a_turn_stops(rt: HostRuntime) -> Result<(), Fail> {
+    let queues = three_filled(&rt, rt.alloc());
+    let (pool, mut callers) = Pool::new(rt.alloc(), queues, 3)?;
+    let stopped = take_last(&rt, &pool, &mut callers);
+    let turn = work_one(&rt, &pool, stopped);
+    assert_eq!(rt; serve_others(&rt, &pool, callers), 6);
+    let (pool, queue) = finish_out(&rt, pool, 0);
+    assert_eq!(rt; (queue, turn.queue()), (1, 1));
+    drop(turn);
+    let (_pool, queue) = finish_out(&rt, pool, 0);
+    assert_eq!(rt; queue, 1);
+    Ok(())
+}
