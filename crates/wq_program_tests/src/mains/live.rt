@@ -93,66 +93,49 @@ fn twenty_races(rt: HostRuntime) -> Result<(), Fail> {
     Ok(())
 }
 
-#[test]
-fn refusals(rt: HostRuntime) -> Result<(), Fail> {
-    let rows: [(&[u8], &[u8]); 16] = [
-        (b"[]", b"plan: Keys\n"),
-        (b"null", b"plan: Keys\n"),
-        (b"1", b"plan: Keys\n"),
-        (b"{}", b"plan: Keys\n"),
-        (
-            b"{\"queues\":1,\"workers\":1,\"senders\":2}",
-            b"plan: Keys\n",
-        ),
-        (
-            b"{\"queues\":1,\"workers\":1,\"senders\":2,\"own\":1,\"more\":1}",
-            b"plan: Keys\n",
-        ),
-        (
-            b"{\"queues\":1,\"workers\":1,\"senders\":2,\"own\":4096}",
-            b"plan: Limits\n",
-        ),
-        (
-            b"{\"queues\":1,\"workers\":1,\"senders\":33,\"own\":1}",
-            b"plan: Limits\n",
-        ),
-        (
-            b"{\"queues\":0,\"workers\":1,\"senders\":2,\"own\":1}",
-            b"plan: Limits\n",
-        ),
-        (
-            b"{\"queues\":9,\"workers\":1,\"senders\":2,\"own\":1}",
-            b"plan: Limits\n",
-        ),
-        (
-            b"{\"queues\":1,\"workers\":0,\"senders\":2,\"own\":1}",
-            b"plan: Limits\n",
-        ),
-        (
-            b"{\"queues\":1,\"workers\":9,\"senders\":2,\"own\":1}",
-            b"plan: Limits\n",
-        ),
-        (
-            b"{\"queues\":1,\"workers\":1,\"senders\":2.0,\"own\":1}",
-            b"plan: Limits\n",
-        ),
-        (
-            b"{\"queues\":1,\"workers\":1,\"senders\":-2,\"own\":1}",
-            b"plan: Limits\n",
-        ),
-        (
-            b"{\"queues\":1,\"workers\":1,\"senders\":\"2\",\"own\":0}",
-            b"plan: Limits\n",
-        ),
-        (b"{\"queues\":1,", b"plan: Json\n"),
-    ];
-    for (text, said) in rows {
-        let (status, output, faults) = run(&rt, rt.alloc(), text);
+/// Texts that are JSON and no plan: another value, or a key that is missing or unknown.
+const KEYS: [&[u8]; 6] = [
+    b"[]",
+    b"null",
+    b"1",
+    b"{}",
+    b"{\"queues\":1,\"workers\":1,\"senders\":2}",
+    b"{\"queues\":1,\"workers\":1,\"senders\":2,\"own\":1,\"more\":1}",
+];
+
+/// Plans with a value that is out of its limits, or no whole number.
+const LIMITS: [&[u8]; 9] = [
+    b"{\"queues\":1,\"workers\":1,\"senders\":2,\"own\":4096}",
+    b"{\"queues\":1,\"workers\":1,\"senders\":33,\"own\":1}",
+    b"{\"queues\":0,\"workers\":1,\"senders\":2,\"own\":1}",
+    b"{\"queues\":9,\"workers\":1,\"senders\":2,\"own\":1}",
+    b"{\"queues\":1,\"workers\":0,\"senders\":2,\"own\":1}",
+    b"{\"queues\":1,\"workers\":9,\"senders\":2,\"own\":1}",
+    b"{\"queues\":1,\"workers\":1,\"senders\":2.0,\"own\":1}",
+    b"{\"queues\":1,\"workers\":1,\"senders\":-2,\"own\":1}",
+    b"{\"queues\":1,\"workers\":1,\"senders\":\"2\",\"own\":0}",
+];
+
+/// Each text is refused, and the line on standard error says so.
+fn check_refused<T: Threads + Wait + Sync + std::process::Abort>(
+    rt: &T,
+    alloc: std::alloc::Global,
+    texts: &[&[u8]],
+    said: &[u8],
+) {
+    for text in texts {
+        let (status, output, faults) = run(rt, alloc, *text);
         assert_eq!(rt; status, 1, "{text:?}");
         assert!(rt; output.is_empty(), "{text:?}");
         assert_eq!(rt; faults.as_slice(), said, "{text:?}");
     }
-    Ok(())
+}
+
+#[test]
+fn refusals(rt: HostRuntime) {
+    check_refused(&rt, rt.alloc(), &KEYS, b"plan: Keys\n");
+    check_refused(&rt, rt.alloc(), &LIMITS, b"plan: Limits\n");
+    check_refused(&rt, rt.alloc(), &[b"{\"queues\":1,"], b"plan: Json\n");
 }
 
 /// Each text that the plan begins with, but that lacks its closing brace, is no JSON.

@@ -77,9 +77,9 @@ fn check_reports<R: Abort + AllocGlobal>(rt: &R, rows: &[(&str, &str)]) -> Resul
     Ok(())
 }
 
-/// Items that follow, flushes, drains and delays.
+/// Items that follow, flushes, closes and drains.
 #[test]
-fn follows_and_delays(rt: HostRuntime) -> Result<(), Fail> {
+fn follows(rt: HostRuntime) -> Result<(), Fail> {
     let rows = [
         (
             "queue 0 3\nclose\nqueue 1 0\nrun 9\ncheck 0\nreport\n",
@@ -94,6 +94,30 @@ fn follows_and_delays(rt: HostRuntime) -> Result<(), Fail> {
             "true first\ntrue\ntrue\nfalse\nran 0 b0\ntrue\n",
         ),
         (
+            "follow 0 1\nqueue 0 0\nqueue 1 2\nrun 9\n",
+            "true first\ntrue\nran 0 2 1\n",
+        ),
+        (
+            "follow 0 0 0\nqueue 0 0\nrun 2\nclose\ndrain 1\nreport\n",
+            "true first\nran 0 0\nclosed 1\nran 0\ntoo long left 1\naccepted 4\nchained 1\nexecuted 3\nbusy 3\nrefused 0\ndelayed 0\nwaiting 1\n",
+        ),
+        (
+            "queue 0 0\nstop 1\nqueue 0 1\nrun 9\nrun 9\n",
+            "true first\ntrue\ntrue\nran 0 stop\nran 1\n",
+        ),
+        (
+            "drain 3\nstop 0\nqueue 0 1\nclose\ndrain 5\n",
+            "not closed\ntrue first\ntrue\nclosed 2\nran stop 1\nempty\n",
+        ),
+    ];
+    check_reports(&rt, &rows)
+}
+
+/// Items on the delay table.
+#[test]
+fn delays(rt: HostRuntime) -> Result<(), Fail> {
+    let rows = [
+        (
             "arm 0 5\narm 1 5\narm 2 3\nqueue 0 0\nadvance 5\nrun 9\narm 3 0\narm 1 4294967296\nadvance 4\n",
             "on table\non table\non table\nfalse pending\npushed 2 0 1\nran 2 0 1\ntrue first\nfalse too far\nfalse backwards\n",
         ),
@@ -105,14 +129,6 @@ fn follows_and_delays(rt: HostRuntime) -> Result<(), Fail> {
         (
             "arm 0 1\nclose\nadvance 1\ncheck 0\n",
             "on table\nclosed 0\nrefused 0\nidle\n",
-        ),
-        (
-            "follow 0 1\nqueue 0 0\nqueue 1 2\nrun 9\n",
-            "true first\ntrue\nran 0 2 1\n",
-        ),
-        (
-            "follow 0 0 0\nqueue 0 0\nrun 2\nclose\ndrain 1\nreport\n",
-            "true first\nran 0 0\nclosed 1\nran 0\ntoo long left 1\naccepted 4\nchained 1\nexecuted 3\nbusy 3\nrefused 0\ndelayed 0\nwaiting 1\n",
         ),
         (
             "queue 0 0\ncancel 0\nmodify 0 3\narm 1 2\nmodify 1 0\nadvance 2\nrun 9\n",
@@ -129,14 +145,6 @@ fn follows_and_delays(rt: HostRuntime) -> Result<(), Fail> {
         (
             "close\narm 0 5\narm 1 0\nadvance 5\n",
             "closed 0\non table\nfalse closed\nrefused 0\n",
-        ),
-        (
-            "queue 0 0\nstop 1\nqueue 0 1\nrun 9\nrun 9\n",
-            "true first\ntrue\ntrue\nran 0 stop\nran 1\n",
-        ),
-        (
-            "drain 3\nstop 0\nqueue 0 1\nclose\ndrain 5\n",
-            "not closed\ntrue first\ntrue\nclosed 2\nran stop 1\nempty\n",
         ),
     ];
     check_reports(&rt, &rows)
