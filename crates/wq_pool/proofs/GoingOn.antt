@@ -1,10 +1,9 @@
 -- A caller that goes on.
 use Rattle.std.proofs.Common.{◌≡◌, ℕ, List, [], ◌++◌, Option, Some, None, refl, sym, ◌∙◌, ap, subst, append_assoc}
 use Rattle.std.proofs.lemmas.List.{append-nil}
-use mathlib.Core.List.{IsPrefix}
 use Rattle.wq_ready.specs.declared.event.ReadyEvent.{ReadyEvent}
 use Rattle.wq_ready.specs.Answers.{Picks}
-use Rattle.wq_ready.specs.Known.{CallerState, IsSameCaller}
+use Rattle.wq_ready.specs.Known.{CallerState}
 use Rattle.wq_pool.specs.Pool.{GoesOnFrom}
 
 pub goes_still : (a : CallerState) → GoesOnFrom a a

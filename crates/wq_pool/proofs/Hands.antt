@@ -1,5 +1,5 @@
 -- What a seat has in hand, before and after its steps.
-use Rattle.std.proofs.Common.{◌≡◌, ℕ, List, [], ◌∷◌, replicate, sym, ap, ◌∙◌, subst, eq-eqb, Bool, true, Option, Some, None, MatchBool}
+use Rattle.std.proofs.Common.{◌≡◌, ℕ, List, [], ◌∷◌, replicate, sym, ap, ◌∙◌, subst, eq-eqb, Bool, true, Some, None, MatchBool}
 use mathlib.Core.Option.{none}
 use Rattle.atomic_table.specs.Table.{step, Allows, rest}
 use Rattle.wq_worker.specs.State.{WorkerState}

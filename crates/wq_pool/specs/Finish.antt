@@ -1,5 +1,5 @@
 -- What the end of a pool says.
-use Rattle.std.specs.Prelude.{◌≡◌, ℕ, zero, suc, ◌<◌, ◌≤◌, List, [], ◌∷◌, Option, Some, None, All, map, take, length}
+use Rattle.std.specs.Prelude.{◌≡◌, ℕ, zero, suc, ◌<◌, ◌≤◌, List, Option, Some, None, All, map, take, length}
 use Rattle.wq_words.specs.Legal.{IsComplete}
 use Rattle.wq_worker.specs.State.{WorkerState}
 use Rattle.wq_pool.specs.declared.finish.PoolFault.{PoolFault}

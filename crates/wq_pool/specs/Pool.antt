@@ -1,5 +1,5 @@
 -- What the calls of a pool say.
-use Rattle.std.specs.Prelude.{◌≡◌, ◌⊎◌, ℕ, ◌<◌, List, slice_get, Some}
+use Rattle.std.specs.Prelude.{◌≡◌, ◌⊎◌, ℕ, ◌<◌}
 use mathlib.Core.List.{IsPrefix}
 use Rattle.wq_ready.specs.Known.{CallerState, IsSameCaller}
 use Rattle.wq_pool.specs.Known.{PoolState, TurnState}

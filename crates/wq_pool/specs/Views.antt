@@ -1,5 +1,5 @@
 -- What a clause sees of the fields of slots and of queues in hand, and what always holds of them.
-use Rattle.std.specs.Prelude.{◌≡◌, ℕ, ◌<◌, List, [], ◌∷◌, Some, None, map, length}
+use Rattle.std.specs.Prelude.{◌≡◌, ℕ, ◌<◌, [], ◌∷◌, None, map, length}
 use Rattle.atomic_table.specs.Seated.{TableId}
 use Rattle.wq_worker.specs.State.{WorkerState}
 use Rattle.wq_pool.specs.declared.slots.Slots.TheInside as slots

@@ -1,10 +1,9 @@
 -- What a closing and a drain leave.
-use Rattle.std.proofs.Common.{◌≡◌, ℕ, zero, suc, ◌+◌, ◌<◌, ◌≤◌, List, [], ◌∷◌, ◌++◌, length, refl, sym, ap, ◌∙◌, subst, arith}
+use Rattle.std.proofs.Common.{◌≡◌, ℕ, ◌+◌, ◌<◌, List, [], ◌∷◌, ◌++◌, length, refl, sym, ap, ◌∙◌, subst, arith}
 use Rattle.std.proofs.lemmas.List.{append-nil}
-use Rattle.std.specs.Prelude.{count_by}
 use Rattle.wq_words.specs.declared.event.Event.{Event}
 use Rattle.wq_words.specs.declared.event.Event.TheVariants.{Close, End}
-use Rattle.wq_words.specs.History.{accepted, begun, ended, is_close, IsClosed, IsRunning}
+use Rattle.wq_words.specs.History.{accepted, begun, ended, IsClosed, IsRunning}
 use Rattle.wq_words.specs.Legal.{IsLegal, IsComplete}
 use Rattle.wq_ledger.specs.Book.{BookState}
 use Rattle.wq_worker.specs.Destroy.{Destroys, LeavesUnfinished}

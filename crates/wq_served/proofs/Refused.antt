@@ -1,7 +1,6 @@
 -- After a rest that was refused the next take finds something.
-use Rattle.std.proofs.Common.{◌≡◌, ℕ, ◌+◌, ◌<◌, ◌≤◌, ◌==◌, ◌||◌, Bool, true, false, cond, List, [], ◌∷◌, ◌++◌, length, take, drop, None, inl, inr, refl, sym, ap, ◌∙◌, subst, arith, append_assoc}
+use Rattle.std.proofs.Common.{◌≡◌, ℕ, ◌<◌, ◌≤◌, ◌==◌, false, List, [], ◌∷◌, ◌++◌, length, take, None, inl, inr, refl, sym, ap, ◌∙◌, subst, arith, append_assoc}
 use Rattle.std.proofs.Common.{length-append, length-drop}
-use Rattle.std.specs.Prelude.{filter}
 use Rattle.std.proofs.lemmas.Bool.{or_parts}
 use Rattle.std.proofs.lemmas.Bool.Decides.{nat_tests}
 use Rattle.std.proofs.lemmas.List.{append-nil, length-take-le}
@@ -10,12 +9,12 @@ use Rattle.std.proofs.lemmas.List.Sums.{fold_push}
 use Rattle.wq_words.specs.declared.layout.Layout.{Layout}
 use Rattle.wq_words.specs.declared.event.Event.{Event}
 use Rattle.wq_words.specs.declared.event.Event.TheVariants.{Hold, Busy, Push, Back, Take}
-use Rattle.wq_words.specs.History.{accepted_by, accepted, begun, is_take, taken, fresh, first, IsClosed}
+use Rattle.wq_words.specs.History.{accepted_by, accepted, begun, taken, fresh, first, IsClosed}
 use Rattle.wq_words.specs.Legal.{IsLegal, IsComplete}
 use Rattle.wq_words.specs.Listed.{listed, listed_after}
 use Rattle.wq_words.specs.Rest.{wakes}
 use Rattle.wq_words.specs.Seen.{owner_seat, seat_of, own, is_ours, Grows}
-use Rattle.wq_words.proofs.Closed.{closed_from_open, open_from_closed}
+use Rattle.wq_words.proofs.Closed.{closed_from_open}
 use Rattle.wq_words.proofs.Legal.{legal_front, legal_next, legal_rest}
 use Rattle.wq_words.proofs.Listed.{accepted_push_none, taken_push_same, taken_push_push, length-accepted, fresh-open}
 use Rattle.wq_words.proofs.Order.{in_order}
@@ -25,7 +24,7 @@ use Rattle.wq_words.proofs.OtherSeats.{others_keep, surrounds}
 use Rattle.wq_live.specs.Batch.{batch, next_of}
 use Rattle.wq_live.specs.Rest.{MayNotRest}
 use Rattle.wq_worker.specs.Resting.{HasNoneLeft}
-use Rattle.wq_worker.specs.Seats.{Adds, taking, taking_of, NothingWaits, at_take, at_all}
+use Rattle.wq_worker.specs.Seats.{Adds, taking, NothingWaits, at_take, at_all}
 use Rattle.wq_worker.proofs.Draining.{left_idle}
 use Rattle.wq_worker.proofs.Others.{none_waits, next_still}
 use Rattle.wq_worker.proofs.Owned.{filter-filter, owner_grows, owner_of_both, stays, quiet_none}

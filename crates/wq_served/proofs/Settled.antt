@@ -1,5 +1,5 @@
 -- What a worker that settles, executes or works on leaves.
-use Rattle.std.proofs.Common.{◌≡◌, ℕ, ◌+◌, ◌<◌, ◌≤◌, Bool, true, false, Option, Some, None, MatchOption, List, [], ◌∷◌, refl, sym, ap, ◌∙◌, subst, arith, add-zero}
+use Rattle.std.proofs.Common.{◌≡◌, ℕ, ◌+◌, ◌<◌, ◌≤◌, Bool, true, false, Option, Some, None, MatchOption, List, [], refl, ap, ◌∙◌, subst, arith, add-zero}
 use Rattle.wq_words.specs.declared.event.Event.{Event}
 use Rattle.wq_words.specs.declared.layout.Layout.{Layout}
 use Rattle.wq_words.specs.History.{closed, IsRunning, IsClosed}
@@ -17,7 +17,7 @@ use Rattle.wq_worker.specs.State.{WorkerState, Moves}
 use Rattle.wq_worker.specs.Step.{Ends, ends, owes as owe, Runs}
 use Rattle.wq_served.specs.declared.runner.Progress.{Progress}
 use Rattle.wq_served.specs.declared.runner.Progress.TheVariants.{Ended, Owed, Done}
-use Rattle.wq_served.specs.Steps.{Steps, still, ready, unready, run, rest, Finishes, rested, completed, Pauses, limited, owes}
+use Rattle.wq_served.specs.Steps.{Steps, still, ready, unready, run, rest, Finishes, rested, completed, limited, owes}
 use Rattle.wq_served.specs.Steps.{IsDue, Settles, Executes, Advances, WorksOn}
 use Rattle.wq_served.proofs.Refused.{refused_waits, none_left_complete}
 use Rattle.wq_served.proofs.Steps.{steps_on, steps_ended, finishes_on}

@@ -1,25 +1,22 @@
 -- What a worker's steps leave, one after another.
-use Rattle.std.proofs.Common.{◌≡◌, ℕ, zero, ◌+◌, ◌<◌, ◌≤◌, Bool, true, false, Option, Some, None, List, [], ◌∷◌, ◌++◌, length, refl, sym, ap, ◌∙◌, subst, arith, add-zero, length-append}
-use Rattle.std.proofs.lemmas.List.{append-nil}
+use Rattle.std.proofs.Common.{◌≡◌, ℕ, ◌+◌, ◌≤◌, Bool, true, false, Option, Some, None, List, [], ◌∷◌, ◌++◌, length, refl, sym, ap, ◌∙◌, subst, arith, add-zero, length-append}
 use Rattle.std.proofs.lemmas.List.Elements.{filter_map-append}
 use Rattle.wq_words.specs.declared.event.Event.{Event}
-use Rattle.wq_words.specs.declared.event.Event.TheVariants.{Begin, End, Rest}
+use Rattle.wq_words.specs.declared.event.Event.TheVariants.{End, Rest}
 use Rattle.wq_words.specs.History.{closed, ended_by, ended, IsRunning}
-use Rattle.wq_words.specs.Legal.{IsComplete}
 use Rattle.wq_live.specs.Batch.{next_of}
 use Rattle.wq_worker.specs.declared.ran.Ran.{Ran}
 use Rattle.wq_worker.specs.declared.ran.Ran.TheVariants.{Item, Barrier, Stop, Nothing, Owing}
 use Rattle.wq_worker.specs.Follow.{contended_of}
-use Rattle.wq_worker.specs.Resting.{HasNoneLeft, rest_events, LeavesWork, IsReady, IsUnready, owed, nothing}
-use Rattle.wq_worker.specs.Rows.{IsExecution, ended_by_answer}
+use Rattle.wq_worker.specs.Resting.{HasNoneLeft, rest_events, IsUnready, owed, nothing}
+use Rattle.wq_worker.specs.Rows.{ended_by_answer}
 use Rattle.wq_worker.specs.Seats.{Adds, taking, taking_of}
 use Rattle.wq_worker.specs.State.{WorkerState, Moves, IsSameWorker}
 use Rattle.wq_worker.specs.Step.{Starts, item, other, owed as goes_on, Ends, ends, Owes, owes, Runs}
 use Rattle.wq_worker.proofs.Follow.{quiet_contended, quiet_follows}
-use Rattle.wq_worker.proofs.Owned.{IsQuiet, OwnerAdds, owner_of_both, quiet_none, quiet_append, stays}
+use Rattle.wq_worker.proofs.Owned.{IsQuiet, OwnerAdds, owner_of_both}
 use Rattle.wq_worker.proofs.Rows.{moves_same, runs_same}
 use Rattle.wq_worker.proofs.State.{quiet_taking, ended_taking}
-use Rattle.wq_served.specs.declared.worker_id.WorkerId.{WorkerId}
 use Rattle.wq_served.specs.WorkerId.{worker_id}
 use Rattle.wq_served.specs.Steps.{Steps, still, ready, unready, run, rest, Finishes, rested, completed, Pauses, limited, owes as owes_one, owed_before, WorksOn, EndsWithin, EndsJust}
 use Rattle.wq_served.proofs.Refused.{next_kept}

@@ -1,6 +1,4 @@
-use Rattle.std.proofs.Common.{subst}
-use Rattle.wq_worker.specs.State.{WorkerState}
-use Rattle.wq_served.specs.Steps.{Advances, still}
+use Rattle.wq_served.specs.Steps.{still}
 use Rattle.wq_served.proofs.Settled.{advanced}
 use Rattle.wq_served.proofs.runner.Runner.advance.Goals as goal
 

@@ -1,5 +1,5 @@
-use Rattle.std.proofs.Common.{refl, arith, ap, ◌∙◌, sym}
-use Rattle.wq_served.specs.Steps.{still, owed_before}
+use Rattle.std.proofs.Common.{refl, arith}
+use Rattle.wq_served.specs.Steps.{still}
 use Rattle.wq_served.proofs.Settled.{works_owed, works_done, works_due}
 use Rattle.wq_served.proofs.Steps.{steps_on}
 use Rattle.wq_served.proofs.runner.Runner.work.Goals as goal
@@ -10,14 +10,18 @@ loop-ended-init g c = (still c.args.self.now, λ some. absurd (omega (arith, som
 pub returns-in-Owed : goal.returns-in-Owed
 returns-in-Owed g c =
     let l = c.loop-ended in
-    works_owed g.W.Work.may c.args.limit l._ended c.args.self.now l.self c.advance.new.self (omega (arith, c.loop-ended-test.true)) l.invariant.0
-    c.in-Owed.ensures
+    record {
+      works = works_owed g.W.Work.may c.args.limit l._ended c.args.self.now l.self c.advance.new.self (omega (arith, c.loop-ended-test.true)) l.invariant.0
+          c.in-Owed.ensures;
+    }
 
 pub returns-in-Done : goal.returns-in-Done
 returns-in-Done g c =
     let l = c.loop-ended in
-    works_done g.W.Work.may c.args.limit l._ended c.args.self.now l.self c.advance.new.self (omega (arith, c.loop-ended-test.true)) l.invariant.0
-    c.in-Done.ensures
+    record {
+      works = works_done g.W.Work.may c.args.limit l._ended c.args.self.now l.self c.advance.new.self (omega (arith, c.loop-ended-test.true)) l.invariant.0
+          c.in-Done.ensures;
+    }
 
 pub loop-ended-preserved : goal.loop-ended-preserved
 loop-ended-preserved g c =
@@ -27,9 +31,12 @@ loop-ended-preserved g c =
 pub returns-in-Some : goal.returns-in-Some
 returns-in-Some g c =
     let l = c.loop-ended in
-    works_due g.W.Work.may c.args.limit l._ended c.args.self.now l.self c.settle.new.self c.in-Some.field-0 (omega arith) l.invariant.0 c.in-Some.ensures
+    record {
+      works = works_due g.W.Work.may c.args.limit l._ended c.args.self.now l.self c.settle.new.self c.in-Some.field-0 (omega arith) l.invariant.0
+          c.in-Some.ensures;
+    }
 
 pub returns-in-None : goal.returns-in-None
 returns-in-None g c =
     let l = c.loop-ended in
-    works_done g.W.Work.may c.args.limit l._ended c.args.self.now l.self c.settle.new.self (omega arith) l.invariant.0 c.in-None.ensures
+    record { works = works_done g.W.Work.may c.args.limit l._ended c.args.self.now l.self c.settle.new.self (omega arith) l.invariant.0 c.in-None.ensures }

@@ -1,7 +1,6 @@
-use Rattle.std.proofs.Common.{ap, sym, subst}
+use Rattle.std.proofs.Common.{ap}
 use Rattle.wq_words.specs.History.{IsClosed}
 use Rattle.wq_worker.specs.State.{WorkerState}
-use Rattle.wq_served.specs.Drained.{IsDrained}
 use Rattle.wq_served.proofs.Draining.{drained}
 use Rattle.wq_served.proofs.served.Served.drain.Goals as goal
 
