@@ -1,6 +1,7 @@
 //! The calls, and whether each gives its right answer or says that memory is wanting.
 use crate::pool::serve_pool;
 use crate::streams::Page;
+use crate::worker::build_worker;
 use std::alloc::{AllocError, Global};
 use std::fmt;
 use std::sync::Wait;
@@ -19,6 +20,7 @@ pub enum Call {
     Build,
     Replay,
     Table,
+    Worker,
     Pool,
     Script(&'static str, &'static str),
     Main(Main, &'static str, &'static str),
@@ -53,10 +55,11 @@ impl fmt::Display for Said {
     }
 }
 
-pub const CALLS: [(&str, Call); 10] = [
+pub const CALLS: [(&str, Call); 11] = [
     ("build", Call::Build),
     ("replay", Call::Replay),
     ("table", Call::Table),
+    ("worker", Call::Worker),
     ("pool", Call::Pool),
     (
         "following",
@@ -306,6 +309,7 @@ pub fn make<T: Threads + Wait + Sync>(rt: &T, alloc: Global, call: Call) -> Said
         Call::Build => build_queue(alloc),
         Call::Replay => replay_turns(alloc),
         Call::Table => make_table(alloc),
+        Call::Worker => build_worker(alloc),
         Call::Pool => serve_pool(rt, alloc),
         Call::Script(text, report) => run_script(alloc, text, report),
         Call::Main(main, text, output) => run_main(rt, alloc, main, text, output),

@@ -5,6 +5,7 @@
 mod calls;
 mod pool;
 mod streams;
+mod worker;
 
 use calls::{CALLS, Call, Said, make};
 use std::alloc::Global;

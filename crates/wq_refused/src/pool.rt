@@ -1,34 +1,13 @@
 //! A pool of two queues, from its making to its end.
-ghost use Rattle.std.specs.Prelude.{◌≡◌, []};
-
 use crate::calls::{Said, right};
+use crate::worker::Counter;
 use std::alloc::Global;
 use std::slice;
 use std::sync::Wait;
 use std::thread::Threads;
-use trail::Trail;
 use wq_pool::{Gate, Pool, PoolError, PoolFault, Served};
 use wq_words::Layout;
-use wq_worker::{Book, Follow, Work, Worker};
-
-/// Counts its runs.
-#[derive(Drop)]
-struct Counter {
-    ran: Trail,
-    runs: u32,
-}
-
-impl Work for Counter {
-    ghost log = { λ w. w.ran.items };
-
-    ghost may = { λ w k follow v. follow ≡ [] };
-
-    fn run(&mut self, item: u32) -> Follow {
-        self.ran = self.ran.and(item);
-        self.runs = self.runs.saturating_add(1);
-        Follow::new()
-    }
-}
+use wq_worker::{Book, Worker};
 
 /// Nothing is done around an execution.
 struct Open;
@@ -41,11 +20,7 @@ impl Gate for Open {
 
 /// A queue on which an item and the stop item stand. None where memory was wanting.
 fn queue(alloc: Global, layout: Layout) -> Option<Served<Counter>> {
-    let work = Counter {
-        ran: Trail::new(),
-        runs: 0,
-    };
-    let Ok((worker, mut senders)) = Worker::build(alloc, layout, work, 1) else {
+    let Ok((worker, mut senders)) = Worker::build(alloc, layout, Counter::new(), 1) else {
         return None;
     };
     let mut sender = senders.pop()?;
