@@ -294,6 +294,11 @@ fn refusals(rt: HostRuntime) -> Result<(), Fail> {
             Some(ReplayError { at: 1, why }),
             "{seat:?} {step:?}"
         );
+        assert_eq!(rt;
+            replay_on(&mut core, &[(seat, step)]),
+            Err(ReplayError { at: 0, why }),
+            "{seat:?} {step:?}"
+        );
     }
     assert_eq!(rt; core.history().len(), 0);
     assert_eq!(rt; core.step(S1, Hold(5)), Ok(Held));
