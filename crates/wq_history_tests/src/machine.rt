@@ -1,6 +1,7 @@
 mod situations;
 mod stopped;
 
+use std::process::Abort;
 use std::test::Fail;
 use wq_core::Reply::{
     Began, Busy, ChainBusy, Chained, Closed, Ended, GivenBack, Held, Idle, Linked, Looked, Lost,
@@ -149,6 +150,27 @@ const RESTING_QUEUE: [Turn; 18] = [
     (O, Take, Took(Head::Empty)),
 ];
 
+/// Makes a step, which answers so and leaves a legal history.
+fn make<R: Abort>(
+    rt: &R,
+    core: &mut Core,
+    turn: (Seat, Step),
+    answer: Result<Reply, StepError>,
+) -> Result<(), Fail> {
+    let (seat, step) = turn;
+    assert_eq!(rt; core.step(seat, step), answer, "{step:?}");
+    let layout = Layout::new(4, 1, 2)?;
+    assert_eq!(rt; check_history(&layout, core.history()), Ok(()), "{step:?}");
+    Ok(())
+}
+
+/// What was accepted and what has begun.
+fn check_lists<R: Abort>(rt: &R, core: &Core, accepted: &[u32], begun: &[u32]) -> Result<(), Fail> {
+    assert_eq!(rt; core.accepted()?.as_slice(), accepted);
+    assert_eq!(rt; core.begun()?.as_slice(), begun);
+    Ok(())
+}
+
 /// Each schedule step by step, replayed as a whole, and in two parts, with what was accepted and begun at its end.
 #[test]
 fn schedules(rt: HostRuntime) -> Result<(), Fail> {
@@ -165,16 +187,13 @@ fn schedules(rt: HostRuntime) -> Result<(), Fail> {
         let mut core = Core::new(rt.alloc(), layout)?;
         let mut turns = Vec::new(rt.alloc());
         for (seat, step, reply) in row {
-            assert_eq!(rt; core.step(*seat, *step), Ok(*reply), "{step:?}");
-            assert_eq!(rt; check_history(&layout, core.history()), Ok(()), "{step:?}");
+            make(&rt, &mut core, (*seat, *step), Ok(*reply))?;
             turns.push((*seat, *step))?;
         }
-        assert_eq!(rt; &core.accepted()?[..], accepted);
-        assert_eq!(rt; &core.begun()?[..], begun);
+        check_lists(&rt, &core, accepted, begun)?;
         let replayed = replay(rt.alloc(), layout, &turns)?;
         assert_eq!(rt; replayed.history(), core.history());
-        assert_eq!(rt; &replayed.accepted()?[..], accepted);
-        assert_eq!(rt; &replayed.begun()?[..], begun);
+        check_lists(&rt, &replayed, accepted, begun)?;
         let (before, after) = turns.split_at(turns.len().min(2));
         let mut parted = replay(rt.alloc(), layout, before)?;
         replay_on(&mut parted, after)?;
@@ -202,12 +221,10 @@ fn not_enabled(rt: HostRuntime) -> Result<(), Fail> {
     let mut core = Core::new(rt.alloc(), layout)?;
     let mut turns = Vec::new(rt.alloc());
     for (seat, step, answer) in row {
-        assert_eq!(rt; core.step(seat, step), answer, "{step:?}");
-        assert_eq!(rt; check_history(&layout, core.history()), Ok(()), "{step:?}");
+        make(&rt, &mut core, (seat, step), answer)?;
         turns.push((seat, step))?;
     }
-    assert_eq!(rt; &core.accepted()?[..], [0u32].as_slice());
-    assert_eq!(rt; &core.begun()?[..], [0u32].as_slice());
+    check_lists(&rt, &core, &[0], &[0])?;
     assert_eq!(rt;
         replay(rt.alloc(), layout, &turns).err(),
         Some(ReplayError {
@@ -254,12 +271,9 @@ fn turned_links(rt: HostRuntime) -> Result<(), Fail> {
     ];
     let mut core = Core::new(rt.alloc(), layout)?;
     for (seat, step, answer) in row {
-        assert_eq!(rt; core.step(seat, step), answer, "{step:?}");
-        assert_eq!(rt; check_history(&layout, core.history()), Ok(()), "{step:?}");
+        make(&rt, &mut core, (seat, step), answer)?;
     }
-    assert_eq!(rt; &core.accepted()?[..], [0u32, 1].as_slice());
-    assert_eq!(rt; &core.begun()?[..], [0u32, 1].as_slice());
-    Ok(())
+    check_lists(&rt, &core, &[0, 1], &[0, 1])
 }
 
 /// Each refusal, the first that fits, of a queue of 4 items, 1 barrier and 2 senders: 4 is the barrier, 5 the stop item.

@@ -22,5 +22,5 @@ returns-clause-teams c = λ plan t n.
     let dealt : AreDealt team.senders.items olds news = subst (λ (zs : List Group). AreDealt team.senders.items zs news)
     c.deref_mut.ensures.value c.in_ok-deal.ensures in
     let whole = whole_items c.args.self.now.groups.len news olds (dealt.count ∙ sym c.args.self.now.groups.ok.0) in
-    teams_more plan c.args.self.now _ team t n (c.in_ok-push.ensures.items ∙ ap (λ z. c.args.self.now.served.items ++ z ∷ []) c.new.ensures)
+    teams_more plan c.args.self.now _ team t n (c.in_ok-push.ensures.items ∙ ap (λ z. c.args.self.now.served.items ++ z ∷ []) c.new.ensures.same)
     c.in_ok-push-2.ensures.items (subst (λ (zs : List Group). AreDealt team.senders.items olds zs) (sym whole) dealt)
