@@ -4,7 +4,7 @@ PREFIX ?= /usr/local
 PROGRAM := crates/wqrun/out/wqrun
 EXAMPLES := examples
 
-.PHONY: run test build install bench examples memory
+.PHONY: run test build install bench examples rows memory
 
 run: build
 	$(PROGRAM) script $(EXAMPLES)/first.wq
@@ -24,6 +24,10 @@ install: build
 # Each example writes what is stored beside it, and ends with the status that is stored.
 examples: build
 	checks/examples.sh $(PROGRAM)
+
+# Each worked row of a script, a schedule or a plan gives what stands beside it.
+rows: build
+	checks/rows.py $(PROGRAM)
 
 # The calls that take memory, with each allocation refused in turn, as the gate does; some minutes.
 memory:

@@ -1,14 +1,8 @@
-//! Tests of texts, scripts, races and the program's mains by their public calls alone: what their contracts promise nobody.
-//! Each module is named after the crate that it tests.
+//! Tests of the program's mains on streams that fail and on spoiled texts: what no contract promises. The worked rows of
+//! scripts, schedules and plans stand in `checks/rows`, which the gate runs with the built program.
 #![tactic(auto)]
 
 #[cfg(test)]
 mod mains;
 #[cfg(test)]
-mod race;
-#[cfg(test)]
-mod script;
-#[cfg(test)]
 mod spoiled;
-#[cfg(test)]
-mod text;

@@ -1,5 +1,2 @@
-//! The mains of the subcommands on streams: worked scripts, schedules and plans, refusals, and streams that fail.
-mod live;
-mod rows;
-mod schedules;
+//! The mains of the subcommands on streams that fail, and on streams that give and take little.
 mod streams;

@@ -1,11 +1,11 @@
-//! Workers: worked rows, books, and what threads see.
+//! Workers: destroys, books, and what threads see.
 mod books;
 mod built;
 mod clearing;
 mod contention;
 mod crew;
+mod destroying;
 mod resting;
-mod rows;
 mod serving;
 mod stopping;
 mod team;

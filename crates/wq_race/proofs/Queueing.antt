@@ -37,7 +37,7 @@ use Rattle.wq_live.specs.Known.{Known, IsSame, Sees}
 use Rattle.wq_live.specs.Answers.{Answers}
 use Rattle.wq_worker.specs.Follow.{Queues, pushed, busy, refused}
 use Rattle.wq_worker.proofs.Follow.{follows_push}
-use Rattle.wq_race.specs.Race.{HasQueued, IsOfStop, HasStopped}
+use Rattle.wq_race.specs.Race.{HasQueued, IsOfStop, HasStopped, IsStopAnswer}
 use Rattle.wq_words.proofs.Seen.{grows_none as grows_still}
 
 pub same_still : (a : Known) → IsSame a a
@@ -137,3 +137,11 @@ stopped_more m a b c x y = record {
 
 pub stopped_fewer : (m n : ℕ) (a b : Known) → m ≤ n → HasStopped m a b → HasStopped n a b
 stopped_fewer m n a b le s = record { same = s.same; events = s.events; stops = s.stops; few_events = omega (arith, le, s.few_events); grows = s.grows }
+
+pub stop_answer : (n : ℕ) (r : Answer) (a b c : Known) → n ≤ 8589934592 → HasStopped n a b → Answers (stop_number b.layout) 4294967295 r b c
+    → IsStopAnswer r a c
+stop_answer n r a b c le x y = record {
+  between = b;
+  before = stopped_fewer n 8589934592 a b le x;
+  last = subst (λ (l : Layout). Answers (stop_number l) 4294967295 r b c) x.same.layout_is y;
+}

@@ -11,6 +11,8 @@ use Rattle.wq_words.specs.Legal.{IsLegal}
 use Rattle.wq_words.specs.Seen.{own, Grows}
 use Rattle.wq_live.specs.declared.sender.Sender.{Sender}
 use Rattle.wq_live.specs.Known.{QueueId, Known, IsSame}
+use Rattle.wq_live.specs.Answers.{Answers}
+use Rattle.wq_words.specs.declared.answer.Answer.{Answer}
 use Rattle.wq_words.specs.Counting.{is_chain, is_chain_busy}
 use Rattle.wq_worker.specs.Follow.{Follows}
 use Rattle.wq_worker.specs.State.{WorkerState}
@@ -46,6 +48,12 @@ pub record HasStopped (few : ℕ) (old new : Known) : Type 0 where
   pub stops : AllByRecursion (IsOfStop old.layout) events
   pub few_events : length events ≤ few
   pub grows : Grows old.number events 0 old.seen new.seen
+
+-- a sender's last try to queue the stop item was given this answer, and what it tried before had few events
+pub record IsStopAnswer (a : Answer) (old new : Known) : Type 0 where
+  pub between : Known
+  pub before : HasStopped (2 * 2 ^ 32) old between
+  pub last : Answers (stop_number old.layout) 4294967295 a between new
 
 -- the stop item is the last that ended
 abbrev pub EndsWithStop : Layout → List Event → Type 0

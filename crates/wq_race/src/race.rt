@@ -1,8 +1,10 @@
 //! A run of a queue by live threads.
 ghost use Rattle.std.specs.Prelude.{◌≡◌, ◌≢◌, ◌+◌, ◌*◌, ◌^◌, ◌<◌, ◌≤◌, [], ◌∷◌, length, IfSome, IfOk, All};
 ghost use Rattle.wq_words.specs.History.{IsRunning, IsClosed};
+ghost use Rattle.wq_words.specs.Numbers.{stop_number};
 ghost use Rattle.wq_words.specs.Seen.{owner_seat};
-ghost use Rattle.wq_race.specs.Race.{items_at, HasQueued, HasStopped, HasServed, AreThreads, AllQueued, HasRun};
+ghost use Rattle.wq_live.specs.Answers.{Answers};
+ghost use Rattle.wq_race.specs.Race.{items_at, HasQueued, HasStopped, IsStopAnswer, HasServed, AreThreads, AllQueued, HasRun};
 ghost use Rattle.wq_worker.specs.State.{WorkerState};
 ghost use Rattle.wq_race.specs.Plan.{IsLayoutOf};
 ghost use Rattle.wq_race.specs.Team.{IsNewTeam};
@@ -98,14 +100,16 @@ fn serve<R: Wait>(rt: &R, mut worker: Worker<Idle>, parker: Parker) -> Worker<Id
 }
 
 fn request_stop(program: &mut Sender) -> Answer
-    ensures { HasStopped 2 program.old program.new }
+    ensures few { HasStopped 2 program.old program.new }
+    ensures answer { Answers (stop_number program.old.layout) 4294967295 result program.old program.new }
 {
     program.request_stop(u32::MAX)
 }
 
 // Tries to queue the stop item, so often that it is queued.
 fn try_stop(program: &mut Sender) -> Answer
-    ensures { HasStopped (2 * 2 ^ 32) program.old program.new }
+    ensures few { HasStopped (2 * 2 ^ 32) program.old program.new }
+    ensures answer { IsStopAnswer result program.old program.new }
 {
     for _ in 0..u32::MAX {
         let answer = request_stop(program);
@@ -113,13 +117,14 @@ fn try_stop(program: &mut Sender) -> Answer
             return answer;
         }
     }
-    Answer::Contended
+    request_stop(program)
 }
 
 /// Queues the stop item, by the program's sender. Where all tries were in vain it waits for ever, since nothing could stop the
-/// worker.
+/// worker. The answer is that of the last try.
 pub fn queue_stop<R: Wait>(rt: &R, program: &mut Sender) -> Answer
-    ensures { HasStopped (2 * 2 ^ 32) program.old program.new }
+    ensures few { HasStopped (2 * 2 ^ 32) program.old program.new }
+    ensures answer { IsStopAnswer result program.old program.new }
 {
     let answer = try_stop(program);
     if answer == Answer::Contended {

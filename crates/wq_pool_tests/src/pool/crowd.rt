@@ -8,7 +8,6 @@ use crate::pool::team::{Guest, Logging, Open, new_queue, take_guests};
 use std::alloc::Global;
 use std::process::Abort;
 use std::sync::{Mutex, Wait};
-use std::test::Fail;
 use std::thread::{Threads, for_each_mut, join_mut};
 use wq_live::{Answer, Sender};
 use wq_pool::{Caller, Pool, Served};
@@ -262,9 +261,8 @@ fn run_once<R: Abort + Threads + Wait + Sync>(rt: &R, alloc: Global) {
 /// Sixteen senders queue and announce their eight queues in threads of their own, beside eight workers. Each run executes all, and
 /// each book balances.
 #[test]
-fn crowd_balances(rt: HostRuntime) -> Result<(), Fail> {
+fn crowd_balances(rt: HostRuntime) {
     for _run in 0..RUNS {
         run_once(&rt, rt.alloc());
     }
-    Ok(())
 }

@@ -8,7 +8,6 @@ use std::process::Abort;
 use std::sync::atomic::AtomicU64;
 use std::sync::atomic::Ordering::SeqCst;
 use std::sync::{Mutex, Wait};
-use std::test::Fail;
 use std::thread::{Threads, for_each_mut, yield_now};
 use wq_live::{Answer, Sender};
 use wq_pool::{Caller, Pool, Served};
@@ -122,13 +121,12 @@ fn serve_board<R: Abort + Threads + Wait + Sync>(
 /// Queues go from thread to thread, and also a thread that picked a queue which another has in hand gets it. What was queued is
 /// executed by them, so that nothing is left for the end.
 #[test]
-fn handed_on_between_threads(rt: HostRuntime) -> Result<(), Fail> {
+fn handed_on_between_threads(rt: HostRuntime) {
     let (queues, board) = open_board(&rt, rt.alloc());
-    let (pool, callers) = Pool::new(rt.alloc(), queues, THREADS)?;
+    let (pool, callers) = Pool::new(rt.alloc(), queues, THREADS).expect(&rt, "a pool");
     serve_board(&rt, rt.alloc(), &pool, callers, &board);
-    let finished = pool.finish(0)?;
+    let finished = pool.finish(0).expect(&rt, "all finished");
     assert_eq!(rt; finished.len(), 3);
     assert!(rt; board.has_run_all());
     assert_eq!(rt; board.gate.count(), board.queued.load(SeqCst));
-    Ok(())
 }

@@ -5,7 +5,6 @@ use std::process::Abort;
 use std::sync::Wait;
 use std::sync::atomic::AtomicU64;
 use std::sync::atomic::Ordering::SeqCst;
-use std::test::Fail;
 use std::thread::{Threads, yield_now};
 use wq_pool::{Gate, Pool};
 
@@ -71,7 +70,6 @@ fn do_overlap<R: Abort + Threads + Wait + Sync>(rt: &R, alloc: Global, workers: 
 
 /// While one worker of two waits within queue 0, the other executes queue 1.
 #[test]
-fn pool_two_workers_overlap(rt: HostRuntime) -> Result<(), Fail> {
+fn pool_two_workers_overlap(rt: HostRuntime) {
     assert!(rt; do_overlap(&rt, rt.alloc(), 2));
-    Ok(())
 }

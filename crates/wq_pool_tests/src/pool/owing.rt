@@ -7,7 +7,6 @@ use std::process::Abort;
 use std::sync::Wait;
 use std::sync::atomic::AtomicU64;
 use std::sync::atomic::Ordering::SeqCst;
-use std::test::Fail;
 use std::thread::{Threads, join_mut};
 use wq_live::Sender;
 use wq_pool::{Served, Turn, Worked};
@@ -143,7 +142,7 @@ fn owes_at_last<R: Abort + Threads + Wait + Sync>(
 /// A turn is given back where it owes an execution, which it does where the worker's one try is lost to another sender. The
 /// next turn goes on with it, and nothing is lost.
 #[test]
-fn owing_is_given_back(rt: HostRuntime) -> Result<(), Fail> {
+fn owing_is_given_back(rt: HostRuntime) {
     let Disturbed {
         queues,
         mut first,
@@ -152,7 +151,6 @@ fn owing_is_given_back(rt: HostRuntime) -> Result<(), Fail> {
     let (pool, caller) = new_pool(&rt, rt.alloc(), queues);
     let guest = Guest::new(&pool, caller);
     assert!(rt; owes_at_last(&rt, guest, &mut first, &mut second));
-    let finished = pool.finish(1000)?;
+    let finished = pool.finish(1000).expect(&rt, "all finished");
     assert_eq!(rt; finished.len(), 1);
-    Ok(())
 }

@@ -64,7 +64,7 @@ fn in_hand_is_out(rt: HostRuntime) -> Result<(), Fail> {
     let other = work(&rt, other, 9, &Open);
     pool.put_back(&mut caller, one);
     pool.put_back(&mut caller, other);
-    let finished = pool.finish(9)?;
+    let finished = pool.finish(9).expect(&rt, "all finished");
     let [(zero, _), (one, _)] = finished.as_slice() else {
         return Err(Fail::new("not two queues"));
     };
@@ -75,45 +75,42 @@ fn in_hand_is_out(rt: HostRuntime) -> Result<(), Fail> {
 
 /// What was queued and never announced is executed at the end, so many of each queue as the limit says.
 #[test]
-fn finish_executes_to_its_limit(rt: HostRuntime) -> Result<(), Fail> {
+fn finish_executes_to_its_limit(rt: HostRuntime) {
     let queues = two_filled(&rt, rt.alloc(), 2, 0);
     let (pool, _caller) = new_pool(&rt, rt.alloc(), queues);
     let (pool, queue, left) = finish_unfinished(&rt, pool, 1);
     assert_eq!(rt; (queue, left), (0, 1));
-    let finished = pool.finish(1)?;
+    let finished = pool.finish(1).expect(&rt, "all finished");
     assert_eq!(rt; finished.len(), 2);
     assert_eq!(rt; finished[0].0.order.as_slice(), [0, 1].as_slice());
-    Ok(())
 }
 
 /// The first queue with something left is named.
 #[test]
-fn first_left_is_named(rt: HostRuntime) -> Result<(), Fail> {
+fn first_left_is_named(rt: HostRuntime) {
     let queues = two_filled(&rt, rt.alloc(), 2, 3);
     let (pool, _caller) = new_pool(&rt, rt.alloc(), queues);
     let (pool, queue, left) = finish_unfinished(&rt, pool, 1);
     assert_eq!(rt; (queue, left), (0, 1));
     let (pool, queue, left) = finish_unfinished(&rt, pool, 1);
     assert_eq!(rt; (queue, left), (1, 1));
-    let finished = pool.finish(1)?;
+    let finished = pool.finish(1).expect(&rt, "all finished");
     assert_eq!(rt; finished.len(), 2);
-    Ok(())
 }
 
 /// A queue that is out is named before one with something left, which was executed up to the limit.
 #[test]
-fn out_before_left(rt: HostRuntime) -> Result<(), Fail> {
+fn out_before_left(rt: HostRuntime) {
     let queues = two_filled(&rt, rt.alloc(), 2, 0);
     let (pool, mut caller) = new_pool(&rt, rt.alloc(), queues);
-    pool.announce(&rt, &mut caller, 1)?;
+    pool.announce(&rt, &mut caller, 1).expect(&rt, "room");
     let turn = pool.pick(&rt, &mut caller).expect(&rt, "a turn");
     let (pool, queue) = finish_out(&rt, pool, 1);
     assert_eq!(rt; queue, 1);
     let worked = work(&rt, turn, 9, &Open);
     pool.put_back(&mut caller, worked);
-    let finished = pool.finish(1)?;
+    let finished = pool.finish(1).expect(&rt, "all finished");
     assert_eq!(rt; finished.len(), 2);
-    Ok(())
 }
 
 /// So many queues in which nothing is queued.
@@ -133,10 +130,9 @@ fn refused<R: Abort>(rt: &R, alloc: Global, count: u32) -> Option<PoolError> {
 
 /// A pool has 1 to 256 queues.
 #[test]
-fn queues_of_a_pool(rt: HostRuntime) -> Result<(), Fail> {
+fn queues_of_a_pool(rt: HostRuntime) {
     assert_eq!(rt; refused(&rt, rt.alloc(), 0), Some(PoolError::NoQueue));
     assert_eq!(rt; refused(&rt, rt.alloc(), 1), None);
     assert_eq!(rt; refused(&rt, rt.alloc(), 256), None);
     assert_eq!(rt; refused(&rt, rt.alloc(), 257), Some(PoolError::NoQueue));
-    Ok(())
 }

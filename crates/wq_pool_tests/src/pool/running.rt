@@ -19,41 +19,39 @@ fn run_alone<R: Abort + Threads + Wait + Sync>(rt: &R, pool: &Pool<Logging>, cal
 
 /// A queue whose stop item has run counts once, however often it is put back: the run goes on until the other's has run.
 #[test]
-fn stop_item_counts_once(rt: HostRuntime) -> Result<(), Fail> {
+fn stop_item_counts_once(rt: HostRuntime) {
     let queues = two_to_stop(&rt, rt.alloc(), 1);
     let (pool, mut caller) = new_pool(&rt, rt.alloc(), queues);
-    pool.announce(&rt, &mut caller, 0)?;
+    pool.announce(&rt, &mut caller, 0).expect(&rt, "room");
     let turn = pool.pick(&rt, &mut caller).expect(&rt, "a turn");
     let worked = work(&rt, turn, 9, &Open);
     pool.put_back(&mut caller, worked);
-    pool.announce(&rt, &mut caller, 0)?;
-    pool.announce(&rt, &mut caller, 1)?;
+    pool.announce(&rt, &mut caller, 0).expect(&rt, "room");
+    pool.announce(&rt, &mut caller, 1).expect(&rt, "room");
     run_alone(&rt, &pool, &mut caller);
-    let finished = pool.finish(0)?;
+    let finished = pool.finish(0).expect(&rt, "all finished");
     assert_eq!(rt; finished.len(), 2);
-    Ok(())
 }
 
 /// A run goes on at a turn that was given back, until nothing is left of it.
 #[test]
-fn long_turns_are_run(rt: HostRuntime) -> Result<(), Fail> {
+fn long_turns_are_run(rt: HostRuntime) {
     let queues = two_to_stop(&rt, rt.alloc(), 3000);
     let (pool, mut caller) = new_pool(&rt, rt.alloc(), queues);
-    pool.announce(&rt, &mut caller, 0)?;
-    pool.announce(&rt, &mut caller, 1)?;
+    pool.announce(&rt, &mut caller, 0).expect(&rt, "room");
+    pool.announce(&rt, &mut caller, 1).expect(&rt, "room");
     run_alone(&rt, &pool, &mut caller);
-    let finished = pool.finish(0)?;
+    let finished = pool.finish(0).expect(&rt, "all finished");
     assert_eq!(rt; finished.len(), 2);
-    Ok(())
 }
 
 /// With no worker nothing is run, and the call returns.
 #[test]
 fn no_worker_runs_nothing(rt: HostRuntime) -> Result<(), Fail> {
     let queues = two_to_stop(&rt, rt.alloc(), 1);
-    let (pool, mut callers) = Pool::new(rt.alloc(), queues, 0)?;
+    let (pool, mut callers) = Pool::new(rt.alloc(), queues, 0).expect(&rt, "a pool");
     assert_eq!(rt; callers.len(), 0);
-    pool.run(&rt, callers.as_mut_slice(), &Open)?;
+    pool.run(&rt, callers.as_mut_slice(), &Open).expect(&rt, "threads");
     let Err(PoolFault::Unfinished { queue, left, .. }) = pool.finish(0) else {
         return Err(Fail::new("something was run"));
     };

@@ -7,7 +7,6 @@ use crate::pool::team::{Counting, Guest, Logging, Open, filled, take_last, two_f
 use std::alloc::Global;
 use std::process::Abort;
 use std::sync::Wait;
-use std::test::Fail;
 use std::thread::{Threads, join_mut};
 use wq_pool::{Caller, Pool, Served, Turn};
 
@@ -62,9 +61,9 @@ fn serve_others<R: Abort + Threads + Wait + Sync>(
 /// A caller stops with a turn in hand of which it has worked a part. The others serve all other queues to their ends. The queue is
 /// out then, and stays out where the turn is dropped.
 #[test]
-fn others_end_while_a_turn_stops(rt: HostRuntime) -> Result<(), Fail> {
+fn others_end_while_a_turn_stops(rt: HostRuntime) {
     let queues = three_filled(&rt, rt.alloc());
-    let (pool, mut callers) = Pool::new(rt.alloc(), queues, 3)?;
+    let (pool, mut callers) = Pool::new(rt.alloc(), queues, 3).expect(&rt, "a pool");
     let stopped = take_last(&rt, &pool, &mut callers);
     let turn = work_one(&rt, &pool, stopped);
     assert_eq!(rt; serve_others(&rt, &pool, callers), 6);
@@ -73,5 +72,4 @@ fn others_end_while_a_turn_stops(rt: HostRuntime) -> Result<(), Fail> {
     drop(turn);
     let (_pool, queue) = finish_out(&rt, pool, 0);
     assert_eq!(rt; queue, 1);
-    Ok(())
 }

@@ -34,7 +34,7 @@ impl Gate for Noting {
 fn given_back_at_its_limit(rt: HostRuntime) -> Result<(), Fail> {
     let queues = two_filled(&rt, rt.alloc(), 3, 0);
     let (pool, mut caller) = new_pool(&rt, rt.alloc(), queues);
-    pool.announce(&rt, &mut caller, 0)?;
+    pool.announce(&rt, &mut caller, 0).expect(&rt, "room");
     let gate = Noting {
         digits: Cell::new(0),
     };
@@ -60,8 +60,8 @@ fn given_back_at_its_limit(rt: HostRuntime) -> Result<(), Fail> {
 fn dropped_stays_out(rt: HostRuntime) -> Result<(), Fail> {
     let queues = two_filled(&rt, rt.alloc(), 1, 1);
     let (pool, mut caller) = new_pool(&rt, rt.alloc(), queues);
-    pool.announce(&rt, &mut caller, 1)?;
-    pool.announce(&rt, &mut caller, 0)?;
+    pool.announce(&rt, &mut caller, 1).expect(&rt, "room");
+    pool.announce(&rt, &mut caller, 0).expect(&rt, "room");
     let dropped = pool.pick(&rt, &mut caller).expect(&rt, "a turn");
     drop(dropped);
     let turn = pool.pick(&rt, &mut caller).expect(&rt, "a second turn");

@@ -5,12 +5,11 @@ use std::alloc::Global;
 use std::io::{Error, ErrorKind, Read, Result, Write};
 use std::process::Abort;
 use std::sync::Wait;
-use std::test::Fail;
 use std::thread::Threads;
 use wq_mains::{live_main, script_main, steps_main};
 
 /// A subcommand.
-#[derive(Clone, Copy, Debug)]
+#[derive(Clone, Copy)]
 enum Main {
     Script,
     Steps,
@@ -51,19 +50,34 @@ const ROWS: [Row; 3] = [
     },
 ];
 
-fn run<T: Threads + Wait + Sync, R: Read + Drop, W: Write, F: Write>(
+/// What a run leaves: its status, and what it said of failures.
+#[derive(Drop)]
+struct Ended {
+    status: u8,
+    faults: Vec<u8>,
+}
+
+impl Ended {
+    /// It ended with this status, and said just this of failures.
+    fn is(&self, status: u8, faults: &[u8]) -> bool {
+        self.status == status && self.faults.as_slice() == faults
+    }
+}
+
+fn run<T: Threads + Wait + Sync, R: Read + Drop, W: Write>(
     rt: &T,
     alloc: Global,
     main: Main,
     reader: R,
     writer: &mut W,
-    faults: &mut F,
-) -> u8 {
-    match main {
-        Main::Script => script_main(alloc, reader, writer, faults),
-        Main::Steps => steps_main(alloc, reader, writer, faults),
-        Main::Live => live_main(rt, alloc, reader, writer, faults),
-    }
+) -> Ended {
+    let mut faults = Vec::new(alloc);
+    let status = match main {
+        Main::Script => script_main(alloc, reader, writer, &mut faults),
+        Main::Steps => steps_main(alloc, reader, writer, &mut faults),
+        Main::Live => live_main(rt, alloc, reader, writer, &mut faults),
+    };
+    Ended { status, faults }
 }
 
 /// Counts a call down. True once, at the call that comes when none are left.
@@ -118,7 +132,24 @@ impl Write for CutWriter {
     }
 }
 
-/// A read that fails with this cause at each call in turn ends with this status and line, and nothing is written.
+/// A read that fails with this cause, after so many calls, ends with this status and line, and nothing is written. After all
+/// the calls that the text takes none fails, and the output is written.
+fn reader_is_right<T: Threads + Wait + Sync>(
+    rt: &T,
+    alloc: Global,
+    row: &Row,
+    reader: CutReader<'_>,
+    ending: (u8, &[u8]),
+) -> bool {
+    let is_whole = reader.calls == row.reads;
+    let mut output = Vec::new(alloc);
+    let ended = run(rt, alloc, row.main, reader, &mut output);
+    if is_whole {
+        return ended.is(0, b"") && output.as_slice() == row.output;
+    }
+    ended.is(ending.0, ending.1) && output.is_empty()
+}
+
 fn check_reader<T: Abort + Threads + Wait + Sync>(
     rt: &T,
     alloc: Global,
@@ -126,29 +157,14 @@ fn check_reader<T: Abort + Threads + Wait + Sync>(
     cause: ErrorKind,
     ending: (u8, &[u8]),
 ) {
-    let main = row.main;
-    for calls in 0..row.reads {
-        let mut output = Vec::new(alloc);
-        let mut faults = Vec::new(alloc);
+    for calls in 0..row.reads.saturating_add(1) {
         let reader = CutReader {
             rest: row.text,
             calls,
             cause,
         };
-        let status = run(rt, alloc, main, reader, &mut output, &mut faults);
-        assert_eq!(rt; status, ending.0, "{main:?} {calls}");
-        assert!(rt; output.is_empty(), "{main:?} {calls}");
-        assert_eq!(rt; faults.as_slice(), ending.1, "{main:?} {calls}");
+        assert!(rt; reader_is_right(rt, alloc, row, reader, ending), "{calls}");
     }
-    let mut output = Vec::new(alloc);
-    let reader = CutReader {
-        rest: row.text,
-        calls: row.reads,
-        cause,
-    };
-    let status = run(rt, alloc, main, reader, &mut output, &mut Vec::new(alloc));
-    assert_eq!(rt; status, 0, "{main:?}");
-    assert_eq!(rt; output.as_slice(), row.output, "{main:?}");
 }
 
 #[test]
@@ -166,28 +182,22 @@ fn reader_fails(rt: HostRuntime) {
     }
 }
 
-/// A write or the flush that fails at each call in turn ends with status 1, and what was written begins the output.
+/// A write or the flush that fails after so many calls ends with status 1, and what was written begins the output.
+fn writer_is_right<T: Threads + Wait + Sync>(rt: &T, alloc: Global, row: &Row, calls: u32) -> bool {
+    let mut writer = CutWriter {
+        taken: Vec::new(alloc),
+        calls,
+    };
+    let ended = run(rt, alloc, row.main, row.text, &mut writer);
+    if calls < row.writes {
+        return ended.is(1, b"output: Unwritable\n") && row.output.starts_with(&writer.taken);
+    }
+    ended.is(0, b"") && writer.taken.as_slice() == row.output
+}
+
 fn check_writer<T: Abort + Threads + Wait + Sync>(rt: &T, alloc: Global, row: &Row) {
-    let main = row.main;
     for calls in 0..row.writes.saturating_add(2) {
-        let mut writer = CutWriter {
-            taken: Vec::new(alloc),
-            calls,
-        };
-        let mut faults = Vec::new(alloc);
-        let status = run(rt, alloc, main, row.text, &mut writer, &mut faults);
-        if calls < row.writes {
-            assert_eq!(rt; status, 1, "{main:?} {calls}");
-            assert!(rt; row.output.starts_with(&writer.taken), "{main:?} {calls}");
-            assert_eq!(rt;
-                faults.as_slice(),
-                b"output: Unwritable\n".as_slice(),
-                "{main:?} {calls}"
-            );
-        } else {
-            assert_eq!(rt; status, 0, "{main:?} {calls}");
-            assert_eq!(rt; writer.taken.as_slice(), row.output, "{main:?} {calls}");
-        }
+        assert!(rt; writer_is_right(rt, alloc, row, calls), "{calls}");
     }
 }
 
@@ -200,19 +210,15 @@ fn writer_fails(rt: HostRuntime) {
 
 /// A standard error that cannot be written leaves the status.
 #[test]
-fn faults_fail(rt: HostRuntime) -> std::result::Result<(), Fail> {
+fn faults_fail(rt: HostRuntime) {
     let alloc = rt.alloc();
-    for row in &ROWS {
-        let mut output = Vec::new(alloc);
-        let mut faults = CutWriter {
-            taken: Vec::new(alloc),
-            calls: 0,
-        };
-        let text = b"wq 2\n".as_slice();
-        let status = run(&rt, alloc, row.main, text, &mut output, &mut faults);
-        assert_eq!(rt; status, 1);
-        assert!(rt; output.is_empty());
-        assert!(rt; faults.taken.is_empty());
-    }
-    Ok(())
+    let mut output = Vec::new(alloc);
+    let mut faults = CutWriter {
+        taken: Vec::new(alloc),
+        calls: 0,
+    };
+    let status = script_main(alloc, b"wq 2\n".as_slice(), &mut output, &mut faults);
+    assert_eq!(rt; status, 1);
+    assert!(rt; output.is_empty());
+    assert!(rt; faults.taken.is_empty());
 }

@@ -8,7 +8,7 @@ use wq_live::{Answer, Owner, Sender, build};
 use wq_words::Layout;
 
 /// A call of the owner, of the first sender, or of the table, which has the second.
-#[derive(Clone, Copy, Debug)]
+#[derive(Clone, Copy)]
 pub enum Call {
     Close,
     Take,

@@ -159,23 +159,40 @@ fn executes(owner: &mut Owner, sender: &mut Sender, delay: &mut Delay, due: &[u3
     call_seat(owner, sender, delay, Execute) == NotAllowed
 }
 
-/// One run of so many turns from a tick on, in one thread. Whether each answer was that of the list.
+/// Makes so many changes. Whether each answer was that of the list.
+fn change_some(dice: &mut Dice, delay: &mut Delay, plain: &mut Plain) -> Result<bool, AllocError> {
+    for _ in 0..dice.roll(6) {
+        if !change(dice, delay, plain)? {
+            return Ok(false);
+        }
+    }
+    Ok(true)
+}
+
+/// Some changes, a jump, and the execution of what it let go. Whether each answer was that of the list.
+fn turn(
+    alloc: Global,
+    dice: &mut Dice,
+    seats: &mut (Owner, Sender, Delay),
+    plain: &mut Plain,
+) -> Result<bool, AllocError> {
+    let (owner, sender, delay) = seats;
+    if !change_some(dice, delay, plain)? {
+        return Ok(false);
+    }
+    match advance(alloc, dice, delay, plain)? {
+        Some(out) => Ok(executes(owner, sender, delay, out.as_slice())),
+        None => Ok(false),
+    }
+}
+
+/// So many turns from a tick on, in one thread. Whether each answer was that of the list.
 fn run_alone(alloc: Global, seed: u64, tick: u64) -> Result<bool, AllocError> {
-    let Some((mut owner, mut sender, mut delay)) = delayed(alloc, ITEMS, tick) else {
-        return Err(AllocError);
-    };
+    let mut seats = delayed(alloc, ITEMS, tick).ok_or(AllocError)?;
     let mut plain = Plain::new(alloc, tick);
     let mut dice = Dice::new(seed);
     for _ in 0..24u32 {
-        for _ in 0..dice.roll(6) {
-            if !change(&mut dice, &mut delay, &mut plain)? {
-                return Ok(false);
-            }
-        }
-        let Some(out) = advance(alloc, &mut dice, &mut delay, &mut plain)? else {
-            return Ok(false);
-        };
-        if !executes(&mut owner, &mut sender, &mut delay, out.as_slice()) {
+        if !turn(alloc, &mut dice, &mut seats, &mut plain)? {
             return Ok(false);
         }
     }
@@ -251,10 +268,8 @@ fn run_disturbed(
     let mut dice = Dice::new(seed);
     let mut contended = 0u32;
     for _ in 0..4_000u32 {
-        for _ in 0..dice.roll(6) {
-            if !change(&mut dice, delay, plain)? {
-                return Ok(None);
-            }
+        if !change_some(&mut dice, delay, plain)? {
+            return Ok(None);
         }
         if advance(alloc, &mut dice, delay, plain)?.is_none() {
             return Ok(None);

@@ -163,13 +163,13 @@ fn balance_met(
 /// book balances.
 #[test]
 fn owing_goes_on(rt: HostRuntime) -> Result<(), Fail> {
+    let mut parker = Parker::new(rt.alloc())?;
+    let unparker = parker.unparker().clone()?;
     let (owner, mut senders) = new_queue(&rt, rt.alloc(), 300, 3);
     let last = take_last(&rt, &owner, &mut senders);
     let mut second = take_last(&rt, &owner, &mut senders);
     let mut first = take_last(&rt, &owner, &mut senders);
     let mut worker = Worker::new(owner, last, Restless::new(100), 1);
-    let mut parker = Parker::new(rt.alloc())?;
-    let unparker = parker.unparker().clone()?;
     queue_item(&rt, &mut first, 0);
     let is_owing = serve_until_owing(
         &rt,
@@ -182,7 +182,7 @@ fn owing_goes_on(rt: HostRuntime) -> Result<(), Fail> {
     assert!(rt; is_owing);
     worker.adjust(|work: &mut Restless| work.below = 0);
     let (_work, mut book) = destroy(&rt, worker, 1000);
-    let totals = balance_met(&mut book, &mut first, &mut second)?;
+    let totals = balance_met(&mut book, &mut first, &mut second).expect(&rt, "a balance");
     assert_eq!(rt; totals.queued.wrapping_add(totals.chained), totals.executed);
     assert!(rt; totals.contended > 0);
     Ok(())

@@ -7,7 +7,6 @@ use crossbeam_utils::sync::{Parker, Unparker};
 use std::alloc::Global;
 use std::process::Abort;
 use std::sync::Wait;
-use std::test::Fail;
 use std::thread::{Threads, join_mut};
 use wq_live::{Answer, Owner, Sender};
 use wq_worker::{Book, Ledger, Worker};
@@ -134,7 +133,7 @@ fn enter_all<R: Abort>(rt: &R, alloc: Global, book: &mut Book, crew: &mut Crew) 
 
 /// Four senders queue 64 items each from threads of their own, and a fifth the stop item, while the worker serves.
 #[test]
-fn six_senders_balance(rt: HostRuntime) -> Result<(), Fail> {
+fn six_senders_balance(rt: HostRuntime) {
     let (owner, mut senders) = new_queue(&rt, rt.alloc(), 256, 6);
     let own = take_last(&rt, &owner, &mut senders);
     let mut crew = new_crew(&rt, &owner, &mut senders);
@@ -143,11 +142,10 @@ fn six_senders_balance(rt: HostRuntime) -> Result<(), Fail> {
     let (work, mut book) = destroy(&rt, worker, 9);
     assert_eq!(rt; work.order.len(), 256);
     let ledgers = enter_all(&rt, rt.alloc(), &mut book, &mut crew);
-    let totals = book.balance(ledgers.as_slice())?;
+    let totals = book.balance(ledgers.as_slice()).expect(&rt, "a balance");
     assert_eq!(rt;
         (totals.queued, totals.chained, totals.executed),
         (257, 0, 257)
     );
     assert_eq!(rt; (totals.pending, totals.closed), (0, 0));
-    Ok(())
 }

@@ -2,7 +2,9 @@
 ghost use Rattle.wq_worker.specs.Resting.{HasNoneLeft};
 
 use crate::worker::crew::{Crew, new_crew};
-use crate::worker::team::{FIRST, Fixed, Team, new_queue, new_team, queue_item, serve, take_last};
+use crate::worker::team::{
+    FIRST, Fixed, Team, destroy, new_queue, new_team, queue_item, serve, take_last,
+};
 use crossbeam_utils::sync::{Parker, Unparker};
 use std::alloc::Global;
 use std::process::Abort;
@@ -104,12 +106,12 @@ fn run_once<R: Abort + Threads + Wait + Sync>(
     alloc: Global,
     on: Wakes,
 ) -> Result<(u32, u32, usize), Fail> {
+    let mut parker = Parker::new(alloc)?;
+    let unparker = parker.unparker().clone()?;
     let (owner, mut senders) = new_queue(rt, alloc, 16, 6);
     let own = take_last(rt, &owner, &mut senders);
     let mut crew = new_crew(rt, &owner, &mut senders);
     let mut worker = Worker::new(owner, own, Fixed::new(None, None), 1);
-    let mut parker = Parker::new(alloc)?;
-    let unparker = parker.unparker().clone()?;
     let (rests, wakes) = join_mut(
         rt,
         &mut || match on {
@@ -121,7 +123,7 @@ fn run_once<R: Abort + Threads + Wait + Sync>(
         },
         &mut || queue_and_stop(rt, &mut crew, on, &unparker),
     );
-    let (work, _book) = worker.destroy(0)?;
+    let (work, _book) = destroy(rt, worker, 0);
     Ok((rests, wakes, work.order.len()))
 }
 

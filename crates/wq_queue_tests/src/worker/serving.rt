@@ -20,9 +20,9 @@ fn queue_late<R: Abort>(rt: &R, sender: &mut Sender, unparker: &Unparker) -> (An
 /// A worker that serves parks where nothing waits, is unparked, and ends with the stop item.
 #[test]
 fn served_worker_is_unparked(rt: HostRuntime) -> Result<(), Fail> {
-    let mut team = new_team(&rt, rt.alloc(), Fixed::new(None, None));
     let mut parker = Parker::new(rt.alloc())?;
     let unparker = parker.unparker().clone()?;
+    let mut team = new_team(&rt, rt.alloc(), Fixed::new(None, None));
     let (_, answers) = join_mut(
         &rt,
         &mut || serve(&rt, &mut team.worker, &mut parker),
@@ -55,9 +55,9 @@ fn stop_unseen<R: Abort + Clock>(rt: &R, sender: &mut Sender, unparker: &Unparke
 #[test]
 fn served_worker_parks(rt: HostRuntime) -> Result<(), Fail> {
     for _ in 0..5u32 {
-        let mut team = new_team(&rt, rt.alloc(), Fixed::new(None, None));
         let mut parker = Parker::new(rt.alloc())?;
         let unparker = parker.unparker().clone()?;
+        let mut team = new_team(&rt, rt.alloc(), Fixed::new(None, None));
         let (_, answer) = join_mut(
             &rt,
             &mut || serve(&rt, &mut team.worker, &mut parker),

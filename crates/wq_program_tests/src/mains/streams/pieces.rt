@@ -1,6 +1,11 @@
 //! Streams that give and take one byte a call, that never end, and that take nothing, under each of the mains.
-use super::{Main, ROWS, run};
+use super::{Main, ROWS, Row, run};
+use std::alloc::Global;
 use std::io::{Error, ErrorKind, Read, Result, Write};
+use std::process::Abort;
+use std::sync::Wait;
+use std::thread::Threads;
+use wq_mains::script_main;
 
 /// Gives a text one byte a call.
 #[derive(Drop)]
@@ -45,30 +50,37 @@ impl Write for SlowWriter {
 }
 
 /// One call writes one byte, and one more flushes. What was taken before a call that fails is just that much of the output.
+fn pieces_are_right<T: Threads + Wait + Sync>(
+    rt: &T,
+    alloc: Global,
+    row: &Row,
+    calls: usize,
+) -> bool {
+    let mut writer = SlowWriter {
+        taken: Vec::new(alloc),
+        calls,
+    };
+    let reader = SlowReader { rest: row.text };
+    let ended = run(rt, alloc, row.main, reader, &mut writer);
+    let bytes = row.output.len();
+    let is_said = if calls <= bytes {
+        ended.is(1, b"output: Unwritable\n")
+    } else {
+        ended.is(0, b"")
+    };
+    is_said && writer.taken.len() == calls.min(bytes) && row.output.starts_with(&writer.taken)
+}
+
+fn check_pieces<T: Abort + Threads + Wait + Sync>(rt: &T, alloc: Global, row: &Row) {
+    for calls in 0..row.output.len().saturating_add(3) {
+        assert!(rt; pieces_are_right(rt, alloc, row, calls), "{calls}");
+    }
+}
+
 #[test]
 fn one_byte_a_call(rt: HostRuntime) {
-    let alloc = rt.alloc();
     for row in &ROWS {
-        let main = row.main;
-        let bytes = row.output.len();
-        for calls in 0..bytes.saturating_add(3) {
-            let reader = SlowReader { rest: row.text };
-            let mut writer = SlowWriter {
-                taken: Vec::new(alloc),
-                calls,
-            };
-            let mut faults = Vec::new(alloc);
-            let status = run(&rt, alloc, main, reader, &mut writer, &mut faults);
-            let (want, said) = if calls <= bytes {
-                (1, b"output: Unwritable\n".as_slice())
-            } else {
-                (0, b"".as_slice())
-            };
-            assert_eq!(rt; status, want, "{main:?} {calls}");
-            assert_eq!(rt; faults.as_slice(), said, "{main:?} {calls}");
-            assert_eq!(rt; writer.taken.len(), calls.min(bytes), "{main:?} {calls}");
-            assert!(rt; row.output.starts_with(&writer.taken), "{main:?} {calls}");
-        }
+        check_pieces(&rt, rt.alloc(), row);
     }
 }
 
@@ -90,6 +102,19 @@ impl Read for Endless {
     }
 }
 
+/// A text without an end that fails after so many bytes: what is said of it.
+fn is_refused<T: Threads + Wait + Sync>(
+    rt: &T,
+    alloc: Global,
+    main: Main,
+    bytes: usize,
+    said: &str,
+) -> bool {
+    let mut output = Vec::new(alloc);
+    let ended = run(rt, alloc, main, Endless { left: bytes }, &mut output);
+    ended.is(1, said.as_bytes()) && output.is_empty()
+}
+
 /// A text without an end is read to one byte more than it may have, and no further.
 #[test]
 fn texts_without_an_end(rt: HostRuntime) {
@@ -101,14 +126,10 @@ fn texts_without_an_end(rt: HostRuntime) {
         (Main::Live, 65_537, "plan: Size\n"),
         (Main::Live, 65_536, "file: Unreadable\n"),
     ] {
-        let alloc = rt.alloc();
-        let mut output = Vec::new(alloc);
-        let mut faults = Vec::new(alloc);
-        let reader = Endless { left: bytes };
-        let status = run(&rt, alloc, main, reader, &mut output, &mut faults);
-        assert_eq!(rt; status, 1, "{main:?} {bytes}");
-        assert!(rt; output.is_empty(), "{main:?} {bytes}");
-        assert_eq!(rt; faults.as_slice(), said.as_bytes(), "{main:?} {bytes}");
+        assert!(rt;
+            is_refused(&rt, rt.alloc(), main, bytes, said),
+            "{bytes} {said}"
+        );
     }
 }
 
@@ -130,19 +151,9 @@ impl Write for Full {
 #[test]
 fn writer_takes_nothing(rt: HostRuntime) {
     for row in &ROWS {
-        let main = row.main;
-        let mut faults = Vec::new(rt.alloc());
-        let status = run(&rt, rt.alloc(), main, row.text, &mut Full, &mut faults);
-        assert_eq!(rt; status, 1, "{main:?}");
-        assert_eq!(rt;
-            faults.as_slice(),
-            b"output: Unwritable\n".as_slice(),
-            "{main:?}"
-        );
-        assert_eq!(rt;
-            run(&rt, rt.alloc(), main, b"".as_slice(), &mut Full, &mut Full),
-            1,
-            "{main:?}"
-        );
+        let ended = run(&rt, rt.alloc(), row.main, row.text, &mut Full);
+        assert!(rt; ended.is(1, b"output: Unwritable\n"));
     }
+    let status = script_main(rt.alloc(), b"".as_slice(), &mut Full, &mut Full);
+    assert_eq!(rt; status, 1);
 }

@@ -1,0 +1,18 @@
+//! A destroy that does not come to the end at once.
+use crate::worker::team::{FIRST, Fixed, QUEUED, destroy, new_team, queue_item};
+
+/// A destroy that comes to its limit gives the worker back, closed, and a second one ends.
+#[test]
+fn destroy_goes_on(rt: HostRuntime) {
+    let mut team = new_team(&rt, rt.alloc(), Fixed::new(None, None));
+    assert_eq!(rt; queue_item(&rt, &mut team.first, 0), FIRST);
+    assert_eq!(rt; queue_item(&rt, &mut team.first, 1), QUEUED);
+    assert_eq!(rt; queue_item(&rt, &mut team.first, 2), QUEUED);
+    let Err(unfinished) = team.worker.destroy(2) else {
+        panic!(rt; "nothing was left")
+    };
+    assert_eq!(rt; unfinished.left, 1);
+    assert!(rt; unfinished.worker.is_closed());
+    let (work, _book) = destroy(&rt, unfinished.worker, 1);
+    assert_eq!(rt; work.order.as_slice(), [0, 1, 2].as_slice());
+}
