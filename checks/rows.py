@@ -7,8 +7,10 @@ standard output has to hold, with status 0 and nothing on standard error; or `re
 `! REFUSAL`, the one line of standard error, with status 1 and nothing on standard output.
 
 Lines before the rows say of all that follow: `command WORD` the subcommand, `before TEXT` what each text begins with, `times N`
-how often each is run. After `beginnings TEXT` a row is `FROM to UPTO => WANT`, of the texts of so many bytes that TEXT begins
-with; together they are all of them. A line that begins with `--` says what the rows after it show.
+how often each is run. After `after STEPS` a row is `STEP => REPLY`: the step is tried right after these, which are all enabled,
+and where it is not enabled the numbers that were accepted and begun stay as they were. After `beginnings TEXT` a row is
+`FROM to UPTO => WANT`, of the texts of so many bytes that TEXT begins with; together they are all of them. A line that begins
+with `--` says what the rows after it show.
 """
 import re
 import subprocess
@@ -17,9 +19,9 @@ import tempfile
 from pathlib import Path
 
 
-def text_of(row, before=b""):
+def text_of(row):
     """The bytes that a row spells."""
-    made = before
+    made = b""
     for part in re.split(r"(\{(?:comments|spaces) to \d+\})", row):
         fill = re.fullmatch(r"\{(comments|spaces) to (\d+)\}", part)
         if fill and fill[1] == "spaces":
@@ -32,60 +34,78 @@ def text_of(row, before=b""):
     return made
 
 
-def beginnings_of(text, lengths):
-    """The texts of these lengths that a text begins with."""
-    first, _, last = lengths.partition(" to ")
-    return [text[:length] for length in range(int(first), int(last or first) + 1)]
+class Runner:
+    """Runs texts with a program, and counts them."""
+
+    def __init__(self, program, folder):
+        self.program, self.file, self.count = Path(program).resolve(), Path(folder) / "text", 0
+
+    def run(self, command, text):
+        self.file.write_bytes(text)
+        self.count += 1
+        ran = subprocess.run([self.program, command, self.file], capture_output=True, timeout=60)
+        return ran.returncode, ran.stdout, ran.stderr
+
+    def fault(self, command, text, want):
+        """What is wrong with what becomes of the text, or nothing."""
+        got = self.run(command, text)
+        if want == "read":
+            return "" if (got[0], got[2]) == (0, b"") else f"it was not read: {got[0]} {got[2]!r}"
+        refusal = want.startswith("! ")
+        wanted = (1, b"", want[2:].encode() + b"\n") if refusal else (0, text_of(want), b"")
+        return "" if got == wanted else f"{got} and not {wanted}"
+
+    def fault_after(self, command, before, step, want):
+        """What is wrong with the reply to a step that is tried after others, or nothing."""
+        status, output, said = self.run(command, before + step)
+        *replies, reply, accepted, begun = [b""] * 3 + output.splitlines()
+        if (status, said) != (0, b"") or b"not enabled" in replies:
+            return f"the steps before it are not all enabled: {replies} {said!r}"
+        if reply + b"\n" != text_of(want):
+            return f"{reply!r} and not {text_of(want)!r}"
+        changed = reply == b"not enabled" and self.run(command, before)[1].splitlines()[-2:] != [accepted, begun]
+        return "a step that is not enabled changed what was accepted or begun" if changed else ""
 
 
-def fault_of(program, command, text, want, folder):
-    """What is wrong with what the program makes of the text, or nothing."""
-    path = folder / "text"
-    path.write_bytes(text)
-    ran = subprocess.run([program, command, path], capture_output=True, timeout=60)
-    got = (ran.returncode, ran.stdout, ran.stderr)
-    if want == "read":
-        return "" if (got[0], got[2]) == (0, b"") else f"it was not read: {got[0]} {got[2]!r}"
-    refusal = want.startswith("! ")
-    wanted = (1, b"", want[2:].encode() + b"\n") if refusal else (0, text_of(want), b"")
-    return "" if got == wanted else f"{got} and not {wanted}"
+def faults_of(runner, state, left, want):
+    """What is wrong with each text of a row."""
+    command, before = state["command"], text_of(state["before"])
+    if "beginnings" in state:
+        whole, (first, _, last) = text_of(state["beginnings"]), left.partition(" to ")
+        lengths = range(int(first), int(last or first) + 1)
+        state["lengths"] += lengths
+        return [runner.fault(command, whole[:length], want) for length in lengths]
+    if "after" in state:
+        return [runner.fault_after(command, before + text_of(state["after"]), text_of(left), want)]
+    return [runner.fault(command, before + text_of(left), want) for _ in range(int(state["times"]))]
 
 
-def faults_in(program, rows, folder):
-    """Runs the rows of a file. Answers how many texts were run, and what is wrong, by line."""
-    state, ran, faults, lengths = {"before": "", "times": "1"}, 0, [], []
+def faults_in(runner, rows):
+    """Runs the rows of a file. Answers what is wrong, by line."""
+    state, faults = {"before": "", "times": "1", "lengths": []}, []
     for number, line in enumerate(rows.read_text().splitlines(), 1):
-        named = re.match(r"(command|before|times|beginnings)\b ?(.*)", line)
-        if not line or line.startswith("--"):
-            continue
+        named = re.match(r"(command|before|times|after|beginnings)\b ?(.*)", line)
+        row = re.fullmatch(r"(.*?) ?=> ?(.*)", line)
         if named:
             state[named[1]] = named[2]
-            continue
-        left, _, want = re.fullmatch(r"(.*?) ?(=>) ?(.*)", line).groups()
-        if "beginnings" in state:
-            texts = beginnings_of(text_of(state["beginnings"]), left)
-            lengths += [len(text) for text in texts]
-        else:
-            texts = [text_of(left, text_of(state["before"]))] * int(state["times"])
-        for text in texts:
-            ran += 1
-            fault = fault_of(program, state["command"], text, want, folder)
-            if fault:
-                faults.append(f"{rows}:{number}: {fault}")
-    if "beginnings" in state and lengths != list(range(len(text_of(state["beginnings"])) + 1)):
+        elif row and not line.startswith("--"):
+            faults += [f"{rows}:{number}: {it}" for it in faults_of(runner, state, row[1], row[2]) if it]
+        elif line and not line.startswith("--"):
+            faults.append(f"{rows}:{number}: no row")
+    if "beginnings" in state and state["lengths"] != list(range(len(text_of(state["beginnings"])) + 1)):
         faults.append(f"{rows}: the rows of the beginnings leave out some, or have one twice")
-    return ran, faults
+    return faults
 
 
 def main(program):
-    ran, faults = 0, []
     with tempfile.TemporaryDirectory() as folder:
-        for rows in sorted((Path(__file__).parent / "rows").glob("*.rows")):
-            of_file, wrong = faults_in(Path(program).resolve(), rows, Path(folder))
-            ran, faults = ran + of_file, faults + wrong
-    print(*faults, sep="\n", end="\n" if faults else "")
-    print(f"rows: {ran} texts run, {len(faults)} not as wanted")
-    return 1 if faults or not ran else 0
+        runner = Runner(program, folder)
+        files = sorted((Path(__file__).parent / "rows").glob("*.rows"))
+        faults = [fault for rows in files for fault in faults_in(runner, rows)]
+    for fault in faults:
+        print(fault)
+    print(f"rows: {runner.count} texts run, {len(faults)} not as wanted")
+    return 1 if faults or not files else 0
 
 
 if __name__ == "__main__":

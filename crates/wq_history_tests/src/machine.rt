@@ -1,11 +1,10 @@
-mod situations;
 mod stopped;
 
 use std::process::Abort;
 use std::test::Fail;
 use wq_core::Reply::{
     Began, Busy, ChainBusy, Chained, Closed, Ended, GivenBack, Held, Idle, Linked, Looked, Lost,
-    Pending, Pushed, Rested, Took, Turned, Walked,
+    Pending, Pushed, Rested, Took, Walked,
 };
 use wq_core::Step::{
     Back, Begin, Chain, Check, Close, End, Hold, Link, Look, Push, Rest, Take, Walk,
@@ -150,137 +149,71 @@ const RESTING_QUEUE: [Turn; 18] = [
     (O, Take, Took(Head::Empty)),
 ];
 
-/// Makes a step, which answers so and leaves a legal history.
-fn make<R: Abort>(
+fn layout<R: Abort>(rt: &R) -> Layout {
+    Layout::new(4, 1, 2).expect(rt, "a layout")
+}
+
+/// Makes a step, which replies so and leaves a legal history.
+fn make<R: Abort>(rt: &R, core: &mut Core, turn: Turn) {
+    let (seat, step, reply) = turn;
+    assert_eq!(rt; core.step(seat, step), Ok(reply), "{step:?}");
+    assert_eq!(rt;
+        check_history(&layout(rt), core.history()),
+        Ok(()),
+        "{step:?}"
+    );
+}
+
+/// The schedule replayed as a whole, and in two parts, gives the history that its steps gave one by one.
+fn check_replays<R: Abort + AllocGlobal>(rt: &R, core: &Core, turns: &[(Seat, Step)]) {
+    let replayed = replay(rt.alloc(), layout(rt), turns).expect(rt, "enabled steps");
+    assert_eq!(rt; replayed.history(), core.history());
+    let (before, after) = turns.split_at(turns.len().min(2));
+    let mut parted = replay(rt.alloc(), layout(rt), before).expect(rt, "enabled steps");
+    replay_on(&mut parted, after).expect(rt, "more enabled steps");
+    assert_eq!(rt; parted.history(), core.history());
+}
+
+/// Each step, and then the schedule, with what was accepted and begun at its end.
+fn check_schedule<R: Abort + AllocGlobal>(rt: &R, row: &[Turn], accepted: &[u32], begun: &[u32]) {
+    let mut core = Core::new(rt.alloc(), layout(rt)).expect(rt, "memory");
+    let mut turns = Vec::new(rt.alloc());
+    for turn in row {
+        make(rt, &mut core, *turn);
+        turns.push((turn.0, turn.1)).expect(rt, "memory");
+    }
+    assert_eq!(rt; core.accepted().expect(rt, "memory").as_slice(), accepted);
+    assert_eq!(rt; core.begun().expect(rt, "memory").as_slice(), begun);
+    check_replays(rt, &core, turns.as_slice());
+}
+
+#[test]
+fn schedules(rt: HostRuntime) {
+    check_schedule(&rt, &QUEUED_AGAIN, &[0, 0, 1], &[0, 0, 1]);
+    check_schedule(&rt, &LOST_EXCHANGE, &[0, 1], &[]);
+    check_schedule(&rt, &CLOSED_BETWEEN, &[], &[]);
+    check_schedule(&rt, &STALLED_SENDER, &[3], &[3]);
+    check_schedule(&rt, &CHAINED_ITEMS, &[0, 1, 0], &[0, 1, 0]);
+    check_schedule(&rt, &RESTING_QUEUE, &[0], &[0]);
+}
+
+/// Whether a step is refused for this, and at its place in a replay and in the going on of one.
+fn is_refused<R: Abort + AllocGlobal>(
     rt: &R,
     core: &mut Core,
     turn: (Seat, Step),
-    answer: Result<Reply, StepError>,
-) -> Result<(), Fail> {
-    let (seat, step) = turn;
-    assert_eq!(rt; core.step(seat, step), answer, "{step:?}");
-    let layout = Layout::new(4, 1, 2)?;
-    assert_eq!(rt; check_history(&layout, core.history()), Ok(()), "{step:?}");
-    Ok(())
-}
-
-/// What was accepted and what has begun.
-fn check_lists<R: Abort>(rt: &R, core: &Core, accepted: &[u32], begun: &[u32]) -> Result<(), Fail> {
-    assert_eq!(rt; core.accepted()?.as_slice(), accepted);
-    assert_eq!(rt; core.begun()?.as_slice(), begun);
-    Ok(())
-}
-
-/// Each schedule step by step, replayed as a whole, and in two parts, with what was accepted and begun at its end.
-#[test]
-fn schedules(rt: HostRuntime) -> Result<(), Fail> {
-    let layout = Layout::new(4, 1, 2)?;
-    let rows: [(&[Turn], &[u32], &[u32]); 6] = [
-        (&QUEUED_AGAIN, &[0, 0, 1], &[0, 0, 1]),
-        (&LOST_EXCHANGE, &[0, 1], &[]),
-        (&CLOSED_BETWEEN, &[], &[]),
-        (&STALLED_SENDER, &[3], &[3]),
-        (&CHAINED_ITEMS, &[0, 1, 0], &[0, 1, 0]),
-        (&RESTING_QUEUE, &[0], &[0]),
-    ];
-    for (row, accepted, begun) in rows {
-        let mut core = Core::new(rt.alloc(), layout)?;
-        let mut turns = Vec::new(rt.alloc());
-        for (seat, step, reply) in row {
-            make(&rt, &mut core, (*seat, *step), Ok(*reply))?;
-            turns.push((*seat, *step))?;
-        }
-        check_lists(&rt, &core, accepted, begun)?;
-        let replayed = replay(rt.alloc(), layout, &turns)?;
-        assert_eq!(rt; replayed.history(), core.history());
-        check_lists(&rt, &replayed, accepted, begun)?;
-        let (before, after) = turns.split_at(turns.len().min(2));
-        let mut parted = replay(rt.alloc(), layout, before)?;
-        replay_on(&mut parted, after)?;
-        assert_eq!(rt; parted.history(), core.history());
-    }
-    Ok(())
-}
-
-/// Steps that are not enabled change nothing, and those after them are made.
-#[test]
-fn not_enabled(rt: HostRuntime) -> Result<(), Fail> {
-    let layout = Layout::new(4, 1, 2)?;
-    let refused = Err(StepError::NotEnabled);
-    let row = [
-        (O, Walk, refused),
-        (S0, Hold(0), Ok(Held)),
-        (S0, Look, Ok(Looked(Head::Empty))),
-        (S0, Link(0), Ok(Linked)),
-        (S0, Push(0), Ok(WAKES)),
-        (O, Take, Ok(Took(Head::Item(0)))),
-        (O, Begin, refused),
-        (O, Walk, Ok(Walked(None))),
-        (O, Begin, Ok(Began(0))),
-    ];
-    let mut core = Core::new(rt.alloc(), layout)?;
-    let mut turns = Vec::new(rt.alloc());
-    for (seat, step, answer) in row {
-        make(&rt, &mut core, (seat, step), answer)?;
-        turns.push((seat, step))?;
-    }
-    check_lists(&rt, &core, &[0], &[0])?;
-    assert_eq!(rt;
-        replay(rt.alloc(), layout, &turns).err(),
-        Some(ReplayError {
-            at: 0,
-            why: StepError::NotEnabled,
-        })
-    );
-    Ok(())
-}
-
-/// Links of a batch are turned only between the walk of a number and its begin, and a walk over a batch loads the link of
-/// its first number.
-#[test]
-fn turned_links(rt: HostRuntime) -> Result<(), Fail> {
-    let layout = Layout::new(4, 1, 2)?;
-    let refused = Err(StepError::NotEnabled);
-    let row = [
-        (S0, Hold(0), Ok(Held)),
-        (S0, Look, Ok(Looked(Head::Empty))),
-        (S0, Link(0), Ok(Linked)),
-        (S0, Push(0), Ok(WAKES)),
-        (S0, Hold(1), Ok(Held)),
-        (S0, Look, Ok(Looked(Head::Item(0)))),
-        (S0, Link(1), Ok(Linked)),
-        (O, Step::Turn(1, None), refused),
-        (S0, Push(1), Ok(BEHIND)),
-        (O, Step::Turn(1, None), refused),
-        (O, Take, Ok(Took(Head::Item(1)))),
-        (O, Step::Turn(1, None), refused),
-        (O, Walk, Ok(Walked(Some(0)))),
-        (O, Step::Turn(1, None), Ok(Turned)),
-        (O, Step::Turn(0, Some(1)), refused),
-        (O, Walk, Ok(Walked(None))),
-        (O, Step::Turn(0, Some(1)), Ok(Turned)),
-        (O, Walk, Ok(Walked(Some(1)))),
-        (O, Step::Turn(0, Some(5)), Ok(Turned)),
-        (O, Walk, Ok(Walked(Some(5)))),
-        (O, Begin, Ok(Began(0))),
-        (O, Step::Turn(0, None), refused),
-        (O, End, Ok(Ended(0))),
-        (O, Walk, Ok(Walked(None))),
-        (O, Begin, Ok(Began(1))),
-        (O, Walk, refused),
-    ];
-    let mut core = Core::new(rt.alloc(), layout)?;
-    for (seat, step, answer) in row {
-        make(&rt, &mut core, (seat, step), answer)?;
-    }
-    check_lists(&rt, &core, &[0, 1], &[0, 1])
+    why: StepError,
+) -> bool {
+    let replayed = replay(rt.alloc(), layout(rt), &[(S1, Hold(5)), turn]).err();
+    core.step(turn.0, turn.1) == Err(why)
+        && replayed == Some(ReplayError { at: 1, why })
+        && replay_on(core, &[turn]) == Err(ReplayError { at: 0, why })
 }
 
 /// Each refusal, the first that fits, of a queue of 4 items, 1 barrier and 2 senders: 4 is the barrier, 5 the stop item.
 #[test]
-fn refusals(rt: HostRuntime) -> Result<(), Fail> {
-    let layout = Layout::new(4, 1, 2)?;
-    let mut core = Core::new(rt.alloc(), layout)?;
+fn refusals(rt: HostRuntime) {
+    let mut core = Core::new(rt.alloc(), layout(&rt)).expect(&rt, "memory");
     for (seat, step, why) in [
         (Seat::Sender(2), Hold(6), StepError::NoSeat),
         (S0, Take, StepError::NoSeat),
@@ -302,22 +235,14 @@ fn refusals(rt: HostRuntime) -> Result<(), Fail> {
         (O, End, StepError::NotEnabled),
         (O, Chain(3), StepError::NotEnabled),
     ] {
-        assert_eq!(rt; core.step(seat, step), Err(why), "{seat:?} {step:?}");
-        assert_eq!(rt;
-            replay(rt.alloc(), layout, &[(S1, Hold(5)), (seat, step)]).err(),
-            Some(ReplayError { at: 1, why }),
-            "{seat:?} {step:?}"
-        );
-        assert_eq!(rt;
-            replay_on(&mut core, &[(seat, step)]),
-            Err(ReplayError { at: 0, why }),
+        assert!(rt;
+            is_refused(&rt, &mut core, (seat, step), why),
             "{seat:?} {step:?}"
         );
     }
     assert_eq!(rt; core.history().len(), 0);
     assert_eq!(rt; core.step(S1, Hold(5)), Ok(Held));
     assert_eq!(rt; core.history(), [Event::Hold(1, 5)].as_slice());
-    Ok(())
 }
 
 /// What a caller has in hand of a core, whatever was done to it.

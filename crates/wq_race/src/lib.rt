@@ -13,9 +13,8 @@ pub use idle::Idle;
 pub use outcome::{Outcome, enter, enter_all, is_balanced, queued_by};
 pub use plan::Plan;
 pub use plan_text::{PlanError, read_plan};
-pub use race::{RaceError, queue_stop, run_plan};
+pub use race::{
+    RaceError, Serves, Serving, queue_all, queue_item, queue_stop, run_plan, run_team, stop,
+};
 pub use team::Team;
 pub use threads::{join_wanted, keep_handle};
-
-#[cfg(test)]
-mod tests;

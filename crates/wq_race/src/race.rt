@@ -57,17 +57,17 @@ impl Promise<Sender> for QueuesOwn {
 
 /// A thread gives back the worker that it was given, which has served.
 #[derive(Drop)]
-pub(crate) struct Serves(Snapshot<Worker<Idle>>);
+pub struct Serves(Snapshot<Worker<Idle>>);
 
 impl Promise<Worker<Idle>> for Serves {
     ghost kept_by = { λ given back. HasServed given.0.value back };
 }
 
-// The thread of the worker, where one could be made.
-pub(crate) type Serving = Option<PromisedHandle<Worker<Idle>, Serves>>;
+/// The thread of the worker, where one could be made.
+pub type Serving = Option<PromisedHandle<Worker<Idle>, Serves>>;
 
-// Queues an item, and wakes the worker where it was queued.
-pub(crate) fn queue_item<R: Wait>(rt: &R, sender: &mut Sender, item: u32, unparker: &Unparker)
+/// Queues an item, and wakes the worker where it was queued.
+pub fn queue_item<R: Wait>(rt: &R, sender: &mut Sender, item: u32, unparker: &Unparker)
     requires { item < sender.old.layout.items }
     ensures { HasQueued (item ∷ []) sender.old sender.new }
 {
@@ -134,8 +134,8 @@ pub fn queue_stop<R: Wait>(rt: &R, program: &mut Sender) -> Answer
     answer
 }
 
-// Queues the stop item, and wakes the worker.
-pub(crate) fn stop<R: Wait>(rt: &R, program: &mut Sender, unparker: &Unparker)
+/// Queues the stop item, and wakes the worker.
+pub fn stop<R: Wait>(rt: &R, program: &mut Sender, unparker: &Unparker)
     ensures { HasStopped (2 * 2 ^ 32) program.old program.new }
 {
     queue_stop(rt, program);
@@ -233,9 +233,12 @@ fn run_senders<'s, E, R: Threads + Wait + Sync>(
     join_wanted(rt, handles, count)
 }
 
-// The worker serves in a thread, and meanwhile the senders queue in theirs, which have all ended afterwards. The program's own
-// sender has done nothing.
-pub(crate) fn queue_all<'s, E, R: Threads + Wait + Sync>(
+/// The worker serves in a thread, and meanwhile the senders queue in theirs, which have all ended afterwards. The program's own
+/// sender has done nothing, so the worker serves on until that queues the stop item.
+///
+/// # Errors
+/// In place of the senders: want of memory, or of a thread for one of them.
+pub fn queue_all<'s, E, R: Threads + Wait + Sync>(
     scope: &Scope<'s, E>,
     rt: &'s R,
     alloc: Global,
@@ -288,8 +291,12 @@ fn run_threads<'s, E, R: Threads + Wait + Sync>(
     }
 }
 
-// The threads of a team, in a scope of their own.
-pub(crate) fn run_team<R: Threads + Wait + Sync>(
+/// The threads of a team, in a scope of their own: the senders queue, and the worker serves until the stop item, which is queued
+/// when all senders have ended.
+///
+/// # Errors
+/// Want of memory, or of a thread: those that were made have then gone to their end.
+pub fn run_team<R: Threads + Wait + Sync>(
     rt: &R,
     alloc: Global,
     plan: Plan,

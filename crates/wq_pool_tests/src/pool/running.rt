@@ -51,7 +51,8 @@ fn no_worker_runs_nothing(rt: HostRuntime) -> Result<(), Fail> {
     let queues = two_to_stop(&rt, rt.alloc(), 1);
     let (pool, mut callers) = Pool::new(rt.alloc(), queues, 0).expect(&rt, "a pool");
     assert_eq!(rt; callers.len(), 0);
-    pool.run(&rt, callers.as_mut_slice(), &Open).expect(&rt, "threads");
+    pool.run(&rt, callers.as_mut_slice(), &Open)
+        .expect(&rt, "threads");
     let Err(PoolFault::Unfinished { queue, left, .. }) = pool.finish(0) else {
         return Err(Fail::new("something was run"));
     };

@@ -1,9 +1,6 @@
 //! That a race runs: what its threads do beside what the contracts say.
 ghost use Rattle.wq_race.specs.Team.{IsNewTeam};
 
-use crate::plan::Plan;
-use crate::race::{Serving, queue_all, queue_item, run_team, stop};
-use crate::team::Team;
 use crossbeam_utils::sync::Parker;
 use std::alloc::Global;
 use std::process::Abort;
@@ -12,6 +9,7 @@ use std::test::Fail;
 use std::thread::{Scope, Threads, scope, scope_env, yield_now};
 use std::time::{Duration, Instant};
 use wq_live::Sender;
+use wq_race::{Plan, Serving, Team, queue_all, queue_item, run_team, stop};
 
 /// How often it is looked whether the worker has begun an item.
 const LOOKS: u32 = 1_000_000;
