@@ -1,11 +1,12 @@
 //! Worked rows of a pool.
 ghost use Rattle.std.specs.Prelude.{◌≡◌};
+ghost use Rattle.wq_ready.specs.Known.{IsCallerOf};
 
 use crate::pool::team::{Logging, Open, filled, new_pool, two_filled, work};
 use std::alloc::Global;
 use std::process::Abort;
 use std::test::Fail;
-use wq_pool::{AnnounceError, Pool, PoolError, PoolFault, Served};
+use wq_pool::{AnnounceError, Caller, Pool, PoolError, PoolFault, Served, Turn};
 
 /// Finishes a pool of which a queue is out, and gives it back with the number of the queue.
 pub(super) fn finish_out<R: Abort>(rt: &R, pool: Pool<Logging>, limit: u32) -> (Pool<Logging>, u32)
@@ -47,9 +48,29 @@ fn announced_until_full(rt: HostRuntime) -> Result<(), Fail> {
     Ok(())
 }
 
+/// Works at a queue to its end, and puts it back.
+fn end_turn<R: Abort>(rt: &R, pool: &Pool<Logging>, caller: &mut Caller, turn: Turn<Logging>)
+    requires caller { IsCallerOf pool.now.ready caller.old }
+    requires turn { turn.slots ≡ pool.now.slots }
+    ensures { caller.new ≡ caller.old }
+{
+    let worked = work(rt, turn, 9, &Open);
+    pool.put_back(caller, worked);
+}
+
+/// The pool ends, and its two queues have run these items.
+fn check_ended<R: Abort>(rt: &R, pool: Pool<Logging>, first: &[u32], second: &[u32]) {
+    let finished = pool.finish(9).expect(rt, "all finished");
+    let [(zero, _), (one, _)] = finished.as_slice() else {
+        panic!(rt; "not two queues")
+    };
+    assert_eq!(rt; zero.order.as_slice(), first);
+    assert_eq!(rt; one.order.as_slice(), second);
+}
+
 /// Two queues are in one hand, in the order in which they were announced. They are out until they are put back.
 #[test]
-fn in_hand_is_out(rt: HostRuntime) -> Result<(), Fail> {
+fn in_hand_is_out(rt: HostRuntime) {
     let queues = two_filled(&rt, rt.alloc(), 2, 1);
     let (pool, mut caller) = new_pool(&rt, rt.alloc(), queues);
     assert_eq!(rt; pool.announce(&rt, &mut caller, 1), Ok(()));
@@ -60,17 +81,9 @@ fn in_hand_is_out(rt: HostRuntime) -> Result<(), Fail> {
     assert!(rt; pool.pick(&rt, &mut caller).is_none());
     let (pool, queue) = finish_out(&rt, pool, 9);
     assert_eq!(rt; queue, 0);
-    let one = work(&rt, one, 9, &Open);
-    let other = work(&rt, other, 9, &Open);
-    pool.put_back(&mut caller, one);
-    pool.put_back(&mut caller, other);
-    let finished = pool.finish(9).expect(&rt, "all finished");
-    let [(zero, _), (one, _)] = finished.as_slice() else {
-        return Err(Fail::new("not two queues"));
-    };
-    assert_eq!(rt; zero.order.as_slice(), [0, 1].as_slice());
-    assert_eq!(rt; one.order.as_slice(), [0].as_slice());
-    Ok(())
+    end_turn(&rt, &pool, &mut caller, one);
+    end_turn(&rt, &pool, &mut caller, other);
+    check_ended(&rt, pool, &[0, 1], &[0]);
 }
 
 /// What was queued and never announced is executed at the end, so many of each queue as the limit says.

@@ -5,7 +5,6 @@ use crate::pool::team::{Logging, Open, new_pool, two_to_stop, work};
 use std::process::Abort;
 use std::slice;
 use std::sync::Wait;
-use std::test::Fail;
 use std::thread::Threads;
 use wq_pool::{Caller, Pool, PoolFault};
 
@@ -47,15 +46,14 @@ fn long_turns_are_run(rt: HostRuntime) {
 
 /// With no worker nothing is run, and the call returns.
 #[test]
-fn no_worker_runs_nothing(rt: HostRuntime) -> Result<(), Fail> {
+fn no_worker_runs_nothing(rt: HostRuntime) {
     let queues = two_to_stop(&rt, rt.alloc(), 1);
     let (pool, mut callers) = Pool::new(rt.alloc(), queues, 0).expect(&rt, "a pool");
     assert_eq!(rt; callers.len(), 0);
     pool.run(&rt, callers.as_mut_slice(), &Open)
         .expect(&rt, "threads");
     let Err(PoolFault::Unfinished { queue, left, .. }) = pool.finish(0) else {
-        return Err(Fail::new("something was run"));
+        panic!(rt; "something was run")
     };
     assert_eq!(rt; (queue, left), (0, 2));
-    Ok(())
 }

@@ -1,31 +1,12 @@
 //! Tables of ticks call by call: what no script can ask, or would ask in too many lines.
-use super::seats::Call::{Advance, Arm, Check, Execute, Modify, Queue, Take};
+use super::seats::Call::{Advance, Arm, Check, Execute, Queue, Take};
 use super::seats::Said::{self, Answered, Executed, Pending, Taken, Went};
 use super::seats::{call_delay, call_seat, call_sender, delayed};
 use std::test::Fail;
-use wq_delay::{Armed, Modified};
+use wq_delay::Armed;
 use wq_live::Answer;
 
 const ON_TABLE: Said = Said::Armed(Armed::OnTable);
-
-const MOVED: Said = Said::Modified(Modified::Moved);
-
-/// An item that is moved to another's tick is due behind it.
-#[test]
-fn moved_items_are_due_last_at_their_tick(rt: HostRuntime) -> Result<(), Fail> {
-    let (_owner, _sender, mut delay) = delayed(rt.alloc(), 4, 7).expect(&rt, "seats");
-    for item in 0..4 {
-        assert_eq!(rt; call_delay(&mut delay, Arm(item, 5)), ON_TABLE);
-    }
-    for (item, ticks) in [(1, 5), (3, 4)] {
-        assert_eq!(rt; call_delay(&mut delay, Modify(item, ticks)), MOVED);
-    }
-    assert!(rt; delay.due_list(10)?.is_empty());
-    assert_eq!(rt; delay.due_list(12)?.as_slice(), [3, 0, 2, 1].as_slice());
-    assert_eq!(rt; call_delay(&mut delay, Advance(11)), Went(1, 0, 3));
-    assert_eq!(rt; delay.due_list(u64::MAX)?.as_slice(), [0, 2, 1].as_slice());
-    Ok(())
-}
 
 /// A table that is dropped keeps its items.
 #[test]

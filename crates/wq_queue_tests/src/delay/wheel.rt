@@ -213,40 +213,30 @@ fn runs_are_those_of_a_sorted_list(rt: HostRuntime) -> Result<(), Fail> {
     Ok(())
 }
 
+/// A jump, what it let go, and how many slots were looked at for it.
+type Jump = (u64, Said, u32);
+
 /// The first advance looks at one slot for one tick.
+const JUMPED: [Jump; 5] = [
+    (1, Said::Went(1, 0, 3), 1),
+    (0, Said::Backwards, 1),
+    (257, Said::Went(2, 0, 1), 256),
+    (600, Said::Went(1, 0, 0), 256),
+    (600, Said::Went(0, 0, 0), 0),
+];
+
 #[test]
-fn looks_at_one_slot_a_tick(rt: HostRuntime) -> Result<(), Fail> {
+fn looks_at_one_slot_a_tick(rt: HostRuntime) {
     let (_owner, _sender, mut delay) = delayed(rt.alloc(), 4, 0).expect(&rt, "seats");
     for (item, ticks) in [(0, 256), (1, 1), (2, 257), (3, 512)] {
-        assert_eq!(rt;
-            call_delay(&mut delay, Arm(item, ticks)),
-            Said::Armed(Armed::OnTable)
-        );
+        let said = call_delay(&mut delay, Arm(item, ticks));
+        assert_eq!(rt; said, Said::Armed(Armed::OnTable));
     }
     assert_eq!(rt; delay.looked(), 0);
-    assert_eq!(rt;
-        call_delay(&mut delay, Call::Advance(1)),
-        Said::Went(1, 0, 3)
-    );
-    assert_eq!(rt; delay.looked(), 1);
-    assert_eq!(rt; call_delay(&mut delay, Call::Advance(0)), Said::Backwards);
-    assert_eq!(rt; delay.looked(), 1);
-    assert_eq!(rt;
-        call_delay(&mut delay, Call::Advance(257)),
-        Said::Went(2, 0, 1)
-    );
-    assert_eq!(rt; delay.looked(), 256);
-    assert_eq!(rt;
-        call_delay(&mut delay, Call::Advance(600)),
-        Said::Went(1, 0, 0)
-    );
-    assert_eq!(rt; delay.looked(), 256);
-    assert_eq!(rt;
-        call_delay(&mut delay, Call::Advance(600)),
-        Said::Went(0, 0, 0)
-    );
-    assert_eq!(rt; delay.looked(), 0);
-    Ok(())
+    for (now, said, looked) in JUMPED {
+        assert_eq!(rt; call_delay(&mut delay, Call::Advance(now)), said);
+        assert_eq!(rt; delay.looked(), looked);
+    }
 }
 
 /// Queues items of its own, and executes all that waits, so that the head changes all the time.

@@ -5,8 +5,8 @@ ghost use Rattle.std.specs.Prelude.{◌≡◌, IfSome};
 
 use super::reading::{begin, chain, close, end, execute_one, take};
 use std::alloc::Global;
+use std::process::Abort;
 use std::sync::Wait;
-use std::test::Fail;
 use wq_live::{Answer, Done, Owner, OwnerCounts, Posted, Sender, SenderCounts, build};
 use wq_words::Layout;
 
@@ -80,120 +80,107 @@ fn reads(sender: &mut Sender, item: u32, barrier: u32) -> (Option<bool>, Option<
     (pending, done)
 }
 
-#[test]
-fn senders_queue_each_item_once(rt: HostRuntime) -> Result<(), Fail> {
-    let (mut owner, mut first, mut second) = seats(rt.alloc()).expect(&rt, "seats");
-    let queued = Some(Answer::Queued {
-        first: false,
-        wakes: false,
-    });
-    assert_eq!(rt; (first.number(), second.number()), (0, 1));
-    assert_eq!(rt; first.layout(), owner.layout());
-    assert_eq!(rt;
-        hold_then(&mut first, 0, true),
-        Some(Posted::Queued {
-            first: true,
-            wakes: true
-        })
-    );
-    assert_eq!(rt; hold_then(&mut second, 0, true), None);
-    assert_eq!(rt; queue_once(&mut second, 1), queued);
-    assert_eq!(rt; hold_then(&mut second, 2, false), Some(Posted::Contended));
-    assert_eq!(rt; queue(&rt, &mut first, 3), queued);
-    assert_eq!(rt; queue(&rt, &mut second, 3), Some(Answer::Pending));
-    assert_eq!(rt; flush_once(&mut first, 1), queued);
-    assert_eq!(rt; reads(&mut second, 0, 1), (Some(true), Some(false)));
-    assert_eq!(rt; reads(&mut first, 2, 0), (Some(false), Some(true)));
-    assert_eq!(rt; take(&mut owner), Some(4));
+const QUEUED: Answer = Answer::Queued {
+    first: false,
+    wakes: false,
+};
+
+const WAKES: Answer = Answer::Queued {
+    first: true,
+    wakes: true,
+};
+
+/// Item 0 is posted, item 1 queued in one try, item 2 held and given back, item 3 queued.
+fn queue_items<R: Abort + Wait>(rt: &R, first: &mut Sender, second: &mut Sender) {
+    let posted = Posted::Queued {
+        first: true,
+        wakes: true,
+    };
+    assert_eq!(rt; hold_then(first, 0, true), Some(posted));
+    assert_eq!(rt; hold_then(second, 0, true), None);
+    assert_eq!(rt; queue_once(second, 1), Some(QUEUED));
+    assert_eq!(rt; hold_then(second, 2, false), Some(Posted::Contended));
+    assert_eq!(rt; queue(rt, first, 3), Some(QUEUED));
+    assert_eq!(rt; queue(rt, second, 3), Some(Answer::Pending));
+}
+
+/// What waits is executed in the order of its pushes.
+fn execute_four<R: Abort>(rt: &R, owner: &mut Owner) {
+    assert_eq!(rt; take(owner), Some(4));
     for (waiting, number) in [(4, 0), (3, 1), (2, 3), (1, 5)] {
         assert_eq!(rt; owner.waiting(), waiting);
         assert_eq!(rt; owner.next(), Some(number));
-        assert_eq!(rt; execute_one(&mut owner), Some(number));
+        assert_eq!(rt; execute_one(owner), Some(number));
     }
-    assert_eq!(rt; reads(&mut second, 0, 1), (Some(false), Some(true)));
-    assert_eq!(rt;
-        first.counts(),
-        SenderCounts {
-            queued: 3,
-            pending: 0,
-            closed: 0,
-            contended: 0
-        }
-    );
-    assert_eq!(rt;
-        second.counts(),
-        SenderCounts {
-            queued: 1,
-            pending: 2,
-            closed: 0,
-            contended: 0
-        }
-    );
-    Ok(())
+}
+
+/// How often a sender was answered Queued, Pending and Closed, and never Contended.
+fn check_counts<R: Abort>(rt: &R, sender: &Sender, queued: u64, pending: u64, closed: u64) {
+    let counts = SenderCounts {
+        queued,
+        pending,
+        closed,
+        contended: 0,
+    };
+    assert_eq!(rt; sender.counts(), counts);
 }
 
 #[test]
-fn closed_queue_takes_chained_items_alone(rt: HostRuntime) -> Result<(), Fail> {
+fn senders_queue_each_item_once(rt: HostRuntime) {
     let (mut owner, mut first, mut second) = seats(rt.alloc()).expect(&rt, "seats");
-    assert_eq!(rt;
-        second.request_stop(1),
-        Answer::Queued {
-            first: true,
-            wakes: true
-        }
-    );
+    assert_eq!(rt; (first.number(), second.number()), (0, 1));
+    queue_items(&rt, &mut first, &mut second);
+    assert_eq!(rt; flush_once(&mut first, 1), Some(QUEUED));
+    assert_eq!(rt; reads(&mut second, 0, 1), (Some(true), Some(false)));
+    assert_eq!(rt; reads(&mut first, 2, 0), (Some(false), Some(true)));
+    execute_four(&rt, &mut owner);
+    assert_eq!(rt; reads(&mut second, 0, 1), (Some(false), Some(true)));
+    check_counts(&rt, &first, 3, 0, 0);
+    check_counts(&rt, &second, 1, 2, 0);
+}
+
+/// Chains an item twice within the execution of the stop item, 6.
+fn chain_within_the_stop<R: Abort>(rt: &R, owner: &mut Owner) {
+    assert_eq!(rt; begin(owner), Some(6));
+    assert_eq!(rt; owner.running(), Some(6));
+    assert_eq!(rt; chain(owner, 1), Some(QUEUED));
+    assert_eq!(rt; chain(owner, 1), Some(Answer::Pending));
+    assert_eq!(rt; end(owner), Some(6));
+    assert_eq!(rt; owner.done(), None);
+}
+
+/// What is chained is executed, and then all is done.
+fn execute_what_was_chained<R: Abort>(rt: &R, owner: &mut Owner) {
+    assert_eq!(rt; execute_one(owner), Some(1));
+    assert_eq!(rt; owner.done(), Some(Done { ended: 2 }));
+    let counts = OwnerCounts {
+        chained: 1,
+        chain_busy: 1,
+        ended: 2,
+    };
+    assert_eq!(rt; owner.counts(), counts);
+}
+
+#[test]
+fn closed_queue_takes_chained_items_alone(rt: HostRuntime) {
+    let (mut owner, mut first, mut second) = seats(rt.alloc()).expect(&rt, "seats");
+    assert_eq!(rt; second.request_stop(1), WAKES);
     assert_eq!(rt; chain(&mut owner, 1), None);
     assert_eq!(rt; close(&mut owner), Some(1));
     assert!(rt; owner.is_closed());
     assert_eq!(rt; queue_once(&mut first, 2), Some(Answer::Closed));
-    assert_eq!(rt; begin(&mut owner), Some(6));
-    assert_eq!(rt; owner.running(), Some(6));
-    assert_eq!(rt;
-        chain(&mut owner, 1),
-        Some(Answer::Queued {
-            first: false,
-            wakes: false
-        })
-    );
-    assert_eq!(rt; chain(&mut owner, 1), Some(Answer::Pending));
-    assert_eq!(rt; end(&mut owner), Some(6));
-    assert_eq!(rt; owner.done(), None);
-    assert_eq!(rt; execute_one(&mut owner), Some(1));
-    assert_eq!(rt; owner.done(), Some(Done { ended: 2 }));
-    assert_eq!(rt;
-        owner.counts(),
-        OwnerCounts {
-            chained: 1,
-            chain_busy: 1,
-            ended: 2
-        }
-    );
-    assert_eq!(rt;
-        first.counts(),
-        SenderCounts {
-            queued: 0,
-            pending: 0,
-            closed: 1,
-            contended: 0
-        }
-    );
-    Ok(())
+    chain_within_the_stop(&rt, &mut owner);
+    execute_what_was_chained(&rt, &mut owner);
+    check_counts(&rt, &first, 0, 0, 1);
 }
 
 #[test]
-fn owner_takes_what_was_queued_before_it_met(rt: HostRuntime) -> Result<(), Fail> {
+fn owner_takes_what_was_queued_before_it_met(rt: HostRuntime) {
     let (mut owner, mut first, mut second) = seats(rt.alloc()).expect(&rt, "seats");
-    assert_eq!(rt;
-        queue_once(&mut first, 2),
-        Some(Answer::Queued {
-            first: true,
-            wakes: true
-        })
-    );
+    assert_eq!(rt; queue_once(&mut first, 2), Some(WAKES));
     first.meet_owner(&mut owner);
     second.meet(&mut first);
     first.meet_both(&mut second, &mut owner);
     assert_eq!(rt; take(&mut owner), Some(1));
     assert_eq!(rt; owner.next(), Some(2));
-    Ok(())
 }

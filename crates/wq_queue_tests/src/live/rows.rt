@@ -1,7 +1,7 @@
 //! What waits for the owner, whose links are turned in place.
 use super::reading::{begin, chain, close, end, execute_one, take};
 use std::alloc::Global;
-use std::test::Fail;
+use std::process::Abort;
 use wq_live::{Answer, Done, Owner, Sender, build};
 use wq_words::Layout;
 
@@ -28,7 +28,7 @@ fn queue_each(sender: &mut Sender, items: &[u32]) -> u32 {
 }
 
 #[test]
-fn largest_take_stands_oldest_first(rt: HostRuntime) -> Result<(), Fail> {
+fn largest_take_stands_oldest_first(rt: HostRuntime) {
     let (mut owner, mut sender) = seats(rt.alloc(), 4096).expect(&rt, "seats");
     for item in 0..4096u32 {
         assert_eq!(rt; queue_each(&mut sender, &[item]), 1);
@@ -38,58 +38,71 @@ fn largest_take_stands_oldest_first(rt: HostRuntime) -> Result<(), Fail> {
         assert_eq!(rt; execute_one(&mut owner), Some(item));
     }
     assert_eq!(rt; owner.next(), None);
-    Ok(())
 }
 
-#[test]
-fn begun_items_are_queued_again_behind_a_batch(rt: HostRuntime) -> Result<(), Fail> {
-    let (mut owner, mut sender) = seats(rt.alloc(), 4).expect(&rt, "seats");
-    assert_eq!(rt; queue_each(&mut sender, &[0, 1, 2]), 3);
-    assert_eq!(rt; take(&mut owner), Some(3));
-    assert_eq!(rt; begin(&mut owner), Some(0));
-    assert_eq!(rt; queue_each(&mut sender, &[3, 0, 1]), 2);
-    assert_eq!(rt; end(&mut owner), Some(0));
-    assert_eq!(rt; begin(&mut owner), Some(1));
-    assert_eq!(rt; queue_each(&mut sender, &[1, 2]), 1);
-    assert_eq!(rt; end(&mut owner), Some(1));
-    assert_eq!(rt; execute_one(&mut owner), Some(2));
-    assert_eq!(rt; take(&mut owner), Some(3));
-    for item in [3, 0, 1] {
-        assert_eq!(rt; execute_one(&mut owner), Some(item));
+/// Executes these numbers, which are the oldest that wait.
+fn execute_each<R: Abort>(rt: &R, owner: &mut Owner, numbers: &[u32]) {
+    for number in numbers {
+        assert_eq!(rt; execute_one(owner), Some(*number));
     }
-    Ok(())
+}
+
+/// Begins this number, which is the oldest that waits, queues items meanwhile, and ends it. So many were queued.
+fn queue_within<R: Abort>(
+    rt: &R,
+    seats: &mut (Owner, Sender),
+    number: u32,
+    items: &[u32],
+    queued: u32,
+) {
+    assert_eq!(rt; begin(&mut seats.0), Some(number));
+    assert_eq!(rt; queue_each(&mut seats.1, items), queued);
+    assert_eq!(rt; end(&mut seats.0), Some(number));
 }
 
 #[test]
-fn closed_behind_a_batch_and_chained_behind_that(rt: HostRuntime) -> Result<(), Fail> {
+fn begun_items_are_queued_again_behind_a_batch(rt: HostRuntime) {
+    let mut seats = seats(rt.alloc(), 4).expect(&rt, "seats");
+    assert_eq!(rt; queue_each(&mut seats.1, &[0, 1, 2]), 3);
+    assert_eq!(rt; take(&mut seats.0), Some(3));
+    queue_within(&rt, &mut seats, 0, &[3, 0, 1], 2);
+    queue_within(&rt, &mut seats, 1, &[1, 2], 1);
+    execute_each(&rt, &mut seats.0, &[2]);
+    assert_eq!(rt; take(&mut seats.0), Some(3));
+    execute_each(&rt, &mut seats.0, &[3, 0, 1]);
+}
+
+/// Chains these items within the execution of a number, which is the oldest that waits. Each is answered so.
+fn chain_within<R: Abort>(rt: &R, owner: &mut Owner, number: u32, items: &[u32], said: Answer) {
+    assert_eq!(rt; begin(owner), Some(number));
+    for item in items {
+        assert_eq!(rt; chain(owner, *item), Some(said));
+    }
+    assert_eq!(rt; end(owner), Some(number));
+}
+
+/// A batch of 0 and 1, and a close that takes 2 and 3 behind it.
+fn close_behind_a_batch<R: Abort>(rt: &R, owner: &mut Owner, sender: &mut Sender) {
+    assert_eq!(rt; queue_each(sender, &[0, 1]), 2);
+    assert_eq!(rt; take(owner), Some(2));
+    assert_eq!(rt; queue_each(sender, &[2, 3]), 2);
+    assert_eq!(rt; close(owner), Some(2));
+    assert_eq!(rt; owner.waiting(), 4);
+}
+
+#[test]
+fn closed_behind_a_batch_and_chained_behind_that(rt: HostRuntime) {
     let (mut owner, mut sender) = seats(rt.alloc(), 6).expect(&rt, "seats");
-    let chained = Some(Answer::Queued {
+    let chained = Answer::Queued {
         first: false,
         wakes: false,
-    });
-    assert_eq!(rt; queue_each(&mut sender, &[0, 1]), 2);
-    assert_eq!(rt; take(&mut owner), Some(2));
-    assert_eq!(rt; queue_each(&mut sender, &[2, 3]), 2);
-    assert_eq!(rt; close(&mut owner), Some(2));
-    assert_eq!(rt; owner.waiting(), 4);
-    assert_eq!(rt; begin(&mut owner), Some(0));
-    assert_eq!(rt; chain(&mut owner, 0), chained);
-    assert_eq!(rt; chain(&mut owner, 1), Some(Answer::Pending));
-    assert_eq!(rt; end(&mut owner), Some(0));
-    for item in [1, 2, 3] {
-        assert_eq!(rt; execute_one(&mut owner), Some(item));
-    }
-    assert_eq!(rt; begin(&mut owner), Some(0));
-    for item in [4, 0, 5] {
-        assert_eq!(rt; chain(&mut owner, item), chained);
-    }
-    assert_eq!(rt; end(&mut owner), Some(0));
-    assert_eq!(rt; begin(&mut owner), Some(4));
-    assert_eq!(rt; chain(&mut owner, 4), chained);
-    assert_eq!(rt; end(&mut owner), Some(4));
-    for item in [0, 5, 4] {
-        assert_eq!(rt; execute_one(&mut owner), Some(item));
-    }
+    };
+    close_behind_a_batch(&rt, &mut owner, &mut sender);
+    chain_within(&rt, &mut owner, 0, &[0], chained);
+    chain_within(&rt, &mut owner, 1, &[2, 3], Answer::Pending);
+    execute_each(&rt, &mut owner, &[2, 3]);
+    chain_within(&rt, &mut owner, 0, &[4, 0, 5], chained);
+    chain_within(&rt, &mut owner, 4, &[4], chained);
+    execute_each(&rt, &mut owner, &[0, 5, 4]);
     assert_eq!(rt; owner.done(), Some(Done { ended: 9 }));
-    Ok(())
 }
