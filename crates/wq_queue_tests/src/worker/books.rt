@@ -25,8 +25,8 @@ fn balance_some(
 /// A sender without a ledger and one with two are named, the one with the lower number first, and else the counts balance.
 #[test]
 fn ledgers_balance(rt: HostRuntime) -> Result<(), Fail> {
-    let mut team = new_team(&rt, rt.alloc(), Fixed::new(None, None));
-    team.worker.adjust(|work: &mut Fixed| work.first = Some(2));
+    let mut team = new_team(&rt, rt.alloc(), Fixed::new());
+    team.worker.adjust(|work: &mut Fixed| work.next = Some(2));
     assert_eq!(rt; queue_item(&rt, &mut team.first, 0), FIRST);
     assert_eq!(rt; queue_item(&rt, &mut team.second, 3), QUEUED);
     team.worker.meet(&mut team.first);

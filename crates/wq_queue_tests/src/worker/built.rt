@@ -8,7 +8,7 @@ use wq_worker::Worker;
 /// Queues two items and destroys the queue. How many items ran; none where memory was refused.
 fn run_two(alloc: Global) -> Option<usize> {
     let layout = Layout::new(4, 1, 3).ok()?;
-    let Ok((worker, mut senders)) = Worker::build(alloc, layout, Fixed::new(None, None), 1) else {
+    let Ok((worker, mut senders)) = Worker::build(alloc, layout, Fixed::new(), 1) else {
         return None;
     };
     let mut sender = senders.pop()?;

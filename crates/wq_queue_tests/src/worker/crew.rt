@@ -137,7 +137,7 @@ fn six_senders_balance(rt: HostRuntime) {
     let (owner, mut senders) = new_queue(&rt, rt.alloc(), 256, 6);
     let own = take_last(&rt, &owner, &mut senders);
     let mut crew = new_crew(&rt, &owner, &mut senders);
-    let mut worker = Worker::new(owner, own, Fixed::new(None, None), 1);
+    let mut worker = Worker::new(owner, own, Fixed::new(), 1);
     serve_crew(&rt, rt.alloc(), &mut worker, &mut crew);
     let (work, mut book) = destroy(&rt, worker, 9);
     assert_eq!(rt; work.order.len(), 256);

@@ -4,7 +4,7 @@ use crate::worker::team::{FIRST, Fixed, QUEUED, destroy, new_team, queue_item};
 /// A destroy that comes to its limit gives the worker back, closed, and a second one ends.
 #[test]
 fn destroy_goes_on(rt: HostRuntime) {
-    let mut team = new_team(&rt, rt.alloc(), Fixed::new(None, None));
+    let mut team = new_team(&rt, rt.alloc(), Fixed::new());
     assert_eq!(rt; queue_item(&rt, &mut team.first, 0), FIRST);
     assert_eq!(rt; queue_item(&rt, &mut team.first, 1), QUEUED);
     assert_eq!(rt; queue_item(&rt, &mut team.first, 2), QUEUED);

@@ -111,7 +111,7 @@ fn run_once<R: Abort + Threads + Wait + Sync>(
     let (owner, mut senders) = new_queue(rt, alloc, 16, 6);
     let own = take_last(rt, &owner, &mut senders);
     let mut crew = new_crew(rt, &owner, &mut senders);
-    let mut worker = Worker::new(owner, own, Fixed::new(None, None), 1);
+    let mut worker = Worker::new(owner, own, Fixed::new(), 1);
     let (rests, wakes) = join_mut(
         rt,
         &mut || match on {
@@ -176,7 +176,7 @@ fn ready_and_rest(rt: HostRuntime) -> Result<(), Fail> {
         mut worker,
         mut first,
         second: _,
-    } = new_team(&rt, rt.alloc(), Fixed::new(None, None));
+    } = new_team(&rt, rt.alloc(), Fixed::new());
     assert_eq!(rt; worker.ready(), None);
     assert_eq!(rt; run_out(&rt, &mut worker), 0);
     assert!(rt; rest(&rt, &mut worker));

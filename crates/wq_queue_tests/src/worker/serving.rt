@@ -22,7 +22,7 @@ fn queue_late<R: Abort>(rt: &R, sender: &mut Sender, unparker: &Unparker) -> (An
 fn served_worker_is_unparked(rt: HostRuntime) -> Result<(), Fail> {
     let mut parker = Parker::new(rt.alloc())?;
     let unparker = parker.unparker().clone()?;
-    let mut team = new_team(&rt, rt.alloc(), Fixed::new(None, None));
+    let mut team = new_team(&rt, rt.alloc(), Fixed::new());
     let (_, answers) = join_mut(
         &rt,
         &mut || serve(&rt, &mut team.worker, &mut parker),
@@ -57,7 +57,7 @@ fn served_worker_parks(rt: HostRuntime) -> Result<(), Fail> {
     for _ in 0..5u32 {
         let mut parker = Parker::new(rt.alloc())?;
         let unparker = parker.unparker().clone()?;
-        let mut team = new_team(&rt, rt.alloc(), Fixed::new(None, None));
+        let mut team = new_team(&rt, rt.alloc(), Fixed::new());
         let (_, answer) = join_mut(
             &rt,
             &mut || serve(&rt, &mut team.worker, &mut parker),

@@ -10,24 +10,22 @@ use std::sync::Wait;
 use trail::Trail;
 use wq_live::{Answer, Owner, Sender, build};
 use wq_words::Layout;
-use wq_worker::{Book, Drained, Follow, Work, Worker};
+use wq_worker::{Book, Follow, Work, Worker};
 
-/// A work that answers at most two numbers for item 0, and keeps what it ran.
+/// A work that asks for this number, if any, where item 0 ran, and keeps what it ran.
 #[derive(Drop)]
 pub(crate) struct Fixed {
-    pub(crate) first: Option<u32>,
-    pub(crate) second: Option<u32>,
+    pub(crate) next: Option<u32>,
     pub(crate) ran: Trail,
     pub(crate) order: ArrayVec<u32, 300>,
 }
 
 impl Fixed {
-    pub(crate) fn new(first: Option<u32>, second: Option<u32>) -> Fixed
+    pub(crate) fn new() -> Fixed
         ensures { result.ran.items ≡ [] }
     {
         Fixed {
-            first,
-            second,
+            next: None,
             ran: Trail::new(),
             order: ArrayVec::new(),
         }
@@ -46,10 +44,7 @@ impl Work for Fixed {
         if item != 0 {
             return follow;
         }
-        if let Some(number) = self.first {
-            let _ = follow.try_push(number);
-        }
-        if let Some(number) = self.second {
+        if let Some(number) = self.next {
             let _ = follow.try_push(number);
         }
         follow
@@ -113,18 +108,6 @@ pub(crate) fn is_pending<R: Abort>(rt: &R, sender: &mut Sender, item: u32) -> bo
 {
     assert!(rt; item < sender.layout().items);
     sender.is_pending(item)
-}
-
-pub(crate) fn close<R: Abort, W: Work>(rt: &R, worker: &mut Worker<W>) -> u32
-    ensures { worker.new.queue ≡ worker.old.queue }
-{
-    assert!(rt; !worker.is_closed());
-    worker.close()
-}
-
-pub(crate) fn drain<R: Abort, W: Work>(rt: &R, worker: &mut Worker<W>, limit: u32) -> Drained {
-    assert!(rt; worker.is_closed());
-    worker.drain(limit)
 }
 
 pub(crate) fn destroy<R: Abort, W: Work>(rt: &R, worker: Worker<W>, limit: u32) -> (W, Book)
