@@ -64,7 +64,7 @@ module _ (plan : Plan) (teams : Teams) (t : AreTeams plan teams) (count : length
         h.same.number_is ∙ number,
         h.same.queue_is ∙ ap (λ (k : Known). k.queue) new,
         subst (λ (l : Layout). AllByRecursion (IsOfStop l) (own (plan.senders + 1) b.seen)) (ap (λ (k : Known). k.layout) new)
-            (subst (λ (es : List Event). AllByRecursion (IsOfStop a.layout) es) (sym mine) h.stops),
+            (subst (λ (es : List Event). AllByRecursion (IsOfStop a.layout) es) (sym mine) h.of_kind),
       )
 
   pub all_sent : (groups by_queue : List Group) (programs : List Known) → AllGroupsQueued plan.own teams.groups.items groups

@@ -6,6 +6,7 @@ use Rattle.std.proofs.Common.{
   zero,
   suc,
   ◌+◌,
+  ◌*◌,
   ◌-◌,
   ◌<◌,
   ◌≤◌,
@@ -28,6 +29,9 @@ use Rattle.std.specs.List.{AllByRecursion, range_with_len}
 use Rattle.std.proofs.lemmas.List.{append-nil}
 use Rattle.wq_words.specs.declared.layout.Layout.{Layout}
 use Rattle.wq_words.specs.declared.event.Event.{Event}
+use Rattle.wq_words.specs.declared.event.Event.TheVariants.{Hold, Busy, Push, Back}
+use Rattle.wq_words.specs.declared.event.Event.TheVariants as event
+use Rattle.wq_words.specs.declared.event.Why.TheVariants as why
 use Rattle.wq_words.specs.Numbers.{stop_number}
 use Rattle.wq_words.specs.Seen.{Grows}
 use Rattle.wq_words.proofs.Seen.{own-append}
@@ -37,7 +41,7 @@ use Rattle.wq_live.specs.Known.{Known, IsSame, Sees}
 use Rattle.wq_live.specs.Answers.{Answers}
 use Rattle.wq_worker.specs.Follow.{Queues, pushed, busy, refused}
 use Rattle.wq_worker.proofs.Follow.{follows_push}
-use Rattle.wq_race.specs.Race.{HasQueued, IsOfStop, HasStopped, IsStopAnswer}
+use Rattle.wq_race.specs.Race.{HasQueued, IsOfStop, IsInVain, HasMade, HasStopped, IsStopAnswer}
 use Rattle.wq_words.proofs.Seen.{grows_none as grows_still}
 
 pub same_still : (a : Known) → IsSame a a
@@ -104,44 +108,85 @@ queued_next first item a b c le x y =
     (queued_more (range_with_len first (item - first)) item a b c x y)
 
 -- the stop item
-one_stopped : (n : ℕ) (es : List Event) (old new : Known) → AllByRecursion (IsOfStop old.layout) es → length es ≤ 2 → Sees es n old new → HasStopped 2 old new
-one_stopped n es old new all few s = record {
+made_one : (K : Layout → Event → Type 0) (n : ℕ) (es : List Event) (old new : Known) → AllByRecursion (K old.layout) es → length es ≤ 2 → Sees es n old new
+    → HasMade K 2 old new
+made_one K n es old new all few s = record {
   same = s.same;
   events = es;
-  stops = all;
+  of_kind = all;
   few_events = few;
   grows = record { new = s.grows.new; is = s.grows.is; mine = s.grows.mine; theirs = omega arith };
 }
 
-pub stopped_one : (tries : ℕ) (a : Answer) (old new : Known) → Answers (stop_number old.layout) tries a old new → HasStopped 2 old new
-stopped_one tries (answer.Queued first wakes) old new h = one_stopped 0 _ old new (refl, (refl, tt)) (omega arith) h.0
-stopped_one tries answer.Pending old new h = one_stopped 0 _ old new (refl, tt) (omega arith) h
-stopped_one tries answer.Closed old new h = one_stopped 0 _ old new (refl, (refl, tt)) (omega arith) h
-stopped_one tries answer.Contended old new h = one_stopped tries _ old new (refl, (refl, tt)) (omega arith) h
+stopped_one : (tries : ℕ) (a : Answer) (old new : Known) → Answers (stop_number old.layout) tries a old new → HasStopped 2 old new
+stopped_one tries (answer.Queued first wakes) old new h = made_one IsOfStop 0 _ old new (refl, (refl, tt)) (omega arith) h.0
+stopped_one tries answer.Pending old new h = made_one IsOfStop 0 _ old new (refl, tt) (omega arith) h
+stopped_one tries answer.Closed old new h = made_one IsOfStop 0 _ old new (refl, (refl, tt)) (omega arith) h
+stopped_one tries answer.Contended old new h = made_one IsOfStop tries _ old new (refl, (refl, tt)) (omega arith) h
 
-pub stopped_none : (a : Known) → HasStopped 0 a a
-stopped_none a = record { same = same_still a; events = []; stops = tt; few_events = omega arith; grows = grows_still a.number a.seen }
+vain_one : (tries : ℕ) (a : Answer) (old new : Known) → a ≡ answer.Contended → Answers (stop_number old.layout) tries a old new → HasMade IsInVain 2 old new
+vain_one tries a old new is h =
+    made_one IsInVain tries _ old new (refl, (refl, tt)) (omega arith)
+    (subst (λ (r : Answer). Answers (stop_number old.layout) tries r old new) is h)
 
-pub all_both : (P : Event → Type 0) (xs ys : List Event) → AllByRecursion P xs → AllByRecursion P ys → AllByRecursion P (xs ++ ys)
+pub made_none : (K : Layout → Event → Type 0) (a : Known) → HasMade K 0 a a
+made_none K a = record { same = same_still a; events = []; of_kind = tt; few_events = omega arith; grows = grows_still a.number a.seen }
+
+all_both : (P : Event → Type 0) (xs ys : List Event) → AllByRecursion P xs → AllByRecursion P ys → AllByRecursion P (xs ++ ys)
 all_both P [] ys a b = b
 all_both P (x ∷ xs) ys a b = (a.0, all_both P xs ys a.1 b)
 
-pub stopped_more : (m : ℕ) (a b c : Known) → HasStopped m a b → HasStopped 2 b c → HasStopped (m + 2) a c
-stopped_more m a b c x y = record {
+made_more : (K : Layout → Event → Type 0) (m : ℕ) (a b c : Known) → HasMade K m a b → HasMade K 2 b c → HasMade K (m + 2) a c
+made_more K m a b c x y = record {
   same = same_on a b c x.same y.same;
   events = x.events ++ y.events;
-  stops = all_both (IsOfStop a.layout) x.events y.events x.stops (subst (λ (l : Layout). AllByRecursion (IsOfStop l) y.events) x.same.layout_is y.stops);
+  of_kind = all_both (K a.layout) x.events y.events x.of_kind (subst (λ (l : Layout). AllByRecursion (K l) y.events) x.same.layout_is y.of_kind);
   few_events = omega (arith, length-append x.events y.events, x.few_events, y.few_events);
   grows = grows_on a.number 0 0 x.events y.events a.seen b.seen c.seen x.grows (subst (λ (n : ℕ). Grows n y.events 0 b.seen c.seen) x.same.number_is y.grows);
 }
 
-pub stopped_fewer : (m n : ℕ) (a b : Known) → m ≤ n → HasStopped m a b → HasStopped n a b
-stopped_fewer m n a b le s = record { same = s.same; events = s.events; stops = s.stops; few_events = omega (arith, le, s.few_events); grows = s.grows }
+pub made_fewer : (K : Layout → Event → Type 0) (m n : ℕ) (a b : Known) → m ≤ n → HasMade K m a b → HasMade K n a b
+made_fewer K m n a b le s = record { same = s.same; events = s.events; of_kind = s.of_kind; few_events = omega (arith, le, s.few_events); grows = s.grows }
 
-pub stop_answer : (n : ℕ) (r : Answer) (a b c : Known) → n ≤ 8589934592 → HasStopped n a b → Answers (stop_number b.layout) 4294967295 r b c
+vain_event : (l : Layout) (e : Event) → IsInVain l e → IsOfStop l e
+vain_event l (Hold s k) is = is
+vain_event l (Busy s k) is = elim is [ ]
+vain_event l (Push s k) is = elim is [ ]
+vain_event l (Back s k why.Contended) is = is
+vain_event l (Back s k why.Closed) is = elim is [ ]
+vain_event l (Back s k why.Cancelled) is = elim is [ ]
+vain_event l event.Take is = elim is [ ]
+vain_event l event.Close is = elim is [ ]
+vain_event l (event.Begin k) is = elim is [ ]
+vain_event l (event.End k) is = elim is [ ]
+vain_event l (event.Chain k) is = elim is [ ]
+vain_event l (event.ChainBusy k) is = elim is [ ]
+vain_event l event.Rest is = elim is [ ]
+
+vain_events : (l : Layout) (es : List Event) → AllByRecursion (IsInVain l) es → AllByRecursion (IsOfStop l) es
+vain_events l [] all = tt
+vain_events l (e ∷ es) all = (vain_event l e all.0, vain_events l es all.1)
+
+tried : (n : ℕ) (a b : Known) → HasMade IsInVain n a b → HasStopped n a b
+tried n a b s = record { same = s.same; events = s.events; of_kind = vain_events a.layout s.events s.of_kind; few_events = s.few_events; grows = s.grows }
+
+-- one more try, in vain
+pub vain_more : (n : ℕ) (r : Answer) (a b c : Known) → r ≡ answer.Contended → HasMade IsInVain (2 * n) a b
+    → Answers (stop_number b.layout) 4294967295 r b c → HasMade IsInVain (2 * (n + 1)) a c
+vain_more n r a b c is x y =
+    made_fewer IsInVain (2 * n + 2) (2 * (n + 1)) a c (omega arith) (made_more IsInVain (2 * n) a b c x (vain_one 4294967295 r b c is y))
+
+-- the last try
+pub last_stopped : (n : ℕ) (r : Answer) (a b c : Known) → n < 4294967296 → HasMade IsInVain (2 * n) a b → Answers (stop_number b.layout) 4294967295 r b c
+    → HasStopped 8589934592 a c
+last_stopped n r a b c lt x y =
+    made_fewer IsOfStop (2 * n + 2) 8589934592 a c (omega (arith, lt))
+    (made_more IsOfStop (2 * n) a b c (tried (2 * n) a b x) (stopped_one 4294967295 r b c y))
+
+pub last_answer : (n : ℕ) (r : Answer) (a b c : Known) → n < 4294967296 → HasMade IsInVain (2 * n) a b → Answers (stop_number b.layout) 4294967295 r b c
     → IsStopAnswer r a c
-stop_answer n r a b c le x y = record {
+last_answer n r a b c lt x y = record {
   between = b;
-  before = stopped_fewer n 8589934592 a b le x;
+  before = made_fewer IsInVain (2 * n) 8589934592 a b (omega (arith, lt)) x;
   last = subst (λ (l : Layout). Answers (stop_number l) 4294967295 r b c) x.same.layout_is y;
 }

@@ -5,6 +5,7 @@ use Rattle.std.specs.declared.thread.PromisedHandle.{PromisedHandle}
 use Rattle.wq_words.specs.declared.layout.Layout.{Layout}
 use Rattle.wq_words.specs.declared.event.Event.{Event}
 use Rattle.wq_words.specs.declared.event.Event.TheVariants.{Hold, Busy, Push, Back}
+use Rattle.wq_words.specs.declared.event.Why.TheVariants as why
 use Rattle.wq_words.specs.Numbers.{stop_number}
 use Rattle.wq_words.specs.History.{IsRunning, is_close, ended}
 use Rattle.wq_words.specs.Legal.{IsLegal}
@@ -41,18 +42,28 @@ IsOfStop layout (Push s k) = k ≡ stop_number layout
 IsOfStop layout (Back s k why) = k ≡ stop_number layout
 IsOfStop layout _ = ⊥
 
--- a sender tried to queue the stop item, with at most so many events
-pub record HasStopped (few : ℕ) (old new : Known) : Type 0 where
+-- the event is a sender's hold of the stop item, or gives it back after lost tries
+abbrev pub IsInVain : Layout → Event → Type 0
+IsInVain layout (Hold s k) = k ≡ stop_number layout
+IsInVain layout (Back s k why.Contended) = k ≡ stop_number layout
+IsInVain layout _ = ⊥
+
+-- a sender made at most so many events, all of this kind
+pub record HasMade (Kind : Layout → Event → Type 0) (few : ℕ) (old new : Known) : Type 0 where
   pub same : IsSame old new
   pub events : List Event
-  pub stops : AllByRecursion (IsOfStop old.layout) events
+  pub of_kind : AllByRecursion (Kind old.layout) events
   pub few_events : length events ≤ few
   pub grows : Grows old.number events 0 old.seen new.seen
 
--- a sender's last try to queue the stop item was given this answer, and what it tried before had few events
+-- a sender tried to queue the stop item, with at most so many events
+abbrev pub HasStopped : ℕ → Known → Known → Type 0
+HasStopped few old new = HasMade IsOfStop few old new
+
+-- a sender's last try to queue the stop item was given this answer, and each before it was in vain
 pub record IsStopAnswer (a : Answer) (old new : Known) : Type 0 where
   pub between : Known
-  pub before : HasStopped (2 * 2 ^ 32) old between
+  pub before : HasMade IsInVain (2 * 2 ^ 32) old between
   pub last : Answers (stop_number old.layout) 4294967295 a between new
 
 -- the stop item is the last that ended

@@ -1,9 +1,8 @@
 //! A run of a queue by live threads.
 ghost use Rattle.std.specs.Prelude.{◌≡◌, ◌≢◌, ◌+◌, ◌*◌, ◌^◌, ◌<◌, ◌≤◌, [], ◌∷◌, length, IfSome, IfOk, All};
 ghost use Rattle.wq_words.specs.History.{IsRunning, IsClosed};
-ghost use Rattle.wq_words.specs.Numbers.{stop_number};
 ghost use Rattle.wq_words.specs.Seen.{owner_seat};
-ghost use Rattle.wq_live.specs.Answers.{Answers};
+ghost use Rattle.wq_words.specs.declared.answer.Answer.TheVariants.{Contended};
 ghost use Rattle.wq_race.specs.Race.{items_at, HasQueued, HasStopped, IsStopAnswer, HasServed, AreThreads, AllQueued, HasRun};
 ghost use Rattle.wq_worker.specs.State.{WorkerState};
 ghost use Rattle.wq_race.specs.Plan.{IsLayoutOf};
@@ -99,25 +98,18 @@ fn serve<R: Wait>(rt: &R, mut worker: Worker<Idle>, parker: Parker) -> Worker<Id
     worker
 }
 
-fn request_stop(program: &mut Sender) -> Answer
-    ensures few { HasStopped 2 program.old program.new }
-    ensures answer { Answers (stop_number program.old.layout) 4294967295 result program.old program.new }
-{
-    program.request_stop(u32::MAX)
-}
-
 // Tries to queue the stop item, so often that it is queued.
 fn try_stop(program: &mut Sender) -> Answer
     ensures few { HasStopped (2 * 2 ^ 32) program.old program.new }
     ensures answer { IsStopAnswer result program.old program.new }
 {
     for _ in 0..u32::MAX {
-        let answer = request_stop(program);
-        if answer != Answer::Contended {
-            return answer;
+        match program.request_stop(u32::MAX) {
+            Answer::Contended => {}
+            answer => return answer,
         }
     }
-    request_stop(program)
+    program.request_stop(u32::MAX)
 }
 
 /// Queues the stop item, by the program's sender. Where all tries were in vain it waits for ever, since nothing could stop the
@@ -125,6 +117,7 @@ fn try_stop(program: &mut Sender) -> Answer
 pub fn queue_stop<R: Wait>(rt: &R, program: &mut Sender) -> Answer
     ensures few { HasStopped (2 * 2 ^ 32) program.old program.new }
     ensures answer { IsStopAnswer result program.old program.new }
+    ensures settled { result ≢ Contended }
 {
     let answer = try_stop(program);
     if answer == Answer::Contended {
@@ -134,12 +127,15 @@ pub fn queue_stop<R: Wait>(rt: &R, program: &mut Sender) -> Answer
     answer
 }
 
-/// Queues the stop item, and wakes the worker.
-pub fn stop<R: Wait>(rt: &R, program: &mut Sender, unparker: &Unparker)
-    ensures { HasStopped (2 * 2 ^ 32) program.old program.new }
+/// Queues the stop item, and wakes the worker. The answer is that of `queue_stop`.
+pub fn stop<R: Wait>(rt: &R, program: &mut Sender, unparker: &Unparker) -> Answer
+    ensures few { HasStopped (2 * 2 ^ 32) program.old program.new }
+    ensures answer { IsStopAnswer result program.old program.new }
+    ensures settled { result ≢ Contended }
 {
-    queue_stop(rt, program);
+    let answer = queue_stop(rt, program);
     unparker.unpark();
+    answer
 }
 
 // A thread for a sender, where one could be made.

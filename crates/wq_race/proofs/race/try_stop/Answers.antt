@@ -1,38 +1,32 @@
-use Rattle.std.proofs.Common.{arith, ◌*◌, ◌+◌}
-use Rattle.wq_race.proofs.Queueing.{stopped_none, stopped_more, stopped_fewer, stop_answer}
+use Rattle.std.proofs.Common.{arith}
+use Rattle.wq_race.specs.Race.{IsInVain}
+use Rattle.wq_race.proofs.Queueing.{made_none, vain_more, last_stopped, last_answer}
 use Rattle.wq_race.proofs.race.try_stop.Goals as goal
 
 pub loop-init : goal.loop-init
-loop-init c = stopped_fewer 0 0 c.args.program.now c.args.program.now (omega arith) (stopped_none c.args.program.now)
+loop-init c = made_none IsInVain c.args.program.now
 
-pub returns-then-ne-clause-few : goal.returns-then-ne-clause-few
-returns-then-ne-clause-few c =
-    let n = c.loop.counter in
-    stopped_fewer (2 * n + 2) 8589934592 c.args.program.now c.request_stop-answer.new.program (omega (
-      arith,
-      c.loop-test.true,
-    )) (stopped_more (2 * n) c.args.program.now c.loop.program c.request_stop-answer.new.program c.loop.invariant c.request_stop-answer.ensures.few)
+pub returns-in_default-clause-few : goal.returns-in_default-clause-few
+returns-in_default-clause-few c =
+    last_stopped c.loop.counter c.request_stop.result c.args.program.now c.loop.program c.request_stop.new.self
+    (omega (arith, c.loop-test.true)) c.loop.invariant c.request_stop.ensures.answer
 
-pub returns-then-ne-clause-answer : goal.returns-then-ne-clause-answer
-returns-then-ne-clause-answer c =
-    stop_answer (2 * c.loop.counter) c.request_stop-answer.result c.args.program.now c.loop.program c.request_stop-answer.new.program
-    (omega (arith, c.loop-test.true)) c.loop.invariant c.request_stop-answer.ensures.answer
+pub returns-in_default-clause-answer : goal.returns-in_default-clause-answer
+returns-in_default-clause-answer c =
+    last_answer c.loop.counter c.request_stop.result c.args.program.now c.loop.program c.request_stop.new.self
+    (omega (arith, c.loop-test.true)) c.loop.invariant c.request_stop.ensures.answer
 
 pub loop-preserved : goal.loop-preserved
 loop-preserved c =
-    let n = c.loop.counter in
-    stopped_fewer (2 * n + 2) (2 * (n + 1)) c.args.program.now c.request_stop-answer.new.program (omega arith)
-    (stopped_more (2 * n) c.args.program.now c.loop.program c.request_stop-answer.new.program c.loop.invariant c.request_stop-answer.ensures.few)
+    vain_more c.loop.counter c.request_stop.result c.args.program.now c.loop.program c.request_stop.new.self c.in-Contended.is c.loop.invariant
+    c.request_stop.ensures.answer
 
 pub returns-clause-few : goal.returns-clause-few
 returns-clause-few c =
-    let n = c.loop.counter in
-    stopped_fewer (2 * n + 2) 8589934592 c.args.program.now c.request_stop.new.program (omega (
-      arith,
-      c.loop.auto.counter-end,
-    )) (stopped_more (2 * n) c.args.program.now c.loop.program c.request_stop.new.program c.loop.invariant c.request_stop.ensures.few)
+    last_stopped c.loop.counter c.request_stop-2.result c.args.program.now c.loop.program c.request_stop-2.new.self
+    (omega (arith, c.loop.auto.counter-end)) c.loop.invariant c.request_stop-2.ensures.answer
 
 pub returns-clause-answer : goal.returns-clause-answer
 returns-clause-answer c =
-    stop_answer (2 * c.loop.counter) c.request_stop.result c.args.program.now c.loop.program c.request_stop.new.program
-    (omega (arith, c.loop.auto.counter-end)) c.loop.invariant c.request_stop.ensures.answer
+    last_answer c.loop.counter c.request_stop-2.result c.args.program.now c.loop.program c.request_stop-2.new.self
+    (omega (arith, c.loop.auto.counter-end)) c.loop.invariant c.request_stop-2.ensures.answer
