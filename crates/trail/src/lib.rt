@@ -1,10 +1,10 @@
-//! A list of numbers that contracts alone see. It takes no memory, and its methods do nothing at run time.
+//! Lists that contracts alone see. They take no memory, and their methods do nothing at run time.
 #![tactic(auto)]
 
 ghost use Rattle.std.specs.Prelude.{◌≡◌, ℕ, List, [], ◌∷◌, ◌++◌};
 ghost use Rattle.std.specs.Borrow.{ftrue};
 
-use std::marker::Model;
+use std::marker::{Model, PhantomData};
 
 /// A list of numbers, which a clause reads as `items`. A type keeps in it what happened, so that its contracts can tell.
 #[derive(Drop)]
@@ -36,3 +36,27 @@ impl Trail {
         Trail { seal: () }
     }
 }
+
+/// A list that a clause sees as a list. It is for a type that contracts alone speak of, as of what a seat has seen: no value of
+/// it is made.
+pub struct GhostList<T> {
+    of: PhantomData<T>,
+    ghost items: { List T },
+}
+
+impl<T> Model for GhostList<T> {
+    ghost Value = { List T };
+
+    ghost view = { λ list. list.items };
+
+    ghost also_owns = { λ _. ftrue };
+}
+
+impl<T> Drop for GhostList<T> {
+    fn drop(self) {
+        let GhostList { of: _ } = self;
+    }
+}
+
+// It owns nothing.
+unsafe impl<T> Send for GhostList<T> {}

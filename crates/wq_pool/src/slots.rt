@@ -6,16 +6,16 @@ ghost use Rattle.wq_served.specs.WorkerId.{worker_id};
 use crate::turn::{Turn, Worked};
 use atomic_table::{Play, Seat, Table, TableRule};
 use std::alloc::{AllocError, Global};
-use std::collections::LinkedList;
 use std::marker::Model;
 use std::snapshot::Snapshot;
+use trail::GhostList;
 use wq_served::{Runner, Served, WorkerId};
 use wq_worker::Work;
 
 /// What a seat knows: the queue that it has in hand, and which workers were handed in. No value of it is made.
 pub struct Hand {
     pub queue: Option<u64>,
-    pub workers: LinkedList<WorkerId>,
+    pub workers: GhostList<WorkerId>,
 }
 
 /// What the table is told once: the queues that were handed in. It takes no memory.

@@ -3,8 +3,8 @@ use crate::event::ReadyEvent;
 use crate::size::Size;
 use crossbeam_queue::RuledArrayQueue;
 use crossbeam_queue::protocol::{Lesson, Outcome, Protocol, Split};
-use std::collections::LinkedList;
 use std::marker::{Brand, PhantomData};
+use trail::GhostList;
 
 /// What a pass knows: the size, the callers that it speaks for, `count` of them from `first` on, and the history that it has
 /// seen. No value of it is made.
@@ -12,7 +12,7 @@ pub struct Part {
     pub size: Size,
     pub first: u64,
     pub count: u64,
-    pub seen: LinkedList<ReadyEvent>,
+    pub seen: GhostList<ReadyEvent>,
 }
 
 /// What waits and what the passes know belong to one history.

@@ -15,10 +15,10 @@ use super::table::{
     Makes, Marks, Meets, Off, Part, Pushes, Rests, Seated, Stores, Takes, Turns, Walks, Words,
 };
 use atomic_table::Badge;
-use std::collections::LinkedList;
 use std::marker::Model;
 use std::mem::replace;
 use std::sync::Arc;
+use trail::GhostList;
 use wq_core::place::{HEAD, done_place, item_place, link_place, link_word};
 use wq_words::{BUSY, Head, Layout};
 
@@ -26,7 +26,7 @@ use wq_words::{BUSY, Head, Layout};
 #[derive(Drop)]
 pub struct Chair {
     pub(crate) words: Arc<Words>,
-    pub(crate) badge: Badge<LinkedList<Part>>,
+    pub(crate) badge: Badge<GhostList<Part>>,
     pub(crate) layout: Layout,
 }
 
@@ -43,7 +43,7 @@ impl Model for Chair {
 }
 
 // The seat that a badge keeps. It leaves a blank one.
-fn rise(badge: &mut Badge<LinkedList<Part>>) -> Seated
+fn rise(badge: &mut Badge<GhostList<Part>>) -> Seated
     requires { (v : List Part) × (badge.old.views ≡ v ∷ []) }
     ensures table { result.table_id ≡ badge.old.table_id }
     ensures view { badge.old.views ≡ result.me.0 ∷ [] }

@@ -1,8 +1,8 @@
 //! The table of a queue's words, its rule, and what each step tells the seat that makes it.
 use atomic_table::{Join, Play, Seat, Split, Table, TableRule};
 use std::alloc::Global;
-use std::collections::LinkedList;
 use std::marker::PhantomData;
+use trail::GhostList;
 use wq_core::Private;
 use wq_words::{Event, Layout};
 
@@ -11,8 +11,8 @@ use wq_words::{Event, Layout};
 pub struct Part {
     pub seat: u64,
     pub layout: Layout,
-    pub seen: LinkedList<Event>,
-    pub words: LinkedList<u64>,
+    pub seen: GhostList<Event>,
+    pub words: GhostList<u64>,
     pub stage: Stage,
 }
 
@@ -21,7 +21,7 @@ pub enum Stage {
     /// A sender's last look and the number that it linked.
     Sends(Private),
     /// The number that the owner walks next, what it walked, and its batch, the two lists oldest first.
-    Owns(Option<u32>, LinkedList<u32>, LinkedList<u32>),
+    Owns(Option<u32>, GhostList<u32>, GhostList<u32>),
 }
 
 /// The rule: the words and the private parts of all seats are a sound state of the machine, each seat has seen a
@@ -29,7 +29,7 @@ pub enum Stage {
 /// not begun are as the owner left them.
 pub struct Law;
 
-impl TableRule<(), LinkedList<Part>, Layout> for Law {
+impl TableRule<(), GhostList<Part>, Layout> for Law {
     ghost use Rattle.wq_table.specs.Law.{Kept, opening_view};
 
     ghost holds = { Kept };
@@ -37,9 +37,9 @@ impl TableRule<(), LinkedList<Part>, Layout> for Law {
     ghost first = { opening_view };
 }
 
-pub(crate) type Words = Table<(), LinkedList<Part>, Layout, Law, Global>;
+pub(crate) type Words = Table<(), GhostList<Part>, Layout, Law, Global>;
 
-pub(crate) type Seated = Seat<(), LinkedList<Part>>;
+pub(crate) type Seated = Seat<(), GhostList<Part>>;
 
 // Which step of a seat an operation is.
 pub(crate) trait Kind {
@@ -53,7 +53,7 @@ pub(crate) struct Makes<K> {
     of: PhantomData<K>,
 }
 
-impl<K: Kind> Play<(), LinkedList<Part>> for Makes<K> {
+impl<K: Kind> Play<(), GhostList<Part>> for Makes<K> {
     ghost use Rattle.wq_table.specs.Plays.{tells};
 
     ghost then = { tells K.step };
@@ -64,7 +64,7 @@ pub(crate) struct Stores<K> {
     of: PhantomData<K>,
 }
 
-impl<K: Kind> Play<(), LinkedList<Part>> for Stores<K> {
+impl<K: Kind> Play<(), GhostList<Part>> for Stores<K> {
     ghost use Rattle.wq_table.specs.Plays.{stores};
 
     ghost then = { stores K.step };
@@ -200,7 +200,7 @@ impl Kind for Rests {
 
 pub(crate) struct Meets;
 
-impl Play<(), LinkedList<Part>> for Meets {
+impl Play<(), GhostList<Part>> for Meets {
     ghost use Rattle.wq_table.specs.Plays.{meets};
 
     ghost then = { meets };
@@ -209,7 +209,7 @@ impl Play<(), LinkedList<Part>> for Meets {
 // The first part goes to a new seat.
 pub(crate) struct Off;
 
-impl Split<LinkedList<Part>> for Off {
+impl Split<GhostList<Part>> for Off {
     ghost use Rattle.wq_table.specs.Law.{front_of, rest_of};
 
     ghost left = { rest_of };
@@ -220,7 +220,7 @@ impl Split<LinkedList<Part>> for Off {
 // The second seat's parts come first, and it is left with none.
 pub(crate) struct Both;
 
-impl Join<LinkedList<Part>> for Both {
+impl Join<GhostList<Part>> for Both {
     ghost use Rattle.std.specs.Prelude.{[], ◌++◌};
 
     ghost both = { λ v w. w ++ v };
