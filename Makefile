@@ -25,9 +25,10 @@ install: build
 examples: build
 	checks/examples.sh $(PROGRAM)
 
-# Each worked row of a script, a schedule or a plan gives what stands beside it.
+# Each worked row of a script, a schedule or a plan gives what stands beside it, and so does each command line.
 rows: build
 	checks/rows.py $(PROGRAM)
+	checks/command_lines.py $(PROGRAM)
 
 # The calls that take memory, with each allocation refused in turn, as the gate does; some minutes.
 memory:

@@ -1,14 +1,16 @@
 //! What ends the program without its result.
 ghost use Rattle.std.specs.Prelude.{◌≡◌};
-ghost use Rattle.wq_mains.specs.Failure.{status_of, of_parse_error, of_plan_error};
+ghost use Rattle.wq_mains.specs.Failure.{status_of, of_read_error, of_parse_error, of_plan_error};
 ghost use Rattle.wq_mains.specs.declared.failure.Failure.TheVariants.{Memory};
 
 use std::alloc::AllocError;
+use std::io;
 use thiserror::Error;
 use wq_race::{PlanError, RaceError};
 use wq_script::{ParseError, RunError, ScriptError};
 
-/// Why a result was not written. The text is what standard error says.
+/// Why a result was not written. The text is what standard error says. An error of reading words, a file or a stream is want
+/// of memory or says that it is unreadable.
 #[derive(Debug, Drop, Error)]
 pub enum Failure {
     /// The text is no script, or no schedule.
@@ -39,6 +41,17 @@ impl Failure {
             | Failure::RefusedPlan(_)
             | Failure::Unreadable
             | Failure::Unwritable => 1,
+        }
+    }
+}
+
+impl From<io::Error> for Failure {
+    ghost from_gives = { λ error failure. failure ≡ of_read_error error };
+
+    fn from(error: io::Error) -> Failure {
+        match error.kind() {
+            io::ErrorKind::OutOfMemory => Failure::Memory,
+            _ => Failure::Unreadable,
         }
     }
 }

@@ -4,7 +4,7 @@ ghost use Rattle.wq_mains.specs.Ending.{HasNoText};
 
 use crate::failure::Failure;
 use std::alloc::Global;
-use std::io::{ErrorKind, Read};
+use std::io::Read;
 
 // One byte more than a script or a schedule may have, so that a longer one is seen to be too long.
 pub(crate) const TEXT_BYTES: u64 = 1_048_577;
@@ -22,9 +22,6 @@ pub(crate) fn read_most<R: Read + Drop>(
     ensures none { IfErr result HasNoText }
 {
     let mut text = Vec::new(alloc);
-    match reader.take(most).read_to_end(&mut text) {
-        Ok(_) => Ok(text),
-        Err(error) if error.kind() == ErrorKind::OutOfMemory => Err(Failure::Memory),
-        Err(_) => Err(Failure::Unreadable),
-    }
+    reader.take(most).read_to_end(&mut text)?;
+    Ok(text)
 }

@@ -3,7 +3,7 @@ use clap::{Arg, Command, Error};
 use std::alloc::{AllocError, Global};
 
 /// What a text is.
-#[derive(Clone, Copy, Debug, PartialEq, Eq)]
+#[derive(Clone, Copy)]
 pub enum Kind {
     Script,
     Steps,
@@ -11,14 +11,14 @@ pub enum Kind {
 }
 
 /// Where a text stands: on standard input, or in the file of this path.
-#[derive(Clone, Copy, Debug, PartialEq, Eq)]
+#[derive(Clone, Copy)]
 pub enum Source<'a> {
     Input,
     File(&'a str),
 }
 
 /// What the words ask for.
-#[derive(Clone, Copy, Debug, PartialEq, Eq)]
+#[derive(Clone, Copy)]
 pub struct Task<'a> {
     pub kind: Kind,
     pub source: Source<'a>,

@@ -24,15 +24,6 @@ pub fn command_words<R: Env + Alloc<A = Global>>(rt: &R) -> io::Result<Vec<Strin
     Ok(words)
 }
 
-// Why words or a file could not be read: memory was wanting, or something else.
-fn unread(error: &io::Error) -> Failure {
-    if error.kind() == io::ErrorKind::OutOfMemory {
-        Failure::Memory
-    } else {
-        Failure::Unreadable
-    }
-}
-
 // Runs the text of a reader as what it is.
 fn run_text<T: Threads + Wait + Sync, R: Read + Drop, O: Write, E: Write>(
     threads: &T,
@@ -98,7 +89,7 @@ where
     let (output, faults) = (&mut output, &mut faults);
     let words = match words {
         Ok(words) => words,
-        Err(error) => return end(Err(unread(&error)), output, faults),
+        Err(error) => return end(Err(Failure::from(error)), output, faults),
     };
     let task = match task_of(alloc, &words) {
         Ok(task) => task,
@@ -109,6 +100,6 @@ where
     };
     match opener(path) {
         Ok(file) => run_text(threads, alloc, task.kind, file, output, faults),
-        Err(error) => end(Err(unread(&error)), output, faults),
+        Err(error) => end(Err(Failure::from(error)), output, faults),
     }
 }

@@ -1,0 +1,110 @@
+#!/usr/bin/env python3
+"""Runs command lines with the program that is named: which file it opens, what it writes where, and its status.
+
+Each runs in a folder with a script, a schedule and a plan, and with a script on standard input. A row is the words, the status,
+and what standard output and standard error hold; of what is no bytes here, `Some` texts in any order have to stand in it.
+"""
+import os
+import subprocess
+import sys
+import tempfile
+from pathlib import Path
+
+SCRIPT = b"wq 1\nitems 4\nsenders 2\nqueue 0 1\n"
+SCHEDULE = b"steps 1\nitems 4\nsenders 2\n0 look\n"
+PLAN = b'{"queues":1,"workers":1,"senders":2,"own":2}'
+INPUT = b"wq 1\nitems 4\nsenders 2\nclose\n"
+FILES = {"a.wq": SCRIPT, "a.steps": SCHEDULE, "a.json": PLAN, "steps": SCRIPT, "--help": SCHEDULE, "-": PLAN}
+
+QUEUED, CLOSED = b"true first\n", b"closed 0\n"
+EMPTY = b"empty\naccepted nothing\nbegun nothing\n"
+BALANCED = b"accepted 4 ran 4 balanced yes\n"
+
+
+class Some(tuple):
+    """Texts that have to stand in what was written."""
+
+
+HELP = Some([b"Usage: wqrun [COMMAND]\n", b"Exit status:\n", b"/dev/stdin"])
+
+ROWS = [
+    # which text is read
+    ("", 0, CLOSED, b""),
+    ("script a.wq", 0, QUEUED, b""),
+    ("steps a.steps", 0, EMPTY, b""),
+    ("live a.json", 0, BALANCED, b""),
+    ("script /dev/stdin", 0, CLOSED, b""),
+    # a file may have the name of a subcommand or of an option, and '-' is no more than a name
+    ("script steps", 0, QUEUED, b""),
+    ("steps -- --help", 0, EMPTY, b""),
+    ("live -", 0, BALANCED, b""),
+    # a text that is another's, and no file
+    ("script a.steps", 1, b"", b"line 1: Version\n"),
+    ("steps a.wq", 1, b"", b"line 1: Version\n"),
+    ("live a.wq", 1, b"", b"plan: Json\n"),
+    ("script none", 1, b"", b"file: Unreadable\n"),
+    ("steps .", 1, b"", b"file: Unreadable\n"),
+    # words that are no text are unreadable, and never want of memory
+    (["script", b"\xff"], 1, b"", b"file: Unreadable\n"),
+    ([b"a\xc3"], 1, b"", b"file: Unreadable\n"),
+    ([b"\xed\xa0\x80", "a"], 1, b"", b"file: Unreadable\n"),
+    # help and the version
+    ("--help", 0, HELP, b""),
+    ("help", 0, HELP, b""),
+    ("script --help", 0, Some([b"modify K D", b"Example:\n"]), b""),
+    ("steps --help", 0, Some([b"o turn K L", b"o rest", b"Example:\n"]), b""),
+    ("help live", 0, Some([b"workers, 1 to 8", b"Example:\n"]), b""),
+    ("--version", 0, b"wqrun 0.1.0\n", b""),
+    # refused words
+    ("race a", 2, b"", Some([b"error: unrecognized subcommand 'race'"])),
+    ("script", 2, b"", Some([b"error: the following required arguments were not provided"])),
+    ("script a b", 2, b"", Some([b"error: unexpected argument 'b' found"])),
+    ("live --fast a", 2, b"", Some([b"error: unexpected argument '--fast' found"])),
+]
+
+# on a device that takes nothing: standard output alone, and standard error too
+FULL_OUTPUT = [(words, 1, b"output: Unwritable\n") for words in ("--help", "--version", "script a.wq", "live a.json")]
+FULL = [("race", 2), ("script none", 1), ("script a.wq", 1)]
+
+
+def stands(want, text):
+    return all(part in text for part in want) if isinstance(want, Some) else want == text
+
+
+class Runner:
+    def __init__(self, program, folder):
+        self.program, self.folder, self.failed, self.count = Path(program).resolve(), folder, 0, 0
+
+    def run(self, words, **streams):
+        words = words.split() if isinstance(words, str) else words
+        line = [b"other", *(os.fsencode(word) for word in words)]
+        streams = {"stdout": subprocess.PIPE, "stderr": subprocess.PIPE, **streams}
+        ran = subprocess.run(line, executable=self.program, cwd=self.folder, input=INPUT, timeout=60, **streams)
+        return ran.returncode, ran.stdout, ran.stderr
+
+    def hold(self, words, got, want):
+        self.count += 1
+        if got[0] != want[0] or not all(stands(*pair) for pair in zip(want[1:], got[1:])):
+            self.failed += 1
+            print(f"wqrun {words}: {got} and not {want}")
+
+
+def main(program):
+    with tempfile.TemporaryDirectory() as folder, open("/dev/full", "wb") as full:
+        for name, text in FILES.items():
+            Path(folder, name).write_bytes(text)
+        runner = Runner(program, folder)
+        for words, *want in ROWS:
+            runner.hold(words, runner.run(words), want)
+        for words, status, faults in FULL_OUTPUT:
+            runner.hold(words, runner.run(words, stdout=full), (status, None, faults))
+        for words, status in FULL:
+            runner.hold(words, runner.run(words, stdout=full, stderr=full), (status, None, None))
+    print(f"{runner.count} command lines, {runner.failed} failed")
+    return 1 if runner.failed else 0
+
+
+if __name__ == "__main__":
+    if len(sys.argv) != 2:
+        sys.exit("usage: checks/command_lines.py PROGRAM")
+    sys.exit(main(sys.argv[1]))
