@@ -1,5 +1,5 @@
 //! Calls of a delay table in one thread.
+mod calls;
 mod contended;
 mod rows;
-mod seats;
 mod wheel;

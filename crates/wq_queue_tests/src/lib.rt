@@ -11,4 +11,6 @@ mod live;
 #[cfg(test)]
 mod own_threads;
 #[cfg(test)]
+mod seats;
+#[cfg(test)]
 mod worker;

@@ -1,7 +1,7 @@
 //! Calls of a queue in one thread and in several.
 mod calls;
 mod contended;
-mod reading;
+pub(crate) mod reading;
 mod rows;
 mod stopped;
 mod threads;

@@ -1,7 +1,8 @@
 //! Random runs of a delay table against a plain sorted list.
-use super::seats::Call::{Arm, Cancel, Execute, Modify, Queue, Take};
-use super::seats::Said::{self, Executed, NotAllowed};
-use super::seats::{Call, call_delay, call_owner, call_seat, call_sender, delayed};
+use super::calls;
+use super::calls::{arm, cancel, delayed, modify};
+use crate::live::reading::execute_one;
+use crate::seats::queue_once;
 use std::alloc::{AllocError, Global};
 use std::test::Fail;
 use std::thread::join_mut;
@@ -85,24 +86,24 @@ fn change(dice: &mut Dice, delay: &mut Delay, plain: &mut Plain) -> Result<bool,
     let ticks = DELAYS[(dice.roll(8) & 7) as usize];
     let fits = plain.tick.checked_add(ticks).is_some();
     Ok(match dice.roll(3) {
-        0 => match call_delay(delay, Arm(item, ticks)) {
-            Said::Armed(Armed::OnTable) => {
+        0 => match arm(delay, item, ticks) {
+            Some(Armed::OnTable) => {
                 let was_off = !plain.take(item);
                 plain.put(item, ticks)?;
                 was_off && fits
             }
-            Said::Armed(Armed::TooFar) => !fits,
-            said => said == Said::Armed(Armed::Pending),
+            Some(Armed::TooFar) => !fits,
+            said => said == Some(Armed::Pending),
         },
-        1 => match call_delay(delay, Modify(item, ticks)) {
-            Said::Modified(Modified::Moved | Modified::WasIdle) => {
+        1 => match modify(delay, item, ticks) {
+            Some(Modified::Moved | Modified::WasIdle) => {
                 plain.put(item, ticks)?;
                 fits
             }
-            Said::Modified(Modified::TooFar) => !fits,
-            said => said == Said::Modified(Modified::Pending),
+            Some(Modified::TooFar) => !fits,
+            said => said == Some(Modified::Pending),
         },
-        _ => call_delay(delay, Cancel(item)) == Said::Cancelled(plain.take(item)),
+        _ => cancel(delay, item) == Some(plain.take(item)),
     })
 }
 
@@ -149,14 +150,13 @@ fn advance(
 }
 
 /// Executes all that was queued. Whether it is just the list.
-fn executes(owner: &mut Owner, sender: &mut Sender, delay: &mut Delay, due: &[u32]) -> bool {
-    call_seat(owner, sender, delay, Take);
+fn executes(owner: &mut Owner, due: &[u32]) -> bool {
     for item in due {
-        if call_seat(owner, sender, delay, Execute) != Executed(*item) {
+        if execute_one(owner) != Some(*item) {
             return false;
         }
     }
-    call_seat(owner, sender, delay, Execute) == NotAllowed
+    execute_one(owner).is_none()
 }
 
 /// Makes so many changes. Whether each answer was that of the list.
@@ -176,12 +176,12 @@ fn turn(
     seats: &mut (Owner, Sender, Delay),
     plain: &mut Plain,
 ) -> Result<bool, AllocError> {
-    let (owner, sender, delay) = seats;
+    let (owner, _sender, delay) = seats;
     if !change_some(dice, delay, plain)? {
         return Ok(false);
     }
     match advance(alloc, dice, delay, plain)? {
-        Some(out) => Ok(executes(owner, sender, delay, out.as_slice())),
+        Some(out) => Ok(executes(owner, out.as_slice())),
         None => Ok(false),
     }
 }
@@ -213,28 +213,27 @@ fn runs_are_those_of_a_sorted_list(rt: HostRuntime) -> Result<(), Fail> {
     Ok(())
 }
 
-/// A jump, what it let go, and how many slots were looked at for it.
-type Jump = (u64, Said, u32);
+/// A jump, how many it pushed, refused and left waiting, and how many slots were looked at for it.
+type Jump = (u64, Option<(u32, u32, u32)>, u32);
 
 /// The first advance looks at one slot for one tick.
 const JUMPED: [Jump; 5] = [
-    (1, Said::Went(1, 0, 3), 1),
-    (0, Said::Backwards, 1),
-    (257, Said::Went(2, 0, 1), 256),
-    (600, Said::Went(1, 0, 0), 256),
-    (600, Said::Went(0, 0, 0), 0),
+    (1, Some((1, 0, 3)), 1),
+    (0, None, 1),
+    (257, Some((2, 0, 1)), 256),
+    (600, Some((1, 0, 0)), 256),
+    (600, Some((0, 0, 0)), 0),
 ];
 
 #[test]
 fn looks_at_one_slot_a_tick(rt: HostRuntime) {
     let (_owner, _sender, mut delay) = delayed(rt.alloc(), 4, 0).expect(&rt, "seats");
     for (item, ticks) in [(0, 256), (1, 1), (2, 257), (3, 512)] {
-        let said = call_delay(&mut delay, Arm(item, ticks));
-        assert_eq!(rt; said, Said::Armed(Armed::OnTable));
+        assert_eq!(rt; arm(&mut delay, item, ticks), Some(Armed::OnTable));
     }
     assert_eq!(rt; delay.looked(), 0);
     for (now, said, looked) in JUMPED {
-        assert_eq!(rt; call_delay(&mut delay, Call::Advance(now)), said);
+        assert_eq!(rt; calls::advance(&mut delay, now), said);
         assert_eq!(rt; delay.looked(), looked);
     }
 }
@@ -242,9 +241,8 @@ fn looks_at_one_slot_a_tick(rt: HostRuntime) {
 /// Queues items of its own, and executes all that waits, so that the head changes all the time.
 fn disturb(owner: &mut Owner, sender: &mut Sender) {
     for turn in 0..40_000u32 {
-        call_sender(sender, Queue(turn.wrapping_rem(4).wrapping_add(ITEMS)));
-        call_owner(owner, Take);
-        call_owner(owner, Execute);
+        queue_once(sender, turn.wrapping_rem(4).wrapping_add(ITEMS));
+        execute_one(owner);
     }
 }
 

@@ -4,23 +4,17 @@ mod refused;
 ghost use Rattle.std.specs.Prelude.{◌≡◌, IfSome};
 
 use super::reading::{begin, chain, close, end, execute_one, take};
+use crate::seats::queue_once;
 use std::alloc::Global;
 use std::process::Abort;
 use std::sync::Wait;
-use wq_live::{Answer, Done, Owner, OwnerCounts, Posted, Sender, SenderCounts, build};
-use wq_words::Layout;
+use wq_live::{Answer, Done, Owner, OwnerCounts, Posted, Sender, SenderCounts};
 
 /// A queue of 4 items, 2 barriers and 2 senders.
 fn seats(alloc: Global) -> Option<(Owner, Sender, Sender)>
     ensures { IfSome result (λ seats. (seats.1.queue ≡ seats.0.queue) × (seats.2.queue ≡ seats.0.queue)) }
 {
-    let layout = Layout::new(4, 2, 2).ok()?;
-    let Ok((owner, mut senders)) = build(alloc, layout) else {
-        return None;
-    };
-    let second = senders.pop()?;
-    let first = senders.pop()?;
-    Some((owner, first, second))
+    crate::seats::seats(alloc, 4, 2)
 }
 
 /// Holds an item, and then posts it or gives it back. None where it was pending.
@@ -33,17 +27,6 @@ fn hold_then(sender: &mut Sender, item: u32, post: bool) -> Option<Posted> {
     }
     sender.give_back(item);
     Some(Posted::Contended)
-}
-
-/// Queues an item in one try.
-fn queue_once(sender: &mut Sender, item: u32) -> Option<Answer>
-    ensures { sender.new.queue ≡ sender.old.queue }
-{
-    if item < sender.layout().items {
-        Some(sender.queue_tries(item, 1))
-    } else {
-        None
-    }
 }
 
 /// Queues an item in as many tries as it takes.

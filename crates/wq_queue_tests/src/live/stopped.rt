@@ -2,11 +2,10 @@
 //! and a thread that waits between two calls until all others have come to their ends.
 use super::reading::{begin, close, end, execute_one, take};
 use crate::latch::Latch;
-use std::alloc::Global;
+use crate::seats::{queue_once, seats};
 use std::test::Fail;
 use std::thread::{Threads, join_mut, yield_now};
-use wq_live::{Answer, Done, Owner, Posted, Sender, build};
-use wq_words::Layout;
+use wq_live::{Answer, Done, Owner, Posted, Sender};
 
 const WAKES: Answer = Answer::Queued {
     first: true,
@@ -23,26 +22,6 @@ const NEXT: Answer = Answer::Queued {
     wakes: false,
 };
 
-/// A queue of so many items, a barrier and two senders.
-fn seats(alloc: Global, items: u32) -> Option<(Owner, Sender, Sender)> {
-    let layout = Layout::new(items, 1, 2).ok()?;
-    let Ok((owner, mut senders)) = build(alloc, layout) else {
-        return None;
-    };
-    let second = senders.pop()?;
-    let first = senders.pop()?;
-    Some((owner, first, second))
-}
-
-/// Queues an item in one try.
-fn queue(sender: &mut Sender, item: u32) -> Option<Answer> {
-    if item < sender.layout().items {
-        Some(sender.queue_tries(item, 1))
-    } else {
-        None
-    }
-}
-
 /// Sets an item's PENDING bit, and whether it was clear.
 fn hold(sender: &mut Sender, item: u32) -> bool {
     item < sender.layout().items && sender.hold(item)
@@ -51,9 +30,9 @@ fn hold(sender: &mut Sender, item: u32) -> bool {
 /// What an owner took stays pending when it stops, and all else is queued.
 #[test]
 fn owner_stops_with_a_batch(rt: HostRuntime) -> Result<(), Fail> {
-    let (mut owner, mut first, mut second) = seats(rt.alloc(), 4).expect(&rt, "seats");
-    assert_eq!(rt; queue(&mut first, 0), Some(WAKES));
-    assert_eq!(rt; queue(&mut first, 1), Some(NEXT));
+    let (mut owner, mut first, mut second) = seats(rt.alloc(), 4, 1).expect(&rt, "seats");
+    assert_eq!(rt; queue_once(&mut first, 0), Some(WAKES));
+    assert_eq!(rt; queue_once(&mut first, 1), Some(NEXT));
     assert_eq!(rt; take(&mut owner), Some(2));
     drop(owner);
     for (item, answer) in [
@@ -62,8 +41,12 @@ fn owner_stops_with_a_batch(rt: HostRuntime) -> Result<(), Fail> {
         (3, NEXT),
         (1, Answer::Pending),
     ] {
-        assert_eq!(rt; queue(&mut first, item), Some(answer), "{item}");
-        assert_eq!(rt; queue(&mut second, item), Some(Answer::Pending), "{item}");
+        assert_eq!(rt; queue_once(&mut first, item), Some(answer), "{item}");
+        assert_eq!(rt;
+            queue_once(&mut second, item),
+            Some(Answer::Pending),
+            "{item}"
+        );
     }
     Ok(())
 }
@@ -71,10 +54,10 @@ fn owner_stops_with_a_batch(rt: HostRuntime) -> Result<(), Fail> {
 /// What a sender held stays pending when it stops, and the queue is closed and run to its end.
 #[test]
 fn sender_stops_with_an_item(rt: HostRuntime) -> Result<(), Fail> {
-    let (mut owner, mut first, mut second) = seats(rt.alloc(), 4).expect(&rt, "seats");
+    let (mut owner, mut first, mut second) = seats(rt.alloc(), 4, 1).expect(&rt, "seats");
     assert!(rt; hold(&mut first, 2));
     drop(first);
-    assert_eq!(rt; queue(&mut second, 2), Some(Answer::Pending));
+    assert_eq!(rt; queue_once(&mut second, 2), Some(Answer::Pending));
     assert_eq!(rt; close(&mut owner), Some(0));
     assert_eq!(rt; owner.done(), Some(Done { ended: 0 }));
     Ok(())
@@ -123,7 +106,7 @@ fn queue_all(sender: &mut Sender, from: u32, to: u32) -> u32 {
 fn thread_stops_with_its_sender(rt: HostRuntime) -> Result<(), Fail> {
     for items in 0..8u32 {
         for holds in [false, true] {
-            let (mut owner, first, mut second) = seats(rt.alloc(), 72).expect(&rt, "seats");
+            let (mut owner, first, mut second) = seats(rt.alloc(), 72, 1).expect(&rt, "seats");
             let mut first = Some(first);
             let queued = join_mut(
                 &rt,
@@ -131,7 +114,7 @@ fn thread_stops_with_its_sender(rt: HostRuntime) -> Result<(), Fail> {
                 &mut || queue_all(&mut second, 8, 72),
             );
             assert_eq!(rt; queued, (items, 64));
-            let held = queue(&mut second, items);
+            let held = queue_once(&mut second, items);
             assert_eq!(rt; held == Some(Answer::Pending), holds, "{items}");
             let accepted = if holds { items + 64 } else { items + 65 };
             assert_eq!(rt; close(&mut owner), Some(accepted));
@@ -220,7 +203,7 @@ fn end_beside<R: Threads + Sync>(
     if !latch.meet() {
         return None;
     }
-    let first = queue(sender, 0);
+    let first = queue_once(sender, 0);
     let ended = Latch::new();
     let (queued, executed) = join_mut(
         rt,
@@ -250,7 +233,7 @@ fn others_end_while_a_sender_stops(rt: HostRuntime) -> Result<(), Fail> {
         (Answer::Pending, 66, [WAKES, NEXT, closed]),
     ];
     for (place, (first, accepted, answers)) in (0..4u32).zip(rows) {
-        let (mut owner, mut stopped, mut other) = seats(rt.alloc(), 72).expect(&rt, "seats");
+        let (mut owner, mut stopped, mut other) = seats(rt.alloc(), 72, 1).expect(&rt, "seats");
         let latch = Latch::new();
         let (others, said) = join_mut(
             &rt,
@@ -292,8 +275,8 @@ fn queue_beside<R: Threads + Sync>(
     if !latch.meet() {
         return None;
     }
-    let running = queue(first, 0)?;
-    let taken = queue(second, 1)?;
+    let running = queue_once(first, 0)?;
+    let taken = queue_once(second, 1)?;
     let (one, other) = join_mut(
         rt,
         &mut || queue_all(first, 8, 40),
@@ -307,9 +290,9 @@ fn queue_beside<R: Threads + Sync>(
 /// that they queued.
 #[test]
 fn senders_end_while_the_owner_stops(rt: HostRuntime) -> Result<(), Fail> {
-    let (mut owner, mut first, mut second) = seats(rt.alloc(), 72).expect(&rt, "seats");
-    assert_eq!(rt; queue(&mut first, 0), Some(WAKES));
-    assert_eq!(rt; queue(&mut second, 1), Some(NEXT));
+    let (mut owner, mut first, mut second) = seats(rt.alloc(), 72, 1).expect(&rt, "seats");
+    assert_eq!(rt; queue_once(&mut first, 0), Some(WAKES));
+    assert_eq!(rt; queue_once(&mut second, 1), Some(NEXT));
     let latch = Latch::new();
     let (answers, executed) = join_mut(
         &rt,
