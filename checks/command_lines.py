@@ -2,7 +2,7 @@
 """Runs command lines with the program that is named: which file it opens, what it writes where, and its status.
 
 Each runs in a folder with a script, a schedule and a plan, and with a script on standard input. A row is the words, the status,
-and what standard output and standard error hold; of what is no bytes here, `Some` texts in any order have to stand in it.
+and what standard output and standard error hold: the very bytes, or `Some` texts that stand in it in any order.
 """
 import os
 import subprocess
