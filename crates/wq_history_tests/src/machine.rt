@@ -1,5 +1,6 @@
 mod stopped;
 
+use expect_same::expect_same;
 use std::process::Abort;
 use std::test::Fail;
 use wq_core::Reply::{
@@ -156,22 +157,22 @@ fn layout<R: Abort>(rt: &R) -> Layout {
 /// Makes a step, which replies so and leaves a legal history.
 fn make<R: Abort>(rt: &R, core: &mut Core, turn: Turn) {
     let (seat, step, reply) = turn;
-    assert_eq!(rt; core.step(seat, step), Ok(reply), "{step:?}");
-    assert_eq!(rt;
-        check_history(&layout(rt), core.history()),
-        Ok(()),
-        "{step:?}"
+    expect_same(rt, (step, core.step(seat, step)), (step, Ok(reply)));
+    expect_same(
+        rt,
+        (step, check_history(&layout(rt), core.history())),
+        (step, Ok(())),
     );
 }
 
 /// The schedule replayed as a whole, and in two parts, gives the history that its steps gave one by one.
 fn check_replays<R: Abort + AllocGlobal>(rt: &R, core: &Core, turns: &[(Seat, Step)]) {
     let replayed = replay(rt.alloc(), layout(rt), turns).expect(rt, "enabled steps");
-    assert_eq!(rt; replayed.history(), core.history());
+    expect_same(rt, replayed.history(), core.history());
     let (before, after) = turns.split_at(turns.len().min(2));
     let mut parted = replay(rt.alloc(), layout(rt), before).expect(rt, "enabled steps");
     replay_on(&mut parted, after).expect(rt, "more enabled steps");
-    assert_eq!(rt; parted.history(), core.history());
+    expect_same(rt, parted.history(), core.history());
 }
 
 /// Each step, and then the schedule, with what was accepted and begun at its end.
@@ -182,8 +183,12 @@ fn check_schedule<R: Abort + AllocGlobal>(rt: &R, row: &[Turn], accepted: &[u32]
         make(rt, &mut core, *turn);
         turns.push((turn.0, turn.1)).expect(rt, "memory");
     }
-    assert_eq!(rt; core.accepted().expect(rt, "memory").as_slice(), accepted);
-    assert_eq!(rt; core.begun().expect(rt, "memory").as_slice(), begun);
+    expect_same(
+        rt,
+        core.accepted().expect(rt, "memory").as_slice(),
+        accepted,
+    );
+    expect_same(rt, core.begun().expect(rt, "memory").as_slice(), begun);
     check_replays(rt, &core, turns.as_slice());
 }
 
@@ -240,9 +245,9 @@ fn refusals(rt: HostRuntime) {
             "{seat:?} {step:?}"
         );
     }
-    assert_eq!(rt; core.history().len(), 0);
-    assert_eq!(rt; core.step(S1, Hold(5)), Ok(Held));
-    assert_eq!(rt; core.history(), [Event::Hold(1, 5)].as_slice());
+    expect_same(&rt, core.history().len(), 0);
+    expect_same(&rt, core.step(S1, Hold(5)), Ok(Held));
+    expect_same(&rt, core.history(), [Event::Hold(1, 5)].as_slice());
 }
 
 /// What a caller has in hand of a core, whatever was done to it.

@@ -1,3 +1,4 @@
+use expect_same::expect_same;
 use std::test::Fail;
 use wq_words::Event::{Back, Begin, Busy, Chain, ChainBusy, Close, End, Hold, Push, Rest, Take};
 use wq_words::{
@@ -18,10 +19,10 @@ fn layouts(rt: HostRuntime) {
         (4096, 16, 64, None),
     ] {
         let layout = Layout::new(items, barriers, senders);
-        assert_eq!(rt;
-            layout.err(),
-            refused,
-            "new({items}, {barriers}, {senders})"
+        expect_same(
+            &rt,
+            ((items, barriers, senders), layout.err()),
+            ((items, barriers, senders), refused),
         );
     }
 }
@@ -35,14 +36,14 @@ fn head_codes(rt: HostRuntime) {
         (1 << 32, Head::Item(u32::MAX)),
         (u64::MAX, Head::Closed),
     ] {
-        assert_eq!(rt; Head::from_word(word), Some(head), "from_word({word})");
-        assert_eq!(rt; head.to_word(), word, "{head:?}");
+        expect_same(&rt, (word, Head::from_word(word)), (word, Some(head)));
+        expect_same(&rt, (head, head.to_word()), (head, word));
     }
     for word in [(1 << 32) + 1, u64::MAX - 2] {
-        assert_eq!(rt; Head::from_word(word), None, "from_word({word})");
+        expect_same(&rt, (word, Head::from_word(word)), (word, None));
     }
-    assert_eq!(rt; BUSY, u64::MAX - 1);
-    assert_eq!(rt; Head::from_word(BUSY), Some(Head::Empty));
+    expect_same(&rt, BUSY, u64::MAX - 1);
+    expect_same(&rt, Head::from_word(BUSY), Some(Head::Empty));
 }
 
 fn fault(place: usize, kind: HistoryFault) -> Option<HistoryError> {
@@ -92,10 +93,10 @@ fn histories(rt: HostRuntime) -> Result<(), Fail> {
         ),
     ];
     for (history, refused) in rows {
-        assert_eq!(rt;
-            check_history(&layout, history).err(),
-            refused,
-            "{history:?}"
+        expect_same(
+            &rt,
+            (history, check_history(&layout, history).err()),
+            (history, refused),
         );
     }
     Ok(())
@@ -137,10 +138,10 @@ fn next_events(rt: HostRuntime) -> Result<(), Fail> {
             Hold(1, 2),
             event,
         ];
-        assert_eq!(rt;
-            check_history(&layout, &history).err(),
-            refused,
-            "{event:?}"
+        expect_same(
+            &rt,
+            (event, check_history(&layout, &history).err()),
+            (event, refused),
         );
     }
     Ok(())
@@ -186,18 +187,18 @@ fn events_of_a_closed_queue(rt: HostRuntime) -> Result<(), Fail> {
             history.push(before)?;
         }
         history.push(event)?;
-        assert_eq!(rt;
-            check_history(&layout, &history).is_ok(),
-            idle,
-            "idle: {event:?}"
+        expect_same(
+            &rt,
+            (event, check_history(&layout, &history).is_ok()),
+            (event, idle),
         );
         history.pop();
         history.push(Begin(0))?;
         history.push(event)?;
-        assert_eq!(rt;
-            check_history(&layout, &history).is_ok(),
-            running,
-            "running: {event:?}"
+        expect_same(
+            &rt,
+            (event, check_history(&layout, &history).is_ok()),
+            (event, running),
         );
     }
     Ok(())
@@ -232,7 +233,7 @@ fn events_of_an_open_queue_that_runs(rt: HostRuntime) -> Result<(), Fail> {
             event,
         ];
         let found = check_history(&layout, &history);
-        assert_eq!(rt; found.is_ok(), is_allowed, "{event:?}");
+        expect_same(&rt, (event, found.is_ok()), (event, is_allowed));
     }
     Ok(())
 }
@@ -256,7 +257,7 @@ fn rests(rt: HostRuntime) -> Result<(), Fail> {
     ];
     for (history, is_legal) in rows {
         let found = check_history(&layout, history);
-        assert_eq!(rt; found.is_ok(), is_legal, "{history:?}");
+        expect_same(&rt, (history, found.is_ok()), (history, is_legal));
     }
     Ok(())
 }
@@ -278,12 +279,13 @@ fn long_history(rt: HostRuntime) -> Result<(), Fail> {
             history.push(event)?;
         }
     }
-    assert_eq!(rt; history.len(), 2000);
-    assert_eq!(rt; check_history(&layout, &history), Ok(()));
+    expect_same(&rt, history.len(), 2000);
+    expect_same(&rt, check_history(&layout, &history), Ok(()));
     history.push(End(3))?;
-    assert_eq!(rt;
+    expect_same(
+        &rt,
         check_history(&layout, &history).err(),
-        fault(2000, HistoryFault::NotAllowed)
+        fault(2000, HistoryFault::NotAllowed),
     );
     Ok(())
 }
@@ -302,7 +304,7 @@ fn laws(rt: HostRuntime) -> Result<(), Fail> {
             pending_and_closed();
             one_wakes();
         }
-        Err(error) => assert_eq!(rt; Some(error), None),
+        Err(error) => expect_same(&rt, Some(error), None),
     }
     Ok(())
 }

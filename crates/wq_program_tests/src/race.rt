@@ -2,6 +2,7 @@
 ghost use Rattle.wq_race.specs.Team.{IsNewTeam};
 
 use crossbeam_utils::sync::Parker;
+use expect_same::expect_same;
 use std::alloc::Global;
 use std::process::Abort;
 use std::sync::Wait;
@@ -36,7 +37,7 @@ fn worker_runs_all(rt: HostRuntime) {
     for turn in 0..10u32 {
         let team = team_of(&rt, rt.alloc(), PLAN);
         match run_team(&rt, rt.alloc(), PLAN, team) {
-            Ok(team) => assert_eq!(rt; team.worker.counts().executed, 33, "{turn}"),
+            Ok(team) => expect_same(&rt, (turn, team.worker.counts().executed), (turn, 33)),
             Err(error) => panic!(rt; "{error}"),
         }
     }
@@ -130,7 +131,7 @@ fn run_in_scope<R: Abort + AllocGlobal + Threads + Wait + Sync>(
 fn worker_runs_before_the_stop(rt: HostRuntime) {
     let (has_begun, executed) = run_in_scope(&rt, PLAN, LOOKS);
     assert!(rt; has_begun);
-    assert_eq!(rt; executed, 33);
+    expect_same(&rt, executed, 33);
 }
 
 /// The worker runs while the senders queue: in some of 20 turns it has begun their first item when all of them have ended. In
@@ -146,7 +147,7 @@ fn worker_runs_beside_the_senders(rt: HostRuntime) {
             own: 1024,
         };
         let (has_begun, executed) = run_in_scope(&rt, plan, 1);
-        assert_eq!(rt; executed, 4097);
+        expect_same(&rt, executed, 4097);
         if has_begun {
             begun = begun.wrapping_add(1);
         }

@@ -1,4 +1,5 @@
 //! The examples of a user's own threads and of a worker.
+use expect_same::expect_same;
 use std::test::Fail;
 use two_threads::{queue_and_destroy, run};
 use wq_words::Layout;
@@ -7,9 +8,9 @@ use wq_words::Layout;
 #[test]
 fn runs_all_four(rt: HostRuntime) -> Result<(), Fail> {
     let met = run(&rt, rt.alloc(), Layout::new(4, 1, 2)?)?;
-    assert_eq!(rt; met.owner.done().map(|done| done.ended), Some(4));
-    assert_eq!(rt; met.first.sender.counts().queued, 2);
-    assert_eq!(rt; met.second.sender.counts().queued, 2);
+    expect_same(&rt, met.owner.done().map(|done| done.ended), Some(4));
+    expect_same(&rt, met.first.sender.counts().queued, 2);
+    expect_same(&rt, met.second.sender.counts().queued, 2);
     Ok(())
 }
 

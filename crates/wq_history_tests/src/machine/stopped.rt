@@ -3,6 +3,7 @@ use super::{
     CHAINED_ITEMS, CLOSED_BETWEEN, LOST_EXCHANGE, O, QUEUED_AGAIN, RESTING_QUEUE, S0, S1,
     STALLED_SENDER, Turn,
 };
+use expect_same::expect_same;
 use std::alloc::{AllocError, Global};
 use std::process::Abort;
 use std::test::Fail;
@@ -90,7 +91,11 @@ fn check_row<R: Abort + AllocGlobal>(rt: &R, row: &[(Seat, Step)]) -> Result<(),
     for stopped in [S0, S1, O] {
         for place in 0..row.len() {
             let steps = steps_without(rt.alloc(), layout, row, stopped, place)?;
-            assert_eq!(rt; steps, row.len(), "{stopped:?} at {place} of {row:?}");
+            expect_same(
+                rt,
+                ((stopped, place, row), steps),
+                ((stopped, place, row), row.len()),
+            );
         }
     }
     Ok(())
@@ -143,7 +148,11 @@ fn others_go_on(rt: HostRuntime) -> Result<(), Fail> {
         ] {
             assert!(rt; core.step(seat, step).is_ok(), "{steps} {step:?}");
         }
-        assert_eq!(rt; core.begun()?.as_slice(), [1].as_slice(), "{steps}");
+        expect_same(
+            &rt,
+            (steps, core.begun()?.as_slice()),
+            (steps, [1].as_slice()),
+        );
     }
     Ok(())
 }

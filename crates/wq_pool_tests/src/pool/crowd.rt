@@ -5,6 +5,7 @@ ghost use Rattle.wq_ledger.specs.Book.{IsLedgerOf};
 ghost use Rattle.wq_pool_tests.specs.Crowd.{served_queues, sender_queues, worker_queues, book_queues};
 
 use crate::pool::team::{Guest, Logging, Open, new_queue, take_guests};
+use expect_same::expect_same;
 use std::alloc::Global;
 use std::process::Abort;
 use std::sync::{Mutex, Wait};
@@ -230,9 +231,9 @@ fn settle_last<R: Abort>(
     let mut first = firsts.pop().expect(rt, "a sender");
     let mut second = seconds.pop().expect(rt, "a second sender");
     let totals = balance_met(&mut book, &mut first, &mut second).expect(rt, "a balance");
-    assert_eq!(rt; work.order.len(), 64);
-    assert_eq!(rt; (totals.queued, totals.executed), (65, 65));
-    assert_eq!(rt; (totals.pending, totals.closed), (0, 0));
+    expect_same(rt, work.order.len(), 64);
+    expect_same(rt, (totals.queued, totals.executed), (65, 65));
+    expect_same(rt, (totals.pending, totals.closed), (0, 0));
 }
 
 /// A run of all queues with their senders and workers.
@@ -252,7 +253,7 @@ fn run_once<R: Abort + Threads + Wait + Sync>(rt: &R, alloc: Global) {
         seconds.as_mut_slice(),
     );
     let mut finished = finish(rt, pool);
-    assert_eq!(rt; finished.len(), QUEUES as usize);
+    expect_same(rt, finished.len(), QUEUES as usize);
     for _turn in 0..QUEUES {
         settle_last(rt, &mut finished, &mut firsts, &mut seconds);
     }

@@ -3,6 +3,7 @@ ghost use Rattle.std.specs.Prelude.{All};
 ghost use Rattle.wq_ready.specs.Known.{IsCallerOf};
 
 use crate::pool::team::{Counting, Guest, Logging, filled, queue_item, take_guests, work};
+use expect_same::expect_same;
 use std::alloc::Global;
 use std::process::Abort;
 use std::sync::atomic::AtomicU64;
@@ -126,7 +127,7 @@ fn handed_on_between_threads(rt: HostRuntime) {
     let (pool, callers) = Pool::new(rt.alloc(), queues, THREADS).expect(&rt, "a pool");
     serve_board(&rt, rt.alloc(), &pool, callers, &board);
     let finished = pool.finish(0).expect(&rt, "all finished");
-    assert_eq!(rt; finished.len(), 3);
+    expect_same(&rt, finished.len(), 3);
     assert!(rt; board.has_run_all());
-    assert_eq!(rt; board.gate.count(), board.queued.load(SeqCst));
+    expect_same(&rt, board.gate.count(), board.queued.load(SeqCst));
 }

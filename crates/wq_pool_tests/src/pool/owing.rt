@@ -2,6 +2,7 @@
 ghost use Rattle.std.specs.Prelude.{◌≡◌};
 
 use crate::pool::team::{Guest, Logging, Open, new_pool, new_queue, queue_item};
+use expect_same::expect_same;
 use std::alloc::Global;
 use std::process::Abort;
 use std::sync::Wait;
@@ -152,5 +153,5 @@ fn owing_is_given_back(rt: HostRuntime) {
     let guest = Guest::new(&pool, caller);
     assert!(rt; owes_at_last(&rt, guest, &mut first, &mut second));
     let finished = pool.finish(1000).expect(&rt, "all finished");
-    assert_eq!(rt; finished.len(), 1);
+    expect_same(&rt, finished.len(), 1);
 }

@@ -3,6 +3,7 @@ ghost use Rattle.std.specs.Prelude.{◌≡◌};
 ghost use Rattle.wq_ready.specs.Known.{IsCallerOf};
 
 use crate::pool::team::{Logging, Open, filled, new_pool, two_filled, work};
+use expect_same::expect_same;
 use std::alloc::Global;
 use std::process::Abort;
 use std::test::Fail;
@@ -35,15 +36,17 @@ fn finish_unfinished<R: Abort>(
 fn announced_until_full(rt: HostRuntime) -> Result<(), Fail> {
     let queues = two_filled(&rt, rt.alloc(), 0, 0);
     let (pool, mut caller) = new_pool(&rt, rt.alloc(), queues);
-    assert_eq!(rt; pool.announce(&rt, &mut caller, 0), Ok(()));
-    assert_eq!(rt; pool.announce(&rt, &mut caller, 0), Ok(()));
-    assert_eq!(rt;
+    expect_same(&rt, pool.announce(&rt, &mut caller, 0), Ok(()));
+    expect_same(&rt, pool.announce(&rt, &mut caller, 0), Ok(()));
+    expect_same(
+        &rt,
         pool.announce(&rt, &mut caller, 1),
-        Err(AnnounceError::Full)
+        Err(AnnounceError::Full),
     );
-    assert_eq!(rt;
+    expect_same(
+        &rt,
         pool.announce(&rt, &mut caller, 2),
-        Err(AnnounceError::NoQueue)
+        Err(AnnounceError::NoQueue),
     );
     Ok(())
 }
@@ -64,8 +67,8 @@ fn check_ended<R: Abort>(rt: &R, pool: Pool<Logging>, first: &[u32], second: &[u
     let [(zero, _), (one, _)] = finished.as_slice() else {
         panic!(rt; "not two queues")
     };
-    assert_eq!(rt; zero.order.as_slice(), first);
-    assert_eq!(rt; one.order.as_slice(), second);
+    expect_same(rt, zero.order.as_slice(), first);
+    expect_same(rt, one.order.as_slice(), second);
 }
 
 /// Two queues are in one hand, in the order in which they were announced. They are out until they are put back.
@@ -73,14 +76,14 @@ fn check_ended<R: Abort>(rt: &R, pool: Pool<Logging>, first: &[u32], second: &[u
 fn in_hand_is_out(rt: HostRuntime) {
     let queues = two_filled(&rt, rt.alloc(), 2, 1);
     let (pool, mut caller) = new_pool(&rt, rt.alloc(), queues);
-    assert_eq!(rt; pool.announce(&rt, &mut caller, 1), Ok(()));
-    assert_eq!(rt; pool.announce(&rt, &mut caller, 0), Ok(()));
+    expect_same(&rt, pool.announce(&rt, &mut caller, 1), Ok(()));
+    expect_same(&rt, pool.announce(&rt, &mut caller, 0), Ok(()));
     let one = pool.pick(&rt, &mut caller).expect(&rt, "a turn");
     let other = pool.pick(&rt, &mut caller).expect(&rt, "a second turn");
-    assert_eq!(rt; (one.queue(), other.queue()), (1, 0));
+    expect_same(&rt, (one.queue(), other.queue()), (1, 0));
     assert!(rt; pool.pick(&rt, &mut caller).is_none());
     let (pool, queue) = finish_out(&rt, pool, 9);
-    assert_eq!(rt; queue, 0);
+    expect_same(&rt, queue, 0);
     end_turn(&rt, &pool, &mut caller, one);
     end_turn(&rt, &pool, &mut caller, other);
     check_ended(&rt, pool, &[0, 1], &[0]);
@@ -92,10 +95,10 @@ fn finish_executes_to_its_limit(rt: HostRuntime) {
     let queues = two_filled(&rt, rt.alloc(), 2, 0);
     let (pool, _caller) = new_pool(&rt, rt.alloc(), queues);
     let (pool, queue, left) = finish_unfinished(&rt, pool, 1);
-    assert_eq!(rt; (queue, left), (0, 1));
+    expect_same(&rt, (queue, left), (0, 1));
     let finished = pool.finish(1).expect(&rt, "all finished");
-    assert_eq!(rt; finished.len(), 2);
-    assert_eq!(rt; finished[0].0.order.as_slice(), [0, 1].as_slice());
+    expect_same(&rt, finished.len(), 2);
+    expect_same(&rt, finished[0].0.order.as_slice(), [0, 1].as_slice());
 }
 
 /// The first queue with something left is named.
@@ -104,11 +107,11 @@ fn first_left_is_named(rt: HostRuntime) {
     let queues = two_filled(&rt, rt.alloc(), 2, 3);
     let (pool, _caller) = new_pool(&rt, rt.alloc(), queues);
     let (pool, queue, left) = finish_unfinished(&rt, pool, 1);
-    assert_eq!(rt; (queue, left), (0, 1));
+    expect_same(&rt, (queue, left), (0, 1));
     let (pool, queue, left) = finish_unfinished(&rt, pool, 1);
-    assert_eq!(rt; (queue, left), (1, 1));
+    expect_same(&rt, (queue, left), (1, 1));
     let finished = pool.finish(1).expect(&rt, "all finished");
-    assert_eq!(rt; finished.len(), 2);
+    expect_same(&rt, finished.len(), 2);
 }
 
 /// A queue that is out is named before one with something left, which was executed up to the limit.
@@ -119,11 +122,11 @@ fn out_before_left(rt: HostRuntime) {
     pool.announce(&rt, &mut caller, 1).expect(&rt, "room");
     let turn = pool.pick(&rt, &mut caller).expect(&rt, "a turn");
     let (pool, queue) = finish_out(&rt, pool, 1);
-    assert_eq!(rt; queue, 1);
+    expect_same(&rt, queue, 1);
     let worked = work(&rt, turn, 9, &Open);
     pool.put_back(&mut caller, worked);
     let finished = pool.finish(1).expect(&rt, "all finished");
-    assert_eq!(rt; finished.len(), 2);
+    expect_same(&rt, finished.len(), 2);
 }
 
 /// So many queues in which nothing is queued.
@@ -144,8 +147,8 @@ fn refused<R: Abort>(rt: &R, alloc: Global, count: u32) -> Option<PoolError> {
 /// A pool has 1 to 256 queues.
 #[test]
 fn queues_of_a_pool(rt: HostRuntime) {
-    assert_eq!(rt; refused(&rt, rt.alloc(), 0), Some(PoolError::NoQueue));
-    assert_eq!(rt; refused(&rt, rt.alloc(), 1), None);
-    assert_eq!(rt; refused(&rt, rt.alloc(), 256), None);
-    assert_eq!(rt; refused(&rt, rt.alloc(), 257), Some(PoolError::NoQueue));
+    expect_same(&rt, refused(&rt, rt.alloc(), 0), Some(PoolError::NoQueue));
+    expect_same(&rt, refused(&rt, rt.alloc(), 1), None);
+    expect_same(&rt, refused(&rt, rt.alloc(), 256), None);
+    expect_same(&rt, refused(&rt, rt.alloc(), 257), Some(PoolError::NoQueue));
 }

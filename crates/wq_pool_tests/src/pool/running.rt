@@ -2,6 +2,7 @@
 ghost use Rattle.wq_ready.specs.Known.{IsCallerOf};
 
 use crate::pool::team::{Logging, Open, new_pool, two_to_stop, work};
+use expect_same::expect_same;
 use std::process::Abort;
 use std::slice;
 use std::sync::Wait;
@@ -29,7 +30,7 @@ fn stop_item_counts_once(rt: HostRuntime) {
     pool.announce(&rt, &mut caller, 1).expect(&rt, "room");
     run_alone(&rt, &pool, &mut caller);
     let finished = pool.finish(0).expect(&rt, "all finished");
-    assert_eq!(rt; finished.len(), 2);
+    expect_same(&rt, finished.len(), 2);
 }
 
 /// A run goes on at a turn that was given back, until nothing is left of it.
@@ -41,7 +42,7 @@ fn long_turns_are_run(rt: HostRuntime) {
     pool.announce(&rt, &mut caller, 1).expect(&rt, "room");
     run_alone(&rt, &pool, &mut caller);
     let finished = pool.finish(0).expect(&rt, "all finished");
-    assert_eq!(rt; finished.len(), 2);
+    expect_same(&rt, finished.len(), 2);
 }
 
 /// With no worker nothing is run, and the call returns.
@@ -49,11 +50,11 @@ fn long_turns_are_run(rt: HostRuntime) {
 fn no_worker_runs_nothing(rt: HostRuntime) {
     let queues = two_to_stop(&rt, rt.alloc(), 1);
     let (pool, mut callers) = Pool::new(rt.alloc(), queues, 0).expect(&rt, "a pool");
-    assert_eq!(rt; callers.len(), 0);
+    expect_same(&rt, callers.len(), 0);
     pool.run(&rt, callers.as_mut_slice(), &Open)
         .expect(&rt, "threads");
     let Err(PoolFault::Unfinished { queue, left, .. }) = pool.finish(0) else {
         panic!(rt; "something was run")
     };
-    assert_eq!(rt; (queue, left), (0, 2));
+    expect_same(&rt, (queue, left), (0, 2));
 }

@@ -4,6 +4,7 @@ ghost use Rattle.wq_ready.specs.Known.{IsCallerOf};
 
 use crate::pool::rows::finish_out;
 use crate::pool::team::{Counting, Guest, Logging, Open, filled, take_last, two_filled, work};
+use expect_same::expect_same;
 use std::alloc::Global;
 use std::process::Abort;
 use std::sync::Wait;
@@ -66,10 +67,10 @@ fn others_end_while_a_turn_stops(rt: HostRuntime) {
     let (pool, mut callers) = Pool::new(rt.alloc(), queues, 3).expect(&rt, "a pool");
     let stopped = take_last(&rt, &pool, &mut callers);
     let turn = work_one(&rt, &pool, stopped);
-    assert_eq!(rt; serve_others(&rt, &pool, callers), 6);
+    expect_same(&rt, serve_others(&rt, &pool, callers), 6);
     let (pool, queue) = finish_out(&rt, pool, 0);
-    assert_eq!(rt; (queue, turn.queue()), (1, 1));
+    expect_same(&rt, (queue, turn.queue()), (1, 1));
     drop(turn);
     let (_pool, queue) = finish_out(&rt, pool, 0);
-    assert_eq!(rt; queue, 1);
+    expect_same(&rt, queue, 1);
 }

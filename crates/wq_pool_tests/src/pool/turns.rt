@@ -1,5 +1,6 @@
 //! Turns at a queue: their limit, the gate around each execution, and one that is dropped.
 use crate::pool::team::{Open, new_pool, two_filled};
+use expect_same::expect_same;
 use std::cell::Cell;
 use std::test::Fail;
 use wq_pool::{Gate, PoolFault};
@@ -42,15 +43,15 @@ fn given_back_at_its_limit(rt: HostRuntime) -> Result<(), Fail> {
     let Err(turn) = turn.work(0, &gate) else {
         return Err(Fail::new("nothing was left at first"));
     };
-    assert_eq!(rt; gate.digits.get(), 0);
+    expect_same(&rt, gate.digits.get(), 0);
     let Err(turn) = turn.work(2, &gate) else {
         return Err(Fail::new("nothing was left after two"));
     };
-    assert_eq!(rt; gate.digits.get(), 1234);
+    expect_same(&rt, gate.digits.get(), 1234);
     let Ok(worked) = turn.work(1, &gate) else {
         return Err(Fail::new("something was left after three"));
     };
-    assert_eq!(rt; (gate.digits.get(), worked.queue()), (123_456, 0));
+    expect_same(&rt, (gate.digits.get(), worked.queue()), (123_456, 0));
     pool.put_back(&mut caller, worked);
     Ok(())
 }
@@ -68,12 +69,12 @@ fn dropped_stays_out(rt: HostRuntime) -> Result<(), Fail> {
     let Ok(worked) = turn.work(9, &Open) else {
         return Err(Fail::new("something was left"));
     };
-    assert_eq!(rt; worked.queue(), 0);
+    expect_same(&rt, worked.queue(), 0);
     pool.put_back(&mut caller, worked);
     let Err(PoolFault::Out { pool, queue }) = pool.finish(9) else {
         return Err(Fail::new("no queue was out"));
     };
-    assert_eq!(rt; queue, 1);
+    expect_same(&rt, queue, 1);
     assert!(rt; pool.pick(&rt, &mut caller).is_none());
     Ok(())
 }

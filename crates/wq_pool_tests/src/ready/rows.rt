@@ -2,6 +2,7 @@
 ghost use Rattle.std.specs.Prelude.{All};
 ghost use Rattle.wq_ready.specs.Known.{IsCallerOf};
 
+use expect_same::expect_same;
 use std::alloc::Global;
 use std::process::Abort;
 use std::test::Fail;
@@ -41,15 +42,15 @@ fn new_pair<R: Abort>(rt: &R, alloc: Global) -> Pair
 #[test]
 fn first_in_first_out(rt: HostRuntime) -> Result<(), Fail> {
     let mut pair = new_pair(&rt, rt.alloc());
-    assert_eq!(rt; (pair.first.number(), pair.last.number()), (0, 1));
-    assert_eq!(rt; pair.ready.pick(&rt, &mut pair.first), None);
-    assert_eq!(rt; pair.ready.announce(&rt, &mut pair.first, 2), Ok(()));
-    assert_eq!(rt; pair.ready.announce(&rt, &mut pair.last, 0), Ok(()));
-    assert_eq!(rt; pair.ready.announce(&rt, &mut pair.first, 2), Ok(()));
-    assert_eq!(rt; pair.ready.pick(&rt, &mut pair.last), Some(2));
-    assert_eq!(rt; pair.ready.pick(&rt, &mut pair.first), Some(0));
-    assert_eq!(rt; pair.ready.pick(&rt, &mut pair.first), Some(2));
-    assert_eq!(rt; pair.ready.pick(&rt, &mut pair.last), None);
+    expect_same(&rt, (pair.first.number(), pair.last.number()), (0, 1));
+    expect_same(&rt, pair.ready.pick(&rt, &mut pair.first), None);
+    expect_same(&rt, pair.ready.announce(&rt, &mut pair.first, 2), Ok(()));
+    expect_same(&rt, pair.ready.announce(&rt, &mut pair.last, 0), Ok(()));
+    expect_same(&rt, pair.ready.announce(&rt, &mut pair.first, 2), Ok(()));
+    expect_same(&rt, pair.ready.pick(&rt, &mut pair.last), Some(2));
+    expect_same(&rt, pair.ready.pick(&rt, &mut pair.first), Some(0));
+    expect_same(&rt, pair.ready.pick(&rt, &mut pair.first), Some(2));
+    expect_same(&rt, pair.ready.pick(&rt, &mut pair.last), None);
     Ok(())
 }
 
@@ -57,26 +58,30 @@ fn first_in_first_out(rt: HostRuntime) -> Result<(), Fail> {
 #[test]
 fn full_at_its_size(rt: HostRuntime) -> Result<(), Fail> {
     let mut pair = new_pair(&rt, rt.alloc());
-    assert_eq!(rt;
+    expect_same(
+        &rt,
         pair.ready.announce(&rt, &mut pair.first, 3),
-        Err(AnnounceError::NoQueue)
+        Err(AnnounceError::NoQueue),
     );
-    assert_eq!(rt; pair.ready.announce(&rt, &mut pair.first, 1), Ok(()));
-    assert_eq!(rt; pair.ready.announce(&rt, &mut pair.first, 1), Ok(()));
-    assert_eq!(rt; pair.ready.announce(&rt, &mut pair.last, 0), Ok(()));
-    assert_eq!(rt;
+    expect_same(&rt, pair.ready.announce(&rt, &mut pair.first, 1), Ok(()));
+    expect_same(&rt, pair.ready.announce(&rt, &mut pair.first, 1), Ok(()));
+    expect_same(&rt, pair.ready.announce(&rt, &mut pair.last, 0), Ok(()));
+    expect_same(
+        &rt,
         pair.ready.announce(&rt, &mut pair.last, 2),
-        Err(AnnounceError::Full)
+        Err(AnnounceError::Full),
     );
-    assert_eq!(rt;
+    expect_same(
+        &rt,
         pair.ready.announce(&rt, &mut pair.last, u32::MAX),
-        Err(AnnounceError::NoQueue)
+        Err(AnnounceError::NoQueue),
     );
-    assert_eq!(rt; pair.ready.pick(&rt, &mut pair.first), Some(1));
-    assert_eq!(rt; pair.ready.announce(&rt, &mut pair.first, 2), Ok(()));
-    assert_eq!(rt;
+    expect_same(&rt, pair.ready.pick(&rt, &mut pair.first), Some(1));
+    expect_same(&rt, pair.ready.announce(&rt, &mut pair.first, 2), Ok(()));
+    expect_same(
+        &rt,
         pair.ready.announce(&rt, &mut pair.first, 0),
-        Err(AnnounceError::Full)
+        Err(AnnounceError::Full),
     );
     Ok(())
 }

@@ -2,6 +2,7 @@
 ghost use Rattle.std.specs.Prelude.{All};
 ghost use Rattle.wq_ready.specs.Known.{IsCallerOf};
 
+use expect_same::expect_same;
 use std::process::Abort;
 use std::sync::Wait;
 use std::test::Fail;
@@ -93,7 +94,7 @@ fn announced_is_picked_elsewhere(rt: HostRuntime) -> Result<(), Fail> {
         &mut || announce_all(&rt, &mut one),
         &mut || pick_all(&rt, &mut other),
     );
-    assert_eq!(rt; right, ANNOUNCEMENTS);
-    assert_eq!(rt; other.pick(&rt), None);
+    expect_same(&rt, right, ANNOUNCEMENTS);
+    expect_same(&rt, other.pick(&rt), None);
     Ok(())
 }

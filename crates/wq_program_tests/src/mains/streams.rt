@@ -1,6 +1,7 @@
 //! Streams that fail at one call alone, each in turn, under each of the mains.
 mod pieces;
 
+use expect_same::expect_same;
 use std::alloc::Global;
 use std::io::{Error, ErrorKind, Read, Result, Write};
 use std::process::Abort;
@@ -218,7 +219,7 @@ fn faults_fail(rt: HostRuntime) {
         calls: 0,
     };
     let status = script_main(alloc, b"wq 2\n".as_slice(), &mut output, &mut faults);
-    assert_eq!(rt; status, 1);
+    expect_same(&rt, status, 1);
     assert!(rt; output.is_empty());
     assert!(rt; faults.taken.is_empty());
 }

@@ -1,6 +1,7 @@
 //! Calls of a delay table with one try each, of which some are lost to the steps of another thread.
 use super::calls::{advance, arm, cancel, delayed, modify};
 use crate::seats::{churn, pause};
+use expect_same::expect_same;
 use std::test::Fail;
 use std::thread::join_mut;
 use wq_delay::{Armed, Delay, Modified};
@@ -51,6 +52,6 @@ fn each_call_of_a_table_is_contended(rt: HostRuntime) -> Result<(), Fail> {
         &mut || churn(&mut owner, &mut sender, LAST),
     );
     assert!(rt; ended);
-    assert_eq!(rt; contended, [true; 3]);
+    expect_same(&rt, contended, [true; 3]);
     Ok(())
 }

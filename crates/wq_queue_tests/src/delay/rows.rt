@@ -2,6 +2,7 @@
 use super::calls::{advance, arm, delayed};
 use crate::live::reading::{execute_one, take};
 use crate::seats::queue_once;
+use expect_same::expect_same;
 use std::test::Fail;
 use wq_delay::Armed;
 use wq_live::{Answer, Sender};
@@ -20,9 +21,9 @@ fn is_pending(sender: &mut Sender, item: u32) -> Option<bool> {
 fn dropped_table_keeps_its_items(rt: HostRuntime) -> Result<(), Fail> {
     let (_owner, mut sender, mut delay) = delayed(rt.alloc(), 4, 0).expect(&rt, "seats");
     delay.meet(&mut sender);
-    assert_eq!(rt; arm(&mut delay, 0, 1), Some(Armed::OnTable));
+    expect_same(&rt, arm(&mut delay, 0, 1), Some(Armed::OnTable));
     drop(delay);
-    assert_eq!(rt; queue_once(&mut sender, 0), Some(Answer::Pending));
+    expect_same(&rt, queue_once(&mut sender, 0), Some(Answer::Pending));
     Ok(())
 }
 
@@ -31,25 +32,27 @@ fn dropped_table_keeps_its_items(rt: HostRuntime) -> Result<(), Fail> {
 fn dissolved_table_gives_its_items_back(rt: HostRuntime) -> Result<(), Fail> {
     let (_owner, mut sender, mut delay) = delayed(rt.alloc(), 4, 0).expect(&rt, "seats");
     for item in 0..4 {
-        assert_eq!(rt; arm(&mut delay, item, 1), Some(Armed::OnTable));
+        expect_same(&rt, arm(&mut delay, item, 1), Some(Armed::OnTable));
     }
     let mut other = delay.dissolve();
     for item in 0..4 {
-        assert_eq!(rt; is_pending(&mut sender, item), Some(false));
+        expect_same(&rt, is_pending(&mut sender, item), Some(false));
     }
-    assert_eq!(rt;
+    expect_same(
+        &rt,
         queue_once(&mut other, 3),
         Some(Answer::Queued {
             first: true,
-            wakes: true
-        })
+            wakes: true,
+        }),
     );
-    assert_eq!(rt;
+    expect_same(
+        &rt,
         queue_once(&mut sender, 0),
         Some(Answer::Queued {
             first: false,
-            wakes: false
-        })
+            wakes: false,
+        }),
     );
     Ok(())
 }
@@ -60,14 +63,14 @@ fn all_items_go_out_in_one_advance(rt: HostRuntime) -> Result<(), Fail> {
     let (mut owner, _sender, mut delay) = delayed(rt.alloc(), 4096, 0).expect(&rt, "seats");
     for item in 0..4096 {
         let ticks = 8 - u64::from(item % 8);
-        assert_eq!(rt; arm(&mut delay, item, ticks), Some(Armed::OnTable));
+        expect_same(&rt, arm(&mut delay, item, ticks), Some(Armed::OnTable));
     }
-    assert_eq!(rt; delay.len(), 4096);
-    assert_eq!(rt; advance(&mut delay, 8), Some((4096, 0, 0)));
-    assert_eq!(rt; take(&mut owner), Some(4096));
+    expect_same(&rt, delay.len(), 4096);
+    expect_same(&rt, advance(&mut delay, 8), Some((4096, 0, 0)));
+    expect_same(&rt, take(&mut owner), Some(4096));
     for place in 0..4096 {
         let item = place % 512 * 8 + 7 - place / 512;
-        assert_eq!(rt; execute_one(&mut owner), Some(item));
+        expect_same(&rt, execute_one(&mut owner), Some(item));
     }
     Ok(())
 }

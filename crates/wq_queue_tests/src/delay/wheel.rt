@@ -3,9 +3,11 @@ use super::calls;
 use super::calls::{arm, cancel, delayed, modify};
 use crate::live::reading::execute_one;
 use crate::seats::queue_once;
-use std::alloc::{AllocError, Global};
+use expect_same::expect_same;
+use std::alloc::{AllocError, AllocGlobal, Global};
+use std::process::Abort;
 use std::test::Fail;
-use std::thread::join_mut;
+use std::thread::{Threads, join_mut};
 use wq_delay::{Advance, Armed, Delay, Modified};
 use wq_live::{Owner, Sender};
 
@@ -229,12 +231,12 @@ const JUMPED: [Jump; 5] = [
 fn looks_at_one_slot_a_tick(rt: HostRuntime) {
     let (_owner, _sender, mut delay) = delayed(rt.alloc(), 4, 0).expect(&rt, "seats");
     for (item, ticks) in [(0, 256), (1, 1), (2, 257), (3, 512)] {
-        assert_eq!(rt; arm(&mut delay, item, ticks), Some(Armed::OnTable));
+        expect_same(&rt, arm(&mut delay, item, ticks), Some(Armed::OnTable));
     }
-    assert_eq!(rt; delay.looked(), 0);
+    expect_same(&rt, delay.looked(), 0);
     for (now, said, looked) in JUMPED {
-        assert_eq!(rt; calls::advance(&mut delay, now), said);
-        assert_eq!(rt; delay.looked(), looked);
+        expect_same(&rt, calls::advance(&mut delay, now), said);
+        expect_same(&rt, delay.looked(), looked);
     }
 }
 
@@ -269,22 +271,34 @@ fn run_disturbed(
     Ok(Some(contended))
 }
 
+/// One run beside the other thread. How many ticks had posts that were contended.
+fn run_beside<R: Abort + AllocGlobal + Threads + Sync>(
+    rt: &R,
+    seed: u64,
+    seats: &mut (Owner, Sender, Delay),
+    plain: &mut Plain,
+) -> Result<u32, AllocError> {
+    let (owner, sender, delay) = seats;
+    let (_, ran) = join_mut(
+        rt,
+        &mut || disturb(owner, sender),
+        &mut || run_disturbed(rt.alloc(), seed, delay, plain),
+    );
+    Ok(ran?.expect(rt, "a run as the list"))
+}
+
 /// What a contended post left on the table goes out first, in its order, whatever was armed since. Where the machine is busy
 /// there may be few such posts.
 #[test]
 fn contended_items_go_first(rt: HostRuntime) -> Result<(), Fail> {
-    let (mut owner, mut sender, mut delay) = delayed(rt.alloc(), 16, 0).expect(&rt, "seats");
+    let mut seats = delayed(rt.alloc(), 16, 0).expect(&rt, "seats");
     let mut plain = Plain::new(rt.alloc(), 0);
     let mut contended = 0u32;
     for seed in 1..1001u64 {
-        let (_, ran) = join_mut(
-            &rt,
-            &mut || disturb(&mut owner, &mut sender),
-            &mut || run_disturbed(rt.alloc(), seed, &mut delay, &mut plain),
-        );
-        contended = contended.wrapping_add(ran?.expect(&rt, "a run as the list"));
+        let more = run_beside(&rt, seed, &mut seats, &mut plain)?;
+        contended = contended.wrapping_add(more);
         if contended > 20 {
-            return Ok(());
+            break;
         }
     }
     Ok(())

@@ -5,6 +5,7 @@ ghost use Rattle.std.specs.Prelude.{◌≡◌, IfSome};
 
 use super::reading::{begin, chain, close, end, execute_one, take};
 use crate::seats::queue_once;
+use expect_same::expect_same;
 use std::alloc::Global;
 use std::process::Abort;
 use std::sync::Wait;
@@ -79,21 +80,21 @@ fn queue_items<R: Abort + Wait>(rt: &R, first: &mut Sender, second: &mut Sender)
         first: true,
         wakes: true,
     };
-    assert_eq!(rt; hold_then(first, 0, true), Some(posted));
-    assert_eq!(rt; hold_then(second, 0, true), None);
-    assert_eq!(rt; queue_once(second, 1), Some(QUEUED));
-    assert_eq!(rt; hold_then(second, 2, false), Some(Posted::Contended));
-    assert_eq!(rt; queue(rt, first, 3), Some(QUEUED));
-    assert_eq!(rt; queue(rt, second, 3), Some(Answer::Pending));
+    expect_same(rt, hold_then(first, 0, true), Some(posted));
+    expect_same(rt, hold_then(second, 0, true), None);
+    expect_same(rt, queue_once(second, 1), Some(QUEUED));
+    expect_same(rt, hold_then(second, 2, false), Some(Posted::Contended));
+    expect_same(rt, queue(rt, first, 3), Some(QUEUED));
+    expect_same(rt, queue(rt, second, 3), Some(Answer::Pending));
 }
 
 /// What waits is executed in the order of its pushes.
 fn execute_four<R: Abort>(rt: &R, owner: &mut Owner) {
-    assert_eq!(rt; take(owner), Some(4));
+    expect_same(rt, take(owner), Some(4));
     for (waiting, number) in [(4, 0), (3, 1), (2, 3), (1, 5)] {
-        assert_eq!(rt; owner.waiting(), waiting);
-        assert_eq!(rt; owner.next(), Some(number));
-        assert_eq!(rt; execute_one(owner), Some(number));
+        expect_same(rt, owner.waiting(), waiting);
+        expect_same(rt, owner.next(), Some(number));
+        expect_same(rt, execute_one(owner), Some(number));
     }
 }
 
@@ -105,53 +106,53 @@ fn check_counts<R: Abort>(rt: &R, sender: &Sender, queued: u64, pending: u64, cl
         closed,
         contended: 0,
     };
-    assert_eq!(rt; sender.counts(), counts);
+    expect_same(rt, sender.counts(), counts);
 }
 
 #[test]
 fn senders_queue_each_item_once(rt: HostRuntime) {
     let (mut owner, mut first, mut second) = seats(rt.alloc()).expect(&rt, "seats");
-    assert_eq!(rt; (first.number(), second.number()), (0, 1));
+    expect_same(&rt, (first.number(), second.number()), (0, 1));
     queue_items(&rt, &mut first, &mut second);
-    assert_eq!(rt; flush_once(&mut first, 1), Some(QUEUED));
-    assert_eq!(rt; reads(&mut second, 0, 1), (Some(true), Some(false)));
-    assert_eq!(rt; reads(&mut first, 2, 0), (Some(false), Some(true)));
+    expect_same(&rt, flush_once(&mut first, 1), Some(QUEUED));
+    expect_same(&rt, reads(&mut second, 0, 1), (Some(true), Some(false)));
+    expect_same(&rt, reads(&mut first, 2, 0), (Some(false), Some(true)));
     execute_four(&rt, &mut owner);
-    assert_eq!(rt; reads(&mut second, 0, 1), (Some(false), Some(true)));
+    expect_same(&rt, reads(&mut second, 0, 1), (Some(false), Some(true)));
     check_counts(&rt, &first, 3, 0, 0);
     check_counts(&rt, &second, 1, 2, 0);
 }
 
 /// Chains an item twice within the execution of the stop item, 6.
 fn chain_within_the_stop<R: Abort>(rt: &R, owner: &mut Owner) {
-    assert_eq!(rt; begin(owner), Some(6));
-    assert_eq!(rt; owner.running(), Some(6));
-    assert_eq!(rt; chain(owner, 1), Some(QUEUED));
-    assert_eq!(rt; chain(owner, 1), Some(Answer::Pending));
-    assert_eq!(rt; end(owner), Some(6));
-    assert_eq!(rt; owner.done(), None);
+    expect_same(rt, begin(owner), Some(6));
+    expect_same(rt, owner.running(), Some(6));
+    expect_same(rt, chain(owner, 1), Some(QUEUED));
+    expect_same(rt, chain(owner, 1), Some(Answer::Pending));
+    expect_same(rt, end(owner), Some(6));
+    expect_same(rt, owner.done(), None);
 }
 
 /// What is chained is executed, and then all is done.
 fn execute_what_was_chained<R: Abort>(rt: &R, owner: &mut Owner) {
-    assert_eq!(rt; execute_one(owner), Some(1));
-    assert_eq!(rt; owner.done(), Some(Done { ended: 2 }));
+    expect_same(rt, execute_one(owner), Some(1));
+    expect_same(rt, owner.done(), Some(Done { ended: 2 }));
     let counts = OwnerCounts {
         chained: 1,
         chain_busy: 1,
         ended: 2,
     };
-    assert_eq!(rt; owner.counts(), counts);
+    expect_same(rt, owner.counts(), counts);
 }
 
 #[test]
 fn closed_queue_takes_chained_items_alone(rt: HostRuntime) {
     let (mut owner, mut first, mut second) = seats(rt.alloc()).expect(&rt, "seats");
-    assert_eq!(rt; second.request_stop(1), WAKES);
-    assert_eq!(rt; chain(&mut owner, 1), None);
-    assert_eq!(rt; close(&mut owner), Some(1));
+    expect_same(&rt, second.request_stop(1), WAKES);
+    expect_same(&rt, chain(&mut owner, 1), None);
+    expect_same(&rt, close(&mut owner), Some(1));
     assert!(rt; owner.is_closed());
-    assert_eq!(rt; queue_once(&mut first, 2), Some(Answer::Closed));
+    expect_same(&rt, queue_once(&mut first, 2), Some(Answer::Closed));
     chain_within_the_stop(&rt, &mut owner);
     execute_what_was_chained(&rt, &mut owner);
     check_counts(&rt, &first, 0, 0, 1);
@@ -160,10 +161,10 @@ fn closed_queue_takes_chained_items_alone(rt: HostRuntime) {
 #[test]
 fn owner_takes_what_was_queued_before_it_met(rt: HostRuntime) {
     let (mut owner, mut first, mut second) = seats(rt.alloc()).expect(&rt, "seats");
-    assert_eq!(rt; queue_once(&mut first, 2), Some(WAKES));
+    expect_same(&rt, queue_once(&mut first, 2), Some(WAKES));
     first.meet_owner(&mut owner);
     second.meet(&mut first);
     first.meet_both(&mut second, &mut owner);
-    assert_eq!(rt; take(&mut owner), Some(1));
-    assert_eq!(rt; owner.next(), Some(2));
+    expect_same(&rt, take(&mut owner), Some(1));
+    expect_same(&rt, owner.next(), Some(2));
 }

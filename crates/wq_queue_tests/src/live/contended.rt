@@ -1,5 +1,6 @@
 //! Calls with one try each, of which some are lost to the steps of another thread.
 use crate::seats::{churn, pause, queue_once, seats};
+use expect_same::expect_same;
 use std::test::Fail;
 use std::thread::join_mut;
 use wq_live::{Answer, Posted, Sender};
@@ -62,6 +63,6 @@ fn each_call_of_a_sender_is_contended(rt: HostRuntime) -> Result<(), Fail> {
         &mut || churn(&mut owner, &mut second, LAST),
     );
     assert!(rt; ended);
-    assert_eq!(rt; contended, [true; 4]);
+    expect_same(&rt, contended, [true; 4]);
     Ok(())
 }

@@ -3,6 +3,7 @@
 use super::reading::{begin, close, end, execute_one, take};
 use crate::latch::Latch;
 use crate::seats::{queue_once, seats};
+use expect_same::expect_same;
 use std::test::Fail;
 use std::thread::{Threads, join_mut, yield_now};
 use wq_live::{Answer, Done, Owner, Posted, Sender};
@@ -31,9 +32,9 @@ fn hold(sender: &mut Sender, item: u32) -> bool {
 #[test]
 fn owner_stops_with_a_batch(rt: HostRuntime) -> Result<(), Fail> {
     let (mut owner, mut first, mut second) = seats(rt.alloc(), 4, 1).expect(&rt, "seats");
-    assert_eq!(rt; queue_once(&mut first, 0), Some(WAKES));
-    assert_eq!(rt; queue_once(&mut first, 1), Some(NEXT));
-    assert_eq!(rt; take(&mut owner), Some(2));
+    expect_same(&rt, queue_once(&mut first, 0), Some(WAKES));
+    expect_same(&rt, queue_once(&mut first, 1), Some(NEXT));
+    expect_same(&rt, take(&mut owner), Some(2));
     drop(owner);
     for (item, answer) in [
         (0, Answer::Pending),
@@ -41,11 +42,15 @@ fn owner_stops_with_a_batch(rt: HostRuntime) -> Result<(), Fail> {
         (3, NEXT),
         (1, Answer::Pending),
     ] {
-        assert_eq!(rt; queue_once(&mut first, item), Some(answer), "{item}");
-        assert_eq!(rt;
-            queue_once(&mut second, item),
-            Some(Answer::Pending),
-            "{item}"
+        expect_same(
+            &rt,
+            (item, queue_once(&mut first, item)),
+            (item, Some(answer)),
+        );
+        expect_same(
+            &rt,
+            (item, queue_once(&mut second, item)),
+            (item, Some(Answer::Pending)),
         );
     }
     Ok(())
@@ -57,9 +62,9 @@ fn sender_stops_with_an_item(rt: HostRuntime) -> Result<(), Fail> {
     let (mut owner, mut first, mut second) = seats(rt.alloc(), 4, 1).expect(&rt, "seats");
     assert!(rt; hold(&mut first, 2));
     drop(first);
-    assert_eq!(rt; queue_once(&mut second, 2), Some(Answer::Pending));
-    assert_eq!(rt; close(&mut owner), Some(0));
-    assert_eq!(rt; owner.done(), Some(Done { ended: 0 }));
+    expect_same(&rt, queue_once(&mut second, 2), Some(Answer::Pending));
+    expect_same(&rt, close(&mut owner), Some(0));
+    expect_same(&rt, owner.done(), Some(Done { ended: 0 }));
     Ok(())
 }
 
@@ -113,19 +118,20 @@ fn thread_stops_with_its_sender(rt: HostRuntime) -> Result<(), Fail> {
                 &mut || stop(first.take(), items, holds),
                 &mut || queue_all(&mut second, 8, 72),
             );
-            assert_eq!(rt; queued, (items, 64));
+            expect_same(&rt, queued, (items, 64));
             let held = queue_once(&mut second, items);
-            assert_eq!(rt; held == Some(Answer::Pending), holds, "{items}");
+            expect_same(&rt, (items, held == Some(Answer::Pending)), (items, holds));
             let accepted = if holds { items + 64 } else { items + 65 };
-            assert_eq!(rt; close(&mut owner), Some(accepted));
+            expect_same(&rt, close(&mut owner), Some(accepted));
             for _ in 0..accepted {
                 assert!(rt; execute_one(&mut owner).is_some());
             }
-            assert_eq!(rt;
+            expect_same(
+                &rt,
                 owner.done(),
                 Some(Done {
-                    ended: u64::from(accepted)
-                })
+                    ended: u64::from(accepted),
+                }),
             );
         }
     }
@@ -249,8 +255,8 @@ fn others_end_while_a_sender_stops(rt: HostRuntime) -> Result<(), Fail> {
                 ended: u64::from(accepted),
             }),
         };
-        assert_eq!(rt; others, Some(want), "{place}");
-        assert_eq!(rt; said, Some(answers), "{place}");
+        expect_same(&rt, (place, others), (place, Some(want)));
+        expect_same(&rt, (place, said), (place, Some(answers)));
     }
     Ok(())
 }
@@ -291,17 +297,17 @@ fn queue_beside<R: Threads + Sync>(
 #[test]
 fn senders_end_while_the_owner_stops(rt: HostRuntime) -> Result<(), Fail> {
     let (mut owner, mut first, mut second) = seats(rt.alloc(), 72, 1).expect(&rt, "seats");
-    assert_eq!(rt; queue_once(&mut first, 0), Some(WAKES));
-    assert_eq!(rt; queue_once(&mut second, 1), Some(NEXT));
+    expect_same(&rt, queue_once(&mut first, 0), Some(WAKES));
+    expect_same(&rt, queue_once(&mut second, 1), Some(NEXT));
     let latch = Latch::new();
     let (answers, executed) = join_mut(
         &rt,
         &mut || queue_beside(&rt, &mut first, &mut second, &latch),
         &mut || execute_and_stop(&mut owner, &latch),
     );
-    assert_eq!(rt; answers, Some((FIRST, Answer::Pending, 32, 32)));
-    assert_eq!(rt; executed, Some(66));
-    assert_eq!(rt; close(&mut owner), Some(0));
-    assert_eq!(rt; owner.done(), Some(Done { ended: 67 }));
+    expect_same(&rt, answers, Some((FIRST, Answer::Pending, 32, 32)));
+    expect_same(&rt, executed, Some(66));
+    expect_same(&rt, close(&mut owner), Some(0));
+    expect_same(&rt, owner.done(), Some(Done { ended: 67 }));
     Ok(())
 }

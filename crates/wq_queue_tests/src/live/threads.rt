@@ -1,8 +1,11 @@
 //! Senders and the owner in threads of their own.
 use super::reading::{close, execute_one};
+use crate::seats::seats;
+use expect_same::expect_same;
+use std::process::Abort;
 use std::sync::Wait;
 use std::test::Fail;
-use std::thread::{join_mut, yield_now};
+use std::thread::{Threads, join_mut, yield_now};
 use wq_live::{Answer, Owner, Sender, build};
 use wq_words::Layout;
 
@@ -56,55 +59,64 @@ fn in_order(numbers: &[u32], from: u32, to: u32) -> bool {
     next == to
 }
 
-#[test]
-fn two_threads_queue_in_their_order(rt: HostRuntime) -> Result<(), Fail> {
-    let layout = Layout::new(128, 1, 2)?;
-    let (mut owner, mut senders) = build(rt.alloc(), layout)?;
-    let mut second = senders.pop().expect(&rt, "sender 1");
-    let mut first = senders.pop().expect(&rt, "sender 0");
-    let queued = join_mut(
-        &rt,
-        &mut || queue_all(&mut first, 0, 64),
-        &mut || queue_all(&mut second, 64, 128),
-    );
-    assert_eq!(rt; queued, (64, 64));
-    assert_eq!(rt; close(&mut owner), Some(128));
-    let mut executed = Vec::new(rt.alloc());
-    assert!(rt; execute_for(&mut owner, 129, &mut executed));
-    assert_eq!(rt; executed.len(), 128);
-    assert!(rt; in_order(executed.as_slice(), 0, 64), "sender 0");
-    assert!(rt; in_order(executed.as_slice(), 64, 128), "sender 1");
+/// Two threads queue a half of the items each. How many each of them queued.
+fn queue_halves<R: Threads + Sync>(
+    rt: &R,
+    first: &mut Sender,
+    second: &mut Sender,
+    half: u32,
+) -> (u32, u32) {
+    join_mut(
+        rt,
+        &mut || queue_all(first, 0, half),
+        &mut || queue_all(second, half, half.wrapping_mul(2)),
+    )
+}
+
+/// Both halves have run, each in its sender's order, and nothing is left.
+fn expect_halves<R: Abort>(rt: &R, owner: &Owner, executed: &[u32], half: u32) {
+    let all = half.wrapping_mul(2);
+    expect_same(rt, executed.len(), all as usize);
+    assert!(rt; in_order(executed, 0, half), "sender 0");
+    assert!(rt; in_order(executed, half, all), "sender 1");
     assert!(rt; owner.done().is_some());
-    Ok(())
 }
 
 #[test]
-fn owner_executes_while_two_threads_queue(rt: HostRuntime) -> Result<(), Fail> {
-    let layout = Layout::new(1024, 1, 2)?;
-    let (mut owner, mut senders) = build(rt.alloc(), layout)?;
-    let mut second = senders.pop().expect(&rt, "sender 1");
-    let mut first = senders.pop().expect(&rt, "sender 0");
+fn two_threads_queue_in_their_order(rt: HostRuntime) {
+    let (mut owner, mut first, mut second) = seats(rt.alloc(), 128, 1).expect(&rt, "seats");
+    let queued = queue_halves(&rt, &mut first, &mut second, 64);
+    expect_same(&rt, queued, (64, 64));
+    expect_same(&rt, close(&mut owner), Some(128));
     let mut executed = Vec::new(rt.alloc());
-    let (queued, running) = join_mut(
-        &rt,
-        &mut || {
-            join_mut(
-                &rt,
-                &mut || queue_all(&mut first, 0, 512),
-                &mut || queue_all(&mut second, 512, 1024),
-            )
-        },
-        &mut || execute_for(&mut owner, 5000, &mut executed),
-    );
-    assert_eq!(rt; queued, (512, 512));
-    assert!(rt; running);
+    assert!(rt; execute_for(&mut owner, 129, &mut executed));
+    expect_halves(&rt, &owner, executed.as_slice(), 64);
+}
+
+/// How many each thread queued, and whether the owner's room sufficed.
+fn execute_beside<R: Threads + Sync>(
+    rt: &R,
+    owner: &mut Owner,
+    first: &mut Sender,
+    second: &mut Sender,
+    executed: &mut Vec<u32>,
+) -> ((u32, u32), bool) {
+    join_mut(
+        rt,
+        &mut || queue_halves(rt, first, second, 512),
+        &mut || execute_for(owner, 5000, executed),
+    )
+}
+
+#[test]
+fn owner_executes_while_two_threads_queue(rt: HostRuntime) {
+    let (mut owner, mut first, mut second) = seats(rt.alloc(), 1024, 1).expect(&rt, "seats");
+    let mut executed = Vec::new(rt.alloc());
+    let said = execute_beside(&rt, &mut owner, &mut first, &mut second, &mut executed);
+    expect_same(&rt, said, ((512, 512), true));
     assert!(rt; close(&mut owner).is_some());
     assert!(rt; execute_for(&mut owner, 1025, &mut executed));
-    assert_eq!(rt; executed.len(), 1024);
-    assert!(rt; in_order(executed.as_slice(), 0, 512), "sender 0");
-    assert!(rt; in_order(executed.as_slice(), 512, 1024), "sender 1");
-    assert!(rt; owner.done().is_some());
-    Ok(())
+    expect_halves(&rt, &owner, executed.as_slice(), 512);
 }
 
 /// Queues three items again and again, each where it is no longer pending. Answers how many were queued.
@@ -138,7 +150,7 @@ fn items_are_queued_again_while_a_batch_waits(rt: HostRuntime) -> Result<(), Fai
     assert!(rt; running);
     assert!(rt; close(&mut owner).is_some());
     assert!(rt; execute_for(&mut owner, 4, &mut executed));
-    assert_eq!(rt; executed.len(), queued as usize);
+    expect_same(&rt, executed.len(), queued as usize);
     assert!(rt; owner.done().is_some());
     Ok(())
 }
@@ -176,13 +188,13 @@ fn flush_waits_for_all_that_was_queued(rt: HostRuntime) -> Result<(), Fail> {
     let layout = Layout::new(16, 1, 1)?;
     let (mut owner, mut senders) = build(rt.alloc(), layout)?;
     let mut sender = senders.pop().expect(&rt, "sender 0");
-    assert_eq!(rt; queue_all(&mut sender, 0, 16), 16);
+    expect_same(&rt, queue_all(&mut sender, 0, 16), 16);
     let (flushed, executed) = join_mut(
         &rt,
         &mut || flush(&rt, &mut sender),
         &mut || execute_until(&rt, &mut owner, 16),
     );
     assert!(rt; flushed);
-    assert_eq!(rt; executed, 17);
+    expect_same(&rt, executed, 17);
     Ok(())
 }

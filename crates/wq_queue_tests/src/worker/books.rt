@@ -2,6 +2,7 @@
 ghost use Rattle.wq_ledger.specs.Book.{IsLedgerOf};
 
 use crate::worker::team::{FIRST, Fixed, QUEUED, destroy, new_team, queue_item};
+use expect_same::expect_same;
 use std::test::Fail;
 use wq_worker::{Book, Ledger, Totals, Unbalanced};
 
@@ -27,11 +28,11 @@ fn balance_some(
 fn ledgers_balance(rt: HostRuntime) -> Result<(), Fail> {
     let mut team = new_team(&rt, rt.alloc(), Fixed::new());
     team.worker.adjust(|work: &mut Fixed| work.next = Some(2));
-    assert_eq!(rt; queue_item(&rt, &mut team.first, 0), FIRST);
-    assert_eq!(rt; queue_item(&rt, &mut team.second, 3), QUEUED);
+    expect_same(&rt, queue_item(&rt, &mut team.first, 0), FIRST);
+    expect_same(&rt, queue_item(&rt, &mut team.second, 3), QUEUED);
     team.worker.meet(&mut team.first);
     let (work, mut book) = destroy(&rt, team.worker, 9);
-    assert_eq!(rt; work.order.as_slice(), [0, 3, 2].as_slice());
+    expect_same(&rt, work.order.as_slice(), [0, 3, 2].as_slice());
     let first = book.meet(&mut team.first);
     let second = book.meet(&mut team.second);
     let totals = Totals {
@@ -43,9 +44,9 @@ fn ledgers_balance(rt: HostRuntime) -> Result<(), Fail> {
         contended: 0,
     };
     let (missing, missing_first, twice, once) = balance_some(&book, first, second);
-    assert_eq!(rt; missing, Err(Unbalanced::Missing(0)));
-    assert_eq!(rt; missing_first, Err(Unbalanced::Missing(0)));
-    assert_eq!(rt; twice, Err(Unbalanced::Twice(1)));
-    assert_eq!(rt; once, Ok(totals));
+    expect_same(&rt, missing, Err(Unbalanced::Missing(0)));
+    expect_same(&rt, missing_first, Err(Unbalanced::Missing(0)));
+    expect_same(&rt, twice, Err(Unbalanced::Twice(1)));
+    expect_same(&rt, once, Ok(totals));
     Ok(())
 }

@@ -1,5 +1,6 @@
 //! A worker, two queueings and a destroy, by the contracts alone: no proof file stands here.
 use crate::worker::team::{FIRST, Fixed, QUEUED};
+use expect_same::expect_same;
 use std::alloc::Global;
 use std::test::Fail;
 use wq_words::Layout;
@@ -28,6 +29,6 @@ fn run_two(alloc: Global) -> Option<usize> {
 
 #[test]
 fn built_worker_runs_what_was_queued(rt: HostRuntime) -> Result<(), Fail> {
-    assert_eq!(rt; run_two(rt.alloc()), Some(2));
+    expect_same(&rt, run_two(rt.alloc()), Some(2));
     Ok(())
 }

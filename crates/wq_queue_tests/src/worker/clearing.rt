@@ -3,6 +3,7 @@ ghost use Rattle.std.specs.Prelude.{◌≡◌, []};
 
 use crate::worker::team::{FIRST, destroy, new_queue, queue_item, take_last};
 use arrayvec::ArrayVec;
+use expect_same::expect_same;
 use std::test::Fail;
 use trail::Trail;
 use wq_live::Sender;
@@ -51,9 +52,9 @@ fn runs_after_the_bit_is_cleared(rt: HostRuntime) -> Result<(), Fail> {
     let second = take_last(&rt, &owner, &mut senders);
     let mut first = take_last(&rt, &owner, &mut senders);
     let mut worker = Worker::new(owner, last, Noting::new(second), 1);
-    assert_eq!(rt; queue_item(&rt, &mut first, 3), FIRST);
-    assert_eq!(rt; worker.run_one(), Ran::Item(3));
+    expect_same(&rt, queue_item(&rt, &mut first, 3), FIRST);
+    expect_same(&rt, worker.run_one(), Ran::Item(3));
     let (work, _book) = destroy(&rt, worker, 9);
-    assert_eq!(rt; work.found.as_slice(), [false].as_slice());
+    expect_same(&rt, work.found.as_slice(), [false].as_slice());
     Ok(())
 }

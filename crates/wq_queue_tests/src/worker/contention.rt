@@ -4,6 +4,7 @@ ghost use Rattle.wq_ledger.specs.Book.{IsLedgerOf};
 
 use crate::worker::team::{destroy, new_queue, queue_item, serve, take_last};
 use crossbeam_utils::sync::{Parker, Unparker};
+use expect_same::expect_same;
 use std::process::Abort;
 use std::sync::Wait;
 use std::test::Fail;
@@ -183,7 +184,11 @@ fn owing_goes_on(rt: HostRuntime) -> Result<(), Fail> {
     worker.adjust(|work: &mut Restless| work.below = 0);
     let (_work, mut book) = destroy(&rt, worker, 1000);
     let totals = balance_met(&mut book, &mut first, &mut second).expect(&rt, "a balance");
-    assert_eq!(rt; totals.queued.wrapping_add(totals.chained), totals.executed);
+    expect_same(
+        &rt,
+        totals.queued.wrapping_add(totals.chained),
+        totals.executed,
+    );
     assert!(rt; totals.contended > 0);
     Ok(())
 }

@@ -4,6 +4,7 @@ ghost use Rattle.wq_ledger.specs.Book.{IsLedgerOf};
 
 use crate::worker::team::{Fixed, destroy, new_queue, serve, stop, take_last};
 use crossbeam_utils::sync::{Parker, Unparker};
+use expect_same::expect_same;
 use std::alloc::Global;
 use std::process::Abort;
 use std::sync::Wait;
@@ -140,12 +141,13 @@ fn six_senders_balance(rt: HostRuntime) {
     let mut worker = Worker::new(owner, own, Fixed::new(), 1);
     serve_crew(&rt, rt.alloc(), &mut worker, &mut crew);
     let (work, mut book) = destroy(&rt, worker, 9);
-    assert_eq!(rt; work.order.len(), 256);
+    expect_same(&rt, work.order.len(), 256);
     let ledgers = enter_all(&rt, rt.alloc(), &mut book, &mut crew);
     let totals = book.balance(ledgers.as_slice()).expect(&rt, "a balance");
-    assert_eq!(rt;
+    expect_same(
+        &rt,
         (totals.queued, totals.chained, totals.executed),
-        (257, 0, 257)
+        (257, 0, 257),
     );
-    assert_eq!(rt; (totals.pending, totals.closed), (0, 0));
+    expect_same(&rt, (totals.pending, totals.closed), (0, 0));
 }

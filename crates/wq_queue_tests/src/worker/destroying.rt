@@ -1,18 +1,19 @@
 //! A destroy that does not come to the end at once.
 use crate::worker::team::{FIRST, Fixed, QUEUED, destroy, new_team, queue_item};
+use expect_same::expect_same;
 
 /// A destroy that comes to its limit gives the worker back, closed, and a second one ends.
 #[test]
 fn destroy_goes_on(rt: HostRuntime) {
     let mut team = new_team(&rt, rt.alloc(), Fixed::new());
-    assert_eq!(rt; queue_item(&rt, &mut team.first, 0), FIRST);
-    assert_eq!(rt; queue_item(&rt, &mut team.first, 1), QUEUED);
-    assert_eq!(rt; queue_item(&rt, &mut team.first, 2), QUEUED);
+    expect_same(&rt, queue_item(&rt, &mut team.first, 0), FIRST);
+    expect_same(&rt, queue_item(&rt, &mut team.first, 1), QUEUED);
+    expect_same(&rt, queue_item(&rt, &mut team.first, 2), QUEUED);
     let Err(unfinished) = team.worker.destroy(2) else {
         panic!(rt; "nothing was left")
     };
-    assert_eq!(rt; unfinished.left, 1);
+    expect_same(&rt, unfinished.left, 1);
     assert!(rt; unfinished.worker.is_closed());
     let (work, _book) = destroy(&rt, unfinished.worker, 1);
-    assert_eq!(rt; work.order.as_slice(), [0, 1, 2].as_slice());
+    expect_same(&rt, work.order.as_slice(), [0, 1, 2].as_slice());
 }

@@ -6,6 +6,7 @@ use crate::worker::team::{
     FIRST, Fixed, Team, destroy, new_queue, new_team, queue_item, serve, take_last,
 };
 use crossbeam_utils::sync::{Parker, Unparker};
+use expect_same::expect_same;
 use std::alloc::Global;
 use std::process::Abort;
 use std::sync::Wait;
@@ -132,7 +133,7 @@ fn run_once<R: Abort + Threads + Wait + Sync>(
 fn woken_once_a_rest(rt: HostRuntime) -> Result<(), Fail> {
     for _ in 0..200u32 {
         let (rests, wakes, items) = run_once(&rt, rt.alloc(), Wakes::OnRest)?;
-        assert_eq!(rt; items, 16);
+        expect_same(&rt, items, 16);
         assert!(rt; wakes <= rests.wrapping_add(1), "{wakes} for {rests}");
     }
     Ok(())
@@ -143,7 +144,7 @@ fn woken_once_a_rest(rt: HostRuntime) -> Result<(), Fail> {
 fn woken_once_a_take(rt: HostRuntime) -> Result<(), Fail> {
     for _ in 0..200u32 {
         let (_, _, items) = run_once(&rt, rt.alloc(), Wakes::OnFirst)?;
-        assert_eq!(rt; items, 16);
+        expect_same(&rt, items, 16);
     }
     Ok(())
 }
@@ -177,21 +178,21 @@ fn ready_and_rest(rt: HostRuntime) -> Result<(), Fail> {
         mut first,
         second: _,
     } = new_team(&rt, rt.alloc(), Fixed::new());
-    assert_eq!(rt; worker.ready(), None);
-    assert_eq!(rt; run_out(&rt, &mut worker), 0);
+    expect_same(&rt, worker.ready(), None);
+    expect_same(&rt, run_out(&rt, &mut worker), 0);
     assert!(rt; rest(&rt, &mut worker));
-    assert_eq!(rt; queue_item(&rt, &mut first, 2), FIRST);
-    assert_eq!(rt; worker.ready(), Some(2));
-    assert_eq!(rt; worker.ready(), Some(2));
-    assert_eq!(rt; run_out(&rt, &mut worker), 1);
+    expect_same(&rt, queue_item(&rt, &mut first, 2), FIRST);
+    expect_same(&rt, worker.ready(), Some(2));
+    expect_same(&rt, worker.ready(), Some(2));
+    expect_same(&rt, run_out(&rt, &mut worker), 1);
     let answer = queue_item(&rt, &mut first, 3);
     let unrested = Answer::Queued {
         first: true,
         wakes: false,
     };
-    assert_eq!(rt; answer, unrested);
+    expect_same(&rt, answer, unrested);
     assert!(rt; !rest(&rt, &mut worker));
-    assert_eq!(rt; run_out(&rt, &mut worker), 2);
+    expect_same(&rt, run_out(&rt, &mut worker), 2);
     assert!(rt; rest(&rt, &mut worker));
     Ok(())
 }

@@ -1,6 +1,7 @@
 //! A worker that serves in a thread, and parks where nothing waits.
 use crate::worker::team::{Fixed, is_pending, new_team, queue_item, serve, stop};
 use crossbeam_utils::sync::{Parker, Unparker};
+use expect_same::expect_same;
 use std::process::Abort;
 use std::test::Fail;
 use std::thread::{Threads, join_mut, sleep, yield_now};
@@ -29,7 +30,7 @@ fn served_worker_is_unparked(rt: HostRuntime) -> Result<(), Fail> {
         &mut || queue_late(&rt, &mut team.first, &unparker),
     );
     assert!(rt; matches!(answers, (Answer::Queued { .. }, Answer::Queued { .. })));
-    assert_eq!(rt; team.worker.counts().executed, 2);
+    expect_same(&rt, team.worker.counts().executed, 2);
     Ok(())
 }
 

@@ -3,6 +3,7 @@ ghost use Rattle.std.specs.Prelude.{◌≡◌, []};
 
 use crate::latch::Latch;
 use crate::worker::team::{FIRST, QUEUED, destroy, new_queue, queue_item, take_last};
+use expect_same::expect_same;
 use std::process::Abort;
 use std::test::Fail;
 use std::thread::join_mut;
@@ -51,14 +52,14 @@ fn queue_beside<R: Abort>(rt: &R, first: &mut Sender, second: &mut Sender, latch
         first: true,
         wakes: false,
     };
-    assert_eq!(rt; queue_item(rt, first, 0), behind);
-    assert_eq!(rt; queue_item(rt, second, 0), Answer::Pending);
-    assert_eq!(rt; queue_item(rt, second, 1), QUEUED);
+    expect_same(rt, queue_item(rt, first, 0), behind);
+    expect_same(rt, queue_item(rt, second, 0), Answer::Pending);
+    expect_same(rt, queue_item(rt, second, 1), QUEUED);
     assert!(rt; 0 < second.layout().barriers);
-    assert_eq!(rt; second.flush_begin(0, 1), QUEUED);
+    expect_same(rt, second.flush_begin(0, 1), QUEUED);
     assert!(rt; 0 < second.layout().barriers);
     assert!(rt; !second.flush_done(0));
-    assert_eq!(rt; first.request_stop(1), QUEUED);
+    expect_same(rt, first.request_stop(1), QUEUED);
     latch.open();
     has_stopped
 }
@@ -72,14 +73,14 @@ fn senders_end_while_a_run_stops(rt: HostRuntime) -> Result<(), Fail> {
     let mut second = take_last(&rt, &owner, &mut senders);
     let mut first = take_last(&rt, &owner, &mut senders);
     let mut worker = Worker::new(owner, last, Stopping::new(&latch), 1);
-    assert_eq!(rt; queue_item(&rt, &mut first, 0), FIRST);
+    expect_same(&rt, queue_item(&rt, &mut first, 0), FIRST);
     let (has_stopped, executed) = join_mut(
         &rt,
         &mut || queue_beside(&rt, &mut first, &mut second, &latch),
         &mut || worker.run_some(9),
     );
     assert!(rt; has_stopped);
-    assert_eq!(rt; executed, 5);
+    expect_same(&rt, executed, 5);
     let (work, _book) = destroy(&rt, worker, 0);
     assert!(rt; work.has_waited);
     Ok(())

@@ -1,5 +1,6 @@
 //! Streams that give and take one byte a call, that never end, and that take nothing, under each of the mains.
 use super::{Main, ROWS, Row, run};
+use expect_same::expect_same;
 use std::alloc::Global;
 use std::io::{Error, ErrorKind, Read, Result, Write};
 use std::process::Abort;
@@ -155,5 +156,5 @@ fn writer_takes_nothing(rt: HostRuntime) {
         assert!(rt; ended.is(1, b"output: Unwritable\n"));
     }
     let status = script_main(rt.alloc(), b"".as_slice(), &mut Full, &mut Full);
-    assert_eq!(rt; status, 1);
+    expect_same(&rt, status, 1);
 }
