@@ -93,20 +93,26 @@ impl Core {
     pub fn accepted(&self) -> Result<Vec<u32>, AllocError>
         ensures numbers { IfOk result (λ numbers. numbers.items ≡ accepted self.now.history) }
     {
-        self.history
-            .iter()
-            .filter_map(|event| event.accepted_number())
-            .collect(self.alloc)
+        let mut numbers = Vec::with_capacity(self.alloc, self.history.len())?;
+        for event in &self.history {
+            if let Some(number) = event.accepted_number() {
+                numbers.push(number)?;
+            }
+        }
+        Ok(numbers)
     }
 
     /// The numbers that have begun to execute, in order.
     pub fn begun(&self) -> Result<Vec<u32>, AllocError>
         ensures numbers { IfOk result (λ numbers. numbers.items ≡ begun self.now.history) }
     {
-        self.history
-            .iter()
-            .filter_map(|event| event.begun_number())
-            .collect(self.alloc)
+        let mut numbers = Vec::with_capacity(self.alloc, self.history.len())?;
+        for event in &self.history {
+            if let Some(number) = event.begun_number() {
+                numbers.push(number)?;
+            }
+        }
+        Ok(numbers)
     }
 
     /// One step of the machine, and its reply. After an error nothing has changed. Only a step that adds an event or walks to
