@@ -1,6 +1,6 @@
 mod stopped;
 
-use expect_same::expect_same;
+use crate::expect::expect_same;
 use std::process::Abort;
 use std::test::Fail;
 use wq_core::Reply::{

@@ -1,4 +1,4 @@
-use expect_same::expect_same;
+use crate::expect::expect_same;
 use std::test::Fail;
 use wq_words::Event::{Back, Begin, Busy, Chain, ChainBusy, Close, End, Hold, Push, Rest, Take};
 use wq_words::{

@@ -1,8 +1,8 @@
 //! That a race runs: what its threads do beside what the contracts say.
 ghost use Rattle.wq_race.specs.Team.{IsNewTeam};
 
+use crate::expect::expect_same;
 use crossbeam_utils::sync::Parker;
-use expect_same::expect_same;
 use std::alloc::Global;
 use std::process::Abort;
 use std::sync::Wait;

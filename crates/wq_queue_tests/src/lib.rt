@@ -5,6 +5,8 @@
 #[cfg(test)]
 mod delay;
 #[cfg(test)]
+mod expect;
+#[cfg(test)]
 mod latch;
 #[cfg(test)]
 mod live;

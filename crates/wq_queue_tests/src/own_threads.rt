@@ -1,5 +1,5 @@
 //! The examples of a user's own threads and of a worker.
-use expect_same::expect_same;
+use crate::expect::expect_same;
 use std::test::Fail;
 use two_threads::{queue_and_destroy, run};
 use wq_words::Layout;

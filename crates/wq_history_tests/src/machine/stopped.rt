@@ -3,7 +3,7 @@ use super::{
     CHAINED_ITEMS, CLOSED_BETWEEN, LOST_EXCHANGE, O, QUEUED_AGAIN, RESTING_QUEUE, S0, S1,
     STALLED_SENDER, Turn,
 };
-use expect_same::expect_same;
+use crate::expect::expect_same;
 use std::alloc::{AllocError, Global};
 use std::process::Abort;
 use std::test::Fail;

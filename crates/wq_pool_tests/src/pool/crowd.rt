@@ -4,8 +4,8 @@ ghost use Rattle.wq_ready.specs.Known.{IsCallerOf};
 ghost use Rattle.wq_ledger.specs.Book.{IsLedgerOf};
 ghost use Rattle.wq_pool_tests.specs.Crowd.{served_queues, sender_queues, worker_queues, book_queues};
 
+use crate::expect::expect_same;
 use crate::pool::team::{Guest, Logging, Open, new_queue, take_guests};
-use expect_same::expect_same;
 use std::alloc::Global;
 use std::process::Abort;
 use std::sync::{Mutex, Wait};

@@ -2,8 +2,8 @@
 ghost use Rattle.std.specs.Prelude.{All};
 ghost use Rattle.wq_ready.specs.Known.{IsCallerOf};
 
+use crate::expect::expect_same;
 use crate::pool::team::{Counting, Guest, Logging, filled, queue_item, take_guests, work};
-use expect_same::expect_same;
 use std::alloc::Global;
 use std::process::Abort;
 use std::sync::atomic::AtomicU64;

@@ -1,8 +1,8 @@
 //! A turn that owes an execution, since two senders push in between.
 ghost use Rattle.std.specs.Prelude.{◌≡◌};
 
+use crate::expect::expect_same;
 use crate::pool::team::{Guest, Logging, Open, new_pool, new_queue, queue_item};
-use expect_same::expect_same;
 use std::alloc::Global;
 use std::process::Abort;
 use std::sync::Wait;

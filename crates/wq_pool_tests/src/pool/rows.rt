@@ -2,8 +2,8 @@
 ghost use Rattle.std.specs.Prelude.{◌≡◌};
 ghost use Rattle.wq_ready.specs.Known.{IsCallerOf};
 
+use crate::expect::expect_same;
 use crate::pool::team::{Logging, Open, filled, new_pool, two_filled, work};
-use expect_same::expect_same;
 use std::alloc::Global;
 use std::process::Abort;
 use std::test::Fail;

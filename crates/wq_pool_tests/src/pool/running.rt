@@ -1,8 +1,8 @@
 //! When a run of a pool ends.
 ghost use Rattle.wq_ready.specs.Known.{IsCallerOf};
 
+use crate::expect::expect_same;
 use crate::pool::team::{Logging, Open, new_pool, two_to_stop, work};
-use expect_same::expect_same;
 use std::process::Abort;
 use std::slice;
 use std::sync::Wait;

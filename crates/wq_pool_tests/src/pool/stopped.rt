@@ -2,9 +2,9 @@
 ghost use Rattle.std.specs.Prelude.{All};
 ghost use Rattle.wq_ready.specs.Known.{IsCallerOf};
 
+use crate::expect::expect_same;
 use crate::pool::rows::finish_out;
 use crate::pool::team::{Counting, Guest, Logging, Open, filled, take_last, two_filled, work};
-use expect_same::expect_same;
 use std::alloc::Global;
 use std::process::Abort;
 use std::sync::Wait;

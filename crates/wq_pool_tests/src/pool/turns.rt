@@ -1,6 +1,6 @@
 //! Turns at a queue: their limit, the gate around each execution, and one that is dropped.
+use crate::expect::expect_same;
 use crate::pool::team::{Open, new_pool, two_filled};
-use expect_same::expect_same;
 use std::cell::Cell;
 use std::test::Fail;
 use wq_pool::{Gate, PoolFault};

@@ -2,7 +2,7 @@
 ghost use Rattle.std.specs.Prelude.{All};
 ghost use Rattle.wq_ready.specs.Known.{IsCallerOf};
 
-use expect_same::expect_same;
+use crate::expect::expect_same;
 use std::alloc::Global;
 use std::process::Abort;
 use std::test::Fail;

@@ -1,7 +1,7 @@
 //! Streams that fail at one call alone, each in turn, under each of the mains.
 mod pieces;
 
-use expect_same::expect_same;
+use crate::expect::expect_same;
 use std::alloc::Global;
 use std::io::{Error, ErrorKind, Read, Result, Write};
 use std::process::Abort;

@@ -1,7 +1,7 @@
 //! Calls of a delay table with one try each, of which some are lost to the steps of another thread.
 use super::calls::{advance, arm, cancel, delayed, modify};
+use crate::expect::expect_same;
 use crate::seats::{churn, pause};
-use expect_same::expect_same;
 use std::test::Fail;
 use std::thread::join_mut;
 use wq_delay::{Armed, Delay, Modified};

@@ -1,8 +1,8 @@
 //! Tables of ticks call by call: what no script can ask, or would ask in too many lines.
 use super::calls::{advance, arm, delayed};
+use crate::expect::expect_same;
 use crate::live::reading::{execute_one, take};
 use crate::seats::queue_once;
-use expect_same::expect_same;
 use std::test::Fail;
 use wq_delay::Armed;
 use wq_live::{Answer, Sender};

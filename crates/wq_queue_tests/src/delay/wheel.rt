@@ -1,9 +1,9 @@
 //! Random runs of a delay table against a plain sorted list.
 use super::calls;
 use super::calls::{arm, cancel, delayed, modify};
+use crate::expect::expect_same;
 use crate::live::reading::execute_one;
 use crate::seats::queue_once;
-use expect_same::expect_same;
 use std::alloc::{AllocError, AllocGlobal, Global};
 use std::process::Abort;
 use std::test::Fail;

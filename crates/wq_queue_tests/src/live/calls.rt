@@ -4,8 +4,8 @@ mod refused;
 ghost use Rattle.std.specs.Prelude.{◌≡◌, IfSome};
 
 use super::reading::{begin, chain, close, end, execute_one, take};
+use crate::expect::expect_same;
 use crate::seats::queue_once;
-use expect_same::expect_same;
 use std::alloc::Global;
 use std::process::Abort;
 use std::sync::Wait;

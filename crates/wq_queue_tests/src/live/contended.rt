@@ -1,6 +1,6 @@
 //! Calls with one try each, of which some are lost to the steps of another thread.
+use crate::expect::expect_same;
 use crate::seats::{churn, pause, queue_once, seats};
-use expect_same::expect_same;
 use std::test::Fail;
 use std::thread::join_mut;
 use wq_live::{Answer, Posted, Sender};

@@ -1,6 +1,6 @@
 //! What waits for the owner, whose links are turned in place.
 use super::reading::{begin, chain, close, end, execute_one, take};
-use expect_same::expect_same;
+use crate::expect::expect_same;
 use std::alloc::Global;
 use std::process::Abort;
 use wq_live::{Answer, Done, Owner, Sender, build};

@@ -1,9 +1,9 @@
 //! A seat that stops stands in the way of no other: an owner that took, a sender that holds, a thread that ends with its sender,
 //! and a thread that waits between two calls until all others have come to their ends.
 use super::reading::{begin, close, end, execute_one, take};
+use crate::expect::expect_same;
 use crate::latch::Latch;
 use crate::seats::{queue_once, seats};
-use expect_same::expect_same;
 use std::test::Fail;
 use std::thread::{Threads, join_mut, yield_now};
 use wq_live::{Answer, Done, Owner, Posted, Sender};

@@ -1,7 +1,7 @@
 //! Senders and the owner in threads of their own.
 use super::reading::{close, execute_one};
+use crate::expect::expect_same;
 use crate::seats::seats;
-use expect_same::expect_same;
 use std::process::Abort;
 use std::sync::Wait;
 use std::test::Fail;

@@ -1,8 +1,8 @@
 //! Books of ledgers, and why they do not balance.
 ghost use Rattle.wq_ledger.specs.Book.{IsLedgerOf};
 
+use crate::expect::expect_same;
 use crate::worker::team::{FIRST, Fixed, QUEUED, destroy, new_team, queue_item};
-use expect_same::expect_same;
 use std::test::Fail;
 use wq_worker::{Book, Ledger, Totals, Unbalanced};
 

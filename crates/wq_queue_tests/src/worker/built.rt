@@ -1,6 +1,6 @@
 //! A worker, two queueings and a destroy, by the contracts alone: no proof file stands here.
+use crate::expect::expect_same;
 use crate::worker::team::{FIRST, Fixed, QUEUED};
-use expect_same::expect_same;
 use std::alloc::Global;
 use std::test::Fail;
 use wq_words::Layout;

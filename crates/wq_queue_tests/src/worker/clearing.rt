@@ -1,9 +1,9 @@
 //! A work looks at its item's PENDING bit as it runs.
 ghost use Rattle.std.specs.Prelude.{◌≡◌, []};
 
+use crate::expect::expect_same;
 use crate::worker::team::{FIRST, destroy, new_queue, queue_item, take_last};
 use arrayvec::ArrayVec;
-use expect_same::expect_same;
 use std::test::Fail;
 use trail::Trail;
 use wq_live::Sender;

@@ -2,9 +2,9 @@
 ghost use Rattle.std.specs.Prelude.{◌≡◌, []};
 ghost use Rattle.wq_ledger.specs.Book.{IsLedgerOf};
 
+use crate::expect::expect_same;
 use crate::worker::team::{destroy, new_queue, queue_item, serve, take_last};
 use crossbeam_utils::sync::{Parker, Unparker};
-use expect_same::expect_same;
 use std::process::Abort;
 use std::sync::Wait;
 use std::test::Fail;

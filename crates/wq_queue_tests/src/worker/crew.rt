@@ -2,9 +2,9 @@
 ghost use Rattle.std.specs.Prelude.{◌≡◌, All};
 ghost use Rattle.wq_ledger.specs.Book.{IsLedgerOf};
 
+use crate::expect::expect_same;
 use crate::worker::team::{Fixed, destroy, new_queue, serve, stop, take_last};
 use crossbeam_utils::sync::{Parker, Unparker};
-use expect_same::expect_same;
 use std::alloc::Global;
 use std::process::Abort;
 use std::sync::Wait;

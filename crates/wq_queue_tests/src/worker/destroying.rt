@@ -1,6 +1,6 @@
 //! A destroy that does not come to the end at once.
+use crate::expect::expect_same;
 use crate::worker::team::{FIRST, Fixed, QUEUED, destroy, new_team, queue_item};
-use expect_same::expect_same;
 
 /// A destroy that comes to its limit gives the worker back, closed, and a second one ends.
 #[test]

@@ -1,12 +1,12 @@
 //! Workers that park where nothing waits, and senders that wake them only where their answer says so.
 ghost use Rattle.wq_worker.specs.Resting.{HasNoneLeft};
 
+use crate::expect::expect_same;
 use crate::worker::crew::{Crew, new_crew};
 use crate::worker::team::{
     FIRST, Fixed, Team, destroy, new_queue, new_team, queue_item, serve, take_last,
 };
 use crossbeam_utils::sync::{Parker, Unparker};
-use expect_same::expect_same;
 use std::alloc::Global;
 use std::process::Abort;
 use std::sync::Wait;

@@ -1,7 +1,7 @@
 //! A worker that serves in a thread, and parks where nothing waits.
+use crate::expect::expect_same;
 use crate::worker::team::{Fixed, is_pending, new_team, queue_item, serve, stop};
 use crossbeam_utils::sync::{Parker, Unparker};
-use expect_same::expect_same;
 use std::process::Abort;
 use std::test::Fail;
 use std::thread::{Threads, join_mut, sleep, yield_now};

@@ -1,9 +1,9 @@
 //! A worker that stops within a run: its senders come to their ends meanwhile, and it goes on with all that they queued.
 ghost use Rattle.std.specs.Prelude.{◌≡◌, []};
 
+use crate::expect::expect_same;
 use crate::latch::Latch;
 use crate::worker::team::{FIRST, QUEUED, destroy, new_queue, queue_item, take_last};
-use expect_same::expect_same;
 use std::process::Abort;
 use std::test::Fail;
 use std::thread::join_mut;

@@ -1,6 +1,6 @@
 //! Streams that give and take one byte a call, that never end, and that take nothing, under each of the mains.
 use super::{Main, ROWS, Row, run};
-use expect_same::expect_same;
+use crate::expect::expect_same;
 use std::alloc::Global;
 use std::io::{Error, ErrorKind, Read, Result, Write};
 use std::process::Abort;

@@ -1,8 +1,8 @@
 //! What each way of queueing answers of a number that is pending, and on a closed queue.
 use super::super::reading::{close, execute_one};
 use super::{QUEUED, WAKES, flush_once, hold_then, queue, seats};
+use crate::expect::expect_same;
 use crate::seats::queue_once;
-use expect_same::expect_same;
 use std::process::Abort;
 use std::sync::Wait;
 use wq_live::{Answer, Posted, Sender};
