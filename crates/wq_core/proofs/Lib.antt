@@ -8,7 +8,6 @@ pub mod SenderSteps
 pub mod OwnerSteps
 pub mod Turning
 pub mod Fitting
-pub mod Gathered
 pub mod Schedules
 pub mod Stored
 pub mod Taken

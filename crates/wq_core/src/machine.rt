@@ -94,11 +94,7 @@ impl Core {
         ensures numbers { IfOk result (λ numbers. numbers.items ≡ accepted self.now.history) }
     {
         let mut numbers = Vec::with_capacity(self.alloc, self.history.len())?;
-        for event in &self.history {
-            if let Some(number) = event.accepted_number() {
-                numbers.push(number)?;
-            }
-        }
+        numbers.extend(self.history.iter().filter_map(|event| event.accepted_number()))?;
         Ok(numbers)
     }
 
@@ -107,11 +103,7 @@ impl Core {
         ensures numbers { IfOk result (λ numbers. numbers.items ≡ begun self.now.history) }
     {
         let mut numbers = Vec::with_capacity(self.alloc, self.history.len())?;
-        for event in &self.history {
-            if let Some(number) = event.begun_number() {
-                numbers.push(number)?;
-            }
-        }
+        numbers.extend(self.history.iter().filter_map(|event| event.begun_number()))?;
         Ok(numbers)
     }
 

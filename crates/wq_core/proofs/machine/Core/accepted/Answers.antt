@@ -1,17 +1,12 @@
-use Rattle.std.proofs.Common.{◌≡◌, ◌∙◌, ◌++◌, ◌∷◌, [], sym, ap}
+use Rattle.std.proofs.Common.{rules, tests}
+use Rattle.std.proofs.lemmas.Iterator.{YieldsList-from_slice}
+use Rattle.std.proofs.lemmas.Iterator.Adapters.{items_from_extend}
+use Rattle.std.proofs.lemmas.Iterator.Consumers.{YieldsList-from_filter_map}
 use Rattle.wq_words.specs.History.{accepted_by}
-use Rattle.wq_core.proofs.Gathered.{gathered_some, gathered_none}
 use Rattle.wq_core.proofs.machine.Core.accepted.Goals as goal
-use Rattle.wq_core.proofs.machine.Core.accepted.Goals.{in-Some+in_ok-push, in_default}
 
-pub loop-event-preserved : goal.loop-event-preserved
-loop-event-preserved c =
-    let h = c.args.self.now.history in let items = c.deref-event-items in let i = c.loop-event.event-index in
-    let same : items.result.now ≡ h = items.ensures.value ∙ ap (λ m. m.history) c.self.view_is in
-    let gives = sym c.accepted_number.ensures.accepted in let below = c.loop-event-test.true in
-    elim c.match-accepted_number.branch [
-      | in-Some+in_ok-push w ↦ rw w.numbers-is
-          (w.in_ok-push.ensures.items ∙ ap (λ l. l ++ w.in-Some.number ∷ []) c.loop-event.invariant
-          ∙ sym (gathered_some accepted_by h items.result.now same i _ below w.in-Some.number (gives ∙ w.in-Some.is)))
-      | in_default w ↦ rw w.numbers-is (c.loop-event.invariant ∙ sym (gathered_none accepted_by h items.result.now same i _ below (gives ∙ w.in_default.is)))
-    ]
+pub returns : goal.returns
+returns c =
+    let items = items_from_extend c.extend.result c.extend.ensures.ran
+          (YieldsList-from_filter_map _ accepted_by (YieldsList-from_slice c.deref.result.now cc) c.filter_map.ensures.closure (λ x r q k. search (rules, tests))) in
+    search rules
