@@ -57,15 +57,62 @@ fn cancel_all(delay: &mut Delay) {
     }
 }
 
-// Lets all go, tick by tick, and answers how many went.
-fn let_go(delay: &mut Delay, tick: u64, ticks: u64) -> u64 {
-    let mut went = 0u64;
+// Lets all go, tick by tick.
+fn let_go(delay: &mut Delay, tick: u64, ticks: u64) {
     for after in 0..ticks {
-        if let Ok(advance) = delay.advance(tick.saturating_add(after).saturating_add(1), 1) {
-            went = went.saturating_add(u64::from(advance.pushed));
-        }
+        let _ = delay.advance(tick.saturating_add(after).saturating_add(1), 1);
     }
-    went
+}
+
+fn time_arming<R: Clock>(rt: &R, delay: &mut Delay, ticks: u64) -> io::Result<Duration> {
+    let start = Instant::now(rt)?;
+    arm_all(delay, ticks);
+    start.elapsed(rt)
+}
+
+fn time_moving<R: Clock>(rt: &R, delay: &mut Delay, ticks: u64) -> io::Result<Duration> {
+    let start = Instant::now(rt)?;
+    move_all(delay, ticks);
+    start.elapsed(rt)
+}
+
+fn time_cancelling<R: Clock>(rt: &R, delay: &mut Delay) -> io::Result<Duration> {
+    let start = Instant::now(rt)?;
+    cancel_all(delay);
+    start.elapsed(rt)
+}
+
+fn time_letting_go<R: Clock>(
+    rt: &R,
+    delay: &mut Delay,
+    tick: u64,
+    ticks: u64,
+) -> io::Result<Duration> {
+    let start = Instant::now(rt)?;
+    let_go(delay, tick, ticks);
+    start.elapsed(rt)
+}
+
+// How long arming, moving, cancelling and letting go took, over all items.
+fn time_round<R: Clock>(
+    rt: &R,
+    delay: &mut Delay,
+    tick: u64,
+    ticks: u64,
+) -> io::Result<[Duration; 4]> {
+    let armed = time_arming(rt, delay, ticks)?;
+    let moved = time_moving(rt, delay, ticks)?;
+    let cancelled = time_cancelling(rt, delay)?;
+    arm_all(delay, ticks);
+    let gone = time_letting_go(rt, delay, tick, ticks)?;
+    Ok([armed, moved, cancelled, gone])
+}
+
+fn add(times: &mut [Duration; 4], more: [Duration; 4]) {
+    times[0] = times[0].saturating_add(more[0]);
+    times[1] = times[1].saturating_add(more[1]);
+    times[2] = times[2].saturating_add(more[2]);
+    times[3] = times[3].saturating_add(more[3]);
 }
 
 /// How long arming, moving, cancelling and letting go took in so many rounds over so many items.
@@ -84,22 +131,9 @@ pub fn measure<R: Clock>(
     let ticks = u64::from((items / A_TICK).max(1));
     let mut times = [Duration::ZERO; 4];
     for round in 0..rounds {
-        let start = Instant::now(rt)?;
-        arm_all(&mut delay, ticks);
-        let armed = start.elapsed(rt)?;
-        move_all(&mut delay, ticks);
-        let moved = start.elapsed(rt)?;
-        cancel_all(&mut delay);
-        let cancelled = start.elapsed(rt)?;
-        arm_all(&mut delay, ticks);
-        let again = start.elapsed(rt)?;
-        let went = let_go(&mut delay, round.saturating_mul(ticks), ticks);
-        let gone = start.elapsed(rt)?;
-        let _ = execute_batch(&mut owner, went);
-        times[0] = times[0].saturating_add(armed);
-        times[1] = times[1].saturating_add(moved.saturating_sub(armed));
-        times[2] = times[2].saturating_add(cancelled.saturating_sub(moved));
-        times[3] = times[3].saturating_add(gone.saturating_sub(again));
+        let more = time_round(rt, &mut delay, round.saturating_mul(ticks), ticks)?;
+        add(&mut times, more);
+        execute_batch(&mut owner, u64::MAX);
     }
     Ok(Some(times))
 }

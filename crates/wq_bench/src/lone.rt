@@ -89,6 +89,39 @@ fn ring_and_stop<R: Clock>(
     times
 }
 
+/// Rings in a thread beside the worker that serves.
+fn ring_beside<R: Threads + Wait + Clock + Sync>(
+    rt: &R,
+    alloc: Global,
+    mut worker: Worker<Runs>,
+    mut sender: Sender,
+    shown: &AtomicU64,
+    rounds: Rounds,
+    pace: Pace,
+) -> Result<io::Result<Vec<u128>>, PlanError> {
+    let mut parker = Parker::new(alloc)?;
+    let unparker = parker.unparker().clone()?;
+    let (_, times) = join_mut(
+        rt,
+        &mut || serve(rt, &mut worker, &mut parker, pace),
+        &mut || ring_and_stop(rt, alloc, &mut sender, &unparker, shown, rounds),
+    );
+    Ok(times)
+}
+
+/// A worker of one item, and its sender.
+fn pair(
+    alloc: Global,
+    shown: &Arc<AtomicU64, Global>,
+) -> Result<(Worker<Runs>, Sender), PlanError> {
+    let work = Runs::new(1, Arc::try_clone(shown)?);
+    let (worker, mut senders) = Worker::build(alloc, Layout::new(1, 1, 2)?, work, 1)?;
+    match senders.pop() {
+        Some(sender) => Ok((worker, sender)),
+        None => Err(PlanError::Memory),
+    }
+}
+
 /// The times of all rounds, in nanoseconds, from the least on.
 pub fn measure<R: Threads + Wait + Clock + Sync>(
     rt: &R,
@@ -97,21 +130,10 @@ pub fn measure<R: Threads + Wait + Clock + Sync>(
     pace: Pace,
 ) -> Result<io::Result<Vec<u128>>, PlanError> {
     let shown = shown(alloc)?;
-    let work = Runs::new(1, Arc::try_clone(&shown)?);
-    let (mut worker, mut senders) = Worker::build(alloc, Layout::new(1, 1, 2)?, work, 1)?;
-    let Some(mut sender) = senders.pop() else {
-        return Err(PlanError::Memory);
-    };
-    let mut parker = Parker::new(alloc)?;
-    let unparker = parker.unparker().clone()?;
-    let (_, times) = join_mut(
-        rt,
-        &mut || serve(rt, &mut worker, &mut parker, pace),
-        &mut || ring_and_stop(rt, alloc, &mut sender, &unparker, &shown, rounds),
-    );
-    let mut times = match times {
+    let (worker, sender) = pair(alloc, &shown)?;
+    let mut times = match ring_beside(rt, alloc, worker, sender, &shown, rounds, pace)? {
         Ok(times) => times,
-        Err(error) => return Ok(Err(error))
+        Err(error) => return Ok(Err(error)),
     };
     times.sort_unstable();
     Ok(Ok(times))
