@@ -165,6 +165,21 @@ fn finish<R: Wait>(rt: &R, pool: Pool<Runs>) -> Result<Vec<(Runs, Book)>, RunErr
     unreachable!()
 }
 
+// The two that a list holds, in its order.
+fn both_of(finished: Vec<(Runs, Book)>) -> ((Runs, Book), (Runs, Book))
+    requires two { length finished.items ≡ 2 }
+    ensures both { finished.items ≡ result.0 ∷ result.1 ∷ [] }
+{
+    let mut finished = finished.into_iter();
+    let Some(one) = finished.next() else {
+        unreachable!()
+    };
+    let Some(two) = finished.next() else {
+        unreachable!()
+    };
+    (one, two)
+}
+
 // Both senders meet the book, so that all that they queued is in it.
 fn meet(book: &mut Book, first: &mut Sender, second: &mut Sender)
     requires { (first.old.queue ≡ book.old.queue) × (second.old.queue ≡ book.old.queue) }
@@ -221,13 +236,7 @@ pub fn run<R: Threads + Wait + Sync>(
     let two = line_of(&pool, &mut callers, 1, of_two);
     let caller = caller_of(&pool, &mut callers);
     let (told_one, told_two) = serve(rt, &pool, callers, caller, one, two)?;
-    let mut finished = finish(rt, pool)?.into_iter();
-    let Some(one) = finished.next() else {
-        unreachable!()
-    };
-    let Some(two) = finished.next() else {
-        unreachable!()
-    };
+    let (one, two) = both_of(finish(rt, pool)?);
     let one = end_of(one, told_one);
     let two = end_of(two, told_two);
     Ok((one, two))
