@@ -94,7 +94,11 @@ impl Core {
         ensures numbers { IfOk result (λ numbers. numbers.items ≡ accepted self.now.history) }
     {
         let mut numbers = Vec::with_capacity(self.alloc, self.history.len())?;
-        numbers.extend(self.history.iter().filter_map(|event| event.accepted_number()))?;
+        numbers.extend(
+            self.history
+                .iter()
+                .filter_map(|event| event.accepted_number()),
+        )?;
         Ok(numbers)
     }
 

@@ -8,5 +8,5 @@ use Rattle.wq_core.proofs.machine.Core.accepted.Goals as goal
 pub returns : goal.returns
 returns c =
     let items = items_from_extend c.extend.result c.extend.ensures.ran
-          (YieldsList-from_filter_map _ accepted_by (YieldsList-from_slice c.deref.result.now cc) c.filter_map.ensures.closure (λ x r q k. search (rules, tests))) in
+    (YieldsList-from_filter_map _ accepted_by (YieldsList-from_slice c.deref.result.now cc) c.filter_map.ensures.closure (λ x r q k. search (rules, tests))) in
     search rules
