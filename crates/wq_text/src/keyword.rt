@@ -69,7 +69,7 @@ pub(crate) fn command(
             let (sender, item) = sender_and_item(layout, words)?;
             Ok(Command::Queue { sender, item })
         }
-        Keyword::Run => Ok(Command::Run(limit(one_word(words)?)?)),
+        Keyword::Run => one_word(words).and_then(limit).map(Command::Run),
         Keyword::Close => {
             no_word(words)?;
             Ok(Command::Close)
@@ -90,18 +90,24 @@ pub(crate) fn command(
             let (sender, barrier) = sender_and_barrier(layout, words)?;
             Ok(Command::Done { sender, barrier })
         }
-        Keyword::Stop => Ok(Command::Stop(sender(layout, one_word(words)?)?)),
-        Keyword::Drain => Ok(Command::Drain(limit(one_word(words)?)?)),
-        Keyword::Check => Ok(Command::Check(item(layout, one_word(words)?)?)),
+        Keyword::Stop => one_word(words)
+            .and_then(|word| sender(layout, word))
+            .map(Command::Stop),
+        Keyword::Drain => one_word(words).and_then(limit).map(Command::Drain),
+        Keyword::Check => one_word(words)
+            .and_then(|word| item(layout, word))
+            .map(Command::Check),
         Keyword::Arm => {
             let (item, delay) = item_and_delay(layout, words)?;
             Ok(Command::Arm { item, delay })
         }
-        Keyword::Cancel => Ok(Command::Cancel(item(layout, one_word(words)?)?)),
+        Keyword::Cancel => one_word(words)
+            .and_then(|word| item(layout, word))
+            .map(Command::Cancel),
         Keyword::Modify => {
             let (item, delay) = item_and_delay(layout, words)?;
             Ok(Command::Modify { item, delay })
         }
-        Keyword::Advance => Ok(Command::Advance(number(one_word(words)?)?)),
+        Keyword::Advance => one_word(words).and_then(number).map(Command::Advance),
     }
 }

@@ -138,7 +138,8 @@ fn number_and_link(layout: Layout, words: &[&str]) -> Result<(u32, Option<u32>),
 
 // An owner's step with no further words.
 fn owners_turn(step: Step, words: &[&str]) -> Result<(Seat, Step), LineError>
-    ensures { LineGives result (of_none (Seat.Owner, step) (no_word (map (λ w. w.now) words.now))) }
+    ensures exact { LineGives result (of_none (Seat.Owner, step) (no_word (map (λ w. w.now) words.now))) }
+    ensures owners { IfOk result (λ turn. turn ≡ (Seat.Owner, step)) }
 {
     no_word(words)?;
     Ok((Seat::Owner, step))
@@ -186,7 +187,9 @@ pub(crate) fn turn(
         Action::Begin => owners_turn(Step::Begin, words),
         Action::End => owners_turn(Step::End, words),
         Action::Rest => owners_turn(Step::Rest, words),
-        Action::Chain => Ok((Seat::Owner, Step::Chain(item(layout, one_word(words)?)?))),
+        Action::Chain => one_word(words)
+            .and_then(|word| item(layout, word))
+            .map(|number| (Seat::Owner, Step::Chain(number))),
         Action::Turn => {
             let (number, next) = number_and_link(layout, words)?;
             Ok((Seat::Owner, Step::Turn(number, next)))
