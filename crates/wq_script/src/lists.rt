@@ -46,12 +46,8 @@ impl Lists {
         ensures lists { IfOk result (λ w. w.follows.items ≡ replicate items no_follow) }
         ensures unrun { IfOk result (λ w. w.ran.items ≡ []) }
     {
-        let mut follows = Vec::new(alloc);
-        for _ in 0..items {
-            follows.push(Follow::new())?;
-        }
         Ok(Lists {
-            follows,
+            follows: vec![in alloc; Follow::new(); items as usize]?,
             ran: Trail::new(),
         })
     }

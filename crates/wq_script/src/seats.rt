@@ -80,18 +80,18 @@ impl Seats {
         let Ok(wide) = Layout::new(layout.items, layout.barriers, layout.senders + 2) else {
             unreachable!()
         };
+        let lists = Lists::new(alloc, layout.items)?;
         let Ok((owner, mut senders)) = build(alloc, wide) else {
             return Err(AllocError);
         };
         let Some(delayer) = senders.pop() else {
             unreachable!()
         };
-        let Some(sender) = senders.pop() else {
-            unreachable!()
-        };
-        let lists = Lists::new(alloc, layout.items)?;
         let Ok(delay) = Delay::new(alloc, delayer, 0) else {
             return Err(AllocError);
+        };
+        let Some(sender) = senders.pop() else {
+            unreachable!()
         };
         let worker = Worker::new(owner, sender, lists, 1);
         Ok(Seats {

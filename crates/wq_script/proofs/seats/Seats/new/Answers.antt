@@ -1,7 +1,7 @@
 use Rattle.std.proofs.Common.{[], ◌∷◌, length, ap, arith, length-append}
 use Rattle.wq_live.specs.Known.{Known}
 use Rattle.wq_script.specs.Seats.{IsWider}
-use Rattle.wq_live.proofs.Seated.{length-new_senders, two_less}
+use Rattle.wq_live.proofs.Seated.{length-new_senders, one_less, two_less}
 use Rattle.wq_script.proofs.Made.{new_seated, new_free}
 use Rattle.wq_script.proofs.seats.Seats.new.Goals as goal
 
@@ -21,10 +21,9 @@ unreachable-requires-in_default-pop-2 c =
     ))
 
 pub new-requires-3 : goal.new-requires-3
-new-requires-3 c = λ k. let b = c.in-Ok-build.ensures.made in let w = c.in-Ok.ensures.ok in
-    let last = two_less _ c.in-Ok.wide c.args.layout.senders c.in-Ok.wide.senders c.in-Ok-build.senders.items c.pop.new.self.items
-    c.pop-2.new.self.items c.in-Some-pop.sender c.in-Some.delayer w.2 b.1 c.in-Some.ensures.items c.in-Some-pop.ensures.items in
-    new_free c.in-Some.delayer k (ap (λ (s : Known). s.seen) last.2)
+new-requires-3 c = λ k. let b = c.in-Ok-build.ensures.made in
+    let last = one_less _ c.in-Ok.wide c.in-Ok.wide.senders c.in-Ok-build.senders.items c.pop.new.self.items c.in-Some.delayer b.1 c.in-Some.ensures.items in
+    new_free c.in-Some.delayer k (ap (λ (s : Known). s.seen) last.1)
 
 pub new-worker-requires-clause-one : goal.new-worker-requires-clause-one
 new-worker-requires-clause-one c = let b = c.in-Ok-build.ensures.made in let w = c.in-Ok.ensures.ok in
