@@ -3,9 +3,39 @@ use Rattle.std.specs.Prelude.{slice_index}
 use Rattle.std.specs.Vec.{vec_capacity, vec_len}
 use Rattle.std.proofs.lemmas.List.{get_or_read}
 use Rattle.wq_delay.specs.Rows.{entry_of}
-use Rattle.wq_delay.proofs.Looking.{Looking, steps_left, looking_pass, looking_take, nearer, item_here, waits_there, looking_item}
+use Rattle.wq_delay.proofs.Looking.{Looking, steps_left, looking_pass, looking_take, nearer, item_here, waits_there, looking_item, looking_init, looking_end}
 use Rattle.wq_delay.proofs.Fitting.{pushed, row_has_room, length_map}
 use Rattle.wq_delay.proofs.timetable.look.Goals as goal
+
+pub index-item-requires : goal.index-item-requires
+index-item-requires c = omega (arith, c.requires.gathering.wheel.next_length, c.requires.head, c.args.rings.now.next.ok.0)
+
+pub loop-item-init : goal.loop-item-init
+loop-item-init c =
+    let places = c.args.places.now in let next = c.args.rings.now.next.items in let previous = c.args.rings.now.previous.items in
+    let row = map entry_of c.args.row.now.items in let head = c.args.head in
+    let step : c.index-item.result.now ≡ slice_index next head =
+    get_or_read next head c.index-item.result.now (omega (arith, c.requires.gathering.wheel.next_length, c.requires.head)) c.index-item.ensures 0 in (
+      subst (λ (z : ℕ). Looking places next previous row row head c.args.now z) (sym step)
+          (looking_init places next previous row row head c.args.now c.requires.head.0 c.requires.head.1 c.requires.gathering),
+      c.requires.room,
+    )
+
+pub index-after-requires : goal.index-after-requires
+index-after-requires c =
+    let l = c.loop-item.invariant.0 in omega (arith, l.low, l.gathering.wheel.next_length, c.loop-item.rings.next.ok.0)
+
+pub take_out-requires-clause-place : goal.take_out-requires-clause-place
+take_out-requires-clause-place c =
+    let l = c.loop-item.invariant.0 in let w = l.gathering.wheel in (omega (arith, l.low, w.next_length), omega (arith, l.low, w.previous_length))
+
+pub take_out-requires-clause-next : goal.take_out-requires-clause-next
+take_out-requires-clause-next c =
+    let l = c.loop-item.invariant.0 in let w = l.gathering.wheel in omega (arith, w.rings.next_low c.loop-item.item l.low, w.previous_length)
+
+pub take_out-requires-clause-previous : goal.take_out-requires-clause-previous
+take_out-requires-clause-previous c =
+    let l = c.loop-item.invariant.0 in let w = l.gathering.wheel in omega (arith, w.rings.previous_low c.loop-item.item l.low, w.next_length)
 
 pub loop-item-preserved-then-place-now : goal.loop-item-preserved-then-place-now
 loop-item-preserved-then-place-now c =
@@ -71,3 +101,18 @@ loop-item-smaller-else-place-now c =
     get_or_read next x c.index-after.result.now (omega (arith, l.low, l.gathering.wheel.next_length)) c.index-after.ensures 0 in
     subst (λ (z : ℕ). steps_left places c.args.head z < steps_left places c.args.head x) (sym step)
     (nearer places next previous start row c.args.head c.args.now c.requires.head.0 c.requires.head.1 x l ne)
+
+pub returns-clause-gathering : goal.returns-clause-gathering
+returns-clause-gathering c = c.loop-item.invariant.0.gathering
+
+pub returns-clause-room : goal.returns-clause-room
+returns-clause-room c = c.loop-item.invariant.1
+
+pub returns-clause-fewer : goal.returns-clause-fewer
+returns-clause-fewer c = c.loop-item.invariant.0.fewer
+
+pub returns-clause-clean : goal.returns-clause-clean
+returns-clause-clean c =
+    looking_end c.args.places.now c.loop-item.rings.next.items c.loop-item.rings.previous.items (map entry_of c.args.row.now.items)
+    (map entry_of c.loop-item.row.items) c.args.head c.args.now c.requires.head.0 c.requires.head.1 c.loop-item.item c.loop-item.invariant.0
+    c.loop-item-test.false

@@ -2,7 +2,7 @@ use Rattle.std.proofs.Common.{◌≡◌, refl, ◌∙◌, ◌-◌, map, arith}
 use Rattle.std.specs.Prelude.{min}
 use Rattle.std.proofs.lemmas.Bool.Decides.{nat_tests}
 use Rattle.wq_delay.specs.Rows.{entry_of}
-use Rattle.wq_delay.proofs.Slots.{looking_on_init, looking_on_end}
+use Rattle.wq_delay.proofs.Slots.{looking_on_init, looking_on_more, looking_on_end}
 use Rattle.wq_delay.proofs.timetable.look_on.Goals as goal
 
 pub loop-after-init : goal.loop-after-init
@@ -13,6 +13,28 @@ loop-after-init c = (
   refl,
 )
 
+pub look-requires-clause-gathering : goal.look-requires-clause-gathering
+look-requires-clause-gathering c = c.loop-after.invariant.0.gathering
+
+pub look-requires-clause-room : goal.look-requires-clause-room
+look-requires-clause-room c = c.loop-after.invariant.1
+
+pub loop-after-preserved : goal.loop-after-preserved
+loop-after-preserved c =
+    let l = c.loop-after in let next = l.rings.next.items in let previous = l.rings.previous.items in let row = map entry_of l.row.items in (
+      looking_on_more c.args.places.now next previous c.look.new.rings.next.items c.look.new.rings.previous.items (map entry_of c.args.row.now.items) row
+          (map entry_of c.look.new.row.items) c.args.tick c.args.now l.after _ l.invariant.0 (omega arith) c.look.ensures.gathering c.look.ensures.fewer
+          c.look.ensures.clean,
+      c.look.ensures.room,
+      omega (arith, l.invariant.2),
+    )
+
+pub returns-clause-gathering : goal.returns-clause-gathering
+returns-clause-gathering c = c.loop-after.invariant.0.gathering
+
+pub returns-clause-room : goal.returns-clause-room
+returns-clause-room c = c.loop-after.invariant.1
+
 pub returns-clause-done : goal.returns-clause-done
 returns-clause-done c =
     let is : c.min-ticks.result ≡ min (c.args.now - c.args.tick) 256 = c.min-ticks.ensures ∙ (grind (arith, nat_tests)) in
@@ -20,3 +42,8 @@ returns-clause-done c =
     looking_on_end c.args.places.now c.loop-after.rings.next.items c.loop-after.rings.previous.items (map entry_of c.args.row.now.items)
     (map entry_of c.loop-after.row.items) c.args.tick c.args.now c.loop-after.after l.0
     (omega (arith, c.loop-after-test.false, c.loop-after.auto.after-end)) c.requires.ahead
+
+pub returns-clause-looked : goal.returns-clause-looked
+returns-clause-looked c =
+    let is : c.min-ticks.result ≡ min (c.args.now - c.args.tick) 256 = c.min-ticks.ensures ∙ (grind (arith, nat_tests)) in
+    omega (arith, c.loop-after.invariant.2, c.loop-after-test.false, c.loop-after.auto.after-end)
