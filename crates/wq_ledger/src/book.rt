@@ -93,11 +93,12 @@ impl Book {
     }
 
     /// What its owner has seen is a legal history that has run to the end, so it keeps the headline: what was accepted was
-    /// executed in its order, once, and one at a time.
+    /// executed in its order, once, and one at a time. The worker's own sender has a ledger of this book.
     pub fn legal(&self)
         ensures legal { IsLegal self.now.layout self.now.seen }
         ensures complete { IsComplete self.now.seen }
         ensures headline { KeepsHeadline self.now.seen }
+        ensures own { IsLedgerOf self.now.seen self.now.own }
     {
         let _ = &self.owner;
     }

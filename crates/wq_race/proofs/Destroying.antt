@@ -47,5 +47,6 @@ ends_on a b work book x y = record {
   unasked = y.unasked ∙ x.unasked;
   legal = y.legal;
   complete = y.complete;
+  made = y.made;
   ran_is = y.ran_is;
 }

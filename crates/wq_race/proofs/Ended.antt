@@ -48,7 +48,7 @@ use Rattle.wq_words.proofs.Seen.{own-append, closed_count, ended_same}
 use Rattle.wq_live.specs.Known.{Known}
 use Rattle.wq_words.specs.Counting.{is_queued_by, is_chain, is_chain_busy}
 use Rattle.wq_live.specs.Counts.{sender_counts, owner_counts}
-use Rattle.wq_ledger.specs.Book.{LedgerState, BookState, IsLedgerOf}
+use Rattle.wq_ledger.specs.Book.{LedgerState, BookState}
 use Rattle.wq_ledger.specs.declared.balance.Unbalanced.{Unbalanced}
 use Rattle.wq_ledger.specs.Balance.{AreWhole, AreOwnerWhole, ledgers_of, HasOne, IsUnbalanced}
 use Rattle.wq_ledger.proofs.Pushes.{is_queued_below, below_more, below_all}
@@ -250,9 +250,9 @@ module _ (plan : Plan) (team : Team) (w : WorkerState Idle) (senders : List Know
       )
 
   -- whatever the book has met since, the ledgers balance
-  pub never_unbalanced : (final : BookState) (ledgers : List LedgerState) → IsLedgerOf book.seen book.own → HasHeard book final
+  pub never_unbalanced : (final : BookState) (ledgers : List LedgerState) → HasHeard book final
       → ledgers ≡ map ledger_of senders ++ ledger_of team.program ∷ [] → (fault : Unbalanced) → ¬ IsUnbalanced final ledgers fault
-  never_unbalanced final ledgers made heard all fault =
+  never_unbalanced final ledgers heard all fault =
       let n = plan.senders in
       let number : book.own.number ≡ n = o.ended.number_is ∙ (o.met.number_is ∙ o.run.number_is) in
       let few : final.layout.senders ≡ n + 2 = ap (λ (l : Layout). l.senders) (heard.layout_is ∙ size) ∙ o.run.layout.senders_is in
@@ -261,7 +261,7 @@ module _ (plan : Plan) (team : Team) (w : WorkerState Idle) (senders : List Know
         lt,
         senders_count,
       ))).number_is in omega (arith, at) in
-      let mine = none_made book.seen book.own made (subst (λ (c : ℕ). own c book.seen ≡ []) (sym number) is_race.unsent) in
+      let mine = none_made book.seen book.own o.ended.made (subst (λ (c : ℕ). own c book.seen ≡ []) (sym number) is_race.unsent) in
       let one : (s : ℕ) → s < n → HasOne ledgers s = λ s lt. (
         ledger_of (get_or senders s nobody),
         ap (ledgers_of s) all ∙ one_ledger n s senders team.program nobody numbered senders_count o.run.program_number lt,

@@ -25,7 +25,7 @@ use Rattle.wq_words.proofs.Appended.{count_by-append}
 use Rattle.wq_words.proofs.Running.{runs_from_running as runs_some}
 use Rattle.wq_worker.proofs.State.{quiet_taking}
 use Rattle.wq_race.specs.declared.idle.Idle.{Idle}
-use Rattle.wq_ledger.specs.Book.{BookState}
+use Rattle.wq_ledger.specs.Book.{BookState, IsLedgerOf}
 use Rattle.wq_worker.specs.Destroy.{Destroys, LeavesUnfinished}
 use Rattle.wq_race.specs.Race.{HasServed}
 use Rattle.wq_race.specs.Outcome.{HasGoneOn, HasEnded}
@@ -232,8 +232,8 @@ module _ (may : Idle → ℕ → List ℕ → Idle → Type 0) (asks_nothing : (
 
   pub destroys_on : (log : Idle → List ℕ) → ((w : Idle) → log w ≡ w.ran.items)
       → (limit : ℕ) (a : WorkerState Idle) (work : Idle) (book : BookState) → a.number ≢ owner_seat → ¬ IsRunning a.seen → IsLegal a.layout a.seen
-      → Destroys log may limit a work book → HasEnded a work book
-  destroys_on log log_is limit a work book not idle legal d =
+      → Destroys log may limit a work book → IsLedgerOf book.seen book.own → HasEnded a work book
+  destroys_on log log_is limit a work book not idle legal d made =
       let first = closes_plain a d.closed not idle d.closes in
       let rest = row_plain IsExecution d.steps d.closed d.last (subst (λ (s : ℕ). s ≢ owner_seat) (sym first.1.number_is) not) first.1.idle d.row in
       let all = plain_on first.0 0 a d.closed d.last first.1 rest in
@@ -248,5 +248,6 @@ module _ (may : Idle → ℕ → List ℕ → Idle → Type 0) (asks_nothing : (
         unasked = subst (λ (h : List Event). count_by is_chain_busy h ≡ count_by is_chain_busy a.seen) seen all.unasked;
         legal = d.legal;
         complete = subst (λ (h : List Event). IsComplete h) seen d.complete;
+        made = made;
         ran_is = sym (log_is work) ∙ d.ran_accepted;
       }

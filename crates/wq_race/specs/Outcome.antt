@@ -15,7 +15,7 @@ use Rattle.wq_race.specs.Race.{items_at, EndsWithStop}
 use Rattle.wq_live.specs.Known.{Known, IsSame}
 use Rattle.wq_words.specs.Counting.{is_chain, is_chain_busy}
 use Rattle.wq_live.specs.Counts.{sender_counts}
-use Rattle.wq_ledger.specs.Book.{LedgerState, BookState}
+use Rattle.wq_ledger.specs.Book.{LedgerState, BookState, IsLedgerOf}
 
 abbrev pub yes_or_no : Bool → List ℕ
 yes_or_no true = codes "yes"
@@ -83,7 +83,8 @@ pub record HasGoneOn (old new : WorkerState Idle) : Type 0 where
   pub idle : ¬ IsRunning new.seen
   pub legal : IsLegal new.layout new.seen
 
--- Such a worker, whose queue is destroyed: all that was accepted has ended, and the work ran the items among it.
+-- Such a worker, whose queue is destroyed: all that was accepted has ended, the work ran the items among it, and the book has
+-- the ledger of the worker's own sender.
 pub record HasEnded (old : WorkerState Idle) (work : Idle) (book : BookState) : Type 0 where
   pub queue_is : book.queue ≡ old.queue
   pub layout_is : book.layout ≡ old.layout
@@ -94,6 +95,7 @@ pub record HasEnded (old : WorkerState Idle) (work : Idle) (book : BookState) : 
   pub unasked : count_by is_chain_busy book.seen ≡ count_by is_chain_busy old.seen
   pub legal : IsLegal book.layout book.seen
   pub complete : IsComplete book.seen
+  pub made : IsLedgerOf book.seen book.own
   pub ran_is : work.ran.items ≡ items_among book.layout (accepted book.seen)
 
 -- the ledger of a sender that makes no event more

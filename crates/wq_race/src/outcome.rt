@@ -81,7 +81,10 @@ fn try_destroy(worker: Worker<Idle>) -> Result<(Idle, Book), Worker<Idle>>
     ensures { MatchResult result (λ done. HasEnded worker done.0 done.1) (λ back. HasGoneOn worker back) }
 {
     match worker.destroy(u32::MAX) {
-        Ok(done) => Ok(done),
+        Ok((work, book)) => {
+            book.legal();
+            Ok((work, book))
+        }
         Err(unfinished) => Err(unfinished.worker),
     }
 }
@@ -148,6 +151,7 @@ impl Outcome {
         requires run { (plan : Plan) × HasRun plan team }
         ensures told { (plan : Plan) → HasRun plan team → IfOk result (λ outcome. IsWhole plan outcome × Tells plan team.worker outcome) }
     {
+        let mut ledgers = Vec::with_capacity(alloc, team.senders.len() + 1)?;
         let Team {
             mut worker,
             mut senders,
@@ -156,7 +160,6 @@ impl Outcome {
         meet_senders(&mut worker, &mut senders);
         let accepted = queued_by(&senders);
         let (work, mut book) = destroy(rt, worker);
-        let mut ledgers = Vec::with_capacity(alloc, senders.len())?;
         enter_all(&mut book, &mut ledgers, senders)?;
         enter(&mut book, &mut ledgers, &mut program)?;
         Ok(Outcome {

@@ -3,8 +3,8 @@ use Rattle.wq_race.proofs.Serving.{leaves_on, destroys_on}
 use Rattle.wq_race.proofs.outcome.try_destroy.Goals as goal
 
 pub returns-in-Ok : goal.returns-in-Ok
-returns-in-Ok c = destroys_on _ (λ w k f v none. none) _ (λ w. refl) 4294967295 c.args.worker c.in-Ok.done.0 c.in-Ok.done.1
-    c.requires.seat c.requires.idle c.requires.legal c.in-Ok.ensures.outcome
+returns-in-Ok c = destroys_on _ (λ w k f v none. none) _ (λ w. refl) 4294967295 c.args.worker c.in-Ok.work c.in-Ok.book
+    c.requires.seat c.requires.idle c.requires.legal c.in-Ok.ensures.outcome c.legal.ensures.own
 
 pub returns-in-Err : goal.returns-in-Err
 returns-in-Err c = leaves_on _ (λ w k f v none. none) _ 4294967295 c.args.worker c.in-Err.unfinished.worker _ c.requires.seat

@@ -2,7 +2,7 @@ use Rattle.std.proofs.Common.{subst}
 use Rattle.wq_words.specs.Legal.{IsLegal, IsComplete}
 use Rattle.wq_words.specs.Headline.{KeepsHeadline}
 use Rattle.wq_words.proofs.Headlines.{keeps_headline}
-use Rattle.wq_ledger.specs.Book.{BookState}
+use Rattle.wq_ledger.specs.Book.{BookState, IsLedgerOf}
 use Rattle.wq_ledger.proofs.book.Book.legal.Goals as goal
 
 pub returns-clause-legal : goal.returns-clause-legal
@@ -14,3 +14,6 @@ returns-clause-complete c = subst (λ (z : BookState). IsComplete z.seen) c.self
 pub returns-clause-headline : goal.returns-clause-headline
 returns-clause-headline c =
     let o = c.self.inside.owner in subst (λ (z : BookState). KeepsHeadline z.seen) c.self.view_is (keeps_headline o.layout o.seen c.self.invariant.legal)
+
+pub returns-clause-own : goal.returns-clause-own
+returns-clause-own c = subst (λ (z : BookState). IsLedgerOf z.seen z.own) c.self.view_is c.self.invariant.made

@@ -2,7 +2,7 @@ use Rattle.std.proofs.Common.{◌≡◌, ℕ, ◌*◌, List, [], ◌∷◌, ◌+
 use Rattle.wq_words.specs.Seen.{own}
 use Rattle.wq_words.proofs.Seen.{running_same}
 use Rattle.wq_live.specs.Known.{Known}
-use Rattle.wq_ledger.specs.Book.{LedgerState, BookState, IsLedgerOf}
+use Rattle.wq_ledger.specs.Book.{LedgerState, IsLedgerOf}
 use Rattle.std.specs.Prelude.{All}
 use Rattle.wq_live.specs.Counts.{sender_counts}
 use Rattle.wq_race.specs.Outcome.{IsWhole, ledger_of}
@@ -41,9 +41,8 @@ returns g c = record {
       (sym c.deref.ensures.value) (all_counted plan c.args.team w xs work book over) in
       let long : length c.deref.result.now ≡ plan.senders = ap length c.deref.ensures.value ∙ count in
       let product : length c.deref.result.now * plan.own ≡ plan.senders * plan.own = ap (λ (n : ℕ). n * plan.own) long in
-      let made : IsLedgerOf book.seen book.own = subst (λ (b : BookState). IsLedgerOf b.seen b.own) c.book.view_is c.book.invariant.made in
       let ledgers = c.in_ok-enter.ensures.ledger ∙ ap (λ (ls : List LedgerState). ls ++ ledger_of c.args.team.program ∷ []) c.in_ok-enter_all.ensures.ledgers in
-      let never = never_unbalanced plan c.args.team w xs work book over c.enter.new.book c.deref-2.result.now made
+      let never = never_unbalanced plan c.args.team w xs work book over c.enter.new.book c.deref-2.result.now
       (heard_on book c.enter_all.new.book c.enter.new.book first last) (c.deref-2.ensures.value ∙ ledgers) in
       let whole : IsWhole plan _ = record {
         accepted_is = c.queued_by-accepted.ensures
