@@ -1,0 +1,36 @@
+//! Tests of the other crates by their public calls alone: what their contracts promise nobody. Each module is named after what
+//! it tests. The worked rows of scripts, schedules and plans stand in `checks/rows`, which the gate runs with the built program.
+#![tactic(auto)]
+
+#[cfg(test)]
+mod balance;
+#[cfg(test)]
+mod delay;
+#[cfg(test)]
+mod expect;
+#[cfg(test)]
+mod latch;
+#[cfg(test)]
+mod live;
+#[cfg(test)]
+mod machine;
+#[cfg(test)]
+mod mains;
+#[cfg(test)]
+mod own_pool;
+#[cfg(test)]
+mod own_threads;
+#[cfg(test)]
+mod pool;
+#[cfg(test)]
+mod race;
+#[cfg(test)]
+mod ready;
+#[cfg(test)]
+mod seats;
+#[cfg(test)]
+mod spoiled;
+#[cfg(test)]
+mod words;
+#[cfg(test)]
+mod worker;

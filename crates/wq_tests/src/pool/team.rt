@@ -1,0 +1,233 @@
+//! Queues for a pool, and the callers of it.
+ghost use Rattle.std.specs.Prelude.{◌≡◌, [], All, map};
+ghost use Rattle.wq_ready.specs.Known.{IsCallerOf};
+ghost use Rattle.wq_served.specs.WorkerId.{worker_id};
+
+use crate::seats::queue_item;
+use arrayvec::ArrayVec;
+use std::alloc::Global;
+use std::process::Abort;
+use std::sync::atomic::AtomicU64;
+use std::sync::atomic::Ordering::SeqCst;
+use std::sync::{Mutex, Wait};
+use trail::Trail;
+use wq_live::{Answer, Sender};
+use wq_pool::{Caller, Gate, Pool, Served, Turn, Worked};
+use wq_words::Layout;
+use wq_worker::{Follow, Work, Worker};
+
+/// A work that keeps what it ran. Where an item from a number on ran it asks for one below 100.
+#[derive(Drop)]
+pub(crate) struct Logging {
+    pub(crate) ran: Trail,
+    pub(crate) order: ArrayVec<u32, 64>,
+    asks_from: u32,
+}
+
+impl Logging {
+    /// It asks for nothing.
+    pub(crate) fn new() -> Logging
+        ensures { result.ran.items ≡ [] }
+    {
+        Logging::asking(u32::MAX)
+    }
+
+    pub(crate) fn asking(asks_from: u32) -> Logging
+        ensures { result.ran.items ≡ [] }
+    {
+        Logging {
+            ran: Trail::new(),
+            order: ArrayVec::new(),
+            asks_from,
+        }
+    }
+}
+
+impl Work for Logging {
+    ghost log = { λ w. w.ran.items };
+
+    ghost may = { λ w k f v. Unit {0} };
+
+    fn run(&mut self, item: u32) -> Follow {
+        self.ran = self.ran.and(item);
+        let _ = self.order.try_push(item);
+        let mut follow = Follow::new();
+        if item >= self.asks_from {
+            let _ = follow.try_push(item % 100);
+        }
+        follow
+    }
+}
+
+/// A gate that looks at nothing.
+pub(crate) struct Open;
+
+impl Gate for Open {
+    fn before(&self, queue: u32, item: u32) {
+        let _ = (queue, item);
+    }
+
+    fn after(&self, queue: u32, item: u32) {
+        let _ = (queue, item);
+    }
+}
+
+/// A gate that counts what was run.
+#[derive(Drop)]
+pub(crate) struct Counting {
+    ran: AtomicU64,
+}
+
+impl Counting {
+    pub(crate) fn new() -> Counting {
+        Counting {
+            ran: AtomicU64::new(0),
+        }
+    }
+
+    pub(crate) fn count(&self) -> u64 {
+        self.ran.load(SeqCst)
+    }
+}
+
+impl Gate for Counting {
+    fn before(&self, queue: u32, item: u32) {
+        let _ = (queue, item);
+    }
+
+    fn after(&self, queue: u32, item: u32) {
+        let _ = (queue, item);
+        self.ran.fetch_add(1, SeqCst);
+    }
+}
+
+/// A new queue, and the senders of it that are not its worker's.
+pub(crate) fn new_queue<R: Abort, W: Work + Drop>(
+    rt: &R,
+    alloc: Global,
+    layout: Layout,
+    work: W,
+) -> (Served<W>, Vec<Sender>)
+    requires { W.log work ≡ [] }
+    ensures { All (λ s. s.queue ≡ result.0.queue) result.1.items }
+{
+    let Ok((worker, senders)) = Worker::build(alloc, layout, work, 1) else {
+        panic!(rt; "no memory for a queue")
+    };
+    (Served::new(worker), senders)
+}
+
+/// A queue in which the items below a number are queued, and its sender.
+pub(crate) fn filled<R: Abort>(rt: &R, alloc: Global, count: u32) -> (Served<Logging>, Sender) {
+    let layout = Layout::new(count.max(4), 1, 2).expect(rt, "a layout");
+    let (served, mut senders) = new_queue(rt, alloc, layout, Logging::new());
+    let mut sender = senders.pop().expect(rt, "a sender");
+    for item in 0..count {
+        queue_item(rt, &mut sender, item);
+    }
+    (served, sender)
+}
+
+/// Two queues, with so many items queued in each.
+pub(crate) fn two_filled<R: Abort>(
+    rt: &R,
+    alloc: Global,
+    first: u32,
+    second: u32,
+) -> Vec<Served<Logging>> {
+    let mut queues = Vec::new(alloc);
+    let (one, _sender) = filled(rt, alloc, first);
+    let (other, _sender) = filled(rt, alloc, second);
+    queues.push(one).expect(rt, "memory");
+    queues.push(other).expect(rt, "memory");
+    queues
+}
+
+/// Two queues, with so many items and then the stop item queued in each.
+pub(crate) fn two_to_stop<R: Abort>(rt: &R, alloc: Global, count: u32) -> Vec<Served<Logging>> {
+    let mut queues = Vec::new(alloc);
+    for _turn in 0..2u32 {
+        let (served, mut sender) = filled(rt, alloc, count);
+        sender.request_stop(1);
+        queues.push(served).expect(rt, "memory");
+    }
+    queues
+}
+
+pub(crate) fn take_last<R: Abort>(rt: &R, pool: &Pool<Logging>, callers: &mut Vec<Caller>) -> Caller
+    requires { All (IsCallerOf pool.now.ready) callers.old.items }
+    ensures rest { All (IsCallerOf pool.now.ready) callers.new.items }
+    ensures last { IsCallerOf pool.now.ready result }
+{
+    let _ = pool;
+    callers.pop().expect(rt, "a caller")
+}
+
+/// A pool of these queues, and one caller of it.
+pub(crate) fn new_pool<R: Abort>(
+    rt: &R,
+    alloc: Global,
+    queues: Vec<Served<Logging>>,
+) -> (Pool<Logging>, Caller)
+    ensures { IsCallerOf result.0.ready result.1 }
+{
+    let (pool, mut callers) = Pool::new(alloc, queues, 1).expect(rt, "a pool");
+    let caller = take_last(rt, &pool, &mut callers);
+    (pool, caller)
+}
+
+/// A caller with its pool.
+#[derive(Drop)]
+pub(crate) struct Guest<'a> {
+    pub(crate) pool: &'a Pool<Logging>,
+    pub(crate) caller: Caller,
+    ghost is_caller: { IsCallerOf pool.now.ready caller },
+}
+
+impl<'a> Guest<'a> {
+    pub(crate) fn new(pool: &'a Pool<Logging>, caller: Caller) -> Guest<'a>
+        requires { IsCallerOf pool.now.ready caller }
+    {
+        Guest { pool, caller }
+    }
+
+    pub(crate) fn announce<R: Wait>(&mut self, rt: &R, queue: u32) -> bool {
+        self.pool.announce(rt, &mut self.caller, queue).is_ok()
+    }
+}
+
+/// So many callers with their pool, each under a lock of its own.
+pub(crate) fn take_guests<'a, R: Abort>(
+    rt: &R,
+    alloc: Global,
+    pool: &'a Pool<Logging>,
+    callers: &mut Vec<Caller>,
+    count: u32,
+) -> Vec<Mutex<Guest<'a>>>
+    requires { All (IsCallerOf pool.now.ready) callers.old.items }
+    ensures { All (IsCallerOf pool.now.ready) callers.new.items }
+{
+    let mut guests = Vec::new(alloc);
+    for _turn in 0..count {
+        let caller = take_last(rt, pool, callers);
+        guests
+            .push(Mutex::new(Guest::new(pool, caller)))
+            .expect(rt, "memory");
+    }
+    guests
+}
+
+/// Works at a queue to the end.
+pub(crate) fn work<R: Abort, G: Gate>(
+    rt: &R,
+    turn: Turn<Logging>,
+    limit: u32,
+    gate: &G,
+) -> Worked<Logging>
+    ensures { result.slots ≡ turn.slots }
+{
+    match turn.work(limit, gate) {
+        Ok(worked) => worked,
+        Err(_) => panic!(rt; "something was left"),
+    }
+}

@@ -1,0 +1,61 @@
+//! A work looks at its item's PENDING bit as it runs.
+ghost use Rattle.std.specs.Prelude.{◌≡◌, []};
+
+use crate::expect::expect_same;
+use crate::seats::{WAKES, queue_item};
+use crate::worker::team::{destroy, new_queue, take_last};
+use arrayvec::ArrayVec;
+use std::test::Fail;
+use trail::Trail;
+use wq_live::Sender;
+use wq_worker::{Follow, Ran, Work, Worker};
+
+/// A work that owns a sender of its queue, and notes whether the item that it runs is pending.
+#[derive(Drop)]
+struct Noting {
+    sender: Sender,
+    ran: Trail,
+    found: ArrayVec<bool, 4>,
+}
+
+impl Noting {
+    fn new(sender: Sender) -> Noting
+        ensures { result.ran.items ≡ [] }
+    {
+        Noting {
+            sender,
+            ran: Trail::new(),
+            found: ArrayVec::new(),
+        }
+    }
+}
+
+impl Work for Noting {
+    ghost log = { λ w. w.ran.items };
+
+    ghost may = { λ w k f v. Unit {0} };
+
+    fn run(&mut self, item: u32) -> Follow {
+        self.ran = self.ran.and(item);
+        if item < self.sender.layout().items {
+            let is_pending = self.sender.is_pending(item);
+            let _ = self.found.try_push(is_pending);
+        }
+        Follow::new()
+    }
+}
+
+/// The bit is clear before the function runs (`work_pending`).
+#[test]
+fn runs_after_the_bit_is_cleared(rt: HostRuntime) -> Result<(), Fail> {
+    let (owner, mut senders) = new_queue(&rt, rt.alloc(), 4, 3);
+    let last = take_last(&rt, &owner, &mut senders);
+    let second = take_last(&rt, &owner, &mut senders);
+    let mut first = take_last(&rt, &owner, &mut senders);
+    let mut worker = Worker::new(owner, last, Noting::new(second), 1);
+    expect_same(&rt, queue_item(&rt, &mut first, 3), WAKES);
+    expect_same(&rt, worker.run_one(), Ran::Item(3));
+    let (work, _book) = destroy(&rt, worker, 9);
+    expect_same(&rt, work.found.as_slice(), [false].as_slice());
+    Ok(())
+}

@@ -1,0 +1,176 @@
+//! Executions that are owed, since two senders push in between.
+ghost use Rattle.std.specs.Prelude.{◌≡◌, []};
+
+use crate::balance::balance_met;
+use crate::expect::expect_same;
+use crate::seats::queue_item;
+use crate::worker::team::{destroy, new_queue, serve, take_last};
+use crossbeam_utils::sync::{Parker, Unparker};
+use std::process::Abort;
+use std::sync::Wait;
+use std::test::Fail;
+use std::thread::{Threads, join_mut, sleep};
+use std::time::{Clock, Duration};
+use trail::Trail;
+use wq_live::{Answer, Sender};
+use wq_worker::{Follow, Work, Worker};
+
+/// A work that asks for each item below a number again, and for the next one, so that the queue is not empty while the number is
+/// not 0.
+#[derive(Drop)]
+struct Restless {
+    below: u32,
+    ran: Trail,
+}
+
+impl Restless {
+    fn new(below: u32) -> Restless
+        ensures { result.ran.items ≡ [] }
+    {
+        Restless {
+            below,
+            ran: Trail::new(),
+        }
+    }
+}
+
+impl Work for Restless {
+    ghost log = { λ w. w.ran.items };
+
+    ghost may = { λ w k f v. Unit {0} };
+
+    fn run(&mut self, item: u32) -> Follow {
+        self.ran = self.ran.and(item);
+        let mut follow = Follow::new();
+        if item < self.below {
+            let _ = follow.try_push(item);
+            let _ = follow.try_push((item + 1) % self.below);
+        }
+        follow
+    }
+}
+
+/// Queues 100 items over and over, each with one try.
+fn queue_often<R: Abort>(rt: &R, sender: &mut Sender, first: u32)
+    ensures { sender.new.queue ≡ sender.old.queue }
+{
+    for turn in 0..100_000u32 {
+        queue_item(rt, sender, first.wrapping_add(turn % 100));
+    }
+}
+
+fn request_stop(sender: &mut Sender) -> Answer
+    ensures { sender.new.queue ≡ sender.old.queue }
+{
+    sender.request_stop(u32::MAX)
+}
+
+/// Requests the stop until a request finds it executed, for ten seconds at most.
+fn stops_by_itself<R: Clock>(rt: &R, sender: &mut Sender) -> bool
+    ensures { sender.new.queue ≡ sender.old.queue }
+{
+    for turn in 0..10_000u32 {
+        if request_stop(sender) != Answer::Pending && turn > 0 {
+            return true;
+        }
+        sleep(rt, Duration::from_millis(1));
+    }
+    false
+}
+
+/// Two senders queue their items in threads, and then the first requests the stop. Only after that the worker is unparked.
+fn disturb<R: Abort + Clock + Threads + Sync>(
+    rt: &R,
+    first: &mut Sender,
+    second: &mut Sender,
+    unparker: &Unparker,
+) -> bool
+    ensures { (first.new.queue ≡ first.old.queue) × (second.new.queue ≡ second.old.queue) }
+{
+    join_mut(
+        rt,
+        &mut || queue_often(rt, first, 100),
+        &mut || queue_often(rt, second, 200),
+    );
+    let is_stopped = stops_by_itself(rt, first);
+    unparker.unpark();
+    is_stopped
+}
+
+/// Serves while two senders disturb. Whether the worker came to the stop item without being unparked.
+fn serve_disturbed<R: Abort + Clock + Threads + Wait + Sync>(
+    rt: &R,
+    worker: &mut Worker<Restless>,
+    parker: &mut Parker,
+    unparker: &Unparker,
+    first: &mut Sender,
+    second: &mut Sender,
+) -> bool
+    ensures worker { worker.new.queue ≡ worker.old.queue }
+    ensures senders { (first.new.queue ≡ first.old.queue) × (second.new.queue ≡ second.old.queue) }
+{
+    let (_, is_stopped) = join_mut(
+        rt,
+        &mut || serve(rt, worker, parker),
+        &mut || disturb(rt, first, second, unparker),
+    );
+    is_stopped
+}
+
+/// Serves again and again until an execution was owed.
+fn serve_until_owing<R: Abort + Clock + Threads + Wait + Sync>(
+    rt: &R,
+    worker: &mut Worker<Restless>,
+    parker: &mut Parker,
+    unparker: &Unparker,
+    first: &mut Sender,
+    second: &mut Sender,
+) -> bool
+    ensures worker { worker.new.queue ≡ worker.old.queue }
+    ensures senders { (first.new.queue ≡ first.old.queue) × (second.new.queue ≡ second.old.queue) }
+{
+    for _ in 0..100u32 {
+        if !serve_disturbed(rt, worker, parker, unparker, first, second) {
+            return false;
+        }
+        if worker.counts().contended > 0 {
+            return true;
+        }
+        // The last request found the stop item executed and queued it once more.
+        serve(rt, worker, parker);
+    }
+    false
+}
+
+/// An execution is owed where the worker's one try is lost to another sender. A worker that serves goes on at once there, and the
+/// book balances.
+#[test]
+fn owing_goes_on(rt: HostRuntime) -> Result<(), Fail> {
+    let mut parker = Parker::new(rt.alloc())?;
+    let unparker = parker.unparker().clone()?;
+    let (owner, mut senders) = new_queue(&rt, rt.alloc(), 300, 3);
+    let last = take_last(&rt, &owner, &mut senders);
+    let mut second = take_last(&rt, &owner, &mut senders);
+    let mut first = take_last(&rt, &owner, &mut senders);
+    let mut worker = Worker::new(owner, last, Restless::new(100), 1);
+    queue_item(&rt, &mut first, 0);
+    let is_owing = serve_until_owing(
+        &rt,
+        &mut worker,
+        &mut parker,
+        &unparker,
+        &mut first,
+        &mut second,
+    );
+    assert!(rt; is_owing);
+    worker.adjust(|work: &mut Restless| work.below = 0);
+    let (_work, mut book) = destroy(&rt, worker, 1000);
+    let totals = balance_met(&mut book, &mut first, &mut second).expect(&rt, "a balance");
+    expect_same(
+        &rt,
+        totals.queued.wrapping_add(totals.chained),
+        totals.executed,
+    );
+    assert!(rt; totals.contended > 0);
+    Ok(())
+}

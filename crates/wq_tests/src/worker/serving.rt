@@ -1,0 +1,73 @@
+//! A worker that serves in a thread, and parks where nothing waits.
+use crate::expect::expect_same;
+use crate::seats::queue_item;
+use crate::worker::team::{Fixed, is_pending, new_team, serve, stop};
+use crossbeam_utils::sync::{Parker, Unparker};
+use std::process::Abort;
+use std::test::Fail;
+use std::thread::{Threads, join_mut, sleep, yield_now};
+use std::time::{Clock, Duration};
+use wq_live::{Answer, Sender};
+
+/// Queues an item after a while, and then the stop item.
+fn queue_late<R: Abort>(rt: &R, sender: &mut Sender, unparker: &Unparker) -> (Answer, Answer) {
+    for _ in 0..1000u32 {
+        yield_now();
+    }
+    let answer = queue_item(rt, sender, 1);
+    unparker.unpark();
+    (answer, stop(sender, unparker))
+}
+
+/// A worker that serves parks where nothing waits, is unparked, and ends with the stop item.
+#[test]
+fn served_worker_is_unparked(rt: HostRuntime) -> Result<(), Fail> {
+    let mut parker = Parker::new(rt.alloc())?;
+    let unparker = parker.unparker().clone()?;
+    let mut team = new_team(&rt, rt.alloc(), Fixed::new());
+    let (_, answers) = join_mut(
+        &rt,
+        &mut || serve(&rt, &mut team.worker, &mut parker),
+        &mut || queue_late(&rt, &mut team.first, &unparker),
+    );
+    assert!(rt; matches!(answers, (Answer::Queued { .. }, Answer::Queued { .. })));
+    expect_same(&rt, team.worker.counts().executed, 2);
+    Ok(())
+}
+
+/// Has an item run, and then queues the stop item and unparks nobody. Answers what a second stop request found a while later:
+/// the stop item pending, or executed and queued anew.
+fn stop_unseen<R: Abort + Clock>(rt: &R, sender: &mut Sender, unparker: &Unparker) -> Answer {
+    queue_item(rt, sender, 1);
+    unparker.unpark();
+    for _ in 0..5000u32 {
+        if !is_pending(rt, sender, 1) {
+            break;
+        }
+        sleep(rt, Duration::from_millis(1));
+    }
+    sleep(rt, Duration::from_millis(50));
+    sender.request_stop(u32::MAX);
+    sleep(rt, Duration::from_millis(200));
+    stop(sender, unparker)
+}
+
+/// A worker that serves is parked where nothing waits: it does not see the stop item until it is unparked. Where the machine is
+/// busy the worker may come to its look late, so there are five turns.
+#[test]
+fn served_worker_parks(rt: HostRuntime) -> Result<(), Fail> {
+    for _ in 0..5u32 {
+        let mut parker = Parker::new(rt.alloc())?;
+        let unparker = parker.unparker().clone()?;
+        let mut team = new_team(&rt, rt.alloc(), Fixed::new());
+        let (_, answer) = join_mut(
+            &rt,
+            &mut || serve(&rt, &mut team.worker, &mut parker),
+            &mut || stop_unseen(&rt, &mut team.first, &unparker),
+        );
+        if answer == Answer::Pending {
+            return Ok(());
+        }
+    }
+    Err(Fail::new("it went on where nothing waited"))
+}
