@@ -1,8 +1,8 @@
 -- What holds at the places of lists.
-use Rattle.std.proofs.Common.{◌≡◌, ℕ, ◌+◌, ◌<◌, ◌≤◌, List, [], ◌∷◌, ◌++◌, length, take, drop, get_or, inl, inr, sym, ap, ◌∙◌, subst, arith, length-append}
+use Rattle.std.proofs.Common.{◌≡◌, ℕ, ◌+◌, ◌<◌, ◌≤◌, List, [], ◌∷◌, ◌++◌, length, take, get_or, inl, inr, sym, ap, ◌∙◌, subst, arith, length-append}
 use Rattle.std.proofs.lemmas.Bool.{cases_lt}
 use Rattle.std.proofs.lemmas.List.{get_or_append_left, get_or_push, take_more}
-use Rattle.wq_words.proofs.Growing.{take_length, ends_alike}
+use Rattle.wq_words.proofs.Growing.{ends_alike}
 
 -- what holds of the elements of two lists at each place holds where one comes behind each
 pub both_more : {A B : Type 0} (P : ℕ → A → B → Type 0) (xs : List A) (ys : List B) (x : A) (y : B) → length ys ≡ length xs
@@ -17,10 +17,6 @@ both_more {A} {B} P xs ys x y same before here i d e lt = elim (cases_lt i (leng
       subst (λ (a : A). P i a (get_or (ys ++ y ∷ []) i e)) (sym (get_or_push xs x d i at))
       (subst (λ (b : B). P i x b) (sym (get_or_push ys y e i (omega (arith, same, at)))) (subst (λ (k : ℕ). P k x y) at here))
 ]
-
--- a list that was written to as a slice, from its beginning to its end
-pub whole_items : {A : Type 0} (n : ℕ) (news olds : List A) → length news ≡ n → take n (news ++ drop (length news) olds) ≡ news
-whole_items n news olds size = ap (λ (k : ℕ). take k (news ++ drop (length news) olds)) (sym size) ∙ take_length news (drop (length news) olds)
 
 -- the last of the first elements
 pub popped : {A : Type 0} (all old new : List A) (x : A) (k m : ℕ) → m ≡ k + 1 → m ≤ length all → old ≡ take m all → old ≡ new ++ x ∷ []

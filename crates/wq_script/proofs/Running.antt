@@ -213,6 +213,25 @@ module _ (ends : ℕ → Bool) (limit : ℕ) (a : WorkerState Lists) where
     all_moves : Moves (row.events ++ does.events) (row.others + does.others) a c
     all_moves = moves_on row.events does.events row.others does.others a b c row.moves does.moves
 
+  -- what an execution of k left to be executed, and what was executed with it, where it was quiet
+  ran_one : (left n : ℕ) (b c : WorkerState Lists) (ran : List ℕ) (k : ℕ) (count : n ≡ suc left) (row : RowSoFar ends limit n a b ran)
+      (does : ExecutesOne b c (Some k)) (wide : Layout) (z : List Event) → IsWorkerIdle wide a → Quiet wide a.number a.seen z → IsPrefix c.seen z
+      → (stops : Bool) → ends k ≡ stops
+      → ((if stops then c.seen else after_executions a.number a.work.follows.items ends left c.seen)
+          ≡ after_executions a.number a.work.follows.items ends limit a.seen) × (ended c.seen ≡ ended a.seen ++ (ran ++ k ∷ [])) × (¬ IsRunning c.seen)
+  ran_one left n b c ran k count row does wide z ready quiet begins stops is =
+      let d = step_so left n b c ran (Some k) count row does wide z ready quiet begins in
+      let g : List Event = b.seen in
+      let next_g : List Event = after_execution a.number a.work.follows.items g in
+      let later : List Event → List Event = after_executions a.number a.work.follows.items ends left in
+      let split = row_goes_on a.number a.work.follows.items ends left n k g count d.1 ∙ ap (λ (x : Bool). if x then next_g else later next_g) is in (
+        ap (λ (x : List Event). if stops then x else later x) d.2 ∙ (sym split ∙ d.0.rest),
+        ap ended d.2 ∙ (ended_execution a.number a.work.follows.items g
+            ∙ (ap (λ (o : Option ℕ). ended g ++ option_to_list o) (sym d.1)
+            ∙ (ap (λ (x : List ℕ). x ++ k ∷ []) d.0.told ∙ append_assoc (ended a.seen) ran (k ∷ [])))),
+        d.3,
+      )
+
   pub row_more : (left n : ℕ) (b c : WorkerState Lists) (ran : List ℕ) (k : ℕ) → n ≡ suc left → RowSoFar ends limit n a b ran
       → ExecutesOne b c (Some k) → ends k ≡ false → RowSoFar ends limit left a c (ran ++ k ∷ [])
   row_more left n b c ran k count row does goes = record {
@@ -221,18 +240,7 @@ module _ (ends : ℕ → Bool) (limit : ℕ) (a : WorkerState Lists) where
     moves = all_moves left n b c ran (Some k) count row does;
     lists = does.lists ∙ row.lists;
     quiet = λ wide z ready quiet begins.
-        let d = step_so left n b c ran (Some k) count row does wide z ready quiet begins in
-        let g : List Event = b.seen in
-        let next_g : List Event = after_execution a.number a.work.follows.items g in
-        let split = row_goes_on a.number a.work.follows.items ends left n k g count d.1
-        ∙ ap (λ (x : Bool). if x then next_g else after_executions a.number a.work.follows.items ends left next_g) goes in
-        record {
-          rest = ap (after_executions a.number a.work.follows.items ends left) d.2 ∙ (sym split ∙ d.0.rest);
-          told = ap ended d.2 ∙ (ended_execution a.number a.work.follows.items g
-              ∙ (ap (λ (o : Option ℕ). ended g ++ option_to_list o) (sym d.1)
-              ∙ (ap (λ (x : List ℕ). x ++ k ∷ []) d.0.told ∙ append_assoc (ended a.seen) ran (k ∷ []))));
-          idle = d.3;
-        };
+        let d = ran_one left n b c ran k count row does wide z ready quiet begins false goes in record { rest = d.0; told = d.1; idle = d.2 };
   }
 
   since : (g h : List Event) (ran : List ℕ) → ended g ≡ ended h ++ ran → ran ≡ ended_since h g
@@ -257,18 +265,7 @@ module _ (ends : ℕ → Bool) (limit : ℕ) (a : WorkerState Lists) where
     moves = all_moves left n b c ran (Some k) count row does;
     lists = does.lists ∙ row.lists;
     quiet = λ wide z ready quiet begins.
-        let d = step_so left n b c ran (Some k) count row does wide z ready quiet begins in
-        let g : List Event = b.seen in
-        let next_g : List Event = after_execution a.number a.work.follows.items g in
-        let split = row_goes_on a.number a.work.follows.items ends left n k g count d.1
-        ∙ ap (λ (x : Bool). if x then next_g else after_executions a.number a.work.follows.items ends left next_g) stops in (
-          d.2 ∙ (sym split ∙ d.0.rest),
-          since c.seen a.seen (ran ++ k ∷ []) (ap ended d.2
-              ∙ (ended_execution a.number a.work.follows.items g
-              ∙ (ap (λ (o : Option ℕ). ended g ++ option_to_list o) (sym d.1)
-              ∙ (ap (λ (x : List ℕ). x ++ k ∷ []) d.0.told ∙ append_assoc (ended a.seen) ran (k ∷ []))))),
-          d.3,
-        );
+        let d = ran_one left n b c ran k count row does wide z ready quiet begins true stops in (d.0, since c.seen a.seen (ran ++ k ∷ []) d.1, d.2);
   }
 
   pub row_idle : (left n : ℕ) (b c : WorkerState Lists) (ran : List ℕ) → n ≡ suc left → RowSoFar ends limit n a b ran → ExecutesOne b c None

@@ -89,6 +89,27 @@ pub record Acts (layout : Layout) (t : Seats) (h v z xs : List Event) (n : ℕ) 
   pub seated : Seated layout t (h ++ xs)
 
 module _ (layout : Layout) (s t : Seats) (h : List Event) (g : Seated layout s h) where
+  settled : (v z xs : List Event) (n : ℕ) → v ≡ h → z ≡ h ++ xs → n ≡ 0 → Seated layout t z → Acts layout t h v z xs n
+  settled v z xs n alone is none seated = record {
+    alone = alone;
+    is = is;
+    none = none;
+    seated = subst (λ (w : List Event). Seated layout t w) is seated;
+  }
+
+  -- one seat acted, and no other made any event
+  one_acts : (p : ℕ) (x k : Known) (xs : List Event) (n : ℕ) → IsAt g.queue g.wide p h x → Sees xs n x k
+      → ((c : ℕ) → IsSeat g.wide c → (c == p) ≡ false → own c k.seen ≡ own c h) → (IsLegal g.wide k.seen → Seated layout t k.seen)
+      → Acts layout t h x.seen k.seen xs n
+  one_acts p x k xs n at sees others_same seated =
+      let new : List Event = sees.grows.new in
+      let mine : own p new ≡ xs = subst (λ (m : ℕ). own m new ≡ xs) at.number_is sees.grows.mine in
+      let some : n ≤ length (others p new) = subst (λ (m : ℕ). n ≤ length (others m new)) at.number_is sees.grows.theirs in
+      let legal : IsLegal g.wide k.seen = subst (λ (l : Layout). IsLegal l k.seen) (sees.same.layout_is ∙ at.layout_is) sees.legal in
+      let done = settle g.wide (λ c. c == p) h x.seen k.seen new xs n at.begins
+      (λ c seat on. subst (λ (m : ℕ). own m x.seen ≡ own m h) (sym (eqb_true c p on)) at.mine) sees.grows.is mine some legal others_same in
+      settled x.seen k.seen xs n done.0 done.1 done.2 (seated legal)
+
   -- a sender acted, and then all heard what it had seen
   pub sender_acts : (p : ℕ) (x k : Known) (xs : List Event) (n : ℕ) → p < layout.senders → x ≡ get_or s.senders.items p x → Sees xs n x k
       → Hears k.seen (sender_of s.worker) (sender_of t.worker) → Hears k.seen (owner_of s.worker) (owner_of t.worker)
@@ -98,50 +119,39 @@ module _ (layout : Layout) (s t : Seats) (h : List Event) (g : Seated layout s h
   sender_acts p x k xs n lt is sees sender owner delay senders tries whole =
       let q : List Known = s.senders.items in
       let z : List Event = k.seen in
-      let f : ℕ → Bool = λ c. c == p in
       let here : p < length q = omega (arith, lt, g.count) in
       let at : IsAt g.queue g.wide p h x = subst (λ (v : Known). IsAt g.queue g.wide p h v) (sym is) (g.senders p x lt) in
       let begins : IsPrefix h z = prefix_on h x.seen z at.begins (sees.grows.new, sym sees.grows.is) in
-      let new : List Event = sees.grows.new in
-      let mine : own p new ≡ xs = subst (λ (m : ℕ). own m new ≡ xs) at.number_is sees.grows.mine in
-      let some : n ≤ length (others p new) = subst (λ (m : ℕ). n ≤ length (others m new)) at.number_is sees.grows.theirs in
-      let legal : IsLegal g.wide z = subst (λ (l : Layout). IsLegal l z) (sees.same.layout_is ∙ at.layout_is) sees.legal in
       let other : (i : ℕ) (d : Known) → i < layout.senders → i ≢ p → Hears z (get_or q i d) (get_or t.senders.items i d) =
       λ i d less ne. subst (λ (v : Known). Hears z v (get_or t.senders.items i d)) (get_or-set_other q p i k d ne)
       (senders.each i d (omega (arith, less, g.count, length-set q p k))) in
       let same : (d : Known) → Hears z k (get_or t.senders.items p d) =
       λ d. subst (λ (v : Known). Hears z v (get_or t.senders.items p d)) (get_or-set_same q p k d here)
       (senders.each p d (omega (arith, lt, g.count, length-set q p k))) in
-      let others_same : (c : ℕ) → IsSeat g.wide c → f c ≡ false → own c z ≡ own c h = none_of_others layout g.wide f h z g.wider
+      let others_same : (c : ℕ) → IsSeat g.wide c → (c == p) ≡ false → own c z ≡ own c h =
+      none_of_others layout g.wide (λ c. c == p) h z g.wider
       (λ i less no. still_none g.queue g.wide i h z (get_or q i x) (get_or t.senders.items i x) begins (g.senders i x less) (other i x less (eqb_false i p no)))
       (λ no. still_none g.queue g.wide layout.senders h z (sender_of s.worker) (sender_of t.worker) begins g.sender sender)
       (λ no. still_none g.queue g.wide (layout.senders + 1) h z s.delay.sender t.delay.sender begins g.delay delay)
       (λ no. still_none g.queue g.wide owner_seat h z (owner_of s.worker) (owner_of t.worker) begins g.owner owner) in
-      let done = settle g.wide f h x.seen z new xs n at.begins
-      (λ c seat on. subst (λ (m : ℕ). own m x.seen ≡ own m h) (sym (eqb_true c p on)) at.mine) sees.grows.is mine some legal others_same in
-      record {
-        alone = done.0;
-        is = done.1;
-        none = done.2;
-        seated = subst (λ (w : List Event). Seated layout t w) done.1 record {
-          queue = g.queue;
-          wide = g.wide;
-          wider = g.wider;
-          legal = legal;
-          count = senders.count ∙ (length-set q p k ∙ g.count);
-          senders = λ i d less. elim (cases_eq i p) [
-            | inl is ↦ subst (λ (m : ℕ). IsAt g.queue g.wide m z (get_or t.senders.items m d)) (sym is)
-                (acted_at g.queue g.wide p k (get_or t.senders.items p d) (sees.same.queue_is ∙ at.queue_is) (sees.same.layout_is ∙ at.layout_is)
-                (sees.same.number_is ∙ at.number_is) (same d))
-            | inr ne ↦ still_at g.queue g.wide i h z (get_or q i d) (get_or t.senders.items i d) begins (g.senders i d less) (other i d less ne)
-          ];
-          sender = still_at g.queue g.wide layout.senders h z (sender_of s.worker) (sender_of t.worker) begins g.sender sender;
-          owner = still_at g.queue g.wide owner_seat h z (owner_of s.worker) (owner_of t.worker) begins g.owner owner;
-          delay = still_at g.queue g.wide (layout.senders + 1) h z s.delay.sender t.delay.sender begins g.delay delay;
-          tries = tries ∙ g.tries;
-          seen = subst (λ (l : Layout). IsLegal l t.worker.seen) (sender.stays.layout_is ∙ g.sender.layout_is) whole;
-        };
-      }
+      one_acts p x k xs n at sees others_same (λ legal. record {
+        queue = g.queue;
+        wide = g.wide;
+        wider = g.wider;
+        legal = legal;
+        count = senders.count ∙ (length-set q p k ∙ g.count);
+        senders = λ i d less. elim (cases_eq i p) [
+          | inl is ↦ subst (λ (m : ℕ). IsAt g.queue g.wide m z (get_or t.senders.items m d)) (sym is)
+              (acted_at g.queue g.wide p k (get_or t.senders.items p d) (sees.same.queue_is ∙ at.queue_is) (sees.same.layout_is ∙ at.layout_is)
+              (sees.same.number_is ∙ at.number_is) (same d))
+          | inr ne ↦ still_at g.queue g.wide i h z (get_or q i d) (get_or t.senders.items i d) begins (g.senders i d less) (other i d less ne)
+        ];
+        sender = still_at g.queue g.wide layout.senders h z (sender_of s.worker) (sender_of t.worker) begins g.sender sender;
+        owner = still_at g.queue g.wide owner_seat h z (owner_of s.worker) (owner_of t.worker) begins g.owner owner;
+        delay = still_at g.queue g.wide (layout.senders + 1) h z s.delay.sender t.delay.sender begins g.delay delay;
+        tries = tries ∙ g.tries;
+        seen = subst (λ (l : Layout). IsLegal l t.worker.seen) (sender.stays.layout_is ∙ g.sender.layout_is) whole;
+      })
 
   -- the delay table's sender acted
   pub delay_acts : (k : Known) (xs : List Event) (n : ℕ) → 0 < layout.senders → Sees xs n s.delay.sender k
@@ -154,41 +164,30 @@ module _ (layout : Layout) (s t : Seats) (h : List Event) (g : Seated layout s h
       let x : Known = s.delay.sender in
       let p : ℕ = layout.senders + 1 in
       let z : List Event = k.seen in
-      let f : ℕ → Bool = λ c. c == p in
       let at : IsAt g.queue g.wide p h x = g.delay in
       let begins : IsPrefix h z = prefix_on h x.seen z at.begins (sees.grows.new, sym sees.grows.is) in
-      let new : List Event = sees.grows.new in
-      let mine : own p new ≡ xs = subst (λ (m : ℕ). own m new ≡ xs) at.number_is sees.grows.mine in
-      let some : n ≤ length (others p new) = subst (λ (m : ℕ). n ≤ length (others m new)) at.number_is sees.grows.theirs in
-      let legal : IsLegal g.wide z = subst (λ (l : Layout). IsLegal l z) (sees.same.layout_is ∙ at.layout_is) sees.legal in
-      let others_same : (c : ℕ) → IsSeat g.wide c → f c ≡ false → own c z ≡ own c h = none_of_others layout g.wide f h z g.wider
+      let others_same : (c : ℕ) → IsSeat g.wide c → (c == p) ≡ false → own c z ≡ own c h =
+      none_of_others layout g.wide (λ c. c == p) h z g.wider
       (λ i less no. still_none g.queue g.wide i h z (get_or q i x) (get_or t.senders.items i x) begins (g.senders i x less)
       (senders.each i x (omega (arith, less, g.count))))
       (λ no. still_none g.queue g.wide layout.senders h z (sender_of s.worker) (sender_of t.worker) begins g.sender sender)
       (λ no. absurd (false≢true (sym no ∙ eq-eqb p p refl)))
       (λ no. still_none g.queue g.wide owner_seat h z (owner_of s.worker) (owner_of t.worker) begins g.owner owner) in
-      let done = settle g.wide f h x.seen z new xs n at.begins
-      (λ c seat on. subst (λ (m : ℕ). own m x.seen ≡ own m h) (sym (eqb_true c p on)) at.mine) sees.grows.is mine some legal others_same in
-      record {
-        alone = done.0;
-        is = done.1;
-        none = done.2;
-        seated = subst (λ (w : List Event). Seated layout t w) done.1 record {
-          queue = g.queue;
-          wide = g.wide;
-          wider = g.wider;
-          legal = legal;
-          count = senders.count ∙ g.count;
-          senders = λ i d less. still_at g.queue g.wide i h z (get_or q i d) (get_or t.senders.items i d) begins (g.senders i d less)
-              (senders.each i d (omega (arith, less, g.count)));
-          sender = still_at g.queue g.wide layout.senders h z (sender_of s.worker) (sender_of t.worker) begins g.sender sender;
-          owner = still_at g.queue g.wide owner_seat h z (owner_of s.worker) (owner_of t.worker) begins g.owner owner;
-          delay = acted_at g.queue g.wide p k t.delay.sender (sees.same.queue_is ∙ at.queue_is) (sees.same.layout_is ∙ at.layout_is)
-              (sees.same.number_is ∙ at.number_is) delay;
-          tries = tries ∙ g.tries;
-          seen = subst (λ (l : Layout). IsLegal l t.worker.seen) (sender.stays.layout_is ∙ g.sender.layout_is) whole;
-        };
-      }
+      one_acts p x k xs n at sees others_same (λ legal. record {
+        queue = g.queue;
+        wide = g.wide;
+        wider = g.wider;
+        legal = legal;
+        count = senders.count ∙ g.count;
+        senders = λ i d less. still_at g.queue g.wide i h z (get_or q i d) (get_or t.senders.items i d) begins (g.senders i d less)
+            (senders.each i d (omega (arith, less, g.count)));
+        sender = still_at g.queue g.wide layout.senders h z (sender_of s.worker) (sender_of t.worker) begins g.sender sender;
+        owner = still_at g.queue g.wide owner_seat h z (owner_of s.worker) (owner_of t.worker) begins g.owner owner;
+        delay = acted_at g.queue g.wide p k t.delay.sender (sees.same.queue_is ∙ at.queue_is) (sees.same.layout_is ∙ at.layout_is)
+            (sees.same.number_is ∙ at.number_is) delay;
+        tries = tries ∙ g.tries;
+        seen = subst (λ (l : Layout). IsLegal l t.worker.seen) (sender.stays.layout_is ∙ g.sender.layout_is) whole;
+      })
 
   -- the worker acted
   pub worker_acts : (w : WorkerState Lists) (xs : List Event) (n : ℕ) → (moves : Moves xs n s.worker w)
@@ -219,26 +218,21 @@ module _ (layout : Layout) (s t : Seats) (h : List Event) (g : Seated layout s h
         | inl is ↦ subst (λ (m : ℕ). own m v ≡ own m h) (sym (eqb_true c p is)) g.sender.mine
         | inr is ↦ subst (λ (m : ℕ). own m v ≡ own m h) (sym (eqb_true c owner_seat is)) g.owner.mine
       ]) moves.adds.is mine some legal others_same in (
-        record {
-          alone = done.0;
-          is = done.1;
-          none = done.2;
-          seated = subst (λ (y : List Event). Seated layout t y) done.1 record {
-            queue = g.queue;
-            wide = g.wide;
-            wider = g.wider;
-            legal = legal;
-            count = senders.count ∙ g.count;
-            senders = λ i d less. still_at g.queue g.wide i h z (get_or q i d) (get_or t.senders.items i d) begins (g.senders i d less)
-                (senders.each i d (omega (arith, less, g.count)));
-            sender = acted_at g.queue g.wide p (sender_of w) (sender_of t.worker) (moves.queue ∙ g.sender.queue_is)
-                (moves.layout ∙ g.sender.layout_is) (moves.number ∙ g.sender.number_is) sender;
-            owner = acted_at g.queue g.wide owner_seat (owner_of w) (owner_of t.worker) (moves.queue ∙ g.sender.queue_is)
-                (moves.layout ∙ g.sender.layout_is) refl owner;
-            delay = still_at g.queue g.wide (p + 1) h z s.delay.sender t.delay.sender begins g.delay delay;
-            tries = tries ∙ (moves.tries ∙ g.tries);
-            seen = subst (λ (l : Layout). IsLegal l t.worker.seen) (sender.stays.layout_is ∙ (moves.layout ∙ g.sender.layout_is)) whole;
-          };
+        settled v z xs n done.0 done.1 done.2 record {
+          queue = g.queue;
+          wide = g.wide;
+          wider = g.wider;
+          legal = legal;
+          count = senders.count ∙ g.count;
+          senders = λ i d less. still_at g.queue g.wide i h z (get_or q i d) (get_or t.senders.items i d) begins (g.senders i d less)
+              (senders.each i d (omega (arith, less, g.count)));
+          sender = acted_at g.queue g.wide p (sender_of w) (sender_of t.worker) (moves.queue ∙ g.sender.queue_is)
+              (moves.layout ∙ g.sender.layout_is) (moves.number ∙ g.sender.number_is) sender;
+          owner = acted_at g.queue g.wide owner_seat (owner_of w) (owner_of t.worker) (moves.queue ∙ g.sender.queue_is)
+              (moves.layout ∙ g.sender.layout_is) refl owner;
+          delay = still_at g.queue g.wide (p + 1) h z s.delay.sender t.delay.sender begins g.delay delay;
+          tries = tries ∙ (moves.tries ∙ g.tries);
+          seen = subst (λ (l : Layout). IsLegal l t.worker.seen) (sender.stays.layout_is ∙ (moves.layout ∙ g.sender.layout_is)) whole;
         },
         done.3,
       )

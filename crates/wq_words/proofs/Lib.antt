@@ -1,5 +1,6 @@
 pub mod Prefixes
 pub mod Growing
+pub mod Written
 pub mod Running
 pub mod Closed
 pub mod Legal

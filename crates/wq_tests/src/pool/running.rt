@@ -9,12 +9,16 @@ use std::sync::Wait;
 use std::thread::Threads;
 use wq_pool::{Caller, Pool, PoolFault};
 
-/// One worker runs the pool.
-fn run_alone<R: Abort + Threads + Wait + Sync>(rt: &R, pool: &Pool<Logging>, caller: &mut Caller)
-    requires { IsCallerOf pool.now.ready caller.old }
+/// One worker runs a pool of two queues, and all that was queued is executed.
+fn finish_both<R: Abort + Threads + Wait + Sync>(rt: &R, pool: Pool<Logging>, mut caller: Caller)
+    requires { IsCallerOf pool.ready caller }
 {
-    pool.run(rt, slice::from_mut(caller), &Open)
+    pool.announce(rt, &mut caller, 0).expect(rt, "room");
+    pool.announce(rt, &mut caller, 1).expect(rt, "room");
+    pool.run(rt, slice::from_mut(&mut caller), &Open)
         .expect(rt, "a thread");
+    let finished = pool.finish(0).expect(rt, "all finished");
+    expect_same(rt, finished.len(), 2);
 }
 
 /// A queue whose stop item has run counts once, however often it is put back: the run goes on until the other's has run.
@@ -26,23 +30,15 @@ fn stop_item_counts_once(rt: HostRuntime) {
     let turn = pool.pick(&rt, &mut caller).expect(&rt, "a turn");
     let worked = work(&rt, turn, 9, &Open);
     pool.put_back(&mut caller, worked);
-    pool.announce(&rt, &mut caller, 0).expect(&rt, "room");
-    pool.announce(&rt, &mut caller, 1).expect(&rt, "room");
-    run_alone(&rt, &pool, &mut caller);
-    let finished = pool.finish(0).expect(&rt, "all finished");
-    expect_same(&rt, finished.len(), 2);
+    finish_both(&rt, pool, caller);
 }
 
 /// A run goes on at a turn that was given back, until nothing is left of it.
 #[test]
 fn long_turns_are_run(rt: HostRuntime) {
     let queues = two_to_stop(&rt, rt.alloc(), 3000);
-    let (pool, mut caller) = new_pool(&rt, rt.alloc(), queues);
-    pool.announce(&rt, &mut caller, 0).expect(&rt, "room");
-    pool.announce(&rt, &mut caller, 1).expect(&rt, "room");
-    run_alone(&rt, &pool, &mut caller);
-    let finished = pool.finish(0).expect(&rt, "all finished");
-    expect_same(&rt, finished.len(), 2);
+    let (pool, caller) = new_pool(&rt, rt.alloc(), queues);
+    finish_both(&rt, pool, caller);
 }
 
 /// With no worker nothing is run, and the call returns.

@@ -97,27 +97,8 @@ fn disturb<R: Abort + Clock + Threads + Sync>(
     is_stopped
 }
 
-/// Serves while two senders disturb. Whether the worker came to the stop item without being unparked.
-fn serve_disturbed<R: Abort + Clock + Threads + Wait + Sync>(
-    rt: &R,
-    worker: &mut Worker<Restless>,
-    parker: &mut Parker,
-    unparker: &Unparker,
-    first: &mut Sender,
-    second: &mut Sender,
-) -> bool
-    ensures worker { worker.new.queue ≡ worker.old.queue }
-    ensures senders { (first.new.queue ≡ first.old.queue) × (second.new.queue ≡ second.old.queue) }
-{
-    let (_, is_stopped) = join_mut(
-        rt,
-        &mut || serve(rt, worker, parker),
-        &mut || disturb(rt, first, second, unparker),
-    );
-    is_stopped
-}
-
-/// Serves again and again until an execution was owed.
+/// Serves while two senders disturb, again and again until an execution was owed. Whether one was, and the worker came to each
+/// stop item without being unparked.
 fn serve_until_owing<R: Abort + Clock + Threads + Wait + Sync>(
     rt: &R,
     worker: &mut Worker<Restless>,
@@ -130,7 +111,12 @@ fn serve_until_owing<R: Abort + Clock + Threads + Wait + Sync>(
     ensures senders { (first.new.queue ≡ first.old.queue) × (second.new.queue ≡ second.old.queue) }
 {
     for _ in 0..100u32 {
-        if !serve_disturbed(rt, worker, parker, unparker, first, second) {
+        let (_, is_stopped) = join_mut(
+            rt,
+            &mut || serve(rt, worker, parker),
+            &mut || disturb(rt, first, second, unparker),
+        );
+        if !is_stopped {
             return false;
         }
         if worker.counts().contended > 0 {

@@ -1,12 +1,10 @@
-use Rattle.std.proofs.Common.{◌≢◌, ℕ, ◌<◌, List, length, get_or, set, arith, sym, ap, ◌∙◌, subst}
-use Rattle.std.proofs.lemmas.List.{get_or-set_other, get_or-set_same, get_or_default}
+use Rattle.std.proofs.Common.{ℕ, ◌<◌, List, length, get_or, arith, sym, ap, ◌∙◌, subst}
 use Rattle.wq_words.specs.declared.event.Event.{Event}
-use Rattle.wq_words.proofs.Growing.{each_place_more}
+use Rattle.wq_words.proofs.Written.{each_written, rest_written, whole_items}
 use Rattle.wq_live.specs.Known.{Known}
 use Rattle.wq_race.specs.Outcome.{IsKnown, AllKnown}
 use Rattle.wq_race.proofs.Booking.{heard_still, heard_one, heard_on}
 use Rattle.wq_race.proofs.Meeting.{known_one, known_more}
-use Rattle.wq_pool_race.proofs.Places.{whole_items}
 use Rattle.wq_pool_race.proofs.outcome.meet_all.Goals as goal
 
 pub loop-sender-init : goal.loop-sender-init
@@ -31,13 +29,10 @@ loop-sender-preserved c =
     let here : i < length nows = omega (arith, c.loop-sender.auto.sender-items, c.loop-sender-test.true) in
     record {
       book = heard_on c.args.book.now c.loop-sender.book c.meet.new.self c.loop-sender.invariant.book heard;
-      each = each_place_more (λ k d. IsKnown next (get_or olds k d) (get_or (set nows i k') k d)) i
-          (λ k d lt. let ne : k ≢ i = omega arith in subst (λ (x : Known). IsKnown next (get_or olds k d) x) (sym (get_or-set_other nows i k k' d ne))
-          (known_more (get_or olds k d) (get_or nows k d) c.loop-sender.book.seen next heard.begins (c.loop-sender.invariant.each k d lt)))
-          (λ d. subst (λ (x : Known). IsKnown next (get_or olds i d) x) (sym (get_or-set_same nows i k' d here))
-          (subst (λ (x : Known). IsKnown next x k') (get_or_default nows i c.sender-item.result d here ∙ c.loop-sender.invariant.rest i d (omega arith))
-          (known_one (get_or nows i c.sender-item.result) k' next m.sender m.both)));
-      rest = λ k d le. let ne : k ≢ i = omega arith in get_or-set_other nows i k k' d ne ∙ c.loop-sender.invariant.rest k d (omega arith);
+      each = each_written (IsKnown next) olds nows i k' c.sender-item.result here
+          (λ k d lt. known_more (get_or olds k d) (get_or nows k d) c.loop-sender.book.seen next heard.begins (c.loop-sender.invariant.each k d lt))
+          c.loop-sender.invariant.rest (known_one (get_or nows i c.sender-item.result) k' next m.sender m.both);
+      rest = rest_written olds nows i k' c.loop-sender.invariant.rest;
     }
 
 pub returns-clause-senders : goal.returns-clause-senders

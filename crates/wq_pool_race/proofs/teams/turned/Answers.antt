@@ -4,7 +4,7 @@ use Rattle.std.proofs.lemmas.Iterator.Adapters.{YieldsList-from_vec}
 use Rattle.std.proofs.lemmas.Iterator.Consumers.{YieldsList-turn}
 use Rattle.wq_pool_race.specs.declared.teams.Group.{Group}
 use Rattle.wq_pool_race.specs.Teams.{AreDealt}
-use Rattle.wq_pool_race.proofs.Places.{whole_items}
+use Rattle.wq_words.proofs.Written.{whole_items}
 use Rattle.wq_pool_race.proofs.Seats.{AreTurnedSoFar, turned_more}
 use Rattle.wq_pool_race.proofs.teams.turned.Goals as goal
 
