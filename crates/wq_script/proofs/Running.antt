@@ -218,7 +218,7 @@ module _ (ends : ℕ → Bool) (limit : ℕ) (a : WorkerState Lists) where
       (does : ExecutesOne b c (Some k)) (wide : Layout) (z : List Event) → IsWorkerIdle wide a → Quiet wide a.number a.seen z → IsPrefix c.seen z
       → (stops : Bool) → ends k ≡ stops
       → ((if stops then c.seen else after_executions a.number a.work.follows.items ends left c.seen)
-          ≡ after_executions a.number a.work.follows.items ends limit a.seen) × (ended c.seen ≡ ended a.seen ++ (ran ++ k ∷ [])) × (¬ IsRunning c.seen)
+      ≡ after_executions a.number a.work.follows.items ends limit a.seen) × (ended c.seen ≡ ended a.seen ++ (ran ++ k ∷ [])) × (¬ IsRunning c.seen)
   ran_one left n b c ran k count row does wide z ready quiet begins stops is =
       let d = step_so left n b c ran (Some k) count row does wide z ready quiet begins in
       let g : List Event = b.seen in

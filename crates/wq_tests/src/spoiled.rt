@@ -86,24 +86,29 @@ fn line(alloc: Global, draws: &mut Draws, sizes: Sizes) -> Result<String, AllocE
     let item = draws.below(sizes.items);
     let barrier = draws.below(sizes.barriers);
     let few = draws.below(4);
-    match draws.below(18) {
-        0 => format!(in alloc; "run {}\n", few + 1),
-        1 => format!(in alloc; "close\n"),
-        2 => format!(in alloc; "report\n"),
-        3 => format!(in alloc; "follow {item}\n"),
-        4 => format!(in alloc; "follow {item} {} {item}\n", draws.below(sizes.items)),
-        5 => format!(in alloc; "flush {sender} {barrier}\n"),
-        6 => format!(in alloc; "done {sender} {barrier}\n"),
-        7 => format!(in alloc; "stop {sender}\n"),
-        8 => format!(in alloc; "drain {}\n", few + 1),
-        9 => format!(in alloc; "check {item}\n"),
-        10 => format!(in alloc; "arm {item} {few}\n"),
-        11 => format!(in alloc; "cancel {item}\n"),
-        12 => format!(in alloc; "modify {item} {few}\n"),
-        13 => format!(in alloc; "advance {few}\n"),
-        14 => format!(in alloc; "#\t passed over\n"),
-        15 => format!(in alloc; "\n"),
-        _ => format!(in alloc; "queue {sender} {item}\n"),
+    let (word, one, other) = match draws.below(18) {
+        0 => ("run", Some(few + 1), None),
+        1 => ("close", None, None),
+        2 => ("report", None, None),
+        3 => ("follow", Some(item), None),
+        4 => ("follow", Some(item), Some(draws.below(sizes.items))),
+        5 => ("flush", Some(sender), Some(barrier)),
+        6 => ("done", Some(sender), Some(barrier)),
+        7 => ("stop", Some(sender), None),
+        8 => ("drain", Some(few + 1), None),
+        9 => ("check", Some(item), None),
+        10 => ("arm", Some(item), Some(few)),
+        11 => ("cancel", Some(item), None),
+        12 => ("modify", Some(item), Some(few)),
+        13 => ("advance", Some(few), None),
+        14 => ("#\t passed over", None, None),
+        15 => ("", None, None),
+        _ => ("queue", Some(sender), Some(item)),
+    };
+    match (one, other) {
+        (None, _) => format!(in alloc; "{word}\n"),
+        (Some(one), None) => format!(in alloc; "{word} {one}\n"),
+        (Some(one), Some(other)) => format!(in alloc; "{word} {one} {other}\n"),
     }
 }
 
@@ -256,12 +261,44 @@ fn end_of(alloc: Global, text: &[u8]) -> End {
     }
 }
 
+/// How many texts were reported, and how many were refused for each kind.
+#[derive(Drop)]
+struct Tally {
+    reports: u32,
+    refusals: [u32; 15],
+}
+
+impl Tally {
+    fn new() -> Tally {
+        Tally {
+            reports: 0,
+            refusals: [0; 15],
+        }
+    }
+
+    /// Whether it is a report or a refusal.
+    fn count(&mut self, end: End) -> bool {
+        match end {
+            End::Report => {
+                self.reports = self.reports.saturating_add(1);
+                true
+            }
+            End::Refusal(kind) => {
+                if let Some(count) = self.refusals.get_mut(kind) {
+                    *count = count.saturating_add(1);
+                }
+                true
+            }
+            End::Other => false,
+        }
+    }
+}
+
 /// A quarter of the texts, from this number on. Each kind of refusal comes of some, and a report of others. The seed is printed.
 fn check_texts<R: Abort + AllocGlobal + Print>(rt: &R, from: u64) -> Result<(), Fail> {
     let alloc = rt.alloc();
     println!(rt; "spoiled texts of the seed {SEED:#x}, from {from} on")?;
-    let mut reports = 0u32;
-    let mut refusals = [0u32; 15];
+    let mut tally = Tally::new();
     for number in from..from.saturating_add(TEXTS / 4) {
         let mut draws = Draws::new(number);
         let whole = script(alloc, &mut draws)?;
@@ -270,19 +307,12 @@ fn check_texts<R: Abort + AllocGlobal + Print>(rt: &R, from: u64) -> Result<(), 
             assert!(rt; end == End::Report, "text {number} of {SEED:#x}: {whole}");
         }
         let text = spoil(alloc, &mut draws, whole.as_bytes())?;
-        match end_of(alloc, &text) {
-            End::Report => reports = reports.saturating_add(1),
-            End::Refusal(kind) => {
-                if let Some(count) = refusals.get_mut(kind) {
-                    *count = count.saturating_add(1);
-                }
-            }
-            End::Other => assert!(rt; false, "text {number} of {SEED:#x}: {text:?}"),
-        }
+        let is_named = tally.count(end_of(alloc, &text));
+        assert!(rt; is_named, "text {number} of {SEED:#x}: {text:?}");
     }
-    assert!(rt; reports > 0);
-    for (kind, count) in KINDS.iter().zip(&refusals) {
-        assert!(rt; *count > 0, "{kind}: {refusals:?}");
+    assert!(rt; tally.reports > 0);
+    for (kind, count) in KINDS.iter().zip(&tally.refusals) {
+        assert!(rt; *count > 0, "no text was refused for {kind}");
     }
     Ok(())
 }

@@ -3,33 +3,13 @@ ghost use Rattle.std.specs.Prelude.{◌≡◌};
 ghost use Rattle.wq_ready.specs.Known.{IsCallerOf};
 
 use crate::expect::expect_same;
-use crate::pool::team::{Logging, Open, filled, new_pool, two_filled, work};
+use crate::pool::team::{
+    Logging, Open, filled, finish_out, finish_unfinished, new_pool, two_filled, work,
+};
 use std::alloc::Global;
 use std::process::Abort;
 use std::test::Fail;
-use wq_pool::{AnnounceError, Caller, Pool, PoolError, PoolFault, Served, Turn};
-
-/// Finishes a pool of which a queue is out, and gives it back with the number of the queue.
-pub(super) fn finish_out<R: Abort>(rt: &R, pool: Pool<Logging>, limit: u32) -> (Pool<Logging>, u32)
-    ensures { result.0 ≡ pool }
-{
-    match pool.finish(limit) {
-        Err(PoolFault::Out { pool, queue }) => (pool, queue),
-        _ => panic!(rt; "no queue was out"),
-    }
-}
-
-/// Finishes a pool that is not executed within the limit, and gives it back with the number of the queue and what is left of it.
-fn finish_unfinished<R: Abort>(
-    rt: &R,
-    pool: Pool<Logging>,
-    limit: u32,
-) -> (Pool<Logging>, u32, u32) {
-    match pool.finish(limit) {
-        Err(PoolFault::Unfinished { pool, queue, left }) => (pool, queue, left),
-        _ => panic!(rt; "nothing was left"),
-    }
-}
+use wq_pool::{AnnounceError, Caller, Pool, PoolError, Served, Turn};
 
 /// As many announcements wait as there are queues, whichever they are of.
 #[test]

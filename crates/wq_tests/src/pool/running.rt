@@ -2,12 +2,12 @@
 ghost use Rattle.wq_ready.specs.Known.{IsCallerOf};
 
 use crate::expect::expect_same;
-use crate::pool::team::{Logging, Open, new_pool, two_to_stop, work};
+use crate::pool::team::{Logging, Open, finish_unfinished, new_pool, two_to_stop, work};
 use std::process::Abort;
 use std::slice;
 use std::sync::Wait;
 use std::thread::Threads;
-use wq_pool::{Caller, Pool, PoolFault};
+use wq_pool::{Caller, Pool};
 
 /// One worker runs a pool of two queues, and all that was queued is executed.
 fn finish_both<R: Abort + Threads + Wait + Sync>(rt: &R, pool: Pool<Logging>, mut caller: Caller)
@@ -49,8 +49,6 @@ fn no_worker_runs_nothing(rt: HostRuntime) {
     expect_same(&rt, callers.len(), 0);
     pool.run(&rt, callers.as_mut_slice(), &Open)
         .expect(&rt, "threads");
-    let Err(PoolFault::Unfinished { queue, left, .. }) = pool.finish(0) else {
-        panic!(rt; "something was run")
-    };
+    let (_pool, queue, left) = finish_unfinished(&rt, pool, 0);
     expect_same(&rt, (queue, left), (0, 2));
 }

@@ -3,8 +3,9 @@ ghost use Rattle.std.specs.Prelude.{All};
 ghost use Rattle.wq_ready.specs.Known.{IsCallerOf};
 
 use crate::expect::expect_same;
-use crate::pool::rows::finish_out;
-use crate::pool::team::{Counting, Guest, Logging, Open, filled, take_last, two_filled, work};
+use crate::pool::team::{
+    Counting, Guest, Logging, Open, filled, finish_out, take_last, two_filled, work, work_back,
+};
 use std::alloc::Global;
 use std::process::Abort;
 use std::sync::Wait;
@@ -26,10 +27,7 @@ fn work_one<R: Abort + Wait>(rt: &R, pool: &Pool<Logging>, mut caller: Caller) -
     let is_announced = pool.announce(rt, &mut caller, 1).is_ok();
     assert!(rt; is_announced);
     let turn = pool.pick(rt, &mut caller).expect(rt, "a turn");
-    match turn.work(1, &Open) {
-        Ok(_) => panic!(rt; "nothing was left"),
-        Err(turn) => turn,
-    }
+    work_back(rt, turn, 1, &Open)
 }
 
 /// Announces a queue, picks one, works at it to its end and puts it back.

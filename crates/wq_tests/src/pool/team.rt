@@ -12,7 +12,7 @@ use std::sync::atomic::Ordering::SeqCst;
 use std::sync::{Mutex, Wait};
 use trail::Trail;
 use wq_live::{Answer, Sender};
-use wq_pool::{Caller, Gate, Pool, Served, Turn, Worked};
+use wq_pool::{Caller, Gate, Pool, PoolFault, Served, Turn, Worked};
 use wq_words::Layout;
 use wq_worker::{Follow, Work, Worker};
 
@@ -229,5 +229,42 @@ pub(crate) fn work<R: Abort, G: Gate>(
     match turn.work(limit, gate) {
         Ok(worked) => worked,
         Err(_) => panic!(rt; "something was left"),
+    }
+}
+
+/// Works at a queue up to a limit, behind which something is left.
+pub(crate) fn work_back<R: Abort, G: Gate>(
+    rt: &R,
+    turn: Turn<Logging>,
+    limit: u32,
+    gate: &G,
+) -> Turn<Logging>
+    ensures { result.slots ≡ turn.slots }
+{
+    match turn.work(limit, gate) {
+        Ok(_) => panic!(rt; "nothing was left"),
+        Err(turn) => turn,
+    }
+}
+
+/// Finishes a pool of which a queue is out, and gives it back with the number of the queue.
+pub(crate) fn finish_out<R: Abort>(rt: &R, pool: Pool<Logging>, limit: u32) -> (Pool<Logging>, u32)
+    ensures { result.0 ≡ pool }
+{
+    match pool.finish(limit) {
+        Err(PoolFault::Out { pool, queue }) => (pool, queue),
+        _ => panic!(rt; "no queue was out"),
+    }
+}
+
+/// Finishes a pool that is not executed within the limit, and gives it back with the number of the queue and what is left of it.
+pub(crate) fn finish_unfinished<R: Abort>(
+    rt: &R,
+    pool: Pool<Logging>,
+    limit: u32,
+) -> (Pool<Logging>, u32, u32) {
+    match pool.finish(limit) {
+        Err(PoolFault::Unfinished { pool, queue, left }) => (pool, queue, left),
+        _ => panic!(rt; "nothing was left"),
     }
 }

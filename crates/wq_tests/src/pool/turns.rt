@@ -1,9 +1,8 @@
 //! Turns at a queue: their limit, the gate around each execution, and one that is dropped.
 use crate::expect::expect_same;
-use crate::pool::team::{Open, new_pool, two_filled};
+use crate::pool::team::{Open, finish_out, new_pool, two_filled, work, work_back};
 use std::cell::Cell;
-use std::test::Fail;
-use wq_pool::{Gate, PoolFault};
+use wq_pool::Gate;
 
 /// Notes each call by a digit: 1 and 2 before and after item 0, 3 and 4 before and after item 1, and so on.
 #[derive(Drop)]
@@ -32,7 +31,7 @@ impl Gate for Noting {
 
 /// A turn executes up to its limit and is given back where an item waits. The gate is called around each execution.
 #[test]
-fn given_back_at_its_limit(rt: HostRuntime) -> Result<(), Fail> {
+fn given_back_at_its_limit(rt: HostRuntime) {
     let queues = two_filled(&rt, rt.alloc(), 3, 0);
     let (pool, mut caller) = new_pool(&rt, rt.alloc(), queues);
     pool.announce(&rt, &mut caller, 0).expect(&rt, "room");
@@ -40,25 +39,18 @@ fn given_back_at_its_limit(rt: HostRuntime) -> Result<(), Fail> {
         digits: Cell::new(0),
     };
     let turn = pool.pick(&rt, &mut caller).expect(&rt, "a turn");
-    let Err(turn) = turn.work(0, &gate) else {
-        return Err(Fail::new("nothing was left at first"));
-    };
+    let turn = work_back(&rt, turn, 0, &gate);
     expect_same(&rt, gate.digits.get(), 0);
-    let Err(turn) = turn.work(2, &gate) else {
-        return Err(Fail::new("nothing was left after two"));
-    };
+    let turn = work_back(&rt, turn, 2, &gate);
     expect_same(&rt, gate.digits.get(), 1234);
-    let Ok(worked) = turn.work(1, &gate) else {
-        return Err(Fail::new("something was left after three"));
-    };
+    let worked = work(&rt, turn, 1, &gate);
     expect_same(&rt, (gate.digits.get(), worked.queue()), (123_456, 0));
     pool.put_back(&mut caller, worked);
-    Ok(())
 }
 
 /// A turn that is dropped leaves its queue out, and the other queue is served.
 #[test]
-fn dropped_stays_out(rt: HostRuntime) -> Result<(), Fail> {
+fn dropped_stays_out(rt: HostRuntime) {
     let queues = two_filled(&rt, rt.alloc(), 1, 1);
     let (pool, mut caller) = new_pool(&rt, rt.alloc(), queues);
     pool.announce(&rt, &mut caller, 1).expect(&rt, "room");
@@ -66,15 +58,10 @@ fn dropped_stays_out(rt: HostRuntime) -> Result<(), Fail> {
     let dropped = pool.pick(&rt, &mut caller).expect(&rt, "a turn");
     drop(dropped);
     let turn = pool.pick(&rt, &mut caller).expect(&rt, "a second turn");
-    let Ok(worked) = turn.work(9, &Open) else {
-        return Err(Fail::new("something was left"));
-    };
+    let worked = work(&rt, turn, 9, &Open);
     expect_same(&rt, worked.queue(), 0);
     pool.put_back(&mut caller, worked);
-    let Err(PoolFault::Out { pool, queue }) = pool.finish(9) else {
-        return Err(Fail::new("no queue was out"));
-    };
+    let (pool, queue) = finish_out(&rt, pool, 9);
     expect_same(&rt, queue, 1);
     assert!(rt; pool.pick(&rt, &mut caller).is_none());
-    Ok(())
 }

@@ -1,48 +1,89 @@
-//! Six senders of one queue, five of them in threads beside the worker.
+//! Six senders of one queue: the worker's own, four that queue in threads beside it, and one that queues the stop item.
 ghost use Rattle.std.specs.Prelude.{◌≡◌, All};
 ghost use Rattle.wq_ledger.specs.Book.{IsLedgerOf};
 
 use crate::expect::expect_same;
-use crate::worker::team::{Fixed, destroy, new_queue, serve, stop, take_last};
+use crate::worker::team::{Fixed, destroy, new_queue, serve, take_last};
 use crossbeam_utils::sync::{Parker, Unparker};
 use std::alloc::Global;
 use std::process::Abort;
 use std::sync::Wait;
-use std::thread::{Threads, join_mut};
+use std::thread::{Threads, join_mut, yield_now};
 use wq_live::{Answer, Owner, Sender};
-use wq_worker::{Book, Ledger, Worker};
+use wq_worker::{Book, Ledger, Ran, Worker};
 
-fn queue_waiting<R: Abort + Wait>(rt: &R, sender: &mut Sender, item: u32)
+/// Which answers a sender wakes the worker on.
+#[derive(Clone, Copy)]
+pub(crate) enum Wakes {
+    Always,
+    OnRest,
+    OnFirst,
+}
+
+/// How many items of its own each sender queues, how long it pauses before each, and when it wakes the worker.
+#[derive(Clone, Copy)]
+pub(crate) struct Offer {
+    pub(crate) own: u32,
+    pub(crate) pauses: u32,
+    pub(crate) on: Wakes,
+}
+
+/// Wakes the worker where the answer says so. How often that is: once or never.
+fn wake(answer: Answer, on: Wakes, unparker: &Unparker) -> u32 {
+    let is_asked = match (answer, on) {
+        (Answer::Queued { .. }, Wakes::Always) => true,
+        (Answer::Queued { wakes, .. }, Wakes::OnRest) => wakes,
+        (Answer::Queued { first, .. }, Wakes::OnFirst) => first,
+        _ => false,
+    };
+    if is_asked {
+        unparker.unpark();
+    }
+    u32::from(is_asked)
+}
+
+fn pause(turns: u32) {
+    for _ in 0..turns {
+        yield_now();
+    }
+}
+
+fn queue_waiting<R: Abort + Wait>(rt: &R, sender: &mut Sender, item: u32) -> Answer
     ensures { sender.new.queue ≡ sender.old.queue }
 {
     assert!(rt; item < sender.layout().items);
-    sender.queue(rt, item);
+    sender.queue(rt, item)
 }
 
-/// Queues the sender's own 64 items, and unparks the worker after each.
-fn queue_own<R: Abort + Wait>(rt: &R, sender: &mut Sender, unparker: &Unparker)
+/// Queues the sender's own items. How often it woke the worker.
+fn queue_own<R: Abort + Wait>(rt: &R, sender: &mut Sender, offer: Offer, unparker: &Unparker) -> u32
     ensures { sender.new.queue ≡ sender.old.queue }
 {
-    let first = sender.number().wrapping_mul(64);
-    for item in first..first.wrapping_add(64) {
-        queue_waiting(rt, sender, item);
-        unparker.unpark();
+    let first = sender.number().wrapping_mul(offer.own);
+    let mut count = 0u32;
+    for item in first..first.wrapping_add(offer.own) {
+        pause(item.wrapping_mul(offer.pauses));
+        let answer = queue_waiting(rt, sender, item);
+        count = count.wrapping_add(wake(answer, offer.on, unparker));
     }
+    count
 }
 
 fn queue_pair<R: Abort + Threads + Wait + Sync>(
     rt: &R,
     first: &mut Sender,
     second: &mut Sender,
+    offer: Offer,
     unparker: &Unparker,
-)
+) -> u32
     ensures { (first.new.queue ≡ first.old.queue) × (second.new.queue ≡ second.old.queue) }
 {
-    join_mut(
+    let (one, two) = join_mut(
         rt,
-        &mut || queue_own(rt, first, unparker),
-        &mut || queue_own(rt, second, unparker),
+        &mut || queue_own(rt, first, offer, unparker),
+        &mut || queue_own(rt, second, offer, unparker),
     );
+    one.wrapping_add(two)
 }
 
 /// Senders 0 to 4 of a queue.
@@ -55,22 +96,25 @@ pub(crate) struct Crew {
     pub(crate) last: Sender,
 }
 
-/// Four senders queue their own items in threads, and then the last one the stop item.
+/// Four senders queue their own items in threads, and then the last one the stop item. How often they woke the worker.
 fn queue_and_stop<R: Abort + Threads + Wait + Sync>(
     rt: &R,
     crew: &mut Crew,
+    offer: Offer,
     unparker: &Unparker,
-) -> Answer
+) -> u32
     ensures pairs { (crew.new.first.queue ≡ crew.old.first.queue) × (crew.new.second.queue ≡ crew.old.second.queue)
         × (crew.new.third.queue ≡ crew.old.third.queue) × (crew.new.fourth.queue ≡ crew.old.fourth.queue) }
     ensures last { crew.new.last.queue ≡ crew.old.last.queue }
 {
-    join_mut(
+    let (one, two) = join_mut(
         rt,
-        &mut || queue_pair(rt, &mut crew.first, &mut crew.second, unparker),
-        &mut || queue_pair(rt, &mut crew.third, &mut crew.fourth, unparker),
+        &mut || queue_pair(rt, &mut crew.first, &mut crew.second, offer, unparker),
+        &mut || queue_pair(rt, &mut crew.third, &mut crew.fourth, offer, unparker),
     );
-    stop(&mut crew.last, unparker)
+    let answer = crew.last.request_stop(u32::MAX);
+    one.wrapping_add(two)
+        .wrapping_add(wake(answer, offer.on, unparker))
 }
 
 /// The sender meets the book, and its ledger is put behind the others.
@@ -98,12 +142,53 @@ pub(crate) fn new_crew<R: Abort>(rt: &R, owner: &Owner, senders: &mut Vec<Sender
     }
 }
 
-fn serve_crew<R: Abort + Threads + Wait + Sync>(
+/// Runs, and rests and parks where nothing waits, until the stop item ran. How often it rested.
+fn run_and_rest<R: Abort + Wait>(rt: &R, worker: &mut Worker<Fixed>, parker: &mut Parker) -> u32
+    ensures { worker.new.queue ≡ worker.old.queue }
+{
+    let mut rests = 0u32;
+    for _ in rt.forever() {
+        match worker.run_one() {
+            Ran::Stop => return rests,
+            Ran::Nothing => {
+                assert!(rt; !worker.is_closed());
+                if worker.rest() {
+                    rests = rests.wrapping_add(1);
+                    parker.park(rt);
+                }
+            }
+            Ran::Item(_) | Ran::Barrier(_) | Ran::Owing(_) => {}
+        }
+    }
+    unreachable!()
+}
+
+/// Runs until the stop item ran: where it is woken on `wakes` alone the worker rests, and else it serves. How often it rested.
+fn run_until_stop<R: Abort + Wait>(
+    rt: &R,
+    worker: &mut Worker<Fixed>,
+    parker: &mut Parker,
+    on: Wakes,
+) -> u32
+    ensures { worker.new.queue ≡ worker.old.queue }
+{
+    match on {
+        Wakes::OnRest => run_and_rest(rt, worker, parker),
+        Wakes::Always | Wakes::OnFirst => {
+            serve(rt, worker, parker);
+            0
+        }
+    }
+}
+
+/// The worker runs beside its crew until the stop item ran. How often it rested, and how often it was woken.
+pub(crate) fn run_beside<R: Abort + Threads + Wait + Sync>(
     rt: &R,
     alloc: Global,
     worker: &mut Worker<Fixed>,
     crew: &mut Crew,
-)
+    offer: Offer,
+) -> (u32, u32)
     ensures worker { worker.new.queue ≡ worker.old.queue }
     ensures pairs { (crew.new.first.queue ≡ crew.old.first.queue) × (crew.new.second.queue ≡ crew.old.second.queue)
         × (crew.new.third.queue ≡ crew.old.third.queue) × (crew.new.fourth.queue ≡ crew.old.fourth.queue) }
@@ -113,9 +198,9 @@ fn serve_crew<R: Abort + Threads + Wait + Sync>(
     let unparker = parker.unparker().clone().expect(rt, "one unparker more");
     join_mut(
         rt,
-        &mut || serve(rt, worker, &mut parker),
-        &mut || queue_and_stop(rt, crew, &unparker),
-    );
+        &mut || run_until_stop(rt, worker, &mut parker, offer.on),
+        &mut || queue_and_stop(rt, crew, offer, &unparker),
+    )
 }
 
 fn enter_all<R: Abort>(rt: &R, alloc: Global, book: &mut Book, crew: &mut Crew) -> Vec<Ledger>
@@ -139,7 +224,12 @@ fn six_senders_balance(rt: HostRuntime) {
     let own = take_last(&rt, &owner, &mut senders);
     let mut crew = new_crew(&rt, &owner, &mut senders);
     let mut worker = Worker::new(owner, own, Fixed::new(), 1);
-    serve_crew(&rt, rt.alloc(), &mut worker, &mut crew);
+    let offer = Offer {
+        own: 64,
+        pauses: 0,
+        on: Wakes::Always,
+    };
+    run_beside(&rt, rt.alloc(), &mut worker, &mut crew, offer);
     let (work, mut book) = destroy(&rt, worker, 9);
     expect_same(&rt, work.order.len(), 256);
     let ledgers = enter_all(&rt, rt.alloc(), &mut book, &mut crew);
