@@ -1,5 +1,5 @@
 -- What a script never answers: another seat would have had to step between two commands, or memory to be wanting.
-use Rattle.std.proofs.Common.{◌≡◌, ◌≢◌, ℕ, ◌==◌, ◌&&◌, Bool, true, false, List, if◌then◌else◌, refl}
+use Rattle.std.proofs.Common.{◌≢◌, ℕ, ◌==◌, ◌&&◌, Bool, true, false, List, if◌then◌else◌, refl}
 use Rattle.wq_words.specs.declared.event.Event.{Event}
 use Rattle.wq_words.specs.History.{pending, closed, first}
 use Rattle.wq_words.specs.Rest.{wakes}

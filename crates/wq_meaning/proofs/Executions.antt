@@ -6,7 +6,7 @@ use Rattle.wq_words.specs.declared.event.Event.{Event}
 use Rattle.wq_words.specs.declared.event.Event.TheVariants.{Hold, Busy, Push, Back, Take, Begin, End, Chain, ChainBusy}
 use Rattle.wq_words.specs.declared.event.Why.TheVariants as why
 use Rattle.wq_words.specs.History.{begun, ended, closed, pending, taken, next}
-use Rattle.wq_meaning.specs.Execution.{no_follow, follow_of, take_events, follow_events, after_follow, after_run, after_execution, after_executions, go_on}
+use Rattle.wq_meaning.specs.Execution.{follow_of, take_events, follow_events, after_follow, after_run, after_execution, after_executions, go_on}
 use Rattle.wq_words.proofs.Appended.{ended-append}
 
 -- queueing what follows ends nothing

@@ -1,5 +1,5 @@
 -- The order of a delay table.
-use Rattle.std.proofs.Common.{◌≡◌, ℕ, zero, suc, ◌+◌, ◌<◌, ◌≤◌, ◌==◌, Bool, true, false, not, nat_lt, nat_le, List, [], ◌∷◌, All, refl, sym, ◌∙◌, inl, inr, arith, if◌then◌else◌, cond, filter, None, fold}
+use Rattle.std.proofs.Common.{◌≡◌, ℕ, zero, suc, ◌+◌, ◌<◌, ◌==◌, Bool, true, false, not, nat_lt, nat_le, List, [], ◌∷◌, All, refl, sym, ◌∙◌, inl, inr, arith, if◌then◌else◌, cond, filter, None, fold}
 use Rattle.std.proofs.lemmas.Bool.{cases_lt, lt-ltb, le-ltb, false≢true}
 use Rattle.std.proofs.lemmas.List.Kept.{AllPairs-cons, AllPairs-filter}
 use Rattle.wq_words.specs.declared.layout.Layout.{Layout}

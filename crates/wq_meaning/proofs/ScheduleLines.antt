@@ -1,11 +1,9 @@
 -- The output of a schedule, a turn further, and that it is one.
-use Rattle.std.proofs.Common.{◌≡◌, inl, inr, ℕ, ◌+◌, ◌<◌, List, [], ◌∷◌, ◌++◌, length, drop, get_or, refl, sym, ap, ◌∙◌, subst, append_assoc, drop-cons, add-one, codes}
+use Rattle.std.proofs.Common.{◌≡◌, inl, inr, ℕ, ◌+◌, ◌<◌, List, [], ◌∷◌, ◌++◌, length, drop, get_or, refl, sym, ap, ◌∙◌, subst, append_assoc, drop-cons, add-one}
 use Rattle.std.proofs.lemmas.List.{append-nil}
 use Rattle.wq_words.specs.declared.layout.Layout.{Layout}
-use Rattle.wq_words.specs.History.{accepted, begun}
 use Rattle.wq_core.specs.Machine.{Machine, opening}
 use Rattle.wq_text.specs.Turn.{Turn}
-use Rattle.wq_meaning.specs.Names.{row_text}
 use Rattle.wq_meaning.specs.ScheduleOutput.{Gives, AllGive, GivesBehind, IsScheduleOutput, HasOneOutput, ending}
 
 -- whatever the turns that are left give, all turns give it behind what was written
@@ -34,17 +32,6 @@ output_whole layout turns left m out text none so_far whole =
     let P : List Turn → Type 0 = λ ts. AllGive m ts m [] in
     let Q : List ℕ → Type 0 = λ xs. AllGive (opening layout) turns m xs in
     record { machine = m; lines = out; given = subst Q (append-nil out) (so_far m [] (subst P (sym none) (refl, refl))); whole = whole }
-
--- the two rows that are written behind the lines are the ending
-pub ends_with_rows : (m : Machine) (shown : Layout) (layout : Layout) (ks js : List ℕ) (out mid text : List ℕ) → shown ≡ layout
-    → m.layout ≡ layout → ks ≡ accepted m.history → js ≡ begun m.history
-    → mid ≡ out ++ row_text shown (codes "accepted") ks → text ≡ mid ++ row_text shown (codes "begun") js → text ≡ out ++ ending m
-ends_with_rows m shown layout ks js out mid text same own first second one two =
-    let here : shown ≡ m.layout = same ∙ sym own in
-    two ∙ ap (λ x. x ++ row_text shown (codes "begun") js) one ∙ append_assoc out (row_text shown (codes "accepted") ks) (row_text shown (codes "begun") js)
-    ∙ ap (λ l. out ++ (row_text l (codes "accepted") ks ++ row_text l (codes "begun") js)) here
-    ∙ ap (λ xs. out ++ (row_text m.layout (codes "accepted") xs ++ row_text m.layout (codes "begun") js)) first
-    ∙ ap (λ xs. out ++ (row_text m.layout (codes "accepted") (accepted m.history) ++ row_text m.layout (codes "begun") xs)) second
 
 one_gives : (m : Machine) (turn : Turn) (n p : Machine) (text other : List ℕ) → Gives m turn n text → Gives m turn p other → (n ≡ p) × (text ≡ other)
 one_gives m turn n p text other (inl made) (inl again) = (made.1 ∙ sym again.1, made.2 ∙ sym again.2)

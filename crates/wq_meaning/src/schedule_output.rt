@@ -1,7 +1,7 @@
 //! A schedule's run, from its steps to the bytes of its output.
-ghost use Rattle.std.specs.Prelude.{◌≡◌, IfOk, OnOk, string_bytes};
+ghost use Rattle.std.specs.Prelude.{◌≡◌, ◌++◌, IfOk, OnOk, string_bytes};
 ghost use Rattle.wq_core.specs.Refusal.{IsPlaced};
-ghost use Rattle.wq_meaning.specs.ScheduleOutput.{GivesBehind, IsScheduleOutput, HasOneOutput};
+ghost use Rattle.wq_meaning.specs.ScheduleOutput.{ending, GivesBehind, IsScheduleOutput, HasOneOutput};
 ghost use Rattle.wq_text.specs.Schedule.{schedule_layout, turns_of};
 
 use crate::error::RunError;
@@ -32,6 +32,15 @@ fn make_turn(
     }
 }
 
+/// Writes the last two lines: what was accepted, and what has begun.
+fn write_ending(layout: &Layout, core: &Core, out: &mut String) -> Result<(), AllocError>
+    requires same { core.now.layout ≡ layout.now }
+    ensures written { OnOk result (string_bytes out.new ≡ string_bytes out.old ++ ending core.now) }
+{
+    write_row(layout, "accepted", &core.accepted()?, out)?;
+    write_row(layout, "begun", &core.begun()?, out)
+}
+
 /// The output of a schedule, as text.
 fn output_text(alloc: Global, schedule: &Schedule) -> Result<String, AllocError>
     ensures { IfOk result (λ text. IsScheduleOutput (schedule_layout schedule.now) (turns_of schedule.now) (string_bytes text)) }
@@ -42,8 +51,7 @@ fn output_text(alloc: Global, schedule: &Schedule) -> Result<String, AllocError>
     for (seat, step) in schedule.turns() {
         make_turn(&mut core, layout, *seat, *step, &mut out)?;
     }
-    write_row(layout, "accepted", &core.accepted()?, &mut out)?;
-    write_row(layout, "begun", &core.begun()?, &mut out)?;
+    write_ending(layout, &core, &mut out)?;
     Ok(out)
 }
 

@@ -69,20 +69,18 @@ fn header(most_senders: u32, stage: Stage, words: &[&str]) -> Result<Stage, Line
     ensures sound { IfOk result (KeepsHeader most_senders stage) }
 {
     match stage {
-        Stage::Items => {
-            let items = between(Kind::Items, 1, 4096, one_word(words)?)?;
-            Ok(Stage::Senders(limited(Kind::Items, items, 1, 1)?))
-        }
-        Stage::Senders(layout) => {
-            let senders = between(Kind::Senders, 1, most_senders, one_word(words)?)?;
-            let layout = limited(Kind::Senders, layout.items, 1, senders)?;
-            Ok(Stage::Barriers(layout))
-        }
-        Stage::Barriers(layout) => {
-            let barriers = between(Kind::Barriers, 1, 16, one_word(words)?)?;
-            let layout = limited(Kind::Barriers, layout.items, barriers, layout.senders)?;
-            Ok(Stage::Commands(layout))
-        }
+        Stage::Items => one_word(words)
+            .and_then(|word| between(Kind::Items, 1, 4096, word))
+            .and_then(|items| limited(Kind::Items, items, 1, 1))
+            .map(Stage::Senders),
+        Stage::Senders(layout) => one_word(words)
+            .and_then(|word| between(Kind::Senders, 1, most_senders, word))
+            .and_then(|senders| limited(Kind::Senders, layout.items, 1, senders))
+            .map(Stage::Barriers),
+        Stage::Barriers(layout) => one_word(words)
+            .and_then(|word| between(Kind::Barriers, 1, 16, word))
+            .and_then(|barriers| limited(Kind::Barriers, layout.items, barriers, layout.senders))
+            .map(Stage::Commands),
         Stage::Version | Stage::Commands(_) => Err(LineError::Fault(Kind::Header)),
     }
 }

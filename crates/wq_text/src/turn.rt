@@ -141,8 +141,7 @@ fn owners_turn(step: Step, words: &[&str]) -> Result<(Seat, Step), LineError>
     ensures exact { LineGives result (of_none (Seat.Owner, step) (no_word (map (λ w. w.now) words.now))) }
     ensures owners { IfOk result (λ turn. turn ≡ (Seat.Owner, step)) }
 {
-    no_word(words)?;
-    Ok((Seat::Owner, step))
+    no_word(words).map(|()| (Seat::Owner, step))
 }
 
 // A step's turn, from its first word and the words behind the second.
@@ -157,30 +156,29 @@ pub(crate) fn turn(
     ensures fits { IfOk result (PlacedIn layout) }
 {
     match action {
-        Action::Hold => {
-            let (sender, number) = seat_and_number(layout, first, words)?;
-            Ok((Seat::Sender(sender), Step::Hold(number)))
-        }
+        Action::Hold => seat_and_number(layout, first, words).map(|(sender, number)| (
+            Seat::Sender(sender),
+            Step::Hold(number),
+        )),
         Action::Look => {
-            let sender = seat_alone(layout, first, words)?;
-            Ok((Seat::Sender(sender), Step::Look))
+            seat_alone(layout, first, words).map(|sender| (Seat::Sender(sender), Step::Look))
         }
-        Action::Link => {
-            let (sender, number) = seat_and_number(layout, first, words)?;
-            Ok((Seat::Sender(sender), Step::Link(number)))
-        }
-        Action::Push => {
-            let (sender, number) = seat_and_number(layout, first, words)?;
-            Ok((Seat::Sender(sender), Step::Push(number)))
-        }
-        Action::Back(why) => {
-            let (sender, number) = seat_and_number(layout, first, without_last(words))?;
-            Ok((Seat::Sender(sender), Step::Back(number, why)))
-        }
-        Action::Check => {
-            let (sender, number) = seat_and_number(layout, first, words)?;
-            Ok((Seat::Sender(sender), Step::Check(number)))
-        }
+        Action::Link => seat_and_number(layout, first, words).map(|(sender, number)| (
+            Seat::Sender(sender),
+            Step::Link(number),
+        )),
+        Action::Push => seat_and_number(layout, first, words).map(|(sender, number)| (
+            Seat::Sender(sender),
+            Step::Push(number),
+        )),
+        Action::Back(why) => seat_and_number(layout, first, without_last(words)).map(|(
+            sender,
+            number,
+        )| (Seat::Sender(sender), Step::Back(number, why))),
+        Action::Check => seat_and_number(layout, first, words).map(|(sender, number)| (
+            Seat::Sender(sender),
+            Step::Check(number),
+        )),
         Action::Take => owners_turn(Step::Take, words),
         Action::Close => owners_turn(Step::Close, words),
         Action::Walk => owners_turn(Step::Walk, words),
@@ -190,10 +188,10 @@ pub(crate) fn turn(
         Action::Chain => one_word(words)
             .and_then(|word| item(layout, word))
             .map(|number| (Seat::Owner, Step::Chain(number))),
-        Action::Turn => {
-            let (number, next) = number_and_link(layout, words)?;
-            Ok((Seat::Owner, Step::Turn(number, next)))
-        }
+        Action::Turn => number_and_link(layout, words).map(|(number, next)| (
+            Seat::Owner,
+            Step::Turn(number, next),
+        )),
     }
 }
 

@@ -1,10 +1,10 @@
-use Rattle.std.proofs.Common.{arith, ◌∙◌, ap, ◌<◌, List, length, get_or, string_bytes, subst}
+use Rattle.std.proofs.Common.{arith, ◌∙◌, ap, sym, ◌<◌, List, length, get_or, string_bytes, subst}
 use Rattle.std.proofs.Math.ListN.{drop_of_length-le}
 use Rattle.wq_core.specs.declared.step.Seat.TheVariants.{Sender}
 use Rattle.wq_core.specs.declared.step.Step.TheVariants.{Hold}
 use Rattle.wq_text.specs.Turn.{Turn}
 use Rattle.wq_meaning.specs.ScheduleOutput.{GivesBehind}
-use Rattle.wq_meaning.proofs.ScheduleLines.{continues_behind, output_whole, ends_with_rows}
+use Rattle.wq_meaning.proofs.ScheduleLines.{continues_behind, output_whole}
 use Rattle.wq_meaning.proofs.schedule_output.output_text.Goals as goal
 
 pub loop-seat-preserved : goal.loop-seat-preserved
@@ -19,11 +19,11 @@ loop-seat-preserved c =
           (subst P c.turns-seat-items.ensures.value c.in_ok-make_turn.ensures.gives) c.loop-seat.invariant.told;
     }
 
+pub write_ending-requires : goal.write_ending-requires
+write_ending-requires c = record { same = c.loop-seat.invariant.same ∙ sym c.layout-layout.ensures.numbers }
+
 pub returns : goal.returns
 returns c =
     let turns : List Turn = c.args.schedule.now.turns.items in
     output_whole c.args.schedule.now.layout turns _ c.loop-seat.core _ _
-    (drop_of_length-le turns (omega (arith, ap length c.turns-seat-items.ensures.value))) c.loop-seat.invariant.told
-    (ends_with_rows c.loop-seat.core _ _ _ _ _ _ _ c.layout-layout.ensures.numbers c.loop-seat.invariant.same
-    (c.deref.ensures.value ∙ c.in_ok-accepted.ensures.numbers) (c.deref-2.ensures.value ∙ c.in_ok-begun.ensures.numbers) c.in_ok-write_row.ensures.written
-    c.in_ok-write_row-2.ensures.written)
+    (drop_of_length-le turns (omega (arith, ap length c.turns-seat-items.ensures.value))) c.loop-seat.invariant.told c.in_ok-write_ending.ensures.written
