@@ -4,7 +4,7 @@ PREFIX ?= /usr/local
 PROGRAM := crates/wqrun/out/wqrun
 EXAMPLES := examples
 
-.PHONY: run test build install bench examples rows memory
+.PHONY: run test build install bench examples rows memory wrong-bodies
 
 run: build
 	$(PROGRAM) script $(EXAMPLES)/first.wq
@@ -25,14 +25,20 @@ install: build
 examples: build
 	checks/examples.sh $(PROGRAM)
 
-# Each worked row of a script, a schedule or a plan gives what stands beside it, and so does each command line.
+# Each worked row of a script, a schedule or a plan gives what stands beside it, and so does each command line; random scripts of a
+# delay table give what a sorted list does.
 rows: build
 	checks/rows.py $(PROGRAM)
 	checks/command_lines.py $(PROGRAM)
+	checks/random_delays.py $(PROGRAM)
 
 # The calls that take memory, with each allocation refused in turn, as the gate does; some minutes.
 memory:
 	checks/refused_memory.sh
+
+# The wrong bodies that the gate leaves out; half an hour on two processors, less where crates were checked before.
+wrong-bodies:
+	checks/wrong_bodies.sh
 
 # Times a script of a megabyte, executed items beside the same scheme in C, in one thread and in several, and a pool beside others in C.
 bench: build

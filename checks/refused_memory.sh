@@ -1,7 +1,7 @@
 #!/usr/bin/env bash
 # Refuses each allocation of each call that takes memory, one at a time, and compares what came of it with refused_memory.report.
 # A case of wq_refused makes one call in such a way that its Nth allocation is the program's hundredth, and tells whether that one
-# was refused in the call. So one build serves all cases: for each call those up to a few after its last allocation.
+# was refused in the call. So one build serves all cases: for each call those up to the one after its last allocation.
 # With the word --all the report is made anew, from 60 cases for each call.
 set -euo pipefail
 cd "$(dirname "${BASH_SOURCE[0]}")"
@@ -11,7 +11,7 @@ trap 'rm -rf "$folder"' EXIT
 mkdir "$folder/cases"
 while read -r call _ count _; do
     if [ "${1:-}" = --all ]; then count=56; fi
-    for place in $(seq 1 $((count + 4))); do
+    for place in $(seq 1 $((count + 1))); do
         echo "$call $place" >"$folder/cases/$call.$place"
     done
 done <"$report"

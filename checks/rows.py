@@ -2,9 +2,10 @@
 """Runs each row of checks/rows/*.rows with the program that is named: a text, and what becomes of it.
 
 A row is `TEXT => WANT`. In TEXT a `;` ends a line, one space after it is left out, `\\t` is a tab, `\\r` a carriage return and
-`\\s` a space; `{comments to N}` fills the text up to N bytes with comment lines, and `{spaces to N}` with spaces. WANT is what
-standard output has to hold, with status 0 and nothing on standard error; or `read`, where the output may be any; or
-`! REFUSAL`, the one line of standard error, with status 1 and nothing on standard output.
+`\\s` a space; `{comments to N}` fills the text up to N bytes with comment lines, and `{spaces to N}` with spaces; `{M to N:PART}` is
+PART once for each number from M to N, which stands in the place of a `#`. WANT is what standard output has to hold, with status
+0 and nothing on standard error; or `read`, where the output may be any; or `! REFUSAL`, the one line of standard error, with
+status 1 and nothing on standard output.
 
 Lines before the rows say of all that follow: `command WORD` the subcommand, `before TEXT` what each text begins with, `times N`
 how often each is run. After `after STEPS` a row is `STEP => REPLY`: the step is tried right after these, which are all enabled,
@@ -21,6 +22,8 @@ from pathlib import Path
 
 def text_of(row):
     """The bytes that a row spells."""
+    each = lambda it: "".join(it[3].replace("#", str(number)) for number in range(int(it[1]), int(it[2]) + 1))
+    row = re.sub(r"\{(\d+) to (\d+):([^}]*)\}", each, row)
     made = b""
     for part in re.split(r"(\{(?:comments|spaces) to \d+\})", row):
         fill = re.fullmatch(r"\{(comments|spaces) to (\d+)\}", part)

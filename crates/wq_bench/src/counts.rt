@@ -1,7 +1,7 @@
 //! What a run counted.
 
 /// How many executions ended, in how many takes that found something.
-#[derive(Clone, Copy, Debug, PartialEq, Eq)]
+#[derive(Clone, Copy)]
 pub struct Counts {
     pub items: u64,
     pub takes: u64,

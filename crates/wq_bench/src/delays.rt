@@ -1,10 +1,11 @@
 //! Measures a delay table: its items are armed, moved and cancelled, and armed again and let go tick by tick, in rounds.
 ghost use Rattle.std.specs.Prelude.{◌≡◌, [], IfSome};
 
+use crate::clock::{now, since};
 use crate::execute::execute_batch;
+use crate::plan::PlanError;
 use std::alloc::Global;
-use std::io;
-use std::time::{Clock, Duration, Instant};
+use std::time::{Clock, Duration};
 use wq_delay::Delay;
 use wq_live::{Owner, Sender, build};
 use wq_words::Layout;
@@ -64,22 +65,22 @@ fn let_go(delay: &mut Delay, tick: u64, ticks: u64) {
     }
 }
 
-fn time_arming<R: Clock>(rt: &R, delay: &mut Delay, ticks: u64) -> io::Result<Duration> {
-    let start = Instant::now(rt)?;
+fn time_arming<R: Clock>(rt: &R, delay: &mut Delay, ticks: u64) -> Result<Duration, PlanError> {
+    let start = now(rt)?;
     arm_all(delay, ticks);
-    start.elapsed(rt)
+    since(rt, start)
 }
 
-fn time_moving<R: Clock>(rt: &R, delay: &mut Delay, ticks: u64) -> io::Result<Duration> {
-    let start = Instant::now(rt)?;
+fn time_moving<R: Clock>(rt: &R, delay: &mut Delay, ticks: u64) -> Result<Duration, PlanError> {
+    let start = now(rt)?;
     move_all(delay, ticks);
-    start.elapsed(rt)
+    since(rt, start)
 }
 
-fn time_cancelling<R: Clock>(rt: &R, delay: &mut Delay) -> io::Result<Duration> {
-    let start = Instant::now(rt)?;
+fn time_cancelling<R: Clock>(rt: &R, delay: &mut Delay) -> Result<Duration, PlanError> {
+    let start = now(rt)?;
     cancel_all(delay);
-    start.elapsed(rt)
+    since(rt, start)
 }
 
 fn time_letting_go<R: Clock>(
@@ -87,10 +88,10 @@ fn time_letting_go<R: Clock>(
     delay: &mut Delay,
     tick: u64,
     ticks: u64,
-) -> io::Result<Duration> {
-    let start = Instant::now(rt)?;
+) -> Result<Duration, PlanError> {
+    let start = now(rt)?;
     let_go(delay, tick, ticks);
-    start.elapsed(rt)
+    since(rt, start)
 }
 
 // How long arming, moving, cancelling and letting go took, over all items.
@@ -99,7 +100,7 @@ fn time_round<R: Clock>(
     delay: &mut Delay,
     tick: u64,
     ticks: u64,
-) -> io::Result<[Duration; 4]> {
+) -> Result<[Duration; 4], PlanError> {
     let armed = time_arming(rt, delay, ticks)?;
     let moved = time_moving(rt, delay, ticks)?;
     let cancelled = time_cancelling(rt, delay)?;
@@ -115,25 +116,41 @@ fn add(times: &mut [Duration; 4], more: [Duration; 4]) {
     times[3] = times[3].saturating_add(more[3]);
 }
 
+// The owner of a new queue of so many items, and a table over its sender.
+fn table(alloc: Global, items: u32) -> Option<(Owner, Delay)> {
+    let (owner, sender) = seats(alloc, items)?;
+    match Delay::new(alloc, sender, 0) {
+        Ok(delay) => Some((owner, delay)),
+        Err(_no_room) => None,
+    }
+}
+
+// The time of so many rounds, each of which executes what it let go.
+fn time_rounds<R: Clock>(
+    rt: &R,
+    owner: &mut Owner,
+    delay: &mut Delay,
+    rounds: u64,
+) -> Result<[Duration; 4], PlanError> {
+    let ticks = u64::from((delay.layout().items / A_TICK).max(1));
+    let mut times = [Duration::ZERO; 4];
+    for round in 0..rounds {
+        let more = time_round(rt, delay, round.saturating_mul(ticks), ticks)?;
+        add(&mut times, more);
+        execute_batch(owner, u64::MAX);
+    }
+    Ok(times)
+}
+
 /// How long arming, moving, cancelling and letting go took in so many rounds over so many items.
 pub fn measure<R: Clock>(
     rt: &R,
     alloc: Global,
     items: u32,
     rounds: u64,
-) -> io::Result<Option<[Duration; 4]>> {
-    let Some((mut owner, sender)) = seats(alloc, items) else {
-        return Ok(None);
-    };
-    let Ok(mut delay) = Delay::new(alloc, sender, 0) else {
-        return Ok(None);
-    };
-    let ticks = u64::from((items / A_TICK).max(1));
-    let mut times = [Duration::ZERO; 4];
-    for round in 0..rounds {
-        let more = time_round(rt, &mut delay, round.saturating_mul(ticks), ticks)?;
-        add(&mut times, more);
-        execute_batch(&mut owner, u64::MAX);
+) -> Result<[Duration; 4], PlanError> {
+    match table(alloc, items) {
+        Some((mut owner, mut delay)) => time_rounds(rt, &mut owner, &mut delay, rounds),
+        None => Err(PlanError::Memory),
     }
-    Ok(Some(times))
 }

@@ -1,4 +1,5 @@
 //! One item at a time, queued to a worker that serves in another thread and has nothing else to do.
+use crate::clock::{now, since};
 use crate::offer::offer;
 use crate::pace::Pace;
 use crate::plan::PlanError;
@@ -7,27 +8,26 @@ use crate::serve::serve;
 use crossbeam_utils::sync::{Parker, Unparker};
 use std::alloc::Global;
 use std::hint::spin_loop;
-use std::io;
 use std::sync::atomic::{AtomicU64, Ordering};
 use std::sync::{Arc, Wait};
 use std::thread::{Threads, join_mut};
-use std::time::{Clock, Duration, Instant};
+use std::time::{Clock, Duration};
 use wq_live::{Answer, Sender};
 use wq_words::Layout;
 use wq_worker::Worker;
 
 /// How often an item is queued, and how long nothing is queued before.
-#[derive(Clone, Copy, Debug)]
+#[derive(Clone, Copy)]
 pub struct Rounds {
     pub count: u64,
     pub gap: Duration,
 }
 
 /// Passes so much time, without the system's help.
-fn pass<R: Clock>(rt: &R, gap: Duration) -> io::Result<()> {
-    let start = Instant::now(rt)?;
+fn pass<R: Clock>(rt: &R, gap: Duration) -> Result<(), PlanError> {
+    let start = now(rt)?;
     for _ in 0..u64::MAX {
-        if start.elapsed(rt)? >= gap {
+        if since(rt, start)? >= gap {
             break;
         }
         spin_loop();
@@ -42,8 +42,8 @@ fn ring<R: Clock>(
     unparker: &Unparker,
     shown: &AtomicU64,
     runs: u64,
-) -> io::Result<Duration> {
-    let start = Instant::now(rt)?;
+) -> Result<Duration, PlanError> {
+    let start = now(rt)?;
     if let Answer::Queued { first: true, .. } = offer(sender, 0) {
         unparker.unpark();
     }
@@ -53,7 +53,7 @@ fn ring<R: Clock>(
         }
         spin_loop();
     }
-    start.elapsed(rt)
+    since(rt, start)
 }
 
 /// The times of all rounds, in nanoseconds.
@@ -64,7 +64,7 @@ fn ring_often<R: Clock>(
     unparker: &Unparker,
     shown: &AtomicU64,
     rounds: Rounds,
-) -> io::Result<Vec<u128>> {
+) -> Result<Vec<u128>, PlanError> {
     let mut times = Vec::new(alloc);
     for round in 0..rounds.count {
         pass(rt, rounds.gap)?;
@@ -82,7 +82,7 @@ fn ring_and_stop<R: Clock>(
     unparker: &Unparker,
     shown: &AtomicU64,
     rounds: Rounds,
-) -> io::Result<Vec<u128>> {
+) -> Result<Vec<u128>, PlanError> {
     let times = ring_often(rt, alloc, sender, unparker, shown, rounds);
     sender.request_stop(u32::MAX);
     unparker.unpark();
@@ -98,7 +98,7 @@ fn ring_beside<R: Threads + Wait + Clock + Sync>(
     shown: &AtomicU64,
     rounds: Rounds,
     pace: Pace,
-) -> Result<io::Result<Vec<u128>>, PlanError> {
+) -> Result<Vec<u128>, PlanError> {
     let mut parker = Parker::new(alloc)?;
     let unparker = parker.unparker().clone()?;
     let (_, times) = join_mut(
@@ -106,7 +106,7 @@ fn ring_beside<R: Threads + Wait + Clock + Sync>(
         &mut || serve(rt, &mut worker, &mut parker, pace),
         &mut || ring_and_stop(rt, alloc, &mut sender, &unparker, shown, rounds),
     );
-    Ok(times)
+    times
 }
 
 /// A worker of one item, and its sender.
@@ -128,13 +128,10 @@ pub fn measure<R: Threads + Wait + Clock + Sync>(
     alloc: Global,
     rounds: Rounds,
     pace: Pace,
-) -> Result<io::Result<Vec<u128>>, PlanError> {
+) -> Result<Vec<u128>, PlanError> {
     let shown = shown(alloc)?;
     let (worker, sender) = pair(alloc, &shown)?;
-    let mut times = match ring_beside(rt, alloc, worker, sender, &shown, rounds, pace)? {
-        Ok(times) => times,
-        Err(error) => return Ok(Err(error)),
-    };
+    let mut times = ring_beside(rt, alloc, worker, sender, &shown, rounds, pace)?;
     times.sort_unstable();
-    Ok(Ok(times))
+    Ok(times)
 }

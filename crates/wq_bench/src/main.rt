@@ -16,6 +16,7 @@
 //! Without words it prints `items N` for a small plan of one queue and for one of a pool, which depends on no clock.
 #![tactic(auto)]
 
+mod clock;
 mod counts;
 mod delays;
 mod execute;
@@ -140,14 +141,11 @@ fn show_lone<R: Runtime + Alloc<A = Global> + Threads + Wait + Sync>(
     pace: Pace,
 ) -> io::Result<ExitCode> {
     match lone::measure(rt, rt.alloc(), rounds, pace) {
-        Ok(times) => {
-            let times = times?;
-            println!(rt;
-                "median {} nanos, 95th {} nanos",
-                at_percent(times.as_slice(), 50),
-                at_percent(times.as_slice(), 95)
-            )?;
-        }
+        Ok(times) => println!(rt;
+            "median {} nanos, 95th {} nanos",
+            at_percent(times.as_slice(), 50),
+            at_percent(times.as_slice(), 95)
+        )?,
         Err(error) => return refuse(rt, error),
     }
     Ok(ExitCode::SUCCESS)
@@ -159,8 +157,9 @@ fn show_delays<R: Runtime + Alloc<A = Global>>(
     items: u32,
     rounds: u64,
 ) -> io::Result<ExitCode> {
-    let Some(times) = delays::measure(rt, rt.alloc(), items, rounds)? else {
-        return refuse(rt, PlanError::Memory);
+    let times = match delays::measure(rt, rt.alloc(), items, rounds) {
+        Ok(times) => times,
+        Err(error) => return refuse(rt, error),
     };
     let count = u128::from(items).saturating_mul(u128::from(rounds)).max(1);
     for (name, time) in ["arm", "move", "cancel", "let go"].iter().zip(&times) {

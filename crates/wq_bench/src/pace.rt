@@ -3,7 +3,7 @@ use std::hint::spin_loop;
 use wq_worker::{PAUSE, SHORT_TAKE};
 
 /// With patience or without, and whether it rests before it parks.
-#[derive(Clone, Copy, Debug, PartialEq, Eq)]
+#[derive(Clone, Copy, PartialEq, Eq)]
 pub enum Pace {
     /// Some time passes after a short take, as `Worker::serve` has it.
     Patient,

@@ -8,7 +8,7 @@ use wq_words::{Layout, LayoutError};
 use wq_worker::{Unbuilt, Work};
 
 /// How many senders there are, how many items each of them queues, how many executions end in all, and how the owner goes on.
-#[derive(Clone, Copy, Debug)]
+#[derive(Clone, Copy)]
 pub struct Plan {
     pub senders: u32,
     pub slice: u32,
@@ -17,7 +17,7 @@ pub struct Plan {
 }
 
 /// Why a plan was not run.
-#[derive(Clone, Copy, Debug, PartialEq, Eq, Error)]
+#[derive(Clone, Copy, Debug, Error)]
 pub enum PlanError {
     /// Another count of words, or a word that is no number.
     #[error("usage: wq_bench [eager | resting] [serve] SENDERS SLICE TOTAL | [eager] lone ROUNDS MICROS | delays ITEMS ROUNDS \
@@ -32,6 +32,9 @@ pub enum PlanError {
     /// A thread could not be made.
     #[error("no thread")]
     NoThread,
+    /// The system's clock gave no time.
+    #[error("clock")]
+    Clock,
     /// A pool that could not be taken apart.
     #[error("a queue has not run to its end")]
     Unfinished,
@@ -75,7 +78,7 @@ impl PlanError {
     pub fn status(self) -> u8 {
         match self {
             PlanError::Words | PlanError::Limits(_) => 2,
-            PlanError::Memory | PlanError::NoThread | PlanError::Unfinished => 3,
+            PlanError::Memory | PlanError::NoThread | PlanError::Clock | PlanError::Unfinished => 3,
         }
     }
 }

@@ -22,7 +22,7 @@ use wq_words::{Layout, LayoutError};
 use wq_worker::Book;
 
 /// How many queues there are, how many threads serve them, how many senders queue on each, and about how many items in all.
-#[derive(Clone, Copy, Debug)]
+#[derive(Clone, Copy)]
 pub struct PoolPlan {
     pub queues: u32,
     pub workers: u32,
@@ -80,7 +80,7 @@ impl PoolPlan {
 }
 
 /// How many items ran, how many picks found a queue, and how many items ran out of their sender's order.
-#[derive(Clone, Copy, Debug, PartialEq, Eq)]
+#[derive(Clone, Copy)]
 pub struct PoolCounts {
     pub items: u64,
     pub picks: u64,

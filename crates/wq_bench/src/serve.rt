@@ -15,7 +15,7 @@ use wq_live::{Answer, Sender};
 use wq_worker::{Ran, Worker};
 
 /// What a sender did: how many pushes went onto an empty list, and how often it unparked the worker.
-#[derive(Clone, Copy, Debug, PartialEq, Eq)]
+#[derive(Clone, Copy)]
 pub struct Calls {
     pub firsts: u64,
     pub unparks: u64,

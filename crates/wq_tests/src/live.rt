@@ -2,6 +2,5 @@
 mod calls;
 mod contended;
 pub(crate) mod reading;
-mod rows;
 mod stopped;
 mod threads;

@@ -1,20 +1,17 @@
-mod stopped;
-
+//! The machine of steps: what it refuses, and what holds after each step of a schedule, whichever seat stops in it. The schedules
+//! are those of `checks/rows/schedules.rows`, which says what each step replies.
 use crate::expect::expect_same;
+use std::alloc::{AllocError, Global};
 use std::process::Abort;
 use std::test::Fail;
-use wq_core::Reply::{
-    Began, Busy, ChainBusy, Chained, Closed, Ended, GivenBack, Held, Idle, Linked, Looked, Lost,
-    Pending, Pushed, Rested, Took, Walked,
-};
-use wq_core::Step::{
-    Back, Begin, Chain, Check, Close, End, Hold, Link, Look, Push, Rest, Take, Walk,
-};
+use wq_core::Reply::Held;
+use wq_core::Step::{Back, Begin, Chain, Check, End, Hold, Link, Push, Rest, Take};
 use wq_core::{
-    Core, ReplayError, Reply, Seat, Step, StepError, chain_and_batch, each_step_keeps_sound,
-    first_push, replay, replay_on,
+    Core, ReplayError, Seat, Step, StepError, chain_and_batch, each_step_keeps_sound, first_push,
+    replay, replay_on,
 };
-use wq_words::{Event, Head, Layout, Why, check_history};
+use wq_text::{Schedule, parse_steps};
+use wq_words::{Event, Layout, Why, check_history};
 
 const S0: Seat = Seat::Sender(0);
 
@@ -22,184 +19,137 @@ const S1: Seat = Seat::Sender(1);
 
 const O: Seat = Seat::Owner;
 
-type Turn = (Seat, Step, Reply);
-
-/// A push that is the first of a queue that rests, one that is the first of a queue at work, and one that is not the first.
-const WAKES: Reply = Pushed {
-    first: true,
-    wakes: true,
-};
-
-const FIRST: Reply = Pushed {
-    first: true,
-    wakes: false,
-};
-
-const BEHIND: Reply = Pushed {
-    first: false,
-    wakes: false,
-};
-
-/// An exchange that wins although the head's number was taken, begun and queued again since it was looked at.
-const QUEUED_AGAIN: [Turn; 23] = [
-    (S0, Hold(0), Held),
-    (S0, Look, Looked(Head::Empty)),
-    (S0, Link(0), Linked),
-    (S0, Push(0), WAKES),
-    (S1, Hold(1), Held),
-    (S1, Look, Looked(Head::Item(0))),
-    (O, Take, Took(Head::Item(0))),
-    (O, Walk, Walked(None)),
-    (O, Begin, Began(0)),
-    (S0, Hold(0), Held),
-    (S0, Look, Looked(Head::Empty)),
-    (S0, Link(0), Linked),
-    (S0, Push(0), FIRST),
-    (S1, Link(1), Linked),
-    (S1, Push(1), BEHIND),
-    (O, End, Ended(0)),
-    (O, Take, Took(Head::Item(1))),
-    (O, Walk, Walked(Some(0))),
-    (O, Walk, Walked(None)),
-    (O, Begin, Began(0)),
-    (O, End, Ended(0)),
-    (O, Begin, Began(1)),
-    (O, End, Ended(1)),
+/// Schedules whose steps are all enabled: a number queued again since a look, a lost exchange, a close between a link and its
+/// exchange, a sender that stalls, and items that are chained; with what each accepted and began.
+const ENABLED: [(&str, &[u32], &[u32]); 5] = [
+    (
+        "steps 1\nitems 4\nsenders 2\n0 hold 0\n0 look\n0 link 0\n0 push 0\n1 hold 1\n1 look\no take\no walk\no begin\n0 hold 0\n0 look\n\
+         0 link 0\n0 push 0\n1 link 1\n1 push 1\no end\no take\no walk\no walk\no begin\no end\no begin\no end\n",
+        &[0, 0, 1],
+        &[0, 0, 1],
+    ),
+    (
+        "steps 1\nitems 4\nsenders 2\n0 hold 0\n1 hold 1\n0 look\n1 look\n0 link 0\n1 link 1\n0 push 0\n1 push 1\n1 look\n1 link 1\n\
+         1 push 1\n",
+        &[0, 1],
+        &[],
+    ),
+    (
+        "steps 1\nitems 4\nsenders 2\n0 hold 2\n0 look\n0 link 2\no close\n0 push 2\n0 look\n0 back 2 closed\n0 check 2\n",
+        &[],
+        &[],
+    ),
+    (
+        "steps 1\nitems 4\nsenders 2\n0 hold 2\n1 hold 2\n1 hold 3\n1 look\n1 link 3\n1 push 3\no take\no walk\no begin\no end\n\
+         1 hold 2\n",
+        &[3],
+        &[3],
+    ),
+    (
+        "steps 1\nitems 4\nsenders 2\n0 hold 0\n0 look\n0 link 0\n0 check 0\n0 push 0\no close\no walk\no begin\no chain 1\no chain 1\n\
+         o chain 0\no end\no begin\no end\no begin\n",
+        &[0, 1, 0],
+        &[0, 1, 0],
+    ),
 ];
 
-/// Two exchanges for one head: the second is lost, and tried again.
-const LOST_EXCHANGE: [Turn; 11] = [
-    (S0, Hold(0), Held),
-    (S1, Hold(1), Held),
-    (S0, Look, Looked(Head::Empty)),
-    (S1, Look, Looked(Head::Empty)),
-    (S0, Link(0), Linked),
-    (S1, Link(1), Linked),
-    (S0, Push(0), WAKES),
-    (S1, Push(1), Lost),
-    (S1, Look, Looked(Head::Item(0))),
-    (S1, Link(1), Linked),
-    (S1, Push(1), BEHIND),
+/// Schedules of which some steps are not enabled: a walk first, links that are turned, and an owner that rests.
+const OTHERS: [&str; 3] = [
+    "steps 1\nitems 4\nsenders 2\no walk\n0 hold 0\n0 look\n0 link 0\n0 push 0\no take\no begin\no walk\no begin\n",
+    "steps 1\nitems 4\nsenders 2\n0 hold 0\n0 look\n0 link 0\n0 push 0\n0 hold 1\n0 look\n0 link 1\n0 push 1\no take\no turn 1 end\n\
+     o walk\no turn 1 end\no walk\no turn 0 1\no walk\no begin\no turn 0 end\no end\no walk\no begin\n",
+    "steps 1\nitems 4\nsenders 2\no rest\no take\n0 hold 0\n0 look\no rest\n0 link 0\n0 push 0\n0 look\n0 link 0\n0 push 0\no rest\n\
+     o take\no rest\n",
 ];
 
-/// A close between the link and the exchange.
-const CLOSED_BETWEEN: [Turn; 8] = [
-    (S0, Hold(2), Held),
-    (S0, Look, Looked(Head::Empty)),
-    (S0, Link(2), Linked),
-    (O, Close, Closed(Head::Empty)),
-    (S0, Push(2), Lost),
-    (S0, Look, Looked(Head::Closed)),
-    (S0, Back(2, Why::Closed), GivenBack),
-    (S0, Check(2), Idle),
-];
-
-/// A sender that holds a number and stops.
-const STALLED_SENDER: [Turn; 11] = [
-    (S0, Hold(2), Held),
-    (S1, Hold(2), Busy),
-    (S1, Hold(3), Held),
-    (S1, Look, Looked(Head::Empty)),
-    (S1, Link(3), Linked),
-    (S1, Push(3), WAKES),
-    (O, Take, Took(Head::Item(3))),
-    (O, Walk, Walked(None)),
-    (O, Begin, Began(3)),
-    (O, End, Ended(3)),
-    (S1, Hold(2), Busy),
-];
-
-/// An execution that queues two items after the close, one of them twice.
-const CHAINED_ITEMS: [Turn; 15] = [
-    (S0, Hold(0), Held),
-    (S0, Look, Looked(Head::Empty)),
-    (S0, Link(0), Linked),
-    (S0, Check(0), Pending),
-    (S0, Push(0), WAKES),
-    (O, Close, Closed(Head::Item(0))),
-    (O, Walk, Walked(None)),
-    (O, Begin, Began(0)),
-    (O, Chain(1), Chained),
-    (O, Chain(1), ChainBusy),
-    (O, Chain(0), Chained),
-    (O, End, Ended(0)),
-    (O, Begin, Began(1)),
-    (O, End, Ended(1)),
-    (O, Begin, Began(0)),
-];
-
-/// An owner that rests, and a push that lost its exchange to the rest.
-const RESTING_QUEUE: [Turn; 18] = [
-    (O, Rest, Lost),
-    (O, Take, Took(Head::Empty)),
-    (S0, Hold(0), Held),
-    (S0, Look, Looked(Head::Empty)),
-    (O, Rest, Rested),
-    (S0, Link(0), Linked),
-    (S0, Push(0), Lost),
-    (S0, Look, Looked(Head::Empty)),
-    (S0, Link(0), Linked),
-    (S0, Push(0), WAKES),
-    (O, Rest, Lost),
-    (O, Take, Took(Head::Item(0))),
-    (O, Walk, Walked(None)),
-    (O, Begin, Began(0)),
-    (O, End, Ended(0)),
-    (O, Rest, Rested),
-    (O, Rest, Lost),
-    (O, Take, Took(Head::Empty)),
-];
-
-fn layout<R: Abort>(rt: &R) -> Layout {
-    Layout::new(4, 1, 2).expect(rt, "a layout")
+fn schedule<R: Abort + AllocGlobal>(rt: &R, text: &str) -> Schedule {
+    parse_steps(rt.alloc(), text.as_bytes()).expect(rt, "a schedule")
 }
 
-/// Makes a step, which replies so and leaves a legal history.
-fn make<R: Abort>(rt: &R, core: &mut Core, turn: Turn) {
-    let (seat, step, reply) = turn;
-    expect_same(rt, (step, core.step(seat, step)), (step, Ok(reply)));
+/// A replay as a whole gives what was accepted and begun, and the history that one from a machine that is there gives.
+fn check_replay<R: Abort + AllocGlobal>(rt: &R, text: &str, accepted: &[u32], begun: &[u32]) {
+    let schedule = schedule(rt, text);
+    let replayed = replay(rt.alloc(), *schedule.layout(), schedule.turns()).expect(rt, "a replay");
     expect_same(
         rt,
-        (step, check_history(&layout(rt), core.history())),
-        (step, Ok(())),
-    );
-}
-
-/// The schedule replayed as a whole, and in two parts, gives the history that its steps gave one by one.
-fn check_replays<R: Abort + AllocGlobal>(rt: &R, core: &Core, turns: &[(Seat, Step)]) {
-    let replayed = replay(rt.alloc(), layout(rt), turns).expect(rt, "enabled steps");
-    expect_same(rt, replayed.history(), core.history());
-    let (before, after) = turns.split_at(turns.len().min(2));
-    let mut parted = replay(rt.alloc(), layout(rt), before).expect(rt, "enabled steps");
-    replay_on(&mut parted, after).expect(rt, "more enabled steps");
-    expect_same(rt, parted.history(), core.history());
-}
-
-/// Each step, and then the schedule, with what was accepted and begun at its end.
-fn check_schedule<R: Abort + AllocGlobal>(rt: &R, row: &[Turn], accepted: &[u32], begun: &[u32]) {
-    let mut core = Core::new(rt.alloc(), layout(rt)).expect(rt, "memory");
-    let mut turns = Vec::new(rt.alloc());
-    for turn in row {
-        make(rt, &mut core, *turn);
-        turns.push((turn.0, turn.1)).expect(rt, "memory");
-    }
-    expect_same(
-        rt,
-        core.accepted().expect(rt, "memory").as_slice(),
+        replayed.accepted().expect(rt, "memory").as_slice(),
         accepted,
     );
-    expect_same(rt, core.begun().expect(rt, "memory").as_slice(), begun);
-    check_replays(rt, &core, turns.as_slice());
+    expect_same(rt, replayed.begun().expect(rt, "memory").as_slice(), begun);
+    let mut core = Core::new(rt.alloc(), *schedule.layout()).expect(rt, "memory");
+    expect_same(rt, replay_on(&mut core, schedule.turns()), Ok(()));
+    expect_same(rt, core.history(), replayed.history());
 }
 
 #[test]
 fn schedules(rt: HostRuntime) {
-    check_schedule(&rt, &QUEUED_AGAIN, &[0, 0, 1], &[0, 0, 1]);
-    check_schedule(&rt, &LOST_EXCHANGE, &[0, 1], &[]);
-    check_schedule(&rt, &CLOSED_BETWEEN, &[], &[]);
-    check_schedule(&rt, &STALLED_SENDER, &[3], &[3]);
-    check_schedule(&rt, &CHAINED_ITEMS, &[0, 1, 0], &[0, 1, 0]);
-    check_schedule(&rt, &RESTING_QUEUE, &[0], &[0]);
+    for (text, accepted, begun) in ENABLED {
+        check_replay(&rt, text, accepted, begun);
+    }
+}
+
+/// Makes a step, where it is enabled. False where it is refused for another cause, where the history is then not legal, or
+/// where what has begun does not begin what was accepted.
+fn goes_on(core: &mut Core, layout: &Layout, seat: Seat, step: Step) -> Result<bool, AllocError> {
+    match core.step(seat, step) {
+        Ok(_) | Err(StepError::NotEnabled) => {}
+        Err(_) => return Ok(false),
+    }
+    let accepted = core.accepted()?;
+    let begun = core.begun()?;
+    Ok(accepted.starts_with(&begun) && check_history(layout, core.history()).is_ok())
+}
+
+/// The schedule without the steps of a seat from a place on. The number of steps until the first that does not go on.
+fn steps_without(
+    alloc: Global,
+    schedule: &Schedule,
+    stopped: Seat,
+    place: usize,
+) -> Result<usize, AllocError> {
+    let mut core = Core::new(alloc, *schedule.layout())?;
+    for (at, (seat, step)) in schedule.turns().iter().enumerate() {
+        if at >= place && *seat == stopped {
+            continue;
+        }
+        if !goes_on(&mut core, schedule.layout(), *seat, *step)? {
+            return Ok(at);
+        }
+    }
+    Ok(schedule.turns().len())
+}
+
+/// Each seat stops at each place of a schedule, and at its end: what the others still do is legal, and runs in the order of its
+/// acceptance.
+fn check_stops<R: Abort + AllocGlobal>(rt: &R, text: &str) -> Result<(), Fail> {
+    let schedule = schedule(rt, text);
+    let count = schedule.turns().len();
+    for stopped in [S0, S1, O] {
+        for place in 0..=count {
+            let steps = steps_without(rt.alloc(), &schedule, stopped, place)?;
+            expect_same(
+                rt,
+                (text, stopped, place, steps),
+                (text, stopped, place, count),
+            );
+        }
+    }
+    Ok(())
+}
+
+#[test]
+fn each_seat_stops_at_each_place(rt: HostRuntime) -> Result<(), Fail> {
+    for (text, _, _) in ENABLED {
+        check_stops(&rt, text)?;
+    }
+    for text in OTHERS {
+        check_stops(&rt, text)?;
+    }
+    Ok(())
+}
+
+fn layout<R: Abort>(rt: &R) -> Layout {
+    Layout::new(4, 1, 2).expect(rt, "a layout")
 }
 
 /// Whether a step is refused for this, and at its place in a replay and in the going on of one.

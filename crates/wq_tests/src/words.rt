@@ -1,4 +1,5 @@
 use crate::expect::expect_same;
+use std::process::Abort;
 use std::test::Fail;
 use wq_words::Event::{Back, Begin, Busy, Chain, ChainBusy, Close, End, Hold, Push, Rest, Take};
 use wq_words::{
@@ -46,220 +47,202 @@ fn head_codes(rt: HostRuntime) {
     expect_same(&rt, Head::from_word(BUSY), Some(Head::Empty));
 }
 
-fn fault(place: usize, kind: HistoryFault) -> Option<HistoryError> {
-    Some(HistoryError { place, kind })
+const NOT_ALLOWED: Option<HistoryFault> = Some(HistoryFault::NotAllowed);
+
+const NO_ITEM: Option<HistoryFault> = Some(HistoryFault::NoItem);
+
+/// Whether a history of a queue of 2 items, 1 barrier and 2 senders, so that 2 is the barrier and 3 the stop item, is legal, or
+/// what is wrong at its last place.
+fn check<R: Abort>(rt: &R, history: &[Event], fault: Option<HistoryFault>) {
+    let layout = Layout::new(2, 1, 2).expect(rt, "a layout");
+    let found = check_history(&layout, history).err();
+    let wanted = fault.map(|kind| HistoryError {
+        place: history.len().saturating_sub(1),
+        kind,
+    });
+    expect_same(rt, (history, found), (history, wanted));
 }
 
-/// Histories of a queue of 2 items, 1 barrier and 2 senders, so that 2 is the barrier and 3 the stop item.
-#[test]
-fn histories(rt: HostRuntime) -> Result<(), Fail> {
-    let layout = Layout::new(2, 1, 2)?;
-    let rows: [(&[Event], Option<HistoryError>); 8] = [
-        (&[], None),
-        (&[Hold(0, 0), Push(0, 0), Begin(0)], None),
-        (
-            &[Hold(0, 0), Hold(1, 0)],
-            fault(1, HistoryFault::NotAllowed),
-        ),
-        (&[Hold(2, 9)], fault(0, HistoryFault::NoSeat)),
-        (&[Hold(0, 4)], fault(0, HistoryFault::NoItem)),
-        (
-            &[Hold(0, 0), Close, Push(0, 0)],
-            fault(2, HistoryFault::NotAllowed),
-        ),
-        (
-            &[
-                Hold(0, 0),
-                Push(0, 0),
-                Hold(0, 1),
-                Push(0, 1),
-                Begin(0),
-                Begin(1),
-            ],
-            fault(5, HistoryFault::NotAllowed),
-        ),
-        (
-            &[
-                Hold(0, 0),
-                Push(0, 0),
-                Close,
-                Begin(0),
-                Chain(0),
-                End(0),
-                Begin(0),
-                End(0),
-            ],
-            None,
-        ),
-    ];
-    for (history, refused) in rows {
-        expect_same(
-            &rt,
-            (history, check_history(&layout, history).err()),
-            (history, refused),
-        );
-    }
-    Ok(())
-}
-
-/// What is allowed after one history, where a sender gave a number back and another is on the list.
-#[test]
-fn next_events(rt: HostRuntime) -> Result<(), Fail> {
-    let layout = Layout::new(2, 1, 2)?;
-    let not_allowed = fault(5, HistoryFault::NotAllowed);
-    for (event, refused) in [
-        (Hold(0, 0), None),
-        (Hold(0, 3), None),
-        (Hold(0, 1), not_allowed),
-        (Busy(0, 1), None),
-        (Busy(0, 0), not_allowed),
-        (Push(1, 2), None),
-        (Push(0, 2), not_allowed),
-        (Back(1, 2, Why::Cancelled), None),
-        (Back(1, 2, Why::Contended), None),
-        (Back(1, 2, Why::Closed), not_allowed),
-        (Back(0, 2, Why::Cancelled), not_allowed),
-        (Take, None),
-        (Close, None),
-        (Begin(1), None),
-        (Begin(0), not_allowed),
-        (End(1), not_allowed),
-        (Chain(0), not_allowed),
-        (ChainBusy(1), not_allowed),
-        (Rest, not_allowed),
-        (Chain(2), fault(5, HistoryFault::NoItem)),
-        (ChainBusy(3), fault(5, HistoryFault::NoItem)),
-    ] {
-        let history = [
-            Hold(0, 0),
-            Back(0, 0, Why::Contended),
-            Hold(0, 1),
-            Push(0, 1),
-            Hold(1, 2),
-            event,
-        ];
-        expect_same(
-            &rt,
-            (event, check_history(&layout, &history).err()),
-            (event, refused),
-        );
-    }
-    Ok(())
-}
-
-/// What is allowed after a close, of a queue on whose list are 0 and 1, while sender 1 holds the barrier 2: where nothing runs, and
-/// where 0 does. Of what is not allowed one premise alone fails.
-#[test]
-fn events_of_a_closed_queue(rt: HostRuntime) -> Result<(), Fail> {
-    let layout = Layout::new(2, 1, 2)?;
-    for (event, idle, running) in [
-        (Hold(0, 3), true, true),
-        (Hold(0, 1), false, false),
-        (Hold(0, 0), false, true),
-        (Busy(0, 1), true, true),
-        (Busy(0, 0), true, false),
-        (Push(1, 2), false, false),
-        (Back(1, 2, Why::Closed), true, true),
-        (Back(1, 2, Why::Cancelled), true, true),
-        (Back(1, 2, Why::Contended), true, true),
-        (Back(0, 2, Why::Closed), false, false),
-        (Back(1, 1, Why::Closed), false, false),
-        (Take, false, false),
-        (Close, false, false),
-        (Begin(0), true, false),
-        (Begin(1), false, false),
-        (End(0), false, true),
-        (End(1), false, false),
-        (Chain(0), false, true),
-        (Chain(1), false, false),
-        (ChainBusy(0), false, false),
-        (ChainBusy(1), false, true),
-    ] {
-        let mut history = Vec::new(rt.alloc());
-        for before in [
+/// Rests: one is allowed where the queue is open and as many have ended as were accepted, taken or not, and another may follow it.
+const HISTORIES: [(&[Event], Option<HistoryFault>); 16] = [
+    (&[], None),
+    (&[Hold(0, 0), Push(0, 0), Begin(0)], None),
+    (&[Hold(0, 0), Hold(1, 0)], NOT_ALLOWED),
+    (&[Hold(2, 9)], Some(HistoryFault::NoSeat)),
+    (&[Hold(0, 4)], NO_ITEM),
+    (&[Hold(0, 0), Close, Push(0, 0)], NOT_ALLOWED),
+    (
+        &[
             Hold(0, 0),
             Push(0, 0),
             Hold(0, 1),
             Push(0, 1),
-            Hold(1, 2),
-            Close,
-        ] {
-            history.push(before)?;
-        }
-        history.push(event)?;
-        expect_same(
-            &rt,
-            (event, check_history(&layout, &history).is_ok()),
-            (event, idle),
-        );
-        history.pop();
-        history.push(Begin(0))?;
-        history.push(event)?;
-        expect_same(
-            &rt,
-            (event, check_history(&layout, &history).is_ok()),
-            (event, running),
-        );
-    }
-    Ok(())
-}
-
-/// What is allowed while 0 runs and the queue is open, 1 is on its list and sender 1 holds the barrier 2. Of what is not allowed
-/// one premise alone fails.
-#[test]
-fn events_of_an_open_queue_that_runs(rt: HostRuntime) -> Result<(), Fail> {
-    let layout = Layout::new(2, 1, 2)?;
-    for (event, is_allowed) in [
-        (Hold(0, 0), true),
-        (Push(1, 2), true),
-        (Back(1, 2, Why::Closed), false),
-        (Take, true),
-        (Close, true),
-        (Begin(1), false),
-        (End(0), true),
-        (End(1), false),
-        (Chain(0), false),
-        (ChainBusy(1), false),
-        (Rest, false),
-    ] {
-        let history = [
-            Hold(0, 0),
-            Push(0, 0),
-            Hold(0, 1),
-            Push(0, 1),
-            Hold(1, 2),
-            Take,
             Begin(0),
-            event,
-        ];
-        let found = check_history(&layout, &history);
-        expect_same(&rt, (event, found.is_ok()), (event, is_allowed));
+            Begin(1),
+        ],
+        NOT_ALLOWED,
+    ),
+    (
+        &[
+            Hold(0, 0),
+            Push(0, 0),
+            Close,
+            Begin(0),
+            Chain(0),
+            End(0),
+            Begin(0),
+            End(0),
+        ],
+        None,
+    ),
+    (&[Rest], None),
+    (&[Rest, Rest], None),
+    (&[Hold(0, 0), Rest, Push(0, 0)], None),
+    (&[Hold(0, 0), Push(0, 0), Rest], NOT_ALLOWED),
+    (&[Hold(0, 0), Push(0, 0), Take, Begin(0), Rest], NOT_ALLOWED),
+    (
+        &[Hold(0, 0), Push(0, 0), Take, Begin(0), End(0), Rest],
+        None,
+    ),
+    (&[Hold(0, 0), Push(0, 0), Begin(0), End(0), Rest], None),
+    (&[Close, Rest], NOT_ALLOWED),
+];
+
+#[test]
+fn histories(rt: HostRuntime) {
+    for (history, fault) in HISTORIES {
+        check(&rt, history, fault);
     }
-    Ok(())
 }
 
-/// A rest is allowed where the queue is open and as many have ended as were accepted, taken or not, and another may follow it.
-#[test]
-fn rests(rt: HostRuntime) -> Result<(), Fail> {
-    let layout = Layout::new(2, 1, 2)?;
-    let rows: [(&[Event], bool); 8] = [
-        (&[Rest], true),
-        (&[Rest, Rest], true),
-        (&[Hold(0, 0), Rest, Push(0, 0)], true),
-        (&[Hold(0, 0), Push(0, 0), Rest], false),
-        (&[Hold(0, 0), Push(0, 0), Take, Begin(0), Rest], false),
-        (
-            &[Hold(0, 0), Push(0, 0), Take, Begin(0), End(0), Rest],
-            true,
-        ),
-        (&[Hold(0, 0), Push(0, 0), Begin(0), End(0), Rest], true),
-        (&[Close, Rest], false),
-    ];
-    for (history, is_legal) in rows {
-        let found = check_history(&layout, history);
-        expect_same(&rt, (history, found.is_ok()), (history, is_legal));
+/// Which of these events may stand right after a history.
+fn check_next<R: Abort>(rt: &R, before: [Event; 7], rows: &[(Event, Option<HistoryFault>)]) {
+    for (event, fault) in rows {
+        let [one, two, three, four, five, six, seven] = before;
+        check(
+            rt,
+            &[one, two, three, four, five, six, seven, *event],
+            *fault,
+        );
     }
-    Ok(())
+}
+
+/// After a sender gave a number back twice, while another is on the list and sender 1 holds the barrier 2.
+const OPEN: [(Event, Option<HistoryFault>); 21] = [
+    (Hold(0, 0), None),
+    (Hold(0, 3), None),
+    (Hold(0, 1), NOT_ALLOWED),
+    (Busy(0, 1), None),
+    (Busy(0, 0), NOT_ALLOWED),
+    (Push(1, 2), None),
+    (Push(0, 2), NOT_ALLOWED),
+    (Back(1, 2, Why::Cancelled), None),
+    (Back(1, 2, Why::Contended), None),
+    (Back(1, 2, Why::Closed), NOT_ALLOWED),
+    (Back(0, 2, Why::Cancelled), NOT_ALLOWED),
+    (Take, None),
+    (Close, None),
+    (Begin(1), None),
+    (Begin(0), NOT_ALLOWED),
+    (End(1), NOT_ALLOWED),
+    (Chain(0), NOT_ALLOWED),
+    (ChainBusy(1), NOT_ALLOWED),
+    (Rest, NOT_ALLOWED),
+    (Chain(2), NO_ITEM),
+    (ChainBusy(3), NO_ITEM),
+];
+
+/// While 0 runs and the queue is open, 1 is on its list and sender 1 holds the barrier 2. Of what is not allowed here, and below,
+/// one premise alone fails.
+const OPEN_THAT_RUNS: [(Event, Option<HistoryFault>); 11] = [
+    (Hold(0, 0), None),
+    (Push(1, 2), None),
+    (Back(1, 2, Why::Closed), NOT_ALLOWED),
+    (Take, None),
+    (Close, None),
+    (Begin(1), NOT_ALLOWED),
+    (End(0), None),
+    (End(1), NOT_ALLOWED),
+    (Chain(0), NOT_ALLOWED),
+    (ChainBusy(1), NOT_ALLOWED),
+    (Rest, NOT_ALLOWED),
+];
+
+/// After a close, of a queue on whose list are 0 and 1, while sender 1 holds the barrier 2.
+const CLOSED: [(Event, Option<HistoryFault>); 21] = [
+    (Hold(0, 3), None),
+    (Hold(0, 1), NOT_ALLOWED),
+    (Hold(0, 0), NOT_ALLOWED),
+    (Busy(0, 1), None),
+    (Busy(0, 0), None),
+    (Push(1, 2), NOT_ALLOWED),
+    (Back(1, 2, Why::Closed), None),
+    (Back(1, 2, Why::Cancelled), None),
+    (Back(1, 2, Why::Contended), None),
+    (Back(0, 2, Why::Closed), NOT_ALLOWED),
+    (Back(1, 1, Why::Closed), NOT_ALLOWED),
+    (Take, NOT_ALLOWED),
+    (Close, NOT_ALLOWED),
+    (Begin(0), None),
+    (Begin(1), NOT_ALLOWED),
+    (End(0), NOT_ALLOWED),
+    (End(1), NOT_ALLOWED),
+    (Chain(0), NOT_ALLOWED),
+    (Chain(1), NOT_ALLOWED),
+    (ChainBusy(0), NOT_ALLOWED),
+    (ChainBusy(1), NOT_ALLOWED),
+];
+
+/// The same while 0 runs.
+const CLOSED_THAT_RUNS: [(Event, Option<HistoryFault>); 21] = [
+    (Hold(0, 3), None),
+    (Hold(0, 1), NOT_ALLOWED),
+    (Hold(0, 0), None),
+    (Busy(0, 1), None),
+    (Busy(0, 0), NOT_ALLOWED),
+    (Push(1, 2), NOT_ALLOWED),
+    (Back(1, 2, Why::Closed), None),
+    (Back(1, 2, Why::Cancelled), None),
+    (Back(1, 2, Why::Contended), None),
+    (Back(0, 2, Why::Closed), NOT_ALLOWED),
+    (Back(1, 1, Why::Closed), NOT_ALLOWED),
+    (Take, NOT_ALLOWED),
+    (Close, NOT_ALLOWED),
+    (Begin(0), NOT_ALLOWED),
+    (Begin(1), NOT_ALLOWED),
+    (End(0), None),
+    (End(1), NOT_ALLOWED),
+    (Chain(0), None),
+    (Chain(1), NOT_ALLOWED),
+    (ChainBusy(0), NOT_ALLOWED),
+    (ChainBusy(1), None),
+];
+
+#[test]
+fn next_events(rt: HostRuntime) {
+    let back = Back(0, 0, Why::Contended);
+    let (hold, held) = (Hold(0, 0), Hold(1, 2));
+    let (one, other) = (Push(0, 0), Push(0, 1));
+    check_next(
+        &rt,
+        [hold, back, hold, back, Hold(0, 1), other, held],
+        &OPEN,
+    );
+    check_next(
+        &rt,
+        [hold, one, Hold(0, 1), other, held, Take, Begin(0)],
+        &OPEN_THAT_RUNS,
+    );
+    check_next(
+        &rt,
+        [hold, one, Hold(0, 1), other, held, Busy(0, 1), Close],
+        &CLOSED,
+    );
+    check_next(
+        &rt,
+        [hold, one, Hold(0, 1), other, held, Close, Begin(0)],
+        &CLOSED_THAT_RUNS,
+    );
 }
 
 /// 400 rounds of a queueing, a take and an execution.
@@ -285,7 +268,10 @@ fn long_history(rt: HostRuntime) -> Result<(), Fail> {
     expect_same(
         &rt,
         check_history(&layout, &history).err(),
-        fault(2000, HistoryFault::NotAllowed),
+        Some(HistoryError {
+            place: 2000,
+            kind: HistoryFault::NotAllowed,
+        }),
     );
     Ok(())
 }

@@ -1,6 +1,5 @@
 //! Workers: destroys, books, and what threads see.
 mod books;
-mod built;
 mod clearing;
 mod contention;
 mod crew;

@@ -9,7 +9,7 @@ use wq_words::Layout;
 pub type Follow = ArrayVec<u32, 4>;
 
 /// One command of a script. Senders, items and barriers are numbers of the script, each counted from 0.
-#[derive(Debug, PartialEq, Eq, Drop)]
+#[derive(Drop)]
 pub enum Command {
     /// The sender queues the item (`queue_work`).
     Queue { sender: u32, item: u32 },

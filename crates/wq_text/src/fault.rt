@@ -3,59 +3,50 @@ ghost use Rattle.std.specs.Prelude.{◌≡◌};
 ghost use Rattle.wq_text.specs.declared.fault.LineError.TheVariants.{Memory};
 
 use std::alloc::{AllocError, AllocFailed};
+use std::fmt;
 use thiserror::Error;
 
-/// What is wrong with a line, in the order in which it is tested.
-#[derive(Clone, Copy, Debug, PartialEq, Eq, Error)]
+/// What is wrong with a line, in the order in which it is tested. It is written as it is named.
+#[derive(Clone, Copy, Debug, PartialEq, Eq)]
 pub enum Kind {
     /// The text is longer than 1,048,576 bytes.
-    #[error("Size")]
     Size,
     /// The first line is not `wq 1`.
-    #[error("Version")]
     Version,
     /// The last line does not end with LF.
-    #[error("Cut")]
     Cut,
     /// A byte outside 32 to 126.
-    #[error("Bytes")]
     Bytes,
     /// A space at the beginning or at the end, or two together.
-    #[error("Space")]
     Space,
     /// The first word is no command.
-    #[error("Word")]
     Word,
     /// A header line out of its place, or a command in its place.
-    #[error("Header")]
     Header,
     /// Too few or too many words.
-    #[error("Count")]
     Count,
     /// A word that is no number.
-    #[error("Number")]
     Number,
     /// Not 1 to 4,096 items.
-    #[error("Items")]
     Items,
     /// Not 1 to 62 senders.
-    #[error("Senders")]
     Senders,
     /// Not 1 to 16 barriers.
-    #[error("Barriers")]
     Barriers,
     /// No sender of the script.
-    #[error("Sender")]
     Sender,
     /// No item of the script.
-    #[error("Item")]
     Item,
     /// No barrier of the script.
-    #[error("Barrier")]
     Barrier,
     /// A number of executions that is 0 or above 65,536.
-    #[error("Limit")]
     Limit,
+}
+
+impl fmt::Display for Kind {
+    fn fmt<W: fmt::Write>(&self, f: &mut fmt::Formatter<W>) -> fmt::Result {
+        write!(f, "{self:?}")
+    }
 }
 
 /// The first faulty line, counted from 1, and the first thing that is wrong with it.
@@ -78,7 +69,7 @@ pub enum ParseError {
 }
 
 /// Why a line could not be read.
-#[derive(Debug, Drop)]
+#[derive(Drop)]
 pub enum LineError {
     Memory,
     Fault(Kind),

@@ -1,7 +1,6 @@
-//! Tables of ticks call by call: what no script can ask, or would ask in too many lines.
-use super::calls::{advance, arm, delayed};
+//! Tables of ticks call by call: what no script can ask.
+use super::calls::{arm, delayed};
 use crate::expect::expect_same;
-use crate::live::reading::{execute_one, take};
 use crate::seats::queue_once;
 use std::test::Fail;
 use wq_delay::Armed;
@@ -54,23 +53,5 @@ fn dissolved_table_gives_its_items_back(rt: HostRuntime) -> Result<(), Fail> {
             wakes: false,
         }),
     );
-    Ok(())
-}
-
-/// As many items as a queue may have, armed and let go in one advance, in the order of their ticks.
-#[test]
-fn all_items_go_out_in_one_advance(rt: HostRuntime) -> Result<(), Fail> {
-    let (mut owner, _sender, mut delay) = delayed(rt.alloc(), 4096, 0).expect(&rt, "seats");
-    for item in 0..4096 {
-        let ticks = 8 - u64::from(item % 8);
-        expect_same(&rt, arm(&mut delay, item, ticks), Some(Armed::OnTable));
-    }
-    expect_same(&rt, delay.len(), 4096);
-    expect_same(&rt, advance(&mut delay, 8), Some((4096, 0, 0)));
-    expect_same(&rt, take(&mut owner), Some(4096));
-    for place in 0..4096 {
-        let item = place % 512 * 8 + 7 - place / 512;
-        expect_same(&rt, execute_one(&mut owner), Some(item));
-    }
     Ok(())
 }

@@ -86,6 +86,7 @@ fn execute_four<R: Abort>(rt: &R, owner: &mut Owner) {
         expect_same(rt, owner.next(), Some(number));
         expect_same(rt, execute_one(owner), Some(number));
     }
+    expect_same(rt, owner.next(), None);
 }
 
 /// How often a sender was answered Queued, Pending and Closed, and never Contended.
