@@ -1,5 +1,4 @@
 //! Pools: worked rows, turns, and what threads see.
-mod crowd;
 mod hands;
 mod overlap;
 mod owing;

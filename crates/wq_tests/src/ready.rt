@@ -1,3 +1,2 @@
-//! Ready queues: worked rows, and callers in threads.
+//! Ready queues: worked rows.
 mod rows;
-mod threads;

@@ -1,10 +1,9 @@
+//! Layouts, the codes of the head word, and which histories are legal.
 use crate::expect::expect_same;
 use std::process::Abort;
-use std::test::Fail;
 use wq_words::Event::{Back, Begin, Busy, Chain, ChainBusy, Close, End, Hold, Push, Rest, Take};
 use wq_words::{
     BUSY, Event, Head, HistoryError, HistoryFault, Layout, LayoutError, Why, check_history,
-    headline, one_keeper, one_runs, one_wakes, pending_and_closed, pending_list,
 };
 
 #[test]
@@ -115,16 +114,10 @@ fn histories(rt: HostRuntime) {
     }
 }
 
-/// Which of these events may stand right after a history.
-fn check_next<R: Abort>(rt: &R, before: [Event; 7], rows: &[(Event, Option<HistoryFault>)]) {
-    for (event, fault) in rows {
-        let [one, two, three, four, five, six, seven] = before;
-        check(
-            rt,
-            &[one, two, three, four, five, six, seven, *event],
-            *fault,
-        );
-    }
+/// Whether this event may stand right after a history.
+fn check_after<R: Abort>(rt: &R, before: [Event; 7], event: Event, fault: Option<HistoryFault>) {
+    let [one, two, three, four, five, six, seven] = before;
+    check(rt, &[one, two, three, four, five, six, seven, event], fault);
 }
 
 /// After a sender gave a number back twice, while another is on the list and sender 1 holds the barrier 2.
@@ -168,129 +161,52 @@ const OPEN_THAT_RUNS: [(Event, Option<HistoryFault>); 11] = [
     (Rest, NOT_ALLOWED),
 ];
 
-/// After a close, of a queue on whose list are 0 and 1, while sender 1 holds the barrier 2.
-const CLOSED: [(Event, Option<HistoryFault>); 21] = [
-    (Hold(0, 3), None),
-    (Hold(0, 1), NOT_ALLOWED),
-    (Hold(0, 0), NOT_ALLOWED),
-    (Busy(0, 1), None),
-    (Busy(0, 0), None),
-    (Push(1, 2), NOT_ALLOWED),
-    (Back(1, 2, Why::Closed), None),
-    (Back(1, 2, Why::Cancelled), None),
-    (Back(1, 2, Why::Contended), None),
-    (Back(0, 2, Why::Closed), NOT_ALLOWED),
-    (Back(1, 1, Why::Closed), NOT_ALLOWED),
-    (Take, NOT_ALLOWED),
-    (Close, NOT_ALLOWED),
-    (Begin(0), None),
-    (Begin(1), NOT_ALLOWED),
-    (End(0), NOT_ALLOWED),
-    (End(1), NOT_ALLOWED),
-    (Chain(0), NOT_ALLOWED),
-    (Chain(1), NOT_ALLOWED),
-    (ChainBusy(0), NOT_ALLOWED),
-    (ChainBusy(1), NOT_ALLOWED),
-];
-
-/// The same while 0 runs.
-const CLOSED_THAT_RUNS: [(Event, Option<HistoryFault>); 21] = [
-    (Hold(0, 3), None),
-    (Hold(0, 1), NOT_ALLOWED),
-    (Hold(0, 0), None),
-    (Busy(0, 1), None),
-    (Busy(0, 0), NOT_ALLOWED),
-    (Push(1, 2), NOT_ALLOWED),
-    (Back(1, 2, Why::Closed), None),
-    (Back(1, 2, Why::Cancelled), None),
-    (Back(1, 2, Why::Contended), None),
-    (Back(0, 2, Why::Closed), NOT_ALLOWED),
-    (Back(1, 1, Why::Closed), NOT_ALLOWED),
-    (Take, NOT_ALLOWED),
-    (Close, NOT_ALLOWED),
-    (Begin(0), NOT_ALLOWED),
-    (Begin(1), NOT_ALLOWED),
-    (End(0), None),
-    (End(1), NOT_ALLOWED),
-    (Chain(0), None),
-    (Chain(1), NOT_ALLOWED),
-    (ChainBusy(0), NOT_ALLOWED),
-    (ChainBusy(1), None),
+/// After a close, of a queue on whose list are 0 and 1, while sender 1 holds the barrier 2: where nothing runs, and where 0 does.
+const CLOSED: [(Event, Option<HistoryFault>, Option<HistoryFault>); 21] = [
+    (Hold(0, 3), None, None),
+    (Hold(0, 1), NOT_ALLOWED, NOT_ALLOWED),
+    (Hold(0, 0), NOT_ALLOWED, None),
+    (Busy(0, 1), None, None),
+    (Busy(0, 0), None, NOT_ALLOWED),
+    (Push(1, 2), NOT_ALLOWED, NOT_ALLOWED),
+    (Back(1, 2, Why::Closed), None, None),
+    (Back(1, 2, Why::Cancelled), None, None),
+    (Back(1, 2, Why::Contended), None, None),
+    (Back(0, 2, Why::Closed), NOT_ALLOWED, NOT_ALLOWED),
+    (Back(1, 1, Why::Closed), NOT_ALLOWED, NOT_ALLOWED),
+    (Take, NOT_ALLOWED, NOT_ALLOWED),
+    (Close, NOT_ALLOWED, NOT_ALLOWED),
+    (Begin(0), None, NOT_ALLOWED),
+    (Begin(1), NOT_ALLOWED, NOT_ALLOWED),
+    (End(0), NOT_ALLOWED, None),
+    (End(1), NOT_ALLOWED, NOT_ALLOWED),
+    (Chain(0), NOT_ALLOWED, None),
+    (Chain(1), NOT_ALLOWED, NOT_ALLOWED),
+    (ChainBusy(0), NOT_ALLOWED, NOT_ALLOWED),
+    (ChainBusy(1), NOT_ALLOWED, None),
 ];
 
 #[test]
-fn next_events(rt: HostRuntime) {
+fn events_after_an_open_history(rt: HostRuntime) {
     let back = Back(0, 0, Why::Contended);
-    let (hold, held) = (Hold(0, 0), Hold(1, 2));
-    let (one, other) = (Push(0, 0), Push(0, 1));
-    check_next(
-        &rt,
-        [hold, back, hold, back, Hold(0, 1), other, held],
-        &OPEN,
-    );
-    check_next(
-        &rt,
-        [hold, one, Hold(0, 1), other, held, Take, Begin(0)],
-        &OPEN_THAT_RUNS,
-    );
-    check_next(
-        &rt,
-        [hold, one, Hold(0, 1), other, held, Busy(0, 1), Close],
-        &CLOSED,
-    );
-    check_next(
-        &rt,
-        [hold, one, Hold(0, 1), other, held, Close, Begin(0)],
-        &CLOSED_THAT_RUNS,
-    );
+    let (hold, other, held) = (Hold(0, 0), Hold(0, 1), Hold(1, 2));
+    for (event, fault) in OPEN {
+        let before = [hold, back, hold, back, other, Push(0, 1), held];
+        check_after(&rt, before, event, fault);
+    }
+    for (event, fault) in OPEN_THAT_RUNS {
+        let before = [hold, Push(0, 0), other, Push(0, 1), held, Take, Begin(0)];
+        check_after(&rt, before, event, fault);
+    }
 }
 
-/// 400 rounds of a queueing, a take and an execution.
 #[test]
-fn long_history(rt: HostRuntime) -> Result<(), Fail> {
-    let layout = Layout::new(4, 1, 2)?;
-    let mut history = Vec::new(rt.alloc());
-    for round in 0..400u32 {
-        let (sender, item) = (round % 2, round % 4);
-        for event in [
-            Hold(sender, item),
-            Push(sender, item),
-            Take,
-            Begin(item),
-            End(item),
-        ] {
-            history.push(event)?;
-        }
+fn events_after_a_closed_history(rt: HostRuntime) {
+    let (hold, other, held) = (Hold(0, 0), Hold(0, 1), Hold(1, 2));
+    for (event, idle, running) in CLOSED {
+        let before = [hold, Push(0, 0), other, Push(0, 1), held, Busy(0, 1), Close];
+        check_after(&rt, before, event, idle);
+        let before = [hold, Push(0, 0), other, Push(0, 1), held, Close, Begin(0)];
+        check_after(&rt, before, event, running);
     }
-    expect_same(&rt, history.len(), 2000);
-    expect_same(&rt, check_history(&layout, &history), Ok(()));
-    history.push(End(3))?;
-    expect_same(
-        &rt,
-        check_history(&layout, &history).err(),
-        Some(HistoryError {
-            place: 2000,
-            kind: HistoryFault::NotAllowed,
-        }),
-    );
-    Ok(())
-}
-
-/// What a caller has in hand once a history was checked.
-#[test]
-fn laws(rt: HostRuntime) -> Result<(), Fail> {
-    let layout = Layout::new(2, 1, 2)?;
-    let history = [Hold(0, 0), Push(0, 0), Close, Begin(0), End(0)];
-    match check_history(&layout, &history) {
-        Ok(()) => {
-            headline();
-            one_keeper();
-            pending_list();
-            one_runs();
-            pending_and_closed();
-            one_wakes();
-        }
-        Err(error) => expect_same(&rt, Some(error), None),
-    }
-    Ok(())
 }

@@ -1,5 +1,5 @@
-//! A seat that stops stands in the way of no other: an owner that took, a sender that holds, a thread that ends with its sender,
-//! and a thread that waits between two calls until all others have come to their ends.
+//! A seat that stops stands in the way of no other: an owner that took, a sender that holds, and a thread that waits between two
+//! calls until all others have come to their ends.
 use super::reading::{begin, close, end, execute_one, take};
 use crate::expect::expect_same;
 use crate::latch::Latch;
@@ -53,23 +53,6 @@ fn sender_stops_with_an_item(rt: HostRuntime) -> Result<(), Fail> {
     Ok(())
 }
 
-/// A sender that queues so many items and holds the next, if it is to hold one, and is then dropped.
-fn stop(sender: Option<Sender>, items: u32, holds: bool) -> u32 {
-    let Some(mut sender) = sender else {
-        return 0;
-    };
-    let mut queued = 0u32;
-    for item in 0..items {
-        if let Some(Answer::Queued { .. }) = queue_settled(&mut sender, item) {
-            queued = queued.saturating_add(1);
-        }
-    }
-    if holds {
-        hold(&mut sender, items);
-    }
-    queued
-}
-
 /// Queues an item, in as many tries as a test may take.
 fn queue_settled(sender: &mut Sender, item: u32) -> Option<Answer> {
     if item < sender.layout().items {
@@ -88,39 +71,6 @@ fn queue_all(sender: &mut Sender, from: u32, to: u32) -> u32 {
         }
     }
     queued
-}
-
-/// A thread stops with its sender, after each number of items, with one held and with none. The other goes on to its end, and all
-/// that was queued is executed.
-#[test]
-fn thread_stops_with_its_sender(rt: HostRuntime) -> Result<(), Fail> {
-    for items in 0..8u32 {
-        for holds in [false, true] {
-            let (mut owner, first, mut second) = seats(rt.alloc(), 72, 1).expect(&rt, "seats");
-            let mut first = Some(first);
-            let queued = join_mut(
-                &rt,
-                &mut || stop(first.take(), items, holds),
-                &mut || queue_all(&mut second, 8, 72),
-            );
-            expect_same(&rt, queued, (items, 64));
-            let held = queue_once(&mut second, items);
-            expect_same(&rt, (items, held == Some(Answer::Pending)), (items, holds));
-            let accepted = if holds { items + 64 } else { items + 65 };
-            expect_same(&rt, close(&mut owner), Some(accepted));
-            for _ in 0..accepted {
-                assert!(rt; execute_one(&mut owner).is_some());
-            }
-            expect_same(
-                &rt,
-                owner.done(),
-                Some(Done {
-                    ended: u64::from(accepted),
-                }),
-            );
-        }
-    }
-    Ok(())
 }
 
 /// Executes what comes until all that is to come was queued, and answers how many that were.

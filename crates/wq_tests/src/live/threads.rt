@@ -93,32 +93,6 @@ fn two_threads_queue_in_their_order(rt: HostRuntime) {
     expect_halves(&rt, &owner, executed.as_slice(), 64);
 }
 
-/// How many each thread queued, and whether the owner's room sufficed.
-fn execute_beside<R: Threads + Sync>(
-    rt: &R,
-    owner: &mut Owner,
-    first: &mut Sender,
-    second: &mut Sender,
-    executed: &mut Vec<u32>,
-) -> ((u32, u32), bool) {
-    join_mut(
-        rt,
-        &mut || queue_halves(rt, first, second, 512),
-        &mut || execute_for(owner, 5000, executed),
-    )
-}
-
-#[test]
-fn owner_executes_while_two_threads_queue(rt: HostRuntime) {
-    let (mut owner, mut first, mut second) = seats(rt.alloc(), 1024, 1).expect(&rt, "seats");
-    let mut executed = Vec::new(rt.alloc());
-    let said = execute_beside(&rt, &mut owner, &mut first, &mut second, &mut executed);
-    expect_same(&rt, said, ((512, 512), true));
-    assert!(rt; close(&mut owner).is_some());
-    assert!(rt; execute_for(&mut owner, 1025, &mut executed));
-    expect_halves(&rt, &owner, executed.as_slice(), 512);
-}
-
 /// Queues three items again and again, each where it is no longer pending. Answers how many were queued.
 fn queue_again(sender: &mut Sender, rounds: u32) -> u32 {
     let mut queued = 0u32;
