@@ -36,7 +36,7 @@ rows: build
 memory:
 	checks/refused_memory.sh
 
-# The wrong bodies that the gate leaves out; half an hour on two processors, less where crates were checked before.
+# The wrong bodies that the gate leaves out: after a gate on the same machine half an hour on two processors, else an hour.
 wrong-bodies:
 	checks/wrong_bodies.sh
 
