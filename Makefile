@@ -43,8 +43,9 @@ wrong-bodies:
 # Times a script of a megabyte, executed items beside the same scheme in C, in one thread and in several, and a pool beside others in C.
 bench: build
 	cd crates/wq_bench && rt run
+	cd crates/wq_pool_bench && rt run
 	bench/script.sh $(PROGRAM)
 	bench/items.sh crates/wq_bench/out/wq_bench
 	bench/threads.py crates/wq_bench/out/wq_bench 9
-	bench/pool.py crates/wq_bench/out/wq_bench 9
+	bench/pool.py crates/wq_pool_bench/out/wq_pool_bench 9
 	bench/delays.sh crates/wq_bench/out/wq_bench

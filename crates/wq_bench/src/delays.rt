@@ -1,11 +1,11 @@
-//! Measures a delay table: its items are armed, moved and cancelled, and armed again and let go tick by tick, in rounds.
-ghost use Rattle.std.specs.Prelude.{◌≡◌, [], IfSome};
+//! A delay table: its items are armed, moved and cancelled, and armed again and let go tick by tick, in rounds.
+ghost use Rattle.std.specs.Prelude.{◌≡◌, [], IfOk};
 
-use crate::clock::{now, since};
-use crate::execute::execute_batch;
-use crate::plan::PlanError;
+use crate::host::Host;
+use crate::owner::execute_batch;
+use crate::refusal::Refusal;
 use std::alloc::Global;
-use std::time::{Clock, Duration};
+use std::time::{Duration, Instant};
 use wq_delay::Delay;
 use wq_live::{Owner, Sender, build};
 use wq_words::Layout;
@@ -13,25 +13,41 @@ use wq_words::Layout;
 // How many items are due at one tick.
 const A_TICK: u32 = 16;
 
+/// How long arming, moving, cancelling and letting go took.
+#[derive(Clone, Copy)]
+pub struct Times {
+    pub arm: Duration,
+    pub replace: Duration,
+    pub cancel: Duration,
+    pub let_go: Duration,
+}
+
+impl Times {
+    fn and(self, more: Times) -> Times {
+        Times {
+            arm: self.arm.saturating_add(more.arm),
+            replace: self.replace.saturating_add(more.replace),
+            cancel: self.cancel.saturating_add(more.cancel),
+            let_go: self.let_go.saturating_add(more.let_go),
+        }
+    }
+}
+
 // The owner and the sender of a new queue of so many items.
-fn seats(alloc: Global, items: u32) -> Option<(Owner, Sender)>
-    ensures { IfSome result (λ seats. seats.1.seen ≡ []) }
+fn seats(alloc: Global, items: u32) -> Result<(Owner, Sender), Refusal>
+    ensures { IfOk result (λ seats. seats.1.seen ≡ []) }
 {
-    let layout = Layout::new(items, 1, 1).ok()?;
-    let Ok((owner, mut senders)) = build(alloc, layout) else {
-        return None;
-    };
-    let sender = senders.pop()?;
-    Some((owner, sender))
+    let (owner, mut senders) = build(alloc, Layout::new(items, 1, 1)?)?;
+    match senders.pop() {
+        Some(sender) => Ok((owner, sender)),
+        None => Err(Refusal::Memory),
+    }
 }
 
 // A tick for an item, among so many.
 fn due(item: u32, step: u64, ticks: u64) -> u64 {
-    u64::from(item)
-        .wrapping_mul(step)
-        .checked_rem(ticks)
-        .unwrap_or(0)
-        .saturating_add(1)
+    let place = u64::from(item).wrapping_mul(step);
+    place.checked_rem(ticks).unwrap_or(0).saturating_add(1)
 }
 
 fn arm_all(delay: &mut Delay, ticks: u64) {
@@ -65,92 +81,42 @@ fn let_go(delay: &mut Delay, tick: u64, ticks: u64) {
     }
 }
 
-fn time_arming<R: Clock>(rt: &R, delay: &mut Delay, ticks: u64) -> Result<Duration, PlanError> {
-    let start = now(rt)?;
+// How long each call took in a round that begins at a tick, over all items.
+fn time_round<R: Host>(rt: &R, delay: &mut Delay, tick: u64, ticks: u64) -> Result<Times, Refusal> {
+    let start = Instant::now(rt)?;
     arm_all(delay, ticks);
-    since(rt, start)
-}
-
-fn time_moving<R: Clock>(rt: &R, delay: &mut Delay, ticks: u64) -> Result<Duration, PlanError> {
-    let start = now(rt)?;
+    let armed = Instant::now(rt)?;
     move_all(delay, ticks);
-    since(rt, start)
-}
-
-fn time_cancelling<R: Clock>(rt: &R, delay: &mut Delay) -> Result<Duration, PlanError> {
-    let start = now(rt)?;
+    let moved = Instant::now(rt)?;
     cancel_all(delay);
-    since(rt, start)
-}
-
-fn time_letting_go<R: Clock>(
-    rt: &R,
-    delay: &mut Delay,
-    tick: u64,
-    ticks: u64,
-) -> Result<Duration, PlanError> {
-    let start = now(rt)?;
-    let_go(delay, tick, ticks);
-    since(rt, start)
-}
-
-// How long arming, moving, cancelling and letting go took, over all items.
-fn time_round<R: Clock>(
-    rt: &R,
-    delay: &mut Delay,
-    tick: u64,
-    ticks: u64,
-) -> Result<[Duration; 4], PlanError> {
-    let armed = time_arming(rt, delay, ticks)?;
-    let moved = time_moving(rt, delay, ticks)?;
-    let cancelled = time_cancelling(rt, delay)?;
+    let cancelled = Instant::now(rt)?;
     arm_all(delay, ticks);
-    let gone = time_letting_go(rt, delay, tick, ticks)?;
-    Ok([armed, moved, cancelled, gone])
+    let again = Instant::now(rt)?;
+    let_go(delay, tick, ticks);
+    Ok(Times {
+        arm: armed.duration_since(start),
+        replace: moved.duration_since(armed),
+        cancel: cancelled.duration_since(moved),
+        let_go: again.elapsed(rt)?,
+    })
 }
 
-fn add(times: &mut [Duration; 4], more: [Duration; 4]) {
-    times[0] = times[0].saturating_add(more[0]);
-    times[1] = times[1].saturating_add(more[1]);
-    times[2] = times[2].saturating_add(more[2]);
-    times[3] = times[3].saturating_add(more[3]);
-}
-
-// The owner of a new queue of so many items, and a table over its sender.
-fn table(alloc: Global, items: u32) -> Option<(Owner, Delay)> {
-    let (owner, sender) = seats(alloc, items)?;
-    match Delay::new(alloc, sender, 0) {
-        Ok(delay) => Some((owner, delay)),
-        Err(_no_room) => None,
-    }
-}
-
-// The time of so many rounds, each of which executes what it let go.
-fn time_rounds<R: Clock>(
-    rt: &R,
-    owner: &mut Owner,
-    delay: &mut Delay,
-    rounds: u64,
-) -> Result<[Duration; 4], PlanError> {
-    let ticks = u64::from((delay.layout().items / A_TICK).max(1));
-    let mut times = [Duration::ZERO; 4];
+/// How long each call took in so many rounds over so many items. Each round executes what it let go.
+pub fn measure<R: Host>(rt: &R, items: u32, rounds: u32) -> Result<Times, Refusal> {
+    let (mut owner, sender) = seats(rt.alloc(), items)?;
+    let mut delay = Delay::new(rt.alloc(), sender, 0).map_err(|_| Refusal::Memory)?;
+    let ticks = u64::from((items / A_TICK).max(1));
+    let none = Duration::ZERO;
+    let mut times = Times {
+        arm: none,
+        replace: none,
+        cancel: none,
+        let_go: none,
+    };
     for round in 0..rounds {
-        let more = time_round(rt, delay, round.saturating_mul(ticks), ticks)?;
-        add(&mut times, more);
-        execute_batch(owner, u64::MAX);
+        let tick = u64::from(round).saturating_mul(ticks);
+        times = times.and(time_round(rt, &mut delay, tick, ticks)?);
+        execute_batch(&mut owner, u64::MAX);
     }
     Ok(times)
-}
-
-/// How long arming, moving, cancelling and letting go took in so many rounds over so many items.
-pub fn measure<R: Clock>(
-    rt: &R,
-    alloc: Global,
-    items: u32,
-    rounds: u64,
-) -> Result<[Duration; 4], PlanError> {
-    match table(alloc, items) {
-        Some((mut owner, mut delay)) => time_rounds(rt, &mut owner, &mut delay, rounds),
-        None => Err(PlanError::Memory),
-    }
 }

@@ -1,33 +1,73 @@
 //! One item at a time, queued to a worker that serves in another thread and has nothing else to do.
-use crate::clock::{now, since};
-use crate::offer::offer;
+use crate::host::Host;
 use crate::pace::Pace;
-use crate::plan::PlanError;
+use crate::posts::offer;
+use crate::refusal::Refusal;
 use crate::runs::{Runs, shown};
 use crate::serve::serve;
 use crossbeam_utils::sync::{Parker, Unparker};
 use std::alloc::Global;
 use std::hint::spin_loop;
+use std::sync::Arc;
 use std::sync::atomic::{AtomicU64, Ordering};
-use std::sync::{Arc, Wait};
-use std::thread::{Threads, join_mut};
-use std::time::{Clock, Duration};
+use std::thread::join_mut;
+use std::time::{Duration, Instant};
 use wq_live::{Answer, Sender};
 use wq_words::Layout;
 use wq_worker::Worker;
 
-/// How often an item is queued, and how long nothing is queued before.
-#[derive(Clone, Copy)]
-pub struct Rounds {
-    pub count: u64,
-    pub gap: Duration,
+/// The sender of an item, and what it needs to wake the worker and to see that the item ran.
+#[derive(Drop)]
+struct Ringer {
+    sender: Sender,
+    unparker: Unparker,
+    shown: Arc<AtomicU64, Global>,
+}
+
+impl Ringer {
+    /// Queues the item and waits until the worker has run so many in all. How long that took.
+    fn ring<R: Host>(&mut self, rt: &R, runs: u64) -> Result<Duration, Refusal> {
+        let start = Instant::now(rt)?;
+        if let Answer::Queued { first: true, .. } = offer(&mut self.sender, 0) {
+            self.unparker.unpark();
+        }
+        for _ in 0..u64::MAX {
+            if self.shown.load(Ordering::SeqCst) >= runs {
+                break;
+            }
+            spin_loop();
+        }
+        Ok(start.elapsed(rt)?)
+    }
+
+    /// The times of all rounds, in nanoseconds.
+    fn ring_often<R: Host>(
+        &mut self,
+        rt: &R,
+        rounds: u32,
+        gap: Duration,
+    ) -> Result<Vec<u128>, Refusal> {
+        let mut times = Vec::new(rt.alloc());
+        for round in 0..rounds {
+            pass(rt, gap)?;
+            let time = self.ring(rt, u64::from(round) + 1)?;
+            times.push(time.as_nanos())?;
+        }
+        Ok(times)
+    }
+
+    /// Queues the stop item.
+    fn stop(&mut self) {
+        self.sender.request_stop(u32::MAX);
+        self.unparker.unpark();
+    }
 }
 
 /// Passes so much time, without the system's help.
-fn pass<R: Clock>(rt: &R, gap: Duration) -> Result<(), PlanError> {
-    let start = now(rt)?;
+fn pass<R: Host>(rt: &R, gap: Duration) -> Result<(), Refusal> {
+    let start = Instant::now(rt)?;
     for _ in 0..u64::MAX {
-        if since(rt, start)? >= gap {
+        if start.elapsed(rt)? >= gap {
             break;
         }
         spin_loop();
@@ -35,103 +75,39 @@ fn pass<R: Clock>(rt: &R, gap: Duration) -> Result<(), PlanError> {
     Ok(())
 }
 
-/// Queues the item and waits until the worker has run so many in all. How long that took.
-fn ring<R: Clock>(
-    rt: &R,
-    sender: &mut Sender,
-    unparker: &Unparker,
-    shown: &AtomicU64,
-    runs: u64,
-) -> Result<Duration, PlanError> {
-    let start = now(rt)?;
-    if let Answer::Queued { first: true, .. } = offer(sender, 0) {
-        unparker.unpark();
-    }
-    for _ in 0..u64::MAX {
-        if shown.load(Ordering::SeqCst) >= runs {
-            break;
-        }
-        spin_loop();
-    }
-    since(rt, start)
-}
-
-/// The times of all rounds, in nanoseconds.
-fn ring_often<R: Clock>(
-    rt: &R,
-    alloc: Global,
-    sender: &mut Sender,
-    unparker: &Unparker,
-    shown: &AtomicU64,
-    rounds: Rounds,
-) -> Result<Vec<u128>, PlanError> {
-    let mut times = Vec::new(alloc);
-    for round in 0..rounds.count {
-        pass(rt, rounds.gap)?;
-        let time = ring(rt, sender, unparker, shown, round.saturating_add(1))?;
-        times.push(time.as_nanos())?;
-    }
-    Ok(times)
-}
-
-/// The times, and then the stop item.
-fn ring_and_stop<R: Clock>(
-    rt: &R,
-    alloc: Global,
-    sender: &mut Sender,
-    unparker: &Unparker,
-    shown: &AtomicU64,
-    rounds: Rounds,
-) -> Result<Vec<u128>, PlanError> {
-    let times = ring_often(rt, alloc, sender, unparker, shown, rounds);
-    sender.request_stop(u32::MAX);
-    unparker.unpark();
-    times
-}
-
-/// Rings in a thread beside the worker that serves.
-fn ring_beside<R: Threads + Wait + Clock + Sync>(
-    rt: &R,
-    alloc: Global,
-    mut worker: Worker<Runs>,
-    mut sender: Sender,
-    shown: &AtomicU64,
-    rounds: Rounds,
-    pace: Pace,
-) -> Result<Vec<u128>, PlanError> {
-    let mut parker = Parker::new(alloc)?;
-    let unparker = parker.unparker().clone()?;
-    let (_, times) = join_mut(
-        rt,
-        &mut || serve(rt, &mut worker, &mut parker, pace),
-        &mut || ring_and_stop(rt, alloc, &mut sender, &unparker, shown, rounds),
-    );
-    times
-}
-
-/// A worker of one item, and its sender.
-fn pair(
-    alloc: Global,
-    shown: &Arc<AtomicU64, Global>,
-) -> Result<(Worker<Runs>, Sender), PlanError> {
-    let work = Runs::new(1, Arc::try_clone(shown)?);
+/// A worker of one item, and who rings it.
+fn pair(alloc: Global, unparker: Unparker) -> Result<(Worker<Runs>, Ringer), Refusal> {
+    let shown = shown(alloc)?;
+    let work = Runs::new(1, Arc::try_clone(&shown)?);
     let (worker, mut senders) = Worker::build(alloc, Layout::new(1, 1, 2)?, work, 1)?;
-    match senders.pop() {
-        Some(sender) => Ok((worker, sender)),
-        None => Err(PlanError::Memory),
-    }
+    let sender = senders.pop().ok_or(Refusal::Memory)?;
+    let ringer = Ringer {
+        sender,
+        unparker,
+        shown,
+    };
+    Ok((worker, ringer))
 }
 
 /// The times of all rounds, in nanoseconds, from the least on.
-pub fn measure<R: Threads + Wait + Clock + Sync>(
+pub fn measure<R: Host>(
     rt: &R,
-    alloc: Global,
-    rounds: Rounds,
+    rounds: u32,
+    gap: Duration,
     pace: Pace,
-) -> Result<Vec<u128>, PlanError> {
-    let shown = shown(alloc)?;
-    let (worker, sender) = pair(alloc, &shown)?;
-    let mut times = ring_beside(rt, alloc, worker, sender, &shown, rounds, pace)?;
+) -> Result<Vec<u128>, Refusal> {
+    let mut parker = Parker::new(rt.alloc())?;
+    let (mut worker, mut ringer) = pair(rt.alloc(), parker.unparker().clone()?)?;
+    let (_, times) = join_mut(
+        rt,
+        &mut || serve(rt, &mut worker, &mut parker, pace),
+        &mut || {
+            let times = ringer.ring_often(rt, rounds, gap);
+            ringer.stop();
+            times
+        },
+    );
+    let mut times = times?;
     times.sort_unstable();
     Ok(times)
 }

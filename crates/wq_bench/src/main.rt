@@ -9,123 +9,56 @@
 //! percentile of the time until it ran. `wq_bench delays ITEMS ROUNDS` measures a delay table; it prints what an arming, a move, a
 //! cancel and letting go took an item.
 //!
-//! `wq_bench pool QUEUES WORKERS SENDERS TOTAL` measures a pool of so many workers. Each sender queues on all queues in turn, and
-//! announces a queue where it was answered `wakes`. It prints `items N nanos T picks K strays S`, of which the last is how many
-//! items ran out of their sender's order.
-//!
-//! Without words it prints `items N` for a small plan of one queue and for one of a pool, which depends on no clock.
+//! Without words it prints `items N` for a small load, which depends on no clock.
 #![tactic(auto)]
 
-mod clock;
-mod counts;
 mod delays;
-mod execute;
+mod host;
 mod lone;
-mod offer;
+mod owner;
 mod pace;
 mod plan;
-mod pool;
-mod race;
+mod posts;
+mod refusal;
 mod runs;
 mod serve;
-mod solo;
 
-use counts::Counts;
-use lone::Rounds;
+use host::Host;
 use pace::Pace;
-use plan::{Plan, PlanError};
-use pool::{PoolCounts, PoolPlan};
-use std::alloc::Global;
+use plan::{Load, Plan};
+use refusal::Refusal;
 use std::io;
 use std::process::ExitCode;
-use std::rt::Runtime;
-use std::sync::Wait;
-use std::thread::Threads;
 use std::time::{Duration, Instant};
-use wq_live::build;
 
-/// Says why nothing was measured.
-fn refuse<R: Eprint>(rt: &R, error: PlanError) -> io::Result<ExitCode> {
-    eprintln!(rt; "{error}")?;
-    Ok(ExitCode::from(error.status()))
+/// Prints what depends on no clock.
+fn show_small<R: Host>(rt: &R) -> Result<(), Refusal> {
+    let items = owner::run(rt, Load::small())?.items;
+    println!(rt; "items {items}")?;
+    Ok(())
 }
 
-/// Runs a plan, and answers what it counted.
-fn run<R: Threads>(rt: &R, alloc: Global, plan: Plan) -> Result<Counts, PlanError> {
-    let (owner, senders) = build(alloc, plan.layout()?)?;
-    if plan.senders == 0 {
-        return Ok(solo::run(owner, senders, plan.total));
-    }
-    race::run(rt, alloc, owner, senders, plan)
-}
-
-/// Runs the small plans, and prints what depends on no clock.
-fn show_small<R: Runtime + Alloc<A = Global> + Threads + Wait + Sync>(
-    rt: &R,
-) -> io::Result<ExitCode> {
-    match run(rt, rt.alloc(), Plan::small()) {
-        Ok(counts) => println!(rt; "items {}", counts.items)?,
-        Err(error) => return refuse(rt, error),
-    }
-    match pool::run(rt, rt.alloc(), PoolPlan::small()) {
-        Ok(counts) => println!(rt; "pool items {} strays {}", counts.items, counts.strays)?,
-        Err(error) => return refuse(rt, error),
-    }
-    Ok(ExitCode::SUCCESS)
-}
-
-/// Runs a plan, and prints its time.
-fn show<R: Runtime + Alloc<A = Global> + Threads + Wait + Sync>(
-    rt: &R,
-    plan: Plan,
-) -> io::Result<ExitCode> {
+fn show_owner<R: Host>(rt: &R, load: Load) -> Result<(), Refusal> {
     let start = Instant::now(rt)?;
-    let ran = run(rt, rt.alloc(), plan);
+    let counts = owner::run(rt, load)?;
     let nanos = start.elapsed(rt)?.as_nanos();
-    match ran {
-        Ok(Counts { items, takes }) => println!(rt; "items {items} nanos {nanos} takes {takes}")?,
-        Err(error) => return refuse(rt, error),
-    }
-    Ok(ExitCode::SUCCESS)
+    println!(rt;
+        "items {} nanos {nanos} takes {}",
+        counts.items, counts.takes
+    )?;
+    Ok(())
 }
 
-/// The same of a worker that serves.
-fn show_serve<R: Runtime + Alloc<A = Global> + Threads + Wait + Sync>(
-    rt: &R,
-    plan: Plan,
-) -> io::Result<ExitCode> {
+/// The same of a worker that serves. Each take that finds something begins with a push onto an empty list, so there were as many.
+fn show_serve<R: Host>(rt: &R, load: Load) -> Result<(), Refusal> {
     let start = Instant::now(rt)?;
-    let ran = serve::run(rt, rt.alloc(), plan);
+    let (items, calls) = serve::run(rt, load)?;
     let nanos = start.elapsed(rt)?.as_nanos();
-    match ran {
-        Ok((Counts { items, takes }, calls)) => println!(rt;
-            "items {items} nanos {nanos} takes {takes} unparks {}",
-            calls.unparks
-        )?,
-        Err(error) => return refuse(rt, error),
-    }
-    Ok(ExitCode::SUCCESS)
-}
-
-/// Runs a pool's plan, and prints its time.
-fn show_pool<R: Runtime + Alloc<A = Global> + Threads + Wait + Sync>(
-    rt: &R,
-    plan: PoolPlan,
-) -> io::Result<ExitCode> {
-    let start = Instant::now(rt)?;
-    let ran = pool::run(rt, rt.alloc(), plan);
-    let nanos = start.elapsed(rt)?.as_nanos();
-    match ran {
-        Ok(
-            PoolCounts {
-                items,
-                picks,
-                strays,
-            },
-        ) => println!(rt; "items {items} nanos {nanos} picks {picks} strays {strays}")?,
-        Err(error) => return refuse(rt, error),
-    }
-    Ok(ExitCode::SUCCESS)
+    println!(rt;
+        "items {items} nanos {nanos} takes {} unparks {}",
+        calls.firsts, calls.unparks
+    )?;
+    Ok(())
 }
 
 /// The time at a place in percent among times from the least on.
@@ -134,89 +67,53 @@ fn at_percent(times: &[u128], percent: usize) -> u128 {
     times.get(place).copied().unwrap_or(0)
 }
 
-/// Prints how long one item took until it ran.
-fn show_lone<R: Runtime + Alloc<A = Global> + Threads + Wait + Sync>(
-    rt: &R,
-    rounds: Rounds,
-    pace: Pace,
-) -> io::Result<ExitCode> {
-    match lone::measure(rt, rt.alloc(), rounds, pace) {
-        Ok(times) => println!(rt;
-            "median {} nanos, 95th {} nanos",
-            at_percent(times.as_slice(), 50),
-            at_percent(times.as_slice(), 95)
-        )?,
-        Err(error) => return refuse(rt, error),
-    }
-    Ok(ExitCode::SUCCESS)
+fn show_lone<R: Host>(rt: &R, rounds: u32, micros: u32, pace: Pace) -> Result<(), Refusal> {
+    let times = lone::measure(rt, rounds, Duration::from_micros(u64::from(micros)), pace)?;
+    let median = at_percent(times.as_slice(), 50);
+    let most = at_percent(times.as_slice(), 95);
+    println!(rt; "median {median} nanos, 95th {most} nanos")?;
+    Ok(())
 }
 
 /// Prints how many nanoseconds each call of a delay table took an item.
-fn show_delays<R: Runtime + Alloc<A = Global>>(
-    rt: &R,
-    items: u32,
-    rounds: u64,
-) -> io::Result<ExitCode> {
-    let times = match delays::measure(rt, rt.alloc(), items, rounds) {
-        Ok(times) => times,
-        Err(error) => return refuse(rt, error),
-    };
+fn show_delays<R: Host>(rt: &R, items: u32, rounds: u32) -> Result<(), Refusal> {
+    let times = delays::measure(rt, items, rounds)?;
     let count = u128::from(items).saturating_mul(u128::from(rounds)).max(1);
-    for (name, time) in ["arm", "move", "cancel", "let go"].iter().zip(&times) {
-        println!(rt;
-            "{name} {} nanos",
-            time.as_nanos().checked_div(count).unwrap_or(0)
-        )?;
-    }
-    Ok(ExitCode::SUCCESS)
+    let an_item = |time: Duration| time.as_nanos().checked_div(count).unwrap_or(0);
+    println!(rt; "arm {} nanos", an_item(times.arm))?;
+    println!(rt; "move {} nanos", an_item(times.replace))?;
+    println!(rt; "cancel {} nanos", an_item(times.cancel))?;
+    println!(rt; "let go {} nanos", an_item(times.let_go))?;
+    Ok(())
 }
 
-/// What the words ask for, at a pace.
-fn measure<R: Runtime + Alloc<A = Global> + Threads + Wait + Sync>(
-    rt: &R,
-    pace: Pace,
-    words: &[String],
-) -> io::Result<ExitCode> {
-    match words {
-        [] => show_small(rt),
-        [word, items, rounds] if word.as_str() == "delays" => show_delays(
-            rt,
-            items.parse().unwrap_or(16),
-            rounds.parse().unwrap_or(1),
-        ),
-        [word, count, micros] if word.as_str() == "lone" => {
-            let rounds = Rounds {
-                count: count.parse().unwrap_or(1),
-                gap: Duration::from_micros(micros.parse().unwrap_or(1)),
-            };
-            show_lone(rt, rounds, pace)
-        }
-        [senders, slice, total] => match Plan::read(senders, slice, total, pace) {
-            Ok(plan) => show(rt, plan),
-            Err(error) => refuse(rt, error),
-        },
-        [word, senders, slice, total] if word.as_str() == "serve" => {
-            match Plan::read(senders, slice, total, pace) {
-                Ok(plan) => show_serve(rt, plan),
-                Err(error) => refuse(rt, error),
-            }
-        }
-        [word, queues, workers, senders, total] if word.as_str() == "pool" => {
-            match PoolPlan::read(queues, workers, senders, total) {
-                Ok(plan) => show_pool(rt, plan),
-                Err(error) => refuse(rt, error),
-            }
-        }
-        _ => refuse(rt, PlanError::Words),
+fn measure<R: Host>(rt: &R, plan: Plan) -> Result<(), Refusal> {
+    match plan {
+        Plan::Small => show_small(rt),
+        Plan::Owner(load) => show_owner(rt, load),
+        Plan::Serve(load) => show_serve(rt, load),
+        Plan::Lone(rounds, micros, pace) => show_lone(rt, rounds, micros, pace),
+        Plan::Delays(items, rounds) => show_delays(rt, items, rounds),
     }
+}
+
+/// Measures what the words ask for, at the pace that the first one names.
+fn obey<R: Host>(rt: &R, words: &[String]) -> Result<(), Refusal> {
+    let plan = match words {
+        [word, rest @ ..] if word.as_str() == "eager" => Plan::read(rest, Pace::Eager)?,
+        [word, rest @ ..] if word.as_str() == "resting" => Plan::read(rest, Pace::Resting)?,
+        _ => Plan::read(words, Pace::Patient)?,
+    };
+    measure(rt, plan)
 }
 
 fn main(rt: HostRuntime) -> io::Result<ExitCode> {
     let words: Vec<String> = std::env::args(&rt)?.collect(rt.alloc())?;
-    match words.as_slice() {
-        [] => measure(&rt, Pace::Patient, &[]),
-        [_, word, rest @ ..] if word.as_str() == "eager" => measure(&rt, Pace::Eager, rest),
-        [_, word, rest @ ..] if word.as_str() == "resting" => measure(&rt, Pace::Resting, rest),
-        [_, rest @ ..] => measure(&rt, Pace::Patient, rest),
+    match obey(&rt, words.get(1..).unwrap_or(&[])) {
+        Ok(()) => Ok(ExitCode::SUCCESS),
+        Err(refusal) => {
+            eprintln!(rt; "{refusal}")?;
+            Ok(ExitCode::from(refusal.status()))
+        }
     }
 }

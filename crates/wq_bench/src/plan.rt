@@ -1,92 +1,70 @@
-//! What a run measures.
+//! What is measured.
 use crate::pace::Pace;
-use std::alloc::{AllocError, AllocFailed};
-use thiserror::Error;
-use wq_live::BuildError;
-use wq_pool::PoolError;
+use crate::refusal::Refusal;
 use wq_words::{Layout, LayoutError};
-use wq_worker::{Unbuilt, Work};
 
-/// How many senders there are, how many items each of them queues, how many executions end in all, and how the owner goes on.
+/// What the words ask for.
 #[derive(Clone, Copy)]
-pub struct Plan {
+pub enum Plan {
+    /// A small load that an owner executes, of which what is printed depends on no clock.
+    Small,
+    /// A load that an owner executes.
+    Owner(Load),
+    /// A load that a worker serves.
+    Serve(Load),
+    /// One item, queued so often to a worker that serves at a pace, with so many microseconds before.
+    Lone(u32, u32, Pace),
+    /// So many items of a delay table, and so many rounds over them.
+    Delays(u32, u32),
+}
+
+/// How many senders there are, how many items each of them queues, how many executions end in all, and how an owner or a worker
+/// goes on.
+#[derive(Clone, Copy)]
+pub struct Load {
     pub senders: u32,
     pub slice: u32,
     pub total: u64,
     pub pace: Pace,
 }
 
-/// Why a plan was not run.
-#[derive(Clone, Copy, Debug, Error)]
-pub enum PlanError {
-    /// Another count of words, or a word that is no number.
-    #[error("usage: wq_bench [eager | resting] [serve] SENDERS SLICE TOTAL | [eager] lone ROUNDS MICROS | delays ITEMS ROUNDS \
-         | pool QUEUES WORKERS SENDERS TOTAL")]
-    Words,
-    /// More senders or items than a queue has.
-    #[error("plan: {0}")]
-    Limits(#[from] LayoutError),
-    /// Memory for the queue.
-    #[error("memory")]
-    Memory,
-    /// A thread could not be made.
-    #[error("no thread")]
-    NoThread,
-    /// The system's clock gave no time.
-    #[error("clock")]
-    Clock,
-    /// A pool that could not be taken apart.
-    #[error("a queue has not run to its end")]
-    Unfinished,
-}
-
-impl From<AllocError> for PlanError {
-    fn from(_: AllocError) -> PlanError {
-        PlanError::Memory
+/// As many numbers as are wanted, and zeros behind them.
+fn numbers(words: &[String], wanted: usize) -> Result<[u32; 3], Refusal> {
+    let mut numbers = [0; 3];
+    if words.len() != wanted {
+        return Err(Refusal::Words);
     }
-}
-
-impl<T: Drop> From<AllocFailed<T>> for PlanError {
-    fn from(_: AllocFailed<T>) -> PlanError {
-        PlanError::Memory
+    for (number, word) in numbers.iter_mut().zip(words) {
+        *number = word.parse().map_err(|_| Refusal::Words)?;
     }
-}
-
-impl<W: Work + Drop> From<Unbuilt<W>> for PlanError {
-    fn from(_: Unbuilt<W>) -> PlanError {
-        PlanError::Memory
-    }
-}
-
-impl From<BuildError> for PlanError {
-    fn from(_: BuildError) -> PlanError {
-        PlanError::Memory
-    }
-}
-
-impl From<PoolError> for PlanError {
-    fn from(error: PoolError) -> PlanError {
-        match error {
-            PoolError::NoQueue => PlanError::Words,
-            PoolError::Memory => PlanError::Memory,
-        }
-    }
-}
-
-impl PlanError {
-    /// The status that the program ends with.
-    pub fn status(self) -> u8 {
-        match self {
-            PlanError::Words | PlanError::Limits(_) => 2,
-            PlanError::Memory | PlanError::NoThread | PlanError::Clock | PlanError::Unfinished => 3,
-        }
-    }
+    Ok(numbers)
 }
 
 impl Plan {
-    /// A plan that takes no time.
-    pub fn small() -> Plan {
-        Plan {
+    /// The plan that words spell, at a pace.
+    pub fn read(words: &[String], pace: Pace) -> Result<Plan, Refusal> {
+        let Some((name, rest)) = words.split_first() else {
+            return Ok(Plan::Small);
+        };
+        match name.as_str() {
+            "serve" => Ok(Plan::Serve(Load::read(rest, pace)?)),
+            "lone" => {
+                let [count, micros, _] = numbers(rest, 2)?;
+                Ok(Plan::Lone(count, micros, pace))
+            }
+            "delays" => {
+                let [items, rounds, _] = numbers(rest, 2)?;
+                Ok(Plan::Delays(items, rounds))
+            }
+            _ => Ok(Plan::Owner(Load::read(words, pace)?)),
+        }
+    }
+}
+
+impl Load {
+    /// A load that takes no time.
+    pub fn small() -> Load {
+        Load {
             senders: 2,
             slice: 64,
             total: 4096,
@@ -94,29 +72,20 @@ impl Plan {
         }
     }
 
-    /// The plan that three words spell.
-    pub fn read(senders: &str, slice: &str, total: &str, pace: Pace) -> Result<Plan, PlanError> {
-        match (senders.parse(), slice.parse(), total.parse()) {
-            (Ok(senders), Ok(slice), Ok(total)) => Ok(Plan {
-                senders,
-                slice,
-                total,
-                pace,
-            }),
-            _ => Err(PlanError::Words),
-        }
+    fn read(words: &[String], pace: Pace) -> Result<Load, Refusal> {
+        let [senders, slice, total] = numbers(words, 3)?;
+        Ok(Load {
+            senders,
+            slice,
+            total: u64::from(total),
+            pace,
+        })
     }
 
-    /// A queue with a slice of items for each sender, and one sender at least.
-    pub fn layout(self) -> Result<Layout, LayoutError> {
-        let senders = self.senders.max(1);
-        Layout::new(senders.saturating_mul(self.slice), 1, senders)
-    }
-
-    /// The same with one sender more, which is the worker's.
-    pub fn layout_with_worker(self) -> Result<Layout, LayoutError> {
+    /// A queue with a slice of items for each sender, and one sender at least; and so many senders more.
+    pub fn layout(self, more: u32) -> Result<Layout, LayoutError> {
         let senders = self.senders.max(1);
         let items = senders.saturating_mul(self.slice);
-        Layout::new(items, 1, senders.saturating_add(1))
+        Layout::new(items, 1, senders.saturating_add(more))
     }
 }

@@ -12,25 +12,23 @@ pub fn shown(alloc: Global) -> Result<Arc<AtomicU64, Global>, AllocError> {
     Ok(Arc::new(alloc, AtomicU64::new(0))?)
 }
 
-/// A work that shows how many items it has run, after each stride of them, and asks for nothing to follow.
+/// A work that shows how many items it has run from so many on, and asks for nothing to follow.
 #[derive(Drop)]
 pub struct Runs {
     ran: Trail,
     count: u64,
-    stride: u64,
-    left: u64,
+    from: u64,
     shown: Arc<AtomicU64, Global>,
 }
 
 impl Runs {
-    pub fn new(stride: u64, shown: Arc<AtomicU64, Global>) -> Runs
+    pub fn new(from: u64, shown: Arc<AtomicU64, Global>) -> Runs
         ensures none { result.ran.items ≡ [] }
     {
         Runs {
             ran: Trail::new(),
             count: 0,
-            stride,
-            left: stride,
+            from,
             shown,
         }
     }
@@ -49,9 +47,7 @@ impl Work for Runs {
     fn run(&mut self, item: u32) -> Follow {
         self.ran = self.ran.and(item);
         self.count = self.count.saturating_add(1);
-        self.left = self.left.saturating_sub(1);
-        if self.left == 0 {
-            self.left = self.stride;
+        if self.count >= self.from {
             self.shown.store(self.count, Ordering::SeqCst);
         }
         Follow::new()

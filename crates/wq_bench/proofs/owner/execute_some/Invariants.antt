@@ -1,5 +1,5 @@
 use Rattle.wq_words.specs.History.{IsRunning}
-use Rattle.wq_bench.proofs.execute.execute_some.Given as goal
+use Rattle.wq_bench.proofs.owner.execute_some.Given as goal
 
 abbrev pub invariant-loop-count : goal.invariant-loop-count
 invariant-loop-count l = ¬ IsRunning l.owner.seen

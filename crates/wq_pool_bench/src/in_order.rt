@@ -19,20 +19,14 @@ pub struct InOrder {
     next: Vec<u32>,
 }
 
-/// The item that a sender queues after this one.
-fn after(item: u32) -> u32 {
-    let next = item.saturating_add(1);
-    if next % SLICE == 0 {
-        next.saturating_sub(SLICE)
-    } else {
-        next
-    }
-}
-
 /// Whether it is another item than what comes next of its sender, which is then the one after it.
-fn is_stray(next: &mut Vec<u32>, item: u32) -> bool {
-    match next.get_mut((item / SLICE) as usize) {
-        Some(next) => replace(next, after(item)) != item,
+fn is_stray(next: &mut [u32], item: u32) -> bool {
+    let (sender, place) = (item / SLICE, item % SLICE);
+    let follows = sender
+        .saturating_mul(SLICE)
+        .saturating_add((place + 1) % SLICE);
+    match next.get_mut(sender as usize) {
+        Some(next) => replace(next, follows) != item,
         None => true,
     }
 }
@@ -72,9 +66,8 @@ impl Work for InOrder {
     fn run(&mut self, item: u32) -> Follow {
         self.ran = self.ran.and(item);
         self.count = self.count.saturating_add(1);
-        if is_stray(&mut self.next, item) {
-            self.strays = self.strays.saturating_add(1);
-        }
+        let stray = is_stray(self.next.as_mut_slice(), item);
+        self.strays = self.strays.saturating_add(u64::from(stray));
         Follow::new()
     }
 }

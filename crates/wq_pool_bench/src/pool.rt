@@ -1,0 +1,222 @@
+//! A pool of workers over several queues, and senders in threads of their own that queue on all of them in turn.
+ghost use Rattle.std.specs.Prelude.{All};
+ghost use Rattle.wq_ready.specs.Known.{IsCallerOf};
+
+use crate::feeder::Feeder;
+use crate::in_order::{InOrder, SLICE};
+use crate::refusal::Refusal;
+use std::alloc::{AllocError, Global};
+use std::sync::Wait;
+use std::sync::atomic::AtomicU64;
+use std::thread::{Threads, for_each_mut, join_mut};
+use wq_live::Sender;
+use wq_pool::{Caller, Gate, Pool, Served};
+use wq_words::{Layout, LayoutError};
+use wq_worker::{Book, Worker};
+
+/// How many queues there are, how many threads serve them, how many senders queue on each, and about how many items in all.
+#[derive(Clone, Copy)]
+pub struct Load {
+    queues: u32,
+    workers: u32,
+    senders: u32,
+    total: u64,
+}
+
+/// How many items ran, and how many of them out of their sender's order.
+#[derive(Clone, Copy)]
+pub struct Ran {
+    pub items: u64,
+    pub strays: u64,
+}
+
+/// A gate that does nothing.
+struct NoGate;
+
+impl Gate for NoGate {
+    fn before(&self, _queue: u32, _item: u32) {}
+
+    fn after(&self, _queue: u32, _item: u32) {}
+}
+
+impl Load {
+    /// A load that takes no time.
+    pub fn small() -> Load {
+        Load {
+            queues: 3,
+            workers: 2,
+            senders: 2,
+            total: 6144,
+        }
+    }
+
+    /// The load that four words spell, with a worker and a sender at least.
+    pub fn read(words: &[String]) -> Result<Load, Refusal> {
+        let mut numbers = [0u32; 4];
+        if words.len() != numbers.len() {
+            return Err(Refusal::Words);
+        }
+        for (number, word) in numbers.iter_mut().zip(words) {
+            *number = word.parse().map_err(|_| Refusal::Words)?;
+        }
+        let [queues, workers, senders, total] = numbers;
+        if workers == 0 || senders == 0 {
+            return Err(Refusal::Words);
+        }
+        Ok(Load {
+            queues,
+            workers,
+            senders,
+            total: u64::from(total),
+        })
+    }
+
+    /// A queue with a slice of items for each sender, and a sender more, which is the worker's.
+    fn layout(self) -> Result<Layout, LayoutError> {
+        let items = self.senders.saturating_mul(SLICE);
+        Layout::new(items, 1, self.senders.saturating_add(1))
+    }
+
+    /// How many items each sender queues on each queue.
+    fn rounds(self) -> u64 {
+        let seats = u64::from(self.queues).saturating_mul(u64::from(self.senders));
+        self.total.checked_div(seats).unwrap_or(0)
+    }
+}
+
+/// A queue that has done nothing, and its senders.
+fn new_queue(alloc: Global, load: Load) -> Result<(Served<InOrder>, Vec<Sender>), Refusal> {
+    let work = InOrder::new(alloc, load.senders)?;
+    let (worker, senders) = Worker::build(alloc, load.layout()?, work, 1).map_err(|_| AllocError)?;
+    Ok((Served::new(worker), senders))
+}
+
+/// The queues, and the senders of each.
+fn new_queues(
+    alloc: Global,
+    load: Load,
+) -> Result<(Vec<Served<InOrder>>, Vec<Vec<Sender>>), Refusal> {
+    let mut queues = Vec::new(alloc);
+    let mut seats = Vec::new(alloc);
+    for _ in 0..load.queues {
+        let (queue, senders) = new_queue(alloc, load)?;
+        queues.push(queue).map_err(|_| AllocError)?;
+        seats.push(senders).map_err(|_| AllocError)?;
+    }
+    Ok((queues, seats))
+}
+
+/// A sender of each queue.
+fn row(alloc: Global, queues: &mut [Vec<Sender>]) -> Result<Vec<Sender>, AllocError> {
+    let mut row = Vec::new(alloc);
+    for queue in queues {
+        if let Some(sender) = queue.pop() {
+            row.push(sender)?;
+        }
+    }
+    Ok(row)
+}
+
+/// A feeder for each sender, which takes one of the callers.
+fn feeders<'p>(
+    alloc: Global,
+    pool: &'p Pool<InOrder>,
+    callers: &mut Vec<Caller>,
+    mut seats: Vec<Vec<Sender>>,
+    feeding: &'p AtomicU64,
+    load: Load,
+) -> Result<Vec<Feeder<'p>>, AllocError>
+    requires { All (IsCallerOf pool.now.ready) callers.old.items }
+    ensures { All (IsCallerOf pool.now.ready) callers.new.items }
+{
+    let mut all = Vec::new(alloc);
+    for _sender in 0..load.senders {
+        let row = row(alloc, seats.as_mut_slice())?;
+        if let Some(caller) = callers.pop() {
+            all.push(Feeder::new(pool, caller, row, feeding, load.rounds()))?;
+        }
+    }
+    Ok(all)
+}
+
+fn feed<R: Threads + Wait + Sync>(rt: &R, feeders: &mut [Feeder]) {
+    let threads = feeders.len().max(1);
+    for_each_mut(
+        rt,
+        feeders,
+        threads,
+        &|_place, feeder: &mut Feeder| feeder.feed(rt),
+    );
+}
+
+/// The callers serve while the feeders queue, until each queue has run its stop item.
+fn serve_and_feed<R: Threads + Wait + Sync>(
+    rt: &R,
+    pool: &Pool<InOrder>,
+    workers: &mut [Caller],
+    feeders: &mut [Feeder],
+)
+    requires { All (IsCallerOf pool.now.ready) workers.old }
+{
+    join_mut(
+        rt,
+        &mut ||
+            requires { All (IsCallerOf pool.now.ready) workers.now }
+        {
+            let _ = pool.run(rt, workers, &NoGate);
+        },
+        &mut || feed(rt, feeders),
+    );
+}
+
+/// Serves the pool until its queues have run their stop items, and answers how many announcements all feeders made. A queue is
+/// announced once a rest, and picked as often by the time that it has run its stop item.
+fn serve<R: Threads + Wait + Sync>(
+    rt: &R,
+    alloc: Global,
+    pool: &Pool<InOrder>,
+    mut callers: Vec<Caller>,
+    seats: Vec<Vec<Sender>>,
+    load: Load,
+) -> Result<u64, AllocError>
+    requires { All (IsCallerOf pool.now.ready) callers.items }
+{
+    let feeding = AtomicU64::new(u64::from(load.senders));
+    let mut feeders = feeders(alloc, pool, &mut callers, seats, &feeding, load)?;
+    serve_and_feed(rt, pool, callers.as_mut_slice(), feeders.as_mut_slice());
+    let mut announced = 0u64;
+    for feeder in &feeders {
+        announced = announced.saturating_add(feeder.announced());
+    }
+    Ok(announced)
+}
+
+/// What the works of finished queues have counted.
+fn counted(finished: &[(InOrder, Book)]) -> Ran {
+    let mut ran = Ran {
+        items: 0,
+        strays: 0,
+    };
+    for (work, _book) in finished {
+        ran.items = ran.items.saturating_add(work.count());
+        ran.strays = ran.strays.saturating_add(work.strays());
+    }
+    ran
+}
+
+/// Makes the queues and the pool, serves it while the senders queue their items and at last the stop items, and takes all apart.
+/// What ran, and how many picks that took.
+pub fn run<R: Threads + Wait + Sync>(
+    rt: &R,
+    alloc: Global,
+    load: Load,
+) -> Result<(Ran, u64), Refusal> {
+    let (queues, seats) = new_queues(alloc, load)?;
+    let callers = load.workers.saturating_add(load.senders);
+    let (pool, callers) = Pool::new(alloc, queues, callers)?;
+    let picks = serve(rt, alloc, &pool, callers, seats, load)?;
+    match pool.finish(u32::MAX) {
+        Ok(finished) => Ok((counted(finished.as_slice()), picks)),
+        Err(_fault) => Err(Refusal::Unfinished),
+    }
+}
