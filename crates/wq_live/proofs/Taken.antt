@@ -1,5 +1,5 @@
 -- What a Take or a Close leaves as the batch.
-use Rattle.std.proofs.Common.{◌≡◌, ℕ, ◌+◌, Bool, true, false, cond, eqb, List, [], ◌∷◌, ◌++◌, length, Option, None, take, drop, sym, refl, ap, ◌∙◌, subst, arith, append_assoc, length-append, length-drop}
+use Rattle.std.proofs.Common.{◌≡◌, ℕ, ◌+◌, cond, List, [], ◌∷◌, ◌++◌, length, Option, None, take, drop, sym, refl, ap, ◌∙◌, subst, arith, append_assoc, length-append, length-drop}
 use Rattle.std.specs.Prelude.{reverse}
 use Rattle.std.proofs.lemmas.List.{append-nil}
 use Rattle.std.proofs.lemmas.List.Sums.{sum_by-append}
@@ -8,15 +8,16 @@ use Rattle.std.proofs.lemmas.List.{length-reverse}
 use mathlib.Core.List.{reverse_aux}
 use Rattle.wq_words.specs.declared.layout.Layout.{Layout}
 use Rattle.wq_words.specs.declared.event.Event.{Event}
-use Rattle.wq_words.specs.declared.event.Event.TheVariants.{Hold, Busy, Push, Back, Take, Close, Begin, End, Chain, ChainBusy, Rest}
+use Rattle.wq_words.specs.declared.event.Event.TheVariants.{Take, Close}
 use Rattle.wq_words.specs.Numbers.{number_count}
-use Rattle.wq_words.specs.History.{accepted, accepted_by, begun, closed, is_close, IsClosed, taken}
+use Rattle.wq_words.specs.History.{accepted, accepted_by, begun, is_close, IsClosed, taken}
 use Rattle.wq_words.specs.Listed.{listed}
 use Rattle.wq_words.specs.Legal.{IsLegal}
 use Rattle.wq_words.proofs.Growing.{take_length}
-use Rattle.wq_words.proofs.Legal.{legal_front, legal_next}
-use Rattle.wq_words.proofs.Closed.{closed_from_IsClosed, closed_from_open, closed_push_no}
-use Rattle.wq_words.proofs.Listed.{taken_closed, taken_push_same, taken_push_push, taken_push_take, is_listed, fresh-open}
+use Rattle.wq_words.proofs.Legal.{legal_front, legal_next, legal_rest}
+use Rattle.wq_words.proofs.Closed.{closed_from_IsClosed, closed_from_open}
+use Rattle.wq_words.proofs.Listed.{accepted_push_none, taken_closed, taken_push_take, is_listed, fresh-open}
+use Rattle.wq_words.proofs.OtherSeats.{accepted_closed, taken_still}
 use Rattle.wq_core.specs.Machine.{Machine}
 use Rattle.wq_core.specs.Words.{word_at}
 use Rattle.wq_core.specs.Sound.{IsSound, IsChain}
@@ -24,64 +25,6 @@ use Rattle.wq_core.proofs.Chains.{chain_zero}
 use Rattle.wq_words.specs.Seen.{owner_seat, own, Grows}
 use Rattle.wq_live.specs.Batch.{batch, TakesAll}
 use Rattle.wq_live.proofs.Owned.{begun_on, closes_on}
-
-own_tail : (b : Bool) (e : Event) (es : List Event) → cond b (e ∷ own owner_seat es) (own owner_seat es) ≡ [] → own owner_seat es ≡ []
-own_tail true e es is = absurd (cc)
-own_tail false e es is = is
-
-accepted_one : (h : List Event) (e : Event) → accepted (e ∷ []) ≡ [] → accepted (h ++ e ∷ []) ≡ accepted h
-accepted_one h e none = filter_map-append accepted_by h (e ∷ []) ∙ (ap (λ (x : List ℕ). accepted h ++ x) none ∙ append-nil (accepted h))
-
--- what others do while the queue is open takes nothing
-taken_others : (after h : List Event) → closed h ≡ false → own owner_seat after ≡ [] → taken (h ++ after) ≡ taken h
-taken_others [] h opens none = ap taken (append-nil h)
-taken_others (Hold s k ∷ es) h opens none = let e = Hold s k in
-    ap taken (sym (append_assoc h (e ∷ []) es)) ∙
-    (taken_others es (h ++ e ∷ []) (closed_push_no h e refl ∙ opens) (own_tail (eqb s owner_seat) e es none) ∙ taken_push_same h e refl refl refl)
-taken_others (Busy s k ∷ es) h opens none = let e = Busy s k in
-    ap taken (sym (append_assoc h (e ∷ []) es)) ∙
-    (taken_others es (h ++ e ∷ []) (closed_push_no h e refl ∙ opens) (own_tail (eqb s owner_seat) e es none) ∙ taken_push_same h e refl refl refl)
-taken_others (Back s k why ∷ es) h opens none = let e = Back s k why in
-    ap taken (sym (append_assoc h (e ∷ []) es)) ∙
-    (taken_others es (h ++ e ∷ []) (closed_push_no h e refl ∙ opens) (own_tail (eqb s owner_seat) e es none) ∙ taken_push_same h e refl refl refl)
-taken_others (Push s k ∷ es) h opens none = let e = Push s k in
-    ap taken (sym (append_assoc h (e ∷ []) es)) ∙
-    (taken_others es (h ++ e ∷ []) (closed_push_no h e refl ∙ opens) (own_tail (eqb s owner_seat) e es none) ∙ taken_push_push h s k opens)
-taken_others (Take ∷ es) h opens none = absurd (cc)
-taken_others (Close ∷ es) h opens none = absurd (cc)
-taken_others (Begin k ∷ es) h opens none = absurd (cc)
-taken_others (End k ∷ es) h opens none = absurd (cc)
-taken_others (Chain k ∷ es) h opens none = absurd (cc)
-taken_others (ChainBusy k ∷ es) h opens none = absurd (cc)
-taken_others (Rest ∷ es) h opens none = absurd (cc)
-
-closed_stays : (h : List Event) (e : Event) → IsClosed h → IsClosed (h ++ e ∷ [])
-closed_stays h e is = let some = sum_by-append (λ x. cond (is_close x) 1 0) h (e ∷ []) in omega arith
-
--- once closed, nothing is accepted by what others do
-accepted_others : (layout : Layout) (after h : List Event) → IsClosed h → IsLegal layout (h ++ after) → own owner_seat after ≡ []
-    → accepted (h ++ after) ≡ accepted h
-accepted_others layout [] h shut legal none = ap accepted (append-nil h)
-accepted_others layout (Hold s k ∷ es) h shut legal none = let e = Hold s k in let same = append_assoc h (e ∷ []) es in
-    ap accepted (sym same) ∙
-    (accepted_others layout es (h ++ e ∷ []) (closed_stays h e shut) (subst (IsLegal layout) (sym same) legal)
-    (own_tail (eqb s owner_seat) e es none) ∙ accepted_one h e refl)
-accepted_others layout (Busy s k ∷ es) h shut legal none = let e = Busy s k in let same = append_assoc h (e ∷ []) es in
-    ap accepted (sym same) ∙
-    (accepted_others layout es (h ++ e ∷ []) (closed_stays h e shut) (subst (IsLegal layout) (sym same) legal)
-    (own_tail (eqb s owner_seat) e es none) ∙ accepted_one h e refl)
-accepted_others layout (Back s k why ∷ es) h shut legal none = let e = Back s k why in let same = append_assoc h (e ∷ []) es in
-    ap accepted (sym same) ∙
-    (accepted_others layout es (h ++ e ∷ []) (closed_stays h e shut) (subst (IsLegal layout) (sym same) legal)
-    (own_tail (eqb s owner_seat) e es none) ∙ accepted_one h e refl)
-accepted_others layout (Push s k ∷ es) h shut legal none = absurd ((legal_next layout h (Push s k) es legal).2.1 shut)
-accepted_others layout (Take ∷ es) h shut legal none = absurd (cc)
-accepted_others layout (Close ∷ es) h shut legal none = absurd (cc)
-accepted_others layout (Begin k ∷ es) h shut legal none = absurd (cc)
-accepted_others layout (End k ∷ es) h shut legal none = absurd (cc)
-accepted_others layout (Chain k ∷ es) h shut legal none = absurd (cc)
-accepted_others layout (ChainBusy k ∷ es) h shut legal none = absurd (cc)
-accepted_others layout (Rest ∷ es) h shut legal none = absurd (cc)
 
 -- what is accepted has begun, is in the batch, or is on the list
 pub rested_lengths : (m : Machine) → IsSound m → m.cursor ≡ None
@@ -130,7 +73,7 @@ takes_all layout before after h ks js count legal is none sum batch_is total =
     (Take ∷ []) 0 before h = record { new = Take ∷ after; is = is; mine = ap (λ (x : List Event). Take ∷ x) none; theirs = omega arith } in
     let same : begun h ≡ begun before = begun_on (Take ∷ []) 0 before h g ∙ append-nil (begun before) in
     let took : taken h ≡ length (accepted before) = ap taken (is ∙ sym (append_assoc before (Take ∷ []) after)) ∙
-    (taken_others after (before ++ Take ∷ []) (closed_push_no before Take refl ∙ shut) none ∙
+    (taken_still layout (before ++ Take ∷ []) after (legal_rest layout before Take after whole) none ∙
     (taken_push_take before shut ∙ (is_listed layout before legal').open_pushes shut)) in
     let parts : accepted h ≡ accepted before ++ accepted (Take ∷ after) = ap accepted is ∙ filter_map-append accepted_by before (Take ∷ after) in
     let all : take (taken h) (accepted h) ≡ accepted before = (λ i. take (took i) (parts i)) ∙ take_length (accepted before) (accepted (Take ∷ after)) in
@@ -150,7 +93,7 @@ closes_all layout before after h ks js count legal is none sum batch_is total =
     let split : h ≡ (before ++ Close ∷ []) ++ after = is ∙ sym (append_assoc before (Close ∷ []) after) in
     let mid : IsClosed (before ++ Close ∷ []) = omega (arith, sum_by-append (λ x. cond (is_close x) 1 0) before (Close ∷ [])) in
     let parts : accepted h ≡ accepted before = ap accepted split ∙
-    (accepted_others layout after (before ++ Close ∷ []) mid (subst (IsLegal layout) split legal) none ∙ accepted_one before Close refl) in
+    (accepted_closed layout (before ++ Close ∷ []) after (subst (IsLegal layout) split legal) mid none ∙ accepted_push_none before Close refl) in
     let took : taken h ≡ length (accepted before) = taken_closed h (closed_from_IsClosed h now) ∙ ap (λ (x : List ℕ). length x) parts in
     let all : take (taken h) (accepted h) ≡ accepted before = (λ i. take (took i) (parts i)) ∙
     (ap (take (length (accepted before))) (sym (append-nil (accepted before))) ∙ take_length (accepted before) []) in

@@ -78,14 +78,6 @@ sees_then ys p q r follows stands told = tells_then ys 0 0 p q r (sees_tells p q
 pub layout_at : (l l' : Layout) (n : ℕ) → l ≡ l' → number_count l ≤ n → number_count l' ≤ n
 layout_at l l' n is less = subst (λ (x : Layout). number_count x ≤ n) is less
 
-pub follows_on : (p q r : Part) → OnlySees p q → Tells [] q r → OnlySees p r
-follows_on p q r follows told = record {
-  layout_is = told.layout_is ∙ follows.layout_is;
-  seat_is = told.seat_is ∙ follows.seat_is;
-  grows = grows_on p.seat [] [] 0 0 0 p.seen q.seen r.seen (omega arith) follows.grows
-      (subst (λ (c : ℕ). Grows c [] 0 q.seen r.seen) follows.seat_is told.grows);
-}
-
 pub follows_none : (p : Part) → OnlySees p p
 follows_none p = record { layout_is = refl; seat_is = refl; grows = record { new = []; is = sym (append-nil p.seen); mine = refl; theirs = omega arith } }
 
@@ -95,6 +87,9 @@ follows_both p q r a b = record {
   seat_is = b.seat_is ∙ a.seat_is;
   grows = grows_on p.seat [] [] 0 0 0 p.seen q.seen r.seen (omega arith) a.grows (subst (λ (c : ℕ). Grows c [] 0 q.seen r.seen) a.seat_is b.grows);
 }
+
+pub follows_on : (p q r : Part) → OnlySees p q → Tells [] q r → OnlySees p r
+follows_on p q r follows told = follows_both p q r follows record { layout_is = told.layout_is; seat_is = told.seat_is; grows = told.grows }
 
 -- a queue has few numbers
 pub number_small : (l : Layout) → number_count l < 5000

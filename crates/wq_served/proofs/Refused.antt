@@ -15,12 +15,12 @@ use Rattle.wq_words.specs.Listed.{listed, listed_after}
 use Rattle.wq_words.specs.Rest.{wakes}
 use Rattle.wq_words.specs.Seen.{owner_seat, seat_of, own, is_ours, Grows}
 use Rattle.wq_words.proofs.Closed.{closed_from_open}
-use Rattle.wq_words.proofs.Legal.{legal_front, legal_next, legal_rest}
-use Rattle.wq_words.proofs.Listed.{accepted_push_none, taken_push_same, taken_push_push, length-accepted, fresh-open}
+use Rattle.wq_words.proofs.Legal.{legal_front, legal_rest}
+use Rattle.wq_words.proofs.Listed.{accepted_push_none, length-accepted, fresh-open}
 use Rattle.wq_words.proofs.Order.{in_order}
 use Rattle.wq_words.proofs.Prefixes.{prefix_length}
 use Rattle.wq_words.proofs.Rest.{wakes_quiet, wakes_push_work}
-use Rattle.wq_words.proofs.OtherSeats.{others_keep, surrounds}
+use Rattle.wq_words.proofs.OtherSeats.{others_keep, surrounds, taken_still}
 use Rattle.wq_live.specs.Batch.{batch, next_of}
 use Rattle.wq_live.specs.Rest.{MayNotRest}
 use Rattle.wq_worker.specs.Resting.{HasNoneLeft}
@@ -58,16 +58,6 @@ some_from : (n : ℕ) → (n == 0) ≡ false → 0 < n
 some_from n is = grind (arith, nat_tests)
 
 module _ (layout : Layout) where
-  -- no other seat takes
-  taken_still : (v new : List Event) → IsLegal layout (v ++ new) → own owner_seat new ≡ [] → taken (v ++ new) ≡ taken v
-  taken_still v new legal none =
-      others_keep layout (λ w. taken w ≡ taken v) (record {
-        push = λ w s k l same. taken_push_push w s k (closed_from_open w (legal_next layout w (Push s k) [] l).2.1) ∙ same;
-        hold = λ w s k same. taken_push_same w (Hold s k) refl refl refl ∙ same;
-        busy = λ w s k same. taken_push_same w (Busy s k) refl refl refl ∙ same;
-        back = λ w s k why same. taken_push_same w (Back s k why) refl refl refl ∙ same;
-      }) v new legal none refl
-
   -- a take takes all that was accepted
   taken_all : (v : List Event) → IsLegal layout (v ++ Take ∷ []) → taken (v ++ Take ∷ []) ≡ length (accepted v)
   taken_all v legal =
@@ -89,7 +79,7 @@ module _ (layout : Layout) where
         arith,
         accepted_more v t.front,
         taken_all (v ++ t.front) (legal_front layout ((v ++ t.front) ++ Take ∷ []) t.behind l),
-        taken_still ((v ++ t.front) ++ Take ∷ []) t.behind l t.behind_none,
+        taken_still layout ((v ++ t.front) ++ Take ∷ []) t.behind l t.behind_none,
         ap taken is,
       )
 
@@ -100,7 +90,7 @@ module _ (layout : Layout) where
       let l : IsLegal layout ((before ++ Take ∷ []) ++ after) = legal_rest layout before Take after (subst (IsLegal layout) c_is legal) in
       let m : IsLegal layout (before ++ Take ∷ []) = legal_front layout (before ++ Take ∷ []) after l in
       let t : taken c ≡ length (accepted before) =
-      ap taken c_is ∙ (ap taken (sym (append_assoc before (Take ∷ []) after)) ∙ (taken_still (before ++ Take ∷ []) after l none ∙ taken_all before m)) in
+      ap taken c_is ∙ (ap taken (sym (append_assoc before (Take ∷ []) after)) ∙ (taken_still layout (before ++ Take ∷ []) after l none ∙ taken_all before m)) in
       let g : Grows owner_seat (Take ∷ []) 0 before c = record {
         new = Take ∷ after;
         is = c_is;

@@ -1,13 +1,16 @@
 -- What stays while every seat but the owner adds events.
-use Rattle.std.proofs.Common.{◌≡◌, ℕ, ◌==◌, Bool, true, false, cond, List, [], ◌∷◌, ◌++◌, sym, refl, ap, ◌∙◌, subst, append_assoc}
+use Rattle.std.proofs.Common.{◌≡◌, ℕ, ◌==◌, Bool, true, false, cond, List, [], ◌∷◌, ◌++◌, None, sym, refl, ap, ◌∙◌, subst, append_assoc}
 use Rattle.std.proofs.lemmas.List.{append-nil}
 use Rattle.wq_words.specs.declared.layout.Layout.{Layout}
 use Rattle.wq_words.specs.declared.event.Event.{Event}
 use Rattle.wq_words.specs.declared.event.Event.TheVariants.{Hold, Busy, Push, Back, Take, Close, Begin, End, Chain, ChainBusy, Rest}
 use Rattle.wq_words.specs.declared.event.Why.{Why}
+use Rattle.wq_words.specs.History.{accepted_by, accepted, IsClosed, taken}
 use Rattle.wq_words.specs.Legal.{IsLegal}
 use Rattle.wq_words.specs.Seen.{owner_seat, seat_of, own}
-use Rattle.wq_words.proofs.Legal.{legal_front, legal_rest}
+use Rattle.wq_words.proofs.Closed.{closed_from_open, closed_stays}
+use Rattle.wq_words.proofs.Legal.{legal_front, legal_next, legal_rest}
+use Rattle.wq_words.proofs.Listed.{accepted_push_none, taken_push_same, taken_push_push}
 use Rattle.wq_words.proofs.Seen.{own_rest}
 
 -- what each event of a sender keeps
@@ -42,6 +45,31 @@ module _ (layout : Layout) (P : List Event → Type 0) (keep : OthersKeep layout
   others_keep v (Chain k ∷ new) legal none p = absurd (cc)
   others_keep v (ChainBusy k ∷ new) legal none p = absurd (cc)
   others_keep v (Rest ∷ new) legal none p = absurd (cc)
+
+-- no other seat takes
+pub taken_still : (layout : Layout) (v new : List Event) → IsLegal layout (v ++ new) → own owner_seat new ≡ [] → taken (v ++ new) ≡ taken v
+taken_still layout v new legal none =
+    others_keep layout (λ w. taken w ≡ taken v) (record {
+      push = λ w s k l same. taken_push_push w s k (closed_from_open w (legal_next layout w (Push s k) [] l).2.1) ∙ same;
+      hold = λ w s k same. taken_push_same w (Hold s k) refl refl refl ∙ same;
+      busy = λ w s k same. taken_push_same w (Busy s k) refl refl refl ∙ same;
+      back = λ w s k why same. taken_push_same w (Back s k why) refl refl refl ∙ same;
+    }) v new legal none refl
+
+-- a closed queue accepts nothing but by its owner
+pub accepted_closed : (layout : Layout) (v new : List Event) → IsLegal layout (v ++ new) → IsClosed v → own owner_seat new ≡ []
+    → accepted (v ++ new) ≡ accepted v
+accepted_closed layout v new legal shut none =
+    (others_keep layout (λ w. IsClosed w × (accepted w ≡ accepted v)) (record {
+      push = λ w s k l p. absurd ((legal_next layout w (Push s k) [] l).2.1 p.0);
+      hold = λ w s k. quiet w (Hold s k) refl;
+      busy = λ w s k. quiet w (Busy s k) refl;
+      back = λ w s k why. quiet w (Back s k why) refl;
+    }) v new legal none (shut, refl)).1
+  where
+    quiet : (w : List Event) (e : Event) → accepted_by e ≡ None → IsClosed w × (accepted w ≡ accepted v)
+        → IsClosed (w ++ e ∷ []) × (accepted (w ++ e ∷ []) ≡ accepted v)
+    quiet w e passes p = (closed_stays w e p.0, accepted_push_none w e passes ∙ p.1)
 
 -- where the one event of a seat stands among others'
 pub record Surrounds (c : ℕ) (e : Event) (new : List Event) : Type 0 where

@@ -4,34 +4,17 @@ use Rattle.std.proofs.Common.{◌∙◌, subst, arith, append_assoc}
 use Rattle.std.proofs.lemmas.List.{take_all}
 use Rattle.std.proofs.lemmas.List.Elements.{filter-append}
 use Rattle.wq_words.specs.declared.event.Event.{Event}
-use Rattle.wq_words.specs.declared.event.Event.TheVariants.{Hold, Busy, Push, Back, Take, Close}
+use Rattle.wq_words.specs.declared.event.Event.TheVariants.{Take, Close}
 use Rattle.wq_words.specs.declared.layout.Layout.{Layout}
-use Rattle.wq_words.specs.History.{accepted_by, accepted, begun, IsClosed}
+use Rattle.wq_words.specs.History.{accepted, begun, IsClosed}
 use Rattle.wq_words.specs.Legal.{IsLegal}
-use Rattle.wq_words.proofs.Listed.{taken_closed, accepted_push_none}
+use Rattle.wq_words.proofs.Listed.{taken_closed}
 use Rattle.wq_words.proofs.Closed.{closed_from_IsClosed}
-use Rattle.wq_words.proofs.Legal.{legal_next}
 use Rattle.wq_words.specs.Seen.{owner_seat, seat_of, own, Grows}
-use Rattle.wq_words.proofs.OtherSeats.{others_keep}
+use Rattle.wq_words.proofs.OtherSeats.{accepted_closed}
 use Rattle.wq_live.specs.Batch.{batch, next_of, TakesAll}
 use Rattle.wq_worker.specs.Seats.{NothingWaits, at_take, at_all}
 use Rattle.wq_worker.proofs.Owned.{owner_grows, quiet_none, Stays, stays}
-use Rattle.wq_ledger.proofs.Meeting.{still_closed}
-
--- a closed queue accepts nothing but by its owner
-pub accepted_closed : (layout : Layout) (v new : List Event) → IsLegal layout (v ++ new) → IsClosed v → own owner_seat new ≡ []
-    → accepted (v ++ new) ≡ accepted v
-accepted_closed layout v new legal shut none =
-    (others_keep layout (λ w. IsClosed w × (accepted w ≡ accepted v)) (record {
-      push = λ w s k l p. absurd ((legal_next layout w (Push s k) [] l).2.1 p.0);
-      hold = λ w s k. quiet w (Hold s k) refl;
-      busy = λ w s k. quiet w (Busy s k) refl;
-      back = λ w s k why. quiet w (Back s k why) refl;
-    }) v new legal none (shut, refl)).1
-  where
-    quiet : (w : List Event) (e : Event) → accepted_by e ≡ None → IsClosed w × (accepted w ≡ accepted v)
-        → IsClosed (w ++ e ∷ []) × (accepted (w ++ e ∷ []) ≡ accepted v)
-    quiet w e passes p = (still_closed w (e ∷ []) p.0, accepted_push_none w e passes ∙ p.1)
 
 pub batch-closed : (h : List Event) → IsClosed h → batch h ≡ drop (length (begun h)) (accepted h)
 batch-closed h shut =
