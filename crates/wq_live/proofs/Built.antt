@@ -1,12 +1,10 @@
 -- The senders and the owner of a new queue.
-use Rattle.std.proofs.Common.{◌≡◌, ℕ, zero, suc, ◌+◌, ◌<◌, Bool, true, false, ◌==◌, List, [], ◌∷◌, ◌++◌, length, get_or, None, sym, refl, ap, ◌∙◌, subst, arith, length-append}
-use Rattle.std.proofs.Math.ListN.{get_or-append}
-use Rattle.std.proofs.Math.Seq.{get_or-append_seam}
-use Rattle.std.proofs.lemmas.Bool.{eqb-true, eqb-false}
+use Rattle.std.proofs.Common.{◌≡◌, ℕ, zero, suc, ◌+◌, ◌<◌, false, List, [], ◌∷◌, ◌++◌, length, get_or, None, sym, refl, ap, ◌∙◌, subst, arith, length-append}
 use Rattle.atomic_table.specs.Seated.{TableId}
 use Rattle.wq_words.specs.declared.layout.Layout.{Layout}
 use Rattle.wq_words.specs.Legal.{IsLegal}
 use Rattle.wq_words.proofs.Legal.{legal_nil}
+use Rattle.wq_words.proofs.Written.{each_more}
 use Rattle.wq_core.specs.Machine.{opening}
 use Rattle.wq_core.proofs.Schedules.{sound_opening}
 use Rattle.wq_table.specs.Chair.{Standing, IsSender, owner_chair, sender_chair, sender_chairs}
@@ -28,15 +26,11 @@ length-sender_chairs q l (suc m) = omega (arith, length-append (sender_chairs q 
 
 pub get_or-sender_chairs : (q : TableId) (l : Layout) (n i : ℕ) (d : Standing) → i < n → get_or (sender_chairs q l n) i d ≡ sender_chair q l i
 get_or-sender_chairs q l zero i d less = absurd (omega arith)
-get_or-sender_chairs q l (suc m) i d less = go (i == m) refl (get_or-sender_chairs q l m i d)
-  where
-    go : (b : Bool) → (i == m) ≡ b → (i < m → get_or (sender_chairs q l m) i d ≡ sender_chair q l i)
-        → get_or (sender_chairs q l m ++ sender_chair q l m ∷ []) i d ≡ sender_chair q l i
-    go true e before = let same = eqb-true i m e in
-        ap (λ (j : ℕ). get_or (sender_chairs q l m ++ sender_chair q l m ∷ []) j d) (same ∙ sym (length-sender_chairs q l m)) ∙
-        (get_or-append_seam (sender_chairs q l m) (sender_chair q l m) [] d ∙ ap (sender_chair q l) (sym same))
-    go false e before = let other = eqb-false i m e in
-        get_or-append (sender_chairs q l m) (sender_chair q l m ∷ []) d i (omega (arith, length-sender_chairs q l m, other)) ∙ before (omega (arith, other))
+get_or-sender_chairs q l (suc m) i d less =
+    each_more (λ (k : ℕ) (x : Standing). x ≡ sender_chair q l k) (sender_chairs q l m) (sender_chair q l m)
+    (λ k e low. get_or-sender_chairs q l m k e (omega (arith, low, length-sender_chairs q l m)))
+    (ap (sender_chair q l) (sym (length-sender_chairs q l m))) i d
+    (omega (arith, less, length-append (sender_chairs q l m) (sender_chair q l m ∷ []), length-sender_chairs q l m))
 
 pub new_senders-more : (q : TableId) (l : Layout) (n : ℕ) → new_senders q l n ++ new_sender q l n ∷ [] ≡ new_senders q l (n + 1)
 new_senders-more q l n = let e : n + 1 ≡ suc n = omega arith in sym (ap (new_senders q l) e)

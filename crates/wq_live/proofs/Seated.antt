@@ -1,15 +1,15 @@
 -- The seats of a new queue.
-use Rattle.std.proofs.Common.{◌≡◌, ℕ, zero, suc, ◌+◌, ◌<◌, Bool, true, false, ◌==◌, List, [], ◌∷◌, ◌++◌, length, get_or, refl, sym, ap, ◌∙◌, subst, arith, length-append}
+use Rattle.std.proofs.Common.{◌≡◌, ℕ, zero, suc, ◌+◌, ◌<◌, List, [], ◌∷◌, ◌++◌, length, get_or, refl, sym, ap, ◌∙◌, subst, arith, length-append}
 use Rattle.std.specs.Prelude.{All}
 use Rattle.std.proofs.Math.ListN.{get_or-append}
 use Rattle.std.proofs.Math.Seq.{get_or-append_seam}
-use Rattle.std.proofs.lemmas.Bool.{eqb-true, eqb-false}
 use Rattle.std.proofs.lemmas.List.Elements.{All-append, All-cons, All-nil}
 use Rattle.wq_words.specs.declared.layout.Layout.{Layout}
 use Rattle.wq_words.specs.declared.event.Event.{Event}
 use Rattle.wq_words.specs.History.{Holds}
 use Rattle.wq_words.specs.Seen.{own, Grows}
 use Rattle.wq_words.proofs.Growing.{ends_alike}
+use Rattle.wq_words.proofs.Written.{each_more}
 use Rattle.wq_live.specs.Known.{QueueId, Known, new_sender, new_senders, AreNumbered}
 
 pub length-new_senders : (q : QueueId) (l : Layout) (n : ℕ) → length (new_senders q l n) ≡ n
@@ -18,15 +18,11 @@ length-new_senders q l (suc m) = omega (arith, length-append (new_senders q l m)
 
 pub get_or-new_senders : (q : QueueId) (l : Layout) (n i : ℕ) (d : Known) → i < n → get_or (new_senders q l n) i d ≡ new_sender q l i
 get_or-new_senders q l zero i d less = absurd (omega arith)
-get_or-new_senders q l (suc m) i d less = go (i == m) refl (get_or-new_senders q l m i d)
-  where
-    go : (b : Bool) → (i == m) ≡ b → (i < m → get_or (new_senders q l m) i d ≡ new_sender q l i)
-        → get_or (new_senders q l m ++ new_sender q l m ∷ []) i d ≡ new_sender q l i
-    go true e before = let same = eqb-true i m e in
-        ap (λ (j : ℕ). get_or (new_senders q l m ++ new_sender q l m ∷ []) j d) (same ∙ sym (length-new_senders q l m)) ∙
-        (get_or-append_seam (new_senders q l m) (new_sender q l m) [] d ∙ ap (new_sender q l) (sym same))
-    go false e before = let other = eqb-false i m e in
-        get_or-append (new_senders q l m) (new_sender q l m ∷ []) d i (omega (arith, length-new_senders q l m, other)) ∙ before (omega (arith, other))
+get_or-new_senders q l (suc m) i d less =
+    each_more (λ (k : ℕ) (x : Known). x ≡ new_sender q l k) (new_senders q l m) (new_sender q l m)
+    (λ k e low. get_or-new_senders q l m k e (omega (arith, low, length-new_senders q l m)))
+    (ap (new_sender q l) (sym (length-new_senders q l m))) i d
+    (omega (arith, less, length-append (new_senders q l m) (new_sender q l m ∷ []), length-new_senders q l m))
 
 -- what holds of each new sender holds of all
 pub all_new : (P : Known → Type 0) (q : QueueId) (l : Layout) (n : ℕ) → ((s : ℕ) → P (new_sender q l s)) → All P (new_senders q l n)

@@ -1,5 +1,6 @@
 -- Groups of senders, and the seats of one queue more.
 use Rattle.std.proofs.Common.{◌≡◌, ℕ, ◌+◌, ◌<◌, List, [], ◌∷◌, ◌++◌, length, get_or, sym, ap, ◌∙◌, subst, arith, length-append}
+use Rattle.wq_words.proofs.Written.{each_more}
 use Rattle.wq_live.specs.Known.{Known, new_sender}
 use Rattle.wq_live.proofs.Seated.{get_or-new_senders}
 use Rattle.wq_worker.specs.State.{WorkerState}
@@ -8,7 +9,6 @@ use Rattle.wq_race.specs.declared.plan.Plan.{Plan}
 use Rattle.wq_race.specs.declared.team.Team.{Team}
 use Rattle.wq_race.specs.Plan.{IsLayoutOf}
 use Rattle.wq_race.specs.Team.{IsNewTeam}
-use Rattle.wq_race.proofs.Same.{each_more}
 use Rattle.wq_pool_race.specs.declared.teams.Group.{Group}
 use Rattle.wq_pool_race.specs.declared.teams.Teams.{Teams}
 use Rattle.wq_pool_race.specs.Teams.{AreDealt, AreTurned, AreTeams}

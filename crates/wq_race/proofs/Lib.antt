@@ -1,5 +1,4 @@
 pub mod Members
-pub mod Same
 pub mod Made
 pub mod Queueing
 mod Still

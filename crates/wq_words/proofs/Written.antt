@@ -1,5 +1,7 @@
--- Lists that are written to one place after another.
-use Rattle.std.proofs.Common.{◌≡◌, ◌≢◌, ℕ, ◌+◌, ◌<◌, ◌≤◌, List, ◌++◌, length, take, drop, get_or, set, inl, inr, sym, ap, ◌∙◌, subst, arith}
+-- Lists that are written to, or grow, one place after another.
+use Rattle.std.proofs.Common.{◌≡◌, ◌≢◌, ℕ, ◌+◌, ◌<◌, ◌≤◌, List, [], ◌∷◌, ◌++◌, length, take, drop, get_or, set, inl, inr, sym, ap, ◌∙◌, subst, arith, length-append}
+use Rattle.std.proofs.Math.ListN.{get_or-append}
+use Rattle.std.proofs.Math.Seq.{get_or-append_seam}
 use Rattle.std.proofs.lemmas.Bool.{cases_lt}
 use Rattle.std.proofs.lemmas.List.{get_or-set_other, get_or-set_same, get_or_default}
 use Rattle.wq_words.proofs.Growing.{take_length}
@@ -10,6 +12,14 @@ each_place_more P i below here k lt = elim (cases_lt k i) [
   | inl less ↦ below k less
   | inr ge ↦ let same : i ≡ k = omega (arith, lt, ge) in subst P same here
 ]
+
+-- what holds of each of the elements at its place holds where one comes behind them
+pub each_more : {A : Type 0} (P : ℕ → A → Type 0) (xs : List A) (x : A) → ((i : ℕ) (d : A) → i < length xs → P i (get_or xs i d)) → P (length xs) x
+    → (i : ℕ) (d : A) → i < length (xs ++ x ∷ []) → P i (get_or (xs ++ x ∷ []) i d)
+each_more P xs x before here i d lt =
+    each_place_more (λ k. P k (get_or (xs ++ x ∷ []) k d)) (length xs)
+    (λ k less. subst (P k) (sym (get_or-append xs (x ∷ []) d k less)) (before k d less))
+    (subst (P (length xs)) (sym (get_or-append_seam xs x [] d)) here) i (omega (arith, lt, length-append xs (x ∷ [])))
 
 -- what holds of the old and the new element at each place below i, where the others are the old ones, holds of those below the next
 -- where x is set at i and it holds of x

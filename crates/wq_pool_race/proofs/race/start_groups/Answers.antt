@@ -5,8 +5,8 @@ use Rattle.std.proofs.lemmas.List.Elements.{All-take}
 use Rattle.std.proofs.lemmas.Iterator.Adapters.{YieldsList-from_vec}
 use Rattle.std.proofs.lemmas.Iterator.Consumers.{YieldsList-turn}
 use Rattle.std.specs.declared.thread.PromisedHandle.{PromisedHandle}
+use Rattle.wq_words.proofs.Written.{each_more}
 use Rattle.wq_ready.specs.Known.{IsCallerOf}
-use Rattle.wq_race.proofs.Same.{each_more}
 use Rattle.wq_pool_race.specs.declared.teams.Group.{Group}
 use Rattle.wq_pool_race.specs.declared.race.QueuesGroup.{QueuesGroup}
 use Rattle.wq_pool_race.proofs.race.start_groups.Goals as goal
