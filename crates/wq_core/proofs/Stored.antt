@@ -3,6 +3,7 @@ use Rattle.std.proofs.Common.{◌≡◌, ◌≢◌, ℕ, ◌+◌, ◌<◌, ◌�
 use Rattle.std.proofs.lemmas.List.{length-replicate, reverse-append, take_all, take_more}
 use Rattle.std.proofs.lemmas.Option.{slice_get_past, slice_get_within}
 use Rattle.wq_words.specs.declared.layout.Layout.{Layout}
+use Rattle.wq_words.specs.declared.event.Event.{Event}
 use Rattle.wq_words.specs.declared.event.Event.TheVariants.{Hold, Busy, Push, Back, Take, Close, Begin, End, Chain, ChainBusy, Rest}
 use Rattle.wq_words.specs.declared.event.Why.{Why}
 use Rattle.wq_words.specs.declared.event.Why.TheVariants.{Closed}
@@ -10,7 +11,7 @@ use Rattle.wq_words.specs.Numbers.{number_count}
 use Rattle.wq_words.specs.Head.{busy_word}
 use Rattle.wq_words.specs.History.{begun, ended, running, Holds, IsRunning, IsClosed}
 use Rattle.wq_words.specs.Listed.{listed}
-use Rattle.wq_words.specs.Keeper.{Keeper, Home, Sender, Listed, Owner, taken_over, keeper}
+use Rattle.wq_words.specs.Keeper.{Keeper, Home, Sender, Listed, Owner, taken_over, keeper, keeper_after}
 use Rattle.wq_words.proofs.Growing.{growing, slice_get_last}
 use Rattle.wq_words.proofs.Order.{in_order}
 use Rattle.wq_words.proofs.Prefixes.{prefix_length}
@@ -19,7 +20,7 @@ use Rattle.wq_core.specs.declared.step.Private.{Private}
 use Rattle.wq_core.specs.Words.{link_place, word_count, closed_word, idle_word, link_word, link_to, number_at}
 use Rattle.wq_core.specs.Machine.{Machine, opening, nothing_seen, head, link, item_word, done_word, private, seen_word, with_head, with_link, with_item, with_done, with_private, happened, unlinked, StandsIn}
 use Rattle.wq_core.specs.Sound.{IsChain, IsSound}
-use Rattle.wq_core.specs.Stored.{holder, IsStored}
+use Rattle.wq_core.specs.Stored.{holder, LinksFit, LooksFit, IsStored}
 use Rattle.wq_core.proofs.Privates.{gives_hold, gives_push, gives_back, gives_begin, gives_chain, follow_give, follow_same, follow_quiet}
 use Rattle.wq_core.proofs.Schedules.{sound_opening, all_alike}
 use Rattle.wq_core.proofs.SenderSteps.{sound_hold, sound_busy, sound_look, sound_link, sound_push, sound_lost, sound_back}
@@ -48,6 +49,29 @@ held_over Listed = refl
 held_over Owner = refl
 
 module _ (m : Machine) (holders : List (Option ℕ)) (runs : Option ℕ) (o : IsStored m holders runs) where
+  -- a change that is no event
+  stored_still : (words : List ℕ) (seats : List Private) (cursor : Option ℕ) (walked batch : List ℕ)
+      → IsSound (record m { words = words; seats = seats; cursor = cursor; walked = walked; batch = batch })
+      → LinksFit (number_count m.layout) words → LooksFit (number_count m.layout) seats
+      → IsStored (record m { words = words; seats = seats; cursor = cursor; walked = walked; batch = batch }) holders runs
+  stored_still words seats cursor walked batch sound links looks =
+      record { sound = sound; has_holders = o.has_holders; holders_are = o.holders_are; running_is = o.running_is; links_fit = links; looks_fit = looks }
+
+  -- an event that moves no number, and neither begins nor ends one
+  stored_quiet : (words : List ℕ) (seats : List Private) (cursor : Option ℕ) (walked batch : List ℕ) (e : Event)
+      → IsSound (happened (record m { words = words; seats = seats; cursor = cursor; walked = walked; batch = batch }) e)
+      → ((j : ℕ) (x : Keeper) → holder (keeper_after j x e) ≡ holder x) → runs ≡ running (m.history ++ e ∷ [])
+      → LinksFit (number_count m.layout) words → LooksFit (number_count m.layout) seats
+      → IsStored (happened (record m { words = words; seats = seats; cursor = cursor; walked = walked; batch = batch }) e) holders runs
+  stored_quiet words seats cursor walked batch e sound quiet same links looks = record {
+    sound = sound;
+    has_holders = o.has_holders;
+    holders_are = follow_quiet holder None (λ j. j) _ holders m.history e quiet o.holders_are;
+    running_is = same;
+    links_fit = links;
+    looks_fit = looks;
+  }
+
   pub stored_hold : (s k : ℕ) → s < m.layout.senders → k < number_count m.layout → item_word m k ≡ 0
       → IsStored (happened (with_item m k 1) (Hold s k)) (set holders k (Some s)) runs
   stored_hold s k seat number clear = record {
@@ -62,35 +86,20 @@ module _ (m : Machine) (holders : List (Option ℕ)) (runs : Option ℕ) (o : Is
   }
 
   pub stored_busy : (s k : ℕ) → s < m.layout.senders → k < number_count m.layout → item_word m k ≢ 0 → IsStored (happened m (Busy s k)) holders runs
-  stored_busy s k seat number set' = record {
-    sound = sound_busy m o.sound s k seat number set';
-    has_holders = o.has_holders;
-    holders_are = follow_quiet holder None (λ j. j) _ holders m.history (Busy s k) (λ j x. refl) o.holders_are;
-    running_is = simp growing o.running_is;
-    links_fit = o.links_fit;
-    looks_fit = o.looks_fit;
-  }
+  stored_busy s k seat number set' =
+      stored_quiet _ _ _ _ _ (Busy s k) (sound_busy m o.sound s k seat number set') (λ j x. refl) (simp growing o.running_is) o.links_fit o.looks_fit
 
   pub stored_look : (s : ℕ) → s < m.layout.senders → IsStored (with_private m s (record { seen = Some (head m); linked = None })) holders runs
-  stored_look s seat = record {
-    sound = sound_look m o.sound s seat;
-    has_holders = o.has_holders;
-    holders_are = o.holders_are;
-    running_is = o.running_is;
-    links_fit = o.links_fit;
-    looks_fit = fit_look _ m.seats s _ (omega (arith, o.sound.has_seats, seat)) (λ w is unclosed. head_seen m o.sound w (cc is) unclosed) o.looks_fit;
-  }
+  stored_look s seat =
+      stored_still _ _ _ _ _ (sound_look m o.sound s seat) o.links_fit
+      (fit_look _ m.seats s _ (omega (arith, o.sound.has_seats, seat)) (λ w is unclosed. head_seen m o.sound w (cc is) unclosed) o.looks_fit)
 
   pub stored_link : (s k w : ℕ) → s < m.layout.senders → k < number_count m.layout → Holds m.history s k → (private m s).seen ≡ Some w → w ≢ closed_word
       → IsStored (with_private (with_link m k (link_word w)) s (record (private m s) { linked = Some k })) holders runs
-  stored_link s k w seat number holds seen unclosed = record {
-    sound = sound_link m o.sound s k (link_word w) seat number holds (ap link_to seen) (link_open w unclosed);
-    has_holders = o.has_holders;
-    holders_are = o.holders_are;
-    running_is = o.running_is;
-    links_fit = fit_link _ m.words (link_word w) o.links_fit k (omega (arith, o.sound.has_words, number)) (o.looks_fit s w seen unclosed);
-    looks_fit = fit_look _ m.seats s _ (omega (arith, o.sound.has_seats, seat)) (λ v is unclosed'. o.looks_fit s v is unclosed') o.looks_fit;
-  }
+  stored_link s k w seat number holds seen unclosed =
+      stored_still _ _ _ _ _ (sound_link m o.sound s k (link_word w) seat number holds (ap link_to seen) (link_open w unclosed))
+      (fit_link _ m.words (link_word w) o.links_fit k (omega (arith, o.sound.has_words, number)) (o.looks_fit s w seen unclosed))
+      (fit_look _ m.seats s _ (omega (arith, o.sound.has_seats, seat)) (λ v is unclosed'. o.looks_fit s v is unclosed') o.looks_fit)
 
   pub stored_push : (s k : ℕ) → s < m.layout.senders → k < number_count m.layout → (private m s).linked ≡ Some k → head m ≡ seen_word m s
       → IsStored (happened (with_private (with_head m (k + 1)) s nothing_seen) (Push s k)) (set holders k None) runs
@@ -106,14 +115,9 @@ module _ (m : Machine) (holders : List (Option ℕ)) (runs : Option ℕ) (o : Is
   }
 
   pub stored_lost : (s : ℕ) → s < m.layout.senders → IsStored (with_private m s nothing_seen) holders runs
-  stored_lost s seat = record {
-    sound = sound_lost m o.sound s seat;
-    has_holders = o.has_holders;
-    holders_are = o.holders_are;
-    running_is = o.running_is;
-    links_fit = o.links_fit;
-    looks_fit = fit_look _ m.seats s nothing_seen (omega (arith, o.sound.has_seats, seat)) (λ w is. absurd (cc is)) o.looks_fit;
-  }
+  stored_lost s seat =
+      stored_still _ _ _ _ _ (sound_lost m o.sound s seat) o.links_fit
+      (fit_look _ m.seats s nothing_seen (omega (arith, o.sound.has_seats, seat)) (λ w is. absurd (cc is)) o.looks_fit)
 
   pub stored_back : (s k : ℕ) (why : Why) → s < m.layout.senders → k < number_count m.layout → Holds m.history s k
       → (why ≡ Closed → (private m s).seen ≡ Some closed_word)
@@ -131,67 +135,33 @@ module _ (m : Machine) (holders : List (Option ℕ)) (runs : Option ℕ) (o : Is
 
   pub stored_take : ¬ IsClosed m.history → m.cursor ≡ None → m.batch ≡ []
       → IsStored (happened (record (with_head m busy_word) { cursor = number_at (link_word (head m)) }) Take) holders runs
-  stored_take unclosed still empty = record {
-    sound = sound_take m o.sound unclosed still empty;
-    has_holders = o.has_holders;
-    holders_are = follow_quiet holder None (λ j. j) _ holders m.history Take (λ j x. held_over x) o.holders_are;
-    running_is = simp growing o.running_is;
-    links_fit = fit_head _ m.words busy_word o.links_fit;
-    looks_fit = o.looks_fit;
-  }
+  stored_take unclosed still empty =
+      stored_quiet _ _ _ _ _ Take (sound_take m o.sound unclosed still empty) (λ j x. held_over x) (simp growing o.running_is)
+      (fit_head _ m.words busy_word o.links_fit) o.looks_fit
 
   pub stored_close : ¬ IsClosed m.history → m.cursor ≡ None
       → IsStored (happened (record (with_head m closed_word) { cursor = number_at (link_word (head m)) }) Close) holders runs
-  stored_close unclosed still = record {
-    sound = sound_close m o.sound unclosed still;
-    has_holders = o.has_holders;
-    holders_are = follow_quiet holder None (λ j. j) _ holders m.history Close (λ j x. held_over x) o.holders_are;
-    running_is = simp growing o.running_is;
-    links_fit = fit_head _ m.words closed_word o.links_fit;
-    looks_fit = o.looks_fit;
-  }
+  stored_close unclosed still =
+      stored_quiet _ _ _ _ _ Close (sound_close m o.sound unclosed still) (λ j x. held_over x) (simp growing o.running_is)
+      (fit_head _ m.words closed_word o.links_fit) o.looks_fit
 
   pub stored_rest : ¬ IsClosed m.history → m.cursor ≡ None → m.batch ≡ [] → ¬ IsRunning m.history → head m ≡ busy_word
       → IsStored (happened (with_head m idle_word) Rest) holders runs
-  stored_rest unclosed still empty idle busy = record {
-    sound = sound_rest m o.sound unclosed still empty idle busy;
-    has_holders = o.has_holders;
-    holders_are = follow_quiet holder None (λ j. j) _ holders m.history Rest (λ j x. refl) o.holders_are;
-    running_is = simp growing o.running_is;
-    links_fit = fit_head _ m.words idle_word o.links_fit;
-    looks_fit = o.looks_fit;
-  }
+  stored_rest unclosed still empty idle busy =
+      stored_quiet _ _ _ _ _ Rest (sound_rest m o.sound unclosed still empty idle busy) (λ j x. refl) (simp growing o.running_is)
+      (fit_head _ m.words idle_word o.links_fit) o.looks_fit
 
   pub stored_walk_end : (k : ℕ) → m.cursor ≡ Some k → link m k ≡ 0
       → IsStored (record m { cursor = None; walked = []; batch = m.batch ++ k ∷ m.walked }) holders runs
-  stored_walk_end k on is = record {
-    sound = sound_walk_end m o.sound k on is;
-    has_holders = o.has_holders;
-    holders_are = o.holders_are;
-    running_is = o.running_is;
-    links_fit = o.links_fit;
-    looks_fit = o.looks_fit;
-  }
+  stored_walk_end k on is = stored_still _ _ _ _ _ (sound_walk_end m o.sound k on is) o.links_fit o.looks_fit
 
   pub stored_walk_on : (k : ℕ) → m.cursor ≡ Some k → link m k ≢ 0 → IsStored (record m { cursor = number_at (link m k); walked = k ∷ m.walked }) holders runs
-  stored_walk_on k on more = record {
-    sound = sound_walk_on m o.sound k on more;
-    has_holders = o.has_holders;
-    holders_are = o.holders_are;
-    running_is = o.running_is;
-    links_fit = o.links_fit;
-    looks_fit = o.looks_fit;
-  }
+  stored_walk_on k on more = stored_still _ _ _ _ _ (sound_walk_on m o.sound k on more) o.links_fit o.looks_fit
 
   pub stored_turn : (k v : ℕ) → StandsIn m.walked m.batch k → k < number_count m.layout → v ≤ number_count m.layout → IsStored (with_link m k v) holders runs
-  stored_turn k v stands number small = record {
-    sound = sound_turn m o.sound k stands v number;
-    has_holders = o.has_holders;
-    holders_are = o.holders_are;
-    running_is = o.running_is;
-    links_fit = fit_link _ m.words v o.links_fit k (omega (arith, o.sound.has_words, number)) small;
-    looks_fit = o.looks_fit;
-  }
+  stored_turn k v stands number small =
+      stored_still _ _ _ _ _ (sound_turn m o.sound k stands v number)
+      (fit_link _ m.words v o.links_fit k (omega (arith, o.sound.has_words, number)) small) o.looks_fit
 
   pub stored_begin : (k : ℕ) (rest : List ℕ) → m.cursor ≡ None → m.batch ≡ k ∷ rest → ¬ IsRunning m.history
       → IsStored (happened (record (with_item m k 0) { batch = rest }) (Begin k)) holders (Some k)
@@ -242,14 +212,9 @@ module _ (m : Machine) (holders : List (Option ℕ)) (runs : Option ℕ) (o : Is
 
   pub stored_chain_busy : (k : ℕ) → k < m.layout.items → IsClosed m.history → IsRunning m.history → item_word m k ≢ 0
       → IsStored (happened m (ChainBusy k)) holders runs
-  stored_chain_busy k item closed busy set' = record {
-    sound = sound_chain_busy m o.sound k item closed busy set';
-    has_holders = o.has_holders;
-    holders_are = follow_quiet holder None (λ j. j) _ holders m.history (ChainBusy k) (λ j x. refl) o.holders_are;
-    running_is = simp growing o.running_is;
-    links_fit = o.links_fit;
-    looks_fit = o.looks_fit;
-  }
+  stored_chain_busy k item closed busy set' =
+      stored_quiet _ _ _ _ _ (ChainBusy k) (sound_chain_busy m o.sound k item closed busy set') (λ j x. refl) (simp growing o.running_is)
+      o.links_fit o.looks_fit
 
   -- the stored holder is the sender that holds the number, and something is stored as running exactly while a number runs
   pub holds_stored : (s k : ℕ) → k < number_count m.layout → (get_or holders k None ≡ Some s) ↔ Holds m.history s k
