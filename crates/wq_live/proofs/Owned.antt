@@ -64,52 +64,34 @@ module _ (xs : List Event) (n : ℕ) (v w : List Event) (g : Grows owner_seat xs
   same_capped : (x k : ℕ) → x ≡ capped k → capped (x + 0) ≡ x
   same_capped x k e = omega arith
 
+  -- what is not counted stays
+  as_before : (old : OwnerCounts) → old ≡ owner_counts v
+      → (old.chained ≡ capped (old.chained + 0)) × (old.chain_busy ≡ capped (old.chain_busy + 0)) × (old.ended ≡ capped (old.ended + 0))
+  as_before old is = (
+    sym (same_capped old.chained (count_by is_chain v) (ap (λ (x : OwnerCounts). x.chained) is)),
+    sym (same_capped old.chain_busy (count_by is_chain_busy v) (ap (λ (x : OwnerCounts). x.chain_busy) is)),
+    sym (same_capped old.ended (length (ended v)) (ap (λ (x : OwnerCounts). x.ended) is)),
+  )
+
   pub counts_quiet : count_by is_chain xs ≡ 0 → count_by is_chain_busy xs ≡ 0 → length (ended xs) ≡ 0 → (old : OwnerCounts) → old ≡ owner_counts v
       → old ≡ owner_counts w
-  counts_quiet ca cb cd old is =
-      (λ i. record {
-        chained = sym (same_capped old.chained (count_by is_chain v) (ap (λ (x : OwnerCounts). x.chained) is)) i;
-        chain_busy = sym
-            (same_capped old.chain_busy (count_by is_chain_busy v) (ap (λ (x : OwnerCounts). x.chain_busy) is)) i;
-        ended = sym
-            (same_capped old.ended (length (ended v)) (ap (λ (x : OwnerCounts). x.ended) is)) i;
-      })
-      ∙ counts_on 0 0 0 ca cb cd old is
+  counts_quiet ca cb cd old is = let k = as_before old is in
+      (λ i. record { chained = k.0 i; chain_busy = k.1 i; ended = k.2 i }) ∙ counts_on 0 0 0 ca cb cd old is
 
   pub counts_ended : count_by is_chain xs ≡ 0 → count_by is_chain_busy xs ≡ 0 → length (ended xs) ≡ 1 → (old : OwnerCounts) → old ≡ owner_counts v
       → (x : ℕ) → x ≡ capped (old.ended + 1) → record old { ended = x } ≡ owner_counts w
-  counts_ended ca cb cd old is x e =
-      (λ i. record {
-        chained = sym (same_capped old.chained (count_by is_chain v) (ap (λ (x : OwnerCounts). x.chained) is)) i;
-        chain_busy = sym
-            (same_capped old.chain_busy (count_by is_chain_busy v) (ap (λ (x : OwnerCounts). x.chain_busy) is)) i;
-        ended = e i;
-      })
-      ∙ counts_on 0 0 1 ca cb cd old is
+  counts_ended ca cb cd old is x e = let k = as_before old is in
+      (λ i. record { chained = k.0 i; chain_busy = k.1 i; ended = e i }) ∙ counts_on 0 0 1 ca cb cd old is
 
   pub counts_chained : count_by is_chain xs ≡ 1 → count_by is_chain_busy xs ≡ 0 → length (ended xs) ≡ 0 → (old : OwnerCounts) → old ≡ owner_counts v
       → (x : ℕ) → x ≡ capped (old.chained + 1) → record old { chained = x } ≡ owner_counts w
-  counts_chained ca cb cd old is x e =
-      (λ i. record {
-        chained = e i;
-        chain_busy = sym
-            (same_capped old.chain_busy (count_by is_chain_busy v) (ap (λ (x : OwnerCounts). x.chain_busy) is)) i;
-        ended = sym
-            (same_capped old.ended (length (ended v)) (ap (λ (x : OwnerCounts). x.ended) is)) i;
-      })
-      ∙ counts_on 1 0 0 ca cb cd old is
+  counts_chained ca cb cd old is x e = let k = as_before old is in
+      (λ i. record { chained = e i; chain_busy = k.1 i; ended = k.2 i }) ∙ counts_on 1 0 0 ca cb cd old is
 
   pub counts_busy : count_by is_chain xs ≡ 0 → count_by is_chain_busy xs ≡ 1 → length (ended xs) ≡ 0 → (old : OwnerCounts) → old ≡ owner_counts v
       → (x : ℕ) → x ≡ capped (old.chain_busy + 1) → record old { chain_busy = x } ≡ owner_counts w
-  counts_busy ca cb cd old is x e =
-      (λ i. record {
-        chained = sym
-            (same_capped old.chained (count_by is_chain v) (ap (λ (x : OwnerCounts). x.chained) is)) i;
-        chain_busy = e i;
-        ended = sym
-            (same_capped old.ended (length (ended v)) (ap (λ (x : OwnerCounts). x.ended) is)) i;
-      })
-      ∙ counts_on 0 1 0 ca cb cd old is
+  counts_busy ca cb cd old is x e = let k = as_before old is in
+      (λ i. record { chained = k.0 i; chain_busy = e i; ended = k.2 i }) ∙ counts_on 0 1 0 ca cb cd old is
 
 -- nothing runs where nothing ran before and no own event came
 pub rests_on : (c : ℕ) (v w : List Event) → c ≡ owner_seat → Grows c [] 0 v w → ¬ IsRunning v → ¬ IsRunning w
