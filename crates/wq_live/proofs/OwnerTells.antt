@@ -85,11 +85,11 @@ to_walk word ks = go (word == 0)
     go true = ap (Owns None []) (sym (append-nil ks))
     go false = refl
 
-pub take_stage : (word : ℕ) (p q : Part) (ks : List ℕ) → p.stage ≡ Owns None [] ks → Makes Take word p q → q.stage ≡ walking (link_word word) [] ks
-take_stage word p q ks is makes = makes.stage_is ∙ (ap (λ (st : Stage). stage_after st Take word) is ∙ to_walk (link_word word) ks)
-
-pub close_stage : (word : ℕ) (p q : Part) (ks : List ℕ) → p.stage ≡ Owns None [] ks → Makes Close word p q → q.stage ≡ walking (link_word word) [] ks
-close_stage word p q ks is makes = makes.stage_is ∙ (ap (λ (st : Stage). stage_after st Close word) is ∙ to_walk (link_word word) ks)
+pub taken_stage : (step : Step) (word link : ℕ) (p q : Part) (ks : List ℕ)
+    → stage_after (Owns None [] ks) step word ≡ Owns (number_at (link_word word)) [] ks → link ≡ link_word word → p.stage ≡ Owns None [] ks
+    → Makes step word p q → q.stage ≡ walking link [] ks
+taken_stage step word link p q ks walks link_is is makes = makes.stage_is ∙ (ap (λ (st : Stage). stage_after st step word) is ∙
+    (walks ∙ (to_walk (link_word word) ks ∙ ap (λ (w : ℕ). walking w [] ks) (sym link_is))))
 
 -- a walk that has not come to the end, and one that has
 pub walking_on : (word : ℕ) (walked ks : List ℕ) → word ≢ 0 → walking word walked ks ≡ Owns (Some (word - 1)) walked ks

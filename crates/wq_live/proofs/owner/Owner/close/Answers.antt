@@ -1,12 +1,12 @@
-use Rattle.std.proofs.Common.{ℕ, ◌-◌, true, [], ◌∷◌, ap, sym, subst, refl, ◌∙◌, arith}
+use Rattle.std.proofs.Common.{◌-◌, true, [], ◌∷◌, ap, sym, subst, refl, ◌∙◌, arith}
 use Rattle.wq_words.specs.declared.event.Event.TheVariants.{Close}
 use Rattle.wq_core.specs.declared.step.Step.TheVariants as step
 use Rattle.wq_words.specs.History.{IsClosed}
 use Rattle.wq_live.specs.Known.{Known}
-use Rattle.wq_live.specs.Sits.{kept_batch, walking}
+use Rattle.wq_live.specs.Sits.{kept_batch}
 use Rattle.wq_live.proofs.Tells.{Tells}
 use Rattle.wq_live.proofs.Owned.{running_quiet, closed_closed, counts_quiet}
-use Rattle.wq_live.proofs.OwnerTells.{makes_stands, owner_of, close_tells, close_stage, owner_grows, owner_sees}
+use Rattle.wq_live.proofs.OwnerTells.{makes_stands, owner_of, close_tells, taken_stage, owner_grows, owner_sees}
 use Rattle.wq_live.proofs.Resting.{quiet_idle}
 use Rattle.wq_live.proofs.Linking.{walks_kept, walks_row}
 use Rattle.wq_live.proofs.Taking.{followed, close_takes}
@@ -21,14 +21,14 @@ walk_all-self-inside-requires-clause-stands c = makes_stands _ _ c.self.inside.c
 pub walk_all-self-inside-requires-clause-stage : goal.walk_all-self-inside-requires-clause-stage
 walk_all-self-inside-requires-clause-stage c = let p = c.self.inside.chair.part in let q = c.close-head.new.self.part in
     walks_kept q.stage c.link_word.result (kept_batch p.stage)
-    (close_stage c.close-head.result p q (kept_batch p.stage) c.self.invariant.has_row.stage_is c.close-head.ensures.step.makes ∙
-    ap (λ (w : ℕ). walking w [] (kept_batch p.stage)) (sym c.link_word.ensures.word))
+    (taken_stage step.Close c.close-head.result c.link_word.result p q (kept_batch p.stage) refl c.link_word.ensures.word c.self.invariant.has_row.stage_is
+    c.close-head.ensures.step.makes)
 
 pub walk_all-self-inside-requires-clause-row : goal.walk_all-self-inside-requires-clause-row
 walk_all-self-inside-requires-clause-row c = let s = c.self.inside in let o = c.self.invariant in let p = s.chair.part in let q = c.close-head.new.self.part in
     walks_row step.Close c.close-head.result c.link_word.result p q s.row o.has_row c.close-head.ensures.step.makes (λ k w. refl)
-    (close_stage c.close-head.result p q (kept_batch p.stage) o.has_row.stage_is c.close-head.ensures.step.makes ∙
-    ap (λ (w : ℕ). walking w [] (kept_batch p.stage)) (sym c.link_word.ensures.word))
+    (taken_stage step.Close c.close-head.result c.link_word.result p q (kept_batch p.stage) refl c.link_word.ensures.word o.has_row.stage_is
+    c.close-head.ensures.step.makes)
 
 pub invariant_of-self : goal.invariant_of-self
 invariant_of-self c = let s = c.self.inside in let o = c.self.invariant in let p = s.chair.part in let q = c.close-head.new.self.part in

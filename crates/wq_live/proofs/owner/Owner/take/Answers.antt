@@ -3,10 +3,10 @@ use Rattle.wq_words.specs.declared.event.Event.TheVariants.{Take}
 use Rattle.wq_core.specs.declared.step.Step.TheVariants as step
 use Rattle.wq_words.specs.History.{IsClosed}
 use Rattle.wq_live.specs.Known.{Known}
-use Rattle.wq_live.specs.Sits.{kept_batch, walking}
+use Rattle.wq_live.specs.Sits.{kept_batch}
 use Rattle.wq_live.proofs.Tells.{Tells}
 use Rattle.wq_live.proofs.Owned.{running_quiet, closed_quiet, counts_quiet}
-use Rattle.wq_live.proofs.OwnerTells.{makes_stands, owner_batch, owner_of, none_of, take_tells, take_stage, owner_grows, owner_sees}
+use Rattle.wq_live.proofs.OwnerTells.{makes_stands, owner_batch, owner_of, none_of, take_tells, taken_stage, owner_grows, owner_sees}
 use Rattle.wq_live.proofs.Resting.{quiet_idle}
 use Rattle.wq_live.proofs.Linking.{walks_kept, walks_row}
 use Rattle.wq_live.proofs.Taking.{followed, take_takes}
@@ -25,14 +25,14 @@ walk_all-self-inside-requires-clause-stands c = makes_stands _ _ c.self.inside.c
 pub walk_all-self-inside-requires-clause-stage : goal.walk_all-self-inside-requires-clause-stage
 walk_all-self-inside-requires-clause-stage c = let p = c.self.inside.chair.part in let q = c.take-head.new.self.part in
     walks_kept q.stage c.link_word.result (kept_batch p.stage)
-    (take_stage c.take-head.result p q (kept_batch p.stage) c.self.invariant.has_row.stage_is c.take-head.ensures.step.makes ∙
-    ap (λ (w : ℕ). walking w [] (kept_batch p.stage)) (sym c.link_word.ensures.word))
+    (taken_stage step.Take c.take-head.result c.link_word.result p q (kept_batch p.stage) refl c.link_word.ensures.word c.self.invariant.has_row.stage_is
+    c.take-head.ensures.step.makes)
 
 pub walk_all-self-inside-requires-clause-row : goal.walk_all-self-inside-requires-clause-row
 walk_all-self-inside-requires-clause-row c = let s = c.self.inside in let o = c.self.invariant in let p = s.chair.part in let q = c.take-head.new.self.part in
     walks_row step.Take c.take-head.result c.link_word.result p q s.row o.has_row c.take-head.ensures.step.makes (λ k w. refl)
-    (take_stage c.take-head.result p q (kept_batch p.stage) o.has_row.stage_is c.take-head.ensures.step.makes ∙
-    ap (λ (w : ℕ). walking w [] (kept_batch p.stage)) (sym c.link_word.ensures.word))
+    (taken_stage step.Take c.take-head.result c.link_word.result p q (kept_batch p.stage) refl c.link_word.ensures.word o.has_row.stage_is
+    c.take-head.ensures.step.makes)
 
 pub invariant_of-self : goal.invariant_of-self
 invariant_of-self c = let s = c.self.inside in let o = c.self.invariant in let p = s.chair.part in let q = c.take-head.new.self.part in
