@@ -1,5 +1,5 @@
 -- A queue that is closed and has run to the end.
-use Rattle.std.proofs.Common.{◌≡◌, ℕ, ◌+◌, ◌≤◌, Bool, true, false, cond, List, [], ◌∷◌, ◌++◌, length, Option, Some, None, slice_get, sym, refl, ap, ◌∙◌, subst, arith, append_assoc}
+use Rattle.std.proofs.Common.{◌≡◌, ℕ, ◌+◌, ◌≤◌, true, false, cond, List, [], ◌∷◌, ◌++◌, length, Option, Some, None, slice_get, sym, refl, ap, ◌∙◌, subst, arith, append_assoc}
 use Rattle.std.specs.Prelude.{filter_map}
 use Rattle.std.proofs.lemmas.List.{append-nil}
 use Rattle.std.proofs.lemmas.List.Sums.{sum_by-append}
@@ -19,7 +19,7 @@ use Rattle.wq_table.specs.declared.table.Part.{Part}
 use Rattle.wq_table.specs.declared.table.Stage.TheVariants.{Owns}
 use Rattle.wq_table.specs.Law.{HasStage}
 use Rattle.std.specs.Option.{is_some}
-use Rattle.std.proofs.lemmas.Bool.{false≢true}
+use Rattle.std.proofs.lemmas.Bool.{false≢true, false_from_ne_true}
 use Rattle.std.proofs.lemmas.Option.{slice_get_within}
 use Rattle.wq_words.proofs.Closed.{closed_from_IsClosed, IsClosed_from_closed}
 use Rattle.wq_words.proofs.Running.{runs_some}
@@ -29,6 +29,7 @@ use Rattle.wq_live.specs.Answers.{IsFinal}
 use Rattle.wq_live.specs.Batch.{batch}
 use Rattle.wq_live.proofs.OwnerTells.{stands_legal, owner_batch}
 use Rattle.wq_live.specs.Sits.{owner_view, Stands, OwnsQueue, kept_batch}
+use Rattle.wq_live.proofs.Rows.{none_counted}
 use Rattle.wq_live.proofs.Taken.{rested_lengths}
 
 -- nothing is accepted, begins or ends by the event
@@ -121,14 +122,6 @@ running_some h (Some k) is some = slice_get_within (begun h) (length (ended h)) 
 running_none : (h : List Event) → is_some (running h) ≡ false → ¬ IsRunning h
 running_none h none runs = false≢true (sym none ∙ ap is_some (runs_some h runs).1)
 
-is_false : (b : Bool) → (b ≡ true → ⊥) → b ≡ false
-is_false true no_way = absurd (no_way refl)
-is_false false no_way = refl
-
-pub none_length : (xs : List ℕ) → length xs ≡ 0 → xs ≡ []
-none_length [] none = refl
-none_length (x ∷ xs) none = absurd (omega arith)
-
 -- an owner that knows its queue closed, with nothing that waits or runs
 pub owner_complete : (s : Inside) (now : Known) → owner_view s ≡ now → OwnsQueue s → s.closed ≡ true → s.row.count ≡ 0 → is_some s.running ≡ false
     → IsComplete now.seen
@@ -136,7 +129,7 @@ owner_complete s now view o shut none idle = let p = s.chair.part in
     subst (λ (v : Known). IsComplete v.seen) view
     (complete_rested p.layout p.seen (kept_batch s.chair.part.stage) (stands_legal p o.stands) (IsClosed_from_closed p.seen (sym o.closed_is ∙ shut))
     (stands_lengths p (kept_batch s.chair.part.stage) o.stands o.has_row.stage_is)
-    (none_length (kept_batch s.chair.part.stage) (omega (arith, none, o.has_row.row_is.count_is)))
+    (none_counted (kept_batch s.chair.part.stage) (omega (arith, none, o.has_row.row_is.count_is)))
     (running_none p.seen (ap is_some (sym o.running_is) ∙ idle)))
 
 -- and one that has run to the end knows it
@@ -148,7 +141,7 @@ owner_rested s now view o complete = let p = s.chair.part in let known : IsCompl
     (stands_lengths p (kept_batch s.chair.part.stage) o.stands o.has_row.stage_is) known in (
       o.closed_is ∙ closed_from_IsClosed p.seen known.0,
       omega (arith, rest.0, o.has_row.row_is.count_is),
-      is_false (is_some s.running) (λ some. rest.1 (running_some p.seen (running p.seen) refl (ap is_some (sym o.running_is) ∙ some))),
+      false_from_ne_true (is_some s.running) (λ some. rest.1 (running_some p.seen (running p.seen) refl (ap is_some (sym o.running_is) ∙ some))),
     )
 
 -- closed, with nothing that waits or runs, as the owner knows it
@@ -157,6 +150,6 @@ pub owner_finished : (s : Inside) (now : Known) → owner_view s ≡ now → Own
 owner_finished s now view o shut none idle = let p = s.chair.part in (
   o.closed_is ∙ closed_from_IsClosed p.seen (subst (λ (v : Known). IsClosed v.seen) (sym view) shut),
   omega (arith, ap (λ (x : List ℕ). length x) (owner_batch s now view o ∙ none), o.has_row.row_is.count_is),
-  is_false (is_some s.running)
+  false_from_ne_true (is_some s.running)
       (λ some. idle (subst (λ (v : Known). IsRunning v.seen) view (running_some p.seen (running p.seen) refl (ap is_some (sym o.running_is) ∙ some)))),
 )

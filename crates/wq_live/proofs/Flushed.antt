@@ -3,14 +3,14 @@ use Rattle.std.proofs.Common.{◌≡◌, ℕ, ◌≤◌, Bool, false, cond, ◌=
 use Rattle.std.specs.Prelude.{count_by}
 use Rattle.std.proofs.lemmas.List.Sums.{sum_by-append, sum_by-cons}
 use Rattle.std.proofs.lemmas.Bool.Decides.{nat_tests}
-use Rattle.std.proofs.lemmas.List.Elements.{filter_map-append}
 use mathlib.Core.List.{IsPrefix}
 use Rattle.wq_words.specs.declared.layout.Layout.{Layout}
 use Rattle.wq_words.specs.declared.event.Event.{Event}
 use Rattle.wq_words.specs.declared.event.Event.TheVariants.{Push}
-use Rattle.wq_words.specs.History.{accepted, accepted_by, begun, ended, pending, sets_pending, clears_pending}
+use Rattle.wq_words.specs.History.{accepted, begun, ended, pending, sets_pending, clears_pending}
 use Rattle.wq_words.specs.Legal.{IsLegal}
 use Rattle.wq_words.specs.Keeper.{Keeper, keeper}
+use Rattle.wq_words.proofs.Appended.{accepted-append}
 use Rattle.wq_words.proofs.Order.{in_order}
 use Rattle.wq_words.proofs.Keepers.{pending_bit, queue_bit, home_from_bit, kept}
 use Rattle.wq_live.specs.Answers.{HasFlushed}
@@ -35,9 +35,6 @@ shorter [] ys us bs is less = (ys, refl)
 shorter (x ∷ xs) [] us bs is less = absurd (omega arith)
 shorter (x ∷ xs) (y ∷ ys) us bs is less = let same : x ≡ y = cc in let tails : ys ++ bs ≡ xs ++ us = cc in
     let more = shorter xs ys us bs tails (omega arith) in (more.0, λ i. same i ∷ more.1 i)
-
-accepted-append : (a b : List Event) → accepted (a ++ b) ≡ accepted a ++ accepted b
-accepted-append a b = filter_map-append accepted_by a b
 
 bits : (x : Keeper) → pending_bit x ≡ 0 → queue_bit x ≡ 0
 bits x none = ap queue_bit (home_from_bit x none)

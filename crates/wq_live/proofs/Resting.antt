@@ -20,7 +20,8 @@ use Rattle.wq_live.specs.Answers.{Answers}
 use Rattle.wq_live.specs.Laws.{queued_number, IsStillEnd}
 use Rattle.wq_live.proofs.Growing.{grows_own}
 use Rattle.wq_live.proofs.Owned.{closes_on, running_quiet}
-use Rattle.wq_live.proofs.Final.{final, none_length}
+use Rattle.wq_live.proofs.Final.{final}
+use Rattle.wq_live.proofs.Rows.{none_counted}
 
 -- nothing runs where nothing ran before and the owner neither began nor ended
 pub quiet_idle : (xs : List Event) (n : ℕ) (old new : Known) → old.number ≡ owner_seat → Sees xs n old new → begun xs ≡ [] → ended xs ≡ []
@@ -58,7 +59,7 @@ own_none s (e ∷ es) none = let both = none_first (accepted_by e) (accepted es)
 
 none_more : (h es : List Event) → accepted (h ++ es) ≡ accepted h → accepted es ≡ []
 none_more h es same =
-    none_length (accepted es) (omega (arith, ap length (sym (filter_map-append accepted_by h es) ∙ same), length-append (accepted h) (accepted es)))
+    none_counted (accepted es) (omega (arith, ap length (sym (filter_map-append accepted_by h es) ∙ same), length-append (accepted h) (accepted es)))
 
 own_still : (s : ℕ) (h es : List Event) → accepted es ≡ [] → accepted (own s (h ++ es)) ≡ accepted (own s h)
 own_still s h es none =

@@ -24,6 +24,7 @@ use Rattle.wq_words.specs.Seen.{own, Grows}
 use Rattle.wq_table.specs.Law.{part, seat_at, HasStage, IsPartOf}
 use Rattle.wq_table.specs.Plays.{stage_after, Makes}
 use Rattle.wq_table.specs.Chair.{IsSender, HasSeen, HasLinked}
+use Rattle.wq_table.proofs.Steps.{sender_seen}
 use Rattle.wq_words.proofs.Seen.{own_one}
 use Rattle.wq_live.specs.Answers.{IsPushed}
 use Rattle.wq_live.proofs.Growing.{grows_done, grows_on, grows_held, grows_others}
@@ -144,10 +145,6 @@ after_link : (m : Machine) (c k : ℕ) (st : Stage) → IsSender st
 after_link m c k (Sends r) is = refl
 after_link m c k (Owns a b d) is = elim is [ ]
 
-seen_sender : (word : ℕ) (st : Stage) → HasSeen word st → IsSender st
-seen_sender word (Sends r) is = tt
-seen_sender word (Owns a b d) is = elim is [ ]
-
 linked_link : (k word found : ℕ) (st : Stage) → HasSeen word st → HasLinked word k (stage_after st (Link k) found)
 linked_link k word found (Sends r) is = (is, refl)
 linked_link k word found (Owns a b d) is = elim is [ ]
@@ -158,7 +155,7 @@ pub record Links (k word : ℕ) (p q : Part) : Type 0 where
 
 pub link_tells : (k word found : ℕ) (p q : Part) → HasSeen word p.stage → Makes (Link k) found p q → Links k word p q
 link_tells k word found p q is makes = record {
-  told = tells (Link k) found p q makes _ [] (after_link makes.before p.seat k p.stage (seen_sender word p.stage is)) refl
+  told = tells (Link k) found p q makes _ [] (after_link makes.before p.seat k p.stage (sender_seen word p.stage is)) refl
       (sym (append-nil makes.before.history)) refl;
   has_linked = subst (HasLinked word k) (sym makes.stage_is) (linked_link k word found p.stage is);
 }

@@ -14,13 +14,14 @@ use Rattle.wq_words.specs.Numbers.{number_count}
 use Rattle.wq_words.specs.History.{accepted, accepted_by, begun}
 use Rattle.wq_words.specs.Listed.{listed}
 use Rattle.wq_words.specs.Legal.{IsAllowed, IsLegal}
-use Rattle.wq_words.specs.Keeper.{Keeper, Home, Sender, Listed, Owner, keeper}
+use Rattle.wq_words.specs.Keeper.{keeper}
 use Rattle.wq_words.proofs.Legal.{legal_induction}
 use Rattle.wq_words.proofs.Keepers.{queue_bit, kept}
 use Rattle.wq_core.specs.Machine.{Machine}
 use Rattle.wq_core.specs.Words.{word_at}
 use Rattle.wq_core.specs.Sound.{IsSound, IsChain}
 use Rattle.wq_core.proofs.Chains.{times, times-cons, times-append, times-first}
+use Rattle.wq_core.proofs.Turning.{queue_once}
 use Rattle.wq_table.specs.declared.table.Part.{Part}
 use Rattle.wq_table.specs.declared.table.Stage.TheVariants.{Owns}
 use Rattle.wq_table.specs.Law.{HasStage}
@@ -89,12 +90,6 @@ pub accepted_below : (layout : Layout) (h : List Event) → IsLegal layout h →
 accepted_below layout = legal_induction layout (λ h. (q : ℕ) → 1 ≤ times q (accepted h)
     → q < number_count layout) (λ q is. absurd (omega arith)) (λ h e legal allowed before. below_event layout h e allowed before)
 
-bit_small : (x : Keeper) → queue_bit x ≤ 1
-bit_small Home = omega arith
-bit_small (Sender s) = omega arith
-bit_small Listed = omega arith
-bit_small Owner = omega arith
-
 length_onto : (xs ys : List ℕ) → length (reverse_aux xs ys) ≡ length xs + length ys
 length_onto [] ys = omega arith
 length_onto (x ∷ xs) ys = omega (arith, length_onto xs (x ∷ ys))
@@ -118,7 +113,7 @@ waits_few m o =
       arith,
       split_of m o q,
       keeps q,
-      bit_small (keeper h q),
+      queue_once (keeper h q),
     )) (λ q is. accepted_below m.layout h o.legal q (omega (arith, split_of m o q, is))) in
     omega (arith, less, length-append m.batch (reverse_aux a.remaining m.walked), length_onto a.remaining m.walked)
 
