@@ -23,7 +23,8 @@ use Rattle.wq_worker.specs.Seats.{Adds, taking, taking_of, NothingWaits, at_take
 use Rattle.wq_worker.specs.Follow.{Queues, Follows, passed, pushed, busy, refused, chained, chain_busy}
 use Rattle.wq_meaning.specs.Queueing.{queue_events, chain_events}
 use Rattle.wq_meaning.specs.Execution.{follow_of, take_events, follow_events, after_follow, after_run, after_execution}
-use Rattle.wq_words.proofs.Appended.{accepted-append, begun-append, count_by-append, accepted-count, pushes-split, fresh-more, fresh-take}
+use Rattle.wq_words.proofs.Appended.{accepted-append, begun-append, count_by-append, accepted-count, pushes-split, fresh-more}
+use Rattle.wq_words.proofs.Listed.{fresh_push_take}
 use Rattle.wq_script.specs.Quiet.{Quiet}
 use Rattle.wq_script.proofs.Alone.{all_ours}
 use Rattle.wq_script.proofs.Queueings.{busy_events, push_events, refused_events, not_pending, is_pending, closed_on, last_own}
@@ -217,7 +218,7 @@ module _ (wide : Layout) where
   nothing_left h before after is none past is_open =
       let two : before ++ Take ∷ after ≡ (before ++ Take ∷ []) ++ after = sym (append_assoc before (Take ∷ []) after) in
       let newer : fresh h ≡ 0 + count_by is_push after = ap fresh (is ∙ two)
-      ∙ (fresh_on (before ++ Take ∷ []) after none ∙ ap (λ (m : ℕ). m + count_by is_push after) (fresh-take before)) in
+      ∙ (fresh_on (before ++ Take ∷ []) after none ∙ ap (λ (m : ℕ). m + count_by is_push after) (fresh_push_take before)) in
       let all : count_by is_push h ≡ count_by is_push before + count_by is_push after =
       ap (count_by is_push) is ∙ (count_by-append is_push before (Take ∷ after) ∙ omega (arith, count_by-append is_push (Take ∷ []) after)) in
       let open_taken : taken h ≡ count_by is_push (before_last is_take h) =

@@ -1,8 +1,7 @@
 -- What a history says when some events are put behind it.
-use Rattle.std.proofs.Common.{◌≡◌, ℕ, suc, ◌+◌, ◌-◌, ◌≤◌, Bool, true, false, cond, not, List, [], ◌∷◌, ◌++◌, length, drop, refl, sym, ap, ◌∙◌, arith, count_by, reverse, length-append, take, get_or, ◌<◌, inl, inr, take-append-drop, drop-cons}
+use Rattle.std.proofs.Common.{◌≡◌, ℕ, suc, ◌+◌, ◌-◌, ◌≤◌, Bool, true, false, cond, not, List, [], ◌∷◌, ◌++◌, length, drop, refl, sym, ap, ◌∙◌, arith, count_by, reverse, take, get_or, ◌<◌, inl, inr, take-append-drop, drop-cons}
 use Rattle.std.specs.List.{after_last, before_last, prefix_len}
-use Rattle.std.proofs.lemmas.List.{append-nil, reverse-append, length-reverse, drop-append-le, get_or-reverse}
-use Rattle.std.proofs.Math.Seq.{drop-append_seam}
+use Rattle.std.proofs.lemmas.List.{length-reverse, get_or-reverse}
 use Rattle.std.proofs.lemmas.Bool.{cases_lt}
 use Rattle.std.proofs.lemmas.List.Elements.{filter_map-append}
 use Rattle.std.proofs.lemmas.List.Sums.{sum_by-append, sum_by-cons, prefix_len-le-length, prefix_len_stops}
@@ -10,6 +9,7 @@ use Rattle.wq_words.specs.declared.event.Event.{Event}
 use Rattle.wq_words.specs.declared.event.Event.TheVariants.{Hold, Busy, Push, Back, Take, Close, Begin, End, Chain, ChainBusy, Rest}
 use Rattle.wq_words.specs.History.{accepted, accepted_by, begun, begun_by, ended, ended_by, fresh, is_push, is_take}
 use Rattle.wq_words.specs.Counting.{is_chain}
+use Rattle.wq_words.proofs.Listed.{after_last_push_no}
 
 pub count_by-append : {X : Type 0} (p : X → Bool) (xs ys : List X) → count_by p (xs ++ ys) ≡ count_by p xs + count_by p ys
 count_by-append p xs ys = sum_by-append (λ x. cond (p x) 1 0) xs ys
@@ -26,29 +26,9 @@ begun-append h es = filter_map-append begun_by h es
 pub ended-append : (h es : List Event) → ended (h ++ es) ≡ ended h ++ ended es
 ended-append h es = filter_map-append ended_by h es
 
-after_last-no : {X : Type 0} (p : X → Bool) (xs : List X) (x : X) → p x ≡ false → after_last p (xs ++ x ∷ []) ≡ after_last p xs ++ x ∷ []
-after_last-no {X} p xs x fails =
-    let q : X → Bool = λ y. not (p y) in
-    let bound = prefix_len-le-length q (reverse xs) in
-    let flipped = length-reverse xs in
-    let longer = length-append xs (x ∷ []) in
-    let n : ℕ = prefix_len q (reverse xs) in
-    let e : length (xs ++ x ∷ []) - (1 + n) ≡ length xs - n = omega (arith, longer) in
-    let le : length xs - n ≤ length xs = omega arith in
-    rw (reverse-append xs (x ∷ []), fails, e) (drop-append-le (length xs - n) xs (x ∷ []) le)
-
-after_last-yes : {X : Type 0} (p : X → Bool) (xs : List X) (x : X) → p x ≡ true → after_last p (xs ++ x ∷ []) ≡ []
-after_last-yes {X} p xs x passes =
-    let e : length (xs ++ x ∷ []) - 0 ≡ length (xs ++ x ∷ []) = omega arith in
-    rw (reverse-append xs (x ∷ []), passes, e) (ap (λ (ys : List X). drop (length (xs ++ x ∷ [])) ys) (sym (append-nil (xs ++ x ∷ [])))
-    ∙ drop-append_seam (xs ++ x ∷ []) [])
-
 -- an event that is no Take
 pub fresh-more : (h : List Event) (e : Event) → is_take e ≡ false → fresh (h ++ e ∷ []) ≡ fresh h + count_by is_push (e ∷ [])
-fresh-more h e stays = rw (after_last-no is_take h e stays) (count_by-append is_push (after_last is_take h) (e ∷ []))
-
-pub fresh-take : (h : List Event) → fresh (h ++ Take ∷ []) ≡ 0
-fresh-take h = rw (after_last-yes is_take h Take refl) refl
+fresh-more h e stays = rw (after_last_push_no is_take h e stays) (count_by-append is_push (after_last is_take h) (e ∷ []))
 
 accepted-cons : (e : Event) (es : List Event) → length (accepted (e ∷ es)) ≡ count_by is_push (e ∷ []) + count_by is_chain (e ∷ []) + length (accepted es)
 accepted-cons (Hold s k) es = omega arith
