@@ -1,5 +1,5 @@
 -- The delay table after an entry was placed, or an item taken off, and its due part.
-use Rattle.std.proofs.Common.{◌≡◌, ℕ, ◌<◌, ◌≤◌, ◌==◌, Bool, true, false, cond, not, ◌||◌, ◌&&◌, List, [], ◌∷◌, ◌++◌, refl, sym, ap, ◌∙◌, arith}
+use Rattle.std.proofs.Common.{◌≡◌, ℕ, ◌+◌, ◌<◌, ◌≤◌, ◌==◌, Bool, true, false, cond, not, ◌||◌, ◌&&◌, List, [], ◌∷◌, ◌++◌, length, refl, sym, ap, ◌∙◌, arith}
 use Rattle.std.specs.Prelude.{nat_lt, nat_le}
 use Rattle.std.specs.List.{AllByRecursion}
 use Rattle.std.proofs.lemmas.Bool.Decides.{nat_tests}
@@ -14,7 +14,7 @@ second_false true q is = cc
 second_false false q is = is
 
 -- all of a placed table
-all_by : (P : Entry → Type 0) (b : Bool) (e : Entry) (fs gs : List Entry) → P e → AllByRecursion P fs → AllByRecursion P gs
+pub all_by : (P : Entry → Type 0) (b : Bool) (e : Entry) (fs gs : List Entry) → P e → AllByRecursion P fs → AllByRecursion P gs
     → AllByRecursion P (cond b (e ∷ fs) gs)
 all_by P true e fs gs p q r = (p, q)
 all_by P false e fs gs p q r = r
@@ -92,6 +92,14 @@ ordered-placed e (f ∷ fs) ordered armed off = by (nat_lt e.due f.due) refl (or
           on_table-placed f.item e fs ∙ (let off_item : (f.item == e.item) ≡ false = apart e.item f.item (first_false _ _ off) in rw off_item ordered.1),
           rest,
         )
+
+pub length_placed : (e : Entry) (es : List Entry) → length (placed e es) ≡ length es + 1
+length_placed e [] = refl
+length_placed e (f ∷ fs) = by (nat_lt e.due f.due) (length_placed e fs)
+  where
+    by : (b : Bool) → length (placed e fs) ≡ length fs + 1 → length (cond b (e ∷ f ∷ fs) (f ∷ placed e fs)) ≡ length (f ∷ fs) + 1
+    by true is = omega arith
+    by false is = omega arith
 
 pub ordered-without : (k : ℕ) (es : List Entry) → IsOrdered es → IsOrdered (without k es)
 ordered-without k [] ordered = tt

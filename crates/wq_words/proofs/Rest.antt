@@ -21,7 +21,7 @@ no_and : (b : Bool) → false ≡ (b && false)
 no_and true = refl
 no_and false = refl
 
-not_zero : (n : ℕ) → 0 < n → (n == 0) ≡ false
+pub not_zero : (n : ℕ) → 0 < n → (n == 0) ≡ false
 not_zero n lt = grind (arith, nat_tests)
 
 one_more : (n : ℕ) (b : Bool) → ((n + cond b 1 0) == 0) ≡ ((n == 0) && not b)

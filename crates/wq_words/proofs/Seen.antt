@@ -84,6 +84,11 @@ pub count_own : (p : Event → Bool) (c : ℕ) → ((e : Event) → eqb (seat_of
 count_own p c none [] = refl
 count_own p c none (e ∷ es) = count_kept p (eqb (seat_of e) c) e es c (none e) (count_own p c none es)
 
+-- a count of one seat's events is the same wherever its events are
+pub count_same : (p : Event → Bool) (c : ℕ) → ((e : Event) → eqb (seat_of e) c ≡ false → p e ≡ false) → (v w : List Event) → own c w ≡ own c v
+    → count_by p w ≡ count_by p v
+count_same p c only v w same = count_own p c only w ∙ (ap (count_by p) same ∙ sym (count_own p c only v))
+
 and_last : (a b : Bool) → b ≡ false → (a && b) ≡ false
 and_last true b is = is
 and_last false b is = refl
@@ -100,20 +105,14 @@ stops_own s k _ is = refl
 -- who has the same own events holds the same
 pub held_same : (s k : ℕ) (v w : List Event) → own s w ≡ own s v → Holds v s k → Holds w s k
 held_same s k v w is have =
-    let a =
-    count_own (starts_hold s k) s (starts_own s k) v ∙ (ap (count_by (starts_hold s k)) (sym is) ∙ sym (count_own (starts_hold s k) s (starts_own s k) w)) in
-    let b = count_own (stops_hold s k) s (stops_own s k) v ∙ (ap (count_by (stops_hold s k)) (sym is) ∙ sym (count_own (stops_hold s k) s (stops_own s k) w)) in
-    omega arith
+    let a = count_same (starts_hold s k) s (starts_own s k) v w is in let b = count_same (stops_hold s k) s (stops_own s k) v w is in omega arith
 
 pub close_own : (e : Event) → eqb (seat_of e) owner_seat ≡ false → is_close e ≡ false
 close_own Close is = is
 close_own _ is = refl
 
-closes_own : (h : List Event) → count_by is_close h ≡ count_by is_close (own owner_seat h)
-closes_own h = count_own is_close owner_seat close_own h
-
 pub closed_count : (v w : List Event) → own owner_seat w ≡ own owner_seat v → count_by is_close w ≡ count_by is_close v
-closed_count v w is = closes_own w ∙ (ap (count_by is_close) is ∙ sym (closes_own v))
+closed_count v w is = count_same is_close owner_seat close_own v w is
 
 pub closed_same : (v w : List Event) → own owner_seat w ≡ own owner_seat v → IsClosed v → IsClosed w
 closed_same v w is have = let a = closed_count v w is in omega arith
