@@ -10,7 +10,7 @@ use Rattle.wq_words.specs.History.{IsRunning, is_close, closed, begun, ended, en
 use Rattle.wq_words.specs.Numbers.{stop_number}
 use Rattle.wq_words.specs.Legal.{IsLegal, IsComplete}
 use Rattle.wq_words.specs.Seen.{owner_seat, seat_of, own}
-use Rattle.wq_words.proofs.Seen.{own-append, count_own}
+use Rattle.wq_words.proofs.Seen.{own-append, count_same}
 use Rattle.wq_words.specs.Counting.{is_chain, is_chain_busy}
 use Rattle.wq_worker.specs.declared.ran.Ran.{Ran}
 use Rattle.wq_worker.specs.declared.ran.Ran.TheVariants.{Item, Barrier, Stop, Nothing, Owing}
@@ -30,8 +30,7 @@ use Rattle.wq_worker.specs.Destroy.{Destroys, LeavesUnfinished}
 use Rattle.wq_race.specs.Race.{HasServed}
 use Rattle.wq_race.specs.Outcome.{HasGoneOn, HasEnded}
 use Rattle.std.proofs.lemmas.Bool.{or_parts}
-use Rattle.wq_words.proofs.Counting.{chain_own}
-use Rattle.wq_words.proofs.Counting.{chain_busy_own}
+use Rattle.wq_words.proofs.Counting.{chain_own, chain_busy_own}
 use Rattle.wq_race.proofs.Still.{Still, still_on, still_begin, still_end, still_close, still_taking}
 
 own_of_ours : (s : ℕ) (es : List Event) → own s (filter (is_ours s) es) ≡ own s es
@@ -41,11 +40,10 @@ owner_of_ours : (s : ℕ) (es : List Event) → own owner_seat (filter (is_ours 
 owner_of_ours s es = filter-filter (λ e. seat_of e == owner_seat) (is_ours s) (λ e is. (or_parts (seat_of e == s) (seat_of e == owner_seat) is).1) es
 
 pub chains_same : (v w : List Event) → own owner_seat w ≡ own owner_seat v → count_by is_chain w ≡ count_by is_chain v
-chains_same v w same = count_own is_chain owner_seat chain_own w ∙ (ap (count_by is_chain) same ∙ sym (count_own is_chain owner_seat chain_own v))
+chains_same v w same = count_same is_chain owner_seat chain_own v w same
 
 pub asks_same : (v w : List Event) → own owner_seat w ≡ own owner_seat v → count_by is_chain_busy w ≡ count_by is_chain_busy v
-asks_same v w same = count_own is_chain_busy owner_seat chain_busy_own w
-    ∙ (ap (count_by is_chain_busy) same ∙ sym (count_own is_chain_busy owner_seat chain_busy_own v))
+asks_same v w same = count_same is_chain_busy owner_seat chain_busy_own v w same
 
 -- the same worker, whose sender made no event and whose owner chained nothing, closed so often, and runs nothing
 pub record Plain (n : ℕ) (a b : WorkerState Idle) : Type 0 where

@@ -1,49 +1,42 @@
 use Rattle.std.proofs.Common.{◌≡◌, ◌∙◌, ◌-◌, sym, ap, arith, length}
 use Rattle.wq_words.specs.DelayTable.{DelayTable}
-use Rattle.wq_script.proofs.Reports.{Sums, sums}
+use Rattle.wq_script.proofs.Reports.{sums}
 use Rattle.wq_script.proofs.engine.Engine.counts.Goals as goal
 
 pub overflow_add-accepted : goal.overflow_add-accepted
-overflow_add-accepted c = let u =
-    sums c.args.self.now.layout c.args.self.now.seats c.args.self.now.tally c.requires.ready.0 c.counts-totals.result c.requires.ready.1
-    (omega (arith, c.requires.ready.2)) c.counts-totals.ensures.counted in omega
-    (arith, u.accepts, u.some, u.finds_busy, u.some_busy, u.refuses, u.some_refused, u.chains, u.ends, u.order)
+overflow_add-accepted c =
+    let u = sums c.args.self.now c.requires.ready c.counts-totals.result c.counts-totals.ensures.counted in
+    omega (arith, u.accepts, u.some, u.finds_busy, u.some_busy, u.refuses, u.some_refused, u.chains, u.ends, u.order)
 
 pub overflow_add-accepted-2 : goal.overflow_add-accepted-2
-overflow_add-accepted-2 c = let u =
-    sums c.args.self.now.layout c.args.self.now.seats c.args.self.now.tally c.requires.ready.0 c.counts-totals.result c.requires.ready.1
-    (omega (arith, c.requires.ready.2)) c.counts-totals.ensures.counted in omega
-    (arith, u.accepts, u.some, u.finds_busy, u.some_busy, u.refuses, u.some_refused, u.chains, u.ends, u.order)
+overflow_add-accepted-2 c =
+    let u = sums c.args.self.now c.requires.ready c.counts-totals.result c.counts-totals.ensures.counted in
+    omega (arith, u.accepts, u.some, u.finds_busy, u.some_busy, u.refuses, u.some_refused, u.chains, u.ends, u.order)
 
 pub overflow_cast-result : goal.overflow_cast-result
-overflow_cast-result c = let u =
-    sums c.args.self.now.layout c.args.self.now.seats c.args.self.now.tally c.requires.ready.0 c.counts-totals.result c.requires.ready.1
-    (omega (arith, c.requires.ready.2)) c.counts-totals.ensures.counted in omega
-    (arith, u.accepts, u.some, u.finds_busy, u.some_busy, u.refuses, u.some_refused, u.chains, u.ends, u.order)
+overflow_cast-result c =
+    let u = sums c.args.self.now c.requires.ready c.counts-totals.result c.counts-totals.ensures.counted in
+    omega (arith, u.accepts, u.some, u.finds_busy, u.some_busy, u.refuses, u.some_refused, u.chains, u.ends, u.order)
 
 pub overflow_add-result : goal.overflow_add-result
-overflow_add-result c = let u =
-    sums c.args.self.now.layout c.args.self.now.seats c.args.self.now.tally c.requires.ready.0 c.counts-totals.result c.requires.ready.1
-    (omega (arith, c.requires.ready.2)) c.counts-totals.ensures.counted in omega
-    (arith, u.accepts, u.some, u.finds_busy, u.some_busy, u.refuses, u.some_refused, u.chains, u.ends, u.order)
+overflow_add-result c =
+    let u = sums c.args.self.now c.requires.ready c.counts-totals.result c.counts-totals.ensures.counted in
+    omega (arith, u.accepts, u.some, u.finds_busy, u.some_busy, u.refuses, u.some_refused, u.chains, u.ends, u.order)
 
 pub overflow_add-result-2 : goal.overflow_add-result-2
-overflow_add-result-2 c = let u =
-    sums c.args.self.now.layout c.args.self.now.seats c.args.self.now.tally c.requires.ready.0 c.counts-totals.result c.requires.ready.1
-    (omega (arith, c.requires.ready.2)) c.counts-totals.ensures.counted in omega
-    (arith, u.accepts, u.some, u.finds_busy, u.some_busy, u.refuses, u.some_refused, u.chains, u.ends, u.order)
+overflow_add-result-2 c =
+    let u = sums c.args.self.now c.requires.ready c.counts-totals.result c.counts-totals.ensures.counted in
+    omega (arith, u.accepts, u.some, u.finds_busy, u.some_busy, u.refuses, u.some_refused, u.chains, u.ends, u.order)
 
 pub overflow_sub-result : goal.overflow_sub-result
-overflow_sub-result c = let u =
-    sums c.args.self.now.layout c.args.self.now.seats c.args.self.now.tally c.requires.ready.0 c.counts-totals.result c.requires.ready.1
-    (omega (arith, c.requires.ready.2)) c.counts-totals.ensures.counted in omega
-    (arith, u.accepts, u.some, u.finds_busy, u.some_busy, u.refuses, u.some_refused, u.chains, u.ends, u.order)
+overflow_sub-result c =
+    let u = sums c.args.self.now c.requires.ready c.counts-totals.result c.counts-totals.ensures.counted in
+    omega (arith, u.accepts, u.some, u.finds_busy, u.some_busy, u.refuses, u.some_refused, u.chains, u.ends, u.order)
 
 pub returns : goal.returns
 returns c = λ s m few.
     let e = c.args.self.now in
-    let u : Sums e.tally c.counts-totals.result s.history =
-    sums e.layout e.seats e.tally s c.counts-totals.result m (omega (arith, few)) c.counts-totals.ensures.counted in
+    let u = sums e (s, m, few) c.counts-totals.result c.counts-totals.ensures.counted in
     let delayed : c.len.result ≡ length s.table.entries = c.len.ensures.entries ∙ ap (λ (t : DelayTable). length t.entries) m.table in
     λ i. record {
       accepted = u.accepts i;
