@@ -2,7 +2,7 @@
 use Rattle.std.proofs.Common.{◌≡◌, ◌≢◌, ℕ, zero, suc, ◌+◌, Bool, true, false, cond, ◌==◌, List, []}
 use Rattle.std.proofs.Common.{length, refl, sym, ap, ◌∙◌, subst, arith, add-one}
 use Rattle.std.specs.Prelude.{count_by, sum_by, nat_lt, All}
-use Rattle.std.proofs.lemmas.Bool.{ltb-false, lt-ltb, le-ltb, eqb-true}
+use Rattle.std.proofs.lemmas.Bool.{ltb-false, lt-ltb, le-ltb, eqb-true, eqb-false}
 use Rattle.std.proofs.lemmas.List.Sums.{sum_by-cons}
 use Rattle.wq_words.specs.declared.layout.Layout.{Layout}
 use Rattle.wq_words.specs.declared.event.Event.{Event}
@@ -14,9 +14,9 @@ use Rattle.wq_live.specs.Counts.{capped, owner_counts}
 use Rattle.wq_ledger.specs.declared.totals.Totals.{Totals}
 use Rattle.wq_ledger.specs.Book.{LedgerState, IsLedgerOf, IsSettled}
 use Rattle.wq_ledger.specs.Balance.{largest, AreWhole, AreOwnerWhole, ledgers_of, HasOne, HaveOne, met_total, SumsMet, Balances}
-use Rattle.wq_ledger.proofs.Pushes.{not_same, is_queued_below, below_more, below_none, below_all, none_above, queued_made}
+use Rattle.wq_ledger.proofs.Pushes.{cond_next, is_queued_below, below_more, below_none, below_all, none_above, queued_made}
 use Rattle.wq_words.proofs.Appended.{accepted-count}
-use Rattle.wq_ledger.proofs.Summing.{cond_next, total_next, total_skip, total_none, kept_first}
+use Rattle.wq_ledger.proofs.Summing.{total_next, total_skip, total_none, kept_first}
 
 module _ (layout : Layout) (h : List Event) (legal : IsLegal layout h) (ledgers : List LedgerState) (made : All (IsLedgerOf h) ledgers) (seat : ℕ) where
   abbrev own_below : ℕ → ℕ
@@ -44,7 +44,7 @@ module _ (layout : Layout) (h : List Event) (legal : IsLegal layout h) (ledgers 
       ap (λ (b : Bool). cond b (count_by (is_queued_by seat) h) 0) (lt-ltb seat (n + 1) (omega arith)) in
       omega (arith, t, q, low, now, below_more n h, before)
   next_met n false is one before =
-      let other : n ≢ seat = not_same n seat is in
+      let other : n ≢ seat = eqb-false n seat is in
       let back : (seat == n) ≡ false = differs (seat == n) refl other in
       let now = cond_next (nat_lt seat n) (seat == n) seat n (count_by (is_queued_by seat) h) refl refl in
       let none : cond {A = ℕ} (seat == n) (count_by (is_queued_by seat) h) 0 ≡ 0 = ap (λ (b : Bool). cond b (count_by (is_queued_by seat) h) 0) back in

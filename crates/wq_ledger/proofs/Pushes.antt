@@ -1,8 +1,8 @@
 -- How often each sender pushed, and what was accepted.
 use Rattle.std.proofs.Common.{◌≡◌, ◌≢◌, ℕ, ◌+◌, ◌<◌, ◌≤◌, Bool, true, false, cond, ◌==◌, List, [], ◌∷◌}
-use Rattle.std.proofs.Common.{◌++◌, refl, sym, ap, subst, arith, eq-eqb}
+use Rattle.std.proofs.Common.{◌++◌, refl, sym, ap, ◌∙◌, subst, arith}
 use Rattle.std.specs.Prelude.{count_by, nat_lt, min}
-use Rattle.std.proofs.lemmas.Bool.{ltb-true, ltb-false, lt-ltb, le-ltb, eqb-true}
+use Rattle.std.proofs.lemmas.Bool.{ltb-true, ltb-false, lt-ltb, le-ltb, eqb-true, eqb-false}
 use Rattle.wq_words.specs.declared.layout.Layout.{Layout}
 use Rattle.wq_words.specs.declared.event.Event.{Event}
 use Rattle.wq_words.specs.declared.event.Event.TheVariants.{Hold, Busy, Push, Back, Take, Close, Begin, End, Chain, ChainBusy, Rest}
@@ -22,18 +22,16 @@ abbrev pub is_queued_below : ℕ → Event → Bool
 is_queued_below n (Push s k) = nat_lt s n
 is_queued_below n _ = false
 
-pub not_same : (s n : ℕ) → (s == n) ≡ false → s ≢ n
-not_same s n eq is = let yes_ : (s == n) ≡ true = eq-eqb s n is in absurd (cc)
-
-pub cond_lt : (a b : Bool) (s n : ℕ) → nat_lt s n ≡ a → (s == n) ≡ b → cond {A = ℕ} (nat_lt s (n + 1)) 1 0 ≡ cond a 1 0 + cond b 1 0
-cond_lt true true s n lt eq = let low : s < n = ltb-true s n lt in let same : s ≡ n = eqb-true s n eq in absurd (omega arith)
-cond_lt true false s n lt eq = let low : s < n = ltb-true s n lt in ap (λ (b : Bool). cond b 1 0) (lt-ltb s (n + 1) (omega arith))
-cond_lt false true s n lt eq = let same : s ≡ n = eqb-true s n eq in ap (λ (b : Bool). cond b 1 0) (lt-ltb s (n + 1) (omega arith))
-cond_lt false false s n lt eq =
-    let high : n ≤ s = ltb-false s n lt in let other : s ≢ n = not_same s n eq in ap (λ (b : Bool). cond b 1 0) (le-ltb s (n + 1) (omega arith))
+-- what is below the next number is below it, or it
+pub cond_next : (a e : Bool) (m n x : ℕ) → nat_lt m n ≡ a → (m == n) ≡ e → cond {A = ℕ} (nat_lt m (n + 1)) x 0 ≡ cond a x 0 + cond e x 0
+cond_next true true m n x lt eq = let low : m < n = ltb-true m n lt in let same : m ≡ n = eqb-true m n eq in absurd (omega arith)
+cond_next true false m n x lt eq = let low : m < n = ltb-true m n lt in ap (λ (b : Bool). cond b x 0) (lt-ltb m (n + 1) (omega arith)) ∙ omega arith
+cond_next false true m n x lt eq = let same : m ≡ n = eqb-true m n eq in ap (λ (b : Bool). cond b x 0) (lt-ltb m (n + 1) (omega arith)) ∙ omega arith
+cond_next false false m n x lt eq =
+    let high : n ≤ m = ltb-false m n lt in let other : m ≢ n = eqb-false m n eq in ap (λ (b : Bool). cond b x 0) (le-ltb m (n + 1) (omega arith)) ∙ omega arith
 
 one_below : (n : ℕ) (e : Event) → cond {A = ℕ} (is_queued_below (n + 1) e) 1 0 ≡ cond (is_queued_below n e) 1 0 + cond (is_queued_by n e) 1 0
-one_below n (Push s k) = cond_lt (nat_lt s n) (s == n) s n refl refl
+one_below n (Push s k) = cond_next (nat_lt s n) (s == n) s n 1 refl refl
 one_below n (Hold s k) = refl
 one_below n (Busy s k) = refl
 one_below n (Back s k why) = refl

@@ -2,21 +2,14 @@
 use Rattle.std.proofs.Common.{◌≡◌, ◌≢◌, ℕ, suc, ⊎_elim, Option, Some, None, ◌+◌, ◌<◌, ◌≤◌, Bool, true, false, not, ◌&&◌, cond, ◌==◌, List, [], ◌∷◌}
 use Rattle.std.proofs.Common.{length, refl, sym, ap, ◌∙◌, subst, arith}
 use Rattle.std.specs.Prelude.{IsSome, sum_by, filter, nat_lt, All}
-use Rattle.std.proofs.lemmas.Bool.{cases_lt, ltb-true, ltb-false, lt-ltb, le-ltb, eqb-true}
+use Rattle.std.proofs.lemmas.Bool.{cases_lt, le-ltb, eqb-true}
 use Rattle.std.proofs.lemmas.List.Sums.{sum_by-cons}
 use Rattle.wq_live.specs.declared.counts.SenderCounts.{SenderCounts}
 use Rattle.wq_ledger.specs.Book.{LedgerState}
 use Rattle.wq_ledger.specs.declared.totals.Totals.{Totals}
 use Rattle.wq_ledger.specs.Balance.{AreWhole, ledgers_of, HasOne, HaveOne, met_total, SumsMet}
 use Rattle.wq_ledger.specs.Totals.{none, with_sender, HasGrown}
-use Rattle.wq_ledger.proofs.Pushes.{not_same}
-
-pub cond_next : (a e : Bool) (m n x : ℕ) → nat_lt m n ≡ a → (m == n) ≡ e → cond {A = ℕ} (nat_lt m (n + 1)) x 0 ≡ cond a x 0 + cond e x 0
-cond_next true true m n x lt eq = let low : m < n = ltb-true m n lt in let same : m ≡ n = eqb-true m n eq in absurd (omega arith)
-cond_next true false m n x lt eq = let low : m < n = ltb-true m n lt in ap (λ (b : Bool). cond b x 0) (lt-ltb m (n + 1) (omega arith)) ∙ omega arith
-cond_next false true m n x lt eq = let same : m ≡ n = eqb-true m n eq in ap (λ (b : Bool). cond b x 0) (lt-ltb m (n + 1) (omega arith)) ∙ omega arith
-cond_next false false m n x lt eq =
-    let high : n ≤ m = ltb-false m n lt in let other : m ≢ n = not_same m n eq in ap (λ (b : Bool). cond b x 0) (le-ltb m (n + 1) (omega arith)) ∙ omega arith
+use Rattle.wq_ledger.proofs.Pushes.{cond_next}
 
 cond_and : (a s : Bool) (x : ℕ) → cond {A = ℕ} (a && s) x 0 ≡ cond a (cond s x 0) 0
 cond_and true s x = refl
@@ -132,39 +125,20 @@ sums_none ledgers seat met is = record {
   contended_room = omega (arith, ap (λ (t : Totals). t.contended) is);
 }
 
+-- a total with the next ledger
+total_more : (f : SenderCounts → ℕ) (seat n : ℕ) (ls : List LedgerState) (l : LedgerState) (met more : ℕ) → n ≢ seat → ledgers_of n ls ≡ l ∷ []
+    → met ≡ met_total f seat n ls → more ≡ met + f l.counts → more ≡ met_total f seat (n + 1) ls
+total_more f seat n ls l met more other one was is = omega (arith, is, was, total_next f seat n ls other, one_sum f n ls l one)
+
 pub sums_next : (ledgers : List LedgerState) (seat n : ℕ) (met : Totals) (l : LedgerState) (more : Totals) → SumsMet ledgers seat n met → n ≢ seat
     → ledgers_of n ledgers ≡ l ∷ [] → AreWhole l.counts → more ≡ with_sender l.counts met
     → HasGrown met more → SumsMet ledgers seat (n + 1) more
 sums_next ledgers seat n met l more sums other one whole is room = record {
   have_one = have_next ledgers seat n sums.have_one (λ _. (l, one, whole));
-  queued_is = omega (
-    arith,
-    ap (λ (t : Totals). t.queued) is,
-    sums.queued_is,
-    total_next (λ c. c.queued) seat n ledgers other,
-    one_sum (λ c. c.queued) n ledgers l one,
-  );
-  pending_is = omega (
-    arith,
-    ap (λ (t : Totals). t.pending) is,
-    sums.pending_is,
-    total_next (λ c. c.pending) seat n ledgers other,
-    one_sum (λ c. c.pending) n ledgers l one,
-  );
-  closed_is = omega (
-    arith,
-    ap (λ (t : Totals). t.closed) is,
-    sums.closed_is,
-    total_next (λ c. c.closed) seat n ledgers other,
-    one_sum (λ c. c.closed) n ledgers l one,
-  );
-  contended_is = omega (
-    arith,
-    ap (λ (t : Totals). t.contended) is,
-    sums.contended_is,
-    total_next (λ c. c.contended) seat n ledgers other,
-    one_sum (λ c. c.contended) n ledgers l one,
-  );
+  queued_is = total_more (λ c. c.queued) seat n ledgers l met.queued more.queued other one sums.queued_is (ap (λ (t : Totals). t.queued) is);
+  pending_is = total_more (λ c. c.pending) seat n ledgers l met.pending more.pending other one sums.pending_is (ap (λ (t : Totals). t.pending) is);
+  closed_is = total_more (λ c. c.closed) seat n ledgers l met.closed more.closed other one sums.closed_is (ap (λ (t : Totals). t.closed) is);
+  contended_is = total_more (λ c. c.contended) seat n ledgers l met.contended more.contended other one sums.contended_is (ap (λ (t : Totals). t.contended) is);
   queued_room = omega (arith, sums.queued_room, room.0);
   pending_room = omega (arith, sums.pending_room, room.1);
   closed_room = omega (arith, sums.closed_room, room.2);

@@ -7,7 +7,6 @@ pub mod Follow
 pub mod State
 pub mod Step
 pub mod Draining
-pub mod Meeting
 pub mod Rows
 pub mod Others
 pub mod Resting

@@ -14,9 +14,10 @@ use Rattle.wq_words.proofs.Growing.{filter_map_push_some, filter_map_push_none}
 use Rattle.wq_words.proofs.Legal.{legal_front, legal_next}
 use Rattle.wq_words.proofs.OtherSeats.{others_keep}
 use Rattle.wq_words.proofs.Listed.{accepted_push_none, taken_push_same, taken_push_push, fresh_push, length-accepted}
-use Rattle.wq_words.proofs.Rest.{wakes_quiet}
+use Rattle.wq_words.proofs.Rest.{not_zero, wakes_quiet}
 use Rattle.wq_live.specs.Batch.{batch, next_of}
 use Rattle.wq_live.specs.Rest.{MayNotRest}
+use Rattle.wq_live.proofs.Reading.{empty_from_next}
 
 begun_still : (v : List Event) (e : Event) → begun_by e ≡ None → begun (v ++ e ∷ []) ≡ begun v
 begun_still v e none = filter_map_push_none begun_by v e none ∙ append-nil (begun v)
@@ -52,25 +53,18 @@ next_still layout v w new is legal none =
 
 -- nothing that was taken waits
 pub none_waits : (h : List Event) → next_of h ≡ None → batch h ≡ []
-none_waits h none = go (batch h) none
-  where
-    go : (ks : List ℕ) → slice_get ks 0 ≡ None → ks ≡ []
-    go [] is = refl
-    go (k ∷ ks) is = absurd (cc)
-
-not_first : (n : ℕ) → 0 < n → (n == 0) ≡ false
-not_first n some = grind (arith, nat_tests)
+none_waits h none = empty_from_next h none
 
 some_fresh : (n : ℕ) → (n == 0) ≡ false → 0 < n
 some_fresh n is = grind (arith, nat_tests)
 
 -- a push keeps the owner from resting, and what kept it from resting still does
 pushed_refuses : (v : List Event) (s k : ℕ) → MayNotRest (v ++ Push s k ∷ [])
-pushed_refuses v s k = inl (not_first (fresh (v ++ Push s k ∷ [])) (omega (arith, fresh_push v (Push s k) refl)))
+pushed_refuses v s k = inl (not_zero (fresh (v ++ Push s k ∷ [])) (omega (arith, fresh_push v (Push s k) refl)))
 
 quiet_refuses : (v : List Event) (e : Event) → is_take e ≡ false → is_push e ≡ false → wakes (v ++ e ∷ []) ≡ wakes v → MayNotRest v → MayNotRest (v ++ e ∷ [])
 quiet_refuses v e no_take no_push still (inl pushed) =
-    inl (not_first (fresh (v ++ e ∷ [])) (omega (arith, some_fresh (fresh v) pushed, rw no_push at (fresh_push v e no_take))))
+    inl (not_zero (fresh (v ++ e ∷ [])) (omega (arith, some_fresh (fresh v) pushed, rw no_push at (fresh_push v e no_take))))
 quiet_refuses v e no_take no_push still (inr rests) = inr (still ∙ rests)
 
 quiet : (v : List Event) (e : Event) → is_take e ≡ false → is_push e ≡ false → is_rest e ≡ false → is_push_or_take e ≡ false → MayNotRest v

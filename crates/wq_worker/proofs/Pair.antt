@@ -38,19 +38,22 @@ paired_after o s q u p a b both legal = record {
 pub owner_grew : (xs : List Event) (n : ℕ) (o s p : Known) → Paired o s → Sees xs n o p → Grows owner_seat xs n o.seen p.seen
 owner_grew xs n o s p pair a = subst (λ (z : ℕ). Grows z xs n o.seen p.seen) pair.seat a.grows
 
--- the owner made steps, and then the sender met it
-pub met_owner : (xs : List Event) (n m k : ℕ) (o s p q u : Known) → Paired o s → Sees xs n o p → Sees [] k p q → Sees [] m s u → q.seen ≡ u.seen
-    → Both xs 0 o s q u
-met_owner xs n m k o s p q u pair a b c both =
-    let g = sees_still xs n k o p q a b in
+-- the owner made steps, and the sender met another seat that sees the same
+pub met_other : (xs : List Event) (n m : ℕ) (o s q u : Known) → Paired o s → Sees xs n o q → Sees [] m s u → q.seen ≡ u.seen → Both xs 0 o s q u
+met_other xs n m o s q u pair b c both =
     let none : Grows s.number [] m o.seen q.seen =
     subst (λ (z : List Event). Grows s.number [] m o.seen z) (sym both) (subst (λ (z : List Event). Grows s.number [] m z u.seen) pair.seen c.grows) in
     record {
-      owner = g.same;
+      owner = b.same;
       sender = c.same;
-      paired = paired_after o s q u pair g.same c.same both g.legal;
-      adds = adds_owner s.number xs n m o.seen q.seen (owner_grew xs n o s q pair g) none;
+      paired = paired_after o s q u pair b.same c.same both b.legal;
+      adds = adds_owner s.number xs n m o.seen q.seen (owner_grew xs n o s q pair b) none;
     }
+
+-- the owner made steps, and then the sender met it
+pub met_owner : (xs : List Event) (n m k : ℕ) (o s p q u : Known) → Paired o s → Sees xs n o p → Sees [] k p q → Sees [] m s u → q.seen ≡ u.seen
+    → Both xs 0 o s q u
+met_owner xs n m k o s p q u pair a b c both = met_other xs n m o s q u pair (sees_still xs n k o p q a b) c both
 
 -- the sender made steps, and then it met the owner
 pub met_sender : (xs : List Event) (n m k : ℕ) (o s t q u : Known) → Paired o s → Sees xs n s t → Sees [] k t u → Sees [] m o q → q.seen ≡ u.seen

@@ -3,8 +3,9 @@ use Rattle.wq_words.specs.Seen.{owner_seat, Grows}
 use Rattle.wq_words.specs.Legal.{IsLegal}
 use Rattle.wq_live.specs.Known.{Known, Sees}
 use Rattle.wq_live.specs.Rest.{Rests, MayNotRest}
+use Rattle.wq_live.proofs.Reading.{empty_from_next}
 use Rattle.wq_worker.specs.Resting.{rest_events}
-use Rattle.wq_worker.proofs.Others.{none_waits, next_still, refuses_still}
+use Rattle.wq_worker.proofs.Others.{next_still, refuses_still}
 use Rattle.wq_worker.proofs.Owned.{stays, owner_grows, quiet_none}
 use Rattle.wq_worker.proofs.Pair.{met_owner}
 use Rattle.wq_worker.proofs.steps.rest.Goals as goal
@@ -14,7 +15,7 @@ seen_of true o p told = told
 seen_of false o p told = told
 
 pub rest-rests-requires-clause-empty : goal.rest-rests-requires-clause-empty
-rest-rests-requires-clause-empty c = none_waits c.args.owner.now.seen c.requires.none.1
+rest-rests-requires-clause-empty c = empty_from_next c.args.owner.now.seen c.requires.none.1
 
 pub returns-clause-both : goal.returns-clause-both
 returns-clause-both c =
