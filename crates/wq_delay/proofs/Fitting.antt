@@ -1,8 +1,8 @@
 -- How much stands in a row, and what is gathered item by item.
-use Rattle.std.proofs.Common.{◌≡◌, ℕ, ◌+◌, ◌<◌, ◌≤◌, ◌==◌, Bool, true, false, cond, ◌||◌, ◌&&◌, Option, Some, None, List, [], ◌∷◌, ◌++◌, map, length, is_ok, refl, sym, ap, ◌∙◌, subst, arith}
+use Rattle.std.proofs.Common.{◌≡◌, ℕ, ◌+◌, ◌<◌, ◌≤◌, ◌==◌, Bool, true, false, cond, ◌||◌, ◌&&◌, Option, Some, None, List, [], ◌∷◌, ◌++◌, map, length, is_ok, refl, sym, ap, ◌∙◌, subst, arith, length-append}
 use Rattle.std.specs.Prelude.{nat_lt, eqb, Result, Ok, Err, OnErr}
 use Rattle.std.specs.List.{All, IsDistinct}
-use Rattle.std.proofs.lemmas.List.{get_or_past, map-append}
+use Rattle.std.proofs.lemmas.List.{get_or_past, map-append, length-map}
 use Rattle.std.proofs.lemmas.List.Elements.{All-nil, All-head, All-tail, All-push}
 use Rattle.std.proofs.lemmas.Map.Steps.{length-le_from_distinct_below}
 use Rattle.std.proofs.lemmas.Bool.{eqb-true}
@@ -10,7 +10,7 @@ use Rattle.std.proofs.lemmas.Bool.Decides.{nat_tests}
 use Rattle.wq_words.specs.DelayTable.{Entry, items, on_table}
 use Rattle.wq_delay.specs.Rows.{entry_of, place_in, times, is_due, AreOnTable, AreDueIn}
 use Rattle.wq_delay.proofs.Rounds.{at_or}
-use Rattle.wq_delay.proofs.Rows.{apart_items, any_item, length_items}
+use Rattle.wq_delay.proofs.Rows.{apart_items, any_item}
 use Rattle.wq_delay.proofs.Looking.{on_push, times_push, times_off}
 use Rattle.wq_delay.proofs.Gathered.{no_times, times_first, no_more_times}
 
@@ -51,7 +51,7 @@ few_rows : (places : List (Option (ℕ × ℕ))) (es : List Entry) → AreOnTabl
 few_rows places es on =
     let low = length-le_from_distinct_below (items es) (length places) (single_distinct es on.single)
     (λ k there. on_low places k es on.valid (sym (any_item k es) ∙ there)) in
-    omega (arith, low, length_items es)
+    omega (arith, low, length-map es (λ e. e.item))
 
 more_on_table : (places : List (Option (ℕ × ℕ))) (es : List Entry) (k : ℕ) (p : ℕ × ℕ) → AreOnTable places es → on_table k es ≡ false
     → place_in places k ≡ Some p → AreOnTable places (es ++ record { due = p.0; arming = p.1; item = k } ∷ [])
@@ -75,15 +75,7 @@ pub row_has_room : (places : List (Option (ℕ × ℕ))) (es : List Entry) (k : 
     → place_in places k ≡ Some p → length es < length places
 row_has_room places es k p on off is =
     let few = few_rows places (es ++ record { due = p.0; arming = p.1; item = k } ∷ []) (more_on_table places es k p on off is) in
-    let n = longer es (record { due = p.0; arming = p.1; item = k }) in omega arith
-  where
-    longer : (xs : List Entry) (x : Entry) → length (xs ++ x ∷ []) ≡ length xs + 1
-    longer [] x = refl
-    longer (y ∷ ys) x = let e = longer ys x in omega arith
-
-pub length_map : (xs : List ((ℕ × ℕ) × ℕ)) → length (map entry_of xs) ≡ length xs
-length_map [] = refl
-length_map (x ∷ xs) = let e = length_map xs in omega arith
+    omega (arith, few, length-append es (record { due = p.0; arming = p.1; item = k } ∷ []))
 
 -- what is gathered item by item
 pub gather_none : (places : List (Option (ℕ × ℕ))) (t : ℕ) → AreDueIn places t 0 []

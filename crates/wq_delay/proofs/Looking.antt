@@ -1,7 +1,8 @@
 -- A slot is looked at place by place, and what is due is moved to the row.
-use Rattle.std.proofs.Common.{◌≡◌, ◌≢◌, ℕ, ◌+◌, ◌-◌, ◌%◌, ◌<◌, ◌≤◌, ◌==◌, Bool, true, false, cond, ◌||◌, Option, Some, None, List, [], ◌∷◌, ◌++◌, length, set, refl, sym, ap, ◌∙◌, subst, arith, zero, suc}
+use Rattle.std.proofs.Common.{◌≡◌, ◌≢◌, ℕ, ◌+◌, ◌-◌, ◌%◌, ◌<◌, ◌≤◌, ◌==◌, Bool, true, false, cond, ◌||◌, Option, Some, None, List, [], ◌∷◌, ◌++◌, length, get_or, set, refl, sym, ap, ◌∙◌, subst, arith, zero, suc}
 use Rattle.std.specs.Prelude.{nat_lt, slice_index}
 use Rattle.std.specs.List.{All}
+use Rattle.std.proofs.lemmas.List.{get_or_read}
 use Rattle.std.proofs.lemmas.List.Elements.{All-push}
 use Rattle.std.proofs.lemmas.Bool.Decides.{nat_tests}
 use Rattle.wq_words.specs.DelayTable.{Entry, on_table}
@@ -189,7 +190,7 @@ module _ (places : List (Option (ℕ × ℕ))) (next previous : List ℕ) (start
     pub item_here : (x < size) × (place_in places x ≡ Some q)
     item_here = (item_low l.gathering x q q_is, (waits_there places row x q q_is).1)
 
-    pub nearer : steps_left places head y < steps_left places head x
+    nearer : steps_left places head y < steps_left places head x
     unfolding steps_left
     nearer =
         let a = number_most places x in let b = number_most places y in
@@ -208,6 +209,12 @@ module _ (places : List (Option (ℕ × ℕ))) (next previous : List ℕ) (start
             let far : y ≢ head = grind (arith, nat_tests) in
             let up = y_rises far in let b = number_most places y in let c = ap number_by q_is in let d = ap number_by item_here.1 in
             let e = less (on_table y row) (place_in places y) in omega arith
+
+    -- and so it is where the next was read
+    pub nearer_read : (z : ℕ) → z ≡ get_or next x z → steps_left places head z < steps_left places head x
+    nearer_read z read =
+        subst (λ (w : ℕ). steps_left places head w < steps_left places head x)
+        (sym (get_or_read next x z (omega (arith, l.low, l.gathering.wheel.next_length)) read 0)) nearer
 
     -- x is due, and is moved to the row
     module _ (p : ℕ × ℕ) (at : place_in places x ≡ Some p) (due : p.0 ≤ now) (next' previous' : List ℕ) (row' : List Entry)

@@ -2,7 +2,7 @@
 use Rattle.std.proofs.Common.{◌≡◌, ℕ, ◌<◌, ◌≤◌, ◌==◌, Bool, true, false, cond, ◌||◌, Option, Some, None, List, [], ◌∷◌, length, get_or, set, is_some, refl, sym, ap, ◌∙◌, subst, arith}
 use Rattle.std.specs.Prelude.{nat_lt, eqb}
 use Rattle.std.specs.List.{AllByRecursion, list_any, IsDistinct}
-use Rattle.std.proofs.lemmas.List.{get_or-set_same, get_or-set_other, get_or_past}
+use Rattle.std.proofs.lemmas.List.{get_or-set_same, get_or-set_other, get_or_past, length-map}
 use Rattle.std.proofs.lemmas.Map.Steps.{length-le_from_distinct_below}
 use Rattle.std.proofs.lemmas.Bool.{eqb-true}
 use Rattle.std.proofs.lemmas.Bool.Decides.{nat_tests}
@@ -72,12 +72,8 @@ pub any_item : (k : ℕ) (es : List Entry) → list_any (eqb k) (items es) ≡ o
 any_item k [] = refl
 any_item k (f ∷ fs) = ap (λ (z : Bool). (k == f.item) || z) (any_item k fs)
 
-pub length_items : (es : List Entry) → length (items es) ≡ length es
-length_items [] = refl
-length_items (e ∷ es) = omega (arith, length_items es)
-
 pub length-le-places : (places : List (Option (ℕ × ℕ))) (es : List Entry) → AreRows places es → length es ≤ length places
 length-le-places places es rows =
     let low = length-le_from_distinct_below (items es) (length places) (distinct_items es rows.ordered)
     (λ k on. in_places places es k rows (sym (any_item k es) ∙ on)) in
-    omega (arith, low, length_items es)
+    omega (arith, low, length-map es (λ e. e.item))

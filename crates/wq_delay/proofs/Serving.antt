@@ -1,10 +1,10 @@
 -- What stands first, and how much stands on a table.
-use Rattle.std.proofs.Common.{◌≡◌, ℕ, zero, suc, ◌<◌, ◌≤◌, Bool, true, false, cond, Option, List, [], ◌∷◌, ◌++◌, map, length, get_or, take, refl, sym, ap, ◌∙◌, arith}
+use Rattle.std.proofs.Common.{◌≡◌, ℕ, zero, suc, ◌<◌, ◌≤◌, Bool, true, false, cond, Option, List, [], ◌∷◌, ◌++◌, map, length, get_or, take, refl, sym, ap, ◌∙◌, subst, arith}
 use Rattle.std.specs.Prelude.{filter}
-use Rattle.wq_words.specs.DelayTable.{Entry, due_part, later_part}
-use Rattle.wq_words.proofs.DelayTable.{due_then_later}
+use Rattle.wq_words.specs.DelayTable.{Entry, on_table, due_part, later_part}
+use Rattle.wq_words.proofs.DelayTable.{first_on, due_then_later}
 use Rattle.wq_delay.specs.Rows.{entry_of, entries_of, AreApart, IsFirstDue, stands, IsTimetable}
-use Rattle.wq_delay.proofs.Rows.{length-le-places}
+use Rattle.wq_delay.proofs.Rows.{in_places, length-le-places}
 use Rattle.wq_delay.proofs.Spelled.{entries_rows}
 use Rattle.std.proofs.lemmas.List.Elements.{All-get_or}
 
@@ -23,6 +23,12 @@ first_kept {X} p (x ∷ xs) (suc i) d low none hit = by (p x) none (λ rest. fir
         → (rest : List X) × (cond b (x ∷ filter p xs) (filter p xs) ≡ get_or xs i d ∷ rest)
     by true is rest = absurd (cc)
     by false is rest = rest is
+
+-- what is due first has a place
+pub first_low : (places : List (Option (ℕ × ℕ))) (t k : ℕ) → AreApart places → IsFirstDue t k (entries_of places) → k < length places
+first_low places t k apart first =
+    in_places places (entries_of places) k (entries_rows places apart)
+    (subst (λ (z : ℕ). on_table z (entries_of places) ≡ true) first.item_is (first_on (entries_of places) first.rest first.first first.is))
 
 module _ (places : List (Option (ℕ × ℕ))) (next previous : List ℕ) (row : List ((ℕ × ℕ) × ℕ)) (room front count tick : ℕ)
     (t : IsTimetable places next previous row room front count tick) where

@@ -5,9 +5,9 @@ use Rattle.std.specs.List.{AllByRecursion}
 use Rattle.std.proofs.lemmas.Bool.{eqb-true}
 use Rattle.std.proofs.lemmas.Bool.Decides.{nat_tests}
 use Rattle.wq_words.specs.DelayTable.{Entry, on_table, IsBefore, IsOrdered}
-use Rattle.wq_words.proofs.DelayTable.{first_false, second_false, all-more}
+use Rattle.wq_words.proofs.DelayTable.{first_false, second_false, all_by, all-more}
 use Rattle.wq_delay.specs.Rows.{place_of, place_in, AreRows, goes_before, slotted, with_place, entries_from, entries_of, AreApart}
-use Rattle.wq_delay.proofs.Table.{place_some, placed_at}
+use Rattle.wq_delay.proofs.Table.{place_some, put_by}
 
 pub not_some : {X : Type 0} (o : Option X) → is_some o ≡ false → o ≡ None
 not_some None is = refl
@@ -105,23 +105,12 @@ all_by_places P (e ∷ es) ordered each = (
 pub place_of-slotted : (j : ℕ) (e : Entry) (es : List Entry) → on_table e.item es ≡ false
     → place_of j (slotted e es) ≡ cond (j == e.item) (Some (e.due, e.arming)) (place_of j es)
 place_of-slotted j e [] off = refl
-place_of-slotted j e (f ∷ fs) off = by (goes_before e f) (place_of-slotted j e fs (second_false _ _ off))
-  where
-    by : (b : Bool) → place_of j (slotted e fs) ≡ cond (j == e.item) (Some (e.due, e.arming)) (place_of j fs)
-        → place_of j (cond b (e ∷ f ∷ fs) (f ∷ slotted e fs)) ≡ cond (j == e.item) (Some (e.due, e.arming)) (place_of j (f ∷ fs))
-    by true is = refl
-    by false is =
-        ap (λ (z : Option (ℕ × ℕ)). cond (j == f.item) (Some (f.due, f.arming)) z) is
-        ∙ placed_at j e.item f.item true (j == e.item) (j == f.item) (Some (e.due, e.arming)) (Some (f.due, f.arming))
-        (place_of j fs) refl refl (first_false _ _ off)
+place_of-slotted j e (f ∷ fs) off =
+    put_by (goes_before e f) j e f fs (slotted e fs) (first_false _ _ off) (place_of-slotted j e fs (second_false _ _ off))
 
 all_slotted : (P : Entry → Type 0) (e : Entry) (es : List Entry) → P e → AllByRecursion P es → AllByRecursion P (slotted e es)
 all_slotted P e [] p all = (p, tt)
-all_slotted P e (f ∷ fs) p all = by (goes_before e f) (all_slotted P e fs p all.1)
-  where
-    by : (b : Bool) → AllByRecursion P (slotted e fs) → AllByRecursion P (cond b (e ∷ f ∷ fs) (f ∷ slotted e fs))
-    by true rest = (p, all)
-    by false rest = (all.0, rest)
+all_slotted P e (f ∷ fs) p all = all_by P (goes_before e f) e (f ∷ fs) (f ∷ slotted e fs) p all (all.0, all_slotted P e fs p all.1)
 
 ordered_slotted : (e : Entry) (es : List Entry) → IsOrdered es → on_table e.item es ≡ false → AllByRecursion (λ f. e.arming ≢ f.arming) es
     → IsOrdered (slotted e es)

@@ -7,7 +7,7 @@ use Rattle.std.proofs.lemmas.List.Elements.{All-head, All-tail, All-take, All-we
 use Rattle.std.proofs.lemmas.Bool.{eqb-true}
 use Rattle.std.proofs.lemmas.Bool.Decides.{nat_tests}
 use Rattle.wq_words.specs.DelayTable.{Entry, on_table, due_part, placed, without, IsOrdered, AreArmedBefore}
-use Rattle.wq_words.proofs.DelayTable.{without_off}
+use Rattle.wq_words.proofs.DelayTable.{length_placed, without_off}
 use Rattle.wq_delay.specs.Rows.{entry_of, place_in, AreRows, entries_of, AreApart, IsWheel, later_than, is_place, stands, IsTimetable}
 use Rattle.wq_delay.proofs.Rounds.{at_or}
 use Rattle.wq_delay.proofs.Wheel.{wheel_behind, wheel_without}
@@ -44,14 +44,6 @@ due_placed t e (f ∷ fs) late = by (nat_lt e.due f.due) (due_placed t e fs late
     by : (b : Bool) → due_part t (placed e fs) ≡ due_part t fs → due_part t (cond b (e ∷ f ∷ fs) (f ∷ placed e fs)) ≡ due_part t (f ∷ fs)
     by true is = let no : nat_le e.due t ≡ false = grind (arith, nat_tests) in rw no refl
     by false is = ap (λ (z : List Entry). cond (nat_le f.due t) (f ∷ z) z) is
-
-length_placed : (e : Entry) (es : List Entry) → length (placed e es) ≡ length es + 1
-length_placed e [] = refl
-length_placed e (f ∷ fs) = by (nat_lt e.due f.due) (length_placed e fs)
-  where
-    by : (b : Bool) → length (placed e fs) ≡ length fs + 1 → length (cond b (e ∷ f ∷ fs) (f ∷ placed e fs)) ≡ length (f ∷ fs) + 1
-    by true is = omega arith
-    by false is = omega arith
 
 length_without : (k : ℕ) (es : List Entry) → IsOrdered es → on_table k es ≡ true → length (without k es) + 1 ≡ length es
 length_without k [] ordered on = absurd (cc)

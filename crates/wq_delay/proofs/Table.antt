@@ -15,24 +15,26 @@ place_some k (f ∷ fs) = by (k == f.item) (place_some k fs)
     by true is = refl
     by false is = is
 
-pub placed_at : {X : Type 0} (j a b : ℕ) (t p q : Bool) (x y z : X) → (j == a) ≡ p → (j == b) ≡ q → (a == b) ≡ false
+placed_at : {X : Type 0} (j a b : ℕ) (t p q : Bool) (x y z : X) → (j == a) ≡ p → (j == b) ≡ q → (a == b) ≡ false
     → cond q y (cond p x z) ≡ cond p x (cond q y z)
 placed_at j a b t true true x y z u v w = absurd (grind (arith, nat_tests))
 placed_at j a b t true false x y z u v w = refl
 placed_at j a b t false q x y z u v w = refl
 
+-- an entry that was put before or behind the first
+pub put_by : (b : Bool) (j : ℕ) (e f : Entry) (fs gs : List Entry) → (e.item == f.item) ≡ false
+    → place_of j gs ≡ cond (j == e.item) (Some (e.due, e.arming)) (place_of j fs)
+    → place_of j (cond b (e ∷ f ∷ fs) (f ∷ gs)) ≡ cond (j == e.item) (Some (e.due, e.arming)) (place_of j (f ∷ fs))
+put_by true j e f fs gs apart is = refl
+put_by false j e f fs gs apart is =
+    ap (λ (z : Option (ℕ × ℕ)). cond (j == f.item) (Some (f.due, f.arming)) z) is
+    ∙ placed_at j e.item f.item true (j == e.item) (j == f.item) (Some (e.due, e.arming)) (Some (f.due, f.arming)) (place_of j fs) refl refl apart
+
 pub place_of-placed : (j : ℕ) (e : Entry) (es : List Entry) → on_table e.item es ≡ false
     → place_of j (placed e es) ≡ cond (j == e.item) (Some (e.due, e.arming)) (place_of j es)
 place_of-placed j e [] off = refl
-place_of-placed j e (f ∷ fs) off = by (nat_lt e.due f.due) (place_of-placed j e fs (second_false _ _ off))
-  where
-    by : (b : Bool) → place_of j (placed e fs) ≡ cond (j == e.item) (Some (e.due, e.arming)) (place_of j fs)
-        → place_of j (cond b (e ∷ f ∷ fs) (f ∷ placed e fs)) ≡ cond (j == e.item) (Some (e.due, e.arming)) (place_of j (f ∷ fs))
-    by true is = refl
-    by false is =
-        ap (λ (z : Option (ℕ × ℕ)). cond (j == f.item) (Some (f.due, f.arming)) z) is
-        ∙ placed_at j e.item f.item true (j == e.item) (j == f.item) (Some (e.due, e.arming)) (Some (f.due, f.arming))
-        (place_of j fs) refl refl (first_false _ _ off)
+place_of-placed j e (f ∷ fs) off =
+    put_by (nat_lt e.due f.due) j e f fs (placed e fs) (first_false _ _ off) (place_of-placed j e fs (second_false _ _ off))
 
 gone_at : {X : Type 0} (j k i : ℕ) (p q r : Bool) (x y n : X) → (j == k) ≡ p → (k == i) ≡ q → (j == i) ≡ r
     → cond (not q) (cond r x (cond p n y)) (cond p n y) ≡ cond p n (cond r x y)

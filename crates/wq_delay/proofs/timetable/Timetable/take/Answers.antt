@@ -21,14 +21,7 @@ returns-in_default-clause-answer c =
     ∙ ap (λ (z : Rows). on_table c.args.item z.entries) c.self.view_is))
 
 pub returns-in_default-clause-entries : goal.returns-in_default-clause-entries
-returns-in_default-clause-entries c =
-    let places : List (Option (ℕ × ℕ)) = c.self.inside.places.items in
-    let low = subst (λ (z : Rows). c.args.item < z.size) (sym c.self.view_is) c.requires in
-    let read = get_or_read places _ _ low c.index.ensures None in
-    let off = sym (sym (ap is_some c.in_default.is)
-    ∙ (ap is_some read ∙ (known_on places (entries_of places) c.args.item (entries_rows places c.self.invariant.apart)
-    ∙ ap (λ (z : Rows). on_table c.args.item z.entries) c.self.view_is))) in
-    sym (without_off c.args.item c.args.self.now.entries off)
+returns-in_default-clause-entries c = sym (without_off c.args.item c.args.self.now.entries (sym (returns-in_default-clause-answer c)))
 
 pub overflow_sub-self : goal.overflow_sub-self
 overflow_sub-self c =
