@@ -1,5 +1,5 @@
 -- The calls of the delay table, by the tests on which they rest.
-use Rattle.std.proofs.Common.{◌≡◌, ℕ, ◌<◌, Bool, true, false, ◌==◌, ◌||◌, ◌&&◌, List, [], ◌∷◌, ap, ◌∙◌, arith, if◌then◌else◌, eq-eqb, ne_eqb}
+use Rattle.std.proofs.Common.{◌≡◌, ℕ, ◌<◌, Bool, true, false, ◌==◌, ◌||◌, ◌&&◌, List, [], ◌∷◌, ap, ◌∙◌, if◌then◌else◌, eq-eqb}
 use Rattle.wq_words.specs.declared.event.Event.{Event}
 use Rattle.wq_words.specs.declared.event.Event.TheVariants.{Hold}
 use Rattle.wq_words.specs.History.{pending, closed}
@@ -8,6 +8,7 @@ use Rattle.wq_words.specs.declared.answer.Modified.{Modified}
 use Rattle.wq_words.specs.declared.answer.Modified.TheVariants as modified
 use Rattle.wq_words.specs.Armed.{armed_of, modified_of}
 use Rattle.wq_words.specs.DelayTable.{DelayTable, on_table, is_too_far, table_with, table_without}
+use Rattle.wq_words.proofs.Rest.{not_zero}
 use Rattle.wq_meaning.specs.Queueing.{queue_events, queue_answer}
 use Rattle.wq_meaning.specs.Arming.{post_event, queues_now, arm_events, arm_table, arm_answer, modify_events, modify_table, modify_answer}
 
@@ -20,9 +21,6 @@ no b x y is = ap (λ (c : Bool). if c then x else y) is
 -- a modification of an item on the table that has no delay
 abbrev pub closed_or_moved : Bool → Modified
 closed_or_moved b = if b then modified.Closed else modified.Moved
-
-some_delay : (delay : ℕ) → 0 < delay → (delay == 0) ≡ false
-some_delay delay some = ne_eqb delay 0 (λ is. absurd (omega (arith, is, some)))
 
 module _ (k delay : ℕ) (h : List Event) where
   -- with no delay, and of a pending item, an arming is a queueing
@@ -37,7 +35,7 @@ module _ (k delay : ℕ) (h : List Event) where
       either false = λ i. true
 
   pub now_never : 0 < delay → pending h k ≡ false → queues_now k delay h ≡ false
-  now_never some clear = ap (λ (b : Bool). b || pending h k) (some_delay delay some) ∙ clear
+  now_never some clear = ap (λ (b : Bool). b || pending h k) (not_zero delay some) ∙ clear
 
 module _ (s k delay : ℕ) (h : List Event) (t : DelayTable) where
   pub arm_far : is_too_far delay t ≡ true → (arm_events s k delay h t ≡ []) × (arm_table k delay h t ≡ t) × (arm_answer k delay h t ≡ armed.TooFar)
@@ -81,7 +79,7 @@ module _ (s k delay : ℕ) (h : List Event) (t : DelayTable) where
 
   pub modify_again : is_too_far delay t ≡ false → on_table k t.entries ≡ true → 0 < delay → (modify_events s k delay h t ≡ [])
       × (modify_table k delay h t ≡ table_with k delay (table_without k t)) × (modify_answer k delay h t ≡ modified.Moved)
-  modify_again near on some = let later : (delay == 0) ≡ false = some_delay delay some in (
+  modify_again near on some = let later : (delay == 0) ≡ false = not_zero delay some in (
     no (is_too_far delay t) _ _ near ∙ (yes (on_table k t.entries) _ _ on ∙ no (delay == 0) _ _ later),
     no (is_too_far delay t) _ _ near ∙ (yes (on_table k t.entries) _ _ on ∙ no (delay == 0) _ _ later),
     no (is_too_far delay t) _ _ near ∙ (yes (on_table k t.entries) _ _ on ∙ ap (λ (b : Bool). closed_or_moved (b && closed h)) later),

@@ -1,5 +1,5 @@
 -- How much a command adds to the history and to the delay table.
-use Rattle.std.proofs.Common.{◌≡◌, ℕ, zero, suc, ◌+◌, ◌*◌, ◌≤◌, Bool, true, false, not, ◌&&◌, nat_le, nat_lt, fold, ◌==◌, List, [], ◌∷◌, ◌++◌, Option, Some, None, length, cond, arith, length-append, if◌then◌else◌}
+use Rattle.std.proofs.Common.{◌≡◌, ℕ, zero, suc, ◌+◌, ◌*◌, ◌≤◌, Bool, true, false, not, ◌&&◌, nat_le, fold, ◌==◌, List, [], ◌∷◌, ◌++◌, Option, Some, None, length, cond, arith, length-append, if◌then◌else◌}
 use Rattle.std.specs.Prelude.{filter}
 use Rattle.std.proofs.lemmas.List.{length-map}
 use Rattle.arrayvec.specs.ArrayVec.{ArrayVec}
@@ -7,7 +7,8 @@ use Rattle.wq_words.specs.declared.event.Event.{Event}
 use Rattle.wq_words.specs.declared.event.Event.TheVariants.{Hold, Busy, Push, Back, Take, Close, Begin, End, Chain, ChainBusy}
 use Rattle.wq_words.specs.declared.event.Why.TheVariants as why
 use Rattle.wq_words.specs.History.{pending, closed, taken, next, begun}
-use Rattle.wq_words.specs.DelayTable.{Entry, DelayTable, placed, without, on_table, due_part, is_too_far, table_with, table_without, table_at}
+use Rattle.wq_words.specs.DelayTable.{Entry, DelayTable, without, on_table, due_part, is_too_far, table_with, table_without, table_at}
+use Rattle.wq_words.proofs.DelayTable.{length_placed}
 use Rattle.wq_meaning.specs.Queueing.{queue_events, close_events}
 use Rattle.wq_meaning.specs.Execution.{follow_of, after_follow, after_run, after_execution, after_executions, go_on}
 use Rattle.wq_meaning.specs.Arming.{post_event, queues_now, arm_events, arm_table, cancel_events, modify_events, modify_table, due_items, advance_events}
@@ -84,14 +85,6 @@ arm_few s k delay h t = each (is_too_far delay t) (queues_now k delay h) (queue_
     each false true le = le
     each false false le = omega arith
 
-placed_one : (e : Entry) (es : List Entry) → length (placed e es) ≡ length es + 1
-placed_one e [] = omega arith
-placed_one e (f ∷ fs) = each (nat_lt e.due f.due) (placed_one e fs)
-  where
-    each : (b : Bool) → length (placed e fs) ≡ length fs + 1 → length (if b then e ∷ f ∷ fs else f ∷ placed e fs) ≡ length (f ∷ fs) + 1
-    each true is = omega arith
-    each false is = omega (arith, is)
-
 split_few : {A : Type 0} (p : A → Bool) (xs : List A) → length (filter p xs) + length (filter (λ x. not (p x)) xs) ≡ length xs
 split_few p [] = omega arith
 split_few p (x ∷ xs) = each (p x) (split_few p xs)
@@ -109,7 +102,7 @@ pub arm_table_few : (k delay : ℕ) (h : List Event) (t : DelayTable) → length
 arm_table_few k delay h t = each (is_too_far delay t) (queues_now k delay h)
   where
     more : length (table_with k delay t).entries ≤ length t.entries + 1
-    more = omega (arith, placed_one (record { due = t.tick + delay; arming = t.next; item = k }) t.entries)
+    more = omega (arith, length_placed (record { due = t.tick + delay; arming = t.next; item = k }) t.entries)
 
     each : (far now : Bool) → length (if far then t else (if now then t else table_with k delay t)).entries ≤ length t.entries + 1
     each true now = omega arith
@@ -141,7 +134,7 @@ modify_table_few k delay h t =
     u = table_without k t
 
     again : length u.entries ≤ length t.entries → length (table_with k delay u).entries ≤ length t.entries + 1
-    again le = omega (arith, le, placed_one (record { due = t.tick + delay; arming = t.next; item = k }) u.entries)
+    again le = omega (arith, le, length_placed (record { due = t.tick + delay; arming = t.next; item = k }) u.entries)
 
     each : (far on at_once : Bool) → length (arm_table k delay h t).entries ≤ length t.entries + 1 → length u.entries ≤ length t.entries
         → length (if far then t else (if on then (if at_once then u else table_with k delay u) else arm_table k delay h t)).entries ≤ length t.entries + 1

@@ -1,10 +1,10 @@
 -- Each call keeps the rule of a ready queue.
-use Rattle.std.proofs.Common.{◌≡◌, ℕ, zero, suc, ◌<◌, ◌≢◌, ◌⊎◌, cond, eqb, List, [], ◌∷◌, ◌++◌, length, set, sym, refl, ap, ◌∙◌, subst, inl, inr, ⊎_elim, arith, append_assoc, length-append, length-set, eq-eqb, ne_eqb, Some, slice_get}
+use Rattle.std.proofs.Common.{◌≡◌, ℕ, zero, suc, ◌<◌, ◌≢◌, cond, eqb, List, [], ◌∷◌, ◌++◌, length, set, sym, refl, ap, ◌∙◌, subst, inl, inr, arith, append_assoc, length-append, length-set, eq-eqb, ne_eqb, Some, slice_get}
 use mathlib.Core.Option.{some, some-injective, some-ne-none}
 use lib.ListN.{get_elem?}
 use Rattle.crossbeam_queue.specs.Fifo.{Pushes, Pops, Forks, Learns}
 use Rattle.crossbeam_queue.proofs.Lists.{at_set}
-use Rattle.wq_words.proofs.Growing.{growing, slice_get_last}
+use Rattle.wq_words.proofs.Growing.{growing, at_end, slice_get_last}
 use Rattle.wq_words.proofs.Prefixes.{prefix_self, prefix_append}
 use Rattle.wq_ready.specs.declared.size.Size.{Size}
 use Rattle.wq_ready.specs.declared.event.ReadyEvent.{ReadyEvent}
@@ -84,13 +84,6 @@ sizes id size some_queue waiting parts r at =
           knows = λ _ _. refl;
         })
     each (suc (suc i)) p there = absurd (some-ne-none p (sym there))
-
-at_end : {A : Type 0} (l : List A) (a b : A) (j : ℕ) → get_elem? (l ++ a ∷ []) j ≡ some b
-    → (get_elem? l j ≡ some b) ⊎ ((j ≡ length l) × (a ≡ b))
-at_end [] a b zero e = inr (refl, some-injective a b e)
-at_end [] a b (suc j) e = absurd (some-ne-none b (sym e))
-at_end (x ∷ xs) a b zero e = inl e
-at_end (x ∷ xs) a b (suc j) e = ⊎_elim inl (λ (t : (j ≡ length xs) × (a ≡ b)). inr (ap suc t.0, t.1)) (at_end xs a b j e)
 
 -- the first caller of a pass gets a pass of its own
 pub parts_one : (id : ℕ) (p : Part) → 0 < p.size.queues → 0 < p.count → Forks KeptReady id p (later_callers p) (first_caller p)
