@@ -1,7 +1,7 @@
 -- One queue more in hand, and one more taken apart.
-use Rattle.std.proofs.Common.{◌≡◌, ℕ, zero, suc, ◌+◌, ◌<◌, List, [], ◌∷◌, ◌++◌, map, length, take, refl, sym, ap, ◌∙◌, subst, arith, length-append, All, Some, None, Option}
-use Rattle.std.proofs.lemmas.List.{take_all}
-use Rattle.std.proofs.lemmas.List.Elements.{All-append}
+use Rattle.std.proofs.Common.{◌≡◌, ℕ, zero, suc, ◌+◌, ◌<◌, List, [], ◌∷◌, ◌++◌, map, length, take, sym, ap, ◌∙◌, subst, arith, length-append, Some, None, Option}
+use Rattle.std.proofs.lemmas.List.{map-append, take_all}
+use Rattle.std.proofs.lemmas.List.Elements.{All-push}
 use Rattle.wq_words.specs.Legal.{IsComplete}
 use Rattle.wq_words.proofs.Growing.{take_more_some}
 use Rattle.wq_ledger.specs.Book.{BookState}
@@ -14,18 +14,6 @@ use Rattle.wq_pool.specs.Finished.{AreFinished}
 use Rattle.wq_pool.specs.Slots.{IsWorkerAt}
 use Rattle.wq_served.proofs.Draining.{left_complete}
 
-pub map_same : {A : Type 0} (xs : List A) → map (λ (x : A). x) xs ≡ xs
-map_same [] = refl
-map_same (x ∷ xs) = ap (λ ys. x ∷ ys) (map_same xs)
-
-map_last : {A B : Type 0} (f : A → B) (xs : List A) (x : A) → map f (xs ++ x ∷ []) ≡ map f xs ++ f x ∷ []
-map_last f [] x = refl
-map_last f (y ∷ ys) x = ap (λ zs. f y ∷ zs) (map_last f ys x)
-
-all_one : {A : Type 0} (P : A → Type 0) (x : A) → P x → All P (x ∷ [])
-all_one P x p zero d low = p
-all_one P x p (suc k) d low = absurd (omega arith)
-
 module _ {W : Type 0} where
   pub first_more : (slots : SlotsState) (turns new : List (TurnState W)) (t : TurnState W) → AreFirst slots turns → length turns < length slots.workers
       → t.slots ≡ slots.id → IsWorkerAt slots.workers (length turns) t.worker → new ≡ turns ++ t ∷ [] → AreFirst slots new
@@ -34,9 +22,8 @@ module _ {W : Type 0} where
       let long : length (turns ++ t ∷ []) ≡ n + 1 = length-append turns (t ∷ []) in
       subst (AreFirst slots) (sym is) record {
         few = omega (arith, long, low);
-        slots_are = All-append (λ (u : TurnState W). u.slots ≡ slots.id) turns (t ∷ []) first.slots_are
-            (all_one (λ (u : TurnState W). u.slots ≡ slots.id) t here);
-        workers_are = map_last turn_id turns t
+        slots_are = All-push (λ (u : TurnState W). u.slots ≡ slots.id) turns t first.slots_are here;
+        workers_are = map-append turn_id turns (t ∷ [])
             ∙ (ap (λ (ids : List WorkerId). ids ++ turn_id t ∷ []) first.workers_are
             ∙ (sym (take_more_some slots.workers n (turn_id t) worker_is) ∙ ap (λ (k : ℕ). take k slots.workers) (sym long)));
       }
@@ -50,8 +37,7 @@ module _ {W : Type 0} where
   left_more slots None left' turns new t zero old told worker_is drained is =
       subst (λ (o : Option (ℕ × ℕ)). LeavesOf slots new o) (sym told)
       (subst (λ (ts : List (TurnState W)). AreComplete ts) (sym is)
-      (All-append (λ (u : TurnState W). IsComplete u.worker.seen) turns (t ∷ []) old
-      (all_one (λ (u : TurnState W). IsComplete u.worker.seen) t (left_complete t.worker drained))))
+      (All-push (λ (u : TurnState W). IsComplete u.worker.seen) turns t old (left_complete t.worker drained)))
   left_more slots None left' turns new t (suc more) old told worker_is drained is =
       subst (λ (o : Option (ℕ × ℕ)). LeavesOf slots new o) (sym told)
       record { worker = t.worker; worker_is = worker_is; drained = drained; some_left = omega arith }
@@ -78,5 +64,5 @@ module _ {W : Type 0} where
   pub finished_next : (log : W → List ℕ) (turns : List (TurnState W)) (t : TurnState W) (done new : List (W × BookState)) (one : W × BookState)
       → AreFinished log (map turn_id turns) done → IsFinished log (turn_id t) one → new ≡ done ++ one ∷ [] → AreFinished log (map turn_id (turns ++ t ∷ [])) new
   finished_next log turns t done new one all is new_is =
-      subst (λ (z : List WorkerId × List (W × BookState)). AreFinished log z.0 z.1) (λ i. (sym (map_last turn_id turns t) i, sym new_is i))
+      subst (λ (z : List WorkerId × List (W × BookState)). AreFinished log z.0 z.1) (λ i. (sym (map-append turn_id turns (t ∷ [])) i, sym new_is i))
       (finished_more log (map turn_id turns) done (turn_id t) one all is)

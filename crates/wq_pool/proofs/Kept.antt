@@ -1,7 +1,7 @@
 -- Each step of a seat keeps the rule of the slots.
 use Rattle.std.proofs.Common.{◌≡◌, ◌≢◌, ℕ, zero, suc, ◌<◌, eqb, List, [], ◌∷◌, map, length, get_or, set, replicate, sym, refl, ap, ◌∙◌, subst, arith}
 use Rattle.std.proofs.Common.{length-set, get_or-set_same, get_or-set_other, eq-eqb, ne_eqb, Bool, Option, Some, None, MatchBool, cond, inl, inr}
-use Rattle.std.proofs.lemmas.List.{length-replicate}
+use Rattle.std.proofs.lemmas.List.{length-map, length-replicate}
 use Rattle.std.proofs.lemmas.Option.{none-some}
 use mathlib.Core.Option.{some, none, some-injective, some-ne-none}
 use mathlib.Core.Logic.{dite}
@@ -38,10 +38,6 @@ workers_of workers hand is = ap (λ (h : Hand). h.workers) (sym is)
 lone_seat : (workers : List WorkerId) (seat : ℕ) (hand : Hand) → get_elem? (empty_hand workers ∷ []) seat ≡ some hand → empty_hand workers ≡ hand
 lone_seat workers zero hand at = some-injective (empty_hand workers) hand at
 lone_seat workers (suc seat) hand at = absurd (some-ne-none hand (sym at))
-
-pub length-map : {A B : Type 0} (f : A → B) (xs : List A) → length (map f xs) ≡ length xs
-length-map f [] = refl
-length-map f (x ∷ xs) = ap suc (length-map f xs)
 
 module _ {W : Type 0} where
   pub comes_allowed : (workers : List WorkerId) (slots q : ℕ)
@@ -176,8 +172,8 @@ module _ {W : Type 0} where
       let ids = map worker_id ws in
       subst (λ (z : List ℕ × List (Option (WorkerState W))). KeptSlots ids (opening z.0 z.1 (empty_hand ids)))
       (λ i. (sym words_are i, sym slots_are i)) record {
-        words_count = length-replicate (length ws) 0 ∙ sym (length-map worker_id ws);
-        slots_count = length-map some (map Some ws) ∙ (length-map Some ws ∙ sym (length-map worker_id ws));
+        words_count = length-replicate (length ws) 0 ∙ sym (length-map ws worker_id);
+        slots_count = length-map (map Some ws) some ∙ (length-map ws Some ∙ sym (length-map ws worker_id));
         keeper = λ _. 0;
         in_slot = λ q low is_zero. at_start ws q low;
         told = λ seat hand at. workers_of ids hand (lone_seat ids seat hand at);

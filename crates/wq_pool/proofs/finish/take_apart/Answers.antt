@@ -1,10 +1,11 @@
 use Rattle.std.proofs.Common.{map, length, sym, ◌∙◌, subst, arith, length-append, List, [], ◌∷◌}
+use Rattle.std.proofs.lemmas.List.{map-id}
 use Rattle.std.proofs.lemmas.Iterator.Adapters.{YieldsList-from_vec}
 use Rattle.std.proofs.lemmas.Iterator.Consumers.{YieldsList-turn, YieldsList-end}
 use Rattle.wq_words.specs.Legal.{IsComplete}
 use Rattle.wq_pool.specs.Finished.{AreFinished}
 use Rattle.wq_pool.specs.Known.{TurnState, turn_id}
-use Rattle.wq_pool.proofs.Gathering.{map_same, finished_next}
+use Rattle.wq_pool.proofs.Gathering.{finished_next}
 use Rattle.wq_pool.proofs.finish.take_apart.Goals as goal
 
 pub into_parts-requires : goal.into_parts-requires
@@ -30,4 +31,4 @@ returns g c =
     let i = c.into_iter-worked-iterator.ensures.into_iter_gives in let l = c.loop-worked in
     let all = YieldsList-end (YieldsList-from_vec {s = c.into_iter-worked-iterator.result} c.args.all.items i.0 (i.1 ∙ c.args.all.ok.0))
     l.yielded l.worked-iterator l.yielded_by c.next.result c.next.new.self c.in-None.is c.next.ensures.steps in
-    subst (λ (ts : List (TurnState _)). AreFinished g.W.Work.log (map turn_id ts) l.finished.items) (sym (map_same l.yielded) ∙ all.0) l.invariant.2
+    subst (λ (ts : List (TurnState _)). AreFinished g.W.Work.log (map turn_id ts) l.finished.items) (sym (map-id l.yielded) ∙ all.0) l.invariant.2
