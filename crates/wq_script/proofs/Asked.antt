@@ -104,9 +104,9 @@ one_with s p x z lt is stays one =
     }
 
 -- where a seat of the queue is, its layout is the queue's
-pub seat_layout : (layout : Layout) (s : Seats) (h : List Event) (p : ℕ) (x : Known) → Seated layout s h → p < length s.senders.items
-    → x ≡ get_or s.senders.items p x → x.layout ≡ s.delay.sender.layout
-seat_layout layout s h p x g lt is = ap (λ (v : Known). v.layout) is ∙ ((g.senders p x (omega (arith, lt, g.count))).layout_is ∙ sym g.delay.layout_is)
+pub seat_layout : (layout : Layout) (s : Seats) (h : List Event) (p : ℕ) (x : Known) (g : Seated layout s h) → p < length s.senders.items
+    → x ≡ get_or s.senders.items p x → x.layout ≡ g.wide
+seat_layout layout s h p x g lt is = ap (λ (v : Known). v.layout) is ∙ (g.senders p x (omega (arith, lt, g.count))).layout_is
 
 answers_stay : (k : ℕ) (a : Answer) (x z : Known) → Answers k 1 a x z → x.queue ≡ z.queue
 answers_stay k (answer.Queued f w) x z told = sym told.0.same.queue_is
@@ -127,10 +127,16 @@ one_answered s p k a x z lt is told one =
       worker = one.worker;
     }
 
+-- where a seat was put, the seats have heard what it saw
+gathered_at : (s t : Seats) (p : ℕ) (x z : Known) → p < length s.senders.items
+    → ((d : Known) → Gathers (get_or (set s.senders.items p z) p d).seen (with_sender s p z) t) → Gathers z.seen (with_sender s p z) t
+gathered_at s t p x z lt all = subst (λ (v : Known). Gathers v.seen (with_sender s p z) t) (get_or-set_same s.senders.items p z x lt) (all x)
+
 pub sender_asked : (layout : Layout) (s t : Seats) (h : List Event) (p k : ℕ) (a : Answer) (x z : Known) → Seated layout s h
     → p < length s.senders.items → x ≡ get_or s.senders.items p x
-    → Answers k 1 a x z → Gathers z.seen (with_sender s p z) t → Asks layout p k a h s t
-sender_asked layout s t h p k a x z g lt is told gathered =
+    → Answers k 1 a x z → ((d : Known) → Gathers (get_or (set s.senders.items p z) p d).seen (with_sender s p z) t) → Asks layout p k a h s t
+sender_asked layout s t h p k a x z g lt is told all =
+    let gathered = gathered_at s t p x z lt all in
     let less : p < layout.senders = omega (arith, lt, g.count) in
     let number : x.number ≡ p = ap (λ (v : Known). v.number) is ∙ (g.senders p x less).number_is in
     let both = asked layout t h p k x z (λ xs n sees. sender_acts layout s t h g p x z xs n less is sees gathered.sender
@@ -139,9 +145,10 @@ sender_asked layout s t h p k a x z g lt is told gathered =
 
 -- a sender looked at a PENDING bit
 pub sender_looked : (layout : Layout) (s t : Seats) (h : List Event) (p : ℕ) (x z : Known) → Seated layout s h → p < length s.senders.items
-    → x ≡ get_or s.senders.items p x
-    → Sees [] 0 x z → Gathers z.seen (with_sender s p z) t → Goes layout h s t × (z.seen ≡ h)
-sender_looked layout s t h p x z g lt is sees gathered =
+    → x ≡ get_or s.senders.items p x → Sees [] 0 x z → ((d : Known) → Gathers (get_or (set s.senders.items p z) p d).seen (with_sender s p z) t)
+    → Goes layout h s t × (z.seen ≡ h)
+sender_looked layout s t h p x z g lt is sees all =
+    let gathered = gathered_at s t p x z lt all in
     let less : p < layout.senders = omega (arith, lt, g.count) in
     let a = sender_acts layout s t h g p x z [] 0 less is sees gathered.sender gathered.owner gathered.delay gathered.senders
     gathered.work.tries_is gathered.legal in (

@@ -1,20 +1,19 @@
 -- What the delay table's sender did, and what an arming is in a script.
-use Rattle.std.proofs.Common.{◌≡◌, ℕ, ◌+◌, ◌<◌, Bool, true, false, List, [], ◌∷◌, ◌++◌, refl, sym, ap, ◌∙◌, subst, arith}
+use Rattle.std.proofs.Common.{◌≡◌, ℕ, ◌+◌, Bool, true, false, List, [], ◌∷◌, ◌++◌, refl, sym, ap, ◌∙◌, subst, arith}
 use Rattle.std.specs.Prelude.{IsTrue, ◌↔◌}
-use Rattle.std.proofs.lemmas.List.{append-nil}
 use Rattle.wq_words.specs.declared.layout.Layout.{Layout}
 use Rattle.wq_words.specs.declared.event.Event.{Event}
 use Rattle.wq_words.specs.declared.event.Event.TheVariants.{Hold, Busy}
 use Rattle.wq_words.specs.History.{pending}
-use Rattle.wq_words.specs.Legal.{IsLegal}
 use Rattle.wq_words.proofs.Legal.{legal_next}
 use Rattle.wq_words.specs.declared.answer.Answer.TheVariants as queueing
 use Rattle.wq_words.specs.declared.answer.Armed.{Armed}
 use Rattle.wq_words.specs.declared.answer.Armed.TheVariants as armed
 use Rattle.wq_words.specs.Armed.{armed_of}
 use Rattle.wq_words.specs.DelayTable.{DelayTable, is_too_far}
-use Rattle.wq_live.specs.Known.{Known, Sees}
+use Rattle.wq_live.specs.Known.{Sees}
 use Rattle.wq_delay.specs.Delay.{DelayState, IsFit, Arms}
+use Rattle.wq_delay.proofs.Going.{sees_none}
 use Rattle.wq_meaning.specs.Queueing.{queue_events, queue_answer}
 use Rattle.wq_meaning.specs.Arming.{queues_now, arm_events, arm_table, arm_answer}
 use Rattle.wq_meaning.proofs.Armings.{now_at_once, now_pending, now_never, arm_far, arm_now, arm_later}
@@ -28,14 +27,6 @@ use Rattle.wq_script.proofs.Queueings.{not_pending, is_pending}
 pub near_is : (b : Bool) → ¬ IsTrue b → b ≡ false
 near_is true near = absurd (near refl)
 near_is false near = refl
-
--- a seat that did nothing
-sees_self : (k : Known) → IsLegal k.layout k.seen → Sees [] 0 k k
-sees_self k legal = record {
-  same = record { queue_is = refl; layout_is = refl; number_is = refl };
-  grows = record { new = []; is = sym (append-nil k.seen); mine = refl; theirs = omega arith };
-  legal = legal;
-}
 
 module _ (layout : Layout) (s t : Seats) (h : List Event) (g : Seated layout s h) (d : DelayState)
     (gathered : Gathers d.sender.seen (record { worker = s.worker; delay = d; senders = s.senders }) t) where
@@ -61,7 +52,7 @@ module _ (layout : Layout) (s t : Seats) (h : List Event) (g : Seated layout s h
 
   pub goes_nowhere : d ≡ s.delay → IsFit s.delay → GoesWithTable layout (h ++ []) s.delay.table s t
   goes_nowhere same fit =
-      let a = acts [] 0 (subst (λ (e : DelayState). Sees [] 0 s.delay.sender e.sender) (sym same) (sees_self s.delay.sender fit.legal)) in
+      let a = acts [] 0 (subst (λ (e : DelayState). Sees [] 0 s.delay.sender e.sender) (sym same) (sees_none s.delay.sender fit.legal)) in
       goes_with [] [] s.delay.table a.seated refl (ap (λ (e : DelayState). e.table) same)
 
   module _ (k delay : ℕ) (fit : IsFit s.delay) where

@@ -1,5 +1,5 @@
 -- Cancellings, modifications and advances of a delay table, and what they are in a script.
-use Rattle.std.proofs.Common.{◌≡◌, ℕ, ◌+◌, ◌<◌, Bool, true, false, List, [], ◌∷◌, ◌++◌, map, inl, inr, refl, sym, ap, ◌∙◌, subst, arith, append_assoc, if◌then◌else◌}
+use Rattle.std.proofs.Common.{◌≡◌, ℕ, ◌+◌, Bool, true, false, List, [], ◌∷◌, ◌++◌, map, inl, inr, refl, sym, ap, ◌∙◌, subst, arith, append_assoc, if◌then◌else◌}
 use Rattle.std.specs.Prelude.{MatchBool, IsTrue, ◌↔◌}
 use Rattle.std.specs.List.{AllZip}
 use Rattle.std.proofs.lemmas.List.{append-nil}
@@ -16,16 +16,14 @@ use Rattle.wq_words.specs.declared.answer.Armed.TheVariants as armed
 use Rattle.wq_words.specs.declared.answer.Modified.{Modified}
 use Rattle.wq_words.specs.declared.answer.Modified.TheVariants as modified
 use Rattle.wq_words.specs.Armed.{modified_of}
-use Rattle.wq_words.specs.DelayTable.{DelayTable, Entry, items, on_table, due_part, is_too_far, table_without, table_at}
+use Rattle.wq_words.specs.DelayTable.{Entry, items, on_table, due_part, is_too_far, table_without, table_at}
 use Rattle.wq_words.proofs.DelayTable.{without_off}
-use Rattle.wq_live.specs.Known.{Sees}
 use Rattle.wq_delay.specs.Delay.{DelayState, IsFit, IsOut, lost_tries, Arms, Cancels, Rearms, ArmsAnew, Modifies, PostsDue}
 use Rattle.wq_meaning.specs.Arming.{post_event, cancel_events, modify_events, modify_table, modify_answer, due_items, advance_events}
 use Rattle.wq_meaning.proofs.Armings.{closed_or_moved, modify_far, modify_off, modify_now, modify_again}
 use Rattle.wq_script.specs.declared.seats.Seats.{Seats}
 use Rattle.wq_script.specs.Seats.{Gathers, Seated}
 use Rattle.wq_script.specs.Arming.{GoesWithTable}
-use Rattle.wq_script.proofs.Seated.{Acts}
 use Rattle.wq_script.proofs.Delayed.{acts, seated_by, goes_with, goes_nowhere, armed_so, near_is}
 
 module _ (wide : Layout) (s k : ℕ) (h : List Event) where

@@ -8,7 +8,6 @@ use Rattle.wq_words.proofs.Prefixes.{prefix_length}
 use Rattle.wq_words.specs.Seen.{owner_seat}
 use Rattle.wq_words.proofs.Seen.{count_same, ended_same}
 use Rattle.wq_words.specs.Counting.{is_queued_by, is_pending_by, is_closed_by, is_chain, is_chain_busy, is_busy, is_refusal}
-use Rattle.wq_live.specs.Counts.{capped}
 use Rattle.wq_ledger.specs.declared.totals.Totals.{Totals}
 use Rattle.wq_ledger.specs.Totals.{own_totals}
 use Rattle.wq_words.proofs.Appended.{accepted-count}

@@ -17,8 +17,9 @@ use Rattle.wq_words.specs.History.{begun, ended, taken, closed, next, IsRunning}
 use Rattle.wq_words.specs.Legal.{IsLegal}
 use Rattle.wq_words.specs.Seen.{is_ours}
 use Rattle.wq_worker.specs.declared.ran.Ran.TheVariants.{Nothing}
-use Rattle.wq_worker.specs.Seats.{taking, Adds}
-use Rattle.wq_worker.proofs.Seats.{adds_on, adds_none}
+use Rattle.wq_worker.specs.Seats.{taking}
+use Rattle.wq_worker.proofs.Seats.{adds_none}
+use Rattle.wq_worker.proofs.Step.{moves_on}
 use Rattle.wq_worker.specs.State.{WorkerState, Moves}
 use Rattle.wq_worker.specs.Step.{Starts, item, other, owed, Ends, ends, Owes, owes, Runs}
 use Rattle.wq_worker.specs.Follow.{Follows}
@@ -148,16 +149,6 @@ pub record RowSoFar (ends : ℕ → Bool) (limit left : ℕ) (a b : WorkerState 
   pub moves : Moves events others a b
   pub lists : b.work.follows ≡ a.work.follows
   pub quiet : (wide : Layout) (z : List Event) → IsWorkerIdle wide a → Quiet wide a.number a.seen z → IsPrefix b.seen z → SoFar ends limit left a b ran
-
-pub moves_on : (xs ys : List Event) (n m : ℕ) (a b c : WorkerState Lists) → Moves xs n a b → Moves ys m b c → Moves (xs ++ ys) (n + m) a c
-moves_on xs ys n m a b c x y = record {
-  queue = y.queue ∙ x.queue;
-  layout = y.layout ∙ x.layout;
-  number = y.number ∙ x.number;
-  tries = y.tries ∙ x.tries;
-  adds = adds_on a.number xs ys n m a.seen b.seen c.seen x.adds (subst (λ (s : ℕ). Adds s ys m b.seen c.seen) x.number y.adds);
-  legal = y.legal;
-}
 
 -- the worker is ready again, and what comes is quiet
 still_ready : (wide : Layout) (xs : List Event) (n : ℕ) (a b : WorkerState Lists) → IsWorkerIdle wide a → Moves xs n a b

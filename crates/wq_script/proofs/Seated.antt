@@ -1,8 +1,8 @@
 -- Seats of one queue, of which one acts.
-use Rattle.std.proofs.Common.{◌≡◌, ◌≢◌, ℕ, ◌+◌, ◌<◌, ◌≤◌, Bool, true, false, not, ◌==◌, ◌||◌, ◌⊎◌, List, [], ◌++◌, length, get_or, set, arith, inl, inr, refl, sym, ◌∙◌, subst, eq-eqb, ne_eqb}
+use Rattle.std.proofs.Common.{◌≡◌, ◌≢◌, ℕ, ◌+◌, ◌<◌, ◌≤◌, Bool, true, false, not, ◌==◌, ◌||◌, ◌⊎◌, List, [], ◌++◌, length, get_or, set, arith, inl, inr, refl, sym, ◌∙◌, subst, eq-eqb}
 use Rattle.std.specs.Prelude.{filter}
 use Rattle.std.proofs.lemmas.List.{get_or-set_other, get_or-set_same, length-set}
-use Rattle.std.proofs.lemmas.Bool.{cases_lt, cases_eq, false≢true}
+use Rattle.std.proofs.lemmas.Bool.{cases_lt, cases_eq, eqb-true, eqb-false, or_parts, false≢true}
 use mathlib.Core.List.{IsPrefix}
 use Rattle.wq_live.specs.Known.{QueueId}
 use Rattle.wq_words.specs.declared.layout.Layout.{Layout}
@@ -18,20 +18,6 @@ use Rattle.wq_script.specs.Seats.{Hears, AllHear, IsAt, IsWider, Seated, sender_
 use Rattle.wq_words.proofs.Prefixes.{prefix_on}
 use Rattle.wq_words.proofs.Seen.{own_between}
 use Rattle.wq_script.proofs.Alone.{IsSeat, settle}
-
-eqb_true : (a b : ℕ) → (a == b) ≡ true → a ≡ b
-eqb_true a b is = elim (cases_eq a b) [ inl same ↦ same | inr ne ↦ absurd (false≢true (sym (ne_eqb a b ne) ∙ is)) ]
-
-eqb_false : (a b : ℕ) → (a == b) ≡ false → a ≢ b
-eqb_false a b is same = false≢true (sym is ∙ eq-eqb a b same)
-
-or_left : (a b : Bool) → (a || b) ≡ false → a ≡ false
-or_left true b is = is
-or_left false b is = refl
-
-or_right : (a b : Bool) → (a || b) ≡ false → b ≡ false
-or_right true b is = absurd (false≢true (sym is))
-or_right false b is = is
 
 or_either : (a b : Bool) → (a || b) ≡ true → (a ≡ true) ⊎ (b ≡ true)
 or_either true b is = inl refl
@@ -107,7 +93,7 @@ module _ (layout : Layout) (s t : Seats) (h : List Event) (g : Seated layout s h
       let some : n ≤ length (others p new) = subst (λ (m : ℕ). n ≤ length (others m new)) at.number_is sees.grows.theirs in
       let legal : IsLegal g.wide k.seen = subst (λ (l : Layout). IsLegal l k.seen) (sees.same.layout_is ∙ at.layout_is) sees.legal in
       let done = settle g.wide (λ c. c == p) h x.seen k.seen new xs n at.begins
-      (λ c seat on. subst (λ (m : ℕ). own m x.seen ≡ own m h) (sym (eqb_true c p on)) at.mine) sees.grows.is mine some legal others_same in
+      (λ c seat on. subst (λ (m : ℕ). own m x.seen ≡ own m h) (sym (eqb-true c p on)) at.mine) sees.grows.is mine some legal others_same in
       settled x.seen k.seen xs n done.0 done.1 done.2 (seated legal)
 
   -- a sender acted, and then all heard what it had seen
@@ -130,7 +116,7 @@ module _ (layout : Layout) (s t : Seats) (h : List Event) (g : Seated layout s h
       (senders.each p d (omega (arith, lt, g.count, length-set q p k))) in
       let others_same : (c : ℕ) → IsSeat g.wide c → (c == p) ≡ false → own c z ≡ own c h =
       none_of_others layout g.wide (λ c. c == p) h z g.wider
-      (λ i less no. still_none g.queue g.wide i h z (get_or q i x) (get_or t.senders.items i x) begins (g.senders i x less) (other i x less (eqb_false i p no)))
+      (λ i less no. still_none g.queue g.wide i h z (get_or q i x) (get_or t.senders.items i x) begins (g.senders i x less) (other i x less (eqb-false i p no)))
       (λ no. still_none g.queue g.wide layout.senders h z (sender_of s.worker) (sender_of t.worker) begins g.sender sender)
       (λ no. still_none g.queue g.wide (layout.senders + 1) h z s.delay.sender t.delay.sender begins g.delay delay)
       (λ no. still_none g.queue g.wide owner_seat h z (owner_of s.worker) (owner_of t.worker) begins g.owner owner) in
@@ -210,13 +196,13 @@ module _ (layout : Layout) (s t : Seats) (h : List Event) (g : Seated layout s h
       let others_same : (c : ℕ) → IsSeat g.wide c → f c ≡ false → own c z ≡ own c h = none_of_others layout g.wide f h z g.wider
       (λ i less no. still_none g.queue g.wide i h z (get_or q i s.delay.sender) (get_or t.senders.items i s.delay.sender) begins
       (g.senders i s.delay.sender less) (senders.each i s.delay.sender (omega (arith, less, g.count))))
-      (λ no. absurd (false≢true (sym (or_left (p == p) (p == owner_seat) no) ∙ eq-eqb p p refl)))
+      (λ no. absurd (false≢true (sym ((or_parts (p == p) (p == owner_seat) no).0) ∙ eq-eqb p p refl)))
       (λ no. still_none g.queue g.wide (p + 1) h z s.delay.sender t.delay.sender begins g.delay delay)
-      (λ no. absurd (false≢true (sym (or_right (owner_seat == p) (owner_seat == owner_seat) no) ∙ eq-eqb owner_seat owner_seat refl))) in
+      (λ no. absurd (false≢true (sym ((or_parts (owner_seat == p) (owner_seat == owner_seat) no).1) ∙ eq-eqb owner_seat owner_seat refl))) in
       let done = settle g.wide f h v z new xs n g.sender.begins
       (λ c seat on. elim (or_either (c == p) (c == owner_seat) on) [
-        | inl is ↦ subst (λ (m : ℕ). own m v ≡ own m h) (sym (eqb_true c p is)) g.sender.mine
-        | inr is ↦ subst (λ (m : ℕ). own m v ≡ own m h) (sym (eqb_true c owner_seat is)) g.owner.mine
+        | inl is ↦ subst (λ (m : ℕ). own m v ≡ own m h) (sym (eqb-true c p is)) g.sender.mine
+        | inr is ↦ subst (λ (m : ℕ). own m v ≡ own m h) (sym (eqb-true c owner_seat is)) g.owner.mine
       ]) moves.adds.is mine some legal others_same in (
         settled v z xs n done.0 done.1 done.2 record {
           queue = g.queue;

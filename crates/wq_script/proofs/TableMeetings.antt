@@ -14,6 +14,7 @@ use Rattle.wq_script.specs.Arming.{GoesWithTable, ArmsAs, CancelsAs, ModifiesAs,
 use Rattle.wq_script.specs.Counting.{Tallied, counted_armed, counted_modified, counted_posts}
 use Rattle.wq_script.specs.Engine.{Meets}
 use Rattle.wq_script.proofs.Answered.{other_seat, no_owner_seat, arm_counts, cancel_counts, modify_counts, advance_counts}
+use Rattle.wq_script.proofs.Tallies.{Foreign}
 use Rattle.wq_script.proofs.Meetings.{engine, table_meets}
 
 module _ (layout : Layout) (a b : Seats) (x u : Tally) (s : ScriptState) (m : Meets (engine layout a x) s) where
@@ -28,55 +29,42 @@ module _ (layout : Layout) (a b : Seats) (x u : Tally) (s : ScriptState) (m : Me
   abbrev pub MeetsOn : List Event → DelayTable → Type 0
   MeetsOn es now = Meets (engine layout b u) (record s { history = s.history ++ es; table = now })
 
+  -- what a call of the delay table told, where it rests on the table alone
+  told_meets : {X : Type 0} (got : X) (answer : DelayTable → X) (es : DelayTable → List Event) (now : DelayTable → DelayTable) (counts : X → Tally)
+      → (got ≡ answer a.delay.table) × GoesWithTable layout (s.history ++ es a.delay.table) (now a.delay.table) a b
+      → Tallied (counts (answer s.table)) w (s.history ++ es s.table) × Foreign w (es s.table) → u ≡ counts got
+      → MeetsOn (es s.table) (now s.table) × (got ≡ answer s.table)
+  told_meets got answer es now counts told n is =
+      let same : got ≡ answer s.table = told.0 ∙ ap answer m.table in
+      let P : Tally → Type 0 = λ v. Tallied v w (s.history ++ es s.table) in
+      let Q : DelayTable → Type 0 = λ t. GoesWithTable layout (s.history ++ es t) (now t) a b in
+      (table_meets layout a b x u s (es s.table) (now s.table) m (subst Q m.table told.1) (subst P (sym (is ∙ ap counts same)) n.0) n.1, same)
+
   module _ (k delay : ℕ) where
     pub armed_meets : (got : Armed) → ArmsAs k delay got a b → u ≡ counted_armed got x
         → MeetsOn (arm_events p k delay s.history s.table) (arm_table k delay s.history s.table) × (got ≡ arm_answer k delay s.history s.table)
-    armed_meets got arms counts =
-        let told = arms layout s.history m.seated in
-        let es : List Event = arm_events p k delay s.history s.table in
-        let same : got ≡ arm_answer k delay s.history s.table = told.0 ∙ ap (arm_answer k delay s.history) m.table in
-        let n = arm_counts w p k s.history x (other_seat layout) (no_owner_seat layout) m.tally delay s.table in
-        let P : Tally → Type 0 = λ v. Tallied v w (s.history ++ es) in
-        let Q : DelayTable → Type 0 = λ t. GoesWithTable layout (s.history ++ arm_events p k delay s.history t) (arm_table k delay s.history t) a b in
-        let tally : P u = subst P (sym (counts ∙ ap (λ (y : Armed). counted_armed y x) same)) n.0 in
-        (table_meets layout a b x u s es (arm_table k delay s.history s.table) m (subst Q m.table told.1) tally n.1, same)
+    armed_meets got arms =
+        told_meets got (arm_answer k delay s.history) (arm_events p k delay s.history) (arm_table k delay s.history) (λ y. counted_armed y x)
+        (arms layout s.history m.seated) (arm_counts w p k s.history x (other_seat layout) (no_owner_seat layout) m.tally delay s.table)
 
     pub modified_meets : (got : Modified) → ModifiesAs k delay got a b → u ≡ counted_modified delay got x
         → MeetsOn (modify_events p k delay s.history s.table) (modify_table k delay s.history s.table) × (got ≡ modify_answer k delay s.history s.table)
-    modified_meets got modifies counts =
-        let told = modifies layout s.history m.seated in
-        let es : List Event = modify_events p k delay s.history s.table in
-        let same : got ≡ modify_answer k delay s.history s.table = told.0 ∙ ap (modify_answer k delay s.history) m.table in
-        let n = modify_counts w p k s.history x (other_seat layout) (no_owner_seat layout) m.tally delay s.table in
-        let P : Tally → Type 0 = λ v. Tallied v w (s.history ++ es) in
-        let Q : DelayTable → Type 0 = λ t. GoesWithTable layout (s.history ++ modify_events p k delay s.history t) (modify_table k delay s.history t) a b in
-        let tally : P u = subst P (sym (counts ∙ ap (λ (y : Modified). counted_modified delay y x) same)) n.0 in
-        (table_meets layout a b x u s es (modify_table k delay s.history s.table) m (subst Q m.table told.1) tally n.1, same)
+    modified_meets got modifies =
+        told_meets got (modify_answer k delay s.history) (modify_events p k delay s.history) (modify_table k delay s.history)
+        (λ y. counted_modified delay y x) (modifies layout s.history m.seated)
+        (modify_counts w p k s.history x (other_seat layout) (no_owner_seat layout) m.tally delay s.table)
 
   pub cancelled_meets : (k : ℕ) (was_on_table : Bool) → CancelsAs k was_on_table a b → u ≡ x
       → MeetsOn (cancel_events p k s.table) (table_without k s.table) × (was_on_table ≡ on_table k s.table.entries)
-  cancelled_meets k was_on_table cancels counts =
-      let told = cancels layout s.history m.seated in
-      let es : List Event = cancel_events p k s.table in
-      let n = cancel_counts w p k s.history x (other_seat layout) (no_owner_seat layout) m.tally s.table in
-      let P : Tally → Type 0 = λ v. Tallied v w (s.history ++ es) in
-      let Q : DelayTable → Type 0 = λ t. GoesWithTable layout (s.history ++ cancel_events p k t) (table_without k t) a b in (
-        table_meets layout a b x u s es (table_without k s.table) m (subst Q m.table told.1) (subst P (sym counts) n.0) n.1,
-        told.0 ∙ ap (λ (t : DelayTable). on_table k t.entries) m.table,
-      )
+  cancelled_meets k was_on_table cancels =
+      told_meets was_on_table (λ t. on_table k t.entries) (cancel_events p k) (table_without k) (λ _. x) (cancels layout s.history m.seated)
+      (cancel_counts w p k s.history x (other_seat layout) (no_owner_seat layout) m.tally s.table)
 
   pub posted_meets : (tick : ℕ) (due : List ℕ) → IsPosted tick due a b → u ≡ counted_posts (closed s.history) (length due) x
       → MeetsOn (advance_events p tick s.history s.table) (table_at tick [] s.table) × (due ≡ due_items tick s.table) × (s.table.tick ≤ tick)
   posted_meets tick due posted counts =
       let told = posted layout s.history m.seated in
-      let es : List Event = advance_events p tick s.history s.table in
-      let same : due ≡ due_items tick s.table = told.1 ∙ ap (due_items tick) m.table in
-      let n = advance_counts w p tick s.history x s.table (other_seat layout) (no_owner_seat layout) m.tally in
-      let P : Tally → Type 0 = λ v. Tallied v w (s.history ++ es) in
-      let Q : DelayTable → Type 0 = λ t. GoesWithTable layout (s.history ++ advance_events p tick s.history t) (table_at tick [] t) a b in
       let R : DelayTable → Type 0 = λ t. t.tick ≤ tick in
-      let tally : P u = subst P (sym (counts ∙ ap (λ (ks : List ℕ). counted_posts (closed s.history) (length ks) x) same)) n.0 in (
-        table_meets layout a b x u s es (table_at tick [] s.table) m (subst Q m.table told.2) tally n.1,
-        same,
-        subst R m.table told.0,
-      )
+      let meets = told_meets due (due_items tick) (advance_events p tick s.history) (table_at tick []) (λ ks. counted_posts (closed s.history) (length ks) x)
+      (told.1, told.2) (advance_counts w p tick s.history x s.table (other_seat layout) (no_owner_seat layout) m.tally) counts in
+      (meets.0, meets.1, subst R m.table told.0)

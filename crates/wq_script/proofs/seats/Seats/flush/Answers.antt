@@ -1,10 +1,8 @@
 use Rattle.std.proofs.Common.{ℕ, ◌+◌, ap, ◌∙◌, subst}
-use Rattle.std.proofs.lemmas.List.{get_or-set_same}
 use Rattle.wq_words.specs.declared.layout.Layout.{Layout}
 use Rattle.wq_live.specs.Known.{Known}
 use Rattle.wq_live.specs.Answers.{Answers}
-use Rattle.wq_script.specs.Seats.{Gathers}
-use Rattle.wq_script.proofs.Asked.{with_sender, seat_layout, sender_asked}
+use Rattle.wq_script.proofs.Asked.{seat_layout, sender_asked}
 use Rattle.wq_script.proofs.seats.Seats.flush.Goals as goal
 
 pub returns : goal.returns
@@ -13,9 +11,7 @@ returns c = λ layout h g.
     let x : Known = c.index_mut.result.now in
     let z : Known = c.flush_begin-answer.new.self in
     let t = c.gather.new.self in
-    let all : Gathers z.seen (with_sender s p z) t =
-    subst (λ (v : Known). Gathers v.seen (with_sender s p z) t) (get_or-set_same s.senders.items p z x c.requires.place) (c.gather.ensures.sender x) in
     sender_asked layout s t h p (layout.items + c.args.barrier) c.flush_begin-answer.result x z g c.requires.place c.index_mut.ensures.value
     (subst (λ (m : ℕ). Answers (m + c.args.barrier) 1 c.flush_begin-answer.result x z)
-    (ap (λ (l : Layout). l.items) (seat_layout layout s h p x g c.requires.place c.index_mut.ensures.value ∙ g.delay.layout_is)
-    ∙ g.wider.items) c.flush_begin-answer.ensures.answer) all
+    (ap (λ (l : Layout). l.items) (seat_layout layout s h p x g c.requires.place c.index_mut.ensures.value)
+    ∙ g.wider.items) c.flush_begin-answer.ensures.answer) c.gather.ensures.sender

@@ -1,11 +1,9 @@
-use Rattle.std.proofs.Common.{ℕ, ◌+◌, ◌<◌, not, List, length, ap, ◌∙◌, subst}
-use Rattle.std.proofs.lemmas.List.{get_or-set_same}
+use Rattle.std.proofs.Common.{ℕ, ◌+◌, ◌<◌, not, List, length, ap, ◌∙◌}
 use Rattle.wq_words.specs.declared.layout.Layout.{Layout}
 use Rattle.wq_words.specs.declared.event.Event.{Event}
 use Rattle.wq_words.specs.History.{pending}
 use Rattle.wq_live.specs.Known.{Known}
-use Rattle.wq_script.specs.Seats.{Gathers}
-use Rattle.wq_script.proofs.Asked.{with_sender, seat_layout, sender_looked}
+use Rattle.wq_script.proofs.Asked.{seat_layout, sender_looked}
 use Rattle.wq_script.proofs.seats.Seats.is_flushed.Goals as goal
 
 pub returns : goal.returns
@@ -15,11 +13,9 @@ returns c = λ layout h g.
     let z : Known = c.flush_done-is_flushed.new.self in
     let t = c.gather.new.self in
     let lt : p < length s.senders.items = c.requires.place in
-    let all : Gathers z.seen (with_sender s p z) t =
-    subst (λ (v : Known). Gathers v.seen (with_sender s p z) t) (get_or-set_same s.senders.items p z x lt) (c.gather.ensures.sender x) in
-    let looked = sender_looked layout s t h p x z g lt c.index_mut.ensures.value c.flush_done-is_flushed.ensures.seen all in (
+    let looked = sender_looked layout s t h p x z g lt c.index_mut.ensures.value c.flush_done-is_flushed.ensures.seen c.gather.ensures.sender in (
       looked.0,
       c.flush_done-is_flushed.ensures.clear ∙ (ap (λ (y : List Event). not (pending y (x.layout.items + c.args.barrier))) looked.1
           ∙ ap (λ (n : ℕ). not (pending h (n + c.args.barrier)))
-          (ap (λ (l : Layout). l.items) (seat_layout layout s h p x g lt c.index_mut.ensures.value ∙ g.delay.layout_is) ∙ g.wider.items)),
+          (ap (λ (l : Layout). l.items) (seat_layout layout s h p x g lt c.index_mut.ensures.value) ∙ g.wider.items)),
     )

@@ -1,10 +1,8 @@
-use Rattle.std.proofs.Common.{ℕ, ◌<◌, List, length, ap, ◌∙◌, subst}
-use Rattle.std.proofs.lemmas.List.{get_or-set_same}
+use Rattle.std.proofs.Common.{ℕ, ◌<◌, List, length, ap, ◌∙◌}
 use Rattle.wq_words.specs.declared.event.Event.{Event}
 use Rattle.wq_words.specs.History.{pending}
 use Rattle.wq_live.specs.Known.{Known}
-use Rattle.wq_script.specs.Seats.{Gathers}
-use Rattle.wq_script.proofs.Asked.{with_sender, sender_looked}
+use Rattle.wq_script.proofs.Asked.{sender_looked}
 use Rattle.wq_script.proofs.seats.Seats.is_pending.Goals as goal
 
 pub returns : goal.returns
@@ -14,7 +12,5 @@ returns c = λ layout h g.
     let z : Known = c.is_pending-is_pending.new.self in
     let t = c.gather.new.self in
     let lt : p < length s.senders.items = c.requires.some in
-    let all : Gathers z.seen (with_sender s p z) t =
-    subst (λ (v : Known). Gathers v.seen (with_sender s p z) t) (get_or-set_same s.senders.items p z x lt) (c.gather.ensures.sender x) in
-    let looked = sender_looked layout s t h p x z g lt c.index_mut.ensures.value c.is_pending-is_pending.ensures.seen all in
+    let looked = sender_looked layout s t h p x z g lt c.index_mut.ensures.value c.is_pending-is_pending.ensures.seen c.gather.ensures.sender in
     (looked.0, c.is_pending-is_pending.ensures.pending ∙ ap (λ (y : List Event). pending y c.args.item) looked.1)

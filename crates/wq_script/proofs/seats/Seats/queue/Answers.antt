@@ -1,8 +1,6 @@
-use Rattle.std.proofs.Common.{ℕ, subst}
-use Rattle.std.proofs.lemmas.List.{get_or-set_same}
+use Rattle.std.proofs.Common.{ℕ}
 use Rattle.wq_live.specs.Known.{Known}
-use Rattle.wq_script.specs.Seats.{Gathers}
-use Rattle.wq_script.proofs.Asked.{with_sender, sender_asked}
+use Rattle.wq_script.proofs.Asked.{sender_asked}
 use Rattle.wq_script.proofs.seats.Seats.queue.Goals as goal
 
 pub returns : goal.returns
@@ -11,6 +9,5 @@ returns c = λ layout h g.
     let x : Known = c.index_mut.result.now in
     let z : Known = c.queue_tries-answer.new.self in
     let t = c.gather.new.self in
-    let all : Gathers z.seen (with_sender s p z) t =
-    subst (λ (v : Known). Gathers v.seen (with_sender s p z) t) (get_or-set_same s.senders.items p z x c.requires.place) (c.gather.ensures.sender x) in
-    sender_asked layout s t h p c.args.item c.queue_tries-answer.result x z g c.requires.place c.index_mut.ensures.value c.queue_tries-answer.ensures.answer all
+    sender_asked layout s t h p c.args.item c.queue_tries-answer.result x z g c.requires.place c.index_mut.ensures.value c.queue_tries-answer.ensures.answer
+    c.gather.ensures.sender

@@ -1,10 +1,8 @@
 use Rattle.std.proofs.Common.{ℕ, ◌+◌, ap, ◌∙◌, subst}
-use Rattle.std.proofs.lemmas.List.{get_or-set_same}
 use Rattle.wq_words.specs.declared.layout.Layout.{Layout}
 use Rattle.wq_live.specs.Known.{Known}
 use Rattle.wq_live.specs.Answers.{Answers}
-use Rattle.wq_script.specs.Seats.{Gathers}
-use Rattle.wq_script.proofs.Asked.{with_sender, seat_layout, sender_asked}
+use Rattle.wq_script.proofs.Asked.{seat_layout, sender_asked}
 use Rattle.wq_script.proofs.seats.Seats.stop.Goals as goal
 
 pub returns : goal.returns
@@ -13,10 +11,8 @@ returns c = λ layout h g.
     let x : Known = c.index_mut.result.now in
     let z : Known = c.request_stop-answer.new.self in
     let t = c.gather.new.self in
-    let all : Gathers z.seen (with_sender s p z) t =
-    subst (λ (v : Known). Gathers v.seen (with_sender s p z) t) (get_or-set_same s.senders.items p z x c.requires.place) (c.gather.ensures.sender x) in
     sender_asked layout s t h p (layout.items + layout.barriers) c.request_stop-answer.result x z g c.requires.place c.index_mut.ensures.value
     (subst (λ (m : ℕ). Answers m 1 c.request_stop-answer.result x z)
-    ((λ i. ap (λ (l : Layout). l.items) (seat_layout layout s h p x g c.requires.place c.index_mut.ensures.value ∙ g.delay.layout_is) i
-    + ap (λ (l : Layout). l.barriers) (seat_layout layout s h p x g c.requires.place c.index_mut.ensures.value ∙ g.delay.layout_is) i)
-    ∙ (λ i. g.wider.items i + g.wider.barriers i)) c.request_stop-answer.ensures.answer) all
+    ((λ i. ap (λ (l : Layout). l.items) (seat_layout layout s h p x g c.requires.place c.index_mut.ensures.value) i
+    + ap (λ (l : Layout). l.barriers) (seat_layout layout s h p x g c.requires.place c.index_mut.ensures.value) i)
+    ∙ (λ i. g.wider.items i + g.wider.barriers i)) c.request_stop-answer.ensures.answer) c.gather.ensures.sender
