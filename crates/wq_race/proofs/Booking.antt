@@ -1,9 +1,8 @@
 -- A book that meets senders.
-use Rattle.std.proofs.Common.{◌≡◌, ℕ, suc, ◌+◌, ◌*◌, List, [], ◌∷◌, ◌++◌, map, length, refl, sym, ap, ◌∙◌, arith}
+use Rattle.std.proofs.Common.{◌≡◌, ℕ, suc, ◌+◌, ◌*◌, List, [], ◌∷◌, length, refl, sym, ap, ◌∙◌, arith}
 use Rattle.std.specs.Prelude.{All, sum_by}
 use Rattle.std.proofs.lemmas.List.Sums.{sum_by-cons}
 use Rattle.std.proofs.lemmas.List.{append-nil}
-use Rattle.std.proofs.lemmas.List.Elements.{All-append, All-cons, All-nil}
 use Rattle.wq_words.specs.Seen.{owner_seat, Grows}
 use Rattle.wq_live.specs.Known.{Known, Sees}
 use Rattle.wq_live.specs.Counts.{sender_counts}
@@ -41,17 +40,6 @@ ledger_same a b l s number counts =
     (sender_counts a.number a.seen) refl s.grows in
     let now : l.counts ≡ sender_counts a.number a.seen = counts ∙ (ap (λ (n : ℕ). sender_counts n b.seen) s.same.number_is ∙ sym same) in
     λ i. record { number = number i; counts = now i }
-
-pub map-last : (xs : List Known) (x : Known) → map ledger_of (xs ++ x ∷ []) ≡ map ledger_of xs ++ ledger_of x ∷ []
-map-last [] x = refl
-map-last (y ∷ xs) x = ap (λ (ls : List LedgerState). ledger_of y ∷ ls) (map-last xs x)
-
-pub all_last : (P : Known → Type 0) (xs : List Known) (x : Known) → All P xs → P x → All P (xs ++ x ∷ [])
-all_last P xs x before here = All-append P xs (x ∷ []) before (All-cons P x [] here (All-nil P))
-
-pub map-same : (xs : List Known) → map (λ (x : Known). x) xs ≡ xs
-map-same [] = refl
-map-same (x ∷ xs) = ap (λ (ys : List Known). x ∷ ys) (map-same xs)
 
 -- what the senders queued in all, where each queued as many
 pub sum_same : (f : Known → ℕ) (c : ℕ) (xs : List Known) → All (λ (x : Known). f x ≡ c) xs → sum_by f xs ≡ length xs * c

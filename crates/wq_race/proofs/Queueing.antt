@@ -1,30 +1,5 @@
 -- What a sender's thread adds.
-use Rattle.std.proofs.Common.{
-  ◌≡◌,
-  ◌≢◌,
-  ℕ,
-  zero,
-  suc,
-  ◌+◌,
-  ◌*◌,
-  ◌-◌,
-  ◌<◌,
-  ◌≤◌,
-  false,
-  List,
-  [],
-  ◌∷◌,
-  ◌++◌,
-  length,
-  refl,
-  sym,
-  ap,
-  ◌∙◌,
-  subst,
-  arith,
-  append_assoc,
-  length-append,
-}
+use Rattle.std.proofs.Common.{◌≡◌, ◌≢◌, ℕ, zero, suc, ◌+◌, ◌*◌, ◌-◌, ◌<◌, ◌≤◌, false, List, [], ◌∷◌, ◌++◌, length, refl, sym, ap, ◌∙◌, subst, arith, length-append}
 use Rattle.std.specs.List.{AllByRecursion, range_with_len}
 use Rattle.std.proofs.lemmas.List.{append-nil}
 use Rattle.wq_words.specs.declared.layout.Layout.{Layout}
@@ -34,29 +9,16 @@ use Rattle.wq_words.specs.declared.event.Event.TheVariants as event
 use Rattle.wq_words.specs.declared.event.Why.TheVariants as why
 use Rattle.wq_words.specs.Numbers.{stop_number}
 use Rattle.wq_words.specs.Seen.{Grows}
-use Rattle.wq_words.proofs.Seen.{own-append}
 use Rattle.wq_words.specs.declared.answer.Answer.{Answer}
 use Rattle.wq_words.specs.declared.answer.Answer.TheVariants as answer
-use Rattle.wq_live.specs.Known.{Known, IsSame, Sees}
+use Rattle.wq_live.specs.Known.{Known, Sees}
 use Rattle.wq_live.specs.Answers.{Answers}
+use Rattle.wq_live.proofs.Growing.{grows_on}
+use Rattle.wq_live.proofs.Sends.{same_none, same_on}
 use Rattle.wq_worker.specs.Follow.{Queues, pushed, busy, refused}
 use Rattle.wq_worker.proofs.Follow.{follows_push}
 use Rattle.wq_race.specs.Race.{HasQueued, IsOfStop, IsInVain, HasMade, HasStopped, IsStopAnswer}
 use Rattle.wq_words.proofs.Seen.{grows_none as grows_still}
-
-pub same_still : (a : Known) → IsSame a a
-same_still a = record { queue_is = refl; layout_is = refl; number_is = refl }
-
-pub same_on : (a b c : Known) → IsSame a b → IsSame b c → IsSame a c
-same_on a b c x y = record { queue_is = y.queue_is ∙ x.queue_is; layout_is = y.layout_is ∙ x.layout_is; number_is = y.number_is ∙ x.number_is }
-
-pub grows_on : (c n m : ℕ) (xs ys u v w : List Event) → Grows c xs n u v → Grows c ys m v w → Grows c (xs ++ ys) 0 u w
-grows_on c n m xs ys u v w a b = record {
-  new = a.new ++ b.new;
-  is = b.is ∙ (ap (λ (z : List Event). z ++ b.new) a.is ∙ append_assoc u a.new b.new);
-  mine = own-append c a.new b.new ∙ (λ i. a.mine i ++ b.mine i);
-  theirs = omega arith;
-}
 
 one_queued : (k n : ℕ) (es : List Event) (old new : Known) → Queues old.layout.items old.number false k es → Sees es n old new → HasQueued (k ∷ []) old new
 one_queued k n es old new q s = record {
@@ -73,7 +35,7 @@ queued_one k answer.Closed old new lt h not = one_queued k 0 _ old new (refused 
 queued_one k answer.Contended old new lt h not = absurd (not refl)
 
 pub queued_none : (a : Known) → HasQueued [] a a
-queued_none a = record { same = same_still a; events = []; queued = refl; grows = grows_still a.number a.seen }
+queued_none a = record { same = same_none a; events = []; queued = refl; grows = grows_still a.number a.seen }
 
 pub queued_more : (ks : List ℕ) (k : ℕ) (a b c : Known) → HasQueued ks a b → HasQueued (k ∷ []) b c → HasQueued (ks ++ k ∷ []) a c
 queued_more ks k a b c x y =
@@ -86,7 +48,7 @@ queued_more ks k a b c x y =
       same = same_on a b c x.same y.same;
       events = x.events ++ y.events;
       queued = follows_push a.layout.items a.number false ks k x.events y.events x.queued q;
-      grows = grows_on a.number 0 0 x.events y.events a.seen b.seen c.seen x.grows
+      grows = grows_on a.number x.events y.events 0 0 0 a.seen b.seen c.seen (omega arith) x.grows
           (subst (λ (n : ℕ). Grows n y.events 0 b.seen c.seen) x.same.number_is y.grows);
     }
 
@@ -130,7 +92,7 @@ vain_one tries a old new is h =
     (subst (λ (r : Answer). Answers (stop_number old.layout) tries r old new) is h)
 
 pub made_none : (K : Layout → Event → Type 0) (a : Known) → HasMade K 0 a a
-made_none K a = record { same = same_still a; events = []; of_kind = tt; few_events = omega arith; grows = grows_still a.number a.seen }
+made_none K a = record { same = same_none a; events = []; of_kind = tt; few_events = omega arith; grows = grows_still a.number a.seen }
 
 all_both : (P : Event → Type 0) (xs ys : List Event) → AllByRecursion P xs → AllByRecursion P ys → AllByRecursion P (xs ++ ys)
 all_both P [] ys a b = b
@@ -142,7 +104,8 @@ made_more K m a b c x y = record {
   events = x.events ++ y.events;
   of_kind = all_both (K a.layout) x.events y.events x.of_kind (subst (λ (l : Layout). AllByRecursion (K l) y.events) x.same.layout_is y.of_kind);
   few_events = omega (arith, length-append x.events y.events, x.few_events, y.few_events);
-  grows = grows_on a.number 0 0 x.events y.events a.seen b.seen c.seen x.grows (subst (λ (n : ℕ). Grows n y.events 0 b.seen c.seen) x.same.number_is y.grows);
+  grows = grows_on a.number x.events y.events 0 0 0 a.seen b.seen c.seen (omega arith) x.grows
+      (subst (λ (n : ℕ). Grows n y.events 0 b.seen c.seen) x.same.number_is y.grows);
 }
 
 pub made_fewer : (K : Layout → Event → Type 0) (m n : ℕ) (a b : Known) → m ≤ n → HasMade K m a b → HasMade K n a b

@@ -1,11 +1,13 @@
 use Rattle.std.proofs.Common.{List, [], ◌∷◌, ◌++◌, map, length, sym, ap, subst, ◌∙◌, arith}
 use Rattle.std.specs.Prelude.{All}
+use Rattle.std.proofs.lemmas.List.{map-append, map-id}
+use Rattle.std.proofs.lemmas.List.Elements.{All-push}
 use Rattle.std.proofs.lemmas.Iterator.Adapters.{YieldsList-from_vec}
 use Rattle.std.proofs.lemmas.Iterator.Consumers.{YieldsList-turn, YieldsList-end}
 use Rattle.wq_live.specs.Known.{Known}
 use Rattle.wq_ledger.specs.Book.{LedgerState}
 use Rattle.wq_race.specs.Outcome.{IsTold, ledger_of}
-use Rattle.wq_race.proofs.Booking.{heard_still, heard_on, map-last, map-same, all_last}
+use Rattle.wq_race.proofs.Booking.{heard_still, heard_on}
 use Rattle.wq_race.proofs.outcome.enter_all.Goals as goal
 
 pub loop-sender-init : goal.loop-sender-init
@@ -30,8 +32,8 @@ loop-sender-preserved c =
     record {
       book = heard;
       made = c.in_ok-enter.ensures.made;
-      ledgers = c.in_ok-enter.ensures.ledger ∙ (ap (λ (ls : List LedgerState). ls ++ ledger_of s ∷ []) l.invariant.ledgers ∙ sym (map-last l.yielded s));
-      told = all_last (IsTold c.args.book.now.seen) l.yielded s l.invariant.told (c.enter.new.book.seen, heard.begins, e.told);
+      ledgers = c.in_ok-enter.ensures.ledger ∙ (ap (λ (ls : List LedgerState). ls ++ ledger_of s ∷ []) l.invariant.ledgers ∙ sym (map-append ledger_of l.yielded (s ∷ [])));
+      told = All-push (IsTold c.args.book.now.seen) l.yielded s l.invariant.told (c.enter.new.book.seen, heard.begins, e.told);
     }
 
 pub returns-in_err-enter-clause-book : goal.returns-in_err-enter-clause-book
@@ -42,11 +44,11 @@ returns-clause-ledgers c =
     let i = c.into_iter-sender-iterator.ensures.into_iter_gives in let l = c.loop-sender in
     let all = YieldsList-end (YieldsList-from_vec {s = c.into_iter-sender-iterator.result} c.args.senders.items i.0 (i.1
     ∙ c.args.senders.ok.0)) l.yielded l.sender-iterator l.yielded_by c.next.result c.next.new.self c.in-None.is c.next.ensures.steps in
-    l.invariant.ledgers ∙ ap (λ (xs : List Known). map ledger_of xs) (sym (map-same l.yielded) ∙ all.0)
+    l.invariant.ledgers ∙ ap (λ (xs : List Known). map ledger_of xs) (sym (map-id l.yielded) ∙ all.0)
 
 pub returns-clause-told : goal.returns-clause-told
 returns-clause-told c =
     let i = c.into_iter-sender-iterator.ensures.into_iter_gives in let l = c.loop-sender in
     let all = YieldsList-end (YieldsList-from_vec {s = c.into_iter-sender-iterator.result} c.args.senders.items i.0 (i.1
     ∙ c.args.senders.ok.0)) l.yielded l.sender-iterator l.yielded_by c.next.result c.next.new.self c.in-None.is c.next.ensures.steps in
-    subst (All (IsTold c.args.book.now.seen)) (sym (map-same l.yielded) ∙ all.0) l.invariant.told
+    subst (All (IsTold c.args.book.now.seen)) (sym (map-id l.yielded) ∙ all.0) l.invariant.told
