@@ -20,7 +20,7 @@ pub pushed : {A E : Type 0} (r : Result A E) (xs ys : List ((ℕ × ℕ) × ℕ)
 pushed (Ok a) xs ys x room size is full low = ap (map entry_of) is ∙ map-append entry_of xs (x ∷ [])
 pushed (Err e) xs ys x room size is full low = absurd (omega (arith, full))
 
-pub place_low : (places : List (Option (ℕ × ℕ))) (k : ℕ) (p : ℕ × ℕ) → place_in places k ≡ Some p → k < length places
+place_low : (places : List (Option (ℕ × ℕ))) (k : ℕ) (p : ℕ × ℕ) → place_in places k ≡ Some p → k < length places
 place_low places k p is = by (nat_lt k (length places)) refl
   where
     by : (b : Bool) → nat_lt k (length places) ≡ b → k < length places

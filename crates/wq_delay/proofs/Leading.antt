@@ -13,7 +13,6 @@ use Rattle.wq_delay.proofs.Table.{place_some}
 use Rattle.wq_delay.proofs.Spelled.{entries_rows}
 use Rattle.wq_delay.proofs.Standing.{later_same}
 use Rattle.wq_delay.proofs.Looking.{times_off}
-use Rattle.wq_delay.proofs.Fitting.{place_low}
 use Rattle.wq_delay.proofs.Gathered.{AreSorted, on_table_permuted, same_on_table, due_only, ordered_due, place_due, sorted_is_due}
 
 stands_place : (p : ℕ × ℕ) (o : Option (ℕ × ℕ)) → is_place p o ≡ true → o ≡ Some p
@@ -28,9 +27,6 @@ stands_place p (Some q) is = by (q.0 == p.0) (q.1 == p.1) refl refl is
 place_stands : (p : ℕ × ℕ) (o : Option (ℕ × ℕ)) → o ≡ Some p → is_place p o ≡ true
 place_stands p o is =
     ap (is_place p) is ∙ (let a : (p.0 == p.0) ≡ true = grind (arith, nat_tests) in let b : (p.1 == p.1) ≡ true = grind (arith, nat_tests) in rw (a, b) refl)
-
-pub stands_low : (places : List (Option (ℕ × ℕ))) (e : (ℕ × ℕ) × ℕ) → stands places e ≡ true → e.1 < length places
-stands_low places e is = place_low places e.1 e.0 (stands_place e.0 (place_in places e.1) is)
 
 kept_valid : (places : List (Option (ℕ × ℕ))) (xs : List ((ℕ × ℕ) × ℕ))
     → All (λ e. place_in places e.item ≡ Some (e.due, e.arming)) (map entry_of (filter (stands places) xs))
