@@ -32,7 +32,8 @@ loop-sender-preserved c =
     record {
       book = heard;
       made = c.in_ok-enter.ensures.made;
-      ledgers = c.in_ok-enter.ensures.ledger ∙ (ap (λ (ls : List LedgerState). ls ++ ledger_of s ∷ []) l.invariant.ledgers ∙ sym (map-append ledger_of l.yielded (s ∷ [])));
+      ledgers = c.in_ok-enter.ensures.ledger
+          ∙ (ap (λ (ls : List LedgerState). ls ++ ledger_of s ∷ []) l.invariant.ledgers ∙ sym (map-append ledger_of l.yielded (s ∷ [])));
       told = All-push (IsTold c.args.book.now.seen) l.yielded s l.invariant.told (c.enter.new.book.seen, heard.begins, e.told);
     }
 
