@@ -93,6 +93,7 @@ ordered-placed e (f ∷ fs) ordered armed off = by (nat_lt e.due f.due) refl (or
           rest,
         )
 
+-- a placed entry is one more
 pub length_placed : (e : Entry) (es : List Entry) → length (placed e es) ≡ length es + 1
 length_placed e [] = refl
 length_placed e (f ∷ fs) = by (nat_lt e.due f.due) (length_placed e fs)
