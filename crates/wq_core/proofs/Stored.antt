@@ -1,7 +1,7 @@
 -- What is kept beside the machine follows each step.
 use Rattle.std.proofs.Common.{◌≡◌, ◌≢◌, ℕ, ◌+◌, ◌<◌, ◌≤◌, ◌^◌, ◌%◌, List, [], ◌∷◌, ◌++◌, length, replicate, take, reverse, ◌-◌, get_or, set, None, Some, Option, refl, sym, ap, ◌∙◌, arith, length-set, length-append, ◌↔◌}
 use Rattle.std.proofs.lemmas.List.{length-replicate, reverse-append, take_all, take_more}
-use Rattle.std.proofs.lemmas.Option.{slice_get_past, slice_get_within}
+use Rattle.std.proofs.lemmas.Option.{slice_get_past}
 use Rattle.wq_words.specs.declared.layout.Layout.{Layout}
 use Rattle.wq_words.specs.declared.event.Event.{Event}
 use Rattle.wq_words.specs.declared.event.Event.TheVariants.{Hold, Busy, Push, Back, Take, Close, Begin, End, Chain, ChainBusy, Rest}
@@ -15,7 +15,6 @@ use Rattle.wq_words.specs.Keeper.{Keeper, Home, Sender, Listed, Owner, taken_ove
 use Rattle.wq_words.proofs.Growing.{growing, slice_get_last}
 use Rattle.wq_words.proofs.Order.{in_order}
 use Rattle.wq_words.proofs.Prefixes.{prefix_length}
-use Rattle.wq_words.proofs.Running.{runs_some}
 use Rattle.wq_core.specs.declared.step.Private.{Private}
 use Rattle.wq_core.specs.Words.{link_place, word_count, closed_word, idle_word, link_word, link_to, number_at}
 use Rattle.wq_core.specs.Machine.{Machine, opening, nothing_seen, head, link, item_word, done_word, private, seen_word, with_head, with_link, with_item, with_done, with_private, happened, unlinked, StandsIn}
@@ -228,13 +227,6 @@ module _ (m : Machine) (holders : List (Option ℕ)) (runs : Option ℕ) (o : Is
       sender (Sender t) e = cc
       sender Listed e = absurd cc
       sender Owner e = absurd cc
-
-  pub runs_stored : (runs ≢ None) ↔ IsRunning m.history
-  runs_stored = (some runs o.running_is, λ busy none. absurd (let r = runs_some m.history busy in cc (r.1, o.running_is, none)))
-    where
-      some : (r : Option ℕ) → r ≡ running m.history → r ≢ None → IsRunning m.history
-      some None is ne = absurd (ne refl)
-      some (Some k) is ne = slice_get_within (begun m.history) (length (ended m.history)) k (sym is)
 
 -- a list whose reverse is not empty, by its last element
 pub by_last : (xs ys : List ℕ) (k : ℕ) → xs ≡ ys ++ k ∷ [] → reverse xs ≡ k ∷ reverse ys

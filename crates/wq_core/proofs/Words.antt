@@ -1,6 +1,6 @@
 -- What a word says as a head and as a link.
 use Rattle.std.proofs.Common.{◌≡◌, ◌≢◌, ℕ, ◌-◌, ◌^◌, ◌≤◌, ◌==◌, Bool, true, false, if◌then◌else◌, Option, Some, None, refl, inl, inr, arith}
-use Rattle.std.proofs.lemmas.Bool.{ne_eqb, eqb-true, eqb-false}
+use Rattle.std.proofs.lemmas.Bool.{eqb-true, eqb-false}
 use Rattle.wq_words.specs.declared.head.Head.{Head}
 use Rattle.wq_words.specs.declared.head.Head.TheVariants.{Empty, Item, Closed}
 use Rattle.wq_words.specs.Head.{busy_word, IsWordOf, IsCodable}
@@ -31,15 +31,5 @@ module _ (w : ℕ) where
       go true e small' = (tt, inr (eqb-true w busy_word e))
       go false e small' = said_coded small'
 
-  -- what a link says as a head
-  pub link_said : w ≤ 2 ^ 32 → head_at w ≡ said_at w
-  link_said small = let other : (w == busy_word) ≡ false = ne_eqb w busy_word (λ e. omega (arith, e, small)) in rw other refl
-
-  pub empty_at : said_at w ≡ Empty → number_at w ≡ None
-  empty_at = split (λ x o. x ≡ Empty → o ≡ None) (λ _ e. refl) (λ _ e. absurd (cc (e))) (λ _ _ e. absurd (cc (e)))
-
   pub item_at : (k : ℕ) → said_at w ≡ Item k → number_at w ≡ Some k
   item_at k = split (λ x o. x ≡ Item k → o ≡ Some k) (λ _ e. absurd (cc (e))) (λ _ e. absurd (cc (e))) (λ _ _ e. cc (e))
-
-  pub closed_at : said_at w ≡ Closed → w ≡ closed_word
-  closed_at = split (λ x o. x ≡ Closed → w ≡ closed_word) (λ _ e. absurd (cc (e))) (λ is e. is) (λ _ _ e. absurd (cc (e)))

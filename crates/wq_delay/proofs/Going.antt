@@ -3,8 +3,7 @@ use Rattle.std.proofs.Common.{◌≡◌, ◌≢◌, ℕ, ◌+◌, ◌<◌, ◌�
 use Rattle.std.proofs.lemmas.List.{append-nil}
 use Rattle.std.proofs.lemmas.List.Elements.{filter-append}
 use Rattle.wq_words.specs.declared.event.Event.{Event}
-use Rattle.wq_words.specs.declared.event.Event.TheVariants.{Hold, Back}
-use Rattle.wq_words.specs.declared.event.Why.{Why}
+use Rattle.wq_words.specs.declared.event.Event.TheVariants.{Back}
 use Rattle.wq_words.specs.declared.event.Why.TheVariants as why
 use Rattle.wq_words.specs.History.{Holds}
 use Rattle.wq_words.specs.Legal.{IsLegal}
@@ -17,7 +16,7 @@ use Rattle.std.proofs.lemmas.Bool.{eqb-true}
 use Rattle.wq_delay.specs.Delay.{GivesBack}
 use Rattle.wq_words.proofs.DelayTable.{first_on, without_off, on_table-without}
 use Rattle.std.proofs.lemmas.Bool.Decides.{nat_tests}
-use Rattle.wq_delay.proofs.Sound.{state, IsSound, sound_keeps, sound_leaves, even_back, stops_back}
+use Rattle.wq_delay.proofs.Sound.{state, IsSound, sound_leaves, stops_back}
 
 grows_on : (c : ℕ) (xs ys : List Event) (n m : ℕ) (u v w : List Event) → Grows c xs n u v → Grows c ys m v w → Grows c (xs ++ ys) (n + m) u w
 grows_on c xs ys n m u v w a b = record {
@@ -46,14 +45,6 @@ sees_none a legal = record {
   grows = record { new = []; is = sym (append-nil a.seen); mine = refl; theirs = omega arith };
   legal = legal;
 }
-
--- held and given back again
-pub sound_refused : (size k now next : ℕ) (w : Why) (a b c : Known) (t : List Entry) → Sees (Hold a.number k ∷ []) 0 a b → Sees (Back b.number k w ∷ []) 0 b c
-    → IsSound size (state a now next t) → IsSound size (state c now next t)
-sound_refused size k now next w a b c t p q sound =
-    sound_keeps (Hold a.number k ∷ Back a.number k w ∷ []) 0 size a c now next now t
-    (sees_on (Hold a.number k ∷ []) (Back a.number k w ∷ []) 0 0 a b c p (subst (λ (z : ℕ). Sees (Back z k w ∷ []) 0 b c) p.same.number_is q))
-    (λ j. even_back a.number k j w) sound
 
 -- what was given back, and what is left
 abbrev pub backs : ℕ → List Entry → List Event

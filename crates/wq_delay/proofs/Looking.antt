@@ -50,9 +50,6 @@ waits_there places row k p is = by (on_table k row) refl is
     by true on same = absurd (cc)
     by false off same = (off, same)
 
-pub waits_as : (places : List (Option (ℕ × ℕ))) (row : List Entry) (k : ℕ) → on_table k row ≡ false → waiting places row k ≡ place_in places k
-waits_as places row k off = rw off refl
-
 waits_not : (places : List (Option (ℕ × ℕ))) (row : List Entry) (k : ℕ) → on_table k row ≡ true → waiting places row k ≡ None
 waits_not places row k on = rw on refl
 

@@ -32,18 +32,6 @@ first_low places t k apart first =
 
 module _ (places : List (Option (ℕ × ℕ))) (next previous : List ℕ) (row : List ((ℕ × ℕ) × ℕ)) (room front count tick : ℕ)
     (t : IsTimetable places next previous row room front count tick) where
-  pub front_moved : (n : ℕ) → filter (stands places) (take n row) ≡ [] → IsTimetable places next previous row room n count tick
-  front_moved n passed = record {
-    few = t.few;
-    apart = t.apart;
-    wheel = t.wheel;
-    due_is = t.due_is;
-    early = t.early;
-    passed = passed;
-    enough = t.enough;
-    count_is = t.count_is;
-  }
-
   pub first_served : (n : ℕ) (e : (ℕ × ℕ) × ℕ) → n < length row → filter (stands places) (take n row) ≡ [] → e ≡ get_or row n e → stands places e ≡ true
       → IsFirstDue tick e.1 (entries_of places)
   first_served n e low passed is hit =

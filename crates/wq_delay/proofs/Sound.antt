@@ -134,12 +134,6 @@ sound_posted size k tries posted.Closed a b now next t u won told is sound =
     sound_leaves (Back a.number k why.Closed) size 0 k a b now next t u told (λ j. refl) (λ j. stops_back a.number k j why.Closed) is sound
 sound_posted size k tries posted.Contended a b now next t u won told is sound = absurd (won refl)
 
-pub sound_contended : (size k tries : ℕ) (r : Posted) (a b : Known) (now next : ℕ) (t : List Entry) → r ≡ posted.Contended → Posts k tries r a b
-    → IsSound size (state a now next t) → IsSound size (state b now next t)
-sound_contended size k tries (posted.Queued is_first wakes) a b now next t lost told sound = absurd (cc)
-sound_contended size k tries posted.Closed a b now next t lost told sound = absurd (cc)
-sound_contended size k tries posted.Contended a b now next t lost told sound = sound_keeps [] tries size a b now next now t told (λ j. refl) sound
-
 -- an item on the table has another tick and a later arming
 on_moved : (j k : ℕ) (p q b : Bool) → (j == k) ≡ p → b ≡ q → (j ≡ k → q ≡ true) → ((j == k) || (not (j == k) && b)) ≡ q
 on_moved j k true true b same is on = rw same refl

@@ -11,14 +11,13 @@ use Rattle.wq_table.specs.Chair.{Standing, IsSender, owner_chair, sender_chair, 
 use Rattle.wq_live.specs.declared.sender.Sender.TheInside as sender
 use Rattle.wq_live.specs.declared.owner.Owner.TheInside as owner
 use Rattle.wq_words.specs.History.{closed, running}
-use Rattle.wq_words.specs.Seen.{owner_seat}
-use Rattle.wq_live.specs.Known.{new_owner, new_sender, new_senders}
+use Rattle.wq_live.specs.Known.{new_sender, new_senders}
 use Rattle.wq_live.specs.Counts.{sender_counts, owner_counts}
 use Rattle.wq_live.specs.declared.row.Row.{Row}
 use Rattle.wq_live.specs.Row.{IsRowOf}
 use Rattle.wq_table.proofs.Views.{none_stands}
 use Rattle.wq_live.proofs.Linking.{has_row}
-use Rattle.wq_live.specs.Sits.{sender_view, owner_view, Sends, Stands, OwnsQueue}
+use Rattle.wq_live.specs.Sits.{sender_view, Sends, Stands, OwnsQueue}
 
 pub length-sender_chairs : (q : TableId) (l : Layout) (n : ℕ) → length (sender_chairs q l n) ≡ n
 length-sender_chairs q l zero = refl
@@ -70,10 +69,6 @@ executes_new s is row runs shut counts = let seen : s.chair.part.seen ≡ [] = a
   closed_is = shut ∙ ap closed (sym seen);
   counts_are = counts ∙ ap owner_counts (sym seen);
 }
-
-pub owner_view_new : (s : owner.Inside) → s.chair ≡ owner_chair s.chair.queue s.layout → owner_view s ≡ new_owner s.chair.queue s.layout
-owner_view_new s is = let seen : s.chair.part.seen ≡ [] = ap (λ (x : Standing). x.part.seen) is in
-    λ i. record { queue = s.chair.queue; layout = s.layout; number = owner_seat; seen = seen i }
 
 -- the seat that comes next
 pub chair_at : (q : TableId) (l : Layout) (n : ℕ) (items : List Standing) (i number : ℕ) (chair : Standing) → items ≡ sender_chairs q l n → number ≡ i

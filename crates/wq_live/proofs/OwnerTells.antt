@@ -21,7 +21,7 @@ use Rattle.wq_table.specs.declared.table.Stage.TheVariants.{Sends, Owns}
 use Rattle.wq_words.specs.Seen.{owner_seat, own, Grows}
 use Rattle.wq_table.specs.Law.{seat_at, HasStage}
 use Rattle.wq_table.specs.Plays.{stage_after, walked_on, Makes}
-use Rattle.wq_table.specs.Chair.{IsOwner, IsRested, HasNone, IsToBegin}
+use Rattle.wq_table.specs.Chair.{IsOwner, HasNone, IsToBegin}
 use Rattle.wq_words.proofs.Seen.{own_one, begun_same, ended_same}
 use Rattle.wq_live.specs.declared.owner.Owner.TheInside.{Inside}
 use Rattle.wq_live.specs.Known.{Known, Sees}
@@ -50,9 +50,6 @@ stands_legal p stands = subst (λ (z : Layout × List Event). IsLegal z.0 z.1) (
 -- the stage of an owner
 pub owner_of : (st : Stage) (ks : List ℕ) → st ≡ Owns None [] ks → IsOwner st
 owner_of st ks is = subst IsOwner (sym is) tt
-
-pub rested_of : (st : Stage) (ks : List ℕ) → st ≡ Owns None [] ks → IsRested st
-rested_of st ks is = subst IsRested (sym is) refl
 
 pub none_of : (st : Stage) (ks : List ℕ) → st ≡ Owns None [] ks → ks ≡ [] → HasNone st
 none_of st ks is none = subst HasNone (sym is) none
@@ -209,14 +206,6 @@ owner_sees xs n s t now view executes layout queue told = subst (λ (v : Known).
   grows = owner_grows xs n s t executes told;
   legal = subst (λ (l : Layout). IsLegal l t.chair.part.seen) (executes.layout_is ∙ sym layout) told.legal;
 }
-
--- a part of what the owner keeps after a step
-pub owner_layout : (xs : List Event) (n : ℕ) (s t : Inside) → OwnsQueue s → t.layout ≡ s.layout → TellsSo xs n s.chair.part t.chair.part
-    → t.chair.part.layout ≡ t.layout
-owner_layout xs n s t executes layout told = told.layout_is ∙ (executes.layout_is ∙ sym layout)
-
-pub owner_number : (xs : List Event) (n : ℕ) (s t : Inside) → OwnsQueue s → TellsSo xs n s.chair.part t.chair.part → t.chair.part.seat ≡ owner_seat
-owner_number xs n s t executes told = told.seat_is ∙ executes.number_is
 
 -- the batch that the owner keeps is that of what it has seen
 pub owner_batch : (s : Inside) (now : Known) → owner_view s ≡ now → OwnsQueue s → kept_batch s.chair.part.stage ≡ batch now.seen

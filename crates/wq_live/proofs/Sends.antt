@@ -22,7 +22,7 @@ use Rattle.wq_live.specs.Known.{Known, IsSame, Sees}
 use Rattle.wq_live.specs.Counts.{sender_counts}
 use Rattle.wq_live.specs.Sits.{sender_view, Sends}
 use Rattle.wq_live.proofs.Tells.{TellsSo, meet_tells, meet_sender}
-use Rattle.wq_live.proofs.Growing.{grows_on, grows_held, grows_less}
+use Rattle.wq_live.proofs.Growing.{grows_on, grows_held}
 use Rattle.wq_words.proofs.Seen.{starts_own}
 use Rattle.wq_words.proofs.Seen.{stops_own}
 
@@ -77,9 +77,6 @@ sees_after xs ys n m k s t u sum same grows b = record {
 pub sees_on : (xs ys : ℕ → List Event) (n m k : ℕ) (s t u : Known) → k ≤ n + m → Sees (xs s.number) n s t → Sees (ys t.number) m t u
     → Sees (xs s.number ++ ys s.number) k s u
 sees_on xs ys n m k s t u sum a b = sees_after xs ys n m k s t u sum a.same a.grows b
-
-pub sees_less : (xs : List Event) (n k : ℕ) (s t : Known) → k ≤ n → Sees xs n s t → Sees xs k s t
-sees_less xs n k s t less a = record { same = a.same; grows = grows_less s.number xs n k s.seen t.seen less a.grows; legal = a.legal }
 
 pub sees_held : (k n : ℕ) (s t : Known) → Sees [] n s t → Holds s.seen s.number k → Holds t.seen t.number k
 sees_held k n s t sees have = subst (λ (c : ℕ). Holds t.seen c k) (sym sees.same.number_is) (grows_held s.number k n s.seen t.seen sees.grows have)

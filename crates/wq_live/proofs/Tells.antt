@@ -168,10 +168,6 @@ after_push m c k w (Sends r) is keeps =
     (ap (λ (x : Private). unwrap_or x.seen 0) keeps.1 ∙ ap (λ (o : Option ℕ). unwrap_or o 0) is.0)
 after_push m c k w (Owns a b d) is keeps = elim is [ ]
 
-linked_sender : (k w : ℕ) (st : Stage) → HasLinked w k st → IsSender st
-linked_sender k w (Sends r) is = tt
-linked_sender k w (Owns a b d) is = elim is [ ]
-
 -- pushed, as the newest event
 pub record Wins (k w : ℕ) (p q : Part) : Type 0 where
   pub told : Tells (event.Push p.seat k ∷ []) p q

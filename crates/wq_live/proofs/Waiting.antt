@@ -20,7 +20,7 @@ use Rattle.wq_words.proofs.Keepers.{queue_bit, kept}
 use Rattle.wq_core.specs.Machine.{Machine}
 use Rattle.wq_core.specs.Words.{word_at}
 use Rattle.wq_core.specs.Sound.{IsSound, IsChain}
-use Rattle.wq_core.proofs.Chains.{times, times-cons, times-append, times-first}
+use Rattle.wq_core.proofs.Chains.{times, times-cons, times-append}
 use Rattle.wq_core.proofs.Turning.{queue_once}
 use Rattle.wq_table.specs.declared.table.Part.{Part}
 use Rattle.wq_table.specs.declared.table.Stage.TheVariants.{Owns}
@@ -117,14 +117,6 @@ waits_few m o =
     )) (λ q is. accepted_below m.layout h o.legal q (omega (arith, split_of m o q, is))) in
     omega (arith, less, length-append m.batch (reverse_aux a.remaining m.walked), length_onto a.remaining m.walked)
 
-waits_below : (m : Machine) (o : IsSound m) (k : ℕ) → 1 ≤ times k m.batch → k < number_count m.layout
-waits_below m o k is = accepted_below m.layout m.history o.legal k (omega (
-  arith,
-  split_of m o k,
-  times-append k m.batch (reverse_aux o.chains.remaining m.walked),
-  is,
-))
-
 first_of_chain : (n : ℕ) (ws : List ℕ) (k : ℕ) (ks : List ℕ) → IsChain n ws (k + 1) ks → (k < n) × (1 ≤ length ks)
 first_of_chain n ws k [] chain = absurd (omega (arith, chain))
 first_of_chain n ws k (j ∷ js) chain = let same = chain.0 in let small = chain.1 in (omega arith, omega arith)
@@ -156,11 +148,3 @@ stands_rested p batch stands is =
     let m = stands.machine in let o = stands.sound in let keeps : HasStage m p.seat (Owns None [] batch) = subst (HasStage m p.seat) is stands.fits.keeps in
     let layout : number_count p.layout ≡ number_count m.layout = ap number_count stands.fits.layout_is in
     omega (arith, layout, waits_few m o, ap (λ (x : List ℕ). length x) keeps.3)
-
--- the number that begins next
-pub stands_next : (p : Part) (k : ℕ) (ks : List ℕ) → Stands p → p.stage ≡ Owns None [] (k ∷ ks) → k < number_count p.layout
-stands_next p k ks stands is =
-    let m = stands.machine in let o = stands.sound in
-    let keeps : HasStage m p.seat (Owns None [] (k ∷ ks)) = subst (HasStage m p.seat) is stands.fits.keeps in
-    let layout : number_count p.layout ≡ number_count m.layout = ap number_count stands.fits.layout_is in
-    omega (arith, layout, waits_below m o k (omega (arith, ap (times k) keeps.3, times-first k ks)))

@@ -1,5 +1,5 @@
 -- What a command means, by the tests on which it rests.
-use Rattle.std.proofs.Common.{◌≡◌, ℕ, true, false, List, [], ◌++◌, nat_lt, if◌then◌else◌, None, Result, Ok, Err, OnOk, sym, ap, ◌∙◌, subst, codes}
+use Rattle.std.proofs.Common.{◌≡◌, ℕ, true, false, List, [], ◌++◌, nat_lt, if◌then◌else◌, None, sym, ap, ◌∙◌, subst, codes}
 use Rattle.wq_words.specs.declared.layout.Layout.{Layout}
 use Rattle.wq_words.specs.History.{closed}
 use Rattle.wq_text.specs.declared.command.Command.{Command}
@@ -10,10 +10,6 @@ use Rattle.wq_meaning.specs.Arming.{due_items, advance_events}
 use Rattle.wq_meaning.specs.Report.{line}
 use Rattle.wq_meaning.specs.Names.{row_text, advance_word, left_text}
 use Rattle.wq_meaning.specs.Commands.{ScriptState, state_after, lines, after_row, delayer, left_in}
-
-pub on_ok : {T E A B : Type 0} (r : Result T E) → (A → B) → OnOk r A → OnOk r B
-on_ok (Ok x) f a = f a
-on_ok (Err e) f a = a
 
 -- the lines of a command, where the state after it is t
 pub wrote : (layout : Layout) (s t : ScriptState) (c : Command) (before now text : List ℕ) → state_after layout s c ≡ t

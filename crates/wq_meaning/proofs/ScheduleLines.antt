@@ -10,12 +10,6 @@ use Rattle.wq_meaning.specs.ScheduleOutput.{Gives, AllGive, GivesBehind, IsSched
 abbrev pub Continues : Layout → List Turn → Machine → List Turn → List ℕ → Type 0
 Continues layout turns m left out = (n : Machine) (rest : List ℕ) → AllGive m left n rest → AllGive (opening layout) turns n (out ++ rest)
 
-pub continues_at_first : (layout : Layout) (turns : List Turn) (m : Machine) (out : List ℕ) → m ≡ opening layout → out ≡ [] → Continues layout turns m turns out
-continues_at_first layout turns m out first nothing n rest given =
-    let P : Machine → Type 0 = λ x. AllGive x turns n rest in
-    let Q : List ℕ → Type 0 = λ x. AllGive (opening layout) turns n (x ++ rest) in
-    subst Q (sym nothing) (subst P first given)
-
 pub continues_behind : (layout : Layout) (turns : List Turn) (i : ℕ) (d : Turn) (m next : Machine) (out new : List ℕ)
     → i < length turns → GivesBehind m (get_or turns i d) next out new
     → Continues layout turns m (drop i turns) out → Continues layout turns next (drop (i + 1) turns) new

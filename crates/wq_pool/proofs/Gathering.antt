@@ -1,6 +1,6 @@
 -- One queue more in hand, and one more taken apart.
 use Rattle.std.proofs.Common.{◌≡◌, ℕ, zero, suc, ◌+◌, ◌<◌, List, [], ◌∷◌, ◌++◌, map, length, take, sym, ap, ◌∙◌, subst, arith, length-append, Some, None, Option}
-use Rattle.std.proofs.lemmas.List.{map-append, take_all}
+use Rattle.std.proofs.lemmas.List.{map-append}
 use Rattle.std.proofs.lemmas.List.Elements.{All-push}
 use Rattle.wq_words.specs.Legal.{IsComplete}
 use Rattle.wq_words.proofs.Growing.{take_more_some}
@@ -8,7 +8,7 @@ use Rattle.wq_ledger.specs.Book.{BookState}
 use Rattle.wq_served.specs.declared.worker_id.WorkerId.{WorkerId}
 use Rattle.wq_pool.specs.Known.{SlotsState, TurnState, turn_id}
 use Rattle.wq_served.specs.Drained.{IsDrained}
-use Rattle.wq_pool.specs.Finish.{AreFirst, AreComplete, IsLeftAt, LeavesOf, FirstLeft}
+use Rattle.wq_pool.specs.Finish.{AreFirst, AreComplete, LeavesOf, FirstLeft}
 use Rattle.wq_served.specs.Finished.{IsFinished}
 use Rattle.wq_pool.specs.Finished.{AreFinished}
 use Rattle.wq_pool.specs.Slots.{IsWorkerAt}
@@ -41,18 +41,6 @@ module _ {W : Type 0} where
   left_more slots None left' turns new t (suc more) old told worker_is drained is =
       subst (λ (o : Option (ℕ × ℕ)). LeavesOf slots new o) (sym told)
       record { worker = t.worker; worker_is = worker_is; drained = drained; some_left = omega arith }
-
-  pub all_complete : (slots : SlotsState) (left : Option (ℕ × ℕ)) (turns : List (TurnState W)) → left ≡ None → LeavesOf slots turns left → AreComplete turns
-  all_complete slots left turns is leaves = subst (λ (o : Option (ℕ × ℕ)). LeavesOf slots turns o) is leaves
-
-  pub is_left : (slots : SlotsState) (left : Option (ℕ × ℕ)) (turns : List (TurnState W)) (one : ℕ × ℕ) → left ≡ Some one → LeavesOf slots turns left
-      → IsLeftAt W slots.workers one.0 one.1
-  is_left slots left turns one is leaves = subst (λ (o : Option (ℕ × ℕ)). LeavesOf slots turns o) is leaves
-
-  pub all_workers : (slots : SlotsState) (turns : List (TurnState W)) → AreFirst slots turns → length turns ≡ length slots.workers
-      → map turn_id turns ≡ slots.workers
-  all_workers slots turns first all =
-      first.workers_are ∙ (ap (λ (k : ℕ). take k slots.workers) all ∙ take_all (length slots.workers) slots.workers (omega arith))
 
   pub finished_more : (log : W → List ℕ) (ids : List WorkerId) (done : List (W × BookState)) (id : WorkerId) (one : W × BookState)
       → AreFinished log ids done → IsFinished log id one → AreFinished log (ids ++ id ∷ []) (done ++ one ∷ [])

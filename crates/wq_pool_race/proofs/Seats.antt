@@ -11,7 +11,7 @@ use Rattle.wq_race.specs.Plan.{IsLayoutOf}
 use Rattle.wq_race.specs.Team.{IsNewTeam}
 use Rattle.wq_pool_race.specs.declared.teams.Group.{Group}
 use Rattle.wq_pool_race.specs.declared.teams.Teams.{Teams}
-use Rattle.wq_pool_race.specs.Teams.{AreDealt, AreTurned, AreTeams}
+use Rattle.wq_pool_race.specs.Teams.{AreDealt, AreTeams}
 use Rattle.wq_pool_race.proofs.Places.{both_more}
 
 -- the first m of the groups were turned
@@ -20,14 +20,6 @@ pub record AreTurnedSoFar (m count : ℕ) (groups turned : List Group) : Type 0 
   pub lengths : (j : ℕ) (d : Group) → j < count → length (get_or turned j d).senders.items ≡ m
   pub each : (i j : ℕ) (d e : Group) (x y : Known) → i < m → j < count
       → get_or (get_or turned j d).senders.items i x ≡ get_or (get_or groups i e).senders.items j y
-
-pub turned_none : (count : ℕ) (groups turned : List Group) → length turned ≡ count
-    → ((j : ℕ) (d : Group) → j < length turned → (get_or turned j d).senders.items ≡ []) → AreTurnedSoFar 0 count groups turned
-turned_none count groups turned size none = record {
-  count_is = size;
-  lengths = λ j d lt. ap length (none j d (omega (arith, lt, size)));
-  each = λ i j d e x y lt few. absurd (omega (arith, lt));
-}
 
 pub turned_more : (m count : ℕ) (groups : List Group) (group : Group) (old new : List Group) → AreTurnedSoFar m count groups old
     → AreDealt group.senders.items old new → ((e : Group) → get_or groups m e ≡ group) → AreTurnedSoFar (m + 1) count groups new
@@ -48,9 +40,6 @@ turned_more m count groups group old new t a here = record {
       )) e in
       subst (λ (zs : List Known). get_or zs i x ≡ get_or (get_or groups i e).senders.items j y) (sym (a.each j d d y (omega (arith, few, t.count_is)))) all;
 }
-
-pub turned_all : (count : ℕ) (groups turned : List Group) → AreTurnedSoFar (length groups) count groups turned → AreTurned count groups turned
-turned_all count groups turned t = record { count_is = t.count_is; lengths = t.lengths; each = λ i j d e x y lt few. t.each i j d e x y lt few }
 
 -- the seats of one queue more
 pub teams_more : (plan : Plan) (old new : Teams) (team : Team) → AreTeams plan old → IsNewTeam plan team

@@ -87,9 +87,6 @@ pub own_has : (c : ℕ) (e : Event) (h : List Event) → Has e (own c h) → Has
 own_has c e [] has = absurd has
 own_has c e (x ∷ xs) has = was (seat_of x == c) e x (own c xs) xs (own_has c e xs) has
 
-pub has_of : (e : Event) (xs ys : List Event) → xs ≡ ys → Has e xs → Has e ys
-has_of e xs ys is h = subst (Has e) is h
-
 -- what stands in a legal history was allowed by what came before it
 pub record WasAllowed (layout : Layout) (e : Event) (h : List Event) : Type 0 where
   pub before : List Event

@@ -1,8 +1,7 @@
 -- What a sender asked for, and what it was answered.
-use Rattle.std.proofs.Common.{◌≡◌, ℕ, ◌<◌, Bool, true, false, List, [], ◌∷◌, ◌++◌, Some, None, nat_lt, length, get_or, set, inl, inr, refl, sym, ap, ◌∙◌, subst, arith, append_assoc, if◌then◌else◌}
+use Rattle.std.proofs.Common.{◌≡◌, ℕ, ◌<◌, Bool, true, false, List, [], ◌∷◌, ◌++◌, Some, None, nat_lt, length, get_or, set, refl, sym, ap, ◌∙◌, subst, arith, append_assoc, if◌then◌else◌}
 use Rattle.std.specs.Vec.{with_item}
-use Rattle.std.proofs.lemmas.List.{append-nil, get_or-set_other, get_or-set_same, length-set}
-use Rattle.std.proofs.lemmas.Bool.{cases_eq}
+use Rattle.std.proofs.lemmas.List.{append-nil, get_or-set_same}
 use Rattle.wq_words.specs.declared.layout.Layout.{Layout}
 use Rattle.wq_words.specs.declared.event.Event.{Event}
 use Rattle.wq_words.specs.declared.event.Event.TheVariants.{Hold, Busy, Push, Back, Close}
@@ -21,9 +20,8 @@ use Rattle.wq_worker.specs.State.{WorkerState, Moves}
 use Rattle.wq_meaning.specs.Queueing.{queue_events, queue_answer, close_events, close_answer}
 use Rattle.wq_script.specs.declared.lists.Lists.{Lists}
 use Rattle.wq_script.specs.declared.seats.Seats.{Seats}
-use Rattle.wq_script.specs.Seats.{StaysSilent, AllHear, AreOne, Gathers, Seated}
+use Rattle.wq_script.specs.Seats.{Gathers, Seated}
 use Rattle.wq_script.specs.Asking.{Asks, Goes}
-use Rattle.wq_script.proofs.Hearing.{all_hear_set, all_hear_nothing, queue_heard}
 use Rattle.wq_script.proofs.Seated.{Acts, sender_acts, worker_acts}
 use Rattle.wq_script.proofs.Queueings.{busy_events, push_events, refused_events, last_own, first_held}
 
@@ -86,46 +84,10 @@ module _ (layout : Layout) (t : Seats) (h : List Event) (p k : ℕ) (x z : Known
 abbrev pub with_sender : Seats → ℕ → Known → Seats
 with_sender s p z = record { worker = s.worker; delay = s.delay; senders = with_item s.senders p z }
 
--- they are of one queue
-pub seated_one : (layout : Layout) (s : Seats) (h : List Event) → Seated layout s h → AreOne s
-seated_one layout s h g = record {
-  senders = λ i d lt. (g.senders i d (omega (arith, lt, g.count))).queue_is ∙ sym g.delay.queue_is;
-  worker = g.sender.queue_is ∙ sym g.delay.queue_is;
-}
-
-pub one_with : (s : Seats) (p : ℕ) (x z : Known) → p < length s.senders.items → x ≡ get_or s.senders.items p x → StaysSilent x z → AreOne s
-    → AreOne (with_sender s p z)
-one_with s p x z lt is stays one =
-    let q : List Known = s.senders.items in
-    let all : AllHear [] q (set q p z) = all_hear_set [] q q p x z lt (all_hear_nothing q) (subst (λ (v : Known). StaysSilent v z) is stays) in
-    record {
-      senders = λ i d less. queue_heard [] q (set q p z) all i d (omega (arith, less, all.count)) ∙ one.senders i d (omega (arith, less, all.count));
-      worker = one.worker;
-    }
-
 -- where a seat of the queue is, its layout is the queue's
 pub seat_layout : (layout : Layout) (s : Seats) (h : List Event) (p : ℕ) (x : Known) (g : Seated layout s h) → p < length s.senders.items
     → x ≡ get_or s.senders.items p x → x.layout ≡ g.wide
 seat_layout layout s h p x g lt is = ap (λ (v : Known). v.layout) is ∙ (g.senders p x (omega (arith, lt, g.count))).layout_is
-
-answers_stay : (k : ℕ) (a : Answer) (x z : Known) → Answers k 1 a x z → x.queue ≡ z.queue
-answers_stay k (answer.Queued f w) x z told = sym told.0.same.queue_is
-answers_stay k answer.Pending x z told = sym told.same.queue_is
-answers_stay k answer.Closed x z told = sym told.same.queue_is
-answers_stay k answer.Contended x z told = sym told.same.queue_is
-
-pub one_answered : (s : Seats) (p k : ℕ) (a : Answer) (x z : Known) → p < length s.senders.items → x ≡ get_or s.senders.items p x → Answers k 1 a x z
-    → AreOne s → AreOne (with_sender s p z)
-one_answered s p k a x z lt is told one =
-    let q : List Known = s.senders.items in
-    record {
-      senders = λ i d less. elim (cases_eq i p) [
-        | inl same ↦ ap (λ (v : Known). v.queue) (ap (λ (j : ℕ). get_or (set q p z) j d) same ∙ get_or-set_same q p z d lt) ∙ (sym (answers_stay k a x z told)
-            ∙ (ap (λ (v : Known). v.queue) is ∙ one.senders p x lt))
-        | inr other ↦ ap (λ (v : Known). v.queue) (get_or-set_other q p i z d other) ∙ one.senders i d (omega (arith, less, length-set q p z))
-      ];
-      worker = one.worker;
-    }
 
 -- where a seat was put, the seats have heard what it saw
 gathered_at : (s t : Seats) (p : ℕ) (x z : Known) → p < length s.senders.items

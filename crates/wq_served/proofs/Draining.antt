@@ -1,12 +1,11 @@
 -- What a closing and a drain leave.
-use Rattle.std.proofs.Common.{◌≡◌, ℕ, ◌+◌, ◌<◌, List, [], ◌∷◌, ◌++◌, length, refl, sym, ap, ◌∙◌, subst, arith}
+use Rattle.std.proofs.Common.{◌≡◌, ℕ, ◌+◌, ◌<◌, List, [], ◌∷◌, ◌++◌, length, refl, ap, ◌∙◌, arith}
 use Rattle.std.proofs.lemmas.List.{append-nil}
 use Rattle.wq_words.specs.declared.event.Event.{Event}
 use Rattle.wq_words.specs.declared.event.Event.TheVariants.{Close, End}
 use Rattle.wq_words.specs.History.{accepted, begun, ended, IsClosed, IsRunning}
 use Rattle.wq_words.specs.Legal.{IsLegal, IsComplete}
-use Rattle.wq_ledger.specs.Book.{BookState}
-use Rattle.wq_worker.specs.Destroy.{Destroys, LeavesUnfinished}
+use Rattle.wq_worker.specs.Destroy.{LeavesUnfinished}
 use Rattle.wq_worker.specs.declared.ran.Ran.{Ran}
 use Rattle.wq_worker.specs.declared.ran.Ran.TheVariants.{Item, Barrier, Stop, Nothing, Owing}
 use Rattle.wq_worker.specs.declared.drained.Drained.{Drained}
@@ -16,8 +15,6 @@ use Rattle.wq_worker.specs.State.{WorkerState, Moves}
 use Rattle.wq_worker.specs.Step.{Ends, ends, Runs}
 use Rattle.wq_worker.proofs.Owned.{owner_of_both}
 use Rattle.wq_served.specs.Drained.{IsDrained, left_after}
-use Rattle.wq_served.specs.Finished.{IsFinished}
-use Rattle.wq_served.specs.WorkerId.{worker_id}
 
 module _ {W : Type 0} where
   -- a queue that is closed stays so
@@ -31,9 +28,6 @@ module _ {W : Type 0} where
       let b_is : length (begun b.seen) ≡ length (begun a.seen) = ap (length {A = ℕ}) (adds.begun_is ∙ append-nil (begun a.seen)) in
       let e_is : length (ended b.seen) ≡ length (ended a.seen) = ap (length {A = ℕ}) (adds.ended_is ∙ append-nil (ended a.seen)) in
       λ runs. idle (omega (arith, runs, b_is, e_is))
-
-  pub closed_shut : (a b : WorkerState W) → Moves (Close ∷ []) 0 a b → IsClosed b.seen
-  closed_shut a b moved = let adds = owner_of_both a.number (Close ∷ []) 0 a.seen b.seen moved.adds in omega (arith, adds.closes)
 
   module _ (may : W → ℕ → List ℕ → W → Type 0) where
     ends_leaves : (k : ℕ) (a b : WorkerState W) → Ends may a k b → IsClosed a.seen → IsClosed b.seen × (¬ IsRunning b.seen)
@@ -74,17 +68,6 @@ module _ {W : Type 0} where
             let e = ap (λ (w : WorkerState W). length (ended w.seen)) b_is in let n = ap (λ (w : WorkerState W). length (accepted w.seen)) b_is in
             omega (arith, some, is, e, n, done.1)
         go a m b done (closes opens moved work unqueued) row left some is = absurd (opens done.0)
-
-    pub finished_by : (log : W → List ℕ) (a : WorkerState W) (work : W) (book : BookState) → Destroys log may 0 a work book
-        → IsFinished log (worker_id a) (work, book)
-    finished_by log a work book t = record {
-      queue_is = t.queue_is;
-      layout_is = t.layout_is;
-      number_is = t.own_is;
-      legal = t.legal;
-      complete = subst IsComplete (sym t.seen_is) t.complete;
-      ran_accepted = t.ran_accepted;
-    }
 
 pub left_complete : {W : Type 0} (w : WorkerState W) → IsDrained 0 w → IsComplete w.seen
 left_complete w drained = let all = drained.left_is in (drained.shut, omega (arith, all))

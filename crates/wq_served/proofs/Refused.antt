@@ -2,7 +2,6 @@
 use Rattle.std.proofs.Common.{◌≡◌, ℕ, ◌<◌, ◌≤◌, ◌==◌, false, List, [], ◌∷◌, ◌++◌, length, take, None, inl, inr, refl, sym, ap, ◌∙◌, subst, arith, append_assoc}
 use Rattle.std.proofs.Common.{length-append, length-drop}
 use Rattle.std.proofs.lemmas.Bool.{or_parts}
-use Rattle.std.proofs.lemmas.Bool.Decides.{nat_tests}
 use Rattle.std.proofs.lemmas.List.{append-nil, length-take-le}
 use Rattle.std.proofs.lemmas.List.Elements.{filter-append, filter_map-append}
 use Rattle.std.proofs.lemmas.List.Sums.{fold_push}
@@ -23,10 +22,11 @@ use Rattle.wq_words.proofs.Rest.{wakes_quiet, wakes_push_work}
 use Rattle.wq_words.proofs.OtherSeats.{others_keep, surrounds, taken_still}
 use Rattle.wq_live.specs.Batch.{batch, next_of}
 use Rattle.wq_live.specs.Rest.{MayNotRest}
+use Rattle.wq_live.proofs.Reading.{empty_from_next}
 use Rattle.wq_worker.specs.Resting.{HasNoneLeft}
 use Rattle.wq_worker.specs.Seats.{Adds, taking, NothingWaits, at_take, at_all}
 use Rattle.wq_worker.proofs.Draining.{left_idle}
-use Rattle.wq_worker.proofs.Others.{none_waits, next_still}
+use Rattle.wq_worker.proofs.Others.{next_still, some_fresh}
 use Rattle.wq_worker.proofs.Owned.{filter-filter, owner_grows, owner_of_both, stays, quiet_none}
 
 -- of what came new the owner's events are those of what the worker's two seats added
@@ -42,7 +42,7 @@ next_kept layout s n v w adds legal = next_still layout v w adds.new adds.is leg
 -- a closed queue of which nothing is left has run to its end
 pub none_left_complete : (layout : Layout) (h : List Event) → IsLegal layout h → IsClosed h → HasNoneLeft h → IsComplete h
 none_left_complete layout h legal shut none =
-    (shut, omega (arith, left_idle layout h legal shut none.0, ap (length {A = ℕ}) (none_waits h none.1)))
+    (shut, omega (arith, left_idle layout h legal shut none.0, ap (length {A = ℕ}) (empty_from_next h none.1)))
 
 -- a queue at work stays at work while other seats alone add events
 at_work_still : (layout : Layout) (v new : List Event) → IsLegal layout (v ++ new) → own owner_seat new ≡ [] → wakes v ≡ false → wakes (v ++ new) ≡ false
@@ -53,9 +53,6 @@ at_work_still layout =
       busy = λ w s k works. wakes_quiet w (Busy s k) refl refl ∙ works;
       back = λ w s k why works. wakes_quiet w (Back s k why) refl refl ∙ works;
     })
-
-some_from : (n : ℕ) → (n == 0) ≡ false → 0 < n
-some_from n is = grind (arith, nat_tests)
 
 module _ (layout : Layout) where
   -- a take takes all that was accepted
@@ -101,12 +98,12 @@ module _ (layout : Layout) where
       ap (length {A = ℕ}) ((owner_grows (Take ∷ []) 0 before c g).begun_is ∙ append-nil (begun before)) in
       let o = in_order layout before (legal_front layout before (Take ∷ []) m) in
       let few = prefix_length (begun before) (accepted before) o.begun_first in
-      let some : 0 < fresh c = some_from (fresh c) pushed in
+      let some : 0 < fresh c = some_fresh (fresh c) pushed in
       let h : Grows owner_seat (Take ∷ []) 0 c d = record { new = new; is = d_is; mine = one; theirs = omega arith } in
       let e : length (begun d) ≡ length (begun c) = ap (length {A = ℕ}) ((owner_grows (Take ∷ []) 0 c d h).begun_is ∙ append-nil (begun c)) in
       let took : length (accepted c) ≤ taken d =
       subst (λ (z : List Event). length (accepted c) ≤ taken z) (sym d_is) (takes_later c new (subst (IsLegal layout) d_is later) one) in
-      let empty : length (batch d) ≡ 0 = ap (length {A = ℕ}) (none_waits d nothing) in
+      let empty : length (batch d) ≡ 0 = ap (length {A = ℕ}) (empty_from_next d nothing) in
       let room = length-accepted layout d later in
       let size : length (take (taken d) (accepted d)) ≡ taken d = length-take-le (taken d) (accepted d) (omega (arith, room)) in
       omega (

@@ -1,12 +1,10 @@
 -- What a worker that settles, executes or works on leaves.
 use Rattle.std.proofs.Common.{◌≡◌, ℕ, ◌+◌, ◌<◌, ◌≤◌, Bool, true, false, Option, Some, None, MatchOption, List, [], refl, ap, ◌∙◌, subst, arith, add-zero}
-use Rattle.wq_words.specs.declared.event.Event.{Event}
 use Rattle.wq_words.specs.declared.layout.Layout.{Layout}
 use Rattle.wq_words.specs.History.{closed, IsRunning, IsClosed}
 use Rattle.wq_words.specs.Legal.{IsLegal}
 use Rattle.wq_words.proofs.Closed.{IsClosed_from_closed}
 use Rattle.wq_words.proofs.Running.{runs_from_running as runs_some}
-use Rattle.wq_live.specs.Batch.{next_of}
 use Rattle.wq_live.specs.Rest.{MayNotRest}
 use Rattle.wq_worker.specs.declared.ran.Ran.{Ran}
 use Rattle.wq_worker.specs.declared.ran.Ran.TheVariants.{Item, Barrier, Stop, Nothing, Owing}
@@ -21,12 +19,6 @@ use Rattle.wq_served.specs.Steps.{Steps, still, ready, unready, run, rest, Finis
 use Rattle.wq_served.specs.Steps.{IsDue, Settles, Executes, Advances, WorksOn}
 use Rattle.wq_served.proofs.Refused.{refused_waits, none_left_complete}
 use Rattle.wq_served.proofs.Steps.{steps_on, steps_ended, finishes_on}
-
-pub due_left : (h : List Event) (k : ℕ) → next_of h ≡ Some k → ¬ HasNoneLeft h
-due_left h k due none = absurd (cc (due, none.1))
-
-pub running_left : (h : List Event) → IsRunning h → ¬ HasNoneLeft h
-running_left h runs none = none.0 runs
 
 module _ {W : Type 0} (may : W → ℕ → List ℕ → W → Type 0) where
   one_ended : (r : Ran) → IsExecution r → ended_by_answer r ≡ 1

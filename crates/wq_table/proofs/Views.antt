@@ -1,5 +1,5 @@
 -- Views that are cut, joined and made.
-use Rattle.std.proofs.Common.{◌≡◌, ℕ, zero, suc, ◌+◌, ◌-◌, ◌<◌, ◌≤◌, ◌≢◌, ◌⊎◌, cond, eqb, List, [], ◌∷◌, ◌++◌, length, get_or, set, replicate, sym, refl, ap, ◌∙◌, subst, inl, inr, ⊎_elim, arith, length-set, eq-eqb, ne_eqb}
+use Rattle.std.proofs.Common.{◌≡◌, ℕ, zero, suc, ◌+◌, ◌-◌, ◌<◌, ◌≤◌, ◌≢◌, ◌⊎◌, cond, eqb, List, [], ◌∷◌, ◌++◌, length, get_or, set, replicate, sym, refl, ap, ◌∙◌, subst, ⊎_elim, arith, length-set, eq-eqb, ne_eqb}
 use mathlib.Core.Option.{some, none, some-injective, some-ne-none}
 use lib.ListN.{get_elem?}
 use lib.Seq.{set-get_or}
@@ -14,13 +14,8 @@ use Rattle.wq_table.proofs.Present.{stands_put, stands_behind, cut_present, cut_
 use Rattle.wq_table.specs.Law.{View, IsPartOf, Apart, ArePartsAt, HasPartOf, HasSeenAll, Kept, sender_part, owner_part, row, opening_view, front_of, rest_of}
 use Rattle.wq_table.specs.Plays.{Sat, all_see, AllOf, meets}
 use Rattle.wq_core.proofs.Schedules.{sound_opening}
+use Rattle.wq_words.proofs.Growing.{at_end}
 use Rattle.wq_words.proofs.Prefixes.{prefix_self}
-
-at_end : {A : Type 0} (l : List A) (a b : A) (j : ℕ) → get_elem? (l ++ a ∷ []) j ≡ some b → (get_elem? l j ≡ some b) ⊎ ((j ≡ length l) × (a ≡ b))
-at_end [] a b zero e = inr (refl, some-injective a b e)
-at_end [] a b (suc j) e = absurd (some-ne-none b (sym e))
-at_end (x ∷ xs) a b zero e = inl e
-at_end (x ∷ xs) a b (suc j) e = ⊎_elim inl (λ (t : (j ≡ length xs) × (a ≡ b)). inr (ap suc t.0, t.1)) (at_end xs a b j e)
 
 module _ (m : Machine) where
   -- the seats of a view may be placed anew

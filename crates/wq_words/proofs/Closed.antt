@@ -31,9 +31,6 @@ module _ (h : List Event) (e : Event) where
   pub closed_stays : IsClosed h → IsClosed (h ++ e ∷ [])
   closed_stays is = omega (arith, is, count_by_push is_close h e)
 
-  pub closed_before : is_close e ≡ false → IsClosed (h ++ e ∷ []) → IsClosed h
-  closed_before other is = omega (arith, is, rw other at (count_by_push is_close h e))
-
   pub closed_push_no : is_close e ≡ false → closed (h ++ e ∷ []) ≡ closed h
   closed_push_no is = ap (nat_lt 0) (count_by_push is_close h e ∙ rw is (omega arith))
 

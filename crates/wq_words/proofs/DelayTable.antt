@@ -121,11 +121,6 @@ without_off k (f ∷ fs) off =
     let is : (k == f.item) ≡ false = first_false _ _ off in
     rw is (ap (λ (z : List Entry). f ∷ z) (without_off k fs (second_false _ _ off)))
 
--- an entry that is due before all of them stands first
-pub placed_front : (e : Entry) (es : List Entry) → AllByRecursion (λ f. e.due < f.due) es → placed e es ≡ e ∷ es
-placed_front e [] below = refl
-placed_front e (f ∷ fs) below = let low : e.due < f.due = below.0 in let is : nat_lt e.due f.due ≡ true = grind (arith, nat_tests) in rw is refl
-
 -- where the first is not due, none is
 pub none_due : (t : ℕ) (e : Entry) (es : List Entry) → AllByRecursion (IsBefore e) es → t < e.due → due_part t es ≡ []
 none_due t e [] before late = refl

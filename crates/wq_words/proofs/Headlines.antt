@@ -83,9 +83,6 @@ hold_from_starts_hold s k Rest is = absurd cc
 abbrev HasHold : ℕ → ℕ → List Event → Type 0
 HasHold s k h = Holds h s k → (hold : ℕ) × IsOwnHold h s k hold (length h)
 
-at_push : (h : List Event) (e f : Event) (i : ℕ) → i < length h → slice_get (h ++ e ∷ []) i ≡ Some f → slice_get h i ≡ Some f
-at_push h e f i lt at = elim (slice_get_push h e f i at) [ inl old ↦ old | inr new ↦ absurd (omega (arith, new.0)) ]
-
 has_hold_new : (h : List Event) (s k : ℕ) → ¬ IsPending h k → Holds (h ++ Hold s k ∷ []) s k
     → (hold : ℕ) × IsOwnHold (h ++ Hold s k ∷ []) s k hold (length (h ++ Hold s k ∷ []))
 has_hold_new h s k idle holds = (

@@ -17,7 +17,6 @@ use Rattle.wq_words.proofs.Listed.{accepted_push_none, taken_push_same, taken_pu
 use Rattle.wq_words.proofs.Rest.{not_zero, wakes_quiet}
 use Rattle.wq_live.specs.Batch.{batch, next_of}
 use Rattle.wq_live.specs.Rest.{MayNotRest}
-use Rattle.wq_live.proofs.Reading.{empty_from_next}
 
 begun_still : (v : List Event) (e : Event) → begun_by e ≡ None → begun (v ++ e ∷ []) ≡ begun v
 begun_still v e none = filter_map_push_none begun_by v e none ∙ append-nil (begun v)
@@ -51,11 +50,8 @@ pub next_still : (layout : Layout) (v w new : List Event) → w ≡ v ++ new →
 next_still layout v w new is legal none =
     ap next_of is ∙ ap (λ (ks : List ℕ). slice_get ks 0) (batch_still layout v new (subst (IsLegal layout) is legal) none)
 
--- nothing that was taken waits
-pub none_waits : (h : List Event) → next_of h ≡ None → batch h ≡ []
-none_waits h none = empty_from_next h none
-
-some_fresh : (n : ℕ) → (n == 0) ≡ false → 0 < n
+-- a number that is not zero
+pub some_fresh : (n : ℕ) → (n == 0) ≡ false → 0 < n
 some_fresh n is = grind (arith, nat_tests)
 
 -- a push keeps the owner from resting, and what kept it from resting still does

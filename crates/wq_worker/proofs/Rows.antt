@@ -6,7 +6,7 @@ use Rattle.wq_worker.specs.declared.ran.Ran.{Ran}
 use Rattle.wq_worker.specs.declared.ran.Ran.TheVariants.{Item, Barrier, Stop, Nothing, Owing}
 use Rattle.wq_worker.specs.State.{WorkerState, IsSameWorker, Moves}
 use Rattle.wq_worker.specs.Step.{Ends, ends, Owes, owes, Runs}
-use Rattle.wq_worker.specs.Rows.{Row, none, more, Serves, Closes, was_closed, closes}
+use Rattle.wq_worker.specs.Rows.{Row, none, more, Closes, was_closed, closes}
 
 module _ {W : Type 0} where
   pub worker_still : (a : WorkerState W) → IsSameWorker a a
@@ -53,9 +53,6 @@ module _ {W : Type 0} (may : W → ℕ → List ℕ → W → Type 0) where
   pub row_same : (P : Ran → Type 0) (n : ℕ) (a b : WorkerState W) → Row may P n a b → IsSameWorker a b
   row_same P n a b (none c) = worker_still c
   row_same P n a b (more m r c d e row passes run) = worker_on c d e (row_same P m c d row) (runs_same r d e run)
-
-  pub serves_same : (a b : WorkerState W) → Serves may a b → IsSameWorker a b
-  serves_same a b s = worker_on a s.last b (row_same _ s.steps a s.last s.row) (runs_same Stop s.last b s.stops)
 
   pub runs_legal : (r : Ran) (a b : WorkerState W) → Runs may r a b → IsLegal b.layout b.seen
   runs_legal (Item k) a b t = ends_legal t.0 a b t.2
