@@ -74,9 +74,12 @@ waits_later t (Some p) = refl
 
 module _ (places : List (Option (ℕ × ℕ))) (next previous : List ℕ) (row : List ((ℕ × ℕ) × ℕ)) (room front count tick : ℕ)
     (t : IsTimetable places next previous row room front count tick) (now : ℕ) (forward : tick ≤ now)
-    (kept : List ((ℕ × ℕ) × ℕ)) (kept_is : kept ≡ filter (stands places) row) where
+    (given : List (Option (ℕ × ℕ))) (value : given ≡ places) (kept : List ((ℕ × ℕ) × ℕ)) (kept_by : kept ≡ filter (stands given) row) where
   abbrev es : List Entry
   es = entries_of places
+
+  kept_is : kept ≡ filter (stands places) row
+  kept_is = kept_by ∙ ap (λ (z : List (Option (ℕ × ℕ))). filter (stands z) row) value
 
   start_is : map entry_of kept ≡ due_part tick es
   start_is = ap (map entry_of) kept_is ∙ t.due_is
@@ -90,8 +93,8 @@ module _ (places : List (Option (ℕ × ℕ))) (next previous : List ℕ) (row :
   start_waits : (k : ℕ) → waiting places (map entry_of kept) k ≡ later_than tick (place_in places k)
   start_waits k = ap (λ (z : Bool). cond z None (place_in places k)) (start_on k) ∙ waits_later tick (place_in places k)
 
-  pub gathering_start : IsGathering places next previous (map entry_of kept) now
-  gathering_start = record {
+  pub gathering_start : IsGathering given next previous (map entry_of kept) now
+  gathering_start = subst (λ (z : List (Option (ℕ × ℕ))). IsGathering z next previous (map entry_of kept) now) (sym value) record {
     wheel = subst (λ (z : ℕ → Option (ℕ × ℕ)). IsWheel (length places) next previous z) (λ i k. sym (start_waits k) i) t.wheel;
     valid = subst (λ (z : List ((ℕ × ℕ) × ℕ)). All (λ e. place_in places e.item ≡ Some (e.due, e.arming)) (map entry_of z))
         (sym kept_is) (kept_valid places row);
@@ -103,13 +106,20 @@ module _ (places : List (Option (ℕ × ℕ))) (next previous : List ℕ) (row :
         (ordered_single k (due_part tick es) (ordered_due tick es (entries_rows places t.apart).ordered));
   }
 
-  pub start_ahead : (k : ℕ) (p : ℕ × ℕ) → waiting places (map entry_of kept) k ≡ Some p → tick < p.0
-  start_ahead k p is = (later_same tick (place_in places k) p (sym (start_waits k) ∙ is)).1
+  pub start_ahead : (k : ℕ) (p : ℕ × ℕ) → waiting given (map entry_of kept) k ≡ Some p → tick < p.0
+  start_ahead = subst (λ (z : List (Option (ℕ × ℕ))). (k : ℕ) (p : ℕ × ℕ) → waiting z (map entry_of kept) k ≡ Some p → tick < p.0) (sym value)
+      (λ k p is. (later_same tick (place_in places k) p (sym (start_waits k) ∙ is)).1)
 
   -- the row once nothing that is due waits, sorted
-  module _ (next' previous' : List ℕ) (found sorted : List ((ℕ × ℕ) × ℕ)) (g : IsGathering places next' previous' (map entry_of found) now)
-      (done : (k : ℕ) (p : ℕ × ℕ) → waiting places (map entry_of found) k ≡ Some p → now < p.0)
-      (moves : IsPermutation found sorted) (is_sorted : AreSorted sorted) (room' : ℕ) (enough : length places ≤ room') where
+  module _ (next' previous' : List ℕ) (found sorted : List ((ℕ × ℕ) × ℕ)) (gathered : IsGathering given next' previous' (map entry_of found) now)
+      (none_due : (k : ℕ) (p : ℕ × ℕ) → waiting given (map entry_of found) k ≡ Some p → now < p.0)
+      (moves : IsPermutation found sorted) (is_sorted : AreSorted sorted) (room' : ℕ) (enough : length given ≤ room') where
+    g : IsGathering places next' previous' (map entry_of found) now
+    g = subst (λ (z : List (Option (ℕ × ℕ))). IsGathering z next' previous' (map entry_of found) now) value gathered
+
+    done : (k : ℕ) (p : ℕ × ℕ) → waiting places (map entry_of found) k ≡ Some p → now < p.0
+    done = subst (λ (z : List (Option (ℕ × ℕ))). (k : ℕ) (p : ℕ × ℕ) → waiting z (map entry_of found) k ≡ Some p → now < p.0) value none_due
+
     row_due : (k : ℕ) (fs : List Entry) → All (λ e. place_in places e.item ≡ Some (e.due, e.arming)) fs → All (λ e. e.due ≤ now) fs
         → on_table k fs ≡ true → is_due now (place_in places k) ≡ true
     row_due k [] valid due on = absurd (cc)
@@ -151,6 +161,6 @@ module _ (places : List (Option (ℕ × ℕ))) (next previous : List ℕ) (row :
       early = all_unmap (λ e. e.due ≤ now) sorted
           (All-permutation (λ e. e.due ≤ now) (map entry_of found) (map entry_of sorted) (IsPermutation-map entry_of found sorted moves) g.due);
       passed = refl;
-      enough = enough;
+      enough = subst (λ (z : List (Option (ℕ × ℕ))). length z ≤ room') value enough;
       count_is = t.count_is;
     }

@@ -1,5 +1,5 @@
 -- Each kind of step: the seat that makes it may, and its word becomes what the table's operation makes of it.
-use Rattle.std.proofs.Common.{◌≡◌, ◌≢◌, ℕ, ◌+◌, ◌-◌, ◌%◌, ◌^◌, ◌<◌, Bool, true, false, ◌==◌, eqb, if◌then◌else◌, List, [], ◌∷◌, ◌++◌, get_or, set, Option, Some, None, unwrap_or, sym, refl, ap, ◌∙◌, subst, arith, inl, inr}
+use Rattle.std.proofs.Common.{◌≡◌, ◌≢◌, ℕ, ◌+◌, ◌-◌, ◌%◌, ◌^◌, ◌<◌, Bool, true, false, ◌==◌, eqb, if◌then◌else◌, List, [], ◌∷◌, get_or, set, Option, Some, unwrap_or, sym, refl, ap, ◌∙◌, subst, arith}
 use Rattle.std.specs.Prelude.{bit_or, bit_and}
 use Rattle.std.proofs.lemmas.Bool.{eqb-false, eqb-true}
 use prog.Atomic.{either}
@@ -15,16 +15,16 @@ use Rattle.wq_words.specs.History.{Holds, IsClosed, IsRunning}
 use Rattle.wq_core.specs.declared.step.Private.{Private}
 use Rattle.wq_core.specs.declared.step.Seat.TheVariants.{Sender}
 use Rattle.wq_core.specs.declared.step.Step.{Step}
-use Rattle.wq_core.specs.declared.step.Step.TheVariants.{Hold, Look, Link, Push, Back, Check, Take, Close, Walk, Begin, End, Chain, Turn, Rest}
-use Rattle.wq_core.specs.Words.{link_place, item_place, done_place, closed_word, idle_word, link_word, number_at}
-use Rattle.wq_core.specs.Machine.{Machine, seen_word, head, link, item_word, after_walk, after_begin, after_end, after, first_of, StandsIn}
+use Rattle.wq_core.specs.declared.step.Step.TheVariants.{Hold, Link, Push, Back, Check, Take, Close, Begin, End, Chain, Turn, Rest}
+use Rattle.wq_core.specs.Words.{link_place, item_place, done_place, closed_word, idle_word, link_word}
+use Rattle.wq_core.specs.Machine.{Machine, seen_word, head, link, item_word, after_begin, after_end, after, StandsIn}
 use Rattle.wq_core.specs.Sound.{IsSound}
 use Rattle.wq_table.specs.declared.table.Part.{Part}
 use Rattle.wq_table.specs.declared.table.Stage.{Stage}
 use Rattle.wq_table.specs.declared.table.Stage.TheVariants.{Sends, Owns}
 use Rattle.wq_table.specs.Law.{part}
 use Rattle.wq_table.specs.Plays.{Performs, item_at}
-use Rattle.wq_table.specs.Chair.{IsSender, HasSeen, HasLinked, IsOwner, IsRested, HasNone, IsToWalk, IsToTurn, IsToBegin}
+use Rattle.wq_table.specs.Chair.{IsSender, HasSeen, HasLinked, IsOwner, IsRested, HasNone, IsToTurn, IsToBegin}
 use Rattle.wq_words.proofs.Running.{runs_some}
 use Rattle.wq_words.proofs.Seen.{held_same, closed_same, running_same}
 
@@ -97,14 +97,6 @@ module _ (c : ℕ) (layout : Layout) (seen : List Event) (words : List ℕ) wher
     finds = λ m sound fits. rw fits.layout_is refl;
   }
   performs_hold k (Owns cursor walked batch) sender number = absurd sender
-
-  pub performs_look : (stage : Stage) → IsSender stage → Performs (part c layout seen words stage) Look 0 (λ n. n) (λ n. n)
-  performs_look (Sends p) sender = record {
-    made = λ m sound fits. (((fits.keeps.0, refl), tt), tt);
-    writes = λ m sound fits. loads m.words 0;
-    finds = λ m sound fits. refl;
-  }
-  performs_look (Owns cursor walked batch) sender = absurd sender
 
   pub performs_check : (k : ℕ) (stage : Stage) → IsSender stage → k < number_count layout
       → Performs (part c layout seen words stage) (Check k) (item_place (number_count layout) k) (λ n. n) (λ n. n)
@@ -187,33 +179,6 @@ module _ (c : ℕ) (layout : Layout) (seen : List Event) (words : List ℕ) wher
     );
     writes = λ m sound fits. refl;
     finds = λ m sound fits. refl;
-  }
-
-  walk_words : (m : Machine) (cursor : Option ℕ) → (after_walk m cursor).words ≡ m.words
-  walk_words m None = refl
-  walk_words m (Some k) = go (link m k == 0)
-    where
-      go : (b : Bool)
-          → (if b then record m { cursor = None; walked = []; batch = m.batch ++ k ∷ m.walked } else record m {
-            cursor = number_at
-                (link m k);
-            walked = k ∷ m.walked;
-          }).words ≡ m.words
-      go true = refl
-      go false = refl
-
-  pub performs_walk : (k : ℕ) (stage : Stage) → IsToWalk k stage → Performs (part c layout seen words stage) Walk (link_place k) (λ n. n) (λ n. n)
-  performs_walk k (Sends p) is = absurd is
-  performs_walk k (Owns (Some j) walked batch) is = record {
-    made = λ m sound fits. ((refl, tt), inl (λ e. absurd (cc (e, fits.keeps.1))));
-    writes = λ m sound fits. walk_words m m.cursor ∙ loads m.words _;
-    finds = λ m sound fits. ap (λ (o : Option ℕ). link m (unwrap_or o (first_of m.batch))) (sym (fits.keeps.1 ∙ ap Some is));
-  }
-  performs_walk k (Owns None walked []) is = absurd is
-  performs_walk k (Owns None walked (j ∷ js)) is = record {
-    made = λ m sound fits. ((refl, tt), inr (λ e. absurd (cc (e, fits.keeps.3))));
-    writes = λ m sound fits. walk_words m m.cursor ∙ loads m.words _;
-    finds = λ m sound fits. sym (rw (fits.keeps.1, fits.keeps.3, is) refl);
   }
 
   pub performs_turn : (k j : ℕ) (stage : Stage) → k < number_count layout → j < number_count layout → IsToTurn k stage
