@@ -73,7 +73,7 @@ fn has_keys(value: &Value) -> bool
 }
 
 // The whole number at a key.
-fn number_at(value: &Value, key: &str) -> Option<u64>
+fn whole_number(value: &Value, key: &str) -> Option<u64>
     ensures { result ≡ number_of key.now (view value.now) }
 {
     value.get(key).and_then(Value::as_u64)
@@ -83,10 +83,10 @@ fn number_at(value: &Value, key: &str) -> Option<u64>
 fn plan_of(value: &Value) -> Option<Plan>
     ensures { MatchOption result ((plan : Plan) → ¬ IsPlan (view value.now) plan) (IsPlan (view value.now)) }
 {
-    let queues = number_at(value, "queues")?;
-    let workers = number_at(value, "workers")?;
-    let senders = number_at(value, "senders")?;
-    let own = number_at(value, "own")?;
+    let queues = whole_number(value, "queues")?;
+    let workers = whole_number(value, "workers")?;
+    let senders = whole_number(value, "senders")?;
+    let own = whole_number(value, "own")?;
     if queues < 1 || queues > MOST_QUEUES || workers < 1 || workers > MOST_WORKERS {
         return None;
     }

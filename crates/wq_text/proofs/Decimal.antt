@@ -6,7 +6,7 @@ use Rattle.std.specs.Str.{all_ascii_digits}
 use Rattle.std.specs.Str.Parse.{digits_value}
 use Rattle.std.proofs.lemmas.Bool.{and_parts, lt-ltb, ltb-true, leb-true, eq-eqb, ne_eqb}
 use Rattle.std.proofs.lemmas.Fmt.{decimal-digits_value, digits_value-decimal, digits_decimal, decimal_nonempty, first_decimal, decimal_digit}
-use Rattle.wq_text.specs.Word.{number_at, is_numeral}
+use Rattle.wq_text.specs.Word.{spelled_number, is_numeral}
 use Rattle.wq_text.specs.Decimal.{ReadsDecimals}
 use Rattle.wq_text.proofs.Words.{own}
 
@@ -25,8 +25,8 @@ no_zero_in_front w e some zero_first = by_length (nat_le (length w) 1) refl (rw 
         differ : false ≡ true → ⊥
         differ e = cc
 
-to_decimal : (w : List ℕ) (n : ℕ) → number_at w ≡ Some n → (w ≡ decimal n) × (n < 2 ^ 64)
-unfolding number_at
+to_decimal : (w : List ℕ) (n : ℕ) → spelled_number w ≡ Some n → (w ≡ decimal n) × (n < 2 ^ 64)
+unfolding spelled_number
 to_decimal w n e =
     let t = passed (is_numeral w && nat_lt (digits_value 10 w) (2 ^ 64)) (digits_value 10 w) n e in
     let p = and_parts (is_numeral w) (nat_lt (digits_value 10 w) (2 ^ 64)) t.0 in
@@ -49,8 +49,8 @@ no_front (suc n) small =
     or_true true = refl
     or_true false = refl
 
-from_decimal : (n : ℕ) → n < 2 ^ 64 → number_at (decimal n) ≡ Some n
-unfolding number_at
+from_decimal : (n : ℕ) → n < 2 ^ 64 → spelled_number (decimal n) ≡ Some n
+unfolding spelled_number
 from_decimal n small =
     let value : digits_value 10 (decimal n) ≡ n = digits_value-decimal own n small in
     let some : nat_lt 0 (length (decimal n)) ≡ true = lt-ltb _ _ (decimal_nonempty n small) in
@@ -59,4 +59,4 @@ from_decimal n small =
     rw (value, some, digits, no_front n small, bound) refl
 
 pub reads_decimals : ReadsDecimals
-reads_decimals w n = (to_decimal w n, λ h. ap number_at h.0 ∙ from_decimal n h.1)
+reads_decimals w n = (to_decimal w n, λ h. ap spelled_number h.0 ∙ from_decimal n h.1)

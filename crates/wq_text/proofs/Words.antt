@@ -6,7 +6,7 @@ use Rattle.std.specs.Str.Parse.{ParsesUnsigned, digits_value}
 use Rattle.std.specs.Result.{result_ok, OkIff}
 use Rattle.std.proofs.lemmas.Bool.{lt-ltb, le-ltb, le-leb, lt-leb, eq-eqb, ne_eqb, eqb-false}
 use Rattle.std.proofs.lemmas.Str.Parse.{IsNumeralModel, numerals_by_value, tells_all_ascii_digits, parse_plain}
-use Rattle.wq_text.specs.Word.{number_at}
+use Rattle.wq_text.specs.Word.{spelled_number}
 
 pub own : IsNumeralModel (λ ds. all_ascii_digits ds ≡ true) (digits_value 10)
 own = numerals_by_value _ tells_all_ascii_digits
@@ -14,8 +14,8 @@ own = numerals_by_value _ tells_all_ascii_digits
 pub nonempty : (w : List ℕ) → (length w == 0) ≡ false → 0 < length w
 nonempty w e = let differs = eqb-false _ _ e in omega (arith, differs)
 
-pub no_empty : (w : List ℕ) → length w ≡ 0 → None ≡ number_at w
-unfolding number_at
+pub no_empty : (w : List ℕ) → length w ≡ 0 → None ≡ spelled_number w
+unfolding spelled_number
 no_empty [] e = refl
 no_empty (b ∷ bs) e = absurd (omega (arith, e))
 
@@ -23,17 +23,17 @@ all_and : (b : Bool) → (b && false) ≡ false
 all_and true = refl
 all_and false = refl
 
-plus_first : (b : ℕ) (bs : List ℕ) → b ≡ 43 → None ≡ number_at (b ∷ bs)
-unfolding number_at
-plus_first b bs e = let P : ℕ → Type 0 = λ n. None ≡ number_at (n ∷ bs) in subst P (sym e) (simp all_and)
+plus_first : (b : ℕ) (bs : List ℕ) → b ≡ 43 → None ≡ spelled_number (b ∷ bs)
+unfolding spelled_number
+plus_first b bs e = let P : ℕ → Type 0 = λ n. None ≡ spelled_number (n ∷ bs) in subst P (sym e) (simp all_and)
 
-pub no_plus : (w : List ℕ) → 0 < length w → get_or w 0 0 ≡ 43 → None ≡ number_at w
-unfolding number_at
+pub no_plus : (w : List ℕ) → 0 < length w → get_or w 0 0 ≡ 43 → None ≡ spelled_number w
+unfolding spelled_number
 no_plus [] lt e = absurd (omega (arith, lt))
 no_plus (b ∷ bs) lt e = plus_first b bs e
 
-pub no_zero : (w : List ℕ) → 1 < length w → get_or w 0 0 ≡ 48 → None ≡ number_at w
-unfolding number_at
+pub no_zero : (w : List ℕ) → 1 < length w → get_or w 0 0 ≡ 48 → None ≡ spelled_number w
+unfolding spelled_number
 no_zero w lt e =
     let long : nat_le (length w) 1 ≡ false = lt-leb _ _ lt in
     let first : (get_or w 0 0 == 48) ≡ true = eq-eqb _ _ e in
@@ -62,8 +62,8 @@ by_digits {E} false w (Ok x) e lt h = absurd (false_true (sym e ∙ h.0.0))
 by_digits {E} false w (Err x) e lt h = refl
 
 pub parsed : {E : Type 0} (w : List ℕ) (r : Result ℕ E) → ParsesUnsigned 64 10 w r → 0 < length w → (get_or w 0 0 ≡ 43 → ⊥)
-    → (length w ≤ 1) ⊎ (get_or w 0 0 ≡ 48 → ⊥) → result_ok r ≡ number_at w
-unfolding number_at
+    → (length w ≤ 1) ⊎ (get_or w 0 0 ≡ 48 → ⊥) → result_ok r ≡ spelled_number w
+unfolding spelled_number
 parsed {E} w r h lt plus zeros =
     let positive : nat_lt 0 (length w) ≡ true = lt-ltb _ _ lt in
     let third : (nat_le (length w) 1 || not (get_or w 0 0 == 48)) ≡ true = no_zeros w zeros in

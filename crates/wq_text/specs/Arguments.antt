@@ -4,11 +4,11 @@ use Rattle.wq_text.specs.declared.fault.Kind.{Kind}
 use Rattle.wq_text.specs.declared.fault.Kind.TheVariants as kind
 use Rattle.wq_words.specs.declared.layout.Layout.{Layout}
 use Rattle.wq_text.specs.Fault.{◌>>=◌, need, found}
-use Rattle.wq_text.specs.Word.{number_at}
+use Rattle.wq_text.specs.Word.{spelled_number}
 
 -- a word that is a number, and its range
 abbrev pub number : List ℕ → Result ℕ Kind
-number w = found kind.Number (number_at w)
+number w = found kind.Number (spelled_number w)
 
 unfoldable pub between : Kind → ℕ → ℕ → List ℕ → Result ℕ Kind
 between k low high w = do

@@ -26,5 +26,5 @@ is_plain b = nat_le 32 b && nat_le b 126
 abbrev pub is_numeral : List ℕ → Bool
 is_numeral w = nat_lt 0 (length w) && (all_ascii_digits w && (nat_le (length w) 1 || not (slice_index w 0 == 48)))
 
-unfoldable pub number_at : List ℕ → Option ℕ
-number_at w = if is_numeral w && nat_lt (digits_value 10 w) (2 ^ 64) then Some (digits_value 10 w) else None
+unfoldable pub spelled_number : List ℕ → Option ℕ
+spelled_number w = if is_numeral w && nat_lt (digits_value 10 w) (2 ^ 64) then Some (digits_value 10 w) else None

@@ -1,13 +1,13 @@
 //! The words of a line.
 ghost use Rattle.std.specs.Prelude.{◌≡◌, IfOk, map};
-ghost use Rattle.wq_text.specs.Word.{words, number_at};
+ghost use Rattle.wq_text.specs.Word.{words, spelled_number};
 ghost use Rattle.wq_text.specs.Decimal.{ReadsDecimals};
 
 use std::alloc::{AllocError, Global};
 
 // The number below 2^64 that a word is, in digits with no zero in front.
 pub(crate) fn number_of(word: &str) -> Option<u64>
-    ensures { result ≡ number_at word.now }
+    ensures { result ≡ spelled_number word.now }
 {
     let digits = word.as_bytes();
     if digits.is_empty() {
