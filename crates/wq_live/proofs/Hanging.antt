@@ -1,7 +1,8 @@
 -- A row hung behind another, and a row without its first number.
-use Rattle.std.proofs.Common.{◌≡◌, ◌≢◌, ℕ, ◌+◌, ◌-◌, ◌<◌, ◌≤◌, List, [], ◌∷◌, ◌++◌, length, None, Some, sym, refl, ap, ◌∙◌, subst, arith, length-append}
+use Rattle.std.proofs.Common.{◌≡◌, ◌≢◌, ℕ, ◌+◌, ◌-◌, ◌^◌, ◌<◌, ◌≤◌, Bool, if◌then◌else◌, List, [], ◌∷◌, ◌++◌, length, None, Some, sym, refl, ap, ◌∙◌, subst, arith, length-append, ne_eqb}
 use Rattle.std.proofs.lemmas.List.{append-nil}
 use Rattle.wq_words.specs.Numbers.{number_count}
+use Rattle.wq_core.specs.Words.{number_at}
 use Rattle.wq_core.specs.declared.step.Step.TheVariants.{Walk, Begin, Chain, Turn}
 use Rattle.wq_core.proofs.Chains.{times, times-cons, times-first, times-append}
 use Rattle.wq_table.specs.declared.table.Part.{Part}
@@ -13,6 +14,7 @@ use Rattle.wq_live.specs.Row.{link_in, LinksOn, LinksFrom, IsRowOf}
 use Rattle.wq_live.specs.Sits.{Stands, HasRow, Turned, HasBoth, HasFirst, kept_batch}
 use Rattle.wq_live.proofs.Rows.{on_same, last_in, on_hung, none_counted}
 use Rattle.wq_live.proofs.Tells.{Tells}
+use Rattle.wq_live.proofs.Taking.{number_small}
 use Rattle.wq_live.proofs.Linking.{keeps_once, keeps_number, row_after, has_row, turn_stage, turn_tells, turn_here, turn_else, to_turn, to_load, load_stage, load_finds, makes_links}
 
 -- the last number of a row stands in it, and the first too
@@ -167,21 +169,28 @@ module _ (row : Row) (p : Part) (has : HasRow row p) (some : 0 < row.count) wher
     found_next = load_finds word row.front p q (next_of_row.0 ∷ next_of_row.1) next_of_row.2 makes ∙ next_of_row.3
 
     -- what was found links to a number of the queue
-    pub found_number : Stands p → (word ≢ 0) × (word - 1 < number_count p.layout)
-    found_number stands =
+    pub found_small : Stands p → word ≤ 2 ^ 32
+    found_small stands =
         let j = next_of_row.0 in let ks : List ℕ = row.front ∷ j ∷ next_of_row.1 in
         let small = keeps_number p None [] ks stands next_of_row.2 j (omega (arith, times-cons j row.front (j ∷ next_of_row.1), times-first j next_of_row.1)) in
-        (omega (arith, found_next), omega (arith, found_next, small))
+        omega (arith, found_next, small, number_small p.layout)
 
-    pub first_left : HasFirst row.front (record { front = word - 1; last = row.last; count = row.count - 1 }) q
-    first_left =
+    found_number : number_at word ≡ Some next_of_row.0
+    found_number = ap (λ (b : Bool). if b then None else Some (word - 1)) (ne_eqb word 0 (λ e. omega (arith, e, found_next))) ∙
+        ap (λ (k : ℕ). Some k) (omega (arith, found_next))
+
+    pub found_some : number_at word ≢ None
+    found_some e = absurd (cc (e, found_number))
+
+    pub first_left : (k : ℕ) → number_at word ≡ Some k → HasFirst row.front (record { front = k; last = row.last; count = row.count - 1 }) q
+    first_left k is =
         let j = next_of_row.0 in let js = next_of_row.1 in let ks : List ℕ = row.front ∷ j ∷ js in let stage = next_of_row.2 in record {
           others = j ∷ js;
           stage_is = load_stage word p q [] ks stage makes;
           row_is = record {
             count_is = omega (arith, next_of_row.5);
             spells = (
-              omega (arith, found_next),
+              cc (is, found_number),
               on_same p.words q.words j row.last js
                   (λ i in'. makes_links Walk word p q None [] ks stage makes i (omega (arith, in', times-cons i row.front (j ∷ js)))) next_of_row.4,
             );

@@ -1,10 +1,11 @@
 -- The links of what the owner took, through its steps.
-use Rattle.std.proofs.Common.{◌≡◌, ◌≢◌, ℕ, ◌+◌, ◌-◌, ◌<◌, ◌≤◌, Bool, true, false, ◌==◌, if◌then◌else◌, List, [], ◌∷◌, ◌++◌, length, Option, Some, None, sym, refl, ap, ◌∙◌, subst, arith, eq-eqb, ne_eqb, unwrap_or}
+use Rattle.std.proofs.Common.{◌≡◌, ◌≢◌, ℕ, ◌+◌, ◌<◌, ◌≤◌, Bool, if◌then◌else◌, List, [], ◌∷◌, ◌++◌, length, Option, Some, None, sym, refl, ap, ◌∙◌, subst, arith, eq-eqb, ne_eqb, unwrap_or}
 use Rattle.std.proofs.lemmas.List.{append-nil}
 use Rattle.wq_words.specs.Numbers.{number_count}
 use Rattle.wq_core.specs.declared.step.Step.{Step}
 use Rattle.wq_core.specs.declared.step.Step.TheVariants.{Walk, Turn}
 use Rattle.wq_core.specs.declared.step.Seat.TheVariants.{Owner}
+use Rattle.wq_core.specs.Words.{number_at}
 use Rattle.wq_core.specs.Machine.{Machine, link, walk_number, with_link, first_of, after_walk, after, StandsIn}
 use Rattle.wq_core.proofs.Chains.{times, times-cons, times-first, times-append}
 use Rattle.wq_core.proofs.Turning.{stands_times, stands_once, stands_number}
@@ -17,10 +18,10 @@ use Rattle.wq_table.specs.Plays.{stage_after, Makes}
 use Rattle.wq_table.specs.Chair.{IsToWalk, IsToTurn}
 use Rattle.wq_live.specs.declared.row.Row.{Row}
 use Rattle.wq_live.specs.Row.{link_in, LinksOn, IsRowOf}
-use Rattle.wq_live.specs.Sits.{Stands, HasRow, Turned, kept_batch, walking}
+use Rattle.wq_live.specs.Sits.{Stands, HasRow, kept_batch, walking}
 use Rattle.wq_live.proofs.Rows.{on_same, row_same}
 use Rattle.wq_live.proofs.Tells.{Tells, tells}
-use Rattle.wq_live.proofs.OwnerTells.{walking_on, walking_end, walk_stage}
+use Rattle.wq_live.proofs.OwnerTells.{walking_on, walk_stage}
 
 -- the link of a number that the owner keeps, after its step
 pub makes_links : (step : Step) (word : ℕ) (p q : Part) (cursor : Option ℕ) (walked ks : List ℕ) → p.stage ≡ Owns cursor walked ks → Makes step word p q
@@ -80,19 +81,13 @@ pub record HasLists (st : Stage) (ws ks : List ℕ) : Type 0 where
   pub is : st ≡ Owns cursor walked batch
   pub same : (k : ℕ) → times k walked + times k batch ≡ times k ws + times k ks
 
-pub walking_lists : (word : ℕ) (ws ks : List ℕ) → HasLists (walking word ws ks) ws ks
-walking_lists word ws ks = go (word == 0)
-  where
-    go : (b : Bool) → HasLists (if b then Owns None [] (ks ++ ws) else Owns (Some (word - 1)) ws ks) ws ks
-    go true = record { cursor = None; walked = []; batch = ks ++ ws; is = refl; same = λ k. omega (arith, times-append k ks ws) }
-    go false = record { cursor = Some (word - 1); walked = ws; batch = ks; is = refl; same = λ k. refl }
+pub walking_lists : (next : Option ℕ) (ws ks : List ℕ) → HasLists (walking next ws ks) ws ks
+walking_lists None ws ks = record { cursor = None; walked = []; batch = ks ++ ws; is = refl; same = λ k. omega (arith, times-append k ks ws) }
+walking_lists (Some next) ws ks = record { cursor = Some next; walked = ws; batch = ks; is = refl; same = λ k. refl }
 
-pub kept_walking : (word : ℕ) (ks : List ℕ) → kept_batch (walking word [] ks) ≡ ks
-kept_walking word ks = go (word == 0)
-  where
-    go : (b : Bool) → kept_batch (if b then Owns None [] (ks ++ []) else Owns (Some (word - 1)) [] ks) ≡ ks
-    go true = append-nil ks
-    go false = refl
+pub kept_walking : (next : Option ℕ) (ks : List ℕ) → kept_batch (walking next [] ks) ≡ ks
+kept_walking None ks = append-nil ks
+kept_walking (Some next) ks = refl
 
 -- a Turn leaves what the owner keeps, and is no event
 module _ (c f word : ℕ) (p q : Part) (cursor : Option ℕ) (walked ks : List ℕ) (is : p.stage ≡ Owns cursor walked ks)
@@ -141,17 +136,17 @@ to_load k st ks is = subst (IsToWalk k) (sym is) refl
 pub to_turn : (k : ℕ) (st : Stage) (cursor : Option ℕ) (walked ks : List ℕ) → st ≡ Owns cursor walked ks → 0 < times k walked + times k ks → IsToTurn k st
 to_turn k st cursor walked ks is some = subst (IsToTurn k) (sym is) (stands_times walked ks k some)
 
--- From p to q some of what was taken was walked, from the newest number on, and turned: the row has it. This word is the
--- link that was found last.
-pub record Turning (ks : List ℕ) (word : ℕ) (row : Row) (p q : Part) : Type 0 where
+-- From p to q some of what was taken was walked, from the newest number on, and turned: the row has it. The link that was
+-- found last leads to this number.
+pub record Turning (ks : List ℕ) (next : Option ℕ) (row : Row) (p q : Part) : Type 0 where
   pub rest : List ℕ
   pub count_is : row.count ≡ 1 + length rest
   pub links : LinksOn q.words row.front row.last rest
-  pub stage_is : q.stage ≡ walking word (row.front ∷ rest) ks
+  pub stage_is : q.stage ≡ walking next (row.front ∷ rest) ks
   pub old_row : (r : Row) → IsRowOf p.words r ks → IsRowOf q.words r ks
 
 pub turning_first : (c found : ℕ) (p q : Part) (ks : List ℕ) → p.stage ≡ Owns (Some c) [] ks → Makes Walk found p q
-    → Turning ks found (record { front = c; last = c; count = 1 }) p q
+    → Turning ks (number_at found) (record { front = c; last = c; count = 1 }) p q
 turning_first c found p q ks is makes = record {
   rest = [];
   count_is = refl;
@@ -160,93 +155,75 @@ turning_first c found p q ks is makes = record {
   old_row = row_after Walk found p q (Some c) [] ks ks is makes (λ k w. refl) (λ j. omega arith);
 }
 
-module _ (ks : List ℕ) (w found : ℕ) (row : Row) (p q : Part) (turning : Turning ks w row p q) (more : w ≢ 0) (t : Part) (stands : Stands t)
-    (walks : Makes Walk found q t) where
-  pub on : q.stage ≡ Owns (Some (w - 1)) (row.front ∷ turning.rest) ks
-  on = turning.stage_is ∙ walking_on w (row.front ∷ turning.rest) ks more
+module _ (ks : List ℕ) (next : Option ℕ) (number found : ℕ) (row : Row) (p q : Part) (turning : Turning ks next row p q) (is : next ≡ Some number)
+    (t : Part) (stands : Stands t) (walks : Makes Walk found q t) where
+  pub on : q.stage ≡ Owns (Some number) (row.front ∷ turning.rest) ks
+  on = turning.stage_is ∙ walking_on next number (row.front ∷ turning.rest) ks is
 
-  walked_stage : t.stage ≡ walking found ((w - 1) ∷ (row.front ∷ turning.rest)) ks
-  walked_stage = walk_stage (w - 1) found q t (row.front ∷ turning.rest) ks on walks
+  pub walked_stage : t.stage ≡ walking (number_at found) (number ∷ (row.front ∷ turning.rest)) ks
+  walked_stage = walk_stage number found q t (row.front ∷ turning.rest) ks on walks
 
-  abbrev pub walked_lists : HasLists (walking found ((w - 1) ∷ (row.front ∷ turning.rest)) ks) ((w - 1) ∷ (row.front ∷ turning.rest)) ks
-  walked_lists = walking_lists found ((w - 1) ∷ (row.front ∷ turning.rest)) ks
+  abbrev pub walked_lists : HasLists (walking (number_at found) (number ∷ (row.front ∷ turning.rest)) ks) (number ∷ (row.front ∷ turning.rest)) ks
+  walked_lists = walking_lists (number_at found) (number ∷ (row.front ∷ turning.rest)) ks
 
   pub lists_is : t.stage ≡ Owns walked_lists.cursor walked_lists.walked walked_lists.batch
   lists_is = walked_stage ∙ walked_lists.is
 
   pub within : (k : ℕ) → times k (row.front ∷ turning.rest) + times k ks ≤ times k walked_lists.walked + times k walked_lists.batch
-  within k = omega (arith, walked_lists.same k, times-cons k (w - 1) (row.front ∷ turning.rest))
+  within k = omega (arith, walked_lists.same k, times-cons k number (row.front ∷ turning.rest))
 
-  pub here : 0 < times (w - 1) walked_lists.walked + times (w - 1) walked_lists.batch
-  here = omega (arith, walked_lists.same (w - 1), times-first (w - 1) (row.front ∷ turning.rest))
+  pub here : 0 < times number walked_lists.walked + times number walked_lists.batch
+  here = omega (arith, walked_lists.same number, times-first number (row.front ∷ turning.rest))
 
   pub front_here : 0 < times row.front walked_lists.walked + times row.front walked_lists.batch
   front_here = omega (arith, within row.front, times-first row.front turning.rest)
 
-  pub turn_next : IsToTurn (w - 1) t.stage
-  turn_next = to_turn (w - 1) t.stage walked_lists.cursor walked_lists.walked walked_lists.batch lists_is here
+  pub turn_next : IsToTurn number t.stage
+  turn_next = to_turn number t.stage walked_lists.cursor walked_lists.walked walked_lists.batch lists_is here
 
-  pub turn_number : w - 1 < number_count t.layout
-  turn_number = keeps_number t walked_lists.cursor walked_lists.walked walked_lists.batch stands lists_is (w - 1) here
+  pub turn_number : number < number_count t.layout
+  turn_number = keeps_number t walked_lists.cursor walked_lists.walked walked_lists.batch stands lists_is number here
 
   pub front_number : row.front < number_count t.layout
   front_number = keeps_number t walked_lists.cursor walked_lists.walked walked_lists.batch stands lists_is row.front front_here
 
   -- each of the others is another number
-  others : (k : ℕ) → 0 < times k (row.front ∷ turning.rest) + times k ks → k ≢ (w - 1)
-  others k some e = let once = keeps_once t walked_lists.cursor walked_lists.walked walked_lists.batch stands lists_is (w - 1) in
-      let same : 0 < times (w - 1) (row.front ∷ turning.rest) + times (w - 1) ks =
+  others : (k : ℕ) → 0 < times k (row.front ∷ turning.rest) + times k ks → k ≢ number
+  others k some e = let once = keeps_once t walked_lists.cursor walked_lists.walked walked_lists.batch stands lists_is number in
+      let same : 0 < times number (row.front ∷ turning.rest) + times number ks =
       subst (λ (j : ℕ). 0 < times j (row.front ∷ turning.rest) + times j ks) e some in
-      omega (arith, once, walked_lists.same (w - 1), times-first (w - 1) (row.front ∷ turning.rest), same)
+      omega (arith, once, walked_lists.same number, times-first number (row.front ∷ turning.rest), same)
 
-  module _ (r : Part) (turns : Makes (Turn (w - 1) (Some row.front)) (row.front + 1) t r) where
+  module _ (r : Part) (turns : Makes (Turn number (Some row.front)) (row.front + 1) t r) where
     spared : (k : ℕ) → 0 < times k (row.front ∷ turning.rest) + times k ks → link_in r.words k ≡ link_in q.words k
     spared k some =
-        turn_else (w - 1) row.front (row.front + 1) t r walked_lists.cursor walked_lists.walked walked_lists.batch lists_is turns k (others k some)
+        turn_else number row.front (row.front + 1) t r walked_lists.cursor walked_lists.walked walked_lists.batch lists_is turns k (others k some)
         (omega (arith, some, within k)) ∙
-        makes_links Walk found q t (Some (w - 1)) (row.front ∷ turning.rest) ks on walks k some
+        makes_links Walk found q t (Some number) (row.front ∷ turning.rest) ks on walks k some
 
     pub turned_stage : r.stage ≡ t.stage
-    turned_stage = turn_stage (w - 1) row.front (row.front + 1) t r walked_lists.cursor walked_lists.walked walked_lists.batch lists_is turns
+    turned_stage = turn_stage number row.front (row.front + 1) t r walked_lists.cursor walked_lists.walked walked_lists.batch lists_is turns
 
     pub turned_tells : Tells [] t r
-    turned_tells = turn_tells (w - 1) row.front (row.front + 1) t r walked_lists.cursor walked_lists.walked walked_lists.batch lists_is turns
+    turned_tells = turn_tells number row.front (row.front + 1) t r walked_lists.cursor walked_lists.walked walked_lists.batch lists_is turns
 
-    pub turning_next : Turning ks found (record { front = w - 1; last = row.last; count = row.count + 1 }) p r
+    pub turning_next : Turning ks (number_at found) (record { front = number; last = row.last; count = row.count + 1 }) p r
     turning_next = record {
       rest = (row.front ∷ turning.rest);
       count_is = omega (arith, turning.count_is);
       links = (
-        turn_here (w - 1) row.front (row.front + 1) t r walked_lists.cursor walked_lists.walked walked_lists.batch lists_is turns here,
+        turn_here number row.front (row.front + 1) t r walked_lists.cursor walked_lists.walked walked_lists.batch lists_is turns here,
         on_same q.words r.words row.front row.last turning.rest (λ j there. spared j (omega (arith, there))) turning.links,
       );
       stage_is = turned_stage ∙ walked_stage;
       old_row = λ old has. row_same q.words r.words old ks (λ j there. spared j (omega (arith, there))) (turning.old_row old has);
     }
 
-pub turning_done : (ks : List ℕ) (word : ℕ) (row : Row) (p q : Part) → word ≡ 0 → Turning ks word row p q → Turned ks row p q
-turning_done ks word row p q is turning = record {
-  taken = row.front ∷ turning.rest;
-  stage_is = turning.stage_is ∙ walking_end word (row.front ∷ turning.rest) ks is;
-  row_is = record { count_is = omega (arith, turning.count_is); spells = (refl, turning.links) };
-  old_row = turning.old_row;
-}
-
 -- what a take or a close found is to be walked, behind the batch that it left
-pub walks_kept : (st : Stage) (word : ℕ) (ks : List ℕ) → st ≡ walking word [] ks → st ≡ walking word [] (kept_batch st)
-walks_kept st word ks is = is ∙ ap (walking word []) (sym (ap kept_batch is ∙ kept_walking word ks))
+pub walks_kept : (st : Stage) (next : Option ℕ) (ks : List ℕ) → st ≡ walking next [] ks → st ≡ walking next [] (kept_batch st)
+walks_kept st next ks is = is ∙ ap (walking next []) (sym (ap kept_batch is ∙ kept_walking next ks))
 
-pub walks_row : (step : Step) (found word : ℕ) (p q : Part) (row : Row) → HasRow row p → Makes step found p q → ((k w : ℕ) → link_after step k w ≡ w)
-    → q.stage ≡ walking word [] (kept_batch p.stage) → IsRowOf q.words row (kept_batch q.stage)
-walks_row step found word p q row has makes quiet is = subst (IsRowOf q.words row) (sym (ap kept_batch is ∙ kept_walking word (kept_batch p.stage)))
+pub walks_row : (step : Step) (found : ℕ) (next : Option ℕ) (p q : Part) (row : Row) → HasRow row p → Makes step found p q → ((k w : ℕ) → link_after step k w ≡ w)
+    → q.stage ≡ walking next [] (kept_batch p.stage) → IsRowOf q.words row (kept_batch q.stage)
+walks_row step found next p q row has makes quiet is = subst (IsRowOf q.words row) (sym (ap kept_batch is ∙ kept_walking next (kept_batch p.stage)))
     (row_after step found p q None [] (kept_batch p.stage) (kept_batch p.stage) has.stage_is makes quiet (λ j. omega arith) row has.row_is)
-
--- nothing was taken
-pub turning_none : (word : ℕ) (p : Part) → word ≡ 0 → p.stage ≡ walking word [] (kept_batch p.stage)
-    → Turned (kept_batch p.stage) (record { front = 0; last = 0; count = 0 }) p p
-turning_none word p is stage = record {
-  taken = [];
-  stage_is = stage ∙ walking_end word [] (kept_batch p.stage) is;
-  row_is = record { count_is = refl; spells = tt };
-  old_row = λ r has. has;
-}

@@ -1,7 +1,6 @@
 -- What each kind of the owner's steps tells it.
-use Rattle.std.proofs.Common.{◌≡◌, ◌≢◌, ℕ, ◌+◌, ◌-◌, Bool, true, false, ◌==◌, if◌then◌else◌, List, [], ◌∷◌, ◌++◌, length, Some, None, slice_get, sym, refl, ap, ◌∙◌, subst, arith, MatchBool}
+use Rattle.std.proofs.Common.{◌≡◌, ℕ, ◌+◌, ◌-◌, Bool, true, false, ◌==◌, if◌then◌else◌, List, [], ◌∷◌, ◌++◌, length, Option, Some, None, slice_get, sym, refl, ap, ◌∙◌, subst, arith, MatchBool}
 use Rattle.std.proofs.lemmas.List.{append-nil}
-use Rattle.std.proofs.lemmas.Bool.{ne_eqb, eq-eqb}
 use Rattle.wq_words.specs.declared.layout.Layout.{Layout}
 use Rattle.wq_words.specs.declared.event.Event.{Event}
 use Rattle.wq_words.specs.declared.event.Event.TheVariants as event
@@ -75,37 +74,31 @@ close_tells word p q mine is makes = tells Close word p q makes _ _ (after_close
     (own_one p.seat event.Close (sym mine))
 
 -- what was found is to be walked
-to_walk : (word : ℕ) (ks : List ℕ) → Owns (number_at word) [] ks ≡ walking word [] ks
-to_walk word ks = go (word == 0)
-  where
-    go : (b : Bool) → Owns (if b then None else Some (word - 1)) [] ks ≡ (if b then Owns None [] (ks ++ []) else Owns (Some (word - 1)) [] ks)
-    go true = ap (Owns None []) (sym (append-nil ks))
-    go false = refl
+to_walk : (next : Option ℕ) (ks : List ℕ) → Owns next [] ks ≡ walking next [] ks
+to_walk None ks = ap (Owns None []) (sym (append-nil ks))
+to_walk (Some k) ks = refl
 
 pub taken_stage : (step : Step) (word link : ℕ) (p q : Part) (ks : List ℕ)
     → stage_after (Owns None [] ks) step word ≡ Owns (number_at (link_word word)) [] ks → link ≡ link_word word → p.stage ≡ Owns None [] ks
-    → Makes step word p q → q.stage ≡ walking link [] ks
+    → Makes step word p q → q.stage ≡ walking (number_at link) [] ks
 taken_stage step word link p q ks walks link_is is makes = makes.stage_is ∙ (ap (λ (st : Stage). stage_after st step word) is ∙
-    (walks ∙ (to_walk (link_word word) ks ∙ ap (λ (w : ℕ). walking w [] ks) (sym link_is))))
+    (walks ∙ (to_walk (number_at (link_word word)) ks ∙ ap (λ (w : ℕ). walking (number_at w) [] ks) (sym link_is))))
 
--- a walk that has not come to the end, and one that has
-pub walking_on : (word : ℕ) (walked ks : List ℕ) → word ≢ 0 → walking word walked ks ≡ Owns (Some (word - 1)) walked ks
-walking_on word walked ks ne = ap (λ (b : Bool). if b then Owns None [] (ks ++ walked) else Owns (Some (word - 1)) walked ks) (ne_eqb word 0 ne)
+-- a walk that has not come to the end
+pub walking_on : (next : Option ℕ) (number : ℕ) (walked ks : List ℕ) → next ≡ Some number → walking next walked ks ≡ Owns (Some number) walked ks
+walking_on next number walked ks is = ap (λ (k : Option ℕ). walking k walked ks) is
 
-pub walking_end : (word : ℕ) (walked ks : List ℕ) → word ≡ 0 → walking word walked ks ≡ Owns None [] (ks ++ walked)
-walking_end word walked ks is = ap (λ (b : Bool). if b then Owns None [] (ks ++ walked) else Owns (Some (word - 1)) walked ks) (eq-eqb word 0 is)
-
-next_walk : (k word : ℕ) (walked ks : List ℕ) → walked_on k walked ks word ≡ walking word (k ∷ walked) ks
+next_walk : (k word : ℕ) (walked ks : List ℕ) → walked_on k walked ks word ≡ walking (number_at word) (k ∷ walked) ks
 next_walk k word walked ks = go (word == 0)
   where
     go : (b : Bool)
         → (if b then Owns None [] (ks ++ k ∷ walked) else Owns (if b then None else Some (word - 1)) (k ∷ walked) ks) ≡
-        (if b then Owns None [] (ks ++ k ∷ walked) else Owns (Some (word - 1)) (k ∷ walked) ks)
+        walking (if b then None else Some (word - 1)) (k ∷ walked) ks
     go true = refl
     go false = refl
 
 pub walk_stage : (k word : ℕ) (p q : Part) (walked ks : List ℕ) → p.stage ≡ Owns (Some k) walked ks → Makes Walk word p q
-    → q.stage ≡ walking word (k ∷ walked) ks
+    → q.stage ≡ walking (number_at word) (k ∷ walked) ks
 walk_stage k word p q walked ks is makes = makes.stage_is ∙ (ap (λ (st : Stage). stage_after st Walk word) is ∙ next_walk k word walked ks)
 
 after_walks : (m : Machine) (c k : ℕ) (walked ks : List ℕ) (st : Stage) → st ≡ Owns (Some k) walked ks → HasStage m c st

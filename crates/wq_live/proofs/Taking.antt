@@ -1,6 +1,7 @@
 -- What a take or a close and the walk after it leave.
-use Rattle.std.proofs.Common.{◌≡◌, ℕ, ◌+◌, ◌<◌, ◌≤◌, List, [], ◌∷◌, ◌++◌, length, None, refl, ap, ◌∙◌, subst, arith, append_assoc, sym}
+use Rattle.std.proofs.Common.{◌≡◌, ℕ, ◌+◌, ◌-◌, ◌^◌, ◌<◌, ◌≤◌, Bool, true, false, ◌==◌, if◌then◌else◌, List, [], ◌∷◌, ◌++◌, length, None, Some, refl, ap, ◌∙◌, subst, arith, append_assoc, sym}
 use Rattle.std.proofs.lemmas.List.{append-nil}
+use Rattle.std.proofs.lemmas.Bool.{eqb-true}
 use Rattle.wq_words.specs.declared.layout.Layout.{Layout}
 use Rattle.wq_words.specs.declared.event.Event.{Event}
 use Rattle.wq_words.specs.declared.event.Event.TheVariants as event
@@ -9,6 +10,7 @@ use Rattle.wq_words.specs.History.{accepted, begun}
 use Rattle.wq_words.specs.Listed.{listed}
 use Rattle.wq_words.specs.Legal.{IsLegal}
 use Rattle.wq_core.specs.declared.step.Step.TheVariants.{Take, Close}
+use Rattle.wq_core.specs.Words.{number_at}
 use Rattle.wq_core.specs.Machine.{Machine}
 use Rattle.wq_core.specs.Sound.{IsSound}
 use Rattle.wq_table.specs.declared.table.Part.{Part}
@@ -17,10 +19,11 @@ use Rattle.wq_words.specs.Seen.{owner_seat, own, Grows}
 use Rattle.wq_table.specs.Law.{HasStage}
 use Rattle.wq_table.specs.Plays.{Makes}
 use Rattle.wq_live.specs.Batch.{TakesAll}
-use Rattle.wq_live.specs.Sits.{Stands, OnlySees}
+use Rattle.wq_live.specs.Sits.{Stands, OnlySees, walking}
 use Rattle.wq_live.proofs.Growing.{grows_on}
 use Rattle.wq_live.proofs.Tells.{Tells, TellsSo, tells_then, seen_after}
 use Rattle.wq_live.proofs.OwnerTells.{stands_batch, stands_legal, owner_of, after_take, after_close}
+use Rattle.wq_live.proofs.Waiting.{stands_walking}
 use Rattle.wq_live.proofs.Taken.{rested_lengths, takes_all, closes_all}
 
 -- a step and what was seen after it
@@ -94,3 +97,13 @@ follows_on p q r follows told = follows_both p q r follows record { layout_is = 
 -- a queue has few numbers
 pub number_small : (l : Layout) → number_count l < 5000
 number_small l = let items = l.in_limits.0.1 in let barriers = l.in_limits.1.1 in omega arith
+
+-- what a walk found leads to one of them, or to none
+pub walking_small : (word : ℕ) (walked ks : List ℕ) (p : Part) → Stands p → p.stage ≡ walking (number_at word) walked ks → word ≤ 2 ^ 32
+walking_small word walked ks p stands is = go (word == 0) refl
+  where
+    go : (b : Bool) → (word == 0) ≡ b → word ≤ 2 ^ 32
+    go true zero = omega (arith, eqb-true word 0 zero)
+    go false more =
+        let stage = is ∙ ap (λ (b : Bool). walking (if b then None else Some (word - 1)) walked ks) more in
+        omega (arith, (stands_walking p (word - 1) walked ks stands stage).0, number_small p.layout)

@@ -1,5 +1,5 @@
 -- A sender's and an owner's fields, as a clause sees them.
-use Rattle.std.specs.Prelude.{◌≡◌, ℕ, ◌-◌, ◌==◌, if◌then◌else◌, List, [], ◌∷◌, ◌++◌, Some, None}
+use Rattle.std.specs.Prelude.{◌≡◌, ℕ, List, [], ◌∷◌, ◌++◌, Option, Some, None}
 use Rattle.wq_words.specs.History.{closed, running}
 use Rattle.wq_words.specs.Legal.{IsLegal}
 use Rattle.wq_core.specs.Machine.{Machine}
@@ -58,9 +58,10 @@ pub record OwnsQueue (s : owner.Inside) : Type 0 where
   pub closed_is : s.closed ≡ closed s.chair.part.seen
   pub counts_are : s.counts ≡ owner_counts s.chair.part.seen
 
--- what the owner keeps while it walks what it took, where this word is the link that it found last
-abbrev pub walking : ℕ → List ℕ → List ℕ → Stage
-walking word walked batch = if word == 0 then stage.Owns None [] (batch ++ walked) else stage.Owns (Some (word - 1)) walked batch
+-- what the owner keeps while it walks what it took, where the link that it found last leads to this number, or to none
+abbrev pub walking : Option ℕ → List ℕ → List ℕ → Stage
+walking None walked batch = stage.Owns None [] (batch ++ walked)
+walking (Some next) walked batch = stage.Owns (Some next) walked batch
 
 -- From p to q what was taken was walked and turned: it stands behind the batch ks, and the row has it. The row of the batch
 -- has it still.

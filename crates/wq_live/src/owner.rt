@@ -5,6 +5,7 @@ ghost use Rattle.wq_words.specs.Numbers.{number_count};
 ghost use Rattle.wq_words.specs.History.{IsClosed, closed, IsRunning, running, ended};
 ghost use Rattle.wq_words.specs.Legal.{IsLegal, IsComplete};
 ghost use Rattle.wq_words.specs.Headline.{KeepsHeadline};
+ghost use Rattle.wq_core.specs.Words.{number_at};
 ghost use Rattle.wq_live.specs.Known.{IsSame, Sees};
 ghost use Rattle.wq_live.specs.Answers.{Chains, IsFinal};
 ghost use Rattle.wq_live.specs.Batch.{batch, next_of, TakesAll};
@@ -17,7 +18,7 @@ use crate::answer::Done;
 use crate::counts::OwnerCounts;
 use crate::row::Row;
 use std::marker::Model;
-use wq_core::place::link_word;
+use wq_core::place::{link_word, number_at};
 use wq_table::Chair;
 use wq_words::{Answer, BUSY, Layout};
 
@@ -48,21 +49,19 @@ impl Model for Owner {
 // Walks what was taken, from the number of this word on, and turns its links, so that it stands oldest first.
 fn turn_taken(chair: &mut Chair, word: u64) -> Row
     requires stands { Stands chair.old.part }
-    requires stage { chair.old.part.stage ≡ walking word [] (kept_batch chair.old.part.stage) }
+    requires stage { chair.old.part.stage ≡ walking (number_at word) [] (kept_batch chair.old.part.stage) }
     ensures queue { chair.new.queue ≡ chair.old.queue }
     ensures follows { OnlySees chair.old.part chair.new.part }
     ensures stands { Stands chair.new.part }
     ensures turned { Turned (kept_batch chair.old.part.stage) result chair.old.part chair.new.part }
 {
-    if word == 0 {
+    let Some(last) = number_at(word) else {
         return Row::empty();
-    }
-    let last = (word - 1) as u32;
+    };
     let mut row = Row::of_one(last);
-    let mut word = chair.walk(last);
-    while word != 0 {
-        let number = (word - 1) as u32;
-        word = chair.walk(number);
+    let mut next = number_at(chair.walk(last));
+    while let Some(number) = next {
+        next = number_at(chair.walk(number));
         chair.turn(number, row.front);
         row.front = number;
         row.count += 1;
@@ -98,7 +97,7 @@ fn hang(chair: &mut Chair, row: Row, more: Row) -> Row
 // Walks what was taken, from the number of this word on, and hangs it behind what waits.
 fn walk_all(chair: &mut Chair, row: Row, word: u64) -> Row
     requires stands { Stands chair.old.part }
-    requires stage { chair.old.part.stage ≡ walking word [] (kept_batch chair.old.part.stage) }
+    requires stage { chair.old.part.stage ≡ walking (number_at word) [] (kept_batch chair.old.part.stage) }
     requires row { IsRowOf chair.old.part.words row (kept_batch chair.old.part.stage) }
     ensures queue { chair.new.queue ≡ chair.old.queue }
     ensures follows { OnlySees chair.old.part chair.new.part }
@@ -123,11 +122,13 @@ fn without_first(chair: &mut Chair, row: Row) -> Row
     if row.count == 1 {
         return Row::empty();
     }
-    let word = chair.walk(row.front);
-    Row {
-        front: (word - 1) as u32,
-        last: row.last,
-        count: row.count - 1,
+    match number_at(chair.walk(row.front)) {
+        Some(front) => Row {
+            front,
+            last: row.last,
+            count: row.count - 1,
+        },
+        None => unreachable!(),
     }
 }
 

@@ -20,12 +20,12 @@ walk_all-self-inside-requires-clause-stands c = makes_stands _ _ c.self.inside.c
 
 pub walk_all-self-inside-requires-clause-stage : goal.walk_all-self-inside-requires-clause-stage
 walk_all-self-inside-requires-clause-stage c = let p = c.self.inside.chair.part in let q = c.close-head.new.self.part in
-    walks_kept q.stage c.link_word.result (kept_batch p.stage)
+    walks_kept q.stage _ (kept_batch p.stage)
     (taken_stage step.Close _ _ p q (kept_batch p.stage) refl c.link_word.ensures.word c.self.invariant.has_row.stage_is c.close-head.ensures.step.makes)
 
 pub walk_all-self-inside-requires-clause-row : goal.walk_all-self-inside-requires-clause-row
 walk_all-self-inside-requires-clause-row c = let s = c.self.inside in let o = c.self.invariant in let p = s.chair.part in let q = c.close-head.new.self.part in
-    walks_row step.Close c.close-head.result c.link_word.result p q s.row o.has_row c.close-head.ensures.step.makes (λ k w. refl)
+    walks_row step.Close c.close-head.result _ p q s.row o.has_row c.close-head.ensures.step.makes (λ k w. refl)
     (taken_stage step.Close _ _ p q (kept_batch p.stage) refl c.link_word.ensures.word o.has_row.stage_is c.close-head.ensures.step.makes)
 
 pub invariant_of-self : goal.invariant_of-self
