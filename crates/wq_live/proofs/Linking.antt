@@ -223,7 +223,7 @@ module _ (ks : List ℕ) (next : Option ℕ) (number found : ℕ) (row : Row) (p
 pub walks_kept : (st : Stage) (next : Option ℕ) (ks : List ℕ) → st ≡ walking next [] ks → st ≡ walking next [] (kept_batch st)
 walks_kept st next ks is = is ∙ ap (walking next []) (sym (ap kept_batch is ∙ kept_walking next ks))
 
-pub walks_row : (step : Step) (found : ℕ) (next : Option ℕ) (p q : Part) (row : Row) → HasRow row p → Makes step found p q → ((k w : ℕ) → link_after step k w ≡ w)
-    → q.stage ≡ walking next [] (kept_batch p.stage) → IsRowOf q.words row (kept_batch q.stage)
+pub walks_row : (step : Step) (found : ℕ) (next : Option ℕ) (p q : Part) (row : Row) → HasRow row p → Makes step found p q
+    → ((k w : ℕ) → link_after step k w ≡ w) → q.stage ≡ walking next [] (kept_batch p.stage) → IsRowOf q.words row (kept_batch q.stage)
 walks_row step found next p q row has makes quiet is = subst (IsRowOf q.words row) (sym (ap kept_batch is ∙ kept_walking next (kept_batch p.stage)))
     (row_after step found p q None [] (kept_batch p.stage) (kept_batch p.stage) has.stage_is makes quiet (λ j. omega arith) row has.row_is)

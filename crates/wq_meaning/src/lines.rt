@@ -43,7 +43,7 @@ pub fn write_name(layout: &Layout, number: u32, out: &mut String) -> Result<(), 
 {
     if number < layout.items {
         write!(out, " {number}")
-    } else if number < layout.items + layout.barriers {
+    } else if number < layout.stop() {
         let barrier = number - layout.items;
         write!(out, " b{barrier}")
     } else {
