@@ -57,16 +57,15 @@ pub fn head_at(word: u64) -> Head
     }
 }
 
-/// The number that a link stands for.
+/// The number that a link stands for. A link never says that a queue is closed or rests, so it is no head to be told apart.
 pub fn number_at(word: u64) -> Option<u32>
     requires { word ≤ 2 ^ 32 }
     ensures number { result ≡ number_at word }
 {
-    match head_at(word) {
-        Head::Item(number) => Some(number),
-        Head::Empty => None,
-        Head::Closed => unreachable!(),
+    if word == 0 {
+        return None;
     }
+    Some((word - 1) as u32)
 }
 
 /// The word that links to a number, or to none.
