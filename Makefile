@@ -4,7 +4,7 @@ PREFIX ?= /usr/local
 PROGRAM := crates/wqrun/out/wqrun
 EXAMPLES := examples
 
-.PHONY: run test build install bench examples rows memory wrong-bodies
+.PHONY: run test build install bench examples rows definitions memory wrong-bodies
 
 run: build
 	$(PROGRAM) script $(EXAMPLES)/first.wq
@@ -31,6 +31,10 @@ rows: build
 	checks/rows.py $(PROGRAM)
 	checks/command_lines.py $(PROGRAM)
 	checks/random_delays.py $(PROGRAM)
+
+# Each word that a public contract cites is defined in docs/DEFINITIONS.md, as the gate compares; a second.
+definitions:
+	checks/definitions.py
 
 # The calls that take memory, with each allocation refused in turn, as the gate does; some minutes.
 memory:

@@ -21,8 +21,10 @@ for file in "$folder"/*.wq "$folder"/*.steps "$folder"/*.json; do
     name=${file%.*}
     wanted=$(stored "$name.status")
     same=yes
-    "$program" "$command" "$file" 2>"$faults" | diff - <(stored "$name.report") || same=no
-    status=${PIPESTATUS[0]}
+    "$program" "$command" "$file" 2>"$faults" | diff - <(stored "$name.report")
+    ended=("${PIPESTATUS[@]}")
+    status=${ended[0]}
+    [ "${ended[1]}" = 0 ] || same=no
     diff "$faults" <(stored "$name.faults") || same=no
     [ "$status" = "${wanted:-0}" ] || same=no
     if [ "$same" = yes ]; then

@@ -1,0 +1,100 @@
+#!/usr/bin/env python3
+"""Compares docs/DEFINITIONS.md with the contracts, and with the definitions that they cite.
+
+A word of a public contract is one that a file of crates/*/src imports from the specs of a crate of the repository and that stands
+in a `requires` or an `ensures` of a `pub fn`, of a function of a `pub trait`, or of one of a trait's `impl`. Each is to be
+defined in docs/DEFINITIONS.md: to stand there, in backquotes, in the first column of a table or at the beginning of a line, under
+a heading that names its crate, or in a row whose `File` does. And each word that is defined there is to be one of that crate's
+specs, in a file that the row names where its table has a column `File`.
+
+Programs and tests are left out, since they promise nothing to a caller. The two examples of users count: README.md says what
+their contracts say.
+"""
+import re
+import sys
+from pathlib import Path
+
+TOP = Path(__file__).resolve().parent.parent
+PROMISE_NOTHING = {"wqrun", "wq_bench", "wq_pool_bench", "wq_refused", "wq_tests"}
+CRATES = {line.partition(":")[0].split()[0] for line in (TOP / "crates.txt").read_text().splitlines()}
+
+
+def imported(text):
+    """Crate and word of what a file of code imports from definitions, the types of the code itself left out."""
+    uses = re.findall(r"^\s*ghost use Rattle\.(\w+)\.specs\.(?!declared\b)[\w.]+\.\{([^}]*)\};", text, re.M)
+    return {(crate, word.strip()) for crate, words in uses if crate in CRATES for word in words.split(",")}
+
+
+def clauses_of(lines, indent):
+    """The clauses of the function whose text begins with these lines."""
+    clauses = []
+    for line in lines:
+        if line == indent + "{":
+            break
+        if clauses or re.match(r"\s*(requires|ensures)\b", line):
+            clauses.append(line)
+        if line.endswith(";") or (not clauses and line.endswith(("{", "}"))):
+            break
+    return clauses
+
+
+def public_clauses(text):
+    """The text of all clauses that a file of code has for its callers."""
+    lines, item, clauses = text.splitlines(), "", []
+    for number, line in enumerate(lines):
+        item = line if re.match(r"\S", line) else item
+        function = re.match(r"(\s*)(pub )?((const|unsafe) )*fn ", line)
+        if function and (function[2] or re.match(r"pub trait |impl\b.* for ", item)):
+            clauses += clauses_of(lines[number:], function[1])
+    return "\n".join(clauses)
+
+
+def contract_words():
+    """Each word of a public contract, by its crate and itself, with a file where it stands."""
+    words = {}
+    for file in sorted(TOP.glob("crates/*/src/**/*.rt")):
+        place = file.relative_to(TOP)
+        if place.parts[1] not in PROMISE_NOTHING:
+            text = file.read_text()
+            clauses = public_clauses(text)
+            cited = (it for it in imported(text) if re.search(rf"(?<![\w.]){re.escape(it[1])}(?![\w?'])", clauses))
+            words.update((it, place) for it in cited)
+    return words
+
+
+def spec_words():
+    """The words that the files of specs/ declare, each as crate, file and word."""
+    declared = r"^\s*(?:(?:abbrev|unfoldable) pub|pub (?:record|data|abbrev)) (\w+)"
+    files = TOP.glob("crates/*/specs/*.antt")
+    return {(it.parent.parent.name, it.stem, word) for it in files for word in re.findall(declared, it.read_text(), re.M)}
+
+
+def defined_words():
+    """Each word that docs/DEFINITIONS.md defines: its line, the crates and the files that may have it (no file: any), and itself."""
+    crates, in_file = set(), False
+    for number, line in enumerate((TOP / "docs/DEFINITIONS.md").read_text().splitlines(), 1):
+        cells = [cell.strip() for cell in line.split("|")[1:-1]] or [re.match(r"(`\w+`)?", line)[0]]
+        if line.startswith("## "):
+            crates = CRATES & set(re.findall(r"\w+", line))
+        elif cells[0] == "Name":
+            in_file = cells[1] == "File"
+        named = set(re.findall(r"`(\w+)`", cells[1])) if in_file and len(cells) > 1 else set()
+        for word in re.findall(r"`(\w+)`", cells[0]):
+            yield number, crates | (CRATES & named), named - CRATES, word
+
+
+def main():
+    contracts, specs, defined = contract_words(), spec_words(), list(defined_words())
+    known = {(crate, word) for _, crates, _, word in defined for crate in crates}
+    faults = [f"{place}: {word} of {crate} is not defined" for (crate, word), place in contracts.items() if (crate, word) not in known]
+    for number, crates, files, word in defined:
+        if not any(it[2] == word and it[0] in crates and (not files or it[1] in files) for it in specs):
+            faults.append(f"docs/DEFINITIONS.md:{number}: {word} is no word of {' and '.join(sorted(files or crates))}")
+    for fault in sorted(faults):
+        print(fault)
+    print(f"definitions: {len(contracts)} words of contracts, {len(defined)} defined, {len(faults)} not as wanted")
+    return 1 if faults or not contracts else 0
+
+
+if __name__ == "__main__":
+    sys.exit(main())
