@@ -55,6 +55,8 @@ ROWS = [
     ("steps --help", 0, Some([b"o turn K L", b"o rest", b"Example:\n"]), b""),
     ("help live", 0, Some([b"workers, 1 to 8", b"Example:\n"]), b""),
     ("--version", 0, b"wqrun 0.1.0\n", b""),
+    ("-h", 0, HELP, b""),
+    ("-V", 0, b"wqrun 0.1.0\n", b""),
     # refused words
     ("race a", 2, b"", Some([b"error: unrecognized subcommand 'race'"])),
     ("script", 2, b"", Some([b"error: the following required arguments were not provided"])),

@@ -16,7 +16,7 @@ from pathlib import Path
 
 TOP = Path(__file__).resolve().parent.parent
 PROMISE_NOTHING = {"wqrun", "wq_bench", "wq_pool_bench", "wq_refused", "wq_tests"}
-CRATES = {line.partition(":")[0].split()[0] for line in (TOP / "crates.txt").read_text().splitlines()}
+CRATES = set(re.findall(r"^(\w+)[^#\n]*:", (TOP / "crates.txt").read_text(), re.M))
 
 
 def imported(text):

@@ -1,6 +1,7 @@
 #!/bin/bash
 # Runs each example with the program that is named, and compares what it writes, what it says of failures and its status with
-# what stands beside it: NAME.report, NAME.faults and NAME.status. Where one of them is missing, nothing and 0 are wanted.
+# what stands beside it: NAME.report, NAME.faults and NAME.status. Where one of them is missing, nothing and 0 are wanted. Each has
+# its line in examples/README.md.
 program=${1:?usage: checks/examples.sh PROGRAM}
 folder=$(dirname "$0")/../examples
 faults=$(mktemp)
@@ -27,6 +28,7 @@ for file in "$folder"/*.wq "$folder"/*.steps "$folder"/*.json; do
     [ "${ended[1]}" = 0 ] || same=no
     diff "$faults" <(stored "$name.faults") || same=no
     [ "$status" = "${wanted:-0}" ] || same=no
+    grep -qF "| \`${file##*/}\` |" "$folder/README.md" || { echo "$file: no line in README.md" && same=no; }
     if [ "$same" = yes ]; then
         echo "$file: as stored, with status $status"
     else
