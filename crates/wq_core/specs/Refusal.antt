@@ -1,14 +1,14 @@
 -- Which steps the machine makes, and why it refuses the others.
-use Rattle.std.specs.Prelude.{◌≡◌, ◌<◌, Bool, true, false, IfSome}
+use Rattle.std.specs.Prelude.{◌≡◌, ◌≢◌, ◌<◌, ◌⊎◌, Bool, true, false, IfSome, None}
 use Rattle.wq_words.specs.declared.layout.Layout.{Layout}
 use Rattle.wq_words.specs.Numbers.{number_count}
 use Rattle.wq_core.specs.declared.step.Seat.{Seat}
 use Rattle.wq_core.specs.declared.step.Seat.TheVariants.{Sender, Owner}
 use Rattle.wq_core.specs.declared.step.Step.{Step}
-use Rattle.wq_core.specs.declared.step.Step.TheVariants.{Hold, Look, Link, Push, Back, Check, Chain, Turn}
+use Rattle.wq_core.specs.declared.step.Step.TheVariants.{Hold, Look, Link, Push, Back, Check, Walk, Chain, Turn}
 use Rattle.wq_core.specs.declared.step.StepError.{StepError}
 use Rattle.wq_core.specs.declared.step.StepError.TheVariants.{NoSeat, NoItem, NotEnabled, Memory}
-use Rattle.wq_core.specs.Machine.{Machine, IsEnabled}
+use Rattle.wq_core.specs.Machine.{Machine, IsEnabled, after}
 
 -- the kinds of a sender's steps; all others are the owner's
 abbrev pub is_senders : Step → Bool
@@ -39,13 +39,9 @@ IsNumbered layout _ = Unit {0}
 abbrev pub IsPlaced : Layout → Seat → Step → Type 0
 IsPlaced layout seat step = IsSeated layout seat step × IsNumbered layout step
 
--- the kinds of steps that may take memory; the others add no event and walk to no number
-abbrev pub may_take_memory : Step → Bool
-may_take_memory Look = false
-may_take_memory (Link k) = false
-may_take_memory (Check k) = false
-may_take_memory (Turn k next) = false
-may_take_memory _ = true
+-- the step adds an event, or walks a number that is still to be walked; any other is made without memory
+abbrev pub MayTakeMemory : Machine → Seat → Step → Type 0
+MayTakeMemory m seat step = ((after m seat step).history ≢ m.history) ⊎ ((step ≡ Walk) × (m.cursor ≢ None))
 
 -- the machine makes the step
 abbrev pub IsMade : Machine → Seat → Step → Type 0
@@ -56,4 +52,4 @@ abbrev pub IsRefused : Machine → Seat → Step → StepError → Type 0
 IsRefused m seat step NoSeat = ¬ IsSeated m.layout seat step
 IsRefused m seat step NoItem = IsSeated m.layout seat step × (¬ IsNumbered m.layout step)
 IsRefused m seat step NotEnabled = IsPlaced m.layout seat step × (¬ IsEnabled m seat step)
-IsRefused m seat step Memory = IsMade m seat step × (may_take_memory step ≡ true)
+IsRefused m seat step Memory = IsMade m seat step × MayTakeMemory m seat step

@@ -8,7 +8,7 @@ ghost use Rattle.wq_core.specs.declared.step.Step.TheVariants.{Hold, Look, Link,
 ghost use Rattle.wq_core.specs.Words.{number_at};
 ghost use Rattle.wq_core.specs.Machine.{opening, IsEnabled, after, reply_to, nothing_seen, private, link, unlinked};
 ghost use Rattle.wq_core.specs.Sound.{IsSound};
-ghost use Rattle.wq_core.specs.Refusal.{is_senders, IsSeated, IsNumbered, IsPlaced, may_take_memory, IsMade, IsRefused};
+ghost use Rattle.wq_core.specs.Refusal.{is_senders, IsSeated, IsNumbered, IsPlaced, MayTakeMemory, IsMade, IsRefused};
 
 use crate::place::{
     HEAD, done_place, head_at, item_place, link_place, link_word, number_at, word, word_at,
@@ -111,8 +111,8 @@ impl Core {
         Ok(numbers)
     }
 
-    /// One step of the machine, and its reply. After an error nothing has changed. Only a step that adds an event or walks to
-    /// a number may want memory.
+    /// One step of the machine, and its reply. After an error nothing has changed. Only a step that adds an event, or a Walk of
+    /// a number that is still to be walked, may want memory.
     pub fn step(&mut self, seat: Seat, step: Step) -> Result<Reply, StepError>
         ensures made { OnOk result (IsMade self.old seat step) }
         ensures reply { IfOk result (λ reply. reply ≡ reply_to self.old seat step) }
@@ -211,7 +211,7 @@ impl Core {
         requires { IsMade self.old seat step }
         ensures reply { IfOk result (λ reply. reply ≡ reply_to self.old seat step) }
         ensures after { OnOk result (self.new ≡ after self.old seat step) }
-        ensures memory { OnErr result (may_take_memory step ≡ true) }
+        ensures memory { OnErr result (MayTakeMemory self.old seat step) }
         ensures unchanged { OnErr result (self.new ≡ self.old) }
     {
         match (seat, step) {
@@ -281,6 +281,7 @@ impl Core {
         requires { IsMade self.old (Sender sender) (Push number) }
         ensures reply { IfOk result (λ reply. reply ≡ reply_to self.old (Sender sender) (Push number)) }
         ensures after { OnOk result (self.new ≡ after self.old (Sender sender) (Push number)) }
+        ensures memory { OnErr result (MayTakeMemory self.old (Sender sender) (Push number)) }
         ensures unchanged { OnErr result (self.new ≡ self.old) }
     {
         let seen = private_at(&self.seats, sender).seen.unwrap_or(0);
@@ -354,6 +355,7 @@ impl Core {
         requires { IsMade self.old Owner Walk }
         ensures reply { IfOk result (λ reply. reply ≡ reply_to self.old Owner Walk) }
         ensures after { OnOk result (self.new ≡ after self.old Owner Walk) }
+        ensures memory { OnErr result (MayTakeMemory self.old Owner Walk) }
         ensures unchanged { OnErr result (self.new ≡ self.old) }
     {
         let Some(number) = self.cursor else {
@@ -443,6 +445,7 @@ impl Core {
         requires { IsMade self.old Owner Rest }
         ensures reply { IfOk result (λ reply. reply ≡ reply_to self.old Owner Rest) }
         ensures after { OnOk result (self.new ≡ after self.old Owner Rest) }
+        ensures memory { OnErr result (MayTakeMemory self.old Owner Rest) }
         ensures unchanged { OnErr result (self.new ≡ self.old) }
     {
         let head = word(&self.words, HEAD);
