@@ -1,11 +1,11 @@
 #!/usr/bin/env python3
 """Runs each row of checks/rows/*.rows with the program that is named: a text, and what becomes of it.
 
-A row is `TEXT => WANT`. In TEXT a `;` ends a line, one space after it is left out, `\\t` is a tab, `\\r` a carriage return and
-`\\s` a space; `{comments to N}` fills the text up to N bytes with comment lines, and `{spaces to N}` with spaces; `{M to N:PART}` is
-PART once for each number from M to N, which stands in the place of a `#`. WANT is what standard output has to hold, with status
-0 and nothing on standard error; or `read`, where the output may be any; or `! REFUSAL`, the one line of standard error, with
-status 1 and nothing on standard output.
+A row is `TEXT => WANT`. In TEXT a `;` ends a line, one space after it is left out, `\\t` is a tab, `\\r` a carriage return,
+`\\s` a space and `\\xHH` the byte of these two hexadecimal digits; `{comments to N}` fills the text up to N bytes with comment
+lines, and `{spaces to N}` with spaces; `{M to N:PART}` is PART once for each number from M to N, which stands in the place of
+a `#`. WANT is what standard output has to hold, with status 0 and nothing on standard error; or `read`, where the output may be
+any; or `! REFUSAL`, the one line of standard error, with status 1 and nothing on standard output.
 
 Lines before the rows say of all that follow: `command WORD` the subcommand, `before TEXT` what each text begins with, `times N`
 how often each is run. After `after STEPS` a row is `STEP => REPLY`: the step is tried right after these, which are all enabled,
@@ -33,7 +33,8 @@ def text_of(row):
             made += b"".join(b"\n" if place % 64 == 63 else b"#" for place in range(len(made), int(fill[2])))
         else:
             plain = re.sub(r"; ?", "\n", part if part == row else part.strip(" "))
-            made += plain.replace(r"\t", "\t").replace(r"\r", "\r").replace(r"\s", " ").encode()
+            plain = plain.replace(r"\t", "\t").replace(r"\r", "\r").replace(r"\s", " ").encode()
+            made += re.sub(rb"\\x([0-9a-f]{2})", lambda it: bytes([int(it[1], 16)]), plain)
     return made
 
 

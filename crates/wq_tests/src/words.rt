@@ -50,6 +50,8 @@ const NOT_ALLOWED: Option<HistoryFault> = Some(HistoryFault::NotAllowed);
 
 const NO_ITEM: Option<HistoryFault> = Some(HistoryFault::NoItem);
 
+const NO_SEAT: Option<HistoryFault> = Some(HistoryFault::NoSeat);
+
 /// Whether a history of a queue of 2 items, 1 barrier and 2 senders, so that 2 is the barrier and 3 the stop item, is legal, or
 /// what is wrong at its last place.
 fn check<R: Abort>(rt: &R, history: &[Event], fault: Option<HistoryFault>) {
@@ -63,11 +65,11 @@ fn check<R: Abort>(rt: &R, history: &[Event], fault: Option<HistoryFault>) {
 }
 
 /// Rests: one is allowed where the queue is open and as many have ended as were accepted, taken or not, and another may follow it.
-const HISTORIES: [(&[Event], Option<HistoryFault>); 16] = [
+const HISTORIES: [(&[Event], Option<HistoryFault>); 18] = [
     (&[], None),
     (&[Hold(0, 0), Push(0, 0), Begin(0)], None),
     (&[Hold(0, 0), Hold(1, 0)], NOT_ALLOWED),
-    (&[Hold(2, 9)], Some(HistoryFault::NoSeat)),
+    (&[Hold(2, 9)], NO_SEAT),
     (&[Hold(0, 4)], NO_ITEM),
     (&[Hold(0, 0), Close, Push(0, 0)], NOT_ALLOWED),
     (
@@ -93,6 +95,11 @@ const HISTORIES: [(&[Event], Option<HistoryFault>); 16] = [
             End(0),
         ],
         None,
+    ),
+    (&[Close, Chain(0)], NOT_ALLOWED),
+    (
+        &[Hold(0, 0), Push(0, 0), Close, Begin(0), End(0), Chain(1)],
+        NOT_ALLOWED,
     ),
     (&[Rest], None),
     (&[Rest, Rest], None),
@@ -120,8 +127,9 @@ fn check_after<R: Abort>(rt: &R, before: [Event; 7], event: Event, fault: Option
     check(rt, &[one, two, three, four, five, six, seven, event], fault);
 }
 
-/// After a sender gave a number back twice, while another is on the list and sender 1 holds the barrier 2.
-const OPEN: [(Event, Option<HistoryFault>); 21] = [
+/// After a sender gave a number back twice, while another is on the list and sender 1 holds the barrier 2. The first sender and
+/// the first number that the queue has not are 2 and 4.
+const OPEN: [(Event, Option<HistoryFault>); 33] = [
     (Hold(0, 0), None),
     (Hold(0, 3), None),
     (Hold(0, 1), NOT_ALLOWED),
@@ -141,8 +149,20 @@ const OPEN: [(Event, Option<HistoryFault>); 21] = [
     (Chain(0), NOT_ALLOWED),
     (ChainBusy(1), NOT_ALLOWED),
     (Rest, NOT_ALLOWED),
+    (Hold(2, 0), NO_SEAT),
+    (Busy(2, 1), NO_SEAT),
+    (Push(2, 2), NO_SEAT),
+    (Back(2, 2, Why::Cancelled), NO_SEAT),
+    (Busy(0, 4), NO_ITEM),
+    (Push(1, 4), NO_ITEM),
+    (Back(1, 4, Why::Cancelled), NO_ITEM),
+    (Begin(4), NO_ITEM),
+    (End(4), NO_ITEM),
     (Chain(2), NO_ITEM),
+    (Chain(3), NO_ITEM),
+    (ChainBusy(2), NO_ITEM),
     (ChainBusy(3), NO_ITEM),
+    (ChainBusy(4), NO_ITEM),
 ];
 
 /// While 0 runs and the queue is open, 1 is on its list and sender 1 holds the barrier 2. Of what is not allowed here, and below,
