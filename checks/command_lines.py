@@ -15,7 +15,7 @@ SCHEDULE = b"steps 1\nitems 4\nsenders 2\n0 look\n"
 PLAN = b'{"queues":1,"workers":1,"senders":2,"own":2}'
 INPUT = b"wq 1\nitems 4\nsenders 2\nclose\n"
 FILES = {"a.wq": SCRIPT, "a.steps": SCHEDULE, "a.json": PLAN, "steps": SCRIPT, "--help": SCHEDULE, "-": PLAN}
-FILES |= {" a.wq": INPUT, "a.wq ": INPUT, "\ta.wq\n": INPUT}
+FILES |= {" a.wq": INPUT, "a.wq ": INPUT}
 
 QUEUED, CLOSED = b"true first\n", b"closed 0\n"
 EMPTY = b"empty\naccepted nothing\nbegun nothing\n"
@@ -42,9 +42,7 @@ ROWS = [
     # a name is taken with the spaces that it begins or ends with
     (["script", " a.wq"], 0, CLOSED, b""),
     (["script", "a.wq "], 0, CLOSED, b""),
-    (["script", "\ta.wq\n"], 0, CLOSED, b""),
     (["steps", " a.steps"], 1, b"", b"file: Unreadable\n"),
-    (["live", "a.json "], 1, b"", b"file: Unreadable\n"),
     # a text that is another's, and no file
     ("script a.steps", 1, b"", b"line 1: Version\n"),
     ("steps a.wq", 1, b"", b"line 1: Version\n"),
