@@ -19,3 +19,4 @@ pub mod Seated
 pub mod Resting
 pub mod Contended
 pub mod Rest
+pub mod Held

@@ -223,6 +223,10 @@ module _ (ks : List ℕ) (next : Option ℕ) (number found : ℕ) (row : Row) (p
 pub walks_kept : (st : Stage) (next : Option ℕ) (ks : List ℕ) → st ≡ walking next [] ks → st ≡ walking next [] (kept_batch st)
 walks_kept st next ks is = is ∙ ap (walking next []) (sym (ap kept_batch is ∙ kept_walking next ks))
 
+-- and what it kept as its batch
+pub walks_batch : (st : Stage) (next : Option ℕ) (ks : List ℕ) → st ≡ walking next [] ks → kept_batch st ≡ ks
+walks_batch st next ks is = ap kept_batch is ∙ kept_walking next ks
+
 pub walks_row : (step : Step) (found : ℕ) (next : Option ℕ) (p q : Part) (row : Row) → HasRow row p → Makes step found p q
     → ((k w : ℕ) → link_after step k w ≡ w) → q.stage ≡ walking next [] (kept_batch p.stage) → IsRowOf q.words row (kept_batch q.stage)
 walks_row step found next p q row has makes quiet is = subst (IsRowOf q.words row) (sym (ap kept_batch is ∙ kept_walking next (kept_batch p.stage)))

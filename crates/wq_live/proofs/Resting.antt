@@ -14,7 +14,7 @@ use Rattle.std.proofs.lemmas.List.Sums.{sum_by-append}
 use Rattle.wq_words.specs.Legal.{IsLegal, IsComplete}
 use Rattle.wq_words.specs.Seen.{owner_seat, seat_of, own, Grows}
 use Rattle.wq_words.proofs.Seen.{own-append}
-use Rattle.wq_words.proofs.Running.{rests_from_running, running_from_rests}
+use Rattle.wq_words.proofs.Running.{runs_some, runs_from_running, rests_from_running, running_from_rests}
 use Rattle.wq_live.specs.Known.{Known, Sees}
 use Rattle.wq_live.specs.Answers.{Answers}
 use Rattle.wq_live.specs.Laws.{queued_number, IsStillEnd}
@@ -29,6 +29,13 @@ pub quiet_idle : (xs : List Event) (n : ℕ) (old new : Known) → old.number �
 quiet_idle xs n old new mine sees b e rests =
     let g : Grows owner_seat xs n old.seen new.seen = subst (λ (d : ℕ). Grows d xs n old.seen new.seen) mine sees.grows in
     rests_from_running new.seen (running_quiet xs n old.seen new.seen g b e ∙ running_from_rests old.seen rests)
+
+-- and what ran still runs
+pub quiet_runs : (xs : List Event) (n : ℕ) (old new : Known) → old.number ≡ owner_seat → Sees xs n old new → begun xs ≡ [] → ended xs ≡ []
+    → IsRunning old.seen → IsRunning new.seen
+quiet_runs xs n old new mine sees b e runs =
+    let g : Grows owner_seat xs n old.seen new.seen = subst (λ (d : ℕ). Grows d xs n old.seen new.seen) mine sees.grows in
+    let some = runs_some old.seen runs in runs_from_running new.seen some.0 (running_quiet xs n old.seen new.seen g b e ∙ some.1)
 
 -- a closed queue stays closed
 pub closed_stays : (xs : List Event) (n : ℕ) (old new : Known) → Sees xs n old new → IsClosed old.seen → IsClosed new.seen

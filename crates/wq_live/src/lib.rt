@@ -11,7 +11,7 @@ mod sender;
 
 pub use answer::Done;
 pub use counts::{OwnerCounts, SenderCounts};
-pub use laws::{own_events_stay, queued_is_accepted};
+pub use laws::{held_stays, own_events_stay, queued_is_accepted};
 pub use making::{BuildError, build};
 pub use owner::Owner;
 pub use sender::Sender;

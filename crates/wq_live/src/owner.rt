@@ -1,5 +1,6 @@
 //! The owner of a queue.
-ghost use Rattle.std.specs.Prelude.{◌≡◌, ◌≢◌, ℕ, ◌+◌, ◌<◌, ◌≤◌, ◌↔◌, false, [], ◌∷◌, Some, None, IsSome, IsTrue, IfSome, length};
+ghost use Rattle.std.specs.Prelude.{◌≡◌, ◌≢◌, ℕ, ◌+◌, ◌<◌, ◌≤◌, ◌↔◌, false, [], ◌∷◌, ◌++◌, Some, None, IsSome, IsTrue, IfSome, length};
+ghost use mathlib.Core.List.{IsPrefix};
 ghost use Rattle.wq_words.specs.declared.event.Event.TheVariants.{Take, Close, Begin, End};
 ghost use Rattle.wq_words.specs.Numbers.{number_count};
 ghost use Rattle.wq_words.specs.History.{IsClosed, closed, IsRunning, running, ended};
@@ -11,6 +12,7 @@ ghost use Rattle.wq_live.specs.Answers.{Chains, IsFinal};
 ghost use Rattle.wq_live.specs.Batch.{batch, next_of, TakesAll};
 ghost use Rattle.wq_live.specs.Rest.{Rests, HasRested, MayNotRest};
 ghost use Rattle.wq_live.specs.Counts.{capped, owner_counts};
+ghost use Rattle.wq_live.specs.Laws.{queued_number};
 ghost use Rattle.wq_live.specs.Row.{IsRowOf};
 ghost use Rattle.wq_live.specs.Sits.{Stands, OnlySees, HasRow, Turned, HasBoth, HasFirst, kept_batch, walking};
 
@@ -104,6 +106,7 @@ fn walk_all(chair: &mut Chair, row: Row, word: u64) -> Row
     ensures stands { Stands chair.new.part }
     ensures has_row { HasRow result chair.new.part }
     ensures more { row.count ≤ result.count }
+    ensures behind { IsPrefix (kept_batch chair.old.part.stage) (kept_batch chair.new.part.stage) }
 {
     let taken = turn_taken(chair, word);
     hang(chair, row, taken)
@@ -117,6 +120,7 @@ fn without_first(chair: &mut Chair, row: Row) -> Row
     ensures queue { chair.new.queue ≡ chair.old.queue }
     ensures follows { OnlySees chair.old.part chair.new.part }
     ensures stands { Stands chair.new.part }
+    ensures stage { chair.new.part.stage ≡ chair.old.part.stage }
     ensures first { HasFirst row.front result chair.new.part }
 {
     if row.count == 1 {
@@ -157,7 +161,10 @@ impl Owner {
         requires empty { batch self.old.seen ≡ [] }
         ensures seen { Sees (Take ∷ []) 0 self.old self.new }
         ensures takes { TakesAll Take result self.new.seen }
+        ensures count { result ≡ length (batch self.new.seen) }
+        ensures unclosed { ¬ IsClosed self.new.seen }
         ensures idle { ¬ IsRunning self.old.seen → ¬ IsRunning self.new.seen }
+        ensures runs { IsRunning self.old.seen → IsRunning self.new.seen }
     {
         let head = self.chair.take();
         self.row = walk_all(&mut self.chair, self.row, link_word(head));
@@ -170,8 +177,11 @@ impl Owner {
         requires open { ¬ IsClosed self.old.seen }
         ensures seen { Sees (Close ∷ []) 0 self.old self.new }
         ensures takes { TakesAll Close result self.new.seen }
-        ensures idle { ¬ IsRunning self.old.seen → ¬ IsRunning self.new.seen }
+        ensures behind { IsPrefix (batch self.old.seen) (batch self.new.seen) }
+        ensures count { length (batch self.new.seen) ≡ length (batch self.old.seen) + result }
         ensures shut { IsClosed self.new.seen }
+        ensures idle { ¬ IsRunning self.old.seen → ¬ IsRunning self.new.seen }
+        ensures runs { IsRunning self.old.seen → IsRunning self.new.seen }
     {
         let had = self.row.count;
         let head = self.chair.close();
@@ -204,9 +214,11 @@ impl Owner {
         requires idle { ¬ IsRunning self.old.seen }
         ensures next { next_of self.old.seen ≡ Some result }
         ensures seen { Sees (Begin result ∷ []) 0 self.old self.new }
+        ensures batch { batch self.old.seen ≡ result ∷ batch self.new.seen }
         ensures runs { IsRunning self.new.seen }
         ensures running { running self.new.seen ≡ Some result }
         ensures shut { IsClosed self.old.seen → IsClosed self.new.seen }
+        ensures unclosed { ¬ IsClosed self.old.seen → ¬ IsClosed self.new.seen }
     {
         let number = self.row.front;
         self.row = without_first(&mut self.chair, self.row);
@@ -220,8 +232,10 @@ impl Owner {
         requires runs { IsRunning self.old.seen }
         ensures seen { (k : ℕ) → running self.old.seen ≡ Some k → Sees (End k ∷ []) 0 self.old self.new }
         ensures same { IsSame self.old self.new }
+        ensures batch { batch self.new.seen ≡ batch self.old.seen }
         ensures idle { ¬ IsRunning self.new.seen }
         ensures shut { IsClosed self.old.seen → IsClosed self.new.seen }
+        ensures unclosed { ¬ IsClosed self.old.seen → ¬ IsClosed self.new.seen }
     {
         self.chair.end();
         self.running = None;
@@ -260,6 +274,9 @@ impl Owner {
         requires runs { IsRunning self.old.seen }
         ensures answer { Chains item result self.old self.new }
         ensures same { IsSame self.old self.new }
+        ensures batch { batch self.new.seen ≡ batch self.old.seen ++ queued_number item result }
+        ensures shut { IsClosed self.new.seen }
+        ensures runs { IsRunning self.new.seen }
     {
         if self.chair.chain(item) != 0 {
             self.counts.chain_busy = self.counts.chain_busy.saturating_add(1);

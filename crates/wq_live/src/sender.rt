@@ -8,6 +8,7 @@ ghost use Rattle.wq_words.specs.Legal.{IsLegal, IsComplete};
 ghost use Rattle.wq_words.specs.Headline.{KeepsHeadline};
 ghost use Rattle.wq_words.specs.Seen.{owner_seat};
 ghost use Rattle.wq_words.specs.declared.answer.Answer.TheVariants.{Queued, Contended};
+ghost use Rattle.wq_words.specs.declared.answer.Posted.TheVariants as posted;
 ghost use Rattle.wq_live.specs.Known.{IsSame, Sees};
 ghost use Rattle.wq_live.specs.Answers.{TestsAndSets, Answers, Posts, IsContended, HasFlushed};
 ghost use Rattle.wq_live.specs.Counts.{sender_counts};
@@ -219,6 +220,7 @@ impl Sender {
         requires held { Holds self.old.seen self.old.number item }
         ensures answer { Posts item tries result self.old self.new }
         ensures same { IsSame self.old self.new }
+        ensures held { result ≡ posted.Contended → Holds self.new.seen self.new.number item }
     {
         self.push_tries(item, tries)
     }

@@ -1,3 +1,4 @@
+use Rattle.std.proofs.Common.{ap, sym, ◌∙◌}
 use Rattle.wq_live.specs.Sits.{kept_batch}
 use Rattle.wq_live.proofs.Taking.{follows_both}
 use Rattle.wq_live.proofs.Hanging.{taken_behind}
@@ -10,3 +11,6 @@ hang-requires-clause-both c = let p = c.args.chair.now.part in
 pub returns-clause-follows : goal.returns-clause-follows
 returns-clause-follows c =
     follows_both c.args.chair.now.part c.turn_taken-taken.new.chair.part c.hang.new.chair.part c.turn_taken-taken.ensures.follows c.hang.ensures.follows
+
+pub returns-clause-behind : goal.returns-clause-behind
+returns-clause-behind c = let turned = c.turn_taken-taken.ensures.turned in (turned.taken, sym (ap kept_batch (c.hang.ensures.stage ∙ turned.stage_is)))

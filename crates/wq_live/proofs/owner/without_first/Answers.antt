@@ -2,7 +2,7 @@ use Rattle.std.proofs.Common.{refl, sym, subst, ◌∙◌}
 use Rattle.wq_live.specs.declared.row.Row.{Row}
 use Rattle.wq_live.specs.Sits.{HasFirst}
 use Rattle.wq_live.proofs.OwnerTells.{makes_stands}
-use Rattle.wq_live.proofs.Linking.{load_tells}
+use Rattle.wq_live.proofs.Linking.{load_tells, load_stage}
 use Rattle.wq_live.proofs.Hanging.{first_of_row, first_walks, first_number, first_only, found_small, found_some, first_left}
 use Rattle.wq_live.proofs.Taking.{follows_on, follows_none}
 use Rattle.wq_live.proofs.owner.without_first.Goals as goal
@@ -12,6 +12,7 @@ returns-then-row-eq1 c = let p = c.args.chair.now.part in record {
   queue = refl;
   follows = follows_none p;
   stands = c.requires.stands;
+  stage = refl;
   first =
       subst (λ (r : Row). HasFirst c.args.row.front r p) (sym c.empty.ensures) (first_only c.args.row p c.requires.has_row c.requires.some c.if-row-eq1.true);
 }
@@ -39,6 +40,7 @@ returns c =
       queue = c.walk.ensures.step.queue_is;
       follows = follows_on p p q (follows_none p) (load_tells c.walk.result p q _ _ front.1 makes);
       stands = makes_stands _ _ p q makes;
+      stage = load_stage c.walk.result p q _ _ front.1 makes ∙ sym front.1;
       first = first_left row p c.requires.has_row c.requires.some c.if-row-eq1.false c.walk.result q makes c.in-Some.front
           (sym c.number_at.ensures.number ∙ c.in-Some.is);
     }

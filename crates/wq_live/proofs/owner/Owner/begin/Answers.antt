@@ -7,8 +7,9 @@ use Rattle.wq_live.specs.Sits.{kept_batch}
 use Rattle.wq_live.proofs.Tells.{Tells}
 use Rattle.wq_live.proofs.Owned.{running_begun, closed_quiet, counts_quiet, rests_on}
 use Rattle.wq_live.proofs.Taking.{sees_then}
+use Rattle.wq_live.proofs.Resting.{open_stays}
 use Rattle.wq_live.proofs.Hanging.{first_of_row, first_known, begun_row}
-use Rattle.wq_live.proofs.OwnerTells.{makes_stands, to_begin, begin_tells, begin_stage, owner_batch, owner_idle, owner_grows, owner_sees}
+use Rattle.wq_live.proofs.OwnerTells.{makes_stands, stands_batch, to_begin, begin_tells, begin_stage, owner_batch, owner_idle, owner_grows, owner_sees}
 use Rattle.wq_live.proofs.owner.Owner.begin.Goals as goal
 
 some_length : (xs : List ℕ) → xs ≢ [] → 0 < length xs
@@ -79,3 +80,15 @@ returns-clause-running c = let s = c.self.inside in let o = c.self.invariant in 
 
 pub returns-clause-runs : goal.returns-clause-runs
 returns-clause-runs c = runs_from_running c.begin.new.self.part.seen c.self.inside.row.front (returns-clause-running c)
+
+pub returns-clause-batch : goal.returns-clause-batch
+returns-clause-batch c = let s = c.self.inside in let o = c.self.invariant in let e = c.without_first-self-inside.ensures in let k = s.row.front in
+    let q = c.without_first-self-inside.new.chair.part in let r = c.begin.new.self.part in let makes = c.begin.ensures.step.1.makes in
+    let others = e.first.others in
+    sym (owner_batch s c.args.self.now c.self.view_is o) ∙ (ap kept_batch (sym e.stage ∙ e.first.stage_is) ∙
+    ap (λ (xs : List ℕ). k ∷ xs) (stands_batch r others (makes_stands _ _ q r makes)
+    (begin_stage k c.begin.ensures.step.0 q r others e.first.stage_is makes)))
+
+pub returns-clause-unclosed : goal.returns-clause-unclosed
+returns-clause-unclosed c = open_stays (Begin c.self.inside.row.front ∷ []) 0 c.args.self.now _ (sym (ap (λ (v : Known). v.number) c.self.view_is))
+    (returns-clause-seen c) refl

@@ -1,15 +1,19 @@
-use Rattle.std.proofs.Common.{◌≡◌, if◌then◌else◌, Bool, [], ◌∷◌, ◌++◌, None, MatchBool, eq-eqb, ne_eqb, ap, sym, subst, refl, ◌∙◌, arith}
+use Rattle.std.proofs.Common.{◌≡◌, ℕ, if◌then◌else◌, Bool, List, [], ◌∷◌, ◌++◌, None, MatchBool, eq-eqb, ne_eqb, ap, sym, subst, refl, ◌∙◌, arith}
 use Rattle.wq_words.specs.declared.event.Event.TheVariants.{Chain, ChainBusy}
 use Rattle.wq_table.specs.declared.table.Stage.TheVariants.{Owns}
 use Rattle.wq_live.proofs.Tells.{Tells}
 use Rattle.wq_live.proofs.Owned.{running_quiet, closed_quiet, counts_chained, counts_busy}
 use Rattle.wq_core.specs.declared.step.Step.TheVariants as step
 use Rattle.wq_live.specs.declared.row.Row.{Row}
+use Rattle.std.proofs.lemmas.List.{append-nil}
+use Rattle.wq_live.specs.Known.{Known}
+use Rattle.wq_live.specs.Batch.{batch}
 use Rattle.wq_live.specs.Sits.{HasBoth, kept_batch}
 use Rattle.wq_live.proofs.Linking.{has_row_after}
+use Rattle.wq_live.proofs.Resting.{closed_stays, quiet_runs}
 use Rattle.wq_live.proofs.Hanging.{chained_behind}
 use Rattle.wq_live.proofs.Taking.{followed}
-use Rattle.wq_live.proofs.OwnerTells.{makes_stands, owner_of, chain_tells, chain_stage, owner_grows, owner_sees}
+use Rattle.wq_live.proofs.OwnerTells.{makes_stands, stands_batch, owner_batch, owner_of, chain_tells, chain_stage, owner_grows, owner_sees}
 use Rattle.wq_live.proofs.owner.Owner.chain.Goals as goal
 
 pub invariant_of-self : goal.invariant_of-self
@@ -43,7 +47,15 @@ returns-then-chain-ne0 c =
     (chain_tells k w p q o.number_is (owner_of p.stage (kept_batch s.chair.part.stage) o.has_row.stage_is) c.chain.ensures.step.makes) in
     let t = record s { chair = c.chain.new.self; counts = record s.counts { chain_busy = x } } in
     let sees = owner_sees (ChainBusy k ∷ []) 0 s t c.args.self.now c.self.view_is o refl c.chain.ensures.step.queue_is told in
-    record { answer = sees; same = sees.same }
+    let stage = chain_stage k w p q (kept_batch p.stage) o.has_row.stage_is c.chain.ensures.step.makes ∙
+    ap (λ (b : Bool). Owns None [] (if b then kept_batch p.stage ++ k ∷ [] else kept_batch p.stage)) (ne_eqb w 0 c.if-chain-ne0.true) in record {
+      answer = sees;
+      same = sees.same;
+      batch = sym (stands_batch q (kept_batch p.stage) (makes_stands _ _ p q c.chain.ensures.step.makes) stage)
+          ∙ (owner_batch s c.args.self.now c.self.view_is o ∙ sym (append-nil (batch c.args.self.now.seen)));
+      shut = closed_stays (ChainBusy k ∷ []) 0 c.args.self.now _ sees c.requires.shut;
+      runs = quiet_runs (ChainBusy k ∷ []) 0 c.args.self.now _ (sym (ap (λ (v : Known). v.number) c.self.view_is)) sees refl refl c.requires.runs;
+    }
 
 pub hang-self-inside-requires-clause-stands : goal.hang-self-inside-requires-clause-stands
 hang-self-inside-requires-clause-stands c = makes_stands _ _ c.self.inside.chair.part c.chain.new.self.part c.chain.ensures.step.makes
@@ -82,4 +94,12 @@ returns c = let s = c.self.inside in let o = c.self.invariant in let k = c.args.
     (chain_tells k w p q o.number_is (owner_of p.stage (kept_batch p.stage) o.has_row.stage_is) c.chain.ensures.step.makes)) e.follows e.stands in
     let t = record s { chair = c.hang-self-inside.new.chair; row = c.hang-self-inside.result; counts = record s.counts { chained = x } } in
     let sees = owner_sees (Chain k ∷ []) 0 s t c.args.self.now c.self.view_is o refl (e.queue ∙ c.chain.ensures.step.queue_is) told in
-    record { answer = (refl, refl, sees); same = sees.same }
+    let stage = chain_stage k w p q (kept_batch p.stage) o.has_row.stage_is c.chain.ensures.step.makes ∙
+    ap (λ (b : Bool). Owns None [] (if b then kept_batch p.stage ++ k ∷ [] else kept_batch p.stage)) (eq-eqb w 0 zero) in record {
+      answer = (refl, refl, sees);
+      same = sees.same;
+      batch = sym (stands_batch r (kept_batch p.stage ++ k ∷ []) e.stands (e.stage ∙ stage))
+          ∙ ap (λ (ks : List ℕ). ks ++ k ∷ []) (owner_batch s c.args.self.now c.self.view_is o);
+      shut = closed_stays (Chain k ∷ []) 0 c.args.self.now _ sees c.requires.shut;
+      runs = quiet_runs (Chain k ∷ []) 0 c.args.self.now _ (sym (ap (λ (v : Known). v.number) c.self.view_is)) sees refl refl c.requires.runs;
+    }

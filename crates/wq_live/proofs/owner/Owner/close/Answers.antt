@@ -1,14 +1,16 @@
-use Rattle.std.proofs.Common.{◌-◌, true, [], ◌∷◌, ap, sym, subst, refl, ◌∙◌, arith}
+use Rattle.std.proofs.Common.{ℕ, List, length, ◌-◌, true, [], ◌∷◌, ap, sym, subst, refl, ◌∙◌, arith}
+use mathlib.Core.List.{IsPrefix}
 use Rattle.wq_words.specs.declared.event.Event.TheVariants.{Close}
 use Rattle.wq_core.specs.declared.step.Step.TheVariants as step
 use Rattle.wq_words.specs.History.{IsClosed}
 use Rattle.wq_live.specs.Known.{Known}
+use Rattle.wq_live.specs.Batch.{batch}
 use Rattle.wq_live.specs.Sits.{kept_batch}
 use Rattle.wq_live.proofs.Tells.{Tells}
 use Rattle.wq_live.proofs.Owned.{running_quiet, closed_closed, counts_quiet}
-use Rattle.wq_live.proofs.OwnerTells.{makes_stands, owner_of, close_tells, taken_stage, owner_grows, owner_sees}
-use Rattle.wq_live.proofs.Resting.{quiet_idle}
-use Rattle.wq_live.proofs.Linking.{walks_kept, walks_row}
+use Rattle.wq_live.proofs.OwnerTells.{makes_stands, stands_batch, owner_batch, owner_of, close_tells, taken_stage, owner_grows, owner_sees}
+use Rattle.wq_live.proofs.Resting.{quiet_idle, quiet_runs}
+use Rattle.wq_live.proofs.Linking.{walks_kept, walks_batch, walks_row}
 use Rattle.wq_live.proofs.Taking.{followed, close_takes}
 use Rattle.wq_live.proofs.owner.Owner.close.Goals as goal
 
@@ -65,3 +67,27 @@ overflow_sub-result c = c.walk_all-self-inside.ensures.more
 
 pub returns-clause-idle : goal.returns-clause-idle
 returns-clause-idle c = quiet_idle (Close ∷ []) 0 c.args.self.now _ (sym (ap (λ (v : Known). v.number) c.self.view_is)) (returns-clause-seen c) refl refl
+
+pub returns-clause-runs : goal.returns-clause-runs
+returns-clause-runs c = quiet_runs (Close ∷ []) 0 c.args.self.now _ (sym (ap (λ (v : Known). v.number) c.self.view_is)) (returns-clause-seen c) refl refl
+
+pub returns-clause-behind : goal.returns-clause-behind
+returns-clause-behind c = let s = c.self.inside in let o = c.self.invariant in let p = s.chair.part in let q = c.close-head.new.self.part in
+    let e = c.walk_all-self-inside.ensures in let r = c.walk_all-self-inside.new.chair.part in
+    let kept = walks_batch q.stage _ (kept_batch p.stage)
+    (taken_stage step.Close _ _ p q (kept_batch p.stage) refl c.link_word.ensures.word o.has_row.stage_is c.close-head.ensures.step.makes) in
+    let now : IsPrefix (kept_batch q.stage) (batch r.seen) =
+    subst (IsPrefix (kept_batch q.stage)) (stands_batch r (kept_batch r.stage) e.stands e.has_row.stage_is) e.behind in
+    subst (λ (ks : List ℕ). IsPrefix ks (batch r.seen)) (kept ∙ owner_batch s c.args.self.now c.self.view_is o) now
+
+pub returns-clause-count : goal.returns-clause-count
+returns-clause-count c = let s = c.self.inside in let o = c.self.invariant in
+    let e = c.walk_all-self-inside.ensures in let r = c.walk_all-self-inside.new.chair.part in
+    omega (
+      arith,
+      e.more,
+      o.has_row.row_is.count_is,
+      e.has_row.row_is.count_is,
+      ap (λ (xs : List ℕ). length xs) (stands_batch r (kept_batch r.stage) e.stands e.has_row.stage_is),
+      ap (λ (xs : List ℕ). length xs) (owner_batch s c.args.self.now c.self.view_is o),
+    )

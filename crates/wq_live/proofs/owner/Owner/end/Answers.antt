@@ -8,8 +8,8 @@ use Rattle.wq_live.proofs.Owned.{running_ended, closed_quiet, counts_ended}
 use Rattle.wq_core.specs.declared.step.Step.TheVariants as step
 use Rattle.wq_live.specs.Sits.{kept_batch, owner_view}
 use Rattle.wq_live.proofs.Linking.{has_row_after}
-use Rattle.wq_live.proofs.Resting.{closed_stays}
-use Rattle.wq_live.proofs.OwnerTells.{makes_stands, owner_of, end_tells, end_stage, owner_runs, owner_grows, owner_sees}
+use Rattle.wq_live.proofs.Resting.{closed_stays, open_stays}
+use Rattle.wq_live.proofs.OwnerTells.{makes_stands, stands_batch, owner_batch, owner_of, end_tells, end_stage, owner_runs, owner_grows, owner_sees}
 use Rattle.wq_live.proofs.owner.Owner.end.Goals as goal
 
 pub invariant_of-self : goal.invariant_of-self
@@ -41,7 +41,11 @@ returns c = let s = c.self.inside in let o = c.self.invariant in let p = s.chair
     owner_sees (End k ∷ []) 0 s t c.args.self.now c.self.view_is o refl c.end.ensures.step.1.queue_is (tells k known) in record {
       seen = λ k is. sees k (ap (λ (v : Known). running v.seen) c.self.view_is ∙ is);
       same = (sees some.0 some.1).same;
+      batch = sym (stands_batch q (kept_batch p.stage) (makes_stands _ _ p q c.end.ensures.step.1.makes)
+          (end_stage c.end.ensures.step.0 p q (kept_batch p.stage) o.has_row.stage_is c.end.ensures.step.1.makes))
+          ∙ owner_batch s c.args.self.now c.self.view_is o;
       shut = closed_stays (End some.0 ∷ []) 0 c.args.self.now (owner_view t) (sees some.0 some.1);
+      unclosed = open_stays (End some.0 ∷ []) 0 c.args.self.now (owner_view t) (sym (ap (λ (v : Known). v.number) c.self.view_is)) (sees some.0 some.1) refl;
       idle = rests_from_running q.seen
           (running_ended some.0 0 p.seen q.seen (owner_grows (End some.0 ∷ []) 0 s t o (tells some.0 some.1)) (owner_runs p o.stands runs));
     }

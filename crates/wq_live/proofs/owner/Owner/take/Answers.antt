@@ -6,8 +6,8 @@ use Rattle.wq_live.specs.Known.{Known}
 use Rattle.wq_live.specs.Sits.{kept_batch}
 use Rattle.wq_live.proofs.Tells.{Tells}
 use Rattle.wq_live.proofs.Owned.{running_quiet, closed_quiet, counts_quiet}
-use Rattle.wq_live.proofs.OwnerTells.{makes_stands, owner_batch, owner_of, none_of, take_tells, taken_stage, owner_grows, owner_sees}
-use Rattle.wq_live.proofs.Resting.{quiet_idle}
+use Rattle.wq_live.proofs.OwnerTells.{makes_stands, stands_batch, owner_batch, owner_of, none_of, take_tells, taken_stage, owner_grows, owner_sees}
+use Rattle.wq_live.proofs.Resting.{quiet_idle, quiet_runs, open_stays}
 use Rattle.wq_live.proofs.Linking.{walks_kept, walks_row}
 use Rattle.wq_live.proofs.Taking.{followed, take_takes}
 use Rattle.wq_live.proofs.owner.Owner.take.Goals as goal
@@ -65,3 +65,14 @@ returns-clause-takes c = let s = c.self.inside in let o = c.self.invariant in le
 
 pub returns-clause-idle : goal.returns-clause-idle
 returns-clause-idle c = quiet_idle (Take ∷ []) 0 c.args.self.now _ (sym (ap (λ (v : Known). v.number) c.self.view_is)) (returns-clause-seen c) refl refl
+
+pub returns-clause-count : goal.returns-clause-count
+returns-clause-count c = let e = c.walk_all-self-inside.ensures in let r = c.walk_all-self-inside.new.chair.part in
+    omega (arith, e.has_row.row_is.count_is, ap (λ (xs : List ℕ). length xs) (stands_batch r (kept_batch r.stage) e.stands e.has_row.stage_is))
+
+pub returns-clause-unclosed : goal.returns-clause-unclosed
+returns-clause-unclosed c =
+    open_stays (Take ∷ []) 0 c.args.self.now _ (sym (ap (λ (v : Known). v.number) c.self.view_is)) (returns-clause-seen c) refl c.requires.open
+
+pub returns-clause-runs : goal.returns-clause-runs
+returns-clause-runs c = quiet_runs (Take ∷ []) 0 c.args.self.now _ (sym (ap (λ (v : Known). v.number) c.self.view_is)) (returns-clause-seen c) refl refl
