@@ -1,17 +1,49 @@
 //! The examples of a user's own threads and of a worker.
 use crate::expect::expect_same;
+use crate::latch::Latch;
+use std::alloc::Global;
+use std::process::Abort;
+use std::sync::Wait;
 use std::test::Fail;
-use two_threads::{queue_and_destroy, run};
+use std::thread::{Threads, join};
+use three_senders::{queue_and_destroy, run};
 use wq_words::Layout;
 
-/// All four queueings are accepted, and executed.
+/// So often the example is run.
+const RUNS: u32 = 50;
+
+/// How many items each sender queues.
+const EACH: u32 = 100;
+
+/// Each run ends with all items and the stop item executed, and each sender's own were queued.
+fn run_often<R: Abort + Threads + Wait + Sync>(rt: &R, alloc: Global, over: &Latch) {
+    for _run in 0..RUNS {
+        let layout = Layout::new(300, 1, 3).expect(rt, "a layout");
+        let met = run(rt, alloc, layout, EACH).expect(rt, "memory");
+        let queued = (
+            met.first.sender.counts().queued,
+            met.second.sender.counts().queued,
+            met.third.sender.counts().queued,
+        );
+        expect_same(rt, queued, (100, 100, 101));
+        expect_same(rt, met.owner.done().map(|done| done.ended), Some(301));
+    }
+    over.open();
+}
+
+/// All items are accepted and executed. Where the owner is not woken, a run never ends: it is then given up.
 #[test]
-fn runs_all_four(rt: HostRuntime) -> Result<(), Fail> {
-    let met = run(&rt, rt.alloc(), Layout::new(4, 1, 2)?)?;
-    expect_same(&rt, met.owner.done().map(|done| done.ended), Some(4));
-    expect_same(&rt, met.first.sender.counts().queued, 2);
-    expect_same(&rt, met.second.sender.counts().queued, 2);
-    Ok(())
+fn all_are_executed(rt: HostRuntime) {
+    let over = Latch::new();
+    let (_, ended) = join(
+        &rt,
+        || run_often(&rt, rt.alloc(), &over),
+        || {
+            assert!(rt; over.stop(), "a run does not end");
+            true
+        },
+    );
+    assert!(rt; ended);
 }
 
 /// The worker runs to the end within its limit.

@@ -1,0 +1,87 @@
+//! A sender, which queues its items and wakes the owner where an answer says so.
+ghost use Rattle.std.specs.Prelude.{◌≡◌, ◌<◌, ◌≤◌, ◌++◌, []};
+ghost use Rattle.wq_words.specs.History.{accepted};
+ghost use Rattle.wq_words.specs.Seen.{own};
+ghost use Rattle.wq_words.specs.Numbers.{stop_number};
+ghost use Rattle.wq_live.specs.Known.{IsSame};
+ghost use Rattle.wq_live.specs.Laws.{queued_number};
+
+use crossbeam_utils::sync::Unparker;
+use std::sync::Wait;
+use trail::Trail;
+use wq_live::{Answer, Sender, queued_is_accepted};
+
+/// A sender, and the list of what it queued and was answered `Queued` for, which contracts alone see.
+#[derive(Drop)]
+pub struct Told {
+    pub sender: Sender,
+    pub queued: Trail,
+}
+
+/// Wakes the owner, where the answer says so.
+fn wake(answer: Answer, unparker: &Unparker) {
+    if let Answer::Queued { wakes: true, .. } = answer {
+        unparker.unpark();
+    }
+}
+
+/// The list with the number, if the answer is `Queued`.
+fn tell(queued: Trail, number: u32, answer: Answer) -> Trail
+    ensures told { result.items ≡ queued.items ++ queued_number number answer }
+{
+    match answer {
+        Answer::Queued { .. } => queued.and(number),
+        Answer::Pending | Answer::Closed | Answer::Contended => queued,
+    }
+}
+
+/// One queueing. What was accepted of the sender grows by the item, if the answer is `Queued`.
+fn queue<R: Wait>(rt: &R, sender: &mut Sender, item: u32, unparker: &Unparker) -> Answer
+    requires item { item < sender.old.layout.items }
+    ensures same { IsSame sender.old sender.new }
+    ensures accepted { accepted (own sender.old.number sender.new.seen) ≡ accepted (own sender.old.number sender.old.seen) ++ queued_number item result }
+{
+    queued_is_accepted();
+    let answer = sender.queue(rt, item);
+    wake(answer, unparker);
+    answer
+}
+
+/// Queues these items in their order, once each.
+pub(crate) fn queue_own<R: Wait>(
+    rt: &R,
+    mut sender: Sender,
+    from: u32,
+    to: u32,
+    unparker: &Unparker,
+) -> Told
+    requires from { from ≤ to }
+    requires to { to ≤ sender.layout.items }
+    requires new { sender.seen ≡ [] }
+    ensures same { IsSame sender result.sender }
+    ensures accepted { accepted (own sender.number result.sender.seen) ≡ result.queued.items }
+{
+    let mut queued = Trail::new();
+    for item in from..to {
+        let answer = queue(rt, &mut sender, item, unparker);
+        queued = tell(queued, item, answer);
+    }
+    Told { sender, queued }
+}
+
+/// Queues the stop item, behind all that the sender queued.
+pub(crate) fn stop(told: Told, unparker: &Unparker) -> Told
+    requires accepted { accepted (own told.sender.number told.sender.seen) ≡ told.queued.items }
+    ensures same { IsSame told.sender result.sender }
+    ensures accepted { accepted (own told.sender.number result.sender.seen) ≡ result.queued.items }
+{
+    let Told { mut sender, queued } = told;
+    let number = sender.layout().stop();
+    queued_is_accepted();
+    let answer = sender.request_stop(u32::MAX);
+    wake(answer, unparker);
+    Told {
+        sender,
+        queued: tell(queued, number, answer),
+    }
+}

@@ -1,6 +1,0 @@
-use Rattle.wq_words.specs.History.{IsRunning, IsClosed}
-use Rattle.wq_live.specs.Known.{IsSame}
-use Rattle.two_threads.proofs.threads.execute.Given as goal
-
-abbrev pub invariant-loop : goal.invariant-loop
-invariant-loop g l = IsSame l.fn.owner l.owner × IsClosed l.owner.seen × (¬ IsRunning l.owner.seen)
