@@ -1,5 +1,5 @@
 //! A sender of a queue.
-ghost use Rattle.std.specs.Prelude.{◌≡◌, ◌≢◌, ◌<◌, not, [], ◌∷◌, IsTrue};
+ghost use Rattle.std.specs.Prelude.{◌≡◌, ◌≢◌, ℕ, ◌<◌, not, [], ◌∷◌, IsTrue};
 ghost use Rattle.wq_words.specs.declared.event.Event.TheVariants.{Back};
 ghost use Rattle.wq_words.specs.declared.event.Why.TheVariants as why;
 ghost use Rattle.wq_words.specs.History.{pending, Holds};
@@ -141,6 +141,8 @@ impl Sender {
         requires item { item < self.old.layout.items }
         requires held { Holds self.old.seen self.old.number item }
         ensures seen { Sees (Back self.old.number item why.Cancelled ∷ []) 0 self.old self.new }
+        ensures same { IsSame self.old self.new }
+        ensures keeps { (k : ℕ) → k ≢ item → Holds self.old.seen self.old.number k → Holds self.new.seen self.new.number k }
     {
         self.chair.back_cancelled(item);
     }
@@ -207,6 +209,7 @@ impl Sender {
         ensures seen { TestsAndSets item result self.old self.new }
         ensures same { IsSame self.old self.new }
         ensures held { IsTrue result → Holds self.new.seen self.new.number item }
+        ensures keeps { (k : ℕ) → Holds self.old.seen self.old.number k → Holds self.new.seen self.new.number k }
     {
         self.hold_number(item)
     }
@@ -221,6 +224,7 @@ impl Sender {
         ensures answer { Posts item tries result self.old self.new }
         ensures same { IsSame self.old self.new }
         ensures held { result ≡ posted.Contended → Holds self.new.seen self.new.number item }
+        ensures keeps { (k : ℕ) → k ≢ item → Holds self.old.seen self.old.number k → Holds self.new.seen self.new.number k }
     {
         self.push_tries(item, tries)
     }
@@ -252,6 +256,8 @@ impl Sender {
         requires item { item < self.old.layout.items }
         ensures seen { Sees [] 0 self.old self.new }
         ensures pending { result ≡ pending self.new.seen item }
+        ensures same { IsSame self.old self.new }
+        ensures keeps { (k : ℕ) → Holds self.old.seen self.old.number k → Holds self.new.seen self.new.number k }
     {
         self.is_number_pending(item)
     }

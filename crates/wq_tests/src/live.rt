@@ -1,6 +1,7 @@
 //! Calls of a queue in one thread and in several.
 mod calls;
 mod contended;
+mod holding;
 pub(crate) mod reading;
 mod stopped;
 mod threads;

@@ -3,6 +3,7 @@ use Rattle.wq_words.specs.declared.event.Event.TheVariants.{Back}
 use Rattle.wq_words.specs.declared.event.Why.TheVariants.{Cancelled}
 use Rattle.wq_live.proofs.Counting.{counts_cancelled}
 use Rattle.wq_live.proofs.Tells.{Tells, back_tells, sender_made}
+use Rattle.wq_live.proofs.Held.{given_held}
 use Rattle.wq_live.proofs.Sends.{grows_tells, sends_tells, sees_tells, holds_view}
 use Rattle.wq_live.proofs.sender.Sender.give_back.Goals as goal
 
@@ -20,7 +21,9 @@ invariant_of-self c = let s = c.self.inside in let k = c.args.item in let steps 
 
 pub returns : goal.returns
 returns c = let s = c.self.inside in let k = c.args.item in let steps = c.back_cancelled.ensures.step.1 in let new = c.back_cancelled.new.self in
-    record {
-      seen = sees_tells s (record s { chair = new }) c.args.self.now (λ z. Back z k Cancelled ∷ []) 0 c.self.view_is c.self.invariant refl refl steps.queue_is
-          (back_tells k _ Cancelled s.chair.part new.part c.self.invariant.stage steps.makes);
+    let sees = sees_tells s (record s { chair = new }) c.args.self.now (λ z. Back z k Cancelled ∷ []) 0 c.self.view_is c.self.invariant refl refl
+    steps.queue_is (back_tells k _ Cancelled s.chair.part new.part c.self.invariant.stage steps.makes) in record {
+      seen = sees;
+      same = sees.same;
+      keeps = λ j. given_held j k 0 Cancelled c.args.self.now _ sees;
     }

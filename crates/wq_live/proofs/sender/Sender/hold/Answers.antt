@@ -1,5 +1,9 @@
+use Rattle.wq_live.proofs.Held.{tested_held}
 use Rattle.wq_live.proofs.Sends.{hold_held}
 use Rattle.wq_live.proofs.sender.Sender.hold.Goals as goal
 
 pub returns-clause-held : goal.returns-clause-held
 returns-clause-held c = hold_held c.args.item c.hold_number.result c.args.self.now c.hold_number.new.self c.hold_number.ensures.seen
+
+pub returns-clause-keeps : goal.returns-clause-keeps
+returns-clause-keeps c = λ k. tested_held k c.args.item c.hold_number.result c.args.self.now c.hold_number.new.self c.hold_number.ensures.seen
