@@ -196,6 +196,7 @@ impl<W: Work> Worker<W> {
         ensures runs { Runs W.may result self.old self.new }
         ensures owed { (k : ℕ) → result ≡ Owing k → IsContended self.old.number (slice_index self.new.unqueued 0) self.old.tries self.new.seen }
         ensures none { result ≡ Nothing → HasNoneLeft self.new.seen }
+        ensures unclosed { ¬ IsClosed self.old.seen → ¬ IsClosed self.new.seen }
         ensures same { IsSameWorker self.old self.new }
         ensures legal { IsLegal self.new.layout self.new.seen }
     {
@@ -244,6 +245,7 @@ impl<W: Work> Worker<W> {
     /// `Owner`, takes more at a time where it passes `PAUSE` `spin_loop`s after fewer than `SHORT_TAKE` executions.
     pub fn run_some(&mut self, limit: u32) -> u32
         ensures runs { RunsSome W.may limit result self.old self.new }
+        ensures unclosed { ¬ IsClosed self.old.seen → ¬ IsClosed self.new.seen }
         ensures same { IsSameWorker self.old self.new }
         ensures legal { IsLegal self.new.layout self.new.seen }
     {

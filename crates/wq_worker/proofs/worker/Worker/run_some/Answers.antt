@@ -1,7 +1,7 @@
 use Rattle.std.proofs.Common.{refl, arith}
 use Rattle.wq_worker.specs.declared.ran.Ran.TheVariants.{Item, Barrier, Stop, Nothing, Owing}
 use Rattle.wq_worker.specs.Rows.{GoesOn, none, more, broken}
-use Rattle.wq_worker.proofs.Rows.{worker_on, row_same}
+use Rattle.wq_worker.proofs.Rows.{worker_on, row_same, row_unclosed}
 use Rattle.wq_worker.proofs.worker.Worker.run_some.Goals as goal
 use Rattle.wq_worker.proofs.worker.Worker.run_some.Goals.{in-Item, in-Barrier}
 
@@ -33,6 +33,21 @@ pub returns-in-Owing-clause-same : goal.returns-in-Owing-clause-same
 returns-in-Owing-clause-same g c =
     let a = c.args.self.now in let l = c.loop-done in
     worker_on a l.self c.run_one.new.self (row_same g.W.Work.may GoesOn l.done a l.self l.invariant.0) c.in-Owing.ensures.same
+
+pub returns-in-Stop-clause-unclosed : goal.returns-in-Stop-clause-unclosed
+returns-in-Stop-clause-unclosed g c opens =
+    let l = c.loop-done in c.in-Stop.ensures.unclosed (row_unclosed g.W.Work.may GoesOn l.done c.args.self.now l.self l.invariant.0 opens)
+
+pub returns-in-Nothing-clause-unclosed : goal.returns-in-Nothing-clause-unclosed
+returns-in-Nothing-clause-unclosed g c opens =
+    let l = c.loop-done in c.in-Nothing.ensures.unclosed (row_unclosed g.W.Work.may GoesOn l.done c.args.self.now l.self l.invariant.0 opens)
+
+pub returns-in-Owing-clause-unclosed : goal.returns-in-Owing-clause-unclosed
+returns-in-Owing-clause-unclosed g c opens =
+    let l = c.loop-done in c.in-Owing.ensures.unclosed (row_unclosed g.W.Work.may GoesOn l.done c.args.self.now l.self l.invariant.0 opens)
+
+pub returns-clause-unclosed : goal.returns-clause-unclosed
+returns-clause-unclosed g c = let l = c.loop-done in row_unclosed g.W.Work.may GoesOn l.done c.args.self.now l.self l.invariant.0
 
 pub returns-clause-same : goal.returns-clause-same
 returns-clause-same g c = let l = c.loop-done in row_same g.W.Work.may GoesOn l.done c.args.self.now l.self l.invariant.0
