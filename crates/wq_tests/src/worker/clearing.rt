@@ -5,6 +5,8 @@ use crate::expect::expect_same;
 use crate::seats::{WAKES, queue_item};
 use crate::worker::team::{destroy, new_queue, take_last};
 use arrayvec::ArrayVec;
+use std::alloc::Global;
+use std::process::Abort;
 use std::test::Fail;
 use trail::Trail;
 use wq_live::Sender;
@@ -45,17 +47,35 @@ impl Work for Noting {
     }
 }
 
+/// A worker that notes, and a sender of its queue.
+fn new_noting<R: Abort>(rt: &R, alloc: Global) -> (Worker<Noting>, Sender) {
+    let (owner, mut senders) = new_queue(rt, alloc, 4, 3);
+    let last = take_last(rt, &owner, &mut senders);
+    let second = take_last(rt, &owner, &mut senders);
+    let first = take_last(rt, &owner, &mut senders);
+    (Worker::new(owner, last, Noting::new(second), 1), first)
+}
+
 /// The bit is clear before the function runs (`work_pending`).
 #[test]
 fn runs_after_the_bit_is_cleared(rt: HostRuntime) -> Result<(), Fail> {
-    let (owner, mut senders) = new_queue(&rt, rt.alloc(), 4, 3);
-    let last = take_last(&rt, &owner, &mut senders);
-    let second = take_last(&rt, &owner, &mut senders);
-    let mut first = take_last(&rt, &owner, &mut senders);
-    let mut worker = Worker::new(owner, last, Noting::new(second), 1);
+    let (mut worker, mut first) = new_noting(&rt, rt.alloc());
     expect_same(&rt, queue_item(&rt, &mut first, 3), WAKES);
     expect_same(&rt, worker.run_one(), Ran::Item(3));
     let (work, _book) = destroy(&rt, worker, 9);
     expect_same(&rt, work.found.as_slice(), [false].as_slice());
+    Ok(())
+}
+
+/// So it is for each item of a take, and not the first alone.
+#[test]
+fn each_of_a_take_runs_after_its_bit_is_cleared(rt: HostRuntime) -> Result<(), Fail> {
+    let (mut worker, mut first) = new_noting(&rt, rt.alloc());
+    for item in 0..3u32 {
+        queue_item(&rt, &mut first, item);
+    }
+    expect_same(&rt, worker.run_some(9), 3);
+    let (work, _book) = destroy(&rt, worker, 9);
+    expect_same(&rt, work.found.as_slice(), [false, false, false].as_slice());
     Ok(())
 }

@@ -71,3 +71,53 @@ fn served_worker_parks(rt: HostRuntime) -> Result<(), Fail> {
     }
     Err(Fail::new("it went on where nothing waited"))
 }
+
+/// Looks until the item is no longer pending, for ten seconds at least.
+fn is_begun<R: Abort + Clock>(rt: &R, sender: &mut Sender, item: u32) -> bool {
+    for _ in 0..10_000u32 {
+        if !is_pending(rt, sender, item) {
+            return true;
+        }
+        sleep(rt, Duration::from_millis(1));
+    }
+    false
+}
+
+/// Looks for an item that stands behind a barrier. Then queues the barrier and another item to a worker that has parked by now, if
+/// the machine is not too busy, unparks it once and looks again. The stop item ends it.
+fn look_behind_barriers<R: Abort + Clock>(
+    rt: &R,
+    sender: &mut Sender,
+    unparker: &Unparker,
+) -> (bool, bool) {
+    let found = is_begun(rt, sender, 1);
+    sleep(rt, Duration::from_millis(50));
+    assert!(rt; 0 < sender.layout().barriers);
+    sender.flush_begin(0, u32::MAX);
+    assert!(rt; 2 < sender.layout().items);
+    sender.queue_tries(2, u32::MAX);
+    unparker.unpark();
+    let woken = is_begun(rt, sender, 2);
+    stop(sender, unparker);
+    (found, woken)
+}
+
+/// A worker that serves goes on behind a barrier: an item that waits there needs no wake-up of its own, whether the worker finds
+/// both as it begins to serve, or is unparked for both.
+#[test]
+fn served_worker_goes_on_behind_a_barrier(rt: HostRuntime) -> Result<(), Fail> {
+    let mut parker = Parker::new(rt.alloc())?;
+    let unparker = parker.unparker().clone()?;
+    let mut team = new_team(&rt, rt.alloc(), Fixed::new());
+    assert!(rt; 0 < team.second.layout().barriers);
+    team.second.flush_begin(0, 1);
+    queue_item(&rt, &mut team.second, 1);
+    let (_, begun) = join_mut(
+        &rt,
+        &mut || serve(&rt, &mut team.worker, &mut parker),
+        &mut || look_behind_barriers(&rt, &mut team.first, &unparker),
+    );
+    expect_same(&rt, begun, (true, true));
+    expect_same(&rt, team.worker.counts().executed, 5);
+    Ok(())
+}
