@@ -1,17 +1,17 @@
--- How much stands in a row, and what is gathered item by item.
-use Rattle.std.proofs.Common.{◌≡◌, ℕ, ◌+◌, ◌<◌, ◌≤◌, ◌==◌, Bool, true, false, cond, ◌||◌, ◌&&◌, Option, Some, None, List, [], ◌∷◌, ◌++◌, map, length, is_ok, refl, sym, ap, ◌∙◌, subst, arith, length-append}
+-- How much stands in a row.
+use Rattle.std.proofs.Common.{◌≡◌, ℕ, ◌+◌, ◌<◌, ◌≤◌, ◌==◌, Bool, true, false, cond, ◌||◌, Option, Some, None, List, [], ◌∷◌, ◌++◌, map, length, is_ok, refl, sym, ap, ◌∙◌, subst, arith, length-append}
 use Rattle.std.specs.Prelude.{nat_lt, eqb, Result, Ok, Err, OnErr}
 use Rattle.std.specs.List.{All, IsDistinct}
 use Rattle.std.proofs.lemmas.List.{get_or_past, map-append, length-map}
-use Rattle.std.proofs.lemmas.List.Elements.{All-nil, All-head, All-tail, All-push}
+use Rattle.std.proofs.lemmas.List.Elements.{All-head, All-tail, All-push}
 use Rattle.std.proofs.lemmas.Map.Steps.{length-le_from_distinct_below}
 use Rattle.std.proofs.lemmas.Bool.{eqb-true}
 use Rattle.std.proofs.lemmas.Bool.Decides.{nat_tests}
 use Rattle.wq_words.specs.DelayTable.{Entry, items, on_table}
-use Rattle.wq_delay.specs.Rows.{entry_of, place_in, times, is_due, AreOnTable, AreDueIn}
+use Rattle.wq_delay.specs.Rows.{entry_of, place_in, times, AreOnTable}
 use Rattle.wq_delay.proofs.Rounds.{at_or}
 use Rattle.wq_delay.proofs.Rows.{apart_items, any_item}
-use Rattle.wq_delay.proofs.Looking.{on_push, times_push, times_off}
+use Rattle.wq_delay.proofs.Looking.{times_push, times_off}
 use Rattle.wq_delay.proofs.Gathered.{no_times, times_first, no_more_times}
 
 -- an entry that was pushed where there was room
@@ -20,7 +20,7 @@ pub pushed : {A E : Type 0} (r : Result A E) (xs ys : List ((ℕ × ℕ) × ℕ)
 pushed (Ok a) xs ys x room size is full low = ap (map entry_of) is ∙ map-append entry_of xs (x ∷ [])
 pushed (Err e) xs ys x room size is full low = absurd (omega (arith, full))
 
-place_low : (places : List (Option (ℕ × ℕ))) (k : ℕ) (p : ℕ × ℕ) → place_in places k ≡ Some p → k < length places
+pub place_low : (places : List (Option (ℕ × ℕ))) (k : ℕ) (p : ℕ × ℕ) → place_in places k ≡ Some p → k < length places
 place_low places k p is = by (nat_lt k (length places)) refl
   where
     by : (b : Bool) → nat_lt k (length places) ≡ b → k < length places
@@ -53,7 +53,7 @@ few_rows places es on =
     (λ k there. on_low places k es on.valid (sym (any_item k es) ∙ there)) in
     omega (arith, low, length-map es (λ e. e.item))
 
-more_on_table : (places : List (Option (ℕ × ℕ))) (es : List Entry) (k : ℕ) (p : ℕ × ℕ) → AreOnTable places es → on_table k es ≡ false
+pub more_on_table : (places : List (Option (ℕ × ℕ))) (es : List Entry) (k : ℕ) (p : ℕ × ℕ) → AreOnTable places es → on_table k es ≡ false
     → place_in places k ≡ Some p → AreOnTable places (es ++ record { due = p.0; arming = p.1; item = k } ∷ [])
 more_on_table places es k p on off is = record {
   valid = All-push (λ e. place_in places e.item ≡ Some (e.due, e.arming)) es (record { due = p.0; arming = p.1; item = k }) on.valid is;
@@ -76,57 +76,6 @@ pub row_has_room : (places : List (Option (ℕ × ℕ))) (es : List Entry) (k : 
 row_has_room places es k p on off is =
     let few = few_rows places (es ++ record { due = p.0; arming = p.1; item = k } ∷ []) (more_on_table places es k p on off is) in
     omega (arith, few, length-append es (record { due = p.0; arming = p.1; item = k } ∷ []))
-
--- what is gathered item by item
-pub gather_none : (places : List (Option (ℕ × ℕ))) (t : ℕ) → AreDueIn places t 0 []
-gather_none places t = record {
-  on = record { valid = All-nil (λ e. place_in places e.item ≡ Some (e.due, e.arming)); single = λ k. omega arith };
-  which = λ k. let e : nat_lt k 0 ≡ false = grind (arith, nat_tests) in rw e refl;
-}
-
-pub gather_more : (places : List (Option (ℕ × ℕ))) (t n : ℕ) (es fs : List Entry) (p : ℕ × ℕ) → AreDueIn places t n es → place_in places n ≡ Some p
-    → p.0 ≤ t → fs ≡ es ++ record { due = p.0; arming = p.1; item = n } ∷ [] → AreDueIn places t (n + 1) fs
-gather_more places t n es fs p due is low fs_is = subst (AreDueIn places t (n + 1)) (sym fs_is) (record {
-  on = more_on_table places es n p due.on off is;
-  which = λ k. on_push k es (record { due = p.0; arming = p.1; item = n })
-      ∙ at_or (λ z. (on_table z es || (z == n)) ≡ (nat_lt z (n + 1) && is_due t (place_in places z))) n k
-      (let a : (n == n) ≡ true = grind (arith, nat_tests) in let b : nat_lt n (n + 1) ≡ true = grind (arith, nat_tests) in
-      let d : is_due t (place_in places n) ≡ true = ap (is_due t) is ∙ (grind (arith, nat_tests)) in
-      rw (off, a, b) (sym d))
-      (λ ne. let a : (k == n) ≡ false = grind (arith, nat_tests) in let b : nat_lt k (n + 1) ≡ nat_lt k n = grind (arith, nat_tests) in
-      rw (a, b) (or_false (on_table k es) ∙ due.which k));
-})
-  where
-    off : on_table n es ≡ false
-    off = due.which n ∙ (let a : nat_lt n n ≡ false = grind (arith, nat_tests) in rw a refl)
-
-    or_false : (b : Bool) → (b || false) ≡ b
-    or_false true = refl
-    or_false false = refl
-
-pub gather_skip : (places : List (Option (ℕ × ℕ))) (t n : ℕ) (es : List Entry) → AreDueIn places t n es → is_due t (place_in places n) ≡ false
-    → AreDueIn places t (n + 1) es
-gather_skip places t n es due is = record {
-  on = due.on;
-  which = λ k. due.which k ∙ at_or (λ z. (nat_lt z n && is_due t (place_in places z)) ≡ (nat_lt z (n + 1) && is_due t (place_in places z))) n k
-      (rw is (and_false (nat_lt n n) ∙ sym (and_false (nat_lt n (n + 1)))))
-      (λ ne. let b : nat_lt k (n + 1) ≡ nat_lt k n = grind (arith, nat_tests) in rw b refl);
-}
-  where
-    and_false : (b : Bool) → (b && false) ≡ false
-    and_false true = refl
-    and_false false = refl
-
-pub gather_all : (places : List (Option (ℕ × ℕ))) (t n : ℕ) (es : List Entry) → AreDueIn places t n es → n ≡ length places
-    → (k : ℕ) → on_table k es ≡ is_due t (place_in places k)
-gather_all places t n es due n_is k = due.which k ∙ by (nat_lt k n) refl
-  where
-    by : (b : Bool) → nat_lt k n ≡ b → (b && is_due t (place_in places k)) ≡ is_due t (place_in places k)
-    by true lt = refl
-    by false ge = let high : length places ≤ k = grind (arith, nat_tests) in sym (ap (is_due t) (get_or_past places k None high))
-
-pub late_not_due : (t : ℕ) (p : ℕ × ℕ) (o : Option (ℕ × ℕ)) → o ≡ Some p → t < p.0 → is_due t o ≡ false
-late_not_due t p o is late = ap (is_due t) is ∙ (grind (arith, nat_tests))
 
 pub items_of_rows : (xs : List ((ℕ × ℕ) × ℕ)) → map (λ (e : (ℕ × ℕ) × ℕ). e.1) xs ≡ items (map entry_of xs)
 items_of_rows [] = refl

@@ -156,7 +156,7 @@ place_due t k (f ∷ fs) ordered = by (nat_le f.due t) (k == f.item) refl refl (
         rw p (rest ∙ ap (due_only t) (place_off k fs (subst (λ (z : ℕ). on_table z fs ≡ false) (sym (eqb-true k f.item q)) ordered.1)))
     by false false p q rest = rest
 
-place_valid : (places : List (Option (ℕ × ℕ))) (k : ℕ) (es : List Entry) → All (λ e. place_in places e.item ≡ Some (e.due, e.arming)) es
+pub place_valid : (places : List (Option (ℕ × ℕ))) (k : ℕ) (es : List Entry) → All (λ e. place_in places e.item ≡ Some (e.due, e.arming)) es
     → place_of k es ≡ cond (on_table k es) (place_in places k) None
 place_valid places k [] valid = refl
 place_valid places k (f ∷ fs) valid =

@@ -28,7 +28,7 @@ place_stands : (p : ℕ × ℕ) (o : Option (ℕ × ℕ)) → o ≡ Some p → i
 place_stands p o is =
     ap (is_place p) is ∙ (let a : (p.0 == p.0) ≡ true = grind (arith, nat_tests) in let b : (p.1 == p.1) ≡ true = grind (arith, nat_tests) in rw (a, b) refl)
 
-kept_valid : (places : List (Option (ℕ × ℕ))) (xs : List ((ℕ × ℕ) × ℕ))
+pub kept_valid : (places : List (Option (ℕ × ℕ))) (xs : List ((ℕ × ℕ) × ℕ))
     → All (λ e. place_in places e.item ≡ Some (e.due, e.arming)) (map entry_of (filter (stands places) xs))
 kept_valid places [] = All-nil (λ e. place_in places e.item ≡ Some (e.due, e.arming))
 kept_valid places (x ∷ xs) = by (stands places x) refl (kept_valid places xs)
@@ -51,7 +51,7 @@ filter_all {X} p (x ∷ xs) all =
     ap (λ (z : Bool). cond z (x ∷ filter p xs) (filter p xs)) (All-head (λ y. p y ≡ true) x xs all)
     ∙ ap (λ (z : List X). x ∷ z) (filter_all p xs (All-tail (λ y. p y ≡ true) x xs all))
 
-ordered_single : (k : ℕ) (es : List Entry) → IsOrdered es → times k es ≤ 1
+pub ordered_single : (k : ℕ) (es : List Entry) → IsOrdered es → times k es ≤ 1
 ordered_single k [] ordered = omega arith
 ordered_single k (e ∷ es) ordered = by (k == e.item) refl (ordered_single k es ordered.2)
   where

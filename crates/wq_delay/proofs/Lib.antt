@@ -10,6 +10,8 @@ pub mod Gathered
 pub mod Serving
 pub mod Fitting
 pub mod Leading
+pub mod Finding
+pub mod Found
 pub mod Starting
 pub mod Held
 pub mod Sound

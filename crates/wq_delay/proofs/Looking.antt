@@ -68,6 +68,17 @@ number_most (o ∷ os) (suc k) = let is = number_most os k in omega arith
 pub steps_left : List (Option (ℕ × ℕ)) → ℕ → ℕ → ℕ
 steps_left places head x = cond (x == head) 0 (most places + 1 - number_by (place_in places x))
 
+pub steps_fewer : (places : List (Option (ℕ × ℕ))) (head x y : ℕ) → x ≢ head
+    → (y ≢ head → number_by (place_in places x) < number_by (place_in places y)) → steps_left places head y < steps_left places head x
+unfolding steps_left
+steps_fewer places head x y ne up =
+    let apart : (x == head) ≡ false = grind (arith, nat_tests) in rw apart (by (y == head) refl)
+  where
+    by : (b : Bool) → (y == head) ≡ b → cond b 0 (most places + 1 - number_by (place_in places y)) < most places + 1 - number_by (place_in places x)
+    by true is = let a = number_most places x in omega arith
+    by false is =
+        let far : y ≢ head = grind (arith, nat_tests) in let o = up far in let a = number_most places x in let b = number_most places y in omega arith
+
 -- at the place x of the slot with this head, nothing that is due waits before it
 pub record Looking (places : List (Option (ℕ × ℕ))) (next previous : List ℕ) (start row : List Entry) (head now x : ℕ) : Type 0 where
   pub gathering : IsGathering places next previous row now
@@ -188,24 +199,13 @@ module _ (places : List (Option (ℕ × ℕ))) (next previous : List ℕ) (start
     item_here = (item_low l.gathering x q q_is, (waits_there places row x q q_is).1)
 
     nearer : steps_left places head y < steps_left places head x
-    unfolding steps_left
-    nearer =
-        let a = number_most places x in let b = number_most places y in
-        let c = ap number_by q_is in let d = ap number_by item_here.1 in
-        let no : (x == head) ≡ false = grind (arith, nat_tests) in
-        rw no (by (y == head) refl (omega arith))
+    nearer = steps_fewer places head x y ne
+        (λ far. let c = ap number_by q_is in let d = ap number_by item_here.1 in let e = less (on_table y row) (place_in places y) in
+        let up = y_rises far in omega arith)
       where
         less : (b : Bool) (o : Option (ℕ × ℕ)) → number_by (cond b None o) ≤ number_by o
         less true o = omega arith
         less false o = omega arith
-
-        by : (b : Bool) → (y == head) ≡ b → number_by (place_in places x) ≤ most places
-            → cond b 0 (most places + 1 - number_by (place_in places y)) < most places + 1 - number_by (place_in places x)
-        by true is few = omega arith
-        by false is few =
-            let far : y ≢ head = grind (arith, nat_tests) in
-            let up = y_rises far in let b = number_most places y in let c = ap number_by q_is in let d = ap number_by item_here.1 in
-            let e = less (on_table y row) (place_in places y) in omega arith
 
     -- and so it is where the next was read
     pub nearer_read : (z : ℕ) → z ≡ get_or next x z → steps_left places head z < steps_left places head x

@@ -35,9 +35,9 @@ pub record FitsTable (sender : Known) (table : DelayTable) : Type 0 where
 abbrev pub IsFit : DelayState → Type 0
 IsFit d = FitsTable d.sender d.table
 
--- an answered advance by so many ticks looked at no more slots than ticks, and at no slot twice
+-- an answered advance looked at one slot for each of its ticks, or at each slot once where that is fewer
 abbrev pub Looks : Result Advance Backwards → ℕ → DelayState → DelayState → Type 0
-Looks (Ok a) now old new = new.looked ≤ min (now - old.table.tick) 256
+Looks (Ok a) now old new = new.looked ≡ min (now - old.table.tick) 256
 Looks (Err e) now old new = new.looked ≡ old.looked
 
 -- The sender sees more, in which its own events are xs and at least n are of other seats. The table is this one now.

@@ -1,5 +1,5 @@
 -- Where items stand, and the table that this spells.
-use Rattle.std.specs.Prelude.{◌≡◌, ℕ, ◌+◌, ◌≤◌, ◌<◌, ◌%◌, ◌==◌, Bool, false, ◌||◌, ◌&&◌, nat_lt, nat_le, Option, Some, None, if◌then◌else◌, List, [], ◌∷◌, map, filter, length, take, slice_index, slice_index_or}
+use Rattle.std.specs.Prelude.{◌≡◌, ℕ, ◌+◌, ◌-◌, ◌≤◌, ◌<◌, ◌%◌, ◌==◌, Bool, false, ◌||◌, ◌&&◌, nat_lt, nat_le, Option, Some, None, if◌then◌else◌, List, [], ◌∷◌, map, filter, length, take, slice_index, slice_index_or}
 use Rattle.std.specs.List.{All}
 use Rattle.wq_words.specs.DelayTable.{Entry, on_table, due_part, IsOrdered}
 use Rattle.wq_delay.specs.Rings.{AreRings}
@@ -103,10 +103,19 @@ pub record AreOnTable (places : List (Option (ℕ × ℕ))) (es : List Entry) : 
   pub valid : All (λ e. place_in places e.item ≡ Some (e.due, e.arming)) es
   pub single : (k : ℕ) → times k es ≤ 1
 
--- they are what is due at the tick t of the items below n
-pub record AreDueIn (places : List (Option (ℕ × ℕ))) (t n : ℕ) (es : List Entry) : Type 0 where
+-- they are what is due at the tick t
+pub record AreDue (places : List (Option (ℕ × ℕ))) (t : ℕ) (es : List Entry) : Type 0 where
   pub on : AreOnTable places es
-  pub which : (k : ℕ) → on_table k es ≡ (nat_lt k n && is_due t (place_in places k))
+  pub which : (k : ℕ) → on_table k es ≡ is_due t (place_in places k)
+
+-- the slot of a later tick is the one of this many ticks after the next, counted round
+abbrev pub turn_of : ℕ → ℕ → ℕ
+turn_of t due = (due - (t + 1)) % 256
+
+-- they are what is due at the tick now, of what was due at the tick t or waits in the first n slots after that
+pub record AreFound (places : List (Option (ℕ × ℕ))) (t now n : ℕ) (es : List Entry) : Type 0 where
+  pub on : AreOnTable places es
+  pub which : (k : ℕ) (p : ℕ × ℕ) → place_in places k ≡ Some p → on_table k es ≡ (nat_le p.0 now && (nat_le p.0 t || nat_lt (turn_of t p.0) n))
 
 -- what waits while entries were moved to the row
 abbrev pub waiting : List (Option (ℕ × ℕ)) → List Entry → ℕ → Option (ℕ × ℕ)

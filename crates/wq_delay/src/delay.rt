@@ -99,7 +99,7 @@ impl Delay {
         self.table.len()
     }
 
-    /// How many slots of the wheel the last answered advance looked at: at most one for each tick, and each slot at most once.
+    /// How many slots of the wheel the last answered advance looked at: one for each tick, or each slot once where that is fewer.
     pub fn looked(&self) -> u32
         ensures count { result ≡ self.now.looked }
     {

@@ -1,10 +1,10 @@
 //! Items by the ticks at which they are due: a wheel of slots, and a row of what is due.
 ghost use Rattle.std.specs.Prelude.{◌≡◌, ℕ, ◌<◌, ◌≤◌, ◌-◌, ◌^◌, true, false, [], length, min, IfOk, IfSome, MatchOption};
 ghost use Rattle.wq_words.specs.DelayTable.{items, on_table, due_part, placed, without, IsOrdered, AreArmedBefore};
-ghost use Rattle.std.specs.Prelude.{map, filter, take, ◌+◌, slice_index_or};
+ghost use Rattle.std.specs.Prelude.{map, filter, take, drop, nat_le, ◌&&◌, ◌+◌, OnOk, slice_index_or};
 ghost use Rattle.std.specs.Vec.{vec_capacity};
 ghost use Rattle.std.specs.List.{All};
-ghost use Rattle.wq_delay.specs.Rows.{IsFirstDue, IsGathering, StillWaits, IsClean, waiting, entry_of, stands, AreDueIn};
+ghost use Rattle.wq_delay.specs.Rows.{IsFirstDue, IsWheel, IsGathering, StillWaits, IsClean, place_in, later_than, waiting, entry_of, stands, AreFound, AreDue};
 
 use crate::rings::Rings;
 use std::alloc::{AllocError, Global};
@@ -51,24 +51,70 @@ fn first_there(places: &[Option<Place>], row: &[(Place, u32)], front: usize) -> 
     row.len()
 }
 
-// What is due at a tick, by item.
-fn gather(
+// What stands in the row from the place `front` on and is due at a tick, in order.
+fn out_by(
     alloc: Global,
     places: &[Option<Place>],
+    row: &[(Place, u32)],
+    front: usize,
     now: u64,
 ) -> Result<Vec<(Place, u32)>, AllocError>
-    requires { length places.now ≤ 4096 }
-    ensures found { IfOk result (λ row. AreDueIn places.now now (length places.now) (map entry_of row.items)) }
+    ensures { IfOk result (λ list. list.items ≡ filter (λ e. nat_le e.0.0 now && stands places.now e) (drop front row.now)) }
 {
-    let mut row = Vec::new(alloc);
-    for item in 0..places.len() {
-        if let Some(place) = places[item] {
+    row.iter()
+        .skip(front)
+        .copied()
+        .filter(|entry| entry.0.0 <= now && is_there(places, *entry))
+        .collect(alloc)
+}
+
+// Adds to a list what is due at the tick `now` of the slot that is so many slots behind the one after `tick`, in its order.
+fn find(
+    places: &[Option<Place>],
+    rings: &Rings,
+    found: &mut Vec<(Place, u32)>,
+    tick: u64,
+    after: u64,
+    now: u64,
+) -> Result<(), AllocError>
+    requires few { length places.now ≤ 4096 }
+    requires wheel { IsWheel (length places.now) rings.now.next.items rings.now.previous.items (λ k. later_than tick (place_in places.now k)) }
+    requires after { (after < 256) × (tick + after < now) }
+    requires found { AreFound places.now tick now after (map entry_of found.old.items) }
+    ensures { OnOk result (AreFound places.now tick now (after + 1) (map entry_of found.new.items)) }
+{
+    let slot = (tick + 1 + after) % SLOTS as u64;
+    let head = places.len() as u32 + slot as u32;
+    let mut item = rings.next[head as usize];
+    while item != head {
+        if let Some(place) = places[item as usize] {
             if place.0 <= now {
-                row.push((place, item as u32))?;
+                found.push((place, item))?;
             }
         }
+        item = rings.next[item as usize];
     }
-    Ok(row)
+    Ok(())
+}
+
+// Adds to what is due at the tick `tick` what is due by the tick `now`: it stands in the slots of the ticks between them.
+fn find_on(
+    places: &[Option<Place>],
+    rings: &Rings,
+    found: &mut Vec<(Place, u32)>,
+    tick: u64,
+    now: u64,
+) -> Result<(), AllocError>
+    requires few { length places.now ≤ 4096 }
+    requires wheel { IsWheel (length places.now) rings.now.next.items rings.now.previous.items (λ k. later_than tick (place_in places.now k)) }
+    requires found { AreFound places.now tick now 0 (map entry_of found.old.items) }
+    ensures { OnOk result (AreDue places.now now (map entry_of found.new.items)) }
+{
+    let ticks = cmp::min(now.saturating_sub(tick), SLOTS as u64);
+    for after in 0..ticks {
+        find(places, rings, found, tick, after, now)?;
+    }
+    Ok(())
 }
 
 // The items of a row, in order.
@@ -274,11 +320,15 @@ impl Timetable {
         Some(self.row[self.front].1)
     }
 
-    // The items that are due at a tick, in order.
+    // The items that are due at a tick, in order: those in the row, and those in the slots up to the tick.
     pub(crate) fn list_due(&self, alloc: Global, now: u64) -> Result<Vec<u32>, AllocError>
         ensures { IfOk result (λ list. list.items ≡ items (due_part now self.now.entries)) }
     {
-        let mut due = gather(alloc, &self.places, now)?;
+        if self.count == 0 {
+            return Ok(Vec::new(alloc));
+        }
+        let mut due = out_by(alloc, &self.places, &self.row, self.front, now)?;
+        find_on(&self.places, &self.rings, &mut due, self.tick, now)?;
         due.sort_unstable();
         items_of(alloc, &due)
     }

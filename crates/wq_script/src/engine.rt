@@ -155,7 +155,7 @@ impl Engine {
         requires ready { HasStateWithin (2 ^ 60) self.old }
         ensures { OnOk result (Does self.old self.new (string_bytes out.old) (string_bytes out.new) (Command.Arm item delay)) }
     {
-        let armed = self.seats.arm(item, delay)?;
+        let armed = self.seats.arm(item, delay);
         self.tally.arming(armed);
         write_line(armed_text(armed), out)?;
         Ok(())
@@ -176,7 +176,7 @@ impl Engine {
         requires ready { HasStateWithin (2 ^ 60) self.old }
         ensures { OnOk result (Does self.old self.new (string_bytes out.old) (string_bytes out.new) (Command.Modify item delay)) }
     {
-        let modified = self.seats.modify(item, delay)?;
+        let modified = self.seats.modify(item, delay);
         self.tally.modification(modified, delay);
         write_line(modified_text(modified), out)?;
         Ok(())

@@ -1,10 +1,8 @@
 //! All seats of a queue, and how each hears what one of them has seen.
-ghost use Rattle.std.specs.Prelude.{◌≡◌, ◌≢◌, ◌<◌, not, List, length, All, slice_index_or, IfOk, MatchOption, ◌+◌, ◌≤◌, [], replicate, slice_set};
+ghost use Rattle.std.specs.Prelude.{◌≡◌, ◌<◌, not, List, length, All, slice_index_or, IfOk, MatchOption, ◌+◌, ◌≤◌, [], replicate, slice_set};
 ghost use Rattle.wq_meaning.specs.Execution.{no_follow};
 ghost use Rattle.wq_words.specs.declared.layout.Layout.{Layout};
 ghost use Rattle.wq_words.specs.declared.event.Event.{Event};
-ghost use Rattle.wq_words.specs.declared.answer.Armed.TheVariants as armed_variants;
-ghost use Rattle.wq_words.specs.declared.answer.Modified.TheVariants as modified_variants;
 ghost use Rattle.wq_words.specs.Numbers.{barrier_number, stop_number};
 ghost use Rattle.wq_live.specs.Known.{Known};
 ghost use Rattle.wq_script.specs.Seats.{StaysSilent, AllHear, IsSameTable, AreOne, Gathers, Seated, HasHistory};
@@ -37,35 +35,6 @@ fn meet_each(delay: &mut Delay, senders: &mut Vec<Sender>)
 {
     for sender in senders.iter_mut() {
         delay.meet(sender);
-    }
-}
-
-// The answer, unless memory was refused.
-fn armed_or_memory(armed: Armed) -> Result<Armed, AllocError>
-    ensures { IfOk result (λ answer. (answer ≡ armed) × (armed ≢ armed_variants.Memory)) }
-{
-    match armed {
-        Armed::Memory => Err(AllocError),
-        Armed::Queued { first, wakes } => Ok(Armed::Queued { first, wakes }),
-        Armed::OnTable => Ok(Armed::OnTable),
-        Armed::Pending => Ok(Armed::Pending),
-        Armed::Closed => Ok(Armed::Closed),
-        Armed::Contended => Ok(Armed::Contended),
-        Armed::TooFar => Ok(Armed::TooFar),
-    }
-}
-
-fn modified_or_memory(modified: Modified) -> Result<Modified, AllocError>
-    ensures { IfOk result (λ answer. (answer ≡ modified) × (modified ≢ modified_variants.Memory)) }
-{
-    match modified {
-        Modified::Memory => Err(AllocError),
-        Modified::WasIdle => Ok(Modified::WasIdle),
-        Modified::Moved => Ok(Modified::Moved),
-        Modified::Pending => Ok(Modified::Pending),
-        Modified::Closed => Ok(Modified::Closed),
-        Modified::Contended => Ok(Modified::Contended),
-        Modified::TooFar => Ok(Modified::TooFar),
     }
 }
 
@@ -225,17 +194,16 @@ impl Seats {
     }
 
     // Arms an item, with one try where there is no delay.
-    pub(crate) fn arm(&mut self, item: u32, delay: u64) -> Result<Armed, AllocError>
+    pub(crate) fn arm(&mut self, item: u32, delay: u64) -> Armed
         requires seated { HasHistory self.old }
         requires some { 0 < length self.old.senders.items }
         requires item { item < self.old.delay.sender.layout.items }
-        ensures { IfOk result (λ answer. ArmsAs item delay answer self.old self.new) }
+        ensures { ArmsAs item delay result self.old self.new }
     {
         self.delay.fit();
         let armed = self.delay.arm(item, delay, 1);
         self.gather(0);
-        let answer = armed_or_memory(armed)?;
-        Ok(answer)
+        armed
     }
 
     // Takes an item off the delay table and gives it back. False where it was not there.
@@ -252,17 +220,16 @@ impl Seats {
     }
 
     // Arms an item again that is on the delay table, or posts it where there is no delay, with one try. Arms another.
-    pub(crate) fn modify(&mut self, item: u32, delay: u64) -> Result<Modified, AllocError>
+    pub(crate) fn modify(&mut self, item: u32, delay: u64) -> Modified
         requires seated { HasHistory self.old }
         requires some { 0 < length self.old.senders.items }
         requires item { item < self.old.delay.sender.layout.items }
-        ensures { IfOk result (λ answer. ModifiesAs item delay answer self.old self.new) }
+        ensures { ModifiesAs item delay result self.old self.new }
     {
         self.delay.fit();
         let modified = self.delay.modify(item, delay, 1);
         self.gather(0);
-        let answer = modified_or_memory(modified)?;
-        Ok(answer)
+        modified
     }
 
     // Sets the tick, and posts what is due, each with one try. The items that were posted, in order. None where the tick is

@@ -10,8 +10,8 @@ use Rattle.wq_script.proofs.engine.Engine.arm.Goals as goal
 pub armed_text-requires : goal.armed_text-requires
 armed_text-requires c =
     let e = c.args.self.now in let s = c.requires.ready.0 in let m = c.requires.ready.1 in
-    let so = (armed_meets e.layout e.seats c.arm.new.self e.tally c.arming.new.self s m c.args.item c.args.delay c.in_ok-armed.armed
-    c.in_ok-armed.ensures c.arming.ensures).1 in
+    let so = (armed_meets e.layout e.seats c.arm-armed.new.self e.tally c.arming.new.self s m c.args.item c.args.delay c.arm-armed.result
+    c.arm-armed.ensures c.arming.ensures).1 in
     let given = arm_given c.args.item c.args.delay s.history s.table in
     record { alone = λ is. given.0 (sym so ∙ is); memory = λ is. given.1 (sym so ∙ is) }
 
@@ -22,10 +22,10 @@ returns c =
     record {
       layout = refl;
       meets = λ s m.
-          (armed_meets e.layout e.seats c.arm.new.self e.tally c.arming.new.self s m k delay c.in_ok-armed.armed c.in_ok-armed.ensures c.arming.ensures).0;
+          (armed_meets e.layout e.seats c.arm-armed.new.self e.tally c.arming.new.self s m k delay c.arm-armed.result c.arm-armed.ensures c.arming.ensures).0;
       lines = λ s m few.
-          let same = (armed_meets e.layout e.seats c.arm.new.self e.tally c.arming.new.self s m k delay c.in_ok-armed.armed
-          c.in_ok-armed.ensures c.arming.ensures).1 in
+          let same = (armed_meets e.layout e.seats c.arm-armed.new.self e.tally c.arming.new.self s m k delay c.arm-armed.result
+          c.arm-armed.ensures c.arming.ensures).1 in
           c.in_ok-write_line.ensures.written ∙ ap (λ x. string_bytes c.args.out.now ++ line x) (c.armed_text.ensures.text ∙ ap armed_text same);
       room = λ s m.
           let adds = arm_few p k delay s.history s.table in

@@ -1,10 +1,6 @@
-use Rattle.std.proofs.Common.{◌∙◌}
 use Rattle.wq_script.proofs.Moved.{modified_so}
 use Rattle.wq_script.proofs.seats.Seats.modify.Goals as goal
 
 pub returns : goal.returns
-returns c = λ layout h g.
-    let room = c.in_ok-answer.ensures in
-    let so = modified_so layout c.args.self.now c.gather.new.self h g c.modify-modified.new.self c.gather.ensures.delay c.fit.ensures.fit
-    c.args.item c.args.delay c.modify-modified.result c.modify-modified.ensures.far room.1 c.modify-modified.ensures.answer in
-    (room.0 ∙ so.0, so.1)
+returns c = λ layout h g. modified_so layout c.args.self.now c.gather.new.self h g c.modify-modified.new.self c.gather.ensures.delay c.fit.ensures.fit
+    c.args.item c.args.delay c.modify-modified.result c.modify-modified.ensures.far c.modify-modified.ensures.memory c.modify-modified.ensures.answer
