@@ -44,11 +44,13 @@ memory:
 wrong-bodies:
 	checks/wrong_bodies.sh
 
-# Times a script of a megabyte, executed items beside the same scheme in C, in one thread and in several, and a pool beside others in C.
+# Times a script of a megabyte, scripts of one command alone, executed items beside the same scheme in C, in one thread and in
+# several, and a pool beside others in C.
 bench: build
 	cd crates/wq_bench && rt run
 	cd crates/wq_pool_bench && rt run
 	bench/script.sh $(PROGRAM)
+	bench/commands.py $(PROGRAM)
 	bench/items.sh crates/wq_bench/out/wq_bench
 	bench/threads.py crates/wq_bench/out/wq_bench 9
 	bench/pool.py crates/wq_pool_bench/out/wq_pool_bench 9
