@@ -1,5 +1,5 @@
 -- One queue more in hand, and one more taken apart.
-use Rattle.std.proofs.Common.{◌≡◌, ℕ, zero, suc, ◌+◌, ◌<◌, List, [], ◌∷◌, ◌++◌, map, length, take, sym, ap, ◌∙◌, subst, arith, length-append, Some, None, Option}
+use Rattle.std.proofs.Common.{◌≡◌, ℕ, zero, suc, ◌+◌, ◌<◌, List, [], ◌∷◌, ◌++◌, map, length, take, refl, sym, ap, ◌∙◌, subst, arith, length-append, Some, None, Option, All, slice_index_or}
 use Rattle.std.proofs.lemmas.List.{map-append}
 use Rattle.std.proofs.lemmas.List.Elements.{All-push}
 use Rattle.wq_words.specs.Legal.{IsComplete}
@@ -10,7 +10,7 @@ use Rattle.wq_pool.specs.Known.{SlotsState, TurnState, turn_id}
 use Rattle.wq_served.specs.Drained.{IsDrained}
 use Rattle.wq_pool.specs.Finish.{AreFirst, AreComplete, LeavesOf, FirstLeft}
 use Rattle.wq_served.specs.Finished.{IsFinished}
-use Rattle.wq_pool.specs.Finished.{AreFinished}
+use Rattle.wq_pool.specs.Finished.{AreFinished, RanToEnd}
 use Rattle.wq_pool.specs.Slots.{IsWorkerAt}
 use Rattle.wq_served.proofs.Draining.{left_complete}
 
@@ -54,3 +54,21 @@ module _ {W : Type 0} where
   finished_next log turns t done new one all is new_is =
       subst (λ (z : List WorkerId × List (W × BookState)). AreFinished log z.0 z.1) (λ i. (sym (map-append turn_id turns (t ∷ [])) i, sym new_is i))
       (finished_more log (map turn_id turns) done (turn_id t) one all is)
+
+  pub finished_count : (log : W → List ℕ) (ids : List WorkerId) (xs : List (W × BookState)) → AreFinished log ids xs → length xs ≡ length ids
+  finished_count log [] [] all = refl
+  finished_count log [] (x ∷ xs) all = absurd all
+  finished_count log (id ∷ ids) [] all = absurd all
+  finished_count log (id ∷ ids) (x ∷ xs) all = ap suc (finished_count log ids xs all.1)
+
+  finished_at : (log : W → List ℕ) (ids : List WorkerId) (xs : List (W × BookState)) → AreFinished log ids xs → (k : ℕ) (d : W × BookState) → k < length xs
+      → RanToEnd log (slice_index_or xs k d)
+  finished_at log [] [] all k d low = absurd (omega (arith, low))
+  finished_at log [] (x ∷ xs) all k d low = absurd all
+  finished_at log (id ∷ ids) [] all k d low = absurd all
+  finished_at log (id ∷ ids) (x ∷ xs) all zero d low =
+      record { legal = all.0.legal; complete = all.0.complete; ran_accepted = all.0.ran_accepted }
+  finished_at log (id ∷ ids) (x ∷ xs) all (suc k) d low = finished_at log ids xs all.1 k d (omega (arith, low))
+
+  pub finished_each : (log : W → List ℕ) (ids : List WorkerId) (xs : List (W × BookState)) → AreFinished log ids xs → All (RanToEnd log) xs
+  finished_each log ids xs all = finished_at log ids xs all

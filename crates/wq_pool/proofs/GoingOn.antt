@@ -1,10 +1,16 @@
 -- A caller that goes on.
-use Rattle.std.proofs.Common.{◌≡◌, ℕ, List, [], ◌++◌, Option, Some, None, refl, sym, ◌∙◌, ap, subst, append_assoc}
+use Rattle.std.proofs.Common.{◌≡◌, ℕ, List, [], ◌++◌, Option, Some, None, refl, sym, ◌∙◌, ap, subst, append_assoc, slice_get}
 use Rattle.std.proofs.lemmas.List.{append-nil}
 use Rattle.wq_ready.specs.declared.event.ReadyEvent.{ReadyEvent}
-use Rattle.wq_ready.specs.Answers.{Picks}
+use Rattle.std.specs.declared.result.Result.{Result}
+use Rattle.std.specs.declared.result.Result.TheVariants.{Ok, Err}
+use Rattle.wq_ready.specs.declared.ready_queue.AnnounceError.{AnnounceError}
+use Rattle.wq_ready.specs.declared.ready_queue.AnnounceError.TheVariants.{NoQueue, Full}
+use Rattle.wq_served.specs.declared.worker_id.WorkerId.{WorkerId}
+use Rattle.wq_pool.specs.Known.{PoolState, TurnState, IsSameTurn}
+use Rattle.wq_ready.specs.Answers.{Picks, Announces}
 use Rattle.wq_ready.specs.Known.{CallerState}
-use Rattle.wq_pool.specs.Pool.{GoesOnFrom}
+use Rattle.wq_pool.specs.Pool.{GoesOnFrom, IsTurnOf}
 
 pub goes_still : (a : CallerState) → GoesOnFrom a a
 goes_still a = record { same = record { ready_is = refl; number_is = refl }; begins = ([], append-nil a.seen) }
@@ -24,3 +30,19 @@ goes_by_pick None a b t = subst (λ (z : CallerState). GoesOnFrom a z) (sym t.0)
 
 pub goes_between : (a a' b b' : CallerState) → a ≡ a' → b ≡ b' → GoesOnFrom a b → GoesOnFrom a' b'
 goes_between a a' b b' p q g = subst (λ (z : CallerState × CallerState). GoesOnFrom z.0 z.1) (λ i. (p i, q i)) g
+
+pub goes_by_announce : (q : ℕ) (r : Result (Unit {0}) AnnounceError) (a b : CallerState) → Announces q r a b → GoesOnFrom a b
+goes_by_announce q (Ok _) a b t = record { same = t.same; begins = (t.grows.new, sym t.grows.is) }
+goes_by_announce q (Err NoQueue) a b t = subst (λ (z : CallerState). GoesOnFrom a z) (sym t) (goes_still a)
+goes_by_announce q (Err Full) a b t = subst (λ (z : CallerState). GoesOnFrom a z) (sym t.0) (goes_still a)
+
+pub turn_same : {W : Type 0} (p : PoolState) (t u : TurnState W) → IsTurnOf p t → IsSameTurn t u → IsTurnOf p u
+turn_same {W} p t u is same = record {
+  slots_is = same.slots_is ∙ is.slots_is;
+  worker_is = subst (λ (z : ℕ × WorkerId). slice_get p.workers z.0 ≡ Some z.1) (λ i. (sym same.queue_is i, sym same.worker_is i)) is.worker_is;
+}
+
+-- where a caller was refused it is as it was
+pub still_refused : (q : ℕ) (e : AnnounceError) (a b : CallerState) → Announces q (Err e) a b → b ≡ a
+still_refused q NoQueue a b t = t
+still_refused q Full a b t = t.0

@@ -1,6 +1,8 @@
 -- What the calls of a pool say.
-use Rattle.std.specs.Prelude.{◌≡◌, ◌⊎◌, ℕ, ◌<◌}
+use Rattle.std.specs.Prelude.{◌≡◌, ◌⊎◌, ℕ, ◌<◌, Bool, false}
 use mathlib.Core.List.{IsPrefix}
+use Rattle.wq_words.specs.declared.answer.Answer.{Answer}
+use Rattle.wq_words.specs.declared.answer.Answer.TheVariants.{Queued}
 use Rattle.wq_ready.specs.Known.{CallerState, IsSameCaller}
 use Rattle.wq_pool.specs.Known.{PoolState, TurnState}
 use Rattle.wq_pool.specs.Slots.{IsWorkerAt}
@@ -13,6 +15,11 @@ IsNoPool count = (count ≡ 0) ⊎ (256 < count)
 pub record IsTurnOf {W : Type 0} (pool : PoolState) (turn : TurnState W) : Type 0 where
   pub slots_is : turn.slots ≡ pool.slots
   pub worker_is : IsWorkerAt pool.workers turn.queue turn.worker
+
+-- the number was queued, and its queue rested
+abbrev pub says_wakes : Answer → Bool
+says_wakes (Queued is_first is_waking) = is_waking
+says_wakes _ = false
 
 -- the same caller, who has seen at least what it had seen
 pub record GoesOnFrom (old new : CallerState) : Type 0 where

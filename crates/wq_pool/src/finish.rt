@@ -3,7 +3,7 @@ ghost use Rattle.std.specs.Prelude.{◌≡◌, ◌<◌, ◌≤◌, [], map, leng
 ghost use Rattle.std.specs.Vec.{vec_len, vec_capacity};
 ghost use Rattle.wq_pool.specs.Known.{turn_id};
 ghost use Rattle.wq_pool.specs.Finish.{AreFirst, AreComplete, LeavesOf, FirstLeft, IsPoolFault};
-ghost use Rattle.wq_pool.specs.Finished.{AreFinished};
+ghost use Rattle.wq_pool.specs.Finished.{AreFinished, RanToEnd};
 
 use crate::pool::Pool;
 use crate::slots::Slots;
@@ -76,30 +76,21 @@ fn gather<W: Work + Drop>(slots: &Slots<W>, mut all: Vec<Worked<W>>, limit: u32)
 {
     let mut left = None;
     for queue in 0..slots.count() {
-        let Some(turn) = slots.pick_up(queue) else {
+        let Some(mut turn) = slots.pick_up(queue) else {
             return Gathered {
                 all,
                 left,
                 out: Some(queue),
             };
         };
-        let mut worked = turn.into_worked();
-        let more = worked.drain(limit);
+        let more = turn.drain(limit);
         left = first_left(left, queue, more);
-        all.push_reserved(worked);
+        all.push_reserved(turn.into_worked());
     }
     Gathered {
         all,
         left,
         out: None,
-    }
-}
-
-fn lay_all<W: Work + Drop>(slots: &Slots<W>, mut all: Vec<Worked<W>>)
-    requires { All (λ worked. worked.slots ≡ slots.now.id) all.items }
-{
-    while let Some(worked) = all.pop() {
-        slots.lay_down(worked);
     }
 }
 
@@ -115,6 +106,14 @@ fn take_apart<W: Work + Drop>(all: Vec<Worked<W>>, mut finished: Vec<(W, Book)>)
 }
 
 impl<W: Work + Drop> Pool<W> {
+    fn lay_all(&self, mut all: Vec<Worked<W>>)
+        requires { All (λ worked. worked.slots ≡ self.now.slots) all.items }
+    {
+        while let Some(worked) = all.pop() {
+            self.lay_down(worked);
+        }
+    }
+
     /// Closes every queue and executes what is left of each, up to so many numbers of each, and then takes all apart: the works and
     /// the books, by place. Each queue is tried once: one that is in a turn is out.
     ///
@@ -123,6 +122,8 @@ impl<W: Work + Drop> Pool<W> {
     /// with something left. The pool is given back, with all queues in their slots that were there.
     pub fn finish(self, limit: u32) -> Result<Vec<(W, Book)>, PoolFault<W>>
         ensures finished { IfOk result (λ finished. AreFinished W.log self.workers finished.items) }
+        ensures count { IfOk result (λ finished. length finished.items ≡ length self.workers) }
+        ensures each { IfOk result (λ finished. All (RanToEnd W.log) finished.items) }
         ensures fault { IfErr result (IsPoolFault self) }
     {
         let count = self.slots.count() as usize;
@@ -135,11 +136,11 @@ impl<W: Work + Drop> Pool<W> {
         let Gathered { all, left, out } = gather(&self.slots, all, limit);
         match (out, left) {
             (Some(queue), _) => {
-                lay_all(&self.slots, all);
+                self.lay_all(all);
                 Err(PoolFault::Out { pool: self, queue })
             }
             (None, Some((queue, left))) => {
-                lay_all(&self.slots, all);
+                self.lay_all(all);
                 Err(PoolFault::Unfinished {
                     pool: self,
                     queue,

@@ -1,12 +1,12 @@
 //! A pool.
-ghost use Rattle.std.specs.Prelude.{◌≡◌, ◌↔◌, ◌<◌, ◌≤◌, Err, map, length, option_map, All, IfOk, IfErr, IfSome};
+ghost use Rattle.std.specs.Prelude.{◌≡◌, ◌↔◌, ◌<◌, ◌≤◌, Ok, Err, true, false, map, length, option_map, All, IfOk, IfErr, IfSome};
 ghost use Rattle.wq_words.specs.History.{IsRunning};
 ghost use Rattle.wq_ready.specs.declared.ready_queue.AnnounceError.TheVariants as announce_error;
 ghost use Rattle.wq_ready.specs.Answers.{Announces, Picks};
 ghost use Rattle.wq_ready.specs.Known.{IsCallerOf, new_callers};
 ghost use Rattle.wq_pool.specs.declared.pool.PoolError.TheVariants as pool_error;
 ghost use Rattle.wq_pool.specs.Known.{queue_in_turn};
-ghost use Rattle.wq_pool.specs.Pool.{IsTurnOf, IsNoPool};
+ghost use Rattle.wq_pool.specs.Pool.{IsTurnOf, IsNoPool, GoesOnFrom, says_wakes};
 ghost use Rattle.wq_served.specs.WorkerId.{worker_id};
 
 use crate::slots::Slots;
@@ -20,6 +20,7 @@ use std::thread;
 use thiserror::Error;
 use wq_ready::{AnnounceError, Caller, ReadyQueue, Size};
 use wq_served::Served;
+use wq_words::Answer;
 use wq_worker::Work;
 
 /// The most queues of a pool.
@@ -43,7 +44,7 @@ pub struct Pool<W: Work> {
     pub(crate) slots: Slots<W>,
     ready: ReadyQueue,
     // How many queues have run their stop item.
-    pub(crate) stopped: AtomicU64,
+    stopped: AtomicU64,
     pub(crate) alloc: Global,
 }
 
@@ -100,7 +101,9 @@ impl<W: Work + Drop> Pool<W> {
         Ok((pool, all))
     }
 
-    /// Announces a queue: it waits behind all that were announced before. A sender whose answer says `wakes` announces its queue.
+    /// Announces a queue: it waits behind all that were announced before. For the answer of a queueing `wake` does this; by hand
+    /// a queue is announced that rests no more, though no push woke it, as one whose worker has taken something before the pool
+    /// was made. Each announcement is picked once, so one too many costs a pick that may find nothing.
     ///
     /// # Errors
     /// `NoQueue` exactly where the pool has no queue of this number. `Full` only where as many announcements waited, at one moment
@@ -119,8 +122,43 @@ impl<W: Work + Drop> Pool<W> {
         self.ready.announce(rt, caller, queue)
     }
 
-    /// Takes the queue that was announced first in hand. It waits while another has that queue. `None` only where nothing was
-    /// announced at one moment of the call.
+    /// Does what the answer of a queueing on this queue asks for: announces the queue where it says `wakes`, and waits while the
+    /// ready queue is full. Who queues calls it with each answer.
+    ///
+    /// # Errors
+    /// `NoQueue` exactly where the pool has no queue of this number, whatever the answer; `Full` never.
+    pub fn wake<R: Wait>(
+        &self,
+        rt: &R,
+        caller: &mut Caller,
+        queue: u32,
+        answer: Answer,
+    ) -> Result<(), AnnounceError>
+        requires { IsCallerOf self.now.ready caller.old }
+        ensures known { (result ≡ Ok tt) ↔ (queue < length self.now.workers) }
+        ensures no_queue { (result ≡ Err announce_error.NoQueue) ↔ (length self.now.workers ≤ queue) }
+        ensures wakes { says_wakes answer ≡ true → Announces queue result caller.old caller.new }
+        ensures quiet { says_wakes answer ≡ false → caller.new ≡ caller.old }
+        ensures goes_on { GoesOnFrom caller.old caller.new }
+        ensures caller { IsCallerOf self.now.ready caller.new }
+    {
+        if queue >= self.slots.count() {
+            return Err(AnnounceError::NoQueue);
+        }
+        let Answer::Queued { wakes: true, .. } = answer else {
+            return Ok(());
+        };
+        for _ in rt.forever() {
+            match self.announce(rt, caller, queue) {
+                Ok(()) => return Ok(()),
+                Err(_) => thread::yield_now(),
+            }
+        }
+        unreachable!()
+    }
+
+    /// Takes the queue that was announced first in hand. It waits until that queue is in its slot: for good where its turn was
+    /// dropped, or where this very thread has it in hand. `None` only where nothing was announced at one moment of the call.
     pub fn pick<R: Wait>(&self, rt: &R, caller: &mut Caller) -> Option<Turn<W>>
         requires { IsCallerOf self.now.ready caller.old }
         ensures seen { Picks (option_map queue_in_turn result) caller.old caller.new }
@@ -151,15 +189,36 @@ impl<W: Work + Drop> Pool<W> {
     }
 
     /// Lays a queue that was worked at in its slot again.
-    pub fn put_back(&self, caller: &mut Caller, mut worked: Worked<W>)
+    pub fn put_back(&self, caller: &mut Caller, worked: Worked<W>)
         requires caller { IsCallerOf self.now.ready caller.old }
         requires worked { worked.slots ≡ self.now.slots }
         ensures { caller.new ≡ caller.old }
     {
         let _ = caller;
+        self.lay_down(worked);
+    }
+
+    // A queue whose stop item ran in somebody's hand counts among those that have run theirs.
+    pub(crate) fn lay_down(&self, mut worked: Worked<W>)
+        requires { worked.slots ≡ self.now.slots }
+    {
         if worked.served.count_stop() {
             self.stopped.fetch_add(1, SeqCst);
         }
         self.slots.lay_down(worked);
+    }
+
+    // The same while the queue is in hand, since it may stay there for long.
+    pub(crate) fn count_stop(&self, turn: &mut Turn<W>)
+        ensures { turn.new ≡ turn.old }
+    {
+        if turn.count_stop() {
+            self.stopped.fetch_add(1, SeqCst);
+        }
+    }
+
+    // Whether every queue has run its stop item.
+    pub(crate) fn has_stopped(&self) -> bool {
+        self.stopped.load(SeqCst) >= u64::from(self.slots.count())
     }
 }

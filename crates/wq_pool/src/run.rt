@@ -1,54 +1,66 @@
 //! One thread for each caller of a pool.
 ghost use Rattle.std.specs.Prelude.{◌≡◌, ℕ, ◌<◌, length, slice_index_or, All, Ok};
 ghost use Rattle.wq_ready.specs.Known.{CallerState, IsCallerOf};
-ghost use Rattle.wq_pool.specs.Known.{IsSameTurn};
-ghost use Rattle.wq_pool.specs.Pool.{GoesOnFrom};
+ghost use Rattle.wq_pool.specs.Pool.{GoesOnFrom, IsTurnOf};
 
 use crate::pool::Pool;
-use crate::turn::{Turn, Worked};
+use crate::turn::Turn;
 use std::alloc::AllocError;
 use std::sync::Wait;
-use std::sync::atomic::Ordering::SeqCst;
 use std::thread;
 use std::thread::Threads;
 use wq_ready::Caller;
 use wq_served::Gate;
 use wq_worker::Work;
 
-// So many executions are made before a queue's turn is looked at again.
+// The share of a queue: after so many executions those that wait go first.
 const EXECUTIONS: u32 = 1024;
 
-// Works until nothing is left to do.
-fn work_whole<W: Work, R: Wait, G: Gate>(rt: &R, turn: Turn<W>, gate: &G) -> Worked<W>
-    ensures { IsSameTurn turn result }
-{
-    let mut turn = turn;
-    for _ in rt.forever() {
-        match turn.work(EXECUTIONS, gate) {
-            Ok(worked) => return worked,
-            Err(same) => turn = same,
-        }
-    }
-    unreachable!()
+// An execution that is owed is looked at as soon as it has ended, so that one that owes again and again keeps nobody waiting.
+fn share_of<W: Work>(turn: &Turn<W>) -> u32 {
+    if turn.owes() { 1 } else { EXECUTIONS }
 }
 
 impl<W: Work + Drop + Send> Pool<W> {
-    // Serves what was announced until each queue has run its stop item. A queue is counted once, as it is put back for the first
+    #[tactic(auto, using(crate::proofs::GoingOn::goes_by_announce, crate::proofs::GoingOn::turn_same, crate::proofs::GoingOn::goes_on))]
+    // Works at a queue until nothing is left to do, and lays it down. After its share of executions it is announced again, behind all
+    // that wait, and laid down with what is left: announced first, since nobody finds a queue that lies there unannounced. Where
+    // there is no room, or an execution is owed, it is worked on, unless every queue has run its stop item.
+    fn work_share<R: Wait, G: Gate>(&self, rt: &R, caller: &mut Caller, turn: Turn<W>, gate: &G)
+        requires caller { IsCallerOf self.now.ready caller.old }
+        requires turn { IsTurnOf self.now turn }
+        ensures { GoesOnFrom caller.old caller.new }
+    {
+        let mut turn = turn;
+        for _ in rt.forever() {
+            let share = share_of(&turn);
+            match turn.work(share, gate) {
+                Ok(worked) => return self.put_back(caller, worked),
+                Err(same) => turn = same,
+            }
+            self.count_stop(&mut turn);
+            if !turn.owes() {
+                let is_announced = self.announce(rt, caller, turn.queue()).is_ok();
+                let is_over = self.has_stopped();
+                if is_announced || is_over {
+                    return self.put_back(caller, turn.into_worked());
+                }
+            }
+        }
+    }
+
+    // Serves what was announced until each queue has run its stop item. A queue is counted once, as it is looked at for the first
     // time after its stop item ran: what says that it was counted lies in its slot with it.
     fn serve<R: Wait, G: Gate>(&self, rt: &R, caller: &mut Caller, gate: &G)
         requires { IsCallerOf self.now.ready caller.old }
         ensures { GoesOnFrom caller.old caller.new }
     {
-        let count = u64::from(self.slots.count());
         for _ in rt.forever() {
-            if self.stopped.load(SeqCst) >= count {
+            if self.has_stopped() {
                 return;
             }
             match self.pick(rt, caller) {
-                Some(turn) => {
-                    let worked = work_whole(rt, turn, gate);
-                    self.put_back(caller, worked);
-                }
+                Some(turn) => self.work_share(rt, caller, turn, gate),
                 None => thread::yield_now(),
             }
         }

@@ -1,5 +1,5 @@
 //! A queue in hand.
-ghost use Rattle.std.specs.Prelude.{◌≡◌, MatchResult};
+ghost use Rattle.std.specs.Prelude.{◌≡◌, false, MatchResult};
 ghost use Rattle.wq_words.specs.History.{begun, IsRunning};
 ghost use Rattle.wq_words.specs.Legal.{IsLegal, IsComplete};
 ghost use Rattle.wq_words.specs.Headline.{KeepsHeadline};
@@ -95,7 +95,31 @@ impl<W: Work> Turn<W> {
         })
     }
 
-    /// A turn at which nothing is to be done.
+    /// Whether an execution is owed.
+    pub(crate) fn owes(&self) -> bool
+        ensures { result ≡ false → ¬ IsRunning self.now.worker.seen }
+    {
+        self.runner.owes()
+    }
+
+    /// True at the first call after the queue's stop item has run, and at no other.
+    pub(crate) fn count_stop(&mut self) -> bool
+        ensures { self.new ≡ self.old }
+    {
+        self.runner.count_stop()
+    }
+
+    /// Closes the queue where it is open, executes up to so many numbers, and answers how many are left.
+    pub(crate) fn drain(&mut self, limit: u32) -> u32
+        requires { ¬ IsRunning self.old.worker.seen }
+        ensures same { IsSameTurn self.old self.new }
+        ensures left { IsDrained result self.new.worker }
+        ensures idle { ¬ IsRunning self.new.worker.seen }
+    {
+        self.runner.drain(limit)
+    }
+
+    /// A turn that owes nothing.
     pub(crate) fn into_worked(self) -> Worked<W>
         requires { ¬ IsRunning self.worker.seen }
         ensures { result ≡ self }
@@ -130,14 +154,6 @@ impl<W: Work> Worked<W> {
         ensures idle { ¬ IsRunning self.now.worker.seen }
     {
         self.served.legal();
-    }
-
-    /// Closes the queue where it is open, executes up to so many numbers, and answers how many are left.
-    pub(crate) fn drain(&mut self, limit: u32) -> u32
-        ensures same { IsSameTurn self.old self.new }
-        ensures left { IsDrained result self.new.worker }
-    {
-        self.served.drain(limit)
     }
 }
 

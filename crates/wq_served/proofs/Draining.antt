@@ -1,61 +1,87 @@
 -- What a closing and a drain leave.
-use Rattle.std.proofs.Common.{◌≡◌, ℕ, ◌+◌, ◌<◌, List, [], ◌∷◌, ◌++◌, length, refl, ap, ◌∙◌, arith}
+use Rattle.std.proofs.Common.{◌≡◌, ℕ, ◌+◌, ◌<◌, Bool, true, false, List, [], ◌∷◌, length, refl, ap, ◌∙◌, subst, sym, arith}
 use Rattle.std.proofs.lemmas.List.{append-nil}
 use Rattle.wq_words.specs.declared.event.Event.{Event}
-use Rattle.wq_words.specs.declared.event.Event.TheVariants.{Close, End}
+use Rattle.wq_words.specs.declared.event.Event.TheVariants.{Close, Rest}
 use Rattle.wq_words.specs.History.{accepted, begun, ended, IsClosed, IsRunning}
 use Rattle.wq_words.specs.Legal.{IsLegal, IsComplete}
+use Rattle.wq_words.proofs.Closed.{closed_from_IsClosed}
 use Rattle.wq_worker.specs.Destroy.{LeavesUnfinished}
-use Rattle.wq_worker.specs.declared.ran.Ran.{Ran}
-use Rattle.wq_worker.specs.declared.ran.Ran.TheVariants.{Item, Barrier, Stop, Nothing, Owing}
+use Rattle.wq_worker.specs.Resting.{rest_events, IsUnready, owed, nothing}
+use Rattle.wq_worker.specs.Seats.{taking}
 use Rattle.wq_worker.specs.declared.drained.Drained.{Drained}
 use Rattle.wq_worker.specs.declared.drained.Drained.TheVariants.{Empty, TooLong}
 use Rattle.wq_worker.specs.Rows.{Row, none, more, IsExecution, Closes, was_closed, closes, Drains}
 use Rattle.wq_worker.specs.State.{WorkerState, Moves}
-use Rattle.wq_worker.specs.Step.{Ends, ends, Runs}
+use Rattle.wq_worker.specs.Step.{Owes as OwesOne, owes as owes_one}
 use Rattle.wq_worker.proofs.Owned.{owner_of_both}
 use Rattle.wq_served.specs.Drained.{IsDrained, left_after}
+use Rattle.wq_served.specs.Owes.{Owes}
+use Rattle.wq_served.specs.Steps.{Steps, still, ready, unready, run, rest, Finishes, rested, completed, Pauses, limited, owes, owed_before, WorksOn}
+use Rattle.wq_served.proofs.Moved.{runs_moved}
+
+owes_kept : (o : Bool) (v w : List Event) → length (begun w) ≡ length (begun v) → length (ended w) ≡ length (ended v) → Owes o v → Owes o w
+owes_kept true v w b e runs = omega (arith, runs, b, e)
+owes_kept false v w b e idle = λ runs. idle (omega (arith, runs, b, e))
 
 module _ {W : Type 0} where
+  -- a close begins and ends nothing
+  pub closed_owes : (o : Bool) (a b : WorkerState W) → Moves (Close ∷ []) 0 a b → Owes o a.seen → Owes o b.seen
+  closed_owes o a b moved =
+      let adds = owner_of_both a.number (Close ∷ []) 0 a.seen b.seen moved.adds in
+      owes_kept o a.seen b.seen (ap (length {A = ℕ}) (adds.begun_is ∙ append-nil (begun a.seen)))
+      (ap (length {A = ℕ}) (adds.ended_is ∙ append-nil (ended a.seen)))
+
   -- a queue that is closed stays so
   moved_shut : (es : List Event) (n : ℕ) (a b : WorkerState W) → Moves es n a b → IsClosed a.seen → IsClosed b.seen
   moved_shut es n a b moved shut = let adds = owner_of_both a.number es n a.seen b.seen moved.adds in omega (arith, adds.closes, shut)
 
-  -- a close leaves nothing running where nothing ran
-  pub closed_idle : (a b : WorkerState W) → Moves (Close ∷ []) 0 a b → ¬ IsRunning a.seen → ¬ IsRunning b.seen
-  closed_idle a b moved idle =
-      let adds = owner_of_both a.number (Close ∷ []) 0 a.seen b.seen moved.adds in
-      let b_is : length (begun b.seen) ≡ length (begun a.seen) = ap (length {A = ℕ}) (adds.begun_is ∙ append-nil (begun a.seen)) in
-      let e_is : length (ended b.seen) ≡ length (ended a.seen) = ap (length {A = ℕ}) (adds.ended_is ∙ append-nil (ended a.seen)) in
-      λ runs. idle (omega (arith, runs, b_is, e_is))
+  pub close_shuts : (a b : WorkerState W) → Moves (Close ∷ []) 0 a b → IsClosed b.seen
+  close_shuts a b moved = let adds = owner_of_both a.number (Close ∷ []) 0 a.seen b.seen moved.adds in omega (arith, adds.closes)
+
+  unready_shut : (a b : WorkerState W) → IsUnready a b → IsClosed a.seen → IsClosed b.seen
+  unready_shut a b (owed runs same) shut = subst (λ (w : WorkerState W). IsClosed w.seen) (sym same) shut
+  unready_shut a b (nothing waited done moved left) shut = moved_shut (taking a.seen) 0 a b moved shut
 
   module _ (may : W → ℕ → List ℕ → W → Type 0) where
-    ends_leaves : (k : ℕ) (a b : WorkerState W) → Ends may a k b → IsClosed a.seen → IsClosed b.seen × (¬ IsRunning b.seen)
-    ends_leaves k a b (ends f es fs starts told moved idle) shut = (moved_shut (es ++ (fs ++ End k ∷ [])) 0 a b moved shut, idle)
+    steps_shut : (n : ℕ) (a b : WorkerState W) → Steps may n a b → IsClosed a.seen → IsClosed b.seen
+    steps_shut n a b (still c) shut = shut
+    steps_shut n a b (ready m k c d e steps step) shut = moved_shut (taking d.seen) 0 d e step.moves (steps_shut m c d steps shut)
+    steps_shut n a b (unready m c d e steps step) shut = unready_shut d e step (steps_shut m c d steps shut)
+    steps_shut n a b (run m r c d e steps step) shut =
+        let moved = runs_moved may r d e step in moved_shut moved.0 moved.1 d e moved.2 (steps_shut m c d steps shut)
+    steps_shut n a b (rest m rests c d e steps left step) shut = moved_shut (rest_events rests) 0 d e step (steps_shut m c d steps shut)
 
-    executed_leaves : (r : Ran) (a b : WorkerState W) → IsExecution r → Runs may r a b → IsClosed a.seen → IsClosed b.seen × (¬ IsRunning b.seen)
-    executed_leaves (Item k) a b is t shut = ends_leaves t.0 a b t.2 shut
-    executed_leaves (Barrier k) a b is t shut = ends_leaves t.0 a b t.2 shut
-    executed_leaves Stop a b is t shut = ends_leaves t.0 a b t.2 shut
-    executed_leaves Nothing a b is t shut = absurd is
-    executed_leaves (Owing k) a b is t shut = absurd is
+    -- a closed queue owes nothing
+    owes_open : (k : ℕ) (a b : WorkerState W) → OwesOne may a k b → ¬ IsClosed a.seen
+    owes_open k a b (owes_one f qs j others es fs st split left opens told moved runs) = λ shut. let now = closed_from_IsClosed a.seen shut in absurd (cc)
 
-    row_leaves : (n : ℕ) (a b : WorkerState W) → Row may IsExecution n a b → IsClosed a.seen → ¬ IsRunning a.seen → IsClosed b.seen × (¬ IsRunning b.seen)
-    row_leaves n a b (none c) shut idle = (shut, idle)
-    row_leaves n a b (more m r c d e row is t) shut idle = executed_leaves r d e is t (row_leaves m c d row shut idle).0
+    finishes_shut : (limit : ℕ) (a c : WorkerState W) → Finishes may limit a c → IsClosed a.seen → IsClosed c.seen
+    finishes_shut limit a c (rested n b low steps left step) shut = moved_shut (Rest ∷ []) 0 b c step (steps_shut n a b steps shut)
+    finishes_shut limit a c (completed n low steps done) shut = done.0
+
+    pauses_shut : (limit : ℕ) (a c : WorkerState W) → Pauses may limit a c → IsClosed a.seen → ¬ IsRunning a.seen → IsClosed c.seen × (¬ IsRunning c.seen)
+    pauses_shut limit a c (limited k steps just rests next) shut idle = (steps_shut limit a c steps shut, rests)
+    pauses_shut limit a c (owes n k b low steps step) shut idle = absurd (owes_open k b c step (steps_shut n a b steps shut))
+    pauses_shut limit a c (owed_before is_none runs same) shut idle = absurd (idle runs)
+
+    pub works_shut : (limit : ℕ) (done : Bool) (a c : WorkerState W) → WorksOn may limit done a c → IsClosed a.seen → ¬ IsRunning a.seen
+        → IsClosed c.seen × (¬ IsRunning c.seen)
+    works_shut limit true a c t shut idle = (finishes_shut limit a c t.0 shut, t.1)
+    works_shut limit false a c t shut idle = pauses_shut limit a c t shut idle
 
     no_row : (n : ℕ) (a b : WorkerState W) → Row may IsExecution n a b → n ≡ 0 → b ≡ a
     no_row n a b (none c) is = refl
     no_row n a b (more m r c d e row passes t) is = absurd (omega (arith, is))
 
-    pub drained : (limit : ℕ) (d : Drained) (a b : WorkerState W) → Drains may limit d a b → IsLegal b.layout b.seen → IsClosed a.seen → ¬ IsRunning a.seen
-        → IsDrained (left_after d) b × (¬ IsRunning b.seen)
-    drained limit Empty a b t legal shut idle =
-        let left = row_leaves t.0 a b t.2 shut idle in let all = t.3.1 in
-        (record { legal = legal; shut = left.0; left_is = omega (arith, all) }, left.1)
-    drained limit (TooLong n) a b t legal shut idle =
-        let left = row_leaves limit a b t.0 shut idle in
-        (record { legal = legal; shut = left.0; left_is = t.2 }, left.1)
+    -- a drain of no number tells what is left
+    pub undrained : (d : Drained) (a b : WorkerState W) → Drains may 0 d a b → b ≡ a
+    undrained Empty a b t = no_row t.0 a b t.2 (omega (arith, t.1))
+    undrained (TooLong left) a b t = no_row 0 a b t.0 refl
+
+    pub drained : (d : Drained) (a b : WorkerState W) → Drains may 0 d a b → IsLegal b.layout b.seen → IsClosed b.seen → IsDrained (left_after d) b
+    drained Empty a b t legal shut = let all = t.3.1 in record { legal = legal; shut = shut; left_is = omega (arith, all) }
+    drained (TooLong left) a b t legal shut = record { legal = legal; shut = shut; left_is = t.2 }
 
     -- with nothing left a worker is taken apart
     pub never_unfinished : (log : W → List ℕ) (a b : WorkerState W) (left : ℕ) → IsComplete a.seen → LeavesUnfinished log may 0 a b left → ⊥

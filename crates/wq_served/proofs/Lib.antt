@@ -1,4 +1,5 @@
 pub mod Refused
+pub mod Moved
 pub mod Steps
 pub mod Settled
 pub mod Draining

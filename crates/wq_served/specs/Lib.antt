@@ -1,5 +1,6 @@
 pub mod Owes
 pub mod WorkerId
+pub mod StopItem
 pub mod Steps
 pub mod Drained
 pub mod Finished

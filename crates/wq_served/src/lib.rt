@@ -3,6 +3,7 @@
 #![tactic(auto)]
 
 mod gate;
+mod noted;
 mod runner;
 mod served;
 mod worker_id;

@@ -1,17 +1,21 @@
 //! A worker at work.
-ghost use Rattle.std.specs.Prelude.{◌≡◌};
-ghost use Rattle.wq_words.specs.History.{begun, IsRunning};
+ghost use Rattle.std.specs.Prelude.{◌≡◌, true, false, Contains};
+ghost use Rattle.wq_words.specs.Numbers.{stop_number};
+ghost use Rattle.wq_words.specs.History.{begun, ended, IsClosed, IsRunning};
 ghost use Rattle.wq_words.specs.Legal.{IsLegal};
 ghost use Rattle.wq_words.specs.Headline.{KeepsHeadline};
 ghost use Rattle.wq_worker.specs.Resting.{HasNoneLeft};
 ghost use Rattle.wq_worker.specs.Seats.{NothingWaits};
 ghost use Rattle.wq_worker.specs.State.{items_among};
+ghost use Rattle.wq_served.specs.Drained.{IsDrained};
 ghost use Rattle.wq_served.specs.Steps.{Settles, Executes, Advances, WorksOn};
+ghost use Rattle.wq_served.specs.WorkerId.{worker_id};
 
 use crate::gate::Gate;
-use crate::served::{Served, StopItem};
+use crate::noted::Noted;
+use crate::served::Served;
 use std::marker::Model;
-use wq_worker::{Ran, Work, Worker};
+use wq_worker::{Ran, Work};
 
 /// What a step came to.
 pub(crate) enum Progress {
@@ -26,9 +30,17 @@ pub(crate) enum Progress {
 /// A worker at work: one that may owe an execution, with its queue in the hand of one thread.
 #[derive(Drop)]
 pub struct Runner<W: Work> {
-    worker: Worker<W>,
+    worker: Noted<W>,
     owes: bool,
-    stop_item: StopItem,
+}
+
+// A gate for a drain, at which nobody looks.
+struct NoGate;
+
+impl Gate for NoGate {
+    fn before(&self, _queue: u32, _item: u32) {}
+
+    fn after(&self, _queue: u32, _item: u32) {}
 }
 
 impl<W: Work> Model for Runner<W> {
@@ -51,7 +63,6 @@ impl<W: Work> Runner<W> {
         Runner {
             worker: served.worker,
             owes: false,
-            stop_item: served.stop_item,
         }
     }
 
@@ -63,7 +74,21 @@ impl<W: Work> Runner<W> {
         ensures logged { W.log self.now.work ≡ items_among self.now.layout (begun self.now.seen) }
     {
         self.worker.legal();
-        self.worker.logged();
+    }
+
+    /// Whether an execution is owed.
+    pub fn owes(&self) -> bool
+        ensures { result ≡ false → ¬ IsRunning self.now.seen }
+    {
+        self.owes
+    }
+
+    /// As `Served::count_stop`, of a worker that may owe an execution.
+    pub fn count_stop(&mut self) -> bool
+        ensures same { self.new ≡ self.old }
+        ensures ran { result ≡ true → Contains (ended self.old.seen) (stop_number self.old.layout) }
+    {
+        self.worker.count_stop()
     }
 
     /// The worker at rest, where it owes nothing.
@@ -73,7 +98,6 @@ impl<W: Work> Runner<W> {
     {
         Served {
             worker: self.worker,
-            stop_item: self.stop_item,
         }
     }
 
@@ -112,7 +136,7 @@ impl<W: Work> Runner<W> {
         match self.worker.run_one() {
             Ran::Item(item) => gate.after(queue, item),
             Ran::Barrier(_) => {}
-            Ran::Stop => self.stop_item = self.stop_item.run(),
+            Ran::Stop => {}
             Ran::Owing(_) => {
                 self.owes = true;
                 return Progress::Owed;
@@ -168,5 +192,29 @@ impl<W: Work> Runner<W> {
             Some(_) => false,
             None => true,
         }
+    }
+
+    // Closes the queue where it is open.
+    fn close(&mut self)
+        ensures same { worker_id self.new ≡ worker_id self.old }
+        ensures shut { IsClosed self.new.seen }
+        ensures idle { ¬ IsRunning self.old.seen → ¬ IsRunning self.new.seen }
+    {
+        if !self.worker.is_closed() {
+            self.worker.close();
+        }
+    }
+
+    /// Closes the queue where it is open, works on, by up to so many executions and with no gate, and answers how many numbers
+    /// are left.
+    pub fn drain(&mut self, limit: u32) -> u32
+        requires { ¬ IsRunning self.old.seen }
+        ensures same { worker_id self.new ≡ worker_id self.old }
+        ensures left { IsDrained result self.new }
+        ensures idle { ¬ IsRunning self.new.seen }
+    {
+        self.close();
+        self.work(0, limit, &NoGate);
+        self.worker.left()
     }
 }

@@ -1,48 +1,21 @@
 //! A worker that owes nothing.
-ghost use Rattle.std.specs.Prelude.{◌≡◌};
-ghost use Rattle.wq_words.specs.History.{begun, IsClosed, IsRunning};
+ghost use Rattle.std.specs.Prelude.{◌≡◌, true, Contains};
+ghost use Rattle.wq_words.specs.Numbers.{stop_number};
+ghost use Rattle.wq_words.specs.History.{begun, ended, IsRunning};
 ghost use Rattle.wq_words.specs.Legal.{IsLegal, IsComplete};
 ghost use Rattle.wq_words.specs.Headline.{KeepsHeadline};
 ghost use Rattle.wq_worker.specs.State.{items_among};
 ghost use Rattle.wq_served.specs.WorkerId.{worker_id};
-ghost use Rattle.wq_served.specs.Drained.{IsDrained, left_after};
 ghost use Rattle.wq_served.specs.Finished.{IsFinished};
 
+use crate::noted::Noted;
 use std::marker::Model;
-use wq_worker::{Book, Drained, Work, Worker};
-
-/// Whether a queue's stop item has run since its worker was handed over, and whether that has been counted.
-#[derive(Clone, Copy, Debug, PartialEq, Eq)]
-pub(crate) enum StopItem {
-    Waits,
-    Ran,
-    Counted,
-}
-
-impl StopItem {
-    /// The stop item ran.
-    pub(crate) fn run(self) -> StopItem {
-        match self {
-            StopItem::Waits => StopItem::Ran,
-            other => other,
-        }
-    }
-}
-
-fn left_in(drained: Drained) -> u32
-    ensures { result ≡ left_after drained }
-{
-    match drained {
-        Drained::Empty => 0,
-        Drained::TooLong { left } => left,
-    }
-}
+use wq_worker::{Book, Work, Worker};
 
 /// A worker that owes no execution, so that another thread can go on with its queue.
 #[derive(Drop)]
 pub struct Served<W: Work> {
-    pub(crate) worker: Worker<W>,
-    pub(crate) stop_item: StopItem,
+    pub(crate) worker: Noted<W>,
 }
 
 impl<W: Work> Model for Served<W> {
@@ -63,8 +36,7 @@ impl<W: Work> Served<W> {
         ensures same { result ≡ worker }
     {
         Served {
-            worker,
-            stop_item: StopItem::Waits,
+            worker: Noted::of(worker),
         }
     }
 
@@ -77,39 +49,16 @@ impl<W: Work> Served<W> {
         ensures idle { ¬ IsRunning self.now.seen }
     {
         self.worker.legal();
-        self.worker.logged();
     }
 
     /// True at the first call after the queue's stop item has run, and at no other, so that one who adds these up counts each
-    /// queue once. The stop items that ran before the worker was handed over are not counted. The worker stays as it was; the
-    /// answer itself is no part of the contract.
+    /// queue once. The stop items that ran before the worker was handed over are not counted. The worker stays as it was. True
+    /// only where the stop item is among what has ended; that it is true then, and once, is in no clause.
     pub fn count_stop(&mut self) -> bool
         ensures same { self.new ≡ self.old }
+        ensures ran { result ≡ true → Contains (ended self.old.seen) (stop_number self.old.layout) }
     {
-        if self.stop_item != StopItem::Ran {
-            return false;
-        }
-        self.stop_item = StopItem::Counted;
-        true
-    }
-
-    // Closes the queue where it is open.
-    fn close(&mut self)
-        ensures same { worker_id self.new ≡ worker_id self.old }
-        ensures shut { IsClosed self.new.seen }
-    {
-        if !self.worker.is_closed() {
-            self.worker.close();
-        }
-    }
-
-    /// Closes the queue where it is open, executes up to so many numbers, and answers how many are left.
-    pub fn drain(&mut self, limit: u32) -> u32
-        ensures same { worker_id self.new ≡ worker_id self.old }
-        ensures left { IsDrained result self.new }
-    {
-        self.close();
-        left_in(self.worker.drain(limit))
+        self.worker.count_stop()
     }
 }
 
@@ -119,7 +68,7 @@ impl<W: Work + Drop> Served<W> {
         requires { IsComplete self.seen }
         ensures finished { IsFinished W.log (worker_id self) result }
     {
-        match self.worker.destroy(0) {
+        match self.worker.into_worker().destroy(0) {
             Ok(parts) => parts,
             Err(_) => unreachable!(),
         }

@@ -1,4 +1,5 @@
 use Rattle.std.proofs.Common.{rules, arith, ◌≡◌, ℕ, Some, slice_get, length, ap, sym, ◌∙◌, subst}
+use Rattle.wq_served.specs.Drained.{IsDrained}
 use Rattle.wq_pool.specs.Finish.{FirstLeft}
 use Rattle.wq_pool.specs.Known.{TurnState, turn_id}
 use Rattle.wq_pool.specs.Slots.{IsWorkerAt}
@@ -7,19 +8,21 @@ use Rattle.wq_pool.proofs.finish.gather.Goals as goal
 
 pub loop-queue-preserved : goal.loop-queue-preserved
 loop-queue-preserved g c =
-    let l = c.loop-queue in let i = l.invariant in let slots = c.args.slots.now in let t = c.drain-more.new.self in
-    let same = c.drain-more.ensures.same in let into = c.into_worked-worked.ensures in let up = c.in-Some.ensures in
+    let l = c.loop-queue in let i = l.invariant in let slots = c.args.slots.now in let t = c.into_worked.result in
+    let same = c.drain-more.ensures.same in let into = c.into_worked.ensures in let up = c.in-Some.ensures in
     let at : length l.all.items ≡ l.queue = search rules in
     let there : slice_get slots.workers l.queue ≡ Some (turn_id t) =
-    up.worker ∙ ap Some (sym (same.worker_is ∙ ap (λ (u : TurnState _). turn_id u) into)) in
+    up.worker ∙ ap Some (sym (ap (λ (u : TurnState _). turn_id u) into ∙ same.worker_is)) in
     let worker_is : IsWorkerAt slots.workers (length l.all.items) t.worker =
     subst (λ (q : ℕ). IsWorkerAt slots.workers q t.worker) (sym at) there in
     let told : FirstLeft l.left (length l.all.items) c.drain-more.result c.first_left-left.result =
-    subst (λ (q : ℕ). FirstLeft l.left q c.drain-more.result c.first_left-left.result) (sym at) c.first_left-left.ensures in (
+    subst (λ (q : ℕ). FirstLeft l.left q c.drain-more.result c.first_left-left.result) (sym at) c.first_left-left.ensures in
+    let drained : IsDrained c.drain-more.result t.worker =
+    subst (λ (u : TurnState _). IsDrained c.drain-more.result u.worker) (sym into) c.drain-more.ensures.left in (
       first_more slots l.all.items c.push_reserved.new.self.items t i.0 (omega (arith, at, c.count-queue-end.ensures, c.loop-queue-test.true))
-          (same.slots_is ∙ (ap (λ (u : TurnState _). u.slots) into ∙ up.slots)) worker_is c.push_reserved.ensures.items,
+          (ap (λ (u : TurnState _). u.slots) into ∙ (same.slots_is ∙ up.slots)) worker_is c.push_reserved.ensures.items,
       search rules,
       search rules,
-      left_more slots l.left c.first_left-left.result l.all.items c.push_reserved.new.self.items t c.drain-more.result i.3 told worker_is
-          c.drain-more.ensures.left c.push_reserved.ensures.items,
+      left_more slots l.left c.first_left-left.result l.all.items c.push_reserved.new.self.items t c.drain-more.result i.3 told worker_is drained
+          c.push_reserved.ensures.items,
     )

@@ -4,11 +4,11 @@ use Rattle.wq_pool.specs.Pool.{GoesOnFrom}
 use Rattle.wq_pool.proofs.GoingOn.{goes_on, goes_by_pick}
 use Rattle.wq_pool.proofs.pool.Pool.serve.Goals as goal
 
-pub returns-then-load-count : goal.returns-then-load-count
-returns-then-load-count g c = c.loop.invariant
+pub returns-then-has_stopped : goal.returns-then-has_stopped
+returns-then-has_stopped g c = c.loop.invariant
 
 pub loop-preserved-in-Some-pick : goal.loop-preserved-in-Some-pick
 loop-preserved-in-Some-pick g c =
     let a = c.loop.caller in
-    goes_on c.args.caller.now a c.put_back.new.caller c.loop.invariant
-    (subst (λ (z : CallerState). GoesOnFrom a z) (sym c.put_back.ensures) (goes_by_pick _ a c.pick.new.caller c.pick.ensures.seen))
+    goes_on c.args.caller.now a c.work_share.new.caller c.loop.invariant
+    (goes_on a c.pick.new.caller c.work_share.new.caller (goes_by_pick _ a c.pick.new.caller c.pick.ensures.seen) c.work_share.ensures)

@@ -1,9 +1,9 @@
 use Rattle.std.proofs.Common.{◌≡◌, All}
 use Rattle.std.specs.Vec.{vec_len}
-use Rattle.wq_pool.proofs.finish.lay_all.Given as goal
+use Rattle.wq_pool.proofs.pool.Pool.lay_all.Given as goal
 
 abbrev pub invariant-loop-worked : goal.invariant-loop-worked
-invariant-loop-worked g l = All (λ t. t.slots ≡ l.slots.id) l.all.items
+invariant-loop-worked g l = All (λ t. t.slots ≡ l.self.slots) l.all.items
 
 abbrev pub decreases-loop-worked : goal.decreases-loop-worked
 decreases-loop-worked g l = vec_len l.all

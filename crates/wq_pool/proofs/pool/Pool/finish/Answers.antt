@@ -1,0 +1,21 @@
+use Rattle.std.proofs.Common.{rules, ◌≡◌, map, length, ap, ◌∙◌}
+use Rattle.std.proofs.lemmas.List.{length-map}
+use Rattle.wq_pool.specs.Known.{PoolState, turn_id}
+use Rattle.wq_pool.proofs.Gathering.{finished_count, finished_each}
+use Rattle.wq_pool.proofs.pool.Pool.finish.Goals as goal
+
+pub lay_all-requires : goal.lay_all-requires
+lay_all-requires g c = λ k d low. c.gather-all.ensures.first.slots_are k d low ∙ ap (λ (p : PoolState). p.slots) c.self.view_is
+
+pub lay_all-requires-in-None-Some : goal.lay_all-requires-in-None-Some
+lay_all-requires-in-None-Some g c = λ k d low. c.gather-all.ensures.first.slots_are k d low ∙ ap (λ (p : PoolState). p.slots) c.self.view_is
+
+pub returns-in-None-None-clause-count : goal.returns-in-None-None-clause-count
+returns-in-None-None-clause-count g c =
+    let all = c.gather-all.result.all.items in
+    let here : length all ≡ length c.args.self.workers = search rules in
+    finished_count g.W.Work.log (map turn_id all) c.take_apart.result.items c.take_apart.ensures ∙ (length-map all turn_id ∙ here)
+
+pub returns-in-None-None-clause-each : goal.returns-in-None-None-clause-each
+returns-in-None-None-clause-each g c =
+    finished_each g.W.Work.log (map turn_id c.gather-all.result.all.items) c.take_apart.result.items c.take_apart.ensures

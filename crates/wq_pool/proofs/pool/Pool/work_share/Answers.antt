@@ -1,0 +1,21 @@
+use Rattle.std.proofs.Common.{sym, subst}
+use Rattle.wq_ready.specs.Known.{CallerState}
+use Rattle.wq_pool.specs.Known.{TurnState}
+use Rattle.wq_pool.specs.Pool.{GoesOnFrom, IsTurnOf}
+use Rattle.wq_pool.proofs.GoingOn.{goes_on, goes_by_announce, turn_same}
+use Rattle.wq_pool.proofs.pool.Pool.work_share.Goals as goal
+
+pub returns-then-is_announced : goal.returns-then-is_announced
+returns-then-is_announced g c =
+    let a = c.args.caller.now in let b = c.loop.caller in let d = c.announce.new.caller in
+    subst (λ (z : CallerState). GoesOnFrom a z) (sym c.put_back-then-is_announced.ensures)
+    (goes_on a b d c.loop.invariant.1 (goes_by_announce c.queue.result c.announce.result b d c.announce.ensures.seen))
+
+pub loop-preserved-then-not-owes : goal.loop-preserved-then-not-owes
+loop-preserved-then-not-owes g c =
+    let a = c.args.caller.now in let b = c.loop.caller in let d = c.announce.new.caller in (
+      c.announce.ensures.caller,
+      goes_on a b d c.loop.invariant.1 (goes_by_announce c.queue.result c.announce.result b d c.announce.ensures.seen),
+      subst (λ (t : TurnState g.row.W.Denot). IsTurnOf c.args.self.now t) (sym c.count_stop.ensures)
+          (turn_same c.args.self.now c.loop.turn c.in-Err.same c.loop.invariant.2 c.in-Err.ensures.same),
+    )

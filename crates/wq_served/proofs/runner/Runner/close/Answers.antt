@@ -1,0 +1,16 @@
+use Rattle.std.proofs.Common.{false, subst}
+use Rattle.wq_words.specs.History.{IsRunning}
+use Rattle.wq_worker.specs.State.{WorkerState}
+use Rattle.wq_served.proofs.Draining.{closed_owes, close_shuts}
+use Rattle.wq_served.proofs.runner.Runner.close.Goals as goal
+
+pub invariant_of-self : goal.invariant_of-self
+invariant_of-self g c = closed_owes c.self.inside.owes c.self.inside.worker c.close.new.self c.close.ensures.events c.self.invariant
+
+pub returns-then-not-is_closed-clause-shut : goal.returns-then-not-is_closed-clause-shut
+returns-then-not-is_closed-clause-shut g c = close_shuts c.self.inside.worker c.close.new.self c.close.ensures.events
+
+pub returns-then-not-is_closed-clause-idle : goal.returns-then-not-is_closed-clause-idle
+returns-then-not-is_closed-clause-idle g c =
+    subst (λ (w : WorkerState g.row.W.Denot). ¬ IsRunning w.seen → ¬ IsRunning c.close.new.self.seen) c.self.view_is
+    (closed_owes false c.self.inside.worker c.close.new.self c.close.ensures.events)

@@ -1,0 +1,24 @@
+use Rattle.std.proofs.Common.{sym, ap, ◌∙◌, subst}
+use Rattle.wq_words.specs.History.{IsClosed, IsRunning}
+use Rattle.wq_worker.specs.State.{WorkerState}
+use Rattle.wq_served.specs.WorkerId.{worker_id}
+use Rattle.wq_served.proofs.Draining.{works_shut}
+use Rattle.wq_served.proofs.Steps.{works_id}
+use Rattle.wq_served.proofs.runner.Runner.drain.Goals as goal
+
+pub left-requires : goal.left-requires
+left-requires g c =
+    let left = works_shut g.W.Work.may c.args.limit c.work.result c.close.new.self c.work.new.self c.work.ensures.works c.close.ensures.shut
+    (c.close.ensures.idle c.requires) in
+    subst (λ (w : WorkerState g.row.W.Denot). IsClosed w.seen) (sym c.self.view_is) left.0
+
+pub returns-clause-same : goal.returns-clause-same
+returns-clause-same g c =
+    ap (worker_id {W = g.row.W.Denot}) (c.left.ensures.same ∙ c.self.view_is)
+    ∙ (works_id g.W.Work.may c.args.limit c.work.result c.close.new.self c.work.new.self c.work.ensures.works ∙ c.close.ensures.same)
+
+pub returns-clause-idle : goal.returns-clause-idle
+returns-clause-idle g c =
+    let left = works_shut g.W.Work.may c.args.limit c.work.result c.close.new.self c.work.new.self c.work.ensures.works c.close.ensures.shut
+    (c.close.ensures.idle c.requires) in
+    subst (λ (w : WorkerState g.row.W.Denot). ¬ IsRunning w.seen) (sym (c.left.ensures.same ∙ c.self.view_is)) left.1
