@@ -9,7 +9,7 @@ ghost use Rattle.two_queues.specs.Ended.{IsNewLine, QueuedBoth, HaveQueued};
 
 use crate::work::Runs;
 use std::sync::Wait;
-use std::thread::{Threads, join, yield_now};
+use std::thread::{Threads, join};
 use wq_live::{Answer, Sender, queued_is_accepted};
 use wq_pool::{Caller, Pool};
 
@@ -37,20 +37,7 @@ pub(crate) struct Line {
     pub(crate) last: Sender,
 }
 
-// Announces a queue that was woken. Where as many wait as there are queues, workers pick one of them meanwhile.
-fn announce<R: Wait>(rt: &R, pool: &Pool<Runs>, caller: &mut Caller, queue: u32)
-    requires { IsCallerOf pool.now.ready caller.old }
-    ensures { IsCallerOf pool.now.ready caller.new }
-{
-    for _ in rt.forever() {
-        if pool.announce(rt, caller, queue).is_ok() {
-            return;
-        }
-        yield_now();
-    }
-}
-
-// One queueing. Where it wakes the queue, this is announced, so that a worker picks it.
+// One queueing. Where it wakes the queue, this is announced, so that a worker picks it; each seat's queue is one of the pool's.
 fn queue<R: Wait>(rt: &R, pool: &Pool<Runs>, seat: &mut Seat, item: u32) -> Answer
     requires caller { IsCallerOf pool.now.ready seat.old.caller }
     requires item { item < seat.old.sender.layout.items }
@@ -61,9 +48,7 @@ fn queue<R: Wait>(rt: &R, pool: &Pool<Runs>, seat: &mut Seat, item: u32) -> Answ
 {
     queued_is_accepted();
     let answer = seat.sender.queue(rt, item);
-    if let Answer::Queued { wakes: true, .. } = answer {
-        announce(rt, pool, &mut seat.caller, seat.queue);
-    }
+    let _ = pool.wake(rt, &mut seat.caller, seat.queue, answer);
     answer
 }
 
@@ -121,8 +106,10 @@ fn stop<R: Wait>(rt: &R, pool: &Pool<Runs>, caller: &mut Caller, queue: u32, mut
     for _ in rt.forever() {
         match sender.request_stop(1) {
             Answer::Contended => {}
-            Answer::Queued { wakes: true, .. } => return announce(rt, pool, caller, queue),
-            _ => return,
+            answer => {
+                let _ = pool.wake(rt, caller, queue, answer);
+                return;
+            }
         }
     }
 }
