@@ -6,7 +6,7 @@ use std::sync::Wait;
 use std::sync::atomic::{AtomicU64, Ordering};
 use std::thread::yield_now;
 use wq_live::{Answer, Sender};
-use wq_pool::{AnnounceError, Caller, Pool};
+use wq_pool::{Caller, Pool};
 
 /// Queues its slice of items on all queues in turn, and announces those that rested.
 #[derive(Drop)]
@@ -62,17 +62,13 @@ impl<'p> Feeder<'p> {
         self.announced
     }
 
-    // Announces a queue. It waits where the ready queue is full.
-    fn announce<R: Wait>(&mut self, rt: &R, queue: usize) {
+    // Announces a queue that was woken, and counts that.
+    fn wake<R: Wait>(&mut self, rt: &R, queue: usize, answer: Answer) {
         let queue = u32::try_from(queue).unwrap_or(u32::MAX);
-        self.announced = self.announced.saturating_add(1);
-        for _ in rt.forever() {
-            match self.pool.announce(rt, &mut self.caller, queue) {
-                Err(AnnounceError::Full) => yield_now(),
-                Ok(()) | Err(AnnounceError::NoQueue) => return,
-            }
+        if let Answer::Queued { wakes: true, .. } = answer {
+            self.announced = self.announced.saturating_add(1);
         }
-        unreachable!()
+        let _ = self.pool.wake(rt, &mut self.caller, queue, answer);
     }
 
     // Queues an item on each queue, or with none the stop item.
@@ -85,9 +81,7 @@ impl<'p> Feeder<'p> {
                 Some(item) => queue_when_free(seat, item),
                 None => seat.request_stop(u32::MAX),
             };
-            if let Answer::Queued { wakes: true, .. } = answer {
-                self.announce(rt, queue);
-            }
+            self.wake(rt, queue, answer);
         }
     }
 

@@ -1,6 +1,7 @@
 //! Measures a pool. `wq_pool_bench QUEUES WORKERS SENDERS TOTAL` starts so many workers that serve so many queues, and so many senders
 //! that queue on all of them in turn, and announce a queue where they were answered `wakes`. It prints `items N nanos T picks K
-//! strays S`, of which the last is how many items ran out of their sender's order.
+//! strays S`, of which the last is how many items ran out of their sender's order. Picks are counted by what senders announced, so
+//! without those of a queue that was worked at for its share and announced again by the pool.
 //!
 //! Without words it prints `items N strays S` for a small pool, which depends on no clock.
 #![tactic(auto)]

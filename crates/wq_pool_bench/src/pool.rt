@@ -170,7 +170,8 @@ fn serve_and_feed<R: Threads + Wait + Sync>(
 }
 
 /// Serves the pool until its queues have run their stop items, and answers how many announcements all feeders made. A queue is
-/// announced once a rest, and picked as often by the time that it has run its stop item.
+/// announced so once a rest, and picked as often by the time that it has run its stop item; picks after a share of executions,
+/// for which the pool itself announces it, are not counted.
 fn serve<R: Threads + Wait + Sync>(
     rt: &R,
     alloc: Global,
