@@ -4,6 +4,7 @@ mod overlap;
 mod owing;
 mod rows;
 mod running;
+mod serving;
 mod stopped;
 mod team;
 mod turns;

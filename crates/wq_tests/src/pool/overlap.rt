@@ -1,32 +1,40 @@
-//! Two workers of a pool run at the same time.
-use crate::pool::team::{take_last, two_to_stop};
+//! As many workers of a pool as are wanted run at the same time.
+use crate::expect::expect_same;
+use crate::pool::team::{new_pool_for, to_stop};
 use std::alloc::Global;
 use std::process::Abort;
 use std::sync::Wait;
 use std::sync::atomic::AtomicU64;
 use std::sync::atomic::Ordering::SeqCst;
 use std::thread::{Threads, yield_now};
-use wq_pool::{Gate, Pool};
+use wq_pool::Gate;
 
-/// So often queue 0 looks whether queue 1 was executed.
+/// So often a queue looks whether all others are within an item.
 const LOOKS: u32 = 1_000_000;
 
-/// Before an item of queue 0 it waits until one of queue 1 has ended, and notes whether that came.
+/// Before the item of each of three queues it waits until all three are there, and counts the queues to which that came.
 #[derive(Drop)]
-struct Waiting {
-    other_ended: AtomicU64,
-    came: AtomicU64,
+struct Meeting {
+    here: [AtomicU64; 3],
+    met: AtomicU64,
 }
 
-impl Waiting {
-    fn has_other_ended(&self) -> bool {
-        self.other_ended.load(SeqCst) > 0
+impl Meeting {
+    fn new() -> Meeting {
+        Meeting {
+            here: [AtomicU64::new(0), AtomicU64::new(0), AtomicU64::new(0)],
+            met: AtomicU64::new(0),
+        }
+    }
+
+    fn are_all_here(&self) -> bool {
+        self.here.iter().all(|queue| queue.load(SeqCst) > 0)
     }
 
     fn wait(&self) {
         for _ in 0..LOOKS {
-            if self.has_other_ended() {
-                self.came.store(1, SeqCst);
+            if self.are_all_here() {
+                self.met.fetch_add(1, SeqCst);
                 return;
             }
             yield_now();
@@ -34,42 +42,35 @@ impl Waiting {
     }
 }
 
-impl Gate for Waiting {
+impl Gate for Meeting {
     fn before(&self, queue: u32, item: u32) {
         let _ = item;
-        if queue == 0 {
-            self.wait();
+        if let Some(here) = self.here.get(queue as usize) {
+            here.store(1, SeqCst);
         }
+        self.wait();
     }
 
     fn after(&self, queue: u32, item: u32) {
-        let _ = item;
-        if queue == 1 {
-            self.other_ended.store(1, SeqCst);
-        }
+        let _ = (queue, item);
     }
 }
 
-/// Whether queue 1 was executed while queue 0 waited for that, with so many workers.
-fn do_overlap<R: Abort + Threads + Wait + Sync>(rt: &R, alloc: Global, workers: u32) -> bool {
-    let queues = two_to_stop(rt, alloc, 1);
-    let (pool, mut callers) = Pool::new(alloc, queues, workers.saturating_add(1)).expect(
-        rt, "a pool",
-    );
-    let mut announcer = take_last(rt, &pool, &mut callers);
-    assert!(rt; pool.announce(rt, &mut announcer, 0).is_ok());
-    assert!(rt; pool.announce(rt, &mut announcer, 1).is_ok());
-    let gate = Waiting {
-        other_ended: AtomicU64::new(0),
-        came: AtomicU64::new(0),
-    };
+/// To how many of three queues the others came, with so many workers.
+fn meet<R: Abort + Threads + Wait + Sync>(rt: &R, alloc: Global, workers: u32) -> u64 {
+    let queues = to_stop(rt, alloc, 3, 1);
+    let (pool, mut announcer, mut callers) = new_pool_for(rt, alloc, queues, workers);
+    for queue in 0..3u32 {
+        assert!(rt; pool.announce(rt, &mut announcer, queue).is_ok());
+    }
+    let gate = Meeting::new();
     pool.run(rt, callers.as_mut_slice(), &gate)
         .expect(rt, "memory");
-    gate.came.load(SeqCst) > 0
+    gate.met.load(SeqCst)
 }
 
-/// While one worker of two waits within queue 0, the other executes queue 1.
+/// Three workers are each within an item of a queue of its own, at one time.
 #[test]
-fn pool_two_workers_overlap(rt: HostRuntime) {
-    assert!(rt; do_overlap(&rt, rt.alloc(), 2));
+fn pool_three_workers_overlap(rt: HostRuntime) {
+    expect_same(&rt, meet(&rt, rt.alloc(), 3), 3);
 }

@@ -2,17 +2,58 @@
 ghost use Rattle.std.specs.Prelude.{◌≡◌};
 
 use crate::expect::expect_same;
-use crate::pool::team::{Guest, Logging, Open, new_pool, new_queue};
+use crate::pool::team::{Guest, Logging, new_pool, new_queue};
 use crate::seats::queue_item;
 use std::alloc::Global;
+use std::cell::Cell;
 use std::process::Abort;
 use std::sync::Wait;
 use std::sync::atomic::AtomicU64;
 use std::sync::atomic::Ordering::SeqCst;
 use std::thread::{Threads, join_mut};
 use wq_live::Sender;
-use wq_pool::{Served, Turn, Worked};
+use wq_pool::{Gate, Served, Turn, Worked};
 use wq_words::Layout;
+
+/// Which item runs, by the calls of the gate, and whether each began where none ran, and ended where it ran.
+#[derive(Drop)]
+struct Pairing {
+    running: Cell<Option<u32>>,
+    are_pairs: Cell<bool>,
+}
+
+impl Pairing {
+    fn new() -> Pairing {
+        Pairing {
+            running: Cell::new(None),
+            are_pairs: Cell::new(true),
+        }
+    }
+
+    fn change(&self, from: Option<u32>, to: Option<u32>) {
+        if self.running.replace(to) != from {
+            self.are_pairs.set(false);
+        }
+    }
+
+    /// Whether all calls were pairs, but for one item that runs still, or for none.
+    fn are_pairs_but<R: Abort>(&self, rt: &R, is_running: bool) {
+        expect_same(rt, self.running.get().is_some(), is_running);
+        expect_same(rt, self.are_pairs.get(), true);
+    }
+}
+
+impl Gate for Pairing {
+    fn before(&self, queue: u32, item: u32) {
+        let _ = queue;
+        self.change(None, Some(item));
+    }
+
+    fn after(&self, queue: u32, item: u32) {
+        let _ = queue;
+        self.change(Some(item), None);
+    }
+}
 
 /// A queue whose work asks for an item below 100 after each other item, and two senders of it.
 struct Disturbed {
@@ -55,11 +96,11 @@ fn disturb<R: Abort + Threads + Sync>(
     is_done.store(1, SeqCst);
 }
 
-fn work_whole<R: Wait>(rt: &R, mut turn: Turn<Logging>) -> Worked<Logging>
+fn work_whole<R: Wait>(rt: &R, mut turn: Turn<Logging>, gate: &Pairing) -> Worked<Logging>
     ensures { result.slots ≡ turn.slots }
 {
     for _ in rt.forever() {
-        match turn.work(1024, &Open) {
+        match turn.work(1024, gate) {
             Ok(worked) => return worked,
             Err(same) => turn = same,
         }
@@ -68,22 +109,29 @@ fn work_whole<R: Wait>(rt: &R, mut turn: Turn<Logging>) -> Worked<Logging>
 }
 
 /// Goes on at a turn that owes an execution. It owes it still where nothing may be executed.
-fn go_on<R: Abort + Wait>(rt: &R, turn: Turn<Logging>) -> Worked<Logging>
+fn go_on<R: Abort + Wait>(rt: &R, turn: Turn<Logging>, gate: &Pairing) -> Worked<Logging>
     ensures { result.slots ≡ turn.slots }
 {
-    match turn.work(0, &Open) {
+    match turn.work(0, gate) {
         Ok(_) => panic!(rt; "it owed nothing"),
-        Err(same) => work_whole(rt, same),
+        Err(same) => work_whole(rt, same, gate),
     }
 }
 
 /// Works with no limit within reach, and says whether the turn was given back, since it owed an execution.
-fn work_owing<R: Abort + Wait>(rt: &R, turn: Turn<Logging>) -> (Worked<Logging>, bool)
+fn work_owing<R: Abort + Wait>(
+    rt: &R,
+    turn: Turn<Logging>,
+    gate: &Pairing,
+) -> (Worked<Logging>, bool)
     ensures { result.0.slots ≡ turn.slots }
 {
-    match turn.work(u32::MAX, &Open) {
+    match turn.work(u32::MAX, gate) {
         Ok(worked) => (worked, false),
-        Err(owing) => (go_on(rt, owing), true),
+        Err(owing) => {
+            gate.are_pairs_but(rt, true);
+            (go_on(rt, owing, gate), true)
+        }
     }
 }
 
@@ -93,7 +141,9 @@ fn serve_once<R: Abort + Wait>(rt: &R, guest: &mut Guest<'_>) -> bool {
     let Some(turn) = guest.pool.pick(rt, &mut guest.caller) else {
         return false;
     };
-    let (worked, is_owing) = work_owing(rt, turn);
+    let gate = Pairing::new();
+    let (worked, is_owing) = work_owing(rt, turn, &gate);
+    gate.are_pairs_but(rt, false);
     guest.pool.put_back(&mut guest.caller, worked);
     is_owing
 }
@@ -142,7 +192,7 @@ fn owes_at_last<R: Abort + Threads + Wait + Sync>(
 }
 
 /// A turn is given back where it owes an execution, which it does where the worker's one try is lost to another sender. The
-/// next turn goes on with it, and nothing is lost.
+/// next turn goes on with it, and nothing is lost. The gate is called before it in the first turn, and after it in the last.
 #[test]
 fn owing_is_given_back(rt: HostRuntime) {
     let Disturbed {

@@ -117,11 +117,24 @@ pub(crate) fn new_queue<R: Abort, W: Work + Drop>(
     (Served::new(worker), senders)
 }
 
+/// A queue of at least so many items, and its sender.
+pub(crate) fn empty<R: Abort>(
+    rt: &R,
+    alloc: Global,
+    items: u32,
+    work: Logging,
+) -> (Served<Logging>, Sender)
+    requires { work.ran.items ≡ [] }
+{
+    let layout = Layout::new(items.max(4), 1, 2).expect(rt, "a layout");
+    let (served, mut senders) = new_queue(rt, alloc, layout, work);
+    let sender = senders.pop().expect(rt, "a sender");
+    (served, sender)
+}
+
 /// A queue in which the items below a number are queued, and its sender.
 pub(crate) fn filled<R: Abort>(rt: &R, alloc: Global, count: u32) -> (Served<Logging>, Sender) {
-    let layout = Layout::new(count.max(4), 1, 2).expect(rt, "a layout");
-    let (served, mut senders) = new_queue(rt, alloc, layout, Logging::new());
-    let mut sender = senders.pop().expect(rt, "a sender");
+    let (served, mut sender) = empty(rt, alloc, count, Logging::new());
     for item in 0..count {
         queue_item(rt, &mut sender, item);
     }
@@ -143,18 +156,27 @@ pub(crate) fn two_filled<R: Abort>(
     queues
 }
 
-/// Two queues, with so many items and then the stop item queued in each.
-pub(crate) fn two_to_stop<R: Abort>(rt: &R, alloc: Global, count: u32) -> Vec<Served<Logging>> {
-    let mut queues = Vec::new(alloc);
-    for _turn in 0..2u32 {
+/// So many queues, with so many items and then the stop item queued in each.
+pub(crate) fn to_stop<R: Abort>(
+    rt: &R,
+    alloc: Global,
+    queues: u32,
+    count: u32,
+) -> Vec<Served<Logging>> {
+    let mut all = Vec::new(alloc);
+    for _turn in 0..queues {
         let (served, mut sender) = filled(rt, alloc, count);
         sender.request_stop(1);
-        queues.push(served).expect(rt, "memory");
+        all.push(served).expect(rt, "memory");
     }
-    queues
+    all
 }
 
-pub(crate) fn take_last<R: Abort>(rt: &R, pool: &Pool<Logging>, callers: &mut Vec<Caller>) -> Caller
+pub(crate) fn take_last<R: Abort, W: Work>(
+    rt: &R,
+    pool: &Pool<W>,
+    callers: &mut Vec<Caller>,
+) -> Caller
     requires { All (IsCallerOf pool.now.ready) callers.old.items }
     ensures rest { All (IsCallerOf pool.now.ready) callers.new.items }
     ensures last { IsCallerOf pool.now.ready result }
@@ -163,16 +185,32 @@ pub(crate) fn take_last<R: Abort>(rt: &R, pool: &Pool<Logging>, callers: &mut Ve
     callers.pop().expect(rt, "a caller")
 }
 
-/// A pool of these queues, and one caller of it.
-pub(crate) fn new_pool<R: Abort>(
+/// A pool of these queues, a caller of it, and so many more for its workers.
+pub(crate) fn new_pool_for<R: Abort, W: Work + Drop>(
     rt: &R,
     alloc: Global,
-    queues: Vec<Served<Logging>>,
-) -> (Pool<Logging>, Caller)
+    queues: Vec<Served<W>>,
+    workers: u32,
+) -> (Pool<W>, Caller, Vec<Caller>)
+    ensures caller { IsCallerOf result.0.ready result.1 }
+    ensures workers { All (IsCallerOf result.0.ready) result.2.items }
+{
+    let (pool, mut callers) = Pool::new(alloc, queues, workers.saturating_add(1)).expect(
+        rt, "a pool",
+    );
+    let caller = take_last(rt, &pool, &mut callers);
+    (pool, caller, callers)
+}
+
+/// A pool of these queues, and one caller of it.
+pub(crate) fn new_pool<R: Abort, W: Work + Drop>(
+    rt: &R,
+    alloc: Global,
+    queues: Vec<Served<W>>,
+) -> (Pool<W>, Caller)
     ensures { IsCallerOf result.0.ready result.1 }
 {
-    let (pool, mut callers) = Pool::new(alloc, queues, 1).expect(rt, "a pool");
-    let caller = take_last(rt, &pool, &mut callers);
+    let (pool, caller, _workers) = new_pool_for(rt, alloc, queues, 0);
     (pool, caller)
 }
 
@@ -193,6 +231,13 @@ impl<'a> Guest<'a> {
 
     pub(crate) fn announce<R: Wait>(&mut self, rt: &R, queue: u32) -> bool {
         self.pool.announce(rt, &mut self.caller, queue).is_ok()
+    }
+
+    /// Announces a queue where the answer of a queueing says that it wakes it.
+    pub(crate) fn wake<R: Abort + Wait>(&mut self, rt: &R, queue: u32, answer: Answer) {
+        if let Answer::Queued { wakes: true, .. } = answer {
+            assert!(rt; self.announce(rt, queue));
+        }
     }
 }
 
@@ -218,12 +263,12 @@ pub(crate) fn take_guests<'a, R: Abort>(
 }
 
 /// Works at a queue to the end.
-pub(crate) fn work<R: Abort, G: Gate>(
+pub(crate) fn work<R: Abort, W: Work, G: Gate>(
     rt: &R,
-    turn: Turn<Logging>,
+    turn: Turn<W>,
     limit: u32,
     gate: &G,
-) -> Worked<Logging>
+) -> Worked<W>
     ensures { result.slots ≡ turn.slots }
 {
     match turn.work(limit, gate) {
@@ -233,12 +278,12 @@ pub(crate) fn work<R: Abort, G: Gate>(
 }
 
 /// Works at a queue up to a limit, behind which something is left.
-pub(crate) fn work_back<R: Abort, G: Gate>(
+pub(crate) fn work_back<R: Abort, W: Work, G: Gate>(
     rt: &R,
-    turn: Turn<Logging>,
+    turn: Turn<W>,
     limit: u32,
     gate: &G,
-) -> Turn<Logging>
+) -> Turn<W>
     ensures { result.slots ≡ turn.slots }
 {
     match turn.work(limit, gate) {
@@ -262,7 +307,9 @@ pub(crate) fn finish_unfinished<R: Abort>(
     rt: &R,
     pool: Pool<Logging>,
     limit: u32,
-) -> (Pool<Logging>, u32, u32) {
+) -> (Pool<Logging>, u32, u32)
+    ensures { result.0 ≡ pool }
+{
     match pool.finish(limit) {
         Err(PoolFault::Unfinished { pool, queue, left }) => (pool, queue, left),
         _ => panic!(rt; "nothing was left"),

@@ -1,0 +1,123 @@
+//! What a run of a pool serves while others queue.
+ghost use Rattle.std.specs.Prelude.{All};
+ghost use Rattle.wq_ready.specs.Known.{IsCallerOf};
+
+use crate::expect::expect_same;
+use crate::pool::team::{Guest, Logging, Open, empty, finish_unfinished, new_pool_for};
+use std::alloc::Global;
+use std::process::Abort;
+use std::sync::Wait;
+use std::thread::{Threads, join, yield_now};
+use wq_live::Sender;
+use wq_pool::{Caller, Pool, Served};
+
+/// So often it is looked whether a queue was served.
+const LOOKS: u32 = 1_000_000;
+
+const ROUNDS: u32 = 100;
+
+/// Two empty queues, and a sender of each.
+struct Two {
+    queues: Vec<Served<Logging>>,
+    one: Sender,
+    two: Sender,
+}
+
+/// The work of the first asks for an item below 100 where one from a number on ran.
+fn new_two<R: Abort>(rt: &R, alloc: Global, asks_from: u32) -> Two {
+    let (first, one) = empty(rt, alloc, 1, Logging::asking(asks_from));
+    let (second, two) = empty(rt, alloc, 1, Logging::new());
+    let mut queues = Vec::new(alloc);
+    queues.push(first).expect(rt, "memory");
+    queues.push(second).expect(rt, "memory");
+    Two { queues, one, two }
+}
+
+/// Whether the barrier has run, within so many looks.
+fn is_flushed<R: Abort>(rt: &R, sender: &mut Sender) -> bool {
+    for _ in 0..LOOKS {
+        assert!(rt; 0 < sender.layout().barriers);
+        if sender.flush_done(0) {
+            return true;
+        }
+        yield_now();
+    }
+    false
+}
+
+/// Queues an item and a barrier, and announces the queue where that wakes it. Both are served.
+fn serve_again<R: Abort + Wait>(rt: &R, guest: &mut Guest<'_>, sender: &mut Sender, queue: u32) {
+    assert!(rt; 0 < sender.layout().items);
+    let answer = sender.queue(rt, 0);
+    guest.wake(rt, queue, answer);
+    assert!(rt; 0 < sender.layout().barriers);
+    let answer = sender.flush_begin(0, u32::MAX);
+    guest.wake(rt, queue, answer);
+    assert!(rt; is_flushed(rt, sender));
+}
+
+/// Both queues are served over and over, and stopped.
+fn queue_rounds<R: Abort + Wait>(
+    rt: &R,
+    guest: &mut Guest<'_>,
+    one: &mut Sender,
+    two: &mut Sender,
+) {
+    for _ in 0..ROUNDS {
+        serve_again(rt, guest, one, 0);
+        serve_again(rt, guest, two, 1);
+    }
+    let answer = one.request_stop(u32::MAX);
+    guest.wake(rt, 0, answer);
+    let answer = two.request_stop(u32::MAX);
+    guest.wake(rt, 1, answer);
+}
+
+/// One worker runs the pool meanwhile.
+fn run_beside<R: Abort + Threads + Wait + Sync>(
+    rt: &R,
+    mut workers: Vec<Caller>,
+    mut guest: Guest<'_>,
+    mut one: Sender,
+    mut two: Sender,
+)
+    requires { All (IsCallerOf guest.pool.now.ready) workers.items }
+{
+    let pool = guest.pool;
+    let (ran, ()) = join(
+        rt,
+        move ||
+            requires { All (IsCallerOf pool.now.ready) workers.items }
+        { pool.run(rt, workers.as_mut_slice(), &Open) },
+        move || queue_rounds(rt, &mut guest, &mut one, &mut two),
+    );
+    ran.expect(rt, "a thread");
+}
+
+/// The pool after such a run.
+fn run_rounds<R: Abort + Threads + Wait + Sync>(
+    rt: &R,
+    alloc: Global,
+    asks_from: u32,
+) -> Pool<Logging> {
+    let Two { queues, one, two } = new_two(rt, alloc, asks_from);
+    let (pool, caller, workers) = new_pool_for(rt, alloc, queues, 1);
+    run_beside(rt, workers, Guest::new(&pool, caller), one, two);
+    pool
+}
+
+/// A run goes on where nothing is announced, after items and after barriers, and serves a queue again after each rest.
+#[test]
+fn served_again_after_each_rest(rt: HostRuntime) {
+    let pool = run_rounds(&rt, rt.alloc(), u32::MAX);
+    let finished = pool.finish(0).expect(&rt, "all finished");
+    expect_same(&rt, finished.len(), 2);
+}
+
+/// A queue that is never empty, since its work asks for its item again and again, gives way to the other queue.
+#[test]
+fn restless_queue_gives_way(rt: HostRuntime) {
+    let pool = run_rounds(&rt, rt.alloc(), 0);
+    let (_pool, queue, left) = finish_unfinished(&rt, pool, 0);
+    expect_same(&rt, (queue, left), (0, 1));
+}
