@@ -13,6 +13,7 @@ use Rattle.wq_pool.specs.Known.{PoolState}
 use Rattle.wq_pool_race.specs.declared.teams.Group.{Group}
 use Rattle.wq_pool_race.specs.declared.race.Callers.{Callers}
 use Rattle.wq_pool_race.specs.declared.race.QueuesGroup.{QueuesGroup}
+use Rattle.wq_pool_race.specs.declared.race.Raced.{Raced}
 
 -- one plan, whose one queue has one worker
 abbrev pub IsLone : Plan → Type 0
@@ -69,3 +70,8 @@ pub record AllSent (plan : Plan) (ids : List WorkerId) (by_queue : List Group) (
   pub programs_count : length programs ≡ length ids
   pub each : (q : ℕ) (i : WorkerId) (d : Group) (x : Known) → q < length ids
       → IsSent plan (slice_index_or ids q i) (slice_index_or by_queue q d).senders.items (slice_index_or programs q x)
+
+-- a pool of the plan's queues, and the senders of each after all threads have ended
+pub record HaveRun (plan : Plan) (raced : Raced) : Type 0 where
+  pub count : length raced.pool.workers ≡ plan.queues
+  pub sent : AllSent plan raced.pool.workers raced.by_queue.items raced.programs.items

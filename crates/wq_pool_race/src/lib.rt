@@ -7,4 +7,5 @@ mod race;
 mod sending;
 mod teams;
 
-pub use race::run_live;
+pub use race::{Raced, run_live, run_teams};
+pub use teams::Group;

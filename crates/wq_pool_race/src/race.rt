@@ -6,7 +6,7 @@ ghost use Rattle.wq_worker.specs.State.{WorkerState};
 ghost use Rattle.wq_race.specs.Plan.{IsLayoutOf};
 ghost use Rattle.wq_race.specs.Race.{AllQueued};
 ghost use Rattle.wq_race.specs.Outcome.{IsWhole, Tells};
-ghost use Rattle.wq_pool_race.specs.Race.{IsLone, AreCallersOf, IsGroupFor, MayRun, AreGroupThreads, AllGroupsQueued, AllStopped};
+ghost use Rattle.wq_pool_race.specs.Race.{IsLone, AreCallersOf, IsGroupFor, MayRun, AreGroupThreads, AllGroupsQueued, AllStopped, HaveRun};
 ghost use Rattle.wq_pool_race.specs.Outcome.{TellsPlan};
 
 use crate::outcome::{balance_all, finish};
@@ -43,6 +43,15 @@ struct Callers {
     workers: Vec<Caller>,
     senders: Vec<Caller>,
     program: Caller,
+}
+
+/// A pool of a plan's queues, of which all threads have ended, and the senders: the plan's by queue and number, and the program's
+/// by queue.
+#[derive(Drop)]
+pub struct Raced {
+    pub pool: Pool<Idle>,
+    pub by_queue: Vec<Group>,
+    pub programs: Vec<Sender>,
 }
 
 // A pool of these queues, and its callers.
@@ -225,13 +234,18 @@ fn run_scope<R: Threads + Wait + Sync>(
     )
 }
 
-// Runs a plan over a pool.
-fn run_pool<R: Threads + Wait + Sync>(
+/// Runs the threads of a plan over a pool. The senders of one number are a thread, which queues their own items on each queue in
+/// turn, in order, once each, and announces the queue where that wakes it. Meanwhile the pool's workers serve. When all senders
+/// have ended the stop item of each queue is queued, and the pool runs until each has run.
+///
+/// # Errors
+/// Want of memory, or of a thread: those that were made have then gone to their end.
+pub fn run_teams<R: Threads + Wait + Sync>(
     rt: &R,
     alloc: Global,
     plan: Plan,
-) -> Result<Outcome, RaceError>
-    ensures { IfOk result (TellsPlan plan) }
+) -> Result<Raced, RaceError>
+    ensures { IfOk result (HaveRun plan) }
 {
     let Teams {
         served,
@@ -240,8 +254,28 @@ fn run_pool<R: Threads + Wait + Sync>(
     } = Teams::new(alloc, plan)?;
     let (pool, callers) = make_pool(alloc, served, plan)?;
     let (groups, programs) = run_scope(rt, alloc, &pool, callers, groups, programs, plan.own)?;
-    let finished = finish(rt, pool)?;
     let by_queue = turned(alloc, groups, plan.queues)?;
+    Ok(Raced {
+        pool,
+        by_queue,
+        programs,
+    })
+}
+
+// Runs a plan over a pool.
+fn run_pool<R: Threads + Wait + Sync>(
+    rt: &R,
+    alloc: Global,
+    plan: Plan,
+) -> Result<Outcome, RaceError>
+    ensures { IfOk result (TellsPlan plan) }
+{
+    let Raced {
+        pool,
+        by_queue,
+        programs,
+    } = run_teams(rt, alloc, plan)?;
+    let finished = finish(rt, pool)?;
     Ok(balance_all(alloc, finished, by_queue, programs)?)
 }
 

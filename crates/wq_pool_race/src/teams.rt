@@ -11,8 +11,8 @@ use wq_race::{Idle, Plan, Team};
 
 /// The senders of one number, by queue, or those of one queue, by number.
 #[derive(Drop)]
-pub(crate) struct Group {
-    pub(crate) senders: Vec<Sender>,
+pub struct Group {
+    pub senders: Vec<Sender>,
 }
 
 /// The workers and the program's own senders, by queue, and the plan's senders, a group for each number.

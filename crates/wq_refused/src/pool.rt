@@ -5,6 +5,7 @@ use std::alloc::Global;
 use std::slice;
 use std::sync::Wait;
 use std::thread::Threads;
+use wq_live::{Answer, Sender};
 use wq_pool::{Gate, Pool, PoolError, PoolFault, Served};
 use wq_words::Layout;
 use wq_worker::{Book, Worker};
@@ -18,42 +19,57 @@ impl Gate for Open {
     fn after(&self, _queue: u32, _item: u32) {}
 }
 
-/// A queue on which an item and the stop item stand. None where memory was wanting.
-fn queue(alloc: Global, layout: Layout) -> Option<Served<Counter>> {
+/// A queue on which an item and the stop item stand, and its sender. None where memory was wanting.
+fn queue(alloc: Global, layout: Layout) -> Option<(Served<Counter>, Sender)> {
     let Ok((worker, mut senders)) = Worker::build(alloc, layout, Counter::new(), 1) else {
         return None;
     };
     let mut sender = senders.pop()?;
-    if sender.layout().items > 0 {
-        sender.queue_tries(0, 1);
-    }
+    queue_item(&mut sender);
     sender.request_stop(1);
-    Some(Served::new(worker))
+    Some((Served::new(worker), sender))
 }
 
-/// Two queues. None where memory was wanting.
-fn queues(alloc: Global) -> Option<Vec<Served<Counter>>> {
+/// Queues the item. Whether it was queued.
+fn queue_item(sender: &mut Sender) -> bool {
+    if sender.layout().items == 0 {
+        return false;
+    }
+    matches!(sender.queue_tries(0, 1), Answer::Queued { .. })
+}
+
+/// Two queues, and a sender of each.
+struct Two {
+    queues: Vec<Served<Counter>>,
+    one: Sender,
+    two: Sender,
+}
+
+/// None where memory was wanting.
+fn two_queues(alloc: Global) -> Option<Two> {
     let layout = Layout::new(1, 1, 2).ok()?;
     let mut queues = Vec::new(alloc);
-    for _ in 0..2 {
-        queues.push(queue(alloc, layout)?).ok()?;
-    }
-    Some(queues)
+    let (first, one) = queue(alloc, layout)?;
+    queues.push(first).ok()?;
+    let (second, two) = queue(alloc, layout)?;
+    queues.push(second).ok()?;
+    Some(Two { queues, one, two })
 }
 
-/// Whether there are two works, and each has run its item.
-fn have_run(finished: &[(Counter, Book)]) -> bool {
+/// Whether there are two works, and each has run its item so often.
+fn have_run(finished: &[(Counter, Book)], runs: u32) -> bool {
     let mut all = finished.len() == 2;
     for (work, _) in finished {
-        all = all && work.runs == 1;
+        all = all && work.runs == runs;
     }
     all
 }
 
-/// Takes the pool apart, for which memory was wanting before.
-fn finish_again(pool: Pool<Counter>) -> Said {
+/// Takes the pool apart, for which memory was wanting before. No queue was touched then: each takes its item once more.
+fn finish_again(pool: Pool<Counter>, one: &mut Sender, two: &mut Sender) -> Said {
+    let are_queued = queue_item(one) && queue_item(two);
     match pool.finish(9) {
-        Ok(finished) => if have_run(&finished) {
+        Ok(finished) => if are_queued && have_run(&finished, 2) {
             Said::Again
         } else {
             Said::Wrong
@@ -63,17 +79,24 @@ fn finish_again(pool: Pool<Counter>) -> Said {
 }
 
 /// Takes the pool apart, once more where memory was wanting.
-fn finish(pool: Pool<Counter>) -> Said {
+fn finish(pool: Pool<Counter>, one: &mut Sender, two: &mut Sender) -> Said {
     match pool.finish(9) {
-        Ok(finished) => right(have_run(&finished)),
-        Err(PoolFault::Memory { pool }) => finish_again(pool),
+        Ok(finished) => right(have_run(&finished, 1)),
+        Err(PoolFault::Memory { pool }) => finish_again(pool, one, two),
         Err(_fault) => Said::Wrong,
     }
 }
 
 /// Makes a pool of two queues, announces both, serves them in one thread until each has run its stop item, and takes the pool apart.
 pub fn serve_pool<T: Threads + Wait + Sync>(rt: &T, alloc: Global) -> Said {
-    let Some(queues) = queues(alloc) else {
+    let Some(
+        Two {
+            queues,
+            mut one,
+            mut two,
+        },
+    ) = two_queues(alloc)
+    else {
         return Said::Memory;
     };
     let (pool, mut callers) = match Pool::new(alloc, queues, 1) {
@@ -90,7 +113,7 @@ pub fn serve_pool<T: Threads + Wait + Sync>(rt: &T, alloc: Global) -> Said {
         return Said::Wrong;
     }
     match pool.run(rt, slice::from_mut(&mut caller), &Open) {
-        Ok(()) => finish(pool),
+        Ok(()) => finish(pool, &mut one, &mut two),
         Err(_) => Said::Wrong,
     }
 }

@@ -10,6 +10,7 @@ use std::test::Fail;
 use std::thread::{Scope, Threads, scope, scope_env, yield_now};
 use std::time::{Duration, Instant};
 use wq_live::Sender;
+use wq_pool_race::{Raced, run_teams};
 use wq_race::{Plan, Serving, Team, queue_all, queue_item, run_team, stop};
 
 /// How often it is looked whether the worker has begun an item.
@@ -40,6 +41,24 @@ fn worker_runs_all(rt: HostRuntime) {
             Ok(team) => expect_same(&rt, (turn, team.worker.counts().executed), (turn, 33)),
             Err(error) => panic!(rt; "{error}"),
         }
+    }
+}
+
+/// The workers of a pool themselves execute each sender's own items and the stop items: nothing is left for its end.
+#[test]
+fn pool_runs_all(rt: HostRuntime) {
+    let plan = Plan {
+        queues: 3,
+        workers: 2,
+        senders: 4,
+        own: 8,
+    };
+    match run_teams(&rt, rt.alloc(), plan) {
+        Ok(Raced { pool, .. }) => {
+            let finished = pool.finish(0).expect(&rt, "nothing is left");
+            expect_same(&rt, finished.len(), 3);
+        }
+        Err(error) => panic!(rt; "{error}"),
     }
 }
 
