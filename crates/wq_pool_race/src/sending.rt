@@ -6,36 +6,19 @@ ghost use Rattle.wq_pool_race.specs.Race.{IsGroupFor, AllStopped};
 
 use crate::teams::Group;
 use std::sync::Wait;
-use std::thread::yield_now;
 use wq_live::{Answer, Sender};
-use wq_pool::{AnnounceError, Caller, Pool};
+use wq_pool::{Caller, Pool};
 use wq_race::{Idle, queue_stop};
 
-// Announces a queue, as soon as there is room.
-fn announce<R: Wait>(rt: &R, pool: &Pool<Idle>, caller: &mut Caller, queue: u32)
+// Does what the answer of a queueing on this queue asks for.
+fn wake<R: Wait>(rt: &R, pool: &Pool<Idle>, caller: &mut Caller, queue: u32, answer: Answer)
     requires caller { IsCallerOf pool.now.ready caller.old }
     requires queue { queue < length pool.now.workers }
     ensures { IsCallerOf pool.now.ready caller.new }
 {
-    for _ in rt.forever() {
-        match pool.announce(rt, caller, queue) {
-            Ok(()) => return,
-            Err(AnnounceError::Full) => yield_now(),
-            Err(AnnounceError::NoQueue) => unreachable!(),
-        }
-    }
-    unreachable!()
-}
-
-// Announces the queue where the answer says so.
-fn tell<R: Wait>(rt: &R, pool: &Pool<Idle>, caller: &mut Caller, queue: u32, answer: Answer)
-    requires caller { IsCallerOf pool.now.ready caller.old }
-    requires queue { queue < length pool.now.workers }
-    ensures { IsCallerOf pool.now.ready caller.new }
-{
-    if let Answer::Queued { wakes: true, .. } = answer {
-        announce(rt, pool, caller, queue);
-    }
+    let Ok(()) = pool.wake(rt, caller, queue, answer) else {
+        unreachable!()
+    };
 }
 
 // Queues an item, and announces the queue where that wakes it.
@@ -54,7 +37,7 @@ fn queue_item<R: Wait>(
     ensures queued { HasQueued (item ∷ []) sender.old sender.new }
 {
     let answer = sender.queue(rt, item);
-    tell(rt, pool, caller, queue, answer);
+    wake(rt, pool, caller, queue, answer);
 }
 
 // Queues the sender's own items in order, once each.
@@ -113,7 +96,7 @@ pub(crate) fn stop_all<R: Wait>(
     let mut queue = 0u32;
     for program in programs.iter_mut() {
         let answer = queue_stop(rt, program);
-        tell(rt, pool, &mut caller, queue, answer);
+        wake(rt, pool, &mut caller, queue, answer);
         queue += 1;
     }
 }

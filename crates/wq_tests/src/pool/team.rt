@@ -233,11 +233,10 @@ impl<'a> Guest<'a> {
         self.pool.announce(rt, &mut self.caller, queue).is_ok()
     }
 
-    /// Announces a queue where the answer of a queueing says that it wakes it.
+    /// Does what the answer of a queueing on this queue asks for.
     pub(crate) fn wake<R: Abort + Wait>(&mut self, rt: &R, queue: u32, answer: Answer) {
-        if let Answer::Queued { wakes: true, .. } = answer {
-            assert!(rt; self.announce(rt, queue));
-        }
+        let woken = self.pool.wake(rt, &mut self.caller, queue, answer);
+        assert!(rt; woken.is_ok());
     }
 }
 
