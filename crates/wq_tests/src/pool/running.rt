@@ -26,9 +26,9 @@ fn run_alone<R: Abort + Threads + Wait + Sync>(rt: &R, mut guest: Guest<'_>, que
         .expect(rt, "a thread");
 }
 
-/// All that was queued of so many queues was executed.
-fn are_finished<R: Abort>(rt: &R, pool: Pool<Logging>, queues: usize) {
-    let finished = pool.finish(0).expect(rt, "all finished");
+/// The pool of so many queues ends with so many executions of each.
+fn are_finished<R: Abort>(rt: &R, pool: Pool<Logging>, queues: usize, limit: u32) {
+    let finished = pool.finish(limit).expect(rt, "all finished");
     expect_same(rt, finished.len(), queues);
 }
 
@@ -55,10 +55,10 @@ fn stop_item_counts_once(rt: HostRuntime) {
         stop_first(&rt, &mut guest, &mut sender);
     }
     run_alone(&rt, guest, 2);
-    are_finished(&rt, pool, 2);
+    are_finished(&rt, pool, 2, 0);
 }
 
-/// A stop item that ran while the pool was to be taken apart counts: a run ends after the item behind it.
+/// A stop item that ran while the pool was to be taken apart counts: a run ends, whatever is left.
 #[test]
 fn stop_item_counts_where_the_end_ran_it(rt: HostRuntime) {
     let (served, mut sender) = filled(&rt, rt.alloc(), 0);
@@ -70,7 +70,7 @@ fn stop_item_counts_where_the_end_ran_it(rt: HostRuntime) {
     let (pool, queue, left) = finish_unfinished(&rt, pool, 1);
     expect_same(&rt, (queue, left), (0, 1));
     run_alone(&rt, Guest::new(&pool, caller), 1);
-    are_finished(&rt, pool, 1);
+    are_finished(&rt, pool, 1, 1);
 }
 
 /// A run goes on at a turn that was given back, until nothing is left of it.
@@ -79,7 +79,7 @@ fn long_turns_are_run(rt: HostRuntime) {
     let queues = to_stop(&rt, rt.alloc(), 2, 3000);
     let (pool, caller) = new_pool(&rt, rt.alloc(), queues);
     run_alone(&rt, Guest::new(&pool, caller), 2);
-    are_finished(&rt, pool, 2);
+    are_finished(&rt, pool, 2, 0);
 }
 
 /// A queue whose work asks for its item again and again, with the item and the stop item queued, and so many others.
