@@ -6,6 +6,7 @@ use crate::expect::expect_same;
 use crate::pool::team::{
     Logging, Open, filled, finish_out, finish_unfinished, new_pool, two_filled, work,
 };
+use crate::seats::WAKES;
 use std::alloc::Global;
 use std::process::Abort;
 use std::test::Fail;
@@ -26,6 +27,11 @@ fn announced_until_full(rt: HostRuntime) -> Result<(), Fail> {
     expect_same(
         &rt,
         pool.announce(&rt, &mut caller, 2),
+        Err(AnnounceError::NoQueue),
+    );
+    expect_same(
+        &rt,
+        pool.wake(&rt, &mut caller, 2, WAKES),
         Err(AnnounceError::NoQueue),
     );
     Ok(())
