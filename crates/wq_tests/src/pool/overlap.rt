@@ -1,6 +1,6 @@
 //! As many workers of a pool as are wanted run at the same time.
 use crate::expect::expect_same;
-use crate::pool::team::{new_pool_for, to_stop};
+use crate::pool::team::{Guest, new_pool_for, to_stop};
 use std::alloc::Global;
 use std::process::Abort;
 use std::sync::Wait;
@@ -59,9 +59,10 @@ impl Gate for Meeting {
 /// To how many of three queues the others came, with so many workers.
 fn meet<R: Abort + Threads + Wait + Sync>(rt: &R, alloc: Global, workers: u32) -> u64 {
     let queues = to_stop(rt, alloc, 3, 1);
-    let (pool, mut announcer, mut callers) = new_pool_for(rt, alloc, queues, workers);
+    let (pool, announcer, mut callers) = new_pool_for(rt, alloc, queues, workers);
+    let mut guest = Guest::new(&pool, announcer);
     for queue in 0..3u32 {
-        assert!(rt; pool.announce(rt, &mut announcer, queue).is_ok());
+        assert!(rt; guest.announce(rt, queue));
     }
     let gate = Meeting::new();
     pool.run(rt, callers.as_mut_slice(), &gate)

@@ -76,14 +76,16 @@ fn queue_rounds<R: Abort + Wait>(
 /// One worker runs the pool meanwhile.
 fn run_beside<R: Abort + Threads + Wait + Sync>(
     rt: &R,
+    pool: &Pool<Logging>,
     mut workers: Vec<Caller>,
-    mut guest: Guest<'_>,
+    caller: Caller,
     mut one: Sender,
     mut two: Sender,
 )
-    requires { All (IsCallerOf guest.pool.now.ready) workers.items }
+    requires workers { All (IsCallerOf pool.now.ready) workers.items }
+    requires caller { IsCallerOf pool.now.ready caller }
 {
-    let pool = guest.pool;
+    let mut guest = Guest::new(pool, caller);
     let (ran, ()) = join(
         rt,
         move ||
@@ -102,7 +104,7 @@ fn run_rounds<R: Abort + Threads + Wait + Sync>(
 ) -> Pool<Logging> {
     let Two { queues, one, two } = new_two(rt, alloc, asks_from);
     let (pool, caller, workers) = new_pool_for(rt, alloc, queues, 1);
-    run_beside(rt, workers, Guest::new(&pool, caller), one, two);
+    run_beside(rt, &pool, workers, caller, one, two);
     pool
 }
 
