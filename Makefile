@@ -1,20 +1,25 @@
-# `make run` proves, builds and runs the tool on an example; `make test` is the gate.
+# `make run` proves, builds and runs the tool on an example; `make try` runs that example unproved; `make test` is the gate.
 SHELL := /bin/bash
 PREFIX ?= /usr/local
 PROGRAM := crates/wqrun/out/wqrun
 EXAMPLES := examples
 
-.PHONY: run test build install bench examples rows definitions memory wrong-bodies
+.PHONY: run try test build install bench examples rows definitions memory wrong-bodies
 
 run: build
 	$(PROGRAM) script $(EXAMPLES)/first.wq
 
+# The example at once, with checks as it runs; one to two minutes.
+try:
+	cd crates/wqrun && rt try --data first.wq=../../$(EXAMPLES)/first.wq -- script first.wq
+	@echo "This run proved nothing: \`make run\` proves the program before it runs it."
+
 test:
 	.ci/run
 
-# Says what it does and how long that takes, and shows a line for each crate.
+# What the program stands on, and nothing else: says how long that takes, and how many of the crates are done.
 build:
-	@checks/build.sh
+	@checks/build.py
 
 install: build
 	install -D -m 755 $(PROGRAM) $(DESTDIR)$(PREFIX)/bin/wqrun
