@@ -1,5 +1,6 @@
 #!/usr/bin/env python3
-"""Times items that sender threads queue and another thread executes, by the program given and in C, with patience and without.
+"""Times items that sender threads queue and another thread executes, by the program given and in C, with patience and without,
+and by queues of Rust that a user might take instead.
 
 usage: threads.py PROGRAM ROUNDS [ITEMS [WORD..]]
 
@@ -9,8 +10,10 @@ nanoseconds an item with its quartiles, and below how many items a take found; t
 was queued so many microseconds after the last one.
 """
 import contextlib
+import glob
 import os
 import resource
+import shutil
 import subprocess
 import sys
 import tempfile
@@ -66,7 +69,41 @@ def compiled(folder, name, *flags, libraries=()):
     return program
 
 
-def rows(program, scheme, kernel):
+# Debian's packages librust-crossbeam-queue-dev and librust-crossbeam-channel-dev lay their sources there.
+REGISTRY = '/usr/share/cargo/registry'
+MANIFEST = """[package]
+name = "peers"
+version = "1.0.0"
+edition = "2021"
+[dependencies]
+crossbeam-queue = "*"
+crossbeam-channel = "*"
+crossbeam-utils = "*"
+[[bin]]
+name = "peers"
+path = "peers.rs"
+[profile.release]
+opt-level = 3
+"""
+
+
+def peers_of_rust(folder):
+    """The program of peers.rs, or None where its crates or cargo are not there, with a line that says so."""
+    if not glob.glob(f'{REGISTRY}/crossbeam-queue-*') or not glob.glob(f'{REGISTRY}/crossbeam-channel-*') or not shutil.which('cargo'):
+        print(f'no queues of Rust: cargo or the crates of crossbeam in {REGISTRY} are not there', file=sys.stderr)
+        return None
+    room = os.path.join(folder, 'peers')
+    os.makedirs(os.path.join(room, '.cargo'))
+    shutil.copy(os.path.join(HERE, 'peers.rs'), room)
+    with open(os.path.join(room, 'Cargo.toml'), 'w') as file:
+        file.write(MANIFEST)
+    with open(os.path.join(room, '.cargo', 'config.toml'), 'w') as file:
+        file.write(f'[source.crates-io]\nreplace-with = "debian"\n[source.debian]\ndirectory = "{REGISTRY}"\n')
+    subprocess.run(['cargo', 'build', '--release', '--offline', '--quiet'], cwd=room, check=True)
+    return os.path.join(room, 'target', 'release', 'peers')
+
+
+def rows(program, scheme, kernel, rust):
     """The rows of the first table: a name, and the command without its numbers."""
     yield 'this queue, with patience', [program]
     yield 'this queue, without', [program, 'eager']
@@ -76,6 +113,11 @@ def rows(program, scheme, kernel):
     yield '`Worker::serve`', [program, 'serve']
     yield 'a worker without patience', [program, 'eager', 'serve']
     yield 'a worker that rests, woken on `wakes`', [program, 'resting', 'serve']
+    if rust:
+        yield "crossbeam's ArrayQueue", [rust, 'array']
+        yield "crossbeam's channel", [rust, 'channel']
+        yield "std's mpsc", [rust, 'mpsc']
+        yield 'a mutex and a deque', [rust, 'mutex']
 
 
 def lone_rows(program, futex):
@@ -133,7 +175,7 @@ def main():
     count = int(sys.argv[3]) if len(sys.argv) > 3 else 500000
     before = sys.argv[4:]
     with folder_and_load() as folder:
-        peers = compiled(folder, 'scheme'), compiled(folder, 'scheme', '-DKERNEL=1')
+        peers = compiled(folder, 'scheme'), compiled(folder, 'scheme', '-DKERNEL=1'), peers_of_rust(folder)
         table = [(name, before + words) for name, words in rows(program, *peers)]
         lone_table = [(name, before + words) for name, words in lone_rows(program, compiled(folder, 'lone'))]
         show_items(table, measured(rounds, table, CELLS, lambda cell: (*cell, count), items))
