@@ -36,9 +36,9 @@ def below(crate, libraries):
     return found
 
 
-def prove(crate, log):
-    """Proves a crate and builds it. Its status."""
-    words = ["rt", "run", "--", "--version"] if crate == PROGRAM else ["rt", "lib"]
+def prove(crate, jobs, log):
+    """Proves a crate with so many jobs and builds it. Its status."""
+    words = ["rt", "run" if crate == PROGRAM else "lib", "--jobs", str(jobs), *(["--", "--version"] if crate == PROGRAM else [])]
     with log.open("a") as out:
         return subprocess.run(words, cwd=TOP / "crates" / crate, stdout=out, stderr=out, stdin=subprocess.DEVNULL).returncode
 
@@ -54,9 +54,12 @@ def main():
     done, running = set(), {}
     with ThreadPoolExecutor(lanes) as pool:
         while left or running:
-            for crate in [it for it in left if done.issuperset(libraries[it])]:
+            ready = [it for it in left if done.issuperset(libraries[it])]
+            # a crate that others wait for, and that stands alone, gets the processors that no other crate can use
+            jobs = max(1, lanes // max(1, len(ready) + len(running)))
+            for crate in ready:
                 left.remove(crate)
-                running[pool.submit(prove, crate, log)] = crate
+                running[pool.submit(prove, crate, jobs, log)] = crate
             for ended in wait(running, return_when=FIRST_COMPLETED).done:
                 crate = running.pop(ended)
                 if ended.result() != 0:
