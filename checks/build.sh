@@ -15,9 +15,10 @@ count=$(awk -F ': *' '
     }
     END { visit("wqrun"); print total }' crates.txt)
 cat <<TEXT
-Proves wqrun and what it stands on, $count crates, up to $jobs side by side, and builds it. From nothing that took about half an
-hour on four processors where it was measured; where nothing has changed it takes some seconds. First all sources are looked
-through for what needs no proof, for a minute or more. All that is said goes into $log.
+Proves wqrun and what it stands on, $count crates, up to $jobs side by side, and builds it. From nothing that took 24 minutes
+by the clock on four processors, 39 minutes of them, where it was measured; a busy or slow machine takes up to three times as
+long, and where nothing has changed it takes some seconds. First all sources are looked through for what needs no proof, for a
+minute or more. All that is said goes into $log.
 TEXT
 
 fail() {
