@@ -9,7 +9,7 @@ use Rattle.std.proofs.lemmas.Option.{slice_get_within}
 use mathlib.Core.List.{IsPrefix}
 use Rattle.wq_words.specs.declared.layout.Layout.{Layout}
 use Rattle.wq_words.specs.declared.event.Event.{Event}
-use Rattle.wq_words.specs.declared.event.Event.TheVariants.{Hold, Busy, Push, Back, Take, Close, Begin, End, Chain, ChainBusy, Rest}
+use Rattle.wq_words.specs.declared.event.Event.TheVariants.{Hold, Push, Close, Begin, End}
 use Rattle.wq_words.specs.History.{accepted_by, begun_by, ended_by, accepted, begun, ended, starts_hold, stops_hold, is_close, IsPending, Holds}
 use Rattle.wq_words.specs.Legal.{IsAllowed, IsLegal, IsComplete}
 use Rattle.wq_words.specs.Keeper.{Keeper, Home, Sender, Listed, Owner, keeper}
@@ -42,42 +42,15 @@ complete_in_order h o done =
 -- only a Begin begins, and only an End ends
 begin_from_begun_by : (e : Event) (k : ℕ) → begun_by e ≡ Some k → e ≡ Begin k
 begin_from_begun_by (Begin j) k is = cc
-begin_from_begun_by (Hold s j) k is = absurd cc
-begin_from_begun_by (Busy s j) k is = absurd cc
-begin_from_begun_by (Push s j) k is = absurd cc
-begin_from_begun_by (Back s j why) k is = absurd cc
-begin_from_begun_by Take k is = absurd cc
-begin_from_begun_by Close k is = absurd cc
-begin_from_begun_by (End j) k is = absurd cc
-begin_from_begun_by (Chain j) k is = absurd cc
-begin_from_begun_by (ChainBusy j) k is = absurd cc
-begin_from_begun_by Rest k is = absurd cc
+begin_from_begun_by _ k is = absurd cc
 
 end_from_ended_by : (e : Event) (k : ℕ) → ended_by e ≡ Some k → e ≡ End k
 end_from_ended_by (End j) k is = cc
-end_from_ended_by (Hold s j) k is = absurd cc
-end_from_ended_by (Busy s j) k is = absurd cc
-end_from_ended_by (Push s j) k is = absurd cc
-end_from_ended_by (Back s j why) k is = absurd cc
-end_from_ended_by Take k is = absurd cc
-end_from_ended_by Close k is = absurd cc
-end_from_ended_by (Begin j) k is = absurd cc
-end_from_ended_by (Chain j) k is = absurd cc
-end_from_ended_by (ChainBusy j) k is = absurd cc
-end_from_ended_by Rest k is = absurd cc
+end_from_ended_by _ k is = absurd cc
 
 hold_from_starts_hold : (s k : ℕ) (e : Event) → starts_hold s k e ≡ true → e ≡ Hold s k
 hold_from_starts_hold s k (Hold t j) is = let same = and_parts (j == k) (t == s) is in cc (eqb-true j k same.0, eqb-true t s same.1)
-hold_from_starts_hold s k (Busy t j) is = absurd cc
-hold_from_starts_hold s k (Push t j) is = absurd cc
-hold_from_starts_hold s k (Back t j why) is = absurd cc
-hold_from_starts_hold s k Take is = absurd cc
-hold_from_starts_hold s k Close is = absurd cc
-hold_from_starts_hold s k (Begin j) is = absurd cc
-hold_from_starts_hold s k (End j) is = absurd cc
-hold_from_starts_hold s k (Chain j) is = absurd cc
-hold_from_starts_hold s k (ChainBusy j) is = absurd cc
-hold_from_starts_hold s k Rest is = absurd cc
+hold_from_starts_hold s k _ is = absurd cc
 
 -- who holds a number at the end of a history has held it since a Hold of its own
 abbrev HasHold : ℕ → ℕ → List Event → Type 0

@@ -5,7 +5,7 @@ use Rattle.std.proofs.lemmas.List.{append-nil, append_assoc, reverse-append, len
 use Rattle.std.proofs.lemmas.List.Sums.{suffix_len-le-length, fold_push}
 use Rattle.wq_words.specs.declared.layout.Layout.{Layout}
 use Rattle.wq_words.specs.declared.event.Event.{Event}
-use Rattle.wq_words.specs.declared.event.Event.TheVariants.{Hold, Busy, Push, Back, Take, Close, Begin, End, Chain, ChainBusy, Rest}
+use Rattle.wq_words.specs.declared.event.Event.TheVariants.{Push, Take, Close, Chain}
 use Rattle.wq_words.specs.History.{accepted_by, accepted, is_close, is_push, is_take, IsClosed, closed, fresh, taken}
 use Rattle.wq_words.specs.Listed.{listed_after, listed}
 use Rattle.wq_words.specs.Legal.{MayFollow, IsLegal}
@@ -177,13 +177,7 @@ listed_after_event h (Push s k) may l = listed_push h s k may.1 l
 listed_after_event h Take may l = listed_take h may l
 listed_after_event h Close may l = listed_close h l
 listed_after_event h (Chain k) may l = listed_chain h k may.0 l
-listed_after_event h (Hold s k) may l = listed_quiet h (Hold s k) refl refl refl refl refl l
-listed_after_event h (Busy s k) may l = listed_quiet h (Busy s k) refl refl refl refl refl l
-listed_after_event h (Back s k why) may l = listed_quiet h (Back s k why) refl refl refl refl refl l
-listed_after_event h (Begin k) may l = listed_quiet h (Begin k) refl refl refl refl refl l
-listed_after_event h (End k) may l = listed_quiet h (End k) refl refl refl refl refl l
-listed_after_event h (ChainBusy k) may l = listed_quiet h (ChainBusy k) refl refl refl refl refl l
-listed_after_event h Rest may l = listed_quiet h Rest refl refl refl refl refl l
+listed_after_event h _ may l = listed_quiet h _ refl refl refl refl refl l
 
 pub is_listed : (layout : Layout) (h : List Event) → IsLegal layout h → IsListed h
 is_listed layout = legal_induction layout IsListed listed_nil (λ h e _ allowed l. listed_after_event h e allowed.2 l)

@@ -3,7 +3,7 @@ use Rattle.std.proofs.Common.{◌≡◌, ℕ, ◌==◌, Bool, true, false, cond,
 use Rattle.std.proofs.lemmas.List.{append-nil}
 use Rattle.wq_words.specs.declared.layout.Layout.{Layout}
 use Rattle.wq_words.specs.declared.event.Event.{Event}
-use Rattle.wq_words.specs.declared.event.Event.TheVariants.{Hold, Busy, Push, Back, Take, Close, Begin, End, Chain, ChainBusy, Rest}
+use Rattle.wq_words.specs.declared.event.Event.TheVariants.{Hold, Busy, Push, Back}
 use Rattle.wq_words.specs.declared.event.Why.{Why}
 use Rattle.wq_words.specs.History.{accepted_by, accepted, IsClosed, taken}
 use Rattle.wq_words.specs.Legal.{IsLegal}
@@ -38,13 +38,7 @@ module _ (layout : Layout) (P : List Event → Type 0) (keep : OthersKeep layout
       subst P (append_assoc v (Back s k why ∷ []) new)
       (others_keep (v ++ Back s k why ∷ []) new (legal_rest layout v (Back s k why) new legal) (own_rest owner_seat (Back s k why) new none)
       (keep.back v s k why p))
-  others_keep v (Take ∷ new) legal none p = absurd (cc)
-  others_keep v (Close ∷ new) legal none p = absurd (cc)
-  others_keep v (Begin k ∷ new) legal none p = absurd (cc)
-  others_keep v (End k ∷ new) legal none p = absurd (cc)
-  others_keep v (Chain k ∷ new) legal none p = absurd (cc)
-  others_keep v (ChainBusy k ∷ new) legal none p = absurd (cc)
-  others_keep v (Rest ∷ new) legal none p = absurd (cc)
+  others_keep v (_ ∷ new) legal none p = absurd (cc)
 
 -- no other seat takes
 pub taken_still : (layout : Layout) (v new : List Event) → IsLegal layout (v ++ new) → own owner_seat new ≡ [] → taken (v ++ new) ≡ taken v

@@ -4,7 +4,7 @@ use Rattle.std.specs.List.{count_by, after_last}
 use Rattle.std.proofs.lemmas.Bool.Decides.{nat_tests}
 use Rattle.std.proofs.lemmas.Option.{slice_get_within, slice_get-get_or}
 use Rattle.wq_words.specs.declared.event.Event.{Event}
-use Rattle.wq_words.specs.declared.event.Event.TheVariants.{Hold, Busy, Push, Back, Take, Close, Begin, End, Chain, ChainBusy, Rest}
+use Rattle.wq_words.specs.declared.event.Event.TheVariants.{Push, Take, Rest}
 use Rattle.wq_words.specs.Rest.{is_rest, is_push_or_take, wakes, WakesAt, BeginsStretch, WakesOnce, WakesBeforeTake, NoneWakesAfterTake, WakesOnceARest}
 use Rattle.wq_words.proofs.Growing.{count_by_push, take_more_some}
 use Rattle.wq_words.proofs.Listed.{after_last_push_yes, after_last_push_no}
@@ -47,15 +47,7 @@ worked true (Push s k) is = refl
 worked false (Push s k) is = refl
 worked true Take is = refl
 worked false Take is = refl
-worked q (Hold s k) is = absurd cc
-worked q (Busy s k) is = absurd cc
-worked q (Back s k why) is = absurd cc
-worked q Close is = absurd cc
-worked q (Begin k) is = absurd cc
-worked q (End k) is = absurd cc
-worked q (Chain k) is = absurd cc
-worked q (ChainBusy k) is = absurd cc
-worked q Rest is = absurd cc
+worked q _ is = absurd cc
 
 pub wakes_push_work : (h : List Event) (e : Event) → is_push_or_take e ≡ true → wakes (h ++ e ∷ []) ≡ false
 wakes_push_work h e is = wakes_push h e ∙ worked (wakes h) e is
@@ -66,30 +58,13 @@ wakes_push_rest h = wakes_push h Rest
 -- a queue at work stays at work, but for a Rest
 at_work : (e : Event) → (wakes_after false e ≡ false) ⊎ (e ≡ Rest)
 at_work Rest = inr refl
-at_work (Hold s k) = inl refl
-at_work (Busy s k) = inl refl
-at_work (Push s k) = inl refl
-at_work (Back s k why) = inl refl
-at_work Take = inl refl
-at_work Close = inl refl
-at_work (Begin k) = inl refl
-at_work (End k) = inl refl
-at_work (Chain k) = inl refl
-at_work (ChainBusy k) = inl refl
+at_work _ = inl refl
 
 -- a queue that rests goes on resting, but for a Push or a Take
 at_rest : (e : Event) → (wakes_after true e ≡ true) ⊎ (((s : ℕ) × (k : ℕ) × (e ≡ Push s k)) ⊎ (e ≡ Take))
 at_rest (Push s k) = inr (inl (s, k, refl))
 at_rest Take = inr (inr refl)
-at_rest (Hold s k) = inl refl
-at_rest (Busy s k) = inl refl
-at_rest (Back s k why) = inl refl
-at_rest Close = inl refl
-at_rest (Begin k) = inl refl
-at_rest (End k) = inl refl
-at_rest (Chain k) = inl refl
-at_rest (ChainBusy k) = inl refl
-at_rest Rest = inl refl
+at_rest _ = inl refl
 
 module _ (h : List Event) where
   at_next : (place : ℕ) (e : Event) → slice_get h place ≡ Some e → wakes (take (place + 1) h) ≡ wakes_after (wakes (take place h)) e

@@ -97,31 +97,19 @@ pub(crate) fn ended_count(history: &[Event]) -> usize
 fn accepted_at(history: &[Event], place: usize) -> Option<u32>
     ensures { result ≡ slice_get (accepted history.now) place }
 {
-    let mut left = place;
-    for event in history {
-        if let Some(number) = event.accepted_number() {
-            if left == 0 {
-                return Some(number);
-            }
-            left -= 1;
-        }
-    }
-    None
+    history
+        .iter()
+        .filter_map(|event| event.accepted_number())
+        .nth(place)
 }
 
 fn begun_at(history: &[Event], place: usize) -> Option<u32>
     ensures { result ≡ slice_get (begun history.now) place }
 {
-    let mut left = place;
-    for event in history {
-        if let Some(number) = event.begun_number() {
-            if left == 0 {
-                return Some(number);
-            }
-            left -= 1;
-        }
-    }
-    None
+    history
+        .iter()
+        .filter_map(|event| event.begun_number())
+        .nth(place)
 }
 
 // Whether more have begun than ended, so that a number runs.

@@ -125,10 +125,7 @@ impl Event {
     pub(crate) fn is_close(self) -> bool
         ensures { result ≡ is_close self }
     {
-        match self {
-            Event::Close => true,
-            _ => false,
-        }
+        matches!(self, Event::Close)
     }
 
     // Whether its sender, if it has one, is one of the queue's.

@@ -35,15 +35,10 @@ impl Head {
         ensures coded { IfSome result (λ head. IsCodable head × IsWordOf head word) }
         ensures given_back { (head : Head) → IsCodable head → IsWordOf head word → result ≡ Some head }
     {
-        if word == 0 || word == BUSY {
-            return Some(Head::Empty);
-        }
-        if word == u64::MAX {
-            return Some(Head::Closed);
-        }
-        match u32::try_from(word - 1) {
-            Ok(number) => Some(Head::Item(number)),
-            Err(_) => None,
+        match word {
+            0 | BUSY => Some(Head::Empty),
+            u64::MAX => Some(Head::Closed),
+            _ => u32::try_from(word - 1).ok().map(Head::Item),
         }
     }
 }
