@@ -3,13 +3,15 @@ use Rattle.std.proofs.Common.{◌≡◌, ◌≢◌, ℕ, ◌+◌, ◌%◌, ◌^�
 use Rattle.std.proofs.lemmas.List.{get_or-set_same, length_push, append-nil}
 use Rattle.std.proofs.lemmas.List.Sums.{fold_push}
 use Rattle.std.proofs.Math.Nat.{add-mod-mod}
+use Rattle.wq_words.specs.declared.event.Event.{Event}
+use Rattle.wq_words.specs.Legal.{IsAllowed}
 use Rattle.wq_words.specs.declared.event.Event.TheVariants.{Take, Close, Begin, End, Chain, ChainBusy, Rest}
 use Rattle.wq_words.specs.Numbers.{number_count}
 use Rattle.wq_words.specs.Head.{busy_word}
 use Rattle.wq_words.specs.Rest.{wakes}
-use Rattle.wq_words.specs.History.{accepted, begun, ended, ended_by, closed, is_close, IsClosed, IsRunning, running}
+use Rattle.wq_words.specs.History.{accepted, accepted_by, begun, begun_by, ended, ended_by, closed, is_close, IsClosed, IsRunning, running}
 use Rattle.wq_words.specs.Listed.{listed_after, listed}
-use Rattle.wq_words.specs.Keeper.{Keeper, Home, Sender, Listed, Owner, taken_over, keeper}
+use Rattle.wq_words.specs.Keeper.{Keeper, Home, Sender, Listed, Owner, taken_over, keeper_after, keeper}
 use Rattle.wq_words.proofs.Growing.{growing, count_by_push, filter_map_push_some, slice_get_append}
 use Rattle.wq_words.proofs.Order.{in_order}
 use Rattle.wq_words.proofs.Legal.{legal_push}
@@ -35,54 +37,44 @@ module _ (m : Machine) (o : IsSound m) where
   taken_bit Listed = refl
   taken_bit Owner = refl
 
-  pub sound_take : ¬ IsClosed m.history → m.cursor ≡ None → m.batch ≡ []
-      → IsSound (happened (record (with_head m busy_word) { cursor = number_at (link_word (head m)) }) Take)
-  sound_take unclosed still empty =
+  -- the owner takes what stands on the list and leaves this word
+  sound_cut : (word : ℕ) (e : Event) → IsAllowed m.layout m.history e → ¬ IsClosed m.history → m.cursor ≡ None
+      → head_word_of (m.history ++ e ∷ []) ≡ word → listed (m.history ++ e ∷ []) ≡ [] → ((j : ℕ) (x : Keeper) → keeper_after j x e ≡ taken_over x)
+      → accepted_by e ≡ None → begun_by e ≡ None → ended_by e ≡ None
+      → IsSound (happened (record (with_head m word) { cursor = number_at (link_word (head m)) }) e)
+  sound_cut word e allowed unclosed still now list takes no_accept no_begin no_end =
       let b = by_keepers m o in
       let n : ℕ = number_count m.layout in
       let a = rw still at o.chains in
       let walked : m.walked ≡ [] = a.rested refl in
       let c = chained_take n m.words m.walked m.batch _ _ _ (link_word (head m)) (head_open m o unclosed) a in
+      from_keepers (happened (record (with_head m word) { cursor = number_at (link_word (head m)) }) e) (record {
+        has_words = length-set m.words head_place word ∙ o.has_words;
+        has_seats = o.has_seats;
+        legal = legal_push m.layout m.history e o.legal allowed;
+        head_is = get_or-set_same m.words head_place word 0 (omega (arith, o.has_words)) ∙ sym now;
+        rests = λ on. list;
+        items_are = follow_quiet pending_bit 0 (item_place n) n _ m.history e (λ j x. ap pending_bit (takes j x) ∙ taken_bit x) (items_of-head n m.words word m.history b.items_are);
+        done_is = done_of-head n m.words word ∙ o.done_is ∙ ap (λ z. z % 2 ^ 64) (sym (ended_quiet m.history e no_end));
+        chains = rw list (simp (growing, no_accept, no_begin) (rw walked (chains_of-head n m.words word _ _ _ _ _ _ c)));
+        linked = linked_quiet n _ m.seats m.history e (λ j s. takes j (Sender s)) (linked_of-head n m.words word m.seats m.history b.linked);
+        seen = seen_after m.seats m.history e o.seen;
+      })
+
+  pub sound_take : ¬ IsClosed m.history → m.cursor ≡ None → m.batch ≡ []
+      → IsSound (happened (record (with_head m busy_word) { cursor = number_at (link_word (head m)) }) Take)
+  sound_take unclosed still empty =
       let list : listed (m.history ++ Take ∷ []) ≡ [] = fold_push listed_after [] m.history Take in
       let opened : closed (m.history ++ Take ∷ []) ≡ false = closed_push_no m.history Take refl ∙ closed_from_open m.history unclosed in
       let works : wakes (m.history ++ Take ∷ []) ≡ false = wakes_push_work m.history Take refl in
-      let now : head_word_of (m.history ++ Take ∷ []) ≡ busy_word = rw (opened, list, works) refl in
-      from_keepers (happened (record (with_head m busy_word) { cursor = number_at (link_word (head m)) }) Take) (record {
-        has_words = length-set m.words head_place busy_word ∙ o.has_words;
-        has_seats = o.has_seats;
-        legal = legal_push m.layout m.history Take o.legal (tt, tt, unclosed);
-        head_is = get_or-set_same m.words head_place busy_word 0 (omega (arith, o.has_words)) ∙ sym now;
-        rests = λ on. list;
-        items_are = follow_quiet pending_bit 0 (item_place n) n _ m.history Take (λ j x. taken_bit x) (items_of-head n m.words busy_word m.history b.items_are);
-        done_is = done_of-head n m.words busy_word ∙ o.done_is ∙ ap (λ z. z % 2 ^ 64) (sym (ended_quiet m.history Take refl));
-        chains = simp growing (rw walked (chains_of-head n m.words busy_word _ _ _ _ _ _ c));
-        linked = linked_quiet n _ m.seats m.history Take (λ j s. refl) (linked_of-head n m.words busy_word m.seats m.history b.linked);
-        seen = seen_after m.seats m.history Take o.seen;
-      })
+      sound_cut busy_word Take (tt, tt, unclosed) unclosed still (rw (opened, list, works) refl) list (λ j x. refl) refl refl refl
 
   pub sound_close : ¬ IsClosed m.history → m.cursor ≡ None
       → IsSound (happened (record (with_head m closed_word) { cursor = number_at (link_word (head m)) }) Close)
   sound_close unclosed still =
-      let b = by_keepers m o in
-      let n : ℕ = number_count m.layout in
-      let a = rw still at o.chains in
-      let walked : m.walked ≡ [] = a.rested refl in
-      let c = chained_take n m.words m.walked m.batch _ _ _ (link_word (head m)) (head_open m o unclosed) a in
       let is : IsClosed (m.history ++ Close ∷ []) = omega (arith, count_by_push is_close m.history Close) in
-      let list : listed (m.history ++ Close ∷ []) ≡ [] = fold_push listed_after [] m.history Close in
-      from_keepers (happened (record (with_head m closed_word) { cursor = number_at (link_word (head m)) }) Close) (record {
-        has_words = length-set m.words head_place closed_word ∙ o.has_words;
-        has_seats = o.has_seats;
-        legal = legal_push m.layout m.history Close o.legal (tt, tt, unclosed);
-        head_is = get_or-set_same m.words head_place closed_word 0 (omega (arith, o.has_words)) ∙ sym (head_of_closed (m.history ++ Close ∷ []) is);
-        rests = λ on. list;
-        items_are =
-            follow_quiet pending_bit 0 (item_place n) n _ m.history Close (λ j x. taken_bit x) (items_of-head n m.words closed_word m.history b.items_are);
-        done_is = done_of-head n m.words closed_word ∙ o.done_is ∙ ap (λ z. z % 2 ^ 64) (sym (ended_quiet m.history Close refl));
-        chains = simp growing (rw walked (chains_of-head n m.words closed_word _ _ _ _ _ _ c));
-        linked = linked_quiet n _ m.seats m.history Close (λ j s. refl) (linked_of-head n m.words closed_word m.seats m.history b.linked);
-        seen = seen_after m.seats m.history Close o.seen;
-      })
+      sound_cut closed_word Close (tt, tt, unclosed) unclosed still (head_of_closed (m.history ++ Close ∷ []) is)
+      (fold_push listed_after [] m.history Close) (λ j x. refl) refl refl refl
 
   -- the owner's own lists change, and nothing happens
   pub sound_owner : (cursor : Option ℕ) (walked batch : List ℕ)

@@ -129,10 +129,7 @@ impl Core {
         if !self.is_enabled(seat, step) {
             return Err(StepError::NotEnabled);
         }
-        match self.make(seat, step) {
-            Ok(reply) => Ok(reply),
-            Err(_) => Err(StepError::Memory),
-        }
+        self.make(seat, step).map_err(|_| StepError::Memory)
     }
 
     fn is_enabled(&self, seat: Seat, step: Step) -> bool
@@ -520,10 +517,7 @@ fn is_holder(holders: &[Option<u32>], number: u32, sender: u32) -> bool
     requires { number < length holders.now }
     ensures { IsTrue result ↔ (get_or holders.now number None ≡ Some sender) }
 {
-    match holders[number as usize] {
-        Some(holder) => holder == sender,
-        None => false,
-    }
+    holders[number as usize] == Some(sender)
 }
 
 fn private_at(seats: &[Private], sender: u32) -> Private
