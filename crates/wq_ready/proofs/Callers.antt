@@ -1,8 +1,6 @@
 -- The callers of a new ready queue.
-use Rattle.std.proofs.Common.{◌≡◌, ℕ, zero, suc, [], ◌∷◌, length, refl, arith, length-append}
-use Rattle.std.specs.Prelude.{All}
 use Rattle.std.proofs.lemmas.List.Elements.{All-push, All-nil}
-use Rattle.wq_ready.specs.Known.{Identity, IsCallerOf, new_caller, new_callers}
+use Rattle.wq_ready.proofs.Common.{◌≡◌, ℕ, zero, suc, [], ◌∷◌, length, All, refl, arith, length-append, Identity, IsCallerOf, new_caller, new_callers}
 
 pub length-new_callers : (ready : Identity) (n : ℕ) → length (new_callers ready n) ≡ n
 length-new_callers ready zero = refl

@@ -1,19 +1,14 @@
 -- Each call keeps the rule of a ready queue.
-use Rattle.std.proofs.Common.{◌≡◌, ℕ, zero, suc, ◌<◌, ◌≢◌, cond, eqb, List, [], ◌∷◌, ◌++◌, length, set, sym, refl, ap, ◌∙◌, subst, inl, inr, arith, append_assoc, length-append, length-set, eq-eqb, ne_eqb, Some, slice_get}
 use mathlib.Core.Option.{some, some-injective, some-ne-none}
 use lib.ListN.{get_elem?}
 use Rattle.crossbeam_queue.specs.Fifo.{Pushes, Pops, Forks, Learns}
 use Rattle.crossbeam_queue.proofs.Lists.{at_set}
 use Rattle.wq_words.proofs.Growing.{growing, at_end, slice_get_last}
-use Rattle.wq_words.proofs.Prefixes.{prefix_self, prefix_append}
-use Rattle.wq_ready.specs.declared.size.Size.{Size}
-use Rattle.wq_ready.specs.declared.event.ReadyEvent.{ReadyEvent}
-use Rattle.wq_ready.specs.declared.event.ReadyEvent.TheVariants.{Announce, Pick}
+use Rattle.wq_ready.proofs.Common.{◌≡◌, ℕ, zero, suc, ◌<◌, cond, eqb, ◌≢◌, List, [], ◌∷◌, ◌++◌, length, set, slice_get, Some, sym, refl, ap, ◌∙◌, subst, inl}
+use Rattle.wq_ready.proofs.Common.{inr, append_assoc, arith, length-append, length-set, eq-eqb, ne_eqb, prefix_self, prefix_append, Size, ReadyEvent, Announce}
+use Rattle.wq_ready.proofs.Common.{Pick, caller_of, announced, picked, IsReadyAllowed, IsReadyLegal, own_ready, ready_part, all_callers, no_caller, KeptReady}
 use Rattle.wq_ready.specs.declared.rule.Part.{Part}
-use Rattle.wq_ready.specs.History.{caller_of, announced, picked}
-use Rattle.wq_ready.specs.Legal.{IsReadyAllowed, IsReadyLegal}
-use Rattle.wq_ready.specs.Seen.{own_ready}
-use Rattle.wq_ready.specs.Rule.{ready_part, opening_part, all_callers, no_caller, one_caller, first_caller, later_callers, SpeaksFor, FitsReady, KeepsReady, KeptReady, Happens, announces, picks, CanWait}
+use Rattle.wq_ready.specs.Rule.{opening_part, one_caller, first_caller, later_callers, SpeaksFor, FitsReady, KeepsReady, Happens, announces, picks, CanWait}
 use Rattle.wq_ready.proofs.Legal.{legal_nil, legal_push, legal_none, announced_below}
 use Rattle.wq_ready.proofs.Seen.{own_else, grows_none, grows_one}
 

@@ -1,13 +1,8 @@
 -- Legal ready histories, an event at a time.
-use Rattle.std.proofs.Common.{◌≡◌, ℕ, ◌<◌, List, [], ◌∷◌, ◌++◌, length, take, drop, Some, slice_get, inl, inr, refl, sym, ap, ◌∙◌, arith, subst, append_assoc, take-append-drop}
-use Rattle.std.proofs.lemmas.List.{append-nil}
-use Rattle.wq_ready.specs.declared.size.Size.{Size}
-use Rattle.wq_ready.specs.declared.event.ReadyEvent.{ReadyEvent}
-use Rattle.wq_ready.specs.declared.event.ReadyEvent.TheVariants.{Announce, Pick}
-use Rattle.wq_ready.specs.History.{announced_by, announced}
-use Rattle.wq_ready.specs.Legal.{IsReadyAllowed, IsReadyLegal}
 use Rattle.wq_words.proofs.Growing.{slice_get_push, slice_get_last, slice_get_append, take_append, take_length}
 use Rattle.wq_words.proofs.Ranks.{ComesFrom, comes_from}
+use Rattle.wq_ready.proofs.Common.{◌≡◌, ℕ, ◌<◌, List, [], ◌∷◌, ◌++◌, length, take, drop, slice_get, Some, sym, refl, ap, ◌∙◌, subst, inl, inr, append_assoc}
+use Rattle.wq_ready.proofs.Common.{arith, take-append-drop, append-nil, Size, ReadyEvent, Announce, Pick, announced, announced_by, IsReadyAllowed, IsReadyLegal}
 
 pub legal_nil : (size : Size) → IsReadyLegal size []
 legal_nil size = record { allows = λ place e at. absurd cc }

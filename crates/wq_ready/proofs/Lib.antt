@@ -1,3 +1,4 @@
+pub mod Common
 pub mod Legal
 pub mod Order
 pub mod Seen

@@ -1,18 +1,12 @@
 -- Each legal ready history keeps the order of what was announced.
-use Rattle.std.proofs.Common.{◌≡◌, ℕ, ◌+◌, ◌<◌, ◌≤◌, List, [], ◌∷◌, ◌++◌, length, take, Some, slice_get, refl, sym, ap, ◌∙◌, inl, inr, arith}
 use Rattle.std.proofs.lemmas.List.{take-take, length-take, length-append, length_push}
 use Rattle.std.proofs.lemmas.Bool.{cases_lt}
 use Rattle.std.proofs.lemmas.Option.{slice_get_within}
-use mathlib.Core.List.{IsPrefix}
 use Rattle.wq_words.proofs.Growing.{growing, take_more_some, filter_map_push_some}
-use Rattle.wq_words.proofs.Prefixes.{prefix_append, prefix_step}
 use Rattle.wq_words.proofs.Ranks.{ComesFrom, comes_from, length-filter_map-take, slice_get-take}
-use Rattle.wq_ready.specs.declared.size.Size.{Size}
-use Rattle.wq_ready.specs.declared.event.ReadyEvent.{ReadyEvent}
-use Rattle.wq_ready.specs.declared.event.ReadyEvent.TheVariants.{Announce, Pick}
-use Rattle.wq_ready.specs.History.{announced_by, picked_by, announced, picked}
-use Rattle.wq_ready.specs.Legal.{IsReadyAllowed, IsReadyLegal}
-use Rattle.wq_ready.specs.Order.{IsPickOf, EachPickHasAnnounce, ArePickedInOrder, KeepsOrder}
+use Rattle.wq_ready.proofs.Common.{◌≡◌, ℕ, ◌+◌, ◌<◌, ◌≤◌, List, [], ◌∷◌, ◌++◌, length, take, slice_get, Some, sym, refl, ap, ◌∙◌, inl, inr, arith, IsPrefix}
+use Rattle.wq_ready.proofs.Common.{prefix_append, prefix_step, Size, ReadyEvent, Announce, Pick, announced, picked, announced_by, picked_by, IsReadyAllowed}
+use Rattle.wq_ready.proofs.Common.{IsReadyLegal, IsPickOf, EachPickHasAnnounce, ArePickedInOrder, KeepsOrder}
 use Rattle.wq_ready.proofs.Legal.{legal_induction, announce_from}
 
 -- of what was announced, xs, and what was picked, ys

@@ -1,15 +1,7 @@
 -- Lists of ready events, and those of one caller among them.
-use Rattle.std.proofs.Common.{◌≡◌, ◌≢◌, ℕ, Bool, cond, eqb, List, [], ◌∷◌, ◌++◌, sym, refl, ap, ◌∙◌, arith, append_assoc, eq-eqb, ne_eqb}
-use Rattle.std.proofs.lemmas.List.{append-nil}
 use Rattle.std.proofs.lemmas.List.Elements.{filter-append}
-use mathlib.Core.List.{IsPrefix}
-use Rattle.wq_words.proofs.Prefixes.{nothing_more}
-use Rattle.wq_ready.specs.declared.size.Size.{Size}
-use Rattle.wq_ready.specs.declared.event.ReadyEvent.{ReadyEvent}
-use Rattle.wq_ready.specs.History.{caller_of}
-use Rattle.wq_ready.specs.Legal.{IsReadyLegal}
-use Rattle.wq_ready.specs.Seen.{own_ready, GrowsReady}
-use Rattle.wq_ready.specs.Known.{CallerState, CouldBe}
+use Rattle.wq_ready.proofs.Common.{◌≡◌, ℕ, Bool, cond, eqb, ◌≢◌, List, [], ◌∷◌, ◌++◌, sym, refl, ap, ◌∙◌, append_assoc, arith, eq-eqb, ne_eqb, append-nil}
+use Rattle.wq_ready.proofs.Common.{IsPrefix, nothing_more, Size, ReadyEvent, CallerState, CouldBe, caller_of, IsReadyLegal, own_ready, GrowsReady}
 use Rattle.wq_ready.proofs.Legal.{legal_next}
 
 own-append : (c : ℕ) (a b : List ReadyEvent) → own_ready c (a ++ b) ≡ own_ready c a ++ own_ready c b

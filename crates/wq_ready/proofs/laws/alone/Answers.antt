@@ -1,4 +1,4 @@
-use Rattle.wq_ready.specs.History.{IsFull, IsEmpty}
+use Rattle.wq_ready.proofs.Common.{IsFull, IsEmpty}
 use Rattle.wq_ready.proofs.Seen.{could_be_alone}
 use Rattle.wq_ready.proofs.laws.alone.Goals as goal
 

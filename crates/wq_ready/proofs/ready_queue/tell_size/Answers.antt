@@ -1,7 +1,5 @@
-use Rattle.std.proofs.Common.{◌<◌, sym, subst}
 use Rattle.crossbeam_queue.specs.Fifo.{Forks}
-use Rattle.wq_ready.specs.declared.size.Size.{Size}
-use Rattle.wq_ready.specs.Rule.{KeptReady, all_callers, no_caller}
+use Rattle.wq_ready.proofs.Common.{◌<◌, sym, subst, Size, all_callers, no_caller, KeptReady}
 use Rattle.wq_ready.proofs.Kept.{sizes}
 use Rattle.wq_ready.proofs.ready_queue.tell_size.Goals as goal
 

@@ -1,5 +1,4 @@
-use Rattle.std.proofs.Common.{subst}
-use Rattle.wq_ready.specs.Order.{KeepsOrder}
+use Rattle.wq_ready.proofs.Common.{subst, KeepsOrder}
 use Rattle.wq_ready.proofs.Order.{keeps_order}
 use Rattle.wq_ready.proofs.caller.Caller.legal.Goals as goal
 

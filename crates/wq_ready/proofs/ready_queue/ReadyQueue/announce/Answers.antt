@@ -1,6 +1,4 @@
-use Rattle.std.proofs.Common.{◌≡◌, arith, ap, sym, ◌∙◌}
-use Rattle.crossbeam_queue.specs.Passes.{view}
-use Rattle.wq_ready.specs.Known.{Identity, CallerState}
+use Rattle.wq_ready.proofs.Common.{◌≡◌, sym, ap, ◌∙◌, arith, view, Identity, CallerState}
 use Rattle.wq_ready.proofs.Kept.{puts, learns}
 use Rattle.wq_ready.proofs.ready_queue.ReadyQueue.announce.Goals as goal
 

@@ -1,6 +1,4 @@
-use Rattle.std.proofs.Common.{◌≡◌, ◌∙◌, sym, subst, ap, arith, length}
-use Rattle.std.specs.Prelude.{All}
-use Rattle.wq_ready.specs.Known.{IsCallerOf}
+use Rattle.wq_ready.proofs.Common.{◌≡◌, length, All, sym, ap, ◌∙◌, subst, arith, IsCallerOf}
 use Rattle.wq_ready.proofs.Kept.{begins, parts_first}
 use Rattle.wq_ready.proofs.Callers.{length-new_callers, new_callers-all}
 use Rattle.wq_ready.proofs.ready_queue.ReadyQueue.new.Goals as goal

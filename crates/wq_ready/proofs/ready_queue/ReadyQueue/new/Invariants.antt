@@ -1,7 +1,4 @@
-use Rattle.std.proofs.Common.{◌≡◌, ◌-◌, []}
-use Rattle.crossbeam_queue.specs.Passes.{view, IsPassOf}
-use Rattle.wq_ready.specs.Rule.{ready_part}
-use Rattle.wq_ready.specs.Known.{new_callers}
+use Rattle.wq_ready.proofs.Common.{◌≡◌, ◌-◌, [], view, IsPassOf, new_callers, ready_part}
 use Rattle.wq_ready.proofs.ready_queue.ReadyQueue.new.Given as goal
 
 abbrev pub ghosts-tell_size : goal.ghosts-tell_size
