@@ -1,32 +1,23 @@
 -- What a closing and a drain leave.
-use Rattle.std.proofs.Common.{◌≡◌, ℕ, ◌+◌, ◌<◌, Bool, true, false, List, [], ◌∷◌, length, refl, ap, ◌∙◌, subst, sym, arith}
 use Rattle.std.proofs.lemmas.List.{append-nil}
-use Rattle.wq_words.specs.declared.event.Event.{Event}
-use Rattle.wq_words.specs.declared.event.Event.TheVariants.{Close, Rest}
-use Rattle.wq_words.specs.History.{accepted, begun, ended, IsClosed, IsRunning}
-use Rattle.wq_words.specs.Legal.{IsLegal, IsComplete}
-use Rattle.wq_words.proofs.Closed.{closed_from_IsClosed}
 use Rattle.wq_worker.specs.Destroy.{LeavesUnfinished}
-use Rattle.wq_worker.specs.Resting.{rest_events, IsUnready, owed, nothing}
-use Rattle.wq_worker.specs.Seats.{taking}
 use Rattle.wq_worker.specs.declared.drained.Drained.{Drained}
 use Rattle.wq_worker.specs.declared.drained.Drained.TheVariants.{Empty, TooLong}
-use Rattle.wq_worker.specs.Rows.{Row, none, more, IsExecution, Closes, was_closed, closes, Drains}
-use Rattle.wq_worker.specs.State.{WorkerState, Moves}
-use Rattle.wq_worker.specs.Step.{Owes as OwesOne, owes as owes_one}
-use Rattle.wq_worker.proofs.Owned.{owner_of_both}
+use Rattle.wq_worker.specs.Step.{Owes, owes as owes_one}
+use Rattle.wq_served.proofs.Common.{◌≡◌, ℕ, ◌+◌, ◌<◌, Bool, true, false, List, [], ◌∷◌, length, refl, ap, ◌∙◌, arith, Event, Close, accepted, begun, ended}
+use Rattle.wq_served.proofs.Common.{IsClosed, IsRunning, IsLegal, IsComplete, closed_from_IsClosed, Row, none, more, IsExecution, Closes, was_closed, closes}
+use Rattle.wq_served.proofs.Common.{Drains, WorkerState, Moves, owner_of_both, Pauses, limited, owes, owed_before, WorksOn}
 use Rattle.wq_served.specs.Drained.{IsDrained, left_after}
-use Rattle.wq_served.specs.Owes.{Owes}
-use Rattle.wq_served.specs.Steps.{Steps, still, ready, unready, run, rest, Finishes, rested, completed, Pauses, limited, owes, owed_before, WorksOn}
-use Rattle.wq_served.proofs.Moved.{runs_moved}
+use Rattle.wq_served.specs.Owed.{IsOwed}
+use Rattle.wq_served.proofs.Moved.{steps_keep, works_keep}
 
-owes_kept : (o : Bool) (v w : List Event) → length (begun w) ≡ length (begun v) → length (ended w) ≡ length (ended v) → Owes o v → Owes o w
+owes_kept : (o : Bool) (v w : List Event) → length (begun w) ≡ length (begun v) → length (ended w) ≡ length (ended v) → IsOwed o v → IsOwed o w
 owes_kept true v w b e runs = omega (arith, runs, b, e)
 owes_kept false v w b e idle = λ runs. idle (omega (arith, runs, b, e))
 
 module _ {W : Type 0} where
   -- a close begins and ends nothing
-  pub closed_owes : (o : Bool) (a b : WorkerState W) → Moves (Close ∷ []) 0 a b → Owes o a.seen → Owes o b.seen
+  pub closed_owes : (o : Bool) (a b : WorkerState W) → Moves (Close ∷ []) 0 a b → IsOwed o a.seen → IsOwed o b.seen
   closed_owes o a b moved =
       let adds = owner_of_both a.number (Close ∷ []) 0 a.seen b.seen moved.adds in
       owes_kept o a.seen b.seen (ap (length {A = ℕ}) (adds.begun_is ∙ append-nil (begun a.seen)))
@@ -39,36 +30,24 @@ module _ {W : Type 0} where
   pub close_shuts : (a b : WorkerState W) → Moves (Close ∷ []) 0 a b → IsClosed b.seen
   close_shuts a b moved = let adds = owner_of_both a.number (Close ∷ []) 0 a.seen b.seen moved.adds in omega (arith, adds.closes)
 
-  unready_shut : (a b : WorkerState W) → IsUnready a b → IsClosed a.seen → IsClosed b.seen
-  unready_shut a b (owed runs same) shut = subst (λ (w : WorkerState W). IsClosed w.seen) (sym same) shut
-  unready_shut a b (nothing waited done moved left) shut = moved_shut (taking a.seen) 0 a b moved shut
-
   module _ (may : W → ℕ → List ℕ → W → Type 0) where
-    steps_shut : (n : ℕ) (a b : WorkerState W) → Steps may n a b → IsClosed a.seen → IsClosed b.seen
-    steps_shut n a b (still c) shut = shut
-    steps_shut n a b (ready m k c d e steps step) shut = moved_shut (taking d.seen) 0 d e step.moves (steps_shut m c d steps shut)
-    steps_shut n a b (unready m c d e steps step) shut = unready_shut d e step (steps_shut m c d steps shut)
-    steps_shut n a b (run m r c d e steps step) shut =
-        let moved = runs_moved may r d e step in moved_shut moved.0 moved.1 d e moved.2 (steps_shut m c d steps shut)
-    steps_shut n a b (rest m rests c d e steps left step) shut = moved_shut (rest_events rests) 0 d e step (steps_shut m c d steps shut)
-
     -- a closed queue owes nothing
-    owes_open : (k : ℕ) (a b : WorkerState W) → OwesOne may a k b → ¬ IsClosed a.seen
+    owes_open : (k : ℕ) (a b : WorkerState W) → Owes may a k b → ¬ IsClosed a.seen
     owes_open k a b (owes_one f qs j others es fs st split left opens told moved runs) = λ shut. let now = closed_from_IsClosed a.seen shut in absurd (cc)
 
-    finishes_shut : (limit : ℕ) (a c : WorkerState W) → Finishes may limit a c → IsClosed a.seen → IsClosed c.seen
-    finishes_shut limit a c (rested n b low steps left step) shut = moved_shut (Rest ∷ []) 0 b c step (steps_shut n a b steps shut)
-    finishes_shut limit a c (completed n low steps done) shut = done.0
+    pauses_idle : (limit : ℕ) (a c : WorkerState W) → Pauses may limit a c → IsClosed a.seen → ¬ IsRunning a.seen → ¬ IsRunning c.seen
+    pauses_idle limit a c (limited k steps just rests next) shut idle = rests
+    pauses_idle limit a c (owes n k b low steps step) shut idle =
+        absurd (owes_open k b c step (steps_keep (λ w. IsClosed w.seen) moved_shut may n a b steps shut))
+    pauses_idle limit a c (owed_before is_none runs same) shut idle = absurd (idle runs)
 
-    pauses_shut : (limit : ℕ) (a c : WorkerState W) → Pauses may limit a c → IsClosed a.seen → ¬ IsRunning a.seen → IsClosed c.seen × (¬ IsRunning c.seen)
-    pauses_shut limit a c (limited k steps just rests next) shut idle = (steps_shut limit a c steps shut, rests)
-    pauses_shut limit a c (owes n k b low steps step) shut idle = absurd (owes_open k b c step (steps_shut n a b steps shut))
-    pauses_shut limit a c (owed_before is_none runs same) shut idle = absurd (idle runs)
+    pub works_shut : (limit : ℕ) (done : Bool) (a c : WorkerState W) → WorksOn may limit done a c → IsClosed a.seen → IsClosed c.seen
+    works_shut = works_keep (λ w. IsClosed w.seen) moved_shut may
 
-    pub works_shut : (limit : ℕ) (done : Bool) (a c : WorkerState W) → WorksOn may limit done a c → IsClosed a.seen → ¬ IsRunning a.seen
-        → IsClosed c.seen × (¬ IsRunning c.seen)
-    works_shut limit true a c t shut idle = (finishes_shut limit a c t.0 shut, t.1)
-    works_shut limit false a c t shut idle = pauses_shut limit a c t shut idle
+    pub works_idle : (limit : ℕ) (done : Bool) (a c : WorkerState W) → WorksOn may limit done a c → IsClosed a.seen → ¬ IsRunning a.seen
+        → ¬ IsRunning c.seen
+    works_idle limit true a c t shut idle = t.1
+    works_idle limit false a c t shut idle = pauses_idle limit a c t shut idle
 
     no_row : (n : ℕ) (a b : WorkerState W) → Row may IsExecution n a b → n ≡ 0 → b ≡ a
     no_row n a b (none c) is = refl

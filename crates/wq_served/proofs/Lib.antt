@@ -1,3 +1,4 @@
+pub mod Common
 pub mod Refused
 pub mod Moved
 pub mod Steps

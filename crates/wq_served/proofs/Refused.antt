@@ -1,33 +1,23 @@
 -- After a rest that was refused the next take finds something.
-use Rattle.std.proofs.Common.{◌≡◌, ℕ, ◌<◌, ◌≤◌, ◌==◌, false, List, [], ◌∷◌, ◌++◌, length, take, None, inl, inr, refl, sym, ap, ◌∙◌, subst, arith, append_assoc}
-use Rattle.std.proofs.Common.{length-append, length-drop}
 use Rattle.std.proofs.lemmas.Bool.{or_parts}
 use Rattle.std.proofs.lemmas.List.{append-nil, length-take-le}
-use Rattle.std.proofs.lemmas.List.Elements.{filter-append, filter_map-append}
 use Rattle.std.proofs.lemmas.List.Sums.{fold_push}
-use Rattle.wq_words.specs.declared.layout.Layout.{Layout}
-use Rattle.wq_words.specs.declared.event.Event.{Event}
-use Rattle.wq_words.specs.declared.event.Event.TheVariants.{Hold, Busy, Push, Back, Take}
-use Rattle.wq_words.specs.History.{accepted_by, accepted, begun, taken, fresh, first, IsClosed}
-use Rattle.wq_words.specs.Legal.{IsLegal, IsComplete}
 use Rattle.wq_words.specs.Listed.{listed, listed_after}
 use Rattle.wq_words.specs.Rest.{wakes}
 use Rattle.wq_words.specs.Seen.{owner_seat, seat_of, own, is_ours, Grows}
-use Rattle.wq_words.proofs.Closed.{closed_from_open}
 use Rattle.wq_words.proofs.Legal.{legal_front, legal_rest}
 use Rattle.wq_words.proofs.Listed.{accepted_push_none, length-accepted, fresh-open}
 use Rattle.wq_words.proofs.Order.{in_order}
 use Rattle.wq_words.proofs.Prefixes.{prefix_length}
 use Rattle.wq_words.proofs.Rest.{wakes_quiet, wakes_push_work}
 use Rattle.wq_words.proofs.OtherSeats.{others_keep, surrounds, taken_still}
-use Rattle.wq_live.specs.Batch.{batch, next_of}
-use Rattle.wq_live.specs.Rest.{MayNotRest}
 use Rattle.wq_live.proofs.Reading.{empty_from_next}
-use Rattle.wq_worker.specs.Resting.{HasNoneLeft}
-use Rattle.wq_worker.specs.Seats.{Adds, taking, NothingWaits, at_take, at_all}
 use Rattle.wq_worker.proofs.Draining.{left_idle}
 use Rattle.wq_worker.proofs.Others.{next_still, some_fresh}
-use Rattle.wq_worker.proofs.Owned.{filter-filter, owner_grows, owner_of_both, stays, quiet_none}
+use Rattle.wq_served.proofs.Common.{◌≡◌, ℕ, ◌<◌, ◌≤◌, false, List, [], ◌∷◌, ◌++◌, length, take, ◌==◌, None, sym, refl, ap, ◌∙◌, subst, inl, inr, append_assoc}
+use Rattle.wq_served.proofs.Common.{arith, length-append, length-drop, filter_map-append, filter-append, Event, Hold, Busy, Push, Back, Take, Layout, accepted}
+use Rattle.wq_served.proofs.Common.{begun, IsClosed, accepted_by, taken, fresh, first, IsLegal, IsComplete, closed_from_open, batch, next_of, MayNotRest}
+use Rattle.wq_served.proofs.Common.{HasNoneLeft, taking, Adds, NothingWaits, at_take, at_all, owner_of_both, filter-filter, owner_grows, stays, quiet_none}
 
 -- of what came new the owner's events are those of what the worker's two seats added
 pub owner_new : (s n : ℕ) (xs v w : List Event) (adds : Adds s xs n v w) → own owner_seat adds.new ≡ own owner_seat xs

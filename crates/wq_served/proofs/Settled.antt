@@ -1,22 +1,12 @@
 -- What a worker that settles, executes or works on leaves.
-use Rattle.std.proofs.Common.{◌≡◌, ℕ, ◌+◌, ◌<◌, ◌≤◌, Bool, true, false, Option, Some, None, MatchOption, List, [], refl, ap, ◌∙◌, subst, arith, add-zero}
-use Rattle.wq_words.specs.declared.layout.Layout.{Layout}
-use Rattle.wq_words.specs.History.{closed, IsRunning, IsClosed}
-use Rattle.wq_words.specs.Legal.{IsLegal}
-use Rattle.wq_words.proofs.Closed.{IsClosed_from_closed}
 use Rattle.wq_words.proofs.Running.{runs_from_running as runs_some}
-use Rattle.wq_live.specs.Rest.{MayNotRest}
-use Rattle.wq_worker.specs.declared.ran.Ran.{Ran}
-use Rattle.wq_worker.specs.declared.ran.Ran.TheVariants.{Item, Barrier, Stop, Nothing, Owing}
-use Rattle.wq_worker.specs.Resting.{HasNoneLeft, rest_events, LeavesWork, IsReady, IsUnready, owed, nothing}
-use Rattle.wq_worker.specs.Rows.{IsExecution, ended_by_answer}
-use Rattle.wq_worker.specs.Seats.{Adds, taking, NothingWaits}
-use Rattle.wq_worker.specs.State.{WorkerState, Moves}
 use Rattle.wq_worker.specs.Step.{Ends, ends, owes as owe, Runs}
+use Rattle.wq_served.proofs.Common.{◌≡◌, ℕ, ◌+◌, ◌<◌, ◌≤◌, Bool, true, false, List, [], Some, None, Option, MatchOption, refl, ap, ◌∙◌, subst, add-zero, arith}
+use Rattle.wq_served.proofs.Common.{Layout, IsClosed, IsRunning, closed, IsLegal, IsClosed_from_closed, MayNotRest, Ran, Item, Barrier, Stop, Nothing, Owing}
+use Rattle.wq_served.proofs.Common.{IsExecution, ended_by_answer, WorkerState, Moves, rest_events, IsReady, IsUnready, owed, nothing, HasNoneLeft, LeavesWork}
+use Rattle.wq_served.proofs.Common.{taking, Adds, NothingWaits, Ended, Owed, Done, limited, owes, WorksOn, StepRow, still, ready, unready, run, rest, Finishes}
+use Rattle.wq_served.proofs.Common.{rested, completed, IsDue, Settles, RunsOne, MakesProgress}
 use Rattle.wq_served.specs.declared.runner.Progress.{Progress}
-use Rattle.wq_served.specs.declared.runner.Progress.TheVariants.{Ended, Owed, Done}
-use Rattle.wq_served.specs.Steps.{Steps, still, ready, unready, run, rest, Finishes, rested, completed, limited, owes}
-use Rattle.wq_served.specs.Steps.{IsDue, Settles, Executes, Advances, WorksOn}
 use Rattle.wq_served.proofs.Refused.{refused_waits, none_left_complete}
 use Rattle.wq_served.proofs.Steps.{steps_on, steps_ended, finishes_on}
 
@@ -31,7 +21,7 @@ module _ {W : Type 0} (may : W → ℕ → List ℕ → W → Type 0) where
   ends_idle : (k : ℕ) (a b : WorkerState W) → Ends may a k b → ¬ IsRunning b.seen
   ends_idle k a b (ends f es fs starts told moved idle) = idle
 
-  pub executed : (r : Ran) (a b : WorkerState W) → IsExecution r → Runs may r a b → Executes may Ended a b
+  pub executed : (r : Ran) (a b : WorkerState W) → IsExecution r → Runs may r a b → RunsOne may Ended a b
   executed (Item k) a b is t = (Item k, is, t, ends_idle t.0 a b t.2)
   executed (Barrier k) a b is t = (Barrier k, is, t, ends_idle t.0 a b t.2)
   executed Stop a b is t = (Stop, is, t, ends_idle t.0 a b t.2)
@@ -48,7 +38,7 @@ module _ {W : Type 0} (may : W → ℕ → List ℕ → W → Type 0) where
   was_unready a b idle (owed runs same) = absurd (idle runs)
   was_unready a b idle (nothing waits none moved left) = (waits, none)
 
-  settled_on : (r : Option ℕ) (a b c : WorkerState W) → Steps may 0 a b → Settles may r b c → Settles may r a c
+  settled_on : (r : Option ℕ) (a b c : WorkerState W) → StepRow may 0 a b → Settles may r b c → Settles may r a c
   settled_on None a b c steps t = (finishes_on may 0 0 a b c (omega arith) steps t.0, t.1)
   settled_on (Some k) a b c steps t = record { steps = steps_on may 0 0 a b c steps t.steps; idle = t.idle; next_is = t.next_is }
 
@@ -79,21 +69,21 @@ module _ {W : Type 0} (may : W → ℕ → List ℕ → W → Type 0) where
       absurd (refused_waits b.layout a.number a.seen b.seen c.seen waits quiet.adds why quiet.legal opens none.1 more later none'.1)
 
   -- an execution after steps by which none ended
-  pub advanced : (p : Progress) (a b c : WorkerState W) → Steps may 0 a b → Executes may p b c → Advances may p a c
+  pub advanced : (p : Progress) (a b c : WorkerState W) → StepRow may 0 a b → RunsOne may p b c → MakesProgress may p a c
   advanced Ended a b c steps t =
       let one : 0 + ended_by_answer t.0 ≡ 1 = ap (λ (n : ℕ). 0 + n) (one_ended t.0 t.1) in
-      (subst (λ (n : ℕ). Steps may n a c) one (run 0 t.0 a b c steps t.2), t.3)
+      (subst (λ (n : ℕ). StepRow may n a c) one (run 0 t.0 a b c steps t.2), t.3)
   advanced Owed a b c steps t = (t.0, b, steps, t.1)
   advanced Done a b c steps t = absurd t
 
-  pub works_owed : (limit n : ℕ) (a b c : WorkerState W) → n < limit → Steps may n a b → Advances may Owed b c → WorksOn may limit false a c
+  pub works_owed : (limit n : ℕ) (a b c : WorkerState W) → n < limit → StepRow may n a b → MakesProgress may Owed b c → WorksOn may limit false a c
   works_owed limit n a b c low steps t = owes (n + 0) t.0 t.1 (omega (arith, low)) (steps_on may n 0 a b t.1 steps t.2) t.3
 
-  pub works_done : (limit n : ℕ) (a b c : WorkerState W) → n ≤ limit → Steps may n a b → Finishes may 0 b c × (¬ IsRunning c.seen)
+  pub works_done : (limit n : ℕ) (a b c : WorkerState W) → n ≤ limit → StepRow may n a b → Finishes may 0 b c × (¬ IsRunning c.seen)
       → WorksOn may limit true a c
   works_done limit n a b c low steps t = (finishes_on may limit n a b c low steps t.0, t.1)
 
-  pub works_due : (limit n : ℕ) (a b c : WorkerState W) (k : ℕ) → n ≡ limit → Steps may n a b → IsDue may b k c → WorksOn may limit false a c
+  pub works_due : (limit n : ℕ) (a b c : WorkerState W) (k : ℕ) → n ≡ limit → StepRow may n a b → IsDue may b k c → WorksOn may limit false a c
   works_due limit n a b c k is steps t =
-      let all : Steps may limit a c = subst (λ (m : ℕ). Steps may m a c) (add-zero n ∙ is) (steps_on may n 0 a b c steps t.steps) in
+      let all : StepRow may limit a c = subst (λ (m : ℕ). StepRow may m a c) (add-zero n ∙ is) (steps_on may n 0 a b c steps t.steps) in
       limited k all (steps_ended may limit a c all) t.idle t.next_is

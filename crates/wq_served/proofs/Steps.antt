@@ -1,25 +1,15 @@
 -- What a worker's steps leave, one after another.
-use Rattle.std.proofs.Common.{◌≡◌, ℕ, ◌+◌, ◌≤◌, Bool, true, false, Option, Some, None, List, [], ◌∷◌, ◌++◌, length, refl, sym, ap, ◌∙◌, subst, arith, add-zero, length-append}
-use Rattle.std.proofs.lemmas.List.Elements.{filter_map-append}
-use Rattle.wq_words.specs.declared.event.Event.{Event}
-use Rattle.wq_words.specs.declared.event.Event.TheVariants.{End, Rest}
-use Rattle.wq_words.specs.History.{closed, ended_by, ended, IsRunning}
-use Rattle.wq_live.specs.Batch.{next_of}
-use Rattle.wq_worker.specs.declared.ran.Ran.{Ran}
-use Rattle.wq_worker.specs.declared.ran.Ran.TheVariants.{Item, Barrier, Stop, Nothing, Owing}
-use Rattle.wq_worker.specs.Follow.{contended_of}
-use Rattle.wq_worker.specs.Resting.{HasNoneLeft, rest_events, IsUnready, owed, nothing}
-use Rattle.wq_worker.specs.Rows.{ended_by_answer}
-use Rattle.wq_worker.specs.Seats.{Adds, taking, taking_of}
-use Rattle.wq_worker.specs.State.{WorkerState, Moves, IsSameWorker}
 use Rattle.wq_worker.specs.Step.{Starts, item, other, owed as goes_on, Ends, ends, Owes, owes, Runs}
 use Rattle.wq_worker.proofs.Follow.{quiet_contended, quiet_follows}
-use Rattle.wq_worker.proofs.Owned.{IsQuiet, OwnerAdds, owner_of_both}
-use Rattle.wq_worker.proofs.Rows.{moves_same, runs_same}
 use Rattle.wq_worker.proofs.State.{quiet_taking, ended_taking}
-use Rattle.wq_served.specs.WorkerId.{worker_id}
-use Rattle.wq_served.specs.Steps.{Steps, still, ready, unready, run, rest, Finishes, rested, completed, Pauses, limited, owes as owes_one, owed_before, WorksOn, EndsWithin, EndsJust}
+use Rattle.wq_served.proofs.Common.{◌≡◌, ℕ, ◌+◌, ◌≤◌, Bool, true, false, List, [], ◌∷◌, ◌++◌, length, Some, None, Option, sym, refl, ap, ◌∙◌, subst, add-zero}
+use Rattle.wq_served.proofs.Common.{arith, length-append, filter_map-append, Event, End, Rest, ended, IsRunning, ended_by, closed, next_of, Ran, Item, Barrier}
+use Rattle.wq_served.proofs.Common.{Stop, Nothing, Owing, ended_by_answer, WorkerState, Moves, contended_of, rest_events, IsUnready, owed, nothing, HasNoneLeft}
+use Rattle.wq_served.proofs.Common.{taking, Adds, taking_of, owner_of_both, IsQuiet, OwnerAdds, Pauses, limited, owed_before, WorksOn, StepRow, still, ready}
+use Rattle.wq_served.proofs.Common.{unready, run, rest, Finishes, rested, completed, worker_id}
+use Rattle.wq_served.specs.Steps.{owes as owes_one, EndsWithin, EndsJust}
 use Rattle.wq_served.proofs.Refused.{next_kept}
+use Rattle.wq_served.proofs.Moved.{works_keep}
 
 -- no execution ends by these events
 ended_more : (es v w : List Event) (n : ℕ) → length (ended es) ≡ n → OwnerAdds es v w → EndsJust n v w
@@ -33,18 +23,11 @@ quiet_rest true = refl
 quiet_rest false = refl
 
 module _ {W : Type 0} where
-  pub same_id : (a b : WorkerState W) → IsSameWorker a b → worker_id b ≡ worker_id a
-  same_id a b same i = record { queue = same.queue_is i; layout = same.layout_is i; number = same.number_is i; tries = same.tries_is i }
-
   moved_id : (es : List Event) (n : ℕ) (a b : WorkerState W) → Moves es n a b → worker_id b ≡ worker_id a
-  moved_id es n a b moved = same_id a b (moves_same es n a b moved)
+  moved_id es n a b m i = record { queue = m.queue i; layout = m.layout i; number = m.number i; tries = m.tries i }
 
   moved_ends : (es : List Event) (n m : ℕ) (a b : WorkerState W) → length (ended es) ≡ m → Moves es n a b → EndsJust m a.seen b.seen
   moved_ends es n m a b is moved = ended_more es a.seen b.seen m is (owner_of_both a.number es n a.seen b.seen moved.adds)
-
-  unready_id : (a b : WorkerState W) → IsUnready a b → worker_id b ≡ worker_id a
-  unready_id a b (owed runs same) = ap worker_id same
-  unready_id a b (nothing waited none moved left) = moved_id (taking a.seen) 0 a b moved
 
   unready_ends : (a b : WorkerState W) → IsUnready a b → EndsJust 0 a.seen b.seen
   unready_ends a b (owed runs same) = ap (λ (w : WorkerState W). length (ended w.seen)) same ∙ sym (add-zero (length (ended a.seen)))
@@ -82,7 +65,7 @@ module _ {W : Type 0} where
     runs_ends Nothing a b t = moved_ends (taking a.seen) 0 0 a b (ended_quiet (taking a.seen) (quiet_taking a.seen)) t.3
     runs_ends (Owing k) a b t = owing_ends k a b t
 
-    pub steps_ended : (n : ℕ) (a b : WorkerState W) → Steps may n a b → EndsJust n a.seen b.seen
+    pub steps_ended : (n : ℕ) (a b : WorkerState W) → StepRow may n a b → EndsJust n a.seen b.seen
     steps_ended n a b (still c) = sym (add-zero (length (ended c.seen)))
     steps_ended n a b (ready m k c d e steps step) =
         omega (arith, steps_ended m c d steps, moved_ends (taking d.seen) 0 0 d e (ended_quiet (taking d.seen) (quiet_taking d.seen)) step.moves)
@@ -91,23 +74,16 @@ module _ {W : Type 0} where
     steps_ended n a b (rest m rests c d e steps left step) =
         omega (arith, steps_ended m c d steps, moved_ends (rest_events rests) 0 0 d e (quiet_rest rests) step)
 
-    pub steps_id : (n : ℕ) (a b : WorkerState W) → Steps may n a b → worker_id b ≡ worker_id a
-    steps_id n a b (still c) = refl
-    steps_id n a b (ready m k c d e steps step) = moved_id (taking d.seen) 0 d e step.moves ∙ steps_id m c d steps
-    steps_id n a b (unready m c d e steps step) = unready_id d e step ∙ steps_id m c d steps
-    steps_id n a b (run m r c d e steps step) = same_id d e (runs_same may r d e step) ∙ steps_id m c d steps
-    steps_id n a b (rest m rests c d e steps left step) = moved_id (rest_events rests) 0 d e step ∙ steps_id m c d steps
-
-    pub steps_on : (n m : ℕ) (a b c : WorkerState W) → Steps may n a b → Steps may m b c → Steps may (n + m) a c
-    steps_on n m a b c first (still d) = subst (λ (k : ℕ). Steps may k a d) (sym (add-zero n)) first
+    pub steps_on : (n m : ℕ) (a b c : WorkerState W) → StepRow may n a b → StepRow may m b c → StepRow may (n + m) a c
+    steps_on n m a b c first (still d) = subst (λ (k : ℕ). StepRow may k a d) (sym (add-zero n)) first
     steps_on n m a b c first (ready i k d e f steps step) = ready (n + i) k a e f (steps_on n i a d e first steps) step
     steps_on n m a b c first (unready i d e f steps step) = unready (n + i) a e f (steps_on n i a d e first steps) step
     steps_on n m a b c first (run i r d e f steps step) =
         let same : (n + i) + ended_by_answer r ≡ n + (i + ended_by_answer r) = omega arith in
-        subst (λ (k : ℕ). Steps may k a f) same (run (n + i) r a e f (steps_on n i a d e first steps) step)
+        subst (λ (k : ℕ). StepRow may k a f) same (run (n + i) r a e f (steps_on n i a d e first steps) step)
     steps_on n m a b c first (rest i rests d e f steps left step) = rest (n + i) rests a e f (steps_on n i a d e first steps) left step
 
-    pub finishes_on : (limit n : ℕ) (a b c : WorkerState W) → n ≤ limit → Steps may n a b → Finishes may 0 b c → Finishes may limit a c
+    pub finishes_on : (limit n : ℕ) (a b c : WorkerState W) → n ≤ limit → StepRow may n a b → Finishes may 0 b c → Finishes may limit a c
     finishes_on limit n a b c low first (rested m d none steps left step) =
         rested (n + m) d (omega (arith, low, none)) (steps_on n m a b d first steps) left step
     finishes_on limit n a b c low first (completed m none steps done) = completed (n + m) (omega (arith, low, none)) (steps_on n m a b c first steps) done
@@ -117,27 +93,18 @@ module _ {W : Type 0} where
         omega (arith, low, steps_ended n a b steps, moved_ends (Rest ∷ []) 0 0 b c refl step)
     finishes_ended limit a c (completed n low steps done) = omega (arith, low, steps_ended n a c steps)
 
-    pub finishes_id : (limit : ℕ) (a c : WorkerState W) → Finishes may limit a c → worker_id c ≡ worker_id a
-    finishes_id limit a c (rested n b low steps left step) = moved_id (Rest ∷ []) 0 b c step ∙ steps_id n a b steps
-    finishes_id limit a c (completed n low steps done) = steps_id n a c steps
-
     pauses_ended : (limit : ℕ) (a c : WorkerState W) → Pauses may limit a c → EndsWithin limit a.seen c.seen
     pauses_ended limit a c (limited k steps just idle next) = omega (arith, just)
     pauses_ended limit a c (owes_one n k b low steps step) = omega (arith, low, steps_ended n a b steps, owing_ends k b c step)
     pauses_ended limit a c (owed_before none runs same) = omega (arith, ap (λ (w : WorkerState W). length (ended w.seen)) same)
-
-    pauses_id : (limit : ℕ) (a c : WorkerState W) → Pauses may limit a c → worker_id c ≡ worker_id a
-    pauses_id limit a c (limited k steps just idle next) = steps_id limit a c steps
-    pauses_id limit a c (owes_one n k b low steps step) = same_id b c (runs_same may (Owing k) b c step) ∙ steps_id n a b steps
-    pauses_id limit a c (owed_before none runs same) = ap worker_id same
 
     pub works_ended : (limit : ℕ) (done : Bool) (a c : WorkerState W) → WorksOn may limit done a c → EndsWithin limit a.seen c.seen
     works_ended limit true a c t = finishes_ended limit a c t.0
     works_ended limit false a c t = pauses_ended limit a c t
 
     pub works_id : (limit : ℕ) (done : Bool) (a c : WorkerState W) → WorksOn may limit done a c → worker_id c ≡ worker_id a
-    works_id limit true a c t = finishes_id limit a c t.0
-    works_id limit false a c t = pauses_id limit a c t
+    works_id limit done a c t =
+        works_keep (λ w. worker_id w ≡ worker_id a) (λ es n b d moved same. moved_id es n b d moved ∙ same) may limit done a c t refl
 
     pub works_finishes : (limit : ℕ) (done : Bool) (a c : WorkerState W) → done ≡ true → WorksOn may limit done a c
         → Finishes may limit a c × (¬ IsRunning c.seen)

@@ -1,4 +1,4 @@
-pub mod Owes
+pub mod Owed
 pub mod WorkerId
 pub mod StopItem
 pub mod Steps

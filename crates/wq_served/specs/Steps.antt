@@ -24,28 +24,28 @@ EndsJust n v w = length (ended w) ≡ length (ended v) + n
 module _ {W : Type 0} (may : W → ℕ → List ℕ → W → Type 0) where
   -- One step after another, by which n executions ended: the worker gets ready and a number waits, or none does; it runs one;
   -- it rests, or tries to.
-  pub data Steps : ℕ → WorkerState W → WorkerState W → Type 0 where
-    still : (a : WorkerState W) → Steps 0 a a
-    ready : (n k : ℕ) (a b c : WorkerState W) → Steps n a b → IsReady b k c → Steps n a c
-    unready : (n : ℕ) (a b c : WorkerState W) → Steps n a b → IsUnready b c → Steps n a c
-    run : (n : ℕ) (r : Ran) (a b c : WorkerState W) → Steps n a b → Runs may r b c → Steps (n + ended_by_answer r) a c
-    rest : (n : ℕ) (rests : Bool) (a b c : WorkerState W) → Steps n a b → LeavesWork b c → Moves (rest_events rests) 0 b c → Steps n a c
+  pub data StepRow : ℕ → WorkerState W → WorkerState W → Type 0 where
+    still : (a : WorkerState W) → StepRow 0 a a
+    ready : (n k : ℕ) (a b c : WorkerState W) → StepRow n a b → IsReady b k c → StepRow n a c
+    unready : (n : ℕ) (a b c : WorkerState W) → StepRow n a b → IsUnready b c → StepRow n a c
+    run : (n : ℕ) (r : Ran) (a b c : WorkerState W) → StepRow n a b → Runs may r b c → StepRow (n + ended_by_answer r) a c
+    rest : (n : ℕ) (rests : Bool) (a b c : WorkerState W) → StepRow n a b → LeavesWork b c → Moves (rest_events rests) 0 b c → StepRow n a c
 
   -- After at most so many executions nothing is left to do: the last step was a rest, or the queue has run to its end.
   pub data Finishes (limit : ℕ) (a c : WorkerState W) : Type 0 where
-    rested : (n : ℕ) (b : WorkerState W) → n ≤ limit → Steps n a b → LeavesWork b c → Moves (Rest ∷ []) 0 b c → Finishes limit a c
-    completed : (n : ℕ) → n ≤ limit → Steps n a c → IsComplete c.seen → Finishes limit a c
+    rested : (n : ℕ) (b : WorkerState W) → n ≤ limit → StepRow n a b → LeavesWork b c → Moves (Rest ∷ []) 0 b c → Finishes limit a c
+    completed : (n : ℕ) → n ≤ limit → StepRow n a c → IsComplete c.seen → Finishes limit a c
 
   -- Something is left: after just so many executions a number that was taken waits; or the last step was an execution that is
   -- owed, before the limit; or with the limit 0 an execution was owed already.
   pub data Pauses (limit : ℕ) (a c : WorkerState W) : Type 0 where
-    limited : (k : ℕ) → Steps limit a c → EndsJust limit a.seen c.seen → ¬ IsRunning c.seen → next_of c.seen ≡ Some k → Pauses limit a c
-    owes : (n k : ℕ) (b : WorkerState W) → n < limit → Steps n a b → Runs may (Owing k) b c → Pauses limit a c
+    limited : (k : ℕ) → StepRow limit a c → EndsJust limit a.seen c.seen → ¬ IsRunning c.seen → next_of c.seen ≡ Some k → Pauses limit a c
+    owes : (n k : ℕ) (b : WorkerState W) → n < limit → StepRow n a b → Runs may (Owing k) b c → Pauses limit a c
     owed_before : limit ≡ 0 → IsRunning a.seen → c ≡ a → Pauses limit a c
 
   -- a number that was taken is to be begun next
   pub record IsDue (a : WorkerState W) (k : ℕ) (c : WorkerState W) : Type 0 where
-    pub steps : Steps 0 a c
+    pub steps : StepRow 0 a c
     pub idle : ¬ IsRunning c.seen
     pub next_is : next_of c.seen ≡ Some k
 
@@ -55,16 +55,16 @@ module _ {W : Type 0} (may : W → ℕ → List ℕ → W → Type 0) where
   Settles (Some k) a c = IsDue a k c
 
   -- an execution ended, or is owed
-  abbrev pub Executes : Progress → WorkerState W → WorkerState W → Type 0
-  Executes Ended a c = (r : Ran) × IsExecution r × Runs may r a c × (¬ IsRunning c.seen)
-  Executes Owed a c = (k : ℕ) × Runs may (Owing k) a c
-  Executes Done a c = ⊥
+  abbrev pub RunsOne : Progress → WorkerState W → WorkerState W → Type 0
+  RunsOne Ended a c = (r : Ran) × IsExecution r × Runs may r a c × (¬ IsRunning c.seen)
+  RunsOne Owed a c = (k : ℕ) × Runs may (Owing k) a c
+  RunsOne Done a c = ⊥
 
   -- one execution ended, or is owed, or nothing was left to do
-  abbrev pub Advances : Progress → WorkerState W → WorkerState W → Type 0
-  Advances Ended a c = Steps 1 a c × (¬ IsRunning c.seen)
-  Advances Owed a c = (k : ℕ) × (b : WorkerState W) × Steps 0 a b × Runs may (Owing k) b c
-  Advances Done a c = Finishes 0 a c × (¬ IsRunning c.seen)
+  abbrev pub MakesProgress : Progress → WorkerState W → WorkerState W → Type 0
+  MakesProgress Ended a c = StepRow 1 a c × (¬ IsRunning c.seen)
+  MakesProgress Owed a c = (k : ℕ) × (b : WorkerState W) × StepRow 0 a b × Runs may (Owing k) b c
+  MakesProgress Done a c = Finishes 0 a c × (¬ IsRunning c.seen)
 
   -- nothing is left to do, or something is
   abbrev pub WorksOn : ℕ → Bool → WorkerState W → WorkerState W → Type 0

@@ -6,11 +6,11 @@ use Rattle.wq_worker.specs.State.{WorkerState}
 use Rattle.wq_served.specs.declared.noted.StopItem.{StopItem}
 use Rattle.wq_served.specs.declared.noted.StopItem.TheVariants.{Waits, Ran, Counted}
 
-abbrev pub HasRun : StopItem → Type 0
-HasRun Waits = ⊥
-HasRun Ran = Unit {0}
-HasRun Counted = Unit {0}
+abbrev pub HasSeenStop : StopItem → Type 0
+HasSeenStop Waits = ⊥
+HasSeenStop Ran = Unit {0}
+HasSeenStop Counted = Unit {0}
 
 -- where it was noted, it is among what has ended
 abbrev pub IsNoted : {W : Type 0} → StopItem → WorkerState W → Type 0
-IsNoted s w = HasRun s → Contains (ended w.seen) (stop_number w.layout)
+IsNoted s w = HasSeenStop s → Contains (ended w.seen) (stop_number w.layout)

@@ -11,7 +11,7 @@ ghost use Rattle.wq_worker.specs.Resting.{HasNoneLeft, rest_events, LeavesWork, 
 ghost use Rattle.wq_worker.specs.State.{Moves, items_among};
 ghost use Rattle.wq_worker.specs.Step.{Runs};
 ghost use Rattle.wq_served.specs.Drained.{IsDrained, left_after};
-ghost use Rattle.wq_served.specs.StopItem.{HasRun};
+ghost use Rattle.wq_served.specs.StopItem.{HasSeenStop};
 
 use std::marker::Model;
 use wq_words::Layout;
@@ -28,7 +28,7 @@ pub(crate) enum StopItem {
 impl StopItem {
     // After a step with this answer.
     fn after(self, ran: Ran) -> StopItem
-        ensures { HasRun result → HasRun self ⊎ (ran ≡ Stop) }
+        ensures { HasSeenStop result → HasSeenStop self ⊎ (ran ≡ Stop) }
     {
         match (self, ran) {
             (StopItem::Waits, Ran::Stop) => StopItem::Ran,

@@ -8,7 +8,8 @@ ghost use Rattle.wq_worker.specs.Resting.{HasNoneLeft};
 ghost use Rattle.wq_worker.specs.Seats.{NothingWaits};
 ghost use Rattle.wq_worker.specs.State.{items_among};
 ghost use Rattle.wq_served.specs.Drained.{IsDrained};
-ghost use Rattle.wq_served.specs.Steps.{Settles, Executes, Advances, WorksOn};
+ghost use Rattle.wq_served.specs.Owed.{IsOwed};
+ghost use Rattle.wq_served.specs.Steps.{Settles, RunsOne, MakesProgress, WorksOn};
 ghost use Rattle.wq_served.specs.WorkerId.{worker_id};
 
 use crate::gate::Gate;
@@ -45,13 +46,13 @@ impl Gate for NoGate {
 
 impl<W: Work> Model for Runner<W> {
     ghost use Rattle.wq_worker.specs.State.{WorkerState};
-    ghost use Rattle.wq_served.specs.Owes.{Owes};
+    ghost use Rattle.wq_served.specs.Owed.{IsOwed};
 
     ghost Value = { WorkerState W };
 
     ghost view = { λ r. r.worker };
 
-    ghost invariant = { λ r. Owes r.owes r.worker.seen };
+    ghost invariant = { λ r. IsOwed r.owes r.worker.seen };
 }
 
 impl<W: Work> Runner<W> {
@@ -76,9 +77,9 @@ impl<W: Work> Runner<W> {
         self.worker.legal();
     }
 
-    /// Whether an execution is owed.
+    /// True just where an execution is owed.
     pub fn owes(&self) -> bool
-        ensures { result ≡ false → ¬ IsRunning self.now.seen }
+        ensures { IsOwed result self.now.seen }
     {
         self.owes
     }
@@ -131,7 +132,7 @@ impl<W: Work> Runner<W> {
     // Executes the next number, or goes on with the one that is owed.
     fn execute<G: Gate>(&mut self, queue: u32, gate: &G) -> Progress
         requires { ¬ HasNoneLeft self.old.seen }
-        ensures { Executes W.may result self.old self.new }
+        ensures { RunsOne W.may result self.old self.new }
     {
         match self.worker.run_one() {
             Ran::Item(item) => gate.after(queue, item),
@@ -156,7 +157,7 @@ impl<W: Work> Runner<W> {
 
     // One execution, or none where nothing is left to do.
     fn advance<G: Gate>(&mut self, queue: u32, gate: &G) -> Progress
-        ensures { Advances W.may result self.old self.new }
+        ensures { MakesProgress W.may result self.old self.new }
     {
         if self.owes {
             return self.execute(queue, gate);

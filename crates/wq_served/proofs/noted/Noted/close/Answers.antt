@@ -1,5 +1,4 @@
-use Rattle.std.proofs.Common.{[], ◌∷◌}
-use Rattle.wq_words.specs.declared.event.Event.TheVariants.{Close}
+use Rattle.wq_served.proofs.Common.{[], ◌∷◌, Close}
 use Rattle.wq_served.proofs.Moved.{noted_moved}
 use Rattle.wq_served.proofs.noted.Noted.close.Goals as goal
 

@@ -1,6 +1,4 @@
-use Rattle.std.proofs.Common.{subst}
-use Rattle.wq_words.specs.Legal.{IsLegal}
-use Rattle.wq_worker.specs.State.{WorkerState}
+use Rattle.wq_served.proofs.Common.{subst, IsLegal, WorkerState}
 use Rattle.wq_served.proofs.noted.Noted.is_closed.Goals as goal
 
 pub returns-clause-legal : goal.returns-clause-legal

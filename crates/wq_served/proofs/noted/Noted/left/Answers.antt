@@ -1,6 +1,4 @@
-use Rattle.std.proofs.Common.{sym, subst}
-use Rattle.wq_worker.specs.State.{WorkerState}
-use Rattle.wq_served.specs.StopItem.{IsNoted}
+use Rattle.wq_served.proofs.Common.{sym, subst, WorkerState, IsNoted}
 use Rattle.wq_served.proofs.Draining.{undrained}
 use Rattle.wq_served.proofs.noted.Noted.left.Goals as goal
 

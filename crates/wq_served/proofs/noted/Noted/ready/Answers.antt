@@ -1,5 +1,8 @@
-use Rattle.wq_served.proofs.Moved.{noted_ready}
+use Rattle.wq_served.proofs.Common.{IsNoted}
+use Rattle.wq_served.proofs.Moved.{ready_keeps, noted_moved}
 use Rattle.wq_served.proofs.noted.Noted.ready.Goals as goal
 
 pub invariant_of-self : goal.invariant_of-self
-invariant_of-self g c = noted_ready c.self.inside.stop_item c.ready.result c.self.inside.worker c.ready.new.self c.ready.ensures.outcome c.self.invariant
+invariant_of-self g c =
+    let s = c.self.inside.stop_item in
+    ready_keeps (IsNoted s) (noted_moved s) c.ready.result c.self.inside.worker c.ready.new.self c.ready.ensures.outcome c.self.invariant

@@ -1,4 +1,4 @@
-use Rattle.wq_worker.specs.Resting.{rest_events}
+use Rattle.wq_served.proofs.Common.{rest_events}
 use Rattle.wq_served.proofs.Moved.{noted_moved}
 use Rattle.wq_served.proofs.noted.Noted.rest.Goals as goal
 

@@ -1,4 +1,4 @@
-use Rattle.wq_served.specs.Steps.{still}
+use Rattle.wq_served.proofs.Common.{still}
 use Rattle.wq_served.proofs.Settled.{advanced}
 use Rattle.wq_served.proofs.runner.Runner.advance.Goals as goal
 

@@ -1,6 +1,4 @@
-use Rattle.std.proofs.Common.{false, subst}
-use Rattle.wq_words.specs.History.{IsRunning}
-use Rattle.wq_worker.specs.State.{WorkerState}
+use Rattle.wq_served.proofs.Common.{false, subst, IsRunning, WorkerState}
 use Rattle.wq_served.proofs.Draining.{closed_owes, close_shuts}
 use Rattle.wq_served.proofs.runner.Runner.close.Goals as goal
 

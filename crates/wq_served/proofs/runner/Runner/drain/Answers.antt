@@ -1,16 +1,12 @@
-use Rattle.std.proofs.Common.{sym, ap, ◌∙◌, subst}
-use Rattle.wq_words.specs.History.{IsClosed, IsRunning}
-use Rattle.wq_worker.specs.State.{WorkerState}
-use Rattle.wq_served.specs.WorkerId.{worker_id}
-use Rattle.wq_served.proofs.Draining.{works_shut}
+use Rattle.wq_served.proofs.Common.{sym, ap, ◌∙◌, subst, IsClosed, IsRunning, WorkerState, worker_id}
+use Rattle.wq_served.proofs.Draining.{works_shut, works_idle}
 use Rattle.wq_served.proofs.Steps.{works_id}
 use Rattle.wq_served.proofs.runner.Runner.drain.Goals as goal
 
 pub left-requires : goal.left-requires
 left-requires g c =
-    let left = works_shut g.W.Work.may c.args.limit c.work.result c.close.new.self c.work.new.self c.work.ensures.works c.close.ensures.shut
-    (c.close.ensures.idle c.requires) in
-    subst (λ (w : WorkerState g.row.W.Denot). IsClosed w.seen) (sym c.self.view_is) left.0
+    subst (λ (w : WorkerState g.row.W.Denot). IsClosed w.seen) (sym c.self.view_is)
+    (works_shut g.W.Work.may c.args.limit c.work.result c.close.new.self c.work.new.self c.work.ensures.works c.close.ensures.shut)
 
 pub returns-clause-same : goal.returns-clause-same
 returns-clause-same g c =
@@ -19,6 +15,6 @@ returns-clause-same g c =
 
 pub returns-clause-idle : goal.returns-clause-idle
 returns-clause-idle g c =
-    let left = works_shut g.W.Work.may c.args.limit c.work.result c.close.new.self c.work.new.self c.work.ensures.works c.close.ensures.shut
-    (c.close.ensures.idle c.requires) in
-    subst (λ (w : WorkerState g.row.W.Denot). ¬ IsRunning w.seen) (sym (c.left.ensures.same ∙ c.self.view_is)) left.1
+    subst (λ (w : WorkerState g.row.W.Denot). ¬ IsRunning w.seen) (sym (c.left.ensures.same ∙ c.self.view_is))
+    (works_idle g.W.Work.may c.args.limit c.work.result c.close.new.self c.work.new.self c.work.ensures.works c.close.ensures.shut
+    (c.close.ensures.idle c.requires))

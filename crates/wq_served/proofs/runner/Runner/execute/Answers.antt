@@ -1,8 +1,4 @@
-use Rattle.std.proofs.Common.{ap, subst}
-use Rattle.wq_worker.specs.Resting.{HasNoneLeft}
-use Rattle.wq_worker.specs.State.{WorkerState}
-use Rattle.wq_served.specs.declared.runner.Progress.TheVariants.{Owed}
-use Rattle.wq_served.specs.Steps.{Executes}
+use Rattle.wq_served.proofs.Common.{ap, subst, WorkerState, HasNoneLeft, Owed, RunsOne}
 use Rattle.wq_served.proofs.Settled.{owing_runs}
 use Rattle.wq_served.proofs.Steps.{something_runs}
 use Rattle.wq_served.proofs.runner.Runner.execute.Goals as goal
@@ -13,7 +9,7 @@ invariant_of-self g c =
 
 pub returns-in-Owing : goal.returns-in-Owing
 returns-in-Owing g c =
-    subst (λ (w : WorkerState _). Executes g.W.Work.may Owed w c.run_one.new.self) c.self.view_is (c.in-Owing.field-0, c.in-Owing.ensures.runs)
+    subst (λ (w : WorkerState _). RunsOne g.W.Work.may Owed w c.run_one.new.self) c.self.view_is (c.in-Owing.field-0, c.in-Owing.ensures.runs)
 
 pub unreachable-requires : goal.unreachable-requires
 unreachable-requires g c =

@@ -1,8 +1,4 @@
-use Rattle.std.proofs.Common.{None, ap, sym, ◌∙◌, subst}
-use Rattle.wq_worker.specs.Resting.{HasNoneLeft}
-use Rattle.wq_worker.specs.Seats.{NothingWaits}
-use Rattle.wq_worker.specs.State.{WorkerState}
-use Rattle.wq_served.specs.Steps.{Settles}
+use Rattle.wq_served.proofs.Common.{None, sym, ap, ◌∙◌, subst, WorkerState, HasNoneLeft, NothingWaits, Settles}
 use Rattle.wq_served.proofs.Settled.{settled_closed, settled_rested, settled_refused}
 use Rattle.wq_served.proofs.runner.Runner.rest.Goals as goal
 

@@ -1,7 +1,4 @@
-use Rattle.std.proofs.Common.{ap, subst}
-use Rattle.wq_words.specs.History.{IsRunning}
-use Rattle.wq_worker.specs.State.{WorkerState}
-use Rattle.wq_served.specs.Steps.{IsDue, Settles}
+use Rattle.wq_served.proofs.Common.{ap, subst, IsRunning, WorkerState, IsDue, Settles}
 use Rattle.wq_served.proofs.Settled.{was_ready, was_unready, settled_unready}
 use Rattle.wq_served.proofs.runner.Runner.settle.Goals as goal
 

@@ -1,5 +1,4 @@
-use Rattle.std.proofs.Common.{refl, arith}
-use Rattle.wq_served.specs.Steps.{still}
+use Rattle.wq_served.proofs.Common.{refl, arith, still}
 use Rattle.wq_served.proofs.Settled.{works_owed, works_done, works_due}
 use Rattle.wq_served.proofs.Steps.{steps_on}
 use Rattle.wq_served.proofs.runner.Runner.work.Goals as goal

@@ -1,8 +1,6 @@
-use Rattle.std.proofs.Common.{◌≡◌, ◌<◌}
-use Rattle.wq_words.specs.History.{IsRunning}
-use Rattle.wq_served.specs.Steps.{Steps}
+use Rattle.wq_served.proofs.Common.{◌≡◌, ◌<◌, IsRunning, StepRow}
 use Rattle.wq_served.proofs.runner.Runner.work.Given as goal
 
 abbrev pub invariant-loop-ended : goal.invariant-loop-ended
 invariant-loop-ended g l =
-    Steps g.W.Work.may l._ended l.initial.self l.self × (0 < l._ended → ¬ IsRunning l.self.seen) × (l._ended ≡ 0 → l.self ≡ l.initial.self)
+    StepRow g.W.Work.may l._ended l.initial.self l.self × (0 < l._ended → ¬ IsRunning l.self.seen) × (l._ended ≡ 0 → l.self ≡ l.initial.self)

@@ -1,6 +1,4 @@
-use Rattle.std.proofs.Common.{ap, sym, subst}
-use Rattle.wq_words.specs.Legal.{IsComplete}
-use Rattle.wq_worker.specs.State.{WorkerState}
+use Rattle.wq_served.proofs.Common.{sym, ap, subst, IsComplete, WorkerState}
 use Rattle.wq_served.proofs.Draining.{never_unfinished}
 use Rattle.wq_served.proofs.served.Served.into_parts.Goals as goal
 

@@ -3,7 +3,7 @@ use Rattle.std.specs.Prelude.{Bool, true, false, List}
 use Rattle.wq_words.specs.declared.event.Event.{Event}
 use Rattle.wq_words.specs.History.{IsRunning}
 
--- it owes an execution just where a number runs
-abbrev pub Owes : Bool → List Event → Type 0
-Owes true h = IsRunning h
-Owes false h = ¬ IsRunning h
+-- true just where a number runs
+abbrev pub IsOwed : Bool → List Event → Type 0
+IsOwed true h = IsRunning h
+IsOwed false h = ¬ IsRunning h
