@@ -5,8 +5,9 @@ use Rattle.std.proofs.Math.Nat.{mod-add-div', add-mul-mod_self_right}
 use Rattle.std.proofs.lemmas.List.{get_or_read}
 use Rattle.std.proofs.lemmas.Bool.Decides.{nat_tests}
 use Rattle.wq_words.specs.DelayTable.{Entry, on_table}
+use Rattle.wq_delay.specs.declared.timetable.Place.{Place}
 use Rattle.wq_delay.specs.Rings.{AreRings}
-use Rattle.wq_delay.specs.Rows.{place_in, head_by, number_by, later_than, turn_of, IsWheel, AreOnTable, AreFound}
+use Rattle.wq_delay.specs.Rows.{place_in, head_by, number_by, later_than, turn_of, IsWheel, AreOnTable, AreFound, entry_at}
 use Rattle.wq_delay.proofs.Rounds.{at_or}
 use Rattle.wq_delay.proofs.Standing.{later_same, later_some}
 use Rattle.wq_delay.proofs.Spelled.{some_same}
@@ -27,17 +28,20 @@ slot_turn t n due late low is =
     let a = mod-add-div' (t + 1 + j) 256 in let b = mod-add-div' (t + 1 + n) 256 in omega arith
 
 -- an item that waits before the place x of the slot, or any where x is its head
-abbrev pub is_behind : ℕ → ℕ → ℕ × ℕ → ℕ → Bool
-is_behind head x p number = (x == head) || nat_lt (p.1 + 1) number
+abbrev pub is_behind : ℕ → ℕ → Place → ℕ → Bool
+is_behind head x p number = (x == head) || nat_lt (p.arming + 1) number
+
+-- due at the tick t, or in one of the first n slots after that, or in the next where so far it was met
+abbrev pub is_passed : ℕ → ℕ → Bool → Place → Bool
+is_passed t n met p = nat_le p.due t || (nat_lt (turn_of t p.due) n || ((turn_of t p.due == n) && met))
 
 -- at the place x of the n-th slot after the tick t, what is due and waits before it was found
-pub record Finding (places : List (Option (ℕ × ℕ))) (t now n head : ℕ) (es : List Entry) (x : ℕ) : Type 0 where
+pub record Finding (places : List (Option Place)) (t now n head : ℕ) (es : List Entry) (x : ℕ) : Type 0 where
   pub on : AreOnTable places es
   pub low : x < length places + 256
   pub here : head_by (length places) x (later_than t (place_in places x)) ≡ head
-  pub which : (k : ℕ) (p : ℕ × ℕ) → place_in places k ≡ Some p
-      → on_table k es ≡ (nat_le p.0 now && (nat_le p.0 t || (nat_lt (turn_of t p.0) n
-      || ((turn_of t p.0 == n) && is_behind head x p (number_by (later_than t (place_in places x)))))))
+  pub which : (k : ℕ) (p : Place) → place_in places k ≡ Some p
+      → on_table k es ≡ (nat_le p.due now && is_passed t n (is_behind head x p (number_by (later_than t (place_in places x)))) p)
 
 -- tests that differ where the slot is this one
 alike : (a b c d e f : Bool) → (b ≡ false → d ≡ true → e ≡ f) → (a && (b || (c || (d && e)))) ≡ (a && (b || (c || (d && f))))
@@ -47,13 +51,13 @@ alike true false true d e f same = refl
 alike true false false true e f same = same refl refl
 alike true false false false e f same = refl
 
-module _ (places : List (Option (ℕ × ℕ))) (next previous : List ℕ) (t now n head : ℕ) (small : n < 256)
+module _ (places : List (Option Place)) (next previous : List ℕ) (t now n head : ℕ) (small : n < 256)
     (head_is : head ≡ length places + (t + 1 + n) % 256)
     (wheel : IsWheel (length places) next previous (λ k. later_than t (place_in places k))) where
   abbrev size : ℕ
   size = length places
 
-  abbrev w : ℕ → Option (ℕ × ℕ)
+  abbrev w : ℕ → Option Place
   w k = later_than t (place_in places k)
 
   abbrev number : ℕ → ℕ
@@ -65,14 +69,14 @@ module _ (places : List (Option (ℕ × ℕ))) (next previous : List ℕ) (t now
   pub head_low : (size ≤ head) × (head < size + 256)
   head_low = let e = mod-lt (t + 1 + n) {m = 256} (omega arith) in (omega arith, omega arith)
 
-  waits : (k : ℕ) (p : ℕ × ℕ) → place_in places k ≡ Some p → t < p.0 → w k ≡ Some p
+  waits : (k : ℕ) (p : Place) → place_in places k ≡ Some p → t < p.due → w k ≡ Some p
   waits k p is late = ap (later_than t) is ∙ later_some t p late
 
   -- an item of this turn stands in the ring of the head
-  in_slot : (k : ℕ) (p : ℕ × ℕ) → place_in places k ≡ Some p → t < p.0 → turn_of t p.0 ≡ n → head_by size k (w k) ≡ head
-  in_slot k p is late turn = ap (head_by size k) (waits k p is late) ∙ (let e = turn_slot t n p.0 late turn in omega arith)
+  in_slot : (k : ℕ) (p : Place) → place_in places k ≡ Some p → t < p.due → turn_of t p.due ≡ n → head_by size k (w k) ≡ head
+  in_slot k p is late turn = ap (head_by size k) (waits k p is late) ∙ (let e = turn_slot t n p.due late turn in omega arith)
 
-  number_item : (k : ℕ) (p : ℕ × ℕ) → place_in places k ≡ Some p → t < p.0 → number k ≡ p.1 + 1
+  number_item : (k : ℕ) (p : Place) → place_in places k ≡ Some p → t < p.due → number k ≡ p.arming + 1
   number_item k p is late = ap number_by (waits k p is late)
 
   head_own : head_by size head (w head) ≡ head
@@ -89,10 +93,10 @@ module _ (places : List (Option (ℕ × ℕ))) (next previous : List ℕ) (t now
     on = f.on;
     low = r.next_low head head_low.1;
     here = r.stays head head_low.1 ∙ head_own;
-    which = λ k p is. f.which k p is ∙ (none (nat_le p.0 now) (nat_le p.0 t) (nat_lt (turn_of t p.0) n) (turn_of t p.0 == n)
-        ∙ alike (nat_le p.0 now) (nat_le p.0 t) (nat_lt (turn_of t p.0) n) (turn_of t p.0 == n) false
+    which = λ k p is. f.which k p is ∙ (none (nat_le p.due now) (nat_le p.due t) (nat_lt (turn_of t p.due) n) (turn_of t p.due == n)
+        ∙ alike (nat_le p.due now) (nat_le p.due t) (nat_lt (turn_of t p.due) n) (turn_of t p.due == n) false
         (is_behind head (slice_index next head) p (number (slice_index next head)))
-        (λ later turn. sym (first k p is (late_by p.0 later) (turn_by p.0 turn))));
+        (λ later turn. sym (first k p is (late_by p.due later) (turn_by p.due turn))));
   }
     where
       none : (a b c d : Bool) → (a && (b || c)) ≡ (a && (b || (c || (d && false))))
@@ -102,14 +106,15 @@ module _ (places : List (Option (ℕ × ℕ))) (next previous : List ℕ) (t now
       none true false false true = refl
       none true false false false = refl
 
-      first : (k : ℕ) (p : ℕ × ℕ) → place_in places k ≡ Some p → t < p.0 → turn_of t p.0 ≡ n
+      first : (k : ℕ) (p : Place) → place_in places k ≡ Some p → t < p.due → turn_of t p.due ≡ n
           → is_behind head (slice_index next head) p (number (slice_index next head)) ≡ false
       first k p is late turn =
           let low = place_low places k p is in let e = number_item k p is late in
           let zero_is : number head ≡ 0 = ap number_by (wheel.heads head head_low.0) in
           let near = r.nearest head k head_low.1 (omega arith) (head_own ∙ sym (in_slot k p is late turn)) (omega arith) in
-          let far : (slice_index next head == head) ≡ false = let ne : slice_index next head ≢ head = λ s. near.0 (s ∙ sym head_own) in grind (arith, nat_tests) in
-          let above : nat_lt (p.1 + 1) (number (slice_index next head)) ≡ false = let o = near.1 in grind (arith, nat_tests) in
+          let ne : slice_index next head ≢ head = λ s. near.0 (s ∙ sym head_own) in
+          let far : (slice_index next head == head) ≡ false = grind (arith, nat_tests) in
+          let above : nat_lt (p.arming + 1) (number (slice_index next head)) ≡ false = let o = near.1 in grind (arith, nat_tests) in
           rw (far, above) refl
 
   -- behind the last place
@@ -117,8 +122,7 @@ module _ (places : List (Option (ℕ × ℕ))) (next previous : List ℕ) (t now
   finding_end x es l is = record {
     on = l.on;
     which = λ k p at. l.which k p at ∙ (let e : (x == head) ≡ true = grind (arith, nat_tests) in
-        ap (λ (z : Bool). nat_le p.0 now && (nat_le p.0 t || (nat_lt (turn_of t p.0) n || ((turn_of t p.0 == n) && (z || nat_lt (p.1 + 1) (number x)))))) e
-        ∙ one (nat_le p.0 now) (nat_le p.0 t) (turn_of t p.0));
+        ap (λ (z : Bool). nat_le p.due now && is_passed t n (z || nat_lt (p.arming + 1) (number x)) p) e ∙ one (nat_le p.due now) (nat_le p.due t) (turn_of t p.due));
   }
     where
       one : (a b : Bool) (m : ℕ) → (a && (b || (nat_lt m n || ((m == n) && true)))) ≡ (a && (b || nat_lt m (n + 1)))
@@ -133,21 +137,21 @@ module _ (places : List (Option (ℕ × ℕ))) (next previous : List ℕ) (t now
     abbrev y : ℕ
     y = slice_index next x
 
-    pub x_item : (q : ℕ × ℕ) × (w x ≡ Some q) × (size + q.0 % 256 ≡ head)
+    pub x_item : (q : Place) × (w x ≡ Some q) × (size + q.due % 256 ≡ head)
     x_item = by (w x) refl l.here
       where
-        by : (o : Option (ℕ × ℕ)) → w x ≡ o → head_by size x o ≡ head → (q : ℕ × ℕ) × (w x ≡ Some q) × (size + q.0 % 256 ≡ head)
+        by : (o : Option Place) → w x ≡ o → head_by size x o ≡ head → (q : Place) × (w x ≡ Some q) × (size + q.due % 256 ≡ head)
         by None is at = absurd (ne at)
         by (Some q) is at = (q, is, at)
 
-    abbrev q : ℕ × ℕ
+    abbrev q : Place
     q = x_item.0
 
-    pub item_there : (place_in places x ≡ Some q) × (t < q.0) × (x < size)
+    pub item_there : (place_in places x ≡ Some q) × (t < q.due) × (x < size)
     item_there = let e = later_same t (place_in places x) q x_item.1 in (e.0, e.1, place_low places x q e.0)
 
-    q_turn : turn_of t q.0 ≡ n
-    q_turn = slot_turn t n q.0 item_there.1 small (let e = x_item.2 in omega arith)
+    q_turn : turn_of t q.due ≡ n
+    q_turn = slot_turn t n q.due item_there.1 small (let e = x_item.2 in omega arith)
 
     y_here : head_by size y (w y) ≡ head
     y_here = r.stays x l.low ∙ l.here
@@ -155,98 +159,96 @@ module _ (places : List (Option (ℕ × ℕ))) (next previous : List ℕ) (t now
     y_rises : y ≢ head → number x < number y
     y_rises far = r.rises x l.low (λ s. far (s ∙ l.here))
 
-    x_number : number x ≡ q.1 + 1
+    x_number : number x ≡ q.arming + 1
     x_number = ap number_by x_item.1
 
     no_head : (x == head) ≡ false
     no_head = grind (arith, nat_tests)
 
     -- before the next place stands no more than before x, and x
-    between : (k : ℕ) (p : ℕ × ℕ) → k ≢ x → place_in places k ≡ Some p → t < p.0 → turn_of t p.0 ≡ n
+    between : (k : ℕ) (p : Place) → k ≢ x → place_in places k ≡ Some p → t < p.due → turn_of t p.due ≡ n
         → is_behind head y p (number y) ≡ is_behind head x p (number x)
     between k p other is late turn =
         let low = place_low places k p is in
         let same : head_by size k (w k) ≡ head_by size x (w x) = in_slot k p is late turn ∙ sym l.here in
-        ap (λ (z : Bool). (y == head) || z) refl ∙ (by (nat_lt (number x) (p.1 + 1)) (nat_lt (p.1 + 1) (number x)) refl refl (omega arith) same
-        ∙ sym (ap (λ (z : Bool). z || nat_lt (p.1 + 1) (number x)) no_head))
+        ap (λ (z : Bool). (y == head) || z) refl ∙ (by (nat_lt (number x) (p.arming + 1)) (nat_lt (p.arming + 1) (number x)) refl refl (omega arith) same
+        ∙ sym (ap (λ (z : Bool). z || nat_lt (p.arming + 1) (number x)) no_head))
       where
-        by : (b c : Bool) → nat_lt (number x) (p.1 + 1) ≡ b → nat_lt (p.1 + 1) (number x) ≡ c → k < size + 256
-            → head_by size k (w k) ≡ head_by size x (w x) → is_behind head y p (number y) ≡ nat_lt (p.1 + 1) (number x)
+        by : (b c : Bool) → nat_lt (number x) (p.arming + 1) ≡ b → nat_lt (p.arming + 1) (number x) ≡ c → k < size + 256
+            → head_by size k (w k) ≡ head_by size x (w x) → is_behind head y p (number y) ≡ nat_lt (p.arming + 1) (number x)
         by true c up down low same =
             let e = number_item k p is late in
             let near = r.nearest x k l.low low (sym same) (grind (arith, nat_tests)) in
             let far : (y == head) ≡ false = let s : y ≢ head = λ s. near.0 (s ∙ sym l.here) in grind (arith, nat_tests) in
-            let above : nat_lt (p.1 + 1) (number y) ≡ false = let o = near.1 in grind (arith, nat_tests) in
-            let not_x : nat_lt (p.1 + 1) (number x) ≡ false = grind (arith, nat_tests) in
+            let above : nat_lt (p.arming + 1) (number y) ≡ false = let o = near.1 in grind (arith, nat_tests) in
+            let not_x : nat_lt (p.arming + 1) (number x) ≡ false = grind (arith, nat_tests) in
             rw (far, above) (sym not_x)
         by false true up down low same = before (y == head) refl ∙ sym down
           where
-            before : (b : Bool) → (y == head) ≡ b → (b || nat_lt (p.1 + 1) (number y)) ≡ true
+            before : (b : Bool) → (y == head) ≡ b → (b || nat_lt (p.arming + 1) (number y)) ≡ true
             before true at = refl
             before false at = let s : y ≢ head = grind (arith, nat_tests) in let u = y_rises s in
-                let less : p.1 + 1 < number x = grind (arith, nat_tests) in grind (arith, nat_tests)
+                let less : p.arming + 1 < number x = grind (arith, nat_tests) in grind (arith, nat_tests)
         by false false up down low same =
             let e = number_item k p is late in let equal : number k ≡ number x = grind (arith, nat_tests) in
             absurd (other (r.apart k x low l.low same equal))
 
     -- x is due at the tick now or not, and is found where it is
-    x_before : (nat_le q.0 t || (nat_lt (turn_of t q.0) n || ((turn_of t q.0 == n) && is_behind head x q (number x)))) ≡ false
+    x_before : is_passed t n (is_behind head x q (number x)) q ≡ false
     x_before =
-        let a : nat_le q.0 t ≡ false = let e = item_there.1 in grind (arith, nat_tests) in
-        let b : nat_lt (turn_of t q.0) n ≡ false = let e = q_turn in grind (arith, nat_tests) in
-        let c : (turn_of t q.0 == n) ≡ true = let e = q_turn in grind (arith, nat_tests) in
-        let d : nat_lt (q.1 + 1) (number x) ≡ false = let e = x_number in grind (arith, nat_tests) in
+        let a : nat_le q.due t ≡ false = let e = item_there.1 in grind (arith, nat_tests) in
+        let b : nat_lt (turn_of t q.due) n ≡ false = let e = q_turn in grind (arith, nat_tests) in
+        let c : (turn_of t q.due == n) ≡ true = let e = q_turn in grind (arith, nat_tests) in
+        let d : nat_lt (q.arming + 1) (number x) ≡ false = let e = x_number in grind (arith, nat_tests) in
         rw (a, b, c, no_head, d) refl
 
-    x_after : (nat_le q.0 t || (nat_lt (turn_of t q.0) n || ((turn_of t q.0 == n) && is_behind head y q (number y)))) ≡ true
+    x_after : is_passed t n (is_behind head y q (number y)) q ≡ true
     x_after =
-        let a : nat_le q.0 t ≡ false = let e = item_there.1 in grind (arith, nat_tests) in
-        let b : nat_lt (turn_of t q.0) n ≡ false = let e = q_turn in grind (arith, nat_tests) in
-        let c : (turn_of t q.0 == n) ≡ true = let e = q_turn in grind (arith, nat_tests) in
+        let a : nat_le q.due t ≡ false = let e = item_there.1 in grind (arith, nat_tests) in
+        let b : nat_lt (turn_of t q.due) n ≡ false = let e = q_turn in grind (arith, nat_tests) in
+        let c : (turn_of t q.due == n) ≡ true = let e = q_turn in grind (arith, nat_tests) in
         rw (a, b, c) (before (y == head) refl)
       where
-        before : (b : Bool) → (y == head) ≡ b → (b || nat_lt (q.1 + 1) (number y)) ≡ true
+        before : (b : Bool) → (y == head) ≡ b → (b || nat_lt (q.arming + 1) (number y)) ≡ true
         before true at = refl
         before false at = let s : y ≢ head = grind (arith, nat_tests) in let u = y_rises s in let v = x_number in grind (arith, nat_tests)
 
     pub not_found : on_table x es ≡ false
-    not_found = l.which x q item_there.0 ∙ (ap (λ (z : Bool). nat_le q.0 now && z) x_before ∙ and_false (nat_le q.0 now))
+    not_found = l.which x q item_there.0 ∙ (ap (λ (z : Bool). nat_le q.due now && z) x_before ∙ and_false (nat_le q.due now))
       where
         and_false : (b : Bool) → (b && false) ≡ false
         and_false true = refl
         and_false false = refl
 
-    other_which : (k : ℕ) (p : ℕ × ℕ) → k ≢ x → place_in places k ≡ Some p
-        → on_table k es ≡ (nat_le p.0 now && (nat_le p.0 t || (nat_lt (turn_of t p.0) n || ((turn_of t p.0 == n) && is_behind head y p (number y)))))
+    other_which : (k : ℕ) (p : Place) → k ≢ x → place_in places k ≡ Some p
+        → on_table k es ≡ (nat_le p.due now && is_passed t n (is_behind head y p (number y)) p)
     other_which k p other is =
-        l.which k p is ∙ alike (nat_le p.0 now) (nat_le p.0 t) (nat_lt (turn_of t p.0) n) (turn_of t p.0 == n)
+        l.which k p is ∙ alike (nat_le p.due now) (nat_le p.due t) (nat_lt (turn_of t p.due) n) (turn_of t p.due == n)
         (is_behind head x p (number x)) (is_behind head y p (number y))
-        (λ later turn. sym (between k p other is (late_by p.0 later) (turn_by p.0 turn)))
+        (λ later turn. sym (between k p other is (late_by p.due later) (turn_by p.due turn)))
 
     -- x is not due by then
-    pub finding_pass : (p : ℕ × ℕ) → place_in places x ≡ Some p → now < p.0 → Finding places t now n head es y
+    pub finding_pass : (p : Place) → place_in places x ≡ Some p → now < p.due → Finding places t now n head es y
     finding_pass o here late = record {
       on = l.on;
       low = r.next_low x l.low;
       here = y_here;
-      which = λ k p is. at_or (λ z. place_in places z ≡ Some p → on_table z es ≡ (nat_le p.0 now && (nat_le p.0 t || (nat_lt (turn_of t p.0) n
-          || ((turn_of t p.0 == n) && is_behind head y p (number y)))))) x k
-          (λ at. let e = some_same o p (sym here ∙ at) in let f = ap (λ (z : ℕ × ℕ). z.0) e in
-          let later : nat_le p.0 now ≡ false = grind (arith, nat_tests) in not_found ∙ sym (ap (λ (z : Bool). z && (nat_le p.0 t
-          || (nat_lt (turn_of t p.0) n || ((turn_of t p.0 == n) && is_behind head y p (number y))))) later))
+      which = λ k p is. let passed : Bool = is_passed t n (is_behind head y p (number y)) p in
+          at_or (λ z. place_in places z ≡ Some p → on_table z es ≡ (nat_le p.due now && passed)) x k
+          (λ at. let e = some_same o p (sym here ∙ at) in let f = ap (λ (z : Place). z.due) e in
+          let later : nat_le p.due now ≡ false = grind (arith, nat_tests) in not_found ∙ sym (ap (λ (z : Bool). z && passed) later))
           (λ other at. other_which k p other at) is;
     }
 
-    pub finding_take : (es' : List Entry) (p : ℕ × ℕ) → place_in places x ≡ Some p → p.0 ≤ now
-        → es' ≡ es ++ record { due = p.0; arming = p.1; item = x } ∷ [] → Finding places t now n head es' y
+    pub finding_take : (es' : List Entry) (p : Place) → place_in places x ≡ Some p → p.due ≤ now
+        → es' ≡ es ++ entry_at p x ∷ [] → Finding places t now n head es' y
     finding_take es' p at due es_is =
-        let e : Entry = record { due = p.0; arming = p.1; item = x } in record {
+        let e : Entry = entry_at p x in record {
           on = subst (AreOnTable places) (sym es_is) (more_on_table places es x p l.on not_found at);
           low = r.next_low x l.low;
           here = y_here;
           which = λ k o is. ap (on_table k) es_is ∙ (on_push k es e ∙ at_or (λ z. place_in places z ≡ Some o
-              → (on_table z es || (z == x)) ≡ (nat_le o.0 now && (nat_le o.0 t || (nat_lt (turn_of t o.0) n
-              || ((turn_of t o.0 == n) && is_behind head y o (number y)))))) x k
+              → (on_table z es || (z == x)) ≡ (nat_le o.due now && is_passed t n (is_behind head y o (number y)) o)) x k
               (λ here. own o (some_same q o (sym item_there.0 ∙ here)) (some_same p o (sym at ∙ here)))
               (λ other there. let apart : (k == x) ≡ false = grind (arith, nat_tests) in
               ap (λ (z : Bool). on_table k es || z) apart ∙ (or_false (on_table k es) ∙ other_which k o other there)) is);
@@ -256,26 +258,26 @@ module _ (places : List (Option (ℕ × ℕ))) (next previous : List ℕ) (t now
         or_false true = refl
         or_false false = refl
 
-        own : (o : ℕ × ℕ) → q ≡ o → p ≡ o → (on_table x es || (x == x)) ≡ (nat_le o.0 now && (nat_le o.0 t || (nat_lt (turn_of t o.0) n
-            || ((turn_of t o.0 == n) && is_behind head y o (number y)))))
+        own : (o : Place) → q ≡ o → p ≡ o
+            → (on_table x es || (x == x)) ≡ (nat_le o.due now && is_passed t n (is_behind head y o (number y)) o)
         own o q_is p_is =
             let self : (x == x) ≡ true = grind (arith, nat_tests) in
-            let soon : nat_le o.0 now ≡ true = let f = ap (λ (z : ℕ × ℕ). z.0) p_is in grind (arith, nat_tests) in
-            ap (λ (z : Bool). z || (x == x)) not_found ∙ (self ∙ sym (ap (λ (z : Bool). z && (nat_le o.0 t || (nat_lt (turn_of t o.0) n
-            || ((turn_of t o.0 == n) && is_behind head y o (number y))))) soon
-            ∙ subst (λ (z : ℕ × ℕ). (nat_le z.0 t || (nat_lt (turn_of t z.0) n || ((turn_of t z.0 == n) && is_behind head y z (number y)))) ≡ true) q_is x_after))
+            let soon : nat_le o.due now ≡ true = let f = ap (λ (z : Place). z.due) p_is in grind (arith, nat_tests) in
+            ap (λ (z : Bool). z || (x == x)) not_found
+            ∙ (self ∙ sym (ap (λ (z : Bool). z && is_passed t n (is_behind head y o (number y)) o) soon
+            ∙ subst (λ (z : Place). is_passed t n (is_behind head y z (number y)) z ≡ true) q_is x_after))
 
     less_steps : steps_left places head y < steps_left places head x
     less_steps = steps_fewer places head x y ne
         (λ far. let c = x_number in let d = ap number_by item_there.0 in let e = less (place_in places y) in let up = y_rises far in omega arith)
       where
-        cut : (b : Bool) (p : ℕ × ℕ) → number_by (cond b None (Some p)) ≤ p.1 + 1
+        cut : (b : Bool) (p : Place) → number_by (cond b None (Some p)) ≤ p.arming + 1
         cut true p = omega arith
         cut false p = omega arith
 
-        less : (o : Option (ℕ × ℕ)) → number_by (later_than t o) ≤ number_by o
+        less : (o : Option Place) → number_by (later_than t o) ≤ number_by o
         less None = omega arith
-        less (Some p) = cut (nat_le p.0 t) p
+        less (Some p) = cut (nat_le p.due t) p
 
     -- and so it is where the next was read
     pub less_read : (z : ℕ) → z ≡ get_or next x z → steps_left places head z < steps_left places head x

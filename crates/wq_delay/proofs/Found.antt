@@ -7,7 +7,9 @@ use Rattle.std.proofs.lemmas.List.{take-append-drop}
 use Rattle.std.proofs.lemmas.List.Elements.{All-filter, filter-append}
 use Rattle.std.proofs.lemmas.Bool.Decides.{nat_tests}
 use Rattle.wq_words.specs.DelayTable.{Entry, on_table, due_part}
-use Rattle.wq_delay.specs.Rows.{entry_of, place_in, entries_of, stands, is_due, times, turn_of, AreFound, AreDue, IsTimetable}
+use Rattle.wq_delay.specs.declared.timetable.Place.{Place}
+use Rattle.wq_delay.specs.declared.timetable.DueItem.{DueItem}
+use Rattle.wq_delay.specs.Rows.{entry_of, place_in, entries_of, stands, is_due, times, turn_of, AreFound, AreDue, IsTimetable, SaysPlace}
 use Rattle.wq_delay.proofs.Table.{place_some}
 use Rattle.wq_delay.proofs.Spelled.{entries_rows}
 use Rattle.wq_delay.proofs.Gathered.{due_only, ordered_due, place_due, place_valid}
@@ -24,20 +26,20 @@ filter_both {X} p q (x ∷ xs) = by (p x) (q x) refl (filter_both p q xs)
     by true false is rest = rest
     by false false is rest = rest
 
-due_rows : (t : ℕ) (xs : List ((ℕ × ℕ) × ℕ)) → map entry_of (filter (λ e. nat_le e.0.0 t) xs) ≡ due_part t (map entry_of xs)
+due_rows : (t : ℕ) (xs : List DueItem) → map entry_of (filter (λ e. nat_le e.place.due t) xs) ≡ due_part t (map entry_of xs)
 due_rows t [] = refl
-due_rows t (x ∷ xs) = by (nat_le x.0.0 t) (due_rows t xs)
+due_rows t (x ∷ xs) = by (nat_le x.place.due t) (due_rows t xs)
   where
-    by : (b : Bool) → map entry_of (filter (λ e. nat_le e.0.0 t) xs) ≡ due_part t (map entry_of xs)
-        → map entry_of (cond b (x ∷ filter (λ e. nat_le e.0.0 t) xs) (filter (λ e. nat_le e.0.0 t) xs))
+    by : (b : Bool) → map entry_of (filter (λ e. nat_le e.place.due t) xs) ≡ due_part t (map entry_of xs)
+        → map entry_of (cond b (x ∷ filter (λ e. nat_le e.place.due t) xs) (filter (λ e. nat_le e.place.due t) xs))
         ≡ cond b (entry_of x ∷ due_part t (map entry_of xs)) (due_part t (map entry_of xs))
     by true rest = ap (λ (z : List Entry). entry_of x ∷ z) rest
     by false rest = rest
 
-some_twice : (t now : ℕ) (p : ℕ × ℕ) (n : ℕ) → is_some (due_only now (due_only t (Some p))) ≡ (nat_le p.0 now && (nat_le p.0 t || nat_lt n 0))
+some_twice : (t now : ℕ) (p : Place) (n : ℕ) → is_some (due_only now (due_only t (Some p))) ≡ (nat_le p.due now && (nat_le p.due t || nat_lt n 0))
 some_twice t now p n =
     let none : nat_lt n 0 ≡ false = grind (arith, nat_tests) in
-    by (nat_le p.0 t) ∙ sym (ap (λ (z : Bool). nat_le p.0 now && (nat_le p.0 t || z)) none)
+    by (nat_le p.due t) ∙ sym (ap (λ (z : Bool). nat_le p.due now && (nat_le p.due t || z)) none)
   where
     last : (b : Bool) → is_some (cond b (Some p) None) ≡ (b && true)
     last true = refl
@@ -47,19 +49,19 @@ some_twice t now p n =
     off true = refl
     off false = refl
 
-    by : (b : Bool) → is_some (due_only now (cond b (Some p) None)) ≡ (nat_le p.0 now && (b || false))
-    by true = last (nat_le p.0 now)
-    by false = off (nat_le p.0 now)
+    by : (b : Bool) → is_some (due_only now (cond b (Some p) None)) ≡ (nat_le p.due now && (b || false))
+    by true = last (nat_le p.due now)
+    by false = off (nat_le p.due now)
 
-module _ (places : List (Option (ℕ × ℕ))) (next previous : List ℕ) (row : List ((ℕ × ℕ) × ℕ)) (room front count tick : ℕ)
+module _ (places : List (Option Place)) (next previous : List ℕ) (row : List DueItem) (room front count tick : ℕ)
     (t : IsTimetable places next previous row room front count tick) (now : ℕ) where
   abbrev es : List Entry
   es = entries_of places
 
-  abbrev early : (ℕ × ℕ) × ℕ → Bool
-  early e = nat_le e.0.0 now
+  abbrev early : DueItem → Bool
+  early e = nat_le e.place.due now
 
-  abbrev both : (ℕ × ℕ) × ℕ → Bool
+  abbrev both : DueItem → Bool
   both e = early e && stands places e
 
   -- what stands before the front has left the row
@@ -68,11 +70,11 @@ module _ (places : List (Option (ℕ × ℕ))) (next previous : List ℕ) (row :
 
   whole : filter both (drop front row) ≡ filter early (filter (stands places) row)
   whole =
-      ap (λ (z : List ((ℕ × ℕ) × ℕ)). z ++ filter both (drop front row)) (sym front_none)
+      ap (λ (z : List DueItem). z ++ filter both (drop front row)) (sym front_none)
       ∙ (sym (filter-append both (take front row) (drop front row))
       ∙ (ap (filter both) (take-append-drop front row) ∙ filter_both early (stands places) row))
 
-  pub found_out : (out : List ((ℕ × ℕ) × ℕ)) → out ≡ filter both (drop front row) → AreFound places tick now 0 (map entry_of out)
+  pub found_out : (out : List DueItem) → out ≡ filter both (drop front row) → AreFound places tick now 0 (map entry_of out)
   found_out out out_is =
       let rows = entries_rows places t.apart in
       let kept : List Entry = map entry_of (filter (stands places) row) in
@@ -80,33 +82,34 @@ module _ (places : List (Option (ℕ × ℕ))) (next previous : List ℕ) (row :
       let by_table : map entry_of out ≡ due_part now (due_part tick es) = by_rows ∙ ap (due_part now) t.due_is in
       let first = ordered_due tick es rows.ordered in record {
         on = record {
-          valid = subst (All (λ e. place_in places e.item ≡ Some (e.due, e.arming))) (sym by_rows)
-              (All-filter (λ e. nat_le e.due now) (λ e. place_in places e.item ≡ Some (e.due, e.arming)) kept (kept_valid places row));
+          valid = subst (All (SaysPlace places)) (sym by_rows)
+              (All-filter (λ e. nat_le e.due now) (SaysPlace places) kept (kept_valid places row));
           single = λ k. subst (λ (z : List Entry). times k z ≤ 1) (sym by_table)
               (ordered_single k (due_part now (due_part tick es)) (ordered_due now (due_part tick es) first));
         };
         which = λ k p is. ap (on_table k) by_table ∙ (sym (place_some k (due_part now (due_part tick es)))
             ∙ (ap is_some (place_due now k (due_part tick es) first ∙ ap (due_only now) (place_due tick k es rows.ordered
-            ∙ ap (due_only tick) (sym (rows.known k) ∙ is))) ∙ some_twice tick now p (turn_of tick p.0)));
+            ∙ ap (due_only tick) (sym (rows.known k) ∙ is))) ∙ some_twice tick now p (turn_of tick p.due)));
       }
 
 -- once the slots of all ticks up to now were gone through
-pub found_due : (places : List (Option (ℕ × ℕ))) (t now n : ℕ) (found : List Entry) → n ≡ min (now - t) 256 → AreFound places t now n found → AreDue places now found
+pub found_due : (places : List (Option Place)) (t now n : ℕ) (found : List Entry) → n ≡ min (now - t) 256 → AreFound places t now n found
+    → AreDue places now found
 found_due places t now n found n_is f = record { on = f.on; which = λ k. by k (place_in places k) refl }
   where
-    off : (b : Bool) (o : Option (ℕ × ℕ)) → o ≡ None → is_some (cond b o None) ≡ b → b ≡ false
+    off : (b : Bool) (o : Option Place) → o ≡ None → is_some (cond b o None) ≡ b → b ≡ false
     off true o none is = absurd (cc)
     off false o none is = refl
 
-    all : (p : ℕ × ℕ) (a b : Bool) → nat_le p.0 now ≡ a → nat_le p.0 t ≡ b → (a && (b || nat_lt (turn_of t p.0) n)) ≡ a
+    all : (p : Place) (a b : Bool) → nat_le p.due now ≡ a → nat_le p.due t ≡ b → (a && (b || nat_lt (turn_of t p.due) n)) ≡ a
     all p false b u v = refl
     all p true true u v = refl
     all p true false u v =
-        let late : t < p.0 = grind (arith, nat_tests) in let soon : p.0 ≤ now = grind (arith, nat_tests) in
-        let less = mod-le (p.0 - (t + 1)) 256 in let small = mod-lt (p.0 - (t + 1)) {m = 256} (omega arith) in
-        let low : turn_of t p.0 < n = omega arith in grind (arith, nat_tests)
+        let late : t < p.due = grind (arith, nat_tests) in let soon : p.due ≤ now = grind (arith, nat_tests) in
+        let less = mod-le (p.due - (t + 1)) 256 in let small = mod-lt (p.due - (t + 1)) {m = 256} (omega arith) in
+        let low : turn_of t p.due < n = omega arith in grind (arith, nat_tests)
 
-    by : (k : ℕ) (o : Option (ℕ × ℕ)) → place_in places k ≡ o → on_table k found ≡ is_due now o
+    by : (k : ℕ) (o : Option Place) → place_in places k ≡ o → on_table k found ≡ is_due now o
     by k None is =
         off (on_table k found) (place_in places k) is (ap is_some (sym (place_valid places k found f.on.valid)) ∙ place_some k found)
-    by k (Some p) is = f.which k p is ∙ all p (nat_le p.0 now) (nat_le p.0 t) refl refl
+    by k (Some p) is = f.which k p is ∙ all p (nat_le p.due now) (nat_le p.due t) refl refl

@@ -13,30 +13,32 @@ use Rattle.std.proofs.lemmas.Bool.{eqb-true}
 use Rattle.std.proofs.lemmas.Bool.Decides.{nat_tests}
 use Rattle.wq_words.specs.DelayTable.{Entry, on_table, due_part, IsBefore, IsOrdered}
 use Rattle.wq_words.proofs.DelayTable.{all-more}
-use Rattle.wq_delay.specs.Rows.{entry_of, place_of, place_in, entries_of, AreApart, times, is_due, AreOnTable}
+use Rattle.wq_delay.specs.declared.timetable.Place.{Place}
+use Rattle.wq_delay.specs.declared.timetable.DueItem.{DueItem}
+use Rattle.wq_delay.specs.Rows.{entry_of, place_of, place_in, entries_of, AreApart, times, is_due, AreOnTable, place_at, SaysPlace}
 use Rattle.wq_delay.proofs.Spelled.{place_off, entries_rows, same_entries}
 
-abbrev pub row_cmp : (ℕ × ℕ) × ℕ → (ℕ × ℕ) × ℕ → Ordering
-row_cmp x y = ordering_then (ordering_then (nat_cmp x.0.0 y.0.0) (nat_cmp x.0.1 y.0.1)) (nat_cmp x.1 y.1)
+abbrev pub row_cmp : DueItem → DueItem → Ordering
+row_cmp x y = ordering_then (ordering_then (nat_cmp x.place.due y.place.due) (nat_cmp x.place.arming y.place.arming)) (nat_cmp x.item y.item)
 
 -- what a sort asks
-abbrev pub AreSorted : List ((ℕ × ℕ) × ℕ) → Type 0
+abbrev pub AreSorted : List DueItem → Type 0
 AreSorted xs = IsSortedBy (λ x y. is_lt (row_cmp x y)) xs
 
 times_sum : (k : ℕ) (es : List Entry) → times k es ≡ sum_by (λ e. cond (k == e.item) 1 0) es
 times_sum k [] = refl
 times_sum k (e ∷ es) = ap (λ (z : ℕ). cond (k == e.item) 1 0 + z) (times_sum k es) ∙ sym (sum_by-cons (λ e. cond (k == e.item) 1 0) e es)
 
-pub on_table_permuted : (places : List (Option (ℕ × ℕ))) (xs ys : List ((ℕ × ℕ) × ℕ)) → IsPermutation xs ys
+pub on_table_permuted : (places : List (Option Place)) (xs ys : List DueItem) → IsPermutation xs ys
     → AreOnTable places (map entry_of xs) → AreOnTable places (map entry_of ys)
 on_table_permuted places xs ys moves on =
     let m = IsPermutation-map entry_of xs ys moves in record {
-      valid = All-permutation (λ e. place_in places e.item ≡ Some (e.due, e.arming)) (map entry_of xs) (map entry_of ys) m on.valid;
+      valid = All-permutation (SaysPlace places) (map entry_of xs) (map entry_of ys) m on.valid;
       single = λ k. let e = sum_by-IsPermutation (λ e. cond (k == e.item) 1 0) (map entry_of xs) (map entry_of ys) m in let s = on.single k in
           let a = times_sum k (map entry_of xs) in let b = times_sum k (map entry_of ys) in omega arith;
     }
 
-pub same_on_table : (k : ℕ) (xs ys : List ((ℕ × ℕ) × ℕ)) → IsPermutation xs ys → on_table k (map entry_of xs) ≡ on_table k (map entry_of ys)
+pub same_on_table : (k : ℕ) (xs ys : List DueItem) → IsPermutation xs ys → on_table k (map entry_of xs) ≡ on_table k (map entry_of ys)
 same_on_table k xs ys moves =
     list_any-IsPermutation (λ e. k == e.item) (map entry_of xs) (map entry_of ys) (IsPermutation-map entry_of xs ys moves)
 
@@ -66,40 +68,40 @@ by_tests false true true s u v is = absurd (cc)
 by_tests false true false s u v is = (refl, λ _. refl)
 by_tests false false r s u v is = (refl, λ e. absurd (cc))
 
-not_after : (x y : (ℕ × ℕ) × ℕ) → is_lt (row_cmp y x) ≡ false → (x.0.0 ≤ y.0.0) × (x.0.0 ≡ y.0.0 → x.0.1 ≤ y.0.1)
+not_after : (x y : DueItem) → is_lt (row_cmp y x) ≡ false → (x.place.due ≤ y.place.due) × (x.place.due ≡ y.place.due → x.place.arming ≤ y.place.arming)
 not_after x y is =
-    let t = by_tests (nat_lt y.0.0 x.0.0) (y.0.0 == x.0.0) (nat_lt y.0.1 x.0.1) (y.0.1 == x.0.1) (nat_lt y.1 x.1) (y.1 == x.1) is in
-    let a : nat_lt y.0.0 x.0.0 ≡ false = t.0 in (
+    let t = by_tests (nat_lt y.place.due x.place.due) (y.place.due == x.place.due) (nat_lt y.place.arming x.place.arming) (y.place.arming == x.place.arming) (nat_lt y.item x.item) (y.item == x.item) is in
+    let a : nat_lt y.place.due x.place.due ≡ false = t.0 in (
       grind (arith, nat_tests),
-      λ same. let e : (y.0.0 == x.0.0) ≡ true = grind (arith, nat_tests) in
-          let b : nat_lt y.0.1 x.0.1 ≡ false = t.1 e in grind (arith, nat_tests),
+      λ same. let e : (y.place.due == x.place.due) ≡ true = grind (arith, nat_tests) in
+          let b : nat_lt y.place.arming x.place.arming ≡ false = t.1 e in grind (arith, nat_tests),
     )
 
-sorted_tail : (x : (ℕ × ℕ) × ℕ) (xs : List ((ℕ × ℕ) × ℕ)) → AreSorted (x ∷ xs) → AreSorted xs
+sorted_tail : (x : DueItem) (xs : List DueItem) → AreSorted (x ∷ xs) → AreSorted xs
 sorted_tail x xs sorted k d low up =
     let e : suc k + 1 ≡ suc (k + 1) = omega arith in
     subst (λ (z : ℕ). is_lt (row_cmp (get_or (x ∷ xs) z d) (get_or (x ∷ xs) (suc k) d)) ≡ false) e (sorted (suc k) d (omega arith) (omega arith))
 
-pub sorted_ordered : (places : List (Option (ℕ × ℕ))) (xs : List ((ℕ × ℕ) × ℕ)) → AreApart places
+pub sorted_ordered : (places : List (Option Place)) (xs : List DueItem) → AreApart places
     → AreOnTable places (map entry_of xs) → AreSorted xs → IsOrdered (map entry_of xs)
 sorted_ordered places [] apart on sorted = tt
 sorted_ordered places (x ∷ []) apart on sorted = (tt, refl, tt)
 sorted_ordered places (x ∷ y ∷ ys) apart on sorted =
     let es : List Entry = map entry_of (y ∷ ys) in
     let all = on.valid in
-    let rest_valid = All-tail (λ e. place_in places e.item ≡ Some (e.due, e.arming)) (entry_of x) es all in
+    let rest_valid = All-tail (SaysPlace places) (entry_of x) es all in
     let rest = sorted_ordered places (y ∷ ys) apart
     (record {
       valid = rest_valid;
       single = λ k. let a = on.single k in
           let b = no_more_times k (entry_of x) es in omega arith;
     }) (sorted_tail x (y ∷ ys) sorted) in
-    let off : on_table x.1 es ≡ false = no_times x.1 es (let a = on.single x.1 in let b = times_first (entry_of x) es in omega arith) in
-    let here = All-head (λ e. place_in places e.item ≡ Some (e.due, e.arming)) (entry_of x) es all in
-    let there = All-head (λ e. place_in places e.item ≡ Some (e.due, e.arming)) (entry_of y) (map entry_of ys) rest_valid in
+    let off : on_table x.item es ≡ false = no_times x.item es (let a = on.single x.item in let b = times_first (entry_of x) es in omega arith) in
+    let here = All-head (SaysPlace places) (entry_of x) es all in
+    let there = All-head (SaysPlace places) (entry_of y) (map entry_of ys) rest_valid in
     let order = not_after x y (sorted 0 x (omega arith) (omega arith)) in
-    let other : x.0.1 ≢ y.0.1 = λ same. let k : x.1 ≡ y.1 = apart x.1 y.1 (x.0.0, x.0.1) (y.0.0, y.0.1) here there same in
-    let a = on.single x.1 in let b = times_first (entry_of x) es in
+    let other : x.place.arming ≢ y.place.arming = λ same. let k : x.item ≡ y.item = apart x.item y.item x.place y.place here there same in
+    let a = on.single x.item in let b = times_first (entry_of x) es in
     let c = times_first (entry_of y) (map entry_of ys) in let d = ap (λ (z : ℕ). times z es) k in omega arith in
     let first : IsBefore (entry_of x) (entry_of y) = (order.0, λ same. let o = order.1 same in omega arith) in (
       (
@@ -114,9 +116,9 @@ sorted_ordered places (x ∷ y ∷ ys) apart on sorted =
     )
 
 -- what is due of a place
-abbrev pub due_only : ℕ → Option (ℕ × ℕ) → Option (ℕ × ℕ)
+abbrev pub due_only : ℕ → Option Place → Option Place
 due_only t None = None
-due_only t (Some p) = cond (nat_le p.0 t) (Some p) None
+due_only t (Some p) = cond (nat_le p.due t) (Some p) None
 
 all_due : (P : Entry → Type 0) (t : ℕ) (es : List Entry) → AllByRecursion P es → AllByRecursion P (due_part t es)
 all_due P t [] all = tt
@@ -149,26 +151,26 @@ place_due t k [] ordered = refl
 place_due t k (f ∷ fs) ordered = by (nat_le f.due t) (k == f.item) refl refl (place_due t k fs ordered.2)
   where
     by : (b c : Bool) → nat_le f.due t ≡ b → (k == f.item) ≡ c → place_of k (due_part t fs) ≡ due_only t (place_of k fs)
-        → place_of k (cond b (f ∷ due_part t fs) (due_part t fs)) ≡ due_only t (cond c (Some (f.due, f.arming)) (place_of k fs))
+        → place_of k (cond b (f ∷ due_part t fs) (due_part t fs)) ≡ due_only t (cond c (Some (place_at f.due f.arming)) (place_of k fs))
     by true true p q rest = rw (p, q) refl
     by true false p q rest = rw q rest
     by false true p q rest =
         rw p (rest ∙ ap (due_only t) (place_off k fs (subst (λ (z : ℕ). on_table z fs ≡ false) (sym (eqb-true k f.item q)) ordered.1)))
     by false false p q rest = rest
 
-pub place_valid : (places : List (Option (ℕ × ℕ))) (k : ℕ) (es : List Entry) → All (λ e. place_in places e.item ≡ Some (e.due, e.arming)) es
+pub place_valid : (places : List (Option Place)) (k : ℕ) (es : List Entry) → All (SaysPlace places) es
     → place_of k es ≡ cond (on_table k es) (place_in places k) None
 place_valid places k [] valid = refl
 place_valid places k (f ∷ fs) valid =
-    by (k == f.item) refl (place_valid places k fs (All-tail (λ e. place_in places e.item ≡ Some (e.due, e.arming)) f fs valid))
+    by (k == f.item) refl (place_valid places k fs (All-tail (SaysPlace places) f fs valid))
   where
     by : (b : Bool) → (k == f.item) ≡ b → place_of k fs ≡ cond (on_table k fs) (place_in places k) None
-        → cond b (Some (f.due, f.arming)) (place_of k fs) ≡ cond (b || on_table k fs) (place_in places k) None
+        → cond b (Some (place_at f.due f.arming)) (place_of k fs) ≡ cond (b || on_table k fs) (place_in places k) None
     by true is rest =
-        sym (ap (place_in places) (eqb-true k f.item is) ∙ All-head (λ e. place_in places e.item ≡ Some (e.due, e.arming)) f fs valid)
+        sym (ap (place_in places) (eqb-true k f.item is) ∙ All-head (SaysPlace places) f fs valid)
     by false is rest = rest
 
-pub sorted_is_due : (places : List (Option (ℕ × ℕ))) (now : ℕ) (xs : List ((ℕ × ℕ) × ℕ)) → AreApart places
+pub sorted_is_due : (places : List (Option Place)) (now : ℕ) (xs : List DueItem) → AreApart places
     → AreOnTable places (map entry_of xs) → AreSorted xs
     → ((k : ℕ) → on_table k (map entry_of xs) ≡ is_due now (place_in places k))
     → map entry_of xs ≡ due_part now (entries_of places)
@@ -180,6 +182,6 @@ sorted_is_due places now xs apart on sorted which =
     ∙ (ap (λ (z : Bool). cond z (place_in places k) None) (which k)
     ∙ (as_due (place_in places k) ∙ (ap (due_only now) (rows.known k) ∙ sym (place_due now k (entries_of places) rows.ordered)))))
   where
-    as_due : (o : Option (ℕ × ℕ)) → cond (is_due now o) o None ≡ due_only now o
+    as_due : (o : Option Place) → cond (is_due now o) o None ≡ due_only now o
     as_due None = refl
     as_due (Some p) = refl

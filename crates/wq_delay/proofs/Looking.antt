@@ -7,8 +7,9 @@ use Rattle.std.proofs.lemmas.List.Elements.{All-push}
 use Rattle.std.proofs.lemmas.Bool.Decides.{nat_tests}
 use Rattle.wq_words.specs.DelayTable.{Entry, on_table}
 use Rattle.wq_words.proofs.DelayTable.{first_false, second_false}
+use Rattle.wq_delay.specs.declared.timetable.Place.{Place}
 use Rattle.wq_delay.specs.Rings.{AreRings}
-use Rattle.wq_delay.specs.Rows.{place_in, head_by, number_by, times, waiting, IsGathering, StillWaits, IsClean}
+use Rattle.wq_delay.specs.Rows.{place_in, head_by, number_by, times, waiting, IsGathering, StillWaits, IsClean, entry_at, SaysPlace}
 use Rattle.wq_delay.proofs.Rounds.{at_or}
 use Rattle.wq_delay.proofs.Wheel.{wheel_without}
 use Rattle.wq_delay.proofs.Spelled.{some_same}
@@ -42,7 +43,7 @@ times_off k (f ∷ fs) off =
     let rest = times_off k fs (second_false (k == f.item) (on_table k fs) off) in rw is (omega arith)
 
 -- what waits stands on the table, and not in the row
-pub waits_there : (places : List (Option (ℕ × ℕ))) (row : List Entry) (k : ℕ) (p : ℕ × ℕ) → waiting places row k ≡ Some p
+pub waits_there : (places : List (Option Place)) (row : List Entry) (k : ℕ) (p : Place) → waiting places row k ≡ Some p
     → (on_table k row ≡ false) × (place_in places k ≡ Some p)
 waits_there places row k p is = by (on_table k row) refl is
   where
@@ -50,25 +51,25 @@ waits_there places row k p is = by (on_table k row) refl is
     by true on same = absurd (cc)
     by false off same = (off, same)
 
-waits_not : (places : List (Option (ℕ × ℕ))) (row : List Entry) (k : ℕ) → on_table k row ≡ true → waiting places row k ≡ None
+waits_not : (places : List (Option Place)) (row : List Entry) (k : ℕ) → on_table k row ≡ true → waiting places row k ≡ None
 waits_not places row k on = rw on refl
 
 -- a number above those of all places
-pub most : List (Option (ℕ × ℕ)) → ℕ
+pub most : List (Option Place) → ℕ
 most [] = 0
 most (o ∷ os) = number_by o + most os
 
-pub number_most : (places : List (Option (ℕ × ℕ))) (k : ℕ) → number_by (place_in places k) ≤ most places
+pub number_most : (places : List (Option Place)) (k : ℕ) → number_by (place_in places k) ≤ most places
 unfolding most
 number_most [] k = omega arith
 number_most (o ∷ os) zero = omega arith
 number_most (o ∷ os) (suc k) = let is = number_most os k in omega arith
 
 -- how far the head of the slot is
-pub steps_left : List (Option (ℕ × ℕ)) → ℕ → ℕ → ℕ
+pub steps_left : List (Option Place) → ℕ → ℕ → ℕ
 steps_left places head x = cond (x == head) 0 (most places + 1 - number_by (place_in places x))
 
-pub steps_fewer : (places : List (Option (ℕ × ℕ))) (head x y : ℕ) → x ≢ head
+pub steps_fewer : (places : List (Option Place)) (head x y : ℕ) → x ≢ head
     → (y ≢ head → number_by (place_in places x) < number_by (place_in places y)) → steps_left places head y < steps_left places head x
 unfolding steps_left
 steps_fewer places head x y ne up =
@@ -80,26 +81,26 @@ steps_fewer places head x y ne up =
         let far : y ≢ head = grind (arith, nat_tests) in let o = up far in let a = number_most places x in let b = number_most places y in omega arith
 
 -- at the place x of the slot with this head, nothing that is due waits before it
-pub record Looking (places : List (Option (ℕ × ℕ))) (next previous : List ℕ) (start row : List Entry) (head now x : ℕ) : Type 0 where
+pub record Looking (places : List (Option Place)) (next previous : List ℕ) (start row : List Entry) (head now x : ℕ) : Type 0 where
   pub gathering : IsGathering places next previous row now
   pub fewer : StillWaits places start row
   pub low : x < length places + 256
   pub here : head_by (length places) x (waiting places row x) ≡ head
-  pub done : (k : ℕ) (p : ℕ × ℕ) → waiting places row k ≡ Some p → length places + p.0 % 256 ≡ head
-      → (x ≢ head → p.1 + 1 < number_by (waiting places row x)) → now < p.0
+  pub done : (k : ℕ) (p : Place) → waiting places row k ≡ Some p → length places + p.due % 256 ≡ head
+      → (x ≢ head → p.arming + 1 < number_by (waiting places row x)) → now < p.due
 
-module _ (places : List (Option (ℕ × ℕ))) (next previous : List ℕ) (start row : List Entry) (head now : ℕ)
+module _ (places : List (Option Place)) (next previous : List ℕ) (start row : List Entry) (head now : ℕ)
     (high : length places ≤ head) (low : head < length places + 256) where
   abbrev size : ℕ
   size = length places
 
-  slot_item : (k : ℕ) (p : ℕ × ℕ) → waiting places row k ≡ Some p → head_by size k (waiting places row k) ≡ size + p.0 % 256
+  slot_item : (k : ℕ) (p : Place) → waiting places row k ≡ Some p → head_by size k (waiting places row k) ≡ size + p.due % 256
   slot_item k p is = ap (head_by size k) is
 
-  number_item : (k : ℕ) (p : ℕ × ℕ) → waiting places row k ≡ Some p → number_by (waiting places row k) ≡ p.1 + 1
+  number_item : (k : ℕ) (p : Place) → waiting places row k ≡ Some p → number_by (waiting places row k) ≡ p.arming + 1
   number_item k p is = ap number_by is
 
-  item_low : (g : IsGathering places next previous row now) → (k : ℕ) (p : ℕ × ℕ) → waiting places row k ≡ Some p → k < size
+  item_low : (g : IsGathering places next previous row now) → (k : ℕ) (p : Place) → waiting places row k ≡ Some p → k < size
   item_low g k p is = by (nat_lt k size) refl
     where
       by : (b : Bool) → nat_lt k size ≡ b → k < size
@@ -126,11 +127,11 @@ module _ (places : List (Option (ℕ × ℕ))) (next previous : List ℕ) (start
 
   -- a place that is not the head is an item that waits in the slot
   pub looking_item : (x : ℕ) → Looking places next previous start row head now x → x ≢ head
-      → (p : ℕ × ℕ) × (waiting places row x ≡ Some p) × (size + p.0 % 256 ≡ head)
+      → (p : Place) × (waiting places row x ≡ Some p) × (size + p.due % 256 ≡ head)
   looking_item x l ne = by (waiting places row x) refl l.here
     where
-      by : (o : Option (ℕ × ℕ)) → waiting places row x ≡ o → head_by size x o ≡ head
-          → (p : ℕ × ℕ) × (waiting places row x ≡ Some p) × (size + p.0 % 256 ≡ head)
+      by : (o : Option Place) → waiting places row x ≡ o → head_by size x o ≡ head
+          → (p : Place) × (waiting places row x ≡ Some p) × (size + p.due % 256 ≡ head)
       by None is at = absurd (ne at)
       by (Some p) is at = (p, is, at)
 
@@ -141,7 +142,7 @@ module _ (places : List (Option (ℕ × ℕ))) (next previous : List ℕ) (start
     r : AreRings (slice_index next) (slice_index previous) (λ k. head_by size k (waiting places row k)) (λ k. number_by (waiting places row k)) (size + 256)
     r = l.gathering.wheel.rings
 
-    abbrev q : ℕ × ℕ
+    abbrev q : Place
     q = (looking_item x l ne).0
 
     q_is : waiting places row x ≡ Some q
@@ -158,8 +159,8 @@ module _ (places : List (Option (ℕ × ℕ))) (next previous : List ℕ) (start
         let f = y_rises (λ s. ne (sym is ∙ s)) in omega arith
 
     -- before the next place stands no more than before x, and x
-    nothing_between : (k : ℕ) (p : ℕ × ℕ) → k ≢ x → waiting places row k ≡ Some p → size + p.0 % 256 ≡ head
-        → (y ≢ head → p.1 + 1 < number_by (waiting places row y)) → now < p.0
+    nothing_between : (k : ℕ) (p : Place) → k ≢ x → waiting places row k ≡ Some p → size + p.due % 256 ≡ head
+        → (y ≢ head → p.arming + 1 < number_by (waiting places row y)) → now < p.due
     nothing_between k p other is slot below =
         let k_low : k < size + 256 = let e = item_low l.gathering k p is in omega arith in
         let same : head_by size k (waiting places row k) ≡ head_by size x (waiting places row x) = slot_item k p is ∙ (slot ∙ sym l.here) in
@@ -170,7 +171,7 @@ module _ (places : List (Option (ℕ × ℕ))) (next previous : List ℕ) (start
       where
         by : (b c : Bool) → nat_lt (number_by (waiting places row x)) (number_by (waiting places row k)) ≡ b
             → nat_lt (number_by (waiting places row k)) (number_by (waiting places row x)) ≡ c → k < size + 256
-            → head_by size k (waiting places row k) ≡ head_by size x (waiting places row x) → now < p.0
+            → head_by size k (waiting places row k) ≡ head_by size x (waiting places row x) → now < p.due
         by true c up down k_low same =
             let e = number_item k p is in
             let near = r.nearest x k l.low k_low (sym same) (grind (arith, nat_tests)) in
@@ -184,14 +185,14 @@ module _ (places : List (Option (ℕ × ℕ))) (next previous : List ℕ) (start
             absurd (other (r.apart k x k_low l.low same equal))
 
     -- x is not due
-    pub looking_pass : (p : ℕ × ℕ) → place_in places x ≡ Some p → now < p.0 → Looking places next previous start row head now y
+    pub looking_pass : (p : Place) → place_in places x ≡ Some p → now < p.due → Looking places next previous start row head now y
     looking_pass p at late = record {
       gathering = l.gathering;
       fewer = l.fewer;
       low = r.next_low x l.low;
       here = y_here;
-      done = λ k o is slot below. at_or (λ z. waiting places row z ≡ Some o → now < o.0) x k
-          (λ w. let e = some_same p o (sym at ∙ (waits_there places row x o w).1) in let f = ap (λ (z : ℕ × ℕ). z.0) e in omega arith)
+      done = λ k o is slot below. at_or (λ z. waiting places row z ≡ Some o → now < o.due) x k
+          (λ w. let e = some_same p o (sym at ∙ (waits_there places row x o w).1) in let f = ap (λ (z : Place). z.due) e in omega arith)
           (λ other w. nothing_between k o other w slot below) is;
     }
 
@@ -203,7 +204,7 @@ module _ (places : List (Option (ℕ × ℕ))) (next previous : List ℕ) (start
         (λ far. let c = ap number_by q_is in let d = ap number_by item_here.1 in let e = less (on_table y row) (place_in places y) in
         let up = y_rises far in omega arith)
       where
-        less : (b : Bool) (o : Option (ℕ × ℕ)) → number_by (cond b None o) ≤ number_by o
+        less : (b : Bool) (o : Option Place) → number_by (cond b None o) ≤ number_by o
         less true o = omega arith
         less false o = omega arith
 
@@ -214,12 +215,12 @@ module _ (places : List (Option (ℕ × ℕ))) (next previous : List ℕ) (start
         (sym (get_or_read next x z (omega (arith, l.low, l.gathering.wheel.next_length)) read 0)) nearer
 
     -- x is due, and is moved to the row
-    module _ (p : ℕ × ℕ) (at : place_in places x ≡ Some p) (due : p.0 ≤ now) (next' previous' : List ℕ) (row' : List Entry)
-        (row_is : row' ≡ row ++ record { due = p.0; arming = p.1; item = x } ∷ [])
+    module _ (p : Place) (at : place_in places x ≡ Some p) (due : p.due ≤ now) (next' previous' : List ℕ) (row' : List Entry)
+        (row_is : row' ≡ row ++ entry_at p x ∷ [])
         (next_is : next' ≡ set (set next (slice_index previous x) (slice_index next x)) x x)
         (previous_is : previous' ≡ set (set previous (slice_index next x) (slice_index previous x)) x x) where
       abbrev e : Entry
-      e = record { due = p.0; arming = p.1; item = x }
+      e = entry_at p x
 
       off : on_table x row ≡ false
       off = (waits_there places row x q q_is).0
@@ -239,7 +240,7 @@ module _ (places : List (Option (ℕ × ℕ))) (next previous : List ℕ) (start
           or_false true = refl
           or_false false = refl
 
-      still : (k : ℕ) (o : ℕ × ℕ) → waiting places row' k ≡ Some o → (k ≢ x) × (waiting places row k ≡ Some o)
+      still : (k : ℕ) (o : Place) → waiting places row' k ≡ Some o → (k ≢ x) × (waiting places row k ≡ Some o)
       still k o is = at_or (λ z. waiting places row' z ≡ Some o → (z ≢ x) × (waiting places row z ≡ Some o)) x k
           (λ w. absurd (let n = w_x in cc))
           (λ other w. (other, sym (w_other k other) ∙ w)) is
@@ -248,8 +249,8 @@ module _ (places : List (Option (ℕ × ℕ))) (next previous : List ℕ) (start
       moved = record {
         wheel = wheel_without size next previous next' previous' (waiting places row) (waiting places row') x q l.gathering.wheel item_here.0
             q_is w_x w_other next_is previous_is;
-        valid = subst (All (λ f. place_in places f.item ≡ Some (f.due, f.arming))) (sym row_is)
-            (All-push (λ f. place_in places f.item ≡ Some (f.due, f.arming)) row e l.gathering.valid at);
+        valid = subst (All (SaysPlace places)) (sym row_is)
+            (All-push (SaysPlace places) row e l.gathering.valid at);
         due = subst (All (λ f. f.due ≤ now)) (sym row_is) (All-push (λ f. f.due ≤ now) row e l.gathering.due due);
         single = λ k. let m = ap (times k) row_is ∙ times_push k row e in at_or (λ z. z ≡ k → times k row' ≤ 1) x k
             (λ s. let n = times_off x row off in let c : times x row ≡ times k row = ap (λ (z : ℕ). times z row) s in one k (k == x) m (omega arith))

@@ -3,12 +3,14 @@ use Rattle.std.proofs.Common.{◌≡◌, ℕ, zero, suc, ◌<◌, ◌≤◌, Boo
 use Rattle.std.specs.Prelude.{filter}
 use Rattle.wq_words.specs.DelayTable.{Entry, on_table, due_part, later_part}
 use Rattle.wq_words.proofs.DelayTable.{first_on, due_then_later}
+use Rattle.wq_delay.specs.declared.timetable.Place.{Place}
+use Rattle.wq_delay.specs.declared.timetable.DueItem.{DueItem}
 use Rattle.wq_delay.specs.Rows.{entry_of, entries_of, AreApart, IsFirstDue, stands, IsTimetable}
 use Rattle.wq_delay.proofs.Rows.{in_places, length-le-places}
 use Rattle.wq_delay.proofs.Spelled.{entries_rows}
 use Rattle.std.proofs.lemmas.List.Elements.{All-get_or}
 
-pub few_entries : (places : List (Option (ℕ × ℕ))) → AreApart places → length (entries_of places) ≤ length places
+pub few_entries : (places : List (Option Place)) → AreApart places → length (entries_of places) ≤ length places
 few_entries places apart = length-le-places places (entries_of places) (entries_rows places apart)
 
 -- where nothing before it passes a test, what passes comes first
@@ -25,24 +27,24 @@ first_kept {X} p (x ∷ xs) (suc i) d low none hit = by (p x) none (λ rest. fir
     by false is rest = rest is
 
 -- what is due first has a place
-pub first_low : (places : List (Option (ℕ × ℕ))) (t k : ℕ) → AreApart places → IsFirstDue t k (entries_of places) → k < length places
+pub first_low : (places : List (Option Place)) (t k : ℕ) → AreApart places → IsFirstDue t k (entries_of places) → k < length places
 first_low places t k apart first =
     in_places places (entries_of places) k (entries_rows places apart)
     (subst (λ (z : ℕ). on_table z (entries_of places) ≡ true) first.item_is (first_on (entries_of places) first.rest first.first first.is))
 
-module _ (places : List (Option (ℕ × ℕ))) (next previous : List ℕ) (row : List ((ℕ × ℕ) × ℕ)) (room front count tick : ℕ)
+module _ (places : List (Option Place)) (next previous : List ℕ) (row : List DueItem) (room front count tick : ℕ)
     (t : IsTimetable places next previous row room front count tick) where
-  pub first_served : (n : ℕ) (e : (ℕ × ℕ) × ℕ) → n < length row → filter (stands places) (take n row) ≡ [] → e ≡ get_or row n e → stands places e ≡ true
-      → IsFirstDue tick e.1 (entries_of places)
+  pub first_served : (n : ℕ) (e : DueItem) → n < length row → filter (stands places) (take n row) ≡ [] → e ≡ get_or row n e → stands places e ≡ true
+      → IsFirstDue tick e.item (entries_of places)
   first_served n e low passed is hit =
       let k = first_kept (stands places) row n e low passed (ap (stands places) (sym is) ∙ hit) in
       let due : entry_of e ∷ map entry_of k.0 ≡ due_part tick (entries_of places) =
-      ap (λ (z : (ℕ × ℕ) × ℕ). entry_of z ∷ map entry_of k.0) is ∙ (ap (map entry_of) (sym k.1) ∙ t.due_is) in
+      ap (λ (z : DueItem). entry_of z ∷ map entry_of k.0) is ∙ (ap (map entry_of) (sym k.1) ∙ t.due_is) in
       record {
         first = entry_of e;
         rest = map entry_of k.0 ++ later_part tick (entries_of places);
         is = due_then_later tick (entries_of places) (entries_rows places t.apart).ordered
             ∙ ap (λ (z : List Entry). z ++ later_part tick (entries_of places)) (sym due);
         item_is = refl;
-        due = let low = All-get_or (λ r. r.0.0 ≤ tick) row n e low t.early in let f = ap (λ (z : (ℕ × ℕ) × ℕ). z.0.0) is in omega arith;
+        due = let low = All-get_or (λ r. r.place.due ≤ tick) row n e low t.early in let f = ap (λ (z : DueItem). z.place.due) is in omega arith;
       }

@@ -6,14 +6,15 @@ use Rattle.std.proofs.lemmas.Bool.{eqb-true}
 use Rattle.std.proofs.lemmas.Bool.Decides.{nat_tests}
 use Rattle.wq_words.specs.DelayTable.{Entry, on_table, IsBefore, IsOrdered}
 use Rattle.wq_words.proofs.DelayTable.{first_false, second_false, all_by, all-more}
-use Rattle.wq_delay.specs.Rows.{place_of, place_in, AreRows, goes_before, slotted, with_place, entries_from, entries_of, AreApart}
+use Rattle.wq_delay.specs.declared.timetable.Place.{Place}
+use Rattle.wq_delay.specs.Rows.{place_of, place_in, AreRows, goes_before, slotted, with_place, entries_from, entries_of, AreApart, place_at, entry_at}
 use Rattle.wq_delay.proofs.Table.{place_some, put_by}
 
 pub not_some : {X : Type 0} (o : Option X) → is_some o ≡ false → o ≡ None
 not_some None is = refl
 not_some (Some x) is = absurd (cc)
 
-pub some_same : (x y : ℕ × ℕ) → Some x ≡ Some y → x ≡ y
+pub some_same : (x y : Place) → Some x ≡ Some y → x ≡ y
 some_same x y is = cc
 
 pub place_off : (k : ℕ) (es : List Entry) → on_table k es ≡ false → place_of k es ≡ None
@@ -22,21 +23,21 @@ place_off k es off = not_some (place_of k es) (place_some k es ∙ off)
 pub off_place : (k : ℕ) (es : List Entry) → place_of k es ≡ None → on_table k es ≡ false
 off_place k es none = sym (place_some k es) ∙ ap is_some none
 
-pub place_first : (e : Entry) (es : List Entry) → place_of e.item (e ∷ es) ≡ Some (e.due, e.arming)
+pub place_first : (e : Entry) (es : List Entry) → place_of e.item (e ∷ es) ≡ Some (place_at e.due e.arming)
 place_first e es = let is : (e.item == e.item) ≡ true = grind (arith, nat_tests) in rw is refl
 
 pub place_behind : (k : ℕ) (e : Entry) (es : List Entry) → (k == e.item) ≡ false → place_of k (e ∷ es) ≡ place_of k es
 place_behind k e es is = rw is refl
 
 -- an entry stands before the place of an item behind it
-pub before_place : (k : ℕ) (key : ℕ × ℕ) (e : Entry) (es : List Entry) → AllByRecursion (IsBefore e) es → place_of k es ≡ Some key
-    → IsBefore e (record { due = key.0; arming = key.1; item = k })
+pub before_place : (k : ℕ) (key : Place) (e : Entry) (es : List Entry) → AllByRecursion (IsBefore e) es → place_of k es ≡ Some key
+    → IsBefore e (entry_at key k)
 before_place k key e [] before is = absurd (cc)
 before_place k key e (f ∷ fs) before is = by (k == f.item) (before_place k key e fs before.1) is
   where
-    by : (b : Bool) → (place_of k fs ≡ Some key → IsBefore e (record { due = key.0; arming = key.1; item = k }))
-        → cond b (Some (f.due, f.arming)) (place_of k fs) ≡ Some key → IsBefore e (record { due = key.0; arming = key.1; item = k })
-    by true rest same = let p : f.due ≡ key.0 = cc in let q : f.arming ≡ key.1 = cc in
+    by : (b : Bool) → (place_of k fs ≡ Some key → IsBefore e (entry_at key k))
+        → cond b (Some (place_at f.due f.arming)) (place_of k fs) ≡ Some key → IsBefore e (entry_at key k)
+    by true rest same = let p : f.due ≡ key.due = cc in let q : f.arming ≡ key.arming = cc in
         (omega (arith, before.0.0), λ dues. let r = before.0.1 (omega arith) in omega arith)
     by false rest same = rest same
 
@@ -45,23 +46,23 @@ same_first : (e f : Entry) (es fs : List Entry) → AllByRecursion (IsBefore e) 
     → ((k : ℕ) → place_of k (e ∷ es) ≡ place_of k (f ∷ fs)) → e ≡ f
 same_first e f es fs p q same = by (e.item == f.item) refl
   where
-    there : place_of e.item (f ∷ fs) ≡ Some (e.due, e.arming)
+    there : place_of e.item (f ∷ fs) ≡ Some (place_at e.due e.arming)
     there = sym (same e.item) ∙ place_first e es
 
-    here : place_of f.item (e ∷ es) ≡ Some (f.due, f.arming)
+    here : place_of f.item (e ∷ es) ≡ Some (place_at f.due f.arming)
     here = same f.item ∙ place_first f fs
 
     by : (b : Bool) → (e.item == f.item) ≡ b → e ≡ f
     by true is =
         let k : e.item ≡ f.item = eqb-true e.item f.item is in
-        let at = some_same (f.due, f.arming) (e.due, e.arming)
+        let at = some_same (place_at f.due f.arming) (place_at e.due e.arming)
         (sym (place_first f fs) ∙ (ap (λ (z : ℕ). place_of z (f ∷ fs)) (sym k) ∙ there)) in
-        let d : e.due ≡ f.due = sym (ap (λ (z : ℕ × ℕ). z.0) at) in let a : e.arming ≡ f.arming = sym (ap (λ (z : ℕ × ℕ). z.1) at) in
+        let d : e.due ≡ f.due = sym (ap (λ (z : Place). z.due) at) in let a : e.arming ≡ f.arming = sym (ap (λ (z : Place). z.arming) at) in
         λ i. record { due = d i; arming = a i; item = k i }
     by false is =
         let other : (f.item == e.item) ≡ false = grind (arith, nat_tests) in
-        let first = before_place e.item (e.due, e.arming) f fs q (sym (place_behind e.item f fs is) ∙ there) in
-        let second = before_place f.item (f.due, f.arming) e es p (sym (place_behind f.item e es other) ∙ here) in
+        let first = before_place e.item (place_at e.due e.arming) f fs q (sym (place_behind e.item f fs is) ∙ there) in
+        let second = before_place f.item (place_at f.due f.arming) e es p (sym (place_behind f.item e es other) ∙ here) in
         let x = first.1 (omega (arith, first.0, second.0)) in let y = second.1 (omega (arith, first.0, second.0)) in absurd (omega arith)
 
 same_rest : (k : ℕ) (e f : Entry) (es fs : List Entry) → e ≡ f → on_table e.item es ≡ false → on_table f.item fs ≡ false
@@ -86,14 +87,14 @@ same_entries (e ∷ es) (f ∷ fs) p q same =
 
 -- what holds of each place holds of each entry
 pub all_by_places : (P : Entry → Type 0) (es : List Entry) → IsOrdered es
-    → ((k : ℕ) (p : ℕ × ℕ) → place_of k es ≡ Some p → P (record { due = p.0; arming = p.1; item = k })) → AllByRecursion P es
+    → ((k : ℕ) (p : Place) → place_of k es ≡ Some p → P (entry_at p k)) → AllByRecursion P es
 all_by_places P [] ordered each = tt
 all_by_places P (e ∷ es) ordered each = (
-  each e.item (e.due, e.arming) (place_first e es),
+  each e.item (place_at e.due e.arming) (place_first e es),
   all_by_places P es ordered.2 (λ k p is. each k p (place_behind k e es (apart k p is) ∙ is)),
 )
   where
-    apart : (k : ℕ) (p : ℕ × ℕ) → place_of k es ≡ Some p → (k == e.item) ≡ false
+    apart : (k : ℕ) (p : Place) → place_of k es ≡ Some p → (k == e.item) ≡ false
     apart k p is = by (k == e.item) refl
       where
         by : (b : Bool) → (k == e.item) ≡ b → (k == e.item) ≡ false
@@ -103,7 +104,7 @@ all_by_places P (e ∷ es) ordered each = (
 
 -- an entry that was put among them
 pub place_of-slotted : (j : ℕ) (e : Entry) (es : List Entry) → on_table e.item es ≡ false
-    → place_of j (slotted e es) ≡ cond (j == e.item) (Some (e.due, e.arming)) (place_of j es)
+    → place_of j (slotted e es) ≡ cond (j == e.item) (Some (place_at e.due e.arming)) (place_of j es)
 place_of-slotted j e [] off = refl
 place_of-slotted j e (f ∷ fs) off =
     put_by (goes_before e f) j e f fs (slotted e fs) (first_false _ _ off) (place_of-slotted j e fs (second_false _ _ off))
@@ -128,7 +129,7 @@ ordered_slotted e (f ∷ fs) ordered off apart = by (goes_before e f) refl (orde
         let other : (f.item == e.item) ≡ false = let o : (e.item == f.item) ≡ false = first_false (e.item == f.item)
         (on_table e.item fs) off in grind (arith, nat_tests) in
         off_place f.item (slotted e fs) (place_of-slotted f.item e fs (second_false (e.item == f.item) (on_table e.item fs) off)
-        ∙ (ap (λ (z : Bool). cond z (Some (e.due, e.arming)) (place_of f.item fs)) other ∙ place_off f.item fs ordered.1))
+        ∙ (ap (λ (z : Bool). cond z (Some (place_at e.due e.arming)) (place_of f.item fs)) other ∙ place_off f.item fs ordered.1))
 
     by : (b : Bool) → goes_before e f ≡ b → IsOrdered (slotted e fs) → IsOrdered (cond b (e ∷ f ∷ fs) (f ∷ slotted e fs))
     by true is rest =
@@ -146,12 +147,12 @@ ordered_slotted e (f ∷ fs) ordered off apart = by (goes_before e f) refl (orde
     by false is rest = (all_slotted (IsBefore f) e fs (after is) ordered.0, away, rest)
 
 -- the entries of a list of places
-pub record Spells (i : ℕ) (os : List (Option (ℕ × ℕ))) (es : List Entry) : Type 0 where
+pub record Spells (i : ℕ) (os : List (Option Place)) (es : List Entry) : Type 0 where
   pub ordered : IsOrdered es
   pub from : (j k : ℕ) → j ≡ i + k → place_of j es ≡ place_in os k
   pub below : (j : ℕ) → j < i → place_of j es ≡ None
 
-spells_more : (i : ℕ) (o : Option (ℕ × ℕ)) (os : List (Option (ℕ × ℕ))) (es : List Entry) → AreApart (o ∷ os) → Spells (i + 1) os es
+spells_more : (i : ℕ) (o : Option Place) (os : List (Option Place)) (es : List Entry) → AreApart (o ∷ os) → Spells (i + 1) os es
     → Spells i (o ∷ os) (with_place i o es)
 spells_more i None os es apart s = record {
   ordered = s.ordered;
@@ -163,18 +164,18 @@ spells_more i None os es apart s = record {
     at j zero is = s.below j (omega arith)
     at j (suc k) is = s.from j k (omega arith)
 spells_more i (Some p) os es apart s = record {
-  ordered = ordered_slotted e es s.ordered off (all_by_places (λ f. p.1 ≢ f.arming) es s.ordered other);
+  ordered = ordered_slotted e es s.ordered off (all_by_places (λ f. p.arming ≢ f.arming) es s.ordered other);
   from = λ j k is. place_of-slotted j e es off ∙ at j k is;
   below = λ j low. place_of-slotted j e es off ∙ (let ne : (j == i) ≡ false = grind (arith, nat_tests) in rw ne (s.below j (omega arith)));
 }
   where
     e : Entry
-    e = record { due = p.0; arming = p.1; item = i }
+    e = entry_at p i
 
     off : on_table i es ≡ false
     off = off_place i es (s.below i (omega arith))
 
-    other : (k : ℕ) (q : ℕ × ℕ) → place_of k es ≡ Some q → p.1 ≢ q.1
+    other : (k : ℕ) (q : Place) → place_of k es ≡ Some q → p.arming ≢ q.arming
     other k q is same = by (nat_lt i k) refl
       where
         by : (b : Bool) → nat_lt i k ≡ b → ⊥
@@ -188,19 +189,19 @@ spells_more i (Some p) os es apart s = record {
     at j zero is = let e : (j == i) ≡ true = grind (arith, nat_tests) in rw e refl
     at j (suc k) is = let e : (j == i) ≡ false = grind (arith, nat_tests) in rw e (s.from j k (omega arith))
 
-spells : (i : ℕ) (os : List (Option (ℕ × ℕ))) → AreApart os → Spells i os (entries_from i os)
+spells : (i : ℕ) (os : List (Option Place)) → AreApart os → Spells i os (entries_from i os)
 spells i [] apart = record { ordered = tt; from = λ j k is. refl; below = λ j low. refl }
 spells i (o ∷ os) apart =
     spells_more i o os (entries_from (i + 1) os) apart
     (spells (i + 1) os (λ j k p q a b e. let s = apart (suc j) (suc k) p q a b e in omega arith))
 
-pub entries_rows : (places : List (Option (ℕ × ℕ))) → AreApart places → AreRows places (entries_of places)
+pub entries_rows : (places : List (Option Place)) → AreApart places → AreRows places (entries_of places)
 entries_rows places apart = let s = spells 0 places apart in record {
   ordered = s.ordered;
   known = λ k. sym (s.from k k (omega arith));
 }
 
-pub entries_is : (places : List (Option (ℕ × ℕ))) (es : List Entry) → AreApart places → AreRows places es → entries_of places ≡ es
+pub entries_is : (places : List (Option Place)) (es : List Entry) → AreApart places → AreRows places es → entries_of places ≡ es
 entries_is places es apart rows =
     let own = entries_rows places apart in
     same_entries (entries_of places) es own.ordered rows.ordered (λ k. sym (own.known k) ∙ rows.known k)

@@ -8,7 +8,9 @@ use Rattle.std.proofs.lemmas.Bool.{eqb-true}
 use Rattle.std.proofs.lemmas.Bool.Decides.{nat_tests}
 use Rattle.wq_words.specs.DelayTable.{Entry, on_table, due_part, placed, without, IsOrdered, AreArmedBefore}
 use Rattle.wq_words.proofs.DelayTable.{length_placed, without_off}
-use Rattle.wq_delay.specs.Rows.{entry_of, place_in, AreRows, entries_of, AreApart, IsWheel, later_than, is_place, stands, IsTimetable}
+use Rattle.wq_delay.specs.declared.timetable.Place.{Place}
+use Rattle.wq_delay.specs.declared.timetable.DueItem.{DueItem}
+use Rattle.wq_delay.specs.Rows.{entry_of, place_in, AreRows, entries_of, AreApart, IsWheel, later_than, is_place, stands, IsTimetable, place_at, entry_at}
 use Rattle.wq_delay.proofs.Rounds.{at_or}
 use Rattle.wq_delay.proofs.Wheel.{wheel_behind, wheel_without}
 use Rattle.wq_delay.proofs.Rows.{below_place, rows_placed, rows_without, known_on}
@@ -21,21 +23,21 @@ filter_alike {X} p q (x ∷ xs) all =
     ap (λ (z : Bool). cond z (x ∷ filter p xs) (filter p xs)) (All-head (λ y. p y ≡ q y) x xs all)
     ∙ ap (λ (z : List X). cond (q x) (x ∷ z) z) (filter_alike p q xs (All-tail (λ y. p y ≡ q y) x xs all))
 
-pub later_same : (t : ℕ) (o : Option (ℕ × ℕ)) (p : ℕ × ℕ) → later_than t o ≡ Some p → (o ≡ Some p) × (t < p.0)
+pub later_same : (t : ℕ) (o : Option Place) (p : Place) → later_than t o ≡ Some p → (o ≡ Some p) × (t < p.due)
 later_same t None p is = absurd (cc)
-later_same t (Some q) p is = by (nat_le q.0 t) refl is
+later_same t (Some q) p is = by (nat_le q.due t) refl is
   where
-    by : (b : Bool) → nat_le q.0 t ≡ b → cond b None (Some q) ≡ Some p → (Some q ≡ Some p) × (t < p.0)
+    by : (b : Bool) → nat_le q.due t ≡ b → cond b None (Some q) ≡ Some p → (Some q ≡ Some p) × (t < p.due)
     by true early same = absurd (cc)
     by false late same =
-        let e : q ≡ p = some_same q p same in let d = ap (λ (z : ℕ × ℕ). z.0) e in let high : t < q.0 = grind (arith, nat_tests) in
+        let e : q ≡ p = some_same q p same in let d = ap (λ (z : Place). z.due) e in let high : t < q.due = grind (arith, nat_tests) in
         (same, omega arith)
 
-pub later_some : (t : ℕ) (p : ℕ × ℕ) → t < p.0 → later_than t (Some p) ≡ Some p
-later_some t p late = let is : nat_le p.0 t ≡ false = grind (arith, nat_tests) in rw is refl
+pub later_some : (t : ℕ) (p : Place) → t < p.due → later_than t (Some p) ≡ Some p
+later_some t p late = let is : nat_le p.due t ≡ false = grind (arith, nat_tests) in rw is refl
 
-pub later_none : (t : ℕ) (p : ℕ × ℕ) → p.0 ≤ t → later_than t (Some p) ≡ None
-later_none t p early = let is : nat_le p.0 t ≡ true = grind (arith, nat_tests) in rw is refl
+pub later_none : (t : ℕ) (p : Place) → p.due ≤ t → later_than t (Some p) ≡ None
+later_none t p early = let is : nat_le p.due t ≡ true = grind (arith, nat_tests) in rw is refl
 
 due_placed : (t : ℕ) (e : Entry) (es : List Entry) → t < e.due → due_part t (placed e es) ≡ due_part t es
 due_placed t e [] late = let is : nat_le e.due t ≡ false = grind (arith, nat_tests) in rw is refl
@@ -67,7 +69,7 @@ due_without t k (f ∷ fs) = by (nat_le f.due t) (k == f.item) refl refl (due_wi
     by false true p q is = is
     by false false p q is = rw p is
 
-module _ (places : List (Option (ℕ × ℕ))) (next previous : List ℕ) (row : List ((ℕ × ℕ) × ℕ)) (room front count tick : ℕ)
+module _ (places : List (Option Place)) (next previous : List ℕ) (row : List DueItem) (room front count tick : ℕ)
     (t : IsTimetable places next previous row room front count tick) (k : ℕ) (low : k < length places) where
   abbrev es : List Entry
   es = entries_of places
@@ -75,23 +77,23 @@ module _ (places : List (Option (ℕ × ℕ))) (next previous : List ℕ) (row :
   rows : AreRows places es
   rows = entries_rows places t.apart
 
-  at_k : (v : Option (ℕ × ℕ)) → place_in (set places k v) k ≡ v
+  at_k : (v : Option Place) → place_in (set places k v) k ≡ v
   at_k v = get_or-set_same places k v None low
 
-  at_other : (v : Option (ℕ × ℕ)) (j : ℕ) → j ≢ k → place_in (set places k v) j ≡ place_in places j
+  at_other : (v : Option Place) (j : ℕ) → j ≢ k → place_in (set places k v) j ≡ place_in places j
   at_other v j ne = get_or-set_other places k j v None ne
 
   module _ (due arming : ℕ) (off : on_table k es ≡ false) (later : tick < due) (last : AreArmedBefore arming es) where
-    abbrev v : Option (ℕ × ℕ)
-    v = Some (due, arming)
+    abbrev v : Option Place
+    v = Some (place_at due arming)
 
     abbrev e : Entry
-    e = record { due = due; arming = arming; item = k }
+    e = entry_at (place_at due arming) k
 
     none : place_in places k ≡ None
     none = rows.known k ∙ place_off k es off
 
-    below : (j : ℕ) (p : ℕ × ℕ) → place_in places j ≡ Some p → p.1 < arming
+    below : (j : ℕ) (p : Place) → place_in places j ≡ Some p → p.arming < arming
     below j p is = below_place arming j p es last (sym (rows.known j) ∙ is)
 
     put_apart : AreApart (set places k v)
@@ -99,24 +101,24 @@ module _ (places : List (Option (ℕ × ℕ))) (next previous : List ℕ) (row :
         at_or (λ z. place_in (set places k v) z ≡ Some p → z ≡ j) k i
         (λ a. at_or (λ z. place_in (set places k v) z ≡ Some q → k ≡ z) k j (λ _. refl)
         (λ nj b. let x = below j q (sym (at_other v j nj) ∙ b) in
-        let y = ap (λ (z : ℕ × ℕ). z.1) (some_same (due, arming) p (sym (at_k v) ∙ a)) in absurd (omega arith)) b)
+        let y = ap (λ (z : Place). z.arming) (some_same (place_at due arming) p (sym (at_k v) ∙ a)) in absurd (omega arith)) b)
         (λ ni a. at_or (λ z. place_in (set places k v) z ≡ Some q → i ≡ z) k j
         (λ b. let x = below i p (sym (at_other v i ni) ∙ a) in
-        let y = ap (λ (z : ℕ × ℕ). z.1) (some_same (due, arming) q (sym (at_k v) ∙ b)) in absurd (omega arith))
+        let y = ap (λ (z : Place). z.arming) (some_same (place_at due arming) q (sym (at_k v) ∙ b)) in absurd (omega arith))
         (λ nj b. t.apart i j p q (sym (at_other v i ni) ∙ a) (sym (at_other v j nj) ∙ b) same) b) a
 
     pub put_entries : entries_of (set places k v) ≡ placed e es
     put_entries = entries_is (set places k v) (placed e es) put_apart (rows_placed places es (placed e es) k due arming rows low off last refl)
 
-    put_stands : (r : (ℕ × ℕ) × ℕ) → r.0.0 ≤ tick → stands (set places k v) r ≡ stands places r
+    put_stands : (r : DueItem) → r.place.due ≤ tick → stands (set places k v) r ≡ stands places r
     put_stands r early =
-        at_or (λ z. is_place r.0 (place_in (set places k v) z) ≡ is_place r.0 (place_in places z)) k r.1
-        (ap (is_place r.0) (at_k v) ∙ ((let ne : (due == r.0.0) ≡ false = grind (arith, nat_tests) in rw ne refl) ∙ sym (ap (is_place r.0) none)))
-        (λ ne. ap (is_place r.0) (at_other v r.1 ne))
+        at_or (λ z. is_place r.place (place_in (set places k v) z) ≡ is_place r.place (place_in places z)) k r.item
+        (ap (is_place r.place) (at_k v) ∙ ((let ne : (due == r.place.due) ≡ false = grind (arith, nat_tests) in rw ne refl) ∙ sym (ap (is_place r.place) none)))
+        (λ ne. ap (is_place r.place) (at_other v r.item ne))
 
-    put_filter : (xs : List ((ℕ × ℕ) × ℕ)) → All (λ r. r.0.0 ≤ tick) xs → filter (stands (set places k v)) xs ≡ filter (stands places) xs
+    put_filter : (xs : List DueItem) → All (λ r. r.place.due ≤ tick) xs → filter (stands (set places k v)) xs ≡ filter (stands places) xs
     put_filter xs early = filter_alike (stands (set places k v)) (stands places) xs
-        (All-weaker (λ r. r.0.0 ≤ tick) (λ r. stands (set places k v) r ≡ stands places r) put_stands xs early)
+        (All-weaker (λ r. r.place.due ≤ tick) (λ r. stands (set places k v) r ≡ stands places r) put_stands xs early)
 
     pub put_timetable : (next' previous' : List ℕ) (n : ℕ) → n ≡ count + 1
         → next' ≡ set (set next (slice_index previous (length places + due % 256)) k) k (length places + due % 256)
@@ -130,17 +132,17 @@ module _ (places : List (Option (ℕ × ℕ))) (next previous : List ℕ) (row :
               (wheel_behind (length places) next previous next' previous' (λ j. later_than tick (place_in places j))
               (λ j. later_than tick (place_in (set places k v) j)) k due arming t.wheel low (ap (later_than tick) none)
               (λ j p is. below j p (later_same tick (place_in places j) p is).0)
-              (ap (later_than tick) (at_k v) ∙ later_some tick (due, arming) later)
+              (ap (later_than tick) (at_k v) ∙ later_some tick (place_at due arming) later)
               (λ j ne. ap (later_than tick) (at_other v j ne)) next_is previous_is);
           due_is = ap (map entry_of) (put_filter row t.early) ∙ (t.due_is ∙ sym (ap (due_part tick) put_entries ∙ due_placed tick e es later));
           early = t.early;
-          passed = put_filter (take front row) (All-take (λ r. r.0.0 ≤ tick) front row t.early) ∙ t.passed;
+          passed = put_filter (take front row) (All-take (λ r. r.place.due ≤ tick) front row t.early) ∙ t.passed;
           enough = let f = t.enough in omega arith;
           count_is = let f = t.count_is in let g = ap (length {A = Entry}) put_entries in let h = length_placed e es in omega arith;
         }
 
-  module _ (q : ℕ × ℕ) (some : place_in places k ≡ Some q) where
-    gone : (j : ℕ) (p : ℕ × ℕ) → place_in (set places k None) j ≡ Some p → place_in places j ≡ Some p
+  module _ (q : Place) (some : place_in places k ≡ Some q) where
+    gone : (j : ℕ) (p : Place) → place_in (set places k None) j ≡ Some p → place_in places j ≡ Some p
     gone j p is = at_or (λ z. place_in (set places k None) z ≡ Some p → place_in places z ≡ Some p) k j
         (λ a. let e = sym (at_k None) ∙ a in absurd (cc))
         (λ ne a. sym (at_other None j ne) ∙ a) is
@@ -151,16 +153,16 @@ module _ (places : List (Option (ℕ × ℕ))) (next previous : List ℕ) (row :
     pub take_entries : entries_of (set places k None) ≡ without k es
     take_entries = entries_is (set places k None) (without k es) take_apart (rows_without places es (without k es) k rows low refl)
 
-    take_filter : (xs : List ((ℕ × ℕ) × ℕ)) → map entry_of (filter (stands (set places k None)) xs) ≡ without k (map entry_of (filter (stands places) xs))
+    take_filter : (xs : List DueItem) → map entry_of (filter (stands (set places k None)) xs) ≡ without k (map entry_of (filter (stands places) xs))
     take_filter [] = refl
-    take_filter (r ∷ rs) = by (k == r.1) refl (take_filter rs)
+    take_filter (r ∷ rs) = by (k == r.item) refl (take_filter rs)
       where
-        by : (b : Bool) → (k == r.1) ≡ b
+        by : (b : Bool) → (k == r.item) ≡ b
             → map entry_of (filter (stands (set places k None)) rs) ≡ without k (map entry_of (filter (stands places) rs))
             → map entry_of (filter (stands (set places k None)) (r ∷ rs)) ≡ without k (map entry_of (filter (stands places) (r ∷ rs)))
         by true is rest =
             let here : stands (set places k None) r ≡ false =
-            ap (λ (z : ℕ). is_place r.0 (place_in (set places k None) z)) (sym (eqb-true k r.1 is)) ∙ ap (is_place r.0) (at_k None) in
+            ap (λ (z : ℕ). is_place r.place (place_in (set places k None) z)) (sym (eqb-true k r.item is)) ∙ ap (is_place r.place) (at_k None) in
             rw here (rest ∙ was (stands places r))
           where
             was : (c : Bool) → without k (map entry_of (filter (stands places) rs))
@@ -168,8 +170,8 @@ module _ (places : List (Option (ℕ × ℕ))) (next previous : List ℕ) (row :
             was true = rw is refl
             was false = refl
         by false is rest =
-            let ne : r.1 ≢ k = grind (arith, nat_tests) in
-            let here : stands (set places k None) r ≡ stands places r = ap (is_place r.0) (at_other None r.1 ne) in
+            let ne : r.item ≢ k = grind (arith, nat_tests) in
+            let here : stands (set places k None) r ≡ stands places r = ap (is_place r.place) (at_other None r.item ne) in
             rw here (was (stands places r))
           where
             was : (c : Bool) → map entry_of (cond c (r ∷ filter (stands (set places k None)) rs) (filter (stands (set places k None)) rs))
@@ -179,9 +181,9 @@ module _ (places : List (Option (ℕ × ℕ))) (next previous : List ℕ) (row :
 
     take_passed : filter (stands (set places k None)) (take front row) ≡ []
     take_passed = empty (filter (stands (set places k None)) (take front row))
-        (take_filter (take front row) ∙ ap (λ (z : List ((ℕ × ℕ) × ℕ)). without k (map entry_of z)) t.passed)
+        (take_filter (take front row) ∙ ap (λ (z : List DueItem). without k (map entry_of z)) t.passed)
       where
-        empty : (xs : List ((ℕ × ℕ) × ℕ)) → map entry_of xs ≡ [] → xs ≡ []
+        empty : (xs : List DueItem) → map entry_of xs ≡ [] → xs ≡ []
         empty [] is = refl
         empty (x ∷ xs) is = absurd (cc)
 
@@ -207,7 +209,7 @@ module _ (places : List (Option (ℕ × ℕ))) (next previous : List ℕ) (row :
         }
 
     -- what waited is taken out of its ring, and what was due stands in none
-    pub take_waiting : (next' previous' : List ℕ) → tick < q.0
+    pub take_waiting : (next' previous' : List ℕ) → tick < q.due
         → next' ≡ set (set next (slice_index previous k) (slice_index next k)) k k
         → previous' ≡ set (set previous (slice_index next k) (slice_index previous k)) k k
         → IsWheel (length places) next' previous' (λ j. later_than tick (place_in (set places k None) j))
@@ -216,10 +218,10 @@ module _ (places : List (Option (ℕ × ℕ))) (next previous : List ℕ) (row :
         (λ j. later_than tick (place_in (set places k None) j)) k q t.wheel low (ap (later_than tick) some ∙ later_some tick q late)
         (ap (later_than tick) (at_k None)) (λ j ne. ap (later_than tick) (at_other None j ne)) next_is previous_is
 
-    pub take_due : q.0 ≤ tick → IsWheel (length places) next previous (λ j. later_than tick (place_in (set places k None) j))
+    pub take_due : q.due ≤ tick → IsWheel (length places) next previous (λ j. later_than tick (place_in (set places k None) j))
     take_due early =
         let same : (j : ℕ) → later_than tick (place_in places j) ≡ later_than tick (place_in (set places k None) j) =
         λ j. at_or (λ z. later_than tick (place_in places z) ≡ later_than tick (place_in (set places k None) z)) k j
         (ap (later_than tick) some ∙ (later_none tick q early ∙ sym (ap (later_than tick) (at_k None))))
         (λ ne. sym (ap (later_than tick) (at_other None j ne))) in
-        subst (λ (z : ℕ → Option (ℕ × ℕ)). IsWheel (length places) next previous z) (λ i j. same j i) t.wheel
+        subst (λ (z : ℕ → Option Place). IsWheel (length places) next previous z) (λ i j. same j i) t.wheel

@@ -4,6 +4,7 @@ use Rattle.std.specs.List.{range_with_len}
 use Rattle.std.proofs.lemmas.List.Elements.{All-nil}
 use Rattle.std.proofs.lemmas.List.FromFn.{length-range_with_len, get_or-range_with_len}
 use Rattle.wq_words.specs.DelayTable.{Entry, due_part}
+use Rattle.wq_delay.specs.declared.timetable.Place.{Place}
 use Rattle.wq_delay.specs.Rows.{place_in, AreApart, AreRows, entries_of, IsTimetable, head_by, later_than}
 use Rattle.wq_delay.proofs.Rounds.{rings_alone}
 use Rattle.wq_delay.proofs.Spelled.{entries_is}
@@ -13,9 +14,9 @@ nothing_at zero k = refl
 nothing_at (suc n) zero = refl
 nothing_at (suc n) (suc k) = nothing_at n k
 
-module _ (places : List (Option (ℕ × ℕ))) (n : ℕ) (places_are : places ≡ replicate n None) (size : length places ≡ n) where
+module _ (places : List (Option Place)) (n : ℕ) (places_are : places ≡ replicate n None) (size : length places ≡ n) where
   none : (k : ℕ) → place_in places k ≡ None
-  none k = ap (λ (z : List (Option (ℕ × ℕ))). place_in z k) places_are ∙ nothing_at n k
+  none k = ap (λ (z : List (Option Place)). place_in z k) places_are ∙ nothing_at n k
 
   apart : AreApart places
   apart j k p q a b same = let e = none j in absurd (cc)
@@ -38,10 +39,10 @@ module _ (places : List (Option (ℕ × ℕ))) (n : ℕ) (places_are : places �
       rings = rings_alone _ _ _ _ (length places + 256)
           (λ x low. ap (λ (z : List ℕ). get_or z x 0) next_is ∙ (get_or-range_with_len 0 m x 0 (omega arith) ∙ (omega arith)))
           (λ x low. ap (λ (z : List ℕ). get_or z x 0) previous_is ∙ (get_or-range_with_len 0 m x 0 (omega arith) ∙ (omega arith)))
-          (λ x. ap (λ (z : Option (ℕ × ℕ)). head_by (length places) x (later_than tick z)) (none x));
+          (λ x. ap (λ (z : Option Place). head_by (length places) x (later_than tick z)) (none x));
     };
     due_is = sym (ap (due_part tick) no_entries);
-    early = All-nil (λ e. e.0.0 ≤ tick);
+    early = All-nil (λ e. e.place.due ≤ tick);
     passed = refl;
     enough = omega arith;
     count_is = sym (ap (length {A = Entry}) no_entries);

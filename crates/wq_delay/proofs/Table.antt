@@ -4,14 +4,15 @@ use Rattle.std.specs.Prelude.{nat_lt}
 use Rattle.std.proofs.lemmas.Bool.Decides.{nat_tests}
 use Rattle.wq_words.specs.DelayTable.{Entry, on_table, placed, without}
 use Rattle.wq_words.proofs.DelayTable.{first_false, second_false}
-use Rattle.wq_delay.specs.Rows.{place_of}
+use Rattle.wq_delay.specs.declared.timetable.Place.{Place}
+use Rattle.wq_delay.specs.Rows.{place_of, place_at}
 
 -- where each item stands
 pub place_some : (k : ℕ) (es : List Entry) → is_some (place_of k es) ≡ on_table k es
 place_some k [] = refl
 place_some k (f ∷ fs) = by (k == f.item) (place_some k fs)
   where
-    by : (b : Bool) → is_some (place_of k fs) ≡ on_table k fs → is_some (cond b (Some (f.due, f.arming)) (place_of k fs)) ≡ (b || on_table k fs)
+    by : (b : Bool) → is_some (place_of k fs) ≡ on_table k fs → is_some (cond b (Some (place_at f.due f.arming)) (place_of k fs)) ≡ (b || on_table k fs)
     by true is = refl
     by false is = is
 
@@ -23,15 +24,15 @@ placed_at j a b t false q x y z u v w = refl
 
 -- an entry that was put before or behind the first
 pub put_by : (b : Bool) (j : ℕ) (e f : Entry) (fs gs : List Entry) → (e.item == f.item) ≡ false
-    → place_of j gs ≡ cond (j == e.item) (Some (e.due, e.arming)) (place_of j fs)
-    → place_of j (cond b (e ∷ f ∷ fs) (f ∷ gs)) ≡ cond (j == e.item) (Some (e.due, e.arming)) (place_of j (f ∷ fs))
+    → place_of j gs ≡ cond (j == e.item) (Some (place_at e.due e.arming)) (place_of j fs)
+    → place_of j (cond b (e ∷ f ∷ fs) (f ∷ gs)) ≡ cond (j == e.item) (Some (place_at e.due e.arming)) (place_of j (f ∷ fs))
 put_by true j e f fs gs apart is = refl
 put_by false j e f fs gs apart is =
-    ap (λ (z : Option (ℕ × ℕ)). cond (j == f.item) (Some (f.due, f.arming)) z) is
-    ∙ placed_at j e.item f.item true (j == e.item) (j == f.item) (Some (e.due, e.arming)) (Some (f.due, f.arming)) (place_of j fs) refl refl apart
+    ap (λ (z : Option Place). cond (j == f.item) (Some (place_at f.due f.arming)) z) is
+    ∙ placed_at j e.item f.item true (j == e.item) (j == f.item) (Some (place_at e.due e.arming)) (Some (place_at f.due f.arming)) (place_of j fs) refl refl apart
 
 pub place_of-placed : (j : ℕ) (e : Entry) (es : List Entry) → on_table e.item es ≡ false
-    → place_of j (placed e es) ≡ cond (j == e.item) (Some (e.due, e.arming)) (place_of j es)
+    → place_of j (placed e es) ≡ cond (j == e.item) (Some (place_at e.due e.arming)) (place_of j es)
 place_of-placed j e [] off = refl
 place_of-placed j e (f ∷ fs) off =
     put_by (nat_lt e.due f.due) j e f fs (placed e fs) (first_false _ _ off) (place_of-placed j e fs (second_false _ _ off))
@@ -45,9 +46,9 @@ gone_at j k i false true true x y n a b c = absurd (grind (arith, nat_tests))
 gone_at j k i false true false x y n a b c = refl
 gone_at j k i false false r x y n a b c = refl
 
-place_by : (j : ℕ) (b : Bool) (f : Entry) (fs : List Entry) (r : Option (ℕ × ℕ)) → place_of j fs ≡ r
-    → place_of j (cond b (f ∷ fs) fs) ≡ cond b (cond (j == f.item) (Some (f.due, f.arming)) r) r
-place_by j true f fs r is = ap (λ (z : Option (ℕ × ℕ)). cond (j == f.item) (Some (f.due, f.arming)) z) is
+place_by : (j : ℕ) (b : Bool) (f : Entry) (fs : List Entry) (r : Option Place) → place_of j fs ≡ r
+    → place_of j (cond b (f ∷ fs) fs) ≡ cond b (cond (j == f.item) (Some (place_at f.due f.arming)) r) r
+place_by j true f fs r is = ap (λ (z : Option Place). cond (j == f.item) (Some (place_at f.due f.arming)) z) is
 place_by j false f fs r is = is
 
 pub place_of-without : (j k : ℕ) (es : List Entry) → place_of j (without k es) ≡ cond (j == k) None (place_of j es)
@@ -58,4 +59,4 @@ place_of-without j k [] = none (j == k)
     none false = refl
 place_of-without j k (f ∷ fs) =
     place_by j (not (k == f.item)) f (without k fs) _ (place_of-without j k fs)
-    ∙ gone_at j k f.item (j == k) (k == f.item) (j == f.item) (Some (f.due, f.arming)) (place_of j fs) None refl refl refl
+    ∙ gone_at j k f.item (j == k) (k == f.item) (j == f.item) (Some (place_at f.due f.arming)) (place_of j fs) None refl refl refl

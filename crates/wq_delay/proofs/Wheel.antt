@@ -2,7 +2,8 @@
 use Rattle.std.proofs.Common.{◌≡◌, ◌≢◌, ℕ, ◌+◌, ◌%◌, ◌<◌, ◌≤◌, Option, Some, None, List, length, set, get_or, refl, sym, ap, ◌∙◌, arith, mod-lt, get_or-set_same, get_or-set_other}
 use Rattle.std.proofs.lemmas.List.{length-set}
 use Rattle.std.specs.Prelude.{slice_index}
-use Rattle.wq_delay.specs.Rows.{head_by, number_by, IsWheel}
+use Rattle.wq_delay.specs.declared.timetable.Place.{Place}
+use Rattle.wq_delay.specs.Rows.{head_by, number_by, IsWheel, place_at}
 use Rattle.wq_delay.proofs.Rounds.{last_other, next_other, previous_other, rings_behind, rings_without}
 
 -- two writes into a row
@@ -22,20 +23,20 @@ pub slot_low : (size due : ℕ) → (size ≤ size + due % 256) × (size + due %
 slot_low size due = let e = mod-lt due {m = 256} (omega arith) in (omega arith, omega arith)
 
 -- an item's ring is that of its slot, or it is alone
-head_item : (size x k : ℕ) (o : Option (ℕ × ℕ)) → k < size → head_by size x o ≡ k → x ≡ k
+head_item : (size x k : ℕ) (o : Option Place) → k < size → head_by size x o ≡ k → x ≡ k
 head_item size x k None low is = is
-head_item size x k (Some p) low is = let e = slot_low size p.0 in absurd (omega arith)
+head_item size x k (Some p) low is = let e = slot_low size p.due in absurd (omega arith)
 
-slot_not : (size k : ℕ) (p : ℕ × ℕ) → k < size → size + p.0 % 256 ≢ k
-slot_not size k p low is = let e = slot_low size p.0 in omega arith
+slot_not : (size k : ℕ) (p : Place) → k < size → size + p.due % 256 ≢ k
+slot_not size k p low is = let e = slot_low size p.due in omega arith
 
-number_low : (n : ℕ) (o : Option (ℕ × ℕ)) → ((p : ℕ × ℕ) → o ≡ Some p → p.1 < n) → number_by o < n + 1
+number_low : (n : ℕ) (o : Option Place) → ((p : Place) → o ≡ Some p → p.arming < n) → number_by o < n + 1
 number_low n None below = omega arith
 number_low n (Some p) below = let e = below p refl in omega arith
 
-pub wheel_behind : (size : ℕ) (next previous next' previous' : List ℕ) (w w' : ℕ → Option (ℕ × ℕ)) (k due arming : ℕ)
-    → IsWheel size next previous w → k < size → w k ≡ None → ((j : ℕ) (p : ℕ × ℕ) → w j ≡ Some p → p.1 < arming)
-    → w' k ≡ Some (due, arming) → ((j : ℕ) → j ≢ k → w' j ≡ w j)
+pub wheel_behind : (size : ℕ) (next previous next' previous' : List ℕ) (w w' : ℕ → Option Place) (k due arming : ℕ)
+    → IsWheel size next previous w → k < size → w k ≡ None → ((j : ℕ) (p : Place) → w j ≡ Some p → p.arming < arming)
+    → w' k ≡ Some (place_at due arming) → ((j : ℕ) → j ≢ k → w' j ≡ w j)
     → next' ≡ set (set next (slice_index previous (size + due % 256)) k) k (size + due % 256)
     → previous' ≡ set (set previous (size + due % 256) k) k (slice_index previous (size + due % 256))
     → IsWheel size next' previous' w'
@@ -68,7 +69,7 @@ wheel_behind size next previous next' previous' w w' k due arming wheel low none
           (λ x x_low is. let e = ap number_by at in let f = number_low arming (w x) (armed x) in omega arith);
     }
 
-pub wheel_without : (size : ℕ) (next previous next' previous' : List ℕ) (w w' : ℕ → Option (ℕ × ℕ)) (k : ℕ) (q : ℕ × ℕ)
+pub wheel_without : (size : ℕ) (next previous next' previous' : List ℕ) (w w' : ℕ → Option Place) (k : ℕ) (q : Place)
     → IsWheel size next previous w → k < size → w k ≡ Some q
     → w' k ≡ None → ((j : ℕ) → j ≢ k → w' j ≡ w j)
     → next' ≡ set (set next (slice_index previous k) (slice_index next k)) k k

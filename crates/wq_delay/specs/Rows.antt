@@ -2,6 +2,8 @@
 use Rattle.std.specs.Prelude.{◌≡◌, ℕ, ◌+◌, ◌-◌, ◌≤◌, ◌<◌, ◌%◌, ◌==◌, Bool, false, ◌||◌, ◌&&◌, nat_lt, nat_le, Option, Some, None, if◌then◌else◌, List, [], ◌∷◌, map, filter, length, take, slice_index, slice_index_or}
 use Rattle.std.specs.List.{All}
 use Rattle.wq_words.specs.DelayTable.{Entry, on_table, due_part, IsOrdered}
+use Rattle.wq_delay.specs.declared.timetable.Place.{Place}
+use Rattle.wq_delay.specs.declared.timetable.DueItem.{DueItem}
 use Rattle.wq_delay.specs.Rings.{AreRings}
 
 -- how many items there may be, what stands on the table, and the present tick
@@ -10,20 +12,31 @@ pub record Rows : Type 0 where
   pub entries : List Entry
   pub tick : ℕ
 
-abbrev pub entry_of : (ℕ × ℕ) × ℕ → Entry
-entry_of row = record { due = row.0.0; arming = row.0.1; item = row.1 }
+abbrev pub place_at : ℕ → ℕ → Place
+place_at due arming = record { due = due; arming = arming }
+
+-- the item k at this place
+abbrev pub entry_at : Place → ℕ → Entry
+entry_at p k = record { due = p.due; arming = p.arming; item = k }
+
+abbrev pub entry_of : DueItem → Entry
+entry_of row = entry_at row.place row.item
 
 -- the tick and the arming of the item k
-abbrev pub place_of : ℕ → List Entry → Option (ℕ × ℕ)
+abbrev pub place_of : ℕ → List Entry → Option Place
 place_of k [] = None
-place_of k (e ∷ es) = if k == e.item then Some (e.due, e.arming) else place_of k es
+place_of k (e ∷ es) = if k == e.item then Some (place_at e.due e.arming) else place_of k es
 
 -- the same, from a list of places by item
-abbrev pub place_in : List (Option (ℕ × ℕ)) → ℕ → Option (ℕ × ℕ)
+abbrev pub place_in : List (Option Place) → ℕ → Option Place
 place_in places k = slice_index_or places k None
 
+-- the entry says where its item stands
+abbrev pub SaysPlace : List (Option Place) → Entry → Type 0
+SaysPlace places e = place_in places e.item ≡ Some (place_at e.due e.arming)
+
 -- they are in order, and each item's place is known
-pub record AreRows (places : List (Option (ℕ × ℕ))) (es : List Entry) : Type 0 where
+pub record AreRows (places : List (Option Place)) (es : List Entry) : Type 0 where
   pub ordered : IsOrdered es
   pub known : (k : ℕ) → place_in places k ≡ place_of k es
 
@@ -36,21 +49,21 @@ abbrev pub slotted : Entry → List Entry → List Entry
 slotted e [] = e ∷ []
 slotted e (f ∷ fs) = if goes_before e f then e ∷ f ∷ fs else f ∷ slotted e fs
 
-abbrev pub with_place : ℕ → Option (ℕ × ℕ) → List Entry → List Entry
+abbrev pub with_place : ℕ → Option Place → List Entry → List Entry
 with_place k None es = es
-with_place k (Some p) es = slotted (record { due = p.0; arming = p.1; item = k }) es
+with_place k (Some p) es = slotted (entry_at p k) es
 
 -- the entries of a list of places by item, from the item k on, in order
-abbrev pub entries_from : ℕ → List (Option (ℕ × ℕ)) → List Entry
+abbrev pub entries_from : ℕ → List (Option Place) → List Entry
 entries_from k [] = []
 entries_from k (o ∷ os) = with_place k o (entries_from (k + 1) os)
 
-abbrev pub entries_of : List (Option (ℕ × ℕ)) → List Entry
+abbrev pub entries_of : List (Option Place) → List Entry
 entries_of places = entries_from 0 places
 
 -- no two items have one arming
-abbrev pub AreApart : List (Option (ℕ × ℕ)) → Type 0
-AreApart places = (j k : ℕ) (p q : ℕ × ℕ) → place_in places j ≡ Some p → place_in places k ≡ Some q → p.1 ≡ q.1 → j ≡ k
+abbrev pub AreApart : List (Option Place) → Type 0
+AreApart places = (j k : ℕ) (p q : Place) → place_in places j ≡ Some p → place_in places k ≡ Some q → p.arming ≡ q.arming → j ≡ k
 
 -- the item k stands first and is due at the tick t
 pub record IsFirstDue (t k : ℕ) (es : List Entry) : Type 0 where
@@ -61,32 +74,32 @@ pub record IsFirstDue (t k : ℕ) (es : List Entry) : Type 0 where
   pub due : first.due ≤ t
 
 -- the wheel: what waits there, by item. The head of a slot stands behind all items.
-abbrev pub head_by : ℕ → ℕ → Option (ℕ × ℕ) → ℕ
+abbrev pub head_by : ℕ → ℕ → Option Place → ℕ
 head_by size k None = k
-head_by size k (Some p) = size + p.0 % 256
+head_by size k (Some p) = size + p.due % 256
 
-abbrev pub number_by : Option (ℕ × ℕ) → ℕ
+abbrev pub number_by : Option Place → ℕ
 number_by None = 0
-number_by (Some p) = p.1 + 1
+number_by (Some p) = p.arming + 1
 
-pub record IsWheel (size : ℕ) (next previous : List ℕ) (waits : ℕ → Option (ℕ × ℕ)) : Type 0 where
+pub record IsWheel (size : ℕ) (next previous : List ℕ) (waits : ℕ → Option Place) : Type 0 where
   pub next_length : length next ≡ size + 256
   pub previous_length : length previous ≡ size + 256
   pub heads : (k : ℕ) → size ≤ k → waits k ≡ None
   pub rings : AreRings (slice_index next) (slice_index previous) (λ k. head_by size k (waits k)) (λ k. number_by (waits k)) (size + 256)
 
 -- what is due later than the tick t
-abbrev pub later_than : ℕ → Option (ℕ × ℕ) → Option (ℕ × ℕ)
+abbrev pub later_than : ℕ → Option Place → Option Place
 later_than t None = None
-later_than t (Some p) = if nat_le p.0 t then None else Some p
+later_than t (Some p) = if nat_le p.due t then None else Some p
 
 -- the item still stands where a row says
-abbrev pub is_place : ℕ × ℕ → Option (ℕ × ℕ) → Bool
+abbrev pub is_place : Place → Option Place → Bool
 is_place p None = false
-is_place p (Some q) = q.0 == p.0 && q.1 == p.1
+is_place p (Some q) = q.due == p.due && q.arming == p.arming
 
-abbrev pub stands : List (Option (ℕ × ℕ)) → (ℕ × ℕ) × ℕ → Bool
-stands places e = is_place e.0 (place_in places e.1)
+abbrev pub stands : List (Option Place) → DueItem → Bool
+stands places e = is_place e.place (place_in places e.item)
 
 -- how many of the entries are of the item k
 abbrev pub times : ℕ → List Entry → ℕ
@@ -94,17 +107,17 @@ times k [] = 0
 times k (e ∷ es) = (if k == e.item then 1 else 0) + times k es
 
 -- the test whether a place is due at the tick t
-abbrev pub is_due : ℕ → Option (ℕ × ℕ) → Bool
+abbrev pub is_due : ℕ → Option Place → Bool
 is_due t None = false
-is_due t (Some p) = nat_le p.0 t
+is_due t (Some p) = nat_le p.due t
 
--- each entry says where its item stands, and no item stands twice
-pub record AreOnTable (places : List (Option (ℕ × ℕ))) (es : List Entry) : Type 0 where
-  pub valid : All (λ e. place_in places e.item ≡ Some (e.due, e.arming)) es
+-- each says where its item stands, and no item stands twice
+pub record AreOnTable (places : List (Option Place)) (es : List Entry) : Type 0 where
+  pub valid : All (SaysPlace places) es
   pub single : (k : ℕ) → times k es ≤ 1
 
 -- they are what is due at the tick t
-pub record AreDue (places : List (Option (ℕ × ℕ))) (t : ℕ) (es : List Entry) : Type 0 where
+pub record AreDue (places : List (Option Place)) (t : ℕ) (es : List Entry) : Type 0 where
   pub on : AreOnTable places es
   pub which : (k : ℕ) → on_table k es ≡ is_due t (place_in places k)
 
@@ -113,36 +126,36 @@ abbrev pub turn_of : ℕ → ℕ → ℕ
 turn_of t due = (due - (t + 1)) % 256
 
 -- they are what is due at the tick now, of what was due at the tick t or waits in the first n slots after that
-pub record AreFound (places : List (Option (ℕ × ℕ))) (t now n : ℕ) (es : List Entry) : Type 0 where
+pub record AreFound (places : List (Option Place)) (t now n : ℕ) (es : List Entry) : Type 0 where
   pub on : AreOnTable places es
-  pub which : (k : ℕ) (p : ℕ × ℕ) → place_in places k ≡ Some p → on_table k es ≡ (nat_le p.0 now && (nat_le p.0 t || nat_lt (turn_of t p.0) n))
+  pub which : (k : ℕ) (p : Place) → place_in places k ≡ Some p → on_table k es ≡ (nat_le p.due now && (nat_le p.due t || nat_lt (turn_of t p.due) n))
 
 -- what waits while entries were moved to the row
-abbrev pub waiting : List (Option (ℕ × ℕ)) → List Entry → ℕ → Option (ℕ × ℕ)
+abbrev pub waiting : List (Option Place) → List Entry → ℕ → Option Place
 waiting places row k = if on_table k row then None else place_in places k
 
 -- while a wheel is led on to a tick: what stands in the row is on the table and due, no item twice, and the rest waits
-pub record IsGathering (places : List (Option (ℕ × ℕ))) (next previous : List ℕ) (row : List Entry) (now : ℕ) : Type 0 where
+pub record IsGathering (places : List (Option Place)) (next previous : List ℕ) (row : List Entry) (now : ℕ) : Type 0 where
   pub wheel : IsWheel (length places) next previous (waiting places row)
-  pub valid : All (λ e. place_in places e.item ≡ Some (e.due, e.arming)) row
+  pub valid : All (SaysPlace places) row
   pub due : All (λ e. e.due ≤ now) row
   pub single : (k : ℕ) → times k row ≤ 1
 
 -- what still waits waited before
-abbrev pub StillWaits : List (Option (ℕ × ℕ)) → List Entry → List Entry → Type 0
-StillWaits places old new = (k : ℕ) (p : ℕ × ℕ) → waiting places new k ≡ Some p → waiting places old k ≡ Some p
+abbrev pub StillWaits : List (Option Place) → List Entry → List Entry → Type 0
+StillWaits places old new = (k : ℕ) (p : Place) → waiting places new k ≡ Some p → waiting places old k ≡ Some p
 
 -- nothing that is due waits in the slot with this head
-abbrev pub IsClean : List (Option (ℕ × ℕ)) → List Entry → ℕ → ℕ → Type 0
-IsClean places row head now = (k : ℕ) (p : ℕ × ℕ) → waiting places row k ≡ Some p → length places + p.0 % 256 ≡ head → now < p.0
+abbrev pub IsClean : List (Option Place) → List Entry → ℕ → ℕ → Type 0
+IsClean places row head now = (k : ℕ) (p : Place) → waiting places row k ≡ Some p → length places + p.due % 256 ≡ head → now < p.due
 
 -- between two calls: what is due stands in the row, in order, and the rest waits
-pub record IsTimetable (places : List (Option (ℕ × ℕ))) (next previous : List ℕ) (row : List ((ℕ × ℕ) × ℕ)) (room front count tick : ℕ) : Type 0 where
+pub record IsTimetable (places : List (Option Place)) (next previous : List ℕ) (row : List DueItem) (room front count tick : ℕ) : Type 0 where
   pub few : length places ≤ 4096
   pub apart : AreApart places
   pub wheel : IsWheel (length places) next previous (λ k. later_than tick (place_in places k))
   pub due_is : map entry_of (filter (stands places) row) ≡ due_part tick (entries_of places)
-  pub early : All (λ e. e.0.0 ≤ tick) row
+  pub early : All (λ e. e.place.due ≤ tick) row
   pub passed : filter (stands places) (take front row) ≡ []
   pub enough : length places ≤ room
   pub count_is : count ≡ length (entries_of places)

@@ -14,8 +14,19 @@ use std::marker::Model;
 // How many slots the wheel has: an item that is due at a tick stands in the slot of that number of ticks, modulo this.
 const SLOTS: u32 = 256;
 
-// A tick, and the number of an arming.
-type Place = (u64, u64);
+// Where an item stands: the tick at which it is due, and the number of its arming.
+#[derive(Clone, Copy, PartialEq, Eq, PartialOrd, Ord)]
+struct Place {
+    due: u64,
+    arming: u64,
+}
+
+// An item that is due, and the place at which it was found. They go out in the order of their places.
+#[derive(Clone, Copy, PartialEq, Eq, PartialOrd, Ord)]
+struct DueItem {
+    place: Place,
+    item: u32,
+}
 
 // Where each item stands, if it is on the table. What is due later than the present tick stands in the ring of its slot, in
 // the order of armings; the head of a slot's ring is the place behind all items, and of the slots before it. What is due stands
@@ -24,23 +35,23 @@ type Place = (u64, u64);
 pub(crate) struct Timetable {
     places: Vec<Option<Place>>,
     rings: Rings,
-    row: Vec<(Place, u32)>,
+    row: Vec<DueItem>,
     front: usize,
     count: usize,
     tick: u64,
 }
 
 // Whether the item still stands where the row says.
-fn is_there(places: &[Option<Place>], entry: (Place, u32)) -> bool
+fn is_there(places: &[Option<Place>], entry: DueItem) -> bool
     ensures { result ≡ stands places.now entry }
 {
-    places.get(entry.1 as usize) == Some(&Some(entry.0))
+    places.get(entry.item as usize) == Some(&Some(entry.place))
 }
 
 // The first place from `front` on whose item still stands where the row says.
-fn first_there(places: &[Option<Place>], row: &[(Place, u32)], front: usize) -> usize
+fn first_there(places: &[Option<Place>], row: &[DueItem], front: usize) -> usize
     ensures passed { filter (stands places.now) (take front row.now) ≡ [] → filter (stands places.now) (take result row.now) ≡ [] }
-    ensures there { (d : (ℕ × ℕ) × ℕ) → result < length row.now → stands places.now (slice_index_or row.now result d) ≡ true }
+    ensures there { (d : _) → result < length row.now → stands places.now (slice_index_or row.now result d) ≡ true }
     ensures low { result ≤ length row.now }
 {
     for at in front..row.len() {
@@ -55,16 +66,16 @@ fn first_there(places: &[Option<Place>], row: &[(Place, u32)], front: usize) -> 
 fn out_by(
     alloc: Global,
     places: &[Option<Place>],
-    row: &[(Place, u32)],
+    row: &[DueItem],
     front: usize,
     now: u64,
-) -> Result<Vec<(Place, u32)>, AllocError>
-    ensures { IfOk result (λ list. list.items ≡ filter (λ e. nat_le e.0.0 now && stands places.now e) (drop front row.now)) }
+) -> Result<Vec<DueItem>, AllocError>
+    ensures { IfOk result (λ list. list.items ≡ filter (λ e. nat_le e.place.due now && stands places.now e) (drop front row.now)) }
 {
     row.iter()
         .skip(front)
         .copied()
-        .filter(|entry| entry.0.0 <= now && is_there(places, *entry))
+        .filter(|entry| entry.place.due <= now && is_there(places, *entry))
         .collect(alloc)
 }
 
@@ -72,7 +83,7 @@ fn out_by(
 fn find(
     places: &[Option<Place>],
     rings: &Rings,
-    found: &mut Vec<(Place, u32)>,
+    found: &mut Vec<DueItem>,
     tick: u64,
     after: u64,
     now: u64,
@@ -88,8 +99,8 @@ fn find(
     let mut item = rings.next[head as usize];
     while item != head {
         if let Some(place) = places[item as usize] {
-            if place.0 <= now {
-                found.push((place, item))?;
+            if place.due <= now {
+                found.push(DueItem { place, item })?;
             }
         }
         item = rings.next[item as usize];
@@ -101,7 +112,7 @@ fn find(
 fn find_on(
     places: &[Option<Place>],
     rings: &Rings,
-    found: &mut Vec<(Place, u32)>,
+    found: &mut Vec<DueItem>,
     tick: u64,
     now: u64,
 ) -> Result<(), AllocError>
@@ -118,17 +129,17 @@ fn find_on(
 }
 
 // The items of a row, in order.
-fn items_of(alloc: Global, row: &[(Place, u32)]) -> Result<Vec<u32>, AllocError>
-    ensures { IfOk result (λ list. list.items ≡ map (λ e. e.1) row.now) }
+fn items_of(alloc: Global, row: &[DueItem]) -> Result<Vec<u32>, AllocError>
+    ensures { IfOk result (λ list. list.items ≡ map (λ e. e.item) row.now) }
 {
-    row.iter().map(|entry| entry.1).collect(alloc)
+    row.iter().map(|entry| entry.item).collect(alloc)
 }
 
 // Looks at the slot with this head, and moves what is due at the tick `now` to the row, in the order of the slot.
 fn look(
     places: &[Option<Place>],
     rings: &mut Rings,
-    row: &mut Vec<(Place, u32)>,
+    row: &mut Vec<DueItem>,
     head: u32,
     now: u64,
 )
@@ -144,9 +155,9 @@ fn look(
     while item != head {
         let after = rings.next[item as usize];
         if let Some(place) = places[item as usize] {
-            if place.0 <= now {
+            if place.due <= now {
                 rings.take_out(item);
-                let _ = row.push((place, item));
+                let _ = row.push(DueItem { place, item });
             }
         }
         item = after;
@@ -158,18 +169,18 @@ fn look(
 fn look_on(
     places: &[Option<Place>],
     rings: &mut Rings,
-    row: &mut Vec<(Place, u32)>,
+    row: &mut Vec<DueItem>,
     tick: u64,
     now: u64,
 ) -> u32
     requires few { length places.now ≤ 4096 }
     requires gathering { IsGathering places.now rings.old.next.items rings.old.previous.items (map entry_of row.old.items) now }
     requires room { length places.now ≤ vec_capacity row.old }
-    requires ahead { (k : ℕ) (p : ℕ × ℕ) → waiting places.now (map entry_of row.old.items) k ≡ Some p → tick < p.0 }
+    requires ahead { (k : ℕ) (p : _) → waiting places.now (map entry_of row.old.items) k ≡ Some p → tick < p.due }
     requires forward { tick ≤ now }
     ensures gathering { IsGathering places.now rings.new.next.items rings.new.previous.items (map entry_of row.new.items) now }
     ensures room { length places.now ≤ vec_capacity row.new }
-    ensures done { (k : ℕ) (p : ℕ × ℕ) → waiting places.now (map entry_of row.new.items) k ≡ Some p → now < p.0 }
+    ensures done { (k : ℕ) (p : _) → waiting places.now (map entry_of row.new.items) k ≡ Some p → now < p.due }
     ensures looked { result ≡ min (now - tick) 256 }
 {
     let size = places.len() as u32;
@@ -253,7 +264,7 @@ impl Timetable {
     {
         let slot = (due % SLOTS as u64) as u32;
         let head = self.places.len() as u32 + slot;
-        self.places[item as usize] = Some((due, arming));
+        self.places[item as usize] = Some(Place { due, arming });
         self.rings.put_behind(item, head);
         self.count += 1;
     }
@@ -282,7 +293,7 @@ impl Timetable {
         let Some(place) = self.places[item as usize] else {
             return false;
         };
-        if place.0 > self.tick {
+        if place.due > self.tick {
             self.rings.take_out(item);
         }
         self.places[item as usize] = None;
@@ -317,7 +328,7 @@ impl Timetable {
         if self.front == self.row.len() {
             return None;
         }
-        Some(self.row[self.front].1)
+        Some(self.row[self.front].item)
     }
 
     // The items that are due at a tick, in order: those in the row, and those in the slots up to the tick.

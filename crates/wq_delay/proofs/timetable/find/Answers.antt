@@ -30,7 +30,7 @@ loop-item-preserved c =
       | in-Some+then-place-now+in_ok-push w ↦ rw w.found-is
           (finding_take places next previous t now n head c.requires.after.0 refl c.requires.wheel es x l ne (map entry_of w.push.new.self.items)
           w.in-Some.place w.in-Some.is w.if-place-now.true
-          (ap (map entry_of) w.in_ok-push.ensures.items ∙ map-append entry_of c.loop-item.found.items ((w.in-Some.place, x) ∷ [])))
+          (ap (map entry_of) w.in_ok-push.ensures.items ∙ map-append entry_of c.loop-item.found.items (record { place = w.in-Some.place; item = x } ∷ [])))
       | in-Some+else-place-now w ↦ rw w.found-is
           (finding_pass places next previous t now n head c.requires.after.0 refl c.requires.wheel es x l ne
           w.in-Some.place w.in-Some.is w.if-place-now.false)

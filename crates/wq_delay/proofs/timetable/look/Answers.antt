@@ -48,7 +48,8 @@ loop-item-preserved-then-place-now c =
     c.requires.head.1 x l ne).1).0 in
     let room = row_has_room places row x c.in-Some.place (record { valid = l.gathering.valid; single = l.gathering.single }) off c.in-Some.is in
     let enough = c.loop-item.invariant.1 in
-    let more = pushed c.push.result c.loop-item.row.items c.push.new.self.items (c.in-Some.place, x) (vec_capacity c.loop-item.row) (vec_len c.loop-item.row)
+    let more = pushed c.push.result c.loop-item.row.items c.push.new.self.items (record { place = c.in-Some.place; item = x })
+    (vec_capacity c.loop-item.row) (vec_len c.loop-item.row)
     c.push.ensures.items c.push.ensures.full (omega (arith, room, enough, length-map c.loop-item.row.items entry_of, c.loop-item.row.ok.0)) in (
       subst (λ (z : ℕ). Looking places c.take_out.new.self.next.items c.take_out.new.self.previous.items start (map entry_of c.push.new.self.items)
           c.args.head c.args.now z) (sym step)

@@ -1,5 +1,7 @@
-use Rattle.std.proofs.Common.{◌≡◌, ◌<◌, ℕ, get_or, [], List, take, length, true, sym, ap, subst, ◌∙◌, arith}
+use Rattle.std.proofs.Common.{◌≡◌, ◌<◌, get_or, [], List, take, length, true, sym, ap, subst, ◌∙◌, arith}
 use Rattle.std.specs.Prelude.{Option, filter}
+use Rattle.wq_delay.specs.declared.timetable.Place.{Place}
+use Rattle.wq_delay.specs.declared.timetable.DueItem.{DueItem}
 use Rattle.wq_delay.specs.Rows.{Rows, stands, IsFirstDue}
 use Rattle.wq_delay.proofs.Serving.{first_served, first_low}
 use Rattle.wq_delay.proofs.timetable.Timetable.first_due.Goals as goal
@@ -7,22 +9,22 @@ use Rattle.wq_delay.proofs.timetable.Timetable.first_due.Goals as goal
 pub returns-clause-first : goal.returns-clause-first
 returns-clause-first c =
     let i = c.self.inside in let f = c.first_there-self-inside in let n = f.result in
-    let places : List (Option (ℕ × ℕ)) = i.places.items in let row : List ((ℕ × ℕ) × ℕ) = i.row.items in
+    let places : List (Option Place) = i.places.items in let row : List DueItem = i.row.items in
     let pv : c.deref.result.now ≡ places = c.deref.ensures.value in let rv : c.deref-2.result.now ≡ row = c.deref-2.ensures.value in
-    let low : n < length row = let e = ap (length {A = (ℕ × ℕ) × ℕ}) rv in omega (arith, e, f.ensures.low, c.if-self-len.false, c.len.ensures, i.row.ok.0) in
-    let before = subst (λ (z : List (Option (ℕ × ℕ))). filter (stands z) (take i.front c.deref-2.result.now) ≡ []) (sym pv)
-    (subst (λ (z : List ((ℕ × ℕ) × ℕ)). filter (stands places) (take i.front z) ≡ []) (sym rv) c.self.invariant.passed) in
-    let passed = subst (λ (z : List (Option (ℕ × ℕ))). filter (stands z) (take n row) ≡ []) pv
-    (subst (λ (z : List ((ℕ × ℕ) × ℕ)). filter (stands c.deref.result.now) (take n z) ≡ []) rv (f.ensures.passed before)) in
+    let low : n < length row = let e = ap (length {A = DueItem}) rv in omega (arith, e, f.ensures.low, c.if-self-len.false, c.len.ensures, i.row.ok.0) in
+    let before = subst (λ (z : List (Option Place)). filter (stands z) (take i.front c.deref-2.result.now) ≡ []) (sym pv)
+    (subst (λ (z : List DueItem). filter (stands places) (take i.front z) ≡ []) (sym rv) c.self.invariant.passed) in
+    let passed = subst (λ (z : List (Option Place)). filter (stands z) (take n row) ≡ []) pv
+    (subst (λ (z : List DueItem). filter (stands c.deref.result.now) (take n z) ≡ []) rv (f.ensures.passed before)) in
     let e = c.index.result.now in
-    let hit = ap (stands places) c.index.ensures ∙ subst (λ (z : List (Option (ℕ × ℕ))). stands z (get_or row n e) ≡ true) pv
-    (subst (λ (z : List ((ℕ × ℕ) × ℕ)). stands c.deref.result.now (get_or z n e) ≡ true) rv
-    (f.ensures.there e (let q = ap (length {A = (ℕ × ℕ) × ℕ}) rv in omega (arith, low)))) in
-    subst (λ (z : Rows). IsFirstDue z.tick e.1 z.entries) c.self.view_is
+    let hit = ap (stands places) c.index.ensures ∙ subst (λ (z : List (Option Place)). stands z (get_or row n e) ≡ true) pv
+    (subst (λ (z : List DueItem). stands c.deref.result.now (get_or z n e) ≡ true) rv
+    (f.ensures.there e (let q = ap (length {A = DueItem}) rv in omega (arith, low)))) in
+    subst (λ (z : Rows). IsFirstDue z.tick e.item z.entries) c.self.view_is
     (first_served places i.rings.next.items i.rings.previous.items row _ i.front i.count i.tick c.self.invariant n e low passed c.index.ensures hit)
 
 pub returns-clause-low : goal.returns-clause-low
 returns-clause-low c =
     let i = c.self.inside in let e = c.index.result.now in
-    subst (λ (z : Rows). IsFirstDue z.tick e.1 z.entries → e.1 < z.size) c.self.view_is (first_low i.places.items i.tick e.1 c.self.invariant.apart)
+    subst (λ (z : Rows). IsFirstDue z.tick e.item z.entries → e.item < z.size) c.self.view_is (first_low i.places.items i.tick e.item c.self.invariant.apart)
     (returns-clause-first c)

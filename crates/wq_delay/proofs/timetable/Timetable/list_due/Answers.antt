@@ -1,6 +1,8 @@
 use Rattle.std.proofs.Common.{◌≡◌, ◌∙◌, ◌&&◌, List, ℕ, map, drop, sym, ap, subst}
 use Rattle.std.specs.Prelude.{IfOk, Option, filter, nat_le}
 use Rattle.wq_words.specs.DelayTable.{items, due_part}
+use Rattle.wq_delay.specs.declared.timetable.Place.{Place}
+use Rattle.wq_delay.specs.declared.timetable.DueItem.{DueItem}
 use Rattle.wq_delay.specs.Rows.{Rows, entry_of, entries_of, stands, AreFound, AreDue}
 use Rattle.wq_delay.proofs.Gathered.{sorted_is_due, on_table_permuted, same_on_table}
 use Rattle.wq_delay.proofs.Fitting.{items_of_rows}
@@ -9,27 +11,27 @@ use Rattle.wq_delay.proofs.timetable.Timetable.list_due.Goals as goal
 
 pub find_on-requires-clause-found : goal.find_on-requires-clause-found
 find_on-requires-clause-found c =
-    let i = c.self.inside in let places : List (Option (ℕ × ℕ)) = i.places.items in let row : List ((ℕ × ℕ) × ℕ) = i.row.items in
-    let out : List ((ℕ × ℕ) × ℕ) = c.in_ok-due.due.items in let now = c.args.now in
-    let of_places : out ≡ filter (λ e. nat_le e.0.0 now && stands places e) (drop i.front c.deref-2.result.now) =
-    subst (λ (z : List (Option (ℕ × ℕ))). out ≡ filter (λ e. nat_le e.0.0 now && stands z e) (drop i.front c.deref-2.result.now))
+    let i = c.self.inside in let places : List (Option Place) = i.places.items in let row : List DueItem = i.row.items in
+    let out : List DueItem = c.in_ok-due.due.items in let now = c.args.now in
+    let of_places : out ≡ filter (λ e. nat_le e.place.due now && stands places e) (drop i.front c.deref-2.result.now) =
+    subst (λ (z : List (Option Place)). out ≡ filter (λ e. nat_le e.place.due now && stands z e) (drop i.front c.deref-2.result.now))
     c.deref.ensures.value c.in_ok-due.ensures in
-    let of_row : out ≡ filter (λ e. nat_le e.0.0 now && stands places e) (drop i.front row) =
-    subst (λ (z : List ((ℕ × ℕ) × ℕ)). out ≡ filter (λ e. nat_le e.0.0 now && stands places e) (drop i.front z)) c.deref-2.ensures.value of_places in
-    subst (λ (z : List (Option (ℕ × ℕ))). AreFound z i.tick now 0 (map entry_of out)) (sym c.deref-3.ensures.value)
+    let of_row : out ≡ filter (λ e. nat_le e.place.due now && stands places e) (drop i.front row) =
+    subst (λ (z : List DueItem). out ≡ filter (λ e. nat_le e.place.due now && stands places e) (drop i.front z)) c.deref-2.ensures.value of_places in
+    subst (λ (z : List (Option Place)). AreFound z i.tick now 0 (map entry_of out)) (sym c.deref-3.ensures.value)
     (found_out places i.rings.next.items i.rings.previous.items row _ i.front i.count i.tick c.self.invariant now out of_row)
 
 pub returns : goal.returns
 returns c =
-    let places : List (Option (ℕ × ℕ)) = c.self.inside.places.items in let now = c.args.now in
-    let found : List ((ℕ × ℕ) × ℕ) = c.find_on.new.found.items in let sorted : List ((ℕ × ℕ) × ℕ) = c.sort_unstable.new.self.items in
+    let places : List (Option Place) = c.self.inside.places.items in let now = c.args.now in
+    let found : List DueItem = c.find_on.new.found.items in let sorted : List DueItem = c.sort_unstable.new.self.items in
     let due : AreDue places now (map entry_of found) =
-    subst (λ (z : List (Option (ℕ × ℕ))). AreDue z now (map entry_of found)) c.deref-3.ensures.value c.in_ok-find_on.ensures in
+    subst (λ (z : List (Option Place)). AreDue z now (map entry_of found)) c.deref-3.ensures.value c.in_ok-find_on.ensures in
     let moves = c.sort_unstable.ensures.permutation in
     let whole : map entry_of sorted ≡ due_part now (entries_of places) =
     sorted_is_due places now sorted c.self.invariant.apart (on_table_permuted places found sorted moves due.on) c.sort_unstable.ensures.sorted
     (λ k. sym (same_on_table k found sorted moves) ∙ due.which k) in
-    let e : map (λ (x : (ℕ × ℕ) × ℕ). x.1) c.deref-4.result.now ≡ items (due_part now c.args.self.now.entries) =
-    ap (map (λ (x : (ℕ × ℕ) × ℕ). x.1)) c.deref-4.ensures.value ∙ (items_of_rows sorted ∙ (ap items whole
+    let e : map (λ (x : DueItem). x.item) c.deref-4.result.now ≡ items (due_part now c.args.self.now.entries) =
+    ap (map (λ (x : DueItem). x.item)) c.deref-4.ensures.value ∙ (items_of_rows sorted ∙ (ap items whole
     ∙ ap (λ (z : Rows). items (due_part now z.entries)) c.self.view_is)) in
     subst (λ (z : List ℕ). IfOk c.items_of.result (λ list. list.items ≡ z)) e c.items_of.ensures

@@ -1,15 +1,17 @@
-use Rattle.std.proofs.Common.{◌≡◌, ◌+◌, List, Option, None, replicate, length, ℕ, refl, sym, subst, rules, arith}
+use Rattle.std.proofs.Common.{◌≡◌, ◌+◌, List, Option, None, replicate, length, refl, sym, subst, rules, arith}
 use Rattle.std.specs.Vec.{vec_capacity}
+use Rattle.wq_delay.specs.declared.timetable.Place.{Place}
+use Rattle.wq_delay.specs.declared.timetable.DueItem.{DueItem}
 use Rattle.wq_delay.specs.Rows.{IsTimetable}
 use Rattle.wq_delay.proofs.Starting.{no_entries, timetable_new}
 use Rattle.wq_delay.proofs.timetable.Timetable.new.Goals as goal
 
 pub invariant_of-result : goal.invariant_of-result
 invariant_of-result c =
-    let places : List (Option (ℕ × ℕ)) = c.in_ok-vec.field-0.items in
+    let places : List (Option Place) = c.in_ok-vec.field-0.items in
     let is : places ≡ replicate c.args.size None = c.in_ok-vec.ensures.items_if_clones_equal (λ y clone. search rules) in
     let size : length places ≡ c.args.size = omega (arith, c.in_ok-vec.ensures.len, c.in_ok-vec.field-0.ok.0) in
-    subst (λ (z : List ((ℕ × ℕ) × ℕ)). IsTimetable places c.in_ok-new.field-0.next.items c.in_ok-new.field-0.previous.items z
+    subst (λ (z : List DueItem). IsTimetable places c.in_ok-new.field-0.next.items c.in_ok-new.field-0.previous.items z
     (vec_capacity c.in_ok-with_capacity.field-0) 0 0 c.args.now) (sym c.in_ok-with_capacity.ensures.items)
     (timetable_new places c.args.size is size c.in_ok-new.field-0.next.items c.in_ok-new.field-0.previous.items (c.args.size + 256)
     (vec_capacity c.in_ok-with_capacity.field-0) c.args.now c.requires refl c.in_ok-new.ensures.next c.in_ok-new.ensures.previous
@@ -17,7 +19,7 @@ invariant_of-result c =
 
 pub returns : goal.returns
 returns c =
-    let places : List (Option (ℕ × ℕ)) = c.in_ok-vec.field-0.items in
+    let places : List (Option Place) = c.in_ok-vec.field-0.items in
     let is : places ≡ replicate c.args.size None = c.in_ok-vec.ensures.items_if_clones_equal (λ y clone. search rules) in
     let size : length places ≡ c.args.size = omega (arith, c.in_ok-vec.ensures.len, c.in_ok-vec.field-0.ok.0) in
     (size, no_entries places c.args.size is size, refl)

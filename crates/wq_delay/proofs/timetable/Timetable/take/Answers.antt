@@ -1,7 +1,8 @@
-use Rattle.std.proofs.Common.{◌≡◌, ◌<◌, ◌≤◌, ◌-◌, Option, Some, None, is_some, List, get_or, set, ℕ, ap, sym, subst, ◌∙◌, arith}
+use Rattle.std.proofs.Common.{◌≡◌, ◌<◌, ◌≤◌, ◌-◌, Option, Some, None, is_some, List, get_or, set, ap, sym, subst, ◌∙◌, arith}
 use Rattle.std.specs.Vec.{vec_capacity}
 use Rattle.std.proofs.lemmas.List.{get_or_read}
 use Rattle.wq_words.specs.DelayTable.{on_table, without}
+use Rattle.wq_delay.specs.declared.timetable.Place.{Place}
 use Rattle.wq_delay.specs.Rows.{Rows, entries_of, IsTimetable}
 use Rattle.wq_delay.specs.declared.timetable.Timetable.TheInside.{Inside}
 use Rattle.wq_words.proofs.DelayTable.{without_off}
@@ -13,7 +14,7 @@ use Rattle.wq_delay.proofs.timetable.Timetable.take.Goals.{then-place-self, else
 
 pub returns-in_default-clause-answer : goal.returns-in_default-clause-answer
 returns-in_default-clause-answer c =
-    let places : List (Option (ℕ × ℕ)) = c.self.inside.places.items in
+    let places : List (Option Place) = c.self.inside.places.items in
     let low = subst (λ (z : Rows). c.args.item < z.size) (sym c.self.view_is) c.requires in
     let read = get_or_read places _ _ low c.index.ensures None in
     sym (ap is_some c.in_default.is)
@@ -25,7 +26,7 @@ returns-in_default-clause-entries c = sym (without_off c.args.item c.args.self.n
 
 pub overflow_sub-self : goal.overflow_sub-self
 overflow_sub-self c =
-    let i = c.self.inside in let places : List (Option (ℕ × ℕ)) = i.places.items in
+    let i = c.self.inside in let places : List (Option Place) = i.places.items in
     let low = subst (λ (z : Rows). c.args.item < z.size) (sym c.self.view_is) c.requires in
     let read = get_or_read places _ _ low c.index.ensures None in
     let some : get_or places c.args.item None ≡ Some c.in-Some.place = sym read ∙ c.in-Some.is in
@@ -38,7 +39,7 @@ overflow_sub-self c =
 
 pub invariant_of-self : goal.invariant_of-self
 invariant_of-self c =
-    let i = c.self.inside in let places : List (Option (ℕ × ℕ)) = i.places.items in
+    let i = c.self.inside in let places : List (Option Place) = i.places.items in
     let low = subst (λ (z : Rows). c.args.item < z.size) (sym c.self.view_is) c.requires in
     let read = get_or_read places _ _ low c.index.ensures None in
     let some : get_or places c.args.item None ≡ Some c.in-Some.place = sym read ∙ c.in-Some.is in
@@ -62,7 +63,7 @@ invariant_of-self c =
 
 pub returns-clause-answer : goal.returns-clause-answer
 returns-clause-answer c =
-    let places : List (Option (ℕ × ℕ)) = c.self.inside.places.items in
+    let places : List (Option Place) = c.self.inside.places.items in
     let low = subst (λ (z : Rows). c.args.item < z.size) (sym c.self.view_is) c.requires in
     let read = get_or_read places _ _ low c.index.ensures None in
     sym (ap is_some c.in-Some.is)
@@ -71,7 +72,7 @@ returns-clause-answer c =
 
 pub returns-clause-entries : goal.returns-clause-entries
 returns-clause-entries c =
-    let i = c.self.inside in let places : List (Option (ℕ × ℕ)) = i.places.items in
+    let i = c.self.inside in let places : List (Option Place) = i.places.items in
     let low = subst (λ (z : Rows). c.args.item < z.size) (sym c.self.view_is) c.requires in
     let read = get_or_read places _ _ low c.index.ensures None in
     let some : get_or places c.args.item None ≡ Some c.in-Some.place = sym read ∙ c.in-Some.is in
