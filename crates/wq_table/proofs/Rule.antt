@@ -1,5 +1,5 @@
--- A step that the machine makes keeps the rule of the table, and tells its seat what it was.
-use Rattle.std.proofs.Common.{◌≡◌, ℕ, ◌≢◌, List, [], ◌∷◌, get_or, set, sym, refl, ap, ◌∙◌, subst, inl, ⊎_elim}
+-- A step that the machine makes keeps the rule of the table, and tells its view what it was.
+use Rattle.std.proofs.Common.{◌≡◌, ℕ, ◌≢◌, List, [], ◌∷◌, get_or, set, sym, refl, ap, ◌∙◌, subst, ⊎_elim}
 use mathlib.Core.Option.{some}
 use lib.ListN.{get_elem?}
 use Rattle.atomic_table.specs.Table.{State, keeps, Allows}
@@ -12,11 +12,13 @@ use Rattle.wq_core.specs.Sound.{IsSound}
 use Rattle.wq_table.specs.declared.table.Part.{Part}
 use Rattle.wq_words.specs.Seen.{owner_seat}
 use Rattle.wq_table.specs.Law.{View, part, seat_at, IsPartOf, ArePartsAt, HasPartOf, HasSeenAll, Kept}
-use Rattle.wq_table.specs.Plays.{Sat, word_found, stage_after, Performs, MakesAlone}
+use Rattle.wq_table.specs.Plays.{Sat, word_found, stage_after, Makes, Performs, all_see, AllOf}
+use Rattle.wq_table.specs.Places.{chosen, besides, MakesAt, ViewMakes}
 use Rattle.wq_core.proofs.Schedules.{sound_after}
 use Rattle.wq_words.proofs.Prefixes.{prefix_self}
 use Rattle.wq_table.proofs.Present.{stands_put, put_in}
 use Rattle.wq_table.proofs.Changes.{Change, changes, fits_other, keeps_after, links_known, links_spared}
+use Rattle.wq_table.proofs.Places.{moved_first, moved_rest, moved_chosen, moved_besides, chosen_fits, moved_fit, still_fits, seat_moved, seen_moved}
 
 abbrev Table : Type 0
 Table = State (Unit {0}) View
@@ -46,18 +48,32 @@ next_fits m p step sound fits made = record {
   links = links_known (after m (seat_at p.seat p.stage) step) (stage_after p.stage step (word_found m p.seat step));
 }
 
-module _ (layout : Layout) (slots id : ℕ) (p : Part) (cs : Carried) (σ : Layout → Step) (i : ℕ) (f g : ℕ → ℕ) (performs : Performs p (σ p.layout) i f g) where
-  stepping : Allows (Kept layout) slots id (p ∷ [], cs) i f (λ n. MakesAlone σ (p ∷ [], cs) (g n))
-  stepping s r same at small =
-      let m = r.machine in let fits : IsPartOf m p = (r.seats id (p ∷ []) at).0 in let here = (r.seats id (p ∷ []) at).1 in
-      let made = performs.made m r.sound fits in let next = after m (seat_at p.seat p.stage) (σ p.layout) in
-      let sound = sound_after m (seat_at p.seat p.stage) (σ p.layout) r.sound made in
-      let found : g (get_or s.words i 0) ≡ word_found m p.seat (σ p.layout) = ap (λ (ws : List ℕ). g (get_or ws i 0)) r.words_are ∙
+-- the step as a fact about the parts before and after, where the part that acts is q then
+makes_at : (at : ℕ) (step : Step) (word : ℕ) (p : Part) (ps : View) (q a : Part) (bs : View) → q ≡ chosen at a bs → (m : Makes step word (chosen at p ps) q)
+    → AllOf (after m.before (seat_at (chosen at p ps).seat (chosen at p ps).stage) step) (besides at p ps)
+    → besides at a bs ≡ all_see q.seen (besides at p ps) → MakesAt at step word p ps a bs
+makes_at at step word p ps q a bs is = subst (λ (x : Part). (m : Makes step word (chosen at p ps) x)
+    → AllOf (after m.before (seat_at (chosen at p ps).seat (chosen at p ps).stage) step) (besides at p ps)
+    → besides at a bs ≡ all_see x.seen (besides at p ps) → MakesAt at step word p ps a bs) (sym is)
+    (λ m fit are. record { makes = m; still_fit = fit; others_are = are })
+
+module _ (layout : Layout) (slots id at : ℕ) (p : Part) (ps : View) (cs : Carried) (σ : Layout → Step) (i : ℕ) (f g : ℕ → ℕ)
+    (performs : Performs (chosen at p ps) (σ (chosen at p ps).layout) i f g) where
+  stepping : Allows (Kept layout) slots id (p ∷ ps, cs) i f (λ n. ViewMakes at σ (p ∷ ps, cs) (g n))
+  stepping s r same there small =
+      let m = r.machine in let c : Part = chosen at p ps in let step : Step = σ c.layout in
+      let all = r.seats id (p ∷ ps) there in let mine = chosen_fits m r.who id at p ps all in let fits : IsPartOf m c = mine.0 in
+      let made = performs.made m r.sound fits in let next = after m (seat_at c.seat c.stage) step in
+      let sound = sound_after m (seat_at c.seat c.stage) step r.sound made in
+      let found : g (get_or s.words i 0) ≡ word_found m c.seat step = ap (λ (ws : List ℕ). g (get_or ws i 0)) r.words_are ∙
       performs.finds m r.sound fits in
-      let q = next_part m p (σ p.layout) in let q_fits = next_fits m p (σ p.layout) r.sound fits made in
-      let change = changes m p.seat p.stage (σ p.layout) fits.keeps in
-      let spared = links_spared m p.seat p.stage (σ p.layout) r.sound fits.keeps made in (
-        q ∷ [],
+      let q : Part = next_part m c step in let q_fits = next_fits m c step r.sound fits made in
+      let change = changes m c.seat c.stage step fits.keeps in
+      let spared = links_spared m c.seat c.stage step r.sound fits.keeps made in
+      let first : Part = moved_first at next.history q p ps in let rest : View = moved_rest at next.history q p ps in
+      let now : View = first ∷ rest in
+      let all_now : ArePartsAt next r.who id now = moved_fit m next r.who id c.seat change spared at p ps q refl refl q_fits all in (
+        now,
         keeps,
         tt,
         record {
@@ -66,20 +82,22 @@ module _ (layout : Layout) (slots id : ℕ) (p : Part) (cs : Carried) (σ : Layo
           sound = sound;
           layout_is = change.layout_is ∙ r.layout_is;
           words_are = ap (λ (ws : List ℕ). set ws i (f (get_or ws i 0))) r.words_are ∙ sym (performs.writes m r.sound fits);
-          seats = λ j v there. ⊎_elim
-              (λ (t : (j ≡ id) × (q ∷ [] ≡ v)). subst (λ (z : ℕ × View). ArePartsAt next r.who z.0 z.1) (λ k. (sym t.0 k, t.1 k)) (q_fits, here, tt, tt))
-              (λ (t : (j ≢ id) × (get_elem? s.views j ≡ some v)). all_other m next r.who p.seat id j v change spared here t.0 (r.seats j v t.1))
-              (at_set s.views id j (q ∷ []) v there);
-          present = λ c seat. stands_put s.views (HasPartOf c) id (p ∷ []) (q ∷ []) (r.who c) at (λ has. has) (r.present c seat);
-          longest = (id, put_in s.views (HasSeenAll next.history) id (p ∷ []) (q ∷ []) at (inl refl));
+          seats = λ j v other. ⊎_elim
+              (λ (t : (j ≡ id) × (now ≡ v)). subst (λ (z : ℕ × View). ArePartsAt next r.who z.0 z.1) (λ k. (sym t.0 k, t.1 k)) all_now)
+              (λ (t : (j ≢ id) × (get_elem? s.views j ≡ some v)). all_other m next r.who c.seat id j v change spared mine.1 t.0 (r.seats j v t.1))
+              (at_set s.views id j now v other);
+          present = λ d seat. stands_put s.views (HasPartOf d) id (p ∷ ps) now (r.who d) there (seat_moved d next.history q at p ps refl) (r.present d seat);
+          longest = (id, put_in s.views (HasSeenAll next.history) id (p ∷ ps) now there (seen_moved next.history q at p ps refl));
         },
         record {
-          from = p;
-          to = q;
+          part = p;
+          others = ps;
+          part' = first;
+          others' = rest;
           was = refl;
           is = refl;
           slots = refl;
-          makes = record {
+          moves = makes_at at step (g (get_or s.words i 0)) p ps q first rest (sym (moved_chosen at next.history q p ps)) (record {
             before = m;
             sound = r.sound;
             fits = fits;
@@ -89,16 +107,15 @@ module _ (layout : Layout) (slots id : ℕ) (p : Part) (cs : Carried) (σ : Layo
             seat_is = refl;
             seen_is = refl;
             words_are = refl;
-            stage_is = ap (stage_after p.stage (σ p.layout)) (sym found);
-          };
+            stage_is = ap (stage_after c.stage step) (sym found);
+          }) (still_fits m next r.who id c.seat change spared at p ps refl all) (moved_besides at next.history q p ps);
         },
       )
 
--- the same of a view that is known to be of one part
-pub goes : (layout : Layout) (slots id : ℕ) (p : Part) (me : Sat) (σ : Layout → Step) (i : ℕ) (f g : ℕ → ℕ) → me.0 ≡ p ∷ [] → Performs p (σ p.layout) i f g
-    → Allows (Kept layout) slots id me i f (λ n. MakesAlone σ me (g n))
-goes layout slots id p me σ i f g alone performs =
-    subst (λ (v : View). Allows (Kept layout) slots id (
-      v,
-      me.1,
-    ) i f (λ n. MakesAlone σ (v, me.1) (g n))) (sym alone) (stepping layout slots id p me.1 σ i f g performs)
+-- the same of a view that is known to have these parts
+pub goes : (layout : Layout) (slots id at : ℕ) (p : Part) (ps : View) (me : Sat) (σ : Layout → Step) (i : ℕ) (f g : ℕ → ℕ) → me.0 ≡ p ∷ ps
+    → Performs (chosen at p ps) (σ (chosen at p ps).layout) i f g
+    → Allows (Kept layout) slots id me i f (λ n. ViewMakes at σ me (g n))
+goes layout slots id at p ps me σ i f g is performs =
+    subst (λ (v : View). Allows (Kept layout) slots id (v, me.1) i f (λ n. ViewMakes at σ (v, me.1) (g n))) (sym is)
+    (stepping layout slots id at p ps me.1 σ i f g performs)

@@ -17,7 +17,7 @@ use Rattle.wq_core.specs.declared.step.Seat.TheVariants.{Sender}
 use Rattle.wq_core.specs.declared.step.Step.{Step}
 use Rattle.wq_core.specs.declared.step.Step.TheVariants.{Hold, Link, Push, Back, Check, Take, Close, Begin, End, Chain, Turn, Rest}
 use Rattle.wq_core.specs.Words.{link_place, item_place, done_place, closed_word, idle_word, link_word}
-use Rattle.wq_core.specs.Machine.{Machine, seen_word, head, link, item_word, after_begin, after_end, after, StandsIn}
+use Rattle.wq_core.specs.Machine.{Machine, seen_word, head, item_word, after_begin, after_end, after, StandsIn}
 use Rattle.wq_core.specs.Sound.{IsSound}
 use Rattle.wq_table.specs.declared.table.Part.{Part}
 use Rattle.wq_table.specs.declared.table.Stage.{Stage}

@@ -1,5 +1,5 @@
 -- Views that are cut, joined and made.
-use Rattle.std.proofs.Common.{◌≡◌, ℕ, zero, suc, ◌+◌, ◌-◌, ◌<◌, ◌≤◌, ◌≢◌, ◌⊎◌, cond, eqb, List, [], ◌∷◌, ◌++◌, length, get_or, set, replicate, sym, refl, ap, ◌∙◌, subst, ⊎_elim, arith, length-set, eq-eqb, ne_eqb}
+use Rattle.std.proofs.Common.{◌≡◌, ℕ, zero, suc, ◌+◌, ◌-◌, ◌<◌, ◌≤◌, ◌≢◌, cond, eqb, List, [], ◌∷◌, ◌++◌, length, get_or, set, replicate, sym, refl, ap, ◌∙◌, subst, ⊎_elim, arith, length-set, eq-eqb, ne_eqb}
 use mathlib.Core.Option.{some, none, some-injective, some-ne-none}
 use lib.ListN.{get_elem?}
 use lib.Seq.{set-get_or}
@@ -115,12 +115,12 @@ boths l id v other w s r at apart there =
     }
 
 module _ (m : Machine) where
-  apart_all : (c : ℕ) (v : View) → Apart c v → Apart c (all_see m.history v)
+  pub apart_all : (c : ℕ) (v : View) → Apart c v → Apart c (all_see m.history v)
   apart_all c [] a = tt
   apart_all c (p ∷ ps) a = (a.0, apart_all c ps a.1)
 
   -- all parts of a view see the history so far
-  fit_all : (who : ℕ → ℕ) (i : ℕ) (v : View) → ArePartsAt m who i v → ArePartsAt m who i (all_see m.history v)
+  pub fit_all : (who : ℕ → ℕ) (i : ℕ) (v : View) → ArePartsAt m who i v → ArePartsAt m who i (all_see m.history v)
   fit_all who i [] all = tt
   fit_all who i (p ∷ ps) all = let fits : IsPartOf m p = all.0 in (
     record { layout_is = fits.layout_is; begins = prefix_self m.history; mine = refl; keeps = fits.keeps; links = fits.links },
@@ -133,8 +133,8 @@ module _ (m : Machine) where
   all_of who i [] all = tt
   all_of who i (p ∷ ps) all = (all.0, all_of who i ps all.3)
 
-pub meets_goes : (l : Layout) (slots id : ℕ) (me : Sat) → Allows (Kept l) slots id me 0 (λ n. n) (meets (step slots 0 0 0 none) me)
-meets_goes l slots id me s r _ at _ = let m = r.machine in let all = r.seats id me.0 at in let seen : View = all_see m.history me.0 in (
+pub meets_goes : (l : Layout) (slots id i : ℕ) (me : Sat) → Allows (Kept l) slots id me i (λ n. n) (meets (step slots i 0 0 none) me)
+meets_goes l slots id i me s r _ at _ = let m = r.machine in let all = r.seats id me.0 at in let seen : View = all_see m.history me.0 in (
   seen,
   keeps,
   tt,
@@ -143,7 +143,7 @@ meets_goes l slots id me s r _ at _ = let m = r.machine in let all = r.seats id 
     who = r.who;
     sound = r.sound;
     layout_is = r.layout_is;
-    words_are = set-get_or s.words 0 0 ∙ r.words_are;
+    words_are = set-get_or s.words i 0 ∙ r.words_are;
     seats = λ j v there. ⊎_elim
         (λ (t : (j ≡ id) × (seen ≡ v)). subst (λ (x : ℕ × View). ArePartsAt m r.who x.0 x.1) (λ i. (sym t.0 i, t.1 i)) (fit_all m r.who id me.0 all))
         (λ (t : (j ≢ id) × (get_elem? s.views j ≡ some v)). r.seats j v t.1) (at_set s.views id j seen v there);

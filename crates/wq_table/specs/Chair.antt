@@ -8,13 +8,22 @@ use Rattle.wq_core.specs.Sound.{IsSound}
 use Rattle.wq_table.specs.declared.table.Part.{Part}
 use Rattle.wq_table.specs.declared.table.Stage.{Stage}
 use Rattle.wq_table.specs.declared.table.Stage.TheVariants.{Sends, Owns}
-use Rattle.wq_table.specs.Law.{part, IsPartOf, sender_part, owner_part}
-use Rattle.wq_table.specs.Plays.{Makes}
+use Rattle.wq_table.specs.Law.{View, IsPartOf, sender_part, owner_part}
+use Rattle.wq_table.specs.Plays.{see, all_see, AllOf}
+use Rattle.wq_table.specs.Places.{chosen, besides, MakesAt}
 
--- which queue it is of, and what its seat knows
+-- which queue it is of, and what each seat that it speaks for knows: a first part, and maybe others
 pub record Standing : Type 0 where
   pub queue : TableId
   pub part : Part
+  pub others : View
+
+-- its part at this place, of which the first is 0, and all its other parts
+abbrev pub part_at : ℕ → Standing → Part
+part_at at it = chosen at it.part it.others
+
+abbrev pub besides_at : ℕ → Standing → View
+besides_at at it = besides at it.part it.others
 
 -- the seat is a sender's
 abbrev pub IsSender : Stage → Type 0
@@ -64,21 +73,26 @@ IsToBegin k (Sends p) = ⊥
 IsToBegin k (Owns cursor walked []) = ⊥
 IsToBegin k (Owns cursor walked (j ∷ js)) = (cursor ≡ None) × (j ≡ k)
 
--- the chair makes the step, and finds this word
-pub record Steps (step : Step) (word : ℕ) (old new : Standing) : Type 0 where
+-- the chair's part at this place makes the step and finds this word, and its other parts see it
+pub record Steps (at : ℕ) (step : Step) (word : ℕ) (old new : Standing) : Type 0 where
   pub queue_is : new.queue ≡ old.queue
-  pub makes : Makes step word old.part new.part
+  pub moves : MakesAt at step word old.part old.others new.part new.others
 
--- a seat that has seen all that has happened, and keeps what it kept
+-- each part of the chair was of the machine
+pub record SeatedIn (m : Machine) (it : Standing) : Type 0 where
+  pub fits : IsPartOf m it.part
+  pub others_fit : AllOf m it.others
+
+-- a chair that has seen all that has happened, and keeps what it kept
 abbrev pub seeing : Machine → Standing → Standing
-seeing m it = record { queue = it.queue; part = part it.part.seat it.part.layout m.history it.part.words it.part.stage }
+seeing m it = record { queue = it.queue; part = see m.history it.part; others = all_see m.history it.others }
 
 -- both have seen all that has happened
 pub record Meet (this that this' that' : Standing) : Type 0 where
   pub machine : Machine
   pub sound : IsSound machine
-  pub this_fits : IsPartOf machine this.part
-  pub that_fits : IsPartOf machine that.part
+  pub this_fits : SeatedIn machine this
+  pub that_fits : SeatedIn machine that
   pub this_is : this' ≡ seeing machine this
   pub that_is : that' ≡ seeing machine that
 
@@ -86,20 +100,30 @@ pub record Meet (this that this' that' : Standing) : Type 0 where
 pub record MeetAll (this that third this' that' third' : Standing) : Type 0 where
   pub machine : Machine
   pub sound : IsSound machine
-  pub this_fits : IsPartOf machine this.part
-  pub that_fits : IsPartOf machine that.part
-  pub third_fits : IsPartOf machine third.part
+  pub this_fits : SeatedIn machine this
+  pub that_fits : SeatedIn machine that
+  pub third_fits : SeatedIn machine third
   pub this_is : this' ≡ seeing machine this
   pub that_is : that' ≡ seeing machine that
   pub third_is : third' ≡ seeing machine third
 
+-- the chair speaks for both, and has seen all that has happened
+pub record Joined (this that both : Standing) : Type 0 where
+  pub machine : Machine
+  pub sound : IsSound machine
+  pub this_fits : SeatedIn machine this
+  pub that_fits : SeatedIn machine that
+  pub queue_is : both.queue ≡ this.queue
+  pub part_is : both.part ≡ see machine.history this.part
+  pub others_are : both.others ≡ all_see machine.history (this.others ++ that.part ∷ that.others)
+
 -- the chairs of the senders below m, which have seen nothing
 abbrev pub sender_chair : TableId → Layout → ℕ → Standing
-sender_chair queue layout c = record { queue = queue; part = sender_part layout c }
+sender_chair queue layout c = record { queue = queue; part = sender_part layout c; others = [] }
 
 abbrev pub sender_chairs : TableId → Layout → ℕ → List Standing
 sender_chairs queue layout zero = []
 sender_chairs queue layout (suc m) = sender_chairs queue layout m ++ sender_chair queue layout m ∷ []
 
 abbrev pub owner_chair : TableId → Layout → Standing
-owner_chair queue layout = record { queue = queue; part = owner_part layout }
+owner_chair queue layout = record { queue = queue; part = owner_part layout; others = [] }

@@ -1,4 +1,6 @@
 pub mod Law
 pub mod Plays
+pub mod Places
 pub mod Chair
+pub mod Beside
 pub mod Sits

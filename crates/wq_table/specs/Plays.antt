@@ -82,28 +82,12 @@ pub record Performs (p : Part) (step : Step) (i : ℕ) (f g : ℕ → ℕ) : Typ
   pub writes : (m : Machine) → IsSound m → IsPartOf m p → (after m (seat_at p.seat p.stage) step).words ≡ set m.words i (f (get_or m.words i 0))
   pub finds : (m : Machine) → IsSound m → IsPartOf m p → g (get_or m.words i 0) ≡ word_found m p.seat step
 
--- The step is made by a view, which has one part
-pub record MakesAlone (step : Layout → Step) (me : Sat) (word : ℕ) (me' : Sat) : Type 0 where
-  pub from : Part
-  pub to : Part
-  pub was : me.0 ≡ from ∷ []
-  pub is : me'.0 ≡ to ∷ []
-  pub slots : me'.1 ≡ me.1
-  pub makes : Makes (step from.layout) word from to
-
 abbrev pub Told : Type 1
 Told = TableStep (Unit {0}) → Sat → ℕ → Sat → Type 0
 
 -- the step of a seat that an operation is, by the place of its word and, where it is stored or exchanged, the new word
 abbrev pub Kind : Type 0
 Kind = ℕ → ℕ → Layout → Step
-
-abbrev pub tells : Kind → Told
-tells kind s = MakesAlone (kind s.word s.second)
-
--- a store has its new word elsewhere
-abbrev pub stores : Kind → Told
-stores kind s = MakesAlone (kind s.word s.first)
 
 -- the number whose item word has this place
 abbrev pub item_at : ℕ → Layout → ℕ
@@ -157,10 +141,13 @@ chains i new layout = Chain (item_at i layout)
 abbrev pub rests : Kind
 rests i new layout = Rest
 
--- each part has seen h
+-- the part has seen h, and keeps all else
+abbrev pub see : List Event → Part → Part
+see h p = part p.seat p.layout h p.words p.stage
+
 abbrev pub all_see : List Event → View → View
 all_see h [] = []
-all_see h (p ∷ ps) = part p.seat p.layout h p.words p.stage ∷ all_see h ps
+all_see h (p ∷ ps) = see h p ∷ all_see h ps
 
 abbrev pub AllOf : Machine → View → Type 0
 AllOf m [] = Unit {0}

@@ -7,4 +7,4 @@ mod table;
 
 pub use chair::Chair;
 pub use making::chairs;
-pub use table::{Part, Stage};
+pub use table::{First, Part, Place, Second, Stage};

@@ -24,6 +24,7 @@ pub fn chairs(alloc: Global, layout: Layout) -> Result<(Chair, Vec<Chair>), Allo
         let theirs: Seated = words.shared.split_seat::<Off>(&mut seat);
         senders.push(Chair {
             words,
+            spare: None,
             badge: theirs.into_badge(),
             layout,
         })?;
@@ -31,6 +32,7 @@ pub fn chairs(alloc: Global, layout: Layout) -> Result<(Chair, Vec<Chair>), Allo
     Ok((
         Chair {
             words,
+            spare: None,
             badge: seat.into_badge(),
             layout,
         },

@@ -48,26 +48,47 @@ pub(crate) trait Kind {
     ghost step: { plays.Kind };
 }
 
-// The seat makes the step of this kind.
-pub(crate) struct Makes<K> {
-    of: PhantomData<K>,
+/// Which part of a chair makes a step, by its place. A chair of fewer parts has its last one make it.
+pub trait Place {
+    ghost use Rattle.std.specs.Prelude.{ℕ};
+
+    ghost at: { ℕ };
 }
 
-impl<K: Kind> Play<(), GhostList<Part>> for Makes<K> {
-    ghost use Rattle.wq_table.specs.Plays.{tells};
+/// The first part.
+pub struct First;
 
-    ghost then = { tells K.step };
+impl Place for First {
+    ghost at = { 0 };
+}
+
+/// The second part.
+pub struct Second;
+
+impl Place for Second {
+    ghost at = { 1 };
+}
+
+// The part at the place makes the step of this kind.
+pub(crate) struct Makes<K, P> {
+    of: PhantomData<(K, P)>,
+}
+
+impl<K: Kind, P: Place> Play<(), GhostList<Part>> for Makes<K, P> {
+    ghost use Rattle.wq_table.specs.Places.{tells};
+
+    ghost then = { tells P.at K.step };
 }
 
 // The same of a store, where the new word says which step it is.
-pub(crate) struct Stores<K> {
-    of: PhantomData<K>,
+pub(crate) struct Stores<K, P> {
+    of: PhantomData<(K, P)>,
 }
 
-impl<K: Kind> Play<(), GhostList<Part>> for Stores<K> {
-    ghost use Rattle.wq_table.specs.Plays.{stores};
+impl<K: Kind, P: Place> Play<(), GhostList<Part>> for Stores<K, P> {
+    ghost use Rattle.wq_table.specs.Places.{stores};
 
-    ghost then = { stores K.step };
+    ghost then = { stores P.at K.step };
 }
 
 pub(crate) struct Marks;

@@ -1,11 +1,12 @@
-use Rattle.std.proofs.Common.{rules, arith, ℕ, ◌≡◌, [], ◌∷◌, replicate, sym, ap, ◌∙◌}
+use Rattle.std.proofs.Common.{rules, arith, ℕ, List, ◌≡◌, [], ◌∷◌, replicate, sym, ap, ◌∙◌, subst}
 use Rattle.std.specs.Arc.{arc_value}
 use Rattle.wq_words.specs.Numbers.{number_count}
 use Rattle.wq_core.specs.Words.{word_count}
 use Rattle.wq_table.specs.Law.{View, sender_part}
 use Rattle.wq_table.specs.Chair.{sender_chairs}
+use Rattle.wq_table.specs.Sits.{part_of, others_of, AreSized}
 use Rattle.wq_table.proofs.Views.{offs, opens, cut_first, cut_rest}
-use Rattle.wq_table.proofs.Told.{one_view, next_chair}
+use Rattle.wq_table.proofs.Told.{one_more, next_chair}
 use Rattle.wq_table.proofs.making.chairs.Goals as goal
 
 pub of_words-requires : goal.of_words-requires
@@ -27,14 +28,17 @@ invariant_of-push c =
     let l = c.args.layout in let a = c.loop-number.number in let inv = c.loop-number.invariant in
     let cut : c.split_seat-theirs.result.me.0 ≡ sender_part l a ∷ [] = cut_first c.loop-number.seat.me.0 c.split_seat-theirs.result.me.0 l a l.senders
     c.loop-number-test.true inv.2 (ap (λ m. m.0) c.split_seat-theirs.ensures.4) in
-    let one = one_view l c.into_badge.result.views (sender_part l a) (c.into_badge.ensures.2 ∙ ap (λ (v : View). v ∷ []) cut) in
+    let at : c.into_badge.result.views ≡ (sender_part l a ∷ []) ∷ [] = c.into_badge.ensures.2 ∙ ap (λ (v : View). v ∷ []) cut in
     let clone = c.in_ok-words-2.ensures in let made = c.in_ok-words.ensures.ok in let table = c.in_ok-table.ensures in record {
       seated = c.into_badge.ensures.0 ∙ (c.split_seat-theirs.ensures.3 ∙ (inv.0 ∙ ap (λ t. t.shared.table_id) (sym clone)));
       wide = ap (λ t. t.shared.table_id.words) clone ∙
           (ap (λ t. t.shared.table_id.words) made ∙ (table.0 ∙ (c.as_slice.ensures.len ∙ (c.in_ok-row.ensures.len ∙ c.word_count.ensures.words))));
       keyed = ap (λ t. t.shared.key) clone ∙ (ap (λ t. t.shared.key) made ∙ table.5);
-      sized = ap (λ p. p.layout) one.0;
-      alone = one.1;
+      sized = ap (λ (x : List View). (part_of l x).layout) at;
+      others_sized = subst (λ (x : List View). AreSized l (others_of x)) (sym at) tt;
+      one_view = one_more l (sender_part l a) [] c.into_badge.result.views at;
+      spare_is = tt;
+      has_spare = λ some. absurd (some (ap others_of at));
     }
 
 pub loop-number-preserved : goal.loop-number-preserved

@@ -1,0 +1,76 @@
+-- Steps one after another, as the other parts of a chair see them.
+use Rattle.std.proofs.Common.{◌≡◌, ℕ, List, [], ◌∷◌, inr, ⊎_elim, refl, sym, ap, ◌∙◌, subst}
+use Rattle.wq_words.specs.declared.event.Event.{Event}
+use Rattle.wq_words.proofs.Prefixes.{prefix_on}
+use Rattle.wq_core.specs.declared.step.Step.{Step}
+use Rattle.wq_core.specs.Machine.{Machine, after}
+use Rattle.wq_table.specs.declared.table.Part.{Part}
+use Rattle.wq_table.specs.Law.{View, seat_at, IsPartOf}
+use Rattle.wq_table.specs.Plays.{see, all_see, AllOf}
+use Rattle.wq_table.specs.Chair.{Standing, part_at, besides_at, Steps}
+use Rattle.wq_table.specs.Beside.{Follow, Beside}
+
+-- one step
+pub follow_step : (at : ℕ) (step : Step) (word : ℕ) (old new : Standing) → Steps at step word old new → Follow at old new
+follow_step at step word old new steps = let moves = steps.moves in let makes = moves.makes in record {
+  machine = after makes.before (seat_at (part_at at old).seat (part_at at old).stage) step;
+  sound = makes.sound_after;
+  queue_is = steps.queue_is;
+  seen_is = makes.seen_is;
+  fit = moves.still_fit;
+  others_are = moves.others_are ∙ ap (λ (h : List Event). all_see h (besides_at at old)) makes.seen_is;
+}
+
+-- a part that was of a machine, and after it has seen all was of another, was of the other as it was at first
+fit_on : (m n : Machine) (p : Part) → IsPartOf m p → IsPartOf n (see m.history p) → IsPartOf n p
+fit_on m n p a b = record {
+  layout_is = b.layout_is;
+  begins = prefix_on p.seen m.history n.history a.begins b.begins;
+  mine = b.mine ∙ a.mine;
+  keeps = b.keeps;
+  links = b.links;
+}
+
+all_on : (m n : Machine) (v : View) → AllOf m v → AllOf n (all_see m.history v) → AllOf n v
+all_on m n [] a b = tt
+all_on m n (p ∷ ps) a b = (fit_on m n p a.0 b.0, all_on m n ps a.1 b.1)
+
+see_twice : (g h : List Event) (v : View) → all_see h (all_see g v) ≡ all_see h v
+see_twice g h [] = refl
+see_twice g h (p ∷ ps) = ap (λ (v : View). see h p ∷ v) (see_twice g h ps)
+
+pub follow_on : (at : ℕ) (a b c : Standing) → Follow at a b → Follow at b c → Follow at a c
+follow_on at a b c x y = record {
+  machine = y.machine;
+  sound = y.sound;
+  queue_is = y.queue_is ∙ x.queue_is;
+  seen_is = y.seen_is;
+  fit = all_on x.machine y.machine (besides_at at a) x.fit (subst (AllOf y.machine) x.others_are y.fit);
+  others_are = y.others_are ∙ (ap (all_see y.machine.history) x.others_are ∙ see_twice x.machine.history y.machine.history (besides_at at a));
+}
+
+pub beside_on : (at : ℕ) (a b c : Standing) → Beside at a b → Beside at b c → Beside at a c
+beside_on at a b c x y = ⊎_elim
+    (λ (e : b ≡ a). subst (λ (z : Standing). Beside at z c) e y)
+    (λ (f : Follow at a b). ⊎_elim (λ (e : c ≡ b). inr (subst (Follow at a) (sym e) f)) (λ (g : Follow at b c). inr (follow_on at a b c f g)) y) x
+
+pub beside_step : (at : ℕ) (step : Step) (word : ℕ) (a b c : Standing) → Beside at a b → Steps at step word b c → Beside at a c
+beside_step at step word a b c x steps = beside_on at a b c x (inr (follow_step at step word b c steps))
+
+-- made steps, and maybe more
+pub follow_beside : (at : ℕ) (step : Step) (word : ℕ) (a b c : Standing) → Steps at step word a b → Beside at b c → Follow at a c
+follow_beside at step word a b c steps y = let f = follow_step at step word a b steps in ⊎_elim
+    (λ (e : c ≡ b). subst (Follow at a) (sym e) f) (λ (g : Follow at b c). follow_on at a b c f g) y
+
+pub beside_queue : (at : ℕ) (a b : Standing) → Beside at a b → b.queue ≡ a.queue
+beside_queue at a b x = ⊎_elim (λ (e : b ≡ a). ap (λ (z : Standing). z.queue) e) (λ (f : Follow at a b). f.queue_is) x
+
+-- a chair of one part is still one
+pub alone_follow : (a b : Standing) → Follow 0 a b → a.others ≡ [] → b.others ≡ []
+alone_follow a b f none = f.others_are ∙ ap (all_see f.machine.history) none
+
+pub alone_beside : (a b : Standing) → Beside 0 a b → a.others ≡ [] → b.others ≡ []
+alone_beside a b x none = ⊎_elim (λ (e : b ≡ a). ap (λ (z : Standing). z.others) e ∙ none) (λ (f : Follow 0 a b). alone_follow a b f none) x
+
+pub alone_step : (step : Step) (word : ℕ) (a b : Standing) → Steps 0 step word a b → a.others ≡ [] → b.others ≡ []
+alone_step step word a b steps none = alone_follow a b (follow_step 0 step word a b steps) none
