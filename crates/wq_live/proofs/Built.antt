@@ -37,6 +37,7 @@ new_senders-more q l n = let e : n + 1 ≡ suc n = omega arith in sym (ap (new_s
 pub sends_new : (s : sender.Inside) (q : TableId) → s.chair ≡ sender_chair q s.layout s.number
     → s.counts ≡ record { queued = 0; pending = 0; closed = 0; contended = 0 } → Sends s
 sends_new s q is counts = let seen : s.chair.part.seen ≡ [] = ap (λ (x : Standing). x.part.seen) is in record {
+  alone = ap (λ (x : Standing). x.others) is;
   layout_is = ap (λ (x : Standing). x.part.layout) is;
   number_is = ap (λ (x : Standing). x.part.seat) is;
   stage = subst (λ (x : Standing). IsSender x.part.stage) (sym is) tt;
@@ -59,6 +60,7 @@ stands_new l p is = subst (λ (x : Standing). Stands x.part) (sym is) record {
 pub executes_new : (s : owner.Inside) → s.chair ≡ owner_chair s.chair.queue s.layout → s.row ≡ record { front = 0; last = 0; count = 0 }
     → s.running ≡ None → s.closed ≡ false → s.counts ≡ record { chained = 0; chain_busy = 0; ended = 0 } → OwnsQueue s
 executes_new s is row runs shut counts = let seen : s.chair.part.seen ≡ [] = ap (λ (x : Standing). x.part.seen) is in record {
+  alone = ap (λ (x : Standing). x.others) is;
   layout_is = ap (λ (x : Standing). x.part.layout) is;
   number_is = ap (λ (x : Standing). x.part.seat) is;
   stands = stands_new s.layout s.chair is;

@@ -2,6 +2,7 @@ pub mod Growing
 pub mod Tells
 pub mod Counting
 pub mod Sends
+pub mod Tried
 pub mod Flushed
 pub mod Waiting
 pub mod Rows

@@ -6,8 +6,9 @@ use Rattle.wq_core.specs.Sound.{IsSound}
 use Rattle.wq_table.specs.declared.table.Part.{Part}
 use Rattle.wq_table.specs.declared.table.Stage.{Stage}
 use Rattle.wq_table.specs.declared.table.Stage.TheVariants as stage
-use Rattle.wq_table.specs.Law.{part, HasStage, IsPartOf}
-use Rattle.wq_table.specs.Chair.{Standing, IsSender}
+use Rattle.wq_table.specs.Law.{HasStage, IsPartOf}
+use Rattle.wq_table.specs.Plays.{see, all_see}
+use Rattle.wq_table.specs.Chair.{Standing, IsSender, seeing}
 use Rattle.wq_words.proofs.Prefixes.{prefix_self}
 use Rattle.wq_live.specs.declared.owner.Owner.TheInside.{Inside}
 use Rattle.wq_live.specs.declared.sender.Sender.TheInside as sender
@@ -17,7 +18,7 @@ use Rattle.wq_live.proofs.Tells.{Tells, meet_tells}
 use Rattle.wq_live.proofs.Owned.{running_quiet, closed_quiet, counts_quiet}
 use Rattle.wq_live.proofs.OwnerTells.{owner_grows, owner_sees}
 
-meet_stands : (m : Machine) (p q : Part) → IsSound m → IsPartOf m p → q ≡ part p.seat p.layout m.history p.words p.stage → Stands q
+meet_stands : (m : Machine) (p q : Part) → IsSound m → IsPartOf m p → q ≡ see m.history p → Stands q
 meet_stands m p q sound f is = subst Stands (sym is) record {
   machine = m;
   sound = sound;
@@ -26,9 +27,9 @@ meet_stands m p q sound f is = subst Stands (sym is) record {
 }
 
 module _ (s : Inside) (q : Standing) (m : Machine) (sound : IsSound m) (f : IsPartOf m s.chair.part)
-    (is : q ≡ record { queue = s.chair.queue; part = part s.chair.part.seat s.chair.part.layout m.history s.chair.part.words s.chair.part.stage })
+    (is : q ≡ seeing m s.chair)
     (executes : OwnsQueue s) where
-  parts : q.part ≡ part s.chair.part.seat s.chair.part.layout m.history s.chair.part.words s.chair.part.stage
+  parts : q.part ≡ see m.history s.chair.part
   parts = ap (λ (x : Standing). x.part) is
 
   told : Tells [] s.chair.part q.part
@@ -36,6 +37,7 @@ module _ (s : Inside) (q : Standing) (m : Machine) (sound : IsSound m) (f : IsPa
 
   pub meet_executes : OwnsQueue (record s { chair = q })
   meet_executes = let g = owner_grows [] 0 s (record s { chair = q }) executes told in let v = s.chair.part.seen in let w = q.part.seen in record {
+    alone = ap (λ (x : Standing). x.others) is ∙ ap (all_see m.history) executes.alone;
     layout_is = told.layout_is ∙ executes.layout_is;
     number_is = told.seat_is ∙ executes.number_is;
     stands = meet_stands m s.chair.part q.part sound f parts;

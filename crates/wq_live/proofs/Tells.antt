@@ -21,23 +21,14 @@ use Rattle.wq_table.specs.declared.table.Part.{Part}
 use Rattle.wq_table.specs.declared.table.Stage.{Stage}
 use Rattle.wq_table.specs.declared.table.Stage.TheVariants.{Sends, Owns}
 use Rattle.wq_words.specs.Seen.{own, Grows}
-use Rattle.wq_table.specs.Law.{part, seat_at, HasStage, IsPartOf}
-use Rattle.wq_table.specs.Plays.{stage_after, Makes}
+use Rattle.wq_table.specs.Law.{seat_at, HasStage, IsPartOf}
+use Rattle.wq_table.specs.Plays.{stage_after, Makes, see}
 use Rattle.wq_table.specs.Chair.{IsSender, HasSeen, HasLinked}
 use Rattle.wq_table.proofs.Steps.{sender_seen}
 use Rattle.wq_words.proofs.Seen.{own_one}
 use Rattle.wq_live.specs.Answers.{IsPushed}
+pub use Rattle.wq_live.specs.Tells.{TellsSo, Tells}
 use Rattle.wq_live.proofs.Growing.{grows_done, grows_on, grows_held, grows_others}
-
--- the seat is the same and has seen more, with these events of its own
-pub record TellsSo (xs : List Event) (n : ℕ) (p q : Part) : Type 0 where
-  pub layout_is : q.layout ≡ p.layout
-  pub seat_is : q.seat ≡ p.seat
-  pub grows : Grows p.seat xs n p.seen q.seen
-  pub legal : IsLegal p.layout q.seen
-
-abbrev pub Tells : List Event → Part → Part → Type 0
-Tells xs p q = TellsSo xs 0 p q
 
 -- what is held stays held
 pub tells_held : (k n : ℕ) (p q : Part) → TellsSo [] n p q → Holds p.seen p.seat k → Holds q.seen q.seat k
@@ -248,7 +239,7 @@ check_tells k word p q is small makes =
     }
 
 -- what a meeting tells each of the two
-pub meet_tells : (m : Machine) (p q : Part) → IsSound m → IsPartOf m p → q ≡ part p.seat p.layout m.history p.words p.stage → Tells [] p q
+pub meet_tells : (m : Machine) (p q : Part) → IsSound m → IsPartOf m p → q ≡ see m.history p → Tells [] p q
 meet_tells m p q sound f is = let seen : q.seen ≡ m.history = ap (λ (x : Part). x.seen) is in record {
   layout_is = ap (λ (x : Part). x.layout) is;
   seat_is = ap (λ (x : Part). x.seat) is;
@@ -256,5 +247,5 @@ meet_tells m p q sound f is = let seen : q.seen ≡ m.history = ap (λ (x : Part
   legal = subst (λ (z : Layout × List Event). IsLegal z.0 z.1) (λ i. (sym f.layout_is i, sym seen i)) sound.legal;
 }
 
-pub meet_sender : (m : Machine) (p q : Part) → q ≡ part p.seat p.layout m.history p.words p.stage → IsSender p.stage → IsSender q.stage
+pub meet_sender : (m : Machine) (p q : Part) → q ≡ see m.history p → IsSender p.stage → IsSender q.stage
 meet_sender m p q is sender = subst IsSender (sym (ap (λ (x : Part). x.stage) is)) sender

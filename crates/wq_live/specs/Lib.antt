@@ -3,6 +3,7 @@ pub mod Batch
 pub mod Row
 pub mod Counts
 pub mod Answers
+pub mod Tells
 pub mod Rest
 pub mod Laws
 pub mod Sits

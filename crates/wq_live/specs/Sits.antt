@@ -20,8 +20,9 @@ use Rattle.wq_live.specs.Counts.{sender_counts, owner_counts}
 abbrev pub sender_view : sender.Inside → Known
 sender_view s = record { queue = s.chair.queue; layout = s.layout; number = s.number; seen = s.chair.part.seen }
 
--- the chair is a sender's, and what is kept beside it is of what it has seen
+-- the chair is a sender's alone, and what is kept beside it is of what it has seen
 pub record Sends (s : sender.Inside) : Type 0 where
+  pub alone : s.chair.others ≡ []
   pub layout_is : s.chair.part.layout ≡ s.layout
   pub number_is : s.chair.part.seat ≡ s.number
   pub stage : IsSender s.chair.part.stage
@@ -48,8 +49,9 @@ pub record HasRow (row : Row) (p : Part) : Type 0 where
   pub stage_is : p.stage ≡ stage.Owns None [] (kept_batch p.stage)
   pub row_is : IsRowOf p.words row (kept_batch p.stage)
 
--- the chair is the owner's, the row has its batch, and what is kept beside it is of what it has seen
+-- the chair is the owner's alone, the row has its batch, and what is kept beside it is of what it has seen
 pub record OwnsQueue (s : owner.Inside) : Type 0 where
+  pub alone : s.chair.others ≡ []
   pub layout_is : s.chair.part.layout ≡ s.layout
   pub number_is : s.chair.part.seat ≡ owner_seat
   pub stands : Stands s.chair.part

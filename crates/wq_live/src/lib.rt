@@ -8,6 +8,7 @@ mod making;
 mod owner;
 mod row;
 mod sender;
+mod trying;
 
 pub use answer::Done;
 pub use counts::{OwnerCounts, SenderCounts};

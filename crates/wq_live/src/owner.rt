@@ -7,6 +7,8 @@ ghost use Rattle.wq_words.specs.History.{IsClosed, closed, IsRunning, running, e
 ghost use Rattle.wq_words.specs.Legal.{IsLegal, IsComplete};
 ghost use Rattle.wq_words.specs.Headline.{KeepsHeadline};
 ghost use Rattle.wq_core.specs.Words.{number_at};
+ghost use Rattle.wq_table.specs.Chair.{part_at};
+ghost use Rattle.wq_table.specs.Beside.{Beside};
 ghost use Rattle.wq_live.specs.Known.{IsSame, Sees};
 ghost use Rattle.wq_live.specs.Answers.{Chains, IsFinal};
 ghost use Rattle.wq_live.specs.Batch.{batch, next_of, TakesAll};
@@ -21,7 +23,7 @@ use crate::counts::OwnerCounts;
 use crate::row::Row;
 use std::marker::Model;
 use wq_core::place::{link_word, number_at};
-use wq_table::Chair;
+use wq_table::{Chair, First, Place};
 use wq_words::{Answer, BUSY, Layout};
 
 /// The owner of a queue, who takes what was pushed and executes it, one number at a time, in the order of the pushes. It
@@ -49,22 +51,22 @@ impl Model for Owner {
 }
 
 // Walks what was taken, from the number of this word on, and turns its links, so that it stands oldest first.
-fn turn_taken(chair: &mut Chair, word: u64) -> Row
-    requires stands { Stands chair.old.part }
-    requires stage { chair.old.part.stage ≡ walking (number_at word) [] (kept_batch chair.old.part.stage) }
-    ensures queue { chair.new.queue ≡ chair.old.queue }
-    ensures follows { OnlySees chair.old.part chair.new.part }
-    ensures stands { Stands chair.new.part }
-    ensures turned { Turned (kept_batch chair.old.part.stage) result chair.old.part chair.new.part }
+pub(crate) fn turn_taken<P: Place>(chair: &mut Chair, word: u64) -> Row
+    requires stands { Stands (part_at P.at chair.old) }
+    requires stage { (part_at P.at chair.old).stage ≡ walking (number_at word) [] (kept_batch (part_at P.at chair.old).stage) }
+    ensures beside { Beside P.at chair.old chair.new }
+    ensures follows { OnlySees (part_at P.at chair.old) (part_at P.at chair.new) }
+    ensures stands { Stands (part_at P.at chair.new) }
+    ensures turned { Turned (kept_batch (part_at P.at chair.old).stage) result (part_at P.at chair.old) (part_at P.at chair.new) }
 {
     let Some(last) = number_at(word) else {
         return Row::empty();
     };
     let mut row = Row::of_one(last);
-    let mut next = number_at(chair.walk(last));
+    let mut next = number_at(chair.walk::<P>(last));
     while let Some(number) = next {
-        next = number_at(chair.walk(number));
-        chair.turn(number, row.front);
+        next = number_at(chair.walk::<P>(number));
+        chair.turn::<P>(number, row.front);
         row.front = number;
         row.count += 1;
     }
@@ -72,14 +74,14 @@ fn turn_taken(chair: &mut Chair, word: u64) -> Row
 }
 
 // Hangs one row behind another, by one link.
-fn hang(chair: &mut Chair, row: Row, more: Row) -> Row
-    requires stands { Stands chair.old.part }
-    requires both { HasBoth row more chair.old.part }
-    ensures queue { chair.new.queue ≡ chair.old.queue }
-    ensures follows { OnlySees chair.old.part chair.new.part }
-    ensures stands { Stands chair.new.part }
-    ensures stage { chair.new.part.stage ≡ chair.old.part.stage }
-    ensures has_row { HasRow result chair.new.part }
+pub(crate) fn hang<P: Place>(chair: &mut Chair, row: Row, more: Row) -> Row
+    requires stands { Stands (part_at P.at chair.old) }
+    requires both { HasBoth row more (part_at P.at chair.old) }
+    ensures beside { Beside P.at chair.old chair.new }
+    ensures follows { OnlySees (part_at P.at chair.old) (part_at P.at chair.new) }
+    ensures stands { Stands (part_at P.at chair.new) }
+    ensures stage { (part_at P.at chair.new).stage ≡ (part_at P.at chair.old).stage }
+    ensures has_row { HasRow result (part_at P.at chair.new) }
     ensures count { result.count ≡ row.count + more.count }
 {
     if more.count == 0 {
@@ -88,7 +90,7 @@ fn hang(chair: &mut Chair, row: Row, more: Row) -> Row
     if row.count == 0 {
         return more;
     }
-    chair.turn(row.last, more.front);
+    chair.turn::<P>(row.last, more.front);
     Row {
         front: row.front,
         last: more.last,
@@ -97,36 +99,36 @@ fn hang(chair: &mut Chair, row: Row, more: Row) -> Row
 }
 
 // Walks what was taken, from the number of this word on, and hangs it behind what waits.
-fn walk_all(chair: &mut Chair, row: Row, word: u64) -> Row
-    requires stands { Stands chair.old.part }
-    requires stage { chair.old.part.stage ≡ walking (number_at word) [] (kept_batch chair.old.part.stage) }
-    requires row { IsRowOf chair.old.part.words row (kept_batch chair.old.part.stage) }
-    ensures queue { chair.new.queue ≡ chair.old.queue }
-    ensures follows { OnlySees chair.old.part chair.new.part }
-    ensures stands { Stands chair.new.part }
-    ensures has_row { HasRow result chair.new.part }
+pub(crate) fn walk_all<P: Place>(chair: &mut Chair, row: Row, word: u64) -> Row
+    requires stands { Stands (part_at P.at chair.old) }
+    requires stage { (part_at P.at chair.old).stage ≡ walking (number_at word) [] (kept_batch (part_at P.at chair.old).stage) }
+    requires row { IsRowOf (part_at P.at chair.old).words row (kept_batch (part_at P.at chair.old).stage) }
+    ensures beside { Beside P.at chair.old chair.new }
+    ensures follows { OnlySees (part_at P.at chair.old) (part_at P.at chair.new) }
+    ensures stands { Stands (part_at P.at chair.new) }
+    ensures has_row { HasRow result (part_at P.at chair.new) }
     ensures more { row.count ≤ result.count }
-    ensures behind { IsPrefix (kept_batch chair.old.part.stage) (kept_batch chair.new.part.stage) }
+    ensures behind { IsPrefix (kept_batch (part_at P.at chair.old).stage) (kept_batch (part_at P.at chair.new).stage) }
 {
-    let taken = turn_taken(chair, word);
-    hang(chair, row, taken)
+    let taken = turn_taken::<P>(chair, word);
+    hang::<P>(chair, row, taken)
 }
 
 // What is left of a row without its first number, whose link is loaded while nobody else can write it.
-fn without_first(chair: &mut Chair, row: Row) -> Row
-    requires stands { Stands chair.old.part }
-    requires has_row { HasRow row chair.old.part }
+pub(crate) fn without_first<P: Place>(chair: &mut Chair, row: Row) -> Row
+    requires stands { Stands (part_at P.at chair.old) }
+    requires has_row { HasRow row (part_at P.at chair.old) }
     requires some { 0 < row.count }
-    ensures queue { chair.new.queue ≡ chair.old.queue }
-    ensures follows { OnlySees chair.old.part chair.new.part }
-    ensures stands { Stands chair.new.part }
-    ensures stage { chair.new.part.stage ≡ chair.old.part.stage }
-    ensures first { HasFirst row.front result chair.new.part }
+    ensures beside { Beside P.at chair.old chair.new }
+    ensures follows { OnlySees (part_at P.at chair.old) (part_at P.at chair.new) }
+    ensures stands { Stands (part_at P.at chair.new) }
+    ensures stage { (part_at P.at chair.new).stage ≡ (part_at P.at chair.old).stage }
+    ensures first { HasFirst row.front result (part_at P.at chair.new) }
 {
     if row.count == 1 {
         return Row::empty();
     }
-    match number_at(chair.walk(row.front)) {
+    match number_at(chair.walk::<P>(row.front)) {
         Some(front) => Row {
             front,
             last: row.last,
@@ -166,8 +168,8 @@ impl Owner {
         ensures idle { ¬ IsRunning self.old.seen → ¬ IsRunning self.new.seen }
         ensures runs { IsRunning self.old.seen → IsRunning self.new.seen }
     {
-        let head = self.chair.take();
-        self.row = walk_all(&mut self.chair, self.row, link_word(head));
+        let head = self.chair.take::<First>();
+        self.row = walk_all::<First>(&mut self.chair, self.row, link_word(head));
         self.row.count
     }
 
@@ -184,9 +186,9 @@ impl Owner {
         ensures runs { IsRunning self.old.seen → IsRunning self.new.seen }
     {
         let had = self.row.count;
-        let head = self.chair.close();
+        let head = self.chair.close::<First>();
         self.closed = true;
-        self.row = walk_all(&mut self.chair, self.row, link_word(head));
+        self.row = walk_all::<First>(&mut self.chair, self.row, link_word(head));
         self.row.count - had
     }
 
@@ -221,8 +223,8 @@ impl Owner {
         ensures unclosed { ¬ IsClosed self.old.seen → ¬ IsClosed self.new.seen }
     {
         let number = self.row.front;
-        self.row = without_first(&mut self.chair, self.row);
-        self.chair.begin(number);
+        self.row = without_first::<First>(&mut self.chair, self.row);
+        self.chair.begin::<First>(number);
         self.running = Some(number);
         number
     }
@@ -237,7 +239,7 @@ impl Owner {
         ensures shut { IsClosed self.old.seen → IsClosed self.new.seen }
         ensures unclosed { ¬ IsClosed self.old.seen → ¬ IsClosed self.new.seen }
     {
-        self.chair.end();
+        self.chair.end::<First>();
         self.running = None;
         self.counts.ended = self.counts.ended.saturating_add(1);
     }
@@ -262,7 +264,7 @@ impl Owner {
         ensures empty { batch self.new.seen ≡ [] }
         ensures idle { ¬ IsRunning self.new.seen }
     {
-        let head = self.chair.rest();
+        let head = self.chair.rest::<First>();
         head == BUSY
     }
 
@@ -278,11 +280,11 @@ impl Owner {
         ensures shut { IsClosed self.new.seen }
         ensures runs { IsRunning self.new.seen }
     {
-        if self.chair.chain(item) != 0 {
+        if self.chair.chain::<First>(item) != 0 {
             self.counts.chain_busy = self.counts.chain_busy.saturating_add(1);
             return Answer::Pending;
         }
-        self.row = hang(&mut self.chair, self.row, Row::of_one(item));
+        self.row = hang::<First>(&mut self.chair, self.row, Row::of_one(item));
         self.counts.chained = self.counts.chained.saturating_add(1);
         Answer::Queued {
             first: false,

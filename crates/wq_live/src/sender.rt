@@ -16,12 +16,12 @@ ghost use Rattle.wq_live.specs.Laws.{IsStillEnd};
 
 use crate::counts::SenderCounts;
 use crate::owner::Owner;
+use crate::trying::try_push;
 use crossbeam_utils::Backoff;
 use std::marker::Model;
 use std::sync::Wait;
-use wq_core::place::link_word;
-use wq_table::Chair;
-use wq_words::{Answer, Head, Layout, Posted};
+use wq_table::{Chair, First};
+use wq_words::{Answer, Layout, Posted};
 
 /// A sender of a queue. It may be moved to another thread. No call takes a lock or memory, and only `queue` and `flush`
 /// may wait.
@@ -85,7 +85,7 @@ impl Sender {
         requires number { number < number_count self.old.layout }
         ensures seen { TestsAndSets number result self.old self.new }
     {
-        if self.chair.hold(number) == 0 {
+        if self.chair.hold::<First>(number) == 0 {
             return true;
         }
         self.counts.pending = self.counts.pending.saturating_add(1);
@@ -98,23 +98,13 @@ impl Sender {
         requires held { Holds self.old.seen self.old.number number }
         ensures { Posts number 1 result self.old self.new }
     {
-        let word = self.chair.look();
-        let closed = Head::Closed.to_word();
-        let empty = Head::Empty.to_word();
-        if word == closed {
-            self.chair.back_closed(number);
-            self.counts.closed = self.counts.closed.saturating_add(1);
-            return Posted::Closed;
+        let posted = try_push::<First>(&mut self.chair, number);
+        match &posted {
+            Posted::Queued { .. } => self.counts.queued = self.counts.queued.saturating_add(1),
+            Posted::Closed => self.counts.closed = self.counts.closed.saturating_add(1),
+            Posted::Contended => {}
         }
-        self.chair.link(number, word);
-        if self.chair.push(number, word) == word {
-            self.counts.queued = self.counts.queued.saturating_add(1);
-            return Posted::Queued {
-                first: link_word(word) == empty,
-                wakes: word == empty,
-            };
-        }
-        Posted::Contended
+        posted
     }
 
     // Gives up a number that this sender holds, after as many tries as were asked for.
@@ -123,7 +113,7 @@ impl Sender {
         requires held { Holds self.old.seen self.old.number number }
         ensures { Sees (Back self.old.number number why.Contended ∷ []) 0 self.old self.new }
     {
-        self.chair.back_contended(number);
+        self.chair.back_contended::<First>(number);
         self.counts.contended = self.counts.contended.saturating_add(1);
     }
 
@@ -133,7 +123,7 @@ impl Sender {
         ensures seen { Sees [] 0 self.old self.new }
         ensures pending { result ≡ pending self.new.seen number }
     {
-        self.chair.check(number) != 0
+        self.chair.check::<First>(number) != 0
     }
 
     /// Clears the PENDING bit of an item that this sender holds.
@@ -144,7 +134,7 @@ impl Sender {
         ensures same { IsSame self.old self.new }
         ensures keeps { (k : ℕ) → k ≢ item → Holds self.old.seen self.old.number k → Holds self.new.seen self.new.number k }
     {
-        self.chair.back_cancelled(item);
+        self.chair.back_cancelled::<First>(item);
     }
 
     // Tries to push a number that this sender holds, so many times, and at least once. It spins between the tries.

@@ -54,6 +54,9 @@ beside_on at a b c x y = ⊎_elim
     (λ (e : b ≡ a). subst (λ (z : Standing). Beside at z c) e y)
     (λ (f : Follow at a b). ⊎_elim (λ (e : c ≡ b). inr (subst (Follow at a) (sym e) f)) (λ (g : Follow at b c). inr (follow_on at a b c f g)) y) x
 
+pub beside_first : (at : ℕ) (step : Step) (word : ℕ) (a b : Standing) → Steps at step word a b → Beside at a b
+beside_first at step word a b steps = inr (follow_step at step word a b steps)
+
 pub beside_step : (at : ℕ) (step : Step) (word : ℕ) (a b c : Standing) → Beside at a b → Steps at step word b c → Beside at a c
 beside_step at step word a b c x steps = beside_on at a b c x (inr (follow_step at step word b c steps))
 

@@ -2,6 +2,7 @@ use Rattle.std.proofs.Common.{◌≢◌, ◌<◌, ℕ, List, [], ◌∷◌, leng
 use Rattle.wq_words.specs.declared.event.Event.TheVariants.{Begin}
 use Rattle.wq_words.specs.History.{IsRunning}
 use Rattle.wq_words.proofs.Running.{runs_from_running}
+use Rattle.wq_table.proofs.Beside.{beside_queue, alone_step, alone_beside}
 use Rattle.wq_live.specs.Known.{Known}
 use Rattle.wq_live.specs.Sits.{kept_batch}
 use Rattle.wq_live.proofs.Tells.{Tells}
@@ -36,13 +37,14 @@ begin-requires-clause-rests c = let s = c.self.inside in let o = c.self.invarian
 
 pub invariant_of-self : goal.invariant_of-self
 invariant_of-self c = let s = c.self.inside in let o = c.self.invariant in let e = c.without_first-self-inside.ensures in let k = s.row.front in
-    let p = s.chair.part in let q = c.without_first-self-inside.new.chair.part in let r = c.begin.new.self.part in let makes = c.begin.ensures.step.1.makes in
+    let p = s.chair.part in let q = c.without_first-self-inside.new.chair.part in let r = c.begin.new.self.part in let makes = c.begin.ensures.step.1.moves.makes in
     let first = e.first in
     let told : Tells (Begin k ∷ []) p r = sees_then (λ _. Begin k ∷ []) p q r e.follows e.stands
     (begin_tells k c.begin.ensures.step.0 q r first.others (e.follows.seat_is ∙ o.number_is) first.stage_is makes) in
     let t = record s { chair = c.begin.new.self; row = c.without_first-self-inside.result; running = Some k } in
     let g = owner_grows (Begin k ∷ []) 0 s t o told in
     let idle : ¬ IsRunning p.seen = subst (λ (v : Known). ¬ IsRunning v.seen) (sym c.self.view_is) c.requires.idle in record {
+      alone = alone_step _ _ _ _ c.begin.ensures.step.1 (alone_beside _ _ e.beside o.alone);
       layout_is = told.layout_is ∙ o.layout_is;
       number_is = told.seat_is ∙ o.number_is;
       stands = makes_stands _ _ q r makes;
@@ -62,16 +64,16 @@ returns-clause-next c = let s = c.self.inside in let o = c.self.invariant in
 
 pub returns-clause-seen : goal.returns-clause-seen
 returns-clause-seen c = let s = c.self.inside in let o = c.self.invariant in let e = c.without_first-self-inside.ensures in let k = s.row.front in
-    let p = s.chair.part in let q = c.without_first-self-inside.new.chair.part in let r = c.begin.new.self.part in let makes = c.begin.ensures.step.1.makes in
+    let p = s.chair.part in let q = c.without_first-self-inside.new.chair.part in let r = c.begin.new.self.part in let makes = c.begin.ensures.step.1.moves.makes in
     let first = e.first in
     let told : Tells (Begin k ∷ []) p r = sees_then (λ _. Begin k ∷ []) p q r e.follows e.stands
     (begin_tells k c.begin.ensures.step.0 q r first.others (e.follows.seat_is ∙ o.number_is) first.stage_is makes) in
     let t = record s { chair = c.begin.new.self; row = c.without_first-self-inside.result; running = Some k } in
-    owner_sees (Begin k ∷ []) 0 s t c.args.self.now c.self.view_is o refl (c.begin.ensures.step.1.queue_is ∙ e.queue) told
+    owner_sees (Begin k ∷ []) 0 s t c.args.self.now c.self.view_is o refl (c.begin.ensures.step.1.queue_is ∙ beside_queue 0 _ _ e.beside) told
 
 pub returns-clause-running : goal.returns-clause-running
 returns-clause-running c = let s = c.self.inside in let o = c.self.invariant in let e = c.without_first-self-inside.ensures in let k = s.row.front in
-    let p = s.chair.part in let q = c.without_first-self-inside.new.chair.part in let r = c.begin.new.self.part in let makes = c.begin.ensures.step.1.makes in
+    let p = s.chair.part in let q = c.without_first-self-inside.new.chair.part in let r = c.begin.new.self.part in let makes = c.begin.ensures.step.1.moves.makes in
     let told : Tells (Begin k ∷ []) p r = sees_then (λ _. Begin k ∷ []) p q r e.follows e.stands
     (begin_tells k c.begin.ensures.step.0 q r e.first.others (e.follows.seat_is ∙ o.number_is) e.first.stage_is makes) in
     let t = record s { chair = c.begin.new.self; row = c.without_first-self-inside.result; running = Some k } in
@@ -83,7 +85,7 @@ returns-clause-runs c = runs_from_running c.begin.new.self.part.seen c.self.insi
 
 pub returns-clause-batch : goal.returns-clause-batch
 returns-clause-batch c = let s = c.self.inside in let o = c.self.invariant in let e = c.without_first-self-inside.ensures in let k = s.row.front in
-    let q = c.without_first-self-inside.new.chair.part in let r = c.begin.new.self.part in let makes = c.begin.ensures.step.1.makes in
+    let q = c.without_first-self-inside.new.chair.part in let r = c.begin.new.self.part in let makes = c.begin.ensures.step.1.moves.makes in
     let others = e.first.others in
     sym (owner_batch s c.args.self.now c.self.view_is o) ∙ (ap kept_batch (sym e.stage ∙ e.first.stage_is) ∙
     ap (λ (xs : List ℕ). k ∷ xs) (stands_batch r others (makes_stands _ _ q r makes)

@@ -1,6 +1,7 @@
 use Rattle.std.proofs.Common.{◌≡◌, ℕ, if◌then◌else◌, Bool, List, [], ◌∷◌, ◌++◌, None, MatchBool, eq-eqb, ne_eqb, ap, sym, subst, refl, ◌∙◌, arith}
 use Rattle.wq_words.specs.declared.event.Event.TheVariants.{Chain, ChainBusy}
 use Rattle.wq_table.specs.declared.table.Stage.TheVariants.{Owns}
+use Rattle.wq_table.proofs.Beside.{beside_queue, alone_step, alone_beside}
 use Rattle.wq_live.proofs.Tells.{Tells}
 use Rattle.wq_live.proofs.Owned.{running_quiet, closed_quiet, counts_chained, counts_busy}
 use Rattle.wq_core.specs.declared.step.Step.TheVariants as step
@@ -23,14 +24,15 @@ invariant_of-self c =
     let k = c.args.item in let p = s.chair.part in let q = c.chain.new.self.part in let w = c.chain.result in let x = c.saturating_add-self-inside.result in
     let told : Tells (ChainBusy k ∷ []) p q =
     subst (λ (b : Bool). MatchBool b (Tells (Chain k ∷ []) p q) (Tells (ChainBusy k ∷ []) p q)) (ne_eqb w 0 c.if-chain-ne0.true)
-    (chain_tells k w p q o.number_is (owner_of p.stage (kept_batch s.chair.part.stage) o.has_row.stage_is) c.chain.ensures.step.makes) in
+    (chain_tells k w p q o.number_is (owner_of p.stage (kept_batch s.chair.part.stage) o.has_row.stage_is) c.chain.ensures.step.moves.makes) in
     let t = record s { chair = c.chain.new.self; counts = record s.counts { chain_busy = x } } in
     let g = owner_grows (ChainBusy k ∷ []) 0 s t o told in record {
+      alone = alone_step _ _ _ _ c.chain.ensures.step o.alone;
       layout_is = told.layout_is ∙ o.layout_is;
       number_is = told.seat_is ∙ o.number_is;
-      stands = makes_stands _ _ p q c.chain.ensures.step.makes;
-      has_row = has_row_after (step.Chain k) w p q s.row o.has_row c.chain.ensures.step.makes (λ j v. refl)
-          (chain_stage k w p q (kept_batch p.stage) o.has_row.stage_is c.chain.ensures.step.makes ∙
+      stands = makes_stands _ _ p q c.chain.ensures.step.moves.makes;
+      has_row = has_row_after (step.Chain k) w p q s.row o.has_row c.chain.ensures.step.moves.makes (λ j v. refl)
+          (chain_stage k w p q (kept_batch p.stage) o.has_row.stage_is c.chain.ensures.step.moves.makes ∙
           ap (λ (b : Bool). Owns None [] (if b then kept_batch p.stage ++ k ∷ [] else kept_batch p.stage)) (ne_eqb w 0 c.if-chain-ne0.true));
       running_is = o.running_is ∙ sym (running_quiet (ChainBusy k ∷ []) 0 p.seen q.seen g refl refl);
       closed_is = o.closed_is ∙ sym (closed_quiet (ChainBusy k ∷ []) 0 p.seen q.seen g refl);
@@ -44,28 +46,28 @@ returns-then-chain-ne0 c =
     let k = c.args.item in let p = s.chair.part in let q = c.chain.new.self.part in let w = c.chain.result in let x = c.saturating_add-self-inside.result in
     let told : Tells (ChainBusy k ∷ []) p q =
     subst (λ (b : Bool). MatchBool b (Tells (Chain k ∷ []) p q) (Tells (ChainBusy k ∷ []) p q)) (ne_eqb w 0 c.if-chain-ne0.true)
-    (chain_tells k w p q o.number_is (owner_of p.stage (kept_batch s.chair.part.stage) o.has_row.stage_is) c.chain.ensures.step.makes) in
+    (chain_tells k w p q o.number_is (owner_of p.stage (kept_batch s.chair.part.stage) o.has_row.stage_is) c.chain.ensures.step.moves.makes) in
     let t = record s { chair = c.chain.new.self; counts = record s.counts { chain_busy = x } } in
     let sees = owner_sees (ChainBusy k ∷ []) 0 s t c.args.self.now c.self.view_is o refl c.chain.ensures.step.queue_is told in
-    let stage = chain_stage k w p q (kept_batch p.stage) o.has_row.stage_is c.chain.ensures.step.makes ∙
+    let stage = chain_stage k w p q (kept_batch p.stage) o.has_row.stage_is c.chain.ensures.step.moves.makes ∙
     ap (λ (b : Bool). Owns None [] (if b then kept_batch p.stage ++ k ∷ [] else kept_batch p.stage)) (ne_eqb w 0 c.if-chain-ne0.true) in record {
       answer = sees;
       same = sees.same;
-      batch = sym (stands_batch q (kept_batch p.stage) (makes_stands _ _ p q c.chain.ensures.step.makes) stage)
+      batch = sym (stands_batch q (kept_batch p.stage) (makes_stands _ _ p q c.chain.ensures.step.moves.makes) stage)
           ∙ (owner_batch s c.args.self.now c.self.view_is o ∙ sym (append-nil (batch c.args.self.now.seen)));
       shut = closed_stays (ChainBusy k ∷ []) 0 c.args.self.now _ sees c.requires.shut;
       runs = quiet_runs (ChainBusy k ∷ []) 0 c.args.self.now _ (sym (ap (λ (v : Known). v.number) c.self.view_is)) sees refl refl c.requires.runs;
     }
 
 pub hang-self-inside-requires-clause-stands : goal.hang-self-inside-requires-clause-stands
-hang-self-inside-requires-clause-stands c = makes_stands _ _ c.self.inside.chair.part c.chain.new.self.part c.chain.ensures.step.makes
+hang-self-inside-requires-clause-stands c = makes_stands _ _ c.self.inside.chair.part c.chain.new.self.part c.chain.ensures.step.moves.makes
 
 pub hang-self-inside-requires-clause-both : goal.hang-self-inside-requires-clause-both
 hang-self-inside-requires-clause-both c = let s = c.self.inside in let o = c.self.invariant in let k = c.args.item in let p = s.chair.part in
     let q = c.chain.new.self.part in let w = c.chain.result in let zero : w ≡ 0 = omega (arith, c.if-chain-ne0.false) in
-    let stage : q.stage ≡ Owns None [] (kept_batch p.stage ++ k ∷ []) = chain_stage k w p q (kept_batch p.stage) o.has_row.stage_is c.chain.ensures.step.makes ∙
+    let stage : q.stage ≡ Owns None [] (kept_batch p.stage ++ k ∷ []) = chain_stage k w p q (kept_batch p.stage) o.has_row.stage_is c.chain.ensures.step.moves.makes ∙
     ap (λ (b : Bool). Owns None [] (if b then kept_batch p.stage ++ k ∷ [] else kept_batch p.stage)) (eq-eqb w 0 zero) in
-    subst (λ (r : Row). HasBoth s.row r q) (sym c.of_one.ensures) (chained_behind k w s.row p q o.has_row c.chain.ensures.step.makes stage)
+    subst (λ (r : Row). HasBoth s.row r q) (sym c.of_one.ensures) (chained_behind k w s.row p q o.has_row c.chain.ensures.step.moves.makes stage)
 
 pub invariant_of-self-2 : goal.invariant_of-self-2
 invariant_of-self-2 c = let s = c.self.inside in let o = c.self.invariant in let k = c.args.item in let p = s.chair.part in
@@ -73,9 +75,10 @@ invariant_of-self-2 c = let s = c.self.inside in let o = c.self.invariant in let
     let zero : w ≡ 0 = omega (arith, c.if-chain-ne0.false) in let e = c.hang-self-inside.ensures in let r = c.hang-self-inside.new.chair.part in
     let told : Tells (Chain k ∷ []) p r =
     followed (Chain k ∷ []) 0 p q r (subst (λ (b : Bool). MatchBool b (Tells (Chain k ∷ []) p q) (Tells (ChainBusy k ∷ []) p q)) (eq-eqb w 0 zero)
-    (chain_tells k w p q o.number_is (owner_of p.stage (kept_batch p.stage) o.has_row.stage_is) c.chain.ensures.step.makes)) e.follows e.stands in
+    (chain_tells k w p q o.number_is (owner_of p.stage (kept_batch p.stage) o.has_row.stage_is) c.chain.ensures.step.moves.makes)) e.follows e.stands in
     let t = record s { chair = c.hang-self-inside.new.chair; row = c.hang-self-inside.result; counts = record s.counts { chained = x } } in
     let g = owner_grows (Chain k ∷ []) 0 s t o told in record {
+      alone = alone_beside _ _ e.beside (alone_step _ _ _ _ c.chain.ensures.step o.alone);
       layout_is = told.layout_is ∙ o.layout_is;
       number_is = told.seat_is ∙ o.number_is;
       stands = e.stands;
@@ -91,10 +94,10 @@ returns c = let s = c.self.inside in let o = c.self.invariant in let k = c.args.
     let zero : w ≡ 0 = omega (arith, c.if-chain-ne0.false) in let e = c.hang-self-inside.ensures in let r = c.hang-self-inside.new.chair.part in
     let told : Tells (Chain k ∷ []) p r =
     followed (Chain k ∷ []) 0 p q r (subst (λ (b : Bool). MatchBool b (Tells (Chain k ∷ []) p q) (Tells (ChainBusy k ∷ []) p q)) (eq-eqb w 0 zero)
-    (chain_tells k w p q o.number_is (owner_of p.stage (kept_batch p.stage) o.has_row.stage_is) c.chain.ensures.step.makes)) e.follows e.stands in
+    (chain_tells k w p q o.number_is (owner_of p.stage (kept_batch p.stage) o.has_row.stage_is) c.chain.ensures.step.moves.makes)) e.follows e.stands in
     let t = record s { chair = c.hang-self-inside.new.chair; row = c.hang-self-inside.result; counts = record s.counts { chained = x } } in
-    let sees = owner_sees (Chain k ∷ []) 0 s t c.args.self.now c.self.view_is o refl (e.queue ∙ c.chain.ensures.step.queue_is) told in
-    let stage = chain_stage k w p q (kept_batch p.stage) o.has_row.stage_is c.chain.ensures.step.makes ∙
+    let sees = owner_sees (Chain k ∷ []) 0 s t c.args.self.now c.self.view_is o refl (beside_queue 0 _ _ e.beside ∙ c.chain.ensures.step.queue_is) told in
+    let stage = chain_stage k w p q (kept_batch p.stage) o.has_row.stage_is c.chain.ensures.step.moves.makes ∙
     ap (λ (b : Bool). Owns None [] (if b then kept_batch p.stage ++ k ∷ [] else kept_batch p.stage)) (eq-eqb w 0 zero) in record {
       answer = (refl, refl, sees);
       same = sees.same;

@@ -3,6 +3,7 @@ use mathlib.Core.List.{IsPrefix}
 use Rattle.wq_words.specs.declared.event.Event.TheVariants.{Close}
 use Rattle.wq_core.specs.declared.step.Step.TheVariants as step
 use Rattle.wq_words.specs.History.{IsClosed}
+use Rattle.wq_table.proofs.Beside.{beside_queue, alone_step, alone_beside}
 use Rattle.wq_live.specs.Known.{Known}
 use Rattle.wq_live.specs.Batch.{batch}
 use Rattle.wq_live.specs.Sits.{kept_batch}
@@ -18,25 +19,26 @@ pub close-head-requires-clause-open : goal.close-head-requires-clause-open
 close-head-requires-clause-open c = subst (λ (v : Known). ¬ IsClosed v.seen) (sym c.self.view_is) c.requires.open
 
 pub walk_all-self-inside-requires-clause-stands : goal.walk_all-self-inside-requires-clause-stands
-walk_all-self-inside-requires-clause-stands c = makes_stands _ _ c.self.inside.chair.part c.close-head.new.self.part c.close-head.ensures.step.makes
+walk_all-self-inside-requires-clause-stands c = makes_stands _ _ c.self.inside.chair.part c.close-head.new.self.part c.close-head.ensures.step.moves.makes
 
 pub walk_all-self-inside-requires-clause-stage : goal.walk_all-self-inside-requires-clause-stage
 walk_all-self-inside-requires-clause-stage c = let p = c.self.inside.chair.part in let q = c.close-head.new.self.part in
     walks_kept q.stage _ (kept_batch p.stage)
-    (taken_stage step.Close _ _ p q (kept_batch p.stage) refl c.link_word.ensures.word c.self.invariant.has_row.stage_is c.close-head.ensures.step.makes)
+    (taken_stage step.Close _ _ p q (kept_batch p.stage) refl c.link_word.ensures.word c.self.invariant.has_row.stage_is c.close-head.ensures.step.moves.makes)
 
 pub walk_all-self-inside-requires-clause-row : goal.walk_all-self-inside-requires-clause-row
 walk_all-self-inside-requires-clause-row c = let s = c.self.inside in let o = c.self.invariant in let p = s.chair.part in let q = c.close-head.new.self.part in
-    walks_row step.Close c.close-head.result _ p q s.row o.has_row c.close-head.ensures.step.makes (λ k w. refl)
-    (taken_stage step.Close _ _ p q (kept_batch p.stage) refl c.link_word.ensures.word o.has_row.stage_is c.close-head.ensures.step.makes)
+    walks_row step.Close c.close-head.result _ p q s.row o.has_row c.close-head.ensures.step.moves.makes (λ k w. refl)
+    (taken_stage step.Close _ _ p q (kept_batch p.stage) refl c.link_word.ensures.word o.has_row.stage_is c.close-head.ensures.step.moves.makes)
 
 pub invariant_of-self : goal.invariant_of-self
 invariant_of-self c = let s = c.self.inside in let o = c.self.invariant in let p = s.chair.part in let q = c.close-head.new.self.part in
-    let e = c.walk_all-self-inside.ensures in let r = c.walk_all-self-inside.new.chair.part in let makes = c.close-head.ensures.step.makes in
+    let e = c.walk_all-self-inside.ensures in let r = c.walk_all-self-inside.new.chair.part in let makes = c.close-head.ensures.step.moves.makes in
     let told : Tells (Close ∷ []) p r = followed (Close ∷ []) 0 p q r
     (close_tells c.close-head.result p q o.number_is (owner_of p.stage (kept_batch p.stage) o.has_row.stage_is) makes) e.follows e.stands in
     let t = record s { chair = c.walk_all-self-inside.new.chair; row = c.walk_all-self-inside.result; closed = true } in
     let g = owner_grows (Close ∷ []) 0 s t o told in record {
+      alone = alone_beside _ _ e.beside (alone_step _ _ _ _ c.close-head.ensures.step o.alone);
       layout_is = told.layout_is ∙ o.layout_is;
       number_is = told.seat_is ∙ o.number_is;
       stands = e.stands;
@@ -48,19 +50,19 @@ invariant_of-self c = let s = c.self.inside in let o = c.self.invariant in let p
 
 pub returns-clause-seen : goal.returns-clause-seen
 returns-clause-seen c = let s = c.self.inside in let o = c.self.invariant in let p = s.chair.part in let q = c.close-head.new.self.part in
-    let e = c.walk_all-self-inside.ensures in let r = c.walk_all-self-inside.new.chair.part in let makes = c.close-head.ensures.step.makes in
+    let e = c.walk_all-self-inside.ensures in let r = c.walk_all-self-inside.new.chair.part in let makes = c.close-head.ensures.step.moves.makes in
     let told : Tells (Close ∷ []) p r = followed (Close ∷ []) 0 p q r
     (close_tells c.close-head.result p q o.number_is (owner_of p.stage (kept_batch p.stage) o.has_row.stage_is) makes) e.follows e.stands in
     owner_sees (Close ∷ []) 0 s
     (record s { chair = c.walk_all-self-inside.new.chair; row = c.walk_all-self-inside.result; closed = true }) c.args.self.now c.self.view_is
-    o refl (e.queue ∙ c.close-head.ensures.step.queue_is) told
+    o refl (beside_queue 0 _ _ e.beside ∙ c.close-head.ensures.step.queue_is) told
 
 pub returns-clause-takes : goal.returns-clause-takes
 returns-clause-takes c = let s = c.self.inside in let o = c.self.invariant in let p = s.chair.part in let q = c.close-head.new.self.part in
     let e = c.walk_all-self-inside.ensures in let r = c.walk_all-self-inside.new.chair.part in
     close_takes c.close-head.result p q r (kept_batch p.stage) (kept_batch r.stage) (c.walk_all-self-inside.result.count - s.row.count) o.number_is
     o.has_row.stage_is e.follows e.stands e.has_row.stage_is
-    (omega (arith, e.more, o.has_row.row_is.count_is, e.has_row.row_is.count_is)) c.close-head.ensures.step.makes
+    (omega (arith, e.more, o.has_row.row_is.count_is, e.has_row.row_is.count_is)) c.close-head.ensures.step.moves.makes
 
 pub overflow_sub-result : goal.overflow_sub-result
 overflow_sub-result c = c.walk_all-self-inside.ensures.more
@@ -75,7 +77,7 @@ pub returns-clause-behind : goal.returns-clause-behind
 returns-clause-behind c = let s = c.self.inside in let o = c.self.invariant in let p = s.chair.part in let q = c.close-head.new.self.part in
     let e = c.walk_all-self-inside.ensures in let r = c.walk_all-self-inside.new.chair.part in
     let kept = walks_batch q.stage _ (kept_batch p.stage)
-    (taken_stage step.Close _ _ p q (kept_batch p.stage) refl c.link_word.ensures.word o.has_row.stage_is c.close-head.ensures.step.makes) in
+    (taken_stage step.Close _ _ p q (kept_batch p.stage) refl c.link_word.ensures.word o.has_row.stage_is c.close-head.ensures.step.moves.makes) in
     let now : IsPrefix (kept_batch q.stage) (batch r.seen) =
     subst (IsPrefix (kept_batch q.stage)) (stands_batch r (kept_batch r.stage) e.stands e.has_row.stage_is) e.behind in
     subst (λ (ks : List ℕ). IsPrefix ks (batch r.seen)) (kept ∙ owner_batch s c.args.self.now c.self.view_is o) now

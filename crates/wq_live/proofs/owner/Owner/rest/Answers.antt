@@ -1,5 +1,6 @@
 use Rattle.std.proofs.Common.{ap, sym, subst, ◌∙◌}
 use Rattle.wq_words.specs.History.{IsClosed, IsRunning}
+use Rattle.wq_table.proofs.Beside.{alone_step}
 use Rattle.wq_live.specs.Known.{Known}
 use Rattle.wq_live.specs.Sits.{kept_batch}
 use Rattle.wq_live.proofs.OwnerTells.{owner_batch, none_of}
@@ -18,18 +19,18 @@ rest-head-requires-clause-idle c = subst (λ (v : Known). ¬ IsRunning v.seen) (
 
 pub invariant_of-self : goal.invariant_of-self
 invariant_of-self c = let e = c.rest-head.ensures.step in
-    rest_owns c.self.inside c.rest-head.new.self c.args.self.now c.rest-head.result c.self.view_is c.self.invariant e.queue_is e.makes c.requires.open
+    rest_owns c.self.inside c.rest-head.new.self c.args.self.now c.rest-head.result c.self.view_is c.self.invariant e.queue_is (alone_step _ _ _ _ e c.self.invariant.alone) e.moves.makes c.requires.open
 
 pub returns : goal.returns
 returns c = let s = c.self.inside in let o = c.self.invariant in let e = c.rest-head.ensures.step in let q = c.rest-head.new.self in
     let w = c.rest-head.result in
     let now = c.args.self.now in let mine = sym (ap (λ (v : Known). v.number) c.self.view_is) in
-    let sees = rest_sees s q now w c.self.view_is o e.queue_is e.makes c.requires.open in record {
+    let sees = rest_sees s q now w c.self.view_is o e.queue_is (alone_step _ _ _ _ e c.self.invariant.alone) e.moves.makes c.requires.open in record {
       seen = sees;
-      rested = rest_rested s q now w c.self.view_is o e.queue_is e.makes c.requires.open;
-      refused = rest_refused s q now w c.self.view_is o e.queue_is e.makes c.requires.open;
+      rested = rest_rested s q now w c.self.view_is o e.queue_is (alone_step _ _ _ _ e c.self.invariant.alone) e.moves.makes c.requires.open;
+      refused = rest_refused s q now w c.self.view_is o e.queue_is (alone_step _ _ _ _ e c.self.invariant.alone) e.moves.makes c.requires.open;
       same = rests_same _ now _ sees;
       unclosed = rests_open _ now _ mine sees c.requires.open;
-      empty = rest_empty s q now w c.self.view_is o e.queue_is e.makes c.requires.open c.requires.empty;
+      empty = rest_empty s q now w c.self.view_is o e.queue_is (alone_step _ _ _ _ e c.self.invariant.alone) e.moves.makes c.requires.open c.requires.empty;
       idle = rests_idle _ now _ mine sees c.requires.idle;
     }

@@ -2,6 +2,7 @@ use Rattle.std.proofs.Common.{[], ◌∷◌, ℕ, length, ap, sym, subst, refl, 
 use Rattle.wq_words.specs.declared.event.Event.TheVariants.{Take}
 use Rattle.wq_core.specs.declared.step.Step.TheVariants as step
 use Rattle.wq_words.specs.History.{IsClosed}
+use Rattle.wq_table.proofs.Beside.{beside_queue, alone_step, alone_beside}
 use Rattle.wq_live.specs.Known.{Known}
 use Rattle.wq_live.specs.Sits.{kept_batch}
 use Rattle.wq_live.proofs.Tells.{Tells}
@@ -20,25 +21,26 @@ take-head-requires-clause-empty c = let s = c.self.inside in let o = c.self.inva
     none_of s.chair.part.stage (kept_batch s.chair.part.stage) o.has_row.stage_is (owner_batch s c.args.self.now c.self.view_is o ∙ c.requires.empty)
 
 pub walk_all-self-inside-requires-clause-stands : goal.walk_all-self-inside-requires-clause-stands
-walk_all-self-inside-requires-clause-stands c = makes_stands _ _ c.self.inside.chair.part c.take-head.new.self.part c.take-head.ensures.step.makes
+walk_all-self-inside-requires-clause-stands c = makes_stands _ _ c.self.inside.chair.part c.take-head.new.self.part c.take-head.ensures.step.moves.makes
 
 pub walk_all-self-inside-requires-clause-stage : goal.walk_all-self-inside-requires-clause-stage
 walk_all-self-inside-requires-clause-stage c = let p = c.self.inside.chair.part in let q = c.take-head.new.self.part in
     walks_kept q.stage _ (kept_batch p.stage)
-    (taken_stage step.Take _ _ p q (kept_batch p.stage) refl c.link_word.ensures.word c.self.invariant.has_row.stage_is c.take-head.ensures.step.makes)
+    (taken_stage step.Take _ _ p q (kept_batch p.stage) refl c.link_word.ensures.word c.self.invariant.has_row.stage_is c.take-head.ensures.step.moves.makes)
 
 pub walk_all-self-inside-requires-clause-row : goal.walk_all-self-inside-requires-clause-row
 walk_all-self-inside-requires-clause-row c = let s = c.self.inside in let o = c.self.invariant in let p = s.chair.part in let q = c.take-head.new.self.part in
-    walks_row step.Take c.take-head.result _ p q s.row o.has_row c.take-head.ensures.step.makes (λ k w. refl)
-    (taken_stage step.Take _ _ p q (kept_batch p.stage) refl c.link_word.ensures.word o.has_row.stage_is c.take-head.ensures.step.makes)
+    walks_row step.Take c.take-head.result _ p q s.row o.has_row c.take-head.ensures.step.moves.makes (λ k w. refl)
+    (taken_stage step.Take _ _ p q (kept_batch p.stage) refl c.link_word.ensures.word o.has_row.stage_is c.take-head.ensures.step.moves.makes)
 
 pub invariant_of-self : goal.invariant_of-self
 invariant_of-self c = let s = c.self.inside in let o = c.self.invariant in let p = s.chair.part in let q = c.take-head.new.self.part in
-    let e = c.walk_all-self-inside.ensures in let r = c.walk_all-self-inside.new.chair.part in let makes = c.take-head.ensures.step.makes in
+    let e = c.walk_all-self-inside.ensures in let r = c.walk_all-self-inside.new.chair.part in let makes = c.take-head.ensures.step.moves.makes in
     let told : Tells (Take ∷ []) p r = followed (Take ∷ []) 0 p q r
     (take_tells c.take-head.result p q o.number_is (owner_of p.stage (kept_batch p.stage) o.has_row.stage_is) makes) e.follows e.stands in
     let t = record s { chair = c.walk_all-self-inside.new.chair; row = c.walk_all-self-inside.result } in
     let g = owner_grows (Take ∷ []) 0 s t o told in record {
+      alone = alone_beside _ _ e.beside (alone_step _ _ _ _ c.take-head.ensures.step o.alone);
       layout_is = told.layout_is ∙ o.layout_is;
       number_is = told.seat_is ∙ o.number_is;
       stands = e.stands;
@@ -50,18 +52,18 @@ invariant_of-self c = let s = c.self.inside in let o = c.self.invariant in let p
 
 pub returns-clause-seen : goal.returns-clause-seen
 returns-clause-seen c = let s = c.self.inside in let o = c.self.invariant in let p = s.chair.part in let q = c.take-head.new.self.part in
-    let e = c.walk_all-self-inside.ensures in let r = c.walk_all-self-inside.new.chair.part in let makes = c.take-head.ensures.step.makes in
+    let e = c.walk_all-self-inside.ensures in let r = c.walk_all-self-inside.new.chair.part in let makes = c.take-head.ensures.step.moves.makes in
     let told : Tells (Take ∷ []) p r = followed (Take ∷ []) 0 p q r
     (take_tells c.take-head.result p q o.number_is (owner_of p.stage (kept_batch p.stage) o.has_row.stage_is) makes) e.follows e.stands in
     owner_sees (Take ∷ []) 0 s (record s { chair = c.walk_all-self-inside.new.chair; row = c.walk_all-self-inside.result }) c.args.self.now c.self.view_is
-    o refl (e.queue ∙ c.take-head.ensures.step.queue_is) told
+    o refl (beside_queue 0 _ _ e.beside ∙ c.take-head.ensures.step.queue_is) told
 
 pub returns-clause-takes : goal.returns-clause-takes
 returns-clause-takes c = let s = c.self.inside in let o = c.self.invariant in let p = s.chair.part in let q = c.take-head.new.self.part in
     let e = c.walk_all-self-inside.ensures in let r = c.walk_all-self-inside.new.chair.part in
     let none = ap (λ (xs : List ℕ). length xs) (owner_batch s c.args.self.now c.self.view_is o ∙ c.requires.empty) in
     take_takes c.take-head.result p q r (kept_batch p.stage) (kept_batch r.stage) c.walk_all-self-inside.result.count o.number_is o.has_row.stage_is
-    e.follows e.stands e.has_row.stage_is (omega (arith, none, e.has_row.row_is.count_is)) c.take-head.ensures.step.makes
+    e.follows e.stands e.has_row.stage_is (omega (arith, none, e.has_row.row_is.count_is)) c.take-head.ensures.step.moves.makes
 
 pub returns-clause-idle : goal.returns-clause-idle
 returns-clause-idle c = quiet_idle (Take ∷ []) 0 c.args.self.now _ (sym (ap (λ (v : Known). v.number) c.self.view_is)) (returns-clause-seen c) refl refl

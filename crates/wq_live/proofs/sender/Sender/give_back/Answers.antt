@@ -1,6 +1,7 @@
 use Rattle.std.proofs.Common.{refl, [], ◌∷◌}
 use Rattle.wq_words.specs.declared.event.Event.TheVariants.{Back}
 use Rattle.wq_words.specs.declared.event.Why.TheVariants.{Cancelled}
+use Rattle.wq_table.proofs.Beside.{alone_step}
 use Rattle.wq_live.proofs.Counting.{counts_cancelled}
 use Rattle.wq_live.proofs.Tells.{Tells, back_tells, sender_made}
 use Rattle.wq_live.proofs.Held.{given_held}
@@ -13,16 +14,17 @@ back_cancelled-requires-clause-held c = holds_view c.self.inside c.args.self.now
 pub invariant_of-self : goal.invariant_of-self
 invariant_of-self c = let s = c.self.inside in let k = c.args.item in let steps = c.back_cancelled.ensures.step.1 in let new = c.back_cancelled.new.self in
     let told : Tells
-    (Back s.chair.part.seat k Cancelled ∷ []) s.chair.part new.part = back_tells k _ Cancelled s.chair.part new.part c.self.invariant.stage steps.makes in
-    let stage = sender_made _ _ _ _ steps.makes c.self.invariant.stage in
+    (Back s.chair.part.seat k Cancelled ∷ []) s.chair.part new.part = back_tells k _ Cancelled s.chair.part new.part c.self.invariant.stage steps.moves.makes in
+    let stage = sender_made _ _ _ _ steps.moves.makes c.self.invariant.stage in
     sends_tells s (record s { chair = new }) _ 0 c.self.invariant refl refl told stage
+    (alone_step _ _ _ _ steps c.self.invariant.alone)
     (counts_cancelled s.number 0 s.chair.part.seen new.part.seen s.counts c.self.invariant.counts_are k
     (grows_tells s (record s { chair = new }) (λ z. Back z k Cancelled ∷ []) 0 c.self.invariant told))
 
 pub returns : goal.returns
 returns c = let s = c.self.inside in let k = c.args.item in let steps = c.back_cancelled.ensures.step.1 in let new = c.back_cancelled.new.self in
     let sees = sees_tells s (record s { chair = new }) c.args.self.now (λ z. Back z k Cancelled ∷ []) 0 c.self.view_is c.self.invariant refl refl
-    steps.queue_is (back_tells k _ Cancelled s.chair.part new.part c.self.invariant.stage steps.makes) in record {
+    steps.queue_is (back_tells k _ Cancelled s.chair.part new.part c.self.invariant.stage steps.moves.makes) in record {
       seen = sees;
       same = sees.same;
       keeps = λ j. given_held j k 0 Cancelled c.args.self.now _ sees;

@@ -2,18 +2,20 @@ use Rattle.std.proofs.Common.{refl, ◌≡◌, ◌<◌, not, Bool, true, false, 
 use Rattle.wq_words.specs.declared.layout.Layout.{Layout}
 use Rattle.wq_words.specs.Numbers.{number_count}
 use Rattle.wq_live.specs.Known.{Known}
+use Rattle.wq_table.proofs.Beside.{alone_step}
 use Rattle.wq_live.proofs.Counting.{counts_none}
 use Rattle.wq_live.proofs.Tells.{Tells, check_tells, sender_made}
 use Rattle.wq_live.proofs.Sends.{grows_tells, sends_tells, sees_tells}
 use Rattle.wq_live.proofs.sender.Sender.is_number_pending.Goals as goal
 
 pub invariant_of-self : goal.invariant_of-self
-invariant_of-self c = let s = c.self.inside in let t = record s { chair = c.check.new.self } in let made = c.check.ensures.step.makes in
+invariant_of-self c = let s = c.self.inside in let t = record s { chair = c.check.new.self } in let made = c.check.ensures.step.moves.makes in
     let layout : s.chair.part.layout ≡ c.args.self.now.layout = c.self.invariant.layout_is ∙ ap (λ (v : Known). v.layout) c.self.view_is in
     let told : Tells [] s.chair.part t.chair.part =
     (check_tells c.args.number c.check.result s.chair.part t.chair.part c.self.invariant.stage
     (subst (λ (l : Layout). c.args.number < number_count l) (sym layout) c.requires.number) made).told in
     sends_tells s t [] 0 c.self.invariant refl refl told (sender_made _ _ _ _ made c.self.invariant.stage)
+    (alone_step _ _ _ _ c.check.ensures.step c.self.invariant.alone)
     (counts_none s.number 0 s.chair.part.seen t.chair.part.seen s.counts c.self.invariant.counts_are (grows_tells s t (λ z. []) 0 c.self.invariant told))
 
 flip : (b : Bool) → not (not b) ≡ b
@@ -21,7 +23,7 @@ flip true = refl
 flip false = refl
 
 pub returns : goal.returns
-returns c = let s = c.self.inside in let t = record s { chair = c.check.new.self } in let made = c.check.ensures.step.makes in
+returns c = let s = c.self.inside in let t = record s { chair = c.check.new.self } in let made = c.check.ensures.step.moves.makes in
     let layout : s.chair.part.layout ≡ c.args.self.now.layout = c.self.invariant.layout_is ∙ ap (λ (v : Known). v.layout) c.self.view_is in
     let checks = check_tells c.args.number c.check.result s.chair.part t.chair.part c.self.invariant.stage
     (subst (λ (l : Layout). c.args.number < number_count l) (sym layout) c.requires.number) made in

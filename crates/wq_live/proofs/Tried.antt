@@ -1,0 +1,21 @@
+-- What a try of the chair tells its sender.
+use Rattle.std.proofs.Common.{◌≡◌, ℕ, [], ◌∷◌, ap, ◌∙◌, subst}
+use Rattle.wq_words.specs.declared.event.Event.TheVariants.{Push, Back}
+use Rattle.wq_words.specs.declared.event.Why.TheVariants.{Closed}
+use Rattle.wq_words.specs.declared.answer.Posted.{Posted}
+use Rattle.wq_words.specs.declared.answer.Posted.TheVariants as posted
+use Rattle.wq_live.specs.declared.sender.Sender.TheInside.{Inside}
+use Rattle.wq_live.specs.Known.{Known}
+use Rattle.wq_live.specs.Answers.{IsPushed, Posts}
+use Rattle.wq_live.specs.Sits.{sender_view, Sends}
+use Rattle.wq_live.specs.Tells.{PostsAs}
+use Rattle.wq_live.proofs.Sends.{sees_tells}
+
+pub posts_told : (s t : Inside) (now : Known) (k : ℕ) (a : Posted) → sender_view s ≡ now → Sends s → t.layout ≡ s.layout → t.number ≡ s.number
+    → t.chair.queue ≡ s.chair.queue → PostsAs k a s.chair.part t.chair.part → Posts k 1 a now (sender_view t)
+posts_told s t now k (posted.Queued first wakes) view sends layout number queue told = (
+  sees_tells s t now (λ z. Push z k ∷ []) 0 view sends layout number queue told.0,
+  subst (λ (c : ℕ). IsPushed c k first wakes t.chair.part.seen) (sends.number_is ∙ ap (λ (v : Known). v.number) view) told.1,
+)
+posts_told s t now k posted.Closed view sends layout number queue told = sees_tells s t now (λ z. Back z k Closed ∷ []) 0 view sends layout number queue told
+posts_told s t now k posted.Contended view sends layout number queue told = sees_tells s t now (λ z. []) 1 view sends layout number queue told

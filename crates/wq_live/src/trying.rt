@@ -1,0 +1,37 @@
+//! One try of a sender, by whichever part of a chair is the sender's.
+ghost use Rattle.std.specs.Prelude.{◌<◌};
+ghost use Rattle.wq_words.specs.History.{Holds};
+ghost use Rattle.wq_words.specs.Numbers.{number_count};
+ghost use Rattle.wq_table.specs.Chair.{part_at, IsSender};
+ghost use Rattle.wq_table.specs.Beside.{Beside};
+ghost use Rattle.wq_live.specs.Tells.{PostsAs};
+
+use wq_core::place::link_word;
+use wq_table::{Chair, Place};
+use wq_words::{Head, Posted};
+
+/// One try to push a number that the sender holds: look, link, push.
+pub(crate) fn try_push<P: Place>(chair: &mut Chair, number: u32) -> Posted
+    requires sender { IsSender (part_at P.at chair.old).stage }
+    requires number { number < number_count (part_at P.at chair.old).layout }
+    requires held { Holds (part_at P.at chair.old).seen (part_at P.at chair.old).seat number }
+    ensures posts { PostsAs number result (part_at P.at chair.old) (part_at P.at chair.new) }
+    ensures sender { IsSender (part_at P.at chair.new).stage }
+    ensures beside { Beside P.at chair.old chair.new }
+{
+    let word = chair.look::<P>();
+    let closed = Head::Closed.to_word();
+    let empty = Head::Empty.to_word();
+    if word == closed {
+        chair.back_closed::<P>(number);
+        return Posted::Closed;
+    }
+    chair.link::<P>(number, word);
+    if chair.push::<P>(number, word) == word {
+        return Posted::Queued {
+            first: link_word(word) == empty,
+            wakes: word == empty,
+        };
+    }
+    Posted::Contended
+}
