@@ -1,14 +1,9 @@
 -- What a history says when some events are put behind it.
-use Rattle.std.proofs.Common.{◌≡◌, ℕ, suc, ◌+◌, ◌-◌, ◌≤◌, Bool, true, false, cond, not, List, [], ◌∷◌, ◌++◌, length, drop, refl, sym, ap, ◌∙◌, arith, count_by, reverse, take, get_or, ◌<◌, inl, inr, take-append-drop, drop-cons}
-use Rattle.std.specs.List.{after_last, before_last, prefix_len}
-use Rattle.std.proofs.lemmas.List.{length-reverse, get_or-reverse}
-use Rattle.std.proofs.lemmas.Bool.{cases_lt}
-use Rattle.std.proofs.lemmas.List.Elements.{filter_map-append}
-use Rattle.std.proofs.lemmas.List.Sums.{sum_by-append, sum_by-cons, prefix_len-le-length, prefix_len_stops}
-use Rattle.wq_words.specs.declared.event.Event.{Event}
-use Rattle.wq_words.specs.declared.event.Event.TheVariants.{Hold, Busy, Push, Back, Take, Close, Begin, End, Chain, ChainBusy, Rest}
-use Rattle.wq_words.specs.History.{accepted, accepted_by, begun, begun_by, ended, ended_by, fresh, is_push, is_take}
-use Rattle.wq_words.specs.Counting.{is_chain}
+use Rattle.wq_words.proofs.Common.{◌≡◌, ℕ, suc, ◌+◌, ◌-◌, ◌≤◌, Bool, true, false, cond, not, List, [], ◌∷◌, ◌++◌, length, drop, refl, sym, ap, ◌∙◌, arith}
+use Rattle.wq_words.proofs.Common.{count_by, reverse, take, get_or, ◌<◌, inl, inr, take-append-drop, drop-cons, after_last, before_last, prefix_len}
+use Rattle.wq_words.proofs.Common.{length-reverse, get_or-reverse, cases_lt, filter_map-append, sum_by-append, sum_by-cons, prefix_len-le-length}
+use Rattle.wq_words.proofs.Common.{prefix_len_stops, Event, Hold, Busy, Push, Back, Take, Close, Begin, End, Chain, ChainBusy, Rest, accepted, accepted_by}
+use Rattle.wq_words.proofs.Common.{begun, begun_by, ended, ended_by, fresh, is_push, is_take, is_chain}
 use Rattle.wq_words.proofs.Listed.{after_last_push_no}
 
 pub count_by-append : {X : Type 0} (p : X → Bool) (xs ys : List X) → count_by p (xs ++ ys) ≡ count_by p xs + count_by p ys

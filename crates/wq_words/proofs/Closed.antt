@@ -1,9 +1,6 @@
 -- Whether the queue is closed, as a test and as a fact.
-use Rattle.std.proofs.Common.{◌≡◌, ℕ, ◌<◌, true, false, nat_lt, List, [], ◌∷◌, ◌++◌, ap, ◌∙◌, arith}
-use Rattle.std.specs.List.{count_by}
-use Rattle.std.proofs.lemmas.Bool.Decides.{nat_tests}
-use Rattle.wq_words.specs.declared.event.Event.{Event}
-use Rattle.wq_words.specs.History.{is_close, IsClosed, closed}
+use Rattle.wq_words.proofs.Common.{◌≡◌, ℕ, ◌<◌, true, false, nat_lt, List, [], ◌∷◌, ◌++◌, ap, ◌∙◌, arith, count_by, nat_tests, Event, is_close, IsClosed}
+use Rattle.wq_words.proofs.Common.{closed}
 use Rattle.wq_words.proofs.Growing.{count_by_push}
 
 some_below : (n : ℕ) → 0 < n → nat_lt 0 n ≡ true

@@ -1,10 +1,7 @@
 -- What a seat counts are its own events.
-use Rattle.std.proofs.Common.{◌≡◌, ℕ, false, eqb, refl}
-use Rattle.wq_words.specs.declared.event.Event.{Event}
-use Rattle.wq_words.specs.declared.event.Event.TheVariants.{Busy, Push, Back, Chain, ChainBusy}
+use Rattle.wq_words.proofs.Common.{◌≡◌, ℕ, false, eqb, refl, Event, Busy, Push, Back, Chain, ChainBusy, owner_seat, seat_of, is_queued_by, is_pending_by}
+use Rattle.wq_words.proofs.Common.{is_closed_by, is_contended_by, is_chain, is_chain_busy}
 use Rattle.wq_words.specs.declared.event.Why.TheVariants.{Closed, Contended, Cancelled}
-use Rattle.wq_words.specs.Seen.{owner_seat, seat_of}
-use Rattle.wq_words.specs.Counting.{is_queued_by, is_pending_by, is_closed_by, is_contended_by, is_chain, is_chain_busy}
 
 pub queued_own : (s : ℕ) (e : Event) → eqb (seat_of e) s ≡ false → is_queued_by s e ≡ false
 queued_own s (Push t k) is = is

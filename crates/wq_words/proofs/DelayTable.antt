@@ -1,8 +1,6 @@
 -- The delay table after an entry was placed, or an item taken off, and its due part.
-use Rattle.std.proofs.Common.{◌≡◌, ℕ, ◌+◌, ◌<◌, ◌≤◌, ◌==◌, Bool, true, false, cond, not, ◌||◌, ◌&&◌, List, [], ◌∷◌, ◌++◌, length, refl, sym, ap, ◌∙◌, arith}
-use Rattle.std.specs.Prelude.{nat_lt, nat_le}
-use Rattle.std.specs.List.{AllByRecursion}
-use Rattle.std.proofs.lemmas.Bool.Decides.{nat_tests}
+use Rattle.wq_words.proofs.Common.{◌≡◌, ℕ, ◌+◌, ◌<◌, ◌≤◌, ◌==◌, Bool, true, false, cond, not, ◌||◌, ◌&&◌, List, [], ◌∷◌, ◌++◌, length, refl, sym, ap, ◌∙◌}
+use Rattle.wq_words.proofs.Common.{arith, nat_lt, nat_le, AllByRecursion, nat_tests}
 use Rattle.wq_words.specs.DelayTable.{Entry, on_table, due_part, later_part, placed, without, IsBefore, IsOrdered, AreArmedBefore}
 
 pub first_false : (p q : Bool) → (p || q) ≡ false → p ≡ false

@@ -1,26 +1,19 @@
 -- Each legal history keeps the headline.
-use Rattle.std.proofs.Common.{◌≡◌, ◌≢◌, ℕ, zero, suc, ◌+◌, ◌<◌, ◌≤◌, ◌==◌, Bool, true, false, cond, List, [], ◌∷◌, ◌++◌, length, take, drop, Some, slice_get, refl, sym, ap, ◌∙◌, inl, inr, arith, take-append-drop}
-use Rattle.std.specs.List.{count_by}
-use Rattle.std.proofs.lemmas.List.{take-take, take_all, length-take, length_push, take-append-le}
-use Rattle.std.proofs.lemmas.List.Sums.{sum_by-cons}
-use Rattle.std.proofs.lemmas.Bool.{cases_lt, eqb-true, eq-eqb, and_parts}
-use Rattle.std.proofs.lemmas.Bool.Decides.{nat_tests}
-use Rattle.std.proofs.lemmas.Option.{slice_get_within}
-use mathlib.Core.List.{IsPrefix}
-use Rattle.wq_words.specs.declared.layout.Layout.{Layout}
-use Rattle.wq_words.specs.declared.event.Event.{Event}
-use Rattle.wq_words.specs.declared.event.Event.TheVariants.{Hold, Push, Close, Begin, End}
-use Rattle.wq_words.specs.History.{accepted_by, begun_by, ended_by, accepted, begun, ended, starts_hold, stops_hold, is_close, IsPending, Holds}
-use Rattle.wq_words.specs.Legal.{IsAllowed, IsLegal, IsComplete}
-use Rattle.wq_words.specs.Keeper.{Keeper, Home, Sender, Listed, Owner, keeper}
+use Rattle.wq_words.proofs.Common.{◌≡◌, ◌≢◌, ℕ, zero, suc, ◌+◌, ◌<◌, ◌≤◌, ◌==◌, Bool, true, false, cond, List, [], ◌∷◌, ◌++◌, length, take, drop, Some}
+use Rattle.wq_words.proofs.Common.{slice_get, refl, sym, ap, ◌∙◌, inl, inr, arith, take-append-drop, count_by, take-take, take_all, length-take, length_push}
+use Rattle.wq_words.proofs.Common.{take-append-le, sum_by-cons, cases_lt, eqb-true, eq-eqb, and_parts, nat_tests, slice_get_within, IsPrefix, Layout, Event}
+use Rattle.wq_words.proofs.Common.{Hold, Push, Close, Begin, End, accepted_by, begun_by, ended_by, accepted, begun, ended, starts_hold, stops_hold, is_close}
+use Rattle.wq_words.proofs.Common.{IsPending, Holds, IsAllowed, IsLegal, IsComplete, Keeper, Home, Sender, Listed, Owner, keeper}
 use Rattle.wq_words.specs.Headline.{NeverOverlaps, Executes, KeepsSenderOrder, NoPushFollowsClose, IsOwnHold, EachPushHasHold, HasOneHolder, KeepsHeadline}
-use Rattle.wq_words.proofs.Growing.{count_by_push, filter_map_push_some, take_more_some, slice_get_push, slice_get_append, slice_get_last, take_append, take_length}
+use Rattle.wq_words.proofs.Growing.{count_by_push, filter_map_push_some, take_more_some, slice_get_push, slice_get_append, slice_get_last, take_append}
+use Rattle.wq_words.proofs.Growing.{take_length}
 use Rattle.wq_words.proofs.Legal.{legal_front, legal_induction}
 use Rattle.wq_words.proofs.Prefixes.{prefix_length, prefix_whole}
 use Rattle.wq_words.proofs.Order.{IsInOrder, in_order}
 use Rattle.wq_words.proofs.Keepers.{held_bit, kept}
 use Rattle.wq_words.proofs.Places.{keeper_from_keeps}
-use Rattle.wq_words.proofs.Ranks.{filter_map_rank, ComesFrom, comes_from, length-filter_map-take, filter_map-take-prefix, slice_get-prefix, slice_get-take, slice_get-some}
+use Rattle.wq_words.proofs.Ranks.{filter_map_rank, ComesFrom, comes_from, length-filter_map-take, filter_map-take-prefix, slice_get-prefix, slice_get-take}
+use Rattle.wq_words.proofs.Ranks.{slice_get-some}
 
 counted : {X : Type 0} (p : X → Bool) (xs : List X) (i n : ℕ) (x : X) → slice_get xs i ≡ Some x → p x ≡ true → i < n → 0 < count_by p (take n xs)
 counted p [] i n x at is lt = absurd cc

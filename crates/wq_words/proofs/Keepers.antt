@@ -1,18 +1,10 @@
 -- Each number has one keeper, which the counts of its events tell.
-use Rattle.std.proofs.Common.{◌≡◌, ℕ, ◌+◌, ◌<◌, ◌≤◌, ◌==◌, Bool, true, false, cond, if◌then◌else◌, ◌&&◌, add-zero, List, [], ◌∷◌, ◌++◌, refl, ap, arith}
-use Rattle.std.specs.List.{count_by}
-use Rattle.std.proofs.lemmas.List.Sums.{sum_by-append}
-use Rattle.std.proofs.lemmas.Bool.{eqb-true, eq-eqb}
-use mathlib.Core.List.{IsPrefix}
+use Rattle.wq_words.proofs.Common.{◌≡◌, ℕ, ◌+◌, ◌<◌, ◌≤◌, ◌==◌, Bool, true, false, cond, if◌then◌else◌, ◌&&◌, add-zero, List, [], ◌∷◌, ◌++◌, refl, ap, arith}
+use Rattle.wq_words.proofs.Common.{count_by, sum_by-append, eqb-true, eq-eqb, IsPrefix, nat_tests, Layout, Event, Hold, Push, Back, Take, Close, Begin, Chain}
+use Rattle.wq_words.proofs.Common.{accepted, begun, sets_pending, clears_pending, starts_hold, stops_hold, MayFollow, IsLegal, Keeper, Home, Sender, Listed}
+use Rattle.wq_words.proofs.Common.{Owner, taken_over, keeper}
 use Rattle.wq_words.proofs.Prefixes.{prefix_step}
 use Rattle.wq_words.proofs.Order.{IsInOrder, in_order}
-use Rattle.std.proofs.lemmas.Bool.Decides.{nat_tests}
-use Rattle.wq_words.specs.declared.layout.Layout.{Layout}
-use Rattle.wq_words.specs.declared.event.Event.{Event}
-use Rattle.wq_words.specs.declared.event.Event.TheVariants.{Hold, Push, Back, Take, Close, Begin, Chain}
-use Rattle.wq_words.specs.History.{accepted, begun, sets_pending, clears_pending, starts_hold, stops_hold}
-use Rattle.wq_words.specs.Legal.{MayFollow, IsLegal}
-use Rattle.wq_words.specs.Keeper.{Keeper, Home, Sender, Listed, Owner, taken_over, keeper}
 use Rattle.wq_words.proofs.Growing.{growing, count_by_push}
 use Rattle.wq_words.proofs.Legal.{legal_induction}
 

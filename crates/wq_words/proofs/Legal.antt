@@ -1,9 +1,6 @@
 -- Legal histories, an event at a time.
-use Rattle.std.proofs.Common.{ℕ, List, [], ◌∷◌, ◌++◌, length, take, get_or, ◌<◌, ◌+◌, inl, inr, sym, subst, append_assoc}
-use Rattle.std.proofs.lemmas.List.{append-nil, take_more}
-use Rattle.wq_words.specs.declared.layout.Layout.{Layout}
-use Rattle.wq_words.specs.declared.event.Event.{Event}
-use Rattle.wq_words.specs.Legal.{IsAllowed, IsLegal}
+use Rattle.wq_words.proofs.Common.{ℕ, List, [], ◌∷◌, ◌++◌, length, take, get_or, ◌<◌, ◌+◌, inl, inr, sym, subst, append_assoc, append-nil, take_more, Layout}
+use Rattle.wq_words.proofs.Common.{Event, IsAllowed, IsLegal}
 use Rattle.wq_words.proofs.Growing.{slice_get_push, slice_get_last, slice_get_append, take_append, take_length}
 
 pub legal_nil : (layout : Layout) → IsLegal layout []

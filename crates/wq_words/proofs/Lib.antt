@@ -1,3 +1,4 @@
+pub mod Common
 pub mod Prefixes
 pub mod Growing
 pub mod Written

@@ -1,14 +1,10 @@
 -- The list stands newest first, and behind what was taken it is all that was accepted.
-use Rattle.std.proofs.Common.{◌≡◌, ℕ, ◌+◌, ◌-◌, Bool, true, false, not, cond, List, [], ◌∷◌, ◌++◌, length, take, drop, reverse, None, refl, sym, ap, ◌∙◌, arith, add-zero, length-append}
-use Rattle.std.specs.List.{count_by, suffix_len, prefix_len, before_last, after_last}
-use Rattle.std.proofs.lemmas.List.{append-nil, append_assoc, reverse-append, length-reverse, length_push, take-append-le, drop-append-le, take_all, drop_all, drop_at}
-use Rattle.std.proofs.lemmas.List.Sums.{suffix_len-le-length, fold_push}
-use Rattle.wq_words.specs.declared.layout.Layout.{Layout}
-use Rattle.wq_words.specs.declared.event.Event.{Event}
-use Rattle.wq_words.specs.declared.event.Event.TheVariants.{Push, Take, Close, Chain}
-use Rattle.wq_words.specs.History.{accepted_by, accepted, is_close, is_push, is_take, IsClosed, closed, fresh, taken}
+use Rattle.wq_words.proofs.Common.{◌≡◌, ℕ, ◌+◌, ◌-◌, Bool, true, false, not, cond, List, [], ◌∷◌, ◌++◌, length, take, drop, reverse, None, refl, sym, ap, ◌∙◌}
+use Rattle.wq_words.proofs.Common.{arith, add-zero, length-append, count_by, suffix_len, prefix_len, before_last, after_last, append-nil, append_assoc}
+use Rattle.wq_words.proofs.Common.{reverse-append, length-reverse, length_push, take-append-le, drop-append-le, take_all, drop_all, drop_at}
+use Rattle.wq_words.proofs.Common.{suffix_len-le-length, fold_push, Layout, Event, Push, Take, Close, Chain, accepted_by, accepted, is_close, is_push}
+use Rattle.wq_words.proofs.Common.{is_take, IsClosed, closed, fresh, taken, MayFollow, IsLegal}
 use Rattle.wq_words.specs.Listed.{listed_after, listed}
-use Rattle.wq_words.specs.Legal.{MayFollow, IsLegal}
 use Rattle.wq_words.proofs.Growing.{count_by_push, filter_map_push_some, filter_map_push_none}
 use Rattle.wq_words.proofs.Closed.{closed_from_IsClosed, closed_from_open, closed_push_no, closed_push_yes}
 use Rattle.wq_words.proofs.Legal.{legal_induction}

@@ -1,12 +1,7 @@
 -- What begins is what was accepted, in that order, and each ends before the next begins.
-use Rattle.std.proofs.Common.{◌≡◌, ℕ, ◌+◌, ◌-◌, ◌<◌, ◌≤◌, ◌↔◌, List, [], ◌∷◌, ◌++◌, length, Some, slice_get, refl, sym, ap, ◌∙◌, arith, length-append}
-use Rattle.std.proofs.lemmas.Option.{slice_get_within}
-use mathlib.Core.List.{IsPrefix}
-use Rattle.wq_words.specs.declared.layout.Layout.{Layout}
-use Rattle.wq_words.specs.declared.event.Event.{Event}
-use Rattle.wq_words.specs.declared.event.Event.TheVariants.{Push, Begin, End, Chain}
-use Rattle.wq_words.specs.History.{accepted, begun, ended, IsRunning, running}
-use Rattle.wq_words.specs.Legal.{MayFollow, IsLegal}
+use Rattle.wq_words.proofs.Common.{◌≡◌, ℕ, ◌+◌, ◌-◌, ◌<◌, ◌≤◌, ◌↔◌, List, [], ◌∷◌, ◌++◌, length, Some, slice_get, refl, sym, ap, ◌∙◌, arith, length-append}
+use Rattle.wq_words.proofs.Common.{slice_get_within, IsPrefix, Layout, Event, Push, Begin, End, Chain, accepted, begun, ended, IsRunning, running, MayFollow}
+use Rattle.wq_words.proofs.Common.{IsLegal}
 use Rattle.wq_words.proofs.Prefixes.{prefix_append, prefix_length, prefix_step}
 use Rattle.wq_words.proofs.Growing.{growing}
 use Rattle.wq_words.proofs.Legal.{legal_induction}

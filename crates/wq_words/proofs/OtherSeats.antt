@@ -1,13 +1,7 @@
 -- What stays while every seat but the owner adds events.
-use Rattle.std.proofs.Common.{◌≡◌, ℕ, ◌==◌, Bool, true, false, cond, List, [], ◌∷◌, ◌++◌, None, sym, refl, ap, ◌∙◌, subst, append_assoc}
-use Rattle.std.proofs.lemmas.List.{append-nil}
-use Rattle.wq_words.specs.declared.layout.Layout.{Layout}
-use Rattle.wq_words.specs.declared.event.Event.{Event}
-use Rattle.wq_words.specs.declared.event.Event.TheVariants.{Hold, Busy, Push, Back}
+use Rattle.wq_words.proofs.Common.{◌≡◌, ℕ, ◌==◌, Bool, true, false, cond, List, [], ◌∷◌, ◌++◌, None, sym, refl, ap, ◌∙◌, subst, append_assoc, append-nil}
+use Rattle.wq_words.proofs.Common.{Layout, Event, Hold, Busy, Push, Back, accepted_by, accepted, IsClosed, taken, IsLegal, owner_seat, seat_of, own}
 use Rattle.wq_words.specs.declared.event.Why.{Why}
-use Rattle.wq_words.specs.History.{accepted_by, accepted, IsClosed, taken}
-use Rattle.wq_words.specs.Legal.{IsLegal}
-use Rattle.wq_words.specs.Seen.{owner_seat, seat_of, own}
 use Rattle.wq_words.proofs.Closed.{closed_from_open, closed_stays}
 use Rattle.wq_words.proofs.Legal.{legal_front, legal_next, legal_rest}
 use Rattle.wq_words.proofs.Listed.{accepted_push_none, taken_push_same, taken_push_push}

@@ -1,17 +1,10 @@
 -- A number that the list or the owner keeps stands once among the accepted and not begun numbers.
-use Rattle.std.proofs.Common.{◌≡◌, ℕ, ◌+◌, ◌<◌, ◌≤◌, ◌==◌, ◌↔◌, Bool, true, false, cond, if◌then◌else◌, List, [], ◌∷◌, ◌++◌, length, take, Some, None, slice_get, refl, sym, ap, ◌∙◌, arith, inl, inr}
-use Rattle.std.specs.List.{count_by}
-use Rattle.std.proofs.lemmas.List.{take-take, take_at, length_push, append-nil}
-use Rattle.std.proofs.lemmas.List.Sums.{count_by_more_yes, sum_by-take-le, fold_push}
-use Rattle.std.proofs.lemmas.Option.{slice_get_within, get_or_from_slice_get}
-use Rattle.std.proofs.lemmas.Bool.{eqb-true, eq-eqb, cases_lt}
-use mathlib.Core.List.{IsPrefix}
-use Rattle.wq_words.specs.declared.layout.Layout.{Layout}
-use Rattle.wq_words.specs.declared.event.Event.{Event}
-use Rattle.wq_words.specs.declared.event.Event.TheVariants.{Hold, Busy, Push, Back, Take, Close, Begin, End, Chain, ChainBusy, Rest}
-use Rattle.wq_words.specs.History.{accepted_by, accepted, begun_by, begun, taken, closed, is_close, is_take}
-use Rattle.wq_words.specs.Legal.{MayFollow, IsLegal}
-use Rattle.wq_words.specs.Keeper.{Keeper, Home, Sender, Listed, Owner, Keeps, taken_over, keeper_after, keeper}
+use Rattle.wq_words.proofs.Common.{◌≡◌, ℕ, ◌+◌, ◌<◌, ◌≤◌, ◌==◌, ◌↔◌, Bool, true, false, cond, if◌then◌else◌, List, [], ◌∷◌, ◌++◌, length, take, Some, None}
+use Rattle.wq_words.proofs.Common.{slice_get, refl, sym, ap, ◌∙◌, arith, inl, inr, count_by, take-take, take_at, length_push, append-nil, count_by_more_yes}
+use Rattle.wq_words.proofs.Common.{sum_by-take-le, fold_push, slice_get_within, get_or_from_slice_get, eqb-true, eq-eqb, cases_lt, IsPrefix, Layout, Event}
+use Rattle.wq_words.proofs.Common.{Hold, Busy, Push, Back, Take, Close, Begin, End, Chain, ChainBusy, Rest, accepted_by, accepted, begun_by, begun, taken}
+use Rattle.wq_words.proofs.Common.{closed, is_close, is_take, MayFollow, IsLegal, Keeper, Home, Sender, Listed, Owner, Keeps, taken_over, keeper_after}
+use Rattle.wq_words.proofs.Common.{keeper}
 use Rattle.wq_words.proofs.Growing.{filter_map_push_some, filter_map_push_none, slice_get_append, slice_get_last}
 use Rattle.wq_words.proofs.Legal.{legal_induction}
 use Rattle.wq_words.proofs.Prefixes.{prefix_length}

@@ -1,7 +1,6 @@
 -- Lists that begin others.
-use Rattle.std.proofs.Common.{◌≡◌, ◌≤◌, List, [], ◌∷◌, ◌++◌, length, Some, slice_get, refl, sym, ap, ◌∙◌, append_assoc, arith, length-append}
-use Rattle.std.proofs.lemmas.List.{append-nil}
-use mathlib.Core.List.{IsPrefix}
+use Rattle.wq_words.proofs.Common.{◌≡◌, ◌≤◌, List, [], ◌∷◌, ◌++◌, length, Some, slice_get, refl, sym, ap, ◌∙◌, append_assoc, arith, length-append, append-nil}
+use Rattle.wq_words.proofs.Common.{IsPrefix}
 
 module _ {A : Type 0} where
   pub nothing_more : (xs ys : List A) → xs ++ ys ≡ xs → ys ≡ []

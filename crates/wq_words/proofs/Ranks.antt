@@ -1,9 +1,6 @@
 -- Places of a list and of what `filter_map` takes of it.
-use Rattle.std.proofs.Common.{◌≡◌, ℕ, zero, suc, ◌<◌, ◌≤◌, List, [], ◌∷◌, length, take, drop, Option, Some, None, slice_get, refl, sym, ap, ◌∙◌, arith}
-use Rattle.std.specs.List.{filter_map}
-use Rattle.std.proofs.lemmas.List.Elements.{filter_map-append}
-use Rattle.std.proofs.lemmas.List.{take-take, take-append-drop, length-append}
-use mathlib.Core.List.{IsPrefix}
+use Rattle.wq_words.proofs.Common.{◌≡◌, ℕ, zero, suc, ◌<◌, ◌≤◌, List, [], ◌∷◌, length, take, drop, Option, Some, None, slice_get, refl, sym, ap, ◌∙◌, arith}
+use Rattle.wq_words.proofs.Common.{filter_map, filter_map-append, take-take, take-append-drop, length-append, IsPrefix}
 use Rattle.wq_words.proofs.Growing.{slice_get_append}
 
 module _ {X Y : Type 0} (f : X → Option Y) where

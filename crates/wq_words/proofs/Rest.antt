@@ -1,10 +1,7 @@
 -- A queue that rests with one more event, and which pushes wake it.
-use Rattle.std.proofs.Common.{◌≡◌, ◌≢◌, ℕ, zero, suc, ◌+◌, ◌-◌, ◌<◌, ◌≤◌, ◌==◌, Bool, true, false, not, ◌&&◌, ◌||◌, cond, List, [], ◌∷◌, ◌++◌, length, take, Some, slice_get, get_or, refl, sym, ap, ◌∙◌, arith, add-zero, inl, inr, ◌⊎◌}
-use Rattle.std.specs.List.{count_by, after_last}
-use Rattle.std.proofs.lemmas.Bool.Decides.{nat_tests}
-use Rattle.std.proofs.lemmas.Option.{slice_get_within, slice_get-get_or}
-use Rattle.wq_words.specs.declared.event.Event.{Event}
-use Rattle.wq_words.specs.declared.event.Event.TheVariants.{Push, Take, Rest}
+use Rattle.wq_words.proofs.Common.{◌≡◌, ◌≢◌, ℕ, zero, suc, ◌+◌, ◌-◌, ◌<◌, ◌≤◌, ◌==◌, Bool, true, false, not, ◌&&◌, ◌||◌, cond, List, [], ◌∷◌, ◌++◌, length}
+use Rattle.wq_words.proofs.Common.{take, Some, slice_get, get_or, refl, sym, ap, ◌∙◌, arith, add-zero, inl, inr, ◌⊎◌, count_by, after_last, nat_tests}
+use Rattle.wq_words.proofs.Common.{slice_get_within, slice_get-get_or, Event, Push, Take, Rest}
 use Rattle.wq_words.specs.Rest.{is_rest, is_push_or_take, wakes, WakesAt, BeginsStretch, WakesOnce, WakesBeforeTake, NoneWakesAfterTake, WakesOnceARest}
 use Rattle.wq_words.proofs.Growing.{count_by_push, take_more_some}
 use Rattle.wq_words.proofs.Listed.{after_last_push_yes, after_last_push_no}

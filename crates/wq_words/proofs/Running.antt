@@ -1,8 +1,6 @@
 -- Whether a number runs, as a test and as a fact.
-use Rattle.std.proofs.Common.{◌≡◌, ℕ, List, length, get_or, Some, None, arith}
-use Rattle.std.proofs.lemmas.Option.{slice_get_within, slice_get_past, slice_get-get_or}
-use Rattle.wq_words.specs.declared.event.Event.{Event}
-use Rattle.wq_words.specs.History.{begun, ended, IsRunning, running}
+use Rattle.wq_words.proofs.Common.{◌≡◌, ℕ, List, length, get_or, Some, None, arith, slice_get_within, slice_get_past, slice_get-get_or, Event, begun, ended}
+use Rattle.wq_words.proofs.Common.{IsRunning, running}
 
 -- a number that runs, where one does
 pub runs_some : (h : List Event) → IsRunning h → (k : ℕ) × (running h ≡ Some k)

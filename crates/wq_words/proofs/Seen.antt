@@ -1,15 +1,9 @@
 -- Lists of events, and those of one seat among them.
-use Rattle.std.proofs.Common.{◌≡◌, ℕ, ◌≢◌, Bool, true, false, cond, not, eqb, ◌==◌, List, [], ◌∷◌, ◌++◌, length, Option, Some, None, sym, refl, ap, ◌∙◌, arith, append_assoc, eq-eqb, ne_eqb}
-use Rattle.std.specs.Prelude.{count_by, filter, filter_map, ◌&&◌, ◌||◌}
-use Rattle.std.proofs.lemmas.List.{append-nil}
-use Rattle.std.proofs.lemmas.List.Sums.{sum_by-cons}
-use Rattle.std.proofs.lemmas.List.Elements.{filter-append}
-use mathlib.Core.List.{IsPrefix}
+use Rattle.wq_words.proofs.Common.{◌≡◌, ℕ, ◌≢◌, Bool, true, false, cond, not, eqb, ◌==◌, List, [], ◌∷◌, ◌++◌, length, Option, Some, None, sym, refl, ap, ◌∙◌}
+use Rattle.wq_words.proofs.Common.{arith, append_assoc, eq-eqb, ne_eqb, count_by, filter, filter_map, ◌&&◌, ◌||◌, append-nil, sum_by-cons, filter-append}
+use Rattle.wq_words.proofs.Common.{IsPrefix, Event, Hold, Push, Back, Close, Begin, End, Holds, starts_hold, stops_hold, is_close, IsClosed, begun_by}
+use Rattle.wq_words.proofs.Common.{ended_by, begun, ended, IsRunning, owner_seat, seat_of, own, others, is_ours, Grows}
 use Rattle.wq_words.proofs.Prefixes.{left_nil, nothing_more}
-use Rattle.wq_words.specs.declared.event.Event.{Event}
-use Rattle.wq_words.specs.declared.event.Event.TheVariants.{Hold, Push, Back, Close, Begin, End}
-use Rattle.wq_words.specs.History.{Holds, starts_hold, stops_hold, is_close, IsClosed, begun_by, ended_by, begun, ended, IsRunning}
-use Rattle.wq_words.specs.Seen.{owner_seat, seat_of, own, others, is_ours, Grows}
 
 pub own-append : (c : ℕ) (a b : List Event) → own c (a ++ b) ≡ own c a ++ own c b
 own-append c a b = filter-append (λ e. eqb (seat_of e) c) a b

@@ -1,9 +1,8 @@
 -- Lists that are written to, or grow, one place after another.
-use Rattle.std.proofs.Common.{◌≡◌, ◌≢◌, ℕ, ◌+◌, ◌<◌, ◌≤◌, List, [], ◌∷◌, ◌++◌, length, take, drop, get_or, set, inl, inr, sym, ap, ◌∙◌, subst, arith, length-append}
+use Rattle.wq_words.proofs.Common.{◌≡◌, ◌≢◌, ℕ, ◌+◌, ◌<◌, ◌≤◌, List, [], ◌∷◌, ◌++◌, length, take, drop, get_or, set, inl, inr, sym, ap, ◌∙◌, subst, arith}
+use Rattle.wq_words.proofs.Common.{length-append, cases_lt, get_or-set_other, get_or-set_same, get_or_default}
 use Rattle.std.proofs.Math.ListN.{get_or-append}
 use Rattle.std.proofs.Math.Seq.{get_or-append_seam}
-use Rattle.std.proofs.lemmas.Bool.{cases_lt}
-use Rattle.std.proofs.lemmas.List.{get_or-set_other, get_or-set_same, get_or_default}
 use Rattle.wq_words.proofs.Growing.{take_length}
 
 -- what holds of each place below i and of i holds of each below the next

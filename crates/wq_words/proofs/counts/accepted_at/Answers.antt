@@ -1,8 +1,4 @@
-use Rattle.std.proofs.Common.{rules, sym, ◌∙◌}
-use Rattle.std.proofs.lemmas.Iterator.{YieldsList-from_slice}
-use Rattle.std.proofs.lemmas.Iterator.Adapters.{option_map_id}
-use Rattle.std.proofs.lemmas.Iterator.Consumers.{nth_from_yields_List, YieldsList-from_filter_map}
-use Rattle.wq_words.specs.History.{accepted_by}
+use Rattle.wq_words.proofs.Common.{rules, sym, ◌∙◌, YieldsList-from_slice, option_map_id, nth_from_yields_List, YieldsList-from_filter_map, accepted_by}
 use Rattle.wq_words.proofs.counts.accepted_at.Goals as goal
 
 pub returns : goal.returns

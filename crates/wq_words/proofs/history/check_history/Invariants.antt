@@ -1,5 +1,4 @@
-use Rattle.std.proofs.Common.{take}
-use Rattle.wq_words.specs.Legal.{IsLegal}
+use Rattle.wq_words.proofs.Common.{take, IsLegal}
 use Rattle.wq_words.proofs.history.check_history.Given as goal
 
 abbrev pub invariant-loop-place : goal.invariant-loop-place

@@ -1,5 +1,4 @@
-use Rattle.std.proofs.Common.{arith}
-use Rattle.std.proofs.lemmas.Bool.Decides.{nat_tests}
+use Rattle.wq_words.proofs.Common.{arith, nat_tests}
 use Rattle.wq_words.proofs.laws.pending_and_closed.Goals as goal
 
 pub returns : goal.returns
