@@ -1,16 +1,8 @@
 -- The two chains and the batch, a step at a time.
-use Rattle.std.proofs.Common.{◌≡◌, ◌≢◌, ℕ, ◌+◌, ◌<◌, ◌==◌, Bool, true, false, cond, List, [], ◌∷◌, ◌++◌, length, get_or, set, Option, Some, None, slice_get, refl, sym, ap, ◌∙◌, arith, append_assoc}
-use Rattle.std.specs.List.{count_by}
-use Rattle.std.specs.Prelude.{reverse}
-use Rattle.std.proofs.lemmas.List.{append-nil, get_or-set_other}
-use Rattle.std.proofs.lemmas.List.Sums.{sum_by-append, sum_by-cons}
-use Rattle.std.proofs.lemmas.Bool.{eqb-false, eqb-true, eq-eqb}
-use Rattle.std.proofs.lemmas.Grind.{reverse_onto}
-use mathlib.Core.List.{reverse_aux}
-use Rattle.wq_words.specs.Head.{head_word}
-use Rattle.wq_words.proofs.Growing.{slice_get_last}
-use Rattle.wq_core.specs.Words.{link_place, number_at, word_at}
-use Rattle.wq_core.specs.Sound.{head_of_list, IsChain, AreChained}
+use Rattle.wq_core.proofs.Common.{◌≡◌, ◌≢◌, ℕ, ◌+◌, ◌<◌, ◌==◌, Bool, true, false, cond, List, [], ◌∷◌, ◌++◌, length, get_or, set, Option, Some, None}
+use Rattle.wq_core.proofs.Common.{slice_get, refl, sym, ap, ◌∙◌, arith, append_assoc, count_by, reverse, append-nil, get_or-set_other, sum_by-append}
+use Rattle.wq_core.proofs.Common.{sum_by-cons, eqb-false, eqb-true, eq-eqb, reverse_onto, reverse_aux, head_word, slice_get_last, link_place, number_at}
+use Rattle.wq_core.proofs.Common.{word_at, head_of_list, IsChain, AreChained}
 
 -- how often k stands in a list
 abbrev pub times : ℕ → List ℕ → ℕ

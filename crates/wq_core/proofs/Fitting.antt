@@ -1,11 +1,6 @@
 -- Each word that is stored as a link leads to a number of the queue, or is the end.
-use Rattle.std.proofs.Common.{◌≡◌, ◌≢◌, ℕ, ◌<◌, ◌≤◌, List, length, get_or, set, Some, arith, inl, inr}
-use Rattle.std.proofs.lemmas.List.{get_or-set_other, get_or-set_same}
-use Rattle.std.proofs.lemmas.Bool.{cases_eq}
-use Rattle.wq_core.specs.declared.step.Private.{Private}
-use Rattle.wq_core.specs.Words.{link_place, item_place, done_place, head_place, closed_word, link_word}
-use Rattle.wq_core.specs.Machine.{nothing_seen}
-use Rattle.wq_core.specs.Stored.{LinksFit, LooksFit}
+use Rattle.wq_core.proofs.Common.{◌≡◌, ◌≢◌, ℕ, ◌<◌, ◌≤◌, List, length, get_or, set, Some, arith, inl, inr, get_or-set_other, get_or-set_same, cases_eq}
+use Rattle.wq_core.proofs.Common.{Private, link_place, item_place, done_place, head_place, closed_word, link_word, nothing_seen, LinksFit, LooksFit}
 
 module _ (n : ℕ) (ws : List ℕ) (v : ℕ) (fit : LinksFit n ws) where
   -- a word that is no link is written

@@ -1,22 +1,9 @@
 -- The head that a history leaves.
-use Rattle.std.proofs.Common.{◌≡◌, ◌≢◌, ℕ, ◌+◌, ◌<◌, Bool, true, false, List, [], ◌∷◌, ◌++◌, length, Option, Some, None, unwrap_or, ◌==◌, if◌then◌else◌, refl, sym, ap, ◌∙◌, arith}
-use Rattle.std.proofs.lemmas.Bool.{ne_eqb}
-use Rattle.std.proofs.lemmas.List.{append-nil}
-use Rattle.std.proofs.lemmas.List.Sums.{fold_push}
-use Rattle.wq_words.specs.declared.layout.Layout.{Layout}
-use Rattle.wq_words.specs.declared.event.Event.{Event}
-use Rattle.wq_words.specs.Numbers.{number_count}
-use Rattle.wq_words.specs.declared.head.Head.TheVariants.{Empty}
-use Rattle.wq_words.specs.Head.{head_word, busy_word}
-use Rattle.wq_words.specs.Rest.{is_rest, is_push_or_take, wakes}
-use Rattle.wq_words.specs.History.{ended, ended_by, closed, is_close, IsClosed}
-use Rattle.wq_words.specs.Listed.{listed_after, listed}
-use Rattle.wq_words.proofs.Growing.{filter_map_push_none}
-use Rattle.wq_words.proofs.Closed.{closed_from_IsClosed, closed_from_open, IsClosed_from_closed, closed_push_no}
-use Rattle.wq_words.proofs.Rest.{wakes_quiet}
-use Rattle.wq_core.specs.Words.{closed_word, link_word, link_to}
-use Rattle.wq_core.specs.Machine.{Machine, head}
-use Rattle.wq_core.specs.Sound.{head_of_list, head_of, marked, head_word_of, IsChain, IsSound}
+use Rattle.wq_core.proofs.Common.{◌≡◌, ◌≢◌, ℕ, ◌+◌, ◌<◌, Bool, true, false, List, [], ◌∷◌, ◌++◌, length, Option, Some, None, unwrap_or, ◌==◌, if◌then◌else◌}
+use Rattle.wq_core.proofs.Common.{refl, sym, ap, ◌∙◌, arith, ne_eqb, append-nil, fold_push, Layout, Event, number_count, Empty, head_word, busy_word, is_rest}
+use Rattle.wq_core.proofs.Common.{is_push_or_take, wakes, ended, ended_by, closed, is_close, IsClosed, listed_after, listed, filter_map_push_none}
+use Rattle.wq_core.proofs.Common.{closed_from_IsClosed, closed_from_open, IsClosed_from_closed, closed_push_no, wakes_quiet, closed_word, link_word, link_to}
+use Rattle.wq_core.proofs.Common.{Machine, head, head_of_list, head_of, marked, head_word_of, IsChain, IsSound}
 
 -- the event leaves the list, the close and the rest as they are
 pub record IsQuiet (e : Event) : Type 0 where

@@ -1,22 +1,10 @@
 -- The invariant, said by the keepers of the numbers, and an event that moves none of them.
-use Rattle.std.proofs.Common.{◌≡◌, ◌≢◌, ℕ, ◌+◌, ◌%◌, ◌^◌, ◌<◌, true, false, if◌then◌else◌, nat_lt, List, [], ◌∷◌, ◌++◌, length, None, Some, slice_get, refl, sym, ap, ◌∙◌, arith, inl, inr}
-use Rattle.std.proofs.lemmas.Bool.{eq-eqb, lt-ltb, le-ltb}
-use Rattle.wq_words.specs.declared.layout.Layout.{Layout}
-use Rattle.wq_words.specs.declared.event.Event.{Event}
-use Rattle.wq_words.specs.declared.event.Event.TheVariants.{Push, Chain}
-use Rattle.wq_words.specs.Numbers.{number_count}
-use Rattle.wq_words.specs.Rest.{wakes}
-use Rattle.wq_words.specs.History.{accepted, begun, ended, accepted_by, begun_by, ended_by, pending, Holds, IsPending, IsClosed}
-use Rattle.wq_words.specs.Listed.{listed_after, listed}
-use Rattle.wq_words.specs.Legal.{IsAllowed, IsLegal}
-use Rattle.wq_words.specs.Keeper.{Keeper, Home, Sender, Listed, Owner, keeper_after, keeper}
-use Rattle.wq_words.proofs.Growing.{growing, slice_get_push}
-use Rattle.wq_words.proofs.Legal.{legal_push, legal_induction}
-use Rattle.wq_words.proofs.Keepers.{pending_bit, kept, home_from_bit, sender_from_bit}
-use Rattle.wq_core.specs.Words.{item_place, word_count, closed_word}
-use Rattle.wq_core.specs.Machine.{Machine, head, item_word, done_word, private, happened}
-use Rattle.wq_core.specs.Sound.{head_word_of, AreChained, IsSound}
-use Rattle.wq_core.specs.Stored.{FollowKeepers}
+use Rattle.wq_core.proofs.Common.{◌≡◌, ◌≢◌, ℕ, ◌+◌, ◌%◌, ◌^◌, ◌<◌, true, false, if◌then◌else◌, nat_lt, List, [], ◌∷◌, ◌++◌, length, None, Some, slice_get}
+use Rattle.wq_core.proofs.Common.{refl, sym, ap, ◌∙◌, arith, inl, inr, eq-eqb, lt-ltb, le-ltb, Layout, Event, Push, Chain, number_count, wakes, accepted}
+use Rattle.wq_core.proofs.Common.{begun, ended, accepted_by, begun_by, ended_by, pending, Holds, IsPending, IsClosed, listed_after, listed, IsAllowed}
+use Rattle.wq_core.proofs.Common.{IsLegal, Keeper, Home, Sender, Listed, Owner, keeper_after, keeper, growing, slice_get_push, legal_push, legal_induction}
+use Rattle.wq_core.proofs.Common.{pending_bit, kept, home_from_bit, sender_from_bit, item_place, word_count, closed_word, Machine, head, item_word, done_word}
+use Rattle.wq_core.proofs.Common.{private, happened, head_word_of, AreChained, IsSound, FollowKeepers}
 use Rattle.wq_core.proofs.Chains.{times}
 use Rattle.wq_core.proofs.Privates.{follow_quiet, AreLinked, linked_quiet, seen_after}
 use Rattle.wq_core.proofs.Heads.{IsQuiet, head_word_quiet, rests_quiet, ended_quiet}

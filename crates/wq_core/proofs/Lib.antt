@@ -1,3 +1,4 @@
+pub mod Common
 pub mod Words
 pub mod Chains
 pub mod Privates

@@ -1,33 +1,20 @@
 -- Each of the owner's steps keeps what is sound: one lemma a step.
-use Rattle.std.proofs.Common.{◌≡◌, ◌≢◌, ℕ, ◌+◌, ◌%◌, ◌^◌, ◌<◌, true, false, List, [], ◌∷◌, ◌++◌, length, Option, None, Some, slice_get, refl, sym, ap, ◌∙◌, arith, length-set}
-use Rattle.std.proofs.lemmas.List.{get_or-set_same, length_push, append-nil}
-use Rattle.std.proofs.lemmas.List.Sums.{fold_push}
+use Rattle.wq_core.proofs.Common.{◌≡◌, ◌≢◌, ℕ, ◌+◌, ◌%◌, ◌^◌, ◌<◌, true, false, List, [], ◌∷◌, ◌++◌, length, Option, None, Some, slice_get, refl, sym, ap}
+use Rattle.wq_core.proofs.Common.{◌∙◌, arith, length-set, get_or-set_same, length_push, append-nil, fold_push, Event, IsAllowed, Take, Close, Begin, End}
+use Rattle.wq_core.proofs.Common.{Chain, ChainBusy, Rest, number_count, busy_word, wakes, accepted, accepted_by, begun, begun_by, ended, ended_by, closed}
+use Rattle.wq_core.proofs.Common.{is_close, IsClosed, IsRunning, running, listed_after, listed, Keeper, Home, Sender, Listed, Owner, taken_over, keeper_after}
+use Rattle.wq_core.proofs.Common.{keeper, growing, count_by_push, filter_map_push_some, slice_get_append, in_order, legal_push, listed-closed}
+use Rattle.wq_core.proofs.Common.{closed_from_open, closed_push_no, pending_bit, item_place, done_place, head_place, closed_word, idle_word, link_word}
+use Rattle.wq_core.proofs.Common.{number_at, Machine, head, link, item_word, done_word, with_head, with_item, with_done, happened, prefix_length}
+use Rattle.wq_core.proofs.Common.{wakes_push_work, wakes_push_rest, head_word_of, AreChained, IsSound}
 use Rattle.std.proofs.Math.Nat.{add-mod-mod}
-use Rattle.wq_words.specs.declared.event.Event.{Event}
-use Rattle.wq_words.specs.Legal.{IsAllowed}
-use Rattle.wq_words.specs.declared.event.Event.TheVariants.{Take, Close, Begin, End, Chain, ChainBusy, Rest}
-use Rattle.wq_words.specs.Numbers.{number_count}
-use Rattle.wq_words.specs.Head.{busy_word}
-use Rattle.wq_words.specs.Rest.{wakes}
-use Rattle.wq_words.specs.History.{accepted, accepted_by, begun, begun_by, ended, ended_by, closed, is_close, IsClosed, IsRunning, running}
-use Rattle.wq_words.specs.Listed.{listed_after, listed}
-use Rattle.wq_words.specs.Keeper.{Keeper, Home, Sender, Listed, Owner, taken_over, keeper_after, keeper}
-use Rattle.wq_words.proofs.Growing.{growing, count_by_push, filter_map_push_some, slice_get_append}
-use Rattle.wq_words.proofs.Order.{in_order}
-use Rattle.wq_words.proofs.Legal.{legal_push}
-use Rattle.wq_words.proofs.Listed.{listed-closed}
-use Rattle.wq_words.proofs.Closed.{closed_from_open, closed_push_no}
-use Rattle.wq_words.proofs.Keepers.{pending_bit}
-use Rattle.wq_core.specs.Words.{item_place, done_place, head_place, closed_word, idle_word, link_word, number_at}
-use Rattle.wq_core.specs.Machine.{Machine, head, link, item_word, done_word, with_head, with_item, with_done, happened}
-use Rattle.wq_words.proofs.Prefixes.{prefix_length}
-use Rattle.wq_words.proofs.Rest.{wakes_push_work, wakes_push_rest}
-use Rattle.wq_core.specs.Sound.{head_word_of, AreChained, IsSound}
 use Rattle.wq_core.proofs.Chains.{chain_zero, chained_take, chained_begin, chained_walk_on, chained_walk_end, chained_chain, cursor_number}
 use Rattle.wq_core.proofs.Privates.{gives_begin, gives_chain, follow_give, follow_quiet, linked_quiet, linked_spares, seen_after}
-use Rattle.wq_core.proofs.Writes.{head_of-item, done_of-item, chains_of-item, linked_of-item, done_of-head, items_of-head, chains_of-head, linked_of-head, head_of-done, items_of-done, chains_of-done, linked_of-done}
+use Rattle.wq_core.proofs.Writes.{head_of-item, done_of-item, chains_of-item, linked_of-item, done_of-head, items_of-head, chains_of-head, linked_of-head}
+use Rattle.wq_core.proofs.Writes.{head_of-done, items_of-done, chains_of-done, linked_of-done}
 use Rattle.wq_core.proofs.Heads.{head_of_closed, quiet, head_word_quiet, rests_quiet, ended_quiet, head_open, busy_list}
-use Rattle.wq_core.proofs.KeptSound.{accepted_number, by_keepers, from_keepers, home_from_clear, idle_from_home, pending_from_set, away_from_sender, sound_quiet}
+use Rattle.wq_core.proofs.KeptSound.{accepted_number, by_keepers, from_keepers, home_from_clear, idle_from_home, pending_from_set, away_from_sender}
+use Rattle.wq_core.proofs.KeptSound.{sound_quiet}
 
 module _ (m : Machine) (o : IsSound m) where
   -- no sender's number changes its keeper where the list goes to the owner

@@ -1,18 +1,8 @@
 -- What follows the keepers of the numbers: the item words, and what the senders keep in private.
-use Rattle.std.proofs.Common.{◌≡◌, ◌≢◌, ℕ, ◌<◌, ◌==◌, Bool, true, false, List, [], ◌∷◌, ◌++◌, length, get_or, set, None, Some, Option, if◌then◌else◌, refl, sym, ap, ◌∙◌, arith, inl, inr}
-use Rattle.std.proofs.lemmas.List.{get_or-set_other, get_or-set_same}
-use Rattle.std.proofs.lemmas.List.Sums.{fold_push}
-use Rattle.std.proofs.lemmas.Bool.{ne_eqb, eq-eqb, eqb-false, cases_eq}
-use Rattle.wq_words.specs.declared.event.Why.{Why}
-use Rattle.wq_words.specs.declared.event.Event.{Event}
-use Rattle.wq_words.specs.declared.event.Event.TheVariants.{Hold, Push, Back, Begin, Chain}
-use Rattle.wq_words.specs.History.{IsClosed}
-use Rattle.wq_words.specs.Keeper.{Keeper, Home, Sender, Listed, Owner, keeper_after, keeper}
-use Rattle.wq_words.proofs.Closed.{closed_stays}
-use Rattle.wq_core.specs.declared.step.Private.{Private}
-use Rattle.wq_core.specs.Words.{link_place, closed_word, link_to}
-use Rattle.wq_core.specs.Machine.{nothing_seen, other_than, unlinked}
-use Rattle.wq_core.specs.Stored.{FollowKeepers}
+use Rattle.wq_core.proofs.Common.{◌≡◌, ◌≢◌, ℕ, ◌<◌, ◌==◌, Bool, true, false, List, [], ◌∷◌, ◌++◌, length, get_or, set, None, Some, Option, if◌then◌else◌}
+use Rattle.wq_core.proofs.Common.{refl, sym, ap, ◌∙◌, arith, inl, inr, get_or-set_other, get_or-set_same, fold_push, ne_eqb, eq-eqb, eqb-false, cases_eq, Why}
+use Rattle.wq_core.proofs.Common.{Event, Hold, Push, Back, Begin, Chain, IsClosed, Keeper, Home, Sender, Listed, Owner, keeper_after, keeper, closed_stays}
+use Rattle.wq_core.proofs.Common.{Private, link_place, closed_word, link_to, nothing_seen, other_than, unlinked, FollowKeepers}
 
 pub keeper_push : (h : List Event) (e : Event) (k : ℕ) → keeper (h ++ e ∷ []) k ≡ keeper_after k (keeper h k) e
 keeper_push h e k = fold_push (keeper_after k) Home h e

@@ -1,28 +1,17 @@
 -- Every schedule keeps what is sound.
-use Rattle.std.proofs.Common.{◌≡◌, ◌≢◌, ℕ, zero, suc, ◌+◌, ◌<◌, ◌==◌, Bool, true, false, if◌then◌else◌, List, [], ◌∷◌, ◌++◌, length, get_or, take, Option, None, Some, unwrap_or, refl, ap, ◌∙◌, replicate}
-use Rattle.std.proofs.lemmas.Bool.{eqb-true, eqb-false}
-use Rattle.std.proofs.lemmas.List.{length-replicate, take_more}
-use Rattle.std.proofs.lemmas.Option.{slice_get-get_or}
-use Rattle.wq_words.specs.declared.layout.Layout.{Layout}
-use Rattle.wq_words.specs.Numbers.{number_count}
-use Rattle.wq_words.specs.History.{running, IsRunning}
-use Rattle.wq_words.specs.Legal.{IsLegal}
-use Rattle.wq_words.proofs.Legal.{legal_nil}
-use Rattle.wq_core.specs.declared.step.Private.{Private}
+use Rattle.wq_core.proofs.Common.{◌≡◌, ◌≢◌, ℕ, zero, suc, ◌+◌, ◌<◌, ◌==◌, Bool, true, false, if◌then◌else◌, List, [], ◌∷◌, ◌++◌, length, get_or, take, Option}
+use Rattle.wq_core.proofs.Common.{None, Some, unwrap_or, refl, ap, ◌∙◌, replicate, eqb-true, eqb-false, length-replicate, take_more, slice_get-get_or, Layout}
+use Rattle.wq_core.proofs.Common.{number_count, running, IsRunning, IsLegal, legal_nil, Private, Step, Look, Link, Check, Walk, Turn, busy_word, word_count}
+use Rattle.wq_core.proofs.Common.{link_word, link_to, word_at, Machine, opening, nothing_seen, head, link, item_word, private, seen_word, after_walk}
+use Rattle.wq_core.proofs.Common.{after_begin, after_end, after, IsMade, IsRefused, Leads, Leaves, StopsAt, IsSound}
 use Rattle.wq_core.specs.declared.step.Seat.{Seat}
 use Rattle.wq_core.specs.declared.step.Seat.TheVariants.{Sender, Owner}
-use Rattle.wq_core.specs.declared.step.Step.{Step}
-use Rattle.wq_core.specs.declared.step.Step.TheVariants.{Hold, Look, Link, Push, Back, Check, Take, Close, Walk, Begin, End, Chain, Turn, Rest}
+use Rattle.wq_core.specs.declared.step.Step.TheVariants.{Hold, Push, Back, Take, Close, Begin, End, Chain, Rest}
 use Rattle.wq_core.specs.declared.step.StepError.{StepError}
-use Rattle.wq_words.specs.Head.{busy_word}
-use Rattle.wq_core.specs.Words.{word_count, link_word, link_to, word_at}
-use Rattle.wq_core.specs.Machine.{Machine, opening, nothing_seen, head, link, item_word, private, seen_word, after_walk, after_begin, after_end, after}
-use Rattle.wq_core.specs.Refusal.{IsMade, IsRefused}
-use Rattle.wq_core.specs.Schedule.{Leads, Leaves, StopsAt}
-use Rattle.wq_core.specs.Sound.{IsSound}
 use Rattle.wq_words.proofs.Running.{runs_some}
 use Rattle.wq_core.proofs.SenderSteps.{sound_hold, sound_busy, sound_look, sound_lost, sound_link, sound_push, sound_back}
-use Rattle.wq_core.proofs.OwnerSteps.{sound_take, sound_close, sound_walk_end, sound_walk_on, sound_begin, sound_end, sound_chain, sound_chain_busy, sound_rest}
+use Rattle.wq_core.proofs.OwnerSteps.{sound_take, sound_close, sound_walk_end, sound_walk_on, sound_begin, sound_end, sound_chain, sound_chain_busy}
+use Rattle.wq_core.proofs.OwnerSteps.{sound_rest}
 use Rattle.wq_core.proofs.Heads.{link_open}
 use Rattle.wq_core.proofs.Turning.{sound_turn}
 

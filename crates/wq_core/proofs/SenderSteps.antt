@@ -1,28 +1,17 @@
 -- Each of a sender's steps keeps what is sound: one lemma a step.
-use Rattle.std.proofs.Common.{◌≡◌, ◌≢◌, ℕ, ◌+◌, ◌%◌, ◌^◌, ◌<◌, false, [], ◌∷◌, ◌++◌, length, None, Some, refl, sym, ap, ◌∙◌, arith, length-set}
-use Rattle.std.proofs.lemmas.List.{get_or-set_same}
-use Rattle.std.proofs.lemmas.List.Sums.{fold_push}
-use Rattle.wq_words.specs.declared.event.Why.{Why}
-use Rattle.wq_words.specs.declared.event.Why.TheVariants.{Closed}
-use Rattle.wq_words.specs.declared.event.Event.TheVariants.{Hold, Busy, Push, Back}
-use Rattle.wq_words.specs.Numbers.{number_count}
-use Rattle.wq_words.specs.History.{closed, Holds, IsClosed}
-use Rattle.wq_words.specs.Listed.{listed_after, listed}
-use Rattle.wq_words.specs.Keeper.{Home, Sender, Listed}
-use Rattle.wq_words.proofs.Growing.{growing}
-use Rattle.wq_words.proofs.Legal.{legal_push}
-use Rattle.wq_words.proofs.Closed.{closed_from_open, closed_push_no}
-use Rattle.wq_words.proofs.Keepers.{pending_bit}
-use Rattle.wq_words.proofs.Rest.{wakes_push_work}
-use Rattle.wq_core.specs.Words.{link_place, item_place, head_place, closed_word, link_word, link_to}
-use Rattle.wq_core.specs.declared.step.Private.{Private}
-use Rattle.wq_core.specs.Machine.{Machine, nothing_seen, head, link, item_word, private, seen_word, with_head, with_link, with_item, with_private, happened, unlinked}
-use Rattle.wq_core.specs.Sound.{head_word_of, IsSound}
+use Rattle.wq_core.proofs.Common.{◌≡◌, ◌≢◌, ℕ, ◌+◌, ◌%◌, ◌^◌, ◌<◌, false, [], ◌∷◌, ◌++◌, length, None, Some, refl, sym, ap, ◌∙◌, arith, length-set}
+use Rattle.wq_core.proofs.Common.{get_or-set_same, fold_push, Why, Closed, Hold, Busy, Push, Back, number_count, closed, Holds, IsClosed, listed_after}
+use Rattle.wq_core.proofs.Common.{listed, Home, Sender, Listed, growing, legal_push, closed_from_open, closed_push_no, pending_bit, wakes_push_work}
+use Rattle.wq_core.proofs.Common.{link_place, item_place, head_place, closed_word, link_word, link_to, Private, Machine, nothing_seen, head, link, item_word}
+use Rattle.wq_core.proofs.Common.{private, seen_word, with_head, with_link, with_item, with_private, happened, unlinked, head_word_of, IsSound}
 use Rattle.wq_core.proofs.Chains.{chained_set, chained_push}
-use Rattle.wq_core.proofs.Privates.{gives_hold, gives_push, gives_back, follow_give, follow_same, linked_spares, linked_give, keeps_unlinked, linked_link, linked_forget, seen_after, seen_set}
-use Rattle.wq_core.proofs.Writes.{head_of-item, done_of-item, chains_of-item, linked_of-item, done_of-head, items_of-head, chains_of-head, linked_of-head, head_of-link, done_of-link, items_of-link}
+use Rattle.wq_core.proofs.Privates.{gives_hold, gives_push, gives_back, follow_give, follow_same, linked_spares, linked_give, keeps_unlinked, linked_link}
+use Rattle.wq_core.proofs.Privates.{linked_forget, seen_after, seen_set}
+use Rattle.wq_core.proofs.Writes.{head_of-item, done_of-item, chains_of-item, linked_of-item, done_of-head, items_of-head, chains_of-head, linked_of-head}
+use Rattle.wq_core.proofs.Writes.{head_of-link, done_of-link, items_of-link}
 use Rattle.wq_core.proofs.Heads.{head_of_closed, quiet, head_word_quiet, rests_quiet, ended_quiet, closed_from_head, head_open, link_seen}
-use Rattle.wq_core.proofs.KeptSound.{by_keepers, from_keepers, home_from_clear, idle_from_home, pending_from_set, sender_from_holds, away_from_sender, sound_quiet}
+use Rattle.wq_core.proofs.KeptSound.{by_keepers, from_keepers, home_from_clear, idle_from_home, pending_from_set, sender_from_holds, away_from_sender}
+use Rattle.wq_core.proofs.KeptSound.{sound_quiet}
 
 module _ (m : Machine) (o : IsSound m) where
   pub sound_hold : (s k : ℕ) → s < m.layout.senders → k < number_count m.layout → item_word m k ≡ 0 → IsSound (happened (with_item m k 1) (Hold s k))

@@ -1,29 +1,17 @@
 -- What is kept beside the machine follows each step.
-use Rattle.std.proofs.Common.{◌≡◌, ◌≢◌, ℕ, ◌+◌, ◌<◌, ◌≤◌, ◌^◌, ◌%◌, List, [], ◌∷◌, ◌++◌, length, replicate, take, reverse, ◌-◌, get_or, set, None, Some, Option, refl, sym, ap, ◌∙◌, arith, length-set, length-append, ◌↔◌}
-use Rattle.std.proofs.lemmas.List.{length-replicate, reverse-append, take_all, take_more}
-use Rattle.std.proofs.lemmas.Option.{slice_get_past}
-use Rattle.wq_words.specs.declared.layout.Layout.{Layout}
-use Rattle.wq_words.specs.declared.event.Event.{Event}
-use Rattle.wq_words.specs.declared.event.Event.TheVariants.{Hold, Busy, Push, Back, Take, Close, Begin, End, Chain, ChainBusy, Rest}
-use Rattle.wq_words.specs.declared.event.Why.{Why}
-use Rattle.wq_words.specs.declared.event.Why.TheVariants.{Closed}
-use Rattle.wq_words.specs.Numbers.{number_count}
-use Rattle.wq_words.specs.Head.{busy_word}
-use Rattle.wq_words.specs.History.{begun, ended, running, Holds, IsRunning, IsClosed}
-use Rattle.wq_words.specs.Listed.{listed}
-use Rattle.wq_words.specs.Keeper.{Keeper, Home, Sender, Listed, Owner, taken_over, keeper, keeper_after}
-use Rattle.wq_words.proofs.Growing.{growing, slice_get_last}
-use Rattle.wq_words.proofs.Order.{in_order}
-use Rattle.wq_words.proofs.Prefixes.{prefix_length}
-use Rattle.wq_core.specs.declared.step.Private.{Private}
-use Rattle.wq_core.specs.Words.{link_place, word_count, closed_word, idle_word, link_word, link_to, number_at}
-use Rattle.wq_core.specs.Machine.{Machine, opening, nothing_seen, head, link, item_word, done_word, private, seen_word, with_head, with_link, with_item, with_done, with_private, happened, unlinked, StandsIn}
-use Rattle.wq_core.specs.Sound.{IsChain, IsSound}
-use Rattle.wq_core.specs.Stored.{holder, LinksFit, LooksFit, IsStored}
+use Rattle.wq_core.proofs.Common.{◌≡◌, ◌≢◌, ℕ, ◌+◌, ◌<◌, ◌≤◌, ◌^◌, ◌%◌, List, [], ◌∷◌, ◌++◌, length, replicate, take, reverse, ◌-◌, get_or, set, None, Some}
+use Rattle.wq_core.proofs.Common.{Option, refl, sym, ap, ◌∙◌, arith, length-set, length-append, ◌↔◌, length-replicate, reverse-append, take_all, take_more}
+use Rattle.wq_core.proofs.Common.{slice_get_past, Layout, Event, Hold, Busy, Push, Back, Take, Close, Begin, End, Chain, ChainBusy, Rest, Why, Closed}
+use Rattle.wq_core.proofs.Common.{number_count, busy_word, begun, ended, running, Holds, IsRunning, IsClosed, listed, Keeper, Home, Sender, Listed, Owner}
+use Rattle.wq_core.proofs.Common.{taken_over, keeper, keeper_after, growing, slice_get_last, in_order, prefix_length, Private, link_place, word_count}
+use Rattle.wq_core.proofs.Common.{closed_word, idle_word, link_word, link_to, number_at, Machine, opening, nothing_seen, head, link, item_word, done_word}
+use Rattle.wq_core.proofs.Common.{private, seen_word, with_head, with_link, with_item, with_done, with_private, happened, unlinked, StandsIn, IsChain}
+use Rattle.wq_core.proofs.Common.{IsSound, holder, LinksFit, LooksFit, IsStored}
 use Rattle.wq_core.proofs.Privates.{gives_hold, gives_push, gives_back, gives_begin, gives_chain, follow_give, follow_same, follow_quiet}
 use Rattle.wq_core.proofs.Schedules.{sound_opening, all_alike}
 use Rattle.wq_core.proofs.SenderSteps.{sound_hold, sound_busy, sound_look, sound_link, sound_push, sound_lost, sound_back}
-use Rattle.wq_core.proofs.OwnerSteps.{sound_take, sound_close, sound_walk_end, sound_walk_on, sound_begin, sound_end, sound_chain, sound_chain_busy, sound_rest, first_of_batch}
+use Rattle.wq_core.proofs.OwnerSteps.{sound_take, sound_close, sound_walk_end, sound_walk_on, sound_begin, sound_end, sound_chain, sound_chain_busy}
+use Rattle.wq_core.proofs.OwnerSteps.{sound_rest, first_of_batch}
 use Rattle.wq_core.proofs.KeptSound.{home_from_clear, sender_from_holds, holds_from_keeper}
 use Rattle.wq_core.proofs.Heads.{head_open, head_of_closed, link_open}
 use Rattle.wq_core.proofs.Turning.{sound_turn}

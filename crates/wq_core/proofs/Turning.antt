@@ -1,25 +1,12 @@
 -- A number that the owner walked or that waits in its batch: nobody else follows or writes its link.
-use Rattle.std.proofs.Common.{◌≡◌, ◌≢◌, ℕ, zero, suc, ◌+◌, ◌<◌, ◌≤◌, ◌==◌, Bool, true, false, cond, IsTrue, List, [], ◌∷◌, ◌++◌, get_or, set, Option, Some, refl, sym, ap, ◌∙◌, arith, inl, inr, ⊎_elim, ◌↔◌, length-set}
-use Rattle.std.specs.Prelude.{reverse, Contains}
-use Rattle.std.specs.List.{list_any}
-use Rattle.std.proofs.lemmas.List.{get_or-set_other}
-use Rattle.std.proofs.lemmas.Option.{slice_get-get_or}
-use Rattle.std.proofs.lemmas.Bool.{cases_eq, eq-eqb, ne_eqb}
-use Rattle.wq_words.specs.Numbers.{number_count}
-use Rattle.wq_words.specs.History.{accepted, begun}
-use Rattle.wq_words.specs.Listed.{listed}
-use Rattle.wq_words.specs.Keeper.{Keeper, Home, Sender, Listed, Owner, keeper}
-use Rattle.wq_words.specs.declared.event.Event.{Event}
-use Rattle.wq_words.proofs.Keepers.{queue_bit, kept}
-use Rattle.wq_core.specs.declared.step.Private.{Private}
-use Rattle.wq_core.specs.Words.{link_place}
-use Rattle.wq_core.specs.Machine.{Machine, with_link, StandsIn}
-use Rattle.wq_core.specs.Sound.{AreChained, IsSound}
+use Rattle.wq_core.proofs.Common.{◌≡◌, ◌≢◌, ℕ, zero, suc, ◌+◌, ◌<◌, ◌≤◌, ◌==◌, Bool, true, false, cond, IsTrue, List, [], ◌∷◌, ◌++◌, get_or, set, Option}
+use Rattle.wq_core.proofs.Common.{Some, refl, sym, ap, ◌∙◌, arith, inl, inr, ⊎_elim, ◌↔◌, length-set, reverse, Contains, list_any, get_or-set_other}
+use Rattle.wq_core.proofs.Common.{slice_get-get_or, cases_eq, eq-eqb, ne_eqb, number_count, accepted, begun, listed, Keeper, Home, Sender, Listed, Owner}
+use Rattle.wq_core.proofs.Common.{keeper, Event, queue_bit, kept, Private, link_place, Machine, with_link, StandsIn, AreChained, IsSound, reverse_aux}
 use Rattle.wq_core.proofs.Chains.{times, times-cons, times-append, times-reverse_aux, chain_set}
 use Rattle.wq_core.proofs.Privates.{AreLinked}
 use Rattle.wq_core.proofs.Writes.{head_of-link, done_of-link, items_of-link}
 use Rattle.wq_core.proofs.KeptSound.{accepted_number, away_from_sender, by_keepers, from_keepers}
-use mathlib.Core.List.{reverse_aux}
 
 -- a number stands in a list where it stands there some times
 pub times_contains : (k : ℕ) (xs : List ℕ) → Contains xs k → 0 < times k xs

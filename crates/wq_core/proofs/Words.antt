@@ -1,10 +1,8 @@
 -- What a word says as a head.
-use Rattle.std.proofs.Common.{◌≡◌, ◌≢◌, ℕ, ◌-◌, ◌^◌, ◌≤◌, ◌==◌, Bool, true, false, if◌then◌else◌, refl, inl, inr, arith}
-use Rattle.std.proofs.lemmas.Bool.{eqb-true, eqb-false}
+use Rattle.wq_core.proofs.Common.{◌≡◌, ◌≢◌, ℕ, ◌-◌, ◌^◌, ◌≤◌, ◌==◌, Bool, true, false, if◌then◌else◌, refl, inl, inr, arith, eqb-true, eqb-false, Empty, Item}
+use Rattle.wq_core.proofs.Common.{busy_word, IsWordOf, IsCodable, closed_word, link_word, said_at, head_at}
 use Rattle.wq_words.specs.declared.head.Head.{Head}
-use Rattle.wq_words.specs.declared.head.Head.TheVariants.{Empty, Item, Closed}
-use Rattle.wq_words.specs.Head.{busy_word, IsWordOf, IsCodable}
-use Rattle.wq_core.specs.Words.{closed_word, link_word, said_at, head_at}
+use Rattle.wq_words.specs.declared.head.Head.TheVariants.{Closed}
 
 module _ (w : ℕ) where
   -- a word is the empty one, the closed one, or a number's

@@ -1,12 +1,6 @@
 -- What a write to one word leaves in the others.
-use Rattle.std.proofs.Common.{◌≡◌, ℕ, ◌<◌, List, get_or, set, Option, arith}
-use Rattle.std.proofs.lemmas.List.{get_or-set_other}
-use Rattle.wq_words.specs.declared.event.Event.{Event}
-use Rattle.wq_words.proofs.Keepers.{pending_bit}
-use Rattle.wq_core.specs.Words.{link_place, item_place, done_place, head_place}
-use Rattle.wq_core.specs.declared.step.Private.{Private}
-use Rattle.wq_core.specs.Sound.{AreChained}
-use Rattle.wq_core.specs.Stored.{FollowKeepers}
+use Rattle.wq_core.proofs.Common.{◌≡◌, ℕ, ◌<◌, List, get_or, set, Option, arith, get_or-set_other, Event, pending_bit, link_place, item_place, done_place}
+use Rattle.wq_core.proofs.Common.{head_place, Private, AreChained, FollowKeepers}
 use Rattle.wq_core.proofs.Chains.{chained_set}
 use Rattle.wq_core.proofs.Privates.{follow_set, AreLinked, linked_set}
 

@@ -1,5 +1,4 @@
-use Rattle.std.proofs.Common.{◌≡◌, Some}
-use Rattle.wq_core.specs.Words.{head_at}
+use Rattle.wq_core.proofs.Common.{◌≡◌, Some, head_at}
 use Rattle.wq_core.proofs.Words.{head_coded}
 use Rattle.wq_core.proofs.place.head_at.Goals as goal
 

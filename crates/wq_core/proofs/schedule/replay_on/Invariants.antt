@@ -1,5 +1,4 @@
-use Rattle.std.proofs.Common.{take}
-use Rattle.wq_core.specs.Schedule.{Leads}
+use Rattle.wq_core.proofs.Common.{take, Leads}
 use Rattle.wq_core.proofs.schedule.replay_on.Given as goal
 
 abbrev pub invariant-loop-at : goal.invariant-loop-at

@@ -1,8 +1,4 @@
-use Rattle.std.proofs.Common.{rules, tests}
-use Rattle.std.proofs.lemmas.Iterator.{YieldsList-from_slice}
-use Rattle.std.proofs.lemmas.Iterator.Adapters.{items_from_extend}
-use Rattle.std.proofs.lemmas.Iterator.Consumers.{YieldsList-from_filter_map}
-use Rattle.wq_words.specs.History.{accepted_by}
+use Rattle.wq_core.proofs.Common.{rules, tests, YieldsList-from_slice, items_from_extend, YieldsList-from_filter_map, accepted_by}
 use Rattle.wq_core.proofs.machine.Core.accepted.Goals as goal
 
 pub returns : goal.returns

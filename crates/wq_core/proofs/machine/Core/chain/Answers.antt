@@ -1,5 +1,4 @@
-use Rattle.std.proofs.Common.{◌≡◌, sym, ◌∙◌, [], ◌∷◌, ◌++◌, reverse, arith}
-use Rattle.std.proofs.lemmas.Grind.{common_steps}
+use Rattle.wq_core.proofs.Common.{◌≡◌, sym, ◌∙◌, [], ◌∷◌, ◌++◌, reverse, arith, common_steps}
 use Rattle.wq_core.proofs.Stored.{stored_chain, stored_chain_busy}
 use Rattle.wq_core.proofs.machine.Core.chain.Goals as goal
 

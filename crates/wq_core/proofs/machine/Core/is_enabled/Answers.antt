@@ -1,5 +1,4 @@
-use Rattle.std.proofs.Common.{inl, inr, ⊎_elim, sym, ◌∙◌}
-use Rattle.std.proofs.lemmas.Bool.{false≢true}
+use Rattle.wq_core.proofs.Common.{inl, inr, ⊎_elim, sym, ◌∙◌, false≢true}
 use Rattle.wq_core.proofs.Turning.{any_stored}
 use Rattle.wq_core.proofs.machine.Core.is_enabled.Goals as goal
 

@@ -1,7 +1,4 @@
-use Rattle.std.proofs.Common.{rules, ◌≡◌, replicate, None}
-use Rattle.wq_words.specs.Numbers.{number_count}
-use Rattle.wq_core.specs.Words.{word_count}
-use Rattle.wq_core.specs.Machine.{nothing_seen}
+use Rattle.wq_core.proofs.Common.{rules, ◌≡◌, replicate, None, number_count, word_count, nothing_seen}
 use Rattle.wq_core.proofs.Stored.{stored_opening}
 use Rattle.wq_core.proofs.machine.Core.new.Goals as goal
 

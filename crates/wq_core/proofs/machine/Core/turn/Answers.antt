@@ -1,7 +1,4 @@
-use Rattle.std.proofs.Common.{ℕ, ◌<◌, ◌≤◌, Option, Some, None, IfSome, arith}
-use Rattle.wq_words.specs.Numbers.{number_count}
-use Rattle.wq_words.specs.declared.layout.Layout.{Layout}
-use Rattle.wq_core.specs.Words.{word_at}
+use Rattle.wq_core.proofs.Common.{ℕ, ◌<◌, ◌≤◌, Option, Some, None, IfSome, arith, number_count, Layout, word_at}
 use Rattle.wq_core.proofs.Stored.{stored_turn}
 use Rattle.wq_core.proofs.machine.Core.turn.Goals as goal
 

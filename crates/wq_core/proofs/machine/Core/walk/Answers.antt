@@ -1,6 +1,5 @@
-use Rattle.std.proofs.Common.{rules, ◌≡◌, ◌≢◌, get_or, length, None, [], ◌∷◌, ◌++◌, reverse, refl, sym, ap, ◌∙◌, arith, ⊎_elim}
-use Rattle.std.proofs.lemmas.Grind.{common_steps}
-use Rattle.wq_core.specs.Words.{link_place, number_at}
+use Rattle.wq_core.proofs.Common.{rules, ◌≡◌, ◌≢◌, get_or, length, None, [], ◌∷◌, ◌++◌, reverse, refl, sym, ap, ◌∙◌, arith, ⊎_elim, common_steps, link_place}
+use Rattle.wq_core.proofs.Common.{number_at}
 use Rattle.wq_core.proofs.Chains.{number_at-none}
 use Rattle.wq_core.proofs.OwnerSteps.{cursor_is, first_of_batch}
 use Rattle.wq_core.proofs.Stored.{by_top, stored_walk_end, stored_walk_on}
