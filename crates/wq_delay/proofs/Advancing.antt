@@ -1,19 +1,11 @@
 -- Due items that went out, one after another.
-use Rattle.std.proofs.Common.{◌≡◌, ℕ, ◌+◌, ◌<◌, inl, inr, cond, List, [], ◌∷◌, ◌++◌, length, refl, sym, ap, ◌∙◌, subst, arith, append_assoc, length-append}
-use Rattle.std.specs.Prelude.{count_by}
-use Rattle.std.specs.List.{AllZip}
-use Rattle.std.proofs.lemmas.List.{append-nil}
-use Rattle.wq_words.specs.declared.event.Event.{Event}
-use Rattle.wq_words.specs.declared.event.Event.TheVariants.{Back, Push}
-use Rattle.wq_words.specs.declared.event.Why.TheVariants as why
-use Rattle.wq_words.specs.History.{is_push}
 use Rattle.wq_words.proofs.Growing.{count_by_push}
-use Rattle.wq_live.specs.Known.{Known, Sees}
-use Rattle.wq_words.specs.DelayTable.{Entry, DelayTable, due_part, later_part, without, IsOrdered}
-use Rattle.wq_delay.specs.Rows.{IsFirstDue}
-use Rattle.wq_delay.specs.Delay.{DelayState, IsFit, KeepsTable, TakesOff, IsOut, is_back, lost_tries, PostsDue}
-use Rattle.wq_words.proofs.DelayTable.{without_first, due_then_later, first_due_part, first_later_part}
+use Rattle.wq_delay.proofs.Common.{◌≡◌, ℕ, ◌+◌, ◌<◌, cond, List, [], ◌∷◌, ◌++◌, length, count_by, sym, refl, ap, ◌∙◌, subst, inl, inr, append_assoc, arith}
+use Rattle.wq_delay.proofs.Common.{length-append, append-nil, AllZip, Event, Back, Push, is_push, Entry, DelayTable, due_part, later_part, without, IsOrdered}
+use Rattle.wq_delay.proofs.Common.{without_first, due_then_later, first_due_part, first_later_part, Known, Sees, IsFirstDue, DelayState, IsFit, KeepsTable}
+use Rattle.wq_delay.proofs.Common.{TakesOff, IsOut, is_back, lost_tries, PostsDue}
 use Rattle.wq_delay.proofs.Going.{sees_on, sees_none}
+use Rattle.wq_words.specs.declared.event.Why.TheVariants as why
 
 all_zip_push : {A B : Type 0} (R : A → B → Type 0) (xs : List A) (ys : List B) (x : A) (y : B) → AllZip R xs ys → R x y
     → AllZip R (xs ++ x ∷ []) (ys ++ y ∷ [])

@@ -1,16 +1,8 @@
 -- How much stands in a row.
-use Rattle.std.proofs.Common.{◌≡◌, ℕ, ◌+◌, ◌<◌, ◌≤◌, ◌==◌, Bool, true, false, cond, ◌||◌, Option, Some, None, List, [], ◌∷◌, ◌++◌, map, length, is_ok, refl, sym, ap, ◌∙◌, subst, arith, length-append}
-use Rattle.std.specs.Prelude.{nat_lt, eqb, Result, Ok, Err, OnErr}
-use Rattle.std.specs.List.{All, IsDistinct}
-use Rattle.std.proofs.lemmas.List.{get_or_past, map-append, length-map}
-use Rattle.std.proofs.lemmas.List.Elements.{All-head, All-tail, All-push}
-use Rattle.std.proofs.lemmas.Map.Steps.{length-le_from_distinct_below}
-use Rattle.std.proofs.lemmas.Bool.{eqb-true}
-use Rattle.std.proofs.lemmas.Bool.Decides.{nat_tests}
-use Rattle.wq_words.specs.DelayTable.{Entry, items, on_table}
-use Rattle.wq_delay.specs.declared.timetable.Place.{Place}
-use Rattle.wq_delay.specs.declared.timetable.DueItem.{DueItem}
-use Rattle.wq_delay.specs.Rows.{entry_of, place_in, times, AreOnTable, place_at, entry_at, SaysPlace}
+use Rattle.wq_delay.proofs.Common.{◌≡◌, ℕ, ◌+◌, ◌<◌, ◌≤◌, Bool, true, false, cond, ◌||◌, eqb, List, [], ◌∷◌, ◌++◌, map, length, is_ok, OnErr, nat_lt, ◌==◌}
+use Rattle.wq_delay.proofs.Common.{Some, None, Ok, Err, All, Option, Result, sym, refl, ap, ◌∙◌, subst, arith, length-append, eqb-true, nat_tests, get_or_past}
+use Rattle.wq_delay.proofs.Common.{map-append, length-map, All-head, All-tail, All-push, length-le_from_distinct_below, IsDistinct, Entry, on_table, items}
+use Rattle.wq_delay.proofs.Common.{Place, DueItem, place_in, AreOnTable, entry_at, entry_of, times, place_at, SaysPlace}
 use Rattle.wq_delay.proofs.Rounds.{at_or}
 use Rattle.wq_delay.proofs.Rows.{apart_items, any_item}
 use Rattle.wq_delay.proofs.Looking.{times_push, times_off}

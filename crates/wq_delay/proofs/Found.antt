@@ -1,15 +1,8 @@
 -- What is found at first is what stands in the row, and at last what is due.
-use Rattle.std.proofs.Common.{◌≡◌, ℕ, ◌+◌, ◌-◌, ◌<◌, ◌≤◌, Bool, true, false, cond, ◌||◌, ◌&&◌, Option, Some, None, is_some, List, [], ◌∷◌, ◌++◌, map, take, drop, refl, sym, ap, ◌∙◌, subst, arith, mod-lt}
-use Rattle.std.specs.Prelude.{nat_lt, nat_le, filter, min}
-use Rattle.std.specs.List.{All}
-use Rattle.std.proofs.Math.Nat.{mod-le}
-use Rattle.std.proofs.lemmas.List.{take-append-drop}
-use Rattle.std.proofs.lemmas.List.Elements.{All-filter, filter-append}
-use Rattle.std.proofs.lemmas.Bool.Decides.{nat_tests}
-use Rattle.wq_words.specs.DelayTable.{Entry, on_table, due_part}
-use Rattle.wq_delay.specs.declared.timetable.Place.{Place}
-use Rattle.wq_delay.specs.declared.timetable.DueItem.{DueItem}
-use Rattle.wq_delay.specs.Rows.{entry_of, place_in, entries_of, stands, is_due, times, turn_of, AreFound, AreDue, IsTimetable, SaysPlace}
+use Rattle.wq_delay.proofs.Common.{◌≡◌, ℕ, ◌+◌, ◌-◌, ◌<◌, ◌≤◌, min, Bool, true, false, cond, ◌&&◌, ◌||◌, List, [], ◌∷◌, ◌++◌, map, take, drop, is_some, nat_lt}
+use Rattle.wq_delay.proofs.Common.{nat_le, Some, None, All, filter, Option, sym, refl, ap, ◌∙◌, subst, mod-lt, arith, mod-le, nat_tests, take-append-drop}
+use Rattle.wq_delay.proofs.Common.{All-filter, filter-append, Entry, due_part, on_table, Place, DueItem, place_in, turn_of, AreFound, entry_of, times}
+use Rattle.wq_delay.proofs.Common.{SaysPlace, entries_of, stands, is_due, AreDue, IsTimetable}
 use Rattle.wq_delay.proofs.Table.{place_some}
 use Rattle.wq_delay.proofs.Spelled.{entries_rows}
 use Rattle.wq_delay.proofs.Gathered.{due_only, ordered_due, place_due, place_valid}

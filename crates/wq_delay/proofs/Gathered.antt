@@ -1,21 +1,10 @@
 -- What was gathered, once it is sorted, is the due part of the table.
-use Rattle.std.proofs.Common.{◌≡◌, ◌≢◌, ℕ, suc, ◌+◌, ◌≤◌, ◌==◌, Bool, true, false, cond, ◌||◌, Option, Some, None, List, [], ◌∷◌, map, get_or, refl, sym, ap, ◌∙◌, subst, arith}
-use Rattle.std.specs.Prelude.{nat_lt, nat_le}
-use Rattle.std.specs.List.{All, AllByRecursion, sum_by}
-use Rattle.std.specs.List.Sorted.{IsPermutation, IsSortedBy}
-use Rattle.std.specs.declared.cmp.Ordering.{Ordering}
-use Rattle.std.specs.declared.cmp.Ordering.TheVariants.{Less, Equal, Greater}
-use Rattle.std.specs.Ordering.{nat_cmp, ordering_then, is_lt}
-use Rattle.std.proofs.lemmas.List.Elements.{All-head, All-tail}
-use Rattle.std.proofs.lemmas.List.Sums.{sum_by-cons}
+use Rattle.std.specs.Ordering.{ordering_then}
 use Rattle.std.proofs.lemmas.List.Sorted.{All-permutation, IsPermutation-map, sum_by-IsPermutation, list_any-IsPermutation}
-use Rattle.std.proofs.lemmas.Bool.{eqb-true}
-use Rattle.std.proofs.lemmas.Bool.Decides.{nat_tests}
-use Rattle.wq_words.specs.DelayTable.{Entry, on_table, due_part, IsBefore, IsOrdered}
-use Rattle.wq_words.proofs.DelayTable.{all-more}
-use Rattle.wq_delay.specs.declared.timetable.Place.{Place}
-use Rattle.wq_delay.specs.declared.timetable.DueItem.{DueItem}
-use Rattle.wq_delay.specs.Rows.{entry_of, place_of, place_in, entries_of, AreApart, times, is_due, AreOnTable, place_at, SaysPlace}
+use Rattle.wq_delay.proofs.Common.{◌≡◌, ℕ, suc, ◌+◌, ◌≤◌, Bool, true, false, cond, ◌||◌, ◌≢◌, List, [], ◌∷◌, map, get_or, nat_lt, nat_le, ◌==◌, Some, None, All}
+use Rattle.wq_delay.proofs.Common.{sum_by, Option, IsPermutation, IsSortedBy, nat_cmp, is_lt, Ordering, Less, Equal, Greater, sym, refl, ap, ◌∙◌, subst, arith}
+use Rattle.wq_delay.proofs.Common.{eqb-true, nat_tests, All-head, All-tail, sum_by-cons, AllByRecursion, Entry, due_part, IsOrdered, on_table, IsBefore}
+use Rattle.wq_delay.proofs.Common.{all-more, Place, DueItem, place_in, AreOnTable, entry_of, times, place_at, SaysPlace, entries_of, is_due, place_of, AreApart}
 use Rattle.wq_delay.proofs.Spelled.{place_off, entries_rows, same_entries}
 
 abbrev pub row_cmp : DueItem → DueItem → Ordering

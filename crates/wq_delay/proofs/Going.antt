@@ -1,22 +1,11 @@
 -- What goes off the table an item at a time.
-use Rattle.std.proofs.Common.{◌≡◌, ◌≢◌, ℕ, ◌+◌, ◌<◌, ◌≤◌, ◌==◌, Bool, true, false, cond, not, ◌||◌, ◌&&◌, List, [], ◌∷◌, ◌++◌, map, length, refl, sym, ap, ◌∙◌, subst, arith, append_assoc, length-append}
-use Rattle.std.proofs.lemmas.List.{append-nil}
-use Rattle.std.proofs.lemmas.List.Elements.{filter-append}
-use Rattle.wq_words.specs.declared.event.Event.{Event}
-use Rattle.wq_words.specs.declared.event.Event.TheVariants.{Back}
-use Rattle.wq_words.specs.declared.event.Why.TheVariants as why
-use Rattle.wq_words.specs.History.{Holds}
-use Rattle.wq_words.specs.Legal.{IsLegal}
 use Rattle.wq_words.specs.Seen.{seat_of, own, others, Grows}
-use Rattle.wq_live.specs.Known.{Known, Sees}
-use Rattle.wq_words.specs.DelayTable.{Entry, on_table, without, IsOrdered}
-use Rattle.std.specs.List.Sorted.{IsPermutation}
 use Rattle.std.proofs.lemmas.List.Sorted.{IsPermutation-refl, IsPermutation-trans, IsPermutation-cons, IsPermutation-middle, IsPermutation-append_right}
-use Rattle.std.proofs.lemmas.Bool.{eqb-true}
-use Rattle.wq_delay.specs.Delay.{GivesBack}
-use Rattle.wq_words.proofs.DelayTable.{first_on, without_off, on_table-without}
-use Rattle.std.proofs.lemmas.Bool.Decides.{nat_tests}
+use Rattle.wq_delay.proofs.Common.{◌≡◌, ℕ, ◌+◌, ◌<◌, ◌≤◌, Bool, true, false, cond, not, ◌&&◌, ◌||◌, ◌≢◌, List, [], ◌∷◌, ◌++◌, map, length, ◌==◌, IsPermutation}
+use Rattle.wq_delay.proofs.Common.{sym, refl, ap, ◌∙◌, subst, append_assoc, arith, length-append, eqb-true, nat_tests, append-nil, filter-append, Event, Back}
+use Rattle.wq_delay.proofs.Common.{Holds, Entry, without, IsOrdered, on_table, IsLegal, first_on, without_off, on_table-without, Known, Sees, GivesBack}
 use Rattle.wq_delay.proofs.Sound.{state, IsSound, sound_leaves, stops_back}
+use Rattle.wq_words.specs.declared.event.Why.TheVariants as why
 
 grows_on : (c : ℕ) (xs ys : List Event) (n m : ℕ) (u v w : List Event) → Grows c xs n u v → Grows c ys m v w → Grows c (xs ++ ys) (n + m) u w
 grows_on c xs ys n m u v w a b = record {

@@ -1,20 +1,11 @@
 -- What a sender holds after events of its own.
-use Rattle.std.proofs.Common.{◌≡◌, ℕ, ◌+◌, ◌<◌, ◌≤◌, ◌==◌, Bool, true, false, cond, not, ◌||◌, ◌&&◌, List, [], ◌∷◌, ◌++◌, length, refl, sym, ap, ◌∙◌, subst, arith}
-use Rattle.std.specs.Prelude.{filter, count_by, IsTrue, ◌↔◌}
-use Rattle.std.proofs.lemmas.List.Sums.{length-filter, sum_by-append}
-use Rattle.std.proofs.lemmas.Bool.{eqb-true}
-use Rattle.std.proofs.lemmas.Bool.Decides.{nat_tests}
-use Rattle.wq_words.specs.declared.layout.Layout.{Layout}
-use Rattle.wq_words.specs.declared.event.Event.{Event}
-use Rattle.wq_words.specs.declared.event.Event.TheVariants.{Hold, Push, Back}
-use Rattle.wq_words.specs.History.{Holds, starts_hold, stops_hold}
-use Rattle.wq_words.specs.Legal.{IsLegal}
 use Rattle.wq_words.specs.Keeper.{Keeper, Home, Sender, Listed, Owner, keeper}
 use Rattle.wq_words.proofs.Legal.{legal_front}
 use Rattle.wq_words.proofs.Keepers.{held_bit, kept}
 use Rattle.wq_words.specs.Seen.{seat_of, own}
-use Rattle.wq_live.specs.Known.{Known, Sees}
-use Rattle.wq_words.specs.DelayTable.{Entry, on_table}
+use Rattle.wq_delay.proofs.Common.{◌≡◌, ℕ, ◌+◌, ◌<◌, ◌≤◌, Bool, true, false, cond, not, ◌&&◌, ◌||◌, ◌↔◌, List, [], ◌∷◌, ◌++◌, length, IsTrue, ◌==◌, count_by}
+use Rattle.wq_delay.proofs.Common.{filter, sym, refl, ap, ◌∙◌, subst, arith, eqb-true, nat_tests, length-filter, sum_by-append, Event, Back, Push, Hold, Layout}
+use Rattle.wq_delay.proofs.Common.{Holds, starts_hold, stops_hold, Entry, on_table, IsLegal, Known, Sees}
 
 -- events that only the seat c makes are among its own
 module _ (p : Event → Bool) (c : ℕ) (mine : (e : Event) → p e ≡ true → (seat_of e == c) ≡ true) where

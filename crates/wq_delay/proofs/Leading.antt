@@ -1,16 +1,9 @@
 -- A timetable that is led on: from what stood in the row to what stands there once the slots were looked at.
-use Rattle.std.proofs.Common.{◌≡◌, ℕ, ◌+◌, ◌<◌, ◌≤◌, ◌==◌, Bool, true, false, cond, ◌||◌, ◌&&◌, Option, Some, None, is_some, List, [], ◌∷◌, map, length, refl, sym, ap, ◌∙◌, subst, arith}
-use Rattle.std.specs.Prelude.{nat_le, filter}
-use Rattle.std.specs.List.{All}
-use Rattle.std.specs.List.Sorted.{IsPermutation}
-use Rattle.std.proofs.lemmas.List.Elements.{All-nil, All-cons, All-head, All-tail, All-map, All-weaker, All-filter}
 use Rattle.std.proofs.lemmas.List.Sorted.{All-permutation, IsPermutation-map}
-use Rattle.std.proofs.lemmas.Bool.{eqb-true}
-use Rattle.std.proofs.lemmas.Bool.Decides.{nat_tests}
-use Rattle.wq_words.specs.DelayTable.{Entry, on_table, due_part, IsOrdered}
-use Rattle.wq_delay.specs.declared.timetable.Place.{Place}
-use Rattle.wq_delay.specs.declared.timetable.DueItem.{DueItem}
-use Rattle.wq_delay.specs.Rows.{entry_of, place_at, place_in, entries_of, IsWheel, times, waiting, later_than, is_place, stands, is_due, AreOnTable, IsGathering, IsTimetable, SaysPlace}
+use Rattle.wq_delay.proofs.Common.{◌≡◌, ℕ, ◌+◌, ◌<◌, ◌≤◌, Bool, true, false, cond, ◌&&◌, ◌||◌, List, [], ◌∷◌, map, length, is_some, nat_le, ◌==◌, Some, None}
+use Rattle.wq_delay.proofs.Common.{All, filter, Option, IsPermutation, sym, refl, ap, ◌∙◌, subst, arith, eqb-true, nat_tests, All-head, All-tail, All-filter}
+use Rattle.wq_delay.proofs.Common.{All-nil, All-cons, All-map, All-weaker, Entry, due_part, IsOrdered, on_table, Place, DueItem, place_in, later_than, IsWheel}
+use Rattle.wq_delay.proofs.Common.{AreOnTable, entry_of, times, place_at, SaysPlace, entries_of, stands, is_due, IsTimetable, waiting, is_place, IsGathering}
 use Rattle.wq_delay.proofs.Table.{place_some}
 use Rattle.wq_delay.proofs.Spelled.{entries_rows}
 use Rattle.wq_delay.proofs.Standing.{later_same}

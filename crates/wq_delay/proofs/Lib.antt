@@ -1,3 +1,4 @@
+pub mod Common
 pub mod Rounds
 pub mod Wheel
 pub mod Spelled

@@ -1,15 +1,8 @@
 -- A slot is looked at place by place, and what is due is moved to the row.
-use Rattle.std.proofs.Common.{◌≡◌, ◌≢◌, ℕ, ◌+◌, ◌-◌, ◌%◌, ◌<◌, ◌≤◌, ◌==◌, Bool, true, false, cond, ◌||◌, Option, Some, None, List, [], ◌∷◌, ◌++◌, length, get_or, set, refl, sym, ap, ◌∙◌, subst, arith, zero, suc}
-use Rattle.std.specs.Prelude.{nat_lt, slice_index}
-use Rattle.std.specs.List.{All}
-use Rattle.std.proofs.lemmas.List.{get_or_read}
-use Rattle.std.proofs.lemmas.List.Elements.{All-push}
-use Rattle.std.proofs.lemmas.Bool.Decides.{nat_tests}
-use Rattle.wq_words.specs.DelayTable.{Entry, on_table}
-use Rattle.wq_words.proofs.DelayTable.{first_false, second_false}
-use Rattle.wq_delay.specs.declared.timetable.Place.{Place}
-use Rattle.wq_delay.specs.Rings.{AreRings}
-use Rattle.wq_delay.specs.Rows.{place_in, head_by, number_by, times, waiting, IsGathering, StillWaits, IsClean, entry_at, SaysPlace}
+use Rattle.wq_delay.proofs.Common.{◌≡◌, ℕ, zero, suc, ◌+◌, ◌-◌, ◌%◌, ◌<◌, ◌≤◌, Bool, true, false, cond, ◌||◌, ◌≢◌, List, [], ◌∷◌, ◌++◌, length, get_or, set}
+use Rattle.wq_delay.proofs.Common.{nat_lt, ◌==◌, slice_index, Some, None, All, Option, sym, refl, ap, ◌∙◌, subst, arith, nat_tests, get_or_read, All-push}
+use Rattle.wq_delay.proofs.Common.{Entry, on_table, first_false, second_false, Place, place_in, head_by, number_by, entry_at, times, SaysPlace, waiting}
+use Rattle.wq_delay.proofs.Common.{IsGathering, StillWaits, IsClean, AreRings}
 use Rattle.wq_delay.proofs.Rounds.{at_or}
 use Rattle.wq_delay.proofs.Wheel.{wheel_without}
 use Rattle.wq_delay.proofs.Spelled.{some_same}

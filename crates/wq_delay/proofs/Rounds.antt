@@ -1,8 +1,5 @@
 -- Rings after a place was put behind the last of one, and after one was taken out.
-use Rattle.std.proofs.Common.{◌≡◌, ◌≢◌, ℕ, ◌<◌, ◌≤◌, ◌==◌, Bool, true, false, refl, sym, ap, ◌∙◌, subst, arith}
-use Rattle.std.proofs.lemmas.Bool.{eqb-true}
-use Rattle.std.proofs.lemmas.Bool.Decides.{nat_tests}
-use Rattle.wq_delay.specs.Rings.{AreRings}
+use Rattle.wq_delay.proofs.Common.{◌≡◌, ℕ, ◌<◌, ◌≤◌, Bool, true, false, ◌≢◌, ◌==◌, sym, refl, ap, ◌∙◌, subst, arith, eqb-true, nat_tests, AreRings}
 
 -- a number is k or another
 pub at_or : (P : ℕ → Type 0) (k x : ℕ) → P k → (x ≢ k → P x) → P x

@@ -1,15 +1,9 @@
 -- The places of the entries of a table.
-use Rattle.std.proofs.Common.{◌≡◌, ℕ, ◌<◌, ◌≤◌, ◌==◌, Bool, true, false, cond, ◌||◌, Option, Some, None, List, [], ◌∷◌, length, get_or, set, is_some, refl, sym, ap, ◌∙◌, subst, arith}
-use Rattle.std.specs.Prelude.{nat_lt, eqb}
-use Rattle.std.specs.List.{AllByRecursion, list_any, IsDistinct}
-use Rattle.std.proofs.lemmas.List.{get_or-set_same, get_or-set_other, get_or_past, length-map}
-use Rattle.std.proofs.lemmas.Map.Steps.{length-le_from_distinct_below}
-use Rattle.std.proofs.lemmas.Bool.{eqb-true}
-use Rattle.std.proofs.lemmas.Bool.Decides.{nat_tests}
-use Rattle.wq_words.specs.DelayTable.{Entry, items, on_table, placed, without, IsOrdered, AreArmedBefore}
-use Rattle.wq_words.proofs.DelayTable.{first_false, second_false, ordered-placed, ordered-without}
-use Rattle.wq_delay.specs.declared.timetable.Place.{Place}
-use Rattle.wq_delay.specs.Rows.{place_of, AreRows, place_at, entry_at}
+use Rattle.std.proofs.lemmas.List.{get_or-set_same, get_or-set_other}
+use Rattle.wq_delay.proofs.Common.{◌≡◌, ℕ, ◌<◌, ◌≤◌, Bool, true, false, cond, ◌||◌, eqb, List, [], ◌∷◌, length, get_or, set, is_some, nat_lt, ◌==◌, Some, None}
+use Rattle.wq_delay.proofs.Common.{Option, sym, refl, ap, ◌∙◌, subst, arith, eqb-true, nat_tests, get_or_past, length-map, length-le_from_distinct_below}
+use Rattle.wq_delay.proofs.Common.{IsDistinct, AllByRecursion, list_any, Entry, without, IsOrdered, on_table, items, placed, AreArmedBefore, first_false}
+use Rattle.wq_delay.proofs.Common.{second_false, ordered-placed, ordered-without, Place, entry_at, place_at, place_of, AreRows}
 use Rattle.wq_delay.proofs.Table.{place_some, place_of-placed, place_of-without}
 
 -- a key of no row from here on is below the next arming

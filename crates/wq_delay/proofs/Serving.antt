@@ -1,14 +1,9 @@
 -- What stands first, and how much stands on a table.
-use Rattle.std.proofs.Common.{◌≡◌, ℕ, zero, suc, ◌<◌, ◌≤◌, Bool, true, false, cond, Option, List, [], ◌∷◌, ◌++◌, map, length, get_or, take, refl, sym, ap, ◌∙◌, subst, arith}
-use Rattle.std.specs.Prelude.{filter}
-use Rattle.wq_words.specs.DelayTable.{Entry, on_table, due_part, later_part}
-use Rattle.wq_words.proofs.DelayTable.{first_on, due_then_later}
-use Rattle.wq_delay.specs.declared.timetable.Place.{Place}
-use Rattle.wq_delay.specs.declared.timetable.DueItem.{DueItem}
-use Rattle.wq_delay.specs.Rows.{entry_of, entries_of, AreApart, IsFirstDue, stands, IsTimetable}
+use Rattle.wq_delay.proofs.Common.{◌≡◌, ℕ, zero, suc, ◌<◌, ◌≤◌, Bool, true, false, cond, List, [], ◌∷◌, ◌++◌, map, length, get_or, take, filter, Option, sym}
+use Rattle.wq_delay.proofs.Common.{refl, ap, ◌∙◌, subst, arith, All-get_or, Entry, due_part, later_part, on_table, due_then_later, first_on, Place, DueItem}
+use Rattle.wq_delay.proofs.Common.{IsFirstDue, entry_of, entries_of, stands, IsTimetable, AreApart}
 use Rattle.wq_delay.proofs.Rows.{in_places, length-le-places}
 use Rattle.wq_delay.proofs.Spelled.{entries_rows}
-use Rattle.std.proofs.lemmas.List.Elements.{All-get_or}
 
 pub few_entries : (places : List (Option Place)) → AreApart places → length (entries_of places) ≤ length places
 few_entries places apart = length-le-places places (entries_of places) (entries_rows places apart)

@@ -1,11 +1,6 @@
 -- Slot after slot is looked at.
-use Rattle.std.proofs.Common.{◌≡◌, ℕ, ◌+◌, ◌-◌, ◌*◌, ◌/◌, ◌%◌, ◌<◌, ◌≤◌, Bool, true, false, Option, Some, List, length, refl, ap, ◌∙◌, arith, mod-lt}
-use Rattle.std.specs.Prelude.{nat_le, min}
-use Rattle.std.proofs.Math.Nat.{mod-le, mod-add-div', add-mul-mod_self_right}
-use Rattle.std.proofs.lemmas.Bool.Decides.{nat_tests}
-use Rattle.wq_words.specs.DelayTable.{Entry}
-use Rattle.wq_delay.specs.declared.timetable.Place.{Place}
-use Rattle.wq_delay.specs.Rows.{waiting, IsGathering, StillWaits, IsClean}
+use Rattle.wq_delay.proofs.Common.{◌≡◌, ℕ, ◌+◌, ◌-◌, ◌*◌, ◌/◌, ◌%◌, ◌<◌, ◌≤◌, min, Bool, true, false, List, length, nat_le, Some, Option, refl, ap, ◌∙◌, mod-lt}
+use Rattle.wq_delay.proofs.Common.{arith, mod-add-div', add-mul-mod_self_right, mod-le, nat_tests, Entry, Place, waiting, IsGathering, StillWaits, IsClean}
 use Rattle.wq_delay.proofs.Rounds.{at_or}
 
 -- the slots of the ticks after tick were looked at, up to so many

@@ -1,24 +1,15 @@
 -- A delay table stays fit.
-use Rattle.std.proofs.Common.{◌≡◌, ℕ, ◌+◌, ◌<◌, ◌==◌, Bool, true, false, cond, not, ◌||◌, ◌&&◌, List, [], ◌∷◌, refl, sym, ap, ◌∙◌, subst, arith}
-use Rattle.std.proofs.lemmas.Bool.{eqb-true}
-use Rattle.std.proofs.lemmas.Bool.Decides.{nat_tests}
-use Rattle.wq_words.specs.declared.layout.Layout.{Layout}
-use Rattle.wq_words.specs.declared.event.Event.{Event}
-use Rattle.wq_words.specs.declared.event.Event.TheVariants.{Hold, Push, Back}
 use Rattle.wq_words.specs.declared.event.Why.{Why}
-use Rattle.wq_words.specs.declared.event.Why.TheVariants as why
-use Rattle.wq_live.specs.Known.{Known, Sees}
 use Rattle.wq_words.specs.declared.answer.Answer.{Answer}
-use Rattle.wq_words.specs.declared.answer.Answer.TheVariants as answer
 use Rattle.wq_words.specs.declared.answer.Posted.{Posted}
-use Rattle.wq_words.specs.declared.answer.Posted.TheVariants as posted
 use Rattle.wq_live.specs.Answers.{Answers, Posts}
-use Rattle.wq_words.specs.History.{Holds}
-use Rattle.wq_words.specs.Legal.{IsLegal}
-use Rattle.wq_words.specs.DelayTable.{Entry, on_table, placed, without}
-use Rattle.wq_delay.specs.Delay.{DelayState, FitsTable, IsFit}
-use Rattle.wq_words.proofs.DelayTable.{all-placed, all-without, all-more, on_table-placed, on_table-without, ordered-placed, ordered-without}
+use Rattle.wq_delay.proofs.Common.{◌≡◌, ℕ, ◌+◌, ◌<◌, Bool, true, false, cond, not, ◌&&◌, ◌||◌, List, [], ◌∷◌, ◌==◌, sym, refl, ap, ◌∙◌, subst, arith, eqb-true}
+use Rattle.wq_delay.proofs.Common.{nat_tests, Event, Back, Push, Hold, Layout, Holds, Entry, without, on_table, placed, IsLegal, all-more, on_table-without}
+use Rattle.wq_delay.proofs.Common.{ordered-placed, ordered-without, all-placed, all-without, on_table-placed, Known, Sees, DelayState, IsFit, FitsTable}
 use Rattle.wq_delay.proofs.Held.{starts, stops, HoldsAll, holds_same, holds_more, holds_less, free_before}
+use Rattle.wq_words.specs.declared.event.Why.TheVariants as why
+use Rattle.wq_words.specs.declared.answer.Answer.TheVariants as answer
+use Rattle.wq_words.specs.declared.answer.Posted.TheVariants as posted
 
 abbrev pub state : Known → ℕ → ℕ → List Entry → DelayState
 state p now next t = record { sender = p; table = record { entries = t; tick = now; next = next }; looked = 0 }

@@ -1,13 +1,8 @@
 -- The table that a list of places spells.
-use Rattle.std.proofs.Common.{◌≡◌, ◌≢◌, ℕ, zero, suc, ◌+◌, ◌-◌, ◌<◌, ◌==◌, Bool, true, false, cond, Option, Some, None, is_some, List, [], ◌∷◌, refl, sym, ap, ◌∙◌, subst, arith}
-use Rattle.std.specs.Prelude.{nat_lt}
-use Rattle.std.specs.List.{AllByRecursion}
-use Rattle.std.proofs.lemmas.Bool.{eqb-true}
-use Rattle.std.proofs.lemmas.Bool.Decides.{nat_tests}
-use Rattle.wq_words.specs.DelayTable.{Entry, on_table, IsBefore, IsOrdered}
-use Rattle.wq_words.proofs.DelayTable.{first_false, second_false, all_by, all-more}
-use Rattle.wq_delay.specs.declared.timetable.Place.{Place}
-use Rattle.wq_delay.specs.Rows.{place_of, place_in, AreRows, goes_before, slotted, with_place, entries_from, entries_of, AreApart, place_at, entry_at}
+use Rattle.wq_delay.proofs.Common.{◌≡◌, ℕ, zero, suc, ◌+◌, ◌-◌, ◌<◌, Bool, true, false, cond, ◌≢◌, List, [], ◌∷◌, is_some, nat_lt, ◌==◌, Some, None, Option}
+use Rattle.wq_delay.proofs.Common.{sym, refl, ap, ◌∙◌, subst, arith, eqb-true, nat_tests, AllByRecursion, Entry, IsOrdered, on_table, IsBefore, all-more}
+use Rattle.wq_delay.proofs.Common.{first_false, second_false, all_by, Place, place_in, entry_at, place_at, entries_of, place_of, AreApart, AreRows}
+use Rattle.wq_delay.specs.Rows.{goes_before, slotted, with_place, entries_from}
 use Rattle.wq_delay.proofs.Table.{place_some, put_by}
 
 pub not_some : {X : Type 0} (o : Option X) → is_some o ≡ false → o ≡ None

@@ -1,16 +1,9 @@
 -- A timetable after an item was put on it, and after one was taken off.
-use Rattle.std.proofs.Common.{◌≡◌, ◌≢◌, ℕ, ◌+◌, ◌%◌, ◌<◌, ◌≤◌, ◌==◌, Bool, true, false, cond, not, ◌||◌, Option, Some, None, is_some, List, [], ◌∷◌, map, length, set, take, refl, sym, ap, ◌∙◌, subst, arith, get_or-set_same, get_or-set_other}
-use Rattle.std.specs.Prelude.{nat_lt, nat_le, filter, slice_index}
-use Rattle.std.specs.List.{All}
-use Rattle.std.proofs.lemmas.List.{length-set}
-use Rattle.std.proofs.lemmas.List.Elements.{All-head, All-tail, All-take, All-weaker}
-use Rattle.std.proofs.lemmas.Bool.{eqb-true}
-use Rattle.std.proofs.lemmas.Bool.Decides.{nat_tests}
-use Rattle.wq_words.specs.DelayTable.{Entry, on_table, due_part, placed, without, IsOrdered, AreArmedBefore}
-use Rattle.wq_words.proofs.DelayTable.{length_placed, without_off}
-use Rattle.wq_delay.specs.declared.timetable.Place.{Place}
-use Rattle.wq_delay.specs.declared.timetable.DueItem.{DueItem}
-use Rattle.wq_delay.specs.Rows.{entry_of, place_in, AreRows, entries_of, AreApart, IsWheel, later_than, is_place, stands, IsTimetable, place_at, entry_at}
+use Rattle.wq_delay.proofs.Common.{◌≡◌, ℕ, ◌+◌, ◌%◌, ◌<◌, ◌≤◌, Bool, true, false, cond, not, ◌||◌, ◌≢◌, List, [], ◌∷◌, map, length, take, set, is_some, nat_lt}
+use Rattle.wq_delay.proofs.Common.{nat_le, ◌==◌, slice_index, Some, None, All, filter, Option, sym, refl, ap, ◌∙◌, subst, arith, get_or-set_other}
+use Rattle.wq_delay.proofs.Common.{get_or-set_same, eqb-true, nat_tests, length-set, All-head, All-tail, All-weaker, All-take, Entry, due_part, without}
+use Rattle.wq_delay.proofs.Common.{IsOrdered, on_table, placed, AreArmedBefore, without_off, length_placed, Place, DueItem, place_in, later_than, IsWheel}
+use Rattle.wq_delay.proofs.Common.{entry_at, entry_of, place_at, entries_of, stands, IsTimetable, AreApart, is_place, AreRows}
 use Rattle.wq_delay.proofs.Rounds.{at_or}
 use Rattle.wq_delay.proofs.Wheel.{wheel_behind, wheel_without}
 use Rattle.wq_delay.proofs.Rows.{below_place, rows_placed, rows_without, known_on}

@@ -1,11 +1,7 @@
 -- A new timetable.
-use Rattle.std.proofs.Common.{◌≡◌, ℕ, zero, suc, ◌+◌, ◌≤◌, Option, None, List, [], length, get_or, replicate, refl, sym, ap, ◌∙◌, arith}
-use Rattle.std.specs.List.{range_with_len}
-use Rattle.std.proofs.lemmas.List.Elements.{All-nil}
 use Rattle.std.proofs.lemmas.List.FromFn.{length-range_with_len, get_or-range_with_len}
-use Rattle.wq_words.specs.DelayTable.{Entry, due_part}
-use Rattle.wq_delay.specs.declared.timetable.Place.{Place}
-use Rattle.wq_delay.specs.Rows.{place_in, AreApart, AreRows, entries_of, IsTimetable, head_by, later_than}
+use Rattle.wq_delay.proofs.Common.{◌≡◌, ℕ, zero, suc, ◌+◌, ◌≤◌, List, [], length, get_or, replicate, None, Option, sym, refl, ap, ◌∙◌, arith, All-nil}
+use Rattle.wq_delay.proofs.Common.{range_with_len, Entry, due_part, Place, place_in, head_by, later_than, entries_of, IsTimetable, AreApart, AreRows}
 use Rattle.wq_delay.proofs.Rounds.{rings_alone}
 use Rattle.wq_delay.proofs.Spelled.{entries_is}
 

@@ -1,11 +1,6 @@
 -- Where each item stands on a table.
-use Rattle.std.proofs.Common.{◌≡◌, ℕ, ◌==◌, Bool, true, false, cond, not, ◌||◌, Option, Some, None, is_some, List, [], ◌∷◌, refl, ap, ◌∙◌, arith}
-use Rattle.std.specs.Prelude.{nat_lt}
-use Rattle.std.proofs.lemmas.Bool.Decides.{nat_tests}
-use Rattle.wq_words.specs.DelayTable.{Entry, on_table, placed, without}
-use Rattle.wq_words.proofs.DelayTable.{first_false, second_false}
-use Rattle.wq_delay.specs.declared.timetable.Place.{Place}
-use Rattle.wq_delay.specs.Rows.{place_of, place_at}
+use Rattle.wq_delay.proofs.Common.{◌≡◌, ℕ, Bool, true, false, cond, not, ◌||◌, List, [], ◌∷◌, is_some, nat_lt, ◌==◌, Some, None, Option, refl, ap, ◌∙◌, arith}
+use Rattle.wq_delay.proofs.Common.{nat_tests, Entry, without, on_table, placed, first_false, second_false, Place, place_at, place_of}
 
 -- where each item stands
 pub place_some : (k : ℕ) (es : List Entry) → is_some (place_of k es) ≡ on_table k es

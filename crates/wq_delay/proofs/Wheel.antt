@@ -1,9 +1,6 @@
 -- A wheel after an item was put behind the last of a slot, and after one was taken out.
-use Rattle.std.proofs.Common.{◌≡◌, ◌≢◌, ℕ, ◌+◌, ◌%◌, ◌<◌, ◌≤◌, Option, Some, None, List, length, set, get_or, refl, sym, ap, ◌∙◌, arith, mod-lt, get_or-set_same, get_or-set_other}
-use Rattle.std.proofs.lemmas.List.{length-set}
-use Rattle.std.specs.Prelude.{slice_index}
-use Rattle.wq_delay.specs.declared.timetable.Place.{Place}
-use Rattle.wq_delay.specs.Rows.{head_by, number_by, IsWheel, place_at}
+use Rattle.wq_delay.proofs.Common.{◌≡◌, ℕ, ◌+◌, ◌%◌, ◌<◌, ◌≤◌, ◌≢◌, List, length, get_or, set, slice_index, Some, None, Option, sym, refl, ap, ◌∙◌, mod-lt}
+use Rattle.wq_delay.proofs.Common.{arith, get_or-set_other, get_or-set_same, length-set, Place, head_by, number_by, IsWheel, place_at}
 use Rattle.wq_delay.proofs.Rounds.{last_other, next_other, previous_other, rings_behind, rings_without}
 
 -- two writes into a row

@@ -136,13 +136,7 @@ fn items_of(alloc: Global, row: &[DueItem]) -> Result<Vec<u32>, AllocError>
 }
 
 // Looks at the slot with this head, and moves what is due at the tick `now` to the row, in the order of the slot.
-fn look(
-    places: &[Option<Place>],
-    rings: &mut Rings,
-    row: &mut Vec<DueItem>,
-    head: u32,
-    now: u64,
-)
+fn look(places: &[Option<Place>], rings: &mut Rings, row: &mut Vec<DueItem>, head: u32, now: u64)
     requires gathering { IsGathering places.now rings.old.next.items rings.old.previous.items (map entry_of row.old.items) now }
     requires head { (length places.now ≤ head) × (head < length places.now + 256) }
     requires room { length places.now ≤ vec_capacity row.old }

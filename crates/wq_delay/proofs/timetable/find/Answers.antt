@@ -1,10 +1,7 @@
-use Rattle.std.proofs.Common.{◌≡◌, ℕ, ◌+◌, ◌%◌, [], ◌∷◌, map, length, sym, subst, refl, ap, ◌∙◌, arith}
-use Rattle.std.specs.Prelude.{slice_index}
-use Rattle.std.proofs.lemmas.List.{get_or_read, map-append}
-use Rattle.wq_delay.specs.Rows.{entry_of}
+use Rattle.wq_delay.proofs.Common.{◌≡◌, ℕ, ◌+◌, ◌%◌, [], ◌∷◌, map, length, slice_index, sym, refl, ap, ◌∙◌, subst, arith, get_or_read, map-append, entry_of}
 use Rattle.wq_delay.proofs.Finding.{Finding, head_low, finding_init, finding_end, finding_pass, finding_take, item_there, less_read}
-use Rattle.wq_delay.proofs.timetable.find.Goals as goal
 use Rattle.wq_delay.proofs.timetable.find.Goals.{in-Some+then-place-now+in_ok-push, in-Some+else-place-now, in_default}
+use Rattle.wq_delay.proofs.timetable.find.Goals as goal
 
 pub loop-item-init : goal.loop-item-init
 loop-item-init c =

@@ -1,5 +1,4 @@
-use Rattle.std.proofs.Common.{map}
-use Rattle.wq_delay.specs.Rows.{entry_of}
+use Rattle.wq_delay.proofs.Common.{map, entry_of}
 use Rattle.wq_delay.proofs.Looking.{steps_left}
 use Rattle.wq_delay.proofs.Finding.{Finding}
 use Rattle.wq_delay.proofs.timetable.find.Given as goal

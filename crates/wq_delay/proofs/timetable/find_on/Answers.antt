@@ -1,7 +1,4 @@
-use Rattle.std.proofs.Common.{rules, ◌≡◌, ◌-◌, ◌∙◌, map, arith}
-use Rattle.std.specs.Prelude.{min}
-use Rattle.std.proofs.lemmas.Bool.Decides.{nat_tests}
-use Rattle.wq_delay.specs.Rows.{entry_of}
+use Rattle.wq_delay.proofs.Common.{◌≡◌, ◌-◌, min, map, ◌∙◌, arith, rules, nat_tests, entry_of}
 use Rattle.wq_delay.proofs.Found.{found_due}
 use Rattle.wq_delay.proofs.timetable.find_on.Goals as goal
 

@@ -1,5 +1,4 @@
-use Rattle.std.proofs.Common.{map}
-use Rattle.wq_delay.specs.Rows.{entry_of, AreFound}
+use Rattle.wq_delay.proofs.Common.{map, AreFound, entry_of}
 use Rattle.wq_delay.proofs.timetable.find_on.Given as goal
 
 abbrev pub invariant-loop-after : goal.invariant-loop-after

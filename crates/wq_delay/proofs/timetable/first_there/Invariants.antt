@@ -1,6 +1,4 @@
-use Rattle.std.proofs.Common.{◌≡◌, [], take}
-use Rattle.std.specs.Prelude.{filter}
-use Rattle.wq_delay.specs.Rows.{stands}
+use Rattle.wq_delay.proofs.Common.{◌≡◌, [], take, filter, stands}
 use Rattle.wq_delay.proofs.timetable.first_there.Given as goal
 
 abbrev pub invariant-loop-at : goal.invariant-loop-at

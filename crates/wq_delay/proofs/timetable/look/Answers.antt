@@ -1,8 +1,4 @@
-use Rattle.std.proofs.Common.{◌≡◌, ℕ, map, sym, subst, arith}
-use Rattle.std.specs.Prelude.{slice_index}
-use Rattle.std.specs.Vec.{vec_capacity, vec_len}
-use Rattle.std.proofs.lemmas.List.{get_or_read, length-map}
-use Rattle.wq_delay.specs.Rows.{entry_of}
+use Rattle.wq_delay.proofs.Common.{◌≡◌, ℕ, map, slice_index, vec_len, vec_capacity, sym, subst, arith, get_or_read, length-map, entry_of}
 use Rattle.wq_delay.proofs.Looking.{Looking, looking_pass, looking_take, nearer_read, item_here, waits_there, looking_item, looking_init, looking_end}
 use Rattle.wq_delay.proofs.Fitting.{pushed, row_has_room}
 use Rattle.wq_delay.proofs.timetable.look.Goals as goal

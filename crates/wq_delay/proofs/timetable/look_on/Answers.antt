@@ -1,7 +1,4 @@
-use Rattle.std.proofs.Common.{◌≡◌, refl, ◌∙◌, ◌-◌, map, arith}
-use Rattle.std.specs.Prelude.{min}
-use Rattle.std.proofs.lemmas.Bool.Decides.{nat_tests}
-use Rattle.wq_delay.specs.Rows.{entry_of}
+use Rattle.wq_delay.proofs.Common.{◌≡◌, ◌-◌, min, map, refl, ◌∙◌, arith, nat_tests, entry_of}
 use Rattle.wq_delay.proofs.Slots.{looking_on_init, looking_on_more, looking_on_end}
 use Rattle.wq_delay.proofs.timetable.look_on.Goals as goal
 

@@ -1,6 +1,4 @@
-use Rattle.std.proofs.Common.{◌≡◌, ◌≤◌, length, map}
-use Rattle.std.specs.Vec.{vec_capacity}
-use Rattle.wq_delay.specs.Rows.{entry_of}
+use Rattle.wq_delay.proofs.Common.{◌≡◌, ◌≤◌, map, length, vec_capacity, entry_of}
 use Rattle.wq_delay.proofs.Slots.{LookingOn}
 use Rattle.wq_delay.proofs.timetable.look_on.Given as goal
 

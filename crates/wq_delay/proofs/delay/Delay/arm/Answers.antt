@@ -1,5 +1,4 @@
-use Rattle.std.proofs.Common.{◌+◌, [], ◌∷◌, refl, ◌∙◌}
-use Rattle.wq_words.specs.declared.event.Event.TheVariants.{Busy}
+use Rattle.wq_delay.proofs.Common.{◌+◌, [], ◌∷◌, refl, ◌∙◌, Busy}
 use Rattle.wq_delay.proofs.Sound.{fit_at, sound_queued, sound_keeps, sound_puts, off_before}
 use Rattle.wq_delay.proofs.delay.Delay.arm.Goals as goal
 

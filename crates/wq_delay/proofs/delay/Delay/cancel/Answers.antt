@@ -1,9 +1,5 @@
-use Rattle.std.proofs.Common.{◌≡◌, false, List, refl, sym, subst, ◌∙◌}
-use Rattle.wq_words.specs.declared.event.Event.TheVariants.{Back}
 use Rattle.wq_words.specs.declared.event.Why.TheVariants.{Cancelled}
-use Rattle.wq_words.specs.DelayTable.{Entry, on_table}
-use Rattle.wq_delay.specs.Delay.{DelayState, IsFit}
-use Rattle.wq_words.proofs.DelayTable.{without_off}
+use Rattle.wq_delay.proofs.Common.{◌≡◌, false, List, sym, refl, ◌∙◌, subst, Back, Entry, on_table, without_off, DelayState, IsFit}
 use Rattle.wq_delay.proofs.Sound.{state, fit_at, sound_leaves, stops_back}
 use Rattle.wq_delay.proofs.delay.Delay.cancel.Goals as goal
 

@@ -1,10 +1,7 @@
-use Rattle.std.proofs.Common.{ℕ, sym, subst, ◌∙◌, arith}
-use Rattle.wq_live.specs.Known.{Known}
-use Rattle.wq_words.proofs.DelayTable.{without_off}
-use Rattle.wq_delay.specs.Delay.{DelayState, GivesBack}
+use Rattle.wq_delay.proofs.Common.{ℕ, sym, ◌∙◌, subst, arith, without_off, Known, DelayState, GivesBack}
 use Rattle.wq_delay.proofs.Going.{Given, given_none, given_more, given_same, given_all, taken_held, on_less, off_more, all_off}
-use Rattle.wq_delay.proofs.delay.Delay.dissolve.Goals as goal
 use Rattle.wq_delay.proofs.delay.Delay.dissolve.Goals.{then-take, else-take}
+use Rattle.wq_delay.proofs.delay.Delay.dissolve.Goals as goal
 
 pub loop-item-init : goal.loop-item-init
 loop-item-init c =

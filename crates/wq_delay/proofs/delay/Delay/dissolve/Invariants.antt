@@ -1,5 +1,4 @@
-use Rattle.std.proofs.Common.{◌≡◌, ◌<◌, ℕ, true, false}
-use Rattle.wq_words.specs.DelayTable.{on_table}
+use Rattle.wq_delay.proofs.Common.{◌≡◌, ℕ, ◌<◌, true, false, on_table}
 use Rattle.wq_delay.proofs.Going.{Given}
 use Rattle.wq_delay.proofs.delay.Delay.dissolve.Given as goal
 

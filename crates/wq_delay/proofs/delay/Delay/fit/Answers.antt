@@ -1,7 +1,6 @@
-use Rattle.std.proofs.Common.{subst}
 use Rattle.wq_words.specs.Headline.{KeepsHeadline}
 use Rattle.wq_words.proofs.Headlines.{keeps_headline}
-use Rattle.wq_delay.specs.Delay.{DelayState}
+use Rattle.wq_delay.proofs.Common.{subst, DelayState}
 use Rattle.wq_delay.proofs.delay.Delay.fit.Goals as goal
 
 pub returns-clause-headline : goal.returns-clause-headline

@@ -1,4 +1,4 @@
-use Rattle.std.proofs.Common.{refl, []}
+use Rattle.wq_delay.proofs.Common.{[], refl}
 use Rattle.wq_delay.proofs.Sound.{sound_keeps}
 use Rattle.wq_delay.proofs.delay.Delay.meet.Goals as goal
 

@@ -1,4 +1,4 @@
-use Rattle.std.proofs.Common.{◌+◌, sym, ◌∙◌}
+use Rattle.wq_delay.proofs.Common.{◌+◌, sym, ◌∙◌}
 use Rattle.wq_delay.proofs.Sound.{fit_at, sound_moves}
 use Rattle.wq_delay.proofs.delay.Delay.modify.Goals as goal
 

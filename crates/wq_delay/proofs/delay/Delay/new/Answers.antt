@@ -1,5 +1,4 @@
-use Rattle.std.proofs.Common.{◌∙◌, ap}
-use Rattle.wq_words.specs.declared.layout.Layout.{Layout}
+use Rattle.wq_delay.proofs.Common.{ap, ◌∙◌, Layout}
 use Rattle.wq_delay.proofs.Sound.{fit_at, sound_empty}
 use Rattle.wq_delay.proofs.delay.Delay.new.Goals as goal
 

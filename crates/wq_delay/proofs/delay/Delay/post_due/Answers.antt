@@ -1,10 +1,7 @@
-use Rattle.std.proofs.Common.{◌≡◌, ℕ, [], ◌∷◌, refl, ap, sym, subst, ◌∙◌}
-use Rattle.wq_words.specs.declared.event.Event.TheVariants.{Push, Back}
-use Rattle.wq_words.specs.declared.event.Why.TheVariants as why
-use Rattle.wq_words.specs.DelayTable.{DelayTable, due_part}
-use Rattle.wq_delay.specs.Rows.{IsFirstDue}
-use Rattle.wq_delay.specs.Delay.{DelayState, IsFit, TakesOff, KeepsTable, PostsDue}
+use Rattle.wq_delay.proofs.Common.{◌≡◌, ℕ, [], ◌∷◌, sym, refl, ap, ◌∙◌, subst, Back, Push, DelayTable, due_part, IsFirstDue, DelayState, IsFit, KeepsTable}
+use Rattle.wq_delay.proofs.Common.{TakesOff, PostsDue}
 use Rattle.wq_delay.proofs.Advancing.{going_none, going_pushed, going_refused, fewer_left, went_all, went_some}
+use Rattle.wq_words.specs.declared.event.Why.TheVariants as why
 use Rattle.wq_delay.proofs.delay.Delay.post_due.Goals as goal
 
 pub loop-item-init : goal.loop-item-init

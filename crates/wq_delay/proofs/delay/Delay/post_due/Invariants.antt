@@ -1,4 +1,4 @@
-use Rattle.std.proofs.Common.{◌≡◌, length}
+use Rattle.wq_delay.proofs.Common.{◌≡◌, length}
 use Rattle.wq_delay.proofs.Advancing.{Going}
 use Rattle.wq_delay.proofs.delay.Delay.post_due.Given as goal
 

@@ -1,4 +1,4 @@
-use Rattle.std.proofs.Common.{[], refl, ◌∙◌}
+use Rattle.wq_delay.proofs.Common.{[], refl, ◌∙◌}
 use Rattle.wq_delay.proofs.Sound.{fit_at, sound_posted, sound_keeps}
 use Rattle.wq_delay.proofs.delay.Delay.post_item.Goals as goal
 

@@ -1,5 +1,5 @@
-use Rattle.std.proofs.Common.{ℕ, refl, Ok, arith}
 use Rattle.std.proofs.lemmas.Iterator.{YieldsList-from_range, items_from_collect}
+use Rattle.wq_delay.proofs.Common.{ℕ, Ok, refl, arith}
 use Rattle.wq_delay.proofs.rings.Rings.new.Goals as goal
 
 pub returns-clause-next : goal.returns-clause-next

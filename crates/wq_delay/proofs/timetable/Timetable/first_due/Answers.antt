@@ -1,8 +1,5 @@
-use Rattle.std.proofs.Common.{◌≡◌, ◌<◌, get_or, [], List, take, length, true, sym, ap, subst, ◌∙◌, arith}
-use Rattle.std.specs.Prelude.{Option, filter}
-use Rattle.wq_delay.specs.declared.timetable.Place.{Place}
-use Rattle.wq_delay.specs.declared.timetable.DueItem.{DueItem}
-use Rattle.wq_delay.specs.Rows.{Rows, stands, IsFirstDue}
+use Rattle.wq_delay.proofs.Common.{◌≡◌, ◌<◌, true, List, [], length, get_or, take, filter, Option, sym, ap, ◌∙◌, subst, arith, Place, DueItem, IsFirstDue}
+use Rattle.wq_delay.proofs.Common.{stands, Rows}
 use Rattle.wq_delay.proofs.Serving.{first_served, first_low}
 use Rattle.wq_delay.proofs.timetable.Timetable.first_due.Goals as goal
 

@@ -1,9 +1,4 @@
-use Rattle.std.proofs.Common.{◌<◌, Option, None, is_some, length, ap, sym, subst, ◌∙◌}
-use Rattle.std.proofs.lemmas.List.{get_or_read}
-use Rattle.std.specs.Prelude.{List}
-use Rattle.wq_words.specs.DelayTable.{on_table}
-use Rattle.wq_delay.specs.declared.timetable.Place.{Place}
-use Rattle.wq_delay.specs.Rows.{Rows, entries_of}
+use Rattle.wq_delay.proofs.Common.{◌<◌, List, length, is_some, None, Option, sym, ap, ◌∙◌, subst, get_or_read, on_table, Place, entries_of, Rows}
 use Rattle.wq_delay.proofs.Rows.{known_on}
 use Rattle.wq_delay.proofs.Spelled.{entries_rows}
 use Rattle.wq_delay.proofs.timetable.Timetable.has.Goals as goal

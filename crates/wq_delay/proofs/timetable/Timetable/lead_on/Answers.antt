@@ -1,6 +1,5 @@
-use Rattle.std.proofs.Common.{◌≤◌, sym, subst, rules, arith}
 use Rattle.std.proofs.lemmas.Fn.{filter_same}
-use Rattle.wq_delay.specs.Rows.{Rows, stands}
+use Rattle.wq_delay.proofs.Common.{◌≤◌, sym, subst, arith, rules, stands, Rows}
 use Rattle.wq_delay.proofs.Leading.{gathering_start, start_ahead, timetable_end}
 use Rattle.wq_delay.proofs.timetable.Timetable.lead_on.Goals as goal
 

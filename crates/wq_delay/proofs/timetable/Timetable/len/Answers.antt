@@ -1,4 +1,4 @@
-use Rattle.std.proofs.Common.{arith}
+use Rattle.wq_delay.proofs.Common.{arith}
 use Rattle.wq_delay.proofs.Serving.{few_entries}
 use Rattle.wq_delay.proofs.timetable.Timetable.len.Goals as goal
 

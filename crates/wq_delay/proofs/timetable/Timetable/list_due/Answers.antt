@@ -1,9 +1,5 @@
-use Rattle.std.proofs.Common.{◌≡◌, ◌∙◌, ◌&&◌, List, ℕ, map, drop, sym, ap, subst}
-use Rattle.std.specs.Prelude.{IfOk, Option, filter, nat_le}
-use Rattle.wq_words.specs.DelayTable.{items, due_part}
-use Rattle.wq_delay.specs.declared.timetable.Place.{Place}
-use Rattle.wq_delay.specs.declared.timetable.DueItem.{DueItem}
-use Rattle.wq_delay.specs.Rows.{Rows, entry_of, entries_of, stands, AreFound, AreDue}
+use Rattle.wq_delay.proofs.Common.{◌≡◌, ℕ, ◌&&◌, List, map, drop, IfOk, nat_le, filter, Option, sym, ap, ◌∙◌, subst, due_part, items, Place, DueItem, AreFound}
+use Rattle.wq_delay.proofs.Common.{entry_of, entries_of, stands, AreDue, Rows}
 use Rattle.wq_delay.proofs.Gathered.{sorted_is_due, on_table_permuted, same_on_table}
 use Rattle.wq_delay.proofs.Fitting.{items_of_rows}
 use Rattle.wq_delay.proofs.Found.{found_out}

@@ -1,8 +1,4 @@
-use Rattle.std.proofs.Common.{◌≡◌, ◌+◌, List, Option, None, replicate, length, refl, sym, subst, rules, arith}
-use Rattle.std.specs.Vec.{vec_capacity}
-use Rattle.wq_delay.specs.declared.timetable.Place.{Place}
-use Rattle.wq_delay.specs.declared.timetable.DueItem.{DueItem}
-use Rattle.wq_delay.specs.Rows.{IsTimetable}
+use Rattle.wq_delay.proofs.Common.{◌≡◌, ◌+◌, List, length, replicate, None, vec_capacity, Option, sym, refl, subst, arith, rules, Place, DueItem, IsTimetable}
 use Rattle.wq_delay.proofs.Starting.{no_entries, timetable_new}
 use Rattle.wq_delay.proofs.timetable.Timetable.new.Goals as goal
 

@@ -1,7 +1,5 @@
-use Rattle.std.proofs.Common.{◌≡◌, ℕ, ◌+◌, ◌%◌, ◌<◌, length, set, false, ap, sym, subst, ◌∙◌, refl, arith}
-use Rattle.std.specs.Prelude.{slice_index}
-use Rattle.wq_words.specs.DelayTable.{on_table, placed, AreArmedBefore}
-use Rattle.wq_delay.specs.Rows.{Rows}
+use Rattle.wq_delay.proofs.Common.{◌≡◌, ℕ, ◌+◌, ◌%◌, ◌<◌, false, length, set, slice_index, sym, refl, ap, ◌∙◌, subst, arith, on_table, placed, AreArmedBefore}
+use Rattle.wq_delay.proofs.Common.{Rows}
 use Rattle.wq_delay.proofs.Standing.{put_entries, put_timetable}
 use Rattle.wq_delay.proofs.Serving.{few_entries}
 use Rattle.wq_delay.proofs.timetable.Timetable.put.Goals as goal

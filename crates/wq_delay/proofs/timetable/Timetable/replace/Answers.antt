@@ -1,7 +1,5 @@
-use Rattle.std.proofs.Common.{◌≡◌, ◌<◌, ◌==◌, true, not, ◌&&◌, Bool, List, sym, ap, subst, ◌∙◌, arith}
-use Rattle.std.proofs.lemmas.Bool.Decides.{nat_tests}
-use Rattle.wq_words.specs.DelayTable.{Entry, on_table, AreArmedBefore}
-use Rattle.wq_words.proofs.DelayTable.{all-without, on_table-without}
+use Rattle.wq_delay.proofs.Common.{◌≡◌, ◌<◌, Bool, true, not, ◌&&◌, List, ◌==◌, sym, ap, ◌∙◌, subst, arith, nat_tests, Entry, on_table, AreArmedBefore}
+use Rattle.wq_delay.proofs.Common.{on_table-without, all-without}
 use Rattle.wq_delay.proofs.timetable.Timetable.replace.Goals as goal
 
 pub put-requires-clause-off : goal.put-requires-clause-off

@@ -1,6 +1,4 @@
-use Rattle.std.proofs.Common.{◌≡◌, ◌<◌, true, ℕ, subst}
-use Rattle.wq_words.specs.DelayTable.{on_table}
-use Rattle.wq_delay.specs.Rows.{Rows, entries_of}
+use Rattle.wq_delay.proofs.Common.{◌≡◌, ℕ, ◌<◌, true, subst, on_table, entries_of, Rows}
 use Rattle.wq_delay.proofs.Rows.{in_places}
 use Rattle.wq_delay.proofs.Spelled.{entries_rows}
 use Rattle.wq_delay.proofs.timetable.Timetable.size.Goals as goal

@@ -1,16 +1,11 @@
-use Rattle.std.proofs.Common.{◌≡◌, ◌<◌, ◌≤◌, ◌-◌, Option, Some, None, is_some, List, get_or, set, ap, sym, subst, ◌∙◌, arith}
-use Rattle.std.specs.Vec.{vec_capacity}
-use Rattle.std.proofs.lemmas.List.{get_or_read}
-use Rattle.wq_words.specs.DelayTable.{on_table, without}
-use Rattle.wq_delay.specs.declared.timetable.Place.{Place}
-use Rattle.wq_delay.specs.Rows.{Rows, entries_of, IsTimetable}
+use Rattle.wq_delay.proofs.Common.{◌≡◌, ◌-◌, ◌<◌, ◌≤◌, List, get_or, set, is_some, Some, None, vec_capacity, Option, sym, ap, ◌∙◌, subst, arith, get_or_read}
+use Rattle.wq_delay.proofs.Common.{without, on_table, without_off, Place, entries_of, IsTimetable, Rows}
 use Rattle.wq_delay.specs.declared.timetable.Timetable.TheInside.{Inside}
-use Rattle.wq_words.proofs.DelayTable.{without_off}
 use Rattle.wq_delay.proofs.Rows.{known_on}
 use Rattle.wq_delay.proofs.Spelled.{entries_rows}
 use Rattle.wq_delay.proofs.Standing.{take_entries, take_timetable, take_waiting, take_due, take_counted}
-use Rattle.wq_delay.proofs.timetable.Timetable.take.Goals as goal
 use Rattle.wq_delay.proofs.timetable.Timetable.take.Goals.{then-place-self, else-place-self}
+use Rattle.wq_delay.proofs.timetable.Timetable.take.Goals as goal
 
 pub returns-in_default-clause-answer : goal.returns-in_default-clause-answer
 returns-in_default-clause-answer c =
