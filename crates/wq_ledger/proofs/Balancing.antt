@@ -1,21 +1,10 @@
 -- The sums of a book whose ledgers do are those of its history.
-use Rattle.std.proofs.Common.{◌≡◌, ◌≢◌, ℕ, zero, suc, ◌+◌, Bool, true, false, cond, ◌==◌, List, []}
-use Rattle.std.proofs.Common.{length, refl, sym, ap, ◌∙◌, subst, arith, add-one}
-use Rattle.std.specs.Prelude.{count_by, sum_by, nat_lt, All}
-use Rattle.std.proofs.lemmas.Bool.{ltb-false, lt-ltb, le-ltb, eqb-true, eqb-false}
-use Rattle.std.proofs.lemmas.List.Sums.{sum_by-cons}
-use Rattle.wq_words.specs.declared.layout.Layout.{Layout}
-use Rattle.wq_words.specs.declared.event.Event.{Event}
-use Rattle.wq_words.specs.History.{ended, is_push}
-use Rattle.wq_words.specs.Legal.{IsLegal}
 use Rattle.wq_live.specs.Known.{Known}
-use Rattle.wq_words.specs.Counting.{is_queued_by, is_chain, is_chain_busy}
-use Rattle.wq_live.specs.Counts.{capped, owner_counts}
-use Rattle.wq_ledger.specs.declared.totals.Totals.{Totals}
-use Rattle.wq_ledger.specs.Book.{LedgerState, IsLedgerOf, IsSettled}
-use Rattle.wq_ledger.specs.Balance.{largest, AreWhole, AreOwnerWhole, ledgers_of, HasOne, HaveOne, met_total, SumsMet, Balances}
+use Rattle.wq_ledger.proofs.Common.{◌≡◌, ℕ, zero, suc, ◌+◌, Bool, true, false, cond, ◌≢◌, List, [], length, nat_lt, ◌==◌, All, sum_by, count_by, sym, refl, ap}
+use Rattle.wq_ledger.proofs.Common.{◌∙◌, subst, add-one, arith, ltb-false, lt-ltb, le-ltb, eqb-true, eqb-false, sum_by-cons, Layout, Event, ended, is_push}
+use Rattle.wq_ledger.proofs.Common.{IsLegal, is_queued_by, is_chain, is_chain_busy, accepted-count, capped, owner_counts, Totals, LedgerState, IsLedgerOf}
+use Rattle.wq_ledger.proofs.Common.{IsSettled, largest, AreWhole, AreOwnerWhole, ledgers_of, HasOne, HaveOne, met_total, SumsMet, Balances}
 use Rattle.wq_ledger.proofs.Pushes.{cond_next, is_queued_below, below_more, below_none, below_all, none_above, queued_made}
-use Rattle.wq_words.proofs.Appended.{accepted-count}
 use Rattle.wq_ledger.proofs.Summing.{total_next, total_skip, total_none, kept_first}
 
 module _ (layout : Layout) (h : List Event) (legal : IsLegal layout h) (ledgers : List LedgerState) (made : All (IsLedgerOf h) ledgers) (seat : ℕ) where

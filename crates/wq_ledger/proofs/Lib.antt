@@ -1,3 +1,4 @@
+pub mod Common
 pub mod Meeting
 pub mod Pushes
 pub mod Summing

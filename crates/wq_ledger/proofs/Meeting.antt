@@ -1,17 +1,10 @@
 -- What stays of a queue that is closed, and of a book, as more is seen.
-use Rattle.std.proofs.Common.{◌≡◌, ℕ, List, [], ◌++◌, sym, ap, ◌∙◌, subst, arith}
 use Rattle.std.proofs.lemmas.List.{append-nil}
 use mathlib.Core.List.{IsPrefix}
-use Rattle.wq_words.specs.declared.layout.Layout.{Layout}
-use Rattle.wq_words.specs.declared.event.Event.{Event}
-use Rattle.wq_words.specs.History.{is_close, IsClosed}
-use Rattle.wq_words.specs.Legal.{IsLegal, IsComplete}
-use Rattle.wq_words.specs.Seen.{Grows}
-use Rattle.wq_words.proofs.Appended.{count_by-append}
 use Rattle.wq_words.proofs.Prefixes.{prefix_append}
-use Rattle.wq_live.specs.Counts.{sender_counts}
 use Rattle.wq_live.proofs.Final.{final}
-use Rattle.wq_ledger.specs.Book.{LedgerState, IsLedgerOf}
+use Rattle.wq_ledger.proofs.Common.{◌≡◌, ℕ, List, [], ◌++◌, sym, ap, ◌∙◌, subst, arith, Layout, Event, is_close, IsClosed, IsLegal, IsComplete, Grows}
+use Rattle.wq_ledger.proofs.Common.{count_by-append, sender_counts, LedgerState, IsLedgerOf}
 
 pub still_closed : (v w : List Event) → IsClosed v → IsClosed (v ++ w)
 still_closed v w shut = omega (arith, count_by-append is_close v w, shut)

@@ -1,20 +1,10 @@
 -- How often each sender pushed, and what was accepted.
-use Rattle.std.proofs.Common.{◌≡◌, ◌≢◌, ℕ, ◌+◌, ◌<◌, ◌≤◌, Bool, true, false, cond, ◌==◌, List, [], ◌∷◌}
-use Rattle.std.proofs.Common.{◌++◌, refl, sym, ap, ◌∙◌, subst, arith}
-use Rattle.std.specs.Prelude.{count_by, nat_lt, min}
-use Rattle.std.proofs.lemmas.Bool.{ltb-true, ltb-false, lt-ltb, le-ltb, eqb-true, eqb-false}
-use Rattle.wq_words.specs.declared.layout.Layout.{Layout}
-use Rattle.wq_words.specs.declared.event.Event.{Event}
 use Rattle.wq_words.specs.declared.event.Event.TheVariants.{Hold, Busy, Push, Back, Take, Close, Begin, End, Chain, ChainBusy, Rest}
-use Rattle.wq_words.specs.History.{is_push, IsClosed}
-use Rattle.wq_words.specs.Legal.{IsLegal, IsAllowed}
 use Rattle.wq_words.proofs.Growing.{count_by_push}
 use Rattle.wq_words.proofs.Legal.{legal_induction, legal_next, legal_rest}
-use Rattle.wq_live.specs.declared.counts.SenderCounts.{SenderCounts}
-use Rattle.wq_words.specs.Counting.{is_queued_by}
-use Rattle.wq_ledger.specs.Book.{LedgerState, IsLedgerOf}
-use Rattle.wq_ledger.specs.Balance.{largest}
-use Rattle.wq_words.proofs.Appended.{count_by-append, count_by-cons}
+use Rattle.wq_ledger.proofs.Common.{◌≡◌, ℕ, ◌+◌, ◌<◌, ◌≤◌, min, Bool, true, false, cond, ◌≢◌, List, [], ◌∷◌, ◌++◌, nat_lt, ◌==◌, count_by, sym, refl, ap, ◌∙◌}
+use Rattle.wq_ledger.proofs.Common.{subst, arith, ltb-false, lt-ltb, le-ltb, eqb-true, eqb-false, ltb-true, Layout, Event, is_push, IsClosed, IsLegal}
+use Rattle.wq_ledger.proofs.Common.{IsAllowed, is_queued_by, count_by-append, count_by-cons, SenderCounts, LedgerState, IsLedgerOf, largest}
 use Rattle.wq_ledger.proofs.Meeting.{still_closed}
 
 -- the push of a sender below n
@@ -30,18 +20,25 @@ cond_next false true m n x lt eq = let same : m ≡ n = eqb-true m n eq in ap (�
 cond_next false false m n x lt eq =
     let high : n ≤ m = ltb-false m n lt in let other : m ≢ n = eqb-false m n eq in ap (λ (b : Bool). cond b x 0) (le-ltb m (n + 1) (omega arith)) ∙ omega arith
 
+-- an event is a push, or no test of pushes passes it
+by_push : (P : Event → Type 0) → ((s k : ℕ) → P (Push s k))
+    → ((e : Event) → is_push e ≡ false → ((n : ℕ) → is_queued_below n e ≡ false) → ((n : ℕ) → is_queued_by n e ≡ false) → P e) → (e : Event) → P e
+by_push P push other (Push s k) = push s k
+by_push P push other (Hold s k) = other (Hold s k) refl (λ _. refl) (λ _. refl)
+by_push P push other (Busy s k) = other (Busy s k) refl (λ _. refl) (λ _. refl)
+by_push P push other (Back s k why) = other (Back s k why) refl (λ _. refl) (λ _. refl)
+by_push P push other Take = other Take refl (λ _. refl) (λ _. refl)
+by_push P push other Close = other Close refl (λ _. refl) (λ _. refl)
+by_push P push other (Begin k) = other (Begin k) refl (λ _. refl) (λ _. refl)
+by_push P push other (End k) = other (End k) refl (λ _. refl) (λ _. refl)
+by_push P push other (Chain k) = other (Chain k) refl (λ _. refl) (λ _. refl)
+by_push P push other (ChainBusy k) = other (ChainBusy k) refl (λ _. refl) (λ _. refl)
+by_push P push other Rest = other Rest refl (λ _. refl) (λ _. refl)
+
 one_below : (n : ℕ) (e : Event) → cond {A = ℕ} (is_queued_below (n + 1) e) 1 0 ≡ cond (is_queued_below n e) 1 0 + cond (is_queued_by n e) 1 0
-one_below n (Push s k) = cond_next (nat_lt s n) (s == n) s n 1 refl refl
-one_below n (Hold s k) = refl
-one_below n (Busy s k) = refl
-one_below n (Back s k why) = refl
-one_below n Take = refl
-one_below n Close = refl
-one_below n (Begin k) = refl
-one_below n (End k) = refl
-one_below n (Chain k) = refl
-one_below n (ChainBusy k) = refl
-one_below n Rest = refl
+one_below n =
+    by_push (λ e. cond {A = ℕ} (is_queued_below (n + 1) e) 1 0 ≡ cond (is_queued_below n e) 1 0 + cond (is_queued_by n e) 1 0)
+    (λ s k. cond_next (nat_lt s n) (s == n) s n 1 refl refl) (λ e _ below by. rw (below (n + 1), below n, by n) refl)
 
 pub below_more : (n : ℕ) (h : List Event) → count_by (is_queued_below (n + 1)) h ≡ count_by (is_queued_below n) h + count_by (is_queued_by n) h
 below_more n [] = refl
@@ -56,75 +53,41 @@ below_more n (e ∷ es) =
     )
 
 none_event : (e : Event) → cond {A = ℕ} (is_queued_below 0 e) 1 0 ≡ 0
-none_event (Push s k) = ap (λ (b : Bool). cond b 1 0) (le-ltb s 0 (omega arith))
-none_event (Hold s k) = refl
-none_event (Busy s k) = refl
-none_event (Back s k why) = refl
-none_event Take = refl
-none_event Close = refl
-none_event (Begin k) = refl
-none_event (End k) = refl
-none_event (Chain k) = refl
-none_event (ChainBusy k) = refl
-none_event Rest = refl
+none_event =
+    by_push (λ e. cond {A = ℕ} (is_queued_below 0 e) 1 0 ≡ 0) (λ s k. ap (λ (b : Bool). cond b 1 0) (le-ltb s 0 (omega arith)))
+    (λ e _ below _. rw (below 0) refl)
 
 pub below_none : (h : List Event) → count_by (is_queued_below 0) h ≡ 0
 below_none [] = refl
 below_none (e ∷ es) = omega (arith, count_by-cons (is_queued_below 0) e es, none_event e, below_none es)
 
 module _ (layout : Layout) where
-  one_all : (e : Event) (h : List Event) → IsAllowed layout h e → cond {A = ℕ} (is_queued_below layout.senders e) 1 0 ≡ cond (is_push e) 1 0
-  one_all (Push s k) h a = ap (λ (b : Bool). cond b 1 0) (lt-ltb s layout.senders a.0)
-  one_all (Hold s k) h a = refl
-  one_all (Busy s k) h a = refl
-  one_all (Back s k why) h a = refl
-  one_all Take h a = refl
-  one_all Close h a = refl
-  one_all (Begin k) h a = refl
-  one_all (End k) h a = refl
-  one_all (Chain k) h a = refl
-  one_all (ChainBusy k) h a = refl
-  one_all Rest h a = refl
+  one_all : (h : List Event) (e : Event) → IsAllowed layout h e → cond {A = ℕ} (is_queued_below layout.senders e) 1 0 ≡ cond (is_push e) 1 0
+  one_all h =
+      by_push (λ e. IsAllowed layout h e → cond {A = ℕ} (is_queued_below layout.senders e) 1 0 ≡ cond (is_push e) 1 0)
+      (λ s k a. ap (λ (b : Bool). cond b 1 0) (lt-ltb s layout.senders a.0)) (λ e none below _ _. rw (below layout.senders, none) refl)
 
   -- each push is of a sender of the queue
   pub below_all : (h : List Event) → IsLegal layout h → count_by (is_queued_below layout.senders) h ≡ count_by is_push h
   below_all = legal_induction layout (λ h. count_by (is_queued_below layout.senders) h ≡ count_by is_push h) refl
-      (λ h e _ a same. omega (arith, count_by_push (is_queued_below layout.senders) h e, count_by_push is_push h e, one_all e h a, same))
+      (λ h e _ a same. omega (arith, count_by_push (is_queued_below layout.senders) h e, count_by_push is_push h e, one_all h e a, same))
 
-  one_above : (s : ℕ) (e : Event) (h : List Event) → layout.senders ≤ s → IsAllowed layout h e → cond {A = ℕ} (is_queued_by s e) 1 0 ≡ 0
-  one_above s (Push t k) h high a = other (t == s) refl
+  one_above : (s : ℕ) → layout.senders ≤ s → (h : List Event) (e : Event) → IsAllowed layout h e → cond {A = ℕ} (is_queued_by s e) 1 0 ≡ 0
+  one_above s high h =
+      by_push (λ e. IsAllowed layout h e → cond {A = ℕ} (is_queued_by s e) 1 0 ≡ 0) (λ t k a. other t (t == s) refl a.0) (λ e _ _ by _. rw (by s) refl)
     where
-      other : (b : Bool) → (t == s) ≡ b → cond {A = ℕ} b 1 0 ≡ 0
-      other true is = let same : t ≡ s = eqb-true t s is in let low : t < layout.senders = a.0 in absurd (omega arith)
-      other false is = refl
-  one_above s (Hold t k) h high a = refl
-  one_above s (Busy t k) h high a = refl
-  one_above s (Back t k why) h high a = refl
-  one_above s Take h high a = refl
-  one_above s Close h high a = refl
-  one_above s (Begin k) h high a = refl
-  one_above s (End k) h high a = refl
-  one_above s (Chain k) h high a = refl
-  one_above s (ChainBusy k) h high a = refl
-  one_above s Rest h high a = refl
+      other : (t : ℕ) (b : Bool) → (t == s) ≡ b → t < layout.senders → cond {A = ℕ} b 1 0 ≡ 0
+      other t true is low = let same : t ≡ s = eqb-true t s is in absurd (omega arith)
+      other t false is low = refl
 
   pub none_above : (s : ℕ) → layout.senders ≤ s → (h : List Event) → IsLegal layout h → count_by (is_queued_by s) h ≡ 0
   none_above s high = legal_induction layout (λ h. count_by (is_queued_by s) h ≡ 0) refl
-      (λ h e _ a none. omega (arith, count_by_push (is_queued_by s) h e, one_above s e h high a, none))
+      (λ h e _ a none. omega (arith, count_by_push (is_queued_by s) h e, one_above s high h e a, none))
 
   -- no push follows a close
-  one_late : (v : List Event) (e : Event) → IsAllowed layout v e → IsClosed v → (s : ℕ) → cond {A = ℕ} (is_queued_by s e) 1 0 ≡ 0
-  one_late v (Push t k) a shut s = absurd (a.2.1 shut)
-  one_late v (Hold t k) a shut s = refl
-  one_late v (Busy t k) a shut s = refl
-  one_late v (Back t k why) a shut s = refl
-  one_late v Take a shut s = refl
-  one_late v Close a shut s = refl
-  one_late v (Begin k) a shut s = refl
-  one_late v (End k) a shut s = refl
-  one_late v (Chain k) a shut s = refl
-  one_late v (ChainBusy k) a shut s = refl
-  one_late v Rest a shut s = refl
+  one_late : (v : List Event) → IsClosed v → (s : ℕ) (e : Event) → IsAllowed layout v e → cond {A = ℕ} (is_queued_by s e) 1 0 ≡ 0
+  one_late v shut s =
+      by_push (λ e. IsAllowed layout v e → cond {A = ℕ} (is_queued_by s e) 1 0 ≡ 0) (λ t k a. absurd (a.2.1 shut)) (λ e _ _ by _. rw (by s) refl)
 
   late_none : (s : ℕ) (v new : List Event) → IsLegal layout (v ++ new) → IsClosed v → count_by (is_queued_by s) new ≡ 0
   late_none s v [] legal shut = refl
@@ -132,7 +95,7 @@ module _ (layout : Layout) where
       omega (
         arith,
         count_by-cons (is_queued_by s) e new,
-        one_late v e (legal_next layout v e new legal) shut s,
+        one_late v shut s e (legal_next layout v e new legal),
         late_none s (v ++ e ∷ []) new (legal_rest layout v e new legal) (still_closed v (e ∷ []) shut),
       )
 

@@ -1,14 +1,7 @@
 -- The sums over the ledgers of a queue's senders, as far as they have come.
-use Rattle.std.proofs.Common.{◌≡◌, ◌≢◌, ℕ, suc, ⊎_elim, Option, Some, None, ◌+◌, ◌<◌, ◌≤◌, Bool, true, false, not, ◌&&◌, cond, ◌==◌, List, [], ◌∷◌}
-use Rattle.std.proofs.Common.{length, refl, sym, ap, ◌∙◌, subst, arith}
-use Rattle.std.specs.Prelude.{IsSome, sum_by, filter, nat_lt, All}
-use Rattle.std.proofs.lemmas.Bool.{cases_lt, le-ltb, eqb-true}
-use Rattle.std.proofs.lemmas.List.Sums.{sum_by-cons}
-use Rattle.wq_live.specs.declared.counts.SenderCounts.{SenderCounts}
-use Rattle.wq_ledger.specs.Book.{LedgerState}
-use Rattle.wq_ledger.specs.declared.totals.Totals.{Totals}
-use Rattle.wq_ledger.specs.Balance.{AreWhole, ledgers_of, HasOne, HaveOne, met_total, SumsMet}
-use Rattle.wq_ledger.specs.Totals.{none, with_sender, HasGrown}
+use Rattle.wq_ledger.proofs.Common.{◌≡◌, ℕ, suc, ◌+◌, ◌<◌, ◌≤◌, Bool, true, false, cond, not, ◌&&◌, ◌≢◌, List, [], ◌∷◌, length, IsSome, nat_lt, ◌==◌, Some}
+use Rattle.wq_ledger.proofs.Common.{None, All, sum_by, filter, Option, sym, refl, ap, ◌∙◌, subst, ⊎_elim, arith, le-ltb, eqb-true, cases_lt, sum_by-cons}
+use Rattle.wq_ledger.proofs.Common.{SenderCounts, Totals, LedgerState, AreWhole, ledgers_of, HasOne, HaveOne, met_total, SumsMet, none, with_sender, HasGrown}
 use Rattle.wq_ledger.proofs.Pushes.{cond_next}
 
 cond_and : (a s : Bool) (x : ℕ) → cond {A = ℕ} (a && s) x 0 ≡ cond a (cond s x 0) 0

@@ -1,7 +1,5 @@
-use Rattle.std.proofs.Common.{rules, ◌≡◌, ℕ, ◌+◌, ◌==◌, cond, length, take, get_or, sym, refl, ap, ◌∙◌, arith, eq-eqb}
-use Rattle.std.specs.Prelude.{IsSome, count_by}
 use Rattle.std.proofs.lemmas.List.Sums.{length-filter, count_by_more_yes, sum_by-take-le}
-use Rattle.wq_ledger.specs.Book.{LedgerState}
+use Rattle.wq_ledger.proofs.Common.{◌≡◌, ℕ, ◌+◌, cond, length, get_or, take, IsSome, ◌==◌, count_by, sym, refl, ap, ◌∙◌, arith, rules, eq-eqb, LedgerState}
 use Rattle.wq_ledger.proofs.Summing.{some_length}
 use Rattle.wq_ledger.proofs.balance.only_ledger.Goals as goal
 

@@ -1,5 +1,4 @@
-use Rattle.std.proofs.Common.{◌≡◌, take}
-use Rattle.wq_ledger.specs.Balance.{ledgers_of}
+use Rattle.wq_ledger.proofs.Common.{◌≡◌, take, ledgers_of}
 use Rattle.wq_ledger.proofs.Summing.{listed_one}
 use Rattle.wq_ledger.proofs.balance.only_ledger.Given as goal
 

@@ -1,11 +1,7 @@
-use Rattle.std.proofs.Common.{◌≡◌, ◌+◌, sym, subst, ap, ◌∙◌}
+use Rattle.wq_ledger.proofs.Common.{◌≡◌, ◌+◌, sym, ap, ◌∙◌, subst, SenderCounts, Totals, SumsMet, with_sender}
 use Rattle.wq_ledger.proofs.Summing.{sums_none, sums_next, sums_skip}
-use Rattle.wq_ledger.specs.Balance.{SumsMet}
-use Rattle.wq_live.specs.declared.counts.SenderCounts.{SenderCounts}
-use Rattle.wq_ledger.specs.declared.totals.Totals.{Totals}
-use Rattle.wq_ledger.specs.Totals.{with_sender}
-use Rattle.wq_ledger.proofs.balance.sum_met.Goals as goal
 use Rattle.wq_ledger.proofs.balance.sum_met.Goals.{then-number-seat+in_ok-ledger, else-number-seat}
+use Rattle.wq_ledger.proofs.balance.sum_met.Goals as goal
 
 pub loop-number-init : goal.loop-number-init
 loop-number-init c = sums_none c.args.ledgers.now c.args.seat c.none-met.result c.none-met.ensures

@@ -1,4 +1,4 @@
-use Rattle.wq_ledger.specs.Balance.{SumsMet}
+use Rattle.wq_ledger.proofs.Common.{SumsMet}
 use Rattle.wq_ledger.proofs.balance.sum_met.Given as goal
 
 abbrev pub invariant-loop-number : goal.invariant-loop-number

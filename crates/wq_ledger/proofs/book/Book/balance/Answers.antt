@@ -1,13 +1,6 @@
-use Rattle.std.proofs.Common.{ℕ, rules, sym, ap, ◌∙◌, subst}
-use Rattle.std.specs.Prelude.{All}
-use Rattle.wq_words.specs.declared.layout.Layout.{Layout}
-use Rattle.wq_live.specs.declared.counts.SenderCounts.{SenderCounts}
 use Rattle.wq_live.specs.declared.counts.OwnerCounts.{OwnerCounts}
-use Rattle.wq_live.specs.Counts.{owner_counts}
-use Rattle.wq_ledger.specs.declared.totals.Totals.{Totals}
-use Rattle.wq_ledger.specs.Totals.{with_sender}
-use Rattle.wq_ledger.specs.Book.{BookState, IsLedgerOf}
-use Rattle.wq_ledger.specs.Balance.{AreWhole, AreOwnerWhole, SumsMet, Balances}
+use Rattle.wq_ledger.proofs.Common.{ℕ, All, sym, ap, ◌∙◌, subst, rules, Layout, SenderCounts, owner_counts, Totals, IsLedgerOf, BookState, AreWhole}
+use Rattle.wq_ledger.proofs.Common.{AreOwnerWhole, SumsMet, Balances, with_sender}
 use Rattle.wq_ledger.proofs.Balancing.{balances}
 use Rattle.wq_ledger.proofs.book.Book.balance.Goals as goal
 

@@ -1,8 +1,6 @@
-use Rattle.std.proofs.Common.{subst}
-use Rattle.wq_words.specs.Legal.{IsLegal, IsComplete}
 use Rattle.wq_words.specs.Headline.{KeepsHeadline}
 use Rattle.wq_words.proofs.Headlines.{keeps_headline}
-use Rattle.wq_ledger.specs.Book.{BookState, IsLedgerOf}
+use Rattle.wq_ledger.proofs.Common.{subst, IsLegal, IsComplete, IsLedgerOf, BookState}
 use Rattle.wq_ledger.proofs.book.Book.legal.Goals as goal
 
 pub returns-clause-legal : goal.returns-clause-legal

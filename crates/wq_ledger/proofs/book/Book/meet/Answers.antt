@@ -1,7 +1,5 @@
-use Rattle.std.proofs.Common.{ℕ, [], sym, ap, ◌∙◌, subst}
-use Rattle.wq_words.specs.Seen.{owner_seat, Grows}
 use Rattle.wq_live.specs.Laws.{IsStillEnd}
-use Rattle.wq_ledger.specs.Book.{BookState, IsLedgerOf}
+use Rattle.wq_ledger.proofs.Common.{ℕ, [], sym, ap, ◌∙◌, subst, Grows, owner_seat, IsLedgerOf, BookState}
 use Rattle.wq_ledger.proofs.Meeting.{complete_still, made_still, made_now}
 use Rattle.wq_ledger.proofs.book.Book.meet.Goals as goal
 
