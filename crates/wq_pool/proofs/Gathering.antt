@@ -1,18 +1,11 @@
 -- One queue more in hand, and one more taken apart.
-use Rattle.std.proofs.Common.{◌≡◌, ℕ, zero, suc, ◌+◌, ◌<◌, List, [], ◌∷◌, ◌++◌, map, length, take, refl, sym, ap, ◌∙◌, subst, arith, length-append, Some, None, Option, All, slice_index_or}
-use Rattle.std.proofs.lemmas.List.{map-append}
-use Rattle.std.proofs.lemmas.List.Elements.{All-push}
-use Rattle.wq_words.specs.Legal.{IsComplete}
 use Rattle.wq_words.proofs.Growing.{take_more_some}
 use Rattle.wq_ledger.specs.Book.{BookState}
-use Rattle.wq_served.specs.declared.worker_id.WorkerId.{WorkerId}
-use Rattle.wq_pool.specs.Known.{SlotsState, TurnState, turn_id}
-use Rattle.wq_served.specs.Drained.{IsDrained}
-use Rattle.wq_pool.specs.Finish.{AreFirst, AreComplete, LeavesOf, FirstLeft}
 use Rattle.wq_served.specs.Finished.{IsFinished}
-use Rattle.wq_pool.specs.Finished.{AreFinished, RanToEnd}
-use Rattle.wq_pool.specs.Slots.{IsWorkerAt}
 use Rattle.wq_served.proofs.Draining.{left_complete}
+use Rattle.wq_pool.proofs.Common.{◌≡◌, ℕ, zero, suc, ◌+◌, ◌<◌, List, [], ◌∷◌, ◌++◌, map, length, take, slice_index_or, Some, None, All, Option, sym, refl, ap}
+use Rattle.wq_pool.proofs.Common.{◌∙◌, subst, arith, length-append, map-append, All-push, IsComplete, WorkerId, IsDrained, SlotsState, TurnState, turn_id}
+use Rattle.wq_pool.proofs.Common.{AreFirst, AreComplete, LeavesOf, FirstLeft, AreFinished, RanToEnd, IsWorkerAt}
 
 module _ {W : Type 0} where
   pub first_more : (slots : SlotsState) (turns new : List (TurnState W)) (t : TurnState W) → AreFirst slots turns → length turns < length slots.workers

@@ -1,16 +1,12 @@
 -- A caller that goes on.
-use Rattle.std.proofs.Common.{◌≡◌, ℕ, List, [], ◌++◌, Option, Some, None, refl, sym, ◌∙◌, ap, subst, append_assoc, slice_get}
-use Rattle.std.proofs.lemmas.List.{append-nil}
 use Rattle.wq_ready.specs.declared.event.ReadyEvent.{ReadyEvent}
 use Rattle.std.specs.declared.result.Result.{Result}
 use Rattle.std.specs.declared.result.Result.TheVariants.{Ok, Err}
 use Rattle.wq_ready.specs.declared.ready_queue.AnnounceError.{AnnounceError}
 use Rattle.wq_ready.specs.declared.ready_queue.AnnounceError.TheVariants.{NoQueue, Full}
-use Rattle.wq_served.specs.declared.worker_id.WorkerId.{WorkerId}
-use Rattle.wq_pool.specs.Known.{PoolState, TurnState, IsSameTurn}
 use Rattle.wq_ready.specs.Answers.{Picks, Announces}
-use Rattle.wq_ready.specs.Known.{CallerState}
-use Rattle.wq_pool.specs.Pool.{GoesOnFrom, IsTurnOf}
+use Rattle.wq_pool.proofs.Common.{◌≡◌, ℕ, List, [], ◌++◌, slice_get, Some, None, Option, sym, refl, ap, ◌∙◌, subst, append_assoc, append-nil, CallerState}
+use Rattle.wq_pool.proofs.Common.{WorkerId, TurnState, PoolState, IsSameTurn, GoesOnFrom, IsTurnOf}
 
 pub goes_still : (a : CallerState) → GoesOnFrom a a
 goes_still a = record { same = record { ready_is = refl; number_is = refl }; begins = ([], append-nil a.seen) }

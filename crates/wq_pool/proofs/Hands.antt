@@ -1,10 +1,7 @@
 -- What a seat has in hand, before and after its steps.
-use Rattle.std.proofs.Common.{◌≡◌, ℕ, List, [], ◌∷◌, replicate, sym, ap, ◌∙◌, subst, eq-eqb, Bool, true, Some, None, MatchBool}
 use mathlib.Core.Option.{none}
-use Rattle.atomic_table.specs.Table.{step, Allows, rest}
-use Rattle.wq_worker.specs.State.{WorkerState}
-use Rattle.wq_served.specs.declared.worker_id.WorkerId.{WorkerId}
-use Rattle.wq_pool.specs.Slots.{KeptSlots, empty_hand, hand_with, IsWorkerAt, SlotSat, picks_up, lays_down}
+use Rattle.wq_pool.proofs.Common.{◌≡◌, ℕ, Bool, true, List, [], ◌∷◌, replicate, Some, None, MatchBool, sym, ap, ◌∙◌, subst, eq-eqb, step, Allows, rest}
+use Rattle.wq_pool.proofs.Common.{WorkerState, WorkerId, IsWorkerAt, KeptSlots, empty_hand, hand_with, SlotSat, picks_up, lays_down}
 use Rattle.wq_pool.proofs.Kept.{lays_allowed}
 
 pub zeros : (words : List ℕ) (n m : ℕ) → words ≡ replicate n 0 → n ≡ m → words ≡ replicate m 0

@@ -1,7 +1,4 @@
 -- Each step of a seat keeps the rule of the slots.
-use Rattle.std.proofs.Common.{◌≡◌, ◌≢◌, ℕ, zero, suc, ◌<◌, eqb, List, [], ◌∷◌, map, length, get_or, set, replicate, sym, refl, ap, ◌∙◌, subst, arith}
-use Rattle.std.proofs.Common.{length-set, get_or-set_same, get_or-set_other, eq-eqb, ne_eqb, Bool, Option, Some, None, MatchBool, cond, inl, inr}
-use Rattle.std.proofs.lemmas.List.{length-map, length-replicate}
 use Rattle.std.proofs.lemmas.Option.{none-some}
 use mathlib.Core.Option.{some, none, some-injective, some-ne-none}
 use mathlib.Core.Logic.{dite}
@@ -9,13 +6,12 @@ use native.Mathlib.Decide.{ℕ_discrete}
 use prog.Atomic.{either}
 use lib.ListN.{get_elem?}
 use lib.Seq.{set-get_or}
-use Rattle.atomic_table.specs.Table.{State, step, keeps, takes, gives, Act, Allows, Enters, stepped, opening, carried_after, Valid}
 use Rattle.atomic_table.proofs.Lists.{at_set, at_snoc, set_here, set_else, set_again}
-use Rattle.wq_worker.specs.State.{WorkerState}
+use Rattle.wq_pool.proofs.Common.{◌≡◌, ℕ, zero, suc, ◌<◌, Bool, cond, eqb, ◌≢◌, List, [], ◌∷◌, map, length, get_or, set, replicate, Some, None, MatchBool}
+use Rattle.wq_pool.proofs.Common.{Option, sym, refl, ap, ◌∙◌, subst, inl, inr, arith, length-set, get_or-set_other, get_or-set_same, eq-eqb, ne_eqb, length-map}
+use Rattle.wq_pool.proofs.Common.{length-replicate, step, Allows, State, keeps, takes, gives, Act, Enters, stepped, opening, carried_after, Valid, WorkerState}
+use Rattle.wq_pool.proofs.Common.{WorkerId, worker_id, IsWorkerAt, KeptSlots, empty_hand, hand_with, SlotSat, picks_up, lays_down, comes}
 use Rattle.wq_pool.specs.declared.slots.Hand.{Hand}
-use Rattle.wq_served.specs.declared.worker_id.WorkerId.{WorkerId}
-use Rattle.wq_served.specs.WorkerId.{worker_id}
-use Rattle.wq_pool.specs.Slots.{KeptSlots, empty_hand, hand_with, IsWorkerAt, SlotSat, comes, picks_up, lays_down}
 
 abbrev SlotsNow : Type 0 → Type 0
 SlotsNow W = State (Option (WorkerState W)) Hand

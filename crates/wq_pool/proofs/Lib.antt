@@ -1,3 +1,4 @@
+pub mod Common
 pub mod Kept
 pub mod Hands
 pub mod Gathering

@@ -7,6 +7,7 @@ ghost use Rattle.wq_worker.specs.State.{items_among};
 ghost use Rattle.wq_pool.specs.Known.{IsSameTurn, turn_id};
 ghost use Rattle.wq_served.specs.Drained.{IsDrained};
 ghost use Rattle.wq_served.specs.Finished.{IsFinished};
+ghost use Rattle.wq_served.specs.Owed.{IsOwed};
 ghost use Rattle.wq_served.specs.Steps.{Finishes, Pauses, EndsWithin};
 
 use crate::slots::SlotSeat;
@@ -95,9 +96,9 @@ impl<W: Work> Turn<W> {
         })
     }
 
-    /// Whether an execution is owed.
+    /// True just where an execution is owed.
     pub(crate) fn owes(&self) -> bool
-        ensures { result ≡ false → ¬ IsRunning self.now.worker.seen }
+        ensures { IsOwed result self.now.worker.seen }
     {
         self.runner.owes()
     }

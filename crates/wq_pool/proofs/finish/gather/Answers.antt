@@ -1,8 +1,4 @@
-use Rattle.std.proofs.Common.{rules, arith, ◌≡◌, ℕ, Some, slice_get, length, ap, sym, ◌∙◌, subst}
-use Rattle.wq_served.specs.Drained.{IsDrained}
-use Rattle.wq_pool.specs.Finish.{FirstLeft}
-use Rattle.wq_pool.specs.Known.{TurnState, turn_id}
-use Rattle.wq_pool.specs.Slots.{IsWorkerAt}
+use Rattle.wq_pool.proofs.Common.{◌≡◌, ℕ, length, slice_get, Some, sym, ap, ◌∙◌, subst, arith, rules, IsDrained, TurnState, turn_id, FirstLeft, IsWorkerAt}
 use Rattle.wq_pool.proofs.Gathering.{first_more, left_more}
 use Rattle.wq_pool.proofs.finish.gather.Goals as goal
 

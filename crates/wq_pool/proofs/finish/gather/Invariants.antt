@@ -1,6 +1,4 @@
-use Rattle.std.proofs.Common.{◌≡◌, ◌≤◌, length}
-use Rattle.std.specs.Vec.{vec_len, vec_capacity}
-use Rattle.wq_pool.specs.Finish.{AreFirst, LeavesOf}
+use Rattle.wq_pool.proofs.Common.{◌≡◌, ◌≤◌, length, vec_len, vec_capacity, AreFirst, LeavesOf}
 use Rattle.wq_pool.proofs.finish.gather.Given as goal
 
 abbrev pub invariant-loop-queue : goal.invariant-loop-queue

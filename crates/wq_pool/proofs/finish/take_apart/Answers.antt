@@ -1,10 +1,6 @@
-use Rattle.std.proofs.Common.{map, length, sym, ◌∙◌, subst, arith, length-append, List, [], ◌∷◌}
-use Rattle.std.proofs.lemmas.List.{map-id}
 use Rattle.std.proofs.lemmas.Iterator.Adapters.{YieldsList-from_vec}
 use Rattle.std.proofs.lemmas.Iterator.Consumers.{YieldsList-turn, YieldsList-end}
-use Rattle.wq_words.specs.Legal.{IsComplete}
-use Rattle.wq_pool.specs.Finished.{AreFinished}
-use Rattle.wq_pool.specs.Known.{TurnState, turn_id}
+use Rattle.wq_pool.proofs.Common.{List, [], ◌∷◌, map, length, sym, ◌∙◌, subst, arith, length-append, map-id, IsComplete, TurnState, turn_id, AreFinished}
 use Rattle.wq_pool.proofs.Gathering.{finished_next}
 use Rattle.wq_pool.proofs.finish.take_apart.Goals as goal
 

@@ -1,7 +1,4 @@
-use Rattle.std.proofs.Common.{◌≡◌, ◌≤◌, map, length}
-use Rattle.std.specs.Vec.{vec_len, vec_capacity}
-use Rattle.wq_pool.specs.Finished.{AreFinished}
-use Rattle.wq_pool.specs.Known.{turn_id}
+use Rattle.wq_pool.proofs.Common.{◌≡◌, ◌≤◌, map, length, vec_len, vec_capacity, turn_id, AreFinished}
 use Rattle.wq_pool.proofs.finish.take_apart.Given as goal
 
 abbrev pub invariant-loop-worked : goal.invariant-loop-worked

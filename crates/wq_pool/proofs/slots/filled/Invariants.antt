@@ -1,4 +1,4 @@
-use Rattle.std.proofs.Common.{◌≡◌, Some, map}
+use Rattle.wq_pool.proofs.Common.{◌≡◌, map, Some}
 use Rattle.wq_pool.proofs.slots.filled.Given as goal
 
 abbrev pub invariant-loop-queue : goal.invariant-loop-queue

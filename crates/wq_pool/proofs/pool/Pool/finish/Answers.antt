@@ -1,6 +1,4 @@
-use Rattle.std.proofs.Common.{rules, ◌≡◌, map, length, ap, ◌∙◌}
-use Rattle.std.proofs.lemmas.List.{length-map}
-use Rattle.wq_pool.specs.Known.{PoolState, turn_id}
+use Rattle.wq_pool.proofs.Common.{◌≡◌, map, length, ap, ◌∙◌, rules, length-map, turn_id, PoolState}
 use Rattle.wq_pool.proofs.Gathering.{finished_count, finished_each}
 use Rattle.wq_pool.proofs.pool.Pool.finish.Goals as goal
 

@@ -1,6 +1,4 @@
-use Rattle.std.proofs.Common.{◌≡◌, Some}
-use Rattle.std.proofs.lemmas.List.Elements.{All-pop}
-use Rattle.wq_pool.specs.Known.{TurnState}
+use Rattle.wq_pool.proofs.Common.{◌≡◌, Some, All-pop, TurnState}
 use Rattle.wq_pool.proofs.pool.Pool.lay_all.Goals as goal
 
 pub lay_down-requires : goal.lay_down-requires

@@ -1,5 +1,4 @@
-use Rattle.std.proofs.Common.{◌≡◌, All}
-use Rattle.std.specs.Vec.{vec_len}
+use Rattle.wq_pool.proofs.Common.{◌≡◌, vec_len, All}
 use Rattle.wq_pool.proofs.pool.Pool.lay_all.Given as goal
 
 abbrev pub invariant-loop-worked : goal.invariant-loop-worked

@@ -1,6 +1,3 @@
-use Rattle.std.proofs.Common.{sym, subst}
-use Rattle.wq_ready.specs.Known.{CallerState}
-use Rattle.wq_pool.specs.Pool.{GoesOnFrom}
 use Rattle.wq_pool.proofs.GoingOn.{goes_on, goes_by_pick}
 use Rattle.wq_pool.proofs.pool.Pool.serve.Goals as goal
 

@@ -1,4 +1,4 @@
-use Rattle.wq_pool.specs.Pool.{GoesOnFrom}
+use Rattle.wq_pool.proofs.Common.{GoesOnFrom}
 use Rattle.wq_pool.proofs.pool.Pool.serve.Given as goal
 
 abbrev pub invariant-loop : goal.invariant-loop

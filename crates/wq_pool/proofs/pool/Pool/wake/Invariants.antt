@@ -1,4 +1,4 @@
-use Rattle.std.proofs.Common.{◌≡◌}
+use Rattle.wq_pool.proofs.Common.{◌≡◌}
 use Rattle.wq_pool.proofs.pool.Pool.wake.Given as goal
 
 abbrev pub invariant-loop : goal.invariant-loop

@@ -1,7 +1,4 @@
-use Rattle.std.proofs.Common.{sym, subst}
-use Rattle.wq_ready.specs.Known.{CallerState}
-use Rattle.wq_pool.specs.Known.{TurnState}
-use Rattle.wq_pool.specs.Pool.{GoesOnFrom, IsTurnOf}
+use Rattle.wq_pool.proofs.Common.{sym, subst, CallerState, TurnState, GoesOnFrom, IsTurnOf}
 use Rattle.wq_pool.proofs.GoingOn.{goes_on, goes_by_announce, turn_same}
 use Rattle.wq_pool.proofs.pool.Pool.work_share.Goals as goal
 

@@ -1,5 +1,4 @@
-use Rattle.wq_ready.specs.Known.{IsCallerOf}
-use Rattle.wq_pool.specs.Pool.{GoesOnFrom, IsTurnOf}
+use Rattle.wq_pool.proofs.Common.{IsCallerOf, GoesOnFrom, IsTurnOf}
 use Rattle.wq_pool.proofs.pool.Pool.work_share.Given as goal
 
 abbrev pub invariant-loop : goal.invariant-loop

@@ -1,6 +1,5 @@
-use Rattle.std.proofs.Common.{rules, ap, sym, ◌∙◌, ◌≡◌, ◌<◌, subst}
 use Rattle.atomic_table.specs.Seated.{TableId}
-use Rattle.wq_pool.specs.Known.{SlotsState, TurnState}
+use Rattle.wq_pool.proofs.Common.{◌≡◌, ◌<◌, sym, ap, ◌∙◌, subst, rules, SlotsState, TurnState}
 use Rattle.wq_pool.proofs.Hands.{lays_filled}
 use Rattle.wq_pool.proofs.slots.Slots.lay_down.Goals as goal
 

@@ -1,4 +1,4 @@
-use Rattle.std.proofs.Common.{rules, ◌∙◌, length}
+use Rattle.wq_pool.proofs.Common.{length, ◌∙◌, rules}
 use Rattle.wq_pool.proofs.Kept.{opens}
 use Rattle.wq_pool.proofs.Hands.{zeros}
 use Rattle.wq_pool.proofs.slots.Slots.new.Goals as goal

@@ -1,6 +1,4 @@
-use Rattle.std.proofs.Common.{rules, ap, sym, ◌∙◌, ◌<◌, subst, length, map}
-use Rattle.wq_pool.specs.Known.{SlotsState}
-use Rattle.wq_served.specs.WorkerId.{worker_id}
+use Rattle.wq_pool.proofs.Common.{◌<◌, map, length, sym, ap, ◌∙◌, subst, rules, worker_id, SlotsState}
 use Rattle.wq_pool.proofs.Kept.{comes_allowed, picks_allowed}
 use Rattle.wq_pool.proofs.Hands.{has_picked, front_of}
 use Rattle.wq_pool.proofs.slots.Slots.pick_up.Goals as goal

@@ -1,9 +1,6 @@
-use Rattle.std.proofs.Common.{Some, refl, sym, ap, ◌∙◌, subst}
-use Rattle.wq_worker.specs.State.{WorkerState}
-use Rattle.wq_served.specs.WorkerId.{worker_id}
-use Rattle.wq_pool.specs.Known.{TurnState, IsSameTurn}
 use Rattle.wq_served.specs.Steps.{Finishes, Pauses, EndsWithin}
 use Rattle.wq_served.proofs.Steps.{works_finishes, works_pauses, works_ended, works_id}
+use Rattle.wq_pool.proofs.Common.{Some, sym, refl, ap, ◌∙◌, subst, WorkerState, worker_id, TurnState, IsSameTurn}
 use Rattle.wq_pool.proofs.turn.Turn.work.Goals as goal
 
 pub invariant_of-self : goal.invariant_of-self

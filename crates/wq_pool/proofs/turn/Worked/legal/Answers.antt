@@ -1,6 +1,4 @@
-use Rattle.std.proofs.Common.{subst}
-use Rattle.wq_words.specs.Legal.{IsLegal}
-use Rattle.wq_pool.specs.Known.{TurnState}
+use Rattle.wq_pool.proofs.Common.{subst, IsLegal, TurnState}
 use Rattle.wq_pool.proofs.turn.Worked.legal.Goals as goal
 
 pub returns-clause-legal : goal.returns-clause-legal
