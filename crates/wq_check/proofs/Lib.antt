@@ -1,0 +1,8 @@
+pub mod Times
+pub mod Accepted
+pub mod Lists
+pub mod Standing
+pub mod Shown
+pub mod Unshown
+pub mod Looking
+pub mod Counted

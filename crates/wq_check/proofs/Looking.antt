@@ -1,0 +1,326 @@
+-- How a queue looks tells of each next mark whether it may be shown, and follows it.
+use Rattle.std.proofs.Common.{subst, ◌≡◌, ◌≢◌, ℕ, suc, ◌+◌, ◌-◌, ◌<◌, ◌≤◌, ◌==◌, ◌↔◌, ◌⊎◌, Bool, cond, List, [], ◌∷◌, ◌++◌, length, drop, take, replicate, get_or, set, slice_get, Some, None, refl, sym, ap, ◌∙◌, arith, inl, inr, length-set, length-append, length-drop}
+use Rattle.std.proofs.lemmas.List.{length-replicate, get_or-set_other, get_or-set_same, drop-append-le, drop-drop, take-append-drop}
+use Rattle.std.proofs.lemmas.List.Sums.{count_by-le-length}
+use Rattle.std.proofs.lemmas.Option.{slice_get_past, slice_get_within, slice_get-get_or}
+use Rattle.std.proofs.lemmas.Bool.{eq-eqb, ne_eqb, cases_eq, cases_lt}
+use Rattle.circular_buffer.specs.Buffer.{keep_last}
+use Rattle.wq_words.specs.declared.layout.Layout.{Layout}
+use Rattle.wq_words.specs.declared.event.Event.{Event}
+use Rattle.wq_words.specs.Numbers.{number_count}
+use Rattle.wq_words.specs.History.{accepted, begun, ended}
+use Rattle.wq_words.specs.Legal.{IsLegal}
+use Rattle.wq_words.specs.Keeper.{Keeper, Home, Sender, Listed, Owner, keeper}
+use Rattle.wq_words.proofs.Growing.{growing, slice_get_push, slice_get_last, slice_get_append, take_append, take_length}
+use Rattle.wq_words.proofs.Prefixes.{prefix_length, prefix_on}
+use Rattle.std.specs.List.{Contains}
+use mathlib.Core.List.{IsPrefix}
+use Rattle.wq_words.proofs.Order.{in_order}
+use Rattle.wq_words.proofs.Keepers.{queue_bit}
+use Rattle.wq_check.specs.declared.mark.Mark.{Mark}
+use Rattle.wq_check.specs.declared.mark.Mark.TheVariants.{Queue, Start, End}
+use Rattle.wq_check.specs.Trace.{unreturned, queued, started, returned, unseen, MayShow, number_of, IsLegalTrace, unbegun, unstarted, next_start}
+use Rattle.wq_check.specs.declared.cause.Cause.{Cause}
+use Rattle.wq_check.specs.declared.cause.Cause.TheVariants as cause
+use Rattle.wq_check.specs.MarkCauses.{HasMarkCause}
+use Rattle.wq_check.specs.TraceChecked.{SeenState, seen_state, LooksAfter}
+use Rattle.wq_check.proofs.Times.{Contains_from_times, none_from_times, times, times-append, times-cons, few}
+use Rattle.wq_check.proofs.Accepted.{accepted_below}
+use Rattle.wq_check.proofs.Lists.{first_left, drop_some}
+use Rattle.wq_check.proofs.Standing.{alike}
+use Rattle.wq_check.proofs.Shown.{waits_bit, trace_history}
+use Rattle.wq_check.proofs.Unshown.{Shown, shown, fewer}
+
+next_waits : (t : List Mark) (k : ℕ) → next_start t ≡ Some k → Contains (unstarted t) k
+next_waits t k is =
+    let at : unstarted t ≡ k ∷ drop (suc (length (started t))) (queued t) = drop_some (queued t) (length (started t)) k is in
+    let one : ◌≡◌ {A = ℕ} (cond (k == k) 1 0) 1 = ap (λ (b : Bool). cond b 1 0) (eq-eqb k k refl) in
+    Contains_from_times k (unstarted t) (rw at (omega (arith, one, times-cons k k (drop (suc (length (started t))) (queued t)))))
+
+-- a mark against which the marks before say something may not be shown after them
+pub refuses_mark : (t : List Mark) (m : Mark) (why : Cause) → HasMarkCause t m why → ¬ MayShow t m
+refuses_mark t (Queue k) cause.Pending is may = may is
+refuses_mark t (Start k) (cause.Runs j) is may =
+    absurd (omega (arith, may.0, slice_get_within (started t) (length (returned t)) j is))
+refuses_mark t (Start k) cause.NotWaiting is may = is.1 (next_waits t k may.1)
+refuses_mark t (Start k) (cause.Next j) is may = is.3 (cc (is.2, may.1))
+refuses_mark t (End k) cause.NothingRuns is may = absurd (omega (arith, is, slice_get_within (started t) (length (returned t)) k may))
+refuses_mark t (End k) (cause.Runs j) is may = is.1 (cc (is.0, may))
+refuses_mark t _ _ is may = absurd is
+
+-- the first of what waits is next
+abbrev pub IsNext : SeenState → ℕ → Type 0
+IsNext c k = (c.running ≡ None) × (slice_get c.waiting 0 ≡ Some k)
+
+-- the mark may be shown, by how the queue looks
+abbrev AllowsMark : SeenState → Mark → Type 0
+AllowsMark c (Queue k) = (get_or c.times k 0 ≡ 0) ⊎ ((get_or c.times k 0 ≡ 1) × IsNext c k)
+AllowsMark c (Start k) = IsNext c k
+AllowsMark c (End k) = c.running ≡ Some k
+
+-- the queue once the mark was shown
+abbrev pub after_mark : SeenState → Mark → SeenState
+after_mark c (Queue k) = record c { times = set c.times k (get_or c.times k 0 + 1); waiting = c.waiting ++ k ∷ [] }
+after_mark c (Start k) = record c { times = set c.times k (get_or c.times k 0 - 1); waiting = drop 1 c.waiting; running = Some k }
+after_mark c (End k) = record c { running = None }
+
+trace_push : (layout : Layout) (t : List Mark) (m : Mark) → IsLegalTrace layout t → (number_of m < layout.items) × MayShow t m → IsLegalTrace layout (t ++ m ∷ [])
+trace_push layout t m legal may place f at =
+    elim (slice_get_push t m f place at) [
+      | inl old ↦ rw (take_append t (m ∷ []) place f old) (legal place f old)
+      | inr new ↦ rw (new.0, take_length t (m ∷ []), ← new.1) may
+    ]
+
+-- how long the three lists are
+pub record Sizes (layout : Layout) (t : List Mark) : Type 0 where
+  pub in_turn : length (returned t) ≤ length (started t)
+  pub one : length (started t) ≤ length (returned t) + 1
+  pub known : length (started t) ≤ length (queued t)
+  pub front : IsPrefix (started t) (queued t)
+  pub room : length (drop (length (started t)) (queued t)) ≤ number_count layout + 1
+
+bit : (x : Keeper) → queue_bit x ≤ 1
+bit Home = omega arith
+bit (Sender s) = omega arith
+bit Listed = omega arith
+bit Owner = omega arith
+
+behind_few : (layout : Layout) (h : List Event) → IsLegal layout h → length (drop (length (begun h)) (accepted h)) ≤ number_count layout
+behind_few layout h legal =
+    few (drop (length (begun h)) (accepted h)) (number_count layout) (λ q. omega (arith, waits_bit layout h legal q, bit (keeper h q))) below
+  where
+    below : (q : ℕ) → 1 ≤ times q (drop (length (begun h)) (accepted h)) → q < number_count layout
+    below q some = accepted_below layout h legal q (omega (arith, some, more))
+      where
+        more : times q (drop (length (begun h)) (accepted h)) ≤ times q (accepted h)
+        more = omega (
+          arith,
+          ap (times q) (sym (take-append-drop (length (begun h)) (accepted h))) ∙ times-append q (take (length (begun h)) (accepted h)) (drop (length (begun h)) (accepted h)),
+        )
+
+sizes : (layout : Layout) (t : List Mark) → IsLegalTrace layout t → Sizes layout t
+sizes layout t legal =
+    let has = trace_history layout t legal in
+    let o = shown layout t has.0 has.2 has.1 in
+    let i = in_order layout has.0 has.1 in
+    let all : length (begun has.0) ≡ length (started t) + length o.early = ap length o.started_is ∙ length-append (started t) o.early in
+    let back = ap length o.returned_is in
+    let known = ap length o.queued_is in
+    let fits = behind_few layout has.0 has.1 in
+    let rest : length (drop (length (begun has.0)) (accepted has.0)) ≡ length (accepted has.0) - length (begun has.0) = length-drop _ _ in
+    let rest' : length (drop (length (started t)) (queued t)) ≡ length (queued t) - length (started t) = length-drop _ _ in
+    record {
+      in_turn = ordered t o (omega (arith, all, back, prefix_length (ended has.0) (begun has.0) i.ended_first));
+      one = omega (arith, all, back, i.one_at_a_time);
+      known = omega (arith, all, known, prefix_length (begun has.0) (accepted has.0) i.begun_first);
+      front = subst (λ xs. IsPrefix (started t) xs) o.queued_is (prefix_on (started t) (begun has.0) (accepted has.0) (o.early, sym o.started_is) i.begun_first);
+      room = omega (arith, rest, rest', fits, all, known, o.few);
+    }
+  where
+    ordered : (u : List Mark) {h : List Event} (o : Shown u h) → length (returned u) ≤ length (started u) + length o.early → length (returned u) ≤ length (started u)
+    ordered u o le = elim (cases_lt (length o.early) 1) [
+      | inl less ↦ omega arith
+      | inr some ↦ omega (arith, o.idle (omega (arith, some)))
+    ]
+
+-- behind the first stands none, exactly where none stands at all or only the first
+behind : (k : ℕ) (w : List ℕ) → (times k (drop 1 w) ≡ 0) ↔ ((times k w ≡ 0) ⊎ ((times k w ≡ 1) × (slice_get w 0 ≡ Some k)))
+behind k [] = (λ none. inl none, λ any. refl)
+behind k (x ∷ w) = elim (cases_eq x k) [
+  | inl same ↦
+      let one : ◌≡◌ {A = ℕ} (cond (x == k) 1 0) 1 = ap (λ (b : Bool). cond b 1 0) (eq-eqb x k same) in
+      let all = times-cons k x w in
+      (λ none. inr (omega (arith, all, one, none), ap Some same), λ any. elim any [ inl zero' ↦ absurd (omega (arith, all, one, zero')) | inr first ↦ omega (arith, all, one, first.0) ])
+  | inr ne ↦
+      let none' : ◌≡◌ {A = ℕ} (cond (x == k) 1 0) 0 = ap (λ (b : Bool). cond b 1 0) (ne_eqb x k ne) in
+      let all = times-cons k x w in
+      (λ none. inl (omega (arith, all, none', none)), λ any. elim any [ inl zero' ↦ omega (arith, all, zero') | inr first ↦ absurd (ne (cc (first.1))) ])
+]
+
+module _ (c : SeenState) (t : List Mark) (o : LooksAfter c t) where
+  lengths : Sizes c.layout t
+  lengths = sizes c.layout t o.legal
+
+  pub idle-rests : (c.running ≡ None) ↔ (length (started t) ≡ length (returned t))
+  idle-rests = (
+    λ none. elim (cases_lt (length (returned t)) (length (started t))) [
+      | inl lt ↦ let some = slice_get-get_or (started t) (length (returned t)) 0 lt in absurd (cc (some, o.running_is, none))
+      | inr ge ↦ omega (arith, lengths.in_turn)
+    ],
+    λ same. o.running_is ∙ slice_get_past (started t) (length (returned t)) (omega (arith, same)),
+  )
+
+  pub next_is : slice_get c.waiting 0 ≡ slice_get (queued t) (length (started t))
+  next_is = ap (λ w. slice_get w 0) o.waiting_is ∙ first_left (length (started t)) (queued t)
+
+  passed_over : (k : ℕ) → times k (unbegun t) ≡ times k (drop (unseen t) c.waiting)
+  passed_over k = ap (times k) (sym (drop-drop (unseen t) (length (started t)) (queued t)) ∙ ap (drop (unseen t)) (sym o.waiting_is))
+
+  seen_one : length (started t) ≡ length (returned t) → unseen t ≡ 1
+  seen_one e = rw (eq-eqb _ _ e) refl
+
+  seen_none : length (started t) ≢ length (returned t) → unseen t ≡ 0
+  seen_none ne = rw (ne_eqb _ _ ne) refl
+
+  queue-to : (k : ℕ) → k < c.layout.items → AllowsMark c (Queue k) → times k (unbegun t) ≡ 0
+  queue-to k lt (inl none) =
+      let zero' : times k (drop (length (started t)) (queued t)) ≡ 0 = ap (times k) (sym o.waiting_is) ∙ (sym (o.times_are k lt) ∙ none) in
+      fewer k (length (started t)) (unseen t) (queued t) zero'
+  queue-to k lt (inr first) =
+      let one = seen_one (idle-rests.0 first.1.0) in
+      passed_over k ∙ (ap (λ n. times k (drop n c.waiting)) one ∙ (behind k c.waiting).1 (inr (sym (o.times_are k lt) ∙ first.0, first.1.1)))
+
+  queue-from : (k : ℕ) → k < c.layout.items → times k (unbegun t) ≡ 0 → AllowsMark c (Queue k)
+  queue-from k lt may =
+      elim (cases_eq (length (started t)) (length (returned t))) [
+        | inr ne ↦ inl (o.times_are k lt ∙ (ap (λ n. times k (drop n c.waiting)) (sym (seen_none ne)) ∙ (sym (passed_over k) ∙ may)))
+        | inl e ↦
+            let none : times k (drop 1 c.waiting) ≡ 0 = ap (λ n. times k (drop n c.waiting)) (sym (seen_one e)) ∙ (sym (passed_over k) ∙ may) in
+            elim ((behind k c.waiting).0 none) [
+              | inl zero' ↦ inl (o.times_are k lt ∙ zero')
+              | inr first ↦ inr (o.times_are k lt ∙ first.0, (idle-rests.1 e, first.1))
+            ]
+      ]
+
+  pub queue_none : (k : ℕ) → k < c.layout.items → get_or c.times k 0 ≡ 0 → MayShow t (Queue k)
+  queue_none k lt none = none_from_times k (unbegun t) (queue-to k lt (inl none))
+
+  pub queue_next : (k : ℕ) → k < c.layout.items → get_or c.times k 0 ≡ 1 → IsNext c k → MayShow t (Queue k)
+  queue_next k lt one first = none_from_times k (unbegun t) (queue-to k lt (inr (one, first)))
+
+  queue_refused : (k : ℕ) → k < c.layout.items → (AllowsMark c (Queue k) → ⊥) → Contains (unbegun t) k
+  queue_refused k lt refused = elim (cases_lt (times k (unbegun t)) 1) [
+    | inl less ↦ absurd (refused (queue-from k lt (omega (arith, less))))
+    | inr some ↦ Contains_from_times k (unbegun t) some
+  ]
+
+  pub queue_again : (k : ℕ) → k < c.layout.items → get_or c.times k 0 ≢ 0 → ¬ IsNext c k → Contains (unbegun t) k
+  queue_again k lt some behind = queue_refused k lt (λ a. elim a [ inl none ↦ some none | inr first ↦ behind first.1 ])
+
+  pub queue_twice : (k : ℕ) → k < c.layout.items → get_or c.times k 0 ≢ 0 → get_or c.times k 0 ≢ 1 → Contains (unbegun t) k
+  queue_twice k lt some more = queue_refused k lt (λ a. elim a [ inl none ↦ some none | inr first ↦ more first.0 ])
+
+  pub waits_none : (k : ℕ) → k < c.layout.items → get_or c.times k 0 ≡ 0 → ¬ Contains (unstarted t) k
+  waits_none k lt none = none_from_times k (unstarted t) (ap (times k) (sym o.waiting_is) ∙ (sym (o.times_are k lt) ∙ none))
+
+  pub waits_some : (k : ℕ) → k < c.layout.items → get_or c.times k 0 ≢ 0 → Contains (unstarted t) k
+  waits_some k lt some = elim (cases_lt (times k (unstarted t)) 1) [
+    | inl less ↦ absurd (some (o.times_are k lt ∙ (ap (times k) o.waiting_is ∙ omega (arith, less))))
+    | inr one ↦ Contains_from_times k (unstarted t) one
+  ]
+
+  -- something waits, so there is a first
+  pub first_of : (k : ℕ) → Contains (unstarted t) k → slice_get c.waiting 0 ≡ None → ⊥
+  first_of k is none = nothing c.waiting (rw (← o.waiting_is) at is) none
+    where
+      nothing : (xs : List ℕ) → Contains xs k → slice_get xs 0 ≡ None → ⊥
+      nothing [] at none = absurd (omega (arith, at.1))
+      nothing (x ∷ xs) at none = cc
+
+  -- what is left is what waits, behind what runs
+  pub left_rests : c.running ≡ None → unreturned t ≡ c.waiting
+  left_rests none = ap (λ n. drop n (queued t)) (sym (idle-rests.0 none)) ∙ sym o.waiting_is
+
+  pub left_runs : (k : ℕ) → c.running ≡ Some k → unreturned t ≡ k ∷ c.waiting
+  left_runs k runs =
+      let at : slice_get (started t) (length (returned t)) ≡ Some k = sym o.running_is ∙ runs in
+      let within : length (returned t) < length (started t) = slice_get_within (started t) (length (returned t)) k at in
+      let same : length (started t) ≡ suc (length (returned t)) = omega (arith, within, lengths.one) in
+      let there : slice_get (queued t) (length (returned t)) ≡ Some k =
+      ap (λ xs. slice_get xs (length (returned t))) (sym lengths.front.1) ∙ slice_get_append (started t) lengths.front.0 (length (returned t)) k at in
+      drop_some (queued t) (length (returned t)) k there ∙ ap (λ xs. k ∷ xs) (ap (λ n. drop n (queued t)) (sym same) ∙ sym o.waiting_is)
+
+  -- how often each stands, once the number k is put behind or the first goes
+  stood : (k : ℕ) → k < c.layout.items → (j : ℕ) → j < c.layout.items → get_or (set c.times k (get_or c.times k 0 + 1)) j 0 ≡ times j (c.waiting ++ k ∷ [])
+  stood k lt j small =
+      let all : times j (c.waiting ++ k ∷ []) ≡ times j c.waiting + cond (k == j) 1 0 = omega (arith, times-append j c.waiting (k ∷ []), times-cons j k []) in
+      elim (cases_eq j k) [
+        | inl same ↦
+            let one : ◌≡◌ {A = ℕ} (cond (k == j) 1 0) 1 = ap (λ (b : Bool). cond b 1 0) (eq-eqb k j (sym same)) in
+            let here : get_or (set c.times k (get_or c.times k 0 + 1)) j 0 ≡ get_or c.times k 0 + 1 =
+            ap (λ i. get_or (set c.times k (get_or c.times k 0 + 1)) i 0) same ∙ get_or-set_same c.times k _ 0 (omega (arith, o.has_times)) in
+            omega (arith, here, all, one, o.times_are k lt, ap (λ i. times i c.waiting) same)
+        | inr ne ↦
+            let none : ◌≡◌ {A = ℕ} (cond (k == j) 1 0) 0 = ap (λ (b : Bool). cond b 1 0) (ne_eqb k j (λ e. ne (sym e))) in
+            omega (arith, get_or-set_other c.times k j (get_or c.times k 0 + 1) 0 ne, all, none, o.times_are j small)
+      ]
+
+  first_counts : (w : List ℕ) (k j : ℕ) → slice_get w 0 ≡ Some k → times j w ≡ cond (k == j) 1 0 + times j (drop 1 w)
+  first_counts [] k j at = absurd cc
+  first_counts (x ∷ w) k j at = let same : x ≡ k = cc (at) in rw (← same) (times-cons j x w)
+
+  went : (k : ℕ) → k < c.layout.items → slice_get c.waiting 0 ≡ Some k
+      → (j : ℕ) → j < c.layout.items → get_or (set c.times k (get_or c.times k 0 - 1)) j 0 ≡ times j (drop 1 c.waiting)
+  went k lt at j small =
+      let all = first_counts c.waiting k j at in
+      elim (cases_eq j k) [
+        | inl same ↦
+            let one : ◌≡◌ {A = ℕ} (cond (k == j) 1 0) 1 = ap (λ (b : Bool). cond b 1 0) (eq-eqb k j (sym same)) in
+            let here : get_or (set c.times k (get_or c.times k 0 - 1)) j 0 ≡ get_or c.times k 0 - 1 =
+            ap (λ i. get_or (set c.times k (get_or c.times k 0 - 1)) i 0) same ∙ get_or-set_same c.times k _ 0 (omega (arith, o.has_times)) in
+            omega (arith, here, all, one, o.times_are k lt, ap (λ i. times i c.waiting) same)
+        | inr ne ↦
+            let none : ◌≡◌ {A = ℕ} (cond (k == j) 1 0) 0 = ap (λ (b : Bool). cond b 1 0) (ne_eqb k j (λ e. ne (sym e))) in
+            omega (arith, get_or-set_other c.times k j (get_or c.times k 0 - 1) 0 ne, all, none, o.times_are j small)
+      ]
+
+  pub stands_first : (k : ℕ) → k < c.layout.items → next_start t ≡ Some k → 1 ≤ get_or c.times k 0
+  stands_first k lt is =
+      let at : slice_get c.waiting 0 ≡ Some k = next_is ∙ is in
+      let one : ◌≡◌ {A = ℕ} (cond (k == k) 1 0) 1 = ap (λ (b : Bool). cond b 1 0) (eq-eqb k k refl) in
+      omega (arith, first_counts c.waiting k k at, one, o.times_are k lt)
+
+  pub mark_kept : (m : Mark) → (number_of m < c.layout.items) × MayShow t m → LooksAfter (after_mark c m) (t ++ m ∷ [])
+  mark_kept (Queue k) may = record {
+    legal = trace_push c.layout t (Queue k) o.legal may;
+    has_times = length-set c.times k _ ∙ o.has_times;
+    times_are = stood k may.0;
+    waiting_is = simp growing (ap (λ w. w ++ k ∷ []) o.waiting_is ∙ sym (drop-append-le (length (started t)) (queued t) (k ∷ []) lengths.known));
+    running_is = simp growing o.running_is;
+  }
+  mark_kept (Start k) may =
+      let rests = may.1.0 in
+      record {
+        legal = trace_push c.layout t (Start k) o.legal may;
+        has_times = length-set c.times k _ ∙ o.has_times;
+        times_are = went k may.0 (next_is ∙ may.1.1);
+        waiting_is = simp growing (ap (drop 1) o.waiting_is ∙ (drop-drop 1 (length (started t)) (queued t)
+            ∙ ap (λ n. drop n (queued t)) (sym (length-append (started t) (k ∷ [])))));
+        running_is = simp growing (sym (ap (slice_get (started t ++ k ∷ [])) (sym rests) ∙ slice_get_last (started t) k []));
+      }
+  mark_kept (End k) may = record {
+    legal = trace_push c.layout t (End k) o.legal may;
+    has_times = o.has_times;
+    times_are = o.times_are;
+    waiting_is = simp growing o.waiting_is;
+    running_is = simp growing (sym (slice_get_past (started t) (length (returned t ++ k ∷ [])) (omega (arith, length-append (returned t) (k ∷ []), lengths.one))));
+  }
+
+  pub room_left : length c.waiting ≤ number_count c.layout + 1
+  room_left = omega (arith, ap length o.waiting_is, lengths.room)
+
+  -- an item waits no more often than there is room
+  pub times_small : (k : ℕ) → k < c.layout.items → get_or c.times k 0 ≤ number_count c.layout + 1
+  times_small k lt = omega (arith, o.times_are k lt, count_by-le-length (λ j. j == k) c.waiting, room_left)
+
+-- each mark that may be shown is followed
+module _ (c : SeenState) (n : ℕ) (t : List Mark) (o : LooksAfter c t) (m : Mark) (size : n ≡ number_count c.layout + 1)
+    (may : (number_of m < c.layout.items) × MayShow t m) where
+  pub mark_on : (after_mark c m).layout ≡ c.layout → (n ≡ number_count (after_mark c m).layout + 1) × ((u : List Mark) × LooksAfter (after_mark c m) u)
+  mark_on same = (size ∙ ap (λ l. number_count l + 1) (sym same), (t ++ m ∷ [], mark_kept c t o m may))
+
+  pub finds_place : (j : ℕ) → (after_mark c m).waiting ≡ c.waiting ++ j ∷ [] → (after_mark c m).layout ≡ c.layout
+      → keep_last n (c.waiting ++ j ∷ []) ≡ c.waiting ++ j ∷ []
+  finds_place j grows same =
+      let fits = room_left (after_mark c m) (t ++ m ∷ []) (mark_kept c t o m may) in
+      let none : length (c.waiting ++ j ∷ []) - n ≡ 0 = omega (arith, fits, size, ap length grows, ap number_count same) in
+      ap (λ i. drop i (c.waiting ++ j ∷ [])) none
+
+pub looks_opening : (layout : Layout) → LooksAfter (seen_state layout (replicate layout.items 0) [] None) []
+looks_opening layout = record {
+  legal = λ place m at. absurd cc;
+  has_times = length-replicate _ _;
+  times_are = λ k lt. alike layout.items k 0;
+  waiting_is = refl;
+  running_is = refl;
+}

@@ -1,0 +1,60 @@
+-- What a checker keeps of the history that it was told.
+use Rattle.std.specs.Prelude.{◌≡◌, ℕ, ◌<◌, Bool, List, length, get_or, Option, MatchOption}
+use Rattle.wq_words.specs.declared.layout.Layout.{Layout}
+use Rattle.wq_words.specs.declared.event.Event.{Event}
+use Rattle.wq_words.specs.Numbers.{number_count}
+use Rattle.wq_words.specs.History.{running, closed}
+use Rattle.wq_words.specs.Legal.{MayFollow, IsLegal}
+use Rattle.wq_words.specs.Keeper.{Keeper, Home, Sender, Listed, Owner, keeper}
+use Rattle.wq_check.specs.declared.cause.Cause.{Cause}
+use Rattle.wq_check.specs.declared.counts.Counts.{Counts}
+use Rattle.wq_check.specs.declared.queue.Place.{Place}
+use Rattle.wq_check.specs.declared.queue.Place.TheVariants.{Idle, Held, Waiting}
+use Rattle.wq_check.specs.Left.{waiting}
+use Rattle.wq_check.specs.Causes.{HasCause}
+use Rattle.wq_check.specs.Report.{counts_of}
+
+-- where each number stands, which wait, oldest first, which runs, and whether the queue is closed
+pub record QueueState : Type 0 where
+  pub layout : Layout
+  pub places : List Place
+  pub waiting : List ℕ
+  pub running : Option ℕ
+  pub closed : Bool
+
+abbrev pub queue_state : Layout → List Place → List ℕ → Option ℕ → Bool → QueueState
+queue_state layout places waiting running closed =
+    record { layout = layout; places = places; waiting = waiting; running = running; closed = closed }
+
+-- where a number stands by its keeper
+abbrev pub place_of : Keeper → Place
+place_of Home = Idle
+place_of (Sender s) = Held s
+place_of Listed = Waiting
+place_of Owner = Waiting
+
+-- the queue stands so after the legal history h
+pub record StandsAfter (q : QueueState) (h : List Event) : Type 0 where
+  pub legal : IsLegal q.layout h
+  pub has_places : length q.places ≡ number_count q.layout
+  pub places_are : (k : ℕ) → k < number_count q.layout → get_or q.places k Idle ≡ place_of (keeper h k)
+  pub waiting_is : q.waiting ≡ waiting h
+  pub running_is : q.running ≡ running h
+  pub closed_is : q.closed ≡ closed h
+
+-- the answer says whether the event may come after each history after which the queue stands so, and else the cause
+abbrev pub Judges : QueueState → Event → Option Cause → Type 0
+Judges q e answer = (h : List Event) → StandsAfter q h → MatchOption answer (MayFollow h e) (HasCause h e)
+
+-- what a clause sees of a checker: how the queue stands, and what was counted
+pub record CheckerState : Type 0 where
+  pub queue : QueueState
+  pub counts : Counts
+
+abbrev pub checker_state : QueueState → Counts → CheckerState
+checker_state queue counts = record { queue = queue; counts = counts }
+
+-- it was told the legal history h
+pub record IsAfter (c : CheckerState) (h : List Event) : Type 0 where
+  pub stands : StandsAfter c.queue h
+  pub counted : c.counts ≡ counts_of h

@@ -1,0 +1,9 @@
+pub mod Left
+pub mod Causes
+pub mod Report
+pub mod Checked
+pub mod Trace
+pub mod Shows
+pub mod MarkCauses
+pub mod TraceReport
+pub mod TraceChecked

@@ -1,0 +1,19 @@
+-- What a checker reports of a trace.
+use Rattle.std.specs.Prelude.{List, length}
+use Rattle.wq_check.specs.declared.mark.Mark.{Mark}
+use Rattle.wq_check.specs.declared.mark_counts.MarkCounts.{MarkCounts}
+use Rattle.wq_check.specs.declared.mark_counts.TraceReport.{TraceReport}
+use Rattle.wq_check.specs.Trace.{queued, started, returned, unreturned, most_unstarted}
+use Rattle.wq_check.specs.Report.{stopped}
+
+abbrev pub mark_counts_of : List Mark → MarkCounts
+mark_counts_of t = record {
+  marks = stopped (length t);
+  queued = stopped (length (queued t));
+  started = stopped (length (started t));
+  ended = stopped (length (returned t));
+  most_waiting = most_unstarted t;
+}
+
+abbrev pub trace_report_of : List Mark → TraceReport
+trace_report_of t = record { counts = mark_counts_of t; left = length (unreturned t) }
