@@ -1,5 +1,5 @@
 pub mod Times
-pub mod Accepted
+pub mod Waits
 pub mod Lists
 pub mod Standing
 pub mod Shown

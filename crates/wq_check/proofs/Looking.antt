@@ -1,6 +1,6 @@
 -- How a queue looks tells of each next mark whether it may be shown, and follows it.
-use Rattle.std.proofs.Common.{subst, ◌≡◌, ◌≢◌, ℕ, suc, ◌+◌, ◌-◌, ◌<◌, ◌≤◌, ◌==◌, ◌↔◌, ◌⊎◌, Bool, cond, List, [], ◌∷◌, ◌++◌, length, drop, take, replicate, get_or, set, slice_get, Some, None, refl, sym, ap, ◌∙◌, arith, inl, inr, length-set, length-append, length-drop}
-use Rattle.std.proofs.lemmas.List.{length-replicate, get_or-set_other, get_or-set_same, drop-append-le, drop-drop, take-append-drop}
+use Rattle.std.proofs.Common.{subst, ◌≡◌, ◌≢◌, ℕ, suc, ◌+◌, ◌-◌, ◌<◌, ◌≤◌, ◌==◌, ◌↔◌, ◌⊎◌, Bool, cond, List, [], ◌∷◌, ◌++◌, length, drop, replicate, get_or, set, slice_get, Some, None, refl, sym, ap, ◌∙◌, arith, inl, inr, length-set, length-append, length-drop}
+use Rattle.std.proofs.lemmas.List.{length-replicate, get_or-set_other, get_or-set_same, drop-append-le, drop-drop}
 use Rattle.std.proofs.lemmas.List.Sums.{count_by-le-length}
 use Rattle.std.proofs.lemmas.Option.{slice_get_past, slice_get_within, slice_get-get_or}
 use Rattle.std.proofs.lemmas.Bool.{eq-eqb, ne_eqb, cases_eq, cases_lt}
@@ -9,26 +9,23 @@ use Rattle.wq_words.specs.declared.layout.Layout.{Layout}
 use Rattle.wq_words.specs.declared.event.Event.{Event}
 use Rattle.wq_words.specs.Numbers.{number_count}
 use Rattle.wq_words.specs.History.{accepted, begun, ended}
-use Rattle.wq_words.specs.Legal.{IsLegal}
-use Rattle.wq_words.specs.Keeper.{Keeper, Home, Sender, Listed, Owner, keeper}
 use Rattle.wq_words.proofs.Growing.{growing, slice_get_push, slice_get_last, slice_get_append, take_append, take_length}
 use Rattle.wq_words.proofs.Prefixes.{prefix_length, prefix_on}
 use Rattle.std.specs.List.{Contains}
 use mathlib.Core.List.{IsPrefix}
 use Rattle.wq_words.proofs.Order.{in_order}
-use Rattle.wq_words.proofs.Keepers.{queue_bit}
 use Rattle.wq_check.specs.declared.mark.Mark.{Mark}
 use Rattle.wq_check.specs.declared.mark.Mark.TheVariants.{Queue, Start, End}
-use Rattle.wq_check.specs.Trace.{unreturned, queued, started, returned, unseen, MayShow, number_of, IsLegalTrace, unbegun, unstarted, next_start}
+use Rattle.wq_check.specs.Trace.{unreturned, queued, started, returned, unseen, MayShow, number_of, IsLegalTrace, surely_unbegun, unstarted, next_start}
 use Rattle.wq_check.specs.declared.cause.Cause.{Cause}
 use Rattle.wq_check.specs.declared.cause.Cause.TheVariants as cause
 use Rattle.wq_check.specs.MarkCauses.{HasMarkCause}
 use Rattle.wq_check.specs.TraceChecked.{SeenState, seen_state, LooksAfter}
-use Rattle.wq_check.proofs.Times.{Contains_from_times, none_from_times, times, times-append, times-cons, few}
-use Rattle.wq_check.proofs.Accepted.{accepted_below}
+use Rattle.wq_check.proofs.Times.{Contains_from_times, none_from_times, times, times-append, times-cons}
+use Rattle.wq_check.proofs.Waits.{few_unbegun}
 use Rattle.wq_check.proofs.Lists.{first_left, drop_some}
 use Rattle.wq_check.proofs.Standing.{alike}
-use Rattle.wq_check.proofs.Shown.{waits_bit, trace_history}
+use Rattle.wq_check.proofs.Shown.{trace_history}
 use Rattle.wq_check.proofs.Unshown.{Shown, shown, fewer}
 
 next_waits : (t : List Mark) (k : ℕ) → next_start t ≡ Some k → Contains (unstarted t) k
@@ -79,25 +76,6 @@ pub record Sizes (layout : Layout) (t : List Mark) : Type 0 where
   pub front : IsPrefix (started t) (queued t)
   pub room : length (drop (length (started t)) (queued t)) ≤ number_count layout + 1
 
-bit : (x : Keeper) → queue_bit x ≤ 1
-bit Home = omega arith
-bit (Sender s) = omega arith
-bit Listed = omega arith
-bit Owner = omega arith
-
-behind_few : (layout : Layout) (h : List Event) → IsLegal layout h → length (drop (length (begun h)) (accepted h)) ≤ number_count layout
-behind_few layout h legal =
-    few (drop (length (begun h)) (accepted h)) (number_count layout) (λ q. omega (arith, waits_bit layout h legal q, bit (keeper h q))) below
-  where
-    below : (q : ℕ) → 1 ≤ times q (drop (length (begun h)) (accepted h)) → q < number_count layout
-    below q some = accepted_below layout h legal q (omega (arith, some, more))
-      where
-        more : times q (drop (length (begun h)) (accepted h)) ≤ times q (accepted h)
-        more = omega (
-          arith,
-          ap (times q) (sym (take-append-drop (length (begun h)) (accepted h))) ∙ times-append q (take (length (begun h)) (accepted h)) (drop (length (begun h)) (accepted h)),
-        )
-
 sizes : (layout : Layout) (t : List Mark) → IsLegalTrace layout t → Sizes layout t
 sizes layout t legal =
     let has = trace_history layout t legal in
@@ -106,7 +84,7 @@ sizes layout t legal =
     let all : length (begun has.0) ≡ length (started t) + length o.early = ap length o.started_is ∙ length-append (started t) o.early in
     let back = ap length o.returned_is in
     let known = ap length o.queued_is in
-    let fits = behind_few layout has.0 has.1 in
+    let fits = few_unbegun layout has.0 has.1 in
     let rest : length (drop (length (begun has.0)) (accepted has.0)) ≡ length (accepted has.0) - length (begun has.0) = length-drop _ _ in
     let rest' : length (drop (length (started t)) (queued t)) ≡ length (queued t) - length (started t) = length-drop _ _ in
     record {
@@ -153,7 +131,7 @@ module _ (c : SeenState) (t : List Mark) (o : LooksAfter c t) where
   pub next_is : slice_get c.waiting 0 ≡ slice_get (queued t) (length (started t))
   next_is = ap (λ w. slice_get w 0) o.waiting_is ∙ first_left (length (started t)) (queued t)
 
-  passed_over : (k : ℕ) → times k (unbegun t) ≡ times k (drop (unseen t) c.waiting)
+  passed_over : (k : ℕ) → times k (surely_unbegun t) ≡ times k (drop (unseen t) c.waiting)
   passed_over k = ap (times k) (sym (drop-drop (unseen t) (length (started t)) (queued t)) ∙ ap (drop (unseen t)) (sym o.waiting_is))
 
   seen_one : length (started t) ≡ length (returned t) → unseen t ≡ 1
@@ -162,7 +140,7 @@ module _ (c : SeenState) (t : List Mark) (o : LooksAfter c t) where
   seen_none : length (started t) ≢ length (returned t) → unseen t ≡ 0
   seen_none ne = rw (ne_eqb _ _ ne) refl
 
-  queue-to : (k : ℕ) → k < c.layout.items → AllowsMark c (Queue k) → times k (unbegun t) ≡ 0
+  queue-to : (k : ℕ) → k < c.layout.items → AllowsMark c (Queue k) → times k (surely_unbegun t) ≡ 0
   queue-to k lt (inl none) =
       let zero' : times k (drop (length (started t)) (queued t)) ≡ 0 = ap (times k) (sym o.waiting_is) ∙ (sym (o.times_are k lt) ∙ none) in
       fewer k (length (started t)) (unseen t) (queued t) zero'
@@ -170,7 +148,7 @@ module _ (c : SeenState) (t : List Mark) (o : LooksAfter c t) where
       let one = seen_one (idle-rests.0 first.1.0) in
       passed_over k ∙ (ap (λ n. times k (drop n c.waiting)) one ∙ (behind k c.waiting).1 (inr (sym (o.times_are k lt) ∙ first.0, first.1.1)))
 
-  queue-from : (k : ℕ) → k < c.layout.items → times k (unbegun t) ≡ 0 → AllowsMark c (Queue k)
+  queue-from : (k : ℕ) → k < c.layout.items → times k (surely_unbegun t) ≡ 0 → AllowsMark c (Queue k)
   queue-from k lt may =
       elim (cases_eq (length (started t)) (length (returned t))) [
         | inr ne ↦ inl (o.times_are k lt ∙ (ap (λ n. times k (drop n c.waiting)) (sym (seen_none ne)) ∙ (sym (passed_over k) ∙ may)))
@@ -183,21 +161,21 @@ module _ (c : SeenState) (t : List Mark) (o : LooksAfter c t) where
       ]
 
   pub queue_none : (k : ℕ) → k < c.layout.items → get_or c.times k 0 ≡ 0 → MayShow t (Queue k)
-  queue_none k lt none = none_from_times k (unbegun t) (queue-to k lt (inl none))
+  queue_none k lt none = none_from_times k (surely_unbegun t) (queue-to k lt (inl none))
 
   pub queue_next : (k : ℕ) → k < c.layout.items → get_or c.times k 0 ≡ 1 → IsNext c k → MayShow t (Queue k)
-  queue_next k lt one first = none_from_times k (unbegun t) (queue-to k lt (inr (one, first)))
+  queue_next k lt one first = none_from_times k (surely_unbegun t) (queue-to k lt (inr (one, first)))
 
-  queue_refused : (k : ℕ) → k < c.layout.items → (AllowsMark c (Queue k) → ⊥) → Contains (unbegun t) k
-  queue_refused k lt refused = elim (cases_lt (times k (unbegun t)) 1) [
+  queue_refused : (k : ℕ) → k < c.layout.items → (AllowsMark c (Queue k) → ⊥) → Contains (surely_unbegun t) k
+  queue_refused k lt refused = elim (cases_lt (times k (surely_unbegun t)) 1) [
     | inl less ↦ absurd (refused (queue-from k lt (omega (arith, less))))
-    | inr some ↦ Contains_from_times k (unbegun t) some
+    | inr some ↦ Contains_from_times k (surely_unbegun t) some
   ]
 
-  pub queue_again : (k : ℕ) → k < c.layout.items → get_or c.times k 0 ≢ 0 → ¬ IsNext c k → Contains (unbegun t) k
+  pub queue_again : (k : ℕ) → k < c.layout.items → get_or c.times k 0 ≢ 0 → ¬ IsNext c k → Contains (surely_unbegun t) k
   queue_again k lt some behind = queue_refused k lt (λ a. elim a [ inl none ↦ some none | inr first ↦ behind first.1 ])
 
-  pub queue_twice : (k : ℕ) → k < c.layout.items → get_or c.times k 0 ≢ 0 → get_or c.times k 0 ≢ 1 → Contains (unbegun t) k
+  pub queue_twice : (k : ℕ) → k < c.layout.items → get_or c.times k 0 ≢ 0 → get_or c.times k 0 ≢ 1 → Contains (surely_unbegun t) k
   queue_twice k lt some more = queue_refused k lt (λ a. elim a [ inl none ↦ some none | inr first ↦ more first.0 ])
 
   pub waits_none : (k : ℕ) → k < c.layout.items → get_or c.times k 0 ≡ 0 → ¬ Contains (unstarted t) k

@@ -1,6 +1,6 @@
 -- A trace that keeps to its rules shows a legal history.
 use Rattle.std.proofs.Common.{◌≡◌, ◌≢◌, ℕ, zero, suc, ◌+◌, ◌<◌, ◌≤◌, ◌==◌, Bool, true, cond, List, [], ◌∷◌, ◌++◌, length, drop, slice_get, Some, refl, sym, ap, ◌∙◌, arith, inl, inr, subst, append_assoc, length-append, count_by}
-use Rattle.std.proofs.lemmas.List.{append-nil, drop_at}
+use Rattle.std.proofs.lemmas.List.{append-nil}
 use Rattle.std.proofs.lemmas.Bool.{eq-eqb, ne_eqb, cases_eq, cases_lt}
 use Rattle.std.proofs.lemmas.Option.{slice_get_within}
 use Rattle.wq_words.specs.declared.layout.Layout.{Layout}
@@ -18,9 +18,10 @@ use Rattle.wq_words.proofs.Places.{keeps_from_keeper}
 use Rattle.wq_words.proofs.Appended.{count_by-append}
 use Rattle.wq_check.specs.declared.mark.Mark.{Mark}
 use Rattle.wq_check.specs.declared.mark.Mark.TheVariants.{Queue, Start, End}
-use Rattle.wq_check.specs.Trace.{queued, started, returned, unseen, MayShow, number_of, IsLegalTrace, unbegun}
-use Rattle.wq_check.specs.Shows.{Shows, nothing, hides, queues, begins, starts, ends, HasHistory}
-use Rattle.wq_check.proofs.Times.{times_from_none, times, times-append, times-cons}
+use Rattle.wq_check.specs.Trace.{queued, started, returned, unseen, MayShow, number_of, IsLegalTrace, surely_unbegun}
+use Rattle.wq_check.specs.Shows.{Shows, nothing, hides, queues, begins, starts, ends, HasLegalHistory}
+use Rattle.wq_check.proofs.Waits.{waits_bit}
+use Rattle.wq_check.proofs.Times.{times_from_none, times, times-cons}
 
 -- the history shows the trace, and at most one execution has begun whose start was not seen
 pub record Tells (layout : Layout) (t : List Mark) (h : List Event) : Type 0 where
@@ -34,15 +35,6 @@ pub record Tells (layout : Layout) (t : List Mark) (h : List Event) : Type 0 whe
   pub idle : 0 < length early → length (started t) ≡ length (returned t)
   pub free : (s k : ℕ) → ¬ Holds h s k
   pub opens : ¬ IsClosed h
-
--- how often a number waits, by its keeper
-pub waits_bit : (layout : Layout) (h : List Event) → IsLegal layout h → (k : ℕ) → times k (drop (length (begun h)) (accepted h)) ≡ queue_bit (keeper h k)
-waits_bit layout h legal k =
-    let front = (in_order layout h legal).begun_first in
-    let rest : drop (length (begun h)) (accepted h) ≡ front.0 = ap (drop (length (begun h))) (sym front.1) ∙ drop_at (begun h) front.0 (length (begun h)) refl in
-    let all : times k (accepted h) ≡ times k (begun h) + times k front.0 = ap (times k) (sym front.1) ∙ times-append k (begun h) front.0 in
-    let keeps : times k (accepted h) ≡ times k (begun h) + queue_bit (keeper h k) = (kept layout h legal 0 k).2 in
-    ap (times k) rest ∙ omega arith
 
 module _ (layout : Layout) (h : List Event) (legal : IsLegal layout h) (k : ℕ) where
   by_keeper : (x : Keeper) → keeper h k ≡ x → ((s : ℕ) → ¬ Holds h s k) → queue_bit x ≡ 0 → ¬ IsPending h k
@@ -210,7 +202,7 @@ module _ (layout : Layout) (t : List Mark) (h : List Event) (o : Tells layout t 
 
   -- where as many are passed over as have begun, a number that may be queued does not wait
   waits_none : (k : ℕ) → MayShow t (Queue k) → length (begun h) ≡ length (started t) + unseen t → times k (drop (length (begun h)) (accepted h)) ≡ 0
-  waits_none k may same = ap (λ n. times k (drop n (accepted h))) same ∙ (ap (λ xs. times k (drop (length (started t) + unseen t) xs)) o.queued_is ∙ times_from_none k (unbegun t) may)
+  waits_none k may same = ap (λ n. times k (drop n (accepted h))) same ∙ (ap (λ xs. times k (drop (length (started t) + unseen t) xs)) o.queued_is ∙ times_from_none k (surely_unbegun t) may)
 
   -- a number that seems to wait is the next one, and begins unseen
   queue_next : (k : ℕ) → k < layout.items → MayShow t (Queue k) → 1 ≤ times k (drop (length (begun h)) (accepted h)) → Next layout (t ++ Queue k ∷ [])
@@ -227,7 +219,7 @@ module _ (layout : Layout) (t : List Mark) (h : List Event) (o : Tells layout t 
                   let there : times k (drop (length (started t)) (queued t)) ≡ times k (drop (length (begun h)) (accepted h)) =
                   ap (λ n. times k (drop n (queued t))) (sym place) ∙ ap (λ xs. times k (drop (length (begun h)) xs)) (sym o.queued_is) in
                   let on : length (started t) + unseen t ≡ suc (length (started t)) = omega (arith, same_unseen e) in
-                  let behind : times k (drop (suc (length (started t))) (queued t)) ≡ 0 = ap (λ n. times k (drop n (queued t))) (sym on) ∙ times_from_none k (unbegun t) may in
+                  let behind : times k (drop (suc (length (started t))) (queued t)) ≡ 0 = ap (λ n. times k (drop n (queued t))) (sym on) ∙ times_from_none k (surely_unbegun t) may in
                   let at = only_first k (length (started t)) (queued t) (omega (arith, some, there)) behind in
                   let more = unseen_begin layout t h o k small e (omega arith) at in
                   let begun' = h ++ event.Begin k ∷ [] in
@@ -271,5 +263,5 @@ go layout seen (m ∷ rest) n legal =
     let legal' : IsLegalTrace layout ((seen ++ m ∷ []) ++ rest) = subst (IsLegalTrace layout) (sym (append_assoc seen (m ∷ []) rest)) legal in
     subst (Next layout) (append_assoc seen (m ∷ []) rest) (go layout (seen ++ m ∷ []) rest (mark_more layout seen n.0 n.1 m here.0 here.1) legal')
 
-pub trace_history : (layout : Layout) (t : List Mark) → IsLegalTrace layout t → HasHistory layout t
+pub trace_history : (layout : Layout) (t : List Mark) → IsLegalTrace layout t → HasLegalHistory layout t
 trace_history layout t legal = let n = go layout [] t ([], opening layout) legal in (n.0, n.1.legal, n.1.shows)

@@ -1,11 +1,10 @@
 -- How a queue stands tells of each next event whether it may come, and follows it.
 use Rattle.std.proofs.Common.{◌≡◌, ◌≢◌, ℕ, zero, suc, replicate, ◌+◌, ◌-◌, ◌<◌, ◌≤◌, ◌==◌, ◌↔◌, Bool, true, false, not, IsTrue, List, [], ◌∷◌, ◌++◌, length, drop, get_or, cond, set, slice_get, Option, Some, None, is_some, refl, sym, ap, ◌∙◌, arith, inl, inr, length-set, length-append, length-drop}
-use Rattle.std.proofs.lemmas.List.{length-replicate, get_or-set_other, get_or-set_same, drop-append-le, drop-drop, drop_at}
+use Rattle.std.proofs.lemmas.List.{length-replicate, get_or-set_other, get_or-set_same, drop-append-le, drop-drop}
 use Rattle.std.proofs.lemmas.List.Sums.{fold_push}
 use Rattle.std.proofs.lemmas.Option.{slice_get_past}
 use Rattle.std.proofs.lemmas.Bool.{false≢true, ne_eqb, eq-eqb, cases_eq}
 use Rattle.std.specs.List.{Contains}
-use mathlib.Core.List.{IsPrefix}
 use Rattle.wq_words.specs.declared.layout.Layout.{Layout}
 use Rattle.wq_words.specs.declared.event.Why.{Why}
 use Rattle.wq_words.specs.declared.event.Event.{Event}
@@ -25,13 +24,13 @@ use Rattle.wq_words.proofs.Places.{keeper_from_keeps, keeps_from_keeper}
 use Rattle.circular_buffer.specs.Buffer.{keep_last}
 use Rattle.wq_check.specs.declared.queue.Place.{Place}
 use Rattle.wq_check.specs.declared.queue.Place.TheVariants.{Idle, Held, Waiting}
-use Rattle.wq_check.specs.Checked.{QueueState, queue_state, place_of, StandsAfter}
+use Rattle.wq_check.specs.Checked.{QueueState, queue_state, place_by_keeper, StandsAfter}
 use Rattle.wq_check.specs.declared.cause.Cause.{Cause}
 use Rattle.wq_check.specs.declared.cause.Cause.TheVariants as cause
-use Rattle.wq_check.specs.Left.{left, waiting}
+use Rattle.wq_check.specs.Left.{left, unbegun}
 use Rattle.wq_check.specs.Causes.{HasCause}
-use Rattle.wq_check.proofs.Times.{times, times-cons, times-append, few, times_from_Contains, Contains_from_times}
-use Rattle.wq_check.proofs.Accepted.{accepted_below}
+use Rattle.wq_check.proofs.Waits.{waits_bit, few_unbegun}
+use Rattle.wq_check.proofs.Times.{times, times-cons, times_from_Contains, Contains_from_times}
 use Rattle.wq_check.proofs.Lists.{first_left, drop_some}
 
 abbrev pub place_at : QueueState → ℕ → Place
@@ -49,31 +48,31 @@ after c (Chain k) = record c { places = set c.places k Waiting; waiting = c.wait
 after c _ = c
 
 -- places and keepers
-idle_home : (x : Keeper) → place_of x ≡ Idle → x ≡ Home
+idle_home : (x : Keeper) → place_by_keeper x ≡ Idle → x ≡ Home
 idle_home Home e = refl
 idle_home (Sender s) e = absurd cc
 idle_home Listed e = absurd cc
 idle_home Owner e = absurd cc
 
-held_sender : (s : ℕ) (x : Keeper) → place_of x ≡ Held s → x ≡ Sender s
+held_sender : (s : ℕ) (x : Keeper) → place_by_keeper x ≡ Held s → x ≡ Sender s
 held_sender s Home e = absurd cc
 held_sender s (Sender t) e = ap Sender cc
 held_sender s Listed e = absurd cc
 held_sender s Owner e = absurd cc
 
-away_pending : (x : Keeper) (sets clears : ℕ) → place_of x ≢ Idle → sets ≡ clears + pending_bit x → clears < sets
+away_pending : (x : Keeper) (sets clears : ℕ) → place_by_keeper x ≢ Idle → sets ≡ clears + pending_bit x → clears < sets
 away_pending Home sets clears ne e = absurd (ne refl)
 away_pending (Sender s) sets clears ne e = omega (arith, e)
 away_pending Listed sets clears ne e = omega (arith, e)
 away_pending Owner sets clears ne e = omega (arith, e)
 
-waiting_bit : (x : Keeper) → place_of x ≡ Waiting → queue_bit x ≡ 1
+waiting_bit : (x : Keeper) → place_by_keeper x ≡ Waiting → queue_bit x ≡ 1
 waiting_bit Home e = absurd cc
 waiting_bit (Sender s) e = absurd cc
 waiting_bit Listed e = refl
 waiting_bit Owner e = refl
 
-bit_waiting : (x : Keeper) → 1 ≤ queue_bit x → place_of x ≡ Waiting
+bit_waiting : (x : Keeper) → 1 ≤ queue_bit x → place_by_keeper x ≡ Waiting
 bit_waiting Home some = absurd (omega (arith, some))
 bit_waiting (Sender s) some = absurd (omega (arith, some))
 bit_waiting Listed some = refl
@@ -82,10 +81,10 @@ bit_waiting Owner some = refl
 first_counts : (k : ℕ) (xs : List ℕ) → 1 ≤ times k (k ∷ xs)
 first_counts k xs = let one : ◌≡◌ {A = ℕ} (cond (k == k) 1 0) 1 = ap (λ (b : Bool). cond b 1 0) (eq-eqb k k refl) in omega (arith, times-cons k k xs, one)
 
-first_waits : (h : List Event) (k : ℕ) → next h ≡ Some k → Contains (waiting h) k
+first_waits : (h : List Event) (k : ℕ) → next h ≡ Some k → Contains (unbegun h) k
 first_waits h k is =
-    let at : waiting h ≡ k ∷ drop (suc (length (begun h))) (accepted h) = drop_some (accepted h) (length (begun h)) k is in
-    Contains_from_times k (waiting h) (rw at (first_counts k (drop (suc (length (begun h))) (accepted h))))
+    let at : unbegun h ≡ k ∷ drop (suc (length (begun h))) (accepted h) = drop_some (accepted h) (length (begun h)) k is in
+    Contains_from_times k (unbegun h) (rw at (first_counts k (drop (suc (length (begun h))) (accepted h))))
 
 -- an event against which the events before say something may not follow them
 pub refuses : (h : List Event) (e : Event) (why : Cause) → HasCause h e why → ¬ MayFollow h e
@@ -121,7 +120,7 @@ module _ (c : QueueState) (h : List Event) (o : StandsAfter c h) where
   pub idle-free : (k : ℕ) → k < number_count c.layout → (place_at c k ≡ Idle) ↔ (¬ IsPending h k)
   idle-free k lt = (
     λ e. keeps_from_keeper c.layout h o.legal k Home (idle_home (keeper h k) (sym (o.places_are k lt) ∙ e)),
-    λ free. o.places_are k lt ∙ ap place_of (keeper_from_keeps c.layout h o.legal k Home free),
+    λ free. o.places_are k lt ∙ ap place_by_keeper (keeper_from_keeps c.layout h o.legal k Home free),
   )
 
   pub away-pending : (k : ℕ) → k < number_count c.layout → (place_at c k ≢ Idle) ↔ IsPending h k
@@ -133,7 +132,7 @@ module _ (c : QueueState) (h : List Event) (o : StandsAfter c h) where
   pub held-holds : (s k : ℕ) → k < number_count c.layout → (place_at c k ≡ Held s) ↔ Holds h s k
   held-holds s k lt = (
     λ e. keeps_from_keeper c.layout h o.legal k (Sender s) (held_sender s (keeper h k) (sym (o.places_are k lt) ∙ e)),
-    λ holds. o.places_are k lt ∙ ap place_of (keeper_from_keeps c.layout h o.legal k (Sender s) holds),
+    λ holds. o.places_are k lt ∙ ap place_by_keeper (keeper_from_keeps c.layout h o.legal k (Sender s) holds),
   )
 
   pub shut-closed : (c.closed ≡ true) ↔ IsClosed h
@@ -175,22 +174,14 @@ module _ (c : QueueState) (h : List Event) (o : StandsAfter c h) where
       (λ none. omega (arith, size, most, fewest, none), λ same. omega (arith, size, same))
 
   -- a number waits where its place says so
-  waits_bit : (k : ℕ) → times k (waiting h) ≡ queue_bit (keeper h k)
-  waits_bit k =
-      let front = (in_order c.layout h o.legal).begun_first in
-      let rest : waiting h ≡ front.0 = ap (drop (length (begun h))) (sym front.1) ∙ drop_at (begun h) front.0 (length (begun h)) refl in
-      let all : times k (accepted h) ≡ times k (begun h) + times k front.0 = ap (times k) (sym front.1) ∙ times-append k (begun h) front.0 in
-      let keeps : times k (accepted h) ≡ times k (begun h) + queue_bit (keeper h k) = (kept c.layout h o.legal 0 k).2 in
-      ap (times k) rest ∙ omega arith
-
-  pub waiting-waits : (k : ℕ) → k < number_count c.layout → (place_at c k ≡ Waiting) ↔ Contains (waiting h) k
+  pub waiting-waits : (k : ℕ) → k < number_count c.layout → (place_at c k ≡ Waiting) ↔ Contains (unbegun h) k
   waiting-waits k lt = (
-    λ e. Contains_from_times k (waiting h) (omega (arith, waits_bit k, waiting_bit (keeper h k) (sym (o.places_are k lt) ∙ e))),
-    λ is. o.places_are k lt ∙ bit_waiting (keeper h k) (omega (arith, waits_bit k, times_from_Contains k (waiting h) is)),
+    λ e. Contains_from_times k (unbegun h) (omega (arith, waits_bit c.layout h o.legal k, waiting_bit (keeper h k) (sym (o.places_are k lt) ∙ e))),
+    λ is. o.places_are k lt ∙ bit_waiting (keeper h k) (omega (arith, waits_bit c.layout h o.legal k, times_from_Contains k (unbegun h) is)),
   )
 
   -- something waits, so there is a first
-  pub first_of : (k : ℕ) → Contains (waiting h) k → slice_get c.waiting 0 ≡ None → ⊥
+  pub first_of : (k : ℕ) → Contains (unbegun h) k → slice_get c.waiting 0 ≡ None → ⊥
   first_of k is none = nothing (c.waiting) (rw (← o.waiting_is) at is) none
     where
       nothing : (xs : List ℕ) → Contains xs k → slice_get xs 0 ≡ None → ⊥
@@ -242,7 +233,7 @@ gives_begin k = (λ j x ne. rw (apart k j ne) refl, λ x. rw (itself k) refl)
 gives_chain : (k : ℕ) → Gives k (Chain k) Owner
 gives_chain k = (λ j x ne. rw (apart k j ne) refl, λ x. rw (itself k) refl)
 
-over : (x : Keeper) → place_of (taken_over x) ≡ place_of x
+over : (x : Keeper) → place_by_keeper (taken_over x) ≡ place_by_keeper x
 over Home = refl
 over (Sender s) = refl
 over Listed = refl
@@ -254,17 +245,17 @@ module _ (c : QueueState) (h : List Event) (o : StandsAfter c h) where
 
   -- one number moves
   moved : (e : Event) (k : ℕ) (y : Keeper) → k < number_count c.layout → Gives k e y
-      → (j : ℕ) → j < number_count c.layout → get_or (set c.places k (place_of y)) j Idle ≡ place_of (keeper (h ++ e ∷ []) j)
+      → (j : ℕ) → j < number_count c.layout → get_or (set c.places k (place_by_keeper y)) j Idle ≡ place_by_keeper (keeper (h ++ e ∷ []) j)
   moved e k y lt gives j small =
       elim (cases_eq j k) [
-        | inl same ↦ rw (same, keeper_push h e k, gives.1 (keeper h k)) (get_or-set_same c.places k (place_of y) Idle (omega (arith, o.has_places)))
-        | inr ne ↦ rw (keeper_push h e j, gives.0 j (keeper h j) ne, get_or-set_other c.places k j (place_of y) Idle ne) (o.places_are j small)
+        | inl same ↦ rw (same, keeper_push h e k, gives.1 (keeper h k)) (get_or-set_same c.places k (place_by_keeper y) Idle (omega (arith, o.has_places)))
+        | inr ne ↦ rw (keeper_push h e j, gives.0 j (keeper h j) ne, get_or-set_other c.places k j (place_by_keeper y) Idle ne) (o.places_are j small)
       ]
 
   -- none moves
-  unmoved : (e : Event) → ((j : ℕ) (x : Keeper) → place_of (keeper_after j x e) ≡ place_of x)
-      → (j : ℕ) → j < number_count c.layout → place_at c j ≡ place_of (keeper (h ++ e ∷ []) j)
-  unmoved e quiet j small = o.places_are j small ∙ sym (ap place_of (keeper_push h e j) ∙ quiet j (keeper h j))
+  unmoved : (e : Event) → ((j : ℕ) (x : Keeper) → place_by_keeper (keeper_after j x e) ≡ place_by_keeper x)
+      → (j : ℕ) → j < number_count c.layout → place_at c j ≡ place_by_keeper (keeper (h ++ e ∷ []) j)
+  unmoved e quiet j small = o.places_are j small ∙ sym (ap place_by_keeper (keeper_push h e j) ∙ quiet j (keeper h j))
 
   -- one more waits
   queued : (k : ℕ) → c.waiting ++ k ∷ [] ≡ drop (length (begun h)) (accepted h ++ k ∷ [])
@@ -285,7 +276,7 @@ module _ (c : QueueState) (h : List Event) (o : StandsAfter c h) where
       sym (slice_get_past (begun h) (length (ended h ++ k ∷ [])) (omega (arith, length-append (ended h) (k ∷ []), i.one_at_a_time)))
 
   -- an event that moves no number and changes no list
-  quiet : (e : Event) → IsAllowed c.layout h e → ((j : ℕ) (x : Keeper) → place_of (keeper_after j x e) ≡ place_of x)
+  quiet : (e : Event) → IsAllowed c.layout h e → ((j : ℕ) (x : Keeper) → place_by_keeper (keeper_after j x e) ≡ place_by_keeper x)
       → accepted (h ++ e ∷ []) ≡ accepted h → begun (h ++ e ∷ []) ≡ begun h → ended (h ++ e ∷ []) ≡ ended h → closed (h ++ e ∷ []) ≡ closed h
       → StandsAfter c (h ++ e ∷ [])
   quiet e a same acs bs es cs = record {
@@ -359,43 +350,14 @@ module _ (c : QueueState) (h : List Event) (o : StandsAfter c h) where
   after_kept (Busy s k) a = quiet (Busy s k) a (λ j x. refl) (simp growing refl) (simp growing refl) (simp growing refl) (closed_push_no h (Busy s k) refl)
   after_kept (ChainBusy k) a = quiet (ChainBusy k) a (λ j x. refl) (simp growing refl) (simp growing refl) (simp growing refl) (closed_push_no h (ChainBusy k) refl)
 
-  -- each number waits once, so no more wait than there are
-  pub waits_few : length c.waiting ≤ number_count c.layout
-  waits_few = few c.waiting (number_count c.layout) once below
-    where
-      acs : List ℕ
-      acs = accepted h
-
-      bs : List ℕ
-      bs = begun h
-
-      order : IsPrefix bs acs
-      order = (in_order c.layout h o.legal).begun_first
-
-      split : (q : ℕ) → times q acs ≡ times q bs + times q c.waiting
-      split q =
-          let rest : drop (length bs) acs ≡ order.0 = ap (drop (length bs)) (sym order.1) ∙ drop_at bs order.0 (length bs) refl in
-          let same : times q c.waiting ≡ times q order.0 = ap (times q) (o.waiting_is ∙ rest) in
-          let all : times q acs ≡ times q bs + times q order.0 = ap (times q) (sym order.1) ∙ times-append q bs order.0 in
-          omega arith
-
-      bit : (x : Keeper) → queue_bit x ≤ 1
-      bit Home = omega arith
-      bit (Sender s) = omega arith
-      bit Listed = omega arith
-      bit Owner = omega arith
-
-      once : (q : ℕ) → times q c.waiting ≤ 1
-      once q = let keeps : times q acs ≡ times q bs + queue_bit (keeper h q) = (kept c.layout h o.legal 0 q).2 in omega (arith, split q, bit (keeper h q))
-
-      below : (q : ℕ) → 1 ≤ times q c.waiting → q < number_count c.layout
-      below q some = accepted_below c.layout h o.legal q (omega (arith, split q))
+few_left : (c : QueueState) (h : List Event) → StandsAfter c h → length c.waiting ≤ number_count c.layout
+few_left c h o = omega (arith, ap length o.waiting_is, few_unbegun c.layout h o.legal)
 
 -- a number that is queued finds room
 pub room : (c : QueueState) (h : List Event) (e : Event) (k : ℕ) → StandsAfter c h → IsAllowed c.layout h e → (after c e).waiting ≡ c.waiting ++ k ∷ []
     → (after c e).layout ≡ c.layout → length c.waiting + 1 ≤ number_count c.layout
 room c h e k o a grows same =
-    let few' : length (after c e).waiting ≤ number_count (after c e).layout = waits_few (after c e) (h ++ e ∷ []) (after_kept c h o e a) in
+    let few' : length (after c e).waiting ≤ number_count (after c e).layout = few_left (after c e) (h ++ e ∷ []) (after_kept c h o e a) in
     omega (arith, ap length grows, length-append c.waiting (k ∷ []), ap number_count same)
 
 pub alike : {A : Type 0} (n k : ℕ) (x : A) → get_or (replicate n x) k x ≡ x

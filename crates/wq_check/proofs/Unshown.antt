@@ -17,10 +17,11 @@ use Rattle.wq_words.proofs.Keepers.{queue_bit}
 use Rattle.wq_words.proofs.Places.{keeper_from_keeps}
 use Rattle.wq_check.specs.declared.mark.Mark.{Mark}
 use Rattle.wq_check.specs.declared.mark.Mark.TheVariants.{Queue, Start, End}
-use Rattle.wq_check.specs.Trace.{queued_by, started_by, returned_by, queued, started, returned, unseen, MayShow, FollowsRules, unbegun}
-use Rattle.wq_check.specs.Shows.{Shows, nothing, hides, queues, begins, starts, ends, HasHistory}
+use Rattle.wq_check.specs.Trace.{queued_by, started_by, returned_by, queued, started, returned, unseen, MayShow, FollowsRules, surely_unbegun}
+use Rattle.wq_check.specs.Shows.{Shows, nothing, hides, queues, begins, starts, ends, HasLegalHistory}
 use Rattle.wq_check.proofs.Times.{none_from_times, times, times-append}
-use Rattle.wq_check.proofs.Shown.{waits_bit, nil_end, one_of, zero_or}
+use Rattle.wq_check.proofs.Waits.{waits_bit}
+use Rattle.wq_check.proofs.Shown.{nil_end, one_of, zero_or}
 
 pub record Shown (t : List Mark) (h : List Event) : Type 0 where
   pub queued_is : accepted h ≡ queued t
@@ -71,9 +72,9 @@ module _ (layout : Layout) (t : List Mark) (h : List Event) (legal : IsLegal lay
   waits_not event.Rest k a is = absurd cc
 
   may_queue : (e : Event) (k : ℕ) → IsAllowed layout h e → accepted_by e ≡ Some k → MayShow t (Queue k)
-  may_queue e k a is = none_from_times k (unbegun t) (not_unbegun e k a is)
+  may_queue e k a is = none_from_times k (surely_unbegun t) (not_unbegun e k a is)
     where
-      not_unbegun : (e : Event) (k : ℕ) → IsAllowed layout h e → accepted_by e ≡ Some k → times k (unbegun t) ≡ 0
+      not_unbegun : (e : Event) (k : ℕ) → IsAllowed layout h e → accepted_by e ≡ Some k → times k (surely_unbegun t) ≡ 0
       not_unbegun e k a is =
           let none : times k (drop (length (begun h)) (queued t)) ≡ 0 =
           ap (λ xs. times k (drop (length (begun h)) xs)) (sym o.queued_is) ∙ (waits_bit layout h legal k ∙ waits_not e k a is) in
@@ -195,5 +196,5 @@ shown layout _ _ (ends t h k s same) legal =
       rules = rules_push t (End k) o.rules (may_end layout t h before o k allowed.2 same);
     }
 
-pub history_rules : (layout : Layout) (t : List Mark) → HasHistory layout t → FollowsRules t
+pub history_rules : (layout : Layout) (t : List Mark) → HasLegalHistory layout t → FollowsRules t
 history_rules layout t has = (shown layout t has.0 has.2 has.1).rules

@@ -11,7 +11,7 @@ use Rattle.wq_check.specs.declared.cause.Cause.{Cause}
 use Rattle.wq_check.specs.declared.cause.Cause.TheVariants.{Pending, Idle, NotHeld, Closed, Open, Runs, NothingRuns, NotWaiting, Next, NotEnded}
 use Rattle.wq_check.specs.declared.cause.EventError.{EventError}
 use Rattle.wq_check.specs.declared.cause.EventError.TheVariants.{NoSeat, NoItem, NotAllowed}
-use Rattle.wq_check.specs.Left.{waiting}
+use Rattle.wq_check.specs.Left.{unbegun}
 
 -- the first part of the event's line in `MayFollow` that fails after the events h
 abbrev pub HasCause : List Event → Event → Cause → Type 0
@@ -24,8 +24,8 @@ HasCause h (Back s k why) Open = Holds h s k × (why ≡ reason.Closed) × (¬ I
 HasCause h Take Closed = IsClosed h
 HasCause h Close Closed = IsClosed h
 HasCause h (Begin k) (Runs j) = running h ≡ Some j
-HasCause h (Begin k) NotWaiting = (¬ IsRunning h) × (¬ Contains (waiting h) k)
-HasCause h (Begin k) (Next j) = (¬ IsRunning h) × Contains (waiting h) k × (next h ≡ Some j) × (j ≢ k)
+HasCause h (Begin k) NotWaiting = (¬ IsRunning h) × (¬ Contains (unbegun h) k)
+HasCause h (Begin k) (Next j) = (¬ IsRunning h) × Contains (unbegun h) k × (next h ≡ Some j) × (j ≢ k)
 HasCause h (End k) NothingRuns = ¬ IsRunning h
 HasCause h (End k) (Runs j) = (running h ≡ Some j) × (j ≢ k)
 HasCause h (Chain k) Open = ¬ IsClosed h

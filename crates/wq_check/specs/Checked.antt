@@ -10,9 +10,9 @@ use Rattle.wq_check.specs.declared.cause.Cause.{Cause}
 use Rattle.wq_check.specs.declared.counts.Counts.{Counts}
 use Rattle.wq_check.specs.declared.queue.Place.{Place}
 use Rattle.wq_check.specs.declared.queue.Place.TheVariants.{Idle, Held, Waiting}
-use Rattle.wq_check.specs.Left.{waiting}
+use Rattle.wq_check.specs.Left.{unbegun}
 use Rattle.wq_check.specs.Causes.{HasCause}
-use Rattle.wq_check.specs.Report.{counts_of}
+use Rattle.wq_check.specs.Report.{event_counts}
 
 -- where each number stands, which wait, oldest first, which runs, and whether the queue is closed
 pub record QueueState : Type 0 where
@@ -27,18 +27,18 @@ queue_state layout places waiting running closed =
     record { layout = layout; places = places; waiting = waiting; running = running; closed = closed }
 
 -- where a number stands by its keeper
-abbrev pub place_of : Keeper → Place
-place_of Home = Idle
-place_of (Sender s) = Held s
-place_of Listed = Waiting
-place_of Owner = Waiting
+abbrev pub place_by_keeper : Keeper → Place
+place_by_keeper Home = Idle
+place_by_keeper (Sender s) = Held s
+place_by_keeper Listed = Waiting
+place_by_keeper Owner = Waiting
 
 -- the queue stands so after the legal history h
 pub record StandsAfter (q : QueueState) (h : List Event) : Type 0 where
   pub legal : IsLegal q.layout h
   pub has_places : length q.places ≡ number_count q.layout
-  pub places_are : (k : ℕ) → k < number_count q.layout → get_or q.places k Idle ≡ place_of (keeper h k)
-  pub waiting_is : q.waiting ≡ waiting h
+  pub places_are : (k : ℕ) → k < number_count q.layout → get_or q.places k Idle ≡ place_by_keeper (keeper h k)
+  pub waiting_is : q.waiting ≡ unbegun h
   pub running_is : q.running ≡ running h
   pub closed_is : q.closed ≡ closed h
 
@@ -57,4 +57,4 @@ checker_state queue counts = record { queue = queue; counts = counts }
 -- it was told the legal history h
 pub record IsAfter (c : CheckerState) (h : List Event) : Type 0 where
   pub stands : StandsAfter c.queue h
-  pub counted : c.counts ≡ counts_of h
+  pub counted : c.counts ≡ event_counts h

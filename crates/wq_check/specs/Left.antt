@@ -8,14 +8,14 @@ abbrev pub left : List Event → List ℕ
 left h = drop (length (ended h)) (accepted h)
 
 -- what was accepted and has not begun, in order
-abbrev pub waiting : List Event → List ℕ
-waiting h = drop (length (begun h)) (accepted h)
+abbrev pub unbegun : List Event → List ℕ
+unbegun h = drop (length (begun h)) (accepted h)
 
--- the largest of the f n over all n from 0 to here
-abbrev pub largest : (ℕ → ℕ) → ℕ → ℕ
-largest f zero = f zero
-largest f (suc n) = max (largest f n) (f (suc n))
+-- the largest_up_to of the f n over all n from 0 to here
+abbrev pub largest_up_to : (ℕ → ℕ) → ℕ → ℕ
+largest_up_to f zero = f zero
+largest_up_to f (suc n) = max (largest_up_to f n) (f (suc n))
 
 -- how many waited at the moment when most did
 abbrev pub most_waiting : List Event → ℕ
-most_waiting h = largest (λ moment. length (waiting (take moment h))) (length h)
+most_waiting h = largest_up_to (λ moment. length (unbegun (take moment h))) (length h)

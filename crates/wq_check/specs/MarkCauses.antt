@@ -7,11 +7,11 @@ use Rattle.wq_check.specs.declared.cause.MarkError.{MarkError}
 use Rattle.wq_check.specs.declared.cause.MarkError.TheVariants.{NoItem, NotAllowed}
 use Rattle.wq_check.specs.declared.mark.Mark.{Mark}
 use Rattle.wq_check.specs.declared.mark.Mark.TheVariants.{Queue, Start, End}
-use Rattle.wq_check.specs.Trace.{IsAtRest, executing, next_start, unstarted, unbegun, MayShow, number_of}
+use Rattle.wq_check.specs.Trace.{IsAtRest, executing, next_start, unstarted, surely_unbegun, MayShow, number_of}
 
 -- the first part of the mark's line in `MayShow` that fails after the marks t
 abbrev pub HasMarkCause : List Mark → Mark → Cause → Type 0
-HasMarkCause t (Queue k) Pending = Contains (unbegun t) k
+HasMarkCause t (Queue k) Pending = Contains (surely_unbegun t) k
 HasMarkCause t (Start k) (Runs j) = executing t ≡ Some j
 HasMarkCause t (Start k) NotWaiting = IsAtRest t × (¬ Contains (unstarted t) k)
 HasMarkCause t (Start k) (Next j) = IsAtRest t × Contains (unstarted t) k × (next_start t ≡ Some j) × (j ≢ k)

@@ -7,12 +7,12 @@ use Rattle.wq_check.specs.declared.counts.Counts.{Counts}
 use Rattle.wq_check.specs.declared.counts.Report.{Report}
 use Rattle.wq_check.specs.Left.{left, most_waiting}
 
--- a count stops at the largest number of 64 bits
+-- a count stops at the largest_up_to number of 64 bits
 abbrev pub stopped : ℕ → ℕ
 stopped n = min n (2 ^ 64 - 1)
 
-abbrev pub counts_of : List Event → Counts
-counts_of h = record {
+abbrev pub event_counts : List Event → Counts
+event_counts h = record {
   events = stopped (length h);
   accepted = stopped (length (accepted h));
   chained = stopped (count_by is_chain h);
@@ -24,7 +24,7 @@ counts_of h = record {
 
 abbrev pub report_of : List Event → Report
 report_of h = record {
-  counts = counts_of h;
+  counts = event_counts h;
   left = length (left h);
   closed = closed h;
   complete = closed h && (length (ended h) == length (accepted h));

@@ -3,7 +3,7 @@ use Rattle.std.specs.Prelude.{◌≡◌, ℕ, ◌+◌, ◌<◌, ◌==◌, if◌t
 use Rattle.wq_words.specs.declared.layout.Layout.{Layout}
 use Rattle.wq_check.specs.declared.mark.Mark.{Mark}
 use Rattle.wq_check.specs.declared.mark.Mark.TheVariants.{Queue, Start, End}
-use Rattle.wq_check.specs.Left.{largest}
+use Rattle.wq_check.specs.Left.{largest_up_to}
 
 abbrev pub queued_by : Mark → Option ℕ
 queued_by (Queue k) = Some k
@@ -46,19 +46,19 @@ next_start t = slice_get (queued t) (length (started t))
 abbrev pub unstarted : List Mark → List ℕ
 unstarted t = drop (length (started t)) (queued t)
 
-abbrev pub unbegun : List Mark → List ℕ
-unbegun t = drop (length (started t) + unseen t) (queued t)
+abbrev pub surely_unbegun : List Mark → List ℕ
+surely_unbegun t = drop (length (started t) + unseen t) (queued t)
 
 abbrev pub unreturned : List Mark → List ℕ
 unreturned t = drop (length (returned t)) (queued t)
 
 -- how many waited for their start at the moment when most did
 abbrev pub most_unstarted : List Mark → ℕ
-most_unstarted t = largest (λ moment. length (unstarted (take moment t))) (length t)
+most_unstarted t = largest_up_to (λ moment. length (unstarted (take moment t))) (length t)
 
 -- the mark may be shown after these
 abbrev pub MayShow : List Mark → Mark → Type 0
-MayShow t (Queue k) = ¬ Contains (unbegun t) k
+MayShow t (Queue k) = ¬ Contains (surely_unbegun t) k
 MayShow t (Start k) = IsAtRest t × (next_start t ≡ Some k)
 MayShow t (End k) = executing t ≡ Some k
 

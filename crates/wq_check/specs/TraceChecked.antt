@@ -6,7 +6,7 @@ use Rattle.wq_check.specs.declared.mark.Mark.{Mark}
 use Rattle.wq_check.specs.declared.mark_counts.MarkCounts.{MarkCounts}
 use Rattle.wq_check.specs.Trace.{unstarted, executing, MayShow, IsLegalTrace}
 use Rattle.wq_check.specs.MarkCauses.{HasMarkCause}
-use Rattle.wq_check.specs.TraceReport.{mark_counts_of}
+use Rattle.wq_check.specs.TraceReport.{mark_counts}
 
 -- which items were queued and not started, oldest first, how often each stands among them, and the one whose function runs
 pub record SeenState : Type 0 where
@@ -41,4 +41,4 @@ trace_checker_state queue counts = record { queue = queue; counts = counts }
 -- it was told the legal trace t
 pub record IsAfterMarks (c : TraceCheckerState) (t : List Mark) : Type 0 where
   pub looks : LooksAfter c.queue t
-  pub counted : c.counts ≡ mark_counts_of t
+  pub counted : c.counts ≡ mark_counts t

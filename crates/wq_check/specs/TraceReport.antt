@@ -6,8 +6,8 @@ use Rattle.wq_check.specs.declared.mark_counts.TraceReport.{TraceReport}
 use Rattle.wq_check.specs.Trace.{queued, started, returned, unreturned, most_unstarted}
 use Rattle.wq_check.specs.Report.{stopped}
 
-abbrev pub mark_counts_of : List Mark → MarkCounts
-mark_counts_of t = record {
+abbrev pub mark_counts : List Mark → MarkCounts
+mark_counts t = record {
   marks = stopped (length t);
   queued = stopped (length (queued t));
   started = stopped (length (started t));
@@ -16,4 +16,4 @@ mark_counts_of t = record {
 }
 
 abbrev pub trace_report_of : List Mark → TraceReport
-trace_report_of t = record { counts = mark_counts_of t; left = length (unreturned t) }
+trace_report_of t = record { counts = mark_counts t; left = length (unreturned t) }

@@ -3,8 +3,8 @@ ghost use Rattle.std.specs.Prelude.{◌≡◌, ◌∷◌, ◌++◌, [], ◌+◌,
 ghost use Rattle.wq_words.specs.declared.event.Event.{Event};
 ghost use Rattle.wq_words.specs.History.{ended_by};
 ghost use Rattle.wq_words.specs.Counting.{is_chain, is_busy, is_refusal};
-ghost use Rattle.wq_check.specs.Left.{waiting};
-ghost use Rattle.wq_check.specs.Report.{stopped, counts_of};
+ghost use Rattle.wq_check.specs.Left.{unbegun};
+ghost use Rattle.wq_check.specs.Report.{stopped, event_counts};
 
 use wq_words::{Event, Why};
 
@@ -89,7 +89,7 @@ fn is_refusal(event: Event) -> bool
 
 impl Counts {
     pub(crate) fn none() -> Counts
-        ensures { result ≡ counts_of [] }
+        ensures { result ≡ event_counts [] }
     {
         Counts {
             events: 0,
@@ -104,8 +104,8 @@ impl Counts {
 
     // With one event more, after which so many wait.
     pub(crate) fn with(self, event: Event, waiting_count: usize) -> Counts
-        ensures { (h : List Event) → self ≡ counts_of h → waiting_count ≡ length (waiting (h ++ event ∷ []))
-            → result ≡ counts_of (h ++ event ∷ []) }
+        ensures { (h : List Event) → self ≡ event_counts h → waiting_count ≡ length (unbegun (h ++ event ∷ []))
+            → result ≡ event_counts (h ++ event ∷ []) }
     {
         Counts {
             events: counted(self.events, true),

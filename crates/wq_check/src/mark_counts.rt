@@ -2,7 +2,7 @@
 ghost use Rattle.std.specs.Prelude.{◌≡◌, ◌∷◌, ◌++◌, [], List, length, is_some};
 ghost use Rattle.wq_check.specs.declared.mark.Mark.{Mark};
 ghost use Rattle.wq_check.specs.Trace.{queued_by, started_by, returned_by, unstarted};
-ghost use Rattle.wq_check.specs.TraceReport.{mark_counts_of};
+ghost use Rattle.wq_check.specs.TraceReport.{mark_counts};
 
 use crate::counts::counted;
 use crate::mark::Mark;
@@ -60,7 +60,7 @@ fn is_end(mark: Mark) -> bool
 
 impl MarkCounts {
     pub(crate) fn none() -> MarkCounts
-        ensures { result ≡ mark_counts_of [] }
+        ensures { result ≡ mark_counts [] }
     {
         MarkCounts {
             marks: 0,
@@ -73,8 +73,8 @@ impl MarkCounts {
 
     // With one mark more, after which so many wait.
     pub(crate) fn with(self, mark: Mark, waiting_count: usize) -> MarkCounts
-        ensures { (t : List Mark) → self ≡ mark_counts_of t → waiting_count ≡ length (unstarted (t ++ mark ∷ []))
-            → result ≡ mark_counts_of (t ++ mark ∷ []) }
+        ensures { (t : List Mark) → self ≡ mark_counts t → waiting_count ≡ length (unstarted (t ++ mark ∷ []))
+            → result ≡ mark_counts (t ++ mark ∷ []) }
     {
         MarkCounts {
             marks: counted(self.marks, true),

@@ -8,7 +8,7 @@ ghost use Rattle.wq_words.specs.Numbers.{number_count};
 ghost use Rattle.wq_check.specs.declared.queue.Place.TheVariants.{Idle};
 ghost use Rattle.wq_check.specs.Causes.{HasEventError};
 ghost use Rattle.wq_check.specs.Checked.{StandsAfter, Judges};
-ghost use Rattle.wq_check.specs.Left.{left, waiting};
+ghost use Rattle.wq_check.specs.Left.{left, unbegun};
 
 use crate::cause::{Cause, EventError};
 use circular_buffer::HeapCircularBuffer;
@@ -306,7 +306,7 @@ impl Queue {
 
     // How many numbers wait to begin.
     pub(crate) fn waiting_count(&self) -> usize
-        ensures { (h : List Event) → StandsAfter self.now h → result ≡ length (waiting h) }
+        ensures { (h : List Event) → StandsAfter self.now h → result ≡ length (unbegun h) }
     {
         self.waiting.len()
     }

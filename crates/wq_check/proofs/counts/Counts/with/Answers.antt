@@ -3,9 +3,9 @@ use Rattle.wq_words.specs.History.{accepted_by, accepted, ended_by, ended}
 use Rattle.wq_words.specs.Counting.{is_chain, is_busy, is_refusal}
 use Rattle.wq_words.proofs.Growing.{count_by_push}
 use Rattle.std.specs.List.{count_by}
-use Rattle.wq_check.specs.Left.{waiting, most_waiting}
+use Rattle.wq_check.specs.Left.{unbegun, most_waiting}
 use Rattle.wq_check.specs.Report.{stopped}
-use Rattle.wq_check.proofs.Lists.{largest_push}
+use Rattle.wq_check.proofs.Lists.{largest_up_to-push}
 use Rattle.wq_check.proofs.Counted.{length_push, mapped_push}
 use Rattle.wq_check.proofs.counts.Counts.with.Goals as goal
 
@@ -32,5 +32,5 @@ returns c = λ h is fits.
     ∙ (ap (λ b. stopped (count_by is_refusal h + cond b 1 0)) c.is_refusal.ensures ∙ ap stopped (sym (count_by_push is_refusal h e))) in
     let most : c.max.result ≡ most_waiting (h ++ e ∷ []) =
     c.max.ensures ∙ (ap (λ m. max m c.args.waiting_count) (ap (λ x. x.most_waiting) is)
-    ∙ (ap (max (most_waiting h)) fits ∙ sym (largest_push (λ g. length (waiting g)) h e))) in
+    ∙ (ap (max (most_waiting h)) fits ∙ sym (largest_up_to-push (λ g. length (unbegun g)) h e))) in
     rw (events, accepted', chained, executed, busy, refused, most) refl

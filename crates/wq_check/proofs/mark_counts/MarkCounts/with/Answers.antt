@@ -1,7 +1,7 @@
 use Rattle.std.proofs.Common.{◌≡◌, ◌+◌, ◌++◌, ◌∷◌, [], cond, max, length, refl, sym, ap, ◌∙◌}
 use Rattle.wq_check.specs.Trace.{queued_by, queued, started_by, started, returned_by, returned, unstarted, most_unstarted}
 use Rattle.wq_check.specs.Report.{stopped}
-use Rattle.wq_check.proofs.Lists.{largest_push}
+use Rattle.wq_check.proofs.Lists.{largest_up_to-push}
 use Rattle.wq_check.proofs.Counted.{length_push, mapped_push}
 use Rattle.wq_check.proofs.mark_counts.MarkCounts.with.Goals as goal
 
@@ -21,5 +21,5 @@ returns c = λ t is fits.
     ∙ (ap (λ b. stopped (length (returned t) + cond b 1 0)) c.is_end.ensures ∙ ap stopped (mapped_push returned_by t m)) in
     let most : c.max.result ≡ most_unstarted (t ++ m ∷ []) =
     c.max.ensures ∙ (ap (λ n. max n c.args.waiting_count) (ap (λ x. x.most_waiting) is)
-    ∙ (ap (max (most_unstarted t)) fits ∙ sym (largest_push (λ u. length (unstarted u)) t m))) in
+    ∙ (ap (max (most_unstarted t)) fits ∙ sym (largest_up_to-push (λ u. length (unstarted u)) t m))) in
     rw (marks, queued', started', ended', most) refl
