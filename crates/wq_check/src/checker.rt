@@ -55,7 +55,8 @@ impl Checker {
     pub fn event(&mut self, event: Event) -> Result<(), EventError>
         ensures allowed { OnOk result ((h : List Event) → IsAfter self.old h → IsAllowed self.old.queue.layout h event) }
         ensures told { OnOk result ((h : List Event) → IsAfter self.old h → IsAfter self.new (h ++ event ∷ [])) }
-        ensures refused { IfErr result (λ error. (h : List Event) → IsAfter self.old h → HasEventError self.old.queue.layout h event error) }
+        ensures refused { IfErr result (λ error. (h : List Event) → IsAfter self.old h
+            → HasEventError self.old.queue.layout h event error) }
         ensures unchanged { OnErr result (self.new ≡ self.old) }
     {
         self.queue.check(event)?;

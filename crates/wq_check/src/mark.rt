@@ -1,6 +1,6 @@
 //! What is seen of a queue from outside.
 ghost use Rattle.std.specs.Prelude.{◌≡◌};
-ghost use Rattle.wq_check.specs.Trace.{number_of, queued_by, started_by, returned_by};
+ghost use Rattle.wq_check.specs.Trace.{number_of};
 
 /// What a trace shows of one item.
 #[derive(Clone, Copy, Debug, PartialEq, Eq)]

@@ -1,5 +1,5 @@
 //! How a queue stands after the events that were told.
-ghost use Rattle.std.specs.Prelude.{◌≡◌, ◌≢◌, ◌↔◌, ◌<◌, ℕ, List, ◌++◌, ◌∷◌, [], length, get_or, slice_get, IsTrue, IfOk, OnOk, IfErr};
+ghost use Rattle.std.specs.Prelude.{◌≡◌, ◌↔◌, ◌<◌, List, ◌++◌, ◌∷◌, [], length, get_or, slice_get, IsTrue, IfOk, OnOk, IfErr};
 ghost use Rattle.wq_words.specs.declared.event.Event.{Event};
 ghost use Rattle.wq_words.specs.declared.event.Event.TheVariants as event;
 ghost use Rattle.wq_words.specs.History.{IsPending, Holds};
@@ -267,7 +267,8 @@ impl Queue {
     // Whether the event is allowed.
     pub(crate) fn check(&self, event: Event) -> Result<(), EventError>
         ensures allowed { OnOk result ((h : List Event) → StandsAfter self.now h → IsAllowed self.now.layout h event) }
-        ensures refused { IfErr result (λ error. (h : List Event) → StandsAfter self.now h → HasEventError self.now.layout h event error) }
+        ensures refused { IfErr result (λ error. (h : List Event) → StandsAfter self.now h
+            → HasEventError self.now.layout h event error) }
     {
         if !has_seat(&self.layout, event) {
             return Err(EventError::NoSeat);

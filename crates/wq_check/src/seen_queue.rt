@@ -1,5 +1,5 @@
 //! How a queue looks from outside after the marks that were told.
-ghost use Rattle.std.specs.Prelude.{◌≡◌, ◌↔◌, ◌<◌, ℕ, List, ◌++◌, ◌∷◌, [], None, Some, length, get_or, slice_get, IsTrue, IfOk, OnOk, IfErr};
+ghost use Rattle.std.specs.Prelude.{◌≡◌, ◌↔◌, ◌<◌, List, ◌++◌, ◌∷◌, [], None, Some, length, get_or, slice_get, IsTrue, IfOk, OnOk, IfErr};
 ghost use Rattle.wq_check.specs.declared.mark.Mark.{Mark};
 ghost use Rattle.wq_check.specs.declared.mark.Mark.TheVariants as mark;
 ghost use Rattle.wq_check.specs.Trace.{MayShow, number_of, unstarted, unreturned};
@@ -124,8 +124,10 @@ impl SeenQueue {
 
     // Whether the mark is of an item and may be shown.
     pub(crate) fn check(&self, mark: Mark) -> Result<(), MarkError>
-        ensures allowed { OnOk result ((t : List Mark) → LooksAfter self.now t → (number_of mark < self.now.layout.items) × MayShow t mark) }
-        ensures refused { IfErr result (λ error. (t : List Mark) → LooksAfter self.now t → HasMarkError self.now.layout t mark error) }
+        ensures allowed { OnOk result ((t : List Mark) → LooksAfter self.now t
+            → (number_of mark < self.now.layout.items) × MayShow t mark) }
+        ensures refused { IfErr result (λ error. (t : List Mark) → LooksAfter self.now t
+            → HasMarkError self.now.layout t mark error) }
     {
         if mark.number() >= self.layout.items {
             return Err(MarkError::NoItem);

@@ -52,9 +52,11 @@ impl TraceChecker {
     /// # Errors
     /// That it is of no item, or else the cause why it may not be shown after the marks before; then nothing has changed.
     pub fn mark(&mut self, mark: Mark) -> Result<(), MarkError>
-        ensures allowed { OnOk result ((t : List Mark) → IsAfterMarks self.old t → (number_of mark < self.old.queue.layout.items) × MayShow t mark) }
+        ensures allowed { OnOk result ((t : List Mark) → IsAfterMarks self.old t
+            → (number_of mark < self.old.queue.layout.items) × MayShow t mark) }
         ensures told { OnOk result ((t : List Mark) → IsAfterMarks self.old t → IsAfterMarks self.new (t ++ mark ∷ [])) }
-        ensures refused { IfErr result (λ error. (t : List Mark) → IsAfterMarks self.old t → HasMarkError self.old.queue.layout t mark error) }
+        ensures refused { IfErr result (λ error. (t : List Mark) → IsAfterMarks self.old t
+            → HasMarkError self.old.queue.layout t mark error) }
         ensures unchanged { OnErr result (self.new ≡ self.old) }
     {
         self.queue.check(mark)?;
