@@ -1,0 +1,321 @@
+//! Queues for a pool, and the callers of it.
+ghost use Rattle.std.specs.Prelude.{◌≡◌, [], All, map};
+ghost use Rattle.wq_ready.specs.Known.{IsCallerOf};
+ghost use Rattle.wq_served.specs.WorkerId.{worker_id};
+
+use arrayvec::ArrayVec;
+use std::alloc::Global;
+use std::process::Abort;
+use std::sync::atomic::AtomicU64;
+use std::sync::atomic::Ordering::SeqCst;
+use std::sync::{Mutex, Wait};
+use trail::Trail;
+use wq_live::{Answer, Sender};
+use wq_pool::{Caller, Gate, Pool, PoolFault, Served, Turn, Worked};
+use wq_words::Layout;
+use wq_worker::{Follow, Work, Worker};
+
+/// A work that keeps what it ran. Where an item from a number on ran it asks for one below 100.
+#[derive(Drop)]
+pub(crate) struct Logging {
+    pub(crate) ran: Trail,
+    pub(crate) order: ArrayVec<u32, 64>,
+    asks_from: u32,
+}
+
+impl Logging {
+    /// It asks for nothing.
+    pub(crate) fn new() -> Logging
+        ensures { result.ran.items ≡ [] }
+    {
+        Logging::asking(u32::MAX)
+    }
+
+    pub(crate) fn asking(asks_from: u32) -> Logging
+        ensures { result.ran.items ≡ [] }
+    {
+        Logging {
+            ran: Trail::new(),
+            order: ArrayVec::new(),
+            asks_from,
+        }
+    }
+}
+
+impl Work for Logging {
+    ghost log = { λ w. w.ran.items };
+
+    ghost may = { λ w k f v. Unit {0} };
+
+    fn run(&mut self, item: u32) -> Follow {
+        self.ran = self.ran.and(item);
+        let _ = self.order.try_push(item);
+        let mut follow = Follow::new();
+        if item >= self.asks_from {
+            let _ = follow.try_push(item % 100);
+        }
+        follow
+    }
+}
+
+/// A gate that looks at nothing.
+pub(crate) struct Open;
+
+impl Gate for Open {
+    fn before(&self, queue: u32, item: u32) {
+        let _ = (queue, item);
+    }
+
+    fn after(&self, queue: u32, item: u32) {
+        let _ = (queue, item);
+    }
+}
+
+/// A gate that counts what was run.
+#[derive(Drop)]
+pub(crate) struct Counting {
+    ran: AtomicU64,
+}
+
+impl Counting {
+    pub(crate) fn new() -> Counting {
+        Counting {
+            ran: AtomicU64::new(0),
+        }
+    }
+
+    pub(crate) fn count(&self) -> u64 {
+        self.ran.load(SeqCst)
+    }
+}
+
+impl Gate for Counting {
+    fn before(&self, queue: u32, item: u32) {
+        let _ = (queue, item);
+    }
+
+    fn after(&self, queue: u32, item: u32) {
+        let _ = (queue, item);
+        self.ran.fetch_add(1, SeqCst);
+    }
+}
+
+/// Queues an item of the queue in one try.
+pub(crate) fn queue_item<R: Abort>(rt: &R, sender: &mut Sender, item: u32) -> Answer {
+    assert!(rt; item < sender.layout().items);
+    sender.queue_tries(item, 1)
+}
+
+/// A new queue, and the senders of it that are not its worker's.
+pub(crate) fn new_queue<R: Abort, W: Work + Drop>(
+    rt: &R,
+    alloc: Global,
+    layout: Layout,
+    work: W,
+) -> (Served<W>, Vec<Sender>)
+    requires { W.log work ≡ [] }
+    ensures { All (λ s. s.queue ≡ result.0.queue) result.1.items }
+{
+    let Ok((worker, senders)) = Worker::build(alloc, layout, work, 1) else {
+        panic!(rt; "no memory for a queue")
+    };
+    (Served::new(worker), senders)
+}
+
+/// A queue of at least so many items, and its sender.
+pub(crate) fn empty<R: Abort>(
+    rt: &R,
+    alloc: Global,
+    items: u32,
+    work: Logging,
+) -> (Served<Logging>, Sender)
+    requires { work.ran.items ≡ [] }
+{
+    let layout = Layout::new(items.max(4), 1, 2).expect(rt, "a layout");
+    let (served, mut senders) = new_queue(rt, alloc, layout, work);
+    let sender = senders.pop().expect(rt, "a sender");
+    (served, sender)
+}
+
+/// A queue in which the items below a number are queued, and its sender.
+pub(crate) fn filled<R: Abort>(rt: &R, alloc: Global, count: u32) -> (Served<Logging>, Sender) {
+    let (served, mut sender) = empty(rt, alloc, count, Logging::new());
+    for item in 0..count {
+        queue_item(rt, &mut sender, item);
+    }
+    (served, sender)
+}
+
+/// Two queues, with so many items queued in each.
+pub(crate) fn two_filled<R: Abort>(
+    rt: &R,
+    alloc: Global,
+    first: u32,
+    second: u32,
+) -> Vec<Served<Logging>> {
+    let mut queues = Vec::new(alloc);
+    let (one, _sender) = filled(rt, alloc, first);
+    let (other, _sender) = filled(rt, alloc, second);
+    queues.push(one).expect(rt, "memory");
+    queues.push(other).expect(rt, "memory");
+    queues
+}
+
+/// So many queues, with so many items and then the stop item queued in each.
+pub(crate) fn to_stop<R: Abort>(
+    rt: &R,
+    alloc: Global,
+    queues: u32,
+    count: u32,
+) -> Vec<Served<Logging>> {
+    let mut all = Vec::new(alloc);
+    for _turn in 0..queues {
+        let (served, mut sender) = filled(rt, alloc, count);
+        sender.request_stop(1);
+        all.push(served).expect(rt, "memory");
+    }
+    all
+}
+
+pub(crate) fn take_last<R: Abort, W: Work>(
+    rt: &R,
+    pool: &Pool<W>,
+    callers: &mut Vec<Caller>,
+) -> Caller
+    requires { All (IsCallerOf pool.now.ready) callers.old.items }
+    ensures rest { All (IsCallerOf pool.now.ready) callers.new.items }
+    ensures last { IsCallerOf pool.now.ready result }
+{
+    let _ = pool;
+    callers.pop().expect(rt, "a caller")
+}
+
+/// A pool of these queues, a caller of it, and so many more for its workers.
+pub(crate) fn new_pool_for<R: Abort, W: Work + Drop>(
+    rt: &R,
+    alloc: Global,
+    queues: Vec<Served<W>>,
+    workers: u32,
+) -> (Pool<W>, Caller, Vec<Caller>)
+    ensures caller { IsCallerOf result.0.ready result.1 }
+    ensures workers { All (IsCallerOf result.0.ready) result.2.items }
+{
+    let (pool, mut callers) = Pool::new(alloc, queues, workers.saturating_add(1)).expect(
+        rt, "a pool",
+    );
+    let caller = take_last(rt, &pool, &mut callers);
+    (pool, caller, callers)
+}
+
+/// A pool of these queues, and one caller of it.
+pub(crate) fn new_pool<R: Abort, W: Work + Drop>(
+    rt: &R,
+    alloc: Global,
+    queues: Vec<Served<W>>,
+) -> (Pool<W>, Caller)
+    ensures { IsCallerOf result.0.ready result.1 }
+{
+    let (pool, caller, _workers) = new_pool_for(rt, alloc, queues, 0);
+    (pool, caller)
+}
+
+/// A caller with its pool.
+#[derive(Drop)]
+pub(crate) struct Guest<'a> {
+    pub(crate) pool: &'a Pool<Logging>,
+    pub(crate) caller: Caller,
+    ghost is_caller: { IsCallerOf pool.now.ready caller },
+}
+
+impl<'a> Guest<'a> {
+    pub(crate) fn new(pool: &'a Pool<Logging>, caller: Caller) -> Guest<'a>
+        requires { IsCallerOf pool.now.ready caller }
+    {
+        Guest { pool, caller }
+    }
+
+    pub(crate) fn announce<R: Wait>(&mut self, rt: &R, queue: u32) -> bool {
+        self.pool.announce(rt, &mut self.caller, queue).is_ok()
+    }
+
+    /// Does what the answer of a queueing on this queue asks for.
+    pub(crate) fn wake<R: Abort + Wait>(&mut self, rt: &R, queue: u32, answer: Answer) {
+        let woken = self.pool.wake(rt, &mut self.caller, queue, answer);
+        assert!(rt; woken.is_ok());
+    }
+}
+
+/// So many callers with their pool, each under a lock of its own.
+pub(crate) fn take_guests<'a, R: Abort>(
+    rt: &R,
+    alloc: Global,
+    pool: &'a Pool<Logging>,
+    callers: &mut Vec<Caller>,
+    count: u32,
+) -> Vec<Mutex<Guest<'a>>>
+    requires { All (IsCallerOf pool.now.ready) callers.old.items }
+    ensures { All (IsCallerOf pool.now.ready) callers.new.items }
+{
+    let mut guests = Vec::new(alloc);
+    for _turn in 0..count {
+        let caller = take_last(rt, pool, callers);
+        guests
+            .push(Mutex::new(Guest::new(pool, caller)))
+            .expect(rt, "memory");
+    }
+    guests
+}
+
+/// Works at a queue to the end.
+pub(crate) fn work<R: Abort, W: Work, G: Gate>(
+    rt: &R,
+    turn: Turn<W>,
+    limit: u32,
+    gate: &G,
+) -> Worked<W>
+    ensures { result.slots ≡ turn.slots }
+{
+    match turn.work(limit, gate) {
+        Ok(worked) => worked,
+        Err(_) => panic!(rt; "something was left"),
+    }
+}
+
+/// Works at a queue up to a limit, behind which something is left.
+pub(crate) fn work_back<R: Abort, W: Work, G: Gate>(
+    rt: &R,
+    turn: Turn<W>,
+    limit: u32,
+    gate: &G,
+) -> Turn<W>
+    ensures { result.slots ≡ turn.slots }
+{
+    match turn.work(limit, gate) {
+        Ok(_) => panic!(rt; "nothing was left"),
+        Err(turn) => turn,
+    }
+}
+
+/// Finishes a pool of which a queue is out, and gives it back with the number of the queue.
+pub(crate) fn finish_out<R: Abort>(rt: &R, pool: Pool<Logging>, limit: u32) -> (Pool<Logging>, u32)
+    ensures { result.0 ≡ pool }
+{
+    match pool.finish(limit) {
+        Err(PoolFault::Out { pool, queue }) => (pool, queue),
+        _ => panic!(rt; "no queue was out"),
+    }
+}
+
+/// Finishes a pool that is not executed within the limit, and gives it back with the number of the queue and what is left of it.
+pub(crate) fn finish_unfinished<R: Abort>(
+    rt: &R,
+    pool: Pool<Logging>,
+    limit: u32,
+) -> (Pool<Logging>, u32, u32)
+    ensures { result.0 ≡ pool }
+{
+    match pool.finish(limit) {
+        Err(PoolFault::Unfinished { pool, queue, left }) => (pool, queue, left),
+        _ => panic!(rt; "nothing was left"),
+    }
+}

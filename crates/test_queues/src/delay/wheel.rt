@@ -1,0 +1,29 @@
+//! How many slots an advance looks at. That a table answers as a sorted list does is shown by scripts (`checks/random_delays.py`).
+use super::calls::{advance, arm, delayed};
+use crate::expect::expect_same;
+use wq_delay::Armed;
+
+/// A jump, how many it pushed, refused and left waiting, and how many slots were looked at for it.
+type Jump = (u64, Option<(u32, u32, u32)>, u32);
+
+/// The first advance looks at one slot for one tick.
+const JUMPED: &[Jump] = &[
+    (1, Some((1, 0, 3)), 1),
+    (0, None, 1),
+    (257, Some((2, 0, 1)), 256),
+    (600, Some((1, 0, 0)), 256),
+    (600, Some((0, 0, 0)), 0),
+];
+
+#[test]
+fn looks_at_one_slot_a_tick(rt: HostRuntime) {
+    let (_owner, _sender, mut delay) = delayed(rt.alloc(), 4, 0).expect(&rt, "seats");
+    for &(item, ticks) in &[(0, 256), (1, 1), (2, 257), (3, 512)] {
+        expect_same(&rt, arm(&mut delay, item, ticks), Some(Armed::OnTable));
+    }
+    expect_same(&rt, delay.looked(), 0);
+    for &(now, said, looked) in JUMPED {
+        expect_same(&rt, advance(&mut delay, now), said);
+        expect_same(&rt, delay.looked(), looked);
+    }
+}

@@ -1,0 +1,12 @@
+//! What a test says of the values that a call gave.
+ghost use Rattle.std.specs.Prelude.{IsTrue};
+
+use std::fmt::Debug;
+use std::process::Abort;
+
+/// Returns only where the two values are equal. A row of a table is named by a pair of its name and the value on both sides.
+pub(crate) fn expect_same<R: Abort, T: PartialEq + Debug + Drop>(rt: &R, given: T, wanted: T)
+    ensures same { IsTrue (T.eq given wanted) }
+{
+    assert_eq!(rt; given, wanted);
+}

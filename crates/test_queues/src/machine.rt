@@ -1,0 +1,217 @@
+//! The machine of steps: what it refuses, and what holds after each step of a schedule, whichever seat stops in it. The schedules
+//! are those of `checks/rows/schedules.rows`, which says what each step replies.
+use crate::expect::expect_same;
+use std::alloc::{AllocError, Global};
+use std::process::Abort;
+use std::test::Fail;
+use wq_core::Reply::Held;
+use wq_core::Step::{Back, Begin, Chain, Check, End, Hold, Link, Push, Rest, Take};
+use wq_core::{
+    Core, ReplayError, Seat, Step, StepError, chain_and_batch, each_step_keeps_sound, first_push,
+    replay, replay_on,
+};
+use wq_text::{Schedule, parse_steps};
+use wq_words::{Event, Layout, Why, check_history};
+
+const S0: Seat = Seat::Sender(0);
+
+const S1: Seat = Seat::Sender(1);
+
+const O: Seat = Seat::Owner;
+
+/// Schedules whose steps are all enabled: a number queued again since a look, a lost exchange, a close between a link and its
+/// exchange, a sender that stalls, and items that are chained; with what each accepted and began.
+const ENABLED: &[(&str, &[u32], &[u32])] = &[
+    (
+        "steps 1\nitems 4\nsenders 2\n0 hold 0\n0 look\n0 link 0\n0 push 0\n1 hold 1\n1 look\no take\no walk\no begin\n0 hold 0\n0 look\n\
+         0 link 0\n0 push 0\n1 link 1\n1 push 1\no end\no take\no walk\no walk\no begin\no end\no begin\no end\n",
+        &[0, 0, 1],
+        &[0, 0, 1],
+    ),
+    (
+        "steps 1\nitems 4\nsenders 2\n0 hold 0\n1 hold 1\n0 look\n1 look\n0 link 0\n1 link 1\n0 push 0\n1 push 1\n1 look\n1 link 1\n\
+         1 push 1\n",
+        &[0, 1],
+        &[],
+    ),
+    (
+        "steps 1\nitems 4\nsenders 2\n0 hold 2\n0 look\n0 link 2\no close\n0 push 2\n0 look\n0 back 2 closed\n0 check 2\n",
+        &[],
+        &[],
+    ),
+    (
+        "steps 1\nitems 4\nsenders 2\n0 hold 2\n1 hold 2\n1 hold 3\n1 look\n1 link 3\n1 push 3\no take\no walk\no begin\no end\n\
+         1 hold 2\n",
+        &[3],
+        &[3],
+    ),
+    (
+        "steps 1\nitems 4\nsenders 2\n0 hold 0\n0 look\n0 link 0\n0 check 0\n0 push 0\no close\no walk\no begin\no chain 1\no chain 1\n\
+         o chain 0\no end\no begin\no end\no begin\n",
+        &[0, 1, 0],
+        &[0, 1, 0],
+    ),
+];
+
+/// Schedules of which some steps are not enabled: a walk first, links that are turned, and an owner that rests.
+const OTHERS: &[&str] = &[
+    "steps 1\nitems 4\nsenders 2\no walk\n0 hold 0\n0 look\n0 link 0\n0 push 0\no take\no begin\no walk\no begin\n",
+    "steps 1\nitems 4\nsenders 2\n0 hold 0\n0 look\n0 link 0\n0 push 0\n0 hold 1\n0 look\n0 link 1\n0 push 1\no take\no turn 1 end\n\
+     o walk\no turn 1 end\no walk\no turn 0 1\no walk\no begin\no turn 0 end\no end\no walk\no begin\n",
+    "steps 1\nitems 4\nsenders 2\no rest\no take\n0 hold 0\n0 look\no rest\n0 link 0\n0 push 0\n0 look\n0 link 0\n0 push 0\no rest\n\
+     o take\no rest\n",
+];
+
+fn schedule<R: Abort + AllocGlobal>(rt: &R, text: &str) -> Schedule {
+    parse_steps(rt.alloc(), text.as_bytes()).expect(rt, "a schedule")
+}
+
+/// A replay from a machine that is there gives the history that one as a whole gives.
+fn check_replay_on<R: Abort + AllocGlobal>(rt: &R, schedule: &Schedule, whole: &Core) {
+    let mut core = Core::new(rt.alloc(), *schedule.layout()).expect(rt, "memory");
+    expect_same(rt, replay_on(&mut core, schedule.turns()), Ok(()));
+    expect_same(rt, core.history(), whole.history());
+}
+
+/// A replay as a whole gives what was accepted and begun.
+fn check_replay<R: Abort + AllocGlobal>(rt: &R, text: &str, accepted: &[u32], begun: &[u32]) {
+    let schedule = schedule(rt, text);
+    let replayed = replay(rt.alloc(), *schedule.layout(), schedule.turns()).expect(rt, "a replay");
+    expect_same(
+        rt,
+        replayed.accepted().expect(rt, "memory").as_slice(),
+        accepted,
+    );
+    expect_same(rt, replayed.begun().expect(rt, "memory").as_slice(), begun);
+    check_replay_on(rt, &schedule, &replayed);
+}
+
+#[test]
+fn schedules(rt: HostRuntime) {
+    for &(text, accepted, begun) in ENABLED {
+        check_replay(&rt, text, accepted, begun);
+    }
+}
+
+/// Makes a step, where it is enabled. False where it is refused for another cause, where the history is then not legal, or
+/// where what has begun does not begin what was accepted.
+fn goes_on(core: &mut Core, layout: &Layout, seat: Seat, step: Step) -> Result<bool, AllocError> {
+    match core.step(seat, step) {
+        Ok(_) | Err(StepError::NotEnabled) => {}
+        Err(_) => return Ok(false),
+    }
+    let accepted = core.accepted()?;
+    let begun = core.begun()?;
+    Ok(accepted.starts_with(&begun) && check_history(layout, core.history()).is_ok())
+}
+
+/// The schedule without the steps of a seat from a place on. The number of steps until the first that does not go on.
+fn steps_without(
+    alloc: Global,
+    schedule: &Schedule,
+    stopped: Seat,
+    place: usize,
+) -> Result<usize, AllocError> {
+    let mut core = Core::new(alloc, *schedule.layout())?;
+    for (at, (seat, step)) in schedule.turns().iter().enumerate() {
+        if at >= place && *seat == stopped {
+            continue;
+        }
+        if !goes_on(&mut core, schedule.layout(), *seat, *step)? {
+            return Ok(at);
+        }
+    }
+    Ok(schedule.turns().len())
+}
+
+/// Each seat stops at each place of a schedule, and at its end: what the others still do is legal, and runs in the order of its
+/// acceptance.
+fn check_stops<R: Abort + AllocGlobal>(rt: &R, text: &str) -> Result<(), Fail> {
+    let schedule = schedule(rt, text);
+    let count = schedule.turns().len();
+    for stopped in [S0, S1, O] {
+        for place in 0..=count {
+            let steps = steps_without(rt.alloc(), &schedule, stopped, place)?;
+            expect_same(
+                rt,
+                (text, stopped, place, steps),
+                (text, stopped, place, count),
+            );
+        }
+    }
+    Ok(())
+}
+
+#[test]
+fn each_seat_stops_at_each_place(rt: HostRuntime) -> Result<(), Fail> {
+    for &(text, _, _) in ENABLED {
+        check_stops(&rt, text)?;
+    }
+    for &text in OTHERS {
+        check_stops(&rt, text)?;
+    }
+    Ok(())
+}
+
+fn layout<R: Abort>(rt: &R) -> Layout {
+    Layout::new(4, 1, 2).expect(rt, "a layout")
+}
+
+/// Whether a step is refused for this, and at its place in a replay and in the going on of one.
+fn is_refused<R: Abort + AllocGlobal>(
+    rt: &R,
+    core: &mut Core,
+    turn: (Seat, Step),
+    why: StepError,
+) -> bool {
+    let replayed = replay(rt.alloc(), layout(rt), &[(S1, Hold(5)), turn]).err();
+    core.step(turn.0, turn.1) == Err(why)
+        && replayed == Some(ReplayError { at: 1, why })
+        && replay_on(core, &[turn]) == Err(ReplayError { at: 0, why })
+}
+
+/// Each refusal, the first that fits, of a queue of 4 items, 1 barrier and 2 senders: 4 is the barrier, 5 the stop item.
+const REFUSED: &[(Seat, Step, StepError)] = &[
+    (Seat::Sender(2), Hold(6), StepError::NoSeat),
+    (S0, Take, StepError::NoSeat),
+    (S0, Chain(9), StepError::NoSeat),
+    (O, Hold(0), StepError::NoSeat),
+    (O, Check(9), StepError::NoSeat),
+    (S1, Hold(6), StepError::NoItem),
+    (S0, Push(6), StepError::NoItem),
+    (O, Chain(4), StepError::NoItem),
+    (S0, Step::Turn(0, None), StepError::NoSeat),
+    (S0, Rest, StepError::NoSeat),
+    (O, Step::Turn(6, None), StepError::NoItem),
+    (O, Step::Turn(0, Some(6)), StepError::NoItem),
+    (O, Step::Turn(0, Some(5)), StepError::NotEnabled),
+    (S0, Link(5), StepError::NotEnabled),
+    (S0, Push(0), StepError::NotEnabled),
+    (S0, Back(0, Why::Cancelled), StepError::NotEnabled),
+    (O, Begin, StepError::NotEnabled),
+    (O, End, StepError::NotEnabled),
+    (O, Chain(3), StepError::NotEnabled),
+];
+
+#[test]
+fn refusals(rt: HostRuntime) {
+    let mut core = Core::new(rt.alloc(), layout(&rt)).expect(&rt, "memory");
+    for &(seat, step, why) in REFUSED {
+        let is_refused = is_refused(&rt, &mut core, (seat, step), why);
+        expect_same(&rt, (seat, step, is_refused), (seat, step, true));
+    }
+    expect_same(&rt, core.history().len(), 0);
+    expect_same(&rt, core.step(S1, Hold(5)), Ok(Held));
+    expect_same(&rt, core.history(), [Event::Hold(1, 5)].as_slice());
+}
+
+/// What a caller has in hand of a core, whatever was done to it.
+#[test]
+fn laws(rt: HostRuntime) -> Result<(), Fail> {
+    let core = Core::new(rt.alloc(), Layout::new(4, 1, 2)?)?;
+    each_step_keeps_sound();
+    core.sound();
+    chain_and_batch(&core);
+    first_push(&core);
+    Ok(())
+}

@@ -1,0 +1,232 @@
+//! Layouts, the codes of the head word, and which histories are legal.
+use crate::expect::expect_same;
+use std::process::Abort;
+use wq_words::Event::{Back, Begin, Busy, Chain, ChainBusy, Close, End, Hold, Push, Rest, Take};
+use wq_words::{
+    BUSY, Event, Head, HistoryError, HistoryFault, Layout, LayoutError, Why, check_history,
+};
+
+#[test]
+fn layouts(rt: HostRuntime) {
+    for &(items, barriers, senders, refused) in &[
+        (0, 17, 0, Some(LayoutError::Items)),
+        (4097, 1, 1, Some(LayoutError::Items)),
+        (1, 17, 0, Some(LayoutError::Barriers)),
+        (1, 0, 1, Some(LayoutError::Barriers)),
+        (1, 16, 65, Some(LayoutError::Senders)),
+        (1, 16, 0, Some(LayoutError::Senders)),
+        (1, 1, 1, None),
+        (4096, 16, 64, None),
+    ] {
+        let layout = Layout::new(items, barriers, senders);
+        expect_same(
+            &rt,
+            ((items, barriers, senders), layout.err()),
+            ((items, barriers, senders), refused),
+        );
+    }
+}
+
+#[test]
+fn head_codes(rt: HostRuntime) {
+    for &(word, head) in &[
+        (0, Head::Empty),
+        (1, Head::Item(0)),
+        (4113, Head::Item(4112)),
+        (1 << 32, Head::Item(u32::MAX)),
+        (u64::MAX, Head::Closed),
+    ] {
+        expect_same(&rt, (word, Head::from_word(word)), (word, Some(head)));
+        expect_same(&rt, (head, head.to_word()), (head, word));
+    }
+    for word in [(1 << 32) + 1, u64::MAX - 2] {
+        expect_same(&rt, (word, Head::from_word(word)), (word, None));
+    }
+    expect_same(&rt, BUSY, u64::MAX - 1);
+    expect_same(&rt, Head::from_word(BUSY), Some(Head::Empty));
+}
+
+const NOT_ALLOWED: Option<HistoryFault> = Some(HistoryFault::NotAllowed);
+
+const NO_ITEM: Option<HistoryFault> = Some(HistoryFault::NoItem);
+
+const NO_SEAT: Option<HistoryFault> = Some(HistoryFault::NoSeat);
+
+/// Whether a history of a queue of 2 items, 1 barrier and 2 senders, so that 2 is the barrier and 3 the stop item, is legal, or
+/// what is wrong at its last place.
+fn check<R: Abort>(rt: &R, history: &[Event], fault: Option<HistoryFault>) {
+    let layout = Layout::new(2, 1, 2).expect(rt, "a layout");
+    let found = check_history(&layout, history).err();
+    let wanted = fault.map(|kind| HistoryError {
+        place: history.len().saturating_sub(1),
+        kind,
+    });
+    expect_same(rt, (history, found), (history, wanted));
+}
+
+/// Rests: one is allowed where the queue is open and as many have ended as were accepted, taken or not, and another may follow it.
+const HISTORIES: &[(&[Event], Option<HistoryFault>)] = &[
+    (&[], None),
+    (&[Hold(0, 0), Push(0, 0), Begin(0)], None),
+    (&[Hold(0, 0), Hold(1, 0)], NOT_ALLOWED),
+    (&[Hold(2, 9)], NO_SEAT),
+    (&[Hold(0, 4)], NO_ITEM),
+    (&[Hold(0, 0), Close, Push(0, 0)], NOT_ALLOWED),
+    (
+        &[
+            Hold(0, 0),
+            Push(0, 0),
+            Hold(0, 1),
+            Push(0, 1),
+            Begin(0),
+            Begin(1),
+        ],
+        NOT_ALLOWED,
+    ),
+    (
+        &[
+            Hold(0, 0),
+            Push(0, 0),
+            Close,
+            Begin(0),
+            Chain(0),
+            End(0),
+            Begin(0),
+            End(0),
+        ],
+        None,
+    ),
+    (&[Close, Chain(0)], NOT_ALLOWED),
+    (
+        &[Hold(0, 0), Push(0, 0), Close, Begin(0), End(0), Chain(1)],
+        NOT_ALLOWED,
+    ),
+    (&[Rest], None),
+    (&[Rest, Rest], None),
+    (&[Hold(0, 0), Rest, Push(0, 0)], None),
+    (&[Hold(0, 0), Push(0, 0), Rest], NOT_ALLOWED),
+    (&[Hold(0, 0), Push(0, 0), Take, Begin(0), Rest], NOT_ALLOWED),
+    (
+        &[Hold(0, 0), Push(0, 0), Take, Begin(0), End(0), Rest],
+        None,
+    ),
+    (&[Hold(0, 0), Push(0, 0), Begin(0), End(0), Rest], None),
+    (&[Close, Rest], NOT_ALLOWED),
+];
+
+#[test]
+fn histories(rt: HostRuntime) {
+    for &(history, fault) in HISTORIES {
+        check(&rt, history, fault);
+    }
+}
+
+/// Whether this event may stand right after a history.
+fn check_after<R: Abort>(rt: &R, before: [Event; 7], event: Event, fault: Option<HistoryFault>) {
+    let [one, two, three, four, five, six, seven] = before;
+    check(rt, &[one, two, three, four, five, six, seven, event], fault);
+}
+
+/// After a sender gave a number back twice, while another is on the list and sender 1 holds the barrier 2. The first sender and
+/// the first number that the queue has not are 2 and 4.
+const OPEN: &[(Event, Option<HistoryFault>)] = &[
+    (Hold(0, 0), None),
+    (Hold(0, 3), None),
+    (Hold(0, 1), NOT_ALLOWED),
+    (Busy(0, 1), None),
+    (Busy(0, 0), NOT_ALLOWED),
+    (Push(1, 2), None),
+    (Push(0, 2), NOT_ALLOWED),
+    (Back(1, 2, Why::Cancelled), None),
+    (Back(1, 2, Why::Contended), None),
+    (Back(1, 2, Why::Closed), NOT_ALLOWED),
+    (Back(0, 2, Why::Cancelled), NOT_ALLOWED),
+    (Take, None),
+    (Close, None),
+    (Begin(1), None),
+    (Begin(0), NOT_ALLOWED),
+    (End(1), NOT_ALLOWED),
+    (Chain(0), NOT_ALLOWED),
+    (ChainBusy(1), NOT_ALLOWED),
+    (Rest, NOT_ALLOWED),
+    (Hold(2, 0), NO_SEAT),
+    (Busy(2, 1), NO_SEAT),
+    (Push(2, 2), NO_SEAT),
+    (Back(2, 2, Why::Cancelled), NO_SEAT),
+    (Busy(0, 4), NO_ITEM),
+    (Push(1, 4), NO_ITEM),
+    (Back(1, 4, Why::Cancelled), NO_ITEM),
+    (Begin(4), NO_ITEM),
+    (End(4), NO_ITEM),
+    (Chain(2), NO_ITEM),
+    (Chain(3), NO_ITEM),
+    (ChainBusy(2), NO_ITEM),
+    (ChainBusy(3), NO_ITEM),
+    (ChainBusy(4), NO_ITEM),
+];
+
+/// While 0 runs and the queue is open, 1 is on its list and sender 1 holds the barrier 2. Of what is not allowed here, and below,
+/// one premise alone fails.
+const OPEN_THAT_RUNS: &[(Event, Option<HistoryFault>)] = &[
+    (Hold(0, 0), None),
+    (Push(1, 2), None),
+    (Back(1, 2, Why::Closed), NOT_ALLOWED),
+    (Take, None),
+    (Close, None),
+    (Begin(1), NOT_ALLOWED),
+    (End(0), None),
+    (End(1), NOT_ALLOWED),
+    (Chain(0), NOT_ALLOWED),
+    (ChainBusy(1), NOT_ALLOWED),
+    (Rest, NOT_ALLOWED),
+];
+
+/// After a close, of a queue on whose list are 0 and 1, while sender 1 holds the barrier 2: where nothing runs, and where 0 does.
+const CLOSED: &[(Event, Option<HistoryFault>, Option<HistoryFault>)] = &[
+    (Hold(0, 3), None, None),
+    (Hold(0, 1), NOT_ALLOWED, NOT_ALLOWED),
+    (Hold(0, 0), NOT_ALLOWED, None),
+    (Busy(0, 1), None, None),
+    (Busy(0, 0), None, NOT_ALLOWED),
+    (Push(1, 2), NOT_ALLOWED, NOT_ALLOWED),
+    (Back(1, 2, Why::Closed), None, None),
+    (Back(1, 2, Why::Cancelled), None, None),
+    (Back(1, 2, Why::Contended), None, None),
+    (Back(0, 2, Why::Closed), NOT_ALLOWED, NOT_ALLOWED),
+    (Back(1, 1, Why::Closed), NOT_ALLOWED, NOT_ALLOWED),
+    (Take, NOT_ALLOWED, NOT_ALLOWED),
+    (Close, NOT_ALLOWED, NOT_ALLOWED),
+    (Begin(0), None, NOT_ALLOWED),
+    (Begin(1), NOT_ALLOWED, NOT_ALLOWED),
+    (End(0), NOT_ALLOWED, None),
+    (End(1), NOT_ALLOWED, NOT_ALLOWED),
+    (Chain(0), NOT_ALLOWED, None),
+    (Chain(1), NOT_ALLOWED, NOT_ALLOWED),
+    (ChainBusy(0), NOT_ALLOWED, NOT_ALLOWED),
+    (ChainBusy(1), NOT_ALLOWED, None),
+];
+
+#[test]
+fn events_after_an_open_history(rt: HostRuntime) {
+    let back = Back(0, 0, Why::Contended);
+    let (hold, other, held) = (Hold(0, 0), Hold(0, 1), Hold(1, 2));
+    for &(event, fault) in OPEN {
+        let before = [hold, back, hold, back, other, Push(0, 1), held];
+        check_after(&rt, before, event, fault);
+    }
+    for &(event, fault) in OPEN_THAT_RUNS {
+        let before = [hold, Push(0, 0), other, Push(0, 1), held, Take, Begin(0)];
+        check_after(&rt, before, event, fault);
+    }
+}
+
+#[test]
+fn events_after_a_closed_history(rt: HostRuntime) {
+    let (hold, other, held) = (Hold(0, 0), Hold(0, 1), Hold(1, 2));
+    for &(event, idle, running) in CLOSED {
+        let before = [hold, Push(0, 0), other, Push(0, 1), held, Busy(0, 1), Close];
+        check_after(&rt, before, event, idle);
+        let before = [hold, Push(0, 0), other, Push(0, 1), held, Close, Begin(0)];
+        check_after(&rt, before, event, running);
+    }
+}

@@ -1,4 +1,0 @@
-use Rattle.wq_tests.proofs.worker.books.ledgers_balance.Goals as goal
-
-pub balance_some-missing-requires : goal.balance_some-missing-requires
-balance_some-missing-requires g c = (c.meet-second.ensures.kept _ c.meet-first.ensures.made, c.meet-second.ensures.made)

@@ -1,6 +1,0 @@
-use Rattle.std.proofs.Common.{◌≡◌}
-use Rattle.wq_tests.proofs.worker.contention.serve_until_owing.Given as goal
-
-abbrev pub invariant-loop : goal.invariant-loop
-invariant-loop g l =
-    (l.worker.queue ≡ l.initial.worker.queue) × (l.first.queue ≡ l.initial.first.queue) × (l.second.queue ≡ l.initial.second.queue)

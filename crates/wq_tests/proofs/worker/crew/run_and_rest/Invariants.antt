@@ -1,5 +1,0 @@
-use Rattle.std.proofs.Common.{◌≡◌}
-use Rattle.wq_tests.proofs.worker.crew.run_and_rest.Given as goal
-
-abbrev pub invariant-loop : goal.invariant-loop
-invariant-loop g l = l.worker.queue ≡ l.initial.worker.queue
