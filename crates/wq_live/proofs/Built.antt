@@ -8,8 +8,7 @@ use Rattle.wq_words.proofs.Written.{each_more}
 use Rattle.wq_core.specs.Machine.{opening}
 use Rattle.wq_core.proofs.Schedules.{sound_opening}
 use Rattle.wq_table.specs.Chair.{Standing, IsSender, owner_chair, sender_chair, sender_chairs}
-use Rattle.wq_live.specs.declared.sender.Sender.TheInside as sender
-use Rattle.wq_live.specs.declared.owner.Owner.TheInside as owner
+use Rattle.wq_live.specs.declared.owner_seat.OwnerSeat.{OwnerSeat}
 use Rattle.wq_words.specs.History.{closed, running}
 use Rattle.wq_live.specs.Known.{new_sender, new_senders}
 use Rattle.wq_live.specs.Counts.{sender_counts, owner_counts}
@@ -17,7 +16,7 @@ use Rattle.wq_live.specs.declared.row.Row.{Row}
 use Rattle.wq_live.specs.Row.{IsRowOf}
 use Rattle.wq_table.proofs.Views.{none_stands}
 use Rattle.wq_live.proofs.Linking.{has_row}
-use Rattle.wq_live.specs.Sits.{sender_view, Sends, Stands, OwnsQueue}
+use Rattle.wq_live.specs.Sits.{Sending, sender_view, Sends, Stands, OwnsQueue}
 
 pub length-sender_chairs : (q : TableId) (l : Layout) (n : ℕ) → length (sender_chairs q l n) ≡ n
 length-sender_chairs q l zero = refl
@@ -34,10 +33,9 @@ get_or-sender_chairs q l (suc m) i d less =
 pub new_senders-more : (q : TableId) (l : Layout) (n : ℕ) → new_senders q l n ++ new_sender q l n ∷ [] ≡ new_senders q l (n + 1)
 new_senders-more q l n = let e : n + 1 ≡ suc n = omega arith in sym (ap (new_senders q l) e)
 
-pub sends_new : (s : sender.Inside) (q : TableId) → s.chair ≡ sender_chair q s.layout s.number
+pub sends_new : (s : Sending) (q : TableId) → s.chair ≡ sender_chair q s.layout s.number
     → s.counts ≡ record { queued = 0; pending = 0; closed = 0; contended = 0 } → Sends s
 sends_new s q is counts = let seen : s.chair.part.seen ≡ [] = ap (λ (x : Standing). x.part.seen) is in record {
-  alone = ap (λ (x : Standing). x.others) is;
   layout_is = ap (λ (x : Standing). x.part.layout) is;
   number_is = ap (λ (x : Standing). x.part.seat) is;
   stage = subst (λ (x : Standing). IsSender x.part.stage) (sym is) tt;
@@ -45,7 +43,7 @@ sends_new s q is counts = let seen : s.chair.part.seen ≡ [] = ap (λ (x : Stan
   counts_are = counts ∙ ap (sender_counts s.number) (sym seen);
 }
 
-pub sender_view_new : (s : sender.Inside) (q : TableId) → s.chair ≡ sender_chair q s.layout s.number → sender_view s ≡ new_sender q s.layout s.number
+pub sender_view_new : (s : Sending) (q : TableId) → s.chair ≡ sender_chair q s.layout s.number → sender_view s ≡ new_sender q s.layout s.number
 sender_view_new s q is = λ i. record { queue = (is i).queue; layout = s.layout; number = s.number; seen = (is i).part.seen }
 
 pub stands_new : (l : Layout) (p : Standing) → p ≡ owner_chair p.queue l → Stands p.part
@@ -57,10 +55,9 @@ stands_new l p is = subst (λ (x : Standing). Stands x.part) (sym is) record {
 }
 
 -- the owner of a new queue
-pub executes_new : (s : owner.Inside) → s.chair ≡ owner_chair s.chair.queue s.layout → s.row ≡ record { front = 0; last = 0; count = 0 }
+pub executes_new : (s : OwnerSeat) → s.chair ≡ owner_chair s.chair.queue s.layout → s.row ≡ record { front = 0; last = 0; count = 0 }
     → s.running ≡ None → s.closed ≡ false → s.counts ≡ record { chained = 0; chain_busy = 0; ended = 0 } → OwnsQueue s
 executes_new s is row runs shut counts = let seen : s.chair.part.seen ≡ [] = ap (λ (x : Standing). x.part.seen) is in record {
-  alone = ap (λ (x : Standing). x.others) is;
   layout_is = ap (λ (x : Standing). x.part.layout) is;
   number_is = ap (λ (x : Standing). x.part.seat) is;
   stands = stands_new s.layout s.chair is;

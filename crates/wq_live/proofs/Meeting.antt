@@ -10,10 +10,9 @@ use Rattle.wq_table.specs.Law.{HasStage, IsPartOf}
 use Rattle.wq_table.specs.Plays.{see, all_see}
 use Rattle.wq_table.specs.Chair.{Standing, IsSender, seeing}
 use Rattle.wq_words.proofs.Prefixes.{prefix_self}
-use Rattle.wq_live.specs.declared.owner.Owner.TheInside.{Inside}
-use Rattle.wq_live.specs.declared.sender.Sender.TheInside as sender
+use Rattle.wq_live.specs.declared.owner_seat.OwnerSeat.{OwnerSeat as Inside}
 use Rattle.wq_live.specs.Known.{Known, Sees}
-use Rattle.wq_live.specs.Sits.{owner_view, sender_view, Sends, Stands, HasRow, OwnsQueue}
+use Rattle.wq_live.specs.Sits.{Sending, owner_view, sender_view, Sends, Stands, HasRow, OwnsQueue}
 use Rattle.wq_live.proofs.Tells.{Tells, meet_tells}
 use Rattle.wq_live.proofs.Owned.{running_quiet, closed_quiet, counts_quiet}
 use Rattle.wq_live.proofs.OwnerTells.{owner_grows, owner_sees}
@@ -37,7 +36,6 @@ module _ (s : Inside) (q : Standing) (m : Machine) (sound : IsSound m) (f : IsPa
 
   pub meet_executes : OwnsQueue (record s { chair = q })
   meet_executes = let g = owner_grows [] 0 s (record s { chair = q }) executes told in let v = s.chair.part.seen in let w = q.part.seen in record {
-    alone = ap (λ (x : Standing). x.others) is ∙ ap (all_see m.history) executes.alone;
     layout_is = told.layout_is ∙ executes.layout_is;
     number_is = told.seat_is ∙ executes.number_is;
     stands = meet_stands m s.chair.part q.part sound f parts;
@@ -51,7 +49,7 @@ module _ (s : Inside) (q : Standing) (m : Machine) (sound : IsSound m) (f : IsPa
   meet_owner_sees now view = owner_sees [] 0 s (record s { chair = q }) now view executes refl (ap (λ (x : Standing). x.queue) is) told
 
 -- the owner and the sender that met are of queues of one layout
-pub meet_owner_layout : (s : sender.Inside) (t : Inside) (now now' : Known) (m : Machine) → IsPartOf m s.chair.part → IsPartOf m t.chair.part
+pub meet_owner_layout : (s : Sending) (t : Inside) (now now' : Known) (m : Machine) → IsPartOf m s.chair.part → IsPartOf m t.chair.part
     → sender_view s ≡ now → owner_view t ≡ now' → Sends s → OwnsQueue t → now'.layout ≡ now.layout
 meet_owner_layout s t now now' m f g view view' sends executes =
     sym (ap (λ (v : Known). v.layout) view') ∙
@@ -62,7 +60,7 @@ keeps_low m c (stage.Sends p) is keeps = keeps.0
 keeps_low m c (stage.Owns cursor walked batch) is keeps = absurd is
 
 -- a sender that met another seat is below the senders
-pub meet_low : (s : sender.Inside) (now : Known) (m : Machine) → IsPartOf m s.chair.part → sender_view s ≡ now → Sends s → now.number < now.layout.senders
+pub meet_low : (s : Sending) (now : Known) (m : Machine) → IsPartOf m s.chair.part → sender_view s ≡ now → Sends s → now.number < now.layout.senders
 meet_low s now m f view sends =
     let low = keeps_low m s.chair.part.seat s.chair.part.stage sends.stage f.keeps in
     let size = ap (λ (l : Layout). l.senders) (sym f.layout_is ∙ sends.layout_is) in

@@ -22,7 +22,7 @@ use Rattle.wq_table.specs.declared.table.Stage.TheVariants.{Sends, Owns}
 use Rattle.wq_table.specs.Law.{seat_at}
 use Rattle.wq_table.specs.Plays.{stage_after, Makes}
 use Rattle.wq_table.specs.Chair.{Standing, IsOwner}
-use Rattle.wq_live.specs.declared.owner.Owner.TheInside.{Inside}
+use Rattle.wq_live.specs.declared.owner_seat.OwnerSeat.{OwnerSeat as Inside}
 use Rattle.wq_live.specs.Known.{Known, IsSame}
 use Rattle.wq_live.specs.Batch.{batch}
 use Rattle.wq_live.specs.Sits.{owner_view, OwnsQueue, kept_batch}
@@ -98,7 +98,7 @@ rest_tells word p q mine is unclosed makes =
 
 -- the owner that makes the step, in state s before and with the chair q after
 module _ (s : Inside) (q : Standing) (now : Known) (word : ℕ) (view : owner_view s ≡ now) (o : OwnsQueue s) (queue : q.queue ≡ s.chair.queue)
-    (alone : q.others ≡ []) (makes : Makes Rest word s.chair.part q.part) (unclosed : ¬ IsClosed now.seen) where
+    (makes : Makes Rest word s.chair.part q.part) (unclosed : ¬ IsClosed now.seen) where
   told : MatchBool (word == busy_word) (Marks s.chair.part q.part) (Leaves s.chair.part q.part)
   told = rest_tells word s.chair.part q.part o.number_is (owner_of s.chair.part.stage (kept_batch s.chair.part.stage) o.has_row.stage_is)
       (subst (λ (v : Known). ¬ IsClosed v.seen) (sym view) unclosed) makes
@@ -110,7 +110,6 @@ module _ (s : Inside) (q : Standing) (now : Known) (word : ℕ) (view : owner_vi
       → count_by is_chain_busy xs ≡ 0 → OwnsQueue (record s { chair = q })
   owns xs tells b e c chained busy =
       let v = s.chair.part.seen in let w = q.part.seen in let g = owner_grows xs 0 s (record s { chair = q }) o tells in record {
-        alone = alone;
         layout_is = tells.layout_is ∙ o.layout_is;
         number_is = tells.seat_is ∙ o.number_is;
         stands = makes_stands Rest word s.chair.part q.part makes;

@@ -4,7 +4,7 @@ use Rattle.std.proofs.lemmas.Bool.{false≢true}
 use Rattle.wq_core.specs.Machine.{Machine}
 use Rattle.wq_core.specs.Sound.{IsSound}
 use Rattle.wq_table.specs.Law.{IsPartOf}
-use Rattle.wq_table.specs.Plays.{see, all_see}
+use Rattle.wq_table.specs.Plays.{see}
 use Rattle.wq_table.specs.Chair.{Standing, seeing}
 use Rattle.wq_words.specs.declared.layout.Layout.{Layout}
 use Rattle.wq_words.specs.declared.event.Event.{Event}
@@ -18,7 +18,7 @@ use Rattle.wq_words.proofs.Seen.{own-append}
 use Rattle.wq_live.specs.Answers.{IsPushed, TestsAndSets}
 use Rattle.wq_live.proofs.Counting.{count_on, count_one, counts_none}
 use Rattle.wq_table.specs.Chair.{IsSender}
-use Rattle.wq_live.specs.declared.sender.Sender.TheInside.{Inside}
+use Rattle.wq_live.specs.Sits.{Sending as Inside}
 use Rattle.wq_live.specs.Known.{Known, IsSame, Sees}
 use Rattle.wq_live.specs.Counts.{sender_counts}
 use Rattle.wq_live.specs.Sits.{sender_view, Sends}
@@ -33,10 +33,8 @@ pub grows_tells : (s t : Inside) (xs : ℕ → List Event) (n : ℕ) → Sends s
 grows_tells s t xs n sends told = subst (λ (c : ℕ). Grows c (xs c) n s.chair.part.seen t.chair.part.seen) sends.number_is told.grows
 
 pub sends_tells : (s t : Inside) (xs : List Event) (n : ℕ) → Sends s → t.layout ≡ s.layout → t.number ≡ s.number
-    → TellsSo xs n s.chair.part t.chair.part → IsSender t.chair.part.stage → t.chair.others ≡ []
-    → t.counts ≡ sender_counts s.number t.chair.part.seen → Sends t
-sends_tells s t xs n sends layout number told stage alone counts = record {
-  alone = alone;
+    → TellsSo xs n s.chair.part t.chair.part → IsSender t.chair.part.stage → t.counts ≡ sender_counts s.number t.chair.part.seen → Sends t
+sends_tells s t xs n sends layout number told stage counts = record {
   layout_is = told.layout_is ∙ (sends.layout_is ∙ sym layout);
   number_is = told.seat_is ∙ (sends.number_is ∙ sym number);
   stage = stage;
@@ -123,7 +121,6 @@ meet_sends s t m sound f is layout number counts sends =
     let parts : t.chair.part ≡ see m.history s.chair.part = ap (λ (x : Standing). x.part) is in
     let told = meet_tells m s.chair.part t.chair.part sound f parts in
     sends_tells s t [] 0 sends layout number told (meet_sender m s.chair.part t.chair.part parts sends.stage)
-    (ap (λ (x : Standing). x.others) is ∙ ap (all_see m.history) sends.alone)
     (counts ∙ counts_none s.number 0 s.chair.part.seen t.chair.part.seen s.counts sends.counts_are (grows_tells s t (λ z. []) 0 sends told))
 
 pub meet_sees : (s t : Inside) (now : Known) (m : Machine) → IsSound m → IsPartOf m s.chair.part

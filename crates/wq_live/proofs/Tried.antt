@@ -1,15 +1,16 @@
 -- What a try of the chair tells its sender.
-use Rattle.std.proofs.Common.{◌≡◌, ℕ, [], ◌∷◌, ap, ◌∙◌, subst}
+use Rattle.std.proofs.Common.{◌≡◌, ℕ, ◌+◌, ◌≤◌, [], ◌∷◌, refl, ap, ◌∙◌, subst, arith}
 use Rattle.wq_words.specs.declared.event.Event.TheVariants.{Push, Back}
 use Rattle.wq_words.specs.declared.event.Why.TheVariants.{Closed}
 use Rattle.wq_words.specs.declared.answer.Posted.{Posted}
 use Rattle.wq_words.specs.declared.answer.Posted.TheVariants as posted
-use Rattle.wq_live.specs.declared.sender.Sender.TheInside.{Inside}
-use Rattle.wq_live.specs.Known.{Known}
+use Rattle.wq_live.specs.Sits.{Sending as Inside}
+use Rattle.wq_words.specs.Seen.{Grows}
+use Rattle.wq_live.specs.Known.{Known, IsSame}
 use Rattle.wq_live.specs.Answers.{IsPushed, Posts}
 use Rattle.wq_live.specs.Sits.{sender_view, Sends}
 use Rattle.wq_live.specs.Tells.{PostsAs}
-use Rattle.wq_live.proofs.Sends.{sees_tells}
+use Rattle.wq_live.proofs.Sends.{sees_tells, sees_after}
 
 pub posts_told : (s t : Inside) (now : Known) (k : ℕ) (a : Posted) → sender_view s ≡ now → Sends s → t.layout ≡ s.layout → t.number ≡ s.number
     → t.chair.queue ≡ s.chair.queue → PostsAs k a s.chair.part t.chair.part → Posts k 1 a now (sender_view t)
@@ -19,3 +20,13 @@ posts_told s t now k (posted.Queued first wakes) view sends layout number queue 
 )
 posts_told s t now k posted.Closed view sends layout number queue told = sees_tells s t now (λ z. Back z k Closed ∷ []) 0 view sends layout number queue told
 posts_told s t now k posted.Contended view sends layout number queue told = sees_tells s t now (λ z. []) 1 view sends layout number queue told
+
+-- tries in vain, and one more
+pub posts_after : (k n tries : ℕ) (a : Posted) (s l t : Known) → IsSame s l → Grows s.number [] n s.seen l.seen → (a ≡ posted.Contended → tries ≤ n + 1)
+    → Posts k 1 a l t → Posts k tries a s t
+posts_after k n tries (posted.Queued first wakes) s l t same grows less told = (
+  sees_after (λ z. []) (λ z. Push z k ∷ []) n 0 0 s l t (omega arith) same grows told.0,
+  subst (λ (m : ℕ). IsPushed m k first wakes t.seen) same.number_is told.1,
+)
+posts_after k n tries posted.Closed s l t same grows less told = sees_after (λ z. []) (λ z. Back z k Closed ∷ []) n 0 0 s l t (omega arith) same grows told
+posts_after k n tries posted.Contended s l t same grows less told = sees_after (λ z. []) (λ z. []) n 1 tries s l t (less refl) same grows told

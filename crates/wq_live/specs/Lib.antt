@@ -7,3 +7,4 @@ pub mod Tells
 pub mod Rest
 pub mod Laws
 pub mod Sits
+pub mod Alone

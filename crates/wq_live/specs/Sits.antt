@@ -1,6 +1,7 @@
 -- A sender's and an owner's fields, as a clause sees them.
 use Rattle.std.specs.Prelude.{◌≡◌, ℕ, List, [], ◌∷◌, ◌++◌, Option, Some, None}
 use Rattle.wq_words.specs.History.{closed, running}
+use Rattle.wq_words.specs.declared.layout.Layout.{Layout}
 use Rattle.wq_words.specs.Legal.{IsLegal}
 use Rattle.wq_core.specs.Machine.{Machine}
 use Rattle.wq_core.specs.Sound.{IsSound}
@@ -9,27 +10,41 @@ use Rattle.wq_table.specs.declared.table.Stage.{Stage}
 use Rattle.wq_table.specs.declared.table.Stage.TheVariants as stage
 use Rattle.wq_words.specs.Seen.{owner_seat, Grows}
 use Rattle.wq_table.specs.Law.{IsPartOf}
-use Rattle.wq_table.specs.Chair.{IsSender}
-use Rattle.wq_live.specs.declared.sender.Sender.TheInside as sender
-use Rattle.wq_live.specs.declared.owner.Owner.TheInside as owner
+use Rattle.wq_table.specs.Chair.{Standing, part_at, IsSender}
+use Rattle.wq_live.specs.declared.counts.SenderCounts.{SenderCounts}
+use Rattle.wq_live.specs.declared.sent.Sent.{Sent}
+use Rattle.wq_live.specs.declared.owner_seat.OwnerSeat.{OwnerSeat}
 use Rattle.wq_live.specs.declared.row.Row.{Row}
 use Rattle.wq_live.specs.Row.{IsRowOf}
 use Rattle.wq_live.specs.Known.{Known}
 use Rattle.wq_live.specs.Counts.{sender_counts, owner_counts}
 
-abbrev pub sender_view : sender.Inside → Known
+-- a sender: its part of a chair, and what it keeps beside it
+pub record Sending : Type 0 where
+  pub chair : Standing
+  pub layout : Layout
+  pub number : ℕ
+  pub counts : SenderCounts
+
+-- the chair without all parts but the one at this place
+abbrev pub alone_at : ℕ → Standing → Standing
+alone_at at it = record { queue = it.queue; part = part_at at it; others = [] }
+
+abbrev pub sending : ℕ → Standing → Sent → Sending
+sending at it sent = record { chair = alone_at at it; layout = sent.layout; number = sent.number; counts = sent.counts }
+
+abbrev pub sender_view : Sending → Known
 sender_view s = record { queue = s.chair.queue; layout = s.layout; number = s.number; seen = s.chair.part.seen }
 
--- the chair is a sender's alone, and what is kept beside it is of what it has seen
-pub record Sends (s : sender.Inside) : Type 0 where
-  pub alone : s.chair.others ≡ []
+-- the part is a sender's, and what is kept beside it is of what it has seen
+pub record Sends (s : Sending) : Type 0 where
   pub layout_is : s.chair.part.layout ≡ s.layout
   pub number_is : s.chair.part.seat ≡ s.number
   pub stage : IsSender s.chair.part.stage
   pub legal : IsLegal s.layout s.chair.part.seen
   pub counts_are : s.counts ≡ sender_counts s.number s.chair.part.seen
 
-abbrev pub owner_view : owner.Inside → Known
+abbrev pub owner_view : OwnerSeat → Known
 owner_view s = record { queue = s.chair.queue; layout = s.layout; number = owner_seat; seen = s.chair.part.seen }
 
 -- a machine stood like this when the seat saw all that had happened
@@ -49,9 +64,8 @@ pub record HasRow (row : Row) (p : Part) : Type 0 where
   pub stage_is : p.stage ≡ stage.Owns None [] (kept_batch p.stage)
   pub row_is : IsRowOf p.words row (kept_batch p.stage)
 
--- the chair is the owner's alone, the row has its batch, and what is kept beside it is of what it has seen
-pub record OwnsQueue (s : owner.Inside) : Type 0 where
-  pub alone : s.chair.others ≡ []
+-- the chair's first part is the owner's, the row has its batch, and what is kept beside it is of what it has seen
+pub record OwnsQueue (s : OwnerSeat) : Type 0 where
   pub layout_is : s.chair.part.layout ≡ s.layout
   pub number_is : s.chair.part.seat ≡ owner_seat
   pub stands : Stands s.chair.part

@@ -6,8 +6,10 @@ mod counts;
 mod laws;
 mod making;
 mod owner;
+mod owner_seat;
 mod row;
 mod sender;
+mod sent;
 mod trying;
 
 pub use answer::Done;

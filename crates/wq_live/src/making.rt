@@ -7,8 +7,10 @@ ghost use Rattle.wq_live.specs.Known.{new_owner, new_senders, AreNumbered};
 
 use crate::counts::{OwnerCounts, SenderCounts};
 use crate::owner::Owner;
+use crate::owner_seat::OwnerSeat;
 use crate::row::Row;
 use crate::sender::Sender;
+use crate::sent::Sent;
 use std::alloc::{AllocError, Global};
 use thiserror::Error;
 use wq_table::{Chair, chairs};
@@ -39,13 +41,15 @@ fn seat_senders(alloc: Global, layout: Layout, seats: Vec<Chair>) -> Result<Vec<
     for chair in seats {
         let sender = Sender {
             chair,
-            layout,
-            number,
-            counts: SenderCounts {
-                queued: 0,
-                pending: 0,
-                closed: 0,
-                contended: 0,
+            sent: Sent {
+                layout,
+                number,
+                counts: SenderCounts {
+                    queued: 0,
+                    pending: 0,
+                    closed: 0,
+                    contended: 0,
+                },
             },
         };
         if senders.push(sender).is_err() {
@@ -69,7 +73,7 @@ pub fn build(alloc: Global, layout: Layout) -> Result<(Owner, Vec<Sender>), Buil
 {
     let (chair, seats) = chairs(alloc, layout)?;
     let senders = seat_senders(alloc, layout, seats)?;
-    let owner = Owner {
+    let seat = OwnerSeat {
         chair,
         layout,
         row: Row::empty(),
@@ -81,5 +85,6 @@ pub fn build(alloc: Global, layout: Layout) -> Result<(Owner, Vec<Sender>), Buil
             ended: 0,
         },
     };
+    let owner = Owner { seat };
     Ok((owner, senders))
 }

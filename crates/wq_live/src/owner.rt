@@ -6,36 +6,24 @@ ghost use Rattle.wq_words.specs.Numbers.{number_count};
 ghost use Rattle.wq_words.specs.History.{IsClosed, closed, IsRunning, running, ended};
 ghost use Rattle.wq_words.specs.Legal.{IsLegal, IsComplete};
 ghost use Rattle.wq_words.specs.Headline.{KeepsHeadline};
-ghost use Rattle.wq_core.specs.Words.{number_at};
-ghost use Rattle.wq_table.specs.Chair.{part_at};
-ghost use Rattle.wq_table.specs.Beside.{Beside};
 ghost use Rattle.wq_live.specs.Known.{IsSame, Sees};
 ghost use Rattle.wq_live.specs.Answers.{Chains, IsFinal};
 ghost use Rattle.wq_live.specs.Batch.{batch, next_of, TakesAll};
 ghost use Rattle.wq_live.specs.Rest.{Rests, HasRested, MayNotRest};
 ghost use Rattle.wq_live.specs.Counts.{capped, owner_counts};
 ghost use Rattle.wq_live.specs.Laws.{queued_number};
-ghost use Rattle.wq_live.specs.Row.{IsRowOf};
-ghost use Rattle.wq_live.specs.Sits.{Stands, OnlySees, HasRow, Turned, HasBoth, HasFirst, kept_batch, walking};
 
 use crate::answer::Done;
 use crate::counts::OwnerCounts;
-use crate::row::Row;
+use crate::owner_seat::OwnerSeat;
 use std::marker::Model;
-use wq_core::place::{link_word, number_at};
-use wq_table::{Chair, First, Place};
-use wq_words::{Answer, BUSY, Layout};
+use wq_words::{Answer, Layout};
 
 /// The owner of a queue, who takes what was pushed and executes it, one number at a time, in the order of the pushes. It
 /// may be moved to another thread. No call takes a lock or memory, or waits.
 #[derive(Drop)]
 pub struct Owner {
-    pub(crate) chair: Chair,
-    pub(crate) layout: Layout,
-    pub(crate) row: Row,
-    pub(crate) running: Option<u32>,
-    pub(crate) closed: bool,
-    pub(crate) counts: OwnerCounts,
+    pub(crate) seat: OwnerSeat,
 }
 
 impl Model for Owner {
@@ -43,99 +31,12 @@ impl Model for Owner {
 
     ghost Value = { Known };
 
-    ghost use Rattle.wq_live.specs.Sits.{owner_view, OwnsQueue};
+    ghost use Rattle.wq_live.specs.Sits.{owner_view};
+    ghost use Rattle.wq_live.specs.Alone.{OwnsAlone};
 
-    ghost view = { owner_view };
+    ghost view = { λ s. owner_view s.seat };
 
-    ghost invariant = { OwnsQueue };
-}
-
-// Walks what was taken, from the number of this word on, and turns its links, so that it stands oldest first.
-pub(crate) fn turn_taken<P: Place>(chair: &mut Chair, word: u64) -> Row
-    requires stands { Stands (part_at P.at chair.old) }
-    requires stage { (part_at P.at chair.old).stage ≡ walking (number_at word) [] (kept_batch (part_at P.at chair.old).stage) }
-    ensures beside { Beside P.at chair.old chair.new }
-    ensures follows { OnlySees (part_at P.at chair.old) (part_at P.at chair.new) }
-    ensures stands { Stands (part_at P.at chair.new) }
-    ensures turned { Turned (kept_batch (part_at P.at chair.old).stage) result (part_at P.at chair.old) (part_at P.at chair.new) }
-{
-    let Some(last) = number_at(word) else {
-        return Row::empty();
-    };
-    let mut row = Row::of_one(last);
-    let mut next = number_at(chair.walk::<P>(last));
-    while let Some(number) = next {
-        next = number_at(chair.walk::<P>(number));
-        chair.turn::<P>(number, row.front);
-        row.front = number;
-        row.count += 1;
-    }
-    row
-}
-
-// Hangs one row behind another, by one link.
-pub(crate) fn hang<P: Place>(chair: &mut Chair, row: Row, more: Row) -> Row
-    requires stands { Stands (part_at P.at chair.old) }
-    requires both { HasBoth row more (part_at P.at chair.old) }
-    ensures beside { Beside P.at chair.old chair.new }
-    ensures follows { OnlySees (part_at P.at chair.old) (part_at P.at chair.new) }
-    ensures stands { Stands (part_at P.at chair.new) }
-    ensures stage { (part_at P.at chair.new).stage ≡ (part_at P.at chair.old).stage }
-    ensures has_row { HasRow result (part_at P.at chair.new) }
-    ensures count { result.count ≡ row.count + more.count }
-{
-    if more.count == 0 {
-        return row;
-    }
-    if row.count == 0 {
-        return more;
-    }
-    chair.turn::<P>(row.last, more.front);
-    Row {
-        front: row.front,
-        last: more.last,
-        count: row.count + more.count,
-    }
-}
-
-// Walks what was taken, from the number of this word on, and hangs it behind what waits.
-pub(crate) fn walk_all<P: Place>(chair: &mut Chair, row: Row, word: u64) -> Row
-    requires stands { Stands (part_at P.at chair.old) }
-    requires stage { (part_at P.at chair.old).stage ≡ walking (number_at word) [] (kept_batch (part_at P.at chair.old).stage) }
-    requires row { IsRowOf (part_at P.at chair.old).words row (kept_batch (part_at P.at chair.old).stage) }
-    ensures beside { Beside P.at chair.old chair.new }
-    ensures follows { OnlySees (part_at P.at chair.old) (part_at P.at chair.new) }
-    ensures stands { Stands (part_at P.at chair.new) }
-    ensures has_row { HasRow result (part_at P.at chair.new) }
-    ensures more { row.count ≤ result.count }
-    ensures behind { IsPrefix (kept_batch (part_at P.at chair.old).stage) (kept_batch (part_at P.at chair.new).stage) }
-{
-    let taken = turn_taken::<P>(chair, word);
-    hang::<P>(chair, row, taken)
-}
-
-// What is left of a row without its first number, whose link is loaded while nobody else can write it.
-pub(crate) fn without_first<P: Place>(chair: &mut Chair, row: Row) -> Row
-    requires stands { Stands (part_at P.at chair.old) }
-    requires has_row { HasRow row (part_at P.at chair.old) }
-    requires some { 0 < row.count }
-    ensures beside { Beside P.at chair.old chair.new }
-    ensures follows { OnlySees (part_at P.at chair.old) (part_at P.at chair.new) }
-    ensures stands { Stands (part_at P.at chair.new) }
-    ensures stage { (part_at P.at chair.new).stage ≡ (part_at P.at chair.old).stage }
-    ensures first { HasFirst row.front result (part_at P.at chair.new) }
-{
-    if row.count == 1 {
-        return Row::empty();
-    }
-    match number_at(chair.walk::<P>(row.front)) {
-        Some(front) => Row {
-            front,
-            last: row.last,
-            count: row.count - 1,
-        },
-        None => unreachable!(),
-    }
+    ghost invariant = { OwnsAlone };
 }
 
 impl Owner {
@@ -144,7 +45,7 @@ impl Owner {
         ensures layout { result ≡ self.now.layout }
         ensures legal { IsLegal self.now.layout self.now.seen }
     {
-        self.layout
+        self.seat.layout
     }
 
     /// What it has seen is a legal history of its queue, so it keeps the headline: what was accepted is executed in its order,
@@ -153,7 +54,7 @@ impl Owner {
         ensures legal { IsLegal self.now.layout self.now.seen }
         ensures headline { KeepsHeadline self.now.seen }
     {
-        let _ = &self.counts;
+        let _ = &self.seat.counts;
     }
 
     /// Takes all that stands on the list, and answers how many that is (`llist_del_all`). An owner that serves by a loop of its
@@ -168,9 +69,7 @@ impl Owner {
         ensures idle { ¬ IsRunning self.old.seen → ¬ IsRunning self.new.seen }
         ensures runs { IsRunning self.old.seen → IsRunning self.new.seen }
     {
-        let head = self.chair.take::<First>();
-        self.row = walk_all::<First>(&mut self.chair, self.row, link_word(head));
-        self.row.count
+        self.seat.take()
     }
 
     /// Closes the queue, takes all that stands on the list, and answers how many that is. What a sender queues from now
@@ -185,21 +84,14 @@ impl Owner {
         ensures idle { ¬ IsRunning self.old.seen → ¬ IsRunning self.new.seen }
         ensures runs { IsRunning self.old.seen → IsRunning self.new.seen }
     {
-        let had = self.row.count;
-        let head = self.chair.close::<First>();
-        self.closed = true;
-        self.row = walk_all::<First>(&mut self.chair, self.row, link_word(head));
-        self.row.count - had
+        self.seat.close()
     }
 
     /// The oldest number that was taken and has not begun.
     pub fn next(&self) -> Option<u32>
         ensures first { result ≡ next_of self.now.seen }
     {
-        if self.row.count == 0 {
-            return None;
-        }
-        Some(self.row.front)
+        self.seat.next()
     }
 
     /// How many numbers were taken and have not begun.
@@ -207,7 +99,7 @@ impl Owner {
         ensures count { result ≡ length (batch self.now.seen) }
         ensures few { result ≤ number_count self.now.layout }
     {
-        self.row.count
+        self.seat.waiting()
     }
 
     /// Begins the execution of `next`, and clears its PENDING bit first, so that it can be queued again while it runs.
@@ -222,11 +114,7 @@ impl Owner {
         ensures shut { IsClosed self.old.seen → IsClosed self.new.seen }
         ensures unclosed { ¬ IsClosed self.old.seen → ¬ IsClosed self.new.seen }
     {
-        let number = self.row.front;
-        self.row = without_first::<First>(&mut self.chair, self.row);
-        self.chair.begin::<First>(number);
-        self.running = Some(number);
-        number
+        self.seat.begin()
     }
 
     /// Ends the execution that runs.
@@ -239,9 +127,7 @@ impl Owner {
         ensures shut { IsClosed self.old.seen → IsClosed self.new.seen }
         ensures unclosed { ¬ IsClosed self.old.seen → ¬ IsClosed self.new.seen }
     {
-        self.chair.end::<First>();
-        self.running = None;
-        self.counts.ended = self.counts.ended.saturating_add(1);
+        self.seat.end();
     }
 
     /// Says once that the queue rests: true where all that was accepted has ended, the owner has taken since it rested last,
@@ -264,8 +150,7 @@ impl Owner {
         ensures empty { batch self.new.seen ≡ [] }
         ensures idle { ¬ IsRunning self.new.seen }
     {
-        let head = self.chair.rest::<First>();
-        head == BUSY
+        self.seat.rest()
     }
 
     /// Queues an item behind all that waits, from the execution that runs after the close (chain queueing in
@@ -280,30 +165,21 @@ impl Owner {
         ensures shut { IsClosed self.new.seen }
         ensures runs { IsRunning self.new.seen }
     {
-        if self.chair.chain::<First>(item) != 0 {
-            self.counts.chain_busy = self.counts.chain_busy.saturating_add(1);
-            return Answer::Pending;
-        }
-        self.row = hang::<First>(&mut self.chair, self.row, Row::of_one(item));
-        self.counts.chained = self.counts.chained.saturating_add(1);
-        Answer::Queued {
-            first: false,
-            wakes: false,
-        }
+        self.seat.chain(item)
     }
 
     /// Whether it has closed the queue.
     pub fn is_closed(&self) -> bool
         ensures closed { result ≡ closed self.now.seen }
     {
-        self.closed
+        self.seat.closed
     }
 
     /// The number that runs.
     pub fn running(&self) -> Option<u32>
         ensures runs { result ≡ running self.now.seen }
     {
-        self.running
+        self.seat.running
     }
 
     /// Some where the queue is closed and all that was accepted has ended.
@@ -313,11 +189,11 @@ impl Owner {
         ensures last { IsSome result → IsFinal self.now.layout self.now.seen }
         ensures finished { IsClosed self.now.seen → batch self.now.seen ≡ [] → ¬ IsRunning self.now.seen → IsSome result }
     {
-        if !self.closed || self.row.count != 0 || self.running.is_some() {
+        if !self.seat.closed || self.seat.row.count != 0 || self.seat.running.is_some() {
             return None;
         }
         Some(Done {
-            ended: self.counts.ended,
+            ended: self.seat.counts.ended,
         })
     }
 
@@ -325,6 +201,6 @@ impl Owner {
     pub fn counts(&self) -> OwnerCounts
         ensures counted { result ≡ owner_counts self.now.seen }
     {
-        self.counts
+        self.seat.counts
     }
 }

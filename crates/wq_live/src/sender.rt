@@ -16,7 +16,7 @@ ghost use Rattle.wq_live.specs.Laws.{IsStillEnd};
 
 use crate::counts::SenderCounts;
 use crate::owner::Owner;
-use crate::trying::try_push;
+use crate::sent::{Sent, attempt, hold_number, push_tries, queue_number};
 use crossbeam_utils::Backoff;
 use std::marker::Model;
 use std::sync::Wait;
@@ -31,9 +31,7 @@ use wq_words::{Answer, Layout, Posted};
 #[derive(Drop)]
 pub struct Sender {
     pub(crate) chair: Chair,
-    pub(crate) layout: Layout,
-    pub(crate) number: u32,
-    pub(crate) counts: SenderCounts,
+    pub(crate) sent: Sent,
 }
 
 impl Model for Sender {
@@ -41,11 +39,12 @@ impl Model for Sender {
 
     ghost Value = { Known };
 
-    ghost use Rattle.wq_live.specs.Sits.{sender_view, Sends};
+    ghost use Rattle.wq_live.specs.Sits.{sender_view, sending};
+    ghost use Rattle.wq_live.specs.Alone.{SendsAlone};
 
-    ghost view = { sender_view };
+    ghost view = { λ s. sender_view (sending 0 s.chair s.sent) };
 
-    ghost invariant = { Sends };
+    ghost invariant = { SendsAlone };
 }
 
 impl Sender {
@@ -53,7 +52,7 @@ impl Sender {
     pub fn number(&self) -> u32
         ensures seat { result ≡ self.now.number }
     {
-        self.number
+        self.sent.number
     }
 
     /// The size of its queue.
@@ -61,7 +60,7 @@ impl Sender {
         ensures layout { result ≡ self.now.layout }
         ensures legal { IsLegal self.now.layout self.now.seen }
     {
-        self.layout
+        self.sent.layout
     }
 
     /// What it has seen is a legal history of its queue, so it keeps the headline: what was accepted is executed in its order,
@@ -70,14 +69,14 @@ impl Sender {
         ensures legal { IsLegal self.now.layout self.now.seen }
         ensures headline { KeepsHeadline self.now.seen }
     {
-        let _ = &self.counts;
+        let _ = &self.sent.counts;
     }
 
     /// What it has counted of its own events.
     pub fn counts(&self) -> SenderCounts
         ensures counted { result ≡ sender_counts self.now.number self.now.seen }
     {
-        self.counts
+        self.sent.counts
     }
 
     // Sets the PENDING bit of a number.
@@ -85,11 +84,7 @@ impl Sender {
         requires number { number < number_count self.old.layout }
         ensures seen { TestsAndSets number result self.old self.new }
     {
-        if self.chair.hold::<First>(number) == 0 {
-            return true;
-        }
-        self.counts.pending = self.counts.pending.saturating_add(1);
-        false
+        hold_number::<First>(&mut self.chair, &mut self.sent, number)
     }
 
     // One try to push a number that this sender holds: look, link, push.
@@ -98,23 +93,7 @@ impl Sender {
         requires held { Holds self.old.seen self.old.number number }
         ensures { Posts number 1 result self.old self.new }
     {
-        let posted = try_push::<First>(&mut self.chair, number);
-        match &posted {
-            Posted::Queued { .. } => self.counts.queued = self.counts.queued.saturating_add(1),
-            Posted::Closed => self.counts.closed = self.counts.closed.saturating_add(1),
-            Posted::Contended => {}
-        }
-        posted
-    }
-
-    // Gives up a number that this sender holds, after as many tries as were asked for.
-    fn give_up(&mut self, number: u32)
-        requires number { number < number_count self.old.layout }
-        requires held { Holds self.old.seen self.old.number number }
-        ensures { Sees (Back self.old.number number why.Contended ∷ []) 0 self.old self.new }
-    {
-        self.chair.back_contended::<First>(number);
-        self.counts.contended = self.counts.contended.saturating_add(1);
+        attempt::<First>(&mut self.chair, &mut self.sent, number)
     }
 
     // The PENDING bit of a number.
@@ -143,14 +122,7 @@ impl Sender {
         requires held { Holds self.old.seen self.old.number number }
         ensures { Posts number tries result self.old self.new }
     {
-        let backoff = Backoff::new();
-        for _ in 1..tries {
-            match self.attempt(number) {
-                Posted::Contended => backoff.spin(),
-                posted => return posted,
-            }
-        }
-        self.attempt(number)
+        push_tries::<First>(&mut self.chair, &mut self.sent, number, tries)
     }
 
     // Queues a number, with at most so many tries.
@@ -159,17 +131,7 @@ impl Sender {
         ensures answer { Answers number tries result self.old self.new }
         ensures contended { result ≡ Contended → IsContended self.old.number number tries self.new.seen }
     {
-        if !self.hold_number(number) {
-            return Answer::Pending;
-        }
-        match self.push_tries(number, tries) {
-            Posted::Queued { first, wakes } => Answer::Queued { first, wakes },
-            Posted::Closed => Answer::Closed,
-            Posted::Contended => {
-                self.give_up(number);
-                Answer::Contended
-            }
-        }
+        queue_number::<First>(&mut self.chair, &mut self.sent, number, tries)
     }
 
     // Queues a number, and tries until no other seat changes the list meanwhile. The number is held between the tries.
@@ -260,7 +222,7 @@ impl Sender {
         ensures contended { result ≡ Contended → IsContended self.old.number (barrier_number self.old.layout barrier) tries self.new.seen }
         ensures same { IsSame self.old self.new }
     {
-        let number = self.layout.barrier(barrier);
+        let number = self.sent.layout.barrier(barrier);
         self.queue_number(number, tries)
     }
 
@@ -271,7 +233,7 @@ impl Sender {
         ensures clear { result ≡ not (pending self.new.seen (barrier_number self.old.layout barrier)) }
         ensures flushed { IsTrue result → HasFlushed (barrier_number self.old.layout barrier) self.new.seen }
     {
-        let number = self.layout.barrier(barrier);
+        let number = self.sent.layout.barrier(barrier);
         !self.is_number_pending(number)
     }
 
@@ -284,7 +246,7 @@ impl Sender {
         ensures settled { result ≢ Contended }
         ensures flushed { (first wakes : _) → result ≡ Queued first wakes → HasFlushed (barrier_number self.old.layout barrier) self.new.seen }
     {
-        let number = self.layout.barrier(barrier);
+        let number = self.sent.layout.barrier(barrier);
         match self.queue_waiting(rt, number) {
             Answer::Queued { first, wakes } => {
                 let backoff = Backoff::new();
@@ -307,7 +269,7 @@ impl Sender {
         ensures contended { result ≡ Contended → IsContended self.old.number (stop_number self.old.layout) tries self.new.seen }
         ensures same { IsSame self.old self.new }
     {
-        let stop = self.layout.stop();
+        let stop = self.sent.layout.stop();
         self.queue_number(stop, tries)
     }
 
@@ -333,7 +295,7 @@ impl Sender {
         ensures seat { owner.old.number ≡ owner_seat }
         ensures last { IsComplete owner.old.seen → IsStillEnd owner.old.seen owner.new.seen }
     {
-        self.chair.meet(&mut owner.chair);
+        self.chair.meet(&mut owner.seat.chair);
     }
 
     /// Afterwards all three have seen all that has happened, and so all that any of them had seen.
@@ -347,6 +309,6 @@ impl Sender {
         ensures layout { (other.old.layout ≡ self.old.layout) × (owner.old.layout ≡ self.old.layout) }
         ensures last { IsComplete owner.old.seen → IsStillEnd owner.old.seen owner.new.seen }
     {
-        self.chair.meet_both(&mut other.chair, &mut owner.chair);
+        self.chair.meet_both(&mut other.chair, &mut owner.seat.chair);
     }
 }

@@ -3,7 +3,7 @@ ghost use Rattle.std.specs.Prelude.{◌<◌};
 ghost use Rattle.wq_words.specs.History.{Holds};
 ghost use Rattle.wq_words.specs.Numbers.{number_count};
 ghost use Rattle.wq_table.specs.Chair.{part_at, IsSender};
-ghost use Rattle.wq_table.specs.Beside.{Beside};
+ghost use Rattle.wq_table.specs.Beside.{Follow};
 ghost use Rattle.wq_live.specs.Tells.{PostsAs};
 
 use wq_core::place::link_word;
@@ -17,7 +17,7 @@ pub(crate) fn try_push<P: Place>(chair: &mut Chair, number: u32) -> Posted
     requires held { Holds (part_at P.at chair.old).seen (part_at P.at chair.old).seat number }
     ensures posts { PostsAs number result (part_at P.at chair.old) (part_at P.at chair.new) }
     ensures sender { IsSender (part_at P.at chair.new).stage }
-    ensures beside { Beside P.at chair.old chair.new }
+    ensures follow { Follow P.at chair.old chair.new }
 {
     let word = chair.look::<P>();
     let closed = Head::Closed.to_word();

@@ -65,6 +65,19 @@ pub follow_beside : (at : ℕ) (step : Step) (word : ℕ) (a b c : Standing) →
 follow_beside at step word a b c steps y = let f = follow_step at step word a b steps in ⊎_elim
     (λ (e : c ≡ b). subst (Follow at a) (sym e) f) (λ (g : Follow at b c). follow_on at a b c f g) y
 
+-- made steps, and then one
+pub follow_then : (at : ℕ) (step : Step) (word : ℕ) (a b c : Standing) → Follow at a b → Steps at step word b c → Follow at a c
+follow_then at step word a b c f steps = follow_on at a b c f (follow_step at step word b c steps)
+
+-- made steps, or none, and then some
+pub beside_follow : (at : ℕ) (a b c : Standing) → Beside at a b → Follow at b c → Follow at a c
+beside_follow at a b c x g = ⊎_elim
+    (λ (e : b ≡ a). subst (λ (z : Standing). Follow at z c) e g) (λ (f : Follow at a b). follow_on at a b c f g) x
+
+-- made steps, or none, and then one
+pub follow_after : (at : ℕ) (step : Step) (word : ℕ) (a b c : Standing) → Beside at a b → Steps at step word b c → Follow at a c
+follow_after at step word a b c x steps = beside_follow at a b c x (follow_step at step word b c steps)
+
 pub beside_queue : (at : ℕ) (a b : Standing) → Beside at a b → b.queue ≡ a.queue
 beside_queue at a b x = ⊎_elim (λ (e : b ≡ a). ap (λ (z : Standing). z.queue) e) (λ (f : Follow at a b). f.queue_is) x
 

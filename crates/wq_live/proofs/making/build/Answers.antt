@@ -8,7 +8,10 @@ use Rattle.wq_live.proofs.Seated.{free_new, length-new_senders, all_new, numbere
 use Rattle.wq_live.proofs.making.build.Goals as goal
 
 pub invariant_of-owner : goal.invariant_of-owner
-invariant_of-owner c = executes_new _ c.in_ok-chair.ensures.seats.0 c.empty.ensures refl refl refl
+invariant_of-owner c = record {
+  owns = executes_new _ c.in_ok-chair.ensures.seats.0 c.empty.ensures refl refl refl;
+  alone = ap (λ (x : Standing). x.others) c.in_ok-chair.ensures.seats.0;
+}
 
 made : (c : goal.After-empty) → c.in_ok-senders.senders.items ≡ new_senders c.in_ok-chair.chair.queue c.args.layout c.args.layout.senders
 made c = c.in_ok-senders.ensures c.in_ok-chair.chair.queue c.in_ok-chair.ensures.seats.1

@@ -4,9 +4,8 @@ use Rattle.std.proofs.lemmas.Bool.{false≢true}
 use Rattle.std.proofs.lemmas.Iterator.Adapters.{YieldsList-from_vec}
 use Rattle.std.proofs.lemmas.Iterator.Consumers.{YieldsList-turn, YieldsList-end}
 use Rattle.wq_table.specs.Chair.{Standing}
-use Rattle.wq_live.specs.declared.sender.Sender.TheInside.{Inside}
 use Rattle.wq_live.specs.Known.{new_senders}
-use Rattle.wq_live.specs.Sits.{sender_view}
+use Rattle.wq_live.specs.Sits.{Sending, sending, alone_at, sender_view}
 use Rattle.wq_live.proofs.Built.{chair_at, sends_new, sender_view_new, new_senders-more, length-sender_chairs}
 use Rattle.wq_live.proofs.making.seat_senders.Goals as goal
 
@@ -20,9 +19,11 @@ invariant_of-sender c = let g = c.into_iter-chair-iterator.ensures.into_iter_giv
     (YieldsList-from_vec {s = c.into_iter-chair-iterator.result} c.args.seats.items g.0 (g.1 ∙ c.args.seats.ok.0)) c.loop-chair.yielded
     c.loop-chair.chair-iterator c.loop-chair.yielded_by c.next.result c.next.new.self c.in-Some.chair c.in-Some.is c.next.ensures.steps in
     let q = c.requires.seats.0 in
-    sends_new _ q
-    (chair_at q c.args.layout c.args.layout.senders c.args.seats.items
-    (length c.loop-chair.yielded) c.loop-chair.number c.in-Some.chair c.requires.seats.1 c.loop-chair.invariant.0 turn) refl
+    let is = chair_at q c.args.layout c.args.layout.senders c.args.seats.items
+    (length c.loop-chair.yielded) c.loop-chair.number c.in-Some.chair c.requires.seats.1 c.loop-chair.invariant.0 turn in record {
+      sends = sends_new _ q (ap (alone_at 0) is) refl;
+      alone = ap (λ (x : Standing). x.others) is;
+    }
 
 pub overflow_add-number : goal.overflow_add-number
 overflow_add-number c = let g = c.into_iter-chair-iterator.ensures.into_iter_gives in
@@ -44,13 +45,16 @@ loop-chair-preserved c = let g = c.into_iter-chair-iterator.ensures.into_iter_gi
     let turn = YieldsList-turn
     (YieldsList-from_vec {s = c.into_iter-chair-iterator.result} c.args.seats.items g.0 (g.1 ∙ c.args.seats.ok.0)) l.yielded l.chair-iterator
     l.yielded_by c.next.result c.next.new.self c.in-Some.chair c.in-Some.is c.next.ensures.steps in
-    let s : Inside = record
-    { chair = c.in-Some.chair; layout = c.args.layout; number = l.number; counts = record { queued = 0; pending = 0; closed = 0; contended = 0 } } in
+    let s : Sending = sending 0 c.in-Some.chair (record {
+      layout = c.args.layout;
+      number = l.number;
+      counts = record { queued = 0; pending = 0; closed = 0; contended = 0 };
+    }) in
     let failed = c.is_err.ensures.value in let no : c.is_err.result ≡ false = c.if-is_err.false in
     let ok : is_ok c.push.result ≡ true = not_err c.push.result (sym failed ∙ no) in (
       omega (arith, l.invariant.0, length-append l.yielded (c.in-Some.chair ∷ [])),
       λ q is. let view = sender_view_new s q
-          (chair_at q c.args.layout c.args.layout.senders c.args.seats.items (length l.yielded) l.number c.in-Some.chair is l.invariant.0 turn) in
+          (ap (alone_at 0) (chair_at q c.args.layout c.args.layout.senders c.args.seats.items (length l.yielded) l.number c.in-Some.chair is l.invariant.0 turn)) in
           c.push.ensures.items ∙
           (ap (λ (b : Bool). if b then l.senders.items ++ sender_view s ∷ [] else l.senders.items) ok ∙
           ((λ i. l.invariant.1 q is i ++ view i ∷ []) ∙ new_senders-more q c.args.layout l.number)),

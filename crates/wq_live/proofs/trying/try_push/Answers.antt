@@ -2,7 +2,7 @@ use Rattle.std.proofs.Common.{◌==◌, Bool, [], ◌∷◌, subst, sym, ℕ, eq
 use Rattle.wq_words.specs.declared.event.Event.TheVariants.{Push, Back}
 use Rattle.wq_words.specs.declared.event.Why.TheVariants.{Closed}
 use Rattle.wq_table.specs.Chair.{part_at}
-use Rattle.wq_table.proofs.Beside.{beside_first, beside_step}
+use Rattle.wq_table.proofs.Beside.{follow_step, follow_then}
 use Rattle.wq_live.specs.Answers.{IsPushed}
 use Rattle.wq_live.proofs.Tells.{tells_held, tells_then, tells_others, look_tells, link_tells, push_tells, back_tells, Wins, Loses, sender_made}
 use Rattle.wq_live.proofs.trying.try_push.Goals as goal
@@ -35,13 +35,13 @@ returns-then-push-word-clause-posts g c =
           (λ i. ((linked.told.seat_is ∙ looked.told.seat_is) i, sym c.link_word.ensures.word i, sym c.to_word-empty.ensures.word i)) won.pushed,
     )
 
-pub returns-then-push-word-clause-beside : goal.returns-then-push-word-clause-beside
-returns-then-push-word-clause-beside g c = let at = g.P.Place.at in
-    beside_step at _ _ _ _ _ (beside_step at _ _ _ _ _ (beside_first at _ _ _ _ c.look-word.ensures.step) c.link.ensures.step) c.push.ensures.step
+pub returns-then-push-word-clause-follow : goal.returns-then-push-word-clause-follow
+returns-then-push-word-clause-follow g c = let at = g.P.Place.at in
+    follow_then at _ _ _ _ _ (follow_then at _ _ _ _ _ (follow_step at _ _ _ _ c.look-word.ensures.step) c.link.ensures.step) c.push.ensures.step
 
-pub returns-then-word-closed-clause-beside : goal.returns-then-word-closed-clause-beside
-returns-then-word-closed-clause-beside g c = let at = g.P.Place.at in
-    beside_step at _ _ _ _ _ (beside_first at _ _ _ _ c.look-word.ensures.step) c.back_closed.ensures.step.1
+pub returns-then-word-closed-clause-follow : goal.returns-then-word-closed-clause-follow
+returns-then-word-closed-clause-follow g c = let at = g.P.Place.at in
+    follow_then at _ _ _ _ _ (follow_step at _ _ _ _ c.look-word.ensures.step) c.back_closed.ensures.step.1
 
 pub returns-then-word-closed-clause-sender : goal.returns-then-word-closed-clause-sender
 returns-then-word-closed-clause-sender g c =
@@ -64,6 +64,6 @@ returns g c =
           (tells_others w q t looked.head_is lost.head_is (tells_then (λ z. []) 0 0 q r t linked.told lost.told));
       sender = sender_made _ _ _ _ c.push.ensures.step.moves.makes
           (sender_made _ _ _ _ c.link.ensures.step.moves.makes (sender_made _ _ _ _ c.look-word.ensures.step.moves.makes c.requires.sender));
-      beside = beside_step at _ _ _ _ _ (beside_step at _ _ _ _ _ (beside_first at _ _ _ _ c.look-word.ensures.step) c.link.ensures.step)
+      follow = follow_then at _ _ _ _ _ (follow_then at _ _ _ _ _ (follow_step at _ _ _ _ c.look-word.ensures.step) c.link.ensures.step)
           c.push.ensures.step;
     }

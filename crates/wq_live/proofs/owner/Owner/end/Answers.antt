@@ -1,53 +1,10 @@
-use Rattle.std.proofs.Common.{◌≡◌, ℕ, [], ◌∷◌, Some, None, ap, sym, subst, refl, ◌∙◌}
+use Rattle.std.proofs.Common.{[], ◌∷◌, ap, ◌∙◌, subst}
 use Rattle.wq_words.specs.declared.event.Event.TheVariants.{End}
-use Rattle.wq_words.specs.History.{IsRunning, running}
-use Rattle.wq_words.proofs.Running.{runs_some, rests_from_running}
-use Rattle.wq_table.proofs.Beside.{alone_step}
+use Rattle.wq_words.specs.History.{running}
 use Rattle.wq_live.specs.Known.{Known, Sees}
-use Rattle.wq_live.proofs.Tells.{Tells}
-use Rattle.wq_live.proofs.Owned.{running_ended, closed_quiet, counts_ended}
-use Rattle.wq_core.specs.declared.step.Step.TheVariants as step
-use Rattle.wq_live.specs.Sits.{kept_batch, owner_view}
-use Rattle.wq_live.proofs.Linking.{has_row_after}
-use Rattle.wq_live.proofs.Resting.{closed_stays, open_stays}
-use Rattle.wq_live.proofs.OwnerTells.{makes_stands, stands_batch, owner_batch, owner_of, end_tells, end_stage, owner_runs, owner_grows, owner_sees}
+use Rattle.wq_live.specs.Sits.{owner_view}
 use Rattle.wq_live.proofs.owner.Owner.end.Goals as goal
 
-pub invariant_of-self : goal.invariant_of-self
-invariant_of-self c =
-    let s = c.self.inside in let o = c.self.invariant in let p = s.chair.part in let q = c.end.new.self.part in let makes = c.end.ensures.step.1.moves.makes in
-    let runs : IsRunning p.seen = subst (λ (v : Known). IsRunning v.seen) (sym c.self.view_is) c.requires.runs in
-    let k = (runs_some p.seen runs).0 in let x = c.saturating_add-self-inside.result in
-    let told : Tells (End k ∷ []) p q =
-    end_tells k c.end.ensures.step.0 p q o.number_is (owner_of p.stage (kept_batch p.stage) o.has_row.stage_is) (runs_some p.seen runs).1 makes in
-    let g = owner_grows (End k ∷ []) 0 s (record s { chair = c.end.new.self; running = None; counts = record s.counts { ended = x } }) o told in record {
-      alone = alone_step _ _ _ _ c.end.ensures.step.1 o.alone;
-      layout_is = told.layout_is ∙ o.layout_is;
-      number_is = told.seat_is ∙ o.number_is;
-      stands = makes_stands _ _ p q makes;
-      has_row = has_row_after step.End c.end.ensures.step.0 p q s.row o.has_row makes (λ j v. refl)
-          (end_stage c.end.ensures.step.0 p q (kept_batch p.stage) o.has_row.stage_is makes);
-      running_is = sym (running_ended k 0 p.seen q.seen g (owner_runs p o.stands runs));
-      closed_is = o.closed_is ∙ sym (closed_quiet (End k ∷ []) 0 p.seen q.seen g refl);
-      counts_are = counts_ended (End k ∷ []) 0 p.seen q.seen g refl refl refl s.counts o.counts_are x c.saturating_add-self-inside.ensures;
-    }
-
-pub returns : goal.returns
-returns c = let s = c.self.inside in let o = c.self.invariant in let p = s.chair.part in let q = c.end.new.self.part in
-    let t = record s { chair = c.end.new.self; running = None; counts = record s.counts { ended = c.saturating_add-self-inside.result } } in
-    let runs : IsRunning p.seen = subst (λ (v : Known). IsRunning v.seen) (sym c.self.view_is) c.requires.runs in
-    let some = runs_some p.seen runs in
-    let tells : (k : ℕ) → running p.seen ≡ Some k → Tells (End k ∷ []) p q = λ k known.
-    end_tells k c.end.ensures.step.0 p q o.number_is (owner_of p.stage (kept_batch p.stage) o.has_row.stage_is) known c.end.ensures.step.1.moves.makes in
-    let sees : (k : ℕ) → running p.seen ≡ Some k → Sees (End k ∷ []) 0 c.args.self.now (owner_view t) = λ k known.
-    owner_sees (End k ∷ []) 0 s t c.args.self.now c.self.view_is o refl c.end.ensures.step.1.queue_is (tells k known) in record {
-      seen = λ k is. sees k (ap (λ (v : Known). running v.seen) c.self.view_is ∙ is);
-      same = (sees some.0 some.1).same;
-      batch = sym (stands_batch q (kept_batch p.stage) (makes_stands _ _ p q c.end.ensures.step.1.moves.makes)
-          (end_stage c.end.ensures.step.0 p q (kept_batch p.stage) o.has_row.stage_is c.end.ensures.step.1.moves.makes))
-          ∙ owner_batch s c.args.self.now c.self.view_is o;
-      shut = closed_stays (End some.0 ∷ []) 0 c.args.self.now (owner_view t) (sees some.0 some.1);
-      unclosed = open_stays (End some.0 ∷ []) 0 c.args.self.now (owner_view t) (sym (ap (λ (v : Known). v.number) c.self.view_is)) (sees some.0 some.1) refl;
-      idle = rests_from_running q.seen
-          (running_ended some.0 0 p.seen q.seen (owner_grows (End some.0 ∷ []) 0 s t o (tells some.0 some.1)) (owner_runs p o.stands runs));
-    }
+pub returns-clause-seen : goal.returns-clause-seen
+returns-clause-seen c k is = subst (λ (v : Known). Sees (End k ∷ []) 0 v (owner_view c.end.new.self)) c.self.view_is
+    (c.end.ensures.seen k (ap (λ (v : Known). running v.seen) c.self.view_is ∙ is))

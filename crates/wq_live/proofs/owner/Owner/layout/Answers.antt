@@ -6,6 +6,6 @@ use Rattle.wq_live.proofs.OwnerTells.{stands_legal}
 use Rattle.wq_live.proofs.owner.Owner.layout.Goals as goal
 
 pub returns-clause-legal : goal.returns-clause-legal
-returns-clause-legal c = let s = c.self.inside in let o = c.self.invariant in
+returns-clause-legal c = let s = c.self.inside.seat in let o = c.self.invariant.owns in
     subst (λ (v : Known). IsLegal v.layout v.seen) c.self.view_is
     (subst (λ (l : Layout). IsLegal l s.chair.part.seen) o.layout_is (stands_legal s.chair.part o.stands))

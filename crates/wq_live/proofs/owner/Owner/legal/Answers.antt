@@ -8,10 +8,10 @@ use Rattle.wq_live.proofs.OwnerTells.{stands_legal}
 use Rattle.wq_live.proofs.owner.Owner.legal.Goals as goal
 
 pub returns-clause-legal : goal.returns-clause-legal
-returns-clause-legal c = let s = c.self.inside in let o = c.self.invariant in
+returns-clause-legal c = let s = c.self.inside.seat in let o = c.self.invariant.owns in
     subst (λ (v : Known). IsLegal v.layout v.seen) c.self.view_is
     (subst (λ (l : Layout). IsLegal l s.chair.part.seen) o.layout_is (stands_legal s.chair.part o.stands))
 
 pub returns-clause-headline : goal.returns-clause-headline
-returns-clause-headline c = let p = c.self.inside.chair.part in
-    subst (λ (v : Known). KeepsHeadline v.seen) c.self.view_is (keeps_headline p.layout p.seen (stands_legal p c.self.invariant.stands))
+returns-clause-headline c = let p = c.self.inside.seat.chair.part in
+    subst (λ (v : Known). KeepsHeadline v.seen) c.self.view_is (keeps_headline p.layout p.seen (stands_legal p c.self.invariant.owns.stands))

@@ -5,5 +5,5 @@ use Rattle.wq_live.proofs.sender.Sender.counts.Goals as goal
 
 pub returns : goal.returns
 returns c = record {
-  counted = subst (λ (v : Known). c.self.inside.counts ≡ sender_counts v.number v.seen) c.self.view_is c.self.invariant.counts_are;
+  counted = subst (λ (v : Known). c.self.inside.sent.counts ≡ sender_counts v.number v.seen) c.self.view_is c.self.invariant.sends.counts_are;
 }

@@ -1,0 +1,35 @@
+use Rattle.std.proofs.Common.{refl, ap, sym, subst, ◌∙◌}
+use Rattle.wq_words.specs.History.{IsClosed, IsRunning}
+use Rattle.wq_table.proofs.Beside.{follow_step}
+use Rattle.wq_live.specs.Sits.{owner_view}
+use Rattle.wq_live.specs.Known.{Known}
+use Rattle.wq_live.specs.Sits.{kept_batch}
+use Rattle.wq_live.proofs.OwnerTells.{owner_batch, none_of}
+use Rattle.wq_live.proofs.Rest.{rest_owns, rest_sees, rest_rested, rest_refused, rest_empty, rests_same, rests_idle, rests_open}
+use Rattle.wq_live.proofs.owner_seat.OwnerSeat.rest.Goals as goal
+
+pub rest-head-requires-clause-open : goal.rest-head-requires-clause-open
+rest-head-requires-clause-open c = c.requires.open
+
+pub rest-head-requires-clause-empty : goal.rest-head-requires-clause-empty
+rest-head-requires-clause-empty c = let s = c.args.self.now in let o = c.requires.owns in
+    none_of s.chair.part.stage (kept_batch s.chair.part.stage) o.has_row.stage_is (owner_batch s (owner_view c.args.self.now) refl o ∙ c.requires.empty)
+
+pub rest-head-requires-clause-idle : goal.rest-head-requires-clause-idle
+rest-head-requires-clause-idle c = c.requires.idle
+
+pub returns : goal.returns
+returns c = let s = c.args.self.now in let o = c.requires.owns in let e = c.rest-head.ensures.step in let q = c.rest-head.new.self in
+    let w = c.rest-head.result in
+    let now = (owner_view c.args.self.now) in let mine = refl in
+    let sees = rest_sees s q now w refl o e.queue_is e.moves.makes c.requires.open in record {
+      owns = rest_owns s q now w refl o e.queue_is e.moves.makes c.requires.open;
+      follow = follow_step 0 _ _ _ _ e;
+      seen = sees;
+      rested = rest_rested s q now w refl o e.queue_is e.moves.makes c.requires.open;
+      refused = rest_refused s q now w refl o e.queue_is e.moves.makes c.requires.open;
+      same = rests_same _ now _ sees;
+      unclosed = rests_open _ now _ mine sees c.requires.open;
+      empty = rest_empty s q now w refl o e.queue_is e.moves.makes c.requires.open c.requires.empty;
+      idle = rests_idle _ now _ mine sees c.requires.idle;
+    }
