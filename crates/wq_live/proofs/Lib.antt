@@ -21,3 +21,4 @@ pub mod Resting
 pub mod Contended
 pub mod Rest
 pub mod Held
+pub mod Paired

@@ -7,7 +7,9 @@ use Rattle.wq_words.specs.declared.answer.Posted.TheVariants as posted
 use Rattle.wq_live.specs.Sits.{Sending as Inside}
 use Rattle.wq_words.specs.Seen.{Grows}
 use Rattle.wq_live.specs.Known.{Known, IsSame}
-use Rattle.wq_live.specs.Answers.{IsPushed, Posts}
+use Rattle.wq_words.specs.declared.answer.Answer.{Answer}
+use Rattle.wq_words.specs.declared.answer.Answer.TheVariants as answer
+use Rattle.wq_live.specs.Answers.{IsPushed, Posts, Answers}
 use Rattle.wq_live.specs.Sits.{sender_view, Sends}
 use Rattle.wq_live.specs.Tells.{PostsAs}
 use Rattle.wq_live.proofs.Sends.{sees_tells, sees_after}
@@ -30,3 +32,10 @@ posts_after k n tries (posted.Queued first wakes) s l t same grows less told = (
 )
 posts_after k n tries posted.Closed s l t same grows less told = sees_after (λ z. []) (λ z. Back z k Closed ∷ []) n 0 0 s l t (omega arith) same grows told
 posts_after k n tries posted.Contended s l t same grows less told = sees_after (λ z. []) (λ z. []) n 1 tries s l t (less refl) same grows told
+
+-- it is the same seat
+pub answers_same : (k tries : ℕ) (a : Answer) (s t : Known) → Answers k tries a s t → IsSame s t
+answers_same k tries (answer.Queued first wakes) s t told = told.0.same
+answers_same k tries answer.Pending s t told = told.same
+answers_same k tries answer.Closed s t told = told.same
+answers_same k tries answer.Contended s t told = told.same

@@ -8,3 +8,4 @@ pub mod Rest
 pub mod Laws
 pub mod Sits
 pub mod Alone
+pub mod Pairs

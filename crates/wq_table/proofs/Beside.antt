@@ -7,7 +7,8 @@ use Rattle.wq_core.specs.Machine.{Machine, after}
 use Rattle.wq_table.specs.declared.table.Part.{Part}
 use Rattle.wq_table.specs.Law.{View, seat_at, IsPartOf}
 use Rattle.wq_table.specs.Plays.{see, all_see, AllOf}
-use Rattle.wq_table.specs.Chair.{Standing, part_at, besides_at, Steps}
+use Rattle.wq_table.specs.Places.{chosen, besides}
+use Rattle.wq_table.specs.Chair.{Standing, part_at, besides_at, Steps, Meet}
 use Rattle.wq_table.specs.Beside.{Follow, Beside}
 
 -- one step
@@ -90,3 +91,34 @@ alone_beside a b x none = ⊎_elim (λ (e : b ≡ a). ap (λ (z : Standing). z.o
 
 pub alone_step : (step : Step) (word : ℕ) (a b : Standing) → Steps 0 step word a b → a.others ≡ [] → b.others ≡ []
 alone_step step word a b steps none = alone_follow a b (follow_step 0 step word a b steps) none
+
+-- a part that was of the machine, and has then seen its whole history
+pub record Saw (m : Machine) (p q : Part) : Type 0 where
+  pub fits : IsPartOf m p
+  pub is : q ≡ see m.history p
+
+-- of a chair of two parts the first made steps
+module _ (a b : Standing) (two : a.others ≡ part_at 1 a ∷ []) (f : Follow 0 a b) where
+  others_then : b.others ≡ see f.machine.history (part_at 1 a) ∷ []
+  others_then = f.others_are ∙ ap (all_see f.machine.history) two
+
+  pub second_saw : Saw f.machine (part_at 1 a) (part_at 1 b)
+  second_saw = record { fits = (subst (AllOf f.machine) two f.fit).0; is = ap (chosen 1 b.part) others_then }
+
+  pub still_two : b.others ≡ part_at 1 b ∷ []
+  still_two = others_then ∙ ap (λ (p : Part). p ∷ []) (sym second_saw.is)
+
+only_first : (p x : Part) (v : View) → besides 1 p v ≡ x ∷ [] → (v ≡ chosen 1 p v ∷ []) × (p ≡ x)
+only_first p x [] is = absurd (cc)
+only_first p x (r ∷ rs) is = let none : rs ≡ [] = cc in let same : p ≡ x = cc in (ap (λ (w : View). r ∷ w) none, same)
+
+-- or the second
+module _ (a b : Standing) (two : a.others ≡ part_at 1 a ∷ []) (f : Follow 1 a b) where
+  one_then : (b.others ≡ part_at 1 b ∷ []) × (b.part ≡ see f.machine.history a.part)
+  one_then = only_first b.part (see f.machine.history a.part) b.others (f.others_are ∙ ap (λ (v : View). all_see f.machine.history (besides 1 a.part v)) two)
+
+  pub first_saw : Saw f.machine a.part b.part
+  first_saw = record { fits = (subst (λ (v : View). AllOf f.machine (besides 1 a.part v)) two f.fit).0; is = one_then.1 }
+
+  pub two_still : b.others ≡ part_at 1 b ∷ []
+  two_still = one_then.0

@@ -1,0 +1,11 @@
+use Rattle.std.proofs.Common.{subst}
+use Rattle.wq_words.specs.declared.layout.Layout.{Layout}
+use Rattle.wq_words.specs.Legal.{IsLegal}
+use Rattle.wq_live.specs.Pairs.{KnownPair}
+use Rattle.wq_live.proofs.OwnerTells.{stands_legal}
+use Rattle.wq_live.proofs.pair.Pair.layout.Goals as goal
+
+pub returns-clause-legal : goal.returns-clause-legal
+returns-clause-legal c = let s = c.self.inside.seat in let o = c.self.invariant.owns in
+    subst (λ (v : KnownPair). IsLegal v.layout v.seen) c.self.view_is
+    (subst (λ (l : Layout). IsLegal l s.chair.part.seen) o.layout_is (stands_legal s.chair.part o.stands))

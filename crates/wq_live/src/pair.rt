@@ -1,0 +1,266 @@
+//! An owner and a sender of one queue in one seat.
+ghost use Rattle.std.specs.Prelude.{◌≡◌, ◌≢◌, ℕ, ◌+◌, ◌<◌, ◌≤◌, false, [], ◌∷◌, ◌++◌, Some, IsTrue, length};
+ghost use mathlib.Core.List.{IsPrefix};
+ghost use Rattle.wq_words.specs.declared.answer.Answer.TheVariants.{Contended};
+ghost use Rattle.wq_words.specs.declared.event.Event.TheVariants.{Take, Close, Begin, End};
+ghost use Rattle.wq_words.specs.Numbers.{number_count};
+ghost use Rattle.wq_words.specs.History.{IsClosed, closed, IsRunning, running};
+ghost use Rattle.wq_words.specs.Legal.{IsLegal};
+ghost use Rattle.wq_words.specs.Headline.{KeepsHeadline};
+ghost use Rattle.wq_words.specs.Seen.{owner_seat, Grows};
+ghost use Rattle.wq_live.specs.Known.{Sees};
+ghost use Rattle.wq_live.specs.Answers.{Answers, Chains, IsContended};
+ghost use Rattle.wq_live.specs.Batch.{batch, next_of, TakesAll};
+ghost use Rattle.wq_live.specs.Counts.{owner_counts, sender_counts};
+ghost use Rattle.wq_live.specs.Rest.{Rests, HasRested, MayNotRest};
+ghost use Rattle.wq_live.specs.Laws.{queued_number};
+ghost use Rattle.wq_live.specs.Pairs.{owner_of, sender_of};
+
+use crate::counts::{OwnerCounts, SenderCounts};
+use crate::owner::Owner;
+use crate::owner_seat::OwnerSeat;
+use crate::sender::Sender;
+use crate::sent::{Sent, queue_number};
+use std::marker::Model;
+use wq_table::Second;
+use wq_words::{Answer, Layout};
+
+/// An owner and a sender of one queue in one seat: a step of either is seen by both, so they need no meeting. It may be moved to
+/// another thread. No call takes a lock or memory, or waits.
+#[derive(Drop)]
+pub struct Pair {
+    pub(crate) seat: OwnerSeat,
+    pub(crate) sent: Sent,
+}
+
+impl Model for Pair {
+    ghost use Rattle.wq_live.specs.Pairs.{KnownPair};
+
+    ghost Value = { KnownPair };
+
+    ghost use Rattle.wq_live.specs.Pairs.{pair_view, IsPair};
+
+    ghost view = { pair_view };
+
+    ghost invariant = { IsPair };
+}
+
+impl Pair {
+    /// An owner and a sender become one seat, which has seen all that has happened.
+    pub fn join(owner: Owner, sender: Sender) -> Pair
+        requires one { sender.queue ≡ owner.queue }
+        ensures owner { Sees [] 0 owner (owner_of result) }
+        ensures sender { Sees [] 0 sender (sender_of result) }
+        ensures low { result.number < result.layout.senders }
+    {
+        let Owner { seat } = owner;
+        let Sender { chair, sent } = sender;
+        Pair {
+            seat: OwnerSeat {
+                chair: seat.chair.join(chair),
+                layout: seat.layout,
+                row: seat.row,
+                running: seat.running,
+                closed: seat.closed,
+                counts: seat.counts,
+            },
+            sent,
+        }
+    }
+
+    /// The owner and the sender, each in a seat of its own again.
+    pub fn split(self) -> (Owner, Sender)
+        ensures owner { result.0 ≡ owner_of self }
+        ensures sender { result.1 ≡ sender_of self }
+    {
+        let Pair { seat, sent } = self;
+        let (first, second) = seat.chair.split();
+        let owner = Owner {
+            seat: OwnerSeat {
+                chair: first,
+                layout: seat.layout,
+                row: seat.row,
+                running: seat.running,
+                closed: seat.closed,
+                counts: seat.counts,
+            },
+        };
+        let sender = Sender {
+            chair: second,
+            sent,
+        };
+        (owner, sender)
+    }
+
+    /// The size of its queue.
+    pub fn layout(&self) -> Layout
+        ensures layout { result ≡ self.now.layout }
+        ensures legal { IsLegal self.now.layout self.now.seen }
+    {
+        self.seat.layout
+    }
+
+    /// What it has seen is a legal history of its queue, so it keeps the headline: what was accepted is executed in its order,
+    /// once, and one at a time.
+    pub fn legal(&self)
+        ensures legal { IsLegal self.now.layout self.now.seen }
+        ensures headline { KeepsHeadline self.now.seen }
+    {
+        let _ = &self.sent;
+    }
+
+    /// Whether its owner has closed the queue.
+    pub fn is_closed(&self) -> bool
+        ensures closed { result ≡ closed self.now.seen }
+    {
+        self.seat.closed
+    }
+
+    /// The number that runs.
+    pub fn running(&self) -> Option<u32>
+        ensures runs { result ≡ running self.now.seen }
+    {
+        self.seat.running
+    }
+
+    /// What its owner has counted.
+    pub fn owner_counts(&self) -> OwnerCounts
+        ensures counted { result ≡ owner_counts self.now.seen }
+    {
+        self.seat.counts
+    }
+
+    /// What its sender has counted.
+    pub fn sender_counts(&self) -> SenderCounts
+        ensures counted { result ≡ sender_counts self.now.number self.now.seen }
+    {
+        self.sent.counts
+    }
+
+    /// As `Owner::take`: the owner's events, and none of the sender's.
+    pub fn take(&mut self) -> u32
+        requires open { ¬ IsClosed self.old.seen }
+        requires empty { batch self.old.seen ≡ [] }
+        ensures seen { Sees (Take ∷ []) 0 (owner_of self.old) (owner_of self.new) }
+        ensures takes { TakesAll Take result self.new.seen }
+        ensures count { result ≡ length (batch self.new.seen) }
+        ensures unclosed { ¬ IsClosed self.new.seen }
+        ensures idle { ¬ IsRunning self.old.seen → ¬ IsRunning self.new.seen }
+        ensures runs { IsRunning self.old.seen → IsRunning self.new.seen }
+        ensures others { Sees [] 0 (sender_of self.old) (sender_of self.new) }
+    {
+        self.seat.take()
+    }
+
+    /// As `Owner::close`: the owner's events, and none of the sender's.
+    pub fn close(&mut self) -> u32
+        requires open { ¬ IsClosed self.old.seen }
+        ensures seen { Sees (Close ∷ []) 0 (owner_of self.old) (owner_of self.new) }
+        ensures takes { TakesAll Close result self.new.seen }
+        ensures behind { IsPrefix (batch self.old.seen) (batch self.new.seen) }
+        ensures count { length (batch self.new.seen) ≡ length (batch self.old.seen) + result }
+        ensures shut { IsClosed self.new.seen }
+        ensures idle { ¬ IsRunning self.old.seen → ¬ IsRunning self.new.seen }
+        ensures runs { IsRunning self.old.seen → IsRunning self.new.seen }
+        ensures others { Sees [] 0 (sender_of self.old) (sender_of self.new) }
+    {
+        self.seat.close()
+    }
+
+    /// As `Owner::next`.
+    pub fn next(&self) -> Option<u32>
+        ensures first { result ≡ next_of self.now.seen }
+    {
+        self.seat.next()
+    }
+
+    /// As `Owner::waiting`.
+    pub fn waiting(&self) -> u32
+        ensures count { result ≡ length (batch self.now.seen) }
+        ensures few { result ≤ number_count self.now.layout }
+    {
+        self.seat.waiting()
+    }
+
+    /// As `Owner::begin`: the owner's events, and none of the sender's.
+    pub fn begin(&mut self) -> u32
+        requires waits { batch self.old.seen ≢ [] }
+        requires idle { ¬ IsRunning self.old.seen }
+        ensures next { next_of self.old.seen ≡ Some result }
+        ensures seen { Sees (Begin result ∷ []) 0 (owner_of self.old) (owner_of self.new) }
+        ensures batch { batch self.old.seen ≡ result ∷ batch self.new.seen }
+        ensures runs { IsRunning self.new.seen }
+        ensures running { running self.new.seen ≡ Some result }
+        ensures shut { IsClosed self.old.seen → IsClosed self.new.seen }
+        ensures unclosed { ¬ IsClosed self.old.seen → ¬ IsClosed self.new.seen }
+        ensures others { Sees [] 0 (sender_of self.old) (sender_of self.new) }
+    {
+        self.seat.begin()
+    }
+
+    /// As `Owner::end`: the owner's events, and none of the sender's.
+    pub fn end(&mut self)
+        requires runs { IsRunning self.old.seen }
+        ensures seen { (k : ℕ) → running self.old.seen ≡ Some k → Sees (End k ∷ []) 0 (owner_of self.old) (owner_of self.new) }
+        ensures batch { batch self.new.seen ≡ batch self.old.seen }
+        ensures idle { ¬ IsRunning self.new.seen }
+        ensures shut { IsClosed self.old.seen → IsClosed self.new.seen }
+        ensures unclosed { ¬ IsClosed self.old.seen → ¬ IsClosed self.new.seen }
+        ensures others { Sees [] 0 (sender_of self.old) (sender_of self.new) }
+    {
+        self.seat.end();
+    }
+
+    /// As `Owner::rest`: the owner's events, and none of the sender's.
+    pub fn rest(&mut self) -> bool
+        requires open { ¬ IsClosed self.old.seen }
+        requires empty { batch self.old.seen ≡ [] }
+        requires idle { ¬ IsRunning self.old.seen }
+        ensures seen { Rests result (owner_of self.old) (owner_of self.new) }
+        ensures rested { IsTrue result → HasRested self.new.seen }
+        ensures refused { result ≡ false → MayNotRest self.new.seen }
+        ensures unclosed { ¬ IsClosed self.new.seen }
+        ensures empty { batch self.new.seen ≡ [] }
+        ensures idle { ¬ IsRunning self.new.seen }
+        ensures others { Sees [] 0 (sender_of self.old) (sender_of self.new) }
+    {
+        self.seat.rest()
+    }
+
+    /// As `Owner::chain`: the owner's events, and none of the sender's.
+    pub fn chain(&mut self, item: u32) -> Answer
+        requires item { item < self.old.layout.items }
+        requires shut { IsClosed self.old.seen }
+        requires runs { IsRunning self.old.seen }
+        ensures answer { Chains item result (owner_of self.old) (owner_of self.new) }
+        ensures batch { batch self.new.seen ≡ batch self.old.seen ++ queued_number item result }
+        ensures shut { IsClosed self.new.seen }
+        ensures runs { IsRunning self.new.seen }
+        ensures others { Sees [] 0 (sender_of self.old) (sender_of self.new) }
+    {
+        self.seat.chain(item)
+    }
+
+    /// As `Sender::queue_tries`: the sender's events, and none of the owner's.
+    pub fn queue_tries(&mut self, item: u32, tries: u32) -> Answer
+        requires item { item < self.old.layout.items }
+        requires tries { 0 < tries }
+        ensures answer { Answers item tries result (sender_of self.old) (sender_of self.new) }
+        ensures contended { result ≡ Contended → IsContended self.old.number item tries self.new.seen }
+        ensures others { Sees [] 0 (owner_of self.old) (owner_of self.new) }
+    {
+        queue_number::<Second>(&mut self.seat.chair, &mut self.sent, item, tries)
+    }
+
+    /// Afterwards each has seen all that has happened, and so all that both had seen.
+    pub fn meet(&mut self, sender: &mut Sender)
+        requires one { sender.old.queue ≡ self.old.queue }
+        ensures owner { Sees [] 0 (owner_of self.old) (owner_of self.new) }
+        ensures sender { Sees [] 0 (sender_of self.old) (sender_of self.new) }
+        ensures that { Sees [] 0 sender.old sender.new }
+        ensures layout { sender.old.layout ≡ self.old.layout }
+        ensures both { sender.new.seen ≡ self.new.seen }
+    {
+        self.seat.chair.meet(&mut sender.chair);
+    }
+}
