@@ -1,18 +1,8 @@
 -- Who alone made events.
-use Rattle.std.proofs.Common.{◌≡◌, ℕ, ◌<◌, ◌≤◌, ◌⊎◌, Bool, true, false, cond, not, List, [], ◌∷◌, ◌++◌, length, inl, inr, refl, sym, ap, ◌∙◌, subst, arith, append_assoc, eq-eqb}
-use Rattle.std.specs.Prelude.{filter}
-use Rattle.std.specs.List.{AllByRecursion}
-use Rattle.std.proofs.lemmas.List.{append-nil}
-use Rattle.std.proofs.lemmas.List.Elements.{filter-append}
-use mathlib.Core.List.{IsPrefix}
-use Rattle.wq_words.specs.declared.layout.Layout.{Layout}
-use Rattle.wq_words.specs.declared.event.Event.{Event}
-use Rattle.wq_words.specs.declared.event.Event.TheVariants.{Hold, Busy, Push, Back, Take, Close, Begin, End, Chain, ChainBusy, Rest}
-use Rattle.wq_words.specs.Legal.{IsLegal, HasSeat}
-use Rattle.wq_words.proofs.Legal.{legal_next, legal_front}
-use Rattle.wq_words.specs.Seen.{seat_of, owner_seat, own}
-use Rattle.wq_words.proofs.Prefixes.{nothing_more, left_nil, right_nil}
-use Rattle.wq_words.proofs.Seen.{own-append, own_rest}
+use Rattle.wq_script.proofs.Common.{◌≡◌, ℕ, ◌<◌, ◌≤◌, ◌⊎◌, Bool, true, false, cond, not, List, [], ◌∷◌, ◌++◌, length, inl, inr, refl, sym, ap, ◌∙◌, subst}
+use Rattle.wq_script.proofs.Common.{arith, append_assoc, eq-eqb, filter, AllByRecursion, append-nil, filter-append, IsPrefix, Layout, Event, Hold, Busy, Push}
+use Rattle.wq_script.proofs.Common.{Back, Take, Close, Begin, End, Chain, ChainBusy, Rest, IsLegal, HasSeat, legal_next, legal_front, seat_of, owner_seat, own}
+use Rattle.wq_script.proofs.Common.{nothing_more, left_nil, right_nil, own-append, own_rest}
 
 -- a seat's number: a sender's, or the owner's
 abbrev pub IsSeat : Layout → ℕ → Type 0

@@ -1,25 +1,13 @@
 -- What is counted of a queueing, and of the calls of the delay table.
-use Rattle.std.proofs.Common.{◌≡◌, ◌≢◌, ℕ, ◌+◌, Bool, true, false, ◌&&◌, ◌||◌, ◌==◌, List, [], ◌∷◌, ◌++◌, length, map, refl, sym, subst, arith, if◌then◌else◌, count_by}
-use Rattle.std.specs.List.{AllByRecursion}
-use Rattle.wq_words.specs.declared.event.Event.{Event}
-use Rattle.wq_words.specs.declared.event.Event.TheVariants.{Hold, Busy, Push, Back}
+use Rattle.wq_script.proofs.Common.{◌≡◌, ◌≢◌, ℕ, ◌+◌, Bool, true, false, ◌&&◌, ◌||◌, ◌==◌, List, [], ◌∷◌, ◌++◌, length, map, refl, sym, subst, arith}
+use Rattle.wq_script.proofs.Common.{if◌then◌else◌, count_by, AllByRecursion, Event, Hold, Busy, Push, Back, pending, closed, first, is_push, owner_seat}
+use Rattle.wq_script.proofs.Common.{seat_of, is_busy, is_refusal, Layout, Answer, wakes, armed_of, modified_of, DelayTable, on_table, is_too_far, queue_events}
+use Rattle.wq_script.proofs.Common.{queue_answer, queues_now, arm_events, arm_answer, cancel_events, modify_events, modify_answer, due_items, advance_events}
+use Rattle.wq_script.proofs.Common.{count_by-append, Tally, Tallied, counted, counted_armed, counted_push, counted_modified, counted_posts}
 use Rattle.wq_words.specs.declared.event.Why.TheVariants as why
-use Rattle.wq_words.specs.History.{pending, closed, first, is_push}
-use Rattle.wq_words.specs.Seen.{owner_seat, seat_of}
-use Rattle.wq_words.specs.Counting.{is_busy, is_refusal}
-use Rattle.wq_words.specs.declared.layout.Layout.{Layout}
-use Rattle.wq_words.specs.declared.answer.Answer.{Answer}
-use Rattle.wq_words.specs.Rest.{wakes}
 use Rattle.wq_words.specs.declared.answer.Answer.TheVariants as answer
 use Rattle.wq_words.specs.declared.answer.Armed.TheVariants as armed
 use Rattle.wq_words.specs.declared.answer.Modified.TheVariants as modified
-use Rattle.wq_words.specs.Armed.{armed_of, modified_of}
-use Rattle.wq_words.specs.DelayTable.{DelayTable, on_table, is_too_far}
-use Rattle.wq_meaning.specs.Queueing.{queue_events, queue_answer}
-use Rattle.wq_meaning.specs.Arming.{queues_now, arm_events, arm_answer, cancel_events, modify_events, modify_answer, due_items, advance_events}
-use Rattle.wq_words.proofs.Appended.{count_by-append}
-use Rattle.wq_script.specs.declared.tally.Tally.{Tally}
-use Rattle.wq_script.specs.Counting.{Tallied, counted, counted_armed, counted_push, counted_modified, counted_posts}
 use Rattle.wq_script.proofs.Tallies.{Foreign, all_foreign, tallied_on}
 
 -- the delay table's sender is another seat

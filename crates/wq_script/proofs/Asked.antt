@@ -1,28 +1,12 @@
 -- What a sender asked for, and what it was answered.
-use Rattle.std.proofs.Common.{◌≡◌, ℕ, ◌<◌, Bool, true, false, List, [], ◌∷◌, ◌++◌, Some, None, nat_lt, length, get_or, set, refl, sym, ap, ◌∙◌, subst, arith, append_assoc, if◌then◌else◌}
-use Rattle.std.specs.Vec.{with_item}
-use Rattle.std.proofs.lemmas.List.{append-nil, get_or-set_same}
-use Rattle.wq_words.specs.declared.layout.Layout.{Layout}
-use Rattle.wq_words.specs.declared.event.Event.{Event}
-use Rattle.wq_words.specs.declared.event.Event.TheVariants.{Hold, Busy, Push, Back, Close}
+use Rattle.wq_script.proofs.Common.{◌≡◌, ℕ, ◌<◌, Bool, true, false, List, [], ◌∷◌, ◌++◌, Some, None, nat_lt, length, get_or, set, refl, sym, ap, ◌∙◌, subst}
+use Rattle.wq_script.proofs.Common.{arith, append_assoc, if◌then◌else◌, append-nil, get_or-set_same, Layout, Event, Hold, Busy, Push, Back, Close, pending}
+use Rattle.wq_script.proofs.Common.{closed, first, fresh, owner_seat, wakes, closed_count, Answer, Known, Sees, Answers, IsPushed, TakesAll, WorkerState, Moves}
+use Rattle.wq_script.proofs.Common.{queue_events, queue_answer, close_events, close_answer, Lists, Seats, Gathers, Seated, Asks, Goes}
 use Rattle.wq_words.specs.declared.event.Why.TheVariants as why
-use Rattle.wq_words.specs.History.{pending, closed, first, fresh}
-use Rattle.wq_words.specs.Seen.{owner_seat}
-use Rattle.wq_words.specs.Rest.{wakes}
 use Rattle.wq_words.proofs.Rest.{wakes_quiet}
-use Rattle.wq_words.proofs.Seen.{closed_count}
-use Rattle.wq_words.specs.declared.answer.Answer.{Answer}
 use Rattle.wq_words.specs.declared.answer.Answer.TheVariants as answer
-use Rattle.wq_live.specs.Known.{Known, Sees}
-use Rattle.wq_live.specs.Answers.{Answers, IsPushed}
-use Rattle.wq_live.specs.Batch.{TakesAll}
-use Rattle.wq_worker.specs.State.{WorkerState, Moves}
-use Rattle.wq_meaning.specs.Queueing.{queue_events, queue_answer, close_events, close_answer}
-use Rattle.wq_script.specs.declared.lists.Lists.{Lists}
-use Rattle.wq_script.specs.declared.seats.Seats.{Seats}
-use Rattle.wq_script.specs.Seats.{Gathers, Seated}
-use Rattle.wq_script.specs.Asking.{Asks, Goes}
-use Rattle.wq_script.proofs.Seated.{Acts, sender_acts, worker_acts}
+use Rattle.wq_script.proofs.Seated.{Acts, with_sender, sender_acts, worker_acts}
 use Rattle.wq_script.proofs.Queueings.{busy_events, push_events, refused_events, last_own, first_held}
 
 -- the answer of a queueing by the tests on which it rests
@@ -80,10 +64,6 @@ module _ (layout : Layout) (t : Seats) (h : List Event) (p k : ℕ) (x z : Known
       let a = acts (Hold x.number k ∷ Back x.number k why.Contended ∷ []) 1 told in
       absurd (omega (arith, a.none))
 
--- the seats where one of the senders went on to z
-abbrev pub with_sender : Seats → ℕ → Known → Seats
-with_sender s p z = record { worker = s.worker; delay = s.delay; senders = with_item s.senders p z }
-
 -- where a seat of the queue is, its layout is the queue's
 pub seat_layout : (layout : Layout) (s : Seats) (h : List Event) (p : ℕ) (x : Known) (g : Seated layout s h) → p < length s.senders.items
     → x ≡ get_or s.senders.items p x → x.layout ≡ g.wide
@@ -101,8 +81,7 @@ sender_asked layout s t h p k a x z g lt is told all =
     let gathered = gathered_at s t p x z lt all in
     let less : p < layout.senders = omega (arith, lt, g.count) in
     let number : x.number ≡ p = ap (λ (v : Known). v.number) is ∙ (g.senders p x less).number_is in
-    let both = asked layout t h p k x z (λ xs n sees. sender_acts layout s t h g p x z xs n less is sees gathered.sender
-    gathered.owner gathered.delay gathered.senders gathered.work.tries_is gathered.legal) a number told in
+    let both = asked layout t h p k x z (λ xs n sees. sender_acts layout s t h g p x z xs n less is sees gathered) a number told in
     record { answer = both.0; seated = both.1; work = gathered.work; table = gathered.table }
 
 -- a sender looked at a PENDING bit
@@ -112,8 +91,7 @@ pub sender_looked : (layout : Layout) (s t : Seats) (h : List Event) (p : ℕ) (
 sender_looked layout s t h p x z g lt is sees all =
     let gathered = gathered_at s t p x z lt all in
     let less : p < layout.senders = omega (arith, lt, g.count) in
-    let a = sender_acts layout s t h g p x z [] 0 less is sees gathered.sender gathered.owner gathered.delay gathered.senders
-    gathered.work.tries_is gathered.legal in (
+    let a = sender_acts layout s t h g p x z [] 0 less is sees gathered in (
       record { seated = subst (λ (y : List Event). Seated layout t y) (append-nil h) a.seated; work = gathered.work; table = gathered.table },
       a.is ∙ append-nil h,
     )
@@ -126,8 +104,7 @@ pub worker_closes : (layout : Layout) (s t : Seats) (h : List Event) (w : Worker
     → Moves (Close ∷ []) 0 s.worker w → w.work ≡ s.worker.work → w.unqueued ≡ s.worker.unqueued → TakesAll Close taken w.seen
     → Gathers w.seen (record { worker = w; delay = s.delay; senders = s.senders }) t → Goes layout (h ++ close_events h) s t × (Some taken ≡ close_answer h)
 worker_closes layout s t h w taken g is_open moves work left takes gathered =
-    let a = (worker_acts layout s t h g w (Close ∷ []) 0 moves gathered.sender gathered.owner gathered.delay gathered.senders
-    gathered.work.tries_is gathered.legal).0 in
+    let a = (worker_acts layout s t h g w (Close ∷ []) 0 moves gathered).0 in
     let not_yet : closed h ≡ false = sym (worker_closed layout s h g) ∙ is_open in
     let events : Close ∷ [] ≡ close_events h = sym (ap (λ (b : Bool). if b then [] else Close ∷ []) not_yet) in
     let last = last_own owner_seat takes.before takes.after h Close Close (sym takes.is ∙ a.is) takes.last refl in (

@@ -1,25 +1,11 @@
 -- What the delay table's sender did, and what an arming is in a script.
-use Rattle.std.proofs.Common.{◌≡◌, ℕ, ◌+◌, Bool, true, false, List, [], ◌∷◌, ◌++◌, refl, sym, ap, ◌∙◌, subst, arith}
-use Rattle.std.specs.Prelude.{IsTrue, ◌↔◌}
-use Rattle.wq_words.specs.declared.layout.Layout.{Layout}
-use Rattle.wq_words.specs.declared.event.Event.{Event}
-use Rattle.wq_words.specs.declared.event.Event.TheVariants.{Hold, Busy}
-use Rattle.wq_words.specs.History.{pending}
-use Rattle.wq_words.proofs.Legal.{legal_next}
+use Rattle.wq_script.proofs.Common.{◌≡◌, ℕ, ◌+◌, Bool, true, false, List, [], ◌∷◌, ◌++◌, refl, sym, ap, ◌∙◌, subst, arith, IsTrue, ◌↔◌, Layout, Event, Hold}
+use Rattle.wq_script.proofs.Common.{Busy, pending, legal_next, Armed, armed_of, DelayTable, is_too_far, Sees, DelayState, IsFit, Arms, queue_events}
+use Rattle.wq_script.proofs.Common.{queue_answer, queues_now, arm_events, arm_table, arm_answer, Seats, Gathers, Seated, GoesWithTable}
 use Rattle.wq_words.specs.declared.answer.Answer.TheVariants as queueing
-use Rattle.wq_words.specs.declared.answer.Armed.{Armed}
 use Rattle.wq_words.specs.declared.answer.Armed.TheVariants as armed
-use Rattle.wq_words.specs.Armed.{armed_of}
-use Rattle.wq_words.specs.DelayTable.{DelayTable, is_too_far}
-use Rattle.wq_live.specs.Known.{Sees}
-use Rattle.wq_delay.specs.Delay.{DelayState, IsFit, Arms}
 use Rattle.wq_delay.proofs.Going.{sees_none}
-use Rattle.wq_meaning.specs.Queueing.{queue_events, queue_answer}
-use Rattle.wq_meaning.specs.Arming.{queues_now, arm_events, arm_table, arm_answer}
 use Rattle.wq_meaning.proofs.Armings.{now_at_once, now_pending, now_never, arm_far, arm_now, arm_later}
-use Rattle.wq_script.specs.declared.seats.Seats.{Seats}
-use Rattle.wq_script.specs.Seats.{Gathers, Seated}
-use Rattle.wq_script.specs.Arming.{GoesWithTable}
 use Rattle.wq_script.proofs.Seated.{Acts, delay_acts}
 use Rattle.wq_script.proofs.Asked.{asked}
 use Rattle.wq_script.proofs.Queueings.{not_pending, is_pending}
@@ -35,8 +21,7 @@ module _ (layout : Layout) (s t : Seats) (h : List Event) (g : Seated layout s h
   p = layout.senders + 1
 
   pub acts : (xs : List Event) (n : ℕ) → Sees xs n s.delay.sender d.sender → Acts layout t h s.delay.sender.seen d.sender.seen xs n
-  acts xs n sees = delay_acts layout s t h g d.sender xs n (omega (arith, layout.in_limits.2.0)) sees gathered.sender gathered.owner gathered.delay
-      gathered.senders gathered.work.tries_is gathered.legal
+  acts xs n sees = delay_acts layout s t h g d xs n sees gathered
 
   pub goes_with : (xs es : List Event) (now : DelayTable) → Seated layout t (h ++ xs) → xs ≡ es → d.table ≡ now → GoesWithTable layout (h ++ es) now s t
   goes_with xs es now seated events table = record {
@@ -98,11 +83,7 @@ module _ (layout : Layout) (s t : Seats) (h : List Event) (g : Seated layout s h
         let means = arm_far p k delay h s.delay.table (far.0 refl) in
         let l = goes_nowhere told fit in (
           sym means.2,
-          record {
-            seated = subst (λ (x : List Event). Seated layout t (h ++ x)) (sym means.0) l.seated;
-            table = l.table ∙ sym means.1;
-            work = l.work;
-          },
+          record { seated = subst (λ (x : List Event). Seated layout t (h ++ x)) (sym means.0) l.seated; table = l.table ∙ sym means.1; work = l.work },
         )
     armed_so armed.Contended far room told = let a = acts _ 1 told.1.seen in absurd (omega (arith, a.none))
     armed_so armed.Memory far room told = absurd (room refl)

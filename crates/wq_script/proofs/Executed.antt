@@ -1,31 +1,15 @@
 -- An execution of a worker where no other seat steps is that of a script.
-use Rattle.std.proofs.Common.{◌≡◌, ℕ, suc, ◌+◌, ◌-◌, ◌<◌, ◌≤◌, Bool, true, false, not, ◌&&◌, ◌||◌, ◌==◌, List, [], ◌∷◌, ◌++◌, Option, Some, None, length, take, fold, inl, inr, refl, sym, ap, ◌∙◌, subst, arith, append_assoc, nat_lt, nat_le, if◌then◌else◌, count_by, All}
-use Rattle.std.specs.Prelude.{filter, slice_get}
-use Rattle.std.specs.List.{before_last}
-use Rattle.std.proofs.lemmas.List.{append-nil, append_cancel_left, length-drop, length-take}
-use Rattle.std.proofs.lemmas.List.Elements.{filter-append}
-use Rattle.std.proofs.lemmas.Option.{slice_get_within, slice_get_cases, slice_get_past}
-use Rattle.std.proofs.lemmas.Bool.{le-leb, lt-leb, false≢true}
-use mathlib.Core.List.{IsPrefix}
-use Rattle.arrayvec.specs.ArrayVec.{ArrayVec}
-use Rattle.wq_words.specs.declared.layout.Layout.{Layout}
-use Rattle.wq_words.specs.declared.event.Event.{Event}
-use Rattle.wq_words.specs.declared.event.Event.TheVariants.{Hold, Busy, Push, Back, Take, Close, Begin, End, Chain, ChainBusy, Rest}
+use Rattle.wq_script.proofs.Common.{◌≡◌, ℕ, suc, ◌+◌, ◌-◌, ◌<◌, ◌≤◌, Bool, true, false, not, ◌&&◌, ◌||◌, ◌==◌, List, [], ◌∷◌, ◌++◌, Option, Some, None, length}
+use Rattle.wq_script.proofs.Common.{take, fold, inl, inr, refl, sym, ap, ◌∙◌, subst, arith, append_assoc, nat_lt, nat_le, if◌then◌else◌, count_by, All, filter}
+use Rattle.wq_script.proofs.Common.{slice_get, before_last, append-nil, append_cancel_left, length-drop, length-take, filter-append, slice_get_within}
+use Rattle.wq_script.proofs.Common.{slice_get_cases, slice_get_past, le-leb, lt-leb, false≢true, IsPrefix, ArrayVec, Layout, Event, Hold, Busy, Push, Back}
+use Rattle.wq_script.proofs.Common.{Take, Close, Begin, End, Chain, ChainBusy, Rest, accepted, begun, next, taken, closed, is_close, is_push, fresh, IsLegal}
+use Rattle.wq_script.proofs.Common.{legal_next, legal_front, owner_seat, seat_of, own, is_ours, left_nil, own-append, own_one, own_rest, begun_same}
+use Rattle.wq_script.proofs.Common.{closed_count, batch, next_of, Adds, taking, taking_of, NothingWaits, at_take, at_all, Queues, Follows, passed, pushed, busy}
+use Rattle.wq_script.proofs.Common.{refused, chained, chain_busy, queue_events, chain_events, follow_of, take_events, follow_events, after_follow, after_run}
+use Rattle.wq_script.proofs.Common.{after_execution, accepted-append, begun-append, count_by-append, accepted-count, pushes-split, fresh-more, Quiet, is_take}
 use Rattle.wq_words.specs.declared.event.Why.TheVariants as why
-use Rattle.wq_words.specs.History.{accepted, begun, next, taken, closed, is_close, is_push, is_take, fresh}
-use Rattle.wq_words.specs.Legal.{IsLegal}
-use Rattle.wq_words.proofs.Legal.{legal_next, legal_front}
-use Rattle.wq_words.specs.Seen.{owner_seat, seat_of, own, is_ours}
-use Rattle.wq_words.proofs.Prefixes.{left_nil}
-use Rattle.wq_words.proofs.Seen.{own-append, own_one, own_rest, begun_same, closed_count}
-use Rattle.wq_live.specs.Batch.{batch, next_of}
-use Rattle.wq_worker.specs.Seats.{Adds, taking, taking_of, NothingWaits, at_take, at_all}
-use Rattle.wq_worker.specs.Follow.{Queues, Follows, passed, pushed, busy, refused, chained, chain_busy}
-use Rattle.wq_meaning.specs.Queueing.{queue_events, chain_events}
-use Rattle.wq_meaning.specs.Execution.{follow_of, take_events, follow_events, after_follow, after_run, after_execution}
-use Rattle.wq_words.proofs.Appended.{accepted-append, begun-append, count_by-append, accepted-count, pushes-split, fresh-more}
 use Rattle.wq_words.proofs.Listed.{fresh_push_take}
-use Rattle.wq_script.specs.Quiet.{Quiet}
 use Rattle.wq_script.proofs.Alone.{all_ours}
 use Rattle.wq_script.proofs.Queueings.{busy_events, push_events, refused_events, not_pending, is_pending, closed_on, last_own}
 use Rattle.wq_words.proofs.Closed.{closed_from_open as not_closed}

@@ -1,19 +1,7 @@
 -- The lists of what follows: at the beginning, and where one is set.
-use Rattle.std.proofs.Common.{◌≡◌, ℕ, ◌<◌, ◌≤◌, List, [], length, replicate, slice_set, get_or, All, inl, inr, refl, sym, ap, ◌∙◌, subst, arith}
-use Rattle.std.proofs.lemmas.List.{length-set, length-replicate, get_or-set_same, get_or-set_other, get_or-replicate}
-use Rattle.std.proofs.Math.ListN.{get_or-eq_default}
-use Rattle.std.proofs.lemmas.Bool.{cases_lt, cases_eq}
-use Rattle.arrayvec.specs.ArrayVec.{ArrayVec}
-use Rattle.wq_words.specs.declared.layout.Layout.{Layout}
-use Rattle.wq_words.specs.declared.event.Event.{Event}
-use Rattle.wq_meaning.specs.Execution.{no_follow, follow_of}
-use Rattle.wq_meaning.specs.Commands.{ScriptState, opening_state}
-use Rattle.wq_delay.specs.Delay.{DelayState}
-use Rattle.wq_script.specs.declared.seats.Seats.{Seats}
-use Rattle.wq_script.specs.declared.tally.Tally.{Tally}
-use Rattle.wq_script.specs.Seats.{Seated}
-use Rattle.wq_script.specs.Quiet.{ListsFit}
-use Rattle.wq_script.specs.Engine.{Meets}
+use Rattle.wq_script.proofs.Common.{length-replicate, get_or-replicate, ◌≡◌, ℕ, ◌<◌, ◌≤◌, List, [], length, replicate, slice_set, get_or, All, inl, inr, refl}
+use Rattle.wq_script.proofs.Common.{sym, ap, ◌∙◌, subst, arith, length-set, get_or-set_same, get_or-set_other, get_or-eq_default, cases_lt, cases_eq, ArrayVec}
+use Rattle.wq_script.proofs.Common.{Layout, Event, no_follow, follow_of, ScriptState, opening_state, DelayState, Seats, Tally, Seated, ListsFit, Meets}
 use Rattle.wq_script.proofs.Meetings.{engine}
 
 -- only the work was touched

@@ -1,38 +1,22 @@
 -- Seats that make no event, and hear what others have seen.
-use Rattle.std.proofs.Common.{◌≡◌, ℕ, ◌<◌, List, [], ◌++◌, length, get_or, set, arith, inl, inr, refl, sym, ap, ◌∙◌, subst}
-use Rattle.std.proofs.lemmas.List.{append-nil, get_or-set_other, get_or-set_same, get_or_default, length-set}
-use Rattle.std.proofs.lemmas.Bool.{cases_eq}
-use mathlib.Core.List.{IsPrefix}
-use Rattle.wq_words.specs.declared.event.Event.{Event}
-use Rattle.wq_words.specs.Seen.{owner_seat, own}
-use Rattle.wq_words.proofs.Prefixes.{prefix_self, prefix_on}
-use Rattle.wq_words.proofs.Seen.{own-append, none_of, grows_begins, grows_same}
-use Rattle.wq_live.specs.Known.{Known, Sees}
-use Rattle.wq_worker.specs.Seats.{Adds}
-use Rattle.wq_worker.specs.State.{WorkerState, Moves}
-use Rattle.wq_delay.specs.Delay.{DelayState, KeepsTable}
-use Rattle.wq_script.specs.Seats.{StaysSilent, Hears, AllHear, IsSameTable, sender_of, owner_of}
+use Rattle.wq_script.proofs.Common.{◌≡◌, ℕ, ◌<◌, List, [], ◌++◌, length, get_or, set, arith, inl, inr, refl, sym, ap, ◌∙◌, subst, get_or-set_other}
+use Rattle.wq_script.proofs.Common.{get_or-set_same, get_or_default, length-set, cases_eq, IsPrefix, Event, owner_seat, own, prefix_self, prefix_on, none_of}
+use Rattle.wq_script.proofs.Common.{grows_begins, grows_same, Known, Sees, WorkerState, Moves, DelayState, KeepsTable, StaysSilent, Hears, AllHear, IsSameTable}
+use Rattle.wq_script.proofs.Common.{sender_of, owner_of, own_more}
+use Rattle.wq_live.proofs.Sends.{same_none, same_on}
 
 pub stays_refl : (k : Known) → StaysSilent k k
-stays_refl k = record { queue_is = refl; layout_is = refl; number_is = refl; begins = prefix_self k.seen; mine = refl }
+stays_refl k = record { same = same_none k; begins = prefix_self k.seen; mine = refl }
 
 pub stays_on : (a b c : Known) → StaysSilent a b → StaysSilent b c → StaysSilent a c
 stays_on a b c x y = record {
-  queue_is = y.queue_is ∙ x.queue_is;
-  layout_is = y.layout_is ∙ x.layout_is;
-  number_is = y.number_is ∙ x.number_is;
+  same = same_on a b c x.same y.same;
   begins = prefix_on a.seen b.seen c.seen x.begins y.begins;
-  mine = subst (λ (n : ℕ). own n c.seen ≡ own n b.seen) x.number_is y.mine ∙ x.mine;
+  mine = subst (λ (n : ℕ). own n c.seen ≡ own n b.seen) x.same.number_is y.mine ∙ x.mine;
 }
 
 pub sees_stays : (n : ℕ) (a b : Known) → Sees [] n a b → StaysSilent a b
-sees_stays n a b s = record {
-  queue_is = s.same.queue_is;
-  layout_is = s.same.layout_is;
-  number_is = s.same.number_is;
-  begins = grows_begins a.number [] n a.seen b.seen s.grows;
-  mine = grows_same a.number n a.seen b.seen s.grows;
-}
+sees_stays n a b s = record { same = s.same; begins = grows_begins a.number [] n a.seen b.seen s.grows; mine = grows_same a.number n a.seen b.seen s.grows }
 
 -- a seat that the hub met has heard all that the hub had seen
 pub hears_hub : (told : List Event) (hub hub' k k' : Known) → IsPrefix told hub.seen → Sees [] 0 hub hub' → Sees [] 0 k k' → k'.seen ≡ hub'.seen
@@ -83,20 +67,23 @@ pub all_hear_nothing : (xs : List Known) → AllHear [] xs xs
 all_hear_nothing xs = record { count = refl; each = λ i d lt. record { stays = stays_refl (get_or xs i d); knows = ((get_or xs i d).seen, refl) } }
 
 -- a worker's seats, where neither made an event
-adds_prefix : (s n : ℕ) (v w : List Event) → Adds s [] n v w → IsPrefix v w × (own s w ≡ own s v) × (own owner_seat w ≡ own owner_seat v)
-adds_prefix s n v w a = let none = none_of s a.new a.ours in (
-  (a.new, sym a.is),
-  ap (own s) a.is ∙ (own-append s v a.new ∙ (ap (λ (x : List Event). own s v ++ x) none.0 ∙ append-nil (own s v))),
-  ap (own owner_seat) a.is ∙ (own-append owner_seat v a.new ∙ (ap (λ (x : List Event). own owner_seat v ++ x) none.1 ∙ append-nil (own owner_seat v))),
-)
-
 pub moves_stay : {W : Type 0} (n : ℕ) (a b : WorkerState W) → Moves [] n a b → StaysSilent (sender_of a) (sender_of b) × StaysSilent (owner_of a) (owner_of b)
-moves_stay n a b m = let p = adds_prefix a.number n a.seen b.seen m.adds in (
-  record { queue_is = m.queue; layout_is = m.layout; number_is = m.number; begins = p.0; mine = p.1 },
-  record { queue_is = m.queue; layout_is = m.layout; number_is = refl; begins = p.0; mine = p.2 },
-)
+moves_stay n a b m =
+    let none = none_of a.number m.adds.new m.adds.ours in
+    let begins : IsPrefix a.seen b.seen = (m.adds.new, sym m.adds.is) in (
+      record {
+        same = record { queue_is = m.queue; layout_is = m.layout; number_is = m.number };
+        begins = begins;
+        mine = own_more a.number a.seen m.adds.new b.seen m.adds.is none.0;
+      },
+      record {
+        same = record { queue_is = m.queue; layout_is = m.layout; number_is = refl };
+        begins = begins;
+        mine = own_more owner_seat a.seen m.adds.new b.seen m.adds.is none.1;
+      },
+    )
 
 -- each of them is of the queue that it was of
 pub queue_heard : (told : List Event) (olds news : List Known) → AllHear told olds news → (i : ℕ) (d : Known) → i < length olds
     → (get_or news i d).queue ≡ (get_or olds i d).queue
-queue_heard told olds news all i d lt = (all.each i d lt).stays.queue_is
+queue_heard told olds news all i d lt = (all.each i d lt).stays.same.queue_is

@@ -1,15 +1,8 @@
 -- The history that all commands leave.
-use Rattle.std.proofs.Common.{◌≡◌, sym, ap, ◌∙◌, subst, fold, List, []}
-use Rattle.wq_words.specs.declared.layout.Layout.{Layout}
-use Rattle.wq_words.specs.Legal.{IsLegal}
+use Rattle.wq_script.proofs.Common.{◌≡◌, sym, ap, ◌∙◌, subst, fold, List, [], Layout, IsLegal, Command, ScriptState, state_after, Engine, Meets, IsWider}
 use Rattle.wq_words.proofs.Headlines.{keeps_headline}
-use Rattle.wq_text.specs.declared.command.Command.{Command}
-use Rattle.wq_meaning.specs.Commands.{ScriptState, state_after}
 use Rattle.wq_meaning.specs.Order.{final_state}
-use Rattle.wq_script.specs.declared.engine.Engine.{Engine}
-use Rattle.wq_script.specs.Engine.{Meets}
 use Rattle.wq_script.specs.Output.{HasLegalHistory}
-use Rattle.wq_script.specs.Seats.{IsWider}
 
 -- the state in which an engine is at the end is the last one
 pub final_legal : (e : Engine) (layout : Layout) (s : ScriptState) (commands left : List Command) → e.layout ≡ layout → Meets e s → left ≡ []

@@ -1,16 +1,7 @@
 -- The seats of a new queue.
-use Rattle.std.proofs.Common.{◌≡◌, ℕ, ◌+◌, List, [], length, get_or, refl, sym, ap, ◌∙◌, subst, arith}
-use Rattle.wq_live.specs.Known.{QueueId}
-use Rattle.wq_words.specs.declared.layout.Layout.{Layout}
-use Rattle.wq_words.specs.declared.event.Event.{Event}
-use Rattle.wq_words.specs.History.{Holds}
-use Rattle.wq_words.specs.Legal.{IsLegal}
-use Rattle.wq_words.proofs.Legal.{legal_nil}
-use Rattle.wq_words.specs.Seen.{owner_seat, own, Grows}
-use Rattle.wq_live.specs.Known.{Known, new_sender, new_owner, new_senders}
-use Rattle.wq_live.proofs.Seated.{length-new_senders, get_or-new_senders, made_nothing}
-use Rattle.wq_script.specs.declared.seats.Seats.{Seats}
-use Rattle.wq_script.specs.Seats.{IsAt, IsWider, Seated}
+use Rattle.wq_script.proofs.Common.{◌≡◌, ℕ, ◌+◌, List, [], length, get_or, refl, sym, ap, ◌∙◌, subst, arith, QueueId, Layout, Event, IsLegal, legal_nil}
+use Rattle.wq_script.proofs.Common.{owner_seat, own, Grows, Known, new_sender, new_owner, new_senders, length-new_senders, get_or-new_senders, made_nothing}
+use Rattle.wq_script.proofs.Common.{Seats, IsAt, IsWider, Seated, Holds}
 
 pub new_seated : (layout wide : Layout) (q : QueueId) (s : Seats) (o a b : Known) → IsWider layout wide → o ≡ new_owner q wide
     → a ≡ new_sender q wide layout.senders → b ≡ new_sender q wide (layout.senders + 1)

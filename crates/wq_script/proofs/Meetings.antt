@@ -1,28 +1,9 @@
 -- An engine that goes on meets the state that a script goes on to.
-use Rattle.std.proofs.Common.{◌≡◌, ◌≢◌, ℕ, ◌<◌, Bool, true, false, List, [], ◌∷◌, ◌++◌, length, refl, sym, ap, ◌∙◌, subst, arith, if◌then◌else◌}
-use Rattle.std.proofs.lemmas.List.{append-nil}
-use Rattle.wq_words.specs.declared.layout.Layout.{Layout}
-use Rattle.wq_words.specs.declared.event.Event.{Event}
-use Rattle.wq_words.specs.declared.event.Event.TheVariants.{Close}
-use Rattle.wq_words.specs.History.{closed, begun, ended, IsRunning}
-use Rattle.wq_words.specs.Legal.{IsLegal}
-use Rattle.wq_words.specs.Seen.{owner_seat}
-use Rattle.wq_words.specs.declared.answer.Answer.{Answer}
-use Rattle.wq_words.specs.DelayTable.{DelayTable}
-use Rattle.wq_meaning.specs.Queueing.{queue_events, queue_answer, close_events}
-use Rattle.wq_meaning.specs.Execution.{after_executions, ended_since}
-use Rattle.wq_meaning.specs.Commands.{ScriptState}
-use Rattle.wq_words.proofs.Appended.{begun-append, ended-append}
-use Rattle.wq_script.specs.declared.engine.Engine.{Engine}
-use Rattle.wq_script.specs.declared.seats.Seats.{Seats}
-use Rattle.wq_script.specs.declared.tally.Tally.{Tally}
-use Rattle.wq_script.specs.declared.lists.Lists.{Lists}
-use Rattle.wq_script.specs.Seats.{Seated, IsSameTable}
-use Rattle.wq_script.specs.Quiet.{ListsFit}
-use Rattle.wq_script.specs.Asking.{Asks, Goes, Ran, HasLists}
-use Rattle.wq_script.specs.Arming.{GoesWithTable}
-use Rattle.wq_script.specs.Counting.{Tallied, counted}
-use Rattle.wq_script.specs.Engine.{Meets}
+use Rattle.wq_script.proofs.Common.{◌≡◌, ◌≢◌, ℕ, ◌<◌, Bool, true, false, List, [], ◌∷◌, ◌++◌, length, refl, sym, ap, ◌∙◌, subst, arith, if◌then◌else◌}
+use Rattle.wq_script.proofs.Common.{append-nil, Layout, Event, Close, closed, begun, ended, IsRunning, IsLegal, owner_seat, Answer, DelayTable, queue_events}
+use Rattle.wq_script.proofs.Common.{queue_answer, close_events, after_executions, ended_since, ScriptState, begun-append, ended-append, Engine, Seats, Tally}
+use Rattle.wq_script.proofs.Common.{Lists, Seated, ListsFit, Asks, Goes, Ran, HasLists, GoesWithTable, Tallied, counted, Meets, Does, size, AsksFor}
+use Rattle.wq_script.proofs.Common.{state_after, lines, line, queue_few, Command, length-append, answer_text}
 use Rattle.wq_script.proofs.Tallies.{Foreign, idle_on, tallied_own, all_own, legal_has}
 use Rattle.wq_script.proofs.Answered.{queue_counts}
 
@@ -36,22 +17,27 @@ same_lists layout a b same lists = record {
   fit = subst (λ v. ListsFit layout.items v.items) (sym same) lists.fit;
 }
 
-pub same_table : (a b : Seats) → IsSameTable a.delay b.delay → b.delay.table ≡ a.delay.table
-same_table a b same = same
+-- the seats went on to this history, and the lists stayed
+pub meets_so : (layout : Layout) (a b : Seats) (x u : Tally) (s : ScriptState) (h : List Event) (now : DelayTable) → Meets (engine layout a x) s
+    → Seated layout b h → ¬ IsRunning h → Tallied u layout.senders h → b.worker.work.follows ≡ a.worker.work.follows → b.delay.table ≡ now
+    → Meets (engine layout b u) (record s { history = h; table = now })
+meets_so layout a b x u s h now m seated idle tally lists table = record {
+  seated = seated;
+  idle = idle;
+  tally = tally;
+  table = table;
+  follows = ap (λ v. v.items) lists ∙ m.follows;
+  lists = same_lists layout a b lists m.lists;
+  short = m.short;
+}
 
 -- events of a seat that is not the worker's
 pub meets_on : (layout : Layout) (a b : Seats) (x u : Tally) (s : ScriptState) (es : List Event) (now : DelayTable)
     → Meets (engine layout a x) s → Seated layout b (s.history ++ es) → Foreign layout.senders es → Tallied u layout.senders (s.history ++ es)
     → b.worker.work ≡ a.worker.work → b.delay.table ≡ now → Meets (engine layout b u) (record s { history = s.history ++ es; table = now })
-meets_on layout a b x u s es now m seated foreign tally work table = record {
-  seated = seated;
-  idle = idle_on layout.senders s.history es foreign m.idle;
-  tally = tally;
-  table = table;
-  follows = ap (λ (l : Lists). l.follows.items) work ∙ m.follows;
-  lists = same_lists layout a b (ap (λ (l : Lists). l.follows) work) m.lists;
-  short = m.short;
-}
+meets_on layout a b x u s es now m seated foreign tally work table =
+    meets_so layout a b x u s (s.history ++ es) now m seated (idle_on layout.senders s.history es foreign m.idle) tally
+    (ap (λ (l : Lists). l.follows) work) table
 
 -- a queueing by a sender of the script
 pub asked_meets : (layout : Layout) (a b : Seats) (x u : Tally) (s : ScriptState) (sender k : ℕ) (got : Answer) → sender < layout.senders
@@ -64,33 +50,36 @@ asked_meets layout a b x u s sender k got lt m asks counts =
     let same : u ≡ counted (queue_answer k s.history) x = counts ∙ ap (λ (y : Answer). counted y x) asks.answer in
     let P : Tally → Type 0 = λ v. Tallied v layout.senders (s.history ++ queue_events sender k s.history) in
     meets_on layout a b x u s (queue_events sender k s.history) s.table m asks.seated c.1 (subst P (sym same) c.0) asks.work.work_is
-    (same_table a b asks.table ∙ m.table)
+    (asks.table ∙ m.table)
+
+-- a command that asks for a queueing, and writes how that was answered
+pub asked_does : (e : Engine) (b : Seats) (u : Tally) (before now text : List ℕ) (sender : ℕ) (number : Layout → ℕ) (got : Answer) (c : Command)
+    → sender < e.layout.senders → AsksFor sender number got e.seats b → u ≡ counted got e.tally → now ≡ before ++ line text → text ≡ answer_text got
+    → ((s : ScriptState) → state_after e.layout s c ≡ record s { history = s.history ++ queue_events sender (number e.layout) s.history })
+    → ((s t : ScriptState) → lines e.layout s t c ≡ line (answer_text (queue_answer (number e.layout) s.history)))
+    → Does e (engine e.layout b u) before now c
+asked_does e b u before now text sender number got c lt asks counts written says after writes = record {
+  layout = refl;
+  meets = λ s m. subst (λ (t : ScriptState). Meets (engine e.layout b u) t) (sym (after s))
+      (asked_meets e.layout e.seats b e.tally u s sender (number e.layout) got lt m (asks e.layout s.history m.seated) counts);
+  lines = λ s m few. written ∙ ap (λ (x : List ℕ). before ++ x)
+      (ap line (says ∙ ap answer_text (asks e.layout s.history m.seated).answer) ∙ sym (writes s (state_after e.layout s c)));
+  room = λ s m. let k = number e.layout in
+      omega (arith, ap size (after s), length-append s.history (queue_events sender k s.history), queue_few sender k s.history);
+}
 
 -- nothing happened
 pub looked_meets : (layout : Layout) (a b : Seats) (x : Tally) (s : ScriptState) → Meets (engine layout a x) s → Goes layout s.history a b
     → Meets (engine layout b x) s
-looked_meets layout a b x s m goes = record {
-  seated = goes.seated;
-  idle = m.idle;
-  tally = m.tally;
-  table = same_table a b goes.table ∙ m.table;
-  follows = ap (λ (l : Lists). l.follows.items) goes.work.work_is ∙ m.follows;
-  lists = same_lists layout a b (ap (λ (l : Lists). l.follows) goes.work.work_is) m.lists;
-  short = m.short;
-}
+looked_meets layout a b x s m goes =
+    meets_so layout a b x x s s.history s.table m goes.seated m.idle m.tally (ap (λ (l : Lists). l.follows) goes.work.work_is) (goes.table ∙ m.table)
 
 -- the queue was closed
 pub close_meets : (layout : Layout) (a b : Seats) (x : Tally) (s : ScriptState) → Meets (engine layout a x) s
     → Goes layout (s.history ++ close_events s.history) a b → Meets (engine layout b x) (record s { history = s.history ++ close_events s.history })
-close_meets layout a b x s m goes = record {
-  seated = goes.seated;
-  idle = (each (closed s.history)).1;
-  tally = (each (closed s.history)).0;
-  table = same_table a b goes.table ∙ m.table;
-  follows = ap (λ (l : Lists). l.follows.items) goes.work.work_is ∙ m.follows;
-  lists = same_lists layout a b (ap (λ (l : Lists). l.follows) goes.work.work_is) m.lists;
-  short = m.short;
-}
+close_meets layout a b x s m goes =
+    meets_so layout a b x x s (s.history ++ close_events s.history) s.table m goes.seated (each (closed s.history)).1 (each (closed s.history)).0
+    (ap (λ (l : Lists). l.follows) goes.work.work_is) (goes.table ∙ m.table)
   where
     same : Tallied x layout.senders (s.history ++ []) × (¬ IsRunning (s.history ++ []))
     same = (
@@ -125,15 +114,8 @@ ran_meets layout a b x s limit ends ran m r =
     subst (λ (h : List Event). Tallied x layout.senders h) (sym r.new_is) (tallied_own x layout.senders s.history r.new m.tally own) in
     let same : all ≡ after_executions layout.senders s.follows ends limit s.history =
     ap (λ f. after_executions layout.senders f ends limit s.history) m.follows in (
-      record {
-        seated = subst (λ (h : List Event). Seated layout b h) same r.seated;
-        idle = subst (λ (h : List Event). ¬ IsRunning h) same r.idle;
-        tally = subst (λ (h : List Event). Tallied x layout.senders h) same tally;
-        table = same_table a b r.table ∙ m.table;
-        follows = ap (λ v. v.items) r.lists ∙ m.follows;
-        lists = same_lists layout a b r.lists m.lists;
-        short = m.short;
-      },
+      subst (λ (h : List Event). Meets (engine layout b x) (record s { history = h })) same
+          (meets_so layout a b x x s all s.table m r.seated r.idle tally r.lists (r.table ∙ m.table)),
       r.ran_is ∙ ap (ended_since s.history) same,
     )
 
@@ -146,12 +128,5 @@ table_meets layout a b x u s es now m l tally foreign = meets_on layout a b x u 
 -- the table's tick stays
 pub back_meets : (layout : Layout) (a b : Seats) (x : Tally) (s : ScriptState) → Meets (engine layout a x) s
     → GoesWithTable layout s.history a.delay.table a b → Meets (engine layout b x) s
-back_meets layout a b x s m l = record {
-  seated = l.seated;
-  idle = m.idle;
-  tally = m.tally;
-  table = l.table ∙ m.table;
-  follows = ap (λ (l : Lists). l.follows.items) l.work.work_is ∙ m.follows;
-  lists = same_lists layout a b (ap (λ (l : Lists). l.follows) l.work.work_is) m.lists;
-  short = m.short;
-}
+back_meets layout a b x s m l =
+    meets_so layout a b x x s s.history s.table m l.seated m.idle m.tally (ap (λ (l : Lists). l.follows) l.work.work_is) (l.table ∙ m.table)

@@ -1,29 +1,15 @@
 -- Cancellings, modifications and advances of a delay table, and what they are in a script.
-use Rattle.std.proofs.Common.{◌≡◌, ℕ, ◌+◌, Bool, true, false, List, [], ◌∷◌, ◌++◌, map, inl, inr, refl, sym, ap, ◌∙◌, subst, arith, append_assoc, if◌then◌else◌}
-use Rattle.std.specs.Prelude.{MatchBool, IsTrue, ◌↔◌}
-use Rattle.std.specs.List.{AllZip}
-use Rattle.std.proofs.lemmas.List.{append-nil}
-use Rattle.wq_words.specs.declared.layout.Layout.{Layout}
-use Rattle.wq_words.specs.declared.event.Event.{Event}
-use Rattle.wq_words.specs.declared.event.Event.TheVariants.{Push, Back}
+use Rattle.wq_script.proofs.Common.{◌≡◌, ℕ, ◌+◌, Bool, true, false, List, [], ◌∷◌, ◌++◌, map, inl, inr, refl, sym, ap, ◌∙◌, subst, arith, append_assoc}
+use Rattle.wq_script.proofs.Common.{if◌then◌else◌, MatchBool, IsTrue, ◌↔◌, AllZip, append-nil, Layout, Event, Push, Back, closed, IsLegal, legal_next, Armed}
+use Rattle.wq_script.proofs.Common.{Modified, modified_of, Entry, items, on_table, due_part, is_too_far, table_without, table_at, DelayState, IsFit, IsOut}
+use Rattle.wq_script.proofs.Common.{lost_tries, Arms, Cancels, Rearms, ArmsAnew, Modifies, PostsDue, post_event, cancel_events, modify_events, modify_table}
+use Rattle.wq_script.proofs.Common.{modify_answer, due_items, advance_events, Seats, Gathers, Seated, GoesWithTable}
 use Rattle.wq_words.specs.declared.event.Why.TheVariants as why
-use Rattle.wq_words.specs.History.{closed}
-use Rattle.wq_words.specs.Legal.{IsLegal}
-use Rattle.wq_words.proofs.Legal.{legal_next}
 use Rattle.wq_words.proofs.Closed.{closed_from_IsClosed, closed_from_open, closed_push_no}
-use Rattle.wq_words.specs.declared.answer.Armed.{Armed}
 use Rattle.wq_words.specs.declared.answer.Armed.TheVariants as armed
-use Rattle.wq_words.specs.declared.answer.Modified.{Modified}
 use Rattle.wq_words.specs.declared.answer.Modified.TheVariants as modified
-use Rattle.wq_words.specs.Armed.{modified_of}
-use Rattle.wq_words.specs.DelayTable.{Entry, items, on_table, due_part, is_too_far, table_without, table_at}
 use Rattle.wq_words.proofs.DelayTable.{without_off}
-use Rattle.wq_delay.specs.Delay.{DelayState, IsFit, IsOut, lost_tries, Arms, Cancels, Rearms, ArmsAnew, Modifies, PostsDue}
-use Rattle.wq_meaning.specs.Arming.{post_event, cancel_events, modify_events, modify_table, modify_answer, due_items, advance_events}
 use Rattle.wq_meaning.proofs.Armings.{closed_or_moved, modify_far, modify_off, modify_now, modify_again}
-use Rattle.wq_script.specs.declared.seats.Seats.{Seats}
-use Rattle.wq_script.specs.Seats.{Gathers, Seated}
-use Rattle.wq_script.specs.Arming.{GoesWithTable}
 use Rattle.wq_script.proofs.Delayed.{acts, seated_by, goes_with, goes_nowhere, armed_so, near_is}
 
 module _ (wide : Layout) (s k : ℕ) (h : List Event) where
@@ -85,10 +71,7 @@ module _ (layout : Layout) (s t : Seats) (h : List Event) (g : Seated layout s h
         entries = sym (without_off k s.delay.table.entries told.0) i;
         tick = s.delay.table.tick;
         next = s.delay.table.next;
-      } in (
-        sym told.0,
-        record { seated = subst (λ (x : List Event). Seated layout t (h ++ x)) (sym events) l.seated; table = l.table ∙ table; work = l.work },
-      )
+      } in (sym told.0, record { seated = subst (λ (x : List Event). Seated layout t (h ++ x)) (sym events) l.seated; table = l.table ∙ table; work = l.work })
 
   module _ (k delay : ℕ) where
     -- how a modification was answered, and what it led to

@@ -1,21 +1,11 @@
 -- What a queueing was, by the history that it led to.
-use Rattle.std.proofs.Common.{◌≡◌, ℕ, ◌+◌, Bool, true, false, cond, ◌==◌, List, [], ◌∷◌, ◌++◌, arith, inl, inr, ◌⊎◌, refl, sym, ap, ◌∙◌, subst, append_assoc, if◌then◌else◌, count_by}
-use Rattle.std.proofs.lemmas.Bool.{lt-ltb, le-ltb}
-use Rattle.wq_words.specs.declared.layout.Layout.{Layout}
-use Rattle.wq_words.specs.declared.event.Event.{Event}
-use Rattle.wq_words.specs.declared.event.Event.TheVariants.{Hold, Busy, Push, Back}
+use Rattle.wq_script.proofs.Common.{◌≡◌, ℕ, ◌+◌, Bool, true, false, cond, ◌==◌, List, [], ◌∷◌, ◌++◌, arith, inl, inr, ◌⊎◌, refl, sym, ap, ◌∙◌, subst}
+use Rattle.wq_script.proofs.Common.{append_assoc, if◌then◌else◌, count_by, lt-ltb, le-ltb, Layout, Event, Hold, Busy, Push, Back, pending, closed, is_close}
+use Rattle.wq_script.proofs.Common.{first, IsLegal, legal_next, seat_of, own, own-append, own_one, queue_events, fresh-more, right_nil}
+use Rattle.wq_words.specs.History.{IsPending}
 use Rattle.wq_words.specs.declared.event.Why.TheVariants as why
-use Rattle.wq_words.specs.History.{IsPending, pending, closed, is_close, first}
-use Rattle.wq_words.specs.Legal.{IsLegal}
 use Rattle.wq_words.proofs.Growing.{count_by_push}
-use Rattle.wq_words.proofs.Legal.{legal_next}
-use Rattle.wq_words.specs.Seen.{seat_of, own}
-use Rattle.wq_words.proofs.Seen.{own-append, own_one}
-use Rattle.wq_meaning.specs.Queueing.{queue_events}
-use Rattle.wq_words.proofs.Appended.{fresh-more}
-use Rattle.wq_words.proofs.Prefixes.{right_nil}
-use Rattle.wq_words.proofs.Closed.{closed_from_open as not_closed}
-use Rattle.wq_words.proofs.Closed.{closed_from_IsClosed as is_closed}
+use Rattle.wq_words.proofs.Closed.{closed_from_open as not_closed, closed_from_IsClosed as is_closed}
 
 -- the answers of the tests by which a script's meaning goes
 pub not_pending : (h : List Event) (k : ℕ) → ¬ IsPending h k → pending h k ≡ false

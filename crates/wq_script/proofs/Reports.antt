@@ -1,19 +1,11 @@
 -- The counts of a report, from what the worker and the engine counted.
-use Rattle.std.proofs.Common.{◌≡◌, ℕ, ◌+◌, ◌≤◌, ◌^◌, List, length, ap, ◌∙◌, arith, count_by}
 use Rattle.std.proofs.lemmas.List.Sums.{count_by-le-length}
-use Rattle.wq_words.specs.declared.event.Event.{Event}
-use Rattle.wq_words.specs.History.{accepted, begun, ended, is_push}
+use Rattle.wq_script.proofs.Common.{◌≡◌, ℕ, ◌+◌, ◌≤◌, ◌^◌, List, length, ap, ◌∙◌, arith, count_by, Event, accepted, begun, ended, is_push, prefix_length}
+use Rattle.wq_script.proofs.Common.{owner_seat, count_same, ended_same, is_queued_by, is_pending_by, is_closed_by, is_chain, is_chain_busy, is_busy, is_refusal}
+use Rattle.wq_script.proofs.Common.{accepted-count, Engine, Tally, HasStateWithin}
 use Rattle.wq_words.proofs.Order.{in_order}
-use Rattle.wq_words.proofs.Prefixes.{prefix_length}
-use Rattle.wq_words.specs.Seen.{owner_seat}
-use Rattle.wq_words.proofs.Seen.{count_same, ended_same}
-use Rattle.wq_words.specs.Counting.{is_queued_by, is_pending_by, is_closed_by, is_chain, is_chain_busy, is_busy, is_refusal}
 use Rattle.wq_ledger.specs.declared.totals.Totals.{Totals}
 use Rattle.wq_ledger.specs.Totals.{own_totals}
-use Rattle.wq_words.proofs.Appended.{accepted-count}
-use Rattle.wq_script.specs.declared.engine.Engine.{Engine}
-use Rattle.wq_script.specs.declared.tally.Tally.{Tally}
-use Rattle.wq_script.specs.Engine.{HasStateWithin}
 use Rattle.wq_words.proofs.Counting.{queued_own, pending_own, closed_own, chain_own, chain_busy_own}
 
 -- what the counts of an engine come to

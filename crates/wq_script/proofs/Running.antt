@@ -1,34 +1,17 @@
 -- What each answer of a worker's step means for a script.
-use Rattle.std.proofs.Common.{append_assoc, ◌≡◌, ℕ, ◌+◌, ◌<◌, ◌≤◌, Bool, true, false, not, ◌&&◌, nat_le, if◌then◌else◌, drop, suc, List, [], ◌∷◌, ◌++◌, Option, Some, None, length, refl, sym, ap, ◌∙◌, subst, arith, All, inl, inr}
-use Rattle.std.specs.Prelude.{filter}
 use Rattle.std.specs.Option.{option_to_list}
-use Rattle.std.proofs.lemmas.List.{append-nil, append_cancel_left}
-use Rattle.std.proofs.lemmas.List.Elements.{filter-append}
 use Rattle.std.proofs.Math.Seq.{drop-append_seam}
-use Rattle.std.proofs.Math.ListN.{get_or-eq_default}
-use Rattle.std.proofs.lemmas.Option.{slice_get_within}
-use Rattle.std.proofs.lemmas.Bool.{cases_lt}
-use mathlib.Core.List.{IsPrefix}
-use Rattle.arrayvec.specs.ArrayVec.{ArrayVec}
-use Rattle.wq_words.specs.declared.layout.Layout.{Layout}
-use Rattle.wq_words.specs.declared.event.Event.{Event}
-use Rattle.wq_words.specs.declared.event.Event.TheVariants.{Take, Begin, End}
-use Rattle.wq_words.specs.History.{begun, ended, taken, closed, next, IsRunning}
-use Rattle.wq_words.specs.Legal.{IsLegal}
-use Rattle.wq_words.specs.Seen.{is_ours}
+use Rattle.wq_script.proofs.Common.{append_assoc, ◌≡◌, ℕ, ◌+◌, ◌<◌, ◌≤◌, Bool, true, false, not, ◌&&◌, nat_le, if◌then◌else◌, drop, suc, List, [], ◌∷◌, ◌++◌}
+use Rattle.wq_script.proofs.Common.{Option, Some, None, length, refl, sym, ap, ◌∙◌, subst, arith, All, inl, inr, filter, append-nil, append_cancel_left}
+use Rattle.wq_script.proofs.Common.{filter-append, get_or-eq_default, slice_get_within, cases_lt, IsPrefix, ArrayVec, Layout, Event, Take, Begin, End, begun}
+use Rattle.wq_script.proofs.Common.{ended, taken, closed, next, IsRunning, IsLegal, is_ours, taking, WorkerState, Moves, Follows, no_follow, follow_of}
+use Rattle.wq_script.proofs.Common.{take_events, after_run, after_execution, after_executions, go_on, ended_since, begun-append, ended-append, Lists, ListsFit}
+use Rattle.wq_script.proofs.Common.{Quiet, IsWorkerIdle, Executed, ExecutesOne, ExecutesRow, right_nil, prefix_on, HasStepped}
 use Rattle.wq_worker.specs.declared.ran.Ran.TheVariants.{Nothing}
-use Rattle.wq_worker.specs.Seats.{taking}
 use Rattle.wq_worker.proofs.Seats.{adds_none}
 use Rattle.wq_worker.proofs.Step.{moves_on}
-use Rattle.wq_worker.specs.State.{WorkerState, Moves}
 use Rattle.wq_worker.specs.Step.{Starts, item, other, owed, Ends, ends, Owes, owes, Runs}
-use Rattle.wq_worker.specs.Follow.{Follows}
-use Rattle.wq_meaning.specs.Execution.{no_follow, follow_of, take_events, after_run, after_execution, after_executions, go_on, ended_since}
 use Rattle.wq_meaning.proofs.Executions.{ended_execution, row_goes_on}
-use Rattle.wq_words.proofs.Appended.{begun-append, ended-append}
-use Rattle.wq_script.specs.declared.lists.Lists.{Lists}
-use Rattle.wq_script.specs.Quiet.{ListsFit, Quiet, IsWorkerIdle, Executed, ExecutesOne, ExecutesRow}
-use Rattle.wq_words.proofs.Prefixes.{right_nil, prefix_on}
 use Rattle.wq_script.proofs.Executed.{exact, executed, nothing_next, taking_is}
 
 -- what the run of an item may answer, and leave
@@ -94,19 +77,13 @@ taken_ended h = ap (λ (x : List Event). length (ended (h ++ x))) (taking_is h)
 
 pub ends_executes : (a b : WorkerState Lists) (k : ℕ) → Ends may_be a k b → ExecutesOne a b (Some k)
 ends_executes a b k (ends f es fs starts told moves idle) = record {
-  events = es ++ (fs ++ End k ∷ []);
-  others = 0;
-  moves = moves;
-  lists = starts_lists a k f b.work es starts;
+  stepped = record { events = es ++ (fs ++ End k ∷ []); others = 0; moves = moves; lists = starts_lists a k f b.work es starts };
   quiet = starts_so a b k f es fs told moves idle starts;
 }
 
 pub nothing_executes : (a b : WorkerState Lists) → Runs may_be Nothing a b → ExecutesOne a b None
 nothing_executes a b told = record {
-  events = taking a.seen;
-  others = 0;
-  moves = told.3;
-  lists = ap (λ (w : Lists). w.follows) told.2;
+  stepped = record { events = taking a.seen; others = 0; moves = told.3; lists = ap (λ (w : Lists). w.follows) told.2 };
   quiet = λ wide z ready quiet begins.
       let e = exact wide a.number a.seen b.seen z (taking a.seen) 0 quiet told.3.adds begins in
       let is : None ≡ next a.seen = nothing_next wide a.seen b.seen e.2 e.0 told.1 in
@@ -128,10 +105,7 @@ nothing_executes a b told = record {
 
 pub owes_executes : (a b : WorkerState Lists) (k : ℕ) → Owes may_be a k b → ExecutesOne a b None
 owes_executes a b k (owes f qs j more es fs starts splits left is_open told moves runs) = record {
-  events = _;
-  others = a.tries;
-  moves = moves;
-  lists = starts_lists a k f b.work es starts;
+  stepped = record { events = _; others = a.tries; moves = moves; lists = starts_lists a k f b.work es starts };
   quiet = λ wide z ready quiet begins.
       let e = exact wide a.number a.seen b.seen z _ a.tries quiet moves.adds begins in
       absurd (omega (arith, e.1, ready.tries));
@@ -144,10 +118,7 @@ pub record SoFar (ends : ℕ → Bool) (limit left : ℕ) (a b : WorkerState Lis
   pub idle : ¬ IsRunning b.seen
 
 pub record RowSoFar (ends : ℕ → Bool) (limit left : ℕ) (a b : WorkerState Lists) (ran : List ℕ) : Type 0 where
-  pub events : List Event
-  pub others : ℕ
-  pub moves : Moves events others a b
-  pub lists : b.work.follows ≡ a.work.follows
+  pub stepped : HasStepped a b
   pub quiet : (wide : Layout) (z : List Event) → IsWorkerIdle wide a → Quiet wide a.number a.seen z → IsPrefix b.seen z → SoFar ends limit left a b ran
 
 -- the worker is ready again, and what comes is quiet
@@ -179,13 +150,23 @@ still_quiet wide xs n a b z quiet moves begins =
           subst (λ (s : ℕ). filter (λ e. not (is_ours s e)) begins.0 ≡ []) (sym moves.number) none;
     }
 
+stepped_on : (a b c : WorkerState Lists) → HasStepped a b → HasStepped b c → HasStepped a c
+stepped_on a b c x y = record {
+  events = x.events ++ y.events;
+  others = x.others + y.others;
+  moves = moves_on x.events y.events x.others y.others a b c x.moves y.moves;
+  lists = y.lists ∙ x.lists;
+}
+
 module _ (ends : ℕ → Bool) (limit : ℕ) (a : WorkerState Lists) where
   pub row_none : IsLegal a.layout a.seen → RowSoFar ends limit limit a a []
   row_none legal = record {
-    events = [];
-    others = 0;
-    moves = record { queue = refl; layout = refl; number = refl; tries = refl; adds = adds_none a.number a.seen; legal = legal };
-    lists = refl;
+    stepped = record {
+      events = [];
+      others = 0;
+      moves = record { queue = refl; layout = refl; number = refl; tries = refl; adds = adds_none a.number a.seen; legal = legal };
+      lists = refl;
+    };
     quiet = λ wide z ready quiet begins. record { rest = refl; told = sym (append-nil (ended a.seen)); idle = ready.idle };
   }
 
@@ -195,14 +176,11 @@ module _ (ends : ℕ → Bool) (limit : ℕ) (a : WorkerState Lists) where
     step_so : (wide : Layout) (z : List Event) → IsWorkerIdle wide a → Quiet wide a.number a.seen z → IsPrefix c.seen z
         → SoFar ends limit n a b ran × (r ≡ next b.seen) × (c.seen ≡ after_execution a.number a.work.follows.items b.seen) × (¬ IsRunning c.seen)
     step_so wide z ready quiet begins =
-        let before : IsPrefix b.seen z = prefix_on b.seen c.seen z (does.moves.adds.new, sym does.moves.adds.is) begins in
+        let before : IsPrefix b.seen z = prefix_on b.seen c.seen z (does.stepped.moves.adds.new, sym does.stepped.moves.adds.is) begins in
         let so : SoFar ends limit n a b ran = row.quiet wide z ready quiet before in
-        let d = does.quiet wide z (still_ready wide row.events row.others a b ready row.moves row.lists so.idle)
-        (still_quiet wide row.events row.others a b z quiet row.moves before) begins in
-        (so, d.next_is, d.seen_is ∙ (λ i. after_execution (row.moves.number i) (row.lists i).items b.seen), d.idle)
-
-    all_moves : Moves (row.events ++ does.events) (row.others + does.others) a c
-    all_moves = moves_on row.events does.events row.others does.others a b c row.moves does.moves
+        let d = does.quiet wide z (still_ready wide row.stepped.events row.stepped.others a b ready row.stepped.moves row.stepped.lists so.idle)
+        (still_quiet wide row.stepped.events row.stepped.others a b z quiet row.stepped.moves before) begins in
+        (so, d.next_is, d.seen_is ∙ (λ i. after_execution (row.stepped.moves.number i) (row.stepped.lists i).items b.seen), d.idle)
 
   -- what an execution of k left to be executed, and what was executed with it, where it was quiet
   ran_one : (left n : ℕ) (b c : WorkerState Lists) (ran : List ℕ) (k : ℕ) (count : n ≡ suc left) (row : RowSoFar ends limit n a b ran)
@@ -226,10 +204,7 @@ module _ (ends : ℕ → Bool) (limit : ℕ) (a : WorkerState Lists) where
   pub row_more : (left n : ℕ) (b c : WorkerState Lists) (ran : List ℕ) (k : ℕ) → n ≡ suc left → RowSoFar ends limit n a b ran
       → ExecutesOne b c (Some k) → ends k ≡ false → RowSoFar ends limit left a c (ran ++ k ∷ [])
   row_more left n b c ran k count row does goes = record {
-    events = row.events ++ does.events;
-    others = row.others + does.others;
-    moves = all_moves left n b c ran (Some k) count row does;
-    lists = does.lists ∙ row.lists;
+    stepped = stepped_on a b c row.stepped does.stepped;
     quiet = λ wide z ready quiet begins.
         let d = ran_one left n b c ran k count row does wide z ready quiet begins false goes in record { rest = d.0; told = d.1; idle = d.2 };
   }
@@ -239,10 +214,7 @@ module _ (ends : ℕ → Bool) (limit : ℕ) (a : WorkerState Lists) where
 
   pub row_done : (left : ℕ) (b : WorkerState Lists) (ran : List ℕ) → left ≡ 0 → RowSoFar ends limit left a b ran → ExecutesRow limit ends a b ran
   row_done left b ran none row = record {
-    events = row.events;
-    others = row.others;
-    moves = row.moves;
-    lists = row.lists;
+    stepped = row.stepped;
     quiet = λ wide z ready quiet begins.
         let so = row.quiet wide z ready quiet begins in
         (ap (λ (m : ℕ). after_executions a.number a.work.follows.items ends m b.seen) (sym none) ∙ so.rest, since b.seen a.seen ran so.told, so.idle);
@@ -251,10 +223,7 @@ module _ (ends : ℕ → Bool) (limit : ℕ) (a : WorkerState Lists) where
   pub row_last : (left n : ℕ) (b c : WorkerState Lists) (ran : List ℕ) (k : ℕ) → n ≡ suc left → RowSoFar ends limit n a b ran
       → ExecutesOne b c (Some k) → ends k ≡ true → ExecutesRow limit ends a c (ran ++ k ∷ [])
   row_last left n b c ran k count row does stops = record {
-    events = row.events ++ does.events;
-    others = row.others + does.others;
-    moves = all_moves left n b c ran (Some k) count row does;
-    lists = does.lists ∙ row.lists;
+    stepped = stepped_on a b c row.stepped does.stepped;
     quiet = λ wide z ready quiet begins.
         let d = ran_one left n b c ran k count row does wide z ready quiet begins true stops in (d.0, since c.seen a.seen (ran ++ k ∷ []) d.1, d.2);
   }
@@ -262,10 +231,7 @@ module _ (ends : ℕ → Bool) (limit : ℕ) (a : WorkerState Lists) where
   pub row_idle : (left n : ℕ) (b c : WorkerState Lists) (ran : List ℕ) → n ≡ suc left → RowSoFar ends limit n a b ran → ExecutesOne b c None
       → ExecutesRow limit ends a c ran
   row_idle left n b c ran count row does = record {
-    events = row.events ++ does.events;
-    others = row.others + does.others;
-    moves = all_moves left n b c ran None count row does;
-    lists = does.lists ∙ row.lists;
+    stepped = stepped_on a b c row.stepped does.stepped;
     quiet = λ wide z ready quiet begins.
         let d = step_so left n b c ran None count row does wide z ready quiet begins in
         let g : List Event = b.seen in

@@ -1,23 +1,14 @@
 -- Seats of one queue, of which one acts.
-use Rattle.std.proofs.Common.{◌≡◌, ◌≢◌, ℕ, ◌+◌, ◌<◌, ◌≤◌, Bool, true, false, not, ◌==◌, ◌||◌, ◌⊎◌, List, [], ◌++◌, length, get_or, set, arith, inl, inr, refl, sym, ◌∙◌, subst, eq-eqb}
-use Rattle.std.specs.Prelude.{filter}
-use Rattle.std.proofs.lemmas.List.{get_or-set_other, get_or-set_same, length-set}
-use Rattle.std.proofs.lemmas.Bool.{cases_lt, cases_eq, eqb-true, eqb-false, or_parts, false≢true}
-use mathlib.Core.List.{IsPrefix}
-use Rattle.wq_live.specs.Known.{QueueId}
-use Rattle.wq_words.specs.declared.layout.Layout.{Layout}
-use Rattle.wq_words.specs.declared.event.Event.{Event}
-use Rattle.wq_words.specs.Legal.{IsLegal}
-use Rattle.wq_words.specs.Seen.{owner_seat, own, others}
-use Rattle.wq_live.specs.Known.{Known, Sees}
-use Rattle.wq_words.specs.Seen.{is_ours}
-use Rattle.wq_worker.specs.State.{WorkerState, Moves}
-use Rattle.wq_script.specs.declared.lists.Lists.{Lists}
-use Rattle.wq_script.specs.declared.seats.Seats.{Seats}
-use Rattle.wq_script.specs.Seats.{Hears, AllHear, IsAt, IsWider, Seated, sender_of, owner_of}
-use Rattle.wq_words.proofs.Prefixes.{prefix_on}
-use Rattle.wq_words.proofs.Seen.{own_between}
+use Rattle.wq_script.proofs.Common.{◌≡◌, ◌≢◌, ℕ, ◌+◌, ◌<◌, ◌≤◌, Bool, true, false, not, ◌==◌, ◌||◌, ◌⊎◌, List, [], ◌++◌, length, get_or, set, arith, inl, inr}
+use Rattle.wq_script.proofs.Common.{refl, sym, ◌∙◌, subst, eq-eqb, filter, get_or-set_other, get_or-set_same, length-set, cases_lt, cases_eq, eqb-true}
+use Rattle.wq_script.proofs.Common.{false≢true, IsPrefix, QueueId, Layout, Event, IsLegal, owner_seat, own, others, Known, Sees, is_ours, WorkerState, Moves}
+use Rattle.wq_script.proofs.Common.{Lists, Seats, Hears, IsAt, IsWider, Seated, sender_of, owner_of, prefix_on, own_between, DelayState, with_item, prefix_self}
+use Rattle.wq_script.proofs.Common.{seat_of, Gathers, ap}
 use Rattle.wq_script.proofs.Alone.{IsSeat, settle}
+
+or_right : (a : Bool) → (a || true) ≡ true
+or_right true = refl
+or_right false = refl
 
 or_either : (a b : Bool) → (a || b) ≡ true → (a ≡ true) ⊎ (b ≡ true)
 or_either true b is = inl refl
@@ -32,22 +23,11 @@ still_none queue layout c h z k k' begins at heard =
 pub still_at : (queue : QueueId) (layout : Layout) (c : ℕ) (h z : List Event) (k k' : Known) → IsPrefix h z → IsAt queue layout c h k → Hears z k k'
     → IsAt queue layout c z k'
 still_at queue layout c h z k k' begins at heard = record {
-  queue_is = heard.stays.queue_is ∙ at.queue_is;
-  layout_is = heard.stays.layout_is ∙ at.layout_is;
-  number_is = heard.stays.number_is ∙ at.number_is;
+  queue_is = heard.stays.same.queue_is ∙ at.queue_is;
+  layout_is = heard.stays.same.layout_is ∙ at.layout_is;
+  number_is = heard.stays.same.number_is ∙ at.number_is;
   begins = heard.knows;
   mine = subst (λ (n : ℕ). own n k'.seen ≡ own n k.seen) at.number_is heard.stays.mine ∙ (at.mine ∙ sym (still_none queue layout c h z k k' begins at heard));
-}
-
--- the seat that acted
-pub acted_at : (queue : QueueId) (layout : Layout) (c : ℕ) (k k' : Known) → k.queue ≡ queue → k.layout ≡ layout → k.number ≡ c → Hears k.seen k k'
-    → IsAt queue layout c k.seen k'
-acted_at queue layout c k k' q l n heard = record {
-  queue_is = heard.stays.queue_is ∙ q;
-  layout_is = heard.stays.layout_is ∙ l;
-  number_is = heard.stays.number_is ∙ n;
-  begins = heard.knows;
-  mine = subst (λ (m : ℕ). own m k'.seen ≡ own m k.seen) n heard.stays.mine;
 }
 
 -- where each number's seat made no event, but those that f names
@@ -74,151 +54,159 @@ pub record Acts (layout : Layout) (t : Seats) (h v z xs : List Event) (n : ℕ) 
   pub none : n ≡ 0
   pub seated : Seated layout t (h ++ xs)
 
+-- the seats where one of the senders went on to z
+abbrev pub with_sender : Seats → ℕ → Known → Seats
+with_sender s p z = record { worker = s.worker; delay = s.delay; senders = with_item s.senders p z }
+
 module _ (layout : Layout) (s t : Seats) (h : List Event) (g : Seated layout s h) where
-  settled : (v z xs : List Event) (n : ℕ) → v ≡ h → z ≡ h ++ xs → n ≡ 0 → Seated layout t z → Acts layout t h v z xs n
-  settled v z xs n alone is none seated = record {
-    alone = alone;
-    is = is;
-    none = none;
-    seated = subst (λ (w : List Event). Seated layout t w) is seated;
-  }
+  -- the seat c stands at h, or is one of those that f names and stands at z
+  abbrev Stands : (ℕ → Bool) → List Event → ℕ → Known → Type 0
+  Stands f z c k = IsAt g.queue g.wide c h k ⊎ ((f c ≡ true) × IsAt g.queue g.wide c z k)
 
-  -- one seat acted, and no other made any event
-  one_acts : (p : ℕ) (x k : Known) (xs : List Event) (n : ℕ) → IsAt g.queue g.wide p h x → Sees xs n x k
-      → ((c : ℕ) → IsSeat g.wide c → (c == p) ≡ false → own c k.seen ≡ own c h) → (IsLegal g.wide k.seen → Seated layout t k.seen)
-      → Acts layout t h x.seen k.seen xs n
-  one_acts p x k xs n at sees others_same seated =
-      let new : List Event = sees.grows.new in
-      let mine : own p new ≡ xs = subst (λ (m : ℕ). own m new ≡ xs) at.number_is sees.grows.mine in
-      let some : n ≤ length (others p new) = subst (λ (m : ℕ). n ≤ length (others m new)) at.number_is sees.grows.theirs in
-      let legal : IsLegal g.wide k.seen = subst (λ (l : Layout). IsLegal l k.seen) (sees.same.layout_is ∙ at.layout_is) sees.legal in
-      let done = settle g.wide (λ c. c == p) h x.seen k.seen new xs n at.begins
-      (λ c seat on. subst (λ (m : ℕ). own m x.seen ≡ own m h) (sym (eqb-true c p on)) at.mine) sees.grows.is mine some legal others_same in
-      settled x.seen k.seen xs n done.0 done.1 done.2 (seated legal)
+  record StandAll (f : ℕ → Bool) (z : List Event) (m : Seats) : Type 0 where
+    count : length m.senders.items ≡ layout.senders
+    senders : (i : ℕ) (d : Known) → i < layout.senders → Stands f z i (get_or m.senders.items i d)
+    sender : Stands f z layout.senders (sender_of m.worker)
+    owner : Stands f z owner_seat (owner_of m.worker)
+    delay : Stands f z (layout.senders + 1) m.delay.sender
+    tries : m.worker.tries ≡ 1
 
-  -- a sender acted, and then all heard what it had seen
-  pub sender_acts : (p : ℕ) (x k : Known) (xs : List Event) (n : ℕ) → p < layout.senders → x ≡ get_or s.senders.items p x → Sees xs n x k
-      → Hears k.seen (sender_of s.worker) (sender_of t.worker) → Hears k.seen (owner_of s.worker) (owner_of t.worker)
-      → Hears k.seen s.delay.sender t.delay.sender
-      → AllHear k.seen (set s.senders.items p k) t.senders.items → t.worker.tries ≡ s.worker.tries → IsLegal t.worker.layout t.worker.seen
-      → Acts layout t h x.seen k.seen xs n
-  sender_acts p x k xs n lt is sees sender owner delay senders tries whole =
-      let q : List Known = s.senders.items in
-      let z : List Event = k.seen in
-      let here : p < length q = omega (arith, lt, g.count) in
-      let at : IsAt g.queue g.wide p h x = subst (λ (v : Known). IsAt g.queue g.wide p h v) (sym is) (g.senders p x lt) in
-      let begins : IsPrefix h z = prefix_on h x.seen z at.begins (sees.grows.new, sym sees.grows.is) in
-      let other : (i : ℕ) (d : Known) → i < layout.senders → i ≢ p → Hears z (get_or q i d) (get_or t.senders.items i d) =
-      λ i d less ne. subst (λ (v : Known). Hears z v (get_or t.senders.items i d)) (get_or-set_other q p i k d ne)
-      (senders.each i d (omega (arith, less, g.count, length-set q p k))) in
-      let same : (d : Known) → Hears z k (get_or t.senders.items p d) =
-      λ d. subst (λ (v : Known). Hears z v (get_or t.senders.items p d)) (get_or-set_same q p k d here)
-      (senders.each p d (omega (arith, lt, g.count, length-set q p k))) in
-      let others_same : (c : ℕ) → IsSeat g.wide c → (c == p) ≡ false → own c z ≡ own c h =
-      none_of_others layout g.wide (λ c. c == p) h z g.wider
-      (λ i less no. still_none g.queue g.wide i h z (get_or q i x) (get_or t.senders.items i x) begins (g.senders i x less) (other i x less (eqb-false i p no)))
-      (λ no. still_none g.queue g.wide layout.senders h z (sender_of s.worker) (sender_of t.worker) begins g.sender sender)
-      (λ no. still_none g.queue g.wide (layout.senders + 1) h z s.delay.sender t.delay.sender begins g.delay delay)
-      (λ no. still_none g.queue g.wide owner_seat h z (owner_of s.worker) (owner_of t.worker) begins g.owner owner) in
-      one_acts p x k xs n at sees others_same (λ legal. record {
-        queue = g.queue;
-        wide = g.wide;
-        wider = g.wider;
-        legal = legal;
-        count = senders.count ∙ (length-set q p k ∙ g.count);
-        senders = λ i d less. elim (cases_eq i p) [
-          | inl is ↦ subst (λ (m : ℕ). IsAt g.queue g.wide m z (get_or t.senders.items m d)) (sym is)
-              (acted_at g.queue g.wide p k (get_or t.senders.items p d) (sees.same.queue_is ∙ at.queue_is) (sees.same.layout_is ∙ at.layout_is)
-              (sees.same.number_is ∙ at.number_is) (same d))
-          | inr ne ↦ still_at g.queue g.wide i h z (get_or q i d) (get_or t.senders.items i d) begins (g.senders i d less) (other i d less ne)
-        ];
-        sender = still_at g.queue g.wide layout.senders h z (sender_of s.worker) (sender_of t.worker) begins g.sender sender;
-        owner = still_at g.queue g.wide owner_seat h z (owner_of s.worker) (owner_of t.worker) begins g.owner owner;
-        delay = still_at g.queue g.wide (layout.senders + 1) h z s.delay.sender t.delay.sender begins g.delay delay;
-        tries = tries ∙ g.tries;
-        seen = subst (λ (l : Layout). IsLegal l t.worker.seen) (sender.stays.layout_is ∙ g.sender.layout_is) whole;
-      })
+  -- those that f names have acted, and then all have heard z
+  module _ (f : ℕ → Bool) (v z new xs : List Event) (n : ℕ) (m : Seats) (stand : StandAll f z m) (all : Gathers z m t) (legal : IsLegal g.wide z)
+      (begins : IsPrefix h v) (ours_same : (c : ℕ) → IsSeat g.wide c → f c ≡ true → own c v ≡ own c h) (is : z ≡ v ++ new) where
+    further : IsPrefix h z
+    further = prefix_on h v z begins (new, sym is)
 
-  -- the delay table's sender acted
-  pub delay_acts : (k : Known) (xs : List Event) (n : ℕ) → 0 < layout.senders → Sees xs n s.delay.sender k
-      → Hears k.seen (sender_of s.worker) (sender_of t.worker)
-      → Hears k.seen (owner_of s.worker) (owner_of t.worker) → Hears k.seen k t.delay.sender → AllHear k.seen s.senders.items t.senders.items
-      → t.worker.tries ≡ s.worker.tries
-      → IsLegal t.worker.layout t.worker.seen → Acts layout t h s.delay.sender.seen k.seen xs n
-  delay_acts k xs n some_sender sees sender owner delay senders tries whole =
-      let q : List Known = s.senders.items in
-      let x : Known = s.delay.sender in
-      let p : ℕ = layout.senders + 1 in
-      let z : List Event = k.seen in
-      let at : IsAt g.queue g.wide p h x = g.delay in
-      let begins : IsPrefix h z = prefix_on h x.seen z at.begins (sees.grows.new, sym sees.grows.is) in
-      let others_same : (c : ℕ) → IsSeat g.wide c → (c == p) ≡ false → own c z ≡ own c h =
-      none_of_others layout g.wide (λ c. c == p) h z g.wider
-      (λ i less no. still_none g.queue g.wide i h z (get_or q i x) (get_or t.senders.items i x) begins (g.senders i x less)
-      (senders.each i x (omega (arith, less, g.count))))
-      (λ no. still_none g.queue g.wide layout.senders h z (sender_of s.worker) (sender_of t.worker) begins g.sender sender)
-      (λ no. absurd (false≢true (sym no ∙ eq-eqb p p refl)))
-      (λ no. still_none g.queue g.wide owner_seat h z (owner_of s.worker) (owner_of t.worker) begins g.owner owner) in
-      one_acts p x k xs n at sees others_same (λ legal. record {
-        queue = g.queue;
-        wide = g.wide;
-        wider = g.wider;
-        legal = legal;
-        count = senders.count ∙ g.count;
-        senders = λ i d less. still_at g.queue g.wide i h z (get_or q i d) (get_or t.senders.items i d) begins (g.senders i d less)
-            (senders.each i d (omega (arith, less, g.count)));
-        sender = still_at g.queue g.wide layout.senders h z (sender_of s.worker) (sender_of t.worker) begins g.sender sender;
-        owner = still_at g.queue g.wide owner_seat h z (owner_of s.worker) (owner_of t.worker) begins g.owner owner;
-        delay = acted_at g.queue g.wide p k t.delay.sender (sees.same.queue_is ∙ at.queue_is) (sees.same.layout_is ∙ at.layout_is)
-            (sees.same.number_is ∙ at.number_is) delay;
-        tries = tries ∙ g.tries;
-        seen = subst (λ (l : Layout). IsLegal l t.worker.seen) (sender.stays.layout_is ∙ g.sender.layout_is) whole;
-      })
+    heard_at : (c : ℕ) (k k' : Known) → Stands f z c k → Hears z k k' → IsAt g.queue g.wide c z k'
+    heard_at c k k' (inl at) heard = still_at g.queue g.wide c h z k k' further at heard
+    heard_at c k k' (inr at) heard = still_at g.queue g.wide c z z k k' (prefix_self z) at.1 heard
 
-  -- the worker acted
-  pub worker_acts : (w : WorkerState Lists) (xs : List Event) (n : ℕ) → (moves : Moves xs n s.worker w)
-      → Hears w.seen (sender_of w) (sender_of t.worker) → Hears w.seen (owner_of w) (owner_of t.worker)
-      → Hears w.seen s.delay.sender t.delay.sender → AllHear w.seen s.senders.items t.senders.items → t.worker.tries ≡ w.tries
-      → IsLegal t.worker.layout t.worker.seen
-      → Acts layout t h s.worker.seen w.seen xs n × (filter (λ e. not (is_ours layout.senders e)) moves.adds.new ≡ [])
-  worker_acts w xs n moves sender owner delay senders tries whole =
-      let q : List Known = s.senders.items in
-      let v : List Event = s.worker.seen in
-      let z : List Event = w.seen in
-      let p : ℕ = layout.senders in
-      let f : ℕ → Bool = λ c. (c == p) || (c == owner_seat) in
-      let begins : IsPrefix h z = prefix_on h v z g.sender.begins (moves.adds.new, sym moves.adds.is) in
-      let new : List Event = moves.adds.new in
-      let mine : filter (is_ours p) new ≡ xs = subst (λ (m : ℕ). filter (is_ours m) new ≡ xs) g.sender.number_is moves.adds.ours in
-      let some : n ≤ length (filter (λ e. not (is_ours p e)) new) =
-      subst (λ (m : ℕ). n ≤ length (filter (λ e. not (is_ours m e)) new)) g.sender.number_is moves.adds.theirs in
-      let legal : IsLegal g.wide z = subst (λ (l : Layout). IsLegal l z) (moves.layout ∙ g.sender.layout_is) moves.legal in
-      let others_same : (c : ℕ) → IsSeat g.wide c → f c ≡ false → own c z ≡ own c h = none_of_others layout g.wide f h z g.wider
-      (λ i less no. still_none g.queue g.wide i h z (get_or q i s.delay.sender) (get_or t.senders.items i s.delay.sender) begins
-      (g.senders i s.delay.sender less) (senders.each i s.delay.sender (omega (arith, less, g.count))))
-      (λ no. absurd (false≢true (sym ((or_parts (p == p) (p == owner_seat) no).0) ∙ eq-eqb p p refl)))
-      (λ no. still_none g.queue g.wide (p + 1) h z s.delay.sender t.delay.sender begins g.delay delay)
-      (λ no. absurd (false≢true (sym ((or_parts (owner_seat == p) (owner_seat == owner_seat) no).1) ∙ eq-eqb owner_seat owner_seat refl))) in
-      let done = settle g.wide f h v z new xs n g.sender.begins
-      (λ c seat on. elim (or_either (c == p) (c == owner_seat) on) [
-        | inl is ↦ subst (λ (m : ℕ). own m v ≡ own m h) (sym (eqb-true c p is)) g.sender.mine
-        | inr is ↦ subst (λ (m : ℕ). own m v ≡ own m h) (sym (eqb-true c owner_seat is)) g.owner.mine
-      ]) moves.adds.is mine some legal others_same in (
-        settled v z xs n done.0 done.1 done.2 record {
+    heard_none : (c : ℕ) (k k' : Known) → Stands f z c k → Hears z k k' → f c ≡ false → own c z ≡ own c h
+    heard_none c k k' (inl at) heard other = still_none g.queue g.wide c h z k k' further at heard
+    heard_none c k k' (inr at) heard other = absurd (false≢true (sym other ∙ at.0))
+
+    others_same : (c : ℕ) → IsSeat g.wide c → f c ≡ false → own c z ≡ own c h
+    others_same =
+        let d = m.delay.sender in
+        none_of_others layout g.wide f h z g.wider
+        (λ i lt. heard_none i (get_or m.senders.items i d) (get_or t.senders.items i d) (stand.senders i d lt)
+        (all.senders.each i d (omega (arith, lt, stand.count))))
+        (heard_none layout.senders (sender_of m.worker) (sender_of t.worker) stand.sender all.sender)
+        (heard_none (layout.senders + 1) m.delay.sender t.delay.sender stand.delay all.delay)
+        (heard_none owner_seat (owner_of m.worker) (owner_of t.worker) stand.owner all.owner)
+
+    all_seated : Seated layout t z
+    all_seated =
+        let sender = heard_at layout.senders (sender_of m.worker) (sender_of t.worker) stand.sender all.sender in
+        record {
           queue = g.queue;
           wide = g.wide;
           wider = g.wider;
           legal = legal;
-          count = senders.count ∙ g.count;
-          senders = λ i d less. still_at g.queue g.wide i h z (get_or q i d) (get_or t.senders.items i d) begins (g.senders i d less)
-              (senders.each i d (omega (arith, less, g.count)));
-          sender = acted_at g.queue g.wide p (sender_of w) (sender_of t.worker) (moves.queue ∙ g.sender.queue_is)
-              (moves.layout ∙ g.sender.layout_is) (moves.number ∙ g.sender.number_is) sender;
-          owner = acted_at g.queue g.wide owner_seat (owner_of w) (owner_of t.worker) (moves.queue ∙ g.sender.queue_is)
-              (moves.layout ∙ g.sender.layout_is) refl owner;
-          delay = still_at g.queue g.wide (p + 1) h z s.delay.sender t.delay.sender begins g.delay delay;
-          tries = tries ∙ (moves.tries ∙ g.tries);
-          seen = subst (λ (l : Layout). IsLegal l t.worker.seen) (sender.stays.layout_is ∙ (moves.layout ∙ g.sender.layout_is)) whole;
-        },
-        done.3,
-      )
+          count = all.senders.count ∙ stand.count;
+          senders = λ i d lt. heard_at i (get_or m.senders.items i d) (get_or t.senders.items i d) (stand.senders i d lt)
+              (all.senders.each i d (omega (arith, lt, stand.count)));
+          sender = sender;
+          owner = heard_at owner_seat (owner_of m.worker) (owner_of t.worker) stand.owner all.owner;
+          delay = heard_at (layout.senders + 1) m.delay.sender t.delay.sender stand.delay all.delay;
+          tries = all.work.tries_is ∙ stand.tries;
+          seen = subst (λ (l : Layout). IsLegal l t.worker.seen) sender.layout_is all.legal;
+        }
+
+    acts_so : filter (λ e. f (seat_of e)) new ≡ xs → n ≤ length (filter (λ e. not (f (seat_of e))) new)
+        → Acts layout t h v z xs n × (filter (λ e. not (f (seat_of e))) new ≡ [])
+    acts_so mine some =
+        let done = settle g.wide f h v z new xs n begins ours_same is mine some legal others_same in
+        (record { alone = done.0; is = done.1; none = done.2; seated = subst (λ (w : List Event). Seated layout t w) done.1 all_seated }, done.3)
+
+  -- the seat of the number p, which acted
+  acted : (p : ℕ) (x k : Known) (xs : List Event) (n : ℕ) → IsAt g.queue g.wide p h x → Sees xs n x k → IsAt g.queue g.wide p k.seen k
+  acted p x k xs n at sees = record {
+    queue_is = sees.same.queue_is ∙ at.queue_is;
+    layout_is = sees.same.layout_is ∙ at.layout_is;
+    number_is = sees.same.number_is ∙ at.number_is;
+    begins = prefix_self k.seen;
+    mine = refl;
+  }
+
+  -- one seat acted, and no other made any event
+  one_acts : (p : ℕ) (x k : Known) (xs : List Event) (n : ℕ) (m : Seats) → IsAt g.queue g.wide p h x → Sees xs n x k
+      → StandAll (λ c. c == p) k.seen m → Gathers k.seen m t → Acts layout t h x.seen k.seen xs n
+  one_acts p x k xs n m at sees stand all =
+      let new : List Event = sees.grows.new in
+      let legal : IsLegal g.wide k.seen = subst (λ (l : Layout). IsLegal l k.seen) (sees.same.layout_is ∙ at.layout_is) sees.legal in
+      (acts_so (λ c. c == p) x.seen k.seen new xs n m stand all legal at.begins
+      (λ c seat on. subst (λ (q : ℕ). own q x.seen ≡ own q h) (sym (eqb-true c p on)) at.mine) sees.grows.is
+      (subst (λ (q : ℕ). own q new ≡ xs) at.number_is sees.grows.mine)
+      (subst (λ (q : ℕ). n ≤ length (others q new)) at.number_is sees.grows.theirs)).0
+
+  -- a sender acted, and then all heard what it had seen
+  pub sender_acts : (p : ℕ) (x k : Known) (xs : List Event) (n : ℕ) → p < layout.senders → x ≡ get_or s.senders.items p x → Sees xs n x k
+      → Gathers k.seen (with_sender s p k) t → Acts layout t h x.seen k.seen xs n
+  sender_acts p x k xs n lt is sees all =
+      let q : List Known = s.senders.items in
+      let at : IsAt g.queue g.wide p h x = subst (λ (v : Known). IsAt g.queue g.wide p h v) (sym is) (g.senders p x lt) in
+      let put : (i : ℕ) (d : Known) → i ≡ p → get_or (set q p k) i d ≡ k =
+      λ i d is. ap (λ (j : ℕ). get_or (set q p k) j d) is ∙ get_or-set_same q p k d (omega (arith, lt, g.count)) in
+      one_acts p x k xs n (with_sender s p k) at sees record {
+        count = length-set q p k ∙ g.count;
+        senders = λ i d less. elim (cases_eq i p) [
+          | inl is ↦ inr (eq-eqb i p is, subst (λ (v : Known). IsAt g.queue g.wide i k.seen v) (sym (put i d is))
+              (subst (λ (c : ℕ). IsAt g.queue g.wide c k.seen k) (sym is) (acted p x k xs n at sees)))
+          | inr ne ↦ inl (subst (λ (v : Known). IsAt g.queue g.wide i h v) (sym (get_or-set_other q p i k d ne)) (g.senders i d less))
+        ];
+        sender = inl g.sender;
+        owner = inl g.owner;
+        delay = inl g.delay;
+        tries = g.tries;
+      } all
+
+  -- the delay table's sender acted
+  pub delay_acts : (d : DelayState) (xs : List Event) (n : ℕ) → Sees xs n s.delay.sender d.sender
+      → Gathers d.sender.seen (record { worker = s.worker; delay = d; senders = s.senders }) t → Acts layout t h s.delay.sender.seen d.sender.seen xs n
+  delay_acts d xs n sees all =
+      let p : ℕ = layout.senders + 1 in
+      one_acts p s.delay.sender d.sender xs n (record { worker = s.worker; delay = d; senders = s.senders }) g.delay sees record {
+        count = g.count;
+        senders = λ i e lt. inl (g.senders i e lt);
+        sender = inl g.sender;
+        owner = inl g.owner;
+        delay = inr (eq-eqb p p refl, acted p s.delay.sender d.sender xs n g.delay sees);
+        tries = g.tries;
+      } all
+
+  -- the worker acted
+  pub worker_acts : (w : WorkerState Lists) (xs : List Event) (n : ℕ) (moves : Moves xs n s.worker w)
+      → Gathers w.seen (record { worker = w; delay = s.delay; senders = s.senders }) t
+      → Acts layout t h s.worker.seen w.seen xs n × (filter (λ e. not (is_ours layout.senders e)) moves.adds.new ≡ [])
+  worker_acts w xs n moves all =
+      let v : List Event = s.worker.seen in let p : ℕ = layout.senders in let new : List Event = moves.adds.new in
+      let f : ℕ → Bool = λ c. (c == p) || (c == owner_seat) in
+      let stand : StandAll f w.seen (record { worker = w; delay = s.delay; senders = s.senders }) = record {
+        count = g.count;
+        senders = λ i d lt. inl (g.senders i d lt);
+        sender = inr (ap (λ (b : Bool). b || (p == owner_seat)) (eq-eqb p p refl), record {
+          queue_is = moves.queue ∙ g.sender.queue_is;
+          layout_is = moves.layout ∙ g.sender.layout_is;
+          number_is = moves.number ∙ g.sender.number_is;
+          begins = prefix_self w.seen;
+          mine = refl;
+        });
+        owner = inr (or_right (owner_seat == p), record {
+          queue_is = moves.queue ∙ g.sender.queue_is;
+          layout_is = moves.layout ∙ g.sender.layout_is;
+          number_is = refl;
+          begins = prefix_self w.seen;
+          mine = refl;
+        });
+        delay = inl g.delay;
+        tries = moves.tries ∙ g.tries;
+      } in
+      acts_so f v w.seen new xs n (record { worker = w; delay = s.delay; senders = s.senders }) stand all
+      (subst (λ (l : Layout). IsLegal l w.seen) (moves.layout ∙ g.sender.layout_is) moves.legal) g.sender.begins
+      (λ c seat on. elim (or_either (c == p) (c == owner_seat) on) [
+        | inl is ↦ subst (λ (m : ℕ). own m v ≡ own m h) (sym (eqb-true c p is)) g.sender.mine
+        | inr is ↦ subst (λ (m : ℕ). own m v ≡ own m h) (sym (eqb-true c owner_seat is)) g.owner.mine
+      ]) moves.adds.is
+      (subst (λ (m : ℕ). filter (is_ours m) new ≡ xs) g.sender.number_is moves.adds.ours)
+      (subst (λ (m : ℕ). n ≤ length (filter (λ e. not (is_ours m e)) new)) g.sender.number_is moves.adds.theirs)

@@ -1,18 +1,8 @@
 -- An engine whose delay table was called meets the state that a script goes on to.
-use Rattle.std.proofs.Common.{◌≡◌, ℕ, ◌+◌, ◌≤◌, Bool, List, [], ◌++◌, length, sym, ap, ◌∙◌, subst}
-use Rattle.wq_words.specs.declared.layout.Layout.{Layout}
-use Rattle.wq_words.specs.declared.event.Event.{Event}
-use Rattle.wq_words.specs.History.{closed}
-use Rattle.wq_words.specs.declared.answer.Armed.{Armed}
-use Rattle.wq_words.specs.declared.answer.Modified.{Modified}
-use Rattle.wq_words.specs.DelayTable.{DelayTable, on_table, table_without, table_at}
-use Rattle.wq_meaning.specs.Arming.{arm_events, arm_table, arm_answer, cancel_events, modify_events, modify_table, modify_answer, due_items, advance_events}
-use Rattle.wq_meaning.specs.Commands.{ScriptState}
-use Rattle.wq_script.specs.declared.seats.Seats.{Seats}
-use Rattle.wq_script.specs.declared.tally.Tally.{Tally}
-use Rattle.wq_script.specs.Arming.{GoesWithTable, ArmsAs, CancelsAs, ModifiesAs, IsPosted}
-use Rattle.wq_script.specs.Counting.{Tallied, counted_armed, counted_modified, counted_posts}
-use Rattle.wq_script.specs.Engine.{Meets}
+use Rattle.wq_script.proofs.Common.{◌≡◌, ℕ, ◌+◌, ◌≤◌, Bool, List, [], ◌++◌, length, sym, ap, ◌∙◌, subst, Layout, Event, closed, Armed, Modified, DelayTable}
+use Rattle.wq_script.proofs.Common.{on_table, table_without, table_at, arm_events, arm_table, arm_answer, cancel_events, modify_events, modify_table}
+use Rattle.wq_script.proofs.Common.{modify_answer, due_items, advance_events, ScriptState, Seats, Tally, GoesWithTable, ArmsAs, CancelsAs, ModifiesAs, IsPosted}
+use Rattle.wq_script.proofs.Common.{Tallied, counted_armed, counted_modified, counted_posts, Meets}
 use Rattle.wq_script.proofs.Answered.{other_seat, no_owner_seat, arm_counts, cancel_counts, modify_counts, advance_counts}
 use Rattle.wq_script.proofs.Tallies.{Foreign}
 use Rattle.wq_script.proofs.Meetings.{engine, table_meets}

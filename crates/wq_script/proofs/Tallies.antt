@@ -1,23 +1,10 @@
 -- Counts of a history that goes on.
-use Rattle.std.proofs.Common.{◌≡◌, ◌≢◌, ℕ, ◌+◌, ◌<◌, ◌≤◌, Bool, true, false, cond, not, ◌||◌, ◌==◌, List, [], ◌∷◌, ◌++◌, length, refl, sym, ap, ◌∙◌, subst, arith, append_assoc, count_by, ne_eqb}
-use Rattle.std.specs.Prelude.{filter}
-use Rattle.std.specs.List.{AllByRecursion}
-use Rattle.std.proofs.lemmas.List.{append-nil}
-use Rattle.std.proofs.lemmas.Bool.{false≢true}
-use Rattle.wq_words.specs.declared.layout.Layout.{Layout}
-use Rattle.wq_words.specs.declared.event.Event.{Event}
-use Rattle.wq_words.specs.declared.event.Event.TheVariants.{Hold, Busy, Push, Back, Take, Close, Begin, End, Chain, ChainBusy, Rest}
+use Rattle.wq_script.proofs.Common.{◌≡◌, ◌≢◌, ℕ, ◌+◌, ◌<◌, ◌≤◌, Bool, true, false, cond, not, ◌||◌, ◌==◌, List, [], ◌∷◌, ◌++◌, length, refl, sym, ap, ◌∙◌}
+use Rattle.wq_script.proofs.Common.{subst, arith, append_assoc, count_by, ne_eqb, filter, AllByRecursion, append-nil, false≢true, Layout, Event, Hold, Busy}
+use Rattle.wq_script.proofs.Common.{Push, Back, Take, Close, Begin, End, Chain, ChainBusy, Rest, begun, ended, is_push, IsRunning, IsLegal, HasSeat, legal_next}
+use Rattle.wq_script.proofs.Common.{owner_seat, seat_of, is_queued_by, is_pending_by, is_closed_by, is_chain_busy, is_ours, is_busy, is_refusal}
+use Rattle.wq_script.proofs.Common.{count_by-append, begun-append, ended-append, Tally, Tallied}
 use Rattle.wq_words.specs.declared.event.Why.TheVariants as why
-use Rattle.wq_words.specs.History.{begun, ended, is_push, IsRunning}
-use Rattle.wq_words.specs.Legal.{IsLegal, HasSeat}
-use Rattle.wq_words.proofs.Legal.{legal_next}
-use Rattle.wq_words.specs.Seen.{owner_seat, seat_of}
-use Rattle.wq_words.specs.Counting.{is_queued_by, is_pending_by, is_closed_by, is_chain_busy}
-use Rattle.wq_words.specs.Seen.{is_ours}
-use Rattle.wq_words.specs.Counting.{is_busy, is_refusal}
-use Rattle.wq_words.proofs.Appended.{count_by-append, begun-append, ended-append}
-use Rattle.wq_script.specs.declared.tally.Tally.{Tally}
-use Rattle.wq_script.specs.Counting.{Tallied}
 
 -- events of a seat that is neither the worker's sender nor the owner
 pub record Foreign (w : ℕ) (es : List Event) : Type 0 where

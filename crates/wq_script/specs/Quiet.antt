@@ -36,19 +36,20 @@ pub record Executed (a b : WorkerState Lists) (r : Option ℕ) : Type 0 where
   pub seen_is : b.seen ≡ after_execution a.number a.work.follows.items a.seen
   pub idle : ¬ IsRunning b.seen
 
--- a step of the worker, which was an execution if it was quiet
-pub record ExecutesOne (a b : WorkerState Lists) (r : Option ℕ) : Type 0 where
+-- the worker made some events, while others may have come, and its lists are as they were
+pub record HasStepped (a b : WorkerState Lists) : Type 0 where
   pub events : List Event
   pub others : ℕ
   pub moves : Moves events others a b
   pub lists : b.work.follows ≡ a.work.follows
+
+-- a step of the worker, which was an execution if it was quiet
+pub record ExecutesOne (a b : WorkerState Lists) (r : Option ℕ) : Type 0 where
+  pub stepped : HasStepped a b
   pub quiet : (wide : Layout) (z : List Event) → IsWorkerIdle wide a → Quiet wide a.number a.seen z → IsPrefix b.seen z → Executed a b r
 
 -- executions one after another, which were those of a script if they were quiet
 pub record ExecutesRow (limit : ℕ) (ends : ℕ → Bool) (a b : WorkerState Lists) (ran : List ℕ) : Type 0 where
-  pub events : List Event
-  pub others : ℕ
-  pub moves : Moves events others a b
-  pub lists : b.work.follows ≡ a.work.follows
+  pub stepped : HasStepped a b
   pub quiet : (wide : Layout) (z : List Event) → IsWorkerIdle wide a → Quiet wide a.number a.seen z → IsPrefix b.seen z
       → (b.seen ≡ after_executions a.number a.work.follows.items ends limit a.seen) × (ran ≡ ended_since a.seen b.seen) × (¬ IsRunning b.seen)

@@ -10,12 +10,11 @@ use Rattle.wq_live.specs.Known.{Known}
 use Rattle.wq_worker.specs.State.{WorkerState}
 use Rattle.wq_delay.specs.Delay.{DelayState}
 use Rattle.wq_script.specs.declared.seats.Seats.{Seats}
+use Rattle.wq_live.specs.Known.{IsSame}
 
 -- the same seat, which may have seen more, and has made no event
 pub record StaysSilent (old new : Known) : Type 0 where
-  pub queue_is : new.queue ≡ old.queue
-  pub layout_is : new.layout ≡ old.layout
-  pub number_is : new.number ≡ old.number
+  pub same : IsSame old new
   pub begins : IsPrefix old.seen new.seen
   pub mine : own old.number new.seen ≡ own old.number old.seen
 

@@ -1,5 +1,4 @@
-use Rattle.std.proofs.Common.{ℕ, ◌+◌, Some, sym, ap, ◌∙◌, subst}
-use Rattle.wq_script.specs.Quiet.{ExecutesOne}
+use Rattle.wq_script.proofs.Common.{ℕ, ◌+◌, Some, sym, ap, ◌∙◌, subst, ExecutesOne}
 use Rattle.wq_script.proofs.Running.{ends_executes, nothing_executes, owes_executes}
 use Rattle.wq_script.proofs.executing.execute.Goals as goal
 

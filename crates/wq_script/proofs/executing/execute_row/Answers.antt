@@ -1,6 +1,4 @@
-use Rattle.std.proofs.Common.{◌≡◌, ℕ, ◌+◌, ◌-◌, List, Option, Some, None, arith, sym, ◌∙◌, subst}
-use Rattle.wq_meaning.specs.Execution.{ends_at}
-use Rattle.wq_script.specs.Quiet.{ExecutesOne, ExecutesRow}
+use Rattle.wq_script.proofs.Common.{◌≡◌, ℕ, ◌+◌, ◌-◌, List, Option, Some, None, arith, sym, ◌∙◌, subst, ends_at, ExecutesOne, ExecutesRow}
 use Rattle.wq_script.proofs.Running.{RowSoFar, row_none, row_more, row_done, row_last, row_idle}
 use Rattle.wq_script.proofs.executing.execute_row.Goals as goal
 

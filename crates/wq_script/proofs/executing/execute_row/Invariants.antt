@@ -1,5 +1,4 @@
-use Rattle.std.proofs.Common.{◌-◌}
-use Rattle.wq_meaning.specs.Execution.{ends_at}
+use Rattle.wq_script.proofs.Common.{◌-◌, ends_at}
 use Rattle.wq_script.proofs.Running.{RowSoFar}
 use Rattle.wq_script.proofs.executing.execute_row.Given as goal
 

@@ -1,4 +1,4 @@
-use Rattle.std.proofs.Common.{◌≡◌, take}
+use Rattle.wq_script.proofs.Common.{◌≡◌, take}
 use Rattle.wq_script.proofs.lists.copy_of.Given as goal
 
 abbrev pub invariant-loop-item : goal.invariant-loop-item

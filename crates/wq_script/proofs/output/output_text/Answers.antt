@@ -1,11 +1,7 @@
-use Rattle.std.proofs.Common.{◌≡◌, arith, ◌∙◌, ap, sym, ◌++◌, ◌∷◌, ◌+◌, ◌^◌, ◌<◌, ◌≤◌, drop, fold, List, length, get_or, string_bytes, subst, refl}
-use Rattle.std.proofs.Math.ListN.{drop_of_length-le}
-use Rattle.wq_words.specs.declared.layout.Layout.{Layout}
-use Rattle.wq_text.specs.declared.command.Command.{Command}
+use Rattle.wq_script.proofs.Common.{◌≡◌, arith, ◌∙◌, ap, sym, ◌++◌, ◌∷◌, ◌+◌, ◌^◌, ◌<◌, ◌≤◌, drop, fold, List, length, get_or, string_bytes, subst, refl}
+use Rattle.wq_script.proofs.Common.{drop_of_length-le, Layout, Command, opening_state, state_after, lines, output_from, Meets, size}
 use Rattle.wq_text.specs.Fits.{Fits}
-use Rattle.wq_meaning.specs.Commands.{opening_state, state_after, lines, output_from}
 use Rattle.wq_meaning.proofs.Outputs.{left_at, output_more, output_done}
-use Rattle.wq_script.specs.Engine.{Meets, size}
 use Rattle.wq_script.proofs.Histories.{final_legal}
 use Rattle.wq_script.proofs.output.output_text.Goals as goal
 

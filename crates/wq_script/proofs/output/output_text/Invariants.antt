@@ -1,7 +1,5 @@
-use Rattle.std.proofs.Common.{◌≡◌, ◌++◌, ◌*◌, ◌^◌, ◌≤◌, drop, fold, string_bytes}
-use Rattle.wq_meaning.specs.Commands.{ScriptState, state_after, output_from, output_of}
+use Rattle.wq_script.proofs.Common.{◌≡◌, ◌++◌, ◌*◌, ◌^◌, ◌≤◌, drop, fold, string_bytes, ScriptState, state_after, output_from, output_of, Meets, size}
 use Rattle.wq_meaning.specs.Order.{final_state}
-use Rattle.wq_script.specs.Engine.{Meets, size}
 use Rattle.wq_script.proofs.output.output_text.Given as goal
 
 -- the output so far and that of the commands that are left are all, for some state that the engine is in, and these commands

@@ -1,15 +1,12 @@
-use Rattle.std.proofs.Common.{◌≡◌, ℕ, ◌<◌, List, [], length, get_or, arith, sym, ap, ◌∙◌, subst}
-use Rattle.wq_words.specs.declared.event.Event.{Event}
-use Rattle.wq_live.specs.Known.{Known}
+use Rattle.wq_script.proofs.Common.{◌≡◌, ℕ, ◌<◌, List, [], length, get_or, arith, sym, ap, ◌∙◌, subst, Event, Known, Hears, AllHear}
 use Rattle.wq_words.proofs.Written.{each_written, rest_written, whole_items}
-use Rattle.wq_script.specs.Seats.{Hears, AllHear}
 use Rattle.wq_script.proofs.Hearing.{stays_on, sees_stays, hears_hub, same_table_on, keeps_same}
 use Rattle.wq_script.proofs.seats.meet_each.Goals as goal
 
 pub meet-requires : goal.meet-requires
 meet-requires c =
     let i : ℕ = c.loop-sender.sender-index in
-    c.loop-sender.invariant.delay.queue_is
+    c.loop-sender.invariant.delay.same.queue_is
     ∙ sym (ap (λ (k : Known). k.queue) (c.loop-sender.invariant.rest i c.sender-item.result (omega arith))
     ∙ c.requires.one i c.sender-item.result (omega (arith, c.loop-sender-test.true, ap length c.deref_mut-sender-items.ensures.value)))
 

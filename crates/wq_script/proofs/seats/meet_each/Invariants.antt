@@ -1,6 +1,4 @@
-use Rattle.std.proofs.Common.{◌≡◌, ℕ, ◌<◌, ◌≤◌, get_or}
-use Rattle.wq_live.specs.Known.{Known}
-use Rattle.wq_script.specs.Seats.{StaysSilent, Hears, IsSameTable}
+use Rattle.wq_script.proofs.Common.{◌≡◌, ℕ, ◌<◌, ◌≤◌, get_or, Known, StaysSilent, Hears, IsSameTable}
 use Rattle.wq_script.proofs.seats.meet_each.Given as goal
 
 -- those before the index have heard all that the table's sender had seen at first, and the others are as they were

@@ -1,18 +1,7 @@
-use Rattle.std.proofs.Common.{◌≡◌, ◌∙◌, ℕ, ◌+◌, ◌++◌, sym, ap, refl, arith, string_bytes, subst, length-append, codes, length}
-use Rattle.std.specs.Prelude.{MatchOption}
-use Rattle.std.proofs.lemmas.Bool.{lt-ltb, le-ltb}
-use Rattle.wq_words.specs.History.{closed}
-use Rattle.wq_words.specs.DelayTable.{DelayTable}
+use Rattle.wq_script.proofs.Common.{◌≡◌, ◌∙◌, ℕ, ◌+◌, ◌++◌, sym, ap, refl, arith, string_bytes, subst, length-append, codes, length, MatchOption, lt-ltb}
+use Rattle.wq_script.proofs.Common.{le-ltb, closed, DelayTable, line, row_text, advance_word, due_items, advance_events, ScriptState, wrote, advanced}
+use Rattle.wq_script.proofs.Common.{advance_back, advance_on, advance_few, IsBack, IsPosted, counted_posts, Meets, size}
 use Rattle.wq_text.specs.declared.command.Command.TheVariants as command
-use Rattle.wq_meaning.specs.Report.{line}
-use Rattle.wq_meaning.specs.Names.{row_text, advance_word}
-use Rattle.wq_meaning.specs.Arming.{due_items, advance_events}
-use Rattle.wq_meaning.specs.Commands.{ScriptState}
-use Rattle.wq_meaning.proofs.Meanings.{wrote, advanced, advance_back, advance_on}
-use Rattle.wq_meaning.proofs.Sizes.{advance_few}
-use Rattle.wq_script.specs.Arming.{IsBack, IsPosted}
-use Rattle.wq_script.specs.Counting.{counted_posts}
-use Rattle.wq_script.specs.Engine.{Meets, size}
 use Rattle.wq_script.proofs.Meetings.{engine, back_meets}
 use Rattle.wq_script.proofs.TableMeetings.{posted_meets}
 use Rattle.wq_script.proofs.engine.Engine.advance.Goals as goal

@@ -1,6 +1,4 @@
-use Rattle.std.proofs.Common.{◌∙◌, ℕ, ◌+◌, ◌++◌, ap, refl, arith, string_bytes, length-append, if◌then◌else◌, codes}
-use Rattle.wq_meaning.specs.Report.{line}
-use Rattle.wq_meaning.specs.Arming.{cancel_events}
+use Rattle.wq_script.proofs.Common.{◌∙◌, ℕ, ◌+◌, ◌++◌, ap, refl, arith, string_bytes, length-append, if◌then◌else◌, codes, line, cancel_events}
 use Rattle.wq_meaning.proofs.Sizes.{cancel_few, without_few}
 use Rattle.wq_script.proofs.TableMeetings.{cancelled_meets}
 use Rattle.wq_script.proofs.engine.Engine.cancel.Goals as goal

@@ -1,8 +1,4 @@
-use Rattle.std.proofs.Common.{◌∙◌, ◌++◌, ap, refl, arith, string_bytes, length-append}
-use Rattle.wq_meaning.specs.Answer.{close_text}
-use Rattle.wq_meaning.specs.Report.{line}
-use Rattle.wq_meaning.specs.Queueing.{close_events}
-use Rattle.wq_meaning.proofs.Sizes.{close_few}
+use Rattle.wq_script.proofs.Common.{◌∙◌, ◌++◌, ap, refl, arith, string_bytes, length-append, close_text, line, close_events, close_few}
 use Rattle.wq_script.proofs.Meetings.{close_meets}
 use Rattle.wq_script.proofs.engine.Engine.close.Goals as goal
 

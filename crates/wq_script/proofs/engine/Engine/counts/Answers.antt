@@ -1,5 +1,4 @@
-use Rattle.std.proofs.Common.{◌≡◌, ◌∙◌, ◌-◌, ap, arith, length}
-use Rattle.wq_words.specs.DelayTable.{DelayTable}
+use Rattle.wq_script.proofs.Common.{◌≡◌, ◌∙◌, ◌-◌, ap, arith, length, DelayTable}
 use Rattle.wq_script.proofs.Reports.{sums}
 use Rattle.wq_script.proofs.engine.Engine.counts.Goals as goal
 

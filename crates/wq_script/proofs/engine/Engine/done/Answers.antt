@@ -1,6 +1,4 @@
-use Rattle.std.proofs.Common.{◌≡◌, ◌∙◌, ℕ, ◌++◌, Bool, List, ap, refl, arith, string_bytes, if◌then◌else◌, codes, not}
-use Rattle.std.proofs.Common.{true, false}
-use Rattle.wq_meaning.specs.Report.{line}
+use Rattle.wq_script.proofs.Common.{◌≡◌, ◌∙◌, ℕ, ◌++◌, Bool, List, ap, refl, arith, string_bytes, if◌then◌else◌, codes, not, true, false, line}
 use Rattle.wq_script.proofs.Meetings.{looked_meets}
 use Rattle.wq_script.proofs.engine.Engine.done.Goals as goal
 

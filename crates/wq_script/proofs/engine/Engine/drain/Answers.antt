@@ -1,14 +1,7 @@
-use Rattle.std.proofs.Common.{◌∙◌, ◌++◌, ◌≤◌, sym, ap, refl, arith, string_bytes, subst, codes}
-use Rattle.std.proofs.Common.{None, append_assoc}
+use Rattle.wq_script.proofs.Common.{◌∙◌, ◌++◌, ◌≤◌, sym, ap, refl, arith, string_bytes, subst, codes, None, append_assoc, line, row_text, left_text, ends_at}
+use Rattle.wq_script.proofs.Common.{ended_since, ScriptState, after_row, wrote, drained, drain_open, drain_closed, Meets, size, executions_few}
 use Rattle.wq_text.specs.declared.command.Command.TheVariants as command
 use Rattle.wq_meaning.specs.declared.report.Counts.{Counts}
-use Rattle.wq_meaning.specs.Report.{line}
-use Rattle.wq_meaning.specs.Names.{row_text, left_text}
-use Rattle.wq_meaning.specs.Execution.{ends_at, ended_since}
-use Rattle.wq_meaning.specs.Commands.{ScriptState, after_row}
-use Rattle.wq_meaning.proofs.Meanings.{wrote, drained, drain_open, drain_closed}
-use Rattle.wq_script.specs.Engine.{Meets, size}
-use Rattle.wq_meaning.proofs.Sizes.{executions_few}
 use Rattle.wq_script.proofs.Meetings.{engine, ran_meets}
 use Rattle.wq_script.proofs.engine.Engine.drain.Goals as goal
 

@@ -1,6 +1,4 @@
-use Rattle.std.proofs.Common.{ℕ, List, sym, subst, string_bytes}
-use Rattle.wq_text.specs.declared.command.Command.{Command}
-use Rattle.wq_script.specs.Engine.{Does}
+use Rattle.wq_script.proofs.Common.{ℕ, List, sym, subst, string_bytes, Command, Does}
 use Rattle.wq_script.proofs.engine.Engine.execute.Goals as goal
 
 pub returns-in-Follow : goal.returns-in-Follow

@@ -1,32 +1,15 @@
-use Rattle.std.proofs.Common.{◌∙◌, ℕ, ◌++◌, sym, ap, refl, arith, string_bytes, length-append}
-use Rattle.wq_words.specs.Numbers.{barrier_number}
-use Rattle.wq_meaning.specs.Answer.{answer_text}
-use Rattle.wq_meaning.specs.Report.{line}
-use Rattle.wq_meaning.specs.Queueing.{queue_events}
-use Rattle.wq_meaning.proofs.Answers.{queue_uncontended}
-use Rattle.wq_meaning.proofs.Sizes.{queue_few}
-use Rattle.wq_script.proofs.Meetings.{asked_meets}
+use Rattle.wq_script.proofs.Common.{◌∙◌, ◌++◌, sym, refl, barrier_number, answer_text, queue_uncontended, Layout, ℕ}
+use Rattle.wq_script.proofs.Meetings.{asked_does}
 use Rattle.wq_script.proofs.engine.Engine.flush.Goals as goal
 
 pub answer_text-requires : goal.answer_text-requires
 answer_text-requires c =
     let e = c.args.self.now in let s = c.requires.ready.0 in let m = c.requires.ready.1 in
-    record {
-      alone = λ is. queue_uncontended (barrier_number e.layout c.args.barrier) s.history
-          (sym (c.flush-answer.ensures e.layout s.history m.seated).answer ∙ is);
-    }
+    record { alone = λ is. queue_uncontended (barrier_number e.layout c.args.barrier) s.history
+        (sym (c.flush-answer.ensures e.layout s.history m.seated).answer ∙ is) }
 
 pub returns : goal.returns
 returns c =
-    let e = c.args.self.now in
-    let k : ℕ = barrier_number e.layout c.args.barrier in
-    record {
-      layout = refl;
-      meets = λ s m.
-          asked_meets e.layout e.seats c.flush-answer.new.self e.tally c.queueing.new.self s c.args.sender k c.flush-answer.result c.requires.fits.0 m
-          (c.flush-answer.ensures e.layout s.history m.seated) c.queueing.ensures;
-      lines = λ s m few.
-          c.in_ok-write_line.ensures.written ∙ ap (λ x. string_bytes c.args.out.now ++ line x)
-          (c.answer_text.ensures.text ∙ ap answer_text (c.flush-answer.ensures e.layout s.history m.seated).answer);
-      room = λ s m. omega (arith, length-append s.history (queue_events c.args.sender k s.history), queue_few c.args.sender k s.history);
-    }
+    let k : Layout → ℕ = λ l. barrier_number l c.args.barrier in
+    asked_does c.args.self.now c.flush-answer.new.self c.queueing.new.self _ _ _ c.args.sender k c.flush-answer.result _ c.requires.fits.0
+    c.flush-answer.ensures c.queueing.ensures c.in_ok-write_line.ensures.written c.answer_text.ensures.text (λ s. refl) (λ s t. refl)

@@ -1,5 +1,4 @@
-use Rattle.std.proofs.Common.{sym, ap, refl, arith, length}
-use Rattle.std.proofs.lemmas.List.{append-nil}
+use Rattle.wq_script.proofs.Common.{sym, ap, refl, arith, length, append-nil}
 use Rattle.wq_script.proofs.FollowLists.{follow_meets}
 use Rattle.wq_script.proofs.engine.Engine.follow.Goals as goal
 

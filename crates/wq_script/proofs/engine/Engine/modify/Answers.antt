@@ -1,9 +1,5 @@
-use Rattle.std.proofs.Common.{◌∙◌, ℕ, ◌+◌, ◌++◌, sym, ap, refl, arith, string_bytes, length-append}
-use Rattle.wq_meaning.specs.Answer.{modified_text}
-use Rattle.wq_meaning.specs.Report.{line}
-use Rattle.wq_meaning.specs.Arming.{modify_events}
-use Rattle.wq_meaning.proofs.Answers.{modify_given}
-use Rattle.wq_meaning.proofs.Sizes.{modify_few, modify_table_few}
+use Rattle.wq_script.proofs.Common.{◌∙◌, ℕ, ◌+◌, ◌++◌, sym, ap, refl, arith, string_bytes, length-append, line, modify_events, modify_given, modified_text}
+use Rattle.wq_script.proofs.Common.{modify_few, modify_table_few}
 use Rattle.wq_script.proofs.TableMeetings.{modified_meets}
 use Rattle.wq_script.proofs.engine.Engine.modify.Goals as goal
 

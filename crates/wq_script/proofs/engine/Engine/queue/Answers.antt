@@ -1,10 +1,5 @@
-use Rattle.std.proofs.Common.{◌∙◌, ℕ, ◌++◌, sym, ap, refl, arith, string_bytes, length-append}
-use Rattle.wq_meaning.specs.Answer.{answer_text}
-use Rattle.wq_meaning.specs.Report.{line}
-use Rattle.wq_meaning.specs.Queueing.{queue_events}
-use Rattle.wq_meaning.proofs.Answers.{queue_uncontended}
-use Rattle.wq_meaning.proofs.Sizes.{queue_few}
-use Rattle.wq_script.proofs.Meetings.{asked_meets}
+use Rattle.wq_script.proofs.Common.{◌∙◌, ◌++◌, sym, refl, answer_text, queue_uncontended}
+use Rattle.wq_script.proofs.Meetings.{asked_does}
 use Rattle.wq_script.proofs.engine.Engine.queue.Goals as goal
 
 pub answer_text-requires : goal.answer_text-requires
@@ -13,16 +8,5 @@ answer_text-requires c =
     record { alone = λ is. queue_uncontended (c.args.item) s.history (sym (c.queue-answer.ensures e.layout s.history m.seated).answer ∙ is) }
 
 pub returns : goal.returns
-returns c =
-    let e = c.args.self.now in
-    let k : ℕ = c.args.item in
-    record {
-      layout = refl;
-      meets = λ s m.
-          asked_meets e.layout e.seats c.queue-answer.new.self e.tally c.queueing.new.self s c.args.sender k c.queue-answer.result c.requires.fits.0 m
-          (c.queue-answer.ensures e.layout s.history m.seated) c.queueing.ensures;
-      lines = λ s m few.
-          c.in_ok-write_line.ensures.written ∙ ap (λ x. string_bytes c.args.out.now ++ line x)
-          (c.answer_text.ensures.text ∙ ap answer_text (c.queue-answer.ensures e.layout s.history m.seated).answer);
-      room = λ s m. omega (arith, length-append s.history (queue_events c.args.sender k s.history), queue_few c.args.sender k s.history);
-    }
+returns c = asked_does c.args.self.now c.queue-answer.new.self c.queueing.new.self _ _ _ c.args.sender (λ _. c.args.item) c.queue-answer.result _
+    c.requires.fits.0 c.queue-answer.ensures c.queueing.ensures c.in_ok-write_line.ensures.written c.answer_text.ensures.text (λ s. refl) (λ s t. refl)

@@ -1,5 +1,4 @@
-use Rattle.std.proofs.Common.{◌∙◌, ◌++◌, ap, refl, arith, string_bytes}
-use Rattle.wq_meaning.specs.Report.{report_text}
+use Rattle.wq_script.proofs.Common.{◌∙◌, ◌++◌, ap, refl, arith, string_bytes, report_text}
 use Rattle.wq_script.proofs.engine.Engine.report.Goals as goal
 
 pub returns : goal.returns

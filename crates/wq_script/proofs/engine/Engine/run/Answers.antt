@@ -1,11 +1,5 @@
-use Rattle.std.proofs.Common.{ℕ, Some, ◌∙◌, ◌++◌, ap, refl, arith, string_bytes, codes, subst}
-use Rattle.wq_words.specs.Numbers.{stop_number}
-use Rattle.wq_meaning.specs.Names.{row_text}
-use Rattle.wq_meaning.specs.Execution.{ends_at}
-use Rattle.wq_meaning.specs.Commands.{ScriptState}
-use Rattle.wq_meaning.proofs.Sizes.{executions_few}
-use Rattle.wq_script.specs.Asking.{RunsAs}
-use Rattle.wq_script.specs.Engine.{Meets}
+use Rattle.wq_script.proofs.Common.{ℕ, Some, ◌∙◌, ◌++◌, ap, refl, arith, string_bytes, codes, subst, stop_number, row_text, ends_at, ScriptState}
+use Rattle.wq_script.proofs.Common.{executions_few, RunsAs, Meets}
 use Rattle.wq_script.proofs.Meetings.{ran_meets}
 use Rattle.wq_script.proofs.engine.Engine.run.Goals as goal
 

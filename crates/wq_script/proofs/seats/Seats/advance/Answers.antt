@@ -1,7 +1,4 @@
-use Rattle.std.proofs.Common.{List, subst}
-use Rattle.std.proofs.lemmas.List.{append-nil}
-use Rattle.wq_words.specs.declared.event.Event.{Event}
-use Rattle.wq_script.specs.Seats.{Seated}
+use Rattle.wq_script.proofs.Common.{List, subst, append-nil, Event, Seated}
 use Rattle.wq_script.proofs.Delayed.{goes_nowhere}
 use Rattle.wq_script.proofs.Moved.{advanced_so}
 use Rattle.wq_script.proofs.seats.Seats.advance.Goals as goal

@@ -1,4 +1,4 @@
-use Rattle.std.proofs.Common.{sym, ◌∙◌}
+use Rattle.wq_script.proofs.Common.{sym, ◌∙◌}
 use Rattle.wq_script.proofs.Asked.{worker_closes, closed_already}
 use Rattle.wq_script.proofs.seats.Seats.close.Goals as goal
 

@@ -1,7 +1,4 @@
-use Rattle.std.proofs.Common.{ℕ, ◌+◌, ap, ◌∙◌, subst}
-use Rattle.wq_words.specs.declared.layout.Layout.{Layout}
-use Rattle.wq_live.specs.Known.{Known}
-use Rattle.wq_live.specs.Answers.{Answers}
+use Rattle.wq_script.proofs.Common.{ℕ, ◌+◌, ap, ◌∙◌, subst, Layout, Known, Answers}
 use Rattle.wq_script.proofs.Asked.{seat_layout, sender_asked}
 use Rattle.wq_script.proofs.seats.Seats.flush.Goals as goal
 

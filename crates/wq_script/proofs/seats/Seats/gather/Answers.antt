@@ -1,13 +1,7 @@
-use Rattle.std.proofs.Common.{ℕ, ◌<◌, List, [], length, get_or, set, arith, sym, ap, ◌∙◌, subst}
-use Rattle.std.specs.Vec.{with_item}
-use Rattle.std.proofs.lemmas.List.{get_or_default}
-use mathlib.Core.List.{IsPrefix}
-use Rattle.wq_words.specs.declared.event.Event.{Event}
-use Rattle.wq_live.specs.Known.{Known}
-use Rattle.wq_script.specs.declared.seats.Seats.{Seats}
-use Rattle.wq_script.specs.Seats.{StaysSilent, AllHear, Gathers}
-use Rattle.wq_words.proofs.Prefixes.{prefix_on}
-use Rattle.wq_script.proofs.Hearing.{stays_on, sees_stays, keeps_same, same_table_on, moves_stay, all_hear_nothing, all_hear_set, all_hear_less, all_hear_on, queue_heard}
+use Rattle.wq_script.proofs.Common.{ℕ, ◌<◌, List, [], length, get_or, set, arith, sym, ap, ◌∙◌, subst, with_item, get_or_default, IsPrefix, Event, Known, Seats}
+use Rattle.wq_script.proofs.Common.{StaysSilent, AllHear, Gathers, prefix_on}
+use Rattle.wq_script.proofs.Hearing.{stays_on, sees_stays, keeps_same, same_table_on, moves_stay, all_hear_nothing, all_hear_set, all_hear_less, all_hear_on}
+use Rattle.wq_script.proofs.Hearing.{queue_heard}
 use Rattle.wq_script.proofs.seats.Seats.gather.Goals as goal
 
 pub meet-requires : goal.meet-requires

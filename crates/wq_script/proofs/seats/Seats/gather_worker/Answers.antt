@@ -1,12 +1,5 @@
-use Rattle.std.proofs.Common.{List, [], set, arith, sym, ap, ◌∙◌, subst}
-use Rattle.std.specs.Vec.{with_item}
-use Rattle.std.proofs.lemmas.List.{get_or-set_same}
-use mathlib.Core.List.{IsPrefix}
-use Rattle.wq_words.specs.declared.event.Event.{Event}
-use Rattle.wq_live.specs.Known.{Known}
-use Rattle.wq_script.specs.declared.seats.Seats.{Seats}
-use Rattle.wq_script.specs.Seats.{StaysSilent, AllHear, Gathers, sender_of, owner_of}
-use Rattle.wq_words.proofs.Prefixes.{prefix_on}
+use Rattle.wq_script.proofs.Common.{List, [], set, arith, sym, ap, ◌∙◌, subst, with_item, get_or-set_same, IsPrefix, Event, Known, Seats, StaysSilent, AllHear}
+use Rattle.wq_script.proofs.Common.{Gathers, sender_of, owner_of, prefix_on}
 use Rattle.wq_script.proofs.Hearing.{stays_on, sees_stays, moves_stay, all_hear_nothing, all_hear_set, all_hear_less, all_hear_on, queue_heard}
 use Rattle.wq_script.proofs.seats.Seats.gather_worker.Goals as goal
 

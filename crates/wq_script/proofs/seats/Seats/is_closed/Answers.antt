@@ -1,4 +1,4 @@
-use Rattle.std.proofs.Common.{◌∙◌}
+use Rattle.wq_script.proofs.Common.{◌∙◌}
 use Rattle.wq_script.proofs.Asked.{worker_closed}
 use Rattle.wq_script.proofs.seats.Seats.is_closed.Goals as goal
 

@@ -1,8 +1,4 @@
-use Rattle.std.proofs.Common.{ℕ, ◌+◌, ◌<◌, not, List, length, ap, ◌∙◌}
-use Rattle.wq_words.specs.declared.layout.Layout.{Layout}
-use Rattle.wq_words.specs.declared.event.Event.{Event}
-use Rattle.wq_words.specs.History.{pending}
-use Rattle.wq_live.specs.Known.{Known}
+use Rattle.wq_script.proofs.Common.{ℕ, ◌+◌, ◌<◌, not, List, length, ap, ◌∙◌, Layout, Event, pending, Known}
 use Rattle.wq_script.proofs.Asked.{seat_layout, sender_looked}
 use Rattle.wq_script.proofs.seats.Seats.is_flushed.Goals as goal
 

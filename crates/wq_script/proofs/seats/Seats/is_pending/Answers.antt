@@ -1,7 +1,4 @@
-use Rattle.std.proofs.Common.{ℕ, ◌<◌, List, length, ap, ◌∙◌}
-use Rattle.wq_words.specs.declared.event.Event.{Event}
-use Rattle.wq_words.specs.History.{pending}
-use Rattle.wq_live.specs.Known.{Known}
+use Rattle.wq_script.proofs.Common.{ℕ, ◌<◌, List, length, ap, ◌∙◌, Event, pending, Known}
 use Rattle.wq_script.proofs.Asked.{sender_looked}
 use Rattle.wq_script.proofs.seats.Seats.is_pending.Goals as goal
 

@@ -1,7 +1,4 @@
-use Rattle.std.proofs.Common.{[], ◌∷◌, length, ap, arith, length-append}
-use Rattle.wq_live.specs.Known.{Known}
-use Rattle.wq_script.specs.Seats.{IsWider}
-use Rattle.wq_live.proofs.Seated.{length-new_senders, one_less, two_less}
+use Rattle.wq_script.proofs.Common.{[], ◌∷◌, length, ap, arith, length-append, Known, IsWider, length-new_senders, one_less, two_less}
 use Rattle.wq_script.proofs.Made.{new_seated, new_free}
 use Rattle.wq_script.proofs.seats.Seats.new.Goals as goal
 

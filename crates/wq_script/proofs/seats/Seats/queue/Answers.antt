@@ -1,5 +1,4 @@
-use Rattle.std.proofs.Common.{ℕ}
-use Rattle.wq_live.specs.Known.{Known}
+use Rattle.wq_script.proofs.Common.{ℕ, Known}
 use Rattle.wq_script.proofs.Asked.{sender_asked}
 use Rattle.wq_script.proofs.seats.Seats.queue.Goals as goal
 

@@ -1,7 +1,4 @@
-use Rattle.std.proofs.Common.{sym, ap, ◌∙◌, subst}
-use Rattle.wq_words.specs.declared.layout.Layout.{Layout}
-use Rattle.wq_words.specs.Legal.{IsLegal}
-use Rattle.wq_meaning.specs.Execution.{ends_at}
+use Rattle.wq_script.proofs.Common.{sym, ap, ◌∙◌, subst, Layout, IsLegal, ends_at}
 use Rattle.wq_script.proofs.Ran.{row_ran}
 use Rattle.wq_script.proofs.seats.Seats.run.Goals as goal
 
