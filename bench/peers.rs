@@ -1,5 +1,5 @@
 // Queues that a user of Rust would take instead, to measure wq_bench beside: items that several threads queue and one executes.
-// usage: peers array|channel|mpsc|mutex SENDERS SLICE TOTAL; prints `items N nanos T takes K`.
+// usage: peers array|channel|mpsc|mutex SENDERS SLICE TOTAL; prints `items N nanos T takes K least L`.
 //
 // Each item has a PENDING byte, which a sender tests and sets before it queues the item's number and the thread that executes
 // clears before it runs the item, so that an item is queued once at a time, as in the queue that is measured beside. A take is a
@@ -107,14 +107,15 @@ struct Race<'a> {
 }
 
 impl Race<'_> {
-    // Queues its slice of items again and again, each once it is no longer pending.
-    fn feed(&self, inbox: &dyn Inbox, from: u32, to: u32) {
+    // Queues its slice of items again and again, each once it is no longer pending, and answers how many that were.
+    fn feed(&self, inbox: &dyn Inbox, from: u32, to: u32) -> u64 {
         let mut turn = 0u64;
+        let mut queued = 0;
         loop {
             for item in from..to {
                 while self.pending[item as usize].swap(1, SeqCst) != 0 {
                     if self.is_over.load(SeqCst) {
-                        return;
+                        return queued;
                     }
                     for _ in 0..16 {
                         spin_loop();
@@ -125,6 +126,7 @@ impl Race<'_> {
                     }
                 }
                 inbox.push(item);
+                queued += 1;
             }
         }
     }
@@ -142,17 +144,17 @@ impl Race<'_> {
 
     // Nothing is cleared any more, so each sender comes to an item that is pending, and ends.
     fn measure(&self, inbox: &(dyn Inbox + Sync), outbox: &mut dyn Outbox, senders: u32, slice: u32, total: u64) {
-        let (nanos, takes) = std::thread::scope(|scope| {
+        let (nanos, takes, least) = std::thread::scope(|scope| {
             let start = Instant::now();
-            for sender in 0..senders {
-                scope.spawn(move || self.feed(inbox, sender * slice, (sender + 1) * slice));
-            }
+            let threads: Vec<_> =
+                (0..senders).map(|sender| scope.spawn(move || self.feed(inbox, sender * slice, (sender + 1) * slice))).collect();
             let takes = self.execute(outbox, total);
             let nanos = start.elapsed().as_nanos();
             self.is_over.store(true, SeqCst);
-            (nanos, takes)
+            let least = threads.into_iter().map(|thread| thread.join().expect("no panic")).min();
+            (nanos, takes, least.unwrap_or(total))
         });
-        println!("items {total} nanos {nanos} takes {takes}");
+        println!("items {total} nanos {nanos} takes {takes} least {least}");
     }
 }
 

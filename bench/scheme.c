@@ -1,5 +1,6 @@
 // The same scheme in C11, to measure wq_bench beside: items that several threads queue and one thread executes in order.
-// usage: scheme eager|patient SENDERS SLICE TOTAL; prints `items N nanos T takes K`.
+// usage: scheme eager|patient SENDERS SLICE TOTAL; prints `items N nanos T takes K least L`,
+// of which the last is how many items the sender queued that queued fewest.
 //
 // It has the queue's own words and atomic steps, all sequentially consistent: hold, look, link, push; take, walk and turn; begin,
 // end. Compiled with -DKERNEL=1 it has the fewest that an ordered workqueue needs: a PENDING bit, a list that is pushed to
@@ -23,9 +24,10 @@
 #define CLOSED UINT64_MAX
 #define LINKING (KERNEL ? memory_order_relaxed : memory_order_seq_cst)
 #define TRIES 1000
-#define SHORT_TAKE 64
-#define PAUSE 64
-#define SPIN_LIMIT 6
+#define SHORT_TAKE 128
+#define PAUSE 128
+#define FIRST_SPINS 256
+#define MOST_SPINS 1024
 
 struct queue {
     _Atomic uint64_t *words; // the head, a link for each number, an item word for each number, the count of ended ones
@@ -58,7 +60,7 @@ __attribute__((noinline)) static enum answer queue_try(struct queue *queue, uint
         return PENDING;
     }
     enum answer answer = CONTENDED;
-    uint32_t step = 0;
+    uint32_t spins = FIRST_SPINS;
     for (uint32_t turn = 0; KERNEL || turn < TRIES; turn++) {
         uint64_t head = atomic_load(&queue->words[0]);
         if (head == CLOSED) {
@@ -70,8 +72,8 @@ __attribute__((noinline)) static enum answer queue_try(struct queue *queue, uint
             return QUEUED;
         }
         if (!KERNEL || queue->is_patient) {
-            spin(1u << step);
-            step += step < SPIN_LIMIT;
+            spin(spins);
+            spins = spins < MOST_SPINS ? 2 * spins : MOST_SPINS;
         }
     }
     atomic_fetch_and(item_of(queue, number), 0);
@@ -138,6 +140,7 @@ static bool offer(struct queue *queue, uint32_t number) {
 struct sender {
     struct queue *queue;
     uint32_t from, to;
+    uint64_t queued;
     pthread_t thread;
 };
 
@@ -149,6 +152,7 @@ static void *feed(void *given) {
             if (!offer(sender->queue, item)) {
                 return NULL;
             }
+            sender->queued++;
         }
     }
 }
@@ -205,12 +209,14 @@ int main(int argc, char **argv) {
     uint64_t takes = run(&queue, total, senders == 0 ? slice : 0);
     uint64_t ended = queue.ended;
     finish(&queue);
+    uint64_t least = senders == 0 ? ended : UINT64_MAX;
     for (uint32_t number = 0; number < senders; number++) {
         pthread_join(all[number].thread, NULL);
+        least = all[number].queued < least ? all[number].queued : least;
     }
     timespec_get(&end, TIME_UTC);
-    printf("items %" PRIu64 " nanos %" PRId64 " takes %" PRIu64 "\n", ended,
-           (int64_t)(end.tv_sec - start.tv_sec) * 1000000000 + (end.tv_nsec - start.tv_nsec), takes);
+    printf("items %" PRIu64 " nanos %" PRId64 " takes %" PRIu64 " least %" PRIu64 "\n", ended,
+           (int64_t)(end.tv_sec - start.tv_sec) * 1000000000 + (end.tv_nsec - start.tv_nsec), takes, least);
     free(all);
     free(queue.words);
     return 0;

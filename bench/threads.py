@@ -6,7 +6,8 @@ usage: threads.py PROGRAM ROUNDS [ITEMS [WORD..]]
 
 Each round runs each row once in each cell, in turn, with so many items (500,000). The words stand in front of each command, as
 `chrt -f 10`, under which the threads that are measured go before all other work. The first table has for each row the median in
-nanoseconds an item with its quartiles, and below how many items a take found; the second one has the time until one item ran that
+nanoseconds an item with its quartiles, and below how many items a take found, and the share of the sender that queued fewest, where
+1 is an even share; the second one has the time until one item ran that
 was queued so many microseconds after the last one.
 """
 import contextlib
@@ -44,10 +45,11 @@ def output(command):
 
 
 def items(command):
-    """Nanoseconds an item, and items a take."""
+    """Nanoseconds an item, items a take, and how many the sender queued that queued fewest, to an even share of what ran."""
     words = output(command)
     values = {words[at]: int(words[at + 1]) for at in range(0, len(words), 2)}
-    return values['nanos'] / values['items'], values['items'] / values['takes']
+    senders = int(command[-3])
+    return values['nanos'] / values['items'], values['items'] / values['takes'], values['least'] * senders / values['items']
 
 
 def lone(command):
@@ -156,10 +158,12 @@ def show_items(table, got):
     show(['senders, slice'] + [f'{senders}, {size}' for senders, size in CELLS])
     show(['---'] * (len(CELLS) + 1))
     for name, _ in table:
-        nanos = [[pair[0] for pair in got[name, cell]] for cell in CELLS]
-        takes = [[pair[1] for pair in got[name, cell]] for cell in CELLS]
+        nanos = [[triple[0] for triple in got[name, cell]] for cell in CELLS]
+        takes = [[triple[1] for triple in got[name, cell]] for cell in CELLS]
         show([name] + [f'{at(row, .5):.0f} ({at(row, .25):.0f} to {at(row, .75):.0f})' for row in nanos])
         show(['items a take'] + [f'{at(row, .5):.0f}' for row in takes])
+        shares = [[triple[2] for triple in got[name, cell]] for cell in CELLS]
+        show(['least share'] + [f'{at(row, .5):.2f} (least {min(row):.2f})' for row in shares])
 
 
 def show_lone(table, got):

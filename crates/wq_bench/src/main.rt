@@ -1,7 +1,8 @@
 //! Measures executed items. `wq_bench SENDERS SLICE TOTAL` starts that many senders in threads of their own, each of which
-//! queues a slice of items again and again, and executes so many items in this thread; it prints `items N nanos T takes K`, of
-//! which the last is how many takes found something. With 0 senders this thread queues a slice and executes it in turn. After a
-//! short take the owner passes some time, as `Worker::serve` does, and after the word `eager` it does not.
+//! queues a slice of items again and again, and executes so many items in this thread; it prints `items N nanos T takes K least
+//! L`: how many takes found something, and how many items the sender queued that queued fewest. With 0 senders this thread
+//! queues a slice and executes it in turn. After a short take the owner passes some time, as `Worker::serve` does, and after
+//! the word `eager` it does not.
 //!
 //! `wq_bench serve SENDERS SLICE TOTAL` measures a worker that serves, and prints `unparks U` besides; after the word `resting`
 //! the worker rests before it parks, and its senders wake it on `wakes` alone. `wq_bench lone ROUNDS
@@ -30,6 +31,7 @@ use refusal::Refusal;
 use std::io;
 use std::process::ExitCode;
 use std::time::{Duration, Instant};
+use wq_live::Spins;
 
 /// Prints what depends on no clock.
 fn show_small<R: Host>(rt: &R) -> Result<(), Refusal> {
@@ -38,25 +40,27 @@ fn show_small<R: Host>(rt: &R) -> Result<(), Refusal> {
     Ok(())
 }
 
-fn show_owner<R: Host>(rt: &R, load: Load) -> Result<(), Refusal> {
+fn show_owner<R: Host>(rt: &R, mut load: Load) -> Result<(), Refusal> {
+    load.spins = Spins::measured(rt)?;
     let start = Instant::now(rt)?;
     let counts = owner::run(rt, load)?;
     let nanos = start.elapsed(rt)?.as_nanos();
     println!(rt;
-        "items {} nanos {nanos} takes {}",
-        counts.items, counts.takes
+        "items {} nanos {nanos} takes {} least {}",
+        counts.items, counts.takes, counts.least
     )?;
     Ok(())
 }
 
 /// The same of a worker that serves. Each take that finds something begins with a push onto an empty list, so there were as many.
-fn show_serve<R: Host>(rt: &R, load: Load) -> Result<(), Refusal> {
+fn show_serve<R: Host>(rt: &R, mut load: Load) -> Result<(), Refusal> {
+    load.spins = Spins::measured(rt)?;
     let start = Instant::now(rt)?;
     let (items, calls) = serve::run(rt, load)?;
     let nanos = start.elapsed(rt)?.as_nanos();
     println!(rt;
-        "items {items} nanos {nanos} takes {} unparks {}",
-        calls.firsts, calls.unparks
+        "items {items} nanos {nanos} takes {} least {} unparks {}",
+        calls.firsts, calls.least, calls.unparks
     )?;
     Ok(())
 }

@@ -4,7 +4,7 @@ ghost use Rattle.wq_words.specs.History.{IsRunning};
 
 use crate::host::Host;
 use crate::plan::Load;
-use crate::posts::{Asks, join_all, start};
+use crate::posts::{Asks, join_all, set_spins, start};
 use crate::refusal::Refusal;
 use crate::runs::shown;
 use crossbeam_utils::sync::Parker;
@@ -15,6 +15,8 @@ use wq_live::{Owner, Sender, build};
 pub struct Counts {
     pub items: u64,
     pub takes: u64,
+    /// How many the sender queued that queued fewest.
+    pub least: u64,
 }
 
 // Executes the oldest number that was taken, with a function that does nothing. False where none waits.
@@ -76,7 +78,7 @@ fn execute(owner: &mut Owner, mut alone: Option<Sender>, load: Load) -> Counts {
         }
         let count = execute_batch(owner, load.total - counts.items);
         if alone.is_none() {
-            load.pace.after_take(count);
+            load.pace.after_take(count, load.spins);
         }
         counts.items = counts.items.saturating_add(count);
         counts.takes = counts.takes.saturating_add(u64::from(count > 0));
@@ -95,6 +97,7 @@ fn finish(owner: &mut Owner) {
 /// Executes so many items while the senders queue, and then closes the queue and executes the rest, which ends them.
 pub fn run<R: Host>(rt: &R, load: Load) -> Result<Counts, Refusal> {
     let (mut owner, mut senders) = build(rt.alloc(), load.layout(0)?)?;
+    set_spins(&mut senders, load.spins);
     if load.senders == 0 {
         return Ok(execute(&mut owner, senders.pop(), load));
     }
@@ -108,8 +111,8 @@ pub fn run<R: Host>(rt: &R, load: Load) -> Result<Counts, Refusal> {
         parker.unparker(),
         &shown,
     )?;
-    let counts = execute(&mut owner, None, load);
+    let mut counts = execute(&mut owner, None, load);
     finish(&mut owner);
-    join_all(rt, threads);
+    counts.least = join_all(rt, threads).least;
     Ok(counts)
 }

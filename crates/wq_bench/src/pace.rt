@@ -1,6 +1,7 @@
 //! How the owner, or a worker, goes from one take to the next.
 use std::hint::spin_loop;
-use wq_worker::{PAUSE, SHORT_TAKE};
+use wq_live::Spins;
+use wq_worker::SHORT_TAKE;
 
 /// With patience or without, and whether it rests before it parks.
 #[derive(Clone, Copy, PartialEq, Eq)]
@@ -15,12 +16,10 @@ pub enum Pace {
 }
 
 impl Pace {
-    /// Passes some time after a take of so many numbers, or none.
-    pub fn after_take(self, count: u64) {
+    /// Passes a pause after a short take of so many numbers, or none.
+    pub fn after_take(self, count: u64, spins: Spins) {
         if self == Pace::Patient && count < u64::from(SHORT_TAKE) {
-            for _ in 0..PAUSE {
-                spin_loop();
-            }
+            spins.pass();
         } else if count == 0 {
             spin_loop();
         }

@@ -1,6 +1,7 @@
 //! What is measured.
 use crate::pace::Pace;
 use crate::refusal::Refusal;
+use wq_live::Spins;
 use wq_words::{Layout, LayoutError};
 
 /// What the words ask for.
@@ -18,14 +19,15 @@ pub enum Plan {
     Delays(u32, u32),
 }
 
-/// How many senders there are, how many items each of them queues, how many executions end in all, and how an owner or a worker
-/// goes on.
+/// How many senders there are, how many items each of them queues, how many executions end in all, how an owner or a worker goes
+/// on, and how long all of them give way.
 #[derive(Clone, Copy)]
 pub struct Load {
     pub senders: u32,
     pub slice: u32,
     pub total: u64,
     pub pace: Pace,
+    pub spins: Spins,
 }
 
 /// As many numbers as are wanted, and zeros behind them.
@@ -69,6 +71,7 @@ impl Load {
             slice: 64,
             total: 4096,
             pace: Pace::Patient,
+            spins: Spins::default(),
         }
     }
 
@@ -79,6 +82,7 @@ impl Load {
             slice,
             total: u64::from(total),
             pace,
+            spins: Spins::default(),
         })
     }
 

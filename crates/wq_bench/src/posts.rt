@@ -7,7 +7,7 @@ use std::hint::spin_loop;
 use std::sync::Arc;
 use std::sync::atomic::{AtomicU64, Ordering};
 use std::thread::{self, JoinHandle, yield_now};
-use wq_live::{Answer, Sender};
+use wq_live::{Answer, Sender, Spins};
 
 /// Where a sender unparks the worker.
 #[derive(Clone, Copy, PartialEq, Eq)]
@@ -20,11 +20,13 @@ pub enum Asks {
     Wakes,
 }
 
-/// What senders did: how many pushes went onto an empty list, and how often they unparked the worker.
+/// What senders did: how many pushes went onto an empty list, how often they unparked the worker, and how many pushes the one made
+/// that made fewest.
 #[derive(Clone, Copy, Default)]
 pub struct Calls {
     pub firsts: u64,
     pub unparks: u64,
+    pub least: u64,
 }
 
 /// A sender, and what it needs to wake the worker and to see that the run has come to its end.
@@ -68,6 +70,7 @@ impl Post {
         let answer = offer(&mut self.sender, item);
         if let Answer::Queued { first, wakes } = answer {
             self.calls.firsts = self.calls.firsts.saturating_add(u64::from(first));
+            self.calls.least = self.calls.least.saturating_add(1);
             if (first && self.asks == Asks::First) || (wakes && self.asks == Asks::Wakes) {
                 self.calls.unparks = self.calls.unparks.saturating_add(1);
                 self.unparker.unpark();
@@ -102,6 +105,13 @@ impl Post {
     }
 }
 
+/// Each sender gives way so long.
+pub fn set_spins(senders: &mut [Sender], spins: Spins) {
+    for sender in senders {
+        sender.set_spins(spins);
+    }
+}
+
 /// Starts a thread for each sender.
 pub fn start<R: Host>(
     rt: &R,
@@ -129,11 +139,15 @@ pub fn start<R: Host>(
 
 /// What all senders did, when they have ended.
 pub fn join_all<R: Host>(rt: &R, threads: Vec<JoinHandle<Calls>>) -> Calls {
-    let mut all = Calls::default();
+    let mut all = Calls {
+        least: u64::MAX,
+        ..Calls::default()
+    };
     for thread in threads {
         let calls = thread.join(rt);
         all.firsts = all.firsts.saturating_add(calls.firsts);
         all.unparks = all.unparks.saturating_add(calls.unparks);
+        all.least = all.least.min(calls.least);
     }
     all
 }

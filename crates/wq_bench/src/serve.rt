@@ -4,7 +4,7 @@ ghost use Rattle.wq_worker.specs.Resting.{HasNoneLeft};
 use crate::host::Host;
 use crate::pace::Pace;
 use crate::plan::Load;
-use crate::posts::{Asks, Calls, join_all, start};
+use crate::posts::{Asks, Calls, join_all, set_spins, start};
 use crate::refusal::Refusal;
 use crate::runs::{Runs, shown};
 use crossbeam_utils::sync::Parker;
@@ -51,7 +51,9 @@ fn finish(worker: Worker<Runs>) -> u64 {
 pub fn run<R: Host>(rt: &R, load: Load) -> Result<(u64, Calls), Refusal> {
     let shown = shown(rt.alloc())?;
     let work = Runs::new(load.total.max(1), Arc::try_clone(&shown)?);
-    let (mut worker, senders) = Worker::build(rt.alloc(), load.layout(1)?, work, 1)?;
+    let (mut worker, mut senders) = Worker::build(rt.alloc(), load.layout(1)?, work, 1)?;
+    worker.set_spins(load.spins);
+    set_spins(&mut senders, load.spins);
     let parker = Parker::new(rt.alloc())?;
     let asks = if load.pace == Pace::Resting {
         Asks::Wakes

@@ -11,6 +11,7 @@ mod pair;
 mod row;
 mod sender;
 mod sent;
+mod spins;
 mod trying;
 
 pub use answer::Done;
@@ -20,4 +21,5 @@ pub use making::{BuildError, build};
 pub use owner::Owner;
 pub use pair::Pair;
 pub use sender::Sender;
+pub use spins::Spins;
 pub use wq_words::{Answer, Posted};

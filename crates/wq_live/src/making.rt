@@ -11,6 +11,7 @@ use crate::owner_seat::OwnerSeat;
 use crate::row::Row;
 use crate::sender::Sender;
 use crate::sent::Sent;
+use crate::spins::Spins;
 use std::alloc::{AllocError, Global};
 use thiserror::Error;
 use wq_table::{Chair, chairs};
@@ -50,6 +51,7 @@ fn seat_senders(alloc: Global, layout: Layout, seats: Vec<Chair>) -> Result<Vec<
                     closed: 0,
                     contended: 0,
                 },
+                spins: Spins::default(),
             },
         };
         if senders.push(sender).is_err() {

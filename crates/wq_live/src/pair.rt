@@ -21,6 +21,7 @@ use crate::owner::Owner;
 use crate::owner_seat::OwnerSeat;
 use crate::sender::Sender;
 use crate::sent::{Sent, queue_number};
+use crate::spins::Spins;
 use std::marker::Model;
 use wq_table::Second;
 use wq_words::{Answer, Layout};
@@ -66,6 +67,13 @@ impl Pair {
             },
             sent,
         }
+    }
+
+    /// How long its sender gives way after a lost exchange.
+    pub fn set_spins(&mut self, spins: Spins)
+        ensures same { self.new ≡ self.old }
+    {
+        self.sent.spins = spins;
     }
 
     /// The owner and the sender, each in a seat of its own again.

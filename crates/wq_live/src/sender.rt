@@ -16,6 +16,7 @@ ghost use Rattle.wq_live.specs.Laws.{IsStillEnd};
 
 use crate::counts::SenderCounts;
 use crate::owner::Owner;
+use crate::spins::{Spins, Waits};
 use crate::sent::{Sent, attempt, hold_number, push_tries, queue_number};
 use crossbeam_utils::Backoff;
 use std::marker::Model;
@@ -77,6 +78,13 @@ impl Sender {
         ensures counted { result ≡ sender_counts self.now.number self.now.seen }
     {
         self.sent.counts
+    }
+
+    /// How long it gives way after a lost exchange.
+    pub fn set_spins(&mut self, spins: Spins)
+        ensures same { self.new ≡ self.old }
+    {
+        self.sent.spins = spins;
     }
 
     // Sets the PENDING bit of a number.
@@ -143,12 +151,12 @@ impl Sender {
         if !self.hold_number(number) {
             return Answer::Pending;
         }
-        let backoff = Backoff::new();
+        let mut waits = Waits::new(self.sent.spins);
         for _ in rt.forever() {
             match self.attempt(number) {
                 Posted::Queued { first, wakes } => return Answer::Queued { first, wakes },
                 Posted::Closed => return Answer::Closed,
-                Posted::Contended => backoff.spin(),
+                Posted::Contended => waits.pass(),
             }
         }
         unreachable!()

@@ -12,17 +12,18 @@ ghost use Rattle.wq_live.specs.Answers.{TestsAndSets, Answers, Posts, IsContende
 ghost use Rattle.wq_live.specs.Sits.{sender_view, sending, Sends};
 
 use crate::counts::SenderCounts;
+use crate::spins::{Spins, Waits};
 use crate::trying::try_push;
-use crossbeam_utils::Backoff;
 use wq_table::{Chair, Place};
 use wq_words::{Answer, Layout, Posted};
 
-// What a sender keeps of what it has seen.
+// What a sender keeps of what it has seen, and how long it gives way after a lost exchange.
 #[derive(Drop)]
 pub(crate) struct Sent {
     pub(crate) layout: Layout,
     pub(crate) number: u32,
     pub(crate) counts: SenderCounts,
+    pub(crate) spins: Spins,
 }
 
 // Sets the PENDING bit of a number.
@@ -85,10 +86,10 @@ pub(crate) fn push_tries<P: Place>(
     ensures follow { Follow P.at chair.old chair.new }
     ensures posts { Posts number tries result (sender_view (sending P.at chair.old sent.old)) (sender_view (sending P.at chair.new sent.new)) }
 {
-    let backoff = Backoff::new();
+    let mut waits = Waits::new(sent.spins);
     for _ in 1..tries {
         match attempt::<P>(chair, sent, number) {
-            Posted::Contended => backoff.spin(),
+            Posted::Contended => waits.pass(),
             posted => return posted,
         }
     }

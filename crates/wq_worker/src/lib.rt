@@ -12,7 +12,7 @@ mod worker;
 
 pub use building::Unbuilt;
 pub use drained::{Drained, Unfinished};
-pub use patience::{PAUSE, SHORT_TAKE};
+pub use patience::SHORT_TAKE;
 pub use ran::Ran;
 pub use work::{Follow, Work};
 pub use worker::Worker;

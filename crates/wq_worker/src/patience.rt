@@ -1,18 +1,13 @@
 //! How a worker that serves passes time between its takes.
 use crossbeam_utils::Backoff;
 use crossbeam_utils::sync::Parker;
-use std::hint::spin_loop;
 use std::sync::Wait;
+use wq_live::Spins;
 
 /// A take of fewer numbers than this is short: the worker is quicker than the senders. Each take moves the line of the head from
-/// a sender to the worker and back, which is most of what a number costs then. Measured with one sender of 256 items and an owner
-/// without patience: 13 items a take and 121 ns an item; with these two bounds 108 and 64.
-pub const SHORT_TAKE: u32 = 64;
-
-/// How many `spin_loop`s a worker that serves passes after a short take, so that the next one finds more. That was 0.37
-/// microseconds where it was measured, and is 3 to 4 where a `spin_loop` takes 140 cycles; one item that comes alone waits no longer
-/// for it.
-pub const PAUSE: u32 = 64;
+/// a sender to the worker and back, which is most of what a number costs then. So a worker that serves passes a pause after a short
+/// take, and the next one finds more; one item that comes alone waits no longer for it.
+pub const SHORT_TAKE: u32 = 128;
 
 /// What a worker that serves knows of its last steps.
 #[derive(Drop)]
@@ -21,19 +16,16 @@ pub(crate) struct Patience {
     ended: u32,
     // How long nothing has waited.
     idle: Backoff,
-}
-
-fn pause() {
-    for _ in 0..PAUSE {
-        spin_loop();
-    }
+    // What passes after a short take.
+    spins: Spins,
 }
 
 impl Patience {
-    pub(crate) fn new() -> Patience {
+    pub(crate) fn new(spins: Spins) -> Patience {
         Patience {
             ended: 0,
             idle: Backoff::new(),
+            spins,
         }
     }
 
@@ -46,7 +38,7 @@ impl Patience {
             return;
         }
         if self.ended < SHORT_TAKE {
-            pause();
+            self.spins.pass();
         }
         self.ended = 0;
     }

@@ -29,7 +29,7 @@ use std::alloc::Global;
 use std::marker::Model;
 use std::sync::Wait;
 use wq_ledger::{Book, Totals};
-use wq_live::{Owner, Sender, build};
+use wq_live::{Owner, Sender, Spins, build};
 use wq_words::Layout;
 
 /// An owner and a sender of one queue, and the work that runs its items.
@@ -41,6 +41,7 @@ pub struct Worker<W: Work> {
     tries: u32,
     follow: Follow,
     at: usize,
+    spins: Spins,
 }
 
 impl<W: Work> Model for Worker<W> {
@@ -84,7 +85,16 @@ impl<W: Work> Worker<W> {
             tries,
             follow: Follow::new(),
             at: 0,
+            spins: Spins::default(),
         }
+    }
+
+    /// How long it gives way after a lost exchange, and after a short take where it serves.
+    pub fn set_spins(&mut self, spins: Spins)
+        ensures same { self.new ≡ self.old }
+    {
+        self.sender.set_spins(spins);
+        self.spins = spins;
     }
 
     /// A worker of a new queue, with the last of its senders, and the other senders, each at its number, which have seen
@@ -242,7 +252,7 @@ impl<W: Work> Worker<W> {
 
     /// Executes up to so many numbers, and answers how many executions ended. It stops at the limit, after the stop item,
     /// where nothing waits, or where an execution is owed. No time passes in it: a loop of one's own over this call, or over an
-    /// `Owner`, takes more at a time where it passes `PAUSE` `spin_loop`s after fewer than `SHORT_TAKE` executions.
+    /// `Owner`, takes more at a time where it passes its `Spins` after fewer than `SHORT_TAKE` executions.
     pub fn run_some(&mut self, limit: u32) -> u32
         ensures runs { RunsSome W.may limit result self.old self.new }
         ensures unclosed { ¬ IsClosed self.old.seen → ¬ IsClosed self.new.seen }
@@ -350,7 +360,7 @@ impl<W: Work> Worker<W> {
         ensures same { IsSameWorker self.old self.new }
         ensures legal { IsLegal self.new.layout self.new.seen }
     {
-        let mut patience = Patience::new();
+        let mut patience = Patience::new(self.spins);
         for _ in rt.forever() {
             match self.run_one() {
                 Ran::Stop => return,
@@ -374,9 +384,7 @@ impl<W: Work> Worker<W> {
             owner,
             sender,
             work,
-            tries: _,
-            follow: _,
-            at: _,
+            ..
         } = self;
         (work, Book::new(owner, &sender))
     }

@@ -49,6 +49,7 @@ loop-chair-preserved c = let g = c.into_iter-chair-iterator.ensures.into_iter_gi
       layout = c.args.layout;
       number = l.number;
       counts = record { queued = 0; pending = 0; closed = 0; contended = 0 };
+      spins = c.default.result;
     }) in
     let failed = c.is_err.ensures.value in let no : c.is_err.result ≡ false = c.if-is_err.false in
     let ok : is_ok c.push.result ≡ true = not_err c.push.result (sym failed ∙ no) in (
