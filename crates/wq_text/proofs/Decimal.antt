@@ -1,12 +1,9 @@
 -- A word is a number exactly where it is that number's decimal.
-use Rattle.std.proofs.Common.{◌≡◌, ℕ, zero, suc, ◌<◌, ◌^◌, Bool, true, false, not, ◌&&◌, ◌||◌, List, length, get_or, Some, None, nat_lt, nat_le, ◌==◌, refl}
-use Rattle.std.proofs.Common.{sym, ap, ◌∙◌, arith, lit<, if◌then◌else◌}
+use Rattle.wq_text.proofs.Common.{◌≡◌, ℕ, zero, suc, ◌<◌, ◌^◌, Bool, true, false, not, ◌&&◌, ◌||◌, List, length, get_or, Some, None, nat_lt, nat_le, ◌==◌}
+use Rattle.wq_text.proofs.Common.{refl, sym, ap, ◌∙◌, arith, lit<, if◌then◌else◌, all_ascii_digits, digits_value, and_parts, lt-ltb, ltb-true, leb-true}
+use Rattle.wq_text.proofs.Common.{eq-eqb, ne_eqb, spelled_number, is_numeral}
 use Rattle.std.specs.Fmt.{decimal}
-use Rattle.std.specs.Str.{all_ascii_digits}
-use Rattle.std.specs.Str.Parse.{digits_value}
-use Rattle.std.proofs.lemmas.Bool.{and_parts, lt-ltb, ltb-true, leb-true, eq-eqb, ne_eqb}
 use Rattle.std.proofs.lemmas.Fmt.{decimal-digits_value, digits_value-decimal, digits_decimal, decimal_nonempty, first_decimal, decimal_digit}
-use Rattle.wq_text.specs.Word.{spelled_number, is_numeral}
 use Rattle.wq_text.specs.Decimal.{ReadsDecimals}
 use Rattle.wq_text.proofs.Words.{own}
 

@@ -1,12 +1,8 @@
 -- The items of a follow list, read one by one.
-use Rattle.std.proofs.Common.{◌≡◌, ℕ, ◌+◌, ◌<◌, ◌≤◌, List, [], ◌∷◌, ◌++◌, length, get_or, drop, map, Result, Ok, Err, refl, sym, ap, subst, ◌∙◌}
-use Rattle.std.proofs.lemmas.List.{append_assoc, append-nil, at_drop_more, at_drop_all}
-use Rattle.wq_text.specs.declared.fault.Kind.{Kind}
-use Rattle.wq_text.specs.declared.fault.LineError.{LineError}
+use Rattle.wq_text.proofs.Common.{◌≡◌, ℕ, ◌+◌, ◌<◌, ◌≤◌, List, [], ◌∷◌, ◌++◌, length, get_or, drop, map, Result, Ok, Err, refl, sym, ap, subst, ◌∙◌}
+use Rattle.wq_text.proofs.Common.{append_assoc, append-nil, at_drop_more, at_drop_all, Kind, LineError, each, word_and_at_most, one_and_at_most, ◌>>=◌}
+use Rattle.wq_text.proofs.Common.{LineFailsAs, Bor}
 use Rattle.wq_text.specs.declared.fault.LineError.TheVariants as line_errors
-use Rattle.wq_text.specs.Arguments.{each, word_and_at_most, one_and_at_most}
-use Rattle.wq_text.specs.Fault.{◌>>=◌, LineFailsAs}
-use denote.Ref.{Bor}
 
 -- the numbers of the words ws, behind those that were read
 abbrev pub behind : (List ℕ → Result ℕ Kind) → List ℕ → List (Bor (List ℕ)) → Result (List ℕ) Kind

@@ -1,3 +1,4 @@
+pub mod Common
 pub mod Words
 pub mod Decimal
 pub mod FollowItems

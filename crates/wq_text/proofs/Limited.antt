@@ -1,13 +1,10 @@
 -- The layout of numbers that are in their limits.
-use Rattle.std.proofs.Common.{◌≡◌, ℕ, ◌≤◌, Bool, true, false, Option, Some, None, Ok, Err, nat_le, refl, sym, ap, ◌∙◌}
+use Rattle.wq_text.proofs.Common.{◌≡◌, ℕ, ◌≤◌, Bool, true, false, Option, Some, None, Ok, Err, nat_le, refl, sym, ap, ◌∙◌, le-leb, leb-true, true≢false}
+use Rattle.wq_text.proofs.Common.{Layout, Kind, tested, at_most, two_of, three_of, within, in_limits, with_limits, limited}
 use Rattle.std.specs.Coded.{le_prop}
-use Rattle.std.proofs.lemmas.Bool.{le-leb, leb-true, true≢false}
-use Rattle.wq_words.specs.declared.layout.Layout.{Layout}
 use Rattle.wq_words.specs.declared.layout.LayoutError.{LayoutError}
 use Rattle.wq_words.specs.declared.layout.LayoutError.TheVariants.{Items, Barriers, Senders}
 use Rattle.wq_words.specs.Limits.{AreInLimits, IsBetween, IsFirstOutOfLimits}
-use Rattle.wq_text.specs.declared.fault.Kind.{Kind}
-use Rattle.wq_text.specs.Header.{tested, at_most, two_of, three_of, within, in_limits, with_limits, limited}
 
 at_most-is : (m n : ℕ) (h : m ≤ n) → at_most m n ≡ Some h
 at_most-is m n h = by_test (nat_le m n) refl

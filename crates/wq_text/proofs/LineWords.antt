@@ -1,22 +1,12 @@
 -- Plain lines and their words.
-use Rattle.std.proofs.Common.{◌≡◌, ℕ, zero, suc, true, false, List, [], ◌∷◌, length, map, Option, None, Result, Ok, Err, nat_lt, nat_le, refl, sym, ap, ◌∙◌}
-use Rattle.std.proofs.Common.{arith, if◌then◌else◌}
-use Rattle.std.specs.List.{list_all}
-use Rattle.std.specs.Str.{IsAscii, IsUtf8, IsValidUpTo, valid_up_to}
+use Rattle.wq_text.proofs.Common.{◌≡◌, ℕ, zero, suc, true, false, List, [], ◌∷◌, length, map, Option, None, Result, Ok, Err, nat_lt, nat_le, refl, sym, ap}
+use Rattle.wq_text.proofs.Common.{◌∙◌, arith, if◌then◌else◌, list_all, IsAscii, IsUtf8, IsValidUpTo, valid_up_to, MatchResult, result_ok, MatchOption}
+use Rattle.wq_text.proofs.Common.{leb-true, and_parts, LineError, Stage, LineFailsAs, of_one, is_header, header_line_gives, Grammar, asking_line}
+use Rattle.wq_text.proofs.Common.{by_first_word, is_plain, Bor}
 use Rattle.std.specs.declared.str.Utf8Error.{Utf8Error}
-use Rattle.std.specs.Result.{MatchResult, result_ok}
-use Rattle.std.specs.Option.{MatchOption}
 use Rattle.std.proofs.lemmas.Str.{IsUtf8-from_ascii}
-use Rattle.std.proofs.lemmas.Bool.{leb-true, and_parts}
-use Rattle.wq_text.specs.declared.fault.LineError.{LineError}
 use Rattle.wq_text.specs.declared.fault.LineError.TheVariants as line_errors
-use Rattle.wq_text.specs.declared.header.Stage.{Stage}
-use Rattle.wq_text.specs.Fault.{LineFailsAs, of_one}
-use Rattle.wq_text.specs.Header.{is_header, header_line_gives}
-use Rattle.wq_text.specs.Line.{Grammar, asking_line, by_first_word}
-use Rattle.wq_text.specs.Word.{is_plain}
 use Rattle.std.proofs.lemmas.List.Folds.{list_all-map}
-use denote.Ref.{Bor}
 
 pub mapped_words : (ws : List (Bor (List ℕ))) → list_all (λ w. nat_lt 0 (length w)) (map (λ w. w.now) ws) ≡ list_all (λ w. nat_lt 0 (length w.now)) ws
 mapped_words ws = list_all-map (λ w. nat_lt 0 (length w)) (λ w. w.now) ws

@@ -1,14 +1,8 @@
 -- A text is spelled in one way at most, or refused for one fault at most, and never both.
-use Rattle.std.proofs.Common.{◌≡◌, ℕ, ◌+◌, ◌⊎◌, List, [], ◌∷◌, ◌++◌, length, Option, Some, Result, Ok, Err, refl, sym, ap, ◌∙◌, arith, subst, inl, inr}
-use Rattle.std.specs.Option.{option_to_list}
-use Rattle.wq_words.specs.declared.layout.Layout.{Layout}
-use Rattle.wq_text.specs.declared.fault.Kind.{Kind}
-use Rattle.wq_text.specs.declared.fault.ScriptError.{ScriptError}
-use Rattle.wq_text.specs.declared.header.Stage.{Stage}
+use Rattle.wq_text.proofs.Common.{◌≡◌, ℕ, ◌+◌, ◌⊎◌, List, [], ◌∷◌, ◌++◌, length, Option, Some, Result, Ok, Err, refl, sym, ap, ◌∙◌, arith, subst, inl, inr}
+use Rattle.wq_text.proofs.Common.{option_to_list, Layout, Kind, ScriptError, Stage, layout_at, Lines, LinesLead, Spells, end_fault, HasLineFault, IsRefusal}
+use Rattle.wq_text.proofs.Common.{HasOneOutcome}
 use Rattle.wq_text.specs.declared.header.Stage.TheVariants as stage
-use Rattle.wq_text.specs.Header.{layout_at}
-use Rattle.wq_text.specs.Line.{Lines}
-use Rattle.wq_text.specs.Text.{LinesLead, Spells, end_fault, HasLineFault, IsRefusal, HasOneOutcome}
 
 -- a header that is whole has no fault
 whole_or_not : (s : Stage) (layout : Layout) (k : Kind) → layout_at s ≡ Some layout → end_fault s ≡ Some k → ⊥

@@ -1,13 +1,7 @@
 -- What a line gives keeps what was read sound.
-use Rattle.std.proofs.Common.{◌≡◌, ℕ, zero, suc, ◌∙◌, All, List, [], ◌∷◌, ◌++◌, Option, Some, None, sym, subst, arith}
-use Rattle.std.specs.Option.{option_to_list}
-use Rattle.std.proofs.lemmas.List.{append-nil}
-use Rattle.std.proofs.lemmas.List.Elements.{All-append, All-nil}
-use Rattle.wq_words.specs.declared.layout.Layout.{Layout}
-use Rattle.wq_text.specs.declared.header.Stage.{Stage}
+use Rattle.wq_text.proofs.Common.{◌≡◌, ℕ, zero, suc, ◌∙◌, All, List, [], ◌∷◌, ◌++◌, Option, Some, None, sym, subst, arith, option_to_list, append-nil}
+use Rattle.wq_text.proofs.Common.{All-append, All-nil, Layout, Stage, layout_at, AreSound, SoundAt, KeepsSound, KeepsHeader}
 use Rattle.wq_text.specs.declared.header.Stage.TheVariants as stage
-use Rattle.wq_text.specs.Header.{layout_at}
-use Rattle.wq_text.specs.Sound.{AreSound, SoundAt, KeepsSound, KeepsHeader}
 
 pub all_one : {A : Type 0} (P : A → Type 0) (x : A) → P x → All P (x ∷ [])
 all_one P x here zero d lt = here

@@ -1,23 +1,13 @@
 -- The parts of a text, and reading them one by one.
-use Rattle.std.proofs.Common.{◌≡◌, ℕ, suc, ◌+◌, ◌<◌, ◌≤◌, Bool, true, false, not, List, [], ◌∷◌, ◌++◌, length, take, drop, cond, Option, Some, None, Ok, Err}
-use Rattle.std.proofs.Common.{position, ◌==◌, refl, sym, ap, ◌∙◌, arith, subst, inl, inr, length-append, append_assoc, count_by}
-use Rattle.std.specs.List.{slice_split, position_or_len, onto_first}
-use Rattle.std.specs.Option.{option_to_list}
-use Rattle.std.proofs.lemmas.Bool.{cases_lt, lt-ltb, le-ltb, eqb-true, eqb-false}
-use Rattle.std.proofs.lemmas.List.{append-nil}
+use Rattle.wq_text.proofs.Common.{◌≡◌, ℕ, suc, ◌+◌, ◌<◌, ◌≤◌, Bool, true, false, not, List, [], ◌∷◌, ◌++◌, length, take, drop, cond, Option, Some, None, Ok}
+use Rattle.wq_text.proofs.Common.{Err, position, ◌==◌, refl, sym, ap, ◌∙◌, arith, subst, inl, inr, length-append, append_assoc, count_by, slice_split}
+use Rattle.wq_text.proofs.Common.{position_or_len, onto_first, option_to_list, cases_lt, lt-ltb, le-ltb, eqb-true, eqb-false, append-nil, Layout, ScriptError}
+use Rattle.wq_text.proofs.Common.{RefusedFor, Stage, layout_at, Lines, LinesLead, Spells, HasLineFault, IsRefusal, end_fault, parts}
 use Rattle.std.proofs.lemmas.List.Splits.{slice_split-cons_no, slice_split_first, length-slice_split}
-use Rattle.wq_words.specs.declared.layout.Layout.{Layout}
 use Rattle.wq_text.specs.declared.fault.Kind.TheVariants as kind
-use Rattle.wq_text.specs.declared.fault.ScriptError.{ScriptError}
 use Rattle.wq_text.specs.declared.fault.ParseError.{ParseError}
 use Rattle.wq_text.specs.declared.fault.ParseError.TheVariants as errors
-use Rattle.wq_text.specs.Fault.{RefusedFor}
-use Rattle.wq_text.specs.declared.header.Stage.{Stage}
 use Rattle.wq_text.specs.declared.header.Stage.TheVariants as stage
-use Rattle.wq_text.specs.Header.{layout_at}
-use Rattle.wq_text.specs.Line.{Lines}
-use Rattle.wq_text.specs.Text.{LinesLead, Spells, HasLineFault, IsRefusal, end_fault}
-use Rattle.wq_text.specs.Word.{parts}
 
 one_step : (p : ℕ → Bool) (x : ℕ) (xs : List ℕ) (b : Bool) → p x ≡ b → (length xs ≤ position_or_len p xs → slice_split p xs ≡ xs ∷ [])
     → suc (length xs) ≤ cond (not b) (1 + position_or_len p xs) 0 → slice_split p (x ∷ xs) ≡ (x ∷ xs) ∷ []

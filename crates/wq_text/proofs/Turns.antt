@@ -1,10 +1,6 @@
 -- The words of a step.
-use Rattle.std.proofs.Common.{◌≡◌, ◌≢◌, ℕ, ◌-◌, Bool, true, false, List, [], ◌∷◌, length, take, map, Option, Some, None, ◌==◌, refl, sym, ap, subst}
-use Rattle.std.proofs.Common.{MatchOption, if◌then◌else◌}
-use Rattle.std.proofs.lemmas.Bool.{eqb-true}
-use Rattle.std.proofs.lemmas.List.{length-map, take-map}
-use Rattle.wq_text.specs.Turn.{after_b, without_last}
-use denote.Ref.{Bor}
+use Rattle.wq_text.proofs.Common.{◌≡◌, ◌≢◌, ℕ, ◌-◌, Bool, true, false, List, [], ◌∷◌, length, take, map, Option, Some, None, ◌==◌, refl, sym, ap, subst}
+use Rattle.wq_text.proofs.Common.{MatchOption, if◌then◌else◌, eqb-true, length-map, take-map, after_b, without_last, Bor}
 
 no_b : (b : ℕ) (bs : List ℕ) (e : Bool) → (b == 98) ≡ e → ((rest : List ℕ) → (b ∷ bs) ≢ 98 ∷ rest) → (if e then Some bs else None) ≡ None
 no_b b bs true same none = absurd (none bs (ap (λ n. n ∷ bs) (eqb-true b 98 same)))

@@ -1,12 +1,8 @@
 -- When a word is a number.
-use Rattle.std.proofs.Common.{◌≡◌, ℕ, ◌<◌, ◌≤◌, ◌^◌, Bool, true, false, not, ◌&&◌, ◌||◌, List, [], ◌∷◌, length, get_or, Some, None, Result, Ok, Err, nat_lt}
-use Rattle.std.proofs.Common.{nat_le, ◌==◌, refl, sym, ◌∙◌, arith, inl, inr, subst, if◌then◌else◌, ◌⊎◌}
-use Rattle.std.specs.Str.{all_ascii_digits}
-use Rattle.std.specs.Str.Parse.{ParsesUnsigned, digits_value}
-use Rattle.std.specs.Result.{result_ok, OkIff}
-use Rattle.std.proofs.lemmas.Bool.{lt-ltb, le-ltb, le-leb, lt-leb, eq-eqb, ne_eqb, eqb-false}
+use Rattle.wq_text.proofs.Common.{◌≡◌, ℕ, ◌<◌, ◌≤◌, ◌^◌, Bool, true, false, not, ◌&&◌, ◌||◌, List, [], ◌∷◌, length, get_or, Some, None, Result, Ok, Err}
+use Rattle.wq_text.proofs.Common.{nat_lt, nat_le, ◌==◌, refl, sym, ◌∙◌, arith, inl, inr, subst, if◌then◌else◌, ◌⊎◌, all_ascii_digits, ParsesUnsigned}
+use Rattle.wq_text.proofs.Common.{digits_value, result_ok, OkIff, lt-ltb, le-ltb, le-leb, lt-leb, eq-eqb, ne_eqb, eqb-false, spelled_number}
 use Rattle.std.proofs.lemmas.Str.Parse.{IsNumeralModel, numerals_by_value, tells_all_ascii_digits, parse_plain}
-use Rattle.wq_text.specs.Word.{spelled_number}
 
 pub own : IsNumeralModel (λ ds. all_ascii_digits ds ≡ true) (digits_value 10)
 own = numerals_by_value _ tells_all_ascii_digits

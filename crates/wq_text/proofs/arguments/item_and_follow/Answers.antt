@@ -1,6 +1,4 @@
-use Rattle.std.proofs.Common.{ℕ, List, map, Bor}
-use Rattle.std.proofs.lemmas.Result.{err_from_is_err_and}
-use Rattle.wq_text.specs.Arguments.{item}
+use Rattle.wq_text.proofs.Common.{ℕ, List, map, Bor, err_from_is_err_and, item}
 use Rattle.wq_text.proofs.FollowItems.{one_and_all, one_and_fault}
 use Rattle.wq_text.proofs.arguments.item_and_follow.Goals as goal
 

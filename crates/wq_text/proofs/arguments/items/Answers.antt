@@ -1,7 +1,4 @@
-use Rattle.std.proofs.Common.{◌<◌, ◌∷◌, [], length, arith, ap, ◌∙◌}
-use Rattle.std.proofs.lemmas.Result.{err_from_is_err_and}
-use Rattle.std.proofs.lemmas.List.Elements.{All-append, All-nil}
-use Rattle.wq_text.specs.Arguments.{item}
+use Rattle.wq_text.proofs.Common.{◌<◌, ◌∷◌, [], length, arith, ap, ◌∙◌, err_from_is_err_and, All-append, All-nil, item}
 use Rattle.wq_text.proofs.Sound.{all_one}
 use Rattle.wq_text.proofs.FollowItems.{behind-nothing, behind-more, behind-fails, behind-all}
 use Rattle.wq_text.proofs.arguments.items.Goals as goal

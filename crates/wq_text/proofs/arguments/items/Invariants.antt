@@ -1,5 +1,4 @@
-use Rattle.std.proofs.Common.{◌≡◌, ◌<◌, All, length, drop, map}
-use Rattle.wq_text.specs.Arguments.{item, each}
+use Rattle.wq_text.proofs.Common.{◌≡◌, ◌<◌, All, length, drop, map, item, each}
 use Rattle.wq_text.proofs.FollowItems.{behind}
 use Rattle.wq_text.proofs.arguments.items.Given as goal
 

@@ -1,5 +1,4 @@
-use Rattle.std.proofs.Common.{ℕ, List, map, Bor, sym, ◌∙◌}
-use Rattle.std.proofs.lemmas.Result.{err_from_is_err_and}
+use Rattle.wq_text.proofs.Common.{ℕ, List, map, Bor, sym, ◌∙◌, err_from_is_err_and}
 use Rattle.wq_text.proofs.LineWords.{header_given, header_fails}
 use Rattle.wq_text.proofs.Sound.{keeps_header}
 use Rattle.wq_text.proofs.line.first_word_line.Goals as goal

@@ -1,5 +1,4 @@
-use Rattle.std.proofs.Common.{refl}
-use Rattle.wq_text.specs.Line.{words_give}
+use Rattle.wq_text.proofs.Common.{refl, words_give}
 use Rattle.wq_text.proofs.LineWords.{no_words}
 use Rattle.wq_text.proofs.line.words_line.Goals as goal
 

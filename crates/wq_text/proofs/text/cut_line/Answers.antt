@@ -1,5 +1,4 @@
-use Rattle.std.proofs.Common.{◌≡◌, arith, length, take, drop, ◌-◌, ◌+◌, length-drop}
-use Rattle.std.proofs.lemmas.List.{take_all}
+use Rattle.wq_text.proofs.Common.{◌≡◌, arith, length, take, drop, ◌-◌, ◌+◌, length-drop, take_all}
 use Rattle.wq_text.proofs.Texts.{no_line, one_line}
 use Rattle.wq_text.proofs.text.cut_line.Goals as goal
 

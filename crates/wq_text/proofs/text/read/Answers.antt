@@ -1,8 +1,4 @@
-use Rattle.std.proofs.Common.{◌≡◌, Some, Err, arith, sym, ◌∙◌, refl, inl}
-use Rattle.std.proofs.lemmas.Result.{err_from_is_err_and}
-use Rattle.wq_text.specs.declared.fault.ScriptError.{ScriptError}
-use Rattle.wq_text.specs.Line.{line_gives}
-use Rattle.wq_text.specs.Text.{IsRefusal, end_fault}
+use Rattle.wq_text.proofs.Common.{◌≡◌, Some, Err, arith, sym, ◌∙◌, refl, inl, err_from_is_err_and, ScriptError, line_gives, IsRefusal, end_fault}
 use Rattle.wq_text.proofs.Texts.{refused_for, read_nothing, read_more, faulty_line, cut_short, no_header, spelled}
 use Rattle.wq_text.proofs.Sound.{keeps, ends_sound}
 use Rattle.wq_text.proofs.text.read.Goals as goal

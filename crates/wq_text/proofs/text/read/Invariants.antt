@@ -1,6 +1,4 @@
-use Rattle.std.proofs.Common.{◌+◌, ◌≤◌, length}
-use Rattle.wq_text.specs.Line.{line_gives}
-use Rattle.wq_text.specs.Sound.{SoundAt}
+use Rattle.wq_text.proofs.Common.{◌+◌, ◌≤◌, length, line_gives, SoundAt}
 use Rattle.wq_text.proofs.Texts.{IsReadTo}
 use Rattle.wq_text.proofs.text.read.Given as goal
 

@@ -1,5 +1,4 @@
-use Rattle.std.proofs.Common.{arith, sym, ◌∙◌, ◌<◌, length, inl, inr}
-use Rattle.std.proofs.lemmas.Bool.{eqb-true}
+use Rattle.wq_text.proofs.Common.{arith, sym, ◌∙◌, ◌<◌, length, inl, inr, eqb-true}
 use Rattle.wq_text.proofs.Words.{no_empty, no_plus, no_zero, nonempty, parsed}
 use Rattle.wq_text.proofs.word.number_of.Goals as goal
 use Rattle.wq_text.proofs.word.number_of.Goals.{else-digits-gt1-via-then-digits-gt1+else-first-eq48, else-digits-gt1-via-else-digits-gt1}
