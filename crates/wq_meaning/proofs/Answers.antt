@@ -1,16 +1,11 @@
 -- What a script never answers: another seat would have had to step between two commands, or memory to be wanting.
-use Rattle.std.proofs.Common.{◌≢◌, ℕ, ◌==◌, ◌&&◌, Bool, true, false, List, if◌then◌else◌, refl}
-use Rattle.wq_words.specs.declared.event.Event.{Event}
-use Rattle.wq_words.specs.History.{pending, closed, first}
+use Rattle.wq_meaning.proofs.Common.{◌≢◌, ℕ, ◌==◌, ◌&&◌, Bool, true, false, List, if◌then◌else◌, refl, Event, pending, closed, first, armed_of, modified_of}
+use Rattle.wq_meaning.proofs.Common.{DelayTable, on_table, is_too_far, queue_answer, queues_now, arm_answer, modify_answer}
 use Rattle.wq_words.specs.Rest.{wakes}
 use Rattle.wq_words.specs.declared.answer.Answer.TheVariants as answer
 use Rattle.wq_words.specs.declared.answer.Armed.{Armed}
 use Rattle.wq_words.specs.declared.answer.Armed.TheVariants as armed
 use Rattle.wq_words.specs.declared.answer.Modified.TheVariants as modified
-use Rattle.wq_words.specs.Armed.{armed_of, modified_of}
-use Rattle.wq_words.specs.DelayTable.{DelayTable, on_table, is_too_far}
-use Rattle.wq_meaning.specs.Queueing.{queue_answer}
-use Rattle.wq_meaning.specs.Arming.{queues_now, arm_answer, modify_answer}
 
 -- by the tests on which a queueing rests
 each_queueing : (set shut is_first wakes_it : Bool)

@@ -1,16 +1,11 @@
 -- The calls of the delay table, by the tests on which they rest.
-use Rattle.std.proofs.Common.{◌≡◌, ℕ, ◌<◌, Bool, true, false, ◌==◌, ◌||◌, ◌&&◌, List, [], ◌∷◌, ap, ◌∙◌, if◌then◌else◌, eq-eqb}
-use Rattle.wq_words.specs.declared.event.Event.{Event}
-use Rattle.wq_words.specs.declared.event.Event.TheVariants.{Hold}
-use Rattle.wq_words.specs.History.{pending, closed}
+use Rattle.wq_meaning.proofs.Common.{◌≡◌, ℕ, ◌<◌, Bool, true, false, ◌==◌, ◌||◌, ◌&&◌, List, [], ◌∷◌, ap, ◌∙◌, if◌then◌else◌, eq-eqb, Event, Hold, pending}
+use Rattle.wq_meaning.proofs.Common.{closed, armed_of, modified_of, DelayTable, on_table, is_too_far, table_with, table_without, queue_events, queue_answer}
+use Rattle.wq_meaning.proofs.Common.{post_event, queues_now, arm_events, arm_table, arm_answer, modify_events, modify_table, modify_answer}
 use Rattle.wq_words.specs.declared.answer.Armed.TheVariants as armed
 use Rattle.wq_words.specs.declared.answer.Modified.{Modified}
 use Rattle.wq_words.specs.declared.answer.Modified.TheVariants as modified
-use Rattle.wq_words.specs.Armed.{armed_of, modified_of}
-use Rattle.wq_words.specs.DelayTable.{DelayTable, on_table, is_too_far, table_with, table_without}
 use Rattle.wq_words.proofs.Rest.{not_zero}
-use Rattle.wq_meaning.specs.Queueing.{queue_events, queue_answer}
-use Rattle.wq_meaning.specs.Arming.{post_event, queues_now, arm_events, arm_table, arm_answer, modify_events, modify_table, modify_answer}
 
 yes : {A : Type 0} (b : Bool) (x y : A) → b ≡ true → (if b then x else y) ≡ x
 yes b x y is = ap (λ (c : Bool). if c then x else y) is

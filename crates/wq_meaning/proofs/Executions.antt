@@ -1,12 +1,9 @@
 -- What executions end, and one more of a row.
-use Rattle.std.proofs.Common.{◌≡◌, ℕ, suc, ◌&&◌, Bool, true, false, not, nat_le, List, [], ◌∷◌, ◌++◌, length, fold, refl, sym, ap, ◌∙◌, Option, Some, None, option_to_list, if◌then◌else◌}
-use Rattle.std.proofs.lemmas.List.{append-nil}
-use Rattle.arrayvec.specs.ArrayVec.{ArrayVec}
-use Rattle.wq_words.specs.declared.event.Event.{Event}
-use Rattle.wq_words.specs.declared.event.Event.TheVariants.{Hold, Busy, Push, Back, Take, Begin, End, Chain, ChainBusy}
+use Rattle.wq_meaning.proofs.Common.{◌≡◌, ℕ, suc, ◌&&◌, Bool, true, false, not, nat_le, List, [], ◌∷◌, ◌++◌, length, fold, refl, sym, ap, ◌∙◌, Option, Some}
+use Rattle.wq_meaning.proofs.Common.{None, option_to_list, if◌then◌else◌, append-nil, ArrayVec, Event, Hold, Busy, Push, Back, Take, Begin, End, Chain}
+use Rattle.wq_meaning.proofs.Common.{ChainBusy, begun, ended, closed, pending, taken, next, follow_of, take_events, follow_events, after_follow, after_run}
+use Rattle.wq_meaning.proofs.Common.{after_execution, after_executions, go_on}
 use Rattle.wq_words.specs.declared.event.Why.TheVariants as why
-use Rattle.wq_words.specs.History.{begun, ended, closed, pending, taken, next}
-use Rattle.wq_meaning.specs.Execution.{follow_of, take_events, follow_events, after_follow, after_run, after_execution, after_executions, go_on}
 use Rattle.wq_words.proofs.Appended.{ended-append}
 
 -- queueing what follows ends nothing

@@ -1,15 +1,11 @@
 -- The order of a delay table.
-use Rattle.std.proofs.Common.{◌≡◌, ℕ, zero, suc, ◌+◌, ◌<◌, ◌==◌, Bool, true, false, not, nat_lt, nat_le, List, [], ◌∷◌, All, refl, sym, ◌∙◌, inl, inr, arith, if◌then◌else◌, cond, filter, None, fold}
+use Rattle.wq_meaning.proofs.Common.{◌≡◌, ℕ, zero, suc, ◌+◌, ◌<◌, ◌==◌, Bool, true, false, not, nat_lt, nat_le, List, [], ◌∷◌, All, refl, sym, ◌∙◌, inl, inr}
+use Rattle.wq_meaning.proofs.Common.{arith, if◌then◌else◌, cond, filter, None, fold, Layout, Event, closed, Entry, DelayTable, IsBefore, placed, on_table}
+use Rattle.wq_meaning.proofs.Common.{is_too_far, table_with, table_without, table_at, Command, queues_now, arm_table, modify_table, ScriptState}
+use Rattle.wq_meaning.proofs.Common.{opening_state, state_after, after_row}
 use Rattle.std.proofs.lemmas.Bool.{cases_lt, lt-ltb, le-ltb, false≢true}
 use Rattle.std.proofs.lemmas.List.Kept.{AllPairs-cons, AllPairs-filter}
-use Rattle.wq_words.specs.declared.layout.Layout.{Layout}
-use Rattle.wq_words.specs.declared.event.Event.{Event}
-use Rattle.wq_words.specs.History.{closed}
-use Rattle.wq_words.specs.DelayTable.{Entry, DelayTable, IsBefore, placed, on_table, is_too_far, table_with, table_without, table_at}
-use Rattle.wq_text.specs.declared.command.Command.{Command}
 use Rattle.wq_text.specs.declared.command.Command.TheVariants as command
-use Rattle.wq_meaning.specs.Arming.{queues_now, arm_table, modify_table}
-use Rattle.wq_meaning.specs.Commands.{ScriptState, opening_state, state_after, after_row}
 use Rattle.wq_meaning.specs.Order.{IsInOrder, final_state}
 
 -- in order, and all armed under numbers that were given out

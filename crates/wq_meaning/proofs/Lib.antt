@@ -1,3 +1,4 @@
+pub mod Common
 pub mod Executions
 pub mod Answers
 pub mod Armings

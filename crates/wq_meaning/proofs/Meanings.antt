@@ -1,15 +1,9 @@
 -- What a command means, by the tests on which it rests.
-use Rattle.std.proofs.Common.{◌≡◌, ℕ, true, false, List, [], ◌++◌, nat_lt, if◌then◌else◌, None, sym, ap, ◌∙◌, subst, codes}
-use Rattle.wq_words.specs.declared.layout.Layout.{Layout}
-use Rattle.wq_words.specs.History.{closed}
-use Rattle.wq_text.specs.declared.command.Command.{Command}
+use Rattle.wq_meaning.proofs.Common.{◌≡◌, ℕ, true, false, List, [], ◌++◌, nat_lt, if◌then◌else◌, None, sym, ap, ◌∙◌, subst, codes, Layout, closed, Command}
+use Rattle.wq_meaning.proofs.Common.{ended_since, table_at, due_items, advance_events, row_text, advance_word, left_text, ScriptState, state_after, lines}
+use Rattle.wq_meaning.proofs.Common.{after_row, delayer, left_in}
 use Rattle.wq_text.specs.declared.command.Command.TheVariants as command
-use Rattle.wq_meaning.specs.Execution.{ended_since}
-use Rattle.wq_words.specs.DelayTable.{table_at}
-use Rattle.wq_meaning.specs.Arming.{due_items, advance_events}
 use Rattle.wq_meaning.specs.Report.{line}
-use Rattle.wq_meaning.specs.Names.{row_text, advance_word, left_text}
-use Rattle.wq_meaning.specs.Commands.{ScriptState, state_after, lines, after_row, delayer, left_in}
 
 -- the lines of a command, where the state after it is t
 pub wrote : (layout : Layout) (s t : ScriptState) (c : Command) (before now text : List ℕ) → state_after layout s c ≡ t

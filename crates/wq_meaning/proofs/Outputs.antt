@@ -1,9 +1,6 @@
 -- The output of a script, a command further.
-use Rattle.std.proofs.Common.{◌≡◌, ℕ, ◌+◌, ◌<◌, List, [], ◌∷◌, ◌++◌, length, drop, get_or, refl, sym, ap, ◌∙◌, append_assoc, drop-cons, add-one}
-use Rattle.std.proofs.lemmas.List.{append-nil}
-use Rattle.wq_words.specs.declared.layout.Layout.{Layout}
-use Rattle.wq_text.specs.declared.command.Command.{Command}
-use Rattle.wq_meaning.specs.Commands.{ScriptState, state_after, lines, output_from}
+use Rattle.wq_meaning.proofs.Common.{◌≡◌, ℕ, ◌+◌, ◌<◌, List, [], ◌∷◌, ◌++◌, length, drop, get_or, refl, sym, ap, ◌∙◌, append_assoc, drop-cons, add-one}
+use Rattle.wq_meaning.proofs.Common.{append-nil, Layout, Command, ScriptState, state_after, lines, output_from}
 
 -- what is left at place i is its command and the rest
 pub left_at : (commands : List Command) (i : ℕ) (d : Command) → i < length commands → drop i commands ≡ get_or commands i d ∷ drop (i + 1) commands

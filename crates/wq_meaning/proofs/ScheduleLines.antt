@@ -1,10 +1,7 @@
 -- The output of a schedule, a turn further, and that it is one.
-use Rattle.std.proofs.Common.{◌≡◌, inl, inr, ℕ, ◌+◌, ◌<◌, List, [], ◌∷◌, ◌++◌, length, drop, get_or, refl, sym, ap, ◌∙◌, subst, append_assoc, drop-cons, add-one}
-use Rattle.std.proofs.lemmas.List.{append-nil}
-use Rattle.wq_words.specs.declared.layout.Layout.{Layout}
+use Rattle.wq_meaning.proofs.Common.{◌≡◌, inl, inr, ℕ, ◌+◌, ◌<◌, List, [], ◌∷◌, ◌++◌, length, drop, get_or, refl, sym, ap, ◌∙◌, subst, append_assoc}
+use Rattle.wq_meaning.proofs.Common.{drop-cons, add-one, append-nil, Layout, Turn, Gives, AllGive, GivesBehind, IsScheduleOutput, HasOneOutput, ending}
 use Rattle.wq_core.specs.Machine.{Machine, opening}
-use Rattle.wq_text.specs.Turn.{Turn}
-use Rattle.wq_meaning.specs.ScheduleOutput.{Gives, AllGive, GivesBehind, IsScheduleOutput, HasOneOutput, ending}
 
 -- whatever the turns that are left give, all turns give it behind what was written
 abbrev pub Continues : Layout → List Turn → Machine → List Turn → List ℕ → Type 0

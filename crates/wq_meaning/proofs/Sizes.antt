@@ -1,17 +1,12 @@
 -- How much a command adds to the history and to the delay table.
-use Rattle.std.proofs.Common.{◌≡◌, ℕ, zero, suc, ◌+◌, ◌*◌, ◌≤◌, Bool, true, false, not, ◌&&◌, nat_le, fold, ◌==◌, List, [], ◌∷◌, ◌++◌, Option, Some, None, length, cond, arith, length-append, if◌then◌else◌}
-use Rattle.std.specs.Prelude.{filter}
-use Rattle.std.proofs.lemmas.List.{length-map}
-use Rattle.arrayvec.specs.ArrayVec.{ArrayVec}
-use Rattle.wq_words.specs.declared.event.Event.{Event}
-use Rattle.wq_words.specs.declared.event.Event.TheVariants.{Hold, Busy, Push, Back, Take, Close, Begin, End, Chain, ChainBusy}
+use Rattle.wq_meaning.proofs.Common.{◌≡◌, ℕ, zero, suc, ◌+◌, ◌*◌, ◌≤◌, Bool, true, false, not, ◌&&◌, nat_le, fold, ◌==◌, List, [], ◌∷◌, ◌++◌, Option, Some}
+use Rattle.wq_meaning.proofs.Common.{None, length, cond, arith, length-append, if◌then◌else◌, filter, length-map, ArrayVec, Event, Hold, Busy, Push, Back}
+use Rattle.wq_meaning.proofs.Common.{Take, Close, Begin, End, Chain, ChainBusy, pending, closed, taken, next, begun, Entry, DelayTable, without, on_table}
+use Rattle.wq_meaning.proofs.Common.{due_part, is_too_far, table_with, table_without, table_at, queue_events, close_events, follow_of, after_follow}
+use Rattle.wq_meaning.proofs.Common.{after_run, after_execution, after_executions, go_on, post_event, queues_now, arm_events, arm_table, cancel_events}
+use Rattle.wq_meaning.proofs.Common.{modify_events, modify_table, due_items, advance_events}
 use Rattle.wq_words.specs.declared.event.Why.TheVariants as why
-use Rattle.wq_words.specs.History.{pending, closed, taken, next, begun}
-use Rattle.wq_words.specs.DelayTable.{Entry, DelayTable, without, on_table, due_part, is_too_far, table_with, table_without, table_at}
 use Rattle.wq_words.proofs.DelayTable.{length_placed}
-use Rattle.wq_meaning.specs.Queueing.{queue_events, close_events}
-use Rattle.wq_meaning.specs.Execution.{follow_of, after_follow, after_run, after_execution, after_executions, go_on}
-use Rattle.wq_meaning.specs.Arming.{post_event, queues_now, arm_events, arm_table, cancel_events, modify_events, modify_table, due_items, advance_events}
 
 pub queue_few : (s k : ℕ) (h : List Event) → length (queue_events s k h) ≤ 2
 queue_few s k h = each (pending h k) (closed h)

@@ -1,5 +1,4 @@
-use Rattle.std.proofs.Common.{◌≡◌, ◌++◌, take, string_bytes, flat_map}
-use Rattle.wq_meaning.specs.Names.{named}
+use Rattle.wq_meaning.proofs.Common.{◌≡◌, ◌++◌, take, string_bytes, flat_map, named}
 use Rattle.wq_meaning.proofs.lines.write_list.Given as goal
 
 abbrev pub invariant-loop-number : goal.invariant-loop-number

@@ -1,9 +1,7 @@
-use Rattle.std.proofs.Common.{arith, ◌∙◌, ap, sym, ◌<◌, List, length, get_or, string_bytes, subst}
+use Rattle.wq_meaning.proofs.Common.{arith, ◌∙◌, ap, sym, ◌<◌, List, length, get_or, string_bytes, subst, Turn, GivesBehind}
 use Rattle.std.proofs.Math.ListN.{drop_of_length-le}
 use Rattle.wq_core.specs.declared.step.Seat.TheVariants.{Sender}
 use Rattle.wq_core.specs.declared.step.Step.TheVariants.{Hold}
-use Rattle.wq_text.specs.Turn.{Turn}
-use Rattle.wq_meaning.specs.ScheduleOutput.{GivesBehind}
 use Rattle.wq_meaning.proofs.ScheduleLines.{continues_behind, output_whole}
 use Rattle.wq_meaning.proofs.schedule_output.output_text.Goals as goal
 
