@@ -6,6 +6,8 @@
 #[cfg(test)]
 mod balance;
 #[cfg(test)]
+mod check;
+#[cfg(test)]
 mod delay;
 #[cfg(test)]
 mod expect;
