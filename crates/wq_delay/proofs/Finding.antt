@@ -6,7 +6,7 @@ use Rattle.wq_delay.proofs.Common.{IsWheel, AreOnTable, AreFound, entry_at, AreR
 use Rattle.wq_delay.proofs.Rounds.{at_or}
 use Rattle.wq_delay.proofs.Standing.{later_same, later_some}
 use Rattle.wq_delay.proofs.Spelled.{some_same}
-use Rattle.wq_delay.proofs.Looking.{on_push, steps_left, steps_fewer}
+use Rattle.wq_delay.proofs.Looking.{or_false, on_push, steps_left, steps_fewer}
 use Rattle.wq_delay.proofs.Fitting.{place_low, more_on_table}
 
 -- the slot of a later tick is the n-th after that of the tick t where its turn is n
@@ -249,10 +249,6 @@ module _ (places : List (Option Place)) (next previous : List ℕ) (t now n head
               ap (λ (z : Bool). on_table k es || z) apart ∙ (or_false (on_table k es) ∙ other_which k o other there)) is);
         }
       where
-        or_false : (b : Bool) → (b || false) ≡ b
-        or_false true = refl
-        or_false false = refl
-
         own : (o : Place) → q ≡ o → p ≡ o
             → (on_table x es || (x == x)) ≡ (nat_le o.due now && is_passed t n (is_behind head y o (number y)) o)
         own o q_is p_is =

@@ -46,7 +46,7 @@ some_twice t now p n =
     by true = last (nat_le p.due now)
     by false = off (nat_le p.due now)
 
-module _ (places : List (Option Place)) (next previous : List ℕ) (row : List DueItem) (room front count tick : ℕ)
+module _ {places : List (Option Place)} {next previous : List ℕ} {row : List DueItem} {room front count tick : ℕ}
     (t : IsTimetable places next previous row room front count tick) (now : ℕ) where
   abbrev es : List Entry
   es = entries_of places

@@ -67,9 +67,9 @@ waits_later : (t : ℕ) (o : Option Place) → cond (is_due t o) None o ≡ late
 waits_later t None = refl
 waits_later t (Some p) = refl
 
-module _ (places : List (Option Place)) (next previous : List ℕ) (row : List DueItem) (room front count tick : ℕ)
+module _ {places : List (Option Place)} {next previous : List ℕ} {row : List DueItem} {room front count tick : ℕ}
     (t : IsTimetable places next previous row room front count tick) (now : ℕ) (forward : tick ≤ now)
-    (given : List (Option Place)) (value : given ≡ places) (kept : List DueItem) (kept_by : kept ≡ filter (stands given) row) where
+    {given : List (Option Place)} (value : given ≡ places) {kept : List DueItem} (kept_by : kept ≡ filter (stands given) row) where
   abbrev es : List Entry
   es = entries_of places
 
@@ -106,9 +106,9 @@ module _ (places : List (Option Place)) (next previous : List ℕ) (row : List D
       (λ k p is. (later_same tick (place_in places k) p (sym (start_waits k) ∙ is)).1)
 
   -- the row once nothing that is due waits, sorted
-  module _ (next' previous' : List ℕ) (found sorted : List DueItem) (gathered : IsGathering given next' previous' (map entry_of found) now)
+  module _ {next' previous' : List ℕ} {found sorted : List DueItem} (gathered : IsGathering given next' previous' (map entry_of found) now)
       (none_due : (k : ℕ) (p : Place) → waiting given (map entry_of found) k ≡ Some p → now < p.due)
-      (moves : IsPermutation found sorted) (is_sorted : AreSorted sorted) (room' : ℕ) (enough : length given ≤ room') where
+      (moves : IsPermutation found sorted) (is_sorted : AreSorted sorted) {room' : ℕ} (enough : length given ≤ room') where
     g : IsGathering places next' previous' (map entry_of found) now
     g = subst (λ (z : List (Option Place)). IsGathering z next' previous' (map entry_of found) now) value gathered
 

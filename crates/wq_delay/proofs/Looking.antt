@@ -7,13 +7,13 @@ use Rattle.wq_delay.proofs.Rounds.{at_or}
 use Rattle.wq_delay.proofs.Wheel.{wheel_without}
 use Rattle.wq_delay.proofs.Spelled.{some_same}
 
+pub or_false : (b : Bool) → (b || false) ≡ b
+or_false true = refl
+or_false false = refl
+
 -- an entry more at the end of the row
 pub on_push : (j : ℕ) (es : List Entry) (e : Entry) → on_table j (es ++ e ∷ []) ≡ (on_table j es || (j == e.item))
-on_push j [] e = last (j == e.item)
-  where
-    last : (b : Bool) → (b || false) ≡ b
-    last true = refl
-    last false = refl
+on_push j [] e = or_false (j == e.item)
 on_push j (f ∷ fs) e = by (j == f.item) (on_push j fs e)
   where
     by : (b : Bool) → on_table j (fs ++ e ∷ []) ≡ (on_table j fs || (j == e.item))
@@ -100,8 +100,8 @@ module _ (places : List (Option Place)) (next previous : List ℕ) (start row : 
       by true lt = grind (arith, nat_tests)
       by false ge = let none = g.wheel.heads k (grind (arith, nat_tests)) in absurd (cc)
 
-  pub looking_init : IsGathering places next previous row now → Looking places next previous row row head now (slice_index next head)
-  looking_init g =
+  starts : IsGathering places next previous row now → Looking places next previous row row head now (slice_index next head)
+  starts g =
       let r = g.wheel.rings in
       let own : head_by size head (waiting places row head) ≡ head = ap (head_by size head) (g.wheel.heads head high) in
       let zero_is : number_by (waiting places row head) ≡ 0 = ap number_by (g.wheel.heads head high) in record {
@@ -114,6 +114,12 @@ module _ (places : List (Option Place)) (next previous : List ℕ) (start row : 
             let near = r.nearest head k low (omega arith) (own ∙ (sym slot ∙ sym (slot_item k p is))) (omega arith) in
             let f = below (λ s. near.0 (s ∙ sym own)) in let o = near.1 in absurd (omega arith);
       }
+
+  -- the next place is where it was read
+  pub looking_init : IsGathering places next previous row now → (z : ℕ) → z ≡ get_or next head z → Looking places next previous row row head now z
+  looking_init g z read =
+      subst (λ (v : ℕ). Looking places next previous row row head now v)
+      (sym (get_or_read next head z (omega (arith, g.wheel.next_length, low)) read 0)) (starts g)
 
   pub looking_end : (x : ℕ) → Looking places next previous start row head now x → x ≡ head → IsClean places row head now
   looking_end x l is k p at slot = l.done k p at slot (λ ne. absurd (ne is))
@@ -128,7 +134,7 @@ module _ (places : List (Option Place)) (next previous : List ℕ) (start row : 
       by None is at = absurd (ne at)
       by (Some p) is at = (p, is, at)
 
-  module _ (x : ℕ) (l : Looking places next previous start row head now x) (ne : x ≢ head) where
+  module _ {x : ℕ} (l : Looking places next previous start row head now x) (ne : x ≢ head) where
     abbrev y : ℕ
     y = slice_index next x
 
@@ -178,8 +184,11 @@ module _ (places : List (Option Place)) (next previous : List ℕ) (start row : 
             absurd (other (r.apart k x k_low l.low same equal))
 
     -- x is not due
-    pub looking_pass : (p : Place) → place_in places x ≡ Some p → now < p.due → Looking places next previous start row head now y
-    looking_pass p at late = record {
+    next_read : (z : ℕ) → z ≡ get_or next x z → z ≡ y
+    next_read z read = get_or_read next x z (omega (arith, l.low, l.gathering.wheel.next_length)) read 0
+
+    passes : (p : Place) → place_in places x ≡ Some p → now < p.due → Looking places next previous start row head now y
+    passes p at late = record {
       gathering = l.gathering;
       fewer = l.fewer;
       low = r.next_low x l.low;
@@ -188,6 +197,14 @@ module _ (places : List (Option Place)) (next previous : List ℕ) (start row : 
           (λ w. let e = some_same p o (sym at ∙ (waits_there places row x o w).1) in let f = ap (λ (z : Place). z.due) e in omega arith)
           (λ other w. nothing_between k o other w slot below) is;
     }
+
+    pub looking_pass : {p : Place} → place_in places x ≡ Some p → now < p.due → (z : ℕ) → z ≡ get_or next x z
+        → Looking places next previous start row head now z
+    looking_pass {p} at late z read =
+        subst (λ (v : ℕ). Looking places next previous start row head now v) (sym (next_read z read)) (passes p at late)
+
+    pub item_off : on_table x row ≡ false
+    item_off = (waits_there places row x q q_is).0
 
     pub item_here : (x < size) × (place_in places x ≡ Some q)
     item_here = (item_low l.gathering x q q_is, (waits_there places row x q q_is).1)
@@ -205,33 +222,26 @@ module _ (places : List (Option Place)) (next previous : List ℕ) (start row : 
     pub nearer_read : (z : ℕ) → z ≡ get_or next x z → steps_left places head z < steps_left places head x
     nearer_read z read =
         subst (λ (w : ℕ). steps_left places head w < steps_left places head x)
-        (sym (get_or_read next x z (omega (arith, l.low, l.gathering.wheel.next_length)) read 0)) nearer
+        (sym (next_read z read)) nearer
 
     -- x is due, and is moved to the row
-    module _ (p : Place) (at : place_in places x ≡ Some p) (due : p.due ≤ now) (next' previous' : List ℕ) (row' : List Entry)
+    module _ {p : Place} (at : place_in places x ≡ Some p) (due : p.due ≤ now) {next' previous' : List ℕ} {row' : List Entry}
         (row_is : row' ≡ row ++ entry_at p x ∷ [])
         (next_is : next' ≡ set (set next (slice_index previous x) (slice_index next x)) x x)
         (previous_is : previous' ≡ set (set previous (slice_index next x) (slice_index previous x)) x x) where
       abbrev e : Entry
       e = entry_at p x
 
-      off : on_table x row ≡ false
-      off = (waits_there places row x q q_is).0
-
       on_row : (j : ℕ) → on_table j row' ≡ (on_table j row || (j == x))
       on_row j = ap (on_table j) row_is ∙ on_push j row e
 
       w_x : waiting places row' x ≡ None
-      w_x = waits_not places row' x (on_row x ∙ ap (λ (z : Bool). z || (x == x)) off ∙ (grind (arith, nat_tests)))
+      w_x = waits_not places row' x (on_row x ∙ ap (λ (z : Bool). z || (x == x)) item_off ∙ (grind (arith, nat_tests)))
 
       w_other : (j : ℕ) → j ≢ x → waiting places row' j ≡ waiting places row j
       w_other j other =
           let no : (j == x) ≡ false = grind (arith, nat_tests) in
           ap (λ (z : Bool). cond z None (place_in places j)) (on_row j ∙ (ap (λ (z : Bool). on_table j row || z) no ∙ or_false (on_table j row)))
-        where
-          or_false : (b : Bool) → (b || false) ≡ b
-          or_false true = refl
-          or_false false = refl
 
       still : (k : ℕ) (o : Place) → waiting places row' k ≡ Some o → (k ≢ x) × (waiting places row k ≡ Some o)
       still k o is = at_or (λ z. waiting places row' z ≡ Some o → (z ≢ x) × (waiting places row z ≡ Some o)) x k
@@ -246,7 +256,7 @@ module _ (places : List (Option Place)) (next previous : List ℕ) (start row : 
             (All-push (SaysPlace places) row e l.gathering.valid at);
         due = subst (All (λ f. f.due ≤ now)) (sym row_is) (All-push (λ f. f.due ≤ now) row e l.gathering.due due);
         single = λ k. let m = ap (times k) row_is ∙ times_push k row e in at_or (λ z. z ≡ k → times k row' ≤ 1) x k
-            (λ s. let n = times_off x row off in let c : times x row ≡ times k row = ap (λ (z : ℕ). times z row) s in one k (k == x) m (omega arith))
+            (λ s. let n = times_off x row item_off in let c : times x row ≡ times k row = ap (λ (z : ℕ). times z row) s in one k (k == x) m (omega arith))
             (λ other s. other_one k (k == x) (grind (arith, nat_tests)) m (l.gathering.single k)) refl;
       }
         where
@@ -258,8 +268,8 @@ module _ (places : List (Option Place)) (next previous : List ℕ) (start row : 
           other_one k true off is few = absurd (cc)
           other_one k false off is few = omega arith
 
-      pub looking_take : Looking places next' previous' start row' head now y
-      looking_take = record {
+      takes : Looking places next' previous' start row' head now y
+      takes = record {
         gathering = moved;
         fewer = λ k o is. l.fewer k o (still k o is).1;
         low = r.next_low x l.low;
@@ -267,3 +277,6 @@ module _ (places : List (Option Place)) (next previous : List ℕ) (start row : 
         done = λ k o is slot below. nothing_between k o (still k o is).0 (still k o is).1 slot
             (λ far. let b = below far in let m = ap number_by (w_other y y_other) in omega arith);
       }
+
+      pub looking_take : (z : ℕ) → z ≡ get_or next x z → Looking places next' previous' start row' head now z
+      looking_take z read = subst (λ (v : ℕ). Looking places next' previous' start row' head now v) (sym (next_read z read)) takes

@@ -27,7 +27,7 @@ first_low places t k apart first =
     in_places places (entries_of places) k (entries_rows places apart)
     (subst (λ (z : ℕ). on_table z (entries_of places) ≡ true) first.item_is (first_on (entries_of places) first.rest first.first first.is))
 
-module _ (places : List (Option Place)) (next previous : List ℕ) (row : List DueItem) (room front count tick : ℕ)
+module _ {places : List (Option Place)} {next previous : List ℕ} {row : List DueItem} {room front count tick : ℕ}
     (t : IsTimetable places next previous row room front count tick) where
   pub first_served : (n : ℕ) (e : DueItem) → n < length row → filter (stands places) (take n row) ≡ [] → e ≡ get_or row n e → stands places e ≡ true
       → IsFirstDue tick e.item (entries_of places)

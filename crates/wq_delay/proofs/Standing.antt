@@ -1,9 +1,9 @@
 -- A timetable after an item was put on it, and after one was taken off.
-use Rattle.wq_delay.proofs.Common.{◌≡◌, ℕ, ◌+◌, ◌%◌, ◌<◌, ◌≤◌, Bool, true, false, cond, not, ◌||◌, ◌≢◌, List, [], ◌∷◌, map, length, take, set, is_some, nat_lt}
-use Rattle.wq_delay.proofs.Common.{nat_le, ◌==◌, slice_index, Some, None, All, filter, Option, sym, refl, ap, ◌∙◌, subst, arith, get_or-set_other}
-use Rattle.wq_delay.proofs.Common.{get_or-set_same, eqb-true, nat_tests, length-set, All-head, All-tail, All-weaker, All-take, Entry, due_part, without}
-use Rattle.wq_delay.proofs.Common.{IsOrdered, on_table, placed, AreArmedBefore, without_off, length_placed, Place, DueItem, place_in, later_than, IsWheel}
-use Rattle.wq_delay.proofs.Common.{entry_at, entry_of, place_at, entries_of, stands, IsTimetable, AreApart, is_place, AreRows}
+use Rattle.wq_delay.proofs.Common.{◌≡◌, ℕ, ◌+◌, ◌%◌, ◌<◌, ◌≤◌, Bool, true, false, cond, not, ◌||◌, ◌≢◌, List, [], ◌∷◌, map, length, get_or, take, set, is_some}
+use Rattle.wq_delay.proofs.Common.{nat_lt, nat_le, ◌==◌, slice_index, Some, None, All, filter, Option, sym, refl, ap, ◌∙◌, subst, arith, get_or-set_other}
+use Rattle.wq_delay.proofs.Common.{get_or-set_same, eqb-true, nat_tests, get_or_read, length-set, All-head, All-tail, All-weaker, All-take, Entry, due_part}
+use Rattle.wq_delay.proofs.Common.{without, IsOrdered, on_table, placed, AreArmedBefore, without_off, length_placed, Place, DueItem, place_in, later_than}
+use Rattle.wq_delay.proofs.Common.{IsWheel, entry_at, entry_of, place_at, entries_of, stands, IsTimetable, AreApart, is_place, AreRows}
 use Rattle.wq_delay.proofs.Rounds.{at_or}
 use Rattle.wq_delay.proofs.Wheel.{wheel_behind, wheel_without}
 use Rattle.wq_delay.proofs.Rows.{below_place, rows_placed, rows_without, known_on}
@@ -62,13 +62,17 @@ due_without t k (f ∷ fs) = by (nat_le f.due t) (k == f.item) refl refl (due_wi
     by false true p q is = is
     by false false p q is = rw p is
 
-module _ (places : List (Option Place)) (next previous : List ℕ) (row : List DueItem) (room front count tick : ℕ)
+module _ {places : List (Option Place)} {next previous : List ℕ} {row : List DueItem} {room front count tick : ℕ}
     (t : IsTimetable places next previous row room front count tick) (k : ℕ) (low : k < length places) where
   abbrev es : List Entry
   es = entries_of places
 
   rows : AreRows places es
   rows = entries_rows places t.apart
+
+  -- whether it is on the table is read off its place
+  pub is_on : (o : Option Place) → o ≡ get_or places k o → is_some o ≡ on_table k es
+  is_on o read = ap is_some (get_or_read places k o low read None) ∙ known_on places es k rows
 
   at_k : (v : Option Place) → place_in (set places k v) k ≡ v
   at_k v = get_or-set_same places k v None low
@@ -134,7 +138,7 @@ module _ (places : List (Option Place)) (next previous : List ℕ) (row : List D
           count_is = let f = t.count_is in let g = ap (length {A = Entry}) put_entries in let h = length_placed e es in omega arith;
         }
 
-  module _ (q : Place) (some : place_in places k ≡ Some q) where
+  module _ {q : Place} (some : place_in places k ≡ Some q) where
     gone : (j : ℕ) (p : Place) → place_in (set places k None) j ≡ Some p → place_in places j ≡ Some p
     gone j p is = at_or (λ z. place_in (set places k None) z ≡ Some p → place_in places z ≡ Some p) k j
         (λ a. let e = sym (at_k None) ∙ a in absurd (cc))

@@ -18,7 +18,7 @@ returns-clause-first c =
     (subst (λ (z : List DueItem). stands c.deref.result.now (get_or z n e) ≡ true) rv
     (f.ensures.there e (let q = ap (length {A = DueItem}) rv in omega (arith, low)))) in
     subst (λ (z : Rows). IsFirstDue z.tick e.item z.entries) c.self.view_is
-    (first_served places i.rings.next.items i.rings.previous.items row _ i.front i.count i.tick c.self.invariant n e low passed c.index.ensures hit)
+    (first_served c.self.invariant n e low passed c.index.ensures hit)
 
 pub returns-clause-low : goal.returns-clause-low
 returns-clause-low c =

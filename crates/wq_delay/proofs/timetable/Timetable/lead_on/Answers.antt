@@ -5,24 +5,17 @@ use Rattle.wq_delay.proofs.timetable.Timetable.lead_on.Goals as goal
 
 pub look_on-looked-requires-clause-gathering : goal.look_on-looked-requires-clause-gathering
 look_on-looked-requires-clause-gathering c =
-    let i = c.self.inside in let given = c.as_slice-places.result.now in
-    gathering_start i.places.items i.rings.next.items i.rings.previous.items i.row.items _ i.front i.count i.tick c.self.invariant
-    c.args.now (subst (λ (z : Rows). z.tick ≤ c.args.now) (sym c.self.view_is) c.requires) given c.as_slice-places.ensures.value
-    c.retain.new.self.items (filter_same _ (stands given) _ (λ x b f k. search rules) _ _ c.retain.ensures.filtered)
+    gathering_start c.self.invariant c.args.now (subst (λ (z : Rows). z.tick ≤ c.args.now) (sym c.self.view_is) c.requires) c.as_slice-places.ensures.value
+    (filter_same _ (stands c.as_slice-places.result.now) _ (λ x b f k. search rules) _ _ c.retain.ensures.filtered)
 
 pub look_on-looked-requires-clause-ahead : goal.look_on-looked-requires-clause-ahead
 look_on-looked-requires-clause-ahead c =
-    let i = c.self.inside in let given = c.as_slice-places.result.now in
-    start_ahead i.places.items i.rings.next.items i.rings.previous.items i.row.items _ i.front i.count i.tick c.self.invariant
-    c.args.now (subst (λ (z : Rows). z.tick ≤ c.args.now) (sym c.self.view_is) c.requires) given c.as_slice-places.ensures.value
-    c.retain.new.self.items (filter_same _ (stands given) _ (λ x b f k. search rules) _ _ c.retain.ensures.filtered)
+    start_ahead c.self.invariant c.args.now (subst (λ (z : Rows). z.tick ≤ c.args.now) (sym c.self.view_is) c.requires) c.as_slice-places.ensures.value
+    (filter_same _ (stands c.as_slice-places.result.now) _ (λ x b f k. search rules) _ _ c.retain.ensures.filtered)
 
 pub invariant_of-self : goal.invariant_of-self
 invariant_of-self c =
-    let i = c.self.inside in let given = c.as_slice-places.result.now in let looked = c.look_on-looked in
-    timetable_end i.places.items i.rings.next.items i.rings.previous.items i.row.items _ i.front i.count i.tick c.self.invariant
-    c.args.now (subst (λ (z : Rows). z.tick ≤ c.args.now) (sym c.self.view_is) c.requires) given c.as_slice-places.ensures.value
-    c.retain.new.self.items (filter_same _ (stands given) _ (λ x b f k. search rules) _ _ c.retain.ensures.filtered)
-    looked.new.rings.next.items looked.new.rings.previous.items looked.new.row.items c.sort_unstable.new.self.items
-    looked.ensures.gathering looked.ensures.done c.sort_unstable.ensures.permutation c.sort_unstable.ensures.sorted
-    _ (omega (arith, looked.ensures.room, c.sort_unstable.ensures.capacity))
+    let looked = c.look_on-looked.ensures in let sort = c.sort_unstable.ensures in
+    timetable_end c.self.invariant c.args.now (subst (λ (z : Rows). z.tick ≤ c.args.now) (sym c.self.view_is) c.requires) c.as_slice-places.ensures.value
+    (filter_same _ (stands c.as_slice-places.result.now) _ (λ x b f k. search rules) _ _ c.retain.ensures.filtered)
+    looked.gathering looked.done sort.permutation sort.sorted (omega (arith, looked.room, sort.capacity))

@@ -15,7 +15,7 @@ find_on-requires-clause-found c =
     let of_row : out ≡ filter (λ e. nat_le e.place.due now && stands places e) (drop i.front row) =
     subst (λ (z : List DueItem). out ≡ filter (λ e. nat_le e.place.due now && stands places e) (drop i.front z)) c.deref-2.ensures.value of_places in
     subst (λ (z : List (Option Place)). AreFound z i.tick now 0 (map entry_of out)) (sym c.deref-3.ensures.value)
-    (found_out places i.rings.next.items i.rings.previous.items row _ i.front i.count i.tick c.self.invariant now out of_row)
+    (found_out c.self.invariant now out of_row)
 
 pub returns : goal.returns
 returns c =

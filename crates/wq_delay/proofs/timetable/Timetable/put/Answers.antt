@@ -17,8 +17,8 @@ invariant_of-self c =
     let off = subst (λ (z : Rows). on_table c.args.item z.entries ≡ false) (sym c.self.view_is) c.requires.off in
     let later = subst (λ (z : Rows). z.tick < c.args.due) (sym c.self.view_is) c.requires.later in
     let head : c.len.result + c.args.due % 256 ≡ length i.places.items + c.args.due % 256 = omega (arith, c.len.ensures, i.places.ok.0) in
-    put_timetable i.places.items i.rings.next.items i.rings.previous.items i.row.items _ i.front i.count i.tick c.self.invariant c.args.item low
-    c.args.due c.args.arming off later armed c.put_behind.new.self.next.items c.put_behind.new.self.previous.items (i.count + 1) refl
+    put_timetable c.self.invariant c.args.item low c.args.due c.args.arming off later armed c.put_behind.new.self.next.items
+    c.put_behind.new.self.previous.items (i.count + 1) refl
     (subst (λ (z : ℕ). c.put_behind.new.self.next.items ≡ set (set i.rings.next.items (slice_index i.rings.previous.items z) c.args.item) c.args.item z)
     head c.put_behind.ensures.next)
     (subst (λ (z : ℕ). c.put_behind.new.self.previous.items ≡ set (set i.rings.previous.items z c.args.item) c.args.item
@@ -27,11 +27,9 @@ invariant_of-self c =
 
 pub returns-clause-put : goal.returns-clause-put
 returns-clause-put c =
-    let i = c.self.inside in
     let armed = subst (λ (z : Rows). AreArmedBefore c.args.arming z.entries) (sym c.self.view_is) c.requires.last in
     let low = subst (λ (z : Rows). c.args.item < z.size) (sym c.self.view_is) c.requires.item in
     let off = subst (λ (z : Rows). on_table c.args.item z.entries ≡ false) (sym c.self.view_is) c.requires.off in
     let later = subst (λ (z : Rows). z.tick < c.args.due) (sym c.self.view_is) c.requires.later in
-    put_entries i.places.items i.rings.next.items i.rings.previous.items i.row.items _ i.front i.count i.tick c.self.invariant c.args.item low
-    c.args.due c.args.arming off later armed
+    put_entries c.self.invariant c.args.item low c.args.due c.args.arming off later armed
     ∙ ap (λ (z : Rows). placed (record { due = c.args.due; arming = c.args.arming; item = c.args.item }) z.entries) c.self.view_is

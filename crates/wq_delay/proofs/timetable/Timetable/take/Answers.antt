@@ -1,32 +1,24 @@
-use Rattle.wq_delay.proofs.Common.{◌≡◌, ◌-◌, ◌<◌, ◌≤◌, List, get_or, set, is_some, Some, None, vec_capacity, Option, sym, ap, ◌∙◌, subst, arith, get_or_read}
-use Rattle.wq_delay.proofs.Common.{without, on_table, without_off, Place, entries_of, IsTimetable, Rows}
+use Rattle.wq_delay.proofs.Common.{◌≡◌, ◌-◌, ◌<◌, ◌≤◌, get_or, set, is_some, Some, None, vec_capacity, sym, ap, ◌∙◌, subst, arith, get_or_read, without}
+use Rattle.wq_delay.proofs.Common.{on_table, without_off, entries_of, IsTimetable, Rows}
 use Rattle.wq_delay.specs.declared.timetable.Timetable.TheInside.{Inside}
-use Rattle.wq_delay.proofs.Rows.{known_on}
-use Rattle.wq_delay.proofs.Spelled.{entries_rows}
-use Rattle.wq_delay.proofs.Standing.{take_entries, take_timetable, take_waiting, take_due, take_counted}
+use Rattle.wq_delay.proofs.Standing.{is_on, take_entries, take_timetable, take_waiting, take_due, take_counted}
 use Rattle.wq_delay.proofs.timetable.Timetable.take.Goals.{then-place-self, else-place-self}
 use Rattle.wq_delay.proofs.timetable.Timetable.take.Goals as goal
 
 pub returns-in_default-clause-answer : goal.returns-in_default-clause-answer
 returns-in_default-clause-answer c =
-    let places : List (Option Place) = c.self.inside.places.items in
     let low = subst (λ (z : Rows). c.args.item < z.size) (sym c.self.view_is) c.requires in
-    let read = get_or_read places _ _ low c.index.ensures None in
     sym (ap is_some c.in_default.is)
-    ∙ (ap is_some read ∙ (known_on places (entries_of places) c.args.item (entries_rows places c.self.invariant.apart)
-    ∙ ap (λ (z : Rows). on_table c.args.item z.entries) c.self.view_is))
+    ∙ (is_on c.self.invariant c.args.item low _ c.index.ensures ∙ ap (λ (z : Rows). on_table c.args.item z.entries) c.self.view_is)
 
 pub returns-in_default-clause-entries : goal.returns-in_default-clause-entries
 returns-in_default-clause-entries c = sym (without_off c.args.item c.args.self.now.entries (sym (returns-in_default-clause-answer c)))
 
 pub overflow_sub-self : goal.overflow_sub-self
 overflow_sub-self c =
-    let i = c.self.inside in let places : List (Option Place) = i.places.items in
-    let low = subst (λ (z : Rows). c.args.item < z.size) (sym c.self.view_is) c.requires in
-    let read = get_or_read places _ _ low c.index.ensures None in
-    let some : get_or places c.args.item None ≡ Some c.in-Some.place = sym read ∙ c.in-Some.is in
-    let counted = take_counted places i.rings.next.items i.rings.previous.items i.row.items _ i.front i.count i.tick c.self.invariant
-    c.args.item low c.in-Some.place some in
+    let i = c.self.inside in let low = subst (λ (z : Rows). c.args.item < z.size) (sym c.self.view_is) c.requires in
+    let some : get_or i.places.items c.args.item None ≡ Some c.in-Some.place = sym (get_or_read i.places.items _ _ low c.index.ensures None) ∙ c.in-Some.is in
+    let counted = take_counted c.self.invariant c.args.item low some in
     elim c.if-place-self.branch [
       | then-place-self w ↦ subst (λ (z : Inside). 1 ≤ z.count) (sym w.self-inside-is) counted
       | else-place-self w ↦ subst (λ (z : Inside). 1 ≤ z.count) (sym w.self-inside-is) counted
@@ -34,46 +26,32 @@ overflow_sub-self c =
 
 pub invariant_of-self : goal.invariant_of-self
 invariant_of-self c =
-    let i = c.self.inside in let places : List (Option Place) = i.places.items in
-    let low = subst (λ (z : Rows). c.args.item < z.size) (sym c.self.view_is) c.requires in
-    let read = get_or_read places _ _ low c.index.ensures None in
-    let some : get_or places c.args.item None ≡ Some c.in-Some.place = sym read ∙ c.in-Some.is in
-    let counted = take_counted places i.rings.next.items i.rings.previous.items i.row.items _ i.front i.count i.tick c.self.invariant
-    c.args.item low c.in-Some.place some in
+    let i = c.self.inside in let low = subst (λ (z : Rows). c.args.item < z.size) (sym c.self.view_is) c.requires in
+    let some : get_or i.places.items c.args.item None ≡ Some c.in-Some.place = sym (get_or_read i.places.items _ _ low c.index.ensures None) ∙ c.in-Some.is in
+    let counted = take_counted c.self.invariant c.args.item low some in
     let after = λ (z : Inside). IsTimetable (set z.places.items c.args.item None) z.rings.next.items z.rings.previous.items z.row.items
     (vec_capacity z.row) z.front (z.count - 1) z.tick in
     elim c.if-place-self.branch [
       | then-place-self w ↦ subst after (sym w.self-inside-is)
-          (take_timetable places i.rings.next.items i.rings.previous.items i.row.items _ i.front i.count i.tick c.self.invariant
-          c.args.item low c.in-Some.place some w.take_out.new.self.next.items w.take_out.new.self.previous.items (i.count - 1) (omega arith)
-          (take_waiting places i.rings.next.items i.rings.previous.items i.row.items _ i.front i.count i.tick c.self.invariant
-          c.args.item low c.in-Some.place some w.take_out.new.self.next.items w.take_out.new.self.previous.items
+          (take_timetable c.self.invariant c.args.item low some w.take_out.new.self.next.items w.take_out.new.self.previous.items (i.count - 1)
+          (omega arith) (take_waiting c.self.invariant c.args.item low some w.take_out.new.self.next.items w.take_out.new.self.previous.items
           w.if-place-self.true w.take_out.ensures.next w.take_out.ensures.previous))
       | else-place-self w ↦ subst after (sym w.self-inside-is)
-          (take_timetable places i.rings.next.items i.rings.previous.items i.row.items _ i.front i.count i.tick c.self.invariant
-          c.args.item low c.in-Some.place some i.rings.next.items i.rings.previous.items (i.count - 1) (omega arith)
-          (take_due places i.rings.next.items i.rings.previous.items i.row.items _ i.front i.count i.tick c.self.invariant
-          c.args.item low c.in-Some.place some w.if-place-self.false))
+          (take_timetable c.self.invariant c.args.item low some i.rings.next.items i.rings.previous.items (i.count - 1) (omega arith)
+          (take_due c.self.invariant c.args.item low some w.if-place-self.false))
     ]
 
 pub returns-clause-answer : goal.returns-clause-answer
 returns-clause-answer c =
-    let places : List (Option Place) = c.self.inside.places.items in
     let low = subst (λ (z : Rows). c.args.item < z.size) (sym c.self.view_is) c.requires in
-    let read = get_or_read places _ _ low c.index.ensures None in
     sym (ap is_some c.in-Some.is)
-    ∙ (ap is_some read ∙ (known_on places (entries_of places) c.args.item (entries_rows places c.self.invariant.apart)
-    ∙ ap (λ (z : Rows). on_table c.args.item z.entries) c.self.view_is))
+    ∙ (is_on c.self.invariant c.args.item low _ c.index.ensures ∙ ap (λ (z : Rows). on_table c.args.item z.entries) c.self.view_is)
 
 pub returns-clause-entries : goal.returns-clause-entries
 returns-clause-entries c =
-    let i = c.self.inside in let places : List (Option Place) = i.places.items in
-    let low = subst (λ (z : Rows). c.args.item < z.size) (sym c.self.view_is) c.requires in
-    let read = get_or_read places _ _ low c.index.ensures None in
-    let some : get_or places c.args.item None ≡ Some c.in-Some.place = sym read ∙ c.in-Some.is in
-    let entries = take_entries places i.rings.next.items i.rings.previous.items i.row.items _ i.front i.count i.tick c.self.invariant
-    c.args.item low c.in-Some.place some
-    ∙ ap (λ (z : Rows). without c.args.item z.entries) c.self.view_is in
+    let i = c.self.inside in let low = subst (λ (z : Rows). c.args.item < z.size) (sym c.self.view_is) c.requires in
+    let some : get_or i.places.items c.args.item None ≡ Some c.in-Some.place = sym (get_or_read i.places.items _ _ low c.index.ensures None) ∙ c.in-Some.is in
+    let entries = take_entries c.self.invariant c.args.item low some ∙ ap (λ (z : Rows). without c.args.item z.entries) c.self.view_is in
     let after = λ (z : Inside). entries_of (set z.places.items c.args.item None) ≡ without c.args.item c.args.self.now.entries in
     elim c.if-place-self.branch [
       | then-place-self w ↦ subst after (sym w.self-inside-is) entries
