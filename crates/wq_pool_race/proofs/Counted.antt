@@ -1,17 +1,6 @@
 -- Counts of histories.
-use Rattle.std.proofs.Common.{◌≡◌, ℕ, ◌+◌, ◌*◌, ◌≤◌, Bool, false, List, [], ◌∷◌, length, ap, ◌∙◌, arith, length-append}
-use Rattle.std.specs.Prelude.{count_by}
-use mathlib.Core.List.{IsPrefix}
-use Rattle.wq_words.specs.declared.layout.Layout.{Layout}
-use Rattle.wq_words.specs.declared.event.Event.{Event}
-use Rattle.wq_words.specs.History.{accepted, begun, ended}
-use Rattle.wq_words.specs.Legal.{IsLegal, IsComplete}
-use Rattle.wq_words.proofs.Appended.{count_by-append}
-use Rattle.wq_words.proofs.Order.{in_order}
-use Rattle.wq_words.proofs.Prefixes.{prefix_whole}
-use Rattle.wq_live.specs.Counts.{capped}
-use Rattle.wq_worker.specs.Follow.{Follows, Queues, passed, pushed, busy, refused, chained, chain_busy}
-use Rattle.wq_worker.proofs.Draining.{begun-complete}
+use Rattle.wq_pool_race.proofs.Common.{◌≡◌, ℕ, ◌+◌, ◌*◌, ◌≤◌, Bool, false, List, [], ◌∷◌, length, ap, ◌∙◌, arith, length-append, count_by, IsPrefix, Event}
+use Rattle.wq_pool_race.proofs.Common.{capped, Follows, Queues, passed, pushed, busy, refused, chained, chain_busy, count_by-append}
 
 -- the queueing of a number adds at most two events
 queues_few : (n s k : ℕ) (es : List Event) → Queues n s false k es → length es ≤ 2
@@ -41,9 +30,3 @@ spare push chain executed sum below worker program known is parts seats le more 
   omega (arith, is, parts, seats, le, more),
   omega (arith, is, parts, seats, le, more),
 )
-
--- where a history has run to its end, what was accepted has ended
-pub all_ended : (layout : Layout) (h : List Event) → IsLegal layout h → IsComplete h → ended h ≡ accepted h
-all_ended layout h legal complete =
-    let ran = begun-complete layout h legal complete in
-    prefix_whole (ended h) (begun h) (in_order layout h legal).ended_first (omega (arith, complete.1, ap (length {A = ℕ}) ran)) ∙ ran

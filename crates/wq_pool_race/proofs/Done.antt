@@ -1,45 +1,22 @@
 -- What came of one queue of a race over a pool.
-use Rattle.std.proofs.Common.{◌≡◌, ℕ, zero, suc, ◌+◌, ◌*◌, ◌^◌, ◌<◌, ◌≤◌, Bool, true, false, ◌==◌, if◌then◌else◌, List, ◌++◌, length, take, get_or, refl, sym, ap, ◌∙◌, subst, arith}
-use Rattle.std.specs.Prelude.{All, MatchBool, MatchResult, count_by, sum_by}
+use Rattle.std.specs.Prelude.{MatchResult, sum_by}
 use Rattle.std.specs.declared.result.Result.{Result}
 use Rattle.std.specs.declared.result.Result.TheVariants.{Ok, Err}
-use Rattle.std.specs.List.{AllByRecursion}
-use Rattle.std.proofs.lemmas.Bool.{eqb-true}
-use Rattle.std.proofs.lemmas.List.{take_all}
-use Rattle.std.proofs.lemmas.List.FromFn.{length-range_with_len}
-use Rattle.std.proofs.lemmas.List.Sums.{fold_more}
-use Rattle.wq_words.specs.declared.layout.Layout.{Layout}
-use Rattle.wq_words.specs.declared.event.Event.{Event}
-use Rattle.wq_words.specs.Counting.{is_queued_by, is_chain}
-use Rattle.wq_words.specs.History.{is_push, accepted, ended}
-use Rattle.wq_words.specs.Legal.{IsLegal, IsComplete}
-use Rattle.wq_words.specs.Seen.{own}
-use Rattle.wq_words.proofs.Seen.{own-append, own_between}
-use Rattle.wq_live.specs.Counts.{capped, sender_counts}
-use Rattle.wq_live.specs.Known.{Known}
+use Rattle.std.proofs.Common.{◌==◌, if◌then◌else◌}
+use Rattle.wq_pool_race.proofs.Common.{◌≡◌, ℕ, zero, suc, ◌+◌, ◌*◌, ◌^◌, ◌<◌, ◌≤◌, Bool, true, false, List, ◌++◌, length, take, get_or, refl, sym, ap, ◌∙◌}
+use Rattle.wq_pool_race.proofs.Common.{subst, arith, All, MatchBool, count_by, AllByRecursion, eqb-true, take_all, length-range_with_len, fold_more, Layout}
+use Rattle.wq_pool_race.proofs.Common.{Event, is_queued_by, is_chain, IsLegal, IsComplete, own, own-append, own_between, capped, sender_counts, Known}
+use Rattle.wq_pool_race.proofs.Common.{Unbalanced, BookState, IsLedgerOf, Follows, items_among, Idle, Outcome, Plan, HasHeard, AllKnown, IsTold, queued_sum}
+use Rattle.wq_pool_race.proofs.Common.{items_at, IsOfStop, all_front, all_ended, WorkerId, IsFinished, IsSent, is_push, accepted, ended, count_by-le-length}
 use Rattle.wq_live.proofs.Final.{final as stays_final}
 use Rattle.wq_ledger.specs.declared.book.Ledger.{Ledger}
 use Rattle.wq_ledger.specs.declared.totals.Totals.{Totals}
-use Rattle.wq_ledger.specs.declared.balance.Unbalanced.{Unbalanced}
 use Rattle.wq_ledger.specs.Balance.{Balances, IsUnbalanced}
-use Rattle.wq_ledger.specs.Book.{BookState, IsLedgerOf}
-use Rattle.wq_worker.specs.Follow.{Follows}
-use Rattle.wq_worker.specs.State.{items_among}
 use Rattle.wq_ledger.proofs.Pushes.{is_queued_below, below_more, below_none, below_all}
-use Rattle.wq_race.specs.declared.idle.Idle.{Idle}
-use Rattle.wq_race.specs.declared.outcome.Outcome.{Outcome}
-use Rattle.wq_race.specs.declared.plan.Plan.{Plan}
-use Rattle.wq_race.specs.Outcome.{HasHeard, AllKnown, IsTold, queued_sum}
-use Rattle.wq_race.specs.Race.{items_at, IsOfStop}
-use Rattle.wq_race.proofs.Balanced.{count_few}
-use Rattle.wq_race.proofs.Ended.{all_front}
 use Rattle.wq_race.proofs.Pushed.{IsShared, items_pushed}
 use Rattle.wq_race.proofs.Whole.{queued_own}
-use Rattle.wq_served.specs.declared.worker_id.WorkerId.{WorkerId}
-use Rattle.wq_served.specs.Finished.{IsFinished}
 use Rattle.wq_pool_race.specs.Outcome.{QueueRun, IsQueueRun, accepted_items, ended_items, IsBalanced, IsFaulty, TellsRun, IsOutcomeOf}
-use Rattle.wq_pool_race.specs.Race.{IsSent}
-use Rattle.wq_pool_race.proofs.Counted.{follows_few, counts_on, spare, all_ended}
+use Rattle.wq_pool_race.proofs.Counted.{follows_few, counts_on, spare}
 
 abbrev of_counts : Known → ℕ
 of_counts x = (sender_counts x.number x.seen).queued
@@ -107,7 +84,7 @@ module _ (plan : Plan) (id : WorkerId) (work : Idle) (before book last : BookSta
         below_more c book.seen,
         pushed_few c (omega (arith, le)),
         queued_own c book.seen,
-        count_few (is_queued_by c) (own c book.seen),
+        count_by-le-length (is_queued_by c) (own c book.seen),
         one,
         length-range_with_len (c * plan.own) plan.own,
         step,
@@ -203,14 +180,7 @@ module _ (plan : Plan) (id : WorkerId) (work : Idle) (before book last : BookSta
       ∙ (ap (λ (l : Layout). items_among l (accepted before.seen)) o.finished.layout_is ∙ ap (items_among id.layout) (sym (ended_all ∙ accepted_same))))
 
   pub is_run : (ledgers : List Ledger) → All (IsLedgerOf last.seen) ledgers → IsQueueRun plan (run ledgers)
-  is_run ledgers made = record {
-    sized = o.sent.sized;
-    legal = legal;
-    complete = o.complete;
-    queued = queued;
-    heard = o.heard.begins;
-    made = made;
-  }
+  is_run ledgers made = record { sized = o.sent.sized; legal = legal; complete = o.complete; queued = queued; heard = o.heard.begins; made = made }
 
   -- the outcome, by what the book answers
   pub tells_run : (ledgers : List Ledger) (balance : Result Totals Unbalanced) (sum stops ran : ℕ) (outcome : Outcome) → sum ≡ queued_sum news

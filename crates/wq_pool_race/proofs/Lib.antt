@@ -1,3 +1,4 @@
+pub mod Common
 pub mod Places
 pub mod Seats
 pub mod Counted

@@ -1,7 +1,6 @@
 -- What holds at the places of lists.
-use Rattle.std.proofs.Common.{◌≡◌, ℕ, ◌+◌, ◌<◌, ◌≤◌, List, [], ◌∷◌, ◌++◌, length, take, get_or, inl, inr, sym, ap, ◌∙◌, subst, arith, length-append}
-use Rattle.std.proofs.lemmas.Bool.{cases_lt}
-use Rattle.std.proofs.lemmas.List.{get_or_append_left, get_or_push, take_more}
+use Rattle.wq_pool_race.proofs.Common.{◌≡◌, ℕ, ◌+◌, ◌<◌, ◌≤◌, List, [], ◌∷◌, ◌++◌, length, take, get_or, inl, inr, sym, ap, ◌∙◌, subst, arith, length-append}
+use Rattle.wq_pool_race.proofs.Common.{cases_lt, get_or_append_left, get_or_push, take_more}
 use Rattle.wq_words.proofs.Growing.{ends_alike}
 
 -- what holds of the elements of two lists at each place holds where one comes behind each

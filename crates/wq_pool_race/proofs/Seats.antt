@@ -1,17 +1,7 @@
 -- Groups of senders, and the seats of one queue more.
-use Rattle.std.proofs.Common.{◌≡◌, ℕ, ◌+◌, ◌<◌, List, [], ◌∷◌, ◌++◌, length, get_or, sym, ap, ◌∙◌, subst, arith, length-append}
-use Rattle.wq_words.proofs.Written.{each_more}
-use Rattle.wq_live.specs.Known.{Known, new_sender}
-use Rattle.wq_live.proofs.Seated.{get_or-new_senders}
-use Rattle.wq_worker.specs.State.{WorkerState}
-use Rattle.wq_race.specs.declared.idle.Idle.{Idle}
-use Rattle.wq_race.specs.declared.plan.Plan.{Plan}
+use Rattle.wq_pool_race.proofs.Common.{◌≡◌, ℕ, ◌+◌, ◌<◌, List, [], ◌∷◌, ◌++◌, length, get_or, sym, ap, ◌∙◌, subst, arith, length-append, each_more, Known}
+use Rattle.wq_pool_race.proofs.Common.{new_sender, get_or-new_senders, WorkerState, Idle, Plan, IsLayoutOf, IsNewTeam, Group, Teams, AreDealt, AreTeams}
 use Rattle.wq_race.specs.declared.team.Team.{Team}
-use Rattle.wq_race.specs.Plan.{IsLayoutOf}
-use Rattle.wq_race.specs.Team.{IsNewTeam}
-use Rattle.wq_pool_race.specs.declared.teams.Group.{Group}
-use Rattle.wq_pool_race.specs.declared.teams.Teams.{Teams}
-use Rattle.wq_pool_race.specs.Teams.{AreDealt, AreTeams}
 use Rattle.wq_pool_race.proofs.Places.{both_more}
 
 -- the first m of the groups were turned

@@ -1,24 +1,10 @@
 -- From new seats to what came of them.
-use Rattle.std.proofs.Common.{◌≡◌, ℕ, ◌+◌, ◌*◌, ◌^◌, ◌<◌, ◌≤◌, List, [], ◌∷◌, length, map, get_or, sym, ap, ◌∙◌, subst, arith}
-use Rattle.std.specs.List.{AllByRecursion}
-use Rattle.std.proofs.lemmas.List.{get_or-map, length-map}
-use Rattle.wq_words.specs.declared.event.Event.{Event}
-use Rattle.wq_words.specs.declared.layout.Layout.{Layout}
-use Rattle.wq_words.specs.Seen.{own}
-use Rattle.wq_live.specs.Known.{Known, new_sender}
-use Rattle.wq_worker.specs.State.{WorkerState}
-use Rattle.wq_race.specs.declared.idle.Idle.{Idle}
-use Rattle.wq_race.specs.declared.plan.Plan.{Plan}
-use Rattle.wq_race.specs.Race.{HasStopped, IsOfStop, IsQueuer}
-use Rattle.wq_race.proofs.Running.{own_room, own-first, queuer}
-use Rattle.wq_served.specs.declared.worker_id.WorkerId.{WorkerId}
+use Rattle.wq_pool_race.proofs.Common.{◌≡◌, ℕ, ◌+◌, ◌*◌, ◌^◌, ◌<◌, ◌≤◌, List, [], ◌∷◌, length, map, get_or, sym, ap, ◌∙◌, subst, arith, AllByRecursion}
+use Rattle.wq_pool_race.proofs.Common.{get_or-map, length-map, Event, Layout, own, Known, new_sender, WorkerState, Idle, Plan, HasStopped, IsOfStop, IsQueuer}
+use Rattle.wq_pool_race.proofs.Common.{own_room, own-first, queuer, WorkerId, worker_id, Group, Teams, AreCallersOf, MayRun, AllGroupsQueued, AllStopped}
+use Rattle.wq_pool_race.proofs.Common.{IsSent, AllSent, AreTurned, AreTeams}
 use Rattle.wq_pool.specs.Known.{PoolState}
-use Rattle.wq_served.specs.WorkerId.{worker_id}
 use Rattle.wq_pool_race.specs.declared.race.Callers.{Callers}
-use Rattle.wq_pool_race.specs.declared.teams.Group.{Group}
-use Rattle.wq_pool_race.specs.declared.teams.Teams.{Teams}
-use Rattle.wq_pool_race.specs.Race.{AreCallersOf, MayRun, AllGroupsQueued, AllStopped, IsSent, AllSent}
-use Rattle.wq_pool_race.specs.Teams.{AreTurned, AreTeams}
 
 first_of : {A : Type 0} (xs : List A) → 0 < length xs → A
 first_of [] some = absurd (omega (arith, some))

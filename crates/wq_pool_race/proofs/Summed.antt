@@ -1,33 +1,9 @@
 -- The outcomes of all queues, added up.
-use Rattle.std.proofs.Common.{◌≡◌, ℕ, zero, suc, ◌+◌, ◌-◌, ◌*◌, ◌^◌, ◌<◌, ◌≤◌, Bool, true, false, ◌&&◌, List, [], ◌∷◌, ◌++◌, length, take, get_or, inl, inr, refl, sym, ap, ◌∙◌, subst, arith}
-use Rattle.std.specs.Prelude.{MatchBool, sum_by}
-use Rattle.std.specs.List.{AllByRecursion}
-use Rattle.std.proofs.lemmas.List.Sums.{sum_by-cons}
-use Rattle.wq_live.specs.Counts.{capped}
-use Rattle.wq_live.specs.Known.{Known}
-use Rattle.wq_ledger.specs.Book.{BookState}
-use Rattle.wq_worker.specs.State.{items_among}
-use Rattle.wq_race.specs.declared.idle.Idle.{Idle}
-use Rattle.wq_race.specs.declared.outcome.Outcome.{Outcome}
-use Rattle.wq_race.specs.declared.plan.Plan.{Plan}
-use Rattle.wq_served.specs.declared.worker_id.WorkerId.{WorkerId}
-use Rattle.wq_served.specs.Finished.{IsFinished}
-use Rattle.wq_pool.specs.Finished.{AreFinished}
-use Rattle.wq_pool_race.specs.declared.teams.Group.{Group}
-use Rattle.wq_pool_race.specs.Race.{IsSent, AllSent}
-use Rattle.wq_pool_race.specs.Outcome.{
-  QueueRun,
-  IsQueueRun,
-  accepted_items,
-  ended_items,
-  IsBalanced,
-  IsFaulty,
-  IsSomeFaulty,
-  TellsRun,
-  TellsRuns,
-  AreBoth,
-}
-use Rattle.wq_pool_race.proofs.Counted.{all_ended}
+use Rattle.std.proofs.lemmas.List.Sums.{sum_by-cons, sum_by-le}
+use Rattle.wq_pool_race.proofs.Common.{◌≡◌, ℕ, zero, suc, ◌+◌, ◌-◌, ◌*◌, ◌^◌, ◌<◌, ◌≤◌, Bool, true, false, ◌&&◌, List, [], ◌∷◌, ◌++◌, length, take, get_or, inl}
+use Rattle.wq_pool_race.proofs.Common.{inr, refl, sym, ap, ◌∙◌, subst, arith, MatchBool, AllByRecursion, capped, Known, BookState, items_among, Idle, Outcome}
+use Rattle.wq_pool_race.proofs.Common.{Plan, WorkerId, IsFinished, AreFinished, Group, IsSent, AllSent, all_ended}
+use Rattle.wq_pool_race.specs.Outcome.{QueueRun, IsQueueRun, accepted_items, ended_items, IsBalanced, IsFaulty, IsSomeFaulty, TellsRun, TellsRuns, AreBoth}
 use Rattle.wq_pool_race.proofs.Places.{popped}
 
 pub finished_count : (log : Idle → List ℕ) (ids : List WorkerId) (xs : List (Idle × BookState)) → AreFinished log ids xs → length xs ≡ length ids
@@ -77,17 +53,6 @@ is_last plan ids finished groups programs f s i k m next within old_fs fs x fx f
 run_same : (plan : Plan) (run : QueueRun) → IsQueueRun plan run → accepted_items run ≡ ended_items run
 run_same plan run is = ap (λ (ks : List ℕ). capped (length (items_among run.layout ks))) (sym (all_ended run.layout run.history is.legal is.complete))
 
--- numbers of which none is large
-pub sum_few : (f : QueueRun → ℕ) (c : ℕ) → ((r : QueueRun) → f r ≤ c) → (runs : List QueueRun) → sum_by f runs ≤ length runs * c
-sum_few f c few [] = omega arith
-sum_few f c few (r ∷ rs) = let step : suc (length rs) * c ≡ length rs * c + c = omega arith in omega (
-  arith,
-  sum_by-cons f r rs,
-  few r,
-  sum_few f c few rs,
-  step,
-)
-
 pub tells_none : (plan : Plan) (outcome : Outcome) → outcome.accepted ≡ 0 → outcome.ran ≡ 0 → outcome.is_balanced ≡ true → TellsRuns plan [] outcome
 tells_none plan outcome accepted ran balanced = record {
   each = tt;
@@ -119,6 +84,6 @@ tells_more plan run runs one other sum is o t b = record {
 pub few_told : (plan : Plan) (runs : List QueueRun) (outcome : Outcome) → length runs ≤ 8 → TellsRuns plan runs outcome
     → (outcome.accepted ≤ 8 * (2 ^ 64 - 1)) × (outcome.ran ≤ 8 * (2 ^ 64 - 1))
 few_told plan runs outcome few t = (
-  omega (arith, few, t.accepted_is, sum_few accepted_items (2 ^ 64 - 1) (λ r. omega arith) runs),
-  omega (arith, few, t.ran_is, sum_few ended_items (2 ^ 64 - 1) (λ r. omega arith) runs),
+  omega (arith, few, t.accepted_is, sum_by-le accepted_items (2 ^ 64 - 1) runs (λ i d lt. omega arith)),
+  omega (arith, few, t.ran_is, sum_by-le ended_items (2 ^ 64 - 1) runs (λ i d lt. omega arith)),
 )

@@ -1,35 +1,11 @@
 -- The ledgers of a race balance.
-use Rattle.std.proofs.Common.{◌≡◌, ◌≢◌, ℕ, suc, ◌+◌, ◌-◌, ◌^◌, ◌<◌, ◌≤◌, ◌⊎◌, Bool, true, false, cond, ◌==◌, List, [], ◌∷◌, ◌++◌, length, map, get_or, inl, inr, refl, sym, ap, ◌∙◌, subst, arith, eq-eqb}
-use Rattle.std.specs.Prelude.{count_by}
-use Rattle.std.proofs.lemmas.Bool.{eqb-true, cases_lt}
-use Rattle.std.proofs.lemmas.List.{append-nil}
-use Rattle.std.proofs.lemmas.List.Elements.{filter-append}
-use Rattle.std.proofs.lemmas.List.Sums.{sum_by-cons}
-use Rattle.wq_words.specs.declared.event.Event.{Event}
-use Rattle.wq_words.specs.Seen.{own}
-use Rattle.wq_words.proofs.Seen.{count_own, own-append}
-use Rattle.wq_live.specs.Known.{Known}
-use Rattle.wq_words.specs.Counting.{is_queued_by, is_pending_by, is_closed_by, is_contended_by}
-use Rattle.wq_live.specs.Counts.{capped, sender_counts, owner_counts}
-use Rattle.wq_ledger.specs.declared.balance.Unbalanced.{Unbalanced}
+use Rattle.wq_race.proofs.Common.{◌≡◌, ◌≢◌, ℕ, suc, ◌+◌, ◌-◌, ◌^◌, ◌<◌, ◌≤◌, ◌⊎◌, Bool, true, false, cond, ◌==◌, List, [], ◌∷◌, ◌++◌, length, map, get_or, inl}
+use Rattle.wq_race.proofs.Common.{inr, refl, sym, ap, ◌∙◌, subst, arith, eq-eqb, count_by, eqb-true, cases_lt, append-nil, filter-append, Event, own, count_own}
+use Rattle.wq_race.proofs.Common.{own-append, Known, is_queued_by, is_pending_by, is_closed_by, is_contended_by, capped, sender_counts, owner_counts}
+use Rattle.wq_race.proofs.Common.{Unbalanced, LedgerState, BookState, IsLedgerOf, largest, AreWhole, AreOwnerWhole, ledgers_of, HasOne, IsFault, IsUnbalanced}
+use Rattle.wq_race.proofs.Common.{of_sender, of_worker, ledger_of, pending_own, closed_own, contended_own, count_by-le-length}
 use Rattle.wq_ledger.specs.declared.balance.Unbalanced.TheVariants.{Missing, Twice, Saturated}
-use Rattle.wq_ledger.specs.Book.{LedgerState, BookState, IsLedgerOf}
-use Rattle.wq_ledger.specs.Balance.{largest, AreWhole, AreOwnerWhole, ledgers_of, HasOne, IsFault, IsUnbalanced, of_sender, of_worker}
-use Rattle.wq_race.specs.Outcome.{ledger_of}
 use Rattle.wq_race.proofs.Whole.{queued_own}
-use Rattle.wq_words.proofs.Counting.{pending_own}
-use Rattle.wq_words.proofs.Counting.{closed_own}
-use Rattle.wq_words.proofs.Counting.{contended_own}
-
-pub count_few : (p : Event → Bool) (h : List Event) → count_by p h ≤ length h
-count_few p [] = omega arith
-count_few p (e ∷ es) = at (p e) refl (count_few p es)
-  where
-    at : (b : Bool) → p e ≡ b → count_by p es ≤ length es → count_by p (e ∷ es) ≤ length (e ∷ es)
-    at true is few = let one : cond {A = ℕ} (p e) 1 0 ≡ 1 = ap (λ (b : Bool). cond {A = ℕ} b 1 0) is in
-        omega (arith, few, one, sum_by-cons (λ x. cond (p x) 1 0) e es)
-    at false is few = let none : cond {A = ℕ} (p e) 1 0 ≡ 0 = ap (λ (b : Bool). cond {A = ℕ} b 1 0) is in
-        omega (arith, few, none, sum_by-cons (λ x. cond (p x) 1 0) e es)
 
 whole_one : (n m : ℕ) → n ≤ m → m < 2 ^ 64 - 1 → capped n ≢ largest
 whole_one n m le few is = omega (arith, le, few, is)
@@ -37,15 +13,11 @@ whole_one n m le few is = omega (arith, le, few, is)
 -- few events of a seat saturate no count
 pub whole_counts : (s : ℕ) (h : List Event) → length (own s h) < 2 ^ 64 - 1 → AreWhole (sender_counts s h)
 whole_counts s h few =
-    let n = length (own s h) in (
-      whole_one (count_by (is_queued_by s) h) n (omega (arith, queued_own s h, count_few (is_queued_by s) (own s h))) few,
-      whole_one (count_by (is_pending_by s) h) n (omega (arith, count_own (is_pending_by s) s (pending_own s) h, count_few (is_pending_by s) (own s h))) few,
-      whole_one (count_by (is_closed_by s) h) n (omega (arith, count_own (is_closed_by s) s (closed_own s) h, count_few (is_closed_by s) (own s h))) few,
-      whole_one (count_by (is_contended_by s) h) n (omega (
-        arith,
-        count_own (is_contended_by s) s (contended_own s) h,
-        count_few (is_contended_by s) (own s h),
-      )) few,
+    let n = length (own s h) in let most = λ (p : Event → Bool). count_by-le-length p (own s h) in (
+      whole_one (count_by (is_queued_by s) h) n (omega (arith, queued_own s h, most (is_queued_by s))) few,
+      whole_one (count_by (is_pending_by s) h) n (omega (arith, count_own (is_pending_by s) s (pending_own s) h, most (is_pending_by s))) few,
+      whole_one (count_by (is_closed_by s) h) n (omega (arith, count_own (is_closed_by s) s (closed_own s) h, most (is_closed_by s))) few,
+      whole_one (count_by (is_contended_by s) h) n (omega (arith, count_own (is_contended_by s) s (contended_own s) h, most (is_contended_by s))) few,
     )
 
 -- senders numbered from b on

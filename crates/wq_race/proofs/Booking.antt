@@ -1,16 +1,7 @@
 -- A book that meets senders.
-use Rattle.std.proofs.Common.{◌≡◌, ℕ, suc, ◌+◌, ◌*◌, List, [], ◌∷◌, length, refl, sym, ap, ◌∙◌, arith}
-use Rattle.std.specs.Prelude.{All, sum_by}
-use Rattle.std.proofs.lemmas.List.Sums.{sum_by-cons}
-use Rattle.std.proofs.lemmas.List.{append-nil}
-use Rattle.wq_words.specs.Seen.{owner_seat, Grows}
-use Rattle.wq_live.specs.Known.{Known, Sees}
-use Rattle.wq_live.specs.Counts.{sender_counts}
+use Rattle.wq_race.proofs.Common.{◌≡◌, ℕ, suc, ◌+◌, ◌*◌, List, [], ◌∷◌, length, refl, sym, ap, ◌∙◌, arith, All, sum_by, sum_by-cons, append-nil, owner_seat}
+use Rattle.wq_race.proofs.Common.{Grows, Known, Sees, sender_counts, LedgerState, BookState, HasHeard, ledger_of, grows_same, prefix_on}
 use Rattle.wq_live.proofs.Counting.{counts_none}
-use Rattle.wq_ledger.specs.Book.{LedgerState, BookState}
-use Rattle.wq_race.specs.Outcome.{HasHeard, ledger_of}
-use Rattle.wq_words.proofs.Seen.{grows_same}
-use Rattle.wq_words.proofs.Prefixes.{prefix_on}
 
 pub heard_still : (b : BookState) → HasHeard b b
 heard_still b = record { queue_is = refl; layout_is = refl; own_is = refl; begins = ([], append-nil b.seen); idle = refl }

@@ -1,74 +1,26 @@
 -- The history of a race that has run to its end.
-use Rattle.std.proofs.Common.{
-  ◌≡◌,
-  ◌≢◌,
-  ℕ,
-  ◌+◌,
-  ◌-◌,
-  map,
-  ◌^◌,
-  inl,
-  inr,
-  length-append,
-  ◌*◌,
-  ◌<◌,
-  ◌≤◌,
-  Bool,
-  true,
-  false,
-  List,
-  [],
-  ◌∷◌,
-  ◌++◌,
-  length,
-  get_or,
-  min,
-  refl,
-  sym,
-  ap,
-  ◌∙◌,
-  subst,
-  arith,
-}
-use Rattle.std.specs.Prelude.{All, MatchBool, count_by}
-use Rattle.std.specs.List.{AllByRecursion}
-use Rattle.std.proofs.lemmas.Bool.{cases_lt}
-use Rattle.std.proofs.lemmas.List.FromFn.{length-range_with_len}
-use mathlib.Core.List.{IsPrefix}
-use Rattle.wq_words.specs.declared.layout.Layout.{Layout}
-use Rattle.wq_words.specs.declared.event.Event.{Event}
-use Rattle.wq_words.specs.declared.event.Event.TheVariants.{Back}
+use Rattle.wq_race.proofs.Common.{◌≡◌, ◌≢◌, ℕ, ◌+◌, ◌-◌, map, ◌^◌, inl, inr, length-append, ◌*◌, ◌<◌, ◌≤◌, Bool, true, false, List, [], ◌∷◌, ◌++◌, length}
+use Rattle.wq_race.proofs.Common.{get_or, min, refl, sym, ap, ◌∙◌, subst, arith, All, MatchBool, count_by, AllByRecursion, cases_lt, length-range_with_len}
+use Rattle.wq_race.proofs.Common.{IsPrefix, Layout, Event, Back, is_close, is_push, accepted, begun, ended, IsLegal, prefix_whole, own, own-append}
+use Rattle.wq_race.proofs.Common.{closed_count, ended_same, Known, is_queued_by, is_chain, is_chain_busy, sender_counts, owner_counts, LedgerState, BookState}
+use Rattle.wq_race.proofs.Common.{Unbalanced, AreWhole, AreOwnerWhole, ledgers_of, HasOne, IsUnbalanced, is_queued_below, below_more, below_all, WorkerState}
+use Rattle.wq_race.proofs.Common.{items_among, Follows, count_by-append, accepted-count, Idle, Plan, Team, items_at, IsOfStop, HasRaced, queueings, Tells}
+use Rattle.wq_race.proofs.Common.{IsWhole, IsTold, HasMet, AllKnown, HasEnded, HasHeard, ledger_of, own_between, prefix_on, count_by-le-length, IsComplete}
 use Rattle.wq_words.specs.declared.event.Why.TheVariants as why
-use Rattle.wq_words.specs.History.{is_close, is_push, accepted, begun, ended}
-use Rattle.wq_words.specs.Legal.{IsLegal}
 use Rattle.wq_words.proofs.Order.{in_order}
-use Rattle.wq_words.proofs.Prefixes.{prefix_whole}
-use Rattle.wq_words.specs.Seen.{own}
-use Rattle.wq_words.proofs.Seen.{own-append, closed_count, ended_same}
-use Rattle.wq_live.specs.Known.{Known}
-use Rattle.wq_words.specs.Counting.{is_queued_by, is_chain, is_chain_busy}
-use Rattle.wq_live.specs.Counts.{sender_counts, owner_counts}
-use Rattle.wq_ledger.specs.Book.{LedgerState, BookState}
-use Rattle.wq_ledger.specs.declared.balance.Unbalanced.{Unbalanced}
-use Rattle.wq_ledger.specs.Balance.{AreWhole, AreOwnerWhole, ledgers_of, HasOne, IsUnbalanced}
-use Rattle.wq_ledger.proofs.Pushes.{is_queued_below, below_more, below_all}
-use Rattle.wq_worker.specs.State.{WorkerState, items_among}
-use Rattle.wq_worker.specs.Follow.{Follows}
-use Rattle.wq_words.proofs.Appended.{count_by-append, accepted-count}
 use Rattle.wq_worker.proofs.Draining.{begun-complete}
-use Rattle.wq_race.specs.declared.idle.Idle.{Idle}
-use Rattle.wq_race.specs.declared.plan.Plan.{Plan}
-use Rattle.wq_race.specs.declared.team.Team.{Team}
 use Rattle.wq_race.specs.declared.outcome.Outcome.{Outcome}
-use Rattle.wq_race.specs.Race.{items_at, IsOfStop, HasRun}
-use Rattle.wq_race.specs.Outcome.{queueings, Tells, IsWhole, IsTold, HasMet, AllKnown, HasEnded, HasHeard, ledger_of}
-use Rattle.wq_words.proofs.Seen.{own_between}
-use Rattle.wq_words.proofs.Prefixes.{prefix_on}
 use Rattle.wq_race.proofs.Running.{own_room}
 use Rattle.wq_race.proofs.Serving.{chains_same, asks_same}
 use Rattle.wq_race.proofs.Events.{Has, own_has, was_allowed}
 use Rattle.wq_race.proofs.Whole.{IsRace, was_queued, all_accepted, below_counted, queued_own, pushes, length-queueings}
-use Rattle.wq_race.proofs.Balanced.{AreNumbered, whole_counts, count_few, one_ledger, last_ledger, none_made, always_balanced}
+use Rattle.wq_race.proofs.Balanced.{AreNumbered, whole_counts, one_ledger, last_ledger, none_made, always_balanced}
+
+-- where a history has run to its end, what was accepted has ended
+pub all_ended : (layout : Layout) (h : List Event) → IsLegal layout h → IsComplete h → ended h ≡ accepted h
+all_ended layout h legal complete =
+    let ran = begun-complete layout h legal complete in
+    prefix_whole (ended h) (begun h) (in_order layout h legal).ended_first (omega (arith, complete.1, ap (length {A = ℕ}) ran)) ∙ ran
 
 pub all_front : (P : Event → Type 0) (xs ys : List Event) → AllByRecursion P (xs ++ ys) → AllByRecursion P xs
 all_front P [] ys all = tt
@@ -95,7 +47,7 @@ surely false P Q m not = absurd (not m)
 
 -- what a race leaves, once its queue is destroyed and its book has met the senders
 pub record IsOver (plan : Plan) (team : Team) (w : WorkerState Idle) (senders : List Known) (work : Idle) (book : BookState) : Type 0 where
-  pub run : HasRun plan team
+  pub run : HasRaced plan team
   pub met : HasMet team.worker w
   pub known : AllKnown w.seen team.senders.items senders
   pub ended : HasEnded w work book
@@ -105,7 +57,7 @@ pub record IsOver (plan : Plan) (team : Team) (w : WorkerState Idle) (senders : 
 module _ (plan : Plan) (team : Team) (w : WorkerState Idle) (senders : List Known) (work : Idle) (book : BookState)
     (o : IsOver plan team w senders work book) where
   size : book.layout ≡ team.worker.layout
-  size = o.ended.layout_is ∙ o.met.layout_is
+  size = o.ended.layout_is ∙ o.met.same.layout_is
 
   legal : IsLegal team.worker.layout book.seen
   legal = subst (λ (l : Layout). IsLegal l book.seen) size o.ended.legal
@@ -124,7 +76,7 @@ module _ (plan : Plan) (team : Team) (w : WorkerState Idle) (senders : List Know
       let t = o.told s d (omega (arith, lt, o.run.count, o.known.count)) in
       let later : own s t.0 ≡ own s now.seen = subst (λ (c : ℕ). own c t.0 ≡ own c now.seen) number t.2 in
       let heard : own s book.seen ≡ own s now.seen = own_between s now.seen book.seen t.0
-      (prefix_on now.seen w.seen book.seen k.known o.ended.begins) t.1 later in
+      (prefix_on now.seen w.seen book.seen k.known o.ended.quiet.begins) t.1 later in
       let before : own s now.seen ≡ own s (get_or team.senders.items s d).seen = subst
       (λ (c : ℕ). own c now.seen ≡ own c (get_or team.senders.items s d).seen) first.number_is k.mine in
       record {
@@ -140,22 +92,25 @@ module _ (plan : Plan) (team : Team) (w : WorkerState Idle) (senders : List Know
 
   is_race : IsRace plan.senders plan.own team.worker.layout book.seen
   is_race =
-      let number : w.number ≡ plan.senders = o.met.number_is ∙ o.run.number_is in
-      let sent : own plan.senders book.seen ≡ own plan.senders w.seen = subst (λ (c : ℕ). own c book.seen ≡ own c w.seen) number o.ended.unsent in
+      let number : w.number ≡ plan.senders = o.met.same.number_is ∙ o.run.number_is in
+      let sent : own plan.senders book.seen ≡ own plan.senders w.seen = subst (λ (c : ℕ). own c book.seen ≡ own c w.seen) number o.ended.quiet.unsent in
       let before : own plan.senders w.seen ≡ own plan.senders team.worker.seen = subst
       (λ (c : ℕ). own c w.seen ≡ own c team.worker.seen) o.run.number_is o.met.unsent in
       let p = o.program in
+      let none : own plan.senders book.seen ≡ [] = sent ∙ (before ∙ o.run.unsent) in
       record {
-        sized = o.run.layout;
-        few = omega (arith, plan.in_limits.few_senders);
-        legal = legal;
-        queued = λ s lt. (sender_at s nobody lt).queued;
+        shared = record {
+          sized = o.run.layout;
+          legal = legal;
+          queued = λ s lt. (sender_at s nobody lt).queued;
+          unpushed = queued_own plan.senders book.seen ∙ ap (count_by (is_queued_by plan.senders)) none;
+          unchained = o.ended.quiet.unchained ∙ (chains_same team.worker.seen w.seen o.met.idle ∙ o.run.unchained);
+          stops = all_front (IsOfStop team.worker.layout) (own (plan.senders + 1) book.seen) (own (plan.senders + 1) p.1.0)
+              (subst (AllByRecursion (IsOfStop team.worker.layout)) (sym (sym (own-append (plan.senders + 1) book.seen p.1.0)
+              ∙ (ap (own (plan.senders + 1)) p.1.1 ∙ p.2))) o.run.stops);
+        };
         opens = λ s k lt. (sender_at s nobody lt).opens k;
-        unsent = sent ∙ (before ∙ o.run.unsent);
-        unchained = o.ended.unchained ∙ (chains_same team.worker.seen w.seen o.met.idle ∙ o.run.unchained);
-        stops = all_front (IsOfStop team.worker.layout) (own (plan.senders + 1) book.seen) (own (plan.senders + 1) p.1.0)
-            (subst (AllByRecursion (IsOfStop team.worker.layout)) (sym (sym (own-append (plan.senders + 1) book.seen p.1.0)
-            ∙ (ap (own (plan.senders + 1)) p.1.1 ∙ p.2))) o.run.stops);
+        unsent = none;
       }
 
   few_items : plan.senders * plan.own ≤ 4096
@@ -185,25 +140,17 @@ module _ (plan : Plan) (team : Team) (w : WorkerState Idle) (senders : List Know
   pub ran_all : min (length work.ran.items) 18446744073709551615 ≡ plan.senders * plan.own
   ran_all = omega (arith, ap (length {A = ℕ}) (o.ended.ran_is ∙ ap (λ (l : Layout). items_among l (accepted book.seen)) size), accepted_all, few_items)
 
-  ended_all : ended book.seen ≡ accepted book.seen
-  ended_all =
-      let ran = begun-complete team.worker.layout book.seen legal o.ended.complete in
-      prefix_whole (ended book.seen) (begun book.seen) (in_order team.worker.layout book.seen legal).ended_first (omega (
-        arith,
-        o.ended.complete.1,
-        ap (length {A = ℕ}) ran,
-      )) ∙ ran
-
   pub tells : (outcome : Outcome) → IsWhole plan outcome → Tells plan team.worker outcome
   tells outcome whole = record {
     history = book.seen;
-    begins = prefix_on team.worker.seen w.seen book.seen o.met.begins o.ended.begins;
+    begins = prefix_on team.worker.seen w.seen book.seen o.met.begins o.ended.quiet.begins;
     legal = legal;
     complete = o.ended.complete;
     queued = was_queued plan.senders plan.own team.worker.layout book.seen is_race;
-    served = (team.worker.seen, prefix_on team.worker.seen w.seen book.seen o.met.begins o.ended.begins, o.run.open_still, o.run.stopped);
+    served = (team.worker.seen, prefix_on team.worker.seen w.seen book.seen o.met.begins o.ended.quiet.begins, o.run.open_still, o.run.stopped);
     accepted_is = whole.accepted_is ∙ sym accepted_all;
-    ran_is = whole.ran_is ∙ (sym accepted_all ∙ ap (λ (ks : List ℕ). length (items_among team.worker.layout ks)) (sym ended_all));
+    ran_is = whole.ran_is ∙ (sym accepted_all
+        ∙ ap (λ (ks : List ℕ). length (items_among team.worker.layout ks)) (sym (all_ended team.worker.layout book.seen legal o.ended.complete)));
   }
 
   few_own_events : (s : ℕ) (d : Known) → s < plan.senders → length (own (get_or senders s d).number (get_or senders s d).seen) < 2 ^ 64 - 1
@@ -232,19 +179,18 @@ module _ (plan : Plan) (team : Team) (w : WorkerState Idle) (senders : List Know
       let size_is : l.senders ≡ n + 1 + 1 = omega (arith, o.run.layout.senders_is) in
       let pushes_is : count_by (is_queued_below (n + 1 + 1)) h ≡ count_by is_push h = subst
       (λ (k : ℕ). count_by (is_queued_below k) h ≡ count_by is_push h) size_is (below_all l h legal) in
-      let workers : count_by (is_queued_by n) h ≡ 0 = queued_own n h ∙ ap (count_by (is_queued_by n)) is_race.unsent in
       omega (
         arith,
         o.ended.complete.1,
         accepted-count h,
-        is_race.unchained,
+        is_race.shared.unchained,
         pushes_is,
         below_more (n + 1) h,
         below_more n h,
         below_counted n plan.own l h is_race n (omega arith),
-        workers,
+        is_race.shared.unpushed,
         queued_own (n + 1) h,
-        count_few (is_queued_by (n + 1)) (own (n + 1) h),
+        count_by-le-length (is_queued_by (n + 1)) (own (n + 1) h),
         few_stops,
         few_items,
       )
@@ -254,7 +200,7 @@ module _ (plan : Plan) (team : Team) (w : WorkerState Idle) (senders : List Know
       → ledgers ≡ map ledger_of senders ++ ledger_of team.program ∷ [] → (fault : Unbalanced) → ¬ IsUnbalanced final ledgers fault
   never_unbalanced final ledgers heard all fault =
       let n = plan.senders in
-      let number : book.own.number ≡ n = o.ended.number_is ∙ (o.met.number_is ∙ o.run.number_is) in
+      let number : book.own.number ≡ n = o.ended.number_is ∙ (o.met.same.number_is ∙ o.run.number_is) in
       let few : final.layout.senders ≡ n + 2 = ap (λ (l : Layout). l.senders) (heard.layout_is ∙ size) ∙ o.run.layout.senders_is in
       let numbered : AreNumbered 0 senders = λ i d lt. let at : (get_or senders i d).number ≡ i = (sender_at i d (omega (
         arith,
@@ -286,9 +232,9 @@ module _ (plan : Plan) (team : Team) (w : WorkerState Idle) (senders : List Know
           λ (i : s ≡ n). not (i ∙ (sym number ∙ sym (ap (λ (l : LedgerState). l.number) heard.own_is))),
         ) in subst (HasOne ledgers) is last
       ] in
-      let chains : count_by is_chain final.seen ≡ 0 = chains_same book.seen final.seen heard.idle ∙ is_race.unchained in
+      let chains : count_by is_chain final.seen ≡ 0 = chains_same book.seen final.seen heard.idle ∙ is_race.shared.unchained in
       let asks : count_by is_chain_busy final.seen ≡ 0 = asks_same book.seen final.seen heard.idle
-      ∙ (o.ended.unasked ∙ (asks_same team.worker.seen w.seen o.met.idle ∙ o.run.unasked)) in
+      ∙ (o.ended.quiet.unasked ∙ (asks_same team.worker.seen w.seen o.met.idle ∙ o.run.unasked)) in
       let ends : length (ended final.seen) ≡ length (ended book.seen) = ap (length {A = ℕ}) (ended_same book.seen final.seen heard.idle) in
       let owners : AreOwnerWhole (owner_counts final.seen) = (
         (λ is. omega (arith, is, chains)),

@@ -1,48 +1,10 @@
 -- Events of a history, and whose they are.
-use Rattle.std.proofs.Common.{
-  ◌≡◌,
-  ℕ,
-  zero,
-  suc,
-  ◌+◌,
-  ◌*◌,
-  ◌<◌,
-  ◌≤◌,
-  ◌⊎◌,
-  Bool,
-  true,
-  false,
-  cond,
-  ◌==◌,
-  List,
-  [],
-  ◌∷◌,
-  ◌++◌,
-  inl,
-  inr,
-  refl,
-  sym,
-  ap,
-  ◌∙◌,
-  subst,
-  arith,
-  append_assoc,
-  eq-eqb,
-}
-use Rattle.std.specs.Prelude.{count_by}
-use Rattle.std.specs.List.{range_with_len}
-use Rattle.std.proofs.lemmas.Bool.{eqb-true, cases_lt}
-use Rattle.std.proofs.lemmas.List.Sums.{sum_by-cons}
-use Rattle.wq_words.specs.declared.layout.Layout.{Layout}
-use Rattle.wq_words.specs.declared.event.Event.{Event}
-use Rattle.wq_words.specs.declared.event.Event.TheVariants.{Hold, Busy, Push, Back, Take, Close, Begin, End, Chain, ChainBusy, Rest}
+use Rattle.wq_race.proofs.Common.{⊎_elim, ◌≡◌, ℕ, zero, suc, ◌+◌, ◌*◌, ◌<◌, ◌≤◌, ◌⊎◌, Bool, true, false, cond, ◌==◌, List, [], ◌∷◌, ◌++◌, inl, inr, refl, sym}
+use Rattle.wq_race.proofs.Common.{ap, ◌∙◌, subst, arith, append_assoc, eq-eqb, count_by, range_with_len, eqb-true, cases_lt, sum_by-cons, Layout, Event, Hold}
+use Rattle.wq_race.proofs.Common.{Busy, Push, Back, Take, Close, Begin, End, Chain, ChainBusy, Rest, sets_pending, IsLegal, IsAllowed, seat_of, own, Queues}
+use Rattle.wq_race.proofs.Common.{passed, pushed, busy, refused, chained, chain_busy, Follows, queueings}
 use Rattle.wq_words.specs.declared.event.Why.TheVariants as why
-use Rattle.wq_words.specs.History.{sets_pending}
-use Rattle.wq_words.specs.Legal.{IsLegal, IsAllowed}
 use Rattle.wq_words.proofs.Legal.{legal_next}
-use Rattle.wq_words.specs.Seen.{seat_of, own}
-use Rattle.wq_worker.specs.Follow.{Queues, passed, pushed, busy, refused, chained, chain_busy, Follows}
-use Rattle.wq_race.specs.Outcome.{queueings}
 use Rattle.wq_race.proofs.Running.{own_room}
 
 -- the event stands in the history
@@ -162,26 +124,23 @@ number_of (Push s k) = k
 number_of (Back s k w) = k
 number_of _ = 0
 
+of_one : (e x : Event) → Has e (x ∷ []) → e ≡ x
+of_one e x (inl is) = is
+of_one e x (inr none) = absurd none
+
+of_two : (e x y : Event) → Has e (x ∷ y ∷ []) → (e ≡ x) ⊎ (e ≡ y)
+of_two e x y (inl is) = inl is
+of_two e x y (inr more) = inr (of_one e y more)
+
+-- both events are of one number
+two_numbers : (a : ℕ) (e x y : Event) (es : List Event) → es ≡ x ∷ y ∷ [] → number_of x ≡ a → number_of y ≡ a → Has e es → number_of e ≡ a
+two_numbers a e x y es is one two has = ⊎_elim (λ (i : e ≡ x). ap number_of i ∙ one) (λ (i : e ≡ y). ap number_of i ∙ two) (of_two e x y (subst (Has e) is has))
+
 one_number : (n s a : ℕ) (e : Event) (es : List Event) → Queues n s false a es → Has e es → number_of e ≡ a
 one_number n s a e es (passed ge is) has = absurd (subst (Has e) is has)
-one_number n s a e es (pushed lt opens is) has = elim (subst (Has e) is has) [
-  | inl one ↦ ap number_of one
-  | inr more ↦ elim more [
-    | inl two ↦ ap number_of two
-    | inr none ↦ absurd none
-  ]
-]
-one_number n s a e es (busy lt opens is) has = elim (subst (Has e) is has) [
-  | inl one ↦ ap number_of one
-  | inr none ↦ absurd none
-]
-one_number n s a e es (refused lt opens is) has = elim (subst (Has e) is has) [
-  | inl one ↦ ap number_of one
-  | inr more ↦ elim more [
-    | inl two ↦ ap number_of two
-    | inr none ↦ absurd none
-  ]
-]
+one_number n s a e es (pushed lt opens is) has = two_numbers a e (Hold s a) (Push s a) es is refl refl has
+one_number n s a e es (busy lt opens is) has = ap number_of (of_one e (Busy s a) (subst (Has e) is has))
+one_number n s a e es (refused lt opens is) has = two_numbers a e (Hold s a) (Back s a why.Closed) es is refl refl has
 one_number n s a e es (chained lt shut is) has = absurd (cc)
 one_number n s a e es (chain_busy lt shut is) has = absurd (cc)
 
@@ -197,23 +156,15 @@ row_number n s a (suc m) e es f has = elim (has_either e f.0 f.1 (subst (Has e) 
 
 apart : (n s a t u k : ℕ) (es : List Event) → Queues n s false a es → Has (Hold t k) es → Has (Busy u k) es → ⊥
 apart n s a t u k es (passed ge is) hold has = subst (Has (Hold t k)) is hold
-apart n s a t u k es (pushed lt opens is) hold has = elim (subst (Has (Busy u k)) is has) [
+apart n s a t u k es (pushed lt opens is) hold has = elim (of_two (Busy u k) (Hold s a) (Push s a) (subst (Has (Busy u k)) is has)) [
   | inl one ↦ let no : Busy u k ≡ Hold s a = one in absurd (cc)
-  | inr more ↦ elim more [
-    | inl two ↦ let no : Busy u k ≡ Push s a = two in absurd (cc)
-    | inr none ↦ none
-  ]
+  | inr two ↦ let no : Busy u k ≡ Push s a = two in absurd (cc)
 ]
-apart n s a t u k es (busy lt opens is) hold has = elim (subst (Has (Hold t k)) is hold) [
-  | inl one ↦ let no : Hold t k ≡ Busy s a = one in absurd (cc)
-  | inr none ↦ none
-]
-apart n s a t u k es (refused lt opens is) hold has = elim (subst (Has (Busy u k)) is has) [
+apart n s a t u k es (busy lt opens is) hold has =
+    let no : Hold t k ≡ Busy s a = of_one (Hold t k) (Busy s a) (subst (Has (Hold t k)) is hold) in absurd (cc)
+apart n s a t u k es (refused lt opens is) hold has = elim (of_two (Busy u k) (Hold s a) (Back s a why.Closed) (subst (Has (Busy u k)) is has)) [
   | inl one ↦ let no : Busy u k ≡ Hold s a = one in absurd (cc)
-  | inr more ↦ elim more [
-    | inl two ↦ let no : Busy u k ≡ Back s a why.Closed = two in absurd (cc)
-    | inr none ↦ none
-  ]
+  | inr two ↦ let no : Busy u k ≡ Back s a why.Closed = two in absurd (cc)
 ]
 apart n s a t u k es (chained lt shut is) hold has = absurd (cc)
 apart n s a t u k es (chain_busy lt shut is) hold has = absurd (cc)

@@ -1,3 +1,4 @@
+pub mod Common
 pub mod Members
 pub mod Made
 pub mod Queueing

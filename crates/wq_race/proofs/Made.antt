@@ -1,15 +1,6 @@
 -- The seats of a new team.
-use Rattle.std.proofs.Common.{◌≡◌, ℕ, ◌+◌, List, [], ◌∷◌, ◌++◌, length, sym, ap, ◌∙◌, subst, arith, length-append}
-use Rattle.wq_live.specs.Known.{QueueId}
-use Rattle.wq_words.specs.declared.layout.Layout.{Layout}
-use Rattle.wq_words.specs.Legal.{IsLegal}
-use Rattle.wq_words.specs.Seen.{owner_seat, own, Grows}
-use Rattle.wq_live.specs.Known.{Known, new_owner, new_sender, new_senders}
-use Rattle.wq_live.proofs.Seated.{made_nothing, two_less}
-use Rattle.wq_race.specs.declared.plan.Plan.{Plan}
-use Rattle.wq_race.specs.declared.team.Team.{Team}
-use Rattle.wq_race.specs.Plan.{IsLayoutOf}
-use Rattle.wq_race.specs.Team.{IsNewTeam}
+use Rattle.wq_race.proofs.Common.{◌≡◌, ℕ, ◌+◌, List, [], ◌∷◌, ◌++◌, length, sym, ap, ◌∙◌, subst, arith, length-append, QueueId, Layout, IsLegal, owner_seat}
+use Rattle.wq_race.proofs.Common.{own, Grows, Known, new_owner, new_sender, new_senders, made_nothing, two_less, Plan, Team, IsLayoutOf, IsNewTeam}
 
 -- the senders of a new queue, of which the last two are taken
 pub record IsShared (q : QueueId) (l : Layout) (n : ℕ) (xs : List Known) (own program : Known) : Type 0 where

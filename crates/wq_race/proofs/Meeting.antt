@@ -1,32 +1,18 @@
 -- Meetings of a worker and the senders of its queue.
-use Rattle.std.proofs.Common.{◌≡◌, ℕ, List, [], refl, sym, ◌∙◌, subst}
-use Rattle.std.proofs.lemmas.List.{append-nil}
-use mathlib.Core.List.{IsPrefix}
-use Rattle.wq_words.specs.declared.event.Event.{Event}
-use Rattle.wq_words.specs.Legal.{IsLegal}
-use Rattle.wq_words.specs.Seen.{owner_seat, own}
-use Rattle.wq_live.specs.Known.{Known, Sees}
-use Rattle.wq_worker.specs.State.{WorkerState, Moves}
-use Rattle.wq_race.specs.declared.idle.Idle.{Idle}
-use Rattle.wq_race.specs.Outcome.{HasMet, IsKnown}
-use Rattle.wq_words.proofs.Prefixes.{prefix_on}
-use Rattle.wq_words.proofs.Seen.{grows_same}
-use Rattle.wq_words.proofs.Seen.{own_more}
-use Rattle.wq_words.proofs.Seen.{none_of}
+use Rattle.wq_race.proofs.Common.{◌≡◌, ℕ, List, [], refl, sym, ◌∙◌, subst, append-nil, IsPrefix, Event, IsLegal, owner_seat, own, Known, Sees, WorkerState}
+use Rattle.wq_race.proofs.Common.{Moves, Idle, HasMet, IsKnown, prefix_on, grows_same, own_more, none_of, worker_still, worker_on, moves_same, prefix_self}
 
 pub met_still : (a : WorkerState Idle) → IsLegal a.layout a.seen → HasMet a a
-met_still a legal = record { queue_is = refl; layout_is = refl; number_is = refl; begins = ([], append-nil a.seen); unsent = refl; idle = refl; legal = legal }
+met_still a legal = record { same = worker_still a; begins = prefix_self a.seen; unsent = refl; idle = refl; legal = legal }
 
 pub met_more : (a b c : WorkerState Idle) → HasMet a b → Moves [] 0 b c → HasMet a c
 met_more a b c x m =
     let none = none_of b.number m.adds.new m.adds.ours in
     let mine = own_more b.number b.seen m.adds.new c.seen m.adds.is none.0 in
     record {
-      queue_is = m.queue ∙ x.queue_is;
-      layout_is = m.layout ∙ x.layout_is;
-      number_is = m.number ∙ x.number_is;
+      same = worker_on a b c x.same (moves_same [] 0 b c m);
       begins = prefix_on a.seen b.seen c.seen x.begins (m.adds.new, sym m.adds.is);
-      unsent = subst (λ (s : ℕ). own s c.seen ≡ own s b.seen) x.number_is mine ∙ x.unsent;
+      unsent = subst (λ (s : ℕ). own s c.seen ≡ own s b.seen) x.same.number_is mine ∙ x.unsent;
       idle = own_more owner_seat b.seen m.adds.new c.seen m.adds.is none.1 ∙ x.idle;
       legal = m.legal;
     }

@@ -1,7 +1,6 @@
 -- The members of a value that was read.
-use Rattle.std.specs.Prelude.{◌≡◌, refl, suc, List, [], ◌∷◌, length, String}
-use Rattle.std.proofs.Common.{ap}
 use Rattle.std.specs.declared.alloc.Global.{Global}
+use Rattle.wq_race.proofs.Common.{◌≡◌, refl, suc, List, [], ◌∷◌, length, String, ap}
 use Rattle.serde_json.specs.View.{members_view}
 use Rattle.serde_json.specs.declared.value.Value.{Value}
 use Rattle.wq_race.specs.PlanText.{member_count}

@@ -1,24 +1,9 @@
 -- What was accepted where senders share the items of a queue out.
-use Rattle.std.proofs.Common.{◌≡◌, ℕ, ◌+◌, ◌*◌, ◌<◌, ◌≤◌, Bool, false, cond, List, [], ◌∷◌, ◌++◌, length, inl, inr, refl, sym, ap, ◌∙◌, subst, arith, eq-eqb, length-append, nat_lt}
-use Rattle.std.specs.Prelude.{count_by}
-use Rattle.std.specs.List.{AllByRecursion}
-use Rattle.std.proofs.lemmas.Bool.{cases_lt, lt-ltb, le-ltb}
-use Rattle.std.proofs.lemmas.List.Elements.{filter_map-append, filter-append}
-use Rattle.std.proofs.lemmas.List.Sums.{sum_by-cons}
-use Rattle.wq_words.specs.declared.layout.Layout.{Layout}
-use Rattle.wq_words.specs.declared.event.Event.{Event}
-use Rattle.wq_words.specs.declared.event.Event.TheVariants.{Hold, Busy, Push, Back, Take, Close, Begin, End, Chain, ChainBusy, Rest}
-use Rattle.wq_words.specs.Numbers.{stop_number}
-use Rattle.wq_words.specs.History.{accepted_by, accepted}
-use Rattle.wq_words.specs.Legal.{IsLegal}
-use Rattle.wq_words.specs.Seen.{seat_of, own}
-use Rattle.wq_words.specs.Counting.{is_queued_by, is_chain}
-use Rattle.wq_worker.specs.State.{items_among}
-use Rattle.wq_worker.specs.Follow.{Follows}
-use Rattle.wq_worker.proofs.State.{items_among-item, items_among-other}
-use Rattle.wq_ledger.proofs.Pushes.{is_queued_below}
-use Rattle.wq_race.specs.Plan.{IsLayoutOf}
-use Rattle.wq_race.specs.Race.{items_at, IsOfStop}
+use Rattle.wq_race.proofs.Common.{nat_lt, ◌≡◌, ℕ, ◌+◌, ◌*◌, ◌<◌, ◌≤◌, Bool, false, cond, List, [], ◌∷◌, ◌++◌, length, inl, inr, refl, sym, ap, ◌∙◌, subst}
+use Rattle.wq_race.proofs.Common.{arith, eq-eqb, length-append, count_by, AllByRecursion, cases_lt, lt-ltb, le-ltb, filter_map-append, filter-append}
+use Rattle.wq_race.proofs.Common.{sum_by-cons, Layout, Event, Hold, Busy, Push, Back, Take, Close, Begin, End, Chain, ChainBusy, Rest, stop_number, accepted_by}
+use Rattle.wq_race.proofs.Common.{accepted, IsLegal, seat_of, own, is_queued_by, is_chain, items_among, Follows, items_among-item, items_among-other}
+use Rattle.wq_race.proofs.Common.{is_queued_below, IsLayoutOf, items_at, IsOfStop, true}
 use Rattle.wq_race.proofs.Running.{own_room}
 use Rattle.wq_race.proofs.Events.{Has, has_own, push_seat, row_number, IsWithin}
 
@@ -31,11 +16,11 @@ pub record IsShared (n m : ℕ) (layout : Layout) (h : List Event) : Type 0 wher
   pub unchained : count_by is_chain h ≡ 0
   pub stops : AllByRecursion (IsOfStop layout) (own (n + 1) h)
 
-pub has_chain : (k : ℕ) (h : List Event) → Has (Chain k) h → 0 < count_by is_chain h
-has_chain k [] has = absurd has
-has_chain k (x ∷ xs) (inl is) = let one : cond {A = ℕ} (is_chain x) 1 0 ≡ 1 = ap (λ (e : Event). cond {A = ℕ} (is_chain e) 1 0) (sym is) in
-    omega (arith, one, sum_by-cons (λ e. cond (is_chain e) 1 0) x xs)
-has_chain k (x ∷ xs) (inr has) = omega (arith, has_chain k xs has, sum_by-cons (λ e. cond (is_chain e) 1 0) x xs)
+pub has_counted : (p : Event → Bool) (e : Event) (h : List Event) → p e ≡ true → Has e h → 0 < count_by p h
+has_counted p e [] holds has = absurd has
+has_counted p e (x ∷ xs) holds (inl is) = let here : p x ≡ true = ap p (sym is) ∙ holds in
+    let one : cond {A = ℕ} (p x) 1 0 ≡ 1 = ap (λ (b : Bool). cond {A = ℕ} b 1 0) here in omega (arith, one, sum_by-cons (λ e. cond (p e) 1 0) x xs)
+has_counted p e (x ∷ xs) holds (inr has) = omega (arith, has_counted p e xs holds has, sum_by-cons (λ e. cond (p e) 1 0) x xs)
 
 stop_of : (layout : Layout) (e : Event) (es : List Event) → AllByRecursion (IsOfStop layout) es → Has e es → IsOfStop layout e
 stop_of layout e [] all has = absurd has
@@ -57,13 +42,6 @@ whose n s lt = elim (cases_lt s n) [
   ]
 ]
 
-has_push : (s k : ℕ) (h : List Event) → Has (Push s k) h → 0 < count_by (is_queued_by s) h
-has_push s k [] has = absurd has
-has_push s k (x ∷ xs) (inl is) = let one : cond {A = ℕ} (is_queued_by s x) 1 0 ≡ 1 = ap (λ (e : Event). cond {A = ℕ} (is_queued_by s e) 1 0) (sym is)
-    ∙ ap (λ (b : Bool). cond {A = ℕ} b 1 0) (eq-eqb s s refl) in
-    omega (arith, one, sum_by-cons (λ e. cond (is_queued_by s e) 1 0) x xs)
-has_push s k (x ∷ xs) (inr has) = omega (arith, has_push s k xs has, sum_by-cons (λ e. cond (is_queued_by s e) 1 0) x xs)
-
 module _ (n m : ℕ) (layout : Layout) (h : List Event) (r : IsShared n m layout h) where
   pub seat_few : (s : ℕ) → s < layout.senders → s < n + 2
   seat_few s lt = omega (arith, lt, r.sized.senders_is)
@@ -84,11 +62,12 @@ module _ (n m : ℕ) (layout : Layout) (h : List Event) (r : IsShared n m layout
       each (plans low) =
           let w = row_number layout.items t (t * m) m (Push t k) (own t h) (r.queued t low) (has_own (Push t k) h has) in
           ap length (items_among-item layout k (below_items t k low w)) ∙ sym (ap (λ (b : Bool). cond b 1 0) (lt-ltb t n low))
-      each (workers is) = omega (arith, has_push t k h has, ap (λ (c : ℕ). count_by (is_queued_by c) h) is, r.unpushed)
+      each (workers is) = omega (arith, has_counted (is_queued_by t) (Push t k) h (eq-eqb t t refl) has,
+          ap (λ (c : ℕ). count_by (is_queued_by c) h) is, r.unpushed)
       each (programs is) =
           let past : n ≤ t = omega (arith, is) in
           ap length (items_among-other layout k (stop_high k (of_stop (Push t k) is has))) ∙ sym (ap (λ (b : Bool). cond b 1 0) (le-ltb t n past))
-  agree (Chain k) has = absurd (omega (arith, has_chain k h has, r.unchained))
+  agree (Chain k) has = absurd (omega (arith, has_counted is_chain (Chain k) h refl has, r.unchained))
   agree (Hold s k) has = refl
   agree (Busy s k) has = refl
   agree (Back s k w) has = refl

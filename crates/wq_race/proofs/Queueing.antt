@@ -1,23 +1,13 @@
 -- What a sender's thread adds.
-use Rattle.std.proofs.Common.{◌≡◌, ◌≢◌, ℕ, zero, suc, ◌+◌, ◌*◌, ◌-◌, ◌<◌, ◌≤◌, false, List, [], ◌∷◌, ◌++◌, length, refl, sym, ap, ◌∙◌, subst, arith, length-append}
-use Rattle.std.specs.List.{AllByRecursion, range_with_len}
-use Rattle.std.proofs.lemmas.List.{append-nil}
-use Rattle.wq_words.specs.declared.layout.Layout.{Layout}
-use Rattle.wq_words.specs.declared.event.Event.{Event}
-use Rattle.wq_words.specs.declared.event.Event.TheVariants.{Hold, Busy, Push, Back}
-use Rattle.wq_words.specs.declared.event.Event.TheVariants as event
-use Rattle.wq_words.specs.declared.event.Why.TheVariants as why
-use Rattle.wq_words.specs.Numbers.{stop_number}
-use Rattle.wq_words.specs.Seen.{Grows}
+use Rattle.wq_race.proofs.Common.{◌≡◌, ◌≢◌, ℕ, zero, suc, ◌+◌, ◌*◌, ◌-◌, ◌<◌, ◌≤◌, false, List, [], ◌∷◌, ◌++◌, length, refl, sym, ap, ◌∙◌, subst, arith}
+use Rattle.wq_race.proofs.Common.{length-append, AllByRecursion, range_with_len, append-nil, Layout, Event, stop_number, Grows, Known, Sees, Queues, pushed}
+use Rattle.wq_race.proofs.Common.{busy, refused, HasQueued, IsOfStop, IsInVain, HasMade, HasStopped, IsStopAnswer}
 use Rattle.wq_words.specs.declared.answer.Answer.{Answer}
 use Rattle.wq_words.specs.declared.answer.Answer.TheVariants as answer
-use Rattle.wq_live.specs.Known.{Known, Sees}
 use Rattle.wq_live.specs.Answers.{Answers}
 use Rattle.wq_live.proofs.Growing.{grows_on}
 use Rattle.wq_live.proofs.Sends.{same_none, same_on}
-use Rattle.wq_worker.specs.Follow.{Queues, pushed, busy, refused}
 use Rattle.wq_worker.proofs.Follow.{follows_push}
-use Rattle.wq_race.specs.Race.{HasQueued, IsOfStop, IsInVain, HasMade, HasStopped, IsStopAnswer}
 use Rattle.wq_words.proofs.Seen.{grows_none as grows_still}
 
 one_queued : (k n : ℕ) (es : List Event) (old new : Known) → Queues old.layout.items old.number false k es → Sees es n old new → HasQueued (k ∷ []) old new
@@ -98,12 +88,12 @@ all_both : (P : Event → Type 0) (xs ys : List Event) → AllByRecursion P xs �
 all_both P [] ys a b = b
 all_both P (x ∷ xs) ys a b = (a.0, all_both P xs ys a.1 b)
 
-made_more : (K : Layout → Event → Type 0) (m : ℕ) (a b c : Known) → HasMade K m a b → HasMade K 2 b c → HasMade K (m + 2) a c
-made_more K m a b c x y = record {
+made_more : (K : Layout → Event → Type 0) (m n : ℕ) (a b c : Known) → m + 2 ≤ n → HasMade K m a b → HasMade K 2 b c → HasMade K n a c
+made_more K m n a b c le x y = record {
   same = same_on a b c x.same y.same;
   events = x.events ++ y.events;
   of_kind = all_both (K a.layout) x.events y.events x.of_kind (subst (λ (l : Layout). AllByRecursion (K l) y.events) x.same.layout_is y.of_kind);
-  few_events = omega (arith, length-append x.events y.events, x.few_events, y.few_events);
+  few_events = omega (arith, le, length-append x.events y.events, x.few_events, y.few_events);
   grows = grows_on a.number x.events y.events 0 0 0 a.seen b.seen c.seen (omega arith) x.grows
       (subst (λ (n : ℕ). Grows n y.events 0 b.seen c.seen) x.same.number_is y.grows);
 }
@@ -111,40 +101,18 @@ made_more K m a b c x y = record {
 pub made_fewer : (K : Layout → Event → Type 0) (m n : ℕ) (a b : Known) → m ≤ n → HasMade K m a b → HasMade K n a b
 made_fewer K m n a b le s = record { same = s.same; events = s.events; of_kind = s.of_kind; few_events = omega (arith, le, s.few_events); grows = s.grows }
 
-vain_event : (l : Layout) (e : Event) → IsInVain l e → IsOfStop l e
-vain_event l (Hold s k) is = is
-vain_event l (Busy s k) is = elim is [ ]
-vain_event l (Push s k) is = elim is [ ]
-vain_event l (Back s k why.Contended) is = is
-vain_event l (Back s k why.Closed) is = elim is [ ]
-vain_event l (Back s k why.Cancelled) is = elim is [ ]
-vain_event l event.Take is = elim is [ ]
-vain_event l event.Close is = elim is [ ]
-vain_event l (event.Begin k) is = elim is [ ]
-vain_event l (event.End k) is = elim is [ ]
-vain_event l (event.Chain k) is = elim is [ ]
-vain_event l (event.ChainBusy k) is = elim is [ ]
-vain_event l event.Rest is = elim is [ ]
-
-vain_events : (l : Layout) (es : List Event) → AllByRecursion (IsInVain l) es → AllByRecursion (IsOfStop l) es
-vain_events l [] all = tt
-vain_events l (e ∷ es) all = (vain_event l e all.0, vain_events l es all.1)
-
-tried : (n : ℕ) (a b : Known) → HasMade IsInVain n a b → HasStopped n a b
-tried n a b s = record { same = s.same; events = s.events; of_kind = vain_events a.layout s.events s.of_kind; few_events = s.few_events; grows = s.grows }
-
 -- one more try, in vain
-pub vain_more : (n : ℕ) (r : Answer) (a b c : Known) → r ≡ answer.Contended → HasMade IsInVain (2 * n) a b
-    → Answers (stop_number b.layout) 4294967295 r b c → HasMade IsInVain (2 * (n + 1)) a c
-vain_more n r a b c is x y =
-    made_fewer IsInVain (2 * n + 2) (2 * (n + 1)) a c (omega arith) (made_more IsInVain (2 * n) a b c x (vain_one 4294967295 r b c is y))
+pub vain_more : (n : ℕ) (r : Answer) (a b c : Known) → r ≡ answer.Contended → HasMade IsInVain (2 * n) a b × HasStopped (2 * n) a b
+    → Answers (stop_number b.layout) 4294967295 r b c → HasMade IsInVain (2 * (n + 1)) a c × HasStopped (2 * (n + 1)) a c
+vain_more n r a b c is x y = (
+  made_more IsInVain (2 * n) (2 * (n + 1)) a b c (omega arith) x.0 (vain_one 4294967295 r b c is y),
+  made_more IsOfStop (2 * n) (2 * (n + 1)) a b c (omega arith) x.1 (stopped_one 4294967295 r b c y),
+)
 
 -- the last try
-pub last_stopped : (n : ℕ) (r : Answer) (a b c : Known) → n < 4294967296 → HasMade IsInVain (2 * n) a b → Answers (stop_number b.layout) 4294967295 r b c
+pub last_stopped : (n : ℕ) (r : Answer) (a b c : Known) → n < 4294967296 → HasStopped (2 * n) a b → Answers (stop_number b.layout) 4294967295 r b c
     → HasStopped 8589934592 a c
-last_stopped n r a b c lt x y =
-    made_fewer IsOfStop (2 * n + 2) 8589934592 a c (omega (arith, lt))
-    (made_more IsOfStop (2 * n) a b c (tried (2 * n) a b x) (stopped_one 4294967295 r b c y))
+last_stopped n r a b c lt x y = made_more IsOfStop (2 * n) 8589934592 a b c (omega (arith, lt)) x (stopped_one 4294967295 r b c y)
 
 pub last_answer : (n : ℕ) (r : Answer) (a b c : Known) → n < 4294967296 → HasMade IsInVain (2 * n) a b → Answers (stop_number b.layout) 4294967295 r b c
     → IsStopAnswer r a c

@@ -1,23 +1,9 @@
 -- A team whose threads have ended.
-use Rattle.std.proofs.Common.{◌≡◌, ℕ, zero, suc, ◌+◌, ◌*◌, ◌^◌, ◌<◌, ◌≤◌, false, List, [], ◌++◌, length, get_or, inl, inr, sym, ap, ◌∙◌, subst, arith}
-use Rattle.std.specs.Prelude.{count_by}
-use Rattle.std.specs.List.{AllByRecursion}
-use Rattle.std.proofs.lemmas.Bool.{cases_lt}
-use Rattle.wq_live.specs.Known.{QueueId}
-use Rattle.wq_words.specs.declared.layout.Layout.{Layout}
-use Rattle.wq_words.specs.declared.event.Event.{Event}
-use Rattle.wq_words.specs.History.{IsRunning, is_close}
-use Rattle.wq_words.specs.Seen.{owner_seat, own, Grows}
-use Rattle.wq_words.proofs.Seen.{closed_count, begun_same}
-use Rattle.wq_live.specs.Known.{Known, new_sender}
-use Rattle.wq_words.specs.Counting.{is_chain, is_chain_busy}
-use Rattle.wq_worker.specs.Follow.{Follows}
-use Rattle.wq_race.specs.declared.plan.Plan.{Plan}
-use Rattle.wq_race.specs.declared.team.Team.{Team}
-use Rattle.wq_race.specs.Plan.{IsLayoutOf}
-use Rattle.wq_race.specs.Team.{IsNewTeam}
-use Rattle.wq_race.specs.Race.{items_at, HasQueued, IsOfStop, HasStopped, HasServed, AllQueued, IsQueuer, HasRun}
-use Rattle.wq_live.proofs.Seated.{length-new_senders, get_or-new_senders}
+use Rattle.std.proofs.lemmas.Nat.{mul-le}
+use Rattle.wq_race.proofs.Common.{◌≡◌, ℕ, suc, ◌+◌, ◌*◌, ◌^◌, ◌<◌, ◌≤◌, false, List, [], ◌++◌, length, get_or, sym, ap, ◌∙◌, subst, arith, count_by}
+use Rattle.wq_race.proofs.Common.{AllByRecursion, QueueId, Layout, Event, IsRunning, is_close, owner_seat, own, Grows, closed_count, begun_same, Known}
+use Rattle.wq_race.proofs.Common.{new_sender, is_chain, is_chain_busy, Follows, Plan, Team, IsLayoutOf, IsNewTeam, items_at, HasQueued, IsOfStop, HasStopped}
+use Rattle.wq_race.proofs.Common.{HasServed, HasRaced, length-new_senders, get_or-new_senders, AllQueued, IsQueuer}
 use Rattle.wq_race.proofs.Serving.{chains_same, asks_same}
 
 pub untouched_open : (h : List Event) → own owner_seat h ≡ [] → count_by is_close h ≡ 0
@@ -34,15 +20,9 @@ untouched_unasked h none = asks_same [] h none
 
 -- a sender's items are below those of all
 pub own_room : (s n m : ℕ) → s < n → s * m + m ≤ n * m
-own_room s zero m lt = absurd (omega (arith, lt))
-own_room s (suc n) m lt = elim (cases_lt s n) [
-  | inl less ↦ let before : s * m + m ≤ n * m = own_room s n m less in let step : suc n * m ≡ n * m + m = times_suc n m in omega (arith, before, step)
-  | inr ge ↦ let same : s ≡ n = omega (arith, lt, ge) in let step : suc n * m ≡ n * m + m = times_suc n m in
-      let at : s * m ≡ n * m = ap (λ (k : ℕ). k * m) same in omega (arith, at, step)
-]
-  where
-    times_suc : (n m : ℕ) → suc n * m ≡ n * m + m
-    times_suc n m = omega arith
+own_room s n m lt =
+    let all : suc s * m ≤ n * m = mul-le (suc s) m n m (omega (arith, lt)) (omega arith) in
+    let step : suc s * m ≡ s * m + m = omega arith in omega (arith, all, step)
 
 pub rooms : (plan : Plan) (t : Team) → IsNewTeam plan t → (i : ℕ) (d : Known) → i < length t.senders.items
     → (get_or t.senders.items i d).number * plan.own + plan.own ≤ (get_or t.senders.items i d).layout.items
@@ -71,34 +51,34 @@ queuer m i q l a b at h =
           (subst (λ (es : List Event). Follows a.layout.items a.number false (items_at a.number m) es) (sym mine) h.queued));
     }
 
-pub has_run : (plan : Plan) (old new : Team) → IsNewTeam plan old → HasServed old.worker new.worker
-    → AllQueued plan.own old.senders.items new.senders.items → HasStopped (2 * 2 ^ 32) old.program new.program → HasRun plan new
-has_run plan old new n served all stopped =
+pub has_raced : (plan : Plan) (old new : Team) → IsNewTeam plan old → HasServed old.worker new.worker
+    → AllQueued plan.own old.senders.items new.senders.items → HasStopped (2 * 2 ^ 32) old.program new.program → HasRaced plan new
+has_raced plan old new n served all stopped =
     let q = old.worker.queue in let l = old.worker.layout in
     let count : length old.senders.items ≡ plan.senders = ap length n.senders_are ∙ length-new_senders q l plan.senders in
     let p : old.program.number ≡ plan.senders + 1 = ap (λ (k : Known). k.number) n.program_is in
-    let size : old.program.layout ≡ new.worker.layout = ap (λ (k : Known). k.layout) n.program_is ∙ sym served.layout_is in
+    let size : old.program.layout ≡ new.worker.layout = ap (λ (k : Known). k.layout) n.program_is ∙ sym served.same.layout_is in
     let mine : own (plan.senders + 1) new.program.seen ≡ stopped.events = subst (λ (c : ℕ). own c new.program.seen ≡ stopped.events) p
     (own-first old.program.number stopped.events old.program.seen new.program.seen (ap (λ (k : Known). k.seen) n.program_is) stopped.grows) in
     record {
-      layout = subst (IsLayoutOf plan.senders plan.own) (sym served.layout_is) n.layout;
+      layout = subst (IsLayoutOf plan.senders plan.own) (sym served.same.layout_is) n.layout;
       count = all.count ∙ count;
       each = λ i d lt.
           let at : get_or old.senders.items i d ≡ new_sender q l i = ap (λ (xs : List Known). get_or xs i d) n.senders_are
           ∙ get_or-new_senders q l plan.senders i d lt in
           let made = queuer plan.own i q l (get_or old.senders.items i d) (get_or new.senders.items i d) at (all.each i d (omega (arith, lt, count))) in
-          subst (λ (k : Layout). IsQueuer plan.own new.worker.queue k i (get_or new.senders.items i d)) (sym served.layout_is)
-          (subst (λ (k : QueueId). IsQueuer plan.own k l i (get_or new.senders.items i d)) (sym served.queue_is) made);
-      number_is = served.number_is ∙ n.number_is;
-      unsent = subst (λ (c : ℕ). own c new.worker.seen ≡ []) n.number_is (served.unsent ∙ n.unsent);
-      unchained = served.unchained ∙ untouched_unchained old.worker.seen n.untouched;
-      unasked = served.unasked ∙ untouched_unasked old.worker.seen n.untouched;
+          subst (λ (k : Layout). IsQueuer plan.own new.worker.queue k i (get_or new.senders.items i d)) (sym served.same.layout_is)
+          (subst (λ (k : QueueId). IsQueuer plan.own k l i (get_or new.senders.items i d)) (sym served.same.queue_is) made);
+      number_is = served.same.number_is ∙ n.number_is;
+      unsent = subst (λ (c : ℕ). own c new.worker.seen ≡ []) n.number_is (served.quiet.unsent ∙ n.unsent);
+      unchained = served.quiet.unchained ∙ untouched_unchained old.worker.seen n.untouched;
+      unasked = served.quiet.unasked ∙ untouched_unasked old.worker.seen n.untouched;
       open_still = served.closes_is ∙ untouched_open old.worker.seen n.untouched;
       stopped = served.stopped;
       idle = served.idle;
       legal = served.legal;
       program_number = stopped.same.number_is ∙ p;
-      program_queue = stopped.same.queue_is ∙ (ap (λ (k : Known). k.queue) n.program_is ∙ sym served.queue_is);
+      program_queue = stopped.same.queue_is ∙ (ap (λ (k : Known). k.queue) n.program_is ∙ sym served.same.queue_is);
       stops = subst (λ (k : Layout). AllByRecursion (IsOfStop k) (own (plan.senders + 1) new.program.seen)) size
           (subst (λ (es : List Event). AllByRecursion (IsOfStop old.program.layout) es) (sym mine) stopped.of_kind);
       few_stops = omega (arith, ap length mine, stopped.few_events);

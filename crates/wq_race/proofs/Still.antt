@@ -1,15 +1,8 @@
 -- Events by which a worker sends nothing, chains nothing and asks for nothing.
-use Rattle.std.proofs.Common.{◌≡◌, ◌≢◌, ℕ, ◌+◌, Bool, true, false, Option, Some, None, List, [], ◌∷◌, ◌++◌, refl, ◌∙◌, arith}
-use Rattle.std.specs.Prelude.{count_by}
-use Rattle.wq_words.specs.declared.event.Event.{Event}
-use Rattle.wq_words.specs.declared.event.Event.TheVariants.{Take, Close, Begin, End}
-use Rattle.wq_words.specs.History.{is_close, closed}
-use Rattle.wq_words.specs.Seen.{owner_seat, own}
-use Rattle.wq_words.proofs.Seen.{own-append, own_none}
-use Rattle.wq_words.specs.Counting.{is_chain, is_chain_busy}
+use Rattle.std.proofs.Common.{Option, Some, None}
+use Rattle.wq_race.proofs.Common.{◌≡◌, ◌≢◌, ℕ, ◌+◌, Bool, true, false, List, [], ◌∷◌, ◌++◌, refl, ◌∙◌, arith, count_by, Event, Take, Begin, is_close, closed}
+use Rattle.wq_race.proofs.Common.{owner_seat, own, own-append, own_none, is_chain, is_chain_busy, taking, taking_of, count_by-append, seat_of, sym, subst}
 use Rattle.wq_live.specs.Batch.{next_of}
-use Rattle.wq_worker.specs.Seats.{taking, taking_of}
-use Rattle.wq_words.proofs.Appended.{count_by-append}
 
 -- the sender s made none of these events, the owner chained nothing by them, and closed so often
 pub record Still (s n : ℕ) (xs : List Event) : Type 0 where
@@ -29,22 +22,20 @@ still_on s m n xs ys a b = record {
   closes_is = omega (arith, count_by-append is_close xs ys, a.closes_is, b.closes_is);
 }
 
-pub still_take : (s : ℕ) → s ≢ owner_seat → Still s 0 (Take ∷ [])
-still_take s not = record { unsent = own_none owner_seat Take refl s not; unchained = refl; unasked = refl; closes_is = refl }
-
-pub still_begin : (s k : ℕ) → s ≢ owner_seat → Still s 0 (Begin k ∷ [])
-still_begin s k not = record { unsent = own_none owner_seat (Begin k) refl s not; unchained = refl; unasked = refl; closes_is = refl }
-
-pub still_end : (s k : ℕ) → s ≢ owner_seat → Still s 0 (End k ∷ [])
-still_end s k not = record { unsent = own_none owner_seat (End k) refl s not; unchained = refl; unasked = refl; closes_is = refl }
-
-pub still_close : (s : ℕ) → s ≢ owner_seat → Still s 1 (Close ∷ [])
-still_close s not = record { unsent = own_none owner_seat Close refl s not; unchained = refl; unasked = refl; closes_is = refl }
+-- an event of the owner that chains nothing
+pub still_one : (s n : ℕ) (e : Event) → s ≢ owner_seat → seat_of e ≡ owner_seat → count_by is_chain (e ∷ []) ≡ 0 → count_by is_chain_busy (e ∷ []) ≡ 0
+    → count_by is_close (e ∷ []) ≡ n → Still s n (e ∷ [])
+still_one s n e not at chains asks closes = record { unsent = own_none owner_seat e at s not; unchained = chains; unasked = asks; closes_is = closes }
 
 pub still_taking : (s : ℕ) → s ≢ owner_seat → (h : List Event) → Still s 0 (taking h)
 still_taking s not h = each (next_of h) (closed h)
   where
     each : (o : Option ℕ) (b : Bool) → Still s 0 (taking_of o b)
     each None true = still_none s
-    each None false = still_take s not
+    each None false = still_one s 0 Take not refl refl refl refl
     each (Some k) b = still_none s
+
+-- an execution's beginning
+pub still_begun : (s k : ℕ) → s ≢ owner_seat → (h es : List Event) → es ≡ taking h ++ Begin k ∷ [] → Still s 0 es
+still_begun s k not h es is = subst (Still s 0) (sym is)
+    (still_on s 0 0 (taking h) (Begin k ∷ []) (still_taking s not h) (still_one s 0 (Begin k) not refl refl refl refl))

@@ -1,39 +1,18 @@
 -- A history in which the seats of a race did what they do.
-use Rattle.std.proofs.Common.{◌≡◌, ℕ, zero, suc, ◌+◌, ◌*◌, ◌<◌, ◌≤◌, Bool, false, cond, List, [], ◌∷◌, length, refl, sym, ap, ◌∙◌, subst, arith, eq-eqb}
-use Rattle.std.specs.Prelude.{count_by}
-use Rattle.std.specs.List.{AllByRecursion}
-use Rattle.std.proofs.lemmas.List.FromFn.{length-range_with_len}
-use Rattle.std.proofs.lemmas.List.Sums.{sum_by-cons}
-use Rattle.wq_words.specs.declared.layout.Layout.{Layout}
-use Rattle.wq_words.specs.declared.event.Event.{Event}
-use Rattle.wq_words.specs.declared.event.Event.TheVariants.{Hold, Busy, Push, Back}
+use Rattle.wq_race.proofs.Common.{◌≡◌, ℕ, zero, suc, ◌+◌, ◌*◌, ◌<◌, ◌≤◌, Bool, cond, List, [], ◌∷◌, length, refl, sym, ap, ◌∙◌, subst, arith, eq-eqb, count_by}
+use Rattle.wq_race.proofs.Common.{length-range_with_len, sum_by-cons, Layout, Event, Hold, Busy, Push, Back, accepted, seat_of, own, count_own, is_queued_by}
+use Rattle.wq_race.proofs.Common.{is_chain, items_among, is_queued_below, below_more, below_none, items_at, queueings, Chain}
 use Rattle.wq_words.specs.declared.event.Why.TheVariants as why
-use Rattle.wq_words.specs.History.{accepted}
-use Rattle.wq_words.specs.Legal.{IsLegal}
-use Rattle.wq_words.specs.Seen.{owner_seat, seat_of, own}
-use Rattle.wq_words.proofs.Seen.{count_own}
-use Rattle.wq_words.specs.Counting.{is_queued_by, is_chain}
-use Rattle.wq_worker.specs.State.{items_among}
-use Rattle.wq_worker.specs.Follow.{Follows}
-use Rattle.wq_ledger.proofs.Pushes.{is_queued_below, below_more, below_none}
-use Rattle.wq_race.specs.Plan.{IsLayoutOf}
-use Rattle.wq_race.specs.Race.{items_at, IsOfStop}
-use Rattle.wq_race.specs.Outcome.{queueings}
 use Rattle.wq_race.proofs.Running.{own_room}
-use Rattle.wq_race.proofs.Pushed.{IsShared, has_chain, Whose, plans, workers, programs, whose, seat_few, of_stop, below_items, stop_high, items_pushed}
+use Rattle.wq_race.proofs.Pushed.{IsShared, has_counted, Whose, plans, workers, programs, whose, seat_few, of_stop, below_items, stop_high, items_pushed}
 use Rattle.wq_words.proofs.Counting.{queued_own as push_own}
 use Rattle.wq_race.proofs.Events.{Has, has_own, own_has, busy_set, IsSet, by_hold, by_chain, hold_seat, row_number, IsWithin, row_apart, row_pushed, same_row}
 
 -- n senders queued m items each, and no seat but theirs, the program's and the owner's made an event
 pub record IsRace (n m : ℕ) (layout : Layout) (h : List Event) : Type 0 where
-  pub sized : IsLayoutOf n m layout
-  pub few : n < owner_seat
-  pub legal : IsLegal layout h
-  pub queued : (s : ℕ) → s < n → Follows layout.items s false (items_at s m) (own s h)
+  pub shared : IsShared n m layout h
   pub opens : (s k : ℕ) → s < n → ¬ Has (Back s k why.Closed) (own s h)
   pub unsent : own n h ≡ []
-  pub unchained : count_by is_chain h ≡ 0
-  pub stops : AllByRecursion (IsOfStop layout) (own (n + 1) h)
 
 pub queued_own : (s : ℕ) (h : List Event) → count_by (is_queued_by s) h ≡ count_by (is_queued_by s) (own s h)
 queued_own s h = count_own (is_queued_by s) s (push_own s) h
@@ -52,45 +31,35 @@ length-queueings s [] = refl
 length-queueings s (k ∷ ks) = omega (arith, length-queueings s ks)
 
 module _ (n m : ℕ) (layout : Layout) (h : List Event) (r : IsRace n m layout h) where
-  is_shared : IsShared n m layout h
-  is_shared = record {
-    sized = r.sized;
-    legal = r.legal;
-    queued = r.queued;
-    unpushed = queued_own n h ∙ ap (count_by (is_queued_by n)) r.unsent;
-    unchained = r.unchained;
-    stops = r.stops;
-  }
-
   nothing_sent : (e : Event) → seat_of e ≡ n → Has e h → ⊥
   nothing_sent e at has = subst (Has e) (ap (λ (c : ℕ). own c h) at ∙ r.unsent) (has_own e h has)
 
   pub was_free : (s k : ℕ) → s < n → ¬ Has (Busy s k) (own s h)
-  was_free s k lt has = each (busy_set layout s k h r.legal (own_has s (Busy s k) h has))
+  was_free s k lt has = each (busy_set layout s k h r.shared.legal (own_has s (Busy s k) h has))
     where
       mine : IsWithin (s * m) m k
-      mine = row_number layout.items s (s * m) m (Busy s k) (own s h) (r.queued s lt) has
+      mine = row_number layout.items s (s * m) m (Busy s k) (own s h) (r.shared.queued s lt) has
 
       by : (t : ℕ) → Has (Hold t k) h → Whose n t → ⊥
       by t hold (plans low) =
           let at = has_own (Hold t k) h hold in
-          let same : s ≡ t = same_row s t m k mine (row_number layout.items t (t * m) m (Hold t k) (own t h) (r.queued t low) at) in
-          row_apart layout.items s (s * m) m t s k (own s h) (r.queued s lt) (subst (λ (c : ℕ). Has (Hold t k) (own c h)) (sym same) at) has
+          let same : s ≡ t = same_row s t m k mine (row_number layout.items t (t * m) m (Hold t k) (own t h) (r.shared.queued t low) at) in
+          row_apart layout.items s (s * m) m t s k (own s h) (r.shared.queued s lt) (subst (λ (c : ℕ). Has (Hold t k) (own c h)) (sym same) at) has
       by t hold (workers is) = nothing_sent (Hold t k) is hold
-      by t hold (programs is) = let high = stop_high n m layout h is_shared k (of_stop n m layout h is_shared (Hold t k) is hold) in
-          omega (arith, high, below_items n m layout h is_shared s k lt mine)
+      by t hold (programs is) = let high = stop_high n m layout h r.shared k (of_stop n m layout h r.shared (Hold t k) is hold) in
+          omega (arith, high, below_items n m layout h r.shared s k lt mine)
 
       each : IsSet k h → ⊥
-      each (by_hold t hold) = by t hold (whose n t (seat_few n m layout h is_shared t (hold_seat layout t k h r.legal hold)))
-      each (by_chain chain) = omega (arith, has_chain k h chain, r.unchained)
+      each (by_hold t hold) = by t hold (whose n t (seat_few n m layout h r.shared t (hold_seat layout t k h r.shared.legal hold)))
+      each (by_chain chain) = omega (arith, has_counted is_chain (Chain k) h refl chain, r.shared.unchained)
 
   -- each sender's items were found free on an open queue
   pub was_queued : (s : ℕ) → s < n → own s h ≡ queueings s (items_at s m)
   was_queued s lt = row_pushed layout.items s (s * m) m (own s h) (omega (
     arith,
     own_room s n m lt,
-    r.sized.items_is,
-  )) (λ k. was_free s k lt) (λ k. r.opens s k lt) (r.queued s lt)
+    r.shared.sized.items_is,
+  )) (λ k. was_free s k lt) (λ k. r.opens s k lt) (r.shared.queued s lt)
 
   queued_counted : (s : ℕ) → s < n → count_by (is_queued_by s) h ≡ m
   queued_counted s lt = queued_own s h ∙ (ap (count_by (is_queued_by s)) (was_queued s lt) ∙ (pushes s (items_at s m) ∙ length-range_with_len (s * m) m))
@@ -105,4 +74,4 @@ module _ (n m : ℕ) (layout : Layout) (h : List Event) (r : IsRace n m layout h
 
   -- as many items were accepted as the senders have
   pub all_accepted : length (items_among layout (accepted h)) ≡ n * m
-  all_accepted = items_pushed n m layout h is_shared ∙ below_counted n (omega arith)
+  all_accepted = items_pushed n m layout h r.shared ∙ below_counted n (omega arith)

@@ -7,13 +7,12 @@ use Rattle.wq_words.specs.declared.event.Event.TheVariants.{Hold, Push}
 use Rattle.wq_words.specs.History.{accepted, ended, is_close, IsRunning}
 use Rattle.wq_words.specs.Legal.{IsLegal, IsComplete}
 use Rattle.wq_words.specs.Seen.{own, owner_seat}
-use Rattle.wq_worker.specs.State.{WorkerState, items_among}
+use Rattle.wq_worker.specs.State.{WorkerState, items_among, IsSameWorker}
 use Rattle.wq_race.specs.declared.idle.Idle.{Idle}
 use Rattle.wq_race.specs.declared.plan.Plan.{Plan}
 use Rattle.wq_race.specs.declared.outcome.Outcome.{Outcome}
-use Rattle.wq_race.specs.Race.{items_at, EndsWithStop}
+use Rattle.wq_race.specs.Race.{items_at, EndsWithStop, QueuesNothing}
 use Rattle.wq_live.specs.Known.{Known, IsSame}
-use Rattle.wq_words.specs.Counting.{is_chain, is_chain_busy}
 use Rattle.wq_live.specs.Counts.{sender_counts}
 use Rattle.wq_ledger.specs.Book.{LedgerState, BookState, IsLedgerOf}
 
@@ -52,9 +51,7 @@ pub record IsWhole (plan : Plan) (outcome : Outcome) : Type 0 where
 
 -- the same worker, which may have seen more
 pub record HasMet (old new : WorkerState Idle) : Type 0 where
-  pub queue_is : new.queue ≡ old.queue
-  pub layout_is : new.layout ≡ old.layout
-  pub number_is : new.number ≡ old.number
+  pub same : IsSameWorker old new
   pub begins : IsPrefix old.seen new.seen
   pub unsent : own old.number new.seen ≡ own old.number old.seen
   pub idle : own owner_seat new.seen ≡ own owner_seat old.seen
@@ -73,13 +70,8 @@ pub record AllKnown (seen : List Event) (olds news : List Known) : Type 0 where
 
 -- The same worker went on: its sender made no event, its owner chained nothing, and nothing runs.
 pub record HasGoneOn (old new : WorkerState Idle) : Type 0 where
-  pub queue_is : new.queue ≡ old.queue
-  pub layout_is : new.layout ≡ old.layout
-  pub number_is : new.number ≡ old.number
-  pub begins : IsPrefix old.seen new.seen
-  pub unsent : own old.number new.seen ≡ own old.number old.seen
-  pub unchained : count_by is_chain new.seen ≡ count_by is_chain old.seen
-  pub unasked : count_by is_chain_busy new.seen ≡ count_by is_chain_busy old.seen
+  pub same : IsSameWorker old new
+  pub quiet : QueuesNothing old.number old.seen new.seen
   pub idle : ¬ IsRunning new.seen
   pub legal : IsLegal new.layout new.seen
 
@@ -89,10 +81,7 @@ pub record HasEnded (old : WorkerState Idle) (work : Idle) (book : BookState) : 
   pub queue_is : book.queue ≡ old.queue
   pub layout_is : book.layout ≡ old.layout
   pub number_is : book.own.number ≡ old.number
-  pub begins : IsPrefix old.seen book.seen
-  pub unsent : own old.number book.seen ≡ own old.number old.seen
-  pub unchained : count_by is_chain book.seen ≡ count_by is_chain old.seen
-  pub unasked : count_by is_chain_busy book.seen ≡ count_by is_chain_busy old.seen
+  pub quiet : QueuesNothing old.number old.seen book.seen
   pub legal : IsLegal book.layout book.seen
   pub complete : IsComplete book.seen
   pub made : IsLedgerOf book.seen book.own

@@ -2,6 +2,7 @@
 use Rattle.std.specs.Prelude.{◌≡◌, ℕ, ◌+◌, ◌*◌, ◌^◌, ◌<◌, ◌≤◌, false, List, [], ◌∷◌, ◌++◌, length, count_by, slice_index_or}
 use Rattle.std.specs.List.{AllByRecursion, range_with_len}
 use Rattle.std.specs.declared.thread.PromisedHandle.{PromisedHandle}
+use mathlib.Core.List.{IsPrefix}
 use Rattle.wq_words.specs.declared.layout.Layout.{Layout}
 use Rattle.wq_words.specs.declared.event.Event.{Event}
 use Rattle.wq_words.specs.declared.event.Event.TheVariants.{Hold, Busy, Push, Back}
@@ -16,7 +17,7 @@ use Rattle.wq_live.specs.Answers.{Answers}
 use Rattle.wq_words.specs.declared.answer.Answer.{Answer}
 use Rattle.wq_words.specs.Counting.{is_chain, is_chain_busy}
 use Rattle.wq_worker.specs.Follow.{Follows}
-use Rattle.wq_worker.specs.State.{WorkerState}
+use Rattle.wq_worker.specs.State.{WorkerState, IsSameWorker}
 use Rattle.wq_race.specs.declared.idle.Idle.{Idle}
 use Rattle.wq_race.specs.declared.plan.Plan.{Plan}
 use Rattle.wq_race.specs.declared.team.Team.{Team}
@@ -70,15 +71,18 @@ pub record IsStopAnswer (a : Answer) (old new : Known) : Type 0 where
 abbrev pub EndsWithStop : Layout → List Event → Type 0
 EndsWithStop layout h = (before : List ℕ) × (ended h ≡ before ++ stop_number layout ∷ [])
 
+-- the history goes on from the old one, and in what came new the sender s made no event and the owner chained nothing
+pub record QueuesNothing (s : ℕ) (old new : List Event) : Type 0 where
+  pub begins : IsPrefix old new
+  pub unsent : own s new ≡ own s old
+  pub unchained : count_by is_chain new ≡ count_by is_chain old
+  pub unasked : count_by is_chain_busy new ≡ count_by is_chain_busy old
+
 -- A worker whose work asks for nothing served: its sender made no event, its owner chained nothing and did not close the
 -- queue, the stop item ended last, and nothing runs.
 pub record HasServed (old new : WorkerState Idle) : Type 0 where
-  pub queue_is : new.queue ≡ old.queue
-  pub layout_is : new.layout ≡ old.layout
-  pub number_is : new.number ≡ old.number
-  pub unsent : own old.number new.seen ≡ own old.number old.seen
-  pub unchained : count_by is_chain new.seen ≡ count_by is_chain old.seen
-  pub unasked : count_by is_chain_busy new.seen ≡ count_by is_chain_busy old.seen
+  pub same : IsSameWorker old new
+  pub quiet : QueuesNothing old.number old.seen new.seen
   pub closes_is : count_by is_close new.seen ≡ count_by is_close old.seen
   pub stopped : EndsWithStop new.layout new.seen
   pub idle : ¬ IsRunning new.seen
@@ -104,7 +108,7 @@ pub record IsQueuer (own_items : ℕ) (queue : QueueId) (layout : Layout) (i : �
 
 -- A team whose threads have ended: each of the plan's senders queued its own items, the program's tried to queue the stop
 -- item, and the worker served an open queue until the stop item had ended.
-pub record HasRun (plan : Plan) (team : Team) : Type 0 where
+pub record HasRaced (plan : Plan) (team : Team) : Type 0 where
   pub layout : IsLayoutOf plan.senders plan.own team.worker.layout
   pub count : length team.senders.items ≡ plan.senders
   pub each : (i : ℕ) (d : Known) → i < plan.senders

@@ -5,7 +5,7 @@ ghost use Rattle.wq_words.specs.Legal.{IsLegal};
 ghost use Rattle.wq_words.specs.Seen.{owner_seat, own};
 ghost use Rattle.wq_ledger.specs.Book.{IsLedgerOf};
 ghost use Rattle.wq_ledger.specs.Balance.{Balances, IsUnbalanced};
-ghost use Rattle.wq_race.specs.Race.{HasRun};
+ghost use Rattle.wq_race.specs.Race.{HasRaced};
 ghost use Rattle.wq_race.specs.Outcome.{outcome_line, yes_or_no as said, Tells, IsWhole, HasMet, AllKnown, HasGoneOn, HasEnded, HasHeard, ledger_of, IsTold, queued_sum};
 
 use crate::idle::Idle;
@@ -148,8 +148,8 @@ impl Outcome {
 
     /// Destroys the queue of a team that has run its race, and balances the book.
     pub fn of<R: Wait>(rt: &R, alloc: Global, team: Team) -> Result<Outcome, AllocError>
-        requires run { (plan : Plan) × HasRun plan team }
-        ensures told { (plan : Plan) → HasRun plan team → IfOk result (λ outcome. IsWhole plan outcome × Tells plan team.worker outcome) }
+        requires run { (plan : Plan) × HasRaced plan team }
+        ensures told { (plan : Plan) → HasRaced plan team → IfOk result (λ outcome. IsWhole plan outcome × Tells plan team.worker outcome) }
     {
         let mut ledgers = Vec::with_capacity(alloc, team.senders.len() + 1)?;
         let Team {

@@ -3,7 +3,7 @@ ghost use Rattle.std.specs.Prelude.{◌≡◌, ◌≢◌, ◌+◌, ◌*◌, ◌^
 ghost use Rattle.wq_words.specs.History.{IsRunning, IsClosed};
 ghost use Rattle.wq_words.specs.Seen.{owner_seat};
 ghost use Rattle.wq_words.specs.declared.answer.Answer.TheVariants.{Contended};
-ghost use Rattle.wq_race.specs.Race.{items_at, HasQueued, HasStopped, IsStopAnswer, HasServed, AreThreads, AllQueued, HasRun};
+ghost use Rattle.wq_race.specs.Race.{items_at, HasQueued, HasStopped, IsStopAnswer, HasServed, AreThreads, AllQueued, HasRaced};
 ghost use Rattle.wq_worker.specs.State.{WorkerState};
 ghost use Rattle.wq_race.specs.Plan.{IsLayoutOf};
 ghost use Rattle.wq_race.specs.Team.{IsNewTeam};
@@ -269,7 +269,7 @@ fn run_threads<'s, E, R: Threads + Wait + Sync>(
     unparker: &Unparker,
 ) -> Result<Team, RaceError>
     requires { IsNewTeam plan team }
-    ensures { IfOk result (HasRun plan) }
+    ensures { IfOk result (HasRaced plan) }
 {
     let (serving, senders, mut program) = queue_all(scope, rt, alloc, plan, team, parker, unparker);
     stop(rt, &mut program, unparker);
@@ -299,7 +299,7 @@ pub fn run_team<R: Threads + Wait + Sync>(
     team: Team,
 ) -> Result<Team, RaceError>
     requires { IsNewTeam plan team }
-    ensures { IfOk result (HasRun plan) }
+    ensures { IfOk result (HasRaced plan) }
 {
     let parker = Parker::new(alloc)?;
     let unparker = parker.unparker().clone()?;
@@ -308,7 +308,7 @@ pub fn run_team<R: Threads + Wait + Sync>(
         rt,
         |scope| -> Result<Team, RaceError>
             requires { IsNewTeam plan team }
-            ensures { IfOk result (HasRun plan) }
+            ensures { IfOk result (HasRaced plan) }
         { run_threads(scope, rt, alloc, plan, team, parker, &unparker) },
     )
 }

@@ -1,11 +1,5 @@
-use Rattle.std.proofs.Common.{◌≡◌, ◌+◌, List, [], ◌∷◌, length, get_or, refl, sym, ap, ◌∙◌, arith, length-append}
-use Rattle.std.proofs.lemmas.List.{take_all}
-use Rattle.wq_ledger.specs.Book.{BookState}
-use Rattle.wq_race.specs.declared.idle.Idle.{Idle}
-use Rattle.wq_served.specs.declared.worker_id.WorkerId.{WorkerId}
-use Rattle.wq_race.specs.declared.plan.Plan.{Plan}
-use Rattle.wq_pool.specs.Finished.{AreFinished}
-use Rattle.wq_pool_race.specs.Race.{AllSent}
+use Rattle.wq_pool_race.proofs.Common.{◌≡◌, ◌+◌, List, [], ◌∷◌, length, get_or, refl, sym, ap, ◌∙◌, arith, length-append, take_all, BookState, Idle, WorkerId}
+use Rattle.wq_pool_race.proofs.Common.{Plan, AreFinished, AllSent}
 use Rattle.wq_pool_race.proofs.Summed.{finished_count, is_last, tells_none, tells_more, few_told}
 use Rattle.wq_pool_race.proofs.outcome.balance_all.Goals as goal
 

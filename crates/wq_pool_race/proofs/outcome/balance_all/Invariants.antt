@@ -1,9 +1,5 @@
-use Rattle.std.proofs.Common.{◌≡◌, ◌+◌, ◌≤◌, List, length, take}
-use Rattle.wq_race.specs.declared.plan.Plan.{Plan}
-use Rattle.wq_served.specs.declared.worker_id.WorkerId.{WorkerId}
-use Rattle.wq_pool.specs.Finished.{AreFinished}
+use Rattle.wq_pool_race.proofs.Common.{◌≡◌, ◌+◌, ◌≤◌, List, length, take, Plan, WorkerId, AreFinished, AllSent}
 use Rattle.wq_pool_race.specs.Outcome.{QueueRun, TellsRuns}
-use Rattle.wq_pool_race.specs.Race.{AllSent}
 use Rattle.wq_pool_race.proofs.outcome.balance_all.Given as goal
 
 -- the queues from the last down to here are told of

@@ -1,10 +1,5 @@
-use Rattle.std.proofs.Common.{◌≡◌, ℕ, ◌^◌, ◌<◌, ◌∙◌, sym, ap, subst}
-use Rattle.std.specs.Prelude.{All}
-use Rattle.wq_words.specs.Legal.{IsLegal, IsComplete}
+use Rattle.wq_pool_race.proofs.Common.{◌≡◌, ℕ, ◌^◌, ◌<◌, ◌∙◌, sym, ap, subst, All, IsLegal, IsComplete, BookState, IsLedgerOf, heard_on, queued_sum}
 use Rattle.wq_live.specs.declared.counts.SenderCounts.{SenderCounts}
-use Rattle.wq_ledger.specs.Book.{BookState, IsLedgerOf}
-use Rattle.wq_race.proofs.Booking.{heard_on}
-use Rattle.wq_race.specs.Outcome.{queued_sum}
 use Rattle.wq_pool_race.proofs.Done.{IsDone, few, run, is_run, tells_run}
 use Rattle.wq_pool_race.proofs.outcome.balance_one.Goals as goal
 

@@ -1,4 +1,4 @@
-use Rattle.std.proofs.Common.{◌≡◌}
+use Rattle.wq_pool_race.proofs.Common.{◌≡◌}
 use Rattle.wq_pool_race.proofs.outcome.finish.Given as goal
 
 -- the same pool came back

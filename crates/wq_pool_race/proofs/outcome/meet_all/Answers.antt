@@ -1,9 +1,5 @@
-use Rattle.std.proofs.Common.{ℕ, ◌<◌, List, length, get_or, arith, sym, ap, ◌∙◌, subst}
-use Rattle.wq_words.specs.declared.event.Event.{Event}
-use Rattle.wq_words.proofs.Written.{each_written, rest_written, whole_items}
-use Rattle.wq_live.specs.Known.{Known}
-use Rattle.wq_race.specs.Outcome.{IsKnown, AllKnown}
-use Rattle.wq_race.proofs.Booking.{heard_still, heard_one, heard_on}
+use Rattle.wq_pool_race.proofs.Common.{ℕ, ◌<◌, List, length, get_or, arith, sym, ap, ◌∙◌, subst, Event, each_written, rest_written, whole_items, Known, IsKnown}
+use Rattle.wq_pool_race.proofs.Common.{AllKnown, heard_still, heard_one, heard_on}
 use Rattle.wq_race.proofs.Meeting.{known_one, known_more}
 use Rattle.wq_pool_race.proofs.outcome.meet_all.Goals as goal
 

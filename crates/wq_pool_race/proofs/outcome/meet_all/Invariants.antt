@@ -1,6 +1,4 @@
-use Rattle.std.proofs.Common.{◌≡◌, ℕ, ◌<◌, ◌≤◌, get_or}
-use Rattle.wq_live.specs.Known.{Known}
-use Rattle.wq_race.specs.Outcome.{HasHeard, IsKnown}
+use Rattle.wq_pool_race.proofs.Common.{◌≡◌, ℕ, ◌<◌, ◌≤◌, get_or, Known, HasHeard, IsKnown}
 use Rattle.wq_pool_race.proofs.outcome.meet_all.Given as goal
 
 -- the book knows those before the index, and the others are as they were

@@ -1,8 +1,5 @@
-use Rattle.std.proofs.Common.{◌≡◌, ◌+◌, ◌-◌, length, vec_len, sym, ap, ◌∙◌, subst, arith}
-use Rattle.std.specs.Prelude.{All}
-use Rattle.std.proofs.lemmas.List.Elements.{All-take, All-drop}
+use Rattle.wq_pool_race.proofs.Common.{◌≡◌, ◌+◌, ◌-◌, length, vec_len, sym, ap, ◌∙◌, subst, arith, All, All-take, All-drop, IsCallerOf}
 use Rattle.wq_live.proofs.Seated.{all_last}
-use Rattle.wq_ready.specs.Known.{IsCallerOf}
 use Rattle.wq_ready.proofs.Callers.{length-new_callers}
 use Rattle.wq_pool_race.proofs.race.make_pool.Goals as goal
 

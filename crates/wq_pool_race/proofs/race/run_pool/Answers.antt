@@ -1,4 +1,4 @@
-use Rattle.std.proofs.Common.{◌∙◌, arith}
+use Rattle.wq_pool_race.proofs.Common.{◌∙◌, arith}
 use Rattle.wq_pool_race.proofs.race.run_pool.Goals as goal
 
 pub balance_all-requires : goal.balance_all-requires

@@ -1,9 +1,4 @@
-use Rattle.std.proofs.Common.{◌≡◌, List, length, map, sym, ◌∙◌, subst, arith}
-use Rattle.std.proofs.lemmas.List.{length-map}
-use Rattle.wq_race.specs.declared.plan.Plan.{Plan}
-use Rattle.wq_served.specs.declared.worker_id.WorkerId.{WorkerId}
-use Rattle.wq_served.specs.WorkerId.{worker_id}
-use Rattle.wq_pool_race.specs.Race.{AllSent}
+use Rattle.wq_pool_race.proofs.Common.{◌≡◌, List, length, sym, ◌∙◌, subst, length-map, WorkerId, worker_id, AllSent}
 use Rattle.wq_pool_race.proofs.Sent.{may_run, same_size, all_sent}
 use Rattle.wq_pool_race.proofs.race.run_teams.Goals as goal
 

@@ -1,14 +1,5 @@
-use Rattle.std.proofs.Common.{◌≡◌, ◌∙◌, ℕ, ◌+◌, ◌-◌, vec_len, sym, ap, subst, length, get_or, List, arith, length-append, [], ◌∷◌}
-use Rattle.std.specs.Prelude.{All}
-use Rattle.std.proofs.lemmas.List.{get_or_default}
-use Rattle.std.proofs.lemmas.List.Elements.{All-take}
-use Rattle.std.proofs.lemmas.Iterator.Adapters.{YieldsList-from_vec}
-use Rattle.std.proofs.lemmas.Iterator.Consumers.{YieldsList-turn}
-use Rattle.std.specs.declared.thread.PromisedHandle.{PromisedHandle}
-use Rattle.wq_words.proofs.Written.{each_more}
-use Rattle.wq_ready.specs.Known.{IsCallerOf}
-use Rattle.wq_pool_race.specs.declared.teams.Group.{Group}
-use Rattle.wq_pool_race.specs.declared.race.QueuesGroup.{QueuesGroup}
+use Rattle.wq_pool_race.proofs.Common.{◌≡◌, ◌∙◌, ℕ, ◌+◌, ◌-◌, vec_len, sym, ap, subst, length, get_or, List, arith, length-append, [], ◌∷◌, All, get_or_default}
+use Rattle.wq_pool_race.proofs.Common.{All-take, YieldsList-from_vec, YieldsList-turn, PromisedHandle, each_more, IsCallerOf, Group, QueuesGroup}
 use Rattle.wq_pool_race.proofs.race.start_groups.Goals as goal
 
 pub loop-group-preserved : goal.loop-group-preserved

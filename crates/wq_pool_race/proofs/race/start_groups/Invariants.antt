@@ -1,9 +1,4 @@
-use Rattle.std.proofs.Common.{◌≡◌, ℕ, ◌+◌, ◌<◌, ◌≤◌, length, get_or}
-use Rattle.std.specs.Prelude.{All}
-use Rattle.std.specs.declared.thread.PromisedHandle.{PromisedHandle}
-use Rattle.wq_ready.specs.Known.{IsCallerOf}
-use Rattle.wq_pool_race.specs.declared.teams.Group.{Group}
-use Rattle.wq_pool_race.specs.declared.race.QueuesGroup.{QueuesGroup}
+use Rattle.wq_pool_race.proofs.Common.{◌≡◌, ℕ, ◌+◌, ◌<◌, ◌≤◌, length, get_or, All, PromisedHandle, IsCallerOf, Group, QueuesGroup}
 use Rattle.wq_pool_race.proofs.race.start_groups.Given as goal
 
 -- a handle for each group so far, and a caller for each of the others

@@ -1,7 +1,4 @@
-use Rattle.std.proofs.Common.{ℕ, ◌≡◌, ◌-◌, ◌*◌, sym, subst, arith}
-use Rattle.std.specs.List.{range_with_len}
-use Rattle.wq_race.specs.Race.{HasQueued}
-use Rattle.wq_race.proofs.Queueing.{queued_none, queued_next}
+use Rattle.wq_pool_race.proofs.Common.{ℕ, ◌≡◌, ◌-◌, ◌*◌, sym, subst, arith, range_with_len, HasQueued, queued_none, queued_next}
 use Rattle.wq_pool_race.proofs.sending.queue_own.Goals as goal
 
 pub loop-item-init : goal.loop-item-init

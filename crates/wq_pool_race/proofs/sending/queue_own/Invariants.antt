@@ -1,7 +1,4 @@
-use Rattle.std.proofs.Common.{◌-◌}
-use Rattle.std.specs.List.{range_with_len}
-use Rattle.wq_ready.specs.Known.{IsCallerOf}
-use Rattle.wq_race.specs.Race.{HasQueued}
+use Rattle.wq_pool_race.proofs.Common.{◌-◌, range_with_len, IsCallerOf, HasQueued}
 use Rattle.wq_pool_race.proofs.sending.queue_own.Given as goal
 
 -- the items before this one are queued

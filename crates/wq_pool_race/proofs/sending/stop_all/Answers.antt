@@ -1,7 +1,4 @@
-use Rattle.std.proofs.Common.{List, length, sym, ap, ◌∙◌, subst, arith}
-use Rattle.wq_live.specs.Known.{Known}
-use Rattle.wq_pool_race.specs.Race.{AllStopped}
-use Rattle.wq_words.proofs.Written.{whole_items}
+use Rattle.wq_pool_race.proofs.Common.{List, length, sym, ap, ◌∙◌, subst, arith, Known, AllStopped, whole_items}
 use Rattle.wq_pool_race.proofs.sending.stop_all.Goals as goal
 
 pub returns : goal.returns

@@ -1,7 +1,4 @@
-use Rattle.std.proofs.Common.{◌≡◌, ℕ, ◌*◌, ◌^◌, ◌<◌, ◌≤◌, get_or}
-use Rattle.wq_ready.specs.Known.{IsCallerOf}
-use Rattle.wq_live.specs.Known.{Known}
-use Rattle.wq_race.specs.Race.{HasStopped}
+use Rattle.wq_pool_race.proofs.Common.{◌≡◌, ℕ, ◌*◌, ◌^◌, ◌<◌, ◌≤◌, get_or, IsCallerOf, Known, HasStopped}
 use Rattle.wq_pool_race.proofs.sending.stop_all.Given as goal
 
 -- the senders before the index have tried to queue the stop item, and the others are as they were

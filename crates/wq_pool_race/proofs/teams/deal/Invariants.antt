@@ -1,6 +1,4 @@
-use Rattle.std.proofs.Common.{◌≡◌, ℕ, ◌+◌, ◌<◌, ◌≤◌, [], ◌∷◌, ◌++◌, length, get_or}
-use Rattle.wq_live.specs.Known.{Known}
-use Rattle.wq_pool_race.specs.declared.teams.Group.{Group}
+use Rattle.wq_pool_race.proofs.Common.{◌≡◌, ℕ, ◌+◌, ◌<◌, ◌≤◌, [], ◌∷◌, ◌++◌, length, get_or, Known, Group}
 use Rattle.wq_pool_race.proofs.teams.deal.Given as goal
 
 -- the groups before the place got their senders, and the others are as they were

@@ -1,5 +1,4 @@
-use Rattle.std.proofs.Common.{◌≡◌, [], length}
-use Rattle.std.specs.Prelude.{All}
+use Rattle.wq_pool_race.proofs.Common.{◌≡◌, [], length, All}
 use Rattle.wq_pool_race.proofs.teams.empty_groups.Given as goal
 
 -- so many groups, none of which has a sender

@@ -1,10 +1,5 @@
-use Rattle.std.proofs.Common.{◌≡◌, ℕ, ◌+◌, List, [], ◌∷◌, ◌++◌, length, take, drop, get_or, sym, ◌∙◌, subst, length-append}
-use Rattle.std.proofs.lemmas.List.{get_or_default}
-use Rattle.std.proofs.lemmas.Iterator.Adapters.{YieldsList-from_vec}
-use Rattle.std.proofs.lemmas.Iterator.Consumers.{YieldsList-turn}
-use Rattle.wq_pool_race.specs.declared.teams.Group.{Group}
-use Rattle.wq_pool_race.specs.Teams.{AreDealt}
-use Rattle.wq_words.proofs.Written.{whole_items}
+use Rattle.wq_pool_race.proofs.Common.{◌≡◌, ℕ, ◌+◌, List, [], ◌∷◌, ◌++◌, length, take, drop, get_or, sym, ◌∙◌, subst, length-append, get_or_default}
+use Rattle.wq_pool_race.proofs.Common.{YieldsList-from_vec, YieldsList-turn, Group, AreDealt, whole_items}
 use Rattle.wq_pool_race.proofs.Seats.{AreTurnedSoFar, turned_more}
 use Rattle.wq_pool_race.proofs.teams.turned.Goals as goal
 

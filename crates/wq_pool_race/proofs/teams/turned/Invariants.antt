@@ -1,4 +1,4 @@
-use Rattle.std.proofs.Common.{length}
+use Rattle.wq_pool_race.proofs.Common.{length}
 use Rattle.wq_pool_race.proofs.Seats.{AreTurnedSoFar}
 use Rattle.wq_pool_race.proofs.teams.turned.Given as goal
 

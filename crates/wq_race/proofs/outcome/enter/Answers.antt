@@ -1,7 +1,4 @@
-use Rattle.std.proofs.Common.{[], ◌∷◌, ◌++◌, sym, subst, ap, ◌∙◌}
-use Rattle.std.specs.Prelude.{All}
-use Rattle.std.proofs.lemmas.List.Elements.{All-append, All-cons, All-nil}
-use Rattle.wq_ledger.specs.Book.{LedgerState, IsLedgerOf}
+use Rattle.wq_race.proofs.Common.{[], ◌∷◌, ◌++◌, sym, subst, ap, ◌∙◌, All, All-append, All-cons, All-nil, LedgerState, IsLedgerOf}
 use Rattle.wq_race.proofs.Booking.{ledger_same}
 use Rattle.wq_race.proofs.outcome.enter.Goals as goal
 

@@ -1,12 +1,5 @@
-use Rattle.std.proofs.Common.{List, [], ◌∷◌, ◌++◌, map, length, sym, ap, subst, ◌∙◌, arith}
-use Rattle.std.specs.Prelude.{All}
-use Rattle.std.proofs.lemmas.List.{map-append, map-id}
-use Rattle.std.proofs.lemmas.List.Elements.{All-push}
-use Rattle.std.proofs.lemmas.Iterator.Adapters.{YieldsList-from_vec}
-use Rattle.std.proofs.lemmas.Iterator.Consumers.{YieldsList-turn, YieldsList-end}
-use Rattle.wq_live.specs.Known.{Known}
-use Rattle.wq_ledger.specs.Book.{LedgerState}
-use Rattle.wq_race.specs.Outcome.{IsTold, ledger_of}
+use Rattle.wq_race.proofs.Common.{List, [], ◌∷◌, ◌++◌, map, length, sym, ap, subst, ◌∙◌, arith, All, map-append, map-id, All-push, YieldsList-from_vec}
+use Rattle.wq_race.proofs.Common.{YieldsList-turn, YieldsList-end, Known, LedgerState, IsTold, ledger_of}
 use Rattle.wq_race.proofs.Booking.{heard_still, heard_on}
 use Rattle.wq_race.proofs.outcome.enter_all.Goals as goal
 

@@ -1,7 +1,4 @@
-use Rattle.std.proofs.Common.{◌≡◌, map}
-use Rattle.std.specs.Prelude.{All}
-use Rattle.wq_ledger.specs.Book.{IsLedgerOf}
-use Rattle.wq_race.specs.Outcome.{HasHeard, IsTold, ledger_of}
+use Rattle.wq_race.proofs.Common.{◌≡◌, map, All, IsLedgerOf, HasHeard, IsTold, ledger_of}
 use Rattle.wq_race.proofs.outcome.enter_all.Given as goal
 
 abbrev pub invariant-loop-sender : goal.invariant-loop-sender

@@ -1,8 +1,5 @@
-use Rattle.std.proofs.Common.{◌≡◌, ℕ, ◌<◌, List, length, get_or, arith, sym, ap, ◌∙◌, subst}
-use Rattle.wq_words.specs.declared.event.Event.{Event}
-use Rattle.wq_live.specs.Known.{Known}
+use Rattle.wq_race.proofs.Common.{◌≡◌, ℕ, ◌<◌, List, length, get_or, arith, sym, ap, ◌∙◌, subst, Event, Known, IsKnown, AllKnown}
 use Rattle.wq_words.proofs.Written.{each_written, rest_written, whole_items}
-use Rattle.wq_race.specs.Outcome.{IsKnown, AllKnown}
 use Rattle.wq_race.proofs.Meeting.{met_still, met_more, known_one, known_more}
 use Rattle.wq_race.proofs.outcome.meet_senders.Goals as goal
 
@@ -16,7 +13,7 @@ loop-sender-init c = record {
 pub meet-requires : goal.meet-requires
 meet-requires c =
     let i : ℕ = c.loop-sender.sender-index in
-    sym (c.loop-sender.invariant.worker.queue_is ∙ sym (ap (λ (k : Known). k.queue) (c.loop-sender.invariant.rest i c.sender-item.result (omega arith))
+    sym (c.loop-sender.invariant.worker.same.queue_is ∙ sym (ap (λ (k : Known). k.queue) (c.loop-sender.invariant.rest i c.sender-item.result (omega arith))
     ∙ c.requires.one i c.sender-item.result (omega (arith, c.loop-sender-test.true, ap length c.deref_mut-sender-items.ensures.value))))
 
 pub loop-sender-preserved : goal.loop-sender-preserved

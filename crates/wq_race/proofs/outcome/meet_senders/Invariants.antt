@@ -1,6 +1,4 @@
-use Rattle.std.proofs.Common.{◌≡◌, ℕ, ◌<◌, ◌≤◌, get_or}
-use Rattle.wq_live.specs.Known.{Known}
-use Rattle.wq_race.specs.Outcome.{HasMet, IsKnown}
+use Rattle.wq_race.proofs.Common.{◌≡◌, ℕ, ◌<◌, ◌≤◌, get_or, Known, HasMet, IsKnown}
 use Rattle.wq_race.proofs.outcome.meet_senders.Given as goal
 
 -- the worker knows those before the index, and the others are as they were

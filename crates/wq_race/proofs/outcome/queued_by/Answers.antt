@@ -1,8 +1,5 @@
-use Rattle.std.proofs.Common.{◌≡◌, ℕ, ◌+◌, ap, ◌∙◌, arith}
-use Rattle.std.proofs.lemmas.List.Sums.{fold_more}
-use Rattle.wq_live.specs.Counts.{sender_counts}
+use Rattle.wq_race.proofs.Common.{◌≡◌, ℕ, ◌+◌, ap, ◌∙◌, arith, fold_more, sender_counts, Known}
 use Rattle.wq_live.specs.declared.counts.SenderCounts.{SenderCounts}
-use Rattle.wq_live.specs.Known.{Known}
 use Rattle.wq_race.proofs.outcome.queued_by.Goals as goal
 
 pub loop-sender-preserved : goal.loop-sender-preserved

@@ -1,5 +1,4 @@
-use Rattle.std.proofs.Common.{◌≡◌, ◌*◌, ◌-◌, ◌^◌, ◌≤◌, take}
-use Rattle.wq_race.specs.Outcome.{queued_sum}
+use Rattle.wq_race.proofs.Common.{◌≡◌, ◌*◌, ◌-◌, ◌^◌, ◌≤◌, take, queued_sum}
 use Rattle.wq_race.proofs.outcome.queued_by.Given as goal
 
 -- what the senders so far queued

@@ -1,4 +1,4 @@
-use Rattle.std.proofs.Common.{refl}
+use Rattle.wq_race.proofs.Common.{refl}
 use Rattle.wq_race.proofs.Serving.{leaves_on, destroys_on}
 use Rattle.wq_race.proofs.outcome.try_destroy.Goals as goal
 

@@ -1,4 +1,4 @@
-use Rattle.std.proofs.Common.{arith}
+use Rattle.wq_race.proofs.Common.{arith}
 use Rattle.wq_race.proofs.Running.{untouched_open, untouched_idle, rooms}
 use Rattle.wq_race.proofs.race.queue_all.Goals as goal
 

@@ -1,6 +1,4 @@
-use Rattle.std.proofs.Common.{ℕ, ◌≡◌, ◌-◌, ◌*◌, sym, ap, subst, arith}
-use Rattle.std.specs.List.{range_with_len}
-use Rattle.wq_race.specs.Race.{items_at, HasQueued}
+use Rattle.wq_race.proofs.Common.{ℕ, ◌≡◌, ◌-◌, ◌*◌, sym, ap, subst, arith, range_with_len, items_at, HasQueued}
 use Rattle.wq_race.proofs.Queueing.{queued_none, queued_next}
 use Rattle.wq_race.proofs.race.queue_own.Goals as goal
 

@@ -1,6 +1,4 @@
-use Rattle.std.proofs.Common.{◌-◌}
-use Rattle.std.specs.List.{range_with_len}
-use Rattle.wq_race.specs.Race.{HasQueued}
+use Rattle.wq_race.proofs.Common.{◌-◌, range_with_len, HasQueued}
 use Rattle.wq_race.proofs.race.queue_own.Given as goal
 
 -- the items before this one are queued

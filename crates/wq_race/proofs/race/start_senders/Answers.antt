@@ -1,12 +1,6 @@
-use Rattle.std.proofs.Common.{◌≡◌, ◌∙◌, ℕ, sym, ap, subst, length, get_or, List, arith, length-append, [], ◌∷◌}
-use Rattle.std.proofs.lemmas.List.{get_or_default}
-use Rattle.std.proofs.lemmas.Iterator.Adapters.{YieldsList-from_vec}
-use Rattle.std.proofs.lemmas.Iterator.Consumers.{YieldsList-turn}
-use Rattle.std.specs.declared.thread.PromisedHandle.{PromisedHandle}
+use Rattle.wq_race.proofs.Common.{◌≡◌, ◌∙◌, ℕ, sym, ap, subst, length, get_or, List, arith, length-append, [], ◌∷◌, get_or_default, YieldsList-from_vec}
+use Rattle.wq_race.proofs.Common.{YieldsList-turn, PromisedHandle, Sender, Known, QueuesOwn}
 use Rattle.wq_words.proofs.Written.{each_more}
-use Rattle.wq_live.specs.declared.sender.Sender.{Sender}
-use Rattle.wq_live.specs.Known.{Known}
-use Rattle.wq_race.specs.declared.race.QueuesOwn.{QueuesOwn}
 use Rattle.wq_race.proofs.race.start_senders.Goals as goal
 
 pub loop-sender-preserved : goal.loop-sender-preserved

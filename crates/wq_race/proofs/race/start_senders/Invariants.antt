@@ -1,8 +1,4 @@
-use Rattle.std.proofs.Common.{◌≡◌, ℕ, ◌<◌, length, get_or}
-use Rattle.wq_live.specs.declared.sender.Sender.{Sender}
-use Rattle.wq_live.specs.Known.{Known}
-use Rattle.std.specs.declared.thread.PromisedHandle.{PromisedHandle}
-use Rattle.wq_race.specs.declared.race.QueuesOwn.{QueuesOwn}
+use Rattle.wq_race.proofs.Common.{◌≡◌, ℕ, ◌<◌, length, get_or, Sender, Known, PromisedHandle, QueuesOwn}
 use Rattle.wq_race.proofs.race.start_senders.Given as goal
 
 -- a handle for each sender so far

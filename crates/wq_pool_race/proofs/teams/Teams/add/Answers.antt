@@ -1,9 +1,4 @@
-use Rattle.std.proofs.Common.{List, [], ◌∷◌, ◌++◌, length, sym, ap, ◌∙◌, subst}
-use Rattle.wq_live.proofs.Seated.{length-new_senders}
-use Rattle.wq_race.proofs.Running.{untouched_idle}
-use Rattle.wq_pool_race.specs.declared.teams.Group.{Group}
-use Rattle.wq_pool_race.specs.Teams.{AreDealt}
-use Rattle.wq_words.proofs.Written.{whole_items}
+use Rattle.wq_pool_race.proofs.Common.{List, [], ◌∷◌, ◌++◌, length, sym, ap, ◌∙◌, subst, length-new_senders, untouched_idle, Group, AreDealt, whole_items}
 use Rattle.wq_pool_race.proofs.Seats.{teams_more}
 use Rattle.wq_pool_race.proofs.teams.Teams.add.Goals as goal
 

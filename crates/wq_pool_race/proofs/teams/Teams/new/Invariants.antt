@@ -1,5 +1,4 @@
-use Rattle.std.proofs.Common.{◌≡◌, length}
-use Rattle.wq_pool_race.specs.Teams.{AreTeams}
+use Rattle.wq_pool_race.proofs.Common.{◌≡◌, length, AreTeams}
 use Rattle.wq_pool_race.proofs.teams.Teams.new.Given as goal
 
 -- the seats of so many queues

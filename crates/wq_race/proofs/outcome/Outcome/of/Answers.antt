@@ -1,12 +1,5 @@
-use Rattle.std.proofs.Common.{◌≡◌, ℕ, ◌*◌, List, [], ◌∷◌, ◌++◌, length, sym, ap, ◌∙◌, subst}
-use Rattle.wq_words.specs.Seen.{own}
-use Rattle.wq_words.proofs.Seen.{running_same}
-use Rattle.wq_live.specs.Known.{Known}
-use Rattle.wq_ledger.specs.Book.{LedgerState, IsLedgerOf}
-use Rattle.std.specs.Prelude.{All}
-use Rattle.wq_live.specs.Counts.{sender_counts}
-use Rattle.wq_race.specs.Outcome.{IsWhole, ledger_of}
-use Rattle.wq_words.proofs.Prefixes.{prefix_on}
+use Rattle.wq_race.proofs.Common.{◌≡◌, ℕ, ◌*◌, List, [], ◌∷◌, ◌++◌, length, sym, ap, ◌∙◌, subst, own, running_same, Known, LedgerState, IsLedgerOf, All}
+use Rattle.wq_race.proofs.Common.{sender_counts, IsWhole, ledger_of, prefix_on}
 use Rattle.wq_race.proofs.Booking.{heard_on, sum_same}
 use Rattle.wq_race.proofs.Ended.{IsOver, surely, never_unbalanced, tells, ran_all, all_counted, senders_count}
 use Rattle.wq_race.proofs.outcome.Outcome.of.Goals as goal

@@ -1,6 +1,4 @@
-use Rattle.std.proofs.Common.{length, ap, arith, refl, ◌∙◌}
-use Rattle.wq_live.specs.Known.{Known}
-use Rattle.wq_live.proofs.Seated.{length-new_senders}
+use Rattle.wq_race.proofs.Common.{length, ap, arith, refl, ◌∙◌, Known, length-new_senders}
 use Rattle.wq_race.proofs.Made.{length-last, shared, new_team}
 use Rattle.wq_race.proofs.team.Team.new.Goals as goal
 
