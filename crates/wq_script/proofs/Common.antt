@@ -16,7 +16,7 @@ pub use Rattle.std.proofs.lemmas.Option.{slice_get_within, slice_get_cases, slic
 pub use Rattle.wq_words.specs.Armed.{armed_of, modified_of}
 pub use Rattle.wq_words.specs.Counting.{is_busy, is_refusal, is_queued_by, is_pending_by, is_closed_by, is_chain, is_chain_busy}
 pub use Rattle.wq_words.specs.DelayTable.{DelayTable, on_table, is_too_far, Entry, items, due_part, table_without, table_at}
-pub use Rattle.wq_words.specs.History.{pending, closed, first, is_push, fresh, accepted, begun, next, taken, is_close, is_take, Holds, ended, IsRunning}
+pub use Rattle.wq_words.specs.History.{pending, closed, first, is_push, fresh, accepted, begun, next, taken, is_close, Holds, ended, IsRunning, IsPending}
 pub use Rattle.wq_words.specs.Legal.{IsLegal, HasSeat}
 pub use Rattle.wq_words.specs.Numbers.{barrier_number, stop_number}
 pub use Rattle.wq_words.specs.Rest.{wakes}
@@ -41,7 +41,7 @@ pub use Rattle.wq_worker.specs.Seats.{Adds, taking, taking_of, NothingWaits, at_
 pub use Rattle.wq_worker.specs.State.{WorkerState, Moves}
 pub use Rattle.wq_delay.specs.Delay.{DelayState, IsFit, Arms, KeepsTable, IsOut, lost_tries, Cancels, Rearms, ArmsAnew, Modifies, PostsDue}
 pub use Rattle.wq_text.specs.declared.command.Command.{Command}
-pub use Rattle.wq_meaning.specs.Answer.{answer_text, close_text, modified_text}
+pub use Rattle.wq_meaning.specs.Answer.{answer_text, armed_text, close_text, modified_text}
 pub use Rattle.wq_meaning.specs.Arming.{queues_now, arm_events, arm_answer, cancel_events, modify_events, modify_answer, due_items, advance_events, arm_table}
 pub use Rattle.wq_meaning.specs.Arming.{post_event, modify_table}
 pub use Rattle.wq_meaning.specs.Commands.{ScriptState, opening_state, state_after, lines, after_row, output_from, output_of}
@@ -52,7 +52,7 @@ pub use Rattle.wq_meaning.specs.Queueing.{queue_events, queue_answer, close_even
 pub use Rattle.wq_meaning.specs.Report.{line, report_text}
 pub use Rattle.wq_meaning.proofs.Answers.{arm_given, queue_uncontended, modify_given}
 pub use Rattle.wq_meaning.proofs.Meanings.{wrote, advanced, advance_back, advance_on, drained, drain_open, drain_closed}
-pub use Rattle.wq_meaning.proofs.Sizes.{queue_few, advance_few, arm_few, arm_table_few, close_few, executions_few, modify_few, modify_table_few}
+pub use Rattle.wq_meaning.proofs.Sizes.{queue_few, advance_few, close_few, executions_few}
 pub use Rattle.wq_script.specs.Arming.{GoesWithTable, ArmsAs, CancelsAs, ModifiesAs, IsPosted, IsBack}
 pub use Rattle.wq_script.specs.Asking.{Asks, Goes, Ran, HasLists, AsksFor, RunsAs}
 pub use Rattle.wq_script.specs.Counting.{Tallied, counted, counted_armed, counted_push, counted_modified, counted_posts}

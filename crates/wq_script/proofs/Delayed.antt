@@ -30,6 +30,11 @@ module _ (layout : Layout) (s t : Seats) (h : List Event) (g : Seated layout s h
     work = gathered.work;
   }
 
+  pub goes_as : (xs es : List Event) (was now : DelayTable) → GoesWithTable layout (h ++ xs) was s t → xs ≡ es → was ≡ now
+      → GoesWithTable layout (h ++ es) now s t
+  goes_as xs es was now l events table =
+      record { seated = subst (λ (x : List Event). Seated layout t (h ++ x)) events l.seated; table = l.table ∙ table; work = l.work }
+
   -- where the table's sender did what is said of its own number
   pub seated_by : (f : ℕ → List Event) (n : ℕ) → Sees (f s.delay.sender.number) n s.delay.sender d.sender
       → Acts layout t h s.delay.sender.seen d.sender.seen (f p) n
@@ -81,9 +86,6 @@ module _ (layout : Layout) (s t : Seats) (h : List Event) (g : Seated layout s h
         (sym means.2, goes_with (Hold p k ∷ []) _ _ a.seated (sym means.0) (told.1.table_is ∙ sym means.1))
     armed_so armed.TooFar far room told =
         let means = arm_far p k delay h s.delay.table (far.0 refl) in
-        let l = goes_nowhere told fit in (
-          sym means.2,
-          record { seated = subst (λ (x : List Event). Seated layout t (h ++ x)) (sym means.0) l.seated; table = l.table ∙ sym means.1; work = l.work },
-        )
+        (sym means.2, goes_as [] _ s.delay.table _ (goes_nowhere told fit) (sym means.0) (sym means.1))
     armed_so armed.Contended far room told = let a = acts _ 1 told.1.seen in absurd (omega (arith, a.none))
     armed_so armed.Memory far room told = absurd (room refl)

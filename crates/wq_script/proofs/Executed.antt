@@ -7,7 +7,8 @@ use Rattle.wq_script.proofs.Common.{Take, Close, Begin, End, Chain, ChainBusy, R
 use Rattle.wq_script.proofs.Common.{legal_next, legal_front, owner_seat, seat_of, own, is_ours, left_nil, own-append, own_one, own_rest, begun_same}
 use Rattle.wq_script.proofs.Common.{closed_count, batch, next_of, Adds, taking, taking_of, NothingWaits, at_take, at_all, Queues, Follows, passed, pushed, busy}
 use Rattle.wq_script.proofs.Common.{refused, chained, chain_busy, queue_events, chain_events, follow_of, take_events, follow_events, after_follow, after_run}
-use Rattle.wq_script.proofs.Common.{after_execution, accepted-append, begun-append, count_by-append, accepted-count, pushes-split, fresh-more, Quiet, is_take}
+use Rattle.wq_script.proofs.Common.{after_execution, accepted-append, begun-append, count_by-append, accepted-count, pushes-split, fresh-more, Quiet}
+use Rattle.wq_words.specs.History.{is_take}
 use Rattle.wq_words.specs.declared.event.Why.TheVariants as why
 use Rattle.wq_words.proofs.Listed.{fresh_push_take}
 use Rattle.wq_script.proofs.Alone.{all_ours}
@@ -46,21 +47,18 @@ taken_few h = each (closed h)
 batch_length : (h : List Event) → length (batch h) ≡ taken h - length (begun h)
 batch_length h = length-drop (length (begun h)) (take (taken h) (accepted h)) ∙ omega (arith, length-take (taken h) (accepted h), taken_few h)
 
+-- a closed queue is not taken from
+untaken : (x : Bool) → (if (x && not true) then Take ∷ [] else []) ≡ []
+untaken true = refl
+untaken false = refl
+
 -- a take comes where a script has one
 pub taking_is : (h : List Event) → taking h ≡ take_events h
 taking_is h = each (next_of h) (closed h) refl
   where
     each : (o : Option ℕ) (b : Bool) → next_of h ≡ o → taking_of o b ≡ (if (nat_le (taken h) (length (begun h)) && not b) then Take ∷ [] else [])
-    each None true is = sym (shut (nat_le (taken h) (length (begun h))))
-      where
-        shut : (x : Bool) → (if (x && not true) then Take ∷ [] else []) ≡ []
-        shut true = refl
-        shut false = refl
-    each (Some k) true is = sym (shut (nat_le (taken h) (length (begun h))))
-      where
-        shut : (x : Bool) → (if (x && not true) then Take ∷ [] else []) ≡ []
-        shut true = refl
-        shut false = refl
+    each None true is = sym (untaken (nat_le (taken h) (length (begun h))))
+    each (Some k) true is = sym (untaken (nat_le (taken h) (length (begun h))))
     each None false is =
         let none : length (batch h) ≡ 0 = empty (batch h) is in
         let le : nat_le (taken h) (length (begun h)) ≡ true = le-leb (taken h) (length (begun h)) (omega (arith, none, batch_length h)) in

@@ -24,20 +24,12 @@ work_seated layout a b h worker delay senders g =
     } in
     subst (λ (x : Seats). Seated layout x h) (λ i. record { worker = sym worker i; delay = sym delay i; senders = sym senders i }) there
 
-set_fit : (n item : ℕ) (follow : ArrayVec ℕ) (fs : List (ArrayVec ℕ)) → ListsFit n fs → All (λ k. k < n) follow.items → ListsFit n (slice_set fs item follow)
-set_fit n item follow fs fit one i d lt = elim (cases_eq i item) [
-  | inl is ↦ subst (λ (f : ArrayVec ℕ). All (λ k. k < n) f.items)
-      (sym (ap (λ (j : ℕ). get_or (slice_set fs item follow) j d) is ∙ get_or-set_same fs item follow d (omega (arith, lt, is, length-set fs item follow)))) one
-  | inr ne ↦ subst (λ (f : ArrayVec ℕ). All (λ k. k < n) f.items) (sym (get_or-set_other fs item i follow d ne))
-      (fit i d (omega (arith, lt, length-set fs item follow)))
-]
-
-set_short : (item : ℕ) (follow : ArrayVec ℕ) (fs : List (ArrayVec ℕ)) → item < length fs → length follow.items ≤ 4
-    → ((k : ℕ) → length (follow_of fs k) ≤ 4) → (k : ℕ) → length (follow_of (slice_set fs item follow) k) ≤ 4
-set_short item follow fs lt few short k = elim (cases_eq k item) [
-  | inl is ↦ subst (λ (f : ArrayVec ℕ). length f.items ≤ 4)
-      (sym (ap (λ (j : ℕ). get_or (slice_set fs item follow) j no_follow) is ∙ get_or-set_same fs item follow no_follow lt)) few
-  | inr ne ↦ subst (λ (f : ArrayVec ℕ). length f.items ≤ 4) (sym (get_or-set_other fs item k follow no_follow ne)) (short k)
+-- what holds of the list that is set and of the one at a place before holds there
+set_holds : (P : ArrayVec ℕ → Type 0) (fs : List (ArrayVec ℕ)) (item k : ℕ) (follow d : ArrayVec ℕ) → item < length fs → P follow → P (get_or fs k d)
+    → P (get_or (slice_set fs item follow) k d)
+set_holds P fs item k follow d lt here there = elim (cases_eq k item) [
+  | inl is ↦ subst P (sym (ap (λ (j : ℕ). get_or (slice_set fs item follow) j d) is ∙ get_or-set_same fs item follow d lt)) here
+  | inr ne ↦ subst P (sym (get_or-set_other fs item k follow d ne)) there
 ]
 
 pub follow_meets : (layout : Layout) (a b : Seats) (x : Tally) (s : ScriptState) (item : ℕ) (follow : ArrayVec ℕ) → Meets (engine layout a x) s
@@ -53,10 +45,12 @@ follow_meets layout a b x s item follow m lt fit few worker lists delay senders 
   follows = lists ∙ ap (λ fs. slice_set fs item follow) m.follows;
   lists = record {
     count = ap length lists ∙ (length-set a.worker.work.follows.items item follow ∙ m.lists.count);
-    fit = subst (λ (fs : List (ArrayVec ℕ)). ListsFit layout.items fs) (sym lists)
-        (set_fit layout.items item follow a.worker.work.follows.items m.lists.fit fit);
+    fit = subst (λ (fs : List (ArrayVec ℕ)). ListsFit layout.items fs) (sym lists) (λ i d less.
+        let fs = a.worker.work.follows.items in
+        set_holds (λ f. All (λ k. k < layout.items) f.items) fs item i follow d (omega (arith, lt, m.lists.count)) fit
+        (m.lists.fit i d (omega (arith, less, length-set fs item follow))));
   };
-  short = set_short item follow s.follows (omega (arith, lt, m.lists.count, ap length m.follows)) few m.short;
+  short = λ k. set_holds (λ f. length f.items ≤ 4) s.follows item k follow no_follow (omega (arith, lt, m.lists.count, ap length m.follows)) few (m.short k);
 }
 
 -- an engine at its beginning

@@ -10,7 +10,7 @@ use Rattle.wq_words.specs.declared.answer.Armed.TheVariants as armed
 use Rattle.wq_words.specs.declared.answer.Modified.TheVariants as modified
 use Rattle.wq_words.proofs.DelayTable.{without_off}
 use Rattle.wq_meaning.proofs.Armings.{closed_or_moved, modify_far, modify_off, modify_now, modify_again}
-use Rattle.wq_script.proofs.Delayed.{acts, seated_by, goes_with, goes_nowhere, armed_so, near_is}
+use Rattle.wq_script.proofs.Delayed.{acts, seated_by, goes_with, goes_nowhere, armed_so, near_is, goes_as}
 
 module _ (wide : Layout) (s k : ℕ) (h : List Event) where
   pushed_open : (es : List Event) → IsLegal wide (h ++ Push s k ∷ es) → (closed h ≡ false) × (Push s k ≡ post_event s h k)
@@ -71,7 +71,7 @@ module _ (layout : Layout) (s t : Seats) (h : List Event) (g : Seated layout s h
         entries = sym (without_off k s.delay.table.entries told.0) i;
         tick = s.delay.table.tick;
         next = s.delay.table.next;
-      } in (sym told.0, record { seated = subst (λ (x : List Event). Seated layout t (h ++ x)) (sym events) l.seated; table = l.table ∙ table; work = l.work })
+      } in (sym told.0, goes_as layout s t h g d gathered [] _ s.delay.table _ l (sym events) table)
 
   module _ (k delay : ℕ) where
     -- how a modification was answered, and what it led to
@@ -89,10 +89,8 @@ module _ (layout : Layout) (s t : Seats) (h : List Event) (g : Seated layout s h
     far_told : d ≡ s.delay → IsTrue (is_too_far delay s.delay.table) → IsModifiedSo modified.TooFar
     far_told same far =
         let means = modify_far p k delay h s.delay.table far in
-        let l = goes_nowhere layout s t h g d gathered same fit in (
-          sym means.2,
-          record { seated = subst (λ (x : List Event). Seated layout t (h ++ x)) (sym means.0) l.seated; table = l.table ∙ sym means.1; work = l.work },
-        )
+        let l = goes_nowhere layout s t h g d gathered same fit in
+        (sym means.2, goes_as layout s t h g d gathered [] _ s.delay.table _ l (sym means.0) (sym means.1))
 
     -- an item on the table was posted
     posted_told : (a : Modified) (b : Bool) (e : Event) → is_too_far delay s.delay.table ≡ false → on_table k s.delay.table.entries ≡ true → delay ≡ 0
@@ -129,15 +127,8 @@ module _ (layout : Layout) (s t : Seats) (h : List Event) (g : Seated layout s h
         → Arms k delay 1 b s.delay d → IsModifiedSo (modified_of b)
     armed_told b at never room other told =
         let means = modify_off p k delay h s.delay.table (near_is (is_too_far delay s.delay.table) never) at in
-        let so = armed_so layout s t h g d gathered k delay fit b ((λ e. absurd (other e)), (λ far. absurd (never far))) room told in (
-          ap modified_of so.0 ∙ sym means.2,
-          record {
-            seated = subst (λ (x : List Event). Seated layout t (h ++ x)) (sym means.0) so.1.seated;
-            table = so.1.table
-                ∙ sym means.1;
-            work = so.1.work;
-          },
-        )
+        let so = armed_so layout s t h g d gathered k delay fit b ((λ e. absurd (other e)), (λ far. absurd (never far))) room told in
+        (ap modified_of so.0 ∙ sym means.2, goes_as layout s t h g d gathered _ _ _ _ so.1 (sym means.0) (sym means.1))
 
     off_told : (a : Modified) → on_table k s.delay.table.entries ≡ false → TellsFar a → ¬ (a ≡ modified.Memory) → ArmsAnew k delay 1 a s.delay d
         → IsModifiedSo a

@@ -1,5 +1,5 @@
-use Rattle.wq_script.proofs.Common.{◌∙◌, ℕ, ◌+◌, ◌++◌, sym, ap, refl, arith, string_bytes, length-append, line, arm_events, arm_few, arm_table_few, arm_given}
-use Rattle.wq_meaning.specs.Answer.{armed_text}
+use Rattle.wq_script.proofs.Common.{◌∙◌, ℕ, ◌+◌, ◌++◌, sym, ap, refl, arith, string_bytes, length-append, line, arm_events, arm_given, armed_text}
+use Rattle.wq_meaning.proofs.Sizes.{arm_few, arm_table_few}
 use Rattle.wq_script.proofs.TableMeetings.{armed_meets}
 use Rattle.wq_script.proofs.engine.Engine.arm.Goals as goal
 

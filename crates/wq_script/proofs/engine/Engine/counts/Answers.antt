@@ -3,33 +3,27 @@ use Rattle.wq_script.proofs.Reports.{sums}
 use Rattle.wq_script.proofs.engine.Engine.counts.Goals as goal
 
 pub overflow_add-accepted : goal.overflow_add-accepted
-overflow_add-accepted c =
-    let u = sums c.args.self.now c.requires.ready c.counts-totals.result c.counts-totals.ensures.counted in
+overflow_add-accepted c = let u = sums c.args.self.now c.requires.ready c.counts-totals.result c.counts-totals.ensures.counted in
     omega (arith, u.accepts, u.some, u.finds_busy, u.some_busy, u.refuses, u.some_refused, u.chains, u.ends, u.order)
 
 pub overflow_add-accepted-2 : goal.overflow_add-accepted-2
-overflow_add-accepted-2 c =
-    let u = sums c.args.self.now c.requires.ready c.counts-totals.result c.counts-totals.ensures.counted in
+overflow_add-accepted-2 c = let u = sums c.args.self.now c.requires.ready c.counts-totals.result c.counts-totals.ensures.counted in
     omega (arith, u.accepts, u.some, u.finds_busy, u.some_busy, u.refuses, u.some_refused, u.chains, u.ends, u.order)
 
 pub overflow_cast-result : goal.overflow_cast-result
-overflow_cast-result c =
-    let u = sums c.args.self.now c.requires.ready c.counts-totals.result c.counts-totals.ensures.counted in
+overflow_cast-result c = let u = sums c.args.self.now c.requires.ready c.counts-totals.result c.counts-totals.ensures.counted in
     omega (arith, u.accepts, u.some, u.finds_busy, u.some_busy, u.refuses, u.some_refused, u.chains, u.ends, u.order)
 
 pub overflow_add-result : goal.overflow_add-result
-overflow_add-result c =
-    let u = sums c.args.self.now c.requires.ready c.counts-totals.result c.counts-totals.ensures.counted in
+overflow_add-result c = let u = sums c.args.self.now c.requires.ready c.counts-totals.result c.counts-totals.ensures.counted in
     omega (arith, u.accepts, u.some, u.finds_busy, u.some_busy, u.refuses, u.some_refused, u.chains, u.ends, u.order)
 
 pub overflow_add-result-2 : goal.overflow_add-result-2
-overflow_add-result-2 c =
-    let u = sums c.args.self.now c.requires.ready c.counts-totals.result c.counts-totals.ensures.counted in
+overflow_add-result-2 c = let u = sums c.args.self.now c.requires.ready c.counts-totals.result c.counts-totals.ensures.counted in
     omega (arith, u.accepts, u.some, u.finds_busy, u.some_busy, u.refuses, u.some_refused, u.chains, u.ends, u.order)
 
 pub overflow_sub-result : goal.overflow_sub-result
-overflow_sub-result c =
-    let u = sums c.args.self.now c.requires.ready c.counts-totals.result c.counts-totals.ensures.counted in
+overflow_sub-result c = let u = sums c.args.self.now c.requires.ready c.counts-totals.result c.counts-totals.ensures.counted in
     omega (arith, u.accepts, u.some, u.finds_busy, u.some_busy, u.refuses, u.some_refused, u.chains, u.ends, u.order)
 
 pub returns : goal.returns
