@@ -14,7 +14,7 @@ use Rattle.wq_live.specs.Answers.{Answers, Chains}
 use Rattle.wq_worker.specs.Follow.{Queues, passed, pushed, busy, refused, chained, chain_busy, Follows, contended_of}
 use Rattle.wq_worker.specs.Pair.{settled, Paired, Both, Attempts, QueuesRest, finished, contended}
 use Rattle.wq_worker.proofs.Owned.{IsQuiet, quiet_none, quiet_append, Stays, stays, owner_of_both}
-use Rattle.wq_worker.proofs.Pair.{both_on, met_owner, met_sender}
+use Rattle.wq_worker.proofs.Pair.{both_on, by_owner, by_sender}
 
 quiet_as : (xs es : List Event) → es ≡ xs → IsQuiet xs → IsQuiet es
 quiet_as xs es is q = subst IsQuiet (sym is) q
@@ -42,27 +42,27 @@ follows_push n s b [] k es fs t q = (fs, [], ap (λ (z : List Event). z ++ fs) t
 follows_push n s b (j ∷ ks) k es fs t q =
     (t.0, t.1 ++ fs, ap (λ (z : List Event). z ++ fs) t.2 ∙ append_assoc t.0 t.1 fs, t.3, follows_push n s b ks k t.1 fs t.4 q)
 
-pub told_chain : (item : ℕ) (a : Answer) (o s p q u : Known) → Paired o s → item < s.layout.items → closed o.seen ≡ true → Chains item a o p
-    → Sees [] 0 p q → Sees [] 0 s u → q.seen ≡ u.seen
+pub told_chain : (item : ℕ) (a : Answer) (o s q u : Known) → Paired o s → item < s.layout.items → closed o.seen ≡ true → Chains item a o q
+    → Sees [] 0 s u → q.seen ≡ u.seen
     → (es : List Event) × Queues s.layout.items s.number (closed o.seen) item es × Both es 0 o s q u
-told_chain item (answer.Queued is_first wakes) o s p q u pair low shut h b c both =
-    (Chain item ∷ [], chained low shut refl, met_owner (Chain item ∷ []) 0 0 0 o s p q u pair h.2 b c both)
-told_chain item answer.Pending o s p q u pair low shut h b c both =
-    (ChainBusy item ∷ [], chain_busy low shut refl, met_owner (ChainBusy item ∷ []) 0 0 0 o s p q u pair h b c both)
-told_chain item answer.Closed o s p q u pair low shut h b c both = absurd h
-told_chain item answer.Contended o s p q u pair low shut h b c both = absurd h
+told_chain item (answer.Queued is_first wakes) o s q u pair low shut h c both =
+    (Chain item ∷ [], chained low shut refl, by_owner (Chain item ∷ []) 0 0 o s q u pair h.2 c both)
+told_chain item answer.Pending o s q u pair low shut h c both =
+    (ChainBusy item ∷ [], chain_busy low shut refl, by_owner (ChainBusy item ∷ []) 0 0 o s q u pair h c both)
+told_chain item answer.Closed o s q u pair low shut h c both = absurd h
+told_chain item answer.Contended o s q u pair low shut h c both = absurd h
 
-pub told_send : (item tries : ℕ) (a : Answer) (o s t q u : Known) → Paired o s → item < s.layout.items → closed o.seen ≡ false
-    → Answers item tries a s t → Sees [] 0 t u → Sees [] 0 o q → q.seen ≡ u.seen
+pub told_send : (item tries : ℕ) (a : Answer) (o s q u : Known) → Paired o s → item < s.layout.items → closed o.seen ≡ false
+    → Answers item tries a s u → Sees [] 0 o q → q.seen ≡ u.seen
     → (es : List Event) × Attempts s.layout.items s.number (closed o.seen) item (settled a) es × Both es (cond (settled a) 0 tries) o s q u
-told_send item tries (answer.Queued is_first wakes) o s t q u pair low opens h b c both =
-    let es = Hold s.number item ∷ Push s.number item ∷ [] in (es, pushed low opens refl, met_sender es 0 0 0 o s t q u pair h.0 b c both)
-told_send item tries answer.Pending o s t q u pair low opens h b c both =
-    let es = Busy s.number item ∷ [] in (es, busy low opens refl, met_sender es 0 0 0 o s t q u pair h b c both)
-told_send item tries answer.Closed o s t q u pair low opens h b c both =
-    let es = Hold s.number item ∷ Back s.number item why.Closed ∷ [] in (es, refused low opens refl, met_sender es 0 0 0 o s t q u pair h b c both)
-told_send item tries answer.Contended o s t q u pair low opens h b c both =
-    (contended_of s.number item, (low, opens, refl), met_sender (contended_of s.number item) tries 0 0 o s t q u pair h b c both)
+told_send item tries (answer.Queued is_first wakes) o s q u pair low opens h c both =
+    let es = Hold s.number item ∷ Push s.number item ∷ [] in (es, pushed low opens refl, by_sender es 0 0 o s q u pair h.0 c both)
+told_send item tries answer.Pending o s q u pair low opens h c both =
+    let es = Busy s.number item ∷ [] in (es, busy low opens refl, by_sender es 0 0 o s q u pair h c both)
+told_send item tries answer.Closed o s q u pair low opens h c both =
+    let es = Hold s.number item ∷ Back s.number item why.Closed ∷ [] in (es, refused low opens refl, by_sender es 0 0 o s q u pair h c both)
+told_send item tries answer.Contended o s q u pair low opens h c both =
+    (contended_of s.number item, (low, opens, refl), by_sender (contended_of s.number item) tries 0 o s q u pair h c both)
 
 -- of the numbers ks those before js were queued
 pub record Sofar (ks js : List ℕ) (o s p t : Known) : Type 0 where

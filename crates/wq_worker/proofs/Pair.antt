@@ -1,4 +1,4 @@
--- An owner and a sender that met after the steps of one of them.
+-- An owner and a sender that have seen the same, after the steps of one of them.
 use Rattle.std.proofs.Common.{◌≡◌, ℕ, ◌+◌, List, [], ◌++◌, sym, ◌∙◌, subst, arith}
 use Rattle.std.proofs.lemmas.List.{append-nil}
 use Rattle.wq_words.specs.declared.event.Event.{Event}
@@ -11,9 +11,6 @@ use Rattle.wq_worker.specs.Pair.{Paired, Both}
 use Rattle.wq_worker.proofs.Seats.{adds_owner, adds_sender, adds_on, adds_none}
 use Rattle.wq_live.proofs.Sends.{same_on}
 use Rattle.wq_live.proofs.Sends.{same_none as same_still}
-
-pub sees_still : (xs : List Event) (n m : ℕ) (s t u : Known) → Sees xs n s t → Sees [] m t u → Sees xs n s u
-sees_still xs n m s t u a b = subst (λ (z : List Event). Sees z n s u) (append-nil xs) (sees_on (λ z. xs) (λ z. []) n m n s t u (omega arith) a b)
 
 pub both_still : (o s : Known) → Paired o s → Both [] 0 o s o s
 both_still o s p = record { owner = same_still o; sender = same_still s; paired = p; adds = adds_none s.number o.seen }
@@ -38,9 +35,9 @@ paired_after o s q u p a b both legal = record {
 pub owner_grew : (xs : List Event) (n : ℕ) (o s p : Known) → Paired o s → Sees xs n o p → Grows owner_seat xs n o.seen p.seen
 owner_grew xs n o s p pair a = subst (λ (z : ℕ). Grows z xs n o.seen p.seen) pair.seat a.grows
 
--- the owner made steps, and the sender met another seat that sees the same
-pub met_other : (xs : List Event) (n m : ℕ) (o s q u : Known) → Paired o s → Sees xs n o q → Sees [] m s u → q.seen ≡ u.seen → Both xs 0 o s q u
-met_other xs n m o s q u pair b c both =
+-- the owner made steps
+pub by_owner : (xs : List Event) (n m : ℕ) (o s q u : Known) → Paired o s → Sees xs n o q → Sees [] m s u → q.seen ≡ u.seen → Both xs 0 o s q u
+by_owner xs n m o s q u pair b c both =
     let none : Grows s.number [] m o.seen q.seen =
     subst (λ (z : List Event). Grows s.number [] m o.seen z) (sym both) (subst (λ (z : List Event). Grows s.number [] m z u.seen) pair.seen c.grows) in
     record {
@@ -50,16 +47,9 @@ met_other xs n m o s q u pair b c both =
       adds = adds_owner s.number xs n m o.seen q.seen (owner_grew xs n o s q pair b) none;
     }
 
--- the owner made steps, and then the sender met it
-pub met_owner : (xs : List Event) (n m k : ℕ) (o s p q u : Known) → Paired o s → Sees xs n o p → Sees [] k p q → Sees [] m s u → q.seen ≡ u.seen
-    → Both xs 0 o s q u
-met_owner xs n m k o s p q u pair a b c both = met_other xs n m o s q u pair (sees_still xs n k o p q a b) c both
-
--- the sender made steps, and then it met the owner
-pub met_sender : (xs : List Event) (n m k : ℕ) (o s t q u : Known) → Paired o s → Sees xs n s t → Sees [] k t u → Sees [] m o q → q.seen ≡ u.seen
-    → Both xs n o s q u
-met_sender xs n m k o s t q u pair a b c both =
-    let g = sees_still xs n k s t u a b in
+-- the sender made steps
+pub by_sender : (xs : List Event) (n m : ℕ) (o s q u : Known) → Paired o s → Sees xs n s u → Sees [] m o q → q.seen ≡ u.seen → Both xs n o s q u
+by_sender xs n m o s q u pair g c both =
     let mine : Grows s.number xs n o.seen q.seen =
     subst (λ (z : List Event). Grows s.number xs n o.seen z) (sym both) (subst (λ (z : List Event). Grows s.number xs n z u.seen) pair.seen g.grows) in
     record {

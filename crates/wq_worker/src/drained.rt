@@ -7,7 +7,7 @@ use crate::work::Work;
 use crate::worker::Worker;
 use std::fmt;
 use thiserror::Error;
-use wq_live::Owner;
+use wq_live::Pair;
 
 /// What a drain answers (`drain_workqueue`).
 #[derive(Clone, Copy, Debug, PartialEq, Eq)]
@@ -35,13 +35,13 @@ impl<W: Work> fmt::Debug for Unfinished<W> {
 }
 
 /// How many numbers are accepted and have not ended.
-pub(crate) fn left_of(owner: &Owner) -> u32
-    requires legal { IsLegal owner.now.layout owner.now.seen }
-    requires shut { IsClosed owner.now.seen }
-    ensures { result + length (ended owner.now.seen) ≡ length (accepted owner.now.seen) }
+pub(crate) fn left_of(pair: &Pair) -> u32
+    requires legal { IsLegal pair.now.layout pair.now.seen }
+    requires shut { IsClosed pair.now.seen }
+    ensures { result + length (ended pair.now.seen) ≡ length (accepted pair.now.seen) }
 {
-    if let Some(_number) = owner.running() {
-        return owner.waiting() + 1;
+    if let Some(_number) = pair.running() {
+        return pair.waiting() + 1;
     }
-    owner.waiting()
+    pair.waiting()
 }

@@ -1,10 +1,10 @@
-//! Steps of an owner and a sender of one queue, after each of which both have seen the same.
+//! Steps of an owner and a sender of one queue, in one seat.
 ghost use Rattle.std.specs.Prelude.{◌≡◌, ℕ, ◌<◌, ◌≤◌, Some, None, false, [], ◌∷◌, MatchOption, length, drop, slice_index};
 ghost use Rattle.wq_words.specs.declared.event.Event.TheVariants.{End};
 ghost use Rattle.wq_words.specs.History.{closed, running, IsRunning, IsClosed};
 ghost use Rattle.wq_words.specs.Legal.{IsLegal};
-ghost use Rattle.wq_words.specs.Seen.{owner_seat};
 ghost use Rattle.wq_live.specs.Known.{Sees};
+ghost use Rattle.wq_live.specs.Pairs.{owner_of, sender_of};
 ghost use Rattle.wq_live.specs.Answers.{IsContended};
 ghost use Rattle.wq_live.specs.Batch.{next_of};
 ghost use Rattle.wq_live.specs.Rest.{MayNotRest};
@@ -12,18 +12,18 @@ ghost use Rattle.wq_worker.specs.Seats.{taking, NothingWaits};
 ghost use Rattle.wq_worker.specs.Resting.{HasNoneLeft, rest_events};
 ghost use Rattle.wq_worker.specs.Pair.{settled, Paired, Both, BothFindNothing, BothBegin, BothQueue, QueuesRest};
 
-use wq_live::{Answer, Owner, Sender};
+use wq_live::{Answer, Pair};
 
 // Takes where nothing taken waits and the queue is open.
-fn take_where_empty(owner: &mut Owner)
-    requires legal { IsLegal owner.old.layout owner.old.seen }
-    requires seat { owner.old.number ≡ owner_seat }
-    ensures seen { Sees (taking owner.old.seen) 0 owner.old owner.new }
-    ensures empty { next_of owner.new.seen ≡ None → NothingWaits owner.new.seen }
+fn take_where_empty(pair: &mut Pair)
+    requires legal { IsLegal pair.old.layout pair.old.seen }
+    ensures seen { Sees (taking pair.old.seen) 0 (owner_of pair.old) (owner_of pair.new) }
+    ensures others { Sees [] 0 (sender_of pair.old) (sender_of pair.new) }
+    ensures empty { next_of pair.new.seen ≡ None → NothingWaits pair.new.seen }
 {
-    if owner.next().is_none() {
-        if !owner.is_closed() {
-            owner.take();
+    if pair.next().is_none() {
+        if !pair.is_closed() {
+            pair.take();
         }
     }
 }
@@ -38,99 +38,85 @@ fn is_settled(answer: &Answer) -> bool
 }
 
 /// Begins the oldest number, after a take where nothing taken waits.
-pub(crate) fn begin_next(owner: &mut Owner, sender: &mut Sender) -> Option<u32>
-    requires paired { Paired owner.old sender.old }
-    requires idle { ¬ IsRunning owner.old.seen }
-    ensures { MatchOption result (BothFindNothing owner.old sender.old owner.new sender.new) (λ k. BothBegin k owner.old sender.old owner.new sender.new) }
+pub(crate) fn begin_next(pair: &mut Pair) -> Option<u32>
+    requires paired { Paired (owner_of pair.old) (sender_of pair.old) }
+    requires idle { ¬ IsRunning pair.old.seen }
+    ensures { MatchOption result (BothFindNothing (owner_of pair.old) (sender_of pair.old) (owner_of pair.new) (sender_of pair.new))
+        (λ k. BothBegin k (owner_of pair.old) (sender_of pair.old) (owner_of pair.new) (sender_of pair.new)) }
 {
-    take_where_empty(owner);
-    if owner.next().is_none() {
-        sender.meet_owner(owner);
+    take_where_empty(pair);
+    if pair.next().is_none() {
         return None;
     }
-    let number = owner.begin();
-    sender.meet_owner(owner);
-    Some(number)
+    Some(pair.begin())
 }
 
 /// Makes the take that a begin would make, and answers the oldest number that was taken and has not begun.
-pub(crate) fn take_next(owner: &mut Owner, sender: &mut Sender) -> Option<u32>
-    requires paired { Paired owner.old sender.old }
-    ensures both { Both (taking owner.old.seen) 0 owner.old sender.old owner.new sender.new }
-    ensures next { result ≡ next_of owner.new.seen }
-    ensures nothing { result ≡ None → NothingWaits owner.new.seen }
+pub(crate) fn take_next(pair: &mut Pair) -> Option<u32>
+    requires paired { Paired (owner_of pair.old) (sender_of pair.old) }
+    ensures both { Both (taking pair.old.seen) 0 (owner_of pair.old) (sender_of pair.old) (owner_of pair.new) (sender_of pair.new) }
+    ensures next { result ≡ next_of pair.new.seen }
+    ensures nothing { result ≡ None → NothingWaits pair.new.seen }
 {
-    take_where_empty(owner);
-    sender.meet_owner(owner);
-    owner.next()
+    take_where_empty(pair);
+    pair.next()
 }
 
 /// Rests, where nothing is left. False where something was pushed since the last take, or where the queue rests already.
-pub(crate) fn rest(owner: &mut Owner, sender: &mut Sender) -> bool
-    requires paired { Paired owner.old sender.old }
-    requires open { ¬ IsClosed owner.old.seen }
-    requires none { HasNoneLeft owner.old.seen }
-    ensures both { Both (rest_events result) 0 owner.old sender.old owner.new sender.new }
-    ensures unclosed { ¬ IsClosed owner.new.seen }
-    ensures none { HasNoneLeft owner.new.seen }
-    ensures refused { result ≡ false → MayNotRest owner.new.seen }
+pub(crate) fn rest(pair: &mut Pair) -> bool
+    requires paired { Paired (owner_of pair.old) (sender_of pair.old) }
+    requires open { ¬ IsClosed pair.old.seen }
+    requires none { HasNoneLeft pair.old.seen }
+    ensures both { Both (rest_events result) 0 (owner_of pair.old) (sender_of pair.old) (owner_of pair.new) (sender_of pair.new) }
+    ensures unclosed { ¬ IsClosed pair.new.seen }
+    ensures none { HasNoneLeft pair.new.seen }
+    ensures refused { result ≡ false → MayNotRest pair.new.seen }
 {
-    let rests = owner.rest();
-    sender.meet_owner(owner);
-    rests
+    pair.rest()
 }
 
 /// Ends what runs.
-pub(crate) fn end_running(owner: &mut Owner, sender: &mut Sender)
-    requires paired { Paired owner.old sender.old }
-    requires runs { IsRunning owner.old.seen }
-    ensures { (k : ℕ) → running owner.old.seen ≡ Some k → Both (End k ∷ []) 0 owner.old sender.old owner.new sender.new }
+pub(crate) fn end_running(pair: &mut Pair)
+    requires paired { Paired (owner_of pair.old) (sender_of pair.old) }
+    requires runs { IsRunning pair.old.seen }
+    ensures { (k : ℕ) → running pair.old.seen ≡ Some k → Both (End k ∷ []) 0 (owner_of pair.old) (sender_of pair.old) (owner_of pair.new) (sender_of pair.new) }
 {
-    owner.end();
-    sender.meet_owner(owner);
+    pair.end();
 }
 
 /// Queues one number, chained where the queue is closed. False where that was contended.
-fn queue_one(owner: &mut Owner, sender: &mut Sender, item: u32, tries: u32) -> bool
-    requires paired { Paired owner.old sender.old }
-    requires runs { IsRunning owner.old.seen }
+fn queue_one(pair: &mut Pair, item: u32, tries: u32) -> bool
+    requires paired { Paired (owner_of pair.old) (sender_of pair.old) }
+    requires runs { IsRunning pair.old.seen }
     requires tries { 0 < tries }
-    ensures queued { BothQueue item tries result owner.old sender.old owner.new sender.new }
-    ensures contended { result ≡ false → IsContended sender.old.number item tries sender.new.seen }
+    ensures queued { BothQueue item tries result (owner_of pair.old) (sender_of pair.old) (owner_of pair.new) (sender_of pair.new) }
+    ensures contended { result ≡ false → IsContended pair.old.number item tries pair.new.seen }
 {
-    if item >= owner.layout().items {
+    if item >= pair.layout().items {
         return true;
     }
-    if owner.is_closed() {
-        let _ = owner.chain(item);
-        sender.meet_owner(owner);
+    if pair.is_closed() {
+        let _ = pair.chain(item);
         return true;
     }
-    let answer = sender.queue_tries(item, tries);
-    sender.meet_owner(owner);
+    let answer = pair.queue_tries(item, tries);
     is_settled(&answer)
 }
 
 /// Queues the numbers from a place on. Answers the place that it came to: the end, or that of a number whose queueing was
 /// contended.
-pub(crate) fn queue_rest(
-    owner: &mut Owner,
-    sender: &mut Sender,
-    follow: &[u32],
-    from: usize,
-    tries: u32,
-) -> usize
-    requires paired { Paired owner.old sender.old }
-    requires runs { IsRunning owner.old.seen }
+pub(crate) fn queue_rest(pair: &mut Pair, follow: &[u32], from: usize, tries: u32) -> usize
+    requires paired { Paired (owner_of pair.old) (sender_of pair.old) }
+    requires runs { IsRunning pair.old.seen }
     requires tries { 0 < tries }
     requires from { from ≤ length follow.now }
     ensures within { result ≤ length follow.now }
-    ensures queued { QueuesRest tries (drop from follow.now) (drop result follow.now) owner.old sender.old owner.new sender.new }
-    ensures contended { result < length follow.now → IsContended sender.old.number (slice_index follow.now result) tries sender.new.seen }
+    ensures queued { QueuesRest tries (drop from follow.now) (drop result follow.now) (owner_of pair.old) (sender_of pair.old) (owner_of pair.new) (sender_of pair.new) }
+    ensures contended { result < length follow.now → IsContended pair.old.number (slice_index follow.now result) tries pair.new.seen }
 {
     let mut at = from;
     while at < follow.len() {
-        if !queue_one(owner, sender, follow[at], tries) {
+        if !queue_one(pair, follow[at], tries) {
             return at;
         }
         at += 1;

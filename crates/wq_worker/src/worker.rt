@@ -29,14 +29,13 @@ use std::alloc::Global;
 use std::marker::Model;
 use std::sync::Wait;
 use wq_ledger::{Book, Totals};
-use wq_live::{Owner, Sender, Spins, build};
+use wq_live::{Owner, Pair, Sender, Spins, build};
 use wq_words::Layout;
 
-/// An owner and a sender of one queue, and the work that runs its items.
+/// An owner and a sender of one queue, in one seat, and the work that runs its items.
 #[derive(Drop)]
 pub struct Worker<W: Work> {
-    owner: Owner,
-    sender: Sender,
+    pair: Pair,
     work: W,
     tries: u32,
     follow: Follow,
@@ -46,27 +45,28 @@ pub struct Worker<W: Work> {
 
 impl<W: Work> Model for Worker<W> {
     ghost use Rattle.std.specs.Prelude.{drop};
+    ghost use Rattle.wq_live.specs.Pairs.{owner_of, sender_of};
     ghost use Rattle.wq_worker.specs.State.{WorkerState, AreWorkerParts};
 
     ghost Value = { WorkerState W };
 
     ghost view = { λ w. record {
-      queue = w.owner.queue;
-      layout = w.owner.layout;
-      number = w.sender.number;
+      queue = w.pair.queue;
+      layout = w.pair.layout;
+      number = w.pair.number;
       tries = w.tries;
-      seen = w.owner.seen;
+      seen = w.pair.seen;
       unqueued = drop w.at w.follow.items;
       work = w.work;
     } };
 
-    ghost invariant = { λ w. AreWorkerParts (W.log w.work) w.tries w.at w.follow.items w.owner w.sender };
+    ghost invariant = { λ w. AreWorkerParts (W.log w.work) w.tries w.at w.follow.items (owner_of w.pair) (sender_of w.pair) };
 }
 
 impl<W: Work> Worker<W> {
     /// A worker of an owner that has begun nothing and a work that has run nothing. It queues what runs ask for by this
     /// sender, with so many tries.
-    pub fn new(mut owner: Owner, mut sender: Sender, work: W, tries: u32) -> Worker<W>
+    pub fn new(owner: Owner, sender: Sender, work: W, tries: u32) -> Worker<W>
         requires one { sender.queue ≡ owner.queue }
         requires tries { 0 < tries }
         requires unbegun { begun owner.seen ≡ [] }
@@ -77,10 +77,9 @@ impl<W: Work> Worker<W> {
         ensures legal { IsLegal result.layout result.seen }
         ensures idle { ¬ IsRunning result.seen }
     {
-        sender.meet_owner(&mut owner);
+        let pair = Pair::join(owner, sender);
         Worker {
-            owner,
-            sender,
+            pair,
             work,
             tries,
             follow: Follow::new(),
@@ -93,7 +92,7 @@ impl<W: Work> Worker<W> {
     pub fn set_spins(&mut self, spins: Spins)
         ensures same { self.new ≡ self.old }
     {
-        self.sender.set_spins(spins);
+        self.pair.set_spins(spins);
         self.spins = spins;
     }
 
@@ -134,12 +133,12 @@ impl<W: Work> Worker<W> {
         requires { ¬ IsRunning self.old.seen }
         ensures { MatchOption result (FindsNothing self.old self.new) (λ k. Begins W.may self.old k self.new) }
     {
-        let begun = begin_next(&mut self.owner, &mut self.sender);
+        let begun = begin_next(&mut self.pair);
         let Some(number) = begun else {
             return None;
         };
         self.at = 0;
-        if number < self.owner.layout().items {
+        if number < self.pair.layout().items {
             self.follow = self.work.run(number);
             return Some(number);
         }
@@ -155,8 +154,7 @@ impl<W: Work> Worker<W> {
         ensures owed { (k : ℕ) → result ≡ Owing k → IsContended self.old.number (slice_index self.new.unqueued 0) self.old.tries self.new.seen }
     {
         let at = queue_rest(
-            &mut self.owner,
-            &mut self.sender,
+            &mut self.pair,
             self.follow.as_slice(),
             self.at,
             self.tries,
@@ -165,8 +163,8 @@ impl<W: Work> Worker<W> {
         if at < self.follow.len() {
             return Ran::Owing(number);
         }
-        end_running(&mut self.owner, &mut self.sender);
-        Ran::of(self.owner.layout(), number)
+        end_running(&mut self.pair);
+        Ran::of(self.pair.layout(), number)
     }
 
     /// What the worker has seen is a legal history, so it keeps the headline: what was accepted is executed in its order, once,
@@ -175,28 +173,28 @@ impl<W: Work> Worker<W> {
         ensures legal { IsLegal self.now.layout self.now.seen }
         ensures headline { KeepsHeadline self.now.seen }
     {
-        let _ = &self.owner;
+        let _ = &self.pair;
     }
 
     /// The work has run the items that have begun, in this order.
     pub fn logged(&self)
         ensures log { W.log self.now.work ≡ items_among self.now.layout (begun self.now.seen) }
     {
-        let _ = &self.owner;
+        let _ = &self.pair;
     }
 
     /// The worker's sender is one of its queue's.
     pub fn seated(&self)
         ensures in_layout { self.now.number < self.now.layout.senders }
     {
-        let _ = &self.owner;
+        let _ = &self.pair;
     }
 
     /// How large the queue is.
     pub fn layout(&self) -> Layout
         ensures size { result ≡ self.now.layout }
     {
-        self.owner.layout()
+        self.pair.layout()
     }
 
     /// Executes the oldest number, after a take where nothing taken waits and the queue is open. What the work asks for is
@@ -210,7 +208,7 @@ impl<W: Work> Worker<W> {
         ensures same { IsSameWorker self.old self.new }
         ensures legal { IsLegal self.new.layout self.new.seen }
     {
-        if let Some(number) = self.owner.running() {
+        if let Some(number) = self.pair.running() {
             return self.finish(number);
         }
         let Some(number) = self.start() else {
@@ -224,10 +222,10 @@ impl<W: Work> Worker<W> {
     pub fn ready(&mut self) -> Option<u32>
         ensures outcome { MatchOption result (IsUnready self.old self.new) (λ k. IsReady self.old k self.new) }
     {
-        if self.owner.running().is_some() {
+        if self.pair.running().is_some() {
             return None;
         }
-        take_next(&mut self.owner, &mut self.sender)
+        take_next(&mut self.pair)
     }
 
     /// Says once that the queue rests: true where all that was accepted has ended, nothing was pushed since the last take, and
@@ -247,7 +245,7 @@ impl<W: Work> Worker<W> {
         ensures none { HasNoneLeft self.new.seen }
         ensures refused { result ≡ false → MayNotRest self.new.seen }
     {
-        rest(&mut self.owner, &mut self.sender)
+        rest(&mut self.pair)
     }
 
     /// Executes up to so many numbers, and answers how many executions ended. It stops at the limit, after the stop item,
@@ -279,9 +277,7 @@ impl<W: Work> Worker<W> {
         ensures events { Moves (Close ∷ []) 0 self.old self.new }
         ensures takes { TakesAll Close result self.new.seen }
     {
-        let taken = self.owner.close();
-        self.sender.meet_owner(&mut self.owner);
-        taken
+        self.pair.close()
     }
 
     /// Whether the queue is closed.
@@ -290,7 +286,7 @@ impl<W: Work> Worker<W> {
         ensures legal { IsLegal self.now.layout self.now.seen }
         ensures logged { W.log self.now.work ≡ items_among self.now.layout (begun self.now.seen) }
     {
-        self.owner.is_closed()
+        self.pair.is_closed()
     }
 
     /// Calls a closure on the work.
@@ -312,14 +308,14 @@ impl<W: Work> Worker<W> {
         ensures layout { sender.old.layout ≡ self.old.layout }
         ensures both { sender.new.seen ≡ self.new.seen }
     {
-        sender.meet_both(&mut self.sender, &mut self.owner);
+        self.pair.meet(sender);
     }
 
     /// What the worker's own two seats have counted.
     pub fn counts(&self) -> Totals
         ensures counted { result ≡ own_totals self.now.number self.now.seen }
     {
-        Totals::of(self.sender.counts(), self.owner.counts())
+        Totals::of(self.pair.sender_counts(), self.pair.owner_counts())
     }
 
     // How many numbers are accepted and have not ended.
@@ -327,7 +323,7 @@ impl<W: Work> Worker<W> {
         requires { IsClosed self.now.seen }
         ensures { result + length (ended self.now.seen) ≡ length (accepted self.now.seen) }
     {
-        left_of(&self.owner)
+        left_of(&self.pair)
     }
 
     /// Executes until nothing is left of a closed queue, or so many executions have ended (`drain_workqueue`).
@@ -365,8 +361,8 @@ impl<W: Work> Worker<W> {
             match self.run_one() {
                 Ran::Stop => return,
                 Ran::Nothing => patience.snooze_or_park(rt, parker),
-                Ran::Item(_) => patience.after_execution(self.owner.waiting()),
-                Ran::Barrier(_) => patience.after_execution(self.owner.waiting()),
+                Ran::Item(_) => patience.after_execution(self.pair.waiting()),
+                Ran::Barrier(_) => patience.after_execution(self.pair.waiting()),
                 Ran::Owing(_) => {}
             }
         }
@@ -381,11 +377,11 @@ impl<W: Work> Worker<W> {
         ensures logged { W.log result.0 ≡ items_among self.layout (accepted self.seen) }
     {
         let Worker {
-            owner,
-            sender,
+            pair,
             work,
             ..
         } = self;
+        let (owner, sender) = pair.split();
         (work, Book::new(owner, &sender))
     }
 

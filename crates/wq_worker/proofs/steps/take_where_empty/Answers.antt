@@ -9,5 +9,5 @@ returns-then-not-is_closed-clause-empty c none = nothing_taken c.take.result c.t
 
 pub returns-else-not-is_closed-clause-empty : goal.returns-else-not-is_closed-clause-empty
 returns-else-not-is_closed-clause-empty c none =
-    let h = c.args.owner.now.seen in let shut : closed h ≡ true = sym c.is_closed.ensures.closed ∙ c.if-not-is_closed.false in
+    let h = c.args.pair.now.seen in let shut : closed h ≡ true = sym c.is_closed.ensures.closed ∙ c.if-not-is_closed.false in
     nothing_closed h (IsClosed_from_closed h shut) none

@@ -3,15 +3,16 @@ use Rattle.wq_live.specs.declared.counts.SenderCounts.{SenderCounts}
 use Rattle.wq_live.specs.declared.counts.OwnerCounts.{OwnerCounts}
 use Rattle.wq_live.specs.Counts.{sender_counts}
 use Rattle.wq_ledger.specs.Totals.{totals_of, own_totals}
+use Rattle.wq_live.specs.Pairs.{owner_of, sender_of}
 use Rattle.wq_worker.specs.State.{WorkerState}
 use Rattle.wq_worker.proofs.worker.Worker.counts.Goals as goal
 
 pub returns : goal.returns
 returns g c =
     let i = c.self.inside in
-    let mine : c.counts.result ≡ sender_counts i.sender.number i.owner.seen =
-    c.counts.ensures.counted ∙ ap (sender_counts i.sender.number) c.self.invariant.paired.seen in
-    let told : c.of.result ≡ own_totals i.sender.number i.owner.seen =
-    c.of.ensures.sums ∙ (ap (λ (z : SenderCounts). totals_of z c.counts-2.result) mine
-    ∙ ap (λ (z : OwnerCounts). totals_of (sender_counts i.sender.number i.owner.seen) z) c.counts-2.ensures.counted) in
+    let mine : c.sender_counts.result ≡ sender_counts (sender_of i.pair).number (owner_of i.pair).seen =
+    c.sender_counts.ensures.counted in
+    let told : c.of.result ≡ own_totals (sender_of i.pair).number (owner_of i.pair).seen =
+    c.of.ensures.sums ∙ (ap (λ (z : SenderCounts). totals_of z c.owner_counts.result) mine
+    ∙ ap (λ (z : OwnerCounts). totals_of (sender_counts (sender_of i.pair).number (owner_of i.pair).seen) z) c.owner_counts.ensures.counted) in
     record { counted = subst (λ (z : WorkerState g.row.W.Denot). c.of.result ≡ own_totals z.number z.seen) c.self.view_is told }

@@ -1,23 +1,20 @@
 use Rattle.std.proofs.Common.{◌≡◌, sym, ap, ◌∙◌, subst}
 use Rattle.wq_words.specs.History.{accepted}
 use Rattle.wq_words.specs.Legal.{IsComplete}
+use Rattle.wq_live.specs.Known.{Known}
+use Rattle.wq_live.specs.Pairs.{owner_of, sender_of}
 use Rattle.wq_worker.specs.State.{WorkerState, items_among}
 use Rattle.wq_worker.proofs.Draining.{begun-complete}
 use Rattle.wq_worker.proofs.worker.Worker.into_book.Goals as goal
 
-pub new-requires-clause-one : goal.new-requires-clause-one
-new-requires-clause-one g c = c.self.invariant.paired.queue
-
 pub new-requires-clause-complete : goal.new-requires-clause-complete
-new-requires-clause-complete g c = subst (λ (z : WorkerState g.row.W.Denot). IsComplete z.seen) (sym c.self.view_is) c.requires
-
-pub new-requires-clause-both : goal.new-requires-clause-both
-new-requires-clause-both g c = c.self.invariant.paired.seen
+new-requires-clause-complete g c = subst (λ (k : Known). IsComplete k.seen) (sym c.split-owner.ensures.owner)
+    (subst (λ (z : WorkerState g.row.W.Denot). IsComplete z.seen) (sym c.self.view_is) c.requires)
 
 pub returns-clause-logged : goal.returns-clause-logged
 returns-clause-logged g c =
     let i = c.self.inside in
-    let done : IsComplete i.owner.seen = subst (λ (z : WorkerState g.row.W.Denot). IsComplete z.seen) (sym c.self.view_is) c.requires in
-    let told : g.W.Work.log i.work ≡ items_among i.owner.layout (accepted i.owner.seen) =
-    c.self.invariant.logged ∙ ap (items_among i.owner.layout) (begun-complete i.owner.layout i.owner.seen c.self.invariant.paired.legal done) in
+    let done : IsComplete (owner_of i.pair).seen = subst (λ (z : WorkerState g.row.W.Denot). IsComplete z.seen) (sym c.self.view_is) c.requires in
+    let told : g.W.Work.log i.work ≡ items_among (owner_of i.pair).layout (accepted (owner_of i.pair).seen) =
+    c.self.invariant.logged ∙ ap (items_among (owner_of i.pair).layout) (begun-complete (owner_of i.pair).layout (owner_of i.pair).seen c.self.invariant.paired.legal done) in
     subst (λ (z : WorkerState g.row.W.Denot). g.W.Work.log i.work ≡ items_among z.layout (accepted z.seen)) c.self.view_is told
