@@ -7,7 +7,7 @@ use Rattle.wq_table.specs.declared.table.Part.{Part}
 use Rattle.wq_table.specs.declared.table.Stage.{Stage}
 use Rattle.wq_table.specs.declared.table.Stage.TheVariants as stage
 use Rattle.wq_table.specs.Law.{HasStage, IsPartOf}
-use Rattle.wq_table.specs.Plays.{see, all_see}
+use Rattle.wq_table.specs.Plays.{see}
 use Rattle.wq_table.specs.Chair.{Standing, IsSender, seeing}
 use Rattle.wq_words.proofs.Prefixes.{prefix_self}
 use Rattle.wq_live.specs.declared.owner_seat.OwnerSeat.{OwnerSeat as Inside}

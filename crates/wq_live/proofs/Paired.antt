@@ -1,7 +1,6 @@
 -- An owner and a sender in one seat: for the one, a step of the other is a meeting.
-use Rattle.std.proofs.Common.{◌≡◌, ℕ, ◌<◌, [], ◌∷◌, ◌++◌, refl, sym, ap, ◌∙◌, subst}
+use Rattle.std.proofs.Common.{◌≡◌, ◌<◌, [], ◌∷◌, ◌++◌, refl, sym, ap, ◌∙◌, subst}
 use Rattle.wq_words.specs.declared.layout.Layout.{Layout}
-use Rattle.wq_words.specs.declared.event.Event.{Event}
 use Rattle.wq_table.specs.declared.table.Part.{Part}
 use Rattle.wq_table.specs.Places.{chosen}
 use Rattle.wq_table.specs.Plays.{see, all_see}
@@ -12,7 +11,7 @@ use Rattle.wq_live.specs.declared.owner_seat.OwnerSeat.{OwnerSeat}
 use Rattle.wq_live.specs.declared.sent.Sent.{Sent}
 use Rattle.wq_live.specs.declared.pair.Pair.TheInside.{Inside}
 use Rattle.wq_live.specs.Known.{Known, IsSame, Sees}
-use Rattle.wq_live.specs.Sits.{Sending, alone_at, sending, sender_view, owner_view, Sends, OwnsQueue}
+use Rattle.wq_live.specs.Sits.{alone_at, sending, sender_view, owner_view, Sends, OwnsQueue}
 use Rattle.wq_live.specs.Pairs.{KnownPair, owner_of, sender_of, pair_view, IsPair}
 use Rattle.wq_live.proofs.Meeting.{meet_executes, meet_owner_sees, meet_owner_layout, meet_low}
 use Rattle.wq_live.proofs.Sends.{meet_sends, meet_sees}

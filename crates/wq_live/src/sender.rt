@@ -317,6 +317,7 @@ impl Sender {
         ensures layout { (other.old.layout ≡ self.old.layout) × (owner.old.layout ≡ self.old.layout) }
         ensures last { IsComplete owner.old.seen → IsStillEnd owner.old.seen owner.new.seen }
     {
-        self.chair.meet_both(&mut other.chair, &mut owner.seat.chair);
+        self.chair
+            .meet_both(&mut other.chair, &mut owner.seat.chair);
     }
 }

@@ -8,7 +8,7 @@ use Rattle.wq_table.specs.declared.table.Part.{Part}
 use Rattle.wq_table.specs.Law.{View, seat_at, IsPartOf}
 use Rattle.wq_table.specs.Plays.{see, all_see, AllOf}
 use Rattle.wq_table.specs.Places.{chosen, besides}
-use Rattle.wq_table.specs.Chair.{Standing, part_at, besides_at, Steps, Meet}
+use Rattle.wq_table.specs.Chair.{Standing, part_at, besides_at, Steps}
 use Rattle.wq_table.specs.Beside.{Follow, Beside}
 
 -- one step

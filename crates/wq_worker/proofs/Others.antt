@@ -1,22 +1,19 @@
--- What the owner knows of its batch, and of why it does not rest, stays while others alone add events.
-use Rattle.std.proofs.Common.{◌≡◌, ℕ, ◌<◌, ◌≤◌, ◌==◌, false, List, [], ◌∷◌, ◌++◌, length, drop, None, slice_get, inl, inr, refl, ap, ◌∙◌, subst, arith}
+-- What the owner knows of its batch stays while others alone add events.
+use Rattle.std.proofs.Common.{◌≡◌, ℕ, ◌<◌, ◌≤◌, ◌==◌, false, List, [], ◌∷◌, ◌++◌, length, drop, None, slice_get, refl, ap, ◌∙◌, subst, arith}
 use Rattle.std.proofs.lemmas.Bool.Decides.{nat_tests}
 use Rattle.std.proofs.lemmas.List.{append-nil, take-append-le}
 use Rattle.wq_words.specs.declared.layout.Layout.{Layout}
 use Rattle.wq_words.specs.declared.event.Event.{Event}
 use Rattle.wq_words.specs.declared.event.Event.TheVariants.{Hold, Busy, Push, Back}
-use Rattle.wq_words.specs.History.{accepted_by, accepted, begun_by, begun, taken, fresh, is_push, is_close, is_take}
+use Rattle.wq_words.specs.History.{accepted_by, accepted, begun_by, begun, taken, is_close, is_take}
 use Rattle.wq_words.specs.Legal.{IsLegal}
-use Rattle.wq_words.specs.Rest.{wakes, is_rest, is_push_or_take}
 use Rattle.wq_words.specs.Seen.{owner_seat, own}
 use Rattle.wq_words.proofs.Closed.{closed_from_open}
 use Rattle.wq_words.proofs.Growing.{filter_map_push_some, filter_map_push_none}
 use Rattle.wq_words.proofs.Legal.{legal_front, legal_next}
 use Rattle.wq_words.proofs.OtherSeats.{others_keep}
-use Rattle.wq_words.proofs.Listed.{accepted_push_none, taken_push_same, taken_push_push, fresh_push, length-accepted}
-use Rattle.wq_words.proofs.Rest.{not_zero, wakes_quiet}
+use Rattle.wq_words.proofs.Listed.{accepted_push_none, taken_push_same, taken_push_push, length-accepted}
 use Rattle.wq_live.specs.Batch.{batch, next_of}
-use Rattle.wq_live.specs.Rest.{MayNotRest}
 
 begun_still : (v : List Event) (e : Event) → begun_by e ≡ None → begun (v ++ e ∷ []) ≡ begun v
 begun_still v e none = filter_map_push_none begun_by v e none ∙ append-nil (begun v)
@@ -53,25 +50,3 @@ next_still layout v w new is legal none =
 -- a number that is not zero
 pub some_fresh : (n : ℕ) → (n == 0) ≡ false → 0 < n
 some_fresh n is = grind (arith, nat_tests)
-
--- a push keeps the owner from resting, and what kept it from resting still does
-pushed_refuses : (v : List Event) (s k : ℕ) → MayNotRest (v ++ Push s k ∷ [])
-pushed_refuses v s k = inl (not_zero (fresh (v ++ Push s k ∷ [])) (omega (arith, fresh_push v (Push s k) refl)))
-
-quiet_refuses : (v : List Event) (e : Event) → is_take e ≡ false → is_push e ≡ false → wakes (v ++ e ∷ []) ≡ wakes v → MayNotRest v → MayNotRest (v ++ e ∷ [])
-quiet_refuses v e no_take no_push still (inl pushed) =
-    inl (not_zero (fresh (v ++ e ∷ [])) (omega (arith, some_fresh (fresh v) pushed, rw no_push at (fresh_push v e no_take))))
-quiet_refuses v e no_take no_push still (inr rests) = inr (still ∙ rests)
-
-quiet : (v : List Event) (e : Event) → is_take e ≡ false → is_push e ≡ false → is_rest e ≡ false → is_push_or_take e ≡ false → MayNotRest v
-    → MayNotRest (v ++ e ∷ [])
-quiet v e no_take no_push no_rest no_work = quiet_refuses v e no_take no_push (wakes_quiet v e no_rest no_work)
-
-pub refuses_still : (layout : Layout) (v new : List Event) → IsLegal layout (v ++ new) → own owner_seat new ≡ [] → MayNotRest v → MayNotRest (v ++ new)
-refuses_still layout =
-    others_keep layout MayNotRest (record {
-      push = λ w s k l why. pushed_refuses w s k;
-      hold = λ w s k. quiet w (Hold s k) refl refl refl refl;
-      busy = λ w s k. quiet w (Busy s k) refl refl refl refl;
-      back = λ w s k why. quiet w (Back s k why) refl refl refl refl;
-    })

@@ -153,12 +153,7 @@ impl<W: Work> Worker<W> {
         ensures some { result ≡ Nothing → ⊥ }
         ensures owed { (k : ℕ) → result ≡ Owing k → IsContended self.old.number (slice_index self.new.unqueued 0) self.old.tries self.new.seen }
     {
-        let at = queue_rest(
-            &mut self.pair,
-            self.follow.as_slice(),
-            self.at,
-            self.tries,
-        );
+        let at = queue_rest(&mut self.pair, self.follow.as_slice(), self.at, self.tries);
         self.at = at;
         if at < self.follow.len() {
             return Ran::Owing(number);

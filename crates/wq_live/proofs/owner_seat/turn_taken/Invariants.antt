@@ -1,4 +1,4 @@
-use Rattle.std.proofs.Common.{◌≡◌, ◌-◌}
+use Rattle.std.proofs.Common.{◌-◌}
 use Rattle.wq_words.specs.Numbers.{number_count}
 use Rattle.wq_table.specs.Chair.{part_at}
 use Rattle.wq_table.specs.Beside.{Beside}

@@ -1,10 +1,7 @@
-use Rattle.std.proofs.Common.{arith, ◌≡◌, ◌<◌, ◌-◌, ◌+◌, [], ◌∷◌, inl, inr, refl, sym, ap, subst}
-use Rattle.wq_words.specs.declared.layout.Layout.{Layout}
-use Rattle.wq_words.specs.Numbers.{number_count}
+use Rattle.std.proofs.Common.{arith, ◌-◌, ◌+◌, [], inl, inr, refl}
 use Rattle.wq_words.proofs.Seen.{grows_none}
 use Rattle.wq_table.proofs.Beside.{beside_on, beside_follow}
-use Rattle.wq_live.specs.Known.{Known}
-use Rattle.wq_live.specs.Sits.{Sending, sending, sender_view}
+use Rattle.wq_live.specs.Sits.{sending, sender_view}
 use Rattle.wq_live.proofs.Sends.{same_none, sees_after, sees_held}
 use Rattle.wq_live.proofs.Tried.{posts_after}
 use Rattle.wq_live.proofs.sent.push_tries.Goals as goal

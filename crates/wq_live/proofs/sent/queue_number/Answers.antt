@@ -1,4 +1,4 @@
-use Rattle.std.proofs.Common.{arith, ℕ, [], ◌∷◌, refl, subst}
+use Rattle.std.proofs.Common.{arith, ℕ, [], ◌∷◌, subst}
 use Rattle.wq_words.specs.declared.event.Event.TheVariants.{Hold, Push, Back}
 use Rattle.wq_words.specs.declared.event.Why.TheVariants as why
 use Rattle.wq_table.proofs.Beside.{follow_on}

@@ -8,7 +8,6 @@ use Rattle.wq_live.proofs.Owned.{running_quiet, closed_quiet, counts_chained, co
 use Rattle.wq_core.specs.declared.step.Step.TheVariants as step
 use Rattle.wq_live.specs.declared.row.Row.{Row}
 use Rattle.std.proofs.lemmas.List.{append-nil}
-use Rattle.wq_live.specs.Known.{Known}
 use Rattle.wq_live.specs.Batch.{batch}
 use Rattle.wq_live.specs.Sits.{HasBoth, kept_batch}
 use Rattle.wq_live.proofs.Linking.{has_row_after}

@@ -2,10 +2,8 @@ use Rattle.std.proofs.Common.{ℕ, List, length, ◌-◌, true, [], ◌∷◌, a
 use mathlib.Core.List.{IsPrefix}
 use Rattle.wq_words.specs.declared.event.Event.TheVariants.{Close}
 use Rattle.wq_core.specs.declared.step.Step.TheVariants as step
-use Rattle.wq_words.specs.History.{IsClosed}
 use Rattle.wq_table.proofs.Beside.{beside_queue, follow_beside}
 use Rattle.wq_live.specs.Sits.{owner_view}
-use Rattle.wq_live.specs.Known.{Known}
 use Rattle.wq_live.specs.Batch.{batch}
 use Rattle.wq_live.specs.Sits.{kept_batch}
 use Rattle.wq_live.proofs.Tells.{Tells}

@@ -1,9 +1,9 @@
-use Rattle.std.proofs.Common.{◌≡◌, ℕ, [], ◌∷◌, Some, None, ap, sym, subst, refl, ◌∙◌}
+use Rattle.std.proofs.Common.{◌≡◌, ℕ, [], ◌∷◌, Some, None, sym, refl, ◌∙◌}
 use Rattle.wq_words.specs.declared.event.Event.TheVariants.{End}
 use Rattle.wq_words.specs.History.{IsRunning, running}
 use Rattle.wq_words.proofs.Running.{runs_some, rests_from_running}
 use Rattle.wq_table.proofs.Beside.{follow_step}
-use Rattle.wq_live.specs.Known.{Known, Sees}
+use Rattle.wq_live.specs.Known.{Sees}
 use Rattle.wq_live.proofs.Tells.{Tells}
 use Rattle.wq_live.proofs.Owned.{running_ended, closed_quiet, counts_ended}
 use Rattle.wq_core.specs.declared.step.Step.TheVariants as step

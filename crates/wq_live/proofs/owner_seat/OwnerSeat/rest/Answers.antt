@@ -1,8 +1,6 @@
-use Rattle.std.proofs.Common.{refl, ap, sym, subst, ◌∙◌}
-use Rattle.wq_words.specs.History.{IsClosed, IsRunning}
+use Rattle.std.proofs.Common.{refl, ◌∙◌}
 use Rattle.wq_table.proofs.Beside.{follow_step}
 use Rattle.wq_live.specs.Sits.{owner_view}
-use Rattle.wq_live.specs.Known.{Known}
 use Rattle.wq_live.specs.Sits.{kept_batch}
 use Rattle.wq_live.proofs.OwnerTells.{owner_batch, none_of}
 use Rattle.wq_live.proofs.Rest.{rest_owns, rest_sees, rest_rested, rest_refused, rest_empty, rests_same, rests_idle, rests_open}

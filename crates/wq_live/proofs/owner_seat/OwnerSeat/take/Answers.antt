@@ -1,10 +1,8 @@
-use Rattle.std.proofs.Common.{[], ◌∷◌, ℕ, length, ap, sym, subst, refl, ◌∙◌, arith, List}
+use Rattle.std.proofs.Common.{[], ◌∷◌, ℕ, length, ap, sym, refl, ◌∙◌, arith, List}
 use Rattle.wq_words.specs.declared.event.Event.TheVariants.{Take}
 use Rattle.wq_core.specs.declared.step.Step.TheVariants as step
-use Rattle.wq_words.specs.History.{IsClosed}
 use Rattle.wq_table.proofs.Beside.{beside_queue, follow_beside}
 use Rattle.wq_live.specs.Sits.{owner_view}
-use Rattle.wq_live.specs.Known.{Known}
 use Rattle.wq_live.specs.Sits.{kept_batch}
 use Rattle.wq_live.proofs.Tells.{Tells}
 use Rattle.wq_live.proofs.Owned.{running_quiet, closed_quiet, counts_quiet}

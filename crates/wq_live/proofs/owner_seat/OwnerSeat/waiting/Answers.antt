@@ -1,7 +1,6 @@
-use Rattle.std.proofs.Common.{refl, ℕ, List, ◌≡◌, length, ap, ◌∙◌, arith}
+use Rattle.std.proofs.Common.{refl, ℕ, List, ◌≡◌, length, ap, arith}
 use Rattle.wq_words.specs.Numbers.{number_count}
 use Rattle.wq_live.specs.Sits.{owner_view}
-use Rattle.wq_live.specs.Known.{Known}
 use Rattle.wq_live.specs.Sits.{kept_batch}
 use Rattle.wq_live.proofs.Waiting.{stands_rested}
 use Rattle.wq_live.proofs.OwnerTells.{owner_batch}

@@ -1,9 +1,8 @@
-use Rattle.std.proofs.Common.{◌≡◌, [], refl, ap, sym, ◌∙◌}
+use Rattle.std.proofs.Common.{refl, ap, sym, ◌∙◌}
 use Rattle.wq_table.specs.Plays.{all_see}
 use Rattle.wq_table.specs.Chair.{Standing}
-use Rattle.wq_live.specs.Known.{Known}
-use Rattle.wq_live.specs.Sits.{sending, alone_at, owner_view, sender_view}
-use Rattle.wq_live.specs.Pairs.{KnownPair, owner_of}
+use Rattle.wq_live.specs.Sits.{sending, alone_at, owner_view}
+use Rattle.wq_live.specs.Pairs.{owner_of}
 use Rattle.wq_live.proofs.Sends.{meet_sends, meet_sees}
 use Rattle.wq_live.proofs.Meeting.{meet_executes, meet_owner_sees, meet_owner_layout}
 use Rattle.wq_live.proofs.Paired.{owner_acts, sender_sees, follow_meet}

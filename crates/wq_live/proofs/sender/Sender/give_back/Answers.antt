@@ -17,9 +17,10 @@ invariant_of-self c = let s = (sending 0 c.self.inside.chair c.self.inside.sent)
     let told : Tells
     (Back s.chair.part.seat k Cancelled ∷ []) s.chair.part new.part = back_tells k _ Cancelled s.chair.part new.part c.self.invariant.sends.stage steps.moves.makes in
     let stage = sender_made _ _ _ _ steps.moves.makes c.self.invariant.sends.stage in
-    record { sends = sends_tells s (sending 0 new c.self.inside.sent) _ 0 c.self.invariant.sends refl refl told stage
-    (counts_cancelled s.number 0 s.chair.part.seen new.part.seen s.counts c.self.invariant.sends.counts_are k
-    (grows_tells s (sending 0 new c.self.inside.sent) (λ z. Back z k Cancelled ∷ []) 0 c.self.invariant.sends told));
+    record {
+      sends = sends_tells s (sending 0 new c.self.inside.sent) _ 0 c.self.invariant.sends refl refl told stage
+          (counts_cancelled s.number 0 s.chair.part.seen new.part.seen s.counts c.self.invariant.sends.counts_are k
+          (grows_tells s (sending 0 new c.self.inside.sent) (λ z. Back z k Cancelled ∷ []) 0 c.self.invariant.sends told));
       alone = alone_step _ _ _ _ steps c.self.invariant.alone;
     }
 

@@ -15,8 +15,9 @@ invariant_of-self c = let s = (sending 0 c.self.inside.chair c.self.inside.sent)
     let told : Tells [] s.chair.part t.chair.part =
     (check_tells c.args.number c.check.result s.chair.part t.chair.part c.self.invariant.sends.stage
     (subst (λ (l : Layout). c.args.number < number_count l) (sym layout) c.requires.number) made).told in
-    record { sends = sends_tells s t [] 0 c.self.invariant.sends refl refl told (sender_made _ _ _ _ made c.self.invariant.sends.stage)
-    (counts_none s.number 0 s.chair.part.seen t.chair.part.seen s.counts c.self.invariant.sends.counts_are (grows_tells s t (λ z. []) 0 c.self.invariant.sends told));
+    record {
+      sends = sends_tells s t [] 0 c.self.invariant.sends refl refl told (sender_made _ _ _ _ made c.self.invariant.sends.stage)
+          (counts_none s.number 0 s.chair.part.seen t.chair.part.seen s.counts c.self.invariant.sends.counts_are (grows_tells s t (λ z. []) 0 c.self.invariant.sends told));
       alone = alone_step _ _ _ _ c.check.ensures.step c.self.invariant.alone;
     }
 

@@ -9,13 +9,15 @@ use Rattle.wq_live.proofs.sender.Sender.meet_both.Goals as goal
 
 pub invariant_of-self : goal.invariant_of-self
 invariant_of-self c = let e = c.meet_both.ensures.all in let s = (sending 0 c.self.inside.chair c.self.inside.sent) in
-    record { sends = meet_sends s (sending 0 c.meet_both.new.self c.self.inside.sent) e.machine e.sound e.this_fits.fits (ap (alone_at 0) e.this_is) refl refl refl c.self.invariant.sends;
+    record {
+      sends = meet_sends s (sending 0 c.meet_both.new.self c.self.inside.sent) e.machine e.sound e.this_fits.fits (ap (alone_at 0) e.this_is) refl refl refl c.self.invariant.sends;
       alone = ap (λ (x : Standing). x.others) e.this_is ∙ ap (all_see e.machine.history) c.self.invariant.alone;
     }
 
 pub invariant_of-other : goal.invariant_of-other
 invariant_of-other c = let e = c.meet_both.ensures.all in let s = (sending 0 c.other.inside.chair c.other.inside.sent) in
-    record { sends = meet_sends s (sending 0 c.meet_both.new.other c.other.inside.sent) e.machine e.sound e.that_fits.fits (ap (alone_at 0) e.that_is) refl refl refl c.other.invariant.sends;
+    record {
+      sends = meet_sends s (sending 0 c.meet_both.new.other c.other.inside.sent) e.machine e.sound e.that_fits.fits (ap (alone_at 0) e.that_is) refl refl refl c.other.invariant.sends;
       alone = ap (λ (x : Standing). x.others) e.that_is ∙ ap (all_see e.machine.history) c.other.invariant.alone;
     }
 

@@ -10,7 +10,8 @@ use Rattle.wq_live.proofs.sender.Sender.meet_owner.Goals as goal
 
 pub invariant_of-self : goal.invariant_of-self
 invariant_of-self c = let e = c.meet.ensures.both in let s = (sending 0 c.self.inside.chair c.self.inside.sent) in
-    record { sends = meet_sends s (sending 0 c.meet.new.self c.self.inside.sent) e.machine e.sound e.this_fits.fits (ap (alone_at 0) e.this_is) refl refl refl c.self.invariant.sends;
+    record {
+      sends = meet_sends s (sending 0 c.meet.new.self c.self.inside.sent) e.machine e.sound e.this_fits.fits (ap (alone_at 0) e.this_is) refl refl refl c.self.invariant.sends;
       alone = ap (λ (x : Standing). x.others) e.this_is ∙ ap (all_see e.machine.history) c.self.invariant.alone;
     }
 

@@ -1,6 +1,6 @@
 use Rattle.std.proofs.Common.{◌<◌, subst}
 use Rattle.wq_words.specs.declared.layout.Layout.{Layout}
-use Rattle.wq_live.specs.Pairs.{owner_of, sender_of}
+use Rattle.wq_live.specs.Pairs.{sender_of}
 use Rattle.wq_worker.specs.State.{WorkerState}
 use Rattle.wq_worker.proofs.worker.Worker.seated.Goals as goal
 
