@@ -47,8 +47,8 @@ pub stands_legal : (p : Part) → Stands p → IsLegal p.layout p.seen
 stands_legal p stands = subst (λ (z : Layout × List Event). IsLegal z.0 z.1) (λ i. (sym stands.fits.layout_is i, sym stands.seen_is i)) stands.sound.legal
 
 -- the stage of an owner
-pub owner_of : (st : Stage) (ks : List ℕ) → st ≡ Owns None [] ks → IsOwner st
-owner_of st ks is = subst IsOwner (sym is) tt
+pub pair_owner : (st : Stage) (ks : List ℕ) → st ≡ Owns None [] ks → IsOwner st
+pair_owner st ks is = subst IsOwner (sym is) tt
 
 pub none_of : (st : Stage) (ks : List ℕ) → st ≡ Owns None [] ks → ks ≡ [] → HasNone st
 none_of st ks is none = subst HasNone (sym is) none

@@ -12,12 +12,12 @@ use Rattle.wq_live.specs.declared.sent.Sent.{Sent}
 use Rattle.wq_live.specs.declared.pair.Pair.TheInside.{Inside}
 use Rattle.wq_live.specs.Known.{Known, IsSame, Sees}
 use Rattle.wq_live.specs.Sits.{alone_at, sending, sender_view, owner_view, Sends, OwnsQueue}
-use Rattle.wq_live.specs.Pairs.{KnownPair, owner_of, sender_of, pair_view, IsPair}
+use Rattle.wq_live.specs.Pairs.{KnownPair, pair_owner, pair_sender, pair_view, IsPair}
 use Rattle.wq_live.proofs.Meeting.{meet_executes, meet_owner_sees, meet_owner_layout, meet_low}
 use Rattle.wq_live.proofs.Sends.{meet_sends, meet_sees}
 
 -- the sender's side is what the pair is seen as
-pub sender_is : (s : Inside) → IsPair s → sender_view (sending 1 s.seat.chair s.sent) ≡ sender_of (pair_view s)
+pub sender_is : (s : Inside) → IsPair s → sender_view (sending 1 s.seat.chair s.sent) ≡ pair_sender (pair_view s)
 sender_is s pair = λ i. record { queue = s.seat.chair.queue; layout = pair.one_layout i; number = s.sent.number; seen = pair.one_seen i }
 
 -- the owner made steps, and the pair has another seat of it
@@ -41,9 +41,9 @@ module _ (s : Inside) (seat : OwnerSeat) (pair : IsPair s) (owns : OwnsQueue sea
     one_seen = ap (λ (p : Part). p.seen) saw_second.is ∙ sym f.seen_is;
   }
 
-  pub sender_sees : (now : KnownPair) → pair_view s ≡ now → Sees [] 0 (sender_of now) (sender_of (pair_view then_owner))
+  pub sender_sees : (now : KnownPair) → pair_view s ≡ now → Sees [] 0 (pair_sender now) (pair_sender (pair_view then_owner))
   sender_sees now view = subst (λ (z : Known × Known). Sees [] 0 z.0 z.1)
-      (λ i. ((sender_is s pair ∙ ap sender_of view) i, sender_is then_owner owner_acts i))
+      (λ i. ((sender_is s pair ∙ ap pair_sender view) i, sender_is then_owner owner_acts i))
       (meet_sees (sending 1 s.seat.chair s.sent) (sending 1 seat.chair s.sent) _ f.machine f.sound saw_second.fits met refl refl refl pair.sends)
 
 -- what an owner keeps is of its own part
@@ -86,8 +86,9 @@ module _ (s : Inside) (q : Standing) (sent : Sent) (pair : IsPair s) (sends : Se
     one_seen = f.seen_is ∙ sym (ap (λ (p : Part). p.seen) saw_first.is);
   }
 
-  pub owner_looks : (now : KnownPair) → pair_view s ≡ now → Sees [] 0 (owner_of now) (owner_of (pair_view then_sender))
-  owner_looks now view = meet_owner_sees alone_before (alone_at 0 q) f.machine f.sound saw_first.fits met_owner owns_before (owner_of now) (ap owner_of view)
+  pub owner_looks : (now : KnownPair) → pair_view s ≡ now → Sees [] 0 (pair_owner now) (pair_owner (pair_view then_sender))
+  owner_looks now view = meet_owner_sees alone_before (alone_at 0 q) f.machine f.sound saw_first.fits met_owner owns_before (pair_owner now)
+    (ap pair_owner view)
 
 -- a meeting with another seat, as the second part of a chair sees it
 pub follow_meet : (this that this' that' : Standing) → Meet this that this' that' → Follow 0 this this'
@@ -135,11 +136,11 @@ module _ (o : OwnerSeat) (chair both : Standing) (sent : Sent) (owns : OwnsQueue
     one_seen = ap (λ (p : Part). p.seen) second_is ∙ sym (ap (λ (p : Part). p.seen) joined.part_is);
   }
 
-  pub owner_joins : (now : Known) → owner_view o ≡ now → Sees [] 0 now (owner_of (pair_view paired))
+  pub owner_joins : (now : Known) → owner_view o ≡ now → Sees [] 0 now (pair_owner (pair_view paired))
   owner_joins now view = meet_owner_sees (record o { chair = alone_at 0 o.chair }) (alone_at 0 both) joined.machine joined.sound joined.this_fits.fits
       owner_met owned now view
 
-  pub sender_joins : (now : Known) → sender_view (sending 0 chair sent) ≡ now → Sees [] 0 now (sender_of (pair_view paired))
+  pub sender_joins : (now : Known) → sender_view (sending 0 chair sent) ≡ now → Sees [] 0 now (pair_sender (pair_view paired))
   sender_joins now view = subst (Sees [] 0 now) (sender_is paired joins)
       (meet_sees (sending 0 chair sent) (sending 1 both sent) now joined.machine joined.sound joined.that_fits.fits sender_met refl refl view sends)
 

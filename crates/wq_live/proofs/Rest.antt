@@ -29,7 +29,7 @@ use Rattle.wq_live.specs.Sits.{owner_view, OwnsQueue, kept_batch}
 use Rattle.wq_live.specs.Rest.{Rests, HasRested, MayNotRest}
 use Rattle.wq_live.proofs.Tells.{Tells, tells, seen_after}
 use Rattle.wq_live.proofs.Owned.{running_quiet, closed_quiet, counts_quiet}
-use Rattle.wq_live.proofs.OwnerTells.{makes_stands, stands_batch, owner_of, owner_grows, owner_sees, owner_batch}
+use Rattle.wq_live.proofs.OwnerTells.{makes_stands, stands_batch, pair_owner, owner_grows, owner_sees, owner_batch}
 use Rattle.wq_live.proofs.Linking.{has_row_after}
 use Rattle.wq_live.proofs.Resting.{quiet_idle, open_stays}
 
@@ -100,7 +100,7 @@ rest_tells word p q mine is unclosed makes =
 module _ (s : Inside) (q : Standing) (now : Known) (word : ℕ) (view : owner_view s ≡ now) (o : OwnsQueue s) (queue : q.queue ≡ s.chair.queue)
     (makes : Makes Rest word s.chair.part q.part) (unclosed : ¬ IsClosed now.seen) where
   told : MatchBool (word == busy_word) (Marks s.chair.part q.part) (Leaves s.chair.part q.part)
-  told = rest_tells word s.chair.part q.part o.number_is (owner_of s.chair.part.stage (kept_batch s.chair.part.stage) o.has_row.stage_is)
+  told = rest_tells word s.chair.part q.part o.number_is (pair_owner s.chair.part.stage (kept_batch s.chair.part.stage) o.has_row.stage_is)
       (subst (λ (v : Known). ¬ IsClosed v.seen) (sym view) unclosed) makes
 
   stage : q.part.stage ≡ Owns None [] (kept_batch s.chair.part.stage)

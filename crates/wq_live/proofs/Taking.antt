@@ -22,7 +22,7 @@ use Rattle.wq_live.specs.Batch.{TakesAll}
 use Rattle.wq_live.specs.Sits.{Stands, OnlySees, walking}
 use Rattle.wq_live.proofs.Growing.{grows_on}
 use Rattle.wq_live.proofs.Tells.{Tells, TellsSo, tells_then, seen_after}
-use Rattle.wq_live.proofs.OwnerTells.{stands_batch, stands_legal, owner_of, after_take, after_close}
+use Rattle.wq_live.proofs.OwnerTells.{stands_batch, stands_legal, pair_owner, after_take, after_close}
 use Rattle.wq_live.proofs.Waiting.{stands_walking}
 use Rattle.wq_live.proofs.Taken.{rested_lengths, takes_all, closes_all}
 
@@ -50,7 +50,7 @@ module _ (word : ℕ) (p q r : Part) (ks js : List ℕ) (count : ℕ) (mine : p.
   pub take_takes : Makes Take word p q → TakesAll event.Take count r.seen
   take_takes makes = let m = makes.before in
       let seen : q.seen ≡ m.history ++ event.Take ∷ [] = seen_after Take word p q makes _ (event.Take ∷ [])
-      (after_take m p.seat p.stage (owner_of p.stage ks stage)) refl in
+      (after_take m p.seat p.stage (pair_owner p.stage ks stage)) refl in
       let is : r.seen ≡ m.history ++ event.Take ∷ follows.grows.new = follows.grows.is ∙
       (ap (λ (x : List Event). x ++ follows.grows.new) seen ∙ append_assoc m.history (event.Take ∷ []) follows.grows.new) in
       takes_all r.layout m.history follows.grows.new r.seen ks js count (stands_legal r stands) is (none_after makes.seat_is)
@@ -59,7 +59,7 @@ module _ (word : ℕ) (p q r : Part) (ks js : List ℕ) (count : ℕ) (mine : p.
   pub close_takes : Makes Close word p q → TakesAll event.Close count r.seen
   close_takes makes = let m = makes.before in
       let seen : q.seen ≡ m.history ++ event.Close ∷ [] = seen_after Close word p q makes _ (event.Close ∷ [])
-      (after_close m p.seat p.stage (owner_of p.stage ks stage)) refl in
+      (after_close m p.seat p.stage (pair_owner p.stage ks stage)) refl in
       let is : r.seen ≡ m.history ++ event.Close ∷ follows.grows.new = follows.grows.is ∙
       (ap (λ (x : List Event). x ++ follows.grows.new) seen ∙ append_assoc m.history (event.Close ∷ []) follows.grows.new) in
       closes_all r.layout m.history follows.grows.new r.seen ks js count (stands_legal r stands) is (none_after makes.seat_is)

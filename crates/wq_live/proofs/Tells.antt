@@ -27,8 +27,11 @@ use Rattle.wq_table.specs.Chair.{IsSender, HasSeen, HasLinked}
 use Rattle.wq_table.proofs.Steps.{sender_seen}
 use Rattle.wq_words.proofs.Seen.{own_one}
 use Rattle.wq_live.specs.Answers.{IsPushed}
-pub use Rattle.wq_live.specs.Tells.{TellsSo, Tells}
+pub use Rattle.wq_live.specs.Tells.{TellsSo}
 use Rattle.wq_live.proofs.Growing.{grows_done, grows_on, grows_held, grows_others}
+
+abbrev pub Tells : List Event → Part → Part → Type 0
+Tells xs p q = TellsSo xs 0 p q
 
 -- what is held stays held
 pub tells_held : (k n : ℕ) (p q : Part) → TellsSo [] n p q → Holds p.seen p.seat k → Holds q.seen q.seat k

@@ -16,11 +16,11 @@ pub record KnownPair : Type 0 where
   pub seen : List Event
 
 -- its owner, and its sender
-abbrev pub owner_of : KnownPair → Known
-owner_of p = record { queue = p.queue; layout = p.layout; number = owner_seat; seen = p.seen }
+abbrev pub pair_owner : KnownPair → Known
+pair_owner p = record { queue = p.queue; layout = p.layout; number = owner_seat; seen = p.seen }
 
-abbrev pub sender_of : KnownPair → Known
-sender_of p = record { queue = p.queue; layout = p.layout; number = p.number; seen = p.seen }
+abbrev pub pair_sender : KnownPair → Known
+pair_sender p = record { queue = p.queue; layout = p.layout; number = p.number; seen = p.seen }
 
 abbrev pub pair_view : Inside → KnownPair
 pair_view s = record { queue = s.seat.chair.queue; layout = s.seat.layout; number = s.sent.number; seen = s.seat.chair.part.seen }

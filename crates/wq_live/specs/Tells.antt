@@ -17,11 +17,8 @@ pub record TellsSo (xs : List Event) (n : ℕ) (p q : Part) : Type 0 where
   pub grows : Grows p.seat xs n p.seen q.seen
   pub legal : IsLegal p.layout q.seen
 
-abbrev pub Tells : List Event → Part → Part → Type 0
-Tells xs p q = TellsSo xs 0 p q
-
 -- one try to push the held number k
 abbrev pub PostsAs : ℕ → Posted → Part → Part → Type 0
-PostsAs k (posted.Queued is_first is_waking) p q = Tells (Push p.seat k ∷ []) p q × IsPushed p.seat k is_first is_waking q.seen
-PostsAs k posted.Closed p q = Tells (Back p.seat k why.Closed ∷ []) p q
+PostsAs k (posted.Queued is_first is_waking) p q = TellsSo (Push p.seat k ∷ []) 0 p q × IsPushed p.seat k is_first is_waking q.seen
+PostsAs k posted.Closed p q = TellsSo (Back p.seat k why.Closed ∷ []) 0 p q
 PostsAs k posted.Contended p q = TellsSo [] 1 p q

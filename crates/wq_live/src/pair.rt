@@ -14,7 +14,7 @@ ghost use Rattle.wq_live.specs.Batch.{batch, next_of, TakesAll};
 ghost use Rattle.wq_live.specs.Counts.{owner_counts, sender_counts};
 ghost use Rattle.wq_live.specs.Rest.{Rests, HasRested, MayNotRest};
 ghost use Rattle.wq_live.specs.Laws.{queued_number};
-ghost use Rattle.wq_live.specs.Pairs.{owner_of, sender_of};
+ghost use Rattle.wq_live.specs.Pairs.{pair_owner, pair_sender};
 
 use crate::counts::{OwnerCounts, SenderCounts};
 use crate::owner::Owner;
@@ -26,8 +26,8 @@ use std::marker::Model;
 use wq_table::Second;
 use wq_words::{Answer, Layout};
 
-/// An owner and a sender of one queue in one seat: a step of either is seen by both, so they need no meeting. It may be moved to
-/// another thread. No call takes a lock or memory, or waits.
+/// An owner and a sender of one queue in one seat: a step of either is seen by both, so they need no meeting. It may be
+/// moved to another thread. No call takes a lock or memory, or waits.
 #[derive(Drop)]
 pub struct Pair {
     pub(crate) seat: OwnerSeat,
@@ -50,8 +50,8 @@ impl Pair {
     /// An owner and a sender become one seat, which has seen all that has happened.
     pub fn join(owner: Owner, sender: Sender) -> Pair
         requires one { sender.queue ≡ owner.queue }
-        ensures owner { Sees [] 0 owner (owner_of result) }
-        ensures sender { Sees [] 0 sender (sender_of result) }
+        ensures owner { Sees [] 0 owner (pair_owner result) }
+        ensures sender { Sees [] 0 sender (pair_sender result) }
         ensures low { result.number < result.layout.senders }
     {
         let Owner { seat } = owner;
@@ -78,8 +78,8 @@ impl Pair {
 
     /// The owner and the sender, each in a seat of its own again.
     pub fn split(self) -> (Owner, Sender)
-        ensures owner { result.0 ≡ owner_of self }
-        ensures sender { result.1 ≡ sender_of self }
+        ensures owner { result.0 ≡ pair_owner self }
+        ensures sender { result.1 ≡ pair_sender self }
     {
         let Pair { seat, sent } = self;
         let (first, second) = seat.chair.split();
@@ -149,13 +149,13 @@ impl Pair {
     pub fn take(&mut self) -> u32
         requires open { ¬ IsClosed self.old.seen }
         requires empty { batch self.old.seen ≡ [] }
-        ensures seen { Sees (Take ∷ []) 0 (owner_of self.old) (owner_of self.new) }
+        ensures seen { Sees (Take ∷ []) 0 (pair_owner self.old) (pair_owner self.new) }
         ensures takes { TakesAll Take result self.new.seen }
         ensures count { result ≡ length (batch self.new.seen) }
         ensures unclosed { ¬ IsClosed self.new.seen }
         ensures idle { ¬ IsRunning self.old.seen → ¬ IsRunning self.new.seen }
         ensures runs { IsRunning self.old.seen → IsRunning self.new.seen }
-        ensures others { Sees [] 0 (sender_of self.old) (sender_of self.new) }
+        ensures others { Sees [] 0 (pair_sender self.old) (pair_sender self.new) }
     {
         self.seat.take()
     }
@@ -163,14 +163,14 @@ impl Pair {
     /// As `Owner::close`: the owner's events, and none of the sender's.
     pub fn close(&mut self) -> u32
         requires open { ¬ IsClosed self.old.seen }
-        ensures seen { Sees (Close ∷ []) 0 (owner_of self.old) (owner_of self.new) }
+        ensures seen { Sees (Close ∷ []) 0 (pair_owner self.old) (pair_owner self.new) }
         ensures takes { TakesAll Close result self.new.seen }
         ensures behind { IsPrefix (batch self.old.seen) (batch self.new.seen) }
         ensures count { length (batch self.new.seen) ≡ length (batch self.old.seen) + result }
         ensures shut { IsClosed self.new.seen }
         ensures idle { ¬ IsRunning self.old.seen → ¬ IsRunning self.new.seen }
         ensures runs { IsRunning self.old.seen → IsRunning self.new.seen }
-        ensures others { Sees [] 0 (sender_of self.old) (sender_of self.new) }
+        ensures others { Sees [] 0 (pair_sender self.old) (pair_sender self.new) }
     {
         self.seat.close()
     }
@@ -195,13 +195,13 @@ impl Pair {
         requires waits { batch self.old.seen ≢ [] }
         requires idle { ¬ IsRunning self.old.seen }
         ensures next { next_of self.old.seen ≡ Some result }
-        ensures seen { Sees (Begin result ∷ []) 0 (owner_of self.old) (owner_of self.new) }
+        ensures seen { Sees (Begin result ∷ []) 0 (pair_owner self.old) (pair_owner self.new) }
         ensures batch { batch self.old.seen ≡ result ∷ batch self.new.seen }
         ensures runs { IsRunning self.new.seen }
         ensures running { running self.new.seen ≡ Some result }
         ensures shut { IsClosed self.old.seen → IsClosed self.new.seen }
         ensures unclosed { ¬ IsClosed self.old.seen → ¬ IsClosed self.new.seen }
-        ensures others { Sees [] 0 (sender_of self.old) (sender_of self.new) }
+        ensures others { Sees [] 0 (pair_sender self.old) (pair_sender self.new) }
     {
         self.seat.begin()
     }
@@ -209,12 +209,12 @@ impl Pair {
     /// As `Owner::end`: the owner's events, and none of the sender's.
     pub fn end(&mut self)
         requires runs { IsRunning self.old.seen }
-        ensures seen { (k : ℕ) → running self.old.seen ≡ Some k → Sees (End k ∷ []) 0 (owner_of self.old) (owner_of self.new) }
+        ensures seen { (k : ℕ) → running self.old.seen ≡ Some k → Sees (End k ∷ []) 0 (pair_owner self.old) (pair_owner self.new) }
         ensures batch { batch self.new.seen ≡ batch self.old.seen }
         ensures idle { ¬ IsRunning self.new.seen }
         ensures shut { IsClosed self.old.seen → IsClosed self.new.seen }
         ensures unclosed { ¬ IsClosed self.old.seen → ¬ IsClosed self.new.seen }
-        ensures others { Sees [] 0 (sender_of self.old) (sender_of self.new) }
+        ensures others { Sees [] 0 (pair_sender self.old) (pair_sender self.new) }
     {
         self.seat.end();
     }
@@ -224,13 +224,13 @@ impl Pair {
         requires open { ¬ IsClosed self.old.seen }
         requires empty { batch self.old.seen ≡ [] }
         requires idle { ¬ IsRunning self.old.seen }
-        ensures seen { Rests result (owner_of self.old) (owner_of self.new) }
+        ensures seen { Rests result (pair_owner self.old) (pair_owner self.new) }
         ensures rested { IsTrue result → HasRested self.new.seen }
         ensures refused { result ≡ false → MayNotRest self.new.seen }
         ensures unclosed { ¬ IsClosed self.new.seen }
         ensures empty { batch self.new.seen ≡ [] }
         ensures idle { ¬ IsRunning self.new.seen }
-        ensures others { Sees [] 0 (sender_of self.old) (sender_of self.new) }
+        ensures others { Sees [] 0 (pair_sender self.old) (pair_sender self.new) }
     {
         self.seat.rest()
     }
@@ -240,11 +240,11 @@ impl Pair {
         requires item { item < self.old.layout.items }
         requires shut { IsClosed self.old.seen }
         requires runs { IsRunning self.old.seen }
-        ensures answer { Chains item result (owner_of self.old) (owner_of self.new) }
+        ensures answer { Chains item result (pair_owner self.old) (pair_owner self.new) }
         ensures batch { batch self.new.seen ≡ batch self.old.seen ++ queued_number item result }
         ensures shut { IsClosed self.new.seen }
         ensures runs { IsRunning self.new.seen }
-        ensures others { Sees [] 0 (sender_of self.old) (sender_of self.new) }
+        ensures others { Sees [] 0 (pair_sender self.old) (pair_sender self.new) }
     {
         self.seat.chain(item)
     }
@@ -253,9 +253,9 @@ impl Pair {
     pub fn queue_tries(&mut self, item: u32, tries: u32) -> Answer
         requires item { item < self.old.layout.items }
         requires tries { 0 < tries }
-        ensures answer { Answers item tries result (sender_of self.old) (sender_of self.new) }
+        ensures answer { Answers item tries result (pair_sender self.old) (pair_sender self.new) }
         ensures contended { result ≡ Contended → IsContended self.old.number item tries self.new.seen }
-        ensures others { Sees [] 0 (owner_of self.old) (owner_of self.new) }
+        ensures others { Sees [] 0 (pair_owner self.old) (pair_owner self.new) }
     {
         queue_number::<Second>(&mut self.seat.chair, &mut self.sent, item, tries)
     }
@@ -263,8 +263,8 @@ impl Pair {
     /// Afterwards each has seen all that has happened, and so all that both had seen.
     pub fn meet(&mut self, sender: &mut Sender)
         requires one { sender.old.queue ≡ self.old.queue }
-        ensures owner { Sees [] 0 (owner_of self.old) (owner_of self.new) }
-        ensures sender { Sees [] 0 (sender_of self.old) (sender_of self.new) }
+        ensures owner { Sees [] 0 (pair_owner self.old) (pair_owner self.new) }
+        ensures sender { Sees [] 0 (pair_sender self.old) (pair_sender self.new) }
         ensures that { Sees [] 0 sender.old sender.new }
         ensures layout { sender.old.layout ≡ self.old.layout }
         ensures both { sender.new.seen ≡ self.new.seen }

@@ -32,7 +32,8 @@ pub(crate) fn hold_number<P: Place>(chair: &mut Chair, sent: &mut Sent, number: 
     requires number { number < number_count sent.old.layout }
     ensures sends { Sends (sending P.at chair.new sent.new) }
     ensures follow { Follow P.at chair.old chair.new }
-    ensures seen { TestsAndSets number result (sender_view (sending P.at chair.old sent.old)) (sender_view (sending P.at chair.new sent.new)) }
+    ensures seen { TestsAndSets number result (sender_view (sending P.at chair.old sent.old))
+        (sender_view (sending P.at chair.new sent.new)) }
 {
     if chair.hold::<P>(number) == 0 {
         return true;
@@ -48,7 +49,8 @@ pub(crate) fn attempt<P: Place>(chair: &mut Chair, sent: &mut Sent, number: u32)
     requires held { Holds (part_at P.at chair.old).seen sent.old.number number }
     ensures sends { Sends (sending P.at chair.new sent.new) }
     ensures follow { Follow P.at chair.old chair.new }
-    ensures posts { Posts number 1 result (sender_view (sending P.at chair.old sent.old)) (sender_view (sending P.at chair.new sent.new)) }
+    ensures posts { Posts number 1 result (sender_view (sending P.at chair.old sent.old))
+        (sender_view (sending P.at chair.new sent.new)) }
 {
     let posted = try_push::<P>(chair, number);
     match &posted {
@@ -66,7 +68,8 @@ fn give_up<P: Place>(chair: &mut Chair, sent: &mut Sent, number: u32)
     requires held { Holds (part_at P.at chair.old).seen sent.old.number number }
     ensures sends { Sends (sending P.at chair.new sent.new) }
     ensures follow { Follow P.at chair.old chair.new }
-    ensures gives { Sees (Back sent.old.number number why.Contended ∷ []) 0 (sender_view (sending P.at chair.old sent.old)) (sender_view (sending P.at chair.new sent.new)) }
+    ensures gives { Sees (Back sent.old.number number why.Contended ∷ []) 0 (sender_view (sending P.at chair.old sent.old))
+        (sender_view (sending P.at chair.new sent.new)) }
 {
     chair.back_contended::<P>(number);
     sent.counts.contended = sent.counts.contended.saturating_add(1);
@@ -84,7 +87,8 @@ pub(crate) fn push_tries<P: Place>(
     requires held { Holds (part_at P.at chair.old).seen sent.old.number number }
     ensures sends { Sends (sending P.at chair.new sent.new) }
     ensures follow { Follow P.at chair.old chair.new }
-    ensures posts { Posts number tries result (sender_view (sending P.at chair.old sent.old)) (sender_view (sending P.at chair.new sent.new)) }
+    ensures posts { Posts number tries result (sender_view (sending P.at chair.old sent.old))
+        (sender_view (sending P.at chair.new sent.new)) }
 {
     let mut waits = Waits::new(sent.spins);
     for _ in 1..tries {
@@ -107,7 +111,8 @@ pub(crate) fn queue_number<P: Place>(
     requires number { number < number_count sent.old.layout }
     ensures sends { Sends (sending P.at chair.new sent.new) }
     ensures follow { Follow P.at chair.old chair.new }
-    ensures answer { Answers number tries result (sender_view (sending P.at chair.old sent.old)) (sender_view (sending P.at chair.new sent.new)) }
+    ensures answer { Answers number tries result (sender_view (sending P.at chair.old sent.old))
+        (sender_view (sending P.at chair.new sent.new)) }
     ensures contended { result ≡ Contended → IsContended sent.old.number number tries (part_at P.at chair.new).seen }
 {
     if !hold_number::<P>(chair, sent, number) {

@@ -45,7 +45,7 @@ pub struct Worker<W: Work> {
 
 impl<W: Work> Model for Worker<W> {
     ghost use Rattle.std.specs.Prelude.{drop};
-    ghost use Rattle.wq_live.specs.Pairs.{owner_of, sender_of};
+    ghost use Rattle.wq_live.specs.Pairs.{pair_owner, pair_sender};
     ghost use Rattle.wq_worker.specs.State.{WorkerState, AreWorkerParts};
 
     ghost Value = { WorkerState W };
@@ -60,7 +60,7 @@ impl<W: Work> Model for Worker<W> {
       work = w.work;
     } };
 
-    ghost invariant = { λ w. AreWorkerParts (W.log w.work) w.tries w.at w.follow.items (owner_of w.pair) (sender_of w.pair) };
+    ghost invariant = { λ w. AreWorkerParts (W.log w.work) w.tries w.at w.follow.items (pair_owner w.pair) (pair_sender w.pair) };
 }
 
 impl<W: Work> Worker<W> {

@@ -55,7 +55,8 @@ loop-chair-preserved c = let g = c.into_iter-chair-iterator.ensures.into_iter_gi
     let ok : is_ok c.push.result ≡ true = not_err c.push.result (sym failed ∙ no) in (
       omega (arith, l.invariant.0, length-append l.yielded (c.in-Some.chair ∷ [])),
       λ q is. let view = sender_view_new s q
-          (ap (alone_at 0) (chair_at q c.args.layout c.args.layout.senders c.args.seats.items (length l.yielded) l.number c.in-Some.chair is l.invariant.0 turn)) in
+          (ap (alone_at 0) (chair_at q c.args.layout c.args.layout.senders c.args.seats.items (length l.yielded) l.number c.in-Some.chair is l.invariant.0
+          turn)) in
           c.push.ensures.items ∙
           (ap (λ (b : Bool). if b then l.senders.items ++ sender_view s ∷ [] else l.senders.items) ok ∙
           ((λ i. l.invariant.1 q is i ++ view i ∷ []) ∙ new_senders-more q c.args.layout l.number)),

@@ -32,10 +32,12 @@ turn-requires-clause-number g c =
     hang_number c.args.row c.args.more (part_at g.P.Place.at c.args.chair.now) c.requires.stands c.requires.both c.if-row-eq0.false c.if-more-eq0.false
 
 pub turn-requires-clause-next : goal.turn-requires-clause-next
-turn-requires-clause-next g c = hang_next c.args.row c.args.more (part_at g.P.Place.at c.args.chair.now) c.requires.stands c.requires.both c.if-row-eq0.false c.if-more-eq0.false
+turn-requires-clause-next g c = hang_next c.args.row c.args.more (part_at g.P.Place.at c.args.chair.now) c.requires.stands c.requires.both c.if-row-eq0.false
+    c.if-more-eq0.false
 
 pub turn-requires-clause-taken : goal.turn-requires-clause-taken
-turn-requires-clause-taken g c = hang_turns c.args.row c.args.more (part_at g.P.Place.at c.args.chair.now) c.requires.stands c.requires.both c.if-row-eq0.false c.if-more-eq0.false
+turn-requires-clause-taken g c = hang_turns c.args.row c.args.more (part_at g.P.Place.at c.args.chair.now) c.requires.stands c.requires.both
+    c.if-row-eq0.false c.if-more-eq0.false
 
 pub overflow_add-result : goal.overflow_add-result
 overflow_add-result g c = let p = (part_at g.P.Place.at c.args.chair.now) in let both = c.requires.both in
@@ -48,7 +50,8 @@ overflow_add-result g c = let p = (part_at g.P.Place.at c.args.chair.now) in let
 
 pub returns : goal.returns
 returns g c =
-    let row = c.args.row in let more = c.args.more in let p = (part_at g.P.Place.at c.args.chair.now) in let q = (part_at g.P.Place.at c.turn.new.self) in let both = c.requires.both in
+    let row = c.args.row in let more = c.args.more in let p = (part_at g.P.Place.at c.args.chair.now) in let q = (part_at g.P.Place.at c.turn.new.self) in
+    let both = c.requires.both in
     let makes = c.turn.ensures.step.moves.makes in let stage = hang_stage row more p c.requires.stands both q makes in record {
       beside = beside_first g.P.Place.at _ _ _ _ c.turn.ensures.step;
       follows = follows_on p p q (follows_none p) (hang_tells row more p c.requires.stands both q makes);

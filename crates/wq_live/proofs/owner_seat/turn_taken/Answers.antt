@@ -11,7 +11,8 @@ use Rattle.wq_live.proofs.Taking.{follows_on, follows_none, number_small, walkin
 use Rattle.wq_live.proofs.owner_seat.turn_taken.Goals as goal
 
 pub number_at-requires : goal.number_at-requires
-number_at-requires g c = let p = (part_at g.P.Place.at c.args.chair.now) in walking_small c.args.word [] (kept_batch p.stage) p c.requires.stands c.requires.stage
+number_at-requires g c = let p = (part_at g.P.Place.at c.args.chair.now) in
+    walking_small c.args.word [] (kept_batch p.stage) p c.requires.stands c.requires.stage
 
 pub walk-requires-clause-number : goal.walk-requires-clause-number
 walk-requires-clause-number g c = let p = (part_at g.P.Place.at c.args.chair.now) in let ks = kept_batch p.stage in let last = c.in-Some.last in
@@ -40,7 +41,8 @@ loop-next-init g c = let p = (part_at g.P.Place.at c.args.chair.now) in let ks =
     }
 
 pub walk-requires-in-Some-next-clause-number : goal.walk-requires-in-Some-next-clause-number
-walk-requires-in-Some-next-clause-number g c = let l = c.loop-next in let i = l.invariant in let ks = kept_batch (part_at g.P.Place.at c.args.chair.now).stage in
+walk-requires-in-Some-next-clause-number g c = let l = c.loop-next in let i = l.invariant in
+    let ks = kept_batch (part_at g.P.Place.at c.args.chair.now).stage in
     let number = c.in-Some-next.number in let walked = l.row.front ∷ i.turning.rest in
     (stands_walking (part_at g.P.Place.at l.chair) number walked ks i.stands (i.turning.stage_is ∙ walking_on l.next number walked ks c.in-Some-next.is)).0
 
@@ -52,36 +54,42 @@ walk-requires-in-Some-next-clause-next g c = let l = c.loop-next in let i = l.in
 pub number_at-next-requires-in-Some-next : goal.number_at-next-requires-in-Some-next
 number_at-next-requires-in-Some-next g c = let l = c.loop-next in let p = (part_at g.P.Place.at l.chair) in let turning = l.invariant.turning in
     let ks = kept_batch (part_at g.P.Place.at c.args.chair.now).stage in let number = c.in-Some-next.number in let found = c.walk-in-Some-next.result in
-    let t = (part_at g.P.Place.at c.walk-in-Some-next.new.self) in let walks = c.walk-in-Some-next.ensures.step.moves.makes in let stands = makes_stands _ _ p t walks in
+    let t = (part_at g.P.Place.at c.walk-in-Some-next.new.self) in let walks = c.walk-in-Some-next.ensures.step.moves.makes in
+    let stands = makes_stands _ _ p t walks in
     walking_small found (number ∷ l.row.front ∷ turning.rest) ks t stands
     (walked_stage ks l.next number found l.row (part_at g.P.Place.at c.args.chair.now) p turning c.in-Some-next.is t stands walks)
 
 pub turn-requires-clause-number : goal.turn-requires-clause-number
 turn-requires-clause-number g c = let l = c.loop-next in let p = (part_at g.P.Place.at l.chair) in
     let t = (part_at g.P.Place.at c.walk-in-Some-next.new.self) in let walks = c.walk-in-Some-next.ensures.step.moves.makes in
-    turn_number (kept_batch (part_at g.P.Place.at c.args.chair.now).stage) l.next c.in-Some-next.number c.walk-in-Some-next.result l.row (part_at g.P.Place.at c.args.chair.now) p
+    turn_number (kept_batch (part_at g.P.Place.at c.args.chair.now).stage) l.next c.in-Some-next.number c.walk-in-Some-next.result l.row
+    (part_at g.P.Place.at c.args.chair.now) p
     l.invariant.turning c.in-Some-next.is t (makes_stands _ _ p t walks) walks
 
 pub turn-requires-clause-next : goal.turn-requires-clause-next
 turn-requires-clause-next g c = let l = c.loop-next in let p = (part_at g.P.Place.at l.chair) in
     let t = (part_at g.P.Place.at c.walk-in-Some-next.new.self) in let walks = c.walk-in-Some-next.ensures.step.moves.makes in
-    front_number (kept_batch (part_at g.P.Place.at c.args.chair.now).stage) l.next c.in-Some-next.number c.walk-in-Some-next.result l.row (part_at g.P.Place.at c.args.chair.now) p
+    front_number (kept_batch (part_at g.P.Place.at c.args.chair.now).stage) l.next c.in-Some-next.number c.walk-in-Some-next.result l.row
+    (part_at g.P.Place.at c.args.chair.now) p
     l.invariant.turning c.in-Some-next.is t (makes_stands _ _ p t walks) walks
 
 pub turn-requires-clause-taken : goal.turn-requires-clause-taken
 turn-requires-clause-taken g c = let l = c.loop-next in let p = (part_at g.P.Place.at l.chair) in
     let t = (part_at g.P.Place.at c.walk-in-Some-next.new.self) in let walks = c.walk-in-Some-next.ensures.step.moves.makes in
-    turn_next (kept_batch (part_at g.P.Place.at c.args.chair.now).stage) l.next c.in-Some-next.number c.walk-in-Some-next.result l.row (part_at g.P.Place.at c.args.chair.now) p
+    turn_next (kept_batch (part_at g.P.Place.at c.args.chair.now).stage) l.next c.in-Some-next.number c.walk-in-Some-next.result l.row
+    (part_at g.P.Place.at c.args.chair.now) p
     l.invariant.turning c.in-Some-next.is t (makes_stands _ _ p t walks) walks
 
 pub overflow_add-row : goal.overflow_add-row
-overflow_add-row g c = let l = c.loop-next in let i = l.invariant in let p = (part_at g.P.Place.at l.chair) in let ks = kept_batch (part_at g.P.Place.at c.args.chair.now).stage in
+overflow_add-row g c = let l = c.loop-next in let i = l.invariant in let p = (part_at g.P.Place.at l.chair) in
+    let ks = kept_batch (part_at g.P.Place.at c.args.chair.now).stage in
     let number = c.in-Some-next.number in let walked = l.row.front ∷ i.turning.rest in
     let stage = i.turning.stage_is ∙ walking_on l.next number walked ks c.in-Some-next.is in
     omega (arith, (stands_walking p number walked ks i.stands stage).1, i.turning.count_is, number_small p.layout)
 
 pub loop-next-preserved : goal.loop-next-preserved
-loop-next-preserved g c = let l = c.loop-next in let i = l.invariant in let o = (part_at g.P.Place.at c.args.chair.now) in let p = (part_at g.P.Place.at l.chair) in
+loop-next-preserved g c = let l = c.loop-next in let i = l.invariant in let o = (part_at g.P.Place.at c.args.chair.now) in
+    let p = (part_at g.P.Place.at l.chair) in
     let ks = kept_batch o.stage in let t = (part_at g.P.Place.at c.walk-in-Some-next.new.self) in let found = c.walk-in-Some-next.result in
     let walks = c.walk-in-Some-next.ensures.step.moves.makes in let r = (part_at g.P.Place.at c.turn.new.self) in let turns = c.turn.ensures.step.moves.makes in
     let stands = makes_stands _ _ p t walks in let number = c.in-Some-next.number in let is = c.in-Some-next.is in
@@ -95,7 +103,8 @@ loop-next-preserved g c = let l = c.loop-next in let i = l.invariant in let o = 
     }
 
 pub loop-next-smaller : goal.loop-next-smaller
-loop-next-smaller g c = let l = c.loop-next in let i = l.invariant in let o = (part_at g.P.Place.at c.args.chair.now) in let p = (part_at g.P.Place.at l.chair) in
+loop-next-smaller g c = let l = c.loop-next in let i = l.invariant in let o = (part_at g.P.Place.at c.args.chair.now) in
+    let p = (part_at g.P.Place.at l.chair) in
     let ks = kept_batch o.stage in let t = (part_at g.P.Place.at c.walk-in-Some-next.new.self) in let found = c.walk-in-Some-next.result in
     let walks = c.walk-in-Some-next.ensures.step.moves.makes in let r = (part_at g.P.Place.at c.turn.new.self) in let turns = c.turn.ensures.step.moves.makes in
     let stands = makes_stands _ _ p t walks in let number = c.in-Some-next.number in let is = c.in-Some-next.is in

@@ -32,12 +32,14 @@ number_at-requires g c = let p = (part_at g.P.Place.at c.args.chair.now) in
 
 pub unreachable-requires : goal.unreachable-requires
 unreachable-requires g c = let p = (part_at g.P.Place.at c.args.chair.now) in
-    found_some c.args.row p c.requires.has_row c.requires.some c.if-row-eq1.false c.walk.result (part_at g.P.Place.at c.walk.new.self) c.walk.ensures.step.moves.makes
+    found_some c.args.row p c.requires.has_row c.requires.some c.if-row-eq1.false c.walk.result
+    (part_at g.P.Place.at c.walk.new.self) c.walk.ensures.step.moves.makes
     (sym c.number_at.ensures.number ∙ c.in-None.is)
 
 pub returns : goal.returns
 returns g c =
-    let row = c.args.row in let p = (part_at g.P.Place.at c.args.chair.now) in let q = (part_at g.P.Place.at c.walk.new.self) in let makes = c.walk.ensures.step.moves.makes in
+    let row = c.args.row in let p = (part_at g.P.Place.at c.args.chair.now) in let q = (part_at g.P.Place.at c.walk.new.self) in
+    let makes = c.walk.ensures.step.moves.makes in
     let front = first_of_row row p c.requires.has_row c.requires.some in record {
       beside = beside_first g.P.Place.at _ _ _ _ c.walk.ensures.step;
       follows = follows_on p p q (follows_none p) (load_tells c.walk.result p q _ _ front.1 makes);

@@ -34,7 +34,8 @@ returns-in-Queued g c =
 pub returns-in-Closed : goal.returns-in-Closed
 returns-in-Closed g c =
     let at = g.P.Place.at in let s = sending at c.args.chair.now c.args.sent.now in let o = c.requires.sends in let k = c.args.number in
-    let t : Sending = record (sending at c.try_push-posted.new.chair c.args.sent.now) { counts = record s.counts { closed = c.saturating_add-sent-in-Closed.result } } in
+    let t : Sending = record (sending at c.try_push-posted.new.chair c.args.sent.now)
+    { counts = record s.counts { closed = c.saturating_add-sent-in-Closed.result } } in
     let p = s.chair.part in let q = t.chair.part in let e = c.try_push-posted.ensures in
     let told = subst (λ (a : Posted). PostsAs k a p q) c.in-Closed.is e.posts in record {
       sends = sends_tells s t _ 0 o refl refl told e.sender

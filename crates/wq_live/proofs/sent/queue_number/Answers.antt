@@ -37,7 +37,8 @@ returns-in-Queued-clause-answer g c = let at = g.P.Place.at in let k = c.args.nu
 pub returns-in-Closed-clause-answer : goal.returns-in-Closed-clause-answer
 returns-in-Closed-clause-answer g c = let at = g.P.Place.at in let k = c.args.number in
     sees_on (λ z. Hold z k ∷ []) (λ z. Back z k why.Closed ∷ []) 0 0 0 (sender_view (sending at c.args.chair.now c.args.sent.now))
-    (sender_view (sending at c.hold_number.new.chair c.hold_number.new.sent)) (sender_view (sending at c.push_tries.new.chair c.push_tries.new.sent)) (omega arith)
+    (sender_view (sending at c.hold_number.new.chair c.hold_number.new.sent)) (sender_view (sending at c.push_tries.new.chair c.push_tries.new.sent))
+    (omega arith)
     c.if-not-hold_number.ensures.seen c.in-Closed.ensures.posts
 
 pub returns-in-Contended-clause-answer : goal.returns-in-Contended-clause-answer

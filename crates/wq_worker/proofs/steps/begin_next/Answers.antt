@@ -1,7 +1,7 @@
 use Rattle.std.proofs.Common.{rules, ◌≡◌, None, refl, [], ◌∷◌, ◌++◌, arith}
 use Rattle.wq_words.specs.declared.event.Event.TheVariants.{Begin}
 use Rattle.wq_live.specs.Batch.{next_of}
-use Rattle.wq_live.specs.Pairs.{owner_of, sender_of}
+use Rattle.wq_live.specs.Pairs.{pair_owner, pair_sender}
 use Rattle.wq_live.proofs.Sends.{sees_on}
 use Rattle.wq_worker.specs.Seats.{taking}
 use Rattle.wq_worker.proofs.Owned.{stays, owner_grows}
@@ -13,19 +13,19 @@ pub returns-then-is_none : goal.returns-then-is_none
 returns-then-is_none c =
     let e = c.take_where_empty.ensures in let a = c.args.pair.now in let b = c.take_where_empty.new.pair in
     let none : next_of b.seen ≡ None = search rules in
-    (e.empty none, by_owner (taking a.seen) 0 0 (owner_of a) (sender_of a) (owner_of b) (sender_of b) c.requires.paired e.seen e.others refl, none)
+    (e.empty none, by_owner (taking a.seen) 0 0 (pair_owner a) (pair_sender a) (pair_owner b) (pair_sender b) c.requires.paired e.seen e.others refl, none)
 
 pub begin-requires-clause-idle : goal.begin-requires-clause-idle
 begin-requires-clause-idle c =
     let a = c.args.pair.now in let b = c.take_where_empty.new.pair in let e = c.take_where_empty.ensures in
     let s = stays (taking a.seen) a.seen b.seen (quiet_taking a.seen)
-    (owner_grows (taking a.seen) 0 a.seen b.seen (owner_grew (taking a.seen) 0 (owner_of a) (sender_of a) (owner_of b) c.requires.paired e.seen)) in
+    (owner_grows (taking a.seen) 0 a.seen b.seen (owner_grew (taking a.seen) 0 (pair_owner a) (pair_sender a) (pair_owner b) c.requires.paired e.seen)) in
     rw (s.begun_same, s.ended_same) c.requires.idle
 
 pub returns : goal.returns
 returns c =
     let e = c.take_where_empty.ensures in let m = c.begin.ensures in let a = c.args.pair.now in let b = c.take_where_empty.new.pair in
     let d = c.begin.new.self in let xs = taking a.seen in let k = c.begin.result in
-    by_owner (xs ++ Begin k ∷ []) 0 0 (owner_of a) (sender_of a) (owner_of d) (sender_of d) c.requires.paired
-    (sees_on (λ z. xs) (λ z. Begin k ∷ []) 0 0 0 (owner_of a) (owner_of b) (owner_of d) (omega arith) e.seen m.seen)
-    (sees_on (λ z. []) (λ z. []) 0 0 0 (sender_of a) (sender_of b) (sender_of d) (omega arith) e.others m.others) refl
+    by_owner (xs ++ Begin k ∷ []) 0 0 (pair_owner a) (pair_sender a) (pair_owner d) (pair_sender d) c.requires.paired
+    (sees_on (λ z. xs) (λ z. Begin k ∷ []) 0 0 0 (pair_owner a) (pair_owner b) (pair_owner d) (omega arith) e.seen m.seen)
+    (sees_on (λ z. []) (λ z. []) 0 0 0 (pair_sender a) (pair_sender b) (pair_sender d) (omega arith) e.others m.others) refl

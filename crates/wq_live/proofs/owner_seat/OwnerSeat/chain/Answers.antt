@@ -14,7 +14,7 @@ use Rattle.wq_live.proofs.Linking.{has_row_after}
 use Rattle.wq_live.proofs.Resting.{closed_stays, quiet_runs}
 use Rattle.wq_live.proofs.Hanging.{chained_behind}
 use Rattle.wq_live.proofs.Taking.{followed}
-use Rattle.wq_live.proofs.OwnerTells.{makes_stands, stands_batch, owner_batch, owner_of, chain_tells, chain_stage, owner_grows, owner_sees}
+use Rattle.wq_live.proofs.OwnerTells.{makes_stands, stands_batch, owner_batch, pair_owner, chain_tells, chain_stage, owner_grows, owner_sees}
 use Rattle.wq_live.proofs.owner_seat.OwnerSeat.chain.Goals as goal
 
 pub returns-then-chain-ne0 : goal.returns-then-chain-ne0
@@ -24,7 +24,7 @@ returns-then-chain-ne0 c =
     let k = c.args.item in let p = s.chair.part in let q = c.chain.new.self.part in let w = c.chain.result in let x = c.saturating_add-self.result in
     let told : Tells (ChainBusy k ∷ []) p q =
     subst (λ (b : Bool). MatchBool b (Tells (Chain k ∷ []) p q) (Tells (ChainBusy k ∷ []) p q)) (ne_eqb w 0 c.if-chain-ne0.true)
-    (chain_tells k w p q o.number_is (owner_of p.stage (kept_batch s.chair.part.stage) o.has_row.stage_is) c.chain.ensures.step.moves.makes) in
+    (chain_tells k w p q o.number_is (pair_owner p.stage (kept_batch s.chair.part.stage) o.has_row.stage_is) c.chain.ensures.step.moves.makes) in
     let t = record s { chair = c.chain.new.self; counts = record s.counts { chain_busy = x } } in
     let sees = owner_sees (ChainBusy k ∷ []) 0 s t (owner_view c.args.self.now) refl o refl c.chain.ensures.step.queue_is told in
     let stage = chain_stage k w p q (kept_batch p.stage) o.has_row.stage_is c.chain.ensures.step.moves.makes ∙
@@ -34,7 +34,7 @@ returns-then-chain-ne0 c =
           let k = c.args.item in let p = s.chair.part in let q = c.chain.new.self.part in let w = c.chain.result in let x = c.saturating_add-self.result in
           let told : Tells (ChainBusy k ∷ []) p q =
           subst (λ (b : Bool). MatchBool b (Tells (Chain k ∷ []) p q) (Tells (ChainBusy k ∷ []) p q)) (ne_eqb w 0 c.if-chain-ne0.true)
-          (chain_tells k w p q o.number_is (owner_of p.stage (kept_batch s.chair.part.stage) o.has_row.stage_is) c.chain.ensures.step.moves.makes) in
+          (chain_tells k w p q o.number_is (pair_owner p.stage (kept_batch s.chair.part.stage) o.has_row.stage_is) c.chain.ensures.step.moves.makes) in
           let t = record s { chair = c.chain.new.self; counts = record s.counts { chain_busy = x } } in
           let g = owner_grows (ChainBusy k ∷ []) 0 s t o told in record {
             layout_is = told.layout_is ∙ o.layout_is;
@@ -62,7 +62,8 @@ hang-self-requires-clause-stands c = makes_stands _ _ c.args.self.now.chair.part
 pub hang-self-requires-clause-both : goal.hang-self-requires-clause-both
 hang-self-requires-clause-both c = let s = c.args.self.now in let o = c.requires.owns in let k = c.args.item in let p = s.chair.part in
     let q = c.chain.new.self.part in let w = c.chain.result in let zero : w ≡ 0 = omega (arith, c.if-chain-ne0.false) in
-    let stage : q.stage ≡ Owns None [] (kept_batch p.stage ++ k ∷ []) = chain_stage k w p q (kept_batch p.stage) o.has_row.stage_is c.chain.ensures.step.moves.makes ∙
+    let stage : q.stage ≡ Owns None [] (kept_batch p.stage ++ k ∷ []) = chain_stage k w p q
+    (kept_batch p.stage) o.has_row.stage_is c.chain.ensures.step.moves.makes ∙
     ap (λ (b : Bool). Owns None [] (if b then kept_batch p.stage ++ k ∷ [] else kept_batch p.stage)) (eq-eqb w 0 zero) in
     subst (λ (r : Row). HasBoth s.row r q) (sym c.of_one.ensures) (chained_behind k w s.row p q o.has_row c.chain.ensures.step.moves.makes stage)
 
@@ -72,7 +73,7 @@ returns c = let s = c.args.self.now in let o = c.requires.owns in let k = c.args
     let zero : w ≡ 0 = omega (arith, c.if-chain-ne0.false) in let e = c.hang-self.ensures in let r = c.hang-self.new.chair.part in
     let told : Tells (Chain k ∷ []) p r =
     followed (Chain k ∷ []) 0 p q r (subst (λ (b : Bool). MatchBool b (Tells (Chain k ∷ []) p q) (Tells (ChainBusy k ∷ []) p q)) (eq-eqb w 0 zero)
-    (chain_tells k w p q o.number_is (owner_of p.stage (kept_batch p.stage) o.has_row.stage_is) c.chain.ensures.step.moves.makes)) e.follows e.stands in
+    (chain_tells k w p q o.number_is (pair_owner p.stage (kept_batch p.stage) o.has_row.stage_is) c.chain.ensures.step.moves.makes)) e.follows e.stands in
     let t = record s { chair = c.hang-self.new.chair; row = c.hang-self.result; counts = record s.counts { chained = x } } in
     let sees = owner_sees (Chain k ∷ []) 0 s t (owner_view c.args.self.now) refl o refl (beside_queue 0 _ _ e.beside ∙ c.chain.ensures.step.queue_is) told in
     let stage = chain_stage k w p q (kept_batch p.stage) o.has_row.stage_is c.chain.ensures.step.moves.makes ∙
@@ -82,7 +83,7 @@ returns c = let s = c.args.self.now in let o = c.requires.owns in let k = c.args
           let zero : w ≡ 0 = omega (arith, c.if-chain-ne0.false) in let e = c.hang-self.ensures in let r = c.hang-self.new.chair.part in
           let told : Tells (Chain k ∷ []) p r =
           followed (Chain k ∷ []) 0 p q r (subst (λ (b : Bool). MatchBool b (Tells (Chain k ∷ []) p q) (Tells (ChainBusy k ∷ []) p q)) (eq-eqb w 0 zero)
-          (chain_tells k w p q o.number_is (owner_of p.stage (kept_batch p.stage) o.has_row.stage_is) c.chain.ensures.step.moves.makes)) e.follows e.stands in
+          (chain_tells k w p q o.number_is (pair_owner p.stage (kept_batch p.stage) o.has_row.stage_is) c.chain.ensures.step.moves.makes)) e.follows e.stands in
           let t = record s { chair = c.hang-self.new.chair; row = c.hang-self.result; counts = record s.counts { chained = x } } in
           let g = owner_grows (Chain k ∷ []) 0 s t o told in record {
             layout_is = told.layout_is ∙ o.layout_is;

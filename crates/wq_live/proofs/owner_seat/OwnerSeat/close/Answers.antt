@@ -8,7 +8,7 @@ use Rattle.wq_live.specs.Batch.{batch}
 use Rattle.wq_live.specs.Sits.{kept_batch}
 use Rattle.wq_live.proofs.Tells.{Tells}
 use Rattle.wq_live.proofs.Owned.{running_quiet, closed_closed, counts_quiet}
-use Rattle.wq_live.proofs.OwnerTells.{makes_stands, stands_batch, owner_batch, owner_of, close_tells, taken_stage, owner_grows, owner_sees}
+use Rattle.wq_live.proofs.OwnerTells.{makes_stands, stands_batch, owner_batch, pair_owner, close_tells, taken_stage, owner_grows, owner_sees}
 use Rattle.wq_live.proofs.Resting.{quiet_idle, quiet_runs}
 use Rattle.wq_live.proofs.Linking.{walks_kept, walks_batch, walks_row}
 use Rattle.wq_live.proofs.Taking.{followed, close_takes}
@@ -34,7 +34,7 @@ pub returns-clause-owns : goal.returns-clause-owns
 returns-clause-owns c = let s = c.args.self.now in let o = c.requires.owns in let p = s.chair.part in let q = c.close-head.new.self.part in
     let e = c.walk_all-self.ensures in let r = c.walk_all-self.new.chair.part in let makes = c.close-head.ensures.step.moves.makes in
     let told : Tells (Close ∷ []) p r = followed (Close ∷ []) 0 p q r
-    (close_tells c.close-head.result p q o.number_is (owner_of p.stage (kept_batch p.stage) o.has_row.stage_is) makes) e.follows e.stands in
+    (close_tells c.close-head.result p q o.number_is (pair_owner p.stage (kept_batch p.stage) o.has_row.stage_is) makes) e.follows e.stands in
     let t = record s { chair = c.walk_all-self.new.chair; row = c.walk_all-self.result; closed = true } in
     let g = owner_grows (Close ∷ []) 0 s t o told in record {
       layout_is = told.layout_is ∙ o.layout_is;
@@ -50,7 +50,7 @@ pub returns-clause-seen : goal.returns-clause-seen
 returns-clause-seen c = let s = c.args.self.now in let o = c.requires.owns in let p = s.chair.part in let q = c.close-head.new.self.part in
     let e = c.walk_all-self.ensures in let r = c.walk_all-self.new.chair.part in let makes = c.close-head.ensures.step.moves.makes in
     let told : Tells (Close ∷ []) p r = followed (Close ∷ []) 0 p q r
-    (close_tells c.close-head.result p q o.number_is (owner_of p.stage (kept_batch p.stage) o.has_row.stage_is) makes) e.follows e.stands in
+    (close_tells c.close-head.result p q o.number_is (pair_owner p.stage (kept_batch p.stage) o.has_row.stage_is) makes) e.follows e.stands in
     owner_sees (Close ∷ []) 0 s
     (record s { chair = c.walk_all-self.new.chair; row = c.walk_all-self.result; closed = true }) (owner_view c.args.self.now) refl
     o refl (beside_queue 0 _ _ e.beside ∙ c.close-head.ensures.step.queue_is) told

@@ -10,7 +10,7 @@ use Rattle.wq_core.specs.declared.step.Step.TheVariants as step
 use Rattle.wq_live.specs.Sits.{kept_batch, owner_view}
 use Rattle.wq_live.proofs.Linking.{has_row_after}
 use Rattle.wq_live.proofs.Resting.{closed_stays, open_stays}
-use Rattle.wq_live.proofs.OwnerTells.{makes_stands, stands_batch, owner_batch, owner_of, end_tells, end_stage, owner_runs, owner_grows, owner_sees}
+use Rattle.wq_live.proofs.OwnerTells.{makes_stands, stands_batch, owner_batch, pair_owner, end_tells, end_stage, owner_runs, owner_grows, owner_sees}
 use Rattle.wq_live.proofs.owner_seat.OwnerSeat.end.Goals as goal
 
 pub returns : goal.returns
@@ -19,14 +19,15 @@ returns c = let s = c.args.self.now in let o = c.requires.owns in let p = s.chai
     let runs : IsRunning p.seen = c.requires.runs in
     let some = runs_some p.seen runs in
     let tells : (k : ℕ) → running p.seen ≡ Some k → Tells (End k ∷ []) p q = λ k known.
-    end_tells k c.end.ensures.step.0 p q o.number_is (owner_of p.stage (kept_batch p.stage) o.has_row.stage_is) known c.end.ensures.step.1.moves.makes in
+    end_tells k c.end.ensures.step.0 p q o.number_is (pair_owner p.stage (kept_batch p.stage) o.has_row.stage_is) known c.end.ensures.step.1.moves.makes in
     let sees : (k : ℕ) → running p.seen ≡ Some k → Sees (End k ∷ []) 0 (owner_view c.args.self.now) (owner_view t) = λ k known.
     owner_sees (End k ∷ []) 0 s t (owner_view c.args.self.now) refl o refl c.end.ensures.step.1.queue_is (tells k known) in record {
-      owns = let s = c.args.self.now in let o = c.requires.owns in let p = s.chair.part in let q = c.end.new.self.part in let makes = c.end.ensures.step.1.moves.makes in
+      owns = let s = c.args.self.now in let o = c.requires.owns in let p = s.chair.part in let q = c.end.new.self.part in
+          let makes = c.end.ensures.step.1.moves.makes in
           let runs : IsRunning p.seen = c.requires.runs in
           let k = (runs_some p.seen runs).0 in let x = c.saturating_add-self.result in
           let told : Tells (End k ∷ []) p q =
-          end_tells k c.end.ensures.step.0 p q o.number_is (owner_of p.stage (kept_batch p.stage) o.has_row.stage_is) (runs_some p.seen runs).1 makes in
+          end_tells k c.end.ensures.step.0 p q o.number_is (pair_owner p.stage (kept_batch p.stage) o.has_row.stage_is) (runs_some p.seen runs).1 makes in
           let g = owner_grows (End k ∷ []) 0 s (record s { chair = c.end.new.self; running = None; counts = record s.counts { ended = x } }) o told in record {
             layout_is = told.layout_is ∙ o.layout_is;
             number_is = told.seat_is ∙ o.number_is;

@@ -6,7 +6,7 @@ use Rattle.wq_live.specs.Sits.{owner_view}
 use Rattle.wq_live.specs.Sits.{kept_batch}
 use Rattle.wq_live.proofs.Tells.{Tells}
 use Rattle.wq_live.proofs.Owned.{running_quiet, closed_quiet, counts_quiet}
-use Rattle.wq_live.proofs.OwnerTells.{makes_stands, stands_batch, owner_batch, owner_of, none_of, take_tells, taken_stage, owner_grows, owner_sees}
+use Rattle.wq_live.proofs.OwnerTells.{makes_stands, stands_batch, owner_batch, pair_owner, none_of, take_tells, taken_stage, owner_grows, owner_sees}
 use Rattle.wq_live.proofs.Resting.{quiet_idle, quiet_runs, open_stays}
 use Rattle.wq_live.proofs.Linking.{walks_kept, walks_row}
 use Rattle.wq_live.proofs.Taking.{followed, take_takes}
@@ -36,7 +36,7 @@ pub returns-clause-owns : goal.returns-clause-owns
 returns-clause-owns c = let s = c.args.self.now in let o = c.requires.owns in let p = s.chair.part in let q = c.take-head.new.self.part in
     let e = c.walk_all-self.ensures in let r = c.walk_all-self.new.chair.part in let makes = c.take-head.ensures.step.moves.makes in
     let told : Tells (Take ∷ []) p r = followed (Take ∷ []) 0 p q r
-    (take_tells c.take-head.result p q o.number_is (owner_of p.stage (kept_batch p.stage) o.has_row.stage_is) makes) e.follows e.stands in
+    (take_tells c.take-head.result p q o.number_is (pair_owner p.stage (kept_batch p.stage) o.has_row.stage_is) makes) e.follows e.stands in
     let t = record s { chair = c.walk_all-self.new.chair; row = c.walk_all-self.result } in
     let g = owner_grows (Take ∷ []) 0 s t o told in record {
       layout_is = told.layout_is ∙ o.layout_is;
@@ -52,7 +52,7 @@ pub returns-clause-seen : goal.returns-clause-seen
 returns-clause-seen c = let s = c.args.self.now in let o = c.requires.owns in let p = s.chair.part in let q = c.take-head.new.self.part in
     let e = c.walk_all-self.ensures in let r = c.walk_all-self.new.chair.part in let makes = c.take-head.ensures.step.moves.makes in
     let told : Tells (Take ∷ []) p r = followed (Take ∷ []) 0 p q r
-    (take_tells c.take-head.result p q o.number_is (owner_of p.stage (kept_batch p.stage) o.has_row.stage_is) makes) e.follows e.stands in
+    (take_tells c.take-head.result p q o.number_is (pair_owner p.stage (kept_batch p.stage) o.has_row.stage_is) makes) e.follows e.stands in
     owner_sees (Take ∷ []) 0 s (record s { chair = c.walk_all-self.new.chair; row = c.walk_all-self.result }) (owner_view c.args.self.now) refl
     o refl (beside_queue 0 _ _ e.beside ∙ c.take-head.ensures.step.queue_is) told
 

@@ -2,7 +2,7 @@ use Rattle.std.proofs.Common.{refl, ap, sym, ◌∙◌}
 use Rattle.wq_table.specs.Plays.{all_see}
 use Rattle.wq_table.specs.Chair.{Standing}
 use Rattle.wq_live.specs.Sits.{sending, alone_at, owner_view}
-use Rattle.wq_live.specs.Pairs.{owner_of}
+use Rattle.wq_live.specs.Pairs.{pair_owner}
 use Rattle.wq_live.proofs.Sends.{meet_sends, meet_sees}
 use Rattle.wq_live.proofs.Meeting.{meet_executes, meet_owner_sees, meet_owner_layout}
 use Rattle.wq_live.proofs.Paired.{owner_acts, sender_sees, follow_meet}
@@ -22,7 +22,8 @@ invariant_of-sender c = let e = c.meet.ensures.both in let s = sending 0 c.sende
 
 pub returns-clause-owner : goal.returns-clause-owner
 returns-clause-owner c = let e = c.meet.ensures.both in let s = c.self.inside.seat in
-    meet_owner_sees s c.meet.new.self e.machine e.sound e.this_fits.fits e.this_is c.self.invariant.owns (owner_of c.args.self.now) (ap owner_of c.self.view_is)
+    meet_owner_sees s c.meet.new.self e.machine e.sound e.this_fits.fits e.this_is c.self.invariant.owns (pair_owner c.args.self.now)
+    (ap pair_owner c.self.view_is)
 
 pub returns-clause-sender : goal.returns-clause-sender
 returns-clause-sender c = let e = c.meet.ensures.both in let s = c.self.inside.seat in let q = c.meet.new.self in
@@ -40,5 +41,5 @@ returns-clause-both c = let e = c.meet.ensures.both in ap (λ (x : Standing). x.
 
 pub returns-clause-layout : goal.returns-clause-layout
 returns-clause-layout c = let e = c.meet.ensures.both in sym
-    (meet_owner_layout (sending 0 c.sender.inside.chair c.sender.inside.sent) c.self.inside.seat c.args.sender.now (owner_of c.args.self.now) e.machine
-    e.that_fits.fits e.this_fits.fits c.sender.view_is (ap owner_of c.self.view_is) c.sender.invariant.sends c.self.invariant.owns)
+    (meet_owner_layout (sending 0 c.sender.inside.chair c.sender.inside.sent) c.self.inside.seat c.args.sender.now (pair_owner c.args.self.now) e.machine
+    e.that_fits.fits e.this_fits.fits c.sender.view_is (ap pair_owner c.self.view_is) c.sender.invariant.sends c.self.invariant.owns)

@@ -10,12 +10,15 @@ use Rattle.wq_live.proofs.Sends.{grows_tells, sends_tells, sees_tells, holds_vie
 use Rattle.wq_live.proofs.sender.Sender.give_back.Goals as goal
 
 pub back_cancelled-requires-clause-held : goal.back_cancelled-requires-clause-held
-back_cancelled-requires-clause-held c = holds_view (sending 0 c.self.inside.chair c.self.inside.sent) c.args.self.now c.args.item c.self.view_is c.self.invariant.sends c.requires.held
+back_cancelled-requires-clause-held c = holds_view (sending 0 c.self.inside.chair c.self.inside.sent) c.args.self.now c.args.item c.self.view_is
+    c.self.invariant.sends c.requires.held
 
 pub invariant_of-self : goal.invariant_of-self
-invariant_of-self c = let s = (sending 0 c.self.inside.chair c.self.inside.sent) in let k = c.args.item in let steps = c.back_cancelled.ensures.step.1 in let new = c.back_cancelled.new.self in
+invariant_of-self c = let s = (sending 0 c.self.inside.chair c.self.inside.sent) in let k = c.args.item in let steps = c.back_cancelled.ensures.step.1 in
+    let new = c.back_cancelled.new.self in
     let told : Tells
-    (Back s.chair.part.seat k Cancelled ∷ []) s.chair.part new.part = back_tells k _ Cancelled s.chair.part new.part c.self.invariant.sends.stage steps.moves.makes in
+    (Back s.chair.part.seat k Cancelled ∷ []) s.chair.part new.part = back_tells k _ Cancelled s.chair.part new.part c.self.invariant.sends.stage
+    steps.moves.makes in
     let stage = sender_made _ _ _ _ steps.moves.makes c.self.invariant.sends.stage in
     record {
       sends = sends_tells s (sending 0 new c.self.inside.sent) _ 0 c.self.invariant.sends refl refl told stage
@@ -25,7 +28,8 @@ invariant_of-self c = let s = (sending 0 c.self.inside.chair c.self.inside.sent)
     }
 
 pub returns : goal.returns
-returns c = let s = (sending 0 c.self.inside.chair c.self.inside.sent) in let k = c.args.item in let steps = c.back_cancelled.ensures.step.1 in let new = c.back_cancelled.new.self in
+returns c = let s = (sending 0 c.self.inside.chair c.self.inside.sent) in let k = c.args.item in let steps = c.back_cancelled.ensures.step.1 in
+    let new = c.back_cancelled.new.self in
     let sees = sees_tells s (sending 0 new c.self.inside.sent) c.args.self.now (λ z. Back z k Cancelled ∷ []) 0 c.self.view_is c.self.invariant.sends refl refl
     steps.queue_is (back_tells k _ Cancelled s.chair.part new.part c.self.invariant.sends.stage steps.moves.makes) in record {
       seen = sees;

@@ -9,7 +9,8 @@ use Rattle.wq_table.proofs.chair.Chair.back_closed.Goals as goal
 
 pub and-requires-clause-performs : goal.and-requires-clause-performs
 and-requires-clause-performs g c = let p = part_at g.P.Place.at c.args.self.now in let k = c.args.number in
-    placed p (λ (n : ℕ). Back n Closed) _ k _ _ (item_in g.P.Place.at c.self.inside c.args.self.now _ k c.self.invariant c.self.view_is c.item_place-place.ensures.place)
+    placed p (λ (n : ℕ). Back n Closed) _ k _ _ (item_in g.P.Place.at c.self.inside c.args.self.now _ k c.self.invariant c.self.view_is
+    c.item_place-place.ensures.place)
     (performs_back p.seat p.layout p.seen p.words k Closed p.stage (sender_seen closed_word p.stage c.requires.closed) c.requires.number c.requires.held
     (λ e. c.requires.closed))
 

@@ -19,6 +19,8 @@ returns g c = let s = c.self.inside in let it = c.args.self.now in
 
 pub invariant_of-self : goal.invariant_of-self
 invariant_of-self g c = let s = c.self.inside in let it = c.args.self.now in
-    sits_after g.P.Place.at (g.K.Kind.step c.args.place c.args.new) _ c.rise-seat.result.me c.compare_exchange-found.new.seat.me s _ it c.self.invariant c.self.view_is
-    (parts_in s it c.rise-seat.result.me c.self.invariant c.self.view_is c.rise-seat.ensures.view) c.compare_exchange-found.ensures.2 refl refl refl (search rules)
+    sits_after g.P.Place.at (g.K.Kind.step c.args.place c.args.new) _ c.rise-seat.result.me c.compare_exchange-found.new.seat.me s _ it c.self.invariant
+    c.self.view_is
+    (parts_in s it c.rise-seat.result.me c.self.invariant c.self.view_is c.rise-seat.ensures.view) c.compare_exchange-found.ensures.2 refl refl refl
+    (search rules)
     c.into_badge.ensures.2

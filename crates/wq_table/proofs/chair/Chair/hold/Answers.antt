@@ -7,7 +7,8 @@ use Rattle.wq_table.proofs.chair.Chair.hold.Goals as goal
 
 pub or-requires-clause-performs : goal.or-requires-clause-performs
 or-requires-clause-performs g c = let p = part_at g.P.Place.at c.args.self.now in let k = c.args.number in
-    placed p (λ (n : ℕ). Hold n) _ k _ _ (item_in g.P.Place.at c.self.inside c.args.self.now _ k c.self.invariant c.self.view_is c.item_place-place.ensures.place)
+    placed p (λ (n : ℕ). Hold n) _ k _ _ (item_in g.P.Place.at c.self.inside c.args.self.now _ k c.self.invariant c.self.view_is
+    c.item_place-place.ensures.place)
     (performs_hold p.seat p.layout p.seen p.words k p.stage c.requires.sender c.requires.number)
 
 pub returns : goal.returns

@@ -15,7 +15,8 @@ load-requires c = (search rules, done_in c.self.inside _ _ c.self.invariant c.de
 
 pub returns : goal.returns
 returns c = record {
-  joined = joined_in c.args.self c.args.other c.self.inside.layout c.into_seat-mine.result.me c.into_seat-seat.result.me c.join_seat.new.seat.me c.load.new.seat.me
+  joined = joined_in c.args.self c.args.other c.self.inside.layout c.into_seat-mine.result.me c.into_seat-seat.result.me c.join_seat.new.seat.me
+      c.load.new.seat.me
       _ _ (parts_in c.self.inside c.args.self c.into_seat-mine.result.me c.self.invariant c.self.view_is (search rules))
       (parts_in c.other.inside c.args.other c.into_seat-seat.result.me c.other.invariant c.other.view_is (search rules))
       (ap (λ m. m.0) c.join_seat.ensures.2) c.load.ensures.2 c.into_badge.ensures.2 (search rules);

@@ -7,7 +7,8 @@ use Rattle.wq_table.proofs.Steps.{number_pushed, performs_push}
 use Rattle.wq_table.proofs.chair.Chair.push.Goals as goal
 
 pub exchange-requires-clause-performs : goal.exchange-requires-clause-performs
-exchange-requires-clause-performs g c = let p = part_at g.P.Place.at c.args.self.now in let k = c.args.number in let back = number_pushed _ k c.to_word-word.ensures.word in
+exchange-requires-clause-performs g c = let p = part_at g.P.Place.at c.args.self.now in let k = c.args.number in
+    let back = number_pushed _ k c.to_word-word.ensures.word in
     subst (λ (z : ℕ × ℕ). Performs p (Push z.0) 0 (λ n. either (n == c.args.seen) z.1 n) (λ n. n)) (λ i. (sym back i, sym c.to_word-word.ensures.word i))
     (performs_push p.seat p.layout p.seen p.words k c.args.seen p.stage c.requires.number c.requires.linked)
 

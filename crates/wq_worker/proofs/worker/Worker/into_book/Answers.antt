@@ -2,7 +2,7 @@ use Rattle.std.proofs.Common.{◌≡◌, sym, ap, ◌∙◌, subst}
 use Rattle.wq_words.specs.History.{accepted}
 use Rattle.wq_words.specs.Legal.{IsComplete}
 use Rattle.wq_live.specs.Known.{Known}
-use Rattle.wq_live.specs.Pairs.{owner_of}
+use Rattle.wq_live.specs.Pairs.{pair_owner}
 use Rattle.wq_worker.specs.State.{WorkerState, items_among}
 use Rattle.wq_worker.proofs.Draining.{begun-complete}
 use Rattle.wq_worker.proofs.worker.Worker.into_book.Goals as goal
@@ -14,7 +14,8 @@ new-requires-clause-complete g c = subst (λ (k : Known). IsComplete k.seen) (sy
 pub returns-clause-logged : goal.returns-clause-logged
 returns-clause-logged g c =
     let i = c.self.inside in
-    let done : IsComplete (owner_of i.pair).seen = subst (λ (z : WorkerState g.row.W.Denot). IsComplete z.seen) (sym c.self.view_is) c.requires in
-    let told : g.W.Work.log i.work ≡ items_among (owner_of i.pair).layout (accepted (owner_of i.pair).seen) =
-    c.self.invariant.logged ∙ ap (items_among (owner_of i.pair).layout) (begun-complete (owner_of i.pair).layout (owner_of i.pair).seen c.self.invariant.paired.legal done) in
+    let done : IsComplete (pair_owner i.pair).seen = subst (λ (z : WorkerState g.row.W.Denot). IsComplete z.seen) (sym c.self.view_is) c.requires in
+    let told : g.W.Work.log i.work ≡ items_among (pair_owner i.pair).layout (accepted (pair_owner i.pair).seen) =
+    c.self.invariant.logged ∙ ap (items_among (pair_owner i.pair).layout)
+    (begun-complete (pair_owner i.pair).layout (pair_owner i.pair).seen c.self.invariant.paired.legal done) in
     subst (λ (z : WorkerState g.row.W.Denot). g.W.Work.log i.work ≡ items_among z.layout (accepted z.seen)) c.self.view_is told

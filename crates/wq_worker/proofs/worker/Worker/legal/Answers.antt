@@ -2,7 +2,7 @@ use Rattle.std.proofs.Common.{subst}
 use Rattle.wq_words.specs.Legal.{IsLegal}
 use Rattle.wq_words.specs.Headline.{KeepsHeadline}
 use Rattle.wq_words.proofs.Headlines.{keeps_headline}
-use Rattle.wq_live.specs.Pairs.{owner_of}
+use Rattle.wq_live.specs.Pairs.{pair_owner}
 use Rattle.wq_worker.specs.State.{WorkerState}
 use Rattle.wq_worker.proofs.worker.Worker.legal.Goals as goal
 
@@ -11,5 +11,5 @@ returns-clause-legal g c = subst (λ (z : WorkerState g.row.W.Denot). IsLegal z.
 
 pub returns-clause-headline : goal.returns-clause-headline
 returns-clause-headline g c =
-    let o = (owner_of c.self.inside.pair) in
+    let o = (pair_owner c.self.inside.pair) in
     subst (λ (z : WorkerState g.row.W.Denot). KeepsHeadline z.seen) c.self.view_is (keeps_headline o.layout o.seen c.self.invariant.paired.legal)
