@@ -2,7 +2,7 @@
 use Rattle.wq_words.proofs.Common.{◌≡◌, ℕ, suc, ◌+◌, ◌-◌, ◌≤◌, Bool, true, false, cond, not, List, [], ◌∷◌, ◌++◌, length, drop, refl, sym, ap, ◌∙◌, arith}
 use Rattle.wq_words.proofs.Common.{count_by, reverse, take, get_or, ◌<◌, inl, inr, take-append-drop, drop-cons, after_last, before_last, prefix_len}
 use Rattle.wq_words.proofs.Common.{length-reverse, get_or-reverse, cases_lt, filter_map-append, sum_by-append, sum_by-cons, prefix_len-le-length}
-use Rattle.wq_words.proofs.Common.{prefix_len_stops, Event, Hold, Busy, Push, Back, Take, Close, Begin, End, Chain, ChainBusy, Rest, accepted, accepted_by}
+use Rattle.wq_words.proofs.Common.{prefix_len_stops, Event, Push, Take, Rest, accepted, accepted_by}
 use Rattle.wq_words.proofs.Common.{begun, begun_by, ended, ended_by, fresh, is_push, is_take, is_chain}
 use Rattle.wq_words.proofs.Listed.{after_last_push_no}
 
@@ -26,17 +26,8 @@ pub fresh-more : (h : List Event) (e : Event) → is_take e ≡ false → fresh 
 fresh-more h e stays = rw (after_last_push_no is_take h e stays) (count_by-append is_push (after_last is_take h) (e ∷ []))
 
 accepted-cons : (e : Event) (es : List Event) → length (accepted (e ∷ es)) ≡ count_by is_push (e ∷ []) + count_by is_chain (e ∷ []) + length (accepted es)
-accepted-cons (Hold s k) es = omega arith
-accepted-cons (Busy s k) es = omega arith
-accepted-cons (Push s k) es = omega arith
-accepted-cons (Back s k w) es = omega arith
-accepted-cons Take es = omega arith
-accepted-cons Close es = omega arith
-accepted-cons (Begin k) es = omega arith
-accepted-cons (End k) es = omega arith
-accepted-cons (Chain k) es = omega arith
-accepted-cons (ChainBusy k) es = omega arith
 accepted-cons Rest es = omega arith
+accepted-cons _ es = omega arith
 
 -- as many are accepted as were pushed and chained
 pub accepted-count : (h : List Event) → length (accepted h) ≡ count_by is_push h + count_by is_chain h
@@ -53,16 +44,7 @@ last_take h n lt e = let same = get_or-reverse h n Take lt in not-false _ (ap (�
 
 no_push : (e : Event) → is_take e ≡ true → count_by is_push (e ∷ []) ≡ 0
 no_push (Push s k) e = cc
-no_push Take e = refl
-no_push (Hold s k) e = refl
-no_push (Busy s k) e = refl
-no_push (Back s k w) e = refl
-no_push Close e = refl
-no_push (Begin k) e = refl
-no_push (End k) e = refl
-no_push (Chain k) e = refl
-no_push (ChainBusy k) e = refl
-no_push Rest e = refl
+no_push _ e = refl
 
 cut_there : (h : List Event) (j : ℕ) → j < length h → is_take (get_or h j Take) ≡ true
     → count_by is_push (take j h) + count_by is_push (drop (suc j) h) ≡ count_by is_push h

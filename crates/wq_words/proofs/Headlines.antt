@@ -3,7 +3,7 @@ use Rattle.wq_words.proofs.Common.{◌≡◌, ◌≢◌, ℕ, zero, suc, ◌+◌
 use Rattle.wq_words.proofs.Common.{slice_get, refl, sym, ap, ◌∙◌, inl, inr, arith, take-append-drop, count_by, take-take, take_all, length-take, length_push}
 use Rattle.wq_words.proofs.Common.{take-append-le, sum_by-cons, cases_lt, eqb-true, eq-eqb, and_parts, nat_tests, slice_get_within, IsPrefix, Layout, Event}
 use Rattle.wq_words.proofs.Common.{Hold, Push, Close, Begin, End, accepted_by, begun_by, ended_by, accepted, begun, ended, starts_hold, stops_hold, is_close}
-use Rattle.wq_words.proofs.Common.{IsPending, Holds, IsAllowed, IsLegal, IsComplete, Keeper, Home, Sender, Listed, Owner, keeper}
+use Rattle.wq_words.proofs.Common.{IsPending, Holds, IsAllowed, IsLegal, IsComplete, Keeper, Sender, keeper}
 use Rattle.wq_words.specs.Headline.{NeverOverlaps, Executes, KeepsSenderOrder, NoPushFollowsClose, IsOwnHold, EachPushHasHold, HasOneHolder, KeepsHeadline}
 use Rattle.wq_words.proofs.Growing.{count_by_push, filter_map_push_some, take_more_some, slice_get_push, slice_get_append, slice_get_last, take_append}
 use Rattle.wq_words.proofs.Growing.{take_length}
@@ -93,10 +93,8 @@ has_hold_push layout s k h e legal allowed before holds = by (starts_hold s k e)
     one = bit (keeper h k)
       where
         bit : (x : Keeper) → held_bit s x ≤ 1
-        bit Home = omega arith
         bit (Sender t) = grind (arith, nat_tests)
-        bit Listed = omega arith
-        bit Owner = omega arith
+        bit _ = omega arith
 
     by : (b : Bool) → starts_hold s k e ≡ b → (hold : ℕ) × IsOwnHold (h ++ e ∷ []) s k hold (length (h ++ e ∷ []))
     by true is =

@@ -30,21 +30,16 @@ IsQueue _ = ⊥
 
 pub home_from_bit : (x : Keeper) → pending_bit x ≡ 0 → x ≡ Home
 home_from_bit Home e = refl
-home_from_bit (Sender t) e = absurd (omega arith)
-home_from_bit Listed e = absurd (omega arith)
-home_from_bit Owner e = absurd (omega arith)
+home_from_bit _ e = absurd (omega arith)
 
 pub sender_from_bit : (s : ℕ) (x : Keeper) → 0 < held_bit s x → x ≡ Sender s
-sender_from_bit s Home e = absurd (omega arith)
 sender_from_bit s (Sender t) e = ap Sender (grind (arith, nat_tests))
-sender_from_bit s Listed e = absurd (omega arith)
-sender_from_bit s Owner e = absurd (omega arith)
+sender_from_bit s _ e = absurd (omega arith)
 
 pub queue_from_bit : (x : Keeper) → 0 < queue_bit x → IsQueue x
-queue_from_bit Home e = absurd (omega arith)
-queue_from_bit (Sender t) e = absurd (omega arith)
 queue_from_bit Listed e = tt
 queue_from_bit Owner e = tt
+queue_from_bit _ e = absurd (omega arith)
 
 -- the counts of a number's events tell that x keeps it
 abbrev pub Tells : ℕ → Keeper → ℕ → ℕ → ℕ → ℕ → ℕ → ℕ → Type 0
@@ -61,52 +56,41 @@ module _ (s t : ℕ) where
       → Tells s (if q then Sender t else x) (a + cond (q && (t == s)) 1 0) (b + 0) (c + cond q 1 0) (d + 0) e f
   held false x a b c d e f fits o = (omega arith, omega arith, omega arith)
   held true Home a b c d e f fits o = (omega arith, omega arith, omega arith)
-  held true (Sender u) a b c d e f fits o = absurd (cc (fits refl))
-  held true Listed a b c d e f fits o = absurd (cc (fits refl))
-  held true Owner a b c d e f fits o = absurd (cc (fits refl))
+  held true _ a b c d e f fits o = absurd (cc (fits refl))
 
   pushed : (q : Bool) (x : Keeper) (a b c d e f : ℕ) → (q ≡ true → x ≡ Sender t) → Tells s x a b c d e f
       → Tells s (if q then Listed else x) (a + 0) (b + cond (q && (t == s)) 1 0) (c + 0) (d + 0) (e + cond q 1 0) f
   pushed false x a b c d e f fits o = (omega arith, omega arith, omega arith)
-  pushed true Home a b c d e f fits o = absurd (cc (fits refl))
   pushed true (Sender u) a b c d e f fits o =
       let u≡t : u ≡ t = cc (fits refl) in
       let o' = rw u≡t at o in (omega arith, omega arith, omega arith)
-  pushed true Listed a b c d e f fits o = absurd (cc (fits refl))
-  pushed true Owner a b c d e f fits o = absurd (cc (fits refl))
+  pushed true _ a b c d e f fits o = absurd (cc (fits refl))
 
   returned : (q : Bool) (x : Keeper) (a b c d e f : ℕ) → (q ≡ true → x ≡ Sender t) → Tells s x a b c d e f
       → Tells s (if q then Home else x) (a + 0) (b + cond (q && (t == s)) 1 0) (c + 0) (d + cond q 1 0) e f
   returned false x a b c d e f fits o = (omega arith, omega arith, omega arith)
-  returned true Home a b c d e f fits o = absurd (cc (fits refl))
   returned true (Sender u) a b c d e f fits o =
       let u≡t : u ≡ t = cc (fits refl) in
       let o' = rw u≡t at o in (omega arith, omega arith, omega arith)
-  returned true Listed a b c d e f fits o = absurd (cc (fits refl))
-  returned true Owner a b c d e f fits o = absurd (cc (fits refl))
+  returned true _ a b c d e f fits o = absurd (cc (fits refl))
 
 module _ (s : ℕ) where
   began : (q : Bool) (x : Keeper) (a b c d e f : ℕ) → (q ≡ true → IsQueue x) → Tells s x a b c d e f
       → Tells s (if q then Home else x) (a + 0) (b + 0) (c + 0) (d + cond q 1 0) e (f + cond q 1 0)
   began false x a b c d e f fits o = (omega arith, omega arith, omega arith)
-  began true Home a b c d e f fits o = absurd (fits refl)
-  began true (Sender u) a b c d e f fits o = absurd (fits refl)
   began true Listed a b c d e f fits o = (omega arith, omega arith, omega arith)
   began true Owner a b c d e f fits o = (omega arith, omega arith, omega arith)
+  began true _ a b c d e f fits o = absurd (fits refl)
 
   chained : (q : Bool) (x : Keeper) (a b c d e f : ℕ) → (q ≡ true → x ≡ Home) → Tells s x a b c d e f
       → Tells s (if q then Owner else x) (a + 0) (b + 0) (c + cond q 1 0) (d + 0) (e + cond q 1 0) f
   chained false x a b c d e f fits o = (omega arith, omega arith, omega arith)
   chained true Home a b c d e f fits o = (omega arith, omega arith, omega arith)
-  chained true (Sender u) a b c d e f fits o = absurd (cc (fits refl))
-  chained true Listed a b c d e f fits o = absurd (cc (fits refl))
-  chained true Owner a b c d e f fits o = absurd (cc (fits refl))
+  chained true _ a b c d e f fits o = absurd (cc (fits refl))
 
   took : (x : Keeper) (a b c d e f : ℕ) → Tells s x a b c d e f → Tells s (taken_over x) (a + 0) (b + 0) (c + 0) (d + 0) e f
-  took Home a b c d e f o = (omega arith, omega arith, omega arith)
-  took (Sender u) a b c d e f o = (omega arith, omega arith, omega arith)
   took Listed a b c d e f o = (omega arith, omega arith, omega arith)
-  took Owner a b c d e f o = (omega arith, omega arith, omega arith)
+  took _ a b c d e f o = (omega arith, omega arith, omega arith)
 
 -- x may keep k as the event comes
 abbrev pub FitsKeeper : ℕ → Keeper → Event → Type 0
