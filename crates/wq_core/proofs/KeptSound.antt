@@ -2,7 +2,7 @@
 use Rattle.wq_core.proofs.Common.{◌≡◌, ◌≢◌, ℕ, ◌+◌, ◌%◌, ◌^◌, ◌<◌, true, false, if◌then◌else◌, nat_lt, List, [], ◌∷◌, ◌++◌, length, None, Some, slice_get}
 use Rattle.wq_core.proofs.Common.{refl, sym, ap, ◌∙◌, arith, inl, inr, eq-eqb, lt-ltb, le-ltb, Layout, Event, Push, Chain, number_count, wakes, accepted}
 use Rattle.wq_core.proofs.Common.{begun, ended, accepted_by, begun_by, ended_by, pending, Holds, IsPending, IsClosed, listed_after, listed, IsAllowed}
-use Rattle.wq_core.proofs.Common.{IsLegal, Keeper, Home, Sender, Listed, Owner, keeper_after, keeper, growing, slice_get_push, legal_push, legal_induction}
+use Rattle.wq_core.proofs.Common.{IsLegal, Keeper, Home, Sender, keeper_after, keeper, growing, slice_get_push, legal_push, legal_induction}
 use Rattle.wq_core.proofs.Common.{pending_bit, kept, home_from_bit, sender_from_bit, item_place, word_count, closed_word, Machine, head, item_word, done_word}
 use Rattle.wq_core.proofs.Common.{private, happened, head_word_of, AreChained, IsSound, FollowKeepers}
 use Rattle.wq_core.proofs.Chains.{times}
@@ -28,9 +28,7 @@ accepted_number layout =
 -- the PENDING bit as a word, by the history and by the keeper
 bit_word : (sets clears : ℕ) (x : Keeper) → sets ≡ clears + pending_bit x → (if nat_lt clears sets then 1 else 0) ≡ pending_bit x
 bit_word sets clears Home e = (let is : nat_lt clears sets ≡ false = le-ltb clears sets (omega (arith, e)) in rw is refl)
-bit_word sets clears (Sender s) e = (let is : nat_lt clears sets ≡ true = lt-ltb clears sets (omega (arith, e)) in rw is refl)
-bit_word sets clears Listed e = (let is : nat_lt clears sets ≡ true = lt-ltb clears sets (omega (arith, e)) in rw is refl)
-bit_word sets clears Owner e = (let is : nat_lt clears sets ≡ true = lt-ltb clears sets (omega (arith, e)) in rw is refl)
+bit_word sets clears _ e = (let is : nat_lt clears sets ≡ true = lt-ltb clears sets (omega (arith, e)) in rw is refl)
 
 pub pending_word : (layout : Layout) (h : List Event) → IsLegal layout h → (k : ℕ) → (if pending h k then 1 else 0) ≡ pending_bit (keeper h k)
 pending_word layout h legal k = bit_word _ _ (keeper h k) (kept layout h legal 0 k).1

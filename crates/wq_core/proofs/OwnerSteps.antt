@@ -19,10 +19,8 @@ use Rattle.wq_core.proofs.KeptSound.{sound_quiet}
 module _ (m : Machine) (o : IsSound m) where
   -- no sender's number changes its keeper where the list goes to the owner
   taken_bit : (x : Keeper) → pending_bit (taken_over x) ≡ pending_bit x
-  taken_bit Home = refl
-  taken_bit (Sender s) = refl
   taken_bit Listed = refl
-  taken_bit Owner = refl
+  taken_bit _ = refl
 
   -- the owner takes what stands on the list and leaves this word
   sound_cut : (word : ℕ) (e : Event) → IsAllowed m.layout m.history e → ¬ IsClosed m.history → m.cursor ≡ None

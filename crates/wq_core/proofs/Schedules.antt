@@ -46,14 +46,7 @@ sound_after m (Sender s) (Push k) o made =
     (λ e. sound_lost m o s made.0.0.0)
 sound_after m (Sender s) (Back k why) o made = sound_back m o s k why made.0.0.0 made.0.1 made.1.0 made.1.1
 sound_after m (Sender s) (Check k) o made = o
-sound_after m (Sender s) Take o made = absurd made.1
-sound_after m (Sender s) Close o made = absurd made.1
-sound_after m (Sender s) Walk o made = absurd made.1
-sound_after m (Sender s) Begin o made = absurd made.1
-sound_after m (Sender s) End o made = absurd made.1
-sound_after m (Sender s) (Chain k) o made = absurd made.1
-sound_after m (Sender s) (Turn k next) o made = absurd made.1
-sound_after m (Sender s) Rest o made = absurd made.1
+sound_after m (Sender s) _ o made = absurd made.1
 sound_after m Owner Take o made = sound_take m o made.1.0 made.1.1 made.1.2
 sound_after m Owner Close o made = sound_close m o made.1.0 made.1.1
 sound_after m Owner Walk o made = walk_sound m o m.cursor refl
@@ -67,12 +60,7 @@ sound_after m Owner (Chain k) o made =
 sound_after m Owner (Turn k next) o made = sound_turn m o k made.1 (word_at next) made.0.1.0
 sound_after m Owner Rest o made =
     either (head m == busy_word) IsSound _ _ (λ e. sound_rest m o made.1.0 made.1.1 made.1.2 made.1.3 (eqb-true (head m) busy_word e)) (λ e. o)
-sound_after m Owner (Hold k) o made = absurd made.1
-sound_after m Owner Look o made = absurd made.1
-sound_after m Owner (Link k) o made = absurd made.1
-sound_after m Owner (Push k) o made = absurd made.1
-sound_after m Owner (Back k why) o made = absurd made.1
-sound_after m Owner (Check k) o made = absurd made.1
+sound_after m Owner _ o made = absurd made.1
 
 pub all_alike : {A : Type 0} (n k : ℕ) (x : A) → get_or (replicate n x) k x ≡ x
 all_alike zero k x = refl

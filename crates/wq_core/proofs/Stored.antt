@@ -30,10 +30,8 @@ head_seen : (m : Machine) → IsSound m → (w : ℕ) → head m ≡ w → w ≢
 head_seen m o w is unclosed = omega (arith, ap link_word is, head_fits m o (λ closed. unclosed (sym is ∙ o.head_is ∙ head_of_closed m.history closed)))
 
 held_over : (x : Keeper) → holder (taken_over x) ≡ holder x
-held_over Home = refl
-held_over (Sender s) = refl
 held_over Listed = refl
-held_over Owner = refl
+held_over _ = refl
 
 module _ (m : Machine) (holders : List (Option ℕ)) (runs : Option ℕ) (o : IsStored m holders runs) where
   -- a change that is no event
@@ -211,10 +209,8 @@ module _ (m : Machine) (holders : List (Option ℕ)) (runs : Option ℕ) (o : Is
   )
     where
       sender : (x : Keeper) → holder x ≡ Some s → x ≡ Sender s
-      sender Home e = absurd cc
       sender (Sender t) e = cc
-      sender Listed e = absurd cc
-      sender Owner e = absurd cc
+      sender _ e = absurd cc
 
 -- a list whose reverse is not empty, by its last element
 pub by_last : (xs ys : List ℕ) (k : ℕ) → xs ≡ ys ++ k ∷ [] → reverse xs ≡ k ∷ reverse ys

@@ -131,9 +131,4 @@ module _ (m : Machine) (o : IsSound m) (k : ℕ) (stands : StandsIn m.walked m.b
   owner_links (Chain j) = either (item_word m j == 0) (λ x. link x k ≡ link m k) _ _ (λ e. item_written j 1) (λ e. refl)
   owner_links (Turn j next) = turn_links j (word_at next) (j == k) refl
   owner_links Rest = either (head m == busy_word) (λ x. link x k ≡ link m k) _ _ (λ e. head_written idle_word) (λ e. refl)
-  owner_links (Hold j) = refl
-  owner_links Look = refl
-  owner_links (Link j) = refl
-  owner_links (Push j) = refl
-  owner_links (Back j why) = refl
-  owner_links (Check j) = refl
+  owner_links _ = refl

@@ -1,7 +1,7 @@
 -- A number that the owner walked or that waits in its batch: nobody else follows or writes its link.
 use Rattle.wq_core.proofs.Common.{◌≡◌, ◌≢◌, ℕ, zero, suc, ◌+◌, ◌<◌, ◌≤◌, ◌==◌, Bool, true, false, cond, IsTrue, List, [], ◌∷◌, ◌++◌, get_or, set, Option}
 use Rattle.wq_core.proofs.Common.{Some, refl, sym, ap, ◌∙◌, arith, inl, inr, ⊎_elim, ◌↔◌, length-set, reverse, Contains, list_any, get_or-set_other}
-use Rattle.wq_core.proofs.Common.{slice_get-get_or, cases_eq, eq-eqb, ne_eqb, number_count, accepted, begun, listed, Keeper, Home, Sender, Listed, Owner}
+use Rattle.wq_core.proofs.Common.{slice_get-get_or, cases_eq, eq-eqb, ne_eqb, number_count, accepted, begun, listed, Keeper, Sender, Listed}
 use Rattle.wq_core.proofs.Common.{keeper, Event, queue_bit, kept, Private, link_place, Machine, with_link, StandsIn, AreChained, IsSound, reverse_aux}
 use Rattle.wq_core.proofs.Chains.{times, times-cons, times-append, times-reverse_aux, chain_set}
 use Rattle.wq_core.proofs.Privates.{AreLinked}
@@ -38,10 +38,8 @@ any_stored k xs = let any = any_times k xs in let same : times k (reverse xs) �
 
 -- in the queue a number stands at most once
 pub queue_once : (x : Keeper) → queue_bit x ≤ 1
-queue_once Home = omega arith
-queue_once (Sender s) = omega arith
 queue_once Listed = omega arith
-queue_once Owner = omega arith
+queue_once _ = omega arith
 
 pub times_stands : (walked batch : List ℕ) (k : ℕ) → StandsIn walked batch k → 0 < times k walked + times k batch
 times_stands walked batch k = ⊎_elim (λ there. omega (arith, times_contains k walked there)) (λ there. omega (arith, times_contains k batch there))
