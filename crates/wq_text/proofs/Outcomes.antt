@@ -7,10 +7,7 @@ use Rattle.wq_text.specs.declared.header.Stage.TheVariants as stage
 -- a header that is whole has no fault
 whole_or_not : (s : Stage) (layout : Layout) (k : Kind) → layout_at s ≡ Some layout → end_fault s ≡ Some k → ⊥
 whole_or_not stage.Version layout k whole fault = cc
-whole_or_not stage.Items layout k whole fault = cc
-whole_or_not (stage.Senders l) layout k whole fault = cc
-whole_or_not (stage.Barriers l) layout k whole fault = cc
-whole_or_not (stage.Commands l) layout k whole fault = cc
+whole_or_not _ layout k whole fault = cc
 
 some_left : (lines : List (List ℕ)) (line : List ℕ) (behind : List (List ℕ)) → lines ++ line ∷ behind ≡ [] → ⊥
 some_left [] line behind e = cc

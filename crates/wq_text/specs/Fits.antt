@@ -30,19 +30,15 @@ Fits layout (command.Advance tick) = Unit {0}
 -- a command fits in one way at most, and so do all of a list
 Fits-prop : (layout : Layout) (c : Command) → IsProp (Fits layout c)
 Fits-prop layout (command.Queue sender item) = ×_prop le_prop le_prop
-Fits-prop layout (command.Run limit) = Unit-prop
-Fits-prop layout command.Close = Unit-prop
-Fits-prop layout command.Report = Unit-prop
 Fits-prop layout (command.Follow item follow) = ×_prop le_prop (Π_prop (λ k. Π_prop (λ d. →_prop le_prop)))
 Fits-prop layout (command.Flush sender barrier) = ×_prop le_prop le_prop
 Fits-prop layout (command.Done sender barrier) = ×_prop le_prop le_prop
 Fits-prop layout (command.Stop sender) = le_prop
-Fits-prop layout (command.Drain limit) = Unit-prop
 Fits-prop layout (command.Check item) = le_prop
 Fits-prop layout (command.Arm item delay) = le_prop
 Fits-prop layout (command.Cancel item) = le_prop
 Fits-prop layout (command.Modify item delay) = le_prop
-Fits-prop layout (command.Advance tick) = Unit-prop
+Fits-prop layout _ = Unit-prop
 
 pub All_Fits-prop : (layout : Layout) (commands : List Command) → IsProp (All (Fits layout) commands)
 All_Fits-prop layout commands = Π_prop (λ k. Π_prop (λ d. →_prop (Fits-prop layout _)))

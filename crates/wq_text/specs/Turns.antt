@@ -25,19 +25,13 @@ IfBelow-prop n (Some k) = le_prop
 
 IsNumbered-prop : (layout : Layout) (st : Step) → IsProp (IsNumbered layout st)
 IsNumbered-prop layout (step.Hold k) = le_prop
-IsNumbered-prop layout step.Look = Unit-prop
 IsNumbered-prop layout (step.Link k) = le_prop
 IsNumbered-prop layout (step.Push k) = le_prop
 IsNumbered-prop layout (step.Back k why) = le_prop
 IsNumbered-prop layout (step.Check k) = le_prop
-IsNumbered-prop layout step.Take = Unit-prop
-IsNumbered-prop layout step.Close = Unit-prop
-IsNumbered-prop layout step.Walk = Unit-prop
-IsNumbered-prop layout step.Begin = Unit-prop
-IsNumbered-prop layout step.End = Unit-prop
-IsNumbered-prop layout step.Rest = Unit-prop
 IsNumbered-prop layout (step.Chain k) = le_prop
 IsNumbered-prop layout (step.Turn k next) = ×_prop le_prop (IfBelow-prop (number_count layout) next)
+IsNumbered-prop layout _ = Unit-prop
 
 pub All_PlacedIn-prop : (layout : Layout) (turns : List Turn) → IsProp (All (PlacedIn layout) turns)
 All_PlacedIn-prop layout turns = Π_prop (λ k. Π_prop (λ d. →_prop (×_prop (IsSeated-prop layout _ _) (IsNumbered-prop layout _))))
