@@ -36,13 +36,9 @@ arm_given k delay h t = each (is_too_far delay t) (queues_now k delay h) (each_n
     each false false given = (λ e. cc, λ e. cc)
 
 modified_given : (a : Armed) → a ≢ armed.Contended → a ≢ armed.Memory → (modified_of a ≢ modified.Contended) × (modified_of a ≢ modified.Memory)
-modified_given (armed.Queued is_first wakes_it) alone room = (λ e. cc, λ e. cc)
-modified_given armed.OnTable alone room = (λ e. cc, λ e. cc)
-modified_given armed.Pending alone room = (λ e. cc, λ e. cc)
-modified_given armed.Closed alone room = (λ e. cc, λ e. cc)
 modified_given armed.Contended alone room = absurd (alone refl)
-modified_given armed.TooFar alone room = (λ e. cc, λ e. cc)
 modified_given armed.Memory alone room = absurd (room refl)
+modified_given _ alone room = (λ e. cc, λ e. cc)
 
 pub modify_given : (k delay : ℕ) (h : List Event) (t : DelayTable) → (modify_answer k delay h t ≢ modified.Contended)
     × (modify_answer k delay h t ≢ modified.Memory)

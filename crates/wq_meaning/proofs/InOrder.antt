@@ -105,20 +105,12 @@ kept_either true s u k l = k
 kept_either false s u k l = l
 
 kept_after : (layout : Layout) (s : ScriptState) (c : Command) → Kept s.table → Kept (state_after layout s c).table
-kept_after layout s (command.Queue sender item) k = k
-kept_after layout s (command.Run limit) k = k
-kept_after layout s command.Close k = k
-kept_after layout s command.Report k = k
-kept_after layout s (command.Follow item follow) k = k
-kept_after layout s (command.Flush sender barrier) k = k
-kept_after layout s (command.Done sender barrier) k = k
-kept_after layout s (command.Stop sender) k = k
 kept_after layout s (command.Drain limit) k = kept_either (closed s.history) (record s { history = after_row layout s limit None }) s k k
-kept_after layout s (command.Check item) k = k
 kept_after layout s (command.Arm item delay) k = kept_arm item delay s.history s.table k
 kept_after layout s (command.Cancel item) k = kept_without item s.table k
 kept_after layout s (command.Modify item delay) k = kept_modify item delay s.history s.table k
 kept_after layout s (command.Advance tick) k = kept_either (nat_lt tick s.table.tick) s _ k (kept_at tick s.table k)
+kept_after layout s _ k = k
 
 kept_all : (layout : Layout) (s : ScriptState) (cs : List Command) → Kept s.table → Kept (fold (state_after layout) s cs).table
 kept_all layout s [] k = k
