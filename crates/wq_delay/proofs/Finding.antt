@@ -117,7 +117,8 @@ module _ (places : List (Option Place)) (next previous : List ℕ) (t now n head
   finding_end x es l is = record {
     on = l.on;
     which = λ k p at. l.which k p at ∙ (let e : (x == head) ≡ true = grind (arith, nat_tests) in
-        ap (λ (z : Bool). nat_le p.due now && is_passed t n (z || nat_lt (p.arming + 1) (number x)) p) e ∙ one (nat_le p.due now) (nat_le p.due t) (turn_of t p.due));
+        ap (λ (z : Bool). nat_le p.due now && is_passed t n (z || nat_lt (p.arming + 1) (number x)) p) e
+        ∙ one (nat_le p.due now) (nat_le p.due t) (turn_of t p.due));
   }
     where
       one : (a b : Bool) (m : ℕ) → (a && (b || (nat_lt m n || ((m == n) && true)))) ≡ (a && (b || nat_lt m (n + 1)))

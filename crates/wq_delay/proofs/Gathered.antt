@@ -59,7 +59,8 @@ by_tests false false r s u v is = (refl, λ e. absurd (cc))
 
 not_after : (x y : DueItem) → is_lt (row_cmp y x) ≡ false → (x.place.due ≤ y.place.due) × (x.place.due ≡ y.place.due → x.place.arming ≤ y.place.arming)
 not_after x y is =
-    let t = by_tests (nat_lt y.place.due x.place.due) (y.place.due == x.place.due) (nat_lt y.place.arming x.place.arming) (y.place.arming == x.place.arming) (nat_lt y.item x.item) (y.item == x.item) is in
+    let p = x.place in let q = y.place in
+    let t = by_tests (nat_lt q.due p.due) (q.due == p.due) (nat_lt q.arming p.arming) (q.arming == p.arming) (nat_lt y.item x.item) (y.item == x.item) is in
     let a : nat_lt y.place.due x.place.due ≡ false = t.0 in (
       grind (arith, nat_tests),
       λ same. let e : (y.place.due == x.place.due) ≡ true = grind (arith, nat_tests) in

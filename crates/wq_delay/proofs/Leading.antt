@@ -21,7 +21,8 @@ stands_place p (Some q) is = by (q.due == p.due) (q.arming == p.arming) refl ref
 
 place_stands : (p : Place) (o : Option Place) → o ≡ Some p → is_place p o ≡ true
 place_stands p o is =
-    ap (is_place p) is ∙ (let a : (p.due == p.due) ≡ true = grind (arith, nat_tests) in let b : (p.arming == p.arming) ≡ true = grind (arith, nat_tests) in rw (a, b) refl)
+    let a : (p.due == p.due) ≡ true = grind (arith, nat_tests) in let b : (p.arming == p.arming) ≡ true = grind (arith, nat_tests) in
+    ap (is_place p) is ∙ rw (a, b) refl
 
 pub kept_valid : (places : List (Option Place)) (xs : List DueItem)
     → All (SaysPlace places) (map entry_of (filter (stands places) xs))

@@ -24,7 +24,8 @@ pub put_by : (b : Bool) (j : ℕ) (e f : Entry) (fs gs : List Entry) → (e.item
 put_by true j e f fs gs apart is = refl
 put_by false j e f fs gs apart is =
     ap (λ (z : Option Place). cond (j == f.item) (Some (place_at f.due f.arming)) z) is
-    ∙ placed_at j e.item f.item true (j == e.item) (j == f.item) (Some (place_at e.due e.arming)) (Some (place_at f.due f.arming)) (place_of j fs) refl refl apart
+    ∙ placed_at j e.item f.item true (j == e.item) (j == f.item) (Some (place_at e.due e.arming)) (Some (place_at f.due f.arming))
+    (place_of j fs) refl refl apart
 
 pub place_of-placed : (j : ℕ) (e : Entry) (es : List Entry) → on_table e.item es ≡ false
     → place_of j (placed e es) ≡ cond (j == e.item) (Some (place_at e.due e.arming)) (place_of j es)

@@ -1,5 +1,6 @@
 -- What a clause sees of a delay table, and what its calls do to it.
-use Rattle.std.specs.Prelude.{◌≡◌, ℕ, ◌-◌, ◌<◌, ◌≤◌, min, ◌↔◌, ◌⊎◌, Bool, true, false, MatchBool, IsTrue, Result, Ok, Err, List, [], ◌∷◌, ◌++◌, map, length, count_by}
+use Rattle.std.specs.Prelude.{◌≡◌, ℕ, ◌-◌, ◌<◌, ◌≤◌, min, ◌↔◌, ◌⊎◌, Bool, true, false, MatchBool, IsTrue, Result, Ok, Err, List, [], ◌∷◌, ◌++◌, map, length}
+use Rattle.std.specs.Prelude.{count_by}
 use Rattle.std.specs.List.{AllZip}
 use Rattle.std.specs.List.Sorted.{IsPermutation}
 use Rattle.wq_words.specs.declared.event.Event.{Event}

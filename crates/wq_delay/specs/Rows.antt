@@ -1,5 +1,6 @@
 -- Where items stand, and the table that this spells.
-use Rattle.std.specs.Prelude.{◌≡◌, ℕ, ◌+◌, ◌-◌, ◌≤◌, ◌<◌, ◌%◌, ◌==◌, Bool, false, ◌||◌, ◌&&◌, nat_lt, nat_le, Option, Some, None, if◌then◌else◌, List, [], ◌∷◌, map, filter, length, take, slice_index, slice_index_or}
+use Rattle.std.specs.Prelude.{◌≡◌, ℕ, ◌+◌, ◌-◌, ◌≤◌, ◌<◌, ◌%◌, ◌==◌, Bool, false, ◌||◌, ◌&&◌, nat_lt, nat_le, Option, Some, None, if◌then◌else◌, List, [], ◌∷◌}
+use Rattle.std.specs.Prelude.{map, filter, length, take, slice_index, slice_index_or}
 use Rattle.std.specs.List.{All}
 use Rattle.wq_words.specs.DelayTable.{Entry, on_table, due_part, IsOrdered}
 use Rattle.wq_delay.specs.declared.timetable.Place.{Place}

@@ -8,7 +8,7 @@ index-item-requires c = omega (arith, c.requires.gathering.wheel.next_length, c.
 
 pub loop-item-init : goal.loop-item-init
 loop-item-init c =
-    let h = c.requires.head in (looking_init _ _ _ [] _ c.args.head _ h.0 h.1 c.requires.gathering c.index-item.result.now c.index-item.ensures, c.requires.room)
+    let r = c.requires in (looking_init _ _ _ [] _ c.args.head _ r.head.0 r.head.1 r.gathering c.index-item.result.now c.index-item.ensures, r.room)
 
 pub index-after-requires : goal.index-after-requires
 index-after-requires c =
