@@ -1,26 +1,69 @@
 //! `wqrun` turns a script of workqueue commands, or a schedule of steps, into a report, and runs a queue by live threads.
 #![tactic(auto)]
 
-mod arguments;
-mod run;
-
-use run::{Streams, command_words, run};
+use std::alloc::{Alloc, Global};
+use std::env::Env;
 use std::fs::File;
+use std::io;
+use std::io::{Read, Write};
 use std::process::ExitCode;
+use std::sync::Wait;
+use std::thread::Threads;
+use wq_command_line::{Answer, Kind, Source, task_of};
+use wq_mains::{Failure, end, live_main, script_main, steps_main};
 
+// The words of the command line, the program's own name first.
+fn command_words<R: Env + Alloc<A = Global>>(rt: &R) -> io::Result<Vec<String>> {
+    let words = std::env::args(rt)?.collect(rt.alloc())?;
+    Ok(words)
+}
+
+// Runs the text of a reader as what it is.
+fn run_text<T: Threads + Wait + Sync, R: Read + Drop, O: Write, E: Write>(
+    threads: &T,
+    alloc: Global,
+    kind: Kind,
+    reader: R,
+    output: &mut O,
+    faults: &mut E,
+) -> u8 {
+    match kind {
+        Kind::Script => script_main(alloc, reader, output, faults),
+        Kind::Steps => steps_main(alloc, reader, output, faults),
+        Kind::Live => live_main(threads, alloc, reader, output, faults),
+    }
+}
+
+// Writes help and the version to the output, and says what is wrong with the words on `faults`, with status 2.
+fn say<O: Write, E: Write>(answer: Answer, output: &mut O, faults: &mut E) -> u8 {
+    match answer {
+        Answer::Help(text) => end(Ok(text), output, faults),
+        Answer::Wrong(text) => {
+            let _ = faults.write_all(&text);
+            2
+        }
+        Answer::Memory => end(Err(Failure::Memory), output, faults),
+    }
+}
+
+// Runs what the words ask for. The exit status is 0 where the result, help or the version was written; 1 where the text was
+// refused, the words or the file could not be read, or the output not be written; 2 where the words were refused; 3 for want
+// of memory or of a thread.
 fn main(rt: HostRuntime) -> ExitCode {
-    let streams = Streams {
-        input: rt.stdin(),
-        output: rt.stdout(),
-        faults: rt.stderr(),
+    let alloc = rt.alloc();
+    let (output, faults) = (&mut rt.stdout(), &mut rt.stderr());
+    let status = match command_words(&rt) {
+        Err(error) => end(Err(Failure::from(error)), output, faults),
+        Ok(words) => match task_of(alloc, &words) {
+            Err(answer) => say(answer, output, faults),
+            Ok(task) => match task.source {
+                Source::Input => run_text(&rt, alloc, task.kind, rt.stdin(), output, faults),
+                Source::File(path) => match File::open(&rt, path) {
+                    Ok(file) => run_text(&rt, alloc, task.kind, file, output, faults),
+                    Err(error) => end(Err(Failure::from(error)), output, faults),
+                },
+            },
+        },
     };
-    let words = command_words(&rt);
-    let status = run(
-        &rt,
-        rt.alloc(),
-        words,
-        |path| File::open(&rt, path),
-        streams,
-    );
     ExitCode::from(status)
 }

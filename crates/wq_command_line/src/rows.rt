@@ -1,28 +1,7 @@
-//! The words of the command line.
-use clap::{Arg, Command, Error};
+//! The subcommands, and what help says of them.
+use crate::task::Kind;
+use clap::{Arg, Command};
 use std::alloc::{AllocError, Global};
-
-/// What a text is.
-#[derive(Clone, Copy)]
-pub enum Kind {
-    Script,
-    Steps,
-    Live,
-}
-
-/// Where a text stands: on standard input, or in the file of this path.
-#[derive(Clone, Copy)]
-pub enum Source<'a> {
-    Input,
-    File(&'a str),
-}
-
-/// What the words ask for.
-#[derive(Clone, Copy)]
-pub struct Task<'a> {
-    pub kind: Kind,
-    pub source: Source<'a>,
-}
 
 /// A subcommand: its name, what it runs, what it does, what its file is, and what a text of it may hold.
 struct Row {
@@ -101,16 +80,21 @@ fn command_of<'a>(alloc: Global, row: &Row) -> Result<Command<'a>, AllocError> {
         .arg(file)
 }
 
-// The command line that the program takes.
-fn command_line<'a>(alloc: Global) -> Result<Command<'a>, Error> {
-    let mut command = Command::new(alloc, "wqrun")
+// The command line without its subcommands.
+fn bare_command<'a>(alloc: Global) -> Command<'a> {
+    Command::new(alloc, "wqrun")
         .about(
             "An ordered workqueue: items run one at a time, in the order in which they were queued",
         )
         .version("0.1.0")
         .override_usage("wqrun [COMMAND]")
         .after_help(MORE)
-        .subcommand_required(true);
+        .subcommand_required(true)
+}
+
+// The command line that the program takes.
+pub(crate) fn command_line<'a>(alloc: Global) -> Result<Command<'a>, AllocError> {
+    let mut command = bare_command(alloc);
     for row in &ROWS {
         command = command.subcommand(command_of(alloc, row)?)?;
     }
@@ -118,30 +102,11 @@ fn command_line<'a>(alloc: Global) -> Result<Command<'a>, Error> {
 }
 
 // What the subcommand of this name runs.
-fn kind_of(name: &str) -> Kind {
+pub(crate) fn kind_of(name: &str) -> Kind {
     for row in &ROWS {
         if row.name == name {
             return row.kind;
         }
     }
     Kind::Script
-}
-
-/// What the words ask for, the program's own name first: a script from standard input where they name no text.
-pub fn task_of<'a>(alloc: Global, words: &'a [String]) -> Result<Task<'a>, Error> {
-    let mut task = Task {
-        kind: Kind::Script,
-        source: Source::Input,
-    };
-    if words.len() <= 1 {
-        return Ok(task);
-    }
-    let matches = command_line(alloc)?.try_get_matches_from(words)?;
-    if let Some((name, matches)) = matches.subcommand() {
-        task.kind = kind_of(name);
-        if let Some(path) = matches.get_str("FILE") {
-            task.source = Source::File(path);
-        }
-    }
-    Ok(task)
 }

@@ -1,0 +1,32 @@
+//! What the command line itself answers.
+use clap::Error;
+use clap::error::ErrorKind;
+use std::alloc::Global;
+
+/// What is said in place of running a text.
+#[derive(Drop)]
+pub enum Answer {
+    /// Help, or the version.
+    Help(Vec<u8>),
+    /// What is wrong with the words.
+    Wrong(Vec<u8>),
+    /// Want of memory.
+    Memory,
+}
+
+impl Answer {
+    // What an error of the command line says.
+    pub(crate) fn of(alloc: Global, error: &Error) -> Answer {
+        if error.kind() == ErrorKind::OutOfMemory {
+            return Answer::Memory;
+        }
+        let mut text = String::new(alloc);
+        if write!(text, "{error}").is_err() {
+            return Answer::Memory;
+        }
+        if error.use_stderr() {
+            return Answer::Wrong(text.into_bytes());
+        }
+        Answer::Help(text.into_bytes())
+    }
+}

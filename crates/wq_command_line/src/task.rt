@@ -1,0 +1,64 @@
+//! What the words of the command line ask for.
+ghost use Rattle.std.specs.Prelude.{◌≡◌, ◌≤◌, Ok, length};
+ghost use Rattle.wq_command_line.specs.declared.task.Kind.TheVariants.{Script};
+ghost use Rattle.wq_command_line.specs.declared.task.Source.TheVariants.{Input};
+
+use crate::answer::Answer;
+use crate::rows::{command_line, kind_of};
+use clap::Error;
+use std::alloc::Global;
+
+/// What a text is.
+#[derive(Clone, Copy)]
+pub enum Kind {
+    Script,
+    Steps,
+    Live,
+}
+
+/// Where a text stands: on standard input, or in the file of this path.
+#[derive(Clone, Copy)]
+pub enum Source<'a> {
+    Input,
+    File(&'a str),
+}
+
+/// What the words ask for.
+#[derive(Clone, Copy)]
+pub struct Task<'a> {
+    pub kind: Kind,
+    pub source: Source<'a>,
+}
+
+// What these words ask for.
+fn parse<'a>(alloc: Global, words: &'a [String]) -> Result<Task<'a>, Error> {
+    let mut task = Task {
+        kind: Kind::Script,
+        source: Source::Input,
+    };
+    let matches = command_line(alloc)?.try_get_matches_from(words)?;
+    if let Some((name, matches)) = matches.subcommand() {
+        task.kind = kind_of(name);
+        if let Some(path) = matches.get_str("FILE") {
+            task.source = Source::File(path);
+        }
+    }
+    Ok(task)
+}
+
+/// What the words ask for, the program's own name first: a script from standard input where they name no text. Else what is
+/// said in place of running one.
+pub fn task_of<'a>(alloc: Global, words: &'a [String]) -> Result<Task<'a>, Answer>
+    ensures bare { length words.now ≤ 1 → result ≡ Ok (record { kind = Script; source = Input }) }
+{
+    if words.len() <= 1 {
+        return Ok(Task {
+            kind: Kind::Script,
+            source: Source::Input,
+        });
+    }
+    match parse(alloc, words) {
+        Ok(task) => Ok(task),
+        Err(error) => Err(Answer::of(alloc, &error)),
+    }
+}
