@@ -1,4 +1,4 @@
--- What is left of a list behind some of its elements, and the largest_up_to of some numbers.
+-- What is left of a list behind some of its elements, and the largest of some numbers.
 use Rattle.std.proofs.Common.{◌≡◌, ℕ, zero, suc, ◌-◌, ◌≤◌, max, List, [], ◌∷◌, ◌++◌, length, take, drop, Some, slice_get, refl, ap, ◌∙◌, arith, length-append}
 use Rattle.std.proofs.lemmas.List.{take_all, take-append-le}
 use Rattle.wq_check.specs.Left.{largest_up_to}

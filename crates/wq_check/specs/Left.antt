@@ -11,7 +11,7 @@ left h = drop (length (ended h)) (accepted h)
 abbrev pub unbegun : List Event → List ℕ
 unbegun h = drop (length (begun h)) (accepted h)
 
--- the largest_up_to of the f n over all n from 0 to here
+-- the largest of the f n over all n from 0 to here
 abbrev pub largest_up_to : (ℕ → ℕ) → ℕ → ℕ
 largest_up_to f zero = f zero
 largest_up_to f (suc n) = max (largest_up_to f n) (f (suc n))

@@ -7,7 +7,7 @@ use Rattle.wq_check.specs.declared.counts.Counts.{Counts}
 use Rattle.wq_check.specs.declared.counts.Report.{Report}
 use Rattle.wq_check.specs.Left.{left, most_waiting}
 
--- a count stops at the largest_up_to number of 64 bits
+-- a count stops at the largest number of 64 bits
 abbrev pub stopped : ℕ → ℕ
 stopped n = min n (2 ^ 64 - 1)
 
