@@ -10,8 +10,7 @@ use Rattle.wq_core.specs.declared.step.Step.TheVariants.{Hold, Push, Back, Take,
 use Rattle.wq_core.specs.declared.step.StepError.{StepError}
 use Rattle.wq_words.proofs.Running.{runs_some}
 use Rattle.wq_core.proofs.SenderSteps.{sound_hold, sound_busy, sound_look, sound_lost, sound_link, sound_push, sound_back}
-use Rattle.wq_core.proofs.OwnerSteps.{sound_take, sound_close, sound_walk_end, sound_walk_on, sound_begin, sound_end, sound_chain, sound_chain_busy}
-use Rattle.wq_core.proofs.OwnerSteps.{sound_rest}
+use Rattle.wq_core.proofs.OwnerSteps.{sound_take, sound_close, sound_walk_end, sound_walk_on, sound_begin, sound_end, sound_chain, sound_chain_busy, sound_rest}
 use Rattle.wq_core.proofs.Heads.{link_open}
 use Rattle.wq_core.proofs.Turning.{sound_turn}
 

@@ -1,11 +1,10 @@
 -- What the head's chain spells, what a push finds there, what the owner's batch is, and that no sender touches its links.
 use Rattle.wq_core.proofs.Common.{◌≡◌, ℕ, ◌+◌, ◌==◌, Bool, true, false, if◌then◌else◌, List, [], ◌∷◌, ◌++◌, length, take, drop, reverse, get_or, set, Option}
 use Rattle.wq_core.proofs.Common.{None, Some, ◌%◌, ◌^◌, refl, sym, ap, ◌∙◌, arith, length-append, ne_eqb, eqb-true, eqb-false, append-nil, length-reverse}
-use Rattle.wq_core.proofs.Common.{take_at, drop_at, get_or-set_other, get_or-set_same, number_count, head_word, busy_word, wakes, accepted, begun, taken}
-use Rattle.wq_core.proofs.Common.{first, IsClosed, running, listed, length-accepted, fresh-open, keeper, Step, Look, Link, Check, Walk, Turn, head_place}
-use Rattle.wq_core.proofs.Common.{link_place, item_place, done_place, closed_word, idle_word, link_word, word_at, Machine, head, link, item_word, done_word}
-use Rattle.wq_core.proofs.Common.{private, seen_word, after_walk, after_begin, after_end, after, reply_to, StandsIn, IsMade, head_of_list, marked, IsChain}
-use Rattle.wq_core.proofs.Common.{IsSound}
+use Rattle.wq_core.proofs.Common.{take_at, drop_at, get_or-set_other, get_or-set_same, number_count, head_word, busy_word, wakes, accepted, begun, taken, first}
+use Rattle.wq_core.proofs.Common.{IsClosed, running, listed, length-accepted, fresh-open, keeper, Step, Look, Link, Check, Walk, Turn, head_place, link_place}
+use Rattle.wq_core.proofs.Common.{item_place, done_place, closed_word, idle_word, link_word, word_at, Machine, head, link, item_word, done_word, private}
+use Rattle.wq_core.proofs.Common.{seen_word, after_walk, after_begin, after_end, after, reply_to, StandsIn, IsMade, head_of_list, marked, IsChain, IsSound}
 use Rattle.wq_core.specs.declared.step.Seat.TheVariants.{Sender, Owner}
 use Rattle.wq_core.specs.declared.step.Step.TheVariants.{Hold, Push, Back, Take, Close, Begin, End, Chain, Rest}
 use Rattle.wq_core.specs.declared.step.Reply.TheVariants.{Pushed, Lost}

@@ -1,8 +1,7 @@
 -- What several proofs of this crate cite of std, of specs and of the crates below, passed on from one place.
 pub use Rattle.std.proofs.Common.{◌≡◌, ℕ, suc, ◌+◌, ◌-◌, ◌≤◌, Bool, true, false, cond, not, List, [], ◌∷◌, ◌++◌, length, drop, refl, sym, ap, ◌∙◌, arith}
-pub use Rattle.std.proofs.Common.{count_by, reverse, take, get_or, ◌<◌, inl, inr, take-append-drop, drop-cons, nat_lt, eqb, ◌==◌, ◌||◌, ◌&&◌, zero, None}
-pub use Rattle.std.proofs.Common.{Some, Option, slice_get, ◌⊎◌, ◌≢◌, eq-eqb, if◌then◌else◌, add-zero, subst, append_assoc, length-append, ◌↔◌, ne_eqb, set}
-pub use Rattle.std.proofs.Common.{rules}
+pub use Rattle.std.proofs.Common.{count_by, reverse, take, get_or, ◌<◌, inl, inr, take-append-drop, drop-cons, nat_lt, eqb, ◌==◌, ◌||◌, ◌&&◌, zero, None, Some}
+pub use Rattle.std.proofs.Common.{Option, slice_get, ◌⊎◌, ◌≢◌, eq-eqb, if◌then◌else◌, add-zero, subst, append_assoc, length-append, ◌↔◌, ne_eqb, set, rules}
 pub use Rattle.std.proofs.lemmas.Bool.{cases_lt, eqb-true, and_parts}
 pub use Rattle.std.proofs.lemmas.Bool.Decides.{nat_tests}
 pub use Rattle.std.proofs.lemmas.Iterator.{YieldsList-from_slice}
@@ -22,8 +21,7 @@ pub use Rattle.wq_words.specs.Counting.{is_chain, is_queued_by, is_pending_by, i
 pub use Rattle.wq_words.specs.DelayTable.{DelayTable, is_too_far, table_with, table_without, table_at}
 pub use Rattle.wq_words.specs.Head.{head_word, busy_word}
 pub use Rattle.wq_words.specs.History.{accepted, accepted_by, begun, begun_by, ended, ended_by, fresh, is_push, is_take, is_close, IsClosed, closed}
-pub use Rattle.wq_words.specs.History.{starts_hold, stops_hold, IsPending, Holds, sets_pending, clears_pending, taken, IsRunning, running, pending, first}
-pub use Rattle.wq_words.specs.History.{next}
+pub use Rattle.wq_words.specs.History.{starts_hold, stops_hold, IsPending, Holds, sets_pending, clears_pending, taken, IsRunning, running, pending, first, next}
 pub use Rattle.wq_words.specs.Keeper.{Keeper, Home, Sender, Listed, Owner, keeper, taken_over, Keeps, keeper_after}
 pub use Rattle.wq_words.specs.Legal.{IsAllowed, IsLegal, IsComplete, MayFollow}
 pub use Rattle.wq_words.specs.Numbers.{number_count}

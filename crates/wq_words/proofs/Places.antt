@@ -3,8 +3,7 @@ use Rattle.wq_words.proofs.Common.{◌≡◌, ℕ, ◌+◌, ◌<◌, ◌≤◌, 
 use Rattle.wq_words.proofs.Common.{slice_get, refl, sym, ap, ◌∙◌, arith, inl, inr, count_by, take-take, take_at, length_push, append-nil, count_by_more_yes}
 use Rattle.wq_words.proofs.Common.{sum_by-take-le, fold_push, slice_get_within, get_or_from_slice_get, eqb-true, eq-eqb, cases_lt, IsPrefix, Layout, Event}
 use Rattle.wq_words.proofs.Common.{Hold, Busy, Push, Back, Take, Close, Begin, End, Chain, ChainBusy, Rest, accepted_by, accepted, begun_by, begun, taken}
-use Rattle.wq_words.proofs.Common.{closed, is_close, is_take, MayFollow, IsLegal, Keeper, Home, Sender, Listed, Owner, Keeps, taken_over, keeper_after}
-use Rattle.wq_words.proofs.Common.{keeper}
+use Rattle.wq_words.proofs.Common.{closed, is_close, is_take, MayFollow, IsLegal, Keeper, Home, Sender, Listed, Owner, Keeps, taken_over, keeper_after, keeper}
 use Rattle.wq_words.proofs.Growing.{filter_map_push_some, filter_map_push_none, slice_get_append, slice_get_last}
 use Rattle.wq_words.proofs.Legal.{legal_induction}
 use Rattle.wq_words.proofs.Prefixes.{prefix_length}
