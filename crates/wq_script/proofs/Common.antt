@@ -16,7 +16,7 @@ pub use Rattle.std.proofs.lemmas.Option.{slice_get_within, slice_get_cases, slic
 pub use Rattle.wq_words.specs.Armed.{armed_of, modified_of}
 pub use Rattle.wq_words.specs.Counting.{is_busy, is_refusal, is_queued_by, is_pending_by, is_closed_by, is_chain, is_chain_busy}
 pub use Rattle.wq_words.specs.DelayTable.{DelayTable, on_table, is_too_far, Entry, items, due_part, table_without, table_at}
-pub use Rattle.wq_words.specs.History.{pending, closed, first, is_push, fresh, accepted, begun, next, taken, is_close, Holds, ended, IsRunning, IsPending}
+pub use Rattle.wq_words.specs.History.{pending, closed, first, is_push, fresh, accepted, begun, next, taken, is_close, is_take, Holds, ended, IsRunning}
 pub use Rattle.wq_words.specs.Legal.{IsLegal, HasSeat}
 pub use Rattle.wq_words.specs.Numbers.{barrier_number, stop_number}
 pub use Rattle.wq_words.specs.Rest.{wakes}
@@ -30,8 +30,7 @@ pub use Rattle.wq_words.specs.declared.layout.Layout.{Layout}
 pub use Rattle.wq_words.proofs.Appended.{count_by-append, accepted-append, begun-append, accepted-count, pushes-split, fresh-more, ended-append}
 pub use Rattle.wq_words.proofs.Legal.{legal_next, legal_front, legal_nil}
 pub use Rattle.wq_words.proofs.Prefixes.{nothing_more, left_nil, right_nil, prefix_self, prefix_on, prefix_length}
-pub use Rattle.wq_words.proofs.Seen.{own-append, own_rest, closed_count, own_one, begun_same, none_of, grows_begins, grows_same, own_more, count_same}
-pub use Rattle.wq_words.proofs.Seen.{ended_same, own_between}
+pub use Rattle.wq_words.proofs.Seen.{own-append, own_rest, closed_count, own_one, begun_same}
 pub use Rattle.wq_live.specs.Answers.{Answers, IsPushed}
 pub use Rattle.wq_live.specs.Batch.{TakesAll, batch, next_of}
 pub use Rattle.wq_live.specs.Known.{Known, Sees, QueueId, new_sender, new_owner, new_senders}
@@ -52,7 +51,7 @@ pub use Rattle.wq_meaning.specs.Queueing.{queue_events, queue_answer, close_even
 pub use Rattle.wq_meaning.specs.Report.{line, report_text}
 pub use Rattle.wq_meaning.proofs.Answers.{arm_given, queue_uncontended, modify_given}
 pub use Rattle.wq_meaning.proofs.Meanings.{wrote, advanced, advance_back, advance_on, drained, drain_open, drain_closed}
-pub use Rattle.wq_meaning.proofs.Sizes.{queue_few, advance_few, close_few, executions_few}
+pub use Rattle.wq_meaning.proofs.Sizes.{advance_few, close_few, executions_few, modify_few, modify_table_few}
 pub use Rattle.wq_script.specs.Arming.{GoesWithTable, ArmsAs, CancelsAs, ModifiesAs, IsPosted, IsBack}
 pub use Rattle.wq_script.specs.Asking.{Asks, Goes, Ran, HasLists, AsksFor, RunsAs}
 pub use Rattle.wq_script.specs.Counting.{Tallied, counted, counted_armed, counted_push, counted_modified, counted_posts}

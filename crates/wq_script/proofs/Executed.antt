@@ -7,8 +7,7 @@ use Rattle.wq_script.proofs.Common.{Take, Close, Begin, End, Chain, ChainBusy, R
 use Rattle.wq_script.proofs.Common.{legal_next, legal_front, owner_seat, seat_of, own, is_ours, left_nil, own-append, own_one, own_rest, begun_same}
 use Rattle.wq_script.proofs.Common.{closed_count, batch, next_of, Adds, taking, taking_of, NothingWaits, at_take, at_all, Queues, Follows, passed, pushed, busy}
 use Rattle.wq_script.proofs.Common.{refused, chained, chain_busy, queue_events, chain_events, follow_of, take_events, follow_events, after_follow, after_run}
-use Rattle.wq_script.proofs.Common.{after_execution, accepted-append, begun-append, count_by-append, accepted-count, pushes-split, fresh-more, Quiet}
-use Rattle.wq_words.specs.History.{is_take}
+use Rattle.wq_script.proofs.Common.{after_execution, accepted-append, begun-append, count_by-append, accepted-count, pushes-split, fresh-more, Quiet, is_take}
 use Rattle.wq_words.specs.declared.event.Why.TheVariants as why
 use Rattle.wq_words.proofs.Listed.{fresh_push_take}
 use Rattle.wq_script.proofs.Alone.{all_ours}

@@ -1,8 +1,8 @@
 -- Seats that make no event, and hear what others have seen.
-use Rattle.wq_script.proofs.Common.{◌≡◌, ℕ, ◌<◌, List, [], ◌++◌, length, get_or, set, arith, inl, inr, refl, sym, ap, ◌∙◌, subst, get_or-set_other}
-use Rattle.wq_script.proofs.Common.{get_or-set_same, get_or_default, length-set, cases_eq, IsPrefix, Event, owner_seat, own, prefix_self, prefix_on, none_of}
-use Rattle.wq_script.proofs.Common.{grows_begins, grows_same, Known, Sees, WorkerState, Moves, DelayState, KeepsTable, StaysSilent, Hears, AllHear, IsSameTable}
-use Rattle.wq_script.proofs.Common.{sender_of, owner_of, own_more}
+use Rattle.wq_script.proofs.Common.{◌≡◌, ℕ, ◌<◌, List, [], length, get_or, set, arith, inl, inr, refl, sym, ap, ◌∙◌, subst, get_or-set_other, get_or-set_same}
+use Rattle.wq_script.proofs.Common.{get_or_default, length-set, cases_eq, IsPrefix, Event, owner_seat, own, prefix_self, prefix_on, Known, Sees, WorkerState}
+use Rattle.wq_script.proofs.Common.{Moves, DelayState, KeepsTable, StaysSilent, Hears, AllHear, IsSameTable, sender_of, owner_of}
+use Rattle.wq_words.proofs.Seen.{none_of, grows_begins, grows_same, own_more}
 use Rattle.wq_live.proofs.Sends.{same_none, same_on}
 
 pub stays_refl : (k : Known) → StaysSilent k k

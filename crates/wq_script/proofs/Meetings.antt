@@ -3,7 +3,8 @@ use Rattle.wq_script.proofs.Common.{◌≡◌, ◌≢◌, ℕ, ◌<◌, Bool, tr
 use Rattle.wq_script.proofs.Common.{append-nil, Layout, Event, Close, closed, begun, ended, IsRunning, IsLegal, owner_seat, Answer, DelayTable, queue_events}
 use Rattle.wq_script.proofs.Common.{queue_answer, close_events, after_executions, ended_since, ScriptState, begun-append, ended-append, Engine, Seats, Tally}
 use Rattle.wq_script.proofs.Common.{Lists, Seated, ListsFit, Asks, Goes, Ran, HasLists, GoesWithTable, Tallied, counted, Meets, Does, size, AsksFor}
-use Rattle.wq_script.proofs.Common.{state_after, lines, line, queue_few, Command, length-append, answer_text}
+use Rattle.wq_script.proofs.Common.{state_after, lines, line, Command, length-append, answer_text}
+use Rattle.wq_meaning.proofs.Sizes.{queue_few}
 use Rattle.wq_script.proofs.Tallies.{Foreign, idle_on, tallied_own, all_own, legal_has}
 use Rattle.wq_script.proofs.Answered.{queue_counts}
 

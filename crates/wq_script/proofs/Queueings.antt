@@ -1,7 +1,8 @@
 -- What a queueing was, by the history that it led to.
 use Rattle.wq_script.proofs.Common.{◌≡◌, ℕ, ◌+◌, Bool, true, false, cond, ◌==◌, List, [], ◌∷◌, ◌++◌, arith, inl, inr, ◌⊎◌, refl, sym, ap, ◌∙◌, subst}
 use Rattle.wq_script.proofs.Common.{append_assoc, if◌then◌else◌, count_by, lt-ltb, le-ltb, Layout, Event, Hold, Busy, Push, Back, pending, closed, is_close}
-use Rattle.wq_script.proofs.Common.{first, IsLegal, legal_next, seat_of, own, own-append, own_one, queue_events, fresh-more, right_nil, IsPending}
+use Rattle.wq_script.proofs.Common.{first, IsLegal, legal_next, seat_of, own, own-append, own_one, queue_events, fresh-more, right_nil}
+use Rattle.wq_words.specs.History.{IsPending}
 use Rattle.wq_words.specs.declared.event.Why.TheVariants as why
 use Rattle.wq_words.proofs.Growing.{count_by_push}
 use Rattle.wq_words.proofs.Closed.{closed_from_open as not_closed, closed_from_IsClosed as is_closed}

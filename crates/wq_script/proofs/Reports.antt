@@ -1,8 +1,9 @@
 -- The counts of a report, from what the worker and the engine counted.
 use Rattle.std.proofs.lemmas.List.Sums.{count_by-le-length}
 use Rattle.wq_script.proofs.Common.{◌≡◌, ℕ, ◌+◌, ◌≤◌, ◌^◌, List, length, ap, ◌∙◌, arith, count_by, Event, accepted, begun, ended, is_push, prefix_length}
-use Rattle.wq_script.proofs.Common.{owner_seat, count_same, ended_same, is_queued_by, is_pending_by, is_closed_by, is_chain, is_chain_busy, is_busy, is_refusal}
-use Rattle.wq_script.proofs.Common.{accepted-count, Engine, Tally, HasStateWithin}
+use Rattle.wq_script.proofs.Common.{owner_seat, is_queued_by, is_pending_by, is_closed_by, is_chain, is_chain_busy, is_busy, is_refusal, accepted-count, Engine}
+use Rattle.wq_script.proofs.Common.{Tally, HasStateWithin}
+use Rattle.wq_words.proofs.Seen.{count_same, ended_same}
 use Rattle.wq_words.proofs.Order.{in_order}
 use Rattle.wq_ledger.specs.declared.totals.Totals.{Totals}
 use Rattle.wq_ledger.specs.Totals.{own_totals}

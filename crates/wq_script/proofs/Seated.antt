@@ -1,9 +1,9 @@
 -- Seats of one queue, of which one acts.
-use Rattle.wq_script.proofs.Common.{◌≡◌, ◌≢◌, ℕ, ◌+◌, ◌<◌, ◌≤◌, Bool, true, false, not, ◌==◌, ◌||◌, ◌⊎◌, List, [], ◌++◌, length, get_or, set, arith, inl, inr}
-use Rattle.wq_script.proofs.Common.{refl, sym, ◌∙◌, subst, eq-eqb, filter, get_or-set_other, get_or-set_same, length-set, cases_lt, cases_eq, eqb-true}
-use Rattle.wq_script.proofs.Common.{false≢true, IsPrefix, QueueId, Layout, Event, IsLegal, owner_seat, own, others, Known, Sees, is_ours, WorkerState, Moves}
-use Rattle.wq_script.proofs.Common.{Lists, Seats, Hears, IsAt, IsWider, Seated, sender_of, owner_of, prefix_on, own_between, DelayState, with_item, prefix_self}
-use Rattle.wq_script.proofs.Common.{seat_of, Gathers, ap}
+use Rattle.wq_script.proofs.Common.{◌≡◌, ℕ, ◌+◌, ◌<◌, ◌≤◌, Bool, true, false, not, ◌==◌, ◌||◌, ◌⊎◌, List, [], ◌++◌, length, get_or, set, arith, inl, inr, refl}
+use Rattle.wq_script.proofs.Common.{sym, ◌∙◌, subst, eq-eqb, filter, get_or-set_other, get_or-set_same, length-set, cases_lt, cases_eq, eqb-true, false≢true}
+use Rattle.wq_script.proofs.Common.{IsPrefix, QueueId, Layout, Event, IsLegal, owner_seat, own, others, Known, Sees, is_ours, WorkerState, Moves, Lists, Seats}
+use Rattle.wq_script.proofs.Common.{Hears, IsAt, IsWider, Seated, sender_of, owner_of, prefix_on, DelayState, with_item, prefix_self, seat_of, Gathers, ap}
+use Rattle.wq_words.proofs.Seen.{own_between}
 use Rattle.wq_script.proofs.Alone.{IsSeat, settle}
 
 or_right : (a : Bool) → (a || true) ≡ true

@@ -1,5 +1,5 @@
 use Rattle.wq_script.proofs.Common.{◌∙◌, ℕ, ◌+◌, ◌++◌, sym, ap, refl, arith, string_bytes, length-append, line, modify_events, modify_given, modified_text}
-use Rattle.wq_meaning.proofs.Sizes.{modify_few, modify_table_few}
+use Rattle.wq_script.proofs.Common.{modify_few, modify_table_few}
 use Rattle.wq_script.proofs.TableMeetings.{modified_meets}
 use Rattle.wq_script.proofs.engine.Engine.modify.Goals as goal
 
