@@ -8,40 +8,38 @@ use Rattle.wq_words.specs.declared.layout.Layout.{Layout}
 use Rattle.wq_words.specs.declared.event.Event.{Event}
 use Rattle.wq_words.specs.declared.event.Event.TheVariants.{Begin, End}
 use Rattle.wq_words.specs.History.{begun_by, begun, ended_by, ended, closed}
-use Rattle.wq_live.specs.Known.{Known, IsSame}
+use Rattle.wq_words.specs.Legal.{IsLegal}
+use Rattle.wq_live.specs.Pairs.{KnownPair}
 use Rattle.wq_live.specs.Batch.{next_of}
 use Rattle.wq_worker.specs.Seats.{taking_of, taking}
-use Rattle.wq_worker.specs.Pair.{Paired, Both, QueuesRest}
+use Rattle.wq_worker.specs.Pair.{Both, QueuesRest}
 use Rattle.wq_worker.specs.State.{items_among, AreWorkerParts}
 use Rattle.wq_worker.proofs.Owned.{IsQuiet, owner_of_both}
-use Rattle.wq_worker.proofs.Follow.{advance_stays, advance_layout, advance_pairs, advance_same}
-
-numbered_still : (s t : Known) → IsSame s t → s.number < s.layout.senders → t.number < t.layout.senders
-numbered_still s t same low = omega (arith, low, same.number_is, ap (λ (l : Layout). l.senders) same.layout_is)
+use Rattle.wq_worker.proofs.Follow.{advance_stays, advance_layout, advance_legal, advance_number}
 
 -- the log goes on as the begun numbers do
-pub fit_begun : (ks log more : List ℕ) (tries at : ℕ) (follow : List ℕ) (at' : ℕ) (follow' : List ℕ) (o s p t : Known)
-    → AreWorkerParts log tries at follow o s → Paired p t → IsSame s t → p.layout ≡ o.layout → begun p.seen ≡ begun o.seen ++ ks
-    → more ≡ log ++ items_among o.layout ks → at' ≤ length follow' → AreWorkerParts more tries at' follow' p t
-fit_begun ks log more tries at follow at' follow' o s p t fit pair same size now ran low = record {
-  paired = pair;
-  numbered = numbered_still s t same fit.numbered;
+pub fit_begun : (ks log more : List ℕ) (tries at : ℕ) (follow : List ℕ) (at' : ℕ) (follow' : List ℕ) (old new : KnownPair)
+    → AreWorkerParts log tries at follow old → IsLegal new.layout new.seen → new.number ≡ old.number → new.layout ≡ old.layout
+    → begun new.seen ≡ begun old.seen ++ ks → more ≡ log ++ items_among old.layout ks → at' ≤ length follow' → AreWorkerParts more tries at' follow' new
+fit_begun ks log more tries at follow at' follow' old new fit legal same size now ran low = record {
+  legal = legal;
+  numbered = omega (arith, fit.numbered, same, ap (λ (l : Layout). l.senders) size);
   some_try = fit.some_try;
   within = low;
-  logged = ran ∙ (ap (λ (z : List ℕ). z ++ items_among o.layout ks) fit.logged ∙
-      (sym (filter-append (λ k. nat_lt k o.layout.items) (begun o.seen) ks) ∙
-      (ap (items_among o.layout) (sym now) ∙ ap (λ (z : Layout). items_among z (begun p.seen)) (sym size))));
+  logged = ran ∙ (ap (λ (z : List ℕ). z ++ items_among old.layout ks) fit.logged ∙
+      (sym (filter-append (λ k. nat_lt k old.layout.items) (begun old.seen) ks) ∙
+      (ap (items_among old.layout) (sym now) ∙ ap (λ (z : Layout). items_among z (begun new.seen)) (sym size))));
 }
 
-pub fit_still : (log : List ℕ) (tries at : ℕ) (follow : List ℕ) (at' : ℕ) (follow' : List ℕ) (o s p t : Known)
-    → AreWorkerParts log tries at follow o s → Paired p t → IsSame s t → p.layout ≡ o.layout → begun p.seen ≡ begun o.seen → at' ≤ length follow'
-    → AreWorkerParts log tries at' follow' p t
-fit_still log tries at follow at' follow' o s p t fit pair same size now low = record {
-  paired = pair;
-  numbered = numbered_still s t same fit.numbered;
+pub fit_still : (log : List ℕ) (tries at : ℕ) (follow : List ℕ) (at' : ℕ) (follow' : List ℕ) (old new : KnownPair)
+    → AreWorkerParts log tries at follow old → IsLegal new.layout new.seen → new.number ≡ old.number → new.layout ≡ old.layout
+    → begun new.seen ≡ begun old.seen → at' ≤ length follow' → AreWorkerParts log tries at' follow' new
+fit_still log tries at follow at' follow' old new fit legal same size now low = record {
+  legal = legal;
+  numbered = omega (arith, fit.numbered, same, ap (λ (l : Layout). l.senders) size);
   some_try = fit.some_try;
   within = low;
-  logged = fit.logged ∙ (ap (items_among o.layout) (sym now) ∙ ap (λ (z : Layout). items_among z (begun p.seen)) (sym size));
+  logged = fit.logged ∙ (ap (items_among old.layout) (sym now) ∙ ap (λ (z : Layout). items_among z (begun new.seen)) (sym size));
 }
 
 quiet_taking_of : (n : Option ℕ) (b : Bool) → IsQuiet (taking_of n b)
@@ -58,10 +56,10 @@ begun_taking h k = filter_map-append begun_by (taking h) (Begin k ∷ []) ∙ ap
 pub ended_taking : (h : List Event) (k : ℕ) → ended (taking h ++ Begin k ∷ []) ≡ []
 ended_taking h k = filter_map-append ended_by (taking h) (Begin k ∷ []) ∙ ap (λ (z : List ℕ). z ++ []) (quiet_taking h).ended_none
 
-pub begun_one : (k : ℕ) (o s p t : Known) → Both (taking o.seen ++ Begin k ∷ []) 0 o s p t → begun p.seen ≡ begun o.seen ++ k ∷ []
-begun_one k o s p t b =
-    let a = owner_of_both s.number (taking o.seen ++ Begin k ∷ []) 0 o.seen p.seen b.adds in
-    a.begun_is ∙ ap (λ (z : List ℕ). begun o.seen ++ z) (begun_taking o.seen k)
+pub begun_one : (k : ℕ) (old new : KnownPair) → Both (taking old.seen ++ Begin k ∷ []) 0 old new → begun new.seen ≡ begun old.seen ++ k ∷ []
+begun_one k old new b =
+    let a = owner_of_both old.number (taking old.seen ++ Begin k ∷ []) 0 old.seen new.seen b.adds in
+    a.begun_is ∙ ap (λ (z : List ℕ). begun old.seen ++ z) (begun_taking old.seen k)
 
 pub items_among-item : (layout : Layout) (k : ℕ) → k < layout.items → items_among layout (k ∷ []) ≡ k ∷ []
 items_among-item layout k h = ap (λ (b : Bool). cond b (k ∷ []) []) (lt-ltb k layout.items h)
@@ -69,14 +67,14 @@ items_among-item layout k h = ap (λ (b : Bool). cond b (k ∷ []) []) (lt-ltb k
 pub items_among-other : (layout : Layout) (k : ℕ) → layout.items ≤ k → items_among layout (k ∷ []) ≡ []
 items_among-other layout k h = ap (λ (b : Bool). cond b (k ∷ []) []) (le-ltb k layout.items h)
 
-pub advance_fits : (log : List ℕ) (tries at at' : ℕ) (follow ks js : List ℕ) (o s p t : Known) → AreWorkerParts log tries at follow o s
-    → QueuesRest tries ks js o s p t → at' ≤ length follow → AreWorkerParts log tries at' follow p t
-advance_fits log tries at at' follow ks js o s p t fit a low =
-    fit_still log tries at follow at' follow o s p t fit (advance_pairs tries ks js o s p t a) (advance_same tries ks js o s p t a)
-    (advance_layout tries ks js o s p t a) (advance_stays tries ks js o s p t a).begun_same low
+pub advance_fits : (log : List ℕ) (tries at at' : ℕ) (follow ks js : List ℕ) (old new : KnownPair) → AreWorkerParts log tries at follow old
+    → QueuesRest tries ks js old new → at' ≤ length follow → AreWorkerParts log tries at' follow new
+advance_fits log tries at at' follow ks js old new fit a low =
+    fit_still log tries at follow at' follow old new fit (advance_legal tries ks js old new a) (advance_number tries ks js old new a)
+    (advance_layout tries ks js old new a) (advance_stays tries ks js old new a).begun_same low
 
-pub fit_ended : (k : ℕ) (log : List ℕ) (tries at : ℕ) (follow : List ℕ) (o s p t : Known) → AreWorkerParts log tries at follow o s
-    → Both (End k ∷ []) 0 o s p t → AreWorkerParts log tries at follow p t
-fit_ended k log tries at follow o s p t fit b =
-    let a = owner_of_both s.number (End k ∷ []) 0 o.seen p.seen b.adds in
-    fit_still log tries at follow at follow o s p t fit b.paired b.sender b.owner.layout_is (a.begun_is ∙ append-nil (begun o.seen)) fit.within
+pub fit_ended : (k : ℕ) (log : List ℕ) (tries at : ℕ) (follow : List ℕ) (old new : KnownPair) → AreWorkerParts log tries at follow old
+    → Both (End k ∷ []) 0 old new → AreWorkerParts log tries at follow new
+fit_ended k log tries at follow old new fit b =
+    let a = owner_of_both old.number (End k ∷ []) 0 old.seen new.seen b.adds in
+    fit_still log tries at follow at follow old new fit b.legal b.number_is b.layout_is (a.begun_is ∙ append-nil (begun old.seen)) fit.within

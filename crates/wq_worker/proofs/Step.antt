@@ -6,13 +6,14 @@ use Rattle.wq_words.specs.declared.layout.Layout.{Layout}
 use Rattle.wq_words.specs.declared.event.Event.{Event}
 use Rattle.wq_words.specs.declared.event.Event.TheVariants.{Begin, End}
 use Rattle.wq_words.specs.History.{closed, running, IsRunning, is_close}
-use Rattle.wq_live.specs.Known.{Known}
+use Rattle.wq_words.specs.Legal.{IsLegal}
+use Rattle.wq_live.specs.Pairs.{KnownPair}
 use Rattle.std.specs.Prelude.{count_by}
 use Rattle.wq_worker.specs.declared.ran.Ran.{Ran}
 use Rattle.wq_worker.specs.declared.ran.Ran.TheVariants.{Item, Barrier, Stop, Nothing, Owing}
 use Rattle.wq_worker.specs.Seats.{Adds, taking}
 use Rattle.wq_worker.specs.Follow.{Follows, contended_of}
-use Rattle.wq_worker.specs.Pair.{Paired, Both, QueuesRest, finished, contended}
+use Rattle.wq_worker.specs.Pair.{Both, QueuesRest, finished, contended}
 use Rattle.wq_worker.specs.State.{WorkerState, Moves}
 use Rattle.wq_worker.specs.Step.{IsKind, Starts, item, other, owed, Ends, ends, Owes, owes, Runs, Begins}
 use Rattle.wq_worker.proofs.Seats.{adds_on}
@@ -25,13 +26,21 @@ use Rattle.wq_worker.proofs.Follow.{advance_stays}
 use Rattle.wq_worker.proofs.State.{quiet_taking, begun_taking, ended_taking}
 
 module _ {W : Type 0} where
-  abbrev pub state_of : Known → Known → ℕ → List ℕ → W → WorkerState W
-  state_of o s tries unqueued w = record { queue = o.queue; layout = o.layout; number = s.number; tries = tries; seen = o.seen; unqueued = unqueued; work = w }
+  abbrev pub state_of : KnownPair → ℕ → List ℕ → W → WorkerState W
+  state_of p tries unqueued w = record {
+    queue = p.queue;
+    layout = p.layout;
+    number = p.number;
+    tries = tries;
+    seen = p.seen;
+    unqueued = unqueued;
+    work = w;
+  }
 
-  pub moves_by : (es : List Event) (n tries : ℕ) (l l' : List ℕ) (w w' : W) (o s p t : Known) → Both es n o s p t
-      → Moves es n (state_of o s tries l w) (state_of p t tries l' w')
-  moves_by es n tries l l' w w' o s p t b =
-      record { queue = b.owner.queue_is; layout = b.owner.layout_is; number = b.sender.number_is; tries = refl; adds = b.adds; legal = b.paired.legal }
+  pub moves_by : (es : List Event) (n tries : ℕ) (l l' : List ℕ) (w w' : W) (old new : KnownPair) → Both es n old new
+      → Moves es n (state_of old tries l w) (state_of new tries l' w')
+  moves_by es n tries l l' w w' old new b =
+      record { queue = b.queue_is; layout = b.layout_is; number = b.number_is; tries = refl; adds = b.adds; legal = b.legal }
 
   pub moves_on : (xs ys : List Event) (n m : ℕ) (a b c : WorkerState W) → Moves xs n a b → Moves ys m b c → Moves (xs ++ ys) (n + m) a c
   moves_on xs ys n m a b c p q = record {
@@ -44,39 +53,35 @@ module _ {W : Type 0} where
   }
 
 module _ {W : Type 0} (may : W → ℕ → List ℕ → W → Type 0) where
-  pub begins_by : (k tries : ℕ) (l l' : List ℕ) (w w' : W) (o s p t : Known) → Paired o s → ¬ IsRunning o.seen
-      → Both (taking o.seen ++ Begin k ∷ []) 0 o s p t → (k < o.layout.items → may w k l' w') → (o.layout.items ≤ k → (l' ≡ []) × (w' ≡ w))
-      → Begins may (state_of o s tries l w) k (state_of p t tries l' w')
-  begins_by k tries l l' w w' o s p t pair idle b ran none = record {
-    moves = moves_by (taking o.seen ++ Begin k ∷ []) 0 tries l l' w w' o s p t b;
-    runs = runs_begun o.layout k (taking o.seen ++ Begin k ∷ []) o.seen p.seen pair.legal idle (begun_taking o.seen k) (ended_taking o.seen k)
-        (owner_of_both s.number (taking o.seen ++ Begin k ∷ []) 0 o.seen p.seen b.adds);
+  pub begins_by : (k tries : ℕ) (l l' : List ℕ) (w w' : W) (old new : KnownPair) → IsLegal old.layout old.seen → ¬ IsRunning old.seen
+      → Both (taking old.seen ++ Begin k ∷ []) 0 old new → (k < old.layout.items → may w k l' w') → (old.layout.items ≤ k → (l' ≡ []) × (w' ≡ w))
+      → Begins may (state_of old tries l w) k (state_of new tries l' w')
+  begins_by k tries l l' w w' old new legal idle b ran none = record {
+    moves = moves_by (taking old.seen ++ Begin k ∷ []) 0 tries l l' w w' old new b;
+    runs = runs_begun old.layout k (taking old.seen ++ Begin k ∷ []) old.seen new.seen legal idle (begun_taking old.seen k) (ended_taking old.seen k)
+        (owner_of_both old.number (taking old.seen ++ Begin k ∷ []) 0 old.seen new.seen b.adds);
     item = ran;
     other = none;
   }
 
-  told_at : (o s : Known) (ks : List ℕ) (es : List Event) → Paired o s → Follows s.layout.items s.number (closed o.seen) ks es
-      → Follows o.layout.items s.number (closed o.seen) ks es
-  told_at o s ks es pair t = subst (λ (z : Layout). Follows z.items s.number (closed o.seen) ks es) pair.layout t
-
-  pub advance_owes : (k tries at r : ℕ) (fs : List ℕ) (w : W) (o s p t : Known) → Paired o s → running o.seen ≡ Some k → r < length fs
-      → QueuesRest tries (drop at fs) (drop r fs) o s p t
-      → Owes may (state_of o s tries (drop at fs) w) k (state_of p t tries (drop r fs) w)
-  advance_owes k tries at r fs w o s p t pair runs low (finished es none told b) =
+  pub advance_owes : (k tries at r : ℕ) (fs : List ℕ) (w : W) (old new : KnownPair) → running old.seen ≡ Some k → r < length fs
+      → QueuesRest tries (drop at fs) (drop r fs) old new
+      → Owes may (state_of old tries (drop at fs) w) k (state_of new tries (drop r fs) w)
+  advance_owes k tries at r fs w old new runs low (finished es none told b) =
       let e : length (drop r fs) ≡ 0 = ap (length {A = ℕ}) none in absurd (omega (arith, e, length-drop r fs))
-  advance_owes k tries at r fs w o s p t pair runs low (contended qs j more es split is small opens told b) =
-      owes (drop at fs) qs j more [] es (owed runs refl refl refl) (split ∙ ap (λ (z : List ℕ). qs ++ z) is) is opens (told_at o s qs es pair told)
-      (moves_by (es ++ contended_of s.number j) tries tries (drop at fs) (drop r fs) w w o s p t b)
-      ((advance_stays tries (drop at fs) (drop r fs) o s p t (contended qs j more es split is small opens told b)).running_same ∙ runs)
+  advance_owes k tries at r fs w old new runs low (contended qs j more es split is small opens told b) =
+      owes (drop at fs) qs j more [] es (owed runs refl refl refl) (split ∙ ap (λ (z : List ℕ). qs ++ z) is) is opens told
+      (moves_by (es ++ contended_of old.number j) tries tries (drop at fs) (drop r fs) w w old new b)
+      ((advance_stays tries (drop at fs) (drop r fs) old new (contended qs j more es split is small opens told b)).running_same ∙ runs)
 
-  pub advance_ends : (k tries at r : ℕ) (fs : List ℕ) (w : W) (o s p t q u : Known) → Paired o s → running o.seen ≡ Some k → length fs ≤ r
-      → QueuesRest tries (drop at fs) (drop r fs) o s p t → Both (End k ∷ []) 0 p t q u
-      → Ends may (state_of o s tries (drop at fs) w) k (state_of q u tries (drop r fs) w)
-  advance_ends k tries at r fs w o s p t q u pair runs high (finished es none told b) e =
-      ends (drop at fs) [] es (owed runs refl refl refl) (told_at o s (drop at fs) es pair told)
-      (moves_by (es ++ End k ∷ []) 0 tries (drop at fs) (drop r fs) w w o s q u (both_on es (End k ∷ []) 0 0 o s p t q u b e))
-      (idle_ended p.layout k (End k ∷ []) p.seen q.seen b.paired.legal refl refl (owner_of_both t.number (End k ∷ []) 0 p.seen q.seen e.adds))
-  advance_ends k tries at r fs w o s p t q u pair runs high (contended qs j more es split is small opens told b) e =
+  pub advance_ends : (k tries at r : ℕ) (fs : List ℕ) (w : W) (old mid new : KnownPair) → running old.seen ≡ Some k → length fs ≤ r
+      → QueuesRest tries (drop at fs) (drop r fs) old mid → Both (End k ∷ []) 0 mid new
+      → Ends may (state_of old tries (drop at fs) w) k (state_of new tries (drop r fs) w)
+  advance_ends k tries at r fs w old mid new runs high (finished es none told b) e =
+      ends (drop at fs) [] es (owed runs refl refl refl) told
+      (moves_by (es ++ End k ∷ []) 0 tries (drop at fs) (drop r fs) w w old new (both_on es (End k ∷ []) 0 0 old mid new b e))
+      (idle_ended mid.layout k (End k ∷ []) mid.seen new.seen b.legal refl refl (owner_of_both mid.number (End k ∷ []) 0 mid.seen new.seen e.adds))
+  advance_ends k tries at r fs w old mid new runs high (contended qs j more es split is small opens told b) e =
       let none : drop r fs ≡ [] = drop_of_length-le fs high in absurd (cc)
 
   pub runs_kind : (k : ℕ) (r : Ran) (layout : Layout) (a b : WorkerState W) → layout ≡ a.layout → IsKind layout k r → Ends may a k b → Runs may r a b

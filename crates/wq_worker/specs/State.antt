@@ -8,7 +8,7 @@ use Rattle.wq_words.specs.Legal.{IsLegal}
 use Rattle.wq_words.specs.Seen.{owner_seat, own}
 use Rattle.wq_live.specs.Known.{Known}
 use Rattle.wq_worker.specs.Seats.{Adds}
-use Rattle.wq_worker.specs.Pair.{Paired}
+use Rattle.wq_live.specs.Pairs.{KnownPair}
 
 -- which queue it is of, how large that is, its sender's number, the tries of a queueing, the history that its two seats have
 -- seen, what an execution that has not ended has still to queue, and the work
@@ -58,9 +58,9 @@ pub record Moves {W : Type 0} (xs : List Event) (n : ℕ) (a b : WorkerState W) 
   pub legal : IsLegal b.layout b.seen
 
 -- what holds of a worker's parts: its number is below the senders, and the work has run the items that have begun
-pub record AreWorkerParts (log : List ℕ) (tries : ℕ) (at : ℕ) (follow : List ℕ) (o s : Known) : Type 0 where
-  pub paired : Paired o s
-  pub numbered : s.number < s.layout.senders
+pub record AreWorkerParts (log : List ℕ) (tries : ℕ) (at : ℕ) (follow : List ℕ) (p : KnownPair) : Type 0 where
+  pub legal : IsLegal p.layout p.seen
+  pub numbered : p.number < p.layout.senders
   pub some_try : 0 < tries
   pub within : at ≤ length follow
-  pub logged : log ≡ items_among o.layout (begun o.seen)
+  pub logged : log ≡ items_among p.layout (begun p.seen)

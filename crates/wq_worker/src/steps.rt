@@ -10,7 +10,7 @@ ghost use Rattle.wq_live.specs.Batch.{next_of};
 ghost use Rattle.wq_live.specs.Rest.{MayNotRest};
 ghost use Rattle.wq_worker.specs.Seats.{taking, NothingWaits};
 ghost use Rattle.wq_worker.specs.Resting.{HasNoneLeft, rest_events};
-ghost use Rattle.wq_worker.specs.Pair.{settled, Paired, Both, BothFindNothing, BothBegin, BothQueue, QueuesRest};
+ghost use Rattle.wq_worker.specs.Pair.{settled, Both, BothFindNothing, BothBegin, BothQueue, QueuesRest};
 
 use wq_live::{Answer, Pair};
 
@@ -39,11 +39,9 @@ fn is_settled(answer: &Answer) -> bool
 
 /// Begins the oldest number, after a take where nothing taken waits.
 pub(crate) fn begin_next(pair: &mut Pair) -> Option<u32>
-    requires paired { Paired (pair_owner pair.old) (pair_sender pair.old) }
+    requires legal { IsLegal pair.old.layout pair.old.seen }
     requires idle { ¬ IsRunning pair.old.seen }
-    ensures { MatchOption result
-        (BothFindNothing (pair_owner pair.old) (pair_sender pair.old) (pair_owner pair.new) (pair_sender pair.new))
-        (λ k. BothBegin k (pair_owner pair.old) (pair_sender pair.old) (pair_owner pair.new) (pair_sender pair.new)) }
+    ensures { MatchOption result (BothFindNothing pair.old pair.new) (λ k. BothBegin k pair.old pair.new) }
 {
     take_where_empty(pair);
     if pair.next().is_none() {
@@ -54,9 +52,8 @@ pub(crate) fn begin_next(pair: &mut Pair) -> Option<u32>
 
 /// Makes the take that a begin would make, and answers the oldest number that was taken and has not begun.
 pub(crate) fn take_next(pair: &mut Pair) -> Option<u32>
-    requires paired { Paired (pair_owner pair.old) (pair_sender pair.old) }
-    ensures both { Both (taking pair.old.seen) 0 (pair_owner pair.old) (pair_sender pair.old)
-        (pair_owner pair.new) (pair_sender pair.new) }
+    requires legal { IsLegal pair.old.layout pair.old.seen }
+    ensures both { Both (taking pair.old.seen) 0 pair.old pair.new }
     ensures next { result ≡ next_of pair.new.seen }
     ensures nothing { result ≡ None → NothingWaits pair.new.seen }
 {
@@ -66,11 +63,9 @@ pub(crate) fn take_next(pair: &mut Pair) -> Option<u32>
 
 /// Rests, where nothing is left. False where something was pushed since the last take, or where the queue rests already.
 pub(crate) fn rest(pair: &mut Pair) -> bool
-    requires paired { Paired (pair_owner pair.old) (pair_sender pair.old) }
     requires open { ¬ IsClosed pair.old.seen }
     requires none { HasNoneLeft pair.old.seen }
-    ensures both { Both (rest_events result) 0 (pair_owner pair.old) (pair_sender pair.old)
-        (pair_owner pair.new) (pair_sender pair.new) }
+    ensures both { Both (rest_events result) 0 pair.old pair.new }
     ensures unclosed { ¬ IsClosed pair.new.seen }
     ensures none { HasNoneLeft pair.new.seen }
     ensures refused { result ≡ false → MayNotRest pair.new.seen }
@@ -80,21 +75,17 @@ pub(crate) fn rest(pair: &mut Pair) -> bool
 
 /// Ends what runs.
 pub(crate) fn end_running(pair: &mut Pair)
-    requires paired { Paired (pair_owner pair.old) (pair_sender pair.old) }
     requires runs { IsRunning pair.old.seen }
-    ensures { (k : ℕ) → running pair.old.seen ≡ Some k → Both (End k ∷ []) 0 (pair_owner pair.old) (pair_sender pair.old)
-        (pair_owner pair.new) (pair_sender pair.new) }
+    ensures { (k : ℕ) → running pair.old.seen ≡ Some k → Both (End k ∷ []) 0 pair.old pair.new }
 {
     pair.end();
 }
 
 /// Queues one number, chained where the queue is closed. False where that was contended.
 fn queue_one(pair: &mut Pair, item: u32, tries: u32) -> bool
-    requires paired { Paired (pair_owner pair.old) (pair_sender pair.old) }
     requires runs { IsRunning pair.old.seen }
     requires tries { 0 < tries }
-    ensures queued { BothQueue item tries result (pair_owner pair.old) (pair_sender pair.old)
-        (pair_owner pair.new) (pair_sender pair.new) }
+    ensures queued { BothQueue item tries result pair.old pair.new }
     ensures contended { result ≡ false → IsContended pair.old.number item tries pair.new.seen }
 {
     if item >= pair.layout().items {
@@ -111,13 +102,12 @@ fn queue_one(pair: &mut Pair, item: u32, tries: u32) -> bool
 /// Queues the numbers from a place on. Answers the place that it came to: the end, or that of a number whose queueing was
 /// contended.
 pub(crate) fn queue_rest(pair: &mut Pair, follow: &[u32], from: usize, tries: u32) -> usize
-    requires paired { Paired (pair_owner pair.old) (pair_sender pair.old) }
+    requires legal { IsLegal pair.old.layout pair.old.seen }
     requires runs { IsRunning pair.old.seen }
     requires tries { 0 < tries }
     requires from { from ≤ length follow.now }
     ensures within { result ≤ length follow.now }
-    ensures queued { QueuesRest tries (drop from follow.now) (drop result follow.now) (pair_owner pair.old) (pair_sender pair.old)
-        (pair_owner pair.new) (pair_sender pair.new) }
+    ensures queued { QueuesRest tries (drop from follow.now) (drop result follow.now) pair.old pair.new }
     ensures contended { result < length follow.now → IsContended pair.old.number (slice_index follow.now result) tries pair.new.seen }
 {
     let mut at = from;

@@ -45,7 +45,6 @@ pub struct Worker<W: Work> {
 
 impl<W: Work> Model for Worker<W> {
     ghost use Rattle.std.specs.Prelude.{drop};
-    ghost use Rattle.wq_live.specs.Pairs.{pair_owner, pair_sender};
     ghost use Rattle.wq_worker.specs.State.{WorkerState, AreWorkerParts};
 
     ghost Value = { WorkerState W };
@@ -60,7 +59,7 @@ impl<W: Work> Model for Worker<W> {
       work = w.work;
     } };
 
-    ghost invariant = { λ w. AreWorkerParts (W.log w.work) w.tries w.at w.follow.items (pair_owner w.pair) (pair_sender w.pair) };
+    ghost invariant = { λ w. AreWorkerParts (W.log w.work) w.tries w.at w.follow.items w.pair };
 }
 
 impl<W: Work> Worker<W> {

@@ -1,7 +1,7 @@
-use Rattle.std.proofs.Common.{[], ◌∷◌, refl}
+use Rattle.std.proofs.Common.{[], ◌∷◌}
 use Rattle.wq_words.specs.declared.event.Event.TheVariants.{End}
 use Rattle.wq_worker.proofs.Pair.{by_owner}
 use Rattle.wq_worker.proofs.steps.end_running.Goals as goal
 
 pub returns : goal.returns
-returns c k is = let e = c.end.ensures in by_owner (End k ∷ []) 0 0 _ _ _ _ c.requires.paired (e.seen k is) e.others refl
+returns c k is = let e = c.end.ensures in by_owner (End k ∷ []) 0 0 _ _ (e.seen k is) e.others

@@ -4,7 +4,6 @@ use Rattle.wq_words.specs.declared.event.Event.{Event}
 use Rattle.wq_words.specs.History.{closed}
 use Rattle.wq_words.specs.declared.answer.Answer.{Answer}
 use Rattle.wq_words.specs.declared.answer.Answer.TheVariants as answer
-use Rattle.wq_live.specs.Pairs.{pair_owner, pair_sender}
 use Rattle.wq_worker.specs.Pair.{Attempts, Both, settled}
 use Rattle.wq_worker.proofs.Follow.{told_chain, told_send}
 use Rattle.wq_worker.proofs.steps.queue_one.Goals as goal
@@ -14,17 +13,16 @@ returns-then-is_closed-clause-queued c =
     let e = c.chain.ensures in let a = c.args.pair.now in let b = c.chain.new.self in
     let size : c.layout.result.items ≡ a.layout.items = ap (λ (l : Layout). l.items) c.layout.ensures.layout in
     let low : c.args.item < a.layout.items = omega arith in let shut : closed a.seen ≡ true = sym c.is_closed.ensures.closed ∙ c.if-is_closed.true in
-    told_chain c.args.item c.chain.result (pair_owner a) (pair_sender a) (pair_owner b) (pair_sender b) c.requires.paired low shut e.answer e.others refl
+    told_chain c.args.item c.chain.result a b low shut e.answer e.others
 
 pub returns-clause-queued : goal.returns-clause-queued
 returns-clause-queued c =
     let e = c.queue_tries-answer.ensures in let a = c.args.pair.now in let d = c.queue_tries-answer.new.self in
-    let o = pair_owner a in let s = pair_sender a in let q = pair_owner d in let u = pair_sender d in
     let size : c.layout.result.items ≡ a.layout.items = ap (λ (l : Layout). l.items) c.layout.ensures.layout in
     let low : c.args.item < a.layout.items = omega arith in let opens : closed a.seen ≡ false = sym c.is_closed.ensures.closed ∙ c.if-is_closed.false in
-    subst (λ (b : Bool). (x : List Event) × Attempts s.layout.items s.number (closed o.seen) c.args.item b x × Both x (cond b 0 c.args.tries) o s q u)
+    subst (λ (b : Bool). (x : List Event) × Attempts a.layout.items a.number (closed a.seen) c.args.item b x × Both x (cond b 0 c.args.tries) a d)
     (sym c.is_settled.ensures)
-    (told_send c.args.item c.args.tries c.queue_tries-answer.result o s q u c.requires.paired low opens e.answer e.others refl)
+    (told_send c.args.item c.args.tries c.queue_tries-answer.result a d low opens e.answer e.others)
 
 unsettled : (a : Answer) → settled a ≡ false → a ≡ answer.Contended
 unsettled (answer.Queued first wakes) is = absurd (cc)

@@ -1,7 +1,7 @@
-use Rattle.std.proofs.Common.{ℕ, Bool, true, false, List, slice_get, refl, ap}
+use Rattle.std.proofs.Common.{ℕ, Bool, true, false, List, slice_get, ap}
 use Rattle.wq_live.specs.Known.{Known, Sees}
 use Rattle.wq_live.specs.Rest.{Rests}
-use Rattle.wq_live.specs.Pairs.{pair_owner, pair_sender}
+use Rattle.wq_live.specs.Pairs.{pair_owner}
 use Rattle.wq_live.proofs.Reading.{empty_from_next}
 use Rattle.wq_worker.specs.Resting.{rest_events}
 use Rattle.wq_worker.proofs.Pair.{by_owner}
@@ -17,8 +17,8 @@ rest-requires-clause-empty c = empty_from_next c.args.pair.now.seen c.requires.n
 pub returns-clause-both : goal.returns-clause-both
 returns-clause-both c =
     let a = c.args.pair.now in let b = c.rest.new.self in let e = c.rest.ensures in
-    by_owner (rest_events c.rest.result) 0 0 (pair_owner a) (pair_sender a) (pair_owner b) (pair_sender b) c.requires.paired
-    (seen_of c.rest.result (pair_owner a) (pair_owner b) e.seen) e.others refl
+    by_owner (rest_events c.rest.result) 0 0 a b
+    (seen_of c.rest.result (pair_owner a) (pair_owner b) e.seen) e.others
 
 pub returns-clause-none : goal.returns-clause-none
 returns-clause-none c = let e = c.rest.ensures in (e.idle, ap (λ (ks : List ℕ). slice_get ks 0) e.empty)

@@ -1,5 +1,4 @@
-use Rattle.std.proofs.Common.{refl, sym, ◌∙◌}
-use Rattle.wq_live.specs.Pairs.{pair_owner, pair_sender}
+use Rattle.std.proofs.Common.{sym, ◌∙◌}
 use Rattle.wq_worker.specs.Seats.{taking}
 use Rattle.wq_worker.proofs.Pair.{by_owner}
 use Rattle.wq_worker.proofs.steps.take_next.Goals as goal
@@ -7,7 +6,7 @@ use Rattle.wq_worker.proofs.steps.take_next.Goals as goal
 pub returns-clause-both : goal.returns-clause-both
 returns-clause-both c =
     let e = c.take_where_empty.ensures in let a = c.args.pair.now in let b = c.take_where_empty.new.pair in
-    by_owner (taking a.seen) 0 0 (pair_owner a) (pair_sender a) (pair_owner b) (pair_sender b) c.requires.paired e.seen e.others refl
+    by_owner (taking a.seen) 0 0 a b e.seen e.others
 
 pub returns-clause-nothing : goal.returns-clause-nothing
 returns-clause-nothing c none = c.take_where_empty.ensures.empty (sym c.next.ensures.first ∙ none)

@@ -8,7 +8,7 @@ invariant_of-self g c =
     let left : FnOnceReturnsAtMut {F = g.row.F.Denot} {T = g.row.W.Denot} {R = Unit {0}} g.F.FnOnce c.args.f c.args.self.now.work tt c.f.new.arg2 =
     rw (← c.self.view_is) (search rules) in let fit = c.self.invariant in
     record {
-      paired = fit.paired;
+      legal = fit.legal;
       numbered = fit.numbered;
       some_try = fit.some_try;
       within = fit.within;

@@ -1,9 +1,8 @@
-use Rattle.std.proofs.Common.{[], ◌∷◌, refl, ◌∙◌, subst, drop}
+use Rattle.std.proofs.Common.{[], ◌∷◌, ◌∙◌, subst, drop}
 use Rattle.std.proofs.lemmas.List.{append-nil}
 use Rattle.wq_words.specs.declared.event.Event.TheVariants.{Close}
 use Rattle.wq_words.specs.History.{begun}
-use Rattle.wq_live.specs.Known.{Known}
-use Rattle.wq_live.specs.Pairs.{pair_owner, pair_sender}
+use Rattle.wq_live.specs.Pairs.{KnownPair}
 use Rattle.wq_worker.specs.Pair.{Both}
 use Rattle.wq_worker.specs.State.{WorkerState, Moves}
 use Rattle.wq_worker.proofs.Owned.{owner_of_both}
@@ -14,17 +13,17 @@ use Rattle.wq_worker.proofs.worker.Worker.close.Goals as goal
 
 pub invariant_of-self : goal.invariant_of-self
 invariant_of-self g c =
-    let i = c.self.inside in let e = c.close.ensures in let o : Known = pair_owner i.pair in let s : Known = pair_sender i.pair in
-    let q : Known = pair_owner c.close.new.self in let u : Known = pair_sender c.close.new.self in
-    let b : Both (Close ∷ []) 0 o s q u = by_owner (Close ∷ []) 0 0 o s q u c.self.invariant.paired e.seen e.others refl in
-    let a = owner_of_both s.number (Close ∷ []) 0 o.seen q.seen b.adds in
-    fit_still _ _ _ _ _ _ o s q u c.self.invariant b.paired b.sender b.owner.layout_is (a.begun_is ∙ append-nil (begun o.seen)) c.self.invariant.within
+    let i = c.self.inside in let e = c.close.ensures in let o : KnownPair = i.pair in
+    let q : KnownPair = c.close.new.self in
+    let b : Both (Close ∷ []) 0 o q = by_owner (Close ∷ []) 0 0 o q e.seen e.others in
+    let a = owner_of_both o.number (Close ∷ []) 0 o.seen q.seen b.adds in
+    fit_still _ _ _ _ _ _ o q c.self.invariant b.legal b.number_is b.layout_is (a.begun_is ∙ append-nil (begun o.seen)) c.self.invariant.within
 
 pub returns-clause-events : goal.returns-clause-events
 returns-clause-events g c =
-    let i = c.self.inside in let e = c.close.ensures in let o : Known = pair_owner i.pair in let s : Known = pair_sender i.pair in
-    let q : Known = pair_owner c.close.new.self in let u : Known = pair_sender c.close.new.self in
-    let b : Both (Close ∷ []) 0 o s q u = by_owner (Close ∷ []) 0 0 o s q u c.self.invariant.paired e.seen e.others refl in
-    let w : WorkerState g.row.W.Denot = state_of q u i.tries (drop i.at i.follow.items) i.work in
+    let i = c.self.inside in let e = c.close.ensures in let o : KnownPair = i.pair in
+    let q : KnownPair = c.close.new.self in
+    let b : Both (Close ∷ []) 0 o q = by_owner (Close ∷ []) 0 0 o q e.seen e.others in
+    let w : WorkerState g.row.W.Denot = state_of q i.tries (drop i.at i.follow.items) i.work in
     subst (λ (z : WorkerState g.row.W.Denot). Moves (Close ∷ []) 0 z w) c.self.view_is
-    (moves_by (Close ∷ []) 0 i.tries (drop i.at i.follow.items) (drop i.at i.follow.items) i.work i.work o s q u b)
+    (moves_by (Close ∷ []) 0 i.tries (drop i.at i.follow.items) (drop i.at i.follow.items) i.work i.work o q b)

@@ -3,13 +3,12 @@ use Rattle.wq_words.specs.declared.layout.Layout.{Layout}
 use Rattle.wq_words.specs.declared.event.Event.TheVariants.{End}
 use Rattle.wq_words.specs.Numbers.{number_count}
 use Rattle.wq_words.specs.History.{running}
-use Rattle.wq_live.specs.Pairs.{pair_owner, pair_sender}
 use Rattle.wq_worker.specs.Pair.{Both}
 use Rattle.wq_worker.specs.State.{WorkerState, AreWorkerParts}
 use Rattle.wq_worker.specs.Step.{Owes, Ends, Runs}
 use Rattle.wq_worker.proofs.Running.{number_runs}
 use Rattle.wq_words.proofs.Running.{runs_from_running as runs_some}
-use Rattle.wq_worker.proofs.Follow.{advance_stays, advance_layout, advance_pairs}
+use Rattle.wq_worker.proofs.Follow.{advance_stays, advance_layout, advance_legal}
 use Rattle.wq_worker.proofs.State.{advance_fits, fit_ended}
 use Rattle.wq_worker.proofs.Step.{state_of, advance_owes, advance_ends, runs_kind}
 use Rattle.wq_worker.proofs.worker.Worker.finish.Goals as goal
@@ -19,66 +18,61 @@ runs_at a b r is h = ap (λ (z : WorkerState _). running z.seen) is ∙ h
 
 pub invariant_of-self : goal.invariant_of-self
 invariant_of-self g c = let i = c.self.inside in let adv = rw c.as_slice.ensures.value at c.queue_rest-at.ensures.queued in
-    advance_fits _ i.tries i.at c.queue_rest-at.result i.follow.items _ _ _ _ _ _ c.self.invariant adv (omega arith)
+    advance_fits _ i.tries i.at c.queue_rest-at.result i.follow.items _ _ _ _ c.self.invariant adv (omega arith)
 
 pub returns-then-at-len-clause-runs : goal.returns-then-at-len-clause-runs
 returns-then-at-len-clause-runs g c =
     let i = c.self.inside in let r = c.queue_rest-at.result in let k = c.args.number in
     let adv = rw c.as_slice.ensures.value at c.queue_rest-at.ensures.queued in
-    let low : r < length i.follow.items = omega arith in let fs = i.follow.items in let p = (pair_owner c.queue_rest-at.new.pair) in
-    let t = (pair_sender c.queue_rest-at.new.pair) in
-    let b : WorkerState g.row.W.Denot = state_of p t i.tries (drop r fs) i.work in
-    let a : WorkerState g.row.W.Denot = state_of (pair_owner i.pair) (pair_sender i.pair) i.tries (drop i.at fs) i.work in
+    let low : r < length i.follow.items = omega arith in let fs = i.follow.items in let p = c.queue_rest-at.new.pair in
+    let b : WorkerState g.row.W.Denot = state_of p i.tries (drop r fs) i.work in
+    let a : WorkerState g.row.W.Denot = state_of i.pair i.tries (drop i.at fs) i.work in
     subst (λ (z : WorkerState g.row.W.Denot). Owes g.W.Work.may z k b) c.self.view_is
-    (advance_owes g.W.Work.may k i.tries i.at r fs i.work (pair_owner i.pair) (pair_sender i.pair) p t c.self.invariant.paired
+    (advance_owes g.W.Work.may k i.tries i.at r fs i.work i.pair p
     (runs_at a c.args.self.now (Some k) c.self.view_is c.requires) low adv)
 
-pub end_running-requires-clause-runs : goal.end_running-requires-clause-runs
-end_running-requires-clause-runs g c =
-    let i = c.self.inside in let k = c.args.number in let a : WorkerState g.row.W.Denot = state_of (pair_owner i.pair) (pair_sender i.pair) i.tries
-    (drop i.at i.follow.items) i.work in
-    runs_some (pair_owner c.queue_rest-at.new.pair).seen k ((advance_stays _ _ _ _ _ _ _ c.queue_rest-at.ensures.queued).running_same ∙
-    runs_at a c.args.self.now
-    (Some k) c.self.view_is c.requires)
+pub end_running-requires : goal.end_running-requires
+end_running-requires g c =
+    let i = c.self.inside in let k = c.args.number in
+    let a : WorkerState g.row.W.Denot = state_of i.pair i.tries (drop i.at i.follow.items) i.work in record {
+      runs = runs_some c.queue_rest-at.new.pair.seen k ((advance_stays _ _ _ _ _ c.queue_rest-at.ensures.queued).running_same ∙
+          runs_at a c.args.self.now (Some k) c.self.view_is c.requires);
+    }
 
 pub of-requires : goal.of-requires
 of-requires g c =
-    let i = c.self.inside in let k = c.args.number in let a : WorkerState g.row.W.Denot = state_of (pair_owner i.pair) (pair_sender i.pair) i.tries
+    let i = c.self.inside in let k = c.args.number in let a : WorkerState g.row.W.Denot = state_of i.pair i.tries
     (drop i.at i.follow.items) i.work in
-    let p = (pair_owner c.queue_rest-at.new.pair) in
-    let runs : running p.seen ≡ Some k = (advance_stays _ _ _ _ _ _ _ c.queue_rest-at.ensures.queued).running_same ∙ runs_at a c.args.self.now
+    let p = c.queue_rest-at.new.pair in
+    let runs : running p.seen ≡ Some k = (advance_stays _ _ _ _ _ c.queue_rest-at.ensures.queued).running_same ∙ runs_at a c.args.self.now
     (Some k) c.self.view_is c.requires in
-    let low = number_runs p.layout p.seen k (advance_pairs _ _ _ _ _ _ _ c.queue_rest-at.ensures.queued).legal runs in
-    subst (λ (z : Layout). k < number_count z) (sym (c.layout.ensures.layout ∙ (c.end_running.ensures k runs).owner.layout_is)) low
+    let low = number_runs p.layout p.seen k (advance_legal _ _ _ _ _ c.queue_rest-at.ensures.queued) runs in
+    subst (λ (z : Layout). k < number_count z) (sym (c.layout.ensures.layout ∙ (c.end_running.ensures k runs).layout_is)) low
 
 pub invariant_of-self-2 : goal.invariant_of-self-2
 invariant_of-self-2 g c =
-    let i = c.self.inside in let k = c.args.number in let a : WorkerState g.row.W.Denot = state_of (pair_owner i.pair) (pair_sender i.pair) i.tries
+    let i = c.self.inside in let k = c.args.number in let a : WorkerState g.row.W.Denot = state_of i.pair i.tries
     (drop i.at i.follow.items) i.work in
     let adv = rw c.as_slice.ensures.value at c.queue_rest-at.ensures.queued in
-    let fit : AreWorkerParts (g.W.Work.log i.work) i.tries c.queue_rest-at.result i.follow.items (pair_owner c.queue_rest-at.new.pair)
-    (pair_sender c.queue_rest-at.new.pair) =
-    advance_fits _ i.tries i.at c.queue_rest-at.result i.follow.items _ _ _ _ _ _ c.self.invariant adv
+    let fit : AreWorkerParts (g.W.Work.log i.work) i.tries c.queue_rest-at.result i.follow.items c.queue_rest-at.new.pair =
+    advance_fits _ i.tries i.at c.queue_rest-at.result i.follow.items _ _ _ _ c.self.invariant adv
     (let e = ap (length {A = ℕ}) c.as_slice.ensures.value in omega arith) in
-    let runs : running (pair_owner c.queue_rest-at.new.pair).seen ≡ Some k =
-    (advance_stays _ _ _ _ _ _ _ c.queue_rest-at.ensures.queued).running_same ∙ runs_at a c.args.self.now (Some k) c.self.view_is c.requires in
-    fit_ended k _ _ _ _ _ _ _ _ fit (c.end_running.ensures k runs)
+    let runs : running c.queue_rest-at.new.pair.seen ≡ Some k =
+    (advance_stays _ _ _ _ _ c.queue_rest-at.ensures.queued).running_same ∙ runs_at a c.args.self.now (Some k) c.self.view_is c.requires in
+    fit_ended k _ _ _ _ _ _ fit (c.end_running.ensures k runs)
 
 pub returns-clause-runs : goal.returns-clause-runs
 returns-clause-runs g c =
     let i = c.self.inside in let r = c.queue_rest-at.result in let k = c.args.number in
     let adv = rw c.as_slice.ensures.value at c.queue_rest-at.ensures.queued in
-    let fs = i.follow.items in let p = (pair_owner c.queue_rest-at.new.pair) in let t = (pair_sender c.queue_rest-at.new.pair) in
-    let q = (pair_owner c.end_running.new.pair) in
-    let u = (pair_sender c.end_running.new.pair) in
+    let fs = i.follow.items in let p = c.queue_rest-at.new.pair in
+    let q = c.end_running.new.pair in
     let high : length fs ≤ r = omega arith in
-    let b : WorkerState g.row.W.Denot = state_of q u i.tries (drop r fs) i.work in
-    let a : WorkerState g.row.W.Denot = state_of (pair_owner i.pair) (pair_sender i.pair) i.tries (drop i.at fs) i.work in
-    let runs : running (pair_owner i.pair).seen ≡ Some k = runs_at a c.args.self.now (Some k) c.self.view_is c.requires in
-    let over : Both (End k ∷ []) 0 p t q u = c.end_running.ensures k ((advance_stays _ _ _ _ _ _ _ c.queue_rest-at.ensures.queued).running_same ∙ runs) in
-    let e : Ends g.W.Work.may a k b = advance_ends g.W.Work.may k i.tries i.at r fs i.work (pair_owner i.pair)
-    (pair_sender i.pair) p t q u c.self.invariant.paired runs high
-    adv over in
+    let b : WorkerState g.row.W.Denot = state_of q i.tries (drop r fs) i.work in
+    let a : WorkerState g.row.W.Denot = state_of i.pair i.tries (drop i.at fs) i.work in
+    let runs : running i.pair.seen ≡ Some k = runs_at a c.args.self.now (Some k) c.self.view_is c.requires in
+    let over : Both (End k ∷ []) 0 p q = c.end_running.ensures k ((advance_stays _ _ _ _ _ c.queue_rest-at.ensures.queued).running_same ∙ runs) in
+    let e : Ends g.W.Work.may a k b = advance_ends g.W.Work.may k i.tries i.at r fs i.work i.pair p q runs high adv over in
     subst (λ (z : WorkerState g.row.W.Denot). Runs g.W.Work.may c.of.result z b) c.self.view_is
     (runs_kind g.W.Work.may k c.of.result c.layout.result a b
-    (c.layout.ensures.layout ∙ (over.owner.layout_is ∙ advance_layout _ _ _ _ _ _ _ c.queue_rest-at.ensures.queued)) c.of.ensures e)
+    (c.layout.ensures.layout ∙ (over.layout_is ∙ advance_layout _ _ _ _ _ c.queue_rest-at.ensures.queued)) c.of.ensures e)

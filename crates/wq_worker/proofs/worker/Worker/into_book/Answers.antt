@@ -14,8 +14,8 @@ new-requires-clause-complete g c = subst (λ (k : Known). IsComplete k.seen) (sy
 pub returns-clause-logged : goal.returns-clause-logged
 returns-clause-logged g c =
     let i = c.self.inside in
-    let done : IsComplete (pair_owner i.pair).seen = subst (λ (z : WorkerState g.row.W.Denot). IsComplete z.seen) (sym c.self.view_is) c.requires in
-    let told : g.W.Work.log i.work ≡ items_among (pair_owner i.pair).layout (accepted (pair_owner i.pair).seen) =
-    c.self.invariant.logged ∙ ap (items_among (pair_owner i.pair).layout)
-    (begun-complete (pair_owner i.pair).layout (pair_owner i.pair).seen c.self.invariant.paired.legal done) in
+    let done : IsComplete i.pair.seen = subst (λ (z : WorkerState g.row.W.Denot). IsComplete z.seen) (sym c.self.view_is) c.requires in
+    let told : g.W.Work.log i.work ≡ items_among i.pair.layout (accepted i.pair.seen) =
+    c.self.invariant.logged ∙ ap (items_among i.pair.layout)
+    (begun-complete i.pair.layout i.pair.seen c.self.invariant.legal done) in
     subst (λ (z : WorkerState g.row.W.Denot). g.W.Work.log i.work ≡ items_among z.layout (accepted z.seen)) c.self.view_is told

@@ -5,7 +5,7 @@ use Rattle.wq_worker.proofs.worker.Worker.left.Goals as goal
 
 pub left_of-requires : goal.left_of-requires
 left_of-requires g c = record {
-  legal = c.self.invariant.paired.legal;
+  legal = c.self.invariant.legal;
   shut = subst (λ (z : WorkerState g.row.W.Denot). IsClosed z.seen) (sym c.self.view_is) c.requires;
 }
 

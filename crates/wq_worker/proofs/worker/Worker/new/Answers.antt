@@ -1,4 +1,4 @@
-use Rattle.std.proofs.Common.{ℕ, ◌≡◌, List, [], length, refl, sym, ap, ◌∙◌, subst, arith}
+use Rattle.std.proofs.Common.{ℕ, ◌≡◌, List, [], length, sym, ap, ◌∙◌, subst, arith}
 use Rattle.std.proofs.lemmas.List.{append-nil}
 use Rattle.wq_words.specs.declared.event.Event.{Event}
 use Rattle.wq_words.specs.History.{begun}
@@ -16,7 +16,7 @@ pub invariant_of-result : goal.invariant_of-result
 invariant_of-result g c =
     let e = c.join-pair.ensures in let pair = c.join-pair.result in
     let none : begun pair.seen ≡ [] = none_begun c.args.owner.seen pair.seen _ e.owner.same.number_is e.owner.grows c.requires.unbegun in record {
-      paired = record { queue = refl; layout = refl; seat = refl; seen = refl; legal = e.owner.legal };
+      legal = e.owner.legal;
       numbered = e.low;
       some_try = c.requires.tries;
       within = omega arith;

@@ -1,7 +1,6 @@
 use Rattle.std.proofs.Common.{rules, ◌≡◌, None, MatchOption, refl, subst, drop}
 use Rattle.wq_words.specs.History.{IsRunning, running}
 use Rattle.wq_words.proofs.Running.{rests_from_running as runs_none}
-use Rattle.wq_live.specs.Pairs.{pair_owner, pair_sender}
 use Rattle.wq_worker.specs.Seats.{taking}
 use Rattle.wq_worker.specs.Pair.{Both}
 use Rattle.wq_worker.specs.Resting.{IsReady, IsUnready}
@@ -14,23 +13,23 @@ use Rattle.wq_worker.proofs.worker.Worker.ready.Goals as goal
 
 pub invariant_of-self : goal.invariant_of-self
 invariant_of-self g c =
-    let i = c.self.inside in let o = (pair_owner i.pair) in let p = (pair_owner c.take_next.new.pair) in let t = (pair_sender c.take_next.new.pair) in
-    let b : Both (taking o.seen) 0 o (pair_sender i.pair) p t = c.take_next.ensures.both in
-    let s = stays (taking o.seen) o.seen p.seen (quiet_taking o.seen) (owner_of_both (pair_sender i.pair).number (taking o.seen) 0 o.seen p.seen b.adds) in
-    fit_still (g.W.Work.log i.work) i.tries i.at i.follow.items i.at i.follow.items o (pair_sender i.pair) p t c.self.invariant b.paired b.sender
-    b.owner.layout_is s.begun_same c.self.invariant.within
+    let i = c.self.inside in let o = i.pair in let p = c.take_next.new.pair in
+    let b : Both (taking o.seen) 0 o p = c.take_next.ensures.both in
+    let s = stays (taking o.seen) o.seen p.seen (quiet_taking o.seen) (owner_of_both i.pair.number (taking o.seen) 0 o.seen p.seen b.adds) in
+    fit_still (g.W.Work.log i.work) i.tries i.at i.follow.items i.at i.follow.items o p c.self.invariant b.legal b.number_is
+    b.layout_is s.begun_same c.self.invariant.within
 
 pub returns : goal.returns
 returns g c =
-    let i = c.self.inside in let o = (pair_owner i.pair) in let p = (pair_owner c.take_next.new.pair) in let t = (pair_sender c.take_next.new.pair) in
-    let b : Both (taking o.seen) 0 o (pair_sender i.pair) p t = c.take_next.ensures.both in let left = drop i.at i.follow.items in
-    let s = stays (taking o.seen) o.seen p.seen (quiet_taking o.seen) (owner_of_both (pair_sender i.pair).number (taking o.seen) 0 o.seen p.seen b.adds) in
+    let i = c.self.inside in let o = i.pair in let p = c.take_next.new.pair in
+    let b : Both (taking o.seen) 0 o p = c.take_next.ensures.both in let left = drop i.at i.follow.items in
+    let s = stays (taking o.seen) o.seen p.seen (quiet_taking o.seen) (owner_of_both i.pair.number (taking o.seen) 0 o.seen p.seen b.adds) in
     let none : running o.seen ≡ None = search rules in
     let idle : ¬ IsRunning p.seen = rw (s.begun_same, s.ended_same) (runs_none o.seen none) in
-    let a : WorkerState g.row.W.Denot = state_of o (pair_sender i.pair) i.tries left i.work in
-    let w : WorkerState g.row.W.Denot = state_of p t i.tries left i.work in
+    let a : WorkerState g.row.W.Denot = state_of o i.tries left i.work in
+    let w : WorkerState g.row.W.Denot = state_of p i.tries left i.work in
     record {
       outcome = subst (λ (z : WorkerState g.row.W.Denot). MatchOption c.take_next.result (IsUnready z w) (λ k. IsReady z k w)) c.self.view_is
           (ready_told a w c.take_next.result c.take_next.ensures.next c.take_next.ensures.nothing idle
-          (moves_by (taking o.seen) 0 i.tries left left i.work i.work o (pair_sender i.pair) p t b) (refl, refl));
+          (moves_by (taking o.seen) 0 i.tries left left i.work i.work o p b) (refl, refl));
     }

@@ -1,5 +1,4 @@
 use Rattle.std.proofs.Common.{Bool, true, false, subst, drop, refl}
-use Rattle.wq_live.specs.Pairs.{pair_owner, pair_sender}
 use Rattle.wq_worker.specs.Pair.{Both}
 use Rattle.wq_worker.specs.Resting.{rest_events}
 use Rattle.wq_worker.specs.State.{WorkerState, Moves}
@@ -14,18 +13,18 @@ quiet_rest false = quiet_none
 
 pub invariant_of-self : goal.invariant_of-self
 invariant_of-self g c =
-    let i = c.self.inside in let o = (pair_owner i.pair) in let p = (pair_owner c.rest.new.pair) in let t = (pair_sender c.rest.new.pair) in
+    let i = c.self.inside in let o = i.pair in let p = c.rest.new.pair in
     let xs = rest_events c.rest.result in
-    let b : Both xs 0 o (pair_sender i.pair) p t = c.rest.ensures.both in
-    let s = stays xs o.seen p.seen (quiet_rest c.rest.result) (owner_of_both (pair_sender i.pair).number xs 0 o.seen p.seen b.adds) in
-    fit_still (g.W.Work.log i.work) i.tries i.at i.follow.items i.at i.follow.items o (pair_sender i.pair) p t c.self.invariant b.paired b.sender
-    b.owner.layout_is s.begun_same c.self.invariant.within
+    let b : Both xs 0 o p = c.rest.ensures.both in
+    let s = stays xs o.seen p.seen (quiet_rest c.rest.result) (owner_of_both i.pair.number xs 0 o.seen p.seen b.adds) in
+    fit_still (g.W.Work.log i.work) i.tries i.at i.follow.items i.at i.follow.items o p c.self.invariant b.legal b.number_is
+    b.layout_is s.begun_same c.self.invariant.within
 
 pub returns-clause-events : goal.returns-clause-events
 returns-clause-events g c =
-    let i = c.self.inside in let o = (pair_owner i.pair) in let p = (pair_owner c.rest.new.pair) in let t = (pair_sender c.rest.new.pair) in
+    let i = c.self.inside in let o = i.pair in let p = c.rest.new.pair in
     let xs = rest_events c.rest.result in
     let left = drop i.at i.follow.items in
-    let w : WorkerState g.row.W.Denot = state_of p t i.tries left i.work in
+    let w : WorkerState g.row.W.Denot = state_of p i.tries left i.work in
     subst (λ (z : WorkerState g.row.W.Denot). Moves xs 0 z w) c.self.view_is
-    (moves_by xs 0 i.tries left left i.work i.work o (pair_sender i.pair) p t c.rest.ensures.both)
+    (moves_by xs 0 i.tries left left i.work i.work o p c.rest.ensures.both)
