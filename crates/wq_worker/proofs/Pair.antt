@@ -1,5 +1,5 @@
 -- A pair of which one seat made steps.
-use Rattle.std.proofs.Common.{◌≡◌, ℕ, ◌+◌, List, [], ◌++◌, refl, ◌∙◌, subst}
+use Rattle.std.proofs.Common.{ℕ, ◌+◌, List, [], ◌++◌, refl, ◌∙◌, subst}
 use Rattle.wq_words.specs.declared.event.Event.{Event}
 use Rattle.wq_words.specs.Legal.{IsLegal}
 use Rattle.wq_live.specs.Known.{Sees}
