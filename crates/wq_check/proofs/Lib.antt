@@ -2,7 +2,9 @@ pub mod Times
 pub mod Waits
 pub mod Lists
 pub mod Standing
+pub mod Following
 pub mod Shown
 pub mod Unshown
 pub mod Looking
+pub mod FollowingMarks
 pub mod Counted

@@ -1,30 +1,27 @@
--- How a queue looks tells of each next mark whether it may be shown, and follows it.
-use Rattle.std.proofs.Common.{subst, ◌≡◌, ◌≢◌, ℕ, suc, ◌+◌, ◌-◌, ◌<◌, ◌≤◌, ◌==◌, ◌↔◌, ◌⊎◌, Bool, cond, List, [], ◌∷◌, ◌++◌, length, drop, replicate, get_or, set, slice_get, Some, None, refl, sym, ap, ◌∙◌, arith, inl, inr, length-set, length-append, length-drop}
-use Rattle.std.proofs.lemmas.List.{length-replicate, get_or-set_other, get_or-set_same, drop-append-le, drop-drop}
-use Rattle.std.proofs.lemmas.List.Sums.{count_by-le-length}
+-- How a queue looks tells of each next mark whether it may be shown, and what is left.
+use Rattle.std.proofs.Common.{subst, ◌≡◌, ◌≢◌, ℕ, suc, ◌+◌, ◌-◌, ◌<◌, ◌≤◌, ◌==◌, ◌↔◌, ◌⊎◌, Bool, cond, List, [], ◌∷◌, length, drop, get_or, slice_get, Some, None, refl, sym, ap, ◌∙◌, arith, inl, inr, length-append, length-drop}
+use Rattle.std.proofs.lemmas.List.{drop-drop}
 use Rattle.std.proofs.lemmas.Option.{slice_get_past, slice_get_within, slice_get-get_or}
 use Rattle.std.proofs.lemmas.Bool.{eq-eqb, ne_eqb, cases_eq, cases_lt}
-use Rattle.circular_buffer.specs.Buffer.{keep_last}
 use Rattle.wq_words.specs.declared.layout.Layout.{Layout}
 use Rattle.wq_words.specs.declared.event.Event.{Event}
 use Rattle.wq_words.specs.Numbers.{number_count}
 use Rattle.wq_words.specs.History.{accepted, begun, ended}
-use Rattle.wq_words.proofs.Growing.{growing, slice_get_push, slice_get_last, slice_get_append, take_append, take_length}
+use Rattle.wq_words.proofs.Growing.{slice_get_append}
 use Rattle.wq_words.proofs.Prefixes.{prefix_length, prefix_on}
 use Rattle.std.specs.List.{Contains}
 use mathlib.Core.List.{IsPrefix}
 use Rattle.wq_words.proofs.Order.{in_order}
 use Rattle.wq_check.specs.declared.mark.Mark.{Mark}
 use Rattle.wq_check.specs.declared.mark.Mark.TheVariants.{Queue, Start, End}
-use Rattle.wq_check.specs.Trace.{unreturned, queued, started, returned, unseen, MayShow, number_of, IsLegalTrace, surely_unbegun, unstarted, next_start}
+use Rattle.wq_check.specs.Trace.{unreturned, queued, started, returned, unseen, MayShow, IsLegalTrace, surely_unbegun, unstarted, next_start}
 use Rattle.wq_check.specs.declared.cause.Cause.{Cause}
 use Rattle.wq_check.specs.declared.cause.Cause.TheVariants as cause
 use Rattle.wq_check.specs.MarkCauses.{HasMarkCause}
-use Rattle.wq_check.specs.TraceChecked.{SeenState, seen_state, LooksAfter}
-use Rattle.wq_check.proofs.Times.{Contains_from_times, none_from_times, times, times-append, times-cons}
+use Rattle.wq_check.specs.TraceChecked.{SeenState, LooksAfter}
+use Rattle.wq_check.proofs.Times.{Contains_from_times, none_from_times, times, times-cons}
 use Rattle.wq_check.proofs.Waits.{few_unbegun}
 use Rattle.wq_check.proofs.Lists.{first_left, drop_some}
-use Rattle.wq_check.proofs.Standing.{alike}
 use Rattle.wq_check.proofs.Shown.{trace_history}
 use Rattle.wq_check.proofs.Unshown.{Shown, shown, fewer}
 
@@ -55,19 +52,6 @@ AllowsMark c (Queue k) = (get_or c.times k 0 ≡ 0) ⊎ ((get_or c.times k 0 ≡
 AllowsMark c (Start k) = IsNext c k
 AllowsMark c (End k) = c.running ≡ Some k
 
--- the queue once the mark was shown
-abbrev pub after_mark : SeenState → Mark → SeenState
-after_mark c (Queue k) = record c { times = set c.times k (get_or c.times k 0 + 1); waiting = c.waiting ++ k ∷ [] }
-after_mark c (Start k) = record c { times = set c.times k (get_or c.times k 0 - 1); waiting = drop 1 c.waiting; running = Some k }
-after_mark c (End k) = record c { running = None }
-
-trace_push : (layout : Layout) (t : List Mark) (m : Mark) → IsLegalTrace layout t → (number_of m < layout.items) × MayShow t m → IsLegalTrace layout (t ++ m ∷ [])
-trace_push layout t m legal may place f at =
-    elim (slice_get_push t m f place at) [
-      | inl old ↦ rw (take_append t (m ∷ []) place f old) (legal place f old)
-      | inr new ↦ rw (new.0, take_length t (m ∷ []), ← new.1) may
-    ]
-
 -- how long the three lists are
 pub record Sizes (layout : Layout) (t : List Mark) : Type 0 where
   pub in_turn : length (returned t) ≤ length (started t)
@@ -91,11 +75,13 @@ sizes layout t legal =
       in_turn = ordered t o (omega (arith, all, back, prefix_length (ended has.0) (begun has.0) i.ended_first));
       one = omega (arith, all, back, i.one_at_a_time);
       known = omega (arith, all, known, prefix_length (begun has.0) (accepted has.0) i.begun_first);
-      front = subst (λ xs. IsPrefix (started t) xs) o.queued_is (prefix_on (started t) (begun has.0) (accepted has.0) (o.early, sym o.started_is) i.begun_first);
+      front = subst (λ xs. IsPrefix (started t) xs) o.queued_is
+          (prefix_on (started t) (begun has.0) (accepted has.0) (o.early, sym o.started_is) i.begun_first);
       room = omega (arith, rest, rest', fits, all, known, o.few);
     }
   where
-    ordered : (u : List Mark) {h : List Event} (o : Shown u h) → length (returned u) ≤ length (started u) + length o.early → length (returned u) ≤ length (started u)
+    ordered : (u : List Mark) {h : List Event} (o : Shown u h) → length (returned u) ≤ length (started u) + length o.early
+        → length (returned u) ≤ length (started u)
     ordered u o le = elim (cases_lt (length o.early) 1) [
       | inl less ↦ omega arith
       | inr some ↦ omega (arith, o.idle (omega (arith, some)))
@@ -107,8 +93,13 @@ behind k [] = (λ none. inl none, λ any. refl)
 behind k (x ∷ w) = elim (cases_eq x k) [
   | inl same ↦
       let one : ◌≡◌ {A = ℕ} (cond (x == k) 1 0) 1 = ap (λ (b : Bool). cond b 1 0) (eq-eqb x k same) in
-      let all = times-cons k x w in
-      (λ none. inr (omega (arith, all, one, none), ap Some same), λ any. elim any [ inl zero' ↦ absurd (omega (arith, all, one, zero')) | inr first ↦ omega (arith, all, one, first.0) ])
+      let all = times-cons k x w in (
+        λ none. inr (omega (arith, all, one, none), ap Some same),
+        λ any. elim any [
+          | inl zero' ↦ absurd (omega (arith, all, one, zero'))
+          | inr first ↦ omega (arith, all, one, first.0)
+        ],
+      )
   | inr ne ↦
       let none' : ◌≡◌ {A = ℕ} (cond (x == k) 1 0) 0 = ap (λ (b : Bool). cond b 1 0) (ne_eqb x k ne) in
       let all = times-cons k x w in
@@ -116,7 +107,7 @@ behind k (x ∷ w) = elim (cases_eq x k) [
 ]
 
 module _ (c : SeenState) (t : List Mark) (o : LooksAfter c t) where
-  lengths : Sizes c.layout t
+  pub lengths : Sizes c.layout t
   lengths = sizes c.layout t o.legal
 
   pub idle-rests : (c.running ≡ None) ↔ (length (started t) ≡ length (returned t))
@@ -207,98 +198,3 @@ module _ (c : SeenState) (t : List Mark) (o : LooksAfter c t) where
       let there : slice_get (queued t) (length (returned t)) ≡ Some k =
       ap (λ xs. slice_get xs (length (returned t))) (sym lengths.front.1) ∙ slice_get_append (started t) lengths.front.0 (length (returned t)) k at in
       drop_some (queued t) (length (returned t)) k there ∙ ap (λ xs. k ∷ xs) (ap (λ n. drop n (queued t)) (sym same) ∙ sym o.waiting_is)
-
-  -- how often each stands, once the number k is put behind or the first goes
-  stood : (k : ℕ) → k < c.layout.items → (j : ℕ) → j < c.layout.items → get_or (set c.times k (get_or c.times k 0 + 1)) j 0 ≡ times j (c.waiting ++ k ∷ [])
-  stood k lt j small =
-      let all : times j (c.waiting ++ k ∷ []) ≡ times j c.waiting + cond (k == j) 1 0 = omega (arith, times-append j c.waiting (k ∷ []), times-cons j k []) in
-      elim (cases_eq j k) [
-        | inl same ↦
-            let one : ◌≡◌ {A = ℕ} (cond (k == j) 1 0) 1 = ap (λ (b : Bool). cond b 1 0) (eq-eqb k j (sym same)) in
-            let here : get_or (set c.times k (get_or c.times k 0 + 1)) j 0 ≡ get_or c.times k 0 + 1 =
-            ap (λ i. get_or (set c.times k (get_or c.times k 0 + 1)) i 0) same ∙ get_or-set_same c.times k _ 0 (omega (arith, o.has_times)) in
-            omega (arith, here, all, one, o.times_are k lt, ap (λ i. times i c.waiting) same)
-        | inr ne ↦
-            let none : ◌≡◌ {A = ℕ} (cond (k == j) 1 0) 0 = ap (λ (b : Bool). cond b 1 0) (ne_eqb k j (λ e. ne (sym e))) in
-            omega (arith, get_or-set_other c.times k j (get_or c.times k 0 + 1) 0 ne, all, none, o.times_are j small)
-      ]
-
-  first_counts : (w : List ℕ) (k j : ℕ) → slice_get w 0 ≡ Some k → times j w ≡ cond (k == j) 1 0 + times j (drop 1 w)
-  first_counts [] k j at = absurd cc
-  first_counts (x ∷ w) k j at = let same : x ≡ k = cc (at) in rw (← same) (times-cons j x w)
-
-  went : (k : ℕ) → k < c.layout.items → slice_get c.waiting 0 ≡ Some k
-      → (j : ℕ) → j < c.layout.items → get_or (set c.times k (get_or c.times k 0 - 1)) j 0 ≡ times j (drop 1 c.waiting)
-  went k lt at j small =
-      let all = first_counts c.waiting k j at in
-      elim (cases_eq j k) [
-        | inl same ↦
-            let one : ◌≡◌ {A = ℕ} (cond (k == j) 1 0) 1 = ap (λ (b : Bool). cond b 1 0) (eq-eqb k j (sym same)) in
-            let here : get_or (set c.times k (get_or c.times k 0 - 1)) j 0 ≡ get_or c.times k 0 - 1 =
-            ap (λ i. get_or (set c.times k (get_or c.times k 0 - 1)) i 0) same ∙ get_or-set_same c.times k _ 0 (omega (arith, o.has_times)) in
-            omega (arith, here, all, one, o.times_are k lt, ap (λ i. times i c.waiting) same)
-        | inr ne ↦
-            let none : ◌≡◌ {A = ℕ} (cond (k == j) 1 0) 0 = ap (λ (b : Bool). cond b 1 0) (ne_eqb k j (λ e. ne (sym e))) in
-            omega (arith, get_or-set_other c.times k j (get_or c.times k 0 - 1) 0 ne, all, none, o.times_are j small)
-      ]
-
-  pub stands_first : (k : ℕ) → k < c.layout.items → next_start t ≡ Some k → 1 ≤ get_or c.times k 0
-  stands_first k lt is =
-      let at : slice_get c.waiting 0 ≡ Some k = next_is ∙ is in
-      let one : ◌≡◌ {A = ℕ} (cond (k == k) 1 0) 1 = ap (λ (b : Bool). cond b 1 0) (eq-eqb k k refl) in
-      omega (arith, first_counts c.waiting k k at, one, o.times_are k lt)
-
-  pub mark_kept : (m : Mark) → (number_of m < c.layout.items) × MayShow t m → LooksAfter (after_mark c m) (t ++ m ∷ [])
-  mark_kept (Queue k) may = record {
-    legal = trace_push c.layout t (Queue k) o.legal may;
-    has_times = length-set c.times k _ ∙ o.has_times;
-    times_are = stood k may.0;
-    waiting_is = simp growing (ap (λ w. w ++ k ∷ []) o.waiting_is ∙ sym (drop-append-le (length (started t)) (queued t) (k ∷ []) lengths.known));
-    running_is = simp growing o.running_is;
-  }
-  mark_kept (Start k) may =
-      let rests = may.1.0 in
-      record {
-        legal = trace_push c.layout t (Start k) o.legal may;
-        has_times = length-set c.times k _ ∙ o.has_times;
-        times_are = went k may.0 (next_is ∙ may.1.1);
-        waiting_is = simp growing (ap (drop 1) o.waiting_is ∙ (drop-drop 1 (length (started t)) (queued t)
-            ∙ ap (λ n. drop n (queued t)) (sym (length-append (started t) (k ∷ [])))));
-        running_is = simp growing (sym (ap (slice_get (started t ++ k ∷ [])) (sym rests) ∙ slice_get_last (started t) k []));
-      }
-  mark_kept (End k) may = record {
-    legal = trace_push c.layout t (End k) o.legal may;
-    has_times = o.has_times;
-    times_are = o.times_are;
-    waiting_is = simp growing o.waiting_is;
-    running_is = simp growing (sym (slice_get_past (started t) (length (returned t ++ k ∷ [])) (omega (arith, length-append (returned t) (k ∷ []), lengths.one))));
-  }
-
-  pub room_left : length c.waiting ≤ number_count c.layout + 1
-  room_left = omega (arith, ap length o.waiting_is, lengths.room)
-
-  -- an item waits no more often than there is room
-  pub times_small : (k : ℕ) → k < c.layout.items → get_or c.times k 0 ≤ number_count c.layout + 1
-  times_small k lt = omega (arith, o.times_are k lt, count_by-le-length (λ j. j == k) c.waiting, room_left)
-
--- each mark that may be shown is followed
-module _ (c : SeenState) (n : ℕ) (t : List Mark) (o : LooksAfter c t) (m : Mark) (size : n ≡ number_count c.layout + 1)
-    (may : (number_of m < c.layout.items) × MayShow t m) where
-  pub mark_on : (after_mark c m).layout ≡ c.layout → (n ≡ number_count (after_mark c m).layout + 1) × ((u : List Mark) × LooksAfter (after_mark c m) u)
-  mark_on same = (size ∙ ap (λ l. number_count l + 1) (sym same), (t ++ m ∷ [], mark_kept c t o m may))
-
-  pub finds_place : (j : ℕ) → (after_mark c m).waiting ≡ c.waiting ++ j ∷ [] → (after_mark c m).layout ≡ c.layout
-      → keep_last n (c.waiting ++ j ∷ []) ≡ c.waiting ++ j ∷ []
-  finds_place j grows same =
-      let fits = room_left (after_mark c m) (t ++ m ∷ []) (mark_kept c t o m may) in
-      let none : length (c.waiting ++ j ∷ []) - n ≡ 0 = omega (arith, fits, size, ap length grows, ap number_count same) in
-      ap (λ i. drop i (c.waiting ++ j ∷ [])) none
-
-pub looks_opening : (layout : Layout) → LooksAfter (seen_state layout (replicate layout.items 0) [] None) []
-looks_opening layout = record {
-  legal = λ place m at. absurd cc;
-  has_times = length-replicate _ _;
-  times_are = λ k lt. alike layout.items k 0;
-  waiting_is = refl;
-  running_is = refl;
-}

@@ -56,7 +56,8 @@ module _ (layout : Layout) (h : List Event) (legal : IsLegal layout h) (k : ℕ)
 
 free_hold : (h : List Event) (j : ℕ) → ((s k : ℕ) → ¬ Holds h s k) → (s k : ℕ) → ¬ Holds (h ++ event.Hold 0 j ∷ event.Push 0 j ∷ []) s k
 free_hold h j free s k holds =
-    free s k (omega (arith, holds, count_by-append (starts_hold s k) h (event.Hold 0 j ∷ event.Push 0 j ∷ []), count_by-append (stops_hold s k) h (event.Hold 0 j ∷ event.Push 0 j ∷ [])))
+    let both = event.Hold 0 j ∷ event.Push 0 j ∷ [] in
+    free s k (omega (arith, holds, count_by-append (starts_hold s k) h both, count_by-append (stops_hold s k) h both))
 
 -- what stands first of what is left, and only there
 only_first : (k n : ℕ) (xs : List ℕ) → 1 ≤ times k (drop n xs) → times k (drop (suc n) xs) ≡ 0 → slice_get xs n ≡ Some k
@@ -88,7 +89,8 @@ module _ (layout : Layout) (t : List Mark) (h : List Event) (o : Tells layout t 
   sizes = ap length o.started_is ∙ length-append (started t) o.early
 
   -- the next one begins, and its start was not seen
-  pub unseen_begin : (k : ℕ) → k < layout.items → length (started t) ≡ length (returned t) → length o.early ≡ 0 → slice_get (queued t) (length (started t)) ≡ Some k
+  pub unseen_begin : (k : ℕ) → k < layout.items → length (started t) ≡ length (returned t) → length o.early ≡ 0
+      → slice_get (queued t) (length (started t)) ≡ Some k
       → (o' : Tells layout t (h ++ event.Begin k ∷ [])) × (length o'.early ≡ 1)
   unseen_begin k small rests none at =
       let rest : ¬ IsRunning h = λ runs. absurd (omega (arith, runs, sizes, ap length o.returned_is)) in
@@ -103,7 +105,12 @@ module _ (layout : Layout) (t : List Mark) (h : List Event) (o : Tells layout t 
           started_is = simp growing (ap (λ xs. xs ++ k ∷ []) (o.started_is ∙ nil_end (started t) o.early none));
           few = omega arith;
           idle = λ _. rests;
-          free = λ s j holds. o.free s j (omega (arith, holds, count_by_push (starts_hold s j) h (event.Begin k), count_by_push (stops_hold s j) h (event.Begin k)));
+          free = λ s j holds. o.free s j (omega (
+            arith,
+            holds,
+            count_by_push (starts_hold s j) h (event.Begin k),
+            count_by_push (stops_hold s j) h (event.Begin k),
+          ));
           opens = λ is. o.opens (omega (arith, is, count_by_push is_close h (event.Begin k)));
         },
         refl,
@@ -120,7 +127,8 @@ module _ (layout : Layout) (t : List Mark) (h : List Event) (o : Tells layout t 
       let pushed = legal_push layout (h ++ event.Hold 0 k ∷ []) (event.Push 0 k) held (seat, number, (holds_once layout h o.legal k, unclosed)) in
       record {
         shows = subst (Shows (t ++ Queue k ∷ [])) (append_assoc h (event.Hold 0 k ∷ []) (event.Push 0 k ∷ []))
-            (queues t (h ++ event.Hold 0 k ∷ []) (event.Push 0 k) k (hides t h (event.Hold 0 k) o.shows (record { accepts = refl; begins = refl; ends = refl })) refl);
+            (queues t (h ++ event.Hold 0 k ∷ []) (event.Push 0 k) k
+            (hides t h (event.Hold 0 k) o.shows (record { accepts = refl; begins = refl; ends = refl })) refl);
         legal = subst (IsLegal layout) (append_assoc h (event.Hold 0 k ∷ []) (event.Push 0 k ∷ [])) pushed;
         queued_is = simp growing (ap (λ xs. xs ++ k ∷ []) o.queued_is);
         returned_is = simp growing o.returned_is;
@@ -202,7 +210,8 @@ module _ (layout : Layout) (t : List Mark) (h : List Event) (o : Tells layout t 
 
   -- where as many are passed over as have begun, a number that may be queued does not wait
   waits_none : (k : ℕ) → MayShow t (Queue k) → length (begun h) ≡ length (started t) + unseen t → times k (drop (length (begun h)) (accepted h)) ≡ 0
-  waits_none k may same = ap (λ n. times k (drop n (accepted h))) same ∙ (ap (λ xs. times k (drop (length (started t) + unseen t) xs)) o.queued_is ∙ times_from_none k (surely_unbegun t) may)
+  waits_none k may same =
+      ap (λ n. times k (drop n (accepted h))) same ∙ (ap (λ xs. times k (drop (length (started t) + unseen t) xs)) o.queued_is ∙ times_from_none k (surely_unbegun t) may)
 
   -- a number that seems to wait is the next one, and begins unseen
   queue_next : (k : ℕ) → k < layout.items → MayShow t (Queue k) → 1 ≤ times k (drop (length (begun h)) (accepted h)) → Next layout (t ++ Queue k ∷ [])
@@ -219,7 +228,8 @@ module _ (layout : Layout) (t : List Mark) (h : List Event) (o : Tells layout t 
                   let there : times k (drop (length (started t)) (queued t)) ≡ times k (drop (length (begun h)) (accepted h)) =
                   ap (λ n. times k (drop n (queued t))) (sym place) ∙ ap (λ xs. times k (drop (length (begun h)) xs)) (sym o.queued_is) in
                   let on : length (started t) + unseen t ≡ suc (length (started t)) = omega (arith, same_unseen e) in
-                  let behind : times k (drop (suc (length (started t))) (queued t)) ≡ 0 = ap (λ n. times k (drop n (queued t))) (sym on) ∙ times_from_none k (surely_unbegun t) may in
+                  let behind : times k (drop (suc (length (started t))) (queued t)) ≡ 0 =
+                  ap (λ n. times k (drop n (queued t))) (sym on) ∙ times_from_none k (surely_unbegun t) may in
                   let at = only_first k (length (started t)) (queued t) (omega (arith, some, there)) behind in
                   let more = unseen_begin layout t h o k small e (omega arith) at in
                   let begun' = h ++ event.Begin k ∷ [] in

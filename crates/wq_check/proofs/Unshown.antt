@@ -137,7 +137,8 @@ shown layout _ _ (queues t h e k s is) legal =
     let alone = accepts_alone e k is in
     record {
       queued_is = filter_map_push_some accepted_by h e k is ∙ (ap (λ xs. xs ++ k ∷ []) o.queued_is ∙ sym (filter_map_push_some queued_by t (Queue k) k refl));
-      returned_is = filter_map_push_none ended_by h e alone.1 ∙ (append-nil (ended h) ∙ (o.returned_is ∙ sym (filter_map_push_none returned_by t (Queue k) refl ∙ append-nil (returned t))));
+      returned_is = filter_map_push_none ended_by h e alone.1 ∙ (append-nil (ended h) ∙ (o.returned_is
+          ∙ sym (filter_map_push_none returned_by t (Queue k) refl ∙ append-nil (returned t))));
       early = o.early;
       started_is = filter_map_push_none begun_by h e alone.0 ∙ (append-nil (begun h) ∙ (o.started_is
           ∙ ap (λ xs. xs ++ o.early) (sym (filter_map_push_none started_by t (Queue k) refl ∙ append-nil (started t)))));

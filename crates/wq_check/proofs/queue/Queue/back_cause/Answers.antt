@@ -10,4 +10,8 @@ pub returns-then-not-is_held : goal.returns-then-not-is_held
 returns-then-not-is_held c = λ h o holds. false≢true ((c.if-not-is_held.ensures h o).1 holds)
 
 pub returns-then-not-self : goal.returns-then-not-self
-returns-then-not-self c = λ h o. ((c.if-not-is_held.ensures h o).0 refl, same_true the_type (search rules) _ _ (sym c.if-eq.ensures), (open-open _ h (rw (← c.self.view_is) at o)).0 c.if-not-self.true)
+returns-then-not-self c = λ h o. (
+  (c.if-not-is_held.ensures h o).0 refl,
+  same_true the_type (search rules) _ _ (sym c.if-eq.ensures),
+  (open-open _ h (rw (← c.self.view_is) at o)).0 c.if-not-self.true,
+)

@@ -1,6 +1,6 @@
 use Rattle.std.proofs.Common.{refl, inl, inr}
 use Rattle.wq_words.specs.declared.event.Event.TheVariants.{Hold, Busy, Push, Back, Close, Begin, End, Chain, ChainBusy, Take, Rest}
-use Rattle.wq_check.proofs.Standing.{after_kept, kept_on, finds_room}
+use Rattle.wq_check.proofs.Following.{after_kept, kept_on, finds_room}
 use Rattle.wq_check.proofs.queue.Queue.make.Goals as goal
 
 pub invariant_of-self : goal.invariant_of-self

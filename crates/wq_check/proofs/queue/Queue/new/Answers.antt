@@ -2,7 +2,7 @@ use Rattle.std.proofs.Common.{◌≡◌}
 use Rattle.std.proofs.Common.{rules, replicate, []}
 use Rattle.wq_words.specs.Numbers.{number_count}
 use Rattle.wq_check.specs.declared.queue.Place.TheVariants.{Idle}
-use Rattle.wq_check.proofs.Standing.{told_opening}
+use Rattle.wq_check.proofs.Following.{told_opening}
 use Rattle.wq_check.proofs.queue.Queue.new.Goals as goal
 
 pub invariant_of-result : goal.invariant_of-result

@@ -1,7 +1,7 @@
 use Rattle.std.proofs.Common.{◌≡◌, refl, arith, get_or}
 use Rattle.std.proofs.lemmas.List.{get_or_read}
 use Rattle.wq_check.specs.declared.mark.Mark.TheVariants.{Queue, Start, End}
-use Rattle.wq_check.proofs.Looking.{mark_kept, mark_on, finds_place, stands_first, times_small}
+use Rattle.wq_check.proofs.FollowingMarks.{mark_kept, mark_on, finds_place, stands_first, times_small}
 use Rattle.wq_check.proofs.seen_queue.SeenQueue.make.Goals as goal
 
 pub overflow_add-index_mut : goal.overflow_add-index_mut

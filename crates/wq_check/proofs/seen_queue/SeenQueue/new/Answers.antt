@@ -1,6 +1,6 @@
 use Rattle.std.proofs.Common.{◌≡◌, ap}
 use Rattle.std.proofs.Common.{rules, replicate, [], ◌+◌}
-use Rattle.wq_check.proofs.Looking.{looks_opening}
+use Rattle.wq_check.proofs.FollowingMarks.{looks_opening}
 use Rattle.wq_check.proofs.seen_queue.SeenQueue.new.Goals as goal
 
 pub invariant_of-result : goal.invariant_of-result

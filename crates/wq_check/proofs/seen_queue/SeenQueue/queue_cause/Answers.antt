@@ -15,7 +15,9 @@ returns-then-times-gt1 c = λ t o. queue_twice _ t o c.args.number c.requires
     (λ one. absurd (omega (arith, one, c.times_of-times.ensures, c.if-times-gt1.true)))
 
 pub returns-then-is_next : goal.returns-then-is_next
-returns-then-is_next c = λ t o. queue_next _ t o c.args.number c.requires (one_of _ _ c.times_of-times.ensures c.if-times-eq0.false c.if-times-gt1.false) (c.if-is_next.ensures.0 refl)
+returns-then-is_next c = λ t o.
+    let one = one_of _ _ c.times_of-times.ensures c.if-times-eq0.false c.if-times-gt1.false in
+    queue_next _ t o c.args.number c.requires one (c.if-is_next.ensures.0 refl)
 
 pub returns : goal.returns
 returns c = λ t o. queue_again _ t o c.args.number c.requires
