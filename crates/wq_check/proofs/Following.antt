@@ -1,5 +1,6 @@
 -- How a queue stands once an event came.
-use Rattle.std.proofs.Common.{◌≡◌, ◌≢◌, ℕ, zero, suc, replicate, ◌+◌, ◌-◌, ◌<◌, ◌≤◌, ◌==◌, true, false, List, [], ◌∷◌, ◌++◌, length, drop, get_or, set, slice_get, Some, None, refl, sym, ap, ◌∙◌, arith, inl, inr, length-set, length-append}
+use Rattle.std.proofs.Common.{◌≡◌, ◌≢◌, ℕ, zero, suc, replicate, ◌+◌, ◌-◌, ◌<◌, ◌≤◌, ◌==◌, true, false, List, [], ◌∷◌, ◌++◌, length, drop, get_or, set, slice_get}
+use Rattle.std.proofs.Common.{Some, None, refl, sym, ap, ◌∙◌, arith, inl, inr, length-set, length-append}
 use Rattle.std.proofs.lemmas.List.{length-replicate, get_or-set_other, get_or-set_same, drop-append-le, drop-drop}
 use Rattle.std.proofs.lemmas.List.Sums.{fold_push}
 use Rattle.std.proofs.lemmas.Option.{slice_get_past}
@@ -211,7 +212,8 @@ module _ (c : QueueState) (n : ℕ) (h : List Event) (o : StandsAfter c h) (e : 
   pub kept_on : (after_event c e).layout ≡ c.layout → (n ≡ number_count (after_event c e).layout) × ((g : List Event) × StandsAfter (after_event c e) g)
   kept_on same = (size ∙ ap number_count (sym same), (h ++ e ∷ [], after_kept c h o e a))
 
-  pub finds_room : (j : ℕ) → (after_event c e).waiting ≡ c.waiting ++ j ∷ [] → (after_event c e).layout ≡ c.layout → keep_last n (c.waiting ++ j ∷ []) ≡ c.waiting ++ j ∷ []
+  pub finds_room : (j : ℕ) → (after_event c e).waiting ≡ c.waiting ++ j ∷ [] → (after_event c e).layout ≡ c.layout
+      → keep_last n (c.waiting ++ j ∷ []) ≡ c.waiting ++ j ∷ []
   finds_room j grows same =
       let fits = room c h e j o a grows same in
       let none : length (c.waiting ++ j ∷ []) - n ≡ 0 = omega (arith, fits, size, length-append c.waiting (j ∷ [])) in

@@ -1,5 +1,6 @@
 -- A trace that keeps to its rules shows a legal history.
-use Rattle.std.proofs.Common.{◌≡◌, ◌≢◌, ℕ, zero, suc, ◌+◌, ◌<◌, ◌≤◌, ◌==◌, Bool, true, cond, List, [], ◌∷◌, ◌++◌, length, drop, slice_get, Some, refl, sym, ap, ◌∙◌, arith, inl, inr, subst, append_assoc, length-append, count_by}
+use Rattle.std.proofs.Common.{◌≡◌, ◌≢◌, ℕ, zero, suc, ◌+◌, ◌<◌, ◌≤◌, ◌==◌, Bool, true, cond, List, [], ◌∷◌, ◌++◌, length, drop, slice_get, Some}
+use Rattle.std.proofs.Common.{refl, sym, ap, ◌∙◌, arith, inl, inr, subst, append_assoc, length-append, count_by}
 use Rattle.std.proofs.lemmas.List.{append-nil}
 use Rattle.std.proofs.lemmas.Bool.{eq-eqb, ne_eqb, cases_eq, cases_lt}
 use Rattle.std.proofs.lemmas.Option.{slice_get_within}
@@ -19,7 +20,7 @@ use Rattle.wq_words.proofs.Appended.{count_by-append}
 use Rattle.wq_check.specs.declared.mark.Mark.{Mark}
 use Rattle.wq_check.specs.declared.mark.Mark.TheVariants.{Queue, Start, End}
 use Rattle.wq_check.specs.Trace.{queued, started, returned, unseen, MayShow, number_of, IsLegalTrace, surely_unbegun}
-use Rattle.wq_check.specs.Shows.{Shows, nothing, hides, queues, begins, starts, ends, HasLegalHistory}
+use Rattle.wq_check.specs.Shows.{Shows, nothing, hides, queues, begins, starts, ends, ShowsLegalHistory}
 use Rattle.wq_check.proofs.Waits.{waits_bit}
 use Rattle.wq_check.proofs.Times.{times_from_none, times, times-cons}
 
@@ -211,7 +212,8 @@ module _ (layout : Layout) (t : List Mark) (h : List Event) (o : Tells layout t 
   -- where as many are passed over as have begun, a number that may be queued does not wait
   waits_none : (k : ℕ) → MayShow t (Queue k) → length (begun h) ≡ length (started t) + unseen t → times k (drop (length (begun h)) (accepted h)) ≡ 0
   waits_none k may same =
-      ap (λ n. times k (drop n (accepted h))) same ∙ (ap (λ xs. times k (drop (length (started t) + unseen t) xs)) o.queued_is ∙ times_from_none k (surely_unbegun t) may)
+      ap (λ n. times k (drop n (accepted h))) same ∙
+      (ap (λ xs. times k (drop (length (started t) + unseen t) xs)) o.queued_is ∙ times_from_none k (surely_unbegun t) may)
 
   -- a number that seems to wait is the next one, and begins unseen
   queue_next : (k : ℕ) → k < layout.items → MayShow t (Queue k) → 1 ≤ times k (drop (length (begun h)) (accepted h)) → Next layout (t ++ Queue k ∷ [])
@@ -273,5 +275,5 @@ go layout seen (m ∷ rest) n legal =
     let legal' : IsLegalTrace layout ((seen ++ m ∷ []) ++ rest) = subst (IsLegalTrace layout) (sym (append_assoc seen (m ∷ []) rest)) legal in
     subst (Next layout) (append_assoc seen (m ∷ []) rest) (go layout (seen ++ m ∷ []) rest (mark_more layout seen n.0 n.1 m here.0 here.1) legal')
 
-pub trace_history : (layout : Layout) (t : List Mark) → IsLegalTrace layout t → HasLegalHistory layout t
+pub trace_history : (layout : Layout) (t : List Mark) → IsLegalTrace layout t → ShowsLegalHistory layout t
 trace_history layout t legal = let n = go layout [] t ([], opening layout) legal in (n.0, n.1.legal, n.1.shows)

@@ -18,7 +18,7 @@ use Rattle.wq_words.proofs.Places.{keeper_from_keeps}
 use Rattle.wq_check.specs.declared.mark.Mark.{Mark}
 use Rattle.wq_check.specs.declared.mark.Mark.TheVariants.{Queue, Start, End}
 use Rattle.wq_check.specs.Trace.{queued_by, started_by, returned_by, queued, started, returned, unseen, MayShow, FollowsRules, surely_unbegun}
-use Rattle.wq_check.specs.Shows.{Shows, nothing, hides, queues, begins, starts, ends, HasLegalHistory}
+use Rattle.wq_check.specs.Shows.{Shows, nothing, hides, queues, begins, starts, ends, ShowsLegalHistory}
 use Rattle.wq_check.proofs.Times.{none_from_times, times, times-append}
 use Rattle.wq_check.proofs.Waits.{waits_bit}
 use Rattle.wq_check.proofs.Shown.{nil_end, one_of, zero_or}
@@ -197,5 +197,5 @@ shown layout _ _ (ends t h k s same) legal =
       rules = rules_push t (End k) o.rules (may_end layout t h before o k allowed.2 same);
     }
 
-pub history_rules : (layout : Layout) (t : List Mark) → HasLegalHistory layout t → FollowsRules t
+pub history_rules : (layout : Layout) (t : List Mark) → ShowsLegalHistory layout t → FollowsRules t
 history_rules layout t has = (shown layout t has.0 has.2 has.1).rules

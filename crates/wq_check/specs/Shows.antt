@@ -26,5 +26,5 @@ pub data Shows : List Mark → List Event → Type 0 where
   ends : (t : List Mark) (h : List Event) (k : ℕ) → Shows t h → length (begun h) ≡ length (started t)
       → Shows (t ++ mark.End k ∷ []) (h ++ End k ∷ [])
 
-abbrev pub HasLegalHistory : Layout → List Mark → Type 0
-HasLegalHistory layout t = (h : List Event) × IsLegal layout h × Shows t h
+abbrev pub ShowsLegalHistory : Layout → List Mark → Type 0
+ShowsLegalHistory layout t = (h : List Event) × IsLegal layout h × Shows t h
