@@ -73,18 +73,3 @@ contended_calls k n s t u w held lost gave =
     contended_since s.number k n s.seen t.seen u.seen w.seen held.grows
     (subst (λ (c : ℕ). Grows c [] n t.seen u.seen) one lost.grows)
     (subst (λ (c : ℕ). Grows c (Back c k why.Contended ∷ []) 0 u.seen w.seen) two gave.grows)
-
-more_behind : (v b a new : List Event) (x y : Event) → (v ++ x ∷ (b ++ y ∷ a)) ++ new ≡ v ++ x ∷ (b ++ y ∷ (a ++ new))
-more_behind v b a new x y = simp append_assoc refl
-
--- it stays so where no own event comes
-pub contended_on : (s k n : ℕ) (v w : List Event) → IsContended s k n v → Grows s [] 0 v w → IsContended s k n w
-contended_on s k n v w was g = record {
-  before = was.before;
-  between = was.between;
-  after = was.after ++ g.new;
-  is = g.is ∙ (ap (λ (x : List Event). x ++ g.new) was.is ∙ more_behind was.before was.between was.after g.new (Hold s k) (Back s k why.Contended));
-  none_between = was.none_between;
-  last = own-append s was.after g.new ∙ (λ i. was.last i ++ g.mine i);
-  paid = was.paid;
-}

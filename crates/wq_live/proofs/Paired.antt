@@ -88,7 +88,7 @@ module _ (s : Inside) (q : Standing) (sent : Sent) (pair : IsPair s) (sends : Se
 
   pub owner_looks : (now : KnownPair) → pair_view s ≡ now → Sees [] 0 (pair_owner now) (pair_owner (pair_view then_sender))
   owner_looks now view = meet_owner_sees alone_before (alone_at 0 q) f.machine f.sound saw_first.fits met_owner owns_before (pair_owner now)
-    (ap pair_owner view)
+      (ap pair_owner view)
 
 -- a meeting with another seat, as the second part of a chair sees it
 pub follow_meet : (this that this' that' : Standing) → Meet this that this' that' → Follow 0 this this'

@@ -86,9 +86,6 @@ beside_queue at a b x = ⊎_elim (λ (e : b ≡ a). ap (λ (z : Standing). z.que
 pub alone_follow : (a b : Standing) → Follow 0 a b → a.others ≡ [] → b.others ≡ []
 alone_follow a b f none = f.others_are ∙ ap (all_see f.machine.history) none
 
-pub alone_beside : (a b : Standing) → Beside 0 a b → a.others ≡ [] → b.others ≡ []
-alone_beside a b x none = ⊎_elim (λ (e : b ≡ a). ap (λ (z : Standing). z.others) e ∙ none) (λ (f : Follow 0 a b). alone_follow a b f none) x
-
 pub alone_step : (step : Step) (word : ℕ) (a b : Standing) → Steps 0 step word a b → a.others ≡ [] → b.others ≡ []
 alone_step step word a b steps none = alone_follow a b (follow_step 0 step word a b steps) none
 

@@ -17,7 +17,7 @@ returns-then-not-self-clause-complete c = let s = c.self.inside.seat in (
 pub returns-clause-complete : goal.returns-clause-complete
 returns-clause-complete c = let s = c.self.inside.seat in (
   (λ _. owner_complete s c.args.self.now c.self.view_is c.self.invariant.owns c.if-not-self.false c.if-self-ne0.false
-    (sym c.is_some.ensures ∙ c.if-is_some.false)),
+      (sym c.is_some.ensures ∙ c.if-is_some.false)),
   (λ _. refl),
 )
 

@@ -52,10 +52,10 @@ returns-clause-all c = let e = c.meet_both.ensures.all in let mine = sym (ap (λ
 pub returns-clause-layout : goal.returns-clause-layout
 returns-clause-layout c = let e = c.meet_both.ensures.all in (
   meet_layout (sending 0 c.self.inside.chair c.self.inside.sent) (sending 0 c.other.inside.chair c.other.inside.sent) c.args.self.now c.args.other.now
-    e.machine e.this_fits.fits e.that_fits.fits c.self.view_is c.other.view_is
+      e.machine e.this_fits.fits e.that_fits.fits c.self.view_is c.other.view_is
       c.self.invariant.sends c.other.invariant.sends,
   meet_owner_layout (sending 0 c.self.inside.chair c.self.inside.sent) c.owner.inside.seat c.args.self.now c.args.owner.now e.machine e.this_fits.fits
-    e.third_fits.fits c.self.view_is c.owner.view_is
+      e.third_fits.fits c.self.view_is c.owner.view_is
       c.self.invariant.sends c.owner.invariant.owns,
 )
 
