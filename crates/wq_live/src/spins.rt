@@ -13,19 +13,19 @@ const TIMED: u32 = 512;
 
 const TIMES: u32 = 8;
 
-/// How many `spin_loop`s a seat passes where it gives way to the others. A sender that lost an exchange passes twice as many, then
-/// four times, then eight times as many: the sender that won keeps the line of the head meanwhile and wins again, so that the line
-/// moves once for many pushes. A worker that serves passes them once after a short take, so that the next one finds more. Measured
-/// with three senders of 256 items each, in C: 222 nanoseconds an item where a sender's waits begin with one `spin_loop`, and 112
-/// with these. It is time alone: no clause speaks of it.
+/// How many `spin_loop`s a seat passes where it gives way to the others. A sender that lost an exchange passes twice as many,
+/// then four times, then eight times as many: the sender that won keeps the line of the head meanwhile and wins again, so that
+/// the line moves once for many pushes. A worker that serves passes them once after a short take, so that the next one finds
+/// more. Measured with three senders of 256 items each, in C: 222 nanoseconds an item where a sender's waits begin with one
+/// `spin_loop`, and 112 with these. It is time alone: no clause speaks of it.
 #[derive(Clone, Copy, PartialEq, Eq, Debug)]
 pub struct Spins {
     /// How many.
     pub count: u32,
 }
 
-/// 128 `spin_loop`s, which pass in three quarters of a microsecond where each takes 6 nanoseconds. Some processors take 45 for one:
-/// there, and wherever it is not known, `measured` finds out.
+/// 128 `spin_loop`s, which pass in three quarters of a microsecond where each takes 6 nanoseconds. Some processors take 45 for
+/// one: there, and wherever it is not known, `measured` finds out.
 impl Default for Spins {
     fn default() -> Spins {
         Spins { count: 128 }
@@ -33,8 +33,8 @@ impl Default for Spins {
 }
 
 impl Spins {
-    /// As many `spin_loop`s as pass in three quarters of a microsecond, from 8 to 512. It takes some 30 microseconds to find out,
-    /// once for all seats of a machine. The error is the clock's.
+    /// As many `spin_loop`s as pass in three quarters of a microsecond, from 8 to 512. It takes some 30 microseconds to find
+    /// out, once for all seats of a machine. The error is the clock's.
     pub fn measured(clock: &impl Clock) -> io::Result<Spins>
         ensures bounds { IfOk result (λ p. (8 ≤ p.count) × (p.count ≤ 512)) }
     {

@@ -4,9 +4,9 @@ use crossbeam_utils::sync::Parker;
 use std::sync::Wait;
 use wq_live::Spins;
 
-/// A take of fewer numbers than this is short: the worker is quicker than the senders. Each take moves the line of the head from
-/// a sender to the worker and back, which is most of what a number costs then. So a worker that serves passes a pause after a short
-/// take, and the next one finds more; one item that comes alone waits no longer for it.
+/// A take of fewer numbers than this is short: the worker is quicker than the senders. Each take moves the line of the head
+/// from a sender to the worker and back, which is most of what a number costs then. So a worker that serves passes a pause
+/// after a short take, and the next one finds more; one item that comes alone waits no longer for it.
 pub const SHORT_TAKE: u32 = 128;
 
 /// What a worker that serves knows of its last steps.
@@ -43,8 +43,8 @@ impl Patience {
         self.ended = 0;
     }
 
-    /// Where nothing waits. It snoozes some times before it parks, so that a queue that gets its next number soon pays for no call of
-    /// the system.
+    /// Where nothing waits. It snoozes some times before it parks, so that a queue that gets its next number soon pays for no
+    /// call of the system.
     pub(crate) fn snooze_or_park<R: Wait>(&mut self, rt: &R, parker: &Parker) {
         if self.idle.is_completed() {
             parker.park(rt);
