@@ -40,7 +40,7 @@ module _ (m : Machine) (o : IsSound m) where
         head_is = get_or-set_same m.words head_place word 0 (omega (arith, o.has_words)) ∙ sym now;
         rests = λ on. list;
         items_are = follow_quiet pending_bit 0 (item_place n) n _ m.history e (λ j x. ap pending_bit (takes j x) ∙ taken_bit x)
-          (items_of-head n m.words word m.history b.items_are);
+            (items_of-head n m.words word m.history b.items_are);
         done_is = done_of-head n m.words word ∙ o.done_is ∙ ap (λ z. z % 2 ^ 64) (sym (ended_quiet m.history e no_end));
         chains = rw list (simp (growing, no_accept, no_begin) (rw walked (chains_of-head n m.words word _ _ _ _ _ _ c)));
         linked = linked_quiet n _ m.seats m.history e (λ j s. takes j (Sender s)) (linked_of-head n m.words word m.seats m.history b.linked);

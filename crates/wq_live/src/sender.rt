@@ -16,8 +16,8 @@ ghost use Rattle.wq_live.specs.Laws.{IsStillEnd};
 
 use crate::counts::SenderCounts;
 use crate::owner::Owner;
-use crate::spins::{Spins, Waits};
 use crate::sent::{Sent, attempt, hold_number, push_tries, queue_number};
+use crate::spins::{Spins, Waits};
 use crossbeam_utils::Backoff;
 use std::marker::Model;
 use std::sync::Wait;

@@ -62,8 +62,12 @@ module _ (n m : ℕ) (layout : Layout) (h : List Event) (r : IsShared n m layout
       each (plans low) =
           let w = row_number layout.items t (t * m) m (Push t k) (own t h) (r.queued t low) (has_own (Push t k) h has) in
           ap length (items_among-item layout k (below_items t k low w)) ∙ sym (ap (λ (b : Bool). cond b 1 0) (lt-ltb t n low))
-      each (workers is) = omega (arith, has_counted (is_queued_by t) (Push t k) h (eq-eqb t t refl) has,
-          ap (λ (c : ℕ). count_by (is_queued_by c) h) is, r.unpushed)
+      each (workers is) = omega (
+        arith,
+        has_counted (is_queued_by t) (Push t k) h (eq-eqb t t refl) has,
+        ap (λ (c : ℕ). count_by (is_queued_by c) h) is,
+        r.unpushed,
+      )
       each (programs is) =
           let past : n ≤ t = omega (arith, is) in
           ap length (items_among-other layout k (stop_high k (of_stop (Push t k) is has))) ∙ sym (ap (λ (b : Bool). cond b 1 0) (le-ltb t n past))

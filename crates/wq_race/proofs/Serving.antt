@@ -165,9 +165,11 @@ module _ (may : Idle → ℕ → List ℕ → Idle → Type 0) (asks_nothing : (
   closes_plain a b not idle (closes opens m work left) =
       let o = owner_of_both a.number (Close ∷ []) 0 a.seen b.seen m.adds in
       let begun_is = ap (length {A = ℕ}) (o.begun_is ∙ append-nil (begun a.seen)) in
-      let ended_is = ap (length {A = ℕ}) (o.ended_is ∙ append-nil (ended a.seen)) in
-      (1, moves_plain (Close ∷ []) 1 a b (still_one a.number 1 Close not refl refl refl refl)
-          (λ (runs : IsRunning b.seen). idle (omega (arith, runs, begun_is, ended_is))) m)
+      let ended_is = ap (length {A = ℕ}) (o.ended_is ∙ append-nil (ended a.seen)) in (
+        1,
+        moves_plain (Close ∷ []) 1 a b (still_one a.number 1 Close not refl refl refl refl)
+            (λ (runs : IsRunning b.seen). idle (omega (arith, runs, begun_is, ended_is))) m,
+      )
 
   pub leaves_on : (log : Idle → List ℕ) (limit : ℕ) (a b : WorkerState Idle) (left : ℕ) → a.number ≢ owner_seat → ¬ IsRunning a.seen
       → IsLegal a.layout a.seen → LeavesUnfinished log may limit a b left → HasGoneOn a b

@@ -151,8 +151,11 @@ module _ (layout : Layout) (s t : Seats) (h : List Event) (g : Seated layout s h
       one_acts p x k xs n (with_sender s p k) at sees record {
         count = length-set q p k ∙ g.count;
         senders = λ i d less. elim (cases_eq i p) [
-          | inl is ↦ inr (eq-eqb i p is, subst (λ (v : Known). IsAt g.queue g.wide i k.seen v) (sym (put i d is))
-              (subst (λ (c : ℕ). IsAt g.queue g.wide c k.seen k) (sym is) (acted p x k xs n at sees)))
+          | inl is ↦ inr (
+            eq-eqb i p is,
+            subst (λ (v : Known). IsAt g.queue g.wide i k.seen v) (sym (put i d is))
+                (subst (λ (c : ℕ). IsAt g.queue g.wide c k.seen k) (sym is) (acted p x k xs n at sees)),
+          )
           | inr ne ↦ inl (subst (λ (v : Known). IsAt g.queue g.wide i h v) (sym (get_or-set_other q p i k d ne)) (g.senders i d less))
         ];
         sender = inl g.sender;
@@ -185,20 +188,26 @@ module _ (layout : Layout) (s t : Seats) (h : List Event) (g : Seated layout s h
       let stand : StandAll f w.seen (record { worker = w; delay = s.delay; senders = s.senders }) = record {
         count = g.count;
         senders = λ i d lt. inl (g.senders i d lt);
-        sender = inr (ap (λ (b : Bool). b || (p == owner_seat)) (eq-eqb p p refl), record {
-          queue_is = moves.queue ∙ g.sender.queue_is;
-          layout_is = moves.layout ∙ g.sender.layout_is;
-          number_is = moves.number ∙ g.sender.number_is;
-          begins = prefix_self w.seen;
-          mine = refl;
-        });
-        owner = inr (or_right (owner_seat == p), record {
-          queue_is = moves.queue ∙ g.sender.queue_is;
-          layout_is = moves.layout ∙ g.sender.layout_is;
-          number_is = refl;
-          begins = prefix_self w.seen;
-          mine = refl;
-        });
+        sender = inr (
+          ap (λ (b : Bool). b || (p == owner_seat)) (eq-eqb p p refl),
+          record {
+            queue_is = moves.queue ∙ g.sender.queue_is;
+            layout_is = moves.layout ∙ g.sender.layout_is;
+            number_is = moves.number ∙ g.sender.number_is;
+            begins = prefix_self w.seen;
+            mine = refl;
+          },
+        );
+        owner = inr (
+          or_right (owner_seat == p),
+          record {
+            queue_is = moves.queue ∙ g.sender.queue_is;
+            layout_is = moves.layout ∙ g.sender.layout_is;
+            number_is = refl;
+            begins = prefix_self w.seen;
+            mine = refl;
+          },
+        );
         delay = inl g.delay;
         tries = moves.tries ∙ g.tries;
       } in

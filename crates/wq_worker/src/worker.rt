@@ -370,11 +370,7 @@ impl<W: Work> Worker<W> {
         ensures book { IsBookOf self result.1 }
         ensures logged { W.log result.0 ≡ items_among self.layout (accepted self.seen) }
     {
-        let Worker {
-            pair,
-            work,
-            ..
-        } = self;
+        let Worker { pair, work, .. } = self;
         let (owner, sender) = pair.split();
         (work, Book::new(owner, &sender))
     }

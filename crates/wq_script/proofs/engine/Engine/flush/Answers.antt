@@ -5,8 +5,10 @@ use Rattle.wq_script.proofs.engine.Engine.flush.Goals as goal
 pub answer_text-requires : goal.answer_text-requires
 answer_text-requires c =
     let e = c.args.self.now in let s = c.requires.ready.0 in let m = c.requires.ready.1 in
-    record { alone = λ is. queue_uncontended (barrier_number e.layout c.args.barrier) s.history
-        (sym (c.flush-answer.ensures e.layout s.history m.seated).answer ∙ is) }
+    record {
+      alone = λ is. queue_uncontended (barrier_number e.layout c.args.barrier) s.history
+          (sym (c.flush-answer.ensures e.layout s.history m.seated).answer ∙ is);
+    }
 
 pub returns : goal.returns
 returns c =
