@@ -209,7 +209,7 @@ int main(int argc, char **argv) {
     uint64_t takes = run(&queue, total, senders == 0 ? slice : 0);
     uint64_t ended = queue.ended;
     finish(&queue);
-    uint64_t least = senders == 0 ? ended : UINT64_MAX;
+    uint64_t least = senders == 0 ? 0 : UINT64_MAX;
     for (uint32_t number = 0; number < senders; number++) {
         pthread_join(all[number].thread, NULL);
         least = all[number].queued < least ? all[number].queued : least;
