@@ -52,11 +52,11 @@ wrong-bodies:
 # Times a script of a megabyte, scripts of one command alone, executed items beside the same scheme in C, in one thread and in
 # several, and a pool beside others in C.
 bench: build
-	cd crates/wq_bench && rt run
-	cd crates/wq_pool_bench && rt run
+	cd crates/bench_queue && rt run
+	cd crates/bench_pool && rt run
 	bench/script.sh $(PROGRAM)
 	bench/commands.py $(PROGRAM)
-	bench/items.sh crates/wq_bench/out/wq_bench
-	bench/threads.py crates/wq_bench/out/wq_bench 9
-	bench/pool.py crates/wq_pool_bench/out/wq_pool_bench 9
-	bench/delays.sh crates/wq_bench/out/wq_bench
+	bench/items.sh crates/bench_queue/out/bench_queue
+	bench/threads.py crates/bench_queue/out/bench_queue 9
+	bench/pool.py crates/bench_pool/out/bench_pool 9
+	bench/delays.sh crates/bench_queue/out/bench_queue

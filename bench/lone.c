@@ -1,4 +1,4 @@
-// One thread that sleeps on a futex, and one that wakes it and waits until it has run, to measure `wq_bench lone` beside.
+// One thread that sleeps on a futex, and one that wakes it and waits until it has run, to measure `bench_queue lone` beside.
 // usage: lone ROUNDS MICROS; prints `median M nanos, 95th P nanos`.
 #include <inttypes.h>
 #include <linux/futex.h>

@@ -1,4 +1,4 @@
-// Queues that a user of Rust would take instead, to measure wq_bench beside: items that several threads queue and one executes.
+// Queues that a user of Rust would take instead, to measure bench_queue beside: items that several threads queue and one executes.
 // usage: peers array|channel|mpsc|mutex SENDERS SLICE TOTAL; prints `items N nanos T takes K least L`.
 //
 // Each item has a PENDING byte, which a sender tests and sets before it queues the item's number and the thread that executes

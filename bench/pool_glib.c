@@ -1,4 +1,4 @@
-// Several queues, each a GThreadPool with one exclusive thread, to measure `wq_bench pool` beside.
+// Several queues, each a GThreadPool with one exclusive thread, to measure `bench_queue pool` beside.
 // usage: pool_glib QUEUES WORKERS SENDERS TOTAL, where WORKERS is passed over; prints `items N nanos T picks K strays S`.
 //
 // One thread a queue keeps the items of a queue in order, one at a time. It takes each item by itself, so a pick is an item. As in

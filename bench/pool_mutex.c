@@ -1,4 +1,4 @@
-// Threads that serve several queues, each a mutex and a ring of items, to measure `wq_bench pool` beside.
+// Threads that serve several queues, each a mutex and a ring of items, to measure `bench_queue pool` beside.
 // usage: pool_mutex QUEUES WORKERS SENDERS TOTAL; prints `items N nanos T picks K strays S`.
 //
 // A queue that gets an item and is not under way is announced in a ring of queues, with a mutex and a condition of its own; a

@@ -1,4 +1,4 @@
-// The same scheme in C11, to measure wq_bench beside: items that several threads queue and one thread executes in order.
+// The same scheme in C11, to measure bench_queue beside: items that several threads queue and one thread executes in order.
 // usage: scheme eager|patient SENDERS SLICE TOTAL; prints `items N nanos T takes K least L`,
 // of which the last is how many items the sender queued that queued fewest.
 //

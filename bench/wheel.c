@@ -1,4 +1,4 @@
-// A hashed timing wheel in C11, to measure `wq_bench delays` beside: 256 slots of doubly linked items, and for each item the
+// A hashed timing wheel in C11, to measure `bench_queue delays` beside: 256 slots of doubly linked items, and for each item the
 // PENDING bit that a sender of the queue sets and clears. What is due is linked behind what was due before, as a push does.
 // usage: wheel ITEMS ROUNDS; prints nanoseconds an item.
 #include <inttypes.h>

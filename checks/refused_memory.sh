@@ -1,6 +1,6 @@
 #!/usr/bin/env bash
 # Refuses each allocation of each call that takes memory, one at a time, and compares what came of it with refused_memory.report.
-# A case of wq_refused makes one call in such a way that its Nth allocation is the program's hundredth, and tells whether that one
+# A case of test_memory makes one call in such a way that its Nth allocation is the program's hundredth, and tells whether that one
 # was refused in the call. So one build serves all cases: for each call those up to the one after its last allocation.
 # With the word --all the report is made anew, from 60 cases for each call.
 set -euo pipefail
@@ -15,7 +15,7 @@ while read -r call _ count _; do
         echo "$call $place" >"$folder/cases/$call.$place"
     done
 done <"$report"
-(cd ../crates/wq_refused && rt try --cases "$folder/cases" --fail-alloc 100) >"$folder/said" 2>&1 || true
+(cd ../crates/test_memory && rt try --cases "$folder/cases" --fail-alloc 100) >"$folder/said" 2>&1 || true
 
 # For each call how many of its allocations were refused, and what it then answered: `again` is want of memory and then the right
 # answer, by what was left or came back; `right` that a row which was refused more room than it wants went on.

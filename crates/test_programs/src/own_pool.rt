@@ -1,6 +1,6 @@
 //! The example of a user's own pool.
+use example_pool::{Ended, run};
 use std::test::Fail;
-use two_queues::{Ended, run};
 use wq_words::Layout;
 
 const RUNS: u32 = 20;

@@ -1,5 +1,5 @@
 //! That a race runs: what its threads do beside what the contracts say.
-ghost use Rattle.wq_race.specs.Team.{IsNewTeam};
+ghost use Rattle.wq_plan.specs.Team.{IsNewTeam};
 
 use crate::expect::expect_same;
 use crossbeam_utils::sync::Parker;
@@ -10,8 +10,8 @@ use std::test::Fail;
 use std::thread::{Scope, Threads, scope, scope_env, yield_now};
 use std::time::{Duration, Instant};
 use wq_live::Sender;
-use wq_pool_race::{Raced, run_teams};
-use wq_race::{Plan, Serving, Team, queue_all, queue_item, run_team, stop};
+use wq_plan::{Plan, Serving, Team, queue_all, queue_item, run_team, stop};
+use wq_pool_plan::{Raced, run_teams};
 
 /// How often it is looked whether the worker has begun an item.
 const LOOKS: u32 = 1_000_000;

@@ -5,7 +5,7 @@ use crate::expect::expect_same;
 use std::alloc::{AllocError, Global};
 use std::process::Abort;
 use std::test::Fail;
-use wq_mains::script_main;
+use wq_commands::script_main;
 
 /// Where the random texts come from. A text that fails is made again from this and its number.
 const SEED: u64 = 0x5eed_0f00_dead_beef;

@@ -1,12 +1,12 @@
 //! The examples of a user's own threads and of a worker.
 use crate::expect::expect_same;
 use crate::latch::Latch;
+use example_threads::{queue_and_destroy, run};
 use std::alloc::Global;
 use std::process::Abort;
 use std::sync::Wait;
 use std::test::Fail;
 use std::thread::{Threads, join};
-use three_senders::{queue_and_destroy, run};
 use wq_words::Layout;
 
 /// So often the example is run.

@@ -8,9 +8,9 @@ pub use Rattle.atomic_table.specs.Table.{step, Allows, rest, State, keeps, takes
 pub use Rattle.wq_words.specs.Legal.{IsComplete, IsLegal}
 pub use Rattle.wq_ready.specs.Known.{CallerState, IsCallerOf}
 pub use Rattle.wq_worker.specs.State.{WorkerState}
-pub use Rattle.wq_served.specs.declared.worker_id.WorkerId.{WorkerId}
-pub use Rattle.wq_served.specs.Drained.{IsDrained}
-pub use Rattle.wq_served.specs.WorkerId.{worker_id}
+pub use Rattle.wq_turn.specs.declared.worker_id.WorkerId.{WorkerId}
+pub use Rattle.wq_turn.specs.Drained.{IsDrained}
+pub use Rattle.wq_turn.specs.WorkerId.{worker_id}
 pub use Rattle.wq_pool.specs.Known.{SlotsState, TurnState, turn_id, PoolState, IsSameTurn}
 pub use Rattle.wq_pool.specs.Finish.{AreFirst, AreComplete, LeavesOf, FirstLeft}
 pub use Rattle.wq_pool.specs.Finished.{AreFinished, RanToEnd}

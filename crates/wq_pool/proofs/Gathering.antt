@@ -1,8 +1,8 @@
 -- One queue more in hand, and one more taken apart.
 use Rattle.wq_words.proofs.Growing.{take_more_some}
 use Rattle.wq_ledger.specs.Book.{BookState}
-use Rattle.wq_served.specs.Finished.{IsFinished}
-use Rattle.wq_served.proofs.Draining.{left_complete}
+use Rattle.wq_turn.specs.Finished.{IsFinished}
+use Rattle.wq_turn.proofs.Draining.{left_complete}
 use Rattle.wq_pool.proofs.Common.{◌≡◌, ℕ, zero, suc, ◌+◌, ◌<◌, List, [], ◌∷◌, ◌++◌, map, length, take, slice_index_or, Some, None, All, Option, sym, refl, ap}
 use Rattle.wq_pool.proofs.Common.{◌∙◌, subst, arith, length-append, map-append, All-push, IsComplete, WorkerId, IsDrained, SlotsState, TurnState, turn_id}
 use Rattle.wq_pool.proofs.Common.{AreFirst, AreComplete, LeavesOf, FirstLeft, AreFinished, RanToEnd, IsWorkerAt}

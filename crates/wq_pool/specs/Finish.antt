@@ -4,10 +4,10 @@ use Rattle.wq_words.specs.Legal.{IsComplete}
 use Rattle.wq_worker.specs.State.{WorkerState}
 use Rattle.wq_pool.specs.declared.finish.PoolFault.{PoolFault}
 use Rattle.wq_pool.specs.declared.finish.PoolFault.TheVariants.{Out, Unfinished, Memory}
-use Rattle.wq_served.specs.declared.worker_id.WorkerId.{WorkerId}
+use Rattle.wq_turn.specs.declared.worker_id.WorkerId.{WorkerId}
 use Rattle.wq_pool.specs.Known.{SlotsState, PoolState, TurnState, turn_id}
 use Rattle.wq_pool.specs.Slots.{IsWorkerAt}
-use Rattle.wq_served.specs.Drained.{IsDrained}
+use Rattle.wq_turn.specs.Drained.{IsDrained}
 
 -- the first queues of these slots, in hand
 pub record AreFirst {W : Type 0} (slots : SlotsState) (turns : List (TurnState W)) : Type 0 where

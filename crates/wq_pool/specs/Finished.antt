@@ -4,8 +4,8 @@ use Rattle.wq_words.specs.History.{accepted}
 use Rattle.wq_words.specs.Legal.{IsLegal, IsComplete}
 use Rattle.wq_ledger.specs.Book.{BookState}
 use Rattle.wq_worker.specs.State.{items_among}
-use Rattle.wq_served.specs.declared.worker_id.WorkerId.{WorkerId}
-use Rattle.wq_served.specs.Finished.{IsFinished}
+use Rattle.wq_turn.specs.declared.worker_id.WorkerId.{WorkerId}
+use Rattle.wq_turn.specs.Finished.{IsFinished}
 
 -- one for each worker, in their order
 abbrev pub AreFinished : {W : Type 0} → (W → List ℕ) → List WorkerId → List (W × BookState) → Type 0

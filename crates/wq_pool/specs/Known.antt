@@ -3,8 +3,8 @@ use Rattle.std.specs.Prelude.{◌≡◌, ℕ, List}
 use Rattle.atomic_table.specs.Seated.{TableId}
 use Rattle.wq_ready.specs.Known.{Identity}
 use Rattle.wq_worker.specs.State.{WorkerState}
-use Rattle.wq_served.specs.declared.worker_id.WorkerId.{WorkerId}
-use Rattle.wq_served.specs.WorkerId.{worker_id}
+use Rattle.wq_turn.specs.declared.worker_id.WorkerId.{WorkerId}
+use Rattle.wq_turn.specs.WorkerId.{worker_id}
 
 -- which slots they are, and which workers were handed in, by place
 pub record SlotsState : Type 0 where

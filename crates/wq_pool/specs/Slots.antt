@@ -5,8 +5,8 @@ use lib.ListN.{get_elem?}
 use Rattle.atomic_table.specs.Table.{State, Me, Step}
 use Rattle.wq_worker.specs.State.{WorkerState}
 use Rattle.wq_pool.specs.declared.slots.Hand.{Hand}
-use Rattle.wq_served.specs.declared.worker_id.WorkerId.{WorkerId}
-use Rattle.wq_served.specs.WorkerId.{worker_id}
+use Rattle.wq_turn.specs.declared.worker_id.WorkerId.{WorkerId}
+use Rattle.wq_turn.specs.WorkerId.{worker_id}
 
 abbrev pub empty_hand : List WorkerId → Hand
 empty_hand workers = record { queue = None; workers = workers }

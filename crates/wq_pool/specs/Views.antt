@@ -5,7 +5,7 @@ use Rattle.wq_worker.specs.State.{WorkerState}
 use Rattle.wq_pool.specs.declared.slots.Slots.TheInside as slots
 use Rattle.wq_pool.specs.declared.turn.Turn.TheInside as turn
 use Rattle.wq_pool.specs.declared.turn.Worked.TheInside as worked
-use Rattle.wq_served.specs.WorkerId.{worker_id}
+use Rattle.wq_turn.specs.WorkerId.{worker_id}
 use Rattle.wq_pool.specs.Known.{SlotsState, TurnState}
 use Rattle.wq_pool.specs.Slots.{SlotSat, hand_with, IsWorkerAt}
 

@@ -11,4 +11,4 @@ pub use finish::PoolFault;
 pub use pool::{Pool, PoolError};
 pub use turn::{Turn, Worked};
 pub use wq_ready::{AnnounceError, Caller};
-pub use wq_served::{Gate, Served};
+pub use wq_turn::{Gate, Served};

@@ -7,7 +7,7 @@ ghost use Rattle.wq_ready.specs.Known.{IsCallerOf, new_callers};
 ghost use Rattle.wq_pool.specs.declared.pool.PoolError.TheVariants as pool_error;
 ghost use Rattle.wq_pool.specs.Known.{queue_in_turn};
 ghost use Rattle.wq_pool.specs.Pool.{IsTurnOf, IsNoPool, GoesOnFrom, says_wakes};
-ghost use Rattle.wq_served.specs.WorkerId.{worker_id};
+ghost use Rattle.wq_turn.specs.WorkerId.{worker_id};
 
 use crate::slots::Slots;
 use crate::turn::{Turn, Worked};
@@ -19,7 +19,7 @@ use std::sync::atomic::Ordering::SeqCst;
 use std::thread;
 use thiserror::Error;
 use wq_ready::{AnnounceError, Caller, ReadyQueue, Size};
-use wq_served::Served;
+use wq_turn::Served;
 use wq_words::Answer;
 use wq_worker::Work;
 

@@ -10,7 +10,7 @@ use std::sync::Wait;
 use std::thread;
 use std::thread::Threads;
 use wq_ready::Caller;
-use wq_served::Gate;
+use wq_turn::Gate;
 use wq_worker::Work;
 
 // The share of a queue: after so many executions those that wait go first.

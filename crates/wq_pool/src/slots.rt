@@ -1,7 +1,7 @@
 //! The queues of a pool in slots: each is in its slot, or in the hand of the one that picked it up.
 ghost use Rattle.std.specs.Prelude.{◌≡◌, ◌<◌, ◌^◌, Some, map, length, slice_get, IfOk, IfSome};
 ghost use Rattle.wq_words.specs.History.{IsRunning};
-ghost use Rattle.wq_served.specs.WorkerId.{worker_id};
+ghost use Rattle.wq_turn.specs.WorkerId.{worker_id};
 
 use crate::turn::{Turn, Worked};
 use atomic_table::{Play, Seat, Table, TableRule};
@@ -9,7 +9,7 @@ use std::alloc::{AllocError, Global};
 use std::marker::Model;
 use std::snapshot::Snapshot;
 use trail::GhostList;
-use wq_served::{Runner, Served, WorkerId};
+use wq_turn::{Runner, Served, WorkerId};
 use wq_worker::Work;
 
 /// What a seat knows: the queue that it has in hand, and which workers were handed in. No value of it is made.
@@ -26,7 +26,7 @@ pub struct Law;
 
 impl<W: Work> TableRule<Option<Served<W>>, Hand, Handed<W>> for Law {
     ghost use Rattle.std.specs.Prelude.{map};
-    ghost use Rattle.wq_served.specs.WorkerId.{worker_id};
+    ghost use Rattle.wq_turn.specs.WorkerId.{worker_id};
     ghost use Rattle.wq_pool.specs.Slots.{KeptSlots, empty_hand};
 
     ghost holds = { λ handed state. KeptSlots (map worker_id handed.value.items) state };

@@ -5,14 +5,14 @@ ghost use Rattle.wq_words.specs.Legal.{IsLegal, IsComplete};
 ghost use Rattle.wq_words.specs.Headline.{KeepsHeadline};
 ghost use Rattle.wq_worker.specs.State.{items_among};
 ghost use Rattle.wq_pool.specs.Known.{IsSameTurn, turn_id};
-ghost use Rattle.wq_served.specs.Drained.{IsDrained};
-ghost use Rattle.wq_served.specs.Finished.{IsFinished};
-ghost use Rattle.wq_served.specs.Owed.{IsOwed};
-ghost use Rattle.wq_served.specs.Steps.{Finishes, Pauses, EndsWithin};
+ghost use Rattle.wq_turn.specs.Drained.{IsDrained};
+ghost use Rattle.wq_turn.specs.Finished.{IsFinished};
+ghost use Rattle.wq_turn.specs.Owed.{IsOwed};
+ghost use Rattle.wq_turn.specs.Steps.{Finishes, Pauses, EndsWithin};
 
 use crate::slots::SlotSeat;
 use std::marker::Model;
-use wq_served::{Gate, Runner, Served};
+use wq_turn::{Gate, Runner, Served};
 use wq_worker::{Book, Work};
 
 /// A queue that was picked, to be worked at. One that is dropped leaves its queue out of the pool for good.

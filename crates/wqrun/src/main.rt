@@ -10,7 +10,7 @@ use std::process::ExitCode;
 use std::sync::Wait;
 use std::thread::Threads;
 use wq_command_line::{Answer, Kind, Source, task_of};
-use wq_mains::{Failure, end, live_main, script_main, steps_main};
+use wq_commands::{Failure, end, live_main, script_main, steps_main};
 
 // The words of the command line, the program's own name first.
 fn command_words<R: Env + Alloc<A = Global>>(rt: &R) -> io::Result<Vec<String>> {

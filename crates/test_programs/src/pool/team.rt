@@ -1,7 +1,7 @@
 //! Queues for a pool, and the callers of it.
 ghost use Rattle.std.specs.Prelude.{◌≡◌, [], All, map};
 ghost use Rattle.wq_ready.specs.Known.{IsCallerOf};
-ghost use Rattle.wq_served.specs.WorkerId.{worker_id};
+ghost use Rattle.wq_turn.specs.WorkerId.{worker_id};
 
 use arrayvec::ArrayVec;
 use std::alloc::Global;

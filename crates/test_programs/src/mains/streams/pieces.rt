@@ -6,7 +6,7 @@ use std::io::{Error, ErrorKind, Read, Result, Write};
 use std::process::Abort;
 use std::sync::Wait;
 use std::thread::Threads;
-use wq_mains::script_main;
+use wq_commands::script_main;
 
 /// Gives a text one byte a call.
 #[derive(Drop)]

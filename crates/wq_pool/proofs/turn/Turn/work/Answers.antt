@@ -1,5 +1,5 @@
-use Rattle.wq_served.specs.Steps.{Finishes, Pauses, EndsWithin}
-use Rattle.wq_served.proofs.Steps.{works_finishes, works_pauses, works_ended, works_id}
+use Rattle.wq_turn.specs.Steps.{Finishes, Pauses, EndsWithin}
+use Rattle.wq_turn.proofs.Steps.{works_finishes, works_pauses, works_ended, works_id}
 use Rattle.wq_pool.proofs.Common.{Some, sym, refl, ap, ◌∙◌, subst, WorkerState, worker_id, TurnState, IsSameTurn}
 use Rattle.wq_pool.proofs.turn.Turn.work.Goals as goal
 

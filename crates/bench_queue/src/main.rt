@@ -1,0 +1,123 @@
+//! Measures executed items. `bench_queue SENDERS SLICE TOTAL` starts that many senders in threads of their own, each of which
+//! queues a slice of items again and again, and executes so many items in this thread; it prints `items N nanos T takes K least
+//! L`: how many takes found something, and how many items the sender queued that queued fewest. With 0 senders this thread
+//! queues a slice and executes it in turn. After a short take the owner passes some time, as `Worker::serve` does, and after
+//! the word `eager` it does not.
+//!
+//! `bench_queue serve SENDERS SLICE TOTAL` measures a worker that serves, and prints `unparks U` besides; after the word `resting`
+//! the worker rests before it parks, and its senders wake it on `wakes` alone. `bench_queue lone ROUNDS
+//! MICROS` queues one item to such a worker so many microseconds after the last one ran, and prints the median and the 95th
+//! percentile of the time until it ran. `bench_queue delays ITEMS ROUNDS` measures a delay table; it prints what an arming, a move, a
+//! cancel and letting go took an item.
+//!
+//! Without words it prints `items N` for a small load, which depends on no clock.
+#![tactic(auto)]
+
+mod delays;
+mod host;
+mod lone;
+mod owner;
+mod pace;
+mod plan;
+mod posts;
+mod refusal;
+mod runs;
+mod serve;
+
+use host::Host;
+use pace::Pace;
+use plan::{Load, Plan};
+use refusal::Refusal;
+use std::io;
+use std::process::ExitCode;
+use std::time::{Duration, Instant};
+use wq_live::Spins;
+
+/// Prints what depends on no clock.
+fn show_small<R: Host>(rt: &R) -> Result<(), Refusal> {
+    let items = owner::run(rt, Load::small())?.items;
+    println!(rt; "items {items}")?;
+    Ok(())
+}
+
+fn show_owner<R: Host>(rt: &R, mut load: Load) -> Result<(), Refusal> {
+    load.spins = Spins::measured(rt)?;
+    let start = Instant::now(rt)?;
+    let counts = owner::run(rt, load)?;
+    let nanos = start.elapsed(rt)?.as_nanos();
+    println!(rt;
+        "items {} nanos {nanos} takes {} least {}",
+        counts.items, counts.takes, counts.least
+    )?;
+    Ok(())
+}
+
+/// The same of a worker that serves. Each take that finds something begins with a push onto an empty list, so there were as many.
+fn show_serve<R: Host>(rt: &R, mut load: Load) -> Result<(), Refusal> {
+    load.spins = Spins::measured(rt)?;
+    let start = Instant::now(rt)?;
+    let (items, calls) = serve::run(rt, load)?;
+    let nanos = start.elapsed(rt)?.as_nanos();
+    println!(rt;
+        "items {items} nanos {nanos} takes {} least {} unparks {}",
+        calls.firsts, calls.least, calls.unparks
+    )?;
+    Ok(())
+}
+
+/// The time at a place in percent among times from the least on.
+fn at_percent(times: &[u128], percent: usize) -> u128 {
+    let place = times.len().saturating_mul(percent) / 100;
+    times.get(place).copied().unwrap_or(0)
+}
+
+fn show_lone<R: Host>(rt: &R, rounds: u32, micros: u32, pace: Pace) -> Result<(), Refusal> {
+    let times = lone::measure(rt, rounds, Duration::from_micros(u64::from(micros)), pace)?;
+    let median = at_percent(times.as_slice(), 50);
+    let most = at_percent(times.as_slice(), 95);
+    println!(rt; "median {median} nanos, 95th {most} nanos")?;
+    Ok(())
+}
+
+/// Prints how many nanoseconds each call of a delay table took an item.
+fn show_delays<R: Host>(rt: &R, items: u32, rounds: u32) -> Result<(), Refusal> {
+    let times = delays::measure(rt, items, rounds)?;
+    let count = u128::from(items).saturating_mul(u128::from(rounds)).max(1);
+    let an_item = |time: Duration| time.as_nanos().checked_div(count).unwrap_or(0);
+    println!(rt; "arm {} nanos", an_item(times.arm))?;
+    println!(rt; "move {} nanos", an_item(times.replace))?;
+    println!(rt; "cancel {} nanos", an_item(times.cancel))?;
+    println!(rt; "let go {} nanos", an_item(times.let_go))?;
+    Ok(())
+}
+
+fn measure<R: Host>(rt: &R, plan: Plan) -> Result<(), Refusal> {
+    match plan {
+        Plan::Small => show_small(rt),
+        Plan::Owner(load) => show_owner(rt, load),
+        Plan::Serve(load) => show_serve(rt, load),
+        Plan::Lone(rounds, micros, pace) => show_lone(rt, rounds, micros, pace),
+        Plan::Delays(items, rounds) => show_delays(rt, items, rounds),
+    }
+}
+
+/// Measures what the words ask for, at the pace that the first one names.
+fn obey<R: Host>(rt: &R, words: &[String]) -> Result<(), Refusal> {
+    let plan = match words {
+        [word, rest @ ..] if word.as_str() == "eager" => Plan::read(rest, Pace::Eager)?,
+        [word, rest @ ..] if word.as_str() == "resting" => Plan::read(rest, Pace::Resting)?,
+        _ => Plan::read(words, Pace::Patient)?,
+    };
+    measure(rt, plan)
+}
+
+fn main(rt: HostRuntime) -> io::Result<ExitCode> {
+    let words: Vec<String> = std::env::args(&rt)?.collect(rt.alloc())?;
+    match obey(&rt, words.get(1..).unwrap_or(&[])) {
+        Ok(()) => Ok(ExitCode::SUCCESS),
+        Err(refusal) => {
+            eprintln!(rt; "{refusal}")?;
+            Ok(ExitCode::from(refusal.status()))
+        }
+    }
+}

@@ -1,0 +1,48 @@
+-- What the senders of a queue were told, and what the queue has done in the end.
+use Rattle.std.specs.Prelude.{◌≡◌, ℕ, ◌≤◌, List, ◌++◌}
+use Rattle.wq_words.specs.declared.layout.Layout.{Layout}
+use Rattle.wq_words.specs.declared.event.Event.{Event}
+use Rattle.wq_words.specs.History.{accepted, begun, ended}
+use Rattle.wq_words.specs.Legal.{IsLegal, IsComplete}
+use Rattle.wq_words.specs.Headline.{KeepsHeadline}
+use Rattle.wq_words.specs.Seen.{own}
+use Rattle.wq_live.specs.Known.{QueueId, IsSame, new_sender}
+use Rattle.wq_live.specs.Laws.{queued_number}
+use Rattle.wq_ready.specs.Known.{Identity, IsCallerOf}
+use Rattle.wq_worker.specs.State.{items_among}
+use Rattle.example_pool.specs.declared.queueing.Seat.{Seat}
+use Rattle.example_pool.specs.declared.queueing.Line.{Line}
+use Rattle.example_pool.specs.declared.queueing.Told.{Told}
+use Rattle.example_pool.specs.declared.pool.Ended.{Ended}
+
+-- the new senders 0 and 1 of one queue, which has four items, with callers of this ready queue
+pub record IsNewLine (ready : Identity) (line : Line) : Type 0 where
+  pub items : 4 ≤ line.first.sender.layout.items
+  pub first_is : line.first.sender ≡ new_sender line.first.sender.queue line.first.sender.layout 0
+  pub second_is : line.second.sender ≡ new_sender line.first.sender.queue line.first.sender.layout 1
+  pub callers : IsCallerOf ready line.first.caller × IsCallerOf ready line.second.caller
+
+-- the same sender has queued these items: just those of them were accepted whose queueing was answered Queued, in this order
+pub record QueuedBoth (one two : ℕ) (seat : Seat) (told : Told) : Type 0 where
+  pub same : IsSame seat.sender told.sender
+  pub accepted_is : accepted (own seat.sender.number told.sender.seen) ≡ queued_number one told.one ++ queued_number two told.two
+
+-- the senders 0 and 1 of this queue have queued their items
+pub record HaveQueued (queue : QueueId) (first second : Told) : Type 0 where
+  pub one_queue : (first.sender.queue ≡ queue) × (second.sender.queue ≡ queue)
+  pub numbers : (first.sender.number ≡ 0) × (second.sender.number ≡ 1)
+  pub of_first : accepted (own 0 first.sender.seen) ≡ queued_number 0 first.one ++ queued_number 1 first.two
+  pub of_second : accepted (own 1 second.sender.seen) ≡ queued_number 2 second.one ++ queued_number 3 second.two
+
+-- A legal and complete history of the very queue whose senders and whose work these are. All that was accepted began and
+-- ended, in order; the work ran the items of it; and of each sender just those were accepted whose queueing was answered Queued.
+pub record RanAll (layout : Layout) (h : List Event) (queue : Ended) : Type 0 where
+  pub legal : IsLegal layout h
+  pub complete : IsComplete h
+  pub headline : KeepsHeadline h
+  pub one_queue : (queue.first.sender.queue ≡ queue.book.queue) × (queue.second.sender.queue ≡ queue.book.queue)
+  pub all_began : begun h ≡ accepted h
+  pub all_ended : ended h ≡ begun h
+  pub all_ran : queue.work.ran.items ≡ items_among layout (accepted h)
+  pub of_first : accepted (own 0 h) ≡ queued_number 0 queue.first.one ++ queued_number 1 queue.first.two
+  pub of_second : accepted (own 1 h) ≡ queued_number 2 queue.second.one ++ queued_number 3 queue.second.two

@@ -1,0 +1,243 @@
+//! The two queues and their pool.
+ghost use Rattle.std.specs.Prelude.{◌≡◌, ◌+◌, ◌<◌, ◌≤◌, ◌∷◌, [], All, IfOk, length};
+ghost use Rattle.wq_words.specs.History.{accepted, IsRunning};
+ghost use Rattle.wq_words.specs.Seen.{own};
+ghost use Rattle.wq_ready.specs.Known.{IsCallerOf};
+ghost use Rattle.wq_worker.specs.State.{items_among};
+ghost use Rattle.wq_pool.specs.Finished.{AreFinished};
+ghost use Rattle.wq_turn.specs.WorkerId.{worker_id};
+ghost use Rattle.example_pool.specs.Ended.{IsNewLine, HaveQueued, RanAll};
+
+use crate::queueing::{Line, Seat, Told, queue_all};
+use crate::work::{Open, Runs};
+use std::alloc::{AllocError, Global};
+use std::sync::Wait;
+use std::thread::{Threads, join};
+use thiserror::Error;
+use wq_live::{Sender, own_events_stay};
+use wq_pool::{Caller, Pool, PoolFault, Served};
+use wq_words::Layout;
+use wq_worker::{Book, Unbuilt, Worker};
+
+// So many numbers of each queue are executed at a time, where some are left at the end.
+const EXECUTIONS: u32 = 1024;
+
+/// Why the queues did not come to their end.
+#[derive(Clone, Copy, Debug, PartialEq, Eq, Error)]
+pub enum RunError {
+    /// No memory could be had.
+    #[error("no memory")]
+    Memory,
+    /// This queue was not in the pool when all workers had ended.
+    #[error("the queue {queue} is out")]
+    Out { queue: u32 },
+}
+
+impl From<AllocError> for RunError {
+    fn from(_error: AllocError) -> RunError {
+        RunError::Memory
+    }
+}
+
+impl From<Unbuilt<Runs>> for RunError {
+    fn from(_unbuilt: Unbuilt<Runs>) -> RunError {
+        RunError::Memory
+    }
+}
+
+/// A queue that has run to its end: its work and its book, and its senders with what they were told.
+#[derive(Drop)]
+pub struct Ended {
+    pub work: Runs,
+    pub book: Book,
+    pub first: Told,
+    pub second: Told,
+}
+
+// A pool of two queues, and its callers.
+fn pool_of(
+    alloc: Global,
+    one: Worker<Runs>,
+    two: Worker<Runs>,
+) -> Result<(Pool<Runs>, Vec<Caller>), RunError>
+    requires idle { (¬ IsRunning one.seen) × (¬ IsRunning two.seen) }
+    ensures workers { IfOk result (λ r. r.0.workers ≡ worker_id one ∷ worker_id two ∷ []) }
+    ensures callers { IfOk result (λ r. All (IsCallerOf r.0.ready) r.1.items × (length r.1.items ≡ 7)) }
+{
+    let Ok(queues) = Vec::from_array(alloc, [Served::new(one), Served::new(two)]) else {
+        return Err(RunError::Memory);
+    };
+    match Pool::new(alloc, queues, 7) {
+        Ok(made) => Ok(made),
+        Err(_) => Err(RunError::Memory),
+    }
+}
+
+// One of the callers that are left.
+fn caller_of(pool: &Pool<Runs>, callers: &mut Vec<Caller>) -> Caller
+    requires some { 0 < length callers.old.items }
+    requires all { All (IsCallerOf pool.now.ready) callers.old.items }
+    ensures one { IsCallerOf pool.now.ready result }
+    ensures all { All (IsCallerOf pool.now.ready) callers.new.items }
+    ensures count { length callers.new.items + 1 ≡ length callers.old.items }
+{
+    let Some(caller) = callers.pop() else {
+        unreachable!()
+    };
+    caller
+}
+
+// The senders of the pool's queue of this number, two of them with callers.
+fn line_of(pool: &Pool<Runs>, callers: &mut Vec<Caller>, queue: u32, senders: Vec<Sender>) -> Line
+    requires senders { length senders.items ≡ 3 }
+    requires some { 2 ≤ length callers.old.items }
+    requires all { All (IsCallerOf pool.now.ready) callers.old.items }
+    ensures senders { senders.items ≡ result.first.sender ∷ result.second.sender ∷ result.last ∷ [] }
+    ensures two { IsCallerOf pool.now.ready result.first.caller × IsCallerOf pool.now.ready result.second.caller }
+    ensures all { All (IsCallerOf pool.now.ready) callers.new.items }
+    ensures count { length callers.new.items + 2 ≡ length callers.old.items }
+{
+    let Ok(senders) = <[Sender; 3]>::try_from(senders) else {
+        unreachable!()
+    };
+    let [sender, other, last] = senders;
+    let first = Seat {
+        queue,
+        sender,
+        caller: caller_of(pool, callers),
+    };
+    let second = Seat {
+        queue,
+        sender: other,
+        caller: caller_of(pool, callers),
+    };
+    Line {
+        first,
+        second,
+        last,
+    }
+}
+
+// Two workers serve both queues in threads of their own, while the senders queue. Where no thread can be made `join` calls what
+// stands first last, so that the workers then find all that was queued.
+fn serve<R: Threads + Wait + Sync>(
+    rt: &R,
+    pool: &Pool<Runs>,
+    mut workers: Vec<Caller>,
+    caller: Caller,
+    one: Line,
+    two: Line,
+) -> Result<((Told, Told), (Told, Told)), RunError>
+    requires workers { All (IsCallerOf pool.now.ready) workers.items }
+    requires caller { IsCallerOf pool.now.ready caller }
+    requires one { IsNewLine pool.now.ready one }
+    requires two { IsNewLine pool.now.ready two }
+    ensures one { IfOk result (λ told. HaveQueued one.first.sender.queue told.0.0 told.0.1) }
+    ensures two { IfOk result (λ told. HaveQueued two.first.sender.queue told.1.0 told.1.1) }
+{
+    let (ran, told) = join(
+        rt,
+        move ||
+            requires { All (IsCallerOf pool.now.ready) workers.items }
+        { pool.run(rt, workers.as_mut_slice(), &Open) },
+        move ||
+            requires { IsCallerOf pool.now.ready caller × IsNewLine pool.now.ready one × IsNewLine pool.now.ready two }
+            ensures { HaveQueued one.first.sender.queue result.0.0 result.0.1 × HaveQueued two.first.sender.queue result.1.0 result.1.1 }
+        { queue_all(rt, pool, caller, one, two) },
+    );
+    ran?;
+    Ok(told)
+}
+
+// Takes the pool apart. Where something is left of a queue it goes on.
+fn finish<R: Wait>(rt: &R, pool: Pool<Runs>) -> Result<Vec<(Runs, Book)>, RunError>
+    ensures { IfOk result (λ all. AreFinished (λ work. work.ran.items) pool.workers all.items) }
+{
+    let mut pool = pool;
+    for _ in rt.forever() {
+        match pool.finish(EXECUTIONS) {
+            Ok(all) => return Ok(all),
+            Err(PoolFault::Unfinished { pool: same, .. }) => pool = same,
+            Err(PoolFault::Out { queue, .. }) => return Err(RunError::Out { queue }),
+            Err(PoolFault::Memory { .. }) => return Err(RunError::Memory),
+        }
+    }
+    unreachable!()
+}
+
+// The two that a list holds, in its order.
+fn both_of(finished: Vec<(Runs, Book)>) -> ((Runs, Book), (Runs, Book))
+    requires two { length finished.items ≡ 2 }
+    ensures both { finished.items ≡ result.0 ∷ result.1 ∷ [] }
+{
+    let mut finished = finished.into_iter();
+    let Some(one) = finished.next() else {
+        unreachable!()
+    };
+    let Some(two) = finished.next() else {
+        unreachable!()
+    };
+    (one, two)
+}
+
+// Both senders meet the book, so that all that they queued is in it.
+fn meet(book: &mut Book, first: &mut Sender, second: &mut Sender)
+    requires { (first.old.queue ≡ book.old.queue) × (second.old.queue ≡ book.old.queue) }
+    ensures same { (book.new.queue ≡ book.old.queue) × (book.new.layout ≡ book.old.layout) }
+    ensures senders { (first.new.queue ≡ first.old.queue) × (second.new.queue ≡ second.old.queue) }
+    ensures accepted { accepted book.new.seen ≡ accepted book.old.seen }
+    ensures of_first { accepted (own first.old.number book.new.seen) ≡ accepted (own first.old.number first.old.seen) }
+    ensures of_second { accepted (own second.old.number book.new.seen) ≡ accepted (own second.old.number second.old.seen) }
+{
+    own_events_stay();
+    book.meet(first);
+    book.meet(second);
+}
+
+// What a queue has done, and what its senders were told.
+fn end_of(finished: (Runs, Book), told: (Told, Told)) -> Ended
+    requires told { HaveQueued finished.1.queue told.0 told.1 }
+    requires ran { finished.0.ran.items ≡ items_among finished.1.layout (accepted finished.1.seen) }
+    ensures layout { result.book.layout ≡ finished.1.layout }
+    ensures history { RanAll result.book.layout result.book.seen result }
+{
+    let (work, mut book) = finished;
+    let (mut first, mut second) = told;
+    meet(&mut book, &mut first.sender, &mut second.sender);
+    book.legal();
+    Ended {
+        work,
+        book,
+        first,
+        second,
+    }
+}
+
+/// Two new queues of this size in a pool, which two threads serve, while four senders, two of each queue, queue two items each
+/// in threads of their own. When these have ended the stop items follow, and the pool is taken apart.
+///
+/// # Errors
+/// `Memory` where no memory could be had; `Out` where a queue is not in the pool in the end.
+pub fn run<R: Threads + Wait + Sync>(
+    rt: &R,
+    alloc: Global,
+    layout: Layout,
+) -> Result<(Ended, Ended), RunError>
+    requires items { 4 ≤ layout.items }
+    requires senders { layout.senders ≡ 4 }
+    ensures layouts { IfOk result (λ ended. (ended.0.book.layout ≡ layout) × (ended.1.book.layout ≡ layout)) }
+    ensures first { IfOk result (λ ended. RanAll ended.0.book.layout ended.0.book.seen ended.0) }
+    ensures second { IfOk result (λ ended. RanAll ended.1.book.layout ended.1.book.seen ended.1) }
+{
+    let (one, of_one) = Worker::build(alloc, layout, Runs::new(), 1)?;
+    let (two, of_two) = Worker::build(alloc, layout, Runs::new(), 1)?;
+    let (pool, mut callers) = pool_of(alloc, one, two)?;
+    let one = line_of(&pool, &mut callers, 0, of_one);
+    let two = line_of(&pool, &mut callers, 1, of_two);
+    let caller = caller_of(&pool, &mut callers);
+    let (told_one, told_two) = serve(rt, &pool, callers, caller, one, two)?;
+    let (one, two) = both_of(finish(rt, pool)?);
+    let one = end_of(one, told_one);
+    let two = end_of(two, told_two);
+    Ok((one, two))
+}

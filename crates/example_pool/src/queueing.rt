@@ -1,0 +1,145 @@
+//! Senders in threads of their own, and the stop items.
+ghost use Rattle.std.specs.Prelude.{◌≡◌, ◌<◌, ◌≤◌, ◌++◌, []};
+ghost use Rattle.wq_words.specs.History.{accepted};
+ghost use Rattle.wq_words.specs.Seen.{own};
+ghost use Rattle.wq_live.specs.Known.{IsSame};
+ghost use Rattle.wq_live.specs.Laws.{queued_number};
+ghost use Rattle.wq_ready.specs.Known.{IsCallerOf};
+ghost use Rattle.example_pool.specs.Ended.{IsNewLine, QueuedBoth, HaveQueued};
+
+use crate::work::Runs;
+use std::sync::Wait;
+use std::thread::{Threads, join};
+use wq_live::{Answer, Sender, queued_is_accepted};
+use wq_pool::{Caller, Pool};
+
+/// A sender, and what its two queueings were answered.
+#[derive(Drop)]
+pub struct Told {
+    pub sender: Sender,
+    pub one: Answer,
+    pub two: Answer,
+}
+
+/// A sender of the pool's queue of this number, and a caller that announces it.
+#[derive(Drop)]
+pub(crate) struct Seat {
+    pub(crate) queue: u32,
+    pub(crate) sender: Sender,
+    pub(crate) caller: Caller,
+}
+
+/// The senders of one queue: two for threads, and one for the stop item.
+#[derive(Drop)]
+pub(crate) struct Line {
+    pub(crate) first: Seat,
+    pub(crate) second: Seat,
+    pub(crate) last: Sender,
+}
+
+// One queueing. Where it wakes the queue, this is announced, so that a worker picks it; each seat's queue is one of the pool's.
+fn queue<R: Wait>(rt: &R, pool: &Pool<Runs>, seat: &mut Seat, item: u32) -> Answer
+    requires caller { IsCallerOf pool.now.ready seat.old.caller }
+    requires item { item < seat.old.sender.layout.items }
+    ensures caller { IsCallerOf pool.now.ready seat.new.caller }
+    ensures same { IsSame seat.old.sender seat.new.sender }
+    ensures accepted { accepted (own seat.old.sender.number seat.new.sender.seen) ≡ accepted (own seat.old.sender.number seat.old.sender.seen)
+        ++ queued_number item result }
+{
+    queued_is_accepted();
+    let answer = seat.sender.queue(rt, item);
+    let _ = pool.wake(rt, &mut seat.caller, seat.queue, answer);
+    answer
+}
+
+// What a thread does: two queueings, one after the other.
+fn queue_two<R: Wait>(rt: &R, pool: &Pool<Runs>, mut seat: Seat, one: u32, two: u32) -> Told
+    requires caller { IsCallerOf pool.now.ready seat.caller }
+    requires one { one < seat.sender.layout.items }
+    requires two { two < seat.sender.layout.items }
+    requires new { seat.sender.seen ≡ [] }
+    ensures { QueuedBoth one two seat result }
+{
+    let first = queue(rt, pool, &mut seat, one);
+    let second = queue(rt, pool, &mut seat, two);
+    let Seat { sender, .. } = seat;
+    Told {
+        sender,
+        one: first,
+        two: second,
+    }
+}
+
+// The senders of one queue, two of them in threads of their own. The last one is given back.
+fn queue_both<R: Threads + Wait + Sync>(
+    rt: &R,
+    pool: &Pool<Runs>,
+    line: Line,
+) -> ((Told, Told), Sender)
+    requires { IsNewLine pool.now.ready line }
+    ensures { HaveQueued line.first.sender.queue result.0.0 result.0.1 }
+{
+    let Line {
+        first,
+        second,
+        last,
+    } = line;
+    let told = join(
+        rt,
+        move ||
+            requires { IsCallerOf pool.now.ready first.caller × (2 ≤ first.sender.layout.items) × (first.sender.seen ≡ []) }
+            ensures { QueuedBoth 0 1 first result }
+        { queue_two(rt, pool, first, 0, 1) },
+        move ||
+            requires { IsCallerOf pool.now.ready second.caller × (4 ≤ second.sender.layout.items) × (second.sender.seen ≡ []) }
+            ensures { QueuedBoth 2 3 second result }
+        { queue_two(rt, pool, second, 2, 3) },
+    );
+    (told, last)
+}
+
+// Queues the stop item, behind all that its queue has accepted.
+fn stop<R: Wait>(rt: &R, pool: &Pool<Runs>, caller: &mut Caller, queue: u32, mut sender: Sender)
+    requires { IsCallerOf pool.now.ready caller.old }
+    ensures { IsCallerOf pool.now.ready caller.new }
+{
+    for _ in rt.forever() {
+        match sender.request_stop(1) {
+            Answer::Contended => {}
+            answer => {
+                let _ = pool.wake(rt, caller, queue, answer);
+                return;
+            }
+        }
+    }
+}
+
+/// All four senders queue, and when they have ended both stop items follow.
+pub(crate) fn queue_all<R: Threads + Wait + Sync>(
+    rt: &R,
+    pool: &Pool<Runs>,
+    mut caller: Caller,
+    one: Line,
+    two: Line,
+) -> ((Told, Told), (Told, Told))
+    requires caller { IsCallerOf pool.now.ready caller }
+    requires one { IsNewLine pool.now.ready one }
+    requires two { IsNewLine pool.now.ready two }
+    ensures one { HaveQueued one.first.sender.queue result.0.0 result.0.1 }
+    ensures two { HaveQueued two.first.sender.queue result.1.0 result.1.1 }
+{
+    let ((told_one, last_one), (told_two, last_two)) = join(
+        rt,
+        move ||
+            requires { IsNewLine pool.now.ready one }
+            ensures { HaveQueued one.first.sender.queue result.0.0 result.0.1 }
+        { queue_both(rt, pool, one) },
+        move ||
+            requires { IsNewLine pool.now.ready two }
+            ensures { HaveQueued two.first.sender.queue result.0.0 result.0.1 }
+        { queue_both(rt, pool, two) },
+    );
+    stop(rt, pool, &mut caller, 0, last_one);
+    stop(rt, pool, &mut caller, 1, last_two);
+    (told_one, told_two)
+}

@@ -1,0 +1,174 @@
+//! Three senders in threads of their own, and beside them the owner in its own.
+ghost use Rattle.std.specs.Prelude.{◌≡◌, ◌*◌, ◌<◌, ◌≤◌, [], IfOk};
+ghost use Rattle.wq_words.specs.History.{accepted, begun, ended};
+ghost use Rattle.wq_words.specs.Legal.{IsComplete};
+ghost use Rattle.wq_words.specs.Seen.{own};
+ghost use Rattle.wq_live.specs.Known.{IsSame, new_sender, new_owner};
+ghost use Rattle.example_threads.specs.Met.{IsHistoryOf};
+
+use crate::executing::execute_all;
+use crate::queueing::{Told, queue_own, stop};
+use crossbeam_utils::sync::{Parker, Unparker};
+use std::alloc::Global;
+use std::sync::Wait;
+use std::thread::{Threads, join};
+use wq_live::{BuildError, Owner, Sender, build, own_events_stay};
+use wq_words::Layout;
+
+/// The senders of a new queue.
+#[derive(Drop)]
+struct Senders {
+    first: Sender,
+    second: Sender,
+    third: Sender,
+}
+
+/// The owner and the senders, which have met.
+#[derive(Drop)]
+pub struct Met {
+    pub owner: Owner,
+    pub first: Told,
+    pub second: Told,
+    pub third: Told,
+}
+
+/// They meet, so that the owner has seen in the end what each sender did.
+fn meet(first: &mut Sender, second: &mut Sender, third: &mut Sender, owner: &mut Owner)
+    requires senders { (second.old.queue ≡ first.old.queue) × (third.old.queue ≡ first.old.queue) }
+    requires owner { owner.old.queue ≡ first.old.queue }
+    requires complete { IsComplete owner.old.seen }
+    ensures layout { owner.new.layout ≡ owner.old.layout }
+    ensures accepted { accepted owner.new.seen ≡ accepted owner.old.seen }
+    ensures begun { begun owner.new.seen ≡ begun owner.old.seen }
+    ensures ended { ended owner.new.seen ≡ ended owner.old.seen }
+    ensures of_first { accepted (own first.old.number owner.new.seen) ≡ accepted (own first.old.number first.old.seen) }
+    ensures of_second { accepted (own second.old.number owner.new.seen) ≡ accepted (own second.old.number second.old.seen) }
+    ensures of_third { accepted (own third.old.number owner.new.seen) ≡ accepted (own third.old.number third.old.seen) }
+{
+    own_events_stay();
+    first.meet_both(second, owner);
+    third.meet_owner(owner);
+}
+
+/// The senders queue so many items each, of their own, in three threads. When they have ended, the third queues the stop item.
+fn queue_all<R: Threads + Wait + Sync>(
+    rt: &R,
+    senders: Senders,
+    each: u32,
+    unparker: &Unparker,
+) -> ((Told, Told), Told)
+    requires items { (each * 3 ≤ senders.first.layout.items) × (each * 3 ≤ senders.second.layout.items) × (each * 3 ≤ senders.third.layout.items) }
+    requires new { (senders.first.seen ≡ []) × (senders.second.seen ≡ []) × (senders.third.seen ≡ []) }
+    ensures first { IsSame senders.first result.0.0.sender × (accepted (own senders.first.number result.0.0.sender.seen) ≡ result.0.0.queued.items) }
+    ensures second { IsSame senders.second result.0.1.sender × (accepted (own senders.second.number result.0.1.sender.seen) ≡ result.0.1.queued.items) }
+    ensures third { IsSame senders.third result.1.sender × (accepted (own senders.third.number result.1.sender.seen) ≡ result.1.queued.items) }
+{
+    let Senders {
+        first,
+        second,
+        third,
+    } = senders;
+    let (both, last) = join(
+        rt,
+        move ||
+            requires { (each * 3 ≤ first.layout.items) × (each * 3 ≤ second.layout.items) × (first.seen ≡ []) × (second.seen ≡ []) }
+            ensures { IsSame first result.0.sender × (accepted (own first.number result.0.sender.seen) ≡ result.0.queued.items)
+                × IsSame second result.1.sender × (accepted (own second.number result.1.sender.seen) ≡ result.1.queued.items) }
+        {
+            join(
+                rt,
+                move ||
+                    requires { (each * 3 ≤ first.layout.items) × (first.seen ≡ []) }
+                    ensures { IsSame first result.sender × (accepted (own first.number result.sender.seen) ≡ result.queued.items) }
+                { queue_own(rt, first, 0, each, unparker) },
+                move ||
+                    requires { (each * 3 ≤ second.layout.items) × (second.seen ≡ []) }
+                    ensures { IsSame second result.sender × (accepted (own second.number result.sender.seen) ≡ result.queued.items) }
+                { queue_own(rt, second, each, each * 2, unparker) },
+            )
+        },
+        move ||
+            requires { (each * 3 ≤ third.layout.items) × (third.seen ≡ []) }
+            ensures { IsSame third result.sender × (accepted (own third.number result.sender.seen) ≡ result.queued.items) }
+        { queue_own(rt, third, each * 2, each * 3, unparker) },
+    );
+    (both, stop(last, unparker))
+}
+
+/// The owner executes while the senders queue. When the stop item ran, it closes the queue, and all four meet.
+fn queue_and_execute<R: Threads + Wait + Sync>(
+    rt: &R,
+    owner: Owner,
+    senders: Senders,
+    each: u32,
+    parker: Parker,
+    unparker: &Unparker,
+) -> Met
+    requires items { each * 3 ≤ owner.layout.items }
+    requires owner { owner ≡ new_owner owner.queue owner.layout }
+    requires first { senders.first ≡ new_sender owner.queue owner.layout 0 }
+    requires second { senders.second ≡ new_sender owner.queue owner.layout 1 }
+    requires third { senders.third ≡ new_sender owner.queue owner.layout 2 }
+    ensures layout { result.owner.layout ≡ owner.layout }
+    ensures history { IsHistoryOf result.owner.layout result.owner.seen result }
+{
+    let (mut owner, ((mut first, mut second), mut third)) = join(
+        rt,
+        move ||
+            requires { owner.seen ≡ [] }
+            ensures { IsSame owner result × IsComplete result.seen × (begun result.seen ≡ accepted result.seen) × (ended result.seen ≡ begun result.seen) }
+        { execute_all(rt, owner, &parker) },
+        move ||
+            requires { (each * 3 ≤ senders.first.layout.items) × (each * 3 ≤ senders.second.layout.items) × (each * 3 ≤ senders.third.layout.items)
+                × (senders.first.seen ≡ []) × (senders.second.seen ≡ []) × (senders.third.seen ≡ []) }
+            ensures { IsSame senders.first result.0.0.sender × (accepted (own senders.first.number result.0.0.sender.seen) ≡ result.0.0.queued.items)
+                × IsSame senders.second result.0.1.sender × (accepted (own senders.second.number result.0.1.sender.seen) ≡ result.0.1.queued.items)
+                × IsSame senders.third result.1.sender × (accepted (own senders.third.number result.1.sender.seen) ≡ result.1.queued.items) }
+        { queue_all(rt, senders, each, unparker) },
+    );
+    meet(
+        &mut first.sender,
+        &mut second.sender,
+        &mut third.sender,
+        &mut owner,
+    );
+    owner.legal();
+    Met {
+        owner,
+        first,
+        second,
+        third,
+    }
+}
+
+/// The same on a new queue, with so many items of each sender. The only error is want of memory.
+pub fn run<R: Threads + Wait + Sync>(
+    rt: &R,
+    alloc: Global,
+    layout: Layout,
+    each: u32,
+) -> Result<Met, BuildError>
+    requires items { each * 3 ≤ layout.items }
+    requires senders { layout.senders ≡ 3 }
+    ensures layout { IfOk result (λ met. met.owner.layout ≡ layout) }
+    ensures history { IfOk result (λ met. IsHistoryOf met.owner.layout met.owner.seen met) }
+{
+    let parker = Parker::new(alloc)?;
+    let unparker = parker.unparker().clone()?;
+    let (owner, mut senders) = build(alloc, layout)?;
+    let Some(third) = senders.pop() else {
+        unreachable!()
+    };
+    let Some(second) = senders.pop() else {
+        unreachable!()
+    };
+    let Some(first) = senders.pop() else {
+        unreachable!()
+    };
+    let senders = Senders {
+        first,
+        second,
+        third,
+    };
+    Ok(queue_and_execute(rt, owner, senders, each, parker, &unparker))
+}

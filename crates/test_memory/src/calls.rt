@@ -1,0 +1,317 @@
+//! The calls, and whether each gives its right answer or says that memory is wanting.
+use crate::pool::serve_pool;
+use crate::streams::Page;
+use crate::worker::build_worker;
+use std::alloc::{AllocError, Global};
+use std::fmt;
+use std::sync::Wait;
+use std::thread::Threads;
+use wq_commands::{live_main, script_main, steps_main};
+use wq_core::Step::{Begin, End, Hold, Link, Look, Push, Take, Walk};
+use wq_core::{Core, ReplayError, Seat, Step, StepError, replay};
+use wq_delay::{Armed, Delay, Modified, NoRoom};
+use wq_live::{BuildError, build};
+use wq_script::{ParseError, RunError, parse, run};
+use wq_words::Layout;
+
+/// A call that takes memory.
+#[derive(Clone, Copy)]
+pub enum Call {
+    Build,
+    Replay,
+    Table,
+    Worker,
+    Pool,
+    Script(&'static str, &'static str),
+    Main(Main, &'static str, &'static str),
+}
+
+/// A subcommand.
+#[derive(Clone, Copy)]
+pub enum Main {
+    Script,
+    Steps,
+    Live,
+}
+
+/// What came of a call.
+#[derive(Clone, Copy, PartialEq, Eq)]
+pub enum Said {
+    Right,
+    Memory,
+    /// Want of memory, and what was given back was used again.
+    Again,
+    Wrong,
+}
+
+impl fmt::Display for Said {
+    fn fmt<W: fmt::Write>(&self, f: &mut fmt::Formatter<W>) -> fmt::Result {
+        f.write_str(match self {
+            Said::Right => "right",
+            Said::Memory => "memory",
+            Said::Again => "memory and again",
+            Said::Wrong => "wrong",
+        })
+    }
+}
+
+pub const CALLS: [(&str, Call); 11] = [
+    ("build", Call::Build),
+    ("replay", Call::Replay),
+    ("table", Call::Table),
+    ("worker", Call::Worker),
+    ("pool", Call::Pool),
+    (
+        "following",
+        Call::Script(
+            "wq 1\nitems 4\nsenders 2\nfollow 0 1 0\nqueue 0 0\nclose\ndrain 3\n",
+            "true first\nclosed 1\nran 0 1 0\ntoo long left 2\n",
+        ),
+    ),
+    (
+        "delays",
+        Call::Script(
+            "wq 1\nitems 4\nsenders 2\narm 0 5\narm 1 5\narm 2 3\nqueue 0 0\nadvance 5\nrun 9\narm 3 0\narm 1 4294967296\nadvance 4\n",
+            "on table\non table\non table\nfalse pending\npushed 2 0 1\nran 2 0 1\ntrue first\nfalse too far\nfalse backwards\n",
+        ),
+    ),
+    (
+        "jump",
+        Call::Script(
+            "wq 1\nitems 4\nsenders 2\narm 0 1000\narm 1 999\narm 2 1000\narm 3 744\nadvance 1000\n",
+            "on table\non table\non table\non table\npushed 3 1 0 2\n",
+        ),
+    ),
+    (
+        "script",
+        Call::Main(
+            Main::Script,
+            "wq 1\nitems 4\nsenders 2\nqueue 0 1\nqueue 1 2\nrun 9\n",
+            "true first\ntrue\nran 1 2\n",
+        ),
+    ),
+    (
+        "steps",
+        Call::Main(
+            Main::Steps,
+            "steps 1\nitems 4\nsenders 2\n0 hold 0\n0 look\no take\n",
+            "held\nempty\ntook empty\naccepted nothing\nbegun nothing\n",
+        ),
+    ),
+    (
+        "live",
+        Call::Main(
+            Main::Live,
+            "{\"queues\":1,\"workers\":1,\"senders\":4,\"own\":64}",
+            "accepted 256 ran 256 balanced yes\n",
+        ),
+    ),
+];
+
+pub fn right(is_right: bool) -> Said {
+    if is_right { Said::Right } else { Said::Wrong }
+}
+
+fn build_queue(alloc: Global) -> Said {
+    let Ok(layout) = Layout::new(4, 1, 2) else {
+        return Said::Wrong;
+    };
+    match build(alloc, layout) {
+        Ok((_, senders)) => right(senders.len() == 2),
+        Err(BuildError::Memory) => Said::Memory,
+    }
+}
+
+const S0: Seat = Seat::Sender(0);
+
+const S1: Seat = Seat::Sender(1);
+
+const O: Seat = Seat::Owner;
+
+/// An item that is queued again while it runs, and another behind it.
+const TURNS: [(Seat, Step); 23] = [
+    (S0, Hold(0)),
+    (S0, Look),
+    (S0, Link(0)),
+    (S0, Push(0)),
+    (S1, Hold(1)),
+    (S1, Look),
+    (O, Take),
+    (O, Walk),
+    (O, Begin),
+    (S0, Hold(0)),
+    (S0, Look),
+    (S0, Link(0)),
+    (S0, Push(0)),
+    (S1, Link(1)),
+    (S1, Push(1)),
+    (O, End),
+    (O, Take),
+    (O, Walk),
+    (O, Walk),
+    (O, Begin),
+    (O, End),
+    (O, Begin),
+    (O, End),
+];
+
+/// Whether what was accepted and what has begun are this one list.
+fn lists(core: &Core) -> Result<bool, AllocError> {
+    let accepted = core.accepted()?;
+    let begun = core.begun()?;
+    Ok(accepted.as_slice() == [0, 0, 1].as_slice() && begun == accepted)
+}
+
+/// Reads the lists, and again where memory was wanting.
+fn read_lists(core: &Core) -> Said {
+    match lists(core) {
+        Ok(is_right) => right(is_right),
+        Err(AllocError) => match lists(core) {
+            Ok(true) => Said::Again,
+            _ => Said::Wrong,
+        },
+    }
+}
+
+fn replay_turns(alloc: Global) -> Said {
+    let Ok(layout) = Layout::new(4, 1, 2) else {
+        return Said::Wrong;
+    };
+    match replay(alloc, layout, &TURNS) {
+        Ok(core) => read_lists(&core),
+        Err(
+            ReplayError {
+                why: StepError::Memory,
+                ..
+            },
+        ) => Said::Memory,
+        Err(_) => Said::Wrong,
+    }
+}
+
+/// How many items a table has, more than a node of a map holds.
+const ITEMS: u32 = 16;
+
+/// Arms an item that is not on the table and sets its delay anew. None where memory was wanting, which left the table as it was.
+fn arm_and_move(delay: &mut Delay, item: u32) -> Option<bool> {
+    if item >= delay.layout().items {
+        return Some(false);
+    }
+    let before = delay.len();
+    match delay.arm(item, 5, 1) {
+        Armed::OnTable | Armed::Pending => {}
+        Armed::Memory if delay.len() == before => return None,
+        _ => return Some(false),
+    }
+    if item >= delay.layout().items {
+        return Some(false);
+    }
+    let before = delay.len();
+    match delay.modify(item, 9, 1) {
+        Modified::Moved => Some(true),
+        Modified::Memory if delay.len() == before => None,
+        _ => Some(false),
+    }
+}
+
+/// Arms and moves all items. None where memory was wanting.
+fn arm_all(delay: &mut Delay) -> Option<bool> {
+    for item in 0..ITEMS {
+        if !arm_and_move(delay, item)? {
+            return Some(false);
+        }
+    }
+    Some(true)
+}
+
+/// Whether all items are due at their tick and none before. None where memory was wanting.
+fn is_due(delay: &Delay) -> Option<bool> {
+    let early = delay.due_list(8).ok()?;
+    let due = delay.due_list(9).ok()?;
+    Some(early.is_empty() && due.len() == ITEMS as usize)
+}
+
+/// Puts items on a table and reads it, again where memory was wanting.
+fn fill_table(mut delay: Delay) -> Said {
+    let moved = arm_all(&mut delay);
+    let again = moved.is_none() && arm_all(&mut delay) == Some(true);
+    if moved != Some(true) && !again {
+        return Said::Wrong;
+    }
+    match (is_due(&delay), is_due(&delay)) {
+        (Some(true), Some(true)) => if again { Said::Again } else { Said::Right },
+        (None, Some(true)) | (Some(true), None) => Said::Again,
+        _ => Said::Wrong,
+    }
+}
+
+fn make_table(alloc: Global) -> Said {
+    let Ok(layout) = Layout::new(ITEMS, 1, 1) else {
+        return Said::Wrong;
+    };
+    let Ok((_owner, mut senders)) = build(alloc, layout) else {
+        return Said::Memory;
+    };
+    let Some(sender) = senders.pop() else {
+        return Said::Wrong;
+    };
+    match Delay::new(alloc, sender, 0) {
+        Ok(delay) => fill_table(delay),
+        Err(NoRoom { sender }) => match Delay::new(alloc, sender, 0) {
+            Ok(_) => Said::Again,
+            Err(_) => Said::Wrong,
+        },
+    }
+}
+
+fn run_script(alloc: Global, text: &str, report: &str) -> Said {
+    let script = match parse(alloc, text.as_bytes()) {
+        Ok(script) => script,
+        Err(ParseError::Memory) => return Said::Memory,
+        Err(ParseError::Refused(_)) => return Said::Wrong,
+    };
+    match run(alloc, &script) {
+        Ok(bytes) => right(bytes.as_slice() == report.as_bytes()),
+        Err(RunError::Memory) => match run(alloc, &script) {
+            Ok(bytes) if bytes.as_slice() == report.as_bytes() => Said::Again,
+            _ => Said::Wrong,
+        },
+    }
+}
+
+fn run_main<T: Threads + Wait + Sync>(
+    rt: &T,
+    alloc: Global,
+    main: Main,
+    text: &'static str,
+    output: &str,
+) -> Said {
+    let mut written = Page::new();
+    let mut said = Page::new();
+    let reader = text.as_bytes();
+    let status = match main {
+        Main::Script => script_main(alloc, reader, &mut written, &mut said),
+        Main::Steps => steps_main(alloc, reader, &mut written, &mut said),
+        Main::Live => live_main(rt, alloc, reader, &mut written, &mut said),
+    };
+    if status == 0 && written.holds(output.as_bytes()) && said.holds(b"") {
+        Said::Right
+    } else if status == 3 && written.holds(b"") && said.holds(b"memory\n") {
+        Said::Memory
+    } else {
+        Said::Wrong
+    }
+}
+
+/// Makes a call.
+pub fn make<T: Threads + Wait + Sync>(rt: &T, alloc: Global, call: Call) -> Said {
+    match call {
+        Call::Build => build_queue(alloc),
+        Call::Replay => replay_turns(alloc),
+        Call::Table => make_table(alloc),
+        Call::Worker => build_worker(alloc),
+        Call::Pool => serve_pool(rt, alloc),
+        Call::Script(text, report) => run_script(alloc, text, report),
+        Call::Main(main, text, output) => run_main(rt, alloc, main, text, output),
+    }
+}

@@ -1,5 +1,0 @@
-use Rattle.wq_words.specs.History.{IsRunning}
-use Rattle.wq_bench.proofs.owner.execute_some.Given as goal
-
-abbrev pub invariant-loop-count : goal.invariant-loop-count
-invariant-loop-count l = ¬ IsRunning l.owner.seen

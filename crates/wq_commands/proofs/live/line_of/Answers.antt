@@ -1,0 +1,14 @@
+use Rattle.std.proofs.Common.{◌∙◌, ◌++◌, ap, List, ℕ}
+use Rattle.wq_plan.specs.Outcome.{outcome_line}
+use Rattle.wq_commands.proofs.live.line_of.Goals as goal
+
+pub returns-clause-line : goal.returns-clause-line
+returns-clause-line g c =
+    let o = c.in_ok-outcome.outcome in record {
+      plan = c.in_ok-plan.plan;
+      spells = c.in_ok-plan.ensures.exact;
+      outcome = o;
+      whole = c.in_ok-outcome.ensures.whole;
+      pooled = c.in_ok-outcome.ensures.pooled;
+      line_is = c.in_ok-write.ensures.line ∙ ap (λ (old : List ℕ). old ++ outcome_line o) c.new-line.ensures.bytes;
+    }

@@ -1,0 +1,48 @@
+//! How a subcommand ends: its output is written, or it is said why there is none.
+ghost use Rattle.std.specs.Prelude.{◌≡◌, ◌≢◌, ◌⊎◌, OnOk, IfErr, IsOkAnd, MatchResult};
+ghost use Rattle.std.specs.Io.KnownBytes.{Appends};
+ghost use Rattle.wq_commands.specs.declared.failure.Failure.{Failure as Cause};
+ghost use Rattle.wq_commands.specs.declared.failure.Failure.TheVariants.{Unwritable};
+ghost use Rattle.wq_commands.specs.Failure.{status_of};
+ghost use Rattle.wq_commands.specs.Ending.{IsUntouched};
+
+use crate::failure::Failure;
+use std::io::Write;
+
+// Writes an output, where there is one. An empty one writes nothing; the writer is flushed.
+fn write_output<W: Write>(output: Result<Vec<u8>, Failure>, writer: &mut W) -> Result<(), Failure>
+    ensures written { OnOk result (IsOkAnd output (λ bytes. Appends (W.contents writer.old) (W.contents writer.new) bytes.items)) }
+    ensures failed { IfErr result
+        (λ cause. MatchResult output (λ _. cause ≡ Unwritable) (λ failure. cause ≡ failure) × IsUntouched cause writer.old writer.new) }
+{
+    let output = output?;
+    if writer.write_all(&output).is_err() {
+        return Err(Failure::Unwritable);
+    }
+    if writer.flush().is_err() {
+        return Err(Failure::Unwritable);
+    }
+    Ok(())
+}
+
+/// Writes an output, or says on `faults`, in a line, why there is none or why it could not be written. The answer is the exit
+/// status: 0 where the output was written, else that of the failure. Where `faults` cannot be written the status stays.
+pub fn end<W: Write, F: Write>(
+    output: Result<Vec<u8>, Failure>,
+    writer: &mut W,
+    faults: &mut F,
+) -> u8
+    ensures written { result ≡ 0 → IsOkAnd output (λ bytes. Appends (W.contents writer.old) (W.contents writer.new) bytes.items) }
+    ensures failed { result ≢ 0 → (cause : Cause) × (result ≡ status_of cause)
+        × MatchResult output (λ _. cause ≡ Unwritable) (λ failure. cause ≡ failure) × IsUntouched cause writer.old writer.new }
+    ensures status { (result ≡ 0) ⊎ ((result ≡ 1) ⊎ (result ≡ 3)) }
+{
+    match write_output(output, writer) {
+        Ok(()) => 0,
+        Err(failure) => {
+            let status = failure.status();
+            let _ = writeln!(faults, "{failure}");
+            status
+        }
+    }
+}

@@ -1,0 +1,27 @@
+//! The bytes that a subcommand reads.
+ghost use Rattle.std.specs.Prelude.{◌≡◌, IfOk, IfErr, IfSome, take};
+ghost use Rattle.wq_commands.specs.Ending.{HasNoText};
+
+use crate::failure::Failure;
+use std::alloc::Global;
+use std::io::Read;
+
+// One byte more than a script or a schedule may have, so that a longer one is seen to be too long.
+pub(crate) const TEXT_BYTES: u64 = 1_048_577;
+
+// One byte more than a plan may have.
+pub(crate) const PLAN_BYTES: u64 = 65_537;
+
+// Reads a text to its end, so many bytes at most.
+pub(crate) fn read_most<R: Read + Drop>(
+    alloc: Global,
+    reader: R,
+    most: u64,
+) -> Result<Vec<u8>, Failure>
+    ensures text { IfOk result (λ text. IfSome (R.remaining reader) (λ bytes. text.items ≡ take most bytes)) }
+    ensures none { IfErr result HasNoText }
+{
+    let mut text = Vec::new(alloc);
+    reader.take(most).read_to_end(&mut text)?;
+    Ok(text)
+}

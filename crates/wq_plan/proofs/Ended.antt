@@ -1,0 +1,244 @@
+-- The history of a race that has run to its end.
+use Rattle.wq_plan.proofs.Common.{◌≡◌, ◌≢◌, ℕ, ◌+◌, ◌-◌, map, ◌^◌, inl, inr, length-append, ◌*◌, ◌<◌, ◌≤◌, Bool, true, false, List, [], ◌∷◌, ◌++◌, length}
+use Rattle.wq_plan.proofs.Common.{get_or, min, refl, sym, ap, ◌∙◌, subst, arith, All, MatchBool, count_by, AllByRecursion, cases_lt, length-range_with_len}
+use Rattle.wq_plan.proofs.Common.{IsPrefix, Layout, Event, Back, is_close, is_push, accepted, begun, ended, IsLegal, prefix_whole, own, own-append}
+use Rattle.wq_plan.proofs.Common.{closed_count, ended_same, Known, is_queued_by, is_chain, is_chain_busy, sender_counts, owner_counts, LedgerState, BookState}
+use Rattle.wq_plan.proofs.Common.{Unbalanced, AreWhole, AreOwnerWhole, ledgers_of, HasOne, IsUnbalanced, is_queued_below, below_more, below_all, WorkerState}
+use Rattle.wq_plan.proofs.Common.{items_among, Follows, count_by-append, accepted-count, Idle, Plan, Team, items_at, IsOfStop, HasRaced, queueings, Tells}
+use Rattle.wq_plan.proofs.Common.{IsWhole, IsTold, HasMet, AllKnown, HasEnded, HasHeard, ledger_of, own_between, prefix_on, count_by-le-length, IsComplete}
+use Rattle.wq_words.specs.declared.event.Why.TheVariants as why
+use Rattle.wq_words.proofs.Order.{in_order}
+use Rattle.wq_worker.proofs.Draining.{begun-complete}
+use Rattle.wq_plan.specs.declared.outcome.Outcome.{Outcome}
+use Rattle.wq_plan.proofs.Running.{own_room}
+use Rattle.wq_plan.proofs.Serving.{chains_same, asks_same}
+use Rattle.wq_plan.proofs.Events.{Has, own_has, was_allowed}
+use Rattle.wq_plan.proofs.Whole.{IsRace, was_queued, all_accepted, below_counted, queued_own, pushes, length-queueings}
+use Rattle.wq_plan.proofs.Balanced.{AreNumbered, whole_counts, one_ledger, last_ledger, none_made, always_balanced}
+
+-- where a history has run to its end, what was accepted has ended
+pub all_ended : (layout : Layout) (h : List Event) → IsLegal layout h → IsComplete h → ended h ≡ accepted h
+all_ended layout h legal complete =
+    let ran = begun-complete layout h legal complete in
+    prefix_whole (ended h) (begun h) (in_order layout h legal).ended_first (omega (arith, complete.1, ap (length {A = ℕ}) ran)) ∙ ran
+
+pub all_front : (P : Event → Type 0) (xs ys : List Event) → AllByRecursion P (xs ++ ys) → AllByRecursion P xs
+all_front P [] ys all = tt
+all_front P (x ∷ xs) ys all = (all.0, all_front P xs ys all.1)
+
+-- where no close was seen, nothing was refused
+never_refused : (layout : Layout) (s k : ℕ) (h w : List Event) → IsLegal layout h → IsPrefix h w → count_by is_close w ≡ 0 → ¬ Has (Back s k why.Closed) h
+never_refused layout s k h w legal begins none has =
+    let a = was_allowed layout (Back s k why.Closed) [] h legal has in
+    let shut : 0 < count_by is_close a.before = a.allowed.2.1 refl in
+    omega (
+      arith,
+      shut,
+      ap (count_by is_close) a.is,
+      count_by-append is_close a.before (Back s k why.Closed ∷ a.rest),
+      ap (count_by is_close) begins.1,
+      count_by-append is_close h begins.0,
+      none,
+    )
+
+pub surely : (b : Bool) (P Q : Type 0) → MatchBool b P Q → ¬ Q → b ≡ true
+surely true P Q m not = refl
+surely false P Q m not = absurd (not m)
+
+-- what a race leaves, once its queue is destroyed and its book has met the senders
+pub record IsOver (plan : Plan) (team : Team) (w : WorkerState Idle) (senders : List Known) (work : Idle) (book : BookState) : Type 0 where
+  pub run : HasRaced plan team
+  pub met : HasMet team.worker w
+  pub known : AllKnown w.seen team.senders.items senders
+  pub ended : HasEnded w work book
+  pub told : All (IsTold book.seen) senders
+  pub program : (later : List Event) × IsPrefix book.seen later × (own (plan.senders + 1) later ≡ own (plan.senders + 1) team.program.seen)
+
+module _ (plan : Plan) (team : Team) (w : WorkerState Idle) (senders : List Known) (work : Idle) (book : BookState)
+    (o : IsOver plan team w senders work book) where
+  size : book.layout ≡ team.worker.layout
+  size = o.ended.layout_is ∙ o.met.same.layout_is
+
+  legal : IsLegal team.worker.layout book.seen
+  legal = subst (λ (l : Layout). IsLegal l book.seen) size o.ended.legal
+
+  record Sender (s : ℕ) (d : Known) : Type 0 where
+    number_is : (get_or senders s d).number ≡ s
+    told : own s book.seen ≡ own s (get_or senders s d).seen
+    queued : Follows team.worker.layout.items s false (items_at s plan.own) (own s book.seen)
+    opens : (k : ℕ) → ¬ Has (Back s k why.Closed) (own s book.seen)
+
+  sender_at : (s : ℕ) (d : Known) → s < plan.senders → Sender s d
+  sender_at s d lt =
+      let first = o.run.each s d lt in let k = o.known.each s d (omega (arith, lt, o.run.count)) in
+      let now = get_or senders s d in
+      let number : now.number ≡ s = k.same.number_is ∙ first.number_is in
+      let t = o.told s d (omega (arith, lt, o.run.count, o.known.count)) in
+      let later : own s t.0 ≡ own s now.seen = subst (λ (c : ℕ). own c t.0 ≡ own c now.seen) number t.2 in
+      let heard : own s book.seen ≡ own s now.seen = own_between s now.seen book.seen t.0
+      (prefix_on now.seen w.seen book.seen k.known o.ended.quiet.begins) t.1 later in
+      let before : own s now.seen ≡ own s (get_or team.senders.items s d).seen = subst
+      (λ (c : ℕ). own c now.seen ≡ own c (get_or team.senders.items s d).seen) first.number_is k.mine in
+      record {
+        number_is = number;
+        told = heard;
+        queued = subst (λ (es : List Event). Follows team.worker.layout.items s false (items_at s plan.own) es) (sym (heard ∙ before)) first.queued;
+        opens = λ j has. never_refused now.layout s j now.seen w.seen k.legal k.known (closed_count team.worker.seen w.seen o.met.idle ∙ o.run.open_still)
+            (own_has s (Back s j why.Closed) now.seen (subst (λ (es : List Event). Has (Back s j why.Closed) es) heard has));
+      }
+
+  nobody : Known
+  nobody = team.program
+
+  is_race : IsRace plan.senders plan.own team.worker.layout book.seen
+  is_race =
+      let number : w.number ≡ plan.senders = o.met.same.number_is ∙ o.run.number_is in
+      let sent : own plan.senders book.seen ≡ own plan.senders w.seen = subst (λ (c : ℕ). own c book.seen ≡ own c w.seen) number o.ended.quiet.unsent in
+      let before : own plan.senders w.seen ≡ own plan.senders team.worker.seen = subst
+      (λ (c : ℕ). own c w.seen ≡ own c team.worker.seen) o.run.number_is o.met.unsent in
+      let p = o.program in
+      let none : own plan.senders book.seen ≡ [] = sent ∙ (before ∙ o.run.unsent) in
+      record {
+        shared = record {
+          sized = o.run.layout;
+          legal = legal;
+          queued = λ s lt. (sender_at s nobody lt).queued;
+          unpushed = queued_own plan.senders book.seen ∙ ap (count_by (is_queued_by plan.senders)) none;
+          unchained = o.ended.quiet.unchained ∙ (chains_same team.worker.seen w.seen o.met.idle ∙ o.run.unchained);
+          stops = all_front (IsOfStop team.worker.layout) (own (plan.senders + 1) book.seen) (own (plan.senders + 1) p.1.0)
+              (subst (AllByRecursion (IsOfStop team.worker.layout)) (sym (sym (own-append (plan.senders + 1) book.seen p.1.0)
+              ∙ (ap (own (plan.senders + 1)) p.1.1 ∙ p.2))) o.run.stops);
+        };
+        opens = λ s k lt. (sender_at s nobody lt).opens k;
+        unsent = none;
+      }
+
+  few_items : plan.senders * plan.own ≤ 4096
+  few_items = plan.in_limits.few_items
+
+  few_own : plan.own ≤ 4096
+  few_own = omega (arith, few_items, own_room 0 plan.senders plan.own (omega (arith, plan.in_limits.some_sender)))
+
+  pub counted : (s : ℕ) (d : Known) → s < plan.senders → (sender_counts (get_or senders s d).number (get_or senders s d).seen).queued ≡ plan.own
+  counted s d lt =
+      let at = sender_at s d lt in let now = get_or senders s d in
+      let mine : own s now.seen ≡ own s book.seen = sym at.told in
+      let count : count_by (is_queued_by s) now.seen ≡ plan.own =
+      queued_own s now.seen ∙ (ap (count_by (is_queued_by s)) (mine ∙ was_queued plan.senders plan.own team.worker.layout book.seen is_race s lt)
+      ∙ (pushes s (items_at s plan.own) ∙ length-range_with_len (s * plan.own) plan.own)) in
+      ap (λ (c : ℕ). min (count_by (is_queued_by c) now.seen) 18446744073709551615) at.number_is ∙ omega (arith, count, few_own)
+
+  pub senders_count : length senders ≡ plan.senders
+  senders_count = o.known.count ∙ o.run.count
+
+  pub all_counted : All (λ (s : Known). (sender_counts s.number s.seen).queued ≡ plan.own) senders
+  all_counted i d lt = counted i d (omega (arith, lt, senders_count))
+
+  accepted_all : length (items_among team.worker.layout (accepted book.seen)) ≡ plan.senders * plan.own
+  accepted_all = all_accepted plan.senders plan.own team.worker.layout book.seen is_race
+
+  pub ran_all : min (length work.ran.items) 18446744073709551615 ≡ plan.senders * plan.own
+  ran_all = omega (arith, ap (length {A = ℕ}) (o.ended.ran_is ∙ ap (λ (l : Layout). items_among l (accepted book.seen)) size), accepted_all, few_items)
+
+  pub tells : (outcome : Outcome) → IsWhole plan outcome → Tells plan team.worker outcome
+  tells outcome whole = record {
+    history = book.seen;
+    begins = prefix_on team.worker.seen w.seen book.seen o.met.begins o.ended.quiet.begins;
+    legal = legal;
+    complete = o.ended.complete;
+    queued = was_queued plan.senders plan.own team.worker.layout book.seen is_race;
+    served = (team.worker.seen, prefix_on team.worker.seen w.seen book.seen o.met.begins o.ended.quiet.begins, o.run.open_still, o.run.stopped);
+    accepted_is = whole.accepted_is ∙ sym accepted_all;
+    ran_is = whole.ran_is ∙ (sym accepted_all
+        ∙ ap (λ (ks : List ℕ). length (items_among team.worker.layout ks)) (sym (all_ended team.worker.layout book.seen legal o.ended.complete)));
+  }
+
+  few_own_events : (s : ℕ) (d : Known) → s < plan.senders → length (own (get_or senders s d).number (get_or senders s d).seen) < 2 ^ 64 - 1
+  few_own_events s d lt =
+      let at = sender_at s d lt in let now = get_or senders s d in
+      let mine : own now.number now.seen ≡ own s now.seen = ap (λ (c : ℕ). own c now.seen) at.number_is in
+      let all : own s now.seen ≡ queueings s (items_at s plan.own) = sym at.told ∙ was_queued plan.senders plan.own team.worker.layout book.seen is_race s lt in
+      omega (
+        arith,
+        ap (length {A = Event}) mine,
+        ap (length {A = Event}) all,
+        length-queueings s (items_at s plan.own),
+        length-range_with_len (s * plan.own) plan.own,
+        few_own,
+      )
+
+  few_stops : length (own (plan.senders + 1) book.seen) ≤ 2 * 2 ^ 32
+  few_stops =
+      let c = plan.senders + 1 in let p = o.program in
+      let parts : own c p.0 ≡ own c book.seen ++ own c p.1.0 = ap (own c) (sym p.1.1) ∙ own-append c book.seen p.1.0 in
+      omega (arith, ap (length {A = Event}) parts, length-append (own c book.seen) (own c p.1.0), ap (length {A = Event}) p.2, o.run.few_stops)
+
+  few_ended : length (ended book.seen) < 2 ^ 64 - 1
+  few_ended =
+      let n = plan.senders in let l = team.worker.layout in let h = book.seen in
+      let size_is : l.senders ≡ n + 1 + 1 = omega (arith, o.run.layout.senders_is) in
+      let pushes_is : count_by (is_queued_below (n + 1 + 1)) h ≡ count_by is_push h = subst
+      (λ (k : ℕ). count_by (is_queued_below k) h ≡ count_by is_push h) size_is (below_all l h legal) in
+      omega (
+        arith,
+        o.ended.complete.1,
+        accepted-count h,
+        is_race.shared.unchained,
+        pushes_is,
+        below_more (n + 1) h,
+        below_more n h,
+        below_counted n plan.own l h is_race n (omega arith),
+        is_race.shared.unpushed,
+        queued_own (n + 1) h,
+        count_by-le-length (is_queued_by (n + 1)) (own (n + 1) h),
+        few_stops,
+        few_items,
+      )
+
+  -- whatever the book has met since, the ledgers balance
+  pub never_unbalanced : (final : BookState) (ledgers : List LedgerState) → HasHeard book final
+      → ledgers ≡ map ledger_of senders ++ ledger_of team.program ∷ [] → (fault : Unbalanced) → ¬ IsUnbalanced final ledgers fault
+  never_unbalanced final ledgers heard all fault =
+      let n = plan.senders in
+      let number : book.own.number ≡ n = o.ended.number_is ∙ (o.met.same.number_is ∙ o.run.number_is) in
+      let few : final.layout.senders ≡ n + 2 = ap (λ (l : Layout). l.senders) (heard.layout_is ∙ size) ∙ o.run.layout.senders_is in
+      let numbered : AreNumbered 0 senders = λ i d lt. let at : (get_or senders i d).number ≡ i = (sender_at i d (omega (
+        arith,
+        lt,
+        senders_count,
+      ))).number_is in omega (arith, at) in
+      let mine = none_made book.seen book.own o.ended.made (subst (λ (c : ℕ). own c book.seen ≡ []) (sym number) is_race.unsent) in
+      let one : (s : ℕ) → s < n → HasOne ledgers s = λ s lt. (
+        ledger_of (get_or senders s nobody),
+        ap (ledgers_of s) all ∙ one_ledger n s senders team.program nobody numbered senders_count o.run.program_number lt,
+        whole_counts (get_or senders s nobody).number (get_or senders s nobody).seen (few_own_events s nobody lt),
+      ) in
+      let last : HasOne ledgers (n + 1) = (
+        ledger_of team.program,
+        ap (ledgers_of (n + 1)) all ∙ last_ledger n senders team.program numbered senders_count o.run.program_number,
+        whole_counts team.program.number team.program.seen (omega (
+          arith,
+          ap (λ (c : ℕ). length (own c team.program.seen)) o.run.program_number,
+          o.run.few_stops,
+        )),
+      ) in
+      let ones : (s : ℕ) → s < final.layout.senders → s ≢ final.own.number → HasOne ledgers s = λ s lt not. elim (cases_lt s n) [
+        | inl less ↦ one s less
+        | inr ge ↦ let is : n + 1 ≡ s = omega (
+          arith,
+          lt,
+          few,
+          ge,
+          λ (i : s ≡ n). not (i ∙ (sym number ∙ sym (ap (λ (l : LedgerState). l.number) heard.own_is))),
+        ) in subst (HasOne ledgers) is last
+      ] in
+      let chains : count_by is_chain final.seen ≡ 0 = chains_same book.seen final.seen heard.idle ∙ is_race.shared.unchained in
+      let asks : count_by is_chain_busy final.seen ≡ 0 = asks_same book.seen final.seen heard.idle
+      ∙ (o.ended.quiet.unasked ∙ (asks_same team.worker.seen w.seen o.met.idle ∙ o.run.unasked)) in
+      let ends : length (ended final.seen) ≡ length (ended book.seen) = ap (length {A = ℕ}) (ended_same book.seen final.seen heard.idle) in
+      let owners : AreOwnerWhole (owner_counts final.seen) = (
+        (λ is. omega (arith, is, chains)),
+        (λ is. omega (arith, is, asks)),
+        (λ is. omega (arith, is, ends, few_ended)),
+      ) in
+      always_balanced final ledgers ones (subst (λ (l : LedgerState). AreWhole l.counts) (sym heard.own_is) mine) owners fault

@@ -1,0 +1,123 @@
+-- What a sender's thread adds.
+use Rattle.wq_plan.proofs.Common.{◌≡◌, ◌≢◌, ℕ, zero, suc, ◌+◌, ◌*◌, ◌-◌, ◌<◌, ◌≤◌, false, List, [], ◌∷◌, ◌++◌, length, refl, sym, ap, ◌∙◌, subst, arith}
+use Rattle.wq_plan.proofs.Common.{length-append, AllByRecursion, range_with_len, append-nil, Layout, Event, stop_number, Grows, Known, Sees, Queues, pushed}
+use Rattle.wq_plan.proofs.Common.{busy, refused, HasQueued, IsOfStop, IsInVain, HasMade, HasStopped, IsStopAnswer}
+use Rattle.wq_words.specs.declared.answer.Answer.{Answer}
+use Rattle.wq_words.specs.declared.answer.Answer.TheVariants as answer
+use Rattle.wq_live.specs.Answers.{Answers}
+use Rattle.wq_live.proofs.Growing.{grows_on}
+use Rattle.wq_live.proofs.Sends.{same_none, same_on}
+use Rattle.wq_worker.proofs.Follow.{follows_push}
+use Rattle.wq_words.proofs.Seen.{grows_none as grows_still}
+
+one_queued : (k n : ℕ) (es : List Event) (old new : Known) → Queues old.layout.items old.number false k es → Sees es n old new → HasQueued (k ∷ []) old new
+one_queued k n es old new q s = record {
+  same = s.same;
+  events = es;
+  queued = (es, [], sym (append-nil es), q, refl);
+  grows = record { new = s.grows.new; is = s.grows.is; mine = s.grows.mine; theirs = omega arith };
+}
+
+pub queued_one : (k : ℕ) (a : Answer) (old new : Known) → k < old.layout.items → Answers k 0 a old new → a ≢ answer.Contended → HasQueued (k ∷ []) old new
+queued_one k (answer.Queued first wakes) old new lt h not = one_queued k 0 _ old new (pushed lt refl refl) h.0
+queued_one k answer.Pending old new lt h not = one_queued k 0 _ old new (busy lt refl refl) h
+queued_one k answer.Closed old new lt h not = one_queued k 0 _ old new (refused lt refl refl) h
+queued_one k answer.Contended old new lt h not = absurd (not refl)
+
+pub queued_none : (a : Known) → HasQueued [] a a
+queued_none a = record { same = same_none a; events = []; queued = refl; grows = grows_still a.number a.seen }
+
+pub queued_more : (ks : List ℕ) (k : ℕ) (a b c : Known) → HasQueued ks a b → HasQueued (k ∷ []) b c → HasQueued (ks ++ k ∷ []) a c
+queued_more ks k a b c x y =
+    let fs = y.queued.0 in
+    let all : y.events ≡ fs = y.queued.2 ∙ (ap (λ (z : List Event). fs ++ z) y.queued.4 ∙ append-nil fs) in
+    let q : Queues a.layout.items a.number false k y.events = subst (λ (z : List Event). Queues a.layout.items a.number false k z) (sym all)
+    (subst (λ (n : ℕ). Queues a.layout.items n false k fs) x.same.number_is
+    (subst (λ (l : Layout). Queues l.items b.number false k fs) x.same.layout_is y.queued.3)) in
+    record {
+      same = same_on a b c x.same y.same;
+      events = x.events ++ y.events;
+      queued = follows_push a.layout.items a.number false ks k x.events y.events x.queued q;
+      grows = grows_on a.number x.events y.events 0 0 0 a.seen b.seen c.seen (omega arith) x.grows
+          (subst (λ (n : ℕ). Grows n y.events 0 b.seen c.seen) x.same.number_is y.grows);
+    }
+
+range-more : (a n : ℕ) → range_with_len a (suc n) ≡ range_with_len a n ++ (a + n) ∷ []
+range-more a zero = let none : a ≡ a + 0 = omega arith in ap (λ (k : ℕ). k ∷ []) none
+range-more a (suc n) = let next : (a + 1) + n ≡ a + suc n = omega arith in
+    ap (λ (ks : List ℕ). a ∷ ks) (range-more (a + 1) n ∙ ap (λ (k : ℕ). range_with_len (a + 1) n ++ k ∷ []) next)
+
+pub range-last : (a n : ℕ) → range_with_len a (n + 1) ≡ range_with_len a n ++ (a + n) ∷ []
+range-last a n = let next : n + 1 ≡ suc n = omega arith in ap (range_with_len a) next ∙ range-more a n
+
+pub queued_next : (first item : ℕ) (a b c : Known) → first ≤ item → HasQueued (range_with_len first (item - first)) a b → HasQueued (item ∷ []) b c
+    → HasQueued (range_with_len first (item + 1 - first)) a c
+queued_next first item a b c le x y =
+    let more : item + 1 - first ≡ (item - first) + 1 = omega (arith, le) in
+    let last : first + (item - first) ≡ item = omega (arith, le) in
+    subst (λ (ks : List ℕ). HasQueued ks a c) (sym (ap (range_with_len first) more
+    ∙ (range-last first (item - first) ∙ ap (λ (k : ℕ). range_with_len first (item - first) ++ k ∷ []) last)))
+    (queued_more (range_with_len first (item - first)) item a b c x y)
+
+-- the stop item
+made_one : (K : Layout → Event → Type 0) (n : ℕ) (es : List Event) (old new : Known) → AllByRecursion (K old.layout) es → length es ≤ 2 → Sees es n old new
+    → HasMade K 2 old new
+made_one K n es old new all few s = record {
+  same = s.same;
+  events = es;
+  of_kind = all;
+  few_events = few;
+  grows = record { new = s.grows.new; is = s.grows.is; mine = s.grows.mine; theirs = omega arith };
+}
+
+stopped_one : (tries : ℕ) (a : Answer) (old new : Known) → Answers (stop_number old.layout) tries a old new → HasStopped 2 old new
+stopped_one tries (answer.Queued first wakes) old new h = made_one IsOfStop 0 _ old new (refl, (refl, tt)) (omega arith) h.0
+stopped_one tries answer.Pending old new h = made_one IsOfStop 0 _ old new (refl, tt) (omega arith) h
+stopped_one tries answer.Closed old new h = made_one IsOfStop 0 _ old new (refl, (refl, tt)) (omega arith) h
+stopped_one tries answer.Contended old new h = made_one IsOfStop tries _ old new (refl, (refl, tt)) (omega arith) h
+
+vain_one : (tries : ℕ) (a : Answer) (old new : Known) → a ≡ answer.Contended → Answers (stop_number old.layout) tries a old new → HasMade IsInVain 2 old new
+vain_one tries a old new is h =
+    made_one IsInVain tries _ old new (refl, (refl, tt)) (omega arith)
+    (subst (λ (r : Answer). Answers (stop_number old.layout) tries r old new) is h)
+
+pub made_none : (K : Layout → Event → Type 0) (a : Known) → HasMade K 0 a a
+made_none K a = record { same = same_none a; events = []; of_kind = tt; few_events = omega arith; grows = grows_still a.number a.seen }
+
+all_both : (P : Event → Type 0) (xs ys : List Event) → AllByRecursion P xs → AllByRecursion P ys → AllByRecursion P (xs ++ ys)
+all_both P [] ys a b = b
+all_both P (x ∷ xs) ys a b = (a.0, all_both P xs ys a.1 b)
+
+made_more : (K : Layout → Event → Type 0) (m n : ℕ) (a b c : Known) → m + 2 ≤ n → HasMade K m a b → HasMade K 2 b c → HasMade K n a c
+made_more K m n a b c le x y = record {
+  same = same_on a b c x.same y.same;
+  events = x.events ++ y.events;
+  of_kind = all_both (K a.layout) x.events y.events x.of_kind (subst (λ (l : Layout). AllByRecursion (K l) y.events) x.same.layout_is y.of_kind);
+  few_events = omega (arith, le, length-append x.events y.events, x.few_events, y.few_events);
+  grows = grows_on a.number x.events y.events 0 0 0 a.seen b.seen c.seen (omega arith) x.grows
+      (subst (λ (n : ℕ). Grows n y.events 0 b.seen c.seen) x.same.number_is y.grows);
+}
+
+pub made_fewer : (K : Layout → Event → Type 0) (m n : ℕ) (a b : Known) → m ≤ n → HasMade K m a b → HasMade K n a b
+made_fewer K m n a b le s = record { same = s.same; events = s.events; of_kind = s.of_kind; few_events = omega (arith, le, s.few_events); grows = s.grows }
+
+-- one more try, in vain
+pub vain_more : (n : ℕ) (r : Answer) (a b c : Known) → r ≡ answer.Contended → HasMade IsInVain (2 * n) a b × HasStopped (2 * n) a b
+    → Answers (stop_number b.layout) 4294967295 r b c → HasMade IsInVain (2 * (n + 1)) a c × HasStopped (2 * (n + 1)) a c
+vain_more n r a b c is x y = (
+  made_more IsInVain (2 * n) (2 * (n + 1)) a b c (omega arith) x.0 (vain_one 4294967295 r b c is y),
+  made_more IsOfStop (2 * n) (2 * (n + 1)) a b c (omega arith) x.1 (stopped_one 4294967295 r b c y),
+)
+
+-- the last try
+pub last_stopped : (n : ℕ) (r : Answer) (a b c : Known) → n < 4294967296 → HasStopped (2 * n) a b → Answers (stop_number b.layout) 4294967295 r b c
+    → HasStopped 8589934592 a c
+last_stopped n r a b c lt x y = made_more IsOfStop (2 * n) 8589934592 a b c (omega (arith, lt)) x (stopped_one 4294967295 r b c y)
+
+pub last_answer : (n : ℕ) (r : Answer) (a b c : Known) → n < 4294967296 → HasMade IsInVain (2 * n) a b → Answers (stop_number b.layout) 4294967295 r b c
+    → IsStopAnswer r a c
+last_answer n r a b c lt x y = record {
+  between = b;
+  before = made_fewer IsInVain (2 * n) 8589934592 a b (omega (arith, lt)) x;
+  last = subst (λ (l : Layout). Answers (stop_number l) 4294967295 r b c) x.same.layout_is y;
+}

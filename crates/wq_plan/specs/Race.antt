@@ -1,0 +1,127 @@
+-- What the seats of a race have done.
+use Rattle.std.specs.Prelude.{◌≡◌, ℕ, ◌+◌, ◌*◌, ◌^◌, ◌<◌, ◌≤◌, false, List, [], ◌∷◌, ◌++◌, length, count_by, slice_index_or}
+use Rattle.std.specs.List.{AllByRecursion, range_with_len}
+use Rattle.std.specs.declared.thread.PromisedHandle.{PromisedHandle}
+use mathlib.Core.List.{IsPrefix}
+use Rattle.wq_words.specs.declared.layout.Layout.{Layout}
+use Rattle.wq_words.specs.declared.event.Event.{Event}
+use Rattle.wq_words.specs.declared.event.Event.TheVariants.{Hold, Busy, Push, Back}
+use Rattle.wq_words.specs.declared.event.Why.TheVariants as why
+use Rattle.wq_words.specs.Numbers.{stop_number}
+use Rattle.wq_words.specs.History.{IsRunning, is_close, ended}
+use Rattle.wq_words.specs.Legal.{IsLegal}
+use Rattle.wq_words.specs.Seen.{own, Grows}
+use Rattle.wq_live.specs.declared.sender.Sender.{Sender}
+use Rattle.wq_live.specs.Known.{QueueId, Known, IsSame}
+use Rattle.wq_live.specs.Answers.{Answers}
+use Rattle.wq_words.specs.declared.answer.Answer.{Answer}
+use Rattle.wq_words.specs.Counting.{is_chain, is_chain_busy}
+use Rattle.wq_worker.specs.Follow.{Follows}
+use Rattle.wq_worker.specs.State.{WorkerState, IsSameWorker}
+use Rattle.wq_plan.specs.declared.idle.Idle.{Idle}
+use Rattle.wq_plan.specs.declared.plan.Plan.{Plan}
+use Rattle.wq_plan.specs.declared.team.Team.{Team}
+use Rattle.wq_plan.specs.declared.race.QueuesOwn.{QueuesOwn}
+use Rattle.wq_plan.specs.Plan.{IsLayoutOf}
+
+-- the items of the sender s, where each has so many
+abbrev pub items_at : ℕ → ℕ → List ℕ
+items_at s own = range_with_len (s * own) own
+
+-- a sender queued these items, once each and in this order: each was pushed, found pending, or refused by a closed queue
+pub record HasQueued (items : List ℕ) (old new : Known) : Type 0 where
+  pub same : IsSame old new
+  pub events : List Event
+  pub queued : Follows old.layout.items old.number false items events
+  pub grows : Grows old.number events 0 old.seen new.seen
+
+-- the event is a sender's, and of the stop item
+abbrev pub IsOfStop : Layout → Event → Type 0
+IsOfStop layout (Hold s k) = k ≡ stop_number layout
+IsOfStop layout (Busy s k) = k ≡ stop_number layout
+IsOfStop layout (Push s k) = k ≡ stop_number layout
+IsOfStop layout (Back s k why) = k ≡ stop_number layout
+IsOfStop layout _ = ⊥
+
+-- the event is a sender's hold of the stop item, or gives it back after lost tries
+abbrev pub IsInVain : Layout → Event → Type 0
+IsInVain layout (Hold s k) = k ≡ stop_number layout
+IsInVain layout (Back s k why.Contended) = k ≡ stop_number layout
+IsInVain layout _ = ⊥
+
+-- a sender made at most so many events, all of this kind
+pub record HasMade (Kind : Layout → Event → Type 0) (few : ℕ) (old new : Known) : Type 0 where
+  pub same : IsSame old new
+  pub events : List Event
+  pub of_kind : AllByRecursion (Kind old.layout) events
+  pub few_events : length events ≤ few
+  pub grows : Grows old.number events 0 old.seen new.seen
+
+-- a sender tried to queue the stop item, with at most so many events
+abbrev pub HasStopped : ℕ → Known → Known → Type 0
+HasStopped few old new = HasMade IsOfStop few old new
+
+-- a sender's last try to queue the stop item was given this answer, and each before it was in vain
+pub record IsStopAnswer (a : Answer) (old new : Known) : Type 0 where
+  pub between : Known
+  pub before : HasMade IsInVain (2 * 2 ^ 32) old between
+  pub last : Answers (stop_number old.layout) 4294967295 a between new
+
+-- the stop item is the last that ended
+abbrev pub EndsWithStop : Layout → List Event → Type 0
+EndsWithStop layout h = (before : List ℕ) × (ended h ≡ before ++ stop_number layout ∷ [])
+
+-- the history goes on from the old one, and in what came new the sender s made no event and the owner chained nothing
+pub record QueuesNothing (s : ℕ) (old new : List Event) : Type 0 where
+  pub begins : IsPrefix old new
+  pub unsent : own s new ≡ own s old
+  pub unchained : count_by is_chain new ≡ count_by is_chain old
+  pub unasked : count_by is_chain_busy new ≡ count_by is_chain_busy old
+
+-- A worker whose work asks for nothing served: its sender made no event, its owner chained nothing and did not close the
+-- queue, the stop item ended last, and nothing runs.
+pub record HasServed (old new : WorkerState Idle) : Type 0 where
+  pub same : IsSameWorker old new
+  pub quiet : QueuesNothing old.number old.seen new.seen
+  pub closes_is : count_by is_close new.seen ≡ count_by is_close old.seen
+  pub stopped : EndsWithStop new.layout new.seen
+  pub idle : ¬ IsRunning new.seen
+  pub legal : IsLegal new.layout new.seen
+
+-- each of these threads was given the sender at its place, and how many items are its own
+abbrev pub AreThreads : ℕ → List Known → List (PromisedHandle Sender QueuesOwn) → Type 0
+AreThreads own senders threads = (i : ℕ) (d : PromisedHandle Sender QueuesOwn) (e : Known) → i < length threads →
+    ((slice_index_or threads i d).promise.0.value ≡ slice_index_or senders i e) × ((slice_index_or threads i d).promise.1 ≡ own)
+
+-- each of these senders queued its own items
+pub record AllQueued (own : ℕ) (olds news : List Known) : Type 0 where
+  pub count : length news ≡ length olds
+  pub each : (i : ℕ) (d : Known) → i < length olds → HasQueued (items_at (slice_index_or olds i d).number own) (slice_index_or olds i d)
+      (slice_index_or news i d)
+
+-- The sender of this number, of this queue of this size: its events are the queueings of its own items.
+pub record IsQueuer (own_items : ℕ) (queue : QueueId) (layout : Layout) (i : ℕ) (s : Known) : Type 0 where
+  pub number_is : s.number ≡ i
+  pub queue_is : s.queue ≡ queue
+  pub layout_is : s.layout ≡ layout
+  pub queued : Follows layout.items i false (items_at i own_items) (own i s.seen)
+
+-- A team whose threads have ended: each of the plan's senders queued its own items, the program's tried to queue the stop
+-- item, and the worker served an open queue until the stop item had ended.
+pub record HasRaced (plan : Plan) (team : Team) : Type 0 where
+  pub layout : IsLayoutOf plan.senders plan.own team.worker.layout
+  pub count : length team.senders.items ≡ plan.senders
+  pub each : (i : ℕ) (d : Known) → i < plan.senders
+      → IsQueuer plan.own team.worker.queue team.worker.layout i (slice_index_or team.senders.items i d)
+  pub number_is : team.worker.number ≡ plan.senders
+  pub unsent : own plan.senders team.worker.seen ≡ []
+  pub unchained : count_by is_chain team.worker.seen ≡ 0
+  pub unasked : count_by is_chain_busy team.worker.seen ≡ 0
+  pub open_still : count_by is_close team.worker.seen ≡ 0
+  pub stopped : EndsWithStop team.worker.layout team.worker.seen
+  pub idle : ¬ IsRunning team.worker.seen
+  pub legal : IsLegal team.worker.layout team.worker.seen
+  pub program_number : team.program.number ≡ plan.senders + 1
+  pub program_queue : team.program.queue ≡ team.worker.queue
+  pub stops : AllByRecursion (IsOfStop team.worker.layout) (own (plan.senders + 1) team.program.seen)
+  pub few_stops : length (own (plan.senders + 1) team.program.seen) ≤ 2 * 2 ^ 32

@@ -1,0 +1,171 @@
+//! What a race did, and whether its book balances.
+ghost use Rattle.std.specs.Prelude.{◌≡◌, ◌≢◌, ◌<◌, [], ◌∷◌, ◌++◌, map, All, OnOk, IfOk, MatchResult, MatchBool, string_bytes};
+ghost use Rattle.wq_words.specs.History.{IsRunning};
+ghost use Rattle.wq_words.specs.Legal.{IsLegal};
+ghost use Rattle.wq_words.specs.Seen.{owner_seat, own};
+ghost use Rattle.wq_ledger.specs.Book.{IsLedgerOf};
+ghost use Rattle.wq_ledger.specs.Balance.{Balances, IsUnbalanced};
+ghost use Rattle.wq_plan.specs.Race.{HasRaced};
+ghost use Rattle.wq_plan.specs.Outcome.{outcome_line, yes_or_no as said, Tells, IsWhole, HasMet, AllKnown, HasGoneOn, HasEnded, HasHeard, ledger_of, IsTold, queued_sum};
+
+use crate::idle::Idle;
+use crate::plan::Plan;
+use crate::team::Team;
+use std::alloc::{AllocError, Global};
+use std::sync::Wait;
+use wq_live::Sender;
+use wq_worker::{Book, Ledger, Totals, Unbalanced, Worker};
+
+/// How many items were accepted and how many ran, the stop item left out, and whether the ledgers of all senders balance.
+#[derive(Clone, Copy, Debug, PartialEq, Eq)]
+pub struct Outcome {
+    pub accepted: u128,
+    pub ran: u128,
+    pub is_balanced: bool,
+}
+
+/// The book meets a sender, whose ledger comes behind the others.
+pub fn enter(
+    book: &mut Book,
+    ledgers: &mut Vec<Ledger>,
+    sender: &mut Sender,
+) -> Result<(), AllocError>
+    requires one { sender.old.queue ≡ book.old.queue }
+    requires made { All (IsLedgerOf book.old.seen) ledgers.old.items }
+    ensures book { HasHeard book.old book.new }
+    ensures made { OnOk result (All (IsLedgerOf book.new.seen) ledgers.new.items) }
+    ensures ledger { OnOk result (ledgers.new.items ≡ ledgers.old.items ++ ledger_of sender.old ∷ []) }
+    ensures told { own sender.old.number book.new.seen ≡ own sender.old.number sender.old.seen }
+{
+    let ledger = book.meet(sender);
+    ledgers.push(ledger)?;
+    Ok(())
+}
+
+/// A ledger for each of these senders.
+pub fn enter_all(
+    book: &mut Book,
+    ledgers: &mut Vec<Ledger>,
+    senders: Vec<Sender>,
+) -> Result<(), AllocError>
+    requires one { All (λ s. s.queue ≡ book.old.queue) senders.items }
+    requires none { ledgers.old.items ≡ [] }
+    ensures book { HasHeard book.old book.new }
+    ensures made { OnOk result (All (IsLedgerOf book.new.seen) ledgers.new.items) }
+    ensures ledgers { OnOk result (ledgers.new.items ≡ map ledger_of senders.items) }
+    ensures told { OnOk result (All (IsTold book.old.seen) senders.items) }
+{
+    for mut sender in senders {
+        enter(book, ledgers, &mut sender)?;
+    }
+    Ok(())
+}
+
+// Each sender meets the worker: what it did comes before all that the worker does from now on.
+fn meet_senders(worker: &mut Worker<Idle>, senders: &mut Vec<Sender>)
+    requires one { All (λ s. s.queue ≡ worker.old.queue) senders.old.items }
+    requires legal { IsLegal worker.old.layout worker.old.seen }
+    ensures worker { HasMet worker.old worker.new }
+    ensures senders { AllKnown worker.new.seen senders.old.items senders.new.items }
+{
+    for sender in senders.iter_mut() {
+        worker.meet(sender);
+    }
+}
+
+// Destroys the queue of a worker, or gives the worker back.
+fn try_destroy(worker: Worker<Idle>) -> Result<(Idle, Book), Worker<Idle>>
+    requires seat { worker.number ≢ owner_seat }
+    requires idle { ¬ IsRunning worker.seen }
+    requires legal { IsLegal worker.layout worker.seen }
+    ensures { MatchResult result (λ done. HasEnded worker done.0 done.1) (λ back. HasGoneOn worker back) }
+{
+    match worker.destroy(u32::MAX) {
+        Ok((work, book)) => {
+            book.legal();
+            Ok((work, book))
+        }
+        Err(unfinished) => Err(unfinished.worker),
+    }
+}
+
+fn destroy<R: Wait>(rt: &R, mut worker: Worker<Idle>) -> (Idle, Book)
+    requires seat { worker.number ≢ owner_seat }
+    requires idle { ¬ IsRunning worker.seen }
+    requires legal { IsLegal worker.layout worker.seen }
+    ensures { HasEnded worker result.0 result.1 }
+{
+    for _ in rt.forever() {
+        match try_destroy(worker) {
+            Ok(done) => return done,
+            Err(back) => worker = back,
+        }
+    }
+    unreachable!()
+}
+
+/// How many items these senders queued.
+pub fn queued_by(senders: &[Sender]) -> u128
+    ensures { result ≡ queued_sum senders.now }
+{
+    let mut queued = 0u128;
+    for sender in senders {
+        queued += u128::from(sender.counts().queued);
+    }
+    queued
+}
+
+/// Whether the ledgers balance.
+pub fn is_balanced(book: &Book, ledgers: &[Ledger]) -> bool
+    requires { All (IsLedgerOf book.now.seen) ledgers.now }
+    ensures { MatchBool result ((totals : Totals) × Balances book.now ledgers.now totals) ((fault : Unbalanced) × IsUnbalanced book.now ledgers.now fault) }
+{
+    match book.balance(ledgers) {
+        Ok(_) => true,
+        Err(_) => false,
+    }
+}
+
+fn yes_or_no(is: bool) -> &'static str
+    ensures { result.now ≡ said is }
+{
+    if is { "yes" } else { "no" }
+}
+
+impl Outcome {
+    /// One line: `accepted A ran R balanced yes`, or `balanced no`.
+    #[tactic(auto, unfolding(crate::specs::Outcome::outcome_line))]
+    pub fn write(self, out: &mut String) -> Result<(), AllocError>
+        ensures line { OnOk result (string_bytes out.new ≡ string_bytes out.old ++ outcome_line self) }
+    {
+        let balanced = yes_or_no(self.is_balanced);
+        writeln!(
+            out,
+            "accepted {} ran {} balanced {balanced}",
+            self.accepted, self.ran
+        )
+    }
+
+    /// Destroys the queue of a team that has run its race, and balances the book.
+    pub fn of<R: Wait>(rt: &R, alloc: Global, team: Team) -> Result<Outcome, AllocError>
+        requires run { (plan : Plan) × HasRaced plan team }
+        ensures told { (plan : Plan) → HasRaced plan team → IfOk result (λ outcome. IsWhole plan outcome × Tells plan team.worker outcome) }
+    {
+        let mut ledgers = Vec::with_capacity(alloc, team.senders.len() + 1)?;
+        let Team {
+            mut worker,
+            mut senders,
+            mut program,
+        } = team;
+        meet_senders(&mut worker, &mut senders);
+        let accepted = queued_by(&senders);
+        let (work, mut book) = destroy(rt, worker);
+        enter_all(&mut book, &mut ledgers, senders)?;
+        enter(&mut book, &mut ledgers, &mut program)?;
+        Ok(Outcome {
+            accepted,
+            ran: u128::from(work.count()),
+            is_balanced: is_balanced(&book, &ledgers),
+        })
+    }
+}

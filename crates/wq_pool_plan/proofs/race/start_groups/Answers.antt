@@ -1,0 +1,34 @@
+use Rattle.wq_pool_plan.proofs.Common.{◌≡◌, ◌∙◌, ℕ, ◌+◌, ◌-◌, vec_len, sym, ap, subst, length, get_or, List, arith, length-append, [], ◌∷◌, All, get_or_default}
+use Rattle.wq_pool_plan.proofs.Common.{All-take, YieldsList-from_vec, YieldsList-turn, PromisedHandle, each_more, IsCallerOf, Group, QueuesGroup}
+use Rattle.wq_pool_plan.proofs.race.start_groups.Goals as goal
+
+pub loop-group-preserved : goal.loop-group-preserved
+loop-group-preserved g c =
+    let i = c.into_iter-group-iterator.ensures.into_iter_gives in let l = c.loop-group in
+    let turn = YieldsList-turn (YieldsList-from_vec {s = c.into_iter-group-iterator.result} c.args.groups.items i.0 (i.1
+    ∙ c.args.groups.ok.0)) l.yielded l.group-iterator l.yielded_by c.next.result c.next.new.self c.in-Some.group c.in-Some.is c.next.ensures.steps in
+    let xs = l.handles.items in let h = c.in-Some-start_group.handle in let all = c.args.groups.items in
+    let kept = c.if-not-keep_handle.ensures.kept in
+    let P : ℕ → PromisedHandle Group QueuesGroup → Type 0 = λ k handle. (e : Group)
+    → (handle.promise.0.value ≡ get_or all k e) × (handle.promise.1 ≡ c.args.own) in
+    let here : P (length xs) h = λ e.
+    let at : get_or all (length l.yielded) c.in-Some.group ≡ get_or all (length l.yielded) e = get_or_default all
+    (length l.yielded) c.in-Some.group e turn.0 in
+    (c.in-Some-start_group.ensures.0 ∙ (turn.1 ∙ (at ∙ ap (λ (k : ℕ). get_or all k e) (sym l.invariant.count))), c.in-Some-start_group.ensures.1) in
+    let fewer : length c.pop.new.self.items + 1 ≡ length l.callers.items = sym (ap length c.in-Some-pop.ensures.items
+    ∙ length-append c.pop.new.self.items (c.in-Some-pop.caller ∷ [])) in
+    record {
+      count = ap length kept ∙ omega (arith, l.invariant.count, length-append xs (h ∷ []), length-append l.yielded (c.in-Some.group ∷ []));
+      given = λ k d e lt. subst (λ (hs : List (PromisedHandle Group QueuesGroup)). P k (get_or hs k d)) (sym kept)
+          (each_more P xs h (λ k d lt e. l.invariant.given k d e lt) here k d (omega (arith, lt, ap length kept))) e;
+      callers = subst (All (IsCallerOf c.args.pool.now.ready)) (sym c.pop.ensures.rest)
+          (All-take (IsCallerOf c.args.pool.now.ready) (vec_len l.callers - 1) l.callers.items l.invariant.callers);
+      enough = omega (arith, l.invariant.enough, fewer, length-append l.yielded (c.in-Some.group ∷ []));
+    }
+
+pub returns-then-not-keep_handle-clause-given : goal.returns-then-not-keep_handle-clause-given
+returns-then-not-keep_handle-clause-given g c = λ k d e lt.
+    let kept = c.if-not-keep_handle.ensures.kept in
+    subst (λ (hs : List (PromisedHandle Group QueuesGroup)). ((get_or hs k d).promise.0.value ≡ get_or c.args.groups.items k e)
+    × ((get_or hs k d).promise.1 ≡ c.args.own)) (sym kept)
+    (c.loop-group.invariant.given k d e (omega (arith, lt, ap length kept)))

@@ -1,0 +1,91 @@
+-- What a race over a pool leaves: a history and a book of each queue, and what its outcome counts.
+use Rattle.std.specs.Prelude.{◌≡◌, ◌⊎◌, ℕ, ◌+◌, ◌<◌, ◌==◌, ◌&&◌, true, false, if◌then◌else◌, List, [], ◌∷◌, length, sum_by, All, MatchBool}
+use Rattle.std.specs.List.{AllByRecursion}
+use Rattle.std.specs.declared.result.Result.{Result}
+use Rattle.std.specs.declared.result.Result.TheVariants.{Ok, Err}
+use mathlib.Core.List.{IsPrefix}
+use Rattle.wq_words.specs.declared.layout.Layout.{Layout}
+use Rattle.wq_words.specs.declared.event.Event.{Event}
+use Rattle.wq_words.specs.History.{accepted, ended}
+use Rattle.wq_words.specs.Legal.{IsLegal, IsComplete}
+use Rattle.wq_words.specs.Seen.{own}
+use Rattle.wq_live.specs.Counts.{capped}
+use Rattle.wq_ledger.specs.declared.book.Ledger.{Ledger}
+use Rattle.wq_ledger.specs.declared.totals.Totals.{Totals}
+use Rattle.wq_ledger.specs.declared.balance.Unbalanced.{Unbalanced}
+use Rattle.wq_ledger.specs.Book.{BookState, IsLedgerOf}
+use Rattle.wq_ledger.specs.Balance.{Balances, IsUnbalanced}
+use Rattle.wq_worker.specs.Follow.{Follows}
+use Rattle.wq_worker.specs.State.{items_among}
+use Rattle.wq_plan.specs.declared.outcome.Outcome.{Outcome}
+use Rattle.wq_plan.specs.declared.plan.Plan.{Plan}
+use Rattle.wq_plan.specs.Plan.{IsLayoutOf}
+use Rattle.wq_plan.specs.Race.{items_at}
+
+-- a queue's size, its history, and the book and the ledgers of its senders
+pub record QueueRun : Type 0 where
+  pub layout : Layout
+  pub history : List Event
+  pub book : BookState
+  pub ledgers : List Ledger
+
+-- A queue of the plan's size: the history is legal and has run to its end, and in it each of the plan's senders queued its own
+-- items in order, once each. The book has seen no less, and made the ledgers.
+pub record IsQueueRun (plan : Plan) (run : QueueRun) : Type 0 where
+  pub sized : IsLayoutOf plan.senders plan.own run.layout
+  pub legal : IsLegal run.layout run.history
+  pub complete : IsComplete run.history
+  pub queued : (s : ℕ) → s < plan.senders → Follows run.layout.items s false (items_at s plan.own) (own s run.history)
+  pub heard : IsPrefix run.history run.book.seen
+  pub made : All (IsLedgerOf run.book.seen) run.ledgers
+
+-- how many items were accepted, and how many executions of items ended: barriers and the stop item are no items
+abbrev pub accepted_items : QueueRun → ℕ
+accepted_items run = capped (length (items_among run.layout (accepted run.history)))
+
+abbrev pub ended_items : QueueRun → ℕ
+ended_items run = capped (length (items_among run.layout (ended run.history)))
+
+-- the book balances with the ledgers, or it does not
+abbrev pub IsBalanced : QueueRun → Type 0
+IsBalanced run = (totals : Totals) × Balances run.book run.ledgers totals
+
+abbrev pub IsFaulty : QueueRun → Type 0
+IsFaulty run = (fault : Unbalanced) × IsUnbalanced run.book run.ledgers fault
+
+-- it is so of one of these
+abbrev pub IsSomeFaulty : List QueueRun → Type 0
+IsSomeFaulty [] = ⊥
+IsSomeFaulty (run ∷ runs) = IsFaulty run ⊎ IsSomeFaulty runs
+
+-- the outcome of one queue
+pub record TellsRun (run : QueueRun) (outcome : Outcome) : Type 0 where
+  pub accepted_is : outcome.accepted ≡ accepted_items run
+  pub ran_is : outcome.ran ≡ ended_items run
+  pub balanced : MatchBool outcome.is_balanced (IsBalanced run) (IsFaulty run)
+
+-- The outcome of these queues: its numbers are the sums over all, and it says that it balances just where the book of each does.
+pub record TellsRuns (plan : Plan) (runs : List QueueRun) (outcome : Outcome) : Type 0 where
+  pub each : AllByRecursion (IsQueueRun plan) runs
+  pub accepted_is : outcome.accepted ≡ sum_by accepted_items runs
+  pub ran_is : outcome.ran ≡ sum_by ended_items runs
+  pub same : outcome.accepted ≡ outcome.ran
+  pub balanced : MatchBool outcome.is_balanced (AllByRecursion IsBalanced runs) (IsSomeFaulty runs)
+
+-- the outcome of a plan: for each of its queues a run, of which it tells
+pub record TellsPlan (plan : Plan) (outcome : Outcome) : Type 0 where
+  pub runs : List QueueRun
+  pub count : length runs ≡ plan.queues
+  pub tells : TellsRuns plan runs outcome
+
+-- What an outcome makes of a book's answer, of what its senders and the program queued, and of what its work ran.
+abbrev pub IsOutcomeOf : Result Totals Unbalanced → ℕ → ℕ → ℕ → Outcome → Type 0
+IsOutcomeOf (Ok totals) queued stops ran outcome =
+    (outcome.is_balanced ≡ true) × (outcome.ran ≡ ran) × (outcome.accepted ≡ (if totals.executed == queued + stops then queued else ran))
+IsOutcomeOf (Err fault) queued stops ran outcome = (outcome.is_balanced ≡ false) × (outcome.ran ≡ ran) × (outcome.accepted ≡ ran)
+
+-- an outcome of two, added up
+pub record AreBoth (one other sum : Outcome) : Type 0 where
+  pub accepted_is : sum.accepted ≡ one.accepted + other.accepted
+  pub ran_is : sum.ran ≡ one.ran + other.ran
+  pub balanced_is : sum.is_balanced ≡ (one.is_balanced && other.is_balanced)

@@ -1,7 +1,0 @@
-use Rattle.wq_served.proofs.Common.{[], ◌∷◌, Close}
-use Rattle.wq_served.proofs.Moved.{noted_moved}
-use Rattle.wq_served.proofs.noted.Noted.close.Goals as goal
-
-pub invariant_of-self : goal.invariant_of-self
-invariant_of-self g c =
-    noted_moved c.self.inside.stop_item (Close ∷ []) 0 c.self.inside.worker c.close.new.self c.close.ensures.events c.self.invariant

@@ -1,0 +1,7 @@
+use Rattle.wq_turn.proofs.Common.{[], ◌∷◌, Close}
+use Rattle.wq_turn.proofs.Moved.{noted_moved}
+use Rattle.wq_turn.proofs.noted.Noted.close.Goals as goal
+
+pub invariant_of-self : goal.invariant_of-self
+invariant_of-self g c =
+    noted_moved c.self.inside.stop_item (Close ∷ []) 0 c.self.inside.worker c.close.new.self c.close.ensures.events c.self.invariant

@@ -1,0 +1,7 @@
+use Rattle.wq_turn.proofs.Common.{rest_events}
+use Rattle.wq_turn.proofs.Moved.{noted_moved}
+use Rattle.wq_turn.proofs.noted.Noted.rest.Goals as goal
+
+pub invariant_of-self : goal.invariant_of-self
+invariant_of-self g c =
+    noted_moved c.self.inside.stop_item (rest_events c.rest.result) 0 c.self.inside.worker c.rest.new.self c.rest.ensures.events c.self.invariant

@@ -1,0 +1,24 @@
+use Rattle.wq_turn.proofs.Common.{None, sym, ap, ◌∙◌, subst, WorkerState, HasNoneLeft, NothingWaits, Settles}
+use Rattle.wq_turn.proofs.Settled.{settled_closed, settled_rested, settled_refused}
+use Rattle.wq_turn.proofs.runner.Runner.rest.Goals as goal
+
+pub returns-then-is_closed : goal.returns-then-is_closed
+returns-then-is_closed g c =
+    let a = c.self.inside.worker in let e = c.is_closed.ensures in
+    let none : HasNoneLeft a.seen = rw (ap (λ (w : WorkerState _). w.seen) c.self.view_is) c.requires.none in
+    subst (λ (w : WorkerState _). Settles g.W.Work.may None w w) c.self.view_is
+    (settled_closed g.W.Work.may a e.legal (sym e.closed ∙ c.if-is_closed.true) none)
+
+pub returns-then-rest : goal.returns-then-rest
+returns-then-rest g c =
+    let a = c.self.inside.worker in let e = c.rest.ensures in
+    subst (λ (w : WorkerState _). Settles g.W.Work.may None w c.rest.new.self) c.self.view_is
+    (settled_rested g.W.Work.may c.rest.result a c.rest.new.self c.if-rest.true e.work e.events e.none)
+
+pub returns : goal.returns
+returns g c =
+    let a = c.self.inside.worker in let e = c.rest.ensures in
+    let waits : NothingWaits a.seen = rw (ap (λ (w : WorkerState _). w.seen) c.self.view_is) c.requires.waits in
+    subst (λ (w : WorkerState _). Settles g.W.Work.may c.ready.result w c.ready.new.self) c.self.view_is
+    (settled_refused g.W.Work.may c.rest.result c.ready.result a c.rest.new.self c.ready.new.self c.if-rest.false waits e.work e.events e.unclosed
+    e.none (e.refused c.if-rest.false) c.ready.ensures.outcome)

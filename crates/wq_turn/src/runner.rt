@@ -1,0 +1,221 @@
+//! A worker at work.
+ghost use Rattle.std.specs.Prelude.{◌≡◌, true, false, Contains};
+ghost use Rattle.wq_words.specs.Numbers.{stop_number};
+ghost use Rattle.wq_words.specs.History.{begun, ended, IsClosed, IsRunning};
+ghost use Rattle.wq_words.specs.Legal.{IsLegal};
+ghost use Rattle.wq_words.specs.Headline.{KeepsHeadline};
+ghost use Rattle.wq_worker.specs.Resting.{HasNoneLeft};
+ghost use Rattle.wq_worker.specs.Seats.{NothingWaits};
+ghost use Rattle.wq_worker.specs.State.{items_among};
+ghost use Rattle.wq_turn.specs.Drained.{IsDrained};
+ghost use Rattle.wq_turn.specs.Owed.{IsOwed};
+ghost use Rattle.wq_turn.specs.Steps.{Settles, RunsOne, MakesProgress, WorksOn};
+ghost use Rattle.wq_turn.specs.WorkerId.{worker_id};
+
+use crate::gate::Gate;
+use crate::noted::Noted;
+use crate::served::Served;
+use std::marker::Model;
+use wq_worker::{Ran, Work};
+
+/// What a step came to.
+pub(crate) enum Progress {
+    /// An execution ended.
+    Ended,
+    /// An execution is owed.
+    Owed,
+    /// Nothing was left to do: the queue rests, or has run to its end.
+    Done,
+}
+
+/// A worker at work: one that may owe an execution, with its queue in the hand of one thread.
+#[derive(Drop)]
+pub struct Runner<W: Work> {
+    worker: Noted<W>,
+    owes: bool,
+}
+
+// A gate for a drain, at which nobody looks.
+struct NoGate;
+
+impl Gate for NoGate {
+    fn before(&self, _queue: u32, _item: u32) {}
+
+    fn after(&self, _queue: u32, _item: u32) {}
+}
+
+impl<W: Work> Model for Runner<W> {
+    ghost use Rattle.wq_worker.specs.State.{WorkerState};
+    ghost use Rattle.wq_turn.specs.Owed.{IsOwed};
+
+    ghost Value = { WorkerState W };
+
+    ghost view = { λ r. r.worker };
+
+    ghost invariant = { λ r. IsOwed r.owes r.worker.seen };
+}
+
+impl<W: Work> Runner<W> {
+    /// Takes a worker that owes nothing to work.
+    pub fn of(served: Served<W>) -> Runner<W>
+        ensures same { result ≡ served }
+        ensures idle { ¬ IsRunning result.seen }
+    {
+        Runner {
+            worker: served.worker,
+            owes: false,
+        }
+    }
+
+    /// What the worker has seen is a legal history, so the queue keeps the headline. The work has run the items that have
+    /// begun, in this order.
+    pub fn legal(&self)
+        ensures legal { IsLegal self.now.layout self.now.seen }
+        ensures headline { KeepsHeadline self.now.seen }
+        ensures logged { W.log self.now.work ≡ items_among self.now.layout (begun self.now.seen) }
+    {
+        self.worker.legal();
+    }
+
+    /// True just where an execution is owed.
+    pub fn owes(&self) -> bool
+        ensures { IsOwed result self.now.seen }
+    {
+        self.owes
+    }
+
+    /// As `Served::count_stop`, of a worker that may owe an execution.
+    pub fn count_stop(&mut self) -> bool
+        ensures same { self.new ≡ self.old }
+        ensures ran { result ≡ true → Contains (ended self.old.seen) (stop_number self.old.layout) }
+    {
+        self.worker.count_stop()
+    }
+
+    /// The worker at rest, where it owes nothing.
+    pub fn into_served(self) -> Served<W>
+        requires { ¬ IsRunning self.seen }
+        ensures same { result ≡ self }
+    {
+        Served {
+            worker: self.worker,
+        }
+    }
+
+    // Rests, where nothing is left and the queue is open. Where that is refused something was pushed, since the worker has taken
+    // after its last rest, and the next take finds it.
+    fn rest(&mut self) -> Option<u32>
+        requires waits { NothingWaits self.old.seen }
+        requires none { HasNoneLeft self.old.seen }
+        ensures { Settles W.may result self.old self.new }
+    {
+        if self.worker.is_closed() {
+            return None;
+        }
+        if self.worker.rest() {
+            return None;
+        }
+        self.worker.ready()
+    }
+
+    // Answers the number to be begun next. `None` where nothing is left to do.
+    fn settle(&mut self) -> Option<u32>
+        requires { ¬ IsRunning self.old.seen }
+        ensures { Settles W.may result self.old self.new }
+    {
+        match self.worker.ready() {
+            Some(number) => Some(number),
+            None => self.rest(),
+        }
+    }
+
+    // Executes the next number, or goes on with the one that is owed.
+    fn execute<G: Gate>(&mut self, queue: u32, gate: &G) -> Progress
+        requires { ¬ HasNoneLeft self.old.seen }
+        ensures { RunsOne W.may result self.old self.new }
+    {
+        match self.worker.run_one() {
+            Ran::Item(item) => gate.after(queue, item),
+            Ran::Barrier(_) => {}
+            Ran::Stop => {}
+            Ran::Owing(_) => {
+                self.owes = true;
+                return Progress::Owed;
+            }
+            Ran::Nothing => unreachable!(),
+        }
+        self.owes = false;
+        Progress::Ended
+    }
+
+    // The number is about to be executed.
+    fn pass_gate<G: Gate>(&self, queue: u32, number: u32, gate: &G) {
+        if number < self.worker.layout().items {
+            gate.before(queue, number);
+        }
+    }
+
+    // One execution, or none where nothing is left to do.
+    fn advance<G: Gate>(&mut self, queue: u32, gate: &G) -> Progress
+        ensures { MakesProgress W.may result self.old self.new }
+    {
+        if self.owes {
+            return self.execute(queue, gate);
+        }
+        let Some(number) = self.settle() else {
+            return Progress::Done;
+        };
+        self.pass_gate(queue, number, gate);
+        self.execute(queue, gate)
+    }
+
+    /// Goes on with what is owed and with what waits, until nothing is left to do, but by no more executions than the limit. The
+    /// gate is called with the queue's number before and after each execution of an item; an execution that is owed, and gone on
+    /// with in a later call, has its first call of the gate in the earlier one.
+    ///
+    /// True where nothing is left to do: the last step was a rest that won, or the queue has run to its end, and no execution is
+    /// owed. False where something is left: after just as many executions as the limit a number waits that was taken, or an
+    /// execution is owed.
+    pub fn work<G: Gate>(&mut self, queue: u32, limit: u32, gate: &G) -> bool
+        ensures works { WorksOn W.may limit result self.old self.new }
+    {
+        for _ended in 0..limit {
+            match self.advance(queue, gate) {
+                Progress::Ended => {}
+                Progress::Owed => return false,
+                Progress::Done => return true,
+            }
+        }
+        if self.owes {
+            return false;
+        }
+        match self.settle() {
+            Some(_) => false,
+            None => true,
+        }
+    }
+
+    // Closes the queue where it is open.
+    fn close(&mut self)
+        ensures same { worker_id self.new ≡ worker_id self.old }
+        ensures shut { IsClosed self.new.seen }
+        ensures idle { ¬ IsRunning self.old.seen → ¬ IsRunning self.new.seen }
+    {
+        if !self.worker.is_closed() {
+            self.worker.close();
+        }
+    }
+
+    /// Closes the queue where it is open, works on, by up to so many executions and with no gate, and answers how many numbers
+    /// are left.
+    pub fn drain(&mut self, limit: u32) -> u32
+        requires { ¬ IsRunning self.old.seen }
+        ensures same { worker_id self.new ≡ worker_id self.old }
+        ensures left { IsDrained result self.new }
+        ensures idle { ¬ IsRunning self.new.seen }
+    {
+        self.close();
+        self.work(0, limit, &NoGate);
+        self.worker.left()
+    }
+}
