@@ -7,7 +7,7 @@ use Rattle.wq_words.specs.declared.event.Event.{Event}
 use Rattle.wq_words.specs.declared.event.Event.TheVariants as event
 use Rattle.wq_words.specs.Head.{busy_word}
 use Rattle.wq_words.specs.Numbers.{number_count}
-use Rattle.wq_words.specs.History.{Holds, IsClosed, IsRunning, running}
+use Rattle.wq_words.specs.History.{Holds, IsClosed, IsShut, IsRunning, running}
 use Rattle.wq_core.specs.declared.step.Private.{Private}
 use Rattle.wq_core.specs.declared.step.Seat.{Seat}
 use Rattle.wq_core.specs.declared.step.Seat.TheVariants.{Sender, Owner}
@@ -74,14 +74,14 @@ IsEnabled m (Sender s) (Link k) = Holds m.history s k × ((private m s).seen ≢
 IsEnabled m (Sender s) (Push k) = (private m s).linked ≡ Some k
 IsEnabled m (Sender s) (Back k why) = Holds m.history s k × (why ≡ Closed → (private m s).seen ≡ Some closed_word)
 IsEnabled m (Sender s) (Check k) = Unit {0}
-IsEnabled m Owner Take = (¬ IsClosed m.history) × (m.cursor ≡ None) × (m.batch ≡ [])
+IsEnabled m Owner Take = (¬ IsShut m.history) × (m.cursor ≡ None) × (m.batch ≡ [])
 IsEnabled m Owner Close = (¬ IsClosed m.history) × (m.cursor ≡ None)
 IsEnabled m Owner Walk = (m.cursor ≢ None) ⊎ (m.batch ≢ [])
 IsEnabled m Owner Begin = (m.cursor ≡ None) × (m.batch ≢ []) × (¬ IsRunning m.history)
 IsEnabled m Owner End = IsRunning m.history
-IsEnabled m Owner (Chain k) = IsClosed m.history × (m.cursor ≡ None) × IsRunning m.history
+IsEnabled m Owner (Chain k) = IsShut m.history × (m.cursor ≡ None) × IsRunning m.history
 IsEnabled m Owner (Turn k next) = StandsIn m.walked m.batch k
-IsEnabled m Owner Rest = (¬ IsClosed m.history) × (m.cursor ≡ None) × (m.batch ≡ []) × (¬ IsRunning m.history)
+IsEnabled m Owner Rest = (¬ IsShut m.history) × (m.cursor ≡ None) × (m.batch ≡ []) × (¬ IsRunning m.history)
 IsEnabled m seat step = ⊥
 
 -- a word is written, a sender keeps other things, an event is added

@@ -81,6 +81,13 @@ IsClosed h = 0 < count_by is_close h
 abbrev pub closed : List Event → Bool
 closed h = nat_lt 0 (count_by is_close h)
 
+-- the queue takes no push now: it is closed
+abbrev pub IsShut : List Event → Type 0
+IsShut h = IsClosed h
+
+abbrev pub shut : List Event → Bool
+shut h = closed h
+
 abbrev pub is_push : Event → Bool
 is_push (Push s k) = true
 is_push _ = false
@@ -97,6 +104,6 @@ fresh h = count_by is_push (after_last is_take h)
 abbrev pub first : List Event → Bool
 first h = fresh h == 0
 
--- how many of the accepted numbers were taken: all of them once closed, else the Push events before the last Take
+-- how many of the accepted numbers were taken: all of them once the queue is shut, else the Push events before the last Take
 abbrev pub taken : List Event → ℕ
-taken h = if closed h then length (accepted h) else count_by is_push (before_last is_take h)
+taken h = if shut h then length (accepted h) else count_by is_push (before_last is_take h)

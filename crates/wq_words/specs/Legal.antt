@@ -7,21 +7,21 @@ use Rattle.wq_words.specs.declared.event.Why.TheVariants.{Closed}
 use Rattle.wq_words.specs.declared.event.Event.{Event}
 use Rattle.wq_words.specs.declared.event.Event.TheVariants.{Hold, Busy, Push, Back, Take, Close, Begin, End, Chain, ChainBusy, Rest}
 use Rattle.wq_words.specs.Numbers.{number_count}
-use Rattle.wq_words.specs.History.{accepted, ended, IsRunning, running, next, IsPending, Holds, IsClosed}
+use Rattle.wq_words.specs.History.{accepted, ended, IsRunning, running, next, IsPending, Holds, IsClosed, IsShut}
 
 -- the event may come after the events h: one case an event
 abbrev pub MayFollow : List Event → Event → Type 0
 MayFollow h (Hold s k) = ¬ IsPending h k
 MayFollow h (Busy s k) = IsPending h k
-MayFollow h (Push s k) = Holds h s k × (¬ IsClosed h)
+MayFollow h (Push s k) = Holds h s k × (¬ IsShut h)
 MayFollow h (Back s k why) = Holds h s k × (why ≡ Closed → IsClosed h)
-MayFollow h Take = ¬ IsClosed h
+MayFollow h Take = ¬ IsShut h
 MayFollow h Close = ¬ IsClosed h
 MayFollow h (Begin k) = (¬ IsRunning h) × (next h ≡ Some k)
 MayFollow h (End k) = running h ≡ Some k
-MayFollow h (Chain k) = IsClosed h × IsRunning h × (¬ IsPending h k)
-MayFollow h (ChainBusy k) = IsClosed h × IsRunning h × IsPending h k
-MayFollow h Rest = (¬ IsClosed h) × (length (ended h) ≡ length (accepted h))
+MayFollow h (Chain k) = IsShut h × IsRunning h × (¬ IsPending h k)
+MayFollow h (ChainBusy k) = IsShut h × IsRunning h × IsPending h k
+MayFollow h Rest = (¬ IsShut h) × (length (ended h) ≡ length (accepted h))
 
 -- the event's seat is one of the queue's
 abbrev pub HasSeat : Layout → Event → Type 0
