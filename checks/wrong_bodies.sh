@@ -15,4 +15,4 @@ for name in "${names[@]}"; do
 done
 cd "$room"
 git init -q
-rt ci "${names[@]}"
+rt must-fail "${names[@]}"
