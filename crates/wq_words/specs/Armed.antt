@@ -13,6 +13,7 @@ armed_of (answer.Queued is_first wakes) = armed.Queued is_first wakes
 armed_of answer.Pending = armed.Pending
 armed_of answer.Closed = armed.Closed
 armed_of answer.Contended = armed.Contended
+armed_of answer.Draining = armed.Draining
 
 -- what a modification that arms the item answers
 abbrev pub modified_of : Armed → Modified
@@ -21,6 +22,7 @@ modified_of armed.OnTable = modified.WasIdle
 modified_of armed.Pending = modified.Pending
 modified_of armed.Closed = modified.Closed
 modified_of armed.Contended = modified.Contended
+modified_of armed.Draining = modified.Draining
 modified_of armed.TooFar = modified.TooFar
 modified_of armed.Memory = modified.Memory
 
@@ -29,3 +31,4 @@ abbrev pub modified_of_posted : Posted → Modified
 modified_of_posted (posted.Queued is_first wakes) = modified.Moved
 modified_of_posted posted.Closed = modified.Closed
 modified_of_posted posted.Contended = modified.Contended
+modified_of_posted posted.Draining = modified.Draining

@@ -2,9 +2,10 @@
 use Rattle.std.specs.Prelude.{ℕ, ◌==◌, Bool, true, false}
 use Rattle.wq_words.specs.declared.event.Event.{Event}
 use Rattle.wq_words.specs.declared.event.Event.TheVariants.{Busy, Push, Back, Chain, ChainBusy}
-use Rattle.wq_words.specs.declared.event.Why.TheVariants.{Closed, Contended}
+use Rattle.wq_words.specs.declared.event.Why.TheVariants.{Closed, Contended, Draining}
 
--- sender s was answered that its number is queued, is pending already, may not be queued any more, or lost each try
+-- sender s was answered that its number is queued, is pending already, may not be queued any more, lost each try, or may not be
+-- queued while the queue drains
 abbrev pub is_queued_by : ℕ → Event → Bool
 is_queued_by s (Push t k) = t == s
 is_queued_by s _ = false
@@ -21,6 +22,10 @@ abbrev pub is_contended_by : ℕ → Event → Bool
 is_contended_by s (Back t k Contended) = t == s
 is_contended_by s _ = false
 
+abbrev pub is_draining_by : ℕ → Event → Bool
+is_draining_by s (Back t k Draining) = t == s
+is_draining_by s _ = false
+
 -- an item was chained, or found pending
 abbrev pub is_chain : Event → Bool
 is_chain (Chain k) = true
@@ -36,7 +41,8 @@ is_busy (Busy s k) = true
 is_busy (ChainBusy k) = true
 is_busy _ = false
 
--- a number was given back since the queue was closed
+-- a number was given back since the queue took no push: it was closed, or drained
 abbrev pub is_refusal : Event → Bool
 is_refusal (Back s k Closed) = true
+is_refusal (Back s k Draining) = true
 is_refusal _ = false

@@ -2,9 +2,9 @@
 use Rattle.std.specs.Prelude.{◌≡◌, ◌≢◌, ℕ, ◌<◌, ◌≤◌, List, length, take, Some, slice_get}
 use mathlib.Core.List.{IsPrefix}
 use Rattle.wq_words.specs.declared.event.Event.{Event}
-use Rattle.wq_words.specs.declared.event.Event.TheVariants.{Hold, Push, Close, Begin, End}
+use Rattle.wq_words.specs.declared.event.Event.TheVariants.{Hold, Push, Close, Drain, Resume, Begin, End}
 use Rattle.wq_words.specs.History.{accepted, begun, ended, IsPending, Holds}
-use Rattle.wq_words.specs.Legal.{IsComplete}
+use Rattle.wq_words.specs.Legal.{HasRunOut}
 
 -- each accepted queueing begins at most once, in the order of acceptance: begun is a beginning of accepted
 abbrev pub BeginsInOrder : List Event → Type 0
@@ -31,6 +31,11 @@ KeepsSenderOrder h = (s j k i first second begin : ℕ) → first < second → s
 abbrev pub NoPushFollowsClose : List Event → Type 0
 NoPushFollowsClose h = (place close s k : ℕ) → slice_get h place ≡ Some (Push s k) → slice_get h close ≡ Some Close → place < close
 
+-- behind a Drain no push comes before the Resume that ends it
+abbrev pub NoPushWithinDrain : List Event → Type 0
+NoPushWithinDrain h = (drain push s k : ℕ) → drain < push → slice_get h drain ≡ Some Drain → slice_get h push ≡ Some (Push s k)
+    → (resume : ℕ) × (drain < resume) × (resume < push) × (slice_get h resume ≡ Some Resume)
+
 -- the Hold at the place `hold` belongs to the push of k by s at the place `push`
 pub record IsOwnHold (h : List Event) (s k hold push : ℕ) : Type 0 where
   pub earlier : hold < push
@@ -49,9 +54,14 @@ EachPushHasHold h = (push s k : ℕ) → slice_get h push ≡ Some (Push s k) �
 abbrev pub HasOneHolder : List Event → Type 0
 HasOneHolder h = (moment s t k : ℕ) → Holds (take moment h) s k → Holds (take moment h) t k → s ≡ t
 
--- once closed and run to the end, all that was accepted has begun and ended, in order
-abbrev pub IsDoneWhenComplete : List Event → Type 0
-IsDoneWhenComplete h = IsComplete h → (ended h ≡ begun h) × (begun h ≡ accepted h)
+-- at each moment at which a close or a drain has ended, all that was accepted has begun and ended, in order
+abbrev pub IsDoneWhenRunOut : List Event → Type 0
+IsDoneWhenRunOut h = (moment : ℕ) → HasRunOut (take moment h)
+    → (ended (take moment h) ≡ begun (take moment h)) × (begun (take moment h) ≡ accepted (take moment h))
+
+-- a drain ends only so
+abbrev pub EachResumeRunOut : List Event → Type 0
+EachResumeRunOut h = (resume : ℕ) → slice_get h resume ≡ Some Resume → HasRunOut (take resume h)
 
 pub record KeepsHeadline (h : List Event) : Type 0 where
   pub begun_in_order : BeginsInOrder h
@@ -61,4 +71,6 @@ pub record KeepsHeadline (h : List Event) : Type 0 where
   pub no_push_after_close : NoPushFollowsClose h
   pub push_of_held : EachPushHasHold h
   pub one_holder : HasOneHolder h
-  pub complete : IsDoneWhenComplete h
+  pub no_push_within_drain : NoPushWithinDrain h
+  pub done : IsDoneWhenRunOut h
+  pub resumed : EachResumeRunOut h

@@ -1,8 +1,8 @@
 -- What a history of events says, oldest event first: lists and counts of its events.
-use Rattle.std.specs.Prelude.{ℕ, ◌<◌, ◌==◌, Bool, true, false, ◌&&◌, List, length, Option, Some, None, slice_get, count_by, filter_map, nat_lt, if◌then◌else◌}
+use Rattle.std.specs.Prelude.{ℕ, ◌<◌, ◌+◌, ◌==◌, Bool, true, false, ◌&&◌, List, length, Option, Some, None, slice_get, count_by, filter_map, nat_lt, if◌then◌else◌}
 use Rattle.std.specs.List.{after_last, before_last}
 use Rattle.wq_words.specs.declared.event.Event.{Event}
-use Rattle.wq_words.specs.declared.event.Event.TheVariants.{Hold, Push, Back, Take, Close, Begin, End, Chain}
+use Rattle.wq_words.specs.declared.event.Event.TheVariants.{Hold, Push, Back, Take, Close, Drain, Resume, Begin, End, Chain}
 
 -- the number that the event accepts: a queueing was answered true, or chained (`queue_work` answers true)
 abbrev pub accepted_by : Event → Option ℕ
@@ -70,7 +70,7 @@ stops_hold s k _ = false
 abbrev pub Holds : List Event → ℕ → ℕ → Type 0
 Holds h s k = count_by (stops_hold s k) h < count_by (starts_hold s k) h
 
--- the queue is closed: there is a Close
+-- the queue is closed, and takes no push any more: there is a Close
 abbrev pub is_close : Event → Bool
 is_close Close = true
 is_close _ = false
@@ -81,29 +81,54 @@ IsClosed h = 0 < count_by is_close h
 abbrev pub closed : List Event → Bool
 closed h = nat_lt 0 (count_by is_close h)
 
--- the queue takes no push now: it is closed
+abbrev pub is_drain : Event → Bool
+is_drain Drain = true
+is_drain _ = false
+
+abbrev pub is_resume : Event → Bool
+is_resume Resume = true
+is_resume _ = false
+
+-- how many events shut the queue: each Close, and each Drain after the last Resume, or at all where there is none
+abbrev pub shuts : List Event → ℕ
+shuts h = count_by is_close h + count_by is_drain (after_last is_resume h)
+
+-- the queue takes no push now: it is closed, or it drains
 abbrev pub IsShut : List Event → Type 0
-IsShut h = IsClosed h
+IsShut h = 0 < shuts h
 
 abbrev pub shut : List Event → Bool
-shut h = closed h
+shut h = nat_lt 0 (shuts h)
+
+-- the queue drains: it takes no push now, and is not closed
+abbrev pub IsDraining : List Event → Type 0
+IsDraining h = IsShut h × (¬ IsClosed h)
+
+-- some drain has begun, ended or not: there is a Drain
+abbrev pub HasDrained : List Event → Type 0
+HasDrained h = 0 < count_by is_drain h
 
 abbrev pub is_push : Event → Bool
 is_push (Push s k) = true
 is_push _ = false
 
-abbrev pub is_take : Event → Bool
-is_take Take = true
-is_take _ = false
+-- the owner takes what stands on the list and leaves the queue open or draining, or opens it again
+abbrev pub is_cut : Event → Bool
+is_cut Take = true
+is_cut Drain = true
+is_cut Resume = true
+is_cut _ = false
 
--- how many were pushed since the last Take, or at all where there is none
+-- how many were pushed since the last Take, Drain or Resume, or at all where there is none
 abbrev pub fresh : List Event → ℕ
-fresh h = count_by is_push (after_last is_take h)
+fresh h = count_by is_push (after_last is_cut h)
 
--- a push now would be the first: there is no Push after the last Take (`llist_add` answers true where the list was empty)
+-- a push now would be the first: there is no Push after the last Take, Drain or Resume (`llist_add` answers true where the
+-- list was empty)
 abbrev pub first : List Event → Bool
 first h = fresh h == 0
 
--- how many of the accepted numbers were taken: all of them once the queue is shut, else the Push events before the last Take
+-- how many of the accepted numbers were taken: all of them while the queue takes no push, else those that were accepted before
+-- the last Take, Drain or Resume
 abbrev pub taken : List Event → ℕ
-taken h = if shut h then length (accepted h) else count_by is_push (before_last is_take h)
+taken h = length (accepted (if shut h then h else before_last is_cut h))

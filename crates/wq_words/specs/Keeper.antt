@@ -1,7 +1,7 @@
 -- Who keeps a number: nobody, the sender that holds it, the pending list, or the owner, who took it or chained it.
 use Rattle.std.specs.Prelude.{◌≡◌, ℕ, ◌<◌, ◌≤◌, ◌==◌, if◌then◌else◌, List, length, Some, slice_get, fold}
 use Rattle.wq_words.specs.declared.event.Event.{Event}
-use Rattle.wq_words.specs.declared.event.Event.TheVariants.{Hold, Push, Back, Take, Close, Begin, Chain}
+use Rattle.wq_words.specs.declared.event.Event.TheVariants.{Hold, Push, Back, Take, Close, Drain, Begin, Chain}
 use Rattle.wq_words.specs.History.{accepted, begun, taken, IsPending, Holds}
 
 pub data Keeper : Type 0 where
@@ -33,6 +33,7 @@ keeper_after k x (Push s j) = if j == k then Listed else x
 keeper_after k x (Back s j why) = if j == k then Home else x
 keeper_after k x Take = taken_over x
 keeper_after k x Close = taken_over x
+keeper_after k x Drain = taken_over x
 keeper_after k x (Begin j) = if j == k then Home else x
 keeper_after k x (Chain j) = if j == k then Owner else x
 keeper_after k x _ = x

@@ -3,14 +3,18 @@ use Rattle.std.specs.Prelude.{ℕ, ◌≤◌}
 use Rattle.wq_words.specs.declared.layout.LayoutError.{LayoutError}
 use Rattle.wq_words.specs.declared.layout.LayoutError.TheVariants.{Items, Barriers, Senders}
 
+-- the most items that a queue can have
+abbrev pub most_items : ℕ
+most_items = 65536
+
 abbrev pub IsBetween : ℕ → ℕ → ℕ → Type 0
 IsBetween low n high = (low ≤ n) × (n ≤ high)
 
 abbrev pub AreInLimits : ℕ → ℕ → ℕ → Type 0
-AreInLimits items barriers senders = IsBetween 1 items 4096 × IsBetween 1 barriers 16 × IsBetween 1 senders 64
+AreInLimits items barriers senders = IsBetween 1 items most_items × IsBetween 1 barriers 16 × IsBetween 1 senders 64
 
 -- of items, barriers and senders, in this order, this is the first that is out of its limits
 abbrev pub IsFirstOutOfLimits : ℕ → ℕ → ℕ → LayoutError → Type 0
-IsFirstOutOfLimits items barriers senders Items = ¬ IsBetween 1 items 4096
-IsFirstOutOfLimits items barriers senders Barriers = IsBetween 1 items 4096 × (¬ IsBetween 1 barriers 16)
-IsFirstOutOfLimits items barriers senders Senders = IsBetween 1 items 4096 × IsBetween 1 barriers 16 × (¬ IsBetween 1 senders 64)
+IsFirstOutOfLimits items barriers senders Items = ¬ IsBetween 1 items most_items
+IsFirstOutOfLimits items barriers senders Barriers = IsBetween 1 items most_items × (¬ IsBetween 1 barriers 16)
+IsFirstOutOfLimits items barriers senders Senders = IsBetween 1 items most_items × IsBetween 1 barriers 16 × (¬ IsBetween 1 senders 64)

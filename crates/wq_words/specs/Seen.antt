@@ -1,7 +1,7 @@
 -- Whose an event is, and what a seat sees come new.
 use Rattle.std.specs.Prelude.{◌≡◌, ℕ, ◌≤◌, not, ◌==◌, Bool, ◌||◌, List, ◌++◌, length, filter}
 use Rattle.wq_words.specs.declared.event.Event.{Event}
-use Rattle.wq_words.specs.declared.event.Event.TheVariants.{Hold, Busy, Push, Back, Take, Close, Begin, End, Chain, ChainBusy, Rest}
+use Rattle.wq_words.specs.declared.event.Event.TheVariants.{Hold, Busy, Push, Back, Take, Close, Drain, Resume, Begin, End, Chain, ChainBusy, Rest}
 
 -- the owner's seat; a sender's is its number
 abbrev pub owner_seat : ℕ
@@ -15,6 +15,8 @@ seat_of (Push s k) = s
 seat_of (Back s k why) = s
 seat_of Take = owner_seat
 seat_of Close = owner_seat
+seat_of Drain = owner_seat
+seat_of Resume = owner_seat
 seat_of (Begin k) = owner_seat
 seat_of (End k) = owner_seat
 seat_of (Chain k) = owner_seat

@@ -12,6 +12,8 @@ pub enum Answer {
     Closed,
     /// Other seats changed the list at each try. The number is not held by the caller.
     Contended,
+    /// The queue was seen draining. The number is not held by the caller.
+    Draining,
 }
 
 /// What pushing a held number answers.
@@ -23,6 +25,8 @@ pub enum Posted {
     Closed,
     /// Other seats changed the list at each try. The number is still held.
     Contended,
+    /// The queue was seen draining. The number is still held.
+    Draining,
 }
 
 /// What an arming answers.
@@ -38,6 +42,8 @@ pub enum Armed {
     Closed,
     /// The delay is 0 and other seats changed the list at each try. The item is not held.
     Contended,
+    /// The delay is 0 and the queue was seen draining. The item is not held.
+    Draining,
     /// The delay is above `2^32 - 1`, or its tick or the number of the arming above `2^64 - 1`. Nothing was changed.
     TooFar,
     /// Memory was refused. The item is not held.
@@ -57,6 +63,8 @@ pub enum Modified {
     Closed,
     /// The delay is 0 and other seats changed the list at each try. An item on the table stays there; another is not held.
     Contended,
+    /// The delay is 0 and the queue was seen draining. An item on the table stays there; another is not held.
+    Draining,
     /// The delay is above `2^32 - 1`, or its tick or the number of the arming above `2^64 - 1`. Nothing was changed.
     TooFar,
     /// Memory was refused. An item on the table stays there as it was; another is not held.

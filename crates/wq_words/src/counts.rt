@@ -1,6 +1,7 @@
 //! What a history says: counts and lists of its events.
+ghost use Rattle.std.specs.List.{after_last};
 ghost use Rattle.std.specs.Prelude.{◌≡◌, ◌↔◌, IsTrue, length, slice_get, count_by};
-ghost use Rattle.wq_words.specs.History.{accepted, begun, ended, sets_pending, clears_pending, starts_hold, stops_hold, is_close, next, running, IsRunning, IsPending, Holds, IsClosed};
+ghost use Rattle.wq_words.specs.History.{accepted, begun, ended, sets_pending, clears_pending, starts_hold, stops_hold, is_close, is_drain, is_resume, next, running, IsRunning, IsPending, Holds, IsClosed, IsShut, HasDrained};
 
 use crate::event::Event;
 
@@ -44,6 +45,35 @@ fn close_count(history: &[Event]) -> usize
     ensures { result ≡ count_by is_close history.now }
 {
     history.iter().filter(|event| event.is_close()).count()
+}
+
+// How many drains began since the last one ended: none or one in a legal history.
+fn drain_count(history: &[Event]) -> usize
+    ensures { result ≡ count_by is_drain (after_last is_resume history.now) }
+{
+    let mut count = 0;
+    for event in history {
+        if event.is_resume() {
+            count = 0;
+        } else if event.is_drain() {
+            count += 1;
+        }
+    }
+    count
+}
+
+// Whether some drain has begun, ended or not.
+pub(crate) fn has_drained(history: &[Event]) -> bool
+    ensures { IsTrue result ↔ HasDrained history.now }
+{
+    history.iter().filter(|event| event.is_drain()).count() > 0
+}
+
+// Whether the queue takes no push now: it is closed, or it drains.
+pub(crate) fn is_shut(history: &[Event]) -> bool
+    ensures { IsTrue result ↔ IsShut history.now }
+{
+    is_closed(history) || drain_count(history) > 0
 }
 
 // The PENDING bit (`work_pending`).

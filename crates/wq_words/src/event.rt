@@ -1,6 +1,6 @@
 //! What happens to a queue.
 ghost use Rattle.std.specs.Prelude.{◌≡◌, ◌↔◌, IsTrue};
-ghost use Rattle.wq_words.specs.History.{accepted_by, begun_by, ended_by, sets_pending, clears_pending, starts_hold, stops_hold, is_close};
+ghost use Rattle.wq_words.specs.History.{accepted_by, begun_by, ended_by, sets_pending, clears_pending, starts_hold, stops_hold, is_close, is_drain, is_resume};
 ghost use Rattle.wq_words.specs.Legal.{HasSeat, HasNumber};
 
 use crate::layout::Layout;
@@ -14,6 +14,8 @@ pub enum Why {
     Contended,
     /// The sender changed its mind.
     Cancelled,
+    /// The queue was seen draining.
+    Draining,
 }
 
 /// What one atomic step adds to the history of a queue. The first four are by the sender that they name first, all
@@ -31,16 +33,20 @@ pub enum Event {
     Back(u32, u32, Why),
     /// The owner took the whole list (`llist_del_all`).
     Take,
-    /// The owner took the whole list and left the closed mark.
+    /// The owner took the whole list and left the closed mark (`destroy_workqueue`).
     Close,
+    /// The owner took the whole list and left the draining mark (`drain_workqueue`).
+    Drain,
+    /// The owner, with all that was accepted executed, ended the drain: the queue takes pushes again.
+    Resume,
     /// The owner cleared the PENDING bit and began the execution.
     Begin(u32),
     /// The execution ended.
     End(u32),
-    /// After the close, the running execution queued the number behind all that waits (chain queueing in
-    /// `drain_workqueue`).
+    /// While the queue takes no push, closed or draining, the running execution queued the number behind all that waits
+    /// (chain queueing in `drain_workqueue`).
     Chain(u32),
-    /// After the close, the running execution found the PENDING bit set.
+    /// While the queue takes no push, the running execution found the PENDING bit set.
     ChainBusy(u32),
     /// The owner, with all that was accepted executed, found the list empty and left it marked as resting: the next push
     /// wakes it.
@@ -128,6 +134,20 @@ impl Event {
         matches!(self, Event::Close)
     }
 
+    // Whether it begins a drain.
+    pub(crate) fn is_drain(self) -> bool
+        ensures { result ≡ is_drain self }
+    {
+        matches!(self, Event::Drain)
+    }
+
+    // Whether it ends a drain.
+    pub(crate) fn is_resume(self) -> bool
+        ensures { result ≡ is_resume self }
+    {
+        matches!(self, Event::Resume)
+    }
+
     // Whether its sender, if it has one, is one of the queue's.
     pub(crate) fn has_seat(self, layout: &Layout) -> bool
         ensures { IsTrue result ↔ HasSeat layout.now self }
@@ -154,7 +174,7 @@ impl Event {
             | Event::Begin(number)
             | Event::End(number) => number < count,
             Event::Chain(number) | Event::ChainBusy(number) => number < layout.items,
-            Event::Take | Event::Close | Event::Rest => true,
+            Event::Take | Event::Close | Event::Drain | Event::Resume | Event::Rest => true,
         }
     }
 }

@@ -7,7 +7,11 @@ ghost use Rattle.wq_words.specs.Head.{head_word, IsWordOf, IsCodable};
 /// empty list that rests has the word 0.
 pub const BUSY: u64 = u64::MAX - 1;
 
-/// What the head word of a queue says: the list is empty, this number was pushed last, or the queue is closed.
+// The word of a queue that drains.
+const DRAINING: u64 = u64::MAX - 2;
+
+/// What the head word of a queue says: the list is empty, this number was pushed last, or the queue takes no push:
+/// it is closed, or it drains.
 #[derive(Clone, Copy, Debug, PartialEq, Eq)]
 pub enum Head {
     /// No number stands on the list.
@@ -16,10 +20,13 @@ pub enum Head {
     Item(u32),
     /// The queue was closed, and takes no push any more.
     Closed,
+    /// The queue drains, and takes no push until it is resumed.
+    Draining,
 }
 
 impl Head {
-    /// The word that codes it: 0 for `Empty`, the number and 1 for `Item`, all bits set for `Closed`.
+    /// The word that codes it: 0 for `Empty`, the number and 1 for `Item`, all bits set for `Closed`, `2^64 - 3` for
+    /// `Draining`.
     pub fn to_word(self) -> u64
         ensures word { result ≡ head_word self }
     {
@@ -27,6 +34,7 @@ impl Head {
             Head::Empty => 0,
             Head::Item(number) => u64::from(number) + 1,
             Head::Closed => u64::MAX,
+            Head::Draining => DRAINING,
         }
     }
 
@@ -38,6 +46,7 @@ impl Head {
         match word {
             0 | BUSY => Some(Head::Empty),
             u64::MAX => Some(Head::Closed),
+            DRAINING => Some(Head::Draining),
             _ => u32::try_from(word - 1).ok().map(Head::Item),
         }
     }

@@ -1,10 +1,11 @@
 //! Histories and their checker.
-ghost use Rattle.std.specs.Prelude.{◌↔◌, IsTrue, OnOk, IfErr, IfSome, IfNone};
-ghost use Rattle.wq_words.specs.Legal.{MayFollow, IsAllowed, HasFault, IsLegal, IsFirstFault};
-ghost use Rattle.wq_words.specs.History.{IsClosed, IsRunning};
+ghost use Rattle.std.specs.Prelude.{◌≡◌, ◌↔◌, IsTrue, length, OnOk, IfErr, IfSome, IfNone};
+ghost use Rattle.wq_words.specs.Legal.{MayFollow, IsCause, IsAllowed, HasFault, IsLegal, IsFirstFault};
+ghost use Rattle.wq_words.specs.History.{IsShut, IsRunning, ended, accepted};
 
 use crate::counts::{
-    accepted_count, ended_count, holds, is_closed, is_pending, is_running, next, running,
+    accepted_count, ended_count, has_drained, holds, is_closed, is_pending, is_running, is_shut,
+    next, running,
 };
 use crate::event::{Event, Why};
 use crate::layout::Layout;
@@ -41,24 +42,44 @@ fn may_follow(history: &[Event], event: Event) -> bool
     match event {
         Event::Hold(_, number) => !is_pending(history, number),
         Event::Busy(_, number) => is_pending(history, number),
-        Event::Push(sender, number) => holds(history, sender, number) && !is_closed(history),
+        Event::Push(sender, number) => holds(history, sender, number) && !is_shut(history),
         Event::Back(sender, number, why) => {
-            holds(history, sender, number) && (why != Why::Closed || is_closed(history))
+            holds(history, sender, number) && is_cause(history, why)
         }
-        Event::Take | Event::Close => !is_closed(history),
+        Event::Take | Event::Drain => !is_shut(history),
+        Event::Close => !is_closed(history),
+        Event::Resume => is_shut(history) && !is_closed(history) && all_ended(history),
         Event::Begin(number) => !is_running(history) && next(history) == Some(number),
         Event::End(number) => running(history) == Some(number),
         Event::Chain(number) => may_chain(history) && !is_pending(history, number),
         Event::ChainBusy(number) => may_chain(history) && is_pending(history, number),
-        Event::Rest => !is_closed(history) && ended_count(history) == accepted_count(history),
+        Event::Rest => !is_shut(history) && all_ended(history),
     }
 }
 
-// Whether the execution that runs may chain: the queue is closed, and a number runs.
-fn may_chain(history: &[Event]) -> bool
-    ensures { IsTrue result ↔ (IsClosed history.now × IsRunning history.now) }
+// Whether a number may be given back for this: a drain that a sender saw may have ended since.
+fn is_cause(history: &[Event], why: Why) -> bool
+    ensures { IsTrue result ↔ IsCause history.now why }
 {
-    is_closed(history) && is_running(history)
+    match why {
+        Why::Closed => is_closed(history),
+        Why::Draining => has_drained(history),
+        Why::Contended | Why::Cancelled => true,
+    }
+}
+
+// Whether all that was accepted has ended.
+fn all_ended(history: &[Event]) -> bool
+    ensures { IsTrue result ↔ (length (ended history.now) ≡ length (accepted history.now)) }
+{
+    ended_count(history) == accepted_count(history)
+}
+
+// Whether the execution that runs may chain: the queue takes no push, and a number runs.
+fn may_chain(history: &[Event]) -> bool
+    ensures { IsTrue result ↔ (IsShut history.now × IsRunning history.now) }
+{
+    is_shut(history) && is_running(history)
 }
 
 // Why the event may not come after these, if it may not.
@@ -79,7 +100,7 @@ fn fault(layout: &Layout, history: &[Event], event: Event) -> Option<HistoryFaul
 }
 
 /// Whether each event is allowed by those before it: the history of an ordered workqueue, whose items are each queued
-/// at most once at a time, pushed before the close, and executed one at a time in the order of acceptance. Takes no
+/// at most once at a time, pushed before the close and in no drain, and executed one at a time in the order of acceptance. Takes no
 /// memory, and time in the square of the length.
 ///
 /// # Errors

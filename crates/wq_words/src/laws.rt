@@ -4,17 +4,17 @@
 ghost use Rattle.std.specs.Prelude.{◌≡◌, ◌↔◌, ℕ, ◌+◌, ◌-◌, List, [], length, reverse, drop, Some, slice_get, IsTrue};
 ghost use Rattle.wq_words.specs.declared.layout.Layout.{Layout};
 ghost use Rattle.wq_words.specs.declared.event.Event.{Event};
-ghost use Rattle.wq_words.specs.History.{accepted, begun, ended, IsRunning, running, IsPending, pending, IsClosed, closed, fresh, taken};
+ghost use Rattle.wq_words.specs.History.{accepted, begun, ended, IsRunning, running, IsPending, pending, IsClosed, closed, IsShut, shut, fresh, taken};
 ghost use Rattle.wq_words.specs.Legal.{IsLegal};
 ghost use Rattle.wq_words.specs.Listed.{listed};
 ghost use Rattle.wq_words.specs.Keeper.{Keeper, Keeps, keeper};
 ghost use Rattle.wq_words.specs.Headline.{KeepsHeadline};
 ghost use Rattle.wq_words.specs.Rest.{WakesOnceARest};
 
-/// Each accepted queueing is executed at most once, and exactly once where the history is complete. Executions never
+/// Each accepted queueing is executed at most once, and exactly once where a close or a drain after it has ended. Executions never
 /// overlap, and follow the order in which the queueings were accepted, so each sender's are first in first out. No push
-/// follows the close. Each push has a hold of its own, which found the number not pending, and no two senders hold one
-/// number (`alloc_ordered_workqueue` and `queue_work` of Linux's `core-api/workqueue`).
+/// follows the close, and none falls within a drain. Each push has a hold of its own, which found the number not pending, and
+/// no two senders hold one number (`alloc_ordered_workqueue` and `queue_work` of Linux's `core-api/workqueue`).
 pub fn headline()
     ensures each_legal { (layout : Layout) (h : List Event) → IsLegal layout h → KeepsHeadline h }
 {}
@@ -26,13 +26,13 @@ pub fn one_keeper()
 {}
 
 /// The list, which stands newest first (`llist.h`), is all that was accepted and not taken. While the queue is open, as
-/// many stand on it as were pushed since the last take, so that a push is the first exactly where it is empty. Once the
-/// queue is closed it is empty.
+/// many stand on it as were pushed since the last take, drain or resume, so that a push is the first exactly where it is
+/// empty. While the queue is closed or drains it is empty.
 pub fn pending_list()
     ensures behind_taken { (layout : Layout) (h : List Event) → IsLegal layout h → reverse (listed h) ≡ drop (taken h) (accepted h) }
     ensures in_all { (layout : Layout) (h : List Event) → IsLegal layout h → length (accepted h) ≡ taken h + length (listed h) }
-    ensures while_open { (layout : Layout) (h : List Event) → IsLegal layout h → ¬ IsClosed h → fresh h ≡ length (listed h) }
-    ensures once_closed { (layout : Layout) (h : List Event) → IsLegal layout h → IsClosed h → listed h ≡ [] }
+    ensures while_open { (layout : Layout) (h : List Event) → IsLegal layout h → ¬ IsShut h → fresh h ≡ length (listed h) }
+    ensures while_shut { (layout : Layout) (h : List Event) → IsLegal layout h → IsShut h → listed h ≡ [] }
 {}
 
 /// At most one number runs: none where as many ended as begun, else the number that was begun last.
@@ -42,15 +42,16 @@ pub fn one_runs()
         → (running h ≡ Some k) ↔ (IsRunning h × (slice_get (begun h) (length (begun h) - 1) ≡ Some k)) }
 {}
 
-/// Whether a number is pending and whether the queue is closed, as tests and as facts.
+/// Whether a number is pending, whether the queue is closed, and whether it takes no push now, as tests and as facts.
 pub fn pending_and_closed()
     ensures pending { (h : List Event) (k : ℕ) → IsTrue (pending h k) ↔ IsPending h k }
     ensures closed { (h : List Event) → IsTrue (closed h) ↔ IsClosed h }
+    ensures shut { (h : List Event) → IsTrue (shut h) ↔ IsShut h }
 {}
 
 /// Of the pushes between two rests that follow one another at most one wakes the queue, and just one where the queue was
-/// first taken after a push: who wakes the owner on `wakes` alone does so once a rest. A take sets a resting queue to work
-/// without a wake. It holds of each list of events, legal or not.
+/// first taken or drained after a push: who wakes the owner on `wakes` alone does so once a rest. A take or a drain sets a
+/// resting queue to work without a wake, and so a push after a drain wakes nobody before the next rest. It holds of each list of events, legal or not.
 pub fn one_wakes()
     ensures once_a_rest { (h : List Event) → WakesOnceARest h }
 {}

@@ -4,11 +4,14 @@ ghost use Rattle.wq_words.specs.Limits.{AreInLimits, IsFirstOutOfLimits};
 
 use thiserror::Error;
 
+/// The most items that a queue can have.
+pub const MOST_ITEMS: u32 = 65_536;
+
 /// Which number of a layout is out of its limits, the first of them in this order.
 #[derive(Clone, Copy, Debug, PartialEq, Eq, Error)]
 pub enum LayoutError {
-    /// Not 1 to 4,096 items.
-    #[error("items are 1 to 4096")]
+    /// Not 1 to 65,536 items.
+    #[error("items are 1 to 65536")]
     Items,
     /// Not 1 to 16 barriers.
     #[error("barriers are 1 to 16")]
@@ -21,7 +24,7 @@ pub enum LayoutError {
 /// How many items, barriers and senders a queue has. Its numbers are the items, then the barriers, then the stop item.
 #[derive(Clone, Copy, Debug, PartialEq, Eq)]
 pub struct Layout {
-    /// 1 to 4,096.
+    /// 1 to 65,536.
     pub items: u32,
     /// 1 to 16.
     pub barriers: u32,
@@ -31,7 +34,7 @@ pub struct Layout {
 }
 
 impl Layout {
-    /// A layout of 1 to 4,096 items, 1 to 16 barriers and 1 to 64 senders.
+    /// A layout of 1 to 65,536 items, 1 to 16 barriers and 1 to 64 senders.
     ///
     /// # Errors
     /// `Items`, `Barriers` or `Senders`, the first in this order that is out of its limits.
@@ -39,7 +42,7 @@ impl Layout {
         ensures ok { IfOk result (λ layout. (layout.items ≡ items) × (layout.barriers ≡ barriers) × (layout.senders ≡ senders)) }
         ensures refused { MatchResult result (λ _. AreInLimits items barriers senders) (IsFirstOutOfLimits items barriers senders) }
     {
-        if items < 1 || items > 4096 {
+        if items < 1 || items > MOST_ITEMS {
             return Err(LayoutError::Items);
         }
         if barriers < 1 || barriers > 16 {

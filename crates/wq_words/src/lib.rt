@@ -15,4 +15,4 @@ pub use event::{Event, Why};
 pub use head::{BUSY, Head};
 pub use history::{HistoryError, HistoryFault, check_history};
 pub use laws::{headline, one_keeper, one_runs, one_wakes, pending_and_closed, pending_list};
-pub use layout::{Layout, LayoutError};
+pub use layout::{Layout, LayoutError, MOST_ITEMS};
