@@ -3,7 +3,7 @@ use Rattle.wq_words.proofs.Common.{◌≡◌, ◌≢◌, ℕ, zero, suc, ◌+◌
 use Rattle.wq_words.proofs.Common.{slice_get, refl, sym, ap, ◌∙◌, inl, inr, arith, take-append-drop, count_by, take-take, take_all, length-take, length_push}
 use Rattle.wq_words.proofs.Common.{take-append-le, sum_by-cons, cases_lt, eqb-true, eq-eqb, and_parts, nat_tests, slice_get_within, IsPrefix, Layout, Event}
 use Rattle.wq_words.proofs.Common.{Hold, Push, Close, Begin, End, accepted_by, begun_by, ended_by, accepted, begun, ended, starts_hold, stops_hold, is_close}
-use Rattle.wq_words.proofs.Common.{IsPending, Holds, IsAllowed, IsLegal, IsComplete, Keeper, Sender, keeper}
+use Rattle.wq_words.proofs.Common.{IsPending, Holds, IsAllowed, IsLegal, Keeper, Sender, keeper, Resume, HasRunOut}
 use Rattle.wq_words.specs.Headline.{NeverOverlaps, Executes, KeepsSenderOrder, NoPushFollowsClose, IsOwnHold, EachPushHasHold, HasOneHolder, KeepsHeadline}
 use Rattle.wq_words.proofs.Growing.{count_by_push, filter_map_push_some, take_more_some, slice_get_push, slice_get_append, slice_get_last, take_append}
 use Rattle.wq_words.proofs.Growing.{take_length}
@@ -11,6 +11,8 @@ use Rattle.wq_words.proofs.Legal.{legal_front, legal_induction}
 use Rattle.wq_words.proofs.Prefixes.{prefix_length, prefix_whole}
 use Rattle.wq_words.proofs.Order.{IsInOrder, in_order}
 use Rattle.wq_words.proofs.Keepers.{held_bit, kept}
+use Rattle.wq_words.proofs.Closed.{closed_shuts}
+use Rattle.wq_words.proofs.Drains.{no_push_within_drain}
 use Rattle.wq_words.proofs.Places.{keeper_from_keeps}
 use Rattle.wq_words.proofs.Ranks.{filter_map_rank, ComesFrom, comes_from, length-filter_map-take, filter_map-take-prefix, slice_get-prefix, slice_get-take}
 use Rattle.wq_words.proofs.Ranks.{slice_get-some}
@@ -26,7 +28,7 @@ counted p (y ∷ xs) (suc i) (suc n) x at is lt = omega (arith, sum_by-cons (λ 
 pub legal_take : (layout : Layout) (h : List Event) (n : ℕ) → IsLegal layout h → IsLegal layout (take n h)
 legal_take layout h n legal = legal_front layout (take n h) (drop n h) (rw take-append-drop legal)
 
-complete_in_order : (h : List Event) → IsInOrder h → IsComplete h → (ended h ≡ begun h) × (begun h ≡ accepted h)
+complete_in_order : (h : List Event) → IsInOrder h → HasRunOut h → (ended h ≡ begun h) × (begun h ≡ accepted h)
 complete_in_order h o done =
     let e = prefix_length (ended h) (begun h) o.ended_first in
     let b = prefix_length (begun h) (accepted h) o.begun_first in
@@ -233,7 +235,7 @@ module _ (layout : Layout) (h : List Event) (legal : IsLegal layout h) where
       elim (cases_lt place close) [
         | inl lt ↦ lt
         | inr le ↦ elim (cases_lt close place) [
-          | inl lt ↦ absurd ((legal place (Push s k) push).2.1 (counted is_close h close place Close closes refl lt))
+          | inl lt ↦ absurd ((legal place (Push s k) push).2.1 (closed_shuts (take place h) (counted is_close h close place Close closes refl lt)))
           | inr ge ↦ let e : place ≡ close = omega arith in absurd (cc (e, push, closes))
         ]
       ]
@@ -254,7 +256,9 @@ module _ (layout : Layout) (h : List Event) (legal : IsLegal layout h) where
     no_overlap = never_overlaps;
     sender_order = keeps_sender_order;
     no_push_after_close = no_push_follows_close;
+    no_push_within_drain = no_push_within_drain h layout legal;
     push_of_held = push_of_held layout h legal;
     one_holder = has_one_holder;
-    complete = complete_in_order h (in_order layout h legal);
+    done = λ moment ended_all. complete_in_order (take moment h) (in_order layout (take moment h) (legal_take layout h moment legal)) ended_all;
+    resumed = λ resume at. (let may = (legal resume Resume at).2 in (may.0.0, may.1));
   }

@@ -2,7 +2,7 @@
 use Rattle.wq_words.proofs.Common.{◌≡◌, ℕ, ◌+◌, ◌<◌, ◌≤◌, ◌==◌, Bool, true, false, cond, if◌then◌else◌, ◌&&◌, add-zero, List, [], ◌∷◌, ◌++◌, refl, ap, arith}
 use Rattle.wq_words.proofs.Common.{count_by, sum_by-append, eqb-true, eq-eqb, IsPrefix, nat_tests, Layout, Event, Hold, Push, Back, Take, Close, Begin, Chain}
 use Rattle.wq_words.proofs.Common.{accepted, begun, sets_pending, clears_pending, starts_hold, stops_hold, MayFollow, IsLegal, Keeper, Home, Sender, Listed}
-use Rattle.wq_words.proofs.Common.{Owner, taken_over, keeper}
+use Rattle.wq_words.proofs.Common.{Owner, taken_over, keeper, Drain}
 use Rattle.wq_words.proofs.Prefixes.{prefix_step}
 use Rattle.wq_words.proofs.Order.{IsInOrder, in_order}
 use Rattle.wq_words.proofs.Growing.{growing, count_by_push}
@@ -107,6 +107,7 @@ kept_after s k h (Push t j) fits o = simp growing (pushed s t (j == k) _ _ _ _ _
 kept_after s k h (Back t j why) fits o = simp growing (returned s t (j == k) _ _ _ _ _ _ _ fits o)
 kept_after s k h Take fits o = simp growing (took s _ _ _ _ _ _ _ o)
 kept_after s k h Close fits o = simp growing (took s _ _ _ _ _ _ _ o)
+kept_after s k h Drain fits o = simp growing (took s _ _ _ _ _ _ _ o)
 kept_after s k h (Begin j) fits o = simp growing (began s (j == k) _ _ _ _ _ _ _ fits o)
 kept_after s k h (Chain j) fits o = simp growing (chained s (j == k) _ _ _ _ _ _ _ fits o)
 kept_after s k h _ fits o = simp (growing, add-zero) o

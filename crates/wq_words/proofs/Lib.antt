@@ -3,7 +3,9 @@ pub mod Prefixes
 pub mod Growing
 pub mod Written
 pub mod Running
+pub mod Lasts
 pub mod Closed
+pub mod Drains
 pub mod Legal
 pub mod Order
 pub mod Keepers
@@ -13,6 +15,7 @@ pub mod Ranks
 pub mod Headlines
 pub mod Seen
 pub mod OtherSeats
+pub mod ShutOwn
 pub mod DelayTable
 pub mod Counting
 pub mod Appended

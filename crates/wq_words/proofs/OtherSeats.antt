@@ -1,10 +1,10 @@
 -- What stays while every seat but the owner adds events.
 use Rattle.wq_words.proofs.Common.{◌≡◌, ℕ, ◌==◌, Bool, true, false, cond, List, [], ◌∷◌, ◌++◌, None, sym, refl, ap, ◌∙◌, subst, append_assoc, append-nil}
-use Rattle.wq_words.proofs.Common.{Layout, Event, Hold, Busy, Push, Back, accepted_by, accepted, IsClosed, taken, IsLegal, owner_seat, seat_of, own}
+use Rattle.wq_words.proofs.Common.{Layout, Event, Hold, Busy, Push, Back, accepted_by, accepted, taken, IsLegal, owner_seat, seat_of, own, IsShut}
 use Rattle.wq_words.specs.declared.event.Why.{Why}
-use Rattle.wq_words.proofs.Closed.{closed_from_open, closed_stays}
+use Rattle.wq_words.proofs.Closed.{shut_from_open, shut_quiet, shut_from_IsShut, IsShut_from_shut}
 use Rattle.wq_words.proofs.Legal.{legal_front, legal_next, legal_rest}
-use Rattle.wq_words.proofs.Listed.{accepted_push_none, taken_push_same, taken_push_push}
+use Rattle.wq_words.proofs.Listed.{accepted_push_none, quiet, IsQuiet, taken_push_same, taken_push_push}
 use Rattle.wq_words.proofs.Seen.{own_rest}
 
 -- what each event of a sender keeps
@@ -38,26 +38,26 @@ module _ (layout : Layout) (P : List Event → Type 0) (keep : OthersKeep layout
 pub taken_still : (layout : Layout) (v new : List Event) → IsLegal layout (v ++ new) → own owner_seat new ≡ [] → taken (v ++ new) ≡ taken v
 taken_still layout v new legal none =
     others_keep layout (λ w. taken w ≡ taken v) (record {
-      push = λ w s k l same. taken_push_push w s k (closed_from_open w (legal_next layout w (Push s k) [] l).2.1) ∙ same;
-      hold = λ w s k same. taken_push_same w (Hold s k) refl refl refl ∙ same;
-      busy = λ w s k same. taken_push_same w (Busy s k) refl refl refl ∙ same;
-      back = λ w s k why same. taken_push_same w (Back s k why) refl refl refl ∙ same;
+      push = λ w s k l same. taken_push_push w s k (shut_from_open w (legal_next layout w (Push s k) [] l).2.1) ∙ same;
+      hold = λ w s k same. taken_push_same w (Hold s k) (quiet refl refl refl refl) refl ∙ same;
+      busy = λ w s k same. taken_push_same w (Busy s k) (quiet refl refl refl refl) refl ∙ same;
+      back = λ w s k why same. taken_push_same w (Back s k why) (quiet refl refl refl refl) refl ∙ same;
     }) v new legal none refl
 
--- a closed queue accepts nothing but by its owner
-pub accepted_closed : (layout : Layout) (v new : List Event) → IsLegal layout (v ++ new) → IsClosed v → own owner_seat new ≡ []
+-- a queue that is shut accepts nothing but by its owner
+pub accepted_shut : (layout : Layout) (v new : List Event) → IsLegal layout (v ++ new) → IsShut v → own owner_seat new ≡ []
     → accepted (v ++ new) ≡ accepted v
-accepted_closed layout v new legal shut none =
-    (others_keep layout (λ w. IsClosed w × (accepted w ≡ accepted v)) (record {
+accepted_shut layout v new legal shut none =
+    (others_keep layout (λ w. IsShut w × (accepted w ≡ accepted v)) (record {
       push = λ w s k l p. absurd ((legal_next layout w (Push s k) [] l).2.1 p.0);
-      hold = λ w s k. quiet w (Hold s k) refl;
-      busy = λ w s k. quiet w (Busy s k) refl;
-      back = λ w s k why. quiet w (Back s k why) refl;
+      hold = λ w s k. still w (Hold s k) (quiet refl refl refl refl) refl;
+      busy = λ w s k. still w (Busy s k) (quiet refl refl refl refl) refl;
+      back = λ w s k why. still w (Back s k why) (quiet refl refl refl refl) refl;
     }) v new legal none (shut, refl)).1
   where
-    quiet : (w : List Event) (e : Event) → accepted_by e ≡ None → IsClosed w × (accepted w ≡ accepted v)
-        → IsClosed (w ++ e ∷ []) × (accepted (w ++ e ∷ []) ≡ accepted v)
-    quiet w e passes p = (closed_stays w e p.0, accepted_push_none w e passes ∙ p.1)
+    still : (w : List Event) (e : Event) → IsQuiet e → accepted_by e ≡ None → IsShut w × (accepted w ≡ accepted v)
+        → IsShut (w ++ e ∷ []) × (accepted (w ++ e ∷ []) ≡ accepted v)
+    still w e q passes p = (IsShut_from_shut (w ++ e ∷ []) (shut_quiet w e q.no_resume q.no_drain q.no_close ∙ shut_from_IsShut w p.0), accepted_push_none w e passes ∙ p.1)
 
 -- where the one event of a seat stands among others'
 pub record Surrounds (c : ℕ) (e : Event) (new : List Event) : Type 0 where

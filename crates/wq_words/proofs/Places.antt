@@ -2,15 +2,16 @@
 use Rattle.wq_words.proofs.Common.{◌≡◌, ℕ, ◌+◌, ◌<◌, ◌≤◌, ◌==◌, ◌↔◌, Bool, true, false, cond, if◌then◌else◌, List, [], ◌∷◌, ◌++◌, length, take, Some, None}
 use Rattle.wq_words.proofs.Common.{slice_get, refl, sym, ap, ◌∙◌, arith, inl, inr, count_by, take-take, take_at, length_push, append-nil, count_by_more_yes}
 use Rattle.wq_words.proofs.Common.{sum_by-take-le, fold_push, slice_get_within, get_or_from_slice_get, eqb-true, eq-eqb, cases_lt, IsPrefix, Layout, Event}
-use Rattle.wq_words.proofs.Common.{Hold, Busy, Push, Back, Take, Close, Begin, End, Chain, ChainBusy, Rest, accepted_by, accepted, begun_by, begun, taken}
-use Rattle.wq_words.proofs.Common.{closed, is_close, is_take, MayFollow, IsLegal, Keeper, Home, Sender, Listed, Owner, Keeps, taken_over, keeper_after, keeper}
+use Rattle.wq_words.proofs.Common.{Hold, Busy, Push, Back, Take, Close, Begin, Chain, accepted_by, accepted, begun_by, begun, taken, MayFollow, IsLegal, Keeper}
+use Rattle.wq_words.proofs.Common.{Home, Sender, Listed, Owner, Keeps, taken_over, keeper_after, keeper, Drain, Resume, shut}
 use Rattle.wq_words.proofs.Growing.{filter_map_push_some, filter_map_push_none, slice_get_append, slice_get_last}
 use Rattle.wq_words.proofs.Legal.{legal_induction}
 use Rattle.wq_words.proofs.Prefixes.{prefix_length}
 use Rattle.wq_words.proofs.Order.{IsInOrder, in_order}
 use Rattle.wq_words.proofs.Keepers.{IsQueue, held_bit, queue_bit, home_from_bit, sender_from_bit, queue_from_bit, kept}
-use Rattle.wq_words.proofs.Listed.{IsListed, is_listed, length-accepted, accepted_push_none, taken_push_same, taken_push_push, taken_push_take, taken_closed}
-use Rattle.wq_words.proofs.Closed.{closed_push_no, closed_push_yes, closed_from_IsClosed, closed_from_open}
+use Rattle.wq_words.proofs.Listed.{IsListed, IsQuiet, quiet, is_listed, length-accepted, accepted_push_none, taken_push_same, taken_push_push, taken_cut}
+use Rattle.wq_words.proofs.Listed.{taken_shut}
+use Rattle.wq_words.proofs.Closed.{shut_quiet, shut_close, shut_from_IsShut, shut_from_open}
 
 -- with b begun and t taken of these accepted numbers, k stands where x keeps it
 abbrev pub StandsFor : ℕ → ℕ → List ℕ → ℕ → Keeper → Type 0
@@ -83,10 +84,10 @@ module _ (k : ℕ) (h : List Event) where
   keeper_push : (e : Event) → keeper (h ++ e ∷ []) k ≡ keeper_after k (keeper h k) e
   keeper_push e = fold_push (keeper_after k) Home h e
 
-  same_place : (e : Event) → is_close e ≡ false → is_take e ≡ false → accepted_by e ≡ None → begun_by e ≡ None
+  same_place : (e : Event) → IsQuiet e → accepted_by e ≡ None → begun_by e ≡ None
       → StandsFor (length (begun h)) (taken h) (accepted h) k (keeper_after k (keeper h k) e) → IsPlaced k (h ++ e ∷ [])
-  same_place e no_close no_take no_accept no_begin o =
-      stands_at k (begun_same e no_begin) (taken_push_same h e no_close no_take no_accept) (accepted_push_none h e no_accept) (keeper_push e) o
+  same_place e q no_accept no_begin o =
+      stands_at k (begun_same e no_begin) (taken_push_same h e q no_accept) (accepted_push_none h e no_accept) (keeper_push e) o
 
   took_place : (e : Event) → accepted_by e ≡ None → begun_by e ≡ None → taken (h ++ e ∷ []) ≡ length (accepted h)
       → StandsFor (length (begun h)) (length (accepted h)) (accepted h) k (keeper_after k (keeper h k) e) → IsPlaced k (h ++ e ∷ [])
@@ -94,34 +95,36 @@ module _ (k : ℕ) (h : List Event) where
       stands_at k (begun_same e no_begin) all (accepted_push_none h e no_accept) (keeper_push e) o
 
   placed_after : (e : Event) → MayFollow h e → IsInOrder h → IsListed h → taken h ≤ length (accepted h) → IsPlaced k h → IsPlaced k (h ++ e ∷ [])
-  placed_after (Hold s j) may order l le o = same_place (Hold s j) refl refl refl refl (held _ _ _ k s (j == k) _ o)
-  placed_after (Busy s j) may order l le o = same_place (Busy s j) refl refl refl refl o
-  placed_after (Back s j why) may order l le o = same_place (Back s j why) refl refl refl refl (returned _ _ _ k (j == k) _ o)
-  placed_after (End j) may order l le o = same_place (End j) refl refl refl refl o
-  placed_after (ChainBusy j) may order l le o = same_place (ChainBusy j) refl refl refl refl o
-  placed_after Rest may order l le o = same_place Rest refl refl refl refl o
+  placed_after (Hold s j) may order l le o = same_place (Hold s j) (quiet refl refl refl refl) refl refl (held _ _ _ k s (j == k) _ o)
+  placed_after (Busy s j) may order l le o = same_place (Busy s j) (quiet refl refl refl refl) refl refl o
+  placed_after (Back s j why) may order l le o = same_place (Back s j why) (quiet refl refl refl refl) refl refl (returned _ _ _ k (j == k) _ o)
   placed_after (Push s j) may order l le o =
-      stands_at k (begun_same (Push s j) refl) (taken_push_push h s j (closed_from_open h may.1)) (filter_map_push_some accepted_by h (Push s j) j refl)
+      stands_at k (begun_same (Push s j) refl) (taken_push_push h s j (shut_from_open h may.1)) (filter_map_push_some accepted_by h (Push s j) j refl)
       (keeper_push (Push s j))
       (pushed _ _ j _ k (j == k) _ (prefix_length (begun h) (accepted h) order.begun_first) le (eqb-true j k) o)
   placed_after Take may order l le o =
-      took_place Take refl refl (taken_push_take h (closed_from_open h may) ∙ l.open_pushes (closed_from_open h may)) (took _ (taken h) _ k _ le o)
+      took_place Take refl refl (taken_cut h Take refl refl) (took _ (taken h) _ k _ le o)
+  placed_after Drain may order l le o =
+      took_place Drain refl refl (taken_cut h Drain refl refl) (took _ (taken h) _ k _ le o)
+  placed_after Resume may order l le o =
+      took_place Resume refl refl (taken_cut h Resume refl refl) (rw (taken_shut h (shut_from_IsShut h may.0.0)) at o)
   placed_after Close may order l le o =
-      took_place Close refl refl (taken_closed (h ++ Close ∷ []) (closed_push_yes h Close refl) ∙ ap length (accepted_push_none h Close refl))
+      took_place Close refl refl (taken_shut (h ++ Close ∷ []) (shut_close h Close refl) ∙ ap length (accepted_push_none h Close refl))
       (took _ (taken h) _ k _ le o)
   placed_after (Begin j) may order l le o =
       let step : length (begun (h ++ Begin j ∷ [])) ≡ length (begun h) + 1 =
       ap length (filter_map_push_some begun_by h (Begin j) j refl) ∙ length_push (begun h) j in
-      stands_at k step (taken_push_same h (Begin j) refl refl refl) (accepted_push_none h (Begin j) refl) (keeper_push (Begin j))
+      stands_at k step (taken_push_same h (Begin j) (quiet refl refl refl refl) refl) (accepted_push_none h (Begin j) refl) (keeper_push (Begin j))
       (began _ _ j _ k (j == k) _ may.1 (λ differs same. absurd (cc (differs, eq-eqb j k same))) o)
   placed_after (Chain j) may order l le o =
-      let is : closed h ≡ true = closed_from_IsClosed h may.0 in
+      let is : shut h ≡ true = shut_from_IsShut h may.0 in
       let more : accepted (h ++ Chain j ∷ []) ≡ accepted h ++ j ∷ [] = filter_map_push_some accepted_by h (Chain j) j refl in
       let all : taken (h ++ Chain j ∷ []) ≡ length (accepted h) + 1 =
-      taken_closed (h ++ Chain j ∷ []) (closed_push_no h (Chain j) refl ∙ is) ∙ ap length more ∙ length_push (accepted h) j in
-      let o' : StandsFor (length (begun h)) (length (accepted h)) (accepted h) k (keeper h k) = rw (taken_closed h is) at o in
+      taken_shut (h ++ Chain j ∷ []) (shut_quiet h (Chain j) refl refl refl ∙ is) ∙ ap length more ∙ length_push (accepted h) j in
+      let o' : StandsFor (length (begun h)) (length (accepted h)) (accepted h) k (keeper h k) = rw (taken_shut h is) at o in
       stands_at k (begun_same (Chain j) refl) all more (keeper_push (Chain j))
       (chained _ j _ k (j == k) _ (prefix_length (begun h) (accepted h) order.begun_first) (eqb-true j k) o')
+  placed_after _ may order l le o = same_place _ (quiet refl refl refl refl) refl refl o
 
 pub placed : (layout : Layout) (h : List Event) → IsLegal layout h → (k : ℕ) → IsPlaced k h
 placed layout h legal k =

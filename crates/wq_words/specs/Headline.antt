@@ -69,8 +69,8 @@ pub record KeepsHeadline (h : List Event) : Type 0 where
   pub no_overlap : NeverOverlaps h
   pub sender_order : KeepsSenderOrder h
   pub no_push_after_close : NoPushFollowsClose h
+  pub no_push_within_drain : NoPushWithinDrain h
   pub push_of_held : EachPushHasHold h
   pub one_holder : HasOneHolder h
-  pub no_push_within_drain : NoPushWithinDrain h
   pub done : IsDoneWhenRunOut h
   pub resumed : EachResumeRunOut h

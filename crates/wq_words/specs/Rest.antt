@@ -1,5 +1,5 @@
 -- When a queue rests, and which pushes wake it.
-use Rattle.std.specs.Prelude.{◌≡◌, ◌≢◌, ℕ, ◌+◌, ◌<◌, ◌≤◌, ◌==◌, Bool, true, false, List, take, Some, slice_get, count_by, ◌⊎◌}
+use Rattle.std.specs.Prelude.{◌≡◌, ℕ, ◌+◌, ◌<◌, ◌≤◌, ◌==◌, Bool, true, false, List, take, Some, slice_get, count_by, ◌⊎◌}
 use Rattle.std.specs.List.{after_last}
 use Rattle.wq_words.specs.declared.event.Event.{Event}
 use Rattle.wq_words.specs.declared.event.Event.TheVariants.{Push, Take, Drain, Rest}

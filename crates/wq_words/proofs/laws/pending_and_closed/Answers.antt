@@ -5,4 +5,5 @@ pub returns : goal.returns
 returns c = record {
   pending = λ h k. (λ yes. grind (arith, nat_tests), λ lt. grind (arith, nat_tests));
   closed = λ h. (λ yes. grind (arith, nat_tests), λ lt. grind (arith, nat_tests));
+  shut = λ h. (λ yes. grind (arith, nat_tests), λ lt. grind (arith, nat_tests));
 }
