@@ -2,28 +2,30 @@
 -- A step is one operation on one word. For each kind of step: when it is enabled, the machine after it, and its reply.
 use Rattle.std.specs.Prelude.{◌≡◌, ◌≢◌, ℕ, ◌+◌, ◌%◌, ◌^◌, ◌==◌, if◌then◌else◌, List, [], ◌∷◌, ◌++◌, get_or, set, replicate, Option, Some, None, unwrap_or, ◌⊎◌, Contains}
 use Rattle.wq_words.specs.declared.layout.Layout.{Layout}
-use Rattle.wq_words.specs.declared.event.Why.TheVariants.{Closed}
+use Rattle.wq_words.specs.declared.event.Why.{Why}
+use Rattle.wq_words.specs.declared.event.Why.TheVariants.{Closed, Draining}
 use Rattle.wq_words.specs.declared.event.Event.{Event}
 use Rattle.wq_words.specs.declared.event.Event.TheVariants as event
 use Rattle.wq_words.specs.Head.{busy_word}
 use Rattle.wq_words.specs.Numbers.{number_count}
-use Rattle.wq_words.specs.History.{Holds, IsClosed, IsShut, IsRunning, running}
+use Rattle.wq_words.specs.History.{Holds, IsClosed, IsShut, IsDraining, IsRunning, running}
 use Rattle.wq_core.specs.declared.step.Private.{Private}
 use Rattle.wq_core.specs.declared.step.Seat.{Seat}
 use Rattle.wq_core.specs.declared.step.Seat.TheVariants.{Sender, Owner}
 use Rattle.wq_core.specs.declared.step.Step.{Step}
-use Rattle.wq_core.specs.declared.step.Step.TheVariants.{Hold, Look, Link, Push, Back, Check, Take, Close, Walk, Begin, End, Chain, Turn, Rest}
+use Rattle.wq_core.specs.declared.step.Step.TheVariants.{Hold, Look, Link, Push, Back, Check, Take, Close, Drain, Resume, Walk, Begin, End, Chain, Turn, Rest}
 use Rattle.wq_core.specs.declared.step.Reply.{Reply}
 use Rattle.wq_core.specs.declared.step.Reply.TheVariants as reply
-use Rattle.wq_core.specs.Words.{head_place, link_place, item_place, done_place, word_count, closed_word, idle_word, link_word, number_at, word_at, head_at}
+use Rattle.wq_core.specs.Words.{head_place, link_place, item_place, done_place, word_count, closed_word, draining_word, idle_word, TakesPushes}
+use Rattle.wq_core.specs.Words.{link_word, number_at, word_at, head_at, item_of}
 
--- Which numbers a sender holds, whether the queue is closed and which number runs are read off the history.
+-- Which numbers a sender holds, whether the queue is closed or drains, and which number runs are read off the history.
 pub record Machine : Type 0 where
   pub layout : Layout
   pub words : List ℕ
   pub seats : List Private  -- of each sender
   pub cursor : Option ℕ  -- the number that the owner walks next
-  pub walked : List ℕ  -- the numbers walked since the last take or close, oldest first
+  pub walked : List ℕ  -- the numbers walked since the last take, close or drain, oldest first
   pub batch : List ℕ  -- the numbers to begin, oldest first
   pub history : List Event
 
@@ -62,6 +64,17 @@ private m s = get_or m.seats s nothing_seen
 abbrev pub seen_word : Machine → ℕ → ℕ
 seen_word m s = unwrap_or (private m s).seen 0
 
+-- a sender saw the head of a queue that takes pushes
+abbrev pub HasSeenOpen : Option ℕ → Type 0
+HasSeenOpen None = ⊥
+HasSeenOpen (Some word) = TakesPushes word
+
+-- a sender saw what it gives a number back for: a closed queue, or one that drained
+abbrev pub HasSeenCause : Why → Option ℕ → Type 0
+HasSeenCause Closed seen = seen ≡ Some closed_word
+HasSeenCause Draining seen = seen ≡ Some draining_word
+HasSeenCause _ seen = Unit {0}
+
 -- the owner walked k, or k waits in its batch
 abbrev pub StandsIn : List ℕ → List ℕ → ℕ → Type 0
 StandsIn walked batch k = Contains walked k ⊎ Contains batch k
@@ -70,12 +83,14 @@ StandsIn walked batch k = Contains walked k ⊎ Contains batch k
 abbrev pub IsEnabled : Machine → Seat → Step → Type 0
 IsEnabled m (Sender s) (Hold k) = Unit {0}
 IsEnabled m (Sender s) Look = Unit {0}
-IsEnabled m (Sender s) (Link k) = Holds m.history s k × ((private m s).seen ≢ None) × ((private m s).seen ≢ Some closed_word)
+IsEnabled m (Sender s) (Link k) = Holds m.history s k × HasSeenOpen (private m s).seen
 IsEnabled m (Sender s) (Push k) = (private m s).linked ≡ Some k
-IsEnabled m (Sender s) (Back k why) = Holds m.history s k × (why ≡ Closed → (private m s).seen ≡ Some closed_word)
+IsEnabled m (Sender s) (Back k why) = Holds m.history s k × HasSeenCause why (private m s).seen
 IsEnabled m (Sender s) (Check k) = Unit {0}
 IsEnabled m Owner Take = (¬ IsShut m.history) × (m.cursor ≡ None) × (m.batch ≡ [])
 IsEnabled m Owner Close = (¬ IsClosed m.history) × (m.cursor ≡ None)
+IsEnabled m Owner Drain = (¬ IsShut m.history) × (m.cursor ≡ None)
+IsEnabled m Owner Resume = IsDraining m.history × (m.cursor ≡ None) × (m.batch ≡ []) × (¬ IsRunning m.history)
 IsEnabled m Owner Walk = (m.cursor ≢ None) ⊎ (m.batch ≢ [])
 IsEnabled m Owner Begin = (m.cursor ≡ None) × (m.batch ≢ []) × (¬ IsRunning m.history)
 IsEnabled m Owner End = IsRunning m.history
@@ -111,6 +126,18 @@ other_than k (Some j) = if j == k then None else Some j
 abbrev pub unlinked : Private → ℕ → Private
 unlinked p k = record p { linked = other_than k p.linked }
 
+-- the owner swaps the head for this word, and what stood there is walked next
+abbrev pub after_swap : Machine → ℕ → Event → Machine
+after_swap m word e = happened (record (with_head m word) { cursor = item_of (head_at (head m)) }) e
+
+-- the event of such a swap
+abbrev pub IsSwap : Event → Type 0
+IsSwap event.Take = Unit {0}
+IsSwap event.Close = Unit {0}
+IsSwap event.Drain = Unit {0}
+IsSwap event.Resume = Unit {0}
+IsSwap _ = ⊥
+
 -- the owner has walked k, whose link is this word; at the end all that it walked goes behind the batch
 abbrev pub walked_past : Machine → ℕ → ℕ → Machine
 walked_past m k word =
@@ -142,8 +169,10 @@ after m (Sender s) (Push k) =
     else with_private m s nothing_seen
 after m (Sender s) (Back k why) = happened (with_private (with_item m k 0) s (unlinked (private m s) k)) (event.Back s k why)
 after m (Sender s) (Check k) = m
-after m Owner Take = happened (record (with_head m busy_word) { cursor = number_at (link_word (head m)) }) event.Take
-after m Owner Close = happened (record (with_head m closed_word) { cursor = number_at (link_word (head m)) }) event.Close
+after m Owner Take = after_swap m busy_word event.Take
+after m Owner Close = after_swap m closed_word event.Close
+after m Owner Drain = after_swap m draining_word event.Drain
+after m Owner Resume = after_swap m busy_word event.Resume
 after m Owner Walk = after_walk m m.cursor
 after m Owner Begin = after_begin m m.batch
 after m Owner End = after_end m (running m.history)
@@ -173,6 +202,8 @@ reply_to m (Sender s) (Back k why) = reply.GivenBack
 reply_to m (Sender s) (Check k) = if item_word m k == 0 then reply.Idle else reply.Pending
 reply_to m Owner Take = reply.Took (head_at (head m))
 reply_to m Owner Close = reply.Closed (head_at (head m))
+reply_to m Owner Drain = reply.Drained (head_at (head m))
+reply_to m Owner Resume = reply.Resumed
 reply_to m Owner Walk = reply.Walked (number_at (link m (walk_number m)))
 reply_to m Owner Begin = reply.Began (first_of m.batch)
 reply_to m Owner End = reply.Ended (unwrap_or (running m.history) 0)

@@ -2,16 +2,17 @@
 use Rattle.std.specs.Prelude.{◌≡◌, ◌≢◌, ℕ, Bool, true, Some, ◌+◌, ◌%◌, ◌^◌, ◌<◌, if◌then◌else◌, List, [], ◌∷◌, ◌++◌, length, reverse, get_or, Option, Some, None}
 use mathlib.Core.List.{reverse_aux}
 use Rattle.wq_words.specs.declared.head.Head.{Head}
-use Rattle.wq_words.specs.declared.head.Head.TheVariants.{Empty, Item, Closed}
+use Rattle.wq_words.specs.declared.head.Head.TheVariants.{Empty, Item, Closed, Draining}
 use Rattle.wq_words.specs.declared.event.Event.{Event}
+use Rattle.wq_words.specs.declared.event.Why.{Why}
 use Rattle.wq_words.specs.Head.{head_word, busy_word}
 use Rattle.wq_words.specs.Numbers.{number_count}
-use Rattle.wq_words.specs.History.{accepted, begun, ended, pending, closed, Holds, IsClosed}
-use Rattle.wq_words.specs.Legal.{IsLegal}
+use Rattle.wq_words.specs.History.{accepted, begun, ended, pending, closed, shut, Holds}
+use Rattle.wq_words.specs.Legal.{IsLegal, IsCause}
 use Rattle.wq_words.specs.Listed.{listed}
 use Rattle.wq_words.specs.Rest.{wakes}
-use Rattle.wq_core.specs.Words.{link_place, word_count, closed_word, idle_word, link_to, word_at}
-use Rattle.wq_core.specs.Machine.{Machine, head, link, item_word, done_word, private}
+use Rattle.wq_core.specs.Words.{link_place, word_count, idle_word, TakesPushes, link_to, word_at}
+use Rattle.wq_core.specs.Machine.{Machine, head, link, item_word, done_word, private, HasSeenCause}
 
 -- the head of a list of numbers, newest first
 abbrev pub head_of_list : List ℕ → Head
@@ -20,7 +21,7 @@ head_of_list (k ∷ ks) = Item k
 
 -- the head that the history leaves
 abbrev pub head_of : List Event → Head
-head_of h = if closed h then Closed else head_of_list (listed h)
+head_of h = if closed h then Closed else (if shut h then Draining else head_of_list (listed h))
 
 -- the word of a head: that of an empty list says whether it rests
 abbrev pub marked : Bool → Head → ℕ
@@ -57,8 +58,8 @@ pub record IsSound (m : Machine) : Type 0 where
   -- the done word counts the ended executions, as far as a word can
   pub done_is : done_word m ≡ length (ended m.history) % 2 ^ 64
   pub chains : AreChained (number_count m.layout) m.words m.cursor m.walked m.batch (accepted m.history) (begun m.history) (listed m.history)
-  -- what a sender linked it holds, and the link leads to the head that it saw, which was not the closed one
+  -- what a sender linked it holds, and the link leads to the head that it saw, which was that of a queue that takes pushes
   pub linked : (s k : ℕ) → (private m s).linked ≡ Some k
-      → (k < number_count m.layout) × Holds m.history s k × (link_to (private m s).seen ≡ Some (link m k)) × (link m k ≢ closed_word)
-  -- what was seen closed is closed
-  pub seen : (s : ℕ) → (private m s).seen ≡ Some closed_word → IsClosed m.history
+      → (k < number_count m.layout) × Holds m.history s k × (link_to (private m s).seen ≡ Some (link m k)) × TakesPushes (link m k)
+  -- what was seen as a cause to give a number back is one: a drain that was seen may have ended since
+  pub seen : (s : ℕ) (why : Why) → HasSeenCause why (private m s).seen → IsCause m.history why

@@ -6,7 +6,7 @@ use Rattle.wq_words.specs.Numbers.{number_count}
 use Rattle.wq_words.specs.History.{running}
 use Rattle.wq_words.specs.Keeper.{Keeper, Sender, keeper}
 use Rattle.wq_core.specs.declared.step.Private.{Private}
-use Rattle.wq_core.specs.Words.{link_place, closed_word, link_word}
+use Rattle.wq_core.specs.Words.{link_place, TakesPushes, link_word}
 use Rattle.wq_core.specs.Machine.{Machine, nothing_seen}
 use Rattle.wq_core.specs.Sound.{IsSound}
 
@@ -28,9 +28,9 @@ holder _ = None
 abbrev pub LinksFit : ℕ → List ℕ → Type 0
 LinksFit n words = (k : ℕ) → k < n → get_or words (link_place k) 0 ≤ n
 
--- and so would the link to a head that a sender saw, where that was not closed
+-- and so would the link to a head that a sender saw, where that was of a queue that takes pushes
 abbrev pub LooksFit : ℕ → List Private → Type 0
-LooksFit n seats = (s w : ℕ) → (get_or seats s nothing_seen).seen ≡ Some w → w ≢ closed_word → link_word w ≤ n
+LooksFit n seats = (s w : ℕ) → (get_or seats s nothing_seen).seen ≡ Some w → TakesPushes w → link_word w ≤ n
 
 -- the machine is sound, beside it stand who holds each number and which number runs, and each word that is stored as a link
 -- leads to a number

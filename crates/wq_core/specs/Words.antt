@@ -1,8 +1,8 @@
 -- The words of a queue's table: the head, the links, the item words with the PENDING bits, and the count of ended
 -- executions. n is how many numbers the queue has.
-use Rattle.std.specs.Prelude.{ℕ, ◌+◌, ◌-◌, ◌*◌, ◌==◌, if◌then◌else◌, Option, Some, None}
+use Rattle.std.specs.Prelude.{◌≢◌, ℕ, ◌+◌, ◌-◌, ◌*◌, ◌==◌, if◌then◌else◌, Option, Some, None}
 use Rattle.wq_words.specs.declared.head.Head.{Head}
-use Rattle.wq_words.specs.declared.head.Head.TheVariants.{Empty, Item, Closed}
+use Rattle.wq_words.specs.declared.head.Head.TheVariants.{Empty, Item, Closed, Draining}
 use Rattle.wq_words.specs.Head.{head_word, busy_word}
 
 -- where each word stands
@@ -24,6 +24,14 @@ word_count n = 2 * n + 2
 -- the head word of a closed queue
 abbrev pub closed_word : ℕ
 closed_word = head_word Closed
+
+-- the head word of a queue that drains
+abbrev pub draining_word : ℕ
+draining_word = head_word Draining
+
+-- the head word is of a queue that takes pushes
+abbrev pub TakesPushes : ℕ → Type 0
+TakesPushes word = (word ≢ closed_word) × (word ≢ draining_word)
 
 -- the head word of an empty list that rests
 abbrev pub idle_word : ℕ
@@ -47,10 +55,15 @@ abbrev pub word_at : Option ℕ → ℕ
 word_at None = 0
 word_at (Some k) = k + 1
 
--- what a word says as a link, or as the head of a closed queue
+-- what a word says as a link, or as the head of a queue that takes no push
 abbrev pub said_at : ℕ → Head
-said_at word = if word == 0 then Empty else (if word == closed_word then Closed else Item (word - 1))
+said_at word = if word == 0 then Empty else (if word == closed_word then Closed else (if word == draining_word then Draining else Item (word - 1)))
 
 -- what a head word says
 abbrev pub head_at : ℕ → Head
 head_at word = said_at (link_word word)
+
+-- the number at a head, if it has one
+abbrev pub item_of : Head → Option ℕ
+item_of (Item k) = Some k
+item_of _ = None

@@ -3,7 +3,7 @@
 ghost use Rattle.std.specs.Prelude.{◌≡◌, ℕ, Bool, length, take, drop, None};
 ghost use Rattle.wq_words.specs.declared.layout.Layout.{Layout};
 ghost use Rattle.wq_words.specs.Numbers.{number_count};
-ghost use Rattle.wq_words.specs.History.{accepted, begun, taken, first, IsClosed};
+ghost use Rattle.wq_words.specs.History.{accepted, begun, taken, first, IsShut};
 ghost use Rattle.wq_words.specs.Listed.{listed};
 ghost use Rattle.wq_words.specs.Rest.{wakes};
 ghost use Rattle.wq_core.specs.declared.step.Seat.{Seat};
@@ -24,20 +24,21 @@ pub fn each_step_keeps_sound()
     ensures step { (m : Machine) (seat : Seat) (step : Step) → IsSound m → IsMade m seat step → IsSound (after m seat step) }
 {}
 
-/// The invariant holds of each core. The links spell from its head what was pushed since the last take, newest first
-/// (`llist_del_all`), while it is open. Once all that was taken is walked, the batch is what was taken and has not begun,
+/// The invariant holds of each core. The links spell from its head what was pushed since the last take, drain or resume,
+/// newest first (`llist_del_all`), while it is open. Once all that was taken is walked, the batch is what was taken and has not begun,
 /// oldest first.
 pub fn chain_and_batch(core: &Core)
     ensures sound { IsSound core.now }
-    ensures chain { ¬ IsClosed core.now.history → IsChain (number_count core.now.layout) core.now.words (link_word (head core.now)) (listed core.now.history) }
+    ensures chain { ¬ IsShut core.now.history → IsChain (number_count core.now.layout) core.now.words (link_word (head core.now)) (listed core.now.history) }
     ensures batch { core.now.cursor ≡ None
         → core.now.batch ≡ drop (length (begun core.now.history)) (take (taken core.now.history) (accepted core.now.history)) }
 {
     core.sound();
 }
 
-/// A push that wins says that it was the first exactly where nothing was pushed since the last take (`llist_add` answers
-/// true where the list was empty before), and that it wakes exactly where nothing was pushed or taken since the last rest.
+/// A push that wins says that it was the first exactly where nothing was pushed since the last take, drain or resume
+/// (`llist_add` answers true where the list was empty before), and that it wakes exactly where nothing was pushed, taken or
+/// drained since the last rest.
 pub fn first_push(core: &Core)
     ensures first { (s k : ℕ) (p q : Bool) → IsMade core.now (Sender s) (Push k)
         → reply_to core.now (Sender s) (Push k) ≡ Pushed p q → p ≡ first core.now.history }

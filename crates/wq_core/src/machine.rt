@@ -1,18 +1,18 @@
 //! The machine in memory, step by step.
-ghost use Rattle.std.specs.Prelude.{◌≡◌, ◌<◌, ◌↔◌, true, IsTrue, IfOk, IfErr, IfSome, OnOk, OnErr, length, get_or, Some, None};
+ghost use Rattle.std.specs.Prelude.{◌≡◌, ◌<◌, ◌↔◌, true, IsTrue, IfOk, IfErr, IfSome, OnOk, OnErr, [], length, get_or, Some, None};
 ghost use Rattle.wq_words.specs.declared.layout.Layout.{Layout};
 ghost use Rattle.wq_words.specs.Numbers.{number_count};
-ghost use Rattle.wq_words.specs.History.{accepted, begun, Holds, IsClosed, IsRunning};
+ghost use Rattle.wq_words.specs.History.{accepted, begun, Holds, IsClosed, IsShut, IsDraining, IsRunning};
 ghost use Rattle.wq_core.specs.declared.step.Seat.TheVariants.{Sender, Owner};
-ghost use Rattle.wq_core.specs.declared.step.Step.TheVariants.{Hold, Look, Link, Push, Back, Check, Take, Close, Walk, Begin, End, Chain, Turn, Rest};
-ghost use Rattle.wq_core.specs.Words.{number_at};
-ghost use Rattle.wq_core.specs.Machine.{opening, IsEnabled, after, reply_to, nothing_seen, private, link, unlinked};
+ghost use Rattle.wq_core.specs.declared.step.Step.TheVariants.{Hold, Look, Link, Push, Back, Check, Take, Close, Drain, Resume, Walk, Begin, End, Chain, Turn, Rest};
+ghost use Rattle.wq_core.specs.Words.{number_at, head_at};
+ghost use Rattle.wq_core.specs.Machine.{opening, IsEnabled, HasSeenOpen, HasSeenCause, IsSwap, after_swap, after, reply_to, nothing_seen, private, head, link, unlinked};
 ghost use Rattle.wq_core.specs.Sound.{IsSound};
 ghost use Rattle.wq_core.specs.Refusal.{is_senders, IsSeated, IsNumbered, IsPlaced, MayTakeMemory, IsMade, IsRefused};
 
 use crate::place::{
-    HEAD, done_place, head_at, item_place, link_place, link_word, number_at, word, word_at,
-    word_count,
+    HEAD, done_place, head_at, item_of, item_place, link_place, link_word, number_at, word,
+    word_at, word_count,
 };
 use crate::step::{Private, Reply, Seat, Step, StepError};
 use std::alloc::{AllocError, Global};
@@ -139,40 +139,34 @@ impl Core {
         match (seat, step) {
             (Seat::Sender(_), Step::Hold(_)) => true,
             (Seat::Sender(_), Step::Look) => true,
-            (Seat::Sender(sender), Step::Link(number)) => match self.private(sender).seen {
-                Some(word) => word != Head::Closed.to_word() && self.is_held(sender, number),
-                None => false,
-            },
+            (Seat::Sender(sender), Step::Link(number)) => {
+                self.is_held(sender, number) && has_seen_open(self.private(sender).seen)
+            }
             (Seat::Sender(sender), Step::Push(number)) => {
                 self.private(sender).linked == Some(number)
             }
             (Seat::Sender(sender), Step::Back(number, why)) => {
-                self.is_held(sender, number)
-                    && (why != Why::Closed
-                        || self.private(sender).seen == Some(Head::Closed.to_word()))
+                self.is_held(sender, number) && has_seen_cause(why, self.private(sender).seen)
             }
             (Seat::Sender(_), Step::Check(_)) => true,
             (Seat::Owner, Step::Take) => {
-                !self.is_closed() && self.cursor.is_none() && self.batch.is_empty()
+                !self.is_shut() && self.cursor.is_none() && self.batch.is_empty()
             }
             (Seat::Owner, Step::Close) => !self.is_closed() && self.cursor.is_none(),
+            (Seat::Owner, Step::Drain) => !self.is_shut() && self.cursor.is_none(),
+            (Seat::Owner, Step::Resume) => self.is_draining() && self.is_idle(),
             (Seat::Owner, Step::Walk) => self.cursor.is_some() || !self.batch.is_empty(),
             (Seat::Owner, Step::Begin) => {
                 self.cursor.is_none() && !self.batch.is_empty() && !self.is_running()
             }
             (Seat::Owner, Step::End) => self.is_running(),
             (Seat::Owner, Step::Chain(_)) => {
-                self.is_closed() && self.cursor.is_none() && self.is_running()
+                self.is_shut() && self.cursor.is_none() && self.is_running()
             }
             (Seat::Owner, Step::Turn(number, _)) => {
                 self.walked.contains(&number) || self.batch.contains(&number)
             }
-            (Seat::Owner, Step::Rest) => {
-                !self.is_closed()
-                    && self.cursor.is_none()
-                    && self.batch.is_empty()
-                    && !self.is_running()
-            }
+            (Seat::Owner, Step::Rest) => !self.is_shut() && self.is_idle(),
             _ => unreachable!(),
         }
     }
@@ -188,6 +182,26 @@ impl Core {
         ensures { IsTrue result ↔ IsClosed self.now.history }
     {
         word(&self.words, HEAD) == Head::Closed.to_word()
+    }
+
+    fn is_draining(&self) -> bool
+        ensures { IsTrue result ↔ IsDraining self.now.history }
+    {
+        word(&self.words, HEAD) == Head::Draining.to_word()
+    }
+
+    // Whether the queue takes no push now.
+    fn is_shut(&self) -> bool
+        ensures { IsTrue result ↔ IsShut self.now.history }
+    {
+        self.is_closed() || self.is_draining()
+    }
+
+    // Whether the owner has nothing in hand: nothing is to be walked, nothing taken waits, and nothing runs.
+    fn is_idle(&self) -> bool
+        ensures { IsTrue result ↔ ((self.now.cursor ≡ None) × (self.now.batch ≡ []) × (¬ IsRunning self.now.history)) }
+    {
+        self.cursor.is_none() && self.batch.is_empty() && !self.is_running()
     }
 
     fn is_running(&self) -> bool
@@ -220,6 +234,8 @@ impl Core {
             (Seat::Sender(sender), Step::Check(number)) => Ok(self.check(sender, number)),
             (Seat::Owner, Step::Take) => self.take(),
             (Seat::Owner, Step::Close) => self.close(),
+            (Seat::Owner, Step::Drain) => self.drain(),
+            (Seat::Owner, Step::Resume) => self.resume(),
             (Seat::Owner, Step::Walk) => self.walk(),
             (Seat::Owner, Step::Begin) => self.begin(),
             (Seat::Owner, Step::End) => self.end(),
@@ -322,17 +338,29 @@ impl Core {
         }
     }
 
+    // Swaps the head. What stood there is walked next, and is the answer.
+    fn swap(&mut self, new: u64, event: Event) -> Result<Head, AllocError>
+        requires kind { IsSwap event }
+        requires sound { IsSound (after_swap self.old new event) }
+        ensures found { IfOk result (λ found. found ≡ head_at (head self.old)) }
+        ensures after { OnOk result (self.new ≡ after_swap self.old new event) }
+        ensures unchanged { OnErr result (self.new ≡ self.old) }
+    {
+        let found = head_at(word(&self.words, HEAD));
+        self.history.push(event)?;
+        self.words[HEAD] = new;
+        self.cursor = item_of(found);
+        Ok(found)
+    }
+
     fn take(&mut self) -> Result<Reply, AllocError>
         requires { IsMade self.old Owner Take }
         ensures reply { IfOk result (λ reply. reply ≡ reply_to self.old Owner Take) }
         ensures after { OnOk result (self.new ≡ after self.old Owner Take) }
         ensures unchanged { OnErr result (self.new ≡ self.old) }
     {
-        let head = word(&self.words, HEAD);
-        self.history.push(Event::Take)?;
-        self.words[HEAD] = BUSY;
-        self.cursor = number_at(link_word(head));
-        Ok(Reply::Took(head_at(head)))
+        let head = self.swap(BUSY, Event::Take)?;
+        Ok(Reply::Took(head))
     }
 
     fn close(&mut self) -> Result<Reply, AllocError>
@@ -341,11 +369,28 @@ impl Core {
         ensures after { OnOk result (self.new ≡ after self.old Owner Close) }
         ensures unchanged { OnErr result (self.new ≡ self.old) }
     {
-        let head = word(&self.words, HEAD);
-        self.history.push(Event::Close)?;
-        self.words[HEAD] = Head::Closed.to_word();
-        self.cursor = number_at(link_word(head));
-        Ok(Reply::Closed(head_at(head)))
+        let head = self.swap(Head::Closed.to_word(), Event::Close)?;
+        Ok(Reply::Closed(head))
+    }
+
+    fn drain(&mut self) -> Result<Reply, AllocError>
+        requires { IsMade self.old Owner Drain }
+        ensures reply { IfOk result (λ reply. reply ≡ reply_to self.old Owner Drain) }
+        ensures after { OnOk result (self.new ≡ after self.old Owner Drain) }
+        ensures unchanged { OnErr result (self.new ≡ self.old) }
+    {
+        let head = self.swap(Head::Draining.to_word(), Event::Drain)?;
+        Ok(Reply::Drained(head))
+    }
+
+    fn resume(&mut self) -> Result<Reply, AllocError>
+        requires { IsMade self.old Owner Resume }
+        ensures reply { IfOk result (λ reply. reply ≡ reply_to self.old Owner Resume) }
+        ensures after { OnOk result (self.new ≡ after self.old Owner Resume) }
+        ensures unchanged { OnErr result (self.new ≡ self.old) }
+    {
+        self.swap(BUSY, Event::Resume)?;
+        Ok(Reply::Resumed)
     }
 
     fn walk(&mut self) -> Result<Reply, AllocError>
@@ -468,6 +513,8 @@ fn is_senders(step: Step) -> bool
         | Step::Check(_) => true,
         Step::Take
         | Step::Close
+        | Step::Drain
+        | Step::Resume
         | Step::Walk
         | Step::Begin
         | Step::End
@@ -509,6 +556,27 @@ fn is_below(number: Option<u32>, count: u32) -> bool
     match number {
         Some(number) => number < count,
         None => true,
+    }
+}
+
+// Whether a sender saw the head of a queue that takes pushes.
+fn has_seen_open(seen: Option<u64>) -> bool
+    ensures { IsTrue result ↔ HasSeenOpen seen }
+{
+    match seen {
+        Some(word) => word != Head::Closed.to_word() && word != Head::Draining.to_word(),
+        None => false,
+    }
+}
+
+// Whether a sender saw what it gives a number back for.
+fn has_seen_cause(why: Why, seen: Option<u64>) -> bool
+    ensures { IsTrue result ↔ HasSeenCause why seen }
+{
+    match why {
+        Why::Closed => seen == Some(Head::Closed.to_word()),
+        Why::Draining => seen == Some(Head::Draining.to_word()),
+        Why::Contended | Why::Cancelled => true,
     }
 }
 

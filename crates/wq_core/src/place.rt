@@ -1,9 +1,9 @@
 //! Where the words of a queue stand, and what they say. A table of them is `word_count` words long: the head, the links,
 //! the item words with the PENDING bits, and the count of ended executions.
-ghost use Rattle.std.specs.Prelude.{◌≡◌, ◌≢◌, ◌<◌, ◌≤◌, ◌^◌, get_or, length};
+ghost use Rattle.std.specs.Prelude.{◌≡◌, ◌<◌, ◌≤◌, ◌^◌, get_or, length};
 ghost use Rattle.wq_words.specs.declared.layout.Layout.{Layout};
 ghost use Rattle.wq_words.specs.Numbers.{number_count};
-ghost use Rattle.wq_core.specs.Words.{link_place, item_place, done_place, word_count, closed_word, link_word, number_at, word_at, head_at};
+ghost use Rattle.wq_core.specs.Words.{link_place, item_place, done_place, word_count, TakesPushes, link_word, number_at, word_at, head_at, item_of};
 
 use wq_words::{BUSY, Head, Layout};
 
@@ -38,7 +38,7 @@ pub fn done_place(layout: Layout) -> usize
     1 + 2 * layout.number_count() as usize
 }
 
-/// The word that links to what stands at a head that is not closed: the end where the list is empty, whether it rests or
+/// The word that links to what stands at the head of a queue that takes pushes: the end where the list is empty, whether it rests or
 /// not.
 pub fn link_word(word: u64) -> u64
     ensures word { result ≡ link_word word }
@@ -48,7 +48,7 @@ pub fn link_word(word: u64) -> u64
 
 /// What a head word says.
 pub fn head_at(word: u64) -> Head
-    requires { word ≢ closed_word → link_word word ≤ 2 ^ 32 }
+    requires { TakesPushes word → link_word word ≤ 2 ^ 32 }
     ensures head { result ≡ head_at word }
 {
     match Head::from_word(word) {
@@ -57,7 +57,18 @@ pub fn head_at(word: u64) -> Head
     }
 }
 
-/// The number that a link stands for. A link never says that a queue is closed or rests, so it is no head to be told apart.
+/// The number at a head, if it has one.
+pub fn item_of(head: Head) -> Option<u32>
+    ensures item { result ≡ item_of head }
+{
+    match head {
+        Head::Item(number) => Some(number),
+        Head::Empty | Head::Closed | Head::Draining => None,
+    }
+}
+
+/// The number that a link stands for. A link never says that a queue is closed, drains or rests, so it is no head to be told
+/// apart.
 pub fn number_at(word: u64) -> Option<u32>
     requires { word ≤ 2 ^ 32 }
     ensures number { result ≡ number_at word }

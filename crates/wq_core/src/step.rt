@@ -30,6 +30,10 @@ pub enum Step {
     Take,
     /// Takes the whole list and leaves the closed mark.
     Close,
+    /// Takes the whole list and leaves the draining mark (`drain_workqueue`).
+    Drain,
+    /// Takes the draining mark away: the list is empty, and takes pushes again.
+    Resume,
     /// Loads the link of the number that is to be walked next, or of the oldest taken number once all is walked.
     Walk,
     /// Clears the PENDING bit of the oldest taken number, which then runs.
@@ -41,7 +45,7 @@ pub enum Step {
     /// Stores the link of a number that was taken and walked and has not begun (`llist_reverse_order`): another number, or
     /// the end.
     Turn(u32, Option<u32>),
-    /// Marks the empty list as resting, where nothing was pushed since the last Take.
+    /// Marks the empty list as resting, where nothing was pushed since it was taken last.
     Rest,
 }
 
@@ -70,6 +74,10 @@ pub enum Reply {
     Took(Head),
     /// To Close: the head that was taken.
     Closed(Head),
+    /// To Drain: the head that was taken.
+    Drained(Head),
+    /// To Resume.
+    Resumed,
     /// To Walk: the number that the link leads to, if any.
     Walked(Option<u32>),
     /// To Begin: the number that runs now.
