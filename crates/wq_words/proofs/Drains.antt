@@ -1,9 +1,15 @@
 -- From a Drain on the queue takes no push before the next Resume.
 use Rattle.wq_words.proofs.Common.{◌≡◌, ℕ, zero, suc, ◌+◌, ◌-◌, ◌<◌, ◌≤◌, true, List, [], ◌∷◌, ◌++◌, length, take, Some, slice_get, get_or, refl, sym, ap, ◌∙◌}
-use Rattle.wq_words.proofs.Common.{arith, inl, inr, ◌⊎◌, slice_get_within, slice_get-get_or, Layout, Event, Push, Close, Drain, Resume, shut, IsLegal}
+use Rattle.wq_words.proofs.Common.{arith, inl, inr, ◌⊎◌, slice_get_within, slice_get-get_or, Layout, Event, Push, Close, Drain, Resume, shut, IsLegal, false}
+use Rattle.wq_words.proofs.Common.{not, cond, suffix_len, Take, Rest, is_drain, is_resume, is_close, IsDraining, HasDrained, MayFollow}
 use Rattle.wq_words.specs.Headline.{NoPushWithinDrain}
 use Rattle.wq_words.proofs.Growing.{take_more_some}
-use Rattle.wq_words.proofs.Closed.{shut_close, shut_drain, shut_quiet, IsShut_from_shut}
+use Rattle.wq_words.proofs.Closed.{shut_close, shut_drain, shut_quiet, shut_resume, shut_from_IsShut, IsShut_from_shut, open_from_shut, closed_stays}
+use Rattle.wq_words.proofs.Closed.{closed_push_yes, IsClosed_from_closed}
+use Rattle.wq_words.proofs.Legal.{legal_induction}
+use Rattle.wq_words.proofs.Rest.{wakes_quiet, wakes_push_work}
+use Rattle.wq_words.specs.Rest.{wakes}
+use Rattle.std.proofs.lemmas.List.Sums.{sum_by-take-drop}
 
 -- a queue that takes no push goes on so, but for a Resume
 pub still_shut : (h : List Event) (e : Event) → shut h ≡ true → (shut (h ++ e ∷ []) ≡ true) ⊎ (e ≡ Resume)
@@ -46,3 +52,29 @@ module _ (h : List Event) where
             absurd ((legal push (Push s k) pushes).2.1 (IsShut_from_shut (take push h) (ap (λ (i : ℕ). shut (take i h)) (sym same) ∙ still)))
         | inr resume ↦ (resume.0, resume.1, omega (arith, resume.2, same), resume.3)
       ]
+
+-- a queue that drains has a Drain
+pub has_drained : (h : List Event) → IsDraining h → HasDrained h
+has_drained h is =
+    let place : ℕ = length h - suffix_len (λ e. not (is_resume e)) h in
+    omega (arith, is.0, is.1, sum_by-take-drop (λ e. cond (is_drain e) 1 0) h place)
+
+-- and does not rest: its Drain set it to work, and no Rest may follow before the Resume
+pub at_work_draining : (layout : Layout) (h : List Event) → IsLegal layout h → IsDraining h → wakes h ≡ false
+at_work_draining layout =
+    legal_induction layout (λ h. IsDraining h → wakes h ≡ false) (λ is. absurd (omega (arith, is.0))) (λ h e legal allowed before. more h e allowed.2 before)
+  where
+    drained_before : (h : List Event) (e : Event) → is_resume e ≡ false → is_drain e ≡ false → is_close e ≡ false → IsDraining (h ++ e ∷ []) → IsDraining h
+    drained_before h e no_resume no_drain no_close is = (
+      IsShut_from_shut h (sym (shut_quiet h e no_resume no_drain no_close) ∙ shut_from_IsShut (h ++ e ∷ []) is.0),
+      λ closes. is.1 (closed_stays h e closes),
+    )
+
+    more : (h : List Event) (e : Event) → MayFollow h e → (IsDraining h → wakes h ≡ false) → IsDraining (h ++ e ∷ []) → wakes (h ++ e ∷ []) ≡ false
+    more h (Push s k) may before is = wakes_push_work h (Push s k) refl
+    more h Take may before is = wakes_push_work h Take refl
+    more h Drain may before is = wakes_push_work h Drain refl
+    more h Close may before is = absurd (is.1 (IsClosed_from_closed (h ++ Close ∷ []) (closed_push_yes h Close refl)))
+    more h Resume may before is = absurd (open_from_shut (h ++ Resume ∷ []) (shut_resume h Resume refl refl may.0.1) is.0)
+    more h Rest may before is = absurd (may.0 (drained_before h Rest refl refl refl is).0)
+    more h _ may before is = wakes_quiet h _ refl refl ∙ before (drained_before h _ refl refl refl is)
