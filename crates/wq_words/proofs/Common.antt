@@ -20,9 +20,9 @@ pub use Rattle.wq_words.specs.Armed.{armed_of, modified_of}
 pub use Rattle.wq_words.specs.Counting.{is_chain, is_queued_by, is_pending_by, is_closed_by, is_contended_by, is_chain_busy}
 pub use Rattle.wq_words.specs.DelayTable.{DelayTable, is_too_far, table_with, table_without, table_at}
 pub use Rattle.wq_words.specs.Head.{head_word, busy_word}
-pub use Rattle.wq_words.specs.History.{accepted, accepted_by, begun, begun_by, ended, ended_by, fresh, is_push, is_cut, is_close, IsClosed, closed}
-pub use Rattle.wq_words.specs.History.{is_drain, is_resume, shuts, shut, IsShut, IsDraining, HasDrained}
-pub use Rattle.wq_words.specs.History.{starts_hold, stops_hold, IsPending, Holds, sets_pending, clears_pending, taken, IsRunning, running, pending, first, next}
+pub use Rattle.wq_words.specs.History.{accepted, accepted_by, begun, begun_by, ended, ended_by, fresh, is_push, is_cut, is_close, IsClosed, closed, is_drain}
+pub use Rattle.wq_words.specs.History.{is_resume, shuts, shut, IsShut, IsDraining, HasDrained, starts_hold, stops_hold, IsPending, Holds, sets_pending}
+pub use Rattle.wq_words.specs.History.{clears_pending, taken, IsRunning, running, pending, first, next}
 pub use Rattle.wq_words.specs.Keeper.{Keeper, Home, Sender, Listed, Owner, keeper, taken_over, Keeps, keeper_after}
 pub use Rattle.wq_words.specs.Legal.{IsAllowed, IsLegal, IsComplete, HasRunOut, IsCause, MayFollow}
 pub use Rattle.wq_words.specs.Numbers.{number_count}

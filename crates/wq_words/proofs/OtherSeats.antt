@@ -57,7 +57,10 @@ accepted_shut layout v new legal shut none =
   where
     still : (w : List Event) (e : Event) → IsQuiet e → accepted_by e ≡ None → IsShut w × (accepted w ≡ accepted v)
         → IsShut (w ++ e ∷ []) × (accepted (w ++ e ∷ []) ≡ accepted v)
-    still w e q passes p = (IsShut_from_shut (w ++ e ∷ []) (shut_quiet w e q.no_resume q.no_drain q.no_close ∙ shut_from_IsShut w p.0), accepted_push_none w e passes ∙ p.1)
+    still w e q passes p = (
+      IsShut_from_shut (w ++ e ∷ []) (shut_quiet w e q.no_resume q.no_drain q.no_close ∙ shut_from_IsShut w p.0),
+      accepted_push_none w e passes ∙ p.1,
+    )
 
 -- where the one event of a seat stands among others'
 pub record Surrounds (c : ℕ) (e : Event) (new : List Event) : Type 0 where

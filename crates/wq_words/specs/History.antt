@@ -1,5 +1,6 @@
 -- What a history of events says, oldest event first: lists and counts of its events.
-use Rattle.std.specs.Prelude.{ℕ, ◌<◌, ◌+◌, ◌==◌, Bool, true, false, ◌&&◌, List, length, Option, Some, None, slice_get, count_by, filter_map, nat_lt, if◌then◌else◌}
+use Rattle.std.specs.Prelude.{ℕ, ◌<◌, ◌+◌, ◌==◌, Bool, true, false, ◌&&◌, List, length, Option, Some, None, slice_get, count_by, filter_map, nat_lt}
+use Rattle.std.specs.Prelude.{if◌then◌else◌}
 use Rattle.std.specs.List.{after_last, before_last}
 use Rattle.wq_words.specs.declared.event.Event.{Event}
 use Rattle.wq_words.specs.declared.event.Event.TheVariants.{Hold, Push, Back, Take, Close, Drain, Resume, Begin, End, Chain}

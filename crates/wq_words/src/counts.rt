@@ -1,7 +1,8 @@
 //! What a history says: counts and lists of its events.
 ghost use Rattle.std.specs.List.{after_last};
 ghost use Rattle.std.specs.Prelude.{◌≡◌, ◌↔◌, IsTrue, length, slice_get, count_by};
-ghost use Rattle.wq_words.specs.History.{accepted, begun, ended, sets_pending, clears_pending, starts_hold, stops_hold, is_close, is_drain, is_resume, next, running, IsRunning, IsPending, Holds, IsClosed, IsShut, HasDrained};
+ghost use Rattle.wq_words.specs.History.{accepted, begun, ended, sets_pending, clears_pending, starts_hold, stops_hold, is_close, is_drain, is_resume, next};
+ghost use Rattle.wq_words.specs.History.{running, IsRunning, IsPending, Holds, IsClosed, IsShut, HasDrained};
 
 use crate::event::Event;
 
