@@ -1,6 +1,6 @@
 -- Each word that is stored as a link leads to a number of the queue, or is the end.
-use Rattle.wq_core.proofs.Common.{◌≡◌, ◌≢◌, ℕ, ◌<◌, ◌≤◌, List, length, get_or, set, Some, arith, inl, inr, get_or-set_other, get_or-set_same, cases_eq}
-use Rattle.wq_core.proofs.Common.{Private, link_place, item_place, done_place, head_place, closed_word, link_word, nothing_seen, LinksFit, LooksFit}
+use Rattle.wq_core.proofs.Common.{TakesPushes, ◌≡◌, ◌≢◌, ℕ, ◌<◌, ◌≤◌, List, length, get_or, set, Some, arith, inl, inr, get_or-set_other, get_or-set_same}
+use Rattle.wq_core.proofs.Common.{cases_eq, Private, link_place, item_place, done_place, head_place, link_word, nothing_seen, LinksFit, LooksFit}
 
 module _ (n : ℕ) (ws : List ℕ) (v : ℕ) (fit : LinksFit n ws) where
   -- a word that is no link is written
@@ -24,14 +24,14 @@ module _ (n : ℕ) (ws : List ℕ) (v : ℕ) (fit : LinksFit n ws) where
       ]
 
 -- what sender s has seen now
-pub fit_look : (n : ℕ) (seats : List Private) (s : ℕ) (p : Private) → s < length seats → ((w : ℕ) → p.seen ≡ Some w → w ≢ closed_word → link_word w ≤ n)
+pub fit_look : (n : ℕ) (seats : List Private) (s : ℕ) (p : Private) → s < length seats → ((w : ℕ) → p.seen ≡ Some w → TakesPushes w → link_word w ≤ n)
     → LooksFit n seats → LooksFit n (set seats s p)
-fit_look n seats s p in' new old t w is unclosed =
+fit_look n seats s p in' new old t w is takes =
     elim (cases_eq t s) [
       | inl same ↦
           let here : get_or (set seats s p) t nothing_seen ≡ p = rw same (get_or-set_same seats s p nothing_seen in') in
-          new w (rw here at is) unclosed
+          new w (rw here at is) takes
       | inr ne ↦
           let there : get_or (set seats s p) t nothing_seen ≡ get_or seats t nothing_seen = get_or-set_other seats s t p nothing_seen ne in
-          old t w (rw there at is) unclosed
+          old t w (rw there at is) takes
     ]

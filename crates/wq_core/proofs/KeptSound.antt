@@ -1,12 +1,12 @@
 -- The invariant, said by the keepers of the numbers, and an event that moves none of them.
-use Rattle.wq_core.proofs.Common.{◌≡◌, ◌≢◌, ℕ, ◌+◌, ◌%◌, ◌^◌, ◌<◌, true, false, if◌then◌else◌, nat_lt, List, [], ◌∷◌, ◌++◌, length, None, Some, slice_get}
-use Rattle.wq_core.proofs.Common.{refl, sym, ap, ◌∙◌, arith, inl, inr, eq-eqb, lt-ltb, le-ltb, Layout, Event, Push, Chain, number_count, wakes, accepted}
-use Rattle.wq_core.proofs.Common.{begun, ended, accepted_by, begun_by, ended_by, pending, Holds, IsPending, IsClosed, listed_after, listed, IsAllowed}
-use Rattle.wq_core.proofs.Common.{IsLegal, Keeper, Home, Sender, keeper_after, keeper, growing, slice_get_push, legal_push, legal_induction}
-use Rattle.wq_core.proofs.Common.{pending_bit, kept, home_from_bit, sender_from_bit, item_place, word_count, closed_word, Machine, head, item_word, done_word}
-use Rattle.wq_core.proofs.Common.{private, happened, head_word_of, AreChained, IsSound, FollowKeepers}
+use Rattle.wq_core.proofs.Common.{◌≡◌, ◌≢◌, ℕ, ◌+◌, ◌%◌, ◌^◌, ◌<◌, true, false, if◌then◌else◌, nat_lt, List, [], ◌∷◌, ◌++◌, length, None, Some, slice_get, refl}
+use Rattle.wq_core.proofs.Common.{sym, ap, ◌∙◌, arith, inl, inr, eq-eqb, lt-ltb, le-ltb, Layout, Event, Push, Chain, number_count, wakes, accepted, begun}
+use Rattle.wq_core.proofs.Common.{ended, accepted_by, begun_by, ended_by, pending, Holds, IsPending, listed_after, listed, IsAllowed, IsLegal, Keeper, Home}
+use Rattle.wq_core.proofs.Common.{Sender, keeper_after, keeper, growing, slice_get_push, legal_push, legal_induction, pending_bit, kept, home_from_bit}
+use Rattle.wq_core.proofs.Common.{sender_from_bit, item_place, word_count, Machine, head, item_word, done_word, happened, head_word_of, AreChained, IsSound}
+use Rattle.wq_core.proofs.Common.{FollowKeepers}
 use Rattle.wq_core.proofs.Chains.{times}
-use Rattle.wq_core.proofs.Privates.{follow_quiet, AreLinked, linked_quiet, seen_after}
+use Rattle.wq_core.proofs.Privates.{follow_quiet, AreLinked, linked_quiet, AreSeen, seen_after}
 use Rattle.wq_core.proofs.Heads.{IsQuiet, head_word_quiet, rests_quiet, ended_quiet}
 
 -- each accepted number is one of the queue's
@@ -50,7 +50,7 @@ pub record IsKeptSound (m : Machine) : Type 0 where
   pub done_is : done_word m ≡ length (ended m.history) % 2 ^ 64
   pub chains : AreChained (number_count m.layout) m.words m.cursor m.walked m.batch (accepted m.history) (begun m.history) (listed m.history)
   pub linked : AreLinked (number_count m.layout) m.words m.seats m.history
-  pub seen : (s : ℕ) → (private m s).seen ≡ Some closed_word → IsClosed m.history
+  pub seen : AreSeen m.seats m.history
 
 pub by_keepers : (m : Machine) → IsSound m → IsKeptSound m
 by_keepers m o = record {

@@ -1,8 +1,8 @@
 -- What follows the keepers of the numbers: the item words, and what the senders keep in private.
-use Rattle.wq_core.proofs.Common.{◌≡◌, ◌≢◌, ℕ, ◌<◌, ◌==◌, Bool, true, false, List, [], ◌∷◌, ◌++◌, length, get_or, set, None, Some, Option, if◌then◌else◌}
-use Rattle.wq_core.proofs.Common.{refl, sym, ap, ◌∙◌, arith, inl, inr, get_or-set_other, get_or-set_same, fold_push, ne_eqb, eq-eqb, eqb-false, cases_eq, Why}
-use Rattle.wq_core.proofs.Common.{Event, Hold, Push, Back, Begin, Chain, IsClosed, Keeper, Home, Sender, Listed, Owner, keeper_after, keeper, closed_stays}
-use Rattle.wq_core.proofs.Common.{Private, link_place, closed_word, link_to, nothing_seen, other_than, unlinked, FollowKeepers}
+use Rattle.wq_core.proofs.Common.{TakesPushes, HasSeenCause, IsCause, cause_stays, subst, Closed, Draining, ◌≡◌, ◌≢◌, ℕ, ◌<◌, ◌==◌, Bool, true, false, List, []}
+use Rattle.wq_core.proofs.Common.{◌∷◌, ◌++◌, length, get_or, set, None, Some, Option, if◌then◌else◌, refl, sym, ap, ◌∙◌, arith, inl, inr, get_or-set_other}
+use Rattle.wq_core.proofs.Common.{get_or-set_same, fold_push, ne_eqb, eq-eqb, eqb-false, cases_eq, Why, Event, Hold, Push, Back, Begin, Chain, Keeper, Home}
+use Rattle.wq_core.proofs.Common.{Sender, Listed, Owner, keeper_after, keeper, Private, link_place, link_to, nothing_seen, other_than, unlinked, FollowKeepers}
 
 pub keeper_push : (h : List Event) (e : Event) (k : ℕ) → keeper (h ++ e ∷ []) k ≡ keeper_after k (keeper h k) e
 keeper_push h e k = fold_push (keeper_after k) Home h e
@@ -66,17 +66,18 @@ pub follow_set : {X : Type 0} (f : Keeper → X) (default : X) (place : ℕ → 
     → FollowKeepers f default place n xs h → FollowKeepers f default place n (set xs i v) h
 follow_set f default place n xs h i v other old k lt = get_or-set_other xs i (place k) v default (other k lt) ∙ old k lt
 
--- what sender s linked is a number of the queue that it keeps, and its link leads to the head that it has seen, which is not the closed one
+-- what sender s linked is a number of the queue that it keeps, and its link leads to the head that it has seen, which is that of a
+-- queue that takes pushes
 abbrev pub Linked : ℕ → List ℕ → Private → List Event → ℕ → ℕ → Type 0
 Linked n words p h s k =
-    (k < n) × (keeper h k ≡ Sender s) × (link_to p.seen ≡ Some (get_or words (link_place k) 0)) × (get_or words (link_place k) 0 ≢ closed_word)
+    (k < n) × (keeper h k ≡ Sender s) × (link_to p.seen ≡ Some (get_or words (link_place k) 0)) × TakesPushes (get_or words (link_place k) 0)
 
 abbrev pub AreLinked : ℕ → List ℕ → List Private → List Event → Type 0
 AreLinked n words seats h = (s k : ℕ) → (get_or seats s nothing_seen).linked ≡ Some k → Linked n words (get_or seats s nothing_seen) h s k
 
--- what a sender has seen closed is closed
+-- what a sender has seen as a cause to give a number back is one
 abbrev pub AreSeen : List Private → List Event → Type 0
-AreSeen seats h = (s : ℕ) → (get_or seats s nothing_seen).seen ≡ Some closed_word → IsClosed h
+AreSeen seats h = (s : ℕ) (why : Why) → HasSeenCause why (get_or seats s nothing_seen).seen → IsCause h why
 
 -- a word that is no link is written
 pub linked_set : (n : ℕ) (words : List ℕ) (seats : List Private) (h : List Event) (i v : ℕ) → ((j : ℕ) → j < n → link_place j ≢ i)
@@ -84,7 +85,7 @@ pub linked_set : (n : ℕ) (words : List ℕ) (seats : List Private) (h : List E
 linked_set n words seats h i v other old s k is =
     let o = old s k is in
     let same : get_or (set words i v) (link_place k) 0 ≡ get_or words (link_place k) 0 = get_or-set_other words i (link_place k) v 0 (other k o.0) in
-    (o.0, o.1, o.2 ∙ ap Some (sym same), λ e. o.3 (sym same ∙ e))
+    (o.0, o.1, o.2 ∙ ap Some (sym same), subst TakesPushes (sym same) o.3)
 
 -- the event is about no number
 pub linked_quiet : (n : ℕ) (words : List ℕ) (seats : List Private) (h : List Event) (e : Event)
@@ -128,9 +129,9 @@ linked_give n words seats h e s k p in' spares mine keeps old t j is =
 
 -- sender s links a number that it keeps
 pub linked_link : (n : ℕ) (words : List ℕ) (seats : List Private) (h : List Event) (s k w : ℕ) → s < length seats → k < n
-    → link_place k < length words → keeper h k ≡ Sender s → link_to (get_or seats s nothing_seen).seen ≡ Some w → w ≢ closed_word
+    → link_place k < length words → keeper h k ≡ Sender s → link_to (get_or seats s nothing_seen).seen ≡ Some w → TakesPushes w
     → AreLinked n words seats h → AreLinked n (set words (link_place k) w) (set seats s (record (get_or seats s nothing_seen) { linked = Some k })) h
-linked_link n words seats h s k w in' number room mine seen unclosed old t j is =
+linked_link n words seats h s k w in' number room mine seen takes old t j is =
     elim (cases_eq t s) [ inl same ↦ own same | inr ne ↦ others ne ]
   where
     p : Private
@@ -144,7 +145,7 @@ linked_link n words seats h s k w in' number room mine seen unclosed old t j is 
         let here : get_or (set seats s p) t nothing_seen ≡ p = rw same (get_or-set_same seats s p nothing_seen in') in
         let linked : Some k ≡ Some j = rw here at is in
         let k≡j : k ≡ j = cc linked in
-        rw (here, ← k≡j, same, spelled) (number, mine, seen, unclosed)
+        rw (here, ← k≡j, same, spelled) (number, mine, seen, takes)
 
     others : t ≢ s → Linked n (set words (link_place k) w) (get_or (set seats s p) t nothing_seen) h t j
     others ne =
@@ -169,19 +170,25 @@ linked_forget n words seats h s p in' none old t j is =
     ]
 
 pub seen_after : (seats : List Private) (h : List Event) (e : Event) → AreSeen seats h → AreSeen seats (h ++ e ∷ [])
-seen_after seats h e old s is = closed_stays h e (old s is)
+seen_after seats h e old s why is = cause_stays h e why (old s why is)
 
-pub seen_set : (seats : List Private) (h : List Event) (s : ℕ) (p : Private) → s < length seats → (p.seen ≡ Some closed_word → IsClosed h)
+pub seen_set : (seats : List Private) (h : List Event) (s : ℕ) (p : Private) → s < length seats → ((why : Why) → HasSeenCause why p.seen → IsCause h why)
     → AreSeen seats h → AreSeen (set seats s p) h
-seen_set seats h s p in' new old t is =
+seen_set seats h s p in' new old t why is =
     elim (cases_eq t s) [
       | inl same ↦
           let here : get_or (set seats s p) t nothing_seen ≡ p = rw same (get_or-set_same seats s p nothing_seen in') in
-          new (rw here at is)
+          new why (rw here at is)
       | inr ne ↦
           let there : get_or (set seats s p) t nothing_seen ≡ get_or seats t nothing_seen = get_or-set_other seats s t p nothing_seen ne in
-          old t (rw there at is)
+          old t why (rw there at is)
     ]
+
+-- who has seen nothing has seen no cause
+pub none_seen : (h : List Event) (why : Why) → HasSeenCause why None → IsCause h why
+none_seen h Closed is = absurd cc
+none_seen h Draining is = absurd cc
+none_seen h _ is = tt
 
 -- what a sender keeps linked once it has given k back
 pub keeps_unlinked : (p : Private) (k : ℕ) → Keeps p (unlinked p k) k

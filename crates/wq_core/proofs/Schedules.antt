@@ -1,16 +1,18 @@
 -- Every schedule keeps what is sound.
-use Rattle.wq_core.proofs.Common.{◌≡◌, ◌≢◌, ℕ, zero, suc, ◌+◌, ◌<◌, ◌==◌, Bool, true, false, if◌then◌else◌, List, [], ◌∷◌, ◌++◌, length, get_or, take, Option}
-use Rattle.wq_core.proofs.Common.{None, Some, unwrap_or, refl, ap, ◌∙◌, replicate, eqb-true, eqb-false, length-replicate, take_more, slice_get-get_or, Layout}
-use Rattle.wq_core.proofs.Common.{number_count, running, IsRunning, IsLegal, legal_nil, Private, Step, Look, Link, Check, Walk, Turn, busy_word, word_count}
-use Rattle.wq_core.proofs.Common.{link_word, link_to, word_at, Machine, opening, nothing_seen, head, link, item_word, private, seen_word, after_walk}
-use Rattle.wq_core.proofs.Common.{after_begin, after_end, after, IsMade, IsRefused, Leads, Leaves, StopsAt, IsSound}
+use Rattle.wq_core.proofs.Common.{HasSeenOpen, TakesPushes, ◌≡◌, ◌≢◌, ℕ, zero, suc, ◌+◌, ◌<◌, ◌==◌, Bool, true, false, if◌then◌else◌, List, [], ◌∷◌, ◌++◌}
+use Rattle.wq_core.proofs.Common.{length, get_or, take, Option, None, Some, unwrap_or, refl, ap, ◌∙◌, replicate, eqb-true, eqb-false, length-replicate}
+use Rattle.wq_core.proofs.Common.{take_more, slice_get-get_or, Layout, number_count, running, IsRunning, IsLegal, legal_nil, Private, Step, Look, Link, Check}
+use Rattle.wq_core.proofs.Common.{Walk, Turn, busy_word, word_count, link_word, link_to, word_at, Machine, opening, nothing_seen, head, link, item_word}
+use Rattle.wq_core.proofs.Common.{private, seen_word, after_walk, after_begin, after_end, after, IsMade, IsRefused, Leads, Leaves, StopsAt, IsSound}
 use Rattle.wq_core.specs.declared.step.Seat.{Seat}
 use Rattle.wq_core.specs.declared.step.Seat.TheVariants.{Sender, Owner}
-use Rattle.wq_core.specs.declared.step.Step.TheVariants.{Hold, Push, Back, Take, Close, Begin, End, Chain, Rest}
+use Rattle.wq_core.specs.declared.step.Step.TheVariants.{Hold, Push, Back, Take, Close, Drain, Resume, Begin, End, Chain, Rest}
 use Rattle.wq_core.specs.declared.step.StepError.{StepError}
 use Rattle.wq_words.proofs.Running.{runs_some}
 use Rattle.wq_core.proofs.SenderSteps.{sound_hold, sound_busy, sound_look, sound_lost, sound_link, sound_push, sound_back}
-use Rattle.wq_core.proofs.OwnerSteps.{sound_take, sound_close, sound_walk_end, sound_walk_on, sound_begin, sound_end, sound_chain, sound_chain_busy, sound_rest}
+use Rattle.wq_core.proofs.OwnerSteps.{sound_take, sound_close, sound_drain, sound_resume, sound_walk_end, sound_walk_on, sound_begin, sound_end, sound_chain}
+use Rattle.wq_core.proofs.OwnerSteps.{sound_chain_busy, sound_rest}
+use Rattle.wq_core.proofs.Privates.{none_seen}
 use Rattle.wq_core.proofs.Heads.{link_open}
 use Rattle.wq_core.proofs.Turning.{sound_turn}
 
@@ -18,10 +20,10 @@ pub either : (q : Bool) (P : Machine → Type 0) (a b : Machine) → (q ≡ true
 either true P a b holds fails = holds refl
 either false P a b holds fails = fails refl
 
--- the word that a sender has seen, where it has seen one
-pub seen_some : (p : Option ℕ) → p ≢ None → p ≡ Some (unwrap_or p 0)
-seen_some None ne = absurd (ne refl)
-seen_some (Some w) ne = refl
+-- the word that a sender has seen, where it saw the head of a queue that takes pushes
+pub seen_open : (p : Option ℕ) → HasSeenOpen p → (p ≡ Some (unwrap_or p 0)) × TakesPushes (unwrap_or p 0)
+seen_open None takes = absurd takes
+seen_open (Some w) takes = (refl, takes)
 
 walk_sound : (m : Machine) → IsSound m → (c : Option ℕ) → m.cursor ≡ c → IsSound (after_walk m c)
 walk_sound m o None is = o
@@ -38,16 +40,18 @@ sound_after m (Sender s) (Hold k) o made =
     (λ e. sound_busy m o s k made.0.0.0 made.0.1 (eqb-false (item_word m k) 0 e))
 sound_after m (Sender s) Look o made = sound_look m o s made.0.0.0
 sound_after m (Sender s) (Link k) o made =
-    let is = seen_some (private m s).seen made.1.1 in
-    sound_link m o s k (link_word (seen_word m s)) made.0.0.0 made.0.1 made.1.0 (ap link_to is) (link_open (seen_word m s) (λ e. made.1.2 (is ∙ ap Some e)))
+    let is = seen_open (private m s).seen made.1.1 in
+    sound_link m o s k (link_word (seen_word m s)) made.0.0.0 made.0.1 made.1.0 (ap link_to is.0) (link_open (seen_word m s) is.1)
 sound_after m (Sender s) (Push k) o made =
     either (head m == seen_word m s) IsSound _ _ (λ e. sound_push m o s k made.0.0.0 made.0.1 made.1 (eqb-true (head m) (seen_word m s) e))
     (λ e. sound_lost m o s made.0.0.0)
 sound_after m (Sender s) (Back k why) o made = sound_back m o s k why made.0.0.0 made.0.1 made.1.0 made.1.1
 sound_after m (Sender s) (Check k) o made = o
 sound_after m (Sender s) _ o made = absurd made.1
-sound_after m Owner Take o made = sound_take m o made.1.0 made.1.1 made.1.2
+sound_after m Owner Take o made = sound_take m o made.1.0 made.1.1
 sound_after m Owner Close o made = sound_close m o made.1.0 made.1.1
+sound_after m Owner Drain o made = sound_drain m o made.1.0 made.1.1
+sound_after m Owner Resume o made = sound_resume m o made.1.0 made.1.1 made.1.2 made.1.3
 sound_after m Owner Walk o made = walk_sound m o m.cursor refl
 sound_after m Owner Begin o made = begin_sound m o m.batch refl made.1.1 made.1.0 made.1.2
 sound_after m Owner End o made =
@@ -77,7 +81,7 @@ sound_opening layout = record {
   done_is = all_alike (word_count (number_count layout)) _ 0;
   chains = record { remaining = []; list_chain = refl; walk_chain = refl; order = refl; rested = λ _. refl };
   linked = λ s k is. absurd (cc (is, ap (λ (p : Private). p.linked) (all_alike layout.senders s nothing_seen)));
-  seen = λ s is. absurd (cc (is, ap (λ (p : Private). p.seen) (all_alike layout.senders s nothing_seen)));
+  seen = λ s why is. none_seen [] why (rw (all_alike layout.senders s nothing_seen) at is);
 }
 
 pub sound_leads : (turns : List (Seat × Step)) (old new : Machine) → IsSound old → Leads old turns new → IsSound new
@@ -97,8 +101,6 @@ layout_after m (Sender s) (Link k) = refl
 layout_after m (Sender s) (Push k) = either (head m == seen_word m s) (λ x. x.layout ≡ m.layout) _ _ (λ e. refl) (λ e. refl)
 layout_after m (Sender s) (Back k why) = refl
 layout_after m (Sender s) (Check k) = refl
-layout_after m Owner Take = refl
-layout_after m Owner Close = refl
 layout_after m Owner Walk = walk m.cursor
   where
     walk : (c : Option ℕ) → (after_walk m c).layout ≡ m.layout

@@ -1,19 +1,19 @@
 -- What is kept beside the machine follows each step.
-use Rattle.wq_core.proofs.Common.{◌≡◌, ◌≢◌, ℕ, ◌+◌, ◌<◌, ◌≤◌, ◌^◌, ◌%◌, List, [], ◌∷◌, ◌++◌, length, replicate, take, reverse, ◌-◌, get_or, set, None, Some}
-use Rattle.wq_core.proofs.Common.{Option, refl, sym, ap, ◌∙◌, arith, length-set, length-append, ◌↔◌, length-replicate, reverse-append, take_all, take_more}
-use Rattle.wq_core.proofs.Common.{slice_get_past, Layout, Event, Hold, Busy, Push, Back, Take, Close, Begin, End, Chain, ChainBusy, Rest, Why, Closed}
-use Rattle.wq_core.proofs.Common.{number_count, busy_word, begun, ended, running, Holds, IsRunning, IsClosed, listed, Keeper, Home, Sender, Listed, Owner}
-use Rattle.wq_core.proofs.Common.{taken_over, keeper, keeper_after, growing, slice_get_last, in_order, prefix_length, Private, link_place, word_count}
-use Rattle.wq_core.proofs.Common.{closed_word, idle_word, link_word, link_to, number_at, Machine, opening, nothing_seen, head, link, item_word, done_word}
-use Rattle.wq_core.proofs.Common.{private, seen_word, with_head, with_link, with_item, with_done, with_private, happened, unlinked, StandsIn, IsChain}
-use Rattle.wq_core.proofs.Common.{IsSound, holder, LinksFit, LooksFit, IsStored}
+use Rattle.wq_core.proofs.Common.{Drain, Resume, IsShut, MaySwap, after_swap, TakesPushes, HasSeenCause, ◌≡◌, ◌≢◌, ℕ, ◌+◌, ◌<◌, ◌≤◌, ◌^◌, ◌%◌, List, [], ◌∷◌}
+use Rattle.wq_core.proofs.Common.{◌++◌, length, replicate, take, reverse, ◌-◌, get_or, set, None, Some, Option, refl, sym, ap, ◌∙◌, arith, length-set}
+use Rattle.wq_core.proofs.Common.{length-append, ◌↔◌, length-replicate, reverse-append, take_all, take_more, slice_get_past, Layout, Event, Hold, Busy, Push}
+use Rattle.wq_core.proofs.Common.{Back, Take, Close, Begin, End, Chain, ChainBusy, Rest, Why, number_count, busy_word, begun, ended, running, Holds, IsRunning}
+use Rattle.wq_core.proofs.Common.{listed, Keeper, Home, Sender, Listed, Owner, taken_over, keeper, keeper_after, growing, slice_get_last, in_order}
+use Rattle.wq_core.proofs.Common.{prefix_length, Private, link_place, word_count, idle_word, link_word, link_to, number_at, Machine, opening, nothing_seen}
+use Rattle.wq_core.proofs.Common.{head, link, item_word, done_word, private, seen_word, with_head, with_link, with_item, with_done, with_private, happened}
+use Rattle.wq_core.proofs.Common.{unlinked, StandsIn, IsChain, IsSound, holder, LinksFit, LooksFit, IsStored}
 use Rattle.wq_core.proofs.Privates.{gives_hold, gives_push, gives_back, gives_begin, gives_chain, follow_give, follow_same, follow_quiet}
 use Rattle.wq_core.proofs.Schedules.{sound_opening, all_alike}
 use Rattle.wq_core.proofs.SenderSteps.{sound_hold, sound_busy, sound_look, sound_link, sound_push, sound_lost, sound_back}
-use Rattle.wq_core.proofs.OwnerSteps.{sound_take, sound_close, sound_walk_end, sound_walk_on, sound_begin, sound_end, sound_chain, sound_chain_busy}
-use Rattle.wq_core.proofs.OwnerSteps.{sound_rest, first_of_batch}
+use Rattle.wq_core.proofs.OwnerSteps.{sound_take, sound_close, sound_drain, sound_resume, sound_walk_end, sound_walk_on, sound_begin, sound_end, sound_chain}
+use Rattle.wq_core.proofs.OwnerSteps.{sound_chain_busy, sound_rest, first_of_batch}
 use Rattle.wq_core.proofs.KeptSound.{home_from_clear, sender_from_holds, holds_from_keeper}
-use Rattle.wq_core.proofs.Heads.{head_open, head_of_closed, link_open}
+use Rattle.wq_core.proofs.Heads.{head_open, open_from_link, link_open}
 use Rattle.wq_core.proofs.Turning.{sound_turn}
 use Rattle.wq_core.proofs.Fitting.{fit_head, fit_item, fit_done, fit_link, fit_look}
 
@@ -22,12 +22,12 @@ chain_fits : (n : ℕ) (ws : List ℕ) (w : ℕ) (ks : List ℕ) → IsChain n w
 chain_fits n ws w [] c = omega (arith, c)
 chain_fits n ws w (k ∷ ks) c = omega (arith, c.0, c.1)
 
-pub head_fits : (m : Machine) → IsSound m → ¬ IsClosed m.history → link_word (head m) ≤ number_count m.layout
+pub head_fits : (m : Machine) → IsSound m → ¬ IsShut m.history → link_word (head m) ≤ number_count m.layout
 head_fits m o opens = rw (head_open m o opens) (chain_fits (number_count m.layout) m.words _ (listed m.history) o.chains.list_chain)
 
--- a head that was seen, and was not closed, would be the link to a number or the end
-head_seen : (m : Machine) → IsSound m → (w : ℕ) → head m ≡ w → w ≢ closed_word → link_word w ≤ number_count m.layout
-head_seen m o w is unclosed = omega (arith, ap link_word is, head_fits m o (λ closed. unclosed (sym is ∙ o.head_is ∙ head_of_closed m.history closed)))
+-- a head that was seen, of a queue that takes pushes, would be the link to a number or the end
+pub head_seen : (m : Machine) → IsSound m → (w : ℕ) → head m ≡ w → TakesPushes w → link_word w ≤ number_count m.layout
+head_seen m o w is takes = omega (arith, ap link_word is, head_fits m o (open_from_link m o (rw (← is) at (link_open w takes))))
 
 held_over : (x : Keeper) → holder (taken_over x) ≡ holder x
 held_over Listed = refl
@@ -57,6 +57,11 @@ module _ (m : Machine) (holders : List (Option ℕ)) (runs : Option ℕ) (o : Is
     looks_fit = looks;
   }
 
+  -- the head is swapped by such an event
+  swapped : (word : ℕ) (e : Event) → IsSound (after_swap m word e) → ((j : ℕ) (x : Keeper) → holder (keeper_after j x e) ≡ holder x)
+      → runs ≡ running (m.history ++ e ∷ []) → IsStored (after_swap m word e) holders runs
+  swapped word e sound spares same = stored_quiet _ _ _ _ _ e sound spares same (fit_head _ m.words word o.links_fit) o.looks_fit
+
   pub stored_hold : (s k : ℕ) → s < m.layout.senders → k < number_count m.layout → item_word m k ≡ 0
       → IsStored (happened (with_item m k 1) (Hold s k)) (set holders k (Some s)) runs
   stored_hold s k seat number clear = record {
@@ -77,14 +82,14 @@ module _ (m : Machine) (holders : List (Option ℕ)) (runs : Option ℕ) (o : Is
   pub stored_look : (s : ℕ) → s < m.layout.senders → IsStored (with_private m s (record { seen = Some (head m); linked = None })) holders runs
   stored_look s seat =
       stored_still _ _ _ _ _ (sound_look m o.sound s seat) o.links_fit
-      (fit_look _ m.seats s _ (omega (arith, o.sound.has_seats, seat)) (λ w is unclosed. head_seen m o.sound w (cc is) unclosed) o.looks_fit)
+      (fit_look _ m.seats s _ (omega (arith, o.sound.has_seats, seat)) (λ w is takes. head_seen m o.sound w (cc is) takes) o.looks_fit)
 
-  pub stored_link : (s k w : ℕ) → s < m.layout.senders → k < number_count m.layout → Holds m.history s k → (private m s).seen ≡ Some w → w ≢ closed_word
+  pub stored_link : (s k w : ℕ) → s < m.layout.senders → k < number_count m.layout → Holds m.history s k → (private m s).seen ≡ Some w → TakesPushes w
       → IsStored (with_private (with_link m k (link_word w)) s (record (private m s) { linked = Some k })) holders runs
-  stored_link s k w seat number holds seen unclosed =
-      stored_still _ _ _ _ _ (sound_link m o.sound s k (link_word w) seat number holds (ap link_to seen) (link_open w unclosed))
-      (fit_link _ m.words (link_word w) o.links_fit k (omega (arith, o.sound.has_words, number)) (o.looks_fit s w seen unclosed))
-      (fit_look _ m.seats s _ (omega (arith, o.sound.has_seats, seat)) (λ v is unclosed'. o.looks_fit s v is unclosed') o.looks_fit)
+  stored_link s k w seat number holds seen takes =
+      stored_still _ _ _ _ _ (sound_link m o.sound s k (link_word w) seat number holds (ap link_to seen) (link_open w takes))
+      (fit_link _ m.words (link_word w) o.links_fit k (omega (arith, o.sound.has_words, number)) (o.looks_fit s w seen takes))
+      (fit_look _ m.seats s _ (omega (arith, o.sound.has_seats, seat)) (λ v is takes'. o.looks_fit s v is takes') o.looks_fit)
 
   pub stored_push : (s k : ℕ) → s < m.layout.senders → k < number_count m.layout → (private m s).linked ≡ Some k → head m ≡ seen_word m s
       → IsStored (happened (with_private (with_head m (k + 1)) s nothing_seen) (Push s k)) (set holders k None) runs
@@ -105,7 +110,7 @@ module _ (m : Machine) (holders : List (Option ℕ)) (runs : Option ℕ) (o : Is
       (fit_look _ m.seats s nothing_seen (omega (arith, o.sound.has_seats, seat)) (λ w is. absurd (cc is)) o.looks_fit)
 
   pub stored_back : (s k : ℕ) (why : Why) → s < m.layout.senders → k < number_count m.layout → Holds m.history s k
-      → (why ≡ Closed → (private m s).seen ≡ Some closed_word)
+      → HasSeenCause why (private m s).seen
       → IsStored (happened (with_private (with_item m k 0) s (unlinked (private m s) k)) (Back s k why)) (set holders k None) runs
   stored_back s k why seat number holds sees = record {
     sound = sound_back m o.sound s k why seat number holds sees;
@@ -115,25 +120,22 @@ module _ (m : Machine) (holders : List (Option ℕ)) (runs : Option ℕ) (o : Is
         (gives_back s k why) o.holders_are;
     running_is = simp growing o.running_is;
     links_fit = fit_item _ m.words 0 o.links_fit k;
-    looks_fit = fit_look _ m.seats s _ (omega (arith, o.sound.has_seats, seat)) (λ w is unclosed. o.looks_fit s w is unclosed) o.looks_fit;
+    looks_fit = fit_look _ m.seats s _ (omega (arith, o.sound.has_seats, seat)) (λ w is takes. o.looks_fit s w is takes) o.looks_fit;
   }
 
-  pub stored_take : ¬ IsClosed m.history → m.cursor ≡ None → m.batch ≡ []
-      → IsStored (happened (record (with_head m busy_word) { cursor = number_at (link_word (head m)) }) Take) holders runs
-  stored_take unclosed still empty =
-      stored_quiet _ _ _ _ _ Take (sound_take m o.sound unclosed still empty) (λ j x. held_over x) (simp growing o.running_is)
-      (fit_head _ m.words busy_word o.links_fit) o.looks_fit
+  -- the owner swaps the head
+  pub stored_swap : (word : ℕ) (e : Event) → MaySwap m word e → IsStored (after_swap m word e) holders runs
+  stored_swap word Take may = swapped word Take (rw may.0 (sound_take m o.sound may.1.0 may.1.1)) (λ j x. held_over x) (simp growing o.running_is)
+  stored_swap word Close may = swapped word Close (rw may.0 (sound_close m o.sound may.1.0 may.1.1)) (λ j x. held_over x) (simp growing o.running_is)
+  stored_swap word Drain may = swapped word Drain (rw may.0 (sound_drain m o.sound may.1.0 may.1.1)) (λ j x. held_over x) (simp growing o.running_is)
+  stored_swap word Resume may =
+      swapped word Resume (rw may.0 (sound_resume m o.sound may.1.0 may.1.1 may.1.2 may.1.3)) (λ j x. refl) (simp growing o.running_is)
+  stored_swap word _ may = absurd may
 
-  pub stored_close : ¬ IsClosed m.history → m.cursor ≡ None
-      → IsStored (happened (record (with_head m closed_word) { cursor = number_at (link_word (head m)) }) Close) holders runs
-  stored_close unclosed still =
-      stored_quiet _ _ _ _ _ Close (sound_close m o.sound unclosed still) (λ j x. held_over x) (simp growing o.running_is)
-      (fit_head _ m.words closed_word o.links_fit) o.looks_fit
-
-  pub stored_rest : ¬ IsClosed m.history → m.cursor ≡ None → m.batch ≡ [] → ¬ IsRunning m.history → head m ≡ busy_word
+  pub stored_rest : ¬ IsShut m.history → m.cursor ≡ None → m.batch ≡ [] → ¬ IsRunning m.history → head m ≡ busy_word
       → IsStored (happened (with_head m idle_word) Rest) holders runs
-  stored_rest unclosed still empty idle busy =
-      stored_quiet _ _ _ _ _ Rest (sound_rest m o.sound unclosed still empty idle busy) (λ j x. refl) (simp growing o.running_is)
+  stored_rest opens still empty idle busy =
+      stored_quiet _ _ _ _ _ Rest (sound_rest m o.sound opens still empty idle busy) (λ j x. refl) (simp growing o.running_is)
       (fit_head _ m.words idle_word o.links_fit) o.looks_fit
 
   pub stored_walk_end : (k : ℕ) → m.cursor ≡ Some k → link m k ≡ 0
@@ -182,12 +184,12 @@ module _ (m : Machine) (holders : List (Option ℕ)) (runs : Option ℕ) (o : Is
         looks_fit = o.looks_fit;
       }
 
-  pub stored_chain : (k : ℕ) → k < m.layout.items → IsClosed m.history → m.cursor ≡ None → IsRunning m.history → item_word m k ≡ 0
+  pub stored_chain : (k : ℕ) → k < m.layout.items → IsShut m.history → m.cursor ≡ None → IsRunning m.history → item_word m k ≡ 0
       → IsStored (happened (record (with_item m k 1) { batch = m.batch ++ k ∷ [] }) (Chain k)) holders runs
-  stored_chain k item closed still busy clear =
+  stored_chain k item is still busy clear =
       let home = home_from_clear m o.sound k (omega (arith, item)) clear in
       record {
-        sound = sound_chain m o.sound k item closed still busy clear;
+        sound = sound_chain m o.sound k item is still busy clear;
         has_holders = o.has_holders;
         holders_are = follow_same holder None (λ j. j) _ holders m.history (Chain k) k Owner (gives_chain k) (rw home refl) o.holders_are;
         running_is = simp growing o.running_is;
@@ -195,10 +197,10 @@ module _ (m : Machine) (holders : List (Option ℕ)) (runs : Option ℕ) (o : Is
         looks_fit = o.looks_fit;
       }
 
-  pub stored_chain_busy : (k : ℕ) → k < m.layout.items → IsClosed m.history → IsRunning m.history → item_word m k ≢ 0
+  pub stored_chain_busy : (k : ℕ) → k < m.layout.items → IsShut m.history → IsRunning m.history → item_word m k ≢ 0
       → IsStored (happened m (ChainBusy k)) holders runs
-  stored_chain_busy k item closed busy set' =
-      stored_quiet _ _ _ _ _ (ChainBusy k) (sound_chain_busy m o.sound k item closed busy set') (λ j x. refl) (simp growing o.running_is)
+  stored_chain_busy k item is busy set' =
+      stored_quiet _ _ _ _ _ (ChainBusy k) (sound_chain_busy m o.sound k item is busy set') (λ j x. refl) (simp growing o.running_is)
       o.links_fit o.looks_fit
 
   -- the stored holder is the sender that holds the number, and something is stored as running exactly while a number runs

@@ -1,18 +1,19 @@
 -- What the head's chain spells, what a push finds there, what the owner's batch is, and that no sender touches its links.
-use Rattle.wq_core.proofs.Common.{◌≡◌, ℕ, ◌+◌, ◌==◌, Bool, true, false, if◌then◌else◌, List, [], ◌∷◌, ◌++◌, length, take, drop, reverse, get_or, set, Option}
-use Rattle.wq_core.proofs.Common.{None, Some, ◌%◌, ◌^◌, refl, sym, ap, ◌∙◌, arith, length-append, ne_eqb, eqb-true, eqb-false, append-nil, length-reverse}
-use Rattle.wq_core.proofs.Common.{take_at, drop_at, get_or-set_other, get_or-set_same, number_count, head_word, busy_word, wakes, accepted, begun, taken, first}
-use Rattle.wq_core.proofs.Common.{IsClosed, running, listed, length-accepted, fresh-open, keeper, Step, Look, Link, Check, Walk, Turn, head_place, link_place}
-use Rattle.wq_core.proofs.Common.{item_place, done_place, closed_word, idle_word, link_word, word_at, Machine, head, link, item_word, done_word, private}
-use Rattle.wq_core.proofs.Common.{seen_word, after_walk, after_begin, after_end, after, reply_to, StandsIn, IsMade, head_of_list, marked, IsChain, IsSound}
+use Rattle.wq_core.proofs.Common.{IsShut, TakesPushes, subst, draining_word, ◌≡◌, ℕ, ◌+◌, ◌==◌, Bool, true, false, if◌then◌else◌, List, [], ◌∷◌, ◌++◌, length}
+use Rattle.wq_core.proofs.Common.{take, drop, reverse, get_or, set, Option, None, Some, ◌%◌, ◌^◌, refl, sym, ap, ◌∙◌, arith, length-append, ne_eqb, eqb-true}
+use Rattle.wq_core.proofs.Common.{eqb-false, append-nil, length-reverse, take_at, drop_at, get_or-set_other, get_or-set_same, number_count, head_word}
+use Rattle.wq_core.proofs.Common.{busy_word, wakes, accepted, begun, taken, first, running, listed, length-accepted, fresh-open, keeper, Step, Look, Link}
+use Rattle.wq_core.proofs.Common.{Check, Walk, Turn, head_place, link_place, item_place, done_place, closed_word, idle_word, link_word, word_at, Machine, head}
+use Rattle.wq_core.proofs.Common.{link, item_word, done_word, private, seen_word, after_walk, after_begin, after_end, after, reply_to, StandsIn, IsMade}
+use Rattle.wq_core.proofs.Common.{head_of_list, marked, IsChain, IsSound}
 use Rattle.wq_core.specs.declared.step.Seat.TheVariants.{Sender, Owner}
-use Rattle.wq_core.specs.declared.step.Step.TheVariants.{Hold, Push, Back, Take, Close, Begin, End, Chain, Rest}
+use Rattle.wq_core.specs.declared.step.Step.TheVariants.{Hold, Push, Back, Take, Close, Drain, Resume, Begin, End, Chain, Rest}
 use Rattle.wq_core.specs.declared.step.Reply.TheVariants.{Pushed, Lost}
 use Rattle.wq_core.proofs.Chains.{chain_zero}
 use Rattle.wq_core.proofs.Turning.{stands_number, no_senders}
 use Rattle.wq_core.proofs.Schedules.{either}
 use Rattle.wq_core.proofs.KeptSound.{sender_from_holds}
-use Rattle.wq_core.proofs.Heads.{head_open, head_marked, head_of_closed, link_seen}
+use Rattle.wq_core.proofs.Heads.{head_open, head_marked, open_from_link, link_seen}
 
 -- between two calls of the owner the batch is what is taken and has not begun
 pub batch_is : (m : Machine) → IsSound m → m.cursor ≡ None → m.batch ≡ drop (length (begun m.history)) (take (taken m.history) (accepted m.history))
@@ -34,12 +35,12 @@ batch_is m o still =
     ∙ take_at (begun m.history ++ m.batch) (reverse (listed m.history)) (taken m.history) counts in
     sym (ap (λ l. drop (length (begun m.history)) l) front ∙ drop_at (begun m.history) m.batch (length (begun m.history)) refl)
 
--- while the queue is open, the links spell from the head what was pushed since the last take, newest first
-pub chain_open : (m : Machine) → IsSound m → ¬ IsClosed m.history → IsChain (number_count m.layout) m.words (link_word (head m)) (listed m.history)
+-- while the queue is open, the links spell from the head what was pushed since the last take, drain or resume, newest first
+pub chain_open : (m : Machine) → IsSound m → ¬ IsShut m.history → IsChain (number_count m.layout) m.words (link_word (head m)) (listed m.history)
 chain_open m o opens = rw (head_open m o opens) o.chains.list_chain
 
 -- while the queue is open, the head is empty where a push would be the first
-pub head_first : (m : Machine) → IsSound m → ¬ IsClosed m.history → (link_word (head m) == 0) ≡ first m.history
+pub head_first : (m : Machine) → IsSound m → ¬ IsShut m.history → (link_word (head m) == 0) ≡ first m.history
 head_first m o opens = ap (λ w. w == 0) (head_open m o opens) ∙ go (listed m.history) ∙ ap (λ w. w == 0) (sym (fresh-open m.layout m.history o.legal opens))
   where
     go : (ks : List ℕ) → (head_word (head_of_list ks) == 0) ≡ (length ks == 0)
@@ -47,7 +48,7 @@ head_first m o opens = ap (λ w. w == 0) (head_open m o opens) ∙ go (listed m.
     go (k ∷ ks) = ne_eqb (k + 1) 0 (λ e. omega (arith, e)) ∙ sym (ne_eqb (length (k ∷ ks)) 0 (λ e. omega (arith, e)))
 
 -- and it is the idle one where the queue rests
-pub head_wakes : (m : Machine) → IsSound m → ¬ IsClosed m.history → (head m == idle_word) ≡ wakes m.history
+pub head_wakes : (m : Machine) → IsSound m → ¬ IsShut m.history → (head m == idle_word) ≡ wakes m.history
 head_wakes m o opens = ap (λ w. w == idle_word) (head_marked m o opens) ∙ go (wakes m.history) refl (listed m.history) refl
   where
     go : (q : Bool) → wakes m.history ≡ q → (ks : List ℕ) → listed m.history ≡ ks → (marked q (head_of_list ks) == idle_word) ≡ q
@@ -56,12 +57,12 @@ head_wakes m o opens = ap (λ w. w == idle_word) (head_marked m o opens) ∙ go 
     go true on (k ∷ ks) same = absurd (cc (same, o.rests on))
     go false on (k ∷ ks) same = ne_eqb (k + 1) 0 (λ e. omega (arith, e))
 
--- a push that wins says `first` where nothing was pushed since the last take, and `wakes` where the queue rests
+-- a push that wins says `first` where nothing was pushed since the last take, drain or resume, and `wakes` where the queue rests
 module _ (m : Machine) (s k : ℕ) (p q : Bool) (o : IsSound m) (made : IsMade m (Sender s) (Push k)) (is : reply_to m (Sender s) (Push k) ≡ Pushed p q) where
-  opens : head m ≡ seen_word m s → ¬ IsClosed m.history
-  opens won closed =
+  opens : head m ≡ seen_word m s → ¬ IsShut m.history
+  opens won =
       let l = o.linked s k made.1 in
-      l.3 (sym (link_seen (private m s).seen _ l.2) ∙ ap link_word (sym won ∙ o.head_is ∙ head_of_closed m.history closed))
+      open_from_link m o (subst TakesPushes (sym (ap link_word won ∙ link_seen (private m s).seen _ l.2)) l.3)
 
   said : (head m ≡ seen_word m s) × ((link_word (seen_word m s) == 0) ≡ p) × ((seen_word m s == idle_word) ≡ q)
   said = go (head m == seen_word m s) refl is
@@ -124,6 +125,8 @@ module _ (m : Machine) (o : IsSound m) (k : ℕ) (stands : StandsIn m.walked m.b
   pub owner_links : (step : Step) → link (after m Owner step) k ≡ link_after step k (link m k)
   owner_links Take = head_written busy_word
   owner_links Close = head_written closed_word
+  owner_links Drain = head_written draining_word
+  owner_links Resume = head_written busy_word
   owner_links Walk = walk_links m.cursor
   owner_links Begin = begin_links m.batch
   owner_links End = end_links (running m.history)

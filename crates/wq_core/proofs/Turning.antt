@@ -1,7 +1,7 @@
 -- A number that the owner walked or that waits in its batch: nobody else follows or writes its link.
-use Rattle.wq_core.proofs.Common.{◌≡◌, ◌≢◌, ℕ, zero, suc, ◌+◌, ◌<◌, ◌≤◌, ◌==◌, Bool, true, false, cond, IsTrue, List, [], ◌∷◌, ◌++◌, get_or, set, Option}
-use Rattle.wq_core.proofs.Common.{Some, refl, sym, ap, ◌∙◌, arith, inl, inr, ⊎_elim, ◌↔◌, length-set, reverse, Contains, list_any, get_or-set_other}
-use Rattle.wq_core.proofs.Common.{slice_get-get_or, cases_eq, eq-eqb, ne_eqb, number_count, accepted, begun, listed, Keeper, Sender, Listed}
+use Rattle.wq_core.proofs.Common.{TakesPushes, subst, ◌≡◌, ◌≢◌, ℕ, zero, suc, ◌+◌, ◌<◌, ◌≤◌, ◌==◌, Bool, true, false, cond, IsTrue, List, [], ◌∷◌, ◌++◌, get_or}
+use Rattle.wq_core.proofs.Common.{set, Option, Some, refl, sym, ap, ◌∙◌, arith, inl, inr, ⊎_elim, ◌↔◌, length-set, reverse, Contains, list_any}
+use Rattle.wq_core.proofs.Common.{get_or-set_other, slice_get-get_or, cases_eq, eq-eqb, ne_eqb, number_count, accepted, begun, listed, Keeper, Sender, Listed}
 use Rattle.wq_core.proofs.Common.{keeper, Event, queue_bit, kept, Private, link_place, Machine, with_link, StandsIn, AreChained, IsSound, reverse_aux}
 use Rattle.wq_core.proofs.Chains.{times, times-cons, times-append, times-reverse_aux, chain_set}
 use Rattle.wq_core.proofs.Privates.{AreLinked}
@@ -77,7 +77,7 @@ linked_turn n words seats h k v free old s j is =
     let ne : link_place j ≢ link_place k = λ e. (let same : j ≡ k = omega (arith, e) in free s (ap (keeper h) (sym same) ∙ o.1)) in
     let same : get_or (set words (link_place k) v) (link_place j) 0 ≡ get_or words (link_place j) 0 =
     get_or-set_other words (link_place k) (link_place j) v 0 ne in
-    (o.0, o.1, o.2 ∙ ap Some (sym same), λ e. o.3 (sym same ∙ e))
+    (o.0, o.1, o.2 ∙ ap Some (sym same), subst TakesPushes (sym same) o.3)
 
 module _ (m : Machine) (o : IsSound m) (k : ℕ) where
   count_of :

@@ -1,6 +1,7 @@
 -- The machine of an ordered workqueue: the words of its table, what each seat keeps in private, and what has happened.
 -- A step is one operation on one word. For each kind of step: when it is enabled, the machine after it, and its reply.
-use Rattle.std.specs.Prelude.{◌≡◌, ◌≢◌, ℕ, ◌+◌, ◌%◌, ◌^◌, ◌==◌, if◌then◌else◌, List, [], ◌∷◌, ◌++◌, get_or, set, replicate, Option, Some, None, unwrap_or, ◌⊎◌, Contains}
+use Rattle.std.specs.Prelude.{◌≡◌, ◌≢◌, ℕ, ◌+◌, ◌%◌, ◌^◌, ◌==◌, if◌then◌else◌, List, [], ◌∷◌, ◌++◌, get_or, set, replicate, Option, Some, None, unwrap_or, ◌⊎◌}
+use Rattle.std.specs.Prelude.{Contains}
 use Rattle.wq_words.specs.declared.layout.Layout.{Layout}
 use Rattle.wq_words.specs.declared.event.Why.{Why}
 use Rattle.wq_words.specs.declared.event.Why.TheVariants.{Closed, Draining}
@@ -130,13 +131,13 @@ unlinked p k = record p { linked = other_than k p.linked }
 abbrev pub after_swap : Machine → ℕ → Event → Machine
 after_swap m word e = happened (record (with_head m word) { cursor = item_of (head_at (head m)) }) e
 
--- the event of such a swap
-abbrev pub IsSwap : Event → Type 0
-IsSwap event.Take = Unit {0}
-IsSwap event.Close = Unit {0}
-IsSwap event.Drain = Unit {0}
-IsSwap event.Resume = Unit {0}
-IsSwap _ = ⊥
+-- the owner may do so now, and adds this event by it
+abbrev pub MaySwap : Machine → ℕ → Event → Type 0
+MaySwap m word event.Take = (word ≡ busy_word) × IsEnabled m Owner Take
+MaySwap m word event.Close = (word ≡ closed_word) × IsEnabled m Owner Close
+MaySwap m word event.Drain = (word ≡ draining_word) × IsEnabled m Owner Drain
+MaySwap m word event.Resume = (word ≡ busy_word) × IsEnabled m Owner Resume
+MaySwap m word e = ⊥
 
 -- the owner has walked k, whose link is this word; at the end all that it walked goes behind the batch
 abbrev pub walked_past : Machine → ℕ → ℕ → Machine

@@ -1,5 +1,5 @@
 -- What every step keeps.
-use Rattle.std.specs.Prelude.{◌≡◌, ◌≢◌, ℕ, Bool, true, Some, ◌+◌, ◌%◌, ◌^◌, ◌<◌, if◌then◌else◌, List, [], ◌∷◌, ◌++◌, length, reverse, get_or, Option, Some, None}
+use Rattle.std.specs.Prelude.{◌≡◌, ℕ, Bool, true, Some, ◌+◌, ◌%◌, ◌^◌, ◌<◌, if◌then◌else◌, List, [], ◌∷◌, ◌++◌, length, reverse, get_or, Option, Some, None}
 use mathlib.Core.List.{reverse_aux}
 use Rattle.wq_words.specs.declared.head.Head.{Head}
 use Rattle.wq_words.specs.declared.head.Head.TheVariants.{Empty, Item, Closed, Draining}

@@ -4,9 +4,11 @@ ghost use Rattle.wq_words.specs.declared.layout.Layout.{Layout};
 ghost use Rattle.wq_words.specs.Numbers.{number_count};
 ghost use Rattle.wq_words.specs.History.{accepted, begun, Holds, IsClosed, IsShut, IsDraining, IsRunning};
 ghost use Rattle.wq_core.specs.declared.step.Seat.TheVariants.{Sender, Owner};
-ghost use Rattle.wq_core.specs.declared.step.Step.TheVariants.{Hold, Look, Link, Push, Back, Check, Take, Close, Drain, Resume, Walk, Begin, End, Chain, Turn, Rest};
+ghost use Rattle.wq_core.specs.declared.step.Step.TheVariants.{Hold, Look, Link, Push, Back, Check, Take, Close, Drain, Resume, Walk, Begin, End, Chain, Turn};
+ghost use Rattle.wq_core.specs.declared.step.Step.TheVariants.{Rest};
 ghost use Rattle.wq_core.specs.Words.{number_at, head_at};
-ghost use Rattle.wq_core.specs.Machine.{opening, IsEnabled, HasSeenOpen, HasSeenCause, IsSwap, after_swap, after, reply_to, nothing_seen, private, head, link, unlinked};
+ghost use Rattle.wq_core.specs.Machine.{opening, IsEnabled, HasSeenOpen, HasSeenCause, MaySwap, after_swap, after, reply_to, nothing_seen, private, head, link};
+ghost use Rattle.wq_core.specs.Machine.{unlinked};
 ghost use Rattle.wq_core.specs.Sound.{IsSound};
 ghost use Rattle.wq_core.specs.Refusal.{is_senders, IsSeated, IsNumbered, IsPlaced, MayTakeMemory, IsMade, IsRefused};
 
@@ -340,8 +342,7 @@ impl Core {
 
     // Swaps the head. What stood there is walked next, and is the answer.
     fn swap(&mut self, new: u64, event: Event) -> Result<Head, AllocError>
-        requires kind { IsSwap event }
-        requires sound { IsSound (after_swap self.old new event) }
+        requires { MaySwap self.old new event }
         ensures found { IfOk result (λ found. found ≡ head_at (head self.old)) }
         ensures after { OnOk result (self.new ≡ after_swap self.old new event) }
         ensures unchanged { OnErr result (self.new ≡ self.old) }
