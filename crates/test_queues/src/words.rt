@@ -1,22 +1,25 @@
 //! Layouts, the codes of the head word, and which histories are legal.
 use crate::expect::expect_same;
 use std::process::Abort;
-use wq_words::Event::{Back, Begin, Busy, Chain, ChainBusy, Close, End, Hold, Push, Rest, Take};
+use wq_words::Event::{
+    Back, Begin, Busy, Chain, ChainBusy, Close, Drain, End, Hold, Push, Rest, Resume, Take,
+};
 use wq_words::{
-    BUSY, Event, Head, HistoryError, HistoryFault, Layout, LayoutError, Why, check_history,
+    BUSY, Event, Head, HistoryError, HistoryFault, Layout, LayoutError, MOST_ITEMS, Why,
+    check_history,
 };
 
 #[test]
 fn layouts(rt: HostRuntime) {
     for &(items, barriers, senders, refused) in &[
         (0, 17, 0, Some(LayoutError::Items)),
-        (4097, 1, 1, Some(LayoutError::Items)),
+        (65_537, 1, 1, Some(LayoutError::Items)),
         (1, 17, 0, Some(LayoutError::Barriers)),
         (1, 0, 1, Some(LayoutError::Barriers)),
         (1, 16, 65, Some(LayoutError::Senders)),
         (1, 16, 0, Some(LayoutError::Senders)),
         (1, 1, 1, None),
-        (4096, 16, 64, None),
+        (65_536, 16, 64, None),
     ] {
         let layout = Layout::new(items, barriers, senders);
         expect_same(
@@ -25,6 +28,7 @@ fn layouts(rt: HostRuntime) {
             ((items, barriers, senders), refused),
         );
     }
+    expect_same(&rt, MOST_ITEMS, 65_536);
 }
 
 #[test]
@@ -35,11 +39,12 @@ fn head_codes(rt: HostRuntime) {
         (4113, Head::Item(4112)),
         (1 << 32, Head::Item(u32::MAX)),
         (u64::MAX, Head::Closed),
+        (u64::MAX - 2, Head::Draining),
     ] {
         expect_same(&rt, (word, Head::from_word(word)), (word, Some(head)));
         expect_same(&rt, (head, head.to_word()), (head, word));
     }
-    for word in [(1 << 32) + 1, u64::MAX - 2] {
+    for word in [(1 << 32) + 1, u64::MAX - 3] {
         expect_same(&rt, (word, Head::from_word(word)), (word, None));
     }
     expect_same(&rt, BUSY, u64::MAX - 1);
@@ -65,6 +70,8 @@ fn check<R: Abort>(rt: &R, history: &[Event], fault: Option<HistoryFault>) {
 }
 
 /// Rests: one is allowed where the queue is open and as many have ended as were accepted, taken or not, and another may follow it.
+/// Drains: one ends where as many have ended as were accepted, a close may end it, and another may follow it. A number may be
+/// given back for one that has ended.
 const HISTORIES: &[(&[Event], Option<HistoryFault>)] = &[
     (&[], None),
     (&[Hold(0, 0), Push(0, 0), Begin(0)], None),
@@ -112,6 +119,36 @@ const HISTORIES: &[(&[Event], Option<HistoryFault>)] = &[
     ),
     (&[Hold(0, 0), Push(0, 0), Begin(0), End(0), Rest], None),
     (&[Close, Rest], NOT_ALLOWED),
+    (&[Hold(0, 0), Drain, Push(0, 0)], NOT_ALLOWED),
+    (&[Hold(0, 0), Drain, Resume, Push(0, 0)], None),
+    (&[Hold(0, 0), Push(0, 0), Drain, Resume], NOT_ALLOWED),
+    (
+        &[Hold(0, 0), Push(0, 0), Drain, Begin(0), Resume],
+        NOT_ALLOWED,
+    ),
+    (
+        &[
+            Hold(0, 0),
+            Push(0, 0),
+            Drain,
+            Begin(0),
+            Chain(0),
+            End(0),
+            Begin(0),
+            End(0),
+            Resume,
+        ],
+        None,
+    ),
+    (&[Resume], NOT_ALLOWED),
+    (&[Drain, Resume, Resume], NOT_ALLOWED),
+    (&[Drain, Close, Resume], NOT_ALLOWED),
+    (&[Drain, Resume, Drain, Resume, Rest, Take, Close], None),
+    (&[Drain, Rest], NOT_ALLOWED),
+    (
+        &[Hold(0, 0), Drain, Resume, Back(0, 0, Why::Draining)],
+        None,
+    ),
 ];
 
 #[test]
@@ -140,9 +177,12 @@ const OPEN: &[(Event, Option<HistoryFault>)] = &[
     (Back(1, 2, Why::Cancelled), None),
     (Back(1, 2, Why::Contended), None),
     (Back(1, 2, Why::Closed), NOT_ALLOWED),
+    (Back(1, 2, Why::Draining), NOT_ALLOWED),
     (Back(0, 2, Why::Cancelled), NOT_ALLOWED),
     (Take, None),
     (Close, None),
+    (Drain, None),
+    (Resume, NOT_ALLOWED),
     (Begin(1), None),
     (Begin(0), NOT_ALLOWED),
     (End(1), NOT_ALLOWED),
@@ -171,8 +211,11 @@ const OPEN_THAT_RUNS: &[(Event, Option<HistoryFault>)] = &[
     (Hold(0, 0), None),
     (Push(1, 2), None),
     (Back(1, 2, Why::Closed), NOT_ALLOWED),
+    (Back(1, 2, Why::Draining), NOT_ALLOWED),
     (Take, None),
     (Close, None),
+    (Drain, None),
+    (Resume, NOT_ALLOWED),
     (Begin(1), NOT_ALLOWED),
     (End(0), None),
     (End(1), NOT_ALLOWED),
@@ -181,21 +224,24 @@ const OPEN_THAT_RUNS: &[(Event, Option<HistoryFault>)] = &[
     (Rest, NOT_ALLOWED),
 ];
 
-/// After a close, of a queue on whose list are 0 and 1, while sender 1 holds the barrier 2: where nothing runs, and where 0 does.
-const CLOSED: &[(Event, Option<HistoryFault>, Option<HistoryFault>)] = &[
+/// After a close or a drain, of a queue on whose list are 0 and 1, while sender 1 holds the barrier 2: where nothing runs, and where
+/// 0 does.
+const SHUT: &[(Event, Option<HistoryFault>, Option<HistoryFault>)] = &[
     (Hold(0, 3), None, None),
     (Hold(0, 1), NOT_ALLOWED, NOT_ALLOWED),
     (Hold(0, 0), NOT_ALLOWED, None),
     (Busy(0, 1), None, None),
     (Busy(0, 0), None, NOT_ALLOWED),
     (Push(1, 2), NOT_ALLOWED, NOT_ALLOWED),
-    (Back(1, 2, Why::Closed), None, None),
     (Back(1, 2, Why::Cancelled), None, None),
     (Back(1, 2, Why::Contended), None, None),
     (Back(0, 2, Why::Closed), NOT_ALLOWED, NOT_ALLOWED),
+    (Back(0, 2, Why::Draining), NOT_ALLOWED, NOT_ALLOWED),
     (Back(1, 1, Why::Closed), NOT_ALLOWED, NOT_ALLOWED),
+    (Back(1, 1, Why::Draining), NOT_ALLOWED, NOT_ALLOWED),
     (Take, NOT_ALLOWED, NOT_ALLOWED),
-    (Close, NOT_ALLOWED, NOT_ALLOWED),
+    (Drain, NOT_ALLOWED, NOT_ALLOWED),
+    (Resume, NOT_ALLOWED, NOT_ALLOWED),
     (Begin(0), None, NOT_ALLOWED),
     (Begin(1), NOT_ALLOWED, NOT_ALLOWED),
     (End(0), NOT_ALLOWED, None),
@@ -204,6 +250,13 @@ const CLOSED: &[(Event, Option<HistoryFault>, Option<HistoryFault>)] = &[
     (Chain(1), NOT_ALLOWED, NOT_ALLOWED),
     (ChainBusy(0), NOT_ALLOWED, NOT_ALLOWED),
     (ChainBusy(1), NOT_ALLOWED, None),
+];
+
+/// What a drain and a close tell apart: after a close, and after a drain.
+const CLOSED_OR_DRAINING: &[(Event, Option<HistoryFault>, Option<HistoryFault>)] = &[
+    (Back(1, 2, Why::Closed), None, NOT_ALLOWED),
+    (Back(1, 2, Why::Draining), NOT_ALLOWED, None),
+    (Close, NOT_ALLOWED, None),
 ];
 
 #[test]
@@ -221,12 +274,22 @@ fn events_after_an_open_history(rt: HostRuntime) {
 }
 
 #[test]
-fn events_after_a_closed_history(rt: HostRuntime) {
+fn events_after_a_close_or_a_drain(rt: HostRuntime) {
     let (hold, other, held) = (Hold(0, 0), Hold(0, 1), Hold(1, 2));
-    for &(event, idle, running) in CLOSED {
-        let before = [hold, Push(0, 0), other, Push(0, 1), held, Busy(0, 1), Close];
-        check_after(&rt, before, event, idle);
-        let before = [hold, Push(0, 0), other, Push(0, 1), held, Close, Begin(0)];
-        check_after(&rt, before, event, running);
+    for &(event, idle, running) in SHUT {
+        for mark in [Close, Drain] {
+            let before = [hold, Push(0, 0), other, Push(0, 1), held, Busy(0, 1), mark];
+            check_after(&rt, before, event, idle);
+            let before = [hold, Push(0, 0), other, Push(0, 1), held, mark, Begin(0)];
+            check_after(&rt, before, event, running);
+        }
+    }
+    for &(event, closed, draining) in CLOSED_OR_DRAINING {
+        for (mark, fault) in [(Close, closed), (Drain, draining)] {
+            let before = [hold, Push(0, 0), other, Push(0, 1), held, Busy(0, 1), mark];
+            check_after(&rt, before, event, fault);
+            let before = [hold, Push(0, 0), other, Push(0, 1), held, mark, Begin(0)];
+            check_after(&rt, before, event, fault);
+        }
     }
 }
