@@ -5,13 +5,15 @@ use std::alloc::{AllocError, Global};
 use std::process::Abort;
 use std::test::Fail;
 use wq_core::Reply::Held;
-use wq_core::Step::{Back, Begin, Chain, Check, End, Hold, Link, Push, Rest, Take};
+use wq_core::Step::{
+    Back, Begin, Chain, Check, Close, Drain, End, Hold, Link, Look, Push, Rest, Resume, Take, Walk,
+};
 use wq_core::{
-    Core, ReplayError, Seat, Step, StepError, chain_and_batch, each_step_keeps_sound, first_push,
-    replay, replay_on,
+    Core, ReplayError, Reply, Seat, Step, StepError, chain_and_batch, each_step_keeps_sound,
+    first_push, replay, replay_on,
 };
 use wq_text::{Schedule, parse_steps};
-use wq_words::{Event, Layout, Why, check_history};
+use wq_words::{Event, Head, Layout, Why, check_history};
 
 const S0: Seat = Seat::Sender(0);
 
@@ -174,6 +176,8 @@ fn is_refused<R: Abort + AllocGlobal>(
 const REFUSED: &[(Seat, Step, StepError)] = &[
     (Seat::Sender(2), Hold(6), StepError::NoSeat),
     (S0, Take, StepError::NoSeat),
+    (S0, Drain, StepError::NoSeat),
+    (S0, Resume, StepError::NoSeat),
     (S0, Chain(9), StepError::NoSeat),
     (O, Hold(0), StepError::NoSeat),
     (O, Check(9), StepError::NoSeat),
@@ -188,6 +192,7 @@ const REFUSED: &[(Seat, Step, StepError)] = &[
     (S0, Link(5), StepError::NotEnabled),
     (S0, Push(0), StepError::NotEnabled),
     (S0, Back(0, Why::Cancelled), StepError::NotEnabled),
+    (O, Resume, StepError::NotEnabled),
     (O, Begin, StepError::NotEnabled),
     (O, End, StepError::NotEnabled),
     (O, Chain(3), StepError::NotEnabled),
@@ -203,6 +208,101 @@ fn refusals(rt: HostRuntime) {
     expect_same(&rt, core.history().len(), 0);
     expect_same(&rt, core.step(S1, Hold(5)), Ok(Held));
     expect_same(&rt, core.history(), [Event::Hold(1, 5)].as_slice());
+}
+
+const NOT_ENABLED: Result<Reply, StepError> = Err(StepError::NotEnabled);
+
+/// Steps one after another, each with its reply: a push that loses to a drain, and a number given back after the resume; a push
+/// that looked before a drain and wins after the resume; a drain that goes on until what was chained has ended, while a sender
+/// sees it; a close that ends a drain.
+const DRAINS: &[&[(Seat, Step, Result<Reply, StepError>)]] = &[
+    &[
+        (S0, Hold(0), Ok(Held)),
+        (S0, Look, Ok(Reply::Looked(Head::Empty))),
+        (S0, Link(0), Ok(Reply::Linked)),
+        (O, Drain, Ok(Reply::Drained(Head::Empty))),
+        (S0, Push(0), Ok(Reply::Lost)),
+        (S0, Back(0, Why::Draining), NOT_ENABLED),
+        (S0, Look, Ok(Reply::Looked(Head::Draining))),
+        (O, Resume, Ok(Reply::Resumed)),
+        (S0, Back(0, Why::Draining), Ok(Reply::GivenBack)),
+    ],
+    &[
+        (O, Take, Ok(Reply::Took(Head::Empty))),
+        (S0, Hold(0), Ok(Held)),
+        (S0, Look, Ok(Reply::Looked(Head::Empty))),
+        (S0, Link(0), Ok(Reply::Linked)),
+        (O, Drain, Ok(Reply::Drained(Head::Empty))),
+        (O, Resume, Ok(Reply::Resumed)),
+        (
+            S0,
+            Push(0),
+            Ok(Reply::Pushed {
+                first: true,
+                wakes: false,
+            }),
+        ),
+    ],
+    &[
+        (S0, Hold(0), Ok(Held)),
+        (S0, Look, Ok(Reply::Looked(Head::Empty))),
+        (S0, Link(0), Ok(Reply::Linked)),
+        (
+            S0,
+            Push(0),
+            Ok(Reply::Pushed {
+                first: true,
+                wakes: true,
+            }),
+        ),
+        (O, Drain, Ok(Reply::Drained(Head::Item(0)))),
+        (O, Drain, NOT_ENABLED),
+        (O, Resume, NOT_ENABLED),
+        (O, Walk, Ok(Reply::Walked(None))),
+        (O, Resume, NOT_ENABLED),
+        (O, Begin, Ok(Reply::Began(0))),
+        (O, Resume, NOT_ENABLED),
+        (O, Chain(1), Ok(Reply::Chained)),
+        (O, End, Ok(Reply::Ended(0))),
+        (O, Resume, NOT_ENABLED),
+        (O, Take, NOT_ENABLED),
+        (S1, Hold(2), Ok(Held)),
+        (S1, Look, Ok(Reply::Looked(Head::Draining))),
+        (S1, Link(2), NOT_ENABLED),
+        (S1, Back(2, Why::Closed), NOT_ENABLED),
+        (S1, Back(2, Why::Draining), Ok(Reply::GivenBack)),
+        (O, Begin, Ok(Reply::Began(1))),
+        (O, End, Ok(Reply::Ended(1))),
+        (O, Rest, NOT_ENABLED),
+        (O, Resume, Ok(Reply::Resumed)),
+        (O, Resume, NOT_ENABLED),
+        (O, Rest, Ok(Reply::Rested)),
+        (O, Drain, Ok(Reply::Drained(Head::Empty))),
+    ],
+    &[
+        (O, Drain, Ok(Reply::Drained(Head::Empty))),
+        (O, Close, Ok(Reply::Closed(Head::Draining))),
+        (O, Resume, NOT_ENABLED),
+        (O, Drain, NOT_ENABLED),
+        (S0, Hold(0), Ok(Held)),
+        (S0, Look, Ok(Reply::Looked(Head::Closed))),
+        (S0, Back(0, Why::Draining), NOT_ENABLED),
+        (S0, Back(0, Why::Closed), Ok(Reply::GivenBack)),
+    ],
+];
+
+#[test]
+fn drains(rt: HostRuntime) {
+    for &steps in DRAINS {
+        let mut core = Core::new(rt.alloc(), layout(&rt)).expect(&rt, "memory");
+        for &(seat, step, reply) in steps {
+            expect_same(
+                &rt,
+                (seat, step, core.step(seat, step)),
+                (seat, step, reply),
+            );
+        }
+    }
 }
 
 /// What a caller has in hand of a core, whatever was done to it.
