@@ -1,6 +1,6 @@
 //! The owner, which takes, executes, rests and parks until the stop item ran.
 ghost use Rattle.std.specs.Prelude.{◌≡◌, ◌≢◌, []};
-ghost use Rattle.wq_words.specs.History.{accepted, begun, ended, IsRunning, IsClosed};
+ghost use Rattle.wq_words.specs.History.{accepted, begun, ended, IsRunning, IsClosed, IsShut};
 ghost use Rattle.wq_words.specs.Legal.{IsComplete};
 ghost use Rattle.wq_live.specs.Known.{IsSame};
 ghost use Rattle.wq_live.specs.Batch.{batch};
@@ -15,8 +15,9 @@ fn execute_one(owner: &mut Owner) -> u32
     requires idle { ¬ IsRunning owner.old.seen }
     ensures same { IsSame owner.old owner.new }
     ensures idle { ¬ IsRunning owner.new.seen }
+    ensures open { ¬ IsShut owner.old.seen → ¬ IsShut owner.new.seen }
     ensures unclosed { ¬ IsClosed owner.old.seen → ¬ IsClosed owner.new.seen }
-    ensures shut { IsClosed owner.old.seen → IsClosed owner.new.seen }
+    ensures closed { IsClosed owner.old.seen → IsClosed owner.new.seen }
 {
     let number = owner.begin();
     owner.end();
@@ -29,8 +30,9 @@ fn execute<R: Wait>(rt: &R, owner: &mut Owner) -> bool
     ensures same { IsSame owner.old owner.new }
     ensures idle { ¬ IsRunning owner.new.seen }
     ensures empty { batch owner.new.seen ≡ [] }
+    ensures open { ¬ IsShut owner.old.seen → ¬ IsShut owner.new.seen }
     ensures unclosed { ¬ IsClosed owner.old.seen → ¬ IsClosed owner.new.seen }
-    ensures shut { IsClosed owner.old.seen → IsClosed owner.new.seen }
+    ensures closed { IsClosed owner.old.seen → IsClosed owner.new.seen }
 {
     let stop = owner.layout().stop();
     let mut is_stopped = false;
@@ -47,10 +49,11 @@ fn execute<R: Wait>(rt: &R, owner: &mut Owner) -> bool
 
 /// Takes, executes and rests until the stop item ran. Where the queue rests, the thread parks.
 fn serve<R: Wait>(rt: &R, owner: &mut Owner, parker: &Parker)
-    requires open { ¬ IsClosed owner.old.seen }
+    requires open { ¬ IsShut owner.old.seen }
     requires empty { batch owner.old.seen ≡ [] }
     requires idle { ¬ IsRunning owner.old.seen }
     ensures same { IsSame owner.old owner.new }
+    ensures open { ¬ IsShut owner.new.seen }
     ensures unclosed { ¬ IsClosed owner.new.seen }
     ensures empty { batch owner.new.seen ≡ [] }
     ensures idle { ¬ IsRunning owner.new.seen }

@@ -6,7 +6,7 @@ use Rattle.std.specs.Prelude.{count_by}
 use Rattle.wq_words.specs.declared.event.Event.{Event}
 use Rattle.wq_words.specs.declared.event.Event.TheVariants as event
 use Rattle.wq_words.specs.Head.{busy_word}
-use Rattle.wq_words.specs.History.{begun, ended, is_close, IsClosed, IsRunning}
+use Rattle.wq_words.specs.History.{begun, ended, is_close, IsClosed, IsShut, IsRunning}
 use Rattle.wq_words.specs.Counting.{is_chain, is_chain_busy}
 use Rattle.wq_words.specs.Rest.{wakes}
 use Rattle.wq_words.specs.Seen.{owner_seat, own}
@@ -31,7 +31,7 @@ use Rattle.wq_live.proofs.Tells.{Tells, tells, seen_after}
 use Rattle.wq_live.proofs.Owned.{running_quiet, closed_quiet, counts_quiet}
 use Rattle.wq_live.proofs.OwnerTells.{makes_stands, stands_batch, pair_owner, owner_grows, owner_sees, owner_batch}
 use Rattle.wq_live.proofs.Linking.{has_row_after}
-use Rattle.wq_live.proofs.Resting.{quiet_idle, open_stays}
+use Rattle.wq_live.proofs.Resting.{quiet_idle, open_stays, unclosed_stays}
 
 after_rest : (m : Machine) (c : ℕ) (st : Stage) → IsOwner st
     → after m (seat_at c st) Rest ≡ (if head m == busy_word then happened (with_head m idle_word) event.Rest else m)
@@ -42,7 +42,7 @@ pub rest_stage : (word : ℕ) (p q : Part) (ks : List ℕ) → p.stage ≡ Owns 
 rest_stage word p q ks is makes = makes.stage_is ∙ ap (λ (st : Stage). stage_after st Rest word) is
 
 -- a head that is not the mark of a queue at work says why none rests
-no_rest : (m : Machine) → IsSound m → ¬ IsClosed m.history → head m ≢ busy_word → MayNotRest m.history
+no_rest : (m : Machine) → IsSound m → ¬ IsShut m.history → head m ≢ busy_word → MayNotRest m.history
 no_rest m sound opens other = go (wakes m.history) refl
   where
     go : (b : Bool) → wakes m.history ≡ b → MayNotRest m.history
@@ -62,14 +62,14 @@ pub record Leaves (p q : Part) : Type 0 where
   pub told : Tells [] p q
   pub refused : MayNotRest q.seen
 
-pub rest_tells : (word : ℕ) (p q : Part) → p.seat ≡ owner_seat → IsOwner p.stage → ¬ IsClosed p.seen → Makes Rest word p q
+pub rest_tells : (word : ℕ) (p q : Part) → p.seat ≡ owner_seat → IsOwner p.stage → ¬ IsShut p.seen → Makes Rest word p q
     → MatchBool (word == busy_word) (Marks p q) (Leaves p q)
-rest_tells word p q mine is unclosed makes =
+rest_tells word p q mine is opens makes =
     subst (λ (w : ℕ). MatchBool (w == busy_word) (Marks p q) (Leaves p q)) (sym makes.word_is)
     (go (head makes.before == busy_word) refl (after_rest makes.before p.seat p.stage is))
   where
-    opens : ¬ IsClosed makes.before.history
-    opens shut = unclosed (closed_same makes.before.history p.seen (subst (λ (c : ℕ). own c p.seen ≡ own c makes.before.history) mine
+    open_before : ¬ IsShut makes.before.history
+    open_before shut = opens (closed_same makes.before.history p.seen (subst (λ (c : ℕ). own c p.seen ≡ own c makes.before.history) mine
         (sym makes.fits.mine)) shut)
 
     marked : after makes.before (seat_at p.seat p.stage) Rest ≡ happened (with_head makes.before idle_word) event.Rest
@@ -79,15 +79,15 @@ rest_tells word p q mine is unclosed makes =
       rested = record {
         before = m.history;
         is = seen_after Rest word p q makes _ _ e refl;
-        first_is = sym (head_first m makes.sound opens) ∙ ap (λ (w : ℕ). link_word w == 0) busy;
-        wakes_is = sym (head_wakes m makes.sound opens) ∙ ap (λ (w : ℕ). w == 0) busy;
+        first_is = sym (head_first m makes.sound open_before) ∙ ap (λ (w : ℕ). link_word w == 0) busy;
+        wakes_is = sym (head_wakes m makes.sound open_before) ∙ ap (λ (w : ℕ). w == 0) busy;
       };
     }
 
     left : after makes.before (seat_at p.seat p.stage) Rest ≡ makes.before → head makes.before ≢ busy_word → Leaves p q
     left e other = let m = makes.before in record {
       told = tells Rest word p q makes _ [] e refl (sym (append-nil m.history)) refl;
-      refused = subst MayNotRest (sym (makes.seen_is ∙ ap (λ (x : Machine). x.history) e)) (no_rest m makes.sound opens other);
+      refused = subst MayNotRest (sym (makes.seen_is ∙ ap (λ (x : Machine). x.history) e)) (no_rest m makes.sound open_before other);
     }
 
     go : (b : Bool) → (head makes.before == busy_word) ≡ b
@@ -98,10 +98,10 @@ rest_tells word p q mine is unclosed makes =
 
 -- the owner that makes the step, in state s before and with the chair q after
 module _ (s : Inside) (q : Standing) (now : Known) (word : ℕ) (view : owner_view s ≡ now) (o : OwnsQueue s) (queue : q.queue ≡ s.chair.queue)
-    (makes : Makes Rest word s.chair.part q.part) (unclosed : ¬ IsClosed now.seen) where
+    (makes : Makes Rest word s.chair.part q.part) (opens : ¬ IsShut now.seen) where
   told : MatchBool (word == busy_word) (Marks s.chair.part q.part) (Leaves s.chair.part q.part)
   told = rest_tells word s.chair.part q.part o.number_is (pair_owner s.chair.part.stage (kept_batch s.chair.part.stage) o.has_row.stage_is)
-      (subst (λ (v : Known). ¬ IsClosed v.seen) (sym view) unclosed) makes
+      (subst (λ (v : Known). ¬ IsShut v.seen) (sym view) opens) makes
 
   stage : q.part.stage ≡ Owns None [] (kept_batch s.chair.part.stage)
   stage = rest_stage word s.chair.part q.part (kept_batch s.chair.part.stage) o.has_row.stage_is makes
@@ -160,6 +160,10 @@ pub rests_idle : (b : Bool) (old new : Known) → old.number ≡ owner_seat → 
 rests_idle true old new mine sees = quiet_idle (event.Rest ∷ []) 0 old new mine sees refl refl
 rests_idle false old new mine sees = quiet_idle [] 0 old new mine sees refl refl
 
-pub rests_open : (b : Bool) (old new : Known) → old.number ≡ owner_seat → Rests b old new → ¬ IsClosed old.seen → ¬ IsClosed new.seen
+pub rests_open : (b : Bool) (old new : Known) → old.number ≡ owner_seat → Rests b old new → ¬ IsShut old.seen → ¬ IsShut new.seen
 rests_open true old new mine sees = open_stays (event.Rest ∷ []) 0 old new mine sees refl
 rests_open false old new mine sees = open_stays [] 0 old new mine sees refl
+
+pub rests_unclosed : (b : Bool) (old new : Known) → old.number ≡ owner_seat → Rests b old new → ¬ IsClosed old.seen → ¬ IsClosed new.seen
+rests_unclosed true old new mine sees = unclosed_stays (event.Rest ∷ []) 0 old new mine sees refl
+rests_unclosed false old new mine sees = unclosed_stays [] 0 old new mine sees refl

@@ -8,7 +8,7 @@ use Rattle.wq_words.specs.declared.event.Why.TheVariants as why
 use Rattle.wq_words.specs.declared.answer.Answer.{Answer}
 use Rattle.wq_words.specs.declared.answer.Answer.TheVariants.{Queued, Pending, Closed, Contended}
 use Rattle.std.proofs.lemmas.List.Elements.{filter_map-append}
-use Rattle.wq_words.specs.History.{accepted, accepted_by, begun, ended, IsRunning, is_close, IsClosed}
+use Rattle.wq_words.specs.History.{accepted, accepted_by, begun, ended, IsRunning, is_close, IsClosed, IsShut}
 use Rattle.std.specs.Prelude.{count_by}
 use Rattle.std.proofs.lemmas.List.Sums.{sum_by-append}
 use Rattle.wq_words.specs.Legal.{IsLegal, IsComplete}
@@ -39,16 +39,25 @@ quiet_runs xs n old new mine sees b e runs =
 
 -- a closed queue stays closed
 pub closed_stays : (xs : List Event) (n : ℕ) (old new : Known) → Sees xs n old new → IsClosed old.seen → IsClosed new.seen
-closed_stays xs n old new sees shut =
+closed_stays xs n old new sees closed =
     let more = sum_by-append (λ e. cond (is_close e) 1 0) old.seen sees.grows.new in
-    omega (arith, shut, more, ap (λ (h : List Event). count_by is_close h) sees.grows.is)
+    omega (arith, closed, more, ap (λ (h : List Event). count_by is_close h) sees.grows.is)
 
--- an open queue stays open where its owner closes nothing
-pub open_stays : (xs : List Event) (n : ℕ) (old new : Known) → old.number ≡ owner_seat → Sees xs n old new → count_by is_close xs ≡ 0
+-- one that is not stays so where its owner closes nothing
+pub unclosed_stays : (xs : List Event) (n : ℕ) (old new : Known) → old.number ≡ owner_seat → Sees xs n old new → count_by is_close xs ≡ 0
     → ¬ IsClosed old.seen → ¬ IsClosed new.seen
-open_stays xs n old new mine sees none opens shut =
+unclosed_stays xs n old new mine sees none unclosed closed =
     let g : Grows owner_seat xs n old.seen new.seen = subst (λ (d : ℕ). Grows d xs n old.seen new.seen) mine sees.grows in
-    opens (omega (arith, shut, none, closes_on xs n old.seen new.seen g))
+    unclosed (omega (arith, closed, none, closes_on xs n old.seen new.seen g))
+
+-- where the owner does neither, a shut queue stays shut, and an open one open
+pub shut_stays : (xs : List Event) (n : ℕ) (old new : Known) → old.number ≡ owner_seat → Sees xs n old new → count_by is_close xs ≡ 0
+    → IsShut old.seen → IsShut new.seen
+shut_stays xs n old new mine sees none shut = closed_stays xs n old new sees shut
+
+pub open_stays : (xs : List Event) (n : ℕ) (old new : Known) → old.number ≡ owner_seat → Sees xs n old new → count_by is_close xs ≡ 0
+    → ¬ IsShut old.seen → ¬ IsShut new.seen
+open_stays xs n old new mine sees none opens = unclosed_stays xs n old new mine sees none opens
 
 -- where nothing is accepted, nothing is of any seat
 none_first : (o : Option ℕ) (ks : List ℕ) → cons_option o ks ≡ [] → (o ≡ None) × (ks ≡ [])

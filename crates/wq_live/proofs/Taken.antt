@@ -1,8 +1,7 @@
 -- What a Take or a Close leaves as the batch.
-use Rattle.std.proofs.Common.{◌≡◌, ℕ, ◌+◌, cond, List, [], ◌∷◌, ◌++◌, length, Option, None, take, drop, sym, refl, ap, ◌∙◌, subst, arith, append_assoc, length-append, length-drop}
+use Rattle.std.proofs.Common.{◌≡◌, ℕ, ◌+◌, List, [], ◌∷◌, ◌++◌, length, Option, None, take, drop, sym, refl, ap, ◌∙◌, subst, arith, append_assoc, length-append, length-drop}
 use Rattle.std.specs.Prelude.{reverse}
 use Rattle.std.proofs.lemmas.List.{append-nil}
-use Rattle.std.proofs.lemmas.List.Sums.{sum_by-append}
 use Rattle.std.proofs.lemmas.List.Elements.{filter_map-append}
 use Rattle.std.proofs.lemmas.List.{length-reverse}
 use mathlib.Core.List.{reverse_aux}
@@ -10,21 +9,22 @@ use Rattle.wq_words.specs.declared.layout.Layout.{Layout}
 use Rattle.wq_words.specs.declared.event.Event.{Event}
 use Rattle.wq_words.specs.declared.event.Event.TheVariants.{Take, Close}
 use Rattle.wq_words.specs.Numbers.{number_count}
-use Rattle.wq_words.specs.History.{accepted, accepted_by, begun, is_close, IsClosed, taken}
+use Rattle.wq_words.specs.History.{accepted, accepted_by, begun, fresh, IsClosed, IsShut, taken}
 use Rattle.wq_words.specs.Listed.{listed}
 use Rattle.wq_words.specs.Legal.{IsLegal}
 use Rattle.wq_words.proofs.Growing.{take_length}
 use Rattle.wq_words.proofs.Legal.{legal_front, legal_next, legal_rest}
-use Rattle.wq_words.proofs.Closed.{closed_from_IsClosed, closed_from_open}
+use Rattle.wq_words.proofs.Closed.{closed_from_open, closed_push_yes}
 use Rattle.wq_words.proofs.Listed.{accepted_push_none, taken_closed, taken_push_take, is_listed, fresh-open}
-use Rattle.wq_words.proofs.OtherSeats.{accepted_closed, taken_still}
+use Rattle.wq_words.proofs.OtherSeats.{taken_still}
 use Rattle.wq_core.specs.Machine.{Machine}
 use Rattle.wq_core.specs.Words.{word_at}
 use Rattle.wq_core.specs.Sound.{IsSound, IsChain}
 use Rattle.wq_core.proofs.Chains.{chain_zero}
-use Rattle.wq_words.specs.Seen.{owner_seat, own, Grows}
+use Rattle.wq_words.specs.Seen.{owner_seat, seat_of, own, Grows}
+use Rattle.wq_words.proofs.Seen.{own-append, own_one}
 use Rattle.wq_live.specs.Batch.{batch, TakesAll}
-use Rattle.wq_live.proofs.Owned.{begun_on, closes_on}
+use Rattle.wq_live.proofs.Owned.{begun_on}
 
 -- what is accepted has begun, is in the batch, or is on the list
 pub rested_lengths : (m : Machine) → IsSound m → m.cursor ≡ None
@@ -44,57 +44,60 @@ rested_lengths m o still =
       ap (λ (x : List ℕ). length x) mid,
     )
 
-pub all_of : (layout : Layout) (e : Event) (before after h : List Event) (ks js : List ℕ) (count : ℕ) → IsLegal layout before → ¬ IsClosed before
-    → h ≡ before ++ e ∷ after → own owner_seat after ≡ []
-    → begun h ≡ begun before → take (taken h) (accepted h) ≡ accepted before
+-- what the owner's event e leaves, where it takes all that was accepted before it
+cuts_all : (layout : Layout) (e : Event) (before after h : List Event) (ks js : List ℕ) (count : ℕ) → IsLegal layout h → h ≡ before ++ e ∷ after
+    → own owner_seat after ≡ [] → seat_of e ≡ owner_seat → begun (e ∷ []) ≡ []
+    → taken (before ++ e ∷ []) ≡ length (accepted before) → fresh before ≡ length (listed before)
     → length (accepted before) ≡ length (begun before) + length ks + length (listed before) → js ≡ batch h → count + length ks ≡ length js
     → TakesAll e count h
-all_of layout e before after h ks js count legal opens is none same all sum batch_is total = record {
+cuts_all layout e before after h ks js count legal is none seat quiet takes fresh_is sum batch_is total = record {
   before = before;
   after = after;
   is = is;
   last = none;
-  count_is = let fresh_is = fresh-open layout before legal opens in let long = ap (λ (x : List ℕ). length x) (batch_is ∙ left) in
+  count_is = let long = ap (λ (x : List ℕ). length x) (batch_is ∙ left) in
       let cut = length-drop (length (begun before)) (accepted before) in omega arith;
   batch_is = left;
 }
   where
+    grows : Grows owner_seat (e ∷ []) 0 before h
+    grows = record {
+      new = e ∷ after;
+      is = is;
+      mine = own-append owner_seat (e ∷ []) after ∙ (λ i. own_one owner_seat e seat i ++ none i);
+      theirs = omega arith;
+    }
+
+    same : begun h ≡ begun before
+    same = begun_on (e ∷ []) 0 before h grows ∙ (ap (λ (x : List ℕ). begun before ++ x) quiet ∙ append-nil (begun before))
+
+    took : taken h ≡ length (accepted before)
+    took = ap taken (is ∙ sym (append_assoc before (e ∷ []) after)) ∙
+        (taken_still layout (before ++ e ∷ []) after (legal_rest layout before e after (subst (IsLegal layout) is legal)) none ∙ takes)
+
+    all : take (taken h) (accepted h) ≡ accepted before
+    all = (λ i. take (took i) ((ap accepted is ∙ filter_map-append accepted_by before (e ∷ after)) i)) ∙
+        take_length (accepted before) (accepted (e ∷ after))
+
     left : batch h ≡ drop (length (begun before)) (accepted before)
     left = λ i. drop (length (same i)) (all i)
 
-pub takes_all : (layout : Layout) (before after h : List Event) (ks js : List ℕ) (count : ℕ) → IsLegal layout h → h ≡ before ++ Take ∷ after
-    → own owner_seat after ≡ []
-    → length (accepted before) ≡ length (begun before) + length ks + length (listed before) → js ≡ batch h → count + length ks ≡ length js
-    → TakesAll Take count h
-takes_all layout before after h ks js count legal is none sum batch_is total =
-    let whole : IsLegal layout (before ++ Take ∷ after) = subst (IsLegal layout) is legal in let legal' = legal_front layout before (Take ∷ after) whole in
-    let opens : ¬ IsClosed before = (legal_next layout before Take after whole).2 in let shut = closed_from_open before opens in
-    let g : Grows owner_seat
-    (Take ∷ []) 0 before h = record { new = Take ∷ after; is = is; mine = ap (λ (x : List Event). Take ∷ x) none; theirs = omega arith } in
-    let same : begun h ≡ begun before = begun_on (Take ∷ []) 0 before h g ∙ append-nil (begun before) in
-    let took : taken h ≡ length (accepted before) = ap taken (is ∙ sym (append_assoc before (Take ∷ []) after)) ∙
-    (taken_still layout (before ++ Take ∷ []) after (legal_rest layout before Take after whole) none ∙
-    (taken_push_take before shut ∙ (is_listed layout before legal').open_pushes shut)) in
-    let parts : accepted h ≡ accepted before ++ accepted (Take ∷ after) = ap accepted is ∙ filter_map-append accepted_by before (Take ∷ after) in
-    let all : take (taken h) (accepted h) ≡ accepted before = (λ i. take (took i) (parts i)) ∙ take_length (accepted before) (accepted (Take ∷ after)) in
-    all_of layout Take before after h ks js count legal' opens is none same all sum batch_is total
+module _ (layout : Layout) (before after h : List Event) (ks js : List ℕ) (count : ℕ) (legal : IsLegal layout h) where
+  pub takes_all : h ≡ before ++ Take ∷ after → own owner_seat after ≡ []
+      → length (accepted before) ≡ length (begun before) + length ks + length (listed before) → js ≡ batch h → count + length ks ≡ length js
+      → TakesAll Take count h
+  takes_all is none sum batch_is total =
+      let whole : IsLegal layout (before ++ Take ∷ after) = subst (IsLegal layout) is legal in let legal' = legal_front layout before (Take ∷ after) whole in
+      let opens : ¬ IsShut before = (legal_next layout before Take after whole).2 in let open' = closed_from_open before opens in
+      cuts_all layout Take before after h ks js count legal is none refl refl (taken_push_take before open' ∙ (is_listed layout before legal').open_pushes open')
+      (fresh-open layout before legal' opens) sum batch_is total
 
-pub closes_all : (layout : Layout) (before after h : List Event) (ks js : List ℕ) (count : ℕ) → IsLegal layout h → h ≡ before ++ Close ∷ after
-    → own owner_seat after ≡ []
-    → length (accepted before) ≡ length (begun before) + length ks + length (listed before) → js ≡ batch h → count + length ks ≡ length js
-    → TakesAll Close count h
-closes_all layout before after h ks js count legal is none sum batch_is total =
-    let whole : IsLegal layout (before ++ Close ∷ after) = subst (IsLegal layout) is legal in let legal' = legal_front layout before (Close ∷ after) whole in
-    let opens : ¬ IsClosed before = (legal_next layout before Close after whole).2 in
-    let g : Grows owner_seat
-    (Close ∷ []) 0 before h = record { new = Close ∷ after; is = is; mine = ap (λ (x : List Event). Close ∷ x) none; theirs = omega arith } in
-    let same : begun h ≡ begun before = begun_on (Close ∷ []) 0 before h g ∙ append-nil (begun before) in
-    let now : IsClosed h = omega (arith, closes_on (Close ∷ []) 0 before h g) in
-    let split : h ≡ (before ++ Close ∷ []) ++ after = is ∙ sym (append_assoc before (Close ∷ []) after) in
-    let mid : IsClosed (before ++ Close ∷ []) = omega (arith, sum_by-append (λ x. cond (is_close x) 1 0) before (Close ∷ [])) in
-    let parts : accepted h ≡ accepted before = ap accepted split ∙
-    (accepted_closed layout (before ++ Close ∷ []) after (subst (IsLegal layout) split legal) mid none ∙ accepted_push_none before Close refl) in
-    let took : taken h ≡ length (accepted before) = taken_closed h (closed_from_IsClosed h now) ∙ ap (λ (x : List ℕ). length x) parts in
-    let all : take (taken h) (accepted h) ≡ accepted before = (λ i. take (took i) (parts i)) ∙
-    (ap (take (length (accepted before))) (sym (append-nil (accepted before))) ∙ take_length (accepted before) []) in
-    all_of layout Close before after h ks js count legal' opens is none same all sum batch_is total
+  pub closes_all : h ≡ before ++ Close ∷ after → own owner_seat after ≡ []
+      → length (accepted before) ≡ length (begun before) + length ks + length (listed before) → js ≡ batch h → count + length ks ≡ length js
+      → TakesAll Close count h
+  closes_all is none sum batch_is total =
+      let whole : IsLegal layout (before ++ Close ∷ after) = subst (IsLegal layout) is legal in
+      let unclosed : ¬ IsClosed before = (legal_next layout before Close after whole).2 in
+      cuts_all layout Close before after h ks js count legal is none refl refl
+      (taken_closed (before ++ Close ∷ []) (closed_push_yes before Close refl) ∙ ap (λ (x : List ℕ). length x) (accepted_push_none before Close refl))
+      (fresh-open layout before (legal_front layout before (Close ∷ after) whole) unclosed) sum batch_is total

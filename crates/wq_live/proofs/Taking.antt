@@ -9,14 +9,15 @@ use Rattle.wq_words.specs.Numbers.{number_count}
 use Rattle.wq_words.specs.History.{accepted, begun}
 use Rattle.wq_words.specs.Listed.{listed}
 use Rattle.wq_words.specs.Legal.{IsLegal}
+use Rattle.wq_core.specs.declared.step.Step.{Step}
 use Rattle.wq_core.specs.declared.step.Step.TheVariants.{Take, Close}
 use Rattle.wq_core.specs.Words.{number_at}
-use Rattle.wq_core.specs.Machine.{Machine}
+use Rattle.wq_core.specs.Machine.{Machine, after}
 use Rattle.wq_core.specs.Sound.{IsSound}
 use Rattle.wq_table.specs.declared.table.Part.{Part}
 use Rattle.wq_table.specs.declared.table.Stage.TheVariants.{Owns}
 use Rattle.wq_words.specs.Seen.{owner_seat, own, Grows}
-use Rattle.wq_table.specs.Law.{HasStage}
+use Rattle.wq_table.specs.Law.{seat_at, HasStage}
 use Rattle.wq_table.specs.Plays.{Makes}
 use Rattle.wq_live.specs.Batch.{TakesAll}
 use Rattle.wq_live.specs.Sits.{Stands, OnlySees, walking}
@@ -47,22 +48,23 @@ module _ (word : ℕ) (p q r : Part) (ks js : List ℕ) (count : ℕ) (mine : p.
   none_after : q.seat ≡ p.seat → own owner_seat follows.grows.new ≡ []
   none_after seat = subst (λ (c : ℕ). own c follows.grows.new ≡ []) (seat ∙ mine) follows.grows.mine
 
+  -- what has been seen in the end, where the step added the event e
+  seen_then : (st : Step) (e : Event) (makes : Makes st word p q) (n : Machine) → after makes.before (seat_at p.seat p.stage) st ≡ n
+      → n.history ≡ makes.before.history ++ e ∷ [] → r.seen ≡ makes.before.history ++ e ∷ follows.grows.new
+  seen_then st e makes n is adds = let m = makes.before in
+      follows.grows.is ∙ (ap (λ (x : List Event). x ++ follows.grows.new) (seen_after st word p q makes n (e ∷ []) is adds) ∙
+      append_assoc m.history (e ∷ []) follows.grows.new)
+
   pub take_takes : Makes Take word p q → TakesAll event.Take count r.seen
   take_takes makes = let m = makes.before in
-      let seen : q.seen ≡ m.history ++ event.Take ∷ [] = seen_after Take word p q makes _ (event.Take ∷ [])
-      (after_take m p.seat p.stage (pair_owner p.stage ks stage)) refl in
-      let is : r.seen ≡ m.history ++ event.Take ∷ follows.grows.new = follows.grows.is ∙
-      (ap (λ (x : List Event). x ++ follows.grows.new) seen ∙ append_assoc m.history (event.Take ∷ []) follows.grows.new) in
-      takes_all r.layout m.history follows.grows.new r.seen ks js count (stands_legal r stands) is (none_after makes.seat_is)
+      takes_all r.layout m.history follows.grows.new r.seen ks js count (stands_legal r stands)
+      (seen_then Take event.Take makes _ (after_take m p.seat p.stage (pair_owner p.stage ks stage)) refl) (none_after makes.seat_is)
       (lengths m makes.sound makes.fits.keeps) (stands_batch r js stands stage') total
 
   pub close_takes : Makes Close word p q → TakesAll event.Close count r.seen
   close_takes makes = let m = makes.before in
-      let seen : q.seen ≡ m.history ++ event.Close ∷ [] = seen_after Close word p q makes _ (event.Close ∷ [])
-      (after_close m p.seat p.stage (pair_owner p.stage ks stage)) refl in
-      let is : r.seen ≡ m.history ++ event.Close ∷ follows.grows.new = follows.grows.is ∙
-      (ap (λ (x : List Event). x ++ follows.grows.new) seen ∙ append_assoc m.history (event.Close ∷ []) follows.grows.new) in
-      closes_all r.layout m.history follows.grows.new r.seen ks js count (stands_legal r stands) is (none_after makes.seat_is)
+      closes_all r.layout m.history follows.grows.new r.seen ks js count (stands_legal r stands)
+      (seen_then Close event.Close makes _ (after_close m p.seat p.stage (pair_owner p.stage ks stage)) refl) (none_after makes.seat_is)
       (lengths m makes.sound makes.fits.keeps) (stands_batch r js stands stage') total
 
 -- what was seen without an event of one's own, and a step after it

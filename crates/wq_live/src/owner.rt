@@ -3,7 +3,7 @@ ghost use Rattle.std.specs.Prelude.{◌≡◌, ◌≢◌, ℕ, ◌+◌, ◌<◌,
 ghost use mathlib.Core.List.{IsPrefix};
 ghost use Rattle.wq_words.specs.declared.event.Event.TheVariants.{Take, Close, Begin, End};
 ghost use Rattle.wq_words.specs.Numbers.{number_count};
-ghost use Rattle.wq_words.specs.History.{IsClosed, closed, IsRunning, running, ended};
+ghost use Rattle.wq_words.specs.History.{IsClosed, IsShut, closed, IsRunning, running, ended};
 ghost use Rattle.wq_words.specs.Legal.{IsLegal, IsComplete};
 ghost use Rattle.wq_words.specs.Headline.{KeepsHeadline};
 ghost use Rattle.wq_live.specs.Known.{IsSame, Sees};
@@ -60,11 +60,12 @@ impl Owner {
     /// Takes all that stands on the list, and answers how many that is (`llist_del_all`). An owner that serves by a loop of its
     /// own takes more at a time where some time passes after a short take: `wq_worker` has the bounds that its `serve` uses.
     pub fn take(&mut self) -> u32
-        requires open { ¬ IsClosed self.old.seen }
+        requires open { ¬ IsShut self.old.seen }
         requires empty { batch self.old.seen ≡ [] }
         ensures seen { Sees (Take ∷ []) 0 self.old self.new }
         ensures takes { TakesAll Take result self.new.seen }
         ensures count { result ≡ length (batch self.new.seen) }
+        ensures open { ¬ IsShut self.new.seen }
         ensures unclosed { ¬ IsClosed self.new.seen }
         ensures idle { ¬ IsRunning self.old.seen → ¬ IsRunning self.new.seen }
         ensures runs { IsRunning self.old.seen → IsRunning self.new.seen }
@@ -75,12 +76,13 @@ impl Owner {
     /// Closes the queue, takes all that stands on the list, and answers how many that is. What a sender queues from now
     /// on is answered `Closed`.
     pub fn close(&mut self) -> u32
-        requires open { ¬ IsClosed self.old.seen }
+        requires unclosed { ¬ IsClosed self.old.seen }
         ensures seen { Sees (Close ∷ []) 0 self.old self.new }
         ensures takes { TakesAll Close result self.new.seen }
         ensures behind { IsPrefix (batch self.old.seen) (batch self.new.seen) }
         ensures count { length (batch self.new.seen) ≡ length (batch self.old.seen) + result }
-        ensures shut { IsClosed self.new.seen }
+        ensures closed { IsClosed self.new.seen }
+        ensures shut { IsShut self.new.seen }
         ensures idle { ¬ IsRunning self.old.seen → ¬ IsRunning self.new.seen }
         ensures runs { IsRunning self.old.seen → IsRunning self.new.seen }
     {
@@ -111,7 +113,9 @@ impl Owner {
         ensures batch { batch self.old.seen ≡ result ∷ batch self.new.seen }
         ensures runs { IsRunning self.new.seen }
         ensures running { running self.new.seen ≡ Some result }
-        ensures shut { IsClosed self.old.seen → IsClosed self.new.seen }
+        ensures shut { IsShut self.old.seen → IsShut self.new.seen }
+        ensures closed { IsClosed self.old.seen → IsClosed self.new.seen }
+        ensures open { ¬ IsShut self.old.seen → ¬ IsShut self.new.seen }
         ensures unclosed { ¬ IsClosed self.old.seen → ¬ IsClosed self.new.seen }
     {
         self.seat.begin()
@@ -124,7 +128,9 @@ impl Owner {
         ensures same { IsSame self.old self.new }
         ensures batch { batch self.new.seen ≡ batch self.old.seen }
         ensures idle { ¬ IsRunning self.new.seen }
-        ensures shut { IsClosed self.old.seen → IsClosed self.new.seen }
+        ensures shut { IsShut self.old.seen → IsShut self.new.seen }
+        ensures closed { IsClosed self.old.seen → IsClosed self.new.seen }
+        ensures open { ¬ IsShut self.old.seen → ¬ IsShut self.new.seen }
         ensures unclosed { ¬ IsClosed self.old.seen → ¬ IsClosed self.new.seen }
     {
         self.seat.end();
@@ -139,13 +145,14 @@ impl Owner {
     /// not park; the first push after it answers `wakes`, and its sender unparks the owner, also one that is yet to park. An
     /// owner that never rests, as by `serve` of `wq_worker`, is to be woken on `first`, once a take.
     pub fn rest(&mut self) -> bool
-        requires open { ¬ IsClosed self.old.seen }
+        requires open { ¬ IsShut self.old.seen }
         requires empty { batch self.old.seen ≡ [] }
         requires idle { ¬ IsRunning self.old.seen }
         ensures seen { Rests result self.old self.new }
         ensures rested { IsTrue result → HasRested self.new.seen }
         ensures refused { result ≡ false → MayNotRest self.new.seen }
         ensures same { IsSame self.old self.new }
+        ensures open { ¬ IsShut self.new.seen }
         ensures unclosed { ¬ IsClosed self.new.seen }
         ensures empty { batch self.new.seen ≡ [] }
         ensures idle { ¬ IsRunning self.new.seen }
@@ -157,12 +164,13 @@ impl Owner {
     /// `drain_workqueue`). `Pending` where its bit was set.
     pub fn chain(&mut self, item: u32) -> Answer
         requires item { item < self.old.layout.items }
-        requires shut { IsClosed self.old.seen }
+        requires shut { IsShut self.old.seen }
         requires runs { IsRunning self.old.seen }
         ensures answer { Chains item result self.old self.new }
         ensures same { IsSame self.old self.new }
         ensures batch { batch self.new.seen ≡ batch self.old.seen ++ queued_number item result }
-        ensures shut { IsClosed self.new.seen }
+        ensures shut { IsShut self.new.seen }
+        ensures closed { IsClosed self.old.seen → IsClosed self.new.seen }
         ensures runs { IsRunning self.new.seen }
     {
         self.seat.chain(item)

@@ -3,7 +3,7 @@ ghost use Rattle.std.specs.Prelude.{◌≡◌, ◌≢◌, ℕ, ◌+◌, ◌<◌,
 ghost use mathlib.Core.List.{IsPrefix};
 ghost use Rattle.wq_words.specs.declared.event.Event.TheVariants.{Take, Close, Begin, End};
 ghost use Rattle.wq_words.specs.Numbers.{number_count};
-ghost use Rattle.wq_words.specs.History.{IsClosed, IsRunning, running};
+ghost use Rattle.wq_words.specs.History.{IsClosed, IsShut, IsRunning, running};
 ghost use Rattle.wq_core.specs.Words.{number_at};
 ghost use Rattle.wq_table.specs.Chair.{part_at};
 ghost use Rattle.wq_table.specs.Beside.{Beside, Follow};
@@ -124,13 +124,14 @@ pub(crate) fn without_first<P: Place>(chair: &mut Chair, row: Row) -> Row
 impl OwnerSeat {
     pub(crate) fn take(&mut self) -> u32
         requires owns { OwnsQueue self.old }
-        requires open { ¬ IsClosed (owner_view self.old).seen }
+        requires open { ¬ IsShut (owner_view self.old).seen }
         requires empty { batch (owner_view self.old).seen ≡ [] }
         ensures owns { OwnsQueue self.new }
         ensures follow { Follow 0 self.old.chair self.new.chair }
         ensures seen { Sees (Take ∷ []) 0 (owner_view self.old) (owner_view self.new) }
         ensures takes { TakesAll Take result (owner_view self.new).seen }
         ensures count { result ≡ length (batch (owner_view self.new).seen) }
+        ensures open { ¬ IsShut (owner_view self.new).seen }
         ensures unclosed { ¬ IsClosed (owner_view self.new).seen }
         ensures idle { ¬ IsRunning (owner_view self.old).seen → ¬ IsRunning (owner_view self.new).seen }
         ensures runs { IsRunning (owner_view self.old).seen → IsRunning (owner_view self.new).seen }
@@ -142,14 +143,15 @@ impl OwnerSeat {
 
     pub(crate) fn close(&mut self) -> u32
         requires owns { OwnsQueue self.old }
-        requires open { ¬ IsClosed (owner_view self.old).seen }
+        requires unclosed { ¬ IsClosed (owner_view self.old).seen }
         ensures owns { OwnsQueue self.new }
         ensures follow { Follow 0 self.old.chair self.new.chair }
         ensures seen { Sees (Close ∷ []) 0 (owner_view self.old) (owner_view self.new) }
         ensures takes { TakesAll Close result (owner_view self.new).seen }
         ensures behind { IsPrefix (batch (owner_view self.old).seen) (batch (owner_view self.new).seen) }
         ensures count { length (batch (owner_view self.new).seen) ≡ length (batch (owner_view self.old).seen) + result }
-        ensures shut { IsClosed (owner_view self.new).seen }
+        ensures closed { IsClosed (owner_view self.new).seen }
+        ensures shut { IsShut (owner_view self.new).seen }
         ensures idle { ¬ IsRunning (owner_view self.old).seen → ¬ IsRunning (owner_view self.new).seen }
         ensures runs { IsRunning (owner_view self.old).seen → IsRunning (owner_view self.new).seen }
     {
@@ -189,7 +191,9 @@ impl OwnerSeat {
         ensures batch { batch (owner_view self.old).seen ≡ result ∷ batch (owner_view self.new).seen }
         ensures runs { IsRunning (owner_view self.new).seen }
         ensures running { running (owner_view self.new).seen ≡ Some result }
-        ensures shut { IsClosed (owner_view self.old).seen → IsClosed (owner_view self.new).seen }
+        ensures shut { IsShut (owner_view self.old).seen → IsShut (owner_view self.new).seen }
+        ensures closed { IsClosed (owner_view self.old).seen → IsClosed (owner_view self.new).seen }
+        ensures open { ¬ IsShut (owner_view self.old).seen → ¬ IsShut (owner_view self.new).seen }
         ensures unclosed { ¬ IsClosed (owner_view self.old).seen → ¬ IsClosed (owner_view self.new).seen }
     {
         let number = self.row.front;
@@ -208,7 +212,9 @@ impl OwnerSeat {
         ensures same { IsSame (owner_view self.old) (owner_view self.new) }
         ensures batch { batch (owner_view self.new).seen ≡ batch (owner_view self.old).seen }
         ensures idle { ¬ IsRunning (owner_view self.new).seen }
-        ensures shut { IsClosed (owner_view self.old).seen → IsClosed (owner_view self.new).seen }
+        ensures shut { IsShut (owner_view self.old).seen → IsShut (owner_view self.new).seen }
+        ensures closed { IsClosed (owner_view self.old).seen → IsClosed (owner_view self.new).seen }
+        ensures open { ¬ IsShut (owner_view self.old).seen → ¬ IsShut (owner_view self.new).seen }
         ensures unclosed { ¬ IsClosed (owner_view self.old).seen → ¬ IsClosed (owner_view self.new).seen }
     {
         self.chair.end::<First>();
@@ -218,7 +224,7 @@ impl OwnerSeat {
 
     pub(crate) fn rest(&mut self) -> bool
         requires owns { OwnsQueue self.old }
-        requires open { ¬ IsClosed (owner_view self.old).seen }
+        requires open { ¬ IsShut (owner_view self.old).seen }
         requires empty { batch (owner_view self.old).seen ≡ [] }
         requires idle { ¬ IsRunning (owner_view self.old).seen }
         ensures owns { OwnsQueue self.new }
@@ -227,6 +233,7 @@ impl OwnerSeat {
         ensures rested { IsTrue result → HasRested (owner_view self.new).seen }
         ensures refused { result ≡ false → MayNotRest (owner_view self.new).seen }
         ensures same { IsSame (owner_view self.old) (owner_view self.new) }
+        ensures open { ¬ IsShut (owner_view self.new).seen }
         ensures unclosed { ¬ IsClosed (owner_view self.new).seen }
         ensures empty { batch (owner_view self.new).seen ≡ [] }
         ensures idle { ¬ IsRunning (owner_view self.new).seen }
@@ -238,14 +245,15 @@ impl OwnerSeat {
     pub(crate) fn chain(&mut self, item: u32) -> Answer
         requires owns { OwnsQueue self.old }
         requires item { item < (owner_view self.old).layout.items }
-        requires shut { IsClosed (owner_view self.old).seen }
+        requires shut { IsShut (owner_view self.old).seen }
         requires runs { IsRunning (owner_view self.old).seen }
         ensures owns { OwnsQueue self.new }
         ensures follow { Follow 0 self.old.chair self.new.chair }
         ensures answer { Chains item result (owner_view self.old) (owner_view self.new) }
         ensures same { IsSame (owner_view self.old) (owner_view self.new) }
         ensures batch { batch (owner_view self.new).seen ≡ batch (owner_view self.old).seen ++ queued_number item result }
-        ensures shut { IsClosed (owner_view self.new).seen }
+        ensures shut { IsShut (owner_view self.new).seen }
+        ensures closed { IsClosed (owner_view self.old).seen → IsClosed (owner_view self.new).seen }
         ensures runs { IsRunning (owner_view self.new).seen }
     {
         if self.chair.chain::<First>(item) != 0 {

@@ -4,7 +4,7 @@ ghost use mathlib.Core.List.{IsPrefix};
 ghost use Rattle.wq_words.specs.declared.answer.Answer.TheVariants.{Contended};
 ghost use Rattle.wq_words.specs.declared.event.Event.TheVariants.{Take, Close, Begin, End};
 ghost use Rattle.wq_words.specs.Numbers.{number_count};
-ghost use Rattle.wq_words.specs.History.{IsClosed, closed, IsRunning, running};
+ghost use Rattle.wq_words.specs.History.{IsClosed, IsShut, closed, IsRunning, running};
 ghost use Rattle.wq_words.specs.Legal.{IsLegal};
 ghost use Rattle.wq_words.specs.Headline.{KeepsHeadline};
 ghost use Rattle.wq_words.specs.Seen.{owner_seat, Grows};
@@ -147,11 +147,12 @@ impl Pair {
 
     /// As `Owner::take`: the owner's events, and none of the sender's.
     pub fn take(&mut self) -> u32
-        requires open { ¬ IsClosed self.old.seen }
+        requires open { ¬ IsShut self.old.seen }
         requires empty { batch self.old.seen ≡ [] }
         ensures seen { Sees (Take ∷ []) 0 (pair_owner self.old) (pair_owner self.new) }
         ensures takes { TakesAll Take result self.new.seen }
         ensures count { result ≡ length (batch self.new.seen) }
+        ensures open { ¬ IsShut self.new.seen }
         ensures unclosed { ¬ IsClosed self.new.seen }
         ensures idle { ¬ IsRunning self.old.seen → ¬ IsRunning self.new.seen }
         ensures runs { IsRunning self.old.seen → IsRunning self.new.seen }
@@ -162,12 +163,13 @@ impl Pair {
 
     /// As `Owner::close`: the owner's events, and none of the sender's.
     pub fn close(&mut self) -> u32
-        requires open { ¬ IsClosed self.old.seen }
+        requires unclosed { ¬ IsClosed self.old.seen }
         ensures seen { Sees (Close ∷ []) 0 (pair_owner self.old) (pair_owner self.new) }
         ensures takes { TakesAll Close result self.new.seen }
         ensures behind { IsPrefix (batch self.old.seen) (batch self.new.seen) }
         ensures count { length (batch self.new.seen) ≡ length (batch self.old.seen) + result }
-        ensures shut { IsClosed self.new.seen }
+        ensures closed { IsClosed self.new.seen }
+        ensures shut { IsShut self.new.seen }
         ensures idle { ¬ IsRunning self.old.seen → ¬ IsRunning self.new.seen }
         ensures runs { IsRunning self.old.seen → IsRunning self.new.seen }
         ensures others { Sees [] 0 (pair_sender self.old) (pair_sender self.new) }
@@ -199,7 +201,9 @@ impl Pair {
         ensures batch { batch self.old.seen ≡ result ∷ batch self.new.seen }
         ensures runs { IsRunning self.new.seen }
         ensures running { running self.new.seen ≡ Some result }
-        ensures shut { IsClosed self.old.seen → IsClosed self.new.seen }
+        ensures shut { IsShut self.old.seen → IsShut self.new.seen }
+        ensures closed { IsClosed self.old.seen → IsClosed self.new.seen }
+        ensures open { ¬ IsShut self.old.seen → ¬ IsShut self.new.seen }
         ensures unclosed { ¬ IsClosed self.old.seen → ¬ IsClosed self.new.seen }
         ensures others { Sees [] 0 (pair_sender self.old) (pair_sender self.new) }
     {
@@ -212,7 +216,9 @@ impl Pair {
         ensures seen { (k : ℕ) → running self.old.seen ≡ Some k → Sees (End k ∷ []) 0 (pair_owner self.old) (pair_owner self.new) }
         ensures batch { batch self.new.seen ≡ batch self.old.seen }
         ensures idle { ¬ IsRunning self.new.seen }
-        ensures shut { IsClosed self.old.seen → IsClosed self.new.seen }
+        ensures shut { IsShut self.old.seen → IsShut self.new.seen }
+        ensures closed { IsClosed self.old.seen → IsClosed self.new.seen }
+        ensures open { ¬ IsShut self.old.seen → ¬ IsShut self.new.seen }
         ensures unclosed { ¬ IsClosed self.old.seen → ¬ IsClosed self.new.seen }
         ensures others { Sees [] 0 (pair_sender self.old) (pair_sender self.new) }
     {
@@ -221,12 +227,13 @@ impl Pair {
 
     /// As `Owner::rest`: the owner's events, and none of the sender's.
     pub fn rest(&mut self) -> bool
-        requires open { ¬ IsClosed self.old.seen }
+        requires open { ¬ IsShut self.old.seen }
         requires empty { batch self.old.seen ≡ [] }
         requires idle { ¬ IsRunning self.old.seen }
         ensures seen { Rests result (pair_owner self.old) (pair_owner self.new) }
         ensures rested { IsTrue result → HasRested self.new.seen }
         ensures refused { result ≡ false → MayNotRest self.new.seen }
+        ensures open { ¬ IsShut self.new.seen }
         ensures unclosed { ¬ IsClosed self.new.seen }
         ensures empty { batch self.new.seen ≡ [] }
         ensures idle { ¬ IsRunning self.new.seen }
@@ -238,11 +245,12 @@ impl Pair {
     /// As `Owner::chain`: the owner's events, and none of the sender's.
     pub fn chain(&mut self, item: u32) -> Answer
         requires item { item < self.old.layout.items }
-        requires shut { IsClosed self.old.seen }
+        requires shut { IsShut self.old.seen }
         requires runs { IsRunning self.old.seen }
         ensures answer { Chains item result (pair_owner self.old) (pair_owner self.new) }
         ensures batch { batch self.new.seen ≡ batch self.old.seen ++ queued_number item result }
-        ensures shut { IsClosed self.new.seen }
+        ensures shut { IsShut self.new.seen }
+        ensures closed { IsClosed self.old.seen → IsClosed self.new.seen }
         ensures runs { IsRunning self.new.seen }
         ensures others { Sees [] 0 (pair_sender self.old) (pair_sender self.new) }
     {

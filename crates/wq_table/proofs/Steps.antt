@@ -11,7 +11,7 @@ use Rattle.wq_words.specs.declared.event.Event.{Event}
 use Rattle.wq_words.specs.Numbers.{number_count}
 use Rattle.wq_words.specs.declared.head.Head.TheVariants.{Item}
 use Rattle.wq_words.specs.Head.{head_word, busy_word}
-use Rattle.wq_words.specs.History.{Holds, IsClosed, IsRunning}
+use Rattle.wq_words.specs.History.{Holds, IsClosed, IsShut, IsRunning}
 use Rattle.wq_core.specs.declared.step.Private.{Private}
 use Rattle.wq_core.specs.declared.step.Seat.TheVariants.{Sender}
 use Rattle.wq_core.specs.declared.step.Step.{Step}
@@ -151,14 +151,14 @@ module _ (c : ℕ) (layout : Layout) (seen : List Event) (words : List ℕ) wher
   }
   performs_back k why (Owns cursor walked batch) sender number holds sees = absurd sender
 
-  pub performs_take : (stage : Stage) → ¬ IsClosed seen → IsRested stage → HasNone stage
+  pub performs_take : (stage : Stage) → ¬ IsShut seen → IsRested stage → HasNone stage
       → Performs (part c layout seen words stage) Take 0 (λ n. busy_word) (λ n. n)
-  performs_take (Sends p) unclosed rested none = absurd rested
-  performs_take (Owns cursor walked batch) unclosed rested none = record {
+  performs_take (Sends p) opens rested none = absurd rested
+  performs_take (Owns cursor walked batch) opens rested none = record {
     made = λ m sound fits. (
       (refl, tt),
       (
-        (λ closed. unclosed (closed_same m.history seen (rw (← fits.keeps.0) (sym fits.mine)) closed)),
+        (λ shut. opens (closed_same m.history seen (rw (← fits.keeps.0) (sym fits.mine)) shut)),
         fits.keeps.1 ∙ rested,
         fits.keeps.3 ∙ none,
       ),
@@ -222,14 +222,14 @@ module _ (c : ℕ) (layout : Layout) (seen : List Event) (words : List ℕ) wher
     finds = λ m sound fits. rw fits.layout_is refl;
   }
 
-  pub performs_chain : (k : ℕ) (stage : Stage) → k < layout.items → IsClosed seen → IsRested stage → IsRunning seen
+  pub performs_chain : (k : ℕ) (stage : Stage) → k < layout.items → IsShut seen → IsRested stage → IsRunning seen
       → Performs (part c layout seen words stage) (Chain k) (item_place (number_count layout) k) (λ n. bit_or n 1) (λ n. n)
-  performs_chain k (Sends p) item closed rested runs = absurd rested
-  performs_chain k (Owns cursor walked batch) item closed rested runs = record {
+  performs_chain k (Sends p) item shut rested runs = absurd rested
+  performs_chain k (Owns cursor walked batch) item shut rested runs = record {
     made = λ m sound fits. (
       (refl, rw (← fits.layout_is) item),
       (
-        closed_same seen m.history (rw (← fits.keeps.0) fits.mine) closed,
+        closed_same seen m.history (rw (← fits.keeps.0) fits.mine) shut,
         fits.keeps.1 ∙ rested,
         running_same seen m.history (rw (← fits.keeps.0) fits.mine) runs,
       ),
@@ -239,14 +239,14 @@ module _ (c : ℕ) (layout : Layout) (seen : List Event) (words : List ℕ) wher
     finds = λ m sound fits. rw fits.layout_is refl;
   }
 
-  pub performs_rest : (stage : Stage) → ¬ IsClosed seen → IsRested stage → HasNone stage → ¬ IsRunning seen
+  pub performs_rest : (stage : Stage) → ¬ IsShut seen → IsRested stage → HasNone stage → ¬ IsRunning seen
       → Performs (part c layout seen words stage) Rest 0 (λ n. either (eqb n busy_word) idle_word n) (λ n. n)
-  performs_rest (Sends p) unclosed rested none idle = absurd rested
-  performs_rest (Owns cursor walked batch) unclosed rested none idle = record {
+  performs_rest (Sends p) opens rested none idle = absurd rested
+  performs_rest (Owns cursor walked batch) opens rested none idle = record {
     made = λ m sound fits. (
       (refl, tt),
       (
-        (λ closed. unclosed (closed_same m.history seen (rw (← fits.keeps.0) (sym fits.mine)) closed)),
+        (λ shut. opens (closed_same m.history seen (rw (← fits.keeps.0) (sym fits.mine)) shut)),
         fits.keeps.1 ∙ rested,
         fits.keeps.3 ∙ none,
         (λ runs. idle (running_same m.history seen (rw (← fits.keeps.0) (sym fits.mine)) runs)),

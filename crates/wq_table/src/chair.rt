@@ -5,7 +5,7 @@ ghost use Rattle.wq_table.specs.declared.table.Part.{Part};
 ghost use Rattle.wq_table.specs.Plays.{Performs};
 ghost use Rattle.wq_words.specs.Numbers.{number_count};
 ghost use Rattle.wq_words.specs.declared.event.Why.TheVariants.{Closed, Contended, Cancelled};
-ghost use Rattle.wq_words.specs.History.{Holds, IsClosed, IsRunning};
+ghost use Rattle.wq_words.specs.History.{Holds, IsClosed, IsShut, IsRunning};
 ghost use Rattle.wq_core.specs.Words.{word_count, closed_word, link_word};
 ghost use Rattle.wq_core.specs.declared.step.Step.TheVariants.{Hold, Look, Link, Push, Back, Check, Take, Close, Walk, Begin, End, Chain, Turn, Rest};
 ghost use Rattle.wq_table.specs.Chair.{part_at, IsSender, HasSeen, HasLinked, HasNone, IsOwner, IsToWalk, IsToTurn, IsToBegin, IsRested, Steps, Meet, MeetAll, Joined};
@@ -236,7 +236,7 @@ impl Chair {
 
     /// The owner takes the whole list, leaves the mark of a queue at work, and learns the head as it was.
     pub fn take<P: Place>(&mut self) -> u64
-        requires open { ¬ IsClosed (part_at P.at self.old).seen }
+        requires open { ¬ IsShut (part_at P.at self.old).seen }
         requires rested { IsRested (part_at P.at self.old).stage }
         requires empty { HasNone (part_at P.at self.old).stage }
         ensures step { Steps P.at Take result self.old self.new }
@@ -246,7 +246,7 @@ impl Chair {
 
     /// The owner takes the whole list and leaves the closed mark.
     pub fn close<P: Place>(&mut self) -> u64
-        requires open { ¬ IsClosed (part_at P.at self.old).seen }
+        requires unclosed { ¬ IsClosed (part_at P.at self.old).seen }
         requires rested { IsRested (part_at P.at self.old).stage }
         ensures step { Steps P.at Close result self.old self.new }
     {
@@ -297,10 +297,10 @@ impl Chair {
         self.add::<Ends, P>(place, 1);
     }
 
-    /// The owner sets the PENDING bit of an item of the closed queue, and learns its item word as it was.
+    /// The owner sets the PENDING bit of an item while the queue is shut, and learns its item word as it was.
     pub fn chain<P: Place>(&mut self, number: u32) -> u64
         requires item { number < (part_at P.at self.old).layout.items }
-        requires closed { IsClosed (part_at P.at self.old).seen }
+        requires shut { IsShut (part_at P.at self.old).seen }
         requires rested { IsRested (part_at P.at self.old).stage }
         requires runs { IsRunning (part_at P.at self.old).seen }
         ensures step { Steps P.at (Chain number) result self.old self.new }
@@ -312,7 +312,7 @@ impl Chair {
     /// The owner, with nothing that waits or runs, exchanges the mark of a queue at work for that of a queue that rests, and
     /// learns the head as it was.
     pub fn rest<P: Place>(&mut self) -> u64
-        requires open { ¬ IsClosed (part_at P.at self.old).seen }
+        requires open { ¬ IsShut (part_at P.at self.old).seen }
         requires rested { IsRested (part_at P.at self.old).stage }
         requires empty { HasNone (part_at P.at self.old).stage }
         requires idle { ¬ IsRunning (part_at P.at self.old).seen }

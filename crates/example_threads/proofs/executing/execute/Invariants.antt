@@ -1,7 +1,8 @@
-use Rattle.wq_words.specs.History.{IsRunning, IsClosed}
+use Rattle.wq_words.specs.History.{IsRunning, IsClosed, IsShut}
 use Rattle.wq_live.specs.Known.{IsSame}
 use Rattle.example_threads.proofs.executing.execute.Given as goal
 
 abbrev pub invariant-loop : goal.invariant-loop
 invariant-loop g l = IsSame l.fn.owner l.owner × (¬ IsRunning l.owner.seen)
-    × (IsClosed l.fn.owner.seen → IsClosed l.owner.seen) × (¬ IsClosed l.fn.owner.seen → ¬ IsClosed l.owner.seen)
+    × (¬ IsShut l.fn.owner.seen → ¬ IsShut l.owner.seen) × (¬ IsClosed l.fn.owner.seen → ¬ IsClosed l.owner.seen)
+    × (IsClosed l.fn.owner.seen → IsClosed l.owner.seen)

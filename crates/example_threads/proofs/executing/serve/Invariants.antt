@@ -1,8 +1,8 @@
 use Rattle.std.specs.Prelude.{◌≡◌, []}
-use Rattle.wq_words.specs.History.{IsRunning, IsClosed}
+use Rattle.wq_words.specs.History.{IsRunning, IsShut}
 use Rattle.wq_live.specs.Known.{IsSame}
 use Rattle.wq_live.specs.Batch.{batch}
 use Rattle.example_threads.proofs.executing.serve.Given as goal
 
 abbrev pub invariant-loop : goal.invariant-loop
-invariant-loop g l = IsSame l.fn.owner l.owner × (¬ IsClosed l.owner.seen) × (batch l.owner.seen ≡ []) × (¬ IsRunning l.owner.seen)
+invariant-loop g l = IsSame l.fn.owner l.owner × (¬ IsShut l.owner.seen) × (batch l.owner.seen ≡ []) × (¬ IsRunning l.owner.seen)

@@ -8,7 +8,7 @@ use Rattle.wq_live.specs.Sits.{kept_batch}
 use Rattle.wq_live.proofs.Tells.{Tells}
 use Rattle.wq_live.proofs.Owned.{running_begun, closed_quiet, counts_quiet, rests_on}
 use Rattle.wq_live.proofs.Taking.{sees_then}
-use Rattle.wq_live.proofs.Resting.{open_stays}
+use Rattle.wq_live.proofs.Resting.{shut_stays, open_stays, unclosed_stays}
 use Rattle.wq_live.proofs.Hanging.{first_of_row, first_known, begun_row}
 use Rattle.wq_live.proofs.OwnerTells.{makes_stands, stands_batch, to_begin, begin_tells, begin_stage, owner_batch, owner_idle, owner_grows, owner_sees}
 use Rattle.wq_live.proofs.owner_seat.OwnerSeat.begin.Goals as goal
@@ -90,8 +90,16 @@ returns-clause-batch c = let s = c.args.self.now in let o = c.requires.owns in l
     ap (λ (xs : List ℕ). k ∷ xs) (stands_batch r others (makes_stands _ _ q r makes)
     (begin_stage k c.begin.ensures.step.0 q r others e.first.stage_is makes)))
 
+pub returns-clause-shut : goal.returns-clause-shut
+returns-clause-shut c = shut_stays (Begin c.args.self.now.row.front ∷ []) 0 (owner_view c.args.self.now) _ refl
+    (returns-clause-seen c) refl
+
+pub returns-clause-open : goal.returns-clause-open
+returns-clause-open c = open_stays (Begin c.args.self.now.row.front ∷ []) 0 (owner_view c.args.self.now) _ refl
+    (returns-clause-seen c) refl
+
 pub returns-clause-unclosed : goal.returns-clause-unclosed
-returns-clause-unclosed c = open_stays (Begin c.args.self.now.row.front ∷ []) 0 (owner_view c.args.self.now) _ refl
+returns-clause-unclosed c = unclosed_stays (Begin c.args.self.now.row.front ∷ []) 0 (owner_view c.args.self.now) _ refl
     (returns-clause-seen c) refl
 
 pub returns-clause-follow : goal.returns-clause-follow

@@ -11,7 +11,7 @@ use Rattle.std.proofs.lemmas.List.{append-nil}
 use Rattle.wq_live.specs.Batch.{batch}
 use Rattle.wq_live.specs.Sits.{HasBoth, kept_batch}
 use Rattle.wq_live.proofs.Linking.{has_row_after}
-use Rattle.wq_live.proofs.Resting.{closed_stays, quiet_runs}
+use Rattle.wq_live.proofs.Resting.{closed_stays, shut_stays, quiet_runs}
 use Rattle.wq_live.proofs.Hanging.{chained_behind}
 use Rattle.wq_live.proofs.Taking.{followed}
 use Rattle.wq_live.proofs.OwnerTells.{makes_stands, stands_batch, owner_batch, pair_owner, chain_tells, chain_stage, owner_grows, owner_sees}
@@ -52,7 +52,8 @@ returns-then-chain-ne0 c =
       same = sees.same;
       batch = sym (stands_batch q (kept_batch p.stage) (makes_stands _ _ p q c.chain.ensures.step.moves.makes) stage)
           ∙ (owner_batch s (owner_view c.args.self.now) refl o ∙ sym (append-nil (batch (owner_view c.args.self.now).seen)));
-      shut = closed_stays (ChainBusy k ∷ []) 0 (owner_view c.args.self.now) _ sees c.requires.shut;
+      shut = shut_stays (ChainBusy k ∷ []) 0 (owner_view c.args.self.now) _ refl sees refl c.requires.shut;
+      closed = closed_stays (ChainBusy k ∷ []) 0 (owner_view c.args.self.now) _ sees;
       runs = quiet_runs (ChainBusy k ∷ []) 0 (owner_view c.args.self.now) _ refl sees refl refl c.requires.runs;
     }
 
@@ -99,6 +100,7 @@ returns c = let s = c.args.self.now in let o = c.requires.owns in let k = c.args
       same = sees.same;
       batch = sym (stands_batch r (kept_batch p.stage ++ k ∷ []) e.stands (e.stage ∙ stage))
           ∙ ap (λ (ks : List ℕ). ks ++ k ∷ []) (owner_batch s (owner_view c.args.self.now) refl o);
-      shut = closed_stays (Chain k ∷ []) 0 (owner_view c.args.self.now) _ sees c.requires.shut;
+      shut = shut_stays (Chain k ∷ []) 0 (owner_view c.args.self.now) _ refl sees refl c.requires.shut;
+      closed = closed_stays (Chain k ∷ []) 0 (owner_view c.args.self.now) _ sees;
       runs = quiet_runs (Chain k ∷ []) 0 (owner_view c.args.self.now) _ refl sees refl refl c.requires.runs;
     }

@@ -14,8 +14,8 @@ use Rattle.wq_live.proofs.Linking.{walks_kept, walks_batch, walks_row}
 use Rattle.wq_live.proofs.Taking.{followed, close_takes}
 use Rattle.wq_live.proofs.owner_seat.OwnerSeat.close.Goals as goal
 
-pub close-head-requires-clause-open : goal.close-head-requires-clause-open
-close-head-requires-clause-open c = c.requires.open
+pub close-head-requires-clause-unclosed : goal.close-head-requires-clause-unclosed
+close-head-requires-clause-unclosed c = c.requires.unclosed
 
 pub walk_all-self-requires-clause-stands : goal.walk_all-self-requires-clause-stands
 walk_all-self-requires-clause-stands c = makes_stands _ _ c.args.self.now.chair.part c.close-head.new.self.part c.close-head.ensures.step.moves.makes

@@ -9,7 +9,7 @@ use Rattle.wq_live.proofs.Owned.{running_ended, closed_quiet, counts_ended}
 use Rattle.wq_core.specs.declared.step.Step.TheVariants as step
 use Rattle.wq_live.specs.Sits.{kept_batch, owner_view}
 use Rattle.wq_live.proofs.Linking.{has_row_after}
-use Rattle.wq_live.proofs.Resting.{closed_stays, open_stays}
+use Rattle.wq_live.proofs.Resting.{closed_stays, unclosed_stays, shut_stays, open_stays}
 use Rattle.wq_live.proofs.OwnerTells.{makes_stands, stands_batch, owner_batch, pair_owner, end_tells, end_stage, owner_runs, owner_grows, owner_sees}
 use Rattle.wq_live.proofs.owner_seat.OwnerSeat.end.Goals as goal
 
@@ -44,8 +44,10 @@ returns c = let s = c.args.self.now in let o = c.requires.owns in let p = s.chai
       batch = sym (stands_batch q (kept_batch p.stage) (makes_stands _ _ p q c.end.ensures.step.1.moves.makes)
           (end_stage c.end.ensures.step.0 p q (kept_batch p.stage) o.has_row.stage_is c.end.ensures.step.1.moves.makes))
           ∙ owner_batch s (owner_view c.args.self.now) refl o;
-      shut = closed_stays (End some.0 ∷ []) 0 (owner_view c.args.self.now) (owner_view t) (sees some.0 some.1);
-      unclosed = open_stays (End some.0 ∷ []) 0 (owner_view c.args.self.now) (owner_view t) refl (sees some.0 some.1) refl;
+      shut = shut_stays (End some.0 ∷ []) 0 (owner_view c.args.self.now) (owner_view t) refl (sees some.0 some.1) refl;
+      closed = closed_stays (End some.0 ∷ []) 0 (owner_view c.args.self.now) (owner_view t) (sees some.0 some.1);
+      «open» = open_stays (End some.0 ∷ []) 0 (owner_view c.args.self.now) (owner_view t) refl (sees some.0 some.1) refl;
+      unclosed = unclosed_stays (End some.0 ∷ []) 0 (owner_view c.args.self.now) (owner_view t) refl (sees some.0 some.1) refl;
       idle = rests_from_running q.seen
           (running_ended some.0 0 p.seen q.seen (owner_grows (End some.0 ∷ []) 0 s t o (tells some.0 some.1)) (owner_runs p o.stands runs));
     }

@@ -3,7 +3,7 @@ use Rattle.wq_table.proofs.Beside.{follow_step}
 use Rattle.wq_live.specs.Sits.{owner_view}
 use Rattle.wq_live.specs.Sits.{kept_batch}
 use Rattle.wq_live.proofs.OwnerTells.{owner_batch, none_of}
-use Rattle.wq_live.proofs.Rest.{rest_owns, rest_sees, rest_rested, rest_refused, rest_empty, rests_same, rests_idle, rests_open}
+use Rattle.wq_live.proofs.Rest.{rest_owns, rest_sees, rest_rested, rest_refused, rest_empty, rests_same, rests_idle, rests_open, rests_unclosed}
 use Rattle.wq_live.proofs.owner_seat.OwnerSeat.rest.Goals as goal
 
 pub rest-head-requires-clause-open : goal.rest-head-requires-clause-open
@@ -27,7 +27,8 @@ returns c = let s = c.args.self.now in let o = c.requires.owns in let e = c.rest
       rested = rest_rested s q now w refl o e.queue_is e.moves.makes c.requires.open;
       refused = rest_refused s q now w refl o e.queue_is e.moves.makes c.requires.open;
       same = rests_same _ now _ sees;
-      unclosed = rests_open _ now _ mine sees c.requires.open;
+      «open» = rests_open _ now _ mine sees c.requires.open;
+      unclosed = rests_unclosed _ now _ mine sees c.requires.open;
       empty = rest_empty s q now w refl o e.queue_is e.moves.makes c.requires.open c.requires.empty;
       idle = rests_idle _ now _ mine sees c.requires.idle;
     }

@@ -7,7 +7,7 @@ use Rattle.wq_live.specs.Sits.{kept_batch}
 use Rattle.wq_live.proofs.Tells.{Tells}
 use Rattle.wq_live.proofs.Owned.{running_quiet, closed_quiet, counts_quiet}
 use Rattle.wq_live.proofs.OwnerTells.{makes_stands, stands_batch, owner_batch, pair_owner, none_of, take_tells, taken_stage, owner_grows, owner_sees}
-use Rattle.wq_live.proofs.Resting.{quiet_idle, quiet_runs, open_stays}
+use Rattle.wq_live.proofs.Resting.{quiet_idle, quiet_runs, open_stays, unclosed_stays}
 use Rattle.wq_live.proofs.Linking.{walks_kept, walks_row}
 use Rattle.wq_live.proofs.Taking.{followed, take_takes}
 use Rattle.wq_live.proofs.owner_seat.OwnerSeat.take.Goals as goal
@@ -70,9 +70,12 @@ pub returns-clause-count : goal.returns-clause-count
 returns-clause-count c = let e = c.walk_all-self.ensures in let r = c.walk_all-self.new.chair.part in
     omega (arith, e.has_row.row_is.count_is, ap (λ (xs : List ℕ). length xs) (stands_batch r (kept_batch r.stage) e.stands e.has_row.stage_is))
 
+pub returns-clause-open : goal.returns-clause-open
+returns-clause-open c = open_stays (Take ∷ []) 0 (owner_view c.args.self.now) _ refl (returns-clause-seen c) refl c.requires.open
+
 pub returns-clause-unclosed : goal.returns-clause-unclosed
 returns-clause-unclosed c =
-    open_stays (Take ∷ []) 0 (owner_view c.args.self.now) _ refl (returns-clause-seen c) refl c.requires.open
+    unclosed_stays (Take ∷ []) 0 (owner_view c.args.self.now) _ refl (returns-clause-seen c) refl c.requires.open
 
 pub returns-clause-runs : goal.returns-clause-runs
 returns-clause-runs c = quiet_runs (Take ∷ []) 0 (owner_view c.args.self.now) _ refl (returns-clause-seen c) refl refl

@@ -9,7 +9,7 @@ pub or-requires-clause-performs : goal.or-requires-clause-performs
 or-requires-clause-performs g c = let p = part_at g.P.Place.at c.args.self.now in let k = c.args.number in
     placed p (λ (n : ℕ). Chain n) _ k _ _ (item_in g.P.Place.at c.self.inside c.args.self.now _ k c.self.invariant c.self.view_is
     c.item_place-place.ensures.place)
-    (performs_chain p.seat p.layout p.seen p.words k p.stage c.requires.item c.requires.closed c.requires.rested c.requires.runs)
+    (performs_chain p.seat p.layout p.seen p.words k p.stage c.requires.item c.requires.shut c.requires.rested c.requires.runs)
 
 pub returns : goal.returns
 returns g c = let back = number_placed _ c.args.number (part_at g.P.Place.at c.args.self.now).layout

@@ -8,4 +8,4 @@ use Rattle.wq_table.proofs.chair.Chair.close.Goals as goal
 pub swap-requires-clause-performs : goal.swap-requires-clause-performs
 swap-requires-clause-performs g c = let p = part_at g.P.Place.at c.args.self.now in
     subst (λ (w : ℕ). Performs p Close 0 (λ _. w) (λ n. n)) (sym c.to_word-word.ensures.word)
-    (performs_close p.seat p.layout p.seen p.words p.stage c.requires.open c.requires.rested)
+    (performs_close p.seat p.layout p.seen p.words p.stage c.requires.unclosed c.requires.rested)
