@@ -8,7 +8,7 @@ use Rattle.wq_words.specs.History.{running}
 use Rattle.wq_core.specs.declared.step.Private.{Private}
 use Rattle.wq_core.specs.declared.step.Seat.TheVariants.{Owner}
 use Rattle.wq_core.specs.declared.step.Step.{Step}
-use Rattle.wq_core.specs.declared.step.Step.TheVariants.{Hold, Look, Link, Push, Back, Check, Take, Close, Walk, Begin, End, Chain, Turn, Rest}
+use Rattle.wq_core.specs.declared.step.Step.TheVariants.{Hold, Look, Link, Push, Back, Check, Take, Close, Drain, Resume, Walk, Begin, End, Chain, Turn, Rest}
 use Rattle.wq_words.specs.Head.{busy_word}
 use Rattle.wq_core.specs.Words.{number_at}
 use Rattle.wq_core.specs.Machine.{Machine, nothing_seen, private, seen_word, head, link, item_word, with_item, with_private, happened, unlinked, after_walk, after_begin, after_end, after, first_of, StandsIn}
@@ -127,6 +127,8 @@ changes m c (Sends p) (Back k why) keeps = sent m c _ _ (event.Back c k why) ref
 changes m c (Sends p) _ keeps = unchanged m c
 changes m c (Owns cursor walked batch) Take keeps = did m c keeps.0 _ _ m.walked m.batch event.Take refl
 changes m c (Owns cursor walked batch) Close keeps = did m c keeps.0 _ _ m.walked m.batch event.Close refl
+changes m c (Owns cursor walked batch) Drain keeps = did m c keeps.0 _ _ m.walked m.batch event.Drain refl
+changes m c (Owns cursor walked batch) Resume keeps = did m c keeps.0 _ _ m.walked m.batch event.Resume refl
 changes m c (Owns cursor walked batch) Walk keeps = change_walk m c keeps.0 m.cursor
 changes m c (Owns cursor walked batch) Begin keeps = change_begin m c keeps.0 m.batch
 changes m c (Owns cursor walked batch) End keeps = change_end m c keeps.0 (running m.history)
@@ -230,6 +232,8 @@ keeps_after m c (Sends p) (Check k) sound keeps made = keeps
 keeps_after m c (Sends p) _ sound keeps made = absurd made.1
 keeps_after m c (Owns cursor walked batch) Take sound keeps made = (keeps.0, refl, keeps.2, keeps.3)
 keeps_after m c (Owns cursor walked batch) Close sound keeps made = (keeps.0, refl, keeps.2, keeps.3)
+keeps_after m c (Owns cursor walked batch) Drain sound keeps made = (keeps.0, refl, keeps.2, keeps.3)
+keeps_after m c (Owns cursor walked batch) Resume sound keeps made = (keeps.0, refl, keeps.2, keeps.3)
 keeps_after m c (Owns cursor walked batch) Walk sound keeps made =
     subst (λ (st : Stage). HasStage (after m Owner Walk) c (stage_after st Walk (word_found m c Walk))) (own_again m c cursor walked batch keeps)
     (keeps_walk m c m.cursor keeps.0 refl)

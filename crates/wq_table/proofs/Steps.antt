@@ -6,18 +6,18 @@ use prog.Atomic.{either}
 use lib.Seq.{set-get_or}
 use Rattle.wq_words.specs.declared.layout.Layout.{Layout}
 use Rattle.wq_words.specs.declared.event.Why.{Why}
-use Rattle.wq_words.specs.declared.event.Why.TheVariants.{Closed}
+use Rattle.wq_words.specs.declared.event.Why.TheVariants.{Closed, Draining}
 use Rattle.wq_words.specs.declared.event.Event.{Event}
 use Rattle.wq_words.specs.Numbers.{number_count}
 use Rattle.wq_words.specs.declared.head.Head.TheVariants.{Item}
 use Rattle.wq_words.specs.Head.{head_word, busy_word}
-use Rattle.wq_words.specs.History.{Holds, IsClosed, IsShut, IsRunning}
+use Rattle.wq_words.specs.History.{Holds, IsClosed, IsShut, IsDraining, IsRunning}
 use Rattle.wq_core.specs.declared.step.Private.{Private}
 use Rattle.wq_core.specs.declared.step.Seat.TheVariants.{Sender}
 use Rattle.wq_core.specs.declared.step.Step.{Step}
-use Rattle.wq_core.specs.declared.step.Step.TheVariants.{Hold, Link, Push, Back, Check, Take, Close, Begin, End, Chain, Turn, Rest}
-use Rattle.wq_core.specs.Words.{link_place, item_place, done_place, closed_word, idle_word, link_word}
-use Rattle.wq_core.specs.Machine.{Machine, seen_word, head, item_word, after_begin, after_end, after, StandsIn}
+use Rattle.wq_core.specs.declared.step.Step.TheVariants.{Hold, Link, Push, Back, Check, Take, Close, Drain, Resume, Begin, End, Chain, Turn, Rest}
+use Rattle.wq_core.specs.Words.{link_place, item_place, done_place, closed_word, draining_word, idle_word, TakesPushes, link_word}
+use Rattle.wq_core.specs.Machine.{Machine, HasSeenOpen, HasSeenCause, seen_word, head, item_word, after_begin, after_end, after, StandsIn}
 use Rattle.wq_core.specs.Sound.{IsSound}
 use Rattle.wq_table.specs.declared.table.Part.{Part}
 use Rattle.wq_table.specs.declared.table.Stage.{Stage}
@@ -27,6 +27,7 @@ use Rattle.wq_table.specs.Plays.{Performs, item_at}
 use Rattle.wq_table.specs.Chair.{IsSender, HasSeen, HasLinked, IsOwner, IsRested, HasNone, IsToTurn, IsToBegin}
 use Rattle.wq_words.proofs.Running.{runs_some}
 use Rattle.wq_words.proofs.Seen.{held_same, closed_same, running_same}
+use Rattle.wq_words.proofs.ShutOwn.{shut_same}
 
 -- an item word is a bit
 pub item_word-bit : (m : Machine) → IsSound m → (k : ℕ) → k < number_count m.layout → item_word m k < 2
@@ -62,6 +63,24 @@ exchanges x y ws old new w is at_x at_y false miss = at_y ∙ (loads ws 0 ∙ ap
 pub sender_seen : (word : ℕ) (stage : Stage) → HasSeen word stage → IsSender stage
 sender_seen word (Sends p) is = tt
 sender_seen word (Owns cursor walked batch) is = absurd is
+
+-- a sender that saw what it gives a number back for
+abbrev pub SawCause : Why → Stage → Type 0
+SawCause why (Sends p) = HasSeenCause why p.seen
+SawCause why (Owns cursor walked batch) = ⊥
+
+pub saw_closed : (stage : Stage) → HasSeen closed_word stage → SawCause Closed stage
+saw_closed (Sends p) is = is
+saw_closed (Owns cursor walked batch) is = is
+
+pub saw_draining : (stage : Stage) → HasSeen draining_word stage → SawCause Draining stage
+saw_draining (Sends p) is = is
+saw_draining (Owns cursor walked batch) is = is
+
+-- for the other causes it need have seen nothing
+pub saw_any : (why : Why) (stage : Stage) → ((seen : Option ℕ) → HasSeenCause why seen) → IsSender stage → SawCause why stage
+saw_any why (Sends p) free is = free p.seen
+saw_any why (Owns cursor walked batch) free is = is
 
 -- the number whose item word stands there
 pub number_placed : (i k : ℕ) (layout : Layout) → i ≡ item_place (number_count layout) k → item_at i layout ≡ k
@@ -107,22 +126,18 @@ module _ (c : ℕ) (layout : Layout) (seen : List Event) (words : List ℕ) wher
   }
   performs_check k (Owns cursor walked batch) sender number = absurd sender
 
-  pub performs_link : (k w : ℕ) (stage : Stage) → k < number_count layout → Holds seen c k → HasSeen w stage → w ≢ closed_word
+  pub performs_link : (k w : ℕ) (stage : Stage) → k < number_count layout → Holds seen c k → HasSeen w stage → TakesPushes w
       → Performs (part c layout seen words stage) (Link k) (link_place k) (λ n. link_word w) (λ n. link_word w)
-  performs_link k w (Sends p) number holds is unclosed = record {
+  performs_link k w (Sends p) number holds is opens = record {
     made = λ m sound fits. (
       ((fits.keeps.0, refl), rw (← fits.layout_is) number),
-      (
-        held_same c k seen m.history fits.mine holds,
-        (λ e. let s = ap (λ (p : Private). p.seen) fits.keeps.1 in absurd (cc (s, e, is))),
-        (λ e. let s = ap (λ (p : Private). p.seen) fits.keeps.1 in let same : w ≡ closed_word = cc (s, e, is) in unclosed same),
-      ),
+      (held_same c k seen m.history fits.mine holds, subst HasSeenOpen (sym (ap (λ (p : Private). p.seen) fits.keeps.1 ∙ is)) opens),
     );
     writes = λ m sound fits. ap (λ (v : ℕ). set m.words (link_place k) (link_word v)) (ap (λ (p : Private). unwrap_or p.seen 0) fits.keeps.1 ∙
         ap (λ (o : Option ℕ). unwrap_or o 0) is);
     finds = λ m sound fits. ap link_word (sym (ap (λ (p : Private). unwrap_or p.seen 0) fits.keeps.1 ∙ ap (λ (o : Option ℕ). unwrap_or o 0) is));
   }
-  performs_link k w (Owns cursor walked batch) number holds is unclosed = absurd is
+  performs_link k w (Owns cursor walked batch) number holds is opens = absurd is
 
   pub performs_push : (k w : ℕ) (stage : Stage) → k < number_count layout → HasLinked w k stage
       → Performs (part c layout seen words stage) (Push k) 0 (λ n. either (eqb n w) (k + 1) n) (λ n. n)
@@ -136,20 +151,19 @@ module _ (c : ℕ) (layout : Layout) (seen : List Event) (words : List ℕ) wher
   }
   performs_push k w (Owns cursor walked batch) number is = absurd is
 
-  pub performs_back : (k : ℕ) (why : Why) (stage : Stage) → IsSender stage → k < number_count layout → Holds seen c k
-      → (why ≡ Closed → HasSeen closed_word stage)
+  pub performs_back : (k : ℕ) (why : Why) (stage : Stage) → SawCause why stage → k < number_count layout → Holds seen c k
       → Performs (part c layout seen words stage) (Back k why) (item_place (number_count layout) k) (λ n. bit_and n 0) (λ n. n)
-  performs_back k why (Sends p) sender number holds sees = record {
+  performs_back k why (Sends p) saw number holds = record {
     made = λ m sound fits. (
       ((fits.keeps.0, refl), rw (← fits.layout_is) number),
-      (held_same c k seen m.history fits.mine holds, λ e. ap (λ (x : Private). x.seen) fits.keeps.1 ∙ sees e),
+      (held_same c k seen m.history fits.mine holds, subst (λ (x : Private). HasSeenCause why x.seen) (sym fits.keeps.1) saw),
     );
     writes = λ m sound fits. rw fits.layout_is
         (ap (set m.words (item_place (number_count m.layout) k))
         (clears_bit (item_word m k) (item_word-bit m sound k (rw (← fits.layout_is) number)) (item_word m k == 0) refl));
     finds = λ m sound fits. rw fits.layout_is refl;
   }
-  performs_back k why (Owns cursor walked batch) sender number holds sees = absurd sender
+  performs_back k why (Owns cursor walked batch) saw number holds = absurd saw
 
   pub performs_take : (stage : Stage) → ¬ IsShut seen → IsRested stage → HasNone stage
       → Performs (part c layout seen words stage) Take 0 (λ n. busy_word) (λ n. n)
@@ -158,7 +172,7 @@ module _ (c : ℕ) (layout : Layout) (seen : List Event) (words : List ℕ) wher
     made = λ m sound fits. (
       (refl, tt),
       (
-        (λ shut. opens (closed_same m.history seen (rw (← fits.keeps.0) (sym fits.mine)) shut)),
+        (λ shut. opens (shut_same m.history seen (rw (← fits.keeps.0) (sym fits.mine)) shut)),
         fits.keeps.1 ∙ rested,
         fits.keeps.3 ∙ none,
       ),
@@ -175,6 +189,40 @@ module _ (c : ℕ) (layout : Layout) (seen : List Event) (words : List ℕ) wher
       (
         (λ closed. unclosed (closed_same m.history seen (rw (← fits.keeps.0) (sym fits.mine)) closed)),
         fits.keeps.1 ∙ rested,
+      ),
+    );
+    writes = λ m sound fits. refl;
+    finds = λ m sound fits. refl;
+  }
+
+  pub performs_drain : (stage : Stage) → ¬ IsShut seen → IsRested stage → Performs (part c layout seen words stage) Drain 0 (λ n. draining_word) (λ n. n)
+  performs_drain (Sends p) opens rested = absurd rested
+  performs_drain (Owns cursor walked batch) opens rested = record {
+    made = λ m sound fits. (
+      (refl, tt),
+      (
+        (λ shut. opens (shut_same m.history seen (rw (← fits.keeps.0) (sym fits.mine)) shut)),
+        fits.keeps.1 ∙ rested,
+      ),
+    );
+    writes = λ m sound fits. refl;
+    finds = λ m sound fits. refl;
+  }
+
+  pub performs_resume : (stage : Stage) → IsDraining seen → IsRested stage → HasNone stage → ¬ IsRunning seen
+      → Performs (part c layout seen words stage) Resume 0 (λ n. busy_word) (λ n. n)
+  performs_resume (Sends p) drains rested none idle = absurd rested
+  performs_resume (Owns cursor walked batch) drains rested none idle = record {
+    made = λ m sound fits. (
+      (refl, tt),
+      (
+        (
+          shut_same seen m.history (rw (← fits.keeps.0) fits.mine) drains.0,
+          (λ closed. drains.1 (closed_same m.history seen (rw (← fits.keeps.0) (sym fits.mine)) closed)),
+        ),
+        fits.keeps.1 ∙ rested,
+        fits.keeps.3 ∙ none,
+        (λ runs. idle (running_same m.history seen (rw (← fits.keeps.0) (sym fits.mine)) runs)),
       ),
     );
     writes = λ m sound fits. refl;
@@ -229,7 +277,7 @@ module _ (c : ℕ) (layout : Layout) (seen : List Event) (words : List ℕ) wher
     made = λ m sound fits. (
       (refl, rw (← fits.layout_is) item),
       (
-        closed_same seen m.history (rw (← fits.keeps.0) fits.mine) shut,
+        shut_same seen m.history (rw (← fits.keeps.0) fits.mine) shut,
         fits.keeps.1 ∙ rested,
         running_same seen m.history (rw (← fits.keeps.0) fits.mine) runs,
       ),
@@ -246,7 +294,7 @@ module _ (c : ℕ) (layout : Layout) (seen : List Event) (words : List ℕ) wher
     made = λ m sound fits. (
       (refl, tt),
       (
-        (λ shut. opens (closed_same m.history seen (rw (← fits.keeps.0) (sym fits.mine)) shut)),
+        (λ shut. opens (shut_same m.history seen (rw (← fits.keeps.0) (sym fits.mine)) shut)),
         fits.keeps.1 ∙ rested,
         fits.keeps.3 ∙ none,
         (λ runs. idle (running_same m.history seen (rw (← fits.keeps.0) (sym fits.mine)) runs)),

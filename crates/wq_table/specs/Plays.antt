@@ -3,11 +3,11 @@ use Rattle.std.specs.Prelude.{◌≡◌, ℕ, ◌-◌, ◌==◌, if◌then◌els
 use Rattle.atomic_table.specs.Table.{Me, Step as TableStep}
 use Rattle.wq_words.specs.declared.layout.Layout.{Layout}
 use Rattle.wq_words.specs.Numbers.{number_count}
-use Rattle.wq_words.specs.declared.event.Why.TheVariants.{Closed, Contended, Cancelled}
+use Rattle.wq_words.specs.declared.event.Why.TheVariants.{Closed, Draining, Contended, Cancelled}
 use Rattle.wq_words.specs.declared.event.Event.{Event}
 use Rattle.wq_core.specs.declared.step.Step.{Step}
-use Rattle.wq_core.specs.declared.step.Step.TheVariants.{Hold, Look, Link, Push, Back, Check, Take, Close, Walk, Begin, End, Chain, Turn, Rest}
-use Rattle.wq_core.specs.Words.{link_place, item_place, link_word, number_at, word_at}
+use Rattle.wq_core.specs.declared.step.Step.TheVariants.{Hold, Look, Link, Push, Back, Check, Take, Close, Drain, Resume, Walk, Begin, End, Chain, Turn, Rest}
+use Rattle.wq_core.specs.Words.{link_place, item_place, link_word, number_at, word_at, head_at, item_of}
 use Rattle.wq_core.specs.Machine.{Machine, nothing_seen, unlinked, head, link, item_word, done_word, seen_word, first_of, walk_number, after}
 use Rattle.wq_core.specs.Refusal.{IsMade}
 use Rattle.wq_core.specs.Sound.{IsSound}
@@ -29,6 +29,8 @@ word_found m c (Back k why) = item_word m k
 word_found m c (Check k) = item_word m k
 word_found m c Take = head m
 word_found m c Close = head m
+word_found m c Drain = head m
+word_found m c Resume = head m
 word_found m c Walk = link m (walk_number m)
 word_found m c Begin = item_word m (first_of m.batch)
 word_found m c End = done_word m
@@ -49,6 +51,10 @@ abbrev pub walked_by : Option ℕ → List ℕ → List ℕ → ℕ → Stage
 walked_by None walked batch word = Owns None walked batch
 walked_by (Some k) walked batch word = walked_on k walked batch word
 
+-- the owner swapped the head, found this word, and walks what stood there next
+abbrev pub swapped : ℕ → List ℕ → List ℕ → Stage
+swapped word walked batch = Owns (item_of (head_at word)) walked batch
+
 -- what the seat keeps after a step that found this word
 abbrev pub stage_after : Stage → Step → ℕ → Stage
 stage_after (Sends p) Look word = Sends (record { seen = Some word; linked = None })
@@ -56,8 +62,10 @@ stage_after (Sends p) (Link k) word = Sends (record p { linked = Some k })
 stage_after (Sends p) (Push k) word = Sends nothing_seen
 stage_after (Sends p) (Back k why) word = Sends (unlinked p k)
 stage_after (Sends p) _ word = Sends p
-stage_after (Owns cursor walked batch) Take word = Owns (number_at (link_word word)) walked batch
-stage_after (Owns cursor walked batch) Close word = Owns (number_at (link_word word)) walked batch
+stage_after (Owns cursor walked batch) Take word = swapped word walked batch
+stage_after (Owns cursor walked batch) Close word = swapped word walked batch
+stage_after (Owns cursor walked batch) Drain word = swapped word walked batch
+stage_after (Owns cursor walked batch) Resume word = swapped word walked batch
 stage_after (Owns cursor walked batch) Walk word = walked_by cursor walked batch word
 stage_after (Owns cursor walked batch) Begin word = Owns cursor walked (tail_of batch)
 stage_after (Owns cursor walked batch) (Chain k) word = Owns cursor walked (if word == 0 then batch ++ k ∷ [] else batch)
@@ -108,6 +116,9 @@ pushes i new layout = Push (new - 1)
 abbrev pub finds_closed : Kind
 finds_closed i new layout = Back (item_at i layout) Closed
 
+abbrev pub finds_draining : Kind
+finds_draining i new layout = Back (item_at i layout) Draining
+
 abbrev pub gives_up : Kind
 gives_up i new layout = Back (item_at i layout) Contended
 
@@ -122,6 +133,12 @@ takes i new layout = Take
 
 abbrev pub closes : Kind
 closes i new layout = Close
+
+abbrev pub drains : Kind
+drains i new layout = Drain
+
+abbrev pub resumes : Kind
+resumes i new layout = Resume
 
 abbrev pub walks : Kind
 walks i new layout = Walk

@@ -4,16 +4,16 @@ ghost use prog.Atomic.{either};
 ghost use Rattle.wq_table.specs.declared.table.Part.{Part};
 ghost use Rattle.wq_table.specs.Plays.{Performs};
 ghost use Rattle.wq_words.specs.Numbers.{number_count};
-ghost use Rattle.wq_words.specs.declared.event.Why.TheVariants.{Closed, Contended, Cancelled};
-ghost use Rattle.wq_words.specs.History.{Holds, IsClosed, IsShut, IsRunning};
-ghost use Rattle.wq_core.specs.Words.{word_count, closed_word, link_word};
-ghost use Rattle.wq_core.specs.declared.step.Step.TheVariants.{Hold, Look, Link, Push, Back, Check, Take, Close, Walk, Begin, End, Chain, Turn, Rest};
+ghost use Rattle.wq_words.specs.declared.event.Why.TheVariants.{Closed, Draining, Contended, Cancelled};
+ghost use Rattle.wq_words.specs.History.{Holds, IsClosed, IsShut, IsDraining, IsRunning};
+ghost use Rattle.wq_core.specs.Words.{word_count, closed_word, draining_word, TakesPushes, link_word};
+ghost use Rattle.wq_core.specs.declared.step.Step.TheVariants.{Hold, Look, Link, Push, Back, Check, Take, Close, Drain, Resume, Walk, Begin, End, Chain, Turn, Rest};
 ghost use Rattle.wq_table.specs.Chair.{part_at, IsSender, HasSeen, HasLinked, HasNone, IsOwner, IsToWalk, IsToTurn, IsToBegin, IsRested, Steps, Meet, MeetAll, Joined};
 
 use super::table::{
-    Begins, Both, Cancels, Chains, Checks, Closes, Ends, FindsClosed, GivesUp, Kind, Links, Looks,
-    Makes, Marks, Meets, Off, Part, Place, Pushes, Rests, Seated, Stores, Takes, Turns, Walks,
-    Words,
+    Begins, Both, Cancels, Chains, Checks, Closes, Drains, Ends, FindsClosed, FindsDraining,
+    GivesUp, Kind, Links, Looks, Makes, Marks, Meets, Off, Part, Place, Pushes, Rests, Resumes,
+    Seated, Stores, Takes, Turns, Walks, Words,
 };
 use atomic_table::Badge;
 use std::marker::Model;
@@ -173,7 +173,7 @@ impl Chair {
         requires number { number < number_count (part_at P.at self.old).layout }
         requires held { Holds (part_at P.at self.old).seen (part_at P.at self.old).seat number }
         requires seen { HasSeen seen (part_at P.at self.old).stage }
-        requires open { seen ≢ closed_word }
+        requires open { TakesPushes seen }
         ensures step { Steps P.at (Link number) (link_word seen) self.old self.new }
     {
         let place = link_place(number);
@@ -200,6 +200,17 @@ impl Chair {
     {
         let place = item_place(self.layout, number);
         self.and::<FindsClosed, P>(place, 0);
+    }
+
+    /// A sender that saw the queue draining clears the PENDING bit of a number that it holds.
+    pub fn back_draining<P: Place>(&mut self, number: u32)
+        requires number { number < number_count (part_at P.at self.old).layout }
+        requires held { Holds (part_at P.at self.old).seen (part_at P.at self.old).seat number }
+        requires draining { HasSeen draining_word (part_at P.at self.old).stage }
+        ensures step { (word : ℕ) × Steps P.at (Back number Draining) word self.old self.new }
+    {
+        let place = item_place(self.layout, number);
+        self.and::<FindsDraining, P>(place, 0);
     }
 
     /// A sender whose tries were all lost clears the PENDING bit of a number that it holds.
@@ -252,6 +263,27 @@ impl Chair {
     {
         let word = Head::Closed.to_word();
         self.swap::<Closes, P>(HEAD, word)
+    }
+
+    /// The owner takes the whole list and leaves the draining mark.
+    pub fn drain<P: Place>(&mut self) -> u64
+        requires open { ¬ IsShut (part_at P.at self.old).seen }
+        requires rested { IsRested (part_at P.at self.old).stage }
+        ensures step { Steps P.at Drain result self.old self.new }
+    {
+        let word = Head::Draining.to_word();
+        self.swap::<Drains, P>(HEAD, word)
+    }
+
+    /// The owner, with nothing that waits or runs, leaves the mark of a queue at work in place of the draining mark.
+    pub fn resume<P: Place>(&mut self)
+        requires draining { IsDraining (part_at P.at self.old).seen }
+        requires rested { IsRested (part_at P.at self.old).stage }
+        requires empty { HasNone (part_at P.at self.old).stage }
+        requires idle { ¬ IsRunning (part_at P.at self.old).seen }
+        ensures step { (word : ℕ) × Steps P.at Resume word self.old self.new }
+    {
+        self.swap::<Resumes, P>(HEAD, BUSY);
     }
 
     /// The owner loads the link of the number that it walks next, or of the oldest number of its batch once it has walked all.

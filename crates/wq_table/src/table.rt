@@ -131,6 +131,14 @@ impl Kind for FindsClosed {
     ghost step = { finds_closed };
 }
 
+pub(crate) struct FindsDraining;
+
+impl Kind for FindsDraining {
+    ghost use Rattle.wq_table.specs.Plays.{finds_draining};
+
+    ghost step = { finds_draining };
+}
+
 pub(crate) struct GivesUp;
 
 impl Kind for GivesUp {
@@ -169,6 +177,22 @@ impl Kind for Closes {
     ghost use Rattle.wq_table.specs.Plays.{closes};
 
     ghost step = { closes };
+}
+
+pub(crate) struct Drains;
+
+impl Kind for Drains {
+    ghost use Rattle.wq_table.specs.Plays.{drains};
+
+    ghost step = { drains };
+}
+
+pub(crate) struct Resumes;
+
+impl Kind for Resumes {
+    ghost use Rattle.wq_table.specs.Plays.{resumes};
+
+    ghost step = { resumes };
 }
 
 pub(crate) struct Walks;
