@@ -6,12 +6,15 @@ pub mod Tried
 pub mod Flushed
 pub mod Waiting
 pub mod Rows
+pub mod Phases
 pub mod Owned
 pub mod OwnerTells
 pub mod Linking
 pub mod Hanging
+pub mod Fresh
 pub mod Taken
 pub mod Taking
+pub mod Cutting
 pub mod Meeting
 pub mod Final
 pub mod Built

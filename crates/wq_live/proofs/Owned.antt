@@ -1,14 +1,13 @@
 -- What the owner's own events say of a history.
-use Rattle.std.proofs.Common.{◌≡◌, ℕ, ◌+◌, true, List, [], ◌∷◌, ◌++◌, length, Some, None, nat_lt, sym, ap, ◌∙◌, arith, length-append, subst}
+use Rattle.std.proofs.Common.{◌≡◌, ℕ, ◌+◌, List, [], ◌∷◌, ◌++◌, length, Some, None, sym, ap, ◌∙◌, arith, length-append, subst}
 use Rattle.std.specs.Prelude.{count_by, slice_get}
 use Rattle.std.proofs.lemmas.List.{append-nil}
 use Rattle.std.proofs.lemmas.List.Elements.{filter_map-append}
 use Rattle.std.proofs.lemmas.Option.{slice_get_past}
-use Rattle.std.proofs.lemmas.Bool.{lt-ltb}
 use Rattle.wq_words.proofs.Growing.{slice_get_last}
 use Rattle.wq_words.specs.declared.event.Event.{Event}
-use Rattle.wq_words.specs.declared.event.Event.TheVariants.{Close, Begin, End}
-use Rattle.wq_words.specs.History.{begun, begun_by, ended, ended_by, running, closed, is_close, IsRunning}
+use Rattle.wq_words.specs.declared.event.Event.TheVariants.{Begin, End}
+use Rattle.wq_words.specs.History.{begun, begun_by, ended, ended_by, running, is_close, IsRunning}
 use Rattle.wq_words.specs.Seen.{owner_seat, Grows}
 use Rattle.wq_live.specs.declared.counts.OwnerCounts.{OwnerCounts}
 use Rattle.wq_words.specs.Counting.{is_chain, is_chain_busy}
@@ -38,9 +37,6 @@ module _ (xs : List Event) (n : ℕ) (v w : List Event) (g : Grows owner_seat xs
   running_quiet b e =
       let bs : begun w ≡ begun v = begun_on ∙ (ap (λ (x : List ℕ). begun v ++ x) b ∙ append-nil (begun v)) in
       let es : ended w ≡ ended v = ended_on ∙ (ap (λ (x : List ℕ). ended v ++ x) e ∙ append-nil (ended v)) in λ i. slice_get (bs i) (length (es i))
-
-  pub closed_quiet : count_by is_close xs ≡ 0 → closed w ≡ closed v
-  closed_quiet none = let same : count_by is_close w ≡ count_by is_close v = omega (arith, closes_on) in ap (nat_lt 0) same
 
   more : (x y o z : ℕ) → o ≡ capped x → z ≡ x + y → capped (o + y) ≡ capped z
   more x y o z e f = omega arith
@@ -113,7 +109,3 @@ running_ended k n v w g runs =
     let bs : begun w ≡ begun v = begun_on (End k ∷ []) n v w g ∙ append-nil (begun v) in
     let es : ended w ≡ ended v ++ k ∷ [] = ended_on (End k ∷ []) n v w g in
     (λ i. slice_get (bs i) (length (es i))) ∙ slice_get_past (begun v) (length (ended v ++ k ∷ [])) (omega (arith, length-append (ended v) (k ∷ [])))
-
--- the queue is closed by a Close
-pub closed_closed : (n : ℕ) (v w : List Event) → Grows owner_seat (Close ∷ []) n v w → closed w ≡ true
-closed_closed n v w g = lt-ltb 0 (count_by is_close w) (omega (arith, closes_on (Close ∷ []) n v w g))

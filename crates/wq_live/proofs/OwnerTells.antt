@@ -5,21 +5,24 @@ use Rattle.wq_words.specs.declared.layout.Layout.{Layout}
 use Rattle.wq_words.specs.declared.event.Event.{Event}
 use Rattle.wq_words.specs.declared.event.Event.TheVariants as event
 use Rattle.wq_words.specs.History.{begun, ended, running, IsRunning}
+use Rattle.wq_words.specs.Counting.{is_chain, is_chain_busy}
+use Rattle.std.specs.Prelude.{count_by}
 use Rattle.wq_words.proofs.Order.{in_order}
 use Rattle.wq_words.proofs.Prefixes.{prefix_length}
 use Rattle.wq_words.specs.Legal.{IsLegal}
 use Rattle.wq_core.specs.declared.step.Step.{Step}
-use Rattle.wq_core.specs.declared.step.Step.TheVariants.{Take, Close, Walk, Begin, End, Chain}
+use Rattle.wq_core.specs.declared.step.Step.TheVariants.{Take, Close, Drain, Resume, Walk, Begin, End, Chain}
+use Rattle.wq_core.specs.declared.step.Seat.TheVariants.{Owner}
 use Rattle.wq_words.specs.Head.{busy_word}
-use Rattle.wq_core.specs.Words.{closed_word, link_word, number_at}
-use Rattle.wq_core.specs.Machine.{Machine, head, link, item_word, with_head, with_item, happened, walked_past, after_walk, after_begin, after_end, after}
+use Rattle.wq_core.specs.Words.{closed_word, draining_word, number_at, head_at, item_of}
+use Rattle.wq_core.specs.Machine.{Machine, link, item_word, with_item, happened, walked_past, after_swap, after_walk, after_begin, after_end, after}
 use Rattle.wq_core.proofs.Taken.{batch_is}
 use Rattle.wq_table.specs.declared.table.Part.{Part}
 use Rattle.wq_table.specs.declared.table.Stage.{Stage}
 use Rattle.wq_table.specs.declared.table.Stage.TheVariants.{Sends, Owns}
-use Rattle.wq_words.specs.Seen.{owner_seat, own, Grows}
+use Rattle.wq_words.specs.Seen.{owner_seat, seat_of, own, Grows}
 use Rattle.wq_table.specs.Law.{seat_at, HasStage}
-use Rattle.wq_table.specs.Plays.{stage_after, walked_on, Makes}
+use Rattle.wq_table.specs.Plays.{stage_after, swapped, walked_on, Makes}
 use Rattle.wq_table.specs.Chair.{IsOwner, HasNone, IsToBegin}
 use Rattle.wq_words.proofs.Seen.{own_one, begun_same, ended_same}
 use Rattle.wq_live.specs.declared.owner_seat.OwnerSeat.{OwnerSeat as Inside}
@@ -56,33 +59,45 @@ none_of st ks is none = subst HasNone (sym is) none
 pub to_begin : (st : Stage) (k : ℕ) (ks : List ℕ) → st ≡ Owns None [] (k ∷ ks) → IsToBegin k st
 to_begin st k ks is = subst (IsToBegin k) (sym is) (refl, refl)
 
-pub after_take : (m : Machine) (c : ℕ) (st : Stage) → IsOwner st
-    → after m (seat_at c st) Take ≡ happened (record (with_head m busy_word) { cursor = number_at (link_word (head m)) }) event.Take
-after_take m c (Owns a b d) is = refl
-after_take m c (Sends r) is = elim is [ ]
+-- the step swaps the head for this word, and adds this event of the owner's, which executes and chains nothing
+pub record Swaps (st : Step) (word : ℕ) (e : Event) : Type 0 where
+  pub does : (m : Machine) → after m Owner st ≡ after_swap m word e
+  pub stays : (found : ℕ) (ks : List ℕ) → stage_after (Owns None [] ks) st found ≡ swapped found [] ks
+  pub mine : seat_of e ≡ owner_seat
+  pub begins : begun (e ∷ []) ≡ []
+  pub ends : ended (e ∷ []) ≡ []
+  pub chains : count_by is_chain (e ∷ []) ≡ 0
+  pub finds : count_by is_chain_busy (e ∷ []) ≡ 0
 
-pub after_close : (m : Machine) (c : ℕ) (st : Stage) → IsOwner st
-    → after m (seat_at c st) Close ≡ happened (record (with_head m closed_word) { cursor = number_at (link_word (head m)) }) event.Close
-after_close m c (Owns a b d) is = refl
-after_close m c (Sends r) is = elim is [ ]
+pub take_swaps : Swaps Take busy_word event.Take
+take_swaps = record { does = λ m. refl; stays = λ f ks. refl; mine = refl; begins = refl; ends = refl; chains = refl; finds = refl }
 
-pub take_tells : (word : ℕ) (p q : Part) → p.seat ≡ owner_seat → IsOwner p.stage → Makes Take word p q → Tells (event.Take ∷ []) p q
-take_tells word p q mine is makes = tells Take word p q makes _ _ (after_take makes.before p.seat p.stage is) refl refl (own_one p.seat event.Take (sym mine))
+pub close_swaps : Swaps Close closed_word event.Close
+close_swaps = record { does = λ m. refl; stays = λ f ks. refl; mine = refl; begins = refl; ends = refl; chains = refl; finds = refl }
 
-pub close_tells : (word : ℕ) (p q : Part) → p.seat ≡ owner_seat → IsOwner p.stage → Makes Close word p q → Tells (event.Close ∷ []) p q
-close_tells word p q mine is makes = tells Close word p q makes _ _ (after_close makes.before p.seat p.stage is) refl refl
-    (own_one p.seat event.Close (sym mine))
+pub drain_swaps : Swaps Drain draining_word event.Drain
+drain_swaps = record { does = λ m. refl; stays = λ f ks. refl; mine = refl; begins = refl; ends = refl; chains = refl; finds = refl }
+
+pub resume_swaps : Swaps Resume busy_word event.Resume
+resume_swaps = record { does = λ m. refl; stays = λ f ks. refl; mine = refl; begins = refl; ends = refl; chains = refl; finds = refl }
 
 -- what was found is to be walked
 to_walk : (next : Option ℕ) (ks : List ℕ) → Owns next [] ks ≡ walking next [] ks
 to_walk None ks = ap (Owns None []) (sym (append-nil ks))
 to_walk (Some k) ks = refl
 
-pub taken_stage : (step : Step) (word link : ℕ) (p q : Part) (ks : List ℕ)
-    → stage_after (Owns None [] ks) step word ≡ Owns (number_at (link_word word)) [] ks → link ≡ link_word word → p.stage ≡ Owns None [] ks
-    → Makes step word p q → q.stage ≡ walking (number_at link) [] ks
-taken_stage step word link p q ks walks link_is is makes = makes.stage_is ∙ (ap (λ (st : Stage). stage_after st step word) is ∙
-    (walks ∙ (to_walk (number_at (link_word word)) ks ∙ ap (λ (w : ℕ). walking (number_at w) [] ks) (sym link_is))))
+module _ (st : Step) (word : ℕ) (e : Event) (swaps : Swaps st word e) where
+  pub after_swaps : (m : Machine) (c : ℕ) (stage : Stage) → IsOwner stage → after m (seat_at c stage) st ≡ after_swap m word e
+  after_swaps m c (Owns a b d) is = swaps.does m
+  after_swaps m c (Sends r) is = elim is [ ]
+
+  pub swap_tells : (found : ℕ) (p q : Part) → p.seat ≡ owner_seat → IsOwner p.stage → Makes st found p q → Tells (e ∷ []) p q
+  swap_tells found p q mine is makes =
+      tells st found p q makes _ _ (after_swaps makes.before p.seat p.stage is) refl refl (own_one p.seat e (swaps.mine ∙ sym mine))
+
+  pub swap_stage : (found : ℕ) (p q : Part) (ks : List ℕ) → p.stage ≡ Owns None [] ks → Makes st found p q → q.stage ≡ walking (item_of (head_at found)) [] ks
+  swap_stage found p q ks is makes =
+      makes.stage_is ∙ (ap (λ (x : Stage). stage_after x st found) is ∙ (swaps.stays found ks ∙ to_walk (item_of (head_at found)) ks))
 
 -- a walk that has not come to the end
 pub walking_on : (next : Option ℕ) (number : ℕ) (walked ks : List ℕ) → next ≡ Some number → walking next walked ks ≡ Owns (Some number) walked ks

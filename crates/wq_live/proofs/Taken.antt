@@ -1,4 +1,4 @@
--- What a Take or a Close leaves as the batch.
+-- What a Take, a Drain or a Close leaves as the batch.
 use Rattle.std.proofs.Common.{◌≡◌, ℕ, ◌+◌, List, [], ◌∷◌, ◌++◌, length, Option, None, take, drop, sym, refl, ap, ◌∙◌, subst, arith, append_assoc, length-append, length-drop}
 use Rattle.std.specs.Prelude.{reverse}
 use Rattle.std.proofs.lemmas.List.{append-nil}
@@ -7,15 +7,15 @@ use Rattle.std.proofs.lemmas.List.{length-reverse}
 use mathlib.Core.List.{reverse_aux}
 use Rattle.wq_words.specs.declared.layout.Layout.{Layout}
 use Rattle.wq_words.specs.declared.event.Event.{Event}
-use Rattle.wq_words.specs.declared.event.Event.TheVariants.{Take, Close}
+use Rattle.wq_words.specs.declared.event.Event.TheVariants.{Take, Drain, Close}
 use Rattle.wq_words.specs.Numbers.{number_count}
 use Rattle.wq_words.specs.History.{accepted, accepted_by, begun, fresh, IsClosed, IsShut, taken}
 use Rattle.wq_words.specs.Listed.{listed}
-use Rattle.wq_words.specs.Legal.{IsLegal}
+use Rattle.wq_words.specs.Legal.{MayFollow, IsLegal}
 use Rattle.wq_words.proofs.Growing.{take_length}
 use Rattle.wq_words.proofs.Legal.{legal_front, legal_next, legal_rest}
-use Rattle.wq_words.proofs.Closed.{closed_from_open, closed_push_yes}
-use Rattle.wq_words.proofs.Listed.{accepted_push_none, taken_closed, taken_push_take, is_listed, fresh-open}
+use Rattle.wq_words.proofs.Closed.{closed_shuts, shut_close}
+use Rattle.wq_words.proofs.Listed.{accepted_push_none, taken_shut, taken_cut}
 use Rattle.wq_words.proofs.OtherSeats.{taken_still}
 use Rattle.wq_core.specs.Machine.{Machine}
 use Rattle.wq_core.specs.Words.{word_at}
@@ -25,6 +25,7 @@ use Rattle.wq_words.specs.Seen.{owner_seat, seat_of, own, Grows}
 use Rattle.wq_words.proofs.Seen.{own-append, own_one}
 use Rattle.wq_live.specs.Batch.{batch, TakesAll}
 use Rattle.wq_live.proofs.Owned.{begun_on}
+use Rattle.wq_live.proofs.Fresh.{fresh_unclosed}
 
 -- what is accepted has begun, is in the batch, or is on the list
 pub rested_lengths : (m : Machine) → IsSound m → m.cursor ≡ None
@@ -82,22 +83,40 @@ cuts_all layout e before after h ks js count legal is none seat quiet takes fres
     left : batch h ≡ drop (length (begun before)) (accepted before)
     left = λ i. drop (length (same i)) (all i)
 
-module _ (layout : Layout) (before after h : List Event) (ks js : List ℕ) (count : ℕ) (legal : IsLegal layout h) where
-  pub takes_all : h ≡ before ++ Take ∷ after → own owner_seat after ≡ []
-      → length (accepted before) ≡ length (begun before) + length ks + length (listed before) → js ≡ batch h → count + length ks ≡ length js
-      → TakesAll Take count h
-  takes_all is none sum batch_is total =
-      let whole : IsLegal layout (before ++ Take ∷ after) = subst (IsLegal layout) is legal in let legal' = legal_front layout before (Take ∷ after) whole in
-      let opens : ¬ IsShut before = (legal_next layout before Take after whole).2 in let open' = closed_from_open before opens in
-      cuts_all layout Take before after h ks js count legal is none refl refl (taken_push_take before open' ∙ (is_listed layout before legal').open_pushes open')
-      (fresh-open layout before legal' opens) sum batch_is total
+-- the owner's event e takes all that was accepted before it
+abbrev pub CutsAll : Event → Type 0
+CutsAll e = (layout : Layout) (before after h : List Event) (ks js : List ℕ) (count : ℕ) → IsLegal layout h → h ≡ before ++ e ∷ after
+    → own owner_seat after ≡ []
+    → length (accepted before) ≡ length (begun before) + length ks + length (listed before) → js ≡ batch h → count + length ks ≡ length js
+    → TakesAll e count h
 
-  pub closes_all : h ≡ before ++ Close ∷ after → own owner_seat after ≡ []
+-- each of the three does that may come before the close
+module _ (layout : Layout) (e : Event) (before after h : List Event) (ks js : List ℕ) (count : ℕ) (legal : IsLegal layout h) (is : h ≡ before ++ e ∷ after) where
+  whole : IsLegal layout (before ++ e ∷ after)
+  whole = subst (IsLegal layout) is legal
+
+  allowed : MayFollow before e
+  allowed = (legal_next layout before e after whole).2
+
+  takes_cut : own owner_seat after ≡ [] → seat_of e ≡ owner_seat → begun (e ∷ []) ≡ [] → taken (before ++ e ∷ []) ≡ length (accepted before)
+      → ¬ IsClosed before
       → length (accepted before) ≡ length (begun before) + length ks + length (listed before) → js ≡ batch h → count + length ks ≡ length js
-      → TakesAll Close count h
-  closes_all is none sum batch_is total =
-      let whole : IsLegal layout (before ++ Close ∷ after) = subst (IsLegal layout) is legal in
-      let unclosed : ¬ IsClosed before = (legal_next layout before Close after whole).2 in
-      cuts_all layout Close before after h ks js count legal is none refl refl
-      (taken_closed (before ++ Close ∷ []) (closed_push_yes before Close refl) ∙ ap (λ (x : List ℕ). length x) (accepted_push_none before Close refl))
-      (fresh-open layout before (legal_front layout before (Close ∷ after) whole) unclosed) sum batch_is total
+      → TakesAll e count h
+  takes_cut none seat quiet takes unclosed sum batch_is total = cuts_all layout e before after h ks js count legal is none seat quiet takes
+      (fresh_unclosed layout before (legal_front layout before (e ∷ after) whole) unclosed) sum batch_is total
+
+pub takes_all : CutsAll Take
+takes_all layout before after h ks js count legal is none =
+    let opens : ¬ IsShut before = allowed layout Take before after h ks js count legal is in
+    takes_cut layout Take before after h ks js count legal is none refl refl (taken_cut before Take refl refl) (λ closed. opens (closed_shuts before closed))
+
+pub drains_all : CutsAll Drain
+drains_all layout before after h ks js count legal is none =
+    let opens : ¬ IsShut before = allowed layout Drain before after h ks js count legal is in
+    takes_cut layout Drain before after h ks js count legal is none refl refl (taken_cut before Drain refl refl) (λ closed. opens (closed_shuts before closed))
+
+pub closes_all : CutsAll Close
+closes_all layout before after h ks js count legal is none =
+    let unclosed : ¬ IsClosed before = allowed layout Close before after h ks js count legal is in
+    takes_cut layout Close before after h ks js count legal is none refl refl
+    (taken_shut (before ++ Close ∷ []) (shut_close before Close refl) ∙ ap (λ (x : List ℕ). length x) (accepted_push_none before Close refl)) unclosed

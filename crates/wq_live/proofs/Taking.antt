@@ -1,19 +1,18 @@
 -- What a take or a close and the walk after it leave.
-use Rattle.std.proofs.Common.{◌≡◌, ℕ, ◌+◌, ◌-◌, ◌^◌, ◌<◌, ◌≤◌, Bool, true, false, ◌==◌, if◌then◌else◌, List, [], ◌∷◌, ◌++◌, length, None, Some, refl, ap, ◌∙◌, subst, arith, append_assoc, sym}
+use Rattle.std.proofs.Common.{◌≡◌, ℕ, ◌+◌, ◌-◌, ◌^◌, ◌<◌, ◌≤◌, Bool, true, false, ◌==◌, if◌then◌else◌, List, [], ◌∷◌, ◌++◌, length, Option, None, Some, refl, ap, ◌∙◌, subst, arith, append_assoc, sym}
 use Rattle.std.proofs.lemmas.List.{append-nil}
 use Rattle.std.proofs.lemmas.Bool.{eqb-true}
 use Rattle.wq_words.specs.declared.layout.Layout.{Layout}
 use Rattle.wq_words.specs.declared.event.Event.{Event}
-use Rattle.wq_words.specs.declared.event.Event.TheVariants as event
 use Rattle.wq_words.specs.Numbers.{number_count}
 use Rattle.wq_words.specs.History.{accepted, begun}
 use Rattle.wq_words.specs.Listed.{listed}
 use Rattle.wq_words.specs.Legal.{IsLegal}
 use Rattle.wq_core.specs.declared.step.Step.{Step}
-use Rattle.wq_core.specs.declared.step.Step.TheVariants.{Take, Close}
-use Rattle.wq_core.specs.Words.{number_at}
+use Rattle.wq_core.specs.Words.{TakesPushes, link_word, number_at, head_at, item_of}
 use Rattle.wq_core.specs.Machine.{Machine, after}
 use Rattle.wq_core.specs.Sound.{IsSound}
+use Rattle.wq_core.proofs.Heads.{item_linked}
 use Rattle.wq_table.specs.declared.table.Part.{Part}
 use Rattle.wq_table.specs.declared.table.Stage.TheVariants.{Owns}
 use Rattle.wq_words.specs.Seen.{owner_seat, own, Grows}
@@ -23,9 +22,9 @@ use Rattle.wq_live.specs.Batch.{TakesAll}
 use Rattle.wq_live.specs.Sits.{Stands, OnlySees, walking}
 use Rattle.wq_live.proofs.Growing.{grows_on}
 use Rattle.wq_live.proofs.Tells.{Tells, TellsSo, tells_then, seen_after}
-use Rattle.wq_live.proofs.OwnerTells.{stands_batch, stands_legal, pair_owner, after_take, after_close}
+use Rattle.wq_live.proofs.OwnerTells.{stands_batch, stands_legal, pair_owner, Swaps, after_swaps}
 use Rattle.wq_live.proofs.Waiting.{stands_walking}
-use Rattle.wq_live.proofs.Taken.{rested_lengths, takes_all, closes_all}
+use Rattle.wq_live.proofs.Taken.{rested_lengths, CutsAll}
 
 -- a step and what was seen after it
 pub followed : (xs : List Event) (n : ℕ) (p q r : Part) → TellsSo xs n p q → OnlySees q r → Stands r → TellsSo xs n p r
@@ -55,16 +54,10 @@ module _ (word : ℕ) (p q r : Part) (ks js : List ℕ) (count : ℕ) (mine : p.
       follows.grows.is ∙ (ap (λ (x : List Event). x ++ follows.grows.new) (seen_after st word p q makes n (e ∷ []) is adds) ∙
       append_assoc m.history (e ∷ []) follows.grows.new)
 
-  pub take_takes : Makes Take word p q → TakesAll event.Take count r.seen
-  take_takes makes = let m = makes.before in
-      takes_all r.layout m.history follows.grows.new r.seen ks js count (stands_legal r stands)
-      (seen_then Take event.Take makes _ (after_take m p.seat p.stage (pair_owner p.stage ks stage)) refl) (none_after makes.seat_is)
-      (lengths m makes.sound makes.fits.keeps) (stands_batch r js stands stage') total
-
-  pub close_takes : Makes Close word p q → TakesAll event.Close count r.seen
-  close_takes makes = let m = makes.before in
-      closes_all r.layout m.history follows.grows.new r.seen ks js count (stands_legal r stands)
-      (seen_then Close event.Close makes _ (after_close m p.seat p.stage (pair_owner p.stage ks stage)) refl) (none_after makes.seat_is)
+  pub cut_takes : (st : Step) (wd : ℕ) (e : Event) → Swaps st wd e → CutsAll e → Makes st word p q → TakesAll e count r.seen
+  cut_takes st wd e swaps cuts makes = let m = makes.before in
+      cuts r.layout m.history follows.grows.new r.seen ks js count (stands_legal r stands)
+      (seen_then st e makes _ (after_swaps st wd e swaps m p.seat p.stage (pair_owner p.stage ks stage)) refl) (none_after makes.seat_is)
       (lengths m makes.sound makes.fits.keeps) (stands_batch r js stands stage') total
 
 -- what was seen without an event of one's own, and a step after it
@@ -97,7 +90,7 @@ pub follows_on : (p q r : Part) → OnlySees p q → Tells [] q r → OnlySees p
 follows_on p q r follows told = follows_both p q r follows record { layout_is = told.layout_is; seat_is = told.seat_is; grows = told.grows }
 
 -- a queue has few numbers
-pub number_small : (l : Layout) → number_count l < 5000
+pub number_small : (l : Layout) → number_count l < 70000
 number_small l = let items = l.in_limits.0.1 in let barriers = l.in_limits.1.1 in omega arith
 
 -- what a walk found leads to one of them, or to none
@@ -109,3 +102,9 @@ walking_small word walked ks p stands is = go (word == 0) refl
     go false more =
         let stage = is ∙ ap (λ (b : Bool). walking (if b then None else Some (word - 1)) walked ks) more in
         omega (arith, (stands_walking p (word - 1) walked ks stands stage).0, number_small p.layout)
+
+-- and so does the head that was found, where it has a number
+pub head_small : (found : ℕ) (walked ks : List ℕ) (p : Part) → Stands p → p.stage ≡ walking (item_of (head_at found)) walked ks
+    → TakesPushes found → link_word found ≤ 2 ^ 32
+head_small found walked ks p stands is takes =
+    walking_small (link_word found) walked ks p stands (is ∙ ap (λ (k : Option ℕ). walking k walked ks) (item_linked found takes))

@@ -12,8 +12,8 @@ batch h = drop (length (begun h)) (take (taken h) (accepted h))
 abbrev pub next_of : List Event → Option ℕ
 next_of h = slice_get (batch h) 0
 
--- The owner's last event is this Take or Close. It found so many pushed since the last Take before it, and left as the
--- batch all that had been accepted by then and had not begun.
+-- The owner's last event is this Take, Drain or Close. It found so many pushed since the last Take, Drain or Resume before it,
+-- and left as the batch all that had been accepted by then and had not begun.
 pub record TakesAll (e : Event) (count : ℕ) (h : List Event) : Type 0 where
   pub before : List Event
   pub after : List Event

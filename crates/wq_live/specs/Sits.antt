@@ -1,6 +1,7 @@
 -- A sender's and an owner's fields, as a clause sees them.
-use Rattle.std.specs.Prelude.{◌≡◌, ℕ, List, [], ◌∷◌, ◌++◌, Option, Some, None}
-use Rattle.wq_words.specs.History.{closed, running}
+use Rattle.std.specs.Prelude.{◌≡◌, ℕ, if◌then◌else◌, List, [], ◌∷◌, ◌++◌, Option, Some, None}
+use Rattle.wq_words.specs.History.{closed, shut, running}
+use Rattle.wq_words.specs.declared.event.Event.{Event}
 use Rattle.wq_words.specs.declared.layout.Layout.{Layout}
 use Rattle.wq_words.specs.Legal.{IsLegal}
 use Rattle.wq_core.specs.Machine.{Machine}
@@ -14,6 +15,8 @@ use Rattle.wq_table.specs.Chair.{Standing, part_at, IsSender}
 use Rattle.wq_live.specs.declared.counts.SenderCounts.{SenderCounts}
 use Rattle.wq_live.specs.declared.sent.Sent.{Sent}
 use Rattle.wq_live.specs.declared.owner_seat.OwnerSeat.{OwnerSeat}
+use Rattle.wq_live.specs.declared.owner_seat.Phase.{Phase}
+use Rattle.wq_live.specs.declared.owner_seat.Phase.TheVariants.{Open, Draining, Closed}
 use Rattle.wq_live.specs.declared.row.Row.{Row}
 use Rattle.wq_live.specs.Row.{IsRowOf}
 use Rattle.wq_live.specs.Known.{Known}
@@ -47,6 +50,10 @@ pub record Sends (s : Sending) : Type 0 where
 abbrev pub owner_view : OwnerSeat → Known
 owner_view s = record { queue = s.chair.queue; layout = s.layout; number = owner_seat; seen = s.chair.part.seen }
 
+-- whether the queue takes pushes
+abbrev pub phase : List Event → Phase
+phase h = if closed h then Closed else (if shut h then Draining else Open)
+
 -- a machine stood like this when the seat saw all that had happened
 pub record Stands (p : Part) : Type 0 where
   pub machine : Machine
@@ -71,7 +78,7 @@ pub record OwnsQueue (s : OwnerSeat) : Type 0 where
   pub stands : Stands s.chair.part
   pub has_row : HasRow s.row s.chair.part
   pub running_is : s.running ≡ running s.chair.part.seen
-  pub closed_is : s.closed ≡ closed s.chair.part.seen
+  pub phase_is : s.phase ≡ phase s.chair.part.seen
   pub counts_are : s.counts ≡ owner_counts s.chair.part.seen
 
 -- what the owner keeps while it walks what it took, where the link that it found last leads to this number, or to none

@@ -8,7 +8,7 @@ use Rattle.wq_words.specs.declared.answer.Posted.TheVariants as posted
 use Rattle.wq_words.specs.Legal.{IsLegal}
 use Rattle.wq_words.specs.Seen.{Grows}
 use Rattle.wq_table.specs.declared.table.Part.{Part}
-use Rattle.wq_live.specs.Answers.{IsPushed}
+use Rattle.wq_live.specs.Answers.{IsPushed, HasMetDrain}
 
 -- the seat is the same and has seen more, with these events of its own
 pub record TellsSo (xs : List Event) (n : ℕ) (p q : Part) : Type 0 where
@@ -21,4 +21,5 @@ pub record TellsSo (xs : List Event) (n : ℕ) (p q : Part) : Type 0 where
 abbrev pub PostsAs : ℕ → Posted → Part → Part → Type 0
 PostsAs k (posted.Queued is_first is_waking) p q = TellsSo (Push p.seat k ∷ []) 0 p q × IsPushed p.seat k is_first is_waking q.seen
 PostsAs k posted.Closed p q = TellsSo (Back p.seat k why.Closed ∷ []) 0 p q
+PostsAs k posted.Draining p q = TellsSo [] 0 p q × HasMetDrain p.seen q.seen
 PostsAs k posted.Contended p q = TellsSo [] 1 p q

@@ -9,6 +9,8 @@ pub struct SenderCounts {
     pub pending: u64,
     /// Given back because the queue was closed.
     pub closed: u64,
+    /// Given back because the queue was draining.
+    pub draining: u64,
     /// Given back because other seats changed the list at each try.
     pub contended: u64,
 }
@@ -16,7 +18,7 @@ pub struct SenderCounts {
 /// The owner's executions, and what it chained to them.
 #[derive(Clone, Copy, Debug, PartialEq, Eq)]
 pub struct OwnerCounts {
-    /// Chained after the close.
+    /// Chained while the queue took no push.
     pub chained: u64,
     /// Found pending by a chaining.
     pub chain_busy: u64,

@@ -7,7 +7,7 @@ ghost use Rattle.wq_live.specs.Known.{new_owner, new_senders, AreNumbered};
 
 use crate::counts::{OwnerCounts, SenderCounts};
 use crate::owner::Owner;
-use crate::owner_seat::OwnerSeat;
+use crate::owner_seat::{OwnerSeat, Phase};
 use crate::row::Row;
 use crate::sender::Sender;
 use crate::sent::Sent;
@@ -49,6 +49,7 @@ fn seat_senders(alloc: Global, layout: Layout, seats: Vec<Chair>) -> Result<Vec<
                     queued: 0,
                     pending: 0,
                     closed: 0,
+                    draining: 0,
                     contended: 0,
                 },
                 spins: Spins::default(),
@@ -80,7 +81,7 @@ pub fn build(alloc: Global, layout: Layout) -> Result<(Owner, Vec<Sender>), Buil
         layout,
         row: Row::empty(),
         running: None,
-        closed: false,
+        phase: Phase::Open,
         counts: OwnerCounts {
             chained: 0,
             chain_busy: 0,

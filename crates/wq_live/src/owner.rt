@@ -1,10 +1,10 @@
 //! The owner of a queue.
 ghost use Rattle.std.specs.Prelude.{◌≡◌, ◌≢◌, ℕ, ◌+◌, ◌<◌, ◌≤◌, ◌↔◌, false, [], ◌∷◌, ◌++◌, Some, None, IsSome, IsTrue, IfSome, length};
 ghost use mathlib.Core.List.{IsPrefix};
-ghost use Rattle.wq_words.specs.declared.event.Event.TheVariants.{Take, Close, Begin, End};
+ghost use Rattle.wq_words.specs.declared.event.Event.TheVariants.{Take, Close, Drain, Resume, Begin, End};
 ghost use Rattle.wq_words.specs.Numbers.{number_count};
-ghost use Rattle.wq_words.specs.History.{IsClosed, IsShut, closed, IsRunning, running, ended};
-ghost use Rattle.wq_words.specs.Legal.{IsLegal, IsComplete};
+ghost use Rattle.wq_words.specs.History.{IsClosed, IsShut, IsDraining, closed, IsRunning, running, ended};
+ghost use Rattle.wq_words.specs.Legal.{IsLegal, IsComplete, HasRunOut};
 ghost use Rattle.wq_words.specs.Headline.{KeepsHeadline};
 ghost use Rattle.wq_live.specs.Known.{IsSame, Sees};
 ghost use Rattle.wq_live.specs.Answers.{Chains, IsFinal};
@@ -73,8 +73,8 @@ impl Owner {
         self.seat.take()
     }
 
-    /// Closes the queue, takes all that stands on the list, and answers how many that is. What a sender queues from now
-    /// on is answered `Closed`.
+    /// Closes the queue, also one that drains, takes all that stands on the list, and answers how many that is. What a sender
+    /// queues from now on is answered `Closed`.
     pub fn close(&mut self) -> u32
         requires unclosed { ¬ IsClosed self.old.seen }
         ensures seen { Sees (Close ∷ []) 0 self.old self.new }
@@ -87,6 +87,37 @@ impl Owner {
         ensures runs { IsRunning self.old.seen → IsRunning self.new.seen }
     {
         self.seat.close()
+    }
+
+    /// Begins a drain (`drain_workqueue`): takes all that stands on the list, and answers how many that is. What a sender
+    /// queues from now on is answered `Draining`, until the queue is resumed. What is executed meanwhile may be chained to.
+    pub fn drain(&mut self) -> u32
+        requires open { ¬ IsShut self.old.seen }
+        ensures seen { Sees (Drain ∷ []) 0 self.old self.new }
+        ensures takes { TakesAll Drain result self.new.seen }
+        ensures behind { IsPrefix (batch self.old.seen) (batch self.new.seen) }
+        ensures count { length (batch self.new.seen) ≡ length (batch self.old.seen) + result }
+        ensures draining { IsDraining self.new.seen }
+        ensures shut { IsShut self.new.seen }
+        ensures unclosed { ¬ IsClosed self.new.seen }
+        ensures idle { ¬ IsRunning self.old.seen → ¬ IsRunning self.new.seen }
+        ensures runs { IsRunning self.old.seen → IsRunning self.new.seen }
+    {
+        self.seat.drain()
+    }
+
+    /// Ends a drain, once all that was accepted has ended: the queue takes pushes again.
+    pub fn resume(&mut self)
+        requires draining { IsDraining self.old.seen }
+        requires empty { batch self.old.seen ≡ [] }
+        requires idle { ¬ IsRunning self.old.seen }
+        ensures seen { Sees (Resume ∷ []) 0 self.old self.new }
+        ensures open { ¬ IsShut self.new.seen }
+        ensures unclosed { ¬ IsClosed self.new.seen }
+        ensures empty { batch self.new.seen ≡ [] }
+        ensures idle { ¬ IsRunning self.new.seen }
+    {
+        self.seat.resume();
     }
 
     /// The oldest number that was taken and has not begun.
@@ -136,8 +167,8 @@ impl Owner {
         self.seat.end();
     }
 
-    /// Says once that the queue rests: true where all that was accepted has ended, the owner has taken since it rested last,
-    /// and nothing was pushed since that take. The next push then answers `wakes`.
+    /// Says once that the queue rests: true where all that was accepted has ended, the owner has taken or drained since it rested
+    /// last, and nothing was pushed since that take or drain. The next push then answers `wakes`.
     ///
     /// An owner that serves by a loop of its own takes, executes what it took, rests, parks its thread where that answered
     /// true, and begins again with a take. Its senders unpark it on `wakes` alone: once a rest, and not once an item. No
@@ -160,8 +191,8 @@ impl Owner {
         self.seat.rest()
     }
 
-    /// Queues an item behind all that waits, from the execution that runs after the close (chain queueing in
-    /// `drain_workqueue`). `Pending` where its bit was set.
+    /// Queues an item behind all that waits, from the execution that runs while the queue takes no push, draining or closed
+    /// (chain queueing in `drain_workqueue`). `Pending` where its bit was set.
     pub fn chain(&mut self, item: u32) -> Answer
         requires item { item < self.old.layout.items }
         requires shut { IsShut self.old.seen }
@@ -171,6 +202,7 @@ impl Owner {
         ensures batch { batch self.new.seen ≡ batch self.old.seen ++ queued_number item result }
         ensures shut { IsShut self.new.seen }
         ensures closed { IsClosed self.old.seen → IsClosed self.new.seen }
+        ensures unclosed { ¬ IsClosed self.old.seen → ¬ IsClosed self.new.seen }
         ensures runs { IsRunning self.new.seen }
     {
         self.seat.chain(item)
@@ -180,7 +212,24 @@ impl Owner {
     pub fn is_closed(&self) -> bool
         ensures closed { result ≡ closed self.now.seen }
     {
-        self.seat.closed
+        self.seat.is_closed()
+    }
+
+    /// Whether the queue drains: its drain was not resumed, and it was not closed since.
+    pub fn is_draining(&self) -> bool
+        ensures draining { IsTrue result ↔ IsDraining self.now.seen }
+        ensures else_open { result ≡ false → ¬ IsClosed self.now.seen → ¬ IsShut self.now.seen }
+    {
+        self.seat.is_draining()
+    }
+
+    /// Whether the queue drains and all that was accepted has ended, so that it can be resumed.
+    pub fn drained(&self) -> bool
+        ensures drained { IsTrue result ↔ (IsDraining self.now.seen × HasRunOut self.now.seen) }
+        ensures rested { IsTrue result → (batch self.now.seen ≡ []) × (¬ IsRunning self.now.seen) }
+        ensures finished { IsDraining self.now.seen → batch self.now.seen ≡ [] → ¬ IsRunning self.now.seen → IsTrue result }
+    {
+        self.seat.drained()
     }
 
     /// The number that runs.
@@ -197,7 +246,7 @@ impl Owner {
         ensures last { IsSome result → IsFinal self.now.layout self.now.seen }
         ensures finished { IsClosed self.now.seen → batch self.now.seen ≡ [] → ¬ IsRunning self.now.seen → IsSome result }
     {
-        if !self.seat.closed || self.seat.row.count != 0 || self.seat.running.is_some() {
+        if !self.seat.is_closed() || self.seat.row.count != 0 || self.seat.running.is_some() {
             return None;
         }
         Some(Done {

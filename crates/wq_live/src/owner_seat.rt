@@ -1,10 +1,11 @@
 //! The owner's part of a chair, which is the first, and what the owner keeps beside it.
-ghost use Rattle.std.specs.Prelude.{◌≡◌, ◌≢◌, ℕ, ◌+◌, ◌<◌, ◌≤◌, false, [], ◌∷◌, ◌++◌, Some, None, IsTrue, length};
+ghost use Rattle.std.specs.Prelude.{◌≡◌, ◌≢◌, ℕ, ◌+◌, ◌<◌, ◌≤◌, ◌↔◌, false, [], ◌∷◌, ◌++◌, Some, None, IsTrue, length};
 ghost use mathlib.Core.List.{IsPrefix};
-ghost use Rattle.wq_words.specs.declared.event.Event.TheVariants.{Take, Close, Begin, End};
+ghost use Rattle.wq_words.specs.declared.event.Event.TheVariants.{Take, Close, Drain, Resume, Begin, End};
 ghost use Rattle.wq_words.specs.Numbers.{number_count};
-ghost use Rattle.wq_words.specs.History.{IsClosed, IsShut, IsRunning, running};
-ghost use Rattle.wq_core.specs.Words.{number_at};
+ghost use Rattle.wq_words.specs.History.{IsClosed, IsShut, IsDraining, closed, IsRunning, running};
+ghost use Rattle.wq_words.specs.Legal.{HasRunOut};
+ghost use Rattle.wq_core.specs.Words.{head_at, item_of};
 ghost use Rattle.wq_table.specs.Chair.{part_at};
 ghost use Rattle.wq_table.specs.Beside.{Beside, Follow};
 ghost use Rattle.wq_live.specs.Known.{IsSame, Sees};
@@ -17,9 +18,20 @@ ghost use Rattle.wq_live.specs.Sits.{owner_view, OwnsQueue, Stands, OnlySees, Ha
 
 use crate::counts::OwnerCounts;
 use crate::row::Row;
-use wq_core::place::{link_word, number_at};
+use wq_core::place::{head_at, item_of, number_at};
 use wq_table::{Chair, First, Place};
 use wq_words::{Answer, BUSY, Layout};
+
+// Whether the queue takes pushes.
+#[derive(Clone, Copy, Drop, PartialEq, Eq)]
+pub(crate) enum Phase {
+    // It does.
+    Open,
+    // Not until it is resumed.
+    Draining,
+    // Not any more.
+    Closed,
+}
 
 // The chair, of which the first part is the owner's, and what the owner keeps of what it has seen.
 #[derive(Drop)]
@@ -28,20 +40,20 @@ pub(crate) struct OwnerSeat {
     pub(crate) layout: Layout,
     pub(crate) row: Row,
     pub(crate) running: Option<u32>,
-    pub(crate) closed: bool,
+    pub(crate) phase: Phase,
     pub(crate) counts: OwnerCounts,
 }
 
-// Walks what was taken, from the number of this word on, and turns its links, so that it stands oldest first.
-pub(crate) fn turn_taken<P: Place>(chair: &mut Chair, word: u64) -> Row
+// Walks what was taken, from this number on, and turns its links, so that it stands oldest first.
+pub(crate) fn turn_taken<P: Place>(chair: &mut Chair, first: Option<u32>) -> Row
     requires stands { Stands (part_at P.at chair.old) }
-    requires stage { (part_at P.at chair.old).stage ≡ walking (number_at word) [] (kept_batch (part_at P.at chair.old).stage) }
+    requires stage { (part_at P.at chair.old).stage ≡ walking first [] (kept_batch (part_at P.at chair.old).stage) }
     ensures beside { Beside P.at chair.old chair.new }
     ensures follows { OnlySees (part_at P.at chair.old) (part_at P.at chair.new) }
     ensures stands { Stands (part_at P.at chair.new) }
     ensures turned { Turned (kept_batch (part_at P.at chair.old).stage) result (part_at P.at chair.old) (part_at P.at chair.new) }
 {
-    let Some(last) = number_at(word) else {
+    let Some(last) = first else {
         return Row::empty();
     };
     let mut row = Row::of_one(last);
@@ -80,10 +92,10 @@ pub(crate) fn hang<P: Place>(chair: &mut Chair, row: Row, more: Row) -> Row
     }
 }
 
-// Walks what was taken, from the number of this word on, and hangs it behind what waits.
-pub(crate) fn walk_all<P: Place>(chair: &mut Chair, row: Row, word: u64) -> Row
+// Walks what was taken, from the number at this head on, and hangs it behind what waits.
+pub(crate) fn walk_all<P: Place>(chair: &mut Chair, row: Row, head: u64) -> Row
     requires stands { Stands (part_at P.at chair.old) }
-    requires stage { (part_at P.at chair.old).stage ≡ walking (number_at word) [] (kept_batch (part_at P.at chair.old).stage) }
+    requires stage { (part_at P.at chair.old).stage ≡ walking (item_of (head_at head)) [] (kept_batch (part_at P.at chair.old).stage) }
     requires row { IsRowOf (part_at P.at chair.old).words row (kept_batch (part_at P.at chair.old).stage) }
     ensures beside { Beside P.at chair.old chair.new }
     ensures follows { OnlySees (part_at P.at chair.old) (part_at P.at chair.new) }
@@ -92,7 +104,7 @@ pub(crate) fn walk_all<P: Place>(chair: &mut Chair, row: Row, word: u64) -> Row
     ensures more { row.count ≤ result.count }
     ensures behind { IsPrefix (kept_batch (part_at P.at chair.old).stage) (kept_batch (part_at P.at chair.new).stage) }
 {
-    let taken = turn_taken::<P>(chair, word);
+    let taken = turn_taken::<P>(chair, item_of(head_at(head)));
     hang::<P>(chair, row, taken)
 }
 
@@ -137,7 +149,7 @@ impl OwnerSeat {
         ensures runs { IsRunning (owner_view self.old).seen → IsRunning (owner_view self.new).seen }
     {
         let head = self.chair.take::<First>();
-        self.row = walk_all::<First>(&mut self.chair, self.row, link_word(head));
+        self.row = walk_all::<First>(&mut self.chair, self.row, head);
         self.row.count
     }
 
@@ -157,9 +169,72 @@ impl OwnerSeat {
     {
         let had = self.row.count;
         let head = self.chair.close::<First>();
-        self.closed = true;
-        self.row = walk_all::<First>(&mut self.chair, self.row, link_word(head));
+        self.phase = Phase::Closed;
+        self.row = walk_all::<First>(&mut self.chair, self.row, head);
         self.row.count - had
+    }
+
+    pub(crate) fn drain(&mut self) -> u32
+        requires owns { OwnsQueue self.old }
+        requires open { ¬ IsShut (owner_view self.old).seen }
+        ensures owns { OwnsQueue self.new }
+        ensures follow { Follow 0 self.old.chair self.new.chair }
+        ensures seen { Sees (Drain ∷ []) 0 (owner_view self.old) (owner_view self.new) }
+        ensures takes { TakesAll Drain result (owner_view self.new).seen }
+        ensures behind { IsPrefix (batch (owner_view self.old).seen) (batch (owner_view self.new).seen) }
+        ensures count { length (batch (owner_view self.new).seen) ≡ length (batch (owner_view self.old).seen) + result }
+        ensures draining { IsDraining (owner_view self.new).seen }
+        ensures shut { IsShut (owner_view self.new).seen }
+        ensures unclosed { ¬ IsClosed (owner_view self.new).seen }
+        ensures idle { ¬ IsRunning (owner_view self.old).seen → ¬ IsRunning (owner_view self.new).seen }
+        ensures runs { IsRunning (owner_view self.old).seen → IsRunning (owner_view self.new).seen }
+    {
+        let had = self.row.count;
+        let head = self.chair.drain::<First>();
+        self.phase = Phase::Draining;
+        self.row = walk_all::<First>(&mut self.chair, self.row, head);
+        self.row.count - had
+    }
+
+    pub(crate) fn resume(&mut self)
+        requires owns { OwnsQueue self.old }
+        requires draining { IsDraining (owner_view self.old).seen }
+        requires empty { batch (owner_view self.old).seen ≡ [] }
+        requires idle { ¬ IsRunning (owner_view self.old).seen }
+        ensures owns { OwnsQueue self.new }
+        ensures follow { Follow 0 self.old.chair self.new.chair }
+        ensures seen { Sees (Resume ∷ []) 0 (owner_view self.old) (owner_view self.new) }
+        ensures open { ¬ IsShut (owner_view self.new).seen }
+        ensures unclosed { ¬ IsClosed (owner_view self.new).seen }
+        ensures empty { batch (owner_view self.new).seen ≡ [] }
+        ensures idle { ¬ IsRunning (owner_view self.new).seen }
+    {
+        self.chair.resume::<First>();
+        self.phase = Phase::Open;
+    }
+
+    pub(crate) fn is_draining(&self) -> bool
+        requires owns { OwnsQueue self.now }
+        ensures draining { IsTrue result ↔ IsDraining (owner_view self.now).seen }
+        ensures else_open { result ≡ false → ¬ IsClosed (owner_view self.now).seen → ¬ IsShut (owner_view self.now).seen }
+    {
+        matches!(self.phase, Phase::Draining)
+    }
+
+    pub(crate) fn is_closed(&self) -> bool
+        requires owns { OwnsQueue self.now }
+        ensures closed { result ≡ closed (owner_view self.now).seen }
+    {
+        matches!(self.phase, Phase::Closed)
+    }
+
+    pub(crate) fn drained(&self) -> bool
+        requires owns { OwnsQueue self.now }
+        ensures drained { IsTrue result ↔ (IsDraining (owner_view self.now).seen × HasRunOut (owner_view self.now).seen) }
+        ensures rested { IsTrue result → (batch (owner_view self.now).seen ≡ []) × (¬ IsRunning (owner_view self.now).seen) }
+        ensures finished { IsDraining (owner_view self.now).seen → batch (owner_view self.now).seen ≡ [] → ¬ IsRunning (owner_view self.now).seen → IsTrue result }
+    {
+        self.is_draining() && self.row.count == 0 && self.running.is_none()
     }
 
     pub(crate) fn next(&self) -> Option<u32>
@@ -254,6 +329,7 @@ impl OwnerSeat {
         ensures batch { batch (owner_view self.new).seen ≡ batch (owner_view self.old).seen ++ queued_number item result }
         ensures shut { IsShut (owner_view self.new).seen }
         ensures closed { IsClosed (owner_view self.old).seen → IsClosed (owner_view self.new).seen }
+        ensures unclosed { ¬ IsClosed (owner_view self.old).seen → ¬ IsClosed (owner_view self.new).seen }
         ensures runs { IsRunning (owner_view self.new).seen }
     {
         if self.chair.chain::<First>(item) != 0 {

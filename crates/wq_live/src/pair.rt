@@ -1,11 +1,11 @@
 //! An owner and a sender of one queue in one seat.
-ghost use Rattle.std.specs.Prelude.{◌≡◌, ◌≢◌, ℕ, ◌+◌, ◌<◌, ◌≤◌, false, [], ◌∷◌, ◌++◌, Some, IsTrue, length};
+ghost use Rattle.std.specs.Prelude.{◌≡◌, ◌≢◌, ℕ, ◌+◌, ◌<◌, ◌≤◌, ◌↔◌, false, [], ◌∷◌, ◌++◌, Some, IsTrue, length};
 ghost use mathlib.Core.List.{IsPrefix};
 ghost use Rattle.wq_words.specs.declared.answer.Answer.TheVariants.{Contended};
-ghost use Rattle.wq_words.specs.declared.event.Event.TheVariants.{Take, Close, Begin, End};
+ghost use Rattle.wq_words.specs.declared.event.Event.TheVariants.{Take, Close, Drain, Resume, Begin, End};
 ghost use Rattle.wq_words.specs.Numbers.{number_count};
-ghost use Rattle.wq_words.specs.History.{IsClosed, IsShut, closed, IsRunning, running};
-ghost use Rattle.wq_words.specs.Legal.{IsLegal};
+ghost use Rattle.wq_words.specs.History.{IsClosed, IsShut, IsDraining, closed, IsRunning, running};
+ghost use Rattle.wq_words.specs.Legal.{IsLegal, HasRunOut};
 ghost use Rattle.wq_words.specs.Headline.{KeepsHeadline};
 ghost use Rattle.wq_words.specs.Seen.{owner_seat, Grows};
 ghost use Rattle.wq_live.specs.Known.{Sees};
@@ -62,7 +62,7 @@ impl Pair {
                 layout: seat.layout,
                 row: seat.row,
                 running: seat.running,
-                closed: seat.closed,
+                phase: seat.phase,
                 counts: seat.counts,
             },
             sent,
@@ -89,7 +89,7 @@ impl Pair {
                 layout: seat.layout,
                 row: seat.row,
                 running: seat.running,
-                closed: seat.closed,
+                phase: seat.phase,
                 counts: seat.counts,
             },
         };
@@ -121,7 +121,24 @@ impl Pair {
     pub fn is_closed(&self) -> bool
         ensures closed { result ≡ closed self.now.seen }
     {
-        self.seat.closed
+        self.seat.is_closed()
+    }
+
+    /// As `Owner::is_draining`.
+    pub fn is_draining(&self) -> bool
+        ensures draining { IsTrue result ↔ IsDraining self.now.seen }
+        ensures else_open { result ≡ false → ¬ IsClosed self.now.seen → ¬ IsShut self.now.seen }
+    {
+        self.seat.is_draining()
+    }
+
+    /// As `Owner::drained`.
+    pub fn drained(&self) -> bool
+        ensures drained { IsTrue result ↔ (IsDraining self.now.seen × HasRunOut self.now.seen) }
+        ensures rested { IsTrue result → (batch self.now.seen ≡ []) × (¬ IsRunning self.now.seen) }
+        ensures finished { IsDraining self.now.seen → batch self.now.seen ≡ [] → ¬ IsRunning self.now.seen → IsTrue result }
+    {
+        self.seat.drained()
     }
 
     /// The number that runs.
@@ -175,6 +192,38 @@ impl Pair {
         ensures others { Sees [] 0 (pair_sender self.old) (pair_sender self.new) }
     {
         self.seat.close()
+    }
+
+    /// As `Owner::drain`: the owner's events, and none of the sender's.
+    pub fn drain(&mut self) -> u32
+        requires open { ¬ IsShut self.old.seen }
+        ensures seen { Sees (Drain ∷ []) 0 (pair_owner self.old) (pair_owner self.new) }
+        ensures takes { TakesAll Drain result self.new.seen }
+        ensures behind { IsPrefix (batch self.old.seen) (batch self.new.seen) }
+        ensures count { length (batch self.new.seen) ≡ length (batch self.old.seen) + result }
+        ensures draining { IsDraining self.new.seen }
+        ensures shut { IsShut self.new.seen }
+        ensures unclosed { ¬ IsClosed self.new.seen }
+        ensures idle { ¬ IsRunning self.old.seen → ¬ IsRunning self.new.seen }
+        ensures runs { IsRunning self.old.seen → IsRunning self.new.seen }
+        ensures others { Sees [] 0 (pair_sender self.old) (pair_sender self.new) }
+    {
+        self.seat.drain()
+    }
+
+    /// As `Owner::resume`: the owner's events, and none of the sender's.
+    pub fn resume(&mut self)
+        requires draining { IsDraining self.old.seen }
+        requires empty { batch self.old.seen ≡ [] }
+        requires idle { ¬ IsRunning self.old.seen }
+        ensures seen { Sees (Resume ∷ []) 0 (pair_owner self.old) (pair_owner self.new) }
+        ensures open { ¬ IsShut self.new.seen }
+        ensures unclosed { ¬ IsClosed self.new.seen }
+        ensures empty { batch self.new.seen ≡ [] }
+        ensures idle { ¬ IsRunning self.new.seen }
+        ensures others { Sees [] 0 (pair_sender self.old) (pair_sender self.new) }
+    {
+        self.seat.resume();
     }
 
     /// As `Owner::next`.
@@ -251,6 +300,7 @@ impl Pair {
         ensures batch { batch self.new.seen ≡ batch self.old.seen ++ queued_number item result }
         ensures shut { IsShut self.new.seen }
         ensures closed { IsClosed self.old.seen → IsClosed self.new.seen }
+        ensures unclosed { ¬ IsClosed self.old.seen → ¬ IsClosed self.new.seen }
         ensures runs { IsRunning self.new.seen }
         ensures others { Sees [] 0 (pair_sender self.old) (pair_sender self.new) }
     {

@@ -16,8 +16,8 @@ ghost use Rattle.wq_live.specs.Laws.{IsStillEnd};
 
 use crate::counts::SenderCounts;
 use crate::owner::Owner;
-use crate::sent::{Sent, attempt, hold_number, push_tries, queue_number};
-use crate::spins::{Spins, Waits};
+use crate::sent::{Sent, hold_number, push_tries, queue_number, queue_waiting};
+use crate::spins::Spins;
 use crossbeam_utils::Backoff;
 use std::marker::Model;
 use std::sync::Wait;
@@ -95,15 +95,6 @@ impl Sender {
         hold_number::<First>(&mut self.chair, &mut self.sent, number)
     }
 
-    // One try to push a number that this sender holds: look, link, push.
-    fn attempt(&mut self, number: u32) -> Posted
-        requires number { number < number_count self.old.layout }
-        requires held { Holds self.old.seen self.old.number number }
-        ensures { Posts number 1 result self.old self.new }
-    {
-        attempt::<First>(&mut self.chair, &mut self.sent, number)
-    }
-
     // The PENDING bit of a number.
     fn is_number_pending(&mut self, number: u32) -> bool
         requires number { number < number_count self.old.layout }
@@ -148,18 +139,7 @@ impl Sender {
         ensures answer { Answers number 0 result self.old self.new }
         ensures settled { result ≢ Contended }
     {
-        if !self.hold_number(number) {
-            return Answer::Pending;
-        }
-        let mut waits = Waits::new(self.sent.spins);
-        for _ in rt.forever() {
-            match self.attempt(number) {
-                Posted::Queued { first, wakes } => return Answer::Queued { first, wakes },
-                Posted::Closed => return Answer::Closed,
-                Posted::Contended => waits.pass(),
-            }
-        }
-        unreachable!()
+        queue_waiting::<R, First>(rt, &mut self.chair, &mut self.sent, number)
     }
 
     /// Sets the item's PENDING bit (the test-and-set of `queue_work`). True where it was clear: the item is then held by
@@ -184,6 +164,7 @@ impl Sender {
         ensures answer { Posts item tries result self.old self.new }
         ensures same { IsSame self.old self.new }
         ensures held { result ≡ posted.Contended → Holds self.new.seen self.new.number item }
+        ensures still_held { result ≡ posted.Draining → Holds self.new.seen self.new.number item }
         ensures keeps { (k : ℕ) → k ≢ item → Holds self.old.seen self.old.number k → Holds self.new.seen self.new.number k }
     {
         self.push_tries(item, tries)

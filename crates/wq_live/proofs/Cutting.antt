@@ -1,0 +1,75 @@
+-- A swap of the head by the owner, and the walk of what was found.
+use Rattle.std.proofs.Common.{◌≡◌, ℕ, ◌+◌, ◌-◌, ◌≤◌, List, [], ◌∷◌, length, sym, refl, ap, ◌∙◌, subst, arith}
+use mathlib.Core.List.{IsPrefix}
+use Rattle.wq_words.specs.declared.event.Event.{Event}
+use Rattle.wq_words.specs.Seen.{owner_seat, Grows}
+use Rattle.wq_core.specs.declared.step.Step.{Step}
+use Rattle.wq_core.specs.Words.{head_at, item_of}
+use Rattle.wq_table.specs.declared.table.Part.{Part}
+use Rattle.wq_table.specs.Plays.{Makes}
+use Rattle.wq_table.specs.Chair.{Standing, Steps}
+use Rattle.wq_live.specs.declared.owner_seat.OwnerSeat.{OwnerSeat as Inside}
+use Rattle.wq_live.specs.Known.{Sees}
+use Rattle.wq_live.specs.Batch.{batch, TakesAll}
+use Rattle.wq_live.specs.Sits.{owner_view, Stands, OnlySees, HasRow, OwnsQueue, phase, kept_batch, walking}
+use Rattle.wq_live.proofs.Tells.{Tells}
+use Rattle.wq_live.proofs.Owned.{running_quiet, counts_quiet}
+use Rattle.wq_live.proofs.OwnerTells.{stands_batch, owner_batch, pair_owner, Swaps, swap_tells, swap_stage, owner_grows, owner_sees}
+use Rattle.wq_live.proofs.Linking.{walks_kept, walks_batch}
+use Rattle.wq_live.proofs.Taken.{CutsAll}
+use Rattle.wq_live.proofs.Taking.{followed, cut_takes}
+
+-- the owner is s before, its chair q after the swap, and it is t after the walk
+module _ (st : Step) (word : ℕ) (e : Event) (swaps : Swaps st word e) (found : ℕ) (s : Inside) (q : Standing) (o : OwnsQueue s) (steps : Steps 0 st found s.chair q) where
+  -- what the head had is to be walked
+  pub cut_stage : q.part.stage ≡ walking (item_of (head_at found)) [] (kept_batch s.chair.part.stage)
+  cut_stage = swap_stage st word e swaps found s.chair.part q.part (kept_batch s.chair.part.stage) o.has_row.stage_is steps.moves.makes
+
+  pub cut_kept : q.part.stage ≡ walking (item_of (head_at found)) [] (kept_batch q.part.stage)
+  cut_kept = walks_kept q.part.stage (item_of (head_at found)) (kept_batch s.chair.part.stage) cut_stage
+
+  module _ (t : Inside) (follows : OnlySees q.part t.chair.part) (stands : Stands t.chair.part) (has_row : HasRow t.row t.chair.part) where
+    told : Tells (e ∷ []) s.chair.part t.chair.part
+    told = followed (e ∷ []) 0 s.chair.part q.part t.chair.part (swap_tells st word e swaps found s.chair.part q.part o.number_is
+        (pair_owner s.chair.part.stage (kept_batch s.chair.part.stage) o.has_row.stage_is) steps.moves.makes) follows stands
+
+    pub cut_grows : Grows owner_seat (e ∷ []) 0 s.chair.part.seen t.chair.part.seen
+    cut_grows = owner_grows (e ∷ []) 0 s t o told
+
+    pub cut_owns : t.layout ≡ s.layout → t.running ≡ s.running → t.counts ≡ s.counts → t.phase ≡ phase t.chair.part.seen → OwnsQueue t
+    cut_owns layout running counts phase_is = let v = s.chair.part.seen in let w = t.chair.part.seen in record {
+      layout_is = told.layout_is ∙ (o.layout_is ∙ sym layout);
+      number_is = told.seat_is ∙ o.number_is;
+      stands = stands;
+      has_row = has_row;
+      running_is = running ∙ (o.running_is ∙ sym (running_quiet (e ∷ []) 0 v w cut_grows swaps.begins swaps.ends));
+      phase_is = phase_is;
+      counts_are = counts ∙ counts_quiet (e ∷ []) 0 v w cut_grows swaps.chains swaps.finds (ap (λ (x : List ℕ). length x) swaps.ends) s.counts o.counts_are;
+    }
+
+    pub cut_sees : t.layout ≡ s.layout → t.chair.queue ≡ q.queue → Sees (e ∷ []) 0 (owner_view s) (owner_view t)
+    cut_sees layout queue = owner_sees (e ∷ []) 0 s t (owner_view s) refl o layout (queue ∙ steps.queue_is) told
+
+    pub cut_all : CutsAll e → (count : ℕ) → count + s.row.count ≡ t.row.count → TakesAll e count t.chair.part.seen
+    cut_all cuts count total = cut_takes found s.chair.part q.part t.chair.part (kept_batch s.chair.part.stage) (kept_batch t.chair.part.stage) count
+        o.number_is o.has_row.stage_is follows stands has_row.stage_is
+        (omega (arith, total, o.has_row.row_is.count_is, has_row.row_is.count_is)) st word e swaps cuts steps.moves.makes
+
+    -- the batch is what waited, and behind it what was taken
+    batch_now : kept_batch t.chair.part.stage ≡ batch t.chair.part.seen
+    batch_now = stands_batch t.chair.part (kept_batch t.chair.part.stage) stands has_row.stage_is
+
+    pub cut_behind : IsPrefix (kept_batch q.part.stage) (kept_batch t.chair.part.stage) → IsPrefix (batch s.chair.part.seen) (batch t.chair.part.seen)
+    cut_behind behind = subst (λ (z : List ℕ × List ℕ). IsPrefix z.0 z.1)
+        (λ i. ((walks_batch q.part.stage (item_of (head_at found)) (kept_batch s.chair.part.stage) cut_stage ∙ owner_batch s (owner_view s) refl o) i, batch_now i))
+        behind
+
+    pub cut_count : (count : ℕ) → count + s.row.count ≡ t.row.count → length (batch t.chair.part.seen) ≡ length (batch s.chair.part.seen) + count
+    cut_count count total = omega (
+      arith,
+      total,
+      o.has_row.row_is.count_is,
+      has_row.row_is.count_is,
+      ap (λ (xs : List ℕ). length xs) batch_now,
+      ap (λ (xs : List ℕ). length xs) (owner_batch s (owner_view s) refl o),
+    )
