@@ -1,5 +1,5 @@
 -- The senders and the owner of a new queue.
-use Rattle.std.proofs.Common.{◌≡◌, ℕ, zero, suc, ◌+◌, ◌<◌, false, List, [], ◌∷◌, ◌++◌, length, get_or, None, sym, refl, ap, ◌∙◌, subst, arith, length-append}
+use Rattle.std.proofs.Common.{◌≡◌, ℕ, zero, suc, ◌+◌, ◌<◌, List, [], ◌∷◌, ◌++◌, length, get_or, None, sym, refl, ap, ◌∙◌, subst, arith, length-append}
 use Rattle.atomic_table.specs.Seated.{TableId}
 use Rattle.wq_words.specs.declared.layout.Layout.{Layout}
 use Rattle.wq_words.specs.Legal.{IsLegal}
@@ -9,14 +9,15 @@ use Rattle.wq_core.specs.Machine.{opening}
 use Rattle.wq_core.proofs.Schedules.{sound_opening}
 use Rattle.wq_table.specs.Chair.{Standing, IsSender, owner_chair, sender_chair, sender_chairs}
 use Rattle.wq_live.specs.declared.owner_seat.OwnerSeat.{OwnerSeat}
-use Rattle.wq_words.specs.History.{closed, running}
+use Rattle.wq_live.specs.declared.owner_seat.Phase.TheVariants.{Open}
+use Rattle.wq_words.specs.History.{running}
 use Rattle.wq_live.specs.Known.{new_sender, new_senders}
 use Rattle.wq_live.specs.Counts.{sender_counts, owner_counts}
 use Rattle.wq_live.specs.declared.row.Row.{Row}
 use Rattle.wq_live.specs.Row.{IsRowOf}
 use Rattle.wq_table.proofs.Views.{none_stands}
 use Rattle.wq_live.proofs.Linking.{has_row}
-use Rattle.wq_live.specs.Sits.{Sending, sender_view, Sends, Stands, OwnsQueue}
+use Rattle.wq_live.specs.Sits.{Sending, sender_view, Sends, Stands, OwnsQueue, phase}
 
 pub length-sender_chairs : (q : TableId) (l : Layout) (n : ℕ) → length (sender_chairs q l n) ≡ n
 length-sender_chairs q l zero = refl
@@ -34,7 +35,7 @@ pub new_senders-more : (q : TableId) (l : Layout) (n : ℕ) → new_senders q l 
 new_senders-more q l n = let e : n + 1 ≡ suc n = omega arith in sym (ap (new_senders q l) e)
 
 pub sends_new : (s : Sending) (q : TableId) → s.chair ≡ sender_chair q s.layout s.number
-    → s.counts ≡ record { queued = 0; pending = 0; closed = 0; contended = 0 } → Sends s
+    → s.counts ≡ record { queued = 0; pending = 0; closed = 0; draining = 0; contended = 0 } → Sends s
 sends_new s q is counts = let seen : s.chair.part.seen ≡ [] = ap (λ (x : Standing). x.part.seen) is in record {
   layout_is = ap (λ (x : Standing). x.part.layout) is;
   number_is = ap (λ (x : Standing). x.part.seat) is;
@@ -56,8 +57,8 @@ stands_new l p is = subst (λ (x : Standing). Stands x.part) (sym is) record {
 
 -- the owner of a new queue
 pub executes_new : (s : OwnerSeat) → s.chair ≡ owner_chair s.chair.queue s.layout → s.row ≡ record { front = 0; last = 0; count = 0 }
-    → s.running ≡ None → s.closed ≡ false → s.counts ≡ record { chained = 0; chain_busy = 0; ended = 0 } → OwnsQueue s
-executes_new s is row runs shut counts = let seen : s.chair.part.seen ≡ [] = ap (λ (x : Standing). x.part.seen) is in record {
+    → s.running ≡ None → s.phase ≡ Open → s.counts ≡ record { chained = 0; chain_busy = 0; ended = 0 } → OwnsQueue s
+executes_new s is row runs opens counts = let seen : s.chair.part.seen ≡ [] = ap (λ (x : Standing). x.part.seen) is in record {
   layout_is = ap (λ (x : Standing). x.part.layout) is;
   number_is = ap (λ (x : Standing). x.part.seat) is;
   stands = stands_new s.layout s.chair is;
@@ -65,7 +66,7 @@ executes_new s is row runs shut counts = let seen : s.chair.part.seen ≡ [] = a
       has_row s.chair.part s.row [] (ap (λ (x : Standing). x.part.stage) is)
       (subst (λ (r : Row). IsRowOf s.chair.part.words r []) (sym row) (record { count_is = refl; spells = tt }));
   running_is = runs ∙ ap running (sym seen);
-  closed_is = shut ∙ ap closed (sym seen);
+  phase_is = opens ∙ ap phase (sym seen);
   counts_are = counts ∙ ap owner_counts (sym seen);
 }
 

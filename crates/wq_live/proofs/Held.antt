@@ -50,6 +50,7 @@ pub queued_held : (k j tries : ℕ) (a : Answer) (s t : Known) → Answers j tri
 queued_held k j tries (answer.Queued first wakes) s t told = held_both k 0 j (Push s.number j) s t told.0 refl
 queued_held k j tries answer.Pending s t told = held_past k 0 (Busy s.number j) s t told refl
 queued_held k j tries answer.Closed s t told = held_both k 0 j (Back s.number j why.Closed) s t told refl
+queued_held k j tries answer.Draining s t told = held_both k 0 j (Back s.number j why.Draining) s t told.0 refl
 queued_held k j tries answer.Contended s t told = held_both k tries j (Back s.number j why.Contended) s t told refl
 
 pub given_held : (k j n : ℕ) (why : Why) (s t : Known) → Sees (Back s.number j why ∷ []) n s t → k ≢ j → Holds s.seen s.number k → Holds t.seen t.number k
@@ -58,6 +59,7 @@ given_held k j n why s t sees ne = held_past k n (Back s.number j why) s t sees 
 pub posted_held : (k j tries : ℕ) (a : Posted) (s t : Known) → Posts j tries a s t → k ≢ j → Holds s.seen s.number k → Holds t.seen t.number k
 posted_held k j tries (posted.Queued first wakes) s t told ne = held_past k 0 (Push s.number j) s t told.0 (other k j (s.number == s.number) ne)
 posted_held k j tries posted.Closed s t told ne = given_held k j 0 why.Closed s t told ne
+posted_held k j tries posted.Draining s t told ne = sees_held k 0 s t told.0
 posted_held k j tries posted.Contended s t told ne = sees_held k tries s t told
 
 -- what could not be pushed is held still
@@ -65,3 +67,10 @@ pub contended_held : (k tries : ℕ) (a : Posted) (s t : Known) → Posts k trie
 contended_held k tries posted.Contended s t told is = sees_held k tries s t told
 contended_held k tries (posted.Queued first wakes) s t told is = absurd (cc)
 contended_held k tries posted.Closed s t told is = absurd (cc)
+contended_held k tries posted.Draining s t told is = sees_held k 0 s t told.0
+
+pub draining_held : (k tries : ℕ) (a : Posted) (s t : Known) → Posts k tries a s t → a ≡ posted.Draining → Holds s.seen s.number k → Holds t.seen t.number k
+draining_held k tries posted.Draining s t told is = sees_held k 0 s t told.0
+draining_held k tries posted.Contended s t told is = sees_held k tries s t told
+draining_held k tries (posted.Queued first wakes) s t told is = absurd (cc)
+draining_held k tries posted.Closed s t told is = absurd (cc)

@@ -2,6 +2,7 @@ pub mod Growing
 pub mod Tells
 pub mod Counting
 pub mod Sends
+pub mod Drained
 pub mod Tried
 pub mod Flushed
 pub mod Waiting
@@ -15,6 +16,7 @@ pub mod Fresh
 pub mod Taken
 pub mod Taking
 pub mod Cutting
+pub mod Resuming
 pub mod Meeting
 pub mod Final
 pub mod Built

@@ -14,7 +14,8 @@ use Rattle.wq_live.specs.declared.owner_seat.OwnerSeat.{OwnerSeat as Inside}
 use Rattle.wq_live.specs.Known.{Known, Sees}
 use Rattle.wq_live.specs.Sits.{Sending, owner_view, sender_view, Sends, Stands, HasRow, OwnsQueue}
 use Rattle.wq_live.proofs.Tells.{Tells, meet_tells}
-use Rattle.wq_live.proofs.Owned.{running_quiet, closed_quiet, counts_quiet}
+use Rattle.wq_live.proofs.Owned.{running_quiet, counts_quiet}
+use Rattle.wq_live.proofs.Phases.{phase_quiet}
 use Rattle.wq_live.proofs.OwnerTells.{owner_grows, owner_sees}
 
 meet_stands : (m : Machine) (p q : Part) → IsSound m → IsPartOf m p → q ≡ see m.history p → Stands q
@@ -41,7 +42,7 @@ module _ (s : Inside) (q : Standing) (m : Machine) (sound : IsSound m) (f : IsPa
     stands = meet_stands m s.chair.part q.part sound f parts;
     has_row = subst (HasRow s.row) (sym parts) (record { stage_is = executes.has_row.stage_is; row_is = executes.has_row.row_is });
     running_is = executes.running_is ∙ sym (running_quiet [] 0 v w g refl refl);
-    closed_is = executes.closed_is ∙ sym (closed_quiet [] 0 v w g refl);
+    phase_is = executes.phase_is ∙ sym (phase_quiet [] 0 v w g refl);
     counts_are = counts_quiet [] 0 v w g refl refl refl s.counts executes.counts_are;
   }
 

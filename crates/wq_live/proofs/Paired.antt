@@ -54,7 +54,7 @@ owns_at s q is o = subst (λ (p : Part). OwnsQueue (record s { chair = record { 
   stands = o.stands;
   has_row = record { stage_is = o.has_row.stage_is; row_is = o.has_row.row_is };
   running_is = o.running_is;
-  closed_is = o.closed_is;
+  phase_is = o.phase_is;
   counts_are = o.counts_are;
 }
 

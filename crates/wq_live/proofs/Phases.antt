@@ -3,7 +3,6 @@ use Rattle.std.proofs.Common.{◌≡◌, ℕ, Bool, true, false, cond, ◌==◌,
 use Rattle.std.specs.Prelude.{count_by}
 use Rattle.std.proofs.lemmas.List.{append-nil}
 use Rattle.std.proofs.lemmas.List.Sums.{sum_by-cons}
-use Rattle.std.proofs.lemmas.List.Elements.{filter-filter}
 use Rattle.wq_words.specs.declared.event.Event.{Event}
 use Rattle.wq_words.specs.declared.event.Event.TheVariants as event
 use Rattle.wq_words.specs.History.{closed, shut, is_close, is_drain, is_resume, IsClosed, IsShut, IsDraining}
@@ -12,7 +11,6 @@ use Rattle.wq_words.proofs.Seen.{own-append, closed_count}
 use Rattle.wq_words.proofs.ShutOwn.{shut_same}
 use Rattle.wq_words.proofs.Closed.{closed_from_IsClosed, closed_from_open, IsClosed_from_closed, open_from_closed, closed_push_no, closed_push_yes, closed_shuts}
 use Rattle.wq_words.proofs.Closed.{shut_from_IsShut, shut_from_open, IsShut_from_shut, open_from_shut, shut_quiet, shut_drain, shut_resume}
-use Rattle.wq_live.specs.declared.owner_seat.Phase.{Phase}
 use Rattle.wq_live.specs.declared.owner_seat.Phase.TheVariants.{Open, Draining, Closed}
 use Rattle.wq_live.specs.Sits.{phase}
 use Rattle.wq_live.proofs.Growing.{grows_own}
@@ -48,7 +46,14 @@ module _ (h : List Event) where
 
 -- as far as the owner's events say
 own-own : (h : List Event) → own owner_seat (own owner_seat h) ≡ own owner_seat h
-own-own h = filter-filter (λ e. seat_of e == owner_seat) (λ e. seat_of e == owner_seat) (λ e none. none) h
+own-own [] = refl
+own-own (e ∷ es) = go (seat_of e == owner_seat) refl (own-own es)
+  where
+    go : (b : Bool) → (seat_of e == owner_seat) ≡ b → own owner_seat (own owner_seat es) ≡ own owner_seat es
+        → own owner_seat (cond b (e ∷ own owner_seat es) (own owner_seat es)) ≡ cond b (e ∷ own owner_seat es) (own owner_seat es)
+    go true is same =
+        ap (λ (b : Bool). cond b (e ∷ own owner_seat (own owner_seat es)) (own owner_seat (own owner_seat es))) is ∙ ap (λ (xs : List Event). e ∷ xs) same
+    go false is same = same
 
 closed_alike : (v w : List Event) → own owner_seat w ≡ own owner_seat v → closed w ≡ closed v
 closed_alike v w is = ap (nat_lt 0) (closed_count v w is)

@@ -6,11 +6,12 @@ use Rattle.std.specs.Prelude.{count_by}
 use Rattle.wq_words.specs.declared.event.Event.{Event}
 use Rattle.wq_words.specs.declared.event.Event.TheVariants as event
 use Rattle.wq_words.specs.Head.{busy_word}
-use Rattle.wq_words.specs.History.{begun, ended, is_close, IsClosed, IsShut, IsRunning}
+use Rattle.wq_words.specs.History.{begun, ended, IsClosed, IsShut, IsRunning}
 use Rattle.wq_words.specs.Counting.{is_chain, is_chain_busy}
 use Rattle.wq_words.specs.Rest.{wakes}
 use Rattle.wq_words.specs.Seen.{owner_seat, own}
-use Rattle.wq_words.proofs.Seen.{own_one, closed_same}
+use Rattle.wq_words.proofs.Seen.{own_one}
+use Rattle.wq_words.proofs.ShutOwn.{shut_same}
 use Rattle.wq_core.specs.declared.step.Step.TheVariants.{Rest}
 use Rattle.wq_core.specs.Words.{idle_word, link_word}
 use Rattle.wq_core.specs.Machine.{Machine, head, with_head, happened, after}
@@ -28,7 +29,8 @@ use Rattle.wq_live.specs.Batch.{batch}
 use Rattle.wq_live.specs.Sits.{owner_view, OwnsQueue, kept_batch}
 use Rattle.wq_live.specs.Rest.{Rests, HasRested, MayNotRest}
 use Rattle.wq_live.proofs.Tells.{Tells, tells, seen_after}
-use Rattle.wq_live.proofs.Owned.{running_quiet, closed_quiet, counts_quiet}
+use Rattle.wq_live.proofs.Owned.{running_quiet, counts_quiet}
+use Rattle.wq_live.proofs.Phases.{is_turn, phase_quiet}
 use Rattle.wq_live.proofs.OwnerTells.{makes_stands, stands_batch, pair_owner, owner_grows, owner_sees, owner_batch}
 use Rattle.wq_live.proofs.Linking.{has_row_after}
 use Rattle.wq_live.proofs.Resting.{quiet_idle, open_stays, unclosed_stays}
@@ -69,7 +71,7 @@ rest_tells word p q mine is opens makes =
     (go (head makes.before == busy_word) refl (after_rest makes.before p.seat p.stage is))
   where
     open_before : ¬ IsShut makes.before.history
-    open_before shut = opens (closed_same makes.before.history p.seen (subst (λ (c : ℕ). own c p.seen ≡ own c makes.before.history) mine
+    open_before shut = opens (shut_same makes.before.history p.seen (subst (λ (c : ℕ). own c p.seen ≡ own c makes.before.history) mine
         (sym makes.fits.mine)) shut)
 
     marked : after makes.before (seat_at p.seat p.stage) Rest ≡ happened (with_head makes.before idle_word) event.Rest
@@ -106,7 +108,7 @@ module _ (s : Inside) (q : Standing) (now : Known) (word : ℕ) (view : owner_vi
   stage : q.part.stage ≡ Owns None [] (kept_batch s.chair.part.stage)
   stage = rest_stage word s.chair.part q.part (kept_batch s.chair.part.stage) o.has_row.stage_is makes
 
-  owns : (xs : List Event) → Tells xs s.chair.part q.part → begun xs ≡ [] → ended xs ≡ [] → count_by is_close xs ≡ 0 → count_by is_chain xs ≡ 0
+  owns : (xs : List Event) → Tells xs s.chair.part q.part → begun xs ≡ [] → ended xs ≡ [] → count_by is_turn xs ≡ 0 → count_by is_chain xs ≡ 0
       → count_by is_chain_busy xs ≡ 0 → OwnsQueue (record s { chair = q })
   owns xs tells b e c chained busy =
       let v = s.chair.part.seen in let w = q.part.seen in let g = owner_grows xs 0 s (record s { chair = q }) o tells in record {
@@ -115,7 +117,7 @@ module _ (s : Inside) (q : Standing) (now : Known) (word : ℕ) (view : owner_vi
         stands = makes_stands Rest word s.chair.part q.part makes;
         has_row = has_row_after Rest word s.chair.part q.part s.row o.has_row makes (λ j x. refl) stage;
         running_is = o.running_is ∙ sym (running_quiet xs 0 v w g b e);
-        closed_is = o.closed_is ∙ sym (closed_quiet xs 0 v w g c);
+        phase_is = o.phase_is ∙ sym (phase_quiet xs 0 v w g c);
         counts_are = counts_quiet xs 0 v w g chained busy (ap (λ (ks : List ℕ). length ks) e) s.counts o.counts_are;
       }
 

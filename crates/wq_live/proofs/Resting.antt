@@ -6,7 +6,7 @@ use Rattle.wq_words.specs.declared.event.Event.{Event}
 use Rattle.wq_words.specs.declared.event.Event.TheVariants.{Hold, Busy, Push, Back}
 use Rattle.wq_words.specs.declared.event.Why.TheVariants as why
 use Rattle.wq_words.specs.declared.answer.Answer.{Answer}
-use Rattle.wq_words.specs.declared.answer.Answer.TheVariants.{Queued, Pending, Closed, Contended}
+use Rattle.wq_words.specs.declared.answer.Answer.TheVariants.{Queued, Pending, Closed, Draining, Contended}
 use Rattle.std.proofs.lemmas.List.Elements.{filter_map-append}
 use Rattle.wq_words.specs.History.{accepted, accepted_by, begun, ended, IsRunning, is_close, IsClosed, IsShut}
 use Rattle.std.specs.Prelude.{count_by}
@@ -19,7 +19,9 @@ use Rattle.wq_live.specs.Known.{Known, Sees}
 use Rattle.wq_live.specs.Answers.{Answers}
 use Rattle.wq_live.specs.Laws.{queued_number, IsStillEnd}
 use Rattle.wq_live.proofs.Growing.{grows_own}
-use Rattle.wq_live.proofs.Owned.{closes_on, running_quiet}
+use Rattle.wq_live.proofs.Owned.{running_quiet}
+use Rattle.wq_live.proofs.Phases.{is_turn, closed_quiet, shut_still}
+use Rattle.wq_words.proofs.Closed.{closed_from_open, open_from_closed, shut_from_IsShut, shut_from_open, IsShut_from_shut, open_from_shut}
 use Rattle.wq_live.proofs.Final.{final}
 use Rattle.wq_live.proofs.Rows.{none_counted}
 
@@ -43,21 +45,19 @@ closed_stays xs n old new sees closed =
     let more = sum_by-append (λ e. cond (is_close e) 1 0) old.seen sees.grows.new in
     omega (arith, closed, more, ap (λ (h : List Event). count_by is_close h) sees.grows.is)
 
--- one that is not stays so where its owner closes nothing
-pub unclosed_stays : (xs : List Event) (n : ℕ) (old new : Known) → old.number ≡ owner_seat → Sees xs n old new → count_by is_close xs ≡ 0
-    → ¬ IsClosed old.seen → ¬ IsClosed new.seen
-unclosed_stays xs n old new mine sees none unclosed closed =
-    let g : Grows owner_seat xs n old.seen new.seen = subst (λ (d : ℕ). Grows d xs n old.seen new.seen) mine sees.grows in
-    unclosed (omega (arith, closed, none, closes_on xs n old.seen new.seen g))
+module _ (xs : List Event) (n : ℕ) (old new : Known) (mine : old.number ≡ owner_seat) (sees : Sees xs n old new) (none : count_by is_turn xs ≡ 0) where
+  grows : Grows owner_seat xs n old.seen new.seen
+  grows = subst (λ (d : ℕ). Grows d xs n old.seen new.seen) mine sees.grows
 
--- where the owner does neither, a shut queue stays shut, and an open one open
-pub shut_stays : (xs : List Event) (n : ℕ) (old new : Known) → old.number ≡ owner_seat → Sees xs n old new → count_by is_close xs ≡ 0
-    → IsShut old.seen → IsShut new.seen
-shut_stays xs n old new mine sees none shut = closed_stays xs n old new sees shut
+  -- where its owner neither closes it, nor begins or ends a drain, the queue stays unclosed, shut or open
+  pub unclosed_stays : ¬ IsClosed old.seen → ¬ IsClosed new.seen
+  unclosed_stays unclosed = open_from_closed new.seen (closed_quiet xs n old.seen new.seen grows none ∙ closed_from_open old.seen unclosed)
 
-pub open_stays : (xs : List Event) (n : ℕ) (old new : Known) → old.number ≡ owner_seat → Sees xs n old new → count_by is_close xs ≡ 0
-    → ¬ IsShut old.seen → ¬ IsShut new.seen
-open_stays xs n old new mine sees none opens = unclosed_stays xs n old new mine sees none opens
+  pub shut_stays : IsShut old.seen → IsShut new.seen
+  shut_stays shuts = IsShut_from_shut new.seen (shut_still xs n old.seen new.seen grows none ∙ shut_from_IsShut old.seen shuts)
+
+  pub open_stays : ¬ IsShut old.seen → ¬ IsShut new.seen
+  open_stays opens = open_from_shut new.seen (shut_still xs n old.seen new.seen grows none ∙ shut_from_open old.seen opens)
 
 -- where nothing is accepted, nothing is of any seat
 none_first : (o : Option ℕ) (ks : List ℕ) → cons_option o ks ≡ [] → (o ≡ None) × (ks ≡ [])
@@ -104,4 +104,5 @@ pub queued_accepted : (k tries : ℕ) (a : Answer) (old new : Known) → Answers
 queued_accepted k tries (Queued is_first is_waking) old new told = accepted_on (Hold old.number k ∷ Push old.number k ∷ []) 0 old new told.0
 queued_accepted k tries Pending old new told = accepted_on (Busy old.number k ∷ []) 0 old new told
 queued_accepted k tries Closed old new told = accepted_on (Hold old.number k ∷ Back old.number k why.Closed ∷ []) 0 old new told
+queued_accepted k tries Draining old new told = accepted_on (Hold old.number k ∷ Back old.number k why.Draining ∷ []) 0 old new told.0
 queued_accepted k tries Contended old new told = accepted_on (Hold old.number k ∷ Back old.number k why.Contended ∷ []) tries old new told

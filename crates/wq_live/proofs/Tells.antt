@@ -7,15 +7,16 @@ use Rattle.wq_words.specs.declared.event.Why.{Why}
 use Rattle.wq_words.specs.declared.event.Event.{Event}
 use Rattle.wq_words.specs.declared.event.Event.TheVariants as event
 use Rattle.wq_words.specs.Numbers.{number_count}
-use Rattle.wq_words.specs.History.{Holds, pending}
+use Rattle.wq_words.specs.History.{Holds, IsDraining, pending}
 use Rattle.wq_words.specs.Legal.{IsLegal}
 use Rattle.wq_words.proofs.Legal.{legal_next}
 use Rattle.wq_core.specs.declared.step.Private.{Private}
 use Rattle.wq_core.specs.declared.step.Step.{Step}
-use Rattle.wq_core.specs.declared.step.Step.TheVariants.{Hold, Look, Link, Push, Back, Check, Take, Close, Walk, Begin, End, Chain, Turn, Rest}
-use Rattle.wq_core.specs.Words.{link_word}
+use Rattle.wq_core.specs.declared.step.Step.TheVariants.{Hold, Look, Link, Push, Back, Check, Take, Close, Drain, Resume, Walk, Begin, End, Chain, Turn, Rest}
+use Rattle.wq_core.specs.Words.{draining_word, link_word}
 use Rattle.wq_core.specs.Machine.{Machine, nothing_seen, private, seen_word, head, item_word, with_head, with_link, with_item, with_private, happened, unlinked, after}
 use Rattle.wq_core.specs.Sound.{IsSound, head_word_of}
+use Rattle.wq_core.proofs.Heads.{draining_from_head}
 use Rattle.wq_core.proofs.Taken.{head_first, head_wakes}
 use Rattle.wq_table.specs.declared.table.Part.{Part}
 use Rattle.wq_table.specs.declared.table.Stage.{Stage}
@@ -82,6 +83,8 @@ sender_after (Sends r) (Back k why) word is = tt
 sender_after (Sends r) (Check k) word is = tt
 sender_after (Sends r) Take word is = tt
 sender_after (Sends r) Close word is = tt
+sender_after (Sends r) Drain word is = tt
+sender_after (Sends r) Resume word is = tt
 sender_after (Sends r) Walk word is = tt
 sender_after (Sends r) Begin word is = tt
 sender_after (Sends r) End word is = tt
@@ -123,6 +126,7 @@ seen_look word (Owns a b d) is = elim is [ ]
 pub record Looks (word : ℕ) (p q : Part) : Type 0 where
   pub told : Tells [] p q
   pub head_is : head_word_of q.seen ≡ word
+  pub drains : word ≡ draining_word → IsDraining q.seen
   pub has_seen : HasSeen word q.stage
 
 pub look_tells : (word : ℕ) (p q : Part) → IsSender p.stage → Makes Look word p q → Looks word p q
@@ -131,6 +135,8 @@ look_tells word p q is makes =
       told = tells Look word p q makes _ [] e refl (sym (append-nil makes.before.history)) refl;
       head_is = ap head_word_of (makes.seen_is ∙ ap (λ (x : Machine). x.history) e) ∙
           (sym makes.sound.head_is ∙ sym makes.word_is);
+      drains = λ marked. subst IsDraining (sym (makes.seen_is ∙ ap (λ (x : Machine). x.history) e))
+          (draining_from_head makes.before makes.sound (sym makes.word_is ∙ marked));
       has_seen = subst (HasSeen word) (sym makes.stage_is) (seen_look word p.stage is);
     }
 

@@ -9,7 +9,7 @@ use Rattle.std.proofs.lemmas.Bool.{eqb-true}
 use mathlib.Core.List.{reverse_aux}
 use Rattle.wq_words.specs.declared.layout.Layout.{Layout}
 use Rattle.wq_words.specs.declared.event.Event.{Event}
-use Rattle.wq_words.specs.declared.event.Event.TheVariants.{Hold, Busy, Push, Back, Take, Close, Begin, End, Chain, ChainBusy, Rest}
+use Rattle.wq_words.specs.declared.event.Event.TheVariants.{Hold, Busy, Push, Back, Take, Close, Drain, Resume, Begin, End, Chain, ChainBusy, Rest}
 use Rattle.wq_words.specs.Numbers.{number_count}
 use Rattle.wq_words.specs.History.{accepted, accepted_by, begun}
 use Rattle.wq_words.specs.Listed.{listed}
@@ -80,6 +80,8 @@ below_event layout h (Busy s k) allowed before q is = before q (subst (λ (x : L
 below_event layout h (Back s k why) allowed before q is = before q (subst (λ (x : List ℕ). 1 ≤ times q x) (accepted_quiet h (Back s k why) refl) is)
 below_event layout h Take allowed before q is = before q (subst (λ (x : List ℕ). 1 ≤ times q x) (accepted_quiet h Take refl) is)
 below_event layout h Close allowed before q is = before q (subst (λ (x : List ℕ). 1 ≤ times q x) (accepted_quiet h Close refl) is)
+below_event layout h Drain allowed before q is = before q (subst (λ (x : List ℕ). 1 ≤ times q x) (accepted_quiet h Drain refl) is)
+below_event layout h Resume allowed before q is = before q (subst (λ (x : List ℕ). 1 ≤ times q x) (accepted_quiet h Resume refl) is)
 below_event layout h (Begin k) allowed before q is = before q (subst (λ (x : List ℕ). 1 ≤ times q x) (accepted_quiet h (Begin k) refl) is)
 below_event layout h (End k) allowed before q is = before q (subst (λ (x : List ℕ). 1 ≤ times q x) (accepted_quiet h (End k) refl) is)
 below_event layout h (ChainBusy k) allowed before q is = before q (subst (λ (x : List ℕ). 1 ≤ times q x) (accepted_quiet h (ChainBusy k) refl) is)

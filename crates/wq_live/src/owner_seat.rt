@@ -234,7 +234,13 @@ impl OwnerSeat {
         ensures rested { IsTrue result → (batch (owner_view self.now).seen ≡ []) × (¬ IsRunning (owner_view self.now).seen) }
         ensures finished { IsDraining (owner_view self.now).seen → batch (owner_view self.now).seen ≡ [] → ¬ IsRunning (owner_view self.now).seen → IsTrue result }
     {
-        self.is_draining() && self.row.count == 0 && self.running.is_none()
+        if !self.is_draining() {
+            return false;
+        }
+        if self.row.count != 0 {
+            return false;
+        }
+        self.running.is_none()
     }
 
     pub(crate) fn next(&self) -> Option<u32>

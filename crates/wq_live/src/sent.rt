@@ -60,7 +60,8 @@ pub(crate) fn attempt<P: Place>(chair: &mut Chair, sent: &mut Sent, number: u32)
     match &posted {
         Posted::Queued { .. } => sent.counts.queued = sent.counts.queued.saturating_add(1),
         Posted::Closed => sent.counts.closed = sent.counts.closed.saturating_add(1),
-        Posted::Draining | Posted::Contended => {}
+        Posted::Draining => {}
+        Posted::Contended => {}
     }
     posted
 }

@@ -48,7 +48,7 @@ loop-chair-preserved c = let g = c.into_iter-chair-iterator.ensures.into_iter_gi
     let s : Sending = sending 0 c.in-Some.chair (record {
       layout = c.args.layout;
       number = l.number;
-      counts = record { queued = 0; pending = 0; closed = 0; contended = 0 };
+      counts = record { queued = 0; pending = 0; closed = 0; draining = 0; contended = 0 };
       spins = c.default.result;
     }) in
     let failed = c.is_err.ensures.value in let no : c.is_err.result ≡ false = c.if-is_err.false in

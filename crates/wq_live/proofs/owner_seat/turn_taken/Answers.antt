@@ -1,4 +1,4 @@
-use Rattle.std.proofs.Common.{◌≡◌, [], ◌∷◌, sym, ◌∙◌, ap, arith}
+use Rattle.std.proofs.Common.{◌≡◌, [], ◌∷◌, ◌∙◌, ap, arith}
 use Rattle.wq_words.specs.Numbers.{number_count}
 use Rattle.wq_table.specs.Chair.{part_at}
 use Rattle.wq_table.proofs.Beside.{beside_first, beside_step}
@@ -10,30 +10,26 @@ use Rattle.wq_live.proofs.Linking.{turning_first, turning_next, turn_next, turn_
 use Rattle.wq_live.proofs.Taking.{follows_on, follows_none, number_small, walking_small}
 use Rattle.wq_live.proofs.owner_seat.turn_taken.Goals as goal
 
-pub number_at-requires : goal.number_at-requires
-number_at-requires g c = let p = (part_at g.P.Place.at c.args.chair.now) in
-    walking_small c.args.word [] (kept_batch p.stage) p c.requires.stands c.requires.stage
-
 pub walk-requires-clause-number : goal.walk-requires-clause-number
 walk-requires-clause-number g c = let p = (part_at g.P.Place.at c.args.chair.now) in let ks = kept_batch p.stage in let last = c.in-Some.last in
-    let stage = c.requires.stage ∙ walking_on _ last [] ks (sym c.number_at.ensures.number ∙ c.in-Some.is) in
+    let stage = c.requires.stage ∙ walking_on _ last [] ks c.in-Some.is in
     (stands_walking p last [] ks c.requires.stands stage).0
 
 pub walk-requires-clause-next : goal.walk-requires-clause-next
 walk-requires-clause-next g c = let p = (part_at g.P.Place.at c.args.chair.now) in let ks = kept_batch p.stage in let last = c.in-Some.last in
-    let stage = c.requires.stage ∙ walking_on _ last [] ks (sym c.number_at.ensures.number ∙ c.in-Some.is) in
+    let stage = c.requires.stage ∙ walking_on _ last [] ks c.in-Some.is in
     to_walk_on last p.stage [] ks stage
 
 pub number_at-next-requires : goal.number_at-next-requires
 number_at-next-requires g c = let p = (part_at g.P.Place.at c.args.chair.now) in let ks = kept_batch p.stage in let last = c.in-Some.last in
     let q = (part_at g.P.Place.at c.walk.new.self) in let makes = c.walk.ensures.step.moves.makes in
-    let stage = c.requires.stage ∙ walking_on _ last [] ks (sym c.number_at.ensures.number ∙ c.in-Some.is) in
+    let stage = c.requires.stage ∙ walking_on _ last [] ks c.in-Some.is in
     walking_small c.walk.result (last ∷ []) ks q (makes_stands _ _ p q makes) (walk_stage last c.walk.result p q [] ks stage makes)
 
 pub loop-next-init : goal.loop-next-init
 loop-next-init g c = let p = (part_at g.P.Place.at c.args.chair.now) in let ks = kept_batch p.stage in let last = c.in-Some.last in
     let q = (part_at g.P.Place.at c.walk.new.self) in let found = c.walk.result in let makes = c.walk.ensures.step.moves.makes in
-    let stage = c.requires.stage ∙ walking_on _ last [] ks (sym c.number_at.ensures.number ∙ c.in-Some.is) in record {
+    let stage = c.requires.stage ∙ walking_on _ last [] ks c.in-Some.is in record {
       beside = beside_first g.P.Place.at _ _ _ _ c.walk.ensures.step;
       follows = follows_on p p q (follows_none p) (walk_tells last found p q [] ks stage makes);
       stands = makes_stands _ _ p q makes;

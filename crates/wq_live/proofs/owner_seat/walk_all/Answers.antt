@@ -1,10 +1,13 @@
-use Rattle.std.proofs.Common.{ap, sym, ◌∙◌}
+use Rattle.std.proofs.Common.{[], ap, sym, ◌∙◌}
 use Rattle.wq_table.specs.Chair.{part_at}
 use Rattle.wq_table.proofs.Beside.{beside_on}
 use Rattle.wq_live.specs.Sits.{kept_batch}
-use Rattle.wq_live.proofs.Taking.{follows_both}
+use Rattle.wq_live.proofs.Taking.{follows_both, head_small}
 use Rattle.wq_live.proofs.Hanging.{taken_behind}
 use Rattle.wq_live.proofs.owner_seat.walk_all.Goals as goal
+
+pub head_at-requires : goal.head_at-requires
+head_at-requires g c = let p = (part_at g.P.Place.at c.args.chair.now) in head_small c.args.head [] (kept_batch p.stage) p c.requires.stands c.requires.stage
 
 pub hang-requires-clause-both : goal.hang-requires-clause-both
 hang-requires-clause-both g c = let p = (part_at g.P.Place.at c.args.chair.now) in

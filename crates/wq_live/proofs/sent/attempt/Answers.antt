@@ -28,6 +28,7 @@ returns-in-Queued g c =
           (counts_push s.number 0 p.seen q.seen s.counts o.counts_are k c.saturating_add-sent.result c.saturating_add-sent.ensures
           (grows_tells s t (λ z. Push z k ∷ []) 0 o told));
       follow = e.follow;
+      sees = e.sees;
       posts = posts_told s t (sender_view s) k c.try_push-posted.result refl o refl refl e.follow.queue_is e.posts;
     }
 
@@ -42,6 +43,7 @@ returns-in-Closed g c =
           (counts_closed s.number 0 p.seen q.seen s.counts o.counts_are k c.saturating_add-sent-in-Closed.result c.saturating_add-sent-in-Closed.ensures
           (grows_tells s t (λ z. Back z k Closed ∷ []) 0 o told));
       follow = e.follow;
+      sees = e.sees;
       posts = posts_told s t (sender_view s) k c.try_push-posted.result refl o refl refl e.follow.queue_is e.posts;
     }
 
@@ -54,5 +56,19 @@ returns-in-Contended g c =
       sends = sends_tells s t _ 1 o refl refl told e.sender
           (counts_none s.number 1 p.seen q.seen s.counts o.counts_are (grows_tells s t (λ z. []) 1 o told));
       follow = e.follow;
+      sees = e.sees;
+      posts = posts_told s t (sender_view s) k c.try_push-posted.result refl o refl refl e.follow.queue_is e.posts;
+    }
+
+pub returns-in-Draining : goal.returns-in-Draining
+returns-in-Draining g c =
+    let at = g.P.Place.at in let s = sending at c.args.chair.now c.args.sent.now in let o = c.requires.sends in let k = c.args.number in
+    let t : Sending = sending at c.try_push-posted.new.chair c.args.sent.now in
+    let p = s.chair.part in let q = t.chair.part in let e = c.try_push-posted.ensures in
+    let told = (subst (λ (a : Posted). PostsAs k a p q) c.in-Draining.is e.posts).0 in record {
+      sends = sends_tells s t _ 0 o refl refl told e.sender
+          (counts_none s.number 0 p.seen q.seen s.counts o.counts_are (grows_tells s t (λ z. []) 0 o told));
+      follow = e.follow;
+      sees = e.sees;
       posts = posts_told s t (sender_view s) k c.try_push-posted.result refl o refl refl e.follow.queue_is e.posts;
     }

@@ -31,6 +31,7 @@ loop-preserved g c =
 pub returns-in_default : goal.returns-in_default
 returns-in_default g c = let at = g.P.Place.at in let inv = c.loop.invariant in let e = c.attempt.ensures in record {
   sends = e.sends;
+  sees = e.sees;
   follow = beside_follow at _ _ _ inv.beside e.follow;
   posts = posts_after c.args.number (c.loop.counter - 1) c.args.tries c.attempt.result (sender_view (sending at c.args.chair.now c.args.sent.now))
       (sender_view (sending at c.loop.chair c.loop.sent)) (sender_view (sending at c.attempt.new.chair c.attempt.new.sent)) inv.same inv.grows

@@ -7,6 +7,7 @@ use Rattle.wq_live.specs.Known.{Known}
 use Rattle.wq_live.specs.Sits.{sending, sender_view}
 use Rattle.wq_live.proofs.Sends.{sees_on, sees_hold, sees_held}
 use Rattle.wq_live.proofs.Contended.{contended_calls}
+use Rattle.wq_live.proofs.Tried.{turned_back}
 use Rattle.wq_live.proofs.sent.queue_number.Goals as goal
 
 pub push_tries-requires-clause-held : goal.push_tries-requires-clause-held
@@ -57,3 +58,18 @@ returns-in-Closed-clause-follow g c = follow_on g.P.Place.at _ _ _ c.if-not-hold
 pub returns-in-Contended-clause-follow : goal.returns-in-Contended-clause-follow
 returns-in-Contended-clause-follow g c =
     follow_on g.P.Place.at _ _ _ (follow_on g.P.Place.at _ _ _ c.if-not-hold_number.ensures.follow c.in-Contended.ensures.follow) c.give_up.ensures.follow
+
+pub turn_back-requires-clause-held : goal.turn_back-requires-clause-held
+turn_back-requires-clause-held g c = let at = g.P.Place.at in let held = sender_view (sending at c.hold_number.new.chair c.hold_number.new.sent) in
+    sees_held c.args.number 0 held (sender_view (sending at c.push_tries.new.chair c.push_tries.new.sent)) c.in-Draining.ensures.posts.0
+    (sees_hold c.args.number 0 (sender_view (sending at c.args.chair.now c.args.sent.now)) held c.if-not-hold_number.ensures.seen)
+
+pub returns-in-Draining-clause-answer : goal.returns-in-Draining-clause-answer
+returns-in-Draining-clause-answer g c = let at = g.P.Place.at in
+    turned_back c.args.number (sender_view (sending at c.args.chair.now c.args.sent.now)) (sender_view (sending at c.hold_number.new.chair c.hold_number.new.sent))
+    (sender_view (sending at c.push_tries.new.chair c.push_tries.new.sent)) (sender_view (sending at c.turn_back.new.chair c.turn_back.new.sent))
+    c.if-not-hold_number.ensures.seen c.in-Draining.ensures.posts c.turn_back.ensures.gives
+
+pub returns-in-Draining-clause-follow : goal.returns-in-Draining-clause-follow
+returns-in-Draining-clause-follow g c =
+    follow_on g.P.Place.at _ _ _ (follow_on g.P.Place.at _ _ _ c.if-not-hold_number.ensures.follow c.in-Draining.ensures.follow) c.turn_back.ensures.follow

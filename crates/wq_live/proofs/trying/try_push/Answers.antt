@@ -1,9 +1,11 @@
-use Rattle.std.proofs.Common.{◌==◌, Bool, [], ◌∷◌, subst, sym, ℕ, eq-eqb, ne_eqb, MatchBool, ◌∙◌}
+use Rattle.std.proofs.Common.{◌≡◌, ◌==◌, Bool, [], ◌∷◌, subst, sym, ℕ, eq-eqb, ne_eqb, MatchBool, ◌∙◌}
 use Rattle.wq_words.specs.declared.event.Event.TheVariants.{Push, Back}
 use Rattle.wq_words.specs.declared.event.Why.TheVariants.{Closed}
-use Rattle.wq_table.specs.Chair.{part_at}
+use Rattle.wq_core.specs.Words.{draining_word}
+use Rattle.wq_table.specs.Chair.{part_at, HasSeen}
 use Rattle.wq_table.proofs.Beside.{follow_step, follow_then}
 use Rattle.wq_live.specs.Answers.{IsPushed}
+use Rattle.wq_live.proofs.Drained.{grows_longer, met_now}
 use Rattle.wq_live.proofs.Tells.{tells_held, tells_then, tells_others, look_tells, link_tells, push_tells, back_tells, Wins, Loses, sender_made}
 use Rattle.wq_live.proofs.trying.try_push.Goals as goal
 
@@ -21,6 +23,17 @@ returns-then-word-closed-clause-posts g c =
     let r = part c.back_closed.new.self in
     tells_then (λ z. Back z k Closed ∷ []) 0 0 p q r (look_tells c.look-word.result p q c.requires.sender c.look-word.ensures.step.moves.makes).told
     (back_tells k _ Closed q r (sender_made _ _ _ _ c.look-word.ensures.step.moves.makes c.requires.sender) c.back_closed.ensures.step.1.moves.makes)
+
+pub returns-then-word-draining : goal.returns-then-word-draining
+returns-then-word-draining g c =
+    let at = g.P.Place.at in let w = c.look-word.result in let p = part_at at c.args.chair.now in let q = part_at at c.look-word.new.self in
+    let looked = look_tells w p q c.requires.sender c.look-word.ensures.step.moves.makes in
+    let is : w ≡ draining_word = c.if-word-draining.true ∙ c.to_word-draining.ensures.word in record {
+      posts = (looked.told, met_now p.seen q.seen (grows_longer p.seat [] 0 p.seen q.seen looked.told.grows) (looked.drains is));
+      sees = λ _. subst (λ (v : ℕ). HasSeen v q.stage) is looked.has_seen;
+      sender = sender_made _ _ _ _ c.look-word.ensures.step.moves.makes c.requires.sender;
+      follow = follow_step at _ _ _ _ c.look-word.ensures.step;
+    }
 
 pub returns-then-push-word-clause-posts : goal.returns-then-push-word-clause-posts
 returns-then-push-word-clause-posts g c =
@@ -62,6 +75,7 @@ returns g c =
     record {
       posts = tells_then (λ z. []) 0 1 p q t looked.told
           (tells_others w q t looked.head_is lost.head_is (tells_then (λ z. []) 0 0 q r t linked.told lost.told));
+      sees = λ is. absurd (cc is);
       sender = sender_made _ _ _ _ c.push.ensures.step.moves.makes
           (sender_made _ _ _ _ c.link.ensures.step.moves.makes (sender_made _ _ _ _ c.look-word.ensures.step.moves.makes c.requires.sender));
       follow = follow_then at _ _ _ _ _ (follow_then at _ _ _ _ _ (follow_step at _ _ _ _ c.look-word.ensures.step) c.link.ensures.step)

@@ -1,35 +1,41 @@
 use Rattle.std.proofs.Common.{sym, refl, ◌∙◌}
 use Rattle.std.proofs.lemmas.Bool.{false≢true}
-use Rattle.wq_live.proofs.Final.{final, owner_complete, owner_rested, owner_finished}
+use Rattle.wq_live.proofs.Final.{final, owner_complete, owner_rested, owner_finished, closed_known}
 use Rattle.wq_live.proofs.owner.Owner.done.Goals as goal
-use Rattle.wq_live.proofs.owner.Owner.done.Goals.{then-not-self-via-then-not-self, then-not-self-via-else-not-self+then-self-ne0, then-not-self-via-else-not-self+else-self-ne0+then-is_some}
+use Rattle.wq_live.proofs.owner.Owner.done.Goals.{then-not-is_closed-via-then-not-is_closed}
+use Rattle.wq_live.proofs.owner.Owner.done.Goals.{then-not-is_closed-via-else-not-is_closed+then-self-ne0}
+use Rattle.wq_live.proofs.owner.Owner.done.Goals.{then-not-is_closed-via-else-not-is_closed+else-self-ne0+then-is_some}
 
-pub returns-then-not-self-clause-complete : goal.returns-then-not-self-clause-complete
-returns-then-not-self-clause-complete c = let s = c.self.inside.seat in (
+pub returns-then-not-is_closed-clause-complete : goal.returns-then-not-is_closed-clause-complete
+returns-then-not-is_closed-clause-complete c = let s = c.self.inside.seat in let o = c.self.invariant.owns in (
   (λ e. absurd (false≢true e)),
-  (λ complete. let rest = owner_rested s c.args.self.now c.self.view_is c.self.invariant.owns complete in elim c.then-not-self.branch [
-    | then-not-self-via-then-not-self w ↦ absurd (false≢true (sym w.if-not-self.true ∙ rest.0))
-    | then-not-self-via-else-not-self+then-self-ne0 w ↦ absurd (w.if-self-ne0.true rest.1)
-    | then-not-self-via-else-not-self+else-self-ne0+then-is_some w ↦ absurd (false≢true (sym rest.2 ∙ (sym w.is_some.ensures ∙ w.if-is_some.true)))
-  ]),
+  (λ complete. let closes = closed_known s c.args.self.now c.self.view_is o c.is_closed.result c.is_closed.ensures.closed complete.0 in
+      let rest = owner_rested s c.args.self.now c.self.view_is o complete.1 in elim c.then-not-is_closed.branch [
+        | then-not-is_closed-via-then-not-is_closed w ↦ absurd (false≢true (sym w.if-not-is_closed.true ∙ closes))
+        | then-not-is_closed-via-else-not-is_closed+then-self-ne0 w ↦ absurd (w.if-self-ne0.true rest.0)
+        | then-not-is_closed-via-else-not-is_closed+else-self-ne0+then-is_some w ↦
+            absurd (false≢true (sym rest.1 ∙ (sym w.is_some.ensures ∙ w.if-is_some.true)))
+      ]),
 )
 
+pub returns-then-not-is_closed-clause-finished : goal.returns-then-not-is_closed-clause-finished
+returns-then-not-is_closed-clause-finished c closes none idle = let s = c.self.inside.seat in let o = c.self.invariant.owns in
+    let known = closed_known s c.args.self.now c.self.view_is o c.is_closed.result c.is_closed.ensures.closed closes in
+    let rest = owner_finished s c.args.self.now c.self.view_is o none idle in elim c.then-not-is_closed.branch [
+      | then-not-is_closed-via-then-not-is_closed w ↦ absurd (false≢true (sym w.if-not-is_closed.true ∙ known))
+      | then-not-is_closed-via-else-not-is_closed+then-self-ne0 w ↦ absurd (w.if-self-ne0.true rest.0)
+      | then-not-is_closed-via-else-not-is_closed+else-self-ne0+then-is_some w ↦
+          absurd (false≢true (sym rest.1 ∙ (sym w.is_some.ensures ∙ w.if-is_some.true)))
+    ]
+
 pub returns-clause-complete : goal.returns-clause-complete
-returns-clause-complete c = let s = c.self.inside.seat in (
-  (λ _. owner_complete s c.args.self.now c.self.view_is c.self.invariant.owns c.if-not-self.false c.if-self-ne0.false
-      (sym c.is_some.ensures ∙ c.if-is_some.false)),
+returns-clause-complete c = (
+  (λ _. owner_complete c.self.inside.seat c.args.self.now c.self.view_is c.self.invariant.owns c.is_closed.result c.is_closed.ensures.closed
+      c.if-not-is_closed.false c.if-self-ne0.false (sym c.is_some.ensures ∙ c.if-is_some.false)),
   (λ _. refl),
 )
 
 pub returns-clause-last : goal.returns-clause-last
-returns-clause-last c = let s = c.self.inside.seat in
-    λ _. final c.args.self.now.layout c.args.self.now.seen
-    (owner_complete s c.args.self.now c.self.view_is c.self.invariant.owns c.if-not-self.false c.if-self-ne0.false (sym c.is_some.ensures ∙ c.if-is_some.false))
-
-pub returns-then-not-self-clause-finished : goal.returns-then-not-self-clause-finished
-returns-then-not-self-clause-finished c = λ shut none idle.
-    let rest = owner_finished c.self.inside.seat c.args.self.now c.self.view_is c.self.invariant.owns shut none idle in elim c.then-not-self.branch [
-      | then-not-self-via-then-not-self w ↦ absurd (false≢true (sym w.if-not-self.true ∙ rest.0))
-      | then-not-self-via-else-not-self+then-self-ne0 w ↦ absurd (w.if-self-ne0.true rest.1)
-      | then-not-self-via-else-not-self+else-self-ne0+then-is_some w ↦ absurd (false≢true (sym rest.2 ∙ (sym w.is_some.ensures ∙ w.if-is_some.true)))
-    ]
+returns-clause-last c = λ _. final c.args.self.now.layout c.args.self.now.seen
+    (owner_complete c.self.inside.seat c.args.self.now c.self.view_is c.self.invariant.owns c.is_closed.result c.is_closed.ensures.closed
+    c.if-not-is_closed.false c.if-self-ne0.false (sym c.is_some.ensures ∙ c.if-is_some.false))

@@ -6,7 +6,8 @@ use Rattle.wq_table.proofs.Beside.{beside_queue, follow_after}
 use Rattle.wq_live.specs.Sits.{owner_view}
 use Rattle.wq_live.specs.Sits.{kept_batch}
 use Rattle.wq_live.proofs.Tells.{Tells}
-use Rattle.wq_live.proofs.Owned.{running_begun, closed_quiet, counts_quiet, rests_on}
+use Rattle.wq_live.proofs.Owned.{running_begun, counts_quiet, rests_on}
+use Rattle.wq_live.proofs.Phases.{phase_quiet}
 use Rattle.wq_live.proofs.Taking.{sees_then}
 use Rattle.wq_live.proofs.Resting.{shut_stays, open_stays, unclosed_stays}
 use Rattle.wq_live.proofs.Hanging.{first_of_row, first_known, begun_row}
@@ -50,7 +51,7 @@ returns-clause-owns c = let s = c.args.self.now in let o = c.requires.owns in le
       has_row = begun_row k c.begin.ensures.step.0 c.without_first-self.result q r first makes
           (begin_stage k c.begin.ensures.step.0 q r first.others first.stage_is makes);
       running_is = sym (running_begun k 0 p.seen r.seen g (owner_idle p o.stands idle));
-      closed_is = o.closed_is ∙ sym (closed_quiet (Begin k ∷ []) 0 p.seen r.seen g refl);
+      phase_is = o.phase_is ∙ sym (phase_quiet (Begin k ∷ []) 0 p.seen r.seen g refl);
       counts_are = counts_quiet (Begin k ∷ []) 0 p.seen r.seen g refl refl refl s.counts o.counts_are;
     }
 

@@ -4,14 +4,15 @@ use Rattle.wq_table.specs.declared.table.Stage.TheVariants.{Owns}
 use Rattle.wq_table.proofs.Beside.{beside_queue, follow_step, follow_beside}
 use Rattle.wq_live.specs.Sits.{owner_view}
 use Rattle.wq_live.proofs.Tells.{Tells}
-use Rattle.wq_live.proofs.Owned.{running_quiet, closed_quiet, counts_chained, counts_busy}
+use Rattle.wq_live.proofs.Owned.{running_quiet, counts_chained, counts_busy}
+use Rattle.wq_live.proofs.Phases.{phase_quiet}
 use Rattle.wq_core.specs.declared.step.Step.TheVariants as step
 use Rattle.wq_live.specs.declared.row.Row.{Row}
 use Rattle.std.proofs.lemmas.List.{append-nil}
 use Rattle.wq_live.specs.Batch.{batch}
 use Rattle.wq_live.specs.Sits.{HasBoth, kept_batch}
 use Rattle.wq_live.proofs.Linking.{has_row_after}
-use Rattle.wq_live.proofs.Resting.{closed_stays, shut_stays, quiet_runs}
+use Rattle.wq_live.proofs.Resting.{closed_stays, unclosed_stays, shut_stays, quiet_runs}
 use Rattle.wq_live.proofs.Hanging.{chained_behind}
 use Rattle.wq_live.proofs.Taking.{followed}
 use Rattle.wq_live.proofs.OwnerTells.{makes_stands, stands_batch, owner_batch, pair_owner, chain_tells, chain_stage, owner_grows, owner_sees}
@@ -44,7 +45,7 @@ returns-then-chain-ne0 c =
                 (chain_stage k w p q (kept_batch p.stage) o.has_row.stage_is c.chain.ensures.step.moves.makes ∙
                 ap (λ (b : Bool). Owns None [] (if b then kept_batch p.stage ++ k ∷ [] else kept_batch p.stage)) (ne_eqb w 0 c.if-chain-ne0.true));
             running_is = o.running_is ∙ sym (running_quiet (ChainBusy k ∷ []) 0 p.seen q.seen g refl refl);
-            closed_is = o.closed_is ∙ sym (closed_quiet (ChainBusy k ∷ []) 0 p.seen q.seen g refl);
+            phase_is = o.phase_is ∙ sym (phase_quiet (ChainBusy k ∷ []) 0 p.seen q.seen g refl);
             counts_are = counts_busy (ChainBusy k ∷ []) 0 p.seen q.seen g refl refl refl s.counts o.counts_are x c.saturating_add-self.ensures;
           };
       follow = follow_step 0 _ _ _ _ c.chain.ensures.step;
@@ -54,6 +55,7 @@ returns-then-chain-ne0 c =
           ∙ (owner_batch s (owner_view c.args.self.now) refl o ∙ sym (append-nil (batch (owner_view c.args.self.now).seen)));
       shut = shut_stays (ChainBusy k ∷ []) 0 (owner_view c.args.self.now) _ refl sees refl c.requires.shut;
       closed = closed_stays (ChainBusy k ∷ []) 0 (owner_view c.args.self.now) _ sees;
+      unclosed = unclosed_stays (ChainBusy k ∷ []) 0 (owner_view c.args.self.now) _ refl sees refl;
       runs = quiet_runs (ChainBusy k ∷ []) 0 (owner_view c.args.self.now) _ refl sees refl refl c.requires.runs;
     }
 
@@ -92,7 +94,7 @@ returns c = let s = c.args.self.now in let o = c.requires.owns in let k = c.args
             stands = e.stands;
             has_row = e.has_row;
             running_is = o.running_is ∙ sym (running_quiet (Chain k ∷ []) 0 p.seen r.seen g refl refl);
-            closed_is = o.closed_is ∙ sym (closed_quiet (Chain k ∷ []) 0 p.seen r.seen g refl);
+            phase_is = o.phase_is ∙ sym (phase_quiet (Chain k ∷ []) 0 p.seen r.seen g refl);
             counts_are = counts_chained (Chain k ∷ []) 0 p.seen r.seen g refl refl refl s.counts o.counts_are x c.saturating_add-self-2.ensures;
           };
       follow = follow_beside 0 _ _ _ _ _ c.chain.ensures.step e.beside;
@@ -102,5 +104,6 @@ returns c = let s = c.args.self.now in let o = c.requires.owns in let k = c.args
           ∙ ap (λ (ks : List ℕ). ks ++ k ∷ []) (owner_batch s (owner_view c.args.self.now) refl o);
       shut = shut_stays (Chain k ∷ []) 0 (owner_view c.args.self.now) _ refl sees refl c.requires.shut;
       closed = closed_stays (Chain k ∷ []) 0 (owner_view c.args.self.now) _ sees;
+      unclosed = unclosed_stays (Chain k ∷ []) 0 (owner_view c.args.self.now) _ refl sees refl;
       runs = quiet_runs (Chain k ∷ []) 0 (owner_view c.args.self.now) _ refl sees refl refl c.requires.runs;
     }

@@ -1,17 +1,17 @@
-use Rattle.std.proofs.Common.{ℕ, List, length, ◌-◌, true, [], ◌∷◌, ap, sym, subst, refl, ◌∙◌, arith}
-use mathlib.Core.List.{IsPrefix}
+use Rattle.std.proofs.Common.{◌≡◌, ◌+◌, ◌-◌, [], ◌∷◌, sym, refl, arith}
 use Rattle.wq_words.specs.declared.event.Event.TheVariants.{Close}
+use Rattle.wq_words.proofs.Closed.{closed_shuts}
 use Rattle.wq_core.specs.declared.step.Step.TheVariants as step
+use Rattle.wq_core.specs.Words.{closed_word}
 use Rattle.wq_table.proofs.Beside.{beside_queue, follow_beside}
 use Rattle.wq_live.specs.Sits.{owner_view}
-use Rattle.wq_live.specs.Batch.{batch}
-use Rattle.wq_live.specs.Sits.{kept_batch}
-use Rattle.wq_live.proofs.Tells.{Tells}
-use Rattle.wq_live.proofs.Owned.{running_quiet, closed_closed, counts_quiet}
-use Rattle.wq_live.proofs.OwnerTells.{makes_stands, stands_batch, owner_batch, pair_owner, close_tells, taken_stage, owner_grows, owner_sees}
+use Rattle.wq_live.specs.declared.owner_seat.Phase.TheVariants as phase
+use Rattle.wq_live.proofs.OwnerTells.{makes_stands, close_swaps}
+use Rattle.wq_live.proofs.Phases.{phase_closed, closed_then}
 use Rattle.wq_live.proofs.Resting.{quiet_idle, quiet_runs}
-use Rattle.wq_live.proofs.Linking.{walks_kept, walks_batch, walks_row}
-use Rattle.wq_live.proofs.Taking.{followed, close_takes}
+use Rattle.wq_live.proofs.Linking.{walks_row}
+use Rattle.wq_live.proofs.Taken.{closes_all}
+use Rattle.wq_live.proofs.Cutting.{cut_stage, cut_kept, cut_grows, cut_owns, cut_sees, cut_all, cut_behind, cut_count}
 use Rattle.wq_live.proofs.owner_seat.OwnerSeat.close.Goals as goal
 
 pub close-head-requires-clause-unclosed : goal.close-head-requires-clause-unclosed
@@ -21,76 +21,34 @@ pub walk_all-self-requires-clause-stands : goal.walk_all-self-requires-clause-st
 walk_all-self-requires-clause-stands c = makes_stands _ _ c.args.self.now.chair.part c.close-head.new.self.part c.close-head.ensures.step.moves.makes
 
 pub walk_all-self-requires-clause-stage : goal.walk_all-self-requires-clause-stage
-walk_all-self-requires-clause-stage c = let p = c.args.self.now.chair.part in let q = c.close-head.new.self.part in
-    walks_kept q.stage _ (kept_batch p.stage)
-    (taken_stage step.Close _ _ p q (kept_batch p.stage) refl c.link_word.ensures.word c.requires.owns.has_row.stage_is c.close-head.ensures.step.moves.makes)
+walk_all-self-requires-clause-stage c =
+    cut_kept step.Close closed_word Close close_swaps c.close-head.result c.args.self.now c.close-head.new.self c.requires.owns c.close-head.ensures.step
 
 pub walk_all-self-requires-clause-row : goal.walk_all-self-requires-clause-row
-walk_all-self-requires-clause-row c = let s = c.args.self.now in let o = c.requires.owns in let p = s.chair.part in let q = c.close-head.new.self.part in
-    walks_row step.Close c.close-head.result _ p q s.row o.has_row c.close-head.ensures.step.moves.makes (λ k w. refl)
-    (taken_stage step.Close _ _ p q (kept_batch p.stage) refl c.link_word.ensures.word o.has_row.stage_is c.close-head.ensures.step.moves.makes)
-
-pub returns-clause-owns : goal.returns-clause-owns
-returns-clause-owns c = let s = c.args.self.now in let o = c.requires.owns in let p = s.chair.part in let q = c.close-head.new.self.part in
-    let e = c.walk_all-self.ensures in let r = c.walk_all-self.new.chair.part in let makes = c.close-head.ensures.step.moves.makes in
-    let told : Tells (Close ∷ []) p r = followed (Close ∷ []) 0 p q r
-    (close_tells c.close-head.result p q o.number_is (pair_owner p.stage (kept_batch p.stage) o.has_row.stage_is) makes) e.follows e.stands in
-    let t = record s { chair = c.walk_all-self.new.chair; row = c.walk_all-self.result; closed = true } in
-    let g = owner_grows (Close ∷ []) 0 s t o told in record {
-      layout_is = told.layout_is ∙ o.layout_is;
-      number_is = told.seat_is ∙ o.number_is;
-      stands = e.stands;
-      has_row = e.has_row;
-      running_is = o.running_is ∙ sym (running_quiet (Close ∷ []) 0 p.seen r.seen g refl refl);
-      closed_is = sym (closed_closed 0 p.seen r.seen g);
-      counts_are = counts_quiet (Close ∷ []) 0 p.seen r.seen g refl refl refl s.counts o.counts_are;
-    }
-
-pub returns-clause-seen : goal.returns-clause-seen
-returns-clause-seen c = let s = c.args.self.now in let o = c.requires.owns in let p = s.chair.part in let q = c.close-head.new.self.part in
-    let e = c.walk_all-self.ensures in let r = c.walk_all-self.new.chair.part in let makes = c.close-head.ensures.step.moves.makes in
-    let told : Tells (Close ∷ []) p r = followed (Close ∷ []) 0 p q r
-    (close_tells c.close-head.result p q o.number_is (pair_owner p.stage (kept_batch p.stage) o.has_row.stage_is) makes) e.follows e.stands in
-    owner_sees (Close ∷ []) 0 s
-    (record s { chair = c.walk_all-self.new.chair; row = c.walk_all-self.result; closed = true }) (owner_view c.args.self.now) refl
-    o refl (beside_queue 0 _ _ e.beside ∙ c.close-head.ensures.step.queue_is) told
-
-pub returns-clause-takes : goal.returns-clause-takes
-returns-clause-takes c = let s = c.args.self.now in let o = c.requires.owns in let p = s.chair.part in let q = c.close-head.new.self.part in
-    let e = c.walk_all-self.ensures in let r = c.walk_all-self.new.chair.part in
-    close_takes c.close-head.result p q r (kept_batch p.stage) (kept_batch r.stage) (c.walk_all-self.result.count - s.row.count) o.number_is
-    o.has_row.stage_is e.follows e.stands e.has_row.stage_is
-    (omega (arith, e.more, o.has_row.row_is.count_is, e.has_row.row_is.count_is)) c.close-head.ensures.step.moves.makes
+walk_all-self-requires-clause-row c = let s = c.args.self.now in let o = c.requires.owns in let q = c.close-head.new.self in
+    walks_row step.Close c.close-head.result _ s.chair.part q.part s.row o.has_row c.close-head.ensures.step.moves.makes (λ k w. refl)
+    (cut_stage step.Close closed_word Close close_swaps c.close-head.result s q o c.close-head.ensures.step)
 
 pub overflow_sub-result : goal.overflow_sub-result
 overflow_sub-result c = c.walk_all-self.ensures.more
 
-pub returns-clause-idle : goal.returns-clause-idle
-returns-clause-idle c = quiet_idle (Close ∷ []) 0 (owner_view c.args.self.now) _ refl (returns-clause-seen c) refl refl
-
-pub returns-clause-runs : goal.returns-clause-runs
-returns-clause-runs c = quiet_runs (Close ∷ []) 0 (owner_view c.args.self.now) _ refl (returns-clause-seen c) refl refl
-
-pub returns-clause-behind : goal.returns-clause-behind
-returns-clause-behind c = let s = c.args.self.now in let o = c.requires.owns in let p = s.chair.part in let q = c.close-head.new.self.part in
-    let e = c.walk_all-self.ensures in let r = c.walk_all-self.new.chair.part in
-    let kept = walks_batch q.stage _ (kept_batch p.stage)
-    (taken_stage step.Close _ _ p q (kept_batch p.stage) refl c.link_word.ensures.word o.has_row.stage_is c.close-head.ensures.step.moves.makes) in
-    let now : IsPrefix (kept_batch q.stage) (batch r.seen) =
-    subst (IsPrefix (kept_batch q.stage)) (stands_batch r (kept_batch r.stage) e.stands e.has_row.stage_is) e.behind in
-    subst (λ (ks : List ℕ). IsPrefix ks (batch r.seen)) (kept ∙ owner_batch s (owner_view c.args.self.now) refl o) now
-
-pub returns-clause-count : goal.returns-clause-count
-returns-clause-count c = let s = c.args.self.now in let o = c.requires.owns in
-    let e = c.walk_all-self.ensures in let r = c.walk_all-self.new.chair.part in
-    omega (
-      arith,
-      e.more,
-      o.has_row.row_is.count_is,
-      e.has_row.row_is.count_is,
-      ap (λ (xs : List ℕ). length xs) (stands_batch r (kept_batch r.stage) e.stands e.has_row.stage_is),
-      ap (λ (xs : List ℕ). length xs) (owner_batch s (owner_view c.args.self.now) refl o),
-    )
-
-pub returns-clause-follow : goal.returns-clause-follow
-returns-clause-follow c = follow_beside 0 _ _ _ _ _ c.close-head.ensures.step c.walk_all-self.ensures.beside
+pub returns : goal.returns
+returns c = let s = c.args.self.now in let o = c.requires.owns in let q = c.close-head.new.self in let found = c.close-head.result in
+    let steps = c.close-head.ensures.step in let e = c.walk_all-self.ensures in let v = s.chair.part.seen in let w = c.walk_all-self.new.chair.part.seen in
+    let t = record s { chair = c.walk_all-self.new.chair; row = c.walk_all-self.result; phase = phase.Closed } in
+    let g = cut_grows step.Close closed_word Close close_swaps found s q o steps t e.follows e.stands e.has_row in
+    let sees = cut_sees step.Close closed_word Close close_swaps found s q o steps t e.follows e.stands e.has_row refl (beside_queue 0 _ _ e.beside) in
+    let count = c.walk_all-self.result.count - s.row.count in
+    let total : count + s.row.count ≡ t.row.count = omega (arith, e.more) in
+    let closed = closed_then 0 v w g in let phase_is = sym (phase_closed w closed) in record {
+      owns = cut_owns step.Close closed_word Close close_swaps found s q o steps t e.follows e.stands e.has_row refl refl refl phase_is;
+      follow = follow_beside 0 _ _ _ _ _ steps e.beside;
+      seen = sees;
+      takes = cut_all step.Close closed_word Close close_swaps found s q o steps t e.follows e.stands e.has_row closes_all count total;
+      behind = cut_behind step.Close closed_word Close close_swaps found s q o steps t e.follows e.stands e.has_row e.behind;
+      count = cut_count step.Close closed_word Close close_swaps found s q o steps t e.follows e.stands e.has_row count total;
+      closed = closed;
+      shut = closed_shuts w closed;
+      idle = quiet_idle (Close ∷ []) 0 (owner_view s) _ refl sees refl refl;
+      runs = quiet_runs (Close ∷ []) 0 (owner_view s) _ refl sees refl refl;
+    }

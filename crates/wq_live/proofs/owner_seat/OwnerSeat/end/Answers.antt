@@ -5,7 +5,8 @@ use Rattle.wq_words.proofs.Running.{runs_some, rests_from_running}
 use Rattle.wq_table.proofs.Beside.{follow_step}
 use Rattle.wq_live.specs.Known.{Sees}
 use Rattle.wq_live.proofs.Tells.{Tells}
-use Rattle.wq_live.proofs.Owned.{running_ended, closed_quiet, counts_ended}
+use Rattle.wq_live.proofs.Owned.{running_ended, counts_ended}
+use Rattle.wq_live.proofs.Phases.{phase_quiet}
 use Rattle.wq_core.specs.declared.step.Step.TheVariants as step
 use Rattle.wq_live.specs.Sits.{kept_batch, owner_view}
 use Rattle.wq_live.proofs.Linking.{has_row_after}
@@ -35,7 +36,7 @@ returns c = let s = c.args.self.now in let o = c.requires.owns in let p = s.chai
             has_row = has_row_after step.End c.end.ensures.step.0 p q s.row o.has_row makes (λ j v. refl)
                 (end_stage c.end.ensures.step.0 p q (kept_batch p.stage) o.has_row.stage_is makes);
             running_is = sym (running_ended k 0 p.seen q.seen g (owner_runs p o.stands runs));
-            closed_is = o.closed_is ∙ sym (closed_quiet (End k ∷ []) 0 p.seen q.seen g refl);
+            phase_is = o.phase_is ∙ sym (phase_quiet (End k ∷ []) 0 p.seen q.seen g refl);
             counts_are = counts_ended (End k ∷ []) 0 p.seen q.seen g refl refl refl s.counts o.counts_are x c.saturating_add-self.ensures;
           };
       follow = follow_step 0 _ _ _ _ c.end.ensures.step.1;

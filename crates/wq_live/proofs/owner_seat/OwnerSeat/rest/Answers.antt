@@ -1,4 +1,5 @@
 use Rattle.std.proofs.Common.{refl, ◌∙◌}
+use Rattle.wq_words.proofs.Closed.{closed_shuts}
 use Rattle.wq_table.proofs.Beside.{follow_step}
 use Rattle.wq_live.specs.Sits.{owner_view}
 use Rattle.wq_live.specs.Sits.{kept_batch}
@@ -28,7 +29,7 @@ returns c = let s = c.args.self.now in let o = c.requires.owns in let e = c.rest
       refused = rest_refused s q now w refl o e.queue_is e.moves.makes c.requires.open;
       same = rests_same _ now _ sees;
       «open» = rests_open _ now _ mine sees c.requires.open;
-      unclosed = rests_unclosed _ now _ mine sees c.requires.open;
+      unclosed = rests_unclosed _ now _ mine sees (λ closed. c.requires.open (closed_shuts now.seen closed));
       empty = rest_empty s q now w refl o e.queue_is e.moves.makes c.requires.open c.requires.empty;
       idle = rests_idle _ now _ mine sees c.requires.idle;
     }

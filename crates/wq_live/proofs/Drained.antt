@@ -1,0 +1,30 @@
+-- A drain that a call met.
+use Rattle.std.proofs.Common.{◌≡◌, ℕ, ◌≤◌, List, ◌++◌, length, take, drop, sym, ap, ◌∙◌, subst, arith, append_assoc, length-append}
+use Rattle.std.proofs.lemmas.List.{take-append-drop, length-take}
+use Rattle.wq_words.specs.declared.event.Event.{Event}
+use Rattle.wq_words.specs.History.{IsDraining}
+use Rattle.wq_words.specs.Seen.{Grows}
+use Rattle.wq_words.proofs.Growing.{take_length}
+use Rattle.std.proofs.Math.Seq.{take-length}
+use Rattle.wq_live.specs.Answers.{HasMetDrain}
+
+-- what is seen grows no shorter
+pub grows_longer : (c : ℕ) (xs : List Event) (n : ℕ) (v w : List Event) → Grows c xs n v w → length v ≤ length w
+grows_longer c xs n v w g = omega (arith, ap (λ (h : List Event). length h) g.is, length-append v g.new)
+
+-- what is seen last drains
+pub met_now : (v w : List Event) → length v ≤ length w → IsDraining w → HasMetDrain v w
+met_now v w less is = (length w, less, subst IsDraining (sym (take-length w)) is)
+
+-- the call began sooner
+pub met_since : (u v w : List Event) → length u ≤ length v → HasMetDrain v w → HasMetDrain u w
+met_since u v w less met = (met.0, omega (arith, less, met.1), met.2)
+
+-- the call goes on
+pub met_still : (c : ℕ) (xs : List Event) (n : ℕ) (v w h : List Event) → length v ≤ length w → Grows c xs n w h → HasMetDrain v w → HasMetDrain v h
+met_still c xs n v w h less g met =
+    let seen : List Event = take met.0 w in
+    let whole : h ≡ seen ++ (drop met.0 w ++ g.new) =
+    g.is ∙ (ap (λ (x : List Event). x ++ g.new) (sym (take-append-drop met.0 w)) ∙ append_assoc seen (drop met.0 w) g.new) in
+    let same : take (length seen) h ≡ seen = ap (take (length seen)) whole ∙ take_length seen (drop met.0 w ++ g.new) in
+    (length seen, omega (arith, length-take met.0 w, less, met.1), subst IsDraining (sym same) met.2)
