@@ -1,5 +1,5 @@
 -- A queue that is closed and has run to the end.
-use Rattle.std.proofs.Common.{◌≡◌, ℕ, ◌+◌, ◌≤◌, Bool, true, false, cond, List, [], ◌∷◌, ◌++◌, length, Option, Some, None, slice_get, sym, refl, ap, ◌∙◌, subst, arith, append_assoc}
+use Rattle.std.proofs.Common.{◌≡◌, ℕ, ◌+◌, ◌≤◌, Bool, true, false, cond, List, [], ◌∷◌, ◌++◌, length, take, Option, Some, None, slice_get, sym, refl, ap, ◌∙◌, subst, arith, append_assoc}
 use Rattle.std.specs.Prelude.{filter_map}
 use Rattle.std.proofs.lemmas.List.{append-nil}
 use Rattle.std.proofs.lemmas.List.Sums.{sum_by-append}
@@ -10,7 +10,9 @@ use Rattle.wq_words.specs.declared.event.Event.{Event}
 use Rattle.wq_words.specs.declared.event.Event.TheVariants.{Hold, Busy, Push, Back, Take, Close, Drain, Resume, Begin, End, Chain, ChainBusy, Rest}
 use Rattle.wq_words.specs.History.{accepted, accepted_by, begun, begun_by, ended, ended_by, is_close, closed, IsClosed, IsShut, IsRunning, running}
 use Rattle.wq_words.specs.Listed.{listed}
-use Rattle.wq_words.specs.Legal.{MayFollow, IsLegal, IsComplete}
+use Rattle.wq_words.specs.Legal.{MayFollow, IsLegal, IsComplete, HasRunOut}
+use Rattle.std.proofs.Math.Seq.{take-length}
+use Rattle.wq_words.proofs.Headlines.{keeps_headline}
 use Rattle.wq_words.proofs.Legal.{legal_front, legal_next}
 use Rattle.wq_words.proofs.Order.{in_order}
 use Rattle.wq_words.proofs.Prefixes.{prefix_length}
@@ -94,6 +96,13 @@ stays_out layout (e ∷ es) h out legal =
 
 pub final : (layout : Layout) (h : List Event) → IsComplete h → IsFinal layout h
 final layout h complete later legal = stays_out layout later h (run_out layout h (legal_front layout h later legal) complete) legal
+
+-- where a close or a drain has ended, all that was accepted has begun and ended, in order
+pub all_run : (layout : Layout) (h : List Event) → IsLegal layout h → HasRunOut h → (ended h ≡ begun h) × (begun h ≡ accepted h)
+all_run layout h legal out =
+    let whole : take (length h) h ≡ h = take-length h in
+    subst (λ (x : List Event). (ended x ≡ begun x) × (begun x ≡ accepted x)) whole
+    ((keeps_headline layout h legal).done (length h) (subst HasRunOut (sym whole) out))
 
 -- while the queue takes no push, all has ended where nothing waits or runs
 ended_rested : (layout : Layout) (h : List Event) (ks : List ℕ) → IsLegal layout h → IsShut h
@@ -181,3 +190,7 @@ module _ (s : Inside) (now : Known) (view : owner_view s ≡ now) (o : OwnsQueue
   pub owner_complete : (known : Bool) → known ≡ closed s.chair.part.seen → known ≡ true → s.row.count ≡ 0 → is_some s.running ≡ false → IsComplete now.seen
   owner_complete known is holds none idle =
       let closes = owner_closed known is holds in (closes, owner_ended (closed_shuts now.seen closes) none idle)
+
+  pub owner_all : HasRunOut now.seen → (ended now.seen ≡ begun now.seen) × (begun now.seen ≡ accepted now.seen)
+  owner_all out = let p = s.chair.part in here (λ h. (ended h ≡ begun h) × (begun h ≡ accepted h))
+      (all_run p.layout p.seen (stands_legal p o.stands) (there HasRunOut out))

@@ -1,7 +1,7 @@
 -- What the owner's answers say of its history.
 use Rattle.std.proofs.Common.{◌≡◌, ◌≢◌, ℕ, List, [], ◌∷◌, Some, None, slice_get, refl}
 use Rattle.wq_words.specs.declared.event.Event.{Event}
-use Rattle.wq_words.proofs.Closed.{open_from_closed, IsClosed_from_closed}
+use Rattle.wq_words.proofs.Closed.{open_from_closed, IsClosed_from_closed, closed_shuts}
 use Rattle.wq_words.proofs.Running.{runs_from_running, rests_from_running}
 use Rattle.wq_live.specs.Batch.{batch, next_of}
 
@@ -19,4 +19,4 @@ empty_from_next h is = nothing_first (batch h) is
 pub waits_from_next : (h : List Event) (k : ℕ) → next_of h ≡ Some k → batch h ≢ []
 waits_from_next h k is = something_first (batch h) k is
 
-pub ruleset reading = (open_from_closed, IsClosed_from_closed, empty_from_next, waits_from_next, rests_from_running, runs_from_running)
+pub ruleset reading = (open_from_closed, IsClosed_from_closed, closed_shuts, empty_from_next, waits_from_next, rests_from_running, runs_from_running)

@@ -3,7 +3,7 @@ ghost use Rattle.std.specs.Prelude.{◌≡◌, ◌≢◌, ℕ, ◌+◌, ◌<◌,
 ghost use mathlib.Core.List.{IsPrefix};
 ghost use Rattle.wq_words.specs.declared.event.Event.TheVariants.{Take, Close, Drain, Resume, Begin, End};
 ghost use Rattle.wq_words.specs.Numbers.{number_count};
-ghost use Rattle.wq_words.specs.History.{IsClosed, IsShut, IsDraining, closed, IsRunning, running, ended};
+ghost use Rattle.wq_words.specs.History.{IsClosed, IsShut, IsDraining, closed, IsRunning, running, ended, accepted, begun};
 ghost use Rattle.wq_words.specs.Legal.{IsLegal, IsComplete, HasRunOut};
 ghost use Rattle.wq_words.specs.Headline.{KeepsHeadline};
 ghost use Rattle.wq_live.specs.Known.{IsSame, Sees};
@@ -226,6 +226,7 @@ impl Owner {
     /// Whether the queue drains and all that was accepted has ended, so that it can be resumed.
     pub fn drained(&self) -> bool
         ensures drained { IsTrue result ↔ (IsDraining self.now.seen × HasRunOut self.now.seen) }
+        ensures all { IsTrue result → (ended self.now.seen ≡ begun self.now.seen) × (begun self.now.seen ≡ accepted self.now.seen) }
         ensures rested { IsTrue result → (batch self.now.seen ≡ []) × (¬ IsRunning self.now.seen) }
         ensures finished { IsDraining self.now.seen → batch self.now.seen ≡ [] → ¬ IsRunning self.now.seen → IsTrue result }
     {
@@ -243,6 +244,7 @@ impl Owner {
     pub fn done(&self) -> Option<Done>
         ensures complete { IsSome result ↔ IsComplete self.now.seen }
         ensures count { IfSome result (λ done. done.ended ≡ capped (length (ended self.now.seen))) }
+        ensures all { IsSome result → (ended self.now.seen ≡ begun self.now.seen) × (begun self.now.seen ≡ accepted self.now.seen) }
         ensures last { IsSome result → IsFinal self.now.layout self.now.seen }
         ensures finished { IsClosed self.now.seen → batch self.now.seen ≡ [] → ¬ IsRunning self.now.seen → IsSome result }
     {

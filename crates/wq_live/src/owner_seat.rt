@@ -3,7 +3,7 @@ ghost use Rattle.std.specs.Prelude.{◌≡◌, ◌≢◌, ℕ, ◌+◌, ◌<◌,
 ghost use mathlib.Core.List.{IsPrefix};
 ghost use Rattle.wq_words.specs.declared.event.Event.TheVariants.{Take, Close, Drain, Resume, Begin, End};
 ghost use Rattle.wq_words.specs.Numbers.{number_count};
-ghost use Rattle.wq_words.specs.History.{IsClosed, IsShut, IsDraining, closed, IsRunning, running};
+ghost use Rattle.wq_words.specs.History.{IsClosed, IsShut, IsDraining, closed, IsRunning, running, accepted, begun, ended};
 ghost use Rattle.wq_words.specs.Legal.{HasRunOut};
 ghost use Rattle.wq_core.specs.Words.{head_at, item_of};
 ghost use Rattle.wq_table.specs.Chair.{part_at};
@@ -231,6 +231,7 @@ impl OwnerSeat {
     pub(crate) fn drained(&self) -> bool
         requires owns { OwnsQueue self.now }
         ensures drained { IsTrue result ↔ (IsDraining (owner_view self.now).seen × HasRunOut (owner_view self.now).seen) }
+        ensures all { IsTrue result → (ended (owner_view self.now).seen ≡ begun (owner_view self.now).seen) × (begun (owner_view self.now).seen ≡ accepted (owner_view self.now).seen) }
         ensures rested { IsTrue result → (batch (owner_view self.now).seen ≡ []) × (¬ IsRunning (owner_view self.now).seen) }
         ensures finished { IsDraining (owner_view self.now).seen → batch (owner_view self.now).seen ≡ [] → ¬ IsRunning (owner_view self.now).seen → IsTrue result }
     {

@@ -4,7 +4,7 @@ ghost use mathlib.Core.List.{IsPrefix};
 ghost use Rattle.wq_words.specs.declared.answer.Answer.TheVariants.{Contended};
 ghost use Rattle.wq_words.specs.declared.event.Event.TheVariants.{Take, Close, Drain, Resume, Begin, End};
 ghost use Rattle.wq_words.specs.Numbers.{number_count};
-ghost use Rattle.wq_words.specs.History.{IsClosed, IsShut, IsDraining, closed, IsRunning, running};
+ghost use Rattle.wq_words.specs.History.{IsClosed, IsShut, IsDraining, closed, IsRunning, running, accepted, begun, ended};
 ghost use Rattle.wq_words.specs.Legal.{IsLegal, HasRunOut};
 ghost use Rattle.wq_words.specs.Headline.{KeepsHeadline};
 ghost use Rattle.wq_words.specs.Seen.{owner_seat, Grows};
@@ -135,6 +135,7 @@ impl Pair {
     /// As `Owner::drained`.
     pub fn drained(&self) -> bool
         ensures drained { IsTrue result ↔ (IsDraining self.now.seen × HasRunOut self.now.seen) }
+        ensures all { IsTrue result → (ended self.now.seen ≡ begun self.now.seen) × (begun self.now.seen ≡ accepted self.now.seen) }
         ensures rested { IsTrue result → (batch self.now.seen ≡ []) × (¬ IsRunning self.now.seen) }
         ensures finished { IsDraining self.now.seen → batch self.now.seen ≡ [] → ¬ IsRunning self.now.seen → IsTrue result }
     {

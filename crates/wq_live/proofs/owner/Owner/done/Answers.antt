@@ -1,6 +1,7 @@
 use Rattle.std.proofs.Common.{sym, refl, ◌∙◌}
 use Rattle.std.proofs.lemmas.Bool.{false≢true}
-use Rattle.wq_live.proofs.Final.{final, owner_complete, owner_rested, owner_finished, closed_known}
+use Rattle.wq_words.proofs.Closed.{closed_shuts}
+use Rattle.wq_live.proofs.Final.{final, owner_complete, owner_rested, owner_finished, closed_known, owner_all}
 use Rattle.wq_live.proofs.owner.Owner.done.Goals as goal
 use Rattle.wq_live.proofs.owner.Owner.done.Goals.{then-not-is_closed-via-then-not-is_closed}
 use Rattle.wq_live.proofs.owner.Owner.done.Goals.{then-not-is_closed-via-else-not-is_closed+then-self-ne0}
@@ -39,3 +40,9 @@ pub returns-clause-last : goal.returns-clause-last
 returns-clause-last c = λ _. final c.args.self.now.layout c.args.self.now.seen
     (owner_complete c.self.inside.seat c.args.self.now c.self.view_is c.self.invariant.owns c.is_closed.result c.is_closed.ensures.closed
     c.if-not-is_closed.false c.if-self-ne0.false (sym c.is_some.ensures ∙ c.if-is_some.false))
+
+pub returns-clause-all : goal.returns-clause-all
+returns-clause-all c = let s = c.self.inside.seat in let now = c.args.self.now in let o = c.self.invariant.owns in
+    let complete = owner_complete s now c.self.view_is o c.is_closed.result c.is_closed.ensures.closed
+    c.if-not-is_closed.false c.if-self-ne0.false (sym c.is_some.ensures ∙ c.if-is_some.false) in
+    λ _. owner_all s now c.self.view_is o (closed_shuts now.seen complete.0, complete.1)

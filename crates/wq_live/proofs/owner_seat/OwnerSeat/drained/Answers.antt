@@ -1,7 +1,7 @@
 use Rattle.std.proofs.Common.{◌≡◌, Bool, true, false, not, IsTrue, refl, ap, ◌∙◌}
 use Rattle.std.proofs.lemmas.Bool.{false≢true}
 use Rattle.wq_live.specs.Sits.{owner_view}
-use Rattle.wq_live.proofs.Final.{owner_ended, owner_rested, owner_finished, owner_empty, owner_quiet}
+use Rattle.wq_live.proofs.Final.{owner_ended, owner_rested, owner_finished, owner_empty, owner_quiet, owner_all}
 use Rattle.wq_live.proofs.owner_seat.OwnerSeat.drained.Goals as goal
 
 none_true : (none some : Bool) → some ≡ not none → some ≡ false → IsTrue none
@@ -23,6 +23,11 @@ returns-clause-drained c = let s = c.args.self.now in let o = c.requires.owns in
   (λ none. (drains, (drains.0, owner_ended s (owner_view s) refl o drains.0 c.if-self-ne0.false (c.is_none.ensures ∙ ap not none)))),
   (λ out. none_true c.is_none.result _ c.is_none.ensures (owner_rested s (owner_view s) refl o out.1.1).1),
 )
+
+pub returns-clause-all : goal.returns-clause-all
+returns-clause-all c none = let s = c.args.self.now in let drains = c.is_draining.ensures.draining.0 c.if-not-is_draining.false in
+    owner_all s (owner_view s) refl c.requires.owns
+    (drains.0, owner_ended s (owner_view s) refl c.requires.owns drains.0 c.if-self-ne0.false (c.is_none.ensures ∙ ap not none))
 
 pub returns-clause-rested : goal.returns-clause-rested
 returns-clause-rested c none = let s = c.args.self.now in let o = c.requires.owns in
