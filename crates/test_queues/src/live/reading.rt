@@ -1,6 +1,6 @@
 //! What the owner may do next, and what it does then.
 ghost use Rattle.std.specs.Prelude.{◌≡◌, ◌≢◌, [], IsTrue};
-ghost use Rattle.wq_words.specs.History.{IsClosed, IsRunning};
+ghost use Rattle.wq_words.specs.History.{IsClosed, IsShut, IsRunning};
 ghost use Rattle.wq_live.specs.Batch.{batch};
 
 use wq_live::{Answer, Owner};
@@ -8,15 +8,23 @@ use wq_live::{Answer, Owner};
 /// The queue is open.
 #[tactic(auto, using(wq_live::proofs::Reading::reading))]
 pub(crate) fn is_open(owner: &Owner) -> bool
+    ensures { IsTrue result → ¬ IsShut owner.now.seen }
+{
+    !owner.is_closed()
+}
+
+/// The queue is not closed.
+#[tactic(auto, using(wq_live::proofs::Reading::reading))]
+fn is_unclosed(owner: &Owner) -> bool
     ensures { IsTrue result → ¬ IsClosed owner.now.seen }
 {
     !owner.is_closed()
 }
 
-/// The queue is closed.
+/// The queue takes no push.
 #[tactic(auto, using(wq_live::proofs::Reading::reading))]
 pub(crate) fn is_shut(owner: &Owner) -> bool
-    ensures { IsTrue result → IsClosed owner.now.seen }
+    ensures { IsTrue result → IsShut owner.now.seen }
 {
     owner.is_closed()
 }
@@ -24,7 +32,7 @@ pub(crate) fn is_shut(owner: &Owner) -> bool
 /// The queue is open, and nothing that was taken waits.
 #[tactic(auto, using(wq_live::proofs::Reading::reading))]
 pub(crate) fn may_take(owner: &Owner) -> bool
-    ensures open { IsTrue result → ¬ IsClosed owner.now.seen }
+    ensures open { IsTrue result → ¬ IsShut owner.now.seen }
     ensures empty { IsTrue result → batch owner.now.seen ≡ [] }
 {
     if owner.is_closed() {
@@ -71,9 +79,9 @@ pub(crate) fn take(owner: &mut Owner) -> Option<u32> {
     }
 }
 
-/// Closes the queue, where it is open, and answers how many were taken.
+/// Closes the queue, where it is not closed, and answers how many were taken.
 pub(crate) fn close(owner: &mut Owner) -> Option<u32> {
-    if is_open(owner) {
+    if is_unclosed(owner) {
         Some(owner.close())
     } else {
         None
@@ -105,7 +113,7 @@ pub(crate) fn execute_one(owner: &mut Owner) -> Option<u32> {
     end(owner)
 }
 
-/// Chains an item to the execution that runs after the close.
+/// Chains an item to the execution that runs while the queue takes no push.
 pub(crate) fn chain(owner: &mut Owner, item: u32) -> Option<Answer> {
     if is_shut(owner) && may_end(owner) && item < owner.layout().items {
         Some(owner.chain(item))
