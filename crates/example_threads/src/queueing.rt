@@ -31,7 +31,7 @@ fn tell(queued: Trail, number: u32, answer: Answer) -> Trail
 {
     match answer {
         Answer::Queued { .. } => queued.and(number),
-        Answer::Pending | Answer::Closed | Answer::Contended => queued,
+        Answer::Pending | Answer::Closed | Answer::Draining | Answer::Contended => queued,
     }
 }
 

@@ -1,4 +1,5 @@
 //! Each call of a sender and of the owner, in one thread.
+mod draining;
 mod refused;
 
 ghost use Rattle.std.specs.Prelude.{◌≡◌, IfSome};
@@ -28,6 +29,18 @@ fn hold_then(sender: &mut Sender, item: u32, post: bool) -> Option<Posted> {
     }
     sender.give_back(item);
     Some(Posted::Contended)
+}
+
+/// Holds an item and posts it, and gives it back where the queue drains. None where it was pending.
+fn post_or_give_back(sender: &mut Sender, item: u32) -> Option<Posted> {
+    if item >= sender.layout().items || !sender.hold(item) {
+        return None;
+    }
+    let posted = sender.post(item, 1);
+    if let Posted::Draining = posted {
+        sender.give_back(item);
+    }
+    Some(posted)
 }
 
 /// Queues an item in as many tries as it takes.
@@ -89,12 +102,13 @@ fn execute_four<R: Abort>(rt: &R, owner: &mut Owner) {
     expect_same(rt, owner.next(), None);
 }
 
-/// How often a sender was answered Queued, Pending and Closed, and never Contended.
+/// How often a sender was answered Queued, Pending and Closed, and never Draining or Contended.
 fn check_counts<R: Abort>(rt: &R, sender: &Sender, queued: u64, pending: u64, closed: u64) {
     let counts = SenderCounts {
         queued,
         pending,
         closed,
+        draining: 0,
         contended: 0,
     };
     expect_same(rt, sender.counts(), counts);

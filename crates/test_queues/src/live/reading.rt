@@ -1,6 +1,6 @@
 //! What the owner may do next, and what it does then.
 ghost use Rattle.std.specs.Prelude.{◌≡◌, ◌≢◌, [], IsTrue};
-ghost use Rattle.wq_words.specs.History.{IsClosed, IsShut, IsRunning};
+ghost use Rattle.wq_words.specs.History.{IsClosed, IsShut, IsDraining, IsRunning};
 ghost use Rattle.wq_live.specs.Batch.{batch};
 
 use wq_live::{Answer, Owner};
@@ -10,23 +10,29 @@ use wq_live::{Answer, Owner};
 pub(crate) fn is_open(owner: &Owner) -> bool
     ensures { IsTrue result → ¬ IsShut owner.now.seen }
 {
-    !owner.is_closed()
+    if owner.is_closed() {
+        return false;
+    }
+    !owner.is_draining()
 }
 
 /// The queue is not closed.
 #[tactic(auto, using(wq_live::proofs::Reading::reading))]
-fn is_unclosed(owner: &Owner) -> bool
+pub(crate) fn is_unclosed(owner: &Owner) -> bool
     ensures { IsTrue result → ¬ IsClosed owner.now.seen }
 {
     !owner.is_closed()
 }
 
-/// The queue takes no push.
+/// The queue takes no push: it is closed, or drains.
 #[tactic(auto, using(wq_live::proofs::Reading::reading))]
 pub(crate) fn is_shut(owner: &Owner) -> bool
     ensures { IsTrue result → IsShut owner.now.seen }
 {
-    owner.is_closed()
+    if owner.is_closed() {
+        return true;
+    }
+    owner.is_draining()
 }
 
 /// The queue is open, and nothing that was taken waits.
@@ -35,13 +41,23 @@ pub(crate) fn may_take(owner: &Owner) -> bool
     ensures open { IsTrue result → ¬ IsShut owner.now.seen }
     ensures empty { IsTrue result → batch owner.now.seen ≡ [] }
 {
-    if owner.is_closed() {
+    if !is_open(owner) {
         return false;
     }
     match owner.next() {
         Some(_) => false,
         None => true,
     }
+}
+
+/// The queue drains, and all that was accepted has ended.
+#[tactic(auto, using(wq_live::proofs::Reading::reading))]
+pub(crate) fn may_resume(owner: &Owner) -> bool
+    ensures draining { IsTrue result → IsDraining owner.now.seen }
+    ensures empty { IsTrue result → batch owner.now.seen ≡ [] }
+    ensures rests { IsTrue result → ¬ IsRunning owner.now.seen }
+{
+    owner.drained()
 }
 
 /// A number waits, and nothing runs.
@@ -86,6 +102,24 @@ pub(crate) fn close(owner: &mut Owner) -> Option<u32> {
     } else {
         None
     }
+}
+
+/// Begins a drain, where the queue is open, and answers how many were taken.
+pub(crate) fn drain(owner: &mut Owner) -> Option<u32> {
+    if is_open(owner) {
+        Some(owner.drain())
+    } else {
+        None
+    }
+}
+
+/// Ends a drain, where it has run out, and answers whether it has.
+pub(crate) fn resume(owner: &mut Owner) -> bool {
+    if !may_resume(owner) {
+        return false;
+    }
+    owner.resume();
+    true
 }
 
 /// Begins the oldest number that waits, where nothing runs.

@@ -102,6 +102,7 @@ fn queue_in_steps(sender: &mut Sender, place: u32, latch: &Latch) -> Option<[Ans
     let posted = match sender.post(0, u32::MAX) {
         Posted::Queued { first, wakes } => Answer::Queued { first, wakes },
         Posted::Closed => Answer::Closed,
+        Posted::Draining => Answer::Draining,
         Posted::Contended => Answer::Contended,
     };
     if place == 2 && !latch.stop() {

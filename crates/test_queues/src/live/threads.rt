@@ -23,7 +23,7 @@ fn queue_all(sender: &mut Sender, from: u32, to: u32) -> u32 {
                     break;
                 }
                 Answer::Contended => {}
-                Answer::Pending | Answer::Closed => break,
+                Answer::Pending | Answer::Closed | Answer::Draining => break,
             }
         }
     }
