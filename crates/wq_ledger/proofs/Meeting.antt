@@ -7,7 +7,7 @@ use Rattle.wq_ledger.proofs.Common.{◌≡◌, ℕ, List, [], ◌++◌, sym, ap,
 use Rattle.wq_ledger.proofs.Common.{count_by-append, sender_counts, LedgerState, IsLedgerOf}
 
 pub still_closed : (v w : List Event) → IsClosed v → IsClosed (v ++ w)
-still_closed v w shut = omega (arith, count_by-append is_close v w, shut)
+still_closed v w closed = omega (arith, count_by-append is_close v w, closed)
 
 pub still_complete : (layout : Layout) (v new : List Event) → IsLegal layout (v ++ new) → IsComplete v → IsComplete (v ++ new)
 still_complete layout v new legal done = let same = final layout v done new legal in (still_closed v new done.0, rw (same.0, same.2) done.1)
@@ -20,16 +20,16 @@ pub made_still : (c n : ℕ) (v w : List Event) (ledger : LedgerState) → Grows
 made_still c n v w ledger g m = record {
   met = m.met;
   before = subst (λ (z : List Event). IsPrefix m.met z) (sym g.is) (prefix_append m.met v g.new m.before);
-  shut = m.shut;
+  closed = m.closed;
   counts_are = m.counts_are;
 }
 
 -- what a sender that has seen all of a closed queue's history has counted
 pub made_now : (h v : List Event) (s : ℕ) (ledger : LedgerState) → v ≡ h → IsClosed h → ledger.number ≡ s → ledger.counts ≡ sender_counts s v
     → IsLedgerOf h ledger
-made_now h v s ledger same shut number counts = record {
+made_now h v s ledger same closed number counts = record {
   met = h;
   before = ([], append-nil h);
-  shut = shut;
+  closed = closed;
   counts_are = counts ∙ (ap (sender_counts s) same ∙ ap (λ (z : ℕ). sender_counts z h) (sym number));
 }

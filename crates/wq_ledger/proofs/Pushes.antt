@@ -86,17 +86,17 @@ module _ (layout : Layout) where
 
   -- no push follows a close
   one_late : (v : List Event) → IsClosed v → (s : ℕ) (e : Event) → IsAllowed layout v e → cond {A = ℕ} (is_queued_by s e) 1 0 ≡ 0
-  one_late v shut s =
-      by_push (λ e. IsAllowed layout v e → cond {A = ℕ} (is_queued_by s e) 1 0 ≡ 0) (λ t k a. absurd (a.2.1 shut)) (λ e _ _ by _. rw (by s) refl)
+  one_late v closed s =
+      by_push (λ e. IsAllowed layout v e → cond {A = ℕ} (is_queued_by s e) 1 0 ≡ 0) (λ t k a. absurd (a.2.1 closed)) (λ e _ _ by _. rw (by s) refl)
 
   late_none : (s : ℕ) (v new : List Event) → IsLegal layout (v ++ new) → IsClosed v → count_by (is_queued_by s) new ≡ 0
-  late_none s v [] legal shut = refl
-  late_none s v (e ∷ new) legal shut =
+  late_none s v [] legal closed = refl
+  late_none s v (e ∷ new) legal closed =
       omega (
         arith,
         count_by-cons (is_queued_by s) e new,
-        one_late v shut s e (legal_next layout v e new legal),
-        late_none s (v ++ e ∷ []) new (legal_rest layout v e new legal) (still_closed v (e ∷ []) shut),
+        one_late v closed s e (legal_next layout v e new legal),
+        late_none s (v ++ e ∷ []) new (legal_rest layout v e new legal) (still_closed v (e ∷ []) closed),
       )
 
   -- what a sender had pushed by the close it has pushed in all
@@ -104,7 +104,7 @@ module _ (layout : Layout) where
       → ledger.counts.queued ≡ count_by (is_queued_by ledger.number) h
   queued_made h ledger legal m whole =
       let s = ledger.number in let rest = m.before.0 in let is : m.met ++ rest ≡ h = m.before.1 in
-      let late = late_none s m.met rest (subst (IsLegal layout) (sym is) legal) m.shut in
+      let late = late_none s m.met rest (subst (IsLegal layout) (sym is) legal) m.closed in
       let c : ledger.counts.queued ≡ min (count_by (is_queued_by s) m.met) 18446744073709551615 = ap (λ (z : SenderCounts). z.queued) m.counts_are in
       let parts = ap (count_by (is_queued_by s)) is in
       omega (arith, c, whole, late, parts, count_by-append (is_queued_by s) m.met rest)

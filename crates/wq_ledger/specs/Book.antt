@@ -26,7 +26,7 @@ pub record BookState : Type 0 where
 pub record IsLedgerOf (h : List Event) (ledger : LedgerState) : Type 0 where
   pub met : List Event
   pub before : IsPrefix met h
-  pub shut : IsClosed met
+  pub closed : IsClosed met
   pub counts_are : ledger.counts ≡ sender_counts ledger.number met
 
 -- what holds of a book's parts

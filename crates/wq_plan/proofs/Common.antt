@@ -13,7 +13,7 @@ pub use Rattle.std.proofs.lemmas.List.Elements.{filter-append, filter_map-append
 pub use Rattle.std.proofs.lemmas.List.FromFn.{length-range_with_len}
 pub use Rattle.std.proofs.lemmas.List.Sums.{count_by-le-length, sum_by-cons, fold_more}
 pub use Rattle.wq_words.specs.Counting.{is_queued_by, is_pending_by, is_closed_by, is_contended_by, is_chain, is_chain_busy}
-pub use Rattle.wq_words.specs.History.{IsRunning, is_close, is_push, accepted, begun, ended, sets_pending, accepted_by, closed, ended_by}
+pub use Rattle.wq_words.specs.History.{IsRunning, is_close, is_push, accepted, begun, ended, sets_pending, accepted_by, shut, ended_by}
 pub use Rattle.wq_words.specs.Legal.{IsLegal, IsComplete, IsAllowed}
 pub use Rattle.wq_words.specs.Numbers.{stop_number}
 pub use Rattle.wq_words.specs.Seen.{own, owner_seat, Grows, seat_of, is_ours}

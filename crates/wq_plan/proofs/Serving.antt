@@ -1,6 +1,6 @@
 -- A worker whose work asks for nothing adds the owner's takes, begins and ends alone.
 use Rattle.wq_plan.proofs.Common.{◌≡◌, ◌≢◌, ℕ, ◌+◌, ◌==◌, List, [], ◌∷◌, ◌++◌, length, refl, sym, ap, ◌∙◌, subst, arith, append_assoc, filter, count_by}
-use Rattle.wq_plan.proofs.Common.{append-nil, filter_map-append, Event, Close, End, IsRunning, is_close, closed, begun, ended, ended_by, stop_number, IsLegal}
+use Rattle.wq_plan.proofs.Common.{append-nil, filter_map-append, Event, Close, End, IsRunning, is_close, shut, begun, ended, ended_by, stop_number, IsLegal}
 use Rattle.wq_plan.proofs.Common.{IsComplete, owner_seat, seat_of, own, count_same, is_chain, is_chain_busy, is_ours, taking, Follows, WorkerState, Moves}
 use Rattle.wq_plan.proofs.Common.{count_by-append, quiet_taking, Idle, BookState, IsLedgerOf, HasServed, HasGoneOn, HasEnded, or_parts, chain_own}
 use Rattle.wq_plan.proofs.Common.{chain_busy_own, IsSameWorker, prefix_self, prefix_on, worker_still, worker_on, moves_same, own_more}
@@ -97,7 +97,7 @@ module _ (may : Idle → ℕ → List ℕ → Idle → Type 0) (asks_nothing : (
   ends_plain : (k : ℕ) (a b : WorkerState Idle) → a.number ≢ owner_seat → ¬ IsRunning a.seen → Ends may a k b → Plain 0 a b
   ends_plain k a b not idle (ends f es fs st told moved rests) =
       let s = started a k f b.work es not idle st in
-      let no_follow : fs ≡ [] = subst (λ (ks : List ℕ). Follows a.layout.items a.number (closed a.seen) ks fs) s.none told in
+      let no_follow : fs ≡ [] = subst (λ (ks : List ℕ). Follows a.layout.items a.number (shut a.seen) ks fs) s.none told in
       let still : Still a.number 0 (es ++ (fs ++ End k ∷ [])) = still_on a.number 0 0 es (fs ++ End k ∷ []) s.still
       (subst (λ (z : List Event). Still a.number 0 (z ++ End k ∷ [])) (sym no_follow) (still_one a.number 0 (End k) not refl refl refl refl)) in
       moves_plain (es ++ (fs ++ End k ∷ [])) 0 a b still rests moved
@@ -161,7 +161,7 @@ module _ (may : Idle → ℕ → List ℕ → Idle → Type 0) (asks_nothing : (
 
   -- a close, where the queue was open
   pub closes_plain : (a b : WorkerState Idle) → a.number ≢ owner_seat → ¬ IsRunning a.seen → Closes a b → (n : ℕ) × Plain n a b
-  closes_plain a b not idle (was_closed shut same) = (0, subst (λ (c : WorkerState Idle). Plain 0 a c) (sym same) (plain_still a idle))
+  closes_plain a b not idle (was_closed is same) = (0, subst (λ (c : WorkerState Idle). Plain 0 a c) (sym same) (plain_still a idle))
   closes_plain a b not idle (closes opens m work left) =
       let o = owner_of_both a.number (Close ∷ []) 0 a.seen b.seen m.adds in
       let begun_is = ap (length {A = ℕ}) (o.begun_is ∙ append-nil (begun a.seen)) in

@@ -1,6 +1,6 @@
 -- Events by which a worker sends nothing, chains nothing and asks for nothing.
 use Rattle.std.proofs.Common.{Option, Some, None}
-use Rattle.wq_plan.proofs.Common.{◌≡◌, ◌≢◌, ℕ, ◌+◌, Bool, true, false, List, [], ◌∷◌, ◌++◌, refl, ◌∙◌, arith, count_by, Event, Take, Begin, is_close, closed}
+use Rattle.wq_plan.proofs.Common.{◌≡◌, ◌≢◌, ℕ, ◌+◌, Bool, true, false, List, [], ◌∷◌, ◌++◌, refl, ◌∙◌, arith, count_by, Event, Take, Begin, is_close, shut}
 use Rattle.wq_plan.proofs.Common.{owner_seat, own, own-append, own_none, is_chain, is_chain_busy, taking, taking_of, count_by-append, seat_of, sym, subst}
 use Rattle.wq_live.specs.Batch.{next_of}
 
@@ -28,7 +28,7 @@ pub still_one : (s n : ℕ) (e : Event) → s ≢ owner_seat → seat_of e ≡ o
 still_one s n e not at chains asks closes = record { unsent = own_none owner_seat e at s not; unchained = chains; unasked = asks; closes_is = closes }
 
 pub still_taking : (s : ℕ) → s ≢ owner_seat → (h : List Event) → Still s 0 (taking h)
-still_taking s not h = each (next_of h) (closed h)
+still_taking s not h = each (next_of h) (shut h)
   where
     each : (o : Option ℕ) (b : Bool) → Still s 0 (taking_of o b)
     each None true = still_none s

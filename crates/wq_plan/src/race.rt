@@ -1,6 +1,6 @@
 //! A run of a queue by live threads.
 ghost use Rattle.std.specs.Prelude.{◌≡◌, ◌≢◌, ◌+◌, ◌*◌, ◌^◌, ◌<◌, ◌≤◌, [], ◌∷◌, length, IfSome, IfOk, All};
-ghost use Rattle.wq_words.specs.History.{IsRunning, IsClosed};
+ghost use Rattle.wq_words.specs.History.{IsRunning, IsShut};
 ghost use Rattle.wq_words.specs.Seen.{owner_seat};
 ghost use Rattle.wq_words.specs.declared.answer.Answer.TheVariants.{Contended};
 ghost use Rattle.wq_plan.specs.Race.{items_at, HasQueued, HasStopped, IsStopAnswer, HasServed, AreThreads, AllQueued, HasRaced};
@@ -90,7 +90,7 @@ fn queue_own<R: Wait>(rt: &R, mut sender: Sender, own: u32, unparker: Unparker) 
 // Serves until the stop item ran.
 fn serve<R: Wait>(rt: &R, mut worker: Worker<Idle>, parker: Parker) -> Worker<Idle>
     requires seat { worker.number ≢ owner_seat }
-    requires open { ¬ IsClosed worker.seen }
+    requires open { ¬ IsShut worker.seen }
     requires idle { ¬ IsRunning worker.seen }
     ensures { HasServed worker result }
 {
@@ -168,7 +168,7 @@ fn start_worker<'s, E, R: Wait + Sync>(
     parker: Parker,
 ) -> Serving
     requires seat { worker.number ≢ owner_seat }
-    requires open { ¬ IsClosed worker.seen }
+    requires open { ¬ IsShut worker.seen }
     requires idle { ¬ IsRunning worker.seen }
     ensures { IfSome result (λ handle. handle.promise.0.value ≡ worker) }
 {
@@ -177,7 +177,7 @@ fn start_worker<'s, E, R: Wait + Sync>(
         .spawn_with(
             given,
             move ||
-                requires { (worker.number ≢ owner_seat) × (¬ IsClosed worker.seen) × (¬ IsRunning worker.seen) }
+                requires { (worker.number ≢ owner_seat) × (¬ IsShut worker.seen) × (¬ IsRunning worker.seen) }
             { serve(rt, worker, parker) },
         )
         .ok()

@@ -110,7 +110,7 @@ impl<W: Work> Turn<W> {
         self.runner.count_stop()
     }
 
-    /// Closes the queue where it is open, executes up to so many numbers, and answers how many are left.
+    /// Closes the queue where it is not closed, executes up to so many numbers, and answers how many are left.
     pub(crate) fn drain(&mut self, limit: u32) -> u32
         requires { ¬ IsRunning self.old.worker.seen }
         ensures same { IsSameTurn self.old self.new }

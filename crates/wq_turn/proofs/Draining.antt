@@ -5,7 +5,7 @@ use Rattle.wq_worker.specs.declared.drained.Drained.{Drained}
 use Rattle.wq_worker.specs.declared.drained.Drained.TheVariants.{Empty, TooLong}
 use Rattle.wq_worker.specs.Step.{Owes, owes as owes_one}
 use Rattle.wq_turn.proofs.Common.{◌≡◌, ℕ, ◌+◌, ◌<◌, Bool, true, false, List, [], ◌∷◌, length, refl, ap, ◌∙◌, arith, Event, Close, accepted, begun, ended}
-use Rattle.wq_turn.proofs.Common.{IsClosed, IsRunning, IsLegal, IsComplete, closed_from_IsClosed, Row, none, more, IsExecution, Closes, was_closed, closes}
+use Rattle.wq_turn.proofs.Common.{IsClosed, IsShut, IsRunning, IsLegal, IsComplete, closed_from_IsClosed, Row, none, more, IsExecution, Closes, was_closed, closes}
 use Rattle.wq_turn.proofs.Common.{Drains, WorkerState, Moves, owner_of_both, Pauses, limited, owes, owed_before, WorksOn}
 use Rattle.wq_turn.specs.Drained.{IsDrained, left_after}
 use Rattle.wq_turn.specs.Owed.{IsOwed}
@@ -24,30 +24,30 @@ module _ {W : Type 0} where
       (ap (length {A = ℕ}) (adds.ended_is ∙ append-nil (ended a.seen)))
 
   -- a queue that is closed stays so
-  moved_shut : (es : List Event) (n : ℕ) (a b : WorkerState W) → Moves es n a b → IsClosed a.seen → IsClosed b.seen
-  moved_shut es n a b moved shut = let adds = owner_of_both a.number es n a.seen b.seen moved.adds in omega (arith, adds.closes, shut)
+  moved_closed : (es : List Event) (n : ℕ) (a b : WorkerState W) → Moves es n a b → IsClosed a.seen → IsClosed b.seen
+  moved_closed es n a b moved closed = let adds = owner_of_both a.number es n a.seen b.seen moved.adds in omega (arith, adds.closes, closed)
 
-  pub close_shuts : (a b : WorkerState W) → Moves (Close ∷ []) 0 a b → IsClosed b.seen
-  close_shuts a b moved = let adds = owner_of_both a.number (Close ∷ []) 0 a.seen b.seen moved.adds in omega (arith, adds.closes)
+  pub close_closes : (a b : WorkerState W) → Moves (Close ∷ []) 0 a b → IsClosed b.seen
+  close_closes a b moved = let adds = owner_of_both a.number (Close ∷ []) 0 a.seen b.seen moved.adds in omega (arith, adds.closes)
 
   module _ (may : W → ℕ → List ℕ → W → Type 0) where
-    -- a closed queue owes nothing
-    owes_open : (k : ℕ) (a b : WorkerState W) → Owes may a k b → ¬ IsClosed a.seen
+    -- a queue that is shut owes nothing
+    owes_open : (k : ℕ) (a b : WorkerState W) → Owes may a k b → ¬ IsShut a.seen
     owes_open k a b (owes_one f qs j others es fs st split left opens told moved runs) = λ shut. let now = closed_from_IsClosed a.seen shut in absurd (cc)
 
     pauses_idle : (limit : ℕ) (a c : WorkerState W) → Pauses may limit a c → IsClosed a.seen → ¬ IsRunning a.seen → ¬ IsRunning c.seen
-    pauses_idle limit a c (limited k steps just rests next) shut idle = rests
-    pauses_idle limit a c (owes n k b low steps step) shut idle =
-        absurd (owes_open k b c step (steps_keep (λ w. IsClosed w.seen) moved_shut may n a b steps shut))
-    pauses_idle limit a c (owed_before is_none runs same) shut idle = absurd (idle runs)
+    pauses_idle limit a c (limited k steps just rests next) closed idle = rests
+    pauses_idle limit a c (owes n k b low steps step) closed idle =
+        absurd (owes_open k b c step (steps_keep (λ w. IsClosed w.seen) moved_closed may n a b steps closed))
+    pauses_idle limit a c (owed_before is_none runs same) closed idle = absurd (idle runs)
 
-    pub works_shut : (limit : ℕ) (done : Bool) (a c : WorkerState W) → WorksOn may limit done a c → IsClosed a.seen → IsClosed c.seen
-    works_shut = works_keep (λ w. IsClosed w.seen) moved_shut may
+    pub works_closed : (limit : ℕ) (done : Bool) (a c : WorkerState W) → WorksOn may limit done a c → IsClosed a.seen → IsClosed c.seen
+    works_closed = works_keep (λ w. IsClosed w.seen) moved_closed may
 
     pub works_idle : (limit : ℕ) (done : Bool) (a c : WorkerState W) → WorksOn may limit done a c → IsClosed a.seen → ¬ IsRunning a.seen
         → ¬ IsRunning c.seen
-    works_idle limit true a c t shut idle = t.1
-    works_idle limit false a c t shut idle = pauses_idle limit a c t shut idle
+    works_idle limit true a c t closed idle = t.1
+    works_idle limit false a c t closed idle = pauses_idle limit a c t closed idle
 
     no_row : (n : ℕ) (a b : WorkerState W) → Row may IsExecution n a b → n ≡ 0 → b ≡ a
     no_row n a b (none c) is = refl
@@ -59,8 +59,8 @@ module _ {W : Type 0} where
     undrained (TooLong left) a b t = no_row 0 a b t.0 refl
 
     pub drained : (d : Drained) (a b : WorkerState W) → Drains may 0 d a b → IsLegal b.layout b.seen → IsClosed b.seen → IsDrained (left_after d) b
-    drained Empty a b t legal shut = let all = t.3.1 in record { legal = legal; shut = shut; left_is = omega (arith, all) }
-    drained (TooLong left) a b t legal shut = record { legal = legal; shut = shut; left_is = t.2 }
+    drained Empty a b t legal closed = let all = t.3.1 in record { legal = legal; closed = closed; left_is = omega (arith, all) }
+    drained (TooLong left) a b t legal closed = record { legal = legal; closed = closed; left_is = t.2 }
 
     -- with nothing left a worker is taken apart
     pub never_unfinished : (log : W → List ℕ) (a b : WorkerState W) (left : ℕ) → IsComplete a.seen → LeavesUnfinished log may 0 a b left → ⊥
@@ -68,11 +68,11 @@ module _ {W : Type 0} where
       where
         go : (a m b : WorkerState W) → IsComplete a.seen → Closes a m → Row may IsExecution 0 m b → (left : ℕ) → 0 < left
             → left + length (ended b.seen) ≡ length (accepted b.seen) → ⊥
-        go a m b done (was_closed shut same) row left some is =
+        go a m b done (was_closed is_closed same) row left some is =
             let b_is : b ≡ a = no_row 0 m b row refl ∙ same in
             let e = ap (λ (w : WorkerState W). length (ended w.seen)) b_is in let n = ap (λ (w : WorkerState W). length (accepted w.seen)) b_is in
             omega (arith, some, is, e, n, done.1)
         go a m b done (closes opens moved work unqueued) row left some is = absurd (opens done.0)
 
 pub left_complete : {W : Type 0} (w : WorkerState W) → IsDrained 0 w → IsComplete w.seen
-left_complete w drained = let all = drained.left_is in (drained.shut, omega (arith, all))
+left_complete w drained = let all = drained.left_is in (drained.closed, omega (arith, all))

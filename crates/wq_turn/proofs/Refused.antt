@@ -16,7 +16,7 @@ use Rattle.wq_worker.proofs.Draining.{left_idle}
 use Rattle.wq_worker.proofs.Others.{next_still, some_fresh}
 use Rattle.wq_turn.proofs.Common.{◌≡◌, ℕ, ◌<◌, ◌≤◌, false, List, [], ◌∷◌, ◌++◌, length, take, ◌==◌, None, sym, refl, ap, ◌∙◌, subst, inl, inr, append_assoc}
 use Rattle.wq_turn.proofs.Common.{arith, length-append, length-drop, filter_map-append, filter-append, Event, Hold, Busy, Push, Back, Take, Layout, accepted}
-use Rattle.wq_turn.proofs.Common.{begun, IsClosed, accepted_by, taken, fresh, first, IsLegal, IsComplete, closed_from_open, batch, next_of, MayNotRest}
+use Rattle.wq_turn.proofs.Common.{begun, IsClosed, IsShut, accepted_by, taken, fresh, first, IsLegal, IsComplete, closed_from_open, batch, next_of, MayNotRest}
 use Rattle.wq_turn.proofs.Common.{HasNoneLeft, taking, Adds, NothingWaits, at_take, at_all, owner_of_both, filter-filter, owner_grows, stays, quiet_none}
 
 -- of what came new the owner's events are those of what the worker's two seats added
@@ -31,8 +31,8 @@ next_kept layout s n v w adds legal = next_still layout v w adds.new adds.is leg
 
 -- a closed queue of which nothing is left has run to its end
 pub none_left_complete : (layout : Layout) (h : List Event) → IsLegal layout h → IsClosed h → HasNoneLeft h → IsComplete h
-none_left_complete layout h legal shut none =
-    (shut, omega (arith, left_idle layout h legal shut none.0, ap (length {A = ℕ}) (empty_from_next h none.1)))
+none_left_complete layout h legal closed none =
+    (closed, omega (arith, left_idle layout h legal closed none.0, ap (length {A = ℕ}) (empty_from_next h none.1)))
 
 -- a queue at work stays at work while other seats alone add events
 at_work_still : (layout : Layout) (v new : List Event) → IsLegal layout (v ++ new) → own owner_seat new ≡ [] → wakes v ≡ false → wakes (v ++ new) ≡ false
@@ -71,7 +71,7 @@ module _ (layout : Layout) where
       )
 
   -- After the owner's last take something was pushed, and after the next take something waits.
-  pushed_waits : (before after c d new : List Event) → c ≡ before ++ Take ∷ after → own owner_seat after ≡ [] → IsLegal layout c → ¬ IsClosed c
+  pushed_waits : (before after c d new : List Event) → c ≡ before ++ Take ∷ after → own owner_seat after ≡ [] → IsLegal layout c → ¬ IsShut c
       → first c ≡ false → d ≡ c ++ new → own owner_seat new ≡ Take ∷ [] → IsLegal layout d → next_of d ≡ None → ⊥
   pushed_waits before after c d new c_is none legal opens pushed d_is one later nothing =
       let l : IsLegal layout ((before ++ Take ∷ []) ++ after) = legal_rest layout before Take after (subst (IsLegal layout) c_is legal) in
@@ -112,7 +112,7 @@ module _ (layout : Layout) where
       )
 
 -- A worker of which nothing was left and whose rest was refused finds something by its next take.
-pub refused_waits : (layout : Layout) (s : ℕ) (b c d : List Event) → NothingWaits b → Adds s [] 0 b c → MayNotRest c → IsLegal layout c → ¬ IsClosed c
+pub refused_waits : (layout : Layout) (s : ℕ) (b c d : List Event) → NothingWaits b → Adds s [] 0 b c → MayNotRest c → IsLegal layout c → ¬ IsShut c
     → next_of c ≡ None → Adds s (taking c) 0 c d → IsLegal layout d → next_of d ≡ None → ⊥
 refused_waits layout s b c d (at_all shut none) quiet why legal opens empty more later nothing =
     let same = stays [] b c quiet_none (owner_of_both s [] 0 b c quiet) in opens (subst (λ (z : ℕ). 0 < z) (sym same.closes_same) shut)

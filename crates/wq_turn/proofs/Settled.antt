@@ -2,7 +2,7 @@
 use Rattle.wq_words.proofs.Running.{runs_from_running as runs_some}
 use Rattle.wq_worker.specs.Step.{Ends, ends, owes as owe, Runs}
 use Rattle.wq_turn.proofs.Common.{◌≡◌, ℕ, ◌+◌, ◌<◌, ◌≤◌, Bool, true, false, List, [], Some, None, Option, MatchOption, refl, ap, ◌∙◌, subst, add-zero, arith}
-use Rattle.wq_turn.proofs.Common.{Layout, IsClosed, IsRunning, closed, IsLegal, IsClosed_from_closed, MayNotRest, Ran, Item, Barrier, Stop, Nothing, Owing}
+use Rattle.wq_turn.proofs.Common.{Layout, IsShut, IsRunning, closed, IsLegal, IsClosed_from_closed, MayNotRest, Ran, Item, Barrier, Stop, Nothing, Owing}
 use Rattle.wq_turn.proofs.Common.{IsExecution, ended_by_answer, WorkerState, Moves, rest_events, IsReady, IsUnready, owed, nothing, HasNoneLeft, LeavesWork}
 use Rattle.wq_turn.proofs.Common.{taking, Adds, NothingWaits, Ended, Owed, Done, limited, owes, WorksOn, StepRow, still, ready, unready, run, rest, Finishes}
 use Rattle.wq_turn.proofs.Common.{rested, completed, IsDue, Settles, RunsOne, MakesProgress}
@@ -47,8 +47,8 @@ module _ {W : Type 0} (may : W → ℕ → List ℕ → W → Type 0) where
   settled_unready r a b c is t = settled_on r a b c (unready 0 a a b (still a) is) t
 
   pub settled_closed : (a : WorkerState W) → IsLegal a.layout a.seen → closed a.seen ≡ true → HasNoneLeft a.seen → Settles may None a a
-  settled_closed a legal shut none =
-      (completed 0 (omega arith) (still a) (none_left_complete a.layout a.seen legal (IsClosed_from_closed a.seen shut) none), none.0)
+  settled_closed a legal is none =
+      (completed 0 (omega arith) (still a) (none_left_complete a.layout a.seen legal (IsClosed_from_closed a.seen is) none), none.0)
 
   pub settled_rested : (rests : Bool) (a b : WorkerState W) → rests ≡ true → LeavesWork a b → Moves (rest_events rests) 0 a b → HasNoneLeft b.seen
       → Settles may None a b
@@ -57,7 +57,7 @@ module _ {W : Type 0} (may : W → ℕ → List ℕ → W → Type 0) where
 
   -- a rest was refused, and the worker got ready
   pub settled_refused : (rests : Bool) (r : Option ℕ) (a b c : WorkerState W) → rests ≡ false → NothingWaits a.seen → LeavesWork a b
-      → Moves (rest_events rests) 0 a b → ¬ IsClosed b.seen → HasNoneLeft b.seen → MayNotRest b.seen
+      → Moves (rest_events rests) 0 a b → ¬ IsShut b.seen → HasNoneLeft b.seen → MayNotRest b.seen
       → MatchOption r (IsUnready b c) (λ k. IsReady b k c) → Settles may r a c
   settled_refused rests (Some k) a b c is waits left moved opens none why step =
       record { steps = ready 0 k a b c (rest 0 rests a a b (still a) left moved) step; idle = step.idle; next_is = step.next_is }

@@ -3,7 +3,7 @@ use Rattle.wq_worker.specs.Step.{Starts, item, other, owed as goes_on, Ends, end
 use Rattle.wq_worker.proofs.Follow.{quiet_contended, quiet_follows}
 use Rattle.wq_worker.proofs.State.{quiet_taking, ended_taking}
 use Rattle.wq_turn.proofs.Common.{◌≡◌, ℕ, ◌+◌, ◌≤◌, Bool, true, false, List, [], ◌∷◌, ◌++◌, length, Some, None, Option, sym, refl, ap, ◌∙◌, subst, add-zero}
-use Rattle.wq_turn.proofs.Common.{arith, length-append, filter_map-append, Event, End, Rest, ended, IsRunning, ended_by, closed, next_of, Ran, Item, Barrier}
+use Rattle.wq_turn.proofs.Common.{arith, length-append, filter_map-append, Event, End, Rest, ended, IsRunning, ended_by, shut, next_of, Ran, Item, Barrier}
 use Rattle.wq_turn.proofs.Common.{Stop, Nothing, Owing, ended_by_answer, WorkerState, Moves, contended_of, rest_events, IsUnready, owed, nothing, HasNoneLeft}
 use Rattle.wq_turn.proofs.Common.{taking, Adds, taking_of, owner_of_both, IsQuiet, OwnerAdds, Pauses, limited, owed_before, WorksOn, StepRow, still, ready}
 use Rattle.wq_turn.proofs.Common.{unready, run, rest, Finishes, rested, completed, worker_id}
@@ -49,13 +49,13 @@ module _ {W : Type 0} where
     execution_ends k a b (ends f es fs starts told moved idle) =
         moved_ends (es ++ (fs ++ End k ∷ [])) 0 1 a b
         (ended_parts es fs (End k ∷ []) (starts_ended a k f b.work es starts)
-        (quiet_follows a.layout.items a.number (closed a.seen) f fs told).ended_none) moved
+        (quiet_follows a.layout.items a.number (shut a.seen) f fs told).ended_none) moved
 
     owing_ends : (k : ℕ) (a b : WorkerState W) → Owes may a k b → EndsJust 0 a.seen b.seen
     owing_ends k a b (owes f qs j more es fs starts split left opens told moved runs) =
         moved_ends (es ++ (fs ++ contended_of a.number j)) a.tries 0 a b
         (ended_parts es fs (contended_of a.number j) (starts_ended a k f b.work es starts)
-        (quiet_follows a.layout.items a.number (closed a.seen) qs fs told).ended_none
+        (quiet_follows a.layout.items a.number (shut a.seen) qs fs told).ended_none
         ∙ ended_quiet (contended_of a.number j) (quiet_contended a.number j)) moved
 
     runs_ends : (r : Ran) (a b : WorkerState W) → Runs may r a b → EndsJust (ended_by_answer r) a.seen b.seen
@@ -120,6 +120,6 @@ module _ {W : Type 0} where
         go : (o : Option ℕ) → next_of a.seen ≡ o → ⊥
         go None is = some (t.0, is)
         go (Some k) is =
-            let quiet : taking a.seen ≡ [] = ap (λ (o : Option ℕ). taking_of o (closed a.seen)) is in
+            let quiet : taking a.seen ≡ [] = ap (λ (o : Option ℕ). taking_of o (shut a.seen)) is in
             let adds : Adds a.number [] 0 a.seen b.seen = subst (λ (es : List Event). Adds a.number es 0 a.seen b.seen) quiet t.3.adds in
             let same = next_kept b.layout a.number 0 a.seen b.seen adds t.3.legal in absurd (cc (same, is, none.1))

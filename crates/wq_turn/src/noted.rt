@@ -1,7 +1,7 @@
 //! A worker that notes when its stop item has run.
 ghost use Rattle.std.specs.Prelude.{◌≡◌, ◌⊎◌, [], ◌∷◌, true, false, Contains, MatchOption};
 ghost use Rattle.wq_words.specs.Numbers.{stop_number};
-ghost use Rattle.wq_words.specs.History.{begun, closed, ended, IsClosed};
+ghost use Rattle.wq_words.specs.History.{begun, closed, ended, IsClosed, IsShut};
 ghost use Rattle.wq_words.specs.Legal.{IsLegal};
 ghost use Rattle.wq_words.specs.Headline.{KeepsHeadline};
 ghost use Rattle.wq_words.specs.declared.event.Event.TheVariants.{Close};
@@ -110,11 +110,11 @@ impl<W: Work> Noted<W> {
     }
 
     pub(crate) fn rest(&mut self) -> bool
-        requires open { ¬ IsClosed self.old.seen }
+        requires open { ¬ IsShut self.old.seen }
         requires none { HasNoneLeft self.old.seen }
         ensures work { LeavesWork self.old self.new }
         ensures events { Moves (rest_events result) 0 self.old self.new }
-        ensures unclosed { ¬ IsClosed self.new.seen }
+        ensures open { ¬ IsShut self.new.seen }
         ensures none { HasNoneLeft self.new.seen }
         ensures refused { result ≡ false → MayNotRest self.new.seen }
     {
@@ -132,7 +132,7 @@ impl<W: Work> Noted<W> {
     }
 
     pub(crate) fn close(&mut self)
-        requires open { ¬ IsClosed self.old.seen }
+        requires unclosed { ¬ IsClosed self.old.seen }
         ensures events { Moves (Close ∷ []) 0 self.old self.new }
     {
         self.worker.close();

@@ -195,10 +195,10 @@ impl<W: Work> Runner<W> {
         }
     }
 
-    // Closes the queue where it is open.
+    // Closes the queue where it is not closed.
     fn close(&mut self)
         ensures same { worker_id self.new ≡ worker_id self.old }
-        ensures shut { IsClosed self.new.seen }
+        ensures closed { IsClosed self.new.seen }
         ensures idle { ¬ IsRunning self.old.seen → ¬ IsRunning self.new.seen }
     {
         if !self.worker.is_closed() {
@@ -206,7 +206,7 @@ impl<W: Work> Runner<W> {
         }
     }
 
-    /// Closes the queue where it is open, works on, by up to so many executions and with no gate, and answers how many numbers
+    /// Closes the queue where it is not closed, works on, by up to so many executions and with no gate, and answers how many numbers
     /// are left.
     pub fn drain(&mut self, limit: u32) -> u32
         requires { ¬ IsRunning self.old.seen }

@@ -6,7 +6,7 @@ use Rattle.wq_words.specs.declared.layout.Layout.{Layout}
 use Rattle.wq_words.specs.declared.event.Event.{Event}
 use Rattle.wq_words.specs.declared.event.Event.TheVariants.{Hold, Busy, Push, Back, Chain, ChainBusy}
 use Rattle.wq_words.specs.declared.event.Why.TheVariants as why
-use Rattle.wq_words.specs.History.{closed, IsRunning}
+use Rattle.wq_words.specs.History.{shut, IsRunning}
 use Rattle.wq_words.specs.declared.answer.Answer.{Answer}
 use Rattle.wq_words.specs.declared.answer.Answer.TheVariants as answer
 use Rattle.wq_words.specs.Legal.{IsLegal}
@@ -44,18 +44,18 @@ follows_push n s b [] k es fs t q = (fs, [], ap (λ (z : List Event). z ++ fs) t
 follows_push n s b (j ∷ ks) k es fs t q =
     (t.0, t.1 ++ fs, ap (λ (z : List Event). z ++ fs) t.2 ∙ append_assoc t.0 t.1 fs, t.3, follows_push n s b ks k t.1 fs t.4 q)
 
-pub told_chain : (item : ℕ) (a : Answer) (old new : KnownPair) → item < old.layout.items → closed old.seen ≡ true
+pub told_chain : (item : ℕ) (a : Answer) (old new : KnownPair) → item < old.layout.items → shut old.seen ≡ true
     → Chains item a (pair_owner old) (pair_owner new) → Sees [] 0 (pair_sender old) (pair_sender new)
-    → (es : List Event) × Queues old.layout.items old.number (closed old.seen) item es × Both es 0 old new
-told_chain item (answer.Queued is_first wakes) old new low shut h c =
-    (Chain item ∷ [], chained low shut refl, by_owner (Chain item ∷ []) 0 0 old new h.2 c)
-told_chain item answer.Pending old new low shut h c = (ChainBusy item ∷ [], chain_busy low shut refl, by_owner (ChainBusy item ∷ []) 0 0 old new h c)
-told_chain item answer.Closed old new low shut h c = absurd h
-told_chain item answer.Contended old new low shut h c = absurd h
+    → (es : List Event) × Queues old.layout.items old.number (shut old.seen) item es × Both es 0 old new
+told_chain item (answer.Queued is_first wakes) old new low is_shut h c =
+    (Chain item ∷ [], chained low is_shut refl, by_owner (Chain item ∷ []) 0 0 old new h.2 c)
+told_chain item answer.Pending old new low is_shut h c = (ChainBusy item ∷ [], chain_busy low is_shut refl, by_owner (ChainBusy item ∷ []) 0 0 old new h c)
+told_chain item answer.Closed old new low is_shut h c = absurd h
+told_chain item answer.Contended old new low is_shut h c = absurd h
 
-pub told_send : (item tries : ℕ) (a : Answer) (old new : KnownPair) → item < old.layout.items → closed old.seen ≡ false
+pub told_send : (item tries : ℕ) (a : Answer) (old new : KnownPair) → item < old.layout.items → shut old.seen ≡ false
     → Answers item tries a (pair_sender old) (pair_sender new) → Sees [] 0 (pair_owner old) (pair_owner new)
-    → (es : List Event) × Attempts old.layout.items old.number (closed old.seen) item (settled a) es × Both es (cond (settled a) 0 tries) old new
+    → (es : List Event) × Attempts old.layout.items old.number (shut old.seen) item (settled a) es × Both es (cond (settled a) 0 tries) old new
 told_send item tries (answer.Queued is_first wakes) old new low opens h c =
     let es = Hold old.number item ∷ Push old.number item ∷ [] in (es, pushed low opens refl, by_sender es 0 0 old new h.0 c)
 told_send item tries answer.Pending old new low opens h c =
@@ -70,62 +70,62 @@ pub record Sofar (ks js : List ℕ) (old new : KnownPair) : Type 0 where
   pub queued : List ℕ
   pub events : List Event
   pub split : ks ≡ queued ++ js
-  pub told : Follows old.layout.items old.number (closed old.seen) queued events
+  pub told : Follows old.layout.items old.number (shut old.seen) queued events
   pub moved : Both events 0 old new
 
 pub sofar_stays : (ks js : List ℕ) (old new : KnownPair) → Sofar ks js old new → Stays old.seen new.seen
 sofar_stays ks js old new f =
-    stays f.events old.seen new.seen (quiet_follows old.layout.items old.number (closed old.seen) f.queued f.events f.told)
+    stays f.events old.seen new.seen (quiet_follows old.layout.items old.number (shut old.seen) f.queued f.events f.told)
     (owner_of_both old.number f.events 0 old.seen new.seen f.moved.adds)
 
 pub sofar_runs : (ks js : List ℕ) (old new : KnownPair) → Sofar ks js old new → IsRunning old.seen → IsRunning new.seen
 sofar_runs ks js old new f runs = let k = sofar_stays ks js old new f in rw (k.begun_same, k.ended_same) runs
 
 pub one_more : (ks : List ℕ) (k : ℕ) (js : List ℕ) (b : Bool) (tries : ℕ) (old mid new : KnownPair) → Sofar ks (k ∷ js) old mid → b ≡ true
-    → (es : List Event) × Attempts mid.layout.items mid.number (closed mid.seen) k b es × Both es (cond b 0 tries) mid new → Sofar ks js old new
+    → (es : List Event) × Attempts mid.layout.items mid.number (shut mid.seen) k b es × Both es (cond b 0 tries) mid new → Sofar ks js old new
 one_more ks k js b tries old mid new f won h =
-    let h1 : (es : List Event) × Queues mid.layout.items mid.number (closed mid.seen) k es × Both es 0 mid new =
-    subst (λ (z : Bool). (es : List Event) × Attempts mid.layout.items mid.number (closed mid.seen) k z es × Both es (cond z 0 tries) mid new) won h in
+    let h1 : (es : List Event) × Queues mid.layout.items mid.number (shut mid.seen) k es × Both es 0 mid new =
+    subst (λ (z : Bool). (es : List Event) × Attempts mid.layout.items mid.number (shut mid.seen) k z es × Both es (cond z 0 tries) mid new) won h in
     let same = sofar_stays ks (k ∷ js) old mid f in
-    let told : Queues old.layout.items old.number (closed old.seen) k h1.0 =
-    subst (λ (z : Bool). Queues old.layout.items old.number z k h1.0) same.closed_same
-    (subst (λ (z : ℕ). Queues old.layout.items z (closed mid.seen) k h1.0) f.moved.number_is
-    (subst (λ (z : Layout). Queues z.items mid.number (closed mid.seen) k h1.0) f.moved.layout_is h1.1)) in
+    let told : Queues old.layout.items old.number (shut old.seen) k h1.0 =
+    subst (λ (z : Bool). Queues old.layout.items old.number z k h1.0) same.shut_same
+    (subst (λ (z : ℕ). Queues old.layout.items z (shut mid.seen) k h1.0) f.moved.number_is
+    (subst (λ (z : Layout). Queues z.items mid.number (shut mid.seen) k h1.0) f.moved.layout_is h1.1)) in
     record {
       queued = f.queued ++ k ∷ [];
       events = f.events ++ h1.0;
       split = f.split ∙ sym (append_assoc f.queued (k ∷ []) js);
-      told = follows_push old.layout.items old.number (closed old.seen) f.queued k f.events h1.0 f.told told;
+      told = follows_push old.layout.items old.number (shut old.seen) f.queued k f.events h1.0 f.told told;
       moved = both_on f.events h1.0 0 0 old mid new f.moved h1.2;
     }
 
 pub was_contended : (ks : List ℕ) (k : ℕ) (js : List ℕ) (b : Bool) (tries : ℕ) (old mid new : KnownPair) → Sofar ks (k ∷ js) old mid → b ≡ false
-    → (es : List Event) × Attempts mid.layout.items mid.number (closed mid.seen) k b es × Both es (cond b 0 tries) mid new → QueuesRest tries ks (k ∷ js) old new
+    → (es : List Event) × Attempts mid.layout.items mid.number (shut mid.seen) k b es × Both es (cond b 0 tries) mid new → QueuesRest tries ks (k ∷ js) old new
 was_contended ks k js b tries old mid new f lost h =
-    let h1 : (es : List Event) × Attempts mid.layout.items mid.number (closed mid.seen) k false es × Both es tries mid new =
-    subst (λ (z : Bool). (es : List Event) × Attempts mid.layout.items mid.number (closed mid.seen) k z es × Both es (cond z 0 tries) mid new) lost h in
+    let h1 : (es : List Event) × Attempts mid.layout.items mid.number (shut mid.seen) k false es × Both es tries mid new =
+    subst (λ (z : Bool). (es : List Event) × Attempts mid.layout.items mid.number (shut mid.seen) k z es × Both es (cond z 0 tries) mid new) lost h in
     let now : Both (contended_of old.number k) tries mid new =
     subst (λ (z : ℕ). Both (contended_of z k) tries mid new) f.moved.number_is (subst (λ (z : List Event). Both z tries mid new) h1.1.2 h1.2) in
     let low : k < old.layout.items = subst (λ (z : Layout). k < z.items) f.moved.layout_is h1.1.0 in
     let same = sofar_stays ks (k ∷ js) old mid f in
-    contended f.queued k js f.events f.split refl low (sym same.closed_same ∙ h1.1.1) f.told
+    contended f.queued k js f.events f.split refl low (sym same.shut_same ∙ h1.1.1) f.told
     (subst (λ (z : ℕ). Both (f.events ++ contended_of old.number k) z old new) (omega arith)
     (both_on f.events (contended_of old.number k) 0 tries old mid new f.moved now))
 
 pub all_queued : (tries : ℕ) (ks js : List ℕ) (old new : KnownPair) → js ≡ [] → Sofar ks js old new → QueuesRest tries ks js old new
 all_queued tries ks js old new none f =
     let split : ks ≡ f.queued = f.split ∙ (ap (λ (z : List ℕ). f.queued ++ z) none ∙ append-nil f.queued) in
-    finished f.events none (subst (λ (z : List ℕ). Follows old.layout.items old.number (closed old.seen) z f.events) (sym split) f.told) f.moved
+    finished f.events none (subst (λ (z : List ℕ). Follows old.layout.items old.number (shut old.seen) z f.events) (sym split) f.told) f.moved
 
 pub next_left : (at : ℕ) (xs : List ℕ) → at < length xs → drop at xs ≡ get_or xs at 0 ∷ drop (at + 1) xs
 next_left at xs h = rw (add-one, drop-cons xs at 0) refl
 
 pub advance_stays : (tries : ℕ) (ks js : List ℕ) (old new : KnownPair) → QueuesRest tries ks js old new → Stays old.seen new.seen
 advance_stays tries ks js old new (finished es none told b) =
-    stays es old.seen new.seen (quiet_follows old.layout.items old.number (closed old.seen) ks es told) (owner_of_both old.number es 0 old.seen new.seen b.adds)
+    stays es old.seen new.seen (quiet_follows old.layout.items old.number (shut old.seen) ks es told) (owner_of_both old.number es 0 old.seen new.seen b.adds)
 advance_stays tries ks js old new (contended qs k more es split is low opens told b) =
     stays (es ++ contended_of old.number k) old.seen new.seen
-    (quiet_append es (contended_of old.number k) (quiet_follows old.layout.items old.number (closed old.seen) qs es told) (quiet_contended old.number k))
+    (quiet_append es (contended_of old.number k) (quiet_follows old.layout.items old.number (shut old.seen) qs es told) (quiet_contended old.number k))
     (owner_of_both old.number (es ++ contended_of old.number k) tries old.seen new.seen b.adds)
 
 pub advance_layout : (tries : ℕ) (ks js : List ℕ) (old new : KnownPair) → QueuesRest tries ks js old new → new.layout ≡ old.layout

@@ -1,7 +1,7 @@
 pub mod Seats
 pub mod Owned
 pub mod Running
-pub mod Closing
+pub mod Shut
 pub mod Pair
 pub mod Follow
 pub mod State

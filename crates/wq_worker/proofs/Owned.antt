@@ -1,11 +1,11 @@
--- What has begun and ended, and whether the queue is closed, changes by the owner's events alone.
+-- What has begun and ended, and whether the queue is shut, changes by the owner's events alone.
 use Rattle.std.proofs.Common.{◌≡◌, ℕ, ◌+◌, Bool, true, false, cond, ◌==◌, List, [], ◌∷◌, ◌++◌, sym, refl, ap, ◌∙◌, arith}
 use Rattle.std.proofs.lemmas.Bool.{or_parts}
 use Rattle.std.specs.Prelude.{filter, count_by}
 use Rattle.std.proofs.lemmas.List.{append-nil}
 use Rattle.std.proofs.lemmas.List.Elements.{filter_map-append}
 use Rattle.wq_words.specs.declared.event.Event.{Event}
-use Rattle.wq_words.specs.History.{begun_by, ended_by, is_close, begun, ended, closed, running}
+use Rattle.wq_words.specs.History.{begun_by, ended_by, is_close, begun, ended, shut, running}
 use Rattle.wq_words.specs.Seen.{owner_seat, seat_of, own, Grows}
 use Rattle.wq_words.proofs.Appended.{count_by-append}
 use Rattle.wq_words.proofs.Seen.{begun_same, ended_same, closed_count}
@@ -74,11 +74,11 @@ pub record Stays (v w : List Event) : Type 0 where
   pub ended_same : ended w ≡ ended v
   pub closes_same : count_by is_close w ≡ count_by is_close v
   pub running_same : running w ≡ running v
-  pub closed_same : closed w ≡ closed v
+  pub shut_same : shut w ≡ shut v
 
 pub stays : (es v w : List Event) → IsQuiet es → OwnerAdds es v w → Stays v w
 stays es v w q o =
     let b : begun w ≡ begun v = o.begun_is ∙ (ap (λ (z : List ℕ). begun v ++ z) q.begun_none ∙ append-nil (begun v)) in
     let e : ended w ≡ ended v = o.ended_is ∙ (ap (λ (z : List ℕ). ended v ++ z) q.ended_none ∙ append-nil (ended v)) in
     let c : count_by is_close w ≡ count_by is_close v = omega (arith, o.closes, q.closes_none) in
-    record { begun_same = b; ended_same = e; closes_same = c; running_same = rw (b, e) refl; closed_same = rw c refl }
+    record { begun_same = b; ended_same = e; closes_same = c; running_same = rw (b, e) refl; shut_same = rw c refl }

@@ -35,7 +35,7 @@ module _ {W : Type 0} where
   moves_same xs n a b m = record { queue_is = m.queue; layout_is = m.layout; number_is = m.number; tries_is = m.tries }
 
   pub closes_same : (a b : WorkerState W) → Closes a b → IsSameWorker a b
-  closes_same a b (was_closed shut same) =
+  closes_same a b (was_closed is same) =
       record { queue_is = λ i. (same i).queue; layout_is = λ i. (same i).layout; number_is = λ i. (same i).number; tries_is = λ i. (same i).tries }
   closes_same a b (closes opens moved work left) = moves_same _ 0 a b moved
 
@@ -81,11 +81,11 @@ module _ {W : Type 0} (may : W → ℕ → List ℕ → W → Type 0) where
   starts_close_none a k f v es (owed runs left same is) = ap (count_by is_close) is
 
   ends_unclosed : (k : ℕ) (a b : WorkerState W) → Ends may a k b → ¬ IsClosed a.seen → ¬ IsClosed b.seen
-  ends_unclosed k a b (ends f es fs st told moved rests) opens = λ shut.
+  ends_unclosed k a b (ends f es fs st told moved rests) opens = λ closed.
       let o = owner_of_both a.number (es ++ (fs ++ End k ∷ [])) 0 a.seen b.seen moved.adds in
       opens (omega (
         arith,
-        shut,
+        closed,
         o.closes,
         starts_close_none a k f b.work es st,
         (quiet_follows a.layout.items a.number _ f fs told).closes_none,
@@ -94,12 +94,12 @@ module _ {W : Type 0} (may : W → ℕ → List ℕ → W → Type 0) where
       ))
 
   owes_unclosed : (k : ℕ) (a b : WorkerState W) → Owes may a k b → ¬ IsClosed a.seen → ¬ IsClosed b.seen
-  owes_unclosed k a b (owes f qs j rest es fs st split left none_shut told moved runs) opens = λ shut.
+  owes_unclosed k a b (owes f qs j rest es fs st split left is_open told moved runs) opens = λ closed.
       let last = contended_of a.number j in
       let o = owner_of_both a.number (es ++ (fs ++ last)) a.tries a.seen b.seen moved.adds in
       opens (omega (
         arith,
-        shut,
+        closed,
         o.closes,
         starts_close_none a k f b.work es st,
         (quiet_follows a.layout.items a.number _ qs fs told).closes_none,
@@ -112,8 +112,8 @@ module _ {W : Type 0} (may : W → ℕ → List ℕ → W → Type 0) where
   runs_unclosed (Item k) a b t = ends_unclosed t.0 a b t.2
   runs_unclosed (Barrier k) a b t = ends_unclosed t.0 a b t.2
   runs_unclosed Stop a b t = ends_unclosed t.0 a b t.2
-  runs_unclosed Nothing a b t = λ opens shut.
-      let o = owner_of_both a.number (taking a.seen) 0 a.seen b.seen t.3.adds in opens (omega (arith, shut, o.closes, (quiet_taking a.seen).closes_none))
+  runs_unclosed Nothing a b t = λ opens closed.
+      let o = owner_of_both a.number (taking a.seen) 0 a.seen b.seen t.3.adds in opens (omega (arith, closed, o.closes, (quiet_taking a.seen).closes_none))
   runs_unclosed (Owing k) a b t = owes_unclosed k a b t
 
   pub row_unclosed : (P : Ran → Type 0) (n : ℕ) (a b : WorkerState W) → Row may P n a b → ¬ IsClosed a.seen → ¬ IsClosed b.seen

@@ -7,7 +7,7 @@ use Rattle.std.proofs.lemmas.List.Elements.{filter-append, filter_map-append}
 use Rattle.wq_words.specs.declared.layout.Layout.{Layout}
 use Rattle.wq_words.specs.declared.event.Event.{Event}
 use Rattle.wq_words.specs.declared.event.Event.TheVariants.{Begin, End}
-use Rattle.wq_words.specs.History.{begun_by, begun, ended_by, ended, closed}
+use Rattle.wq_words.specs.History.{begun_by, begun, ended_by, ended, shut}
 use Rattle.wq_words.specs.Legal.{IsLegal}
 use Rattle.wq_live.specs.Pairs.{KnownPair}
 use Rattle.wq_live.specs.Batch.{next_of}
@@ -48,7 +48,7 @@ quiet_taking_of None true = record { begun_none = refl; ended_none = refl; close
 quiet_taking_of None false = record { begun_none = refl; ended_none = refl; closes_none = refl }
 
 pub quiet_taking : (h : List Event) → IsQuiet (taking h)
-quiet_taking h = quiet_taking_of (next_of h) (closed h)
+quiet_taking h = quiet_taking_of (next_of h) (shut h)
 
 pub begun_taking : (h : List Event) (k : ℕ) → begun (taking h ++ Begin k ∷ []) ≡ k ∷ []
 begun_taking h k = filter_map-append begun_by (taking h) (Begin k ∷ []) ∙ ap (λ (z : List ℕ). z ++ k ∷ []) (quiet_taking h).begun_none

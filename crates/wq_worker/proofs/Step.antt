@@ -5,7 +5,7 @@ use Rattle.std.proofs.Math.ListN.{drop_of_length-le}
 use Rattle.wq_words.specs.declared.layout.Layout.{Layout}
 use Rattle.wq_words.specs.declared.event.Event.{Event}
 use Rattle.wq_words.specs.declared.event.Event.TheVariants.{Begin, End}
-use Rattle.wq_words.specs.History.{closed, running, IsRunning, is_close}
+use Rattle.wq_words.specs.History.{shut, running, IsRunning, is_close}
 use Rattle.wq_words.specs.Legal.{IsLegal}
 use Rattle.wq_live.specs.Pairs.{KnownPair}
 use Rattle.std.specs.Prelude.{count_by}
@@ -108,19 +108,19 @@ module _ {W : Type 0} (may : W → ℕ → List ℕ → W → Type 0) where
             (cases_lt j a.layout.items),
       )
 
-  closed_still : (a m : WorkerState W) (k : ℕ) → Begins may a k m → closed m.seen ≡ closed a.seen
-  closed_still a m k b =
+  shut_still : (a m : WorkerState W) (k : ℕ) → Begins may a k m → shut m.seen ≡ shut a.seen
+  shut_still a m k b =
       let o = owner_of_both a.number (taking a.seen ++ Begin k ∷ []) 0 a.seen m.seen b.moves.adds in
       let n : count_by is_close m.seen ≡ count_by is_close a.seen =
       omega (arith, o.closes, count_by-append is_close (taking a.seen) (Begin k ∷ []), (quiet_taking a.seen).closes_none) in
       rw n refl
 
   told_before : (a m : WorkerState W) (k : ℕ) (ks : List ℕ) (es : List Event) → Begins may a k m
-      → Follows m.layout.items m.number (closed m.seen) ks es → Follows a.layout.items a.number (closed a.seen) ks es
+      → Follows m.layout.items m.number (shut m.seen) ks es → Follows a.layout.items a.number (shut a.seen) ks es
   told_before a m k ks es b t =
-      subst (λ (z : Bool). Follows a.layout.items a.number z ks es) (closed_still a m k b)
-      (subst (λ (z : ℕ). Follows a.layout.items z (closed m.seen) ks es) b.moves.number
-      (subst (λ (z : Layout). Follows z.items m.number (closed m.seen) ks es) b.moves.layout t))
+      subst (λ (z : Bool). Follows a.layout.items a.number z ks es) (shut_still a m k b)
+      (subst (λ (z : ℕ). Follows a.layout.items z (shut m.seen) ks es) b.moves.number
+      (subst (λ (z : Layout). Follows z.items m.number (shut m.seen) ks es) b.moves.layout t))
 
   ends_fresh : (k j : ℕ) (a m b : WorkerState W) → Begins may a k m → ¬ IsRunning a.seen → Ends may m j b → Ends may a j b
   ends_fresh k j a m b g idle (ends f es fs st told moved none) =
@@ -136,7 +136,7 @@ module _ {W : Type 0} (may : W → ℕ → List ℕ → W → Type 0) where
       subst (λ (z : List Event). Moves (z ++ (fs ++ contended_of m.number i)) m.tries m b) s.1 moved in
       let rest : Moves (fs ++ own) a.tries m b = subst (λ (z : ℕ). Moves (fs ++ own) z m b) g.moves.tries
       (subst (λ (z : ℕ). Moves (fs ++ contended_of z i) m.tries m b) g.moves.number rest1) in
-      owes f qs i more to fs s.2 split left (sym (closed_still a m k g) ∙ opens) (told_before a m k qs fs g told)
+      owes f qs i more to fs s.2 split left (sym (shut_still a m k g) ∙ opens) (told_before a m k qs fs g told)
       (subst (λ (z : ℕ). Moves (to ++ (fs ++ own)) z a b) (omega arith) (moves_on to (fs ++ own) 0 a.tries a m b g.moves rest)) runs
 
   pub runs_fresh : (k : ℕ) (r : Ran) (a m b : WorkerState W) → Begins may a k m → ¬ IsRunning a.seen → Runs may r m b → Runs may r a b

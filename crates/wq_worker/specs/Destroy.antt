@@ -11,7 +11,7 @@ abbrev pub IsBookOf : {W : Type 0} → WorkerState W → BookState → Type 0
 IsBookOf w book = (book.queue ≡ w.queue) × (book.layout ≡ w.layout) × (book.seen ≡ w.seen) × (book.own.number ≡ w.number)
 
 module _ {W : Type 0} (log : W → List ℕ) (may : W → ℕ → List ℕ → W → Type 0) where
-  -- The queue is closed where it was open, and executions follow until all that was accepted has ended. The work has run the
+  -- The queue is closed where it was not, and executions follow until all that was accepted has ended. The work has run the
   -- accepted items, and the book is of that history, of this worker's queue and sender.
   pub record Destroys (limit : ℕ) (a : WorkerState W) (work : W) (book : BookState) : Type 0 where
     pub closed : WorkerState W

@@ -5,19 +5,19 @@ use Rattle.wq_words.specs.declared.event.Event.TheVariants.{Hold, Busy, Push, Ba
 use Rattle.wq_words.specs.declared.event.Why.TheVariants as why
 
 -- What the queueing of k adds, where n are items: nothing where k is none of them. While the queue is open it is of the
--- sender s, and once it is closed the owner chains.
-pub data Queues (n s : ℕ) (is_closed : Bool) (k : ℕ) (es : List Event) : Type 0 where
-  passed : n ≤ k → es ≡ [] → Queues n s is_closed k es
-  pushed : k < n → is_closed ≡ false → es ≡ Hold s k ∷ Push s k ∷ [] → Queues n s is_closed k es
-  busy : k < n → is_closed ≡ false → es ≡ Busy s k ∷ [] → Queues n s is_closed k es
-  refused : k < n → is_closed ≡ false → es ≡ Hold s k ∷ Back s k why.Closed ∷ [] → Queues n s is_closed k es
-  chained : k < n → is_closed ≡ true → es ≡ Chain k ∷ [] → Queues n s is_closed k es
-  chain_busy : k < n → is_closed ≡ true → es ≡ ChainBusy k ∷ [] → Queues n s is_closed k es
+-- sender s, and once it is shut the owner chains.
+pub data Queues (n s : ℕ) (is_shut : Bool) (k : ℕ) (es : List Event) : Type 0 where
+  passed : n ≤ k → es ≡ [] → Queues n s is_shut k es
+  pushed : k < n → is_shut ≡ false → es ≡ Hold s k ∷ Push s k ∷ [] → Queues n s is_shut k es
+  busy : k < n → is_shut ≡ false → es ≡ Busy s k ∷ [] → Queues n s is_shut k es
+  refused : k < n → is_shut ≡ false → es ≡ Hold s k ∷ Back s k why.Closed ∷ [] → Queues n s is_shut k es
+  chained : k < n → is_shut ≡ true → es ≡ Chain k ∷ [] → Queues n s is_shut k es
+  chain_busy : k < n → is_shut ≡ true → es ≡ ChainBusy k ∷ [] → Queues n s is_shut k es
 
 -- what the queueings of a list add, one after another
 abbrev pub Follows : ℕ → ℕ → Bool → List ℕ → List Event → Type 0
-Follows n s is_closed [] es = es ≡ []
-Follows n s is_closed (k ∷ ks) es = (fs gs : List Event) × (es ≡ fs ++ gs) × Queues n s is_closed k fs × Follows n s is_closed ks gs
+Follows n s is_shut [] es = es ≡ []
+Follows n s is_shut (k ∷ ks) es = (fs gs : List Event) × (es ≡ fs ++ gs) × Queues n s is_shut k fs × Follows n s is_shut ks gs
 
 -- what a queueing that was contended adds
 abbrev pub contended_of : ℕ → ℕ → List Event

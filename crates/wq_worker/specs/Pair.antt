@@ -2,7 +2,7 @@
 use Rattle.std.specs.Prelude.{◌≡◌, ℕ, ◌<◌, Bool, true, false, cond, None, List, [], ◌∷◌, ◌++◌}
 use Rattle.wq_words.specs.declared.event.Event.{Event}
 use Rattle.wq_words.specs.declared.event.Event.TheVariants.{Begin}
-use Rattle.wq_words.specs.History.{closed}
+use Rattle.wq_words.specs.History.{shut}
 use Rattle.wq_words.specs.Legal.{IsLegal}
 use Rattle.wq_words.specs.declared.answer.Answer.{Answer}
 use Rattle.wq_words.specs.declared.answer.Answer.TheVariants as answer
@@ -28,8 +28,8 @@ settled answer.Contended = false
 
 -- what a queueing adds that was settled, or contended
 abbrev pub Attempts : ℕ → ℕ → Bool → ℕ → Bool → List Event → Type 0
-Attempts n s is_closed k true es = Queues n s is_closed k es
-Attempts n s is_closed k false es = (k < n) × (is_closed ≡ false) × (es ≡ contended_of s k)
+Attempts n s is_shut k true es = Queues n s is_shut k es
+Attempts n s is_shut k false es = (k < n) × (is_shut ≡ false) × (es ≡ contended_of s k)
 
 -- nothing waits
 abbrev pub BothFindNothing : KnownPair → KnownPair → Type 0
@@ -42,11 +42,11 @@ BothBegin k old new = Both (taking old.seen ++ Begin k ∷ []) 0 old new
 -- the number k was queued, or its queueing was contended
 abbrev pub BothQueue : ℕ → ℕ → Bool → KnownPair → KnownPair → Type 0
 BothQueue k tries is_settled old new =
-    (es : List Event) × Attempts old.layout.items old.number (closed old.seen) k is_settled es × Both es (cond is_settled 0 tries) old new
+    (es : List Event) × Attempts old.layout.items old.number (shut old.seen) k is_settled es × Both es (cond is_settled 0 tries) old new
 
 -- The numbers ks are to be queued, and js are left: none, or the queueing of the first of them was contended, with at least
 -- tries events of others.
 pub data QueuesRest (tries : ℕ) (ks js : List ℕ) (old new : KnownPair) : Type 0 where
-  finished : (es : List Event) → js ≡ [] → Follows old.layout.items old.number (closed old.seen) ks es → Both es 0 old new → QueuesRest tries ks js old new
-  contended : (qs : List ℕ) (k : ℕ) (more : List ℕ) (es : List Event) → ks ≡ qs ++ js → js ≡ k ∷ more → k < old.layout.items → closed old.seen ≡ false
-      → Follows old.layout.items old.number (closed old.seen) qs es → Both (es ++ contended_of old.number k) tries old new → QueuesRest tries ks js old new
+  finished : (es : List Event) → js ≡ [] → Follows old.layout.items old.number (shut old.seen) ks es → Both es 0 old new → QueuesRest tries ks js old new
+  contended : (qs : List ℕ) (k : ℕ) (more : List ℕ) (es : List Event) → ks ≡ qs ++ js → js ≡ k ∷ more → k < old.layout.items → shut old.seen ≡ false
+      → Follows old.layout.items old.number (shut old.seen) qs es → Both (es ++ contended_of old.number k) tries old new → QueuesRest tries ks js old new

@@ -62,7 +62,7 @@ module _ {W : Type 0} (may : W → ℕ → List ℕ → W → Type 0) where
   Drains limit Empty a b = (n : ℕ) × (n ≤ limit) × Row IsExecution n a b × IsComplete b.seen
   Drains limit (TooLong left) a b = Row IsExecution limit a b × (0 < left) × (left + length (ended b.seen) ≡ length (accepted b.seen))
 
--- the queue is closed where it was open
+-- the queue is closed where it was not
 pub data Closes {W : Type 0} (a b : WorkerState W) : Type 0 where
   was_closed : IsClosed a.seen → b ≡ a → Closes a b
   closes : ¬ IsClosed a.seen → Moves (Close ∷ []) 0 a b → b.work ≡ a.work → b.unqueued ≡ a.unqueued → Closes a b

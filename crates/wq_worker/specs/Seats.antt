@@ -2,7 +2,7 @@
 use Rattle.std.specs.Prelude.{◌≡◌, ℕ, ◌≤◌, Bool, true, false, not, Option, Some, None, List, [], ◌∷◌, ◌++◌, length, filter}
 use Rattle.wq_words.specs.declared.event.Event.{Event}
 use Rattle.wq_words.specs.declared.event.Event.TheVariants.{Take}
-use Rattle.wq_words.specs.History.{closed, next, IsClosed}
+use Rattle.wq_words.specs.History.{shut, next, IsShut}
 use Rattle.wq_words.specs.Seen.{owner_seat, own, is_ours}
 use Rattle.wq_live.specs.Batch.{next_of}
 
@@ -18,12 +18,12 @@ pub record Adds (s : ℕ) (xs : List Event) (n : ℕ) (v w : List Event) : Type 
 abbrev pub taking_of : Option ℕ → Bool → List Event
 taking_of None false = Take ∷ []
 taking_of None true = []
-taking_of (Some k) is_closed = []
+taking_of (Some k) is_shut = []
 
 abbrev pub taking : List Event → List Event
-taking h = taking_of (next_of h) (closed h)
+taking h = taking_of (next_of h) (shut h)
 
--- no number was accepted that had not begun: at the Take that is the owner's last event, or, once the queue is closed, at all
+-- no number was accepted that had not begun: at the Take that is the owner's last event, or, once the queue is shut, at all
 pub data NothingWaits (h : List Event) : Type 0 where
   at_take : (before after : List Event) → h ≡ before ++ Take ∷ after → own owner_seat after ≡ [] → next before ≡ None → NothingWaits h
-  at_all : IsClosed h → next h ≡ None → NothingWaits h
+  at_all : IsShut h → next h ≡ None → NothingWaits h

@@ -4,7 +4,7 @@ use Rattle.wq_words.specs.declared.layout.Layout.{Layout}
 use Rattle.wq_words.specs.declared.event.Event.{Event}
 use Rattle.wq_words.specs.declared.event.Event.TheVariants.{Begin, End}
 use Rattle.wq_words.specs.Numbers.{stop_number}
-use Rattle.wq_words.specs.History.{closed, running, IsRunning}
+use Rattle.wq_words.specs.History.{shut, running, IsRunning}
 use Rattle.wq_worker.specs.declared.ran.Ran.{Ran}
 use Rattle.wq_worker.specs.declared.ran.Ran.TheVariants.{Item, Barrier, Stop, Nothing, Owing}
 use Rattle.wq_worker.specs.Seats.{taking, NothingWaits}
@@ -34,13 +34,13 @@ module _ {W : Type 0} (may : W → ℕ → List ℕ → W → Type 0) where
 
   -- the execution of k ended, and all that it asked for was queued before
   pub data Ends (a : WorkerState W) (k : ℕ) (b : WorkerState W) : Type 0 where
-    ends : (f : List ℕ) (es fs : List Event) → Starts a k f b.work es → Follows a.layout.items a.number (closed a.seen) f fs
+    ends : (f : List ℕ) (es fs : List Event) → Starts a k f b.work es → Follows a.layout.items a.number (shut a.seen) f fs
         → Moves (es ++ (fs ++ End k ∷ [])) 0 a b → ¬ IsRunning b.seen → Ends a k b
 
   -- the execution of k is owed: the queueing of j was contended, and the list from j on is left
   pub data Owes (a : WorkerState W) (k : ℕ) (b : WorkerState W) : Type 0 where
     owes : (f qs : List ℕ) (j : ℕ) (more : List ℕ) (es fs : List Event) → Starts a k f b.work es → f ≡ qs ++ j ∷ more → b.unqueued ≡ j ∷ more
-        → closed a.seen ≡ false → Follows a.layout.items a.number (closed a.seen) qs fs
+        → shut a.seen ≡ false → Follows a.layout.items a.number (shut a.seen) qs fs
         → Moves (es ++ (fs ++ contended_of a.number j)) a.tries a b → running b.seen ≡ Some k → Owes a k b
 
   -- the worker goes from a to b with this answer

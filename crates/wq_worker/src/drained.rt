@@ -1,6 +1,6 @@
-//! What is left of a queue that is closed.
+//! What is left of a queue that is shut.
 ghost use Rattle.std.specs.Prelude.{◌≡◌, ◌+◌, length};
-ghost use Rattle.wq_words.specs.History.{accepted, ended, IsClosed};
+ghost use Rattle.wq_words.specs.History.{accepted, ended, IsShut};
 ghost use Rattle.wq_words.specs.Legal.{IsLegal};
 
 use crate::work::Work;
@@ -37,7 +37,7 @@ impl<W: Work> fmt::Debug for Unfinished<W> {
 /// How many numbers are accepted and have not ended.
 pub(crate) fn left_of(pair: &Pair) -> u32
     requires legal { IsLegal pair.now.layout pair.now.seen }
-    requires shut { IsClosed pair.now.seen }
+    requires shut { IsShut pair.now.seen }
     ensures { result + length (ended pair.now.seen) ≡ length (accepted pair.now.seen) }
 {
     if let Some(_number) = pair.running() {

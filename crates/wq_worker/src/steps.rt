@@ -1,7 +1,7 @@
 //! Steps of an owner and a sender of one queue, in one seat.
 ghost use Rattle.std.specs.Prelude.{◌≡◌, ℕ, ◌<◌, ◌≤◌, Some, None, false, [], ◌∷◌, MatchOption, length, drop, slice_index};
 ghost use Rattle.wq_words.specs.declared.event.Event.TheVariants.{End};
-ghost use Rattle.wq_words.specs.History.{closed, running, IsRunning, IsClosed};
+ghost use Rattle.wq_words.specs.History.{running, IsRunning, IsClosed, IsShut};
 ghost use Rattle.wq_words.specs.Legal.{IsLegal};
 ghost use Rattle.wq_live.specs.Known.{Sees};
 ghost use Rattle.wq_live.specs.Pairs.{pair_owner, pair_sender};
@@ -63,9 +63,10 @@ pub(crate) fn take_next(pair: &mut Pair) -> Option<u32>
 
 /// Rests, where nothing is left. False where something was pushed since the last take, or where the queue rests already.
 pub(crate) fn rest(pair: &mut Pair) -> bool
-    requires open { ¬ IsClosed pair.old.seen }
+    requires open { ¬ IsShut pair.old.seen }
     requires none { HasNoneLeft pair.old.seen }
     ensures both { Both (rest_events result) 0 pair.old pair.new }
+    ensures open { ¬ IsShut pair.new.seen }
     ensures unclosed { ¬ IsClosed pair.new.seen }
     ensures none { HasNoneLeft pair.new.seen }
     ensures refused { result ≡ false → MayNotRest pair.new.seen }
@@ -81,7 +82,7 @@ pub(crate) fn end_running(pair: &mut Pair)
     pair.end();
 }
 
-/// Queues one number, chained where the queue is closed. False where that was contended.
+/// Queues one number, chained where the queue is shut. False where that was contended.
 fn queue_one(pair: &mut Pair, item: u32, tries: u32) -> bool
     requires runs { IsRunning pair.old.seen }
     requires tries { 0 < tries }

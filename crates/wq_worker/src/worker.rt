@@ -2,7 +2,7 @@
 ghost use Rattle.std.specs.Prelude.{◌≡◌, ℕ, ◌+◌, ◌<◌, false, Some, None, [], ◌∷◌, All, length, slice_index, IfOk, IfErr, MatchOption, MatchResult};
 ghost use Rattle.std.specs.Fn.{FnOnceTakesAtMut, FnOnceReturnsAtMut};
 ghost use Rattle.wq_words.specs.declared.event.Event.TheVariants.{Close};
-ghost use Rattle.wq_words.specs.History.{accepted, begun, ended, closed, running, Holds, IsRunning, IsClosed};
+ghost use Rattle.wq_words.specs.History.{accepted, begun, ended, closed, running, Holds, IsRunning, IsClosed, IsShut};
 ghost use Rattle.wq_words.specs.Seen.{owner_seat, Grows};
 ghost use Rattle.wq_live.specs.Known.{AreNumbered, Sees, new_senders};
 ghost use Rattle.wq_live.specs.Answers.{IsContended};
@@ -192,12 +192,13 @@ impl<W: Work> Worker<W> {
     }
 
     /// Executes the oldest number, after a take where nothing taken waits and the queue is open. What the work asks for is
-    /// queued before the execution ends, by the worker's sender, or chained by the owner once the queue is closed. Where that
+    /// queued before the execution ends, by the worker's sender, or chained by the owner once the queue is shut. Where that
     /// is contended the execution is owed, and the next call goes on with it.
     pub fn run_one(&mut self) -> Ran
         ensures runs { Runs W.may result self.old self.new }
         ensures owed { (k : ℕ) → result ≡ Owing k → IsContended self.old.number (slice_index self.new.unqueued 0) self.old.tries self.new.seen }
         ensures none { result ≡ Nothing → HasNoneLeft self.new.seen }
+        ensures open { ¬ IsShut self.old.seen → ¬ IsShut self.new.seen }
         ensures unclosed { ¬ IsClosed self.old.seen → ¬ IsClosed self.new.seen }
         ensures same { IsSameWorker self.old self.new }
         ensures legal { IsLegal self.new.layout self.new.seen }
@@ -231,10 +232,11 @@ impl<W: Work> Worker<W> {
     /// missed then (this is not proved): a push before the rest makes the rest answer false, and the first push after it says
     /// `wakes`; what unparks a worker that has not parked yet keeps its next park from waiting.
     pub fn rest(&mut self) -> bool
-        requires open { ¬ IsClosed self.old.seen }
+        requires open { ¬ IsShut self.old.seen }
         requires none { HasNoneLeft self.old.seen }
         ensures work { LeavesWork self.old self.new }
         ensures events { Moves (rest_events result) 0 self.old self.new }
+        ensures open { ¬ IsShut self.new.seen }
         ensures unclosed { ¬ IsClosed self.new.seen }
         ensures none { HasNoneLeft self.new.seen }
         ensures refused { result ≡ false → MayNotRest self.new.seen }
@@ -247,6 +249,7 @@ impl<W: Work> Worker<W> {
     /// `Owner`, takes more at a time where it passes its `Spins` after fewer than `SHORT_TAKE` executions.
     pub fn run_some(&mut self, limit: u32) -> u32
         ensures runs { RunsSome W.may limit result self.old self.new }
+        ensures open { ¬ IsShut self.old.seen → ¬ IsShut self.new.seen }
         ensures unclosed { ¬ IsClosed self.old.seen → ¬ IsClosed self.new.seen }
         ensures same { IsSameWorker self.old self.new }
         ensures legal { IsLegal self.new.layout self.new.seen }
@@ -266,7 +269,7 @@ impl<W: Work> Worker<W> {
 
     /// Closes the queue, takes all that stands on the list, and answers how many that is.
     pub fn close(&mut self) -> u32
-        requires open { ¬ IsClosed self.old.seen }
+        requires unclosed { ¬ IsClosed self.old.seen }
         ensures work { (self.new.work ≡ self.old.work) × (self.new.unqueued ≡ self.old.unqueued) }
         ensures events { Moves (Close ∷ []) 0 self.old self.new }
         ensures takes { TakesAll Close result self.new.seen }
@@ -314,7 +317,7 @@ impl<W: Work> Worker<W> {
 
     // How many numbers are accepted and have not ended.
     fn left(&self) -> u32
-        requires { IsClosed self.now.seen }
+        requires { IsShut self.now.seen }
         ensures { result + length (ended self.now.seen) ≡ length (accepted self.now.seen) }
     {
         left_of(&self.pair)
@@ -345,7 +348,7 @@ impl<W: Work> Worker<W> {
     /// where an execution is owed. Some time passes after a take of fewer than `SHORT_TAKE` numbers, and before it parks, so that
     /// a busy queue is taken from seldom and pays for no wake-up.
     pub fn serve<R: Wait>(&mut self, rt: &R, parker: &Parker)
-        requires open { ¬ IsClosed self.old.seen }
+        requires open { ¬ IsShut self.old.seen }
         ensures serves { Serves W.may self.old self.new }
         ensures same { IsSameWorker self.old self.new }
         ensures legal { IsLegal self.new.layout self.new.seen }
@@ -375,10 +378,10 @@ impl<W: Work> Worker<W> {
         (work, Book::new(owner, &sender))
     }
 
-    // Closes the queue where it is open.
-    fn close_where_open(&mut self)
+    // Closes the queue where it is not closed.
+    fn close_where_unclosed(&mut self)
         ensures closes { Closes self.old self.new }
-        ensures shut { IsClosed self.new.seen }
+        ensures closed { IsClosed self.new.seen }
     {
         if self.is_closed() {
             return;
@@ -386,13 +389,13 @@ impl<W: Work> Worker<W> {
         self.close();
     }
 
-    /// Closes the queue where it is open, executes what is left, at most so many, and gives the work back with the book
+    /// Closes the queue where it is not closed, executes what is left, at most so many, and gives the work back with the book
     /// (`destroy_workqueue`). Where more is left it gives the worker back.
     pub fn destroy(mut self, limit: u32) -> Result<(W, Book), Unfinished<W>>
         ensures outcome { MatchResult result (λ done. Destroys W.log W.may limit self done.0 done.1)
             (λ unfinished. LeavesUnfinished W.log W.may limit self unfinished.worker unfinished.left) }
     {
-        self.close_where_open();
+        self.close_where_unclosed();
         match self.drain(limit) {
             Drained::Empty => Ok(self.into_book()),
             Drained::TooLong { left } => Err(Unfinished { worker: self, left }),

@@ -1,7 +1,7 @@
 use Rattle.std.proofs.Common.{arith, sym, ◌∙◌, ◌≡◌, ◌<◌, Bool, List, ap, subst, true, false, cond, refl}
 use Rattle.wq_words.specs.declared.layout.Layout.{Layout}
 use Rattle.wq_words.specs.declared.event.Event.{Event}
-use Rattle.wq_words.specs.History.{closed}
+use Rattle.wq_words.specs.History.{shut}
 use Rattle.wq_words.specs.declared.answer.Answer.{Answer}
 use Rattle.wq_words.specs.declared.answer.Answer.TheVariants as answer
 use Rattle.wq_worker.specs.Pair.{Attempts, Both, settled}
@@ -12,15 +12,15 @@ pub returns-then-is_closed-clause-queued : goal.returns-then-is_closed-clause-qu
 returns-then-is_closed-clause-queued c =
     let e = c.chain.ensures in let a = c.args.pair.now in let b = c.chain.new.self in
     let size : c.layout.result.items ≡ a.layout.items = ap (λ (l : Layout). l.items) c.layout.ensures.layout in
-    let low : c.args.item < a.layout.items = omega arith in let shut : closed a.seen ≡ true = sym c.is_closed.ensures.closed ∙ c.if-is_closed.true in
-    told_chain c.args.item c.chain.result a b low shut e.answer e.others
+    let low : c.args.item < a.layout.items = omega arith in let is_shut : shut a.seen ≡ true = sym c.is_closed.ensures.closed ∙ c.if-is_closed.true in
+    told_chain c.args.item c.chain.result a b low is_shut e.answer e.others
 
 pub returns-clause-queued : goal.returns-clause-queued
 returns-clause-queued c =
     let e = c.queue_tries-answer.ensures in let a = c.args.pair.now in let d = c.queue_tries-answer.new.self in
     let size : c.layout.result.items ≡ a.layout.items = ap (λ (l : Layout). l.items) c.layout.ensures.layout in
-    let low : c.args.item < a.layout.items = omega arith in let opens : closed a.seen ≡ false = sym c.is_closed.ensures.closed ∙ c.if-is_closed.false in
-    subst (λ (b : Bool). (x : List Event) × Attempts a.layout.items a.number (closed a.seen) c.args.item b x × Both x (cond b 0 c.args.tries) a d)
+    let low : c.args.item < a.layout.items = omega arith in let opens : shut a.seen ≡ false = sym c.is_closed.ensures.closed ∙ c.if-is_closed.false in
+    subst (λ (b : Bool). (x : List Event) × Attempts a.layout.items a.number (shut a.seen) c.args.item b x × Both x (cond b 0 c.args.tries) a d)
     (sym c.is_settled.ensures)
     (told_send c.args.item c.args.tries c.queue_tries-answer.result a d low opens e.answer e.others)
 

@@ -1,7 +1,7 @@
 use Rattle.std.proofs.Common.{◌≡◌, true, sym, ◌∙◌}
-use Rattle.wq_words.specs.History.{closed}
+use Rattle.wq_words.specs.History.{shut}
 use Rattle.wq_words.proofs.Closed.{IsClosed_from_closed}
-use Rattle.wq_worker.proofs.Closing.{nothing_closed, nothing_taken}
+use Rattle.wq_worker.proofs.Shut.{nothing_shut, nothing_taken}
 use Rattle.wq_worker.proofs.steps.take_where_empty.Goals as goal
 
 pub returns-then-not-is_closed-clause-empty : goal.returns-then-not-is_closed-clause-empty
@@ -9,5 +9,5 @@ returns-then-not-is_closed-clause-empty c none = nothing_taken c.take.result c.t
 
 pub returns-else-not-is_closed-clause-empty : goal.returns-else-not-is_closed-clause-empty
 returns-else-not-is_closed-clause-empty c none =
-    let h = c.args.pair.now.seen in let shut : closed h ≡ true = sym c.is_closed.ensures.closed ∙ c.if-not-is_closed.false in
-    nothing_closed h (IsClosed_from_closed h shut) none
+    let h = c.args.pair.now.seen in let is : shut h ≡ true = sym c.is_closed.ensures.closed ∙ c.if-not-is_closed.false in
+    nothing_shut h (IsClosed_from_closed h is) none

@@ -20,5 +20,5 @@ returns g c =
     let a = c.self.inside.worker in let e = c.rest.ensures in
     let waits : NothingWaits a.seen = rw (ap (λ (w : WorkerState _). w.seen) c.self.view_is) c.requires.waits in
     subst (λ (w : WorkerState _). Settles g.W.Work.may c.ready.result w c.ready.new.self) c.self.view_is
-    (settled_refused g.W.Work.may c.rest.result c.ready.result a c.rest.new.self c.ready.new.self c.if-rest.false waits e.work e.events e.unclosed
+    (settled_refused g.W.Work.may c.rest.result c.ready.result a c.rest.new.self c.ready.new.self c.if-rest.false waits e.work e.events e.open
     e.none (e.refused c.if-rest.false) c.ready.ensures.outcome)

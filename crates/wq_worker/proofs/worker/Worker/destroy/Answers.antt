@@ -5,14 +5,14 @@ use Rattle.wq_worker.proofs.worker.Worker.destroy.Goals as goal
 pub returns-in-Empty : goal.returns-in-Empty
 returns-in-Empty g c =
     let e = c.in-Empty.ensures in let d = e.drains in let b = c.into_book.ensures.book in
-    let shut = c.close_where_open.new.self in let last = c.drain.new.self in
-    let same = worker_on c.args.self shut last (closes_same c.args.self shut c.close_where_open.ensures.closes) e.same in
+    let closed = c.close_where_unclosed.new.self in let last = c.drain.new.self in
+    let same = worker_on c.args.self closed last (closes_same c.args.self closed c.close_where_unclosed.ensures.closes) e.same in
     record {
       outcome = record {
-        closed = shut;
+        closed = closed;
         last = last;
         steps = d.0;
-        closes = c.close_where_open.ensures.closes;
+        closes = c.close_where_unclosed.ensures.closes;
         within = d.1;
         row = d.2;
         same = same;
@@ -29,13 +29,13 @@ returns-in-Empty g c =
 
 pub returns-in-TooLong : goal.returns-in-TooLong
 returns-in-TooLong g c =
-    let e = c.in-TooLong.ensures in let t = e.drains in let shut = c.close_where_open.new.self in
+    let e = c.in-TooLong.ensures in let t = e.drains in let closed = c.close_where_unclosed.new.self in
     record {
       outcome = record {
-        closed = shut;
-        closes = c.close_where_open.ensures.closes;
+        closed = closed;
+        closes = c.close_where_unclosed.ensures.closes;
         row = t.0;
-        same = worker_on c.args.self shut c.drain.new.self (closes_same c.args.self shut c.close_where_open.ensures.closes) e.same;
+        same = worker_on c.args.self closed c.drain.new.self (closes_same c.args.self closed c.close_where_unclosed.ensures.closes) e.same;
         legal = e.legal;
         some_left = t.1;
         left_is = t.2;

@@ -34,17 +34,32 @@ returns-in-Owing-clause-same g c =
     let a = c.args.self.now in let l = c.loop-done in
     worker_on a l.self c.run_one.new.self (row_same g.W.Work.may GoesOn l.done a l.self l.invariant.0) c.in-Owing.ensures.same
 
+pub returns-in-Stop-clause-open : goal.returns-in-Stop-clause-open
+returns-in-Stop-clause-open g c opens =
+    let l = c.loop-done in c.in-Stop.ensures.open (row_unclosed g.W.Work.may GoesOn l.done c.args.self.now l.self l.invariant.0 opens)
+
 pub returns-in-Stop-clause-unclosed : goal.returns-in-Stop-clause-unclosed
 returns-in-Stop-clause-unclosed g c opens =
     let l = c.loop-done in c.in-Stop.ensures.unclosed (row_unclosed g.W.Work.may GoesOn l.done c.args.self.now l.self l.invariant.0 opens)
+
+pub returns-in-Nothing-clause-open : goal.returns-in-Nothing-clause-open
+returns-in-Nothing-clause-open g c opens =
+    let l = c.loop-done in c.in-Nothing.ensures.open (row_unclosed g.W.Work.may GoesOn l.done c.args.self.now l.self l.invariant.0 opens)
 
 pub returns-in-Nothing-clause-unclosed : goal.returns-in-Nothing-clause-unclosed
 returns-in-Nothing-clause-unclosed g c opens =
     let l = c.loop-done in c.in-Nothing.ensures.unclosed (row_unclosed g.W.Work.may GoesOn l.done c.args.self.now l.self l.invariant.0 opens)
 
+pub returns-in-Owing-clause-open : goal.returns-in-Owing-clause-open
+returns-in-Owing-clause-open g c opens =
+    let l = c.loop-done in c.in-Owing.ensures.open (row_unclosed g.W.Work.may GoesOn l.done c.args.self.now l.self l.invariant.0 opens)
+
 pub returns-in-Owing-clause-unclosed : goal.returns-in-Owing-clause-unclosed
 returns-in-Owing-clause-unclosed g c opens =
     let l = c.loop-done in c.in-Owing.ensures.unclosed (row_unclosed g.W.Work.may GoesOn l.done c.args.self.now l.self l.invariant.0 opens)
+
+pub returns-clause-open : goal.returns-clause-open
+returns-clause-open g c = let l = c.loop-done in row_unclosed g.W.Work.may GoesOn l.done c.args.self.now l.self l.invariant.0
 
 pub returns-clause-unclosed : goal.returns-clause-unclosed
 returns-clause-unclosed g c = let l = c.loop-done in row_unclosed g.W.Work.may GoesOn l.done c.args.self.now l.self l.invariant.0

@@ -1,17 +1,17 @@
--- What no longer changes once the queue is closed, and where nothing waits.
+-- What no longer changes once the queue is shut, and where nothing waits.
 use Rattle.std.proofs.Common.{◌≡◌, ℕ, zero, suc, List, [], ◌∷◌, length, take, drop, None, slice_get, sym, refl, ap}
 use Rattle.std.proofs.Common.{◌∙◌, arith}
 use Rattle.std.proofs.lemmas.List.{take_all}
 use Rattle.wq_words.specs.declared.event.Event.{Event}
 use Rattle.wq_words.specs.declared.event.Event.TheVariants.{Take}
-use Rattle.wq_words.specs.History.{accepted, begun, IsClosed}
+use Rattle.wq_words.specs.History.{accepted, begun, IsShut}
 use Rattle.wq_words.proofs.Listed.{taken_closed}
 use Rattle.wq_words.proofs.Closed.{closed_from_IsClosed}
 use Rattle.wq_live.specs.Batch.{batch, next_of, TakesAll}
 use Rattle.wq_worker.specs.Seats.{NothingWaits, at_take, at_all}
 
-pub batch-closed : (h : List Event) → IsClosed h → batch h ≡ drop (length (begun h)) (accepted h)
-batch-closed h shut =
+pub batch-shut : (h : List Event) → IsShut h → batch h ≡ drop (length (begun h)) (accepted h)
+batch-shut h shut =
     ap (λ (n : ℕ). drop (length (begun h)) (take n (accepted h))) (taken_closed h (closed_from_IsClosed h shut)) ∙ ap (drop (length (begun h)))
     (take_all (length (accepted h)) (accepted h) (omega arith))
 
@@ -20,9 +20,9 @@ slice_get-drop zero xs = refl
 slice_get-drop (suc n) [] = refl
 slice_get-drop (suc n) (x ∷ xs) = slice_get-drop n xs
 
-pub nothing_closed : (h : List Event) → IsClosed h → next_of h ≡ None → NothingWaits h
-nothing_closed h shut none =
-    at_all shut (sym (slice_get-drop (length (begun h)) (accepted h)) ∙ (ap (λ (z : List ℕ). slice_get z 0) (sym (batch-closed h shut)) ∙ none))
+pub nothing_shut : (h : List Event) → IsShut h → next_of h ≡ None → NothingWaits h
+nothing_shut h shut none =
+    at_all shut (sym (slice_get-drop (length (begun h)) (accepted h)) ∙ (ap (λ (z : List ℕ). slice_get z 0) (sym (batch-shut h shut)) ∙ none))
 
 pub nothing_taken : (n : ℕ) (h : List Event) → TakesAll Take n h → next_of h ≡ None → NothingWaits h
 nothing_taken n h t none =
