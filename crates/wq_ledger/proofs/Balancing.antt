@@ -70,9 +70,10 @@ pub balances : (owner : Known) (own : LedgerState) (ledgers : List LedgerState) 
     → All (IsLedgerOf owner.seen) ledgers → SumsMet ledgers own.number owner.layout.senders met → AreWhole own.counts → AreOwnerWhole (owner_counts owner.seen)
     → totals.queued ≡ met.queued + own.counts.queued → totals.chained ≡ (owner_counts owner.seen).chained → totals.executed ≡ (owner_counts owner.seen).ended
     → totals.pending ≡ (met.pending + own.counts.pending) +
-    (owner_counts owner.seen).chain_busy → totals.closed ≡ met.closed + own.counts.closed → totals.contended ≡ met.contended + own.counts.contended
+    (owner_counts owner.seen).chain_busy → totals.closed ≡ met.closed + own.counts.closed → totals.draining ≡ met.draining + own.counts.draining
+    → totals.contended ≡ met.contended + own.counts.contended
     → Balances (record { queue = owner.queue; layout = owner.layout; seen = owner.seen; own = own }) ledgers totals
-balances owner own ledgers met totals settled made sums whole owner_whole q ch ex pe cl co =
+balances owner own ledgers met totals settled made sums whole owner_whole q ch ex pe cl dr co =
     let h = owner.seen in
     let mine = queued_made owner.layout h own settled.legal settled.made whole.0 in
     let all = queued_all owner.layout h settled.legal ledgers made own.number sums.have_one in
@@ -91,5 +92,6 @@ balances owner own ledgers met totals settled made sums whole owner_whole q ch e
       balance = omega (arith, queued, chained, executed, accepted-count h, settled.complete.1);
       pending_is = omega (arith, pe, sums.pending_is, busy);
       closed_is = omega (arith, cl, sums.closed_is);
+      draining_is = omega (arith, dr, sums.draining_is);
       contended_is = omega (arith, co, sums.contended_is);
     }

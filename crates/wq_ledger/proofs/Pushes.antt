@@ -1,10 +1,11 @@
 -- How often each sender pushed, and what was accepted.
-use Rattle.wq_words.specs.declared.event.Event.TheVariants.{Hold, Busy, Push, Back, Take, Close, Begin, End, Chain, ChainBusy, Rest}
+use Rattle.wq_words.specs.declared.event.Event.TheVariants.{Hold, Busy, Push, Back, Take, Close, Drain, Resume, Begin, End, Chain, ChainBusy, Rest}
 use Rattle.wq_words.proofs.Growing.{count_by_push}
 use Rattle.wq_words.proofs.Legal.{legal_induction, legal_next, legal_rest}
 use Rattle.wq_ledger.proofs.Common.{◌≡◌, ℕ, ◌+◌, ◌<◌, ◌≤◌, min, Bool, true, false, cond, ◌≢◌, List, [], ◌∷◌, ◌++◌, nat_lt, ◌==◌, count_by, sym, refl, ap, ◌∙◌}
 use Rattle.wq_ledger.proofs.Common.{subst, arith, ltb-false, lt-ltb, le-ltb, eqb-true, eqb-false, ltb-true, Layout, Event, is_push, IsClosed, IsLegal}
 use Rattle.wq_ledger.proofs.Common.{IsAllowed, is_queued_by, count_by-append, count_by-cons, SenderCounts, LedgerState, IsLedgerOf, largest}
+use Rattle.wq_words.proofs.Closed.{closed_shuts}
 use Rattle.wq_ledger.proofs.Meeting.{still_closed}
 
 -- the push of a sender below n
@@ -29,6 +30,8 @@ by_push P push other (Busy s k) = other (Busy s k) refl (λ _. refl) (λ _. refl
 by_push P push other (Back s k why) = other (Back s k why) refl (λ _. refl) (λ _. refl)
 by_push P push other Take = other Take refl (λ _. refl) (λ _. refl)
 by_push P push other Close = other Close refl (λ _. refl) (λ _. refl)
+by_push P push other Drain = other Drain refl (λ _. refl) (λ _. refl)
+by_push P push other Resume = other Resume refl (λ _. refl) (λ _. refl)
 by_push P push other (Begin k) = other (Begin k) refl (λ _. refl) (λ _. refl)
 by_push P push other (End k) = other (End k) refl (λ _. refl) (λ _. refl)
 by_push P push other (Chain k) = other (Chain k) refl (λ _. refl) (λ _. refl)
@@ -87,7 +90,7 @@ module _ (layout : Layout) where
   -- no push follows a close
   one_late : (v : List Event) → IsClosed v → (s : ℕ) (e : Event) → IsAllowed layout v e → cond {A = ℕ} (is_queued_by s e) 1 0 ≡ 0
   one_late v closed s =
-      by_push (λ e. IsAllowed layout v e → cond {A = ℕ} (is_queued_by s e) 1 0 ≡ 0) (λ t k a. absurd (a.2.1 closed)) (λ e _ _ by _. rw (by s) refl)
+      by_push (λ e. IsAllowed layout v e → cond {A = ℕ} (is_queued_by s e) 1 0 ≡ 0) (λ t k a. absurd (a.2.1 (closed_shuts v closed))) (λ e _ _ by _. rw (by s) refl)
 
   late_none : (s : ℕ) (v new : List Event) → IsLegal layout (v ++ new) → IsClosed v → count_by (is_queued_by s) new ≡ 0
   late_none s v [] legal closed = refl

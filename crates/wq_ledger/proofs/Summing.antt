@@ -111,10 +111,12 @@ sums_none ledgers seat met is = record {
   queued_is = ap (λ (t : Totals). t.queued) is ∙ sym (total_none (λ c. c.queued) seat ledgers);
   pending_is = ap (λ (t : Totals). t.pending) is ∙ sym (total_none (λ c. c.pending) seat ledgers);
   closed_is = ap (λ (t : Totals). t.closed) is ∙ sym (total_none (λ c. c.closed) seat ledgers);
+  draining_is = ap (λ (t : Totals). t.draining) is ∙ sym (total_none (λ c. c.draining) seat ledgers);
   contended_is = ap (λ (t : Totals). t.contended) is ∙ sym (total_none (λ c. c.contended) seat ledgers);
   queued_room = omega (arith, ap (λ (t : Totals). t.queued) is);
   pending_room = omega (arith, ap (λ (t : Totals). t.pending) is);
   closed_room = omega (arith, ap (λ (t : Totals). t.closed) is);
+  draining_room = omega (arith, ap (λ (t : Totals). t.draining) is);
   contended_room = omega (arith, ap (λ (t : Totals). t.contended) is);
 }
 
@@ -131,11 +133,13 @@ sums_next ledgers seat n met l more sums other one whole is room = record {
   queued_is = total_more (λ c. c.queued) seat n ledgers l met.queued more.queued other one sums.queued_is (ap (λ (t : Totals). t.queued) is);
   pending_is = total_more (λ c. c.pending) seat n ledgers l met.pending more.pending other one sums.pending_is (ap (λ (t : Totals). t.pending) is);
   closed_is = total_more (λ c. c.closed) seat n ledgers l met.closed more.closed other one sums.closed_is (ap (λ (t : Totals). t.closed) is);
+  draining_is = total_more (λ c. c.draining) seat n ledgers l met.draining more.draining other one sums.draining_is (ap (λ (t : Totals). t.draining) is);
   contended_is = total_more (λ c. c.contended) seat n ledgers l met.contended more.contended other one sums.contended_is (ap (λ (t : Totals). t.contended) is);
   queued_room = omega (arith, sums.queued_room, room.0);
   pending_room = omega (arith, sums.pending_room, room.1);
   closed_room = omega (arith, sums.closed_room, room.2);
-  contended_room = omega (arith, sums.contended_room, room.3);
+  draining_room = omega (arith, sums.draining_room, room.3);
+  contended_room = omega (arith, sums.contended_room, room.4);
 }
 
 skip_at : (f : SenderCounts → ℕ) (seat n : ℕ) (ls : List LedgerState) → n ≡ seat → met_total f seat (n + 1) ls ≡ met_total f seat n ls
@@ -148,9 +152,11 @@ sums_skip ledgers seat n met more sums same is = record {
   queued_is = omega (arith, ap (λ (t : Totals). t.queued) is, sums.queued_is, skip_at (λ c. c.queued) seat n ledgers same);
   pending_is = omega (arith, ap (λ (t : Totals). t.pending) is, sums.pending_is, skip_at (λ c. c.pending) seat n ledgers same);
   closed_is = omega (arith, ap (λ (t : Totals). t.closed) is, sums.closed_is, skip_at (λ c. c.closed) seat n ledgers same);
+  draining_is = omega (arith, ap (λ (t : Totals). t.draining) is, sums.draining_is, skip_at (λ c. c.draining) seat n ledgers same);
   contended_is = omega (arith, ap (λ (t : Totals). t.contended) is, sums.contended_is, skip_at (λ c. c.contended) seat n ledgers same);
   queued_room = omega (arith, sums.queued_room, ap (λ (t : Totals). t.queued) is);
   pending_room = omega (arith, sums.pending_room, ap (λ (t : Totals). t.pending) is);
   closed_room = omega (arith, sums.closed_room, ap (λ (t : Totals). t.closed) is);
+  draining_room = omega (arith, sums.draining_room, ap (λ (t : Totals). t.draining) is);
   contended_room = omega (arith, sums.contended_room, ap (λ (t : Totals). t.contended) is);
 }

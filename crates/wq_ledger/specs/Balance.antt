@@ -16,7 +16,8 @@ largest = 2 ^ 64 - 1
 
 -- no count is saturated
 abbrev pub AreWhole : SenderCounts → Type 0
-AreWhole counts = (counts.queued ≢ largest) × (counts.pending ≢ largest) × (counts.closed ≢ largest) × (counts.contended ≢ largest)
+AreWhole counts = (counts.queued ≢ largest) × (counts.pending ≢ largest) × (counts.closed ≢ largest) × (counts.draining ≢ largest)
+    × (counts.contended ≢ largest)
 
 abbrev pub AreOwnerWhole : OwnerCounts → Type 0
 AreOwnerWhole counts = (counts.chained ≢ largest) × (counts.chain_busy ≢ largest) × (counts.ended ≢ largest)
@@ -49,10 +50,12 @@ pub record SumsMet (ledgers : List LedgerState) (seat n : ℕ) (met : Totals) : 
   pub queued_is : met.queued ≡ met_total (λ c. c.queued) seat n ledgers
   pub pending_is : met.pending ≡ met_total (λ c. c.pending) seat n ledgers
   pub closed_is : met.closed ≡ met_total (λ c. c.closed) seat n ledgers
+  pub draining_is : met.draining ≡ met_total (λ c. c.draining) seat n ledgers
   pub contended_is : met.contended ≡ met_total (λ c. c.contended) seat n ledgers
   pub queued_room : met.queued ≤ n * 2 ^ 64
   pub pending_room : met.pending ≤ n * 2 ^ 64
   pub closed_room : met.closed ≤ n * 2 ^ 64
+  pub draining_room : met.draining ≤ n * 2 ^ 64
   pub contended_room : met.contended ≤ n * 2 ^ 64
 
 -- the first fault of a sender below n but this one
@@ -73,6 +76,7 @@ pub record Balances (book : BookState) (ledgers : List LedgerState) (totals : To
   pub pending_is : totals.pending ≡ met_total (λ c. c.pending) book.own.number book.layout.senders ledgers
       + (book.own.counts.pending + count_by is_chain_busy book.seen)
   pub closed_is : totals.closed ≡ met_total (λ c. c.closed) book.own.number book.layout.senders ledgers + book.own.counts.closed
+  pub draining_is : totals.draining ≡ met_total (λ c. c.draining) book.own.number book.layout.senders ledgers + book.own.counts.draining
   pub contended_is : totals.contended ≡ met_total (λ c. c.contended) book.own.number book.layout.senders ledgers + book.own.counts.contended
 
 -- The first fault by sender number, and, where the senders' ledgers do, that a count of the worker's sender or of the owner

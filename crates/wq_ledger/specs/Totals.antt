@@ -14,6 +14,7 @@ totals_of sender owner = record {
   executed = owner.ended;
   pending = sender.pending + owner.chain_busy;
   closed = sender.closed;
+  draining = sender.draining;
   contended = sender.contended;
 }
 
@@ -23,7 +24,7 @@ own_totals s h = totals_of (sender_counts s h) (owner_counts h)
 
 -- nothing counted
 abbrev pub none : Totals
-none = record { queued = 0; chained = 0; executed = 0; pending = 0; closed = 0; contended = 0 }
+none = record { queued = 0; chained = 0; executed = 0; pending = 0; closed = 0; draining = 0; contended = 0 }
 
 -- with one sender more
 abbrev pub with_sender : SenderCounts → Totals → Totals
@@ -33,6 +34,7 @@ with_sender counts t = record {
   executed = t.executed;
   pending = t.pending + counts.pending;
   closed = t.closed + counts.closed;
+  draining = t.draining + counts.draining;
   contended = t.contended + counts.contended;
 }
 
@@ -44,13 +46,15 @@ with_owner counts t = record {
   executed = counts.ended;
   pending = t.pending + counts.chain_busy;
   closed = t.closed;
+  draining = t.draining;
   contended = t.contended;
 }
 
 -- there is room for one sender more
 abbrev pub HasRoom : Totals → Type 0
-HasRoom t = (t.queued < 2 ^ 127) × (t.pending < 2 ^ 127) × (t.closed < 2 ^ 127) × (t.contended < 2 ^ 127)
+HasRoom t = (t.queued < 2 ^ 127) × (t.pending < 2 ^ 127) × (t.closed < 2 ^ 127) × (t.draining < 2 ^ 127) × (t.contended < 2 ^ 127)
 
 -- by less than one sender can count
 abbrev pub HasGrown : Totals → Totals → Type 0
-HasGrown t u = (u.queued < t.queued + 2 ^ 64) × (u.pending < t.pending + 2 ^ 64) × (u.closed < t.closed + 2 ^ 64) × (u.contended < t.contended + 2 ^ 64)
+HasGrown t u = (u.queued < t.queued + 2 ^ 64) × (u.pending < t.pending + 2 ^ 64) × (u.closed < t.closed + 2 ^ 64)
+    × (u.draining < t.draining + 2 ^ 64) × (u.contended < t.contended + 2 ^ 64)

@@ -27,6 +27,7 @@ pub(crate) fn is_whole(counts: SenderCounts) -> bool
     counts.queued != u64::MAX
         && counts.pending != u64::MAX
         && counts.closed != u64::MAX
+        && counts.draining != u64::MAX
         && counts.contended != u64::MAX
 }
 

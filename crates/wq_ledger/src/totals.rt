@@ -9,7 +9,7 @@ use wq_live::{OwnerCounts, SenderCounts};
 pub struct Totals {
     /// Queued by a sender.
     pub queued: u128,
-    /// Chained by the owner after the close.
+    /// Chained by the owner while the queue took no push.
     pub chained: u128,
     /// Executions that ended.
     pub executed: u128,
@@ -17,6 +17,8 @@ pub struct Totals {
     pub pending: u128,
     /// Given back because the queue was closed.
     pub closed: u128,
+    /// Given back because the queue was draining.
+    pub draining: u128,
     /// Given back because other seats changed the list at each try.
     pub contended: u128,
 }
@@ -32,6 +34,7 @@ impl Totals {
             executed: u128::from(owner.ended),
             pending: u128::from(sender.pending) + u128::from(owner.chain_busy),
             closed: u128::from(sender.closed),
+            draining: u128::from(sender.draining),
             contended: u128::from(sender.contended),
         }
     }
@@ -45,6 +48,7 @@ impl Totals {
             executed: 0,
             pending: 0,
             closed: 0,
+            draining: 0,
             contended: 0,
         }
     }
@@ -61,6 +65,7 @@ impl Totals {
             executed: self.executed,
             pending: self.pending + u128::from(counts.pending),
             closed: self.closed + u128::from(counts.closed),
+            draining: self.draining + u128::from(counts.draining),
             contended: self.contended + u128::from(counts.contended),
         }
     }
@@ -76,6 +81,7 @@ impl Totals {
             executed: u128::from(counts.ended),
             pending: self.pending + u128::from(counts.chain_busy),
             closed: self.closed,
+            draining: self.draining,
             contended: self.contended,
         }
     }

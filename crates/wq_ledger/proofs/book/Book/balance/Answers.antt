@@ -22,5 +22,6 @@ returns c =
           (ap (λ (t : Totals). t.executed) b ∙ ap (λ (z : OwnerCounts). z.ended) oc)
           (cc (ap (λ (t : Totals). t.pending) b, ap (λ (t : Totals). t.pending) a, ap (λ (z : OwnerCounts). z.chain_busy) oc))
           (ap (λ (t : Totals). t.closed) b ∙ ap (λ (t : Totals). t.closed) a)
+          (ap (λ (t : Totals). t.draining) b ∙ ap (λ (t : Totals). t.draining) a)
           (ap (λ (t : Totals). t.contended) b ∙ ap (λ (t : Totals). t.contended) a));
     }
