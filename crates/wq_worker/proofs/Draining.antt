@@ -1,30 +1,30 @@
 -- What is left of a queue that is shut.
-use Rattle.std.proofs.Common.{◌≡◌, ℕ, ◌+◌, ◌-◌, ◌<◌, ◌≤◌, ⊎_elim, List, [], ◌∷◌, ◌++◌, length, None, slice_get, sym, ap, ◌∙◌, subst, arith, length-append}
+use Rattle.std.proofs.Common.{◌≡◌, ℕ, ◌+◌, ◌-◌, ◌<◌, ◌≤◌, ⊎_elim, List, [], ◌∷◌, ◌++◌, length, None, slice_get, refl, ap, ◌∙◌, subst, arith, length-append}
 use Rattle.std.proofs.Common.{length-drop}
-use Rattle.std.specs.Prelude.{count_by}
+use Rattle.std.proofs.Math.ListN.{drop_of_length-le}
 use Rattle.std.proofs.lemmas.Bool.{cases_lt}
 use Rattle.std.proofs.lemmas.Option.{slice_get-get_or}
 use Rattle.std.proofs.lemmas.List.Elements.{filter_map-append}
 use Rattle.wq_words.specs.declared.layout.Layout.{Layout}
 use Rattle.wq_words.specs.declared.event.Event.{Event}
-use Rattle.wq_words.specs.declared.event.Event.TheVariants.{Take, End}
-use Rattle.wq_words.specs.History.{accepted_by, accepted, begun, ended, next, is_close, IsShut, IsRunning}
-use Rattle.wq_words.specs.Legal.{IsLegal, IsComplete}
+use Rattle.wq_words.specs.declared.event.Event.TheVariants.{Take}
+use Rattle.wq_words.specs.History.{accepted_by, accepted, begun, ended, next, IsShut, IsRunning}
+use Rattle.wq_words.specs.Legal.{IsLegal, IsComplete, HasRunOut}
 use Rattle.wq_words.proofs.Legal.{legal_front, legal_next}
 use Rattle.wq_words.proofs.Order.{in_order}
 use Rattle.wq_words.proofs.Prefixes.{prefix_length, prefix_whole}
-use Rattle.wq_words.proofs.Closed.{closed_from_IsClosed}
-use Rattle.wq_words.proofs.Seen.{closed_count}
-use Rattle.wq_words.specs.Seen.{owner_seat, own}
+use Rattle.wq_words.proofs.Closed.{shut_from_IsShut}
+use Rattle.wq_words.specs.Seen.{owner_seat, own, Grows}
 use Rattle.wq_live.specs.Batch.{batch}
 use Rattle.wq_worker.specs.declared.ran.Ran.{Ran}
 use Rattle.wq_worker.specs.declared.ran.Ran.TheVariants.{Item, Barrier, Stop, Nothing, Owing}
 use Rattle.wq_worker.specs.Seats.{Adds, taking, NothingWaits, at_take, at_all}
 use Rattle.wq_worker.specs.State.{WorkerState}
-use Rattle.wq_worker.specs.Step.{Ends, ends, Owes, owes, Runs}
+use Rattle.wq_worker.specs.Step.{Owes, owes, Runs}
 use Rattle.wq_worker.specs.Rows.{IsExecution}
 use Rattle.wq_worker.proofs.Owned.{IsQuiet, owner_of_both, stays}
-use Rattle.wq_words.proofs.Appended.{count_by-append}
+use Rattle.wq_worker.proofs.Phase.{phase_grown, open_still, shut_still}
+use Rattle.wq_worker.proofs.Rows.{runs_phase}
 use Rattle.wq_worker.proofs.Shut.{batch-shut}
 use Rattle.wq_worker.proofs.State.{quiet_taking}
 
@@ -32,57 +32,52 @@ past_none : (xs : List ℕ) (i : ℕ) → slice_get xs i ≡ None → length xs 
 past_none xs i none =
     ⊎_elim (λ (low : i < length xs). let some = slice_get-get_or xs i 0 low in absurd (cc)) (λ (high : length xs ≤ i). high) (cases_lt i (length xs))
 
+-- a queue whose owner did nothing since a take is open
 no_late_take : (layout : Layout) (before after h : List Event) → h ≡ before ++ Take ∷ after → own owner_seat after ≡ [] → IsLegal layout h → ¬ IsShut h
-no_late_take layout before after h is last legal = λ shut.
-    let allowed = legal_next layout before Take after (subst (IsLegal layout) is legal) in
-    let none : count_by is_close after ≡ 0 = closed_count [] after last in
-    let parts = ap (count_by is_close) is in
-    let early : IsShut before = omega (
-      arith,
-      shut,
-      parts,
-      none,
-      count_by-append is_close before (Take ∷ after),
-      count_by-append is_close (Take ∷ []) after,
-    ) in
-    allowed.2 early
+no_late_take layout before after h is last legal =
+    let opens : ¬ IsShut before = (legal_next layout before Take after (subst (IsLegal layout) is legal)).2 in
+    let g : Grows owner_seat (Take ∷ []) 0 before h = record {
+      new = Take ∷ after;
+      is = is;
+      mine = ap (λ (es : List Event). Take ∷ es) last;
+      theirs = omega arith;
+    } in
+    open_still before h (phase_grown (Take ∷ []) 0 before h g refl) opens
 
-complete_at : (layout : Layout) (v new w : List Event) → w ≡ v ++ new → IsLegal layout w → IsShut v → ¬ IsRunning v → begun w ≡ begun v
-    → next w ≡ None → IsComplete v
-complete_at layout v new w is legal shut idle same none =
+ended_at : (layout : Layout) (v new w : List Event) → w ≡ v ++ new → IsLegal layout w → ¬ IsRunning v → begun w ≡ begun v → next w ≡ None
+    → length (ended v) ≡ length (accepted v)
+ended_at layout v new w is legal idle same none =
     let order = in_order layout v (legal_front layout v new (subst (IsLegal layout) is legal)) in
     let past : length (accepted w) ≤ length (begun w) = past_none (accepted w) (length (begun w)) none in
     let b : length (begun w) ≡ length (begun v) = ap (length {A = ℕ}) same in
     let a : length (accepted w) ≡ length (accepted v) + length (accepted new) =
     ap (length {A = ℕ}) (ap accepted is ∙ filter_map-append accepted_by v new) ∙ length-append (accepted v) (accepted new) in
-    let e : length (ended v) ≡ length (accepted v) =
-    omega (arith, prefix_length (ended v) (begun v) order.ended_first, prefix_length (begun v) (accepted v) order.begun_first, idle, past, b, a) in
-    (shut, e)
+    omega (arith, prefix_length (ended v) (begun v) order.ended_first, prefix_length (begun v) (accepted v) order.begun_first, idle, past, b, a)
 
-pub nothing_complete : (layout : Layout) (s n : ℕ) (es v w : List Event) → Adds s es n v w → IsQuiet es → IsLegal layout w → IsShut v
-    → ¬ IsRunning v → NothingWaits w → IsComplete v
-nothing_complete layout s n es v w a q legal shut idle (at_take before after is last none) =
+-- where nothing waits and nothing runs, a queue that is shut has run out
+nothing_left : (layout : Layout) (s n : ℕ) (es v w : List Event) → Adds s es n v w → IsQuiet es → IsLegal layout w → IsShut v → ¬ IsRunning v
+    → NothingWaits w → length (ended v) ≡ length (accepted v)
+nothing_left layout s n es v w a q legal shut idle (at_take before after is last none) =
     let same = stays es v w q (owner_of_both s es n v w a) in
-    absurd (no_late_take layout before after w is last legal (subst (λ (z : ℕ). 0 < z) (sym same.closes_same) shut))
-nothing_complete layout s n es v w a q legal shut idle (at_all now none) =
-    let same = stays es v w q (owner_of_both s es n v w a) in complete_at layout v a.new w a.is legal shut idle same.begun_same none
+    absurd (no_late_take layout before after w is last legal (shut_still v w same.phase shut))
+nothing_left layout s n es v w a q legal shut idle (at_all now none) =
+    let same = stays es v w q (owner_of_both s es n v w a) in ended_at layout v a.new w a.is legal idle same.begun_same none
 
 module _ {W : Type 0} (may : W → ℕ → List ℕ → W → Type 0) where
-  ends_shut : (k : ℕ) (a b : WorkerState W) → Ends may a k b → IsShut a.seen → IsShut b.seen
-  ends_shut k a b (ends f es fs st told moved none) shut =
-      let o = owner_of_both a.number (es ++ (fs ++ End k ∷ [])) 0 a.seen b.seen moved.adds in omega (arith, o.closes, shut)
-
   owes_open : (k : ℕ) (a b : WorkerState W) → Owes may a k b → ¬ IsShut a.seen
-  owes_open k a b (owes f qs j more es fs st split left opens told moved runs) = λ shut. let now = closed_from_IsClosed a.seen shut in absurd (cc)
+  owes_open k a b (owes f qs j more es fs st split left opens told moved runs) = λ shut. let now = shut_from_IsShut a.seen shut in absurd (cc)
 
-  -- a queue that is shut and has not run to the end goes on
-  pub executes : (r : Ran) (a b : WorkerState W) → IsShut a.seen → ¬ IsComplete a.seen → Runs may r a b → IsExecution r × IsShut b.seen
-  executes (Item k) a b shut rest t = (tt, ends_shut t.0 a b t.2 shut)
-  executes (Barrier k) a b shut rest t = (tt, ends_shut t.0 a b t.2 shut)
-  executes Stop a b shut rest t = (tt, ends_shut t.0 a b t.2 shut)
-  executes Nothing a b shut rest t =
-      absurd (rest (nothing_complete b.layout a.number 0 (taking a.seen) a.seen b.seen t.3.adds (quiet_taking a.seen) t.3.legal shut t.0 t.1))
-  executes (Owing k) a b shut rest t = absurd (owes_open k a b t shut)
+  -- a queue that is shut and has something left goes on
+  pub executes : (r : Ran) (a b : WorkerState W) → IsShut a.seen → ¬ HasRunOut a.seen → Runs may r a b → IsExecution r × IsShut b.seen
+  executes r a b shut rest t = (each r t, shut_still a.seen b.seen (runs_phase may r a b t) shut)
+    where
+      each : (r : Ran) → Runs may r a b → IsExecution r
+      each (Item k) t = tt
+      each (Barrier k) t = tt
+      each Stop t = tt
+      each Nothing t =
+          absurd (rest (shut, nothing_left b.layout a.number 0 (taking a.seen) a.seen b.seen t.3.adds (quiet_taking a.seen) t.3.legal shut t.0 t.1))
+      each (Owing k) t = absurd (owes_open k a b t shut)
 
 pub left_idle : (layout : Layout) (h : List Event) → IsLegal layout h → IsShut h → ¬ IsRunning h → length (batch h) + length (ended h) ≡ length (accepted h)
 left_idle layout h legal shut idle =
@@ -98,6 +93,15 @@ left_running layout h legal shut runs =
     let n : length (batch h) ≡ length (accepted h) - length (begun h) =
     ap (length {A = ℕ}) (batch-shut h shut) ∙ length-drop (length (begun h)) (accepted h) in
     omega (arith, prefix_length (begun h) (accepted h) order.begun_first, order.one_at_a_time, runs, n)
+
+-- of a queue that has run out nothing waits, and nothing runs
+pub none_left : (layout : Layout) (h : List Event) → IsLegal layout h → HasRunOut h → (batch h ≡ []) × (¬ IsRunning h)
+none_left layout h legal out =
+    let order = in_order layout h legal in
+    let e = prefix_length (ended h) (begun h) order.ended_first in let b = prefix_length (begun h) (accepted h) order.begun_first in (
+      batch-shut h out.0 ∙ drop_of_length-le (accepted h) (omega (arith, e, b, out.1)),
+      λ runs. omega (arith, e, b, out.1, runs),
+    )
 
 pub begun-complete : (layout : Layout) (h : List Event) → IsLegal layout h → IsComplete h → begun h ≡ accepted h
 begun-complete layout h legal done =

@@ -4,8 +4,7 @@ use Rattle.std.proofs.Common.{append_assoc, add-one, drop-cons}
 use Rattle.std.proofs.lemmas.List.{append-nil}
 use Rattle.wq_words.specs.declared.layout.Layout.{Layout}
 use Rattle.wq_words.specs.declared.event.Event.{Event}
-use Rattle.wq_words.specs.declared.event.Event.TheVariants.{Hold, Busy, Push, Back, Chain, ChainBusy}
-use Rattle.wq_words.specs.declared.event.Why.TheVariants as why
+use Rattle.wq_words.specs.declared.event.Event.TheVariants.{Hold, Busy, Push, Chain, ChainBusy}
 use Rattle.wq_words.specs.History.{shut, IsRunning}
 use Rattle.wq_words.specs.declared.answer.Answer.{Answer}
 use Rattle.wq_words.specs.declared.answer.Answer.TheVariants as answer
@@ -13,25 +12,26 @@ use Rattle.wq_words.specs.Legal.{IsLegal}
 use Rattle.wq_live.specs.Known.{Sees}
 use Rattle.wq_live.specs.Pairs.{KnownPair, pair_owner, pair_sender}
 use Rattle.wq_live.specs.Answers.{Answers, Chains}
-use Rattle.wq_worker.specs.Follow.{Queues, passed, pushed, busy, refused, chained, chain_busy, Follows, contended_of}
+use Rattle.wq_worker.specs.Follow.{Queues, passed, pushed, busy, chained, chain_busy, Follows, contended_of}
 use Rattle.wq_worker.specs.Pair.{settled, Both, Attempts, QueuesRest, finished, contended}
 use Rattle.wq_worker.proofs.Owned.{IsQuiet, quiet_none, quiet_append, Stays, stays, owner_of_both}
+use Rattle.wq_words.proofs.Closed.{closed_shuts, open_from_shut}
 use Rattle.wq_worker.proofs.Pair.{both_on, by_owner, by_sender}
+use Rattle.wq_worker.proofs.Phase.{phase_grown, unclosed_still}
+use Rattle.wq_worker.proofs.Refusals.{closed_by, met_none}
 
 quiet_as : (xs es : List Event) → es ≡ xs → IsQuiet xs → IsQuiet es
 quiet_as xs es is q = subst IsQuiet (sym is) q
 
 pub quiet_queues : (n s : ℕ) (b : Bool) (k : ℕ) (es : List Event) → Queues n s b k es → IsQuiet es
 quiet_queues n s b k es (passed h is) = quiet_as [] es is quiet_none
-quiet_queues n s b k es (pushed h i is) = quiet_as (Hold s k ∷ Push s k ∷ []) es is (record { begun_none = refl; ended_none = refl; closes_none = refl })
-quiet_queues n s b k es (busy h i is) = quiet_as (Busy s k ∷ []) es is (record { begun_none = refl; ended_none = refl; closes_none = refl })
-quiet_queues n s b k es (refused h i is) =
-    quiet_as (Hold s k ∷ Back s k why.Closed ∷ []) es is (record { begun_none = refl; ended_none = refl; closes_none = refl })
-quiet_queues n s b k es (chained h i is) = quiet_as (Chain k ∷ []) es is (record { begun_none = refl; ended_none = refl; closes_none = refl })
-quiet_queues n s b k es (chain_busy h i is) = quiet_as (ChainBusy k ∷ []) es is (record { begun_none = refl; ended_none = refl; closes_none = refl })
+quiet_queues n s b k es (pushed h i is) = quiet_as (Hold s k ∷ Push s k ∷ []) es is (record { begun_none = refl; ended_none = refl; turns_none = refl })
+quiet_queues n s b k es (busy h i is) = quiet_as (Busy s k ∷ []) es is (record { begun_none = refl; ended_none = refl; turns_none = refl })
+quiet_queues n s b k es (chained h i is) = quiet_as (Chain k ∷ []) es is (record { begun_none = refl; ended_none = refl; turns_none = refl })
+quiet_queues n s b k es (chain_busy h i is) = quiet_as (ChainBusy k ∷ []) es is (record { begun_none = refl; ended_none = refl; turns_none = refl })
 
 pub quiet_contended : (s k : ℕ) → IsQuiet (contended_of s k)
-quiet_contended s k = record { begun_none = refl; ended_none = refl; closes_none = refl }
+quiet_contended s k = record { begun_none = refl; ended_none = refl; turns_none = refl }
 
 pub quiet_follows : (n s : ℕ) (b : Bool) (ks : List ℕ) (es : List Event) → Follows n s b ks es → IsQuiet es
 quiet_follows n s b [] es is = quiet_as [] es is quiet_none
@@ -52,6 +52,7 @@ told_chain item (answer.Queued is_first wakes) old new low is_shut h c =
 told_chain item answer.Pending old new low is_shut h c = (ChainBusy item ∷ [], chain_busy low is_shut refl, by_owner (ChainBusy item ∷ []) 0 0 old new h c)
 told_chain item answer.Closed old new low is_shut h c = absurd h
 told_chain item answer.Contended old new low is_shut h c = absurd h
+told_chain item answer.Draining old new low is_shut h c = absurd h
 
 pub told_send : (item tries : ℕ) (a : Answer) (old new : KnownPair) → item < old.layout.items → shut old.seen ≡ false
     → Answers item tries a (pair_sender old) (pair_sender new) → Sees [] 0 (pair_owner old) (pair_owner new)
@@ -61,7 +62,9 @@ told_send item tries (answer.Queued is_first wakes) old new low opens h c =
 told_send item tries answer.Pending old new low opens h c =
     let es = Busy old.number item ∷ [] in (es, busy low opens refl, by_sender es 0 0 old new h c)
 told_send item tries answer.Closed old new low opens h c =
-    let es = Hold old.number item ∷ Back old.number item why.Closed ∷ [] in (es, refused low opens refl, by_sender es 0 0 old new h c)
+    absurd (unclosed_still old.seen new.seen (phase_grown [] 0 old.seen new.seen c.grows refl) (λ is. open_from_shut old.seen opens (closed_shuts old.seen is))
+    (closed_by old.number new.layout item 0 old.seen new.seen h.grows h.legal))
+told_send item tries answer.Draining old new low opens h c = absurd (met_none 0 old.seen new.seen c.grows (open_from_shut old.seen opens) h.1)
 told_send item tries answer.Contended old new low opens h c =
     (contended_of old.number item, (low, opens, refl), by_sender (contended_of old.number item) tries 0 old new h c)
 
@@ -88,7 +91,7 @@ one_more ks k js b tries old mid new f won h =
     subst (λ (z : Bool). (es : List Event) × Attempts mid.layout.items mid.number (shut mid.seen) k z es × Both es (cond z 0 tries) mid new) won h in
     let same = sofar_stays ks (k ∷ js) old mid f in
     let told : Queues old.layout.items old.number (shut old.seen) k h1.0 =
-    subst (λ (z : Bool). Queues old.layout.items old.number z k h1.0) same.shut_same
+    subst (λ (z : Bool). Queues old.layout.items old.number z k h1.0) same.phase.shut_same
     (subst (λ (z : ℕ). Queues old.layout.items z (shut mid.seen) k h1.0) f.moved.number_is
     (subst (λ (z : Layout). Queues z.items mid.number (shut mid.seen) k h1.0) f.moved.layout_is h1.1)) in
     record {
@@ -108,7 +111,7 @@ was_contended ks k js b tries old mid new f lost h =
     subst (λ (z : ℕ). Both (contended_of z k) tries mid new) f.moved.number_is (subst (λ (z : List Event). Both z tries mid new) h1.1.2 h1.2) in
     let low : k < old.layout.items = subst (λ (z : Layout). k < z.items) f.moved.layout_is h1.1.0 in
     let same = sofar_stays ks (k ∷ js) old mid f in
-    contended f.queued k js f.events f.split refl low (sym same.shut_same ∙ h1.1.1) f.told
+    contended f.queued k js f.events f.split refl low (sym same.phase.shut_same ∙ h1.1.1) f.told
     (subst (λ (z : ℕ). Both (f.events ++ contended_of old.number k) z old new) (omega arith)
     (both_on f.events (contended_of old.number k) 0 tries old mid new f.moved now))
 

@@ -1,4 +1,6 @@
 pub mod Seats
+pub mod Phase
+pub mod Refusals
 pub mod Owned
 pub mod Running
 pub mod Shut

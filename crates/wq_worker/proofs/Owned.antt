@@ -5,13 +5,15 @@ use Rattle.std.specs.Prelude.{filter, count_by}
 use Rattle.std.proofs.lemmas.List.{append-nil}
 use Rattle.std.proofs.lemmas.List.Elements.{filter_map-append}
 use Rattle.wq_words.specs.declared.event.Event.{Event}
-use Rattle.wq_words.specs.History.{begun_by, ended_by, is_close, begun, ended, shut, running}
+use Rattle.wq_words.specs.History.{begun_by, ended_by, is_close, is_drain, begun, ended, running}
 use Rattle.wq_words.specs.Seen.{owner_seat, seat_of, own, Grows}
 use Rattle.wq_words.proofs.Appended.{count_by-append}
-use Rattle.wq_words.proofs.Seen.{begun_same, ended_same, closed_count}
+use Rattle.wq_words.proofs.Seen.{begun_same, ended_same, closed_count, count_own, count_same}
 use Rattle.wq_live.proofs.Owned.{begun_on, ended_on, closes_on}
 use Rattle.wq_words.specs.Seen.{is_ours}
 use Rattle.wq_worker.specs.Seats.{Adds}
+use Rattle.wq_live.proofs.Phases.{is_turn}
+use Rattle.wq_worker.proofs.Phase.{turns_own, drains_own, SamePhase, drains_on, phase_grown}
 
 module _ {A : Type 0} (p q : A → Bool) (only : (x : A) → q x ≡ false → p x ≡ false) where
   keep_step : (b : Bool) (x : A) (ys xs : List A) → (b ≡ false → p x ≡ false) → filter p ys ≡ filter p xs
@@ -32,53 +34,64 @@ pub record OwnerAdds (es v w : List Event) : Type 0 where
   pub begun_is : begun w ≡ begun v ++ begun es
   pub ended_is : ended w ≡ ended v ++ ended es
   pub closes : count_by is_close w ≡ count_by is_close v + count_by is_close es
+  pub drains : count_by is_drain w ≡ count_by is_drain v + count_by is_drain es
+  -- where they hold neither a close nor a drain nor a resume
+  pub phase : count_by is_turn es ≡ 0 → SamePhase v w
 
 pub owner_grows : (es : List Event) (n : ℕ) (v w : List Event) → Grows owner_seat es n v w → OwnerAdds es v w
-owner_grows es n v w g = record { begun_is = begun_on es n v w g; ended_is = ended_on es n v w g; closes = closes_on es n v w g }
+owner_grows es n v w g = record {
+  begun_is = begun_on es n v w g;
+  ended_is = ended_on es n v w g;
+  closes = closes_on es n v w g;
+  drains = drains_on es n v w g;
+  phase = phase_grown es n v w g;
+}
+
+pub owner_grown : (s : ℕ) (es : List Event) (n : ℕ) (v w : List Event) → Adds s es n v w → Grows owner_seat (own owner_seat es) 0 v w
+owner_grown s es n v w a = record {
+  new = a.new;
+  is = a.is;
+  mine = sym (filter-filter (λ e. seat_of e == owner_seat) (is_ours s) (λ e none. (or_parts (seat_of e == s) (seat_of e == owner_seat) none).1) a.new)
+      ∙ ap (own owner_seat) a.ours;
+  theirs = omega arith;
+}
 
 pub owner_of_both : (s : ℕ) (es : List Event) (n : ℕ) (v w : List Event) → Adds s es n v w → OwnerAdds es v w
 owner_of_both s es n v w a =
-    let mine = own owner_seat es in
-    let g : Grows owner_seat mine 0 v w = record {
-      new = a.new;
-      is = a.is;
-      mine = sym (filter-filter (λ e. seat_of e == owner_seat) (is_ours s) (λ e none. (or_parts (seat_of e == s) (seat_of e == owner_seat) none).1) a.new)
-          ∙ ap (own owner_seat) a.ours;
-      theirs = omega arith;
-    } in
+    let mine = own owner_seat es in let g = owner_grown s es n v w a in
     record {
       begun_is = begun_on mine 0 v w g ∙ ap (λ (z : List ℕ). begun v ++ z) (begun_same es mine (own-own es));
       ended_is = ended_on mine 0 v w g ∙ ap (λ (z : List ℕ). ended v ++ z) (ended_same es mine (own-own es));
       closes = omega (arith, closes_on mine 0 v w g, closed_count es mine (own-own es));
+      drains = omega (arith, drains_on mine 0 v w g, count_same is_drain owner_seat drains_own es mine (own-own es));
+      phase = λ none. phase_grown mine 0 v w g (sym (count_own is_turn owner_seat turns_own es) ∙ none);
     }
 
--- nothing begins or ends by these, and they hold no close
+-- nothing begins or ends by these, and they hold neither a close nor a drain nor a resume
 pub record IsQuiet (es : List Event) : Type 0 where
   pub begun_none : begun es ≡ []
   pub ended_none : ended es ≡ []
-  pub closes_none : count_by is_close es ≡ 0
+  pub turns_none : count_by is_turn es ≡ 0
 
 pub quiet_none : IsQuiet []
-quiet_none = record { begun_none = refl; ended_none = refl; closes_none = refl }
+quiet_none = record { begun_none = refl; ended_none = refl; turns_none = refl }
 
 pub quiet_append : (xs ys : List Event) → IsQuiet xs → IsQuiet ys → IsQuiet (xs ++ ys)
 quiet_append xs ys a b = record {
   begun_none = filter_map-append begun_by xs ys ∙ (ap (λ (z : List ℕ). z ++ begun ys) a.begun_none ∙ b.begun_none);
   ended_none = filter_map-append ended_by xs ys ∙ (ap (λ (z : List ℕ). z ++ ended ys) a.ended_none ∙ b.ended_none);
-  closes_none = omega (arith, count_by-append is_close xs ys, a.closes_none, b.closes_none);
+  turns_none = omega (arith, count_by-append is_turn xs ys, a.turns_none, b.turns_none);
 }
 
 -- what the owner knows is as before
 pub record Stays (v w : List Event) : Type 0 where
   pub begun_same : begun w ≡ begun v
   pub ended_same : ended w ≡ ended v
-  pub closes_same : count_by is_close w ≡ count_by is_close v
   pub running_same : running w ≡ running v
-  pub shut_same : shut w ≡ shut v
+  pub phase : SamePhase v w
 
 pub stays : (es v w : List Event) → IsQuiet es → OwnerAdds es v w → Stays v w
 stays es v w q o =
     let b : begun w ≡ begun v = o.begun_is ∙ (ap (λ (z : List ℕ). begun v ++ z) q.begun_none ∙ append-nil (begun v)) in
     let e : ended w ≡ ended v = o.ended_is ∙ (ap (λ (z : List ℕ). ended v ++ z) q.ended_none ∙ append-nil (ended v)) in
-    let c : count_by is_close w ≡ count_by is_close v = omega (arith, o.closes, q.closes_none) in
-    record { begun_same = b; ended_same = e; closes_same = c; running_same = rw (b, e) refl; shut_same = rw c refl }
+    record { begun_same = b; ended_same = e; running_same = rw (b, e) refl; phase = o.phase q.turns_none }

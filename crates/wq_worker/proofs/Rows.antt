@@ -1,10 +1,10 @@
 -- A worker after steps in a row is the same worker, what it has seen is legal, and its queue is open where it was.
-use Rattle.std.proofs.Common.{◌≡◌, ℕ, List, [], ◌∷◌, ◌++◌, refl, ◌∙◌, ap, arith}
+use Rattle.std.proofs.Common.{◌≡◌, ℕ, List, [], ◌∷◌, ◌++◌, sym, refl, ◌∙◌, ap, subst, arith}
 use Rattle.std.specs.Prelude.{count_by}
 use Rattle.wq_words.specs.declared.event.Event.{Event}
-use Rattle.wq_words.specs.declared.event.Event.TheVariants.{Begin, End}
-use Rattle.wq_words.specs.History.{is_close, IsClosed}
-use Rattle.wq_words.specs.Legal.{IsLegal}
+use Rattle.wq_words.specs.declared.event.Event.TheVariants.{End, Drain, Resume}
+use Rattle.wq_words.specs.History.{IsClosed, IsShut}
+use Rattle.wq_words.specs.Legal.{IsLegal, IsComplete, HasRunOut}
 use Rattle.wq_words.proofs.Appended.{count_by-append}
 use Rattle.wq_worker.specs.declared.ran.Ran.{Ran}
 use Rattle.wq_worker.specs.declared.ran.Ran.TheVariants.{Item, Barrier, Stop, Nothing, Owing}
@@ -12,10 +12,12 @@ use Rattle.wq_worker.specs.Seats.{taking}
 use Rattle.wq_worker.specs.Follow.{contended_of}
 use Rattle.wq_worker.specs.State.{WorkerState, IsSameWorker, Moves}
 use Rattle.wq_worker.specs.Step.{Starts, item, other, owed, Ends, ends, Owes, owes, Runs}
-use Rattle.wq_worker.specs.Rows.{Row, none, more, Closes, was_closed, closes}
-use Rattle.wq_worker.proofs.Owned.{owner_of_both}
+use Rattle.wq_worker.specs.Rows.{Row, none, more, IsExecution, RunsOut, Closes, was_closed, closes, Shuts, was_shut, drains, Resumes, stays_closed, reopens}
+use Rattle.wq_worker.proofs.Owned.{owner_grown, owner_of_both}
 use Rattle.wq_worker.proofs.Follow.{quiet_follows, quiet_contended}
-use Rattle.wq_worker.proofs.State.{quiet_taking}
+use Rattle.wq_live.proofs.Phases.{is_turn, open_then}
+use Rattle.wq_worker.proofs.Phase.{SamePhase, phase_still, phase_on, open_still, unclosed_still, closed_still}
+use Rattle.wq_worker.proofs.State.{quiet_taking, turns_taking}
 
 module _ {W : Type 0} where
   pub worker_still : (a : WorkerState W) → IsSameWorker a a
@@ -34,10 +36,42 @@ module _ {W : Type 0} where
   pub moves_same : (xs : List Event) (n : ℕ) (a b : WorkerState W) → Moves xs n a b → IsSameWorker a b
   moves_same xs n a b m = record { queue_is = m.queue; layout_is = m.layout; number_is = m.number; tries_is = m.tries }
 
-  pub closes_same : (a b : WorkerState W) → Closes a b → IsSameWorker a b
-  closes_same a b (was_closed is same) =
+  no_step_same : (a b : WorkerState W) → b ≡ a → IsSameWorker a b
+  no_step_same a b same =
       record { queue_is = λ i. (same i).queue; layout_is = λ i. (same i).layout; number_is = λ i. (same i).number; tries_is = λ i. (same i).tries }
+
+  pub closes_same : (a b : WorkerState W) → Closes a b → IsSameWorker a b
+  closes_same a b (was_closed is same) = no_step_same a b same
   closes_same a b (closes opens moved work left) = moves_same _ 0 a b moved
+
+  pub shuts_same : (a b : WorkerState W) → Shuts a b → IsSameWorker a b
+  shuts_same a b (was_shut is same) = no_step_same a b same
+  shuts_same a b (drains opens moved work left) = moves_same _ 0 a b moved
+
+  pub resumes_same : (a b : WorkerState W) → Resumes a b → IsSameWorker a b
+  resumes_same a b (stays_closed is same) = no_step_same a b same
+  resumes_same a b (reopens draining moved work left) = moves_same _ 0 a b moved
+
+  -- a drain closes nothing, and a resume opens what is not closed
+  pub shuts_unclosed : (a b : WorkerState W) → Shuts a b → ¬ IsClosed a.seen → ¬ IsClosed b.seen
+  shuts_unclosed a b (was_shut is same) not = subst (λ (w : WorkerState W). ¬ IsClosed w.seen) (sym same) not
+  shuts_unclosed a b (drains opens moved work left) not = λ closed.
+      let o = owner_of_both a.number (Drain ∷ []) 0 a.seen b.seen moved.adds in not (omega (arith, closed, o.closes))
+
+  pub resumes_unclosed : (a b : WorkerState W) → Resumes a b → ¬ IsClosed a.seen → ¬ IsClosed b.seen
+  resumes_unclosed a b (stays_closed is same) not = absurd (not is)
+  resumes_unclosed a b (reopens draining moved work left) not = λ closed.
+      let o = owner_of_both a.number (Resume ∷ []) 0 a.seen b.seen moved.adds in not (omega (arith, closed, o.closes))
+
+  pub resumes_open : (a b : WorkerState W) → Resumes a b → ¬ IsClosed a.seen → ¬ IsShut b.seen
+  resumes_open a b (stays_closed is same) not = absurd (not is)
+  resumes_open a b (reopens draining moved work left) not =
+      open_then 0 a.seen b.seen (owner_grown a.number (Resume ∷ []) 0 a.seen b.seen moved.adds) not
+
+  -- what a resume leaves is legal
+  pub resumes_legal : (a b : WorkerState W) → IsLegal a.layout a.seen → Resumes a b → IsLegal b.layout b.seen
+  resumes_legal a b legal (stays_closed is same) = subst (λ (w : WorkerState W). IsLegal w.layout w.seen) (sym same) legal
+  resumes_legal a b legal (reopens draining moved work left) = moved.legal
 
 module _ {W : Type 0} (may : W → ℕ → List ℕ → W → Type 0) where
   ends_same : (k : ℕ) (a b : WorkerState W) → Ends may a k b → IsSameWorker a b
@@ -70,52 +104,64 @@ module _ {W : Type 0} (may : W → ℕ → List ℕ → W → Type 0) where
   runs_legal Nothing a b t = t.3.legal
   runs_legal (Owing k) a b t = owes_legal k a b t
 
-  -- no event of a step is a close
-  begin_closes_none : (h : List Event) (k : ℕ) (es : List Event) → es ≡ taking h ++ Begin k ∷ [] → count_by is_close es ≡ 0
-  begin_closes_none h k es is =
-      omega (arith, ap (count_by is_close) is, count_by-append is_close (taking h) (Begin k ∷ []), (quiet_taking h).closes_none)
+  -- no step closes, drains or resumes
+  starts_turns_none : (a : WorkerState W) (k : ℕ) (f : List ℕ) (v : W) (es : List Event) → Starts may a k f v es → count_by is_turn es ≡ 0
+  starts_turns_none a k f v es (item idle low ran is) = ap (count_by is_turn) is ∙ turns_taking a.seen k
+  starts_turns_none a k f v es (other idle high nothing same is) = ap (count_by is_turn) is ∙ turns_taking a.seen k
+  starts_turns_none a k f v es (owed runs left same is) = ap (count_by is_turn) is
 
-  starts_close_none : (a : WorkerState W) (k : ℕ) (f : List ℕ) (v : W) (es : List Event) → Starts may a k f v es → count_by is_close es ≡ 0
-  starts_close_none a k f v es (item idle low ran is) = begin_closes_none a.seen k es is
-  starts_close_none a k f v es (other idle high nothing same is) = begin_closes_none a.seen k es is
-  starts_close_none a k f v es (owed runs left same is) = ap (count_by is_close) is
-
-  ends_unclosed : (k : ℕ) (a b : WorkerState W) → Ends may a k b → ¬ IsClosed a.seen → ¬ IsClosed b.seen
-  ends_unclosed k a b (ends f es fs st told moved rests) opens = λ closed.
-      let o = owner_of_both a.number (es ++ (fs ++ End k ∷ [])) 0 a.seen b.seen moved.adds in
-      opens (omega (
+  ends_phase : (k : ℕ) (a b : WorkerState W) → Ends may a k b → SamePhase a.seen b.seen
+  ends_phase k a b (ends f es fs st told moved rests) =
+      (owner_of_both a.number (es ++ (fs ++ End k ∷ [])) 0 a.seen b.seen moved.adds).phase
+      (omega (
         arith,
-        closed,
-        o.closes,
-        starts_close_none a k f b.work es st,
-        (quiet_follows a.layout.items a.number _ f fs told).closes_none,
-        count_by-append is_close es (fs ++ End k ∷ []),
-        count_by-append is_close fs (End k ∷ []),
+        starts_turns_none a k f b.work es st,
+        (quiet_follows a.layout.items a.number _ f fs told).turns_none,
+        count_by-append is_turn es (fs ++ End k ∷ []),
+        count_by-append is_turn fs (End k ∷ []),
       ))
 
-  owes_unclosed : (k : ℕ) (a b : WorkerState W) → Owes may a k b → ¬ IsClosed a.seen → ¬ IsClosed b.seen
-  owes_unclosed k a b (owes f qs j rest es fs st split left is_open told moved runs) opens = λ closed.
+  owes_phase : (k : ℕ) (a b : WorkerState W) → Owes may a k b → SamePhase a.seen b.seen
+  owes_phase k a b (owes f qs j rest es fs st split left opens told moved runs) =
       let last = contended_of a.number j in
-      let o = owner_of_both a.number (es ++ (fs ++ last)) a.tries a.seen b.seen moved.adds in
-      opens (omega (
+      (owner_of_both a.number (es ++ (fs ++ last)) a.tries a.seen b.seen moved.adds).phase
+      (omega (
         arith,
-        closed,
-        o.closes,
-        starts_close_none a k f b.work es st,
-        (quiet_follows a.layout.items a.number _ qs fs told).closes_none,
-        (quiet_contended a.number j).closes_none,
-        count_by-append is_close es (fs ++ last),
-        count_by-append is_close fs last,
+        starts_turns_none a k f b.work es st,
+        (quiet_follows a.layout.items a.number _ qs fs told).turns_none,
+        (quiet_contended a.number j).turns_none,
+        count_by-append is_turn es (fs ++ last),
+        count_by-append is_turn fs last,
       ))
+
+  pub runs_phase : (r : Ran) (a b : WorkerState W) → Runs may r a b → SamePhase a.seen b.seen
+  runs_phase (Item k) a b t = ends_phase t.0 a b t.2
+  runs_phase (Barrier k) a b t = ends_phase t.0 a b t.2
+  runs_phase Stop a b t = ends_phase t.0 a b t.2
+  runs_phase Nothing a b t = (owner_of_both a.number (taking a.seen) 0 a.seen b.seen t.3.adds).phase (quiet_taking a.seen).turns_none
+  runs_phase (Owing k) a b t = owes_phase k a b t
+
+  pub row_phase : (P : Ran → Type 0) (n : ℕ) (a b : WorkerState W) → Row may P n a b → SamePhase a.seen b.seen
+  row_phase P n a b (none c) = phase_still c.seen
+  row_phase P n a b (more m r c d e row passes run) = phase_on c.seen d.seen e.seen (row_phase P m c d row) (runs_phase r d e run)
+
+  -- where nothing is left a queue has run out
+  pub ran_out : (limit left : ℕ) (a b : WorkerState W) → RunsOut may limit left a b → IsShut b.seen → left ≡ 0 → HasRunOut b.seen
+  ran_out limit left a b r shut is = (shut, omega (arith, r.left_is, is))
+
+  pub ran_complete : (limit left : ℕ) (a b : WorkerState W) → RunsOut may limit left a b → IsClosed a.seen → left ≡ 0 → IsComplete b.seen
+  ran_complete limit left a b r closed is =
+      (closed_still a.seen b.seen (row_phase IsExecution r.steps a b r.row) closed, omega (arith, r.left_is, is))
+
+  -- an open queue stays open, and one that is not closed so
+  pub runs_open : (r : Ran) (a b : WorkerState W) → Runs may r a b → ¬ IsShut a.seen → ¬ IsShut b.seen
+  runs_open r a b t = open_still a.seen b.seen (runs_phase r a b t)
 
   pub runs_unclosed : (r : Ran) (a b : WorkerState W) → Runs may r a b → ¬ IsClosed a.seen → ¬ IsClosed b.seen
-  runs_unclosed (Item k) a b t = ends_unclosed t.0 a b t.2
-  runs_unclosed (Barrier k) a b t = ends_unclosed t.0 a b t.2
-  runs_unclosed Stop a b t = ends_unclosed t.0 a b t.2
-  runs_unclosed Nothing a b t = λ opens closed.
-      let o = owner_of_both a.number (taking a.seen) 0 a.seen b.seen t.3.adds in opens (omega (arith, closed, o.closes, (quiet_taking a.seen).closes_none))
-  runs_unclosed (Owing k) a b t = owes_unclosed k a b t
+  runs_unclosed r a b t = unclosed_still a.seen b.seen (runs_phase r a b t)
+
+  pub row_open : (P : Ran → Type 0) (n : ℕ) (a b : WorkerState W) → Row may P n a b → ¬ IsShut a.seen → ¬ IsShut b.seen
+  row_open P n a b row = open_still a.seen b.seen (row_phase P n a b row)
 
   pub row_unclosed : (P : Ran → Type 0) (n : ℕ) (a b : WorkerState W) → Row may P n a b → ¬ IsClosed a.seen → ¬ IsClosed b.seen
-  row_unclosed P n a b (none c) = λ opens. opens
-  row_unclosed P n a b (more m r c d e row passes run) = λ opens. runs_unclosed r d e run (row_unclosed P m c d row opens)
+  row_unclosed P n a b row = unclosed_still a.seen b.seen (row_phase P n a b row)

@@ -4,7 +4,7 @@ use Rattle.std.proofs.Common.{length-append}
 use Rattle.std.proofs.lemmas.List.{append-nil}
 use Rattle.std.proofs.lemmas.List.Elements.{filter_map-append}
 use Rattle.wq_words.specs.declared.event.Event.{Event}
-use Rattle.wq_words.specs.declared.event.Event.TheVariants.{Hold, Busy, Push, Back, Take, Close, Begin, End, Chain, ChainBusy, Rest}
+use Rattle.wq_words.specs.declared.event.Event.TheVariants.{Begin}
 use Rattle.wq_words.specs.declared.layout.Layout.{Layout}
 use Rattle.wq_words.specs.Numbers.{number_count}
 use Rattle.wq_words.specs.History.{begun_by, begun, ended, running, IsRunning}
@@ -44,16 +44,7 @@ one_begun layout ks j low all i k at =
 
 begun_after : (layout : Layout) (h : List Event) (e : Event) → IsAllowed layout h e → AreNumbers layout (begun h) → AreNumbers layout (begun (h ++ e ∷ []))
 begun_after layout h (Begin j) a all = subst (AreNumbers layout) (sym (filter_map-append begun_by h (Begin j ∷ []))) (one_begun layout (begun h) j a.1 all)
-begun_after layout h (Hold s k) a all = subst (AreNumbers layout) (sym (filter_map_push_none begun_by h (Hold s k) refl ∙ append-nil (begun h))) all
-begun_after layout h (Busy s k) a all = subst (AreNumbers layout) (sym (filter_map_push_none begun_by h (Busy s k) refl ∙ append-nil (begun h))) all
-begun_after layout h (Push s k) a all = subst (AreNumbers layout) (sym (filter_map_push_none begun_by h (Push s k) refl ∙ append-nil (begun h))) all
-begun_after layout h (Back s k why) a all = subst (AreNumbers layout) (sym (filter_map_push_none begun_by h (Back s k why) refl ∙ append-nil (begun h))) all
-begun_after layout h Take a all = subst (AreNumbers layout) (sym (filter_map_push_none begun_by h Take refl ∙ append-nil (begun h))) all
-begun_after layout h Close a all = subst (AreNumbers layout) (sym (filter_map_push_none begun_by h Close refl ∙ append-nil (begun h))) all
-begun_after layout h (End k) a all = subst (AreNumbers layout) (sym (filter_map_push_none begun_by h (End k) refl ∙ append-nil (begun h))) all
-begun_after layout h (Chain k) a all = subst (AreNumbers layout) (sym (filter_map_push_none begun_by h (Chain k) refl ∙ append-nil (begun h))) all
-begun_after layout h (ChainBusy k) a all = subst (AreNumbers layout) (sym (filter_map_push_none begun_by h (ChainBusy k) refl ∙ append-nil (begun h))) all
-begun_after layout h Rest a all = subst (AreNumbers layout) (sym (filter_map_push_none begun_by h Rest refl ∙ append-nil (begun h))) all
+begun_after layout h _ a all = subst (AreNumbers layout) (sym (filter_map_push_none begun_by h _ refl ∙ append-nil (begun h))) all
 
 pub begun_numbers : (layout : Layout) (h : List Event) → IsLegal layout h → AreNumbers layout (begun h)
 begun_numbers layout h legal =

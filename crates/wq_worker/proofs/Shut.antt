@@ -5,14 +5,14 @@ use Rattle.std.proofs.lemmas.List.{take_all}
 use Rattle.wq_words.specs.declared.event.Event.{Event}
 use Rattle.wq_words.specs.declared.event.Event.TheVariants.{Take}
 use Rattle.wq_words.specs.History.{accepted, begun, IsShut}
-use Rattle.wq_words.proofs.Listed.{taken_closed}
-use Rattle.wq_words.proofs.Closed.{closed_from_IsClosed}
+use Rattle.wq_words.proofs.Listed.{taken_shut}
+use Rattle.wq_words.proofs.Closed.{shut_from_IsShut}
 use Rattle.wq_live.specs.Batch.{batch, next_of, TakesAll}
 use Rattle.wq_worker.specs.Seats.{NothingWaits, at_take, at_all}
 
 pub batch-shut : (h : List Event) → IsShut h → batch h ≡ drop (length (begun h)) (accepted h)
 batch-shut h shut =
-    ap (λ (n : ℕ). drop (length (begun h)) (take n (accepted h))) (taken_closed h (closed_from_IsClosed h shut)) ∙ ap (drop (length (begun h)))
+    ap (λ (n : ℕ). drop (length (begun h)) (take n (accepted h))) (taken_shut h (shut_from_IsShut h shut)) ∙ ap (drop (length (begun h)))
     (take_all (length (accepted h)) (accepted h) (omega arith))
 
 pub slice_get-drop : {A : Type 0} (n : ℕ) (xs : List A) → slice_get (drop n xs) 0 ≡ slice_get xs n

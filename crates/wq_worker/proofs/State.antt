@@ -14,6 +14,9 @@ use Rattle.wq_live.specs.Batch.{next_of}
 use Rattle.wq_worker.specs.Seats.{taking_of, taking}
 use Rattle.wq_worker.specs.Pair.{Both, QueuesRest}
 use Rattle.wq_worker.specs.State.{items_among, AreWorkerParts}
+use Rattle.std.specs.Prelude.{count_by}
+use Rattle.wq_words.proofs.Appended.{count_by-append}
+use Rattle.wq_live.proofs.Phases.{is_turn}
 use Rattle.wq_worker.proofs.Owned.{IsQuiet, owner_of_both}
 use Rattle.wq_worker.proofs.Follow.{advance_stays, advance_layout, advance_legal, advance_number}
 
@@ -43,12 +46,15 @@ fit_still log tries at follow at' follow' old new fit legal same size now low = 
 }
 
 quiet_taking_of : (n : Option ℕ) (b : Bool) → IsQuiet (taking_of n b)
-quiet_taking_of (Some k) b = record { begun_none = refl; ended_none = refl; closes_none = refl }
-quiet_taking_of None true = record { begun_none = refl; ended_none = refl; closes_none = refl }
-quiet_taking_of None false = record { begun_none = refl; ended_none = refl; closes_none = refl }
+quiet_taking_of (Some k) b = record { begun_none = refl; ended_none = refl; turns_none = refl }
+quiet_taking_of None true = record { begun_none = refl; ended_none = refl; turns_none = refl }
+quiet_taking_of None false = record { begun_none = refl; ended_none = refl; turns_none = refl }
 
 pub quiet_taking : (h : List Event) → IsQuiet (taking h)
 quiet_taking h = quiet_taking_of (next_of h) (shut h)
+
+pub turns_taking : (h : List Event) (k : ℕ) → count_by is_turn (taking h ++ Begin k ∷ []) ≡ 0
+turns_taking h k = omega (arith, count_by-append is_turn (taking h) (Begin k ∷ []), (quiet_taking h).turns_none)
 
 pub begun_taking : (h : List Event) (k : ℕ) → begun (taking h ++ Begin k ∷ []) ≡ k ∷ []
 begun_taking h k = filter_map-append begun_by (taking h) (Begin k ∷ []) ∙ ap (λ (z : List ℕ). z ++ k ∷ []) (quiet_taking h).begun_none

@@ -5,10 +5,9 @@ use Rattle.std.proofs.Math.ListN.{drop_of_length-le}
 use Rattle.wq_words.specs.declared.layout.Layout.{Layout}
 use Rattle.wq_words.specs.declared.event.Event.{Event}
 use Rattle.wq_words.specs.declared.event.Event.TheVariants.{Begin, End}
-use Rattle.wq_words.specs.History.{shut, running, IsRunning, is_close}
+use Rattle.wq_words.specs.History.{shut, running, IsRunning}
 use Rattle.wq_words.specs.Legal.{IsLegal}
 use Rattle.wq_live.specs.Pairs.{KnownPair}
-use Rattle.std.specs.Prelude.{count_by}
 use Rattle.wq_worker.specs.declared.ran.Ran.{Ran}
 use Rattle.wq_worker.specs.declared.ran.Ran.TheVariants.{Item, Barrier, Stop, Nothing, Owing}
 use Rattle.wq_worker.specs.Seats.{Adds, taking}
@@ -18,12 +17,11 @@ use Rattle.wq_worker.specs.State.{WorkerState, Moves}
 use Rattle.wq_worker.specs.Step.{IsKind, Starts, item, other, owed, Ends, ends, Owes, owes, Runs, Begins}
 use Rattle.wq_worker.proofs.Seats.{adds_on}
 use Rattle.wq_worker.proofs.Owned.{owner_of_both}
-use Rattle.wq_words.proofs.Appended.{count_by-append}
 use Rattle.wq_worker.proofs.Running.{runs_begun, idle_ended}
 use Rattle.wq_words.proofs.Running.{runs_from_running as runs_some}
 use Rattle.wq_worker.proofs.Pair.{both_on}
 use Rattle.wq_worker.proofs.Follow.{advance_stays}
-use Rattle.wq_worker.proofs.State.{quiet_taking, begun_taking, ended_taking}
+use Rattle.wq_worker.proofs.State.{turns_taking, begun_taking, ended_taking}
 
 module _ {W : Type 0} where
   abbrev pub state_of : KnownPair → ℕ → List ℕ → W → WorkerState W
@@ -110,10 +108,7 @@ module _ {W : Type 0} (may : W → ℕ → List ℕ → W → Type 0) where
 
   shut_still : (a m : WorkerState W) (k : ℕ) → Begins may a k m → shut m.seen ≡ shut a.seen
   shut_still a m k b =
-      let o = owner_of_both a.number (taking a.seen ++ Begin k ∷ []) 0 a.seen m.seen b.moves.adds in
-      let n : count_by is_close m.seen ≡ count_by is_close a.seen =
-      omega (arith, o.closes, count_by-append is_close (taking a.seen) (Begin k ∷ []), (quiet_taking a.seen).closes_none) in
-      rw n refl
+      ((owner_of_both a.number (taking a.seen ++ Begin k ∷ []) 0 a.seen m.seen b.moves.adds).phase (turns_taking a.seen k)).shut_same
 
   told_before : (a m : WorkerState W) (k : ℕ) (ks : List ℕ) (es : List Event) → Begins may a k m
       → Follows m.layout.items m.number (shut m.seen) ks es → Follows a.layout.items a.number (shut a.seen) ks es

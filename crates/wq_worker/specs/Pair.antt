@@ -25,6 +25,7 @@ settled (answer.Queued is_first wakes) = true
 settled answer.Pending = true
 settled answer.Closed = true
 settled answer.Contended = false
+settled answer.Draining = true
 
 -- what a queueing adds that was settled, or contended
 abbrev pub Attempts : ℕ → ℕ → Bool → ℕ → Bool → List Event → Type 0

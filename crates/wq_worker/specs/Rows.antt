@@ -1,8 +1,8 @@
 -- Steps of a worker, one after another.
 use Rattle.std.specs.Prelude.{◌≡◌, ℕ, ◌+◌, ◌<◌, ◌≤◌, List, [], ◌∷◌, length}
-use Rattle.wq_words.specs.declared.event.Event.TheVariants.{Close}
-use Rattle.wq_words.specs.History.{accepted, ended, IsClosed}
-use Rattle.wq_words.specs.Legal.{IsComplete}
+use Rattle.wq_words.specs.declared.event.Event.TheVariants.{Close, Drain, Resume}
+use Rattle.wq_words.specs.History.{accepted, ended, IsClosed, IsShut, IsDraining}
+use Rattle.wq_words.specs.Legal.{HasRunOut}
 use Rattle.wq_worker.specs.declared.ran.Ran.{Ran}
 use Rattle.wq_worker.specs.declared.ran.Ran.TheVariants.{Item, Barrier, Stop, Nothing, Owing}
 use Rattle.wq_worker.specs.declared.drained.Drained.{Drained}
@@ -38,6 +38,22 @@ ended_by_answer Nothing = 0
 ended_by_answer (Owing k) = 0
 ended_by_answer _ = 1
 
+module _ {W : Type 0} where
+  -- the queue is closed where it was not
+  pub data Closes (a b : WorkerState W) : Type 0 where
+    was_closed : IsClosed a.seen → b ≡ a → Closes a b
+    closes : ¬ IsClosed a.seen → Moves (Close ∷ []) 0 a b → b.work ≡ a.work → b.unqueued ≡ a.unqueued → Closes a b
+
+  -- a drain begins where the queue was open
+  pub data Shuts (a b : WorkerState W) : Type 0 where
+    was_shut : IsShut a.seen → b ≡ a → Shuts a b
+    drains : ¬ IsShut a.seen → Moves (Drain ∷ []) 0 a b → b.work ≡ a.work → b.unqueued ≡ a.unqueued → Shuts a b
+
+  -- the queue is open again where it drained
+  pub data Resumes (a b : WorkerState W) : Type 0 where
+    stays_closed : IsClosed a.seen → b ≡ a → Resumes a b
+    reopens : IsDraining a.seen → Moves (Resume ∷ []) 0 a b → b.work ≡ a.work → b.unqueued ≡ a.unqueued → Resumes a b
+
 module _ {W : Type 0} (may : W → ℕ → List ℕ → W → Type 0) where
   -- n steps, each with an answer of these
   pub data Row (P : Ran → Type 0) : ℕ → WorkerState W → WorkerState W → Type 0 where
@@ -56,13 +72,35 @@ module _ {W : Type 0} (may : W → ℕ → List ℕ → W → Type 0) where
     pub row : Row IsNotStop steps a last
     pub stops : Runs may Stop last c
 
-  -- Empty after at most as many executions as the limit, once all that was accepted has ended; TooLong after exactly as
-  -- many, with what is accepted and has not ended
-  abbrev pub Drains : ℕ → Drained → WorkerState W → WorkerState W → Type 0
-  Drains limit Empty a b = (n : ℕ) × (n ≤ limit) × Row IsExecution n a b × IsComplete b.seen
-  Drains limit (TooLong left) a b = Row IsExecution limit a b × (0 < left) × (left + length (ended b.seen) ≡ length (accepted b.seen))
+  -- n executions, no more than the limit, after which so many numbers are left; some only after as many as the limit
+  pub record RunsOut (limit left : ℕ) (a b : WorkerState W) : Type 0 where
+    pub steps : ℕ
+    pub within : steps ≤ limit
+    pub row : Row IsExecution steps a b
+    pub left_is : left + length (ended b.seen) ≡ length (accepted b.seen)
+    pub stops : 0 < left → steps ≡ limit
 
--- the queue is closed where it was not
-pub data Closes {W : Type 0} (a b : WorkerState W) : Type 0 where
-  was_closed : IsClosed a.seen → b ≡ a → Closes a b
-  closes : ¬ IsClosed a.seen → Moves (Close ∷ []) 0 a b → b.work ≡ a.work → b.unqueued ≡ a.unqueued → Closes a b
+  -- A drain begins where the queue was open. After at most as many executions as the limit all that was accepted has ended,
+  -- and a queue that drains is resumed.
+  pub record Empties (limit : ℕ) (a c : WorkerState W) : Type 0 where
+    pub began : WorkerState W
+    pub last : WorkerState W
+    pub steps : ℕ
+    pub shuts : Shuts a began
+    pub within : steps ≤ limit
+    pub row : Row IsExecution steps began last
+    pub run_out : HasRunOut last.seen
+    pub resumes : Resumes last c
+
+  -- A drain begins where the queue was open. After exactly as many executions as the limit so many numbers are accepted and
+  -- have not ended, and a queue that drains does so still.
+  pub record LeavesSome (limit left : ℕ) (a c : WorkerState W) : Type 0 where
+    pub began : WorkerState W
+    pub shuts : Shuts a began
+    pub row : Row IsExecution limit began c
+    pub some_left : 0 < left
+    pub left_is : left + length (ended c.seen) ≡ length (accepted c.seen)
+
+  abbrev pub Drains : ℕ → Drained → WorkerState W → WorkerState W → Type 0
+  Drains limit Empty a c = Empties limit a c
+  Drains limit (TooLong left) a c = LeavesSome limit left a c

@@ -1,7 +1,7 @@
 //! Steps of an owner and a sender of one queue, in one seat.
 ghost use Rattle.std.specs.Prelude.{◌≡◌, ℕ, ◌<◌, ◌≤◌, Some, None, false, [], ◌∷◌, MatchOption, length, drop, slice_index};
 ghost use Rattle.wq_words.specs.declared.event.Event.TheVariants.{End};
-ghost use Rattle.wq_words.specs.History.{running, IsRunning, IsClosed, IsShut};
+ghost use Rattle.wq_words.specs.History.{running, shut, IsRunning, IsClosed, IsShut};
 ghost use Rattle.wq_words.specs.Legal.{IsLegal};
 ghost use Rattle.wq_live.specs.Known.{Sees};
 ghost use Rattle.wq_live.specs.Pairs.{pair_owner, pair_sender};
@@ -14,6 +14,13 @@ ghost use Rattle.wq_worker.specs.Pair.{settled, Both, BothFindNothing, BothBegin
 
 use wq_live::{Answer, Pair};
 
+/// Whether the queue takes no push now: it is closed, or it drains.
+pub(crate) fn is_shut(pair: &Pair) -> bool
+    ensures { result ≡ shut pair.now.seen }
+{
+    pair.is_closed() || pair.is_draining()
+}
+
 // Takes where nothing taken waits and the queue is open.
 fn take_where_empty(pair: &mut Pair)
     requires legal { IsLegal pair.old.layout pair.old.seen }
@@ -22,7 +29,7 @@ fn take_where_empty(pair: &mut Pair)
     ensures empty { next_of pair.new.seen ≡ None → NothingWaits pair.new.seen }
 {
     if pair.next().is_none() {
-        if !pair.is_closed() {
+        if !is_shut(pair) {
             pair.take();
         }
     }
@@ -61,7 +68,7 @@ pub(crate) fn take_next(pair: &mut Pair) -> Option<u32>
     pair.next()
 }
 
-/// Rests, where nothing is left. False where something was pushed since the last take, or where the queue rests already.
+/// Rests, where nothing is left. False where something was pushed since the last take or drain, or where the queue rests already.
 pub(crate) fn rest(pair: &mut Pair) -> bool
     requires open { ¬ IsShut pair.old.seen }
     requires none { HasNoneLeft pair.old.seen }
@@ -92,7 +99,7 @@ fn queue_one(pair: &mut Pair, item: u32, tries: u32) -> bool
     if item >= pair.layout().items {
         return true;
     }
-    if pair.is_closed() {
+    if is_shut(pair) {
         let _ = pair.chain(item);
         return true;
     }

@@ -1,20 +1,21 @@
 //! A worker.
-ghost use Rattle.std.specs.Prelude.{◌≡◌, ℕ, ◌+◌, ◌<◌, false, Some, None, [], ◌∷◌, All, length, slice_index, IfOk, IfErr, MatchOption, MatchResult};
+ghost use Rattle.std.specs.Prelude.{◌≡◌, ◌↔◌, ℕ, ◌+◌, ◌<◌, false, Some, None, [], ◌∷◌, All, length, slice_index, IfOk, IfErr, IsTrue, MatchOption, MatchResult};
 ghost use Rattle.std.specs.Fn.{FnOnceTakesAtMut, FnOnceReturnsAtMut};
 ghost use Rattle.wq_words.specs.declared.event.Event.TheVariants.{Close};
-ghost use Rattle.wq_words.specs.History.{accepted, begun, ended, closed, running, Holds, IsRunning, IsClosed, IsShut};
+ghost use Rattle.wq_words.specs.History.{accepted, begun, ended, closed, running, Holds, IsRunning, IsClosed, IsShut, IsDraining};
 ghost use Rattle.wq_words.specs.Seen.{owner_seat, Grows};
 ghost use Rattle.wq_live.specs.Known.{AreNumbered, Sees, new_senders};
 ghost use Rattle.wq_live.specs.Answers.{IsContended};
 ghost use Rattle.wq_live.specs.Batch.{TakesAll};
 ghost use Rattle.wq_live.specs.Rest.{MayNotRest};
-ghost use Rattle.wq_words.specs.Legal.{IsLegal, IsComplete};
+ghost use Rattle.wq_words.specs.Legal.{IsLegal, IsComplete, HasRunOut};
 ghost use Rattle.wq_words.specs.Headline.{KeepsHeadline};
 ghost use Rattle.wq_ledger.specs.Totals.{own_totals};
 ghost use Rattle.wq_worker.specs.State.{items_among, IsSameWorker, Moves, IsMadeOf, IsNew};
 ghost use Rattle.wq_worker.specs.declared.ran.Ran.TheVariants.{Nothing, Owing};
+ghost use Rattle.wq_worker.specs.declared.drained.Drained.TheVariants.{Empty};
 ghost use Rattle.wq_worker.specs.Step.{Runs, FindsNothing, Begins};
-ghost use Rattle.wq_worker.specs.Rows.{RunsSome, Drains, Serves, Closes};
+ghost use Rattle.wq_worker.specs.Rows.{RunsSome, RunsOut, Drains, Serves, Closes, Shuts, Resumes};
 ghost use Rattle.wq_worker.specs.Resting.{HasNoneLeft, rest_events, LeavesWork, IsReady, IsUnready};
 ghost use Rattle.wq_worker.specs.Destroy.{IsBookOf, Destroys, LeavesUnfinished};
 
@@ -22,7 +23,7 @@ use crate::building::Unbuilt;
 use crate::drained::{Drained, Unfinished, left_of};
 use crate::patience::Patience;
 use crate::ran::Ran;
-use crate::steps::{begin_next, end_running, queue_rest, rest, take_next};
+use crate::steps::{begin_next, end_running, is_shut, queue_rest, rest, take_next};
 use crate::work::{Follow, Work};
 use crossbeam_utils::sync::Parker;
 use std::alloc::Global;
@@ -75,6 +76,7 @@ impl<W: Work> Worker<W> {
         ensures sender { Grows sender.number [] 0 sender.seen result.seen }
         ensures legal { IsLegal result.layout result.seen }
         ensures idle { ¬ IsRunning result.seen }
+        ensures open { ¬ IsShut owner.seen → ¬ IsShut result.seen }
     {
         let pair = Pair::join(owner, sender);
         Worker {
@@ -114,6 +116,7 @@ impl<W: Work> Worker<W> {
         ensures unseen { IfOk result (λ r. All (λ s. s.seen ≡ []) r.1.items) }
         ensures free { IfOk result (λ r. All (λ s. (k : ℕ) → ¬ Holds s.seen s.number k) r.1.items) }
         ensures idle { IfOk result (λ r. ¬ IsRunning r.0.seen) }
+        ensures open { IfOk result (λ r. ¬ IsShut r.0.seen) }
         ensures refused { IfErr result (λ e. e.work ≡ work) }
     {
         match build(alloc, layout) {
@@ -223,8 +226,8 @@ impl<W: Work> Worker<W> {
         take_next(&mut self.pair)
     }
 
-    /// Says once that the queue rests: true where all that was accepted has ended, nothing was pushed since the last take, and
-    /// the queue did not rest already. The next queueing then answers `wakes`. Where it answers false, run on: something was
+    /// Says once that the queue rests: true where all that was accepted has ended, nothing was pushed since the last take or drain,
+    /// and the queue did not rest already. The next queueing then answers `wakes`. Where it answers false, run on: something was
     /// pushed, or nothing was taken since the last rest.
     ///
     /// A loop of one's own runs until `run_one` answers `Nothing`, rests, and parks where that answered true or the queue
@@ -267,7 +270,7 @@ impl<W: Work> Worker<W> {
         limit
     }
 
-    /// Closes the queue, takes all that stands on the list, and answers how many that is.
+    /// Closes the queue, also one that drains, takes all that stands on the list, and answers how many that is.
     pub fn close(&mut self) -> u32
         requires unclosed { ¬ IsClosed self.old.seen }
         ensures work { (self.new.work ≡ self.old.work) × (self.new.unqueued ≡ self.old.unqueued) }
@@ -284,6 +287,14 @@ impl<W: Work> Worker<W> {
         ensures logged { W.log self.now.work ≡ items_among self.now.layout (begun self.now.seen) }
     {
         self.pair.is_closed()
+    }
+
+    /// Whether the queue drains: a drain came to its limit, and has not ended.
+    pub fn is_draining(&self) -> bool
+        ensures draining { IsTrue result ↔ IsDraining self.now.seen }
+        ensures else_open { result ≡ false → ¬ IsClosed self.now.seen → ¬ IsShut self.now.seen }
+    {
+        self.pair.is_draining()
     }
 
     /// Calls a closure on the work.
@@ -323,25 +334,62 @@ impl<W: Work> Worker<W> {
         left_of(&self.pair)
     }
 
-    /// Executes until nothing is left of a closed queue, or so many executions have ended (`drain_workqueue`).
-    pub fn drain(&mut self, limit: u32) -> Drained
-        requires { IsClosed self.old.seen }
-        ensures drains { Drains W.may limit result self.old self.new }
+    // Executes until nothing is left of a queue that takes no push, or so many executions have ended. How many numbers are left.
+    fn run_out(&mut self, limit: u32) -> u32
+        requires { IsShut self.old.seen }
+        ensures runs { RunsOut W.may limit result self.old self.new }
+        ensures shut { IsShut self.new.seen }
         ensures same { IsSameWorker self.old self.new }
         ensures legal { IsLegal self.new.layout self.new.seen }
     {
         self.legal();
         for _done in 0..limit {
             if self.left() == 0 {
-                return Drained::Empty;
+                return 0;
             }
             let _ = self.run_one();
         }
-        let left = self.left();
-        if left == 0 {
-            return Drained::Empty;
+        self.left()
+    }
+
+    // Begins a drain where the queue is open.
+    fn drain_where_open(&mut self)
+        ensures shuts { Shuts self.old self.new }
+        ensures shut { IsShut self.new.seen }
+    {
+        if is_shut(&self.pair) {
+            return;
         }
-        Drained::TooLong { left }
+        self.pair.drain();
+    }
+
+    // Opens the queue again where it drained.
+    fn resume_where_draining(&mut self)
+        requires { HasRunOut self.old.seen }
+        ensures resumes { Resumes self.old self.new }
+    {
+        if self.pair.is_draining() {
+            self.pair.resume();
+        }
+    }
+
+    /// Executes until nothing is left, or so many executions have ended (`drain_workqueue`). An open queue drains meanwhile:
+    /// what senders queue is answered `Draining`, and what executions ask for is chained. Once nothing is left it takes pushes
+    /// again; after `TooLong` it drains still, and the next call goes on. A closed queue stays closed.
+    pub fn drain(&mut self, limit: u32) -> Drained
+        ensures drains { Drains W.may limit result self.old self.new }
+        ensures open { result ≡ Empty → ¬ IsClosed self.old.seen → ¬ IsShut self.new.seen }
+        ensures unclosed { ¬ IsClosed self.old.seen → ¬ IsClosed self.new.seen }
+        ensures same { IsSameWorker self.old self.new }
+        ensures legal { IsLegal self.new.layout self.new.seen }
+    {
+        self.drain_where_open();
+        let left = self.run_out(limit);
+        if left > 0 {
+            return Drained::TooLong { left };
+        }
+        self.resume_where_draining();
+        Drained::Empty
     }
 
     /// Executes until the stop item ran. It parks where nothing waits, so who queues something unparks it, and goes on at once
@@ -396,9 +444,10 @@ impl<W: Work> Worker<W> {
             (λ unfinished. LeavesUnfinished W.log W.may limit self unfinished.worker unfinished.left) }
     {
         self.close_where_unclosed();
-        match self.drain(limit) {
-            Drained::Empty => Ok(self.into_book()),
-            Drained::TooLong { left } => Err(Unfinished { worker: self, left }),
+        let left = self.run_out(limit);
+        if left > 0 {
+            return Err(Unfinished { worker: self, left });
         }
+        Ok(self.into_book())
     }
 }

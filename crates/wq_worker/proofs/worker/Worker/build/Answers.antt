@@ -1,6 +1,6 @@
-use Rattle.std.proofs.Common.{◌≡◌, ℕ, [], length, sym, ap, ◌∙◌, subst}
+use Rattle.std.proofs.Common.{◌≡◌, ℕ, [], length, sym, ap, ◌∙◌, subst, arith}
 use Rattle.std.specs.Prelude.{All}
-use Rattle.wq_words.specs.History.{Holds}
+use Rattle.wq_words.specs.History.{Holds, IsShut}
 use Rattle.wq_words.specs.Seen.{owner_seat, own}
 use Rattle.wq_live.specs.Known.{QueueId, Known, new_senders, AreNumbered}
 use Rattle.wq_live.proofs.Seated.{one_less, all_front, all_last, numbered_front, made_nothing}
@@ -47,3 +47,7 @@ returns-in-Some-clause-unseen g c = let P = λ (k : Known). k.seen ≡ [] in
 pub returns-in-Some-clause-free : goal.returns-in-Some-clause-free
 returns-in-Some-clause-free g c = let P = λ (s : Known). (k : ℕ) → ¬ Holds s.seen s.number k in
     all_front P c.pop.new.self.items c.in-Some.sender (subst (All P) c.in-Some.ensures.items c.in-Ok.ensures.free)
+
+pub returns-in-Some-clause-open : goal.returns-in-Some-clause-open
+returns-in-Some-clause-open g c =
+    c.new.ensures.open (λ shut. let none : IsShut [] = subst IsShut c.in-Ok.ensures.unseen.0 shut in omega (arith, none))

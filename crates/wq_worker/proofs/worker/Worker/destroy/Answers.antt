@@ -1,22 +1,29 @@
-use Rattle.std.proofs.Common.{◌∙◌}
-use Rattle.wq_worker.proofs.Rows.{worker_on, closes_same}
+use Rattle.std.proofs.Common.{ℕ, ◌<◌, ◌∙◌, subst, arith}
+use Rattle.wq_worker.specs.Rows.{Row, IsExecution}
+use Rattle.wq_worker.proofs.Rows.{worker_on, closes_same, ran_complete}
 use Rattle.wq_worker.proofs.worker.Worker.destroy.Goals as goal
 
-pub returns-in-Empty : goal.returns-in-Empty
-returns-in-Empty g c =
-    let e = c.in-Empty.ensures in let d = e.drains in let b = c.into_book.ensures.book in
-    let closed = c.close_where_unclosed.new.self in let last = c.drain.new.self in
-    let same = worker_on c.args.self closed last (closes_same c.args.self closed c.close_where_unclosed.ensures.closes) e.same in
+pub into_book-requires : goal.into_book-requires
+into_book-requires g c =
+    ran_complete g.W.Work.may c.args.limit c.run_out-left.result c.close_where_unclosed.new.self c.run_out-left.new.self c.run_out-left.ensures.runs
+    c.close_where_unclosed.ensures.closed (omega (arith, c.if-left-gt0.false))
+
+pub returns : goal.returns
+returns g c =
+    let e = c.run_out-left.ensures in let b = c.into_book.ensures.book in
+    let m = c.close_where_unclosed.new.self in let last = c.run_out-left.new.self in
+    let same = worker_on c.args.self m last (closes_same c.args.self m c.close_where_unclosed.ensures.closes) e.same in
     record {
       outcome = record {
-        closed = closed;
+        closed = m;
         last = last;
-        steps = d.0;
+        steps = e.runs.steps;
         closes = c.close_where_unclosed.ensures.closes;
-        within = d.1;
-        row = d.2;
+        within = e.runs.within;
+        row = e.runs.row;
         same = same;
-        complete = d.3;
+        complete = ran_complete g.W.Work.may c.args.limit c.run_out-left.result m last e.runs c.close_where_unclosed.ensures.closed
+            (omega (arith, c.if-left-gt0.false));
         work_is = c.into_book.ensures.work;
         queue_is = b.0 ∙ same.queue_is;
         layout_is = b.1 ∙ same.layout_is;
@@ -27,17 +34,18 @@ returns-in-Empty g c =
       };
     }
 
-pub returns-in-TooLong : goal.returns-in-TooLong
-returns-in-TooLong g c =
-    let e = c.in-TooLong.ensures in let t = e.drains in let closed = c.close_where_unclosed.new.self in
+pub returns-then-left-gt0 : goal.returns-then-left-gt0
+returns-then-left-gt0 g c =
+    let e = c.run_out-left.ensures in let r = e.runs in let m = c.close_where_unclosed.new.self in let b = c.run_out-left.new.self in
+    let some : 0 < c.run_out-left.result = omega (arith, c.if-left-gt0.true) in
     record {
       outcome = record {
-        closed = closed;
+        closed = m;
         closes = c.close_where_unclosed.ensures.closes;
-        row = t.0;
-        same = worker_on c.args.self closed c.drain.new.self (closes_same c.args.self closed c.close_where_unclosed.ensures.closes) e.same;
+        row = subst (λ (n : ℕ). Row g.W.Work.may IsExecution n m b) (r.stops some) r.row;
+        same = worker_on c.args.self m b (closes_same c.args.self m c.close_where_unclosed.ensures.closes) e.same;
         legal = e.legal;
-        some_left = t.1;
-        left_is = t.2;
+        some_left = some;
+        left_is = r.left_is;
       };
     }

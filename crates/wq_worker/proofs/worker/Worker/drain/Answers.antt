@@ -1,47 +1,53 @@
-use Rattle.std.proofs.Common.{◌≡◌, ℕ, length, arith, subst}
-use Rattle.wq_words.specs.History.{accepted, ended}
-use Rattle.wq_words.specs.Legal.{IsComplete}
-use Rattle.wq_worker.specs.Rows.{Row, none, more, IsExecution}
-use Rattle.wq_worker.proofs.Draining.{executes}
-use Rattle.wq_worker.proofs.Rows.{row_same}
+use Rattle.std.proofs.Common.{ℕ, ◌<◌, subst, arith}
+use Rattle.wq_words.specs.History.{IsClosed}
+use Rattle.wq_worker.specs.Rows.{Row, IsExecution}
+use Rattle.wq_worker.proofs.Rows.{worker_on, shuts_same, resumes_same, resumes_legal, shuts_unclosed, resumes_open, resumes_unclosed, row_unclosed, ran_out}
 use Rattle.wq_worker.proofs.worker.Worker.drain.Goals as goal
 
-pub loop-done-init : goal.loop-done-init
-loop-done-init g c = (none c.args.self.now, c.requires, c.legal.ensures.legal)
+pub resume_where_draining-requires : goal.resume_where_draining-requires
+resume_where_draining-requires g c =
+    let e = c.run_out-left.ensures in
+    ran_out g.W.Work.may c.args.limit c.run_out-left.result c.drain_where_open.new.self c.run_out-left.new.self e.runs e.shut
+    (omega (arith, c.if-left-gt0.false))
 
-pub left-requires : goal.left-requires
-left-requires g c = c.loop-done.invariant.1
+pub returns-then-left-gt0 : goal.returns-then-left-gt0
+returns-then-left-gt0 g c =
+    let a = c.args.self.now in let m = c.drain_where_open.new.self in let b = c.run_out-left.new.self in
+    let s = c.drain_where_open.ensures.shuts in let e = c.run_out-left.ensures in let r = e.runs in
+    let some : 0 < c.run_out-left.result = omega (arith, c.if-left-gt0.true) in
+    record {
+      drains = record {
+        began = m;
+        shuts = s;
+        row = subst (λ (n : ℕ). Row g.W.Work.may IsExecution n m b) (r.stops some) r.row;
+        some_left = some;
+        left_is = r.left_is;
+      };
+      «open» = λ is. absurd (cc);
+      unclosed = λ not. row_unclosed g.W.Work.may IsExecution r.steps m b r.row (shuts_unclosed a m s not);
+      same = worker_on a m b (shuts_same a m s) e.same;
+      legal = e.legal;
+    }
 
-pub left-left-requires : goal.left-left-requires
-left-left-requires g c = c.loop-done.invariant.1
-
-pub returns-then-left-eq0-clause-drains : goal.returns-then-left-eq0-clause-drains
-returns-then-left-eq0-clause-drains g c =
-    let h = c.loop-done.self.seen in let e : length (ended h) ≡ length (accepted h) = omega (arith, c.left.ensures, c.if-left-eq0.true) in
-    (c.loop-done._done, omega arith, c.loop-done.invariant.0, (c.loop-done.invariant.1, e))
-
-pub returns-then-left-eq0-clause-same : goal.returns-then-left-eq0-clause-same
-returns-then-left-eq0-clause-same g c = let l = c.loop-done in row_same g.W.Work.may IsExecution l._done c.args.self.now l.self l.invariant.0
-
-pub returns-then-left-eq0-2-clause-drains : goal.returns-then-left-eq0-2-clause-drains
-returns-then-left-eq0-2-clause-drains g c =
-    let h = c.loop-done.self.seen in let e : length (ended h) ≡ length (accepted h) = omega (arith, c.left-left.ensures, c.if-left-eq0-2.true) in
-    (c.loop-done._done, omega arith, c.loop-done.invariant.0, (c.loop-done.invariant.1, e))
-
-pub returns-then-left-eq0-2-clause-same : goal.returns-then-left-eq0-2-clause-same
-returns-then-left-eq0-2-clause-same g c = let l = c.loop-done in row_same g.W.Work.may IsExecution l._done c.args.self.now l.self l.invariant.0
-
-pub returns-clause-drains : goal.returns-clause-drains
-returns-clause-drains g c =
-    let same : c.loop-done._done ≡ c.args.limit = omega arith in
-    (subst (λ (n : ℕ). Row g.W.Work.may IsExecution n c.args.self.now c.loop-done.self) same c.loop-done.invariant.0, omega arith, c.left-left.ensures)
-
-pub returns-clause-same : goal.returns-clause-same
-returns-clause-same g c = let l = c.loop-done in row_same g.W.Work.may IsExecution l._done c.args.self.now l.self l.invariant.0
-
-pub loop-done-preserved : goal.loop-done-preserved
-loop-done-preserved g c =
-    let s = c.loop-done.self in let b = c.run_one.new.self in let r = c.run_one.result in let i = c.loop-done.invariant in
-    let rest : ¬ IsComplete s.seen = λ (done : IsComplete s.seen). omega (arith, done.1, c.left.ensures, c.if-left-eq0.false) in
-    let e = executes g.W.Work.may r s b i.1 rest c.run_one.ensures.runs in
-    (more c.loop-done._done r c.args.self.now s b i.0 e.0 c.run_one.ensures.runs, e.1, c.run_one.ensures.legal)
+pub returns : goal.returns
+returns g c =
+    let a = c.args.self.now in let m = c.drain_where_open.new.self in let b = c.run_out-left.new.self in let d = c.resume_where_draining.new.self in
+    let s = c.drain_where_open.ensures.shuts in let e = c.run_out-left.ensures in let r = e.runs in
+    let t = c.resume_where_draining.ensures.resumes in
+    let unclosed : ¬ IsClosed a.seen → ¬ IsClosed b.seen = λ not. row_unclosed g.W.Work.may IsExecution r.steps m b r.row (shuts_unclosed a m s not) in
+    record {
+      drains = record {
+        began = m;
+        last = b;
+        steps = r.steps;
+        shuts = s;
+        within = r.within;
+        row = r.row;
+        run_out = ran_out g.W.Work.may c.args.limit c.run_out-left.result m b r e.shut (omega (arith, c.if-left-gt0.false));
+        resumes = t;
+      };
+      «open» = λ is not. resumes_open b d t (unclosed not);
+      unclosed = λ not. resumes_unclosed b d t (unclosed not);
+      same = worker_on a b d (worker_on a m b (shuts_same a m s) e.same) (resumes_same b d t);
+      legal = resumes_legal b d e.legal t;
+    }

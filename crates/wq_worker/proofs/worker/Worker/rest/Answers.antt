@@ -8,7 +8,7 @@ use Rattle.wq_worker.proofs.Step.{state_of, moves_by}
 use Rattle.wq_worker.proofs.worker.Worker.rest.Goals as goal
 
 quiet_rest : (rests : Bool) → IsQuiet (rest_events rests)
-quiet_rest true = record { begun_none = refl; ended_none = refl; closes_none = refl }
+quiet_rest true = record { begun_none = refl; ended_none = refl; turns_none = refl }
 quiet_rest false = quiet_none
 
 pub invariant_of-self : goal.invariant_of-self

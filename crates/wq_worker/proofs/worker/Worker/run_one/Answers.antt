@@ -2,7 +2,7 @@ use Rattle.std.proofs.Common.{rules, ◌≡◌, None}
 use Rattle.wq_words.specs.History.{running}
 use Rattle.wq_worker.specs.declared.ran.Ran.TheVariants.{Nothing}
 use Rattle.wq_words.proofs.Running.{rests_from_running as runs_none}
-use Rattle.wq_worker.proofs.Rows.{worker_on, moves_same, runs_same, runs_legal, runs_unclosed}
+use Rattle.wq_worker.proofs.Rows.{worker_on, moves_same, runs_same, runs_legal, runs_open, runs_unclosed}
 use Rattle.wq_worker.proofs.Step.{runs_fresh}
 use Rattle.wq_worker.proofs.worker.Worker.run_one.Goals as goal
 
@@ -47,14 +47,14 @@ pub returns-in-Some-clause-none : goal.returns-in-Some-clause-none
 returns-in-Some-clause-none g c is = absurd (c.finish.ensures.some is)
 
 pub returns-clause-open : goal.returns-clause-open
-returns-clause-open g c = runs_unclosed g.W.Work.may c.finish-2.result c.args.self.now c.finish-2.new.self (returns-clause-runs g c)
+returns-clause-open g c = runs_open g.W.Work.may c.finish-2.result c.args.self.now c.finish-2.new.self (returns-clause-runs g c)
 
 pub returns-clause-unclosed : goal.returns-clause-unclosed
 returns-clause-unclosed g c = runs_unclosed g.W.Work.may c.finish-2.result c.args.self.now c.finish-2.new.self (returns-clause-runs g c)
 
 pub returns-in_default-start-clause-open : goal.returns-in_default-start-clause-open
 returns-in_default-start-clause-open g c =
-    runs_unclosed g.W.Work.may Nothing c.args.self.now c.start.new.self (returns-in_default-start-clause-runs g c)
+    runs_open g.W.Work.may Nothing c.args.self.now c.start.new.self (returns-in_default-start-clause-runs g c)
 
 pub returns-in_default-start-clause-unclosed : goal.returns-in_default-start-clause-unclosed
 returns-in_default-start-clause-unclosed g c =
@@ -62,7 +62,7 @@ returns-in_default-start-clause-unclosed g c =
 
 pub returns-in-Some-clause-open : goal.returns-in-Some-clause-open
 returns-in-Some-clause-open g c =
-    runs_unclosed g.W.Work.may c.finish.result c.args.self.now c.finish.new.self c.finish.ensures.runs
+    runs_open g.W.Work.may c.finish.result c.args.self.now c.finish.new.self c.finish.ensures.runs
 
 pub returns-in-Some-clause-unclosed : goal.returns-in-Some-clause-unclosed
 returns-in-Some-clause-unclosed g c =

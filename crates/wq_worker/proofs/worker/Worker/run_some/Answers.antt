@@ -1,7 +1,7 @@
 use Rattle.std.proofs.Common.{refl, arith}
 use Rattle.wq_worker.specs.declared.ran.Ran.TheVariants.{Item, Barrier, Stop, Nothing, Owing}
 use Rattle.wq_worker.specs.Rows.{GoesOn, none, more, broken}
-use Rattle.wq_worker.proofs.Rows.{worker_on, row_same, row_unclosed}
+use Rattle.wq_worker.proofs.Rows.{worker_on, row_same, row_open, row_unclosed}
 use Rattle.wq_worker.proofs.worker.Worker.run_some.Goals as goal
 use Rattle.wq_worker.proofs.worker.Worker.run_some.Goals.{in-Item, in-Barrier}
 
@@ -36,7 +36,7 @@ returns-in-Owing-clause-same g c =
 
 pub returns-in-Stop-clause-open : goal.returns-in-Stop-clause-open
 returns-in-Stop-clause-open g c opens =
-    let l = c.loop-done in c.in-Stop.ensures.open (row_unclosed g.W.Work.may GoesOn l.done c.args.self.now l.self l.invariant.0 opens)
+    let l = c.loop-done in c.in-Stop.ensures.open (row_open g.W.Work.may GoesOn l.done c.args.self.now l.self l.invariant.0 opens)
 
 pub returns-in-Stop-clause-unclosed : goal.returns-in-Stop-clause-unclosed
 returns-in-Stop-clause-unclosed g c opens =
@@ -44,7 +44,7 @@ returns-in-Stop-clause-unclosed g c opens =
 
 pub returns-in-Nothing-clause-open : goal.returns-in-Nothing-clause-open
 returns-in-Nothing-clause-open g c opens =
-    let l = c.loop-done in c.in-Nothing.ensures.open (row_unclosed g.W.Work.may GoesOn l.done c.args.self.now l.self l.invariant.0 opens)
+    let l = c.loop-done in c.in-Nothing.ensures.open (row_open g.W.Work.may GoesOn l.done c.args.self.now l.self l.invariant.0 opens)
 
 pub returns-in-Nothing-clause-unclosed : goal.returns-in-Nothing-clause-unclosed
 returns-in-Nothing-clause-unclosed g c opens =
@@ -52,14 +52,14 @@ returns-in-Nothing-clause-unclosed g c opens =
 
 pub returns-in-Owing-clause-open : goal.returns-in-Owing-clause-open
 returns-in-Owing-clause-open g c opens =
-    let l = c.loop-done in c.in-Owing.ensures.open (row_unclosed g.W.Work.may GoesOn l.done c.args.self.now l.self l.invariant.0 opens)
+    let l = c.loop-done in c.in-Owing.ensures.open (row_open g.W.Work.may GoesOn l.done c.args.self.now l.self l.invariant.0 opens)
 
 pub returns-in-Owing-clause-unclosed : goal.returns-in-Owing-clause-unclosed
 returns-in-Owing-clause-unclosed g c opens =
     let l = c.loop-done in c.in-Owing.ensures.unclosed (row_unclosed g.W.Work.may GoesOn l.done c.args.self.now l.self l.invariant.0 opens)
 
 pub returns-clause-open : goal.returns-clause-open
-returns-clause-open g c = let l = c.loop-done in row_unclosed g.W.Work.may GoesOn l.done c.args.self.now l.self l.invariant.0
+returns-clause-open g c = let l = c.loop-done in row_open g.W.Work.may GoesOn l.done c.args.self.now l.self l.invariant.0
 
 pub returns-clause-unclosed : goal.returns-clause-unclosed
 returns-clause-unclosed g c = let l = c.loop-done in row_unclosed g.W.Work.may GoesOn l.done c.args.self.now l.self l.invariant.0
