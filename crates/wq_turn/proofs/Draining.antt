@@ -4,9 +4,9 @@ use Rattle.wq_worker.specs.Destroy.{LeavesUnfinished}
 use Rattle.wq_worker.specs.declared.drained.Drained.{Drained}
 use Rattle.wq_worker.specs.declared.drained.Drained.TheVariants.{Empty, TooLong}
 use Rattle.wq_worker.specs.Step.{Owes, owes as owes_one}
-use Rattle.wq_turn.proofs.Common.{◌≡◌, ℕ, ◌+◌, ◌<◌, Bool, true, false, List, [], ◌∷◌, length, refl, ap, ◌∙◌, arith, Event, Close, accepted, begun, ended}
-use Rattle.wq_turn.proofs.Common.{IsClosed, IsShut, IsRunning, IsLegal, IsComplete, closed_from_IsClosed, Row, none, more, IsExecution, Closes, was_closed, closes}
-use Rattle.wq_turn.proofs.Common.{Drains, WorkerState, Moves, owner_of_both, Pauses, limited, owes, owed_before, WorksOn}
+use Rattle.wq_turn.proofs.Common.{◌≡◌, ℕ, ◌+◌, ◌<◌, ◌≤◌, Bool, true, false, List, [], ◌∷◌, length, refl, ap, ◌∙◌, arith, Event, Close, accepted, begun, ended}
+use Rattle.wq_turn.proofs.Common.{IsClosed, IsShut, IsRunning, IsLegal, IsComplete, closed_shuts, shut_from_IsShut, Row, none, more, IsExecution, Closes, was_closed, closes, Shuts}
+use Rattle.wq_turn.proofs.Common.{was_shut, drains, Resumes, stays_closed, reopens, Drains, sym, subst, WorkerState, Moves, owner_of_both, Pauses, limited, owes, owed_before, WorksOn}
 use Rattle.wq_turn.specs.Drained.{IsDrained, left_after}
 use Rattle.wq_turn.specs.Owed.{IsOwed}
 use Rattle.wq_turn.proofs.Moved.{steps_keep, works_keep}
@@ -33,12 +33,12 @@ module _ {W : Type 0} where
   module _ (may : W → ℕ → List ℕ → W → Type 0) where
     -- a queue that is shut owes nothing
     owes_open : (k : ℕ) (a b : WorkerState W) → Owes may a k b → ¬ IsShut a.seen
-    owes_open k a b (owes_one f qs j others es fs st split left opens told moved runs) = λ shut. let now = closed_from_IsClosed a.seen shut in absurd (cc)
+    owes_open k a b (owes_one f qs j others es fs st split left opens told moved runs) = λ shut. let now = shut_from_IsShut a.seen shut in absurd (cc)
 
     pauses_idle : (limit : ℕ) (a c : WorkerState W) → Pauses may limit a c → IsClosed a.seen → ¬ IsRunning a.seen → ¬ IsRunning c.seen
     pauses_idle limit a c (limited k steps just rests next) closed idle = rests
     pauses_idle limit a c (owes n k b low steps step) closed idle =
-        absurd (owes_open k b c step (steps_keep (λ w. IsClosed w.seen) moved_closed may n a b steps closed))
+        absurd (owes_open k b c step (closed_shuts b.seen (steps_keep (λ w. IsClosed w.seen) moved_closed may n a b steps closed)))
     pauses_idle limit a c (owed_before is_none runs same) closed idle = absurd (idle runs)
 
     pub works_closed : (limit : ℕ) (done : Bool) (a c : WorkerState W) → WorksOn may limit done a c → IsClosed a.seen → IsClosed c.seen
@@ -53,14 +53,36 @@ module _ {W : Type 0} where
     no_row n a b (none c) is = refl
     no_row n a b (more m r c d e row passes t) is = absurd (omega (arith, is))
 
-    -- a drain of no number tells what is left
-    pub undrained : (d : Drained) (a b : WorkerState W) → Drains may 0 d a b → b ≡ a
-    undrained Empty a b t = no_row t.0 a b t.2 (omega (arith, t.1))
-    undrained (TooLong left) a b t = no_row 0 a b t.0 refl
+    not_shut : (a b : WorkerState W) → IsClosed a.seen → Shuts a b → b ≡ a
+    not_shut a b closed (was_shut is same) = same
+    not_shut a b closed (drains opens moved work left) = absurd (opens (closed_shuts a.seen closed))
 
-    pub drained : (d : Drained) (a b : WorkerState W) → Drains may 0 d a b → IsLegal b.layout b.seen → IsClosed b.seen → IsDrained (left_after d) b
-    drained Empty a b t legal closed = let all = t.3.1 in record { legal = legal; closed = closed; left_is = omega (arith, all) }
-    drained (TooLong left) a b t legal closed = record { legal = legal; closed = closed; left_is = t.2 }
+    not_resumed : (a b : WorkerState W) → IsClosed a.seen → Resumes a b → b ≡ a
+    not_resumed a b closed (stays_closed is same) = same
+    not_resumed a b closed (reopens draining moved work left) = absurd (draining.1 closed)
+
+    -- a drain of no number of a closed queue tells what is left
+    none_run : (n : ℕ) (a b c d : WorkerState W) → n ≤ 0 → IsClosed a.seen → Shuts a b → Row may IsExecution n b c → Resumes c d → (c ≡ a) × (d ≡ a)
+    none_run n a b c d le closed shuts row resumes =
+        let same : c ≡ a = no_row n b c row (omega (arith, le)) ∙ not_shut a b closed shuts in
+        (same, not_resumed c d (subst (λ (w : WorkerState W). IsClosed w.seen) (sym same) closed) resumes ∙ same)
+
+    pub undrained : (d : Drained) (a b : WorkerState W) → IsClosed a.seen → Drains may 0 d a b → b ≡ a
+    undrained Empty a b closed t = (none_run t.steps a t.began t.last b t.within closed t.shuts t.row t.resumes).1
+    undrained (TooLong left) a b closed t = no_row 0 t.began b t.row refl ∙ not_shut a t.began closed t.shuts
+
+    pub drained : (d : Drained) (a b : WorkerState W) → IsClosed a.seen → Drains may 0 d a b → IsLegal b.layout b.seen → IsDrained (left_after d) b
+    drained Empty a b closed t legal =
+        let same = none_run t.steps a t.began t.last b t.within closed t.shuts t.row t.resumes in
+        let all : length (ended b.seen) ≡ length (accepted b.seen) =
+        subst (λ (w : WorkerState W). length (ended w.seen) ≡ length (accepted w.seen)) (same.0 ∙ sym same.1) t.run_out.1 in
+        record { legal = legal; closed = subst (λ (w : WorkerState W). IsClosed w.seen) (sym same.1) closed; left_is = omega (arith, all) }
+    drained (TooLong left) a b closed t legal =
+        record {
+          legal = legal;
+          closed = subst (λ (w : WorkerState W). IsClosed w.seen) (sym (undrained (TooLong left) a b closed t)) closed;
+          left_is = t.left_is;
+        }
 
     -- with nothing left a worker is taken apart
     pub never_unfinished : (log : W → List ℕ) (a b : WorkerState W) (left : ℕ) → IsComplete a.seen → LeavesUnfinished log may 0 a b left → ⊥

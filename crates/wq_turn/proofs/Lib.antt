@@ -4,3 +4,4 @@ pub mod Moved
 pub mod Steps
 pub mod Settled
 pub mod Draining
+pub mod Kept

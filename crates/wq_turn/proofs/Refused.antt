@@ -14,9 +14,10 @@ use Rattle.wq_words.proofs.OtherSeats.{others_keep, surrounds, taken_still}
 use Rattle.wq_live.proofs.Reading.{empty_from_next}
 use Rattle.wq_worker.proofs.Draining.{left_idle}
 use Rattle.wq_worker.proofs.Others.{next_still, some_fresh}
+use Rattle.wq_worker.proofs.Phase.{shut_still}
 use Rattle.wq_turn.proofs.Common.{◌≡◌, ℕ, ◌<◌, ◌≤◌, false, List, [], ◌∷◌, ◌++◌, length, take, ◌==◌, None, sym, refl, ap, ◌∙◌, subst, inl, inr, append_assoc}
 use Rattle.wq_turn.proofs.Common.{arith, length-append, length-drop, filter_map-append, filter-append, Event, Hold, Busy, Push, Back, Take, Layout, accepted}
-use Rattle.wq_turn.proofs.Common.{begun, IsClosed, IsShut, accepted_by, taken, fresh, first, IsLegal, IsComplete, closed_from_open, batch, next_of, MayNotRest}
+use Rattle.wq_turn.proofs.Common.{begun, IsClosed, IsShut, accepted_by, taken, fresh, first, IsLegal, IsComplete, closed_shuts, shut_from_open, batch, next_of, MayNotRest}
 use Rattle.wq_turn.proofs.Common.{HasNoneLeft, taking, Adds, NothingWaits, at_take, at_all, owner_of_both, filter-filter, owner_grows, stays, quiet_none}
 
 -- of what came new the owner's events are those of what the worker's two seats added
@@ -32,7 +33,7 @@ next_kept layout s n v w adds legal = next_still layout v w adds.new adds.is leg
 -- a closed queue of which nothing is left has run to its end
 pub none_left_complete : (layout : Layout) (h : List Event) → IsLegal layout h → IsClosed h → HasNoneLeft h → IsComplete h
 none_left_complete layout h legal closed none =
-    (closed, omega (arith, left_idle layout h legal closed none.0, ap (length {A = ℕ}) (empty_from_next h none.1)))
+    (closed, omega (arith, left_idle layout h legal (closed_shuts h closed) none.0, ap (length {A = ℕ}) (empty_from_next h none.1)))
 
 -- a queue at work stays at work while other seats alone add events
 at_work_still : (layout : Layout) (v new : List Event) → IsLegal layout (v ++ new) → own owner_seat new ≡ [] → wakes v ≡ false → wakes (v ++ new) ≡ false
@@ -115,7 +116,7 @@ module _ (layout : Layout) where
 pub refused_waits : (layout : Layout) (s : ℕ) (b c d : List Event) → NothingWaits b → Adds s [] 0 b c → MayNotRest c → IsLegal layout c → ¬ IsShut c
     → next_of c ≡ None → Adds s (taking c) 0 c d → IsLegal layout d → next_of d ≡ None → ⊥
 refused_waits layout s b c d (at_all shut none) quiet why legal opens empty more later nothing =
-    let same = stays [] b c quiet_none (owner_of_both s [] 0 b c quiet) in opens (subst (λ (z : ℕ). 0 < z) (sym same.closes_same) shut)
+    let same = stays [] b c quiet_none (owner_of_both s [] 0 b c quiet) in opens (shut_still b c same.phase shut)
 refused_waits layout s b c d (at_take before after b_is last none) quiet why legal opens empty more later nothing =
     let c_is : c ≡ before ++ Take ∷ (after ++ quiet.new) =
     quiet.is ∙ (ap (λ (z : List Event). z ++ quiet.new) b_is ∙ append_assoc before (Take ∷ after) quiet.new) in
@@ -128,7 +129,7 @@ refused_waits layout s b c d (at_take before after b_is last none) quiet why leg
     ∙ at_work_still layout (before ++ Take ∷ []) (after ++ quiet.new) (
     subst (IsLegal layout) (c_is ∙ sym (append_assoc before (Take ∷ []) (after ++ quiet.new))) legal
     ) behind_none (wakes_push_work before Take refl)) in
-    let take_is : taking c ≡ Take ∷ [] = rw (empty, closed_from_open c opens) refl in
+    let take_is : taking c ≡ Take ∷ [] = rw (empty, shut_from_open c opens) refl in
     let one : own owner_seat more.new ≡ Take ∷ [] = owner_new s 0 (taking c) c d more ∙ ap (own owner_seat) take_is in
     elim why [
       | inl pushed ↦ pushed_waits layout before (after ++ quiet.new) c d more.new c_is behind_none legal opens pushed more.is one later nothing

@@ -1,7 +1,7 @@
 //! A worker at work.
 ghost use Rattle.std.specs.Prelude.{◌≡◌, true, false, Contains};
 ghost use Rattle.wq_words.specs.Numbers.{stop_number};
-ghost use Rattle.wq_words.specs.History.{begun, ended, IsClosed, IsRunning};
+ghost use Rattle.wq_words.specs.History.{begun, ended, IsClosed, IsRunning, IsDraining};
 ghost use Rattle.wq_words.specs.Legal.{IsLegal};
 ghost use Rattle.wq_words.specs.Headline.{KeepsHeadline};
 ghost use Rattle.wq_worker.specs.Resting.{HasNoneLeft};
@@ -45,6 +45,7 @@ impl Gate for NoGate {
 }
 
 impl<W: Work> Model for Runner<W> {
+    ghost use Rattle.wq_words.specs.History.{IsDraining};
     ghost use Rattle.wq_worker.specs.State.{WorkerState};
     ghost use Rattle.wq_turn.specs.Owed.{IsOwed};
 
@@ -52,7 +53,7 @@ impl<W: Work> Model for Runner<W> {
 
     ghost view = { λ r. r.worker };
 
-    ghost invariant = { λ r. IsOwed r.owes r.worker.seen };
+    ghost invariant = { λ r. IsOwed r.owes r.worker.seen × (¬ IsDraining r.worker.seen) };
 }
 
 impl<W: Work> Runner<W> {
@@ -68,11 +69,12 @@ impl<W: Work> Runner<W> {
     }
 
     /// What the worker has seen is a legal history, so the queue keeps the headline. The work has run the items that have
-    /// begun, in this order.
+    /// begun, in this order. The queue does not drain.
     pub fn legal(&self)
         ensures legal { IsLegal self.now.layout self.now.seen }
         ensures headline { KeepsHeadline self.now.seen }
         ensures logged { W.log self.now.work ≡ items_among self.now.layout (begun self.now.seen) }
+        ensures not_draining { ¬ IsDraining self.now.seen }
     {
         self.worker.legal();
     }

@@ -1,7 +1,7 @@
 //! A worker that owes nothing.
 ghost use Rattle.std.specs.Prelude.{◌≡◌, true, Contains};
 ghost use Rattle.wq_words.specs.Numbers.{stop_number};
-ghost use Rattle.wq_words.specs.History.{begun, ended, IsRunning};
+ghost use Rattle.wq_words.specs.History.{begun, ended, IsRunning, IsDraining};
 ghost use Rattle.wq_words.specs.Legal.{IsLegal, IsComplete};
 ghost use Rattle.wq_words.specs.Headline.{KeepsHeadline};
 ghost use Rattle.wq_worker.specs.State.{items_among};
@@ -12,27 +12,28 @@ use crate::noted::Noted;
 use std::marker::Model;
 use wq_worker::{Book, Work, Worker};
 
-/// A worker that owes no execution, so that another thread can go on with its queue.
+/// A worker that owes no execution, and whose queue does not drain, so that another thread can go on with its queue.
 #[derive(Drop)]
 pub struct Served<W: Work> {
     pub(crate) worker: Noted<W>,
 }
 
 impl<W: Work> Model for Served<W> {
-    ghost use Rattle.wq_words.specs.History.{IsRunning};
+    ghost use Rattle.wq_words.specs.History.{IsRunning, IsDraining};
     ghost use Rattle.wq_worker.specs.State.{WorkerState};
 
     ghost Value = { WorkerState W };
 
     ghost view = { λ s. s.worker };
 
-    ghost invariant = { λ s. ¬ IsRunning s.worker.seen };
+    ghost invariant = { λ s. (¬ IsRunning s.worker.seen) × (¬ IsDraining s.worker.seen) };
 }
 
 impl<W: Work> Served<W> {
-    /// Takes a worker of which nothing runs.
+    /// Takes a worker of which nothing runs, and whose queue does not drain.
     pub fn new(worker: Worker<W>) -> Served<W>
-        requires { ¬ IsRunning worker.seen }
+        requires idle { ¬ IsRunning worker.seen }
+        requires not_draining { ¬ IsDraining worker.seen }
         ensures same { result ≡ worker }
     {
         Served {
@@ -41,12 +42,14 @@ impl<W: Work> Served<W> {
     }
 
     /// What the worker has seen is a legal history, so the queue keeps the headline: what was accepted is executed in its
-    /// order, once, and one at a time. The work has run the items that have begun, in this order, and nothing runs.
+    /// order, once, and one at a time. The work has run the items that have begun, in this order, nothing runs, and the queue
+    /// does not drain.
     pub fn legal(&self)
         ensures legal { IsLegal self.now.layout self.now.seen }
         ensures headline { KeepsHeadline self.now.seen }
         ensures logged { W.log self.now.work ≡ items_among self.now.layout (begun self.now.seen) }
         ensures idle { ¬ IsRunning self.now.seen }
+        ensures not_draining { ¬ IsDraining self.now.seen }
     {
         self.worker.legal();
     }

@@ -1,9 +1,14 @@
 use Rattle.wq_turn.proofs.Common.{false, subst, IsRunning, WorkerState}
 use Rattle.wq_turn.proofs.Draining.{closed_owes, close_closes}
+use Rattle.wq_turn.proofs.Kept.{closed_not_draining}
 use Rattle.wq_turn.proofs.runner.Runner.close.Goals as goal
 
 pub invariant_of-self : goal.invariant_of-self
-invariant_of-self g c = closed_owes c.self.inside.owes c.self.inside.worker c.close.new.self c.close.ensures.events c.self.invariant
+invariant_of-self g c =
+    let a = c.self.inside.worker in let b = c.close.new.self in (
+      closed_owes c.self.inside.owes a b c.close.ensures.events c.self.invariant.0,
+      closed_not_draining a b c.self.invariant.1 c.close.ensures.events,
+    )
 
 pub returns-then-not-is_closed-clause-closed : goal.returns-then-not-is_closed-clause-closed
 returns-then-not-is_closed-clause-closed g c = close_closes c.self.inside.worker c.close.new.self c.close.ensures.events

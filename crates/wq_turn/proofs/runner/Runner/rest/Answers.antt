@@ -1,6 +1,21 @@
-use Rattle.wq_turn.proofs.Common.{None, sym, ap, ◌∙◌, subst, WorkerState, HasNoneLeft, NothingWaits, Settles}
+use Rattle.wq_turn.proofs.Common.{None, sym, ap, ◌∙◌, subst, IsRunning, WorkerState, HasNoneLeft, NothingWaits, Settles}
 use Rattle.wq_turn.proofs.Settled.{settled_closed, settled_rested, settled_refused}
+use Rattle.wq_words.proofs.Closed.{open_from_closed}
+use Rattle.wq_turn.proofs.Kept.{idle_owes, ready_idle, ready_not_draining, rest_not_draining}
 use Rattle.wq_turn.proofs.runner.Runner.rest.Goals as goal
+
+pub rest-requires-clause-open : goal.rest-requires-clause-open
+rest-requires-clause-open g c shut =
+    let a = c.self.inside.worker in
+    c.self.invariant.1 (shut, open_from_closed a.seen (sym c.is_closed.ensures.closed ∙ c.if-is_closed.false))
+
+pub invariant_of-self-2 : goal.invariant_of-self-2
+invariant_of-self-2 g c =
+    let a = c.self.inside.worker in let b = c.rest.new.self in let d = c.ready.new.self in
+    let idle : ¬ IsRunning a.seen = rw (ap (λ (w : WorkerState _). w.seen) c.self.view_is) c.requires.none.0 in (
+      idle_owes c.self.inside.owes a.seen d.seen c.self.invariant.0 idle (ready_idle c.ready.result b d c.rest.ensures.none.0 c.ready.ensures.outcome),
+      ready_not_draining b d (rest_not_draining a b c.self.invariant.1 c.rest.result c.rest.ensures.events) c.ready.result c.ready.ensures.outcome,
+    )
 
 pub returns-then-is_closed : goal.returns-then-is_closed
 returns-then-is_closed g c =
