@@ -1,14 +1,20 @@
 -- The ledgers of a race balance.
 use Rattle.wq_plan.proofs.Common.{◌≡◌, ◌≢◌, ℕ, suc, ◌+◌, ◌-◌, ◌^◌, ◌<◌, ◌≤◌, ◌⊎◌, Bool, true, false, cond, ◌==◌, List, [], ◌∷◌, ◌++◌, length, map, get_or, inl}
 use Rattle.wq_plan.proofs.Common.{inr, refl, sym, ap, ◌∙◌, subst, arith, eq-eqb, count_by, eqb-true, cases_lt, append-nil, filter-append, Event, own, count_own}
-use Rattle.wq_plan.proofs.Common.{own-append, Known, is_queued_by, is_pending_by, is_closed_by, is_contended_by, capped, sender_counts, owner_counts}
+use Rattle.wq_plan.proofs.Common.{own-append, Known, is_queued_by, is_pending_by, is_closed_by, is_draining_by, is_contended_by, capped, sender_counts, owner_counts}
 use Rattle.wq_plan.proofs.Common.{Unbalanced, LedgerState, BookState, IsLedgerOf, largest, AreWhole, AreOwnerWhole, ledgers_of, HasOne, IsFault, IsUnbalanced}
 use Rattle.wq_plan.proofs.Common.{of_sender, of_worker, ledger_of, pending_own, closed_own, contended_own, count_by-le-length}
 use Rattle.wq_ledger.specs.declared.balance.Unbalanced.TheVariants.{Missing, Twice, Saturated}
+use Rattle.wq_words.specs.declared.event.Why.TheVariants.{Draining}
+use Rattle.wq_plan.proofs.Common.{Back, seat_of}
 use Rattle.wq_plan.proofs.Whole.{queued_own}
 
 whole_one : (n m : ℕ) → n ≤ m → m < 2 ^ 64 - 1 → capped n ≢ largest
 whole_one n m le few is = omega (arith, le, few, is)
+
+draining_own : (s : ℕ) (e : Event) → (seat_of e == s) ≡ false → is_draining_by s e ≡ false
+draining_own s (Back t k Draining) is = is
+draining_own s _ is = refl
 
 -- few events of a seat saturate no count
 pub whole_counts : (s : ℕ) (h : List Event) → length (own s h) < 2 ^ 64 - 1 → AreWhole (sender_counts s h)
@@ -17,6 +23,7 @@ whole_counts s h few =
       whole_one (count_by (is_queued_by s) h) n (omega (arith, queued_own s h, most (is_queued_by s))) few,
       whole_one (count_by (is_pending_by s) h) n (omega (arith, count_own (is_pending_by s) s (pending_own s) h, most (is_pending_by s))) few,
       whole_one (count_by (is_closed_by s) h) n (omega (arith, count_own (is_closed_by s) s (closed_own s) h, most (is_closed_by s))) few,
+      whole_one (count_by (is_draining_by s) h) n (omega (arith, count_own (is_draining_by s) s (draining_own s) h, most (is_draining_by s))) few,
       whole_one (count_by (is_contended_by s) h) n (omega (arith, count_own (is_contended_by s) s (contended_own s) h, most (is_contended_by s))) few,
     )
 

@@ -12,13 +12,14 @@ pub use Rattle.std.proofs.lemmas.List.{append-nil, map-append, map-id, get_or_de
 pub use Rattle.std.proofs.lemmas.List.Elements.{filter-append, filter_map-append, All-append, All-cons, All-nil, All-push}
 pub use Rattle.std.proofs.lemmas.List.FromFn.{length-range_with_len}
 pub use Rattle.std.proofs.lemmas.List.Sums.{count_by-le-length, sum_by-cons, fold_more}
-pub use Rattle.wq_words.specs.Counting.{is_queued_by, is_pending_by, is_closed_by, is_contended_by, is_chain, is_chain_busy}
-pub use Rattle.wq_words.specs.History.{IsRunning, is_close, is_push, accepted, begun, ended, sets_pending, accepted_by, shut, ended_by}
+pub use Rattle.wq_words.specs.Counting.{is_queued_by, is_pending_by, is_closed_by, is_draining_by, is_contended_by, is_chain, is_chain_busy}
+pub use Rattle.wq_words.specs.History.{IsRunning, IsShut, is_close, is_drain, is_push, accepted, begun, ended, sets_pending, accepted_by, shut, ended_by}
 pub use Rattle.wq_words.specs.Legal.{IsLegal, IsComplete, IsAllowed}
 pub use Rattle.wq_words.specs.Numbers.{stop_number}
 pub use Rattle.wq_words.specs.Seen.{own, owner_seat, Grows, seat_of, is_ours}
 pub use Rattle.wq_words.specs.declared.event.Event.{Event}
-pub use Rattle.wq_words.specs.declared.event.Event.TheVariants.{Back, Hold, Busy, Push, Take, Close, Begin, End, Chain, ChainBusy, Rest}
+pub use Rattle.wq_words.specs.declared.event.Event.TheVariants.{Back, Hold, Busy, Push, Take, Close, Drain, Resume, Begin, End, Chain, ChainBusy, Rest}
+pub use Rattle.wq_words.specs.declared.event.Why.{Why}
 pub use Rattle.wq_words.specs.declared.layout.Layout.{Layout}
 pub use Rattle.wq_words.proofs.Appended.{count_by-append, accepted-count}
 pub use Rattle.wq_words.proofs.Counting.{pending_own, closed_own, contended_own, chain_own, chain_busy_own}
@@ -33,7 +34,7 @@ pub use Rattle.wq_ledger.specs.Balance.{largest, AreWhole, AreOwnerWhole, ledger
 pub use Rattle.wq_ledger.specs.Book.{LedgerState, BookState, IsLedgerOf}
 pub use Rattle.wq_ledger.specs.declared.balance.Unbalanced.{Unbalanced}
 pub use Rattle.wq_ledger.proofs.Pushes.{is_queued_below, below_more, below_all, below_none}
-pub use Rattle.wq_worker.specs.Follow.{Follows, Queues, passed, pushed, busy, refused, chained, chain_busy}
+pub use Rattle.wq_worker.specs.Follow.{Follows}
 pub use Rattle.wq_worker.specs.Seats.{taking, taking_of}
 pub use Rattle.wq_worker.specs.State.{WorkerState, items_among, Moves, IsSameWorker}
 pub use Rattle.wq_worker.proofs.Rows.{worker_still, worker_on, moves_same}
@@ -41,6 +42,7 @@ pub use Rattle.wq_worker.proofs.State.{items_among-item, items_among-other, quie
 pub use Rattle.wq_plan.specs.Outcome.{ledger_of, HasHeard, HasGoneOn, HasEnded, queueings, Tells, IsWhole, IsTold, HasMet, AllKnown, IsKnown, queued_sum}
 pub use Rattle.wq_plan.specs.Plan.{IsLayoutOf}
 pub use Rattle.wq_plan.specs.Race.{items_at, IsOfStop, HasRaced, HasQueued, IsInVain, HasMade, HasStopped, IsStopAnswer, HasServed, AllQueued, IsQueuer}
+pub use Rattle.wq_plan.specs.Sends.{IsRefusal, Sends, SendsAll, pushed, busy, refused}
 pub use Rattle.wq_plan.specs.Team.{IsNewTeam}
 pub use Rattle.wq_plan.specs.declared.idle.Idle.{Idle}
 pub use Rattle.wq_plan.specs.declared.plan.Plan.{Plan}

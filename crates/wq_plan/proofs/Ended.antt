@@ -1,14 +1,15 @@
 -- The history of a race that has run to its end.
 use Rattle.wq_plan.proofs.Common.{◌≡◌, ◌≢◌, ℕ, ◌+◌, ◌-◌, map, ◌^◌, inl, inr, length-append, ◌*◌, ◌<◌, ◌≤◌, Bool, true, false, List, [], ◌∷◌, ◌++◌, length}
 use Rattle.wq_plan.proofs.Common.{get_or, min, refl, sym, ap, ◌∙◌, subst, arith, All, MatchBool, count_by, AllByRecursion, cases_lt, length-range_with_len}
-use Rattle.wq_plan.proofs.Common.{IsPrefix, Layout, Event, Back, is_close, is_push, accepted, begun, ended, IsLegal, prefix_whole, own, own-append}
-use Rattle.wq_plan.proofs.Common.{closed_count, ended_same, Known, is_queued_by, is_chain, is_chain_busy, sender_counts, owner_counts, LedgerState, BookState}
+use Rattle.wq_plan.proofs.Common.{IsPrefix, Layout, Event, Back, is_close, is_drain, is_push, accepted, begun, ended, IsLegal, prefix_whole, own, own-append}
+use Rattle.wq_plan.proofs.Common.{closed_count, count_same, owner_seat, Why, IsRefusal, ended_same, Known, is_queued_by, is_chain, is_chain_busy, sender_counts, owner_counts, LedgerState, BookState}
 use Rattle.wq_plan.proofs.Common.{Unbalanced, AreWhole, AreOwnerWhole, ledgers_of, HasOne, IsUnbalanced, is_queued_below, below_more, below_all, WorkerState}
-use Rattle.wq_plan.proofs.Common.{items_among, Follows, count_by-append, accepted-count, Idle, Plan, Team, items_at, IsOfStop, HasRaced, queueings, Tells}
+use Rattle.wq_plan.proofs.Common.{items_among, SendsAll, count_by-append, accepted-count, Idle, Plan, Team, items_at, IsOfStop, HasRaced, queueings, Tells}
 use Rattle.wq_plan.proofs.Common.{IsWhole, IsTold, HasMet, AllKnown, HasEnded, HasHeard, ledger_of, own_between, prefix_on, count_by-le-length, IsComplete}
 use Rattle.wq_words.specs.declared.event.Why.TheVariants as why
 use Rattle.wq_words.proofs.Order.{in_order}
 use Rattle.wq_worker.proofs.Draining.{begun-complete}
+use Rattle.wq_worker.proofs.Phase.{drains_own}
 use Rattle.wq_plan.specs.declared.outcome.Outcome.{Outcome}
 use Rattle.wq_plan.proofs.Running.{own_room}
 use Rattle.wq_plan.proofs.Serving.{chains_same, asks_same}
@@ -26,20 +27,22 @@ pub all_front : (P : Event → Type 0) (xs ys : List Event) → AllByRecursion P
 all_front P [] ys all = tt
 all_front P (x ∷ xs) ys all = (all.0, all_front P xs ys all.1)
 
--- where no close was seen, nothing was refused
-never_refused : (layout : Layout) (s k : ℕ) (h w : List Event) → IsLegal layout h → IsPrefix h w → count_by is_close w ≡ 0 → ¬ Has (Back s k why.Closed) h
-never_refused layout s k h w legal begins none has =
+-- no event of a kind that was never seen comes before another
+none_before : (p : Event → Bool) (e : Event) (before rest h w : List Event) → h ≡ before ++ e ∷ rest → IsPrefix h w → count_by p w ≡ 0 → ¬ (0 < count_by p before)
+none_before p e before rest h w is begins none some =
+    omega (arith, some, ap (count_by p) is, count_by-append p before (e ∷ rest), ap (count_by p) begins.1, count_by-append p h begins.0, none)
+
+-- where neither a close nor a drain was seen, nothing was refused
+never_refused : (layout : Layout) (s k : ℕ) (cause : Why) (h w : List Event) → IsRefusal cause → IsLegal layout h → IsPrefix h w → count_by is_close w ≡ 0
+    → count_by is_drain w ≡ 0 → ¬ Has (Back s k cause) h
+never_refused layout s k why.Closed h w refusal legal begins closes drains has =
     let a = was_allowed layout (Back s k why.Closed) [] h legal has in
-    let shut : 0 < count_by is_close a.before = a.allowed.2.1 refl in
-    omega (
-      arith,
-      shut,
-      ap (count_by is_close) a.is,
-      count_by-append is_close a.before (Back s k why.Closed ∷ a.rest),
-      ap (count_by is_close) begins.1,
-      count_by-append is_close h begins.0,
-      none,
-    )
+    none_before is_close (Back s k why.Closed) a.before a.rest h w a.is begins closes a.allowed.2.1
+never_refused layout s k why.Draining h w refusal legal begins closes drains has =
+    let a = was_allowed layout (Back s k why.Draining) [] h legal has in
+    none_before is_drain (Back s k why.Draining) a.before a.rest h w a.is begins drains a.allowed.2.1
+never_refused layout s k why.Contended h w refusal legal begins closes drains has = absurd refusal
+never_refused layout s k why.Cancelled h w refusal legal begins closes drains has = absurd refusal
 
 pub surely : (b : Bool) (P Q : Type 0) → MatchBool b P Q → ¬ Q → b ≡ true
 surely true P Q m not = refl
@@ -65,8 +68,8 @@ module _ (plan : Plan) (team : Team) (w : WorkerState Idle) (senders : List Know
   record Sender (s : ℕ) (d : Known) : Type 0 where
     number_is : (get_or senders s d).number ≡ s
     told : own s book.seen ≡ own s (get_or senders s d).seen
-    queued : Follows team.worker.layout.items s false (items_at s plan.own) (own s book.seen)
-    opens : (k : ℕ) → ¬ Has (Back s k why.Closed) (own s book.seen)
+    queued : SendsAll s (items_at s plan.own) (own s book.seen)
+    opens : (k : ℕ) (cause : Why) → IsRefusal cause → ¬ Has (Back s k cause) (own s book.seen)
 
   sender_at : (s : ℕ) (d : Known) → s < plan.senders → Sender s d
   sender_at s d lt =
@@ -82,9 +85,11 @@ module _ (plan : Plan) (team : Team) (w : WorkerState Idle) (senders : List Know
       record {
         number_is = number;
         told = heard;
-        queued = subst (λ (es : List Event). Follows team.worker.layout.items s false (items_at s plan.own) es) (sym (heard ∙ before)) first.queued;
-        opens = λ j has. never_refused now.layout s j now.seen w.seen k.legal k.known (closed_count team.worker.seen w.seen o.met.idle ∙ o.run.open_still)
-            (own_has s (Back s j why.Closed) now.seen (subst (λ (es : List Event). Has (Back s j why.Closed) es) heard has));
+        queued = subst (λ (es : List Event). SendsAll s (items_at s plan.own) es) (sym (heard ∙ before)) first.queued;
+        opens = λ j cause refusal has.
+            never_refused now.layout s j cause now.seen w.seen refusal k.legal k.known (closed_count team.worker.seen w.seen o.met.idle ∙ o.run.unclosed)
+            (count_same is_drain owner_seat drains_own team.worker.seen w.seen o.met.idle ∙ o.run.undrained)
+            (own_has s (Back s j cause) now.seen (subst (λ (es : List Event). Has (Back s j cause) es) heard has));
       }
 
   nobody : Known
@@ -109,7 +114,7 @@ module _ (plan : Plan) (team : Team) (w : WorkerState Idle) (senders : List Know
               (subst (AllByRecursion (IsOfStop team.worker.layout)) (sym (sym (own-append (plan.senders + 1) book.seen p.1.0)
               ∙ (ap (own (plan.senders + 1)) p.1.1 ∙ p.2))) o.run.stops);
         };
-        opens = λ s k lt. (sender_at s nobody lt).opens k;
+        opens = λ s k cause lt. (sender_at s nobody lt).opens k cause;
         unsent = none;
       }
 
@@ -147,7 +152,7 @@ module _ (plan : Plan) (team : Team) (w : WorkerState Idle) (senders : List Know
     legal = legal;
     complete = o.ended.complete;
     queued = was_queued plan.senders plan.own team.worker.layout book.seen is_race;
-    served = (team.worker.seen, prefix_on team.worker.seen w.seen book.seen o.met.begins o.ended.quiet.begins, o.run.open_still, o.run.stopped);
+    served = (team.worker.seen, prefix_on team.worker.seen w.seen book.seen o.met.begins o.ended.quiet.begins, o.run.unclosed, o.run.stopped);
     accepted_is = whole.accepted_is ∙ sym accepted_all;
     ran_is = whole.ran_is ∙ (sym accepted_all
         ∙ ap (λ (ks : List ℕ). length (items_among team.worker.layout ks)) (sym (all_ended team.worker.layout book.seen legal o.ended.complete)));

@@ -1,8 +1,8 @@
 -- Events of a history, and whose they are.
 use Rattle.wq_plan.proofs.Common.{⊎_elim, ◌≡◌, ℕ, zero, suc, ◌+◌, ◌*◌, ◌<◌, ◌≤◌, ◌⊎◌, Bool, true, false, cond, ◌==◌, List, [], ◌∷◌, ◌++◌, inl, inr, refl, sym}
 use Rattle.wq_plan.proofs.Common.{ap, ◌∙◌, subst, arith, append_assoc, eq-eqb, count_by, range_with_len, eqb-true, cases_lt, sum_by-cons, Layout, Event, Hold}
-use Rattle.wq_plan.proofs.Common.{Busy, Push, Back, Take, Close, Begin, End, Chain, ChainBusy, Rest, sets_pending, IsLegal, IsAllowed, seat_of, own, Queues}
-use Rattle.wq_plan.proofs.Common.{passed, pushed, busy, refused, chained, chain_busy, Follows, queueings}
+use Rattle.wq_plan.proofs.Common.{Busy, Push, Back, Take, Close, Begin, End, Chain, ChainBusy, Rest, sets_pending, IsLegal, IsAllowed, seat_of, own, Sends}
+use Rattle.wq_plan.proofs.Common.{Why, IsRefusal, pushed, busy, refused, SendsAll, queueings}
 use Rattle.wq_words.specs.declared.event.Why.TheVariants as why
 use Rattle.wq_words.proofs.Legal.{legal_next}
 use Rattle.wq_plan.proofs.Running.{own_room}
@@ -94,15 +94,7 @@ pub data IsSet (k : ℕ) (h : List Event) : Type 0 where
 set_by : (k : ℕ) (e : Event) (h : List Event) → sets_pending k e ≡ true → Has e h → IsSet k h
 set_by k (Hold t j) h is has = by_hold t (subst (λ (i : ℕ). Has (Hold t i) h) (eqb-true j k is) has)
 set_by k (Chain j) h is has = by_chain (subst (λ (i : ℕ). Has (Chain i) h) (eqb-true j k is) has)
-set_by k (Busy s j) h is has = absurd (cc)
-set_by k (Push s j) h is has = absurd (cc)
-set_by k (Back s j w) h is has = absurd (cc)
-set_by k Take h is has = absurd (cc)
-set_by k Close h is has = absurd (cc)
-set_by k (Begin j) h is has = absurd (cc)
-set_by k (End j) h is has = absurd (cc)
-set_by k (ChainBusy j) h is has = absurd (cc)
-set_by k Rest h is has = absurd (cc)
+set_by k _ h is has = absurd (cc is)
 
 pub busy_set : (layout : Layout) (s k : ℕ) (h : List Event) → IsLegal layout h → Has (Busy s k) h → IsSet k h
 busy_set layout s k h legal has =
@@ -136,78 +128,69 @@ of_two e x y (inr more) = inr (of_one e y more)
 two_numbers : (a : ℕ) (e x y : Event) (es : List Event) → es ≡ x ∷ y ∷ [] → number_of x ≡ a → number_of y ≡ a → Has e es → number_of e ≡ a
 two_numbers a e x y es is one two has = ⊎_elim (λ (i : e ≡ x). ap number_of i ∙ one) (λ (i : e ≡ y). ap number_of i ∙ two) (of_two e x y (subst (Has e) is has))
 
-one_number : (n s a : ℕ) (e : Event) (es : List Event) → Queues n s false a es → Has e es → number_of e ≡ a
-one_number n s a e es (passed ge is) has = absurd (subst (Has e) is has)
-one_number n s a e es (pushed lt opens is) has = two_numbers a e (Hold s a) (Push s a) es is refl refl has
-one_number n s a e es (busy lt opens is) has = ap number_of (of_one e (Busy s a) (subst (Has e) is has))
-one_number n s a e es (refused lt opens is) has = two_numbers a e (Hold s a) (Back s a why.Closed) es is refl refl has
-one_number n s a e es (chained lt shut is) has = absurd (cc)
-one_number n s a e es (chain_busy lt shut is) has = absurd (cc)
+one_number : (s a : ℕ) (e : Event) (es : List Event) → Sends s a es → Has e es → number_of e ≡ a
+one_number s a e es (pushed is) has = two_numbers a e (Hold s a) (Push s a) es is refl refl has
+one_number s a e es (busy is) has = ap number_of (of_one e (Busy s a) (subst (Has e) is has))
+one_number s a e es (refused cause refusal is) has = two_numbers a e (Hold s a) (Back s a cause) es is refl refl has
 
 abbrev pub IsWithin : ℕ → ℕ → ℕ → Type 0
 IsWithin a m k = (a ≤ k) × (k < a + m)
 
-pub row_number : (n s a m : ℕ) (e : Event) (es : List Event) → Follows n s false (range_with_len a m) es → Has e es → IsWithin a m (number_of e)
-row_number n s a zero e es f has = absurd (subst (Has e) f has)
-row_number n s a (suc m) e es f has = elim (has_either e f.0 f.1 (subst (Has e) f.2 has)) [
-  | inl one ↦ let is = one_number n s a e f.0 f.3 one in (omega (arith, is), omega (arith, is))
-  | inr rest ↦ let w = row_number n s (a + 1) m e f.1 f.4 rest in (omega (arith, w.0), omega (arith, w.1))
+pub row_number : (s a m : ℕ) (e : Event) (es : List Event) → SendsAll s (range_with_len a m) es → Has e es → IsWithin a m (number_of e)
+row_number s a zero e es f has = absurd (subst (Has e) f has)
+row_number s a (suc m) e es f has = elim (has_either e f.0 f.1 (subst (Has e) f.2 has)) [
+  | inl one ↦ let is = one_number s a e f.0 f.3 one in (omega (arith, is), omega (arith, is))
+  | inr rest ↦ let w = row_number s (a + 1) m e f.1 f.4 rest in (omega (arith, w.0), omega (arith, w.1))
 ]
 
-apart : (n s a t u k : ℕ) (es : List Event) → Queues n s false a es → Has (Hold t k) es → Has (Busy u k) es → ⊥
-apart n s a t u k es (passed ge is) hold has = subst (Has (Hold t k)) is hold
-apart n s a t u k es (pushed lt opens is) hold has = elim (of_two (Busy u k) (Hold s a) (Push s a) (subst (Has (Busy u k)) is has)) [
+apart : (s a t u k : ℕ) (es : List Event) → Sends s a es → Has (Hold t k) es → Has (Busy u k) es → ⊥
+apart s a t u k es (pushed is) hold has = elim (of_two (Busy u k) (Hold s a) (Push s a) (subst (Has (Busy u k)) is has)) [
   | inl one ↦ let no : Busy u k ≡ Hold s a = one in absurd (cc)
   | inr two ↦ let no : Busy u k ≡ Push s a = two in absurd (cc)
 ]
-apart n s a t u k es (busy lt opens is) hold has =
+apart s a t u k es (busy is) hold has =
     let no : Hold t k ≡ Busy s a = of_one (Hold t k) (Busy s a) (subst (Has (Hold t k)) is hold) in absurd (cc)
-apart n s a t u k es (refused lt opens is) hold has = elim (of_two (Busy u k) (Hold s a) (Back s a why.Closed) (subst (Has (Busy u k)) is has)) [
+apart s a t u k es (refused cause refusal is) hold has = elim (of_two (Busy u k) (Hold s a) (Back s a cause) (subst (Has (Busy u k)) is has)) [
   | inl one ↦ let no : Busy u k ≡ Hold s a = one in absurd (cc)
-  | inr two ↦ let no : Busy u k ≡ Back s a why.Closed = two in absurd (cc)
+  | inr two ↦ let no : Busy u k ≡ Back s a cause = two in absurd (cc)
 ]
-apart n s a t u k es (chained lt shut is) hold has = absurd (cc)
-apart n s a t u k es (chain_busy lt shut is) hold has = absurd (cc)
 
 -- a row has one answer for each number
-pub row_apart : (n s a m t u k : ℕ) (es : List Event) → Follows n s false (range_with_len a m) es → Has (Hold t k) es → Has (Busy u k) es → ⊥
-row_apart n s a zero t u k es f hold has = subst (Has (Hold t k)) f hold
-row_apart n s a (suc m) t u k es f hold has = elim (has_either (Hold t k) f.0 f.1 (subst (Has (Hold t k)) f.2 hold)) [
+pub row_apart : (s a m t u k : ℕ) (es : List Event) → SendsAll s (range_with_len a m) es → Has (Hold t k) es → Has (Busy u k) es → ⊥
+row_apart s a zero t u k es f hold has = subst (Has (Hold t k)) f hold
+row_apart s a (suc m) t u k es f hold has = elim (has_either (Hold t k) f.0 f.1 (subst (Has (Hold t k)) f.2 hold)) [
   | inl one ↦ elim (has_either (Busy u k) f.0 f.1 (subst (Has (Busy u k)) f.2 has)) [
-    | inl two ↦ apart n s a t u k f.0 f.3 one two
-    | inr two ↦ let at : k ≡ a = one_number n s a (Hold t k) f.0 f.3 one in let w = row_number n s (a + 1) m (Busy u k) f.1 f.4 two in
+    | inl two ↦ apart s a t u k f.0 f.3 one two
+    | inr two ↦ let at : k ≡ a = one_number s a (Hold t k) f.0 f.3 one in let w = row_number s (a + 1) m (Busy u k) f.1 f.4 two in
         absurd (omega (arith, at, w.0))
   ]
   | inr one ↦ elim (has_either (Busy u k) f.0 f.1 (subst (Has (Busy u k)) f.2 has)) [
-    | inl two ↦ let at : k ≡ a = one_number n s a (Busy u k) f.0 f.3 two in let w = row_number n s (a + 1) m (Hold t k) f.1 f.4 one in
+    | inl two ↦ let at : k ≡ a = one_number s a (Busy u k) f.0 f.3 two in let w = row_number s (a + 1) m (Hold t k) f.1 f.4 one in
         absurd (omega (arith, at, w.0))
-    | inr two ↦ row_apart n s (a + 1) m t u k f.1 f.4 one two
+    | inr two ↦ row_apart s (a + 1) m t u k f.1 f.4 one two
   ]
 ]
 
-one_pushed : (n s a : ℕ) (es : List Event) → a < n → ¬ Has (Busy s a) es → ¬ Has (Back s a why.Closed) es → Queues n s false a es
+one_pushed : (s a : ℕ) (es : List Event) → ¬ Has (Busy s a) es → ((cause : Why) → IsRefusal cause → ¬ Has (Back s a cause) es) → Sends s a es
     → es ≡ Hold s a ∷ Push s a ∷ []
-one_pushed n s a es lt free opens (passed ge is) = absurd (omega (arith, lt, ge))
-one_pushed n s a es lt free opens (pushed low so is) = is
-one_pushed n s a es lt free opens (busy low so is) = absurd (free (subst (Has (Busy s a)) (sym is) (inl refl)))
-one_pushed n s a es lt free opens (refused low so is) = absurd (opens (subst (Has (Back s a why.Closed)) (sym is) (inr (inl refl))))
-one_pushed n s a es lt free opens (chained low so is) = absurd (cc)
-one_pushed n s a es lt free opens (chain_busy low so is) = absurd (cc)
+one_pushed s a es free opens (pushed is) = is
+one_pushed s a es free opens (busy is) = absurd (free (subst (Has (Busy s a)) (sym is) (inl refl)))
+one_pushed s a es free opens (refused cause refusal is) =
+    absurd (opens cause refusal (subst (Has (Back s a cause)) (sym is) (inr (inl refl))))
 
 pub has_right : (e : Event) (xs ys : List Event) → Has e ys → Has e (xs ++ ys)
 has_right e [] ys h = h
 has_right e (x ∷ xs) ys h = inr (has_right e xs ys h)
 
--- where each item was free and the queue open, each was pushed
-pub row_pushed : (n s a m : ℕ) (es : List Event) → a + m ≤ n → ((k : ℕ) → ¬ Has (Busy s k) es) → ((k : ℕ) → ¬ Has (Back s k why.Closed) es)
-    → Follows n s false (range_with_len a m) es → es ≡ queueings s (range_with_len a m)
-row_pushed n s a zero es room free opens f = f
-row_pushed n s a (suc m) es room free opens f =
+-- where each item was free and none was refused, each was pushed
+pub row_pushed : (s a m : ℕ) (es : List Event) → ((k : ℕ) → ¬ Has (Busy s k) es) → ((k : ℕ) (cause : Why) → IsRefusal cause → ¬ Has (Back s k cause) es)
+    → SendsAll s (range_with_len a m) es → es ≡ queueings s (range_with_len a m)
+row_pushed s a zero es free opens f = f
+row_pushed s a (suc m) es free opens f =
     let in_first : (e : Event) → Has e f.0 → Has e es = λ e h. subst (Has e) (sym f.2) (has_left e f.0 f.1 h) in
     let in_rest : (e : Event) → Has e f.1 → Has e es = λ e h. subst (Has e) (sym f.2) (has_right e f.0 f.1 h) in
-    let one = one_pushed n s a f.0 (omega (arith, room)) (λ h. free a (in_first (Busy s a) h)) (λ h. opens a (in_first (Back s a why.Closed) h)) f.3 in
-    let rest = row_pushed n s (a + 1) m f.1 (omega (arith, room)) (λ k h. free k (in_rest (Busy s k) h))
-    (λ k h. opens k (in_rest (Back s k why.Closed) h)) f.4 in
+    let one = one_pushed s a f.0 (λ h. free a (in_first (Busy s a) h)) (λ cause refusal h. opens a cause refusal (in_first (Back s a cause) h)) f.3 in
+    let rest = row_pushed s (a + 1) m f.1 (λ k h. free k (in_rest (Busy s k) h)) (λ k cause refusal h. opens k cause refusal (in_rest (Back s k cause) h)) f.4 in
     f.2 ∙ (λ i. one i ++ rest i)
 
 -- a number of the rows of two senders is a number of one

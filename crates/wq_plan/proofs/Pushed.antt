@@ -2,7 +2,7 @@
 use Rattle.wq_plan.proofs.Common.{nat_lt, ◌≡◌, ℕ, ◌+◌, ◌*◌, ◌<◌, ◌≤◌, Bool, false, cond, List, [], ◌∷◌, ◌++◌, length, inl, inr, refl, sym, ap, ◌∙◌, subst}
 use Rattle.wq_plan.proofs.Common.{arith, eq-eqb, length-append, count_by, AllByRecursion, cases_lt, lt-ltb, le-ltb, filter_map-append, filter-append}
 use Rattle.wq_plan.proofs.Common.{sum_by-cons, Layout, Event, Hold, Busy, Push, Back, Take, Close, Begin, End, Chain, ChainBusy, Rest, stop_number, accepted_by}
-use Rattle.wq_plan.proofs.Common.{accepted, IsLegal, seat_of, own, is_queued_by, is_chain, items_among, Follows, items_among-item, items_among-other}
+use Rattle.wq_plan.proofs.Common.{accepted, IsLegal, seat_of, own, is_queued_by, is_chain, items_among, SendsAll, items_among-item, items_among-other}
 use Rattle.wq_plan.proofs.Common.{is_queued_below, IsLayoutOf, items_at, IsOfStop, true}
 use Rattle.wq_plan.proofs.Running.{own_room}
 use Rattle.wq_plan.proofs.Events.{Has, has_own, push_seat, row_number, IsWithin}
@@ -11,7 +11,7 @@ use Rattle.wq_plan.proofs.Events.{Has, has_own, push_seat, row_number, IsWithin}
 pub record IsShared (n m : ℕ) (layout : Layout) (h : List Event) : Type 0 where
   pub sized : IsLayoutOf n m layout
   pub legal : IsLegal layout h
-  pub queued : (s : ℕ) → s < n → Follows layout.items s false (items_at s m) (own s h)
+  pub queued : (s : ℕ) → s < n → SendsAll s (items_at s m) (own s h)
   pub unpushed : count_by (is_queued_by n) h ≡ 0
   pub unchained : count_by is_chain h ≡ 0
   pub stops : AllByRecursion (IsOfStop layout) (own (n + 1) h)
@@ -60,7 +60,7 @@ module _ (n m : ℕ) (layout : Layout) (h : List Event) (r : IsShared n m layout
     where
       each : Whose n t → length (items_among layout (k ∷ [])) ≡ cond (nat_lt t n) 1 0
       each (plans low) =
-          let w = row_number layout.items t (t * m) m (Push t k) (own t h) (r.queued t low) (has_own (Push t k) h has) in
+          let w = row_number t (t * m) m (Push t k) (own t h) (r.queued t low) (has_own (Push t k) h has) in
           ap length (items_among-item layout k (below_items t k low w)) ∙ sym (ap (λ (b : Bool). cond b 1 0) (lt-ltb t n low))
       each (workers is) = omega (
         arith,
@@ -72,15 +72,7 @@ module _ (n m : ℕ) (layout : Layout) (h : List Event) (r : IsShared n m layout
           let past : n ≤ t = omega (arith, is) in
           ap length (items_among-other layout k (stop_high k (of_stop (Push t k) is has))) ∙ sym (ap (λ (b : Bool). cond b 1 0) (le-ltb t n past))
   agree (Chain k) has = absurd (omega (arith, has_counted is_chain (Chain k) h refl has, r.unchained))
-  agree (Hold s k) has = refl
-  agree (Busy s k) has = refl
-  agree (Back s k w) has = refl
-  agree Take has = refl
-  agree Close has = refl
-  agree (Begin k) has = refl
-  agree (End k) has = refl
-  agree (ChainBusy k) has = refl
-  agree Rest has = refl
+  agree _ has = refl
 
   items_counted : (es : List Event) → ((e : Event) → Has e es → length (items_among layout (accepted (e ∷ []))) ≡ cond (is_queued_below n e) 1 0)
       → length (items_among layout (accepted es)) ≡ count_by (is_queued_below n) es

@@ -1,16 +1,16 @@
 -- What a sender's thread adds.
-use Rattle.wq_plan.proofs.Common.{◌≡◌, ◌≢◌, ℕ, zero, suc, ◌+◌, ◌*◌, ◌-◌, ◌<◌, ◌≤◌, false, List, [], ◌∷◌, ◌++◌, length, refl, sym, ap, ◌∙◌, subst, arith}
-use Rattle.wq_plan.proofs.Common.{length-append, AllByRecursion, range_with_len, append-nil, Layout, Event, stop_number, Grows, Known, Sees, Queues, pushed}
-use Rattle.wq_plan.proofs.Common.{busy, refused, HasQueued, IsOfStop, IsInVain, HasMade, HasStopped, IsStopAnswer}
+use Rattle.wq_plan.proofs.Common.{◌≡◌, ◌≢◌, ℕ, zero, suc, ◌+◌, ◌*◌, ◌-◌, ◌<◌, ◌≤◌, List, [], ◌∷◌, ◌++◌, length, refl, sym, ap, ◌∙◌, subst, arith}
+use Rattle.wq_plan.proofs.Common.{length-append, append_assoc, AllByRecursion, range_with_len, append-nil, Layout, Event, stop_number, Grows, Known, Sees, Sends}
+use Rattle.wq_plan.proofs.Common.{SendsAll, pushed, busy, refused, HasQueued, IsOfStop, IsInVain, HasMade, HasStopped, IsStopAnswer}
 use Rattle.wq_words.specs.declared.answer.Answer.{Answer}
 use Rattle.wq_words.specs.declared.answer.Answer.TheVariants as answer
+use Rattle.wq_words.specs.declared.event.Why.TheVariants as why
 use Rattle.wq_live.specs.Answers.{Answers}
 use Rattle.wq_live.proofs.Growing.{grows_on}
 use Rattle.wq_live.proofs.Sends.{same_none, same_on}
-use Rattle.wq_worker.proofs.Follow.{follows_push}
 use Rattle.wq_words.proofs.Seen.{grows_none as grows_still}
 
-one_queued : (k n : ℕ) (es : List Event) (old new : Known) → Queues old.layout.items old.number false k es → Sees es n old new → HasQueued (k ∷ []) old new
+one_queued : (k n : ℕ) (es : List Event) (old new : Known) → Sends old.number k es → Sees es n old new → HasQueued (k ∷ []) old new
 one_queued k n es old new q s = record {
   same = s.same;
   events = es;
@@ -18,11 +18,18 @@ one_queued k n es old new q s = record {
   grows = record { new = s.grows.new; is = s.grows.is; mine = s.grows.mine; theirs = omega arith };
 }
 
-pub queued_one : (k : ℕ) (a : Answer) (old new : Known) → k < old.layout.items → Answers k 0 a old new → a ≢ answer.Contended → HasQueued (k ∷ []) old new
-queued_one k (answer.Queued first wakes) old new lt h not = one_queued k 0 _ old new (pushed lt refl refl) h.0
-queued_one k answer.Pending old new lt h not = one_queued k 0 _ old new (busy lt refl refl) h
-queued_one k answer.Closed old new lt h not = one_queued k 0 _ old new (refused lt refl refl) h
-queued_one k answer.Contended old new lt h not = absurd (not refl)
+pub queued_one : (k : ℕ) (a : Answer) (old new : Known) → Answers k 0 a old new → a ≢ answer.Contended → HasQueued (k ∷ []) old new
+queued_one k (answer.Queued first wakes) old new h not = one_queued k 0 _ old new (pushed refl) h.0
+queued_one k answer.Pending old new h not = one_queued k 0 _ old new (busy refl) h
+queued_one k answer.Closed old new h not = one_queued k 0 _ old new (refused why.Closed tt refl) h
+queued_one k answer.Contended old new h not = absurd (not refl)
+queued_one k answer.Draining old new h not = one_queued k 0 _ old new (refused why.Draining tt refl) h.0
+
+-- one number more
+sends_push : (s : ℕ) (ks : List ℕ) (k : ℕ) (es fs : List Event) → SendsAll s ks es → Sends s k fs → SendsAll s (ks ++ k ∷ []) (es ++ fs)
+sends_push s [] k es fs t q = (fs, [], ap (λ (z : List Event). z ++ fs) t ∙ sym (append-nil fs), q, refl)
+sends_push s (j ∷ ks) k es fs t q =
+    (t.0, t.1 ++ fs, ap (λ (z : List Event). z ++ fs) t.2 ∙ append_assoc t.0 t.1 fs, t.3, sends_push s ks k t.1 fs t.4 q)
 
 pub queued_none : (a : Known) → HasQueued [] a a
 queued_none a = record { same = same_none a; events = []; queued = refl; grows = grows_still a.number a.seen }
@@ -31,13 +38,11 @@ pub queued_more : (ks : List ℕ) (k : ℕ) (a b c : Known) → HasQueued ks a b
 queued_more ks k a b c x y =
     let fs = y.queued.0 in
     let all : y.events ≡ fs = y.queued.2 ∙ (ap (λ (z : List Event). fs ++ z) y.queued.4 ∙ append-nil fs) in
-    let q : Queues a.layout.items a.number false k y.events = subst (λ (z : List Event). Queues a.layout.items a.number false k z) (sym all)
-    (subst (λ (n : ℕ). Queues a.layout.items n false k fs) x.same.number_is
-    (subst (λ (l : Layout). Queues l.items b.number false k fs) x.same.layout_is y.queued.3)) in
+    let q : Sends a.number k y.events = subst (λ (z : List Event). Sends a.number k z) (sym all) (subst (λ (n : ℕ). Sends n k fs) x.same.number_is y.queued.3) in
     record {
       same = same_on a b c x.same y.same;
       events = x.events ++ y.events;
-      queued = follows_push a.layout.items a.number false ks k x.events y.events x.queued q;
+      queued = sends_push a.number ks k x.events y.events x.queued q;
       grows = grows_on a.number x.events y.events 0 0 0 a.seen b.seen c.seen (omega arith) x.grows
           (subst (λ (n : ℕ). Grows n y.events 0 b.seen c.seen) x.same.number_is y.grows);
     }
@@ -75,6 +80,7 @@ stopped_one tries (answer.Queued first wakes) old new h = made_one IsOfStop 0 _ 
 stopped_one tries answer.Pending old new h = made_one IsOfStop 0 _ old new (refl, tt) (omega arith) h
 stopped_one tries answer.Closed old new h = made_one IsOfStop 0 _ old new (refl, (refl, tt)) (omega arith) h
 stopped_one tries answer.Contended old new h = made_one IsOfStop tries _ old new (refl, (refl, tt)) (omega arith) h
+stopped_one tries answer.Draining old new h = made_one IsOfStop 0 _ old new (refl, (refl, tt)) (omega arith) h.0
 
 vain_one : (tries : ℕ) (a : Answer) (old new : Known) → a ≡ answer.Contended → Answers (stop_number old.layout) tries a old new → HasMade IsInVain 2 old new
 vain_one tries a old new is h =

@@ -1,13 +1,21 @@
 -- A team whose threads have ended.
 use Rattle.std.proofs.lemmas.Nat.{mul-le}
-use Rattle.wq_plan.proofs.Common.{◌≡◌, ℕ, suc, ◌+◌, ◌*◌, ◌^◌, ◌<◌, ◌≤◌, false, List, [], ◌++◌, length, get_or, sym, ap, ◌∙◌, subst, arith, count_by}
-use Rattle.wq_plan.proofs.Common.{AllByRecursion, QueueId, Layout, Event, IsRunning, is_close, owner_seat, own, Grows, closed_count, begun_same, Known}
-use Rattle.wq_plan.proofs.Common.{new_sender, is_chain, is_chain_busy, Follows, Plan, Team, IsLayoutOf, IsNewTeam, items_at, HasQueued, IsOfStop, HasStopped}
+use Rattle.wq_plan.proofs.Common.{◌≡◌, ℕ, suc, ◌+◌, ◌*◌, ◌^◌, ◌<◌, ◌≤◌, List, [], ◌++◌, length, get_or, sym, ap, ◌∙◌, subst, arith, count_by}
+use Rattle.wq_plan.proofs.Common.{AllByRecursion, QueueId, Layout, Event, IsRunning, IsShut, is_close, is_drain, owner_seat, own, Grows, closed_count, count_same, begun_same, Known}
+use Rattle.wq_plan.proofs.Common.{new_sender, is_chain, is_chain_busy, SendsAll, Plan, Team, IsLayoutOf, IsNewTeam, items_at, HasQueued, IsOfStop, HasStopped}
 use Rattle.wq_plan.proofs.Common.{HasServed, HasRaced, length-new_senders, get_or-new_senders, AllQueued, IsQueuer}
+use Rattle.wq_words.proofs.ShutOwn.{shut_same}
+use Rattle.wq_worker.proofs.Phase.{drains_own}
 use Rattle.wq_plan.proofs.Serving.{chains_same, asks_same}
 
-pub untouched_open : (h : List Event) → own owner_seat h ≡ [] → count_by is_close h ≡ 0
-untouched_open h none = closed_count [] h none
+pub untouched_unclosed : (h : List Event) → own owner_seat h ≡ [] → count_by is_close h ≡ 0
+untouched_unclosed h none = closed_count [] h none
+
+pub untouched_undrained : (h : List Event) → own owner_seat h ≡ [] → count_by is_drain h ≡ 0
+untouched_undrained h none = count_same is_drain owner_seat drains_own [] h none
+
+pub untouched_open : (h : List Event) → own owner_seat h ≡ [] → ¬ IsShut h
+untouched_open h none shut = let never : IsShut [] = shut_same h [] (sym none) shut in omega (arith, never)
 
 pub untouched_idle : (h : List Event) → own owner_seat h ≡ [] → ¬ IsRunning h
 untouched_idle h none runs = omega (arith, runs, ap (length {A = ℕ}) (begun_same [] h none))
@@ -46,9 +54,8 @@ queuer m i q l a b at h =
       number_is = h.same.number_is ∙ number;
       queue_is = h.same.queue_is ∙ ap (λ (k : Known). k.queue) at;
       layout_is = h.same.layout_is ∙ size;
-      queued = subst (λ (k : Layout). Follows k.items i false (items_at i m) (own i b.seen)) size
-          (subst (λ (n : ℕ). Follows a.layout.items n false (items_at n m) (own n b.seen)) number
-          (subst (λ (es : List Event). Follows a.layout.items a.number false (items_at a.number m) es) (sym mine) h.queued));
+      queued = subst (λ (n : ℕ). SendsAll n (items_at n m) (own n b.seen)) number
+          (subst (λ (es : List Event). SendsAll a.number (items_at a.number m) es) (sym mine) h.queued);
     }
 
 pub has_raced : (plan : Plan) (old new : Team) → IsNewTeam plan old → HasServed old.worker new.worker
@@ -73,7 +80,8 @@ has_raced plan old new n served all stopped =
       unsent = subst (λ (c : ℕ). own c new.worker.seen ≡ []) n.number_is (served.quiet.unsent ∙ n.unsent);
       unchained = served.quiet.unchained ∙ untouched_unchained old.worker.seen n.untouched;
       unasked = served.quiet.unasked ∙ untouched_unasked old.worker.seen n.untouched;
-      open_still = served.closes_is ∙ untouched_open old.worker.seen n.untouched;
+      unclosed = served.closes_is ∙ untouched_unclosed old.worker.seen n.untouched;
+      undrained = served.drains_is ∙ untouched_undrained old.worker.seen n.untouched;
       stopped = served.stopped;
       idle = served.idle;
       legal = served.legal;

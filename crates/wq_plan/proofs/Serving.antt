@@ -1,6 +1,6 @@
 -- A worker whose work asks for nothing adds the owner's takes, begins and ends alone.
 use Rattle.wq_plan.proofs.Common.{◌≡◌, ◌≢◌, ℕ, ◌+◌, ◌==◌, List, [], ◌∷◌, ◌++◌, length, refl, sym, ap, ◌∙◌, subst, arith, append_assoc, filter, count_by}
-use Rattle.wq_plan.proofs.Common.{append-nil, filter_map-append, Event, Close, End, IsRunning, is_close, shut, begun, ended, ended_by, stop_number, IsLegal}
+use Rattle.wq_plan.proofs.Common.{append-nil, filter_map-append, Event, Close, End, IsRunning, is_close, is_drain, shut, begun, ended, ended_by, stop_number, IsLegal}
 use Rattle.wq_plan.proofs.Common.{IsComplete, owner_seat, seat_of, own, count_same, is_chain, is_chain_busy, is_ours, taking, Follows, WorkerState, Moves}
 use Rattle.wq_plan.proofs.Common.{count_by-append, quiet_taking, Idle, BookState, IsLedgerOf, HasServed, HasGoneOn, HasEnded, or_parts, chain_own}
 use Rattle.wq_plan.proofs.Common.{chain_busy_own, IsSameWorker, prefix_self, prefix_on, worker_still, worker_on, moves_same, own_more}
@@ -39,22 +39,31 @@ quiet_on a b w same x y = record {
   unasked = y.unasked ∙ x.unasked;
 }
 
--- the same worker, which queued nothing, closed so often, and runs nothing
+-- the same worker, which queued nothing, closed so often, began no drain, and runs nothing
 pub record Plain (n : ℕ) (a b : WorkerState Idle) : Type 0 where
   pub same : IsSameWorker a b
   pub quiet : QueuesNothing a.number a.seen b.seen
   pub closes_is : count_by is_close b.seen ≡ count_by is_close a.seen + n
+  pub drains_is : count_by is_drain b.seen ≡ count_by is_drain a.seen
   pub idle : ¬ IsRunning b.seen
   pub legal : IsLegal a.layout a.seen → IsLegal b.layout b.seen
 
 pub plain_still : (a : WorkerState Idle) → ¬ IsRunning a.seen → Plain 0 a a
-plain_still a idle = record { same = worker_still a; quiet = quiet_still a.number a.seen; closes_is = omega arith; idle = idle; legal = λ legal. legal }
+plain_still a idle = record {
+  same = worker_still a;
+  quiet = quiet_still a.number a.seen;
+  closes_is = omega arith;
+  drains_is = refl;
+  idle = idle;
+  legal = λ legal. legal;
+}
 
 pub plain_on : (m n : ℕ) (a b c : WorkerState Idle) → Plain m a b → Plain n b c → Plain (m + n) a c
 plain_on m n a b c x y = record {
   same = worker_on a b c x.same y.same;
   quiet = quiet_on a b c.seen x.same x.quiet y.quiet;
   closes_is = omega (arith, x.closes_is, y.closes_is);
+  drains_is = y.drains_is ∙ x.drains_is;
   idle = y.idle;
   legal = λ legal. y.legal (x.legal legal);
 }
@@ -75,6 +84,7 @@ moves_plain xs n a b s idle m =
         unasked = omega (arith, ap (count_by is_chain_busy) m.adds.is, count_by-append is_chain_busy a.seen new, asks);
       };
       closes_is = omega (arith, (owner_of_both a.number xs 0 a.seen b.seen m.adds).closes, s.closes_is);
+      drains_is = omega (arith, (owner_of_both a.number xs 0 a.seen b.seen m.adds).drains, s.undrained);
       idle = idle;
       legal = λ legal. m.legal;
     }
@@ -99,7 +109,7 @@ module _ (may : Idle → ℕ → List ℕ → Idle → Type 0) (asks_nothing : (
       let s = started a k f b.work es not idle st in
       let no_follow : fs ≡ [] = subst (λ (ks : List ℕ). Follows a.layout.items a.number (shut a.seen) ks fs) s.none told in
       let still : Still a.number 0 (es ++ (fs ++ End k ∷ [])) = still_on a.number 0 0 es (fs ++ End k ∷ []) s.still
-      (subst (λ (z : List Event). Still a.number 0 (z ++ End k ∷ [])) (sym no_follow) (still_one a.number 0 (End k) not refl refl refl refl)) in
+      (subst (λ (z : List Event). Still a.number 0 (z ++ End k ∷ [])) (sym no_follow) (still_one a.number 0 (End k) not refl refl refl refl refl)) in
       moves_plain (es ++ (fs ++ End k ∷ [])) 0 a b still rests moved
 
   nothing_plain : (a b : WorkerState Idle) → a.number ≢ owner_seat → ¬ IsRunning a.seen → Moves (taking a.seen) 0 a b → Plain 0 a b
@@ -154,12 +164,13 @@ module _ (may : Idle → ℕ → List ℕ → Idle → Type 0) (asks_nothing : (
         same = all.same;
         quiet = all.quiet;
         closes_is = omega (arith, all.closes_is);
+        drains_is = all.drains_is;
         stopped = (last.0, last.1 ∙ ap (λ (k : ℕ). last.0 ++ k ∷ []) number);
         idle = all.idle;
         legal = legal_ends s.stops.0 s.last b s.stops.2;
       }
 
-  -- a close, where the queue was open
+  -- a close, where the queue was not closed
   pub closes_plain : (a b : WorkerState Idle) → a.number ≢ owner_seat → ¬ IsRunning a.seen → Closes a b → (n : ℕ) × Plain n a b
   closes_plain a b not idle (was_closed is same) = (0, subst (λ (c : WorkerState Idle). Plain 0 a c) (sym same) (plain_still a idle))
   closes_plain a b not idle (closes opens m work left) =
@@ -167,7 +178,7 @@ module _ (may : Idle → ℕ → List ℕ → Idle → Type 0) (asks_nothing : (
       let begun_is = ap (length {A = ℕ}) (o.begun_is ∙ append-nil (begun a.seen)) in
       let ended_is = ap (length {A = ℕ}) (o.ended_is ∙ append-nil (ended a.seen)) in (
         1,
-        moves_plain (Close ∷ []) 1 a b (still_one a.number 1 Close not refl refl refl refl)
+        moves_plain (Close ∷ []) 1 a b (still_one a.number 1 Close not refl refl refl refl refl)
             (λ (runs : IsRunning b.seen). idle (omega (arith, runs, begun_is, ended_is))) m,
       )
 

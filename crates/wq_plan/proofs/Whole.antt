@@ -1,9 +1,7 @@
 -- A history in which the seats of a race did what they do.
 use Rattle.wq_plan.proofs.Common.{◌≡◌, ℕ, zero, suc, ◌+◌, ◌*◌, ◌<◌, ◌≤◌, Bool, cond, List, [], ◌∷◌, length, refl, sym, ap, ◌∙◌, subst, arith, eq-eqb, count_by}
 use Rattle.wq_plan.proofs.Common.{length-range_with_len, sum_by-cons, Layout, Event, Hold, Busy, Push, Back, accepted, seat_of, own, count_own, is_queued_by}
-use Rattle.wq_plan.proofs.Common.{is_chain, items_among, is_queued_below, below_more, below_none, items_at, queueings, Chain}
-use Rattle.wq_words.specs.declared.event.Why.TheVariants as why
-use Rattle.wq_plan.proofs.Running.{own_room}
+use Rattle.wq_plan.proofs.Common.{is_chain, items_among, is_queued_below, below_more, below_none, items_at, queueings, Chain, Why, IsRefusal}
 use Rattle.wq_plan.proofs.Pushed.{IsShared, has_counted, Whose, plans, workers, programs, whose, seat_few, of_stop, below_items, stop_high, items_pushed}
 use Rattle.wq_words.proofs.Counting.{queued_own as push_own}
 use Rattle.wq_plan.proofs.Events.{Has, has_own, own_has, busy_set, IsSet, by_hold, by_chain, hold_seat, row_number, IsWithin, row_apart, row_pushed, same_row}
@@ -11,7 +9,7 @@ use Rattle.wq_plan.proofs.Events.{Has, has_own, own_has, busy_set, IsSet, by_hol
 -- n senders queued m items each, and no seat but theirs, the program's and the owner's made an event
 pub record IsRace (n m : ℕ) (layout : Layout) (h : List Event) : Type 0 where
   pub shared : IsShared n m layout h
-  pub opens : (s k : ℕ) → s < n → ¬ Has (Back s k why.Closed) (own s h)
+  pub opens : (s k : ℕ) (cause : Why) → s < n → IsRefusal cause → ¬ Has (Back s k cause) (own s h)
   pub unsent : own n h ≡ []
 
 pub queued_own : (s : ℕ) (h : List Event) → count_by (is_queued_by s) h ≡ count_by (is_queued_by s) (own s h)
@@ -38,13 +36,13 @@ module _ (n m : ℕ) (layout : Layout) (h : List Event) (r : IsRace n m layout h
   was_free s k lt has = each (busy_set layout s k h r.shared.legal (own_has s (Busy s k) h has))
     where
       mine : IsWithin (s * m) m k
-      mine = row_number layout.items s (s * m) m (Busy s k) (own s h) (r.shared.queued s lt) has
+      mine = row_number s (s * m) m (Busy s k) (own s h) (r.shared.queued s lt) has
 
       by : (t : ℕ) → Has (Hold t k) h → Whose n t → ⊥
       by t hold (plans low) =
           let at = has_own (Hold t k) h hold in
-          let same : s ≡ t = same_row s t m k mine (row_number layout.items t (t * m) m (Hold t k) (own t h) (r.shared.queued t low) at) in
-          row_apart layout.items s (s * m) m t s k (own s h) (r.shared.queued s lt) (subst (λ (c : ℕ). Has (Hold t k) (own c h)) (sym same) at) has
+          let same : s ≡ t = same_row s t m k mine (row_number t (t * m) m (Hold t k) (own t h) (r.shared.queued t low) at) in
+          row_apart s (s * m) m t s k (own s h) (r.shared.queued s lt) (subst (λ (c : ℕ). Has (Hold t k) (own c h)) (sym same) at) has
       by t hold (workers is) = nothing_sent (Hold t k) is hold
       by t hold (programs is) = let high = stop_high n m layout h r.shared k (of_stop n m layout h r.shared (Hold t k) is hold) in
           omega (arith, high, below_items n m layout h r.shared s k lt mine)
@@ -53,13 +51,9 @@ module _ (n m : ℕ) (layout : Layout) (h : List Event) (r : IsRace n m layout h
       each (by_hold t hold) = by t hold (whose n t (seat_few n m layout h r.shared t (hold_seat layout t k h r.shared.legal hold)))
       each (by_chain chain) = omega (arith, has_counted is_chain (Chain k) h refl chain, r.shared.unchained)
 
-  -- each sender's items were found free on an open queue
+  -- each sender's items were found free, and none was refused
   pub was_queued : (s : ℕ) → s < n → own s h ≡ queueings s (items_at s m)
-  was_queued s lt = row_pushed layout.items s (s * m) m (own s h) (omega (
-    arith,
-    own_room s n m lt,
-    r.shared.sized.items_is,
-  )) (λ k. was_free s k lt) (λ k. r.opens s k lt) (r.shared.queued s lt)
+  was_queued s lt = row_pushed s (s * m) m (own s h) (λ k. was_free s k lt) (λ k cause. r.opens s k cause lt) (r.shared.queued s lt)
 
   queued_counted : (s : ℕ) → s < n → count_by (is_queued_by s) h ≡ m
   queued_counted s lt = queued_own s h ∙ (ap (count_by (is_queued_by s)) (was_queued s lt) ∙ (pushes s (items_at s m) ∙ length-range_with_len (s * m) m))

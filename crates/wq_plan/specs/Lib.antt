@@ -1,5 +1,6 @@
 pub mod Plan
 pub mod Team
+pub mod Sends
 pub mod Race
 pub mod PlanText
 pub mod Outcome

@@ -1,5 +1,5 @@
 -- What the seats of a race have done.
-use Rattle.std.specs.Prelude.{◌≡◌, ℕ, ◌+◌, ◌*◌, ◌^◌, ◌<◌, ◌≤◌, false, List, [], ◌∷◌, ◌++◌, length, count_by, slice_index_or}
+use Rattle.std.specs.Prelude.{◌≡◌, ℕ, ◌+◌, ◌*◌, ◌^◌, ◌<◌, ◌≤◌, List, [], ◌∷◌, ◌++◌, length, count_by, slice_index_or}
 use Rattle.std.specs.List.{AllByRecursion, range_with_len}
 use Rattle.std.specs.declared.thread.PromisedHandle.{PromisedHandle}
 use mathlib.Core.List.{IsPrefix}
@@ -8,7 +8,7 @@ use Rattle.wq_words.specs.declared.event.Event.{Event}
 use Rattle.wq_words.specs.declared.event.Event.TheVariants.{Hold, Busy, Push, Back}
 use Rattle.wq_words.specs.declared.event.Why.TheVariants as why
 use Rattle.wq_words.specs.Numbers.{stop_number}
-use Rattle.wq_words.specs.History.{IsRunning, is_close, ended}
+use Rattle.wq_words.specs.History.{IsRunning, is_close, is_drain, ended}
 use Rattle.wq_words.specs.Legal.{IsLegal}
 use Rattle.wq_words.specs.Seen.{own, Grows}
 use Rattle.wq_live.specs.declared.sender.Sender.{Sender}
@@ -16,23 +16,23 @@ use Rattle.wq_live.specs.Known.{QueueId, Known, IsSame}
 use Rattle.wq_live.specs.Answers.{Answers}
 use Rattle.wq_words.specs.declared.answer.Answer.{Answer}
 use Rattle.wq_words.specs.Counting.{is_chain, is_chain_busy}
-use Rattle.wq_worker.specs.Follow.{Follows}
 use Rattle.wq_worker.specs.State.{WorkerState, IsSameWorker}
 use Rattle.wq_plan.specs.declared.idle.Idle.{Idle}
 use Rattle.wq_plan.specs.declared.plan.Plan.{Plan}
 use Rattle.wq_plan.specs.declared.team.Team.{Team}
 use Rattle.wq_plan.specs.declared.race.QueuesOwn.{QueuesOwn}
 use Rattle.wq_plan.specs.Plan.{IsLayoutOf}
+use Rattle.wq_plan.specs.Sends.{SendsAll}
 
 -- the items of the sender s, where each has so many
 abbrev pub items_at : ℕ → ℕ → List ℕ
 items_at s own = range_with_len (s * own) own
 
--- a sender queued these items, once each and in this order: each was pushed, found pending, or refused by a closed queue
+-- a sender queued these items, once each and in this order
 pub record HasQueued (items : List ℕ) (old new : Known) : Type 0 where
   pub same : IsSame old new
   pub events : List Event
-  pub queued : Follows old.layout.items old.number false items events
+  pub queued : SendsAll old.number items events
   pub grows : Grows old.number events 0 old.seen new.seen
 
 -- the event is a sender's, and of the stop item
@@ -78,12 +78,13 @@ pub record QueuesNothing (s : ℕ) (old new : List Event) : Type 0 where
   pub unchained : count_by is_chain new ≡ count_by is_chain old
   pub unasked : count_by is_chain_busy new ≡ count_by is_chain_busy old
 
--- A worker whose work asks for nothing served: its sender made no event, its owner chained nothing and did not close the
--- queue, the stop item ended last, and nothing runs.
+-- A worker whose work asks for nothing served: its sender made no event, its owner chained nothing and neither closed nor
+-- drained the queue, the stop item ended last, and nothing runs.
 pub record HasServed (old new : WorkerState Idle) : Type 0 where
   pub same : IsSameWorker old new
   pub quiet : QueuesNothing old.number old.seen new.seen
   pub closes_is : count_by is_close new.seen ≡ count_by is_close old.seen
+  pub drains_is : count_by is_drain new.seen ≡ count_by is_drain old.seen
   pub stopped : EndsWithStop new.layout new.seen
   pub idle : ¬ IsRunning new.seen
   pub legal : IsLegal new.layout new.seen
@@ -104,7 +105,7 @@ pub record IsQueuer (own_items : ℕ) (queue : QueueId) (layout : Layout) (i : �
   pub number_is : s.number ≡ i
   pub queue_is : s.queue ≡ queue
   pub layout_is : s.layout ≡ layout
-  pub queued : Follows layout.items i false (items_at i own_items) (own i s.seen)
+  pub queued : SendsAll i (items_at i own_items) (own i s.seen)
 
 -- A team whose threads have ended: each of the plan's senders queued its own items, the program's tried to queue the stop
 -- item, and the worker served an open queue until the stop item had ended.
@@ -117,7 +118,8 @@ pub record HasRaced (plan : Plan) (team : Team) : Type 0 where
   pub unsent : own plan.senders team.worker.seen ≡ []
   pub unchained : count_by is_chain team.worker.seen ≡ 0
   pub unasked : count_by is_chain_busy team.worker.seen ≡ 0
-  pub open_still : count_by is_close team.worker.seen ≡ 0
+  pub unclosed : count_by is_close team.worker.seen ≡ 0
+  pub undrained : count_by is_drain team.worker.seen ≡ 0
   pub stopped : EndsWithStop team.worker.layout team.worker.seen
   pub idle : ¬ IsRunning team.worker.seen
   pub legal : IsLegal team.worker.layout team.worker.seen

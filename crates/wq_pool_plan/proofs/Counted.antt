@@ -1,21 +1,18 @@
 -- Counts of histories.
-use Rattle.wq_pool_plan.proofs.Common.{◌≡◌, ℕ, ◌+◌, ◌*◌, ◌≤◌, Bool, false, List, [], ◌∷◌, length, ap, ◌∙◌, arith, length-append, count_by, IsPrefix, Event}
-use Rattle.wq_pool_plan.proofs.Common.{capped, Follows, Queues, passed, pushed, busy, refused, chained, chain_busy, count_by-append}
+use Rattle.wq_pool_plan.proofs.Common.{◌≡◌, ℕ, ◌+◌, ◌*◌, ◌≤◌, Bool, List, [], ◌∷◌, length, ap, ◌∙◌, arith, length-append, count_by, IsPrefix, Event}
+use Rattle.wq_pool_plan.proofs.Common.{capped, SendsAll, Sends, pushed, busy, refused, count_by-append}
 
 -- the queueing of a number adds at most two events
-queues_few : (n s k : ℕ) (es : List Event) → Queues n s false k es → length es ≤ 2
-queues_few n s k es (passed ge is) = omega (arith, ap (length {A = Event}) is)
-queues_few n s k es (pushed lt opens is) = omega (arith, ap (length {A = Event}) is)
-queues_few n s k es (busy lt opens is) = omega (arith, ap (length {A = Event}) is)
-queues_few n s k es (refused lt opens is) = omega (arith, ap (length {A = Event}) is)
-queues_few n s k es (chained lt shut is) = omega (arith, ap (length {A = Event}) is)
-queues_few n s k es (chain_busy lt shut is) = omega (arith, ap (length {A = Event}) is)
+sends_few : (s k : ℕ) (es : List Event) → Sends s k es → length es ≤ 2
+sends_few s k es (pushed is) = omega (arith, ap (length {A = Event}) is)
+sends_few s k es (busy is) = omega (arith, ap (length {A = Event}) is)
+sends_few s k es (refused cause refusal is) = omega (arith, ap (length {A = Event}) is)
 
-pub follows_few : (n s : ℕ) (ks : List ℕ) (es : List Event) → Follows n s false ks es → length es ≤ 2 * length ks
-follows_few n s [] es f = omega (arith, ap (length {A = Event}) f)
-follows_few n s (k ∷ ks) es f =
+pub all_few : (s : ℕ) (ks : List ℕ) (es : List Event) → SendsAll s ks es → length es ≤ 2 * length ks
+all_few s [] es f = omega (arith, ap (length {A = Event}) f)
+all_few s (k ∷ ks) es f =
     let size : length (k ∷ ks) ≡ length ks + 1 = omega arith in
-    omega (arith, ap (length {A = Event}) f.2, length-append f.0 f.1, queues_few n s k f.0 f.3, follows_few n s ks f.1 f.4, size)
+    omega (arith, ap (length {A = Event}) f.2, length-append f.0 f.1, sends_few s k f.0 f.3, all_few s ks f.1 f.4, size)
 
 -- what was counted before is counted later
 pub counts_on : (p : Event → Bool) (v w : List Event) → IsPrefix v w → count_by p v ≤ count_by p w

@@ -6,7 +6,7 @@ use Rattle.std.proofs.Common.{◌==◌, if◌then◌else◌}
 use Rattle.wq_pool_plan.proofs.Common.{◌≡◌, ℕ, zero, suc, ◌+◌, ◌*◌, ◌^◌, ◌<◌, ◌≤◌, Bool, true, false, List, ◌++◌, length, take, get_or, refl, sym, ap, ◌∙◌}
 use Rattle.wq_pool_plan.proofs.Common.{subst, arith, All, MatchBool, count_by, AllByRecursion, eqb-true, take_all, length-range_with_len, fold_more, Layout}
 use Rattle.wq_pool_plan.proofs.Common.{Event, is_queued_by, is_chain, IsLegal, IsComplete, own, own-append, own_between, capped, sender_counts, Known}
-use Rattle.wq_pool_plan.proofs.Common.{Unbalanced, BookState, IsLedgerOf, Follows, items_among, Idle, Outcome, Plan, HasHeard, AllKnown, IsTold, queued_sum}
+use Rattle.wq_pool_plan.proofs.Common.{Unbalanced, BookState, IsLedgerOf, SendsAll, items_among, Idle, Outcome, Plan, HasHeard, AllKnown, IsTold, queued_sum}
 use Rattle.wq_pool_plan.proofs.Common.{items_at, IsOfStop, all_front, all_ended, WorkerId, IsFinished, IsSent, is_push, accepted, ended, count_by-le-length}
 use Rattle.wq_live.proofs.Final.{final as stays_final}
 use Rattle.wq_ledger.specs.declared.book.Ledger.{Ledger}
@@ -16,7 +16,7 @@ use Rattle.wq_ledger.proofs.Pushes.{is_queued_below, below_more, below_none, bel
 use Rattle.wq_plan.proofs.Pushed.{IsShared, items_pushed}
 use Rattle.wq_plan.proofs.Whole.{queued_own}
 use Rattle.wq_pool_plan.specs.Outcome.{QueueRun, IsQueueRun, accepted_items, ended_items, IsBalanced, IsFaulty, TellsRun, IsOutcomeOf}
-use Rattle.wq_pool_plan.proofs.Counted.{follows_few, counts_on, spare}
+use Rattle.wq_pool_plan.proofs.Counted.{all_few, counts_on, spare}
 
 abbrev of_counts : Known → ℕ
 of_counts x = (sender_counts x.number x.seen).queued
@@ -62,18 +62,18 @@ module _ (plan : Plan) (id : WorkerId) (work : Idle) (before book last : BookSta
         number,
       )
 
-  queued : (s : ℕ) → s < plan.senders → Follows id.layout.items s false (items_at s plan.own) (own s book.seen)
+  queued : (s : ℕ) → s < plan.senders → SendsAll s (items_at s plan.own) (own s book.seen)
   queued s lt =
       let old = o.sent.each s program lt in let k = o.known.each s program (omega (arith, lt, o.sent.count)) in
       let was = get_or olds s program in let now = get_or news s program in
       let kept : own s now.seen ≡ own s was.seen = subst (λ (c : ℕ). own c now.seen ≡ own c was.seen) old.number_is k.mine in
-      subst (λ (es : List Event). Follows id.layout.items s false (items_at s plan.own) es) (sym ((mine s program lt).0 ∙ kept)) old.queued
+      subst (λ (es : List Event). SendsAll s (items_at s plan.own) es) (sym ((mine s program lt).0 ∙ kept)) old.queued
 
   -- what the plan's senders pushed is not much
   pushed_few : (c : ℕ) → c ≤ plan.senders → count_by (is_queued_below c) book.seen ≤ c * (2 * plan.own)
   pushed_few zero le = omega (arith, below_none book.seen)
   pushed_few (suc c) le =
-      let one = follows_few id.layout.items c (items_at c plan.own) (own c book.seen) (queued c (omega (arith, le))) in
+      let one = all_few c (items_at c plan.own) (own c book.seen) (queued c (omega (arith, le))) in
       let next : c + 1 ≡ suc c = omega arith in
       let more : count_by (is_queued_below (suc c)) book.seen ≡ count_by (is_queued_below (c + 1)) book.seen =
       ap (λ (k : ℕ). count_by (is_queued_below k) book.seen) (sym next) in

@@ -15,12 +15,12 @@ use Rattle.wq_ledger.specs.declared.totals.Totals.{Totals}
 use Rattle.wq_ledger.specs.declared.balance.Unbalanced.{Unbalanced}
 use Rattle.wq_ledger.specs.Book.{BookState, IsLedgerOf}
 use Rattle.wq_ledger.specs.Balance.{Balances, IsUnbalanced}
-use Rattle.wq_worker.specs.Follow.{Follows}
 use Rattle.wq_worker.specs.State.{items_among}
 use Rattle.wq_plan.specs.declared.outcome.Outcome.{Outcome}
 use Rattle.wq_plan.specs.declared.plan.Plan.{Plan}
 use Rattle.wq_plan.specs.Plan.{IsLayoutOf}
 use Rattle.wq_plan.specs.Race.{items_at}
+use Rattle.wq_plan.specs.Sends.{SendsAll}
 
 -- a queue's size, its history, and the book and the ledgers of its senders
 pub record QueueRun : Type 0 where
@@ -35,7 +35,7 @@ pub record IsQueueRun (plan : Plan) (run : QueueRun) : Type 0 where
   pub sized : IsLayoutOf plan.senders plan.own run.layout
   pub legal : IsLegal run.layout run.history
   pub complete : IsComplete run.history
-  pub queued : (s : ℕ) → s < plan.senders → Follows run.layout.items s false (items_at s plan.own) (own s run.history)
+  pub queued : (s : ℕ) → s < plan.senders → SendsAll s (items_at s plan.own) (own s run.history)
   pub heard : IsPrefix run.history run.book.seen
   pub made : All (IsLedgerOf run.book.seen) run.ledgers
 

@@ -3,7 +3,7 @@ use Rattle.wq_plan.proofs.Running.{untouched_open, untouched_idle, rooms}
 use Rattle.wq_plan.proofs.race.queue_all.Goals as goal
 
 pub start_worker-serving-requires-clause-open : goal.start_worker-serving-requires-clause-open
-start_worker-serving-requires-clause-open g c κs within = λ shut. omega (arith, shut, untouched_open c.args.team.worker.seen c.requires.untouched)
+start_worker-serving-requires-clause-open g c κs within = untouched_open c.args.team.worker.seen c.requires.untouched
 
 pub start_worker-serving-requires-clause-idle : goal.start_worker-serving-requires-clause-idle
 start_worker-serving-requires-clause-idle g c κs within = untouched_idle c.args.team.worker.seen c.requires.untouched

@@ -1,9 +1,12 @@
-use Rattle.wq_pool_plan.proofs.Common.{List, [], ◌∷◌, ◌++◌, length, sym, ap, ◌∙◌, subst, length-new_senders, untouched_idle, Group, AreDealt, whole_items}
+use Rattle.wq_pool_plan.proofs.Common.{List, [], ◌∷◌, ◌++◌, length, sym, ap, ◌∙◌, subst, length-new_senders, untouched_idle, untouched_open, Group, AreDealt, whole_items}
 use Rattle.wq_pool_plan.proofs.Seats.{teams_more}
 use Rattle.wq_pool_plan.proofs.teams.Teams.add.Goals as goal
 
-pub new-requires : goal.new-requires
-new-requires c = untouched_idle c.args.team.worker.seen c.requires.2.untouched
+pub new-requires-clause-idle : goal.new-requires-clause-idle
+new-requires-clause-idle c = untouched_idle c.args.team.worker.seen c.requires.2.untouched
+
+pub new-requires-clause-not_draining : goal.new-requires-clause-not_draining
+new-requires-clause-not_draining c draining = untouched_open c.args.team.worker.seen c.requires.2.untouched draining.0
 
 pub deal-requires : goal.deal-requires
 deal-requires c =
