@@ -30,7 +30,7 @@ fn queue_when_free(seat: &mut Sender, item: u32) -> Answer {
             break;
         }
         match seat.queue_tries(item, 1000) {
-            Answer::Pending | Answer::Contended => yield_now(),
+            Answer::Pending | Answer::Contended | Answer::Draining => yield_now(),
             settled => return settled,
         }
     }

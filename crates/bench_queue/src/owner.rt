@@ -48,7 +48,7 @@ fn execute_some(owner: &mut Owner, limit: u64) -> u64
 
 /// Takes what was queued where nothing taken waits, executes up to so many numbers, and answers how many that were.
 pub fn execute_batch(owner: &mut Owner, limit: u64) -> u64 {
-    if owner.next().is_none() && !owner.is_closed() {
+    if owner.next().is_none() && !owner.is_closed() && !owner.is_draining() {
         owner.take();
     }
     if owner.running().is_some() {

@@ -57,7 +57,7 @@ pub fn offer(sender: &mut Sender, item: u32) -> Answer {
             return Answer::Closed;
         }
         match sender.queue_tries(item, 1000) {
-            Answer::Pending | Answer::Contended => pause(turn),
+            Answer::Pending | Answer::Contended | Answer::Draining => pause(turn),
             settled => return settled,
         }
     }

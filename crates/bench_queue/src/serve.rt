@@ -15,7 +15,7 @@ use wq_worker::{Ran, Worker};
 fn park<R: Wait>(rt: &R, worker: &mut Worker<Runs>, parker: &Parker, pace: Pace)
     requires { HasNoneLeft worker.old.seen }
 {
-    if pace != Pace::Resting || worker.is_closed() || worker.rest() {
+    if pace != Pace::Resting || worker.is_closed() || worker.is_draining() || worker.rest() {
         parker.park(rt);
     }
 }
@@ -23,7 +23,7 @@ fn park<R: Wait>(rt: &R, worker: &mut Worker<Runs>, parker: &Parker, pace: Pace)
 /// Executes until the stop item ran: `serve`, or what a loop without patience does.
 pub fn serve<R: Wait>(rt: &R, worker: &mut Worker<Runs>, parker: &Parker, pace: Pace) {
     if pace == Pace::Patient {
-        if !worker.is_closed() {
+        if !worker.is_closed() && !worker.is_draining() {
             worker.serve(rt, parker);
         }
         return;

@@ -4,6 +4,7 @@ mod clearing;
 mod contention;
 mod crew;
 mod destroying;
+mod draining;
 mod resting;
 mod serving;
 mod stopping;

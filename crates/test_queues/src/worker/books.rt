@@ -42,6 +42,7 @@ fn ledgers_balance(rt: HostRuntime) -> Result<(), Fail> {
         executed: 3,
         pending: 0,
         closed: 0,
+        draining: 0,
         contended: 0,
     };
     let (missing, missing_first, twice, once) = balance_some(&book, first, second);

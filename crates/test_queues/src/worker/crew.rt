@@ -48,7 +48,7 @@ fn pause(turns: u32) {
     }
 }
 
-fn queue_waiting<R: Abort + Wait>(rt: &R, sender: &mut Sender, item: u32) -> Answer
+pub(crate) fn queue_waiting<R: Abort + Wait>(rt: &R, sender: &mut Sender, item: u32) -> Answer
     ensures { sender.new.queue ≡ sender.old.queue }
 {
     assert!(rt; item < sender.layout().items);
@@ -151,7 +151,7 @@ fn run_and_rest<R: Abort + Wait>(rt: &R, worker: &mut Worker<Fixed>, parker: &mu
         match worker.run_one() {
             Ran::Stop => return rests,
             Ran::Nothing => {
-                assert!(rt; !worker.is_closed());
+                assert!(rt; !worker.is_closed() && !worker.is_draining());
                 if worker.rest() {
                     rests = rests.wrapping_add(1);
                     parker.park(rt);
@@ -203,7 +203,12 @@ pub(crate) fn run_beside<R: Abort + Threads + Wait + Sync>(
     )
 }
 
-fn enter_all<R: Abort>(rt: &R, alloc: Global, book: &mut Book, crew: &mut Crew) -> Vec<Ledger>
+pub(crate) fn enter_all<R: Abort>(
+    rt: &R,
+    alloc: Global,
+    book: &mut Book,
+    crew: &mut Crew,
+) -> Vec<Ledger>
     requires { (crew.old.first.queue ≡ book.old.queue) × (crew.old.second.queue ≡ book.old.queue)
         × (crew.old.third.queue ≡ book.old.queue) × (crew.old.fourth.queue ≡ book.old.queue) × (crew.old.last.queue ≡ book.old.queue) }
     ensures { All (IsLedgerOf book.new.seen) result.items }
@@ -239,5 +244,9 @@ fn six_senders_balance(rt: HostRuntime) {
         (totals.queued, totals.chained, totals.executed),
         (257, 0, 257),
     );
-    expect_same(&rt, (totals.pending, totals.closed), (0, 0));
+    expect_same(
+        &rt,
+        (totals.pending, totals.closed, totals.draining),
+        (0, 0, 0),
+    );
 }

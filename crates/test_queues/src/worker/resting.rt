@@ -68,7 +68,7 @@ fn rest<R: Abort>(rt: &R, worker: &mut Worker<Fixed>) -> bool
     requires { HasNoneLeft worker.old.seen }
     ensures { HasNoneLeft worker.new.seen }
 {
-    assert!(rt; !worker.is_closed());
+    assert!(rt; !worker.is_closed() && !worker.is_draining());
     let rests = worker.rest();
     assert!(rt; !worker.rest());
     rests

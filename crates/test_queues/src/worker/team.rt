@@ -112,7 +112,7 @@ pub(crate) fn destroy<R: Abort, W: Work>(rt: &R, worker: Worker<W>, limit: u32) 
 pub(crate) fn serve<R: Abort + Wait, W: Work>(rt: &R, worker: &mut Worker<W>, parker: &mut Parker)
     ensures { worker.new.queue ≡ worker.old.queue }
 {
-    assert!(rt; !worker.is_closed());
+    assert!(rt; !worker.is_closed() && !worker.is_draining());
     worker.serve(rt, parker);
 }
 

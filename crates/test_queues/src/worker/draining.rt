@@ -1,0 +1,148 @@
+//! Drains that resume the queue.
+ghost use Rattle.std.specs.Prelude.{◌≡◌};
+
+use crate::expect::expect_same;
+use crate::seats::{FIRST, WAKES, queue_item};
+use crate::worker::crew::{Crew, enter_all, new_crew, queue_waiting};
+use crate::worker::team::{Fixed, destroy, new_queue, new_team, take_last};
+use std::alloc::Global;
+use std::process::Abort;
+use std::sync::Wait;
+use std::thread::{Threads, join_mut, yield_now};
+use wq_live::{Answer, Sender};
+use wq_worker::{Drained, Worker};
+
+/// How many items of its own each of four senders queues.
+const OWN: u32 = 16;
+
+/// A drain that comes to its limit leaves the queue draining, and what is queued is answered so. The next one goes on, and resumes
+/// the queue once nothing is left.
+#[test]
+fn drain_goes_on_and_resumes(rt: HostRuntime) {
+    let mut work = Fixed::new();
+    work.next = Some(1);
+    let mut team = new_team(&rt, rt.alloc(), work);
+    expect_same(&rt, queue_item(&rt, &mut team.first, 0), WAKES);
+    expect_same(&rt, team.worker.drain(1), Drained::TooLong { left: 1 });
+    assert!(rt; team.worker.is_draining());
+    expect_same(&rt, queue_item(&rt, &mut team.first, 2), Answer::Draining);
+    expect_same(&rt, team.worker.drain(1), Drained::Empty);
+    assert!(rt; !team.worker.is_draining());
+    expect_same(&rt, queue_item(&rt, &mut team.first, 2), FIRST);
+    expect_same(&rt, team.worker.drain(0), Drained::TooLong { left: 1 });
+    expect_same(&rt, team.worker.drain(9), Drained::Empty);
+    let (work, _book) = destroy(&rt, team.worker, 0);
+    expect_same(&rt, work.order.as_slice(), [0, 1, 2].as_slice());
+    let counts = team.first.counts();
+    expect_same(&rt, (counts.queued, counts.draining), (2, 1));
+}
+
+/// Queues an item over and over, until it is queued. How often it was answered that the queue drains.
+fn queue_through<R: Abort + Wait>(rt: &R, sender: &mut Sender, item: u32) -> u128
+    ensures { sender.new.queue ≡ sender.old.queue }
+{
+    let mut drains = 0u128;
+    for _ in rt.forever() {
+        let answer = queue_waiting(rt, sender, item);
+        if answer != Answer::Draining {
+            assert!(rt; matches!(answer, Answer::Queued { .. }));
+            return drains;
+        }
+        drains = drains.wrapping_add(1);
+        yield_now();
+    }
+    unreachable!()
+}
+
+/// Queues the sender's own items in order, each until it is through. How often it was answered that the queue drains.
+fn queue_own<R: Abort + Wait>(rt: &R, sender: &mut Sender) -> u128
+    ensures { sender.new.queue ≡ sender.old.queue }
+{
+    let first = sender.number().wrapping_mul(OWN);
+    let mut drains = 0u128;
+    for item in first..first.wrapping_add(OWN) {
+        drains = drains.wrapping_add(queue_through(rt, sender, item));
+    }
+    drains
+}
+
+fn queue_pair<R: Abort + Threads + Wait + Sync>(
+    rt: &R,
+    first: &mut Sender,
+    second: &mut Sender,
+) -> u128
+    ensures { (first.new.queue ≡ first.old.queue) × (second.new.queue ≡ second.old.queue) }
+{
+    let (one, two) = join_mut(
+        rt,
+        &mut || queue_own(rt, first),
+        &mut || queue_own(rt, second),
+    );
+    one.wrapping_add(two)
+}
+
+fn queue_all<R: Abort + Threads + Wait + Sync>(rt: &R, crew: &mut Crew) -> u128
+    ensures pairs { (crew.new.first.queue ≡ crew.old.first.queue) × (crew.new.second.queue ≡ crew.old.second.queue)
+        × (crew.new.third.queue ≡ crew.old.third.queue) × (crew.new.fourth.queue ≡ crew.old.fourth.queue) }
+    ensures last { crew.new.last.queue ≡ crew.old.last.queue }
+{
+    let (one, two) = join_mut(
+        rt,
+        &mut || queue_pair(rt, &mut crew.first, &mut crew.second),
+        &mut || queue_pair(rt, &mut crew.third, &mut crew.fourth),
+    );
+    one.wrapping_add(two)
+}
+
+/// Drains, by up to two executions a call, until as many have ended as the senders queue.
+fn drain_until_through<R: Wait>(rt: &R, worker: &mut Worker<Fixed>)
+    ensures { worker.new.queue ≡ worker.old.queue }
+{
+    for _ in rt.forever() {
+        worker.drain(2);
+        if worker.counts().executed >= u128::from(OWN) * 4 {
+            return;
+        }
+    }
+    unreachable!()
+}
+
+/// Whether each of four senders' items ran, once each and in order.
+fn ran_in_order(order: &[u32]) -> bool {
+    let mut next = [0, OWN, OWN * 2, OWN * 3];
+    for &item in order {
+        let place = usize::try_from(item / OWN).unwrap_or(usize::MAX);
+        match next.get_mut(place) {
+            Some(number) if *number == item => *number += 1,
+            _ => return false,
+        }
+    }
+    next == [OWN, OWN * 2, OWN * 3, OWN * 4]
+}
+
+/// Four senders queue from threads of their own, each item until it is through, while the worker drains and resumes.
+fn run_once<R: Abort + Threads + Wait + Sync>(rt: &R, alloc: Global) {
+    let (owner, mut senders) = new_queue(rt, alloc, OWN * 4, 6);
+    let own = take_last(rt, &owner, &mut senders);
+    let mut crew = new_crew(rt, &owner, &mut senders);
+    let mut worker = Worker::new(owner, own, Fixed::new(), 1);
+    let (_, drains) = join_mut(
+        rt,
+        &mut || drain_until_through(rt, &mut worker),
+        &mut || queue_all(rt, &mut crew),
+    );
+    assert!(rt; !worker.is_draining());
+    let (work, mut book) = destroy(rt, worker, 0);
+    assert!(rt; ran_in_order(work.order.as_slice()));
+    let ledgers = enter_all(rt, alloc, &mut book, &mut crew);
+    let totals = book.balance(ledgers.as_slice()).expect(rt, "a balance");
+    expect_same(rt, (totals.queued, totals.executed), (64, 64));
+    expect_same(rt, (totals.draining, totals.closed), (drains, 0));
+}
+
+#[test]
+fn senders_get_through_drains(rt: HostRuntime) {
+    for _ in 0..50u32 {
+        run_once(&rt, rt.alloc());
+    }
+}
