@@ -1,23 +1,23 @@
 -- How a queue stands once an event came.
-use Rattle.std.proofs.Common.{◌≡◌, ◌≢◌, ℕ, zero, suc, replicate, ◌+◌, ◌-◌, ◌<◌, ◌≤◌, ◌==◌, true, false, List, [], ◌∷◌, ◌++◌, length, drop, get_or, set, slice_get}
+use Rattle.std.proofs.Common.{◌≡◌, ◌≢◌, ℕ, zero, suc, replicate, ◌+◌, ◌-◌, ◌<◌, ◌≤◌, ◌==◌, ◌↔◌, IsTrue, true, false, List, [], ◌∷◌, ◌++◌, length, drop, get_or, set, slice_get}
 use Rattle.std.proofs.Common.{Some, None, refl, sym, ap, ◌∙◌, arith, inl, inr, length-set, length-append}
 use Rattle.std.proofs.lemmas.List.{length-replicate, get_or-set_other, get_or-set_same, drop-append-le, drop-drop}
 use Rattle.std.proofs.lemmas.List.Sums.{fold_push}
 use Rattle.std.proofs.lemmas.Option.{slice_get_past}
-use Rattle.std.proofs.lemmas.Bool.{ne_eqb, eq-eqb, cases_eq}
+use Rattle.std.proofs.lemmas.Bool.{false≢true, ne_eqb, eq-eqb, cases_eq}
 use Rattle.wq_words.specs.declared.layout.Layout.{Layout}
 use Rattle.wq_words.specs.declared.event.Why.{Why}
 use Rattle.wq_words.specs.declared.event.Event.{Event}
-use Rattle.wq_words.specs.declared.event.Event.TheVariants.{Hold, Busy, Push, Back, Take, Close, Begin, End, Chain, ChainBusy, Rest}
+use Rattle.wq_words.specs.declared.event.Event.TheVariants.{Hold, Busy, Push, Back, Take, Close, Drain, Resume, Begin, End, Chain, ChainBusy, Rest}
 use Rattle.wq_words.specs.Numbers.{number_count}
-use Rattle.wq_words.specs.History.{accepted, begun, ended, closed, IsRunning}
+use Rattle.wq_words.specs.History.{accepted, begun, ended, closed, shut, is_close, is_drain, is_resume, IsRunning, HasDrained}
 use Rattle.wq_words.specs.Legal.{IsAllowed}
 use Rattle.wq_words.specs.Keeper.{Keeper, Home, Sender, Listed, Owner, taken_over, keeper_after, keeper}
-use Rattle.wq_words.proofs.Growing.{growing, slice_get_last}
+use Rattle.wq_words.proofs.Growing.{growing, slice_get_last, count_by_push}
 use Rattle.wq_words.proofs.Legal.{legal_nil, legal_push}
 use Rattle.wq_words.proofs.Prefixes.{prefix_length}
 use Rattle.wq_words.proofs.Order.{in_order}
-use Rattle.wq_words.proofs.Closed.{closed_push_no, closed_push_yes}
+use Rattle.wq_words.proofs.Closed.{closed_push_no, closed_push_yes, shut_quiet, shut_close, shut_drain, shut_resume, drained_stays}
 use Rattle.circular_buffer.specs.Buffer.{keep_last}
 use Rattle.wq_check.specs.declared.queue.Place.TheVariants.{Idle, Held, Waiting}
 use Rattle.wq_check.specs.Checked.{QueueState, queue_state, place_by_keeper, StandsAfter}
@@ -29,7 +29,9 @@ abbrev pub after_event : QueueState → Event → QueueState
 after_event c (Hold s k) = record c { places = set c.places k (Held s) }
 after_event c (Push s k) = record c { places = set c.places k Waiting; waiting = c.waiting ++ k ∷ [] }
 after_event c (Back s k why) = record c { places = set c.places k Idle }
-after_event c Close = record c { closed = true }
+after_event c Close = record c { closed = true; shut = true }
+after_event c Drain = record c { shut = true; has_drained = true }
+after_event c Resume = record c { shut = false }
 after_event c (Begin k) = record c { places = set c.places k Idle; waiting = drop 1 c.waiting; running = Some k }
 after_event c (End k) = record c { running = None }
 after_event c (Chain k) = record c { places = set c.places k Waiting; waiting = c.waiting ++ k ∷ [] }
@@ -63,6 +65,10 @@ gives_begin k = (λ j x ne. rw (apart k j ne) refl, λ x. rw (itself k) refl)
 
 gives_chain : (k : ℕ) → Gives k (Chain k) Owner
 gives_chain k = (λ j x ne. rw (apart k j ne) refl, λ x. rw (itself k) refl)
+
+-- the event neither closes nor drains nor resumes
+abbrev IsPhaseless : Event → Type 0
+IsPhaseless e = (is_close e ≡ false) × (is_drain e ≡ false) × (is_resume e ≡ false)
 
 over : (x : Keeper) → place_by_keeper (taken_over x) ≡ place_by_keeper x
 over Home = refl
@@ -106,17 +112,30 @@ module _ (c : QueueState) (h : List Event) (o : StandsAfter c h) where
       let i = in_order c.layout h o.legal in
       sym (slice_get_past (begun h) (length (ended h ++ k ∷ [])) (omega (arith, length-append (ended h) (k ∷ []), i.one_at_a_time)))
 
+  closed_on : (e : Event) → IsPhaseless e → c.closed ≡ closed (h ++ e ∷ [])
+  closed_on e none = o.closed_is ∙ sym (closed_push_no h e none.0)
+
+  shut_on : (e : Event) → IsPhaseless e → c.shut ≡ shut (h ++ e ∷ [])
+  shut_on e none = o.shut_is ∙ sym (shut_quiet h e none.2 none.1 none.0)
+
+  drained_on : (e : Event) → is_drain e ≡ false → IsTrue c.has_drained ↔ HasDrained (h ++ e ∷ [])
+  drained_on e none =
+      let drains = rw none at (count_by_push is_drain h e) in
+      (λ is. drained_stays h e (o.has_drained_is.0 is), λ is. o.has_drained_is.1 (omega (arith, is, drains)))
+
   -- an event that moves no number and changes no list
   quiet : (e : Event) → IsAllowed c.layout h e → ((j : ℕ) (x : Keeper) → place_by_keeper (keeper_after j x e) ≡ place_by_keeper x)
-      → accepted (h ++ e ∷ []) ≡ accepted h → begun (h ++ e ∷ []) ≡ begun h → ended (h ++ e ∷ []) ≡ ended h → closed (h ++ e ∷ []) ≡ closed h
+      → accepted (h ++ e ∷ []) ≡ accepted h → begun (h ++ e ∷ []) ≡ begun h → ended (h ++ e ∷ []) ≡ ended h → IsPhaseless e
       → StandsAfter c (h ++ e ∷ [])
-  quiet e a same acs bs es cs = record {
+  quiet e a same acs bs es none = record {
     legal = legal_push c.layout h e o.legal a;
     has_places = o.has_places;
     places_are = unmoved e same;
     waiting_is = o.waiting_is ∙ sym (rw (acs, bs) refl);
     running_is = o.running_is ∙ sym (rw (bs, es) refl);
-    closed_is = o.closed_is ∙ sym cs;
+    closed_is = closed_on e none;
+    shut_is = shut_on e none;
+    has_drained_is = drained_on e none.1;
   }
 
   pub after_kept : (e : Event) → IsAllowed c.layout h e → StandsAfter (after_event c e) (h ++ e ∷ [])
@@ -126,7 +145,9 @@ module _ (c : QueueState) (h : List Event) (o : StandsAfter c h) where
     places_are = moved (Hold s k) k (Sender s) a.1 (gives_hold s k);
     waiting_is = simp growing o.waiting_is;
     running_is = simp growing o.running_is;
-    closed_is = o.closed_is ∙ sym (closed_push_no h (Hold s k) refl);
+    closed_is = closed_on (Hold s k) (refl, refl, refl);
+    shut_is = shut_on (Hold s k) (refl, refl, refl);
+    has_drained_is = drained_on (Hold s k) refl;
   }
   after_kept (Push s k) a = record {
     legal = legal_push c.layout h (Push s k) o.legal a;
@@ -134,7 +155,9 @@ module _ (c : QueueState) (h : List Event) (o : StandsAfter c h) where
     places_are = moved (Push s k) k Listed a.1 (gives_push s k);
     waiting_is = simp growing (queued k);
     running_is = simp growing o.running_is;
-    closed_is = o.closed_is ∙ sym (closed_push_no h (Push s k) refl);
+    closed_is = closed_on (Push s k) (refl, refl, refl);
+    shut_is = shut_on (Push s k) (refl, refl, refl);
+    has_drained_is = drained_on (Push s k) refl;
   }
   after_kept (Back s k why) a = record {
     legal = legal_push c.layout h (Back s k why) o.legal a;
@@ -142,7 +165,9 @@ module _ (c : QueueState) (h : List Event) (o : StandsAfter c h) where
     places_are = moved (Back s k why) k Home a.1 (gives_back s k why);
     waiting_is = simp growing o.waiting_is;
     running_is = simp growing o.running_is;
-    closed_is = o.closed_is ∙ sym (closed_push_no h (Back s k why) refl);
+    closed_is = closed_on (Back s k why) (refl, refl, refl);
+    shut_is = shut_on (Back s k why) (refl, refl, refl);
+    has_drained_is = drained_on (Back s k why) refl;
   }
   after_kept (Begin k) a = record {
     legal = legal_push c.layout h (Begin k) o.legal a;
@@ -150,7 +175,9 @@ module _ (c : QueueState) (h : List Event) (o : StandsAfter c h) where
     places_are = moved (Begin k) k Home a.1 (gives_begin k);
     waiting_is = simp growing (later k);
     running_is = simp growing (begins k a.2.0);
-    closed_is = o.closed_is ∙ sym (closed_push_no h (Begin k) refl);
+    closed_is = closed_on (Begin k) (refl, refl, refl);
+    shut_is = shut_on (Begin k) (refl, refl, refl);
+    has_drained_is = drained_on (Begin k) refl;
   }
   after_kept (Chain k) a = record {
     legal = legal_push c.layout h (Chain k) o.legal a;
@@ -158,7 +185,9 @@ module _ (c : QueueState) (h : List Event) (o : StandsAfter c h) where
     places_are = moved (Chain k) k Owner (omega (arith, a.1)) (gives_chain k);
     waiting_is = simp growing (queued k);
     running_is = simp growing o.running_is;
-    closed_is = o.closed_is ∙ sym (closed_push_no h (Chain k) refl);
+    closed_is = closed_on (Chain k) (refl, refl, refl);
+    shut_is = shut_on (Chain k) (refl, refl, refl);
+    has_drained_is = drained_on (Chain k) refl;
   }
   after_kept (End k) a = record {
     legal = legal_push c.layout h (End k) o.legal a;
@@ -166,7 +195,9 @@ module _ (c : QueueState) (h : List Event) (o : StandsAfter c h) where
     places_are = unmoved (End k) (λ j x. refl);
     waiting_is = simp growing o.waiting_is;
     running_is = simp growing (ends k);
-    closed_is = o.closed_is ∙ sym (closed_push_no h (End k) refl);
+    closed_is = closed_on (End k) (refl, refl, refl);
+    shut_is = shut_on (End k) (refl, refl, refl);
+    has_drained_is = drained_on (End k) refl;
   }
   after_kept Close a = record {
     legal = legal_push c.layout h Close o.legal a;
@@ -175,12 +206,34 @@ module _ (c : QueueState) (h : List Event) (o : StandsAfter c h) where
     waiting_is = simp growing o.waiting_is;
     running_is = simp growing o.running_is;
     closed_is = sym (closed_push_yes h Close refl);
+    shut_is = sym (shut_close h Close refl);
+    has_drained_is = drained_on Close refl;
   }
-  after_kept Take a = quiet Take a (λ j x. over x) (simp growing refl) (simp growing refl) (simp growing refl) (closed_push_no h Take refl)
-  after_kept Rest a = quiet Rest a (λ j x. refl) (simp growing refl) (simp growing refl) (simp growing refl) (closed_push_no h Rest refl)
-  after_kept (Busy s k) a = quiet (Busy s k) a (λ j x. refl) (simp growing refl) (simp growing refl) (simp growing refl) (closed_push_no h (Busy s k) refl)
+  after_kept Drain a = record {
+    legal = legal_push c.layout h Drain o.legal a;
+    has_places = o.has_places;
+    places_are = unmoved Drain (λ j x. over x);
+    waiting_is = simp growing o.waiting_is;
+    running_is = simp growing o.running_is;
+    closed_is = o.closed_is ∙ sym (closed_push_no h Drain refl);
+    shut_is = sym (shut_drain h Drain refl refl);
+    has_drained_is = (λ _. omega (arith, count_by_push is_drain h Drain), λ _. refl);
+  }
+  after_kept Resume a = record {
+    legal = legal_push c.layout h Resume o.legal a;
+    has_places = o.has_places;
+    places_are = unmoved Resume (λ j x. refl);
+    waiting_is = simp growing o.waiting_is;
+    running_is = simp growing o.running_is;
+    closed_is = o.closed_is ∙ sym (closed_push_no h Resume refl);
+    shut_is = sym (shut_resume h Resume refl refl a.2.0.1);
+    has_drained_is = drained_on Resume refl;
+  }
+  after_kept Take a = quiet Take a (λ j x. over x) (simp growing refl) (simp growing refl) (simp growing refl) (refl, refl, refl)
+  after_kept Rest a = quiet Rest a (λ j x. refl) (simp growing refl) (simp growing refl) (simp growing refl) (refl, refl, refl)
+  after_kept (Busy s k) a = quiet (Busy s k) a (λ j x. refl) (simp growing refl) (simp growing refl) (simp growing refl) (refl, refl, refl)
   after_kept (ChainBusy k) a =
-      quiet (ChainBusy k) a (λ j x. refl) (simp growing refl) (simp growing refl) (simp growing refl) (closed_push_no h (ChainBusy k) refl)
+      quiet (ChainBusy k) a (λ j x. refl) (simp growing refl) (simp growing refl) (simp growing refl) (refl, refl, refl)
 
 few_left : (c : QueueState) (h : List Event) → StandsAfter c h → length c.waiting ≤ number_count c.layout
 few_left c h o = omega (arith, ap length o.waiting_is, few_unbegun c.layout h o.legal)
@@ -197,7 +250,7 @@ alike zero k x = refl
 alike (suc n) zero x = refl
 alike (suc n) (suc k) x = alike n k x
 
-pub told_opening : (layout : Layout) → StandsAfter (queue_state layout (replicate (number_count layout) Idle) [] None false) []
+pub told_opening : (layout : Layout) → StandsAfter (queue_state layout (replicate (number_count layout) Idle) [] None false false false) []
 told_opening layout = record {
   legal = legal_nil layout;
   has_places = length-replicate _ _;
@@ -205,6 +258,8 @@ told_opening layout = record {
   waiting_is = refl;
   running_is = refl;
   closed_is = refl;
+  shut_is = refl;
+  has_drained_is = (λ is. absurd (false≢true is), λ is. absurd (omega (arith, is)));
 }
 
 -- each event that is allowed is followed

@@ -1,5 +1,5 @@
 -- A trace that keeps to its rules shows a legal history.
-use Rattle.std.proofs.Common.{◌≡◌, ◌≢◌, ℕ, zero, suc, ◌+◌, ◌<◌, ◌≤◌, ◌==◌, Bool, true, cond, List, [], ◌∷◌, ◌++◌, length, drop, slice_get, Some}
+use Rattle.std.proofs.Common.{◌≡◌, ◌≢◌, ℕ, zero, suc, ◌+◌, ◌<◌, ◌≤◌, ◌==◌, Bool, true, false, cond, List, [], ◌∷◌, ◌++◌, length, drop, slice_get, Some}
 use Rattle.std.proofs.Common.{refl, sym, ap, ◌∙◌, arith, inl, inr, subst, append_assoc, length-append, count_by}
 use Rattle.std.proofs.lemmas.List.{append-nil}
 use Rattle.std.proofs.lemmas.Bool.{eq-eqb, ne_eqb, cases_eq, cases_lt}
@@ -8,12 +8,13 @@ use Rattle.wq_words.specs.declared.layout.Layout.{Layout}
 use Rattle.wq_words.specs.declared.event.Event.{Event}
 use Rattle.wq_words.specs.declared.event.Event.TheVariants as event
 use Rattle.wq_words.specs.Numbers.{number_count}
-use Rattle.wq_words.specs.History.{accepted, begun, ended, running, next, is_close, starts_hold, stops_hold, IsRunning, IsPending, Holds, IsClosed}
+use Rattle.wq_words.specs.History.{accepted, begun, ended, running, next, shut, starts_hold, stops_hold, IsRunning, IsPending, Holds}
 use Rattle.wq_words.specs.Legal.{IsLegal}
 use Rattle.wq_words.specs.Keeper.{Keeper, Home, Sender, Listed, Owner, keeper}
 use Rattle.wq_words.proofs.Growing.{growing, count_by_push, slice_get_append, slice_get_last, take_length}
 use Rattle.wq_words.proofs.Legal.{legal_nil, legal_push}
 use Rattle.wq_words.proofs.Order.{in_order}
+use Rattle.wq_words.proofs.Closed.{shut_quiet, open_from_shut}
 use Rattle.wq_words.proofs.Keepers.{queue_bit, kept}
 use Rattle.wq_words.proofs.Places.{keeps_from_keeper}
 use Rattle.wq_words.proofs.Appended.{count_by-append}
@@ -35,7 +36,7 @@ pub record Tells (layout : Layout) (t : List Mark) (h : List Event) : Type 0 whe
   pub few : length early ≤ 1
   pub idle : 0 < length early → length (started t) ≡ length (returned t)
   pub free : (s k : ℕ) → ¬ Holds h s k
-  pub opens : ¬ IsClosed h
+  pub opens : shut h ≡ false
 
 module _ (layout : Layout) (h : List Event) (legal : IsLegal layout h) (k : ℕ) where
   by_keeper : (x : Keeper) → keeper h k ≡ x → ((s : ℕ) → ¬ Holds h s k) → queue_bit x ≡ 0 → ¬ IsPending h k
@@ -112,7 +113,7 @@ module _ (layout : Layout) (t : List Mark) (h : List Event) (o : Tells layout t 
             count_by_push (starts_hold s j) h (event.Begin k),
             count_by_push (stops_hold s j) h (event.Begin k),
           ));
-          opens = λ is. o.opens (omega (arith, is, count_by_push is_close h (event.Begin k)));
+          opens = shut_quiet h (event.Begin k) refl refl refl ∙ o.opens;
         },
         refl,
       )
@@ -123,9 +124,9 @@ module _ (layout : Layout) (t : List Mark) (h : List Event) (o : Tells layout t 
   queue_more k small none =
       let seat : 0 < layout.senders = omega (arith, layout.in_limits.2.0) in
       let number : k < number_count layout = omega (arith, small) in
-      let unclosed : ¬ IsClosed (h ++ event.Hold 0 k ∷ []) = λ is. o.opens (omega (arith, is, count_by_push is_close h (event.Hold 0 k))) in
+      let opens' : shut (h ++ event.Hold 0 k ∷ []) ≡ false = shut_quiet h (event.Hold 0 k) refl refl refl ∙ o.opens in
       let held = legal_push layout h (event.Hold 0 k) o.legal (seat, number, idle_number layout h o.legal k (λ s. o.free s k) none) in
-      let pushed = legal_push layout (h ++ event.Hold 0 k ∷ []) (event.Push 0 k) held (seat, number, (holds_once layout h o.legal k, unclosed)) in
+      let pushed = legal_push layout (h ++ event.Hold 0 k ∷ []) (event.Push 0 k) held (seat, number, (holds_once layout h o.legal k, open_from_shut (h ++ event.Hold 0 k ∷ []) opens')) in
       record {
         shows = subst (Shows (t ++ Queue k ∷ [])) (append_assoc h (event.Hold 0 k ∷ []) (event.Push 0 k ∷ []))
             (queues t (h ++ event.Hold 0 k ∷ []) (event.Push 0 k) k
@@ -138,7 +139,8 @@ module _ (layout : Layout) (t : List Mark) (h : List Event) (o : Tells layout t 
         few = o.few;
         idle = λ some. simp growing (o.idle some);
         free = free_hold h k o.free;
-        opens = λ is. o.opens (omega (arith, is, count_by-append is_close h (event.Hold 0 k ∷ event.Push 0 k ∷ [])));
+        opens = subst (λ g. shut g ≡ false) (append_assoc h (event.Hold 0 k ∷ []) (event.Push 0 k ∷ []))
+            (shut_quiet (h ++ event.Hold 0 k ∷ []) (event.Push 0 k) refl refl refl ∙ opens');
       }
 
   -- the start of an execution that had begun unseen
@@ -184,7 +186,7 @@ module _ (layout : Layout) (t : List Mark) (h : List Event) (o : Tells layout t 
         few = omega arith;
         idle = λ some. absurd (omega arith);
         free = λ s j holds. o.free s j (omega (arith, holds, count_by_push (starts_hold s j) h (event.End k), count_by_push (stops_hold s j) h (event.End k)));
-        opens = λ is'. o.opens (omega (arith, is', count_by_push is_close h (event.End k)));
+        opens = shut_quiet h (event.End k) refl refl refl ∙ o.opens;
       }
     where
       none_early : length (returned t) < length (started t) → length o.early ≡ 0
@@ -265,7 +267,7 @@ opening layout = record {
   few = omega arith;
   idle = λ some. absurd (omega arith);
   free = λ s k holds. absurd (omega (arith, holds));
-  opens = λ is. absurd (omega (arith, is));
+  opens = refl;
 }
 
 go : (layout : Layout) (seen rest : List Mark) → Next layout seen → IsLegalTrace layout (seen ++ rest) → Next layout (seen ++ rest)

@@ -2,10 +2,11 @@
 use Rattle.std.proofs.Common.{◌≡◌, ◌≢◌, ℕ, suc, ◌+◌, ◌-◌, ◌<◌, ◌≤◌, ◌==◌, ◌↔◌, Bool, true, false, not, IsTrue, List, [], ◌∷◌, length, drop, get_or, cond, slice_get, Option, Some, None, is_some, refl, sym, ap, ◌∙◌, arith, length-drop}
 use Rattle.std.proofs.lemmas.Bool.{false≢true, eq-eqb}
 use Rattle.std.specs.List.{Contains}
+use Rattle.std.specs.Option.{MatchOption}
 use Rattle.wq_words.specs.declared.event.Event.{Event}
-use Rattle.wq_words.specs.declared.event.Event.TheVariants.{Hold, Busy, Push, Back, Take, Close, Begin, End, Chain, ChainBusy, Rest}
+use Rattle.wq_words.specs.declared.event.Event.TheVariants.{Hold, Busy, Push, Back, Take, Close, Drain, Resume, Begin, End, Chain, ChainBusy, Rest}
 use Rattle.wq_words.specs.Numbers.{number_count}
-use Rattle.wq_words.specs.History.{accepted, begun, ended, running, next, IsRunning, IsPending, Holds, IsClosed}
+use Rattle.wq_words.specs.History.{accepted, begun, ended, running, next, IsRunning, IsPending, Holds, IsClosed, IsShut}
 use Rattle.wq_words.specs.Legal.{MayFollow}
 use Rattle.wq_words.specs.Keeper.{Keeper, Home, Sender, Listed, Owner, keeper}
 use Rattle.wq_words.proofs.Growing.{slice_get_append}
@@ -13,6 +14,7 @@ use Rattle.wq_words.proofs.Prefixes.{prefix_length}
 use Rattle.wq_words.proofs.Order.{in_order}
 use Rattle.wq_words.proofs.Running.{runs_from_running, rests_from_running, running_from_rests}
 use Rattle.wq_words.proofs.Closed.{closed_from_IsClosed, closed_from_open, IsClosed_from_closed, open_from_closed}
+use Rattle.wq_words.proofs.Closed.{shut_from_IsShut, shut_from_open, IsShut_from_shut, open_from_shut, closed_shuts}
 use Rattle.wq_words.proofs.Keepers.{pending_bit, queue_bit, kept}
 use Rattle.wq_words.proofs.Places.{keeper_from_keeps, keeps_from_keeper}
 use Rattle.wq_check.specs.declared.queue.Place.{Place}
@@ -73,11 +75,18 @@ pub refuses : (h : List Event) (e : Event) (why : Cause) → HasCause h e why �
 refuses h (Hold s k) cause.Pending is may = may is
 refuses h (Busy s k) cause.Idle is may = is may
 refuses h (Push s k) cause.NotHeld is may = is may.0
-refuses h (Push s k) cause.Closed is may = may.1 is.1
+refuses h (Push s k) cause.Closed is may = may.1 (closed_shuts h is.1)
+refuses h (Push s k) cause.Draining is may = may.1 is.1.0
 refuses h (Back s k why) cause.NotHeld is may = is may.0
-refuses h (Back s k why) cause.Open is may = is.2 (may.1 is.1)
-refuses h Take cause.Closed is may = may is
+refuses h (Back s k why) cause.Open is may = is.2 (rw is.1 at may.1)
+refuses h (Back s k why) cause.NeverDrained is may = is.2 (rw is.1 at may.1)
+refuses h Take cause.Closed is may = may (closed_shuts h is)
+refuses h Take cause.Draining is may = may is.0
 refuses h Close cause.Closed is may = may is
+refuses h Drain cause.Closed is may = may (closed_shuts h is)
+refuses h Drain cause.Draining is may = may is.0
+refuses h Resume cause.NotDraining is may = is may.0
+refuses h Resume cause.NotEnded is may = is.1 may.1
 refuses h (Begin k) (cause.Runs j) is may = may.0 (runs_from_running h j is)
 refuses h (Begin k) cause.NotWaiting is may = is.1 (first_waits h k may.1)
 refuses h (Begin k) (cause.Next j) is may = is.3 (cc (is.2, may.1))
@@ -89,9 +98,23 @@ refuses h (Chain k) cause.Pending is may = may.2 is.2
 refuses h (ChainBusy k) cause.Open is may = is may.0
 refuses h (ChainBusy k) cause.NothingRuns is may = is.1 may.1
 refuses h (ChainBusy k) cause.Idle is may = is.2 may.2
-refuses h Rest cause.Closed is may = may.0 is
+refuses h Rest cause.Closed is may = may.0 (closed_shuts h is)
+refuses h Rest cause.Draining is may = may.0 is.0
 refuses h Rest cause.NotEnded is may = is.1 may.1
 refuses h _ _ is may = absurd is
+
+-- what is said against a Take, if anything, is said against a Push of what its sender holds, and against a Rest
+pub push_too : (h : List Event) (s k : ℕ) (answer : Option Cause) → Holds h s k → MatchOption answer (MayFollow h Take) (HasCause h Take)
+    → MatchOption answer (MayFollow h (Push s k)) (HasCause h (Push s k))
+push_too h s k None holds is = (holds, is)
+push_too h s k (Some cause.Closed) holds is = (holds, is)
+push_too h s k (Some cause.Draining) holds is = (holds, is)
+push_too h s k (Some _) holds is = absurd is
+
+pub rest_too : (h : List Event) (why : Cause) → HasCause h Take why → HasCause h Rest why
+rest_too h cause.Closed is = is
+rest_too h cause.Draining is = is
+rest_too h _ is = absurd is
 
 -- a test and its negation
 pub not-is : (b : Bool) (P : Type 0) → (IsTrue b ↔ P) → IsTrue (not b) ↔ (P → ⊥)
@@ -117,11 +140,17 @@ module _ (c : QueueState) (h : List Event) (o : StandsAfter c h) where
     λ holds. o.places_are k lt ∙ ap place_by_keeper (keeper_from_keeps c.layout h o.legal k (Sender s) holds),
   )
 
-  pub shut-closed : (c.closed ≡ true) ↔ IsClosed h
-  shut-closed = (λ e. IsClosed_from_closed h (sym o.closed_is ∙ e), λ is. o.closed_is ∙ closed_from_IsClosed h is)
+  pub is-closed : (c.closed ≡ true) ↔ IsClosed h
+  is-closed = (λ e. IsClosed_from_closed h (sym o.closed_is ∙ e), λ is. o.closed_is ∙ closed_from_IsClosed h is)
 
-  pub open-open : (c.closed ≡ false) ↔ (¬ IsClosed h)
-  open-open = (λ e. open_from_closed h (sym o.closed_is ∙ e), λ is. o.closed_is ∙ closed_from_open h is)
+  pub not-closed : (c.closed ≡ false) ↔ (¬ IsClosed h)
+  not-closed = (λ e. open_from_closed h (sym o.closed_is ∙ e), λ is. o.closed_is ∙ closed_from_open h is)
+
+  pub is-shut : (c.shut ≡ true) ↔ IsShut h
+  is-shut = (λ e. IsShut_from_shut h (sym o.shut_is ∙ e), λ is. o.shut_is ∙ shut_from_IsShut h is)
+
+  pub not-shut : (c.shut ≡ false) ↔ (¬ IsShut h)
+  not-shut = (λ e. open_from_shut h (sym o.shut_is ∙ e), λ is. o.shut_is ∙ shut_from_open h is)
 
   pub idle-rests : (c.running ≡ None) ↔ (¬ IsRunning h)
   idle-rests = (λ e. rests_from_running h (sym o.running_is ∙ e), λ rests. o.running_is ∙ running_from_rests h rests)

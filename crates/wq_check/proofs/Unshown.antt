@@ -66,6 +66,8 @@ module _ (layout : Layout) (t : List Mark) (h : List Event) (legal : IsLegal lay
   waits_not (event.Back s j why) k a is = absurd cc
   waits_not event.Take k a is = absurd cc
   waits_not event.Close k a is = absurd cc
+  waits_not event.Drain k a is = absurd cc
+  waits_not event.Resume k a is = absurd cc
   waits_not (event.Begin j) k a is = absurd cc
   waits_not (event.End j) k a is = absurd cc
   waits_not (event.ChainBusy j) k a is = absurd cc

@@ -4,7 +4,7 @@ use Rattle.std.proofs.lemmas.Bool.{eqb-true}
 use Rattle.std.proofs.lemmas.List.{drop_at, take-append-drop}
 use Rattle.wq_words.specs.declared.layout.Layout.{Layout}
 use Rattle.wq_words.specs.declared.event.Event.{Event}
-use Rattle.wq_words.specs.declared.event.Event.TheVariants.{Hold, Busy, Push, Back, Take, Close, Begin, End, Chain, ChainBusy, Rest}
+use Rattle.wq_words.specs.declared.event.Event.TheVariants.{Hold, Busy, Push, Back, Take, Close, Drain, Resume, Begin, End, Chain, ChainBusy, Rest}
 use Rattle.wq_words.specs.Numbers.{number_count}
 use Rattle.wq_words.specs.History.{accepted, accepted_by, begun}
 use Rattle.wq_words.specs.Legal.{IsAllowed, IsLegal}
@@ -36,6 +36,8 @@ more layout h (Busy s k) allowed before q is = before q (subst (λ (xs : List �
 more layout h (Back s k why) allowed before q is = before q (subst (λ (xs : List ℕ). 1 ≤ times q xs) (accepted_push_none h (Back s k why) refl) is)
 more layout h Take allowed before q is = before q (subst (λ (xs : List ℕ). 1 ≤ times q xs) (accepted_push_none h Take refl) is)
 more layout h Close allowed before q is = before q (subst (λ (xs : List ℕ). 1 ≤ times q xs) (accepted_push_none h Close refl) is)
+more layout h Drain allowed before q is = before q (subst (λ (xs : List ℕ). 1 ≤ times q xs) (accepted_push_none h Drain refl) is)
+more layout h Resume allowed before q is = before q (subst (λ (xs : List ℕ). 1 ≤ times q xs) (accepted_push_none h Resume refl) is)
 more layout h (Begin k) allowed before q is = before q (subst (λ (xs : List ℕ). 1 ≤ times q xs) (accepted_push_none h (Begin k) refl) is)
 more layout h (End k) allowed before q is = before q (subst (λ (xs : List ℕ). 1 ≤ times q xs) (accepted_push_none h (End k) refl) is)
 more layout h (ChainBusy k) allowed before q is = before q (subst (λ (xs : List ℕ). 1 ≤ times q xs) (accepted_push_none h (ChainBusy k) refl) is)

@@ -1,9 +1,9 @@
 -- What a checker keeps of the history that it was told.
-use Rattle.std.specs.Prelude.{◌≡◌, ℕ, ◌<◌, Bool, List, length, get_or, Option, MatchOption}
+use Rattle.std.specs.Prelude.{◌≡◌, ◌↔◌, ℕ, ◌<◌, Bool, IsTrue, List, length, get_or, Option, MatchOption}
 use Rattle.wq_words.specs.declared.layout.Layout.{Layout}
 use Rattle.wq_words.specs.declared.event.Event.{Event}
 use Rattle.wq_words.specs.Numbers.{number_count}
-use Rattle.wq_words.specs.History.{running, closed}
+use Rattle.wq_words.specs.History.{running, closed, shut, HasDrained}
 use Rattle.wq_words.specs.Legal.{MayFollow, IsLegal}
 use Rattle.wq_words.specs.Keeper.{Keeper, Home, Sender, Listed, Owner, keeper}
 use Rattle.wq_check.specs.declared.cause.Cause.{Cause}
@@ -14,17 +14,27 @@ use Rattle.wq_check.specs.Left.{unbegun}
 use Rattle.wq_check.specs.Causes.{HasCause}
 use Rattle.wq_check.specs.Report.{event_counts}
 
--- where each number stands, which wait, oldest first, which runs, and whether the queue is closed
+-- where each number stands, which wait, oldest first, which runs, whether the queue is closed, whether it takes no push now, and
+-- whether some drain has begun
 pub record QueueState : Type 0 where
   pub layout : Layout
   pub places : List Place
   pub waiting : List ℕ
   pub running : Option ℕ
   pub closed : Bool
+  pub shut : Bool
+  pub has_drained : Bool
 
-abbrev pub queue_state : Layout → List Place → List ℕ → Option ℕ → Bool → QueueState
-queue_state layout places waiting running closed =
-    record { layout = layout; places = places; waiting = waiting; running = running; closed = closed }
+abbrev pub queue_state : Layout → List Place → List ℕ → Option ℕ → (closed shut has_drained : Bool) → QueueState
+queue_state layout places waiting running closed shut has_drained = record {
+  layout = layout;
+  places = places;
+  waiting = waiting;
+  running = running;
+  closed = closed;
+  shut = shut;
+  has_drained = has_drained;
+}
 
 -- where a number stands by its keeper
 abbrev pub place_by_keeper : Keeper → Place
@@ -41,6 +51,8 @@ pub record StandsAfter (q : QueueState) (h : List Event) : Type 0 where
   pub waiting_is : q.waiting ≡ unbegun h
   pub running_is : q.running ≡ running h
   pub closed_is : q.closed ≡ closed h
+  pub shut_is : q.shut ≡ shut h
+  pub has_drained_is : IsTrue q.has_drained ↔ HasDrained h
 
 -- the answer says whether the event may come after each history after which the queue stands so, and else the cause
 abbrev pub Judges : QueueState → Event → Option Cause → Type 0

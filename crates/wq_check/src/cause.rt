@@ -17,7 +17,16 @@ pub enum Cause {
     /// The queue is closed.
     #[error("closed")]
     Closed,
-    /// The queue is not closed.
+    /// The queue drains.
+    #[error("draining")]
+    Draining,
+    /// The queue does not drain.
+    #[error("not draining")]
+    NotDraining,
+    /// No drain has begun.
+    #[error("never drained")]
+    NeverDrained,
+    /// The queue neither is closed nor drains; of a number given back since the queue was closed, it is not closed.
     #[error("open")]
     Open,
     /// This number runs.

@@ -21,7 +21,7 @@ pub struct Counts {
     pub executed: u64,
     /// Queueings that found the PENDING bit set.
     pub busy: u64,
-    /// Queueings that were given back since the queue was closed.
+    /// Queueings that were given back since the queue took no push: it was closed, or drained.
     pub refused: u64,
     /// How many numbers, accepted and not begun, waited at the moment when most did.
     pub most_waiting: usize,
@@ -82,7 +82,7 @@ fn is_refusal(event: Event) -> bool
     ensures { result ≡ is_refusal event }
 {
     match event {
-        Event::Back(_, _, why) => why == Why::Closed,
+        Event::Back(_, _, why) => matches!(why, Why::Closed | Why::Draining),
         _ => false,
     }
 }

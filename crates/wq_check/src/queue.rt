@@ -2,7 +2,7 @@
 ghost use Rattle.std.specs.Prelude.{◌≡◌, ◌↔◌, ◌<◌, List, ◌++◌, ◌∷◌, [], length, get_or, slice_get, IsTrue, IfOk, OnOk, IfErr};
 ghost use Rattle.wq_words.specs.declared.event.Event.{Event};
 ghost use Rattle.wq_words.specs.declared.event.Event.TheVariants as event;
-ghost use Rattle.wq_words.specs.History.{IsPending, Holds};
+ghost use Rattle.wq_words.specs.History.{IsPending, Holds, IsDraining};
 ghost use Rattle.wq_words.specs.Legal.{HasSeat, HasNumber, IsAllowed};
 ghost use Rattle.wq_words.specs.Numbers.{number_count};
 ghost use Rattle.wq_check.specs.declared.queue.Place.TheVariants.{Idle};
@@ -35,6 +35,10 @@ pub(crate) struct Queue {
     waiting: HeapCircularBuffer<u32>,
     running: Option<u32>,
     closed: bool,
+    // closed or draining
+    shut: bool,
+    // a drain has begun, ended or not
+    has_drained: bool,
 }
 
 impl Model for Queue {
@@ -45,11 +49,11 @@ impl Model for Queue {
 
     ghost Value = { QueueState };
 
-    ghost view = { λ q. queue_state q.layout q.places.items q.waiting.items q.running q.closed };
+    ghost view = { λ q. queue_state q.layout q.places.items q.waiting.items q.running q.closed q.shut q.has_drained };
 
     // there is room for all numbers to wait
     ghost invariant = { λ q. (q.waiting.capacity ≡ number_count q.layout)
-        × ((h : List Event) × StandsAfter (queue_state q.layout q.places.items q.waiting.items q.running q.closed) h) };
+        × ((h : List Event) × StandsAfter (queue_state q.layout q.places.items q.waiting.items q.running q.closed q.shut q.has_drained) h) };
 }
 
 // Whether its sender, if it has one, is one of the queue's.
@@ -78,7 +82,7 @@ fn has_number(layout: &Layout, event: Event) -> bool
         | Event::Begin(number)
         | Event::End(number) => number < count,
         Event::Chain(number) | Event::ChainBusy(number) => number < layout.items,
-        Event::Take | Event::Close | Event::Rest => true,
+        Event::Take | Event::Close | Event::Drain | Event::Resume | Event::Rest => true,
     }
 }
 
@@ -94,6 +98,8 @@ impl Queue {
             waiting: HeapCircularBuffer::with_capacity(alloc, count)?,
             running: None,
             closed: false,
+            shut: false,
+            has_drained: false,
         })
     }
 
@@ -116,6 +122,26 @@ impl Queue {
         ensures { (h : List Event) → StandsAfter self.now h → IsTrue result ↔ Holds h sender number }
     {
         self.is_at(number, Place::Held(sender))
+    }
+
+    fn is_draining(&self) -> bool
+        ensures { (h : List Event) → StandsAfter self.now h → IsTrue result ↔ IsDraining h }
+    {
+        self.shut && !self.closed
+    }
+
+    // Of a Take and of a Drain: why the queue is not open, if it is not.
+    fn shut_cause(&self) -> Option<Cause>
+        ensures take { Judges self.now event.Take result }
+        ensures drain { Judges self.now event.Drain result }
+    {
+        if self.closed {
+            return Some(Cause::Closed);
+        }
+        if self.shut {
+            return Some(Cause::Draining);
+        }
+        None
     }
 
     fn hold_cause(&self, sender: u32, number: u32) -> Option<Cause>
@@ -145,10 +171,7 @@ impl Queue {
         if !self.is_held(sender, number) {
             return Some(Cause::NotHeld);
         }
-        if self.closed {
-            return Some(Cause::Closed);
-        }
-        None
+        self.shut_cause()
     }
 
     fn back_cause(&self, sender: u32, number: u32, why: Why) -> Option<Cause>
@@ -158,19 +181,30 @@ impl Queue {
         if !self.is_held(sender, number) {
             return Some(Cause::NotHeld);
         }
-        if why == Why::Closed && !self.closed {
-            return Some(Cause::Open);
+        match why {
+            Why::Closed if !self.closed => Some(Cause::Open),
+            Why::Draining if !self.has_drained => Some(Cause::NeverDrained),
+            _ => None,
+        }
+    }
+
+    fn close_cause(&self) -> Option<Cause>
+        ensures { Judges self.now event.Close result }
+    {
+        if self.closed {
+            return Some(Cause::Closed);
         }
         None
     }
 
-    // Of a Take and of a Close.
-    fn close_cause(&self) -> Option<Cause>
-        ensures take { Judges self.now event.Take result }
-        ensures close { Judges self.now event.Close result }
+    fn resume_cause(&self) -> Option<Cause>
+        ensures { Judges self.now event.Resume result }
     {
-        if self.closed {
-            return Some(Cause::Closed);
+        if !self.is_draining() {
+            return Some(Cause::NotDraining);
+        }
+        if self.left_count() > 0 {
+            return Some(Cause::NotEnded);
         }
         None
     }
@@ -205,7 +239,7 @@ impl Queue {
         requires { number < number_count self.now.layout }
         ensures { Judges self.now (event.Chain number) result }
     {
-        if !self.closed {
+        if !self.shut {
             return Some(Cause::Open);
         }
         if self.running.is_none() {
@@ -221,7 +255,7 @@ impl Queue {
         requires { number < number_count self.now.layout }
         ensures { Judges self.now (event.ChainBusy number) result }
     {
-        if !self.closed {
+        if !self.shut {
             return Some(Cause::Open);
         }
         if self.running.is_none() {
@@ -236,8 +270,8 @@ impl Queue {
     fn rest_cause(&self) -> Option<Cause>
         ensures { Judges self.now event.Rest result }
     {
-        if self.closed {
-            return Some(Cause::Closed);
+        if let Some(cause) = self.shut_cause() {
+            return Some(cause);
         }
         if self.left_count() > 0 {
             return Some(Cause::NotEnded);
@@ -255,7 +289,9 @@ impl Queue {
             Event::Busy(sender, number) => self.busy_cause(sender, number),
             Event::Push(sender, number) => self.push_cause(sender, number),
             Event::Back(sender, number, why) => self.back_cause(sender, number, why),
-            Event::Take | Event::Close => self.close_cause(),
+            Event::Take | Event::Drain => self.shut_cause(),
+            Event::Close => self.close_cause(),
+            Event::Resume => self.resume_cause(),
             Event::Begin(number) => self.begin_cause(number),
             Event::End(number) => self.end_cause(number),
             Event::Chain(number) => self.chain_cause(number),
@@ -294,7 +330,15 @@ impl Queue {
                 let _ = self.waiting.push_back(number);
             }
             Event::Back(_, number, _) => self.places[number as usize] = Place::Idle,
-            Event::Close => self.closed = true,
+            Event::Close => {
+                self.closed = true;
+                self.shut = true;
+            }
+            Event::Drain => {
+                self.shut = true;
+                self.has_drained = true;
+            }
+            Event::Resume => self.shut = false,
             Event::Begin(number) => {
                 self.places[number as usize] = Place::Idle;
                 let _ = self.waiting.pop_front();

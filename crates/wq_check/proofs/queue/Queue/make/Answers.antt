@@ -1,5 +1,5 @@
 use Rattle.std.proofs.Common.{refl, inl, inr}
-use Rattle.wq_words.specs.declared.event.Event.TheVariants.{Hold, Busy, Push, Back, Close, Begin, End, Chain, ChainBusy, Take, Rest}
+use Rattle.wq_words.specs.declared.event.Event.TheVariants.{Hold, Busy, Push, Back, Close, Drain, Resume, Begin, End, Chain, ChainBusy, Take, Rest}
 use Rattle.wq_check.proofs.Following.{after_kept, kept_on, finds_room}
 use Rattle.wq_check.proofs.queue.Queue.make.Goals as goal
 
@@ -20,6 +20,18 @@ invariant_of-self-in-Close-1 c =
     let may = rw (← c.self.view_is, c.in-Close.is) at c.requires in
     let told = c.self.invariant in
     kept_on _ _ told.1.0 told.1.1 Close told.0 (may told.1.0 told.1.1) refl
+
+pub invariant_of-self-in-Drain-1 : goal.invariant_of-self-in-Drain-1
+invariant_of-self-in-Drain-1 c =
+    let may = rw (← c.self.view_is, c.in-Drain.is) at c.requires in
+    let told = c.self.invariant in
+    kept_on _ _ told.1.0 told.1.1 Drain told.0 (may told.1.0 told.1.1) refl
+
+pub invariant_of-self-in-Resume-1 : goal.invariant_of-self-in-Resume-1
+invariant_of-self-in-Resume-1 c =
+    let may = rw (← c.self.view_is, c.in-Resume.is) at c.requires in
+    let told = c.self.invariant in
+    kept_on _ _ told.1.0 told.1.1 Resume told.0 (may told.1.0 told.1.1) refl
 
 pub invariant_of-self-in-Begin-1 : goal.invariant_of-self-in-Begin-1
 invariant_of-self-in-Begin-1 c =
@@ -65,6 +77,18 @@ returns-in-Close c = λ h o.
     let at = rw (← c.self.view_is) at o in
     let may = (rw (← c.self.view_is, c.in-Close.is) at c.requires) h at in
     rw c.in-Close.is (after_kept _ h at Close may)
+
+pub returns-in-Drain : goal.returns-in-Drain
+returns-in-Drain c = λ h o.
+    let at = rw (← c.self.view_is) at o in
+    let may = (rw (← c.self.view_is, c.in-Drain.is) at c.requires) h at in
+    rw c.in-Drain.is (after_kept _ h at Drain may)
+
+pub returns-in-Resume : goal.returns-in-Resume
+returns-in-Resume c = λ h o.
+    let at = rw (← c.self.view_is) at o in
+    let may = (rw (← c.self.view_is, c.in-Resume.is) at c.requires) h at in
+    rw c.in-Resume.is (after_kept _ h at Resume may)
 
 pub returns-in-Begin : goal.returns-in-Begin
 returns-in-Begin c = λ h o.
