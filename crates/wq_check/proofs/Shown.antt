@@ -8,7 +8,7 @@ use Rattle.wq_words.specs.declared.layout.Layout.{Layout}
 use Rattle.wq_words.specs.declared.event.Event.{Event}
 use Rattle.wq_words.specs.declared.event.Event.TheVariants as event
 use Rattle.wq_words.specs.Numbers.{number_count}
-use Rattle.wq_words.specs.History.{accepted, begun, ended, running, next, shut, starts_hold, stops_hold, IsRunning, IsPending, Holds}
+use Rattle.wq_words.specs.History.{accepted, begun, ended, running, next, shut, starts_hold, stops_hold, IsRunning, IsPending, Holds, IsShut}
 use Rattle.wq_words.specs.Legal.{IsLegal}
 use Rattle.wq_words.specs.Keeper.{Keeper, Home, Sender, Listed, Owner, keeper}
 use Rattle.wq_words.proofs.Growing.{growing, count_by_push, slice_get_append, slice_get_last, take_length}
@@ -126,7 +126,8 @@ module _ (layout : Layout) (t : List Mark) (h : List Event) (o : Tells layout t 
       let number : k < number_count layout = omega (arith, small) in
       let opens' : shut (h ++ event.Hold 0 k ∷ []) ≡ false = shut_quiet h (event.Hold 0 k) refl refl refl ∙ o.opens in
       let held = legal_push layout h (event.Hold 0 k) o.legal (seat, number, idle_number layout h o.legal k (λ s. o.free s k) none) in
-      let pushed = legal_push layout (h ++ event.Hold 0 k ∷ []) (event.Push 0 k) held (seat, number, (holds_once layout h o.legal k, open_from_shut (h ++ event.Hold 0 k ∷ []) opens')) in
+      let open' : ¬ IsShut (h ++ event.Hold 0 k ∷ []) = open_from_shut (h ++ event.Hold 0 k ∷ []) opens' in
+      let pushed = legal_push layout (h ++ event.Hold 0 k ∷ []) (event.Push 0 k) held (seat, number, (holds_once layout h o.legal k, open')) in
       record {
         shows = subst (Shows (t ++ Queue k ∷ [])) (append_assoc h (event.Hold 0 k ∷ []) (event.Push 0 k ∷ []))
             (queues t (h ++ event.Hold 0 k ∷ []) (event.Push 0 k) k

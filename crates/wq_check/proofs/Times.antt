@@ -1,5 +1,6 @@
 -- How often a number stands in a list; numbers below n that each stand at most once are at most n.
-use Rattle.std.proofs.Common.{◌≡◌, ℕ, zero, suc, slice_index_or, inl, inr, ◌+◌, ◌<◌, ◌≤◌, Bool, true, false, cond, eqb, ◌==◌, ◌||◌, List, [], ◌∷◌, ◌++◌, length, sym, refl, ap, ◌∙◌, arith, eq-eqb, ne_eqb}
+use Rattle.std.proofs.Common.{◌≡◌, ℕ, zero, suc, slice_index_or, inl, inr, ◌+◌, ◌<◌, ◌≤◌, Bool, true, false, cond, eqb, ◌==◌, ◌||◌, List, [], ◌∷◌, ◌++◌, length}
+use Rattle.std.proofs.Common.{sym, refl, ap, ◌∙◌, arith, eq-eqb, ne_eqb}
 use Rattle.std.specs.List.{Contains, list_any, AllByRecursion, IsDistinct, count_by}
 use Rattle.std.proofs.lemmas.List.Sums.{sum_by-cons, sum_by-append}
 use Rattle.std.proofs.lemmas.Map.Steps.{length-le_from_distinct_below}

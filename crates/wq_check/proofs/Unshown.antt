@@ -1,5 +1,6 @@
 -- A trace of a legal history keeps to the three rules.
-use Rattle.std.proofs.Common.{◌≡◌, ℕ, ◌+◌, ◌<◌, ◌≤◌, List, [], ◌∷◌, ◌++◌, length, drop, take, slice_get, Some, None, refl, sym, ap, ◌∙◌, arith, inl, inr, length-append}
+use Rattle.std.proofs.Common.{◌≡◌, ℕ, ◌+◌, ◌<◌, ◌≤◌, List, [], ◌∷◌, ◌++◌, length, drop, take, slice_get, Some, None, refl, sym, ap, ◌∙◌, arith, inl, inr}
+use Rattle.std.proofs.Common.{length-append}
 use Rattle.std.proofs.lemmas.List.{append-nil, drop-drop, take-append-drop}
 use Rattle.std.proofs.lemmas.Bool.{cases_lt, eq-eqb}
 use Rattle.std.proofs.lemmas.Option.{slice_get_within}
@@ -9,7 +10,8 @@ use Rattle.wq_words.specs.declared.event.Event.TheVariants as event
 use Rattle.wq_words.specs.History.{accepted_by, accepted, begun_by, begun, ended_by, ended, running}
 use Rattle.wq_words.specs.Legal.{IsLegal, IsAllowed}
 use Rattle.wq_words.specs.Keeper.{Home, Sender, keeper}
-use Rattle.wq_words.proofs.Growing.{growing, filter_map_push_some, filter_map_push_none, slice_get_append, slice_get_last, slice_get_push, take_append, take_length}
+use Rattle.wq_words.proofs.Growing.{growing, filter_map_push_some, filter_map_push_none, slice_get_append, slice_get_last, slice_get_push, take_append}
+use Rattle.wq_words.proofs.Growing.{take_length}
 use Rattle.wq_words.proofs.Legal.{legal_front, legal_next}
 use Rattle.wq_words.proofs.Prefixes.{prefix_length}
 use Rattle.wq_words.proofs.Order.{in_order}
