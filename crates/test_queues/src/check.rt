@@ -6,7 +6,9 @@ use wq_check::{
     Cause, Checker, Counts, EventError, Mark, MarkCounts, MarkError, Report, TraceChecker,
     TraceReport,
 };
-use wq_words::Event::{Back, Begin, Busy, Chain, ChainBusy, Close, End, Hold, Push, Rest, Take};
+use wq_words::Event::{
+    Back, Begin, Busy, Chain, ChainBusy, Close, Drain, End, Hold, Push, Rest, Resume, Take,
+};
 use wq_words::{Event, Layout, Why};
 
 /// Tells the events to a checker of a queue of 2 items, 1 barrier and 2 senders, so that 2 is the barrier and 3 the stop item:
@@ -93,6 +95,66 @@ const EVENTS: &[(&[Event], Option<EventError>)] = &[
         Some(NotAllowed(Cause::NotEnded)),
     ),
     (&[HELD, PUSHED, Begin(0), End(0), Rest], None),
+    (&[Drain, PUSHED], Some(NotAllowed(Cause::NotHeld))),
+    (&[HELD, Drain, PUSHED], Some(NotAllowed(Cause::Draining))),
+    (
+        &[HELD, Drain, Close, PUSHED],
+        Some(NotAllowed(Cause::Closed)),
+    ),
+    (&[HELD, Drain, Resume, PUSHED], None),
+    (&[Drain, Take], Some(NotAllowed(Cause::Draining))),
+    (&[Drain, Drain], Some(NotAllowed(Cause::Draining))),
+    (&[Close, Drain], Some(NotAllowed(Cause::Closed))),
+    (&[Drain, Resume, Drain], None),
+    (&[Drain, Rest], Some(NotAllowed(Cause::Draining))),
+    (&[Drain, Close], None),
+    (&[Drain, Close, Close], Some(NotAllowed(Cause::Closed))),
+    (&[Resume], Some(NotAllowed(Cause::NotDraining))),
+    (
+        &[Drain, Resume, Resume],
+        Some(NotAllowed(Cause::NotDraining)),
+    ),
+    (
+        &[Drain, Close, Resume],
+        Some(NotAllowed(Cause::NotDraining)),
+    ),
+    (
+        &[HELD, PUSHED, Drain, Resume],
+        Some(NotAllowed(Cause::NotEnded)),
+    ),
+    (
+        &[HELD, PUSHED, Drain, Begin(0), Resume],
+        Some(NotAllowed(Cause::NotEnded)),
+    ),
+    (&[HELD, PUSHED, Drain, Begin(0), End(0), Resume], None),
+    (
+        &[Drain, Back(0, 0, Why::Draining)],
+        Some(NotAllowed(Cause::NotHeld)),
+    ),
+    (
+        &[HELD, Close, Back(0, 0, Why::Draining)],
+        Some(NotAllowed(Cause::NeverDrained)),
+    ),
+    (&[HELD, Drain, Back(0, 0, Why::Draining)], None),
+    (&[HELD, Drain, Resume, Back(0, 0, Why::Draining)], None),
+    (
+        &[HELD, Drain, Back(0, 0, Why::Closed)],
+        Some(NotAllowed(Cause::Open)),
+    ),
+    (&[Drain, Chain(0)], Some(NotAllowed(Cause::NothingRuns))),
+    (&[HELD, PUSHED, Drain, Begin(0), Chain(0)], None),
+    (
+        &[HELD, PUSHED, Drain, Begin(0), Chain(0), ChainBusy(0)],
+        None,
+    ),
+    (
+        &[HELD, PUSHED, Drain, Begin(0), End(0), Resume, Chain(1)],
+        Some(NotAllowed(Cause::Open)),
+    ),
+    (
+        &[Drain, Resume, ChainBusy(1)],
+        Some(NotAllowed(Cause::Open)),
+    ),
 ];
 
 #[test]
@@ -164,6 +226,66 @@ fn report_of_a_history(rt: HostRuntime) {
     };
     expect_same(&rt, checker.report(), done);
     expect_same(&rt, checker.left_at(0), None);
+}
+
+const DRAINED: &[Event] = &[
+    HELD,
+    PUSHED,
+    Hold(1, 1),
+    Drain,
+    Back(1, 1, Why::Draining),
+    Begin(0),
+    End(0),
+];
+
+const RESUMED_AND_CLOSED: &[Event] = &[Resume, Hold(1, 1), Close, Back(1, 1, Why::Closed)];
+
+#[test]
+fn report_of_a_drain(rt: HostRuntime) {
+    let layout = Layout::new(2, 1, 2).expect(&rt, "a layout");
+    let mut checker = Checker::new(rt.alloc(), layout).expect(&rt, "a checker");
+    let report = Report {
+        counts: Counts {
+            events: 7,
+            accepted: 1,
+            chained: 0,
+            executed: 1,
+            busy: 0,
+            refused: 1,
+            most_waiting: 1,
+        },
+        left: 0,
+        closed: false,
+        complete: false,
+    };
+    check(&rt, &mut checker, DRAINED, None);
+    expect_same(&rt, checker.report(), report);
+    check(&rt, &mut checker, RESUMED_AND_CLOSED, None);
+    let done = Report {
+        counts: Counts {
+            events: 11,
+            refused: 2,
+            ..report.counts
+        },
+        closed: true,
+        complete: true,
+        ..report
+    };
+    expect_same(&rt, checker.report(), done);
+}
+
+#[test]
+fn words_of_causes(rt: HostRuntime) {
+    for (cause, words) in [
+        (Cause::Draining, "draining"),
+        (Cause::NotDraining, "not draining"),
+        (Cause::NeverDrained, "never drained"),
+        (Cause::Open, "open"),
+        (Cause::Runs(7), "runs 7"),
+    ] {
+        let text = format!(in rt.alloc(); "{cause}").expect(&rt, "memory");
+        expect_same(&rt, text.as_str(), words);
+    }
 }
 
 /// Traces with what is wrong with their last mark.
