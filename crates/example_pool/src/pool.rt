@@ -1,11 +1,11 @@
 //! The two queues and their pool.
 ghost use Rattle.std.specs.Prelude.{◌≡◌, ◌+◌, ◌<◌, ◌≤◌, ◌∷◌, [], All, IfOk, length};
-ghost use Rattle.wq_words.specs.History.{accepted, IsRunning};
-ghost use Rattle.wq_words.specs.Seen.{own};
-ghost use Rattle.wq_ready.specs.Known.{IsCallerOf};
-ghost use Rattle.wq_worker.specs.State.{items_among};
+ghost use Rattle.wq_pool.specs.History.{accepted, IsRunning};
+ghost use Rattle.wq_pool.specs.Seen.{own};
+ghost use Rattle.wq_pool.specs.Known.{IsCallerOf};
+ghost use Rattle.wq_pool.specs.State.{items_among};
 ghost use Rattle.wq_pool.specs.Finished.{AreFinished};
-ghost use Rattle.wq_turn.specs.WorkerId.{worker_id};
+ghost use Rattle.wq_pool.specs.WorkerId.{worker_id};
 ghost use Rattle.example_pool.specs.Ended.{IsNewLine, HaveQueued, RanAll};
 
 use crate::queueing::{Line, Seat, Told, queue_all};

@@ -1,10 +1,9 @@
 //! Senders in threads of their own, and the stop items.
 ghost use Rattle.std.specs.Prelude.{◌≡◌, ◌<◌, ◌≤◌, ◌++◌, []};
-ghost use Rattle.wq_words.specs.History.{accepted};
-ghost use Rattle.wq_words.specs.Seen.{own};
-ghost use Rattle.wq_live.specs.Known.{IsSame};
-ghost use Rattle.wq_live.specs.Laws.{queued_number};
-ghost use Rattle.wq_ready.specs.Known.{IsCallerOf};
+ghost use Rattle.wq_pool.specs.History.{accepted};
+ghost use Rattle.wq_pool.specs.Seen.{own};
+ghost use Rattle.wq_pool.specs.Laws.{queued_number};
+ghost use Rattle.wq_pool.specs.Known.{IsSame, IsCallerOf};
 ghost use Rattle.example_pool.specs.Ended.{IsNewLine, QueuedBoth, HaveQueued};
 
 use crate::work::Runs;

@@ -1,7 +1,7 @@
 //! The owner, which takes, executes, rests and parks until the stop item ran.
 ghost use Rattle.std.specs.Prelude.{◌≡◌, ◌≢◌, []};
-ghost use Rattle.wq_words.specs.History.{accepted, begun, ended, IsRunning, IsClosed, IsShut};
-ghost use Rattle.wq_words.specs.Legal.{IsComplete};
+ghost use Rattle.wq_live.specs.History.{accepted, begun, ended, IsRunning, IsClosed, IsShut};
+ghost use Rattle.wq_live.specs.Legal.{IsComplete};
 ghost use Rattle.wq_live.specs.Known.{IsSame};
 ghost use Rattle.wq_live.specs.Batch.{batch};
 

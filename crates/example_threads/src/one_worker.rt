@@ -1,7 +1,7 @@
 //! One worker, whose sender's items it runs until it is destroyed.
 ghost use Rattle.std.specs.Prelude.{◌≡◌, ◌≤◌, [], IfOk, IfSome};
-ghost use Rattle.wq_words.specs.History.{accepted};
-ghost use Rattle.wq_words.specs.Legal.{IsLegal};
+ghost use Rattle.wq_worker.specs.History.{accepted};
+ghost use Rattle.wq_worker.specs.Legal.{IsLegal};
 ghost use Rattle.wq_worker.specs.State.{items_among};
 
 use std::alloc::{AllocError, Global};

@@ -1,8 +1,8 @@
 //! A sender, which queues its items and wakes the owner where an answer says so.
 ghost use Rattle.std.specs.Prelude.{◌≡◌, ◌<◌, ◌≤◌, ◌++◌, []};
-ghost use Rattle.wq_words.specs.History.{accepted};
-ghost use Rattle.wq_words.specs.Seen.{own};
-ghost use Rattle.wq_words.specs.Numbers.{stop_number};
+ghost use Rattle.wq_live.specs.History.{accepted};
+ghost use Rattle.wq_live.specs.Seen.{own};
+ghost use Rattle.wq_live.specs.Numbers.{stop_number};
 ghost use Rattle.wq_live.specs.Known.{IsSame};
 ghost use Rattle.wq_live.specs.Laws.{queued_number};
 

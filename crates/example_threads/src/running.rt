@@ -1,8 +1,8 @@
 //! Three senders in threads of their own, and beside them the owner in its own.
 ghost use Rattle.std.specs.Prelude.{◌≡◌, ◌*◌, ◌<◌, ◌≤◌, [], IfOk};
-ghost use Rattle.wq_words.specs.History.{accepted, begun, ended};
-ghost use Rattle.wq_words.specs.Legal.{IsComplete};
-ghost use Rattle.wq_words.specs.Seen.{own};
+ghost use Rattle.wq_live.specs.History.{accepted, begun, ended};
+ghost use Rattle.wq_live.specs.Legal.{IsComplete};
+ghost use Rattle.wq_live.specs.Seen.{own};
 ghost use Rattle.wq_live.specs.Known.{IsSame, new_sender, new_owner};
 ghost use Rattle.example_threads.specs.Met.{IsHistoryOf};
 

@@ -2,6 +2,8 @@
 use Rattle.std.specs.Prelude.{◌≡◌, ℕ, List}
 use Rattle.atomic_table.specs.Seated.{TableId}
 use Rattle.wq_ready.specs.Known.{Identity}
+pub use Rattle.wq_live.specs.Known.{IsSame}
+pub use Rattle.wq_ready.specs.Known.{IsCallerOf}
 use Rattle.wq_worker.specs.State.{WorkerState}
 use Rattle.wq_turn.specs.declared.worker_id.WorkerId.{WorkerId}
 use Rattle.wq_turn.specs.WorkerId.{worker_id}
