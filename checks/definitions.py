@@ -19,10 +19,30 @@ PROMISE_NOTHING = {"wqrun", "bench_queue", "bench_pool", "test_memory", "test_qu
 CRATES = set(re.findall(r"^(\w+)[^#\n]*:", (TOP / "crates.txt").read_text(), re.M))
 
 
+def offered_again():
+    """Where a crate's specs pass on a file of another crate, or words of one: that crate, by their own crate, file and word."""
+    homes = {}
+    for file in TOP.glob("crates/*/specs/*.antt"):
+        crate = file.parent.parent.name
+        for home, name, words in re.findall(r"^pub use Rattle\.(\w+)\.specs\.(\w+)(?:\.\{([^}]*)\})?$", file.read_text(), re.M):
+            homes.update({(crate, file.stem, word.strip()): home for word in words.split(",")} if words else {(crate, name, ""): home})
+    return homes
+
+
+OFFERED_AGAIN = offered_again()
+
+
+def home_of(crate, file, word):
+    """The crate that declares the word which a file of this crate's specs has, or passes on."""
+    home = OFFERED_AGAIN.get((crate, file, "")) or OFFERED_AGAIN.get((crate, file, word))
+    return home_of(home, file, word) if home else crate
+
+
 def imported(text):
     """Crate and word of what a file of code imports from definitions, the types of the code itself left out."""
-    uses = re.findall(r"^\s*ghost use Rattle\.(\w+)\.specs\.(?!declared\b)[\w.]+\.\{([^}]*)\};", text, re.M)
-    return {(crate, word.strip()) for crate, words in uses if crate in CRATES for word in words.split(",")}
+    uses = re.findall(r"^\s*ghost use Rattle\.(\w+)\.specs\.(?!declared\b)([\w.]+)\.\{([^}]*)\};", text, re.M)
+    cited = [(crate, file, word.strip()) for crate, file, words in uses if crate in CRATES for word in words.split(",")]
+    return {(home_of(crate, file, word), word) for crate, file, word in cited}
 
 
 def clauses_of(lines, indent):
