@@ -8,9 +8,9 @@ use Rattle.wq_words.specs.declared.answer.Armed.TheVariants as armed
 use Rattle.wq_words.specs.declared.answer.Modified.TheVariants as modified
 
 -- by the tests on which a queueing rests
-each_queueing : (set shut is_first wakes_it : Bool)
-    → (if set then answer.Pending else if shut then answer.Closed else answer.Queued is_first wakes_it) ≢ answer.Contended
-each_queueing true shut is_first wakes_it = λ e. cc
+each_queueing : (set refused is_first wakes_it : Bool)
+    → (if set then answer.Pending else if refused then answer.Closed else answer.Queued is_first wakes_it) ≢ answer.Contended
+each_queueing true refused is_first wakes_it = λ e. cc
 each_queueing false true is_first wakes_it = λ e. cc
 each_queueing false false is_first wakes_it = λ e. cc
 
@@ -18,10 +18,10 @@ pub queue_uncontended : (k : ℕ) (h : List Event) → queue_answer k h ≢ answ
 queue_uncontended k h = each_queueing (pending h k) (closed h) (first h) (wakes h)
 
 -- an arming that is a queueing
-each_now : (set shut is_first wakes_it : Bool)
-    → (armed_of (if set then answer.Pending else if shut then answer.Closed else answer.Queued is_first wakes_it) ≢ armed.Contended)
-    × (armed_of (if set then answer.Pending else if shut then answer.Closed else answer.Queued is_first wakes_it) ≢ armed.Memory)
-each_now true shut is_first wakes_it = (λ e. cc, λ e. cc)
+each_now : (set refused is_first wakes_it : Bool)
+    → (armed_of (if set then answer.Pending else if refused then answer.Closed else answer.Queued is_first wakes_it) ≢ armed.Contended)
+    × (armed_of (if set then answer.Pending else if refused then answer.Closed else answer.Queued is_first wakes_it) ≢ armed.Memory)
+each_now true refused is_first wakes_it = (λ e. cc, λ e. cc)
 each_now false true is_first wakes_it = (λ e. cc, λ e. cc)
 each_now false false is_first wakes_it = (λ e. cc, λ e. cc)
 

@@ -7,7 +7,8 @@ pub use Rattle.wq_words.specs.declared.event.Event.TheVariants.{Hold, Busy, Push
 pub use Rattle.wq_words.specs.declared.layout.Layout.{Layout}
 pub use Rattle.wq_words.proofs.Common.{◌≢◌, ℕ, ◌==◌, ◌&&◌, Bool, true, false, List, if◌then◌else◌, refl, ◌≡◌, ◌<◌, ◌||◌, [], ◌∷◌, ap, ◌∙◌, eq-eqb, suc, not}
 pub use Rattle.wq_words.proofs.Common.{nat_le, ◌++◌, length, sym, Option, Some, None, zero, ◌+◌, nat_lt, inl, inr, arith, cond, filter, subst, drop, get_or}
-pub use Rattle.wq_words.proofs.Common.{append_assoc, drop-cons, ◌≤◌, length-append, take, pending, closed, first, begun, ended, taken, next, armed_of}
+pub use Rattle.wq_words.specs.History.{pending, closed, shut, first, begun, ended, taken, next}
+pub use Rattle.wq_words.proofs.Common.{append_assoc, drop-cons, ◌≤◌, length-append, take, armed_of}
 pub use Rattle.wq_words.proofs.Common.{modified_of, DelayTable, is_too_far, table_with, table_without, table_at, append-nil}
 pub use Rattle.wq_text.specs.declared.command.Command.{Command}
 pub use Rattle.wq_text.proofs.Common.{option_to_list, All, length-map, Turn}

@@ -1,21 +1,22 @@
 -- What executions end, and one more of a row.
 use Rattle.wq_meaning.proofs.Common.{◌≡◌, ℕ, suc, ◌&&◌, Bool, true, false, not, nat_le, List, [], ◌∷◌, ◌++◌, length, fold, refl, sym, ap, ◌∙◌, Option, Some}
 use Rattle.wq_meaning.proofs.Common.{None, option_to_list, if◌then◌else◌, append-nil, ArrayVec, Event, Hold, Busy, Push, Back, Take, Begin, End, Chain}
-use Rattle.wq_meaning.proofs.Common.{ChainBusy, begun, ended, closed, pending, taken, next, follow_of, take_events, follow_events, after_follow, after_run}
+use Rattle.wq_meaning.proofs.Common.{ChainBusy, begun, ended, closed, shut, pending, taken, next, follow_of, take_events, follow_events, after_follow, after_run}
 use Rattle.wq_meaning.proofs.Common.{after_execution, after_executions, go_on}
 use Rattle.wq_words.specs.declared.event.Why.TheVariants as why
 use Rattle.wq_words.proofs.Appended.{ended-append}
 
 -- queueing what follows ends nothing
 ended_follow : (worker k : ℕ) (h : List Event) → ended (follow_events worker k h) ≡ []
-ended_follow worker k h = each (closed h) (pending h k)
+ended_follow worker k h = each (shut h) (pending h k) (closed h)
   where
-    each : (shut set : Bool) → ended (if shut then (if set then ChainBusy k ∷ [] else Chain k ∷ [])
-        else (if set then Busy worker k ∷ [] else if shut then Hold worker k ∷ Back worker k why.Closed ∷ [] else Hold worker k ∷ Push worker k ∷ [])) ≡ []
-    each true true = refl
-    each true false = refl
-    each false true = refl
-    each false false = refl
+    each : (chains set refused : Bool) → ended (if chains then (if set then ChainBusy k ∷ [] else Chain k ∷ [])
+        else (if set then Busy worker k ∷ [] else if refused then Hold worker k ∷ Back worker k why.Closed ∷ [] else Hold worker k ∷ Push worker k ∷ [])) ≡ []
+    each true true refused = refl
+    each true false refused = refl
+    each false true refused = refl
+    each false false true = refl
+    each false false false = refl
 
 ended_follows : (worker : ℕ) (g : List Event) (ks : List ℕ) → ended (fold (after_follow worker) g ks) ≡ ended g
 ended_follows worker g [] = refl
@@ -24,7 +25,7 @@ ended_follows worker g (k ∷ ks) =
     ∙ ap (λ x. ended g ++ x) (ended_follow worker k g) ∙ append-nil (ended g)
 
 ended_take : (g : List Event) → ended (g ++ take_events g) ≡ ended g
-ended_take g = ended-append g (take_events g) ∙ ap (λ x. ended g ++ x) (none (nat_le (taken g) (length (begun g)) && not (closed g))) ∙ append-nil (ended g)
+ended_take g = ended-append g (take_events g) ∙ ap (λ x. ended g ++ x) (none (nat_le (taken g) (length (begun g)) && not (shut g))) ∙ append-nil (ended g)
   where
     none : (b : Bool) → ended (if b then Take ∷ [] else []) ≡ []
     none true = refl

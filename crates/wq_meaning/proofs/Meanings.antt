@@ -30,10 +30,10 @@ module _ (layout : Layout) (s : ScriptState) where
   pub drain_closed : (limit : ℕ) → closed s.history ≡ true → (state_after layout s (command.Drain limit) ≡ drained layout s limit)
       × (lines layout s (drained layout s limit) (command.Drain limit) ≡ row_text layout (codes "ran")
       (ended_since s.history (after_row layout s limit None)) ++ line (left_text (left_in (after_row layout s limit None))))
-  drain_closed limit shut = (
-    ap (λ b. if b then drained layout s limit else s) shut,
+  drain_closed limit is_closed = (
+    ap (λ b. if b then drained layout s limit else s) is_closed,
     ap (λ b. if b then row_text layout (codes "ran") (ended_since s.history (after_row layout s limit None))
-        ++ line (left_text (left_in (after_row layout s limit None))) else line (codes "not closed")) shut,
+        ++ line (left_text (left_in (after_row layout s limit None))) else line (codes "not closed")) is_closed,
   )
 
   pub advance_back : (tick : ℕ) → nat_lt tick s.table.tick ≡ true → (state_after layout s (command.Advance tick) ≡ s)

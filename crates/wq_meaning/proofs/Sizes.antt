@@ -1,7 +1,7 @@
 -- How much a command adds to the history and to the delay table.
 use Rattle.wq_meaning.proofs.Common.{◌≡◌, ℕ, zero, suc, ◌+◌, ◌*◌, ◌≤◌, Bool, true, false, not, ◌&&◌, nat_le, fold, ◌==◌, List, [], ◌∷◌, ◌++◌, Option, Some}
 use Rattle.wq_meaning.proofs.Common.{None, length, cond, arith, length-append, if◌then◌else◌, filter, length-map, ArrayVec, Event, Hold, Busy, Push, Back}
-use Rattle.wq_meaning.proofs.Common.{Take, Close, Begin, End, Chain, ChainBusy, pending, closed, taken, next, begun, Entry, DelayTable, without, on_table}
+use Rattle.wq_meaning.proofs.Common.{Take, Close, Begin, End, Chain, ChainBusy, pending, closed, shut, taken, next, begun, Entry, DelayTable, without, on_table}
 use Rattle.wq_meaning.proofs.Common.{due_part, is_too_far, table_with, table_without, table_at, queue_events, close_events, follow_of, after_follow}
 use Rattle.wq_meaning.proofs.Common.{after_run, after_execution, after_executions, go_on, post_event, queues_now, arm_events, arm_table, cancel_events}
 use Rattle.wq_meaning.proofs.Common.{modify_events, modify_table, due_items, advance_events}
@@ -11,8 +11,8 @@ use Rattle.wq_words.proofs.DelayTable.{length_placed}
 pub queue_few : (s k : ℕ) (h : List Event) → length (queue_events s k h) ≤ 2
 queue_few s k h = each (pending h k) (closed h)
   where
-    each : (set shut : Bool) → length (if set then Busy s k ∷ [] else (if shut then Hold s k ∷ Back s k why.Closed ∷ [] else Hold s k ∷ Push s k ∷ [])) ≤ 2
-    each true shut = omega arith
+    each : (set refused : Bool) → length (if set then Busy s k ∷ [] else (if refused then Hold s k ∷ Back s k why.Closed ∷ [] else Hold s k ∷ Push s k ∷ [])) ≤ 2
+    each true refused = omega arith
     each false true = omega arith
     each false false = omega arith
 
@@ -25,14 +25,12 @@ close_few h = each (closed h)
 
 -- how much executions add
 follow_few : (w k : ℕ) (h : List Event) → length (after_follow w h k) ≤ length h + 2
-follow_few w k h = each (closed h) (pending h k)
+follow_few w k h = each (shut h) (pending h k)
   where
-    each : (c d : Bool) → length (h ++ (if c then (if d then ChainBusy k ∷ [] else Chain k ∷ [])
-        else (if d then Busy w k ∷ [] else (if c then Hold w k ∷ Back w k why.Closed ∷ [] else Hold w k ∷ Push w k ∷ [])))) ≤ length h + 2
+    each : (c d : Bool) → length (h ++ (if c then (if d then ChainBusy k ∷ [] else Chain k ∷ []) else queue_events w k h)) ≤ length h + 2
     each true true = omega (arith, length-append h (ChainBusy k ∷ []))
     each true false = omega (arith, length-append h (Chain k ∷ []))
-    each false true = omega (arith, length-append h (Busy w k ∷ []))
-    each false false = omega (arith, length-append h (Hold w k ∷ Push w k ∷ []))
+    each false d = omega (arith, length-append h (queue_events w k h), queue_few w k h)
 
 follows_few : (w : ℕ) (ks : List ℕ) (h : List Event) → length (fold (after_follow w) h ks) ≤ length h + 2 * length ks
 follows_few w [] h = omega arith
@@ -40,7 +38,7 @@ follows_few w (k ∷ ks) h = let one = follow_few w k h in let rest = follows_fe
 
 execution_few : (w : ℕ) (follows : List (ArrayVec ℕ)) (h : List Event) → ((k : ℕ) → length (follow_of follows k) ≤ 4)
     → length (after_execution w follows h) ≤ length h + 11
-execution_few w follows h short = each (nat_le (taken h) (length (begun h)) && not (closed h)) (next h)
+execution_few w follows h short = each (nat_le (taken h) (length (begun h)) && not (shut h)) (next h)
   where
     take_few : (b : Bool) → length (h ++ (if b then Take ∷ [] else [])) ≤ length h + 1
     take_few true = omega (arith, length-append h (Take ∷ []))

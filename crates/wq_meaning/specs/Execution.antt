@@ -3,7 +3,7 @@ use Rattle.std.specs.Prelude.{ℕ, zero, suc, Bool, false, not, ◌&&◌, ◌==�
 use Rattle.arrayvec.specs.ArrayVec.{ArrayVec}
 use Rattle.wq_words.specs.declared.event.Event.{Event}
 use Rattle.wq_words.specs.declared.event.Event.TheVariants.{Take, Begin, End}
-use Rattle.wq_words.specs.History.{begun, ended, next, closed, taken}
+use Rattle.wq_words.specs.History.{begun, ended, next, shut, taken}
 use Rattle.wq_meaning.specs.Queueing.{queue_events, chain_events}
 
 -- what each item's function answers: the items to be queued next. No other number's function answers any
@@ -15,11 +15,11 @@ follow_of follows k = (slice_index_or follows k no_follow).items
 
 -- a Take, where nothing taken waits and the queue is open
 abbrev pub take_events : List Event → List Event
-take_events h = if nat_le (taken h) (length (begun h)) && not (closed h) then Take ∷ [] else []
+take_events h = if nat_le (taken h) (length (begun h)) && not (shut h) then Take ∷ [] else []
 
--- a follow item is queued by the worker's sender while the queue is open, and chained after the close
+-- a follow item is queued by the worker's sender while the queue is open, and chained while it is shut
 abbrev pub follow_events : ℕ → ℕ → List Event → List Event
-follow_events worker k h = if closed h then chain_events k h else queue_events worker k h
+follow_events worker k h = if shut h then chain_events k h else queue_events worker k h
 
 abbrev pub after_follow : ℕ → List Event → ℕ → List Event
 after_follow worker h k = h ++ follow_events worker k h

@@ -21,7 +21,7 @@ queue_answer k h =
     else if closed h then answer.Closed
     else answer.Queued (first h) (wakes h)
 
--- a queueing of number k by the execution that runs after the close
+-- a queueing of number k by the execution that runs while the queue is shut
 abbrev pub chain_events : ℕ → List Event → List Event
 chain_events k h = if pending h k then ChainBusy k ∷ [] else Chain k ∷ []
 
