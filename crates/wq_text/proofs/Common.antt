@@ -27,4 +27,5 @@ unfoldable pub use Rattle.wq_text.specs.Word.{spelled_number, is_numeral, is_pla
 pub use Rattle.wq_text.specs.declared.fault.Kind.{Kind}
 pub use Rattle.wq_text.specs.declared.fault.LineError.{LineError}
 pub use Rattle.wq_text.specs.declared.fault.ScriptError.{ScriptError}
+pub use Rattle.wq_text.specs.declared.header.Most.{Most}
 pub use Rattle.wq_text.specs.declared.header.Stage.{Stage}

@@ -7,6 +7,7 @@ use Rattle.wq_words.specs.Limits.{AreInLimits, IsBetween}
 use Rattle.wq_words.specs.Layout.{layout_of_numbers}
 use Rattle.wq_text.specs.declared.fault.Kind.{Kind}
 use Rattle.wq_text.specs.declared.fault.Kind.TheVariants as kind
+use Rattle.wq_text.specs.declared.header.Most.{Most}
 use Rattle.wq_text.specs.declared.header.Stage.{Stage}
 use Rattle.wq_text.specs.declared.header.Stage.TheVariants as stage
 use Rattle.wq_text.specs.Arguments.{between, one}
@@ -59,14 +60,14 @@ with_limits k items barriers senders None = Err k
 unfoldable pub limited : Kind → ℕ → ℕ → ℕ → Result Layout Kind
 limited k items barriers senders = with_limits k items barriers senders (in_limits items barriers senders)
 
--- what is awaited behind a header line, of at most so many senders: until a line names them, there is 1 of each thing
-unfoldable pub header_gives : ℕ → Stage → List (List ℕ) → Result Stage Kind
-header_gives most stage.Items ws = of_one stage.Senders (one (between kind.Items 1 4096) ws >>= λ n. limited kind.Items n 1 1)
-header_gives most (stage.Senders l) ws = of_one stage.Barriers (one (between kind.Senders 1 most) ws >>= λ n. limited kind.Senders l.items 1 n)
+-- what is awaited behind a header line, of at most so many items and senders: until a line names them, there is 1 of each thing
+unfoldable pub header_gives : Most → Stage → List (List ℕ) → Result Stage Kind
+header_gives most stage.Items ws = of_one stage.Senders (one (between kind.Items 1 most.items) ws >>= λ n. limited kind.Items n 1 1)
+header_gives most (stage.Senders l) ws = of_one stage.Barriers (one (between kind.Senders 1 most.senders) ws >>= λ n. limited kind.Senders l.items 1 n)
 header_gives most (stage.Barriers l) ws = of_one stage.Commands (one (between kind.Barriers 1 16) ws >>= λ n. limited kind.Barriers l.items n l.senders)
 header_gives most s ws = Err kind.Header
 
-abbrev pub header_line_gives : ℕ → Stage → List ℕ → List (List ℕ) → Result Stage Kind
+abbrev pub header_line_gives : Most → Stage → List ℕ → List (List ℕ) → Result Stage Kind
 header_line_gives most s w ws = do
   _ ← need kind.Header (awaits s w)
   header_gives most s ws

@@ -8,6 +8,13 @@ use crate::arguments::{between, one_word};
 use crate::fault::{Kind, LineError};
 use wq_words::Layout;
 
+// How many items and senders a kind of text may name at most.
+#[derive(Clone, Copy)]
+pub(crate) struct Most {
+    pub(crate) items: u32,
+    pub(crate) senders: u32,
+}
+
 // Which line is awaited: the version, then those of the header, with the layout so far, then what is asked of the queue. The
 // layout has 1 of each thing that no line has named yet.
 #[derive(Clone, Copy)]
@@ -64,17 +71,17 @@ fn limited(kind: Kind, items: u32, barriers: u32, senders: u32) -> Result<Layout
 
 // What is awaited behind a line of the header, from the words behind its first.
 #[tactic(auto, unfolding(crate::specs::Header::header_gives))]
-fn header(most_senders: u32, stage: Stage, words: &[&str]) -> Result<Stage, LineError>
-    ensures exact { LineGives result (header_gives most_senders stage (map (λ w. w.now) words.now)) }
-    ensures sound { IfOk result (KeepsHeader most_senders stage) }
+fn header(most: Most, stage: Stage, words: &[&str]) -> Result<Stage, LineError>
+    ensures exact { LineGives result (header_gives most stage (map (λ w. w.now) words.now)) }
+    ensures sound { IfOk result (KeepsHeader most.senders stage) }
 {
     match stage {
         Stage::Items => one_word(words)
-            .and_then(|word| between(Kind::Items, 1, 4096, word))
+            .and_then(|word| between(Kind::Items, 1, most.items, word))
             .and_then(|items| limited(Kind::Items, items, 1, 1))
             .map(Stage::Senders),
         Stage::Senders(layout) => one_word(words)
-            .and_then(|word| between(Kind::Senders, 1, most_senders, word))
+            .and_then(|word| between(Kind::Senders, 1, most.senders, word))
             .and_then(|senders| limited(Kind::Senders, layout.items, 1, senders))
             .map(Stage::Barriers),
         Stage::Barriers(layout) => one_word(words)
@@ -87,16 +94,16 @@ fn header(most_senders: u32, stage: Stage, words: &[&str]) -> Result<Stage, Line
 
 // What is awaited behind a line of the header, where it belongs here.
 pub(crate) fn header_line(
-    most_senders: u32,
+    most: Most,
     stage: Stage,
     first: &str,
     others: &[&str],
 ) -> Result<Stage, LineError>
-    ensures exact { LineGives result (header_line_gives most_senders stage first.now (map (λ w. w.now) others.now)) }
-    ensures sound { IfOk result (KeepsHeader most_senders stage) }
+    ensures exact { LineGives result (header_line_gives most stage first.now (map (λ w. w.now) others.now)) }
+    ensures sound { IfOk result (KeepsHeader most.senders stage) }
 {
     if !stage.awaits(first) {
         return Err(LineError::Fault(Kind::Header));
     }
-    header(most_senders, stage, others)
+    header(most, stage, others)
 }

@@ -9,7 +9,7 @@ ghost use Rattle.wq_text.specs.Line.{Grammar, asking_line, by_first_word, words_
 ghost use Rattle.wq_text.specs.Sound.{KeepsSound};
 
 use crate::fault::{Kind, LineError};
-use crate::header::{Stage, header_line, is_header};
+use crate::header::{Most, Stage, header_line, is_header};
 use crate::word::words_of;
 use std::alloc::Global;
 use wq_words::Layout;
@@ -30,8 +30,8 @@ pub(crate) trait Language {
     fn is_version(line: &[u8]) -> bool
         ensures { result ≡ bytes_eq line.now grammar.version };
 
-    fn most_senders() -> u32
-        ensures { result ≡ grammar.most_senders };
+    fn most() -> Most
+        ensures { result ≡ grammar.most };
 
     // What the first word and the others name.
     fn name(first: &str, others: &[&str]) -> Option<Self::Name>
@@ -55,7 +55,7 @@ fn asking_line<L: Language>(
     others: &[&str],
 ) -> Result<(Stage, Option<L::Asked>), LineError>
     ensures exact { LineGives result (asking_line L.grammar stage first.now (map (λ w. w.now) others.now)) }
-    ensures sound { IfOk result (λ given. KeepsSound L.grammar.most_senders L.fits stage given.0 given.1) }
+    ensures sound { IfOk result (λ given. KeepsSound L.grammar.most.senders L.fits stage given.0 given.1) }
 {
     let Some(name) = L::name(first, others) else {
         return Err(LineError::Fault(Kind::Word));
@@ -74,10 +74,10 @@ fn first_word_line<L: Language>(
     others: &[&str],
 ) -> Result<(Stage, Option<L::Asked>), LineError>
     ensures exact { LineGives result (by_first_word L.grammar stage first.now (map (λ w. w.now) others.now)) }
-    ensures sound { IfOk result (λ given. KeepsSound L.grammar.most_senders L.fits stage given.0 given.1) }
+    ensures sound { IfOk result (λ given. KeepsSound L.grammar.most.senders L.fits stage given.0 given.1) }
 {
     if is_header(first) {
-        let next = header_line(L::most_senders(), stage, first, others)?;
+        let next = header_line(L::most(), stage, first, others)?;
         return Ok((next, None));
     }
     asking_line::<L>(stage, first, others)
@@ -97,7 +97,7 @@ fn words_line<L: Language>(
     words: &[&str],
 ) -> Result<(Stage, Option<L::Asked>), LineError>
     ensures exact { LineGives result (words_give L.grammar stage (map (λ w. w.now) words.now)) }
-    ensures sound { IfOk result (λ given. KeepsSound L.grammar.most_senders L.fits stage given.0 given.1) }
+    ensures sound { IfOk result (λ given. KeepsSound L.grammar.most.senders L.fits stage given.0 given.1) }
 {
     if !are_words(words) {
         return Err(LineError::Fault(Kind::Space));
@@ -134,7 +134,7 @@ fn plain_line<L: Language>(
     line: &[u8],
 ) -> Result<(Stage, Option<L::Asked>), LineError>
     ensures exact { LineGives result (plain_line_gives L.grammar stage line.now) }
-    ensures sound { IfOk result (λ given. KeepsSound L.grammar.most_senders L.fits stage given.0 given.1) }
+    ensures sound { IfOk result (λ given. KeepsSound L.grammar.most.senders L.fits stage given.0 given.1) }
 {
     let Some(text) = plain_text(line) else {
         return Err(LineError::Fault(Kind::Bytes));
@@ -151,7 +151,7 @@ pub(crate) fn read_line<L: Language>(
     line: &[u8],
 ) -> Result<(Stage, Option<L::Asked>), LineError>
     ensures exact { LineGives result (line_gives L.grammar stage line.now) }
-    ensures sound { IfOk result (λ given. KeepsSound L.grammar.most_senders L.fits stage given.0 given.1) }
+    ensures sound { IfOk result (λ given. KeepsSound L.grammar.most.senders L.fits stage given.0 given.1) }
 {
     match stage {
         Stage::Version => {

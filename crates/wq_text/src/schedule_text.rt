@@ -7,6 +7,7 @@ ghost use Rattle.wq_text.specs.Turn.{schedule_grammar, schedule_line};
 ghost use Rattle.wq_text.specs.Turns.{PlacedIn};
 
 use crate::fault::{LineError, ParseError};
+use crate::header::Most;
 use crate::line::Language;
 use crate::schedule::Schedule;
 use crate::text::read;
@@ -31,8 +32,11 @@ impl Language for Turns {
         line == b"steps 1".as_slice()
     }
 
-    fn most_senders() -> u32 {
-        64
+    fn most() -> Most {
+        Most {
+            items: 4096,
+            senders: 64,
+        }
     }
 
     fn name(first: &str, others: &[&str]) -> Option<Action> {

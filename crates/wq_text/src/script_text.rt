@@ -8,6 +8,7 @@ ghost use Rattle.wq_text.specs.Text.{Spells, IsRefusal, HasOneOutcome};
 
 use crate::command::Command;
 use crate::fault::{LineError, ParseError};
+use crate::header::Most;
 use crate::keyword::{Keyword, command, keyword_of};
 use crate::line::Language;
 use crate::script::Script;
@@ -31,8 +32,11 @@ impl Language for Commands {
         line == b"wq 1".as_slice()
     }
 
-    fn most_senders() -> u32 {
-        62
+    fn most() -> Most {
+        Most {
+            items: 4096,
+            senders: 62,
+        }
     }
 
     fn name(first: &str, _others: &[&str]) -> Option<Keyword> {

@@ -49,7 +49,7 @@ fn numbered_line<L: Language>(
 ) -> Result<(Stage, Option<L::Asked>), ParseError>
     ensures gives { IfOk result (λ given. line_gives L.grammar stage line.now ≡ Ok given) }
     ensures refused { IfRefused result (λ e. (e.line ≡ number) × (line_gives L.grammar stage line.now ≡ Err e.kind)) }
-    ensures sound { IfOk result (λ given. KeepsSound L.grammar.most_senders L.fits stage given.0 given.1) }
+    ensures sound { IfOk result (λ given. KeepsSound L.grammar.most.senders L.fits stage given.0 given.1) }
 {
     match read_line::<L>(alloc, stage, line) {
         Ok(given) => Ok(given),
@@ -87,7 +87,7 @@ pub(crate) fn read<L: Language>(
 ) -> Result<(Layout, Vec<L::Asked>), ParseError>
     ensures spells { IfOk result (λ x. Spells (line_gives L.grammar) text.now x.0 x.1.items) }
     ensures refused { IfRefused result (IsRefusal (line_gives L.grammar) text.now) }
-    ensures sound { IfOk result (λ x. AreSound L.grammar.most_senders L.fits x.0 x.1.items) }
+    ensures sound { IfOk result (λ x. AreSound L.grammar.most.senders L.fits x.0 x.1.items) }
     ensures few { IfOk result (λ x. length x.1.items ≤ 1048576) }
 {
     if text.len() > MAX_BYTES {

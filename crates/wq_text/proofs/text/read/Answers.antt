@@ -40,7 +40,7 @@ loop-line-preserved g c =
       short = l.invariant.short;
       few = omega (arith, c.in-Some.ensures.1, l.invariant.few);
       less = omega (arith, added.few, l.invariant.less);
-      sound = keeps grammar.most_senders g.L.Language.fits l.stage next.next next.one l.asked.items new next.ensures.sound added.added l.invariant.sound;
+      sound = keeps grammar.most.senders g.L.Language.fits l.stage next.next next.one l.asked.items new next.ensures.sound added.added l.invariant.sound;
       read = read_more (line_gives grammar) c.args.text.now l.rest.now c.in-Some.line.now c.in-Some.after.now l.number l.stage next.next
           l.asked.items new next.one l.invariant.read c.in-Some.ensures.0 next.ensures.gives added.added;
     }
@@ -77,4 +77,4 @@ returns-clause-spells g c =
 pub returns-clause-sound : goal.returns-clause-sound
 returns-clause-sound g c =
     let l = c.loop-line in
-    ends_sound g.L.Language.grammar.most_senders g.L.Language.fits l.stage c.in_ok-layout.layout l.asked.items c.in_ok-layout.ensures.whole l.invariant.sound
+    ends_sound g.L.Language.grammar.most.senders g.L.Language.fits l.stage c.in_ok-layout.layout l.asked.items c.in_ok-layout.ensures.whole l.invariant.sound

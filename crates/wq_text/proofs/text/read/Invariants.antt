@@ -7,7 +7,7 @@ invariant-loop-line g l = record {
   short : length l.text ≤ 1048576;
   few : l.number + length l.rest ≤ 1048577;
   less : length l.asked.items + 1 ≤ l.number;
-  sound : SoundAt g.L.Language.grammar.most_senders g.L.Language.fits l.stage l.asked.items;
+  sound : SoundAt g.L.Language.grammar.most.senders g.L.Language.fits l.stage l.asked.items;
   read : IsReadTo (line_gives g.L.Language.grammar) l.text l.rest l.number l.stage l.asked.items;
 }
 
