@@ -43,8 +43,8 @@ module _ (w s k : ℕ) (h : List Event) (t : Tally) (other : s ≢ w) (no_owner 
   held_counts : Counts t (Hold s k ∷ [])
   held_counts = by_sender t (Hold s k ∷ []) (refl, tt) (omega arith) (omega arith) (omega arith)
 
-  post_counts : (shut : Bool) → Counts (if shut then record t { refused = t.refused + 1 } else record t { queued = t.queued + 1 })
-      ((if shut then Back s k why.Closed else Push s k) ∷ [])
+  post_counts : (back : Bool) → Counts (if back then record t { refused = t.refused + 1 } else record t { queued = t.queued + 1 })
+      ((if back then Back s k why.Closed else Push s k) ∷ [])
   post_counts true = by_sender (record t { refused = t.refused + 1 }) (Back s k why.Closed ∷ []) (refl, tt) (omega arith) (omega arith) refl
   post_counts false = by_sender (record t { queued = t.queued + 1 }) (Push s k ∷ []) (refl, tt) refl (omega arith) (omega arith)
 
@@ -56,30 +56,30 @@ module _ (w s k : ℕ) (h : List Event) (t : Tally) (other : s ≢ w) (no_owner 
       each false = no_counts
 
   -- a queueing by the tests on which it rests
-  abbrev answers : (set shut : Bool) → Answer
-  answers set shut = if set then answer.Pending else (if shut then answer.Closed else answer.Queued (first h) (wakes h))
+  abbrev answers : (set back : Bool) → Answer
+  answers set back = if set then answer.Pending else (if back then answer.Closed else answer.Queued (first h) (wakes h))
 
-  abbrev adds : (set shut : Bool) → List Event
-  adds set shut = if set then Busy s k ∷ [] else (if shut then Hold s k ∷ Back s k why.Closed ∷ [] else Hold s k ∷ Push s k ∷ [])
+  abbrev adds : (set back : Bool) → List Event
+  adds set back = if set then Busy s k ∷ [] else (if back then Hold s k ∷ Back s k why.Closed ∷ [] else Hold s k ∷ Push s k ∷ [])
 
   pub queue_counts : Counts (counted (queue_answer k h) t) (queue_events s k h)
   queue_counts = each (pending h k) (closed h)
     where
-      each : (set shut : Bool) → Counts (counted (answers set shut) t) (adds set shut)
-      each true shut = busy_counts
+      each : (set back : Bool) → Counts (counted (answers set back) t) (adds set back)
+      each true back = busy_counts
       each false true = refused_counts
       each false false = queued_counts
 
   pub arm_counts : (delay : ℕ) (table : DelayTable) → Counts (counted_armed (arm_answer k delay h table) t) (arm_events s k delay h table)
   arm_counts delay table = each (is_too_far delay table) (queues_now k delay h) (pending h k) (closed h)
     where
-      each : (far now set shut : Bool) → Counts (counted_armed (if far then armed.TooFar else (if now then armed_of (answers set shut) else armed.OnTable)) t)
-          (if far then [] else (if now then adds set shut else Hold s k ∷ []))
-      each true now set shut = no_counts
-      each false true true shut = busy_counts
+      each : (far now set back : Bool) → Counts (counted_armed (if far then armed.TooFar else (if now then armed_of (answers set back) else armed.OnTable)) t)
+          (if far then [] else (if now then adds set back else Hold s k ∷ []))
+      each true now set back = no_counts
+      each false true true back = busy_counts
       each false true false true = refused_counts
       each false true false false = queued_counts
-      each false false set shut = held_counts
+      each false false set back = held_counts
 
   -- a push is counted where there is no delay
   module _ (delay : ℕ) where
@@ -90,22 +90,22 @@ module _ (w s k : ℕ) (h : List Event) (t : Tally) (other : s ≢ w) (no_owner 
     later es is c = subst (λ (b : Bool). Counts (if b then record t { queued = t.queued + 1 } else t) es) (sym is) c
 
     -- a modification of an item on the table, and of another, by the tests on which it rests
-    on_counts : (zero shut : Bool) → (delay == 0) ≡ zero
-        → Counts (counted_modified delay (if zero && shut then modified.Closed else modified.Moved) t)
-        (if zero then (if shut then Back s k why.Closed else Push s k) ∷ [] else [])
+    on_counts : (zero back : Bool) → (delay == 0) ≡ zero
+        → Counts (counted_modified delay (if zero && back then modified.Closed else modified.Moved) t)
+        (if zero then (if back then Back s k why.Closed else Push s k) ∷ [] else [])
     on_counts true true is = post_counts true
     on_counts true false is = at_once (Push s k ∷ []) is (post_counts false)
-    on_counts false shut is = later [] is no_counts
+    on_counts false back is = later [] is no_counts
 
-    off_counts : (far zero set shut : Bool) → (delay == 0) ≡ zero
-        → Counts (counted_modified delay (modified_of (if far then armed.TooFar else (if zero || set then armed_of (answers set shut) else armed.OnTable))) t)
-        (if far then [] else (if zero || set then adds set shut else Hold s k ∷ []))
-    off_counts true zero set shut is = no_counts
-    off_counts false true true shut is = busy_counts
+    off_counts : (far zero set back : Bool) → (delay == 0) ≡ zero
+        → Counts (counted_modified delay (modified_of (if far then armed.TooFar else (if zero || set then armed_of (answers set back) else armed.OnTable))) t)
+        (if far then [] else (if zero || set then adds set back else Hold s k ∷ []))
+    off_counts true zero set back is = no_counts
+    off_counts false true true back is = busy_counts
     off_counts false true false true is = refused_counts
     off_counts false true false false is = at_once (Hold s k ∷ Push s k ∷ []) is queued_counts
-    off_counts false false true shut is = busy_counts
-    off_counts false false false shut is = later (Hold s k ∷ []) is held_counts
+    off_counts false false true back is = busy_counts
+    off_counts false false false back is = later (Hold s k ∷ []) is held_counts
 
     pub modify_counts : (table : DelayTable) → Counts (counted_modified delay (modify_answer k delay h table) t) (modify_events s k delay h table)
     modify_counts table =

@@ -14,8 +14,8 @@ answer_pending : (h : List Event) (k : ℕ) → pending h k ≡ true → queue_a
 answer_pending h k set = ap (λ (b : Bool). if b then answer.Pending else (if closed h then answer.Closed else answer.Queued (first h) (wakes h))) set
 
 answer_closed : (h : List Event) (k : ℕ) → pending h k ≡ false → closed h ≡ true → queue_answer k h ≡ answer.Closed
-answer_closed h k clear shut = ap (λ (b : Bool). if b then answer.Pending else (if closed h then answer.Closed else answer.Queued (first h) (wakes h))) clear
-    ∙ ap (λ (b : Bool). if b then answer.Closed else answer.Queued (first h) (wakes h)) shut
+answer_closed h k clear is = ap (λ (b : Bool). if b then answer.Pending else (if closed h then answer.Closed else answer.Queued (first h) (wakes h))) clear
+    ∙ ap (λ (b : Bool). if b then answer.Closed else answer.Queued (first h) (wakes h)) is
 
 answer_queued : (h : List Event) (k : ℕ) → pending h k ≡ false → closed h ≡ false → queue_answer k h ≡ answer.Queued (first h) (wakes h)
 answer_queued h k clear is_open = ap (λ (b : Bool). if b then answer.Pending else (if closed h then answer.Closed else answer.Queued (first h) (wakes h))) clear
@@ -122,8 +122,8 @@ worker_closes layout s t h w taken g is_open moves work left takes gathered =
 
 pub closed_already : (layout : Layout) (s : Seats) (h : List Event) → Seated layout s h → closed s.worker.seen ≡ true
     → Goes layout (h ++ close_events h) s s × (None ≡ close_answer h)
-closed_already layout s h g shut =
-    let now : closed h ≡ true = sym (worker_closed layout s h g) ∙ shut in
+closed_already layout s h g is =
+    let now : closed h ≡ true = sym (worker_closed layout s h g) ∙ is in
     let none : close_events h ≡ [] = ap (λ (b : Bool). if b then [] else Close ∷ []) now in (
       record {
         seated = subst (λ (ys : List Event). Seated layout s ys) (sym (ap (λ (x : List Event). h ++ x) none ∙ append-nil h)) g;

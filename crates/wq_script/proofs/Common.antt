@@ -16,7 +16,7 @@ pub use Rattle.std.proofs.lemmas.Option.{slice_get_within, slice_get_cases, slic
 pub use Rattle.wq_words.specs.Armed.{armed_of, modified_of}
 pub use Rattle.wq_words.specs.Counting.{is_busy, is_refusal, is_queued_by, is_pending_by, is_closed_by, is_chain, is_chain_busy}
 pub use Rattle.wq_words.specs.DelayTable.{DelayTable, on_table, is_too_far, Entry, items, due_part, table_without, table_at}
-pub use Rattle.wq_words.specs.History.{pending, closed, first, is_push, fresh, accepted, begun, next, taken, is_close, is_take, Holds, ended, IsRunning}
+pub use Rattle.wq_words.specs.History.{pending, closed, shut, first, is_push, fresh, accepted, begun, next, taken, is_close, is_take, Holds, ended, IsRunning}
 pub use Rattle.wq_words.specs.Legal.{IsLegal, HasSeat}
 pub use Rattle.wq_words.specs.Numbers.{barrier_number, stop_number}
 pub use Rattle.wq_words.specs.Rest.{wakes}

@@ -3,7 +3,7 @@ use Rattle.wq_script.proofs.Common.{◌≡◌, ℕ, suc, ◌+◌, ◌-◌, ◌<�
 use Rattle.wq_script.proofs.Common.{take, fold, inl, inr, refl, sym, ap, ◌∙◌, subst, arith, append_assoc, nat_lt, nat_le, if◌then◌else◌, count_by, All, filter}
 use Rattle.wq_script.proofs.Common.{slice_get, before_last, append-nil, append_cancel_left, length-drop, length-take, filter-append, slice_get_within}
 use Rattle.wq_script.proofs.Common.{slice_get_cases, slice_get_past, le-leb, lt-leb, false≢true, IsPrefix, ArrayVec, Layout, Event, Hold, Busy, Push, Back}
-use Rattle.wq_script.proofs.Common.{Take, Close, Begin, End, Chain, ChainBusy, Rest, accepted, begun, next, taken, closed, is_close, is_push, fresh, IsLegal}
+use Rattle.wq_script.proofs.Common.{Take, Close, Begin, End, Chain, ChainBusy, Rest, accepted, begun, next, taken, shut, is_close, is_push, fresh, IsLegal}
 use Rattle.wq_script.proofs.Common.{legal_next, legal_front, owner_seat, seat_of, own, is_ours, left_nil, own-append, own_one, own_rest, begun_same}
 use Rattle.wq_script.proofs.Common.{closed_count, batch, next_of, Adds, taking, taking_of, NothingWaits, at_take, at_all, Queues, Follows, passed, pushed, busy}
 use Rattle.wq_script.proofs.Common.{refused, chained, chain_busy, queue_events, chain_events, follow_of, take_events, follow_events, after_follow, after_run}
@@ -37,7 +37,7 @@ next_taken true h = λ i. slice_get ((accepted-append h (Take ∷ []) ∙ append
 next_taken false h = ap next (append-nil h)
 
 taken_few : (h : List Event) → taken h ≤ length (accepted h)
-taken_few h = each (closed h)
+taken_few h = each (shut h)
   where
     each : (b : Bool) → (if b then length (accepted h) else count_by is_push (before_last is_take h)) ≤ length (accepted h)
     each true = omega arith
@@ -46,14 +46,14 @@ taken_few h = each (closed h)
 batch_length : (h : List Event) → length (batch h) ≡ taken h - length (begun h)
 batch_length h = length-drop (length (begun h)) (take (taken h) (accepted h)) ∙ omega (arith, length-take (taken h) (accepted h), taken_few h)
 
--- a closed queue is not taken from
+-- a shut queue is not taken from
 untaken : (x : Bool) → (if (x && not true) then Take ∷ [] else []) ≡ []
 untaken true = refl
 untaken false = refl
 
 -- a take comes where a script has one
 pub taking_is : (h : List Event) → taking h ≡ take_events h
-taking_is h = each (next_of h) (closed h) refl
+taking_is h = each (next_of h) (shut h) refl
   where
     each : (o : Option ℕ) (b : Bool) → next_of h ≡ o → taking_of o b ≡ (if (nat_le (taken h) (length (begun h)) && not b) then Take ∷ [] else [])
     each None true is = sym (untaken (nat_le (taken h) (length (begun h))))
@@ -78,43 +78,43 @@ module _ (wide : Layout) (n : ℕ) where
   chain_again : (k : ℕ) (g : List Event) → IsLegal wide (g ++ ChainBusy k ∷ []) → ChainBusy k ∷ [] ≡ chain_events k g
   chain_again k g legal = sym (ap (λ (b : Bool). if b then ChainBusy k ∷ [] else Chain k ∷ []) (is_pending g k (legal_next wide g (ChainBusy k) [] legal).2.2))
 
-  open_events : (k : ℕ) (g : List Event) → closed g ≡ false → queue_events n k g ≡ follow_events n k g
+  open_events : (k : ℕ) (g : List Event) → shut g ≡ false → queue_events n k g ≡ follow_events n k g
   open_events k g is = sym (ap (λ (b : Bool). if b then chain_events k g else queue_events n k g) is)
 
-  shut_events : (k : ℕ) (g : List Event) → closed g ≡ true → chain_events k g ≡ follow_events n k g
+  shut_events : (k : ℕ) (g : List Event) → shut g ≡ true → chain_events k g ≡ follow_events n k g
   shut_events k g is = sym (ap (λ (b : Bool). if b then chain_events k g else queue_events n k g) is)
 
-  still : (g : List Event) (e : Event) → is_close e ≡ false → closed (g ++ e ∷ []) ≡ closed g
+  still : (g : List Event) (e : Event) → is_close e ≡ false → shut (g ++ e ∷ []) ≡ shut g
   still g e keeps = ap (λ (m : ℕ). nat_lt 0 m) (closed_on g e keeps)
 
-  still_two : (g : List Event) (d e : Event) → is_close d ≡ false → is_close e ≡ false → closed (g ++ d ∷ e ∷ []) ≡ closed g
-  still_two g d e one two = ap closed (sym (append_assoc g (d ∷ []) (e ∷ []))) ∙ (still (g ++ d ∷ []) e two ∙ still g d one)
+  still_two : (g : List Event) (d e : Event) → is_close d ≡ false → is_close e ≡ false → shut (g ++ d ∷ e ∷ []) ≡ shut g
+  still_two g d e one two = ap shut (sym (append_assoc g (d ∷ []) (e ∷ []))) ∙ (still (g ++ d ∷ []) e two ∙ still g d one)
 
   -- the queueing of one follow item
-  followed : (c : Bool) (k : ℕ) (g fs : List Event) → k < wide.items → closed g ≡ c → IsLegal wide (g ++ fs) → Queues wide.items n c k fs
-      → (fs ≡ follow_events n k g) × (closed (g ++ fs) ≡ c)
+  followed : (c : Bool) (k : ℕ) (g fs : List Event) → k < wide.items → shut g ≡ c → IsLegal wide (g ++ fs) → Queues wide.items n c k fs
+      → (fs ≡ follow_events n k g) × (shut (g ++ fs) ≡ c)
   followed c k g fs lt is legal (passed le none) = absurd (omega (arith, lt, le))
   followed c k g fs lt is legal (pushed less so es) =
       let l : IsLegal wide (g ++ Hold n k ∷ Push n k ∷ []) = subst (λ (x : List Event). IsLegal wide (g ++ x)) es legal in (
         es ∙ ((push_events wide g n k l).2 ∙ open_events k g (is ∙ so)),
-        ap (λ (x : List Event). closed (g ++ x)) es
+        ap (λ (x : List Event). shut (g ++ x)) es
             ∙ (still_two g (Hold n k) (Push n k) refl refl ∙ is),
       )
   followed c k g fs lt is legal (busy less so es) =
       let l : IsLegal wide (g ++ Busy n k ∷ []) = subst (λ (x : List Event). IsLegal wide (g ++ x)) es legal in
-      (es ∙ ((busy_events wide g n k l).1 ∙ open_events k g (is ∙ so)), ap (λ (x : List Event). closed (g ++ x)) es ∙ (still g (Busy n k) refl ∙ is))
+      (es ∙ ((busy_events wide g n k l).1 ∙ open_events k g (is ∙ so)), ap (λ (x : List Event). shut (g ++ x)) es ∙ (still g (Busy n k) refl ∙ is))
   followed c k g fs lt is legal (refused less so es) =
       let l : IsLegal wide (g ++ Hold n k ∷ Back n k why.Closed ∷ []) = subst (λ (x : List Event). IsLegal wide (g ++ x)) es legal in
       absurd (false≢true (sym (is ∙ so) ∙ (refused_events wide g n k l).1))
   followed c k g fs lt is legal (chained less so es) =
       let l : IsLegal wide (g ++ Chain k ∷ []) = subst (λ (x : List Event). IsLegal wide (g ++ x)) es legal in
-      (es ∙ (chain_new k g l ∙ shut_events k g (is ∙ so)), ap (λ (x : List Event). closed (g ++ x)) es ∙ (still g (Chain k) refl ∙ is))
+      (es ∙ (chain_new k g l ∙ shut_events k g (is ∙ so)), ap (λ (x : List Event). shut (g ++ x)) es ∙ (still g (Chain k) refl ∙ is))
   followed c k g fs lt is legal (chain_busy less so es) =
       let l : IsLegal wide (g ++ ChainBusy k ∷ []) = subst (λ (x : List Event). IsLegal wide (g ++ x)) es legal in
-      (es ∙ (chain_again k g l ∙ shut_events k g (is ∙ so)), ap (λ (x : List Event). closed (g ++ x)) es ∙ (still g (ChainBusy k) refl ∙ is))
+      (es ∙ (chain_again k g l ∙ shut_events k g (is ∙ so)), ap (λ (x : List Event). shut (g ++ x)) es ∙ (still g (ChainBusy k) refl ∙ is))
 
   -- the queueings of a list of items
-  pub followed_all : (c : Bool) (ks : List ℕ) (g es : List Event) → All (λ j. j < wide.items) ks → closed g ≡ c → IsLegal wide (g ++ es)
+  pub followed_all : (c : Bool) (ks : List ℕ) (g es : List Event) → All (λ j. j < wide.items) ks → shut g ≡ c → IsLegal wide (g ++ es)
       → Follows wide.items n c ks es → g ++ es ≡ fold (after_follow n) g ks
   followed_all c [] g es fit is legal none = ap (λ (x : List Event). g ++ x) none ∙ append-nil g
   followed_all c (k ∷ ks) g es fit is legal told =
@@ -128,12 +128,12 @@ module _ (wide : Layout) (n : ℕ) where
   -- what begins is next
   pub begins_next : (h : List Event) (k : ℕ) (rest : List Event) → IsLegal wide ((h ++ taking h) ++ Begin k ∷ rest) → Some k ≡ next h
   begins_next h k rest legal =
-      let b : Bool = nat_le (taken h) (length (begun h)) && not (closed h) in
+      let b : Bool = nat_le (taken h) (length (begun h)) && not (shut h) in
       sym (legal_next wide (h ++ taking h) (Begin k) rest legal).2.1 ∙ (ap (λ (x : List Event). next (h ++ x)) (taking_is h) ∙ next_taken b h)
 
   -- a whole execution
   pub executed : (follows : List (ArrayVec ℕ)) (h : List Event) (k : ℕ) (f : List ℕ) (fs : List Event) → f ≡ follow_of follows k → All (λ j. j < wide.items) f
-      → Follows wide.items n (closed h) f fs → IsLegal wide (h ++ ((taking h ++ Begin k ∷ []) ++ (fs ++ End k ∷ [])))
+      → Follows wide.items n (shut h) f fs → IsLegal wide (h ++ ((taking h ++ Begin k ∷ []) ++ (fs ++ End k ∷ [])))
       → (Some k ≡ next h) × (h ++ ((taking h ++ Begin k ∷ []) ++ (fs ++ End k ∷ [])) ≡ after_execution n follows h)
   executed follows h k f fs answers fit told legal =
       let g : List Event = (h ++ taking h) ++ Begin k ∷ [] in
@@ -144,20 +144,20 @@ module _ (wide : Layout) (n : ℕ) where
       let begun_then : IsLegal wide ((h ++ taking h) ++ Begin k ∷ (fs ++ End k ∷ [])) =
       subst (λ (x : List Event). IsLegal wide x) (append_assoc g fs (End k ∷ []) ∙ append_assoc (h ++ taking h) (Begin k ∷ []) (fs ++ End k ∷ [])) l in
       let is : Some k ≡ next h = begins_next h k (fs ++ End k ∷ []) begun_then in
-      let shut : closed g ≡ closed h = still (h ++ taking h) (Begin k) refl ∙ closed_taking h in
-      let all : g ++ fs ≡ fold (after_follow n) g f = followed_all (closed h) f g fs fit shut (legal_front wide (g ++ fs) (End k ∷ []) l) told in
+      let is_shut : shut g ≡ shut h = still (h ++ taking h) (Begin k) refl ∙ shut_taking h in
+      let all : g ++ fs ≡ fold (after_follow n) g f = followed_all (shut h) f g fs fit is_shut (legal_front wide (g ++ fs) (End k ∷ []) l) told in
       let start : g ≡ (h ++ take_events h) ++ Begin k ∷ [] = ap (λ (x : List Event). (h ++ x) ++ Begin k ∷ []) (taking_is h) in (
         is,
         whole ∙ (ap (λ (x : List Event). x ++ End k ∷ []) (all ∙ ((λ i. fold (after_follow n) (start i) (answers i))))
             ∙ ap (after_run n follows (h ++ take_events h)) is),
       )
     where
-      closed_taking : (h : List Event) → closed (h ++ taking h) ≡ closed h
-      closed_taking h = ap (λ (x : List Event). closed (h ++ x)) (taking_is h) ∙ each (nat_le (taken h) (length (begun h)) && not (closed h))
+      shut_taking : (h : List Event) → shut (h ++ taking h) ≡ shut h
+      shut_taking h = ap (λ (x : List Event). shut (h ++ x)) (taking_is h) ∙ each (nat_le (taken h) (length (begun h)) && not (shut h))
         where
-          each : (b : Bool) → closed (h ++ (if b then Take ∷ [] else [])) ≡ closed h
+          each : (b : Bool) → shut (h ++ (if b then Take ∷ [] else [])) ≡ shut h
           each true = still h Take refl
-          each false = ap closed (append-nil h)
+          each false = ap shut (append-nil h)
 
 is_take_own : (e : Event) → is_take e ≡ true → seat_of e ≡ owner_seat
 is_take_own Take is = refl
@@ -194,7 +194,7 @@ none_next h none = elim (slice_get_cases (accepted h) (length (begun h))).1 [
 
 module _ (wide : Layout) where
   -- where nothing waited at the owner's last take, nothing that was taken waits
-  nothing_left : (h before after : List Event) → h ≡ before ++ Take ∷ after → own owner_seat after ≡ [] → next before ≡ None → closed h ≡ false
+  nothing_left : (h before after : List Event) → h ≡ before ++ Take ∷ after → own owner_seat after ≡ [] → next before ≡ None → shut h ≡ false
       → next_of h ≡ None
   nothing_left h before after is none past is_open =
       let two : before ++ Take ∷ after ≡ (before ++ Take ∷ []) ++ after = sym (append_assoc before (Take ∷ []) after) in
@@ -211,37 +211,37 @@ module _ (wide : Layout) where
       omega (arith, batch_length h, open_taken, pushes-split h, newer, all, accepted-count before, none_next before past, first_begun) in
       slice_get_past (batch h) 0 (omega (arith, few))
 
-  -- no Take follows the close
-  never_taken : (h before after : List Event) → IsLegal wide h → h ≡ before ++ Take ∷ after → own owner_seat after ≡ [] → closed h ≡ false
+  -- no Take comes while the queue is shut
+  never_taken : (h before after : List Event) → IsLegal wide h → h ≡ before ++ Take ∷ after → own owner_seat after ≡ [] → shut h ≡ false
   never_taken h before after legal is none =
       let allowed = legal_next wide before Take after (subst (λ (x : List Event). IsLegal wide x) is legal) in
       let rest : count_by is_close after ≡ 0 = closed_count [] after none in
       let same : count_by is_close h ≡ count_by is_close before = ap (count_by is_close) is
       ∙ (count_by-append is_close before (Take ∷ after) ∙ omega (arith, count_by-append is_close (Take ∷ []) after, rest)) in
-      not_closed h (λ shut. allowed.2 (omega (arith, shut, same)))
+      not_closed h (λ is_shut. allowed.2 (omega (arith, is_shut, same)))
 
   -- the worker answers that nothing waits only where nothing is next
   pub nothing_next : (h z : List Event) → IsLegal wide z → z ≡ h ++ taking h → NothingWaits z → None ≡ next h
-  nothing_next h z legal whole (at_all shut none) =
+  nothing_next h z legal whole (at_all is_shut none) =
       sym (sym (ap next whole ∙ (ap (λ (x : List Event). next (h ++ x)) (taking_is h)
-      ∙ next_taken (nat_le (taken h) (length (begun h)) && not (closed h)) h)) ∙ none)
-  nothing_next h z legal whole (at_take before after is none past) = each (next_of h) (closed h) refl refl
+      ∙ next_taken (nat_le (taken h) (length (begun h)) && not (shut h)) h)) ∙ none)
+  nothing_next h z legal whole (at_take before after is none past) = each (next_of h) (shut h) refl refl
     where
-      each : (o : Option ℕ) (b : Bool) → next_of h ≡ o → closed h ≡ b → None ≡ next h
-      each None false of shut =
-          let takes : taking h ≡ Take ∷ [] = λ i. taking_of (of i) (shut i) in
+      each : (o : Option ℕ) (b : Bool) → next_of h ≡ o → shut h ≡ b → None ≡ next h
+      each None false of is_shut =
+          let takes : taking h ≡ Take ∷ [] = λ i. taking_of (of i) (is_shut i) in
           let last = last_own owner_seat before after h Take Take (sym is ∙ (whole ∙ ap (λ (x : List Event). h ++ x) takes)) none refl in
           sym (ap next (sym last.1) ∙ past)
-      each None true of shut =
-          let takes : taking h ≡ [] = λ i. taking_of (of i) (shut i) in
+      each None true of is_shut =
+          let takes : taking h ≡ [] = λ i. taking_of (of i) (is_shut i) in
           let same : z ≡ h = whole ∙ (ap (λ (x : List Event). h ++ x) takes ∙ append-nil h) in
-          absurd (false≢true (sym (never_taken z before after legal is none) ∙ (ap closed same ∙ shut)))
-      each (Some k) true of shut =
-          let takes : taking h ≡ [] = λ i. taking_of (of i) (shut i) in
+          absurd (false≢true (sym (never_taken z before after legal is none) ∙ (ap shut same ∙ is_shut)))
+      each (Some k) true of is_shut =
+          let takes : taking h ≡ [] = λ i. taking_of (of i) (is_shut i) in
           let same : z ≡ h = whole ∙ (ap (λ (x : List Event). h ++ x) takes ∙ append-nil h) in
-          absurd (false≢true (sym (never_taken z before after legal is none) ∙ (ap closed same ∙ shut)))
-      each (Some k) false of shut =
-          let takes : taking h ≡ [] = λ i. taking_of (of i) (shut i) in
+          absurd (false≢true (sym (never_taken z before after legal is none) ∙ (ap shut same ∙ is_shut)))
+      each (Some k) false of is_shut =
+          let takes : taking h ≡ [] = λ i. taking_of (of i) (is_shut i) in
           let same : z ≡ h = whole ∙ (ap (λ (x : List Event). h ++ x) takes ∙ append-nil h) in
-          let none_then : next_of h ≡ None = ap next_of (sym same) ∙ nothing_left z before after is none past (ap closed same ∙ shut) in
+          let none_then : next_of h ≡ None = ap next_of (sym same) ∙ nothing_left z before after is none past (ap shut same ∙ is_shut) in
           absurd (cc)

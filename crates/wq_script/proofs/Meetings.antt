@@ -89,8 +89,8 @@ close_meets layout a b x s m goes =
           (sym (append-nil s.history)) m.idle,
     )
 
-    shuts : Tallied x layout.senders (s.history ++ Close ∷ []) × (¬ IsRunning (s.history ++ Close ∷ []))
-    shuts =
+    closes : Tallied x layout.senders (s.history ++ Close ∷ []) × (¬ IsRunning (s.history ++ Close ∷ []))
+    closes =
         let b : begun (s.history ++ Close ∷ []) ≡ begun s.history = begun-append s.history (Close ∷ []) ∙ append-nil (begun s.history) in
         let e : ended (s.history ++ Close ∷ []) ≡ ended s.history = ended-append s.history (Close ∷ []) ∙ append-nil (ended s.history) in (
           tallied_own x layout.senders s.history (Close ∷ []) m.tally record { queued = refl; busy = refl; refused = refl },
@@ -99,7 +99,7 @@ close_meets layout a b x s m goes =
 
     each : (c : Bool) → Tallied x layout.senders (s.history ++ (if c then [] else Close ∷ [])) × (¬ IsRunning (s.history ++ (if c then [] else Close ∷ [])))
     each true = same
-    each false = shuts
+    each false = closes
 
 -- the worker executed
 pub ran_meets : (layout : Layout) (a b : Seats) (x : Tally) (s : ScriptState) (limit : ℕ) (ends : ℕ → Bool) (ran : List ℕ)

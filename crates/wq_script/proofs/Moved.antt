@@ -17,9 +17,9 @@ module _ (wide : Layout) (s k : ℕ) (h : List Event) where
   pushed_open es legal = let is_open : closed h ≡ false = closed_from_open h (legal_next wide h (Push s k) es legal).2.1 in
       (is_open, sym (ap (λ (b : Bool). if b then Back s k why.Closed else Push s k) is_open))
 
-  back_shut : (es : List Event) → IsLegal wide (h ++ Back s k why.Closed ∷ es) → (closed h ≡ true) × (Back s k why.Closed ≡ post_event s h k)
-  back_shut es legal = let shut : closed h ≡ true = closed_from_IsClosed h ((legal_next wide h (Back s k why.Closed) es legal).2.1 refl) in
-      (shut, sym (ap (λ (b : Bool). if b then Back s k why.Closed else Push s k) shut))
+  back_closed : (es : List Event) → IsLegal wide (h ++ Back s k why.Closed ∷ es) → (closed h ≡ true) × (Back s k why.Closed ≡ post_event s h k)
+  back_closed es legal = let is_closed : closed h ≡ true = closed_from_IsClosed h ((legal_next wide h (Back s k why.Closed) es legal).2.1 refl) in
+      (is_closed, sym (ap (λ (b : Bool). if b then Back s k why.Closed else Push s k) is_closed))
 
 -- the event by which an item leaves the table, where the queue is closed or is not
 abbrev post_of : ℕ → Bool → ℕ → Event
@@ -39,7 +39,7 @@ posted_all wide p b (e ∷ gone) (x ∷ es) g out is legal = elim out.0 [
       let rest = posted_all wide p b gone es (g ++ x ∷ []) out.1 keeps (subst (λ (y : List Event). IsLegal wide y) (sym (append_assoc g (x ∷ []) es)) legal) in
       λ i. one i ∷ rest i
   | inr back ↦
-      let so = back_shut wide p e.item g es (subst (λ (y : Event). IsLegal wide (g ++ y ∷ es)) back legal) in
+      let so = back_closed wide p e.item g es (subst (λ (y : Event). IsLegal wide (g ++ y ∷ es)) back legal) in
       let one : x ≡ post_of p b e.item = back ∙ (so.1 ∙ ap (λ (c : Bool). post_of p c e.item) is) in
       let keeps : closed (g ++ x ∷ []) ≡ b = ap (λ (y : Event). closed (g ++ y ∷ [])) back ∙ (closed_push_no g (Back p e.item why.Closed) refl ∙ is) in
       let rest = posted_all wide p b gone es (g ++ x ∷ []) out.1 keeps (subst (λ (y : List Event). IsLegal wide y) (sym (append_assoc g (x ∷ []) es)) legal) in
@@ -110,7 +110,7 @@ module _ (layout : Layout) (s t : Seats) (h : List Event) (g : Seated layout s h
     on_told modified.TooFar at far room told = far_told told (far.0 refl)
     on_told modified.Closed at far room told =
         let a = seated_by layout s t h g d gathered (λ m. Back m k why.Closed ∷ []) 0 told.1.seen in
-        let so = back_shut a.seated.wide p k h [] a.seated.legal in
+        let so = back_closed a.seated.wide p k h [] a.seated.legal in
         posted_told modified.Closed true (Back p k why.Closed) (near_by modified.Closed far (λ e. cc)) at told.0 a.seated told.1.table_is so refl
     on_told modified.Moved at far room (inl told) =
         let a = seated_by layout s t h g d gathered (λ m. Push m k ∷ []) 0 told.1.seen in

@@ -62,7 +62,7 @@ module _ (layout : Layout) (h : List Event) (s k : ℕ) where
       let clear : pending h k ≡ false = held_clear (Push s k) legal in
       let allowed = legal_next layout (h ++ Hold s k ∷ []) (Push s k) [] (second_allowed (Push s k) legal) in
       let still = closed_on h (Hold s k) refl in
-      let is_open : closed h ≡ false = not_closed h (λ shut. allowed.2.1 (omega (arith, shut, still))) in (
+      let is_open : closed h ≡ false = not_closed h (λ is. allowed.2.1 (omega (arith, is, still))) in (
         clear,
         is_open,
         sym (ap (λ (b : Bool). if b then Busy s k ∷ [] else (if closed h then Hold s k ∷ Back s k why.Closed ∷ [] else Hold s k ∷ Push s k ∷ [])) clear
@@ -75,10 +75,10 @@ module _ (layout : Layout) (h : List Event) (s k : ℕ) where
       let clear : pending h k ≡ false = held_clear (Back s k why.Closed) legal in
       let allowed = legal_next layout (h ++ Hold s k ∷ []) (Back s k why.Closed) [] (second_allowed (Back s k why.Closed) legal) in
       let still = closed_on h (Hold s k) refl in
-      let shut_then = allowed.2.1 refl in
-      let shut : closed h ≡ true = is_closed h (omega (arith, shut_then, still)) in (
+      let closed_then = allowed.2.1 refl in
+      let so : closed h ≡ true = is_closed h (omega (arith, closed_then, still)) in (
         clear,
-        shut,
+        so,
         sym (ap (λ (b : Bool). if b then Busy s k ∷ [] else (if closed h then Hold s k ∷ Back s k why.Closed ∷ [] else Hold s k ∷ Push s k ∷ [])) clear
-            ∙ ap (λ (b : Bool). if b then Hold s k ∷ Back s k why.Closed ∷ [] else Hold s k ∷ Push s k ∷ []) shut),
+            ∙ ap (λ (b : Bool). if b then Hold s k ∷ Back s k why.Closed ∷ [] else Hold s k ∷ Push s k ∷ []) so),
       )

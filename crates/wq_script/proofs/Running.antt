@@ -4,7 +4,7 @@ use Rattle.std.proofs.Math.Seq.{drop-append_seam}
 use Rattle.wq_script.proofs.Common.{append_assoc, ◌≡◌, ℕ, ◌+◌, ◌<◌, ◌≤◌, Bool, true, false, not, ◌&&◌, nat_le, if◌then◌else◌, drop, suc, List, [], ◌∷◌, ◌++◌}
 use Rattle.wq_script.proofs.Common.{Option, Some, None, length, refl, sym, ap, ◌∙◌, subst, arith, All, inl, inr, filter, append-nil, append_cancel_left}
 use Rattle.wq_script.proofs.Common.{filter-append, get_or-eq_default, slice_get_within, cases_lt, IsPrefix, ArrayVec, Layout, Event, Take, Begin, End, begun}
-use Rattle.wq_script.proofs.Common.{ended, taken, closed, next, IsRunning, IsLegal, is_ours, taking, WorkerState, Moves, Follows, no_follow, follow_of}
+use Rattle.wq_script.proofs.Common.{ended, taken, shut, next, IsRunning, IsLegal, is_ours, taking, WorkerState, Moves, Follows, no_follow, follow_of}
 use Rattle.wq_script.proofs.Common.{take_events, after_run, after_execution, after_executions, go_on, ended_since, begun-append, ended-append, Lists, ListsFit}
 use Rattle.wq_script.proofs.Common.{Quiet, IsWorkerIdle, Executed, ExecutesOne, ExecutesRow, right_nil, prefix_on, HasStepped}
 use Rattle.wq_worker.specs.declared.ran.Ran.TheVariants.{Nothing}
@@ -36,7 +36,7 @@ starts_lists a k f v es (item idle lt may is) = may.1
 starts_lists a k f v es (other idle le none same is) = ap (λ (w : Lists). w.follows) same
 starts_lists a k f v es (owed runs left same none) = ap (λ (w : Lists). w.follows) same
 
-module _ (a b : WorkerState Lists) (k : ℕ) (f : List ℕ) (es fs : List Event) (told : Follows a.layout.items a.number (closed a.seen) f fs)
+module _ (a b : WorkerState Lists) (k : ℕ) (f : List ℕ) (es fs : List Event) (told : Follows a.layout.items a.number (shut a.seen) f fs)
     (moves : Moves (es ++ (fs ++ End k ∷ [])) 0 a b) (idle_then : ¬ IsRunning b.seen) where
   ended_so : (wide : Layout) (z : List Event) → IsWorkerIdle wide a → Quiet wide a.number a.seen z → IsPrefix b.seen z
       → es ≡ taking a.seen ++ Begin k ∷ [] → f ≡ follow_of a.work.follows.items k
@@ -45,8 +45,8 @@ module _ (a b : WorkerState Lists) (k : ℕ) (f : List ℕ) (es fs : List Event)
       let e = exact wide a.number a.seen b.seen z (es ++ (fs ++ End k ∷ [])) 0 quiet moves.adds begins in
       let whole : b.seen ≡ a.seen ++ ((taking a.seen ++ Begin k ∷ []) ++ (fs ++ End k ∷ [])) = e.0
       ∙ ap (λ (x : List Event). a.seen ++ (x ++ (fs ++ End k ∷ []))) is in
-      let follows : Follows wide.items a.number (closed a.seen) f fs =
-      subst (λ (l : Layout). Follows l.items a.number (closed a.seen) f fs) ready.layout told in
+      let follows : Follows wide.items a.number (shut a.seen) f fs =
+      subst (λ (l : Layout). Follows l.items a.number (shut a.seen) f fs) ready.layout told in
       let d = executed wide a.number a.work.follows.items a.seen k f fs answers fit follows (subst (λ (x : List Event). IsLegal wide x) whole e.2) in
       record { next_is = d.0; seen_is = whole ∙ d.1; idle = idle_then }
 
@@ -69,11 +69,11 @@ take_only false h = (ap begun (append-nil h), ap ended (append-nil h))
 -- a take begins and ends nothing
 taken_begun : (h : List Event) → length (begun (h ++ taking h)) ≡ length (begun h)
 taken_begun h = ap (λ (x : List Event). length (begun (h ++ x))) (taking_is h)
-    ∙ ap length (take_only (nat_le (taken h) (length (begun h)) && not (closed h)) h).0
+    ∙ ap length (take_only (nat_le (taken h) (length (begun h)) && not (shut h)) h).0
 
 taken_ended : (h : List Event) → length (ended (h ++ taking h)) ≡ length (ended h)
 taken_ended h = ap (λ (x : List Event). length (ended (h ++ x))) (taking_is h)
-    ∙ ap length (take_only (nat_le (taken h) (length (begun h)) && not (closed h)) h).1
+    ∙ ap length (take_only (nat_le (taken h) (length (begun h)) && not (shut h)) h).1
 
 pub ends_executes : (a b : WorkerState Lists) (k : ℕ) → Ends may_be a k b → ExecutesOne a b (Some k)
 ends_executes a b k (ends f es fs starts told moves idle) = record {

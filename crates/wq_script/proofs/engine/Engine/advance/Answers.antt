@@ -40,9 +40,9 @@ returns c =
       meets = λ s m. subst (λ (t : ScriptState). Meets (engine e.layout b c.posting.new.self) t) (sym (so s m).0) (goes s m).0;
       lines = λ s m few.
           let due = (goes s m).1 in
-          let shut = c.is_closed-is_closed.ensures e.layout s.history m.seated in
+          let closes = c.is_closed-is_closed.ensures e.layout s.history m.seated in
           let word = c.advance_word.ensures.text ∙ (ap (advance_word c.is_closed-is_closed.result) (c.deref.ensures.value ∙ due)
-          ∙ ap (λ b. advance_word b (due_items tick s.table)) shut) in
+          ∙ ap (λ b. advance_word b (due_items tick s.table)) closes) in
           wrote e.layout s (advanced e.layout s tick) (command.Advance tick) _ _ _ (so s m).0 (so s m).1
           (c.in_ok-write_row.ensures.written ∙ (ap (λ w. string_bytes c.args.out.now ++ row_text e.layout w c.deref-2.result.now) word
           ∙ ap (λ ks. string_bytes c.args.out.now ++ row_text e.layout (advance_word (closed s.history) (due_items tick s.table)) ks)
