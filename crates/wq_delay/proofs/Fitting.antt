@@ -1,7 +1,7 @@
 -- How much stands in a row.
 use Rattle.wq_delay.proofs.Common.{◌≡◌, ℕ, ◌+◌, ◌<◌, ◌≤◌, Bool, true, false, cond, ◌||◌, eqb, List, [], ◌∷◌, ◌++◌, map, length, is_ok, OnErr, nat_lt, ◌==◌}
 use Rattle.wq_delay.proofs.Common.{Some, None, Ok, Err, All, Option, Result, sym, refl, ap, ◌∙◌, subst, arith, length-append, eqb-true, nat_tests, get_or_past}
-use Rattle.wq_delay.proofs.Common.{map-append, length-map, All-head, All-tail, All-push, length-le_from_distinct_below, IsDistinct, Entry, on_table, items}
+use Rattle.wq_delay.proofs.Common.{length-map, All-head, All-tail, All-push, length-le_from_distinct_below, IsDistinct, Entry, on_table, items}
 use Rattle.wq_delay.proofs.Common.{Place, DueItem, place_in, AreOnTable, entry_at, entry_of, times, place_at, SaysPlace}
 use Rattle.wq_delay.proofs.Rounds.{at_or}
 use Rattle.wq_delay.proofs.Rows.{apart_items, any_item}
@@ -10,8 +10,8 @@ use Rattle.wq_delay.proofs.Gathered.{no_times, times_first, no_more_times}
 
 -- an entry that was pushed where there was room
 pub pushed : {A E : Type 0} (r : Result A E) (xs ys : List DueItem) (x : DueItem) (room size : ℕ)
-    → ys ≡ cond (is_ok r) (xs ++ x ∷ []) xs → OnErr r (room ≤ size) → size < room → map entry_of ys ≡ map entry_of xs ++ entry_of x ∷ []
-pushed (Ok a) xs ys x room size is full low = ap (map entry_of) is ∙ map-append entry_of xs (x ∷ [])
+    → ys ≡ cond (is_ok r) (xs ++ x ∷ []) xs → OnErr r (room ≤ size) → size < room → ys ≡ xs ++ x ∷ []
+pushed (Ok a) xs ys x room size is full low = is
 pushed (Err e) xs ys x room size is full low = absurd (omega (arith, full))
 
 pub place_low : (places : List (Option Place)) (k : ℕ) (p : Place) → place_in places k ≡ Some p → k < length places

@@ -1,18 +1,11 @@
 -- What was gathered, once it is sorted, is the due part of the table.
 use Rattle.std.specs.Ordering.{ordering_then}
 use Rattle.std.proofs.lemmas.List.Sorted.{All-permutation, IsPermutation-map, sum_by-IsPermutation, list_any-IsPermutation}
-use Rattle.wq_delay.proofs.Common.{◌≡◌, ℕ, suc, ◌+◌, ◌≤◌, Bool, true, false, cond, ◌||◌, ◌≢◌, List, [], ◌∷◌, map, get_or, nat_lt, nat_le, ◌==◌, Some, None, All}
-use Rattle.wq_delay.proofs.Common.{sum_by, Option, IsPermutation, IsSortedBy, nat_cmp, is_lt, Ordering, Less, Equal, Greater, sym, refl, ap, ◌∙◌, subst, arith}
+use Rattle.wq_delay.proofs.Common.{◌≡◌, ℕ, suc, ◌+◌, ◌<◌, ◌≤◌, Bool, true, false, cond, ◌||◌, ◌≢◌, List, [], ◌∷◌, ◌++◌, map, get_or, nat_lt, nat_le, ◌==◌, Some, None, All}
+use Rattle.wq_delay.proofs.Common.{sum_by, Option, IsPermutation, is_lt, Less, Equal, Greater, sym, refl, ap, ◌∙◌, subst, arith}
 use Rattle.wq_delay.proofs.Common.{eqb-true, nat_tests, All-head, All-tail, sum_by-cons, AllByRecursion, Entry, due_part, IsOrdered, on_table, IsBefore}
-use Rattle.wq_delay.proofs.Common.{all-more, Place, DueItem, place_in, AreOnTable, entry_of, times, place_at, SaysPlace, entries_of, is_due, place_of, AreApart}
+use Rattle.wq_delay.proofs.Common.{all-more, Place, DueItem, place_in, AreOnTable, entry_of, times, place_at, SaysPlace, entries_of, is_due, place_of, AreApart, row_cmp, AreSorted}
 use Rattle.wq_delay.proofs.Spelled.{place_off, entries_rows, same_entries}
-
-abbrev pub row_cmp : DueItem → DueItem → Ordering
-row_cmp x y = ordering_then (ordering_then (nat_cmp x.place.due y.place.due) (nat_cmp x.place.arming y.place.arming)) (nat_cmp x.item y.item)
-
--- what a sort asks
-abbrev pub AreSorted : List DueItem → Type 0
-AreSorted xs = IsSortedBy (λ x y. is_lt (row_cmp x y)) xs
 
 times_sum : (k : ℕ) (es : List Entry) → times k es ≡ sum_by (λ e. cond (k == e.item) 1 0) es
 times_sum k [] = refl
@@ -160,18 +153,51 @@ place_valid places k (f ∷ fs) valid =
         sym (ap (place_in places) (eqb-true k f.item is) ∙ All-head (SaysPlace places) f fs valid)
     by false is rest = rest
 
-pub sorted_is_due : (places : List (Option Place)) (now : ℕ) (xs : List DueItem) → AreApart places
-    → AreOnTable places (map entry_of xs) → AreSorted xs
-    → ((k : ℕ) → on_table k (map entry_of xs) ≡ is_due now (place_in places k))
-    → map entry_of xs ≡ due_part now (entries_of places)
-sorted_is_due places now xs apart on sorted which =
+-- entries in order that are what is due
+pub ordered_is_due : (places : List (Option Place)) (now : ℕ) (es : List Entry) → AreApart places → All (SaysPlace places) es → IsOrdered es
+    → ((k : ℕ) → on_table k es ≡ is_due now (place_in places k)) → es ≡ due_part now (entries_of places)
+ordered_is_due places now es apart valid ordered which =
     let rows = entries_rows places apart in
-    same_entries (map entry_of xs) (due_part now (entries_of places)) (sorted_ordered places xs apart on sorted)
-    (ordered_due now (entries_of places) rows.ordered)
-    (λ k. place_valid places k (map entry_of xs) on.valid
+    same_entries es (due_part now (entries_of places)) ordered (ordered_due now (entries_of places) rows.ordered)
+    (λ k. place_valid places k es valid
     ∙ (ap (λ (z : Bool). cond z (place_in places k) None) (which k)
     ∙ (as_due (place_in places k) ∙ (ap (due_only now) (rows.known k) ∙ sym (place_due now k (entries_of places) rows.ordered)))))
   where
     as_due : (o : Option Place) → cond (is_due now o) o None ≡ due_only now o
     as_due None = refl
     as_due (Some p) = refl
+
+pub sorted_is_due : (places : List (Option Place)) (now : ℕ) (xs : List DueItem) → AreApart places
+    → AreOnTable places (map entry_of xs) → AreSorted xs
+    → ((k : ℕ) → on_table k (map entry_of xs) ≡ is_due now (place_in places k))
+    → map entry_of xs ≡ due_part now (entries_of places)
+sorted_is_due places now xs apart on sorted which =
+    ordered_is_due places now (map entry_of xs) apart on.valid (sorted_ordered places xs apart on sorted) which
+
+-- what goes out behind all that is due at a tick
+before_all : (x : Entry) (t : ℕ) (ys : List Entry) → x.due ≤ t → All (λ e. t < e.due) ys → AllByRecursion (IsBefore x) ys
+before_all x t [] low all = tt
+before_all x t (y ∷ ys) low all =
+    let late : t < y.due = All-head (λ e. t < e.due) y ys all in
+    ((omega arith, λ same. absurd (omega arith)), before_all x t ys low (All-tail (λ e. t < e.due) y ys all))
+
+joined_all : (P : Entry → Type 0) (xs ys : List Entry) → AllByRecursion P xs → AllByRecursion P ys → AllByRecursion P (xs ++ ys)
+joined_all P [] ys all more = more
+joined_all P (x ∷ xs) ys all more = (all.0, joined_all P xs ys all.1 more)
+
+pub times_append : (k : ℕ) (xs ys : List Entry) → times k (xs ++ ys) ≡ times k xs + times k ys
+times_append k [] ys = omega arith
+times_append k (x ∷ xs) ys = by (cond (k == x.item) 1 0) (times_append k xs ys)
+  where
+    by : (n : ℕ) → times k (xs ++ ys) ≡ times k xs + times k ys → n + times k (xs ++ ys) ≡ (n + times k xs) + times k ys
+    by n is = omega arith
+
+-- what is due at a tick, and then what is due later
+pub ordered_joined : (t : ℕ) (xs ys : List Entry) → IsOrdered xs → IsOrdered ys → All (λ e. e.due ≤ t) xs → All (λ e. t < e.due) ys
+    → ((k : ℕ) → times k (xs ++ ys) ≤ 1) → IsOrdered (xs ++ ys)
+ordered_joined t [] ys first second early late single = second
+ordered_joined t (x ∷ xs) ys first second early late single = (
+  joined_all (IsBefore x) xs ys first.0 (before_all x t ys (All-head (λ e. e.due ≤ t) x xs early) late),
+  no_times x.item (xs ++ ys) (let a = single x.item in let b = times_first x (xs ++ ys) in omega arith),
+  ordered_joined t xs ys first.2 second (All-tail (λ e. e.due ≤ t) x xs early) late (λ k. let a = single k in let b = no_more_times k x (xs ++ ys) in omega arith),
+)

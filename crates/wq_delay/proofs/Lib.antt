@@ -11,6 +11,8 @@ pub mod Gathered
 pub mod Serving
 pub mod Fitting
 pub mod Leading
+pub mod Led
+pub mod Tidied
 pub mod Finding
 pub mod Found
 pub mod Starting

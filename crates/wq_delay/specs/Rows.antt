@@ -1,7 +1,10 @@
 -- Where items stand, and the table that this spells.
-use Rattle.std.specs.Prelude.{◌≡◌, ℕ, ◌+◌, ◌-◌, ◌≤◌, ◌<◌, ◌%◌, ◌==◌, Bool, false, ◌||◌, ◌&&◌, nat_lt, nat_le, Option, Some, None, if◌then◌else◌, List, [], ◌∷◌}
+use Rattle.std.specs.Prelude.{◌≡◌, ℕ, ◌+◌, ◌-◌, ◌*◌, ◌≤◌, ◌<◌, ◌%◌, ◌==◌, Bool, true, false, ◌||◌, ◌&&◌, nat_lt, nat_le, Option, Some, None, if◌then◌else◌, List, [], ◌∷◌, ◌++◌}
 use Rattle.std.specs.Prelude.{map, filter, length, take, slice_index, slice_index_or}
 use Rattle.std.specs.List.{All}
+use Rattle.std.specs.List.Sorted.{IsSortedBy}
+use Rattle.std.specs.Ordering.{ordering_then, nat_cmp, is_lt}
+use Rattle.std.specs.declared.cmp.Ordering.{Ordering}
 use Rattle.wq_words.specs.DelayTable.{Entry, on_table, due_part, IsOrdered}
 use Rattle.wq_delay.specs.declared.timetable.Place.{Place}
 use Rattle.wq_delay.specs.declared.timetable.DueItem.{DueItem}
@@ -131,6 +134,28 @@ pub record AreFound (places : List (Option Place)) (t now n : ℕ) (es : List En
   pub on : AreOnTable places es
   pub which : (k : ℕ) (p : Place) → place_in places k ≡ Some p → on_table k es ≡ (nat_le p.due now && (nat_le p.due t || nat_lt (turn_of t p.due) n))
 
+-- by their ticks, at one tick by their armings, and then by their numbers
+abbrev pub row_cmp : DueItem → DueItem → Ordering
+row_cmp x y = ordering_then (ordering_then (nat_cmp x.place.due y.place.due) (nat_cmp x.place.arming y.place.arming)) (nat_cmp x.item y.item)
+
+abbrev pub AreSorted : List DueItem → Type 0
+AreSorted row = IsSortedBy (λ x y. is_lt (row_cmp x y)) row
+
+-- what still stands on the table of a row
+abbrev pub standing : List (Option Place) → List DueItem → List Entry
+standing places row = map entry_of (filter (stands places) row)
+
+-- The row has room for all that may be found: of what it holds no more than twice as many as there are items have left the table.
+pub record HasRoom (places : List (Option Place)) (row : List DueItem) (room : ℕ) : Type 0 where
+  pub enough : 3 * length places ≤ room
+  pub few_gone : length row ≤ 2 * length places + length (standing places row)
+
+-- items that stand on the table were put behind the row
+pub record Grows (places : List (Option Place)) (old new : List DueItem) : Type 0 where
+  pub more : List DueItem
+  pub is : new ≡ old ++ more
+  pub stand : All (λ e. stands places e ≡ true) more
+
 -- what waits while entries were moved to the row
 abbrev pub waiting : List (Option Place) → List Entry → ℕ → Option Place
 waiting places row k = if on_table k row then None else place_in places k
@@ -155,8 +180,8 @@ pub record IsTimetable (places : List (Option Place)) (next previous : List ℕ)
   pub few : length places ≤ 4096
   pub apart : AreApart places
   pub wheel : IsWheel (length places) next previous (λ k. later_than tick (place_in places k))
-  pub due_is : map entry_of (filter (stands places) row) ≡ due_part tick (entries_of places)
+  pub due_is : standing places row ≡ due_part tick (entries_of places)
   pub early : All (λ e. e.place.due ≤ tick) row
   pub passed : filter (stands places) (take front row) ≡ []
-  pub enough : length places ≤ room
+  pub enough : 3 * length places ≤ room
   pub count_is : count ≡ length (entries_of places)

@@ -1,10 +1,12 @@
 //! Items by the ticks at which they are due: a wheel of slots, and a row of what is due.
 ghost use Rattle.std.specs.Prelude.{◌≡◌, ℕ, ◌<◌, ◌≤◌, ◌-◌, ◌^◌, true, false, [], length, min, IfOk, IfSome, MatchOption};
 ghost use Rattle.wq_words.specs.DelayTable.{items, on_table, due_part, placed, without, IsOrdered, AreArmedBefore};
-ghost use Rattle.std.specs.Prelude.{map, filter, take, drop, nat_le, ◌&&◌, ◌+◌, OnOk, slice_index_or};
+ghost use Rattle.std.specs.Prelude.{map, filter, take, drop, nat_le, ◌&&◌, ◌+◌, ◌*◌, OnOk, slice_index_or};
 ghost use Rattle.std.specs.Vec.{vec_capacity};
 ghost use Rattle.std.specs.List.{All};
 ghost use Rattle.wq_delay.specs.Rows.{IsFirstDue, IsWheel, IsGathering, StillWaits, IsClean, place_in, later_than, waiting, entry_of, stands, AreFound, AreDue};
+ghost use Rattle.wq_delay.specs.Rows.{standing, HasRoom, Grows, AreSorted};
+ghost use Rattle.std.specs.List.Sorted.{IsPermutation};
 
 use crate::rings::Rings;
 use std::alloc::{AllocError, Global};
@@ -30,7 +32,8 @@ struct DueItem {
 
 // Where each item stands, if it is on the table. What is due later than the present tick stands in the ring of its slot, in
 // the order of armings; the head of a slot's ring is the place behind all items, and of the slots before it. What is due stands
-// in the row, in order, from the place `front` on, among items that have left it.
+// in the row, in order, from the place `front` on, among items that have left it. It stays there until it goes out: what an
+// advance finds is due later than all that stands there, and is put behind it, so no advance takes longer for what is left.
 #[derive(Drop)]
 pub(crate) struct Timetable {
     places: Vec<Option<Place>>,
@@ -135,15 +138,16 @@ fn items_of(alloc: Global, row: &[DueItem]) -> Result<Vec<u32>, AllocError>
     row.iter().map(|entry| entry.item).collect(alloc)
 }
 
-// Looks at the slot with this head, and moves what is due at the tick `now` to the row, in the order of the slot.
+// Looks at the slot with this head, and moves what is due at the tick `now` behind the row, in the order of the slot.
 fn look(places: &[Option<Place>], rings: &mut Rings, row: &mut Vec<DueItem>, head: u32, now: u64)
-    requires gathering { IsGathering places.now rings.old.next.items rings.old.previous.items (map entry_of row.old.items) now }
+    requires gathering { IsGathering places.now rings.old.next.items rings.old.previous.items (standing places.now row.old.items) now }
     requires head { (length places.now ≤ head) × (head < length places.now + 256) }
-    requires room { length places.now ≤ vec_capacity row.old }
-    ensures gathering { IsGathering places.now rings.new.next.items rings.new.previous.items (map entry_of row.new.items) now }
-    ensures room { length places.now ≤ vec_capacity row.new }
-    ensures fewer { StillWaits places.now (map entry_of row.old.items) (map entry_of row.new.items) }
-    ensures clean { IsClean places.now (map entry_of row.new.items) head now }
+    requires room { HasRoom places.now row.old.items (vec_capacity row.old) }
+    ensures gathering { IsGathering places.now rings.new.next.items rings.new.previous.items (standing places.now row.new.items) now }
+    ensures room { HasRoom places.now row.new.items (vec_capacity row.new) }
+    ensures grows { Grows places.now row.old.items row.new.items }
+    ensures fewer { StillWaits places.now (standing places.now row.old.items) (standing places.now row.new.items) }
+    ensures clean { IsClean places.now (standing places.now row.new.items) head now }
 {
     let mut item = rings.next[head as usize];
     while item != head {
@@ -158,6 +162,36 @@ fn look(places: &[Option<Place>], rings: &mut Rings, row: &mut Vec<DueItem>, hea
     }
 }
 
+// Takes out of a row what has left the table, once all before `front` and nothing behind it has, or that is most of the row. The
+// place from which on something may stand there.
+fn tidy(places: &[Option<Place>], row: &mut Vec<DueItem>, front: usize) -> usize
+    requires few { length places.now ≤ 4096 }
+    requires passed { filter (stands places.now) (take front row.old.items) ≡ [] }
+    requires enough { 3 * length places.now ≤ vec_capacity row.old }
+    ensures passed { filter (stands places.now) (take result row.new.items) ≡ [] }
+    ensures low { result ≤ length row.new.items }
+    ensures same { filter (stands places.now) row.new.items ≡ filter (stands places.now) row.old.items }
+    ensures early { (t : ℕ) → All (λ e. e.place.due ≤ t) row.old.items → All (λ e. e.place.due ≤ t) row.new.items }
+    ensures room { HasRoom places.now row.new.items (vec_capacity row.new) }
+{
+    if front < row.len() && row.len() <= 2 * places.len() {
+        return front;
+    }
+    row.retain(|entry| is_there(places, *entry));
+    0
+}
+
+// Sorts what stands in a row behind so many.
+fn sort_behind(row: &mut Vec<DueItem>, late: usize)
+    requires { late ≤ length row.old.items }
+    ensures kept { take late row.new.items ≡ take late row.old.items }
+    ensures moved { IsPermutation (drop late row.old.items) (drop late row.new.items) }
+    ensures sorted { AreSorted (drop late row.new.items) }
+    ensures capacity { vec_capacity row.new ≡ vec_capacity row.old }
+{
+    row[late..].sort_unstable();
+}
+
 // Looks at the slots of the ticks after `tick` up to `now` in turn, or at each slot once where there are more ticks than slots.
 // How many slots it looked at.
 fn look_on(
@@ -168,13 +202,14 @@ fn look_on(
     now: u64,
 ) -> u32
     requires few { length places.now ≤ 4096 }
-    requires gathering { IsGathering places.now rings.old.next.items rings.old.previous.items (map entry_of row.old.items) now }
-    requires room { length places.now ≤ vec_capacity row.old }
-    requires ahead { (k : ℕ) (p : _) → waiting places.now (map entry_of row.old.items) k ≡ Some p → tick < p.due }
+    requires gathering { IsGathering places.now rings.old.next.items rings.old.previous.items (standing places.now row.old.items) now }
+    requires room { HasRoom places.now row.old.items (vec_capacity row.old) }
+    requires ahead { (k : ℕ) (p : _) → waiting places.now (standing places.now row.old.items) k ≡ Some p → tick < p.due }
     requires forward { tick ≤ now }
-    ensures gathering { IsGathering places.now rings.new.next.items rings.new.previous.items (map entry_of row.new.items) now }
-    ensures room { length places.now ≤ vec_capacity row.new }
-    ensures done { (k : ℕ) (p : _) → waiting places.now (map entry_of row.new.items) k ≡ Some p → now < p.due }
+    ensures gathering { IsGathering places.now rings.new.next.items rings.new.previous.items (standing places.now row.new.items) now }
+    ensures room { HasRoom places.now row.new.items (vec_capacity row.new) }
+    ensures grows { Grows places.now row.old.items row.new.items }
+    ensures done { (k : ℕ) (p : _) → waiting places.now (standing places.now row.new.items) k ≡ Some p → now < p.due }
     ensures looked { result ≡ min (now - tick) 256 }
 {
     let size = places.len() as u32;
@@ -208,7 +243,7 @@ impl Timetable {
         Ok(Timetable {
             places: vec![in alloc; None; size as usize]?,
             rings: Rings::new(alloc, size + SLOTS)?,
-            row: Vec::with_capacity(alloc, size as usize)?,
+            row: Vec::with_capacity(alloc, 3 * size as usize)?,
             front: 0,
             count: 0,
             tick: now,
@@ -304,10 +339,10 @@ impl Timetable {
         ensures looked { result ≡ min (now - self.old.tick) 256 }
     {
         let places = self.places.as_slice();
-        self.row.retain(|entry| is_there(places, *entry));
-        self.front = 0;
+        self.front = tidy(places, &mut self.row, self.front);
+        let late = self.row.len();
         let looked = look_on(places, &mut self.rings, &mut self.row, self.tick, now);
-        self.row.sort_unstable();
+        sort_behind(&mut self.row, late);
         self.tick = now;
         looked
     }

@@ -1,6 +1,7 @@
-use Rattle.wq_delay.proofs.Common.{[], map, vec_len, vec_capacity, arith, length-map, entry_of}
+use Rattle.wq_delay.proofs.Common.{[], vec_len, vec_capacity, arith, DueItem, standing}
 use Rattle.wq_delay.proofs.Looking.{item_off, looking_pass, looking_take, nearer_read, item_here, looking_init, looking_end}
 use Rattle.wq_delay.proofs.Fitting.{pushed, row_has_room}
+use Rattle.wq_delay.proofs.Tidied.{item_stands, standing_more, room_more, grows_none, grows_more}
 use Rattle.wq_delay.proofs.timetable.look.Goals as goal
 
 pub index-item-requires : goal.index-item-requires
@@ -8,7 +9,11 @@ index-item-requires c = omega (arith, c.requires.gathering.wheel.next_length, c.
 
 pub loop-item-init : goal.loop-item-init
 loop-item-init c =
-    let r = c.requires in (looking_init _ _ _ [] _ c.args.head _ r.head.0 r.head.1 r.gathering c.index-item.result.now c.index-item.ensures, r.room)
+    let r = c.requires in (
+      looking_init _ _ _ [] _ c.args.head _ r.head.0 r.head.1 r.gathering c.index-item.result.now c.index-item.ensures,
+      r.room,
+      grows_none c.args.places.now c.args.row.now.items,
+    )
 
 pub index-after-requires : goal.index-after-requires
 index-after-requires c =
@@ -29,20 +34,24 @@ take_out-requires-clause-previous c =
 pub loop-item-preserved-then-place-now : goal.loop-item-preserved-then-place-now
 loop-item-preserved-then-place-now c =
     let l = c.loop-item.invariant.0 in let x = c.loop-item.item in let h = c.requires.head in let ne = c.loop-item-test.true in
-    let row = c.loop-item.row in let enough = c.loop-item.invariant.1 in
-    let room = row_has_room c.args.places.now (map entry_of row.items) x c.in-Some.place (record { valid = l.gathering.valid; single = l.gathering.single })
+    let row = c.loop-item.row in let enough = c.loop-item.invariant.1 in let places = c.args.places.now in
+    let e : DueItem = record { place = c.in-Some.place; item = x } in
+    let room = row_has_room places (standing places row.items) x c.in-Some.place (record { valid = l.gathering.valid; single = l.gathering.single })
     (item_off _ _ _ _ _ _ _ h.0 h.1 l ne) c.in-Some.is in
-    let more = pushed c.push.result row.items c.push.new.self.items (record { place = c.in-Some.place; item = x }) (vec_capacity row) (vec_len row)
-    c.push.ensures.items c.push.ensures.full (omega (arith, room, enough, length-map row.items entry_of, row.ok.0)) in (
-      looking_take _ _ _ _ _ _ _ h.0 h.1 l ne c.in-Some.is c.if-place-now.true more c.take_out.ensures.next c.take_out.ensures.previous
-          c.index-after.result.now c.index-after.ensures,
-      omega (arith, enough, c.push.ensures.capacity),
+    let more = pushed c.push.result row.items c.push.new.self.items e (vec_capacity row) (vec_len row)
+    c.push.ensures.items c.push.ensures.full (omega (arith, room, enough.enough, enough.few_gone, row.ok.0)) in
+    let stands_there = item_stands places e c.in-Some.is in (
+      looking_take _ _ _ _ _ _ _ h.0 h.1 l ne c.in-Some.is c.if-place-now.true (standing_more places row.items c.push.new.self.items e more stands_there)
+          c.take_out.ensures.next c.take_out.ensures.previous c.index-after.result.now c.index-after.ensures,
+      room_more places row.items c.push.new.self.items e (vec_capacity row) (vec_capacity c.push.new.self) enough more stands_there
+          (omega (arith, c.push.ensures.capacity)),
+      grows_more places c.args.row.now.items row.items c.push.new.self.items e c.loop-item.invariant.2 more stands_there,
     )
 
 pub loop-item-preserved-else-place-now : goal.loop-item-preserved-else-place-now
 loop-item-preserved-else-place-now c =
     let l = c.loop-item.invariant in let h = c.requires.head in
-    (looking_pass _ _ _ _ _ _ _ h.0 h.1 l.0 c.loop-item-test.true c.in-Some.is c.if-place-now.false c.index-after.result.now c.index-after.ensures, l.1)
+    (looking_pass _ _ _ _ _ _ _ h.0 h.1 l.0 c.loop-item-test.true c.in-Some.is c.if-place-now.false c.index-after.result.now c.index-after.ensures, l.1, l.2)
 
 pub loop-item-preserved : goal.loop-item-preserved
 loop-item-preserved c =
@@ -65,6 +74,9 @@ returns-clause-gathering c = c.loop-item.invariant.0.gathering
 
 pub returns-clause-room : goal.returns-clause-room
 returns-clause-room c = c.loop-item.invariant.1
+
+pub returns-clause-grows : goal.returns-clause-grows
+returns-clause-grows c = c.loop-item.invariant.2
 
 pub returns-clause-fewer : goal.returns-clause-fewer
 returns-clause-fewer c = c.loop-item.invariant.0.fewer

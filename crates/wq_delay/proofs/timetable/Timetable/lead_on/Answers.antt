@@ -1,21 +1,22 @@
-use Rattle.std.proofs.lemmas.Fn.{filter_same}
-use Rattle.wq_delay.proofs.Common.{◌≤◌, sym, subst, arith, rules, stands, Rows}
-use Rattle.wq_delay.proofs.Leading.{gathering_start, start_ahead, timetable_end}
+use Rattle.wq_delay.proofs.Common.{◌≤◌, sym, subst, arith, Rows}
+use Rattle.wq_delay.proofs.Leading.{gathering_start, start_ahead}
+use Rattle.wq_delay.proofs.Led.{timetable_led}
 use Rattle.wq_delay.proofs.timetable.Timetable.lead_on.Goals as goal
 
 pub look_on-looked-requires-clause-gathering : goal.look_on-looked-requires-clause-gathering
 look_on-looked-requires-clause-gathering c =
     gathering_start c.self.invariant c.args.now (subst (λ (z : Rows). z.tick ≤ c.args.now) (sym c.self.view_is) c.requires) c.as_slice-places.ensures.value
-    (filter_same _ (stands c.as_slice-places.result.now) _ (λ x b f k. search rules) _ _ c.retain.ensures.filtered)
+    c.tidy-self-inside.new.row.items c.tidy-self-inside.ensures.same
 
 pub look_on-looked-requires-clause-ahead : goal.look_on-looked-requires-clause-ahead
 look_on-looked-requires-clause-ahead c =
     start_ahead c.self.invariant c.args.now (subst (λ (z : Rows). z.tick ≤ c.args.now) (sym c.self.view_is) c.requires) c.as_slice-places.ensures.value
-    (filter_same _ (stands c.as_slice-places.result.now) _ (λ x b f k. search rules) _ _ c.retain.ensures.filtered)
+    c.tidy-self-inside.new.row.items c.tidy-self-inside.ensures.same
 
 pub invariant_of-self : goal.invariant_of-self
 invariant_of-self c =
-    let looked = c.look_on-looked.ensures in let sort = c.sort_unstable.ensures in
-    timetable_end c.self.invariant c.args.now (subst (λ (z : Rows). z.tick ≤ c.args.now) (sym c.self.view_is) c.requires) c.as_slice-places.ensures.value
-    (filter_same _ (stands c.as_slice-places.result.now) _ (λ x b f k. search rules) _ _ c.retain.ensures.filtered)
-    looked.gathering looked.done sort.permutation sort.sorted (omega (arith, looked.room, sort.capacity))
+    let tidied = c.tidy-self-inside in let looked = c.look_on-looked.ensures in let sort = c.sort_behind.ensures in
+    timetable_led c.self.invariant c.args.now (subst (λ (z : Rows). z.tick ≤ c.args.now) (sym c.self.view_is) c.requires) c.as_slice-places.ensures.value
+    tidied.new.row.items tidied.ensures.same looked.grows looked.gathering looked.done
+    (omega (arith, c.len-late.ensures, tidied.new.row.ok.0)) sort.kept sort.moved sort.sorted (omega (arith, looked.room.enough, sort.capacity))
+    tidied.ensures.passed tidied.ensures.low (tidied.ensures.early c.self.inside.tick c.self.invariant.early)
