@@ -3,7 +3,8 @@ use Rattle.wq_words.proofs.Growing.{count_by_push}
 use Rattle.wq_delay.proofs.Common.{◌≡◌, ℕ, ◌+◌, ◌<◌, cond, List, [], ◌∷◌, ◌++◌, length, count_by, sym, refl, ap, ◌∙◌, subst, inl, inr, append_assoc, arith}
 use Rattle.wq_delay.proofs.Common.{length-append, append-nil, AllZip, Event, Back, Push, is_push, Entry, DelayTable, due_part, later_part, without, IsOrdered}
 use Rattle.wq_delay.proofs.Common.{without_first, due_then_later, first_due_part, first_later_part, Known, Sees, IsFirstDue, DelayState, IsFit, KeepsTable}
-use Rattle.wq_delay.proofs.Common.{TakesOff, IsOut, is_back, lost_tries, PostsDue}
+use Rattle.wq_delay.proofs.Common.{TakesOff, IsOut, is_back, MayStay, PostsDue}
+use Rattle.wq_live.specs.Answers.{HasMetDrain}
 use Rattle.wq_delay.proofs.Going.{sees_on, sees_none}
 use Rattle.wq_words.specs.declared.event.Why.TheVariants as why
 
@@ -116,37 +117,63 @@ went_all t tries pushed refused old new going now in_order none =
       table_is = λ i. record { entries = rest i; tick = (going.tick_is ∙ now) i; next = going.next_is i };
       out = going.out;
       seen = going.seen;
+      stays = inl refl;
       pushed_is = going.pushed_is;
       refused_is = going.refused_is;
     }
 
--- the post of the first was contended
-lost_by : (t k tries : ℕ) (es : List Entry) → IsFirstDue t k es → lost_tries (due_part t es) tries ≡ tries
-lost_by t k tries es is_first =
-    ap (λ (z : List Entry). lost_tries z tries) (ap (due_part t) is_first.is ∙ first_due_part t is_first.first is_first.rest is_first.due)
+-- what was met after more was seen was met after less
+met_before : (events : List Event) (n : ℕ) (old mid new : Known) → Sees events n old mid → HasMetDrain mid.seen new.seen → HasMetDrain old.seen new.seen
+met_before events n old mid new seen met =
+    let e = ap (length {A = Event}) seen.grows.is in
+    (met.0, omega (arith, e, length-append old.seen seen.grows.new, met.1), met.2)
 
-pub went_some : (t k tries pushed refused : ℕ) (old mid new : DelayState) → Going t old mid pushed refused → old.table.tick ≡ t
-    → IsOrdered mid.table.entries → IsFirstDue t k mid.table.entries → KeepsTable [] tries mid new → PostsDue t tries old new pushed refused
-went_some t k tries pushed refused old mid new going now in_order is_first keeps =
-    let same : new.table.entries ≡ mid.table.entries = ap (λ (z : DelayTable). z.entries) keeps.table_is in
-    let rest : new.table.entries ≡ due_part t mid.table.entries ++ later_part t old.table.entries =
-    same ∙ (due_then_later t mid.table.entries in_order ∙ ap (λ (z : List Entry). due_part t mid.table.entries ++ z) going.later) in
-    let all : Sees (going.events ++ []) (0 + tries) old.sender new.sender =
-    sees_on going.events [] 0 tries old.sender mid.sender new.sender going.seen keeps.seen in
-    let seen : Sees going.events (0 + tries) old.sender new.sender =
-    subst (λ (z : List Event). Sees z (0 + tries) old.sender new.sender) (append-nil going.events) all in
-    record {
-      gone = going.gone;
-      left = due_part t mid.table.entries;
-      events = going.events;
-      due_is = going.split;
-      table_is = λ i. record {
-        entries = rest i;
-        tick = (ap (λ (z : DelayTable). z.tick) keeps.table_is ∙ (going.tick_is ∙ now)) i;
-        next = (ap (λ (z : DelayTable). z.next) keeps.table_is ∙ going.next_is) i;
-      };
-      out = going.out;
-      seen = subst (λ (z : ℕ). Sees going.events z old.sender new.sender) (let e = lost_by t k tries mid.table.entries is_first in omega (arith, e)) seen;
-      pushed_is = going.pushed_is;
-      refused_is = going.refused_is;
-    }
+module _ (t tries pushed refused : ℕ) (old mid new : DelayState) (going : Going t old mid pushed refused) (now : old.table.tick ≡ t)
+    (in_order : IsOrdered mid.table.entries) where
+  seen_on : (n : ℕ) → Sees [] n mid.sender new.sender → Sees going.events n old.sender new.sender
+  seen_on n seen =
+      let all : Sees (going.events ++ []) (0 + n) old.sender new.sender =
+      sees_on going.events [] 0 n old.sender mid.sender new.sender going.seen seen in
+      subst (λ (z : List Event). Sees z n old.sender new.sender) (append-nil going.events)
+      (subst (λ (z : ℕ). Sees (going.events ++ []) z old.sender new.sender) (omega arith) all)
+
+  went_some : (n : ℕ) → KeepsTable [] n mid new → Sees going.events 0 old.sender new.sender
+      → MayStay (due_part t mid.table.entries) tries going.events old.sender new.sender → PostsDue t tries old new pushed refused
+  went_some n keeps seen stays =
+      let same : new.table.entries ≡ mid.table.entries = ap (λ (z : DelayTable). z.entries) keeps.table_is in
+      let rest : new.table.entries ≡ due_part t mid.table.entries ++ later_part t old.table.entries =
+      same ∙ (due_then_later t mid.table.entries in_order ∙ ap (λ (z : List Entry). due_part t mid.table.entries ++ z) going.later) in
+      record {
+        gone = going.gone;
+        left = due_part t mid.table.entries;
+        events = going.events;
+        due_is = going.split;
+        table_is = λ i. record {
+          entries = rest i;
+          tick = (ap (λ (z : DelayTable). z.tick) keeps.table_is ∙ (going.tick_is ∙ now)) i;
+          next = (ap (λ (z : DelayTable). z.next) keeps.table_is ∙ going.next_is) i;
+        };
+        out = going.out;
+        seen = seen;
+        stays = stays;
+        pushed_is = going.pushed_is;
+        refused_is = going.refused_is;
+      }
+
+  -- the post of the first was contended
+  pub went_lost : KeepsTable [] tries mid new → PostsDue t tries old new pushed refused
+  went_lost keeps =
+      let lost = seen_on tries keeps.seen in
+      went_some tries keeps (less lost) (inr (inl lost))
+    where
+      less : Sees going.events tries old.sender new.sender → Sees going.events 0 old.sender new.sender
+      less seen = record {
+        same = seen.same;
+        grows = record { new = seen.grows.new; is = seen.grows.is; mine = seen.grows.mine; theirs = omega arith };
+        legal = seen.legal;
+      }
+
+  -- the post of the first found the queue draining
+  pub went_drained : KeepsTable [] 0 mid new → HasMetDrain mid.sender.seen new.sender.seen → PostsDue t tries old new pushed refused
+  went_drained keeps met =
+      went_some 0 keeps (seen_on 0 keeps.seen) (inr (inr (met_before going.events 0 old.sender mid.sender new.sender going.seen met)))

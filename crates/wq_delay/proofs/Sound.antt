@@ -56,6 +56,8 @@ sound_queued size k tries answer.Closed a b now next t told sound =
     sound_keeps _ _ size a b now next now t told (λ j. even_back a.number k j why.Closed) sound
 sound_queued size k tries answer.Contended a b now next t told sound =
     sound_keeps _ _ size a b now next now t told (λ j. even_back a.number k j why.Contended) sound
+sound_queued size k tries answer.Draining a b now next t told sound =
+    sound_keeps _ _ size a b now next now t told.0 (λ j. even_back a.number k j why.Draining) sound
 
 -- an item that is held now was not on the table
 pub off_before : (n : ℕ) (a b : Known) (k : ℕ) (t : List Entry) → Sees (Hold a.number k ∷ []) n a b → HoldsAll a t → on_table k t ≡ false
@@ -117,13 +119,15 @@ sound_empty size now a t none is legal free = (
 
 -- an item on the table was posted
 pub sound_posted : (size k tries : ℕ) (r : Posted) (a b : Known) (now next : ℕ) (t u : List Entry) → (r ≡ posted.Contended → ⊥)
+    → (r ≡ posted.Draining → ⊥)
     → Posts k tries r a b → u ≡ without k t
     → IsSound size (state a now next t) → IsSound size (state b now next u)
-sound_posted size k tries (posted.Queued is_first wakes) a b now next t u won told is sound =
+sound_posted size k tries (posted.Queued is_first wakes) a b now next t u won stays_open told is sound =
     sound_leaves (Push a.number k) size 0 k a b now next t u told.0 (λ j. refl) (λ j. stops_push a.number k j) is sound
-sound_posted size k tries posted.Closed a b now next t u won told is sound =
+sound_posted size k tries posted.Closed a b now next t u won stays_open told is sound =
     sound_leaves (Back a.number k why.Closed) size 0 k a b now next t u told (λ j. refl) (λ j. stops_back a.number k j why.Closed) is sound
-sound_posted size k tries posted.Contended a b now next t u won told is sound = absurd (won refl)
+sound_posted size k tries posted.Contended a b now next t u won stays_open told is sound = absurd (won refl)
+sound_posted size k tries posted.Draining a b now next t u won stays_open told is sound = absurd (stays_open refl)
 
 -- an item on the table has another tick and a later arming
 on_moved : (j k : ℕ) (p q b : Bool) → (j == k) ≡ p → b ≡ q → (j ≡ k → q ≡ true) → ((j == k) || (not (j == k) && b)) ≡ q

@@ -1,6 +1,7 @@
 -- A new timetable.
 use Rattle.std.proofs.lemmas.List.FromFn.{length-range_with_len, get_or-range_with_len}
 use Rattle.wq_delay.proofs.Common.{◌≡◌, ℕ, zero, suc, ◌+◌, ◌*◌, ◌≤◌, List, [], length, get_or, replicate, None, Option, sym, refl, ap, ◌∙◌, arith, All-nil}
+use Rattle.wq_words.specs.Limits.{most_items}
 use Rattle.wq_delay.proofs.Common.{range_with_len, Entry, due_part, Place, place_in, head_by, later_than, entries_of, IsTimetable, AreApart, AreRows}
 use Rattle.wq_delay.proofs.Rounds.{rings_alone}
 use Rattle.wq_delay.proofs.Spelled.{entries_is}
@@ -23,7 +24,7 @@ module _ (places : List (Option Place)) (n : ℕ) (places_are : places ≡ repli
   pub no_entries : entries_of places ≡ []
   no_entries = entries_is places [] apart rows
 
-  pub timetable_new : (next previous : List ℕ) (m room tick : ℕ) → n ≤ 4096 → m ≡ n + 256 → next ≡ range_with_len 0 m → previous ≡ range_with_len 0 m
+  pub timetable_new : (next previous : List ℕ) (m room tick : ℕ) → n ≤ most_items → m ≡ n + 256 → next ≡ range_with_len 0 m → previous ≡ range_with_len 0 m
       → 3 * n ≤ room → IsTimetable places next previous [] room 0 0 tick
   timetable_new next previous m room tick few m_is next_is previous_is enough = record {
     few = omega arith;

@@ -11,7 +11,7 @@ use Rattle.wq_words.specs.Legal.{IsLegal}
 use Rattle.wq_words.specs.declared.answer.Posted.{Posted}
 use Rattle.wq_words.specs.declared.answer.Posted.TheVariants as posted
 use Rattle.wq_live.specs.Known.{Known, Sees}
-use Rattle.wq_live.specs.Answers.{IsPushed}
+use Rattle.wq_live.specs.Answers.{IsPushed, HasMetDrain}
 use Rattle.wq_words.specs.declared.answer.Armed.{Armed}
 use Rattle.wq_words.specs.declared.answer.Armed.TheVariants as armed
 use Rattle.wq_words.specs.declared.answer.Modified.{Modified}
@@ -69,6 +69,9 @@ Arms k delay tries armed.Closed old new =
     (delay ≡ 0) × KeepsTable (Hold old.sender.number k ∷ Back old.sender.number k why.Closed ∷ []) 0 old new
 Arms k delay tries armed.Contended old new =
     (delay ≡ 0) × KeepsTable (Hold old.sender.number k ∷ Back old.sender.number k why.Contended ∷ []) tries old new
+Arms k delay tries armed.Draining old new =
+    (delay ≡ 0) × KeepsTable (Hold old.sender.number k ∷ Back old.sender.number k why.Draining ∷ []) 0 old new
+    × HasMetDrain old.sender.seen new.sender.seen
 Arms k delay tries armed.TooFar old new = new ≡ old
 Arms k delay tries armed.Memory old new =
     (0 < delay) × KeepsTable (Hold old.sender.number k ∷ Back old.sender.number k why.Cancelled ∷ []) 0 old new
@@ -86,6 +89,7 @@ Rearms k delay tries modified.Moved old new =
 Rearms k delay tries modified.Pending old new = ⊥
 Rearms k delay tries modified.Closed old new = (delay ≡ 0) × TakesOff (Back old.sender.number k why.Closed ∷ []) k old new
 Rearms k delay tries modified.Contended old new = (delay ≡ 0) × KeepsTable [] tries old new
+Rearms k delay tries modified.Draining old new = (delay ≡ 0) × KeepsTable [] 0 old new × HasMetDrain old.sender.seen new.sender.seen
 Rearms k delay tries modified.TooFar old new = new ≡ old
 Rearms k delay tries modified.Memory old new = (0 < delay) × (new ≡ old)
 
@@ -97,6 +101,7 @@ ArmsAnew k delay tries modified.Moved old new = ⊥
 ArmsAnew k delay tries modified.Pending old new = Arms k delay tries armed.Pending old new
 ArmsAnew k delay tries modified.Closed old new = Arms k delay tries armed.Closed old new
 ArmsAnew k delay tries modified.Contended old new = Arms k delay tries armed.Contended old new
+ArmsAnew k delay tries modified.Draining old new = Arms k delay tries armed.Draining old new
 ArmsAnew k delay tries modified.TooFar old new = Arms k delay tries armed.TooFar old new
 ArmsAnew k delay tries modified.Memory old new = Arms k delay tries armed.Memory old new
 
@@ -111,19 +116,20 @@ abbrev pub is_back : Event → Bool
 is_back (Back s k why) = true
 is_back _ = false
 
--- the tries of the post that was contended, where something due is left
-abbrev pub lost_tries : List Entry → ℕ → ℕ
-lost_tries [] tries = 0
-lost_tries (e ∷ es) tries = tries
+-- Why what is left of the due part stays: there is nothing; or the post of the first was contended, and at least so many events
+-- as there were tries are of other seats; or it was answered that the queue drains.
+abbrev pub MayStay : List Entry → ℕ → List Event → Known → Known → Type 0
+MayStay left tries events old new = (left ≡ []) ⊎ (Sees events tries old new ⊎ HasMetDrain old.seen new.seen)
 
--- The item k, which is on the table, is posted: it leaves the table, unless the post is contended.
+-- The item k, which is on the table, is posted: it leaves the table, unless the post is contended or finds the queue draining.
 abbrev pub PostsOne : ℕ → ℕ → Posted → DelayState → DelayState → Type 0
 PostsOne k tries (posted.Queued is_first wakes) old new = TakesOff (Push old.sender.number k ∷ []) k old new
 PostsOne k tries posted.Closed old new = TakesOff (Back old.sender.number k why.Closed ∷ []) k old new
 PostsOne k tries posted.Contended old new = KeepsTable [] tries old new
+PostsOne k tries posted.Draining old new = KeepsTable [] 0 old new × HasMetDrain old.sender.seen new.sender.seen
 
--- The due part at the tick t was posted in order from its beginning on. All of it was, unless a post was contended: then at
--- least so many events as there were tries are of other seats. What was not posted stays, before all that is due later.
+-- The due part at the tick t was posted in order from its beginning on. All of it was, unless a post was contended or found the
+-- queue draining. What was not posted stays, before all that is due later.
 pub record PostsDue (t tries : ℕ) (old new : DelayState) (pushed refused : ℕ) : Type 0 where
   pub gone : List Entry
   pub left : List Entry
@@ -131,7 +137,8 @@ pub record PostsDue (t tries : ℕ) (old new : DelayState) (pushed refused : ℕ
   pub due_is : due_part t old.table.entries ≡ gone ++ left
   pub table_is : new.table ≡ table_at t left old.table
   pub out : AllZip (IsOut old.sender.number) gone events
-  pub seen : Sees events (lost_tries left tries) old.sender new.sender
+  pub seen : Sees events 0 old.sender new.sender
+  pub stays : MayStay left tries events old.sender new.sender
   pub pushed_is : pushed ≡ count_by is_push events
   pub refused_is : refused ≡ count_by is_back events
 

@@ -6,6 +6,7 @@ use Rattle.std.specs.List.Sorted.{IsSortedBy}
 use Rattle.std.specs.Ordering.{ordering_then, nat_cmp, is_lt}
 use Rattle.std.specs.declared.cmp.Ordering.{Ordering}
 use Rattle.wq_words.specs.DelayTable.{Entry, on_table, due_part, IsOrdered}
+use Rattle.wq_words.specs.Limits.{most_items}
 use Rattle.wq_delay.specs.declared.timetable.Place.{Place}
 use Rattle.wq_delay.specs.declared.timetable.DueItem.{DueItem}
 use Rattle.wq_delay.specs.Rings.{AreRings}
@@ -177,7 +178,7 @@ IsClean places row head now = (k : ℕ) (p : Place) → waiting places row k ≡
 
 -- between two calls: what is due stands in the row, in order, and the rest waits
 pub record IsTimetable (places : List (Option Place)) (next previous : List ℕ) (row : List DueItem) (room front count tick : ℕ) : Type 0 where
-  pub few : length places ≤ 4096
+  pub few : length places ≤ most_items
   pub apart : AreApart places
   pub wheel : IsWheel (length places) next previous (λ k. later_than tick (place_in places k))
   pub due_is : standing places row ≡ due_part tick (entries_of places)

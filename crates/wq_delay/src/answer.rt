@@ -16,6 +16,7 @@ pub(crate) fn armed_of(answer: Answer) -> Armed
         Answer::Pending => Armed::Pending,
         Answer::Closed => Armed::Closed,
         Answer::Contended => Armed::Contended,
+        Answer::Draining => Armed::Draining,
     }
 }
 
@@ -28,6 +29,7 @@ pub(crate) fn modified_of(armed: Armed) -> Modified
         Armed::Pending => Modified::Pending,
         Armed::Closed => Modified::Closed,
         Armed::Contended => Modified::Contended,
+        Armed::Draining => Modified::Draining,
         Armed::TooFar => Modified::TooFar,
         Armed::Memory => Modified::Memory,
     }
@@ -41,6 +43,7 @@ pub(crate) fn modified_of_posted(posted: Posted) -> Modified
         Posted::Queued { .. } => Modified::Moved,
         Posted::Closed => Modified::Closed,
         Posted::Contended => Modified::Contended,
+        Posted::Draining => Modified::Draining,
     }
 }
 

@@ -174,7 +174,7 @@ impl Delay {
         Modified::Moved
     }
 
-    // Posts an item on the table, which leaves the table unless the post is contended.
+    // Posts an item on the table, which leaves the table unless the post is contended or finds the queue draining.
     fn post_item(&mut self, item: u32, tries: u32) -> Posted
         requires item { item < self.old.sender.layout.items }
         requires tries { 0 < tries }
@@ -184,6 +184,7 @@ impl Delay {
     {
         match self.sender.post(item, tries) {
             Posted::Contended => Posted::Contended,
+            Posted::Draining => Posted::Draining,
             posted => {
                 self.table.take(item);
                 posted
@@ -202,8 +203,8 @@ impl Delay {
         self.table.first_due()
     }
 
-    // Posts the items that are due at the present tick, in order, until a post is contended. How many were queued, and how
-    // many given back.
+    // Posts the items that are due at the present tick, in order, until a post is contended or finds the queue draining. How
+    // many were queued, and how many given back.
     fn post_due(&mut self, tries: u32) -> (u32, u32)
         requires tries { 0 < tries }
         requires few { length self.old.table.entries < 2 ^ 32 }
@@ -220,6 +221,7 @@ impl Delay {
                 Posted::Queued { .. } => pushed += 1,
                 Posted::Closed => refused += 1,
                 Posted::Contended => return (pushed, refused),
+                Posted::Draining => return (pushed, refused),
             }
         }
         (pushed, refused)
@@ -245,7 +247,8 @@ impl Delay {
     }
 
     /// Leads the table on to a tick and queues what is due, in order, each with at most so many tries. Where the queue is
-    /// closed an item is given back. Where a post is contended the call ends, and it stays on the table with those after it.
+    /// closed an item is given back. Where a post is contended, or finds the queue draining, the call ends, and the item stays
+    /// on the table with those after it: they go out first at an advance after the resume.
     pub fn advance(&mut self, now: u64, tries: u32) -> Result<Advance, Backwards>
         requires { 0 < tries }
         ensures answer { Advances now tries result self.old self.new }

@@ -1,5 +1,6 @@
 //! Items by the ticks at which they are due: a wheel of slots, and a row of what is due.
 ghost use Rattle.std.specs.Prelude.{◌≡◌, ℕ, ◌<◌, ◌≤◌, ◌-◌, ◌^◌, true, false, [], length, min, IfOk, IfSome, MatchOption};
+ghost use Rattle.wq_words.specs.Limits.{most_items};
 ghost use Rattle.wq_words.specs.DelayTable.{items, on_table, due_part, placed, without, IsOrdered, AreArmedBefore};
 ghost use Rattle.std.specs.Prelude.{map, filter, take, drop, nat_le, ◌&&◌, ◌+◌, ◌*◌, OnOk, slice_index_or};
 ghost use Rattle.std.specs.Vec.{vec_capacity};
@@ -91,7 +92,7 @@ fn find(
     after: u64,
     now: u64,
 ) -> Result<(), AllocError>
-    requires few { length places.now ≤ 4096 }
+    requires few { length places.now ≤ most_items }
     requires wheel { IsWheel (length places.now) rings.now.next.items rings.now.previous.items (λ k. later_than tick (place_in places.now k)) }
     requires after { (after < 256) × (tick + after < now) }
     requires found { AreFound places.now tick now after (map entry_of found.old.items) }
@@ -119,7 +120,7 @@ fn find_on(
     tick: u64,
     now: u64,
 ) -> Result<(), AllocError>
-    requires few { length places.now ≤ 4096 }
+    requires few { length places.now ≤ most_items }
     requires wheel { IsWheel (length places.now) rings.now.next.items rings.now.previous.items (λ k. later_than tick (place_in places.now k)) }
     requires found { AreFound places.now tick now 0 (map entry_of found.old.items) }
     ensures { OnOk result (AreDue places.now now (map entry_of found.new.items)) }
@@ -165,7 +166,7 @@ fn look(places: &[Option<Place>], rings: &mut Rings, row: &mut Vec<DueItem>, hea
 // Takes out of a row what has left the table, once all before `front` and nothing behind it has, or that is most of the row. The
 // place from which on something may stand there.
 fn tidy(places: &[Option<Place>], row: &mut Vec<DueItem>, front: usize) -> usize
-    requires few { length places.now ≤ 4096 }
+    requires few { length places.now ≤ most_items }
     requires passed { filter (stands places.now) (take front row.old.items) ≡ [] }
     requires enough { 3 * length places.now ≤ vec_capacity row.old }
     ensures passed { filter (stands places.now) (take result row.new.items) ≡ [] }
@@ -201,7 +202,7 @@ fn look_on(
     tick: u64,
     now: u64,
 ) -> u32
-    requires few { length places.now ≤ 4096 }
+    requires few { length places.now ≤ most_items }
     requires gathering { IsGathering places.now rings.old.next.items rings.old.previous.items (standing places.now row.old.items) now }
     requires room { HasRoom places.now row.old.items (vec_capacity row.old) }
     requires ahead { (k : ℕ) (p : _) → waiting places.now (standing places.now row.old.items) k ≡ Some p → tick < p.due }
@@ -237,7 +238,7 @@ impl Model for Timetable {
 
 impl Timetable {
     pub(crate) fn new(alloc: Global, size: u32, now: u64) -> Result<Timetable, AllocError>
-        requires { size ≤ 4096 }
+        requires { size ≤ most_items }
         ensures { IfOk result (λ t. (t.size ≡ size) × (t.entries ≡ []) × (t.tick ≡ now)) }
     {
         Ok(Timetable {
@@ -261,7 +262,7 @@ impl Timetable {
     // How many items are on the table.
     pub(crate) fn len(&self) -> usize
         ensures count { result ≡ length self.now.entries }
-        ensures few { result ≤ 4096 }
+        ensures few { result ≤ most_items }
     {
         self.count
     }

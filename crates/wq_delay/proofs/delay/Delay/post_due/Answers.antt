@@ -1,7 +1,8 @@
 use Rattle.wq_delay.proofs.Common.{◌≡◌, ℕ, [], ◌∷◌, sym, refl, ap, ◌∙◌, subst, Back, Push, DelayTable, due_part, IsFirstDue, DelayState, IsFit, KeepsTable}
 use Rattle.wq_delay.proofs.Common.{TakesOff, PostsDue}
-use Rattle.wq_delay.proofs.Advancing.{going_none, going_pushed, going_refused, fewer_left, went_all, went_some}
+use Rattle.wq_delay.proofs.Advancing.{going_none, going_pushed, going_refused, fewer_left, went_all, went_lost, went_drained}
 use Rattle.wq_words.specs.declared.event.Why.TheVariants as why
+use Rattle.wq_live.specs.Answers.{HasMetDrain}
 use Rattle.wq_delay.proofs.delay.Delay.post_due.Goals as goal
 
 pub loop-item-init : goal.loop-item-init
@@ -53,11 +54,18 @@ loop-item-smaller c =
 
 pub returns-in-Contended-clause-posts : goal.returns-in-Contended-clause-posts
 returns-in-Contended-clause-posts c =
-    let l = c.loop-item in let first = c.in-Some.ensures.first in
+    let l = c.loop-item in
     let order = c.in-Some.ensures.ordered in let same = c.in-Some.ensures.same in let now = c.args.self.now.table.tick in
     let keeps = subst (λ (z : DelayState). KeepsTable [] c.args.tries z c.post_item.new.self) same c.in-Contended.ensures.posts in
-    went_some now c.in-Some.item c.args.tries l.pushed l.refused c.args.self.now l.self c.post_item.new.self l.invariant.0 refl order
-    (subst (λ (z : ℕ). IsFirstDue z c.in-Some.item l.self.table.entries) l.invariant.0.tick_is first) keeps
+    went_lost now c.args.tries l.pushed l.refused c.args.self.now l.self c.post_item.new.self l.invariant.0 refl order keeps
+
+pub returns-in-Draining-clause-posts : goal.returns-in-Draining-clause-posts
+returns-in-Draining-clause-posts c =
+    let l = c.loop-item in
+    let order = c.in-Some.ensures.ordered in let same = c.in-Some.ensures.same in let now = c.args.self.now.table.tick in
+    let told = subst (λ (z : DelayState). KeepsTable [] 0 z c.post_item.new.self × HasMetDrain z.sender.seen c.post_item.new.self.sender.seen) same
+    c.in-Draining.ensures.posts in
+    went_drained now c.args.tries l.pushed l.refused c.args.self.now l.self c.post_item.new.self l.invariant.0 refl order told.0 told.1
 
 pub returns-clause-posts : goal.returns-clause-posts
 returns-clause-posts c =
