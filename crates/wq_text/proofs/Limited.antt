@@ -4,7 +4,7 @@ use Rattle.wq_text.proofs.Common.{Layout, Kind, tested, at_most, two_of, three_o
 use Rattle.std.specs.Coded.{le_prop}
 use Rattle.wq_words.specs.declared.layout.LayoutError.{LayoutError}
 use Rattle.wq_words.specs.declared.layout.LayoutError.TheVariants.{Items, Barriers, Senders}
-use Rattle.wq_words.specs.Limits.{AreInLimits, IsBetween, IsFirstOutOfLimits}
+use Rattle.wq_words.specs.Limits.{AreInLimits, IsBetween, IsFirstOutOfLimits, most_items}
 
 at_most-is : (m n : ℕ) (h : m ≤ n) → at_most m n ≡ Some h
 at_most-is m n h = by_test (nat_le m n) refl
@@ -28,7 +28,7 @@ unfolding limited
 limited_is k l =
     let h = l.in_limits in
     let all : in_limits l.items l.barriers l.senders ≡ Some h =
-    three-is (within 1 l.items 4096) (within 1 l.barriers 16) (within 1 l.senders 64) h.0 h.1 h.2 (within-is 1 l.items 4096 h.0)
+    three-is (within 1 l.items most_items) (within 1 l.barriers 16) (within 1 l.senders 64) h.0 h.1 h.2 (within-is 1 l.items most_items h.0)
     (within-is 1 l.barriers 16 h.1) (within-is 1 l.senders 64 h.2) in
     ap (with_limits k l.items l.barriers l.senders) all
 

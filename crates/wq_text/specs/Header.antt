@@ -3,7 +3,7 @@ use Rattle.std.specs.Prelude.{◌≡◌, ℕ, ◌≤◌, Bool, true, false, ◌|
 use Rattle.std.specs.Str.{bytes_eq}
 use borrow.Author.Tests.{leb-true}
 use Rattle.wq_words.specs.declared.layout.Layout.{Layout}
-use Rattle.wq_words.specs.Limits.{AreInLimits, IsBetween}
+use Rattle.wq_words.specs.Limits.{AreInLimits, IsBetween, most_items}
 use Rattle.wq_words.specs.Layout.{layout_of_numbers}
 use Rattle.wq_text.specs.declared.fault.Kind.{Kind}
 use Rattle.wq_text.specs.declared.fault.Kind.TheVariants as kind
@@ -50,7 +50,7 @@ abbrev pub within : (low n high : ℕ) → Option (IsBetween low n high)
 within low n high = two_of (at_most low n) (at_most n high)
 
 abbrev pub in_limits : (items barriers senders : ℕ) → Option (AreInLimits items barriers senders)
-in_limits items barriers senders = three_of (within 1 items 4096) (within 1 barriers 16) (within 1 senders 64)
+in_limits items barriers senders = three_of (within 1 items most_items) (within 1 barriers 16) (within 1 senders 64)
 
 -- the layout of these numbers, or the fault k where they are out of the limits of a queue
 abbrev pub with_limits : Kind → (items barriers senders : ℕ) → Option (AreInLimits items barriers senders) → Result Layout Kind

@@ -47,7 +47,12 @@ command_gives l keyword.Modify ws = of_two command.Modify (two (item l) number w
 command_gives l keyword.Advance ws = of_one command.Advance (one number ws)
 
 abbrev pub script_grammar : Grammar Keyword Command
-script_grammar = record { version = codes "wq 1"; most = record { items = 4096; senders = 62 }; names = λ w ws. keyword_at w; asks = λ l k w ws. command_gives l k ws }
+script_grammar = record {
+  version = codes "wq 1";
+  most = record { items = 4096; senders = 62 };
+  names = λ w ws. keyword_at w;
+  asks = λ l k w ws. command_gives l k ws;
+}
 
 -- a line of a script
 abbrev pub script_line : Lines Command

@@ -120,7 +120,12 @@ turn_gives l action.Chain w ws = of_one (λ k. (seat.Owner, step.Chain k)) (one 
 turn_gives l action.Turn w ws = of_two (λ k next. (seat.Owner, step.Turn k next)) (number_and_link l ws)
 
 abbrev pub schedule_grammar : Grammar Action Turn
-schedule_grammar = record { version = codes "steps 1"; most = record { items = 4096; senders = 64 }; names = action_at; asks = λ l a w ws. turn_gives l a w (other_words ws) }
+schedule_grammar = record {
+  version = codes "steps 1";
+  most = record { items = 4096; senders = 64 };
+  names = action_at;
+  asks = λ l a w ws. turn_gives l a w (other_words ws);
+}
 
 -- a line of a schedule
 abbrev pub schedule_line : Lines Turn
