@@ -1,9 +1,9 @@
 -- The calls of the delay table, by the tests on which they rest.
-use Rattle.wq_meaning.proofs.Common.{◌≡◌, ℕ, ◌<◌, Bool, true, false, ◌==◌, ◌||◌, ◌&&◌, List, [], ◌∷◌, ap, ◌∙◌, if◌then◌else◌, eq-eqb, Event, Hold, pending}
-use Rattle.wq_meaning.proofs.Common.{closed, armed_of, modified_of, DelayTable, on_table, is_too_far, table_with, table_without, queue_events, queue_answer}
-use Rattle.wq_meaning.proofs.Common.{post_event, queues_now, arm_events, arm_table, arm_answer, modify_events, modify_table, modify_answer}
+use Rattle.wq_meaning.proofs.Common.{◌≡◌, ℕ, ◌<◌, Bool, true, false, ◌==◌, ◌||◌, List, [], ◌∷◌, ap, ◌∙◌, if◌then◌else◌, eq-eqb, Event, Hold, pending}
+use Rattle.wq_meaning.proofs.Common.{armed_of, modified_of, DelayTable, on_table, is_too_far, table_with, table_without, queue_events, queue_answer}
+use Rattle.wq_meaning.proofs.Common.{post_events, post_table, post_answer, queues_now, arm_events, arm_table, arm_answer, modify_events, modify_table}
+use Rattle.wq_meaning.proofs.Common.{modify_answer}
 use Rattle.wq_words.specs.declared.answer.Armed.TheVariants as armed
-use Rattle.wq_words.specs.declared.answer.Modified.{Modified}
 use Rattle.wq_words.specs.declared.answer.Modified.TheVariants as modified
 use Rattle.wq_words.proofs.Rest.{not_zero}
 
@@ -12,10 +12,6 @@ yes b x y is = ap (λ (c : Bool). if c then x else y) is
 
 no : {A : Type 0} (b : Bool) (x y : A) → b ≡ false → (if b then x else y) ≡ y
 no b x y is = ap (λ (c : Bool). if c then x else y) is
-
--- a modification of an item on the table that has no delay
-abbrev pub closed_or_moved : Bool → Modified
-closed_or_moved b = if b then modified.Closed else modified.Moved
 
 module _ (k delay : ℕ) (h : List Event) where
   -- with no delay, and of a pending item, an arming is a queueing
@@ -64,12 +60,12 @@ module _ (s k delay : ℕ) (h : List Event) (t : DelayTable) where
     no (is_too_far delay t) _ _ near ∙ no (on_table k t.entries) _ _ off,
   )
 
-  pub modify_now : is_too_far delay t ≡ false → on_table k t.entries ≡ true → delay ≡ 0 → (modify_events s k delay h t ≡ post_event s h k ∷ [])
-      × (modify_table k delay h t ≡ table_without k t) × (modify_answer k delay h t ≡ closed_or_moved (closed h))
+  pub modify_now : is_too_far delay t ≡ false → on_table k t.entries ≡ true → delay ≡ 0 → (modify_events s k delay h t ≡ post_events s k h)
+      × (modify_table k delay h t ≡ post_table k h t) × (modify_answer k delay h t ≡ post_answer h)
   modify_now near on none = let zero : (delay == 0) ≡ true = eq-eqb delay 0 none in (
     no (is_too_far delay t) _ _ near ∙ (yes (on_table k t.entries) _ _ on ∙ yes (delay == 0) _ _ zero),
     no (is_too_far delay t) _ _ near ∙ (yes (on_table k t.entries) _ _ on ∙ yes (delay == 0) _ _ zero),
-    no (is_too_far delay t) _ _ near ∙ (yes (on_table k t.entries) _ _ on ∙ ap (λ (b : Bool). closed_or_moved (b && closed h)) zero),
+    no (is_too_far delay t) _ _ near ∙ (yes (on_table k t.entries) _ _ on ∙ yes (delay == 0) _ _ zero),
   )
 
   pub modify_again : is_too_far delay t ≡ false → on_table k t.entries ≡ true → 0 < delay → (modify_events s k delay h t ≡ [])
@@ -77,5 +73,5 @@ module _ (s k delay : ℕ) (h : List Event) (t : DelayTable) where
   modify_again near on some = let later : (delay == 0) ≡ false = not_zero delay some in (
     no (is_too_far delay t) _ _ near ∙ (yes (on_table k t.entries) _ _ on ∙ no (delay == 0) _ _ later),
     no (is_too_far delay t) _ _ near ∙ (yes (on_table k t.entries) _ _ on ∙ no (delay == 0) _ _ later),
-    no (is_too_far delay t) _ _ near ∙ (yes (on_table k t.entries) _ _ on ∙ ap (λ (b : Bool). closed_or_moved (b && closed h)) later),
+    no (is_too_far delay t) _ _ near ∙ (yes (on_table k t.entries) _ _ on ∙ no (delay == 0) _ _ later),
   )

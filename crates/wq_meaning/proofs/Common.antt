@@ -1,5 +1,5 @@
 -- What several proofs of this crate cite of std, of specs and of the crates below, passed on from one place.
-pub use Rattle.std.proofs.Common.{fold, codes, add-one, ◌*◌, string_bytes, flat_map}
+pub use Rattle.std.proofs.Common.{fold, codes, add-one, ◌*◌, string_bytes, flat_map, map}
 pub use Rattle.arrayvec.specs.ArrayVec.{ArrayVec}
 pub use Rattle.wq_words.specs.DelayTable.{on_table, Entry, IsBefore, placed, without, due_part}
 pub use Rattle.wq_words.specs.declared.event.Event.{Event}
@@ -12,12 +12,12 @@ pub use Rattle.wq_words.proofs.Common.{append_assoc, drop-cons, ◌≤◌, lengt
 pub use Rattle.wq_words.proofs.Common.{modified_of, DelayTable, is_too_far, table_with, table_without, table_at, append-nil}
 pub use Rattle.wq_text.specs.declared.command.Command.{Command}
 pub use Rattle.wq_text.proofs.Common.{option_to_list, All, length-map, Turn}
-pub use Rattle.wq_meaning.specs.Arming.{queues_now, arm_answer, modify_answer, post_event, arm_events, arm_table, modify_events, modify_table, due_items}
-pub use Rattle.wq_meaning.specs.Arming.{advance_events, cancel_events}
+pub use Rattle.wq_meaning.specs.Arming.{queues_now, arm_answer, modify_answer, post_event, post_events, post_table, post_answer, arm_events, arm_table}
+pub use Rattle.wq_meaning.specs.Arming.{modify_events, modify_table, posted_items, advance_events, advance_table, cancel_events}
 pub use Rattle.wq_meaning.specs.Commands.{ScriptState}
 unfoldable pub use Rattle.wq_meaning.specs.Commands.{opening_state, state_after, after_row, lines, delayer, left_in, output_from}
 pub use Rattle.wq_meaning.specs.Execution.{follow_of, take_events, follow_events, after_follow, after_run, after_execution, after_executions, go_on}
 pub use Rattle.wq_meaning.specs.Execution.{ended_since}
 pub use Rattle.wq_meaning.specs.Names.{row_text, advance_word, left_text, named}
-pub use Rattle.wq_meaning.specs.Queueing.{queue_answer, queue_events, close_events}
+pub use Rattle.wq_meaning.specs.Queueing.{draining, queue_answer, queue_events, close_events}
 pub use Rattle.wq_meaning.specs.ScheduleOutput.{Gives, AllGive, GivesBehind, IsScheduleOutput, HasOneOutput, ending}

@@ -1,22 +1,24 @@
 -- What executions end, and one more of a row.
 use Rattle.wq_meaning.proofs.Common.{◌≡◌, ℕ, suc, ◌&&◌, Bool, true, false, not, nat_le, List, [], ◌∷◌, ◌++◌, length, fold, refl, sym, ap, ◌∙◌, Option, Some}
 use Rattle.wq_meaning.proofs.Common.{None, option_to_list, if◌then◌else◌, append-nil, ArrayVec, Event, Hold, Busy, Push, Back, Take, Begin, End, Chain}
-use Rattle.wq_meaning.proofs.Common.{ChainBusy, begun, ended, closed, shut, pending, taken, next, follow_of, take_events, follow_events, after_follow, after_run}
-use Rattle.wq_meaning.proofs.Common.{after_execution, after_executions, go_on}
+use Rattle.wq_meaning.proofs.Common.{ChainBusy, begun, ended, closed, shut, draining, pending, taken, next, follow_of, take_events, follow_events}
+use Rattle.wq_meaning.proofs.Common.{after_follow, after_run, after_execution, after_executions, go_on}
 use Rattle.wq_words.specs.declared.event.Why.TheVariants as why
 use Rattle.wq_words.proofs.Appended.{ended-append}
 
 -- queueing what follows ends nothing
 ended_follow : (worker k : ℕ) (h : List Event) → ended (follow_events worker k h) ≡ []
-ended_follow worker k h = each (shut h) (pending h k) (closed h)
+ended_follow worker k h = each (shut h) (pending h k) (closed h) (draining h)
   where
-    each : (chains set refused : Bool) → ended (if chains then (if set then ChainBusy k ∷ [] else Chain k ∷ [])
-        else (if set then Busy worker k ∷ [] else if refused then Hold worker k ∷ Back worker k why.Closed ∷ [] else Hold worker k ∷ Push worker k ∷ [])) ≡ []
-    each true true refused = refl
-    each true false refused = refl
-    each false true refused = refl
-    each false false true = refl
-    each false false false = refl
+    each : (chains set refused drains : Bool) → ended (if chains then (if set then ChainBusy k ∷ [] else Chain k ∷ [])
+        else (if set then Busy worker k ∷ [] else if refused then Hold worker k ∷ Back worker k why.Closed ∷ []
+        else if drains then Hold worker k ∷ Back worker k why.Draining ∷ [] else Hold worker k ∷ Push worker k ∷ [])) ≡ []
+    each true true refused drains = refl
+    each true false refused drains = refl
+    each false true refused drains = refl
+    each false false true drains = refl
+    each false false false true = refl
+    each false false false false = refl
 
 ended_follows : (worker : ℕ) (g : List Event) (ks : List ℕ) → ended (fold (after_follow worker) g ks) ≡ ended g
 ended_follows worker g [] = refl

@@ -2,8 +2,10 @@
 use Rattle.wq_meaning.proofs.Common.{◌≡◌, ℕ, zero, suc, ◌+◌, ◌<◌, ◌==◌, Bool, true, false, not, nat_lt, nat_le, List, [], ◌∷◌, All, refl, sym, ◌∙◌, inl, inr}
 use Rattle.wq_meaning.proofs.Common.{arith, if◌then◌else◌, cond, filter, None, fold, Layout, Event, closed, Entry, DelayTable, IsBefore, placed, on_table}
 use Rattle.wq_meaning.proofs.Common.{is_too_far, table_with, table_without, table_at, Command, queues_now, arm_table, modify_table, ScriptState}
-use Rattle.wq_meaning.proofs.Common.{opening_state, state_after, after_row}
-use Rattle.std.proofs.lemmas.Bool.{cases_lt, lt-ltb, le-ltb, false≢true}
+use Rattle.wq_meaning.proofs.Common.{opening_state, state_after, after_row, ◌++◌, ◌≤◌, get_or, due_part, draining, post_table, advance_table}
+use Rattle.wq_words.specs.DelayTable.{later_part}
+use Rattle.std.proofs.lemmas.Bool.{cases_lt, lt-ltb, le-ltb, false≢true, leb-true, leb-false}
+use Rattle.std.proofs.lemmas.List.Elements.{All-append, filter_passes}
 use Rattle.std.proofs.lemmas.List.Kept.{AllPairs-cons, AllPairs-filter}
 use Rattle.wq_text.specs.declared.command.Command.TheVariants as command
 use Rattle.wq_meaning.specs.Order.{IsInOrder, final_state}
@@ -84,6 +86,45 @@ kept_at tick t k = record {
   numbers = all_filter (λ f. f.arming < t.next) (λ e. not (nat_le e.due tick)) t.entries k.numbers;
 }
 
+-- two lists in order, each entry of the first before all of the second
+order_append : (es fs : List Entry) → IsInOrder es → IsInOrder fs → All (λ e. All (IsBefore e) fs) es → IsInOrder (es ++ fs)
+order_append [] fs first second before = second
+order_append (e ∷ es) fs first second before =
+    let rest : IsInOrder es = λ i j d less lt. first (suc i) (suc j) d (omega (arith, less)) (omega (arith, lt)) in
+    let behind : All (IsBefore e) es = λ i d lt. first 0 (suc i) d (omega arith) (omega (arith, lt)) in
+    AllPairs-cons IsBefore e (es ++ fs) (All-append (IsBefore e) es fs behind (before 0 e (omega arith)))
+    (order_append es fs rest second (tail_of (λ x. All (IsBefore x) fs) e es before))
+
+-- what is due goes out before what is not
+due_first : (tick : ℕ) (es : List Entry) → All (λ e. All (IsBefore e) (later_part tick es)) (due_part tick es)
+due_first tick es i d lt j c below =
+    let now : (get_or (due_part tick es) i d).due ≤ tick = leb-true _ _ (filter_passes (λ e. nat_le e.due tick) es i d lt) in
+    let no = not_is _ (filter_passes (λ e. not (nat_le e.due tick)) es j c below) in
+    let later : tick < (get_or (later_part tick es) j c).due = leb-false _ _ no in
+    (omega (arith, now, later), λ is. absurd (omega (arith, is, now, later)))
+  where
+    not_is : (b : Bool) → not b ≡ true → b ≡ false
+    not_is true is = sym is
+    not_is false is = refl
+
+-- what is due stays in front of what is not
+kept_left : (tick : ℕ) (t : DelayTable) → Kept t → Kept (table_at tick (due_part tick t.entries) t)
+kept_left tick t k =
+    let later = kept_at tick t k in
+    let due = AllPairs-filter IsBefore (λ e. nat_le e.due tick) t.entries k.order in
+    let old = all_filter (λ f. f.arming < t.next) (λ e. nat_le e.due tick) t.entries k.numbers in
+    record {
+      order = order_append (due_part tick t.entries) (later_part tick t.entries) due later.order (due_first tick t.entries);
+      numbers = All-append (λ f. f.arming < t.next) (due_part tick t.entries) (later_part tick t.entries) old later.numbers;
+    }
+
+kept_advance : (tick : ℕ) (h : List Event) (t : DelayTable) → Kept t → Kept (advance_table tick h t)
+kept_advance tick h t k = each (draining h)
+  where
+    each : (drains : Bool) → Kept (table_at tick (if drains then due_part tick t.entries else []) t)
+    each true = kept_left tick t k
+    each false = kept_at tick t k
+
 kept_choice : (b : Bool) (t u : DelayTable) → Kept t → Kept u → Kept (if b then t else u)
 kept_choice true t u k l = k
 kept_choice false t u k l = l
@@ -97,7 +138,8 @@ kept_modify : (item delay : ℕ) (h : List Event) (t : DelayTable) → Kept t �
 kept_modify item delay h t k =
     let off = kept_without item t k in
     let u : DelayTable = table_without item t in
-    let moved = kept_choice (delay == 0) u (table_with item delay u) off (kept_with item delay u off) in
+    let posted = kept_choice (draining h) t u k off in
+    let moved = kept_choice (delay == 0) (post_table item h t) (table_with item delay u) posted (kept_with item delay u off) in
     kept_choice (is_too_far delay t) t _ k (kept_choice (on_table item t.entries) _ (arm_table item delay h t) moved (kept_arm item delay h t k))
 
 kept_either : (b : Bool) (s u : ScriptState) → Kept s.table → Kept u.table → Kept (if b then s else u).table
@@ -109,7 +151,7 @@ kept_after layout s (command.Drain limit) k = kept_either (closed s.history) (re
 kept_after layout s (command.Arm item delay) k = kept_arm item delay s.history s.table k
 kept_after layout s (command.Cancel item) k = kept_without item s.table k
 kept_after layout s (command.Modify item delay) k = kept_modify item delay s.history s.table k
-kept_after layout s (command.Advance tick) k = kept_either (nat_lt tick s.table.tick) s _ k (kept_at tick s.table k)
+kept_after layout s (command.Advance tick) k = kept_either (nat_lt tick s.table.tick) s _ k (kept_advance tick s.history s.table k)
 kept_after layout s _ k = k
 
 kept_all : (layout : Layout) (s : ScriptState) (cs : List Command) → Kept s.table → Kept (fold (state_after layout) s cs).table

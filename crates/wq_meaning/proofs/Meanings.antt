@@ -1,7 +1,7 @@
 -- What a command means, by the tests on which it rests.
-use Rattle.wq_meaning.proofs.Common.{◌≡◌, ℕ, true, false, List, [], ◌++◌, nat_lt, if◌then◌else◌, None, sym, ap, ◌∙◌, subst, codes, Layout, closed, Command}
-use Rattle.wq_meaning.proofs.Common.{ended_since, table_at, due_items, advance_events, row_text, advance_word, left_text, ScriptState, state_after, lines}
-use Rattle.wq_meaning.proofs.Common.{after_row, delayer, left_in}
+use Rattle.wq_meaning.proofs.Common.{◌≡◌, ℕ, true, false, List, ◌++◌, nat_lt, if◌then◌else◌, None, sym, ap, ◌∙◌, subst, codes, Layout, closed, Command}
+use Rattle.wq_meaning.proofs.Common.{ended_since, posted_items, advance_events, advance_table, row_text, advance_word, left_text, ScriptState, lines}
+use Rattle.wq_meaning.proofs.Common.{state_after, after_row, delayer, left_in}
 use Rattle.wq_text.specs.declared.command.Command.TheVariants as command
 use Rattle.wq_meaning.specs.Report.{line}
 
@@ -16,7 +16,10 @@ abbrev pub drained : Layout → ScriptState → ℕ → ScriptState
 drained layout s limit = record s { history = after_row layout s limit None }
 
 abbrev pub advanced : Layout → ScriptState → ℕ → ScriptState
-advanced layout s tick = record s { history = s.history ++ advance_events (delayer layout) tick s.history s.table; table = table_at tick [] s.table }
+advanced layout s tick = record s {
+  history = s.history ++ advance_events (delayer layout) tick s.history s.table;
+  table = advance_table tick s.history s.table;
+}
 
 module _ (layout : Layout) (s : ScriptState) where
   pub drain_open : (limit : ℕ) → closed s.history ≡ false → (state_after layout s (command.Drain limit) ≡ s)
@@ -40,15 +43,15 @@ module _ (layout : Layout) (s : ScriptState) where
       × (lines layout s s (command.Advance tick) ≡ line (codes "false backwards"))
   advance_back tick back = (
     ap (λ b. if b then s else advanced layout s tick) back,
-    ap (λ b. if b then line (codes "false backwards") else row_text layout (advance_word (closed s.history) (due_items tick s.table))
-        (due_items tick s.table)) back,
+    ap (λ b. if b then line (codes "false backwards") else row_text layout (advance_word (closed s.history) (posted_items tick s.history s.table))
+        (posted_items tick s.history s.table)) back,
   )
 
   pub advance_on : (tick : ℕ) → nat_lt tick s.table.tick ≡ false → (state_after layout s (command.Advance tick) ≡ advanced layout s tick)
-      × (lines layout s (advanced layout s tick) (command.Advance tick) ≡ row_text layout (advance_word (closed s.history) (due_items tick s.table))
-      (due_items tick s.table))
+      × (lines layout s (advanced layout s tick) (command.Advance tick)
+      ≡ row_text layout (advance_word (closed s.history) (posted_items tick s.history s.table)) (posted_items tick s.history s.table))
   advance_on tick on = (
     ap (λ b. if b then s else advanced layout s tick) on,
-    ap (λ b. if b then line (codes "false backwards") else row_text layout (advance_word (closed s.history) (due_items tick s.table))
-        (due_items tick s.table)) on,
+    ap (λ b. if b then line (codes "false backwards") else row_text layout (advance_word (closed s.history) (posted_items tick s.history s.table))
+        (posted_items tick s.history s.table)) on,
   )

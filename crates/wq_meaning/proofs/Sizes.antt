@@ -4,17 +4,20 @@ use Rattle.wq_meaning.proofs.Common.{None, length, cond, arith, length-append, i
 use Rattle.wq_meaning.proofs.Common.{Take, Close, Begin, End, Chain, ChainBusy, pending, closed, shut, taken, next, begun, Entry, DelayTable, without, on_table}
 use Rattle.wq_meaning.proofs.Common.{due_part, is_too_far, table_with, table_without, table_at, queue_events, close_events, follow_of, after_follow}
 use Rattle.wq_meaning.proofs.Common.{after_run, after_execution, after_executions, go_on, post_event, queues_now, arm_events, arm_table, cancel_events}
-use Rattle.wq_meaning.proofs.Common.{modify_events, modify_table, due_items, advance_events}
+use Rattle.wq_meaning.proofs.Common.{modify_events, modify_table, post_events, post_table, advance_events, advance_table, draining, map}
+use Rattle.wq_words.specs.DelayTable.{items, later_part}
 use Rattle.wq_words.specs.declared.event.Why.TheVariants as why
 use Rattle.wq_words.proofs.DelayTable.{length_placed}
 
 pub queue_few : (s k : ℕ) (h : List Event) → length (queue_events s k h) ≤ 2
-queue_few s k h = each (pending h k) (closed h)
+queue_few s k h = each (pending h k) (closed h) (draining h)
   where
-    each : (set refused : Bool) → length (if set then Busy s k ∷ [] else (if refused then Hold s k ∷ Back s k why.Closed ∷ [] else Hold s k ∷ Push s k ∷ [])) ≤ 2
-    each true refused = omega arith
-    each false true = omega arith
-    each false false = omega arith
+    each : (set refused drains : Bool) → length (if set then Busy s k ∷ [] else (if refused then Hold s k ∷ Back s k why.Closed ∷ []
+        else (if drains then Hold s k ∷ Back s k why.Draining ∷ [] else Hold s k ∷ Push s k ∷ []))) ≤ 2
+    each true refused drains = omega arith
+    each false true drains = omega arith
+    each false false true = omega arith
+    each false false false = omega arith
 
 pub close_few : (h : List Event) → length (close_events h) ≤ 1
 close_few h = each (closed h)
@@ -110,36 +113,57 @@ cancel_few s k t = each (on_table k t.entries)
     each false = omega arith
 
 pub modify_few : (s k delay : ℕ) (h : List Event) (t : DelayTable) → length (modify_events s k delay h t) ≤ 2
-modify_few s k delay h t = each (is_too_far delay t) (on_table k t.entries) (delay == 0) (arm_few s k delay h t)
+modify_few s k delay h t = each (is_too_far delay t) (on_table k t.entries) (delay == 0) (post_few (draining h)) (arm_few s k delay h t)
   where
-    each : (far on at_once : Bool) → length (arm_events s k delay h t) ≤ 2
-        → length (if far then [] else (if on then (if at_once then post_event s h k ∷ [] else []) else arm_events s k delay h t)) ≤ 2
-    each true on at_once le = omega arith
-    each false true true le = omega arith
-    each false true false le = omega arith
-    each false false at_once le = le
+    post_few : (drains : Bool) → length (if drains then [] else post_event s h k ∷ []) ≤ 2
+    post_few true = omega arith
+    post_few false = omega arith
+
+    each : (far on at_once : Bool) → length (post_events s k h) ≤ 2 → length (arm_events s k delay h t) ≤ 2
+        → length (if far then [] else (if on then (if at_once then post_events s k h else []) else arm_events s k delay h t)) ≤ 2
+    each true on at_once post le = omega arith
+    each false true true post le = post
+    each false true false post le = omega arith
+    each false false at_once post le = le
 
 pub modify_table_few : (k delay : ℕ) (h : List Event) (t : DelayTable) → length (modify_table k delay h t).entries ≤ length t.entries + 1
 modify_table_few k delay h t =
-    each (is_too_far delay t) (on_table k t.entries) (delay == 0) (arm_table_few k delay h t) (without_few k t.entries)
+    each (is_too_far delay t) (on_table k t.entries) (delay == 0) (arm_table_few k delay h t) (post_few (draining h)) (without_few k t.entries)
   where
+    post_few : (drains : Bool) → length (if drains then t else table_without k t).entries ≤ length t.entries
+    post_few true = omega arith
+    post_few false = without_few k t.entries
+
     u : DelayTable
     u = table_without k t
 
     again : length u.entries ≤ length t.entries → length (table_with k delay u).entries ≤ length t.entries + 1
     again le = omega (arith, le, length_placed (record { due = t.tick + delay; arming = t.next; item = k }) u.entries)
 
-    each : (far on at_once : Bool) → length (arm_table k delay h t).entries ≤ length t.entries + 1 → length u.entries ≤ length t.entries
-        → length (if far then t else (if on then (if at_once then u else table_with k delay u) else arm_table k delay h t)).entries ≤ length t.entries + 1
-    each true on at_once le less = omega arith
-    each false true true le less = omega (arith, less)
-    each false true false le less = again less
-    each false false at_once le less = le
+    each : (far on at_once : Bool) → length (arm_table k delay h t).entries ≤ length t.entries + 1 → length (post_table k h t).entries ≤ length t.entries
+        → length u.entries ≤ length t.entries
+        → length (if far then t else (if on then (if at_once then post_table k h t else table_with k delay u) else arm_table k delay h t)).entries
+        ≤ length t.entries + 1
+    each true on at_once le post less = omega arith
+    each false true true le post less = omega (arith, post)
+    each false true false le post less = again less
+    each false false at_once le post less = le
 
 -- an advance moves entries of the table into the history
 pub advance_few : (s tick : ℕ) (h : List Event) (t : DelayTable)
-    → length (advance_events s tick h t) + length (table_at tick [] t).entries ≡ length t.entries
-advance_few s tick h t =
-    let posts = length-map (due_items tick t) (post_event s h) in
-    let due = length-map (due_part tick t.entries) (λ (e : Entry). e.item) in
-    omega (arith, posts, due, split_few (λ (e : Entry). nat_le e.due tick) t.entries)
+    → length (advance_events s tick h t) + length (advance_table tick h t).entries ≡ length t.entries
+advance_few s tick h t = each (draining h)
+  where
+    due : List Entry
+    due = due_part tick t.entries
+
+    all : length due + length (later_part tick t.entries) ≡ length t.entries
+    all = split_few (λ (e : Entry). nat_le e.due tick) t.entries
+
+    each : (drains : Bool) → length (map (post_event s h) (if drains then [] else items due))
+        + length (table_at tick (if drains then due else []) t).entries ≡ length t.entries
+    each true = omega (arith, length-append due (later_part tick t.entries), all)
+    each false =
+        let posts = length-map (items due) (post_event s h) in
+        let named = length-map due (λ (e : Entry). e.item) in
+        omega (arith, posts, named, all)

@@ -14,6 +14,7 @@ answer_text (answer.Queued true wakes) = codes "true first"
 answer_text (answer.Queued false wakes) = codes "true"
 answer_text answer.Pending = codes "false pending"
 answer_text answer.Closed = codes "false closed"
+answer_text answer.Draining = codes "false draining"
 answer_text answer.Contended = []
 
 abbrev pub armed_text : Armed → List ℕ
@@ -21,6 +22,7 @@ armed_text (armed.Queued is_first wakes) = answer_text (answer.Queued is_first w
 armed_text armed.OnTable = codes "on table"
 armed_text armed.Pending = answer_text answer.Pending
 armed_text armed.Closed = answer_text answer.Closed
+armed_text armed.Draining = answer_text answer.Draining
 armed_text armed.Contended = []
 armed_text armed.TooFar = codes "false too far"
 armed_text armed.Memory = []
@@ -30,6 +32,7 @@ modified_text modified.WasIdle = codes "was idle"
 modified_text modified.Moved = codes "moved"
 modified_text modified.Pending = codes "pending"
 modified_text modified.Closed = codes "closed"
+modified_text modified.Draining = codes "draining"
 modified_text modified.Contended = []
 modified_text modified.TooFar = codes "too far"
 modified_text modified.Memory = []

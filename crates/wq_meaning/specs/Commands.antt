@@ -9,8 +9,9 @@ use Rattle.wq_text.specs.declared.command.Command.{Command}
 use Rattle.wq_text.specs.declared.command.Command.TheVariants as command
 use Rattle.wq_meaning.specs.Queueing.{queue_events, queue_answer, close_events, close_answer}
 use Rattle.wq_meaning.specs.Execution.{no_follow, after_executions, ends_at, ended_since}
-use Rattle.wq_words.specs.DelayTable.{DelayTable, on_table, table_without, table_at}
-use Rattle.wq_meaning.specs.Arming.{arm_events, arm_table, arm_answer, cancel_events, modify_events, modify_table, modify_answer, due_items, advance_events}
+use Rattle.wq_words.specs.DelayTable.{DelayTable, on_table, table_without}
+use Rattle.wq_meaning.specs.Arming.{arm_events, arm_table, arm_answer, cancel_events, modify_events, modify_table, modify_answer}
+use Rattle.wq_meaning.specs.Arming.{posted_items, advance_events, advance_table}
 use Rattle.wq_meaning.specs.Answer.{answer_text, armed_text, modified_text, close_text}
 use Rattle.wq_meaning.specs.Report.{line, counts_of, report_text}
 use Rattle.wq_meaning.specs.Names.{row_text, advance_word, left_text}
@@ -61,7 +62,7 @@ state_after layout s (command.Modify item delay) = record s {
 }
 state_after layout s (command.Advance tick) = if nat_lt tick s.table.tick then s else record s {
   history = s.history ++ advance_events (delayer layout) tick s.history s.table;
-  table = table_at tick [] s.table;
+  table = advance_table tick s.history s.table;
 }
 
 -- what is accepted and not ended
@@ -87,7 +88,7 @@ lines layout s t (command.Cancel item) = line (if on_table item s.table.entries 
 lines layout s t (command.Modify item delay) = line (modified_text (modify_answer item delay s.history s.table))
 lines layout s t (command.Advance tick) =
     if nat_lt tick s.table.tick then line (codes "false backwards")
-    else row_text layout (advance_word (closed s.history) (due_items tick s.table)) (due_items tick s.table)
+    else row_text layout (advance_word (closed s.history) (posted_items tick s.history s.table)) (posted_items tick s.history s.table)
 
 -- the whole output, from a state on
 unfoldable pub output_from : Layout → ScriptState → List Command → List ℕ

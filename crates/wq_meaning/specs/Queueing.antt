@@ -1,24 +1,30 @@
 -- A queueing, a chaining and a close: the events that each adds to a history, and what it answers by the events before it.
-use Rattle.std.specs.Prelude.{ℕ, List, [], ◌∷◌, Option, Some, None, if◌then◌else◌}
+use Rattle.std.specs.Prelude.{ℕ, Bool, not, ◌&&◌, List, [], ◌∷◌, Option, Some, None, if◌then◌else◌}
 use Rattle.wq_words.specs.declared.event.Event.{Event}
 use Rattle.wq_words.specs.declared.event.Event.TheVariants.{Hold, Busy, Push, Back, Close, Chain, ChainBusy}
 use Rattle.wq_words.specs.declared.event.Why.TheVariants as why
-use Rattle.wq_words.specs.History.{pending, closed, fresh, first}
+use Rattle.wq_words.specs.History.{pending, closed, shut, fresh, first}
 use Rattle.wq_words.specs.Rest.{wakes}
 use Rattle.wq_words.specs.declared.answer.Answer.{Answer}
 use Rattle.wq_words.specs.declared.answer.Answer.TheVariants as answer
+
+-- the queue drains: it takes no push now, and is not closed
+abbrev pub draining : List Event → Bool
+draining h = shut h && not (closed h)
 
 -- a queueing of number k by sender s
 abbrev pub queue_events : ℕ → ℕ → List Event → List Event
 queue_events s k h =
     if pending h k then Busy s k ∷ []
     else if closed h then Hold s k ∷ Back s k why.Closed ∷ []
+    else if draining h then Hold s k ∷ Back s k why.Draining ∷ []
     else Hold s k ∷ Push s k ∷ []
 
 abbrev pub queue_answer : ℕ → List Event → Answer
 queue_answer k h =
     if pending h k then answer.Pending
     else if closed h then answer.Closed
+    else if draining h then answer.Draining
     else answer.Queued (first h) (wakes h)
 
 -- a queueing of number k by the execution that runs while the queue is shut

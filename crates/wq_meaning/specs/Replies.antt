@@ -11,11 +11,12 @@ use Rattle.wq_core.specs.declared.step.Reply.{Reply}
 use Rattle.wq_core.specs.declared.step.Reply.TheVariants as reply
 use Rattle.wq_meaning.specs.Names.{named}
 
--- what a head says: that nothing waits on the list, its newest number, or that the queue is closed
+-- what a head says: that nothing waits on the list, its newest number, that the queue is closed, or that it drains
 abbrev pub head_text : Layout → Head → List ℕ
 head_text layout heads.Empty = codes "empty"
 head_text layout (heads.Item k) = codes "item" ++ named layout k
 head_text layout heads.Closed = codes "closed"
+head_text layout heads.Draining = codes "draining"
 
 -- what a step is answered
 abbrev pub reply_text : Layout → Reply → List ℕ
@@ -31,6 +32,8 @@ reply_text layout reply.Pending = codes "pending"
 reply_text layout reply.Idle = codes "idle"
 reply_text layout (reply.Took head) = codes "took " ++ head_text layout head
 reply_text layout (reply.Closed head) = codes "closed " ++ head_text layout head
+reply_text layout (reply.Drained head) = codes "drained " ++ head_text layout head
+reply_text layout reply.Resumed = codes "resumed"
 reply_text layout (reply.Walked None) = codes "end"
 reply_text layout (reply.Walked (Some k)) = codes "next" ++ named layout k
 reply_text layout (reply.Began k) = codes "began" ++ named layout k
@@ -44,6 +47,7 @@ abbrev pub cause_text : Why → List ℕ
 cause_text why.Closed = codes " closed"
 cause_text why.Contended = codes " contended"
 cause_text why.Cancelled = codes " cancelled"
+cause_text why.Draining = codes " draining"
 
 -- what the line says again of the step: why a number went back, and which item was chained
 abbrev pub said_again : Layout → Step → Reply → List ℕ

@@ -20,6 +20,7 @@ pub fn answer_text(answer: Answer) -> &'static str
         Answer::Queued { first: false, .. } => "true",
         Answer::Pending => "false pending",
         Answer::Closed => "false closed",
+        Answer::Draining => "false draining",
         Answer::Contended => unreachable!(),
     }
 }
@@ -35,6 +36,7 @@ pub fn armed_text(armed: Armed) -> &'static str
         Armed::OnTable => "on table",
         Armed::Pending => answer_text(Answer::Pending),
         Armed::Closed => answer_text(Answer::Closed),
+        Armed::Draining => answer_text(Answer::Draining),
         Armed::TooFar => "false too far",
         Armed::Contended | Armed::Memory => unreachable!(),
     }
@@ -52,6 +54,7 @@ pub fn modified_text(modified: Modified) -> &'static str
         Modified::Moved => "moved",
         Modified::Pending => "pending",
         Modified::Closed => "closed",
+        Modified::Draining => "draining",
         Modified::TooFar => "too far",
         Modified::Contended | Modified::Memory => unreachable!(),
     }

@@ -24,6 +24,7 @@ fn write_head(layout: &Layout, head: Head, out: &mut String) -> Result<(), Alloc
         Head::Empty => out.push_str("empty"),
         Head::Item(number) => write_named(layout, "item", number, out),
         Head::Closed => out.push_str("closed"),
+        Head::Draining => out.push_str("draining"),
     }
 }
 
@@ -51,6 +52,8 @@ fn write_reply(layout: &Layout, reply: Reply, out: &mut String) -> Result<(), Al
         Reply::Idle => out.push_str("idle"),
         Reply::Took(head) => write_taken(layout, "took ", head, out),
         Reply::Closed(head) => write_taken(layout, "closed ", head, out),
+        Reply::Drained(head) => write_taken(layout, "drained ", head, out),
+        Reply::Resumed => out.push_str("resumed"),
         Reply::Walked(None) => out.push_str("end"),
         Reply::Walked(Some(number)) => write_named(layout, "next", number, out),
         Reply::Began(number) => write_named(layout, "began", number, out),
@@ -68,6 +71,7 @@ fn cause_text(cause: Why) -> &'static str
         Why::Closed => " closed",
         Why::Contended => " contended",
         Why::Cancelled => " cancelled",
+        Why::Draining => " draining",
     }
 }
 
