@@ -1,6 +1,7 @@
 pub mod Changes
 pub mod Places
 pub mod Rule
+pub mod Operations
 pub mod Steps
 pub mod Present
 pub mod Views

@@ -1,9 +1,7 @@
 -- Each kind of step: the seat that makes it may, and its word becomes what the table's operation makes of it.
-use Rattle.std.proofs.Common.{◌≡◌, ◌≢◌, ℕ, ◌+◌, ◌-◌, ◌%◌, ◌^◌, ◌<◌, Bool, true, false, ◌==◌, eqb, if◌then◌else◌, List, [], ◌∷◌, get_or, set, Option, Some, unwrap_or, sym, refl, ap, ◌∙◌, subst, arith}
+use Rattle.std.proofs.Common.{◌≡◌, ℕ, ◌+◌, ◌-◌, ◌%◌, ◌^◌, ◌<◌, ◌==◌, eqb, List, [], ◌∷◌, get_or, set, Option, Some, unwrap_or, sym, refl, ap, ◌∙◌, subst, arith}
 use Rattle.std.specs.Prelude.{bit_or, bit_and}
-use Rattle.std.proofs.lemmas.Bool.{eqb-false, eqb-true}
 use prog.Atomic.{either}
-use lib.Seq.{set-get_or}
 use Rattle.wq_words.specs.declared.layout.Layout.{Layout}
 use Rattle.wq_words.specs.declared.event.Why.{Why}
 use Rattle.wq_words.specs.declared.event.Why.TheVariants.{Closed, Draining}
@@ -17,47 +15,17 @@ use Rattle.wq_core.specs.declared.step.Seat.TheVariants.{Sender}
 use Rattle.wq_core.specs.declared.step.Step.{Step}
 use Rattle.wq_core.specs.declared.step.Step.TheVariants.{Hold, Link, Push, Back, Check, Take, Close, Drain, Resume, Begin, End, Chain, Turn, Rest}
 use Rattle.wq_core.specs.Words.{link_place, item_place, done_place, closed_word, draining_word, idle_word, TakesPushes, link_word}
-use Rattle.wq_core.specs.Machine.{Machine, HasSeenOpen, HasSeenCause, seen_word, head, item_word, after_begin, after_end, after, StandsIn}
-use Rattle.wq_core.specs.Sound.{IsSound}
+use Rattle.wq_core.specs.Machine.{HasSeenOpen, HasSeenCause, seen_word, head, item_word, after_begin, after_end, after, StandsIn}
 use Rattle.wq_table.specs.declared.table.Part.{Part}
 use Rattle.wq_table.specs.declared.table.Stage.{Stage}
 use Rattle.wq_table.specs.declared.table.Stage.TheVariants.{Sends, Owns}
+use Rattle.wq_table.proofs.Operations.{item_word-bit, loads, sets_bit, clears_bit, exchanges}
 use Rattle.wq_table.specs.Law.{part}
 use Rattle.wq_table.specs.Plays.{Performs, item_at}
 use Rattle.wq_table.specs.Chair.{IsSender, HasSeen, HasLinked, IsOwner, IsRested, HasNone, IsToTurn, IsToBegin}
 use Rattle.wq_words.proofs.Running.{runs_some}
 use Rattle.wq_words.proofs.Seen.{held_same, closed_same, running_same}
 use Rattle.wq_words.proofs.ShutOwn.{shut_same}
-
--- an item word is a bit
-pub item_word-bit : (m : Machine) → IsSound m → (k : ℕ) → k < number_count m.layout → item_word m k < 2
-item_word-bit m sound k number = go _ (sound.items_are k number)
-  where
-    go : (b : Bool) → item_word m k ≡ (if b then 1 else 0) → item_word m k < 2
-    go true is = omega arith
-    go false is = omega arith
-
--- a load writes what it found
-loads : (ws : List ℕ) (i : ℕ) → ws ≡ set ws i (get_or ws i 0)
-loads ws i = sym (set-get_or ws i 0)
-
--- setting a bit: where it was clear the machine is x then, and else y
-sets_bit : (x y : Machine) (ws : List ℕ) (i w : ℕ) → w ≡ get_or ws i 0 → x.words ≡ set ws i 1 → y.words ≡ ws → w < 2 → (b : Bool) → (w == 0) ≡ b
-    → (if b then x else y).words ≡ set ws i (bit_or w 1)
-sets_bit x y ws i w is at_x at_y small true zero = let clear : w ≡ 0 = eqb-true w 0 zero in at_x ∙ ap (λ (v : ℕ). set ws i (bit_or v 1)) (sym clear)
-sets_bit x y ws i w is at_y at_x small false zero =
-    let ne : w ≢ 0 = eqb-false w 0 zero in let one_is : w ≡ 1 = omega arith in
-    at_x ∙ (loads ws i ∙ (ap (set ws i) (sym is ∙ one_is) ∙ ap (λ (v : ℕ). set ws i (bit_or v 1)) (sym one_is)))
-
-clears_bit : (w : ℕ) → w < 2 → (b : Bool) → (w == 0) ≡ b → 0 ≡ bit_and w 0
-clears_bit w small true zero = ap (λ (v : ℕ). bit_and v 0) (sym (eqb-true w 0 zero))
-clears_bit w small false zero = let ne : w ≢ 0 = eqb-false w 0 zero in let one_is : w ≡ 1 = omega arith in ap (λ (v : ℕ). bit_and v 0) (sym one_is)
-
--- an exchange: where the word was the one expected the machine is x then, and else y
-exchanges : (x y : Machine) (ws : List ℕ) (old new w : ℕ) → w ≡ get_or ws 0 0 → x.words ≡ set ws 0 new → y.words ≡ ws → (b : Bool) → (w == old) ≡ b
-    → (if b then x else y).words ≡ set ws 0 (either b new w)
-exchanges x y ws old new w is at_x at_y true hit = at_x
-exchanges x y ws old new w is at_x at_y false miss = at_y ∙ (loads ws 0 ∙ ap (set ws 0) (sym is))
 
 -- who has seen a head is a sender
 pub sender_seen : (word : ℕ) (stage : Stage) → HasSeen word stage → IsSender stage
