@@ -282,7 +282,7 @@ impl Queue {
     // What the events before say against this one, if anything, whatever its seat.
     fn cause(&self, event: Event) -> Option<Cause>
         requires { HasNumber self.now.layout event }
-        ensures { Judges self.now event result }
+        ensures judged { Judges self.now event result }
     {
         match event {
             Event::Hold(sender, number) => self.hold_cause(sender, number),
