@@ -1,5 +1,5 @@
 -- Plain lines and their words.
-use Rattle.wq_text.proofs.Common.{◌≡◌, ℕ, zero, suc, true, false, List, [], ◌∷◌, length, map, Option, None, Result, Ok, Err, nat_lt, nat_le, refl, sym, ap}
+use Rattle.wq_text.proofs.Common.{◌≡◌, ℕ, zero, suc, Bool, true, false, List, [], ◌∷◌, length, map, Option, None, Result, Ok, Err, nat_lt, nat_le, refl, sym, ap}
 use Rattle.wq_text.proofs.Common.{◌∙◌, arith, if◌then◌else◌, list_all, IsAscii, IsUtf8, IsValidUpTo, valid_up_to, MatchResult, result_ok, MatchOption}
 use Rattle.wq_text.proofs.Common.{leb-true, and_parts, LineError, Most, Stage, LineFailsAs, of_one, is_header, header_line_gives, Grammar, asking_line}
 use Rattle.wq_text.proofs.Common.{by_first_word, is_plain, Bor}
@@ -33,17 +33,20 @@ plain_read line (Err x) e h = absurd (h.0 (plain_utf8 line e))
 
 -- a line of the header
 module _ {N A : Type 0} (g : Grammar N A) (s : Stage) (w : List ℕ) (ws : List (List ℕ)) where
-  by_header : (most : Most) → is_header w ≡ true → most ≡ g.most → by_first_word g s w ws ≡ of_one (λ next. (next, None)) (header_line_gives most s w ws)
-  by_header most is same =
-      ap (λ b. if b then of_one (λ next. (next, None)) (header_line_gives g.most s w ws) else asking_line g s w ws) is
-      ∙ ap (λ m. of_one (λ next. (next, None)) (header_line_gives m s w ws)) (sym same)
+  by_header : (seats : Bool) (most : Most) → is_header w ≡ true → seats ≡ g.names_seats → most ≡ g.most
+      → by_first_word g s w ws ≡ of_one (λ next. (next, None)) (header_line_gives seats most s w ws)
+  by_header seats most is also same =
+      ap (λ b. if b then of_one (λ next. (next, None)) (header_line_gives g.names_seats g.most s w ws) else asking_line g s w ws) is
+      ∙ ap (λ n. of_one (λ next. (next, None)) (header_line_gives n g.most s w ws)) (sym also)
+      ∙ ap (λ m. of_one (λ next. (next, None)) (header_line_gives seats m s w ws)) (sym same)
 
-  pub header_given : (most : Most) (next : Stage) → is_header w ≡ true → most ≡ g.most → header_line_gives most s w ws ≡ Ok next
-      → by_first_word g s w ws ≡ Ok (next, None)
-  header_given most next is same given = let alone : Stage → Stage × Option A = λ x. (x, None) in by_header most is same ∙ ap (of_one alone) given
+  pub header_given : (seats : Bool) (most : Most) (next : Stage) → is_header w ≡ true → seats ≡ g.names_seats → most ≡ g.most
+      → header_line_gives seats most s w ws ≡ Ok next → by_first_word g s w ws ≡ Ok (next, None)
+  header_given seats most next is also same given =
+      let alone : Stage → Stage × Option A = λ x. (x, None) in by_header seats most is also same ∙ ap (of_one alone) given
 
-  pub header_fails : (e : LineError) (most : Most) → is_header w ≡ true → most ≡ g.most → LineFailsAs e (header_line_gives most s w ws)
-      → LineFailsAs e (by_first_word g s w ws)
-  header_fails line_errors.Memory most is same given = tt
-  header_fails (line_errors.Fault k) most is same given =
-      let alone : Stage → Stage × Option A = λ x. (x, None) in by_header most is same ∙ ap (of_one alone) given
+  pub header_fails : (e : LineError) (seats : Bool) (most : Most) → is_header w ≡ true → seats ≡ g.names_seats → most ≡ g.most
+      → LineFailsAs e (header_line_gives seats most s w ws) → LineFailsAs e (by_first_word g s w ws)
+  header_fails line_errors.Memory seats most is also same given = tt
+  header_fails (line_errors.Fault k) seats most is also same given =
+      let alone : Stage → Stage × Option A = λ x. (x, None) in by_header seats most is also same ∙ ap (of_one alone) given

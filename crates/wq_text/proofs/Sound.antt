@@ -22,6 +22,7 @@ module _ {A : Type 0} (most : ℕ) (fits : Layout → A → Type 0) where
   pub keeps_header : (s t : Stage) → KeepsHeader most s t → KeepsSound most fits s t None
   unfolding KeepsSound
   keeps_header stage.Items (stage.Senders l) step asked sound = append-nil asked ∙ sound
+  keeps_header stage.Items (stage.Commands m) step asked sound = (step, all_none m (asked ++ []) (append-nil asked ∙ sound))
   keeps_header (stage.Senders l) (stage.Barriers m) step asked sound = (step, append-nil asked ∙ sound)
   keeps_header (stage.Barriers l) (stage.Commands m) step asked sound = (omega (arith, step, sound.0), all_none m (asked ++ []) (append-nil asked ∙ sound.1))
   keeps_header s t step asked sound = absurd step

@@ -60,14 +60,20 @@ with_limits k items barriers senders None = Err k
 unfoldable pub limited : Kind → ℕ → ℕ → ℕ → Result Layout Kind
 limited k items barriers senders = with_limits k items barriers senders (in_limits items barriers senders)
 
--- what is awaited behind a header line, of at most so many items and senders: until a line names them, there is 1 of each thing
-unfoldable pub header_gives : Most → Stage → List (List ℕ) → Result Stage Kind
-header_gives most stage.Items ws = of_one stage.Senders (one (between kind.Items 1 most.items) ws >>= λ n. limited kind.Items n 1 1)
-header_gives most (stage.Senders l) ws = of_one stage.Barriers (one (between kind.Senders 1 most.senders) ws >>= λ n. limited kind.Senders l.items 1 n)
-header_gives most (stage.Barriers l) ws = of_one stage.Commands (one (between kind.Barriers 1 16) ws >>= λ n. limited kind.Barriers l.items n l.senders)
-header_gives most s ws = Err kind.Header
+-- what is awaited behind the line of the items: that of the senders, or, where no line names them, what is asked of the queue
+unfoldable pub behind_items : Bool → Most → ℕ → Result Stage Kind
+behind_items true most items = of_one stage.Senders (limited kind.Items items 1 1)
+behind_items false most items = of_one stage.Commands (limited kind.Items items 1 most.senders)
 
-abbrev pub header_line_gives : Most → Stage → List ℕ → List (List ℕ) → Result Stage Kind
-header_line_gives most s w ws = do
+-- what is awaited behind a header line, of at most so many items and senders: until a line names them, there is 1 of each thing, and where
+-- none does, there are as many senders as there may be
+unfoldable pub header_gives : Bool → Most → Stage → List (List ℕ) → Result Stage Kind
+header_gives seats most stage.Items ws = one (between kind.Items 1 most.items) ws >>= behind_items seats most
+header_gives seats most (stage.Senders l) ws = of_one stage.Barriers (one (between kind.Senders 1 most.senders) ws >>= λ n. limited kind.Senders l.items 1 n)
+header_gives seats most (stage.Barriers l) ws = of_one stage.Commands (one (between kind.Barriers 1 16) ws >>= λ n. limited kind.Barriers l.items n l.senders)
+header_gives seats most s ws = Err kind.Header
+
+abbrev pub header_line_gives : Bool → Most → Stage → List ℕ → List (List ℕ) → Result Stage Kind
+header_line_gives seats most s w ws = do
   _ ← need kind.Header (awaits s w)
-  header_gives most s ws
+  header_gives seats most s ws

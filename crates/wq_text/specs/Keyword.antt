@@ -1,5 +1,5 @@
 -- The table of commands: the first words of a script's lines, and what they ask for.
-use Rattle.std.specs.Prelude.{ℕ, List, Option, Some, None, Result, if◌then◌else◌, codes}
+use Rattle.std.specs.Prelude.{ℕ, true, List, Option, Some, None, Result, if◌then◌else◌, codes}
 use Rattle.std.specs.Str.{bytes_eq}
 use Rattle.wq_words.specs.declared.layout.Layout.{Layout}
 use Rattle.wq_text.specs.declared.command.Command.{Command}
@@ -49,6 +49,7 @@ command_gives l keyword.Advance ws = of_one command.Advance (one number ws)
 abbrev pub script_grammar : Grammar Keyword Command
 script_grammar = record {
   version = codes "wq 1";
+  names_seats = true;
   most = record { items = 4096; senders = 62 };
   names = λ w ws. keyword_at w;
   asks = λ l k w ws. command_gives l k ws;

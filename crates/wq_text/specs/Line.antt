@@ -12,10 +12,11 @@ use Rattle.wq_text.specs.Fault.{◌>>=◌, need, found, of_none, of_one}
 use Rattle.wq_text.specs.Header.{is_header, layout_at, header_line_gives}
 use Rattle.wq_text.specs.Word.{words, is_plain, is_word}
 
--- what one kind of text has of its own: its first line, how many items and senders there may be, what the first word of a line
--- and the others name, and what they ask of a queue
+-- what one kind of text has of its own: its first line, whether its header names senders and barriers, how many items and senders
+-- there may be, what the first word of a line and the others name, and what they ask of a queue
 pub record Grammar (N A : Type 0) : Type 0 where
   pub version : List ℕ
+  pub names_seats : Bool
   pub most : Most
   pub names : List ℕ → List (List ℕ) → Option N
   pub asks : Layout → N → List ℕ → List (List ℕ) → Result A Kind
@@ -32,7 +33,7 @@ asking_line g s w ws = do
   of_one (λ a. (stage.Commands layout, Some a)) (g.asks layout name w ws)
 
 abbrev pub by_first_word : {N A : Type 0} → Grammar N A → Stage → List ℕ → List (List ℕ) → Result (Stage × Option A) Kind
-by_first_word g s w ws = if is_header w then of_one (λ next. (next, None)) (header_line_gives g.most s w ws) else asking_line g s w ws
+by_first_word g s w ws = if is_header w then of_one (λ next. (next, None)) (header_line_gives g.names_seats g.most s w ws) else asking_line g s w ws
 
 abbrev pub by_words : {N A : Type 0} → Grammar N A → Stage → List (List ℕ) → Result (Stage × Option A) Kind
 by_words g s [] = Err kind.Word

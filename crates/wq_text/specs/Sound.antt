@@ -22,6 +22,7 @@ KeepsSound {A} most fits s t one = (asked : List A) → SoundAt most fits s aske
 -- a line of the header leads from one stage to the next, and there are few senders
 abbrev pub KeepsHeader : ℕ → Stage → Stage → Type 0
 KeepsHeader most stage.Items (stage.Senders l) = Unit {0}
+KeepsHeader most stage.Items (stage.Commands m) = m.senders ≤ most
 KeepsHeader most (stage.Senders l) (stage.Barriers m) = m.senders ≤ most
 KeepsHeader most (stage.Barriers l) (stage.Commands m) = m.senders ≡ l.senders
 KeepsHeader most s t = ⊥

@@ -1,5 +1,5 @@
 -- The table of steps: which step the words of a schedule's line name, and what they ask for.
-use Rattle.std.specs.Prelude.{ℕ, List, [], ◌∷◌, length, Option, Some, None, Result, Ok, ◌-◌, take, slice_index_or, ◌==◌, if◌then◌else◌, codes, option_map}
+use Rattle.std.specs.Prelude.{ℕ, true, List, [], ◌∷◌, length, Option, Some, None, Result, Ok, ◌-◌, take, slice_index_or, ◌==◌, if◌then◌else◌, codes, option_map}
 use Rattle.std.specs.Str.{bytes_eq}
 use Rattle.wq_words.specs.declared.event.Why.{Why}
 use Rattle.wq_words.specs.declared.event.Why.TheVariants as why
@@ -122,6 +122,7 @@ turn_gives l action.Turn w ws = of_two (λ k next. (seat.Owner, step.Turn k next
 abbrev pub schedule_grammar : Grammar Action Turn
 schedule_grammar = record {
   version = codes "steps 1";
+  names_seats = true;
   most = record { items = 4096; senders = 64 };
   names = action_at;
   asks = λ l a w ws. turn_gives l a w (other_words ws);

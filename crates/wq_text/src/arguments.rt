@@ -51,7 +51,8 @@ pub(crate) fn sender(layout: Layout, word: &str) -> Result<u32, LineError>
     below(Kind::Sender, layout.senders, word)
 }
 
-pub(crate) fn item(layout: Layout, word: &str) -> Result<u32, LineError>
+/// An item of the queue.
+pub fn item(layout: Layout, word: &str) -> Result<u32, LineError>
     ensures exact { LineGives result (item layout word.now) }
     ensures within { IfOk result (λ n. n < layout.items) }
 {
@@ -72,7 +73,8 @@ pub(crate) fn limit(word: &str) -> Result<u32, LineError>
     between(Kind::Limit, 1, 65536, word)
 }
 
-pub(crate) fn no_word(words: &[&str]) -> Result<(), LineError>
+/// No word stands there.
+pub fn no_word(words: &[&str]) -> Result<(), LineError>
     ensures { LineGives result (no_word (map (λ w. w.now) words.now)) }
 {
     match words {
@@ -81,7 +83,8 @@ pub(crate) fn no_word(words: &[&str]) -> Result<(), LineError>
     }
 }
 
-pub(crate) fn one_word<'a>(words: &[&'a str]) -> Result<&'a str, LineError>
+/// The one word that stands there.
+pub fn one_word<'a>(words: &[&'a str]) -> Result<&'a str, LineError>
     ensures { LineGivesAs (λ w. w.now) result (one_word (map (λ w. w.now) words.now)) }
 {
     match words {

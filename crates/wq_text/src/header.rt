@@ -1,24 +1,27 @@
 //! Which line is awaited, and the lines of the header.
 ghost use Rattle.std.specs.Prelude.{◌≡◌, ◌≤◌, map, IfOk};
 ghost use Rattle.wq_text.specs.Fault.{LineGives};
-ghost use Rattle.wq_text.specs.Header.{limited, is_header, awaits, layout_at, header_gives, header_line_gives};
+ghost use Rattle.wq_text.specs.Header.{limited, is_header, awaits, layout_at, behind_items, header_gives, header_line_gives};
 ghost use Rattle.wq_text.specs.Sound.{KeepsHeader};
+ghost use Rattle.wq_text.specs.declared.header.Stage.TheVariants.{Items};
 
 use crate::arguments::{between, one_word};
 use crate::fault::{Kind, LineError};
 use wq_words::Layout;
 
-// How many items and senders a kind of text may name at most.
+/// How many items and senders a kind of text may name at most.
 #[derive(Clone, Copy)]
-pub(crate) struct Most {
-    pub(crate) items: u32,
-    pub(crate) senders: u32,
+pub struct Most {
+    /// The items.
+    pub items: u32,
+    /// The senders.
+    pub senders: u32,
 }
 
-// Which line is awaited: the version, then those of the header, with the layout so far, then what is asked of the queue. The
-// layout has 1 of each thing that no line has named yet.
+/// Which line is awaited: the version, then those of the header, with the layout so far, then what is asked of the queue. The
+/// layout has 1 of each thing that no line has named yet.
 #[derive(Clone, Copy)]
-pub(crate) enum Stage {
+pub enum Stage {
     Version,
     Items,
     Senders(Layout),
@@ -40,9 +43,9 @@ impl Stage {
         }
     }
 
-    // The layout, once a line may ask something of the queue.
-    pub(crate) fn layout(self) -> Option<Layout>
-        ensures { result ≡ layout_at self }
+    /// The layout, once a line may ask something of the queue.
+    pub fn layout(self) -> Option<Layout>
+        ensures known { result ≡ layout_at self }
     {
         match self {
             Stage::Barriers(layout) | Stage::Commands(layout) => Some(layout),
@@ -69,17 +72,29 @@ fn limited(kind: Kind, items: u32, barriers: u32, senders: u32) -> Result<Layout
     }
 }
 
+// What is awaited behind the line of the items.
+#[tactic(auto, unfolding(crate::specs::Header::behind_items))]
+fn behind_items(names_seats: bool, most: Most, items: u32) -> Result<Stage, LineError>
+    ensures exact { LineGives result (behind_items names_seats most items) }
+    ensures sound { IfOk result (KeepsHeader most.senders Items) }
+{
+    if names_seats {
+        limited(Kind::Items, items, 1, 1).map(Stage::Senders)
+    } else {
+        limited(Kind::Items, items, 1, most.senders).map(Stage::Commands)
+    }
+}
+
 // What is awaited behind a line of the header, from the words behind its first.
 #[tactic(auto, unfolding(crate::specs::Header::header_gives))]
-fn header(most: Most, stage: Stage, words: &[&str]) -> Result<Stage, LineError>
-    ensures exact { LineGives result (header_gives most stage (map (λ w. w.now) words.now)) }
+fn header(names_seats: bool, most: Most, stage: Stage, words: &[&str]) -> Result<Stage, LineError>
+    ensures exact { LineGives result (header_gives names_seats most stage (map (λ w. w.now) words.now)) }
     ensures sound { IfOk result (KeepsHeader most.senders stage) }
 {
     match stage {
         Stage::Items => one_word(words)
             .and_then(|word| between(Kind::Items, 1, most.items, word))
-            .and_then(|items| limited(Kind::Items, items, 1, 1))
-            .map(Stage::Senders),
+            .and_then(|items| behind_items(names_seats, most, items)),
         Stage::Senders(layout) => one_word(words)
             .and_then(|word| between(Kind::Senders, 1, most.senders, word))
             .and_then(|senders| limited(Kind::Senders, layout.items, 1, senders))
@@ -94,16 +109,17 @@ fn header(most: Most, stage: Stage, words: &[&str]) -> Result<Stage, LineError>
 
 // What is awaited behind a line of the header, where it belongs here.
 pub(crate) fn header_line(
+    names_seats: bool,
     most: Most,
     stage: Stage,
     first: &str,
     others: &[&str],
 ) -> Result<Stage, LineError>
-    ensures exact { LineGives result (header_line_gives most stage first.now (map (λ w. w.now) others.now)) }
+    ensures exact { LineGives result (header_line_gives names_seats most stage first.now (map (λ w. w.now) others.now)) }
     ensures sound { IfOk result (KeepsHeader most.senders stage) }
 {
     if !stage.awaits(first) {
         return Err(LineError::Fault(Kind::Header));
     }
-    header(most, stage, others)
+    header(names_seats, most, stage, others)
 }

@@ -16,10 +16,14 @@ mod text;
 mod turn;
 mod word;
 
+pub use arguments::{item, no_word, one_word};
 pub use command::{Command, Follow};
-pub use fault::{Kind, ParseError, ScriptError};
+pub use fault::{Kind, LineError, ParseError, ScriptError};
+pub use header::{Most, Stage};
+pub use line::{Language, read_line};
 pub use schedule::Schedule;
 pub use schedule_text::parse_steps;
 pub use script::Script;
 pub use script_text::parse;
+pub use turn::{cause_of, number_of_queue, other_words, seat_and_number, without_last};
 pub use word::reads_decimals;

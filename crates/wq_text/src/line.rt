@@ -14,12 +14,12 @@ use crate::word::words_of;
 use std::alloc::Global;
 use wq_words::Layout;
 
-// What one kind of text has of its own: its first line, and what its lines ask for behind the header.
-pub(crate) trait Language {
-    // What a line names: a command, or a kind of step.
+/// What one kind of text has of its own: its first line, and what its lines ask for behind the header.
+pub trait Language {
+    /// What a line names: a command, or a kind of step.
     type Name: Drop;
 
-    // What it asks for.
+    /// What it asks for.
     type Asked: Drop;
 
     ghost grammar: { Grammar Self.Name Self.Asked };
@@ -27,17 +27,23 @@ pub(crate) trait Language {
     // What may be asked of a queue.
     ghost fits: { Layout → Self.Asked → Type 0 };
 
+    /// Whether it is the first line.
     fn is_version(line: &[u8]) -> bool
         ensures { result ≡ bytes_eq line.now grammar.version };
 
+    /// Whether the header names senders and, if wanted, barriers behind the items.
+    fn names_seats() -> bool
+        ensures { result ≡ grammar.names_seats };
+
+    /// How many items and senders there may be.
     fn most() -> Most
         ensures { result ≡ grammar.most };
 
-    // What the first word and the others name.
+    /// What the first word and the others name.
     fn name(first: &str, others: &[&str]) -> Option<Self::Name>
         ensures { result ≡ grammar.names first.now (map (λ w. w.now) others.now) };
 
-    // What they ask of the queue.
+    /// What they ask of the queue.
     fn ask(
         layout: Layout,
         name: Self::Name,
@@ -77,7 +83,7 @@ fn first_word_line<L: Language>(
     ensures sound { IfOk result (λ given. KeepsSound L.grammar.most.senders L.fits stage given.0 given.1) }
 {
     if is_header(first) {
-        let next = header_line(L::most(), stage, first, others)?;
+        let next = header_line(L::names_seats(), L::most(), stage, first, others)?;
         return Ok((next, None));
     }
     asking_line::<L>(stage, first, others)
@@ -143,9 +149,9 @@ fn plain_line<L: Language>(
     words_line::<L>(stage, &words)
 }
 
-// Which line is awaited behind this one, and what this one asks for.
+/// Which line is awaited behind this one, and what this one asks for.
 #[tactic(auto, using(crate::proofs::Sound::keeps_none, crate::proofs::Sound::keeps_version))]
-pub(crate) fn read_line<L: Language>(
+pub fn read_line<L: Language>(
     alloc: Global,
     stage: Stage,
     line: &[u8],

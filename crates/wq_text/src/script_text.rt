@@ -32,6 +32,10 @@ impl Language for Commands {
         line == b"wq 1".as_slice()
     }
 
+    fn names_seats() -> bool {
+        true
+    }
+
     fn most() -> Most {
         Most {
             items: 4096,

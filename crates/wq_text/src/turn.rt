@@ -37,9 +37,9 @@ fn digits_of_barrier(word: &str) -> Option<&str>
     word.strip_prefix('b')
 }
 
-// A number of the queue: an item, `b` and a barrier, or `stop`.
+/// A number of the queue: an item, `b` and a barrier, or `stop`.
 #[tactic(auto, unfolding(crate::specs::Turn::number_of_queue))]
-fn number_of_queue(layout: Layout, word: &str) -> Result<u32, LineError>
+pub fn number_of_queue(layout: Layout, word: &str) -> Result<u32, LineError>
     ensures exact { LineGives result (number_of_queue layout word.now) }
     ensures within { IfOk result (λ n. n < number_count layout) }
 {
@@ -69,8 +69,9 @@ fn owners_action(word: &str) -> Option<Action>
     }
 }
 
+/// The cause of giving back that a word names.
 #[tactic(auto, unfolding(crate::specs::Turn::cause_at))]
-fn cause_of(word: &str) -> Option<Why>
+pub fn cause_of(word: &str) -> Option<Why>
     ensures { result ≡ cause_at word.now }
 {
     match word {
@@ -104,7 +105,8 @@ fn seat_alone(layout: Layout, first: &str, words: &[&str]) -> Result<u32, LineEr
     sender(layout, first)
 }
 
-fn seat_and_number(layout: Layout, first: &str, words: &[&str]) -> Result<(u32, u32), LineError>
+/// A sender, and a number of the queue in the one word behind.
+pub fn seat_and_number(layout: Layout, first: &str, words: &[&str]) -> Result<(u32, u32), LineError>
     ensures exact { LineGives result (seat_and_number layout first.now (map (λ w. w.now) words.now)) }
     ensures within { IfOk result (λ n. (n.0 < layout.senders) × (n.1 < number_count layout)) }
 {
@@ -195,7 +197,8 @@ pub(crate) fn turn(
     }
 }
 
-fn without_last<'a, 'b>(words: &'b [&'a str]) -> &'b [&'a str]
+/// The words without the last of them.
+pub fn without_last<'a, 'b>(words: &'b [&'a str]) -> &'b [&'a str]
     ensures { map (λ w. w.now) result.now ≡ without_last (map (λ w. w.now) words.now) }
 {
     &words[..words.len().saturating_sub(1)]
@@ -215,8 +218,8 @@ pub(crate) fn action_of(first: &str, others: &[&str]) -> Option<Action>
     }
 }
 
-// The words behind the second of a line.
-pub(crate) fn other_words<'a, 'b>(words: &'b [&'a str]) -> &'b [&'a str]
+/// The words behind the second of a line.
+pub fn other_words<'a, 'b>(words: &'b [&'a str]) -> &'b [&'a str]
     ensures { map (λ w. w.now) result.now ≡ other_words (map (λ w. w.now) words.now) }
 {
     match words {

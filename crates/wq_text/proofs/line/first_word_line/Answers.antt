@@ -7,14 +7,14 @@ pub returns-in_err-next-clause-exact : goal.returns-in_err-next-clause-exact
 returns-in_err-next-clause-exact g c =
     let p = err_from_is_err_and c.from_residual.result c.from_residual.ensures.1 in
     rw (p.1, p.2) (header_fails g.L.Language.grammar c.args.stage c.args.first.now
-    (map (λ (w : Bor (List ℕ)). w.now) c.args.others.now) c.in_err-next.field-0.0 c.most.result
-    (sym c.is_header.ensures ∙ c.if-is_header.true) c.most.ensures c.in_err-next.ensures.exact)
+    (map (λ (w : Bor (List ℕ)). w.now) c.args.others.now) c.in_err-next.field-0.0 c.names_seats.result c.most.result
+    (sym c.is_header.ensures ∙ c.if-is_header.true) c.names_seats.ensures c.most.ensures c.in_err-next.ensures.exact)
 
 pub returns-then-is_header-clause-exact : goal.returns-then-is_header-clause-exact
 returns-then-is_header-clause-exact g c =
     header_given g.L.Language.grammar c.args.stage c.args.first.now
-    (map (λ (w : Bor (List ℕ)). w.now) c.args.others.now) c.most.result c.in_ok-next.next
-    (sym c.is_header.ensures ∙ c.if-is_header.true) c.most.ensures c.in_ok-next.ensures.exact
+    (map (λ (w : Bor (List ℕ)). w.now) c.args.others.now) c.names_seats.result c.most.result c.in_ok-next.next
+    (sym c.is_header.ensures ∙ c.if-is_header.true) c.names_seats.ensures c.most.ensures c.in_ok-next.ensures.exact
 
 pub returns-then-is_header-clause-sound : goal.returns-then-is_header-clause-sound
 returns-then-is_header-clause-sound g c =
