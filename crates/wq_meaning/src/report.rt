@@ -25,8 +25,8 @@ pub struct Counts {
 
 /// Writes a word and a count on a line of their own.
 #[tactic(auto, unfolding(crate::specs::Report::count_line))]
-fn write_count(word: &str, count: u64, out: &mut String) -> Result<(), AllocError>
-    ensures { OnOk result (string_bytes out.new ≡ string_bytes out.old ++ count_line word.now count) }
+pub fn write_count(word: &str, count: u64, out: &mut String) -> Result<(), AllocError>
+    ensures written { OnOk result (string_bytes out.new ≡ string_bytes out.old ++ count_line word.now count) }
 {
     writeln!(out, "{word} {count}")
 }

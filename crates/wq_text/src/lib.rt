@@ -25,5 +25,6 @@ pub use schedule::Schedule;
 pub use schedule_text::parse_steps;
 pub use script::Script;
 pub use script_text::parse;
+pub use text::layout_at_end;
 pub use turn::{cause_of, number_of_queue, other_words, seat_and_number, without_last};
 pub use word::reads_decimals;

@@ -68,8 +68,8 @@ fn add<A: Drop>(asked: &mut Vec<A>, one: Option<A>) -> Result<(), AllocError>
     Ok(())
 }
 
-// The layout, at the end of a text before line `number`.
-fn layout_at_end(number: u64, stage: Stage) -> Result<Layout, ParseError>
+/// The layout, at the end of a text before line `number`.
+pub fn layout_at_end(number: u64, stage: Stage) -> Result<Layout, ParseError>
     ensures whole { IfOk result (λ layout. layout_at stage ≡ Some layout) }
     ensures refused { IfRefused result (λ e. (e.line ≡ number) × (end_fault stage ≡ Some e.kind)) }
 {
