@@ -58,6 +58,7 @@ impl Checker {
         ensures refused { IfErr result (λ error. (h : List Event) → IsAfter self.old h
             → HasEventError self.old.queue.layout h event error) }
         ensures unchanged { OnErr result (self.new ≡ self.old) }
+        ensures layout { self.new.queue.layout ≡ self.old.queue.layout }
     {
         self.queue.check(event)?;
         self.queue.make(event);

@@ -321,7 +321,8 @@ impl Queue {
     // The event comes.
     pub(crate) fn make(&mut self, event: Event)
         requires { (h : List Event) → StandsAfter self.old h → IsAllowed self.old.layout h event }
-        ensures { (h : List Event) → StandsAfter self.old h → StandsAfter self.new (h ++ event ∷ []) }
+        ensures told { (h : List Event) → StandsAfter self.old h → StandsAfter self.new (h ++ event ∷ []) }
+        ensures layout { self.new.layout ≡ self.old.layout }
     {
         match event {
             Event::Hold(sender, number) => self.places[number as usize] = Place::Held(sender),

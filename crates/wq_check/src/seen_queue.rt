@@ -141,7 +141,8 @@ impl SeenQueue {
     // The mark is shown.
     pub(crate) fn make(&mut self, mark: Mark)
         requires { (t : List Mark) → LooksAfter self.old t → (number_of mark < self.old.layout.items) × MayShow t mark }
-        ensures { (t : List Mark) → LooksAfter self.old t → LooksAfter self.new (t ++ mark ∷ []) }
+        ensures told { (t : List Mark) → LooksAfter self.old t → LooksAfter self.new (t ++ mark ∷ []) }
+        ensures layout { self.new.layout ≡ self.old.layout }
     {
         match mark {
             Mark::Queue(number) => {

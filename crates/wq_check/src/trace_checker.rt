@@ -58,6 +58,7 @@ impl TraceChecker {
         ensures refused { IfErr result (λ error. (t : List Mark) → IsAfterMarks self.old t
             → HasMarkError self.old.queue.layout t mark error) }
         ensures unchanged { OnErr result (self.new ≡ self.old) }
+        ensures layout { self.new.queue.layout ≡ self.old.queue.layout }
     {
         self.queue.check(mark)?;
         self.queue.make(mark);

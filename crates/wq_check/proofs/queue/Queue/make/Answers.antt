@@ -60,50 +60,50 @@ invariant_of-self-in-Push c =
           rw (c.push_back.ensures.items, fits) (kept_on _ _ told.1.0 told.1.1 (Chain k) told.0 may refl)
     ]
 
-pub returns-in-Hold : goal.returns-in-Hold
-returns-in-Hold c = λ h o.
+pub returns-in-Hold-clause-told : goal.returns-in-Hold-clause-told
+returns-in-Hold-clause-told c = λ h o.
     let at = rw (← c.self.view_is) at o in
     let may = (rw (← c.self.view_is, c.in-Hold.is) at c.requires) h at in
     rw c.in-Hold.is (after_kept _ h at (Hold c.in-Hold.sender c.in-Hold.number) may)
 
-pub returns-in-Back : goal.returns-in-Back
-returns-in-Back c = λ h o.
+pub returns-in-Back-clause-told : goal.returns-in-Back-clause-told
+returns-in-Back-clause-told c = λ h o.
     let at = rw (← c.self.view_is) at o in
     let may = (rw (← c.self.view_is, c.in-Back.is) at c.requires) h at in
     rw c.in-Back.is (after_kept _ h at (Back c.in-Back.field-0 c.in-Back.number c.in-Back.field-2) may)
 
-pub returns-in-Close : goal.returns-in-Close
-returns-in-Close c = λ h o.
+pub returns-in-Close-clause-told : goal.returns-in-Close-clause-told
+returns-in-Close-clause-told c = λ h o.
     let at = rw (← c.self.view_is) at o in
     let may = (rw (← c.self.view_is, c.in-Close.is) at c.requires) h at in
     rw c.in-Close.is (after_kept _ h at Close may)
 
-pub returns-in-Drain : goal.returns-in-Drain
-returns-in-Drain c = λ h o.
+pub returns-in-Drain-clause-told : goal.returns-in-Drain-clause-told
+returns-in-Drain-clause-told c = λ h o.
     let at = rw (← c.self.view_is) at o in
     let may = (rw (← c.self.view_is, c.in-Drain.is) at c.requires) h at in
     rw c.in-Drain.is (after_kept _ h at Drain may)
 
-pub returns-in-Resume : goal.returns-in-Resume
-returns-in-Resume c = λ h o.
+pub returns-in-Resume-clause-told : goal.returns-in-Resume-clause-told
+returns-in-Resume-clause-told c = λ h o.
     let at = rw (← c.self.view_is) at o in
     let may = (rw (← c.self.view_is, c.in-Resume.is) at c.requires) h at in
     rw c.in-Resume.is (after_kept _ h at Resume may)
 
-pub returns-in-Begin : goal.returns-in-Begin
-returns-in-Begin c = λ h o.
+pub returns-in-Begin-clause-told : goal.returns-in-Begin-clause-told
+returns-in-Begin-clause-told c = λ h o.
     let at = rw (← c.self.view_is) at o in
     let may = (rw (← c.self.view_is, c.in-Begin.is) at c.requires) h at in
     rw (c.in-Begin.is, c.pop_front-self-inside.ensures.items) (after_kept _ h at (Begin c.in-Begin.number) may)
 
-pub returns-in-End : goal.returns-in-End
-returns-in-End c = λ h o.
+pub returns-in-End-clause-told : goal.returns-in-End-clause-told
+returns-in-End-clause-told c = λ h o.
     let at = rw (← c.self.view_is) at o in
     let may = (rw (← c.self.view_is, c.in-End.is) at c.requires) h at in
     rw c.in-End.is (after_kept _ h at (End c.in-End.field-0) may)
 
-pub returns-in-Busy : goal.returns-in-Busy
-returns-in-Busy c = λ h o. elim c.in-Busy.is [
+pub returns-in-Busy-clause-told : goal.returns-in-Busy-clause-told
+returns-in-Busy-clause-told c = λ h o. elim c.in-Busy.is [
   | inl busy ↦ rw busy.2 (after_kept _ h o (Busy busy.0 busy.1) ((rw busy.2 at c.requires) h o))
   | inr more ↦ elim more [
     | inl busy ↦ rw busy.1 (after_kept _ h o (ChainBusy busy.0) ((rw busy.1 at c.requires) h o))
@@ -114,8 +114,8 @@ returns-in-Busy c = λ h o. elim c.in-Busy.is [
   ]
 ]
 
-pub returns-in-Push : goal.returns-in-Push
-returns-in-Push c = λ h o.
+pub returns-in-Push-clause-told : goal.returns-in-Push-clause-told
+returns-in-Push-clause-told c = λ h o.
     let k = c.in-Push.number in
     let at = rw (← c.self.view_is) at o in
     let size = c.self.invariant.0 in

@@ -43,8 +43,8 @@ invariant_of-self-in-End c =
     let may = (rw (← c.self.view_is, c.in-End.is) at c.requires) told.1.0 told.1.1 in
     mark_on _ _ told.1.0 told.1.1 (End c.in-End.field-0) told.0 may refl
 
-pub returns-in-Queue : goal.returns-in-Queue
-returns-in-Queue c = λ t o.
+pub returns-in-Queue-clause-told : goal.returns-in-Queue-clause-told
+returns-in-Queue-clause-told c = λ t o.
     let at = rw (← c.self.view_is) at o in
     let may = (rw (← c.self.view_is, c.in-Queue.is) at c.requires) t at in
     let fits = finds_place _ _ t at (Queue c.in-Queue.number) c.self.invariant.0 may c.in-Queue.number refl refl in
@@ -52,16 +52,16 @@ returns-in-Queue c = λ t o.
     get_or_read c.self.inside.times.items _ _ (omega (arith, may.0, at.has_times)) c.index_mut.ensures.value 0 in
     rw (c.in-Queue.is, c.push_back.ensures.items, fits, was) (mark_kept _ t at (Queue c.in-Queue.number) may)
 
-pub returns-in-Start : goal.returns-in-Start
-returns-in-Start c = λ t o.
+pub returns-in-Start-clause-told : goal.returns-in-Start-clause-told
+returns-in-Start-clause-told c = λ t o.
     let at = rw (← c.self.view_is) at o in
     let may = (rw (← c.self.view_is, c.in-Start.is) at c.requires) t at in
     let was : c.index_mut-in-Start.result.now ≡ get_or c.self.inside.times.items c.in-Start.number 0 =
     get_or_read c.self.inside.times.items _ _ (omega (arith, may.0, at.has_times)) c.index_mut-in-Start.ensures.value 0 in
     rw (c.in-Start.is, c.pop_front-self-inside.ensures.items, was) (mark_kept _ t at (Start c.in-Start.number) may)
 
-pub returns-in-End : goal.returns-in-End
-returns-in-End c = λ t o.
+pub returns-in-End-clause-told : goal.returns-in-End-clause-told
+returns-in-End-clause-told c = λ t o.
     let at = rw (← c.self.view_is) at o in
     let may = (rw (← c.self.view_is, c.in-End.is) at c.requires) t at in
     rw c.in-End.is (mark_kept _ t at (End c.in-End.field-0) may)
