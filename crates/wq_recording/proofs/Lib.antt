@@ -1,0 +1,2 @@
+pub mod LineBytes
+pub mod LeftNumbers

@@ -1,0 +1,83 @@
+-- What the parts of a line come to.
+use Rattle.std.proofs.Common.{◌≡◌, ◌≢◌, ℕ, ◌+◌, ◌-◌, ◌<◌, ◌≤◌, ◌⊎◌, ◌||◌, Bool, true, false, List, [], ◌∷◌, ◌++◌, All, Option, Some, None, OnSome, IsTrue, ◌↔◌, length}
+use Rattle.std.proofs.Common.{take, drop, slice_index, nat_lt, get_or, inl, inr, refl, sym, ap, subst, ◌∙◌, arith, length-append, length-take-le, get_or-take}
+use Rattle.std.proofs.lemmas.Bool.{ltb-true}
+use Rattle.wq_words.proofs.Common.{cases_lt}
+use Rattle.std.proofs.lemmas.List.{get_or-append-add}
+use Rattle.std.proofs.lemmas.List.Elements.{All-append, All-more}
+use Rattle.std.specs.Io.{StartsWith, IsEmptyOrEndsWith}
+use Rattle.std.specs.Io.KnownBytes.{Consumes, IsAtEnd}
+use Rattle.std.proofs.KnownBytes.{starts_with_rest, Consumes-trans}
+use Rattle.wq_recording.specs.Lines.{EndsWithLf, Ends, EndsOrGoesOn}
+
+-- n bytes of those at hand, behind the bytes of a line
+module _ (old bytes : List ℕ) (n : ℕ) (within : n ≤ length bytes) where
+  longer : length (old ++ take n bytes) ≡ length old + n
+  longer = omega (arith, length-append old (take n bytes), length-take-le n bytes within)
+
+  last_is : 0 < n → slice_index (old ++ take n bytes) (length (old ++ take n bytes) - 1) ≡ slice_index bytes (n - 1)
+  last_is some =
+      ap (λ m. get_or (old ++ take n bytes) m 0) (omega (arith, longer))
+      ∙ get_or-append-add old (take n bytes) (n - 1) 0 ∙ get_or-take n bytes (n - 1) 0 (omega arith)
+
+  ends_with : 0 < n → slice_index bytes (n - 1) ≡ 10 → EndsWithLf (old ++ take n bytes)
+  ends_with some is = (omega (arith, longer), last_is some ∙ is)
+
+  part_last : 0 < n → slice_index (take n bytes) (length (take n bytes) - 1) ≡ slice_index bytes (n - 1)
+  part_last some = ap (λ m. get_or (take n bytes) (m - 1) 0) (length-take-le n bytes within) ∙ get_or-take n bytes (n - 1) 0 (omega arith)
+
+  none_yet : 0 < n → All (λ x. x ≢ 10) old → All (λ x. x ≢ 10) (take (n - 1) bytes) → slice_index bytes (n - 1) ≢ 10
+      → All (λ x. x ≢ 10) (old ++ take n bytes)
+  none_yet some none before last =
+      let all = All-more (λ x. x ≢ 10) bytes (n - 1) 0 (omega arith) before last in
+      let P : ℕ → Type 0 = λ m. All (λ x. x ≢ 10) (take m bytes) in
+      All-append (λ x. x ≢ 10) old (take n bytes) none (subst P (omega arith) all)
+
+  module _ (known left : Option (List ℕ)) (none : All (λ x. x ≢ 10) old) (before : All (λ x. x ≢ 10) (take (n - 1) bytes)) where
+    read_some : 0 < n → (ends long : Bool) → IsTrue ends ↔ IsEmptyOrEndsWith (take n bytes) 10 → long ≡ nat_lt 4096 (length (old ++ take n bytes))
+        → EndsOrGoesOn (ends || long) (old ++ take n bytes) known left
+    read_some some true long is same =
+        inl (ends_with some (sym (part_last some) ∙ is.0 refl (omega (arith, length-take-le n bytes within))))
+    read_some some false true is same = inr (inl (ltb-true _ _ (sym same)))
+    read_some some false false is same = none_yet some none before (λ last. differ (is.1 (λ _. part_last some ∙ last)))
+      where
+        differ : false ≡ true → ⊥
+        differ e = cc
+
+  read_none : (known left : Option (List ℕ)) (ends long : Bool) → n ≡ 0 → length old ≤ 4097 → IsTrue ends ↔ IsEmptyOrEndsWith (take n bytes) 10
+      → (n < length bytes → n < 4097 - length old → 0 < n) → (length bytes ≡ 0 → OnSome known (IsAtEnd left))
+      → EndsOrGoesOn (ends || long) (old ++ take n bytes) known left
+  read_none known left true long zero room is full end = inr (by_room (cases_lt 0 (length bytes)))
+    where
+      by_room : (0 < length bytes) ⊎ (length bytes ≤ 0) → (4096 < length (old ++ take n bytes)) ⊎ OnSome known (IsAtEnd left)
+      by_room (inl some) = elim (cases_lt 0 (4097 - length old)) [
+        | inl free ↦ absurd (omega (arith, full (omega (arith, some, zero)) (omega (arith, free, zero)), zero))
+        | inr none ↦ inl (omega (arith, longer, none, zero))
+      ]
+      by_room (inr empty) = inr (end (omega arith))
+  read_none known left false long zero room is full end = absurd (differ (is.1 (λ some. absurd (omega (arith, some, length-take-le n bytes within)))))
+    where
+      differ : false ≡ true → ⊥
+      differ e = cc
+
+  pub part_read : (known left : Option (List ℕ)) (ends long : Bool) → length old ≤ 4097 → All (λ x. x ≢ 10) old → All (λ x. x ≢ 10) (take (n - 1) bytes)
+      → IsTrue ends ↔ IsEmptyOrEndsWith (take n bytes) 10 → long ≡ nat_lt 4096 (length (old ++ take n bytes))
+      → (n < length bytes → n < 4097 - length old → 0 < n) → (length bytes ≡ 0 → OnSome known (IsAtEnd left))
+      → EndsOrGoesOn (ends || long) (old ++ take n bytes) known left
+  part_read known left ends long room none before is same full end = elim (cases_lt 0 n) [
+    | inl some ↦ read_some known left none before some ends long is same
+    | inr zero ↦ read_none known left ends long (omega arith) room is full end
+  ]
+
+-- a part behind the bytes of a line
+pub read_on : (a b c : Option (List ℕ)) (old new : List ℕ) → Consumes a b old → StartsWith new old → Consumes b c (drop (length old) new) → Consumes a c new
+read_on a b c old new before starts part =
+    subst (Consumes a c) (sym (starts_with_rest new old starts)) (Consumes-trans a b c old (drop (length old) new) before part)
+
+-- where it ends, it ends for the bytes that were known before
+pub ends_on : (a b c : Option (List ℕ)) (old new : List ℕ) → Consumes a b old → Ends new b c → Ends new a c
+ends_on a b c old new before (inl lf) = inl lf
+ends_on a b c old new before (inr (inl long)) = inr (inl long)
+ends_on None b c old new before (inr (inr end)) = inr (inr tt)
+ends_on (Some x) None c old new before (inr (inr end)) = absurd before
+ends_on (Some x) (Some y) c old new before (inr (inr end)) = inr (inr end)

@@ -1,0 +1,21 @@
+use Rattle.std.proofs.Common.{◌≡◌, ◌++◌, ◌||◌, ◌∙◌, List, ℕ, Bool, true, sym, ap, subst, take, length, nat_lt, rules}
+use Rattle.std.specs.Io.KnownBytes.{IsAtEnd}
+use Rattle.std.specs.Io.BufRead.{FillKeeps}
+use Rattle.std.proofs.BufReadLemmas.{Consumes_shown}
+use Rattle.wq_recording.specs.Lines.{EndsOrGoesOn}
+use Rattle.wq_recording.proofs.LineBytes.{part_read}
+use Rattle.wq_recording.proofs.lines.append_part.Goals as goal
+
+pub returns-clause-done : goal.returns-clause-done
+returns-clause-done g c =
+    let items = c.in_ok-extend_from_slice.ensures.items in
+    let count = c.part_len-count in
+    let bytes = c.in-Ok.bytes.now in
+    let known = g.B.Read.remaining c.args.reader.now in
+    let left = g.B.Read.remaining c.consume.new.self in
+    let rested = c.fill_buf.follows.lender-at-none in
+    let filled = subst (FillKeeps _ (g.B.Read.remaining rested) (g.B.BufRead.consumable_len rested)) c.in-Ok.is c.fill_buf.follows.holds-at-none in
+    let moved = Consumes_shown _ _ _ _ bytes count.result count.ensures.bound c.in-Ok.ensures.front c.in-Ok.ensures.end filled.0 filled.1 c.consume.ensures.bytes in
+    subst (λ line. EndsOrGoesOn (c.is_end-is_end.result || nat_lt 4096 c.len-is_long.result) line known left) (sym items)
+    (part_read c.args.line.now.items bytes count.result count.ensures.bound known left c.is_end-is_end.result (nat_lt 4096 c.len-is_long.result)
+    c.requires.room c.requires.none count.ensures.before c.is_end-is_end.ensures (search rules) (search rules) moved.1)

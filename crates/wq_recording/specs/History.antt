@@ -1,0 +1,98 @@
+-- The language of histories: which events the words of a line tell.
+use Rattle.std.specs.Prelude.{ℕ, true, List, ◌∷◌, length, Option, Some, None, IfSome, Result, ◌-◌, ◌==◌, if◌then◌else◌, codes, option_map}
+use Rattle.std.specs.Option.{option_to_list}
+use Rattle.std.specs.Str.{bytes_eq}
+use Rattle.wq_words.specs.declared.event.Why.{Why}
+use Rattle.wq_words.specs.declared.event.Why.TheVariants as why
+use Rattle.wq_words.specs.declared.event.Event.{Event}
+use Rattle.wq_words.specs.declared.event.Event.TheVariants as event
+use Rattle.wq_words.specs.declared.layout.Layout.{Layout}
+use Rattle.wq_words.specs.Legal.{HasSeat, HasNumber}
+use Rattle.wq_text.specs.declared.fault.Kind.{Kind}
+use Rattle.wq_text.specs.Arguments.{item, no_word, one}
+use Rattle.wq_text.specs.Fault.{of_none, of_one, of_two}
+use Rattle.wq_text.specs.Line.{Grammar, Lines, line_gives}
+use Rattle.wq_text.specs.Turn.{number_of_queue, seat_and_number, cause_at, nth_word, without_last}
+use Rattle.wq_text.specs.Word.{other_words}
+use Rattle.wq_recording.specs.declared.entry.Entry.{Entry}
+use Rattle.wq_recording.specs.declared.history_words.Telling.{Telling}
+use Rattle.wq_recording.specs.declared.history_words.Telling.TheVariants as telling
+
+-- the events of an entry, in order
+abbrev pub events_of : Entry → List Event
+events_of e = e.first ∷ option_to_list e.second
+
+abbrev pub alone : Event → Entry
+alone e = record { first = e; second = None }
+
+abbrev pub both : Event → Event → Entry
+both e f = record { first = e; second = Some f }
+
+-- the queue has the seats and the numbers of an entry
+abbrev pub IsEventOf : Layout → Event → Type 0
+IsEventOf layout e = HasSeat layout e × HasNumber layout e
+
+abbrev pub IsOf : Layout → Entry → Type 0
+IsOf layout e = IsEventOf layout e.first × IfSome e.second (IsEventOf layout)
+
+-- what the owner's second word tells, and what a sender's does
+unfoldable pub owners_telling : List ℕ → Option Telling
+owners_telling w =
+    if bytes_eq w (codes "take") then Some telling.Take
+    else if bytes_eq w (codes "close") then Some telling.Close
+    else if bytes_eq w (codes "drain") then Some telling.Drain
+    else if bytes_eq w (codes "resume") then Some telling.Resume
+    else if bytes_eq w (codes "begin") then Some telling.Begin
+    else if bytes_eq w (codes "end") then Some telling.End
+    else if bytes_eq w (codes "chain") then Some telling.Chain
+    else if bytes_eq w (codes "busy") then Some telling.ChainBusy
+    else if bytes_eq w (codes "rest") then Some telling.Rest
+    else None
+
+-- why a number was given back: by a word of schedules, or for a drain
+unfoldable pub why_at : List ℕ → Option Why
+why_at w = if bytes_eq w (codes "draining") then Some why.Draining else cause_at w
+
+unfoldable pub senders_telling : List ℕ → List ℕ → Option Telling
+senders_telling w last =
+    if bytes_eq w (codes "hold") then Some telling.Hold
+    else if bytes_eq w (codes "busy") then Some telling.Busy
+    else if bytes_eq w (codes "push") then Some telling.Push
+    else if bytes_eq w (codes "back") then option_map telling.Back (why_at last)
+    else if bytes_eq w (codes "queue") then Some telling.Queue
+    else if bytes_eq w (codes "refused") then Some telling.Refused
+    else None
+
+-- what the first word and the others tell: of the owner behind o, of a sender behind any other word
+abbrev pub telling_at : List ℕ → List (List ℕ) → Option Telling
+telling_at w ws =
+    if length ws == 0 then None
+    else if bytes_eq w (codes "o") then owners_telling (nth_word 0 ws)
+    else senders_telling (nth_word 0 ws) (nth_word (length ws - 1) ws)
+
+-- the table of histories, by the first word and the words behind the second
+unfoldable pub entry_gives : Layout → Telling → List ℕ → List (List ℕ) → Result Entry Kind
+entry_gives l telling.Hold w ws = of_two (λ s k. alone (event.Hold s k)) (seat_and_number l w ws)
+entry_gives l telling.Busy w ws = of_two (λ s k. alone (event.Busy s k)) (seat_and_number l w ws)
+entry_gives l telling.Push w ws = of_two (λ s k. alone (event.Push s k)) (seat_and_number l w ws)
+entry_gives l (telling.Back cause) w ws = of_two (λ s k. alone (event.Back s k cause)) (seat_and_number l w (without_last ws))
+entry_gives l telling.Queue w ws = of_two (λ s k. both (event.Hold s k) (event.Push s k)) (seat_and_number l w ws)
+entry_gives l telling.Refused w ws = of_two (λ s k. both (event.Hold s k) (event.Back s k why.Closed)) (seat_and_number l w ws)
+entry_gives l telling.Take w ws = of_none (alone event.Take) (no_word ws)
+entry_gives l telling.Close w ws = of_none (alone event.Close) (no_word ws)
+entry_gives l telling.Drain w ws = of_none (alone event.Drain) (no_word ws)
+entry_gives l telling.Resume w ws = of_none (alone event.Resume) (no_word ws)
+entry_gives l telling.Begin w ws = of_one (λ k. alone (event.Begin k)) (one (number_of_queue l) ws)
+entry_gives l telling.End w ws = of_one (λ k. alone (event.End k)) (one (number_of_queue l) ws)
+entry_gives l telling.Chain w ws = of_one (λ k. alone (event.Chain k)) (one (item l) ws)
+entry_gives l telling.ChainBusy w ws = of_one (λ k. alone (event.ChainBusy k)) (one (item l) ws)
+entry_gives l telling.Rest w ws = of_none (alone event.Rest) (no_word ws)
+
+abbrev pub history_grammar : Grammar Telling Entry
+history_grammar = record {
+  version = codes "history 1";
+  names_seats = true;
+  most = record { items = 4096; senders = 64 };
+  names = telling_at;
+  asks = λ l t w ws. entry_gives l t w (other_words ws);
+}

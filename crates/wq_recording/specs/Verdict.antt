@@ -1,0 +1,121 @@
+-- What is said of a recording, of its lines and not of reading them: that all of it is legal, or where the first event stands that
+-- is not, and why, or its first faulty line.
+use Rattle.std.specs.Prelude.{◌≡◌, ◌≢◌, ℕ, ◌+◌, ◌<◌, Bool, List, [], ◌∷◌, ◌++◌, length, take, flat_map, nat_le, if◌then◌else◌}
+use Rattle.std.specs.Prelude.{Option, Some, None, Result, Ok, Err, MatchOption, option_map}
+use Rattle.wq_words.specs.declared.layout.Layout.{Layout}
+use Rattle.wq_check.specs.declared.cause.Cause.{Cause}
+use Rattle.wq_text.specs.declared.fault.Kind.{Kind}
+use Rattle.wq_text.specs.declared.fault.Kind.TheVariants as kind
+use Rattle.wq_text.specs.declared.fault.ScriptError.{ScriptError}
+use Rattle.wq_text.specs.declared.header.Stage.{Stage}
+use Rattle.wq_text.specs.declared.header.Stage.TheVariants as stage
+use Rattle.wq_text.specs.Fault.{◌>>=◌, need}
+use Rattle.wq_text.specs.Header.{layout_at}
+use Rattle.wq_text.specs.Line.{Lines}
+use Rattle.wq_text.specs.Text.{LinesLead, end_fault}
+use Rattle.wq_text.specs.Word.{parts}
+use Rattle.wq_recording.specs.declared.stop.Stop.{Stop}
+
+-- What one kind of recording has of its own: the events that a line tells, which events are legal, why one may not come after
+-- legal ones, what one is called, what is counted of them, and what they leave undone.
+pub record Rules (A E : Type 0) : Type 1 where
+  pub tells : A → List E
+  pub IsLegal : Layout → List E → Type 0
+  pub HasCause : Layout → List E → E → Cause → Type 0
+  pub word : List ℕ
+  pub counts : List E → List ℕ
+  pub left : List E → List ℕ
+
+-- a line of a recording is short, which is tested before all else
+abbrev pub is_short : List ℕ → Bool
+is_short line = nat_le (length line) 4096
+
+abbrev pub short_line : {A : Type 0} → Lines A → Lines A
+short_line gives s line = do
+  _ ← need kind.Size (is_short line)
+  gives s line
+
+-- Line n of a text, counted from 1, is this one, with these parts behind it. No line before it has a fault; they lead to a stage
+-- and ask for these in turn.
+pub record IsAt {A : Type 0} (gives : Lines A) (text : List ℕ) (n : ℕ) (s : Stage) (asked : List A) (line : List ℕ) (behind : List (List ℕ)) : Type 0 where
+  pub before : List (List ℕ)
+  pub split : parts text ≡ before ++ line ∷ behind
+  pub leads : LinesLead gives stage.Version before s asked
+  pub number : n ≡ 1 + length before
+
+-- the events that are legal, of all or of those before the stop
+pub record Verdict (E : Type 0) : Type 0 where
+  pub layout : Layout
+  pub events : List E
+  pub stop : Option Stop
+
+module _ {A E : Type 0} (gives : Lines A) (rules : Rules A E) (text : List ℕ) where
+  -- each line is whole and has no fault, with them the header is complete, and all that they tell is legal
+  pub record IsLegalText (layout : Layout) (events : List E) : Type 0 where
+    pub number : ℕ
+    pub reached : Stage
+    pub asked : List A
+    pub at : IsAt gives text number reached asked [] []
+    pub whole : layout_at reached ≡ Some layout
+    pub events_are : events ≡ flat_map rules.tells asked
+    pub legal : rules.IsLegal layout events
+
+  -- the line is whole and has no fault, and its first event that is not legal has this cause
+  pub record StopsAt (layout : Layout) (events : List E) (stop : Stop) : Type 0 where
+    pub reached : Stage
+    pub asked : List A
+    pub line : List ℕ
+    pub behind : List (List ℕ)
+    pub at : IsAt gives text stop.line reached asked line behind
+    pub ended : behind ≢ []
+    pub next : Stage
+    pub one : A
+    pub given : gives reached line ≡ Ok (next, Some one)
+    pub whole : layout_at next ≡ Some layout
+    pub first : List E
+    pub event : E
+    pub rest : List E
+    pub cut : rules.tells one ≡ first ++ event ∷ rest
+    pub events_are : events ≡ flat_map rules.tells asked ++ first
+    pub legal : rules.IsLegal layout events
+    pub caused : rules.HasCause layout events event stop.cause
+
+  -- the fault k of a line that is followed by others, or of what no LF ends
+  abbrev pub last_fault : Stage → List ℕ → Option Kind
+  last_fault s [] = end_fault s
+  last_fault s (b ∷ bs) = Some (if is_short (b ∷ bs) then kind.Cut else kind.Size)
+
+  abbrev pub HasFaultAt : Stage → List ℕ → List (List ℕ) → Kind → Type 0
+  HasFaultAt s line (next ∷ more) k = gives s line ≡ Err k
+  HasFaultAt s rest [] k = last_fault s rest ≡ Some k
+
+  -- the first faulty line and its first fault, where all that the lines before tell is legal
+  pub record IsRefusedText (e : ScriptError) : Type 0 where
+    pub reached : Stage
+    pub asked : List A
+    pub line : List ℕ
+    pub behind : List (List ℕ)
+    pub at : IsAt gives text e.line reached asked line behind
+    pub legal : (layout : Layout) → layout_at reached ≡ Some layout → rules.IsLegal layout (flat_map rules.tells asked)
+    pub fault : HasFaultAt reached line behind e.kind
+
+  -- what is said of the text
+  abbrev pub HasVerdict : Result (Verdict E) ScriptError → Type 0
+  HasVerdict (Ok v) = MatchOption v.stop (IsLegalText v.layout v.events) (StopsAt v.layout v.events)
+  HasVerdict (Err e) = IsRefusedText e
+
+-- one thing is said of a text at most
+abbrev pub HasOneVerdict : {A E : Type 0} → Lines A → Rules A E → Type 0
+HasOneVerdict {A} {E} gives rules =
+    (text : List ℕ) (v w : Result (Verdict E) ScriptError) → HasVerdict gives rules text v → HasVerdict gives rules text w → v ≡ w
+
+-- the line that decides, where the text is not legal or refused
+abbrev pub deciding_line : {E : Type 0} → Result (Verdict E) ScriptError → Option ℕ
+deciding_line (Ok v) = option_map (λ (s : Stop). s.line) v.stop
+deciding_line (Err e) = Some e.line
+
+-- where that line is whole, what stands behind it changes nothing
+abbrev pub IsDecidedByLine : {A E : Type 0} → Lines A → Rules A E → Type 0
+IsDecidedByLine {A} {E} gives rules =
+    (text other : List ℕ) (n : ℕ) (v : Result (Verdict E) ScriptError) → HasVerdict gives rules text v → deciding_line v ≡ Some n
+    → n < length (parts text) → n < length (parts other) → take n (parts other) ≡ take n (parts text) → HasVerdict gives rules other v

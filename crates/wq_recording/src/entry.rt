@@ -1,0 +1,9 @@
+//! What a line of a history tells.
+use wq_words::Event;
+
+/// The events that a line of a history tells, in order: one, or two that came together.
+#[derive(Clone, Copy, Debug, PartialEq, Eq)]
+pub struct Entry {
+    pub first: Event,
+    pub second: Option<Event>,
+}

@@ -1,0 +1,48 @@
+//! The language of histories.
+ghost use Rattle.wq_recording.specs.History.{IsOf, history_grammar};
+
+use crate::entry::Entry;
+use crate::history_words::{Telling, entry, telling_of};
+use wq_text::{Language, LineError, Most, other_words};
+use wq_words::Layout;
+
+// The lines of a history, each an entry at most.
+pub(crate) struct Entries;
+
+impl Language for Entries {
+    type Name = Telling;
+
+    type Asked = Entry;
+
+    ghost grammar = { history_grammar };
+
+    ghost fits = { IsOf };
+
+    fn is_version(line: &[u8]) -> bool {
+        line == b"history 1".as_slice()
+    }
+
+    fn names_seats() -> bool {
+        true
+    }
+
+    fn most() -> Most {
+        Most {
+            items: 4096,
+            senders: 64,
+        }
+    }
+
+    fn name(first: &str, others: &[&str]) -> Option<Telling> {
+        telling_of(first, others)
+    }
+
+    fn ask(
+        layout: Layout,
+        name: Telling,
+        first: &str,
+        others: &[&str],
+    ) -> Result<Entry, LineError> {
+        entry(layout, name, first, other_words(others))
+    }
+}

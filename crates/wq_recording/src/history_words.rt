@@ -1,0 +1,159 @@
+//! The words of a history, and the events that they tell.
+ghost use Rattle.std.specs.Prelude.{◌≡◌, map, IfOk};
+ghost use Rattle.wq_text.specs.Fault.{LineGives};
+ghost use Rattle.wq_recording.specs.History.{alone, both, IsOf, owners_telling, why_at, senders_telling, telling_at, entry_gives};
+
+use crate::entry::Entry;
+use wq_text::{
+    LineError, cause_of, item, no_word, number_of_queue, one_word, seat_and_number, without_last,
+};
+use wq_words::{Event, Layout, Why};
+
+// What a line tells, without its seat and number.
+#[derive(Clone, Copy)]
+pub(crate) enum Telling {
+    Hold,
+    Busy,
+    Push,
+    Back(Why),
+    Queue,
+    Refused,
+    Take,
+    Close,
+    Drain,
+    Resume,
+    Begin,
+    End,
+    Chain,
+    ChainBusy,
+    Rest,
+}
+
+#[tactic(auto, unfolding(crate::specs::History::owners_telling))]
+fn owners_telling(word: &str) -> Option<Telling>
+    ensures { result ≡ owners_telling word.now }
+{
+    match word {
+        "take" => Some(Telling::Take),
+        "close" => Some(Telling::Close),
+        "drain" => Some(Telling::Drain),
+        "resume" => Some(Telling::Resume),
+        "begin" => Some(Telling::Begin),
+        "end" => Some(Telling::End),
+        "chain" => Some(Telling::Chain),
+        "busy" => Some(Telling::ChainBusy),
+        "rest" => Some(Telling::Rest),
+        _ => None,
+    }
+}
+
+#[tactic(auto, unfolding(crate::specs::History::why_at))]
+fn why_of(word: &str) -> Option<Why>
+    ensures { result ≡ why_at word.now }
+{
+    match word {
+        "draining" => Some(Why::Draining),
+        _ => cause_of(word),
+    }
+}
+
+#[tactic(auto, unfolding(crate::specs::History::senders_telling))]
+fn senders_telling(word: &str, last: &str) -> Option<Telling>
+    ensures { result ≡ senders_telling word.now last.now }
+{
+    match word {
+        "hold" => Some(Telling::Hold),
+        "busy" => Some(Telling::Busy),
+        "push" => Some(Telling::Push),
+        "back" => Some(Telling::Back(why_of(last)?)),
+        "queue" => Some(Telling::Queue),
+        "refused" => Some(Telling::Refused),
+        _ => None,
+    }
+}
+
+// What the words of a line tell, of which two at least have to stand there.
+pub(crate) fn telling_of(first: &str, others: &[&str]) -> Option<Telling>
+    ensures { result ≡ telling_at first.now (map (λ w. w.now) others.now) }
+{
+    if others.is_empty() {
+        return None;
+    }
+    if first == "o" {
+        owners_telling(others[0])
+    } else {
+        senders_telling(others[0], others[others.len() - 1])
+    }
+}
+
+fn alone(event: Event) -> Entry
+    ensures { result ≡ alone event }
+{
+    Entry {
+        first: event,
+        second: None,
+    }
+}
+
+fn both(first: Event, second: Event) -> Entry
+    ensures { result ≡ both first second }
+{
+    Entry {
+        first,
+        second: Some(second),
+    }
+}
+
+// The events of a line, from its first word and the words behind the second.
+#[tactic(auto, unfolding(crate::specs::History::entry_gives))]
+pub(crate) fn entry(
+    layout: Layout,
+    telling: Telling,
+    first: &str,
+    words: &[&str],
+) -> Result<Entry, LineError>
+    ensures exact { LineGives result (entry_gives layout telling first.now (map (λ w. w.now) words.now)) }
+    ensures of { IfOk result (IsOf layout) }
+{
+    match telling {
+        Telling::Hold => seat_and_number(layout, first, words).map(|(sender, number)| alone(
+            Event::Hold(sender, number),
+        )),
+        Telling::Busy => seat_and_number(layout, first, words).map(|(sender, number)| alone(
+            Event::Busy(sender, number),
+        )),
+        Telling::Push => seat_and_number(layout, first, words).map(|(sender, number)| alone(
+            Event::Push(sender, number),
+        )),
+        Telling::Back(why) => seat_and_number(layout, first, without_last(words)).map(|(
+            sender,
+            number,
+        )| alone(Event::Back(sender, number, why))),
+        Telling::Queue => seat_and_number(layout, first, words).map(|(sender, number)| {
+            both(Event::Hold(sender, number), Event::Push(sender, number))
+        }),
+        Telling::Refused => seat_and_number(layout, first, words).map(|(sender, number)| {
+            both(
+                Event::Hold(sender, number),
+                Event::Back(sender, number, Why::Closed),
+            )
+        }),
+        Telling::Take => no_word(words).map(|()| alone(Event::Take)),
+        Telling::Close => no_word(words).map(|()| alone(Event::Close)),
+        Telling::Drain => no_word(words).map(|()| alone(Event::Drain)),
+        Telling::Resume => no_word(words).map(|()| alone(Event::Resume)),
+        Telling::Rest => no_word(words).map(|()| alone(Event::Rest)),
+        Telling::Begin => one_word(words)
+            .and_then(|word| number_of_queue(layout, word))
+            .map(|number| alone(Event::Begin(number))),
+        Telling::End => one_word(words)
+            .and_then(|word| number_of_queue(layout, word))
+            .map(|number| alone(Event::End(number))),
+        Telling::Chain => one_word(words)
+            .and_then(|word| item(layout, word))
+            .map(|number| alone(Event::Chain(number))),
+        Telling::ChainBusy => one_word(words)
+            .and_then(|word| item(layout, word))
+            .map(|number| alone(Event::ChainBusy(number))),
+    }
+}

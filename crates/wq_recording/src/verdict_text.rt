@@ -1,0 +1,120 @@
+//! How a verdict is written.
+ghost use Rattle.std.specs.Prelude.{◌≡◌, ◌++◌, ℕ, List, codes, IfOk, OnOk, string_bytes};
+ghost use Rattle.wq_check.specs.Report.{stopped};
+ghost use Rattle.wq_meaning.specs.Report.{line};
+ghost use Rattle.wq_meaning.specs.Names.{named};
+ghost use Rattle.wq_recording.specs.VerdictText.{cause_text, head_text, verdict_of, verdict_text, SaysOf};
+
+use crate::finding::Finding;
+use crate::recording::Recording;
+use crate::stop::Stop;
+use std::alloc::{AllocError, Global};
+use wq_check::Cause;
+use wq_meaning::{write_count, write_line, write_name, write_row};
+use wq_words::Layout;
+
+// Writes a word and the name of a number.
+fn write_named(layout: &Layout, word: &str, number: u32, out: &mut String) -> Result<(), AllocError>
+    ensures { OnOk result (string_bytes out.new ≡ string_bytes out.old ++ (word.now ++ named layout.now number)) }
+{
+    out.push_str(word)?;
+    write_name(layout, number, out)
+}
+
+fn write_cause(layout: &Layout, cause: Cause, out: &mut String) -> Result<(), AllocError>
+    ensures { OnOk result (string_bytes out.new ≡ string_bytes out.old ++ cause_text layout.now cause) }
+{
+    match cause {
+        Cause::Pending => out.push_str("pending"),
+        Cause::Idle => out.push_str("idle"),
+        Cause::NotHeld => out.push_str("not held"),
+        Cause::Closed => out.push_str("closed"),
+        Cause::Draining => out.push_str("draining"),
+        Cause::NotDraining => out.push_str("not draining"),
+        Cause::NeverDrained => out.push_str("never drained"),
+        Cause::Open => out.push_str("open"),
+        Cause::Runs(number) => write_named(layout, "runs", number, out),
+        Cause::NothingRuns => out.push_str("nothing runs"),
+        Cause::NotWaiting => out.push_str("not waiting"),
+        Cause::Next(number) => write_named(layout, "next", number, out),
+        Cause::NotEnded => out.push_str("not ended"),
+    }
+}
+
+// Writes the line of a cause.
+fn write_cause_line(layout: &Layout, cause: Cause, out: &mut String) -> Result<(), AllocError>
+    ensures { OnOk result (string_bytes out.new ≡ string_bytes out.old ++ line (codes "cause " ++ cause_text layout.now cause)) }
+{
+    out.push_str("cause ")?;
+    write_cause(layout, cause, out)?;
+    out.push_str("\n")
+}
+
+// Writes whether all is legal, and else the line, the number of the event behind so many, and its cause.
+fn write_head(
+    word: &str,
+    layout: &Layout,
+    told_count: u64,
+    stop: Option<Stop>,
+    out: &mut String,
+) -> Result<(), AllocError>
+    ensures { (n : ℕ) → told_count ≡ stopped n → OnOk result (string_bytes out.new ≡ string_bytes out.old ++ head_text word.now layout.now n stop) }
+{
+    match stop {
+        None => write_line("legal", out),
+        Some(stop) => {
+            write_line("not legal", out)?;
+            write_count("line", stop.line, out)?;
+            write_count(word, told_count.saturating_add(1), out)?;
+            write_cause_line(layout, stop.cause, out)
+        }
+    }
+}
+
+// The numbers that are left undone, in order.
+fn left_numbers<L: Recording>(alloc: Global, checker: &L::Checker) -> Result<Vec<u32>, AllocError>
+    ensures left { IfOk result (λ numbers. (h : List L.Event) → L.is_after checker.now h → numbers.items ≡ L.rules.left h) }
+{
+    let mut numbers = Vec::new(alloc);
+    for place in 0..L::left_count(checker) {
+        if let Some(number) = L::left_at(checker, place) {
+            numbers.push(number)?;
+        }
+    }
+    Ok(numbers)
+}
+
+// Writes what is said of the events that were told, which all are legal, and of the stop behind them.
+fn write_verdict<L: Recording>(
+    alloc: Global,
+    layout: &Layout,
+    checker: &L::Checker,
+    stop: Option<Stop>,
+    out: &mut String,
+) -> Result<(), AllocError>
+    ensures { OnOk result ((h : List L.Event) → L.is_after checker.now h
+        → string_bytes out.new ≡ string_bytes out.old ++ verdict_text L.rules (verdict_of layout.now h stop)) }
+{
+    let numbers = left_numbers::<L>(alloc, checker)?;
+    write_head(L::word(), layout, L::told_count(checker), stop, out)?;
+    L::write_counts(checker, out)?;
+    write_row(layout, "left", &numbers, out)
+}
+
+/// What is said of the events that were told, which all are legal, and of the stop behind them.
+pub(crate) fn found<L: Recording>(
+    alloc: Global,
+    layout: Layout,
+    checker: &L::Checker,
+    stop: Option<Stop>,
+) -> Result<Finding, AllocError>
+    ensures says { IfOk result (λ finding. (h : List L.Event) → L.is_after checker.now h → SaysOf L.rules (verdict_of layout h stop) finding) }
+{
+    let mut out = String::new(alloc);
+    write_verdict::<L>(alloc, &layout, checker, stop, &mut out)?;
+    Ok(Finding {
+        text: out.into_bytes(),
+        is_legal: stop.is_none(),
+        left: L::left_count(checker),
+    })
+}
