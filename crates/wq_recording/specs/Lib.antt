@@ -5,3 +5,6 @@ pub mod Parts
 pub mod Verdict
 pub mod VerdictText
 pub mod Recording
+pub mod Judging
+pub mod HistoryReport
+pub mod TraceReport

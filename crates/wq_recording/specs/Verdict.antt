@@ -11,7 +11,7 @@ use Rattle.wq_text.specs.declared.header.Stage.{Stage}
 use Rattle.wq_text.specs.declared.header.Stage.TheVariants as stage
 use Rattle.wq_text.specs.Fault.{◌>>=◌, need}
 use Rattle.wq_text.specs.Header.{layout_at}
-use Rattle.wq_text.specs.Line.{Lines}
+use Rattle.wq_text.specs.Line.{Grammar, Lines, line_gives}
 use Rattle.wq_text.specs.Text.{LinesLead, end_fault}
 use Rattle.wq_text.specs.Word.{parts}
 use Rattle.wq_recording.specs.declared.stop.Stop.{Stop}
@@ -34,6 +34,14 @@ abbrev pub short_line : {A : Type 0} → Lines A → Lines A
 short_line gives s line = do
   _ ← need kind.Size (is_short line)
   gives s line
+
+abbrev pub recording_line : {N A : Type 0} → Grammar N A → Lines A
+recording_line g = short_line (line_gives g)
+
+-- what is wrong with what no LF ends, if anything
+abbrev pub last_fault : Stage → List ℕ → Option Kind
+last_fault s [] = end_fault s
+last_fault s (b ∷ bs) = Some (if is_short (b ∷ bs) then kind.Cut else kind.Size)
 
 -- Line n of a text, counted from 1, is this one, with these parts behind it. No line before it has a fault; they lead to a stage
 -- and ask for these in turn.
@@ -81,10 +89,6 @@ module _ {A E : Type 0} (gives : Lines A) (rules : Rules A E) (text : List ℕ) 
     pub caused : rules.HasCause layout events event stop.cause
 
   -- the fault k of a line that is followed by others, or of what no LF ends
-  abbrev pub last_fault : Stage → List ℕ → Option Kind
-  last_fault s [] = end_fault s
-  last_fault s (b ∷ bs) = Some (if is_short (b ∷ bs) then kind.Cut else kind.Size)
-
   abbrev pub HasFaultAt : Stage → List ℕ → List (List ℕ) → Kind → Type 0
   HasFaultAt s line (next ∷ more) k = gives s line ≡ Err k
   HasFaultAt s rest [] k = last_fault s rest ≡ Some k

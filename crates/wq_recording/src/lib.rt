@@ -2,15 +2,20 @@
 #![tactic(auto)]
 
 mod entry;
+mod error;
 mod finding;
 mod history;
+mod history_checked;
 mod history_words;
+mod judging;
 mod lines;
 mod recording;
 mod stop;
 mod trace;
+mod trace_checked;
 mod verdict_text;
 
 pub use entry::Entry;
+pub use error::CheckError;
 pub use finding::Finding;
 pub use stop::Stop;

@@ -57,5 +57,7 @@ pub(crate) trait Recording: Language {
     fn left_at(checker: &Self::Checker, place: usize) -> Option<u32>
         ensures left { (h : List Self.Event) → is_after checker.now h → result ≡ slice_get (rules.left h) place };
 
+    ghost begins: { (layout : Layout) → rules.IsLegal layout [] };
+
     ghost legal: { (checker : Self.Checker) (h : List Self.Event) → is_after checker h → rules.IsLegal (layout_of checker) h };
 }

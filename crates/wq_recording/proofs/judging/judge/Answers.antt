@@ -1,0 +1,90 @@
+use Rattle.wq_recording.proofs.Common.{◌≡◌, ℕ, List, [], Some, Ok, Err, IfSome, sym, ap, subst, ◌∙◌, refl, line_gives, short_line, last_fault, IsRefusedText, IsMadeAt, ScriptError, Stage}
+use Rattle.std.proofs.lemmas.Result.{err_from_is_err_and}
+use Rattle.wq_text.specs.Sound.{SoundAt}
+use Rattle.wq_recording.specs.Judging.{refusal_of}
+use Rattle.wq_recording.specs.Lines.{EndsWithLf}
+use Rattle.wq_recording.proofs.Reading.{reads_start, reads_on, reads_stop, reads_fault, reads_rest, reads_all, refused_if, refused_by_line}
+use Rattle.wq_recording.proofs.judging.judge.Goals as goal
+
+pub loop-number-init : goal.loop-number-init
+loop-number-init g c =
+    let r = g.L.Recording in
+    record {
+      sound = refl;
+      made = tt;
+      reads = λ known taken got. reads_start (line_gives g.L.Language.grammar) r.rules r.layout_of r.is_after known
+          (g.B.Read.remaining c.args.reader.now) c.args.line.now.items taken got;
+    }
+
+pub returns-in_err-finding-in-Rest-clause-refused : goal.returns-in_err-finding-in-Rest-clause-refused
+returns-in_err-finding-in-Rest-clause-refused g c = λ known taken got.
+    let r = g.L.Recording in
+    let laws = g.met.L.Recording in
+    let l = c.loop-number in
+    let line = l.line.items in
+    let gives = line_gives g.L.Language.grammar in
+    let is : c.in-Rest.rest.now ≡ line = c.in-Rest.ensures.0 ∙ c.deref.ensures.value in
+    let bare = subst (λ (xs : List ℕ). ¬ EndsWithLf xs) c.deref.ensures.value c.in-Rest.ensures.1 in
+    let p = err_from_is_err_and c.from_residual.result c.from_residual.ensures.1 in
+    let Q : ScriptError → Type 0 = λ e. (e.line ≡ l.number) × (last_fault l.stage c.in-Rest.rest.now ≡ Some e.kind) in
+    rw (p.1, p.2) (refused_if known (IsRefusedText (short_line gives) r.rules) Q c.in_err-finding-in-Rest.field-0.0 c.in_err-finding-in-Rest.ensures.refused
+    (λ e fault. reads_rest gives r.rules r.layout_of r.is_after known l.number l.stage l.checker line (g.B.Read.remaining l.reader)
+    laws.begins laws.legal l.invariant.made (l.invariant.reads known taken got) e bare fault.0
+    (subst (λ (xs : List ℕ). last_fault l.stage xs ≡ Some e.kind) is fault.1)))
+
+pub returns-in-Rest-clause-found : goal.returns-in-Rest-clause-found
+returns-in-Rest-clause-found g c = λ known taken got.
+    let r = g.L.Recording in
+    let laws = g.met.L.Recording in
+    let l = c.loop-number in
+    let bare = subst (λ (xs : List ℕ). ¬ EndsWithLf xs) c.deref.ensures.value c.in-Rest.ensures.1 in
+    let is : c.in-Rest.rest.now ≡ l.line.items = c.in-Rest.ensures.0 ∙ c.deref.ensures.value in
+    let done = c.in_ok-finding-in-Rest.ensures in
+    reads_all (line_gives g.L.Language.grammar) r.rules r.layout_of r.is_after known l.number l.stage l.checker l.line.items (g.B.Read.remaining l.reader)
+    laws.begins laws.legal l.invariant.made (l.invariant.reads known taken got) done.found.0 c.in_ok-finding-in-Rest.finding bare (sym is ∙ done.whole)
+    done.found.1 done.found.2
+
+pub returns-in-Err-clause-refused : goal.returns-in-Err-clause-refused
+returns-in-Err-clause-refused g c = λ known taken got.
+    let r = g.L.Recording in
+    let laws = g.met.L.Recording in
+    let l = c.loop-number in
+    let gives = line_gives g.L.Language.grammar in
+    let whole = sym c.deref.ensures.value ∙ c.in-Line.ensures in
+    let line = c.in-Line.text.now in
+    let Q : ScriptError → Type 0 = λ e. (e.line ≡ l.number) × (gives l.stage line ≡ Err e.kind) in
+    rw (c.refusal.ensures) (refused_if known (IsRefusedText (short_line gives) r.rules) Q (refusal_of l.number c.in-Err.error)
+    (refused_by_line l.number c.in-Err.error (gives l.stage line) Q c.in-Err.ensures.fault (λ x here is. (here, is)))
+    (λ e fault. reads_fault gives r.rules r.layout_of r.is_after known l.number l.stage l.checker l.line.items (g.B.Read.remaining l.reader)
+    laws.begins laws.legal l.invariant.made (l.invariant.reads known taken got) line e whole fault.0 fault.1))
+
+pub returns-in-Stop-clause-found : goal.returns-in-Stop-clause-found
+returns-in-Stop-clause-found g c = λ known taken got.
+    let r = g.L.Recording in
+    let l = c.loop-number in
+    let whole = sym c.deref.ensures.value ∙ c.in-Line.ensures in
+    let told = rw (c.in-Stop.is) at c.in-Ok.ensures.told in
+    let comes = told.4 in
+    let given = told.2 ∙ ap (λ one. Ok (told.0, one)) comes.2.1 in
+    reads_stop (line_gives g.L.Language.grammar) r.rules r.layout_of r.is_after known l.number l.stage l.checker l.line.items (g.B.Read.remaining l.reader)
+    told.0 comes.2.0 _ c.in-Stop.layout c.in-Stop.told c.in_ok-finding-in-Stop.finding c.in-Line.text.now whole given refl comes.0 comes.1 comes.2.2
+    g.met.L.Recording.legal c.in_ok-finding-in-Stop.ensures.says (l.invariant.reads known taken got)
+
+pub loop-number-preserved : goal.loop-number-preserved
+loop-number-preserved g c =
+    let r = g.L.Recording in
+    let l = c.loop-number in
+    let whole = sym c.deref.ensures.value ∙ c.in-Line.ensures in
+    let told = rw (c.in-On.is) at c.in-Ok.ensures.told in
+    let comes = told.4 in
+    let next = c.in-On.next in
+    let given = told.2 ∙ ap (λ (s : Stage). Ok (s, told.1)) (sym comes.0) in
+    let language = g.L.Language in
+    record {
+      sound = subst (λ (s : Stage). SoundAt language.grammar.most.senders language.fits s []) (sym comes.0) told.3;
+      made = subst (λ (s : Stage). IsMadeAt r.layout_of s c.in-On.new) (sym comes.0) comes.1;
+      reads = λ known taken got. reads_on (line_gives language.grammar) r.rules r.layout_of r.is_after known l.number l.stage l.checker
+          l.line.items (g.B.Read.remaining l.reader) next told.1 c.in-On.new c.in-Line.text.now c.next_line.new.line.items
+          (g.B.Read.remaining c.next_line.new.reader) whole given comes.2 c.in_ok-next_line.ensures.bytes c.in_ok-next_line.ensures.line
+          (l.invariant.reads known taken got);
+    }

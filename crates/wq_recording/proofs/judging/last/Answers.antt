@@ -1,0 +1,15 @@
+use Rattle.wq_recording.proofs.Common.{sym, subst, Layout}
+use Rattle.wq_recording.proofs.judging.last.Goals as goal
+
+pub returns-clause-found : goal.returns-clause-found
+returns-clause-found g c =
+    let layout = c.in_ok-layout.layout in
+    let checker = c.in_ok-checker.checker in
+    let legal = g.met.L.Recording.legal in (
+      layout,
+      c.in_ok-layout.ensures.whole,
+      λ h told.
+          let after = c.in_ok-checker.ensures.told h told in
+          let P : Layout → Type 0 = λ l. g.L.Recording.rules.IsLegal l h in
+          (subst P c.in_ok-checker.ensures.layout (legal checker h after), c.in_ok-finding.ensures.says h after),
+    )

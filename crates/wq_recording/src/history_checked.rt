@@ -1,0 +1,117 @@
+//! Histories as recordings.
+ghost use Rattle.std.specs.Prelude.{◌≡◌, ◌++◌, ◌∷◌, [], List, OnOk, IfErr, string_bytes};
+ghost use Rattle.wq_words.specs.declared.event.Event.{Event as What};
+ghost use Rattle.wq_check.specs.Causes.{HasEventError};
+ghost use Rattle.wq_check.specs.Checked.{IsAfter};
+ghost use Rattle.wq_check.specs.declared.cause.EventError.TheVariants.{NotAllowed};
+ghost use Rattle.wq_recording.specs.History.{IsEventOf};
+ghost use Rattle.wq_recording.specs.HistoryReport.{executed_lines, waiting_lines, history_counts};
+
+use crate::entry::Entry;
+use crate::history::Entries;
+use crate::recording::Recording;
+use std::alloc::{AllocError, Global};
+use wq_check::{Cause, Checker, EventError, Report};
+use wq_meaning::{either, write_count, write_line};
+use wq_words::{Event, Layout};
+
+// Tells one event.
+fn tell_event(checker: &mut Checker, event: Event) -> Result<(), Cause>
+    requires { IsEventOf checker.old.queue.layout event }
+    ensures layout { checker.new.queue.layout ≡ checker.old.queue.layout }
+    ensures told { OnOk result ((h : List What) → IsAfter checker.old h → IsAfter checker.new (h ++ event ∷ [])) }
+    ensures refused { IfErr result (λ cause. (h : List What) → IsAfter checker.old h
+        → HasEventError checker.old.queue.layout h event (NotAllowed cause)) }
+    ensures unchanged { IfErr result (λ _. checker.new ≡ checker.old) }
+{
+    let _ = checker.told();
+    match checker.event(event) {
+        Ok(()) => Ok(()),
+        Err(EventError::NotAllowed(cause)) => Err(cause),
+        Err(EventError::NoSeat | EventError::NoItem) => unreachable!(),
+    }
+}
+
+// Writes how many events and executions there were.
+fn write_executed(report: Report, out: &mut String) -> Result<(), AllocError>
+    ensures { OnOk result (string_bytes out.new ≡ string_bytes out.old ++ executed_lines report) }
+{
+    write_count("events", report.counts.events, out)?;
+    write_count("accepted", report.counts.accepted, out)?;
+    write_count("chained", report.counts.chained, out)?;
+    write_count("executed", report.counts.executed, out)?;
+    Ok(())
+}
+
+// Writes how many queueings did nothing, and how many numbers wait.
+fn write_waiting(report: Report, out: &mut String) -> Result<(), AllocError>
+    ensures { OnOk result (string_bytes out.new ≡ string_bytes out.old ++ waiting_lines report) }
+{
+    write_count("busy", report.counts.busy, out)?;
+    write_count("refused", report.counts.refused, out)?;
+    write_count("waiting", report.left as u64, out)?;
+    write_count("most waiting", report.counts.most_waiting as u64, out)?;
+    Ok(())
+}
+
+// Writes what is said of a history as a whole.
+fn write_report(report: Report, out: &mut String) -> Result<(), AllocError>
+    ensures { OnOk result (string_bytes out.new ≡ string_bytes out.old ++ history_counts report) }
+{
+    write_executed(report, out)?;
+    write_waiting(report, out)?;
+    write_line(either(report.closed, "closed yes", "closed no"), out)?;
+    write_line(either(report.complete, "complete yes", "complete no"), out)
+}
+
+impl Recording for Entries {
+    type Event = Event;
+
+    type Checker = Checker;
+
+    ghost use Rattle.wq_words.specs.declared.event.Event.{Event};
+    ghost use Rattle.wq_check.specs.Checked.{IsAfter};
+    ghost use Rattle.wq_recording.specs.HistoryReport.{history_rules, history_begins};
+
+    ghost rules = { history_rules };
+
+    ghost layout_of = { λ c. c.queue.layout };
+
+    ghost is_after = { IsAfter };
+
+    fn checker(alloc: Global, layout: Layout) -> Result<Checker, AllocError> {
+        Checker::new(alloc, layout)
+    }
+
+    fn tell(checker: &mut Checker, entry: Entry) -> Result<(), Cause> {
+        tell_event(checker, entry.first)?;
+        if let Some(second) = entry.second {
+            tell_event(checker, second)?;
+        }
+        Ok(())
+    }
+
+    fn word() -> &'static str {
+        "event"
+    }
+
+    fn write_counts(checker: &Checker, out: &mut String) -> Result<(), AllocError> {
+        write_report(checker.report(), out)
+    }
+
+    fn told_count(checker: &Checker) -> u64 {
+        checker.report().counts.events
+    }
+
+    fn left_count(checker: &Checker) -> usize {
+        checker.report().left
+    }
+
+    fn left_at(checker: &Checker, place: usize) -> Option<u32> {
+        checker.left_at(place)
+    }
+
+    ghost begins = { history_begins };
+
+    ghost legal = { λ c h after. after.stands.legal };
+}

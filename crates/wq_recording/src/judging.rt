@@ -1,0 +1,182 @@
+//! From the lines of a recording to what is said of it.
+ghost use Rattle.std.specs.Prelude.{◌≡◌, [], ℕ, List, Option, None, Some, Ok, IfOk, IfErr, IfSome};
+ghost use Rattle.std.specs.Io.KnownBytes.{Consumes};
+ghost use Rattle.wq_text.specs.declared.fault.ParseError.TheVariants.{Refused};
+ghost use Rattle.wq_text.specs.declared.header.Stage.{Stage as Awaited};
+ghost use Rattle.wq_text.specs.declared.header.Stage.TheVariants.{Commands};
+ghost use Rattle.wq_text.specs.Fault.{LineFailsAs, IfRefused};
+ghost use Rattle.wq_text.specs.Header.{layout_at};
+ghost use Rattle.wq_text.specs.Line.{line_gives};
+ghost use Rattle.wq_text.specs.Sound.{SoundAt};
+ghost use Rattle.wq_words.specs.declared.layout.Layout.{Layout as Numbers};
+ghost use Rattle.wq_recording.specs.Lines.{IsLineRead};
+ghost use Rattle.wq_recording.specs.Judging.{HasTold, IsMadeAt, ComesTo, IfTextRefused, refusal_of};
+ghost use Rattle.wq_recording.specs.Verdict.{recording_line, last_fault, IsRefusedText};
+ghost use Rattle.wq_recording.specs.VerdictText.{verdict_of, SaysOf, Finds};
+
+use crate::error::CheckError;
+use crate::finding::Finding;
+use crate::lines::{MOST_BYTES, Part, next_line, part_of};
+use crate::recording::Recording;
+use crate::stop::Stop;
+use crate::verdict_text::found;
+use std::alloc::{AllocError, Global};
+use std::io;
+use std::io::{BufRead, ErrorKind};
+use wq_check::Cause;
+use wq_text::{Kind, LineError, ParseError, ScriptError, Stage, layout_at_end, read_line};
+use wq_words::Layout;
+
+// What a line without a fault comes to.
+#[derive(Drop)]
+pub(crate) enum Told<C: Drop> {
+    // The stage and the checker behind it.
+    On(Stage, Option<C>),
+    // Its first event that is not legal has this cause; the checker was told those before.
+    Stop(Layout, C, Cause),
+}
+
+// The checker of a recording, which is made where there is none yet.
+fn made<L: Recording>(
+    alloc: Global,
+    checker: Option<L::Checker>,
+    layout: Layout,
+) -> Result<L::Checker, AllocError>
+    requires { IfSome checker (λ c. L.layout_of c ≡ layout) }
+    ensures layout { IfOk result (λ c. L.layout_of c ≡ layout) }
+    ensures told { IfOk result (λ c. (h : List L.Event) → HasTold L.is_after checker h → L.is_after c h) }
+{
+    match checker {
+        Some(checker) => Ok(checker),
+        None => L::checker(alloc, layout),
+    }
+}
+
+// Tells what a line asks for, behind which the stage is `next`.
+fn tell<L: Recording>(
+    alloc: Global,
+    next: Stage,
+    checker: Option<L::Checker>,
+    asked: Option<L::Asked>,
+) -> Result<Told<L::Checker>, AllocError>
+    requires made { IsMadeAt L.layout_of next checker }
+    requires fits { IfSome asked (λ a. (layout : Numbers) × (next ≡ Commands layout) × L.fits layout a) }
+    ensures { IfOk result (ComesTo L.rules L.layout_of L.is_after next checker asked) }
+{
+    match (next, asked) {
+        (Stage::Commands(layout), Some(asked)) => {
+            let mut checker = made::<L>(alloc, checker, layout)?;
+            match L::tell(&mut checker, asked) {
+                Ok(()) => Ok(Told::On(next, Some(checker))),
+                Err(cause) => Ok(Told::Stop(layout, checker, cause)),
+            }
+        }
+        _ => Ok(Told::On(next, checker)),
+    }
+}
+
+// What a line comes to.
+fn tell_line<L: Recording>(
+    alloc: Global,
+    stage: Stage,
+    checker: Option<L::Checker>,
+    line: &[u8],
+) -> Result<Told<L::Checker>, LineError>
+    requires sound { SoundAt L.grammar.most.senders L.fits stage [] }
+    requires made { IsMadeAt L.layout_of stage checker }
+    ensures told { IfOk result (λ told. (next : Awaited) × (one : Option L.Asked) × (line_gives L.grammar stage line.now ≡ Ok (next, one))
+        × SoundAt L.grammar.most.senders L.fits next [] × ComesTo L.rules L.layout_of L.is_after next checker one told) }
+    ensures fault { IfErr result (λ e. LineFailsAs e (line_gives L.grammar stage line.now)) }
+{
+    let (next, asked) = read_line::<L>(alloc, stage, line)?;
+    let told = tell::<L>(alloc, next, checker, asked)?;
+    Ok(told)
+}
+
+fn refused(line: u64, kind: Kind) -> ParseError
+    ensures { result ≡ Refused (record { line = line; kind = kind }) }
+{
+    ParseError::Refused(ScriptError { line, kind })
+}
+
+// Why line `number` could not be read.
+fn refusal(line: u64, error: LineError) -> ParseError
+    ensures { result ≡ refusal_of line error }
+{
+    match error {
+        LineError::Memory => ParseError::Memory,
+        LineError::Fault(kind) => refused(line, kind),
+    }
+}
+
+// What is said where no LF comes behind the line before line `number`.
+fn last<L: Recording>(
+    alloc: Global,
+    number: u64,
+    stage: Stage,
+    checker: Option<L::Checker>,
+    rest: &[u8],
+) -> Result<Finding, ParseError>
+    requires { IsMadeAt L.layout_of stage checker }
+    ensures whole { IfOk result (λ _. rest.now ≡ []) }
+    ensures found { IfOk result (λ finding. (layout : Numbers) × (layout_at stage ≡ Some layout) × ((h : List L.Event) → HasTold L.is_after checker h
+        → L.rules.IsLegal layout h × SaysOf L.rules (verdict_of layout h None) finding)) }
+    ensures refused { IfRefused result (λ e. (e.line ≡ number) × (last_fault stage rest.now ≡ Some e.kind)) }
+{
+    if rest.len() > MOST_BYTES {
+        return Err(refused(number, Kind::Size));
+    }
+    if !rest.is_empty() {
+        return Err(refused(number, Kind::Cut));
+    }
+    let layout = layout_at_end(number, stage)?;
+    let checker = made::<L>(alloc, checker, layout)?;
+    let finding = found::<L>(alloc, layout, &checker, None)?;
+    Ok(finding)
+}
+
+/// What is said of a recording of which this line was read.
+pub(crate) fn judge<L: Recording, B: BufRead>(
+    alloc: Global,
+    reader: &mut B,
+    line: &mut Vec<u8>,
+) -> Result<Finding, CheckError>
+    ensures found { (known : Option (List ℕ)) → Consumes known (B.remaining reader.old) line.old.items
+        → IsLineRead line.old.items known (B.remaining reader.old)
+        → IfOk result (λ finding. IfSome known (λ text. Finds (recording_line L.grammar) L.rules text finding)) }
+    ensures refused { (known : Option (List ℕ)) → Consumes known (B.remaining reader.old) line.old.items
+        → IsLineRead line.old.items known (B.remaining reader.old)
+        → IfErr result (λ error. IfSome known (λ text. IfTextRefused error (IsRefusedText (recording_line L.grammar) L.rules text))) }
+{
+    let mut stage = Stage::Version;
+    let mut checker: Option<L::Checker> = None;
+    for number in 1..u64::MAX {
+        let text = match part_of(line) {
+            Part::Line(text) => text,
+            Part::Rest(rest) => {
+                let finding = last::<L>(alloc, number, stage, checker, rest)?;
+                return Ok(finding);
+            }
+        };
+        let told = match tell_line::<L>(alloc, stage, checker, text) {
+            Ok(told) => told,
+            Err(error) => return Err(CheckError::Text(refusal(number, error))),
+        };
+        match told {
+            Told::On(next, new) => {
+                stage = next;
+                checker = new;
+            }
+            Told::Stop(layout, told, cause) => {
+                let stop = Stop {
+                    line: number,
+                    cause,
+                };
+                let finding = found::<L>(alloc, layout, &told, Some(stop))?;
+                return Ok(finding);
+            }
+        }
+        next_line(reader, line)?;
+    }
+    Err(CheckError::Read(io::Error::from(ErrorKind::TimedOut)))
+}

@@ -1,0 +1,75 @@
+//! Traces as recordings.
+ghost use Rattle.std.specs.Prelude.{◌≡◌, ◌++◌, OnOk, string_bytes};
+ghost use Rattle.wq_recording.specs.TraceReport.{trace_counts};
+
+use crate::recording::Recording;
+use crate::trace::Marks;
+use std::alloc::{AllocError, Global};
+use wq_check::{Cause, Mark, MarkError, TraceChecker, TraceReport};
+use wq_meaning::write_count;
+use wq_words::Layout;
+
+// Writes what is counted of a trace, a line each.
+fn write_report(report: TraceReport, out: &mut String) -> Result<(), AllocError>
+    ensures { OnOk result (string_bytes out.new ≡ string_bytes out.old ++ trace_counts report) }
+{
+    write_count("marks", report.counts.marks, out)?;
+    write_count("queued", report.counts.queued, out)?;
+    write_count("started", report.counts.started, out)?;
+    write_count("ended", report.counts.ended, out)?;
+    write_count("waiting", report.left as u64, out)?;
+    write_count("most waiting", report.counts.most_waiting as u64, out)?;
+    Ok(())
+}
+
+impl Recording for Marks {
+    type Event = Mark;
+
+    type Checker = TraceChecker;
+
+    ghost use Rattle.wq_check.specs.TraceChecked.{IsAfterMarks};
+    ghost use Rattle.wq_recording.specs.TraceReport.{trace_rules, trace_begins};
+
+    ghost rules = { trace_rules };
+
+    ghost layout_of = { λ c. c.queue.layout };
+
+    ghost is_after = { IsAfterMarks };
+
+    fn checker(alloc: Global, layout: Layout) -> Result<TraceChecker, AllocError> {
+        TraceChecker::new(alloc, layout)
+    }
+
+    fn tell(checker: &mut TraceChecker, mark: Mark) -> Result<(), Cause> {
+        let _ = checker.told();
+        match checker.mark(mark) {
+            Ok(()) => Ok(()),
+            Err(MarkError::NotAllowed(cause)) => Err(cause),
+            Err(MarkError::NoItem) => unreachable!(),
+        }
+    }
+
+    fn word() -> &'static str {
+        "mark"
+    }
+
+    fn write_counts(checker: &TraceChecker, out: &mut String) -> Result<(), AllocError> {
+        write_report(checker.report(), out)
+    }
+
+    fn told_count(checker: &TraceChecker) -> u64 {
+        checker.report().counts.marks
+    }
+
+    fn left_count(checker: &TraceChecker) -> usize {
+        checker.report().left
+    }
+
+    fn left_at(checker: &TraceChecker, place: usize) -> Option<u32> {
+        checker.left_at(place)
+    }
+
+    ghost begins = { trace_begins };
+
+    ghost legal = { λ c t after. after.looks.legal };
+}
