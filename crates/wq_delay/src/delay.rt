@@ -99,6 +99,14 @@ impl Delay {
         self.table.len()
     }
 
+    /// Whether an item is on the table.
+    pub fn has(&self, item: u32) -> bool
+        requires { item < self.now.sender.layout.items }
+        ensures on { result ≡ on_table item self.now.table.entries }
+    {
+        self.table.has(item)
+    }
+
     /// How many slots of the wheel the last answered advance looked at: one for each tick, or each slot once where that is fewer.
     pub fn looked(&self) -> u32
         ensures count { result ≡ self.now.looked }
