@@ -1,7 +1,8 @@
 -- Who alone made events.
 use Rattle.wq_script.proofs.Common.{◌≡◌, ℕ, ◌<◌, ◌≤◌, ◌⊎◌, Bool, true, false, cond, not, List, [], ◌∷◌, ◌++◌, length, inl, inr, refl, sym, ap, ◌∙◌, subst}
 use Rattle.wq_script.proofs.Common.{arith, append_assoc, eq-eqb, filter, AllByRecursion, append-nil, filter-append, IsPrefix, Layout, Event, Hold, Busy, Push}
-use Rattle.wq_script.proofs.Common.{Back, Take, Close, Begin, End, Chain, ChainBusy, Rest, IsLegal, HasSeat, legal_next, legal_front, seat_of, owner_seat, own}
+use Rattle.wq_script.proofs.Common.{Back, Take, Close, Drain, Resume, Begin, End, Chain, ChainBusy, Rest, IsLegal, HasSeat, legal_next, legal_front, seat_of}
+use Rattle.wq_script.proofs.Common.{owner_seat, own}
 use Rattle.wq_script.proofs.Common.{nothing_more, left_nil, right_nil, own-append, own_rest}
 
 -- a seat's number: a sender's, or the owner's
@@ -15,6 +16,8 @@ seat_held layout (Push s k) has = inl has
 seat_held layout (Back s k why) has = inl has
 seat_held layout Take has = inr refl
 seat_held layout Close has = inr refl
+seat_held layout Drain has = inr refl
+seat_held layout Resume has = inr refl
 seat_held layout (Begin k) has = inr refl
 seat_held layout (End k) has = inr refl
 seat_held layout (Chain k) has = inr refl

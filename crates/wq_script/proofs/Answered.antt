@@ -1,14 +1,15 @@
 -- What is counted of a queueing, and of the calls of the delay table.
 use Rattle.wq_script.proofs.Common.{◌≡◌, ◌≢◌, ℕ, ◌+◌, Bool, true, false, ◌&&◌, ◌||◌, ◌==◌, List, [], ◌∷◌, ◌++◌, length, map, refl, sym, subst, arith}
-use Rattle.wq_script.proofs.Common.{if◌then◌else◌, count_by, AllByRecursion, Event, Hold, Busy, Push, Back, pending, closed, first, is_push, owner_seat}
-use Rattle.wq_script.proofs.Common.{seat_of, is_busy, is_refusal, Layout, Answer, wakes, armed_of, modified_of, DelayTable, on_table, is_too_far, queue_events}
-use Rattle.wq_script.proofs.Common.{queue_answer, queues_now, arm_events, arm_answer, cancel_events, modify_events, modify_answer, due_items, advance_events}
+use Rattle.wq_script.proofs.Common.{if◌then◌else◌, count_by, AllByRecursion, Event, Hold, Busy, Push, Back, pending, closed, is_push, owner_seat}
+use Rattle.wq_script.proofs.Common.{seat_of, is_busy, is_refusal, Layout, armed_of, modified_of, DelayTable, on_table, is_too_far, queue_events}
+use Rattle.wq_script.proofs.Common.{queue_answer, queues_now, arm_events, arm_answer, cancel_events, modify_events, modify_answer, posted_items, advance_events}
+use Rattle.wq_script.proofs.Common.{not, shut, draining, post_events, post_answer}
 use Rattle.wq_script.proofs.Common.{count_by-append, Tally, Tallied, counted, counted_armed, counted_push, counted_modified, counted_posts}
 use Rattle.wq_words.specs.declared.event.Why.TheVariants as why
-use Rattle.wq_words.specs.declared.answer.Answer.TheVariants as answer
 use Rattle.wq_words.specs.declared.answer.Armed.TheVariants as armed
 use Rattle.wq_words.specs.declared.answer.Modified.TheVariants as modified
 use Rattle.wq_script.proofs.Tallies.{Foreign, all_foreign, tallied_on}
+use Rattle.wq_script.proofs.Queueings.{queue_says, queue_adds}
 
 -- the delay table's sender is another seat
 module _ (layout : Layout) where
@@ -34,6 +35,9 @@ module _ (w s k : ℕ) (h : List Event) (t : Tally) (other : s ≢ w) (no_owner 
   refused_counts : Counts (record t { refused = t.refused + 1 }) (Hold s k ∷ Back s k why.Closed ∷ [])
   refused_counts = by_sender (record t { refused = t.refused + 1 }) (Hold s k ∷ Back s k why.Closed ∷ []) (refl, (refl, tt)) (omega arith) (omega arith) refl
 
+  drained_counts : Counts (record t { refused = t.refused + 1 }) (Hold s k ∷ Back s k why.Draining ∷ [])
+  drained_counts = by_sender (record t { refused = t.refused + 1 }) (Hold s k ∷ Back s k why.Draining ∷ []) (refl, (refl, tt)) (omega arith) (omega arith) refl
+
   queued_counts : Counts (record t { queued = t.queued + 1 }) (Hold s k ∷ Push s k ∷ [])
   queued_counts = by_sender (record t { queued = t.queued + 1 }) (Hold s k ∷ Push s k ∷ []) (refl, (refl, tt)) refl (omega arith) (omega arith)
 
@@ -55,31 +59,27 @@ module _ (w s k : ℕ) (h : List Event) (t : Tally) (other : s ≢ w) (no_owner 
       each true = by_sender t (Back s k why.Cancelled ∷ []) (refl, tt) (omega arith) (omega arith) (omega arith)
       each false = no_counts
 
-  -- a queueing by the tests on which it rests
-  abbrev answers : (set back : Bool) → Answer
-  answers set back = if set then answer.Pending else (if back then answer.Closed else answer.Queued (first h) (wakes h))
-
-  abbrev adds : (set back : Bool) → List Event
-  adds set back = if set then Busy s k ∷ [] else (if back then Hold s k ∷ Back s k why.Closed ∷ [] else Hold s k ∷ Push s k ∷ [])
-
   pub queue_counts : Counts (counted (queue_answer k h) t) (queue_events s k h)
-  queue_counts = each (pending h k) (closed h)
+  queue_counts = each (pending h k) (closed h) (draining h)
     where
-      each : (set back : Bool) → Counts (counted (answers set back) t) (adds set back)
-      each true back = busy_counts
-      each false true = refused_counts
-      each false false = queued_counts
+      each : (set back drains : Bool) → Counts (counted (queue_says h set back drains) t) (queue_adds s k set back drains)
+      each true back drains = busy_counts
+      each false true drains = refused_counts
+      each false false true = drained_counts
+      each false false false = queued_counts
 
   pub arm_counts : (delay : ℕ) (table : DelayTable) → Counts (counted_armed (arm_answer k delay h table) t) (arm_events s k delay h table)
-  arm_counts delay table = each (is_too_far delay table) (queues_now k delay h) (pending h k) (closed h)
+  arm_counts delay table = each (is_too_far delay table) (queues_now k delay h) (pending h k) (closed h) (draining h)
     where
-      each : (far now set back : Bool) → Counts (counted_armed (if far then armed.TooFar else (if now then armed_of (answers set back) else armed.OnTable)) t)
-          (if far then [] else (if now then adds set back else Hold s k ∷ []))
-      each true now set back = no_counts
-      each false true true back = busy_counts
-      each false true false true = refused_counts
-      each false true false false = queued_counts
-      each false false set back = held_counts
+      each : (far now set back drains : Bool)
+          → Counts (counted_armed (if far then armed.TooFar else (if now then armed_of (queue_says h set back drains) else armed.OnTable)) t)
+          (if far then [] else (if now then queue_adds s k set back drains else Hold s k ∷ []))
+      each true now set back drains = no_counts
+      each false true true back drains = busy_counts
+      each false true false true drains = refused_counts
+      each false true false false true = drained_counts
+      each false true false false false = queued_counts
+      each false false set back drains = held_counts
 
   -- a push is counted where there is no delay
   module _ (delay : ℕ) where
@@ -90,37 +90,40 @@ module _ (w s k : ℕ) (h : List Event) (t : Tally) (other : s ≢ w) (no_owner 
     later es is c = subst (λ (b : Bool). Counts (if b then record t { queued = t.queued + 1 } else t) es) (sym is) c
 
     -- a modification of an item on the table, and of another, by the tests on which it rests
-    on_counts : (zero back : Bool) → (delay == 0) ≡ zero
-        → Counts (counted_modified delay (if zero && back then modified.Closed else modified.Moved) t)
-        (if zero then (if back then Back s k why.Closed else Push s k) ∷ [] else [])
-    on_counts true true is = post_counts true
-    on_counts true false is = at_once (Push s k ∷ []) is (post_counts false)
-    on_counts false back is = later [] is no_counts
+    on_counts : (zero back shuts : Bool) → (delay == 0) ≡ zero
+        → Counts (counted_modified delay true (if zero then (if back then modified.Closed
+        else if shuts && not back then modified.Draining else modified.Moved) else modified.Moved) t)
+        (if zero then (if shuts && not back then [] else (if back then Back s k why.Closed else Push s k) ∷ []) else [])
+    on_counts true true true is = post_counts true
+    on_counts true true false is = post_counts true
+    on_counts true false true is = no_counts
+    on_counts true false false is = at_once (Push s k ∷ []) is (post_counts false)
+    on_counts false back shuts is = later [] is no_counts
 
-    off_counts : (far zero set back : Bool) → (delay == 0) ≡ zero
-        → Counts (counted_modified delay (modified_of (if far then armed.TooFar else (if zero || set then armed_of (answers set back) else armed.OnTable))) t)
-        (if far then [] else (if zero || set then adds set back else Hold s k ∷ []))
-    off_counts true zero set back is = no_counts
-    off_counts false true true back is = busy_counts
-    off_counts false true false true is = refused_counts
-    off_counts false true false false is = at_once (Hold s k ∷ Push s k ∷ []) is queued_counts
-    off_counts false false true back is = busy_counts
-    off_counts false false false back is = later (Hold s k ∷ []) is held_counts
+    off_counts : (far zero set back drains : Bool) → (delay == 0) ≡ zero
+        → Counts (counted_modified delay false (modified_of (if far then armed.TooFar
+        else (if zero || set then armed_of (queue_says h set back drains) else armed.OnTable))) t)
+        (if far then [] else (if zero || set then queue_adds s k set back drains else Hold s k ∷ []))
+    off_counts true zero set back drains is = no_counts
+    off_counts false true true back drains is = busy_counts
+    off_counts false true false true drains is = refused_counts
+    off_counts false true false false true is = drained_counts
+    off_counts false true false false false is = at_once (Hold s k ∷ Push s k ∷ []) is queued_counts
+    off_counts false false true back drains is = busy_counts
+    off_counts false false false back drains is = later (Hold s k ∷ []) is held_counts
 
-    pub modify_counts : (table : DelayTable) → Counts (counted_modified delay (modify_answer k delay h table) t) (modify_events s k delay h table)
+    pub modify_counts : (table : DelayTable)
+        → Counts (counted_modified delay (on_table k table.entries) (modify_answer k delay h table) t) (modify_events s k delay h table)
     modify_counts table =
-        each (is_too_far delay table) (on_table k table.entries) (on_counts (delay == 0) (closed h) refl)
-        (off_counts (is_too_far delay table) (delay == 0) (pending h k) (closed h) refl)
+        each (is_too_far delay table) (on_table k table.entries) (on_counts (delay == 0) (closed h) (shut h) refl)
+        (off_counts (is_too_far delay table) (delay == 0) (pending h k) (closed h) (draining h) refl)
       where
         each : (far on : Bool)
-            → Counts (counted_modified delay (if (delay == 0) && closed h then modified.Closed else modified.Moved) t)
-            (if delay == 0 then (if closed h then Back s k why.Closed else Push s k) ∷ [] else [])
-            → Counts (counted_modified delay (modified_of (arm_answer k delay h table)) t) (arm_events s k delay h table)
-            → Counts (counted_modified delay (if far then modified.TooFar else
-            (if on then (if (delay == 0) && closed h then modified.Closed else modified.Moved)
-            else modified_of (arm_answer k delay h table))) t)
-            (if far then [] else (if on then (if delay == 0 then
-            (if closed h then Back s k why.Closed else Push s k) ∷ [] else []) else arm_events s k delay h table))
+            → Counts (counted_modified delay true (if delay == 0 then post_answer h else modified.Moved) t) (if delay == 0 then post_events s k h else [])
+            → Counts (counted_modified delay false (modified_of (arm_answer k delay h table)) t) (arm_events s k delay h table)
+            → Counts (counted_modified delay on (if far then modified.TooFar else
+            (if on then (if delay == 0 then post_answer h else modified.Moved) else modified_of (arm_answer k delay h table))) t)
+            (if far then [] else (if on then (if delay == 0 then post_events s k h else []) else arm_events s k delay h table))
         each true on moved anew = no_counts
         each false true moved anew = moved
         each false false moved anew = anew
@@ -157,8 +160,9 @@ posts_refused s (k ∷ ks) = let r = posts_refused s ks in let es : List Event =
 }
 
 pub advance_counts : (w s tick : ℕ) (h : List Event) (t : Tally) (table : DelayTable) → s ≢ w → s ≢ owner_seat → Tallied t w h
-    → Tallied (counted_posts (closed h) (length (due_items tick table)) t) w (h ++ advance_events s tick h table) × Foreign w (advance_events s tick h table)
-advance_counts w s tick h t table other no_owner told = each (closed h) (due_items tick table)
+    → Tallied (counted_posts (closed h) (length (posted_items tick h table)) t) w (h ++ advance_events s tick h table)
+    × Foreign w (advance_events s tick h table)
+advance_counts w s tick h t table other no_owner told = each (closed h) (posted_items tick h table)
   where
     each : (b : Bool) (ks : List ℕ) → Tallied (counted_posts b (length ks) t) w (h ++ map (λ k. if b then Back s k why.Closed else Push s k) ks)
         × Foreign w (map (λ k. if b then Back s k why.Closed else Push s k) ks)

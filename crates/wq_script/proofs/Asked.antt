@@ -2,24 +2,28 @@
 use Rattle.wq_script.proofs.Common.{◌≡◌, ℕ, ◌<◌, Bool, true, false, List, [], ◌∷◌, ◌++◌, Some, None, nat_lt, length, get_or, set, refl, sym, ap, ◌∙◌, subst}
 use Rattle.wq_script.proofs.Common.{arith, append_assoc, if◌then◌else◌, append-nil, get_or-set_same, Layout, Event, Hold, Busy, Push, Back, Close, pending}
 use Rattle.wq_script.proofs.Common.{closed, first, fresh, owner_seat, wakes, closed_count, Answer, Known, Sees, Answers, IsPushed, TakesAll, WorkerState, Moves}
-use Rattle.wq_script.proofs.Common.{queue_events, queue_answer, close_events, close_answer, Lists, Seats, Gathers, Seated, Asks, Goes}
+use Rattle.wq_script.proofs.Common.{shut, HasMetDrain, draining, queue_events, queue_answer, close_events, close_answer, Lists, Seats, Gathers, Seated, Asks}
+use Rattle.wq_script.proofs.Common.{Goes}
 use Rattle.wq_words.specs.declared.event.Why.TheVariants as why
 use Rattle.wq_words.proofs.Rest.{wakes_quiet}
 use Rattle.wq_words.specs.declared.answer.Answer.TheVariants as answer
 use Rattle.wq_script.proofs.Seated.{Acts, with_sender, sender_acts, worker_acts}
-use Rattle.wq_script.proofs.Queueings.{busy_events, push_events, refused_events, last_own, first_held}
+use Rattle.wq_script.proofs.Queueings.{busy_events, push_events, refused_events, drained_events, queue_says, not_closed, not_draining, last_own}
+use Rattle.wq_script.proofs.Queueings.{first_held}
 
 -- the answer of a queueing by the tests on which it rests
-answer_pending : (h : List Event) (k : ℕ) → pending h k ≡ true → queue_answer k h ≡ answer.Pending
-answer_pending h k set = ap (λ (b : Bool). if b then answer.Pending else (if closed h then answer.Closed else answer.Queued (first h) (wakes h))) set
+module _ (h : List Event) (k : ℕ) where
+  answer_pending : pending h k ≡ true → queue_answer k h ≡ answer.Pending
+  answer_pending set = ap (λ (b : Bool). queue_says h b (closed h) (draining h)) set
 
-answer_closed : (h : List Event) (k : ℕ) → pending h k ≡ false → closed h ≡ true → queue_answer k h ≡ answer.Closed
-answer_closed h k clear is = ap (λ (b : Bool). if b then answer.Pending else (if closed h then answer.Closed else answer.Queued (first h) (wakes h))) clear
-    ∙ ap (λ (b : Bool). if b then answer.Closed else answer.Queued (first h) (wakes h)) is
+  answer_closed : pending h k ≡ false → closed h ≡ true → queue_answer k h ≡ answer.Closed
+  answer_closed clear is = λ i. queue_says h (clear i) (is i) (draining h)
 
-answer_queued : (h : List Event) (k : ℕ) → pending h k ≡ false → closed h ≡ false → queue_answer k h ≡ answer.Queued (first h) (wakes h)
-answer_queued h k clear is_open = ap (λ (b : Bool). if b then answer.Pending else (if closed h then answer.Closed else answer.Queued (first h) (wakes h))) clear
-    ∙ ap (λ (b : Bool). if b then answer.Closed else answer.Queued (first h) (wakes h)) is_open
+  answer_draining : pending h k ≡ false → closed h ≡ false → draining h ≡ true → queue_answer k h ≡ answer.Draining
+  answer_draining clear off is = λ i. queue_says h (clear i) (off i) (is i)
+
+  answer_queued : pending h k ≡ false → shut h ≡ false → queue_answer k h ≡ answer.Queued (first h) (wakes h)
+  answer_queued clear is_open = λ i. queue_says h (clear i) (not_closed h is_open i) (not_draining h is_open i)
 
 -- what was pushed last was the first on the list, and woke the queue, where it would have before the hold
 pushed_first : (h : List Event) (p k : ℕ) (f w : Bool) (z : List Event) → z ≡ h ++ Hold p k ∷ Push p k ∷ [] → IsPushed p k f w z
@@ -59,6 +63,16 @@ module _ (layout : Layout) (t : Seats) (h : List Event) (p k : ℕ) (x z : Known
       let e = refused_events a.seated.wide h p k a.seated.legal in (
         sym (answer_closed h k e.0 e.1),
         subst (λ (ys : List Event). Seated layout t (h ++ ys)) e.2 a.seated,
+      )
+  asked answer.Draining number told =
+      let xs : List Event = Hold p k ∷ Back p k why.Draining ∷ [] in
+      let sees : Sees xs 0 x z = subst (λ (m : ℕ). Sees (Hold m k ∷ Back m k why.Draining ∷ []) 0 x z) number told.0 in
+      let a : Acts layout t h x.seen z.seen xs 0 = acts xs 0 sees in
+      let met : HasMetDrain h (h ++ xs) = subst (λ (v : List Event). HasMetDrain v (h ++ xs)) a.alone
+      (subst (λ (w : List Event). HasMetDrain x.seen w) a.is told.1) in
+      let e = drained_events a.seated.wide h p k a.seated.legal met in (
+        sym (answer_draining h k e.0 e.1 e.2),
+        subst (λ (ys : List Event). Seated layout t (h ++ ys)) e.3 a.seated,
       )
   asked answer.Contended number told =
       let a = acts (Hold x.number k ∷ Back x.number k why.Contended ∷ []) 1 told in

@@ -78,6 +78,10 @@ module _ (layout : Layout) (s t : Seats) (h : List Event) (g : Seated layout s h
         let n = near armed.Closed far (λ e. cc) in
         let b = asked layout t h p k s.delay.sender d.sender acts queueing.Closed g.delay.number_is told.1.seen in
         queued_so armed.Closed n (now_at_once k delay h told.0) b.1 told.1.table_is (ap armed_of b.0)
+    armed_so armed.Draining far room told =
+        let n = near armed.Draining far (λ e. cc) in
+        let b = asked layout t h p k s.delay.sender d.sender acts queueing.Draining g.delay.number_is (told.1.seen, told.2) in
+        queued_so armed.Draining n (now_at_once k delay h told.0) b.1 told.1.table_is (ap armed_of b.0)
     armed_so armed.OnTable far room told =
         let n = near armed.OnTable far (λ e. cc) in
         let a = seated_by (λ m. Hold m k ∷ []) 0 told.1.seen in

@@ -1,18 +1,22 @@
 -- An execution of a worker where no other seat steps is that of a script.
-use Rattle.wq_script.proofs.Common.{◌≡◌, ℕ, suc, ◌+◌, ◌-◌, ◌<◌, ◌≤◌, Bool, true, false, not, ◌&&◌, ◌||◌, ◌==◌, List, [], ◌∷◌, ◌++◌, Option, Some, None, length}
-use Rattle.wq_script.proofs.Common.{take, fold, inl, inr, refl, sym, ap, ◌∙◌, subst, arith, append_assoc, nat_lt, nat_le, if◌then◌else◌, count_by, All, filter}
+use Rattle.wq_script.proofs.Common.{◌≡◌, ℕ, suc, ◌-◌, ◌<◌, ◌≤◌, Bool, true, false, not, ◌&&◌, ◌||◌, ◌==◌, List, [], ◌∷◌, ◌++◌, Option, Some, None, length}
+use Rattle.wq_script.proofs.Common.{take, fold, inl, inr, refl, sym, ap, ◌∙◌, subst, arith, append_assoc, nat_le, if◌then◌else◌, All, filter}
 use Rattle.wq_script.proofs.Common.{slice_get, before_last, append-nil, append_cancel_left, length-drop, length-take, filter-append, slice_get_within}
 use Rattle.wq_script.proofs.Common.{slice_get_cases, slice_get_past, le-leb, lt-leb, false≢true, IsPrefix, ArrayVec, Layout, Event, Hold, Busy, Push, Back}
-use Rattle.wq_script.proofs.Common.{Take, Close, Begin, End, Chain, ChainBusy, Rest, accepted, begun, next, taken, shut, is_close, is_push, fresh, IsLegal}
+use Rattle.wq_script.proofs.Common.{Take, Close, Drain, Resume, Begin, End, Chain, ChainBusy, Rest, accepted, begun, next, taken, shut, is_cut, own_same}
+use Rattle.wq_script.proofs.Common.{IsLegal}
 use Rattle.wq_script.proofs.Common.{legal_next, legal_front, owner_seat, seat_of, own, is_ours, left_nil, own-append, own_one, own_rest, begun_same}
-use Rattle.wq_script.proofs.Common.{closed_count, batch, next_of, Adds, taking, taking_of, NothingWaits, at_take, at_all, Queues, Follows, passed, pushed, busy}
-use Rattle.wq_script.proofs.Common.{refused, chained, chain_busy, queue_events, chain_events, follow_of, take_events, follow_events, after_follow, after_run}
-use Rattle.wq_script.proofs.Common.{after_execution, accepted-append, begun-append, count_by-append, accepted-count, pushes-split, fresh-more, Quiet, is_take}
-use Rattle.wq_words.specs.declared.event.Why.TheVariants as why
-use Rattle.wq_words.proofs.Listed.{fresh_push_take}
+use Rattle.wq_script.proofs.Common.{drop, length-append, batch, next_of, Adds, taking, taking_of, NothingWaits, at_take, at_all, Queues, Follows, passed}
+use Rattle.wq_script.proofs.Common.{pushed, busy}
+use Rattle.wq_script.proofs.Common.{chained, chain_busy, queue_events, chain_events, follow_of, take_events, follow_events, after_follow, after_run}
+use Rattle.wq_script.proofs.Common.{after_execution, accepted-append, begun-append, Quiet}
+use Rattle.std.proofs.lemmas.List.{take-append-drop}
+use Rattle.wq_words.proofs.Lasts.{before_last_push_yes, before_last_push_no}
+use Rattle.wq_words.proofs.Listed.{taken_open}
+use Rattle.wq_words.proofs.ShutOwn.{shut_same}
 use Rattle.wq_script.proofs.Alone.{all_ours}
-use Rattle.wq_script.proofs.Queueings.{busy_events, push_events, refused_events, not_pending, is_pending, closed_on, last_own}
-use Rattle.wq_words.proofs.Closed.{closed_from_open as not_closed}
+use Rattle.wq_script.proofs.Queueings.{busy_events, push_events, not_pending, is_pending, last_own}
+use Rattle.wq_words.proofs.Closed.{shut_from_open, open_from_shut, shut_quiet}
 
 -- what the worker added, where it was quiet
 pub exact : (wide : Layout) (n : ℕ) (h v z xs : List Event) (m : ℕ) → Quiet wide n h z → Adds n xs m h v → IsPrefix v z
@@ -36,12 +40,21 @@ next_taken true h = λ i. slice_get ((accepted-append h (Take ∷ []) ∙ append
     (length ((begun-append h (Take ∷ []) ∙ append-nil (begun h)) i))
 next_taken false h = ap next (append-nil h)
 
+-- what begins a history accepted no more
+accepted_few : (n : ℕ) (h : List Event) → length (accepted (take n h)) ≤ length (accepted h)
+accepted_few n h = omega (
+  arith,
+  ap (λ (x : List Event). length (accepted x)) (take-append-drop n h),
+  ap length (accepted-append (take n h) (drop n h)),
+  length-append (accepted (take n h)) (accepted (drop n h)),
+)
+
 taken_few : (h : List Event) → taken h ≤ length (accepted h)
 taken_few h = each (shut h)
   where
-    each : (b : Bool) → (if b then length (accepted h) else count_by is_push (before_last is_take h)) ≤ length (accepted h)
+    each : (b : Bool) → length (accepted (if b then h else before_last is_cut h)) ≤ length (accepted h)
     each true = omega arith
-    each false = omega (arith, pushes-split h, accepted-count h)
+    each false = accepted_few _ h
 
 batch_length : (h : List Event) → length (batch h) ≡ taken h - length (begun h)
 batch_length h = length-drop (length (begun h)) (take (taken h) (accepted h)) ∙ omega (arith, length-take (taken h) (accepted h), taken_few h)
@@ -84,11 +97,9 @@ module _ (wide : Layout) (n : ℕ) where
   shut_events : (k : ℕ) (g : List Event) → shut g ≡ true → chain_events k g ≡ follow_events n k g
   shut_events k g is = sym (ap (λ (b : Bool). if b then chain_events k g else queue_events n k g) is)
 
-  still : (g : List Event) (e : Event) → is_close e ≡ false → shut (g ++ e ∷ []) ≡ shut g
-  still g e keeps = ap (λ (m : ℕ). nat_lt 0 m) (closed_on g e keeps)
-
-  still_two : (g : List Event) (d e : Event) → is_close d ≡ false → is_close e ≡ false → shut (g ++ d ∷ e ∷ []) ≡ shut g
-  still_two g d e one two = ap shut (sym (append_assoc g (d ∷ []) (e ∷ []))) ∙ (still (g ++ d ∷ []) e two ∙ still g d one)
+  held_pushed : (g : List Event) (k : ℕ) → shut (g ++ Hold n k ∷ Push n k ∷ []) ≡ shut g
+  held_pushed g k = ap shut (sym (append_assoc g (Hold n k ∷ []) (Push n k ∷ [])))
+      ∙ (shut_quiet (g ++ Hold n k ∷ []) (Push n k) refl refl refl ∙ shut_quiet g (Hold n k) refl refl refl)
 
   -- the queueing of one follow item
   followed : (c : Bool) (k : ℕ) (g fs : List Event) → k < wide.items → shut g ≡ c → IsLegal wide (g ++ fs) → Queues wide.items n c k fs
@@ -97,21 +108,18 @@ module _ (wide : Layout) (n : ℕ) where
   followed c k g fs lt is legal (pushed less so es) =
       let l : IsLegal wide (g ++ Hold n k ∷ Push n k ∷ []) = subst (λ (x : List Event). IsLegal wide (g ++ x)) es legal in (
         es ∙ ((push_events wide g n k l).2 ∙ open_events k g (is ∙ so)),
-        ap (λ (x : List Event). shut (g ++ x)) es
-            ∙ (still_two g (Hold n k) (Push n k) refl refl ∙ is),
+        ap (λ (x : List Event). shut (g ++ x)) es ∙ (held_pushed g k ∙ is),
       )
   followed c k g fs lt is legal (busy less so es) =
       let l : IsLegal wide (g ++ Busy n k ∷ []) = subst (λ (x : List Event). IsLegal wide (g ++ x)) es legal in
-      (es ∙ ((busy_events wide g n k l).1 ∙ open_events k g (is ∙ so)), ap (λ (x : List Event). shut (g ++ x)) es ∙ (still g (Busy n k) refl ∙ is))
-  followed c k g fs lt is legal (refused less so es) =
-      let l : IsLegal wide (g ++ Hold n k ∷ Back n k why.Closed ∷ []) = subst (λ (x : List Event). IsLegal wide (g ++ x)) es legal in
-      absurd (false≢true (sym (is ∙ so) ∙ (refused_events wide g n k l).1))
+      let still : shut (g ++ Busy n k ∷ []) ≡ shut g = shut_quiet g (Busy n k) refl refl refl in
+      (es ∙ ((busy_events wide g n k l).1 ∙ open_events k g (is ∙ so)), ap (λ (x : List Event). shut (g ++ x)) es ∙ (still ∙ is))
   followed c k g fs lt is legal (chained less so es) =
       let l : IsLegal wide (g ++ Chain k ∷ []) = subst (λ (x : List Event). IsLegal wide (g ++ x)) es legal in
-      (es ∙ (chain_new k g l ∙ shut_events k g (is ∙ so)), ap (λ (x : List Event). shut (g ++ x)) es ∙ (still g (Chain k) refl ∙ is))
+      (es ∙ (chain_new k g l ∙ shut_events k g (is ∙ so)), ap (λ (x : List Event). shut (g ++ x)) es ∙ (shut_quiet g (Chain k) refl refl refl ∙ is))
   followed c k g fs lt is legal (chain_busy less so es) =
       let l : IsLegal wide (g ++ ChainBusy k ∷ []) = subst (λ (x : List Event). IsLegal wide (g ++ x)) es legal in
-      (es ∙ (chain_again k g l ∙ shut_events k g (is ∙ so)), ap (λ (x : List Event). shut (g ++ x)) es ∙ (still g (ChainBusy k) refl ∙ is))
+      (es ∙ (chain_again k g l ∙ shut_events k g (is ∙ so)), ap (λ (x : List Event). shut (g ++ x)) es ∙ (shut_quiet g (ChainBusy k) refl refl refl ∙ is))
 
   -- the queueings of a list of items
   pub followed_all : (c : Bool) (ks : List ℕ) (g es : List Event) → All (λ j. j < wide.items) ks → shut g ≡ c → IsLegal wide (g ++ es)
@@ -144,7 +152,7 @@ module _ (wide : Layout) (n : ℕ) where
       let begun_then : IsLegal wide ((h ++ taking h) ++ Begin k ∷ (fs ++ End k ∷ [])) =
       subst (λ (x : List Event). IsLegal wide x) (append_assoc g fs (End k ∷ []) ∙ append_assoc (h ++ taking h) (Begin k ∷ []) (fs ++ End k ∷ [])) l in
       let is : Some k ≡ next h = begins_next h k (fs ++ End k ∷ []) begun_then in
-      let is_shut : shut g ≡ shut h = still (h ++ taking h) (Begin k) refl ∙ shut_taking h in
+      let is_shut : shut g ≡ shut h = shut_quiet (h ++ taking h) (Begin k) refl refl refl ∙ shut_taking h in
       let all : g ++ fs ≡ fold (after_follow n) g f = followed_all (shut h) f g fs fit is_shut (legal_front wide (g ++ fs) (End k ∷ []) l) told in
       let start : g ≡ (h ++ take_events h) ++ Begin k ∷ [] = ap (λ (x : List Event). (h ++ x) ++ Begin k ∷ []) (taking_is h) in (
         is,
@@ -156,35 +164,36 @@ module _ (wide : Layout) (n : ℕ) where
       shut_taking h = ap (λ (x : List Event). shut (h ++ x)) (taking_is h) ∙ each (nat_le (taken h) (length (begun h)) && not (shut h))
         where
           each : (b : Bool) → shut (h ++ (if b then Take ∷ [] else [])) ≡ shut h
-          each true = still h Take refl
+          each true = shut_quiet h Take refl refl refl
           each false = ap shut (append-nil h)
 
-is_take_own : (e : Event) → is_take e ≡ true → seat_of e ≡ owner_seat
-is_take_own Take is = refl
-is_take_own (Hold s k) is = absurd (false≢true is)
-is_take_own (Busy s k) is = absurd (false≢true is)
-is_take_own (Push s k) is = absurd (false≢true is)
-is_take_own (Back s k w) is = absurd (false≢true is)
-is_take_own Close is = absurd (false≢true is)
-is_take_own (Begin k) is = absurd (false≢true is)
-is_take_own (End k) is = absurd (false≢true is)
-is_take_own (Chain k) is = absurd (false≢true is)
-is_take_own (ChainBusy k) is = absurd (false≢true is)
-is_take_own Rest is = absurd (false≢true is)
+is_cut_own : (e : Event) → is_cut e ≡ true → seat_of e ≡ owner_seat
+is_cut_own Take is = refl
+is_cut_own Drain is = refl
+is_cut_own Resume is = refl
+is_cut_own (Hold s k) is = absurd (false≢true is)
+is_cut_own (Busy s k) is = absurd (false≢true is)
+is_cut_own (Push s k) is = absurd (false≢true is)
+is_cut_own (Back s k w) is = absurd (false≢true is)
+is_cut_own Close is = absurd (false≢true is)
+is_cut_own (Begin k) is = absurd (false≢true is)
+is_cut_own (End k) is = absurd (false≢true is)
+is_cut_own (Chain k) is = absurd (false≢true is)
+is_cut_own (ChainBusy k) is = absurd (false≢true is)
+is_cut_own Rest is = absurd (false≢true is)
 
--- events of which none is the owner's push what they push
-fresh_on : (g es : List Event) → own owner_seat es ≡ [] → fresh (g ++ es) ≡ fresh g + count_by is_push es
-fresh_on g [] none = ap fresh (append-nil g) ∙ omega arith
-fresh_on g (e ∷ es) none =
-    let stays : is_take e ≡ false = each (is_take e) refl in
-    let rest = fresh_on (g ++ e ∷ []) es (own_rest owner_seat e es none) in
-    ap fresh (sym (append_assoc g (e ∷ []) es)) ∙ (rest ∙ omega (arith, fresh-more g e stays, count_by-append is_push (e ∷ []) es))
+-- events of which none is the owner's cut nothing
+cut_stays : (g before es : List Event) → before_last is_cut g ≡ before → own owner_seat es ≡ [] → before_last is_cut (g ++ es) ≡ before
+cut_stays g before [] is none = ap (before_last is_cut) (append-nil g) ∙ is
+cut_stays g before (e ∷ es) is none =
+    let rest = cut_stays (g ++ e ∷ []) before es (before_last_push_no is_cut g e (each (is_cut e) refl) ∙ is) (own_rest owner_seat e es none) in
+    ap (before_last is_cut) (sym (append_assoc g (e ∷ []) es)) ∙ rest
   where
-    each : (b : Bool) → is_take e ≡ b → b ≡ false
-    each true is = let mine =
-        own_one owner_seat e (is_take_own e is) in absurd
+    each : (b : Bool) → is_cut e ≡ b → b ≡ false
+    each true cuts = let mine =
+        own_one owner_seat e (is_cut_own e cuts) in absurd
         (cc (left_nil (own owner_seat (e ∷ [])) (own owner_seat es) (sym (own-append owner_seat (e ∷ []) es) ∙ none)))
-    each false is = refl
+    each false cuts = refl
 
 none_next : (h : List Event) → next h ≡ None → length (accepted h) ≤ length (begun h)
 none_next h none = elim (slice_get_cases (accepted h) (length (begun h))).1 [
@@ -197,28 +206,25 @@ module _ (wide : Layout) where
   nothing_left : (h before after : List Event) → h ≡ before ++ Take ∷ after → own owner_seat after ≡ [] → next before ≡ None → shut h ≡ false
       → next_of h ≡ None
   nothing_left h before after is none past is_open =
-      let two : before ++ Take ∷ after ≡ (before ++ Take ∷ []) ++ after = sym (append_assoc before (Take ∷ []) after) in
-      let newer : fresh h ≡ 0 + count_by is_push after = ap fresh (is ∙ two)
-      ∙ (fresh_on (before ++ Take ∷ []) after none ∙ ap (λ (m : ℕ). m + count_by is_push after) (fresh_push_take before)) in
-      let all : count_by is_push h ≡ count_by is_push before + count_by is_push after =
-      ap (count_by is_push) is ∙ (count_by-append is_push before (Take ∷ after) ∙ omega (arith, count_by-append is_push (Take ∷ []) after)) in
-      let open_taken : taken h ≡ count_by is_push (before_last is_take h) =
-      ap (λ (b : Bool). if b then length (accepted h) else count_by is_push (before_last is_take h)) is_open in
+      let whole : h ≡ (before ++ Take ∷ []) ++ after = is ∙ sym (append_assoc before (Take ∷ []) after) in
+      let last : before_last is_cut h ≡ before = ap (before_last is_cut) whole
+      ∙ cut_stays (before ++ Take ∷ []) before after (before_last_push_yes is_cut before Take refl) none in
+      let all : taken h ≡ length (accepted before) = taken_open h is_open ∙ ap (λ (x : List Event). length (accepted x)) last in
       let first_begun : length (begun h) ≡ length (begun before) =
       ap (λ (x : List ℕ). length x) (ap begun is
       ∙ (begun-append before (Take ∷ after) ∙ (ap (λ (x : List ℕ). begun before ++ x) (begun_same [] after none) ∙ append-nil (begun before)))) in
-      let few : length (batch h) ≡ 0 =
-      omega (arith, batch_length h, open_taken, pushes-split h, newer, all, accepted-count before, none_next before past, first_begun) in
+      let few : length (batch h) ≡ 0 = omega (arith, batch_length h, all, none_next before past, first_begun) in
       slice_get_past (batch h) 0 (omega (arith, few))
 
   -- no Take comes while the queue is shut
   never_taken : (h before after : List Event) → IsLegal wide h → h ≡ before ++ Take ∷ after → own owner_seat after ≡ [] → shut h ≡ false
   never_taken h before after legal is none =
       let allowed = legal_next wide before Take after (subst (λ (x : List Event). IsLegal wide x) is legal) in
-      let rest : count_by is_close after ≡ 0 = closed_count [] after none in
-      let same : count_by is_close h ≡ count_by is_close before = ap (count_by is_close) is
-      ∙ (count_by-append is_close before (Take ∷ after) ∙ omega (arith, count_by-append is_close (Take ∷ []) after, rest)) in
-      not_closed h (λ is_shut. allowed.2 (omega (arith, is_shut, same)))
+      let taken_then : List Event = before ++ Take ∷ [] in
+      let opens : shut taken_then ≡ false = shut_quiet before Take refl refl refl ∙ shut_from_open before allowed.2 in
+      let same : own owner_seat h ≡ own owner_seat taken_then =
+      ap (own owner_seat) (is ∙ sym (append_assoc before (Take ∷ []) after)) ∙ own_same owner_seat taken_then after none in
+      shut_from_open h (λ is_shut. open_from_shut taken_then opens (shut_same h taken_then (sym same) is_shut))
 
   -- the worker answers that nothing waits only where nothing is next
   pub nothing_next : (h z : List Event) → IsLegal wide z → z ≡ h ++ taking h → NothingWaits z → None ≡ next h

@@ -1,25 +1,43 @@
 -- Cancellings, modifications and advances of a delay table, and what they are in a script.
-use Rattle.wq_script.proofs.Common.{◌≡◌, ℕ, ◌+◌, Bool, true, false, List, [], ◌∷◌, ◌++◌, map, inl, inr, refl, sym, ap, ◌∙◌, subst, arith, append_assoc}
-use Rattle.wq_script.proofs.Common.{if◌then◌else◌, MatchBool, IsTrue, ◌↔◌, AllZip, append-nil, Layout, Event, Push, Back, closed, IsLegal, legal_next, Armed}
-use Rattle.wq_script.proofs.Common.{Modified, modified_of, Entry, items, on_table, due_part, is_too_far, table_without, table_at, DelayState, IsFit, IsOut}
-use Rattle.wq_script.proofs.Common.{lost_tries, Arms, Cancels, Rearms, ArmsAnew, Modifies, PostsDue, post_event, cancel_events, modify_events, modify_table}
-use Rattle.wq_script.proofs.Common.{modify_answer, due_items, advance_events, Seats, Gathers, Seated, GoesWithTable}
+use Rattle.wq_script.proofs.Common.{◌≡◌, ℕ, ◌+◌, Bool, true, false, cond, ◌==◌, List, [], ◌∷◌, ◌++◌, length, map, take, inl, inr, refl, sym, ap, ◌∙◌, subst}
+use Rattle.wq_script.proofs.Common.{arith}
+use Rattle.wq_script.proofs.Common.{append_assoc, count_by, false≢true, if◌then◌else◌, MatchBool, IsTrue, ◌↔◌, AllZip, append-nil, Layout, Event, Push, Back}
+use Rattle.wq_script.proofs.Common.{closed, shut, is_push, IsLegal, legal_next, owner_seat, seat_of, own, count_by-append, Armed, Modified, modified_of}
+use Rattle.wq_script.proofs.Common.{DelayTable, Entry, items, on_table, due_part, is_too_far, table_without, table_at, HasMetDrain, DelayState, IsFit, IsOut}
+use Rattle.wq_script.proofs.Common.{is_back, Arms, Cancels, Rearms, ArmsAnew, Modifies, PostsDue, draining, post_event, post_events, post_table, post_answer}
+use Rattle.wq_script.proofs.Common.{cancel_events, modify_events, modify_table, modify_answer, posted_items, advance_events, advance_table, Seats, Gathers}
+use Rattle.wq_script.proofs.Common.{Seated, GoesWithTable}
+use Rattle.std.proofs.Math.Seq.{take-append_seam}
+use Rattle.std.proofs.lemmas.List.{length-map, map-append}
 use Rattle.wq_words.specs.declared.event.Why.TheVariants as why
-use Rattle.wq_words.proofs.Closed.{closed_from_IsClosed, closed_from_open, closed_push_no}
+use Rattle.wq_words.proofs.Closed.{closed_from_IsClosed, closed_push_no, shut_from_open}
 use Rattle.wq_words.specs.declared.answer.Armed.TheVariants as armed
 use Rattle.wq_words.specs.declared.answer.Modified.TheVariants as modified
 use Rattle.wq_words.proofs.DelayTable.{without_off}
-use Rattle.wq_meaning.proofs.Armings.{closed_or_moved, modify_far, modify_off, modify_now, modify_again}
+use Rattle.wq_meaning.proofs.Armings.{modify_far, modify_off, modify_now, modify_again}
+use Rattle.wq_script.proofs.Seated.{Acts}
+use Rattle.wq_script.proofs.Queueings.{not_closed, not_draining, closed_not_draining, does_drain, no_owner, met_drain}
 use Rattle.wq_script.proofs.Delayed.{acts, seated_by, goes_with, goes_nowhere, armed_so, near_is, goes_as}
 
-module _ (wide : Layout) (s k : ℕ) (h : List Event) where
-  pushed_open : (es : List Event) → IsLegal wide (h ++ Push s k ∷ es) → (closed h ≡ false) × (Push s k ≡ post_event s h k)
-  pushed_open es legal = let is_open : closed h ≡ false = closed_from_open h (legal_next wide h (Push s k) es legal).2.1 in
-      (is_open, sym (ap (λ (b : Bool). if b then Back s k why.Closed else Push s k) is_open))
+-- what a post of an item on the table adds, leaves on the table and answers, by the tests on which it rests
+abbrev post_adds : ℕ → ℕ → (back drains : Bool) → List Event
+post_adds s k back drains = if drains then [] else (if back then Back s k why.Closed else Push s k) ∷ []
 
-  back_closed : (es : List Event) → IsLegal wide (h ++ Back s k why.Closed ∷ es) → (closed h ≡ true) × (Back s k why.Closed ≡ post_event s h k)
-  back_closed es legal = let is_closed : closed h ≡ true = closed_from_IsClosed h ((legal_next wide h (Back s k why.Closed) es legal).2.1 refl) in
-      (is_closed, sym (ap (λ (b : Bool). if b then Back s k why.Closed else Push s k) is_closed))
+abbrev post_leaves : ℕ → DelayTable → (drains : Bool) → DelayTable
+post_leaves k t drains = if drains then t else table_without k t
+
+abbrev post_says : (back drains : Bool) → Modified
+post_says back drains =
+    if back then modified.Closed
+    else if drains then modified.Draining
+    else modified.Moved
+
+module _ (wide : Layout) (s k : ℕ) (h : List Event) where
+  pushed_open : (es : List Event) → IsLegal wide (h ++ Push s k ∷ es) → shut h ≡ false
+  pushed_open es legal = shut_from_open h (legal_next wide h (Push s k) es legal).2.1
+
+  back_closed : (es : List Event) → IsLegal wide (h ++ Back s k why.Closed ∷ es) → closed h ≡ true
+  back_closed es legal = closed_from_IsClosed h (legal_next wide h (Back s k why.Closed) es legal).2.1
 
 -- the event by which an item leaves the table, where the queue is closed or is not
 abbrev post_of : ℕ → Bool → ℕ → Event
@@ -34,26 +52,64 @@ posted_all wide p b (e ∷ gone) [] g out is legal = absurd out
 posted_all wide p b (e ∷ gone) (x ∷ es) g out is legal = elim out.0 [
   | inl push ↦
       let so = pushed_open wide p e.item g es (subst (λ (y : Event). IsLegal wide (g ++ y ∷ es)) push legal) in
-      let one : x ≡ post_of p b e.item = push ∙ (so.1 ∙ ap (λ (c : Bool). post_of p c e.item) is) in
+      let one : x ≡ post_of p b e.item = push ∙ ap (λ (c : Bool). post_of p c e.item) (sym (not_closed g so) ∙ is) in
       let keeps : closed (g ++ x ∷ []) ≡ b = ap (λ (y : Event). closed (g ++ y ∷ [])) push ∙ (closed_push_no g (Push p e.item) refl ∙ is) in
       let rest = posted_all wide p b gone es (g ++ x ∷ []) out.1 keeps (subst (λ (y : List Event). IsLegal wide y) (sym (append_assoc g (x ∷ []) es)) legal) in
       λ i. one i ∷ rest i
   | inr back ↦
       let so = back_closed wide p e.item g es (subst (λ (y : Event). IsLegal wide (g ++ y ∷ es)) back legal) in
-      let one : x ≡ post_of p b e.item = back ∙ (so.1 ∙ ap (λ (c : Bool). post_of p c e.item) is) in
+      let one : x ≡ post_of p b e.item = back ∙ ap (λ (c : Bool). post_of p c e.item) (sym so ∙ is) in
       let keeps : closed (g ++ x ∷ []) ≡ b = ap (λ (y : Event). closed (g ++ y ∷ [])) back ∙ (closed_push_no g (Back p e.item why.Closed) refl ∙ is) in
       let rest = posted_all wide p b gone es (g ++ x ∷ []) out.1 keeps (subst (λ (y : List Event). IsLegal wide y) (sym (append_assoc g (x ∷ []) es)) legal) in
       λ i. one i ∷ rest i
 ]
 
-none_lost : (left : List Entry) → lost_tries left 1 ≡ 0 → left ≡ []
-none_lost [] is = refl
-none_lost (e ∷ es) is = absurd (omega (arith, is))
+-- an item that goes out shows that the queue does not drain
+none_out : (wide : Layout) (p : ℕ) (gone : List Entry) (es h : List Event) → AllZip (IsOut p) gone es → IsLegal wide (h ++ es) → draining h ≡ true
+    → gone ≡ []
+none_out wide p [] es h out legal drains = refl
+none_out wide p (e ∷ gone) [] h out legal drains = absurd out
+none_out wide p (e ∷ gone) (x ∷ es) h out legal drains =
+    let off : draining h ≡ false = elim out.0 [
+      | inl push ↦ not_draining h (pushed_open wide p e.item h es (subst (λ (y : Event). IsLegal wide (h ++ y ∷ es)) push legal))
+      | inr back ↦ closed_not_draining h (back_closed wide p e.item h es (subst (λ (y : Event). IsLegal wide (h ++ y ∷ es)) back legal))
+    ] in
+    absurd (false≢true (sym off ∙ drains))
+
+-- what goes out of the table is of its sender, and is pushed or given back
+module _ (p : ℕ) (off : (p == owner_seat) ≡ false) where
+  out_seat : (e : Entry) (x : Event) → IsOut p e x → (seat_of x == owner_seat) ≡ false
+  out_seat e x (inl push) = ap (λ (y : Event). seat_of y == owner_seat) push ∙ off
+  out_seat e x (inr back) = ap (λ (y : Event). seat_of y == owner_seat) back ∙ off
+
+  out_own : (gone : List Entry) (es : List Event) → AllZip (IsOut p) gone es → own owner_seat es ≡ []
+  out_own [] [] out = refl
+  out_own [] (x ∷ es) out = absurd out
+  out_own (e ∷ gone) [] out = absurd out
+  out_own (e ∷ gone) (x ∷ es) out =
+      ap (λ (b : Bool). cond b (x ∷ own owner_seat es) (own owner_seat es)) (out_seat e x out.0) ∙ out_own gone es out.1
+
+out_one : (p : ℕ) (e : Entry) (x : Event) → IsOut p e x → count_by is_push (x ∷ []) + count_by is_back (x ∷ []) ≡ 1
+out_one p e x (inl push) = ap (λ (y : Event). count_by is_push (y ∷ []) + count_by is_back (y ∷ [])) push
+out_one p e x (inr back) = ap (λ (y : Event). count_by is_push (y ∷ []) + count_by is_back (y ∷ [])) back
+
+out_count : (p : ℕ) (gone : List Entry) (es : List Event) → AllZip (IsOut p) gone es → count_by is_push es + count_by is_back es ≡ length gone
+out_count p [] [] out = refl
+out_count p [] (x ∷ es) out = absurd out
+out_count p (e ∷ gone) [] out = absurd out
+out_count p (e ∷ gone) (x ∷ es) out =
+    omega (arith, out_one p e x out.0, out_count p gone es out.1, count_by-append is_push (x ∷ []) es, count_by-append is_back (x ∷ []) es)
 
 module _ (layout : Layout) (s t : Seats) (h : List Event) (g : Seated layout s h) (d : DelayState)
     (gathered : Gathers d.sender.seen (record { worker = s.worker; delay = d; senders = s.senders }) t) (fit : IsFit s.delay) where
   abbrev pub p : ℕ
   p = layout.senders + 1
+
+  -- what the sender met during its call it met behind h
+  met_here : (xs : List Event) → Acts layout t h s.delay.sender.seen d.sender.seen xs 0 → HasMetDrain s.delay.sender.seen d.sender.seen
+      → HasMetDrain h (h ++ xs)
+  met_here xs a met =
+      subst (λ (v : List Event). HasMetDrain v (h ++ xs)) a.alone (subst (λ (w : List Event). HasMetDrain s.delay.sender.seen w) a.is met)
 
   abbrev pub IsCancelledSo : ℕ → Bool → Type 0
   IsCancelledSo k b = (b ≡ on_table k s.delay.table.entries)
@@ -93,13 +149,16 @@ module _ (layout : Layout) (s t : Seats) (h : List Event) (g : Seated layout s h
         (sym means.2, goes_as layout s t h g d gathered [] _ s.delay.table _ l (sym means.0) (sym means.1))
 
     -- an item on the table was posted
-    posted_told : (a : Modified) (b : Bool) (e : Event) → is_too_far delay s.delay.table ≡ false → on_table k s.delay.table.entries ≡ true → delay ≡ 0
-        → Seated layout t (h ++ e ∷ []) → d.table ≡ table_without k s.delay.table → (closed h ≡ b) × (e ≡ post_event p h k)
-        → a ≡ closed_or_moved b → IsModifiedSo a
-    posted_told a b e near on none seated table so is =
-        let means = modify_now p k delay h s.delay.table near on none in (
-          is ∙ (sym (ap closed_or_moved so.0) ∙ sym means.2),
-          goes_with layout s t h g d gathered (e ∷ []) _ _ seated (ap (λ (x : Event). x ∷ []) so.1 ∙ sym means.0) (table ∙ sym means.1),
+    posted_told : (a : Modified) (back drains : Bool) → is_too_far delay s.delay.table ≡ false → on_table k s.delay.table.entries ≡ true → delay ≡ 0
+        → Seated layout t (h ++ post_adds p k back drains) → d.table ≡ post_leaves k s.delay.table drains → (closed h ≡ back) × (draining h ≡ drains)
+        → a ≡ post_says back drains → IsModifiedSo a
+    posted_told a back drains near on none seated table so is =
+        let means = modify_now p k delay h s.delay.table near on none in
+        let adds : post_events p k h ≡ post_adds p k back drains = λ i. post_adds p k (so.0 i) (so.1 i) in
+        let leaves : post_table k h s.delay.table ≡ post_leaves k s.delay.table drains = λ i. post_leaves k s.delay.table (so.1 i) in
+        let says : post_answer h ≡ post_says back drains = λ i. post_says (so.0 i) (so.1 i) in (
+          is ∙ (sym says ∙ sym means.2),
+          goes_with layout s t h g d gathered (post_adds p k back drains) _ _ seated (sym adds ∙ sym means.0) (table ∙ (sym leaves ∙ sym means.1)),
         )
 
     on_told : (a : Modified) → on_table k s.delay.table.entries ≡ true → TellsFar a → ¬ (a ≡ modified.Memory) → Rearms k delay 1 a s.delay d → IsModifiedSo a
@@ -111,11 +170,16 @@ module _ (layout : Layout) (s t : Seats) (h : List Event) (g : Seated layout s h
     on_told modified.Closed at far room told =
         let a = seated_by layout s t h g d gathered (λ m. Back m k why.Closed ∷ []) 0 told.1.seen in
         let so = back_closed a.seated.wide p k h [] a.seated.legal in
-        posted_told modified.Closed true (Back p k why.Closed) (near_by modified.Closed far (λ e. cc)) at told.0 a.seated told.1.table_is so refl
+        posted_told modified.Closed true false (near_by modified.Closed far (λ e. cc)) at told.0 a.seated told.1.table_is (so, closed_not_draining h so) refl
+    on_told modified.Draining at far room told =
+        let a = acts layout s t h g d gathered [] 0 told.1.seen in
+        let so = does_drain h (met_drain h [] refl (met_here [] a told.2)) in
+        posted_told modified.Draining false true (near_by modified.Draining far (λ e. cc)) at told.0 a.seated told.1.table_is so refl
     on_told modified.Moved at far room (inl told) =
         let a = seated_by layout s t h g d gathered (λ m. Push m k ∷ []) 0 told.1.seen in
-        let so = pushed_open a.seated.wide p k h [] a.seated.legal in
-        posted_told modified.Moved false (Push p k) (near_by modified.Moved far (λ e. cc)) at told.0 a.seated told.1.table_is so refl
+        let opens = pushed_open a.seated.wide p k h [] a.seated.legal in
+        let so : (closed h ≡ false) × (draining h ≡ false) = (not_closed h opens, not_draining h opens) in
+        posted_told modified.Moved false false (near_by modified.Moved far (λ e. cc)) at told.0 a.seated told.1.table_is so refl
     on_told modified.Moved at far room (inr told) =
         let means = modify_again p k delay h s.delay.table (near_by modified.Moved far (λ e. cc)) at told.0 in
         let a = acts layout s t h g d gathered [] 0 told.1.seen in
@@ -138,6 +202,7 @@ module _ (layout : Layout) (s t : Seats) (h : List Event) (g : Seated layout s h
     off_told modified.Moved at far room told = absurd told
     off_told modified.Pending at far room told = armed_told armed.Pending at (λ beyond. absurd (cc (far.1 beyond))) (λ e. cc) (λ e. cc) told
     off_told modified.Closed at far room told = armed_told armed.Closed at (λ beyond. absurd (cc (far.1 beyond))) (λ e. cc) (λ e. cc) told
+    off_told modified.Draining at far room told = armed_told armed.Draining at (λ beyond. absurd (cc (far.1 beyond))) (λ e. cc) (λ e. cc) told
     off_told modified.Contended at far room told = let a = acts layout s t h g d gathered _ 1 told.1.seen in absurd (omega (arith, a.none))
     off_told modified.TooFar at far room told = far_told told (far.0 refl)
     off_told modified.Memory at far room told = absurd (room refl)
@@ -149,15 +214,48 @@ module _ (layout : Layout) (s t : Seats) (h : List Event) (g : Seated layout s h
         each true at moves = on_told a at far room moves
         each false at arms = off_told a at far room arms
 
-  -- an advance that was not backwards
-  pub advanced_so : (tick pushed refused : ℕ) → PostsDue tick 1 s.delay d pushed refused
-      → GoesWithTable layout (h ++ advance_events p tick h s.delay.table) (table_at tick [] s.delay.table) s t
-  advanced_so tick pushed refused posts =
-      let a = acts layout s t h g d gathered posts.events (lost_tries posts.left 1) posts.seen in
-      let none : posts.left ≡ [] = none_lost posts.left a.none in
-      let all : due_part tick s.delay.table.entries ≡ posts.gone = posts.due_is ∙ (ap (λ (x : List Entry). posts.gone ++ x) none ∙ append-nil posts.gone) in
-      let out : AllZip (IsOut p) posts.gone posts.events = subst (λ (m : ℕ). AllZip (IsOut m) posts.gone posts.events) g.delay.number_is posts.out in
-      let events = posted_all a.seated.wide p (closed h) posts.gone posts.events h out refl a.seated.legal in
-      let due : items posts.gone ≡ due_items tick s.delay.table = sym (ap items all) in
-      let table : d.table ≡ table_at tick [] s.delay.table = posts.table_is ∙ ap (λ (x : List Entry). table_at tick x s.delay.table) none in
-      goes_with layout s t h g d gathered posts.events _ _ a.seated (events ∙ ap (map (post_event p h)) due) table
+  -- an advance that was not backwards: so many were posted, and went out, while the queue drains none
+  module _ (tick pushed refused : ℕ) (posts : PostsDue tick 1 s.delay d pushed refused) where
+    abbrev due : List Entry
+    due = due_part tick s.delay.table.entries
+
+    acted : Acts layout t h s.delay.sender.seen d.sender.seen posts.events 0
+    acted = acts layout s t h g d gathered posts.events 0 posts.seen
+
+    out : AllZip (IsOut p) posts.gone posts.events
+    out = subst (λ (m : ℕ). AllZip (IsOut m) posts.gone posts.events) g.delay.number_is posts.out
+
+    stays : draining h ≡ false → posts.left ≡ []
+    stays off = elim posts.stays [
+      | inl none ↦ none
+      | inr (inl sees) ↦ let a = acts layout s t h g d gathered posts.events 1 sees in absurd (omega (arith, a.none))
+      | inr (inr met) ↦
+          let wide = acted.seated.wide in
+          let other = no_owner wide p (omega (arith, acted.seated.wider.senders)) in
+          let drains = does_drain h (met_drain h posts.events (out_own p other posts.gone posts.events out) (met_here posts.events acted met)) in
+          absurd (false≢true (sym off ∙ drains.1))
+    ]
+
+    parted : (b : Bool) → draining h ≡ b → (items posts.gone ≡ (if b then [] else items due)) × (posts.left ≡ (if b then due else []))
+    parted true is =
+        let none : posts.gone ≡ [] = none_out acted.seated.wide p posts.gone posts.events h out acted.seated.legal is in
+        (ap items none, sym (posts.due_is ∙ ap (λ (x : List Entry). x ++ posts.left) none))
+    parted false is =
+        let none : posts.left ≡ [] = stays is in
+        let all : due ≡ posts.gone = posts.due_is ∙ (ap (λ (x : List Entry). posts.gone ++ x) none ∙ append-nil posts.gone) in
+        (sym (ap items all), none)
+
+    pub advanced_so : (take (pushed + refused) (items due) ≡ posted_items tick h s.delay.table)
+        × GoesWithTable layout (h ++ advance_events p tick h s.delay.table) (advance_table tick h s.delay.table) s t
+    advanced_so =
+        let parts = parted (draining h) refl in
+        let events = posted_all acted.seated.wide p (closed h) posts.gone posts.events h out refl acted.seated.legal in
+        let table : d.table ≡ advance_table tick h s.delay.table =
+        posts.table_is ∙ ap (λ (x : List Entry). table_at tick x s.delay.table) parts.1 in
+        let many : pushed + refused ≡ length (items posts.gone) =
+        omega (arith, posts.pushed_is, posts.refused_is, out_count p posts.gone posts.events out, length-map posts.gone (λ (e : Entry). e.item)) in
+        let split : items due ≡ items posts.gone ++ items posts.left =
+        ap items posts.due_is ∙ map-append (λ (e : Entry). e.item) posts.gone posts.left in
+        let first : take (pushed + refused) (items due) ≡ items posts.gone =
+        (λ i. take (many i) (split i)) ∙ take-append_seam (items posts.gone) (items posts.left) in
+        (first ∙ parts.0, goes_with layout s t h g d gathered posts.events _ _ acted.seated (events ∙ ap (map (post_event p h)) parts.0) table)

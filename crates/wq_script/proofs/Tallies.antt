@@ -1,8 +1,9 @@
 -- Counts of a history that goes on.
 use Rattle.wq_script.proofs.Common.{◌≡◌, ◌≢◌, ℕ, ◌+◌, ◌<◌, ◌≤◌, Bool, true, false, cond, not, ◌||◌, ◌==◌, List, [], ◌∷◌, ◌++◌, length, refl, sym, ap, ◌∙◌}
 use Rattle.wq_script.proofs.Common.{subst, arith, append_assoc, count_by, ne_eqb, filter, AllByRecursion, append-nil, false≢true, Layout, Event, Hold, Busy}
-use Rattle.wq_script.proofs.Common.{Push, Back, Take, Close, Begin, End, Chain, ChainBusy, Rest, begun, ended, is_push, IsRunning, IsLegal, HasSeat, legal_next}
-use Rattle.wq_script.proofs.Common.{owner_seat, seat_of, is_queued_by, is_pending_by, is_closed_by, is_chain_busy, is_ours, is_busy, is_refusal}
+use Rattle.wq_script.proofs.Common.{Push, Back, Take, Close, Drain, Resume, Begin, End, Chain, ChainBusy, Rest, begun, ended, is_push, IsRunning, IsLegal}
+use Rattle.wq_script.proofs.Common.{HasSeat, legal_next}
+use Rattle.wq_script.proofs.Common.{owner_seat, seat_of, is_queued_by, is_pending_by, is_closed_by, is_draining_by, is_chain_busy, is_ours, is_busy, is_refusal}
 use Rattle.wq_script.proofs.Common.{count_by-append, begun-append, ended-append, Tally, Tallied}
 use Rattle.wq_words.specs.declared.event.Why.TheVariants as why
 
@@ -11,22 +12,57 @@ pub record Foreign (w : ℕ) (es : List Event) : Type 0 where
   pub queued : count_by (is_queued_by w) es ≡ 0
   pub pending : count_by (is_pending_by w) es ≡ 0
   pub refused : count_by (is_closed_by w) es ≡ 0
+  pub draining : count_by (is_draining_by w) es ≡ 0
   pub chain_busy : count_by is_chain_busy es ≡ 0
   pub begun : begun es ≡ []
   pub ended : ended es ≡ []
 
 one_foreign : (w : ℕ) (e : Event) → seat_of e ≢ w → seat_of e ≢ owner_seat → Foreign w (e ∷ [])
-one_foreign w (Hold s k) a b = record { queued = refl; pending = refl; refused = refl; chain_busy = refl; begun = refl; ended = refl }
-one_foreign w (Busy s k) a b =
-    record { queued = refl; pending = ap (λ (x : Bool). 0 + cond {A = ℕ} x 1 0) (ne_eqb s w a); refused = refl; chain_busy = refl; begun = refl; ended = refl }
-one_foreign w (Push s k) a b =
-    record { queued = ap (λ (x : Bool). 0 + cond {A = ℕ} x 1 0) (ne_eqb s w a); pending = refl; refused = refl; chain_busy = refl; begun = refl; ended = refl }
-one_foreign w (Back s k why.Closed) a b =
-    record { queued = refl; pending = refl; refused = ap (λ (x : Bool). 0 + cond {A = ℕ} x 1 0) (ne_eqb s w a); chain_busy = refl; begun = refl; ended = refl }
-one_foreign w (Back s k why.Contended) a b = record { queued = refl; pending = refl; refused = refl; chain_busy = refl; begun = refl; ended = refl }
-one_foreign w (Back s k why.Cancelled) a b = record { queued = refl; pending = refl; refused = refl; chain_busy = refl; begun = refl; ended = refl }
+one_foreign w (Hold s k) a b = record { queued = refl; pending = refl; refused = refl; draining = refl; chain_busy = refl; begun = refl; ended = refl }
+one_foreign w (Busy s k) a b = record {
+  queued = refl;
+  pending = ap (λ (x : Bool). 0 + cond {A = ℕ} x 1 0) (ne_eqb s w a);
+  refused = refl;
+  draining = refl;
+  chain_busy = refl;
+  begun = refl;
+  ended = refl;
+}
+one_foreign w (Push s k) a b = record {
+  queued = ap (λ (x : Bool). 0 + cond {A = ℕ} x 1 0) (ne_eqb s w a);
+  pending = refl;
+  refused = refl;
+  draining = refl;
+  chain_busy = refl;
+  begun = refl;
+  ended = refl;
+}
+one_foreign w (Back s k why.Closed) a b = record {
+  queued = refl;
+  pending = refl;
+  refused = ap (λ (x : Bool). 0 + cond {A = ℕ} x 1 0) (ne_eqb s w a);
+  draining = refl;
+  chain_busy = refl;
+  begun = refl;
+  ended = refl;
+}
+one_foreign w (Back s k why.Contended) a b =
+    record { queued = refl; pending = refl; refused = refl; draining = refl; chain_busy = refl; begun = refl; ended = refl }
+one_foreign w (Back s k why.Cancelled) a b =
+    record { queued = refl; pending = refl; refused = refl; draining = refl; chain_busy = refl; begun = refl; ended = refl }
+one_foreign w (Back s k why.Draining) a b = record {
+  queued = refl;
+  pending = refl;
+  refused = refl;
+  draining = ap (λ (x : Bool). 0 + cond {A = ℕ} x 1 0) (ne_eqb s w a);
+  chain_busy = refl;
+  begun = refl;
+  ended = refl;
+}
 one_foreign w Take a b = absurd (b refl)
 one_foreign w Close a b = absurd (b refl)
+one_foreign w Drain a b = absurd (b refl)
+one_foreign w Resume a b = absurd (b refl)
 one_foreign w (Begin k) a b = absurd (b refl)
 one_foreign w (End k) a b = absurd (b refl)
 one_foreign w (Chain k) a b = absurd (b refl)
@@ -34,7 +70,7 @@ one_foreign w (ChainBusy k) a b = absurd (b refl)
 one_foreign w Rest a b = absurd (b refl)
 
 pub all_foreign : (w s : ℕ) (es : List Event) → s ≢ w → s ≢ owner_seat → AllByRecursion (λ e. seat_of e ≡ s) es → Foreign w es
-all_foreign w s [] a b all = record { queued = refl; pending = refl; refused = refl; chain_busy = refl; begun = refl; ended = refl }
+all_foreign w s [] a b all = record { queued = refl; pending = refl; refused = refl; draining = refl; chain_busy = refl; begun = refl; ended = refl }
 all_foreign w s (e ∷ es) a b all =
     let one = one_foreign w e (λ is. a (sym all.0 ∙ is)) (λ is. b (sym all.0 ∙ is)) in
     let rest = all_foreign w s es a b all.1 in
@@ -42,6 +78,7 @@ all_foreign w s (e ∷ es) a b all =
       queued = omega (arith, count_by-append (is_queued_by w) (e ∷ []) es, one.queued, rest.queued);
       pending = omega (arith, count_by-append (is_pending_by w) (e ∷ []) es, one.pending, rest.pending);
       refused = omega (arith, count_by-append (is_closed_by w) (e ∷ []) es, one.refused, rest.refused);
+      draining = omega (arith, count_by-append (is_draining_by w) (e ∷ []) es, one.draining, rest.draining);
       chain_busy = omega (arith, count_by-append is_chain_busy (e ∷ []) es, one.chain_busy, rest.chain_busy);
       begun = begun-append (e ∷ []) es ∙ (λ i. one.begun i ++ rest.begun i);
       ended = ended-append (e ∷ []) es ∙ (λ i. one.ended i ++ rest.ended i);
@@ -62,7 +99,16 @@ tallied_on t u w h es told f q b r = record {
         h es,
     count_by-append is_busy h es,
   );
-  refused = omega (arith, told.refused, f.refused, r, count_by-append (is_closed_by w) h es, count_by-append is_refusal h es);
+  refused = omega (
+    arith,
+    told.refused,
+    f.refused,
+    f.draining,
+    r,
+    count_by-append (is_closed_by w) h es,
+    count_by-append (is_draining_by w) h es,
+    count_by-append is_refusal h es,
+  );
 }
 
 pub idle_on : (w : ℕ) (h es : List Event) → Foreign w es → ¬ IsRunning h → ¬ IsRunning (h ++ es)
@@ -84,7 +130,7 @@ legal_has layout h (e ∷ es) legal = (
 pub record Own (w : ℕ) (es : List Event) : Type 0 where
   pub queued : count_by (is_queued_by w) es ≡ count_by is_push es
   pub busy : count_by (is_pending_by w) es + count_by is_chain_busy es ≡ count_by is_busy es
-  pub refused : count_by (is_closed_by w) es ≡ count_by is_refusal es
+  pub refused : count_by (is_closed_by w) es + count_by (is_draining_by w) es ≡ count_by is_refusal es
 
 sender_ours : (layout : Layout) (w s : ℕ) → layout.senders ≤ 64 → s < layout.senders → not ((s == w) || (s == owner_seat)) ≡ false → (s == w) ≡ true
 sender_ours layout w s few lt ours = each (s == w) (s == owner_seat) (ne_eqb s owner_seat (λ is. absurd (omega (arith, is, few, lt)))) ours
@@ -100,11 +146,15 @@ one_own layout w (Busy s k) few has ours =
 one_own layout w (Push s k) few has ours =
     record { queued = ap (λ (x : Bool). 0 + cond {A = ℕ} x 1 0) (sender_ours layout w s few has ours); busy = refl; refused = refl }
 one_own layout w (Back s k why.Closed) few has ours =
-    record { queued = refl; busy = refl; refused = ap (λ (x : Bool). 0 + cond {A = ℕ} x 1 0) (sender_ours layout w s few has ours) }
+    record { queued = refl; busy = refl; refused = ap (λ (x : Bool). (0 + cond {A = ℕ} x 1 0) + 0) (sender_ours layout w s few has ours) }
 one_own layout w (Back s k why.Contended) few has ours = record { queued = refl; busy = refl; refused = refl }
 one_own layout w (Back s k why.Cancelled) few has ours = record { queued = refl; busy = refl; refused = refl }
+one_own layout w (Back s k why.Draining) few has ours =
+    record { queued = refl; busy = refl; refused = ap (λ (x : Bool). 0 + (0 + cond {A = ℕ} x 1 0)) (sender_ours layout w s few has ours) }
 one_own layout w Take few has ours = record { queued = refl; busy = refl; refused = refl }
 one_own layout w Close few has ours = record { queued = refl; busy = refl; refused = refl }
+one_own layout w Drain few has ours = record { queued = refl; busy = refl; refused = refl }
+one_own layout w Resume few has ours = record { queued = refl; busy = refl; refused = refl }
 one_own layout w (Begin k) few has ours = record { queued = refl; busy = refl; refused = refl }
 one_own layout w (End k) few has ours = record { queued = refl; busy = refl; refused = refl }
 one_own layout w (Chain k) few has ours = record { queued = refl; busy = refl; refused = refl }
@@ -133,12 +183,26 @@ all_own layout w (e ∷ es) few has none =
             (e ∷ []) es,
         count_by-append is_busy (e ∷ []) es,
       );
-      refused = omega (arith, one.refused, rest.refused, count_by-append (is_closed_by w) (e ∷ []) es, count_by-append is_refusal (e ∷ []) es);
+      refused = omega (
+        arith,
+        one.refused,
+        rest.refused,
+        count_by-append (is_closed_by w) (e ∷ []) es,
+        count_by-append (is_draining_by w) (e ∷ []) es,
+        count_by-append is_refusal (e ∷ []) es,
+      );
     }
 
 pub tallied_own : (t : Tally) (w : ℕ) (h es : List Event) → Tallied t w h → Own w es → Tallied t w (h ++ es)
 tallied_own t w h es told own = record {
   queued = omega (arith, told.queued, own.queued, count_by-append (is_queued_by w) h es, count_by-append is_push h es);
   busy = omega (arith, told.busy, own.busy, count_by-append (is_pending_by w) h es, count_by-append is_chain_busy h es, count_by-append is_busy h es);
-  refused = omega (arith, told.refused, own.refused, count_by-append (is_closed_by w) h es, count_by-append is_refusal h es);
+  refused = omega (
+    arith,
+    told.refused,
+    own.refused,
+    count_by-append (is_closed_by w) h es,
+    count_by-append (is_draining_by w) h es,
+    count_by-append is_refusal h es,
+  );
 }

@@ -1,11 +1,12 @@
 -- The calls of a delay table, on the running words and in a script.
-use Rattle.std.specs.Prelude.{◌≡◌, ℕ, ◌<◌, ◌≤◌, Bool, List, [], ◌++◌}
+use Rattle.std.specs.Prelude.{◌≡◌, ℕ, ◌<◌, ◌≤◌, Bool, List, ◌++◌}
 use Rattle.wq_words.specs.declared.layout.Layout.{Layout}
 use Rattle.wq_words.specs.declared.event.Event.{Event}
 use Rattle.wq_words.specs.declared.answer.Armed.{Armed}
 use Rattle.wq_words.specs.declared.answer.Modified.{Modified}
-use Rattle.wq_words.specs.DelayTable.{DelayTable, on_table, table_without, table_at}
-use Rattle.wq_meaning.specs.Arming.{arm_events, arm_table, arm_answer, cancel_events, modify_events, modify_table, modify_answer, due_items, advance_events}
+use Rattle.wq_words.specs.DelayTable.{DelayTable, on_table, table_without}
+use Rattle.wq_meaning.specs.Arming.{arm_events, arm_table, arm_answer, cancel_events, modify_events, modify_table, modify_answer}
+use Rattle.wq_meaning.specs.Arming.{posted_items, advance_events, advance_table}
 use Rattle.wq_meaning.specs.Commands.{delayer}
 use Rattle.wq_script.specs.declared.seats.Seats.{Seats}
 use Rattle.wq_script.specs.Seats.{IsSameWork, Seated}
@@ -38,8 +39,8 @@ ModifiesAs item delay a s t =
 abbrev pub IsBack : ℕ → Seats → Seats → Type 0
 IsBack tick s t = (layout : Layout) (h : List Event) → Seated layout s h → (tick < s.delay.table.tick) × GoesWithTable layout h s.delay.table s t
 
--- these were due, and were posted
+-- these were due, and were posted: none while the queue drains
 abbrev pub IsPosted : ℕ → List ℕ → Seats → Seats → Type 0
-IsPosted tick due s t =
-    (layout : Layout) (h : List Event) → Seated layout s h → (s.delay.table.tick ≤ tick) × (due ≡ due_items tick s.delay.table)
-    × GoesWithTable layout (h ++ advance_events (delayer layout) tick h s.delay.table) (table_at tick [] s.delay.table) s t
+IsPosted tick posted s t =
+    (layout : Layout) (h : List Event) → Seated layout s h → (s.delay.table.tick ≤ tick) × (posted ≡ posted_items tick h s.delay.table)
+    × GoesWithTable layout (h ++ advance_events (delayer layout) tick h s.delay.table) (advance_table tick h s.delay.table) s t

@@ -176,8 +176,9 @@ impl Engine {
         requires ready { HasStateWithin (2 ^ 60) self.old }
         ensures { OnOk result (Does self.old self.new (string_bytes out.old) (string_bytes out.new) (Command.Modify item delay)) }
     {
+        let was_on_table = self.seats.is_on_table(item);
         let modified = self.seats.modify(item, delay);
-        self.tally.modification(modified, delay);
+        self.tally.modification(modified, delay, was_on_table);
         write_line(modified_text(modified), out)?;
         Ok(())
     }
@@ -211,7 +212,7 @@ impl Engine {
             chained,
             executed,
             busy: self.tally.busy + totals.pending as u64,
-            refused: self.tally.refused + totals.closed as u64,
+            refused: self.tally.refused + totals.closed as u64 + totals.draining as u64,
             delayed: self.seats.delay.len() as u64,
             waiting: accepted - executed,
         }

@@ -9,6 +9,7 @@ ghost use Rattle.wq_script.specs.Seats.{StaysSilent, AllHear, IsSameTable, AreOn
 ghost use Rattle.wq_script.specs.Asking.{AsksFor, LooksAt, ClosesAs, RunsAs};
 ghost use Rattle.wq_script.specs.Arming.{ArmsAs, CancelsAs, ModifiesAs, IsBack, IsPosted};
 ghost use Rattle.wq_words.specs.History.{pending, closed};
+ghost use Rattle.wq_words.specs.DelayTable.{on_table};
 
 use crate::executing::execute_row;
 use crate::lists::Lists;
@@ -232,19 +233,30 @@ impl Seats {
         modified
     }
 
-    // Sets the tick, and posts what is due, each with one try. The items that were posted, in order. None where the tick is
-    // before the present one.
+    // The item is on the delay table.
+    pub(crate) fn is_on_table(&self, item: u32) -> bool
+        requires { item < self.now.delay.sender.layout.items }
+        ensures { result ≡ on_table item self.now.delay.table.entries }
+    {
+        self.delay.has(item)
+    }
+
+    // Sets the tick, and posts what is due, each with one try. The items that were posted, in order: none while the queue
+    // drains. None where the tick is before the present one.
     pub(crate) fn advance(&mut self, tick: u64) -> Result<Option<Vec<u32>>, AllocError>
         requires seated { HasHistory self.old }
         requires some { 0 < length self.old.senders.items }
-        ensures { IfOk result (λ o. MatchOption o (IsBack tick self.old self.new) (λ due. IsPosted tick due.items self.old self.new)) }
+        ensures { IfOk result (λ o. MatchOption o (IsBack tick self.old self.new) (λ posted. IsPosted tick posted.items self.old self.new)) }
     {
         self.delay.fit();
-        let due = self.delay.due_list(tick)?;
+        let mut due = self.delay.due_list(tick)?;
         let advanced = self.delay.advance(tick, 1);
         self.gather(0);
         match advanced {
-            Ok(_) => Ok(Some(due)),
+            Ok(advance) => {
+                due.truncate(advance.pushed as usize + advance.refused as usize);
+                Ok(Some(due))
+            }
             Err(Backwards) => Ok(None),
         }
     }

@@ -21,7 +21,7 @@ impl Tally {
         match answer {
             Answer::Queued { .. } => self.queued += 1,
             Answer::Pending => self.busy += 1,
-            Answer::Closed => self.refused += 1,
+            Answer::Closed | Answer::Draining => self.refused += 1,
             Answer::Contended => {}
         }
     }
@@ -34,7 +34,7 @@ impl Tally {
         match armed {
             Armed::Queued { .. } => self.queued += 1,
             Armed::Pending => self.busy += 1,
-            Armed::Closed => self.refused += 1,
+            Armed::Closed | Armed::Draining => self.refused += 1,
             Armed::OnTable | Armed::Contended | Armed::TooFar | Armed::Memory => {}
         }
     }
@@ -48,15 +48,21 @@ impl Tally {
         }
     }
 
-    // Counts a modification with this delay.
-    pub(crate) fn modification(&mut self, modified: Modified, delay: u64)
+    // Counts a modification with this delay of an item that was on the table, or was not. While the queue drains an item on the
+    // table stays there, and none is refused; another is held and given back.
+    pub(crate) fn modification(&mut self, modified: Modified, delay: u64, was_on_table: bool)
         requires { HasTallyRoom self.old }
-        ensures { self.new ≡ counted_modified delay modified self.old }
+        ensures { self.new ≡ counted_modified delay was_on_table modified self.old }
     {
         match modified {
             Modified::WasIdle | Modified::Moved => self.pushing(delay),
             Modified::Pending => self.busy += 1,
             Modified::Closed => self.refused += 1,
+            Modified::Draining => {
+                if !was_on_table {
+                    self.refused += 1;
+                }
+            }
             Modified::Contended | Modified::TooFar | Modified::Memory => {}
         }
     }

@@ -1,5 +1,5 @@
 use Rattle.wq_script.proofs.Common.{◌≡◌, ◌∙◌, ℕ, ◌+◌, ◌++◌, sym, ap, refl, arith, string_bytes, subst, length-append, codes, length, MatchOption, lt-ltb}
-use Rattle.wq_script.proofs.Common.{le-ltb, closed, DelayTable, line, row_text, advance_word, due_items, advance_events, ScriptState, wrote, advanced}
+use Rattle.wq_script.proofs.Common.{le-ltb, closed, DelayTable, line, row_text, advance_word, posted_items, advance_events, ScriptState, wrote, advanced}
 use Rattle.wq_script.proofs.Common.{advance_back, advance_on, advance_few, IsBack, IsPosted, counted_posts, Meets, size}
 use Rattle.wq_text.specs.declared.command.Command.TheVariants as command
 use Rattle.wq_script.proofs.Meetings.{engine, back_meets}
@@ -42,10 +42,10 @@ returns c =
           let due = (goes s m).1 in
           let closes = c.is_closed-is_closed.ensures e.layout s.history m.seated in
           let word = c.advance_word.ensures.text ∙ (ap (advance_word c.is_closed-is_closed.result) (c.deref.ensures.value ∙ due)
-          ∙ ap (λ b. advance_word b (due_items tick s.table)) closes) in
+          ∙ ap (λ b. advance_word b (posted_items tick s.history s.table)) closes) in
           wrote e.layout s (advanced e.layout s tick) (command.Advance tick) _ _ _ (so s m).0 (so s m).1
           (c.in_ok-write_row.ensures.written ∙ (ap (λ w. string_bytes c.args.out.now ++ row_text e.layout w c.deref-2.result.now) word
-          ∙ ap (λ ks. string_bytes c.args.out.now ++ row_text e.layout (advance_word (closed s.history) (due_items tick s.table)) ks)
+          ∙ ap (λ ks. string_bytes c.args.out.now ++ row_text e.layout (advance_word (closed s.history) (posted_items tick s.history s.table)) ks)
           (c.deref-2.ensures.value ∙ due)));
       room = λ s m.
           omega (arith, ap size (so s m).0, length-append s.history (advance_events p tick s.history s.table), advance_few p tick s.history s.table);

@@ -22,6 +22,10 @@ pub overflow_add-result-2 : goal.overflow_add-result-2
 overflow_add-result-2 c = let u = sums c.args.self.now c.requires.ready c.counts-totals.result c.counts-totals.ensures.counted in
     omega (arith, u.accepts, u.some, u.finds_busy, u.some_busy, u.refuses, u.some_refused, u.chains, u.ends, u.order)
 
+pub overflow_add-result-3 : goal.overflow_add-result-3
+overflow_add-result-3 c = let u = sums c.args.self.now c.requires.ready c.counts-totals.result c.counts-totals.ensures.counted in
+    omega (arith, u.refuses, u.some_refused)
+
 pub overflow_sub-result : goal.overflow_sub-result
 overflow_sub-result c = let u = sums c.args.self.now c.requires.ready c.counts-totals.result c.counts-totals.ensures.counted in
     omega (arith, u.accepts, u.some, u.finds_busy, u.some_busy, u.refuses, u.some_refused, u.chains, u.ends, u.order)

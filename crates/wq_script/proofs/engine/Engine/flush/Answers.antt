@@ -1,4 +1,4 @@
-use Rattle.wq_script.proofs.Common.{◌∙◌, sym, refl, barrier_number, answer_text, queue_uncontended, Layout, ℕ}
+use Rattle.wq_script.proofs.Common.{◌∙◌, sym, refl, barrier_number, queue_uncontended, Layout, ℕ}
 use Rattle.wq_script.proofs.Meetings.{asked_does}
 use Rattle.wq_script.proofs.engine.Engine.flush.Goals as goal
 

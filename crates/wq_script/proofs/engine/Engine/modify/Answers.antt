@@ -7,7 +7,7 @@ pub modified_text-requires : goal.modified_text-requires
 modified_text-requires c =
     let e = c.args.self.now in let s = c.requires.ready.0 in let m = c.requires.ready.1 in
     let so = (modified_meets e.layout e.seats c.modify-modified.new.self e.tally c.modification.new.self s m c.args.item c.args.delay
-    c.modify-modified.result c.modify-modified.ensures c.modification.ensures).1 in
+    c.modify-modified.result c.is_on_table-was_on_table.result c.is_on_table-was_on_table.ensures c.modify-modified.ensures c.modification.ensures).1 in
     let given = modify_given c.args.item c.args.delay s.history s.table in
     record { alone = λ is. given.0 (sym so ∙ is); memory = λ is. given.1 (sym so ∙ is) }
 
@@ -19,10 +19,10 @@ returns c =
       layout = refl;
       meets = λ s m.
           (modified_meets e.layout e.seats c.modify-modified.new.self e.tally c.modification.new.self s m k delay c.modify-modified.result
-          c.modify-modified.ensures c.modification.ensures).0;
+          c.is_on_table-was_on_table.result c.is_on_table-was_on_table.ensures c.modify-modified.ensures c.modification.ensures).0;
       lines = λ s m few.
           let same = (modified_meets e.layout e.seats c.modify-modified.new.self e.tally c.modification.new.self s m k delay
-          c.modify-modified.result c.modify-modified.ensures c.modification.ensures).1 in
+          c.modify-modified.result c.is_on_table-was_on_table.result c.is_on_table-was_on_table.ensures c.modify-modified.ensures c.modification.ensures).1 in
           c.in_ok-write_line.ensures.written ∙ ap (λ x. string_bytes c.args.out.now ++ line x) (c.modified_text.ensures.text ∙ ap modified_text same);
       room = λ s m.
           let adds = modify_few p k delay s.history s.table in

@@ -1,4 +1,4 @@
-use Rattle.wq_script.proofs.Common.{◌∙◌, sym, refl, answer_text, queue_uncontended}
+use Rattle.wq_script.proofs.Common.{◌∙◌, sym, refl, queue_uncontended}
 use Rattle.wq_script.proofs.Meetings.{asked_does}
 use Rattle.wq_script.proofs.engine.Engine.queue.Goals as goal
 

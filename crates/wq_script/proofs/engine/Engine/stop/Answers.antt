@@ -1,4 +1,4 @@
-use Rattle.wq_script.proofs.Common.{◌∙◌, sym, refl, stop_number, answer_text, queue_uncontended}
+use Rattle.wq_script.proofs.Common.{◌∙◌, sym, refl, stop_number, queue_uncontended}
 use Rattle.wq_script.proofs.Meetings.{asked_does}
 use Rattle.wq_script.proofs.engine.Engine.stop.Goals as goal
 
