@@ -5,3 +5,10 @@ pub mod LineParts
 pub mod Reading
 pub mod Telling
 pub mod LeftNumbers
+pub mod FirstLine
+pub mod Places
+pub mod Leading
+pub mod Verdicts
+pub mod OneCause
+pub mod Fitting
+pub mod Deciding

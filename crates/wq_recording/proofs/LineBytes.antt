@@ -1,5 +1,5 @@
 -- What the parts of a line come to.
-use Rattle.std.proofs.Common.{◌≡◌, ◌≢◌, ℕ, ◌+◌, ◌-◌, ◌<◌, ◌≤◌, ◌⊎◌, ◌||◌, Bool, true, false, List, [], ◌∷◌, ◌++◌, All, Option, Some, None, OnSome, IsTrue, ◌↔◌, length}
+use Rattle.std.proofs.Common.{◌≡◌, ◌≢◌, ℕ, ◌+◌, ◌-◌, ◌<◌, ◌≤◌, ◌⊎◌, ◌||◌, Bool, true, false, List, ◌++◌, All, Option, Some, None, OnSome, IsTrue, ◌↔◌, length}
 use Rattle.std.proofs.Common.{take, drop, slice_index, nat_lt, get_or, inl, inr, refl, sym, ap, subst, ◌∙◌, arith, length-append, length-take-le, get_or-take}
 use Rattle.std.proofs.lemmas.Bool.{ltb-true}
 use Rattle.wq_words.proofs.Common.{cases_lt}

@@ -1,8 +1,8 @@
 -- What a line that was read says of the parts of a text.
-use Rattle.wq_recording.proofs.Common.{◌≡◌, ◌≢◌, ℕ, zero, suc, ◌+◌, ◌-◌, ◌<◌, ◌≤◌, ◌⊎◌, false, List, [], ◌∷◌, ◌++◌, length, take, get_or, All, Option, Some, refl, sym}
-use Rattle.wq_recording.proofs.Common.{ap, subst, ◌∙◌, inl, inr, arith, length-append, append-nil, slice_index, parts}
-use Rattle.std.specs.List.{slice_split, onto_first}
-use Rattle.std.proofs.Common.{take_all, ne_eqb, eq-eqb, ◌==◌}
+use Rattle.wq_recording.proofs.Common.{◌≡◌, ◌≢◌, ℕ, ◌+◌, ◌-◌, ◌<◌, ◌≤◌, false, List, [], ◌∷◌, ◌++◌, length, take, All, Option, refl, sym}
+use Rattle.wq_recording.proofs.Common.{ap, subst, ◌∙◌, arith, length-append, parts}
+use Rattle.std.specs.List.{onto_first}
+use Rattle.std.proofs.Common.{take_all, ne_eqb, ◌==◌}
 use Rattle.std.proofs.Math.Seq.{take-append_seam}
 use Rattle.std.proofs.lemmas.List.Elements.{All-nil, All-more, All-head, All-tail}
 use Rattle.std.proofs.lemmas.List.Splits.{length-slice_split, slice_split_none, slice_split_at, slice_split-cons_no}

@@ -1,8 +1,8 @@
 -- What was read of a recording, line by line, and what follows of its text.
-use Rattle.wq_recording.proofs.Common.{◌≡◌, ◌≢◌, ℕ, ◌+◌, ◌<◌, ◌≤◌, ◌⊎◌, Bool, true, false, List, [], ◌∷◌, ◌++◌, length, Option, Some, None, IfSome, OnSome, Result, Ok, Err}
-use Rattle.wq_recording.proofs.Common.{refl, sym, ap, subst, ◌∙◌, inl, inr, arith, flat_map, option_to_list, append_assoc, append-nil, length-append, nat_le, Layout, Cause, Kind}
-use Rattle.wq_recording.proofs.Common.{ScriptError, Stage, Lines, layout_at, end_fault, parts, Stop, Rules, Verdict, IsAt, IsLegalText, StopsAt, IsRefusedText}
-use Rattle.wq_recording.proofs.Common.{HasVerdict, HasFaultAt, last_fault, is_short, short_line, StopsAmong, HasTold, IsMadeAt, TellsAll, ComesTo}
+use Rattle.wq_recording.proofs.Common.{◌≡◌, ◌≢◌, ℕ, ◌+◌, ◌<◌, ◌≤◌, ◌⊎◌, List, [], ◌∷◌, ◌++◌, length, Option, Some, None, IfSome, Result, Ok, Err}
+use Rattle.wq_recording.proofs.Common.{refl, sym, ap, subst, ◌∙◌, inl, inr, arith, flat_map, option_to_list, append_assoc, append-nil, length-append, Layout, Kind}
+use Rattle.wq_recording.proofs.Common.{ScriptError, Stage, Lines, layout_at, parts, Stop, Rules, IsAt, IsRefusedText}
+use Rattle.wq_recording.proofs.Common.{HasFaultAt, last_fault, short_line, StopsAmong, HasTold, IsMadeAt, TellsAll}
 use Rattle.std.proofs.Common.{if◌then◌else◌}
 use Rattle.std.proofs.Common.{◌==◌}
 use Rattle.std.proofs.lemmas.Bool.{le-leb, lt-leb}
@@ -20,7 +20,7 @@ use Rattle.wq_text.specs.declared.header.Stage.TheVariants as stage
 use Rattle.wq_recording.specs.declared.finding.Finding.{Finding}
 use Rattle.wq_recording.specs.Lines.{EndsWithLf, IsLineRead}
 use Rattle.wq_recording.specs.VerdictText.{verdict_of, SaysOf, Finds}
-use Rattle.wq_recording.proofs.LineParts.{HasNoLf, parts_line, parts_bare, parts_front, whole_line, bare_line}
+use Rattle.wq_recording.proofs.LineParts.{parts_line, parts_bare, parts_front, whole_line, bare_line}
 
 flat_map-append : {X Y : Type 0} (f : X → List Y) (xs ys : List X) → flat_map f (xs ++ ys) ≡ flat_map f xs ++ flat_map f ys
 flat_map-append f [] ys = refl

@@ -1,15 +1,14 @@
 -- What a line does to the stage.
-use Rattle.wq_recording.proofs.Common.{◌≡◌, ℕ, ◌≤◌, Bool, true, false, List, [], ◌∷◌, ◌++◌, Option, Some, None, IfSome, Result, Ok, Err, All, refl, sym, ap, subst, ◌∙◌}
-use Rattle.wq_recording.proofs.Common.{Layout, Kind, Stage, Grammar, line_gives, option_to_list, IsMadeAt}
+use Rattle.wq_recording.proofs.Common.{◌≡◌, ℕ, Bool, true, false, List, [], ◌∷◌, Option, Some, None, IfSome, Result, Ok, Err, refl, sym, ap, subst}
+use Rattle.wq_recording.proofs.Common.{Layout, Kind, Stage, Grammar, line_gives, IsMadeAt}
 use Rattle.std.proofs.lemmas.List.Elements.{All-nil, All-head}
-use Rattle.std.specs.List.{list_all}
 use Rattle.wq_text.specs.declared.header.Stage.TheVariants as stage
 use Rattle.wq_text.specs.declared.fault.Kind.TheVariants as kind
 use Rattle.wq_text.specs.Fault.{◌>>=◌, need, found, of_one}
 use Rattle.wq_text.specs.Header.{awaits, is_header, header_line_gives}
-use Rattle.wq_text.specs.Line.{plain_line_gives, words_give, by_words, by_first_word, asking_line, is_passed_over}
-use Rattle.wq_text.specs.Sound.{KeepsSound, SoundAt, AreSound}
-use Rattle.wq_text.specs.Word.{words, is_plain, is_word}
+use Rattle.wq_text.specs.Line.{plain_line_gives, words_give, by_words, asking_line, is_passed_over}
+use Rattle.wq_text.specs.Sound.{KeepsSound, SoundAt}
+use Rattle.wq_text.specs.Word.{words}
 use Rattle.std.specs.Prelude.{if◌then◌else◌}
 
 passed : {B : Type 0} (k : Kind) (b : Bool) (r : Result B Kind) (x : B) → (need k b >>= λ _. r) ≡ Ok x → r ≡ Ok x

@@ -11,7 +11,7 @@ use Rattle.wq_words.specs.Legal.{HasSeat, HasNumber}
 use Rattle.wq_text.specs.declared.fault.Kind.{Kind}
 use Rattle.wq_text.specs.Arguments.{item, no_word, one}
 use Rattle.wq_text.specs.Fault.{of_none, of_one, of_two}
-use Rattle.wq_text.specs.Line.{Grammar, Lines, line_gives}
+use Rattle.wq_text.specs.Line.{Grammar}
 use Rattle.wq_text.specs.Turn.{number_of_queue, seat_and_number, cause_at, nth_word, without_last}
 use Rattle.wq_text.specs.Word.{other_words}
 use Rattle.wq_recording.specs.declared.entry.Entry.{Entry}

@@ -8,3 +8,4 @@ pub mod Recording
 pub mod Judging
 pub mod HistoryReport
 pub mod TraceReport
+pub mod Checking

@@ -1,7 +1,7 @@
 -- What is said of a recording, of its lines and not of reading them: that all of it is legal, or where the first event stands that
 -- is not, and why, or its first faulty line.
 use Rattle.std.specs.Prelude.{◌≡◌, ◌≢◌, ℕ, ◌+◌, ◌<◌, Bool, List, [], ◌∷◌, ◌++◌, length, take, flat_map, nat_le, if◌then◌else◌}
-use Rattle.std.specs.Prelude.{Option, Some, None, Result, Ok, Err, MatchOption, option_map}
+use Rattle.std.specs.Prelude.{Option, Some, Result, Ok, Err, MatchOption, option_map}
 use Rattle.wq_words.specs.declared.layout.Layout.{Layout}
 use Rattle.wq_check.specs.declared.cause.Cause.{Cause}
 use Rattle.wq_text.specs.declared.fault.Kind.{Kind}

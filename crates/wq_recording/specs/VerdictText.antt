@@ -1,5 +1,5 @@
 -- How a verdict reads.
-use Rattle.std.specs.Prelude.{◌≡◌, ℕ, ◌+◌, List, ◌∷◌, ◌++◌, length, Option, Some, None, Ok, is_none, codes}
+use Rattle.std.specs.Prelude.{◌≡◌, ℕ, ◌+◌, List, ◌++◌, length, Option, Some, None, Ok, is_none, codes}
 use Rattle.wq_words.specs.declared.layout.Layout.{Layout}
 use Rattle.wq_check.specs.declared.cause.Cause.{Cause}
 use Rattle.wq_check.specs.declared.cause.Cause.TheVariants.{Pending, Idle, NotHeld, Closed, Draining, NotDraining, NeverDrained, Open, Runs, NothingRuns, NotWaiting, Next, NotEnded}

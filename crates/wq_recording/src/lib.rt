@@ -1,6 +1,7 @@
 //! Recordings of ordered workqueues as texts: histories and traces, read a line at a time and judged as they come.
 #![tactic(auto)]
 
+mod checking;
 mod entry;
 mod error;
 mod finding;
@@ -8,6 +9,7 @@ mod history;
 mod history_checked;
 mod history_words;
 mod judging;
+mod laws;
 mod lines;
 mod recording;
 mod stop;
@@ -15,7 +17,9 @@ mod trace;
 mod trace_checked;
 mod verdict_text;
 
+pub use checking::check;
 pub use entry::Entry;
 pub use error::CheckError;
 pub use finding::Finding;
+pub use laws::one_verdict;
 pub use stop::Stop;

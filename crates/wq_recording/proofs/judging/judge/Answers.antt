@@ -1,4 +1,4 @@
-use Rattle.wq_recording.proofs.Common.{◌≡◌, ℕ, List, [], Some, Ok, Err, IfSome, sym, ap, subst, ◌∙◌, refl, line_gives, short_line, last_fault, IsRefusedText, IsMadeAt, ScriptError, Stage}
+use Rattle.wq_recording.proofs.Common.{◌≡◌, ℕ, List, [], Some, Ok, Err, sym, ap, subst, ◌∙◌, refl, line_gives, short_line, last_fault, IsRefusedText, IsMadeAt, ScriptError, Stage}
 use Rattle.std.proofs.lemmas.Result.{err_from_is_err_and}
 use Rattle.wq_text.specs.Sound.{SoundAt}
 use Rattle.wq_recording.specs.Judging.{refusal_of}

@@ -1,4 +1,4 @@
-use Rattle.wq_recording.proofs.Common.{sym, subst, Layout}
+use Rattle.wq_recording.proofs.Common.{subst, Layout}
 use Rattle.wq_recording.proofs.judging.last.Goals as goal
 
 pub returns-clause-found : goal.returns-clause-found

@@ -1,4 +1,4 @@
-use Rattle.std.proofs.Common.{◌≢◌, All, subst, Bool, true, false}
+use Rattle.std.proofs.Common.{subst}
 use Rattle.wq_recording.specs.Lines.{EndsOrGoesOn}
 use Rattle.wq_recording.proofs.LineBytes.{read_on, ends_on}
 use Rattle.wq_recording.proofs.lines.next_line.Goals as goal

@@ -1,5 +1,5 @@
-use Rattle.std.proofs.Common.{sym, ◌∙◌, ap, rules, arith}
-use Rattle.wq_recording.proofs.LeftNumbers.{LeftTo, left_more, left_none, left_all}
+use Rattle.std.proofs.Common.{sym, ◌∙◌, rules, arith}
+use Rattle.wq_recording.proofs.LeftNumbers.{left_more, left_none, left_all}
 use Rattle.wq_recording.proofs.verdict_text.left_numbers.Goals.{in-Some+in_ok-push, in_default}
 use Rattle.wq_recording.proofs.verdict_text.left_numbers.Goals as goal
 

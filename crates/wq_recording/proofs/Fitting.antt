@@ -1,0 +1,104 @@
+-- The rules of histories and of traces fit their lines.
+use Rattle.wq_recording.proofs.Common.{◌≡◌, ℕ, Bool, true, false, List, [], ◌∷◌, Option, Some, None, Result, Ok, Err, ap}
+use Rattle.wq_recording.proofs.Common.{Layout, Kind, Stage, Grammar, line_gives, recording_line}
+use Rattle.std.specs.Prelude.{if◌then◌else◌}
+use Rattle.std.specs.Str.{bytes_eq}
+use Rattle.wq_text.specs.declared.header.Stage.TheVariants as stage
+use Rattle.wq_text.specs.declared.fault.Kind.TheVariants as kind
+use Rattle.wq_text.specs.Fault.{◌>>=◌, need, found, of_none, of_one}
+use Rattle.wq_text.specs.Header.{is_header, header_line_gives, layout_at}
+use Rattle.wq_text.specs.Line.{plain_line_gives, words_give, by_words, asking_line, is_passed_over}
+use Rattle.wq_text.specs.Word.{words}
+use Rattle.wq_words.proofs.Legal.{legal_next}
+use Rattle.wq_recording.specs.History.{history_grammar}
+use Rattle.wq_recording.specs.HistoryReport.{history_rules}
+use Rattle.wq_recording.specs.Trace.{trace_grammar}
+use Rattle.wq_recording.specs.TraceReport.{trace_rules}
+use Rattle.wq_recording.proofs.OneCause.{one_event_cause, one_mark_cause, shown_next}
+use Rattle.wq_recording.proofs.Stages.{stays}
+use Rattle.wq_recording.proofs.Verdicts.{AreFit}
+
+passed : {B : Type 0} (k : Kind) (b : Bool) (r : Result B Kind) (x : B) → (need k b >>= λ _. r) ≡ Ok x → r ≡ Ok x
+passed k true r x e = e
+passed k false r x e = cc
+
+-- only behind a whole header is anything asked for
+module _ {N A : Type 0} (g : Grammar N A) (s next : Stage) (a : A) where
+  abbrev IsWhole : Type 0
+  IsWhole = (l : Layout) × (next ≡ stage.Commands l)
+
+  abbrev asked : Layout → A → Stage × Option A
+  asked l b = (stage.Commands l, Some b)
+
+  abbrev alone : Stage → Stage × Option A
+  alone n = (n, None)
+
+  by_ask : (l : Layout) (r : Result A Kind) → of_one (asked l) r ≡ Ok (next, Some a) → IsWhole
+  by_ask l (Ok b) e = (l, first_of (stage.Commands l, Some b) (next, Some a) e)
+    where
+      first_of : (x y : Stage × Option A) → ◌≡◌ {A = Result (Stage × Option A) Kind} (Ok x) (Ok y) → y.0 ≡ x.0
+      first_of x y e = let same : y ≡ x = cc in ap (λ (p : Stage × Option A). p.0) same
+  by_ask l (Err k) e = cc
+
+  by_layout : (name : N) (w : List ℕ) (ws : List (List ℕ)) (o : Option Layout)
+      → (found kind.Header o >>= λ l. of_one (asked l) (g.asks l name w ws)) ≡ Ok (next, Some a) → IsWhole
+  by_layout name w ws None e = cc
+  by_layout name w ws (Some l) e = by_ask l (g.asks l name w ws) e
+
+  by_name : (w : List ℕ) (ws : List (List ℕ)) (o : Option N)
+      → (found kind.Word o >>= λ name. found kind.Header (layout_at s) >>= λ l. of_one (asked l) (g.asks l name w ws)) ≡ Ok (next, Some a)
+      → IsWhole
+  by_name w ws None e = cc
+  by_name w ws (Some name) e = by_layout name w ws (layout_at s) e
+
+  ok_value : (x y : Stage × Option A) → ◌≡◌ {A = Result (Stage × Option A) Kind} (Ok x) (Ok y) → x ≡ y
+  ok_value x y e = cc
+
+  some_none : None ≡ Some a → ⊥
+  some_none e = cc
+
+  none_asked : (r : Result Stage Kind) → ◌≡◌ {A = Result (Stage × Option A) Kind} (of_one alone r) (Ok (next, Some a)) → ⊥
+  none_asked (Ok n) e = absurd (some_none (ap (λ (z : Stage × Option A). z.1) (ok_value (alone n) (next, Some a) e)))
+  none_asked (Err k) e = cc
+
+  by_first : (w : List ℕ) (ws : List (List ℕ)) (b : Bool)
+      → (if b then of_one alone (header_line_gives g.names_seats g.most s w ws) else asking_line g s w ws) ≡ Ok (next, Some a) → IsWhole
+  by_first w ws true e = absurd (none_asked (header_line_gives g.names_seats g.most s w ws) e)
+  by_first w ws false e = by_name w ws (g.names w ws) e
+
+  asks_words : (ws : List (List ℕ)) → by_words g s ws ≡ Ok (next, Some a) → IsWhole
+  asks_words [] e = cc
+  asks_words (w ∷ ws) e = by_first w ws (is_header w) e
+
+  asks_plain : (line : List ℕ) (b : Bool) → (if b then Ok (s, None) else plain_line_gives g s line) ≡ Ok (next, Some a) → IsWhole
+  unfolding plain_line_gives words_give
+  asks_plain line true e = absurd (some_none (ap (λ (z : Stage × Option A). z.1) (ok_value (alone s) (next, Some a) e)))
+  asks_plain line false e = asks_words (words line) (passed kind.Space _ _ _ (passed kind.Bytes _ _ _ e))
+
+asks_line : {N A : Type 0} (g : Grammar N A) (s next : Stage) (a : A) (line : List ℕ) → line_gives g s line ≡ Ok (next, Some a)
+    → (l : Layout) × (next ≡ stage.Commands l)
+asks_line {N} {A} g stage.Version next a line e = absurd (none (need kind.Version (bytes_eq line g.version)) e)
+  where
+    none : (r : Result (Unit {0}) Kind) → ◌≡◌ {A = Result (Stage × Option A) Kind} (of_none (stage.Items, None) r) (Ok (next, Some a)) → ⊥
+    none (Ok n) e = some_none g stage.Version next a (ap (λ (z : Stage × Option A). z.1) (ok_value g stage.Version next a (stage.Items, None) (next, Some a) e))
+    none (Err k) e = cc
+asks_line g stage.Items next a line e = asks_plain g stage.Items next a line (is_passed_over line) e
+asks_line g (stage.Senders l) next a line e = asks_plain g (stage.Senders l) next a line (is_passed_over line) e
+asks_line g (stage.Barriers l) next a line e = asks_plain g (stage.Barriers l) next a line (is_passed_over line) e
+asks_line g (stage.Commands l) next a line e = asks_plain g (stage.Commands l) next a line (is_passed_over line) e
+
+pub history_fits : AreFit (recording_line history_grammar) history_rules
+history_fits = record {
+  stays = λ l line next one e. stays history_grammar l next one line (passed kind.Size _ _ _ e);
+  asks = λ s next a line e. asks_line history_grammar s next a line (passed kind.Size _ _ _ e);
+  clash = λ layout h e more c legal cause. cause.0.2 (legal_next layout h e more legal).2;
+  one_cause = λ layout h e c d x y. one_event_cause h e c d x.1 y.1;
+}
+
+pub trace_fits : AreFit (recording_line trace_grammar) trace_rules
+trace_fits = record {
+  stays = λ l line next one e. stays trace_grammar l next one line (passed kind.Size _ _ _ e);
+  asks = λ s next a line e. asks_line trace_grammar s next a line (passed kind.Size _ _ _ e);
+  clash = λ layout t m more c legal cause. cause.1 (shown_next layout t m more legal);
+  one_cause = λ layout t m c d x y. one_mark_cause t m c d x.2 y.2;
+}

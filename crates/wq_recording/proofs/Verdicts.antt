@@ -1,0 +1,265 @@
+-- A text has one verdict at most.
+use Rattle.wq_recording.proofs.Common.{◌≡◌, ◌≢◌, ℕ, ◌+◌, List, [], ◌∷◌, ◌++◌, length, Option, Some, None, Result, Ok, Err, refl, sym, ap, subst, ◌∙◌, inl, inr}
+use Rattle.wq_recording.proofs.Common.{flat_map, option_to_list, append_assoc, append-nil, Layout, Cause, Kind, ScriptError, Stage, Lines, LinesLead, layout_at, end_fault}
+use Rattle.wq_recording.proofs.Common.{Stop, Rules, Verdict, IsAt, IsLegalText, StopsAt, IsRefusedText, HasVerdict, HasFaultAt}
+use Rattle.wq_recording.proofs.Leading.{one_value, same_lead, LeadsThrough, through, stays_through}
+use Rattle.wq_recording.proofs.Places.{Places, places}
+use Rattle.wq_text.specs.declared.header.Stage.TheVariants as stage
+use Rattle.std.proofs.lemmas.Grind.{flat_map-append}
+
+-- a header that is whole has no fault
+whole_or_not : (s : Stage) (layout : Layout) (k : Kind) → layout_at s ≡ Some layout → end_fault s ≡ Some k → ⊥
+whole_or_not stage.Version layout k whole fault = cc
+whole_or_not _ layout k whole fault = cc
+
+same_some : {B : Type 0} {b c : B} → Some b ≡ Some c → b ≡ c
+same_some e = cc
+
+same_err : {E B : Type 0} {b c : E} → ◌≡◌ {A = Result B E} (Err b) (Err c) → b ≡ c
+same_err e = cc
+
+clash : {E B : Type 0} {b : B} {e : E} → ◌≡◌ {A = Result B E} (Ok b) (Err e) → ⊥
+clash e = cc
+
+some_behind : (lines : List (List ℕ)) (line : List ℕ) (rest : List (List ℕ)) → lines ++ line ∷ rest ≡ [] → ⊥
+some_behind [] line rest e = cc
+some_behind (first ∷ lines) line rest e = cc
+
+same_error : (e f : ScriptError) → e.line ≡ f.line → e.kind ≡ f.kind → e ≡ f
+same_error e f p q = λ i. record { line = p i; kind = q i }
+
+same_stop : (x y : Stop) → x.line ≡ y.line → x.cause ≡ y.cause → x ≡ y
+same_stop x y p q = λ i. record { line = p i; cause = q i }
+
+same_verdict : {E : Type 0} (v w : Verdict E) → v.layout ≡ w.layout → v.events ≡ w.events → v.stop ≡ w.stop → v ≡ w
+same_verdict v w p q r = λ i. record { layout = p i; events = q i; stop = r i }
+
+-- what the rules of a kind of recording and its lines are to promise
+pub record AreFit {A E : Type 0} (gives : Lines A) (rules : Rules A E) : Type 0 where
+  pub stays : (l : Layout) (line : List ℕ) (next : Stage) (one : Option A) → gives (stage.Commands l) line ≡ Ok (next, one) → next ≡ stage.Commands l
+  pub asks : (s next : Stage) (a : A) (line : List ℕ) → gives s line ≡ Ok (next, Some a) → (l : Layout) × (next ≡ stage.Commands l)
+  pub clash : (layout : Layout) (h : List E) (e : E) (more : List E) (c : Cause) → rules.IsLegal layout (h ++ e ∷ more) → rules.HasCause layout h e c → ⊥
+  pub one_cause : (layout : Layout) (h : List E) (e : E) (c d : Cause) → rules.HasCause layout h e c → rules.HasCause layout h e d → c ≡ d
+
+module _ {A E : Type 0} (gives : Lines A) (rules : Rules A E) (fit : AreFit gives rules) (text : List ℕ) where
+  -- what is legal where lines lead to, with more behind it
+  abbrev LegalTo : Stage → List A → List E → Type 0
+  LegalTo t asked tail = (layout : Layout) → t ≡ stage.Commands layout → rules.IsLegal layout (flat_map rules.tells asked ++ tail)
+
+  -- no line that stops is passed by legal ones
+  stop_passed : (layout : Layout) (events : List E) (stop : Stop) (x : StopsAt gives rules text layout events stop) (more : List (List ℕ)) (t : Stage)
+      (asked : List A) (tail : List E) → LinesLead gives stage.Version (x.at.before ++ x.line ∷ more) t asked → LegalTo t asked tail → ⊥
+  stop_passed layout events stop x more t asked tail leads legal =
+      let y = through gives stage.Version t x.at.before x.line more asked leads in
+      let same = same_lead gives stage.Version x.reached y.reached x.at.before x.asked y.first x.at.leads y.leads in
+      let one : (y.next, y.one) ≡ (x.next, Some x.one) = one_value (sym y.given ∙ ap (λ s. gives s x.line) (sym same.0) ∙ x.given) in
+      let c = fit.asks x.reached x.next x.one x.line x.given in
+      let next : y.next ≡ stage.Commands c.0 = ap (λ (z : Stage × Option A). z.0) one ∙ c.1 in
+      let told : y.one ≡ Some x.one = ap (λ (z : Stage × Option A). z.1) one in
+      let P : Stage → Type 0 = λ s. LinesLead gives s more t y.rest in
+      let at_end : t ≡ stage.Commands c.0 = stays_through gives fit.stays c.0 more t y.rest (subst P next y.goes) in
+      let has : c.0 ≡ layout = same_some (sym (ap layout_at c.1) ∙ x.whole) in
+      let others = flat_map rules.tells y.rest in
+      let first = flat_map rules.tells x.asked in
+      let all : flat_map rules.tells asked ≡ first ++ ((x.first ++ x.event ∷ x.rest) ++ others) =
+      ap (flat_map rules.tells) (y.asks ∙ ap (λ zs. zs ++ (option_to_list y.one ++ y.rest)) (sym same.1)
+      ∙ ap (λ o. x.asked ++ (option_to_list o ++ y.rest)) told)
+      ∙ flat_map-append rules.tells x.asked (x.one ∷ y.rest) ∙ ap (λ zs. first ++ (zs ++ others)) x.cut in
+      let shape : flat_map rules.tells asked ++ tail ≡ (first ++ x.first) ++ x.event ∷ (x.rest ++ (others ++ tail)) =
+      ap (λ zs. zs ++ tail) all ∙ simp append_assoc in
+      let Q : List E → Type 0 = λ h. rules.IsLegal layout h in
+      let S : Layout → Type 0 = λ l. rules.IsLegal l (flat_map rules.tells asked ++ tail) in
+      let R : List E → Type 0 = λ h. rules.HasCause layout h x.event stop.cause in
+      fit.clash layout (first ++ x.first) x.event (x.rest ++ (others ++ tail)) stop.cause (subst Q shape (subst S has (legal c.0 at_end))) (subst R x.events_are x.caused)
+
+  -- nor is a line that has a fault
+  fault_passed : (e : ScriptError) (x : IsRefusedText gives rules text e) (more : List (List ℕ)) (t : Stage) (asked : List A)
+      → x.behind ≢ [] → LinesLead gives stage.Version (x.at.before ++ x.line ∷ more) t asked → ⊥
+  fault_passed e x more t asked ended leads = by_behind x.behind x.fault ended
+    where
+      y : LeadsThrough gives stage.Version t x.at.before x.line more asked
+      y = through gives stage.Version t x.at.before x.line more asked leads
+
+      by_behind : (behind : List (List ℕ)) → HasFaultAt gives rules text x.reached x.line behind e.kind → behind ≢ [] → ⊥
+      by_behind [] fault ended = ended refl
+      by_behind (next ∷ rest) fault ended =
+          let same = same_lead gives stage.Version x.reached y.reached x.at.before x.asked y.first x.at.leads y.leads in
+          clash (sym y.given ∙ ap (λ s. gives s x.line) (sym same.0) ∙ fault)
+
+  cut : (n m : ℕ) (s t : Stage) (asked others : List A) (line other : List ℕ) (behind rest : List (List ℕ))
+      → (x : IsAt gives text n s asked line behind) (y : IsAt gives text m t others other rest) → Places x.before y.before line other behind rest
+  cut n m s t asked others line other behind rest x y = places x.before y.before line other behind rest (sym x.split ∙ y.split)
+
+  led : (s : Stage) (asked : List A) (before lines : List (List ℕ)) → before ≡ lines → LinesLead gives stage.Version before s asked
+      → LinesLead gives stage.Version lines s asked
+  led s asked before lines same leads = let P : List (List ℕ) → Type 0 = λ ls. LinesLead gives stage.Version ls s asked in subst P same leads
+
+  one_lead : (s t : Stage) (asked others : List A) (before lines : List (List ℕ)) → before ≡ lines → LinesLead gives stage.Version before s asked
+      → LinesLead gives stage.Version lines t others → (s ≡ t) × (asked ≡ others)
+  one_lead s t asked others before lines same leads too = same_lead gives stage.Version s t lines asked others (led s asked before lines same leads) too
+
+  legal_of_text : (layout : Layout) (events : List E) (x : IsLegalText gives rules text layout events) → LegalTo x.reached x.asked []
+  legal_of_text layout events x = λ l e.
+      let P : Layout → Type 0 = λ m. rules.IsLegal m events in
+      let Q : List E → Type 0 = λ h. rules.IsLegal l h in
+      subst Q (x.events_are ∙ sym (append-nil (flat_map rules.tells x.asked))) (subst P (same_some (sym x.whole ∙ ap layout_at e)) x.legal)
+
+  legal_of_stop : (layout : Layout) (events : List E) (stop : Stop) (x : StopsAt gives rules text layout events stop) → LegalTo x.reached x.asked x.first
+  legal_of_stop layout events stop x = λ l e.
+      let P : Layout → Type 0 = λ m. rules.IsLegal m events in
+      let Q : List E → Type 0 = λ h. rules.IsLegal l h in
+      let G : Stage → Type 0 = λ s. gives s x.line ≡ Ok (x.next, Some x.one) in
+      let next = fit.stays l x.line x.next (Some x.one) (subst G e x.given) in
+      subst Q x.events_are (subst P (same_some (sym x.whole ∙ ap layout_at next)) x.legal)
+
+  legal_of_refused : (e : ScriptError) (x : IsRefusedText gives rules text e) → LegalTo x.reached x.asked []
+  legal_of_refused e x = λ l is.
+      let Q : List E → Type 0 = λ h. rules.IsLegal l h in subst Q (sym (append-nil (flat_map rules.tells x.asked))) (x.legal l (ap layout_at is))
+
+  both_legal : (l m : Layout) (h k : List E) → IsLegalText gives rules text l h → IsLegalText gives rules text m k → (l ≡ m) × (h ≡ k)
+  both_legal l m h k x y = by_place (cut x.number y.number x.reached y.reached x.asked y.asked [] [] [] [] x.at y.at)
+    where
+      by_place : Places x.at.before y.at.before [] [] [] [] → (l ≡ m) × (h ≡ k)
+      by_place (inl s) =
+          let same = one_lead x.reached y.reached x.asked y.asked x.at.before y.at.before s.before x.at.leads y.at.leads in
+          (same_some (sym x.whole ∙ ap layout_at same.0 ∙ y.whole), x.events_are ∙ ap (flat_map rules.tells) same.1 ∙ sym y.events_are)
+      by_place (inr (inl s)) = absurd (some_behind s.more [] [] (sym s.after))
+      by_place (inr (inr s)) = absurd (some_behind s.more [] [] (sym s.after))
+
+  legal_stops : (l m : Layout) (h k : List E) (stop : Stop) → IsLegalText gives rules text l h → StopsAt gives rules text m k stop → ⊥
+  legal_stops l m h k stop x y = by_place (cut x.number stop.line x.reached y.reached x.asked y.asked [] y.line [] y.behind x.at y.at)
+    where
+      by_place : Places x.at.before y.at.before [] y.line [] y.behind → ⊥
+      by_place (inl s) = y.ended (sym s.after)
+      by_place (inr (inl s)) = some_behind s.more y.line y.behind (sym s.after)
+      by_place (inr (inr s)) =
+          stop_passed m k stop y s.more x.reached x.asked [] (led x.reached x.asked x.at.before _ s.before x.at.leads) (legal_of_text l h x)
+
+  legal_refused : (l : Layout) (h : List E) (e : ScriptError) → IsLegalText gives rules text l h → IsRefusedText gives rules text e → ⊥
+  legal_refused l h e x y = by_place (cut x.number e.line x.reached y.reached x.asked y.asked [] y.line [] y.behind x.at y.at)
+    where
+      by_place : Places x.at.before y.at.before [] y.line [] y.behind → ⊥
+      by_place (inl s) =
+          let same = one_lead x.reached y.reached x.asked y.asked x.at.before y.at.before s.before x.at.leads y.at.leads in
+          let P : Stage → Type 0 = λ t. HasFaultAt gives rules text t y.line y.behind e.kind in
+          let Q : List ℕ → Type 0 = λ line. HasFaultAt gives rules text x.reached line y.behind e.kind in
+          let R : List (List ℕ) → Type 0 = λ ps. HasFaultAt gives rules text x.reached [] ps e.kind in
+          whole_or_not x.reached l e.kind x.whole (subst R (sym s.after) (subst Q (sym s.here) (subst P (sym same.0) y.fault)))
+      by_place (inr (inl s)) = some_behind s.more y.line y.behind (sym s.after)
+      by_place (inr (inr s)) =
+          fault_passed e y s.more x.reached x.asked (λ none. some_behind s.more [] [] (sym s.after ∙ none)) (led x.reached x.asked x.at.before _ s.before x.at.leads)
+
+  -- of one line the first event that is not legal is one
+  one_stop : (layout : Layout) (h told : List E) (first others : List E) (e f : E) (rest more : List E) (c d : Cause) → first ++ e ∷ rest ≡ others ++ f ∷ more
+      → rules.IsLegal layout (h ++ first) → rules.IsLegal layout (h ++ others) → rules.HasCause layout (h ++ first) e c → rules.HasCause layout (h ++ others) f d
+      → (first ≡ others) × (c ≡ d)
+  one_stop layout h told first others e f rest more c d same legal too caused also = by_place (places first others e f rest more same)
+    where
+      by_place : Places first others e f rest more → (first ≡ others) × (c ≡ d)
+      by_place (inl s) =
+          let P : List E → Type 0 = λ hs. rules.HasCause layout (h ++ hs) f d in
+          let Q : E → Type 0 = λ g. rules.HasCause layout (h ++ first) g d in
+          (s.before, fit.one_cause layout (h ++ first) e c d caused (subst Q (sym s.here) (subst P (sym s.before) also)))
+      by_place (inr (inl s)) =
+          let P : List E → Type 0 = λ hs. rules.IsLegal layout hs in
+          absurd (fit.clash layout (h ++ first) e s.more c (subst P (ap (λ hs. h ++ hs) s.before ∙ sym (append_assoc h first (e ∷ s.more))) too) caused)
+      by_place (inr (inr s)) =
+          let P : List E → Type 0 = λ hs. rules.IsLegal layout hs in
+          absurd (fit.clash layout (h ++ others) f s.more d (subst P (ap (λ hs. h ++ hs) s.before ∙ sym (append_assoc h others (f ∷ s.more))) legal) also)
+
+  both_stop : (l m : Layout) (h k : List E) (stop end : Stop) → StopsAt gives rules text l h stop → StopsAt gives rules text m k end
+      → (l ≡ m) × (h ≡ k) × (stop ≡ end)
+  both_stop l m h k stop end x y = by_place (cut stop.line end.line x.reached y.reached x.asked y.asked x.line y.line x.behind y.behind x.at y.at)
+    where
+      by_place : Places x.at.before y.at.before x.line y.line x.behind y.behind → (l ≡ m) × (h ≡ k) × (stop ≡ end)
+      by_place (inl s) =
+          let same = one_lead x.reached y.reached x.asked y.asked x.at.before y.at.before s.before x.at.leads y.at.leads in
+          let one : (x.next, Some x.one) ≡ (y.next, Some y.one) =
+          one_value (sym x.given ∙ ap (λ t. gives t x.line) same.0 ∙ ap (gives y.reached) s.here ∙ y.given) in
+          let layout : l ≡ m = same_some (sym x.whole ∙ ap (λ (z : Stage × Option A). layout_at z.0) one ∙ y.whole) in
+          let told : x.one ≡ y.one = same_some (ap (λ (z : Stage × Option A). z.1) one) in
+          let first = flat_map rules.tells x.asked in
+          let others = flat_map rules.tells y.asked in
+          let before : others ≡ first = ap (flat_map rules.tells) (sym same.1) in
+          let P : List E → Type 0 = λ hs. rules.IsLegal l hs in
+          let Q : Layout → Type 0 = λ n. rules.IsLegal n k in
+          let R : List E → Type 0 = λ hs. rules.HasCause l hs x.event stop.cause in
+          let S : Layout → Type 0 = λ n. rules.HasCause n k y.event end.cause in
+          let T : List E → Type 0 = λ hs. rules.HasCause l hs y.event end.cause in
+          let also : k ≡ first ++ y.first = y.events_are ∙ ap (λ hs. hs ++ y.first) before in
+          let found = one_stop l first (rules.tells x.one) x.first y.first x.event y.event x.rest y.rest stop.cause end.cause
+          (sym x.cut ∙ ap rules.tells told ∙ y.cut)
+          (subst P x.events_are x.legal) (subst P also (subst Q (sym layout) y.legal))
+          (subst R x.events_are x.caused) (subst T also (subst S (sym layout) y.caused)) in (
+            layout,
+            x.events_are ∙ ap (λ hs. first ++ hs) found.0 ∙ sym also,
+            same_stop stop end (x.at.number ∙ ap (λ ls. 1 + length ls) s.before ∙ sym y.at.number) found.1,
+          )
+      by_place (inr (inl s)) =
+          absurd (stop_passed l h stop x s.more y.reached y.asked y.first (led y.reached y.asked y.at.before _ s.before y.at.leads) (legal_of_stop m k end y))
+      by_place (inr (inr s)) =
+          absurd (stop_passed m k end y s.more x.reached x.asked x.first (led x.reached x.asked x.at.before _ s.before x.at.leads) (legal_of_stop l h stop x))
+
+  -- a line with others behind it that has a fault gives nothing
+  faulty_line : (s : Stage) (line : List ℕ) (behind : List (List ℕ)) (kind : Kind) → behind ≢ [] → HasFaultAt gives rules text s line behind kind
+      → gives s line ≡ Err kind
+  faulty_line s line [] kind ended fault = absurd (ended refl)
+  faulty_line s line (next ∷ more) kind ended fault = fault
+
+  stops_refused : (l : Layout) (h : List E) (stop : Stop) (e : ScriptError) → StopsAt gives rules text l h stop → IsRefusedText gives rules text e → ⊥
+  stops_refused l h stop e x y = by_place (cut stop.line e.line x.reached y.reached x.asked y.asked x.line y.line x.behind y.behind x.at y.at)
+    where
+      by_place : Places x.at.before y.at.before x.line y.line x.behind y.behind → ⊥
+      by_place (inl s) =
+          let same = one_lead x.reached y.reached x.asked y.asked x.at.before y.at.before s.before x.at.leads y.at.leads in
+          let wrong = faulty_line y.reached y.line y.behind e.kind (λ none. x.ended (s.after ∙ none)) y.fault in
+          clash (sym x.given ∙ ap (λ t. gives t x.line) same.0 ∙ ap (gives y.reached) s.here ∙ wrong)
+      by_place (inr (inl s)) =
+          stop_passed l h stop x s.more y.reached y.asked [] (led y.reached y.asked y.at.before _ s.before y.at.leads) (legal_of_refused e y)
+      by_place (inr (inr s)) =
+          fault_passed e y s.more x.reached x.asked (λ none. some_behind s.more x.line x.behind (sym s.after ∙ none))
+          (led x.reached x.asked x.at.before _ s.before x.at.leads)
+
+  fault_once : (s : Stage) (line : List ℕ) (behind : List (List ℕ)) (k j : Kind) → HasFaultAt gives rules text s line behind k
+      → HasFaultAt gives rules text s line behind j → k ≡ j
+  fault_once s line (next ∷ more) k j fault too = same_err (sym fault ∙ too)
+  fault_once s line [] k j fault too = same_some (sym fault ∙ too)
+
+  both_refused : (e f : ScriptError) → IsRefusedText gives rules text e → IsRefusedText gives rules text f → e ≡ f
+  both_refused e f x y = by_place (cut e.line f.line x.reached y.reached x.asked y.asked x.line y.line x.behind y.behind x.at y.at)
+    where
+      by_place : Places x.at.before y.at.before x.line y.line x.behind y.behind → e ≡ f
+      by_place (inl s) =
+          let same = one_lead x.reached y.reached x.asked y.asked x.at.before y.at.before s.before x.at.leads y.at.leads in
+          let P : Stage → Type 0 = λ t. HasFaultAt gives rules text t y.line y.behind f.kind in
+          let Q : List ℕ → Type 0 = λ line. HasFaultAt gives rules text x.reached line y.behind f.kind in
+          let R : List (List ℕ) → Type 0 = λ ps. HasFaultAt gives rules text x.reached x.line ps f.kind in
+          let too = subst R (sym s.after) (subst Q (sym s.here) (subst P (sym same.0) y.fault)) in
+          same_error e f (x.at.number ∙ ap (λ ls. 1 + length ls) s.before ∙ sym y.at.number) (fault_once x.reached x.line x.behind e.kind f.kind x.fault too)
+      by_place (inr (inl s)) =
+          absurd (fault_passed e x s.more y.reached y.asked (λ none. some_behind s.more y.line y.behind (sym s.after ∙ none))
+          (led y.reached y.asked y.at.before _ s.before y.at.leads))
+      by_place (inr (inr s)) =
+          absurd (fault_passed f y s.more x.reached x.asked (λ none. some_behind s.more x.line x.behind (sym s.after ∙ none))
+          (led x.reached x.asked x.at.before _ s.before x.at.leads))
+
+  found_once : (l m : Layout) (h k : List E) (o p : Option Stop)
+      → HasVerdict gives rules text (Ok (record { layout = l; events = h; stop = o })) → HasVerdict gives rules text (Ok (record { layout = m; events = k; stop = p }))
+      → (l ≡ m) × (h ≡ k) × (o ≡ p)
+  found_once l m h k None None x y = let same = both_legal l m h k x y in (same.0, same.1, refl)
+  found_once l m h k None (Some s) x y = absurd (legal_stops l m h k s x y)
+  found_once l m h k (Some s) None x y = absurd (legal_stops m l k h s y x)
+  found_once l m h k (Some s) (Some r) x y = let same = both_stop l m h k s r x y in (same.0, same.1, ap (λ z. Some z) same.2)
+
+  never_both : (l : Layout) (h : List E) (o : Option Stop) (e : ScriptError) → HasVerdict gives rules text (Ok (record { layout = l; events = h; stop = o }))
+      → IsRefusedText gives rules text e → ⊥
+  never_both l h None e x y = legal_refused l h e x y
+  never_both l h (Some s) e x y = stops_refused l h s e x y
+
+  pub one_verdict : (v w : Result (Verdict E) ScriptError) → HasVerdict gives rules text v → HasVerdict gives rules text w → v ≡ w
+  one_verdict (Ok v) (Ok w) x y =
+      let same = found_once v.layout w.layout v.events w.events v.stop w.stop x y in
+      ap (λ z. Ok z) (same_verdict v w same.0 same.1 same.2)
+  one_verdict (Ok v) (Err f) x y = absurd (never_both v.layout v.events v.stop f x y)
+  one_verdict (Err e) (Ok w) x y = absurd (never_both w.layout w.events w.stop e y x)
+  one_verdict (Err e) (Err f) x y = ap (λ z. Err z) (both_refused e f x y)

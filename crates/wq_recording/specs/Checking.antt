@@ -1,0 +1,39 @@
+-- What is said of the bytes of a recording of either kind.
+use Rattle.std.specs.Prelude.{ℕ, Bool, false, List, ◌∷◌, codes, MatchBool}
+use Rattle.std.specs.Str.{bytes_eq}
+use Rattle.wq_check.specs.declared.mark.Mark.{Mark}
+use Rattle.wq_text.specs.declared.fault.ScriptError.{ScriptError}
+use Rattle.wq_text.specs.Line.{Lines}
+use Rattle.wq_text.specs.Word.{parts}
+use Rattle.wq_recording.specs.declared.entry.Entry.{Entry}
+use Rattle.wq_recording.specs.declared.finding.Finding.{Finding}
+use Rattle.wq_recording.specs.History.{history_grammar}
+use Rattle.wq_recording.specs.HistoryReport.{history_rules}
+use Rattle.wq_recording.specs.Trace.{trace_grammar}
+use Rattle.wq_recording.specs.TraceReport.{trace_rules}
+use Rattle.wq_recording.specs.Verdict.{recording_line, IsRefusedText}
+use Rattle.wq_recording.specs.VerdictText.{Finds}
+
+-- a line of a history, and one of a trace
+abbrev pub history_line : Lines Entry
+history_line = recording_line history_grammar
+
+abbrev pub trace_line : Lines Mark
+trace_line = recording_line trace_grammar
+
+-- the first line is whole and that of a trace; every other text is read as a history
+abbrev pub begins_as_trace : List (List ℕ) → Bool
+begins_as_trace (line ∷ next ∷ more) = bytes_eq line (codes "trace 1")
+begins_as_trace _ = false
+
+abbrev pub is_trace : List ℕ → Bool
+is_trace text = begins_as_trace (parts text)
+
+-- what was found is what is said of the text, by its own rules
+abbrev pub IsFoundOf : List ℕ → Finding → Type 0
+IsFoundOf text finding =
+    MatchBool (is_trace text) (Finds trace_line trace_rules text finding) (Finds history_line history_rules text finding)
+
+-- the text is refused, by its own rules
+abbrev pub IsRefusedFor : List ℕ → ScriptError → Type 0
+IsRefusedFor text e = MatchBool (is_trace text) (IsRefusedText trace_line trace_rules text e) (IsRefusedText history_line history_rules text e)

@@ -1,0 +1,46 @@
+//! What is said of a recording of either kind.
+ghost use Rattle.std.specs.Prelude.{◌≡◌, ◌∷◌, ◌++◌, [], ℕ, List, false, codes, IfOk, IfErr, IfSome};
+ghost use Rattle.std.specs.Str.{bytes_eq};
+ghost use Rattle.wq_recording.specs.Lines.{EndsWithLf};
+ghost use Rattle.wq_recording.specs.Judging.{IfTextRefused};
+ghost use Rattle.wq_recording.specs.Checking.{IsFoundOf, IsRefusedFor};
+
+use crate::error::CheckError;
+use crate::finding::Finding;
+use crate::history::Entries;
+use crate::judging::judge;
+use crate::lines::{Part, next_line, part_of};
+use crate::trace::Marks;
+use std::alloc::Global;
+use std::io::BufRead;
+
+// Whether a first line that was read is that of a trace.
+fn is_trace(line: &[u8]) -> bool
+    ensures whole { (text : List ℕ) → line.now ≡ text ++ 10 ∷ [] → result ≡ bytes_eq text (codes "trace 1") }
+    ensures rest { ¬ EndsWithLf line.now → result ≡ false }
+{
+    match part_of(line) {
+        Part::Line(text) => text == b"trace 1".as_slice(),
+        Part::Rest(_) => false,
+    }
+}
+
+/// Reads a recording, a trace where its first line is `trace 1` and else a history, up to the line that decides, and says what
+/// is found (docs/FORMATS.md). Takes no more memory than the header of the recording and one line ask for. No text has two
+/// verdicts, and nothing behind the line that decides changes one (`one_verdict`).
+///
+/// # Errors
+/// `Text` with the first faulty line and the first fault on it, or want of memory; `Read` where the reader failed before a line
+/// decided.
+pub fn check<B: BufRead>(alloc: Global, reader: &mut B) -> Result<Finding, CheckError>
+    ensures found { IfOk result (λ finding. IfSome (B.remaining reader.old) (λ text. IsFoundOf text finding)) }
+    ensures refused { IfErr result (λ error. IfSome (B.remaining reader.old) (λ text. IfTextRefused error (IsRefusedFor text))) }
+{
+    let mut line = Vec::new(alloc);
+    next_line(reader, &mut line)?;
+    if is_trace(&line) {
+        judge::<Marks, B>(alloc, reader, &mut line)
+    } else {
+        judge::<Entries, B>(alloc, reader, &mut line)
+    }
+}
