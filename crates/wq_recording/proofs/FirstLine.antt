@@ -71,7 +71,8 @@ module _ (text line : List ℕ) (left : Option (List ℕ)) (taken : Consumes (So
           by_more part [] long = refl
           by_more part (p ∷ ps) long = longer_than_version part long
       by_left (Some ys) taken (inr (inr none)) =
-          ap begins_as_trace (ap parts (taken ∙ ap (λ zs. line ++ zs) none ∙ append-nil line) ∙ parts_bare line (bare_line line (Some text) left got bare)) ∙ sym is
+          ap begins_as_trace (ap parts (taken ∙ ap (λ zs. line ++ zs) none ∙ append-nil line)
+          ∙ parts_bare line (bare_line line (Some text) left got bare)) ∙ sym is
 
   pub is_trace_as : ((t : List ℕ) → line ≡ t ++ 10 ∷ [] → b ≡ bytes_eq t (codes "trace 1")) → (¬ EndsWithLf line → b ≡ false) → is_trace text ≡ b
   is_trace_as whole rest = elim (ends_or_not line) [

@@ -69,7 +69,8 @@ module _ {A E C : Type 0} (inner : Lines A) (rules : Rules A E) (layout_of : C �
   reads_start (Some text) left line taken got =
       (text, reading text text 1 stage.Version None line left [] (read_nothing (short_line inner) text [] refl) refl got taken)
 
-  module _ (text rest : List ℕ) (n : ℕ) (s : Stage) (checker : Option C) (line : List ℕ) (left : Option (List ℕ)) (r : IsReading text rest n s checker line left) where
+  module _ (text rest : List ℕ) (n : ℕ) (s : Stage) (checker : Option C) (line : List ℕ) (left : Option (List ℕ))
+      (r : IsReading text rest n s checker line left) where
     at_part : (part : List ℕ) (more : List (List ℕ)) → parts rest ≡ part ∷ more → IsAt (short_line inner) text n s r.asked part more
     at_part part more cut = record {
       before = r.read.before;

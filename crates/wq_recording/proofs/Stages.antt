@@ -50,7 +50,8 @@ module _ {N A : Type 0} (g : Grammar N A) (l : Layout) (next : Stage) (one : Opt
   unfolding plain_line_gives words_give
   stays line e = by_passing (is_passed_over line) e
     where
-      by_passing : (b : Bool) → (if b then Ok (stage.Commands l, None) else plain_line_gives g (stage.Commands l) line) ≡ Ok (next, one) → next ≡ stage.Commands l
+      by_passing : (b : Bool) → (if b then Ok (stage.Commands l, None) else plain_line_gives g (stage.Commands l) line) ≡ Ok (next, one)
+          → next ≡ stage.Commands l
       by_passing true e = sym (first_of (stage.Commands l, None) (next, one) e)
       by_passing false e = stays_words (words line) (passed kind.Space _ _ _ (passed kind.Bytes _ _ _ e))
 

@@ -70,7 +70,8 @@ module _ {A E : Type 0} (gives : Lines A) (rules : Rules A E) (fit : AreFit give
       let Q : List E → Type 0 = λ h. rules.IsLegal layout h in
       let S : Layout → Type 0 = λ l. rules.IsLegal l (flat_map rules.tells asked ++ tail) in
       let R : List E → Type 0 = λ h. rules.HasCause layout h x.event stop.cause in
-      fit.clash layout (first ++ x.first) x.event (x.rest ++ (others ++ tail)) stop.cause (subst Q shape (subst S has (legal c.0 at_end))) (subst R x.events_are x.caused)
+      fit.clash layout (first ++ x.first) x.event (x.rest ++ (others ++ tail)) stop.cause (subst Q shape (subst S has (legal c.0 at_end)))
+      (subst R x.events_are x.caused)
 
   -- nor is a line that has a fault
   fault_passed : (e : ScriptError) (x : IsRefusedText gives rules text e) (more : List (List ℕ)) (t : Stage) (asked : List A)
@@ -147,11 +148,13 @@ module _ {A E : Type 0} (gives : Lines A) (rules : Rules A E) (fit : AreFit give
           whole_or_not x.reached l e.kind x.whole (subst R (sym s.after) (subst Q (sym s.here) (subst P (sym same.0) y.fault)))
       by_place (inr (inl s)) = some_behind s.more y.line y.behind (sym s.after)
       by_place (inr (inr s)) =
-          fault_passed e y s.more x.reached x.asked (λ none. some_behind s.more [] [] (sym s.after ∙ none)) (led x.reached x.asked x.at.before _ s.before x.at.leads)
+          fault_passed e y s.more x.reached x.asked (λ none. some_behind s.more [] [] (sym s.after ∙ none))
+          (led x.reached x.asked x.at.before _ s.before x.at.leads)
 
   -- of one line the first event that is not legal is one
   one_stop : (layout : Layout) (h told : List E) (first others : List E) (e f : E) (rest more : List E) (c d : Cause) → first ++ e ∷ rest ≡ others ++ f ∷ more
-      → rules.IsLegal layout (h ++ first) → rules.IsLegal layout (h ++ others) → rules.HasCause layout (h ++ first) e c → rules.HasCause layout (h ++ others) f d
+      → rules.IsLegal layout (h ++ first) → rules.IsLegal layout (h ++ others) → rules.HasCause layout (h ++ first) e c
+      → rules.HasCause layout (h ++ others) f d
       → (first ≡ others) × (c ≡ d)
   one_stop layout h told first others e f rest more c d same legal too caused also = by_place (places first others e f rest more same)
     where
@@ -244,7 +247,8 @@ module _ {A E : Type 0} (gives : Lines A) (rules : Rules A E) (fit : AreFit give
           (led x.reached x.asked x.at.before _ s.before x.at.leads))
 
   found_once : (l m : Layout) (h k : List E) (o p : Option Stop)
-      → HasVerdict gives rules text (Ok (record { layout = l; events = h; stop = o })) → HasVerdict gives rules text (Ok (record { layout = m; events = k; stop = p }))
+      → HasVerdict gives rules text (Ok (record { layout = l; events = h; stop = o }))
+      → HasVerdict gives rules text (Ok (record { layout = m; events = k; stop = p }))
       → (l ≡ m) × (h ≡ k) × (o ≡ p)
   found_once l m h k None None x y = let same = both_legal l m h k x y in (same.0, same.1, refl)
   found_once l m h k None (Some s) x y = absurd (legal_stops l m h k s x y)

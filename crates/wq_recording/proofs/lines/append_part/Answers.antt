@@ -14,7 +14,8 @@ returns-clause-done g c =
     let left = g.B.Read.remaining c.consume.new.self in
     let rested = c.fill_buf.follows.lender-at-none in
     let filled = subst (FillKeeps _ (g.B.Read.remaining rested) (g.B.BufRead.consumable_len rested)) c.in-Ok.is c.fill_buf.follows.holds-at-none in
-    let moved = Consumes_shown _ _ _ _ bytes count.result count.ensures.bound c.in-Ok.ensures.front c.in-Ok.ensures.end filled.0 filled.1 c.consume.ensures.bytes in
+    let moved =
+    Consumes_shown _ _ _ _ bytes count.result count.ensures.bound c.in-Ok.ensures.front c.in-Ok.ensures.end filled.0 filled.1 c.consume.ensures.bytes in
     subst (λ line. EndsOrGoesOn (c.is_end-is_end.result || nat_lt 4096 c.len-is_long.result) line known left) (sym items)
     (part_read c.args.line.now.items bytes count.result count.ensures.bound known left c.is_end-is_end.result (nat_lt 4096 c.len-is_long.result)
     c.requires.room c.requires.none count.ensures.before c.is_end-is_end.ensures (search rules) (search rules) moved.1)

@@ -17,4 +17,7 @@ loop-place-preserved g c = λ h after.
     ]
 
 pub returns : goal.returns
-returns g c = record { left = λ h after. left_all _ _ _ _ (c.loop-place.invariant h after) (omega (arith, c.loop-place-test.false, c.loop-place.auto.place-end)) }
+returns g c = record {
+  left = λ h after.
+      left_all _ _ _ _ (c.loop-place.invariant h after) (omega (arith, c.loop-place-test.false, c.loop-place.auto.place-end));
+}

@@ -19,4 +19,5 @@ returns-in_ok-tell_event-2-clause-told c = λ h after.
     let first = c.in_ok-tell_event.ensures.told h after in
     let both = c.in_ok-tell_event-2.ensures.told (h ++ c.args.entry.first ∷ []) first in
     let P : List Event → Type 0 = λ es. IsAfter c.tell_event-in-Some.new.checker (h ++ c.args.entry.first ∷ es) in
-    subst P (sym (ap option_to_list c.in-Some.is)) (subst (IsAfter c.tell_event-in-Some.new.checker) (append_assoc h (c.args.entry.first ∷ []) (c.in-Some.second ∷ [])) both)
+    subst P (sym (ap option_to_list c.in-Some.is))
+    (subst (IsAfter c.tell_event-in-Some.new.checker) (append_assoc h (c.args.entry.first ∷ []) (c.in-Some.second ∷ [])) both)
