@@ -1,6 +1,6 @@
 //! The two queues and their pool.
 ghost use Rattle.std.specs.Prelude.{◌≡◌, ◌+◌, ◌<◌, ◌≤◌, ◌∷◌, [], All, IfOk, length};
-ghost use Rattle.wq_pool.specs.History.{accepted, IsRunning};
+ghost use Rattle.wq_pool.specs.History.{accepted, IsRunning, IsShut};
 ghost use Rattle.wq_pool.specs.Seen.{own};
 ghost use Rattle.wq_pool.specs.Known.{IsCallerOf};
 ghost use Rattle.wq_pool.specs.State.{items_among};
@@ -61,6 +61,7 @@ fn pool_of(
     two: Worker<Runs>,
 ) -> Result<(Pool<Runs>, Vec<Caller>), RunError>
     requires idle { (¬ IsRunning one.seen) × (¬ IsRunning two.seen) }
+    requires open { (¬ IsShut one.seen) × (¬ IsShut two.seen) }
     ensures workers { IfOk result (λ r. r.0.workers ≡ worker_id one ∷ worker_id two ∷ []) }
     ensures callers { IfOk result (λ r. All (IsCallerOf r.0.ready) r.1.items × (length r.1.items ≡ 7)) }
 {

@@ -90,7 +90,8 @@ module _ (layout : Layout) where
   -- no push follows a close
   one_late : (v : List Event) → IsClosed v → (s : ℕ) (e : Event) → IsAllowed layout v e → cond {A = ℕ} (is_queued_by s e) 1 0 ≡ 0
   one_late v closed s =
-      by_push (λ e. IsAllowed layout v e → cond {A = ℕ} (is_queued_by s e) 1 0 ≡ 0) (λ t k a. absurd (a.2.1 (closed_shuts v closed))) (λ e _ _ by _. rw (by s) refl)
+      by_push (λ e. IsAllowed layout v e → cond {A = ℕ} (is_queued_by s e) 1 0 ≡ 0) (λ t k a. absurd (a.2.1 (closed_shuts v closed)))
+      (λ e _ _ by _. rw (by s) refl)
 
   late_none : (s : ℕ) (v new : List Event) → IsLegal layout (v ++ new) → IsClosed v → count_by (is_queued_by s) new ≡ 0
   late_none s v [] legal closed = refl

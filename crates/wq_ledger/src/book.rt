@@ -1,5 +1,6 @@
 //! What the senders of a queue that has run to the end have counted.
 ghost use Rattle.std.specs.Prelude.{◌≡◌, [], All, MatchResult};
+ghost use Rattle.wq_words.specs.History.{accepted, begun, ended};
 ghost use Rattle.wq_words.specs.Legal.{IsLegal, IsComplete};
 ghost use Rattle.wq_words.specs.Headline.{KeepsHeadline};
 ghost use Rattle.wq_words.specs.Seen.{owner_seat, Grows};
@@ -93,11 +94,13 @@ impl Book {
     }
 
     /// What its owner has seen is a legal history that has run to the end, so it keeps the headline: what was accepted was
-    /// executed in its order, once, and one at a time. The worker's own sender has a ledger of this book.
+    /// executed in its order, once, and one at a time, and all of it was. The worker's own sender has a ledger of this book.
     pub fn legal(&self)
         ensures legal { IsLegal self.now.layout self.now.seen }
         ensures complete { IsComplete self.now.seen }
         ensures headline { KeepsHeadline self.now.seen }
+        ensures all_began { begun self.now.seen ≡ accepted self.now.seen }
+        ensures all_ended { ended self.now.seen ≡ begun self.now.seen }
         ensures own { IsLedgerOf self.now.seen self.now.own }
     {
         let _ = &self.owner;

@@ -1,7 +1,8 @@
 -- The ledgers of a race balance.
 use Rattle.wq_plan.proofs.Common.{◌≡◌, ◌≢◌, ℕ, suc, ◌+◌, ◌-◌, ◌^◌, ◌<◌, ◌≤◌, ◌⊎◌, Bool, true, false, cond, ◌==◌, List, [], ◌∷◌, ◌++◌, length, map, get_or, inl}
 use Rattle.wq_plan.proofs.Common.{inr, refl, sym, ap, ◌∙◌, subst, arith, eq-eqb, count_by, eqb-true, cases_lt, append-nil, filter-append, Event, own, count_own}
-use Rattle.wq_plan.proofs.Common.{own-append, Known, is_queued_by, is_pending_by, is_closed_by, is_draining_by, is_contended_by, capped, sender_counts, owner_counts}
+use Rattle.wq_plan.proofs.Common.{own-append, Known, is_queued_by, is_pending_by, is_closed_by, is_draining_by, is_contended_by, capped, sender_counts}
+use Rattle.wq_plan.proofs.Common.{owner_counts}
 use Rattle.wq_plan.proofs.Common.{Unbalanced, LedgerState, BookState, IsLedgerOf, largest, AreWhole, AreOwnerWhole, ledgers_of, HasOne, IsFault, IsUnbalanced}
 use Rattle.wq_plan.proofs.Common.{of_sender, of_worker, ledger_of, pending_own, closed_own, contended_own, count_by-le-length}
 use Rattle.wq_ledger.specs.declared.balance.Unbalanced.TheVariants.{Missing, Twice, Saturated}

@@ -2,7 +2,8 @@
 use Rattle.wq_plan.proofs.Common.{◌≡◌, ◌≢◌, ℕ, ◌+◌, ◌-◌, map, ◌^◌, inl, inr, length-append, ◌*◌, ◌<◌, ◌≤◌, Bool, true, false, List, [], ◌∷◌, ◌++◌, length}
 use Rattle.wq_plan.proofs.Common.{get_or, min, refl, sym, ap, ◌∙◌, subst, arith, All, MatchBool, count_by, AllByRecursion, cases_lt, length-range_with_len}
 use Rattle.wq_plan.proofs.Common.{IsPrefix, Layout, Event, Back, is_close, is_drain, is_push, accepted, begun, ended, IsLegal, prefix_whole, own, own-append}
-use Rattle.wq_plan.proofs.Common.{closed_count, count_same, owner_seat, Why, IsRefusal, ended_same, Known, is_queued_by, is_chain, is_chain_busy, sender_counts, owner_counts, LedgerState, BookState}
+use Rattle.wq_plan.proofs.Common.{closed_count, count_same, owner_seat, Why, IsRefusal, ended_same, Known, is_queued_by, is_chain, is_chain_busy, sender_counts}
+use Rattle.wq_plan.proofs.Common.{owner_counts, LedgerState, BookState}
 use Rattle.wq_plan.proofs.Common.{Unbalanced, AreWhole, AreOwnerWhole, ledgers_of, HasOne, IsUnbalanced, is_queued_below, below_more, below_all, WorkerState}
 use Rattle.wq_plan.proofs.Common.{items_among, SendsAll, count_by-append, accepted-count, Idle, Plan, Team, items_at, IsOfStop, HasRaced, queueings, Tells}
 use Rattle.wq_plan.proofs.Common.{IsWhole, IsTold, HasMet, AllKnown, HasEnded, HasHeard, ledger_of, own_between, prefix_on, count_by-le-length, IsComplete}
@@ -28,7 +29,8 @@ all_front P [] ys all = tt
 all_front P (x ∷ xs) ys all = (all.0, all_front P xs ys all.1)
 
 -- no event of a kind that was never seen comes before another
-none_before : (p : Event → Bool) (e : Event) (before rest h w : List Event) → h ≡ before ++ e ∷ rest → IsPrefix h w → count_by p w ≡ 0 → ¬ (0 < count_by p before)
+none_before : (p : Event → Bool) (e : Event) (before rest h w : List Event) → h ≡ before ++ e ∷ rest → IsPrefix h w → count_by p w ≡ 0
+    → ¬ (0 < count_by p before)
 none_before p e before rest h w is begins none some =
     omega (arith, some, ap (count_by p) is, count_by-append p before (e ∷ rest), ap (count_by p) begins.1, count_by-append p h begins.0, none)
 

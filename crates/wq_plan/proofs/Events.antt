@@ -1,9 +1,8 @@
 -- Events of a history, and whose they are.
 use Rattle.wq_plan.proofs.Common.{⊎_elim, ◌≡◌, ℕ, zero, suc, ◌+◌, ◌*◌, ◌<◌, ◌≤◌, ◌⊎◌, Bool, true, false, cond, ◌==◌, List, [], ◌∷◌, ◌++◌, inl, inr, refl, sym}
 use Rattle.wq_plan.proofs.Common.{ap, ◌∙◌, subst, arith, append_assoc, eq-eqb, count_by, range_with_len, eqb-true, cases_lt, sum_by-cons, Layout, Event, Hold}
-use Rattle.wq_plan.proofs.Common.{Busy, Push, Back, Take, Close, Begin, End, Chain, ChainBusy, Rest, sets_pending, IsLegal, IsAllowed, seat_of, own, Sends}
+use Rattle.wq_plan.proofs.Common.{Busy, Push, Back, Chain, sets_pending, IsLegal, IsAllowed, seat_of, own, Sends}
 use Rattle.wq_plan.proofs.Common.{Why, IsRefusal, pushed, busy, refused, SendsAll, queueings}
-use Rattle.wq_words.specs.declared.event.Why.TheVariants as why
 use Rattle.wq_words.proofs.Legal.{legal_next}
 use Rattle.wq_plan.proofs.Running.{own_room}
 
@@ -190,7 +189,8 @@ row_pushed s a (suc m) es free opens f =
     let in_first : (e : Event) → Has e f.0 → Has e es = λ e h. subst (Has e) (sym f.2) (has_left e f.0 f.1 h) in
     let in_rest : (e : Event) → Has e f.1 → Has e es = λ e h. subst (Has e) (sym f.2) (has_right e f.0 f.1 h) in
     let one = one_pushed s a f.0 (λ h. free a (in_first (Busy s a) h)) (λ cause refusal h. opens a cause refusal (in_first (Back s a cause) h)) f.3 in
-    let rest = row_pushed s (a + 1) m f.1 (λ k h. free k (in_rest (Busy s k) h)) (λ k cause refusal h. opens k cause refusal (in_rest (Back s k cause) h)) f.4 in
+    let rest = row_pushed s (a + 1) m f.1 (λ k h. free k (in_rest (Busy s k) h))
+    (λ k cause refusal h. opens k cause refusal (in_rest (Back s k cause) h)) f.4 in
     f.2 ∙ (λ i. one i ++ rest i)
 
 -- a number of the rows of two senders is a number of one

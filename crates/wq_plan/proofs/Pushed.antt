@@ -1,7 +1,7 @@
 -- What was accepted where senders share the items of a queue out.
-use Rattle.wq_plan.proofs.Common.{nat_lt, ◌≡◌, ℕ, ◌+◌, ◌*◌, ◌<◌, ◌≤◌, Bool, false, cond, List, [], ◌∷◌, ◌++◌, length, inl, inr, refl, sym, ap, ◌∙◌, subst}
+use Rattle.wq_plan.proofs.Common.{nat_lt, ◌≡◌, ℕ, ◌+◌, ◌*◌, ◌<◌, ◌≤◌, Bool, cond, List, [], ◌∷◌, ◌++◌, length, inl, inr, refl, sym, ap, ◌∙◌, subst}
 use Rattle.wq_plan.proofs.Common.{arith, eq-eqb, length-append, count_by, AllByRecursion, cases_lt, lt-ltb, le-ltb, filter_map-append, filter-append}
-use Rattle.wq_plan.proofs.Common.{sum_by-cons, Layout, Event, Hold, Busy, Push, Back, Take, Close, Begin, End, Chain, ChainBusy, Rest, stop_number, accepted_by}
+use Rattle.wq_plan.proofs.Common.{sum_by-cons, Layout, Event, Push, Chain, stop_number, accepted_by}
 use Rattle.wq_plan.proofs.Common.{accepted, IsLegal, seat_of, own, is_queued_by, is_chain, items_among, SendsAll, items_among-item, items_among-other}
 use Rattle.wq_plan.proofs.Common.{is_queued_below, IsLayoutOf, items_at, IsOfStop, true}
 use Rattle.wq_plan.proofs.Running.{own_room}

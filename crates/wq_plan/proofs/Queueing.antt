@@ -1,6 +1,7 @@
 -- What a sender's thread adds.
 use Rattle.wq_plan.proofs.Common.{◌≡◌, ◌≢◌, ℕ, zero, suc, ◌+◌, ◌*◌, ◌-◌, ◌<◌, ◌≤◌, List, [], ◌∷◌, ◌++◌, length, refl, sym, ap, ◌∙◌, subst, arith}
-use Rattle.wq_plan.proofs.Common.{length-append, append_assoc, AllByRecursion, range_with_len, append-nil, Layout, Event, stop_number, Grows, Known, Sees, Sends}
+use Rattle.wq_plan.proofs.Common.{length-append, append_assoc, AllByRecursion, range_with_len, append-nil, Layout, Event, stop_number, Grows, Known, Sees}
+use Rattle.wq_plan.proofs.Common.{Sends}
 use Rattle.wq_plan.proofs.Common.{SendsAll, pushed, busy, refused, HasQueued, IsOfStop, IsInVain, HasMade, HasStopped, IsStopAnswer}
 use Rattle.wq_words.specs.declared.answer.Answer.{Answer}
 use Rattle.wq_words.specs.declared.answer.Answer.TheVariants as answer
@@ -38,7 +39,8 @@ pub queued_more : (ks : List ℕ) (k : ℕ) (a b c : Known) → HasQueued ks a b
 queued_more ks k a b c x y =
     let fs = y.queued.0 in
     let all : y.events ≡ fs = y.queued.2 ∙ (ap (λ (z : List Event). fs ++ z) y.queued.4 ∙ append-nil fs) in
-    let q : Sends a.number k y.events = subst (λ (z : List Event). Sends a.number k z) (sym all) (subst (λ (n : ℕ). Sends n k fs) x.same.number_is y.queued.3) in
+    let q : Sends a.number k y.events =
+    subst (λ (z : List Event). Sends a.number k z) (sym all) (subst (λ (n : ℕ). Sends n k fs) x.same.number_is y.queued.3) in
     record {
       same = same_on a b c x.same y.same;
       events = x.events ++ y.events;

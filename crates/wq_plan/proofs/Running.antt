@@ -1,7 +1,8 @@
 -- A team whose threads have ended.
 use Rattle.std.proofs.lemmas.Nat.{mul-le}
 use Rattle.wq_plan.proofs.Common.{◌≡◌, ℕ, suc, ◌+◌, ◌*◌, ◌^◌, ◌<◌, ◌≤◌, List, [], ◌++◌, length, get_or, sym, ap, ◌∙◌, subst, arith, count_by}
-use Rattle.wq_plan.proofs.Common.{AllByRecursion, QueueId, Layout, Event, IsRunning, IsShut, is_close, is_drain, owner_seat, own, Grows, closed_count, count_same, begun_same, Known}
+use Rattle.wq_plan.proofs.Common.{AllByRecursion, QueueId, Layout, Event, IsRunning, IsShut, is_close, is_drain, owner_seat, own, Grows, closed_count}
+use Rattle.wq_plan.proofs.Common.{count_same, begun_same, Known}
 use Rattle.wq_plan.proofs.Common.{new_sender, is_chain, is_chain_busy, SendsAll, Plan, Team, IsLayoutOf, IsNewTeam, items_at, HasQueued, IsOfStop, HasStopped}
 use Rattle.wq_plan.proofs.Common.{HasServed, HasRaced, length-new_senders, get_or-new_senders, AllQueued, IsQueuer}
 use Rattle.wq_words.proofs.ShutOwn.{shut_same}

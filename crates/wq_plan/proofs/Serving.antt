@@ -1,6 +1,7 @@
 -- A worker whose work asks for nothing adds the owner's takes, begins and ends alone.
 use Rattle.wq_plan.proofs.Common.{◌≡◌, ◌≢◌, ℕ, ◌+◌, ◌==◌, List, [], ◌∷◌, ◌++◌, length, refl, sym, ap, ◌∙◌, subst, arith, append_assoc, filter, count_by}
-use Rattle.wq_plan.proofs.Common.{append-nil, filter_map-append, Event, Close, End, IsRunning, is_close, is_drain, shut, begun, ended, ended_by, stop_number, IsLegal}
+use Rattle.wq_plan.proofs.Common.{append-nil, filter_map-append, Event, Close, End, IsRunning, is_close, is_drain, shut, begun, ended, ended_by, stop_number}
+use Rattle.wq_plan.proofs.Common.{IsLegal}
 use Rattle.wq_plan.proofs.Common.{IsComplete, owner_seat, seat_of, own, count_same, is_chain, is_chain_busy, is_ours, taking, Follows, WorkerState, Moves}
 use Rattle.wq_plan.proofs.Common.{count_by-append, quiet_taking, Idle, BookState, IsLedgerOf, HasServed, HasGoneOn, HasEnded, or_parts, chain_own}
 use Rattle.wq_plan.proofs.Common.{chain_busy_own, IsSameWorker, prefix_self, prefix_on, worker_still, worker_on, moves_same, own_more}

@@ -1,6 +1,7 @@
 -- Events by which a worker sends nothing, chains nothing and asks for nothing.
 use Rattle.std.proofs.Common.{Option, Some, None}
-use Rattle.wq_plan.proofs.Common.{◌≡◌, ◌≢◌, ℕ, ◌+◌, Bool, true, false, List, [], ◌∷◌, ◌++◌, refl, ◌∙◌, arith, count_by, Event, Take, Begin, is_close, is_drain, shut}
+use Rattle.wq_plan.proofs.Common.{◌≡◌, ◌≢◌, ℕ, ◌+◌, Bool, true, false, List, [], ◌∷◌, ◌++◌, refl, ◌∙◌, arith, count_by, Event, Take, Begin, is_close, is_drain}
+use Rattle.wq_plan.proofs.Common.{shut}
 use Rattle.wq_plan.proofs.Common.{owner_seat, own, own-append, own_none, is_chain, is_chain_busy, taking, taking_of, count_by-append, seat_of, sym, subst}
 use Rattle.wq_live.specs.Batch.{next_of}
 

@@ -5,7 +5,8 @@ pub use Rattle.std.proofs.lemmas.List.Elements.{Contains-append_left, Contains-a
 pub use Rattle.wq_words.specs.declared.event.Event.{Event}
 pub use Rattle.wq_words.specs.declared.event.Event.TheVariants.{Close, End, Rest, Hold, Busy, Push, Back, Take}
 pub use Rattle.wq_words.specs.declared.layout.Layout.{Layout}
-pub use Rattle.wq_words.specs.History.{accepted, begun, ended, IsClosed, IsShut, IsDraining, IsRunning, ended_by, accepted_by, taken, fresh, first, closed, shut}
+pub use Rattle.wq_words.specs.History.{accepted, begun, ended, IsClosed, IsShut, IsDraining, IsRunning, ended_by, accepted_by, taken, fresh, first, closed}
+pub use Rattle.wq_words.specs.History.{shut}
 pub use Rattle.wq_words.specs.Legal.{IsLegal, IsComplete}
 pub use Rattle.wq_words.proofs.Closed.{closed_shuts, open_from_closed, shut_from_IsShut, shut_from_open, IsClosed_from_closed}
 pub use Rattle.wq_live.specs.Batch.{batch, next_of}

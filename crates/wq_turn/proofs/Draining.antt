@@ -5,8 +5,10 @@ use Rattle.wq_worker.specs.declared.drained.Drained.{Drained}
 use Rattle.wq_worker.specs.declared.drained.Drained.TheVariants.{Empty, TooLong}
 use Rattle.wq_worker.specs.Step.{Owes, owes as owes_one}
 use Rattle.wq_turn.proofs.Common.{◌≡◌, ℕ, ◌+◌, ◌<◌, ◌≤◌, Bool, true, false, List, [], ◌∷◌, length, refl, ap, ◌∙◌, arith, Event, Close, accepted, begun, ended}
-use Rattle.wq_turn.proofs.Common.{IsClosed, IsShut, IsRunning, IsLegal, IsComplete, closed_shuts, shut_from_IsShut, Row, none, more, IsExecution, Closes, was_closed, closes, Shuts}
-use Rattle.wq_turn.proofs.Common.{was_shut, drains, Resumes, stays_closed, reopens, Drains, sym, subst, WorkerState, Moves, owner_of_both, Pauses, limited, owes, owed_before, WorksOn}
+use Rattle.wq_turn.proofs.Common.{IsClosed, IsShut, IsRunning, IsLegal, IsComplete, closed_shuts, shut_from_IsShut, Row, none, more, IsExecution, Closes}
+use Rattle.wq_turn.proofs.Common.{was_closed, closes, Shuts}
+use Rattle.wq_turn.proofs.Common.{was_shut, drains, Resumes, stays_closed, reopens, Drains, sym, subst, WorkerState, Moves, owner_of_both, Pauses, limited}
+use Rattle.wq_turn.proofs.Common.{owes, owed_before, WorksOn}
 use Rattle.wq_turn.specs.Drained.{IsDrained, left_after}
 use Rattle.wq_turn.specs.Owed.{IsOwed}
 use Rattle.wq_turn.proofs.Moved.{steps_keep, works_keep}

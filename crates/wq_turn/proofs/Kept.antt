@@ -3,7 +3,8 @@ use Rattle.wq_worker.specs.Step.{Runs}
 use Rattle.wq_worker.proofs.Phase.{SamePhase, phase_still, shut_still, closed_still}
 use Rattle.wq_worker.proofs.Rows.{runs_phase}
 use Rattle.wq_worker.proofs.State.{quiet_taking}
-use Rattle.wq_turn.proofs.Common.{◌≡◌, ℕ, Bool, true, false, List, [], ◌∷◌, Some, None, Option, MatchOption, sym, refl, subst, Event, Close, IsDraining, IsRunning}
+use Rattle.wq_turn.proofs.Common.{ℕ, Bool, true, false, List, [], ◌∷◌, Some, None, Option, MatchOption, sym, refl, subst, Event, Close, IsDraining}
+use Rattle.wq_turn.proofs.Common.{IsRunning}
 use Rattle.wq_turn.proofs.Common.{Ran, WorkerState, Moves, rest_events, IsReady, IsUnready, owed, nothing, taking, owner_of_both}
 use Rattle.wq_turn.specs.Owed.{IsOwed}
 use Rattle.wq_turn.proofs.Draining.{close_closes}
@@ -12,7 +13,8 @@ pub idle_owes : (o : Bool) (v w : List Event) → IsOwed o v → ¬ IsRunning v 
 idle_owes true v w runs idle still = absurd (idle runs)
 idle_owes false v w rests idle still = still
 
-pub ready_idle : {W : Type 0} (r : Option ℕ) (a b : WorkerState W) → ¬ IsRunning a.seen → MatchOption r (IsUnready a b) (λ k. IsReady a k b) → ¬ IsRunning b.seen
+pub ready_idle : {W : Type 0} (r : Option ℕ) (a b : WorkerState W) → ¬ IsRunning a.seen → MatchOption r (IsUnready a b) (λ k. IsReady a k b)
+    → ¬ IsRunning b.seen
 ready_idle None a b idle (owed runs same) = absurd (idle runs)
 ready_idle None a b idle (nothing waited none moved left) = none.0
 ready_idle (Some k) a b idle step = step.idle

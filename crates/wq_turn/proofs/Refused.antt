@@ -17,7 +17,8 @@ use Rattle.wq_worker.proofs.Others.{next_still, some_fresh}
 use Rattle.wq_worker.proofs.Phase.{shut_still}
 use Rattle.wq_turn.proofs.Common.{◌≡◌, ℕ, ◌<◌, ◌≤◌, false, List, [], ◌∷◌, ◌++◌, length, take, ◌==◌, None, sym, refl, ap, ◌∙◌, subst, inl, inr, append_assoc}
 use Rattle.wq_turn.proofs.Common.{arith, length-append, length-drop, filter_map-append, filter-append, Event, Hold, Busy, Push, Back, Take, Layout, accepted}
-use Rattle.wq_turn.proofs.Common.{begun, IsClosed, IsShut, accepted_by, taken, fresh, first, IsLegal, IsComplete, closed_shuts, shut_from_open, batch, next_of, MayNotRest}
+use Rattle.wq_turn.proofs.Common.{begun, IsClosed, IsShut, accepted_by, taken, fresh, first, IsLegal, IsComplete, closed_shuts, shut_from_open, batch, next_of}
+use Rattle.wq_turn.proofs.Common.{MayNotRest}
 use Rattle.wq_turn.proofs.Common.{HasNoneLeft, taking, Adds, NothingWaits, at_take, at_all, owner_of_both, filter-filter, owner_grows, stays, quiet_none}
 
 -- of what came new the owner's events are those of what the worker's two seats added

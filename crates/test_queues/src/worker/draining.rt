@@ -2,7 +2,7 @@
 ghost use Rattle.std.specs.Prelude.{◌≡◌};
 
 use crate::expect::expect_same;
-use crate::seats::{FIRST, WAKES, queue_item};
+use crate::seats::{FIRST, QUEUED, WAKES, queue_item};
 use crate::worker::crew::{Crew, enter_all, new_crew, queue_waiting};
 use crate::worker::team::{Fixed, destroy, new_queue, new_team, take_last};
 use std::alloc::Global;
@@ -10,7 +10,7 @@ use std::process::Abort;
 use std::sync::Wait;
 use std::thread::{Threads, join_mut, yield_now};
 use wq_live::{Answer, Sender};
-use wq_worker::{Drained, Worker};
+use wq_worker::{Drained, Ran, Worker};
 
 /// How many items of its own each of four senders queues.
 const OWN: u32 = 16;
@@ -35,6 +35,19 @@ fn drain_goes_on_and_resumes(rt: HostRuntime) {
     expect_same(&rt, work.order.as_slice(), [0, 1, 2].as_slice());
     let counts = team.first.counts();
     expect_same(&rt, (counts.queued, counts.draining), (2, 1));
+}
+
+/// A step of a worker whose queue drains executes what waits. A destroy closes such a queue.
+#[test]
+fn destroy_ends_a_drain(rt: HostRuntime) {
+    let mut team = new_team(&rt, rt.alloc(), Fixed::new());
+    expect_same(&rt, queue_item(&rt, &mut team.first, 0), WAKES);
+    expect_same(&rt, queue_item(&rt, &mut team.first, 1), QUEUED);
+    expect_same(&rt, team.worker.drain(0), Drained::TooLong { left: 2 });
+    expect_same(&rt, team.worker.run_one(), Ran::Item(0));
+    let (work, _book) = destroy(&rt, team.worker, 1);
+    expect_same(&rt, work.order.as_slice(), [0, 1].as_slice());
+    expect_same(&rt, queue_item(&rt, &mut team.first, 2), Answer::Closed);
 }
 
 /// Queues an item over and over, until it is queued. How often it was answered that the queue drains.

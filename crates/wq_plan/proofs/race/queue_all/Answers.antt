@@ -1,4 +1,3 @@
-use Rattle.wq_plan.proofs.Common.{arith}
 use Rattle.wq_plan.proofs.Running.{untouched_open, untouched_idle, rooms}
 use Rattle.wq_plan.proofs.race.queue_all.Goals as goal
 

@@ -1,4 +1,5 @@
-use Rattle.wq_pool_plan.proofs.Common.{List, [], ◌∷◌, ◌++◌, length, sym, ap, ◌∙◌, subst, length-new_senders, untouched_idle, untouched_open, Group, AreDealt, whole_items}
+use Rattle.wq_pool_plan.proofs.Common.{List, [], ◌∷◌, ◌++◌, length, sym, ap, ◌∙◌, subst, length-new_senders, untouched_idle, untouched_open, Group, AreDealt}
+use Rattle.wq_pool_plan.proofs.Common.{whole_items}
 use Rattle.wq_pool_plan.proofs.Seats.{teams_more}
 use Rattle.wq_pool_plan.proofs.teams.Teams.add.Goals as goal
 
