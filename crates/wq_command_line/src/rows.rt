@@ -1,6 +1,6 @@
 //! The subcommands, and what help says of them.
 use crate::task::Kind;
-use clap::{Arg, Command};
+use clap::{Arg, ArgAction, Command};
 use std::alloc::{AllocError, Global};
 
 /// A subcommand: its name, what it runs, what it does, what its file is, and what a text of it may hold.
@@ -12,7 +12,10 @@ struct Row {
     more: &'static str,
 }
 
-const ROWS: [Row; 3] = [
+// The name of the flag that asks whether all that was queued has ended.
+pub(crate) const DRAINED: &str = "drained";
+
+const ROWS: [Row; 4] = [
     Row {
         name: "script",
         kind: Kind::Script,
@@ -59,6 +62,22 @@ Fields: queues, 1 to 8; workers, 1 to 8, the threads that serve them; senders, 1
 Example:
   echo '{\"queues\":2,\"workers\":2,\"senders\":4,\"own\":64}' | wqrun live /dev/stdin",
     },
+    Row {
+        name: "check",
+        kind: Kind::Check,
+        about: "Judges a recording of any ordered workqueue and prints what it found",
+        file: "The path of a recording: a history, which begins with 'history 1', or a trace, with 'trace 1'",
+        more: "\
+A history has the lines 'items N', 'senders N' and, if wanted, 'barriers N', then events:
+  S hold K, S busy K, S push K, S queue K, S refused K, and
+  S back K closed (or contended, cancelled, draining)
+  o take, o close, o drain, o resume, o begin K, o end K, o chain K, o busy K, o rest
+A trace has the line 'items N', then marks: queue K, start K, end K
+The first line that is faulty, or whose event may not come there, decides.
+
+Example:
+  printf 'trace 1\nitems 2\nqueue 0\nqueue 1\nstart 1\n' | wqrun check /dev/stdin",
+    },
 ];
 
 const MORE: &str = "\
@@ -66,18 +85,31 @@ Without any words wqrun runs a script from standard input.
 FILE is a path as it is written: '-' is a file of that name. For a pipe name /dev/stdin.
 
 Exit status:
-  0  the result was written, or help or the version was asked for
+  0  the result was written, or help or the version was asked for; of a recording: it is legal
   1  the text was refused, the file could not be read, or the output could not be written
   2  the command line was refused
-  3  memory, or a thread, could not be had";
+  3  memory, or a thread, could not be had
+  4  the recording is not legal, or --drained was given and something is left";
+
+// The flag of `check`.
+fn drained<'a>(alloc: Global) -> Arg<'a> {
+    Arg::new(alloc, DRAINED)
+        .long(DRAINED)
+        .action(ArgAction::SetTrue)
+        .help("Ends with status 4 where something that was queued has not ended, too")
+}
 
 // The command of a row.
 fn command_of<'a>(alloc: Global, row: &Row) -> Result<Command<'a>, AllocError> {
     let file = Arg::new(alloc, "FILE").required(true).help(row.file);
-    Command::new(alloc, row.name)
+    let command = Command::new(alloc, row.name)
         .about(row.about)
         .after_help(row.more)
-        .arg(file)
+        .arg(file)?;
+    match row.kind {
+        Kind::Check => command.arg(drained(alloc)),
+        _ => Ok(command),
+    }
 }
 
 // The command line without its subcommands.

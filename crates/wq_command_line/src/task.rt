@@ -1,10 +1,10 @@
 //! What the words of the command line ask for.
-ghost use Rattle.std.specs.Prelude.{◌≡◌, ◌≤◌, Ok, length};
+ghost use Rattle.std.specs.Prelude.{◌≡◌, ◌≤◌, Ok, length, false};
 ghost use Rattle.wq_command_line.specs.declared.task.Kind.TheVariants.{Script};
 ghost use Rattle.wq_command_line.specs.declared.task.Source.TheVariants.{Input};
 
 use crate::answer::Answer;
-use crate::rows::{command_line, kind_of};
+use crate::rows::{DRAINED, command_line, kind_of};
 use clap::Error;
 use std::alloc::Global;
 
@@ -14,6 +14,7 @@ pub enum Kind {
     Script,
     Steps,
     Live,
+    Check,
 }
 
 /// Where a text stands: on standard input, or in the file of this path.
@@ -28,6 +29,8 @@ pub enum Source<'a> {
 pub struct Task<'a> {
     pub kind: Kind,
     pub source: Source<'a>,
+    /// Of a recording: nothing may be left.
+    pub is_drained: bool,
 }
 
 // What these words ask for.
@@ -35,10 +38,12 @@ fn parse<'a>(alloc: Global, words: &'a [String]) -> Result<Task<'a>, Error> {
     let mut task = Task {
         kind: Kind::Script,
         source: Source::Input,
+        is_drained: false,
     };
     let matches = command_line(alloc)?.try_get_matches_from(words)?;
     if let Some((name, matches)) = matches.subcommand() {
         task.kind = kind_of(name);
+        task.is_drained = matches.get_flag(DRAINED);
         if let Some(path) = matches.get_str("FILE") {
             task.source = Source::File(path);
         }
@@ -49,12 +54,13 @@ fn parse<'a>(alloc: Global, words: &'a [String]) -> Result<Task<'a>, Error> {
 /// What the words ask for, the program's own name first: a script from standard input where they name no text. Else what is
 /// said in place of running one.
 pub fn task_of<'a>(alloc: Global, words: &'a [String]) -> Result<Task<'a>, Answer>
-    ensures bare { length words.now ≤ 1 → result ≡ Ok (record { kind = Script; source = Input }) }
+    ensures bare { length words.now ≤ 1 → result ≡ Ok (record { kind = Script; source = Input; is_drained = false }) }
 {
     if words.len() <= 1 {
         return Ok(Task {
             kind: Kind::Script,
             source: Source::Input,
+            is_drained: false,
         });
     }
     match parse(alloc, words) {

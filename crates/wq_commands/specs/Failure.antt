@@ -6,6 +6,8 @@ use Rattle.std.specs.declared.io.ErrorKind.{ErrorKind}
 use Rattle.std.specs.declared.io.ErrorKind.TheVariants as kind
 use Rattle.wq_text.specs.declared.fault.ParseError.{ParseError}
 use Rattle.wq_text.specs.declared.fault.ParseError.TheVariants as parse_errors
+use Rattle.wq_recording.specs.declared.error.CheckError.{CheckError}
+use Rattle.wq_recording.specs.declared.error.CheckError.TheVariants as check_errors
 use Rattle.wq_plan.specs.declared.plan_text.PlanError.{PlanError}
 use Rattle.wq_plan.specs.declared.plan_text.PlanError.TheVariants as plan_errors
 use Rattle.wq_commands.specs.declared.failure.Failure.{Failure}
@@ -25,6 +27,10 @@ of_read_error e = of_kind (error_kind e)
 abbrev pub of_parse_error : ParseError → Failure
 of_parse_error (parse_errors.Refused refusal) = failure.Refused refusal
 of_parse_error parse_errors.Memory = failure.Memory
+
+abbrev pub of_check_error : CheckError → Failure
+of_check_error (check_errors.Read e) = of_read_error e
+of_check_error (check_errors.Text e) = of_parse_error e
 
 abbrev pub of_plan_error : PlanError → Failure
 of_plan_error plan_errors.Memory = failure.Memory

@@ -3,3 +3,4 @@ pub mod Ending
 pub mod Report
 pub mod ScheduleReport
 pub mod RaceReport
+pub mod Judged

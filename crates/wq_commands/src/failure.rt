@@ -1,19 +1,20 @@
 //! What ends the program without its result.
 ghost use Rattle.std.specs.Prelude.{◌≡◌};
-ghost use Rattle.wq_commands.specs.Failure.{status_of, of_read_error, of_parse_error, of_plan_error};
+ghost use Rattle.wq_commands.specs.Failure.{status_of, of_read_error, of_parse_error, of_plan_error, of_check_error};
 ghost use Rattle.wq_commands.specs.declared.failure.Failure.TheVariants.{Memory};
 
 use std::alloc::AllocError;
 use std::io;
 use thiserror::Error;
 use wq_plan::{PlanError, RaceError};
+use wq_recording::CheckError;
 use wq_script::{ParseError, RunError, ScriptError};
 
 /// Why a result was not written. The text is what standard error says. An error of reading words, a file or a stream is want
 /// of memory or says that it is unreadable.
 #[derive(Debug, Drop, Error)]
 pub enum Failure {
-    /// The text is no script, or no schedule.
+    /// The text is no script, no schedule, or no recording.
     #[error(transparent)]
     Refused(ScriptError),
     /// The text is no plan.
@@ -63,6 +64,17 @@ impl From<ParseError> for Failure {
         match error {
             ParseError::Refused(refusal) => Failure::Refused(refusal),
             ParseError::Memory => Failure::Memory,
+        }
+    }
+}
+
+impl From<CheckError> for Failure {
+    ghost from_gives = { λ error failure. failure ≡ of_check_error error };
+
+    fn from(error: CheckError) -> Failure {
+        match error {
+            CheckError::Read(error) => Failure::from(error),
+            CheckError::Text(error) => Failure::from(error),
         }
     }
 }

@@ -2,6 +2,7 @@
 //! exit status.
 #![tactic(auto)]
 
+mod check;
 mod ending;
 mod failure;
 mod live;
@@ -9,6 +10,7 @@ mod reading;
 mod script;
 mod steps;
 
+pub use check::check_main;
 pub use ending::end;
 pub use failure::Failure;
 pub use live::live_main;

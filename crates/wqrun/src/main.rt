@@ -1,16 +1,17 @@
-//! `wqrun` turns a script of workqueue commands, or a schedule of steps, into a report, and runs a queue by live threads.
+//! `wqrun` turns a script of workqueue commands, or a schedule of steps, into a report, runs a queue by live threads, and judges
+//! recordings of queues.
 #![tactic(auto)]
 
 use std::alloc::{Alloc, Global};
 use std::env::Env;
 use std::fs::File;
 use std::io;
-use std::io::{Read, Write};
+use std::io::{BufReader, Read, Write};
 use std::process::ExitCode;
 use std::sync::Wait;
 use std::thread::Threads;
-use wq_command_line::{Answer, Kind, Source, task_of};
-use wq_commands::{Failure, end, live_main, script_main, steps_main};
+use wq_command_line::{Answer, Kind, Source, Task, task_of};
+use wq_commands::{Failure, check_main, end, live_main, script_main, steps_main};
 
 // The words of the command line, the program's own name first.
 fn command_words<R: Env + Alloc<A = Global>>(rt: &R) -> io::Result<Vec<String>> {
@@ -22,15 +23,19 @@ fn command_words<R: Env + Alloc<A = Global>>(rt: &R) -> io::Result<Vec<String>> 
 fn run_text<T: Threads + Wait + Sync, R: Read + Drop, O: Write, E: Write>(
     threads: &T,
     alloc: Global,
-    kind: Kind,
+    task: Task,
     reader: R,
     output: &mut O,
     faults: &mut E,
 ) -> u8 {
-    match kind {
+    match task.kind {
         Kind::Script => script_main(alloc, reader, output, faults),
         Kind::Steps => steps_main(alloc, reader, output, faults),
         Kind::Live => live_main(threads, alloc, reader, output, faults),
+        Kind::Check => match BufReader::new(alloc, reader) {
+            Ok(reader) => check_main(alloc, reader, task.is_drained, output, faults),
+            Err(error) => end(Err(Failure::from(error)), output, faults),
+        },
     }
 }
 
@@ -48,7 +53,7 @@ fn say<O: Write, E: Write>(answer: Answer, output: &mut O, faults: &mut E) -> u8
 
 // Runs what the words ask for. The exit status is 0 where the result, help or the version was written; 1 where the text was
 // refused, the words or the file could not be read, or the output not be written; 2 where the words were refused; 3 for want
-// of memory or of a thread.
+// of memory or of a thread; 4 where a recording is not legal, or asked for drained and is not.
 fn main(rt: HostRuntime) -> ExitCode {
     let alloc = rt.alloc();
     let (output, faults) = (&mut rt.stdout(), &mut rt.stderr());
@@ -57,9 +62,9 @@ fn main(rt: HostRuntime) -> ExitCode {
         Ok(words) => match task_of(alloc, &words) {
             Err(answer) => say(answer, output, faults),
             Ok(task) => match task.source {
-                Source::Input => run_text(&rt, alloc, task.kind, rt.stdin(), output, faults),
+                Source::Input => run_text(&rt, alloc, task, rt.stdin(), output, faults),
                 Source::File(path) => match File::open(&rt, path) {
-                    Ok(file) => run_text(&rt, alloc, task.kind, file, output, faults),
+                    Ok(file) => run_text(&rt, alloc, task, file, output, faults),
                     Err(error) => end(Err(Failure::from(error)), output, faults),
                 },
             },

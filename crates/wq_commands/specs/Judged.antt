@@ -1,0 +1,37 @@
+-- What the program makes of a recording.
+use Rattle.std.specs.Prelude.{◌≡◌, ℕ, ◌==◌, Bool, ◌&&◌, ◌||◌, not, if◌then◌else◌, List, Option}
+use Rattle.std.specs.Io.KnownBytes.{Appends}
+use Rattle.wq_recording.specs.declared.finding.Finding.{Finding}
+use Rattle.wq_recording.specs.Checking.{IsFoundOf, IsRefusedFor}
+use Rattle.wq_commands.specs.declared.failure.Failure.{Failure}
+use Rattle.wq_commands.specs.declared.failure.Failure.TheVariants as failure
+
+-- all is legal and, if that is asked for, nothing is left
+abbrev pub passes : Bool → Finding → Bool
+passes is_drained finding = finding.is_legal && (not is_drained || finding.left == 0)
+
+abbrev pub finding_status : Bool → Finding → ℕ
+finding_status is_drained finding = if passes is_drained finding then 0 else 4
+
+-- just what was found was written, and this is its status
+abbrev pub IsSaid : Bool → ℕ → Option (List ℕ) → Option (List ℕ) → Finding → Type 0
+IsSaid is_drained status before after finding = Appends before after finding.text.items × (status ≡ finding_status is_drained finding)
+
+-- what was found of the recording was written, and this is its status
+pub record Judges (is_drained : Bool) (text : List ℕ) (status : ℕ) (before after : Option (List ℕ)) : Type 0 where
+  pub finding : Finding
+  pub found : IsFoundOf text finding
+  pub said : IsSaid is_drained status before after finding
+
+-- the output says what is found of the text
+pub record Says (text output : List ℕ) : Type 0 where
+  pub finding : Finding
+  pub found : IsFoundOf text finding
+  pub output_is : output ≡ finding.text.items
+
+-- nothing is found of the text: it is refused for this, or memory was wanting, or the reader failed
+abbrev pub HasNoFinding : List ℕ → Failure → Type 0
+HasNoFinding text (failure.Refused refusal) = IsRefusedFor text refusal
+HasNoFinding text failure.Memory = Unit {0}
+HasNoFinding text failure.Unreadable = Unit {0}
+HasNoFinding text _ = ⊥
