@@ -13,13 +13,17 @@ from pathlib import Path
 SCRIPT = b"wq 1\nitems 4\nsenders 2\nqueue 0 1\n"
 SCHEDULE = b"steps 1\nitems 4\nsenders 2\n0 look\n"
 PLAN = b'{"queues":1,"workers":1,"senders":2,"own":2}'
+TRACE = b"trace 1\nitems 2\nqueue 0\n"
 INPUT = b"wq 1\nitems 4\nsenders 2\nclose\n"
 FILES = {"a.wq": SCRIPT, "a.steps": SCHEDULE, "a.json": PLAN, "steps": SCRIPT, "--help": SCHEDULE, "-": PLAN}
+FILES |= {"a.trace": TRACE, "bad.trace": TRACE + b"start 1\n"}
 FILES |= {" a.wq": INPUT, "a.wq ": INPUT}
 
 QUEUED, CLOSED = b"true first\n", b"closed 0\n"
 EMPTY = b"empty\naccepted nothing\nbegun nothing\n"
 BALANCED = b"accepted 4 ran 4 balanced yes\n"
+COUNTS = b"marks 1\nqueued 1\nstarted 0\nended 0\nwaiting 1\nmost waiting 1\nleft 0\n"
+LEGAL, NOT_LEGAL = b"legal\n" + COUNTS, b"not legal\nline 4\nmark 2\ncause not waiting\n" + COUNTS
 
 
 class Some(tuple):
@@ -35,6 +39,12 @@ ROWS = [
     ("steps a.steps", 0, EMPTY, b""),
     ("live a.json", 0, BALANCED, b""),
     ("script /dev/stdin", 0, CLOSED, b""),
+    # a recording, and its status 4
+    ("check a.trace", 0, LEGAL, b""),
+    ("check --drained a.trace", 4, LEGAL, b""),
+    ("check a.trace --drained", 4, LEGAL, b""),
+    ("check bad.trace", 4, NOT_LEGAL, b""),
+    ("check --drained bad.trace", 4, NOT_LEGAL, b""),
     # a file may have the name of a subcommand or of an option, and '-' is no more than a name
     ("script steps", 0, QUEUED, b""),
     ("steps -- --help", 0, EMPTY, b""),
@@ -47,6 +57,9 @@ ROWS = [
     ("script a.steps", 1, b"", b"line 1: Version\n"),
     ("steps a.wq", 1, b"", b"line 1: Version\n"),
     ("live a.wq", 1, b"", b"plan: Json\n"),
+    ("check a.wq", 1, b"", b"line 1: Version\n"),
+    ("check none", 1, b"", b"file: Unreadable\n"),
+    ("check .", 1, b"", b"file: Unreadable\n"),
     ("script none", 1, b"", b"file: Unreadable\n"),
     ("steps .", 1, b"", b"file: Unreadable\n"),
     # words that are no text are unreadable, and never want of memory
@@ -59,18 +72,22 @@ ROWS = [
     ("script --help", 0, Some([b"modify K D", b"Example:\n"]), b""),
     ("steps --help", 0, Some([b"o turn K L", b"o rest", b"Example:\n"]), b""),
     ("help live", 0, Some([b"workers, 1 to 8", b"Example:\n"]), b""),
+    ("help check", 0, Some([b"--drained", b"trace 1", b"Example:\n"]), b""),
     ("--version", 0, b"wqrun 0.1.0\n", b""),
     ("-h", 0, HELP, b""),
     ("-V", 0, b"wqrun 0.1.0\n", b""),
     # refused words
     ("race a", 2, b"", Some([b"error: unrecognized subcommand 'race'"])),
     ("script", 2, b"", Some([b"error: the following required arguments were not provided"])),
+    ("check", 2, b"", Some([b"error: the following required arguments were not provided"])),
+    ("script --drained a.wq", 2, b"", Some([b"error: unexpected argument '--drained' found"])),
+    ("check --drained --drained a.trace", 2, b"", Some([b"error: the argument '--drained' cannot be used multiple times"])),
     ("script a b", 2, b"", Some([b"error: unexpected argument 'b' found"])),
     ("live --fast a", 2, b"", Some([b"error: unexpected argument '--fast' found"])),
 ]
 
 # on a device that takes nothing: standard output alone, and standard error too
-FULL_OUTPUT = [(words, 1, b"output: Unwritable\n") for words in ("--help", "--version", "script a.wq", "live a.json")]
+FULL_OUTPUT = [(words, 1, b"output: Unwritable\n") for words in ("--help", "--version", "script a.wq", "live a.json", "check bad.trace")]
 FULL = [("race", 2), ("script none", 1), ("script a.wq", 1)]
 
 
