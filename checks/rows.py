@@ -4,14 +4,15 @@
 A row is `TEXT => WANT`. In TEXT a `;` ends a line, one space after it is left out, `\\t` is a tab, `\\r` a carriage return,
 `\\s` a space and `\\xHH` the byte of these two hexadecimal digits; `{comments to N}` fills the text up to N bytes with comment
 lines, and `{spaces to N}` with spaces; `{M to N:PART}` is PART once for each number from M to N, which stands in the place of
-a `#`. WANT is what standard output has to hold, with status 0 and nothing on standard error; or `read`, where the output may be
-any; or `! REFUSAL`, the one line of standard error, with status 1 and nothing on standard output.
+a `#`. WANT is what standard output has to hold, with status 0 and nothing on standard error, or, behind `4: `, with status 4;
+where it ends with ` ..`, it is what standard output begins with. Or it is `read`, where the output may be any; or `! REFUSAL`,
+the one line of standard error, with status 1 and nothing on standard output.
 
-Lines before the rows say of all that follow: `command WORD` the subcommand, `before TEXT` what each text begins with, `times N`
-how often each is run. After `after STEPS` a row is `STEP => REPLY`: the step is tried right after these, which are all enabled,
-and where it is not enabled the numbers that were accepted and begun stay as they were. After `beginnings TEXT` a row is
-`FROM to UPTO => WANT`, of the texts of so many bytes that TEXT begins with; together they are all of them. A line that begins
-with `--` says what the rows after it show.
+Lines before the rows say of all that follow: `command WORDS` the subcommand and its options, `before TEXT` what each text begins
+with, `times N` how often each is run. After `after STEPS` a row is `STEP => REPLY`: the step is tried right after these, which
+are all enabled, and where it is not enabled the numbers that were accepted and begun stay as they were. After `beginnings TEXT`
+a row is `FROM to UPTO => WANT`, of the texts of so many bytes that TEXT begins with; together they are all of them. A line that
+begins with `--` says what the rows after it show.
 """
 import re
 import subprocess
@@ -47,7 +48,7 @@ class Runner:
     def run(self, command, text):
         self.file.write_bytes(text)
         self.count += 1
-        ran = subprocess.run([self.program, command, self.file], capture_output=True, timeout=60)
+        ran = subprocess.run([self.program, *command.split(), self.file], capture_output=True, timeout=60)
         return ran.returncode, ran.stdout, ran.stderr
 
     def fault(self, command, text, want):
@@ -55,8 +56,12 @@ class Runner:
         got = self.run(command, text)
         if want == "read":
             return "" if (got[0], got[2]) == (0, b"") else f"it was not read: {got[0]} {got[2]!r}"
-        refusal = want.startswith("! ")
-        wanted = (1, b"", want[2:].encode() + b"\n") if refusal else (0, text_of(want), b"")
+        if want.startswith("! "):
+            wanted = (1, b"", want[2:].encode() + b"\n")
+        else:
+            status, output, more = re.fullmatch(r"(?:(\d): )?(.*?)( \.\.)?", want).groups()
+            wanted = (int(status or 0), text_of(output), b"")
+            got = (got[0], got[1][: len(wanted[1])] if more else got[1], got[2])
         return "" if got == wanted else f"{got} and not {wanted}"
 
     def fault_after(self, command, before, step, want):
