@@ -1,7 +1,7 @@
 #!/bin/bash
 # Runs each example with the program that is named, and compares what it writes, what it says of failures and its status with
 # what stands beside it: NAME.report, NAME.faults and NAME.status. Where one of them is missing, nothing and 0 are wanted. Each has
-# its line in examples/README.md.
+# its line in examples/README.md. A kernel trace goes through the converter, which runs the `wqrun` that it finds in the PATH.
 program=${1:?usage: checks/examples.sh PROGRAM}
 folder=$(dirname "$0")/../examples
 faults=$(mktemp)
@@ -12,23 +12,26 @@ stored() {
     if [ -e "$1" ]; then cat "$1"; fi
 }
 
+PATH=$(realpath "$(dirname "$program")"):$PATH
 failed=0
-for file in "$folder"/*.wq "$folder"/*.steps "$folder"/*.json; do
-    case $file in
-        *.wq) command=script ;;
-        *.steps) command=steps ;;
-        *.json) command=live ;;
-    esac
+for file in "$folder"/*.wq "$folder"/*.steps "$folder"/*.json "$folder"/recording/*.{history,trace,ftrace}; do
     name=${file%.*}
+    case $file in
+        *.wq) command=("$program" script) ;;
+        *.steps) command=("$program" steps) ;;
+        *.json) command=("$program" live) ;;
+        *.history | *.trace) command=("$program" check --drained) ;;
+        *.ftrace) command=("$folder/recording/wq_trace.py" --check --drained "${name##*/}") ;;
+    esac
     wanted=$(stored "$name.status")
     same=yes
-    "$program" "$command" "$file" 2>"$faults" | diff - <(stored "$name.report")
+    "${command[@]}" "$file" 2>"$faults" | diff - <(stored "$name.report")
     ended=("${PIPESTATUS[@]}")
     status=${ended[0]}
     [ "${ended[1]}" = 0 ] || same=no
     diff "$faults" <(stored "$name.faults") || same=no
     [ "$status" = "${wanted:-0}" ] || same=no
-    grep -qF "| \`${file##*/}\` |" "$folder/README.md" || { echo "$file: no line in README.md" && same=no; }
+    grep -qF "| \`${file#"$folder"/}\` |" "$folder/README.md" || { echo "$file: no line in README.md" && same=no; }
     if [ "$same" = yes ]; then
         echo "$file: as stored, with status $status"
     else
