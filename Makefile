@@ -4,7 +4,7 @@ PREFIX ?= /usr/local
 PROGRAM := crates/wqrun/out/wqrun
 EXAMPLES := examples
 
-.PHONY: run try test build install bench examples rows definitions memory wrong-bodies
+.PHONY: run try test build install bench examples recordings rows definitions memory wrong-bodies
 
 run: build
 	$(PROGRAM) script $(EXAMPLES)/first.wq
@@ -30,12 +30,19 @@ install: build
 examples: build
 	checks/examples.sh $(PROGRAM)
 
-# Each worked row of a script, a schedule or a plan gives what stands beside it, and so does each command line; random scripts of a
-# delay table give what a sorted list does.
+# Records the queue of examples/recording anew, without a bug and with each of its bugs; wants a C compiler.
+recordings: build
+	examples/recording/record.sh $(PROGRAM)
+
+# Each worked row of a script, a schedule, a plan or a recording gives what stands beside it, and so does each command line; random
+# scripts of a delay table give what a sorted list does, and random recordings what the definitions say; the converter of kernel
+# traces reads each spelling.
 rows: build
 	checks/rows.py $(PROGRAM)
 	checks/command_lines.py $(PROGRAM)
 	checks/random_delays.py $(PROGRAM)
+	checks/random_recordings.py $(PROGRAM)
+	checks/trace_lines.py
 
 # Each word that a public contract cites is defined in docs/DEFINITIONS.md, as the gate compares; a second.
 definitions:
