@@ -52,6 +52,7 @@ ROWS = [
         "trace-cmd",
         [
             (TRACE_CMD + "workqueue_queue_work: work struct=0xffff88810a function=f workqueue=mine req_cpu=64 cpu=-1", "queue 0"),
+            (TRACE_CMD + "workqueue_queue_work: work struct=0xffff88810b function=f workqueue=mine req_cpu=64 cpu=-1", "queue 1"),
             (TRACE_CMD + "workqueue_execute_start: work struct 0xffff88810a: function f", "start 0"),
             (TRACE_CMD + "workqueue_execute_end: work struct 0xffff88810a", "end 0"),
         ],
@@ -60,6 +61,7 @@ ROWS = [
         "perf script",
         [
             (PERF + "workqueue_queue_work: work struct=0xffff88810a function=f workqueue=mine req_cpu=8192 cpu=1", "queue 0"),
+            (PERF + "workqueue_queue_work: work struct=0xffff88810b function=f workqueue=mine req_cpu=8192 cpu=1", "queue 1"),
             (PERF + "workqueue_execute_start: work struct 0xffff88810a: function f", "start 0"),
             (PERF + "workqueue_execute_end: work struct 0xffff88810a: function f", "end 0"),
         ],
@@ -108,20 +110,34 @@ ROWS = [
     ("the buffer was full, and its first lines were written over", [("# entries-in-buffer/entries-written: 4108/41080   #P:4", "lost")]),
 ]
 
-# more works than numbers, one after another: the first number is used again for the one that comes behind the last
-MANY = [pair for it in range(4097) for pair in [(queued(f"{it:x}"), f"queue {it % 4096}"), (started(f"{it:x}"), f"start {it % 4096}")]]
-MANY = [pair for at, pair in enumerate(MANY) for pair in [pair] + [(ended(f"{at // 2:x}"), f"end {at // 2 % 4096}")] * (at % 2)]
+def whole(work, number):
+    return [(queued(work), f"queue {number}"), (started(work), f"start {number}"), (ended(work), f"end {number}")]
+
+
+def whole(work, number):
+    return [(queued(work), f"queue {number}"), (started(work), f"start {number}"), (ended(work), f"end {number}")]
+
+
+# with four numbers: behind the last comes the number of the work that went to another queue, then that of the work that is idle
+# longest, which is not the one that was queued first
+ITEMS = 4
+MANY = [*whole("a", 0), (queued("a", "other"), "#")]
+MANY += [(queued("b"), "queue 1"), *whole("c", 2), *whole("d", 3), (started("b"), "start 1"), (ended("b"), "end 1")]
+MANY += [*whole("e", 0), *whole("f", 2), *whole("c", 3), *whole("b", 1), *whole("d", 0)]
+
+# one that runs and one that waits keep their numbers
+BUSY = [(queued("a"), "queue 0"), (started("a"), "start 0"), (queued("b"), "queue 1"), *whole("c", 2), *whole("d", 3), (queued("e"), "queue 2")]
 
 
 def main():
     found = importlib.util.spec_from_file_location("wq_trace", Path(__file__).parent / "../examples/recording/wq_trace.py")
     converter = importlib.util.module_from_spec(found)
     found.loader.exec_module(converter)
-    rows, faults = [*ROWS, ("more works than numbers", MANY)], 0
+    converter.ITEMS, rows, faults = ITEMS, [*ROWS, ("more works than numbers", MANY), ("works that are not idle", BUSY)], 0
     for shows, lines in rows:
         to = io.StringIO()
         said = converter.write_marks((line for line, _ in lines), "mine", to, deque(maxlen=converter.KEPT))
-        wanted = ["trace 1", "items 4096", *(mark for _, mark in lines)]
+        wanted = ["trace 1", f"items {ITEMS}", *(mark for _, mark in lines)]
         if to.getvalue().splitlines() != wanted or bool(said) != (wanted[-1] == "lost"):
             faults += 1
             print(f"{shows}: {to.getvalue().splitlines()} {said} and not {wanted}")
