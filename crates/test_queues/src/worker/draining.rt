@@ -120,6 +120,25 @@ fn drain_until_through<R: Wait>(rt: &R, worker: &mut Worker<Fixed>)
     unreachable!()
 }
 
+/// Drains while four senders queue in threads. How often they were answered that the queue drains.
+fn drain_beside<R: Abort + Threads + Wait + Sync>(
+    rt: &R,
+    worker: &mut Worker<Fixed>,
+    crew: &mut Crew,
+) -> u128
+    ensures worker { worker.new.queue ≡ worker.old.queue }
+    ensures pairs { (crew.new.first.queue ≡ crew.old.first.queue) × (crew.new.second.queue ≡ crew.old.second.queue)
+        × (crew.new.third.queue ≡ crew.old.third.queue) × (crew.new.fourth.queue ≡ crew.old.fourth.queue) }
+    ensures last { crew.new.last.queue ≡ crew.old.last.queue }
+{
+    let (_, drains) = join_mut(
+        rt,
+        &mut || drain_until_through(rt, worker),
+        &mut || queue_all(rt, crew),
+    );
+    drains
+}
+
 /// Whether each of four senders' items ran, once each and in order.
 fn ran_in_order(order: &[u32]) -> bool {
     let mut next = [0, OWN, OWN * 2, OWN * 3];
@@ -139,11 +158,7 @@ fn run_once<R: Abort + Threads + Wait + Sync>(rt: &R, alloc: Global) {
     let own = take_last(rt, &owner, &mut senders);
     let mut crew = new_crew(rt, &owner, &mut senders);
     let mut worker = Worker::new(owner, own, Fixed::new(), 1);
-    let (_, drains) = join_mut(
-        rt,
-        &mut || drain_until_through(rt, &mut worker),
-        &mut || queue_all(rt, &mut crew),
-    );
+    let drains = drain_beside(rt, &mut worker, &mut crew);
     assert!(rt; !worker.is_draining());
     let (work, mut book) = destroy(rt, worker, 0);
     assert!(rt; ran_in_order(work.order.as_slice()));
