@@ -11,6 +11,7 @@ import signal
 import subprocess
 import sys
 from collections import deque
+from contextlib import suppress
 from types import SimpleNamespace as Work
 
 ITEMS, KEPT = 4096, 1 << 17
@@ -94,7 +95,9 @@ def check(lines, asked, kept):
             lost = write_marks(lines, asked.name, wqrun.stdin, kept)
             wqrun.stdin.close()
         except BrokenPipeError:
-            pass
+            # the verdict stood before the trace had ended, and what is still in hand cannot be written
+            with suppress(BrokenPipeError):
+                wqrun.stdin.close()
         verdict = wqrun.stdout.read()
     print(verdict, *(f"{it}\n" for it in named(verdict, kept)), sep="", end="")
     return wqrun.returncode if wqrun.returncode == 4 else lost or wqrun.returncode
