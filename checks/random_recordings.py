@@ -18,7 +18,7 @@ TEXTS = 2000
 LINES = 40
 LONGEST = 4096
 LAST = 2**64 - 1
-WHYS = ["closed", "contended", "cancelled"]
+WHYS = ["closed", "draining", "contended", "cancelled"]
 
 
 # What a history says: lists and counts of its events.
@@ -72,19 +72,35 @@ def is_closed(h):
     return count(h, ("Close",)) > 0
 
 
+def has_drained(h):
+    return count(h, ("Drain",)) > 0
+
+
+def is_shut(h):
+    """Closed, or drained after the last resume."""
+    resumes = [place for place, e in enumerate(h) if e.kind == "Resume"]
+    return is_closed(h) or has_drained(h[resumes[-1] + 1 :] if resumes else h)
+
+
+def is_draining(h):
+    return is_shut(h) and not is_closed(h)
+
+
 # which parts the rule of each kind of event has, in order; each is named by the cause that it is where it fails
 EVENT_RULES = {
     "Hold": ["pending"],
     "Busy": ["idle"],
-    "Push": ["not held", "closed"],
-    "Back": ["not held", "open"],
-    "Take": ["closed"],
+    "Push": ["not held", "closed", "draining"],
+    "Back": ["not held", "open", "never drained"],
+    "Take": ["closed", "draining"],
     "Close": ["closed"],
+    "Drain": ["closed", "draining"],
+    "Resume": ["not draining", "not ended"],
     "Begin": ["runs", "not waiting", "next"],
     "End": ["nothing runs", "runs"],
     "Chain": ["open", "nothing runs", "pending"],
     "ChainBusy": ["open", "nothing runs", "idle"],
-    "Rest": ["closed", "not ended"],
+    "Rest": ["closed", "draining", "not ended"],
 }
 
 # whether a part fails for the event e after the events h
@@ -93,7 +109,10 @@ EVENT_FAILS = {
     "idle": lambda h, e: not is_pending(h, e.number),
     "not held": lambda h, e: not holds(h, e.sender, e.number),
     "closed": lambda h, e: is_closed(h),
-    "open": lambda h, e: not is_closed(h) and e.why in (None, "closed"),
+    "draining": lambda h, e: is_draining(h),
+    "not draining": lambda h, e: not is_draining(h),
+    "never drained": lambda h, e: e.why == "draining" and not has_drained(h),
+    "open": lambda h, e: e.why == "closed" and not is_closed(h) if e.kind == "Back" else not is_shut(h),
     "runs": lambda h, e: running(h) not in ([], [e.number] if e.kind == "End" else []),
     "nothing runs": lambda h, e: not running(h),
     "not waiting": lambda h, e: e.number not in unbegun(h),
@@ -111,7 +130,7 @@ def of_history(h):
         f"chained {count(h, ('Chain',))}",
         f"executed {len(ended(h))}",
         f"busy {count(h, ('Busy', 'ChainBusy'))}",
-        f"refused {sum(e.why == 'closed' for e in h)}",
+        f"refused {sum(e.why in ('closed', 'draining') for e in h)}",
         f"waiting {len(accepted(h)) - len(ended(h))}",
         f"most waiting {max(len(unbegun(h[:moment])) for moment in range(len(h) + 1))}",
         f"closed {yes(is_closed(h))}",
@@ -240,7 +259,7 @@ class Language:
 
 class History(Language):
     VERSION, HEADER, WHAT = b"history 1", ("items", "senders", "barriers"), "event"
-    OWNERS = {"take": "Take", "close": "Close", "begin": "Begin", "end": "End"}
+    OWNERS = {"take": "Take", "close": "Close", "drain": "Drain", "resume": "Resume", "begin": "Begin", "end": "End"}
     OWNERS |= {"chain": "Chain", "busy": "ChainBusy", "rest": "Rest"}
     SENDERS = {"hold": ["Hold"], "busy": ["Busy"], "push": ["Push"], "back": ["Back"]}
     SENDERS |= {"queue": ["Hold", "Push"], "refused": ["Hold", "Back"]}
@@ -252,7 +271,7 @@ class History(Language):
         if len(words) < 2:
             return None
         if words[0] == "o":
-            return {"take": 2, "close": 2, "rest": 2}.get(words[1], 3) if words[1] in self.OWNERS else None
+            return {"take": 2, "close": 2, "drain": 2, "resume": 2, "rest": 2}.get(words[1], 3) if words[1] in self.OWNERS else None
         if words[1] == "back":
             return 4 if words[-1] in WHYS else None
         return 3 if words[1] in self.SENDERS else None
@@ -349,6 +368,7 @@ def random_line(draws, kind, size):
     any_number, seat = random_number(draws, size), draws.randrange(size["senders"])
     owners = [f"o {word} {any_number}" for word in ("begin", "begin", "end")] * 4
     owners += [f"o chain {item}", f"o busy {item}", "o take", "o rest", draws.choice(["o close", "o take"])]
+    owners += ["o drain", "o resume", "o resume"]
     senders = [f"{seat} {word} {any_number}" for word in ("hold", "busy", "push", "push", "queue", "queue", "refused")]
     return draws.choice(owners + senders + [f"{seat} back {any_number} {draws.choice(WHYS)}"])
 
@@ -438,7 +458,8 @@ KINDS = {
     "trace": "Size Version Cut Bytes Space Word Header Count Number Items Item".split(),
 }
 CAUSES = {
-    "history": ["pending", "idle", "not held", "closed", "open", "runs", "nothing runs", "not waiting", "next", "not ended"],
+    "history": ["pending", "idle", "not held", "closed", "draining", "not draining", "never drained", "open", "runs", "nothing runs"]
+    + ["not waiting", "next", "not ended"],
     "trace": ["pending", "runs", "nothing runs", "not waiting", "next"],
 }
 
