@@ -3,8 +3,9 @@
 random_recordings.py PROGRAM.
 
 Half of them are histories and half are traces, and each second one is spoiled in one place. What an event or a mark may follow is
-read off the lists of all that came before it, as the definitions do; no state is kept. Each refusal and each cause comes but `never drained`, which has rows. A text
-that fails is made again from its number. One more text goes on behind the line that decides it: it is not waited for.
+read off the lists of all that came before it, as the definitions do; no state is kept. Each refusal comes, and each cause but
+`never drained`, which has rows. A text that fails is made again from its number. One more text goes on behind the line that
+decides it: it is not waited for.
 """
 import random
 import re
