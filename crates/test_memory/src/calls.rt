@@ -7,10 +7,11 @@ use std::fmt;
 use std::sync::Wait;
 use std::thread::Threads;
 use wq_commands::{live_main, script_main, steps_main};
-use wq_core::Step::{Begin, End, Hold, Link, Look, Push, Take, Walk};
-use wq_core::{Core, ReplayError, Seat, Step, StepError, replay};
+use wq_core::Seat;
+use wq_core::Step::{self, Begin, End, Hold, Link, Look, Push, Take, Walk};
 use wq_delay::{Armed, Delay, Modified, NoRoom};
 use wq_live::{BuildError, build};
+use wq_machine::{ReplayError, StepError, replay};
 use wq_script::{ParseError, RunError, parse, run};
 use wq_words::Layout;
 

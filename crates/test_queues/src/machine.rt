@@ -8,10 +8,8 @@ use wq_core::Reply::Held;
 use wq_core::Step::{
     Back, Begin, Chain, Check, Close, Drain, End, Hold, Link, Look, Push, Rest, Resume, Take, Walk,
 };
-use wq_core::{
-    Core, ReplayError, Reply, Seat, Step, StepError, chain_and_batch, each_step_keeps_sound,
-    first_push, replay, replay_on,
-};
+use wq_core::{Reply, Seat, Step, chain_and_batch, each_step_keeps_sound, first_push};
+use wq_machine::{Core, ReplayError, StepError, replay, replay_on};
 use wq_text::{Schedule, parse_steps};
 use wq_words::{Event, Head, Layout, Why, check_history};
 
@@ -309,9 +307,9 @@ fn drains(rt: HostRuntime) {
 #[test]
 fn laws(rt: HostRuntime) -> Result<(), Fail> {
     let core = Core::new(rt.alloc(), Layout::new(4, 1, 2)?)?;
-    each_step_keeps_sound();
     core.sound();
-    chain_and_batch(&core);
-    first_push(&core);
+    each_step_keeps_sound();
+    chain_and_batch();
+    first_push();
     Ok(())
 }

@@ -4,9 +4,8 @@ use Rattle.wq_core.proofs.Common.{sym, ap, ◌∙◌, arith, inl, inr, eq-eqb, l
 use Rattle.wq_core.proofs.Common.{ended, accepted_by, begun_by, ended_by, pending, Holds, IsPending, listed_after, listed, IsAllowed, IsLegal, Keeper, Home}
 use Rattle.wq_core.proofs.Common.{Sender, keeper_after, keeper, growing, slice_get_push, legal_push, legal_induction, pending_bit, kept, home_from_bit}
 use Rattle.wq_core.proofs.Common.{sender_from_bit, item_place, word_count, Machine, head, item_word, done_word, happened, head_word_of, AreChained, IsSound}
-use Rattle.wq_core.proofs.Common.{FollowKeepers}
 use Rattle.wq_core.proofs.Chains.{times}
-use Rattle.wq_core.proofs.Privates.{follow_quiet, AreLinked, linked_quiet, AreSeen, seen_after}
+use Rattle.wq_core.proofs.Privates.{FollowKeepers, follow_quiet, AreLinked, linked_quiet, AreSeen, seen_after}
 use Rattle.wq_core.proofs.Heads.{IsQuiet, head_word_quiet, rests_quiet, ended_quiet}
 
 -- each accepted number is one of the queue's

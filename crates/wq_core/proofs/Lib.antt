@@ -8,7 +8,5 @@ pub mod KeptSound
 pub mod SenderSteps
 pub mod OwnerSteps
 pub mod Turning
-pub mod Fitting
-pub mod Schedules
-pub mod Stored
+pub mod Sound
 pub mod Taken

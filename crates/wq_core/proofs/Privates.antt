@@ -2,7 +2,7 @@
 use Rattle.wq_core.proofs.Common.{TakesPushes, HasSeenCause, IsCause, cause_stays, subst, Closed, Draining, ◌≡◌, ◌≢◌, ℕ, ◌<◌, ◌==◌, Bool, true, false, List, []}
 use Rattle.wq_core.proofs.Common.{◌∷◌, ◌++◌, length, get_or, set, None, Some, Option, if◌then◌else◌, refl, sym, ap, ◌∙◌, arith, inl, inr, get_or-set_other}
 use Rattle.wq_core.proofs.Common.{get_or-set_same, fold_push, ne_eqb, eq-eqb, eqb-false, cases_eq, Why, Event, Hold, Push, Back, Begin, Chain, Keeper, Home}
-use Rattle.wq_core.proofs.Common.{Sender, Listed, Owner, keeper_after, keeper, Private, link_place, link_to, nothing_seen, other_than, unlinked, FollowKeepers}
+use Rattle.wq_core.proofs.Common.{Sender, Listed, Owner, keeper_after, keeper, Private, link_place, link_to, nothing_seen, other_than, unlinked}
 
 pub keeper_push : (h : List Event) (e : Event) (k : ℕ) → keeper (h ++ e ∷ []) k ≡ keeper_after k (keeper h k) e
 keeper_push h e k = fold_push (keeper_after k) Home h e
@@ -35,6 +35,10 @@ gives_begin k = (λ j x ne. rw (apart k j ne) refl, λ x. rw (itself k) refl)
 
 pub gives_chain : (k : ℕ) → Gives k (Chain k) Owner
 gives_chain k = (λ j x ne. rw (apart k j ne) refl, λ x. rw (itself k) refl)
+
+-- at the place of each number the list has what f says of its keeper
+abbrev pub FollowKeepers : {X : Type 0} → (Keeper → X) → X → (ℕ → ℕ) → ℕ → List X → List Event → Type 0
+FollowKeepers f default place n xs h = (k : ℕ) → k < n → get_or xs (place k) default ≡ f (keeper h k)
 
 module _ {X : Type 0} (f : Keeper → X) (default : X) (place : ℕ → ℕ) (n : ℕ) (xs : List X) (h : List Event) (e : Event) where
   -- what is stored of k is as its new keeper wants it, and every other is as it was

@@ -11,7 +11,7 @@ use Rattle.wq_core.specs.declared.step.Step.TheVariants.{Hold, Push, Back, Take,
 use Rattle.wq_core.specs.declared.step.Reply.TheVariants.{Pushed, Lost}
 use Rattle.wq_core.proofs.Chains.{chain_zero}
 use Rattle.wq_core.proofs.Turning.{stands_number, no_senders}
-use Rattle.wq_core.proofs.Schedules.{either}
+use Rattle.wq_core.proofs.Sound.{either}
 use Rattle.wq_core.proofs.KeptSound.{sender_from_holds}
 use Rattle.wq_core.proofs.Heads.{head_open, head_marked, open_from_link, link_seen}
 

@@ -1,8 +1,8 @@
 -- What a write to one word leaves in the others.
 use Rattle.wq_core.proofs.Common.{◌≡◌, ℕ, ◌<◌, List, get_or, set, Option, arith, get_or-set_other, Event, pending_bit, link_place, item_place, done_place}
-use Rattle.wq_core.proofs.Common.{head_place, Private, AreChained, FollowKeepers}
+use Rattle.wq_core.proofs.Common.{head_place, Private, AreChained}
 use Rattle.wq_core.proofs.Chains.{chained_set}
-use Rattle.wq_core.proofs.Privates.{follow_set, AreLinked, linked_set}
+use Rattle.wq_core.proofs.Privates.{FollowKeepers, follow_set, AreLinked, linked_set}
 
 -- what a write to one word leaves in the others
 module _ (n : ℕ) (ws : List ℕ) (v : ℕ) where

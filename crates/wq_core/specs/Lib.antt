@@ -1,6 +1,4 @@
 pub mod Words
 pub mod Machine
-pub mod Refusal
-pub mod Schedule
+pub mod Made
 pub mod Sound
-pub mod Stored

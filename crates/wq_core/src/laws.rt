@@ -12,11 +12,9 @@ ghost use Rattle.wq_core.specs.declared.step.Step.{Step};
 ghost use Rattle.wq_core.specs.declared.step.Step.TheVariants.{Push};
 ghost use Rattle.wq_core.specs.declared.step.Reply.TheVariants.{Pushed};
 ghost use Rattle.wq_core.specs.Machine.{Machine, opening, head, after, reply_to};
-ghost use Rattle.wq_core.specs.Refusal.{IsMade};
+ghost use Rattle.wq_core.specs.Made.{IsMade};
 ghost use Rattle.wq_core.specs.Words.{link_word};
 ghost use Rattle.wq_core.specs.Sound.{IsChain, IsSound};
-
-use crate::machine::Core;
 
 /// The machine's invariant holds while nothing has happened, and each step that is made keeps it.
 pub fn each_step_keeps_sound()
@@ -24,26 +22,22 @@ pub fn each_step_keeps_sound()
     ensures step { (m : Machine) (seat : Seat) (step : Step) → IsSound m → IsMade m seat step → IsSound (after m seat step) }
 {}
 
-/// The invariant holds of each core. The links spell from its head what was pushed since the last take, drain or resume,
-/// newest first (`llist_del_all`), while it is open. Once all that was taken is walked, the batch is what was taken and has not begun,
-/// oldest first.
-pub fn chain_and_batch(core: &Core)
-    ensures sound { IsSound core.now }
-    ensures chain { ¬ IsShut core.now.history → IsChain (number_count core.now.layout) core.now.words (link_word (head core.now)) (listed core.now.history) }
-    ensures batch { core.now.cursor ≡ None
-        → core.now.batch ≡ drop (length (begun core.now.history)) (take (taken core.now.history) (accepted core.now.history)) }
-{
-    core.sound();
-}
+/// The links of a sound machine spell from its head what was pushed since the last take, drain or resume, newest first
+/// (`llist_del_all`), while it is open. Once all that was taken is walked, the batch is what was taken and has not begun, oldest
+/// first.
+pub fn chain_and_batch()
+    ensures chain { (m : Machine) → IsSound m → ¬ IsShut m.history
+        → IsChain (number_count m.layout) m.words (link_word (head m)) (listed m.history) }
+    ensures batch { (m : Machine) → IsSound m → m.cursor ≡ None
+        → m.batch ≡ drop (length (begun m.history)) (take (taken m.history) (accepted m.history)) }
+{}
 
-/// A push that wins says that it was the first exactly where nothing was pushed since the last take, drain or resume
-/// (`llist_add` answers true where the list was empty before), and that it wakes exactly where nothing was pushed, taken or
+/// A push that wins on a sound machine says that it was the first exactly where nothing was pushed since the last take, drain or
+/// resume (`llist_add` answers true where the list was empty before), and that it wakes exactly where nothing was pushed, taken or
 /// drained since the last rest.
-pub fn first_push(core: &Core)
-    ensures first { (s k : ℕ) (p q : Bool) → IsMade core.now (Sender s) (Push k)
-        → reply_to core.now (Sender s) (Push k) ≡ Pushed p q → p ≡ first core.now.history }
-    ensures wakes { (s k : ℕ) (p q : Bool) → IsMade core.now (Sender s) (Push k)
-        → reply_to core.now (Sender s) (Push k) ≡ Pushed p q → q ≡ wakes core.now.history }
-{
-    core.sound();
-}
+pub fn first_push()
+    ensures first { (m : Machine) (s k : ℕ) (p q : Bool) → IsSound m → IsMade m (Sender s) (Push k)
+        → reply_to m (Sender s) (Push k) ≡ Pushed p q → p ≡ first m.history }
+    ensures wakes { (m : Machine) (s k : ℕ) (p q : Bool) → IsSound m → IsMade m (Sender s) (Push k)
+        → reply_to m (Sender s) (Push k) ≡ Pushed p q → q ≡ wakes m.history }
+{}

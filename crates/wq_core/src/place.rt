@@ -1,6 +1,6 @@
 //! Where the words of a queue stand, and what they say. A table of them is `word_count` words long: the head, the links,
 //! the item words with the PENDING bits, and the count of ended executions.
-ghost use Rattle.std.specs.Prelude.{◌≡◌, ◌<◌, ◌≤◌, ◌^◌, get_or, length};
+ghost use Rattle.std.specs.Prelude.{◌≡◌, ◌≤◌, ◌^◌};
 ghost use Rattle.wq_words.specs.declared.layout.Layout.{Layout};
 ghost use Rattle.wq_words.specs.Numbers.{number_count};
 ghost use Rattle.wq_core.specs.Words.{link_place, item_place, done_place, word_count, TakesPushes, link_word, number_at, word_at, head_at, item_of};
@@ -87,12 +87,4 @@ pub fn word_at(next: Option<u32>) -> u64
         Some(number) => Head::Item(number).to_word(),
         None => Head::Empty.to_word(),
     }
-}
-
-// The word at a place.
-pub(crate) fn word(words: &[u64], place: usize) -> u64
-    requires { place < length words.now }
-    ensures { result ≡ get_or words.now place 0 }
-{
-    words[place]
 }

@@ -1,5 +1,4 @@
 //! What a seat of a queue may do to its words in one atomic step, and what it is answered.
-use thiserror::Error;
 use wq_words::{Head, Why};
 
 /// Whose step it is.
@@ -92,23 +91,6 @@ pub enum Reply {
     Turned,
     /// To Rest: the list is marked as resting.
     Rested,
-}
-
-/// Why a step was not made, the first of these that fits. The machine is then as it was.
-#[derive(Clone, Copy, Debug, PartialEq, Eq, Error)]
-pub enum StepError {
-    /// The seat is none of the queue's, or the step is not one of its kinds.
-    #[error("no step of a seat of the queue")]
-    NoSeat,
-    /// A number is none of the queue's, or is chained and no item.
-    #[error("no number of the queue")]
-    NoItem,
-    /// The machine does not allow the step as it is.
-    #[error("not enabled")]
-    NotEnabled,
-    /// No memory could be had.
-    #[error("memory")]
-    Memory,
 }
 
 /// What a sender keeps in private beside the numbers that it holds: the head word of its last look, and the number that

@@ -6,7 +6,7 @@ use Rattle.wq_words.specs.Legal.{IsLegal}
 use Rattle.wq_words.proofs.Legal.{legal_nil}
 use Rattle.wq_words.proofs.Written.{each_more}
 use Rattle.wq_core.specs.Machine.{opening}
-use Rattle.wq_core.proofs.Schedules.{sound_opening}
+use Rattle.wq_core.proofs.Sound.{sound_opening}
 use Rattle.wq_table.specs.Chair.{Standing, IsSender, owner_chair, sender_chair, sender_chairs}
 use Rattle.wq_live.specs.declared.owner_seat.OwnerSeat.{OwnerSeat}
 use Rattle.wq_live.specs.declared.owner_seat.Phase.TheVariants.{Open}

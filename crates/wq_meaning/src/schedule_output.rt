@@ -1,6 +1,6 @@
 //! A schedule's run, from its steps to the bytes of its output.
 ghost use Rattle.std.specs.Prelude.{◌≡◌, ◌++◌, IfOk, OnOk, string_bytes};
-ghost use Rattle.wq_core.specs.Refusal.{IsPlaced};
+ghost use Rattle.wq_core.specs.Made.{IsPlaced};
 ghost use Rattle.wq_meaning.specs.ScheduleOutput.{ending, GivesBehind, IsScheduleOutput, HasOneOutput};
 ghost use Rattle.wq_text.specs.Schedule.{schedule_layout, turns_of};
 
@@ -8,7 +8,8 @@ use crate::error::RunError;
 use crate::lines::{write_line, write_row};
 use crate::replies::write_made;
 use std::alloc::{AllocError, Global};
-use wq_core::{Core, Seat, Step, StepError};
+use wq_core::{Seat, Step};
+use wq_machine::{Core, StepError};
 use wq_text::Schedule;
 use wq_words::Layout;
 

@@ -12,7 +12,7 @@ use Rattle.wq_core.specs.declared.step.Step.TheVariants.{Hold, Look, Link, Push,
 use Rattle.wq_words.specs.Head.{busy_word}
 use Rattle.wq_core.specs.Words.{number_at}
 use Rattle.wq_core.specs.Machine.{Machine, nothing_seen, private, seen_word, head, link, item_word, with_item, with_private, happened, unlinked, after_walk, after_begin, after_end, after, first_of, StandsIn}
-use Rattle.wq_core.specs.Refusal.{IsMade}
+use Rattle.wq_core.specs.Made.{IsMade}
 use Rattle.wq_core.specs.Sound.{IsSound}
 use Rattle.wq_table.specs.declared.table.Part.{Part}
 use Rattle.wq_table.specs.declared.table.Stage.{Stage}

@@ -7,14 +7,14 @@ use Rattle.atomic_table.proofs.Lists.{at_set}
 use Rattle.wq_words.specs.declared.layout.Layout.{Layout}
 use Rattle.wq_core.specs.declared.step.Step.{Step}
 use Rattle.wq_core.specs.Machine.{Machine, link, after, StandsIn}
-use Rattle.wq_core.specs.Refusal.{IsMade}
+use Rattle.wq_core.specs.Made.{IsMade}
 use Rattle.wq_core.specs.Sound.{IsSound}
 use Rattle.wq_table.specs.declared.table.Part.{Part}
 use Rattle.wq_words.specs.Seen.{owner_seat}
 use Rattle.wq_table.specs.Law.{View, part, seat_at, IsPartOf, ArePartsAt, HasPartOf, HasSeenAll, Kept}
 use Rattle.wq_table.specs.Plays.{Sat, word_found, stage_after, Makes, Performs, all_see, AllOf}
 use Rattle.wq_table.specs.Places.{chosen, besides, MakesAt, ViewMakes}
-use Rattle.wq_core.proofs.Schedules.{sound_after}
+use Rattle.wq_core.proofs.Sound.{sound_after}
 use Rattle.wq_words.proofs.Prefixes.{prefix_self}
 use Rattle.wq_table.proofs.Present.{stands_put, put_in}
 use Rattle.wq_table.proofs.Changes.{Change, changes, fits_other, keeps_after, links_known, links_spared}

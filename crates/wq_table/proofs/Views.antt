@@ -13,7 +13,7 @@ use Rattle.wq_words.specs.Seen.{owner_seat}
 use Rattle.wq_table.proofs.Present.{stands_put, stands_behind, cut_present, cut_longest, joined_at, seat_both, seen_both, seat_meets, seen_meets, present_open, longest_open}
 use Rattle.wq_table.specs.Law.{View, IsPartOf, Apart, ArePartsAt, HasPartOf, HasSeenAll, Kept, sender_part, owner_part, row, opening_view, front_of, rest_of}
 use Rattle.wq_table.specs.Plays.{Sat, all_see, AllOf, meets}
-use Rattle.wq_core.proofs.Schedules.{sound_opening}
+use Rattle.wq_core.proofs.Sound.{sound_opening}
 use Rattle.wq_words.proofs.Growing.{at_end}
 use Rattle.wq_words.proofs.Prefixes.{prefix_self}
 

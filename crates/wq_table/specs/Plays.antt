@@ -9,7 +9,7 @@ use Rattle.wq_core.specs.declared.step.Step.{Step}
 use Rattle.wq_core.specs.declared.step.Step.TheVariants.{Hold, Look, Link, Push, Back, Check, Take, Close, Drain, Resume, Walk, Begin, End, Chain, Turn, Rest}
 use Rattle.wq_core.specs.Words.{link_place, item_place, link_word, number_at, word_at, head_at, item_of}
 use Rattle.wq_core.specs.Machine.{Machine, nothing_seen, unlinked, head, link, item_word, done_word, seen_word, first_of, walk_number, after}
-use Rattle.wq_core.specs.Refusal.{IsMade}
+use Rattle.wq_core.specs.Made.{IsMade}
 use Rattle.wq_core.specs.Sound.{IsSound}
 use Rattle.wq_table.specs.declared.table.Part.{Part}
 use Rattle.wq_table.specs.declared.table.Stage.{Stage}

@@ -7,7 +7,7 @@ use Rattle.wq_core.specs.declared.step.Seat.{Seat}
 use Rattle.wq_core.specs.declared.step.Seat.TheVariants as seat
 use Rattle.wq_core.specs.declared.step.Step.{Step}
 use Rattle.wq_core.specs.declared.step.Step.TheVariants as step
-use Rattle.wq_core.specs.Refusal.{IsPlaced, IsSeated, IsNumbered}
+use Rattle.wq_core.specs.Made.{IsPlaced, IsSeated, IsNumbered}
 use Rattle.wq_text.specs.Turn.{Turn}
 use mathlib.Core.Bool.{Bool-set}
 

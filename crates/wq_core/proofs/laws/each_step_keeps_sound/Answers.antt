@@ -1,4 +1,4 @@
-use Rattle.wq_core.proofs.Schedules.{sound_opening, sound_after}
+use Rattle.wq_core.proofs.Sound.{sound_opening, sound_after}
 use Rattle.wq_core.proofs.laws.each_step_keeps_sound.Goals as goal
 
 pub returns : goal.returns

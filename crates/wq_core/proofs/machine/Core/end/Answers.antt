@@ -1,7 +1,0 @@
-use Rattle.wq_core.proofs.Stored.{stored_end}
-use Rattle.wq_core.proofs.machine.Core.end.Goals as goal
-
-pub invariant_of-self-2 : goal.invariant_of-self-2
-invariant_of-self-2 c =
-    rw (c.in_ok-push.ensures.items, c.word-done.ensures, c.deref.ensures.value, c.done_place-place.ensures.place)
-    (stored_end _ _ _ c.self.invariant c.in-Some.number c.in-Some.is)

@@ -1,0 +1,4 @@
+pub mod Common
+pub mod Fitting
+pub mod Schedules
+pub mod Stored

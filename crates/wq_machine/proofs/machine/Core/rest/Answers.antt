@@ -1,0 +1,10 @@
+use Rattle.std.proofs.Common.{sym, ◌∙◌}
+use Rattle.wq_machine.proofs.Stored.{stored_rest}
+use Rattle.wq_machine.proofs.machine.Core.rest.Goals as goal
+
+pub invariant_of-self-2 : goal.invariant_of-self-2
+invariant_of-self-2 c =
+    let made = rw (← c.self.view_is) at c.requires in
+    let word = rw c.deref.ensures.value at c.word-head.ensures in
+    rw (c.in_ok-push.ensures.items, c.to_word.ensures.word)
+    (stored_rest _ _ _ c.self.invariant made.1.0 made.1.1 made.1.2 made.1.3 (sym word ∙ c.if-head.false))

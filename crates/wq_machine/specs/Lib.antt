@@ -1,0 +1,3 @@
+pub mod Refusal
+pub mod Schedule
+pub mod Stored

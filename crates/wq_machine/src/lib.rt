@@ -1,0 +1,10 @@
+//! The machine of an ordered workqueue in memory, one atomic step at a time, and schedules replayed on it.
+#![tactic(auto)]
+
+mod machine;
+mod refusal;
+mod schedule;
+
+pub use machine::Core;
+pub use refusal::StepError;
+pub use schedule::{ReplayError, replay, replay_on};
