@@ -19,7 +19,7 @@ test:
 
 # What the program stands on, and nothing else: says how long that takes, and how many of the crates are done.
 build:
-	@checks/build.sh
+	@checks/build.py
 
 install: build
 	install -D -m 755 $(PROGRAM) $(DESTDIR)$(PREFIX)/bin/wqrun

@@ -1,0 +1,121 @@
+#!/usr/bin/env python3
+"""Proves what the program wqrun stands on, and nothing else, side by side, and builds it: build.py.
+
+`rt` locks every crate below the one that it checks, so two checks in one tree wait for each other. Here each crate is proved in a tree
+of its own below out/: a copy of its sources and of those of the crates below it, with what these have built as hard links. `rt` goes by
+what files say and not by when they were written, so the crates below count as built there, and the crate counts as built once its own
+`out` is back in the repository. A crate starts when those below it are built. The one with the longest chain of crates above it gets a
+job for each processor, up to four; the others run beside it, with a job each, on what it leaves.
+"""
+import os
+import re
+import shutil
+import subprocess
+import sys
+import tempfile
+import time
+from concurrent.futures import FIRST_COMPLETED, ThreadPoolExecutor, wait
+from pathlib import Path
+
+TOP = Path(__file__).resolve().parent.parent
+TREES = TOP / "out"
+PROGRAM = "wqrun"
+PARTS = ("src", "specs", "proofs")
+PROCESSORS = len(os.sched_getaffinity(0))
+BEFORE = """Proves wqrun and what it stands on, {count} crates, side by side on {processors} processors, and builds it. From nothing that took 24
+minutes by the clock on four processors, 39 minutes of them, where it was measured; a busy or slow machine takes up to three times as
+long, and where nothing has changed it takes some seconds. All that is said goes into {log}."""
+
+
+def named_crates():
+    """The crates of crates.txt, each with those of them that it names."""
+    rows = dict(re.findall(r"^(\w+):(.*)$", (TOP / "crates.txt").read_text(), re.M))
+    return {crate: [it for it in words.split() if it in rows] for crate, words in rows.items()}
+
+
+def with_below(named, crate):
+    """The crate behind all that it stands on, each behind those that it stands on itself."""
+    found = {low: None for it in named[crate] for low in with_below(named, it)}
+    return [*found, crate]
+
+
+def chains(named, crates):
+    """How many lines of code the longest chain of crates has, from each crate upwards."""
+    lines = {}
+    for crate in reversed(crates):
+        own = sum(it.read_text().count("\n") for it in (TOP / "crates" / crate / "src").rglob("*.rt"))
+        lines[crate] = own + max((lines[it] for it in crates if crate in named[it]), default=0)
+    return lines
+
+
+def make_tree(named, crate):
+    """A tree with the sources of the crate and of all below it, and with what these have built."""
+    tree, crates = TREES / crate, with_below(named, crate)
+    for folder in [f"crates/{it}/{part}" for it in crates for part in PARTS]:
+        if (TOP / folder).is_dir():
+            shutil.copytree(TOP / folder, tree / folder)
+    for folder in [f"crates/{it}/out/rlib" for it in crates[:-1]]:
+        shutil.copytree(TOP / folder, tree / folder, copy_function=os.link)
+    rows = re.findall(rf"^(?:{'|'.join(crates)}):.*\n", (TOP / "crates.txt").read_text(), re.M)
+    (tree / "crates.txt").write_text("".join(rows))
+    return tree
+
+
+def move_out(crate, source, goal):
+    """Takes what was built of the crate, and kept of its proofs, from one tree to the other."""
+    old, new = (it / "crates" / crate / "out" for it in (source, goal))
+    if old.is_dir():
+        shutil.rmtree(new, ignore_errors=True)
+        old.rename(new)
+
+
+def prove(named, crate, is_first):
+    """Proves and builds one crate in a tree of its own: whether it is proved, and what was said."""
+    tree = make_tree(named, crate)
+    move_out(crate, TOP, tree)
+    words = ["run" if crate == PROGRAM else "lib", "--jobs", str(min(PROCESSORS, 4) if is_first else 1)]
+    words = ["nice", "-n", "0" if is_first else "10", "rt", *words, *["--", "--version"] * (crate == PROGRAM)]
+    try:
+        ran = subprocess.run(words, cwd=tree / "crates" / crate, capture_output=True, text=True, errors="replace")
+    finally:
+        move_out(crate, tree, TOP)
+        shutil.rmtree(tree)
+    return ran.returncode == 0, f"== {crate}\n{ran.stdout}{ran.stderr}"
+
+
+def prove_all(named, crates, log):
+    """Proves the crates side by side, with a line for each; whether all are proved."""
+    chain, left, built, running = chains(named, crates), set(crates), set(), {}
+    with ThreadPoolExecutor(PROCESSORS) as pool:
+        while left or running:
+            longest = max(chain[it] for it in [*left, *running.values()])
+            ready = sorted((it for it in left if built.issuperset(named[it])), key=chain.get, reverse=True)
+            for crate in ready[: PROCESSORS - len(running)]:
+                running[pool.submit(prove, named, crate, chain[crate] == longest)] = crate
+                left.remove(crate)
+            for it in wait(running, return_when=FIRST_COMPLETED).done:
+                (is_proved, said), crate = it.result(), running.pop(it)
+                print(said, file=log, flush=True)
+                if not is_proved:
+                    print(f"{said}{crate} is not proved", flush=True)
+                    return False
+                built.add(crate)
+                print(f"{time.strftime('%H:%M:%S')} {len(built)} of {len(crates)}: {crate}", flush=True)
+    return True
+
+
+def main():
+    named = named_crates()
+    crates = with_below(named, PROGRAM)
+    shutil.rmtree(TREES, ignore_errors=True)
+    with tempfile.NamedTemporaryFile("w", prefix="wqrun-build-", delete=False) as log:
+        print(BEFORE.format(count=len(crates), processors=PROCESSORS, log=log.name), flush=True)
+        is_proved = prove_all(named, crates, log)
+    shutil.rmtree(TREES, ignore_errors=True)
+    if is_proved:
+        print(f"built crates/{PROGRAM}/out/{PROGRAM}")
+    return 0 if is_proved else 1
+
+
+if __name__ == "__main__":
+    sys.exit(main())
