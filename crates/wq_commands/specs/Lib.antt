@@ -2,5 +2,4 @@ pub mod Failure
 pub mod Ending
 pub mod Report
 pub mod ScheduleReport
-pub mod RaceReport
 pub mod Judged

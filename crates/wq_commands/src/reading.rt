@@ -9,15 +9,8 @@ use std::io::Read;
 // One byte more than a script or a schedule may have, so that a longer one is seen to be too long.
 pub(crate) const TEXT_BYTES: u64 = 1_048_577;
 
-// One byte more than a plan may have.
-pub(crate) const PLAN_BYTES: u64 = 65_537;
-
-// Reads a text to its end, so many bytes at most.
-pub(crate) fn read_most<R: Read + Drop>(
-    alloc: Global,
-    reader: R,
-    most: u64,
-) -> Result<Vec<u8>, Failure>
+/// Reads a text to its end, so many bytes at most. An error is one of reading: the reader failed, or memory was wanting.
+pub fn read_most<R: Read + Drop>(alloc: Global, reader: R, most: u64) -> Result<Vec<u8>, Failure>
     ensures text { IfOk result (λ text. IfSome (R.remaining reader) (λ bytes. text.items ≡ take most bytes)) }
     ensures none { IfErr result HasNoText }
 {

@@ -11,7 +11,8 @@ use std::process::ExitCode;
 use std::sync::Wait;
 use std::thread::Threads;
 use wq_command_line::{Answer, Kind, Source, Task, task_of};
-use wq_commands::{Failure, check_main, end, live_main, script_main, steps_main};
+use wq_commands::{Failure, check_main, end, script_main, steps_main};
+use wq_live_command::live_main;
 
 // The words of the command line, the program's own name first.
 fn command_words<R: Env + Alloc<A = Global>>(rt: &R) -> io::Result<Vec<String>> {

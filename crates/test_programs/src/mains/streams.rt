@@ -7,7 +7,8 @@ use std::io::{Error, ErrorKind, Read, Result, Write};
 use std::process::Abort;
 use std::sync::Wait;
 use std::thread::Threads;
-use wq_commands::{live_main, script_main, steps_main};
+use wq_commands::{script_main, steps_main};
+use wq_live_command::live_main;
 
 /// A subcommand.
 #[derive(Clone, Copy)]

@@ -3,17 +3,18 @@ ghost use Rattle.std.specs.Prelude.{◌≡◌, ◌≢◌, ◌⊎◌, IfOk, IfErr
 ghost use Rattle.wq_commands.specs.declared.failure.Failure.{Failure as Cause};
 ghost use Rattle.wq_commands.specs.Failure.{status_of};
 ghost use Rattle.wq_commands.specs.Ending.{Writes, Fails, IsUntouched};
-ghost use Rattle.wq_commands.specs.RaceReport.{Races, HasNoRace, plan_read};
+ghost use Rattle.wq_live_command.specs.RaceReport.{Races, HasNoRace, plan_read};
 
-use crate::ending::end;
-use crate::failure::Failure;
-use crate::reading::{PLAN_BYTES, read_most};
 use std::alloc::Global;
 use std::io::{Read, Write};
 use std::sync::Wait;
 use std::thread::Threads;
+use wq_commands::{Failure, end, read_most};
 use wq_plan::read_plan;
 use wq_pool_plan::run_live;
+
+// One byte more than a plan may have.
+const PLAN_BYTES: u64 = 65_537;
 
 // The line of the outcome of a plan's text.
 fn line_of<T: Threads + Wait + Sync>(rt: &T, alloc: Global, text: &[u8]) -> Result<String, Failure>

@@ -1,6 +1,6 @@
 use Rattle.std.proofs.Common.{◌∙◌, ◌++◌, ap, List, ℕ}
 use Rattle.wq_plan.specs.Outcome.{outcome_line}
-use Rattle.wq_commands.proofs.live.line_of.Goals as goal
+use Rattle.wq_live_command.proofs.live.line_of.Goals as goal
 
 pub returns-clause-line : goal.returns-clause-line
 returns-clause-line g c =
