@@ -1,10 +1,12 @@
 -- What was gathered, once it is sorted, is the due part of the table.
 use Rattle.std.specs.Ordering.{ordering_then}
 use Rattle.std.proofs.lemmas.List.Sorted.{All-permutation, IsPermutation-map, sum_by-IsPermutation, list_any-IsPermutation}
-use Rattle.wq_delay.proofs.Common.{◌≡◌, ℕ, suc, ◌+◌, ◌<◌, ◌≤◌, Bool, true, false, cond, ◌||◌, ◌≢◌, List, [], ◌∷◌, ◌++◌, map, get_or, nat_lt, nat_le, ◌==◌, Some, None, All}
+use Rattle.wq_delay.proofs.Common.{◌≡◌, ℕ, suc, ◌+◌, ◌<◌, ◌≤◌, Bool, true, false, cond, ◌||◌, ◌≢◌}
+use Rattle.wq_delay.proofs.Common.{List, [], ◌∷◌, ◌++◌, map, get_or, nat_lt, nat_le, ◌==◌, Some, None, All}
 use Rattle.wq_delay.proofs.Common.{sum_by, Option, IsPermutation, is_lt, Less, Equal, Greater, sym, refl, ap, ◌∙◌, subst, arith}
 use Rattle.wq_delay.proofs.Common.{eqb-true, nat_tests, All-head, All-tail, sum_by-cons, AllByRecursion, Entry, due_part, IsOrdered, on_table, IsBefore}
-use Rattle.wq_delay.proofs.Common.{all-more, Place, DueItem, place_in, AreOnTable, entry_of, times, place_at, SaysPlace, entries_of, is_due, place_of, AreApart, row_cmp, AreSorted}
+use Rattle.wq_delay.proofs.Common.{all-more, Place, DueItem, place_in, AreOnTable, entry_of, times, place_at}
+use Rattle.wq_delay.proofs.Common.{SaysPlace, entries_of, is_due, place_of, AreApart, row_cmp, AreSorted}
 use Rattle.wq_delay.proofs.Spelled.{place_off, entries_rows, same_entries}
 
 times_sum : (k : ℕ) (es : List Entry) → times k es ≡ sum_by (λ e. cond (k == e.item) 1 0) es
@@ -199,5 +201,6 @@ ordered_joined t [] ys first second early late single = second
 ordered_joined t (x ∷ xs) ys first second early late single = (
   joined_all (IsBefore x) xs ys first.0 (before_all x t ys (All-head (λ e. e.due ≤ t) x xs early) late),
   no_times x.item (xs ++ ys) (let a = single x.item in let b = times_first x (xs ++ ys) in omega arith),
-  ordered_joined t xs ys first.2 second (All-tail (λ e. e.due ≤ t) x xs early) late (λ k. let a = single k in let b = no_more_times k x (xs ++ ys) in omega arith),
+  ordered_joined t xs ys first.2 second (All-tail (λ e. e.due ≤ t) x xs early) late
+      (λ k. let a = single k in let b = no_more_times k x (xs ++ ys) in omega arith),
 )

@@ -2,11 +2,13 @@
 use Rattle.std.proofs.lemmas.List.{take-append-le}
 use Rattle.std.proofs.lemmas.List.Elements.{All-append}
 use Rattle.std.proofs.lemmas.List.Sorted.{All-permutation, IsPermutation-append_right}
-use Rattle.wq_delay.proofs.Common.{◌≡◌, ℕ, ◌+◌, ◌*◌, ◌<◌, ◌≤◌, Bool, true, false, cond, ◌&&◌, ◌||◌, List, [], ◌∷◌, ◌++◌, map, length, take, is_some, nat_le, ◌==◌}
-use Rattle.wq_delay.proofs.Common.{Some, None, All, filter, Option, IsPermutation, sym, refl, ap, ◌∙◌, subst, arith, eqb-true, nat_tests, map-append, filter-append}
+use Rattle.wq_delay.proofs.Common.{◌≡◌, ℕ, ◌+◌, ◌*◌, ◌<◌, ◌≤◌, Bool, true, false, cond, ◌&&◌}
+use Rattle.wq_delay.proofs.Common.{◌||◌, List, [], ◌∷◌, ◌++◌, map, length, take, is_some, nat_le, ◌==◌}
+use Rattle.wq_delay.proofs.Common.{Some, None, All, filter, Option, IsPermutation, sym, refl}
+use Rattle.wq_delay.proofs.Common.{ap, ◌∙◌, subst, arith, eqb-true, nat_tests, map-append, filter-append}
 use Rattle.wq_delay.proofs.Common.{All-head, All-tail, All-filter, All-nil, All-cons, All-map, All-weaker, Entry, due_part, IsOrdered, on_table, Place, DueItem}
 use Rattle.wq_delay.proofs.Common.{place_in, later_than, IsWheel, AreOnTable, entry_of, times, place_at, SaysPlace, entries_of, stands, is_due, IsTimetable}
-use Rattle.wq_delay.proofs.Common.{waiting, is_place, IsGathering, standing, Grows, AreSorted}
+use Rattle.wq_delay.proofs.Common.{waiting, is_place, IsGathering, remaining, PutsBehind, AreSorted}
 use Rattle.wq_delay.proofs.Table.{place_some}
 use Rattle.wq_delay.proofs.Spelled.{entries_rows}
 use Rattle.wq_delay.proofs.Standing.{later_same}
@@ -83,13 +85,13 @@ module _ {places : List (Option Place)} {next previous : List ℕ} {row : List D
   es = entries_of places
 
   abbrev late : List Entry
-  late = standing places kept
+  late = remaining places kept
 
-  late_is : late ≡ standing given kept
-  late_is = ap (λ (z : List (Option Place)). standing z kept) (sym value)
+  late_is : late ≡ remaining given kept
+  late_is = ap (λ (z : List (Option Place)). remaining z kept) (sym value)
 
   start_is : late ≡ due_part tick es
-  start_is = late_is ∙ (ap (map entry_of) same ∙ (ap (λ (z : List (Option Place)). standing z row) value ∙ t.due_is))
+  start_is = late_is ∙ (ap (map entry_of) same ∙ (ap (λ (z : List (Option Place)). remaining z row) value ∙ t.due_is))
 
   start_early : All (λ e. e.due ≤ tick) late
   start_early = subst (All (λ e. e.due ≤ tick)) (sym (start_is ∙ sym t.due_is))
@@ -108,8 +110,8 @@ module _ {places : List (Option Place)} {next previous : List ℕ} {row : List D
   start_waits : (k : ℕ) → waiting places late k ≡ later_than tick (place_in places k)
   start_waits k = ap (λ (z : Bool). cond z None (place_in places k)) (start_on k) ∙ waits_later tick (place_in places k)
 
-  pub gathering_start : IsGathering given next previous (standing given kept) now
-  gathering_start = subst (λ (z : List (Option Place)). IsGathering z next previous (standing z kept) now) (sym value) record {
+  pub gathering_start : IsGathering given next previous (remaining given kept) now
+  gathering_start = subst (λ (z : List (Option Place)). IsGathering z next previous (remaining z kept) now) (sym value) record {
     wheel = subst (λ (z : ℕ → Option Place). IsWheel (length places) next previous z) (λ i k. sym (start_waits k) i) t.wheel;
     valid = kept_valid places kept;
     due = All-weaker (λ e. e.due ≤ tick) (λ e. e.due ≤ now) (λ e early. omega arith) late start_early;
@@ -119,8 +121,8 @@ module _ {places : List (Option Place)} {next previous : List ℕ} {row : List D
   ahead : (k : ℕ) (p : Place) → waiting places late k ≡ Some p → tick < p.due
   ahead k p is = (later_same tick (place_in places k) p (sym (start_waits k) ∙ is)).1
 
-  pub start_ahead : (k : ℕ) (p : Place) → waiting given (standing given kept) k ≡ Some p → tick < p.due
-  start_ahead = subst (λ (z : List (Option Place)). (k : ℕ) (p : Place) → waiting z (standing z kept) k ≡ Some p → tick < p.due) (sym value) ahead
+  pub start_ahead : (k : ℕ) (p : Place) → waiting given (remaining given kept) k ≡ Some p → tick < p.due
+  start_ahead = subst (λ (z : List (Option Place)). (k : ℕ) (p : Place) → waiting z (remaining z kept) k ≡ Some p → tick < p.due) (sym value) ahead
 
   -- what stands on the table, and not among what is late, is due later
   all_later : (ms : List DueItem) → All (SaysPlace places) (map entry_of ms) → ((k : ℕ) → times k (late ++ map entry_of ms) ≤ 1)
@@ -136,25 +138,25 @@ module _ {places : List (Option Place)} {next previous : List ℕ} {row : List D
       let d = no_more_times k (entry_of m) (map entry_of ms) in omega arith))
 
   -- the row once nothing that is due waits, where what was found is sorted
-  module _ {next' previous' : List ℕ} {found sorted moved : List DueItem} (grows : Grows given kept found)
-      (gathered : IsGathering given next' previous' (standing given found) now)
-      (none_due : (k : ℕ) (p : Place) → waiting given (standing given found) k ≡ Some p → now < p.due)
+  module _ {next' previous' : List ℕ} {found sorted moved : List DueItem} (grows : PutsBehind given kept found)
+      (gathered : IsGathering given next' previous' (remaining given found) now)
+      (none_due : (k : ℕ) (p : Place) → waiting given (remaining given found) k ≡ Some p → now < p.due)
       (sorted_is : sorted ≡ kept ++ moved) (moves : IsPermutation grows.more moved) (is_sorted : AreSorted moved) where
     abbrev more : List DueItem
     more = grows.more
 
-    found_is : standing places found ≡ map entry_of (filter (stands places) kept ++ more)
+    found_is : remaining places found ≡ map entry_of (filter (stands places) kept ++ more)
     found_is = ap (map entry_of) (ap (filter (stands places)) grows.is ∙ (filter-append (stands places) kept more
         ∙ ap (λ (z : List DueItem). filter (stands places) kept ++ z) (filter_all (stands places) more
         (subst (λ (z : List (Option Place)). All (λ e. stands z e ≡ true) more) value grows.stand))))
 
     g : IsGathering places next' previous' (map entry_of (filter (stands places) kept ++ more)) now
     g = subst (λ (z : List Entry). IsGathering places next' previous' z now) found_is
-        (subst (λ (z : List (Option Place)). IsGathering z next' previous' (standing z found) now) value gathered)
+        (subst (λ (z : List (Option Place)). IsGathering z next' previous' (remaining z found) now) value gathered)
 
     done : (k : ℕ) (p : Place) → waiting places (map entry_of (filter (stands places) kept ++ more)) k ≡ Some p → now < p.due
     done = subst (λ (z : List Entry). (k : ℕ) (p : Place) → waiting places z k ≡ Some p → now < p.due) found_is
-        (subst (λ (z : List (Option Place)). (k : ℕ) (p : Place) → waiting z (standing z found) k ≡ Some p → now < p.due) value none_due)
+        (subst (λ (z : List (Option Place)). (k : ℕ) (p : Place) → waiting z (remaining z found) k ≡ Some p → now < p.due) value none_due)
 
     row_due : (k : ℕ) (fs : List Entry) → All (SaysPlace places) fs → All (λ e. e.due ≤ now) fs
         → on_table k fs ≡ true → is_due now (place_in places k) ≡ true
@@ -201,8 +203,8 @@ module _ {places : List (Option Place)} {next previous : List ℕ} {row : List D
         (all_later more (all_back (SaysPlace places) late (map entry_of more) (subst (All (SaysPlace places)) (split more) g.valid))
         (λ k. let a = g.single k in let b = ap (times k) (split more) in omega arith))
 
-    sorted_ends : standing places sorted ≡ late ++ map entry_of moved
-    sorted_ends = ap (standing places) sorted_is ∙ (ap (map entry_of) (filter-append (stands places) kept moved
+    sorted_ends : remaining places sorted ≡ late ++ map entry_of moved
+    sorted_ends = ap (remaining places) sorted_is ∙ (ap (map entry_of) (filter-append (stands places) kept moved
         ∙ ap (λ (z : List DueItem). filter (stands places) kept ++ z) (filter_all (stands places) moved
         (All-weaker (λ x. place_in places x.item ≡ Some x.place) (λ x. stands places x ≡ true)
         (λ x is. place_stands x.place (place_in places x.item) is) moved (all_unmap (SaysPlace places) moved moved_on.valid)))) ∙ split moved)
@@ -219,7 +221,8 @@ module _ {places : List (Option Place)} {next previous : List ℕ} {row : List D
       apart = t.apart;
       wheel = subst (λ (z : ℕ → Option Place). IsWheel (length places) next' previous' z)
           (λ i k. (ap (λ (z : Bool). cond z None (place_in places k)) (found_on k) ∙ waits_later now (place_in places k)) i) g.wheel;
-      due_is = sorted_ends ∙ ordered_is_due places now (late ++ map entry_of moved) t.apart (subst (All (SaysPlace places)) (split moved) sorted_on.valid) in_order
+      due_is = sorted_ends ∙ ordered_is_due places now (late ++ map entry_of moved) t.apart
+          (subst (All (SaysPlace places)) (split moved) sorted_on.valid) in_order
           (λ k. ap (on_table k) (sym (split moved)) ∙ (sym (same_on_table k _ _ all_moves) ∙ found_on k));
       early = subst (All (λ e. e.place.due ≤ now)) (sym sorted_is)
           (All-append (λ e. e.place.due ≤ now) kept moved (All-weaker (λ e. e.place.due ≤ tick) (λ e. e.place.due ≤ now) (λ e low. omega arith) kept early)

@@ -2,7 +2,7 @@
 use Rattle.std.proofs.lemmas.List.Elements.{filter_passes, All-append}
 use Rattle.wq_delay.proofs.Common.{◌≡◌, ℕ, ◌*◌, ◌≤◌, Bool, true, cond, List, [], ◌∷◌, ◌++◌, map, length, filter, Some, All, Option, sym, ap, ◌∙◌, subst}
 use Rattle.wq_delay.proofs.Common.{arith, append_assoc, append-nil, length-append, length-map, map-append, filter-append, All-filter, All-nil, All-push, Entry}
-use Rattle.wq_delay.proofs.Common.{Place, DueItem, place_in, entry_of, stands, standing, HasRoom, Grows}
+use Rattle.wq_delay.proofs.Common.{Place, DueItem, place_in, entry_of, stands, remaining, RowHasRoom, PutsBehind}
 use Rattle.wq_delay.proofs.Leading.{filter_all, place_stands}
 
 module _ (places : List (Option Place)) (row kept : List DueItem) (is : kept ≡ filter (stands places) row) where
@@ -13,7 +13,7 @@ module _ (places : List (Option Place)) (row kept : List DueItem) (is : kept ≡
   pub tidied_early : (t : ℕ) → All (λ e. e.place.due ≤ t) row → All (λ e. e.place.due ≤ t) kept
   tidied_early t all = subst (All (λ e. e.place.due ≤ t)) (sym is) (All-filter (stands places) (λ e. e.place.due ≤ t) row all)
 
-  pub tidied_room : (room : ℕ) → 3 * length places ≤ room → HasRoom places kept room
+  pub tidied_room : (room : ℕ) → 3 * length places ≤ room → RowHasRoom places kept room
   tidied_room room enough = record {
     enough = enough;
     few_gone =
@@ -26,31 +26,32 @@ module _ (places : List (Option Place)) where
   pub item_stands : (e : DueItem) → place_in places e.item ≡ Some e.place → stands places e ≡ true
   item_stands e is = place_stands e.place (place_in places e.item) is
 
-  pub grows_none : (row : List DueItem) → Grows places row row
+  pub grows_none : (row : List DueItem) → PutsBehind places row row
   grows_none row = record { more = []; is = sym (append-nil row); stand = All-nil (λ e. stands places e ≡ true) }
 
   module _ (row new : List DueItem) (e : DueItem) where
-    pub standing_more : new ≡ row ++ e ∷ [] → stands places e ≡ true → standing places new ≡ standing places row ++ entry_of e ∷ []
-    standing_more is there = ap (standing places) is ∙ (ap (map entry_of) (filter-append (stands places) row (e ∷ [])
+    pub standing_more : new ≡ row ++ e ∷ [] → stands places e ≡ true → remaining places new ≡ remaining places row ++ entry_of e ∷ []
+    standing_more is there = ap (remaining places) is ∙ (ap (map entry_of) (filter-append (stands places) row (e ∷ [])
         ∙ ap (λ (b : Bool). filter (stands places) row ++ cond b (e ∷ []) []) there) ∙ map-append entry_of (filter (stands places) row) (e ∷ []))
 
-    pub room_more : (room now : ℕ) → HasRoom places row room → new ≡ row ++ e ∷ [] → stands places e ≡ true → room ≤ now → HasRoom places new now
+    pub room_more : (room now : ℕ) → RowHasRoom places row room → new ≡ row ++ e ∷ [] → stands places e ≡ true → room ≤ now → RowHasRoom places new now
     room_more room now has is there le = record {
       enough = let n = has.enough in omega arith;
       few_gone =
           let n = has.few_gone in let all = ap (length {A = DueItem}) is in let one = length-append row (e ∷ []) in
-          let stand = ap (length {A = Entry}) (standing_more is there) in let more = length-append (standing places row) (entry_of e ∷ []) in
+          let stand = ap (length {A = Entry}) (standing_more is there) in let more = length-append (remaining places row) (entry_of e ∷ []) in
           omega arith;
     }
 
-  pub grows_more : (old row new : List DueItem) (e : DueItem) → Grows places old row → new ≡ row ++ e ∷ [] → stands places e ≡ true → Grows places old new
+  pub grows_more : (old row new : List DueItem) (e : DueItem) → PutsBehind places old row → new ≡ row ++ e ∷ [] → stands places e ≡ true
+      → PutsBehind places old new
   grows_more old row new e grows is there = record {
     more = grows.more ++ e ∷ [];
     is = is ∙ (ap (λ (z : List DueItem). z ++ e ∷ []) grows.is ∙ append_assoc old grows.more (e ∷ []));
     stand = All-push (λ x. stands places x ≡ true) grows.more e grows.stand there;
   }
 
-  pub grows_on : (old row new : List DueItem) → Grows places old row → Grows places row new → Grows places old new
+  pub grows_on : (old row new : List DueItem) → PutsBehind places old row → PutsBehind places row new → PutsBehind places old new
   grows_on old row new first second = record {
     more = first.more ++ second.more;
     is = second.is ∙ (ap (λ (z : List DueItem). z ++ second.more) first.is ∙ append_assoc old first.more second.more);

@@ -1,5 +1,6 @@
 -- Where items stand, and the table that this spells.
-use Rattle.std.specs.Prelude.{◌≡◌, ℕ, ◌+◌, ◌-◌, ◌*◌, ◌≤◌, ◌<◌, ◌%◌, ◌==◌, Bool, true, false, ◌||◌, ◌&&◌, nat_lt, nat_le, Option, Some, None, if◌then◌else◌, List, [], ◌∷◌, ◌++◌}
+use Rattle.std.specs.Prelude.{◌≡◌, ℕ, ◌+◌, ◌-◌, ◌*◌, ◌≤◌, ◌<◌, ◌%◌, ◌==◌, Bool, true, false}
+use Rattle.std.specs.Prelude.{◌||◌, ◌&&◌, nat_lt, nat_le, Option, Some, None, if◌then◌else◌, List, [], ◌∷◌, ◌++◌}
 use Rattle.std.specs.Prelude.{map, filter, length, take, slice_index, slice_index_or}
 use Rattle.std.specs.List.{All}
 use Rattle.std.specs.List.Sorted.{IsSortedBy}
@@ -143,16 +144,16 @@ abbrev pub AreSorted : List DueItem → Type 0
 AreSorted row = IsSortedBy (λ x y. is_lt (row_cmp x y)) row
 
 -- what still stands on the table of a row
-abbrev pub standing : List (Option Place) → List DueItem → List Entry
-standing places row = map entry_of (filter (stands places) row)
+abbrev pub remaining : List (Option Place) → List DueItem → List Entry
+remaining places row = map entry_of (filter (stands places) row)
 
 -- The row has room for all that may be found: of what it holds no more than twice as many as there are items have left the table.
-pub record HasRoom (places : List (Option Place)) (row : List DueItem) (room : ℕ) : Type 0 where
+pub record RowHasRoom (places : List (Option Place)) (row : List DueItem) (room : ℕ) : Type 0 where
   pub enough : 3 * length places ≤ room
-  pub few_gone : length row ≤ 2 * length places + length (standing places row)
+  pub few_gone : length row ≤ 2 * length places + length (remaining places row)
 
 -- items that stand on the table were put behind the row
-pub record Grows (places : List (Option Place)) (old new : List DueItem) : Type 0 where
+pub record PutsBehind (places : List (Option Place)) (old new : List DueItem) : Type 0 where
   pub more : List DueItem
   pub is : new ≡ old ++ more
   pub stand : All (λ e. stands places e ≡ true) more
@@ -181,7 +182,7 @@ pub record IsTimetable (places : List (Option Place)) (next previous : List ℕ)
   pub few : length places ≤ most_items
   pub apart : AreApart places
   pub wheel : IsWheel (length places) next previous (λ k. later_than tick (place_in places k))
-  pub due_is : standing places row ≡ due_part tick (entries_of places)
+  pub due_is : remaining places row ≡ due_part tick (entries_of places)
   pub early : All (λ e. e.place.due ≤ tick) row
   pub passed : filter (stands places) (take front row) ≡ []
   pub enough : 3 * length places ≤ room

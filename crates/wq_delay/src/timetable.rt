@@ -6,7 +6,7 @@ ghost use Rattle.std.specs.Prelude.{map, filter, take, drop, nat_le, ◌&&◌, �
 ghost use Rattle.std.specs.Vec.{vec_capacity};
 ghost use Rattle.std.specs.List.{All};
 ghost use Rattle.wq_delay.specs.Rows.{IsFirstDue, IsWheel, IsGathering, StillWaits, IsClean, place_in, later_than, waiting, entry_of, stands, AreFound, AreDue};
-ghost use Rattle.wq_delay.specs.Rows.{standing, HasRoom, Grows, AreSorted};
+ghost use Rattle.wq_delay.specs.Rows.{remaining, RowHasRoom, PutsBehind, AreSorted};
 ghost use Rattle.std.specs.List.Sorted.{IsPermutation};
 
 use crate::rings::Rings;
@@ -141,14 +141,14 @@ fn items_of(alloc: Global, row: &[DueItem]) -> Result<Vec<u32>, AllocError>
 
 // Looks at the slot with this head, and moves what is due at the tick `now` behind the row, in the order of the slot.
 fn look(places: &[Option<Place>], rings: &mut Rings, row: &mut Vec<DueItem>, head: u32, now: u64)
-    requires gathering { IsGathering places.now rings.old.next.items rings.old.previous.items (standing places.now row.old.items) now }
+    requires gathering { IsGathering places.now rings.old.next.items rings.old.previous.items (remaining places.now row.old.items) now }
     requires head { (length places.now ≤ head) × (head < length places.now + 256) }
-    requires room { HasRoom places.now row.old.items (vec_capacity row.old) }
-    ensures gathering { IsGathering places.now rings.new.next.items rings.new.previous.items (standing places.now row.new.items) now }
-    ensures room { HasRoom places.now row.new.items (vec_capacity row.new) }
-    ensures grows { Grows places.now row.old.items row.new.items }
-    ensures fewer { StillWaits places.now (standing places.now row.old.items) (standing places.now row.new.items) }
-    ensures clean { IsClean places.now (standing places.now row.new.items) head now }
+    requires room { RowHasRoom places.now row.old.items (vec_capacity row.old) }
+    ensures gathering { IsGathering places.now rings.new.next.items rings.new.previous.items (remaining places.now row.new.items) now }
+    ensures room { RowHasRoom places.now row.new.items (vec_capacity row.new) }
+    ensures grows { PutsBehind places.now row.old.items row.new.items }
+    ensures fewer { StillWaits places.now (remaining places.now row.old.items) (remaining places.now row.new.items) }
+    ensures clean { IsClean places.now (remaining places.now row.new.items) head now }
 {
     let mut item = rings.next[head as usize];
     while item != head {
@@ -173,7 +173,7 @@ fn tidy(places: &[Option<Place>], row: &mut Vec<DueItem>, front: usize) -> usize
     ensures low { result ≤ length row.new.items }
     ensures same { filter (stands places.now) row.new.items ≡ filter (stands places.now) row.old.items }
     ensures early { (t : ℕ) → All (λ e. e.place.due ≤ t) row.old.items → All (λ e. e.place.due ≤ t) row.new.items }
-    ensures room { HasRoom places.now row.new.items (vec_capacity row.new) }
+    ensures room { RowHasRoom places.now row.new.items (vec_capacity row.new) }
 {
     if front < row.len() && row.len() <= 2 * places.len() {
         return front;
@@ -203,14 +203,14 @@ fn look_on(
     now: u64,
 ) -> u32
     requires few { length places.now ≤ most_items }
-    requires gathering { IsGathering places.now rings.old.next.items rings.old.previous.items (standing places.now row.old.items) now }
-    requires room { HasRoom places.now row.old.items (vec_capacity row.old) }
-    requires ahead { (k : ℕ) (p : _) → waiting places.now (standing places.now row.old.items) k ≡ Some p → tick < p.due }
+    requires gathering { IsGathering places.now rings.old.next.items rings.old.previous.items (remaining places.now row.old.items) now }
+    requires room { RowHasRoom places.now row.old.items (vec_capacity row.old) }
+    requires ahead { (k : ℕ) (p : _) → waiting places.now (remaining places.now row.old.items) k ≡ Some p → tick < p.due }
     requires forward { tick ≤ now }
-    ensures gathering { IsGathering places.now rings.new.next.items rings.new.previous.items (standing places.now row.new.items) now }
-    ensures room { HasRoom places.now row.new.items (vec_capacity row.new) }
-    ensures grows { Grows places.now row.old.items row.new.items }
-    ensures done { (k : ℕ) (p : _) → waiting places.now (standing places.now row.new.items) k ≡ Some p → now < p.due }
+    ensures gathering { IsGathering places.now rings.new.next.items rings.new.previous.items (remaining places.now row.new.items) now }
+    ensures room { RowHasRoom places.now row.new.items (vec_capacity row.new) }
+    ensures grows { PutsBehind places.now row.old.items row.new.items }
+    ensures done { (k : ℕ) (p : _) → waiting places.now (remaining places.now row.new.items) k ≡ Some p → now < p.due }
     ensures looked { result ≡ min (now - tick) 256 }
 {
     let size = places.len() as u32;

@@ -1,4 +1,4 @@
-use Rattle.wq_delay.proofs.Common.{[], vec_len, vec_capacity, arith, DueItem, standing}
+use Rattle.wq_delay.proofs.Common.{[], vec_len, vec_capacity, arith, DueItem, remaining}
 use Rattle.wq_delay.proofs.Looking.{item_off, looking_pass, looking_take, nearer_read, item_here, looking_init, looking_end}
 use Rattle.wq_delay.proofs.Fitting.{pushed, row_has_room}
 use Rattle.wq_delay.proofs.Tidied.{item_stands, standing_more, room_more, grows_none, grows_more}
@@ -36,7 +36,7 @@ loop-item-preserved-then-place-now c =
     let l = c.loop-item.invariant.0 in let x = c.loop-item.item in let h = c.requires.head in let ne = c.loop-item-test.true in
     let row = c.loop-item.row in let enough = c.loop-item.invariant.1 in let places = c.args.places.now in
     let e : DueItem = record { place = c.in-Some.place; item = x } in
-    let room = row_has_room places (standing places row.items) x c.in-Some.place (record { valid = l.gathering.valid; single = l.gathering.single })
+    let room = row_has_room places (remaining places row.items) x c.in-Some.place (record { valid = l.gathering.valid; single = l.gathering.single })
     (item_off _ _ _ _ _ _ _ h.0 h.1 l ne) c.in-Some.is in
     let more = pushed c.push.result row.items c.push.new.self.items e (vec_capacity row) (vec_len row)
     c.push.ensures.items c.push.ensures.full (omega (arith, room, enough.enough, enough.few_gone, row.ok.0)) in

@@ -1,11 +1,11 @@
-use Rattle.wq_delay.proofs.Common.{◌≡◌, ◌-◌, min, refl, ◌∙◌, arith, nat_tests, standing}
+use Rattle.wq_delay.proofs.Common.{◌≡◌, ◌-◌, min, refl, ◌∙◌, arith, nat_tests, remaining}
 use Rattle.wq_delay.proofs.Slots.{looking_on_init, looking_on_more, looking_on_end}
 use Rattle.wq_delay.proofs.Tidied.{grows_none, grows_on}
 use Rattle.wq_delay.proofs.timetable.look_on.Goals as goal
 
 pub loop-after-init : goal.loop-after-init
 loop-after-init c = (
-  looking_on_init c.args.places.now c.args.rings.now.next.items c.args.rings.now.previous.items (standing c.args.places.now c.args.row.now.items)
+  looking_on_init c.args.places.now c.args.rings.now.next.items c.args.rings.now.previous.items (remaining c.args.places.now c.args.row.now.items)
       c.args.tick c.args.now c.requires.gathering,
   c.requires.room,
   refl,
@@ -20,9 +20,10 @@ look-requires-clause-room c = c.loop-after.invariant.1
 
 pub loop-after-preserved : goal.loop-after-preserved
 loop-after-preserved c =
-    let l = c.loop-after in let next = l.rings.next.items in let previous = l.rings.previous.items in let row = standing c.args.places.now l.row.items in (
+    let l = c.loop-after in let next = l.rings.next.items in let previous = l.rings.previous.items in let row = remaining c.args.places.now l.row.items in (
       looking_on_more c.args.places.now next previous c.look.new.rings.next.items c.look.new.rings.previous.items
-          (standing c.args.places.now c.args.row.now.items) row (standing c.args.places.now c.look.new.row.items) c.args.tick c.args.now l.after _ l.invariant.0 (omega arith) c.look.ensures.gathering c.look.ensures.fewer
+          (remaining c.args.places.now c.args.row.now.items) row (remaining c.args.places.now c.look.new.row.items)
+          c.args.tick c.args.now l.after _ l.invariant.0 (omega arith) c.look.ensures.gathering c.look.ensures.fewer
           c.look.ensures.clean,
       c.look.ensures.room,
       omega (arith, l.invariant.2),
@@ -40,7 +41,7 @@ returns-clause-done c =
     let is : c.min-ticks.result ≡ min (c.args.now - c.args.tick) 256 = c.min-ticks.ensures ∙ (grind (arith, nat_tests)) in
     let l = c.loop-after.invariant in
     looking_on_end c.args.places.now c.loop-after.rings.next.items c.loop-after.rings.previous.items
-    (standing c.args.places.now c.args.row.now.items) (standing c.args.places.now c.loop-after.row.items) c.args.tick c.args.now c.loop-after.after l.0
+    (remaining c.args.places.now c.args.row.now.items) (remaining c.args.places.now c.loop-after.row.items) c.args.tick c.args.now c.loop-after.after l.0
     (omega (arith, c.loop-after-test.false, c.loop-after.auto.after-end)) c.requires.ahead
 
 pub returns-clause-looked : goal.returns-clause-looked
