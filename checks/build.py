@@ -75,12 +75,13 @@ def prove(named, crate, is_first):
     move_out(crate, TOP, tree)
     words = ["run" if crate == PROGRAM else "lib", "--jobs", str(min(PROCESSORS, 4) if is_first else 1)]
     words = ["nice", "-n", "0" if is_first else "10", "rt", *words, *["--", "--version"] * (crate == PROGRAM)]
+    began = time.monotonic()
     try:
         ran = subprocess.run(words, cwd=tree / "crates" / crate, capture_output=True, text=True, errors="replace")
     finally:
         move_out(crate, tree, TOP)
         shutil.rmtree(tree)
-    return ran.returncode == 0, f"== {crate}\n{ran.stdout}{ran.stderr}"
+    return ran.returncode == 0, f"== {crate}, {time.monotonic() - began:.0f} seconds\n{ran.stdout}{ran.stderr}"
 
 
 def prove_all(named, crates, log):
