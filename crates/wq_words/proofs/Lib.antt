@@ -20,3 +20,4 @@ pub mod DelayTable
 pub mod Counting
 pub mod Appended
 pub mod Rest
+pub mod Valued

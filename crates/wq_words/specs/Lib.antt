@@ -12,3 +12,4 @@ pub mod Counting
 pub mod DelayTable
 pub mod Armed
 pub mod Rest
+pub mod Valued

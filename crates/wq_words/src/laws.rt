@@ -1,7 +1,7 @@
 //! What holds of the histories that `check_history` accepts. These functions compute nothing: each one's contract is a
 //! law, which a caller has in hand after the call, of every queue and every history, also of those that contracts alone
 //! see.
-ghost use Rattle.std.specs.Prelude.{◌≡◌, ◌↔◌, ℕ, ◌+◌, ◌-◌, List, [], length, reverse, drop, Some, slice_get, IsTrue};
+ghost use Rattle.std.specs.Prelude.{◌≡◌, ◌↔◌, ℕ, ◌+◌, ◌-◌, List, [], Option, length, reverse, take, drop, Some, slice_get, IsTrue};
 ghost use Rattle.wq_words.specs.declared.layout.Layout.{Layout};
 ghost use Rattle.wq_words.specs.declared.event.Event.{Event};
 ghost use Rattle.wq_words.specs.History.{accepted, begun, ended, IsRunning, running, IsPending, pending, IsClosed, closed, IsShut, shut, fresh, taken};
@@ -10,6 +10,7 @@ ghost use Rattle.wq_words.specs.Listed.{listed};
 ghost use Rattle.wq_words.specs.Keeper.{Keeper, Keeps, keeper};
 ghost use Rattle.wq_words.specs.Headline.{KeepsHeadline};
 ghost use Rattle.wq_words.specs.Rest.{WakesOnceARest};
+ghost use Rattle.wq_words.specs.Valued.{AreBrought, IsLegalWith, events_of, brought, handed, with_values};
 
 /// Each accepted queueing is executed at most once, and exactly once where a close or a drain after it has ended. Executions never
 /// overlap, and follow the order in which the queueings were accepted, so each sender's are first in first out. No push
@@ -54,4 +55,17 @@ pub fn pending_and_closed()
 /// resting queue to work without a wake, and so a push after a drain wakes nobody before the next rest. It holds of each list of events, legal or not.
 pub fn one_wakes()
     ensures once_a_rest { (h : List Event) → WakesOnceARest h }
+{}
+
+/// A legal history whose accepted numbers brought these values, each item one and no other number any, is legal with them,
+/// where each begun number is handed what the accepted number at its place brought. Its events are those of the history,
+/// its numbers brought just these values, and of them as many were handed over, in order, as numbers have begun.
+pub fn values_are_legal<V>()
+    ensures legal { (layout : Layout) (h : List Event) (values : List (Option V)) → IsLegal layout h
+        → AreBrought layout.items (accepted h) values → IsLegalWith layout (with_values h values) }
+    ensures events { (h : List Event) (values : List (Option V)) → events_of (with_values h values) ≡ h }
+    ensures brought { (h : List Event) (values : List (Option V)) → length values ≡ length (accepted h)
+        → brought (with_values h values) ≡ values }
+    ensures handed { (layout : Layout) (h : List Event) (values : List (Option V)) → IsLegal layout h
+        → length values ≡ length (accepted h) → handed (with_values h values) ≡ take (length (begun h)) values }
 {}

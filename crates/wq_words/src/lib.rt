@@ -14,5 +14,7 @@ pub use answer::{Answer, Armed, Modified, Posted};
 pub use event::{Event, Why};
 pub use head::{BUSY, Head};
 pub use history::{HistoryError, HistoryFault, check_history};
-pub use laws::{headline, one_keeper, one_runs, one_wakes, pending_and_closed, pending_list};
+pub use laws::{
+    headline, one_keeper, one_runs, one_wakes, pending_and_closed, pending_list, values_are_legal,
+};
 pub use layout::{Layout, LayoutError, MOST_ITEMS};
