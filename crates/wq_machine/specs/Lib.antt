@@ -1,3 +1,4 @@
 pub mod Refusal
 pub mod Schedule
 pub mod Stored
+pub mod Keeper

@@ -33,7 +33,7 @@ const NOTHING_SEEN: Private = Private {
 #[derive(Drop)]
 pub struct Core {
     alloc: Global,
-    layout: Layout,
+    pub(crate) layout: Layout,
     words: Vec<u64>,
     seats: Vec<Private>,
     cursor: Option<u32>,
