@@ -6,5 +6,6 @@ pub mod LineWords
 pub mod Limited
 pub mod Texts
 pub mod Outcomes
+pub mod Versions
 pub mod Sound
 pub mod Turns

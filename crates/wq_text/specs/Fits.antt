@@ -21,6 +21,7 @@ Fits layout (command.Flush sender barrier) = (sender < layout.senders) × IsBarr
 Fits layout (command.Done sender barrier) = (sender < layout.senders) × IsBarrier layout barrier
 Fits layout (command.Stop sender) = sender < layout.senders
 Fits layout (command.Drain limit) = Unit {0}
+Fits layout (command.DrainAndResume limit) = Unit {0}
 Fits layout (command.Check item) = IsItem layout item
 Fits layout (command.Arm item delay) = IsItem layout item
 Fits layout (command.Cancel item) = IsItem layout item

@@ -9,7 +9,8 @@ use Rattle.wq_text.specs.declared.keyword.Keyword.{Keyword}
 use Rattle.wq_text.specs.declared.keyword.Keyword.TheVariants as keyword
 use Rattle.wq_text.specs.Arguments.{number, sender, item, barrier, limit, no_word, one, two, one_and_at_most}
 use Rattle.wq_text.specs.Fault.{of_none, of_one, of_two}
-use Rattle.wq_text.specs.Line.{Grammar, Lines, line_gives}
+use Rattle.wq_text.specs.Line.{Grammar, Lines}
+use Rattle.wq_text.specs.Version.{lines_of_version}
 
 unfoldable pub keyword_at : List ℕ → Option Keyword
 keyword_at w =
@@ -29,6 +30,10 @@ keyword_at w =
     else if bytes_eq w (codes "advance") then Some keyword.Advance
     else None
 
+-- the same in version 2, where a drain is another command
+unfoldable pub keyword_at_2 : List ℕ → Option Keyword
+keyword_at_2 w = if bytes_eq w (codes "drain") then Some keyword.DrainAndResume else keyword_at w
+
 -- the table of commands
 unfoldable pub command_gives : Layout → Keyword → List (List ℕ) → Result Command Kind
 command_gives l keyword.Queue ws = of_two command.Queue (two (sender l) (item l) ws)
@@ -40,6 +45,7 @@ command_gives l keyword.Flush ws = of_two command.Flush (two (sender l) (barrier
 command_gives l keyword.Done ws = of_two command.Done (two (sender l) (barrier l) ws)
 command_gives l keyword.Stop ws = of_one command.Stop (one (sender l) ws)
 command_gives l keyword.Drain ws = of_one command.Drain (one limit ws)
+command_gives l keyword.DrainAndResume ws = of_one command.DrainAndResume (one limit ws)
 command_gives l keyword.Check ws = of_one command.Check (one (item l) ws)
 command_gives l keyword.Arm ws = of_two command.Arm (two (item l) number ws)
 command_gives l keyword.Cancel ws = of_one command.Cancel (one (item l) ws)
@@ -55,6 +61,16 @@ script_grammar = record {
   asks = λ l k w ws. command_gives l k ws;
 }
 
--- a line of a script
-abbrev pub script_line : Lines Command
-script_line = line_gives script_grammar
+-- that of version 2
+abbrev pub script_grammar_2 : Grammar Keyword Command
+script_grammar_2 = record {
+  version = codes "wq 2";
+  names_seats = true;
+  most = record { items = 65536; senders = 62 };
+  names = λ w ws. keyword_at_2 w;
+  asks = λ l k w ws. command_gives l k ws;
+}
+
+-- the lines of a script
+abbrev pub script_lines : List ℕ → Lines Command
+script_lines = lines_of_version script_grammar script_grammar_2

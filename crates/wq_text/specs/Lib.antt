@@ -6,6 +6,7 @@ pub mod Fault
 pub mod Arguments
 pub mod Header
 pub mod Line
+pub mod Version
 pub mod Keyword
 pub mod Text
 pub mod Sound

@@ -14,7 +14,8 @@ use Rattle.wq_text.specs.declared.turn.Action.{Action}
 use Rattle.wq_text.specs.declared.turn.Action.TheVariants as action
 use Rattle.wq_text.specs.Arguments.{sender, item, barrier, no_word, one_word, two_words, one}
 use Rattle.wq_text.specs.Fault.{◌>>=◌, of_none, of_one, of_two}
-use Rattle.wq_text.specs.Line.{Grammar, Lines, line_gives}
+use Rattle.wq_text.specs.Line.{Grammar, Lines}
+use Rattle.wq_text.specs.Version.{lines_of_version}
 use Rattle.wq_text.specs.Word.{other_words}
 
 -- whose step it is, and which
@@ -58,6 +59,10 @@ cause_at w =
     else if bytes_eq w (codes "cancelled") then Some why.Cancelled
     else None
 
+-- a cause in a language that knows drains
+unfoldable pub why_at : List ℕ → Option Why
+why_at w = if bytes_eq w (codes "draining") then Some why.Draining else cause_at w
+
 unfoldable pub senders_action : List ℕ → List ℕ → Option Action
 senders_action w last =
     if bytes_eq w (codes "hold") then Some action.Hold
@@ -77,6 +82,22 @@ action_at w ws =
     if length ws == 0 then None
     else if bytes_eq w (codes "o") then owners_action (nth_word 0 ws)
     else senders_action (nth_word 0 ws) (nth_word (length ws - 1) ws)
+
+-- the same in version 2
+unfoldable pub owners_action_2 : List ℕ → Option Action
+owners_action_2 w =
+    if bytes_eq w (codes "drain") then Some action.Drain
+    else if bytes_eq w (codes "resume") then Some action.Resume
+    else owners_action w
+
+unfoldable pub senders_action_2 : List ℕ → List ℕ → Option Action
+senders_action_2 w last = if bytes_eq w (codes "back") then option_map action.Back (why_at last) else senders_action w last
+
+abbrev pub action_at_2 : List ℕ → List (List ℕ) → Option Action
+action_at_2 w ws =
+    if length ws == 0 then None
+    else if bytes_eq w (codes "o") then owners_action_2 (nth_word 0 ws)
+    else senders_action_2 (nth_word 0 ws) (nth_word (length ws - 1) ws)
 
 -- a sender alone, or a sender and a number of the queue, with so many words behind the step's
 abbrev pub seat_alone : Layout → List ℕ → List (List ℕ) → Result ℕ Kind
@@ -112,6 +133,8 @@ turn_gives l (action.Back cause) w ws = of_two (λ s k. (seat.Sender s, step.Bac
 turn_gives l action.Check w ws = of_two (λ s k. (seat.Sender s, step.Check k)) (seat_and_number l w ws)
 turn_gives l action.Take w ws = of_none (seat.Owner, step.Take) (no_word ws)
 turn_gives l action.Close w ws = of_none (seat.Owner, step.Close) (no_word ws)
+turn_gives l action.Drain w ws = of_none (seat.Owner, step.Drain) (no_word ws)
+turn_gives l action.Resume w ws = of_none (seat.Owner, step.Resume) (no_word ws)
 turn_gives l action.Walk w ws = of_none (seat.Owner, step.Walk) (no_word ws)
 turn_gives l action.Begin w ws = of_none (seat.Owner, step.Begin) (no_word ws)
 turn_gives l action.End w ws = of_none (seat.Owner, step.End) (no_word ws)
@@ -128,6 +151,16 @@ schedule_grammar = record {
   asks = λ l a w ws. turn_gives l a w (other_words ws);
 }
 
--- a line of a schedule
-abbrev pub schedule_line : Lines Turn
-schedule_line = line_gives schedule_grammar
+-- that of version 2
+abbrev pub schedule_grammar_2 : Grammar Action Turn
+schedule_grammar_2 = record {
+  version = codes "steps 2";
+  names_seats = true;
+  most = record { items = 65536; senders = 64 };
+  names = action_at_2;
+  asks = λ l a w ws. turn_gives l a w (other_words ws);
+}
+
+-- the lines of a schedule
+abbrev pub schedule_lines : List ℕ → Lines Turn
+schedule_lines = lines_of_version schedule_grammar schedule_grammar_2

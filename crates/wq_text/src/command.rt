@@ -27,8 +27,11 @@ pub enum Command {
     Done { sender: u32, barrier: u32 },
     /// The sender queues the stop item.
     Stop(u32),
-    /// At most so many executions of a closed queue (`drain_workqueue`).
+    /// At most so many executions of a closed queue: the drain of version 1, which an open queue answers `not closed`.
     Drain(u32),
+    /// At most so many executions of a queue that takes no push meanwhile (`drain_workqueue`): the drain of version 2, in which
+    /// an open queue drains, and takes pushes again once nothing is left.
+    DrainAndResume(u32),
     /// Whether the item's PENDING bit is set (`work_pending`).
     Check(u32),
     /// The item is queued after so many ticks (`queue_delayed_work`).
@@ -65,6 +68,7 @@ impl Command {
             Command::Arm { item, .. } | Command::Modify { item, .. } => *item < layout.items,
             Command::Run(_)
             | Command::Drain(_)
+            | Command::DrainAndResume(_)
             | Command::Close
             | Command::Report
             | Command::Advance(_) => true,

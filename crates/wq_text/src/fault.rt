@@ -11,7 +11,7 @@ use thiserror::Error;
 pub enum Kind {
     /// The text is longer than 1,048,576 bytes.
     Size,
-    /// The first line is not `wq 1`.
+    /// The first line names no version of the language.
     Version,
     /// The last line does not end with LF.
     Cut,
@@ -27,7 +27,7 @@ pub enum Kind {
     Count,
     /// A word that is no number.
     Number,
-    /// Not 1 to 4,096 items.
+    /// Not 1 to 4,096 items, or in version 2 not 1 to 65,536.
     Items,
     /// Not 1 to 62 senders.
     Senders,

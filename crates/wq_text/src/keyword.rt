@@ -2,7 +2,7 @@
 ghost use Rattle.std.specs.Prelude.{◌≡◌, map, IfOk};
 ghost use Rattle.wq_text.specs.Fault.{LineGives};
 ghost use Rattle.wq_text.specs.Fits.{Fits};
-ghost use Rattle.wq_text.specs.Keyword.{keyword_at, command_gives};
+ghost use Rattle.wq_text.specs.Keyword.{keyword_at, keyword_at_2, command_gives};
 
 use crate::arguments::{
     item, item_and_delay, item_and_follow, limit, no_word, number, one_word, sender,
@@ -24,6 +24,7 @@ pub(crate) enum Keyword {
     Done,
     Stop,
     Drain,
+    DrainAndResume,
     Check,
     Arm,
     Cancel,
@@ -51,6 +52,17 @@ pub(crate) fn keyword_of(word: &str) -> Option<Keyword>
         "modify" => Some(Keyword::Modify),
         "advance" => Some(Keyword::Advance),
         _ => None,
+    }
+}
+
+// The same in version 2, where a drain is another command.
+#[tactic(auto, unfolding(crate::specs::Keyword::keyword_at_2))]
+pub(crate) fn keyword_of_2(word: &str) -> Option<Keyword>
+    ensures { result ≡ keyword_at_2 word.now }
+{
+    match word {
+        "drain" => Some(Keyword::DrainAndResume),
+        _ => keyword_of(word),
     }
 }
 
@@ -88,6 +100,7 @@ pub(crate) fn command(
             .and_then(|word| sender(layout, word))
             .map(Command::Stop),
         Keyword::Drain => one_word(words).and_then(limit).map(Command::Drain),
+        Keyword::DrainAndResume => one_word(words).and_then(limit).map(Command::DrainAndResume),
         Keyword::Check => one_word(words)
             .and_then(|word| item(layout, word))
             .map(Command::Check),

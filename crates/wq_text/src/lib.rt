@@ -1,5 +1,5 @@
 //! Texts of scripts and of schedules: from the bytes of a text to its commands or its steps, or to its first faulty line
-//! with the first fault on it.
+//! with the first fault on it. Each language has two versions; the first line of a text says which it is in.
 #![tactic(auto)]
 
 mod arguments;
@@ -26,5 +26,5 @@ pub use schedule_text::parse_steps;
 pub use script::Script;
 pub use script_text::parse;
 pub use text::layout_at_end;
-pub use turn::{cause_of, number_of_queue, other_words, seat_and_number, without_last};
+pub use turn::{number_of_queue, other_words, seat_and_number, why_of, without_last};
 pub use word::reads_decimals;

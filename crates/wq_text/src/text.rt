@@ -6,6 +6,7 @@ ghost use Rattle.wq_text.specs.Header.{layout_at};
 ghost use Rattle.wq_text.specs.Line.{line_gives};
 ghost use Rattle.wq_text.specs.Text.{Spells, IsRefusal, end_fault};
 ghost use Rattle.wq_text.specs.Sound.{KeepsSound, AreSound};
+ghost use Rattle.wq_text.specs.Version.{begins_with_line};
 ghost use Rattle.wq_text.specs.Word.{parts};
 
 use crate::fault::{Kind, LineError, ParseError, ScriptError};
@@ -37,6 +38,16 @@ fn cut_line(text: &[u8]) -> Option<(&[u8], &[u8])>
     match line_end(text) {
         None => None,
         Some(end) => Some((&text[..end], &text[end + 1..])),
+    }
+}
+
+// Whether a text begins with the first line of this language.
+pub(crate) fn is_of<L: Language>(text: &[u8]) -> bool
+    ensures { result ≡ begins_with_line L.grammar.version text.now }
+{
+    match cut_line(text) {
+        Some((line, _)) => L::is_version(line),
+        None => L::is_version(text),
     }
 }
 

@@ -3,7 +3,7 @@ ghost use Rattle.std.specs.Prelude.{◌≡◌, ◌<◌, map, MatchOption, IfOk, 
 ghost use Rattle.wq_words.specs.Numbers.{number_count};
 ghost use Rattle.wq_text.specs.Fault.{LineGives, of_none};
 ghost use Rattle.wq_text.specs.Word.{other_words};
-ghost use Rattle.wq_text.specs.Turn.{after_b, number_of_queue, link_of, owners_action, senders_action, cause_at, action_at, seat_alone, seat_and_number, number_and_link, without_last, turn_gives};
+ghost use Rattle.wq_text.specs.Turn.{after_b, number_of_queue, link_of, owners_action, senders_action, cause_at, why_at, owners_action_2, senders_action_2, action_at, action_at_2, seat_alone, seat_and_number, number_and_link, without_last, turn_gives};
 ghost use Rattle.wq_text.specs.Turns.{PlacedIn};
 ghost use Rattle.wq_text.specs.Arguments.{no_word};
 
@@ -23,6 +23,8 @@ pub(crate) enum Action {
     Check,
     Take,
     Close,
+    Drain,
+    Resume,
     Walk,
     Begin,
     End,
@@ -69,9 +71,21 @@ fn owners_action(word: &str) -> Option<Action>
     }
 }
 
-/// The cause of giving back that a word names.
+// The same in version 2.
+#[tactic(auto, unfolding(crate::specs::Turn::owners_action_2))]
+fn owners_action_2(word: &str) -> Option<Action>
+    ensures { result ≡ owners_action_2 word.now }
+{
+    match word {
+        "drain" => Some(Action::Drain),
+        "resume" => Some(Action::Resume),
+        _ => owners_action(word),
+    }
+}
+
+// The cause of giving back that a word names.
 #[tactic(auto, unfolding(crate::specs::Turn::cause_at))]
-pub fn cause_of(word: &str) -> Option<Why>
+fn cause_of(word: &str) -> Option<Why>
     ensures { result ≡ cause_at word.now }
 {
     match word {
@@ -79,6 +93,17 @@ pub fn cause_of(word: &str) -> Option<Why>
         "contended" => Some(Why::Contended),
         "cancelled" => Some(Why::Cancelled),
         _ => None,
+    }
+}
+
+/// The cause of giving back that a word names in a language that knows drains.
+#[tactic(auto, unfolding(crate::specs::Turn::why_at))]
+pub fn why_of(word: &str) -> Option<Why>
+    ensures { result ≡ why_at word.now }
+{
+    match word {
+        "draining" => Some(Why::Draining),
+        _ => cause_of(word),
     }
 }
 
@@ -94,6 +119,17 @@ fn senders_action(word: &str, last: &str) -> Option<Action>
         "back" => Some(Action::Back(cause_of(last)?)),
         "check" => Some(Action::Check),
         _ => None,
+    }
+}
+
+// The same in version 2.
+#[tactic(auto, unfolding(crate::specs::Turn::senders_action_2))]
+fn senders_action_2(word: &str, last: &str) -> Option<Action>
+    ensures { result ≡ senders_action_2 word.now last.now }
+{
+    match word {
+        "back" => Some(Action::Back(why_of(last)?)),
+        _ => senders_action(word, last),
     }
 }
 
@@ -183,6 +219,8 @@ pub(crate) fn turn(
         )),
         Action::Take => owners_turn(Step::Take, words),
         Action::Close => owners_turn(Step::Close, words),
+        Action::Drain => owners_turn(Step::Drain, words),
+        Action::Resume => owners_turn(Step::Resume, words),
         Action::Walk => owners_turn(Step::Walk, words),
         Action::Begin => owners_turn(Step::Begin, words),
         Action::End => owners_turn(Step::End, words),
@@ -215,6 +253,20 @@ pub(crate) fn action_of(first: &str, others: &[&str]) -> Option<Action>
         owners_action(others[0])
     } else {
         senders_action(others[0], others[others.len() - 1])
+    }
+}
+
+// The same in version 2.
+pub(crate) fn action_of_2(first: &str, others: &[&str]) -> Option<Action>
+    ensures { result ≡ action_at_2 first.now (map (λ w. w.now) others.now) }
+{
+    if others.is_empty() {
+        return None;
+    }
+    if first == "o" {
+        owners_action_2(others[0])
+    } else {
+        senders_action_2(others[0], others[others.len() - 1])
     }
 }
 

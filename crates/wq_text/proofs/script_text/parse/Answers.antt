@@ -1,9 +1,9 @@
-use Rattle.wq_text.specs.Keyword.{script_line}
+use Rattle.wq_text.specs.Keyword.{script_lines}
 use Rattle.wq_text.proofs.Outcomes.{one_outcome}
 use Rattle.wq_text.proofs.script_text.parse.Goals as goal
 
 pub returns-in_err-layout-clause-exact : goal.returns-in_err-layout-clause-exact
-returns-in_err-layout-clause-exact c = one_outcome script_line c.args.text.now
+returns-in_err-layout-clause-exact c = one_outcome (script_lines c.args.text.now) c.args.text.now
 
 pub returns-clause-exact : goal.returns-clause-exact
-returns-clause-exact c = one_outcome script_line c.args.text.now
+returns-clause-exact c = one_outcome (script_lines c.args.text.now) c.args.text.now
