@@ -1,5 +1,6 @@
 pub mod Common
 pub mod Executions
+pub mod Drains
 pub mod Answers
 pub mod Armings
 pub mod Sizes

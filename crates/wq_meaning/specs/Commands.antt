@@ -1,14 +1,14 @@
 -- What the commands of a script mean: one case a command.
-use Rattle.std.specs.Prelude.{ℕ, ◌+◌, ◌-◌, List, [], ◌∷◌, ◌++◌, length, Option, Some, None, replicate, slice_set, nat_lt, if◌then◌else◌, codes}
+use Rattle.std.specs.Prelude.{ℕ, ◌+◌, List, [], ◌∷◌, ◌++◌, length, Option, Some, None, replicate, slice_set, nat_lt, if◌then◌else◌, codes}
 use Rattle.arrayvec.specs.ArrayVec.{ArrayVec}
 use Rattle.wq_words.specs.declared.layout.Layout.{Layout}
 use Rattle.wq_words.specs.declared.event.Event.{Event}
 use Rattle.wq_words.specs.Numbers.{barrier_number, stop_number}
-use Rattle.wq_words.specs.History.{accepted, ended, pending, closed}
+use Rattle.wq_words.specs.History.{pending, closed}
 use Rattle.wq_text.specs.declared.command.Command.{Command}
 use Rattle.wq_text.specs.declared.command.Command.TheVariants as command
 use Rattle.wq_meaning.specs.Queueing.{queue_events, queue_answer, close_events, close_answer}
-use Rattle.wq_meaning.specs.Execution.{no_follow, after_executions, ends_at, ended_since}
+use Rattle.wq_meaning.specs.Execution.{no_follow, after_executions, ends_at, left_in, begin_drain, end_drain, ended_since}
 use Rattle.wq_words.specs.DelayTable.{DelayTable, on_table, table_without}
 use Rattle.wq_meaning.specs.Arming.{arm_events, arm_table, arm_answer, cancel_events, modify_events, modify_table, modify_answer}
 use Rattle.wq_meaning.specs.Arming.{posted_items, advance_events, advance_table}
@@ -36,6 +36,10 @@ delayer layout = layout.senders + 1
 abbrev pub after_row : Layout → ScriptState → ℕ → Option ℕ → List Event
 after_row layout s limit last = after_executions (worker layout) s.follows (ends_at last) limit s.history
 
+-- the history after a drain of at most so many executions, which ends where nothing is left
+abbrev pub after_drain : Layout → ScriptState → ℕ → List Event
+after_drain layout s limit = end_drain (after_row layout (record s { history = begin_drain s.history }) limit None)
+
 -- the state after a command
 abbrev pub state_after : Layout → ScriptState → Command → ScriptState
 state_after layout s (command.Queue sender item) = record s { history = s.history ++ queue_events sender item s.history }
@@ -47,6 +51,7 @@ state_after layout s (command.Flush sender barrier) = record s { history = s.his
 state_after layout s (command.Done sender barrier) = s
 state_after layout s (command.Stop sender) = record s { history = s.history ++ queue_events sender (stop_number layout) s.history }
 state_after layout s (command.Drain limit) = if closed s.history then record s { history = after_row layout s limit None } else s
+state_after layout s (command.DrainAndResume limit) = record s { history = after_drain layout s limit }
 state_after layout s (command.Check item) = s
 state_after layout s (command.Arm item delay) = record s {
   history = s.history ++ arm_events (delayer layout) item delay s.history s.table;
@@ -65,9 +70,9 @@ state_after layout s (command.Advance tick) = if nat_lt tick s.table.tick then s
   table = advance_table tick s.history s.table;
 }
 
--- what is accepted and not ended
-abbrev pub left_in : List Event → ℕ
-left_in h = length (accepted h) - length (ended h)
+-- what a drain executed, and what it left
+abbrev pub drain_lines : Layout → ScriptState → ScriptState → List ℕ
+drain_lines layout s t = row_text layout (codes "ran") (ended_since s.history t.history) ++ line (left_text (left_in t.history))
 
 -- the lines of a command, of the state s before it and the state t after it
 abbrev pub lines : Layout → ScriptState → ScriptState → Command → List ℕ
@@ -80,8 +85,8 @@ lines layout s t (command.Flush sender barrier) = line (answer_text (queue_answe
 lines layout s t (command.Done sender barrier) = line (if pending t.history (barrier_number layout barrier) then codes "false" else codes "true")
 lines layout s t (command.Stop sender) = line (answer_text (queue_answer (stop_number layout) s.history))
 lines layout s t (command.Drain limit) =
-    if closed s.history then row_text layout (codes "ran") (ended_since s.history t.history) ++ line (left_text (left_in t.history))
-    else line (codes "not closed")
+    if closed s.history then drain_lines layout s t else line (codes "not closed")
+lines layout s t (command.DrainAndResume limit) = drain_lines layout s t
 lines layout s t (command.Check item) = line (if pending t.history item then codes "pending" else codes "idle")
 lines layout s t (command.Arm item delay) = line (armed_text (arm_answer item delay s.history s.table))
 lines layout s t (command.Cancel item) = line (if on_table item s.table.entries then codes "cancelled" else codes "not on table")

@@ -1,11 +1,11 @@
 -- Executions, each taken whole: the history after it, from the history before it.
-use Rattle.std.specs.Prelude.{ℕ, zero, suc, Bool, false, not, ◌&&◌, ◌==◌, List, [], ◌∷◌, ◌++◌, length, drop, fold, Option, Some, None, slice_index_or, nat_le}
+use Rattle.std.specs.Prelude.{ℕ, zero, suc, ◌-◌, Bool, false, not, ◌&&◌, ◌==◌, List, [], ◌∷◌, ◌++◌, length, drop, fold, Option, Some, None, slice_index_or, nat_le}
 use Rattle.std.specs.Prelude.{if◌then◌else◌}
 use Rattle.arrayvec.specs.ArrayVec.{ArrayVec}
 use Rattle.wq_words.specs.declared.event.Event.{Event}
-use Rattle.wq_words.specs.declared.event.Event.TheVariants.{Take, Begin, End}
-use Rattle.wq_words.specs.History.{begun, ended, next, shut, taken}
-use Rattle.wq_meaning.specs.Queueing.{queue_events, chain_events}
+use Rattle.wq_words.specs.declared.event.Event.TheVariants.{Take, Drain, Resume, Begin, End}
+use Rattle.wq_words.specs.History.{accepted, begun, ended, next, shut, taken}
+use Rattle.wq_meaning.specs.Queueing.{draining, queue_events, chain_events}
 
 -- what each item's function answers: the items to be queued next. No other number's function answers any
 abbrev pub no_follow : ArrayVec ℕ
@@ -47,6 +47,17 @@ after_executions worker follows ends (suc n) h = go_on (after_executions worker 
 abbrev pub ends_at : Option ℕ → ℕ → Bool
 ends_at None k = false
 ends_at (Some last) k = k == last
+
+-- what is accepted and not ended
+abbrev pub left_in : List Event → ℕ
+left_in h = length (accepted h) - length (ended h)
+
+-- a drain begins where the queue is open, and ends where the queue drains and nothing is left
+abbrev pub begin_drain : List Event → List Event
+begin_drain h = if shut h then h else h ++ Drain ∷ []
+
+abbrev pub end_drain : List Event → List Event
+end_drain h = if draining h && (left_in h == 0) then h ++ Resume ∷ [] else h
 
 -- what has ended in g since h
 abbrev pub ended_since : List Event → List Event → List ℕ
