@@ -13,7 +13,7 @@ use Rattle.wq_check.specs.declared.mark.Mark.{Mark}
 use Rattle.wq_check.specs.declared.mark.Mark.TheVariants.{Queue, Start, End}
 use Rattle.wq_check.specs.Trace.{queued, started, returned, MayShow, number_of, IsLegalTrace, next_start}
 use Rattle.wq_check.specs.TraceChecked.{SeenState, seen_state, LooksAfter}
-use Rattle.wq_check.proofs.Times.{times, times-append, times-cons}
+use Rattle.wq_words.proofs.Times.{times, times-append, times-cons}
 use Rattle.wq_check.proofs.Following.{alike}
 use Rattle.wq_check.proofs.Looking.{lengths, next_is}
 

@@ -1,4 +1,3 @@
-pub mod Times
 pub mod Waits
 pub mod Lists
 pub mod Standing

@@ -20,7 +20,7 @@ use Rattle.wq_check.specs.declared.cause.Cause.{Cause}
 use Rattle.wq_check.specs.declared.cause.Cause.TheVariants as cause
 use Rattle.wq_check.specs.MarkCauses.{HasMarkCause}
 use Rattle.wq_check.specs.TraceChecked.{SeenState, LooksAfter}
-use Rattle.wq_check.proofs.Times.{Contains_from_times, none_from_times, times, times-cons}
+use Rattle.wq_words.proofs.Times.{Contains_from_times, none_from_times, times, times-cons}
 use Rattle.wq_check.proofs.Waits.{few_unbegun}
 use Rattle.wq_check.proofs.Lists.{first_left, drop_some}
 use Rattle.wq_check.proofs.Shown.{trace_history}

@@ -23,7 +23,7 @@ use Rattle.wq_check.specs.declared.mark.Mark.TheVariants.{Queue, Start, End}
 use Rattle.wq_check.specs.Trace.{queued, started, returned, unseen, MayShow, number_of, IsLegalTrace, surely_unbegun}
 use Rattle.wq_check.specs.Shows.{Shows, nothing, hides, queues, begins, starts, ends, ShowsLegalHistory}
 use Rattle.wq_check.proofs.Waits.{waits_bit}
-use Rattle.wq_check.proofs.Times.{times_from_none, times, times-cons}
+use Rattle.wq_words.proofs.Times.{times_from_none, times, times-cons}
 
 -- the history shows the trace, and at most one execution has begun whose start was not seen
 pub record Tells (layout : Layout) (t : List Mark) (h : List Event) : Type 0 where

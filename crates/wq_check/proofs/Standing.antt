@@ -26,7 +26,7 @@ use Rattle.wq_check.specs.declared.cause.Cause.TheVariants as cause
 use Rattle.wq_check.specs.Left.{left, unbegun}
 use Rattle.wq_check.specs.Causes.{HasCause}
 use Rattle.wq_check.proofs.Waits.{waits_bit}
-use Rattle.wq_check.proofs.Times.{times, times-cons, times_from_Contains, Contains_from_times}
+use Rattle.wq_words.proofs.Times.{times, times-cons, times_from_Contains, Contains_from_times}
 use Rattle.wq_check.proofs.Lists.{first_left, drop_some}
 
 abbrev pub place_at : QueueState → ℕ → Place

@@ -21,7 +21,7 @@ use Rattle.wq_check.specs.declared.mark.Mark.{Mark}
 use Rattle.wq_check.specs.declared.mark.Mark.TheVariants.{Queue, Start, End}
 use Rattle.wq_check.specs.Trace.{queued_by, started_by, returned_by, queued, started, returned, unseen, MayShow, FollowsRules, surely_unbegun}
 use Rattle.wq_check.specs.Shows.{Shows, nothing, hides, queues, begins, starts, ends, ShowsLegalHistory}
-use Rattle.wq_check.proofs.Times.{none_from_times, times, times-append}
+use Rattle.wq_words.proofs.Times.{none_from_times, times, times-append}
 use Rattle.wq_check.proofs.Waits.{waits_bit}
 use Rattle.wq_check.proofs.Shown.{nil_end, one_of, zero_or}
 

@@ -1,25 +1,9 @@
 -- The two chains and the batch, a step at a time.
-use Rattle.wq_core.proofs.Common.{◌≡◌, ◌≢◌, ℕ, ◌+◌, ◌<◌, ◌==◌, Bool, true, false, cond, List, [], ◌∷◌, ◌++◌, length, get_or, set, Option, Some, None}
-use Rattle.wq_core.proofs.Common.{slice_get, refl, sym, ap, ◌∙◌, arith, append_assoc, count_by, reverse, append-nil, get_or-set_other, sum_by-append}
-use Rattle.wq_core.proofs.Common.{sum_by-cons, eqb-false, eqb-true, eq-eqb, reverse_onto, reverse_aux, head_word, slice_get_last, link_place, number_at}
+use Rattle.wq_core.proofs.Common.{◌≡◌, ◌≢◌, ℕ, ◌+◌, ◌<◌, ◌==◌, Bool, true, false, List, [], ◌∷◌, ◌++◌, length, get_or, set, Option, Some, None}
+use Rattle.wq_core.proofs.Common.{slice_get, refl, sym, ap, ◌∙◌, arith, append_assoc, reverse, append-nil, get_or-set_other}
+use Rattle.wq_core.proofs.Common.{eqb-false, eqb-true, reverse_onto, reverse_aux, head_word, slice_get_last, link_place, number_at}
 use Rattle.wq_core.proofs.Common.{word_at, head_of_list, IsChain, AreChained}
-
--- how often k stands in a list
-abbrev pub times : ℕ → List ℕ → ℕ
-times k ks = count_by (λ j. j == k) ks
-
-pub times-cons : (k j : ℕ) (ks : List ℕ) → times k (j ∷ ks) ≡ cond (j == k) 1 0 + times k ks
-times-cons k j ks = sum_by-cons (λ i. cond (i == k) 1 0) j ks
-
-pub times-append : (k : ℕ) (xs ys : List ℕ) → times k (xs ++ ys) ≡ times k xs + times k ys
-times-append k xs ys = sum_by-append (λ i. cond (i == k) 1 0) xs ys
-
-pub times-reverse_aux : (k : ℕ) (xs ys : List ℕ) → times k (reverse_aux xs ys) ≡ times k xs + times k ys
-times-reverse_aux k [] ys = omega arith
-times-reverse_aux k (x ∷ xs) ys = omega (arith, times-reverse_aux k xs (x ∷ ys), times-cons k x xs, times-cons k x ys)
-
-pub times-first : (k : ℕ) (ks : List ℕ) → times k (k ∷ ks) ≡ 1 + times k ks
-times-first k ks = times-cons k k ks ∙ ap (λ q. cond q 1 0 + times k ks) (eq-eqb k k refl)
+use Rattle.wq_words.proofs.Times.{times, times-cons, times-append, times-reverse_aux, times-first}
 
 -- the word that links to the number at a word is this word
 pub word_at-number_at : (w : ℕ) → word_at (number_at w) ≡ w

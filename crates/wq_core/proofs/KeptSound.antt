@@ -1,28 +1,12 @@
 -- The invariant, said by the keepers of the numbers, and an event that moves none of them.
-use Rattle.wq_core.proofs.Common.{◌≡◌, ◌≢◌, ℕ, ◌+◌, ◌%◌, ◌^◌, ◌<◌, true, false, if◌then◌else◌, nat_lt, List, [], ◌∷◌, ◌++◌, length, None, Some, slice_get, refl}
-use Rattle.wq_core.proofs.Common.{sym, ap, ◌∙◌, arith, inl, inr, eq-eqb, lt-ltb, le-ltb, Layout, Event, Push, Chain, number_count, wakes, accepted, begun}
+use Rattle.wq_core.proofs.Common.{◌≡◌, ◌≢◌, ℕ, ◌+◌, ◌%◌, ◌^◌, ◌<◌, true, false, if◌then◌else◌, nat_lt, List, [], length, None, refl}
+use Rattle.wq_core.proofs.Common.{sym, ap, ◌∙◌, arith, eq-eqb, lt-ltb, le-ltb, Layout, Event, number_count, wakes, accepted, begun}
 use Rattle.wq_core.proofs.Common.{ended, accepted_by, begun_by, ended_by, pending, Holds, IsPending, listed_after, listed, IsAllowed, IsLegal, Keeper, Home}
-use Rattle.wq_core.proofs.Common.{Sender, keeper_after, keeper, growing, slice_get_push, legal_push, legal_induction, pending_bit, kept, home_from_bit}
+use Rattle.wq_core.proofs.Common.{Sender, keeper_after, keeper, growing, legal_push, pending_bit, kept, home_from_bit}
 use Rattle.wq_core.proofs.Common.{sender_from_bit, item_place, word_count, Machine, head, item_word, done_word, happened, head_word_of, AreChained, IsSound}
-use Rattle.wq_core.proofs.Chains.{times}
+use Rattle.wq_words.proofs.Times.{times}
 use Rattle.wq_core.proofs.Privates.{FollowKeepers, follow_quiet, AreLinked, linked_quiet, AreSeen, seen_after}
 use Rattle.wq_core.proofs.Heads.{IsQuiet, head_word_quiet, rests_quiet, ended_quiet}
-
--- each accepted number is one of the queue's
-pub accepted_number : (layout : Layout) (h : List Event) → IsLegal layout h → (i k : ℕ) → slice_get (accepted h) i ≡ Some k → k < number_count layout
-accepted_number layout =
-    legal_induction layout (λ h. (i k : ℕ) → slice_get (accepted h) i ≡ Some k → k < number_count layout) (λ i k at. absurd cc)
-    (λ h e legal allowed before. more h e allowed before)
-  where
-    added : (xs : List ℕ) (j : ℕ) → j < number_count layout → ((i k : ℕ) → slice_get xs i ≡ Some k → k < number_count layout) → (i k : ℕ)
-        → slice_get (xs ++ j ∷ []) i ≡ Some k → k < number_count layout
-    added xs j lt old i k at = elim (slice_get_push xs j k i at) [ inl a ↦ old i k a | inr b ↦ rw (← b.1) lt ]
-
-    more : (h : List Event) (e : Event) → IsAllowed layout h e → ((i k : ℕ) → slice_get (accepted h) i ≡ Some k → k < number_count layout)
-        → (i k : ℕ) → slice_get (accepted (h ++ e ∷ [])) i ≡ Some k → k < number_count layout
-    more h (Push s j) allowed old = simp growing (added (accepted h) j allowed.1 old)
-    more h (Chain j) allowed old = simp growing (added (accepted h) j (omega (arith, allowed.1)) old)
-    more h _ allowed old = simp growing old
 
 -- the PENDING bit as a word, by the history and by the keeper
 bit_word : (sets clears : ℕ) (x : Keeper) → sets ≡ clears + pending_bit x → (if nat_lt clears sets then 1 else 0) ≡ pending_bit x

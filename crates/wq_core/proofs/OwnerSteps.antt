@@ -15,7 +15,8 @@ use Rattle.wq_core.proofs.Writes.{head_of-item, done_of-item, chains_of-item, li
 use Rattle.wq_core.proofs.Writes.{head_of-done, items_of-done, chains_of-done, linked_of-done}
 use Rattle.wq_core.proofs.Heads.{head_of_closed, head_of_draining, head_word_unshut, quiet, head_word_quiet, rests_quiet, ended_quiet, cursor_swapped}
 use Rattle.wq_core.proofs.Heads.{busy_list}
-use Rattle.wq_core.proofs.KeptSound.{accepted_number, by_keepers, from_keepers, home_from_clear, idle_from_home, pending_from_set, away_from_sender}
+use Rattle.wq_words.proofs.Accepted.{accepted_number}
+use Rattle.wq_core.proofs.KeptSound.{by_keepers, from_keepers, home_from_clear, idle_from_home, pending_from_set, away_from_sender}
 use Rattle.wq_core.proofs.KeptSound.{sound_quiet}
 
 module _ (m : Machine) (o : IsSound m) where

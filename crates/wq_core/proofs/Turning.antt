@@ -1,48 +1,17 @@
 -- A number that the owner walked or that waits in its batch: nobody else follows or writes its link.
-use Rattle.wq_core.proofs.Common.{TakesPushes, subst, ◌≡◌, ◌≢◌, ℕ, zero, suc, ◌+◌, ◌<◌, ◌≤◌, ◌==◌, Bool, true, false, cond, IsTrue, List, [], ◌∷◌, ◌++◌, get_or}
-use Rattle.wq_core.proofs.Common.{set, Option, Some, refl, sym, ap, ◌∙◌, arith, inl, inr, ⊎_elim, ◌↔◌, length-set, reverse, Contains, list_any}
-use Rattle.wq_core.proofs.Common.{get_or-set_other, slice_get-get_or, cases_eq, eq-eqb, ne_eqb, number_count, accepted, begun, listed, Keeper, Sender, Listed}
-use Rattle.wq_core.proofs.Common.{keeper, Event, queue_bit, kept, Private, link_place, Machine, with_link, StandsIn, AreChained, IsSound, reverse_aux}
-use Rattle.wq_core.proofs.Chains.{times, times-cons, times-append, times-reverse_aux, chain_set}
+use Rattle.wq_core.proofs.Common.{TakesPushes, subst, ◌≡◌, ◌≢◌, ℕ, ◌+◌, ◌<◌, ◌≤◌, List, [], ◌++◌, get_or}
+use Rattle.wq_core.proofs.Common.{set, Option, Some, sym, ap, ◌∙◌, arith, inl, inr, ⊎_elim, length-set, reverse}
+use Rattle.wq_core.proofs.Common.{get_or-set_other, slice_get-get_or, cases_eq, number_count, accepted, begun, listed, Sender}
+use Rattle.wq_core.proofs.Common.{keeper, Event, kept, Private, link_place, Machine, with_link, StandsIn, AreChained, IsSound, reverse_aux}
+use Rattle.wq_words.proofs.Times.{times, times-append, times-reverse_aux, times_from_Contains, Contains_from_times}
+use Rattle.wq_words.proofs.Accepted.{accepted_number, queue_once}
+use Rattle.wq_core.proofs.Chains.{chain_set}
 use Rattle.wq_core.proofs.Privates.{AreLinked}
 use Rattle.wq_core.proofs.Writes.{head_of-link, done_of-link, items_of-link}
-use Rattle.wq_core.proofs.KeptSound.{accepted_number, away_from_sender, by_keepers, from_keepers}
-
--- a number stands in a list where it stands there some times
-pub times_contains : (k : ℕ) (xs : List ℕ) → Contains xs k → 0 < times k xs
-times_contains k [] there = let lt = there.1 in absurd (omega arith)
-times_contains k (x ∷ xs) (zero, lt, is) = omega (arith, times-cons k x xs, ap {B = ℕ} (λ (b : Bool). cond b 1 0) (eq-eqb x k is))
-times_contains k (x ∷ xs) (suc i, lt, is) = omega (arith, times-cons k x xs, times_contains k xs (i, omega arith, is))
-
-pub contains_times : (k : ℕ) (xs : List ℕ) → 0 < times k xs → Contains xs k
-contains_times k [] some = absurd (omega arith)
-contains_times k (x ∷ xs) some = elim (cases_eq x k) [
-  | inl same ↦ (0, omega arith, same)
-  | inr ne ↦
-      let more = contains_times k xs (omega (arith, some, times-cons k x xs, ap {B = ℕ} (λ (b : Bool). cond b 1 0) (ne_eqb x k ne))) in
-      let lt = more.1 in (suc more.0, omega arith, more.2)
-]
-
-any_times : (k : ℕ) (xs : List ℕ) → IsTrue (list_any (λ y. y == k) xs) ↔ (0 < times k xs)
-any_times k [] = (λ e. absurd (cc e), λ some. absurd (omega arith))
-any_times k (x ∷ xs) = go (x == k) refl (any_times k xs)
-  where
-    go : (b : Bool) → (x == k) ≡ b → (IsTrue (list_any (λ y. y == k) xs) ↔ (0 < times k xs)) → IsTrue (list_any (λ y. y == k) (x ∷ xs)) ↔ (0 < times k (x ∷ xs))
-    go true e rest = (λ _. omega (arith, times-cons k x xs, ap {B = ℕ} (λ (b : Bool). cond b 1 0) e), λ _. rw e refl)
-    go false e rest = rw e rest
-
--- whether it stands in a list that is stored the other way round
-pub any_stored : (k : ℕ) (xs : List ℕ) → IsTrue (list_any (λ y. y == k) xs) ↔ Contains (reverse xs) k
-any_stored k xs = let any = any_times k xs in let same : times k (reverse xs) ≡ times k xs = omega (arith, times-reverse_aux k xs []) in
-    (λ e. contains_times k (reverse xs) (omega (arith, same, any.0 e)), λ there. any.1 (omega (arith, same, times_contains k (reverse xs) there)))
-
--- in the queue a number stands at most once
-pub queue_once : (x : Keeper) → queue_bit x ≤ 1
-queue_once Listed = omega arith
-queue_once _ = omega arith
+use Rattle.wq_core.proofs.KeptSound.{away_from_sender, by_keepers, from_keepers}
 
 pub times_stands : (walked batch : List ℕ) (k : ℕ) → StandsIn walked batch k → 0 < times k walked + times k batch
-times_stands walked batch k = ⊎_elim (λ there. omega (arith, times_contains k walked there)) (λ there. omega (arith, times_contains k batch there))
+times_stands walked batch k = ⊎_elim (λ there. omega (arith, times_from_Contains k walked there)) (λ there. omega (arith, times_from_Contains k batch there))
 
 -- its link is that of no number of the two chains
 pub chained_turn : (n : ℕ) (ws : List ℕ) (cursor : Option ℕ) (walked batch acc beg lst : List ℕ) (k v : ℕ) → 0 < times k walked + times k batch
@@ -109,7 +78,7 @@ module _ (m : Machine) (o : IsSound m) (k : ℕ) (stands : StandsIn m.walked m.b
 
   pub stands_number : k < number_count m.layout
   stands_number =
-      let there = contains_times k (accepted m.history) (omega (arith, stands_waits)) in
+      let there = Contains_from_times k (accepted m.history) (omega (arith, stands_waits)) in
       accepted_number m.layout m.history o.legal there.0 k (slice_get-get_or (accepted m.history) there.0 k there.1 ∙ ap Some there.2)
 
   pub no_senders : (s : ℕ) → keeper m.history k ≡ Sender s → ⊥
@@ -136,6 +105,6 @@ module _ (m : Machine) (o : IsSound m) (k : ℕ) (stands : StandsIn m.walked m.b
 -- a number stands there where it is counted there
 pub stands_times : (walked batch : List ℕ) (k : ℕ) → 0 < times k walked + times k batch → StandsIn walked batch k
 stands_times walked batch k some = elim (cases_eq (times k walked) 0) [
-  | inl none ↦ inr (contains_times k batch (omega (arith, some, none)))
-  | inr more ↦ inl (contains_times k walked (omega (arith, more)))
+  | inl none ↦ inr (Contains_from_times k batch (omega (arith, some, none)))
+  | inr more ↦ inl (Contains_from_times k walked (omega (arith, more)))
 ]

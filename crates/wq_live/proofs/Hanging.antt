@@ -4,7 +4,7 @@ use Rattle.std.proofs.lemmas.List.{append-nil}
 use Rattle.wq_words.specs.Numbers.{number_count}
 use Rattle.wq_core.specs.Words.{number_at}
 use Rattle.wq_core.specs.declared.step.Step.TheVariants.{Walk, Begin, Chain, Turn}
-use Rattle.wq_core.proofs.Chains.{times, times-cons, times-first, times-append}
+use Rattle.wq_words.proofs.Times.{times, times-cons, times-first, times-append}
 use Rattle.wq_table.specs.declared.table.Part.{Part}
 use Rattle.wq_table.specs.declared.table.Stage.TheVariants.{Owns}
 use Rattle.wq_table.specs.Plays.{Makes}

@@ -7,7 +7,7 @@ use Rattle.wq_core.specs.declared.step.Step.TheVariants.{Walk, Turn}
 use Rattle.wq_core.specs.declared.step.Seat.TheVariants.{Owner}
 use Rattle.wq_core.specs.Words.{number_at}
 use Rattle.wq_core.specs.Machine.{Machine, link, walk_number, with_link, first_of, after_walk, after, StandsIn}
-use Rattle.wq_core.proofs.Chains.{times, times-cons, times-first, times-append}
+use Rattle.wq_words.proofs.Times.{times, times-cons, times-first, times-append}
 use Rattle.wq_core.proofs.Turning.{stands_times, stands_once, stands_number}
 use Rattle.wq_core.proofs.Taken.{link_after, owner_links}
 use Rattle.wq_table.specs.declared.table.Part.{Part}

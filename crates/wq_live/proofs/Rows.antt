@@ -1,6 +1,6 @@
 -- Rows that the links spell.
 use Rattle.std.proofs.Common.{◌≡◌, ◌≢◌, ℕ, ◌+◌, ◌<◌, ◌≤◌, Bool, cond, List, [], ◌∷◌, ◌++◌, length, sym, refl, ap, ◌∙◌, subst, arith, eqb, eq-eqb}
-use Rattle.wq_core.proofs.Chains.{times, times-cons, times-first}
+use Rattle.wq_words.proofs.Times.{times, times-cons, times-first}
 use Rattle.wq_live.specs.declared.row.Row.{Row}
 use Rattle.wq_live.specs.Row.{link_in, LinksOn, IsRowOf}
 

@@ -9,6 +9,8 @@ pub mod Drains
 pub mod Legal
 pub mod Order
 pub mod Keepers
+pub mod Times
+pub mod Accepted
 pub mod Listed
 pub mod Places
 pub mod Ranks

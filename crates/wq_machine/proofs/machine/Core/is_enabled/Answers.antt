@@ -1,5 +1,5 @@
 use Rattle.wq_machine.proofs.Common.{inl, inr, ⊎_elim, sym, ◌∙◌, false≢true}
-use Rattle.wq_core.proofs.Turning.{any_stored}
+use Rattle.wq_words.proofs.Times.{any_stored}
 use Rattle.wq_machine.proofs.machine.Core.is_enabled.Goals as goal
 
 pub returns-then-contains : goal.returns-then-contains
