@@ -1,7 +1,11 @@
 -- The output of a schedule, a turn further, and that it is one.
 use Rattle.wq_meaning.proofs.Common.{◌≡◌, inl, inr, ℕ, ◌+◌, ◌<◌, List, [], ◌∷◌, ◌++◌, length, drop, get_or, refl, sym, ap, ◌∙◌, subst, append_assoc}
 use Rattle.wq_meaning.proofs.Common.{drop-cons, add-one, append-nil, Layout, Turn, Gives, AllGive, GivesBehind, IsScheduleOutput, HasOneOutput, ending}
-use Rattle.wq_core.specs.Machine.{Machine, opening}
+use Rattle.std.specs.Prelude.{codes}
+use Rattle.wq_core.specs.Machine.{Machine, opening, reply_to}
+use Rattle.wq_meaning.specs.Replies.{made_text}
+use Rattle.wq_meaning.specs.Report.{line}
+use Rattle.wq_meaning.specs.ScheduleHistory.{Passes}
 
 -- whatever the turns that are left give, all turns give it behind what was written
 abbrev pub Continues : Layout → List Turn → Machine → List Turn → List ℕ → Type 0
@@ -17,12 +21,21 @@ continues_behind layout turns i d m next out new lt gives so_far n rest given =
     subst Q (sym (append_assoc out gives.0 rest) ∙ ap (λ x. x ++ rest) (sym gives.2))
     (so_far n (gives.0 ++ rest) (subst P (sym left) (next, gives.0, rest, gives.1, given, refl)))
 
+pub given_whole : (layout : Layout) (turns left : List Turn) (m : Machine) (out : List ℕ) → left ≡ []
+    → Continues layout turns m left out → AllGive (opening layout) turns m out
+given_whole layout turns left m out none so_far =
+    let P : List Turn → Type 0 = λ ts. AllGive m ts m [] in
+    subst (λ (xs : List ℕ). AllGive (opening layout) turns m xs) (append-nil out) (so_far m [] (subst P (sym none) (refl, refl)))
+
 pub output_whole : (layout : Layout) (turns left : List Turn) (m : Machine) (out text : List ℕ) → left ≡ []
     → Continues layout turns m left out → text ≡ out ++ ending m → IsScheduleOutput layout turns text
 output_whole layout turns left m out text none so_far whole =
-    let P : List Turn → Type 0 = λ ts. AllGive m ts m [] in
-    let Q : List ℕ → Type 0 = λ xs. AllGive (opening layout) turns m xs in
-    record { machine = m; lines = out; given = subst Q (append-nil out) (so_far m [] (subst P (sym none) (refl, refl))); whole = whole }
+    record { machine = m; lines = out; given = given_whole layout turns left m out none so_far; whole = whole }
+
+-- of a turn something is written
+pub written : (m : Machine) (turn : Turn) (n : Machine) → Passes m turn n → (text : List ℕ) × Gives m turn n text
+written m turn n (inl made) = (line (made_text m.layout turn.1 (reply_to m turn.0 turn.1)), inl (made.0, made.1, refl))
+written m turn n (inr over) = (line (codes "not enabled"), inr (over.0, over.1, refl))
 
 one_gives : (m : Machine) (turn : Turn) (n p : Machine) (text other : List ℕ) → Gives m turn n text → Gives m turn p other → (n ≡ p) × (text ≡ other)
 one_gives m turn n p text other (inl made) (inl again) = (made.1 ∙ sym again.1, made.2 ∙ sym again.2)

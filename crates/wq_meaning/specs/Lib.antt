@@ -8,3 +8,4 @@ pub mod Commands
 pub mod Order
 pub mod Replies
 pub mod ScheduleOutput
+pub mod ScheduleHistory

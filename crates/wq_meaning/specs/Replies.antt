@@ -43,15 +43,15 @@ reply_text layout reply.Turned = codes "turned"
 reply_text layout reply.ChainBusy = codes "busy"
 reply_text layout reply.Rested = codes "rested"
 
-abbrev pub cause_text : Why → List ℕ
-cause_text why.Closed = codes " closed"
-cause_text why.Contended = codes " contended"
-cause_text why.Cancelled = codes " cancelled"
-cause_text why.Draining = codes " draining"
+abbrev pub why_text : Why → List ℕ
+why_text why.Closed = codes " closed"
+why_text why.Contended = codes " contended"
+why_text why.Cancelled = codes " cancelled"
+why_text why.Draining = codes " draining"
 
 -- what the line says again of the step: why a number went back, and which item was chained
 abbrev pub said_again : Layout → Step → Reply → List ℕ
-said_again layout (step.Back k cause) r = cause_text cause
+said_again layout (step.Back k cause) r = why_text cause
 said_again layout (step.Chain k) reply.Chained = named layout k
 said_again layout s r = []
 

@@ -1,7 +1,7 @@
 //! How the steps of a schedule read.
 ghost use Rattle.std.specs.Prelude.{◌≡◌, ◌++◌, OnOk, string_bytes};
 ghost use Rattle.wq_meaning.specs.Names.{named};
-ghost use Rattle.wq_meaning.specs.Replies.{head_text, reply_text, cause_text, said_again, made_text};
+ghost use Rattle.wq_meaning.specs.Replies.{head_text, reply_text, why_text, said_again, made_text};
 ghost use Rattle.wq_meaning.specs.Report.{line};
 
 use crate::lines::{either, write_name};
@@ -64,8 +64,9 @@ fn write_reply(layout: &Layout, reply: Reply, out: &mut String) -> Result<(), Al
     }
 }
 
-fn cause_text(cause: Why) -> &'static str
-    ensures { result.now ≡ cause_text cause }
+/// Why a number was given back, as a word behind a space.
+pub fn why_text(cause: Why) -> &'static str
+    ensures text { result.now ≡ why_text cause }
 {
     match cause {
         Why::Closed => " closed",
@@ -85,7 +86,7 @@ fn write_again(
     ensures { OnOk result (string_bytes out.new ≡ string_bytes out.old ++ said_again layout.now step reply) }
 {
     match (step, reply) {
-        (Step::Back(_, cause), _) => out.push_str(cause_text(cause)),
+        (Step::Back(_, cause), _) => out.push_str(why_text(cause)),
         (Step::Chain(number), Reply::Chained) => write_name(layout, number, out),
         _ => Ok(()),
     }

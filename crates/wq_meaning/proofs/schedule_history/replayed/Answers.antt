@@ -1,0 +1,31 @@
+use Rattle.wq_meaning.proofs.Common.{arith, refl, ◌∙◌, ap, ◌<◌, List, ◌++◌, length, get_or, subst, Turn}
+use Rattle.std.proofs.Math.ListN.{drop_of_length-le}
+use Rattle.wq_core.specs.declared.step.Seat.TheVariants.{Sender}
+use Rattle.wq_core.specs.declared.step.Step.TheVariants.{Hold}
+use Rattle.wq_meaning.specs.ScheduleHistory.{Passes}
+use Rattle.wq_meaning.proofs.ScheduleLines.{continues_behind, given_whole, written}
+use Rattle.wq_meaning.proofs.schedule_history.replayed.Goals as goal
+
+pub loop-seat-preserved : goal.loop-seat-preserved
+loop-seat-preserved c =
+    let turns : List Turn = c.args.schedule.now.turns.items in
+    let lt : c.loop-seat.seat-index < length turns = omega (arith, ap length c.turns-seat-items.ensures.value) in
+    let P : List Turn → Type 0 = λ ts. Passes c.loop-seat.core (get_or ts c.loop-seat.seat-index (Sender 0, Hold 0)) c.pass_turn.new.core in
+    let passes = written c.loop-seat.core (get_or turns c.loop-seat.seat-index (Sender 0, Hold 0)) c.pass_turn.new.core
+    (subst P c.turns-seat-items.ensures.value c.in_ok-pass_turn.ensures.passes) in
+    let before = c.loop-seat.invariant.told in
+    record {
+      same = c.in_ok-pass_turn.ensures.same ∙ c.loop-seat.invariant.same;
+      told = (
+        before.0 ++ passes.0,
+        continues_behind c.args.schedule.now.layout turns c.loop-seat.seat-index (Sender 0, Hold 0) c.loop-seat.core
+            c.pass_turn.new.core before.0 (before.0 ++ passes.0) lt (passes.0, passes.1, refl) before.1,
+      );
+    }
+
+pub returns-clause-passed : goal.returns-clause-passed
+returns-clause-passed c =
+    let turns : List Turn = c.args.schedule.now.turns.items in
+    let before = c.loop-seat.invariant.told in
+    (before.0, given_whole c.args.schedule.now.layout turns _ c.loop-seat.core before.0
+    (drop_of_length-le turns (omega (arith, ap length c.turns-seat-items.ensures.value))) before.1)
