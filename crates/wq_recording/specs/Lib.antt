@@ -9,3 +9,4 @@ pub mod Judging
 pub mod HistoryReport
 pub mod TraceReport
 pub mod Checking
+pub mod HistoryText
