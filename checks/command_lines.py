@@ -17,10 +17,12 @@ TRACE = b"trace 1\nitems 2\nqueue 0\n"
 INPUT = b"wq 1\nitems 4\nsenders 2\nclose\n"
 FILES = {"a.wq": SCRIPT, "a.steps": SCHEDULE, "a.json": PLAN, "steps": SCRIPT, "--help": SCHEDULE, "-": PLAN}
 FILES |= {"a.trace": TRACE, "bad.trace": TRACE + b"start 1\n"}
+FILES |= {"b.steps": SCHEDULE + b"0 hold 1\no take\no begin\n"}
 FILES |= {" a.wq": INPUT, "a.wq ": INPUT}
 
 QUEUED, CLOSED = b"true first\n", b"closed 0\n"
 EMPTY = b"empty\naccepted nothing\nbegun nothing\n"
+HELD = b"history 1\nitems 4\nsenders 2\nbarriers 1\n0 hold 1\no take\n"
 BALANCED = b"accepted 4 ran 4 balanced yes\n"
 COUNTS = b"marks 1\nqueued 1\nstarted 0\nended 0\nwaiting 1\nmost waiting 1\nleft 0\n"
 LEGAL, NOT_LEGAL = b"legal\n" + COUNTS, b"not legal\nline 4\nmark 2\ncause not waiting\n" + COUNTS
@@ -39,6 +41,11 @@ ROWS = [
     ("steps a.steps", 0, EMPTY, b""),
     ("live a.json", 0, BALANCED, b""),
     ("script /dev/stdin", 0, CLOSED, b""),
+    # the history of a schedule in place of its replies
+    ("steps --history b.steps", 0, HELD, b""),
+    ("steps b.steps --history", 0, HELD, b""),
+    ("steps --history a.wq", 1, b"", b"line 1: Version\n"),
+    ("steps --history none", 1, b"", b"file: Unreadable\n"),
     # a recording, and its status 4
     ("check a.trace", 0, LEGAL, b""),
     ("check --drained a.trace", 4, LEGAL, b""),
@@ -70,7 +77,7 @@ ROWS = [
     ("--help", 0, HELP, b""),
     ("help", 0, HELP, b""),
     ("script --help", 0, Some([b"modify K D", b"Example:\n"]), b""),
-    ("steps --help", 0, Some([b"o turn K L", b"o rest", b"Example:\n"]), b""),
+    ("steps --help", 0, Some([b"o turn K L", b"o rest", b"--history", b"Example:\n"]), b""),
     ("help live", 0, Some([b"workers, 1 to 8", b"Example:\n"]), b""),
     ("help check", 0, Some([b"--drained", b"trace 1", b"Example:\n"]), b""),
     ("--version", 0, b"wqrun 0.1.0\n", b""),
@@ -80,6 +87,10 @@ ROWS = [
     ("race a", 2, b"", Some([b"error: unrecognized subcommand 'race'"])),
     ("script", 2, b"", Some([b"error: the following required arguments were not provided"])),
     ("check", 2, b"", Some([b"error: the following required arguments were not provided"])),
+    ("steps --history", 2, b"", Some([b"error: the following required arguments were not provided"])),
+    ("script --history a.wq", 2, b"", Some([b"error: unexpected argument '--history' found"])),
+    ("check --history a.trace", 2, b"", Some([b"error: unexpected argument '--history' found"])),
+    ("steps --drained a.steps", 2, b"", Some([b"error: unexpected argument '--drained' found"])),
     ("script --drained a.wq", 2, b"", Some([b"error: unexpected argument '--drained' found"])),
     ("check --drained --drained a.trace", 2, b"", Some([b"error: the argument '--drained' cannot be used multiple times"])),
     ("script a b", 2, b"", Some([b"error: unexpected argument 'b' found"])),
@@ -87,7 +98,7 @@ ROWS = [
 ]
 
 # on a device that takes nothing: standard output alone, and standard error too
-FULL_OUTPUT = [(words, 1, b"output: Unwritable\n") for words in ("--help", "--version", "script a.wq", "live a.json", "check bad.trace")]
+FULL_OUTPUT = [(words, 1, b"output: Unwritable\n") for words in ("--help", "--version", "script a.wq", "live a.json", "check bad.trace", "steps --history b.steps")]
 FULL = [("race", 2), ("script none", 1), ("script a.wq", 1)]
 
 

@@ -1,7 +1,8 @@
 #!/bin/bash
 # Runs each example with the program that is named, and compares what it writes, what it says of failures and its status with
 # what stands beside it: NAME.report, NAME.faults and NAME.status. Where one of them is missing, nothing and 0 are wanted. Each has
-# its line in examples/README.md. A kernel trace goes through the converter, which runs the `wqrun` that it finds in the PATH.
+# its line in examples/README.md. A kernel trace goes through the converter, which runs the `wqrun` that it finds in the PATH. The
+# history of each schedule, as `steps --history` writes it, is read and found legal.
 program=${1:?usage: checks/examples.sh PROGRAM}
 folder=$(dirname "$0")/../examples
 faults=$(mktemp)
@@ -36,6 +37,16 @@ for file in "$folder"/*.wq "$folder"/*.steps "$folder"/*.json "$folder"/recordin
         echo "$file: as stored, with status $status"
     else
         echo "$file: differs, with status $status"
+        failed=1
+    fi
+done
+# The history of each schedule is a legal recording.
+for file in "$folder"/*.steps; do
+    said=$("$program" steps --history "$file" | "$program" check /dev/stdin; echo "${PIPESTATUS[*]}")
+    if [ "${said%%$'\n'*}" = legal ] && [ "${said##*$'\n'}" = "0 0" ]; then
+        echo "$file: its history is legal"
+    else
+        echo "$file: its history is not legal: $said"
         failed=1
     fi
 done

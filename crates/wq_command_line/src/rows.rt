@@ -15,6 +15,9 @@ struct Row {
 // The name of the flag that asks whether all that was queued has ended.
 pub(crate) const DRAINED: &str = "drained";
 
+// The name of the flag that asks for the history of a schedule in place of its replies.
+pub(crate) const HISTORY: &str = "history";
+
 const ROWS: [Row; 4] = [
     Row {
         name: "script",
@@ -99,6 +102,16 @@ fn drained<'a>(alloc: Global) -> Arg<'a> {
         .help("Ends with status 4 where something that was queued has not ended, too")
 }
 
+// The flag of `steps`.
+fn history<'a>(alloc: Global) -> Arg<'a> {
+    Arg::new(alloc, HISTORY)
+        .long(HISTORY)
+        .action(ArgAction::SetTrue)
+        .help(
+            "Prints the history of the steps that were made, as a recording, in place of the answers",
+        )
+}
+
 // The command of a row.
 fn command_of<'a>(alloc: Global, row: &Row) -> Result<Command<'a>, AllocError> {
     let file = Arg::new(alloc, "FILE").required(true).help(row.file);
@@ -108,6 +121,7 @@ fn command_of<'a>(alloc: Global, row: &Row) -> Result<Command<'a>, AllocError> {
         .arg(file)?;
     match row.kind {
         Kind::Check => command.arg(drained(alloc)),
+        Kind::Steps => command.arg(history(alloc)),
         _ => Ok(command),
     }
 }

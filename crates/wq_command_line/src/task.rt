@@ -4,7 +4,7 @@ ghost use Rattle.wq_command_line.specs.declared.task.Kind.TheVariants.{Script};
 ghost use Rattle.wq_command_line.specs.declared.task.Source.TheVariants.{Input};
 
 use crate::answer::Answer;
-use crate::rows::{DRAINED, command_line, kind_of};
+use crate::rows::{DRAINED, HISTORY, command_line, kind_of};
 use clap::Error;
 use std::alloc::Global;
 
@@ -13,6 +13,8 @@ use std::alloc::Global;
 pub enum Kind {
     Script,
     Steps,
+    /// A schedule of which the history is wanted.
+    History,
     Live,
     Check,
 }
@@ -43,6 +45,9 @@ fn parse<'a>(alloc: Global, words: &'a [String]) -> Result<Task<'a>, Error> {
     let matches = command_line(alloc)?.try_get_matches_from(words)?;
     if let Some((name, matches)) = matches.subcommand() {
         task.kind = kind_of(name);
+        if matches.get_flag(HISTORY) {
+            task.kind = Kind::History;
+        }
         task.is_drained = matches.get_flag(DRAINED);
         if let Some(path) = matches.get_str("FILE") {
             task.source = Source::File(path);

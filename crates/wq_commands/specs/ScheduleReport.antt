@@ -5,6 +5,7 @@ use Rattle.wq_text.specs.Schedule.{schedule_layout, turns_of}
 use Rattle.wq_text.specs.Text.{Spells, IsRefusal}
 use Rattle.wq_text.specs.Turn.{schedule_line}
 use Rattle.wq_meaning.specs.ScheduleOutput.{IsScheduleOutput}
+use Rattle.wq_recording.specs.HistoryText.{IsRecordingOf}
 use Rattle.wq_commands.specs.declared.failure.Failure.{Failure}
 use Rattle.wq_commands.specs.declared.failure.Failure.TheVariants as failure
 
@@ -13,6 +14,12 @@ pub record Replays (text output : List ℕ) : Type 0 where
   pub schedule : Schedule
   pub spells : Spells schedule_line text (schedule_layout schedule) (turns_of schedule)
   pub output_is : IsScheduleOutput (schedule_layout schedule) (turns_of schedule) output
+
+-- the text spells a schedule, and these are the bytes of the history that its steps make
+pub record Records (text recording : List ℕ) : Type 0 where
+  pub schedule : Schedule
+  pub spells : Spells schedule_line text (schedule_layout schedule) (turns_of schedule)
+  pub recording_is : IsRecordingOf (schedule_layout schedule) (turns_of schedule) recording
 
 -- the text has no output: it is refused for this, or memory was wanting
 abbrev pub HasNoOutput : List ℕ → Failure → Type 0

@@ -5,6 +5,7 @@
 mod check;
 mod ending;
 mod failure;
+mod history;
 mod reading;
 mod script;
 mod steps;
@@ -12,6 +13,7 @@ mod steps;
 pub use check::check_main;
 pub use ending::end;
 pub use failure::Failure;
+pub use history::history_main;
 pub use reading::read_most;
 pub use script::script_main;
 pub use steps::steps_main;

@@ -7,7 +7,8 @@ ghost use Rattle.wq_text.specs.Schedule.{schedule_layout, turns_of};
 ghost use Rattle.wq_words.specs.Legal.{IsLegal};
 
 use std::alloc::{AllocError, Global};
-use wq_core::{Core, Seat, Step, StepError};
+use wq_core::{Seat, Step};
+use wq_machine::{Core, StepError};
 use wq_text::Schedule;
 use wq_words::Event;
 

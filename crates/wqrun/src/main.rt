@@ -11,7 +11,7 @@ use std::process::ExitCode;
 use std::sync::Wait;
 use std::thread::Threads;
 use wq_command_line::{Answer, Kind, Source, Task, task_of};
-use wq_commands::{Failure, check_main, end, script_main, steps_main};
+use wq_commands::{Failure, check_main, end, history_main, script_main, steps_main};
 use wq_live_command::live_main;
 
 // The words of the command line, the program's own name first.
@@ -32,6 +32,7 @@ fn run_text<T: Threads + Wait + Sync, R: Read + Drop, O: Write, E: Write>(
     match task.kind {
         Kind::Script => script_main(alloc, reader, output, faults),
         Kind::Steps => steps_main(alloc, reader, output, faults),
+        Kind::History => history_main(alloc, reader, output, faults),
         Kind::Live => live_main(threads, alloc, reader, output, faults),
         Kind::Check => match BufReader::new(alloc, reader) {
             Ok(reader) => check_main(alloc, reader, task.is_drained, output, faults),

@@ -1,0 +1,9 @@
+use Rattle.std.proofs.Common.{◌≡◌}
+use Rattle.wq_commands.specs.ScheduleReport.{Records, HasNoOutput}
+use Rattle.wq_commands.proofs.Endings.{of_read, fails_unread, fails_unmade, fails_made}
+use Rattle.wq_commands.proofs.history.read_recording.Goals as goal
+
+pub returns-clause-none : goal.returns-clause-none
+returns-clause-none g c =
+    fails_made Records HasNoOutput 1048577 c.recording_of.result (g.R.Read.remaining c.args.reader) c.in_ok-text.text.items c.deref.result.now
+    (λ t none. none) c.in_ok-text.ensures.text c.deref.ensures.value c.recording_of.ensures.none
