@@ -10,12 +10,8 @@ use Rattle.wq_words.specs.Seen.{seat_of, Grows}
 use Rattle.wq_words.proofs.Seen.{count_own}
 use Rattle.wq_live.specs.declared.counts.SenderCounts.{SenderCounts}
 use Rattle.wq_words.specs.Counting.{is_queued_by, is_pending_by, is_closed_by, is_draining_by, is_contended_by}
-use Rattle.wq_words.proofs.Counting.{queued_own, pending_own, closed_own, contended_own}
+use Rattle.wq_words.proofs.Counting.{queued_own, pending_own, closed_own, draining_own, contended_own}
 use Rattle.wq_live.specs.Counts.{capped, sender_counts}
-
-draining_own : (s : ℕ) (e : Event) → eqb (seat_of e) s ≡ false → is_draining_by s e ≡ false
-draining_own s (Back t k Draining) is = is
-draining_own s _ is = refl
 
 -- a count of own events goes on by the own events that came new
 pub count_on : (p : Event → Bool) (s : ℕ) → ((e : Event) → eqb (seat_of e) s ≡ false → p e ≡ false) → (xs : List Event) (n : ℕ) (v w : List Event)

@@ -4,18 +4,12 @@ use Rattle.wq_plan.proofs.Common.{inr, refl, sym, ap, ◌∙◌, subst, arith, e
 use Rattle.wq_plan.proofs.Common.{own-append, Known, is_queued_by, is_pending_by, is_closed_by, is_draining_by, is_contended_by, capped, sender_counts}
 use Rattle.wq_plan.proofs.Common.{owner_counts}
 use Rattle.wq_plan.proofs.Common.{Unbalanced, LedgerState, BookState, IsLedgerOf, largest, AreWhole, AreOwnerWhole, ledgers_of, HasOne, IsFault, IsUnbalanced}
-use Rattle.wq_plan.proofs.Common.{of_sender, of_worker, ledger_of, pending_own, closed_own, contended_own, count_by-le-length}
+use Rattle.wq_plan.proofs.Common.{of_sender, of_worker, ledger_of, pending_own, closed_own, draining_own, contended_own, count_by-le-length}
 use Rattle.wq_ledger.specs.declared.balance.Unbalanced.TheVariants.{Missing, Twice, Saturated}
-use Rattle.wq_words.specs.declared.event.Why.TheVariants.{Draining}
-use Rattle.wq_plan.proofs.Common.{Back, seat_of}
 use Rattle.wq_plan.proofs.Whole.{queued_own}
 
 whole_one : (n m : ℕ) → n ≤ m → m < 2 ^ 64 - 1 → capped n ≢ largest
 whole_one n m le few is = omega (arith, le, few, is)
-
-draining_own : (s : ℕ) (e : Event) → (seat_of e == s) ≡ false → is_draining_by s e ≡ false
-draining_own s (Back t k Draining) is = is
-draining_own s _ is = refl
 
 -- few events of a seat saturate no count
 pub whole_counts : (s : ℕ) (h : List Event) → length (own s h) < 2 ^ 64 - 1 → AreWhole (sender_counts s h)

@@ -22,7 +22,7 @@ pub use Rattle.wq_words.specs.declared.event.Event.TheVariants.{Back, Hold, Busy
 pub use Rattle.wq_words.specs.declared.event.Why.{Why}
 pub use Rattle.wq_words.specs.declared.layout.Layout.{Layout}
 pub use Rattle.wq_words.proofs.Appended.{count_by-append, accepted-count}
-pub use Rattle.wq_words.proofs.Counting.{pending_own, closed_own, contended_own, chain_own, chain_busy_own}
+pub use Rattle.wq_words.proofs.Counting.{pending_own, closed_own, draining_own, contended_own, chain_own, chain_busy_own}
 pub use Rattle.wq_words.proofs.Prefixes.{prefix_on, prefix_whole, prefix_self}
 pub use Rattle.wq_words.proofs.Seen.{count_own, own-append, grows_same, closed_count, ended_same, own_between, own_more, none_of, begun_same, count_same}
 pub use Rattle.wq_words.proofs.Seen.{own_none, running_same}

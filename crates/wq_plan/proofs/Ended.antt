@@ -8,6 +8,7 @@ use Rattle.wq_plan.proofs.Common.{Unbalanced, AreWhole, AreOwnerWhole, ledgers_o
 use Rattle.wq_plan.proofs.Common.{items_among, SendsAll, count_by-append, accepted-count, Idle, Plan, Team, items_at, IsOfStop, HasRaced, queueings, Tells}
 use Rattle.wq_plan.proofs.Common.{IsWhole, IsTold, HasMet, AllKnown, HasEnded, HasHeard, ledger_of, own_between, prefix_on, count_by-le-length, IsComplete}
 use Rattle.wq_words.specs.declared.event.Why.TheVariants as why
+use Rattle.wq_words.specs.Limits.{most_text_items}
 use Rattle.wq_words.proofs.Order.{in_order}
 use Rattle.wq_worker.proofs.Draining.{begun-complete}
 use Rattle.wq_worker.proofs.Phase.{drains_own}
@@ -120,10 +121,10 @@ module _ (plan : Plan) (team : Team) (w : WorkerState Idle) (senders : List Know
         unsent = none;
       }
 
-  few_items : plan.senders * plan.own ≤ 4096
+  few_items : plan.senders * plan.own ≤ most_text_items
   few_items = plan.in_limits.few_items
 
-  few_own : plan.own ≤ 4096
+  few_own : plan.own ≤ most_text_items
   few_own = omega (arith, few_items, own_room 0 plan.senders plan.own (omega (arith, plan.in_limits.some_sender)))
 
   pub counted : (s : ℕ) (d : Known) → s < plan.senders → (sender_counts (get_or senders s d).number (get_or senders s d).seen).queued ≡ plan.own

@@ -1,6 +1,7 @@
 -- How large a plan is.
 use Rattle.std.specs.Prelude.{◌≡◌, ℕ, ◌+◌, ◌*◌, ◌≤◌}
 use Rattle.wq_words.specs.declared.layout.Layout.{Layout}
+use Rattle.wq_words.specs.Limits.{most_text_items}
 
 -- so many queues and threads that serve them, and so many senders, with so many items of their own each
 pub record AreInPlanLimits (queues workers senders own : ℕ) : Type 0 where
@@ -11,7 +12,7 @@ pub record AreInPlanLimits (queues workers senders own : ℕ) : Type 0 where
   pub some_sender : 1 ≤ senders
   pub few_senders : senders ≤ 32
   pub some_item : 1 ≤ own
-  pub few_items : senders * own ≤ 4096
+  pub few_items : senders * own ≤ most_text_items
 
 -- The size of each of a plan's queues: the senders' own items, one barrier, and two senders more, the worker's and the program's.
 pub record IsLayoutOf (senders own : ℕ) (layout : Layout) : Type 0 where

@@ -8,6 +8,7 @@ use crate::plan::Plan;
 use serde_json::Value;
 use std::alloc::Global;
 use thiserror::Error;
+use wq_words::MOST_TEXT_ITEMS;
 
 /// The longest text of a plan, in bytes.
 const MOST_BYTES: usize = 65_536;
@@ -17,9 +18,6 @@ const MOST_QUEUES: u64 = 8;
 const MOST_WORKERS: u64 = 8;
 
 const MOST_SENDERS: u64 = 32;
-
-/// Over all senders.
-const MOST_ITEMS: u64 = 4_096;
 
 /// Why a text is no plan, in the order in which this is tested.
 #[derive(Clone, Copy, Debug, PartialEq, Eq, Error)]
@@ -87,13 +85,15 @@ fn plan_of(value: &Value) -> Option<Plan>
     let workers = whole_number(value, "workers")?;
     let senders = whole_number(value, "senders")?;
     let own = whole_number(value, "own")?;
+    // Over all senders.
+    let most_items = u64::from(MOST_TEXT_ITEMS);
     if queues < 1 || queues > MOST_QUEUES || workers < 1 || workers > MOST_WORKERS {
         return None;
     }
-    if senders < 1 || senders > MOST_SENDERS || own < 1 || own > MOST_ITEMS {
+    if senders < 1 || senders > MOST_SENDERS || own < 1 || own > most_items {
         return None;
     }
-    if senders * own > MOST_ITEMS {
+    if senders * own > most_items {
         return None;
     }
     Some(Plan {

@@ -8,6 +8,7 @@ use Rattle.wq_pool_plan.proofs.Common.{subst, arith, All, MatchBool, count_by, A
 use Rattle.wq_pool_plan.proofs.Common.{Event, is_queued_by, is_chain, IsLegal, IsComplete, own, own-append, own_between, capped, sender_counts, Known}
 use Rattle.wq_pool_plan.proofs.Common.{Unbalanced, BookState, IsLedgerOf, SendsAll, items_among, Idle, Outcome, Plan, HasHeard, AllKnown, IsTold, queued_sum}
 use Rattle.wq_pool_plan.proofs.Common.{items_at, IsOfStop, all_front, all_ended, WorkerId, IsFinished, IsSent, is_push, accepted, ended, count_by-le-length}
+use Rattle.wq_words.specs.Limits.{most_text_items}
 use Rattle.wq_live.proofs.Final.{final as stays_final}
 use Rattle.wq_ledger.specs.declared.book.Ledger.{Ledger}
 use Rattle.wq_ledger.specs.declared.totals.Totals.{Totals}
@@ -46,7 +47,7 @@ module _ (plan : Plan) (id : WorkerId) (work : Idle) (before book last : BookSta
   last_legal : IsLegal id.layout last.seen
   last_legal = subst (λ (l : Layout). IsLegal l last.seen) (o.heard.layout_is ∙ size) o.last_legal
 
-  few_items : plan.senders * plan.own ≤ 4096
+  few_items : plan.senders * plan.own ≤ most_text_items
   few_items = plan.in_limits.few_items
 
   count : length news ≡ plan.senders

@@ -4,16 +4,11 @@ use Rattle.wq_script.proofs.Common.{◌≡◌, ℕ, ◌+◌, ◌≤◌, ◌^◌,
 use Rattle.wq_script.proofs.Common.{owner_seat, is_queued_by, is_pending_by, is_closed_by, is_draining_by, is_chain, is_chain_busy, is_busy, is_refusal}
 use Rattle.wq_script.proofs.Common.{accepted-count, Engine}
 use Rattle.wq_script.proofs.Common.{Tally, HasStateWithin, ◌==◌, false, refl, Back, seat_of}
-use Rattle.wq_words.specs.declared.event.Why.TheVariants as why
 use Rattle.wq_words.proofs.Seen.{count_same, ended_same}
 use Rattle.wq_words.proofs.Order.{in_order}
 use Rattle.wq_ledger.specs.declared.totals.Totals.{Totals}
 use Rattle.wq_ledger.specs.Totals.{own_totals}
-use Rattle.wq_words.proofs.Counting.{queued_own, pending_own, closed_own, chain_own, chain_busy_own}
-
-draining_own : (s : ℕ) (e : Event) → (seat_of e == s) ≡ false → is_draining_by s e ≡ false
-draining_own s (Back t k why.Draining) is = is
-draining_own s _ is = refl
+use Rattle.wq_words.proofs.Counting.{queued_own, pending_own, closed_own, draining_own, chain_own, chain_busy_own}
 
 -- what the counts of an engine come to
 pub record Sums (x : Tally) (t : Totals) (h : List Event) : Type 0 where

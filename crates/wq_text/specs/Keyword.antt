@@ -2,6 +2,7 @@
 use Rattle.std.specs.Prelude.{ℕ, true, List, Option, Some, None, Result, if◌then◌else◌, codes}
 use Rattle.std.specs.Str.{bytes_eq}
 use Rattle.wq_words.specs.declared.layout.Layout.{Layout}
+use Rattle.wq_words.specs.Limits.{most_text_items}
 use Rattle.wq_text.specs.declared.command.Command.{Command}
 use Rattle.wq_text.specs.declared.command.Command.TheVariants as command
 use Rattle.wq_text.specs.declared.fault.Kind.{Kind}
@@ -56,7 +57,7 @@ abbrev pub script_grammar : Grammar Keyword Command
 script_grammar = record {
   version = codes "wq 1";
   names_seats = true;
-  most = record { items = 4096; senders = 62 };
+  most = record { items = most_text_items; senders = 62 };
   names = λ w ws. keyword_at w;
   asks = λ l k w ws. command_gives l k ws;
 }

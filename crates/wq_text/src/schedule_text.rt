@@ -15,7 +15,7 @@ use crate::text::{is_of, read};
 use crate::turn::{Action, action_of, action_of_2, other_words, turn};
 use std::alloc::Global;
 use wq_core::{Seat, Step};
-use wq_words::Layout;
+use wq_words::{Layout, MOST_TEXT_ITEMS};
 
 // The lines of a schedule, each a turn at most.
 struct Turns;
@@ -39,7 +39,7 @@ impl Language for Turns {
 
     fn most() -> Most {
         Most {
-            items: 4096,
+            items: MOST_TEXT_ITEMS,
             senders: 64,
         }
     }

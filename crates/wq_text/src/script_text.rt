@@ -15,7 +15,7 @@ use crate::line::Language;
 use crate::script::Script;
 use crate::text::{is_of, read};
 use std::alloc::Global;
-use wq_words::Layout;
+use wq_words::{Layout, MOST_TEXT_ITEMS};
 
 // The lines of a script, each a command at most.
 struct Commands;
@@ -39,7 +39,7 @@ impl Language for Commands {
 
     fn most() -> Most {
         Most {
-            items: 4096,
+            items: MOST_TEXT_ITEMS,
             senders: 62,
         }
     }

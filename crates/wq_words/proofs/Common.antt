@@ -17,7 +17,7 @@ pub use Rattle.std.specs.List.{after_last, before_last, prefix_len, AllByRecursi
 pub use Rattle.std.specs.Prelude.{nat_le, filter}
 pub use mathlib.Core.List.{IsPrefix}
 pub use Rattle.wq_words.specs.Armed.{armed_of, modified_of}
-pub use Rattle.wq_words.specs.Counting.{is_chain, is_queued_by, is_pending_by, is_closed_by, is_contended_by, is_chain_busy}
+pub use Rattle.wq_words.specs.Counting.{is_chain, is_queued_by, is_pending_by, is_closed_by, is_draining_by, is_contended_by, is_chain_busy}
 pub use Rattle.wq_words.specs.DelayTable.{DelayTable, is_too_far, table_with, table_without, table_at}
 pub use Rattle.wq_words.specs.Head.{head_word, busy_word}
 pub use Rattle.wq_words.specs.History.{accepted, accepted_by, begun, begun_by, ended, ended_by, fresh, is_push, is_cut, is_close, IsClosed, closed, is_drain}

@@ -7,6 +7,10 @@ use Rattle.wq_words.specs.declared.layout.LayoutError.TheVariants.{Items, Barrie
 abbrev pub most_items : ℕ
 most_items = 65536
 
+-- the most items of a queue in a text: a script, a schedule, a recording or a plan
+abbrev pub most_text_items : ℕ
+most_text_items = 4096
+
 abbrev pub IsBetween : ℕ → ℕ → ℕ → Type 0
 IsBetween low n high = (low ≤ n) × (n ≤ high)
 

@@ -7,6 +7,9 @@ use thiserror::Error;
 /// The most items that a queue can have.
 pub const MOST_ITEMS: u32 = 65_536;
 
+/// The most items of a queue in a text: a script, a schedule, a recording or a plan (docs/FORMATS.md).
+pub const MOST_TEXT_ITEMS: u32 = 4_096;
+
 /// Which number of a layout is out of its limits, the first of them in this order.
 #[derive(Clone, Copy, Debug, PartialEq, Eq, Error)]
 pub enum LayoutError {
