@@ -67,3 +67,4 @@ bench: build
 	bench/threads.py crates/bench_queue/out/bench_queue 9
 	bench/pool.py crates/bench_pool/out/bench_pool 9
 	bench/delays.sh crates/bench_queue/out/bench_queue
+	bench/large.py crates/bench_queue/out/bench_queue

@@ -33,8 +33,8 @@ impl Times {
     }
 }
 
-// The owner and the sender of a new queue of so many items.
-fn seats(alloc: Global, items: u32) -> Result<(Owner, Sender), Refusal>
+/// The owner and the sender of a new queue of so many items.
+pub fn seats(alloc: Global, items: u32) -> Result<(Owner, Sender), Refusal>
     ensures { IfOk result (λ seats. seats.1.seen ≡ []) }
 {
     let (owner, mut senders) = build(alloc, Layout::new(items, 1, 1)?)?;

@@ -8,13 +8,15 @@
 //! the worker rests before it parks, and its senders wake it on `wakes` alone. `bench_queue lone ROUNDS
 //! MICROS` queues one item to such a worker so many microseconds after the last one ran, and prints the median and the 95th
 //! percentile of the time until it ran. `bench_queue delays ITEMS ROUNDS` measures a delay table; it prints what an arming, a move, a
-//! cancel and letting go took an item.
+//! cancel and letting go took an item. `bench_queue large ITEMS` goes over so many items by each call that does so, and prints a line for
+//! each: what it took in all, and how many bytes of memory were resident more after it.
 //!
 //! Without words it prints `items N` for a small load, which depends on no clock.
 #![tactic(auto)]
 
 mod delays;
 mod host;
+mod large;
 mod lone;
 mod owner;
 mod pace;
@@ -91,6 +93,17 @@ fn show_delays<R: Host>(rt: &R, items: u32, rounds: u32) -> Result<(), Refusal> 
     Ok(())
 }
 
+/// Prints what each stage took over so many items.
+fn show_large<R: Host>(rt: &R, items: u32) -> Result<(), Refusal> {
+    for stage in large::measure(rt, items)? {
+        println!(rt;
+            "{}: {} nanos, {} bytes",
+            stage.name, stage.nanos, stage.bytes
+        )?;
+    }
+    Ok(())
+}
+
 fn measure<R: Host>(rt: &R, plan: Plan) -> Result<(), Refusal> {
     match plan {
         Plan::Small => show_small(rt),
@@ -98,6 +111,7 @@ fn measure<R: Host>(rt: &R, plan: Plan) -> Result<(), Refusal> {
         Plan::Serve(load) => show_serve(rt, load),
         Plan::Lone(rounds, micros, pace) => show_lone(rt, rounds, micros, pace),
         Plan::Delays(items, rounds) => show_delays(rt, items, rounds),
+        Plan::Large(items) => show_large(rt, items),
     }
 }
 

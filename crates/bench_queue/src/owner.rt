@@ -58,7 +58,7 @@ pub fn execute_batch(owner: &mut Owner, limit: u64) -> u64 {
 }
 
 /// Queues each item of the queue once.
-fn queue_all(sender: &mut Sender) {
+pub fn queue_all(sender: &mut Sender) {
     for item in 0..sender.layout().items {
         if item < sender.layout().items {
             let _ = sender.queue_tries(item, 1);

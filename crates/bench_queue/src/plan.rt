@@ -17,6 +17,8 @@ pub enum Plan {
     Lone(u32, u32, Pace),
     /// So many items of a delay table, and so many rounds over them.
     Delays(u32, u32),
+    /// So many items of one queue, all of which each call goes over.
+    Large(u32),
 }
 
 /// How many senders there are, how many items each of them queues, how many executions end in all, how an owner or a worker goes
@@ -57,6 +59,10 @@ impl Plan {
             "delays" => {
                 let [items, rounds, _] = numbers(rest, 2)?;
                 Ok(Plan::Delays(items, rounds))
+            }
+            "large" => {
+                let [items, _, _] = numbers(rest, 1)?;
+                Ok(Plan::Large(items))
             }
             _ => Ok(Plan::Owner(Load::read(words, pace)?)),
         }

@@ -10,7 +10,7 @@ use wq_worker::{Unbuilt, Work};
 #[derive(Debug, Drop, Error)]
 pub enum Refusal {
     /// Another count of words, or a word that is no number.
-    #[error("usage: bench_queue [eager | resting] [serve] SENDERS SLICE TOTAL | [eager] lone ROUNDS MICROS | delays ITEMS ROUNDS")]
+    #[error("usage: bench_queue [eager | resting] [serve] SENDERS SLICE TOTAL | [eager] lone ROUNDS MICROS | delays ITEMS ROUNDS | large ITEMS")]
     Words,
     /// More senders or items than a queue has.
     #[error("plan: {0}")]

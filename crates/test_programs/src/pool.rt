@@ -1,4 +1,5 @@
 //! Pools: worked rows, turns, and what threads see.
+mod draining;
 mod hands;
 mod overlap;
 mod owing;

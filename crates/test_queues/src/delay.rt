@@ -1,5 +1,6 @@
 //! Calls of a delay table in one thread.
 mod calls;
 mod contended;
+mod draining;
 mod rows;
 mod wheel;

@@ -44,6 +44,15 @@ pub(crate) fn cancel(delay: &mut Delay, item: u32) -> Option<bool> {
     }
 }
 
+/// Whether an item is on the table.
+pub(crate) fn has(delay: &Delay, item: u32) -> Option<bool> {
+    if item < delay.layout().items {
+        Some(delay.has(item))
+    } else {
+        None
+    }
+}
+
 /// Leads the table on to a tick. How many items were pushed, refused and left waiting; None where the tick lies behind.
 pub(crate) fn advance(delay: &mut Delay, now: u64) -> Option<(u32, u32, u32)> {
     let Advance {

@@ -1,5 +1,7 @@
 //! A seat that stops stands in the way of no other: an owner that took, a sender that holds, and a thread that waits between two
 //! calls until all others have come to their ends.
+mod draining;
+
 use super::reading::{begin, close, end, execute_one, take};
 use crate::expect::expect_same;
 use crate::latch::Latch;

@@ -1,0 +1,193 @@
+//! A queue of many items: what each call takes that goes over all of them, and how much memory is kept.
+ghost use Rattle.std.specs.Prelude.{◌≡◌, IfOk, IfSome};
+
+use crate::delays::seats;
+use crate::host::Host;
+use crate::owner::{execute_batch, queue_all};
+use crate::refusal::Refusal;
+use crate::runs::{Runs, shown};
+use std::fs;
+use std::time::Instant;
+use wq_delay::Delay;
+use wq_live::{Owner, Sender, build};
+use wq_words::Layout;
+use wq_worker::{Book, Worker};
+
+/// How many bytes a page of memory has on x86-64.
+const PAGE: u64 = 4096;
+
+/// How long a stage took over all items, and how many bytes of memory are resident more after it.
+#[derive(Clone, Copy)]
+pub struct Stage {
+    pub name: &'static str,
+    pub nanos: u128,
+    pub bytes: u64,
+}
+
+/// The stages that have ended, and where the next one began.
+#[derive(Drop)]
+struct Stages {
+    ended: Vec<Stage>,
+    start: Instant,
+    bytes: u64,
+}
+
+/// How many bytes of memory this process has resident.
+fn resident<R: Host>(rt: &R) -> Result<u64, Refusal> {
+    let text = fs::read_to_string(rt, "/proc/self/statm")?;
+    let pages = text.split_ascii_whitespace().nth(1);
+    let pages: u64 = pages.and_then(|word| word.parse().ok()).unwrap_or(0);
+    Ok(pages.saturating_mul(PAGE))
+}
+
+impl Stages {
+    fn begin<R: Host>(rt: &R) -> Result<Stages, Refusal> {
+        let bytes = resident(rt)?;
+        Ok(Stages {
+            ended: Vec::new(rt.alloc()),
+            start: Instant::now(rt)?,
+            bytes,
+        })
+    }
+
+    /// Ends a stage, and begins the next.
+    fn end<R: Host>(&mut self, rt: &R, name: &'static str) -> Result<(), Refusal> {
+        let nanos = self.start.elapsed(rt)?.as_nanos();
+        let bytes = resident(rt)?;
+        self.ended.push(Stage {
+            name,
+            nanos,
+            bytes: bytes.saturating_sub(self.bytes),
+        })?;
+        self.bytes = bytes;
+        self.start = Instant::now(rt)?;
+        Ok(())
+    }
+}
+
+/// Begins a drain, where the queue is open.
+fn drain(owner: &mut Owner) {
+    if !owner.is_closed() && !owner.is_draining() {
+        owner.drain();
+    }
+}
+
+/// Ends a drain that has run out.
+fn resume(owner: &mut Owner) {
+    if owner.drained() {
+        owner.resume();
+    }
+}
+
+/// Closes the queue, where it is not closed.
+fn close(owner: &mut Owner) {
+    if !owner.is_closed() {
+        owner.close();
+    }
+}
+
+/// An owner finds all items on its list at a take, at a drain and at a close.
+fn measure_owner<R: Host>(rt: &R, stages: &mut Stages, items: u32) -> Result<(), Refusal> {
+    let (mut owner, mut sender) = seats(rt.alloc(), items)?;
+    stages.end(rt, "build")?;
+    queue_all(&mut sender);
+    stages.end(rt, "queue")?;
+    execute_batch(&mut owner, 0);
+    stages.end(rt, "take")?;
+    execute_batch(&mut owner, u64::MAX);
+    stages.end(rt, "execute")?;
+    queue_all(&mut sender);
+    stages.end(rt, "queue")?;
+    drain(&mut owner);
+    stages.end(rt, "drain")?;
+    execute_batch(&mut owner, u64::MAX);
+    resume(&mut owner);
+    queue_all(&mut sender);
+    stages.end(rt, "execute, resume, queue")?;
+    close(&mut owner);
+    stages.end(rt, "close")?;
+    Ok(())
+}
+
+/// The ledgers of a queue's senders are made and balanced with its book.
+fn balance<R: Host>(rt: &R, book: &mut Book, sender: &mut Sender) -> Result<(), Refusal>
+    requires { sender.old.queue ≡ book.old.queue }
+{
+    let ledger = book.meet(sender);
+    book.balance(&[ledger]).map_err(|_| Refusal::Memory)?;
+    Ok(())
+}
+
+/// A worker drains a queue of which all items wait, and is destroyed with as many.
+fn measure_worker<R: Host>(rt: &R, stages: &mut Stages, items: u32) -> Result<(), Refusal> {
+    let work = Runs::new(u64::MAX, shown(rt.alloc())?);
+    let layout = Layout::new(items, 1, 2)?;
+    let (mut worker, mut senders) = Worker::build(rt.alloc(), layout, work, 1)?;
+    let Some(mut sender) = senders.pop() else {
+        return Err(Refusal::Memory);
+    };
+    queue_all(&mut sender);
+    stages.end(rt, "build of a worker, queue")?;
+    worker.drain(u32::MAX);
+    stages.end(rt, "drain of a worker")?;
+    queue_all(&mut sender);
+    stages.end(rt, "queue")?;
+    let Ok((_work, mut book)) = worker.destroy(u32::MAX) else {
+        return Err(Refusal::Memory);
+    };
+    stages.end(rt, "destroy")?;
+    balance(rt, &mut book, &mut sender)?;
+    stages.end(rt, "ledgers")?;
+    Ok(())
+}
+
+/// Queues all items at ticks to come.
+fn arm_all(delay: &mut Delay) {
+    for item in 0..delay.layout().items {
+        if item < delay.layout().items {
+            let _ = delay.arm(item, u64::from(item % 1024).saturating_add(1), 1);
+        }
+    }
+}
+
+/// A delay table lets all items go at once, keeps them in a drain, and lets them go after it; and it is dissolved with as many.
+fn measure_delay<R: Host>(rt: &R, stages: &mut Stages, items: u32) -> Result<(), Refusal> {
+    let (mut owner, sender) = seats(rt.alloc(), items)?;
+    stages.end(rt, "build")?;
+    let mut delay = Delay::new(rt.alloc(), sender, 0).map_err(|_| Refusal::Memory)?;
+    stages.end(rt, "table")?;
+    arm_all(&mut delay);
+    stages.end(rt, "arm")?;
+    let _ = delay.advance(1024, 1);
+    stages.end(rt, "advance, all go out")?;
+    execute_batch(&mut owner, u64::MAX);
+    arm_all(&mut delay);
+    drain(&mut owner);
+    stages.end(rt, "execute, arm, drain")?;
+    let _ = delay.advance(2048, 1);
+    stages.end(rt, "advance in a drain")?;
+    for tick in 2049..3073 {
+        let _ = delay.advance(tick, 1);
+    }
+    stages.end(rt, "1024 advances, all are late")?;
+    resume(&mut owner);
+    let _ = delay.advance(3072, 1);
+    stages.end(rt, "advance after the resume")?;
+    execute_batch(&mut owner, u64::MAX);
+    arm_all(&mut delay);
+    stages.end(rt, "execute, arm")?;
+    delay.dissolve();
+    stages.end(rt, "dissolve")?;
+    Ok(())
+}
+
+/// What each stage took over so many items.
+pub fn measure<R: Host>(rt: &R, items: u32) -> Result<Vec<Stage>, Refusal> {
+    let mut stages = Stages::begin(rt)?;
+    measure_owner(rt, &mut stages, items)?;
+    stages.end(rt, "drop")?;
+    measure_worker(rt, &mut stages, items)?;
+    stages.end(rt, "drop")?;
+    measure_delay(rt, &mut stages, items)?;
+    Ok(stages.ended)
+}

@@ -1,0 +1,98 @@
+//! Workers that drained before they came into a pool.
+ghost use Rattle.std.specs.Prelude.{◌≡◌, IfSome};
+
+use crate::expect::expect_same;
+use crate::pool::team::{Logging, Open, new_pool, queue_item, work};
+use std::alloc::Global;
+use std::process::Abort;
+use wq_live::{Answer, Sender};
+use wq_pool::Served;
+use wq_words::Layout;
+use wq_worker::{Drained, Ran, Worker};
+
+/// The answers of a first push that wakes nobody, and of one behind others.
+const FIRST: Answer = Answer::Queued {
+    first: true,
+    wakes: false,
+};
+
+const QUEUED: Answer = Answer::Queued {
+    first: false,
+    wakes: false,
+};
+
+/// A worker of a queue of 4 items, whose work asks for item 3 where it runs an item from a number on, and the queue's sender.
+fn new_worker<R: Abort>(rt: &R, alloc: Global, asks_from: u32) -> (Worker<Logging>, Sender) {
+    let layout = Layout::new(104, 1, 2).expect(rt, "a layout");
+    let Ok((worker, mut senders)) = Worker::build(alloc, layout, Logging::asking(asks_from), 1)
+    else {
+        panic!(rt; "no memory for a queue")
+    };
+    (worker, senders.pop().expect(rt, "a sender"))
+}
+
+/// What a pool may have of a worker: it drains no more, and has nothing left. It executes nothing.
+fn served(mut worker: Worker<Logging>) -> Option<Served<Logging>> {
+    if worker.is_draining() {
+        return None;
+    }
+    match worker.run_one() {
+        Ran::Nothing if !worker.is_draining() => Some(Served::new(worker)),
+        _ => None,
+    }
+}
+
+/// A worker that drains is no pool's until a later drain has ended it. Its first push then says no wake, so who made the pool
+/// announces the queue once, and the pool executes what is queued from then on.
+#[test]
+fn drained_queue_is_served(rt: HostRuntime) {
+    let (mut worker, mut sender) = new_worker(&rt, rt.alloc(), 100);
+    queue_item(&rt, &mut sender, 103);
+    queue_item(&rt, &mut sender, 1);
+    expect_same(&rt, worker.drain(1), Drained::TooLong { left: 2 });
+    assert!(rt; worker.is_draining());
+    expect_same(&rt, queue_item(&rt, &mut sender, 2), Answer::Draining);
+    expect_same(&rt, worker.drain(2), Drained::Empty);
+    let queue = served(worker).expect(&rt, "a worker that drains no more");
+    let mut queues = Vec::new(rt.alloc());
+    queues.push(queue).expect(&rt, "memory");
+    let (pool, mut caller) = new_pool(&rt, rt.alloc(), queues);
+    expect_same(&rt, queue_item(&rt, &mut sender, 2), FIRST);
+    expect_same(&rt, queue_item(&rt, &mut sender, 0), QUEUED);
+    expect_same(&rt, pool.announce(&rt, &mut caller, 0), Ok(()));
+    let turn = pool.pick(&rt, &mut caller).expect(&rt, "a turn");
+    let worked = work(&rt, turn, 9, &Open);
+    pool.put_back(&mut caller, worked);
+    let wakes = Answer::Queued {
+        first: true,
+        wakes: true,
+    };
+    expect_same(&rt, queue_item(&rt, &mut sender, 1), wakes);
+    let finished = pool.finish(1).expect(&rt, "all finished");
+    let [(ran, _)] = finished.as_slice() else {
+        panic!(rt; "not one queue")
+    };
+    expect_same(&rt, ran.order.as_slice(), [103, 1, 3, 2, 0, 1].as_slice());
+}
+
+/// A worker whose drain never ends, since what it runs asks for itself, is not handed over, and no call waits for its end. A
+/// destroy gives it back again and again, with the queue closed.
+#[test]
+fn endless_drain_is_given_back(rt: HostRuntime) {
+    let (mut worker, mut sender) = new_worker(&rt, rt.alloc(), 3);
+    queue_item(&rt, &mut sender, 3);
+    for _ in 0..3u32 {
+        expect_same(&rt, worker.drain(5), Drained::TooLong { left: 1 });
+        assert!(rt; worker.is_draining());
+        expect_same(&rt, queue_item(&rt, &mut sender, 2), Answer::Draining);
+    }
+    for _ in 0..2u32 {
+        let Err(unfinished) = worker.destroy(5) else {
+            panic!(rt; "a drain that ended")
+        };
+        expect_same(&rt, unfinished.left, 1);
+        worker = unfinished.worker;
+        assert!(rt; worker.is_closed());
+        expect_same(&rt, queue_item(&rt, &mut sender, 2), Answer::Closed);
+    }
+}
