@@ -1,0 +1,5 @@
+pub mod Seats
+pub mod Made
+pub mod Sent
+pub mod Owned
+pub mod Words
