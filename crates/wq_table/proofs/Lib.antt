@@ -7,3 +7,8 @@ pub mod Present
 pub mod Views
 pub mod Told
 pub mod Beside
+pub mod Shelves
+pub mod Moves
+pub mod ValueRule
+pub mod ByKind
+pub mod Bare

@@ -65,6 +65,20 @@ seen_moved h q zero p ps all = inl all
 seen_moved h q (suc n) p [] all = inl all
 seen_moved h q (suc n) p (r ∷ rs) all = inl refl
 
+-- each part has seen just h
+abbrev pub AllSeen : List Event → View → Type 0
+AllSeen h [] = Unit {0}
+AllSeen h (p ∷ ps) = (p.seen ≡ h) × AllSeen h ps
+
+seeing_seen : (h : List Event) (v : View) → AllSeen h (all_see h v)
+seeing_seen h [] = tt
+seeing_seen h (p ∷ ps) = (refl, seeing_seen h ps)
+
+pub all_moved : (h : List Event) (q : Part) (n : ℕ) (p : Part) (ps : View) → q.seen ≡ h → AllSeen h (moved_first n h q p ps ∷ moved_rest n h q p ps)
+all_moved h q zero p ps is = (is, seeing_seen h ps)
+all_moved h q (suc n) p [] is = (is, tt)
+all_moved h q (suc n) p (r ∷ rs) is = (refl, all_moved h q n r rs is)
+
 -- a part that fits still does once it has seen all
 pub fits_seeing : (m : Machine) (p : Part) → IsPartOf m p → IsPartOf m (see m.history p)
 fits_seeing m p fits = record { layout_is = fits.layout_is; begins = prefix_self m.history; mine = refl; keeps = fits.keeps; links = fits.links }

@@ -18,7 +18,7 @@ use Rattle.wq_core.proofs.Sound.{sound_after}
 use Rattle.wq_words.proofs.Prefixes.{prefix_self}
 use Rattle.wq_table.proofs.Present.{stands_put, put_in}
 use Rattle.wq_table.proofs.Changes.{Change, changes, fits_other, keeps_after, links_known, links_spared}
-use Rattle.wq_table.proofs.Places.{moved_first, moved_rest, moved_chosen, moved_besides, chosen_fits, moved_fit, still_fits, seat_moved, seen_moved}
+use Rattle.wq_table.proofs.Places.{moved_first, moved_rest, moved_chosen, moved_besides, chosen_fits, moved_fit, still_fits, seat_moved, seen_moved, AllSeen, all_moved}
 
 abbrev Table : Type 0
 Table = State (Unit {0}) View
@@ -51,16 +51,26 @@ next_fits m p step sound fits made = record {
 -- the step as a fact about the parts before and after, where the part that acts is q then
 makes_at : (at : ℕ) (step : Step) (word : ℕ) (p : Part) (ps : View) (q a : Part) (bs : View) → q ≡ chosen at a bs → (m : Makes step word (chosen at p ps) q)
     → AllOf (after m.before (seat_at (chosen at p ps).seat (chosen at p ps).stage) step) (besides at p ps)
-    → besides at a bs ≡ all_see q.seen (besides at p ps) → MakesAt at step word p ps a bs
+    → besides at a bs ≡ all_see q.seen (besides at p ps) → (makes : MakesAt at step word p ps a bs) × (makes.makes.before ≡ m.before)
 makes_at at step word p ps q a bs is = subst (λ (x : Part). (m : Makes step word (chosen at p ps) x)
     → AllOf (after m.before (seat_at (chosen at p ps).seat (chosen at p ps).stage) step) (besides at p ps)
-    → besides at a bs ≡ all_see x.seen (besides at p ps) → MakesAt at step word p ps a bs) (sym is)
-    (λ m fit are. record { makes = m; still_fit = fit; others_are = are })
+    → besides at a bs ≡ all_see x.seen (besides at p ps) → (makes : MakesAt at step word p ps a bs) × (makes.makes.before ≡ m.before)) (sym is)
+    (λ m fit are. (record { makes = m; still_fit = fit; others_are = are }, refl))
 
-module _ (layout : Layout) (slots id at : ℕ) (p : Part) (ps : View) (cs : Carried) (σ : Layout → Step) (i : ℕ) (f g : ℕ → ℕ)
+module _ (layout : Layout) (id at : ℕ) (p : Part) (ps : View) (σ : Layout → Step) (i : ℕ) (f g : ℕ → ℕ)
     (performs : Performs (chosen at p ps) (σ (chosen at p ps).layout) i f g) where
-  stepping : Allows (Kept layout) slots id (p ∷ ps, cs) i f (λ n. ViewMakes at σ (p ∷ ps, cs) (g n))
-  stepping s r same there small =
+  -- what the step leaves: the parts that stand at the place of its view, the rule with its machine, and what it was
+  pub record Stepped (s : Table) (r : Kept layout s) : Type 0 where
+    pub first : Part
+    pub rest : View
+    pub kept : Kept layout (record { words = set s.words i (f (get_or s.words i 0)); homes = s.homes; views = set s.views id (first ∷ rest) })
+    pub machine_is : kept.machine ≡ after r.machine (seat_at (chosen at p ps).seat (chosen at p ps).stage) (σ (chosen at p ps).layout)
+    pub moves : MakesAt at (σ (chosen at p ps).layout) (g (get_or s.words i 0)) p ps first rest
+    pub before_is : moves.makes.before ≡ r.machine
+    pub all_seen : AllSeen kept.machine.history (first ∷ rest)
+
+  pub stepped : (s : Table) (r : Kept layout s) → get_elem? s.views id ≡ some (p ∷ ps) → Stepped s r
+  stepped s r there =
       let m = r.machine in let c : Part = chosen at p ps in let step : Step = σ c.layout in
       let all = r.seats id (p ∷ ps) there in let mine = chosen_fits m r.who id at p ps all in let fits : IsPartOf m c = mine.0 in
       let made = performs.made m r.sound fits in let next = after m (seat_at c.seat c.stage) step in
@@ -72,11 +82,22 @@ module _ (layout : Layout) (slots id at : ℕ) (p : Part) (ps : View) (cs : Carr
       let spared = links_spared m c.seat c.stage step r.sound fits.keeps made in
       let first : Part = moved_first at next.history q p ps in let rest : View = moved_rest at next.history q p ps in
       let now : View = first ∷ rest in
-      let all_now : ArePartsAt next r.who id now = moved_fit m next r.who id c.seat change spared at p ps q refl refl q_fits all in (
-        now,
-        keeps,
-        tt,
-        record {
+      let all_now : ArePartsAt next r.who id now = moved_fit m next r.who id c.seat change spared at p ps q refl refl q_fits all in
+      let told = makes_at at step (g (get_or s.words i 0)) p ps q first rest (sym (moved_chosen at next.history q p ps)) (record {
+        before = m;
+        sound = r.sound;
+        fits = fits;
+        word_is = found;
+        sound_after = sound;
+        fits_after = q_fits;
+        seat_is = refl;
+        seen_is = refl;
+        words_are = refl;
+        stage_is = ap (stage_after c.stage step) (sym found);
+      }) (still_fits m next r.who id c.seat change spared at p ps refl all) (moved_besides at next.history q p ps) in record {
+        first = first;
+        rest = rest;
+        kept = record {
           machine = next;
           who = r.who;
           sound = sound;
@@ -88,29 +109,23 @@ module _ (layout : Layout) (slots id at : ℕ) (p : Part) (ps : View) (cs : Carr
               (at_set s.views id j now v other);
           present = λ d seat. stands_put s.views (HasPartOf d) id (p ∷ ps) now (r.who d) there (seat_moved d next.history q at p ps refl) (r.present d seat);
           longest = (id, put_in s.views (HasSeenAll next.history) id (p ∷ ps) now there (seen_moved next.history q at p ps refl));
-        },
-        record {
-          part = p;
-          others = ps;
-          part' = first;
-          others' = rest;
-          was = refl;
-          is = refl;
-          slots = refl;
-          moves = makes_at at step (g (get_or s.words i 0)) p ps q first rest (sym (moved_chosen at next.history q p ps)) (record {
-            before = m;
-            sound = r.sound;
-            fits = fits;
-            word_is = found;
-            sound_after = sound;
-            fits_after = q_fits;
-            seat_is = refl;
-            seen_is = refl;
-            words_are = refl;
-            stage_is = ap (stage_after c.stage step) (sym found);
-          }) (still_fits m next r.who id c.seat change spared at p ps refl all) (moved_besides at next.history q p ps);
-        },
-      )
+        };
+        machine_is = refl;
+        moves = told.0;
+        before_is = told.1;
+        all_seen = all_moved next.history q at p ps refl;
+      }
+
+-- so it keeps the rule, and tells its view what it was
+stepping : (layout : Layout) (slots id at : ℕ) (p : Part) (ps : View) (cs : Carried) (σ : Layout → Step) (i : ℕ) (f g : ℕ → ℕ)
+    → Performs (chosen at p ps) (σ (chosen at p ps).layout) i f g → Allows (Kept layout) slots id (p ∷ ps, cs) i f (λ n. ViewMakes at σ (p ∷ ps, cs) (g n))
+stepping layout slots id at p ps cs σ i f g performs s r same there small = let it = stepped layout id at p ps σ i f g performs s r there in (
+  it.first ∷ it.rest,
+  keeps,
+  tt,
+  it.kept,
+  record { part = p; others = ps; part' = it.first; others' = it.rest; was = refl; is = refl; slots = refl; moves = it.moves },
+)
 
 -- the same of a view that is known to have these parts
 pub goes : (layout : Layout) (slots id at : ℕ) (p : Part) (ps : View) (me : Sat) (σ : Layout → Step) (i : ℕ) (f g : ℕ → ℕ) → me.0 ≡ p ∷ ps

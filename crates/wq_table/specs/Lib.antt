@@ -4,3 +4,5 @@ pub mod Places
 pub mod Chair
 pub mod Beside
 pub mod Sits
+pub mod Slots
+pub mod SlotSteps

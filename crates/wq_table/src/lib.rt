@@ -4,6 +4,7 @@
 mod chair;
 mod making;
 mod table;
+mod values;
 
 pub use chair::Chair;
 pub use making::chairs;

@@ -1,0 +1,434 @@
+-- What each kind of step does to the slots, and to the hand of the seat that makes it.
+use Rattle.std.proofs.Common.{◌≡◌, ◌≢◌, ℕ, ◌+◌, ◌%◌, ◌^◌, ◌<◌, ◌≤◌, ◌==◌, Bool, true, false, cond, if◌then◌else◌, List, [], ◌∷◌, ◌++◌, length, set, slice_get, Option, Some, None, MatchBool, sym, refl, ap, ◌∙◌, subst, arith, inl, inr, ⊎_elim}
+use Rattle.std.specs.List.{count_by}
+use Rattle.std.proofs.lemmas.List.{append-nil, length_push}
+use Rattle.std.proofs.lemmas.Option.{slice_get_within}
+use Rattle.std.proofs.lemmas.Bool.{eqb-true, eqb-false, eq-eqb, ne_eqb, cases_lt}
+use mathlib.Core.Option.{some, none}
+use mathlib.Core.List.{IsPrefix, reverse_aux}
+use Rattle.std.specs.Prelude.{reverse}
+use lib.ListN.{get_elem?}
+use Rattle.atomic_table.specs.Table.{Act, keeps, takes, gives, Valid, homes_after, carried_after}
+use Rattle.wq_words.specs.declared.event.Why.{Why}
+use Rattle.wq_words.specs.declared.event.Event.{Event}
+use Rattle.wq_words.specs.declared.event.Event.TheVariants.{Hold, Busy, Push, Back, Take, Close, Drain, Resume, Begin, End, Chain, ChainBusy, Rest}
+use Rattle.wq_words.specs.declared.layout.Layout.{Layout}
+use Rattle.wq_words.specs.Numbers.{number_count}
+use Rattle.wq_words.specs.History.{accepted_by, accepted, begun_by, begun, running, Holds, IsRunning}
+use Rattle.wq_words.specs.Legal.{IsLegal}
+use Rattle.wq_words.specs.Keeper.{Keeper, Home, Sender, Listed, Owner, taken_over, keeper_after, keeper}
+use Rattle.wq_words.proofs.Growing.{filter_map_push_some, filter_map_push_none}
+use Rattle.wq_words.proofs.Listed.{accepted_push_none}
+use Rattle.wq_words.proofs.Keepers.{IsQueue, queue_bit, queue_from_bit, kept}
+use Rattle.wq_words.proofs.Order.{in_order}
+use Rattle.wq_words.proofs.Places.{counted_once, counted_twice, keeps_from_keeper}
+use Rattle.wq_words.proofs.Prefixes.{prefix_self, prefix_length}
+use Rattle.wq_words.proofs.Ranks.{slice_get-some}
+use Rattle.wq_words.proofs.Running.{runs_some}
+use Rattle.wq_core.specs.Machine.{Machine, head, link, item_word, seen_word, nothing_seen, with_head, with_item, with_private, with_done, done_word, happened, unlinked, walked_past, after_walk, after_begin, after_end, private}
+use Rattle.wq_core.specs.Machine as machine
+use Rattle.wq_core.specs.Sound.{IsSound, AreChained, IsChain}
+use Rattle.wq_core.specs.Words.{number_at, word_at}
+use Rattle.wq_core.proofs.Chains.{times, times-cons, times-append, times-reverse_aux, times-first}
+use Rattle.wq_words.specs.Listed.{listed}
+use Rattle.wq_core.proofs.KeptSound.{home_from_clear, sender_from_holds, away_from_sender}
+use Rattle.wq_core.proofs.Privates.{keeper_push, Gives, gives_hold, gives_push, gives_back, gives_begin, gives_chain}
+use Rattle.wq_core.proofs.OwnerSteps.{first_of_batch}
+use Rattle.wq_core.proofs.Turning.{queue_once}
+use Rattle.wq_table.specs.declared.table.Part.{Part}
+use Rattle.wq_words.specs.Valued.{Carries}
+use Rattle.wq_table.specs.Slots.{Fits, Slots, Shelves, IsAway, IsSenders, taken_times}
+use Rattle.wq_table.specs.declared.table.Stage.TheVariants.{Owns}
+use Rattle.wq_core.specs.declared.step.Step.{Step}
+use Rattle.wq_core.specs.declared.step.Step.TheVariants as step
+use Rattle.wq_table.specs.SlotSteps.{Hand, IsBrought, Walks, Moves, Goes}
+use Rattle.wq_table.proofs.Shelves.{fits_still, fits_taken, fits_emptied, fits_brought, fits_chained}
+
+-- a number that waits is kept by the list or the owner, and has one place
+module _ (layout : Layout) (h : List Event) (legal : IsLegal layout h) (k : ℕ) where
+  front : IsPrefix (begun h) (accepted h)
+  front = (in_order layout h legal).begun_first
+
+  pub waiting_queue : (i : ℕ) → length (begun h) ≤ i → slice_get (accepted h) i ≡ Some k → IsQueue (keeper h k)
+  waiting_queue i le at = queue_from_bit (keeper h k) (omega (arith, (kept layout h legal 0 k).2, counted_once (begun h) (accepted h) k i front le at))
+
+  pub waiting_once : (i l : ℕ) → length (begun h) ≤ i → i < l → slice_get (accepted h) i ≡ Some k → slice_get (accepted h) l ≡ Some k → ⊥
+  waiting_once i l le lt at there =
+      absurd (omega (arith, (kept layout h legal 0 k).2, queue_once (keeper h k), counted_twice (begun h) (accepted h) k i l front le lt at there))
+
+  -- what is accepted more often than begun has a place
+  pub waiting_place : (x : Keeper) → keeper h k ≡ x → IsQueue x → (i : ℕ) × (length (begun h) ≤ i) × (slice_get (accepted h) i ≡ Some k)
+  waiting_place Home is queue = absurd queue
+  waiting_place (Sender s) is queue = absurd queue
+  waiting_place Listed is queue = let w = keeps_from_keeper layout h legal k Listed is in (w.0, w.1, w.3)
+  waiting_place Owner is queue = let w = keeps_from_keeper layout h legal k Owner is in (w.0, w.1, w.3)
+
+queue_home : (x : Keeper) → IsQueue x → x ≡ Home → ⊥
+queue_home x queue is = let q : IsQueue Home = subst IsQueue is queue in q
+
+queue_sender : (x : Keeper) (s : ℕ) → IsQueue x → x ≡ Sender s → ⊥
+queue_sender x s queue is = let q : IsQueue (Sender s) = subst IsQueue is queue in q
+
+module _ (h : List Event) (e : Event) (k : ℕ) where
+  -- the event leaves k away from home
+  gone : (y : Keeper) → Gives k e y → y ≢ Home → (j : ℕ) → keeper (h ++ e ∷ []) j ≡ Home → (j ≢ k) × (keeper h j ≡ Home)
+  gone y g ne j at =
+      let other : j ≢ k = λ same. ne (sym (g.1 (keeper h k)) ∙ (sym (keeper_push h e k) ∙ (ap (keeper (h ++ e ∷ [])) (sym same) ∙ at))) in
+      (other, sym (g.0 j (keeper h j) other) ∙ (sym (keeper_push h e j) ∙ at))
+
+  -- the event is about k alone
+  came : (y : Keeper) → Gives k e y → (j : ℕ) → keeper (h ++ e ∷ []) j ≡ Home → j ≢ k → keeper h j ≡ Home
+  came y g j at other = sym (g.0 j (keeper h j) other) ∙ (sym (keeper_push h e j) ∙ at)
+
+begun_same : (h : List Event) (e : Event) → begun_by e ≡ None → begun (h ++ e ∷ []) ≡ begun h
+begun_same h e none_begun = filter_map_push_none begun_by h e none_begun ∙ append-nil (begun h)
+
+over_home : (x : Keeper) → taken_over x ≡ Home → x ≡ Home
+over_home Home is = refl
+over_home (Sender s) is = absurd cc
+over_home Listed is = absurd cc
+over_home Owner is = absurd cc
+
+pub split_count : (k : ℕ) (acc beg batch tail lst : List ℕ) → acc ≡ beg ++ (batch ++ tail) ++ lst
+    → times k acc ≡ times k beg + (times k batch + times k tail) + times k lst
+split_count k acc beg batch tail lst order = omega (
+  arith,
+  ap (times k) order,
+  times-append k (beg ++ (batch ++ tail)) lst,
+  times-append k beg (batch ++ tail),
+  times-append k batch tail,
+)
+
+-- the number that the owner walks next waits, and is not among what it walked or has in its batch
+cursor_count : (n : ℕ) (ws : List ℕ) (k : ℕ) (walked batch acc beg lst : List ℕ) → AreChained n ws (Some k) walked batch acc beg lst
+    → times k beg + (times k walked + times k batch) + 1 ≤ times k acc
+cursor_count n ws k walked batch acc beg lst a = go a.remaining a.walk_chain a.order
+  where
+    go : (remaining : List ℕ) → IsChain n ws (k + 1) remaining → acc ≡ beg ++ (batch ++ reverse_aux remaining walked) ++ reverse lst
+        → times k beg + (times k walked + times k batch) + 1 ≤ times k acc
+    go [] c order = absurd (omega (arith, c))
+    go (i ∷ rest) c order =
+        let one : cond {A = ℕ} (i == k) 1 0 ≡ 1 = ap {B = ℕ} (λ (q : Bool). cond q 1 0) (eq-eqb i k (omega (arith, c.0))) in
+        omega (arith, split_count k acc beg batch (reverse_aux (i ∷ rest) walked) (reverse lst) order, times-reverse_aux k (i ∷ rest) walked, times-cons k i rest, one)
+
+cursor_waits : (m : Machine) → IsSound m → (k : ℕ) → m.cursor ≡ Some k → IsQueue (keeper m.history k) × (times k m.walked + times k m.batch ≡ 0)
+cursor_waits m o k on =
+    let count = cursor_count (number_count m.layout) m.words k m.walked m.batch _ _ _ (rw on at o.chains) in
+    let tells = (kept m.layout m.history o.legal 0 k).2 in
+    let once = queue_once (keeper m.history k) in
+    (queue_from_bit (keeper m.history k) (omega (arith, count, tells)), omega (arith, count, tells, once))
+
+not_counted : (j k : ℕ) (q : Bool) → (k == j) ≡ q → ◌≡◌ {A = ℕ} (cond q 1 0) 0 → j ≢ k
+not_counted j k true e zero = absurd (omega (arith, zero))
+not_counted j k false e zero = λ same. eqb-false k j e (sym same)
+
+-- the first of the batch stands in it once
+pub batch_once : (m : Machine) → IsSound m → (k : ℕ) (ks : List ℕ) → m.batch ≡ k ∷ ks → times k ks ≡ 0
+batch_once m o k ks first =
+    let tells = (kept m.layout m.history o.legal 0 k).2 in
+    let once = queue_once (keeper m.history k) in
+    let c = o.chains in
+    let split = split_count k (accepted m.history) (begun m.history) m.batch (reverse_aux c.remaining m.walked) (reverse (listed m.history)) c.order in
+    let batch : times k m.batch ≡ times k (k ∷ ks) = ap (times k) first in
+    omega (arith, tells, once, split, batch, times-first k ks)
+
+over_sends : (x : Keeper) → IsSenders (taken_over x) → IsSenders x
+over_sends Home is = is
+over_sends (Sender s) is = is
+over_sends Listed is = absurd is
+over_sends Owner is = is
+
+-- the event is about k alone: another number is away as before
+away_other : (h : List Event) (e : Event) (k : ℕ) (y : Keeper) (n n' : ℕ) → Gives k e y → (j : ℕ) → j ≢ k → n ≡ n' → IsAway (keeper (h ++ e ∷ []) j) n' → IsAway (keeper h j) n
+away_other h e k y n n' g j other same is = subst (λ (z : Keeper × ℕ). IsAway z.0 z.1) (λ i. ((keeper_push h e j ∙ g.0 j (keeper h j) other) i, sym same i)) is
+
+-- the event leaves k at no sender, and the owner has it not
+away_gone : (h : List Event) (e : Event) (k : ℕ) (y : Keeper) (out out' : ℕ → ℕ) → Gives k e y → (IsSenders y → ⊥) → out' k ≡ 0 → ((j : ℕ) → j ≢ k → out j ≡ out' j)
+    → (j : ℕ) → IsAway (keeper (h ++ e ∷ []) j) (out' j) → (j ≢ k) × IsAway (keeper h j) (out j)
+away_gone h e k y out out' g none_sends zero same j is =
+    let other : j ≢ k = λ e'. ⊎_elim
+    (λ (x : IsSenders (keeper (h ++ e ∷ []) j)). none_sends (subst IsSenders (ap (keeper (h ++ e ∷ [])) e' ∙ (keeper_push h e k ∙ g.1 (keeper h k))) x))
+    (λ (n : 0 < out' j). absurd (omega (arith, n, ap out' e', zero))) is in
+    (other, away_other h e k y (out j) (out' j) g j other (same j other) is)
+
+-- what a sender holds the owner has not
+held_none_out : (m : Machine) → IsSound m → (s k : ℕ) → keeper m.history k ≡ Sender s → taken_times m.walked m.batch k ≡ 0
+held_none_out m o s k mine =
+    let c = o.chains in
+    let split = split_count k (accepted m.history) (begun m.history) m.batch (reverse_aux c.remaining m.walked) (reverse (listed m.history)) c.order in
+    omega (arith, away_from_sender m o s k mine, split, times-reverse_aux k c.remaining m.walked)
+
+module _ {V : Type 0} where
+  -- an event that accepts and begins nothing, and brings nothing home
+  quiet : (m : Machine) (e : Event) → accepted_by e ≡ None → begun_by e ≡ None → ((k : ℕ) (x : Keeper) → IsSenders (keeper_after k x e) → IsSenders x)
+      → ((k : ℕ) (x : Keeper) → keeper_after k x e ≡ Home → x ≡ Home)
+      → (brs : List (Option V)) (homes : Slots V) → Shelves m brs homes → Shelves (happened m e) brs homes
+  quiet m e none_accepted none_begun sends home brs homes s =
+      let h : List Event = m.history in
+      subst (λ (z : List ℕ × List ℕ). Fits None (Carries m.layout.items) (keeper (h ++ e ∷ [])) (taken_times m.walked m.batch) (length z.0) z.1 brs homes)
+      (λ i. (sym (begun_same h e none_begun) i, sym (accepted_push_none h e none_accepted) i))
+      (fits_still None (Carries m.layout.items) (keeper h) (keeper (h ++ e ∷ [])) (taken_times m.walked m.batch) (taken_times m.walked m.batch) (length (begun h)) (length (begun h))
+      (accepted h) brs homes s
+      (λ k is. ⊎_elim (λ x. inl (sends k (keeper h k) (subst IsSenders (keeper_push h e k) x))) (λ n. inr n) is)
+      (λ k at. home k (keeper h k) (sym (keeper_push h e k) ∙ at)) (λ k away. away) (omega arith))
+
+  module _ (m : Machine) (p : Part) (brs : List (Option V)) (homes : Slots V) (sh : Shelves m brs homes) where
+    -- no slot moves
+    pub goes_still : (σ : Step) (n : Machine) (word : ℕ) (c : Hand V) → Shelves n brs homes → Moves None σ p m word brs c brs c → Goes None σ m n p word brs homes c
+    goes_still σ n word c s still = record { act = keeps; valid = tt; brs' = brs; more = prefix_self brs; shelves = s; moved = λ some_slot. still; rests = λ none_there. refl }
+
+    pub shelves_take : (words : List ℕ) (cursor : Option ℕ) → Shelves (happened (record m { words = words; cursor = cursor }) Take) brs homes
+    shelves_take words cursor = quiet (record m { words = words; cursor = cursor }) Take refl refl (λ k x is. over_sends x is) (λ k x is. over_home x is) brs homes sh
+
+    pub shelves_close : (words : List ℕ) (cursor : Option ℕ) → Shelves (happened (record m { words = words; cursor = cursor }) Close) brs homes
+    shelves_close words cursor = quiet (record m { words = words; cursor = cursor }) Close refl refl (λ k x is. over_sends x is) (λ k x is. over_home x is) brs homes sh
+
+    pub shelves_drain : (words : List ℕ) (cursor : Option ℕ) → Shelves (happened (record m { words = words; cursor = cursor }) Drain) brs homes
+    shelves_drain words cursor = quiet (record m { words = words; cursor = cursor }) Drain refl refl (λ k x is. over_sends x is) (λ k x is. over_home x is) brs homes sh
+
+    pub shelves_resume : (words : List ℕ) (cursor : Option ℕ) → Shelves (happened (record m { words = words; cursor = cursor }) Resume) brs homes
+    shelves_resume words cursor = quiet (record m { words = words; cursor = cursor }) Resume refl refl (λ k x is. is) (λ k x is. is) brs homes sh
+
+    pub shelves_rest : (b : Bool) (words : List ℕ) → Shelves (if b then happened (record m { words = words }) Rest else m) brs homes
+    shelves_rest true words = quiet (record m { words = words }) Rest refl refl (λ k x is. is) (λ k x is. is) brs homes sh
+    shelves_rest false words = sh
+
+    pub shelves_end : (r : Option ℕ) → Shelves (after_end m r) brs homes
+    shelves_end None = sh
+    shelves_end (Some k) = quiet (with_done m ((done_word m + 1) % 2 ^ 64)) (End k) refl refl (λ j x is. is) (λ j x is. is) brs homes sh
+
+  module _ (m : Machine) (sound : IsSound m) (p : Part) (brs : List (Option V)) (homes : Slots V) (sh : Shelves m brs homes) where
+    -- a number that a sender holds stands at no place that waits
+    held_apart : (s k : ℕ) → Holds m.history s k → (place j : ℕ) → length (begun m.history) ≤ place → slice_get (accepted m.history) place ≡ Some j → j ≢ k
+    held_apart s k holds place j late stands same =
+        let queue = waiting_queue m.layout m.history sound.legal j place late stands in
+        queue_sender (keeper m.history j) s queue (ap (keeper m.history) same ∙ sender_from_holds m sound s k holds)
+
+    home_apart : (k : ℕ) → keeper m.history k ≡ Home → (place j : ℕ) → length (begun m.history) ≤ place → slice_get (accepted m.history) place ≡ Some j → j ≢ k
+    home_apart k home place j late stands same =
+        let queue = waiting_queue m.layout m.history sound.legal j place late stands in
+        queue_home (keeper m.history j) queue (ap (keeper m.history) same ∙ home)
+
+    pub goes_hold : (s k : ℕ) (c : Hand V) → k < number_count m.layout → k < length homes
+        → Goes None (step.Hold k) m (if item_word m k == 0 then happened (with_item m k 1) (Hold s k) else happened m (Busy s k)) p (item_word m k) brs homes c
+    goes_hold s k c number low = go (item_word m k == 0) refl
+      where
+        go : (b : Bool) → (item_word m k == 0) ≡ b
+            → Goes None (step.Hold k) m (if b then happened (with_item m k 1) (Hold s k) else happened m (Busy s k)) p (item_word m k) brs homes c
+        go true e =
+            let home : keeper m.history k ≡ Home = home_from_clear m sound k number (eqb-true (item_word m k) 0 e) in record {
+              act = takes k None;
+              valid = sh.free k low home;
+              brs' = brs;
+              more = prefix_self brs;
+              shelves =
+                  subst (λ (z : List ℕ × List ℕ). Fits None (Carries m.layout.items) (keeper (m.history ++ Hold s k ∷ [])) (taken_times m.walked m.batch) (length z.0) z.1 brs
+                  (set homes k none)) (λ i. (sym (begun_same m.history (Hold s k) refl) i, sym (accepted_push_none m.history (Hold s k) refl) i))
+                  (fits_taken None (Carries m.layout.items) (keeper m.history) (keeper (m.history ++ Hold s k ∷ [])) (taken_times m.walked m.batch) (taken_times m.walked m.batch)
+                  (length (begun m.history)) (length (begun m.history)) (accepted m.history) brs homes sh k
+                  (λ j other is. away_other m.history (Hold s k) k (Sender s) _ _ (gives_hold s k) j other refl is)
+                  (gone m.history (Hold s k) k (Sender s) (gives_hold s k) (λ e. cc))
+                  (λ place j late stands away. (home_apart k home place j late stands, away)) (omega arith));
+              moved = λ some_slot. (refl, sym (ap (λ (q : Bool). if q then (k, None) ∷ c else c) e));
+              rests = λ none_there. absurd (omega (arith, low, none_there));
+            }
+        go false e = record {
+          act = keeps;
+          valid = tt;
+          brs' = brs;
+          more = prefix_self brs;
+          shelves = quiet m (Busy s k) refl refl (λ j x is. is) (λ j x is. is) brs homes sh;
+          moved = λ some_slot. (refl, sym (ap (λ (q : Bool). if q then (k, None) ∷ c else c) e));
+          rests = λ none_there. refl;
+        }
+
+    -- the slot in front of the hand is that of k, with y in it
+    pub goes_push : (k : ℕ) (y : Option V) (c : Hand V) → Carries m.layout.items k y → Holds m.history p.seat k → k < length homes
+        → Goes None (step.Push k) m (if head m == seen_word m p.seat then happened (with_private (with_head m (k + 1)) p.seat nothing_seen) (Push p.seat k) else with_private m p.seat nothing_seen)
+        p (head m) brs homes ((k, y) ∷ c)
+    goes_push k y c fit holds low = go (head m == seen_word m p.seat) refl
+      where
+        go : (b : Bool) → (head m == seen_word m p.seat) ≡ b
+            → Goes None (step.Push k) m (if b then happened (with_private (with_head m (k + 1)) p.seat nothing_seen) (Push p.seat k) else with_private m p.seat nothing_seen)
+            p (head m) brs homes ((k, y) ∷ c)
+        go true e = record {
+          act = gives;
+          valid = tt;
+          brs' = brs ++ y ∷ [];
+          more = (y ∷ [], refl);
+          shelves =
+              subst (λ (z : List ℕ × List ℕ). Fits None (Carries m.layout.items) (keeper (m.history ++ Push p.seat k ∷ [])) (taken_times m.walked m.batch) (length z.0) z.1 (brs ++ y ∷ [])
+              (set homes k (some y)))
+              (λ i. (sym (begun_same m.history (Push p.seat k) refl) i, sym (filter_map_push_some accepted_by m.history (Push p.seat k) k refl) i))
+              (fits_brought None (Carries m.layout.items) (keeper m.history) (keeper (m.history ++ Push p.seat k ∷ [])) (taken_times m.walked m.batch) (taken_times m.walked m.batch)
+              (length (begun m.history)) (length (begun m.history)) (accepted m.history) brs homes sh k y
+              (away_gone m.history (Push p.seat k) k Listed (taken_times m.walked m.batch) (taken_times m.walked m.batch) (gives_push p.seat k) (λ x. x)
+              (held_none_out m sound p.seat k (sender_from_holds m sound p.seat k holds)) (λ j other. refl))
+              (λ some_slot. fit)
+              (gone m.history (Push p.seat k) k Listed (gives_push p.seat k) (λ e. cc))
+              (λ place j late stands away. (held_apart p.seat k holds place j late stands, away)) (omega arith));
+          moved = λ some_slot. rw e (refl, refl);
+          rests = λ none_there. absurd (omega (arith, low, none_there));
+        }
+        go false e = record { act = keeps; valid = tt; brs' = brs; more = prefix_self brs; shelves = sh; moved = λ some_slot. rw e (refl, refl); rests = λ none_there. refl }
+
+    -- an emptied slot is given back
+    pub goes_back : (s k word : ℕ) (why : Why) (words : List ℕ) (seats : List _) (c : Hand V) → Holds m.history s k → k < length homes
+        → Goes None (step.Back k why) m (happened (record m { words = words; seats = seats }) (Back s k why)) p word brs homes ((k, None) ∷ c)
+    goes_back s k word why words seats c holds low = record {
+      act = gives;
+      valid = tt;
+      brs' = brs;
+      more = prefix_self brs;
+      shelves =
+          subst (λ (z : List ℕ × List ℕ). Fits None (Carries m.layout.items) (keeper (m.history ++ Back s k why ∷ [])) (taken_times m.walked m.batch) (length z.0) z.1 brs
+          (set homes k (some None))) (λ i. (sym (begun_same m.history (Back s k why) refl) i, sym (accepted_push_none m.history (Back s k why) refl) i))
+          (fits_emptied None (Carries m.layout.items) (keeper m.history) (keeper (m.history ++ Back s k why ∷ [])) (taken_times m.walked m.batch) (taken_times m.walked m.batch)
+          (length (begun m.history)) (length (begun m.history)) (accepted m.history) brs homes sh k
+          (away_gone m.history (Back s k why) k Home (taken_times m.walked m.batch) (taken_times m.walked m.batch) (gives_back s k why) (λ x. x)
+          (held_none_out m sound s k (sender_from_holds m sound s k holds)) (λ j other. refl))
+          (came m.history (Back s k why) k Home (gives_back s k why))
+          (λ place j late stands away. (held_apart s k holds place j late stands, away)) (omega arith));
+      moved = λ some_slot. (refl, refl);
+      rests = λ none_there. absurd (omega (arith, low, none_there));
+    }
+
+    -- an emptied slot is given back as its number begins
+    pub goes_begin : (k word : ℕ) (ks : List ℕ) (c : Hand V) → m.cursor ≡ None → m.batch ≡ k ∷ ks → k < length homes
+        → Goes None step.Begin m (after_begin m m.batch) p word brs homes ((k, None) ∷ c)
+    goes_begin k word ks c still first low =
+        let at : slice_get (accepted m.history) (length (begun m.history)) ≡ Some k = (first_of_batch m sound k ks still first).1 in
+        let b : ℕ = length (begun m.history) in
+        let count : length (begun (m.history ++ Begin k ∷ [])) ≡ b + 1 =
+        ap length (filter_map_push_some begun_by m.history (Begin k) k refl) ∙ length_push (begun m.history) k in
+        let was : Fits None (Carries m.layout.items) (keeper m.history) (taken_times m.walked (k ∷ ks)) b (accepted m.history) brs homes =
+        subst (λ (z : List ℕ). Fits None (Carries m.layout.items) (keeper m.history) (taken_times m.walked z) b (accepted m.history) brs homes) first sh in
+        subst (λ (z : List ℕ). Goes None step.Begin m (after_begin m z) p word brs homes ((k, None) ∷ c)) (sym first) record {
+          act = gives;
+          valid = tt;
+          brs' = brs;
+          more = prefix_self brs;
+          shelves =
+              subst (λ (z : ℕ × List ℕ). Fits None (Carries m.layout.items) (keeper (m.history ++ Begin k ∷ [])) (taken_times m.walked ks) z.0 z.1 brs (set homes k (some None)))
+              (λ i. (sym count i, sym (accepted_push_none m.history (Begin k) refl) i))
+              (fits_emptied None (Carries m.layout.items) (keeper m.history) (keeper (m.history ++ Begin k ∷ [])) (taken_times m.walked (k ∷ ks)) (taken_times m.walked ks)
+              b (b + 1) (accepted m.history) brs homes was k
+              (away_gone m.history (Begin k) k Home (taken_times m.walked (k ∷ ks)) (taken_times m.walked ks) (gives_begin k) (λ x. x)
+              (omega (arith, batch_once m sound k ks first, ap (times k) (sound.chains.rested still)))
+              (λ j other. omega (arith, times-cons j k ks, ap {B = ℕ} (λ (q : Bool). cond q 1 0) (ne_eqb k j (λ same. other (sym same))))))
+              (came m.history (Begin k) k Home (gives_begin k))
+              (λ place j late stands away.
+              let other : j ≢ k = λ same. waiting_once m.layout m.history sound.legal k b place (omega arith) (omega (arith, late)) at (stands ∙ ap Some same) in
+              (other, omega (arith, away, times-cons j k ks, ap {B = ℕ} (λ (q : Bool). cond q 1 0) (ne_eqb k j (λ same. other (sym same)))))) (omega arith));
+          moved = λ some_slot. (refl, refl);
+          rests = λ none_there. absurd (omega (arith, low, none_there));
+        }
+
+    -- the slot of the number that the owner walks is taken, with what the number brought
+    pub goes_walk : (k word : ℕ) (walked batch : List ℕ) (c : Hand V) → m.cursor ≡ Some k → p.stage ≡ Owns (Some k) walked batch → k < length homes
+        → Goes None step.Walk m (after_walk m m.cursor) p word brs homes c
+    goes_walk k word walked batch c on stage low =
+        let waits = cursor_waits m sound k on in
+        let place = waiting_place m.layout m.history sound.legal k (keeper m.history k) refl waits.0 in
+        let at = slice_get-some brs place.0 (omega (arith, sh.as_many, slice_get_within (accepted m.history) place.0 k place.2)) in
+        let y : Option V = at.0 in
+        let home : (j : ℕ) → keeper m.history j ≡ Home → (j ≢ k) × (keeper m.history j ≡ Home) =
+        λ j is. ((λ same. queue_home (keeper m.history k) waits.0 (ap (keeper m.history) (sym same) ∙ is)), is) in
+        let not_here : (j : ℕ) → j ≢ k → ◌≡◌ {A = ℕ} (cond (k == j) 1 0) 0 = λ j other. ap {B = ℕ} (λ (q : Bool). cond q 1 0) (ne_eqb k j (λ same. other (sym same))) in
+        let lies : get_elem? homes k ≡ some (some y) = sh.waits place.0 k y low place.1 place.2 waits.1 at.1 in
+        let tells : Walks p.stage m brs c brs ((k, y) ∷ c) =
+        subst (λ st. Walks st m brs c brs ((k, y) ∷ c)) (sym stage)
+        (refl, y, refl, record { place = place.0; later = place.1; stands = place.2; has = at.1; kind = sh.right place.0 k y (omega (arith, low)) place.2 at.1 }) in
+        let go : (b : Bool)
+        → Goes None step.Walk m (if b then record m { cursor = None; walked = []; batch = m.batch ++ k ∷ m.walked } else record m { cursor = number_at (link m k); walked = k ∷ m.walked })
+        p word brs homes c = elim [
+          | true ↦ record {
+            act = takes k y;
+            valid = lies;
+            brs' = brs;
+            more = prefix_self brs;
+            shelves =
+                fits_taken None (Carries m.layout.items) (keeper m.history) (keeper m.history) (taken_times m.walked m.batch) (taken_times [] (m.batch ++ k ∷ m.walked))
+                (length (begun m.history)) (length (begun m.history)) (accepted m.history) brs homes sh k
+                (λ j other is. subst (IsAway (keeper m.history j)) (omega (arith, times-append j m.batch (k ∷ m.walked), times-cons j k m.walked, not_here j other)) is) home
+                (λ i j late stands away. (
+                  not_counted j k (k == j) refl (omega (arith, away, times-append j m.batch (k ∷ m.walked), times-cons j k m.walked)),
+                  omega (arith, away, times-append j m.batch (k ∷ m.walked), times-cons j k m.walked),
+                )) (omega arith);
+            moved = λ some_slot. tells;
+            rests = λ none_there. absurd (omega (arith, low, none_there));
+          }
+          | false ↦ record {
+            act = takes k y;
+            valid = lies;
+            brs' = brs;
+            more = prefix_self brs;
+            shelves =
+                fits_taken None (Carries m.layout.items) (keeper m.history) (keeper m.history) (taken_times m.walked m.batch) (taken_times (k ∷ m.walked) m.batch)
+                (length (begun m.history)) (length (begun m.history)) (accepted m.history) brs homes sh k
+                (λ j other is. subst (IsAway (keeper m.history j)) (omega (arith, times-cons j k m.walked, not_here j other)) is) home
+                (λ i j late stands away. (
+                  not_counted j k (k == j) refl (omega (arith, away, times-cons j k m.walked)),
+                  omega (arith, away, times-cons j k m.walked),
+                )) (omega arith);
+            moved = λ some_slot. tells;
+            rests = λ none_there. absurd (omega (arith, low, none_there));
+          }
+        ] in
+        subst (λ (z : Option ℕ). Goes None step.Walk m (after_walk m z) p word brs homes c) (sym on) (go (link m k == 0))
+
+    -- all was walked: the owner only looks at the link of the first of its batch
+    pub goes_walk_none : (word : ℕ) (walked batch : List ℕ) (c : Hand V) → m.cursor ≡ None → p.stage ≡ Owns None walked batch
+        → Goes None step.Walk m (after_walk m m.cursor) p word brs homes c
+    goes_walk_none word walked batch c none_left stage =
+        subst (λ (z : Option ℕ). Goes None step.Walk m (after_walk m z) p word brs homes c) (sym none_left) record {
+          act = keeps;
+          valid = tt;
+          brs' = brs;
+          more = prefix_self brs;
+          shelves = sh;
+          moved = λ some_slot. subst (λ st. Walks st m brs c brs c) (sym stage) (refl, refl);
+          rests = λ none_there. refl;
+        }
+
+    -- the slot of a chained item is taken, with nothing in it, and it is accepted with what is to be put there
+    pub goes_chain : (k : ℕ) (x : Option V) (c : Hand V) → Carries m.layout.items k x → k < number_count m.layout → k < length homes
+        → Goes x (step.Chain k) m (if item_word m k == 0 then happened (record (with_item m k 1) { batch = m.batch ++ k ∷ [] }) (Chain k) else happened m (ChainBusy k))
+        p (item_word m k) brs homes c
+    goes_chain k x c fit number low = go (item_word m k == 0) refl
+      where
+        go : (b : Bool) → (item_word m k == 0) ≡ b
+            → Goes x (step.Chain k) m (if b then happened (record (with_item m k 1) { batch = m.batch ++ k ∷ [] }) (Chain k) else happened m (ChainBusy k))
+            p (item_word m k) brs homes c
+        go true e =
+            let home : keeper m.history k ≡ Home = home_from_clear m sound k number (eqb-true (item_word m k) 0 e) in
+            let count : (j : ℕ) → times j (m.batch ++ k ∷ []) ≡ times j m.batch + cond (k == j) 1 0 =
+            λ j. omega (arith, times-append j m.batch (k ∷ []), times-cons j k []) in record {
+              act = takes k None;
+              valid = sh.free k low home;
+              brs' = brs ++ x ∷ [];
+              more = (x ∷ [], refl);
+              shelves =
+                  subst (λ (z : List ℕ × List ℕ). Fits None (Carries m.layout.items) (keeper (m.history ++ Chain k ∷ [])) (taken_times m.walked (m.batch ++ k ∷ [])) (length z.0) z.1
+                  (brs ++ x ∷ []) (set homes k none))
+                  (λ i. (sym (begun_same m.history (Chain k) refl) i, sym (filter_map_push_some accepted_by m.history (Chain k) k refl) i))
+                  (fits_chained None (Carries m.layout.items) (keeper m.history) (keeper (m.history ++ Chain k ∷ [])) (taken_times m.walked m.batch)
+                  (taken_times m.walked (m.batch ++ k ∷ [])) (length (begun m.history)) (length (begun m.history)) (accepted m.history) brs homes sh k x
+                  (λ j other is. away_other m.history (Chain k) k Owner _ _ (gives_chain k) j other
+                  (omega (arith, count j, ap {B = ℕ} (λ (q : Bool). cond q 1 0) (ne_eqb k j (λ same. other (sym same))))) is)
+                  (λ some_slot. fit)
+                  (gone m.history (Chain k) k Owner (gives_chain k) (λ e. cc))
+                  (λ place j late stands away. (home_apart k home place j late stands, omega (arith, away, count j)))
+                  (λ zero. absurd (omega (arith, zero, count k, ap {B = ℕ} (λ (q : Bool). cond q 1 0) (eq-eqb k k refl)))) (omega arith));
+              moved = λ some_slot. rw e (refl, refl);
+              rests = λ none_there. absurd (omega (arith, low, none_there));
+            }
+        go false e = record {
+          act = keeps;
+          valid = tt;
+          brs' = brs;
+          more = prefix_self brs;
+          shelves = quiet m (ChainBusy k) refl refl (λ j x is. is) (λ j x is. is) brs homes sh;
+          moved = λ some_slot. rw e (refl, refl);
+          rests = λ none_there. refl;
+        }

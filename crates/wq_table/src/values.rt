@@ -1,0 +1,85 @@
+//! The same table where items bring values: its rule, and what each step tells the seat that makes it.
+use super::table::{Both, Kind, Law, Makes, Meets, Off, Part, Place, Stores};
+use atomic_table::{Join, Play, Seat, Split, Table, TableRule};
+use std::alloc::Global;
+use std::marker::{Brand, PhantomData};
+use trail::GhostList;
+use wq_words::Layout;
+
+/// What a seat of a queue knows whose items bring values: its part, and what each accepted number of the history that it
+/// has seen brought, in their order. No value of it is made.
+pub struct ValuePart<V> {
+    pub part: Part,
+    pub brought: GhostList<Option<V>>,
+}
+
+impl<V> TableRule<Option<V>, GhostList<ValuePart<V>>, Layout> for Law {
+    ghost use Rattle.wq_table.specs.Slots.{KeptValues, opening_values};
+
+    ghost holds = { KeptValues };
+
+    ghost first = { opening_values };
+}
+
+pub(crate) type ValueWords<V> = Table<Option<V>, GhostList<ValuePart<V>>, Layout, Law, Global>;
+
+pub(crate) type ValueSeat<V> = Seat<Option<V>, GhostList<ValuePart<V>>>;
+
+// What a chained item is to have, for the proof alone. A call at `Brand` picks it from what it is given.
+pub(crate) trait Says<V> {
+    ghost use Rattle.std.specs.Prelude.{Option};
+
+    ghost said: { Option V };
+}
+
+impl<V> Says<V> for Brand {
+    ghost use Rattle.std.specs.Prelude.{None};
+
+    ghost said = { None };
+}
+
+impl<V, K: Kind, P: Place> Play<Option<V>, GhostList<ValuePart<V>>> for Makes<K, P> {
+    ghost use Rattle.std.specs.Prelude.{None};
+    ghost use Rattle.wq_table.specs.SlotSteps.{tells_values};
+
+    ghost then = { tells_values P.at None K.step };
+}
+
+impl<V, K: Kind, P: Place> Play<Option<V>, GhostList<ValuePart<V>>> for Stores<K, P> {
+    ghost use Rattle.wq_table.specs.SlotSteps.{stores_values};
+
+    ghost then = { stores_values P.at K.step };
+}
+
+// The part at the place makes the step of this kind, by which what is said is brought.
+pub(crate) struct Brings<K, P, G> {
+    of: PhantomData<(K, P, G)>,
+}
+
+impl<V, K: Kind, P: Place, G: Says<V>> Play<Option<V>, GhostList<ValuePart<V>>> for Brings<K, P, G> {
+    ghost use Rattle.wq_table.specs.SlotSteps.{tells_values};
+
+    ghost then = { tells_values P.at G.said K.step };
+}
+
+impl<V> Play<Option<V>, GhostList<ValuePart<V>>> for Meets {
+    ghost use Rattle.wq_table.specs.SlotSteps.{meets_values};
+
+    ghost then = { meets_values };
+}
+
+impl<V> Split<GhostList<ValuePart<V>>> for Off {
+    ghost use Rattle.wq_table.specs.Slots.{front_values, rest_values};
+
+    ghost left = { rest_values };
+
+    ghost right = { front_values };
+}
+
+impl<V> Join<GhostList<ValuePart<V>>> for Both {
+    ghost use Rattle.std.specs.Prelude.{[], ◌++◌};
+
+    ghost both = { λ v w. w ++ v };
+
+    ghost spent = { [] };
+}
