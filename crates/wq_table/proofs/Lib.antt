@@ -12,3 +12,5 @@ pub mod Moves
 pub mod ValueRule
 pub mod ByKind
 pub mod Bare
+pub mod Opened
+pub mod Meetings

@@ -70,7 +70,7 @@ abbrev pub AllSeen : List Event → View → Type 0
 AllSeen h [] = Unit {0}
 AllSeen h (p ∷ ps) = (p.seen ≡ h) × AllSeen h ps
 
-seeing_seen : (h : List Event) (v : View) → AllSeen h (all_see h v)
+pub seeing_seen : (h : List Event) (v : View) → AllSeen h (all_see h v)
 seeing_seen h [] = tt
 seeing_seen h (p ∷ ps) = (refl, seeing_seen h ps)
 

@@ -3,7 +3,7 @@ use Rattle.std.proofs.Common.{◌≡◌, ℕ, zero, suc, ◌+◌, ◌-◌, ◌<�
 use mathlib.Core.Option.{some, none, some-injective, some-ne-none}
 use lib.ListN.{get_elem?}
 use lib.Seq.{set-get_or}
-use Rattle.atomic_table.specs.Table.{step, keeps, Allows, Splits, Joins, opening}
+use Rattle.atomic_table.specs.Table.{State, step, keeps, Allows, Splits, Joins, opening}
 use Rattle.atomic_table.proofs.Lists.{at_set, set_else}
 use Rattle.wq_words.specs.declared.layout.Layout.{Layout}
 use Rattle.wq_words.specs.Numbers.{number_count}
@@ -88,6 +88,13 @@ offs l id (p ∷ ps) s r at =
       longest = cut_longest s.views id p ps at m.history r.longest.0 r.longest.1;
     }
 
+-- the machine is the same
+pub offs_machine : (l : Layout) (id : ℕ) (v : View) (s : State (Unit {0}) View) (r : Kept l s) (at : get_elem? s.views id ≡ some v)
+    → (offs l id v s r at).machine ≡ r.machine
+unfolding offs
+offs_machine l id [] s r at = refl
+offs_machine l id (p ∷ ps) s r at = refl
+
 pub boths : (l : Layout) (id : ℕ) (v : View) (other : ℕ) (w : View) → Joins (Kept l) id v other w (w ++ v) []
 boths l id v other w s r at apart there =
     let m = r.machine in let who' : ℕ → ℕ = λ d. cond (eqb (r.who d) other) id (r.who d) in
@@ -114,6 +121,11 @@ boths l id v other w s r at apart there =
       );
     }
 
+pub boths_machine : (l : Layout) (id : ℕ) (v : View) (other : ℕ) (w : View) (s : State (Unit {0}) View) (r : Kept l s) (at : get_elem? s.views id ≡ some v)
+    (apart : ¬ (other ≡ id)) (there : get_elem? (set s.views id (w ++ v)) other ≡ some w) → (boths l id v other w s r at apart there).machine ≡ r.machine
+unfolding boths
+boths_machine l id v other w s r at apart there = refl
+
 module _ (m : Machine) where
   pub apart_all : (c : ℕ) (v : View) → Apart c v → Apart c (all_see m.history v)
   apart_all c [] a = tt
@@ -129,28 +141,37 @@ module _ (m : Machine) where
     fit_all who i ps all.3,
   )
 
-  all_of : (who : ℕ → ℕ) (i : ℕ) (v : View) → ArePartsAt m who i v → AllOf m v
+  pub all_of : (who : ℕ → ℕ) (i : ℕ) (v : View) → ArePartsAt m who i v → AllOf m v
   all_of who i [] all = tt
   all_of who i (p ∷ ps) all = (all.0, all_of who i ps all.3)
 
-pub meets_goes : (l : Layout) (slots id i : ℕ) (me : Sat) → Allows (Kept l) slots id me i (λ n. n) (meets (step slots i 0 0 none) me)
-meets_goes l slots id i me s r _ at _ = let m = r.machine in let all = r.seats id me.0 at in let seen : View = all_see m.history me.0 in (
-  seen,
-  keeps,
-  tt,
+-- what a meeting leaves, with its machine
+pub kept_meeting : (l : Layout) (id i : ℕ) (v : View) (s : State (Unit {0}) View) (r : Kept l s) → get_elem? s.views id ≡ some v
+    → (k : Kept l (record { words = set s.words i (get_or s.words i 0); homes = s.homes; views = set s.views id (all_see r.machine.history v) }))
+    × (k.machine ≡ r.machine)
+kept_meeting l id i v s r at = let m = r.machine in let all = r.seats id v at in let seen : View = all_see m.history v in (
   record {
     machine = m;
     who = r.who;
     sound = r.sound;
     layout_is = r.layout_is;
     words_are = set-get_or s.words i 0 ∙ r.words_are;
-    seats = λ j v there. ⊎_elim
-        (λ (t : (j ≡ id) × (seen ≡ v)). subst (λ (x : ℕ × View). ArePartsAt m r.who x.0 x.1) (λ i. (sym t.0 i, t.1 i)) (fit_all m r.who id me.0 all))
-        (λ (t : (j ≢ id) × (get_elem? s.views j ≡ some v)). r.seats j v t.1) (at_set s.views id j seen v there);
-    present = λ c seat. stands_put s.views (HasPartOf c) id me.0 seen (r.who c) at (seat_meets c m.history me.0) (r.present c seat);
-    longest = (r.longest.0, stands_put s.views (HasSeenAll m.history) id me.0 seen r.longest.0 at (seen_meets m.history me.0) r.longest.1);
+    seats = λ j w there. ⊎_elim
+        (λ (t : (j ≡ id) × (seen ≡ w)). subst (λ (x : ℕ × View). ArePartsAt m r.who x.0 x.1) (λ i. (sym t.0 i, t.1 i)) (fit_all m r.who id v all))
+        (λ (t : (j ≢ id) × (get_elem? s.views j ≡ some w)). r.seats j w t.1) (at_set s.views id j seen w there);
+    present = λ c seat. stands_put s.views (HasPartOf c) id v seen (r.who c) at (seat_meets c m.history v) (r.present c seat);
+    longest = (r.longest.0, stands_put s.views (HasSeenAll m.history) id v seen r.longest.0 at (seen_meets m.history v) r.longest.1);
   },
-  record { machine = m; sound = r.sound; all = all_of m r.who id me.0 all; is = refl; slots = refl },
+  refl,
+)
+
+pub meets_goes : (l : Layout) (slots id i : ℕ) (me : Sat) → Allows (Kept l) slots id me i (λ n. n) (meets (step slots i 0 0 none) me)
+meets_goes l slots id i me s r _ at _ = (
+  all_see r.machine.history me.0,
+  keeps,
+  tt,
+  (kept_meeting l id i me.0 s r at).0,
+  record { machine = r.machine; sound = r.sound; all = all_of r.machine r.who id me.0 (r.seats id me.0 at); is = refl; slots = refl },
 )
 
 row_apart : (l : Layout) (c a m : ℕ) → c < a → a + m ≤ owner_seat → Apart c (row l a m)
@@ -202,6 +223,11 @@ opens l ws is = record {
   present = present_open l;
   longest = (0, longest_open l);
 }
+
+-- and its machine is the opening one
+pub opens_machine : (l : Layout) (ws : List ℕ) (is : ws ≡ replicate (word_count (number_count l)) 0) → (opens l ws is).machine ≡ opening_machine l
+unfolding opens
+opens_machine l ws is = refl
 
 -- what is cut off a row, and what is left of it
 pub row_more : (l : Layout) (a n : ℕ) → a < n → row l a (n - a) ≡ sender_part l a ∷ row l (a + 1) (n - (a + 1))

@@ -1,0 +1,95 @@
+-- How the rule begins, and how a view is cut.
+use Rattle.std.proofs.Common.{◌≡◌, ◌≢◌, ℕ, zero, suc, ◌+◌, ◌<◌, ◌≤◌, List, [], ◌∷◌, ◌++◌, length, map, get_or, set, replicate, Option, Some, None, sym, refl, ap, ◌∙◌, subst, ⊎_elim, arith, length-set}
+use Rattle.std.proofs.lemmas.List.{map-append}
+use mathlib.Core.Option.{some, none, some-injective, some-ne-none}
+use lib.ListN.{get_elem?}
+use Rattle.atomic_table.specs.Table.{State, Splits, opening}
+use Rattle.atomic_table.proofs.Lists.{at_set, at_map}
+use Rattle.wq_words.specs.declared.layout.Layout.{Layout}
+use Rattle.wq_words.specs.Numbers.{number_count}
+use Rattle.wq_words.specs.History.{accepted}
+use Rattle.wq_words.proofs.Growing.{at_end}
+use Rattle.wq_words.proofs.Prefixes.{prefix_self}
+use Rattle.wq_core.specs.Words.{word_count}
+use Rattle.wq_core.specs.Machine.{Machine}
+use Rattle.wq_core.specs.Machine as machine
+use Rattle.wq_table.specs.declared.table.Part.{Part}
+use Rattle.wq_table.specs.Law.{View, Kept, row, opening_view, front_of, rest_of}
+use Rattle.wq_table.proofs.Views.{opens, opens_machine, offs, offs_machine}
+use Rattle.wq_table.specs.declared.values.ValuePart.{ValuePart}
+use Rattle.wq_table.specs.Slots.{Shelves, ValueView, plain_view, plain, AllKnow, KeptValues, telling, opening_values, front_values, rest_values}
+use Rattle.wq_table.proofs.ValueRule.{map_set, plain_telling}
+
+new_know : (V : Type 0) (l : Layout) (a m : ℕ) → AllKnow {V = V} [] (map (telling []) (row l a m))
+new_know V l a zero = (record { begins = prefix_self []; as_many = refl }, tt)
+new_know V l a (suc m) = (record { begins = prefix_self []; as_many = refl }, new_know V l (a + 1) m)
+
+-- so many empty slots
+abbrev nones : (V : Type 0) → ℕ → List (Option V)
+nones V n = replicate n None
+
+none_there : (V : Type 0) (n k : ℕ) → k < length (map some (nones V n)) → get_elem? (map some (nones V n)) k ≡ some (some None)
+none_there V zero k low = absurd (omega arith)
+none_there V (suc n) zero low = refl
+none_there V (suc n) (suc k) low = none_there V n k (omega arith)
+
+module _ {V : Type 0} where
+  at_start : (l : Layout) (i : ℕ) (v : ValueView V) → get_elem? (opening_values l ∷ []) i ≡ some v → AllKnow [] v
+  at_start l zero v at = subst (AllKnow []) (some-injective (opening_values l) v at) (new_know V l 0 l.senders)
+  at_start l (suc i) v at = absurd (some-ne-none v (sym at))
+
+  pub opens_slots : (l : Layout) (ws : List ℕ) (n : ℕ) → ws ≡ replicate (word_count (number_count l)) 0
+      → KeptValues {V = V} l (opening ws (nones V n) (opening_values l))
+  opens_slots l ws n is =
+      let whole : (k : Kept l (plain (opening ws (nones V n) (opening_values l)))) × (k.machine ≡ machine.opening l) =
+      subst (λ (v : View). (k : Kept l (record { words = ws; homes = []; views = v ∷ [] })) × (k.machine ≡ machine.opening l))
+      (sym (plain_telling {V = V} [] (opening_view l))) (opens l ws is, opens_machine l ws is) in record {
+        base = whole.0;
+        brought = [];
+        shelves = subst (λ (m : Machine). Shelves m [] (map some (nones V n))) (sym whole.1) record {
+          as_many = refl;
+          free = λ k low home. none_there V n k low;
+          waits = λ place k y low late stands away has. absurd cc;
+          away = λ k low is. ⊎_elim (λ x. absurd x) (λ n. absurd (omega (arith, n))) is;
+          right = λ place k y some_slot stands has. absurd cc;
+        };
+        told = at_start l;
+      }
+
+  plain_front : (v : ValueView V) → plain_view (front_values v) ≡ front_of (plain_view v)
+  plain_front [] = refl
+  plain_front (t ∷ ts) = refl
+
+  plain_rest : (v : ValueView V) → plain_view (rest_values v) ≡ rest_of (plain_view v)
+  plain_rest [] = refl
+  plain_rest (t ∷ ts) = refl
+
+  front_knows : (brs : List (Option V)) (v : ValueView V) → AllKnow brs v → AllKnow brs (front_values v)
+  front_knows brs [] all = tt
+  front_knows brs (t ∷ ts) all = (all.0, tt)
+
+  rest_knows : (brs : List (Option V)) (v : ValueView V) → AllKnow brs v → AllKnow brs (rest_values v)
+  rest_knows brs [] all = tt
+  rest_knows brs (t ∷ ts) all = all.1
+
+  pub offs_slots : (l : Layout) (id : ℕ) (v : ValueView V) → Splits (KeptValues l) id v (rest_values v) (front_values v)
+  offs_slots l id v s r at =
+      let pv : View = plain_view v in
+      let plain_at : get_elem? (map plain_view s.views) id ≡ some pv = at_map plain_view s.views id v at in
+      let cut = offs l id pv (plain s) r.base plain_at in
+      let same : (map plain_view (set s.views id (rest_values v) ++ front_values v ∷ [])) ≡ set (map plain_view s.views) id (rest_of pv) ++ front_of pv ∷ [] =
+      map-append plain_view (set s.views id (rest_values v)) (front_values v ∷ []) ∙
+      (λ i. (map_set plain_view s.views id (rest_values v) ∙ ap (set (map plain_view s.views) id) (plain_rest v)) i ++ plain_front v i ∷ []) in
+      let whole : (k : Kept l (plain (record { words = s.words; homes = s.homes; views = set s.views id (rest_values v) ++ front_values v ∷ [] }))) × (k.machine ≡ r.base.machine) =
+      subst (λ (vs : List View). (k : Kept l (record { words = s.words; homes = []; views = vs })) × (k.machine ≡ r.base.machine)) (sym same)
+      (cut, offs_machine l id pv (plain s) r.base plain_at) in record {
+        base = whole.0;
+        brought = r.brought;
+        shelves = subst (λ (m : Machine). Shelves m r.brought s.homes) (sym whole.1) r.shelves;
+        told = λ j w there. ⊎_elim
+            (λ (t : get_elem? (set s.views id (rest_values v)) j ≡ some w). ⊎_elim
+            (λ (u : (j ≡ id) × (rest_values v ≡ w)). subst (AllKnow r.brought) u.1 (rest_knows r.brought v (r.told id v at)))
+            (λ (u : (j ≢ id) × (get_elem? s.views j ≡ some w)). r.told j w u.1) (at_set s.views id j (rest_values v) w t))
+            (λ (t : (j ≡ length (set s.views id (rest_values v))) × (front_values v ≡ w)). subst (AllKnow r.brought) t.1 (front_knows r.brought v (r.told id v at)))
+            (at_end (set s.views id (rest_values v)) (front_values v) w j there);
+      }
