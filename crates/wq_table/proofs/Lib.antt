@@ -14,3 +14,4 @@ pub mod ByKind
 pub mod Bare
 pub mod Opened
 pub mod Meetings
+pub mod SlotTold

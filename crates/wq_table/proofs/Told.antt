@@ -40,17 +40,17 @@ pub parts_in : (s : Inside) (it : Standing) (me : Sat) → Sits s → standing s
 parts_in s it me sits is out = ap first_view (sym out ∙ sits.one_view) ∙ ap (λ (t : Standing). t.part ∷ t.others) is
 
 module _ (l : Layout) where
-  chosen_sized : (n : ℕ) (p : Part) (ps : View) → AreSized l (p ∷ ps) → (chosen n p ps).layout ≡ l
+  pub chosen_sized : (n : ℕ) (p : Part) (ps : View) → AreSized l (p ∷ ps) → (chosen n p ps).layout ≡ l
   chosen_sized zero p ps sized = sized.0
   chosen_sized (suc n) p [] sized = sized.0
   chosen_sized (suc n) p (r ∷ rs) sized = chosen_sized n r rs sized.1
 
-  besides_sized : (n : ℕ) (p : Part) (ps : View) → AreSized l (p ∷ ps) → AreSized l (besides n p ps)
+  pub besides_sized : (n : ℕ) (p : Part) (ps : View) → AreSized l (p ∷ ps) → AreSized l (besides n p ps)
   besides_sized zero p ps sized = sized.1
   besides_sized (suc n) p [] sized = tt
   besides_sized (suc n) p (r ∷ rs) sized = (sized.0, besides_sized n r rs sized.1)
 
-  all_sized : (n : ℕ) (p : Part) (ps : View) → (chosen n p ps).layout ≡ l → AreSized l (besides n p ps) → AreSized l (p ∷ ps)
+  pub all_sized : (n : ℕ) (p : Part) (ps : View) → (chosen n p ps).layout ≡ l → AreSized l (besides n p ps) → AreSized l (p ∷ ps)
   all_sized zero p ps one rest = (one, rest)
   all_sized (suc n) p [] one rest = (one, tt)
   all_sized (suc n) p (r ∷ rs) one rest = (rest.0, all_sized n r rs one rest.1)
@@ -60,7 +60,7 @@ module _ (l : Layout) where
   sized_seeing h (p ∷ ps) sized = (sized.0, sized_seeing h ps sized.1)
 
 -- a chair alone is alone after its step too
-still_alone : (h : List Event) (n : ℕ) (p : Part) (ps : View) (q : Part) (qs : View) → besides n q qs ≡ all_see h (besides n p ps) → qs ≢ [] → ps ≢ []
+pub still_alone : (h : List Event) (n : ℕ) (p : Part) (ps : View) (q : Part) (qs : View) → besides n q qs ≡ all_see h (besides n p ps) → qs ≢ [] → ps ≢ []
 still_alone h zero p ps q qs is some none = some (is ∙ ap (all_see h) none)
 still_alone h (suc n) p ps q [] is some none = some refl
 still_alone h (suc n) p [] q (r ∷ rs) is some none = absurd (cc)

@@ -4,8 +4,11 @@
 mod chair;
 mod making;
 mod table;
+mod value_chair;
 mod values;
 
 pub use chair::Chair;
 pub use making::chairs;
 pub use table::{First, Part, Place, Second, Stage};
+pub use value_chair::ValueChair;
+pub use values::ValuePart;

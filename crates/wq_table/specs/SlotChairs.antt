@@ -1,0 +1,87 @@
+-- What a clause sees of a chair whose table may have slots, and what its steps do.
+use Rattle.std.specs.Prelude.{◌≡◌, ◌≢◌, ℕ, ◌<◌, List, [], ◌∷◌, map, length, Option, IfSome, IsSome}
+use Rattle.std.specs.Arc.{arc_value}
+use mathlib.Core.List.{IsPrefix}
+use Rattle.atomic_table.specs.Seated.{TableId}
+use Rattle.atomic_table.specs.Table.{rest, turned}
+use Rattle.wq_words.specs.declared.layout.Layout.{Layout}
+use Rattle.wq_words.specs.Numbers.{number_count}
+use Rattle.wq_words.specs.History.{accepted}
+use Rattle.wq_core.specs.declared.step.Step.{Step}
+use Rattle.wq_core.specs.Words.{word_count}
+use Rattle.wq_table.specs.declared.values.ValuePart.{ValuePart}
+use Rattle.wq_table.specs.declared.value_chair.ValueChair.TheInside.{Inside}
+use Rattle.wq_table.specs.Law.{sender_part}
+use Rattle.wq_table.specs.Chair.{Standing, part_at, Steps}
+use Rattle.wq_table.specs.Sits.{AreSized}
+use Rattle.wq_table.specs.Slots.{ValueView, plain_view, AllKnow, telling, rest_values}
+use Rattle.wq_table.specs.SlotSteps.{Hand, Moves, AllTold}
+
+-- which queue it is of, what each seat that it speaks for knows, and the slots that it has in hand
+pub record ValueStanding (V : Type 0) : Type 0 where
+  pub queue : TableId
+  pub first : ValuePart V
+  pub others : ValueView V
+  pub hand : Hand V
+
+-- the same without values
+abbrev pub standing_of : {V : Type 0} → ValueStanding V → Standing
+standing_of it = record { queue = it.queue; part = it.first.part; others = plain_view it.others }
+
+-- The chair's part at this place makes the step and finds this word, and its other parts see it. Just before it had been brought
+-- what `brought` says, and now all of them know what was brought since.
+pub record ValueSteps {V : Type 0} (at : ℕ) (said : Option V) (step : Step) (word : ℕ) (old new : ValueStanding V) : Type 0 where
+  pub steps : Steps at step word (standing_of old) (standing_of new)
+  pub brought : List (Option V)
+  pub know : AllKnow brought (old.first ∷ old.others)
+  pub as_many : length brought ≡ length (accepted steps.moves.makes.before.history)
+  pub brought' : List (Option V)
+  pub more : IsPrefix brought brought'
+  pub told : AllTold brought' (new.first ∷ new.others)
+  pub moves : 0 < old.queue.slots → Moves said step (part_at at (standing_of old)) steps.moves.makes.before word brought old.hand brought' new.hand
+  pub rests : old.queue.slots ≡ 0 → new.hand ≡ old.hand
+
+-- the slot of k is in front of the hand, with y in it
+abbrev pub HasValue : {V : Type 0} → ℕ → Option V → Hand V → Type 0
+HasValue k y c = c ≡ (k, y) ∷ rest c
+
+abbrev pub HasSlot : {V : Type 0} → ℕ → Hand V → Type 0
+HasSlot {V} k c = (y : Option V) × HasValue k y c
+
+-- what lay in the slot of k, in front of the hand, was exchanged
+pub record Exchanges {V : Type 0} (k : ℕ) (new old : Option V) (a b : ValueStanding V) : Type 0 where
+  pub queue_is : b.queue ≡ a.queue
+  pub first_is : b.first ≡ a.first
+  pub others_are : b.others ≡ a.others
+  pub was : HasValue k old a.hand
+  pub is : b.hand ≡ (k, new) ∷ rest a.hand
+
+-- the slot in front went behind the others
+pub record Turns {V : Type 0} (a b : ValueStanding V) : Type 0 where
+  pub queue_is : b.queue ≡ a.queue
+  pub first_is : b.first ≡ a.first
+  pub others_are : b.others ≡ a.others
+  pub hand_is : b.hand ≡ turned a.hand
+
+abbrev pub first_told : {V : Type 0} → Layout → ValueView V → ValuePart V
+first_told layout [] = telling [] (sender_part layout 0)
+first_told layout (t ∷ ts) = t
+
+abbrev pub value_standing : {V : Type 0} → Inside V → ValueStanding V
+value_standing s = record {
+  queue = s.seat.table_id;
+  first = first_told s.layout s.seat.me.0;
+  others = rest_values s.seat.me.0;
+  hand = s.seat.me.1;
+}
+
+pub record ValueSits {V : Type 0} (s : Inside V) : Type 0 where
+  pub seated : s.seat.table_id ≡ (arc_value s.words).shared.table_id
+  pub wide : (arc_value s.words).shared.table_id.words ≡ word_count (number_count s.layout)
+  -- a slot for each number, or none
+  pub deep : 0 < (arc_value s.words).shared.table_id.slots → (arc_value s.words).shared.table_id.slots ≡ number_count s.layout
+  pub keyed : (arc_value s.words).shared.key ≡ s.layout
+  pub sized : AreSized s.layout (plain_view s.seat.me.0)
+  pub one_view : s.seat.me.0 ≡ first_told s.layout s.seat.me.0 ∷ rest_values s.seat.me.0
+  pub spare_is : IfSome s.spare (λ w. (s.seat.table_id ≡ (arc_value w).shared.table_id) × ((arc_value w).shared.key ≡ s.layout))
+  pub has_spare : rest_values s.seat.me.0 ≢ [] → IsSome s.spare
