@@ -22,6 +22,11 @@ use Rattle.wq_table.specs.declared.table.Part.{Part}
 use Rattle.wq_table.specs.SlotSteps.{Hand, GoesBy}
 use Rattle.wq_table.proofs.Moves.{goes_still, shelves_take, shelves_close, shelves_drain, shelves_resume, shelves_rest, shelves_end, goes_hold, goes_push, goes_back, goes_begin, goes_walk, goes_walk_none, goes_chain}
 
+-- a seat that looked is a sender's
+pub from_seen : (word : ℕ) (stage : Stage) → HasSeen word stage → IsSender stage
+from_seen word (Sends q) is = tt
+from_seen word (Owns cursor walked batch) is = absurd is
+
 module _ {V : Type 0} (c : ℕ) (layout : Layout) (seen : List Event) (words : List ℕ) where
   pub by_hold : (k slots : ℕ) (hand : Hand V) (stage : Stage) → IsSender stage → k < number_count layout → slots ≡ number_count layout
       → GoesBy slots (part c layout seen words stage) None (Hold k) hand
@@ -88,9 +93,9 @@ module _ {V : Type 0} (c : ℕ) (layout : Layout) (seen : List Event) (words : L
       goes_still m (part c layout seen words (Sends q)) brs homes sh (Check k) _ _ hand sh (refl, refl)
   by_check k slots hand (Owns cursor walked batch) sender = absurd sender
 
-  pub by_turn : (k : ℕ) (next : Option ℕ) (slots : ℕ) (hand : Hand V) (stage : Stage) → IsToTurn k stage → GoesBy slots (part c layout seen words stage) None (Turn k next) hand
-  by_turn k next slots hand (Sends q) is = absurd is
-  by_turn k next slots hand (Owns cursor walked batch) is = λ m brs homes sound fits wide sh.
+  pub by_turn : (j k : ℕ) (next : Option ℕ) (slots : ℕ) (hand : Hand V) (stage : Stage) → IsToTurn j stage → GoesBy slots (part c layout seen words stage) None (Turn k next) hand
+  by_turn j k next slots hand (Sends q) is = absurd is
+  by_turn j k next slots hand (Owns cursor walked batch) is = λ m brs homes sound fits wide sh.
       goes_still m (part c layout seen words (Owns cursor walked batch)) brs homes sh (Turn k next) _ _ hand sh (refl, refl)
 
   pub by_walk : (k slots : ℕ) (hand : Hand V) (stage : Stage) → IsToWalk k stage → slots ≡ number_count layout → GoesBy slots (part c layout seen words stage) None Walk hand

@@ -6,7 +6,7 @@ use Rattle.wq_words.specs.declared.layout.Layout.{Layout}
 use Rattle.wq_words.specs.Numbers.{number_count}
 use Rattle.wq_words.specs.History.{accepted}
 use Rattle.wq_core.specs.declared.step.Step.{Step}
-use Rattle.wq_core.specs.Words.{item_place, word_count}
+use Rattle.wq_core.specs.Words.{item_place, done_place, word_count}
 use Rattle.wq_table.specs.declared.table.Part.{Part}
 use Rattle.wq_table.specs.declared.values.ValuePart.{ValuePart}
 use Rattle.wq_table.specs.declared.value_chair.ValueChair.TheInside.{Inside}
@@ -103,6 +103,13 @@ module _ {V : Type 0} where
     deep_in at some_slot =
         let e = slots_are (arc_value s.words) refl in
         sym e ∙ (sits.deep (omega (arith, e, some_slot)) ∙ numbered at)
+
+    pub done_room_in : (at i : ℕ) → i ≡ done_place (number_count s.layout) → i < word_count (number_count (part_at at (standing_of it)).layout)
+    done_room_in at i place = let size = numbered at in omega arith
+
+    pub item_room_in : (at i k : ℕ) → i ≡ item_place (number_count s.layout) k → k < number_count (part_at at (standing_of it)).layout
+        → i < word_count (number_count (part_at at (standing_of it)).layout)
+    item_room_in at i k place less = let size = numbered at in omega arith
 
     -- the place of an item word, by the layout of the part at a place
     pub item_at_part : (at i k : ℕ) → i ≡ item_place (number_count s.layout) k → i ≡ item_place (number_count (part_at at (standing_of it)).layout) k

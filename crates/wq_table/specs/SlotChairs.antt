@@ -57,7 +57,7 @@ pub record Exchanges {V : Type 0} (k : ℕ) (new old : Option V) (a b : ValueSta
   pub is : b.hand ≡ (k, new) ∷ rest a.hand
 
 -- the slot in front went behind the others
-pub record Turns {V : Type 0} (a b : ValueStanding V) : Type 0 where
+pub record TurnsHand {V : Type 0} (a b : ValueStanding V) : Type 0 where
   pub queue_is : b.queue ≡ a.queue
   pub first_is : b.first ≡ a.first
   pub others_are : b.others ≡ a.others

@@ -10,13 +10,13 @@ ghost use Rattle.wq_core.specs.declared.step.Step.TheVariants.{Hold, Look, Link,
 ghost use Rattle.wq_table.specs.Plays.{Performs};
 ghost use Rattle.wq_table.specs.Chair.{part_at, IsSender, HasSeen, HasLinked, HasNone, IsOwner, IsToWalk, IsToTurn, IsToBegin, IsRested};
 ghost use Rattle.wq_table.specs.SlotSteps.{GoesBy, in_front};
-ghost use Rattle.wq_table.specs.SlotChairs.{standing_of, ValueSteps, HasSlot, HasValue, Exchanges, Turns};
+ghost use Rattle.wq_table.specs.SlotChairs.{standing_of, ValueSteps, HasSlot, HasValue, Exchanges, TurnsHand};
 
 use super::table::{
     Begins, Cancels, Chains, Checks, Closes, Drains, Ends, FindsClosed, FindsDraining, GivesUp,
     Kind, Links, Looks, Makes, Marks, Place, Pushes, Rests, Resumes, Stores, Takes, Turns, Walks,
 };
-use super::values::{Brings, Says, ValueSeat, ValueWords};
+use super::values::{Brings, Nothing, Says, ValueSeat, ValueWords};
 use std::marker::{Brand, Model};
 use std::sync::Arc;
 use wq_core::place::{HEAD, done_place, item_place, link_place, link_word};
@@ -120,5 +120,278 @@ impl<V> ValueChair<V> {
         self.words
             .shared
             .fetch_add::<Makes<K, P>>(&mut self.seat, place, more)
+    }
+}
+
+impl<V> ValueChair<V> {
+    /// A sender sets the PENDING bit of a number, and learns its item word as it was. Where it was clear the number's slot comes to hand,
+    /// with nothing in it.
+    pub fn hold<P: Place>(&mut self, number: u32) -> u64
+        requires sender { IsSender (part_at P.at (standing_of self.old)).stage }
+        requires number { number < number_count (part_at P.at (standing_of self.old)).layout }
+        ensures step { ValueSteps P.at None (Hold number) result self.old self.new }
+    {
+        let place = item_place(self.layout, number);
+        self.or::<Marks, P, Nothing>(place, 1)
+    }
+
+    /// A sender loads the head.
+    pub fn look<P: Place>(&mut self) -> u64
+        requires sender { IsSender (part_at P.at (standing_of self.old)).stage }
+        ensures step { ValueSteps P.at None Look result self.old self.new }
+    {
+        self.load::<Looks, P>(HEAD)
+    }
+
+    /// A sender stores the link to the head that it saw as the link of a number that it holds.
+    pub fn link<P: Place>(&mut self, number: u32, seen: u64)
+        requires number { number < number_count (part_at P.at (standing_of self.old)).layout }
+        requires held { Holds (part_at P.at (standing_of self.old)).seen (part_at P.at (standing_of self.old)).seat number }
+        requires seen { HasSeen seen (part_at P.at (standing_of self.old)).stage }
+        requires open { TakesPushes seen }
+        ensures step { ValueSteps P.at None (Link number) (link_word seen) self.old self.new }
+    {
+        let place = link_place(number);
+        let word = link_word(seen);
+        self.store::<Links, P>(place, word);
+    }
+
+    /// A sender exchanges the head that it saw for the number that it linked to it, and learns the head as it was. Where that wins the
+    /// number's slot goes with it.
+    pub fn push<P: Place>(&mut self, number: u32, seen: u64) -> u64
+        requires number { number < number_count (part_at P.at (standing_of self.old)).layout }
+        requires linked { HasLinked seen number (part_at P.at (standing_of self.old)).stage }
+        requires slot { 0 < self.old.queue.slots → HasSlot number self.old.hand }
+        requires carries { 0 < self.old.queue.slots → Carries (part_at P.at (standing_of self.old)).layout.items number (in_front self.old.hand) }
+        ensures step { ValueSteps P.at None (Push number) result self.old self.new }
+    {
+        let _ = &self.layout;
+        let word = Head::Item(number).to_word();
+        self.replace::<Pushes, P>(HEAD, seen, word)
+    }
+
+    /// A sender that saw the queue closed clears the PENDING bit of a number that it holds, whose slot it has emptied.
+    pub fn back_closed<P: Place>(&mut self, number: u32)
+        requires number { number < number_count (part_at P.at (standing_of self.old)).layout }
+        requires held { Holds (part_at P.at (standing_of self.old)).seen (part_at P.at (standing_of self.old)).seat number }
+        requires closed { HasSeen closed_word (part_at P.at (standing_of self.old)).stage }
+        requires slot { 0 < self.old.queue.slots → HasValue number None self.old.hand }
+        ensures step { (word : ℕ) × ValueSteps P.at None (Back number Closed) word self.old self.new }
+    {
+        let place = item_place(self.layout, number);
+        self.and::<FindsClosed, P>(place, 0);
+    }
+
+    /// A sender that saw the queue draining clears the PENDING bit of a number that it holds, whose slot it has emptied.
+    pub fn back_draining<P: Place>(&mut self, number: u32)
+        requires number { number < number_count (part_at P.at (standing_of self.old)).layout }
+        requires held { Holds (part_at P.at (standing_of self.old)).seen (part_at P.at (standing_of self.old)).seat number }
+        requires draining { HasSeen draining_word (part_at P.at (standing_of self.old)).stage }
+        requires slot { 0 < self.old.queue.slots → HasValue number None self.old.hand }
+        ensures step { (word : ℕ) × ValueSteps P.at None (Back number Draining) word self.old self.new }
+    {
+        let place = item_place(self.layout, number);
+        self.and::<FindsDraining, P>(place, 0);
+    }
+
+    /// A sender whose tries were all lost clears the PENDING bit of a number that it holds, whose slot it has emptied.
+    pub fn back_contended<P: Place>(&mut self, number: u32)
+        requires sender { IsSender (part_at P.at (standing_of self.old)).stage }
+        requires number { number < number_count (part_at P.at (standing_of self.old)).layout }
+        requires held { Holds (part_at P.at (standing_of self.old)).seen (part_at P.at (standing_of self.old)).seat number }
+        requires slot { 0 < self.old.queue.slots → HasValue number None self.old.hand }
+        ensures step { (word : ℕ) × ValueSteps P.at None (Back number Contended) word self.old self.new }
+    {
+        let place = item_place(self.layout, number);
+        self.and::<GivesUp, P>(place, 0);
+    }
+
+    /// A sender clears the PENDING bit of a number that it holds, whose slot it has emptied.
+    pub fn back_cancelled<P: Place>(&mut self, number: u32)
+        requires sender { IsSender (part_at P.at (standing_of self.old)).stage }
+        requires number { number < number_count (part_at P.at (standing_of self.old)).layout }
+        requires held { Holds (part_at P.at (standing_of self.old)).seen (part_at P.at (standing_of self.old)).seat number }
+        requires slot { 0 < self.old.queue.slots → HasValue number None self.old.hand }
+        ensures step { (word : ℕ) × ValueSteps P.at None (Back number Cancelled) word self.old self.new }
+    {
+        let place = item_place(self.layout, number);
+        self.and::<Cancels, P>(place, 0);
+    }
+
+    /// A sender loads an item word.
+    pub fn check<P: Place>(&mut self, number: u32) -> u64
+        requires sender { IsSender (part_at P.at (standing_of self.old)).stage }
+        requires number { number < number_count (part_at P.at (standing_of self.old)).layout }
+        ensures step { ValueSteps P.at None (Check number) result self.old self.new }
+    {
+        let place = item_place(self.layout, number);
+        self.load::<Checks, P>(place)
+    }
+
+    /// The owner takes the whole list, leaves the mark of a queue at work, and learns the head as it was.
+    pub fn take<P: Place>(&mut self) -> u64
+        requires open { ¬ IsShut (part_at P.at (standing_of self.old)).seen }
+        requires rested { IsRested (part_at P.at (standing_of self.old)).stage }
+        requires empty { HasNone (part_at P.at (standing_of self.old)).stage }
+        ensures step { ValueSteps P.at None Take result self.old self.new }
+    {
+        self.swap::<Takes, P>(HEAD, BUSY)
+    }
+
+    /// The owner takes the whole list and leaves the closed mark.
+    pub fn close<P: Place>(&mut self) -> u64
+        requires unclosed { ¬ IsClosed (part_at P.at (standing_of self.old)).seen }
+        requires rested { IsRested (part_at P.at (standing_of self.old)).stage }
+        ensures step { ValueSteps P.at None Close result self.old self.new }
+    {
+        let word = Head::Closed.to_word();
+        self.swap::<Closes, P>(HEAD, word)
+    }
+
+    /// The owner takes the whole list and leaves the draining mark.
+    pub fn drain<P: Place>(&mut self) -> u64
+        requires open { ¬ IsShut (part_at P.at (standing_of self.old)).seen }
+        requires rested { IsRested (part_at P.at (standing_of self.old)).stage }
+        ensures step { ValueSteps P.at None Drain result self.old self.new }
+    {
+        let word = Head::Draining.to_word();
+        self.swap::<Drains, P>(HEAD, word)
+    }
+
+    /// The owner, with nothing that waits or runs, leaves the mark of a queue at work in place of the draining mark.
+    pub fn resume<P: Place>(&mut self)
+        requires draining { IsDraining (part_at P.at (standing_of self.old)).seen }
+        requires rested { IsRested (part_at P.at (standing_of self.old)).stage }
+        requires empty { HasNone (part_at P.at (standing_of self.old)).stage }
+        requires idle { ¬ IsRunning (part_at P.at (standing_of self.old)).seen }
+        ensures step { (word : ℕ) × ValueSteps P.at None Resume word self.old self.new }
+    {
+        self.swap::<Resumes, P>(HEAD, BUSY);
+    }
+
+    /// The owner loads the link of the number that it walks next, or of the oldest number of its batch once it has walked all.
+    /// The slot of the number that it walks comes to hand, with what the number brought.
+    pub fn walk<P: Place>(&mut self, number: u32) -> u64
+        requires number { number < number_count (part_at P.at (standing_of self.old)).layout }
+        requires next { IsToWalk number (part_at P.at (standing_of self.old)).stage }
+        ensures step { ValueSteps P.at None Walk result self.old self.new }
+    {
+        let _ = &self.layout;
+        let place = link_place(number);
+        self.load::<Walks, P>(place)
+    }
+
+    /// The owner stores a number as the link of one that it walked or that waits in its batch.
+    pub fn turn<P: Place>(&mut self, number: u32, next: u32)
+        requires number { number < number_count (part_at P.at (standing_of self.old)).layout }
+        requires next { next < number_count (part_at P.at (standing_of self.old)).layout }
+        requires taken { IsToTurn number (part_at P.at (standing_of self.old)).stage }
+        ensures step { ValueSteps P.at None (Turn number (Some next)) (next + 1) self.old self.new }
+    {
+        let place = link_place(number);
+        let word = Head::Item(next).to_word();
+        self.store::<Turns, P>(place, word);
+    }
+
+    /// The owner clears the PENDING bit of the oldest number of its batch, whose slot it has emptied and which then runs.
+    pub fn begin<P: Place>(&mut self, number: u32)
+        requires number { number < number_count (part_at P.at (standing_of self.old)).layout }
+        requires next { IsToBegin number (part_at P.at (standing_of self.old)).stage }
+        requires rests { ¬ IsRunning (part_at P.at (standing_of self.old)).seen }
+        requires slot { 0 < self.old.queue.slots → HasValue number None self.old.hand }
+        ensures step { (word : ℕ) × ValueSteps P.at None Begin word self.old self.new }
+    {
+        let place = item_place(self.layout, number);
+        self.and::<Begins, P>(place, 0);
+    }
+
+    /// The owner counts the execution that runs as ended.
+    pub fn end<P: Place>(&mut self)
+        requires owner { IsOwner (part_at P.at (standing_of self.old)).stage }
+        requires runs { IsRunning (part_at P.at (standing_of self.old)).seen }
+        ensures step { (word : ℕ) × ValueSteps P.at None End word self.old self.new }
+    {
+        let place = done_place(self.layout);
+        self.add::<Ends, P>(place, 1);
+    }
+
+    // The owner sets the PENDING bit of an item while the queue is shut.
+    fn chain_as<P: Place, G: Says<V>>(&mut self, number: u32) -> u64
+        requires item { number < (part_at P.at (standing_of self.old)).layout.items }
+        requires shut { IsShut (part_at P.at (standing_of self.old)).seen }
+        requires rested { IsRested (part_at P.at (standing_of self.old)).stage }
+        requires runs { IsRunning (part_at P.at (standing_of self.old)).seen }
+        requires said { 0 < self.old.queue.slots → Carries (part_at P.at (standing_of self.old)).layout.items number G.said }
+        ensures step { ValueSteps P.at G.said (Chain number) result self.old self.new }
+    {
+        let place = item_place(self.layout, number);
+        self.or::<Chains, P, G>(place, 1)
+    }
+
+    /// The owner sets the PENDING bit of an item while the queue, whose table has no slots, is shut, and learns its item word as it
+    /// was.
+    pub fn chain<P: Place>(&mut self, number: u32) -> u64
+        requires none { self.old.queue.slots ≡ 0 }
+        requires item { number < (part_at P.at (standing_of self.old)).layout.items }
+        requires shut { IsShut (part_at P.at (standing_of self.old)).seen }
+        requires rested { IsRested (part_at P.at (standing_of self.old)).stage }
+        requires runs { IsRunning (part_at P.at (standing_of self.old)).seen }
+        ensures step { ValueSteps P.at None (Chain number) result self.old self.new }
+    {
+        self.chain_as::<P, Nothing>(number)
+    }
+
+    /// The owner sets the PENDING bit of an item while the queue is shut, and learns its item word as it was. Where it was clear the
+    /// item is accepted with this value, and its slot comes to hand, where the value is to be put.
+    pub fn chain_value<P: Place>(&mut self, number: u32, value: &V) -> u64
+        requires item { number < (part_at P.at (standing_of self.old)).layout.items }
+        requires shut { IsShut (part_at P.at (standing_of self.old)).seen }
+        requires rested { IsRested (part_at P.at (standing_of self.old)).stage }
+        requires runs { IsRunning (part_at P.at (standing_of self.old)).seen }
+        ensures step { ValueSteps P.at (Some value.now) (Chain number) result self.old self.new }
+    {
+        self.chain_said::<P, Brand>(number, value)
+    }
+
+    fn chain_said<P: Place, G: Says<V>>(&mut self, number: u32, value: &V) -> u64
+        requires item { number < (part_at P.at (standing_of self.old)).layout.items }
+        requires shut { IsShut (part_at P.at (standing_of self.old)).seen }
+        requires rested { IsRested (part_at P.at (standing_of self.old)).stage }
+        requires runs { IsRunning (part_at P.at (standing_of self.old)).seen }
+        requires said { G.said ≡ Some value.now }
+        ensures step { ValueSteps P.at (Some value.now) (Chain number) result self.old self.new }
+    {
+        let _ = value;
+        self.chain_as::<P, G>(number)
+    }
+
+    /// The owner, with nothing that waits or runs, exchanges the mark of a queue at work for that of a queue that rests, and
+    /// learns the head as it was.
+    pub fn rest<P: Place>(&mut self) -> u64
+        requires open { ¬ IsShut (part_at P.at (standing_of self.old)).seen }
+        requires rested { IsRested (part_at P.at (standing_of self.old)).stage }
+        requires empty { HasNone (part_at P.at (standing_of self.old)).stage }
+        requires idle { ¬ IsRunning (part_at P.at (standing_of self.old)).seen }
+        ensures step { ValueSteps P.at None Rest result self.old self.new }
+    {
+        let word = Head::Empty.to_word();
+        self.replace::<Rests, P>(HEAD, BUSY, word)
+    }
+
+    /// Reads and writes the slot in front of the hand.
+    pub fn exchange(&mut self, number: u32, value: Option<V>) -> Option<V>
+        requires slot { HasSlot number self.old.hand }
+        ensures { Exchanges number value result self.old self.new }
+    {
+        self.words
+            .shared
+            .exchange(&mut self.seat, number as usize, value)
+    }
+
+    /// The slot in front of the hand goes behind the others. It does nothing at run time.
+    pub fn turn_hand(&mut self)
+        ensures { TurnsHand self.old self.new }
+    {
+        self.seat.turn();
     }
 }

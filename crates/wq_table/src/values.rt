@@ -32,6 +32,15 @@ pub(crate) trait Says<V> {
     ghost said: { Option V };
 }
 
+// Nothing is said.
+pub(crate) struct Nothing;
+
+impl<V> Says<V> for Nothing {
+    ghost use Rattle.std.specs.Prelude.{None};
+
+    ghost said = { None };
+}
+
 impl<V> Says<V> for Brand {
     ghost use Rattle.std.specs.Prelude.{None};
 
