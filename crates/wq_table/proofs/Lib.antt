@@ -15,3 +15,4 @@ pub mod Bare
 pub mod Opened
 pub mod Meetings
 pub mod SlotTold
+pub mod SlotMet

@@ -82,7 +82,7 @@ module _ {V : Type 0} where
       }
 
   module _ (s : Inside V) (it : ValueStanding V) (sits : ValueSits s) (is : value_standing s ≡ it) where
-    sized_in : AreSized s.layout (plain_view (it.first ∷ it.others))
+    pub sized_in : AreSized s.layout (plain_view (it.first ∷ it.others))
     sized_in = subst (λ (v : ValueView V). AreSized s.layout (plain_view v)) (ap (λ (z : ValueSat V). z.0) (seat_is s it sits is)) sits.sized
 
     -- the number count of the part at a place is that of the chair's layout
@@ -115,6 +115,10 @@ module _ {V : Type 0} where
     pub item_at_part : (at i k : ℕ) → i ≡ item_place (number_count s.layout) k → i ≡ item_place (number_count (part_at at (standing_of it)).layout) k
     item_at_part at i k place = place ∙ ap (λ (n : ℕ). item_place n k) (numbered at)
 
+  pub done_in_words : (s : Inside V) → ValueSits s → (words : _) (i : ℕ) → words ≡ arc_value s.words → i ≡ done_place (number_count s.layout)
+      → i < words.shared.table_id.words
+  done_in_words s sits words i same place = let wide = ap (λ t. t.shared.table_id.words) same ∙ sits.wide in omega arith
+
   -- where there are no slots every step goes on
   pub by_either : (slots : ℕ) (p : Part) (said : Option V) (step : Step) (c : Hand V) → (0 < slots → GoesBy slots p said step c) → GoesBy slots p said step c
   by_either zero p said step c some_slot = by_bare p said step c
@@ -128,7 +132,7 @@ module _ {V : Type 0} where
       none_plain (t ∷ ts) e = absurd cc
 
   -- the chair is as its invariant has it, where its seat has another view of these parts
-  sits_with : (s t : Inside V) (p : Part) (ps : View) → ValueSits s → t.words ≡ s.words → t.spare ≡ s.spare → t.layout ≡ s.layout
+  pub sits_with : (s t : Inside V) (p : Part) (ps : View) → ValueSits s → t.words ≡ s.words → t.spare ≡ s.spare → t.layout ≡ s.layout
       → t.seat.table_id ≡ s.seat.table_id → plain_view t.seat.me.0 ≡ p ∷ ps → AreSized s.layout (p ∷ ps)
       → (rest_values t.seat.me.0 ≢ [] → rest_values s.seat.me.0 ≢ []) → ValueSits t
   sits_with s t p ps sits words spare layout table view sized some = record {

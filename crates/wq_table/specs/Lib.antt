@@ -7,3 +7,4 @@ pub mod Sits
 pub mod Slots
 pub mod SlotSteps
 pub mod SlotChairs
+pub mod Resting

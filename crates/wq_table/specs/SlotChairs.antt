@@ -1,5 +1,5 @@
 -- What a clause sees of a chair whose table may have slots, and what its steps do.
-use Rattle.std.specs.Prelude.{◌≡◌, ◌≢◌, ℕ, ◌<◌, List, [], ◌∷◌, map, length, Option, IfSome, IsSome}
+use Rattle.std.specs.Prelude.{◌≡◌, ◌≢◌, ℕ, zero, suc, ◌<◌, List, [], ◌∷◌, ◌++◌, map, length, Option, IfSome, IsSome}
 use Rattle.std.specs.Arc.{arc_value}
 use mathlib.Core.List.{IsPrefix}
 use Rattle.atomic_table.specs.Seated.{TableId}
@@ -11,8 +11,11 @@ use Rattle.wq_core.specs.declared.step.Step.{Step}
 use Rattle.wq_core.specs.Words.{word_count}
 use Rattle.wq_table.specs.declared.values.ValuePart.{ValuePart}
 use Rattle.wq_table.specs.declared.value_chair.ValueChair.TheInside.{Inside}
-use Rattle.wq_table.specs.Law.{sender_part}
-use Rattle.wq_table.specs.Chair.{Standing, part_at, Steps}
+use Rattle.wq_core.specs.Machine.{Machine}
+use Rattle.wq_core.specs.Sound.{IsSound}
+use Rattle.wq_table.specs.Law.{sender_part, owner_part}
+use Rattle.wq_table.specs.Plays.{see, all_see}
+use Rattle.wq_table.specs.Chair.{Standing, part_at, Steps, SeatedIn}
 use Rattle.wq_table.specs.Sits.{AreSized}
 use Rattle.wq_table.specs.Slots.{ValueView, plain_view, AllKnow, telling, rest_values}
 use Rattle.wq_table.specs.SlotSteps.{Hand, Moves, AllTold}
@@ -85,3 +88,36 @@ pub record ValueSits {V : Type 0} (s : Inside V) : Type 0 where
   pub one_view : s.seat.me.0 ≡ first_told s.layout s.seat.me.0 ∷ rest_values s.seat.me.0
   pub spare_is : IfSome s.spare (λ w. (s.seat.table_id ≡ (arc_value w).shared.table_id) × ((arc_value w).shared.key ≡ s.layout))
   pub has_spare : rest_values s.seat.me.0 ≢ [] → IsSome s.spare
+
+-- a chair that has seen all that has happened, and knows all that was brought
+abbrev pub knowing : {V : Type 0} → Machine → List (Option V) → ValueStanding V → ValueStanding V
+knowing m brs it = record {
+  queue = it.queue;
+  first = telling brs (see m.history it.first.part);
+  others = map (telling brs) (all_see m.history (plain_view it.others));
+  hand = it.hand;
+}
+
+-- both have seen all that has happened, know all that was brought, and keep their hands
+pub record ValueMeet {V : Type 0} (this that this' that' : ValueStanding V) : Type 0 where
+  pub machine : Machine
+  pub sound : IsSound machine
+  pub this_fits : SeatedIn machine (standing_of this)
+  pub that_fits : SeatedIn machine (standing_of that)
+  pub brought : List (Option V)
+  pub as_many : length brought ≡ length (accepted machine.history)
+  pub this_knows : AllKnow brought (this.first ∷ this.others)
+  pub that_knows : AllKnow brought (that.first ∷ that.others)
+  pub this_is : this' ≡ knowing machine brought this
+  pub that_is : that' ≡ knowing machine brought that
+
+-- the chairs of the senders below m, which have seen nothing and have nothing in hand
+abbrev pub value_sender : {V : Type 0} → TableId → Layout → ℕ → ValueStanding V
+value_sender queue layout c = record { queue = queue; first = telling [] (sender_part layout c); others = []; hand = [] }
+
+abbrev pub value_senders : {V : Type 0} → TableId → Layout → ℕ → List (ValueStanding V)
+value_senders queue layout zero = []
+value_senders queue layout (suc m) = value_senders queue layout m ++ value_sender queue layout m ∷ []
+
+abbrev pub value_owner : {V : Type 0} → TableId → Layout → ValueStanding V
+value_owner queue layout = record { queue = queue; first = telling [] (owner_part layout); others = []; hand = [] }

@@ -10,11 +10,11 @@ ghost use Rattle.wq_core.specs.declared.step.Step.TheVariants.{Hold, Look, Link,
 ghost use Rattle.wq_table.specs.Plays.{Performs};
 ghost use Rattle.wq_table.specs.Chair.{part_at, IsSender, HasSeen, HasLinked, HasNone, IsOwner, IsToWalk, IsToTurn, IsToBegin, IsRested};
 ghost use Rattle.wq_table.specs.SlotSteps.{GoesBy, in_front};
-ghost use Rattle.wq_table.specs.SlotChairs.{standing_of, ValueSteps, HasSlot, HasValue, Exchanges, TurnsHand};
+ghost use Rattle.wq_table.specs.SlotChairs.{standing_of, ValueSteps, HasSlot, HasValue, Exchanges, TurnsHand, ValueMeet};
 
 use super::table::{
-    Begins, Cancels, Chains, Checks, Closes, Drains, Ends, FindsClosed, FindsDraining, GivesUp,
-    Kind, Links, Looks, Makes, Marks, Place, Pushes, Rests, Resumes, Stores, Takes, Turns, Walks,
+    Begins, Both, Cancels, Chains, Checks, Closes, Drains, Ends, FindsClosed, FindsDraining, GivesUp,
+    Kind, Links, Looks, Makes, Marks, Meets, Off, Place, Pushes, Rests, Resumes, Stores, Takes, Turns, Walks,
 };
 use super::values::{Brings, Nothing, Says, ValueSeat, ValueWords};
 use std::marker::{Brand, Model};
@@ -393,5 +393,31 @@ impl<V> ValueChair<V> {
         ensures { TurnsHand self.old self.new }
     {
         self.seat.turn();
+    }
+
+    /// Two seats of one queue meet, of which the other has nothing in hand: afterwards each has seen all that has happened, and
+    /// knows all that was brought.
+    pub fn meet(&mut self, other: ValueChair<V>) -> ValueChair<V>
+        requires queue { other.queue ≡ self.old.queue }
+        requires empty { other.hand ≡ [] }
+        requires alone { other.others ≡ [] }
+        ensures met { ValueMeet self.old other self.new result }
+    {
+        let ValueChair {
+            words,
+            spare,
+            seat: theirs,
+            layout,
+        } = other;
+        let table = &self.words.shared;
+        table.join_seat::<Both>(&mut self.seat, theirs);
+        table.load::<Meets>(&mut self.seat, done_place(self.layout));
+        let seat: ValueSeat<V> = table.split_seat::<Off>(&mut self.seat);
+        ValueChair {
+            words,
+            spare,
+            seat,
+            layout,
+        }
     }
 }

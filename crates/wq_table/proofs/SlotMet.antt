@@ -1,0 +1,79 @@
+-- Two chairs whose table may have slots meet.
+use Rattle.std.proofs.Common.{◌≡◌, ◌≢◌, ℕ, List, [], ◌∷◌, ◌++◌, map, sym, refl, ap, ◌∙◌, subst, Option}
+use Rattle.atomic_table.specs.Seated.{TableId}
+use Rattle.wq_words.specs.declared.layout.Layout.{Layout}
+use Rattle.wq_words.specs.declared.event.Event.{Event}
+use Rattle.wq_table.specs.declared.table.Part.{Part}
+use Rattle.wq_table.specs.declared.values.ValuePart.{ValuePart}
+use Rattle.wq_table.specs.declared.value_chair.ValueChair.TheInside.{Inside}
+use Rattle.wq_table.specs.Law.{View}
+use Rattle.wq_table.specs.Plays.{see, all_see, AllOf}
+use Rattle.wq_table.specs.Sits.{AreSized}
+use Rattle.wq_table.specs.Slots.{ValueView, plain_view, AllKnow, telling, front_values, rest_values}
+use Rattle.wq_table.specs.SlotSteps.{ValueSat, ValuesSeen}
+use Rattle.wq_table.specs.SlotChairs.{ValueStanding, standing_of, value_standing, ValueSits, knowing, ValueMeet}
+use Rattle.wq_table.proofs.Told.{sized_seeing}
+use Rattle.wq_table.proofs.ValueRule.{plain_telling}
+use Rattle.wq_table.proofs.SlotTold.{with_seat, sized_in, sits_with}
+
+module _ {V : Type 0} (this that : ValueStanding V) (me other both sees : ValueSat V) (has : me ≡ (this.first ∷ this.others, this.hand))
+    (other_has : other ≡ (that.first ∷ that.others, that.hand)) (alone : that.others ≡ []) (joined : both ≡ (other.0 ++ me.0, me.1)) (all : ValuesSeen both sees) where
+  parts : both.0 ≡ that.first ∷ this.first ∷ this.others
+  parts = ap (λ (z : ValueSat V). z.0) joined ∙
+      (λ i. (ap (λ (z : ValueSat V). z.0) other_has ∙ ap (λ (v : ValueView V). that.first ∷ v) alone) i ++ ap (λ (z : ValueSat V). z.0) has i)
+
+  h : List Event
+  h = all.machine.history
+
+  -- what they see: the other's part comes first
+  pub now_is : sees.0 ≡ telling all.brought (see all.machine.history that.first.part)
+      ∷ telling all.brought (see all.machine.history this.first.part) ∷ map (telling all.brought) (all_see all.machine.history (plain_view this.others))
+  now_is = all.is ∙ ap (λ (v : ValueView V). map (telling all.brought) (all_see all.machine.history (plain_view v))) parts
+
+  pub met_slots : (q r : TableId) (l k : Layout) (mine theirs : ValueSat V) → that.hand ≡ [] → mine ≡ (rest_values sees.0, sees.1) → theirs ≡ (front_values sees.0, [])
+      → q ≡ this.queue → r ≡ that.queue → ValueMeet this that (with_seat q l mine) (with_seat r k theirs)
+  met_slots q r l k mine theirs empty rest first same other_same =
+      let m = all.machine in
+      let fit : AllOf m (plain_view (that.first ∷ this.first ∷ this.others)) = subst (λ (v : ValueView V). AllOf m (plain_view v)) parts all.all in
+      let know : AllKnow all.brought (that.first ∷ this.first ∷ this.others) = subst (AllKnow all.brought) parts all.know in
+      let hand : sees.1 ≡ this.hand = all.hand ∙ (ap (λ (z : ValueSat V). z.1) joined ∙ ap (λ (z : ValueSat V). z.1) has) in
+      let mine_is : mine ≡ (rest_values sees.0, sees.1) = rest in
+      let mine_now = mine_is ∙ (λ i. (ap rest_values now_is i, hand i)) in
+      let theirs_now = first ∙ (λ i. (ap front_values now_is i, sym empty i)) in record {
+        machine = m;
+        sound = all.sound;
+        this_fits = record { fits = fit.1.0; others_fit = fit.1.1 };
+        that_fits = record { fits = fit.0; others_fit = subst (λ (v : ValueView V). AllOf m (plain_view v)) (sym alone) tt };
+        brought = all.brought;
+        as_many = all.as_many;
+        this_knows = know.1;
+        that_knows = (know.0, subst (AllKnow all.brought) (sym alone) tt);
+        this_is = λ i. with_seat (same i) l (mine_now i);
+        that_is = (λ i. with_seat (other_same i) k (theirs_now i)) ∙
+            (λ i. record {
+              queue = that.queue;
+              first = telling all.brought (see m.history that.first.part);
+              others = map (telling all.brought) (all_see m.history (plain_view (sym alone i)));
+              hand = that.hand;
+            });
+      }
+
+  pub sits_met : (mine : ValueSat V) (s t : Inside V) → mine ≡ (rest_values sees.0, sees.1) → ValueSits s → value_standing s ≡ this → t.words ≡ s.words
+      → t.spare ≡ s.spare → t.layout ≡ s.layout → t.seat.table_id ≡ s.seat.table_id → t.seat.me ≡ mine → ValueSits t
+  sits_met mine s t rest sits is words spare layout table at =
+      let v : View = this.first.part ∷ plain_view this.others in
+      let view : plain_view t.seat.me.0 ≡ all_see all.machine.history v =
+      ap (λ (z : ValueSat V). plain_view z.0) (at ∙ rest) ∙ (ap (λ (w : ValueView V). plain_view (rest_values w)) now_is ∙ plain_telling all.brought (all_see all.machine.history v)) in
+      sits_with s t (see all.machine.history this.first.part) (all_see all.machine.history (plain_view this.others)) sits words spare layout table view
+      (sized_seeing s.layout all.machine.history v (sized_in s this sits is))
+      (λ more none. more (ap rest_values (ap (λ (z : ValueSat V). z.0) (at ∙ rest) ∙ ap rest_values now_is) ∙
+      ap (λ (w : ValueView V). map (telling all.brought) (all_see all.machine.history (plain_view w))) (sym (ap (λ (x : ValueStanding V). x.others) is) ∙ none)))
+
+  pub sits_cut : (theirs : ValueSat V) (s t : Inside V) → theirs ≡ (front_values sees.0, []) → ValueSits s → value_standing s ≡ that → t.words ≡ s.words
+      → t.spare ≡ s.spare → t.layout ≡ s.layout → t.seat.table_id ≡ s.seat.table_id → t.seat.me ≡ theirs → ValueSits t
+  sits_cut theirs s t first sits is words spare layout table at =
+      let view : plain_view t.seat.me.0 ≡ see all.machine.history that.first.part ∷ [] =
+      ap (λ (z : ValueSat V). plain_view z.0) (at ∙ first) ∙ ap (λ (w : ValueView V). plain_view (front_values w)) now_is in
+      sits_with s t (see all.machine.history that.first.part) [] sits words spare layout table view
+      ((sized_in s that sits is).0, tt)
+      (λ more none. more (ap rest_values (ap (λ (z : ValueSat V). z.0) (at ∙ first) ∙ ap front_values now_is)))
