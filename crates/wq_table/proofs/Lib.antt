@@ -16,3 +16,4 @@ pub mod Opened
 pub mod Meetings
 pub mod SlotTold
 pub mod SlotMet
+pub mod SlotMade

@@ -9,7 +9,7 @@ mod value_chair;
 mod values;
 
 pub use chair::Chair;
-pub use making::chairs;
+pub use making::{chairs, value_chairs};
 pub use resting::RestingChair;
 pub use table::{First, Part, Place, Second, Stage};
 pub use value_chair::ValueChair;

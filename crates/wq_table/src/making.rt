@@ -1,9 +1,13 @@
 //! How the seats of a queue are made.
 ghost use Rattle.std.specs.Prelude.{◌≡◌, IfOk};
+ghost use Rattle.wq_words.specs.Numbers.{number_count};
 ghost use Rattle.wq_table.specs.Chair.{owner_chair, sender_chairs};
+ghost use Rattle.wq_table.specs.SlotChairs.{value_owner, value_senders};
 
 use super::chair::Chair;
 use super::table::{Off, Seated};
+use super::value_chair::ValueChair;
+use super::values::ValueSeat;
 use atomic_table::Table;
 use std::alloc::{AllocError, Global};
 use std::sync::Arc;
@@ -34,6 +38,41 @@ pub fn chairs(alloc: Global, layout: Layout) -> Result<(Chair, Vec<Chair>), Allo
             words,
             spare: None,
             badge: seat.into_badge(),
+            layout,
+        },
+        senders,
+    ))
+}
+
+/// The same of a queue whose items bring values: its table has a slot for each number, with nothing in it.
+pub fn value_chairs<V: Drop>(
+    alloc: Global,
+    layout: Layout,
+) -> Result<(ValueChair<V>, Vec<ValueChair<V>>), AllocError>
+    ensures seats { IfOk result (λ r. (r.0 ≡ value_owner r.0.queue layout) × (r.1.items ≡ value_senders r.0.queue layout layout.senders)) }
+    ensures slots { IfOk result (λ r. r.0.queue.slots ≡ number_count layout) }
+{
+    let count = layout.senders;
+    let row = Vec::from_elem(alloc, 0u64, word_count(layout))?;
+    let slots = layout.number_count() as usize;
+    let (table, mut seat) = Table::vacant(alloc, row.as_slice(), slots, &layout)?;
+    let words = Arc::new(alloc, table)?;
+    let mut senders = Vec::new(alloc);
+    for number in 0..count {
+        let words = Arc::try_clone(&words)?;
+        let theirs: ValueSeat<V> = words.shared.split_seat::<Off>(&mut seat);
+        senders.push(ValueChair {
+            words,
+            spare: None,
+            seat: theirs,
+            layout,
+        })?;
+    }
+    Ok((
+        ValueChair {
+            words,
+            spare: None,
+            seat,
             layout,
         },
         senders,
