@@ -1,7 +1,6 @@
 -- A queue without slots: one lemma for every kind of step.
-use Rattle.std.proofs.Common.{◌≡◌, ℕ, ◌+◌, ◌<◌, List, [], ◌∷◌, ◌++◌, length, replicate, slice_get, Option, Some, None, sym, refl, ap, ◌∙◌, arith}
+use Rattle.std.proofs.Common.{◌≡◌, ℕ, ◌+◌, List, ◌++◌, length, replicate, Option, None, refl, ap, ◌∙◌, arith}
 use Rattle.std.proofs.lemmas.List.{length-append, length-replicate}
-use mathlib.Core.Option as maybe
 use mathlib.Core.List.{IsPrefix}
 use Rattle.wq_words.specs.History.{accepted}
 use Rattle.wq_words.proofs.Appended.{accepted-append}
@@ -24,7 +23,8 @@ module _ {V : Type 0} where
       let count : ℕ = length (accepted change.new) in
       let none : List (Option V) = replicate count None in
       let split : length (accepted next.history) ≡ length (accepted m.history) + count =
-      ap (λ h. length (accepted h)) change.history_is ∙ (ap length (accepted-append m.history change.new) ∙ length-append (accepted m.history) (accepted change.new)) in (
+      ap (λ h. length (accepted h)) change.history_is ∙ (ap length (accepted-append m.history change.new) ∙
+      length-append (accepted m.history) (accepted change.new)) in (
         brs ++ none,
         (none, refl),
         record {

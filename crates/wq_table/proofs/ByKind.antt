@@ -1,15 +1,14 @@
 -- What each kind of step does to the slots, whatever machine the seat is of.
-use Rattle.std.proofs.Common.{◌≡◌, ◌≢◌, ℕ, ◌+◌, ◌<◌, ◌==◌, if◌then◌else◌, List, [], ◌∷◌, length, set, Option, Some, None, unwrap_or, sym, refl, ap, ◌∙◌, subst, arith}
+use Rattle.std.proofs.Common.{◌≡◌, ℕ, ◌<◌, ◌==◌, List, [], ◌∷◌, set, Option, Some, None, refl, ap, ◌∙◌, subst, arith}
 use Rattle.wq_words.specs.declared.layout.Layout.{Layout}
 use Rattle.wq_words.specs.declared.event.Why.{Why}
 use Rattle.wq_words.specs.declared.event.Event.{Event}
-use Rattle.wq_words.specs.declared.event.Event.TheVariants as event
 use Rattle.wq_words.specs.Numbers.{number_count}
 use Rattle.wq_words.specs.History.{Holds, running}
 use Rattle.wq_words.proofs.Seen.{held_same}
 use Rattle.wq_core.specs.declared.step.Private.{Private}
 use Rattle.wq_core.specs.declared.step.Step.TheVariants.{Hold, Look, Link, Push, Back, Check, Take, Close, Drain, Resume, Walk, Begin, End, Chain, Turn, Rest}
-use Rattle.wq_core.specs.Machine.{Machine, head, seen_word, with_private, with_head, nothing_seen, happened}
+use Rattle.wq_core.specs.Machine.{head}
 use Rattle.wq_words.specs.Head.{busy_word}
 use Rattle.wq_core.specs.Words.{head_place, closed_word, draining_word, idle_word, head_at, item_of}
 use Rattle.wq_core.proofs.OwnerSteps.{cursor_is}
@@ -18,7 +17,6 @@ use Rattle.wq_table.specs.declared.table.Stage.TheVariants.{Sends, Owns}
 use Rattle.wq_table.specs.Law.{part}
 use Rattle.wq_table.specs.Chair.{IsSender, HasSeen, HasLinked, IsOwner, IsRested, IsToWalk, IsToTurn, IsToBegin}
 use Rattle.wq_words.specs.Valued.{Carries}
-use Rattle.wq_table.specs.declared.table.Part.{Part}
 use Rattle.wq_table.specs.SlotSteps.{Hand, GoesBy}
 use Rattle.wq_table.proofs.Moves.{goes_still, shelves_take, shelves_close, shelves_drain, shelves_resume, shelves_rest, shelves_end, goes_hold, goes_push, goes_back, goes_begin, goes_walk, goes_walk_none, goes_chain}
 
@@ -36,18 +34,22 @@ module _ {V : Type 0} (c : ℕ) (layout : Layout) (seen : List Event) (words : L
   by_hold k slots hand (Owns cursor walked batch) sender number deep = absurd sender
 
   pub by_look : (slots : ℕ) (hand : Hand V) (stage : Stage) → IsSender stage → GoesBy slots (part c layout seen words stage) None Look hand
-  by_look slots hand (Sends q) sender = λ m brs homes sound fits wide sh. goes_still m (part c layout seen words (Sends q)) brs homes sh Look _ _ hand sh (refl, refl)
+  by_look slots hand (Sends q) sender = λ m brs homes sound fits wide sh. goes_still m (part c layout seen words
+      (Sends q)) brs homes sh Look _ _ hand sh (refl, refl)
   by_look slots hand (Owns cursor walked batch) sender = absurd sender
 
   pub by_link : (k w slots : ℕ) (hand : Hand V) (stage : Stage) → HasSeen w stage → GoesBy slots (part c layout seen words stage) None (Link k) hand
-  by_link k w slots hand (Sends q) is = λ m brs homes sound fits wide sh. goes_still m (part c layout seen words (Sends q)) brs homes sh (Link k) _ _ hand sh (refl, refl)
+  by_link k w slots hand (Sends q) is = λ m brs homes sound fits wide sh. goes_still m (part c layout seen words (Sends q)) brs homes sh
+      (Link k) _ _ hand sh (refl, refl)
   by_link k w slots hand (Owns cursor walked batch) is = absurd is
 
-  pub by_push : (k w slots : ℕ) (y : Option V) (rest : Hand V) (stage : Stage) → HasLinked w k stage → Carries layout.items k y → k < number_count layout → slots ≡ number_count layout
+  pub by_push : (k w slots : ℕ) (y : Option V) (rest : Hand V) (stage : Stage) → HasLinked w k stage → Carries layout.items k y
+      → k < number_count layout → slots ≡ number_count layout
       → GoesBy slots (part c layout seen words stage) None (Push k) ((k, y) ∷ rest)
   by_push k w slots y rest (Sends q) is fit number deep = λ m brs homes sound fits wide sh.
       let mine = sound.linked c k (ap (λ (x : Private). x.linked) fits.keeps.1 ∙ is.1) in
-      goes_push m sound (part c layout seen words (Sends q)) brs homes sh k y rest (subst (λ l. Carries l.items k y) fits.layout_is fit) mine.1 (omega (arith, number, deep, wide))
+      goes_push m sound (part c layout seen words (Sends q)) brs homes sh k y rest (subst (λ l. Carries l.items k y) fits.layout_is fit) mine.1
+      (omega (arith, number, deep, wide))
   by_push k w slots y rest (Owns cursor walked batch) is fit number deep = absurd is
 
   pub by_back : (k slots : ℕ) (why : Why) (rest : Hand V) (stage : Stage) → IsSender stage → Holds seen c k → k < number_count layout
@@ -62,43 +64,50 @@ module _ {V : Type 0} (c : ℕ) (layout : Layout) (seen : List Event) (words : L
   by_take slots hand (Sends q) rested = absurd rested
   by_take slots hand (Owns cursor walked batch) rested = λ m brs homes sound fits wide sh.
       goes_still m (part c layout seen words (Owns cursor walked batch)) brs homes sh Take _ _ hand
-      (shelves_take m (part c layout seen words (Owns cursor walked batch)) brs homes sh (set m.words head_place busy_word) (item_of (head_at (head m)))) (refl, refl)
+      (shelves_take m (part c layout seen words (Owns cursor walked batch)) brs homes sh (set m.words head_place busy_word) (item_of (head_at
+      (head m)))) (refl, refl)
 
   pub by_close : (slots : ℕ) (hand : Hand V) (stage : Stage) → IsRested stage → GoesBy slots (part c layout seen words stage) None Close hand
   by_close slots hand (Sends q) rested = absurd rested
   by_close slots hand (Owns cursor walked batch) rested = λ m brs homes sound fits wide sh.
       goes_still m (part c layout seen words (Owns cursor walked batch)) brs homes sh Close _ _ hand
-      (shelves_close m (part c layout seen words (Owns cursor walked batch)) brs homes sh (set m.words head_place closed_word) (item_of (head_at (head m)))) (refl, refl)
+      (shelves_close m (part c layout seen words (Owns cursor walked batch)) brs homes sh (set m.words head_place closed_word) (item_of (head_at
+      (head m)))) (refl, refl)
 
   pub by_drain : (slots : ℕ) (hand : Hand V) (stage : Stage) → IsRested stage → GoesBy slots (part c layout seen words stage) None Drain hand
   by_drain slots hand (Sends q) rested = absurd rested
   by_drain slots hand (Owns cursor walked batch) rested = λ m brs homes sound fits wide sh.
       goes_still m (part c layout seen words (Owns cursor walked batch)) brs homes sh Drain _ _ hand
-      (shelves_drain m (part c layout seen words (Owns cursor walked batch)) brs homes sh (set m.words head_place draining_word) (item_of (head_at (head m)))) (refl, refl)
+      (shelves_drain m (part c layout seen words (Owns cursor walked batch)) brs homes sh (set m.words head_place draining_word) (item_of (head_at
+      (head m)))) (refl, refl)
 
   pub by_resume : (slots : ℕ) (hand : Hand V) (stage : Stage) → IsRested stage → GoesBy slots (part c layout seen words stage) None Resume hand
   by_resume slots hand (Sends q) rested = absurd rested
   by_resume slots hand (Owns cursor walked batch) rested = λ m brs homes sound fits wide sh.
       goes_still m (part c layout seen words (Owns cursor walked batch)) brs homes sh Resume _ _ hand
-      (shelves_resume m (part c layout seen words (Owns cursor walked batch)) brs homes sh (set m.words head_place busy_word) (item_of (head_at (head m)))) (refl, refl)
+      (shelves_resume m (part c layout seen words (Owns cursor walked batch)) brs homes sh (set m.words head_place busy_word) (item_of (head_at
+      (head m)))) (refl, refl)
 
   pub by_rest : (slots : ℕ) (hand : Hand V) (stage : Stage) → IsRested stage → GoesBy slots (part c layout seen words stage) None Rest hand
   by_rest slots hand (Sends q) rested = absurd rested
   by_rest slots hand (Owns cursor walked batch) rested = λ m brs homes sound fits wide sh.
       goes_still m (part c layout seen words (Owns cursor walked batch)) brs homes sh Rest _ _ hand
-      (shelves_rest m (part c layout seen words (Owns cursor walked batch)) brs homes sh (head m == busy_word) (set m.words head_place idle_word)) (refl, refl)
+      (shelves_rest m (part c layout seen words (Owns cursor walked batch)) brs homes sh (head m == busy_word) (set m.words head_place idle_word))
+      (refl, refl)
 
   pub by_check : (k slots : ℕ) (hand : Hand V) (stage : Stage) → IsSender stage → GoesBy slots (part c layout seen words stage) None (Check k) hand
   by_check k slots hand (Sends q) sender = λ m brs homes sound fits wide sh.
       goes_still m (part c layout seen words (Sends q)) brs homes sh (Check k) _ _ hand sh (refl, refl)
   by_check k slots hand (Owns cursor walked batch) sender = absurd sender
 
-  pub by_turn : (j k : ℕ) (next : Option ℕ) (slots : ℕ) (hand : Hand V) (stage : Stage) → IsToTurn j stage → GoesBy slots (part c layout seen words stage) None (Turn k next) hand
+  pub by_turn : (j k : ℕ) (next : Option ℕ) (slots : ℕ) (hand : Hand V) (stage : Stage) → IsToTurn j stage
+      → GoesBy slots (part c layout seen words stage) None (Turn k next) hand
   by_turn j k next slots hand (Sends q) is = absurd is
   by_turn j k next slots hand (Owns cursor walked batch) is = λ m brs homes sound fits wide sh.
       goes_still m (part c layout seen words (Owns cursor walked batch)) brs homes sh (Turn k next) _ _ hand sh (refl, refl)
 
-  pub by_walk : (k slots : ℕ) (hand : Hand V) (stage : Stage) → IsToWalk k stage → slots ≡ number_count layout → GoesBy slots (part c layout seen words stage) None Walk hand
+  pub by_walk : (k slots : ℕ) (hand : Hand V) (stage : Stage) → IsToWalk k stage → slots ≡ number_count layout
+      → GoesBy slots (part c layout seen words stage) None Walk hand
   by_walk k slots hand (Sends q) is deep = absurd is
   by_walk k slots hand (Owns (Some j) walked batch) is deep = λ m brs homes sound fits wide sh.
       let low = cursor_is m sound j fits.keeps.1 in
@@ -123,9 +132,11 @@ module _ {V : Type 0} (c : ℕ) (layout : Layout) (seen : List Event) (words : L
       goes_still m (part c layout seen words (Owns cursor walked batch)) brs homes sh End _ _ hand
       (shelves_end m (part c layout seen words (Owns cursor walked batch)) brs homes sh (running m.history)) (refl, refl)
 
-  pub by_chain : (k slots : ℕ) (x : Option V) (hand : Hand V) (stage : Stage) → IsRested stage → Carries layout.items k x → k < layout.items → slots ≡ number_count layout
+  pub by_chain : (k slots : ℕ) (x : Option V) (hand : Hand V) (stage : Stage) → IsRested stage → Carries layout.items k x → k < layout.items
+      → slots ≡ number_count layout
       → GoesBy slots (part c layout seen words stage) x (Chain k) hand
   by_chain k slots x hand (Sends q) rested fit item deep = absurd rested
   by_chain k slots x hand (Owns cursor walked batch) rested fit item deep = λ m brs homes sound fits wide sh.
       let size : number_count layout ≡ number_count m.layout = ap number_count fits.layout_is in
-      goes_chain m sound (part c layout seen words (Owns cursor walked batch)) brs homes sh k x hand (subst (λ l. Carries l.items k x) fits.layout_is fit) (omega (arith, item, size)) (omega (arith, item, deep, wide))
+      goes_chain m sound (part c layout seen words (Owns cursor walked batch)) brs homes sh k x hand (subst
+      (λ l. Carries l.items k x) fits.layout_is fit) (omega (arith, item, size)) (omega (arith, item, deep, wide))

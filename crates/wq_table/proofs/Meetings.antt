@@ -1,15 +1,12 @@
 -- Views that are joined, and that see all.
-use Rattle.std.proofs.Common.{◌≡◌, ◌≢◌, ℕ, List, [], ◌∷◌, ◌++◌, length, map, get_or, set, Option, Some, None, sym, refl, ap, ◌∙◌, subst, ⊎_elim}
+use Rattle.std.proofs.Common.{◌≡◌, ◌≢◌, ℕ, List, [], ◌∷◌, ◌++◌, map, get_or, set, Option, sym, refl, ap, ◌∙◌, subst, ⊎_elim}
 use Rattle.std.proofs.lemmas.List.{map-append}
 use mathlib.Core.Option.{some, none}
 use lib.ListN.{get_elem?}
-use Rattle.atomic_table.specs.Seated.{TableId}
-use Rattle.atomic_table.specs.Table.{State, keeps, step, Allows, Joins}
+use Rattle.atomic_table.specs.Table.{keeps, step, Allows, Joins}
 use Rattle.atomic_table.proofs.Lists.{at_set, set_else, at_map}
 use Rattle.wq_words.specs.declared.layout.Layout.{Layout}
 use Rattle.wq_words.specs.declared.event.Event.{Event}
-use Rattle.wq_words.specs.History.{accepted}
-use Rattle.wq_words.proofs.Prefixes.{prefix_self}
 use Rattle.wq_core.specs.Machine.{Machine}
 use Rattle.wq_table.specs.declared.values.ValuePart.{ValuePart}
 use Rattle.wq_table.specs.Law.{View, Kept}
@@ -37,7 +34,8 @@ module _ {V : Type 0} where
       let same : map plain_view (set (set s.views id (w ++ v)) other []) ≡ set (set views id (pw ++ pv)) other [] =
       map_set plain_view (set s.views id (w ++ v)) other [] ∙ ap (λ (vs : List View). set vs other []) first in
       let cut = boths l id pv other pw (plain s) r.base plain_at apart plain_there in
-      let whole : (k : Kept l (plain (record { words = s.words; homes = s.homes; views = set (set s.views id (w ++ v)) other [] }))) × (k.machine ≡ r.base.machine) =
+      let whole : (k : Kept l (plain (record { words = s.words; homes = s.homes; views = set (set s.views id (w ++ v)) other [] }))) ×
+      (k.machine ≡ r.base.machine) =
       subst (λ (vs : List View). (k : Kept l (record { words = s.words; homes = []; views = vs })) × (k.machine ≡ r.base.machine)) (sym same)
       (cut, boths_machine l id pv other pw (plain s) r.base plain_at apart plain_there) in
       let at_other : get_elem? s.views other ≡ some w = sym (set_else s.views id other (w ++ v) apart) ∙ there in record {
@@ -59,7 +57,8 @@ module _ {V : Type 0} where
       let seen : ValueView V = map (telling r.brought) (all_see h pv) in
       let same : map plain_view (set s.views id seen) ≡ set views id (all_see h pv) =
       map_set plain_view s.views id seen ∙ ap (set views id) (plain_telling r.brought (all_see h pv)) in
-      let whole : (k : Kept l (plain (record { words = set s.words i (get_or s.words i 0); homes = s.homes; views = set s.views id seen }))) × (k.machine ≡ m) =
+      let whole : (k : Kept l (plain (record { words = set s.words i (get_or s.words i 0); homes = s.homes; views = set s.views id seen }))) ×
+      (k.machine ≡ m) =
       subst (λ (vs : List View). (k : Kept l (record { words = set s.words i (get_or s.words i 0); homes = []; views = vs })) × (k.machine ≡ m)) (sym same)
       (kept_meeting l id i pv (plain s) r.base plain_at) in (
         seen,

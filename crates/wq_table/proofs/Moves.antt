@@ -1,34 +1,31 @@
 -- What each kind of step does to the slots, and to the hand of the seat that makes it.
-use Rattle.std.proofs.Common.{◌≡◌, ◌≢◌, ℕ, ◌+◌, ◌%◌, ◌^◌, ◌<◌, ◌≤◌, ◌==◌, Bool, true, false, cond, if◌then◌else◌, List, [], ◌∷◌, ◌++◌, length, set, slice_get, Option, Some, None, MatchBool, sym, refl, ap, ◌∙◌, subst, arith, inl, inr, ⊎_elim}
-use Rattle.std.specs.List.{count_by}
+use Rattle.std.proofs.Common.{◌≡◌, ◌≢◌, ℕ, ◌+◌, ◌%◌, ◌^◌, ◌<◌, ◌≤◌, ◌==◌, Bool, true, false, cond, if◌then◌else◌, List, [], ◌∷◌, ◌++◌, length, set, slice_get, Option, Some, None, sym, refl, ap, ◌∙◌, subst, arith, inl, inr, ⊎_elim}
 use Rattle.std.proofs.lemmas.List.{append-nil, length_push}
 use Rattle.std.proofs.lemmas.Option.{slice_get_within}
-use Rattle.std.proofs.lemmas.Bool.{eqb-true, eqb-false, eq-eqb, ne_eqb, cases_lt}
+use Rattle.std.proofs.lemmas.Bool.{eqb-true, eqb-false, eq-eqb, ne_eqb}
 use mathlib.Core.Option.{some, none}
 use mathlib.Core.List.{IsPrefix, reverse_aux}
 use Rattle.std.specs.Prelude.{reverse}
 use lib.ListN.{get_elem?}
-use Rattle.atomic_table.specs.Table.{Act, keeps, takes, gives, Valid, homes_after, carried_after}
+use Rattle.atomic_table.specs.Table.{keeps, takes, gives}
 use Rattle.wq_words.specs.declared.event.Why.{Why}
 use Rattle.wq_words.specs.declared.event.Event.{Event}
 use Rattle.wq_words.specs.declared.event.Event.TheVariants.{Hold, Busy, Push, Back, Take, Close, Drain, Resume, Begin, End, Chain, ChainBusy, Rest}
 use Rattle.wq_words.specs.declared.layout.Layout.{Layout}
 use Rattle.wq_words.specs.Numbers.{number_count}
-use Rattle.wq_words.specs.History.{accepted_by, accepted, begun_by, begun, running, Holds, IsRunning}
+use Rattle.wq_words.specs.History.{accepted_by, accepted, begun_by, begun, Holds}
 use Rattle.wq_words.specs.Legal.{IsLegal}
 use Rattle.wq_words.specs.Keeper.{Keeper, Home, Sender, Listed, Owner, taken_over, keeper_after, keeper}
 use Rattle.wq_words.proofs.Growing.{filter_map_push_some, filter_map_push_none}
 use Rattle.wq_words.proofs.Listed.{accepted_push_none}
-use Rattle.wq_words.proofs.Keepers.{IsQueue, queue_bit, queue_from_bit, kept}
+use Rattle.wq_words.proofs.Keepers.{IsQueue, queue_from_bit, kept}
 use Rattle.wq_words.proofs.Order.{in_order}
 use Rattle.wq_words.proofs.Places.{counted_once, counted_twice, keeps_from_keeper}
-use Rattle.wq_words.proofs.Prefixes.{prefix_self, prefix_length}
+use Rattle.wq_words.proofs.Prefixes.{prefix_self}
 use Rattle.wq_words.proofs.Ranks.{slice_get-some}
-use Rattle.wq_words.proofs.Running.{runs_some}
-use Rattle.wq_core.specs.Machine.{Machine, head, link, item_word, seen_word, nothing_seen, with_head, with_item, with_private, with_done, done_word, happened, unlinked, walked_past, after_walk, after_begin, after_end, private}
-use Rattle.wq_core.specs.Machine as machine
+use Rattle.wq_core.specs.Machine.{Machine, head, link, item_word, seen_word, nothing_seen, with_head, with_item, with_private, with_done, done_word, happened, after_walk, after_begin, after_end}
 use Rattle.wq_core.specs.Sound.{IsSound, AreChained, IsChain}
-use Rattle.wq_core.specs.Words.{number_at, word_at}
+use Rattle.wq_core.specs.Words.{number_at}
 use Rattle.wq_core.proofs.Chains.{times, times-cons, times-append, times-reverse_aux, times-first}
 use Rattle.wq_words.specs.Listed.{listed}
 use Rattle.wq_core.proofs.KeptSound.{home_from_clear, sender_from_holds, away_from_sender}
@@ -41,7 +38,7 @@ use Rattle.wq_table.specs.Slots.{Fits, Slots, Shelves, IsAway, IsSenders, taken_
 use Rattle.wq_table.specs.declared.table.Stage.TheVariants.{Owns}
 use Rattle.wq_core.specs.declared.step.Step.{Step}
 use Rattle.wq_core.specs.declared.step.Step.TheVariants as step
-use Rattle.wq_table.specs.SlotSteps.{Hand, IsBrought, Walks, Moves, Goes}
+use Rattle.wq_table.specs.SlotSteps.{Hand, Walks, Moves, Goes}
 use Rattle.wq_table.proofs.Shelves.{fits_still, fits_taken, fits_emptied, fits_brought, fits_chained}
 
 -- a number that waits is kept by the list or the owner, and has one place
@@ -109,7 +106,14 @@ cursor_count n ws k walked batch acc beg lst a = go a.remaining a.walk_chain a.o
     go [] c order = absurd (omega (arith, c))
     go (i ∷ rest) c order =
         let one : cond {A = ℕ} (i == k) 1 0 ≡ 1 = ap {B = ℕ} (λ (q : Bool). cond q 1 0) (eq-eqb i k (omega (arith, c.0))) in
-        omega (arith, split_count k acc beg batch (reverse_aux (i ∷ rest) walked) (reverse lst) order, times-reverse_aux k (i ∷ rest) walked, times-cons k i rest, one)
+        omega (
+          arith,
+          split_count k acc beg batch (reverse_aux (i ∷ rest) walked) (reverse lst) order,
+          times-reverse_aux k
+              (i ∷ rest) walked,
+          times-cons k i rest,
+          one,
+        )
 
 cursor_waits : (m : Machine) → IsSound m → (k : ℕ) → m.cursor ≡ Some k → IsQueue (keeper m.history k) × (times k m.walked + times k m.batch ≡ 0)
 cursor_waits m o k on =
@@ -139,11 +143,17 @@ over_sends Listed is = absurd is
 over_sends Owner is = is
 
 -- the event is about k alone: another number is away as before
-away_other : (h : List Event) (e : Event) (k : ℕ) (y : Keeper) (n n' : ℕ) → Gives k e y → (j : ℕ) → j ≢ k → n ≡ n' → IsAway (keeper (h ++ e ∷ []) j) n' → IsAway (keeper h j) n
-away_other h e k y n n' g j other same is = subst (λ (z : Keeper × ℕ). IsAway z.0 z.1) (λ i. ((keeper_push h e j ∙ g.0 j (keeper h j) other) i, sym same i)) is
+away_other : (h : List Event) (e : Event) (k : ℕ) (y : Keeper) (n n' : ℕ) → Gives k e y → (j : ℕ) → j ≢ k → n ≡ n'
+    → IsAway (keeper (h ++ e ∷ []) j) n' → IsAway (keeper h j) n
+away_other h e k y n n' g j other same is = subst (λ (z : Keeper × ℕ). IsAway z.0 z.1) (λ i. (
+  (keeper_push h e j ∙
+      g.0 j (keeper h j) other) i,
+  sym same i,
+)) is
 
 -- the event leaves k at no sender, and the owner has it not
-away_gone : (h : List Event) (e : Event) (k : ℕ) (y : Keeper) (out out' : ℕ → ℕ) → Gives k e y → (IsSenders y → ⊥) → out' k ≡ 0 → ((j : ℕ) → j ≢ k → out j ≡ out' j)
+away_gone : (h : List Event) (e : Event) (k : ℕ) (y : Keeper) (out out' : ℕ → ℕ) → Gives k e y → (IsSenders y → ⊥) → out' k ≡ 0 → ((j : ℕ) → j ≢ k
+    → out j ≡ out' j)
     → (j : ℕ) → IsAway (keeper (h ++ e ∷ []) j) (out' j) → (j ≢ k) × IsAway (keeper h j) (out j)
 away_gone h e k y out out' g none_sends zero same j is =
     let other : j ≢ k = λ e'. ⊎_elim
@@ -167,24 +177,37 @@ module _ {V : Type 0} where
       let h : List Event = m.history in
       subst (λ (z : List ℕ × List ℕ). Fits None (Carries m.layout.items) (keeper (h ++ e ∷ [])) (taken_times m.walked m.batch) (length z.0) z.1 brs homes)
       (λ i. (sym (begun_same h e none_begun) i, sym (accepted_push_none h e none_accepted) i))
-      (fits_still None (Carries m.layout.items) (keeper h) (keeper (h ++ e ∷ [])) (taken_times m.walked m.batch) (taken_times m.walked m.batch) (length (begun h)) (length (begun h))
+      (fits_still None (Carries m.layout.items) (keeper h) (keeper (h ++ e ∷ [])) (taken_times m.walked m.batch) (taken_times m.walked m.batch)
+      (length (begun h)) (length (begun h))
       (accepted h) brs homes s
       (λ k is. ⊎_elim (λ x. inl (sends k (keeper h k) (subst IsSenders (keeper_push h e k) x))) (λ n. inr n) is)
       (λ k at. home k (keeper h k) (sym (keeper_push h e k) ∙ at)) (λ k away. away) (omega arith))
 
   module _ (m : Machine) (p : Part) (brs : List (Option V)) (homes : Slots V) (sh : Shelves m brs homes) where
     -- no slot moves
-    pub goes_still : (σ : Step) (n : Machine) (word : ℕ) (c : Hand V) → Shelves n brs homes → Moves None σ p m word brs c brs c → Goes None σ m n p word brs homes c
-    goes_still σ n word c s still = record { act = keeps; valid = tt; brs' = brs; more = prefix_self brs; shelves = s; moved = λ some_slot. still; rests = λ none_there. refl }
+    pub goes_still : (σ : Step) (n : Machine) (word : ℕ) (c : Hand V) → Shelves n brs homes → Moves None σ p m word brs c brs c
+        → Goes None σ m n p word brs homes c
+    goes_still σ n word c s still = record {
+      act = keeps;
+      valid = tt;
+      brs' = brs;
+      more = prefix_self brs;
+      shelves = s;
+      moved = λ some_slot. still;
+      rests = λ none_there. refl;
+    }
 
     pub shelves_take : (words : List ℕ) (cursor : Option ℕ) → Shelves (happened (record m { words = words; cursor = cursor }) Take) brs homes
-    shelves_take words cursor = quiet (record m { words = words; cursor = cursor }) Take refl refl (λ k x is. over_sends x is) (λ k x is. over_home x is) brs homes sh
+    shelves_take words cursor = quiet (record m { words = words; cursor = cursor }) Take refl refl (λ k x is. over_sends x is)
+        (λ k x is. over_home x is) brs homes sh
 
     pub shelves_close : (words : List ℕ) (cursor : Option ℕ) → Shelves (happened (record m { words = words; cursor = cursor }) Close) brs homes
-    shelves_close words cursor = quiet (record m { words = words; cursor = cursor }) Close refl refl (λ k x is. over_sends x is) (λ k x is. over_home x is) brs homes sh
+    shelves_close words cursor = quiet (record m { words = words; cursor = cursor }) Close refl refl (λ k x is. over_sends x is)
+        (λ k x is. over_home x is) brs homes sh
 
     pub shelves_drain : (words : List ℕ) (cursor : Option ℕ) → Shelves (happened (record m { words = words; cursor = cursor }) Drain) brs homes
-    shelves_drain words cursor = quiet (record m { words = words; cursor = cursor }) Drain refl refl (λ k x is. over_sends x is) (λ k x is. over_home x is) brs homes sh
+    shelves_drain words cursor = quiet (record m { words = words; cursor = cursor }) Drain refl refl (λ k x is. over_sends x is)
+        (λ k x is. over_home x is) brs homes sh
 
     pub shelves_resume : (words : List ℕ) (cursor : Option ℕ) → Shelves (happened (record m { words = words; cursor = cursor }) Resume) brs homes
     shelves_resume words cursor = quiet (record m { words = words; cursor = cursor }) Resume refl refl (λ k x is. is) (λ k x is. is) brs homes sh
@@ -204,13 +227,15 @@ module _ {V : Type 0} where
         let queue = waiting_queue m.layout m.history sound.legal j place late stands in
         queue_sender (keeper m.history j) s queue (ap (keeper m.history) same ∙ sender_from_holds m sound s k holds)
 
-    home_apart : (k : ℕ) → keeper m.history k ≡ Home → (place j : ℕ) → length (begun m.history) ≤ place → slice_get (accepted m.history) place ≡ Some j → j ≢ k
+    home_apart : (k : ℕ) → keeper m.history k ≡ Home → (place j : ℕ) → length (begun m.history) ≤ place
+        → slice_get (accepted m.history) place ≡ Some j → j ≢ k
     home_apart k home place j late stands same =
         let queue = waiting_queue m.layout m.history sound.legal j place late stands in
         queue_home (keeper m.history j) queue (ap (keeper m.history) same ∙ home)
 
     pub goes_hold : (s k : ℕ) (c : Hand V) → k < number_count m.layout → k < length homes
-        → Goes None (step.Hold k) m (if item_word m k == 0 then happened (with_item m k 1) (Hold s k) else happened m (Busy s k)) p (item_word m k) brs homes c
+        → Goes None (step.Hold k) m (if item_word m k == 0 then happened (with_item m k 1) (Hold s k) else happened m (Busy s k)) p
+        (item_word m k) brs homes c
     goes_hold s k c number low = go (item_word m k == 0) refl
       where
         go : (b : Bool) → (item_word m k == 0) ≡ b
@@ -222,9 +247,11 @@ module _ {V : Type 0} where
               brs' = brs;
               more = prefix_self brs;
               shelves =
-                  subst (λ (z : List ℕ × List ℕ). Fits None (Carries m.layout.items) (keeper (m.history ++ Hold s k ∷ [])) (taken_times m.walked m.batch) (length z.0) z.1 brs
+                  subst (λ (z : List ℕ × List ℕ). Fits None (Carries m.layout.items) (keeper (m.history ++ Hold s k ∷ []))
+                  (taken_times m.walked m.batch) (length z.0) z.1 brs
                   (set homes k none)) (λ i. (sym (begun_same m.history (Hold s k) refl) i, sym (accepted_push_none m.history (Hold s k) refl) i))
-                  (fits_taken None (Carries m.layout.items) (keeper m.history) (keeper (m.history ++ Hold s k ∷ [])) (taken_times m.walked m.batch) (taken_times m.walked m.batch)
+                  (fits_taken None (Carries m.layout.items) (keeper m.history) (keeper (m.history ++ Hold s k ∷ [])) (taken_times m.walked m.batch)
+                  (taken_times m.walked m.batch)
                   (length (begun m.history)) (length (begun m.history)) (accepted m.history) brs homes sh k
                   (λ j other is. away_other m.history (Hold s k) k (Sender s) _ _ (gives_hold s k) j other refl is)
                   (gone m.history (Hold s k) k (Sender s) (gives_hold s k) (λ e. cc))
@@ -244,12 +271,14 @@ module _ {V : Type 0} where
 
     -- the slot in front of the hand is that of k, with y in it
     pub goes_push : (k : ℕ) (y : Option V) (c : Hand V) → Carries m.layout.items k y → Holds m.history p.seat k → k < length homes
-        → Goes None (step.Push k) m (if head m == seen_word m p.seat then happened (with_private (with_head m (k + 1)) p.seat nothing_seen) (Push p.seat k) else with_private m p.seat nothing_seen)
+        → Goes None (step.Push k) m (if head m == seen_word m p.seat then happened (with_private (with_head m (k + 1)) p.seat nothing_seen)
+        (Push p.seat k) else with_private m p.seat nothing_seen)
         p (head m) brs homes ((k, y) ∷ c)
     goes_push k y c fit holds low = go (head m == seen_word m p.seat) refl
       where
         go : (b : Bool) → (head m == seen_word m p.seat) ≡ b
-            → Goes None (step.Push k) m (if b then happened (with_private (with_head m (k + 1)) p.seat nothing_seen) (Push p.seat k) else with_private m p.seat nothing_seen)
+            → Goes None (step.Push k) m (if b then happened (with_private (with_head m (k + 1)) p.seat nothing_seen)
+            (Push p.seat k) else with_private m p.seat nothing_seen)
             p (head m) brs homes ((k, y) ∷ c)
         go true e = record {
           act = gives;
@@ -257,10 +286,12 @@ module _ {V : Type 0} where
           brs' = brs ++ y ∷ [];
           more = (y ∷ [], refl);
           shelves =
-              subst (λ (z : List ℕ × List ℕ). Fits None (Carries m.layout.items) (keeper (m.history ++ Push p.seat k ∷ [])) (taken_times m.walked m.batch) (length z.0) z.1 (brs ++ y ∷ [])
+              subst (λ (z : List ℕ × List ℕ). Fits None (Carries m.layout.items) (keeper (m.history ++ Push p.seat k ∷ []))
+              (taken_times m.walked m.batch) (length z.0) z.1 (brs ++ y ∷ [])
               (set homes k (some y)))
               (λ i. (sym (begun_same m.history (Push p.seat k) refl) i, sym (filter_map_push_some accepted_by m.history (Push p.seat k) k refl) i))
-              (fits_brought None (Carries m.layout.items) (keeper m.history) (keeper (m.history ++ Push p.seat k ∷ [])) (taken_times m.walked m.batch) (taken_times m.walked m.batch)
+              (fits_brought None (Carries m.layout.items) (keeper m.history) (keeper (m.history ++ Push p.seat k ∷ []))
+              (taken_times m.walked m.batch) (taken_times m.walked m.batch)
               (length (begun m.history)) (length (begun m.history)) (accepted m.history) brs homes sh k y
               (away_gone m.history (Push p.seat k) k Listed (taken_times m.walked m.batch) (taken_times m.walked m.batch) (gives_push p.seat k) (λ x. x)
               (held_none_out m sound p.seat k (sender_from_holds m sound p.seat k holds)) (λ j other. refl))
@@ -270,7 +301,16 @@ module _ {V : Type 0} where
           moved = λ some_slot. rw e (refl, refl);
           rests = λ none_there. absurd (omega (arith, low, none_there));
         }
-        go false e = record { act = keeps; valid = tt; brs' = brs; more = prefix_self brs; shelves = sh; moved = λ some_slot. rw e (refl, refl); rests = λ none_there. refl }
+        go false e = record {
+          act = keeps;
+          valid = tt;
+          brs' = brs;
+          more = prefix_self brs;
+          shelves = sh;
+          moved = λ some_slot. rw e
+              (refl, refl);
+          rests = λ none_there. refl;
+        }
 
     -- an emptied slot is given back
     pub goes_back : (s k word : ℕ) (why : Why) (words : List ℕ) (seats : List _) (c : Hand V) → Holds m.history s k → k < length homes
@@ -281,9 +321,11 @@ module _ {V : Type 0} where
       brs' = brs;
       more = prefix_self brs;
       shelves =
-          subst (λ (z : List ℕ × List ℕ). Fits None (Carries m.layout.items) (keeper (m.history ++ Back s k why ∷ [])) (taken_times m.walked m.batch) (length z.0) z.1 brs
+          subst (λ (z : List ℕ × List ℕ). Fits None (Carries m.layout.items) (keeper (m.history ++ Back s k why ∷ []))
+          (taken_times m.walked m.batch) (length z.0) z.1 brs
           (set homes k (some None))) (λ i. (sym (begun_same m.history (Back s k why) refl) i, sym (accepted_push_none m.history (Back s k why) refl) i))
-          (fits_emptied None (Carries m.layout.items) (keeper m.history) (keeper (m.history ++ Back s k why ∷ [])) (taken_times m.walked m.batch) (taken_times m.walked m.batch)
+          (fits_emptied None (Carries m.layout.items) (keeper m.history) (keeper (m.history ++ Back s k why ∷ [])) (taken_times m.walked m.batch)
+          (taken_times m.walked m.batch)
           (length (begun m.history)) (length (begun m.history)) (accepted m.history) brs homes sh k
           (away_gone m.history (Back s k why) k Home (taken_times m.walked m.batch) (taken_times m.walked m.batch) (gives_back s k why) (λ x. x)
           (held_none_out m sound s k (sender_from_holds m sound s k holds)) (λ j other. refl))
@@ -309,17 +351,21 @@ module _ {V : Type 0} where
           brs' = brs;
           more = prefix_self brs;
           shelves =
-              subst (λ (z : ℕ × List ℕ). Fits None (Carries m.layout.items) (keeper (m.history ++ Begin k ∷ [])) (taken_times m.walked ks) z.0 z.1 brs (set homes k (some None)))
+              subst (λ (z : ℕ × List ℕ). Fits None (Carries m.layout.items) (keeper (m.history ++ Begin k ∷ []))
+              (taken_times m.walked ks) z.0 z.1 brs (set homes k (some None)))
               (λ i. (sym count i, sym (accepted_push_none m.history (Begin k) refl) i))
-              (fits_emptied None (Carries m.layout.items) (keeper m.history) (keeper (m.history ++ Begin k ∷ [])) (taken_times m.walked (k ∷ ks)) (taken_times m.walked ks)
+              (fits_emptied None (Carries m.layout.items) (keeper m.history) (keeper (m.history ++ Begin k ∷ [])) (taken_times m.walked (k ∷ ks))
+              (taken_times m.walked ks)
               b (b + 1) (accepted m.history) brs homes was k
               (away_gone m.history (Begin k) k Home (taken_times m.walked (k ∷ ks)) (taken_times m.walked ks) (gives_begin k) (λ x. x)
               (omega (arith, batch_once m sound k ks first, ap (times k) (sound.chains.rested still)))
               (λ j other. omega (arith, times-cons j k ks, ap {B = ℕ} (λ (q : Bool). cond q 1 0) (ne_eqb k j (λ same. other (sym same))))))
               (came m.history (Begin k) k Home (gives_begin k))
               (λ place j late stands away.
-              let other : j ≢ k = λ same. waiting_once m.layout m.history sound.legal k b place (omega arith) (omega (arith, late)) at (stands ∙ ap Some same) in
-              (other, omega (arith, away, times-cons j k ks, ap {B = ℕ} (λ (q : Bool). cond q 1 0) (ne_eqb k j (λ same. other (sym same)))))) (omega arith));
+              let other : j ≢ k = λ same. waiting_once m.layout m.history sound.legal k b place (omega arith) (omega (arith, late)) at (stands ∙
+              ap Some same) in
+              (other, omega (arith, away, times-cons j k ks, ap {B = ℕ} (λ (q : Bool). cond q 1 0) (ne_eqb k j (λ same. other (sym same))))))
+              (omega arith));
           moved = λ some_slot. (refl, refl);
           rests = λ none_there. absurd (omega (arith, low, none_there));
         }
@@ -334,13 +380,29 @@ module _ {V : Type 0} where
         let y : Option V = at.0 in
         let home : (j : ℕ) → keeper m.history j ≡ Home → (j ≢ k) × (keeper m.history j ≡ Home) =
         λ j is. ((λ same. queue_home (keeper m.history k) waits.0 (ap (keeper m.history) (sym same) ∙ is)), is) in
-        let not_here : (j : ℕ) → j ≢ k → ◌≡◌ {A = ℕ} (cond (k == j) 1 0) 0 = λ j other. ap {B = ℕ} (λ (q : Bool). cond q 1 0) (ne_eqb k j (λ same. other (sym same))) in
+        let not_here : (j : ℕ) → j ≢ k → ◌≡◌ {A = ℕ} (cond (k == j) 1 0) 0 = λ j other. ap {B = ℕ} (λ (q : Bool). cond q 1 0) (ne_eqb k j
+        (λ same. other (sym same))) in
         let lies : get_elem? homes k ≡ some (some y) = sh.waits place.0 k y low place.1 place.2 waits.1 at.1 in
         let tells : Walks p.stage m brs c brs ((k, y) ∷ c) =
-        subst (λ st. Walks st m brs c brs ((k, y) ∷ c)) (sym stage)
-        (refl, y, refl, record { place = place.0; later = place.1; stands = place.2; has = at.1; kind = sh.right place.0 k y (omega (arith, low)) place.2 at.1 }) in
+        subst (λ st. Walks st m brs c brs ((k, y) ∷ c)) (sym stage) (
+          refl,
+          y,
+          refl,
+          record {
+            place = place.0;
+            later = place.1;
+            stands = place.2;
+            has = at.1;
+            kind = sh.right place.0 k y (omega
+                (arith, low)) place.2 at.1;
+          },
+        ) in
         let go : (b : Bool)
-        → Goes None step.Walk m (if b then record m { cursor = None; walked = []; batch = m.batch ++ k ∷ m.walked } else record m { cursor = number_at (link m k); walked = k ∷ m.walked })
+        → Goes None step.Walk m (if b then record m { cursor = None; walked = []; batch = m.batch ++ k ∷ m.walked } else record m {
+          cursor =
+              number_at (link m k);
+          walked = k ∷ m.walked;
+        })
         p word brs homes c = elim [
           | true ↦ record {
             act = takes k y;
@@ -348,9 +410,16 @@ module _ {V : Type 0} where
             brs' = brs;
             more = prefix_self brs;
             shelves =
-                fits_taken None (Carries m.layout.items) (keeper m.history) (keeper m.history) (taken_times m.walked m.batch) (taken_times [] (m.batch ++ k ∷ m.walked))
+                fits_taken None (Carries m.layout.items) (keeper m.history) (keeper m.history) (taken_times m.walked m.batch) (taken_times []
+                (m.batch ++ k ∷ m.walked))
                 (length (begun m.history)) (length (begun m.history)) (accepted m.history) brs homes sh k
-                (λ j other is. subst (IsAway (keeper m.history j)) (omega (arith, times-append j m.batch (k ∷ m.walked), times-cons j k m.walked, not_here j other)) is) home
+                (λ j other is. subst (IsAway (keeper m.history j)) (omega (
+                  arith,
+                  times-append j m.batch
+                      (k ∷ m.walked),
+                  times-cons j k m.walked,
+                  not_here j other,
+                )) is) home
                 (λ i j late stands away. (
                   not_counted j k (k == j) refl (omega (arith, away, times-append j m.batch (k ∷ m.walked), times-cons j k m.walked)),
                   omega (arith, away, times-append j m.batch (k ∷ m.walked), times-cons j k m.walked),
@@ -364,7 +433,8 @@ module _ {V : Type 0} where
             brs' = brs;
             more = prefix_self brs;
             shelves =
-                fits_taken None (Carries m.layout.items) (keeper m.history) (keeper m.history) (taken_times m.walked m.batch) (taken_times (k ∷ m.walked) m.batch)
+                fits_taken None (Carries m.layout.items) (keeper m.history) (keeper m.history) (taken_times m.walked m.batch) (taken_times
+                (k ∷ m.walked) m.batch)
                 (length (begun m.history)) (length (begun m.history)) (accepted m.history) brs homes sh k
                 (λ j other is. subst (IsAway (keeper m.history j)) (omega (arith, times-cons j k m.walked, not_here j other)) is) home
                 (λ i j late stands away. (
@@ -393,7 +463,8 @@ module _ {V : Type 0} where
 
     -- the slot of a chained item is taken, with nothing in it, and it is accepted with what is to be put there
     pub goes_chain : (k : ℕ) (x : Option V) (c : Hand V) → Carries m.layout.items k x → k < number_count m.layout → k < length homes
-        → Goes x (step.Chain k) m (if item_word m k == 0 then happened (record (with_item m k 1) { batch = m.batch ++ k ∷ [] }) (Chain k) else happened m (ChainBusy k))
+        → Goes x (step.Chain k) m (if item_word m k == 0 then happened (record (with_item m k 1) { batch = m.batch ++ k ∷ [] })
+        (Chain k) else happened m (ChainBusy k))
         p (item_word m k) brs homes c
     goes_chain k x c fit number low = go (item_word m k == 0) refl
       where
@@ -409,7 +480,8 @@ module _ {V : Type 0} where
               brs' = brs ++ x ∷ [];
               more = (x ∷ [], refl);
               shelves =
-                  subst (λ (z : List ℕ × List ℕ). Fits None (Carries m.layout.items) (keeper (m.history ++ Chain k ∷ [])) (taken_times m.walked (m.batch ++ k ∷ [])) (length z.0) z.1
+                  subst (λ (z : List ℕ × List ℕ). Fits None (Carries m.layout.items) (keeper (m.history ++ Chain k ∷ [])) (taken_times m.walked
+                  (m.batch ++ k ∷ [])) (length z.0) z.1
                   (brs ++ x ∷ []) (set homes k none))
                   (λ i. (sym (begun_same m.history (Chain k) refl) i, sym (filter_map_push_some accepted_by m.history (Chain k) k refl) i))
                   (fits_chained None (Carries m.layout.items) (keeper m.history) (keeper (m.history ++ Chain k ∷ [])) (taken_times m.walked m.batch)

@@ -1,22 +1,19 @@
 -- How the rule begins, and how a view is cut.
-use Rattle.std.proofs.Common.{◌≡◌, ◌≢◌, ℕ, zero, suc, ◌+◌, ◌<◌, ◌≤◌, List, [], ◌∷◌, ◌++◌, length, map, get_or, set, replicate, Option, Some, None, sym, refl, ap, ◌∙◌, subst, ⊎_elim, arith, length-set}
+use Rattle.std.proofs.Common.{◌≡◌, ◌≢◌, ℕ, zero, suc, ◌+◌, ◌<◌, List, [], ◌∷◌, ◌++◌, length, map, set, replicate, Option, None, sym, refl, ap, ◌∙◌, subst, ⊎_elim, arith}
 use Rattle.std.proofs.lemmas.List.{map-append}
-use mathlib.Core.Option.{some, none, some-injective, some-ne-none}
+use mathlib.Core.Option.{some, some-injective, some-ne-none}
 use lib.ListN.{get_elem?}
-use Rattle.atomic_table.specs.Table.{State, Splits, opening}
+use Rattle.atomic_table.specs.Table.{Splits, opening}
 use Rattle.atomic_table.proofs.Lists.{at_set, at_map}
 use Rattle.wq_words.specs.declared.layout.Layout.{Layout}
 use Rattle.wq_words.specs.Numbers.{number_count}
-use Rattle.wq_words.specs.History.{accepted}
 use Rattle.wq_words.proofs.Growing.{at_end}
 use Rattle.wq_words.proofs.Prefixes.{prefix_self}
 use Rattle.wq_core.specs.Words.{word_count}
 use Rattle.wq_core.specs.Machine.{Machine}
 use Rattle.wq_core.specs.Machine as machine
-use Rattle.wq_table.specs.declared.table.Part.{Part}
 use Rattle.wq_table.specs.Law.{View, Kept, row, opening_view, front_of, rest_of}
 use Rattle.wq_table.proofs.Views.{opens, opens_machine, offs, offs_machine}
-use Rattle.wq_table.specs.declared.values.ValuePart.{ValuePart}
 use Rattle.wq_table.specs.Slots.{Shelves, ValueView, plain_view, plain, AllKnow, KeptValues, telling, opening_values, front_values, rest_values}
 use Rattle.wq_table.proofs.ValueRule.{map_set, plain_telling}
 
@@ -77,10 +74,16 @@ module _ {V : Type 0} where
       let pv : View = plain_view v in
       let plain_at : get_elem? (map plain_view s.views) id ≡ some pv = at_map plain_view s.views id v at in
       let cut = offs l id pv (plain s) r.base plain_at in
-      let same : (map plain_view (set s.views id (rest_values v) ++ front_values v ∷ [])) ≡ set (map plain_view s.views) id (rest_of pv) ++ front_of pv ∷ [] =
+      let same : (map plain_view (set s.views id (rest_values v) ++ front_values v ∷ [])) ≡ set (map plain_view s.views) id
+      (rest_of pv) ++ front_of pv ∷ [] =
       map-append plain_view (set s.views id (rest_values v)) (front_values v ∷ []) ∙
       (λ i. (map_set plain_view s.views id (rest_values v) ∙ ap (set (map plain_view s.views) id) (plain_rest v)) i ++ plain_front v i ∷ []) in
-      let whole : (k : Kept l (plain (record { words = s.words; homes = s.homes; views = set s.views id (rest_values v) ++ front_values v ∷ [] }))) × (k.machine ≡ r.base.machine) =
+      let whole : (k : Kept l (plain (record {
+        words = s.words;
+        homes = s.homes;
+        views = set s.views id
+            (rest_values v) ++ front_values v ∷ [];
+      }))) × (k.machine ≡ r.base.machine) =
       subst (λ (vs : List View). (k : Kept l (record { words = s.words; homes = []; views = vs })) × (k.machine ≡ r.base.machine)) (sym same)
       (cut, offs_machine l id pv (plain s) r.base plain_at) in record {
         base = whole.0;
@@ -90,6 +93,7 @@ module _ {V : Type 0} where
             (λ (t : get_elem? (set s.views id (rest_values v)) j ≡ some w). ⊎_elim
             (λ (u : (j ≡ id) × (rest_values v ≡ w)). subst (AllKnow r.brought) u.1 (rest_knows r.brought v (r.told id v at)))
             (λ (u : (j ≢ id) × (get_elem? s.views j ≡ some w)). r.told j w u.1) (at_set s.views id j (rest_values v) w t))
-            (λ (t : (j ≡ length (set s.views id (rest_values v))) × (front_values v ≡ w)). subst (AllKnow r.brought) t.1 (front_knows r.brought v (r.told id v at)))
+            (λ (t : (j ≡ length (set s.views id (rest_values v))) × (front_values v ≡ w)). subst (AllKnow r.brought) t.1 (front_knows r.brought v
+            (r.told id v at)))
             (at_end (set s.views id (rest_values v)) (front_values v) w j there);
       }

@@ -1,5 +1,5 @@
 -- What lies in the slots, a step at a time, over plain lists.
-use Rattle.std.proofs.Common.{◌≡◌, ◌≢◌, ℕ, ◌+◌, ◌<◌, ◌≤◌, List, [], ◌∷◌, ◌++◌, length, set, slice_get, Some, sym, refl, ap, ◌∙◌, subst, ⊎_elim, arith, length-set}
+use Rattle.std.proofs.Common.{◌≡◌, ◌≢◌, ℕ, ◌<◌, ◌≤◌, List, [], ◌∷◌, ◌++◌, length, set, slice_get, Some, sym, ap, ◌∙◌, subst, ⊎_elim, arith, length-set}
 use Rattle.std.proofs.lemmas.List.{length_push}
 use Rattle.std.proofs.lemmas.Option.{slice_get_within}
 use mathlib.Core.Option.{some, none}
@@ -12,10 +12,12 @@ use Rattle.wq_words.specs.Keeper.{Keeper, Home}
 use Rattle.wq_words.proofs.Growing.{slice_get_push}
 use Rattle.wq_table.specs.Slots.{Fits, IsAway}
 
-module _ {S : Type 0} (nothing : S) (R : ℕ → S → Type 0) (kp kp' : ℕ → Keeper) (out out' : ℕ → ℕ) (b b' : ℕ) (acs : List ℕ) (brs : List S) (homes : List (maybe.Option S))
+module _ {S : Type 0} (nothing : S) (R : ℕ → S → Type 0) (kp kp' : ℕ → Keeper) (out out' : ℕ
+    → ℕ) (b b' : ℕ) (acs : List ℕ) (brs : List S) (homes : List (maybe.Option S))
     (fits : Fits nothing R kp out b acs brs homes) where
   -- no slot moves: nothing comes home or begins to wait
-  pub fits_still : ((k : ℕ) → IsAway (kp' k) (out' k) → IsAway (kp k) (out k)) → ((k : ℕ) → kp' k ≡ Home → kp k ≡ Home) → ((k : ℕ) → out' k ≡ 0 → out k ≡ 0) → b ≤ b' → Fits nothing R kp' out' b' acs brs homes
+  pub fits_still : ((k : ℕ) → IsAway (kp' k) (out' k) → IsAway (kp k) (out k)) → ((k : ℕ) → kp' k ≡ Home → kp k ≡ Home) → ((k : ℕ) → out' k ≡ 0
+      → out k ≡ 0) → b ≤ b' → Fits nothing R kp' out' b' acs brs homes
   fits_still gone home away later = record {
     as_many = fits.as_many;
     free = λ k low at. fits.free k low (home k at);
@@ -30,7 +32,8 @@ module _ {S : Type 0} (nothing : S) (R : ℕ → S → Type 0) (kp kp' : ℕ →
       → b ≤ b' → Fits nothing R kp' out' b' acs brs (set homes j none)
   fits_taken j gone home away later = record {
     away = λ k low is. dite (ℕ_discrete k j)
-        (λ same. subst (λ (z : ℕ). get_elem? (set homes j none) z ≡ some none) (sym same) (set_here homes j none (omega (arith, same, low, length-set homes j none))))
+        (λ same. subst (λ (z : ℕ). get_elem? (set homes j none) z ≡ some none) (sym same) (set_here homes j none (omega
+        (arith, same, low, length-set homes j none))))
         (λ other. set_else homes j k none other ∙ fits.away k (omega (arith, low, length-set homes j none)) (gone k other is));
     as_many = fits.as_many;
     free = λ k low at. let old = home k at in set_else homes j k none old.0 ∙ fits.free k (omega (arith, low, length-set homes j none)) old.1;
@@ -46,7 +49,8 @@ module _ {S : Type 0} (nothing : S) (R : ℕ → S → Type 0) (kp kp' : ℕ →
       → ((place k : ℕ) → b' ≤ place → slice_get acs place ≡ Some k → out' k ≡ 0 → (k ≢ j) × (out k ≡ 0))
       → b ≤ b' → Fits nothing R kp' out' b' acs brs (set homes j (some nothing))
   fits_emptied j gone home away later = record {
-    away = λ k low is. let old = gone k is in set_else homes j k (some nothing) old.0 ∙ fits.away k (omega (arith, low, length-set homes j (some nothing))) old.1;
+    away = λ k low is. let old = gone k is in set_else homes j k (some nothing) old.0 ∙
+        fits.away k (omega (arith, low, length-set homes j (some nothing))) old.1;
     as_many = fits.as_many;
     free = λ k low at. dite (ℕ_discrete k j)
         (λ same. subst (λ (z : ℕ). get_elem? (set homes j (some nothing)) z ≡ some (some nothing)) (sym same)
@@ -66,7 +70,8 @@ module _ {S : Type 0} (nothing : S) (R : ℕ → S → Type 0) (kp kp' : ℕ →
       (λ (s : slice_get acs place ≡ Some k). ⊎_elim (λ (h : slice_get brs place ≡ Some y). old s h)
       (λ (h : (place ≡ length brs) × (x ≡ y)). absurd (omega (arith, slice_get_within acs place k s, h.0, fits.as_many)))
       (slice_get_push brs x y place has))
-      (λ (s : (place ≡ length acs) × (j ≡ k)). ⊎_elim (λ (h : slice_get brs place ≡ Some y). absurd (omega (arith, slice_get_within brs place y h, s.0, fits.as_many)))
+      (λ (s : (place ≡ length acs) × (j ≡ k)). ⊎_elim (λ (h : slice_get brs place ≡ Some y). absurd (omega
+      (arith, slice_get_within brs place y h, s.0, fits.as_many)))
       (λ (h : (place ≡ length brs) × (x ≡ y)). new s.1 h.1)
       (slice_get_push brs x y place has))
       (slice_get_push acs j k place stands)
@@ -75,7 +80,8 @@ module _ {S : Type 0} (nothing : S) (R : ℕ → S → Type 0) (kp kp' : ℕ →
   more j x = omega (arith, length_push brs x, length_push acs j, fits.as_many)
 
   -- the slot of j is given back, with what j brought
-  pub fits_brought : (j : ℕ) (x : S) → ((k : ℕ) → IsAway (kp' k) (out' k) → (k ≢ j) × IsAway (kp k) (out k)) → (0 < length homes → R j x) → ((k : ℕ) → kp' k ≡ Home → (k ≢ j) × (kp k ≡ Home))
+  pub fits_brought : (j : ℕ) (x : S) → ((k : ℕ) → IsAway (kp' k) (out' k) → (k ≢ j) × IsAway (kp k) (out k)) → (0 < length homes → R j x)
+      → ((k : ℕ) → kp' k ≡ Home → (k ≢ j) × (kp k ≡ Home))
       → ((place k : ℕ) → b ≤ place → slice_get acs place ≡ Some k → out' k ≡ 0 → (k ≢ j) × (out k ≡ 0))
       → b ≤ b' → Fits nothing R kp' out' b' (acs ++ j ∷ []) (brs ++ x ∷ []) (set homes j (some x))
   fits_brought j x gone fit home away later = record {
@@ -96,12 +102,14 @@ module _ {S : Type 0} (nothing : S) (R : ℕ → S → Type 0) (kp kp' : ℕ →
   }
 
   -- the slot of j is taken, and j is accepted with what it is to have
-  pub fits_chained : (j : ℕ) (x : S) → ((k : ℕ) → k ≢ j → IsAway (kp' k) (out' k) → IsAway (kp k) (out k)) → (0 < length homes → R j x) → ((k : ℕ) → kp' k ≡ Home → (k ≢ j) × (kp k ≡ Home))
+  pub fits_chained : (j : ℕ) (x : S) → ((k : ℕ) → k ≢ j → IsAway (kp' k) (out' k) → IsAway (kp k) (out k)) → (0 < length homes → R j x) → ((k : ℕ)
+      → kp' k ≡ Home → (k ≢ j) × (kp k ≡ Home))
       → ((place k : ℕ) → b ≤ place → slice_get acs place ≡ Some k → out' k ≡ 0 → (k ≢ j) × (out k ≡ 0))
       → (out' j ≢ 0) → b ≤ b' → Fits nothing R kp' out' b' (acs ++ j ∷ []) (brs ++ x ∷ []) (set homes j none)
   fits_chained j x gone fit home away taken later = record {
     away = λ k low is. dite (ℕ_discrete k j)
-        (λ same. subst (λ (z : ℕ). get_elem? (set homes j none) z ≡ some none) (sym same) (set_here homes j none (omega (arith, same, low, length-set homes j none))))
+        (λ same. subst (λ (z : ℕ). get_elem? (set homes j none) z ≡ some none) (sym same) (set_here homes j none (omega
+        (arith, same, low, length-set homes j none))))
         (λ other. set_else homes j k none other ∙ fits.away k (omega (arith, low, length-set homes j none)) (gone k other is));
     as_many = more j x;
     free = λ k low at. let old = home k at in set_else homes j k none old.0 ∙ fits.free k (omega (arith, low, length-set homes j none)) old.1;

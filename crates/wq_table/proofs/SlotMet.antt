@@ -1,23 +1,21 @@
 -- Two chairs whose table may have slots meet.
-use Rattle.std.proofs.Common.{◌≡◌, ◌≢◌, ℕ, List, [], ◌∷◌, ◌++◌, map, sym, refl, ap, ◌∙◌, subst, Option}
+use Rattle.std.proofs.Common.{◌≡◌, List, [], ◌∷◌, ◌++◌, map, sym, ap, ◌∙◌, subst}
 use Rattle.atomic_table.specs.Seated.{TableId}
 use Rattle.wq_words.specs.declared.layout.Layout.{Layout}
 use Rattle.wq_words.specs.declared.event.Event.{Event}
-use Rattle.wq_table.specs.declared.table.Part.{Part}
-use Rattle.wq_table.specs.declared.values.ValuePart.{ValuePart}
 use Rattle.wq_table.specs.declared.value_chair.ValueChair.TheInside.{Inside}
 use Rattle.wq_table.specs.Law.{View}
 use Rattle.wq_table.specs.Plays.{see, all_see, AllOf}
-use Rattle.wq_table.specs.Sits.{AreSized}
 use Rattle.wq_table.specs.Slots.{ValueView, plain_view, AllKnow, telling, front_values, rest_values}
 use Rattle.wq_table.specs.SlotSteps.{ValueSat, ValuesSeen}
-use Rattle.wq_table.specs.SlotChairs.{ValueStanding, standing_of, value_standing, ValueSits, knowing, ValueMeet}
+use Rattle.wq_table.specs.SlotChairs.{ValueStanding, value_standing, ValueSits, ValueMeet}
 use Rattle.wq_table.proofs.Told.{sized_seeing}
 use Rattle.wq_table.proofs.ValueRule.{plain_telling}
 use Rattle.wq_table.proofs.SlotTold.{with_seat, sized_in, sits_with}
 
 module _ {V : Type 0} (this that : ValueStanding V) (me other both sees : ValueSat V) (has : me ≡ (this.first ∷ this.others, this.hand))
-    (other_has : other ≡ (that.first ∷ that.others, that.hand)) (alone : that.others ≡ []) (joined : both ≡ (other.0 ++ me.0, me.1)) (all : ValuesSeen both sees) where
+    (other_has : other ≡ (that.first ∷ that.others, that.hand)) (alone : that.others ≡ []) (joined : both ≡ (other.0 ++ me.0, me.1))
+    (all : ValuesSeen both sees) where
   parts : both.0 ≡ that.first ∷ this.first ∷ this.others
   parts = ap (λ (z : ValueSat V). z.0) joined ∙
       (λ i. (ap (λ (z : ValueSat V). z.0) other_has ∙ ap (λ (v : ValueView V). that.first ∷ v) alone) i ++ ap (λ (z : ValueSat V). z.0) has i)
@@ -30,7 +28,8 @@ module _ {V : Type 0} (this that : ValueStanding V) (me other both sees : ValueS
       ∷ telling all.brought (see all.machine.history this.first.part) ∷ map (telling all.brought) (all_see all.machine.history (plain_view this.others))
   now_is = all.is ∙ ap (λ (v : ValueView V). map (telling all.brought) (all_see all.machine.history (plain_view v))) parts
 
-  pub met_slots : (q r : TableId) (l k : Layout) (mine theirs : ValueSat V) → that.hand ≡ [] → mine ≡ (rest_values sees.0, sees.1) → theirs ≡ (front_values sees.0, [])
+  pub met_slots : (q r : TableId) (l k : Layout) (mine theirs : ValueSat V) → that.hand ≡ [] → mine ≡ (rest_values sees.0, sees.1)
+      → theirs ≡ (front_values sees.0, [])
       → q ≡ this.queue → r ≡ that.queue → ValueMeet this that (with_seat q l mine) (with_seat r k theirs)
   met_slots q r l k mine theirs empty rest first same other_same =
       let m = all.machine in
@@ -63,11 +62,13 @@ module _ {V : Type 0} (this that : ValueStanding V) (me other both sees : ValueS
   sits_met mine s t rest sits is words spare layout table at =
       let v : View = this.first.part ∷ plain_view this.others in
       let view : plain_view t.seat.me.0 ≡ all_see all.machine.history v =
-      ap (λ (z : ValueSat V). plain_view z.0) (at ∙ rest) ∙ (ap (λ (w : ValueView V). plain_view (rest_values w)) now_is ∙ plain_telling all.brought (all_see all.machine.history v)) in
+      ap (λ (z : ValueSat V). plain_view z.0) (at ∙ rest) ∙ (ap (λ (w : ValueView V). plain_view (rest_values w)) now_is ∙
+      plain_telling all.brought (all_see all.machine.history v)) in
       sits_with s t (see all.machine.history this.first.part) (all_see all.machine.history (plain_view this.others)) sits words spare layout table view
       (sized_seeing s.layout all.machine.history v (sized_in s this sits is))
       (λ more none. more (ap rest_values (ap (λ (z : ValueSat V). z.0) (at ∙ rest) ∙ ap rest_values now_is) ∙
-      ap (λ (w : ValueView V). map (telling all.brought) (all_see all.machine.history (plain_view w))) (sym (ap (λ (x : ValueStanding V). x.others) is) ∙ none)))
+      ap (λ (w : ValueView V). map (telling all.brought) (all_see all.machine.history (plain_view w))) (sym (ap (λ
+      (x : ValueStanding V). x.others) is) ∙ none)))
 
   pub sits_cut : (theirs : ValueSat V) (s t : Inside V) → theirs ≡ (front_values sees.0, []) → ValueSits s → value_standing s ≡ that → t.words ≡ s.words
       → t.spare ≡ s.spare → t.layout ≡ s.layout → t.seat.table_id ≡ s.seat.table_id → t.seat.me ≡ theirs → ValueSits t

@@ -8,10 +8,9 @@ use Rattle.wq_words.specs.History.{accepted}
 use Rattle.wq_core.specs.declared.step.Step.{Step}
 use Rattle.wq_core.specs.Words.{item_place, done_place, word_count}
 use Rattle.wq_table.specs.declared.table.Part.{Part}
-use Rattle.wq_table.specs.declared.values.ValuePart.{ValuePart}
 use Rattle.wq_table.specs.declared.value_chair.ValueChair.TheInside.{Inside}
-use Rattle.wq_table.specs.Law.{View, sender_part}
-use Rattle.wq_table.specs.Places.{chosen, besides, MakesAt}
+use Rattle.wq_table.specs.Law.{View}
+use Rattle.wq_table.specs.Places.{chosen, MakesAt}
 use Rattle.wq_table.specs.Chair.{part_at}
 use Rattle.wq_table.specs.Sits.{first_part, AreSized}
 use Rattle.wq_table.specs.Slots.{ValueView, plain_view, AllKnow, rest_values}
@@ -56,7 +55,8 @@ module _ {V : Type 0} where
       × (0 < slots → Moves said (σ (chosen at z.0.0 z.0.1).layout) (chosen at z.0.0 z.0.1) makes.makes.before word brs hand brs' hand')
 
   -- the step as a fact about the chair before and after
-  pub told_values : (layout : Layout) (at slots : ℕ) (σ : Layout → Step) (said : Option V) (word : ℕ) (it : ValueStanding V) (me me' : ValueSat V) (queue : TableId)
+  pub told_values : (layout : Layout) (at slots : ℕ) (σ : Layout
+      → Step) (said : Option V) (word : ℕ) (it : ValueStanding V) (me me' : ValueSat V) (queue : TableId)
       → me ≡ (it.first ∷ it.others, it.hand) → slots ≡ it.queue.slots → queue ≡ it.queue → ValueMakes slots at said σ me word me'
       → ValueSteps at said (σ (part_at at (standing_of it)).layout) word it (with_seat queue layout me')
   told_values layout at slots σ said word it me me' queue has many same step =
@@ -96,7 +96,8 @@ module _ {V : Type 0} where
 
     -- the table has the slots that the chair says
     pub slots_are : (words : _) → words ≡ arc_value s.words → words.shared.table_id.slots ≡ it.queue.slots
-    slots_are words same = ap (λ t. t.shared.table_id.slots) same ∙ (ap (λ (q : TableId). q.slots) (sym sits.seated) ∙ ap (λ (st : ValueStanding V). st.queue.slots) is)
+    slots_are words same = ap (λ t. t.shared.table_id.slots) same ∙ (ap (λ (q : TableId). q.slots) (sym sits.seated) ∙
+        ap (λ (st : ValueStanding V). st.queue.slots) is)
 
     -- as many slots as numbers, or none
     pub deep_in : (at : ℕ) → 0 < it.queue.slots → it.queue.slots ≡ number_count (part_at at (standing_of it)).layout
@@ -120,7 +121,8 @@ module _ {V : Type 0} where
   done_in_words s sits words i same place = let wide = ap (λ t. t.shared.table_id.words) same ∙ sits.wide in omega arith
 
   -- where there are no slots every step goes on
-  pub by_either : (slots : ℕ) (p : Part) (said : Option V) (step : Step) (c : Hand V) → (0 < slots → GoesBy slots p said step c) → GoesBy slots p said step c
+  pub by_either : (slots : ℕ) (p : Part) (said : Option V) (step : Step) (c : Hand V) → (0 < slots → GoesBy slots p said step c)
+      → GoesBy slots p said step c
   by_either zero p said step c some_slot = by_bare p said step c
   by_either (suc n) p said step c some_slot = some_slot (omega arith)
 

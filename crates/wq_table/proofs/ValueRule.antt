@@ -1,9 +1,9 @@
 -- A step that the machine makes, and that moves its slot, keeps the rule, and tells its seats what it was.
-use Rattle.std.proofs.Common.{◌≡◌, ◌≢◌, ℕ, zero, suc, ◌<◌, arith, List, [], ◌∷◌, length, map, get_or, set, sym, refl, ap, ◌∙◌, subst, ⊎_elim, Option}
+use Rattle.std.proofs.Common.{◌≡◌, ◌≢◌, ℕ, zero, suc, arith, List, [], ◌∷◌, length, map, get_or, set, sym, refl, ap, ◌∙◌, subst, ⊎_elim, Option}
 use mathlib.Core.Option.{some}
 use mathlib.Core.List.{IsPrefix}
 use lib.ListN.{get_elem?}
-use Rattle.atomic_table.specs.Table.{State, Allows, homes_after, carried_after}
+use Rattle.atomic_table.specs.Table.{Allows, homes_after, carried_after}
 use Rattle.atomic_table.proofs.Lists.{at_set, at_map}
 use Rattle.wq_words.specs.declared.layout.Layout.{Layout}
 use Rattle.wq_words.specs.declared.event.Event.{Event}
@@ -16,7 +16,7 @@ use Rattle.wq_table.specs.declared.values.ValuePart.{ValuePart}
 use Rattle.wq_table.specs.Law.{View, seat_at, IsPartOf, Kept}
 use Rattle.wq_table.specs.Plays.{word_found, Performs}
 use Rattle.wq_table.specs.Places.{chosen}
-use Rattle.wq_table.specs.Slots.{Shelves, ValueView, plain_view, plain, Knows, AllKnow, KeptValues, telling}
+use Rattle.wq_table.specs.Slots.{Shelves, ValueView, plain_view, plain, AllKnow, KeptValues, telling}
 use Rattle.wq_table.specs.SlotSteps.{Hand, ValueSat, Moves, GoesBy, AllTold, ValueMakes}
 use Rattle.wq_table.proofs.Places.{chosen_fits, AllSeen}
 use Rattle.wq_table.proofs.Rule.{stepped}
@@ -60,10 +60,17 @@ module _ {V : Type 0} where
         let it = goes m r.brought s.homes r.base.sound fits deep r.shelves in
         let now : ValueView V = map (telling it.brs') (done.first ∷ done.rest) in
         let now_is : plain_view now ≡ done.first ∷ done.rest = plain_telling it.brs' (done.first ∷ done.rest) in
-        let views_are : map plain_view (set s.views id now) ≡ set views id (done.first ∷ done.rest) = map_set plain_view s.views id now ∙ ap (set views id) now_is in
-        let whole : (k : Kept layout (plain (record { words = set s.words i (f (get_or s.words i 0)); homes = homes_after s.homes c it.act; views = set s.views id now })))
+        let views_are : map plain_view (set s.views id now) ≡ set views id (done.first ∷ done.rest) = map_set plain_view s.views id now ∙
+        ap (set views id) now_is in
+        let whole : (k : Kept layout (plain (record {
+          words = set s.words i (f
+              (get_or s.words i 0));
+          homes = homes_after s.homes c it.act;
+          views = set s.views id now;
+        })))
         × (k.machine ≡ next) =
-        subst (λ (vs : List View). (k : Kept layout (record { words = set s.words i (f (get_or s.words i 0)); homes = []; views = vs })) × (k.machine ≡ next))
+        subst (λ (vs : List View). (k : Kept layout (record { words = set s.words i (f (get_or s.words i 0)); homes = []; views = vs })) ×
+        (k.machine ≡ next))
         (sym views_are) (done.kept, done.machine_is) in
         let seen : AllSeen next.history (done.first ∷ done.rest) =
         subst (λ (z : Machine). AllSeen z.history (done.first ∷ done.rest)) done.machine_is done.all_seen in
@@ -83,7 +90,17 @@ module _ {V : Type 0} where
                 (at_set s.views id j now v other);
           },
           record {
-            plain = record { part = t.part; others = ps; part' = done.first; others' = done.rest; was = refl; is = now_is; slots = refl; moves = done.moves };
+            plain = record {
+              part = t.part;
+              others = ps;
+              part' = done.first;
+              others' = done.rest;
+              was = refl;
+              is = now_is;
+              slots = refl;
+              moves =
+                  done.moves;
+            };
             brought = r.brought;
             know = r.told id (t ∷ ts) there;
             as_many = r.shelves.as_many ∙ ap (λ (z : Machine). length (accepted z.history)) (sym done.before_is);
@@ -97,7 +114,8 @@ module _ {V : Type 0} where
         )
 
   -- the same of a seat that is known to have this view and this hand
-  pub goes_values : (layout : Layout) (slots id at : ℕ) (t : ValuePart V) (ts : ValueView V) (c : Hand V) (me : ValueSat V) (σ : Layout → Step) (i : ℕ) (f g : ℕ → ℕ) (said : Option V)
+  pub goes_values : (layout : Layout) (slots id at : ℕ) (t : ValuePart V) (ts : ValueView V) (c : Hand V) (me : ValueSat V) (σ : Layout
+      → Step) (i : ℕ) (f g : ℕ → ℕ) (said : Option V)
       → me ≡ (t ∷ ts, c) → Performs (chosen at t.part (plain_view ts)) (σ (chosen at t.part (plain_view ts)).layout) i f g
       → GoesBy slots (chosen at t.part (plain_view ts)) said (σ (chosen at t.part (plain_view ts)).layout) c
       → Allows (KeptValues layout) slots id me i f (λ n. ValueMakes slots at said σ me (g n))

@@ -9,6 +9,7 @@ use Rattle.wq_words.specs.Numbers.{number_count}
 use Rattle.wq_words.specs.History.{accepted}
 use Rattle.wq_core.specs.declared.step.Step.{Step}
 use Rattle.wq_core.specs.Words.{word_count}
+use Rattle.wq_table.specs.declared.table.Part.{Part}
 use Rattle.wq_table.specs.declared.values.ValuePart.{ValuePart}
 use Rattle.wq_table.specs.declared.value_chair.ValueChair.TheInside.{Inside}
 use Rattle.wq_core.specs.Machine.{Machine}
@@ -30,6 +31,10 @@ pub record ValueStanding (V : Type 0) : Type 0 where
 -- the same without values
 abbrev pub standing_of : {V : Type 0} → ValueStanding V → Standing
 standing_of it = record { queue = it.queue; part = it.first.part; others = plain_view it.others }
+
+-- its part at this place
+abbrev pub part_in : {V : Type 0} → ℕ → ValueStanding V → Part
+part_in at it = part_at at (standing_of it)
 
 -- The chair's part at this place makes the step and finds this word, and its other parts see it. Just before it had been brought
 -- what `brought` says, and now all of them know what was brought since.

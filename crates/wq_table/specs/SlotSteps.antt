@@ -12,7 +12,6 @@ use Rattle.wq_core.specs.Sound.{IsSound}
 use Rattle.wq_table.specs.declared.table.Part.{Part}
 use Rattle.wq_table.specs.declared.table.Stage.{Stage}
 use Rattle.wq_table.specs.declared.table.Stage.TheVariants.{Sends, Owns}
-use Rattle.wq_table.specs.declared.values.ValuePart.{ValuePart}
 use Rattle.wq_table.specs.Law.{seat_at, IsPartOf}
 use Rattle.wq_table.specs.Plays.{Kind, word_found, all_see, AllOf}
 use Rattle.wq_table.specs.Places.{chosen, ViewMakes}
@@ -58,7 +57,8 @@ Moves said (Chain k) p m word b c b' c' = MatchBool (word == 0) ((b' ≡ b ++ sa
 Moves said _ p m word b c b' c' = (b' ≡ b) × (c' ≡ c)
 
 -- from m to n: what the seat p does with its hand, and what is brought then
-pub record Goes {V : Type 0} (said : Option V) (step : Step) (m n : Machine) (p : Part) (word : ℕ) (brs : List (Option V)) (homes : Slots V) (c : Hand V) : Type 0 where
+pub record Goes {V : Type 0} (said : Option V) (step : Step) (m n : Machine) (p : Part) (word : ℕ) (brs : List (Option V)) (homes : Slots V)
+    (c : Hand V) : Type 0 where
   pub act : Act (Option V)
   pub valid : Valid homes c act
   pub brs' : List (Option V)
@@ -69,7 +69,8 @@ pub record Goes {V : Type 0} (said : Option V) (step : Step) (m n : Machine) (p 
 
 -- whatever machine the part is of
 abbrev pub GoesBy : {V : Type 0} → ℕ → Part → Option V → Step → Hand V → Type 0
-GoesBy {V} slots p said step c = (m : Machine) (brs : List (Option V)) (homes : Slots V) → IsSound m → IsPartOf m p → length homes ≡ slots → Shelves m brs homes
+GoesBy {V} slots p said step c = (m : Machine) (brs : List (Option V)) (homes : Slots V) → IsSound m → IsPartOf m p → length homes ≡ slots
+    → Shelves m brs homes
     → Goes said step m (after m (seat_at p.seat p.stage) step) p (word_found m p.seat step) brs homes c
 
 -- each part was told that just these were brought, one for each accepted number that it has seen

@@ -45,7 +45,8 @@ abbrev pub Slots : Type 0 → Type 0
 Slots V = List (maybe.Option (Option V))
 
 abbrev pub Shelves : {V : Type 0} → Machine → List (Option V) → Slots V → Type 0
-Shelves m brs homes = Fits None (Carries m.layout.items) (keeper m.history) (taken_times m.walked m.batch) (length (begun m.history)) (accepted m.history) brs homes
+Shelves m brs homes = Fits None (Carries m.layout.items) (keeper m.history) (taken_times m.walked m.batch) (length (begun m.history))
+    (accepted m.history) brs homes
 
 -- a view has one for each seat that it speaks for
 abbrev pub ValueView : Type 0 → Type 0

@@ -8,13 +8,14 @@ ghost use Rattle.wq_words.specs.History.{Holds, IsClosed, IsShut, IsDraining, Is
 ghost use Rattle.wq_core.specs.Words.{word_count, closed_word, draining_word, TakesPushes, link_word};
 ghost use Rattle.wq_core.specs.declared.step.Step.TheVariants.{Hold, Look, Link, Push, Back, Check, Take, Close, Drain, Resume, Walk, Begin, End, Chain, Turn, Rest};
 ghost use Rattle.wq_table.specs.Plays.{Performs};
-ghost use Rattle.wq_table.specs.Chair.{part_at, IsSender, HasSeen, HasLinked, HasNone, IsOwner, IsToWalk, IsToTurn, IsToBegin, IsRested};
+ghost use Rattle.wq_table.specs.Chair.{IsSender, HasSeen, HasLinked, HasNone, IsOwner, IsToWalk, IsToTurn, IsToBegin, IsRested};
 ghost use Rattle.wq_table.specs.SlotSteps.{GoesBy, in_front};
-ghost use Rattle.wq_table.specs.SlotChairs.{standing_of, ValueSteps, HasSlot, HasValue, Exchanges, TurnsHand, ValueMeet};
+ghost use Rattle.wq_table.specs.SlotChairs.{part_in, ValueSteps, HasSlot, HasValue, Exchanges, TurnsHand, ValueMeet};
 
 use super::table::{
-    Begins, Both, Cancels, Chains, Checks, Closes, Drains, Ends, FindsClosed, FindsDraining, GivesUp,
-    Kind, Links, Looks, Makes, Marks, Meets, Off, Place, Pushes, Rests, Resumes, Stores, Takes, Turns, Walks,
+    Begins, Both, Cancels, Chains, Checks, Closes, Drains, Ends, FindsClosed, FindsDraining,
+    GivesUp, Kind, Links, Looks, Makes, Marks, Meets, Off, Place, Pushes, Rests, Resumes, Stores,
+    Takes, Turns, Walks,
 };
 use super::values::{Brings, Nothing, Says, ValueSeat, ValueWords};
 use std::marker::{Brand, Model};
@@ -46,21 +47,19 @@ impl<V> Model for ValueChair<V> {
 // One operation each on the word at a place. The kind says which step of the seat it is.
 impl<V> ValueChair<V> {
     fn load<K: Kind, P: Place>(&mut self, place: usize) -> u64
-        requires place { place < word_count (number_count (part_at P.at (standing_of self.old)).layout) }
-        requires performs { Performs (part_at P.at (standing_of self.old)) (K.step place 0 (part_at P.at (standing_of self.old)).layout) place (λ n. n) (λ n. n) }
-        requires goes { GoesBy self.old.queue.slots (part_at P.at (standing_of self.old)) None (K.step place 0 (part_at P.at (standing_of self.old)).layout) self.old.hand }
-        ensures { ValueSteps P.at None (K.step place 0 (part_at P.at (standing_of self.old)).layout) result self.old self.new }
+        requires place { place < word_count (number_count (part_in P.at self.old).layout) }
+        requires performs { Performs (part_in P.at self.old) (K.step place 0 (part_in P.at self.old).layout) place (λ n. n) (λ n. n) }
+        requires goes { GoesBy self.old.queue.slots (part_in P.at self.old) None (K.step place 0 (part_in P.at self.old).layout) self.old.hand }
+        ensures { ValueSteps P.at None (K.step place 0 (part_in P.at self.old).layout) result self.old self.new }
     {
-        self.words
-            .shared
-            .load::<Makes<K, P>>(&mut self.seat, place)
+        self.words.shared.load::<Makes<K, P>>(&mut self.seat, place)
     }
 
     fn store<K: Kind, P: Place>(&mut self, place: usize, new: u64)
-        requires place { place < word_count (number_count (part_at P.at (standing_of self.old)).layout) }
-        requires performs { Performs (part_at P.at (standing_of self.old)) (K.step place new (part_at P.at (standing_of self.old)).layout) place (λ n. new) (λ n. new) }
-        requires goes { GoesBy self.old.queue.slots (part_at P.at (standing_of self.old)) None (K.step place new (part_at P.at (standing_of self.old)).layout) self.old.hand }
-        ensures { ValueSteps P.at None (K.step place new (part_at P.at (standing_of self.old)).layout) new self.old self.new }
+        requires place { place < word_count (number_count (part_in P.at self.old).layout) }
+        requires performs { Performs (part_in P.at self.old) (K.step place new (part_in P.at self.old).layout) place (λ n. new) (λ n. new) }
+        requires goes { GoesBy self.old.queue.slots (part_in P.at self.old) None (K.step place new (part_in P.at self.old).layout) self.old.hand }
+        ensures { ValueSteps P.at None (K.step place new (part_in P.at self.old).layout) new self.old self.new }
     {
         self.words
             .shared
@@ -68,10 +67,10 @@ impl<V> ValueChair<V> {
     }
 
     fn swap<K: Kind, P: Place>(&mut self, place: usize, new: u64) -> u64
-        requires place { place < word_count (number_count (part_at P.at (standing_of self.old)).layout) }
-        requires performs { Performs (part_at P.at (standing_of self.old)) (K.step place 0 (part_at P.at (standing_of self.old)).layout) place (λ n. new) (λ n. n) }
-        requires goes { GoesBy self.old.queue.slots (part_at P.at (standing_of self.old)) None (K.step place 0 (part_at P.at (standing_of self.old)).layout) self.old.hand }
-        ensures { ValueSteps P.at None (K.step place 0 (part_at P.at (standing_of self.old)).layout) result self.old self.new }
+        requires place { place < word_count (number_count (part_in P.at self.old).layout) }
+        requires performs { Performs (part_in P.at self.old) (K.step place 0 (part_in P.at self.old).layout) place (λ n. new) (λ n. n) }
+        requires goes { GoesBy self.old.queue.slots (part_in P.at self.old) None (K.step place 0 (part_in P.at self.old).layout) self.old.hand }
+        ensures { ValueSteps P.at None (K.step place 0 (part_in P.at self.old).layout) result self.old self.new }
     {
         self.words
             .shared
@@ -79,10 +78,10 @@ impl<V> ValueChair<V> {
     }
 
     fn replace<K: Kind, P: Place>(&mut self, place: usize, old: u64, new: u64) -> u64
-        requires place { place < word_count (number_count (part_at P.at (standing_of self.old)).layout) }
-        requires performs { Performs (part_at P.at (standing_of self.old)) (K.step place new (part_at P.at (standing_of self.old)).layout) place (λ n. either (n == old) new n) (λ n. n) }
-        requires goes { GoesBy self.old.queue.slots (part_at P.at (standing_of self.old)) None (K.step place new (part_at P.at (standing_of self.old)).layout) self.old.hand }
-        ensures { ValueSteps P.at None (K.step place new (part_at P.at (standing_of self.old)).layout) result self.old self.new }
+        requires place { place < word_count (number_count (part_in P.at self.old).layout) }
+        requires performs { Performs (part_in P.at self.old) (K.step place new (part_in P.at self.old).layout) place (λ n. either (n == old) new n) (λ n. n) }
+        requires goes { GoesBy self.old.queue.slots (part_in P.at self.old) None (K.step place new (part_in P.at self.old).layout) self.old.hand }
+        ensures { ValueSteps P.at None (K.step place new (part_in P.at self.old).layout) result self.old self.new }
     {
         self.words
             .shared
@@ -90,10 +89,10 @@ impl<V> ValueChair<V> {
     }
 
     fn or<K: Kind, P: Place, G: Says<V>>(&mut self, place: usize, bits: u64) -> u64
-        requires place { place < word_count (number_count (part_at P.at (standing_of self.old)).layout) }
-        requires performs { Performs (part_at P.at (standing_of self.old)) (K.step place 0 (part_at P.at (standing_of self.old)).layout) place (λ n. bit_or n bits) (λ n. n) }
-        requires goes { GoesBy self.old.queue.slots (part_at P.at (standing_of self.old)) G.said (K.step place 0 (part_at P.at (standing_of self.old)).layout) self.old.hand }
-        ensures { ValueSteps P.at G.said (K.step place 0 (part_at P.at (standing_of self.old)).layout) result self.old self.new }
+        requires place { place < word_count (number_count (part_in P.at self.old).layout) }
+        requires performs { Performs (part_in P.at self.old) (K.step place 0 (part_in P.at self.old).layout) place (λ n. bit_or n bits) (λ n. n) }
+        requires goes { GoesBy self.old.queue.slots (part_in P.at self.old) G.said (K.step place 0 (part_in P.at self.old).layout) self.old.hand }
+        ensures { ValueSteps P.at G.said (K.step place 0 (part_in P.at self.old).layout) result self.old self.new }
     {
         self.words
             .shared
@@ -101,10 +100,10 @@ impl<V> ValueChair<V> {
     }
 
     fn and<K: Kind, P: Place>(&mut self, place: usize, bits: u64) -> u64
-        requires place { place < word_count (number_count (part_at P.at (standing_of self.old)).layout) }
-        requires performs { Performs (part_at P.at (standing_of self.old)) (K.step place 0 (part_at P.at (standing_of self.old)).layout) place (λ n. bit_and n bits) (λ n. n) }
-        requires goes { GoesBy self.old.queue.slots (part_at P.at (standing_of self.old)) None (K.step place 0 (part_at P.at (standing_of self.old)).layout) self.old.hand }
-        ensures { ValueSteps P.at None (K.step place 0 (part_at P.at (standing_of self.old)).layout) result self.old self.new }
+        requires place { place < word_count (number_count (part_in P.at self.old).layout) }
+        requires performs { Performs (part_in P.at self.old) (K.step place 0 (part_in P.at self.old).layout) place (λ n. bit_and n bits) (λ n. n) }
+        requires goes { GoesBy self.old.queue.slots (part_in P.at self.old) None (K.step place 0 (part_in P.at self.old).layout) self.old.hand }
+        ensures { ValueSteps P.at None (K.step place 0 (part_in P.at self.old).layout) result self.old self.new }
     {
         self.words
             .shared
@@ -112,10 +111,10 @@ impl<V> ValueChair<V> {
     }
 
     fn add<K: Kind, P: Place>(&mut self, place: usize, more: u64) -> u64
-        requires place { place < word_count (number_count (part_at P.at (standing_of self.old)).layout) }
-        requires performs { Performs (part_at P.at (standing_of self.old)) (K.step place 0 (part_at P.at (standing_of self.old)).layout) place (λ n. (n + more) % 2 ^ 64) (λ n. n) }
-        requires goes { GoesBy self.old.queue.slots (part_at P.at (standing_of self.old)) None (K.step place 0 (part_at P.at (standing_of self.old)).layout) self.old.hand }
-        ensures { ValueSteps P.at None (K.step place 0 (part_at P.at (standing_of self.old)).layout) result self.old self.new }
+        requires place { place < word_count (number_count (part_in P.at self.old).layout) }
+        requires performs { Performs (part_in P.at self.old) (K.step place 0 (part_in P.at self.old).layout) place (λ n. (n + more) % 2 ^ 64) (λ n. n) }
+        requires goes { GoesBy self.old.queue.slots (part_in P.at self.old) None (K.step place 0 (part_in P.at self.old).layout) self.old.hand }
+        ensures { ValueSteps P.at None (K.step place 0 (part_in P.at self.old).layout) result self.old self.new }
     {
         self.words
             .shared
@@ -127,8 +126,8 @@ impl<V> ValueChair<V> {
     /// A sender sets the PENDING bit of a number, and learns its item word as it was. Where it was clear the number's slot comes to hand,
     /// with nothing in it.
     pub fn hold<P: Place>(&mut self, number: u32) -> u64
-        requires sender { IsSender (part_at P.at (standing_of self.old)).stage }
-        requires number { number < number_count (part_at P.at (standing_of self.old)).layout }
+        requires sender { IsSender (part_in P.at self.old).stage }
+        requires number { number < number_count (part_in P.at self.old).layout }
         ensures step { ValueSteps P.at None (Hold number) result self.old self.new }
     {
         let place = item_place(self.layout, number);
@@ -137,7 +136,7 @@ impl<V> ValueChair<V> {
 
     /// A sender loads the head.
     pub fn look<P: Place>(&mut self) -> u64
-        requires sender { IsSender (part_at P.at (standing_of self.old)).stage }
+        requires sender { IsSender (part_in P.at self.old).stage }
         ensures step { ValueSteps P.at None Look result self.old self.new }
     {
         self.load::<Looks, P>(HEAD)
@@ -145,9 +144,9 @@ impl<V> ValueChair<V> {
 
     /// A sender stores the link to the head that it saw as the link of a number that it holds.
     pub fn link<P: Place>(&mut self, number: u32, seen: u64)
-        requires number { number < number_count (part_at P.at (standing_of self.old)).layout }
-        requires held { Holds (part_at P.at (standing_of self.old)).seen (part_at P.at (standing_of self.old)).seat number }
-        requires seen { HasSeen seen (part_at P.at (standing_of self.old)).stage }
+        requires number { number < number_count (part_in P.at self.old).layout }
+        requires held { Holds (part_in P.at self.old).seen (part_in P.at self.old).seat number }
+        requires seen { HasSeen seen (part_in P.at self.old).stage }
         requires open { TakesPushes seen }
         ensures step { ValueSteps P.at None (Link number) (link_word seen) self.old self.new }
     {
@@ -159,10 +158,10 @@ impl<V> ValueChair<V> {
     /// A sender exchanges the head that it saw for the number that it linked to it, and learns the head as it was. Where that wins the
     /// number's slot goes with it.
     pub fn push<P: Place>(&mut self, number: u32, seen: u64) -> u64
-        requires number { number < number_count (part_at P.at (standing_of self.old)).layout }
-        requires linked { HasLinked seen number (part_at P.at (standing_of self.old)).stage }
+        requires number { number < number_count (part_in P.at self.old).layout }
+        requires linked { HasLinked seen number (part_in P.at self.old).stage }
         requires slot { 0 < self.old.queue.slots → HasSlot number self.old.hand }
-        requires carries { 0 < self.old.queue.slots → Carries (part_at P.at (standing_of self.old)).layout.items number (in_front self.old.hand) }
+        requires carries { 0 < self.old.queue.slots → Carries (part_in P.at self.old).layout.items number (in_front self.old.hand) }
         ensures step { ValueSteps P.at None (Push number) result self.old self.new }
     {
         let _ = &self.layout;
@@ -172,9 +171,9 @@ impl<V> ValueChair<V> {
 
     /// A sender that saw the queue closed clears the PENDING bit of a number that it holds, whose slot it has emptied.
     pub fn back_closed<P: Place>(&mut self, number: u32)
-        requires number { number < number_count (part_at P.at (standing_of self.old)).layout }
-        requires held { Holds (part_at P.at (standing_of self.old)).seen (part_at P.at (standing_of self.old)).seat number }
-        requires closed { HasSeen closed_word (part_at P.at (standing_of self.old)).stage }
+        requires number { number < number_count (part_in P.at self.old).layout }
+        requires held { Holds (part_in P.at self.old).seen (part_in P.at self.old).seat number }
+        requires closed { HasSeen closed_word (part_in P.at self.old).stage }
         requires slot { 0 < self.old.queue.slots → HasValue number None self.old.hand }
         ensures step { (word : ℕ) × ValueSteps P.at None (Back number Closed) word self.old self.new }
     {
@@ -184,9 +183,9 @@ impl<V> ValueChair<V> {
 
     /// A sender that saw the queue draining clears the PENDING bit of a number that it holds, whose slot it has emptied.
     pub fn back_draining<P: Place>(&mut self, number: u32)
-        requires number { number < number_count (part_at P.at (standing_of self.old)).layout }
-        requires held { Holds (part_at P.at (standing_of self.old)).seen (part_at P.at (standing_of self.old)).seat number }
-        requires draining { HasSeen draining_word (part_at P.at (standing_of self.old)).stage }
+        requires number { number < number_count (part_in P.at self.old).layout }
+        requires held { Holds (part_in P.at self.old).seen (part_in P.at self.old).seat number }
+        requires draining { HasSeen draining_word (part_in P.at self.old).stage }
         requires slot { 0 < self.old.queue.slots → HasValue number None self.old.hand }
         ensures step { (word : ℕ) × ValueSteps P.at None (Back number Draining) word self.old self.new }
     {
@@ -196,9 +195,9 @@ impl<V> ValueChair<V> {
 
     /// A sender whose tries were all lost clears the PENDING bit of a number that it holds, whose slot it has emptied.
     pub fn back_contended<P: Place>(&mut self, number: u32)
-        requires sender { IsSender (part_at P.at (standing_of self.old)).stage }
-        requires number { number < number_count (part_at P.at (standing_of self.old)).layout }
-        requires held { Holds (part_at P.at (standing_of self.old)).seen (part_at P.at (standing_of self.old)).seat number }
+        requires sender { IsSender (part_in P.at self.old).stage }
+        requires number { number < number_count (part_in P.at self.old).layout }
+        requires held { Holds (part_in P.at self.old).seen (part_in P.at self.old).seat number }
         requires slot { 0 < self.old.queue.slots → HasValue number None self.old.hand }
         ensures step { (word : ℕ) × ValueSteps P.at None (Back number Contended) word self.old self.new }
     {
@@ -208,9 +207,9 @@ impl<V> ValueChair<V> {
 
     /// A sender clears the PENDING bit of a number that it holds, whose slot it has emptied.
     pub fn back_cancelled<P: Place>(&mut self, number: u32)
-        requires sender { IsSender (part_at P.at (standing_of self.old)).stage }
-        requires number { number < number_count (part_at P.at (standing_of self.old)).layout }
-        requires held { Holds (part_at P.at (standing_of self.old)).seen (part_at P.at (standing_of self.old)).seat number }
+        requires sender { IsSender (part_in P.at self.old).stage }
+        requires number { number < number_count (part_in P.at self.old).layout }
+        requires held { Holds (part_in P.at self.old).seen (part_in P.at self.old).seat number }
         requires slot { 0 < self.old.queue.slots → HasValue number None self.old.hand }
         ensures step { (word : ℕ) × ValueSteps P.at None (Back number Cancelled) word self.old self.new }
     {
@@ -220,8 +219,8 @@ impl<V> ValueChair<V> {
 
     /// A sender loads an item word.
     pub fn check<P: Place>(&mut self, number: u32) -> u64
-        requires sender { IsSender (part_at P.at (standing_of self.old)).stage }
-        requires number { number < number_count (part_at P.at (standing_of self.old)).layout }
+        requires sender { IsSender (part_in P.at self.old).stage }
+        requires number { number < number_count (part_in P.at self.old).layout }
         ensures step { ValueSteps P.at None (Check number) result self.old self.new }
     {
         let place = item_place(self.layout, number);
@@ -230,9 +229,9 @@ impl<V> ValueChair<V> {
 
     /// The owner takes the whole list, leaves the mark of a queue at work, and learns the head as it was.
     pub fn take<P: Place>(&mut self) -> u64
-        requires open { ¬ IsShut (part_at P.at (standing_of self.old)).seen }
-        requires rested { IsRested (part_at P.at (standing_of self.old)).stage }
-        requires empty { HasNone (part_at P.at (standing_of self.old)).stage }
+        requires open { ¬ IsShut (part_in P.at self.old).seen }
+        requires rested { IsRested (part_in P.at self.old).stage }
+        requires empty { HasNone (part_in P.at self.old).stage }
         ensures step { ValueSteps P.at None Take result self.old self.new }
     {
         self.swap::<Takes, P>(HEAD, BUSY)
@@ -240,8 +239,8 @@ impl<V> ValueChair<V> {
 
     /// The owner takes the whole list and leaves the closed mark.
     pub fn close<P: Place>(&mut self) -> u64
-        requires unclosed { ¬ IsClosed (part_at P.at (standing_of self.old)).seen }
-        requires rested { IsRested (part_at P.at (standing_of self.old)).stage }
+        requires unclosed { ¬ IsClosed (part_in P.at self.old).seen }
+        requires rested { IsRested (part_in P.at self.old).stage }
         ensures step { ValueSteps P.at None Close result self.old self.new }
     {
         let word = Head::Closed.to_word();
@@ -250,8 +249,8 @@ impl<V> ValueChair<V> {
 
     /// The owner takes the whole list and leaves the draining mark.
     pub fn drain<P: Place>(&mut self) -> u64
-        requires open { ¬ IsShut (part_at P.at (standing_of self.old)).seen }
-        requires rested { IsRested (part_at P.at (standing_of self.old)).stage }
+        requires open { ¬ IsShut (part_in P.at self.old).seen }
+        requires rested { IsRested (part_in P.at self.old).stage }
         ensures step { ValueSteps P.at None Drain result self.old self.new }
     {
         let word = Head::Draining.to_word();
@@ -260,10 +259,10 @@ impl<V> ValueChair<V> {
 
     /// The owner, with nothing that waits or runs, leaves the mark of a queue at work in place of the draining mark.
     pub fn resume<P: Place>(&mut self)
-        requires draining { IsDraining (part_at P.at (standing_of self.old)).seen }
-        requires rested { IsRested (part_at P.at (standing_of self.old)).stage }
-        requires empty { HasNone (part_at P.at (standing_of self.old)).stage }
-        requires idle { ¬ IsRunning (part_at P.at (standing_of self.old)).seen }
+        requires draining { IsDraining (part_in P.at self.old).seen }
+        requires rested { IsRested (part_in P.at self.old).stage }
+        requires empty { HasNone (part_in P.at self.old).stage }
+        requires idle { ¬ IsRunning (part_in P.at self.old).seen }
         ensures step { (word : ℕ) × ValueSteps P.at None Resume word self.old self.new }
     {
         self.swap::<Resumes, P>(HEAD, BUSY);
@@ -272,8 +271,8 @@ impl<V> ValueChair<V> {
     /// The owner loads the link of the number that it walks next, or of the oldest number of its batch once it has walked all.
     /// The slot of the number that it walks comes to hand, with what the number brought.
     pub fn walk<P: Place>(&mut self, number: u32) -> u64
-        requires number { number < number_count (part_at P.at (standing_of self.old)).layout }
-        requires next { IsToWalk number (part_at P.at (standing_of self.old)).stage }
+        requires number { number < number_count (part_in P.at self.old).layout }
+        requires next { IsToWalk number (part_in P.at self.old).stage }
         ensures step { ValueSteps P.at None Walk result self.old self.new }
     {
         let _ = &self.layout;
@@ -283,9 +282,9 @@ impl<V> ValueChair<V> {
 
     /// The owner stores a number as the link of one that it walked or that waits in its batch.
     pub fn turn<P: Place>(&mut self, number: u32, next: u32)
-        requires number { number < number_count (part_at P.at (standing_of self.old)).layout }
-        requires next { next < number_count (part_at P.at (standing_of self.old)).layout }
-        requires taken { IsToTurn number (part_at P.at (standing_of self.old)).stage }
+        requires number { number < number_count (part_in P.at self.old).layout }
+        requires next { next < number_count (part_in P.at self.old).layout }
+        requires taken { IsToTurn number (part_in P.at self.old).stage }
         ensures step { ValueSteps P.at None (Turn number (Some next)) (next + 1) self.old self.new }
     {
         let place = link_place(number);
@@ -295,9 +294,9 @@ impl<V> ValueChair<V> {
 
     /// The owner clears the PENDING bit of the oldest number of its batch, whose slot it has emptied and which then runs.
     pub fn begin<P: Place>(&mut self, number: u32)
-        requires number { number < number_count (part_at P.at (standing_of self.old)).layout }
-        requires next { IsToBegin number (part_at P.at (standing_of self.old)).stage }
-        requires rests { ¬ IsRunning (part_at P.at (standing_of self.old)).seen }
+        requires number { number < number_count (part_in P.at self.old).layout }
+        requires next { IsToBegin number (part_in P.at self.old).stage }
+        requires rests { ¬ IsRunning (part_in P.at self.old).seen }
         requires slot { 0 < self.old.queue.slots → HasValue number None self.old.hand }
         ensures step { (word : ℕ) × ValueSteps P.at None Begin word self.old self.new }
     {
@@ -307,8 +306,8 @@ impl<V> ValueChair<V> {
 
     /// The owner counts the execution that runs as ended.
     pub fn end<P: Place>(&mut self)
-        requires owner { IsOwner (part_at P.at (standing_of self.old)).stage }
-        requires runs { IsRunning (part_at P.at (standing_of self.old)).seen }
+        requires owner { IsOwner (part_in P.at self.old).stage }
+        requires runs { IsRunning (part_in P.at self.old).seen }
         ensures step { (word : ℕ) × ValueSteps P.at None End word self.old self.new }
     {
         let place = done_place(self.layout);
@@ -317,11 +316,11 @@ impl<V> ValueChair<V> {
 
     // The owner sets the PENDING bit of an item while the queue is shut.
     fn chain_as<P: Place, G: Says<V>>(&mut self, number: u32) -> u64
-        requires item { number < (part_at P.at (standing_of self.old)).layout.items }
-        requires shut { IsShut (part_at P.at (standing_of self.old)).seen }
-        requires rested { IsRested (part_at P.at (standing_of self.old)).stage }
-        requires runs { IsRunning (part_at P.at (standing_of self.old)).seen }
-        requires said { 0 < self.old.queue.slots → Carries (part_at P.at (standing_of self.old)).layout.items number G.said }
+        requires item { number < (part_in P.at self.old).layout.items }
+        requires shut { IsShut (part_in P.at self.old).seen }
+        requires rested { IsRested (part_in P.at self.old).stage }
+        requires runs { IsRunning (part_in P.at self.old).seen }
+        requires said { 0 < self.old.queue.slots → Carries (part_in P.at self.old).layout.items number G.said }
         ensures step { ValueSteps P.at G.said (Chain number) result self.old self.new }
     {
         let place = item_place(self.layout, number);
@@ -332,10 +331,10 @@ impl<V> ValueChair<V> {
     /// was.
     pub fn chain<P: Place>(&mut self, number: u32) -> u64
         requires none { self.old.queue.slots ≡ 0 }
-        requires item { number < (part_at P.at (standing_of self.old)).layout.items }
-        requires shut { IsShut (part_at P.at (standing_of self.old)).seen }
-        requires rested { IsRested (part_at P.at (standing_of self.old)).stage }
-        requires runs { IsRunning (part_at P.at (standing_of self.old)).seen }
+        requires item { number < (part_in P.at self.old).layout.items }
+        requires shut { IsShut (part_in P.at self.old).seen }
+        requires rested { IsRested (part_in P.at self.old).stage }
+        requires runs { IsRunning (part_in P.at self.old).seen }
         ensures step { ValueSteps P.at None (Chain number) result self.old self.new }
     {
         self.chain_as::<P, Nothing>(number)
@@ -344,20 +343,20 @@ impl<V> ValueChair<V> {
     /// The owner sets the PENDING bit of an item while the queue is shut, and learns its item word as it was. Where it was clear the
     /// item is accepted with this value, and its slot comes to hand, where the value is to be put.
     pub fn chain_value<P: Place>(&mut self, number: u32, value: &V) -> u64
-        requires item { number < (part_at P.at (standing_of self.old)).layout.items }
-        requires shut { IsShut (part_at P.at (standing_of self.old)).seen }
-        requires rested { IsRested (part_at P.at (standing_of self.old)).stage }
-        requires runs { IsRunning (part_at P.at (standing_of self.old)).seen }
+        requires item { number < (part_in P.at self.old).layout.items }
+        requires shut { IsShut (part_in P.at self.old).seen }
+        requires rested { IsRested (part_in P.at self.old).stage }
+        requires runs { IsRunning (part_in P.at self.old).seen }
         ensures step { ValueSteps P.at (Some value.now) (Chain number) result self.old self.new }
     {
         self.chain_said::<P, Brand>(number, value)
     }
 
     fn chain_said<P: Place, G: Says<V>>(&mut self, number: u32, value: &V) -> u64
-        requires item { number < (part_at P.at (standing_of self.old)).layout.items }
-        requires shut { IsShut (part_at P.at (standing_of self.old)).seen }
-        requires rested { IsRested (part_at P.at (standing_of self.old)).stage }
-        requires runs { IsRunning (part_at P.at (standing_of self.old)).seen }
+        requires item { number < (part_in P.at self.old).layout.items }
+        requires shut { IsShut (part_in P.at self.old).seen }
+        requires rested { IsRested (part_in P.at self.old).stage }
+        requires runs { IsRunning (part_in P.at self.old).seen }
         requires said { G.said ≡ Some value.now }
         ensures step { ValueSteps P.at (Some value.now) (Chain number) result self.old self.new }
     {
@@ -368,10 +367,10 @@ impl<V> ValueChair<V> {
     /// The owner, with nothing that waits or runs, exchanges the mark of a queue at work for that of a queue that rests, and
     /// learns the head as it was.
     pub fn rest<P: Place>(&mut self) -> u64
-        requires open { ¬ IsShut (part_at P.at (standing_of self.old)).seen }
-        requires rested { IsRested (part_at P.at (standing_of self.old)).stage }
-        requires empty { HasNone (part_at P.at (standing_of self.old)).stage }
-        requires idle { ¬ IsRunning (part_at P.at (standing_of self.old)).seen }
+        requires open { ¬ IsShut (part_in P.at self.old).seen }
+        requires rested { IsRested (part_in P.at self.old).stage }
+        requires empty { HasNone (part_in P.at self.old).stage }
+        requires idle { ¬ IsRunning (part_in P.at self.old).seen }
         ensures step { ValueSteps P.at None Rest result self.old self.new }
     {
         let word = Head::Empty.to_word();

@@ -65,7 +65,8 @@ pub(crate) struct Brings<K, P, G> {
     of: PhantomData<(K, P, G)>,
 }
 
-impl<V, K: Kind, P: Place, G: Says<V>> Play<Option<V>, GhostList<ValuePart<V>>> for Brings<K, P, G> {
+impl<V, K: Kind, P: Place, G: Says<V>> Play<Option<V>, GhostList<ValuePart<V>>>
+    for Brings<K, P, G> {
     ghost use Rattle.wq_table.specs.SlotSteps.{tells_values};
 
     ghost then = { tells_values P.at G.said K.step };

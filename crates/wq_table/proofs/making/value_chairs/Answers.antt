@@ -1,13 +1,12 @@
-use Rattle.std.proofs.Common.{rules, arith, refl, ℕ, List, ◌≡◌, [], ◌∷◌, map, replicate, sym, ap, ◌∙◌, subst}
+use Rattle.std.proofs.Common.{rules, arith, refl, ℕ, ◌≡◌, [], ◌∷◌, replicate, sym, ap, ◌∙◌, subst}
 use Rattle.std.specs.Arc.{arc_value}
 use Rattle.wq_words.specs.Numbers.{number_count}
 use Rattle.wq_core.specs.Words.{word_count}
-use Rattle.wq_table.specs.Law.{View, row, sender_part}
-use Rattle.wq_table.specs.Slots.{ValueView, plain_view, telling, front_values, rest_values}
+use Rattle.wq_table.specs.Law.{sender_part}
+use Rattle.wq_table.specs.Slots.{plain_view, telling, rest_values}
 use Rattle.wq_table.specs.SlotSteps.{ValueSat}
 use Rattle.wq_table.specs.Sits.{AreSized}
 use Rattle.wq_table.specs.SlotChairs.{value_senders, first_told}
-use Rattle.wq_table.proofs.Views.{row_more}
 use Rattle.wq_table.proofs.Opened.{offs_slots, opens_slots}
 use Rattle.wq_table.proofs.SlotMade.{cut_front, cut_others, next_sender}
 use Rattle.wq_table.proofs.making.value_chairs.Goals as goal
@@ -48,7 +47,8 @@ invariant_of-push g c =
       seated = c.split_seat-theirs.ensures.3 ∙ (inv.0 ∙ ap (λ t. t.shared.table_id) (sym clone));
       wide = ap (λ t. t.shared.table_id.words) clone ∙
           (ap (λ t. t.shared.table_id.words) made ∙ (table.0 ∙ (c.as_slice.ensures.len ∙ (c.in_ok-row.ensures.len ∙ c.word_count.ensures.words))));
-      deep = λ some_slot. ap (λ t. t.shared.table_id.slots) clone ∙ (ap (λ t. t.shared.table_id.slots) made ∙ (table.1 ∙ c.number_count-slots.ensures.count));
+      deep = λ some_slot. ap (λ t. t.shared.table_id.slots) clone ∙ (ap (λ t. t.shared.table_id.slots) made ∙ (table.1 ∙
+          c.number_count-slots.ensures.count));
       keyed = ap (λ t. t.shared.key) clone ∙ (ap (λ t. t.shared.key) made ∙ table.5);
       sized = subst (λ (z : ValueSat _). AreSized l (plain_view z.0)) (sym cut) (refl, tt);
       one_view = subst (λ (z : ValueSat _). z.0 ≡ first_told l z.0 ∷ rest_values z.0) (sym cut) refl;

@@ -1,5 +1,4 @@
 use Rattle.std.proofs.Common.{rules, ap, sym, refl, ◌∙◌, ◌≡◌}
-use Rattle.wq_table.specs.SlotSteps.{ValueSat}
 use Rattle.wq_table.specs.SlotChairs.{ValueStanding}
 use Rattle.wq_table.proofs.Opened.{offs_slots}
 use Rattle.wq_table.proofs.Meetings.{boths_slots, meets_slots}
@@ -22,9 +21,11 @@ join_seat-requires g c = let q = λ (v : ValueStanding _). v.queue in
 pub returns : goal.returns
 returns g c = record {
   met = met_slots c.args.self.now c.args.other c.self.inside.seat.me c.other.inside.seat.me c.join_seat.new.seat.me c.load.new.seat.me
-    (seat_is c.self.inside c.args.self.now c.self.invariant c.self.view_is)
-    (seat_is c.other.inside c.args.other c.other.invariant c.other.view_is) c.requires.alone c.join_seat.ensures.2 c.load.ensures.2 _ _ c.self.inside.layout c.other.inside.layout
-      c.split_seat-seat.new.seat.me c.split_seat-seat.result.me c.requires.empty c.split_seat-seat.ensures.2 c.split_seat-seat.ensures.4 (search rules) (search rules);
+      (seat_is c.self.inside c.args.self.now c.self.invariant c.self.view_is)
+      (seat_is c.other.inside c.args.other c.other.invariant c.other.view_is) c.requires.alone c.join_seat.ensures.2 c.load.ensures.2 _ _
+      c.self.inside.layout c.other.inside.layout
+      c.split_seat-seat.new.seat.me c.split_seat-seat.result.me c.requires.empty c.split_seat-seat.ensures.2 c.split_seat-seat.ensures.4
+      (search rules) (search rules);
 }
 
 pub invariant_of-self : goal.invariant_of-self

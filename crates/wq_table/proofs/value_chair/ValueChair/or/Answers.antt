@@ -1,4 +1,4 @@
-use Rattle.std.proofs.Common.{rules, refl, None}
+use Rattle.std.proofs.Common.{rules, refl}
 use Rattle.wq_table.proofs.ValueRule.{goes_values}
 use Rattle.wq_table.proofs.SlotTold.{seat_is, room, slots_are, told_values, sits_step}
 use Rattle.wq_table.proofs.value_chair.ValueChair.or.Goals as goal
@@ -14,8 +14,11 @@ fetch_or-requires g c = let s = c.self.inside in let it = c.args.self.now in let
 pub returns : goal.returns
 returns g c = let s = c.self.inside in let it = c.args.self.now in
     told_values s.layout g.P.Place.at _ (g.K.Kind.step c.args.place 0) g.G.Says.said c.fetch_or.result it s.seat.me c.fetch_or.new.seat.me _
-    (seat_is s it c.self.invariant c.self.view_is) (slots_are s it c.self.invariant c.self.view_is c.deref.result.now c.deref.ensures) (search rules) c.fetch_or.ensures.2
+    (seat_is s it c.self.invariant c.self.view_is) (slots_are s it c.self.invariant c.self.view_is c.deref.result.now c.deref.ensures)
+    (search rules) c.fetch_or.ensures.2
 
 pub invariant_of-self : goal.invariant_of-self
 invariant_of-self g c = let s = c.self.inside in
-    sits_step g.P.Place.at _ (g.K.Kind.step c.args.place 0) g.G.Says.said c.fetch_or.result c.fetch_or.new.seat.me s _ c.self.invariant c.fetch_or.ensures.2 refl refl refl (search rules) refl
+    sits_step g.P.Place.at c.deref.result.now.shared.table_id.slots
+    (g.K.Kind.step c.args.place 0) g.G.Says.said c.fetch_or.result c.fetch_or.new.seat.me s _ c.self.invariant c.fetch_or.ensures.2 refl refl
+    refl (search rules) refl

@@ -1,28 +1,28 @@
-use Rattle.std.proofs.Common.{rules, arith, ◌≡◌, ◌==◌, ◌+◌, ◌-◌, ◌%◌, ◌^◌, ◌<◌, ℕ, Option, Some, None, [], ◌∷◌, sym, refl, ap, ◌∙◌, subst}
+use Rattle.std.proofs.Common.{◌==◌, ℕ, None, sym, ap, subst}
 use prog.Atomic.{either}
-use Rattle.wq_words.specs.Head.{busy_word}
 use Rattle.wq_words.specs.Valued.{Carries}
-use Rattle.wq_words.specs.declared.event.Why.TheVariants.{Closed, Draining, Contended, Cancelled}
-use Rattle.wq_core.specs.Words.{link_place, done_place}
 use Rattle.wq_core.specs.declared.step.Step.TheVariants as step
 use Rattle.wq_table.specs.Plays.{Performs}
 use Rattle.wq_table.specs.Chair.{part_at}
-use Rattle.wq_table.specs.SlotSteps.{Hand, GoesBy, in_front}
+use Rattle.wq_table.specs.SlotSteps.{GoesBy, in_front}
 use Rattle.wq_table.specs.SlotChairs.{standing_of, ValueSteps}
 use Rattle.wq_table.proofs.Steps.{placed, number_placed, linked, number_linked, number_pushed, saw_closed, saw_draining, saw_any}
 use Rattle.wq_table.proofs.Steps as steps
-use Rattle.wq_table.proofs.SlotTold.{deep_in, item_at_part, item_room_in, done_room_in, numbered, by_either}
+use Rattle.wq_table.proofs.SlotTold.{deep_in, by_either}
 use Rattle.wq_table.proofs.ByKind as by
 use Rattle.wq_table.proofs.value_chair.ValueChair.push.Goals as goal
 
 pub replace-requires-clause-performs : goal.replace-requires-clause-performs
-replace-requires-clause-performs g c = let s = c.self.inside in let it = c.args.self.now in let sits = c.self.invariant in let view = c.self.view_is in let at = g.P.Place.at in let p = part_at at (standing_of it) in let k = c.args.number in
+replace-requires-clause-performs g c = let s = c.self.inside in let it = c.args.self.now in let sits = c.self.invariant in
+    let view = c.self.view_is in let at = g.P.Place.at in let p = part_at at (standing_of it) in let k = c.args.number in
     let back = number_pushed _ k c.to_word-word.ensures.word in
-    subst (λ (z : ℕ × ℕ). Performs p (step.Push z.0) 0 (λ n. either (n == c.args.seen) z.1 n) (λ n. n)) (λ i. (sym back i, sym c.to_word-word.ensures.word i))
+    subst (λ (z : ℕ × ℕ). Performs p (step.Push z.0) 0 (λ n. either (n == c.args.seen) z.1 n) (λ n. n)) (λ i.
+    (sym back i, sym c.to_word-word.ensures.word i))
     (steps.performs_push p.seat p.layout p.seen p.words k c.args.seen p.stage c.requires.number c.requires.linked)
 
 pub replace-requires-clause-goes : goal.replace-requires-clause-goes
-replace-requires-clause-goes g c = let s = c.self.inside in let it = c.args.self.now in let sits = c.self.invariant in let view = c.self.view_is in let at = g.P.Place.at in let p = part_at at (standing_of it) in let k = c.args.number in
+replace-requires-clause-goes g c = let s = c.self.inside in let it = c.args.self.now in let sits = c.self.invariant in
+    let view = c.self.view_is in let at = g.P.Place.at in let p = part_at at (standing_of it) in let k = c.args.number in
     subst (λ (n : ℕ). GoesBy it.queue.slots p None (step.Push n) it.hand) (sym (number_pushed _ k c.to_word-word.ensures.word))
     (by_either it.queue.slots p None (step.Push k) it.hand (λ some_slot. let slot = c.requires.slot some_slot in
     subst (GoesBy it.queue.slots p None (step.Push k)) (sym slot.1)

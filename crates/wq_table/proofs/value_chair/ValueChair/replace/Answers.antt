@@ -14,8 +14,11 @@ compare_exchange-requires g c = let s = c.self.inside in let it = c.args.self.no
 pub returns : goal.returns
 returns g c = let s = c.self.inside in let it = c.args.self.now in
     told_values s.layout g.P.Place.at _ (g.K.Kind.step c.args.place c.args.new) None c.compare_exchange.result it s.seat.me c.compare_exchange.new.seat.me _
-    (seat_is s it c.self.invariant c.self.view_is) (slots_are s it c.self.invariant c.self.view_is c.deref.result.now c.deref.ensures) (search rules) c.compare_exchange.ensures.2
+    (seat_is s it c.self.invariant c.self.view_is) (slots_are s it c.self.invariant c.self.view_is c.deref.result.now c.deref.ensures)
+    (search rules) c.compare_exchange.ensures.2
 
 pub invariant_of-self : goal.invariant_of-self
 invariant_of-self g c = let s = c.self.inside in
-    sits_step g.P.Place.at _ (g.K.Kind.step c.args.place c.args.new) None c.compare_exchange.result c.compare_exchange.new.seat.me s _ c.self.invariant c.compare_exchange.ensures.2 refl refl refl (search rules) refl
+    sits_step g.P.Place.at c.deref.result.now.shared.table_id.slots
+    (g.K.Kind.step c.args.place c.args.new) None c.compare_exchange.result c.compare_exchange.new.seat.me s _ c.self.invariant
+    c.compare_exchange.ensures.2 refl refl refl (search rules) refl

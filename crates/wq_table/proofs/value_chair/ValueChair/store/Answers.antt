@@ -14,8 +14,11 @@ store-requires g c = let s = c.self.inside in let it = c.args.self.now in let si
 pub returns : goal.returns
 returns g c = let s = c.self.inside in let it = c.args.self.now in
     told_values s.layout g.P.Place.at _ (g.K.Kind.step c.args.place c.args.new) None c.args.new it s.seat.me c.store.new.seat.me _
-    (seat_is s it c.self.invariant c.self.view_is) (slots_are s it c.self.invariant c.self.view_is c.deref.result.now c.deref.ensures) (search rules) c.store.ensures.2
+    (seat_is s it c.self.invariant c.self.view_is) (slots_are s it c.self.invariant c.self.view_is c.deref.result.now c.deref.ensures)
+    (search rules) c.store.ensures.2
 
 pub invariant_of-self : goal.invariant_of-self
 invariant_of-self g c = let s = c.self.inside in
-    sits_step g.P.Place.at _ (g.K.Kind.step c.args.place c.args.new) None c.args.new c.store.new.seat.me s _ c.self.invariant c.store.ensures.2 refl refl refl (search rules) refl
+    sits_step g.P.Place.at c.deref.result.now.shared.table_id.slots
+    (g.K.Kind.step c.args.place c.args.new) None c.args.new c.store.new.seat.me s _ c.self.invariant c.store.ensures.2 refl refl refl
+    (search rules) refl

@@ -1,23 +1,18 @@
-use Rattle.std.proofs.Common.{rules, arith, ◌≡◌, ◌==◌, ◌+◌, ◌-◌, ◌%◌, ◌^◌, ◌<◌, ℕ, Option, Some, None, [], ◌∷◌, sym, refl, ap, ◌∙◌, subst}
-use prog.Atomic.{either}
-use Rattle.wq_words.specs.Head.{busy_word}
-use Rattle.wq_words.specs.Valued.{Carries}
-use Rattle.wq_words.specs.declared.event.Why.TheVariants.{Closed, Draining, Contended, Cancelled}
-use Rattle.wq_core.specs.Words.{link_place, done_place}
+use Rattle.std.proofs.Common.{None}
 use Rattle.wq_core.specs.declared.step.Step.TheVariants as step
-use Rattle.wq_table.specs.Plays.{Performs}
 use Rattle.wq_table.specs.Chair.{part_at}
-use Rattle.wq_table.specs.SlotSteps.{Hand, GoesBy, in_front}
-use Rattle.wq_table.specs.SlotChairs.{standing_of, ValueSteps}
+use Rattle.wq_table.specs.SlotChairs.{standing_of}
 use Rattle.wq_table.proofs.Steps.{placed, number_placed, linked, number_linked, number_pushed, saw_closed, saw_draining, saw_any}
 use Rattle.wq_table.proofs.Steps as steps
-use Rattle.wq_table.proofs.SlotTold.{deep_in, item_at_part, item_room_in, done_room_in, numbered, by_either}
+use Rattle.wq_table.proofs.SlotTold.{by_either}
 use Rattle.wq_table.proofs.ByKind as by
 use Rattle.wq_table.proofs.value_chair.ValueChair.take.Goals as goal
 
 pub swap-requires-clause-performs : goal.swap-requires-clause-performs
-swap-requires-clause-performs g c = let it = c.args.self.now in let at = g.P.Place.at in let p = part_at at (standing_of it) in 
+swap-requires-clause-performs g c = let it = c.args.self.now in let at = g.P.Place.at in let p = part_at at (standing_of it) in
     steps.performs_take p.seat p.layout p.seen p.words p.stage c.requires.open c.requires.rested c.requires.empty
 
 pub swap-requires-clause-goes : goal.swap-requires-clause-goes
-swap-requires-clause-goes g c = let it = c.args.self.now in let at = g.P.Place.at in let p = part_at at (standing_of it) in by_either it.queue.slots p None step.Take it.hand (λ some_slot. by.by_take p.seat p.layout p.seen p.words it.queue.slots it.hand p.stage c.requires.rested)
+swap-requires-clause-goes g c = let it = c.args.self.now in let at = g.P.Place.at in
+    let p = part_at at (standing_of it) in by_either it.queue.slots p None step.Take it.hand
+    (λ some_slot. by.by_take p.seat p.layout p.seen p.words it.queue.slots it.hand p.stage c.requires.rested)

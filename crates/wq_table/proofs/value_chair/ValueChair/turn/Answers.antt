@@ -1,22 +1,16 @@
-use Rattle.std.proofs.Common.{rules, arith, ◌≡◌, ◌==◌, ◌+◌, ◌-◌, ◌%◌, ◌^◌, ◌<◌, ℕ, Option, Some, None, [], ◌∷◌, sym, refl, ap, ◌∙◌, subst}
-use prog.Atomic.{either}
-use Rattle.wq_words.specs.Head.{busy_word}
-use Rattle.wq_words.specs.Valued.{Carries}
-use Rattle.wq_words.specs.declared.event.Why.TheVariants.{Closed, Draining, Contended, Cancelled}
-use Rattle.wq_core.specs.Words.{link_place, done_place}
+use Rattle.std.proofs.Common.{ℕ, Some, None, sym, subst}
 use Rattle.wq_core.specs.declared.step.Step.TheVariants as step
 use Rattle.wq_table.specs.Plays.{Performs}
 use Rattle.wq_table.specs.Chair.{part_at}
-use Rattle.wq_table.specs.SlotSteps.{Hand, GoesBy, in_front}
 use Rattle.wq_table.specs.SlotChairs.{standing_of, ValueSteps}
 use Rattle.wq_table.proofs.Steps.{placed, number_placed, linked, number_linked, number_pushed, saw_closed, saw_draining, saw_any}
 use Rattle.wq_table.proofs.Steps as steps
-use Rattle.wq_table.proofs.SlotTold.{deep_in, item_at_part, item_room_in, done_room_in, numbered, by_either}
+use Rattle.wq_table.proofs.SlotTold.{by_either}
 use Rattle.wq_table.proofs.ByKind as by
 use Rattle.wq_table.proofs.value_chair.ValueChair.turn.Goals as goal
 
 pub store-requires-clause-performs : goal.store-requires-clause-performs
-store-requires-clause-performs g c = let it = c.args.self.now in let at = g.P.Place.at in let p = part_at at (standing_of it) in 
+store-requires-clause-performs g c = let it = c.args.self.now in let at = g.P.Place.at in let p = part_at at (standing_of it) in
     let k = c.args.number in let j = c.args.next in let word = c.to_word-word.ensures.word in let place = c.link_place-place.ensures.place in
     let next = number_pushed _ j word in let number = number_linked _ k place in
     subst (λ (z : (ℕ × ℕ) × (ℕ × ℕ)). Performs p (step.Turn z.0.0 (Some z.0.1)) z.1.0 (λ n. z.1.1) (λ n. z.1.1))
@@ -24,7 +18,9 @@ store-requires-clause-performs g c = let it = c.args.self.now in let at = g.P.Pl
     (steps.performs_turn p.seat p.layout p.seen p.words k j p.stage c.requires.number c.requires.next c.requires.taken)
 
 pub store-requires-clause-goes : goal.store-requires-clause-goes
-store-requires-clause-goes g c = let it = c.args.self.now in let at = g.P.Place.at in let p = part_at at (standing_of it) in by_either it.queue.slots p None _ it.hand (λ some_slot. by.by_turn p.seat p.layout p.seen p.words c.args.number _ _ it.queue.slots it.hand p.stage c.requires.taken)
+store-requires-clause-goes g c = let it = c.args.self.now in let at = g.P.Place.at in
+    let p = part_at at (standing_of it) in by_either it.queue.slots p None _ it.hand
+    (λ some_slot. by.by_turn p.seat p.layout p.seen p.words c.args.number _ _ it.queue.slots it.hand p.stage c.requires.taken)
 
 pub returns : goal.returns
 returns g c = let word = c.to_word-word.ensures.word in
