@@ -26,7 +26,7 @@ use Rattle.wq_words.proofs.Ranks.{slice_get-some}
 use Rattle.wq_core.specs.Machine.{Machine, head, link, item_word, seen_word, nothing_seen, with_head, with_item, with_private, with_done, done_word, happened, after_walk, after_begin, after_end}
 use Rattle.wq_core.specs.Sound.{IsSound, AreChained, IsChain}
 use Rattle.wq_core.specs.Words.{number_at}
-use Rattle.wq_core.proofs.Chains.{times, times-cons, times-append, times-reverse_aux, times-first}
+use Rattle.wq_words.proofs.Times.{times, times-cons, times-append, times-reverse_aux, times-first}
 use Rattle.wq_words.specs.Listed.{listed}
 use Rattle.wq_core.proofs.KeptSound.{home_from_clear, sender_from_holds, away_from_sender}
 use Rattle.wq_core.proofs.Privates.{keeper_push, Gives, gives_hold, gives_push, gives_back, gives_begin, gives_chain}
