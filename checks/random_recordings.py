@@ -224,7 +224,7 @@ class Language:
     def header(self, words):
         need("Header", self.awaited[:1] == words[:1])
         need("Count", len(words) == 2)
-        value, most = number(words[1]), {"items": 4096, "senders": 64, "barriers": 16}[words[0]]
+        value, most = number(words[1]), {"items": 65536, "senders": 64, "barriers": 16}[words[0]]
         need(words[0].title(), 1 <= value <= most)
         self.size[self.awaited.pop(0)] = value
 
@@ -377,7 +377,7 @@ def random_line(draws, kind, size):
 def random_header(draws, kind):
     """A language that awaits what is behind its header, and the lines of that."""
     language = kind()
-    lines = [f"items {draws.choice([1, 2, 3, 4, 4096])}"]
+    lines = [f"items {draws.choice([1, 2, 3, 4, 65536])}"]
     if kind is History:
         lines.append(f"senders {draws.choice([1, 2, 3, 64])}")
         lines += draws.choice([[], [], [f"barriers {draws.choice([1, 2, 16])}"]])
@@ -405,9 +405,9 @@ def random_legal(draws, kind):
     return language.size, lines
 
 
-STRANGE = ["", "x", "01", "+1", "4", "4096", "b0", "b01", "b16", "stop", "end", "o", "items", "senders", "barriers", "queue"]
+STRANGE = ["", "x", "01", "+1", "4", "65536", "b0", "b01", "b16", "stop", "end", "o", "items", "senders", "barriers", "queue"]
 STRANGE += [str(LAST), str(LAST + 1), "0 0", "0 1", "1 1", " "]
-EDGES = [(1, "items 0"), (1, "items 4097"), (2, "senders 0"), (2, "senders 65"), (3, "barriers 0"), (3, "barriers 17")]
+EDGES = [(1, "items 0"), (1, "items 65537"), (2, "senders 0"), (2, "senders 65"), (3, "barriers 0"), (3, "barriers 17")]
 
 
 def spoil_line(draws, kind, size, lines):

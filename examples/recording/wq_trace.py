@@ -14,7 +14,7 @@ from collections import deque
 from contextlib import suppress
 from types import SimpleNamespace as Work
 
-ITEMS, KEPT = 4096, 1 << 17
+ITEMS, KEPT = 65536, 1 << 17
 EVENT = re.compile(r"workqueue_(queue_work|execute_start|execute_end): work struct[= ](?:0x)?([0-9a-f]+)(?:.* workqueue=(.*) req_cpu=)?")
 LOST = re.compile(r"\[LOST (?:\d+ )?EVENTS\]|\[(?:\d+ )?EVENTS DROPPED\]|PERF_RECORD_LOST|entries-written: (?!(\d+)/\1\b)")
 

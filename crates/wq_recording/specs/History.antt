@@ -8,7 +8,7 @@ use Rattle.wq_words.specs.declared.event.Event.{Event}
 use Rattle.wq_words.specs.declared.event.Event.TheVariants as event
 use Rattle.wq_words.specs.declared.layout.Layout.{Layout}
 use Rattle.wq_words.specs.Legal.{HasSeat, HasNumber}
-use Rattle.wq_words.specs.Limits.{most_text_items}
+use Rattle.wq_words.specs.Limits.{most_items}
 use Rattle.wq_text.specs.declared.fault.Kind.{Kind}
 use Rattle.wq_text.specs.Arguments.{item, no_word, one}
 use Rattle.wq_text.specs.Fault.{of_none, of_one, of_two}
@@ -93,7 +93,7 @@ abbrev pub history_grammar : Grammar Telling Entry
 history_grammar = record {
   version = codes "history 1";
   names_seats = true;
-  most = record { items = most_text_items; senders = 64 };
+  most = record { items = most_items; senders = 64 };
   names = telling_at;
   asks = λ l t w ws. entry_gives l t w (other_words ws);
 }

@@ -2,7 +2,7 @@
 use Rattle.std.specs.Prelude.{ℕ, ◌<◌, false, List, Option, Some, None, Result, if◌then◌else◌, codes}
 use Rattle.std.specs.Str.{bytes_eq}
 use Rattle.wq_words.specs.declared.layout.Layout.{Layout}
-use Rattle.wq_words.specs.Limits.{most_text_items}
+use Rattle.wq_words.specs.Limits.{most_items}
 use Rattle.wq_check.specs.declared.mark.Mark.{Mark}
 use Rattle.wq_check.specs.declared.mark.Mark.TheVariants as mark
 use Rattle.wq_check.specs.Trace.{number_of}
@@ -34,7 +34,7 @@ abbrev pub trace_grammar : Grammar Sight Mark
 trace_grammar = record {
   version = codes "trace 1";
   names_seats = false;
-  most = record { items = most_text_items; senders = 1 };
+  most = record { items = most_items; senders = 1 };
   names = λ w ws. sight_of w;
   asks = λ l s w ws. mark_gives l s ws;
 }

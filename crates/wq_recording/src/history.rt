@@ -4,7 +4,7 @@ ghost use Rattle.wq_recording.specs.History.{IsOf, history_grammar};
 use crate::entry::Entry;
 use crate::history_words::{Telling, entry, telling_of};
 use wq_text::{Language, LineError, Most, other_words};
-use wq_words::{Layout, MOST_TEXT_ITEMS};
+use wq_words::{Layout, MOST_ITEMS};
 
 // The lines of a history, each an entry at most.
 pub(crate) struct Entries;
@@ -28,7 +28,7 @@ impl Language for Entries {
 
     fn most() -> Most {
         Most {
-            items: MOST_TEXT_ITEMS,
+            items: MOST_ITEMS,
             senders: 64,
         }
     }

@@ -5,7 +5,7 @@ ghost use Rattle.wq_recording.specs.Trace.{IsMarkOf, sight_of, mark_gives, trace
 
 use wq_check::Mark;
 use wq_text::{Language, LineError, Most, item, one_word};
-use wq_words::{Layout, MOST_TEXT_ITEMS};
+use wq_words::{Layout, MOST_ITEMS};
 
 // What a line shows, without its item.
 #[derive(Clone, Copy)]
@@ -65,7 +65,7 @@ impl Language for Marks {
 
     fn most() -> Most {
         Most {
-            items: MOST_TEXT_ITEMS,
+            items: MOST_ITEMS,
             senders: 1,
         }
     }

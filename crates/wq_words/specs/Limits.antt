@@ -7,7 +7,7 @@ use Rattle.wq_words.specs.declared.layout.LayoutError.TheVariants.{Items, Barrie
 abbrev pub most_items : ℕ
 most_items = 65536
 
--- the most items of a queue in a text: a script, a schedule, a recording or a plan
+-- the most items of a queue in a script or a schedule of version 1, and in a plan
 abbrev pub most_text_items : ℕ
 most_text_items = 4096
 

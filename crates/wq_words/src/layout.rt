@@ -7,7 +7,7 @@ use thiserror::Error;
 /// The most items that a queue can have.
 pub const MOST_ITEMS: u32 = 65_536;
 
-/// The most items of a queue in a text: a script, a schedule, a recording or a plan (docs/FORMATS.md).
+/// The most items of a queue in a script or a schedule of version 1, and in a plan (docs/FORMATS.md).
 pub const MOST_TEXT_ITEMS: u32 = 4_096;
 
 /// Which number of a layout is out of its limits, the first of them in this order.
