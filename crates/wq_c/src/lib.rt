@@ -1,0 +1,246 @@
+//! The calls of a queue for a caller in C. Each takes the memory of a seat, which is the call's until it returns, and leaves a seat
+//! there. It answers a word: a code in the low 32 bits and, above them, a number where the answer has one.
+//! `checks/walks.py` writes this file.
+#![tactic(auto)]
+
+ghost use Rattle.std.specs.Borrow.{full_share, sem};
+ghost use Rattle.std.specs.Ptr.{lies_at, room_at};
+ghost use base.Fml.{fex, fsep};
+ghost use Rattle.wq_seats.specs.Words.{SaidHandOut, SaidBuild, SaidRelease, SaidQueue, SaidCheck, SaidFlush, SaidCheckFlush};
+ghost use Rattle.wq_seats.specs.Words.{SaidStop, SaidNumber, SaidTake, SaidClose, SaidDrain, SaidResume, SaidNext};
+ghost use Rattle.wq_seats.specs.Words.{SaidWaiting, SaidBegin, SaidEnd, SaidRest, SaidChain, SaidDone};
+ghost use Rattle.wq_seats.specs.declared.seat.Seat.{Seat as Kept};
+ghost use Rattle.wq_seats.specs.declared.seat.Seat.TheVariants.{Vacant};
+ghost use Rattle.wq_seats.specs.contracts.seat.Seat.{the_row as kept};
+
+use std::alloc::Global;
+use wq_seats::Seat;
+
+/// How many bytes a seat takes.
+#[unsafe(no_mangle)]
+pub extern "C" fn wq_c_seat_size() -> usize {
+    std::mem::size_of::<Seat>()
+}
+
+/// How many bytes the address of a seat is a multiple of.
+#[unsafe(no_mangle)]
+pub extern "C" fn wq_c_seat_align() -> usize {
+    std::mem::align_of::<Seat>()
+}
+
+/// Makes a vacant seat in this room.
+#[unsafe(no_mangle)]
+pub unsafe extern "C" fn wq_c_init(at: *mut u8)
+    requires* { sem 𝓛 (room_at kept at) }
+    ensures* { sem 𝓛 (lies_at kept full_share at Vacant) }
+{
+    (at as *mut Seat).write(wq_seats::vacant());
+}
+
+/// Hands out a sender of the owner's queue, which takes the other seat.
+#[unsafe(no_mangle)]
+pub unsafe extern "C" fn wq_c_hand_out(at: *mut u8, to: *mut u8) -> u64
+    ghost old: { Kept × Kept }
+    requires* at { sem 𝓛 (lies_at kept full_share at old.0) }
+    requires* to { sem 𝓛 (lies_at kept full_share to old.1) }
+    ensures* { sem 𝓛 (fex Kept (λ new. fex Kept (λ other. fex (SaidHandOut result old.0 old.1 new other)
+        (λ _. fsep (lies_at kept full_share at new) (lies_at kept full_share to other))))) }
+{
+    wq_seats::word::hand_out_word(&mut *(at as *mut Seat), &mut *(to as *mut Seat))
+}
+
+/// Builds a queue of this size, whose owner takes the seat.
+#[unsafe(no_mangle)]
+pub unsafe extern "C" fn wq_c_build(
+    at: *mut u8,
+    alloc: Global,
+    items: u32,
+    barriers: u32,
+    senders: u32,
+) -> u64
+    ghost old: { Kept }
+    requires* { sem 𝓛 (lies_at kept full_share at old) }
+    ensures* { sem 𝓛 (fex Kept (λ new. fex (SaidBuild items barriers senders result old new) (λ _. lies_at kept full_share at new))) }
+{
+    wq_seats::word::build_word(&mut *(at as *mut Seat), alloc, items, barriers, senders)
+}
+
+/// Gives up a seat, which is vacant then.
+#[unsafe(no_mangle)]
+pub unsafe extern "C" fn wq_c_release(at: *mut u8) -> u64
+    ghost old: { Kept }
+    requires* { sem 𝓛 (lies_at kept full_share at old) }
+    ensures* { sem 𝓛 (fex Kept (λ new. fex (SaidRelease result old new) (λ _. lies_at kept full_share at new))) }
+{
+    wq_seats::word::release_word(&mut *(at as *mut Seat))
+}
+
+/// Queues an item, with at most so many tries.
+#[unsafe(no_mangle)]
+pub unsafe extern "C" fn wq_c_queue(at: *mut u8, item: u32, tries: u32) -> u64
+    ghost old: { Kept }
+    requires* { sem 𝓛 (lies_at kept full_share at old) }
+    ensures* { sem 𝓛 (fex Kept (λ new. fex (SaidQueue item tries result old new) (λ _. lies_at kept full_share at new))) }
+{
+    wq_seats::word::queue_word(&mut *(at as *mut Seat), item, tries)
+}
+
+/// The item's PENDING bit.
+#[unsafe(no_mangle)]
+pub unsafe extern "C" fn wq_c_is_pending(at: *mut u8, item: u32) -> u64
+    ghost old: { Kept }
+    requires* { sem 𝓛 (lies_at kept full_share at old) }
+    ensures* { sem 𝓛 (fex Kept (λ new. fex (SaidCheck item result old new) (λ _. lies_at kept full_share at new))) }
+{
+    wq_seats::word::is_pending_word(&mut *(at as *mut Seat), item)
+}
+
+/// Queues a barrier, with at most so many tries.
+#[unsafe(no_mangle)]
+pub unsafe extern "C" fn wq_c_flush_begin(at: *mut u8, barrier: u32, tries: u32) -> u64
+    ghost old: { Kept }
+    requires* { sem 𝓛 (lies_at kept full_share at old) }
+    ensures* { sem 𝓛 (fex Kept (λ new. fex (SaidFlush barrier tries result old new) (λ _. lies_at kept full_share at new))) }
+{
+    wq_seats::word::flush_begin_word(&mut *(at as *mut Seat), barrier, tries)
+}
+
+/// Whether the barrier's PENDING bit is clear.
+#[unsafe(no_mangle)]
+pub unsafe extern "C" fn wq_c_flush_done(at: *mut u8, barrier: u32) -> u64
+    ghost old: { Kept }
+    requires* { sem 𝓛 (lies_at kept full_share at old) }
+    ensures* { sem 𝓛 (fex Kept (λ new. fex (SaidCheckFlush barrier result old new) (λ _. lies_at kept full_share at new))) }
+{
+    wq_seats::word::flush_done_word(&mut *(at as *mut Seat), barrier)
+}
+
+/// Queues the stop item, with at most so many tries.
+#[unsafe(no_mangle)]
+pub unsafe extern "C" fn wq_c_request_stop(at: *mut u8, tries: u32) -> u64
+    ghost old: { Kept }
+    requires* { sem 𝓛 (lies_at kept full_share at old) }
+    ensures* { sem 𝓛 (fex Kept (λ new. fex (SaidStop tries result old new) (λ _. lies_at kept full_share at new))) }
+{
+    wq_seats::word::request_stop_word(&mut *(at as *mut Seat), tries)
+}
+
+/// The sender's number.
+#[unsafe(no_mangle)]
+pub unsafe extern "C" fn wq_c_number(at: *mut u8) -> u64
+    ghost old: { Kept }
+    requires* { sem 𝓛 (lies_at kept full_share at old) }
+    ensures* { sem 𝓛 (fex Kept (λ new. fex (SaidNumber result old new) (λ _. lies_at kept full_share at new))) }
+{
+    wq_seats::word::number_word(&mut *(at as *mut Seat))
+}
+
+/// Takes all that stands on the list, and answers how many that is.
+#[unsafe(no_mangle)]
+pub unsafe extern "C" fn wq_c_take(at: *mut u8) -> u64
+    ghost old: { Kept }
+    requires* { sem 𝓛 (lies_at kept full_share at old) }
+    ensures* { sem 𝓛 (fex Kept (λ new. fex (SaidTake result old new) (λ _. lies_at kept full_share at new))) }
+{
+    wq_seats::word::take_word(&mut *(at as *mut Seat))
+}
+
+/// Closes the queue, takes all that stands on the list, and answers how many that is.
+#[unsafe(no_mangle)]
+pub unsafe extern "C" fn wq_c_close(at: *mut u8) -> u64
+    ghost old: { Kept }
+    requires* { sem 𝓛 (lies_at kept full_share at old) }
+    ensures* { sem 𝓛 (fex Kept (λ new. fex (SaidClose result old new) (λ _. lies_at kept full_share at new))) }
+{
+    wq_seats::word::close_word(&mut *(at as *mut Seat))
+}
+
+/// Begins a drain, takes all that stands on the list, and answers how many that is.
+#[unsafe(no_mangle)]
+pub unsafe extern "C" fn wq_c_drain(at: *mut u8) -> u64
+    ghost old: { Kept }
+    requires* { sem 𝓛 (lies_at kept full_share at old) }
+    ensures* { sem 𝓛 (fex Kept (λ new. fex (SaidDrain result old new) (λ _. lies_at kept full_share at new))) }
+{
+    wq_seats::word::drain_word(&mut *(at as *mut Seat))
+}
+
+/// Ends a drain.
+#[unsafe(no_mangle)]
+pub unsafe extern "C" fn wq_c_resume(at: *mut u8) -> u64
+    ghost old: { Kept }
+    requires* { sem 𝓛 (lies_at kept full_share at old) }
+    ensures* { sem 𝓛 (fex Kept (λ new. fex (SaidResume result old new) (λ _. lies_at kept full_share at new))) }
+{
+    wq_seats::word::resume_word(&mut *(at as *mut Seat))
+}
+
+/// The oldest number that was taken and has not begun.
+#[unsafe(no_mangle)]
+pub unsafe extern "C" fn wq_c_next(at: *mut u8) -> u64
+    ghost old: { Kept }
+    requires* { sem 𝓛 (lies_at kept full_share at old) }
+    ensures* { sem 𝓛 (fex Kept (λ new. fex (SaidNext result old new) (λ _. lies_at kept full_share at new))) }
+{
+    wq_seats::word::next_word(&mut *(at as *mut Seat))
+}
+
+/// How many numbers were taken and have not begun.
+#[unsafe(no_mangle)]
+pub unsafe extern "C" fn wq_c_waiting(at: *mut u8) -> u64
+    ghost old: { Kept }
+    requires* { sem 𝓛 (lies_at kept full_share at old) }
+    ensures* { sem 𝓛 (fex Kept (λ new. fex (SaidWaiting result old new) (λ _. lies_at kept full_share at new))) }
+{
+    wq_seats::word::waiting_word(&mut *(at as *mut Seat))
+}
+
+/// Begins the oldest number that was taken, and answers it.
+#[unsafe(no_mangle)]
+pub unsafe extern "C" fn wq_c_begin(at: *mut u8) -> u64
+    ghost old: { Kept }
+    requires* { sem 𝓛 (lies_at kept full_share at old) }
+    ensures* { sem 𝓛 (fex Kept (λ new. fex (SaidBegin result old new) (λ _. lies_at kept full_share at new))) }
+{
+    wq_seats::word::begin_word(&mut *(at as *mut Seat))
+}
+
+/// Ends the execution that runs.
+#[unsafe(no_mangle)]
+pub unsafe extern "C" fn wq_c_end(at: *mut u8) -> u64
+    ghost old: { Kept }
+    requires* { sem 𝓛 (lies_at kept full_share at old) }
+    ensures* { sem 𝓛 (fex Kept (λ new. fex (SaidEnd result old new) (λ _. lies_at kept full_share at new))) }
+{
+    wq_seats::word::end_word(&mut *(at as *mut Seat))
+}
+
+/// Says once that the queue rests.
+#[unsafe(no_mangle)]
+pub unsafe extern "C" fn wq_c_rest(at: *mut u8) -> u64
+    ghost old: { Kept }
+    requires* { sem 𝓛 (lies_at kept full_share at old) }
+    ensures* { sem 𝓛 (fex Kept (λ new. fex (SaidRest result old new) (λ _. lies_at kept full_share at new))) }
+{
+    wq_seats::word::rest_word(&mut *(at as *mut Seat))
+}
+
+/// Queues an item from the execution that runs, while the queue is closed or drains.
+#[unsafe(no_mangle)]
+pub unsafe extern "C" fn wq_c_chain(at: *mut u8, item: u32) -> u64
+    ghost old: { Kept }
+    requires* { sem 𝓛 (lies_at kept full_share at old) }
+    ensures* { sem 𝓛 (fex Kept (λ new. fex (SaidChain item result old new) (λ _. lies_at kept full_share at new))) }
+{
+    wq_seats::word::chain_word(&mut *(at as *mut Seat), item)
+}
+
+/// Whether the queue is closed and has run to its end.
+#[unsafe(no_mangle)]
+pub unsafe extern "C" fn wq_c_is_done(at: *mut u8) -> u64
+    ghost old: { Kept }
+    requires* { sem 𝓛 (lies_at kept full_share at old) }
+    ensures* { sem 𝓛 (fex Kept (λ new. fex (SaidDone result old new) (λ _. lies_at kept full_share at new))) }
+{
+    wq_seats::word::is_done_word(&mut *(at as *mut Seat))
+}
