@@ -3,8 +3,9 @@ SHELL := /bin/bash
 PREFIX ?= /usr/local
 PROGRAM := crates/wqrun/out/wqrun
 EXAMPLES := examples
+LIBRARY := crates/wq_c/out
 
-.PHONY: run try test build install bench examples recordings rows definitions memory wrong-bodies
+.PHONY: run try test build library install bench examples recordings rows c-api definitions memory wrong-bodies
 
 run: build
 	$(PROGRAM) script $(EXAMPLES)/first.wq
@@ -21,10 +22,16 @@ test:
 build:
 	@checks/build.py
 
-install: build
+# The library for C, C++, Rust and Python: proves what it stands on, and builds crates/wq_c/out/libyeangvos.a and .so.
+library:
+	mkdir -p $(LIBRARY)
+	checks/c_library.sh $(LIBRARY)
+
+install: build library
 	install -D -m 755 $(PROGRAM) $(DESTDIR)$(PREFIX)/bin/wqrun
 	install -D -m 644 man/wqrun.1 $(DESTDIR)$(PREFIX)/share/man/man1/wqrun.1
 	install -D -m 644 docs/FORMATS.md $(DESTDIR)$(PREFIX)/share/doc/wqrun/FORMATS.md
+	checks/c_install.sh $(LIBRARY) $(PREFIX) $(DESTDIR)
 
 # Each example writes what is stored beside it, and ends with the status that is stored.
 examples: build
@@ -48,6 +55,10 @@ rows: build
 definitions:
 	checks/definitions.py
 
+# The library for C, tested from C, C++, Rust and Python, as the gate does; two minutes once it is proved.
+c-api: build
+	checks/c_api.sh $(PROGRAM)
+
 # The calls that take memory, with each allocation refused in turn, as the gate does; some minutes.
 memory:
 	checks/refused_memory.sh
@@ -58,13 +69,14 @@ wrong-bodies:
 
 # Times a script of a megabyte, scripts of one command alone, executed items beside the same scheme in C, in one thread and in
 # several, and a pool beside others in C.
-bench: build
+bench: build library
 	cd crates/bench_queue && rt run
 	cd crates/bench_pool && rt run
 	bench/script.sh $(PROGRAM)
 	bench/commands.py $(PROGRAM)
 	bench/items.sh crates/bench_queue/out/bench_queue
 	bench/threads.py crates/bench_queue/out/bench_queue 9
+	bench/seats.py crates/bench_queue/out/bench_queue $(LIBRARY) 9
 	bench/pool.py crates/bench_pool/out/bench_pool 9
 	bench/delays.sh crates/bench_queue/out/bench_queue
 	bench/large.py crates/bench_queue/out/bench_queue

@@ -1,0 +1,103 @@
+/* Each code of each call, in one thread. */
+#include "check.h"
+#include "wq.h"
+#include <string.h>
+
+static wq_seat owner, one, two;
+
+static void before_a_queue(void) {
+    uint32_t n = 77;
+    CHECK(wq_c_seat_size() <= WQ_SEAT_BYTES);
+    CHECK(wq_init(&owner) == WQ_OK && wq_init(&one) == WQ_OK && wq_init(&two) == WQ_OK);
+    CHECK(wq_queue(&one, 0) == WQ_NOT_SENDER && wq_is_pending(&one, 0) == WQ_NOT_SENDER && wq_request_stop(&one) == WQ_NOT_SENDER);
+    CHECK(wq_flush_begin(&one, 0) == WQ_NOT_SENDER && wq_flush_done(&one, 0) == WQ_NOT_SENDER && wq_number(&one, &n) == WQ_NOT_SENDER);
+    CHECK(wq_take(&one, &n) == WQ_NOT_OWNER && wq_close(&one, &n) == WQ_NOT_OWNER && wq_drain(&one, &n) == WQ_NOT_OWNER);
+    CHECK(wq_resume(&one) == WQ_NOT_OWNER && wq_next(&one, &n) == WQ_NOT_OWNER && wq_waiting(&one, &n) == WQ_NOT_OWNER);
+    CHECK(wq_begin(&one, &n) == WQ_NOT_OWNER && wq_end(&one) == WQ_NOT_OWNER && wq_rest(&one) == WQ_NOT_OWNER);
+    CHECK(wq_chain(&one, 0) == WQ_NOT_OWNER && wq_is_done(&one) == WQ_NOT_OWNER && wq_hand_out(&one, &two) == WQ_NOT_OWNER);
+    CHECK(n == 77);
+    CHECK(wq_build(&owner, 0, 1, 1) == WQ_ITEMS && wq_build(&owner, 65537, 0, 0) == WQ_ITEMS);
+    CHECK(wq_build(&owner, 1, 0, 65) == WQ_BARRIERS && wq_build(&owner, 65536, 17, 1) == WQ_BARRIERS);
+    CHECK(wq_build(&owner, 1, 1, 0) == WQ_SENDERS && wq_build(&owner, 1, 16, 65) == WQ_SENDERS);
+}
+
+static void handing_out(void) {
+    uint32_t n = 77;
+    CHECK(wq_build(&owner, 4, 1, 1) == WQ_OK && wq_build(&owner, 4, 1, 1) == WQ_IN_USE);
+    CHECK(wq_hand_out(&owner, &owner) == WQ_IN_USE);
+    CHECK(wq_hand_out(&owner, &one) == WQ_OK && wq_hand_out(&owner, &one) == WQ_IN_USE && wq_hand_out(&owner, &two) == WQ_NO_SENDER);
+    CHECK(wq_build(&one, 4, 1, 1) == WQ_IN_USE && wq_hand_out(&one, &two) == WQ_NOT_OWNER);
+    CHECK(wq_number(&one, &n) == WQ_OK && n == 0 && wq_number(&owner, &n) == WQ_NOT_SENDER);
+    CHECK(wq_queue(&owner, 0) == WQ_NOT_SENDER && wq_take(&one, &n) == WQ_NOT_OWNER);
+}
+
+static void sending(void) {
+    CHECK(wq_queue(&one, 4) == WQ_NO_ITEM && wq_queue(&one, UINT32_MAX) == WQ_NO_ITEM && wq_queue_tries(&one, 4, 0) == WQ_NO_ITEM);
+    CHECK(wq_queue_tries(&one, 0, 0) == WQ_NO_TRIES && wq_is_pending(&one, 0) == WQ_NO && wq_is_pending(&one, 4) == WQ_NO_ITEM);
+    CHECK(wq_queue(&one, 2) == (WQ_QUEUED | WQ_FIRST | WQ_WAKES) && wq_queue(&one, 2) == WQ_PENDING);
+    CHECK(wq_is_pending(&one, 2) == WQ_YES && wq_queue(&one, 0) == WQ_QUEUED);
+    CHECK(wq_flush_begin(&one, 1) == WQ_NO_BARRIER && wq_flush_done(&one, 1) == WQ_NO_BARRIER);
+}
+
+static void executing(void) {
+    uint32_t n = 77;
+    CHECK(wq_begin(&owner, &n) == WQ_NONE_WAITS && wq_end(&owner) == WQ_NONE_RUNS && wq_next(&owner, &n) == WQ_NONE_WAITS && n == 77);
+    CHECK(wq_chain(&owner, 1) == WQ_IS_OPEN && wq_chain(&owner, 4) == WQ_NO_ITEM && wq_resume(&owner) == WQ_NOT_DRAINING);
+    CHECK(wq_release(&owner) == WQ_NOT_DONE && wq_is_done(&owner) == WQ_NO);
+    CHECK(wq_take(&owner, &n) == WQ_OK && n == 2);
+    CHECK(wq_take(&owner, &n) == WQ_SOME_WAIT && wq_rest(&owner) == WQ_SOME_WAIT);
+    CHECK(wq_waiting(&owner, &n) == WQ_OK && n == 2 && wq_next(&owner, &n) == WQ_OK && n == 2);
+    CHECK(wq_begin(&owner, &n) == WQ_OK && n == 2 && wq_begin(&owner, &n) == WQ_IS_RUNNING && wq_is_pending(&one, 2) == WQ_NO);
+    CHECK(wq_end(&owner) == WQ_OK && wq_end(&owner) == WQ_NONE_RUNS);
+    CHECK(wq_begin(&owner, &n) == WQ_OK && n == 0 && wq_rest(&owner) == WQ_IS_RUNNING && wq_end(&owner) == WQ_OK);
+    CHECK(wq_rest(&owner) == WQ_YES && wq_rest(&owner) == WQ_NO);
+    CHECK(wq_flush_begin(&one, 0) == (WQ_QUEUED | WQ_FIRST | WQ_WAKES) && wq_flush_done(&one, 0) == WQ_NO);
+    CHECK(wq_rest(&owner) == WQ_NO && wq_take(&owner, &n) == WQ_OK && n == 1);
+    CHECK(wq_begin(&owner, &n) == WQ_OK && n == 4 && wq_end(&owner) == WQ_OK && wq_flush_done(&one, 0) == WQ_YES);
+}
+
+static void draining(void) {
+    uint32_t n = 77;
+    CHECK(wq_queue(&one, 1) == (WQ_QUEUED | WQ_FIRST) && wq_drain(&owner, &n) == WQ_OK && n == 1);
+    CHECK(wq_drain(&owner, &n) == WQ_IS_DRAINING && wq_take(&owner, &n) == WQ_IS_DRAINING && wq_rest(&owner) == WQ_IS_DRAINING);
+    CHECK(wq_queue(&one, 2) == WQ_DRAINING && wq_is_pending(&one, 2) == WQ_NO && wq_resume(&owner) == WQ_SOME_WAIT);
+    CHECK(wq_chain(&owner, 3) == WQ_NONE_RUNS && wq_begin(&owner, &n) == WQ_OK && n == 1 && wq_resume(&owner) == WQ_IS_RUNNING);
+    CHECK(wq_chain(&owner, 3) == WQ_QUEUED && wq_chain(&owner, 3) == WQ_PENDING && wq_end(&owner) == WQ_OK);
+    CHECK(wq_begin(&owner, &n) == WQ_OK && n == 3 && wq_end(&owner) == WQ_OK && wq_release(&owner) == WQ_NOT_DONE);
+    CHECK(wq_resume(&owner) == WQ_OK && wq_resume(&owner) == WQ_NOT_DRAINING);
+    CHECK(wq_queue(&one, 2) == (WQ_QUEUED | WQ_FIRST) && wq_take(&owner, &n) == WQ_OK && n == 1);
+    CHECK(wq_begin(&owner, &n) == WQ_OK && n == 2 && wq_end(&owner) == WQ_OK);
+}
+
+static void closing(void) {
+    uint32_t n = 77;
+    CHECK(wq_request_stop(&one) == (WQ_QUEUED | WQ_FIRST));
+    CHECK(wq_close(&owner, &n) == WQ_OK && n == 1 && wq_close(&owner, &n) == WQ_IS_CLOSED && wq_drain(&owner, &n) == WQ_IS_CLOSED);
+    CHECK(wq_take(&owner, &n) == WQ_IS_CLOSED && wq_rest(&owner) == WQ_IS_CLOSED && wq_resume(&owner) == WQ_NOT_DRAINING);
+    CHECK(wq_queue(&one, 1) == WQ_CLOSED && wq_is_pending(&one, 1) == WQ_NO && wq_flush_begin(&one, 0) == WQ_CLOSED);
+    CHECK(wq_begin(&owner, &n) == WQ_OK && n == 5 && wq_chain(&owner, 3) == WQ_QUEUED);
+    CHECK(wq_end(&owner) == WQ_OK && wq_is_done(&owner) == WQ_NO && wq_release(&owner) == WQ_NOT_DONE);
+    CHECK(wq_begin(&owner, &n) == WQ_OK && n == 3 && wq_end(&owner) == WQ_OK && wq_is_done(&owner) == WQ_YES);
+    CHECK(wq_release(&owner) == WQ_OK && wq_release(&owner) == WQ_OK && wq_take(&owner, &n) == WQ_NOT_OWNER);
+    CHECK(wq_queue(&one, 1) == WQ_CLOSED && wq_release(&one) == WQ_OK && wq_queue(&one, 1) == WQ_NOT_SENDER);
+    CHECK(wq_build(&one, 1, 1, 1) == WQ_OK && wq_close(&one, &n) == WQ_OK && n == 0 && wq_release(&one) == WQ_OK);
+}
+
+static void names(void) {
+    CHECK(!strcmp(wq_code_name(WQ_OK), "OK") && !strcmp(wq_code_name(WQ_QUEUED | WQ_FIRST | WQ_WAKES), "QUEUED|FIRST|WAKES"));
+    CHECK(!strcmp(wq_code_name(WQ_YES), "YES") && !strcmp(wq_code_name(14), "?") && !strcmp(wq_code_name(WQ_NOT_SENDER), "NOT_SENDER"));
+    CHECK(!strcmp(wq_code_name(WQ_IS_OPEN), "IS_OPEN") && !strcmp(wq_code_name(WQ_SENDERS), "SENDERS") && !strcmp(wq_code_name(84), "?"));
+    CHECK(!strcmp(wq_code_name(WQ_SEAT_BUSY), "SEAT_BUSY") && !strcmp(wq_code_name(WQ_NO_THREAD), "NO_THREAD"));
+}
+
+int main(void) {
+    before_a_queue();
+    handing_out();
+    sending();
+    executing();
+    draining();
+    closing();
+    names();
+    puts("codes: each as it is said");
+    return 0;
+}

@@ -1,0 +1,124 @@
+#!/usr/bin/env bash
+# Builds the library of C, and tests the calls of include/ from C, C++, Python and Rust: c_api.sh [WQRUN]. Where the program WQRUN is
+# named, it judges the histories of the random runs. Tools that are not installed are left out, each with a line: valgrind, rustc,
+# c++, python3, and the sanitizers of cc. Two minutes of a processor, beside the proof of wq_c.
+set -euo pipefail
+wqrun=${1:+$(realpath "$1")}
+cd "$(dirname "${BASH_SOURCE[0]}")/.."
+work=$(mktemp -d)
+trap 'rm -rf "$work"' EXIT
+export LD_LIBRARY_PATH=$work YEANGVOS_LIBRARY=$work/libyeangvos.so PYTHONPATH=include PYTHONDONTWRITEBYTECODE=1
+if ! command -v "${CC:-cc}" >/dev/null; then
+    echo "c: no C compiler, so nothing was tested"
+    exit 0
+fi
+checks/c_library.sh "$work"
+strict=(-std=c11 -D_GNU_SOURCE -O2 -g -Wall -Wextra -Werror -pthread -Iinclude -Ichecks/c)
+
+# built NAME FLAG..: the program of checks/c/NAME.c, strictly
+built() {
+    "${CC:-cc}" "${strict[@]}" "${@:2}" -o "$work/$1" "checks/c/$1.c" "$work/libyeangvos.a"
+}
+left_out() {
+    echo "$1: not installed, so left out"
+}
+
+built codes
+timeout 60 "$work/codes"
+built codes -DWQ_UNCHECKED
+timeout 60 "$work/codes" >"$work/said"
+built threads
+timeout 60 "$work/threads" 2000
+built threads -DWQ_UNCHECKED
+timeout 60 "$work/threads" 500 >"$work/said"
+built misuse
+timeout 60 "$work/misuse"
+built worker
+timeout 60 "$work/worker"
+built memory -Wl,--wrap=malloc,--wrap=realloc,--wrap=free
+timeout 60 "$work/memory"
+
+mkdir "$work/runs"
+built random
+timeout 60 "$work/random" "$work/runs" 1 2000
+if [ -n "$wqrun" ]; then
+    for file in "$work"/runs/*.legal; do
+        if [ "$("$wqrun" check "$file" | head -n 1)" != legal ]; then
+            echo "random: $(basename "$file") is not legal"
+            "$wqrun" check "$file"
+            exit 1
+        fi
+    done
+    for file in "$work"/runs/*.broken; do
+        if [ "$("$wqrun" check "$file" | head -n 1)" != "not legal" ]; then
+            echo "random: $(basename "$file") is legal"
+            exit 1
+        fi
+    done
+    echo "random: $(find "$work/runs" -name '*.legal' | wc -l) histories are legal, and $(find "$work/runs" -name '*.broken' | wc -l) without a hold are not"
+else
+    echo "random: no wqrun was named, so the histories were not judged"
+fi
+
+if command -v valgrind >/dev/null; then
+    built codes
+    built threads
+    for program in codes "threads 10"; do
+        # shellcheck disable=SC2086 # the words of the program
+        timeout 120 valgrind -q --leak-check=full --error-exitcode=9 "$work/"$program >"$work/said"
+    done
+    echo "valgrind: no error, no leak"
+else
+    left_out valgrind
+fi
+for sanitizer in address,undefined thread; do
+    if echo 'int main(void) { return 0; }' | "${CC:-cc}" -x c -fsanitize=$sanitizer -o "$work/tried" - 2>/dev/null && setarch -R "$work/tried" 2>/dev/null; then
+        for program in codes "threads 100" worker; do
+            built "${program%% *}" -fsanitize=$sanitizer
+            # shellcheck disable=SC2086 # the words of the program
+            timeout 60 setarch -R "$work/"$program >"$work/said"
+        done
+        echo "-fsanitize=$sanitizer: no report"
+    else
+        left_out "-fsanitize=$sanitizer"
+    fi
+done
+if command -v "${CXX:-c++}" >/dev/null; then
+    "${CXX:-c++}" -std=c++11 -O2 -Wall -Wextra -Werror -pthread -Iinclude -o "$work/client" checks/c/client.cc "$work/libyeangvos.a"
+    timeout 60 "$work/client"
+else
+    left_out c++
+fi
+"${CC:-cc}" "${strict[@]}" -o "$work/logger" examples/c/logger.c "$work/libyeangvos.a"
+timeout 60 "$work/logger" >"$work/lines"
+if command -v python3 >/dev/null; then
+    timeout 60 python3 checks/c/client.py
+    timeout 60 python3 examples/c/logger.py >"$work/python_lines"
+else
+    left_out python3
+fi
+for number in 0 1 2 3; do
+    grep "^thread $number" "$work/lines" | diff - <(for line in 0 1 2 3; do echo "thread $number line $line"; done)
+    [ ! -e "$work/python_lines" ] || grep "^thread $number" "$work/python_lines" | diff - <(for line in 0 1 2 3; do echo "thread $number line $line"; done)
+done
+grep "^again" "$work/lines" | diff - <(for line in 4 5 6 7; do echo "again: thread 0 line $line"; done)
+echo "loggers: each thread's lines in its order"
+if command -v rustc >/dev/null && rustc --version >/dev/null 2>&1; then
+    rustc --edition 2024 -O -o "$work/rust" checks/c/client.rs -C link-arg="$work/libyeangvos.a"
+    timeout 60 "$work/rust"
+else
+    left_out rustc
+fi
+if command -v pkg-config >/dev/null; then
+    checks/c_install.sh "$work" "$work/installed"
+    export LD_LIBRARY_PATH=$work/installed/lib PKG_CONFIG_PATH=$work/installed/lib/pkgconfig
+    read -ra flags < <(pkg-config --cflags --libs yeangvos)
+    "${CC:-cc}" -o "$work/logger" examples/c/logger.c "${flags[@]}"
+    timeout 60 "$work/logger" | sort | diff <(sort "$work/lines") -
+    awk '/^    #include <stdio.h>/ { on = 1 } on { sub(/^    /, ""); print } /^int main/ { main = 1 } main && /^}$/ { exit }' docs/C.md >"$work/page.c"
+    "${CC:-cc}" -Wall -Wextra -Werror -o "$work/page" "$work/page.c" "${flags[@]}"
+    timeout 60 "$work/page" | sort | diff <(printf 'QUEUED|FIRST|WAKES\nitem 2 of mine\n') -
+    echo "pkg-config: the installed library serves, and the program of docs/C.md runs"
+else
+    left_out pkg-config
+fi

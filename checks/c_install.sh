@@ -1,0 +1,25 @@
+#!/usr/bin/env bash
+# Installs the library of C that stands in FOLDER under PREFIX: c_install.sh FOLDER PREFIX [DESTDIR].
+set -euo pipefail
+folder=$(realpath "${1:?usage: checks/c_install.sh FOLDER PREFIX [DESTDIR]}")
+prefix=${2:?usage: checks/c_install.sh FOLDER PREFIX [DESTDIR]}
+to=${3:-}$prefix
+cd "$(dirname "${BASH_SOURCE[0]}")/.."
+install -D -m 644 -t "$to/include" include/wq.h include/wq_worker.h
+install -D -m 644 -t "$to/lib" "$folder/libyeangvos.a"
+install -D -m 755 -t "$to/lib" "$folder/libyeangvos.so"
+install -D -m 644 -t "$to/share/yeangvos/python" include/wq.py
+install -D -m 644 -t "$to/share/man/man3" man/wq_queue.3
+install -D -m 644 -t "$to/share/doc/yeangvos" docs/C.md
+mkdir -p "$to/lib/pkgconfig"
+cat >"$to/lib/pkgconfig/yeangvos.pc" <<TEXT
+prefix=$prefix
+libdir=\${prefix}/lib
+includedir=\${prefix}/include
+
+Name: yeangvos
+Description: proved ordered workqueues
+Version: 1
+Cflags: -I\${includedir} -pthread
+Libs: -L\${libdir} -lyeangvos -pthread
+TEXT

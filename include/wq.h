@@ -1,0 +1,219 @@
+/* Ordered workqueues for C: a front over the proved library `wq_c` (libyeangvos.a, libyeangvos.so). docs/C.md says how to use it.
+ *
+ * A queue has items (0 .. items-1), barriers and a stop item. `wq_build` gives its owner a seat, `wq_hand_out` each sender one.
+ * A seat is memory of the caller's, made vacant by `wq_init` before any other call, and not moved or copied until `wq_release`.
+ *
+ * Threads: any thread may use a seat, but one call at a time may be in it. A seat is handed to another thread by that thread's
+ * start or join, a lock, or an atomic; different seats of one queue need nothing. No call waits, takes a lock, or starts a
+ * thread; only wq_build takes memory, and the release of a queue's last seat frees it. No call is for a signal handler, or for
+ * the forked child of a process with threads.
+ */
+#ifndef WQ_H
+#define WQ_H
+#include <stddef.h>
+#include <stdint.h>
+
+#ifdef __cplusplus
+extern "C" {
+#endif
+
+#define WQ_SEAT_BYTES 256 /* wq_init compares it with what the library needs */
+#define WQ_MOST_TRIES UINT32_MAX
+
+/* With WQ_UNCHECKED the members behind the room, and what they find out, are left out. All files of a program agree on that. */
+typedef struct wq_seat {
+    unsigned char room[WQ_SEAT_BYTES] __attribute__((aligned(128))); /* seats of several threads share no cache line */
+#ifndef WQ_UNCHECKED
+    struct wq_seat *self;  /* where wq_init made it: a copy of a seat, and memory that was not made one, is found out */
+    struct wq_seat *owner; /* of its queue */
+    uint32_t held;         /* 1 while a call is in it: a second one at the same time is found out */
+#endif
+} wq_seat;
+
+enum wq_code {
+    WQ_OK = 0,
+    /* The number was queued, and is executed once. WQ_FIRST: the list was empty. WQ_WAKES: the queue rested, so wake its owner. */
+    WQ_QUEUED = 1, WQ_FIRST = 2, WQ_WAKES = 4,
+    WQ_PENDING = 8,    /* it was pending already, and nothing was changed */
+    WQ_CLOSED = 9,     /* the queue is closed */
+    WQ_DRAINING = 10,  /* the queue was seen draining */
+    WQ_CONTENDED = 11, /* other seats changed the list at each try */
+    WQ_NO = 12, WQ_YES = 13,
+    /* Errors, after which nothing has changed: of the seat, */
+    WQ_NOT_SENDER = 64, WQ_NOT_OWNER = 65,
+    /* of the arguments, */
+    WQ_NO_ITEM = 66, WQ_NO_BARRIER = 67, WQ_NO_TRIES = 68,
+    /* of how the queue stands: closed, draining, not draining, open; something that was taken waits, nothing does; a number runs, none
+     * does; */
+    WQ_IS_CLOSED = 69, WQ_IS_DRAINING = 70, WQ_NOT_DRAINING = 71, WQ_IS_OPEN = 72,
+    WQ_SOME_WAIT = 73, WQ_NONE_WAITS = 74, WQ_IS_RUNNING = 75, WQ_NONE_RUNS = 76,
+    /* of how seats are taken and given up: not vacant, all senders handed out, not run to its end, no memory, out of the limits. */
+    WQ_IN_USE = 77, WQ_NO_SENDER = 78, WQ_NOT_DONE = 79, WQ_MEMORY = 80, WQ_ITEMS = 81, WQ_BARRIERS = 82, WQ_SENDERS = 83,
+    /* What this header finds out: another call is in this seat; wq_init did not make it here; WQ_SEAT_BYTES is too small. */
+    WQ_SEAT_BUSY = 128, WQ_NO_SEAT = 129, WQ_SEAT_SIZE = 130,
+    WQ_NO_THREAD = 131 /* of wq_worker.h: no thread could be started */
+};
+
+static inline int wq_is_queued(uint32_t code) { return (code & WQ_QUEUED) && code < WQ_PENDING; }
+
+static inline const char *wq_code_name(uint32_t code) {
+    static const char *const answers[] = {"OK", "QUEUED", "?", "QUEUED|FIRST", "?", "QUEUED|WAKES", "?", "QUEUED|FIRST|WAKES",
+        "PENDING", "CLOSED", "DRAINING", "CONTENDED", "NO", "YES"};
+    static const char *const errors[] = {"NOT_SENDER", "NOT_OWNER", "NO_ITEM", "NO_BARRIER", "NO_TRIES", "IS_CLOSED", "IS_DRAINING",
+        "NOT_DRAINING", "IS_OPEN", "SOME_WAIT", "NONE_WAITS", "IS_RUNNING", "NONE_RUNS", "IN_USE", "NO_SENDER", "NOT_DONE",
+        "MEMORY", "ITEMS", "BARRIERS", "SENDERS"};
+    static const char *const found[] = {"SEAT_BUSY", "NO_SEAT", "SEAT_SIZE", "NO_THREAD"};
+    return code <= WQ_YES ? answers[code] : code >= WQ_NOT_SENDER && code <= WQ_SENDERS ? errors[code - WQ_NOT_SENDER]
+        : code >= WQ_SEAT_BUSY && code <= WQ_NO_THREAD ? found[code - WQ_SEAT_BUSY] : "?";
+}
+
+/* ---- the proved exports; each answers a code in the low half of a word and a number in the high half */
+size_t wq_c_seat_size(void);
+size_t wq_c_seat_align(void);
+void wq_c_init(void *at);
+uint64_t wq_c_build(void *at, uint32_t items, uint32_t barriers, uint32_t senders);
+uint64_t wq_c_hand_out(void *owner, void *to);
+uint64_t wq_c_release(void *at);
+uint64_t wq_c_queue(void *at, uint32_t item, uint32_t tries);
+uint64_t wq_c_is_pending(void *at, uint32_t item);
+uint64_t wq_c_flush_begin(void *at, uint32_t barrier, uint32_t tries);
+uint64_t wq_c_flush_done(void *at, uint32_t barrier);
+uint64_t wq_c_request_stop(void *at, uint32_t tries);
+uint64_t wq_c_number(void *at);
+uint64_t wq_c_take(void *at);
+uint64_t wq_c_close(void *at);
+uint64_t wq_c_drain(void *at);
+uint64_t wq_c_resume(void *at);
+uint64_t wq_c_next(void *at);
+uint64_t wq_c_waiting(void *at);
+uint64_t wq_c_begin(void *at);
+uint64_t wq_c_end(void *at);
+uint64_t wq_c_rest(void *at);
+uint64_t wq_c_chain(void *at, uint32_t item);
+uint64_t wq_c_is_done(void *at);
+
+/* ---- what this header finds out, which is not proved */
+/* ThreadSanitizer does not see the library's atomic steps, so it is told that each call comes after the calls that ended before it
+ * in any seat of the queue. That is more than there is, so a race between two senders of one queue may be passed over. */
+#if defined(__SANITIZE_THREAD__) && !defined(WQ_UNCHECKED)
+void __tsan_acquire(void *token);
+void __tsan_release(void *token);
+#define WQ_ACQUIRE(seat) __tsan_acquire((seat)->owner)
+#define WQ_RELEASE(seat) __tsan_release((seat)->owner)
+#else
+#define WQ_ACQUIRE(seat) ((void)(seat))
+#define WQ_RELEASE(seat) ((void)(seat))
+#endif
+
+static inline uint32_t wq_enter(wq_seat *seat) {
+#ifndef WQ_UNCHECKED
+    if (seat->self != seat) return WQ_NO_SEAT;
+    if (__atomic_exchange_n(&seat->held, 1, __ATOMIC_ACQUIRE)) return WQ_SEAT_BUSY;
+#endif
+    WQ_RELEASE(seat);
+    return WQ_OK;
+}
+
+static inline void wq_leave(wq_seat *seat) {
+    WQ_ACQUIRE(seat);
+#ifndef WQ_UNCHECKED
+    __atomic_store_n(&seat->held, 0, __ATOMIC_RELEASE);
+#endif
+}
+
+static inline uint32_t wq_answer(uint64_t word, uint32_t *number) {
+    if (number && (uint32_t)word == WQ_OK) *number = (uint32_t)(word >> 32);
+    return (uint32_t)word;
+}
+
+#define WQ_CALL(seat, number, call) do { \
+    uint32_t wq_found = wq_enter(seat); \
+    if (wq_found) return wq_found; \
+    uint64_t wq_word = (call); \
+    wq_leave(seat); \
+    return wq_answer(wq_word, (number)); } while (0)
+#define WQ_NO_NUMBER ((uint32_t *)0)
+
+/* ---- seats */
+/* Makes memory a vacant seat; not for one that is taken. WQ_OK or WQ_SEAT_SIZE. */
+static inline uint32_t wq_init(wq_seat *seat) {
+#ifndef WQ_UNCHECKED
+    seat->self = NULL;
+    seat->owner = seat;
+    __atomic_store_n(&seat->held, 0, __ATOMIC_RELEASE);
+#endif
+    if (wq_c_seat_size() > WQ_SEAT_BYTES || 128 % wq_c_seat_align() != 0) return WQ_SEAT_SIZE;
+    wq_c_init(seat->room);
+#ifndef WQ_UNCHECKED
+    seat->self = seat;
+#endif
+    return WQ_OK;
+}
+
+/* Builds a queue of 1 to 65,536 items, 1 to 16 barriers and 1 to 64 senders. Its owner takes the seat. */
+static inline uint32_t wq_build(wq_seat *owner, uint32_t items, uint32_t barriers, uint32_t senders) {
+    WQ_CALL(owner, WQ_NO_NUMBER, wq_c_build(owner->room, items, barriers, senders));
+}
+
+/* Hands out a sender, of those that are left the one with the highest number. It takes the other seat. */
+static inline uint32_t wq_hand_out(wq_seat *owner, wq_seat *to) {
+    uint32_t code = owner == to ? (uint32_t)WQ_IN_USE : wq_enter(to);
+    if (code) return code;
+    if ((code = wq_enter(owner)) == WQ_OK) {
+        code = (uint32_t)wq_c_hand_out(owner->room, to->room);
+#ifndef WQ_UNCHECKED
+        if (code == WQ_OK) to->owner = owner;
+#endif
+        wq_leave(owner);
+    }
+    wq_leave(to);
+    return code;
+}
+
+/* Gives up a seat, which is vacant then; an owner's only once its queue has run to its end. */
+static inline uint32_t wq_release(wq_seat *seat) {
+    uint32_t code = wq_enter(seat);
+    if (code) return code;
+    code = (uint32_t)wq_c_release(seat->room);
+    WQ_ACQUIRE(seat);
+#ifndef WQ_UNCHECKED
+    if (code == WQ_OK) seat->owner = seat;
+#endif
+    wq_leave(seat);
+    return code;
+}
+
+/* ---- senders */
+static inline uint32_t wq_queue_tries(wq_seat *sender, uint32_t item, uint32_t tries) {
+    WQ_CALL(sender, WQ_NO_NUMBER, wq_c_queue(sender->room, item, tries));
+}
+static inline uint32_t wq_queue(wq_seat *sender, uint32_t item) { return wq_queue_tries(sender, item, WQ_MOST_TRIES); }
+static inline uint32_t wq_is_pending(wq_seat *sender, uint32_t item) {
+    WQ_CALL(sender, WQ_NO_NUMBER, wq_c_is_pending(sender->room, item));
+}
+static inline uint32_t wq_flush_begin(wq_seat *sender, uint32_t barrier) {
+    WQ_CALL(sender, WQ_NO_NUMBER, wq_c_flush_begin(sender->room, barrier, WQ_MOST_TRIES));
+}
+static inline uint32_t wq_flush_done(wq_seat *sender, uint32_t barrier) {
+    WQ_CALL(sender, WQ_NO_NUMBER, wq_c_flush_done(sender->room, barrier));
+}
+static inline uint32_t wq_request_stop(wq_seat *sender) { WQ_CALL(sender, WQ_NO_NUMBER, wq_c_request_stop(sender->room, WQ_MOST_TRIES)); }
+static inline uint32_t wq_number(wq_seat *sender, uint32_t *number) { WQ_CALL(sender, number, wq_c_number(sender->room)); }
+
+/* ---- the owner; a number is written only where the code is WQ_OK */
+static inline uint32_t wq_take(wq_seat *owner, uint32_t *count) { WQ_CALL(owner, count, wq_c_take(owner->room)); }
+static inline uint32_t wq_close(wq_seat *owner, uint32_t *count) { WQ_CALL(owner, count, wq_c_close(owner->room)); }
+static inline uint32_t wq_drain(wq_seat *owner, uint32_t *count) { WQ_CALL(owner, count, wq_c_drain(owner->room)); }
+static inline uint32_t wq_resume(wq_seat *owner) { WQ_CALL(owner, WQ_NO_NUMBER, wq_c_resume(owner->room)); }
+static inline uint32_t wq_next(wq_seat *owner, uint32_t *number) { WQ_CALL(owner, number, wq_c_next(owner->room)); }
+static inline uint32_t wq_waiting(wq_seat *owner, uint32_t *count) { WQ_CALL(owner, count, wq_c_waiting(owner->room)); }
+static inline uint32_t wq_begin(wq_seat *owner, uint32_t *number) { WQ_CALL(owner, number, wq_c_begin(owner->room)); }
+static inline uint32_t wq_end(wq_seat *owner) { WQ_CALL(owner, WQ_NO_NUMBER, wq_c_end(owner->room)); }
+static inline uint32_t wq_rest(wq_seat *owner) { WQ_CALL(owner, WQ_NO_NUMBER, wq_c_rest(owner->room)); }
+static inline uint32_t wq_chain(wq_seat *owner, uint32_t item) { WQ_CALL(owner, WQ_NO_NUMBER, wq_c_chain(owner->room, item)); }
+static inline uint32_t wq_is_done(wq_seat *owner) { WQ_CALL(owner, WQ_NO_NUMBER, wq_c_is_done(owner->room)); }
+
+#ifdef __cplusplus
+}
+#endif
+#endif

@@ -1,0 +1,145 @@
+"""Ordered workqueues for Python, by ctypes over libyeangvos.so: the calls of wq.h with the same names, as methods of a Seat.
+
+    owner, sender = Seat(), Seat()
+    owner.build(items=4, barriers=1, senders=1)
+    owner.hand_out(sender)
+    sender.queue(2)            # a Code: Code.QUEUED | Code.FIRST | Code.WAKES
+    owner.take()               # how many
+    owner.begin()              # the number, or None where nothing waits
+    owner.end()
+
+A call that is refused raises WqError with its code, and has changed nothing. A Seat owns its memory and lets one call at a time into
+it; it is given up by `release`. The library is the file that YEANGVOS_LIBRARY names, or libyeangvos.so where the loader finds it.
+"""
+import ctypes
+import enum
+import os
+import threading
+
+MOST_TRIES = 0xFFFFFFFF
+ALIGNMENT = 128  # seats of several threads share no cache line
+
+
+class Code(enum.IntFlag):
+    """What a call answered that is no error."""
+    OK = 0
+    QUEUED, FIRST, WAKES = 1, 2, 4
+    PENDING, CLOSED, DRAINING, CONTENDED, NO, YES = 8, 9, 10, 11, 12, 13
+
+    @property
+    def is_queued(self):
+        return bool(self & 1) and self < 8
+
+
+class Error(enum.IntEnum):
+    """Why a call was refused."""
+    (NOT_SENDER, NOT_OWNER, NO_ITEM, NO_BARRIER, NO_TRIES, IS_CLOSED, IS_DRAINING, NOT_DRAINING, IS_OPEN, SOME_WAIT, NONE_WAITS, IS_RUNNING,
+     NONE_RUNS, IN_USE, NO_SENDER, NOT_DONE, MEMORY, ITEMS, BARRIERS, SENDERS) = range(64, 84)
+
+
+class WqError(Exception):
+    def __init__(self, code):
+        self.code = Error(code)
+        super().__init__(self.code.name)
+
+
+_library = ctypes.CDLL(os.environ.get("YEANGVOS_LIBRARY", "libyeangvos.so"))
+_library.wq_c_seat_size.restype = ctypes.c_size_t
+for _name in ("build hand_out release queue is_pending flush_begin flush_done request_stop number take close drain resume next waiting begin "
+              "end rest chain is_done").split():
+    getattr(_library, "wq_c_" + _name).restype = ctypes.c_uint64
+
+
+class Seat:
+    """A vacant seat, a sender's or an owner's."""
+
+    def __init__(self):
+        self._room = ctypes.create_string_buffer(_library.wq_c_seat_size() + ALIGNMENT)
+        self._at = ctypes.c_void_p(-(-ctypes.addressof(self._room) // ALIGNMENT) * ALIGNMENT)
+        self._lock = threading.Lock()
+        _library.wq_c_init(self._at)
+
+    def _call(self, name, *numbers):
+        with self._lock:
+            word = getattr(_library, "wq_c_" + name)(self._at, *map(ctypes.c_uint32, numbers))
+        code, number = word & 0xFFFFFFFF, word >> 32
+        if code >= Error.NOT_SENDER:
+            raise WqError(code)
+        return Code(code), number
+
+    def build(self, items, barriers, senders):
+        self._call("build", items, barriers, senders)
+
+    def hand_out(self, to):
+        if to is self:
+            raise WqError(Error.IN_USE)
+        with to._lock:
+            word = self._hand_out(to)
+        if word:
+            raise WqError(word)
+
+    def _hand_out(self, to):
+        with self._lock:
+            return _library.wq_c_hand_out(self._at, to._at) & 0xFFFFFFFF
+
+    def release(self):
+        self._call("release")
+
+    def queue(self, item, tries=MOST_TRIES):
+        return self._call("queue", item, tries)[0]
+
+    def is_pending(self, item):
+        return self._call("is_pending", item)[0] == Code.YES
+
+    def flush_begin(self, barrier, tries=MOST_TRIES):
+        return self._call("flush_begin", barrier, tries)[0]
+
+    def flush_done(self, barrier):
+        return self._call("flush_done", barrier)[0] == Code.YES
+
+    def request_stop(self, tries=MOST_TRIES):
+        return self._call("request_stop", tries)[0]
+
+    def number(self):
+        return self._call("number")[1]
+
+    def take(self):
+        return self._call("take")[1]
+
+    def close(self):
+        return self._call("close")[1]
+
+    def drain(self):
+        return self._call("drain")[1]
+
+    def resume(self):
+        self._call("resume")
+
+    def waiting(self):
+        return self._call("waiting")[1]
+
+    def next(self):
+        return self._number_or_none("next")
+
+    def begin(self):
+        return self._number_or_none("begin")
+
+    def _number_or_none(self, name):
+        try:
+            return self._call(name)[1]
+        except WqError as error:
+            if error.code != Error.NONE_WAITS:
+                raise
+            return None
+
+    def end(self):
+        self._call("end")
+
+    def rest(self):
+        return self._call("rest")[0] == Code.YES
+
+    def chain(self, item):
+        return self._call("chain", item)[0]
+
+    def is_done(self):
+        return self._call("is_done")[0] == Code.YES
