@@ -26,6 +26,8 @@ loop-seat-preserved c =
 pub returns-clause-passed : goal.returns-clause-passed
 returns-clause-passed c =
     let turns : List Turn = c.args.schedule.now.turns.items in
-    let before = c.loop-seat.invariant.told in
-    (before.0, given_whole c.args.schedule.now.layout turns _ c.loop-seat.core before.0
-    (drop_of_length-le turns (omega (arith, ap length c.turns-seat-items.ensures.value))) before.1)
+    let before = c.loop-seat.invariant.told in (
+      before.0,
+      given_whole c.args.schedule.now.layout turns _ c.loop-seat.core before.0
+          (drop_of_length-le turns (omega (arith, ap length c.turns-seat-items.ensures.value))) before.1,
+    )
