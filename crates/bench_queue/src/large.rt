@@ -1,15 +1,16 @@
 //! A queue of many items: what each call takes that goes over all of them, and how much memory is kept.
-ghost use Rattle.std.specs.Prelude.{◌≡◌, IfOk, IfSome};
+ghost use Rattle.std.specs.Prelude.{◌≡◌, [], IfOk};
 
 use crate::delays::seats;
 use crate::host::Host;
 use crate::owner::{execute_batch, queue_all};
 use crate::refusal::Refusal;
 use crate::runs::{Runs, shown};
+use std::alloc::Global;
 use std::fs;
 use std::time::Instant;
 use wq_delay::Delay;
-use wq_live::{Owner, Sender, build};
+use wq_live::{Owner, Sender};
 use wq_words::Layout;
 use wq_worker::{Book, Worker};
 
@@ -109,34 +110,56 @@ fn measure_owner<R: Host>(rt: &R, stages: &mut Stages, items: u32) -> Result<(),
     Ok(())
 }
 
-/// The ledgers of a queue's senders are made and balanced with its book.
-fn balance<R: Host>(rt: &R, book: &mut Book, sender: &mut Sender) -> Result<(), Refusal>
+/// A worker of a new queue of so many items, and its one sender.
+fn worker_and_sender(
+    alloc: Global,
+    items: u32,
+    work: Runs,
+) -> Result<(Worker<Runs>, Sender), Refusal>
+    requires { work.ran.items ≡ [] }
+    ensures { IfOk result (λ r. r.1.queue ≡ r.0.queue) }
+{
+    let (worker, mut senders) = Worker::build(alloc, Layout::new(items, 1, 2)?, work, 1)?;
+    match senders.pop() {
+        Some(sender) => Ok((worker, sender)),
+        None => Err(Refusal::Memory),
+    }
+}
+
+/// The work and the book of a worker, when all that is left has run.
+fn destroyed(worker: Worker<Runs>) -> Result<Book, Refusal>
+    ensures { IfOk result (λ book. book.queue ≡ worker.queue) }
+{
+    match worker.destroy(u32::MAX) {
+        Ok((_work, book)) => Ok(book),
+        Err(_unfinished) => Err(Refusal::Memory),
+    }
+}
+
+/// The sender meets the book, and its ledger is balanced with it.
+fn balance(book: &mut Book, sender: &mut Sender) -> Result<(), Refusal>
     requires { sender.old.queue ≡ book.old.queue }
 {
     let ledger = book.meet(sender);
-    book.balance(&[ledger]).map_err(|_| Refusal::Memory)?;
-    Ok(())
+    match book.balance(&[ledger]) {
+        Ok(_totals) => Ok(()),
+        Err(_unbalanced) => Err(Refusal::Memory),
+    }
 }
 
 /// A worker drains a queue of which all items wait, and is destroyed with as many.
 fn measure_worker<R: Host>(rt: &R, stages: &mut Stages, items: u32) -> Result<(), Refusal> {
     let work = Runs::new(u64::MAX, shown(rt.alloc())?);
-    let layout = Layout::new(items, 1, 2)?;
-    let (mut worker, mut senders) = Worker::build(rt.alloc(), layout, work, 1)?;
-    let Some(mut sender) = senders.pop() else {
-        return Err(Refusal::Memory);
-    };
+    let (mut worker, mut sender) = worker_and_sender(rt.alloc(), items, work)?;
     queue_all(&mut sender);
     stages.end(rt, "build of a worker, queue")?;
     worker.drain(u32::MAX);
     stages.end(rt, "drain of a worker")?;
     queue_all(&mut sender);
     stages.end(rt, "queue")?;
-    let Ok((_work, mut book)) = worker.destroy(u32::MAX) else {
-        return Err(Refusal::Memory);
-    };
+    let mut book = destroyed(worker)?;
     stages.end(rt, "destroy")?;
-    balance(rt, &mut book, &mut sender)?;
+    balance(&mut book, &mut sender)?;
     stages.end(rt, "ledgers")?;
     Ok(())
 }

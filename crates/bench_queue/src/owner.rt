@@ -1,5 +1,5 @@
 //! An owner that executes in this thread, what senders queue in threads of their own or one sender in turn with it.
-ghost use Rattle.std.specs.Prelude.{IsTrue};
+ghost use Rattle.std.specs.Prelude.{◌≡◌, IsTrue};
 ghost use Rattle.wq_words.specs.History.{IsRunning};
 
 use crate::host::Host;
@@ -58,7 +58,9 @@ pub fn execute_batch(owner: &mut Owner, limit: u64) -> u64 {
 }
 
 /// Queues each item of the queue once.
-pub fn queue_all(sender: &mut Sender) {
+pub fn queue_all(sender: &mut Sender)
+    ensures { sender.new.queue ≡ sender.old.queue }
+{
     for item in 0..sender.layout().items {
         if item < sender.layout().items {
             let _ = sender.queue_tries(item, 1);

@@ -1,6 +1,4 @@
 //! Workers that drained before they came into a pool.
-ghost use Rattle.std.specs.Prelude.{◌≡◌, IfSome};
-
 use crate::expect::expect_same;
 use crate::pool::team::{Logging, Open, new_pool, queue_item, work};
 use std::alloc::Global;
@@ -21,7 +19,7 @@ const QUEUED: Answer = Answer::Queued {
     wakes: false,
 };
 
-/// A worker of a queue of 4 items, whose work asks for item 3 where it runs an item from a number on, and the queue's sender.
+/// A worker of a queue of 104 items, whose work asks for an item below 100 where it runs one from a number on, and its sender.
 fn new_worker<R: Abort>(rt: &R, alloc: Global, asks_from: u32) -> (Worker<Logging>, Sender) {
     let layout = Layout::new(104, 1, 2).expect(rt, "a layout");
     let Ok((worker, mut senders)) = Worker::build(alloc, layout, Logging::asking(asks_from), 1)
@@ -36,10 +34,12 @@ fn served(mut worker: Worker<Logging>) -> Option<Served<Logging>> {
     if worker.is_draining() {
         return None;
     }
-    match worker.run_one() {
-        Ran::Nothing if !worker.is_draining() => Some(Served::new(worker)),
-        _ => None,
+    if let Ran::Nothing = worker.run_one() {
+        if !worker.is_draining() {
+            return Some(Served::new(worker));
+        }
     }
+    None
 }
 
 /// A worker that drains is no pool's until a later drain has ended it. Its first push then says no wake, so who made the pool
