@@ -380,16 +380,15 @@ impl<V> ValueChair<V> {
     /// Reads and writes the slot in front of the hand.
     pub fn exchange(&mut self, number: u32, value: Option<V>) -> Option<V>
         requires slot { HasSlot number self.old.hand }
-        ensures { Exchanges number value result self.old self.new }
+        ensures exchanged { Exchanges number value result self.old self.new }
     {
-        self.words
-            .shared
-            .exchange(&mut self.seat, number as usize, value)
+        let table = &self.words.shared;
+        table.exchange(&mut self.seat, number as usize, value)
     }
 
     /// The slot in front of the hand goes behind the others. It does nothing at run time.
     pub fn turn_hand(&mut self)
-        ensures { TurnsHand self.old self.new }
+        ensures turned { TurnsHand self.old self.new }
     {
         self.seat.turn();
     }

@@ -12,7 +12,7 @@ use Rattle.wq_table.proofs.SlotMade.{cut_front, cut_others, next_sender}
 use Rattle.wq_table.proofs.making.value_chairs.Goals as goal
 
 pub vacant-requires : goal.vacant-requires
-vacant-requires g c = opens_slots c.args.layout c.as_slice.result.now c.number_count-slots.result (c.as_slice.ensures.value ∙
+vacant-requires g c = opens_slots c.args.layout c.as_slice.result.now _ (c.as_slice.ensures.value ∙
     (c.in_ok-row.ensures.items_if_clones_equal (λ y is. search rules) ∙ ap (λ (n : ℕ). replicate n 0) c.word_count.ensures.words))
 
 pub split_seat-theirs-requires : goal.split_seat-theirs-requires
