@@ -31,7 +31,7 @@ use Rattle.wq_words.specs.Listed.{listed}
 use Rattle.wq_core.proofs.KeptSound.{home_from_clear, sender_from_holds, away_from_sender}
 use Rattle.wq_core.proofs.Privates.{keeper_push, Gives, gives_hold, gives_push, gives_back, gives_begin, gives_chain}
 use Rattle.wq_core.proofs.OwnerSteps.{first_of_batch}
-use Rattle.wq_core.proofs.Turning.{queue_once}
+use Rattle.wq_words.proofs.Accepted.{queue_once}
 use Rattle.wq_table.specs.declared.table.Part.{Part}
 use Rattle.wq_words.specs.Valued.{Carries}
 use Rattle.wq_table.specs.Slots.{Fits, Slots, Shelves, IsAway, IsSenders, taken_times}
