@@ -1,8 +1,9 @@
 #!/usr/bin/env python3
 """Times the program given on scripts of a megabyte, each of one command alone over 4,096 items, in some rounds (else 5).
 
-A row says which command and in which state, how many there are, and the median over the rounds with the shortest and the longest
-run, in milliseconds. What the state takes is in them.
+With a further word, `2`, the scripts are of version 2 and over 65,536 items, of which the states name as many as fill a part of the
+text. A row says which command and in which state, how many there are, and the median over the rounds with the shortest and the
+longest run, in milliseconds. What the state takes is in them.
 """
 import statistics
 import subprocess
@@ -11,15 +12,17 @@ import tempfile
 import time
 
 LIMIT = 1_048_576
-ITEMS = 4096
-HEADER = [f"items {ITEMS}", "senders 8", "barriers 16"]
-ALL = range(ITEMS)
+VERSION = int(sys.argv[3]) if len(sys.argv) > 3 else 1
+ITEMS = {1: 4096, 2: 65536}[VERSION]
+HEADER = [f"wq {VERSION}", f"items {ITEMS}", "senders 8", "barriers 16"]
+ALL = range({1: ITEMS, 2: 24576}[VERSION])
 
 QUEUED = [f"queue 0 {k}" for k in ALL]
 ROUND = [f"follow {k} {k}" for k in ALL] + QUEUED  # each item follows itself, so that the queue is never empty
 NEAR = [f"arm {k} {k % 256 + 1}" for k in ALL]
 FAR = [f"arm {k} 4294967295" for k in ALL]
-ONE_SLOT = [f"arm {k} {(k + 1) * 1_048_576}" for k in range(ITEMS - 1)]
+ONE_SLOT = [f"arm {k} {(k % 4095 + 1) * 1_048_576}" for k in ALL[:-1]]
+DRAIN = [f"queue 0 {ITEMS - 1}", f"queue 0 {ITEMS - 2}", "drain 1"]  # in version 2 the queue drains behind it
 
 # a name, the state, and the command by its place
 CASES = [
@@ -32,7 +35,10 @@ CASES = [
     ("run, nothing waits", [], lambda n: "run 9"),
     ("run 1, each item follows itself", ROUND, lambda n: "run 1"),
     ("drain 1, each item follows itself", ROUND + ["close"], lambda n: "drain 1"),
-    ("drain, not closed", QUEUED, lambda n: "drain 9"),
+    ("drain 9, not closed", QUEUED, lambda n: "drain 9"),
+    ("drain 1, an item queued before each", [], lambda n: "drain 1" if n % 2 else f"queue 0 {n * 7 % ITEMS}"),
+    ("queue, draining", ["queue 0 0", "queue 0 1", "drain 1"], lambda n: f"queue {n % 8} {n * 7 % (ITEMS - 2) + 2}"),
+    ("advance, by nothing, all items late in a drain", [*NEAR, *DRAIN, "advance 256"], lambda n: "advance 256"),
     ("close", QUEUED, lambda n: "close"),
     ("report", QUEUED, lambda n: "report"),
     ("follow, one item", [], lambda n: f"follow {n * 7 % ITEMS} {n % ITEMS}"),
@@ -57,7 +63,7 @@ CASES = [
 
 def script(state, command):
     """The state, and as many of the command as a script may have."""
-    lines = ["wq 1", *HEADER, *state]
+    lines = [*HEADER, *state]
     size = sum(len(line) + 1 for line in lines)
     count = 0
     while size + len(line := command(count)) + 1 <= LIMIT:

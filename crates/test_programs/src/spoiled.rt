@@ -1,4 +1,4 @@
-//! Random scripts, each spoiled in one place: a report or a named refusal comes of it, and no other end.
+//! Random scripts of both versions, each spoiled in one place: a report or a named refusal comes of it, and no other end.
 ghost use Rattle.std.specs.Prelude.{◌<◌};
 
 use crate::expect::expect_same;
@@ -129,7 +129,8 @@ fn script(alloc: Global, draws: &mut Draws) -> Result<String, AllocError> {
         senders,
         barriers,
     } = sizes;
-    let mut text = format!(in alloc; "wq 1\nitems {items}\nsenders {senders}\n")?;
+    let version = draws.below(2) + 1;
+    let mut text = format!(in alloc; "wq {version}\nitems {items}\nsenders {senders}\n")?;
     if barriers > 1 {
         text.push_str("barriers 2\n")?;
     }

@@ -23,7 +23,7 @@ const ROWS: [Row; 4] = [
         name: "script",
         kind: Kind::Script,
         about: "Runs a script of commands and prints what they answer",
-        file: "The path of a script: the lines 'wq 1', 'items N', 'senders N' and, if wanted, 'barriers N', then commands",
+        file: "The path of a script: the lines 'wq 1' or 'wq 2', 'items N', 'senders N' and, if wanted, 'barriers N', then commands",
         more: "\
 Commands, for a sender S, an item K and a barrier B, each counted from 0:
   queue S K    queue an item                 run N        at most N executions
@@ -33,6 +33,8 @@ Commands, for a sender S, an item K and a barrier B, each counted from 0:
   drain N      run out a closed queue        check K      whether K is pending
   arm K D      queue K in D ticks            cancel K     take K off the delay table
   modify K D   set K's delay anew            advance T    the present tick becomes T
+A script that begins with 'wq 2' has up to 65536 items, and there drain N drains an open
+queue too, which takes nothing new until nothing is left.
 
 Example:
   printf 'wq 1\\nitems 4\\nsenders 2\\nqueue 0 1\\nqueue 1 2\\nrun 9\\n' | wqrun script /dev/stdin",
@@ -41,13 +43,15 @@ Example:
         name: "steps",
         kind: Kind::Steps,
         about: "Replays a schedule of atomic steps and prints what each is answered",
-        file: "The path of a schedule: the lines 'steps 1', 'items N', 'senders N' and, if wanted, 'barriers N', then steps",
+        file: "The path of a schedule: the lines 'steps 1' or 'steps 2', 'items N', 'senders N' and, if wanted, 'barriers N', then steps",
         more: "\
 Steps of a sender S: S hold K, S look, S link K, S push K, S check K, and
   S back K closed (or contended, or cancelled)
 Steps of the owner: o take, o close, o walk, o begin, o end, o chain K, o turn K L,
   o rest
 K is an item, bB the barrier B, or stop the stop item; L is one of these, or end.
+A schedule that begins with 'steps 2' has up to 65536 items, and the steps of a drain:
+  o drain, o resume, S back K draining
 
 Example:
   printf 'steps 1\\nitems 4\\nsenders 2\\n0 hold 1\\n0 look\\n0 link 1\\n0 push 1\\no take\\n' | wqrun steps /dev/stdin",

@@ -3,7 +3,7 @@ use Rattle.std.specs.Prelude.{◌≡◌, ℕ, List}
 use Rattle.wq_text.specs.declared.schedule.Schedule.{Schedule}
 use Rattle.wq_text.specs.Schedule.{schedule_layout, turns_of}
 use Rattle.wq_text.specs.Text.{Spells, IsRefusal}
-use Rattle.wq_text.specs.Turn.{schedule_line}
+use Rattle.wq_text.specs.Turn.{schedule_lines}
 use Rattle.wq_meaning.specs.ScheduleOutput.{IsScheduleOutput}
 use Rattle.wq_recording.specs.HistoryText.{IsRecordingOf}
 use Rattle.wq_commands.specs.declared.failure.Failure.{Failure}
@@ -12,7 +12,7 @@ use Rattle.wq_commands.specs.declared.failure.Failure.TheVariants as failure
 -- the text spells a schedule, and these are the bytes of its output
 pub record Replays (text output : List ℕ) : Type 0 where
   pub schedule : Schedule
-  pub spells : Spells schedule_line text (schedule_layout schedule) (turns_of schedule)
+  pub spells : Spells (schedule_lines text) text (schedule_layout schedule) (turns_of schedule)
   pub output_is : IsScheduleOutput (schedule_layout schedule) (turns_of schedule) output
 
 -- the text spells a schedule, and these are the bytes of the history that its steps make
@@ -23,6 +23,6 @@ pub record Records (text recording : List ℕ) : Type 0 where
 
 -- the text has no output: it is refused for this, or memory was wanting
 abbrev pub HasNoOutput : List ℕ → Failure → Type 0
-HasNoOutput text (failure.Refused refusal) = IsRefusal schedule_line text refusal
+HasNoOutput text (failure.Refused refusal) = IsRefusal (schedule_lines text) text refusal
 HasNoOutput text failure.Memory = Unit {0}
 HasNoOutput text _ = ⊥

@@ -2,7 +2,6 @@
 use Rattle.std.specs.Prelude.{ℕ, true, List, ◌∷◌, length, Option, Some, None, IfSome, Result, ◌-◌, ◌==◌, if◌then◌else◌, codes, option_map}
 use Rattle.std.specs.Option.{option_to_list}
 use Rattle.std.specs.Str.{bytes_eq}
-use Rattle.wq_words.specs.declared.event.Why.{Why}
 use Rattle.wq_words.specs.declared.event.Why.TheVariants as why
 use Rattle.wq_words.specs.declared.event.Event.{Event}
 use Rattle.wq_words.specs.declared.event.Event.TheVariants as event
@@ -13,7 +12,7 @@ use Rattle.wq_text.specs.declared.fault.Kind.{Kind}
 use Rattle.wq_text.specs.Arguments.{item, no_word, one}
 use Rattle.wq_text.specs.Fault.{of_none, of_one, of_two}
 use Rattle.wq_text.specs.Line.{Grammar}
-use Rattle.wq_text.specs.Turn.{number_of_queue, seat_and_number, cause_at, nth_word, without_last}
+use Rattle.wq_text.specs.Turn.{number_of_queue, seat_and_number, why_at, nth_word, without_last}
 use Rattle.wq_text.specs.Word.{other_words}
 use Rattle.wq_recording.specs.declared.entry.Entry.{Entry}
 use Rattle.wq_recording.specs.declared.history_words.Telling.{Telling}
@@ -49,10 +48,6 @@ owners_telling w =
     else if bytes_eq w (codes "busy") then Some telling.ChainBusy
     else if bytes_eq w (codes "rest") then Some telling.Rest
     else None
-
--- why a number was given back: by a word of schedules, or for a drain
-unfoldable pub why_at : List ℕ → Option Why
-why_at w = if bytes_eq w (codes "draining") then Some why.Draining else cause_at w
 
 unfoldable pub senders_telling : List ℕ → List ℕ → Option Telling
 senders_telling w last =

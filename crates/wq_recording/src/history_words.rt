@@ -1,11 +1,11 @@
 //! The words of a history, and the events that they tell.
 ghost use Rattle.std.specs.Prelude.{◌≡◌, map, IfOk};
 ghost use Rattle.wq_text.specs.Fault.{LineGives};
-ghost use Rattle.wq_recording.specs.History.{alone, both, IsOf, owners_telling, why_at, senders_telling, telling_at, entry_gives};
+ghost use Rattle.wq_recording.specs.History.{alone, both, IsOf, owners_telling, senders_telling, telling_at, entry_gives};
 
 use crate::entry::Entry;
 use wq_text::{
-    LineError, cause_of, item, no_word, number_of_queue, one_word, seat_and_number, without_last,
+    LineError, item, no_word, number_of_queue, one_word, seat_and_number, why_of, without_last,
 };
 use wq_words::{Event, Layout, Why};
 
@@ -44,16 +44,6 @@ fn owners_telling(word: &str) -> Option<Telling>
         "busy" => Some(Telling::ChainBusy),
         "rest" => Some(Telling::Rest),
         _ => None,
-    }
-}
-
-#[tactic(auto, unfolding(crate::specs::History::why_at))]
-fn why_of(word: &str) -> Option<Why>
-    ensures { result ≡ why_at word.now }
-{
-    match word {
-        "draining" => Some(Why::Draining),
-        _ => cause_of(word),
     }
 }
 

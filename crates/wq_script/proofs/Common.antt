@@ -44,9 +44,9 @@ pub use Rattle.wq_text.specs.declared.command.Command.{Command}
 pub use Rattle.wq_meaning.specs.Answer.{answer_text, armed_text, close_text, modified_text}
 pub use Rattle.wq_meaning.specs.Arming.{queues_now, arm_events, arm_answer, cancel_events, modify_events, modify_answer, posted_items, advance_events}
 pub use Rattle.wq_meaning.specs.Arming.{arm_table, advance_table, post_event, post_events, post_table, post_answer, modify_table}
-pub use Rattle.wq_meaning.specs.Commands.{ScriptState, opening_state, state_after, lines, after_row, output_from, output_of}
+pub use Rattle.wq_meaning.specs.Commands.{ScriptState, opening_state, state_after, lines, after_row, after_drain, output_from, output_of}
 pub use Rattle.wq_meaning.specs.Execution.{follow_of, take_events, follow_events, after_follow, after_run, after_execution, no_follow, after_executions}
-pub use Rattle.wq_meaning.specs.Execution.{ended_since, go_on, ends_at}
+pub use Rattle.wq_meaning.specs.Execution.{ended_since, go_on, ends_at, left_in, begin_drain, end_drain}
 pub use Rattle.wq_meaning.specs.Names.{row_text, advance_word, left_text}
 pub use Rattle.wq_meaning.specs.Queueing.{draining, queue_events, queue_answer, close_events, close_answer, chain_events}
 pub use Rattle.wq_meaning.specs.Report.{line, report_text}
@@ -56,7 +56,7 @@ pub use Rattle.wq_meaning.proofs.Sizes.{advance_few, close_few, executions_few, 
 pub use Rattle.wq_script.specs.Arming.{GoesWithTable, ArmsAs, CancelsAs, ModifiesAs, IsPosted, IsBack}
 pub use Rattle.wq_script.specs.Asking.{Asks, Goes, Ran, HasLists, AsksFor, RunsAs}
 pub use Rattle.wq_script.specs.Counting.{Tallied, counted, counted_armed, counted_push, counted_modified, counted_posts}
-pub use Rattle.wq_script.specs.Engine.{Meets, Does, size, HasStateWithin}
+pub use Rattle.wq_script.specs.Engine.{Meets, DrainsBy, Does, size, HasStateWithin}
 pub use Rattle.wq_script.specs.Quiet.{Quiet, ListsFit, IsWorkerIdle, ExecutesRow, Executed, ExecutesOne, HasStepped}
 pub use Rattle.wq_script.specs.Seats.{Gathers, Seated, StaysSilent, Hears, AllHear, IsSameTable, sender_of, owner_of, IsWider, IsAt}
 pub use Rattle.wq_script.specs.declared.engine.Engine.{Engine}

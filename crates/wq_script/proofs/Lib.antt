@@ -7,6 +7,7 @@ pub mod Asked
 pub mod Executed
 pub mod Running
 pub mod Ran
+pub mod Drains
 pub mod Delayed
 pub mod Moved
 pub mod Made

@@ -1,12 +1,12 @@
 -- The calls of senders and of the worker, on the running words and in a script.
-use Rattle.std.specs.Prelude.{◌≡◌, ℕ, Bool, not, Option, List, [], ◌++◌, length, filter}
+use Rattle.std.specs.Prelude.{◌≡◌, ℕ, Bool, not, ◌==◌, Option, List, [], ◌++◌, length, filter}
 use Rattle.wq_words.specs.declared.layout.Layout.{Layout}
 use Rattle.wq_words.specs.declared.event.Event.{Event}
 use Rattle.wq_words.specs.History.{IsRunning}
 use Rattle.wq_words.specs.Seen.{is_ours}
 use Rattle.wq_words.specs.declared.answer.Answer.{Answer}
 use Rattle.wq_meaning.specs.Queueing.{queue_events, queue_answer, close_events, close_answer}
-use Rattle.wq_meaning.specs.Execution.{after_executions, ends_at, ended_since}
+use Rattle.wq_meaning.specs.Execution.{after_executions, ends_at, left_in, begin_drain, end_drain, ended_since}
 use Rattle.wq_script.specs.declared.seats.Seats.{Seats}
 use Rattle.wq_script.specs.Seats.{IsSameWork, IsSameTable, Seated}
 use Rattle.wq_script.specs.Quiet.{ListsFit}
@@ -35,6 +35,11 @@ LooksAt what is s t = (layout : Layout) (h : List Event) → Seated layout s h �
 -- the queue is closed, where it was not, and this is how many that took
 abbrev pub ClosesAs : Option ℕ → Seats → Seats → Type 0
 ClosesAs taken s t = (layout : Layout) (h : List Event) → Seated layout s h → Goes layout (h ++ close_events h) s t × (taken ≡ close_answer h)
+
+-- a drain began, where the queue was open, and ended, where nothing is left and the queue drained
+abbrev pub DrainsNone : Bool → Seats → Seats → Type 0
+DrainsNone is_empty s t =
+    (layout : Layout) (h : List Event) → Seated layout s h → Goes layout (end_drain (begin_drain h)) s t × (is_empty ≡ (left_in (begin_drain h) == 0))
 
 -- there is a list for each item, of items
 pub record HasLists (layout : Layout) (s : Seats) : Type 0 where

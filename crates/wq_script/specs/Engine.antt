@@ -2,8 +2,8 @@
 use Rattle.std.specs.Prelude.{◌≡◌, ℕ, ◌+◌, ◌^◌, ◌≤◌, List, ◌++◌, length}
 use Rattle.wq_words.specs.History.{IsRunning}
 use Rattle.wq_text.specs.declared.command.Command.{Command}
-use Rattle.wq_meaning.specs.Execution.{follow_of}
-use Rattle.wq_meaning.specs.Commands.{ScriptState, state_after, lines}
+use Rattle.wq_meaning.specs.Execution.{follow_of, ended_since}
+use Rattle.wq_meaning.specs.Commands.{ScriptState, state_after, after_drain, lines}
 use Rattle.wq_script.specs.declared.engine.Engine.{Engine}
 use Rattle.wq_script.specs.Seats.{Seated}
 use Rattle.wq_script.specs.Asking.{HasLists}
@@ -26,6 +26,12 @@ size s = length s.history + length s.table.entries
 -- there is such a state, in which so much has happened at most
 abbrev pub HasStateWithin : ℕ → Engine → Type 0
 HasStateWithin most e = (s : ScriptState) × Meets e s × (size s ≤ most)
+
+-- a drain of at most so many executions was made, and these were executed
+pub record DrainsBy (limit : ℕ) (e f : Engine) (ran : List ℕ) : Type 0 where
+  pub layout : f.layout ≡ e.layout
+  pub meets : (s : ScriptState) → Meets e s → Meets f (record s { history = after_drain e.layout s limit })
+  pub ran_is : (s : ScriptState) → Meets e s → ran ≡ ended_since s.history (after_drain e.layout s limit)
 
 -- from e to f the command was done, and its lines were written behind what was there before
 pub record Does (e f : Engine) (before now : List ℕ) (command : Command) : Type 0 where

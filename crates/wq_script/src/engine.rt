@@ -23,7 +23,7 @@ pub(crate) struct Engine {
 }
 
 impl Engine {
-    ghost use Rattle.wq_script.specs.Engine.{Meets, size, HasStateWithin, Does};
+    ghost use Rattle.wq_script.specs.Engine.{Meets, size, HasStateWithin, DrainsBy, Does};
 
     // An open queue with nothing in it, and empty lists.
     pub(crate) fn new(alloc: Global, layout: Layout) -> Result<Engine, AllocError>
@@ -96,6 +96,35 @@ impl Engine {
             return Ok(());
         }
         let ran = self.seats.run(alloc, &self.layout, limit, None)?;
+        write_row(&self.layout, "ran", &ran, out)?;
+        write_left(self.counts().waiting, out)?;
+        Ok(())
+    }
+
+    // Makes a drain of at most so many executions, which resumes where nothing is left. The numbers that were executed.
+    fn drain_row(&mut self, alloc: Global, limit: u32) -> Result<Vec<u32>, AllocError>
+        requires { HasStateWithin (2 ^ 60) self.old }
+        ensures { IfOk result (λ ran. DrainsBy limit self.old self.new ran.items) }
+    {
+        if self.seats.drain_none() {
+            return Ok(Vec::new(alloc));
+        }
+        let ran = self.seats.run(alloc, &self.layout, limit, None)?;
+        self.seats.drain_none();
+        Ok(ran)
+    }
+
+    fn drain_and_resume(
+        &mut self,
+        alloc: Global,
+        limit: u32,
+        out: &mut String,
+    ) -> Result<(), AllocError>
+        requires fits { Fits self.old.layout (Command.DrainAndResume limit) }
+        requires ready { HasStateWithin (2 ^ 60) self.old }
+        ensures { OnOk result (Does self.old self.new (string_bytes out.old) (string_bytes out.new) (Command.DrainAndResume limit)) }
+    {
+        let ran = self.drain_row(alloc, limit)?;
         write_row(&self.layout, "ran", &ran, out)?;
         write_left(self.counts().waiting, out)?;
         Ok(())
@@ -242,6 +271,7 @@ impl Engine {
             Command::Done { sender, barrier } => self.done(*sender, *barrier, out),
             Command::Stop(sender) => self.stop(*sender, out),
             Command::Drain(limit) => self.drain(alloc, *limit, out),
+            Command::DrainAndResume(limit) => self.drain_and_resume(alloc, *limit, out),
             Command::Check(item) => self.check(*item, out),
             Command::Arm { item, delay } => self.arm(*item, *delay, out),
             Command::Cancel(item) => self.cancel(*item, out),

@@ -6,7 +6,7 @@ ghost use Rattle.wq_words.specs.declared.event.Event.{Event};
 ghost use Rattle.wq_words.specs.Numbers.{barrier_number, stop_number};
 ghost use Rattle.wq_live.specs.Known.{Known};
 ghost use Rattle.wq_script.specs.Seats.{StaysSilent, AllHear, IsSameTable, AreOne, Gathers, Seated, HasHistory};
-ghost use Rattle.wq_script.specs.Asking.{AsksFor, LooksAt, ClosesAs, RunsAs};
+ghost use Rattle.wq_script.specs.Asking.{AsksFor, LooksAt, ClosesAs, DrainsNone, RunsAs};
 ghost use Rattle.wq_script.specs.Arming.{ArmsAs, CancelsAs, ModifiesAs, IsBack, IsPosted};
 ghost use Rattle.wq_words.specs.History.{pending, closed};
 ghost use Rattle.wq_words.specs.DelayTable.{on_table};
@@ -17,7 +17,7 @@ use std::alloc::{AllocError, Global};
 use wq_delay::{Backwards, Delay};
 use wq_live::{Sender, build};
 use wq_words::{Answer, Armed, Layout, Modified};
-use wq_worker::{Follow, Worker};
+use wq_worker::{Drained, Follow, Worker};
 
 // Who queues, who delays and who executes: a queue has no seat but these.
 #[derive(Drop)]
@@ -175,6 +175,21 @@ impl Seats {
         let taken = self.worker.close();
         self.gather_worker();
         Some(taken as u64)
+    }
+
+    // A drain without an execution: it begins where the queue is open, and ends where the queue drains and nothing is left.
+    // Whether nothing is left.
+    pub(crate) fn drain_none(&mut self) -> bool
+        requires seated { HasHistory self.old }
+        requires some { 0 < length self.old.senders.items }
+        ensures { DrainsNone result self.old self.new }
+    {
+        let drained = self.worker.drain(0);
+        self.gather_worker();
+        match drained {
+            Drained::Empty => true,
+            Drained::TooLong { .. } => false,
+        }
     }
 
     // At most so many executions, up to one of the last number. The numbers that were executed.
