@@ -3,11 +3,11 @@ mod pieces;
 
 use crate::expect::expect_same;
 use std::alloc::Global;
-use std::io::{Error, ErrorKind, Read, Result, Write};
+use std::io::{BufReader, Error, ErrorKind, Read, Result, Write};
 use std::process::Abort;
 use std::sync::Wait;
 use std::thread::Threads;
-use wq_commands::{script_main, steps_main};
+use wq_commands::{Failure, check_main, end, history_main, script_main, steps_main};
 use wq_live_command::live_main;
 
 /// A subcommand.
@@ -15,15 +15,18 @@ use wq_live_command::live_main;
 enum Main {
     Script,
     Steps,
+    History,
     Live,
+    Check,
 }
 
-/// A text of a subcommand, its output, and how many calls of at most 8 bytes reading the one and writing the other take:
-/// one read more finds the end, and one flush follows the writes.
+/// A text of a subcommand, its output, its status, and how many calls of at most 8 bytes reading the one and writing the other take:
+/// one read more finds the end, unless a line of a recording decides, and one flush follows the writes.
 struct Row {
     main: Main,
     text: &'static [u8],
     output: &'static [u8],
+    status: u8,
     reads: u32,
     writes: u32,
 }
@@ -33,6 +36,7 @@ const ROWS: &[Row] = &[
         main: Main::Script,
         text: b"wq 1\nitems 4\nsenders 2\nqueue 0 1\nqueue 1 2\nrun 9\n",
         output: b"true first\ntrue\nran 1 2\n",
+        status: 0,
         reads: 8,
         writes: 4,
     },
@@ -40,13 +44,39 @@ const ROWS: &[Row] = &[
         main: Main::Steps,
         text: b"steps 1\nitems 4\nsenders 2\n0 hold 0\n0 look\n",
         output: b"held\nempty\naccepted nothing\nbegun nothing\n",
+        status: 0,
         reads: 7,
         writes: 7,
+    },
+    Row {
+        main: Main::History,
+        text: b"steps 1\nitems 4\nsenders 2\n0 hold 0\n0 look\n",
+        output: b"history 1\nitems 4\nsenders 2\nbarriers 1\n0 hold 0\n",
+        status: 0,
+        reads: 7,
+        writes: 7,
+    },
+    Row {
+        main: Main::Check,
+        text: b"trace 1\nitems 2\nqueue 1\nstart 1\nend 1\n",
+        output: b"legal\nmarks 3\nqueued 1\nstarted 1\nended 1\nwaiting 0\nmost waiting 1\nleft nothing\n",
+        status: 0,
+        reads: 6,
+        writes: 11,
+    },
+    Row {
+        main: Main::Check,
+        text: b"trace 1\nitems 2\nqueue 1\nstart 0\nqueue 1\nqueue 1\nqueue 1\n",
+        output: b"not legal\nline 4\nmark 2\ncause not waiting\nmarks 1\nqueued 1\nstarted 0\nended 0\nwaiting 1\nmost waiting 1\nleft 1\n",
+        status: 4,
+        reads: 4,
+        writes: 15,
     },
     Row {
         main: Main::Live,
         text: b"{\"queues\":1,\"workers\":1,\"senders\":2,\"own\":3}",
         output: b"accepted 6 ran 6 balanced yes\n",
+        status: 0,
         reads: 7,
         writes: 5,
     },
@@ -77,7 +107,12 @@ fn run<T: Threads + Wait + Sync, R: Read + Drop, W: Write>(
     let status = match main {
         Main::Script => script_main(alloc, reader, writer, &mut faults),
         Main::Steps => steps_main(alloc, reader, writer, &mut faults),
+        Main::History => history_main(alloc, reader, writer, &mut faults),
         Main::Live => live_main(rt, alloc, reader, writer, &mut faults),
+        Main::Check => match BufReader::new(alloc, reader) {
+            Ok(reader) => check_main(alloc, reader, true, writer, &mut faults),
+            Err(error) => end(Err(Failure::from(error)), writer, &mut faults),
+        },
     };
     Ended { status, faults }
 }
@@ -147,7 +182,7 @@ fn reader_is_right<T: Threads + Wait + Sync>(
     let mut output = Vec::new(alloc);
     let ended = run(rt, alloc, row.main, reader, &mut output);
     if is_whole {
-        return ended.is(0, b"") && output.as_slice() == row.output;
+        return ended.is(row.status, b"") && output.as_slice() == row.output;
     }
     ended.is(ending.0, ending.1) && output.is_empty()
 }
@@ -184,6 +219,31 @@ fn reader_fails(rt: HostRuntime) {
     }
 }
 
+/// A read that is interrupted after so many calls is made again, and nothing is lost.
+fn is_read_on<T: Threads + Wait + Sync>(rt: &T, alloc: Global, row: &Row, calls: u32) -> bool {
+    let reader = CutReader {
+        rest: row.text,
+        calls,
+        cause: ErrorKind::Interrupted,
+    };
+    let mut output = Vec::new(alloc);
+    let ended = run(rt, alloc, row.main, reader, &mut output);
+    ended.is(row.status, b"") && output.as_slice() == row.output
+}
+
+fn check_interrupted<T: Abort + Threads + Wait + Sync>(rt: &T, alloc: Global, row: &Row) {
+    for calls in 0..row.reads {
+        assert!(rt; is_read_on(rt, alloc, row, calls), "{calls}");
+    }
+}
+
+#[test]
+fn reader_is_interrupted(rt: HostRuntime) {
+    for row in ROWS {
+        check_interrupted(&rt, rt.alloc(), row);
+    }
+}
+
 /// A write or the flush that fails after so many calls ends with status 1, and what was written begins the output.
 fn writer_is_right<T: Threads + Wait + Sync>(rt: &T, alloc: Global, row: &Row, calls: u32) -> bool {
     let mut writer = CutWriter {
@@ -194,7 +254,7 @@ fn writer_is_right<T: Threads + Wait + Sync>(rt: &T, alloc: Global, row: &Row, c
     if calls < row.writes {
         return ended.is(1, b"output: Unwritable\n") && row.output.starts_with(&writer.taken);
     }
-    ended.is(0, b"") && writer.taken.as_slice() == row.output
+    ended.is(row.status, b"") && writer.taken.as_slice() == row.output
 }
 
 fn check_writer<T: Abort + Threads + Wait + Sync>(rt: &T, alloc: Global, row: &Row) {

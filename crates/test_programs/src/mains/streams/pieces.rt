@@ -67,7 +67,7 @@ fn pieces_are_right<T: Threads + Wait + Sync>(
     let is_said = if calls <= bytes {
         ended.is(1, b"output: Unwritable\n")
     } else {
-        ended.is(0, b"")
+        ended.is(row.status, b"")
     };
     is_said && writer.taken.len() == calls.min(bytes) && row.output.starts_with(&writer.taken)
 }
@@ -85,9 +85,10 @@ fn one_byte_a_call(rt: HostRuntime) {
     }
 }
 
-/// Gives as many line feeds as it is asked for, and fails after so many.
+/// Gives a byte as often as it is asked for, and fails after so many.
 #[derive(Drop)]
 struct Endless {
+    byte: u8,
     left: usize,
 }
 
@@ -97,7 +98,7 @@ impl Read for Endless {
             return Err(Error::from(ErrorKind::BrokenPipe));
         }
         let count = self.left.min(buffer.len());
-        buffer[..count].fill(b'\n');
+        buffer[..count].fill(self.byte);
         self.left -= count;
         Ok(count)
     }
@@ -108,27 +109,31 @@ fn is_refused<T: Threads + Wait + Sync>(
     rt: &T,
     alloc: Global,
     main: Main,
+    byte: u8,
     bytes: usize,
     said: &str,
 ) -> bool {
     let mut output = Vec::new(alloc);
-    let ended = run(rt, alloc, main, Endless { left: bytes }, &mut output);
+    let ended = run(rt, alloc, main, Endless { byte, left: bytes }, &mut output);
     ended.is(1, said.as_bytes()) && output.is_empty()
 }
 
-/// A text without an end is read to one byte more than it may have, and no further.
+/// A text without an end is read to one byte more than it may have, and no further; of a recording so is a line.
 #[test]
 fn texts_without_an_end(rt: HostRuntime) {
-    for &(main, bytes, said) in &[
-        (Main::Script, 1_048_577, "line 1: Size\n"),
-        (Main::Script, 1_048_576, "file: Unreadable\n"),
-        (Main::Steps, 1_048_577, "line 1: Size\n"),
-        (Main::Steps, 1_048_576, "file: Unreadable\n"),
-        (Main::Live, 65_537, "plan: Size\n"),
-        (Main::Live, 65_536, "file: Unreadable\n"),
+    for &(main, byte, bytes, said) in &[
+        (Main::Script, b'\n', 1_048_577, "line 1: Size\n"),
+        (Main::Script, b'\n', 1_048_576, "file: Unreadable\n"),
+        (Main::Steps, b'\n', 1_048_577, "line 1: Size\n"),
+        (Main::Steps, b'\n', 1_048_576, "file: Unreadable\n"),
+        (Main::Live, b'\n', 65_537, "plan: Size\n"),
+        (Main::Live, b'\n', 65_536, "file: Unreadable\n"),
+        (Main::Check, b'#', 4_097, "line 1: Size\n"),
+        (Main::Check, b'#', 4_096, "file: Unreadable\n"),
+        (Main::Check, b'\n', 1, "line 1: Version\n"),
     ] {
         assert!(rt;
-            is_refused(&rt, rt.alloc(), main, bytes, said),
+            is_refused(&rt, rt.alloc(), main, byte, bytes, said),
             "{bytes} {said}"
         );
     }
