@@ -1,4 +1,5 @@
 //! The calls, and whether each gives its right answer or says that memory is wanting.
+use crate::checkers::{check_events, check_marks};
 use crate::pool::serve_pool;
 use crate::streams::Page;
 use crate::worker::build_worker;
@@ -6,7 +7,7 @@ use std::alloc::{AllocError, Global};
 use std::fmt;
 use std::sync::Wait;
 use std::thread::Threads;
-use wq_commands::{script_main, steps_main};
+use wq_commands::{check_main, history_main, script_main, steps_main};
 use wq_core::Seat;
 use wq_core::Step::{self, Begin, End, Hold, Link, Look, Push, Take, Walk};
 use wq_delay::{Armed, Delay, Modified, NoRoom};
@@ -24,6 +25,8 @@ pub enum Call {
     Table,
     Worker,
     Pool,
+    Events,
+    Marks,
     Script(&'static str, &'static str),
     Main(Main, &'static str, &'static str),
 }
@@ -33,7 +36,9 @@ pub enum Call {
 pub enum Main {
     Script,
     Steps,
+    History,
     Live,
+    Check,
 }
 
 /// What came of a call.
@@ -57,12 +62,14 @@ impl fmt::Display for Said {
     }
 }
 
-pub const CALLS: [(&str, Call); 11] = [
+pub const CALLS: [(&str, Call); 16] = [
     ("build", Call::Build),
     ("replay", Call::Replay),
     ("table", Call::Table),
     ("worker", Call::Worker),
     ("pool", Call::Pool),
+    ("events", Call::Events),
+    ("marks", Call::Marks),
     (
         "following",
         Call::Script(
@@ -98,6 +105,30 @@ pub const CALLS: [(&str, Call); 11] = [
             Main::Steps,
             "steps 1\nitems 4\nsenders 2\n0 hold 0\n0 look\no take\n",
             "held\nempty\ntook empty\naccepted nothing\nbegun nothing\n",
+        ),
+    ),
+    (
+        "history",
+        Call::Main(
+            Main::History,
+            "steps 1\nitems 4\nsenders 2\n0 hold 0\n0 look\no take\n",
+            "history 1\nitems 4\nsenders 2\nbarriers 1\n0 hold 0\no take\n",
+        ),
+    ),
+    (
+        "recording",
+        Call::Main(
+            Main::Check,
+            "history 1\nitems 4\nsenders 2\n0 queue 3\n1 queue 1\no begin 3\no close\n",
+            "legal\nevents 6\naccepted 2\nchained 0\nexecuted 0\nbusy 0\nrefused 0\nwaiting 2\nmost waiting 2\nclosed yes\ncomplete no\nleft 3 1\n",
+        ),
+    ),
+    (
+        "trace",
+        Call::Main(
+            Main::Check,
+            "trace 1\nitems 4\nqueue 3\nqueue 1\nstart 3\n",
+            "legal\nmarks 3\nqueued 2\nstarted 1\nended 0\nwaiting 2\nmost waiting 2\nleft 3 1\n",
         ),
     ),
     (
@@ -294,7 +325,9 @@ fn run_main<T: Threads + Wait + Sync>(
     let status = match main {
         Main::Script => script_main(alloc, reader, &mut written, &mut said),
         Main::Steps => steps_main(alloc, reader, &mut written, &mut said),
+        Main::History => history_main(alloc, reader, &mut written, &mut said),
         Main::Live => live_main(rt, alloc, reader, &mut written, &mut said),
+        Main::Check => check_main(alloc, reader, false, &mut written, &mut said),
     };
     if status == 0 && written.holds(output.as_bytes()) && said.holds(b"") {
         Said::Right
@@ -313,6 +346,8 @@ pub fn make<T: Threads + Wait + Sync>(rt: &T, alloc: Global, call: Call) -> Said
         Call::Table => make_table(alloc),
         Call::Worker => build_worker(alloc),
         Call::Pool => serve_pool(rt, alloc),
+        Call::Events => check_events(alloc),
+        Call::Marks => check_marks(alloc),
         Call::Script(text, report) => run_script(alloc, text, report),
         Call::Main(main, text, output) => run_main(rt, alloc, main, text, output),
     }

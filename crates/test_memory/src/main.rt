@@ -3,6 +3,7 @@
 #![tactic(auto)]
 
 mod calls;
+mod checkers;
 mod pool;
 mod streams;
 mod worker;

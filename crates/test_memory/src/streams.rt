@@ -4,14 +4,14 @@ use std::io::{Result, Write};
 /// The first bytes that were written, and how many were.
 #[derive(Drop)]
 pub struct Page {
-    bytes: [u8; 128],
+    bytes: [u8; 256],
     len: usize,
 }
 
 impl Page {
     pub fn new() -> Page {
         Page {
-            bytes: [0; 128],
+            bytes: [0; 256],
             len: 0,
         }
     }
