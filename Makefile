@@ -72,6 +72,7 @@ wrong-bodies:
 bench: build library
 	cd crates/bench_queue && rt run
 	cd crates/bench_pool && rt run
+	cd crates/bench_check && rt run
 	bench/script.sh $(PROGRAM)
 	bench/commands.py $(PROGRAM)
 	bench/items.sh crates/bench_queue/out/bench_queue
@@ -80,3 +81,4 @@ bench: build library
 	bench/pool.py crates/bench_pool/out/bench_pool 9
 	bench/delays.sh crates/bench_queue/out/bench_queue
 	bench/large.py crates/bench_queue/out/bench_queue
+	bench/recordings.py $(PROGRAM) crates/bench_check/out/bench_check

@@ -13,7 +13,7 @@ use wq_core::Step::{self, Begin, End, Hold, Link, Look, Push, Take, Walk};
 use wq_delay::{Armed, Delay, Modified, NoRoom};
 use wq_live::{BuildError, build};
 use wq_live_command::live_main;
-use wq_machine::{ReplayError, StepError, replay};
+use wq_machine::{Core, ReplayError, StepError, replay};
 use wq_script::{ParseError, RunError, parse, run};
 use wq_words::Layout;
 
