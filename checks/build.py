@@ -69,6 +69,13 @@ def move_out(crate, source, goal):
         old.rename(new)
 
 
+def clear_trees():
+    """Takes the trees away. What was kept in one goes back to the repository, if an earlier run was killed."""
+    for tree in TREES.glob("*"):
+        move_out(tree.name, tree, TOP)
+    shutil.rmtree(TREES, ignore_errors=True)
+
+
 def prove(named, crate, is_first):
     """Proves and builds one crate in a tree of its own: whether it is proved, and what was said."""
     tree = make_tree(named, crate)
@@ -108,11 +115,11 @@ def prove_all(named, crates, log):
 def main():
     named = named_crates()
     crates = with_below(named, PROGRAM)
-    shutil.rmtree(TREES, ignore_errors=True)
+    clear_trees()
     with tempfile.NamedTemporaryFile("w", prefix="wqrun-build-", delete=False) as log:
         print(BEFORE.format(count=len(crates), processors=PROCESSORS, log=log.name), flush=True)
         is_proved = prove_all(named, crates, log)
-    shutil.rmtree(TREES, ignore_errors=True)
+    clear_trees()
     if is_proved:
         print(f"built crates/{PROGRAM}/out/{PROGRAM}")
     return 0 if is_proved else 1
