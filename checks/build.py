@@ -4,8 +4,8 @@
 `rt` locks every crate below the one that it checks, so two checks in one tree wait for each other. Here each crate is proved in a tree
 of its own below out/: a copy of its sources and of those of the crates below it, with what these have built as hard links. `rt` goes by
 what files say and not by when they were written, so the crates below count as built there, and the crate counts as built once its own
-`out` is back in the repository. A crate starts when those below it are built. The one with the longest chain of crates above it gets a
-job for each processor, up to four; the others run beside it, with a job each, on what it leaves.
+`out` is back in the repository. A crate starts when those below it are built, first the one with the longest chain of crates above it.
+One at a time gets a job for each processor, up to four; the others run beside it, with a job each, on what it leaves.
 """
 import os
 import re
@@ -22,9 +22,12 @@ TREES = TOP / "out"
 PROGRAM = "wqrun"
 PARTS = ("src", "specs", "proofs")
 PROCESSORS = len(os.sched_getaffinity(0))
-BEFORE = """Proves wqrun and what it stands on, {count} crates, side by side on {processors} processors, and builds it. From nothing that took 24
-minutes by the clock on four processors, 39 minutes of them, where it was measured; a busy or slow machine takes up to three times as
-long, and where nothing has changed it takes some seconds. All that is said goes into {log}."""
+# room for one check
+MEMORY_OF_A_CRATE = 3 << 30
+BEFORE = """Proves wqrun and what it stands on, {count} crates, side by side on {processors} processors, and builds it.
+From nothing that took 24 minutes by the clock on four processors, 39 minutes of them, where it was measured; a busy or
+slow machine takes up to three times as long, and where nothing has changed it takes some seconds. All that is said goes
+into {log}."""
 
 
 def named_crates():
@@ -76,11 +79,17 @@ def clear_trees():
     shutil.rmtree(TREES, ignore_errors=True)
 
 
+def crates_at_once():
+    """How many crates are proved side by side: one for each processor, as far as there is memory."""
+    free = int(re.search(r"MemAvailable:\s+(\d+)", Path("/proc/meminfo").read_text())[1]) << 10
+    return max(1, min(PROCESSORS, free // MEMORY_OF_A_CRATE))
+
+
 def prove(named, crate, is_first):
     """Proves and builds one crate in a tree of its own: whether it is proved, and what was said."""
     tree = make_tree(named, crate)
     move_out(crate, TOP, tree)
-    words = ["run" if crate == PROGRAM else "lib", "--jobs", str(min(PROCESSORS, 4) if is_first else 1)]
+    words = ["run" if crate == PROGRAM else "lib", "--jobs", str(min(crates_at_once(), 4) if is_first else 1)]
     words = ["nice", "-n", "0" if is_first else "10", "rt", *words, *["--", "--version"] * (crate == PROGRAM)]
     began = time.monotonic()
     try:
@@ -93,21 +102,23 @@ def prove(named, crate, is_first):
 
 def prove_all(named, crates, log):
     """Proves the crates side by side, with a line for each; whether all are proved."""
-    chain, left, built, running = chains(named, crates), set(crates), set(), {}
-    with ThreadPoolExecutor(PROCESSORS) as pool:
+    chain, left, built, running, first = chains(named, crates), set(crates), set(), {}, None
+    most = crates_at_once()
+    with ThreadPoolExecutor(most) as pool:
         while left or running:
-            longest = max(chain[it] for it in [*left, *running.values()])
             ready = sorted((it for it in left if built.issuperset(named[it])), key=chain.get, reverse=True)
-            for crate in ready[: PROCESSORS - len(running)]:
-                running[pool.submit(prove, named, crate, chain[crate] == longest)] = crate
+            for crate in ready[: most - len(running)]:
+                first = first or crate
+                running[pool.submit(prove, named, crate, crate == first)] = crate
                 left.remove(crate)
             for it in wait(running, return_when=FIRST_COMPLETED).done:
                 (is_proved, said), crate = it.result(), running.pop(it)
                 print(said, file=log, flush=True)
                 if not is_proved:
-                    print(f"{said}{crate} is not proved", flush=True)
+                    print(f"{said}{crate} is not proved; what runs beside it comes to its end", flush=True)
                     return False
                 built.add(crate)
+                first = None if crate == first else first
                 print(f"{time.strftime('%H:%M:%S')} {len(built)} of {len(crates)}: {crate}", flush=True)
     return True
 
