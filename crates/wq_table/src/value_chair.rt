@@ -164,6 +164,7 @@ impl<V> ValueChair<V> {
         requires carries { 0 < self.old.queue.slots → Carries (part_in P.at self.old).layout.items number (in_front self.old.hand) }
         ensures step { ValueSteps P.at None (Push number) result self.old self.new }
     {
+        // opens the chair, whose invariant says how many slots there are
         let _ = &self.layout;
         let word = Head::Item(number).to_word();
         self.replace::<Pushes, P>(HEAD, seen, word)
@@ -275,6 +276,7 @@ impl<V> ValueChair<V> {
         requires next { IsToWalk number (part_in P.at self.old).stage }
         ensures step { ValueSteps P.at None Walk result self.old self.new }
     {
+        // opens the chair, whose invariant says how many slots there are
         let _ = &self.layout;
         let place = link_place(number);
         self.load::<Walks, P>(place)
@@ -352,6 +354,7 @@ impl<V> ValueChair<V> {
         self.chain_said::<P, Brand>(number, value)
     }
 
+    // The same, where the ghost member is the value.
     fn chain_said<P: Place, G: Says<V>>(&mut self, number: u32, value: &V) -> u64
         requires item { number < (part_in P.at self.old).layout.items }
         requires shut { IsShut (part_in P.at self.old).seen }
