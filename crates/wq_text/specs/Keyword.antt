@@ -2,7 +2,7 @@
 use Rattle.std.specs.Prelude.{ℕ, true, List, Option, Some, None, Result, if◌then◌else◌, codes}
 use Rattle.std.specs.Str.{bytes_eq}
 use Rattle.wq_words.specs.declared.layout.Layout.{Layout}
-use Rattle.wq_words.specs.Limits.{most_text_items}
+use Rattle.wq_words.specs.Limits.{most_items, most_text_items}
 use Rattle.wq_text.specs.declared.command.Command.{Command}
 use Rattle.wq_text.specs.declared.command.Command.TheVariants as command
 use Rattle.wq_text.specs.declared.fault.Kind.{Kind}
@@ -67,7 +67,7 @@ abbrev pub script_grammar_2 : Grammar Keyword Command
 script_grammar_2 = record {
   version = codes "wq 2";
   names_seats = true;
-  most = record { items = 65536; senders = 62 };
+  most = record { items = most_items; senders = 62 };
   names = λ w ws. keyword_at_2 w;
   asks = λ l k w ws. command_gives l k ws;
 }

@@ -15,7 +15,7 @@ use crate::text::{is_of, read};
 use crate::turn::{Action, action_of, action_of_2, other_words, turn};
 use std::alloc::Global;
 use wq_core::{Seat, Step};
-use wq_words::{Layout, MOST_TEXT_ITEMS};
+use wq_words::{Layout, MOST_ITEMS, MOST_TEXT_ITEMS};
 
 // The lines of a schedule, each a turn at most.
 struct Turns;
@@ -80,7 +80,7 @@ impl Language for Turns2 {
 
     fn most() -> Most {
         Most {
-            items: 65536,
+            items: MOST_ITEMS,
             senders: 64,
         }
     }

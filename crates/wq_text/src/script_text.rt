@@ -15,7 +15,7 @@ use crate::line::Language;
 use crate::script::Script;
 use crate::text::{is_of, read};
 use std::alloc::Global;
-use wq_words::{Layout, MOST_TEXT_ITEMS};
+use wq_words::{Layout, MOST_ITEMS, MOST_TEXT_ITEMS};
 
 // The lines of a script, each a command at most.
 struct Commands;
@@ -80,7 +80,7 @@ impl Language for Commands2 {
 
     fn most() -> Most {
         Most {
-            items: 65536,
+            items: MOST_ITEMS,
             senders: 62,
         }
     }
