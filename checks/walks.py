@@ -44,9 +44,9 @@ ghost use Rattle.std.specs.Borrow.{full_share, sem};
 ghost use Rattle.std.specs.Ptr.{lies_at, room_at};
 ghost use base.Fml.{fex, fsep};
 %s
-ghost use Rattle.wq_seats.specs.declared.seat.Seat.{Seat as Kept};
+ghost use Rattle.wq_seats.specs.declared.seat.Seat.{Seat as Sitting};
 ghost use Rattle.wq_seats.specs.declared.seat.Seat.TheVariants.{Vacant};
-ghost use Rattle.wq_seats.specs.contracts.seat.Seat.{the_row as kept};
+ghost use Rattle.wq_seats.specs.contracts.seat.Seat.{the_row as seat_row};
 
 use std::alloc::Global;
 use wq_seats::Seat;
@@ -66,8 +66,8 @@ pub extern "C" fn wq_c_seat_align() -> usize {
 /// Makes a vacant seat in this room.
 #[unsafe(no_mangle)]
 pub unsafe extern "C" fn wq_c_init(at: *mut u8)
-    requires* { sem 𝓛 (room_at kept at) }
-    ensures* { sem 𝓛 (lies_at kept full_share at Vacant) }
+    requires* { sem 𝓛 (room_at seat_row at) }
+    ensures* { sem 𝓛 (lies_at seat_row full_share at Vacant) }
 {
     (at as *mut Seat).write(wq_seats::vacant());
 }
@@ -75,11 +75,11 @@ pub unsafe extern "C" fn wq_c_init(at: *mut u8)
 /// Hands out a sender of the owner's queue, which takes the other seat.
 #[unsafe(no_mangle)]
 pub unsafe extern "C" fn wq_c_hand_out(at: *mut u8, to: *mut u8) -> u64
-    ghost old: { Kept × Kept }
-    requires* at { sem 𝓛 (lies_at kept full_share at old.0) }
-    requires* to { sem 𝓛 (lies_at kept full_share to old.1) }
-    ensures* { sem 𝓛 (fex Kept (λ new. fex Kept (λ other. fex (SaidHandOut result old.0 old.1 new other)
-        (λ _. fsep (lies_at kept full_share at new) (lies_at kept full_share to other))))) }
+    ghost old: { Sitting × Sitting }
+    requires* at { sem 𝓛 (lies_at seat_row full_share at old.0) }
+    requires* to { sem 𝓛 (lies_at seat_row full_share to old.1) }
+    ensures* { sem 𝓛 (fex Sitting (λ new. fex Sitting (λ other. fex (SaidHandOut result old.0 old.1 new other)
+        (λ _. fsep (lies_at seat_row full_share at new) (lies_at seat_row full_share to other))))) }
 {
     wq_seats::word::hand_out_word(&mut *(at as *mut Seat), &mut *(to as *mut Seat))
 }
@@ -89,9 +89,9 @@ EXPORT = """
 /// {does}
 #[unsafe(no_mangle)]
 pub unsafe extern "C" fn wq_c_{name}({parameters}) -> u64
-    ghost old: {{ Kept }}
-    requires* {{ sem 𝓛 (lies_at kept full_share at old) }}
-    ensures* {{ sem 𝓛 (fex Kept (λ new. fex ({said} result old new) (λ _. lies_at kept full_share at new))) }}
+    ghost old: {{ Sitting }}
+    requires* {{ sem 𝓛 (lies_at seat_row full_share at old) }}
+    ensures* {{ sem 𝓛 (fex Sitting (λ new. fex ({said} result old new) (λ _. lies_at seat_row full_share at new))) }}
 {{
     wq_seats::word::{name}_word({arguments})
 }}

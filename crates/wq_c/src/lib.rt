@@ -9,9 +9,9 @@ ghost use base.Fml.{fex, fsep};
 ghost use Rattle.wq_seats.specs.Words.{SaidHandOut, SaidBuild, SaidRelease, SaidQueue, SaidCheck, SaidFlush, SaidCheckFlush};
 ghost use Rattle.wq_seats.specs.Words.{SaidStop, SaidNumber, SaidTake, SaidClose, SaidDrain, SaidResume, SaidNext};
 ghost use Rattle.wq_seats.specs.Words.{SaidWaiting, SaidBegin, SaidEnd, SaidRest, SaidChain, SaidDone};
-ghost use Rattle.wq_seats.specs.declared.seat.Seat.{Seat as Kept};
+ghost use Rattle.wq_seats.specs.declared.seat.Seat.{Seat as Sitting};
 ghost use Rattle.wq_seats.specs.declared.seat.Seat.TheVariants.{Vacant};
-ghost use Rattle.wq_seats.specs.contracts.seat.Seat.{the_row as kept};
+ghost use Rattle.wq_seats.specs.contracts.seat.Seat.{the_row as seat_row};
 
 use std::alloc::Global;
 use wq_seats::Seat;
@@ -31,8 +31,8 @@ pub extern "C" fn wq_c_seat_align() -> usize {
 /// Makes a vacant seat in this room.
 #[unsafe(no_mangle)]
 pub unsafe extern "C" fn wq_c_init(at: *mut u8)
-    requires* { sem 𝓛 (room_at kept at) }
-    ensures* { sem 𝓛 (lies_at kept full_share at Vacant) }
+    requires* { sem 𝓛 (room_at seat_row at) }
+    ensures* { sem 𝓛 (lies_at seat_row full_share at Vacant) }
 {
     (at as *mut Seat).write(wq_seats::vacant());
 }
@@ -40,11 +40,11 @@ pub unsafe extern "C" fn wq_c_init(at: *mut u8)
 /// Hands out a sender of the owner's queue, which takes the other seat.
 #[unsafe(no_mangle)]
 pub unsafe extern "C" fn wq_c_hand_out(at: *mut u8, to: *mut u8) -> u64
-    ghost old: { Kept × Kept }
-    requires* at { sem 𝓛 (lies_at kept full_share at old.0) }
-    requires* to { sem 𝓛 (lies_at kept full_share to old.1) }
-    ensures* { sem 𝓛 (fex Kept (λ new. fex Kept (λ other. fex (SaidHandOut result old.0 old.1 new other)
-        (λ _. fsep (lies_at kept full_share at new) (lies_at kept full_share to other))))) }
+    ghost old: { Sitting × Sitting }
+    requires* at { sem 𝓛 (lies_at seat_row full_share at old.0) }
+    requires* to { sem 𝓛 (lies_at seat_row full_share to old.1) }
+    ensures* { sem 𝓛 (fex Sitting (λ new. fex Sitting (λ other. fex (SaidHandOut result old.0 old.1 new other)
+        (λ _. fsep (lies_at seat_row full_share at new) (lies_at seat_row full_share to other))))) }
 {
     wq_seats::word::hand_out_word(&mut *(at as *mut Seat), &mut *(to as *mut Seat))
 }
@@ -58,9 +58,9 @@ pub unsafe extern "C" fn wq_c_build(
     barriers: u32,
     senders: u32,
 ) -> u64
-    ghost old: { Kept }
-    requires* { sem 𝓛 (lies_at kept full_share at old) }
-    ensures* { sem 𝓛 (fex Kept (λ new. fex (SaidBuild items barriers senders result old new) (λ _. lies_at kept full_share at new))) }
+    ghost old: { Sitting }
+    requires* { sem 𝓛 (lies_at seat_row full_share at old) }
+    ensures* { sem 𝓛 (fex Sitting (λ new. fex (SaidBuild items barriers senders result old new) (λ _. lies_at seat_row full_share at new))) }
 {
     wq_seats::word::build_word(&mut *(at as *mut Seat), alloc, items, barriers, senders)
 }
@@ -68,9 +68,9 @@ pub unsafe extern "C" fn wq_c_build(
 /// Gives up a seat, which is vacant then.
 #[unsafe(no_mangle)]
 pub unsafe extern "C" fn wq_c_release(at: *mut u8) -> u64
-    ghost old: { Kept }
-    requires* { sem 𝓛 (lies_at kept full_share at old) }
-    ensures* { sem 𝓛 (fex Kept (λ new. fex (SaidRelease result old new) (λ _. lies_at kept full_share at new))) }
+    ghost old: { Sitting }
+    requires* { sem 𝓛 (lies_at seat_row full_share at old) }
+    ensures* { sem 𝓛 (fex Sitting (λ new. fex (SaidRelease result old new) (λ _. lies_at seat_row full_share at new))) }
 {
     wq_seats::word::release_word(&mut *(at as *mut Seat))
 }
@@ -78,9 +78,9 @@ pub unsafe extern "C" fn wq_c_release(at: *mut u8) -> u64
 /// Queues an item, with at most so many tries.
 #[unsafe(no_mangle)]
 pub unsafe extern "C" fn wq_c_queue(at: *mut u8, item: u32, tries: u32) -> u64
-    ghost old: { Kept }
-    requires* { sem 𝓛 (lies_at kept full_share at old) }
-    ensures* { sem 𝓛 (fex Kept (λ new. fex (SaidQueue item tries result old new) (λ _. lies_at kept full_share at new))) }
+    ghost old: { Sitting }
+    requires* { sem 𝓛 (lies_at seat_row full_share at old) }
+    ensures* { sem 𝓛 (fex Sitting (λ new. fex (SaidQueue item tries result old new) (λ _. lies_at seat_row full_share at new))) }
 {
     wq_seats::word::queue_word(&mut *(at as *mut Seat), item, tries)
 }
@@ -88,9 +88,9 @@ pub unsafe extern "C" fn wq_c_queue(at: *mut u8, item: u32, tries: u32) -> u64
 /// The item's PENDING bit.
 #[unsafe(no_mangle)]
 pub unsafe extern "C" fn wq_c_is_pending(at: *mut u8, item: u32) -> u64
-    ghost old: { Kept }
-    requires* { sem 𝓛 (lies_at kept full_share at old) }
-    ensures* { sem 𝓛 (fex Kept (λ new. fex (SaidCheck item result old new) (λ _. lies_at kept full_share at new))) }
+    ghost old: { Sitting }
+    requires* { sem 𝓛 (lies_at seat_row full_share at old) }
+    ensures* { sem 𝓛 (fex Sitting (λ new. fex (SaidCheck item result old new) (λ _. lies_at seat_row full_share at new))) }
 {
     wq_seats::word::is_pending_word(&mut *(at as *mut Seat), item)
 }
@@ -98,9 +98,9 @@ pub unsafe extern "C" fn wq_c_is_pending(at: *mut u8, item: u32) -> u64
 /// Queues a barrier, with at most so many tries.
 #[unsafe(no_mangle)]
 pub unsafe extern "C" fn wq_c_flush_begin(at: *mut u8, barrier: u32, tries: u32) -> u64
-    ghost old: { Kept }
-    requires* { sem 𝓛 (lies_at kept full_share at old) }
-    ensures* { sem 𝓛 (fex Kept (λ new. fex (SaidFlush barrier tries result old new) (λ _. lies_at kept full_share at new))) }
+    ghost old: { Sitting }
+    requires* { sem 𝓛 (lies_at seat_row full_share at old) }
+    ensures* { sem 𝓛 (fex Sitting (λ new. fex (SaidFlush barrier tries result old new) (λ _. lies_at seat_row full_share at new))) }
 {
     wq_seats::word::flush_begin_word(&mut *(at as *mut Seat), barrier, tries)
 }
@@ -108,9 +108,9 @@ pub unsafe extern "C" fn wq_c_flush_begin(at: *mut u8, barrier: u32, tries: u32)
 /// Whether the barrier's PENDING bit is clear.
 #[unsafe(no_mangle)]
 pub unsafe extern "C" fn wq_c_flush_done(at: *mut u8, barrier: u32) -> u64
-    ghost old: { Kept }
-    requires* { sem 𝓛 (lies_at kept full_share at old) }
-    ensures* { sem 𝓛 (fex Kept (λ new. fex (SaidCheckFlush barrier result old new) (λ _. lies_at kept full_share at new))) }
+    ghost old: { Sitting }
+    requires* { sem 𝓛 (lies_at seat_row full_share at old) }
+    ensures* { sem 𝓛 (fex Sitting (λ new. fex (SaidCheckFlush barrier result old new) (λ _. lies_at seat_row full_share at new))) }
 {
     wq_seats::word::flush_done_word(&mut *(at as *mut Seat), barrier)
 }
@@ -118,9 +118,9 @@ pub unsafe extern "C" fn wq_c_flush_done(at: *mut u8, barrier: u32) -> u64
 /// Queues the stop item, with at most so many tries.
 #[unsafe(no_mangle)]
 pub unsafe extern "C" fn wq_c_request_stop(at: *mut u8, tries: u32) -> u64
-    ghost old: { Kept }
-    requires* { sem 𝓛 (lies_at kept full_share at old) }
-    ensures* { sem 𝓛 (fex Kept (λ new. fex (SaidStop tries result old new) (λ _. lies_at kept full_share at new))) }
+    ghost old: { Sitting }
+    requires* { sem 𝓛 (lies_at seat_row full_share at old) }
+    ensures* { sem 𝓛 (fex Sitting (λ new. fex (SaidStop tries result old new) (λ _. lies_at seat_row full_share at new))) }
 {
     wq_seats::word::request_stop_word(&mut *(at as *mut Seat), tries)
 }
@@ -128,9 +128,9 @@ pub unsafe extern "C" fn wq_c_request_stop(at: *mut u8, tries: u32) -> u64
 /// The sender's number.
 #[unsafe(no_mangle)]
 pub unsafe extern "C" fn wq_c_number(at: *mut u8) -> u64
-    ghost old: { Kept }
-    requires* { sem 𝓛 (lies_at kept full_share at old) }
-    ensures* { sem 𝓛 (fex Kept (λ new. fex (SaidNumber result old new) (λ _. lies_at kept full_share at new))) }
+    ghost old: { Sitting }
+    requires* { sem 𝓛 (lies_at seat_row full_share at old) }
+    ensures* { sem 𝓛 (fex Sitting (λ new. fex (SaidNumber result old new) (λ _. lies_at seat_row full_share at new))) }
 {
     wq_seats::word::number_word(&mut *(at as *mut Seat))
 }
@@ -138,9 +138,9 @@ pub unsafe extern "C" fn wq_c_number(at: *mut u8) -> u64
 /// Takes all that stands on the list, and answers how many that is.
 #[unsafe(no_mangle)]
 pub unsafe extern "C" fn wq_c_take(at: *mut u8) -> u64
-    ghost old: { Kept }
-    requires* { sem 𝓛 (lies_at kept full_share at old) }
-    ensures* { sem 𝓛 (fex Kept (λ new. fex (SaidTake result old new) (λ _. lies_at kept full_share at new))) }
+    ghost old: { Sitting }
+    requires* { sem 𝓛 (lies_at seat_row full_share at old) }
+    ensures* { sem 𝓛 (fex Sitting (λ new. fex (SaidTake result old new) (λ _. lies_at seat_row full_share at new))) }
 {
     wq_seats::word::take_word(&mut *(at as *mut Seat))
 }
@@ -148,9 +148,9 @@ pub unsafe extern "C" fn wq_c_take(at: *mut u8) -> u64
 /// Closes the queue, takes all that stands on the list, and answers how many that is.
 #[unsafe(no_mangle)]
 pub unsafe extern "C" fn wq_c_close(at: *mut u8) -> u64
-    ghost old: { Kept }
-    requires* { sem 𝓛 (lies_at kept full_share at old) }
-    ensures* { sem 𝓛 (fex Kept (λ new. fex (SaidClose result old new) (λ _. lies_at kept full_share at new))) }
+    ghost old: { Sitting }
+    requires* { sem 𝓛 (lies_at seat_row full_share at old) }
+    ensures* { sem 𝓛 (fex Sitting (λ new. fex (SaidClose result old new) (λ _. lies_at seat_row full_share at new))) }
 {
     wq_seats::word::close_word(&mut *(at as *mut Seat))
 }
@@ -158,9 +158,9 @@ pub unsafe extern "C" fn wq_c_close(at: *mut u8) -> u64
 /// Begins a drain, takes all that stands on the list, and answers how many that is.
 #[unsafe(no_mangle)]
 pub unsafe extern "C" fn wq_c_drain(at: *mut u8) -> u64
-    ghost old: { Kept }
-    requires* { sem 𝓛 (lies_at kept full_share at old) }
-    ensures* { sem 𝓛 (fex Kept (λ new. fex (SaidDrain result old new) (λ _. lies_at kept full_share at new))) }
+    ghost old: { Sitting }
+    requires* { sem 𝓛 (lies_at seat_row full_share at old) }
+    ensures* { sem 𝓛 (fex Sitting (λ new. fex (SaidDrain result old new) (λ _. lies_at seat_row full_share at new))) }
 {
     wq_seats::word::drain_word(&mut *(at as *mut Seat))
 }
@@ -168,9 +168,9 @@ pub unsafe extern "C" fn wq_c_drain(at: *mut u8) -> u64
 /// Ends a drain.
 #[unsafe(no_mangle)]
 pub unsafe extern "C" fn wq_c_resume(at: *mut u8) -> u64
-    ghost old: { Kept }
-    requires* { sem 𝓛 (lies_at kept full_share at old) }
-    ensures* { sem 𝓛 (fex Kept (λ new. fex (SaidResume result old new) (λ _. lies_at kept full_share at new))) }
+    ghost old: { Sitting }
+    requires* { sem 𝓛 (lies_at seat_row full_share at old) }
+    ensures* { sem 𝓛 (fex Sitting (λ new. fex (SaidResume result old new) (λ _. lies_at seat_row full_share at new))) }
 {
     wq_seats::word::resume_word(&mut *(at as *mut Seat))
 }
@@ -178,9 +178,9 @@ pub unsafe extern "C" fn wq_c_resume(at: *mut u8) -> u64
 /// The oldest number that was taken and has not begun.
 #[unsafe(no_mangle)]
 pub unsafe extern "C" fn wq_c_next(at: *mut u8) -> u64
-    ghost old: { Kept }
-    requires* { sem 𝓛 (lies_at kept full_share at old) }
-    ensures* { sem 𝓛 (fex Kept (λ new. fex (SaidNext result old new) (λ _. lies_at kept full_share at new))) }
+    ghost old: { Sitting }
+    requires* { sem 𝓛 (lies_at seat_row full_share at old) }
+    ensures* { sem 𝓛 (fex Sitting (λ new. fex (SaidNext result old new) (λ _. lies_at seat_row full_share at new))) }
 {
     wq_seats::word::next_word(&mut *(at as *mut Seat))
 }
@@ -188,9 +188,9 @@ pub unsafe extern "C" fn wq_c_next(at: *mut u8) -> u64
 /// How many numbers were taken and have not begun.
 #[unsafe(no_mangle)]
 pub unsafe extern "C" fn wq_c_waiting(at: *mut u8) -> u64
-    ghost old: { Kept }
-    requires* { sem 𝓛 (lies_at kept full_share at old) }
-    ensures* { sem 𝓛 (fex Kept (λ new. fex (SaidWaiting result old new) (λ _. lies_at kept full_share at new))) }
+    ghost old: { Sitting }
+    requires* { sem 𝓛 (lies_at seat_row full_share at old) }
+    ensures* { sem 𝓛 (fex Sitting (λ new. fex (SaidWaiting result old new) (λ _. lies_at seat_row full_share at new))) }
 {
     wq_seats::word::waiting_word(&mut *(at as *mut Seat))
 }
@@ -198,9 +198,9 @@ pub unsafe extern "C" fn wq_c_waiting(at: *mut u8) -> u64
 /// Begins the oldest number that was taken, and answers it.
 #[unsafe(no_mangle)]
 pub unsafe extern "C" fn wq_c_begin(at: *mut u8) -> u64
-    ghost old: { Kept }
-    requires* { sem 𝓛 (lies_at kept full_share at old) }
-    ensures* { sem 𝓛 (fex Kept (λ new. fex (SaidBegin result old new) (λ _. lies_at kept full_share at new))) }
+    ghost old: { Sitting }
+    requires* { sem 𝓛 (lies_at seat_row full_share at old) }
+    ensures* { sem 𝓛 (fex Sitting (λ new. fex (SaidBegin result old new) (λ _. lies_at seat_row full_share at new))) }
 {
     wq_seats::word::begin_word(&mut *(at as *mut Seat))
 }
@@ -208,9 +208,9 @@ pub unsafe extern "C" fn wq_c_begin(at: *mut u8) -> u64
 /// Ends the execution that runs.
 #[unsafe(no_mangle)]
 pub unsafe extern "C" fn wq_c_end(at: *mut u8) -> u64
-    ghost old: { Kept }
-    requires* { sem 𝓛 (lies_at kept full_share at old) }
-    ensures* { sem 𝓛 (fex Kept (λ new. fex (SaidEnd result old new) (λ _. lies_at kept full_share at new))) }
+    ghost old: { Sitting }
+    requires* { sem 𝓛 (lies_at seat_row full_share at old) }
+    ensures* { sem 𝓛 (fex Sitting (λ new. fex (SaidEnd result old new) (λ _. lies_at seat_row full_share at new))) }
 {
     wq_seats::word::end_word(&mut *(at as *mut Seat))
 }
@@ -218,9 +218,9 @@ pub unsafe extern "C" fn wq_c_end(at: *mut u8) -> u64
 /// Says once that the queue rests.
 #[unsafe(no_mangle)]
 pub unsafe extern "C" fn wq_c_rest(at: *mut u8) -> u64
-    ghost old: { Kept }
-    requires* { sem 𝓛 (lies_at kept full_share at old) }
-    ensures* { sem 𝓛 (fex Kept (λ new. fex (SaidRest result old new) (λ _. lies_at kept full_share at new))) }
+    ghost old: { Sitting }
+    requires* { sem 𝓛 (lies_at seat_row full_share at old) }
+    ensures* { sem 𝓛 (fex Sitting (λ new. fex (SaidRest result old new) (λ _. lies_at seat_row full_share at new))) }
 {
     wq_seats::word::rest_word(&mut *(at as *mut Seat))
 }
@@ -228,9 +228,9 @@ pub unsafe extern "C" fn wq_c_rest(at: *mut u8) -> u64
 /// Queues an item from the execution that runs, while the queue is closed or drains.
 #[unsafe(no_mangle)]
 pub unsafe extern "C" fn wq_c_chain(at: *mut u8, item: u32) -> u64
-    ghost old: { Kept }
-    requires* { sem 𝓛 (lies_at kept full_share at old) }
-    ensures* { sem 𝓛 (fex Kept (λ new. fex (SaidChain item result old new) (λ _. lies_at kept full_share at new))) }
+    ghost old: { Sitting }
+    requires* { sem 𝓛 (lies_at seat_row full_share at old) }
+    ensures* { sem 𝓛 (fex Sitting (λ new. fex (SaidChain item result old new) (λ _. lies_at seat_row full_share at new))) }
 {
     wq_seats::word::chain_word(&mut *(at as *mut Seat), item)
 }
@@ -238,9 +238,9 @@ pub unsafe extern "C" fn wq_c_chain(at: *mut u8, item: u32) -> u64
 /// Whether the queue is closed and has run to its end.
 #[unsafe(no_mangle)]
 pub unsafe extern "C" fn wq_c_is_done(at: *mut u8) -> u64
-    ghost old: { Kept }
-    requires* { sem 𝓛 (lies_at kept full_share at old) }
-    ensures* { sem 𝓛 (fex Kept (λ new. fex (SaidDone result old new) (λ _. lies_at kept full_share at new))) }
+    ghost old: { Sitting }
+    requires* { sem 𝓛 (lies_at seat_row full_share at old) }
+    ensures* { sem 𝓛 (fex Sitting (λ new. fex (SaidDone result old new) (λ _. lies_at seat_row full_share at new))) }
 {
     wq_seats::word::is_done_word(&mut *(at as *mut Seat))
 }
