@@ -1,5 +1,6 @@
 -- What each kind of step does to the slots, and to the hand of the seat that makes it.
-use Rattle.std.proofs.Common.{◌≡◌, ◌≢◌, ℕ, ◌+◌, ◌%◌, ◌^◌, ◌<◌, ◌≤◌, ◌==◌, Bool, true, false, cond, if◌then◌else◌, List, [], ◌∷◌, ◌++◌, length, set, slice_get, Option, Some, None, sym, refl, ap, ◌∙◌, subst, arith, inl, inr, ⊎_elim}
+use Rattle.std.proofs.Common.{◌≡◌, ◌≢◌, ℕ, ◌+◌, ◌%◌, ◌^◌, ◌<◌, ◌≤◌, ◌==◌, Bool, true, false, cond, if◌then◌else◌, List, [], ◌∷◌, ◌++◌, length, set}
+use Rattle.std.proofs.Common.{slice_get, Option, Some, None, sym, refl, ap, ◌∙◌, subst, arith, inl, inr, ⊎_elim}
 use Rattle.std.proofs.lemmas.List.{append-nil, length_push}
 use Rattle.std.proofs.lemmas.Option.{slice_get_within}
 use Rattle.std.proofs.lemmas.Bool.{eqb-true, eqb-false, eq-eqb, ne_eqb}
@@ -23,7 +24,8 @@ use Rattle.wq_words.proofs.Order.{in_order}
 use Rattle.wq_words.proofs.Places.{counted_once, counted_twice, keeps_from_keeper}
 use Rattle.wq_words.proofs.Prefixes.{prefix_self}
 use Rattle.wq_words.proofs.Ranks.{slice_get-some}
-use Rattle.wq_core.specs.Machine.{Machine, head, link, item_word, seen_word, nothing_seen, with_head, with_item, with_private, with_done, done_word, happened, after_walk, after_begin, after_end}
+use Rattle.wq_core.specs.Machine.{Machine, head, link, item_word, seen_word, nothing_seen, with_head, with_item, with_private, with_done, done_word}
+use Rattle.wq_core.specs.Machine.{happened, after_walk, after_begin, after_end}
 use Rattle.wq_core.specs.Sound.{IsSound, AreChained, IsChain}
 use Rattle.wq_core.specs.Words.{number_at}
 use Rattle.wq_words.proofs.Times.{times, times-cons, times-append, times-reverse_aux, times-first}

@@ -18,7 +18,8 @@ use Rattle.wq_core.proofs.Sound.{sound_after}
 use Rattle.wq_words.proofs.Prefixes.{prefix_self}
 use Rattle.wq_table.proofs.Present.{stands_put, put_in}
 use Rattle.wq_table.proofs.Changes.{Change, changes, fits_other, keeps_after, links_known, links_spared}
-use Rattle.wq_table.proofs.Places.{moved_first, moved_rest, moved_chosen, moved_besides, chosen_fits, moved_fit, still_fits, seat_moved, seen_moved, AllSeen, all_moved}
+use Rattle.wq_table.proofs.Places.{moved_first, moved_rest, moved_chosen, moved_besides, chosen_fits, moved_fit, still_fits, seat_moved, seen_moved}
+use Rattle.wq_table.proofs.Places.{AllSeen, all_moved}
 
 abbrev Table : Type 0
 Table = State (Unit {0}) View

@@ -116,6 +116,22 @@ pub record ValueMeet {V : Type 0} (this that this' that' : ValueStanding V) : Ty
   pub this_is : this' ≡ knowing machine brought this
   pub that_is : that' ≡ knowing machine brought that
 
+-- one chair has the part of the first, and behind it the parts of the other: they have seen all that has happened, and know all
+-- that was brought
+pub record ValueJoined {V : Type 0} (this that both : ValueStanding V) : Type 0 where
+  pub machine : Machine
+  pub sound : IsSound machine
+  pub this_fits : SeatedIn machine (standing_of this)
+  pub that_fits : SeatedIn machine (standing_of that)
+  pub brought : List (Option V)
+  pub as_many : length brought ≡ length (accepted machine.history)
+  pub this_knows : AllKnow brought (this.first ∷ this.others)
+  pub that_knows : AllKnow brought (that.first ∷ that.others)
+  pub queue_is : both.queue ≡ this.queue
+  pub first_is : both.first ≡ telling brought (see machine.history this.first.part)
+  pub others_are : both.others ≡ map (telling brought) (all_see machine.history (that.first.part ∷ plain_view that.others))
+  pub hand_is : both.hand ≡ that.hand
+
 -- the chairs of the senders below m, which have seen nothing and have nothing in hand
 abbrev pub value_sender : {V : Type 0} → TableId → Layout → ℕ → ValueStanding V
 value_sender queue layout c = record { queue = queue; first = telling [] (sender_part layout c); others = []; hand = [] }

@@ -10,7 +10,7 @@ ghost use Rattle.wq_core.specs.declared.step.Step.TheVariants.{Hold, Look, Link,
 ghost use Rattle.wq_table.specs.Plays.{Performs};
 ghost use Rattle.wq_table.specs.Chair.{IsSender, HasSeen, HasLinked, HasNone, IsOwner, IsToWalk, IsToTurn, IsToBegin, IsRested};
 ghost use Rattle.wq_table.specs.SlotSteps.{GoesBy, in_front};
-ghost use Rattle.wq_table.specs.SlotChairs.{part_in, ValueSteps, HasSlot, HasValue, Exchanges, TurnsHand, ValueMeet};
+ghost use Rattle.wq_table.specs.SlotChairs.{part_in, ValueSteps, HasSlot, HasValue, Exchanges, TurnsHand, ValueMeet, ValueJoined};
 
 use super::table::{
     Begins, Both, Cancels, Chains, Checks, Closes, Drains, Ends, FindsClosed, FindsDraining,
@@ -420,5 +420,67 @@ impl<V> ValueChair<V> {
             seat,
             layout,
         }
+    }
+}
+
+impl<V: Drop> ValueChair<V> {
+    /// Two chairs of one queue become one, whose parts have seen all that has happened and know all that was brought. The first
+    /// has one part and nothing in hand, and its part comes first.
+    pub fn join(self, other: ValueChair<V>) -> ValueChair<V>
+        requires queue { other.queue ≡ self.queue }
+        requires empty { self.hand ≡ [] }
+        requires alone { self.others ≡ [] }
+        ensures joined { ValueJoined self other result }
+    {
+        let ValueChair {
+            words,
+            spare: _,
+            seat: mine,
+            layout,
+        } = self;
+        let ValueChair {
+            words: spare,
+            spare: _,
+            mut seat,
+            layout: _,
+        } = other;
+        words.shared.join_seat::<Both>(&mut seat, mine);
+        words.shared.load::<Meets>(&mut seat, done_place(layout));
+        ValueChair {
+            words,
+            spare: Some(spare),
+            seat,
+            layout,
+        }
+    }
+
+    /// A chair of its own again for each part of a chair of two that has nothing in hand.
+    pub fn split(self) -> (ValueChair<V>, ValueChair<V>)
+        requires two { length self.others ≡ 1 }
+        requires empty { self.hand ≡ [] }
+        ensures first { (result.0.queue ≡ self.queue) × (result.0.first ≡ self.first) × (result.0.others ≡ []) × (result.0.hand ≡ []) }
+        ensures second { (result.1.queue ≡ self.queue) × (result.1.first ∷ [] ≡ self.others) × (result.1.others ≡ []) × (result.1.hand ≡ []) }
+    {
+        let ValueChair {
+            words,
+            spare,
+            mut seat,
+            layout,
+        } = self;
+        let Some(spare) = spare else { unreachable!() };
+        let front: ValueSeat<V> = words.shared.split_seat::<Off>(&mut seat);
+        let first = ValueChair {
+            words,
+            spare: None,
+            seat: front,
+            layout,
+        };
+        let second = ValueChair {
+            words: spare,
+            spare: None,
+            seat,
+            layout,
+        };
+        (first, second)
     }
 }
