@@ -17,3 +17,4 @@ pub mod Meetings
 pub mod SlotTold
 pub mod SlotMet
 pub mod SlotMade
+pub mod SlotMetAll

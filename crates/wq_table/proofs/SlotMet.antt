@@ -11,7 +11,7 @@ use Rattle.wq_table.specs.SlotSteps.{ValueSat, ValuesSeen}
 use Rattle.wq_table.specs.SlotChairs.{ValueStanding, ValueJoined, first_told, value_standing, ValueSits, ValueMeet}
 use Rattle.wq_table.proofs.Told.{sized_seeing}
 use Rattle.wq_table.proofs.ValueRule.{plain_telling}
-use Rattle.wq_table.proofs.SlotTold.{with_seat, sized_in, sits_with, whole_view}
+use Rattle.wq_table.proofs.SlotTold.{with_seat, sized_in, sits_known, whole_view}
 
 module _ {V : Type 0} (this that : ValueStanding V) (me other both sees : ValueSat V) (has : me ≡ (this.first ∷ this.others, this.hand))
     (other_has : other ≡ (that.first ∷ that.others, that.hand)) (alone : that.others ≡ []) (joined : both ≡ (other.0 ++ me.0, me.1))
@@ -56,25 +56,15 @@ module _ {V : Type 0} (this that : ValueStanding V) (me other both sees : ValueS
 
   pub sits_met : (mine : ValueSat V) (s t : Inside V) → mine ≡ (rest_values sees.0, sees.1) → ValueSits s → value_standing s ≡ this → t.words ≡ s.words
       → t.spare ≡ s.spare → t.layout ≡ s.layout → t.seat.table_id ≡ s.seat.table_id → t.seat.me ≡ mine → ValueSits t
-  sits_met mine s t rest sits is words spare layout table at =
-      let v : View = this.first.part ∷ plain_view this.others in
-      let view : plain_view t.seat.me.0 ≡ all_see all.machine.history v =
-      ap (λ (z : ValueSat V). plain_view z.0) (at ∙ rest) ∙ (ap (λ (w : ValueView V). plain_view (rest_values w)) now_is ∙
-      plain_telling all.brought (all_see all.machine.history v)) in
-      sits_with s t (see all.machine.history this.first.part) (all_see all.machine.history (plain_view this.others)) sits words spare layout table view
-      (sized_seeing s.layout all.machine.history v (sized_in s this sits is))
-      (λ more none. more (ap rest_values (ap (λ (z : ValueSat V). z.0) (at ∙ rest) ∙ ap rest_values now_is) ∙
-      ap (λ (w : ValueView V). map (telling all.brought) (all_see all.machine.history (plain_view w))) (sym (ap (λ
-      (x : ValueStanding V). x.others) is) ∙ none)))
+  sits_met mine s t rest sits is words spare layout table at = sits_known all.machine all.brought this s t sits is words spare layout table
+      (ap (λ (z : ValueSat V). z.0) (at ∙ rest) ∙ ap rest_values now_is)
 
   pub sits_cut : (theirs : ValueSat V) (s t : Inside V) → theirs ≡ (front_values sees.0, []) → ValueSits s → value_standing s ≡ that → t.words ≡ s.words
       → t.spare ≡ s.spare → t.layout ≡ s.layout → t.seat.table_id ≡ s.seat.table_id → t.seat.me ≡ theirs → ValueSits t
-  sits_cut theirs s t first sits is words spare layout table at =
-      let view : plain_view t.seat.me.0 ≡ see all.machine.history that.first.part ∷ [] =
-      ap (λ (z : ValueSat V). plain_view z.0) (at ∙ first) ∙ ap (λ (w : ValueView V). plain_view (front_values w)) now_is in
-      sits_with s t (see all.machine.history that.first.part) [] sits words spare layout table view
-      ((sized_in s that sits is).0, tt)
-      (λ more none. more (ap rest_values (ap (λ (z : ValueSat V). z.0) (at ∙ first) ∙ ap front_values now_is)))
+  sits_cut theirs s t first sits is words spare layout table at = sits_known all.machine all.brought that s t sits is words spare layout table
+      (ap (λ (z : ValueSat V). z.0) (at ∙ first) ∙ (ap front_values now_is ∙
+      ap (λ (w : ValueView V). telling all.brought (see all.machine.history that.first.part) ∷ map (telling all.brought) (all_see all.machine.history
+      (plain_view w))) (sym alone)))
 
   -- the other's part is joined to this chair, and they look
   pub joined_slots : (q : TableId) (l : Layout) → q ≡ that.queue → ValueJoined that this (with_seat q l sees)

@@ -1,5 +1,5 @@
 -- What a chair whose table may have slots learns from its steps.
-use Rattle.std.proofs.Common.{◌≡◌, ◌≢◌, ℕ, zero, suc, ◌<◌, arith, List, [], ◌∷◌, length, sym, refl, ap, ◌∙◌, subst, Option}
+use Rattle.std.proofs.Common.{◌≡◌, ◌≢◌, ℕ, zero, suc, ◌<◌, arith, List, [], ◌∷◌, length, map, sym, refl, ap, ◌∙◌, subst, Option}
 use Rattle.std.specs.Arc.{arc_value}
 use Rattle.atomic_table.specs.Seated.{TableId}
 use Rattle.wq_words.specs.declared.layout.Layout.{Layout}
@@ -13,9 +13,12 @@ use Rattle.wq_table.specs.Law.{View}
 use Rattle.wq_table.specs.Places.{chosen, MakesAt}
 use Rattle.wq_table.specs.Chair.{part_at}
 use Rattle.wq_table.specs.Sits.{first_part, AreSized}
-use Rattle.wq_table.specs.Slots.{ValueView, plain_view, AllKnow, rest_values}
+use Rattle.wq_core.specs.Machine.{Machine}
+use Rattle.wq_table.specs.Plays.{see, all_see}
+use Rattle.wq_table.specs.Slots.{ValueView, plain_view, AllKnow, telling, rest_values}
+use Rattle.wq_table.proofs.ValueRule.{plain_telling}
 use Rattle.wq_table.specs.SlotSteps.{Hand, ValueSat, Moves, AllTold, GoesBy, ValueMakes}
-use Rattle.wq_table.specs.SlotChairs.{ValueStanding, standing_of, ValueSteps, first_told, value_standing, ValueSits}
+use Rattle.wq_table.specs.SlotChairs.{ValueStanding, standing_of, ValueSteps, first_told, value_standing, ValueSits, knowing}
 use Rattle.wq_table.proofs.Changes.{changes}
 use Rattle.wq_table.proofs.Told.{chosen_sized, besides_sized, all_sized, sized_seeing, still_alone}
 use Rattle.wq_table.proofs.Bare.{by_bare}
@@ -167,3 +170,18 @@ module _ {V : Type 0} where
       (subst (AreSized s.layout) (sym it.moves.others_are) (sized_seeing s.layout _ _ (besides_sized s.layout at it.part it.others was))))
       (rest_some s.seat.me.0 t.seat.me.0 (λ more none. still_alone _ at it.part it.others it.part' it.others' it.moves.others_are
       (λ e. more (to.1 ∙ e)) (sym from.1 ∙ none)))
+
+  -- the view of a chair that has seen all that has happened
+  abbrev pub known_view : Machine → List (Option V) → ValueStanding V → ValueView V
+  known_view m brs it = (knowing m brs it).first ∷ (knowing m brs it).others
+
+  -- a chair whose seat has that view is as its invariant has it
+  pub sits_known : (m : Machine) (brs : List (Option V)) (it : ValueStanding V) (s t : Inside V) → ValueSits s → value_standing s ≡ it → t.words ≡ s.words
+      → t.spare ≡ s.spare → t.layout ≡ s.layout → t.seat.table_id ≡ s.seat.table_id → t.seat.me.0 ≡ known_view m brs it → ValueSits t
+  sits_known m brs it s t sits is words spare layout table at =
+      let v : View = it.first.part ∷ plain_view it.others in
+      sits_with s t (see m.history it.first.part) (all_see m.history (plain_view it.others)) sits words spare layout table
+      (ap plain_view at ∙ plain_telling brs (all_see m.history v))
+      (sized_seeing s.layout m.history v (sized_in s it sits is))
+      (λ more none. more (ap rest_values at ∙
+      ap (λ (w : ValueView V). map (telling brs) (all_see m.history (plain_view w))) (sym (ap (λ (x : ValueStanding V). x.others) is) ∙ none)))

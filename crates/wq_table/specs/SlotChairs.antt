@@ -116,6 +116,22 @@ pub record ValueMeet {V : Type 0} (this that this' that' : ValueStanding V) : Ty
   pub this_is : this' ≡ knowing machine brought this
   pub that_is : that' ≡ knowing machine brought that
 
+-- the same of three
+pub record ValueMeetAll {V : Type 0} (this that third this' that' third' : ValueStanding V) : Type 0 where
+  pub machine : Machine
+  pub sound : IsSound machine
+  pub this_fits : SeatedIn machine (standing_of this)
+  pub that_fits : SeatedIn machine (standing_of that)
+  pub third_fits : SeatedIn machine (standing_of third)
+  pub brought : List (Option V)
+  pub as_many : length brought ≡ length (accepted machine.history)
+  pub this_knows : AllKnow brought (this.first ∷ this.others)
+  pub that_knows : AllKnow brought (that.first ∷ that.others)
+  pub third_knows : AllKnow brought (third.first ∷ third.others)
+  pub this_is : this' ≡ knowing machine brought this
+  pub that_is : that' ≡ knowing machine brought that
+  pub third_is : third' ≡ knowing machine brought third
+
 -- one chair has the part of the first, and behind it the parts of the other: they have seen all that has happened, and know all
 -- that was brought
 pub record ValueJoined {V : Type 0} (this that both : ValueStanding V) : Type 0 where

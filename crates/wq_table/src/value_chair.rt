@@ -10,7 +10,7 @@ ghost use Rattle.wq_core.specs.declared.step.Step.TheVariants.{Hold, Look, Link,
 ghost use Rattle.wq_table.specs.Plays.{Performs};
 ghost use Rattle.wq_table.specs.Chair.{IsSender, HasSeen, HasLinked, HasNone, IsOwner, IsToWalk, IsToTurn, IsToBegin, IsRested};
 ghost use Rattle.wq_table.specs.SlotSteps.{GoesBy, in_front};
-ghost use Rattle.wq_table.specs.SlotChairs.{part_in, ValueSteps, HasSlot, HasValue, Exchanges, TurnsHand, ValueMeet, ValueJoined};
+ghost use Rattle.wq_table.specs.SlotChairs.{part_in, ValueSteps, HasSlot, HasValue, Exchanges, TurnsHand, ValueMeet, ValueMeetAll, ValueJoined};
 
 use super::table::{
     Begins, Both, Cancels, Chains, Checks, Closes, Drains, Ends, FindsClosed, FindsDraining,
@@ -420,6 +420,52 @@ impl<V> ValueChair<V> {
             seat,
             layout,
         }
+    }
+
+    /// Three seats of one queue meet, of which the others have nothing in hand: afterwards each has seen all that has happened,
+    /// and knows all that was brought.
+    pub fn meet_both(
+        &mut self,
+        other: ValueChair<V>,
+        third: ValueChair<V>,
+    ) -> (ValueChair<V>, ValueChair<V>)
+        requires other { other.queue ≡ self.old.queue }
+        requires third { third.queue ≡ self.old.queue }
+        requires empty { (other.hand ≡ []) × (third.hand ≡ []) }
+        requires alone { (other.others ≡ []) × (third.others ≡ []) }
+        ensures all { ValueMeetAll self.old other third self.new result.0 result.1 }
+    {
+        let ValueChair {
+            words: other_words,
+            spare: other_spare,
+            seat: others,
+            layout: other_layout,
+        } = other;
+        let ValueChair {
+            words,
+            spare,
+            seat: thirds,
+            layout,
+        } = third;
+        let table = &self.words.shared;
+        table.join_seat::<Both>(&mut self.seat, others);
+        table.join_seat::<Both>(&mut self.seat, thirds);
+        table.load::<Meets>(&mut self.seat, done_place(self.layout));
+        let thirds: ValueSeat<V> = table.split_seat::<Off>(&mut self.seat);
+        let others: ValueSeat<V> = table.split_seat::<Off>(&mut self.seat);
+        let other = ValueChair {
+            words: other_words,
+            spare: other_spare,
+            seat: others,
+            layout: other_layout,
+        };
+        let third = ValueChair {
+            words,
+            spare,
+            seat: thirds,
+            layout,
+        };
+        (other, third)
     }
 }
 

@@ -14,7 +14,7 @@ fetch_or-requires g c = let s = c.self.inside in let it = c.args.self.now in let
 pub returns : goal.returns
 returns g c = let s = c.self.inside in let it = c.args.self.now in
     told_values s.layout g.P.Place.at c.deref.result.now.shared.table_id.slots
-    (g.K.Kind.step c.args.place 0) g.G.Says.said c.fetch_or.result it s.seat.me c.fetch_or.new.seat.me _
+    (g.K.Kind.step c.args.place 0) g.G.Says.said c.fetch_or.result it s.seat.me c.fetch_or.new.seat.me c.fetch_or.new.seat.table_id
     (seat_is s it c.self.invariant c.self.view_is) (slots_are s it c.self.invariant c.self.view_is c.deref.result.now c.deref.ensures)
     (search rules) c.fetch_or.ensures.2
 

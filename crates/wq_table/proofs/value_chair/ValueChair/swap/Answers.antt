@@ -14,7 +14,7 @@ swap-requires g c = let s = c.self.inside in let it = c.args.self.now in let sit
 pub returns : goal.returns
 returns g c = let s = c.self.inside in let it = c.args.self.now in
     told_values s.layout g.P.Place.at c.deref.result.now.shared.table_id.slots
-    (g.K.Kind.step c.args.place 0) None c.swap.result it s.seat.me c.swap.new.seat.me _
+    (g.K.Kind.step c.args.place 0) None c.swap.result it s.seat.me c.swap.new.seat.me c.swap.new.seat.table_id
     (seat_is s it c.self.invariant c.self.view_is) (slots_are s it c.self.invariant c.self.view_is c.deref.result.now c.deref.ensures)
     (search rules) c.swap.ensures.2
 
