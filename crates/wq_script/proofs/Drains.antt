@@ -191,7 +191,7 @@ module _ (layout : Layout) (x : Tally) (s : ScriptState) (limit : ℕ) where
   pub drained_at_once : (a b : Seats) → Meets (engine layout a x) s → Goes layout (end_drain (begin_drain s.history)) a b
       → (left_in (begin_drain s.history) == 0) ≡ true
       → Meets (engine layout b x) (record s { history = after_drain layout s limit }) × ([] ≡ ended_since s.history (after_drain layout s limit))
-    unfolding ran
+  unfolding ran
   drained_at_once a b m goes all_ended =
       let h : List Event = s.history in let g : List Event = begin_drain h in
       let order = in_order m.seated.wide h m.seated.legal in
@@ -216,7 +216,7 @@ module _ (layout : Layout) (x : Tally) (s : ScriptState) (limit : ℕ) where
       → (left_in (begin_drain s.history) == 0) ≡ false → RunsAs layout limit None ks b c
       → ((h : List Event) → Seated layout c h → Goes layout (end_drain (begin_drain h)) c d)
       → Meets (engine layout d x) (record s { history = after_drain layout s limit }) × (ks ≡ ended_since s.history (after_drain layout s limit))
-    unfolding ran
+  unfolding ran
   drained_in_turn a b c d ks m goes some runs ends =
       let h : List Event = s.history in let g : List Event = begin_drain h in
       let v : ScriptState = record s { history = g } in
