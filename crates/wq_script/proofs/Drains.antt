@@ -184,7 +184,7 @@ module _ (layout : Layout) (x : Tally) (s : ScriptState) (limit : ℕ) where
       (goes.table ∙ m.table)
 
   -- the history after the executions of a drain
-  ran : List Event
+  pub ran : List Event
   ran = after_row layout (record s { history = begin_drain s.history }) limit None
 
   -- a drain at whose beginning nothing is left
@@ -210,6 +210,16 @@ module _ (layout : Layout) (x : Tally) (s : ScriptState) (limit : ℕ) where
         subst (λ (v : List Event). Meets (engine layout b x) (record s { history = v })) same (none_meets a b s m goes),
         sym empty ∙ (ap (drop (length (ended h))) (sym ends) ∙ ap (ended_since h) same),
       )
+
+  -- the seats after the executions of a drain, which was begun with something left
+  pub ran_meets_so : (a b c : Seats) (ks : List ℕ) → Meets (engine layout a x) s → Goes layout (end_drain (begin_drain s.history)) a b
+      → (left_in (begin_drain s.history) == 0) ≡ false → RunsAs layout limit None ks b c → Meets (engine layout c x) (record s { history = ran })
+  unfolding ran
+  ran_meets_so a b c ks m goes some runs =
+      let g : List Event = begin_drain s.history in
+      let begins : Meets (engine layout b x) (record s { history = g }) =
+      subst (λ (y : List Event). Meets (engine layout b x) (record s { history = y })) (some_left_ended g some) (none_meets a b s m goes) in
+      (ran_meets layout b c x (record s { history = g }) limit (ends_at None) ks begins (runs g begins.seated begins.idle begins.lists)).0
 
   -- a drain of some executions, by seats that begin it, execute, and end it where nothing is left
   pub drained_in_turn : (a b c d : Seats) (ks : List ℕ) → Meets (engine layout a x) s → Goes layout (end_drain (begin_drain s.history)) a b
