@@ -18,7 +18,7 @@ pub record Replays (text output : List ℕ) : Type 0 where
 -- the text spells a schedule, and these are the bytes of the history that its steps make
 pub record Records (text recording : List ℕ) : Type 0 where
   pub schedule : Schedule
-  pub spells : Spells schedule_line text (schedule_layout schedule) (turns_of schedule)
+  pub spells : Spells (schedule_lines text) text (schedule_layout schedule) (turns_of schedule)
   pub recording_is : IsRecordingOf (schedule_layout schedule) (turns_of schedule) recording
 
 -- the text has no output: it is refused for this, or memory was wanting

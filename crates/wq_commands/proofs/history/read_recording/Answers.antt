@@ -1,6 +1,5 @@
-use Rattle.std.proofs.Common.{◌≡◌}
 use Rattle.wq_commands.specs.ScheduleReport.{Records, HasNoOutput}
-use Rattle.wq_commands.proofs.Endings.{of_read, fails_unread, fails_unmade, fails_made}
+use Rattle.wq_commands.proofs.Endings.{fails_made}
 use Rattle.wq_commands.proofs.history.read_recording.Goals as goal
 
 pub returns-clause-none : goal.returns-clause-none
