@@ -7,7 +7,7 @@ defined in docs/DEFINITIONS.md: to stand there, in backquotes, in the first colu
 a heading that names its crate, or in a row whose `File` does. And each word that is defined there is to be one of that crate's
 specs, in a file that the row names where its table has a column `File`.
 
-Programs and tests are left out, since they promise nothing to a caller. The two examples of users count: README.md says what
+Programs and tests are left out, since they promise nothing to a caller. The examples of users count: README.md says what
 their contracts say.
 """
 import re

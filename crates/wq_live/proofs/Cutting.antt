@@ -1,24 +1,30 @@
 -- A swap of the head by the owner, and the walk of what was found.
-use Rattle.std.proofs.Common.{◌≡◌, ℕ, ◌+◌, List, [], ◌∷◌, length, sym, refl, ap, ◌∙◌, subst, arith}
+use Rattle.std.proofs.Common.{◌≡◌, ℕ, ◌+◌, List, [], ◌∷◌, length, None, sym, refl, ap, ◌∙◌, subst, arith}
 use mathlib.Core.List.{IsPrefix}
 use Rattle.wq_words.specs.declared.event.Event.{Event}
 use Rattle.wq_words.specs.Seen.{owner_seat, Grows}
 use Rattle.wq_core.specs.declared.step.Step.{Step}
 use Rattle.wq_core.specs.Words.{head_at, item_of}
 use Rattle.wq_table.specs.Chair.{Standing, Steps}
-use Rattle.wq_live.specs.declared.owner_seat.OwnerSeat.{OwnerSeat as Inside}
+use Rattle.wq_table.specs.SlotChairs.{ValueStanding, standing_of, ValueSteps}
+use Rattle.wq_table.proofs.Learns.{learns_step}
+use Rattle.wq_live.specs.Sits.{Owning as Inside}
 use Rattle.wq_live.specs.Known.{Sees}
 use Rattle.wq_live.specs.Batch.{batch, TakesAll}
-use Rattle.wq_live.specs.Sits.{owner_view, Stands, OnlySees, HasRow, OwnsQueue, phase, kept_batch, walking}
+use Rattle.wq_live.specs.declared.owner_seat.OwnerSeat.{OwnerSeat}
+use Rattle.wq_live.specs.Hands.{OwnsSlots, OwnsSeat}
+use Rattle.wq_live.specs.Sits.{owning, owner_view, Stands, OnlySees, HasRow, OwnsQueue, phase, kept_batch, walking}
 use Rattle.wq_live.proofs.Tells.{Tells}
 use Rattle.wq_live.proofs.Owned.{running_quiet, counts_quiet}
 use Rattle.wq_live.proofs.OwnerTells.{stands_batch, owner_batch, pair_owner, Swaps, swap_tells, swap_stage, owner_grows, owner_sees}
+use Rattle.wq_live.proofs.OwnerHands.{slots_told}
 use Rattle.wq_live.proofs.Linking.{walks_kept, walks_batch}
 use Rattle.wq_live.proofs.Taken.{CutsAll}
 use Rattle.wq_live.proofs.Taking.{followed, cut_takes}
 
 -- the owner is s before, its chair q after the swap, and it is t after the walk
-module _ (st : Step) (word : ℕ) (e : Event) (swaps : Swaps st word e) (found : ℕ) (s : Inside) (q : Standing) (o : OwnsQueue s) (steps : Steps 0 st found s.chair q) where
+module _ (st : Step) (word : ℕ) (e : Event) (swaps : Swaps st word e) (found : ℕ) (s : Inside) (q : Standing) (o : OwnsQueue s)
+    (steps : Steps 0 st found s.chair q) where
   -- what the head had is to be walked
   pub cut_stage : q.part.stage ≡ walking (item_of (head_at found)) [] (kept_batch s.chair.part.stage)
   cut_stage = swap_stage st word e swaps found s.chair.part q.part (kept_batch s.chair.part.stage) o.has_row.stage_is steps.moves.makes
@@ -59,7 +65,10 @@ module _ (st : Step) (word : ℕ) (e : Event) (swaps : Swaps st word e) (found :
 
     pub cut_behind : IsPrefix (kept_batch q.part.stage) (kept_batch t.chair.part.stage) → IsPrefix (batch s.chair.part.seen) (batch t.chair.part.seen)
     cut_behind behind = subst (λ (z : List ℕ × List ℕ). IsPrefix z.0 z.1)
-        (λ i. ((walks_batch q.part.stage (item_of (head_at found)) (kept_batch s.chair.part.stage) cut_stage ∙ owner_batch s (owner_view s) refl o) i, batch_now i))
+        (λ i. (
+          (walks_batch q.part.stage (item_of (head_at found)) (kept_batch s.chair.part.stage) cut_stage ∙ owner_batch s (owner_view s) refl o) i,
+          batch_now i,
+        ))
         behind
 
     pub cut_count : (count : ℕ) → count + s.row.count ≡ t.row.count → length (batch t.chair.part.seen) ≡ length (batch s.chair.part.seen) + count
@@ -71,3 +80,15 @@ module _ (st : Step) (word : ℕ) (e : Event) (swaps : Swaps st word e) (found :
       ap (λ (xs : List ℕ). length xs) batch_now,
       ap (λ (xs : List ℕ). length xs) (owner_batch s (owner_view s) refl o),
     )
+
+-- the slots of what waited are in hand still
+pub cut_slots : {V : Type 0} (st : Step) (word : ℕ) (e : Event) (swaps : Swaps st word e) (found : ℕ) (s : OwnerSeat V) (new : ValueStanding V)
+    (owns : OwnsSeat s)
+    (steps : ValueSteps 0 None st found s.chair new) → new.hand ≡ s.chair.hand → OwnsSlots new (kept_batch new.first.part.stage)
+cut_slots st word e swaps found s new owns steps hand =
+    let p = s.chair.first.part in let ks = kept_batch p.stage in let o = owns.queue in
+    subst (OwnsSlots new)
+    (sym (walks_batch new.first.part.stage (item_of (head_at found)) ks (cut_stage st word e swaps found (owning s) (standing_of new) o steps.steps)))
+    (slots_told s.chair new ks o.number_is (e ∷ []) 0 (learns_step 0 None st found s.chair new steps)
+    (swap_tells st word e swaps found p new.first.part o.number_is (pair_owner p.stage ks o.has_row.stage_is) steps.steps.moves.makes) swaps.begins hand
+    owns.slots)

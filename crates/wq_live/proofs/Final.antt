@@ -25,7 +25,7 @@ use Rattle.std.proofs.lemmas.Bool.{false≢true, false_from_ne_true}
 use Rattle.std.proofs.lemmas.Option.{slice_get_within}
 use Rattle.wq_words.proofs.Closed.{closed_from_IsClosed, IsClosed_from_closed, closed_shuts}
 use Rattle.wq_words.proofs.Running.{runs_some}
-use Rattle.wq_live.specs.declared.owner_seat.OwnerSeat.{OwnerSeat as Inside}
+use Rattle.wq_live.specs.Sits.{Owning as Inside}
 use Rattle.wq_live.specs.Known.{Known}
 use Rattle.wq_live.specs.Answers.{IsFinal}
 use Rattle.wq_live.specs.Batch.{batch}

@@ -145,7 +145,7 @@ pub record Turning (ks : List ℕ) (next : Option ℕ) (row : Row) (p q : Part) 
   pub stage_is : q.stage ≡ walking next (row.front ∷ rest) ks
   pub old_row : (r : Row) → IsRowOf p.words r ks → IsRowOf q.words r ks
 
-pub turning_first : (c found : ℕ) (p q : Part) (ks : List ℕ) → p.stage ≡ Owns (Some c) [] ks → Makes Walk found p q
+unfoldable pub turning_first : (c found : ℕ) (p q : Part) (ks : List ℕ) → p.stage ≡ Owns (Some c) [] ks → Makes Walk found p q
     → Turning ks (number_at found) (record { front = c; last = c; count = 1 }) p q
 turning_first c found p q ks is makes = record {
   rest = [];
@@ -195,7 +195,7 @@ module _ (ks : List ℕ) (next : Option ℕ) (number found : ℕ) (row : Row) (p
       omega (arith, once, walked_lists.same number, times-first number (row.front ∷ turning.rest), same)
 
   module _ (r : Part) (turns : Makes (Turn number (Some row.front)) (row.front + 1) t r) where
-    spared : (k : ℕ) → 0 < times k (row.front ∷ turning.rest) + times k ks → link_in r.words k ≡ link_in q.words k
+    pub spared : (k : ℕ) → 0 < times k (row.front ∷ turning.rest) + times k ks → link_in r.words k ≡ link_in q.words k
     spared k some =
         turn_else number row.front (row.front + 1) t r walked_lists.cursor walked_lists.walked walked_lists.batch lists_is turns k (others k some)
         (omega (arith, some, within k)) ∙
@@ -207,7 +207,7 @@ module _ (ks : List ℕ) (next : Option ℕ) (number found : ℕ) (row : Row) (p
     pub turned_tells : Tells [] t r
     turned_tells = turn_tells number row.front (row.front + 1) t r walked_lists.cursor walked_lists.walked walked_lists.batch lists_is turns
 
-    pub turning_next : Turning ks (number_at found) (record { front = number; last = row.last; count = row.count + 1 }) p r
+    unfoldable pub turning_next : Turning ks (number_at found) (record { front = number; last = row.last; count = row.count + 1 }) p r
     turning_next = record {
       rest = (row.front ∷ turning.rest);
       count_is = omega (arith, turning.count_is);

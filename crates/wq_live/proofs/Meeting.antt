@@ -10,7 +10,7 @@ use Rattle.wq_table.specs.Law.{HasStage, IsPartOf}
 use Rattle.wq_table.specs.Plays.{see}
 use Rattle.wq_table.specs.Chair.{Standing, IsSender, seeing}
 use Rattle.wq_words.proofs.Prefixes.{prefix_self}
-use Rattle.wq_live.specs.declared.owner_seat.OwnerSeat.{OwnerSeat as Inside}
+use Rattle.wq_live.specs.Sits.{Owning as Inside}
 use Rattle.wq_live.specs.Known.{Known, Sees}
 use Rattle.wq_live.specs.Sits.{Sending, owner_view, sender_view, Sends, Stands, HasRow, OwnsQueue}
 use Rattle.wq_live.proofs.Tells.{Tells, meet_tells}

@@ -25,7 +25,7 @@ use Rattle.wq_table.specs.Law.{seat_at, HasStage}
 use Rattle.wq_table.specs.Plays.{stage_after, swapped, walked_on, Makes}
 use Rattle.wq_table.specs.Chair.{IsOwner, HasNone, IsToBegin}
 use Rattle.wq_words.proofs.Seen.{own_one, begun_same, ended_same}
-use Rattle.wq_live.specs.declared.owner_seat.OwnerSeat.{OwnerSeat as Inside}
+use Rattle.wq_live.specs.Sits.{Owning as Inside}
 use Rattle.wq_live.specs.Known.{Known, Sees}
 use Rattle.wq_live.specs.Batch.{batch}
 use Rattle.wq_live.specs.Sits.{owner_view, Stands, OwnsQueue, kept_batch, walking}

@@ -23,7 +23,7 @@ use Rattle.wq_table.specs.declared.table.Stage.TheVariants.{Sends, Owns}
 use Rattle.wq_table.specs.Law.{seat_at}
 use Rattle.wq_table.specs.Plays.{stage_after, Makes}
 use Rattle.wq_table.specs.Chair.{Standing, IsOwner}
-use Rattle.wq_live.specs.declared.owner_seat.OwnerSeat.{OwnerSeat as Inside}
+use Rattle.wq_live.specs.Sits.{Owning as Inside}
 use Rattle.wq_live.specs.Known.{Known, IsSame}
 use Rattle.wq_live.specs.Batch.{batch}
 use Rattle.wq_live.specs.Sits.{owner_view, OwnsQueue, kept_batch}

@@ -13,7 +13,7 @@ use Rattle.wq_table.specs.declared.table.Stage.{Stage}
 use Rattle.wq_table.specs.declared.table.Stage.TheVariants.{Owns}
 use Rattle.wq_table.specs.Plays.{stage_after, swapped}
 use Rattle.wq_table.specs.Chair.{Standing, Steps}
-use Rattle.wq_live.specs.declared.owner_seat.OwnerSeat.{OwnerSeat as Inside}
+use Rattle.wq_live.specs.Sits.{Owning as Inside}
 use Rattle.wq_live.specs.declared.owner_seat.Phase.TheVariants.{Open}
 use Rattle.wq_live.specs.Known.{Sees}
 use Rattle.wq_live.specs.Batch.{batch}

@@ -168,23 +168,25 @@ after_push m c k w (Sends r) is keeps =
     (ap (λ (x : Private). unwrap_or x.seen 0) keeps.1 ∙ ap (λ (o : Option ℕ). unwrap_or o 0) is.0)
 after_push m c k w (Owns a b d) is keeps = elim is [ ]
 
--- pushed, as the newest event
-pub record Wins (k w : ℕ) (p q : Part) : Type 0 where
+-- pushed, as the newest event, where h had happened before
+pub record Wins (h : List Event) (k w : ℕ) (p q : Part) : Type 0 where
   pub told : Tells (event.Push p.seat k ∷ []) p q
   pub pushed : IsPushed p.seat k (link_word w == 0) (w == 0) q.seen
+  pub before_is : pushed.before ≡ h
 
 -- the head was another
 pub record Loses (w : ℕ) (p q : Part) : Type 0 where
   pub told : Tells [] p q
   pub head_is : head_word_of q.seen ≢ w
 
-pub push_tells : (k w word : ℕ) (p q : Part) → HasLinked w k p.stage → Makes (Push k) word p q → MatchBool (word == w) (Wins k w p q) (Loses w p q)
+pub push_tells : (k w word : ℕ) (p q : Part) → HasLinked w k p.stage → (makes : Makes (Push k) word p q)
+    → MatchBool (word == w) (Wins makes.before.history k w p q) (Loses w p q)
 push_tells k w word p q is makes =
-    subst (λ (x : ℕ). MatchBool (x == w) (Wins k w p q) (Loses w p q)) (sym makes.word_is)
+    subst (λ (x : ℕ). MatchBool (x == w) (Wins makes.before.history k w p q) (Loses w p q)) (sym makes.word_is)
     (go (head makes.before == w) refl (after_push makes.before p.seat k w p.stage is makes.fits.keeps))
   where
     won : after makes.before (seat_at p.seat p.stage) (Push k) ≡ happened (with_private (with_head makes.before (k + 1)) p.seat nothing_seen)
-        (event.Push p.seat k) → (head makes.before == w) ≡ true → Wins k w p q
+        (event.Push p.seat k) → (head makes.before == w) ≡ true → Wins makes.before.history k w p q
     won e same = let m = makes.before in let h = m.history in
         let seen : q.seen ≡ h ++ event.Push p.seat k ∷ [] = seen_after (Push k) word p q makes _ _ e refl in
         let told : Tells (event.Push p.seat k ∷ []) p q = tells (Push k) word p q makes _ _ e refl refl (own_one p.seat (event.Push p.seat k) refl) in
@@ -198,6 +200,7 @@ push_tells k w word p q is makes =
             first_is = ap (λ (x : ℕ). link_word x == 0) (sym (eqb-true (head m) w same)) ∙ head_first m makes.sound allowed.2.1;
             wakes_is = ap (λ (x : ℕ). x == 0) (sym (eqb-true (head m) w same)) ∙ head_wakes m makes.sound allowed.2.1;
           };
+          before_is = refl;
         }
 
     lost : after makes.before (seat_at p.seat p.stage) (Push k) ≡ with_private makes.before p.seat nothing_seen → (head makes.before == w) ≡ false
@@ -212,7 +215,7 @@ push_tells k w word p q is makes =
         → after makes.before (seat_at p.seat p.stage) (Push k) ≡
         (if b then happened (with_private (with_head makes.before (k + 1)) p.seat nothing_seen)
         (event.Push p.seat k) else with_private makes.before p.seat nothing_seen)
-        → MatchBool b (Wins k w p q) (Loses w p q)
+        → MatchBool b (Wins makes.before.history k w p q) (Loses w p q)
     go true same e = won e same
     go false other e = lost e other
 

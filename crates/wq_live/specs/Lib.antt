@@ -4,11 +4,16 @@ pub mod Row
 pub mod Counts
 pub mod Answers
 pub mod Tells
+pub mod Tries
 pub mod Rest
 pub mod Laws
 pub mod Sits
-pub mod Alone
+pub mod Hands
 pub mod Pairs
+pub mod KnownWith
+pub mod OwnBrought
+pub mod Valued
+pub mod Alone
 -- what its public clauses cite of the crates below, so that a caller names this crate alone
 pub use Rattle.wq_words.specs.History
 pub use Rattle.wq_words.specs.Legal

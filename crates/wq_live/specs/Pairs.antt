@@ -3,10 +3,11 @@ use Rattle.std.specs.Prelude.{◌≡◌, ℕ, List, [], ◌∷◌}
 use Rattle.wq_words.specs.declared.layout.Layout.{Layout}
 use Rattle.wq_words.specs.declared.event.Event.{Event}
 use Rattle.wq_words.specs.Seen.{owner_seat}
-use Rattle.wq_table.specs.Chair.{part_at}
+use Rattle.wq_table.specs.SlotChairs.{standing_of, part_in}
 use Rattle.wq_live.specs.declared.pair.Pair.TheInside.{Inside}
 use Rattle.wq_live.specs.Known.{QueueId, Known}
-use Rattle.wq_live.specs.Sits.{sending, Sends, OwnsQueue}
+use Rattle.wq_live.specs.Sits.{sending_in, Sends}
+use Rattle.wq_live.specs.Hands.{OwnsSeat}
 
 -- which queue it is of, how large that is, its sender's number, and the history that both have seen
 pub record KnownPair : Type 0 where
@@ -23,12 +24,13 @@ abbrev pub pair_sender : KnownPair → Known
 pair_sender p = record { queue = p.queue; layout = p.layout; number = p.number; seen = p.seen }
 
 abbrev pub pair_view : Inside → KnownPair
-pair_view s = record { queue = s.seat.chair.queue; layout = s.seat.layout; number = s.sent.number; seen = s.seat.chair.part.seen }
+pair_view s = record { queue = s.seat.chair.queue; layout = s.seat.layout; number = s.sent.number; seen = s.seat.chair.first.part.seen }
 
 -- the first part of the chair is the owner's, and the second the sender's, and both have seen the same
 pub record IsPair (s : Inside) : Type 0 where
-  pub owns : OwnsQueue s.seat
-  pub sends : Sends (sending 1 s.seat.chair s.sent)
-  pub two : s.seat.chair.others ≡ part_at 1 s.seat.chair ∷ []
+  pub owns : OwnsSeat s.seat
+  pub sends : Sends (sending_in 1 s.seat.chair s.sent)
+  pub two : (standing_of s.seat.chair).others ≡ part_in 1 s.seat.chair ∷ []
   pub one_layout : s.sent.layout ≡ s.seat.layout
-  pub one_seen : (part_at 1 s.seat.chair).seen ≡ s.seat.chair.part.seen
+  pub one_seen : (part_in 1 s.seat.chair).seen ≡ s.seat.chair.first.part.seen
+  pub bare : s.seat.chair.queue.slots ≡ 0

@@ -12,7 +12,9 @@ use Rattle.wq_table.specs.declared.table.Stage.TheVariants as stage
 use Rattle.wq_words.specs.Seen.{owner_seat, Grows}
 use Rattle.wq_table.specs.Law.{IsPartOf}
 use Rattle.wq_table.specs.Chair.{Standing, part_at, IsSender}
+use Rattle.wq_table.specs.SlotChairs.{ValueStanding, standing_of}
 use Rattle.wq_live.specs.declared.counts.SenderCounts.{SenderCounts}
+use Rattle.wq_live.specs.declared.counts.OwnerCounts.{OwnerCounts}
 use Rattle.wq_live.specs.declared.sent.Sent.{Sent}
 use Rattle.wq_live.specs.declared.owner_seat.OwnerSeat.{OwnerSeat}
 use Rattle.wq_live.specs.declared.owner_seat.Phase.{Phase}
@@ -36,6 +38,10 @@ alone_at at it = record { queue = it.queue; part = part_at at it; others = [] }
 abbrev pub sending : ℕ → Standing → Sent → Sending
 sending at it sent = record { chair = alone_at at it; layout = sent.layout; number = sent.number; counts = sent.counts }
 
+-- the same of a chair that may have slots in hand
+abbrev pub sending_in : {V : Type 0} → ℕ → ValueStanding V → Sent → Sending
+sending_in at it sent = sending at (standing_of it) sent
+
 abbrev pub sender_view : Sending → Known
 sender_view s = record { queue = s.chair.queue; layout = s.layout; number = s.number; seen = s.chair.part.seen }
 
@@ -47,7 +53,26 @@ pub record Sends (s : Sending) : Type 0 where
   pub legal : IsLegal s.layout s.chair.part.seen
   pub counts_are : s.counts ≡ sender_counts s.number s.chair.part.seen
 
-abbrev pub owner_view : OwnerSeat → Known
+-- an owner: its chair, and what it keeps beside it
+pub record Owning : Type 0 where
+  pub chair : Standing
+  pub layout : Layout
+  pub row : Row
+  pub running : Option ℕ
+  pub phase : Phase
+  pub counts : OwnerCounts
+
+abbrev pub owning : {V : Type 0} → OwnerSeat V → Owning
+owning s = record {
+  chair = standing_of s.chair;
+  layout = s.layout;
+  row = s.row;
+  running = s.running;
+  phase = s.phase;
+  counts = s.counts;
+}
+
+abbrev pub owner_view : Owning → Known
 owner_view s = record { queue = s.chair.queue; layout = s.layout; number = owner_seat; seen = s.chair.part.seen }
 
 -- whether the queue takes pushes
@@ -72,7 +97,7 @@ pub record HasRow (row : Row) (p : Part) : Type 0 where
   pub row_is : IsRowOf p.words row (kept_batch p.stage)
 
 -- the chair's first part is the owner's, the row has its batch, and what is kept beside it is of what it has seen
-pub record OwnsQueue (s : OwnerSeat) : Type 0 where
+pub record OwnsQueue (s : Owning) : Type 0 where
   pub layout_is : s.chair.part.layout ≡ s.layout
   pub number_is : s.chair.part.seat ≡ owner_seat
   pub stands : Stands s.chair.part

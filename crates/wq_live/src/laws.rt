@@ -10,6 +10,9 @@ ghost use Rattle.wq_words.specs.Seen.{own};
 ghost use Rattle.wq_live.specs.Known.{Known, Sees};
 ghost use Rattle.wq_live.specs.Answers.{TestsAndSets, Answers, Posts};
 ghost use Rattle.wq_live.specs.Laws.{queued_number};
+ghost use Rattle.wq_live.specs.declared.value_answer.ValueAnswer.{ValueAnswer};
+ghost use Rattle.wq_live.specs.KnownWith.{KnownWith, Learnt, answer_of, BringsOrReturns};
+ghost use Rattle.wq_live.specs.OwnBrought.{own_brought, queued_value};
 
 /// A queueing that is answered Queued adds its number to what was accepted of its sender; any other answer adds nothing.
 pub fn queued_is_accepted()
@@ -33,4 +36,18 @@ pub fn held_stays()
         → Holds old.seen old.number k → Holds new.seen new.number k }
     ensures given { (k j n : ℕ) (why : Why) (old new : Known) → Sees (Back old.number j why ∷ []) n old new → k ≢ j
         → Holds old.seen old.number k → Holds new.seen new.number k }
+{}
+
+/// A queueing of an item with a value that is answered Queued adds that value to what the sender's own queueings brought; any other
+/// answer adds nothing.
+pub fn queued_brings<V>()
+    ensures grows { (k tries : ℕ) (v : V) (a : ValueAnswer V) (old new : KnownWith V) → Answers k tries (answer_of a) old.known new.known
+        → BringsOrReturns k v a new → Learnt old new
+        → own_brought old.known.number new.known.seen new.brought ≡ own_brought old.known.number old.known.seen old.brought ++ queued_value v a }
+{}
+
+/// Where a seat sees more and makes no event, as at a meeting, its own queueings brought what they had brought.
+pub fn own_values_stay<V>()
+    ensures same { (n : ℕ) (old new : KnownWith V) → Sees [] n old.known new.known → Learnt old new
+        → own_brought old.known.number new.known.seen new.brought ≡ own_brought old.known.number old.known.seen old.brought }
 {}

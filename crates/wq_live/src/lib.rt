@@ -2,6 +2,7 @@
 #![tactic(auto)]
 
 mod answer;
+mod bare;
 mod counts;
 mod laws;
 mod making;
@@ -13,13 +14,20 @@ mod sender;
 mod sent;
 mod spins;
 mod trying;
+mod value_answer;
+mod value_owner;
+mod value_sender;
+mod valued;
 
 pub use answer::Done;
 pub use counts::{OwnerCounts, SenderCounts};
-pub use laws::{held_stays, own_events_stay, queued_is_accepted};
-pub use making::{BuildError, build};
+pub use laws::{held_stays, own_events_stay, own_values_stay, queued_brings, queued_is_accepted};
+pub use making::{BuildError, build, build_values};
 pub use owner::Owner;
 pub use pair::Pair;
 pub use sender::Sender;
 pub use spins::Spins;
+pub use value_answer::ValueAnswer;
+pub use value_owner::ValueOwner;
+pub use value_sender::ValueSender;
 pub use wq_words::{Answer, Posted};

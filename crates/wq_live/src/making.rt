@@ -1,17 +1,18 @@
 //! How a queue is made.
-ghost use Rattle.std.specs.Prelude.{◌≡◌, ℕ, [], All, length, IfOk};
+ghost use Rattle.std.specs.Prelude.{◌≡◌, ℕ, ◌<◌, [], All, map, length, IfOk};
 ghost use Rattle.atomic_table.specs.Seated.{TableId};
 ghost use Rattle.wq_words.specs.History.{Holds};
-ghost use Rattle.wq_table.specs.Chair.{sender_chairs};
+ghost use Rattle.wq_table.specs.SlotChairs.{value_senders};
 ghost use Rattle.wq_live.specs.Known.{new_owner, new_senders, AreNumbered};
+ghost use Rattle.wq_live.specs.KnownWith.{knowing_nothing};
 
-use crate::counts::{OwnerCounts, SenderCounts};
+use crate::bare::Bare;
 use crate::owner::Owner;
-use crate::owner_seat::{OwnerSeat, Phase};
-use crate::row::Row;
+use crate::owner_seat::OwnerSeat;
 use crate::sender::Sender;
 use crate::sent::Sent;
-use crate::spins::Spins;
+use crate::value_owner::ValueOwner;
+use crate::value_sender::ValueSender;
 use std::alloc::{AllocError, Global};
 use thiserror::Error;
 use wq_table::{Chair, chairs};
@@ -32,9 +33,13 @@ impl From<AllocError> for BuildError {
 }
 
 // A sender in each seat, numbered from 0.
-fn seat_senders(alloc: Global, layout: Layout, seats: Vec<Chair>) -> Result<Vec<Sender>, BuildError>
-    requires seats { (queue : TableId) × (seats.items ≡ sender_chairs queue layout layout.senders) }
-    ensures { (queue : TableId) → seats.items ≡ sender_chairs queue layout layout.senders → IfOk result
+fn seat_senders(
+    alloc: Global,
+    layout: Layout,
+    seats: Vec<Chair<Bare>>,
+) -> Result<Vec<Sender>, BuildError>
+    requires seats { (queue : TableId) × (queue.slots ≡ 0) × (seats.items ≡ value_senders queue layout layout.senders) }
+    ensures { (queue : TableId) → seats.items ≡ value_senders queue layout layout.senders → IfOk result
         (λ all. all.items ≡ new_senders queue layout layout.senders) }
 {
     let mut senders = Vec::with_capacity(alloc, layout.senders as usize)?;
@@ -42,18 +47,7 @@ fn seat_senders(alloc: Global, layout: Layout, seats: Vec<Chair>) -> Result<Vec<
     for chair in seats {
         let sender = Sender {
             chair,
-            sent: Sent {
-                layout,
-                number,
-                counts: SenderCounts {
-                    queued: 0,
-                    pending: 0,
-                    closed: 0,
-                    draining: 0,
-                    contended: 0,
-                },
-                spins: Spins::default(),
-            },
+            sent: Sent::new(layout, number),
         };
         if senders.push(sender).is_err() {
             return Err(BuildError::Memory);
@@ -74,20 +68,57 @@ pub fn build(alloc: Global, layout: Layout) -> Result<(Owner, Vec<Sender>), Buil
     ensures unseen { IfOk result (λ r. (r.0.seen ≡ []) × All (λ s. s.seen ≡ []) r.1.items) }
     ensures free { IfOk result (λ r. All (λ s. (k : ℕ) → ¬ Holds s.seen s.number k) r.1.items) }
 {
-    let (chair, seats) = chairs(alloc, layout)?;
+    let (chair, seats) = chairs(alloc, layout, 0)?;
     let senders = seat_senders(alloc, layout, seats)?;
-    let seat = OwnerSeat {
-        chair,
-        layout,
-        row: Row::empty(),
-        running: None,
-        phase: Phase::Open,
-        counts: OwnerCounts {
-            chained: 0,
-            chain_busy: 0,
-            ended: 0,
-        },
+    let owner = Owner {
+        seat: OwnerSeat::new(chair, layout),
     };
-    let owner = Owner { seat };
+    Ok((owner, senders))
+}
+
+// A sender in each seat of a queue whose items bring values, numbered from 0.
+fn seat_value_senders<V: Drop>(
+    alloc: Global,
+    layout: Layout,
+    seats: Vec<Chair<V>>,
+) -> Result<Vec<ValueSender<V>>, BuildError>
+    requires seats { (queue : TableId) × (0 < queue.slots) × (seats.items ≡ value_senders queue layout layout.senders) }
+    ensures { (queue : TableId) → seats.items ≡ value_senders queue layout layout.senders → IfOk result
+        (λ all. all.items ≡ map knowing_nothing (new_senders queue layout layout.senders)) }
+{
+    let mut senders = Vec::with_capacity(alloc, layout.senders as usize)?;
+    let mut number = 0u32;
+    for chair in seats {
+        let sender = ValueSender {
+            chair,
+            sent: Sent::new(layout, number),
+        };
+        if senders.push(sender).is_err() {
+            return Err(BuildError::Memory);
+        }
+        number += 1;
+    }
+    Ok(senders)
+}
+
+/// The owner and the senders of a new queue whose items bring values of this type. They have seen nothing. All memory that the
+/// queue needs is taken here, that of a value for each of its numbers too.
+pub fn build_values<V: Drop>(
+    alloc: Global,
+    layout: Layout,
+) -> Result<(ValueOwner<V>, Vec<ValueSender<V>>), BuildError>
+    ensures made { IfOk result (λ r. (r.0 ≡ knowing_nothing (new_owner r.0.known.queue layout))
+        × (r.1.items ≡ map knowing_nothing (new_senders r.0.known.queue layout layout.senders))) }
+    ensures one { IfOk result (λ r. All (λ s. s.known.queue ≡ r.0.known.queue) r.1.items) }
+    ensures layouts { IfOk result (λ r. (r.0.known.layout ≡ layout) × All (λ s. s.known.layout ≡ layout) r.1.items) }
+    ensures count { IfOk result (λ r. length r.1.items ≡ layout.senders) }
+    ensures unseen { IfOk result (λ r. (r.0.known.seen ≡ []) × All (λ s. s.known.seen ≡ []) r.1.items) }
+{
+    let slots = layout.number_count() as usize;
+    let (chair, seats) = chairs(alloc, layout, slots)?;
+    let senders = seat_value_senders(alloc, layout, seats)?;
+    let owner = ValueOwner {
+        seat: OwnerSeat::new(chair, layout),
+    };
     Ok((owner, senders))
 }

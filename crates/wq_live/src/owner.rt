@@ -14,6 +14,7 @@ ghost use Rattle.wq_live.specs.Counts.{capped, owner_counts};
 ghost use Rattle.wq_live.specs.Laws.{queued_number};
 
 use crate::answer::Done;
+use crate::bare::Bare;
 use crate::counts::OwnerCounts;
 use crate::owner_seat::OwnerSeat;
 use std::marker::Model;
@@ -23,7 +24,7 @@ use wq_words::{Answer, Layout};
 /// may be moved to another thread. No call takes a lock or memory, or waits.
 #[derive(Drop)]
 pub struct Owner {
-    pub(crate) seat: OwnerSeat,
+    pub(crate) seat: OwnerSeat<Bare>,
 }
 
 impl Model for Owner {
@@ -31,10 +32,10 @@ impl Model for Owner {
 
     ghost Value = { Known };
 
-    ghost use Rattle.wq_live.specs.Sits.{owner_view};
+    ghost use Rattle.wq_live.specs.Sits.{owning, owner_view};
     ghost use Rattle.wq_live.specs.Alone.{OwnsAlone};
 
-    ghost view = { λ s. owner_view s.seat };
+    ghost view = { λ s. owner_view (owning s.seat) };
 
     ghost invariant = { OwnsAlone };
 }

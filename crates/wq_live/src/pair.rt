@@ -16,6 +16,7 @@ ghost use Rattle.wq_live.specs.Rest.{Rests, HasRested, MayNotRest};
 ghost use Rattle.wq_live.specs.Laws.{queued_number};
 ghost use Rattle.wq_live.specs.Pairs.{pair_owner, pair_sender};
 
+use crate::bare::Bare;
 use crate::counts::{OwnerCounts, SenderCounts};
 use crate::owner::Owner;
 use crate::owner_seat::OwnerSeat;
@@ -30,7 +31,7 @@ use wq_words::{Answer, Layout};
 /// moved to another thread. No call takes a lock or memory, or waits.
 #[derive(Drop)]
 pub struct Pair {
-    pub(crate) seat: OwnerSeat,
+    pub(crate) seat: OwnerSeat<Bare>,
     pub(crate) sent: Sent,
 }
 
@@ -316,7 +317,7 @@ impl Pair {
         ensures contended { result ≡ Contended → IsContended self.old.number item tries self.new.seen }
         ensures others { Sees [] 0 (pair_owner self.old) (pair_owner self.new) }
     {
-        queue_number::<Second>(&mut self.seat.chair, &mut self.sent, item, tries)
+        queue_number::<Bare, Second>(&mut self.seat.chair, &mut self.sent, item, tries)
     }
 
     /// Afterwards each has seen all that has happened, and so all that both had seen.

@@ -14,9 +14,10 @@ ghost use Rattle.wq_live.specs.Answers.{TestsAndSets, Answers, Posts, IsContende
 ghost use Rattle.wq_live.specs.Counts.{sender_counts};
 ghost use Rattle.wq_live.specs.Laws.{IsStillEnd};
 
+use crate::bare::Bare;
 use crate::counts::SenderCounts;
 use crate::owner::Owner;
-use crate::sent::{Sent, hold_number, push_tries, queue_number, queue_waiting};
+use crate::sent::{Sent, find_closed, hold_number, queue_number, queue_waiting, try_tries};
 use crate::spins::Spins;
 use crossbeam_utils::Backoff;
 use std::marker::Model;
@@ -31,7 +32,7 @@ use wq_words::{Answer, Layout, Posted};
 /// and one that serves by `serve` of `wq_worker` on `first`, once a take.
 #[derive(Drop)]
 pub struct Sender {
-    pub(crate) chair: Chair,
+    pub(crate) chair: Chair<Bare>,
     pub(crate) sent: Sent,
 }
 
@@ -40,10 +41,10 @@ impl Model for Sender {
 
     ghost Value = { Known };
 
-    ghost use Rattle.wq_live.specs.Sits.{sender_view, sending};
+    ghost use Rattle.wq_live.specs.Sits.{sender_view, sending_in};
     ghost use Rattle.wq_live.specs.Alone.{SendsAlone};
 
-    ghost view = { λ s. sender_view (sending 0 s.chair s.sent) };
+    ghost view = { λ s. sender_view (sending_in 0 s.chair s.sent) };
 
     ghost invariant = { SendsAlone };
 }
@@ -92,7 +93,7 @@ impl Sender {
         requires number { number < number_count self.old.layout }
         ensures seen { TestsAndSets number result self.old self.new }
     {
-        hold_number::<First>(&mut self.chair, &mut self.sent, number)
+        hold_number::<Bare, First>(&mut self.chair, &mut self.sent, number)
     }
 
     // The PENDING bit of a number.
@@ -121,7 +122,13 @@ impl Sender {
         requires held { Holds self.old.seen self.old.number number }
         ensures { Posts number tries result self.old self.new }
     {
-        push_tries::<First>(&mut self.chair, &mut self.sent, number, tries)
+        match try_tries::<Bare, First>(&mut self.chair, &mut self.sent, number, tries) {
+            Posted::Closed => {
+                find_closed::<Bare, First>(&mut self.chair, &mut self.sent, number);
+                Posted::Closed
+            }
+            posted => posted,
+        }
     }
 
     // Queues a number, with at most so many tries.
@@ -130,7 +137,7 @@ impl Sender {
         ensures answer { Answers number tries result self.old self.new }
         ensures contended { result ≡ Contended → IsContended self.old.number number tries self.new.seen }
     {
-        queue_number::<First>(&mut self.chair, &mut self.sent, number, tries)
+        queue_number::<Bare, First>(&mut self.chair, &mut self.sent, number, tries)
     }
 
     // Queues a number, and tries until no other seat changes the list meanwhile. The number is held between the tries.
@@ -139,7 +146,7 @@ impl Sender {
         ensures answer { Answers number 0 result self.old self.new }
         ensures settled { result ≢ Contended }
     {
-        queue_waiting::<R, First>(rt, &mut self.chair, &mut self.sent, number)
+        queue_waiting::<R, Bare, First>(rt, &mut self.chair, &mut self.sent, number)
     }
 
     /// Sets the item's PENDING bit (the test-and-set of `queue_work`). True where it was clear: the item is then held by

@@ -7,7 +7,9 @@ pub mod Present
 pub mod Views
 pub mod Told
 pub mod Beside
+pub mod Learns
 pub mod Shelves
+pub mod Keeping
 pub mod Moves
 pub mod ValueRule
 pub mod ByKind

@@ -1,5 +1,5 @@
 -- Views that are joined, and that see all.
-use Rattle.std.proofs.Common.{◌≡◌, ◌≢◌, ℕ, List, [], ◌∷◌, ◌++◌, map, get_or, set, Option, sym, refl, ap, ◌∙◌, subst, ⊎_elim}
+use Rattle.std.proofs.Common.{◌≡◌, ◌≢◌, ℕ, List, [], ◌∷◌, ◌++◌, map, get_or, set, Option, sym, refl, ap, ◌∙◌, subst, ⊎_elim, arith}
 use Rattle.std.proofs.lemmas.List.{map-append}
 use mathlib.Core.Option.{some, none}
 use lib.ListN.{get_elem?}
@@ -78,6 +78,10 @@ module _ {V : Type 0} where
           all = all_of m r.base.who id pv (r.base.seats id pv plain_at);
           brought = r.brought;
           as_many = r.shelves.as_many;
+          right = λ some_slot. record {
+            as_many = r.shelves.as_many;
+            carries = λ place k y stands has. r.shelves.right place k y (omega (arith, some_slot, deep)) stands has;
+          };
           know = r.told id me.0 at;
           is = refl;
           hand = refl;

@@ -1,39 +1,30 @@
 -- What each kind of step does to the slots, and to the hand of the seat that makes it.
 use Rattle.std.proofs.Common.{◌≡◌, ◌≢◌, ℕ, ◌+◌, ◌%◌, ◌^◌, ◌<◌, ◌≤◌, ◌==◌, Bool, true, false, cond, if◌then◌else◌, List, [], ◌∷◌, ◌++◌, length, set}
 use Rattle.std.proofs.Common.{slice_get, Option, Some, None, sym, refl, ap, ◌∙◌, subst, arith, inl, inr, ⊎_elim}
-use Rattle.std.proofs.lemmas.List.{append-nil, length_push}
+use Rattle.std.proofs.lemmas.List.{length_push}
 use Rattle.std.proofs.lemmas.Option.{slice_get_within}
-use Rattle.std.proofs.lemmas.Bool.{eqb-true, eqb-false, eq-eqb, ne_eqb}
+use Rattle.std.proofs.lemmas.Bool.{eqb-true, eq-eqb, ne_eqb}
 use mathlib.Core.Option.{some, none}
-use mathlib.Core.List.{IsPrefix, reverse_aux}
-use Rattle.std.specs.Prelude.{reverse}
 use lib.ListN.{get_elem?}
 use Rattle.atomic_table.specs.Table.{keeps, takes, gives}
 use Rattle.wq_words.specs.declared.event.Why.{Why}
 use Rattle.wq_words.specs.declared.event.Event.{Event}
 use Rattle.wq_words.specs.declared.event.Event.TheVariants.{Hold, Busy, Push, Back, Take, Close, Drain, Resume, Begin, End, Chain, ChainBusy, Rest}
-use Rattle.wq_words.specs.declared.layout.Layout.{Layout}
 use Rattle.wq_words.specs.Numbers.{number_count}
 use Rattle.wq_words.specs.History.{accepted_by, accepted, begun_by, begun, Holds}
-use Rattle.wq_words.specs.Legal.{IsLegal}
-use Rattle.wq_words.specs.Keeper.{Keeper, Home, Sender, Listed, Owner, taken_over, keeper_after, keeper}
-use Rattle.wq_words.proofs.Growing.{filter_map_push_some, filter_map_push_none}
+use Rattle.wq_words.specs.Keeper.{Keeper, Home, Sender, Listed, Owner, keeper_after, keeper}
+use Rattle.wq_words.proofs.Growing.{filter_map_push_some}
 use Rattle.wq_words.proofs.Listed.{accepted_push_none}
-use Rattle.wq_words.proofs.Keepers.{IsQueue, queue_from_bit, kept}
-use Rattle.wq_words.proofs.Order.{in_order}
-use Rattle.wq_words.proofs.Places.{counted_once, counted_twice, keeps_from_keeper}
 use Rattle.wq_words.proofs.Prefixes.{prefix_self}
 use Rattle.wq_words.proofs.Ranks.{slice_get-some}
 use Rattle.wq_core.specs.Machine.{Machine, head, link, item_word, seen_word, nothing_seen, with_head, with_item, with_private, with_done, done_word}
 use Rattle.wq_core.specs.Machine.{happened, after_walk, after_begin, after_end}
-use Rattle.wq_core.specs.Sound.{IsSound, AreChained, IsChain}
+use Rattle.wq_core.specs.Sound.{IsSound}
 use Rattle.wq_core.specs.Words.{number_at}
-use Rattle.wq_words.proofs.Times.{times, times-cons, times-append, times-reverse_aux, times-first}
-use Rattle.wq_words.specs.Listed.{listed}
-use Rattle.wq_core.proofs.KeptSound.{home_from_clear, sender_from_holds, away_from_sender}
-use Rattle.wq_core.proofs.Privates.{keeper_push, Gives, gives_hold, gives_push, gives_back, gives_begin, gives_chain}
+use Rattle.wq_words.proofs.Times.{times, times-cons, times-append}
+use Rattle.wq_core.proofs.KeptSound.{home_from_clear, sender_from_holds}
+use Rattle.wq_core.proofs.Privates.{keeper_push, gives_hold, gives_push, gives_back, gives_begin, gives_chain}
 use Rattle.wq_core.proofs.OwnerSteps.{first_of_batch}
-use Rattle.wq_words.proofs.Accepted.{queue_once}
 use Rattle.wq_table.specs.declared.table.Part.{Part}
 use Rattle.wq_words.specs.Valued.{Carries}
 use Rattle.wq_table.specs.Slots.{Fits, Slots, Shelves, IsAway, IsSenders, taken_times}
@@ -42,133 +33,8 @@ use Rattle.wq_core.specs.declared.step.Step.{Step}
 use Rattle.wq_core.specs.declared.step.Step.TheVariants as step
 use Rattle.wq_table.specs.SlotSteps.{Hand, Walks, Moves, Goes}
 use Rattle.wq_table.proofs.Shelves.{fits_still, fits_taken, fits_emptied, fits_brought, fits_chained}
-
--- a number that waits is kept by the list or the owner, and has one place
-module _ (layout : Layout) (h : List Event) (legal : IsLegal layout h) (k : ℕ) where
-  front : IsPrefix (begun h) (accepted h)
-  front = (in_order layout h legal).begun_first
-
-  pub waiting_queue : (i : ℕ) → length (begun h) ≤ i → slice_get (accepted h) i ≡ Some k → IsQueue (keeper h k)
-  waiting_queue i le at = queue_from_bit (keeper h k) (omega (arith, (kept layout h legal 0 k).2, counted_once (begun h) (accepted h) k i front le at))
-
-  pub waiting_once : (i l : ℕ) → length (begun h) ≤ i → i < l → slice_get (accepted h) i ≡ Some k → slice_get (accepted h) l ≡ Some k → ⊥
-  waiting_once i l le lt at there =
-      absurd (omega (arith, (kept layout h legal 0 k).2, queue_once (keeper h k), counted_twice (begun h) (accepted h) k i l front le lt at there))
-
-  -- what is accepted more often than begun has a place
-  pub waiting_place : (x : Keeper) → keeper h k ≡ x → IsQueue x → (i : ℕ) × (length (begun h) ≤ i) × (slice_get (accepted h) i ≡ Some k)
-  waiting_place Home is queue = absurd queue
-  waiting_place (Sender s) is queue = absurd queue
-  waiting_place Listed is queue = let w = keeps_from_keeper layout h legal k Listed is in (w.0, w.1, w.3)
-  waiting_place Owner is queue = let w = keeps_from_keeper layout h legal k Owner is in (w.0, w.1, w.3)
-
-queue_home : (x : Keeper) → IsQueue x → x ≡ Home → ⊥
-queue_home x queue is = let q : IsQueue Home = subst IsQueue is queue in q
-
-queue_sender : (x : Keeper) (s : ℕ) → IsQueue x → x ≡ Sender s → ⊥
-queue_sender x s queue is = let q : IsQueue (Sender s) = subst IsQueue is queue in q
-
-module _ (h : List Event) (e : Event) (k : ℕ) where
-  -- the event leaves k away from home
-  gone : (y : Keeper) → Gives k e y → y ≢ Home → (j : ℕ) → keeper (h ++ e ∷ []) j ≡ Home → (j ≢ k) × (keeper h j ≡ Home)
-  gone y g ne j at =
-      let other : j ≢ k = λ same. ne (sym (g.1 (keeper h k)) ∙ (sym (keeper_push h e k) ∙ (ap (keeper (h ++ e ∷ [])) (sym same) ∙ at))) in
-      (other, sym (g.0 j (keeper h j) other) ∙ (sym (keeper_push h e j) ∙ at))
-
-  -- the event is about k alone
-  came : (y : Keeper) → Gives k e y → (j : ℕ) → keeper (h ++ e ∷ []) j ≡ Home → j ≢ k → keeper h j ≡ Home
-  came y g j at other = sym (g.0 j (keeper h j) other) ∙ (sym (keeper_push h e j) ∙ at)
-
-begun_same : (h : List Event) (e : Event) → begun_by e ≡ None → begun (h ++ e ∷ []) ≡ begun h
-begun_same h e none_begun = filter_map_push_none begun_by h e none_begun ∙ append-nil (begun h)
-
-over_home : (x : Keeper) → taken_over x ≡ Home → x ≡ Home
-over_home Home is = refl
-over_home (Sender s) is = absurd cc
-over_home Listed is = absurd cc
-over_home Owner is = absurd cc
-
-pub split_count : (k : ℕ) (acc beg batch tail lst : List ℕ) → acc ≡ beg ++ (batch ++ tail) ++ lst
-    → times k acc ≡ times k beg + (times k batch + times k tail) + times k lst
-split_count k acc beg batch tail lst order = omega (
-  arith,
-  ap (times k) order,
-  times-append k (beg ++ (batch ++ tail)) lst,
-  times-append k beg (batch ++ tail),
-  times-append k batch tail,
-)
-
--- the number that the owner walks next waits, and is not among what it walked or has in its batch
-cursor_count : (n : ℕ) (ws : List ℕ) (k : ℕ) (walked batch acc beg lst : List ℕ) → AreChained n ws (Some k) walked batch acc beg lst
-    → times k beg + (times k walked + times k batch) + 1 ≤ times k acc
-cursor_count n ws k walked batch acc beg lst a = go a.remaining a.walk_chain a.order
-  where
-    go : (remaining : List ℕ) → IsChain n ws (k + 1) remaining → acc ≡ beg ++ (batch ++ reverse_aux remaining walked) ++ reverse lst
-        → times k beg + (times k walked + times k batch) + 1 ≤ times k acc
-    go [] c order = absurd (omega (arith, c))
-    go (i ∷ rest) c order =
-        let one : cond {A = ℕ} (i == k) 1 0 ≡ 1 = ap {B = ℕ} (λ (q : Bool). cond q 1 0) (eq-eqb i k (omega (arith, c.0))) in
-        omega (
-          arith,
-          split_count k acc beg batch (reverse_aux (i ∷ rest) walked) (reverse lst) order,
-          times-reverse_aux k
-              (i ∷ rest) walked,
-          times-cons k i rest,
-          one,
-        )
-
-cursor_waits : (m : Machine) → IsSound m → (k : ℕ) → m.cursor ≡ Some k → IsQueue (keeper m.history k) × (times k m.walked + times k m.batch ≡ 0)
-cursor_waits m o k on =
-    let count = cursor_count (number_count m.layout) m.words k m.walked m.batch _ _ _ (rw on at o.chains) in
-    let tells = (kept m.layout m.history o.legal 0 k).2 in
-    let once = queue_once (keeper m.history k) in
-    (queue_from_bit (keeper m.history k) (omega (arith, count, tells)), omega (arith, count, tells, once))
-
-not_counted : (j k : ℕ) (q : Bool) → (k == j) ≡ q → ◌≡◌ {A = ℕ} (cond q 1 0) 0 → j ≢ k
-not_counted j k true e zero = absurd (omega (arith, zero))
-not_counted j k false e zero = λ same. eqb-false k j e (sym same)
-
--- the first of the batch stands in it once
-pub batch_once : (m : Machine) → IsSound m → (k : ℕ) (ks : List ℕ) → m.batch ≡ k ∷ ks → times k ks ≡ 0
-batch_once m o k ks first =
-    let tells = (kept m.layout m.history o.legal 0 k).2 in
-    let once = queue_once (keeper m.history k) in
-    let c = o.chains in
-    let split = split_count k (accepted m.history) (begun m.history) m.batch (reverse_aux c.remaining m.walked) (reverse (listed m.history)) c.order in
-    let batch : times k m.batch ≡ times k (k ∷ ks) = ap (times k) first in
-    omega (arith, tells, once, split, batch, times-first k ks)
-
-over_sends : (x : Keeper) → IsSenders (taken_over x) → IsSenders x
-over_sends Home is = is
-over_sends (Sender s) is = is
-over_sends Listed is = absurd is
-over_sends Owner is = is
-
--- the event is about k alone: another number is away as before
-away_other : (h : List Event) (e : Event) (k : ℕ) (y : Keeper) (n n' : ℕ) → Gives k e y → (j : ℕ) → j ≢ k → n ≡ n'
-    → IsAway (keeper (h ++ e ∷ []) j) n' → IsAway (keeper h j) n
-away_other h e k y n n' g j other same is = subst (λ (z : Keeper × ℕ). IsAway z.0 z.1) (λ i. (
-  (keeper_push h e j ∙
-      g.0 j (keeper h j) other) i,
-  sym same i,
-)) is
-
--- the event leaves k at no sender, and the owner has it not
-away_gone : (h : List Event) (e : Event) (k : ℕ) (y : Keeper) (out out' : ℕ → ℕ) → Gives k e y → (IsSenders y → ⊥) → out' k ≡ 0 → ((j : ℕ) → j ≢ k
-    → out j ≡ out' j)
-    → (j : ℕ) → IsAway (keeper (h ++ e ∷ []) j) (out' j) → (j ≢ k) × IsAway (keeper h j) (out j)
-away_gone h e k y out out' g none_sends zero same j is =
-    let other : j ≢ k = λ e'. ⊎_elim
-    (λ (x : IsSenders (keeper (h ++ e ∷ []) j)). none_sends (subst IsSenders (ap (keeper (h ++ e ∷ [])) e' ∙ (keeper_push h e k ∙ g.1 (keeper h k))) x))
-    (λ (n : 0 < out' j). absurd (omega (arith, n, ap out' e', zero))) is in
-    (other, away_other h e k y (out j) (out' j) g j other (same j other) is)
-
--- what a sender holds the owner has not
-held_none_out : (m : Machine) → IsSound m → (s k : ℕ) → keeper m.history k ≡ Sender s → taken_times m.walked m.batch k ≡ 0
-held_none_out m o s k mine =
-    let c = o.chains in
-    let split = split_count k (accepted m.history) (begun m.history) m.batch (reverse_aux c.remaining m.walked) (reverse (listed m.history)) c.order in
-    omega (arith, away_from_sender m o s k mine, split, times-reverse_aux k c.remaining m.walked)
+use Rattle.wq_table.proofs.Keeping.{waiting_queue, waiting_once, waiting_place, queue_home, queue_sender, gone, came, begun_same, over_home}
+use Rattle.wq_table.proofs.Keeping.{cursor_waits, not_counted, batch_once, over_sends, away_other, away_gone, held_none_out}
 
 module _ {V : Type 0} where
   -- an event that accepts and begins nothing, and brings nothing home

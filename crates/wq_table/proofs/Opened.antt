@@ -4,7 +4,7 @@ use Rattle.std.proofs.Common.{subst, ⊎_elim, arith}
 use Rattle.std.proofs.lemmas.List.{map-append}
 use mathlib.Core.Option.{some, some-injective, some-ne-none}
 use lib.ListN.{get_elem?}
-use Rattle.atomic_table.specs.Table.{Splits, opening}
+use Rattle.atomic_table.specs.Table.{State, Splits, opening}
 use Rattle.atomic_table.proofs.Lists.{at_set, at_map}
 use Rattle.wq_words.specs.declared.layout.Layout.{Layout}
 use Rattle.wq_words.specs.Numbers.{number_count}
@@ -14,7 +14,7 @@ use Rattle.wq_core.specs.Words.{word_count}
 use Rattle.wq_core.specs.Machine.{Machine}
 use Rattle.wq_core.specs.Machine as machine
 use Rattle.wq_table.specs.Law.{View, Kept, row, opening_view, front_of, rest_of}
-use Rattle.wq_table.proofs.Views.{opens, opens_machine, offs, offs_machine}
+use Rattle.wq_table.proofs.Views.{opens, opens_machine, blanks, blanks_machine, offs, offs_machine}
 use Rattle.wq_table.specs.Slots.{Shelves, ValueView, plain_view, plain, AllKnow, KeptValues, telling, opening_values, front_values, rest_values}
 use Rattle.wq_table.proofs.ValueRule.{map_set, plain_telling}
 
@@ -70,31 +70,41 @@ module _ {V : Type 0} where
   rest_knows brs [] all = tt
   rest_knows brs (t ∷ ts) all = all.1
 
-  pub offs_slots : (l : Layout) (id : ℕ) (v : ValueView V) → Splits (KeptValues l) id v (rest_values v) (front_values v)
-  offs_slots l id v s r at =
-      let pv : View = plain_view v in
-      let plain_at : get_elem? (map plain_view s.views) id ≡ some pv = at_map plain_view s.views id v at in
-      let cut = offs l id pv (plain s) r.base plain_at in
-      let same : (map plain_view (set s.views id (rest_values v) ++ front_values v ∷ [])) ≡ set (map plain_view s.views) id
-      (rest_of pv) ++ front_of pv ∷ [] =
-      map-append plain_view (set s.views id (rest_values v)) (front_values v ∷ []) ∙
-      (λ i. (map_set plain_view s.views id (rest_values v) ∙ ap (set (map plain_view s.views) id) (plain_rest v)) i ++ plain_front v i ∷ []) in
-      let whole : (k : Kept l (plain (record {
-        words = s.words;
-        homes = s.homes;
-        views = set s.views id
-            (rest_values v) ++ front_values v ∷ [];
-      }))) × (k.machine ≡ r.base.machine) =
-      subst (λ (vs : List View). (k : Kept l (record { words = s.words; homes = []; views = vs })) × (k.machine ≡ r.base.machine)) (sym same)
-      (cut, offs_machine l id pv (plain s) r.base plain_at) in record {
+  -- the view at a place is cut in two, and the machine stays
+  cut_values : (l : Layout) (id : ℕ) (left right : ValueView V) (s : State (Option V) (ValueView V)) (r : KeptValues l s)
+      → (k : Kept l (record { words = s.words; homes = []; views = set (map plain_view s.views) id (plain_view left) ++ plain_view right ∷ [] }))
+      × (k.machine ≡ r.base.machine)
+      → AllKnow r.brought left → AllKnow r.brought right
+      → KeptValues l (record { words = s.words; homes = s.homes; views = set s.views id left ++ right ∷ [] })
+  cut_values l id left right s r cut left_knows right_knows =
+      let same : map plain_view (set s.views id left ++ right ∷ []) ≡ set (map plain_view s.views) id (plain_view left) ++ plain_view right ∷ [] =
+      map-append plain_view (set s.views id left) (right ∷ []) ∙ ap (λ (vs : List View). vs ++ plain_view right ∷ []) (map_set plain_view s.views id left) in
+      let whole : (k : Kept l (plain (record { words = s.words; homes = s.homes; views = set s.views id left ++ right ∷ [] }))) ×
+      (k.machine ≡ r.base.machine) =
+      subst (λ (vs : List View). (k : Kept l (record { words = s.words; homes = []; views = vs })) × (k.machine ≡ r.base.machine)) (sym same) cut in record {
         base = whole.0;
         brought = r.brought;
         shelves = subst (λ (m : Machine). Shelves m r.brought s.homes) (sym whole.1) r.shelves;
         told = λ j w there. ⊎_elim
-            (λ (t : get_elem? (set s.views id (rest_values v)) j ≡ some w). ⊎_elim
-            (λ (u : (j ≡ id) × (rest_values v ≡ w)). subst (AllKnow r.brought) u.1 (rest_knows r.brought v (r.told id v at)))
-            (λ (u : (j ≢ id) × (get_elem? s.views j ≡ some w)). r.told j w u.1) (at_set s.views id j (rest_values v) w t))
-            (λ (t : (j ≡ length (set s.views id (rest_values v))) × (front_values v ≡ w)). subst (AllKnow r.brought) t.1 (front_knows r.brought v
-            (r.told id v at)))
-            (at_end (set s.views id (rest_values v)) (front_values v) w j there);
+            (λ (t : get_elem? (set s.views id left) j ≡ some w). ⊎_elim
+            (λ (u : (j ≡ id) × (left ≡ w)). subst (AllKnow r.brought) u.1 left_knows)
+            (λ (u : (j ≢ id) × (get_elem? s.views j ≡ some w)). r.told j w u.1) (at_set s.views id j left w t))
+            (λ (t : (j ≡ length (set s.views id left)) × (right ≡ w)). subst (AllKnow r.brought) t.1 right_knows)
+            (at_end (set s.views id left) right w j there);
       }
+
+  pub offs_slots : (l : Layout) (id : ℕ) (v : ValueView V) → Splits (KeptValues l) id v (rest_values v) (front_values v)
+  offs_slots l id v s r at =
+      let pv : View = plain_view v in
+      let plain_at : get_elem? (map plain_view s.views) id ≡ some pv = at_map plain_view s.views id v at in
+      cut_values l id (rest_values v) (front_values v) s r
+      (subst (λ (x : View × View). (k : Kept l (record { words = s.words; homes = []; views = set (map plain_view s.views) id x.0 ++ x.1 ∷ [] }))
+      × (k.machine ≡ r.base.machine)) (λ i. (sym (plain_rest v) i, sym (plain_front v) i))
+      (offs l id pv (plain s) r.base plain_at, offs_machine l id pv (plain s) r.base plain_at))
+      (rest_knows r.brought v (r.told id v at)) (front_knows r.brought v (r.told id v at))
+
+  pub blanks_slots : (l : Layout) (id : ℕ) (v : ValueView V) → Splits (KeptValues l) id v v []
+  blanks_slots l id v s r at =
+      let pv : View = plain_view v in
+      let plain_at : get_elem? (map plain_view s.views) id ≡ some pv = at_map plain_view s.views id v at in
+      cut_values l id v [] s r (blanks l id pv (plain s) r.base plain_at, blanks_machine l id pv (plain s) r.base plain_at) (r.told id v at) tt

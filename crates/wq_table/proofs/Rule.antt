@@ -2,7 +2,7 @@
 use Rattle.std.proofs.Common.{◌≡◌, ℕ, ◌≢◌, List, [], ◌∷◌, get_or, set, sym, refl, ap, ◌∙◌, subst, ⊎_elim}
 use mathlib.Core.Option.{some}
 use lib.ListN.{get_elem?}
-use Rattle.atomic_table.specs.Table.{State, keeps, Allows}
+use Rattle.atomic_table.specs.Table.{State}
 use Rattle.atomic_table.proofs.Lists.{at_set}
 use Rattle.wq_words.specs.declared.layout.Layout.{Layout}
 use Rattle.wq_core.specs.declared.step.Step.{Step}
@@ -12,8 +12,8 @@ use Rattle.wq_core.specs.Sound.{IsSound}
 use Rattle.wq_table.specs.declared.table.Part.{Part}
 use Rattle.wq_words.specs.Seen.{owner_seat}
 use Rattle.wq_table.specs.Law.{View, part, seat_at, IsPartOf, ArePartsAt, HasPartOf, HasSeenAll, Kept}
-use Rattle.wq_table.specs.Plays.{Sat, word_found, stage_after, Makes, Performs, all_see, AllOf}
-use Rattle.wq_table.specs.Places.{chosen, besides, MakesAt, ViewMakes}
+use Rattle.wq_table.specs.Plays.{word_found, stage_after, Makes, Performs, all_see, AllOf}
+use Rattle.wq_table.specs.Places.{chosen, besides, MakesAt}
 use Rattle.wq_core.proofs.Sound.{sound_after}
 use Rattle.wq_words.proofs.Prefixes.{prefix_self}
 use Rattle.wq_table.proofs.Present.{stands_put, put_in}
@@ -23,9 +23,6 @@ use Rattle.wq_table.proofs.Places.{AllSeen, all_moved}
 
 abbrev Table : Type 0
 Table = State (Unit {0}) View
-
-abbrev Carried : Type 0
-Carried = List (ℕ × Unit {0})
 
 -- the parts of another view still fit
 all_other : (m n : Machine) (who : ℕ → ℕ) (c i j : ℕ) (v : View) → Change m n c
@@ -116,22 +113,3 @@ module _ (layout : Layout) (id at : ℕ) (p : Part) (ps : View) (σ : Layout →
         before_is = told.1;
         all_seen = all_moved next.history q at p ps refl;
       }
-
--- so it keeps the rule, and tells its view what it was
-stepping : (layout : Layout) (slots id at : ℕ) (p : Part) (ps : View) (cs : Carried) (σ : Layout → Step) (i : ℕ) (f g : ℕ → ℕ)
-    → Performs (chosen at p ps) (σ (chosen at p ps).layout) i f g → Allows (Kept layout) slots id (p ∷ ps, cs) i f (λ n. ViewMakes at σ (p ∷ ps, cs) (g n))
-stepping layout slots id at p ps cs σ i f g performs s r same there small = let it = stepped layout id at p ps σ i f g performs s r there in (
-  it.first ∷ it.rest,
-  keeps,
-  tt,
-  it.kept,
-  record { part = p; others = ps; part' = it.first; others' = it.rest; was = refl; is = refl; slots = refl; moves = it.moves },
-)
-
--- the same of a view that is known to have these parts
-pub goes : (layout : Layout) (slots id at : ℕ) (p : Part) (ps : View) (me : Sat) (σ : Layout → Step) (i : ℕ) (f g : ℕ → ℕ) → me.0 ≡ p ∷ ps
-    → Performs (chosen at p ps) (σ (chosen at p ps).layout) i f g
-    → Allows (Kept layout) slots id me i f (λ n. ViewMakes at σ me (g n))
-goes layout slots id at p ps me σ i f g is performs =
-    subst (λ (v : View). Allows (Kept layout) slots id (v, me.1) i f (λ n. ViewMakes at σ (v, me.1) (g n))) (sym is)
-    (stepping layout slots id at p ps me.1 σ i f g performs)

@@ -1,21 +1,20 @@
 -- Two chairs whose table may have slots meet.
-use Rattle.std.proofs.Common.{◌≡◌, [], ◌∷◌, ◌++◌, map, sym, refl, ap, ◌∙◌, subst, Some}
+use Rattle.std.proofs.Common.{◌≡◌, ℕ, arith, [], ◌∷◌, ◌++◌, map, sym, refl, ap, ◌∙◌, subst, Some}
 use Rattle.atomic_table.specs.Seated.{TableId}
 use Rattle.wq_words.specs.declared.layout.Layout.{Layout}
-use Rattle.wq_table.specs.declared.value_chair.ValueChair.TheInside.{Inside}
+use Rattle.wq_table.specs.declared.chair.Chair.TheInside.{Inside}
 use Rattle.wq_table.specs.Law.{View}
 use Rattle.wq_table.specs.Plays.{see, all_see, AllOf}
-use Rattle.wq_table.specs.Sits.{AreSized}
 use Rattle.wq_table.specs.Slots.{ValueView, plain_view, AllKnow, telling, front_values, rest_values}
 use Rattle.wq_table.specs.SlotSteps.{ValueSat, ValuesSeen}
-use Rattle.wq_table.specs.SlotChairs.{ValueStanding, ValueJoined, first_told, value_standing, ValueSits, ValueMeet}
+use Rattle.wq_table.specs.SlotChairs.{ValueStanding, ValueJoined, first_told, value_standing, AreSized, ValueSits, ValueMeet}
 use Rattle.wq_table.proofs.Told.{sized_seeing}
 use Rattle.wq_table.proofs.ValueRule.{plain_telling}
 use Rattle.wq_table.proofs.SlotTold.{with_seat, sized_in, sits_known, whole_view}
 
 module _ {V : Type 0} (this that : ValueStanding V) (me other both sees : ValueSat V) (has : me ≡ (this.first ∷ this.others, this.hand))
     (other_has : other ≡ (that.first ∷ that.others, that.hand)) (alone : that.others ≡ []) (joined : both ≡ (other.0 ++ me.0, me.1))
-    (all : ValuesSeen both sees) where
+    (slots : ℕ) (deep : slots ≡ this.queue.slots) (all : ValuesSeen slots both sees) where
   parts : both.0 ≡ that.first ∷ this.first ∷ this.others
   parts = ap (λ (z : ValueSat V). z.0) joined ∙
       (λ i. (ap (λ (z : ValueSat V). z.0) other_has ∙ ap (λ (v : ValueView V). that.first ∷ v) alone) i ++ ap (λ (z : ValueSat V). z.0) has i)
@@ -27,8 +26,8 @@ module _ {V : Type 0} (this that : ValueStanding V) (me other both sees : ValueS
 
   pub met_slots : (q r : TableId) (l k : Layout) (mine theirs : ValueSat V) → that.hand ≡ [] → mine ≡ (rest_values sees.0, sees.1)
       → theirs ≡ (front_values sees.0, [])
-      → q ≡ this.queue → r ≡ that.queue → ValueMeet this that (with_seat q l mine) (with_seat r k theirs)
-  met_slots q r l k mine theirs empty rest first same other_same =
+      → q ≡ this.queue → r ≡ that.queue → this.queue ≡ that.queue → ValueMeet this that (with_seat q l mine) (with_seat r k theirs)
+  met_slots q r l k mine theirs empty rest first same other_same one =
       let m = all.machine in
       let fit : AllOf m (plain_view (that.first ∷ this.first ∷ this.others)) = subst (λ (v : ValueView V). AllOf m (plain_view v)) parts all.all in
       let know : AllKnow all.brought (that.first ∷ this.first ∷ this.others) = subst (AllKnow all.brought) parts all.know in
@@ -38,10 +37,12 @@ module _ {V : Type 0} (this that : ValueStanding V) (me other both sees : ValueS
       let theirs_now = first ∙ (λ i. (ap front_values now_is i, sym empty i)) in record {
         machine = m;
         sound = all.sound;
+        queue_is = one;
         this_fits = record { fits = fit.1.0; others_fit = fit.1.1 };
         that_fits = record { fits = fit.0; others_fit = subst (λ (v : ValueView V). AllOf m (plain_view v)) (sym alone) tt };
         brought = all.brought;
         as_many = all.as_many;
+        right = λ some_slot. all.right (omega (arith, some_slot, deep));
         this_knows = know.1;
         that_knows = (know.0, subst (AllKnow all.brought) (sym alone) tt);
         this_is = λ i. with_seat (same i) l (mine_now i);
@@ -67,8 +68,8 @@ module _ {V : Type 0} (this that : ValueStanding V) (me other both sees : ValueS
       (plain_view w))) (sym alone)))
 
   -- the other's part is joined to this chair, and they look
-  pub joined_slots : (q : TableId) (l : Layout) → q ≡ that.queue → ValueJoined that this (with_seat q l sees)
-  joined_slots q l same =
+  pub joined_slots : (q : TableId) (l : Layout) → q ≡ that.queue → this.queue.slots ≡ that.queue.slots → ValueJoined that this (with_seat q l sees)
+  joined_slots q l same same_slots =
       let m = all.machine in
       let fit : AllOf m (plain_view (that.first ∷ this.first ∷ this.others)) = subst (λ (v : ValueView V). AllOf m (plain_view v)) parts all.all in
       let know : AllKnow all.brought (that.first ∷ this.first ∷ this.others) = subst (AllKnow all.brought) parts all.know in record {
@@ -78,6 +79,7 @@ module _ {V : Type 0} (this that : ValueStanding V) (me other both sees : ValueS
         that_fits = record { fits = fit.1.0; others_fit = fit.1.1 };
         brought = all.brought;
         as_many = all.as_many;
+        right = λ some_slot. all.right (omega (arith, some_slot, deep, same_slots));
         this_knows = (know.0, subst (AllKnow all.brought) (sym alone) tt);
         that_knows = know.1;
         queue_is = same;

@@ -1,5 +1,5 @@
 -- Three chairs whose table may have slots meet.
-use Rattle.std.proofs.Common.{◌≡◌, [], ◌∷◌, ◌++◌, map, sym, ap, ◌∙◌, subst}
+use Rattle.std.proofs.Common.{◌≡◌, ℕ, arith, [], ◌∷◌, ◌++◌, map, sym, ap, ◌∙◌, subst}
 use Rattle.atomic_table.specs.Seated.{TableId}
 use Rattle.wq_words.specs.declared.layout.Layout.{Layout}
 use Rattle.wq_table.specs.Plays.{see, all_see, AllOf}
@@ -12,7 +12,7 @@ use Rattle.wq_table.proofs.SlotMet.{now_is}
 module _ {V : Type 0} (this that third : ValueStanding V) (me other other3 both full sees : ValueSat V) (has : me ≡ (this.first ∷ this.others, this.hand))
     (other_has : other ≡ (that.first ∷ that.others, that.hand)) (third_has : other3 ≡ (third.first ∷ third.others, third.hand))
     (alone : that.others ≡ []) (third_alone : third.others ≡ []) (joined : both ≡ (other.0 ++ me.0, me.1)) (joined3 : full ≡ (other3.0 ++ both.0, both.1))
-    (seen : ValuesSeen full sees) where
+    (slots : ℕ) (deep : slots ≡ this.queue.slots) (seen : ValuesSeen slots full sees) where
   -- the first two as one chair
   abbrev two : ValueStanding V
   two = record { queue = this.queue; first = that.first; others = this.first ∷ this.others; hand = this.hand }
@@ -31,7 +31,7 @@ module _ {V : Type 0} (this that third : ValueStanding V) (me other other3 both 
   three_is : sees.0 ≡ telling seen.brought (see seen.machine.history third.first.part)
       ∷ telling seen.brought (see seen.machine.history that.first.part)
       ∷ map (telling seen.brought) (all_see seen.machine.history (plain_view (this.first ∷ this.others)))
-  three_is = now_is two third both other3 full sees two_has third_has third_alone joined3 seen
+  three_is = now_is two third both other3 full sees two_has third_has third_alone joined3 slots deep seen
 
   module _ (cut mine theirs thirds : ValueSat V) (rest : cut ≡ (rest_values sees.0, sees.1)) (first : thirds ≡ (front_values sees.0, []))
       (rest2 : mine ≡ (rest_values cut.0, cut.1)) (first2 : theirs ≡ (front_values cut.0, [])) where
@@ -52,8 +52,9 @@ module _ {V : Type 0} (this that third : ValueStanding V) (me other other3 both 
         (plain_view w))) (sym third_alone))
 
     pub met_all : (q r u : TableId) (l k j : Layout) → that.hand ≡ [] → third.hand ≡ [] → q ≡ this.queue → r ≡ that.queue → u ≡ third.queue
+        → this.queue ≡ that.queue → this.queue ≡ third.queue
         → ValueMeetAll this that third (with_seat q l mine) (with_seat r k theirs) (with_seat u j thirds)
-    met_all q r u l k j empty third_empty same other_same third_same =
+    met_all q r u l k j empty third_empty same other_same third_same that_one third_one =
         let m = seen.machine in
         let fit : AllOf m (plain_view (third.first ∷ that.first ∷ this.first ∷ this.others)) =
         subst (λ (v : ValueView V). AllOf m (plain_view v)) parts seen.all in
@@ -62,11 +63,14 @@ module _ {V : Type 0} (this that third : ValueStanding V) (me other other3 both 
         (ap (λ (z : ValueSat V). z.1) joined3 ∙ ap (λ (z : ValueSat V). z.1) two_has))) in record {
           machine = m;
           sound = seen.sound;
+          that_queue = that_one;
+          third_queue = third_one;
           this_fits = record { fits = fit.1.1.0; others_fit = fit.1.1.1 };
           that_fits = record { fits = fit.1.0; others_fit = subst (λ (v : ValueView V). AllOf m (plain_view v)) (sym alone) tt };
           third_fits = record { fits = fit.0; others_fit = subst (λ (v : ValueView V). AllOf m (plain_view v)) (sym third_alone) tt };
           brought = seen.brought;
           as_many = seen.as_many;
+          right = λ some_slot. seen.right (omega (arith, some_slot, deep));
           this_knows = know.1.1;
           that_knows = (know.1.0, subst (AllKnow seen.brought) (sym alone) tt);
           third_knows = (know.0, subst (AllKnow seen.brought) (sym third_alone) tt);

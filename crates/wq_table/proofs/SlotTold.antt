@@ -5,20 +5,20 @@ use Rattle.atomic_table.specs.Seated.{TableId}
 use Rattle.wq_words.specs.declared.layout.Layout.{Layout}
 use Rattle.wq_words.specs.Numbers.{number_count}
 use Rattle.wq_words.specs.History.{accepted}
+use Rattle.wq_words.specs.Valued.{AreBrought}
 use Rattle.wq_core.specs.declared.step.Step.{Step}
 use Rattle.wq_core.specs.Words.{item_place, done_place, word_count}
 use Rattle.wq_table.specs.declared.table.Part.{Part}
-use Rattle.wq_table.specs.declared.value_chair.ValueChair.TheInside.{Inside}
+use Rattle.wq_table.specs.declared.chair.Chair.TheInside.{Inside}
 use Rattle.wq_table.specs.Law.{View}
 use Rattle.wq_table.specs.Places.{chosen, MakesAt}
 use Rattle.wq_table.specs.Chair.{part_at}
-use Rattle.wq_table.specs.Sits.{first_part, AreSized}
 use Rattle.wq_core.specs.Machine.{Machine}
 use Rattle.wq_table.specs.Plays.{see, all_see}
 use Rattle.wq_table.specs.Slots.{ValueView, plain_view, AllKnow, telling, rest_values}
 use Rattle.wq_table.proofs.ValueRule.{plain_telling}
 use Rattle.wq_table.specs.SlotSteps.{Hand, ValueSat, Moves, AllTold, GoesBy, ValueMakes}
-use Rattle.wq_table.specs.SlotChairs.{ValueStanding, standing_of, ValueSteps, first_told, value_standing, ValueSits, knowing}
+use Rattle.wq_table.specs.SlotChairs.{ValueStanding, standing_of, ValueSteps, first_told, value_standing, AreSized, ValueSits, knowing}
 use Rattle.wq_table.proofs.Changes.{changes}
 use Rattle.wq_table.proofs.Told.{chosen_sized, besides_sized, all_sized, sized_seeing, still_alone}
 use Rattle.wq_table.proofs.Bare.{by_bare}
@@ -41,8 +41,12 @@ module _ {V : Type 0} where
   pub plain_whole : (layout : Layout) (v : ValueView V) (p : Part) (ps : View) → plain_view v ≡ p ∷ ps
       → ((first_told layout v).part ≡ p) × (plain_view (rest_values v) ≡ ps)
   plain_whole layout [] p ps is = absurd cc
-  plain_whole layout (t ∷ ts) p ps is = (ap (first_part layout) is, ap tail is)
+  plain_whole layout (t ∷ ts) p ps is = (ap first is, ap tail is)
     where
+      first : View → Part
+      first [] = p
+      first (q ∷ qs) = q
+
       tail : View → View
       tail [] = []
       tail (q ∷ qs) = qs
@@ -55,6 +59,7 @@ module _ {V : Type 0} where
   abbrev All : ℕ → Option V → (Layout → Step) → ℕ → ℕ → List (Option V) → List (Option V) → Hand V → Hand V → Parts → Type 0
   All at said σ slots word brs brs' hand hand' z =
       (makes : MakesAt at (σ (chosen at z.0.0 z.0.1).layout) word z.0.0 z.0.1 z.1.0 z.1.1) × (length brs ≡ length (accepted makes.makes.before.history))
+      × (0 < slots → AreBrought (chosen at z.1.0 z.1.1).layout.items (accepted (chosen at z.1.0 z.1.1).seen) brs')
       × (0 < slots → Moves said (σ (chosen at z.0.0 z.0.1).layout) (chosen at z.0.0 z.0.1) makes.makes.before word brs hand brs' hand')
 
   -- the step as a fact about the chair before and after
@@ -72,7 +77,7 @@ module _ {V : Type 0} where
       let all : All at said σ it.queue.slots word step.brought step.brought' it.hand me'.1
       ((it.first.part, plain_view it.others), ((first_told layout me'.0).part, plain_view (rest_values me'.0))) =
       subst (λ (x : Parts × Hand V × ℕ). All at said σ x.2 word step.brought step.brought' x.1 me'.1 x.0)
-      (λ i. (((sym from.0 i, sym from.1 i), (sym to.0 i, sym to.1 i)), hand_is i, many i)) (step.plain.moves, step.as_many, step.moves) in record {
+      (λ i. (((sym from.0 i, sym from.1 i), (sym to.0 i, sym to.1 i)), hand_is i, many i)) (step.plain.moves, step.as_many, step.right, step.moves) in record {
         steps = record { queue_is = same; moves = all.0 };
         brought = step.brought;
         know = subst (AllKnow step.brought) view_is step.know;
@@ -80,7 +85,8 @@ module _ {V : Type 0} where
         brought' = step.brought';
         more = step.more;
         told = subst (AllTold step.brought') now step.told;
-        moves = all.2;
+        right = all.2;
+        moves = all.3;
         rests = λ none_there. step.rests (many ∙ none_there) ∙ hand_is;
       }
 

@@ -1,13 +1,15 @@
 -- A step that the machine makes, and that moves its slot, keeps the rule, and tells its seats what it was.
-use Rattle.std.proofs.Common.{◌≡◌, ◌≢◌, ℕ, zero, suc, arith, List, [], ◌∷◌, length, map, get_or, set, sym, refl, ap, ◌∙◌, subst, ⊎_elim, Option}
-use mathlib.Core.Option.{some}
+use Rattle.std.proofs.Common.{◌≡◌, ◌≢◌, ℕ, zero, suc, arith, List, [], ◌∷◌, length, length-set, map, get_or, set, sym, refl, ap, ◌∙◌, subst, ⊎_elim, Option}
+use mathlib.Core.Option.{some, none}
+use mathlib.Core.Option as maybe
 use mathlib.Core.List.{IsPrefix}
 use lib.ListN.{get_elem?}
-use Rattle.atomic_table.specs.Table.{Allows, homes_after, carried_after}
+use Rattle.atomic_table.specs.Table.{Act, keeps, takes, gives, chain, Allows, homes_after, carried_after}
 use Rattle.atomic_table.proofs.Lists.{at_set, at_map}
 use Rattle.wq_words.specs.declared.layout.Layout.{Layout}
 use Rattle.wq_words.specs.declared.event.Event.{Event}
 use Rattle.wq_words.specs.History.{accepted}
+use Rattle.wq_words.specs.Valued.{AreBrought}
 use Rattle.wq_words.proofs.Prefixes.{prefix_self, prefix_on}
 use Rattle.wq_core.specs.declared.step.Step.{Step}
 use Rattle.wq_core.specs.Machine.{Machine, after}
@@ -25,6 +27,14 @@ pub map_set : {A B : Type 0} (f : A → B) (l : List A) (i : ℕ) (a : A) → ma
 map_set f [] i a = refl
 map_set f (x ∷ xs) zero a = refl
 map_set f (x ∷ xs) (suc i) a = ap (λ l. f x ∷ l) (map_set f xs i a)
+
+-- a slot that moves is a slot still
+homes_many : {S : Type 0} (hs : List (maybe.Option S)) (c : List (ℕ × S)) (a : Act S) → length (homes_after hs c a) ≡ length hs
+homes_many hs c keeps = refl
+homes_many hs c (takes k y) = length-set hs k none
+homes_many hs [] gives = refl
+homes_many hs (x ∷ xs) gives = length-set hs x.0 (some x.1)
+homes_many hs c (chain a b) = homes_many (homes_after hs c a) (carried_after c a) b ∙ homes_many hs c a
 
 module _ {V : Type 0} where
   pub all_more : (brs brs' : List (Option V)) → IsPrefix brs brs' → (v : ValueView V) → AllKnow brs v → AllKnow brs' v
@@ -90,23 +100,21 @@ module _ {V : Type 0} where
                 (at_set s.views id j now v other);
           },
           record {
-            plain = record {
-              part = t.part;
-              others = ps;
-              part' = done.first;
-              others' = done.rest;
-              was = refl;
-              is = now_is;
-              slots = refl;
-              moves =
-                  done.moves;
-            };
+            plain = record { part = t.part; others = ps; part' = done.first; others' = done.rest; was = refl; is = now_is; moves = done.moves };
             brought = r.brought;
             know = r.told id (t ∷ ts) there;
             as_many = r.shelves.as_many ∙ ap (λ (z : Machine). length (accepted z.history)) (sym done.before_is);
             brought' = it.brs';
             more = it.more;
             told = told_all next.history it.brs' (done.first ∷ done.rest) many seen;
+            right = λ some_slot. let makes = done.moves.makes in
+                subst (λ (z : Layout × List Event). AreBrought z.0.items (accepted z.1) it.brs') (λ k. (
+                  sym (makes.fits_after.layout_is ∙ ap (λ (z : Machine). (after z (seat_at p.seat p.stage) step).layout) done.before_is) k,
+                  sym (makes.seen_is ∙ ap (λ (z : Machine). (after z (seat_at p.seat p.stage) step).history) done.before_is) k,
+                )) (record {
+                  as_many = many;
+                  carries = λ place k y stands has. it.shelves.right place k y (omega (arith, some_slot, deep, homes_many s.homes c it.act)) stands has;
+                });
             moves = λ some_slot. subst (λ (z : Machine × ℕ). Moves said step p z.0 z.1 r.brought c it.brs' (carried_after c it.act))
                 (λ k. (sym done.before_is k, sym found k)) (it.moved (omega (arith, some_slot, deep)));
             rests = λ none_there. it.rests (deep ∙ none_there);

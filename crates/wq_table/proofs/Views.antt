@@ -1,10 +1,10 @@
 -- Views that are cut, joined and made.
 use Rattle.std.proofs.Common.{◌≡◌, ℕ, zero, suc, ◌+◌, ◌-◌, ◌<◌, ◌≤◌, ◌≢◌, cond, eqb, List, [], ◌∷◌, ◌++◌, length, get_or, set, replicate, sym, refl}
 use Rattle.std.proofs.Common.{ap, ◌∙◌, subst, ⊎_elim, arith, length-set, eq-eqb, ne_eqb}
-use mathlib.Core.Option.{some, none, some-injective, some-ne-none}
+use mathlib.Core.Option.{some, some-injective, some-ne-none}
 use lib.ListN.{get_elem?}
 use lib.Seq.{set-get_or}
-use Rattle.atomic_table.specs.Table.{State, step, keeps, Allows, Splits, Joins, opening}
+use Rattle.atomic_table.specs.Table.{State, Splits, Joins, opening}
 use Rattle.atomic_table.proofs.Lists.{at_set, set_else}
 use Rattle.wq_words.specs.declared.layout.Layout.{Layout}
 use Rattle.wq_words.specs.Numbers.{number_count}
@@ -14,7 +14,7 @@ use Rattle.wq_words.specs.Seen.{owner_seat}
 use Rattle.wq_table.proofs.Present.{stands_put, stands_behind, cut_present, cut_longest, joined_at, seat_both, seen_both, seat_meets, seen_meets}
 use Rattle.wq_table.proofs.Present.{present_open, longest_open}
 use Rattle.wq_table.specs.Law.{View, IsPartOf, Apart, ArePartsAt, HasPartOf, HasSeenAll, Kept, sender_part, owner_part, row, opening_view, front_of, rest_of}
-use Rattle.wq_table.specs.Plays.{Sat, all_see, AllOf, meets}
+use Rattle.wq_table.specs.Plays.{all_see, AllOf}
 use Rattle.wq_core.proofs.Sound.{sound_opening}
 use Rattle.wq_words.proofs.Growing.{at_end}
 use Rattle.wq_words.proofs.Prefixes.{prefix_self}
@@ -48,25 +48,36 @@ module _ (m : Machine) where
     fit_both who who' id other apart new ps v all.3 old rest,
   )
 
-pub offs : (l : Layout) (id : ℕ) (v : View) → Splits (Kept l) id v (rest_of v) (front_of v)
-offs l id [] s r at = let m = r.machine in record {
+-- a seat that speaks for nobody is cut off
+pub blanks : (l : Layout) (id : ℕ) (v : View) → Splits (Kept l) id v v []
+blanks l id v s r at = let m = r.machine in record {
   machine = m;
   who = r.who;
   sound = r.sound;
   layout_is = r.layout_is;
   words_are = r.words_are;
   seats = λ j w there. ⊎_elim
-      (λ (t : get_elem? (set s.views id []) j ≡ some w). ⊎_elim (λ (u : (j ≡ id) × ([] ≡ w)). subst (λ (z : View). ArePartsAt m r.who j z) u.1 tt)
-      (λ (u : (j ≢ id) × (get_elem? s.views j ≡ some w)). r.seats j w u.1) (at_set s.views id j [] w t))
-      (λ (t : (j ≡ length (set s.views id [])) × ([] ≡ w)). subst (λ (z : View). ArePartsAt m r.who j z) t.1 tt) (at_end (set s.views id []) [] w j there);
-  present = λ c seat. stands_behind (set s.views id []) (HasPartOf c) [] (r.who c)
-      (stands_put s.views (HasPartOf c) id [] [] (r.who c) at (λ has. has) (r.present c seat));
+      (λ (t : get_elem? (set s.views id v) j ≡ some w). ⊎_elim
+      (λ (u : (j ≡ id) × (v ≡ w)). subst (λ (z : ℕ × View). ArePartsAt m r.who z.0 z.1) (λ i. (sym u.0 i, u.1 i)) (r.seats id v at))
+      (λ (u : (j ≢ id) × (get_elem? s.views j ≡ some w)). r.seats j w u.1) (at_set s.views id j v w t))
+      (λ (t : (j ≡ length (set s.views id v)) × ([] ≡ w)). subst (λ (z : View). ArePartsAt m r.who j z) t.1 tt) (at_end (set s.views id v) [] w j there);
+  present = λ c seat. stands_behind (set s.views id v) (HasPartOf c) [] (r.who c)
+      (stands_put s.views (HasPartOf c) id v v (r.who c) at (λ has. has) (r.present c seat));
   longest = (
     r.longest.0,
-    stands_behind (set s.views id []) (HasSeenAll m.history) [] r.longest.0
-        (stands_put s.views (HasSeenAll m.history) id [] [] r.longest.0 at (λ has. has) r.longest.1),
+    stands_behind (set s.views id v) (HasSeenAll m.history) [] r.longest.0
+        (stands_put s.views (HasSeenAll m.history) id v v r.longest.0 at (λ has. has) r.longest.1),
   );
 }
+
+-- the machine is the same
+pub blanks_machine : (l : Layout) (id : ℕ) (v : View) (s : State (Unit {0}) View) (r : Kept l s) (at : get_elem? s.views id ≡ some v)
+    → (blanks l id v s r at).machine ≡ r.machine
+unfolding blanks
+blanks_machine l id v s r at = refl
+
+pub offs : (l : Layout) (id : ℕ) (v : View) → Splits (Kept l) id v (rest_of v) (front_of v)
+offs l id [] s r at = blanks l id [] s r at
 offs l id (p ∷ ps) s r at =
     let m = r.machine in let n : ℕ = length s.views in let c : ℕ = p.seat in let who' : ℕ → ℕ = λ d. cond (eqb d c) n (r.who d) in
     let all = r.seats id (p ∷ ps) at in
@@ -90,11 +101,10 @@ offs l id (p ∷ ps) s r at =
       longest = cut_longest s.views id p ps at m.history r.longest.0 r.longest.1;
     }
 
--- the machine is the same
 pub offs_machine : (l : Layout) (id : ℕ) (v : View) (s : State (Unit {0}) View) (r : Kept l s) (at : get_elem? s.views id ≡ some v)
     → (offs l id v s r at).machine ≡ r.machine
 unfolding offs
-offs_machine l id [] s r at = refl
+offs_machine l id [] s r at = blanks_machine l id [] s r at
 offs_machine l id (p ∷ ps) s r at = refl
 
 pub boths : (l : Layout) (id : ℕ) (v : View) (other : ℕ) (w : View) → Joins (Kept l) id v other w (w ++ v) []
@@ -167,15 +177,6 @@ kept_meeting l id i v s r at = let m = r.machine in let all = r.seats id v at in
   refl,
 )
 
-pub meets_goes : (l : Layout) (slots id i : ℕ) (me : Sat) → Allows (Kept l) slots id me i (λ n. n) (meets (step slots i 0 0 none) me)
-meets_goes l slots id i me s r _ at _ = (
-  all_see r.machine.history me.0,
-  keeps,
-  tt,
-  (kept_meeting l id i me.0 s r at).0,
-  record { machine = r.machine; sound = r.sound; all = all_of r.machine r.who id me.0 (r.seats id me.0 at); is = refl; slots = refl },
-)
-
 row_apart : (l : Layout) (c a m : ℕ) → c < a → a + m ≤ owner_seat → Apart c (row l a m)
 row_apart l c a zero less small = ((λ e. omega arith), tt)
 row_apart l c a (suc m) less small = ((λ e. omega arith), row_apart l c (a + 1) m (omega arith) (omega arith))
@@ -231,12 +232,6 @@ pub opens_machine : (l : Layout) (ws : List ℕ) (is : ws ≡ replicate (word_co
 unfolding opens
 opens_machine l ws is = refl
 
--- what is cut off a row, and what is left of it
+-- the first of a row, and what is left of it
 pub row_more : (l : Layout) (a n : ℕ) → a < n → row l a (n - a) ≡ sender_part l a ∷ row l (a + 1) (n - (a + 1))
 row_more l a n less = let e : n - a ≡ suc (n - (a + 1)) = omega arith in ap (row l a) e
-
-pub cut_first : (v w : View) (l : Layout) (a n : ℕ) → a < n → v ≡ row l a (n - a) → w ≡ front_of v → w ≡ sender_part l a ∷ []
-cut_first v w l a n less is cut = cut ∙ ap front_of (is ∙ row_more l a n less)
-
-pub cut_rest : (v w : View) (l : Layout) (a n : ℕ) → a < n → v ≡ row l a (n - a) → w ≡ rest_of v → w ≡ row l (a + 1) (n - (a + 1))
-cut_rest v w l a n less is cut = cut ∙ ap rest_of (is ∙ row_more l a n less)

@@ -1,4 +1,4 @@
--- What a clause sees of a chair, and what its steps do.
+-- What a clause sees of a chair, but for what its items bring, and what its steps do.
 use Rattle.std.specs.Prelude.{◌≡◌, ℕ, zero, suc, List, [], ◌∷◌, ◌++◌, Some, None}
 use Rattle.atomic_table.specs.Seated.{TableId}
 use Rattle.wq_words.specs.declared.layout.Layout.{Layout}
@@ -95,17 +95,6 @@ pub record Meet (this that this' that' : Standing) : Type 0 where
   pub that_fits : SeatedIn machine that
   pub this_is : this' ≡ seeing machine this
   pub that_is : that' ≡ seeing machine that
-
--- all three have seen all that has happened
-pub record MeetAll (this that third this' that' third' : Standing) : Type 0 where
-  pub machine : Machine
-  pub sound : IsSound machine
-  pub this_fits : SeatedIn machine this
-  pub that_fits : SeatedIn machine that
-  pub third_fits : SeatedIn machine third
-  pub this_is : this' ≡ seeing machine this
-  pub that_is : that' ≡ seeing machine that
-  pub third_is : third' ≡ seeing machine third
 
 -- the chair speaks for both, and has seen all that has happened
 pub record Joined (this that both : Standing) : Type 0 where

@@ -1,4 +1,4 @@
--- The rule of the table, and how its views are cut.
+-- What the rule of the table says of its words, and how its views are cut.
 use Rattle.std.specs.Prelude.{◌≡◌, ◌≢◌, ◌⊎◌, ℕ, zero, suc, ◌+◌, ◌<◌, List, [], ◌∷◌, get_or, None}
 use mathlib.Core.Option.{some}
 use mathlib.Core.List.{IsPrefix}

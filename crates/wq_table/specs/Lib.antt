@@ -3,8 +3,6 @@ pub mod Plays
 pub mod Places
 pub mod Chair
 pub mod Beside
-pub mod Sits
 pub mod Slots
 pub mod SlotSteps
 pub mod SlotChairs
-pub mod Resting

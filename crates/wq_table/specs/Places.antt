@@ -5,7 +5,7 @@ use Rattle.wq_core.specs.declared.step.Step.{Step}
 use Rattle.wq_core.specs.Machine.{after}
 use Rattle.wq_table.specs.declared.table.Part.{Part}
 use Rattle.wq_table.specs.Law.{View, seat_at}
-use Rattle.wq_table.specs.Plays.{Sat, Makes, Told, Kind, all_see, AllOf}
+use Rattle.wq_table.specs.Plays.{Makes, all_see, AllOf}
 
 -- of a view whose first part is p and whose others are ps, the part at this place, or the last where there are not so many
 abbrev pub chosen : ℕ → Part → View → Part
@@ -26,21 +26,12 @@ pub record MakesAt (at : ℕ) (step : Step) (word : ℕ) (p : Part) (ps : View) 
   pub still_fit : AllOf (after makes.before (seat_at (chosen at p ps).seat (chosen at p ps).stage) step) (besides at p ps)
   pub others_are : besides at q qs ≡ all_see (chosen at q qs).seen (besides at p ps)
 
--- the same, as a step of the view of a seat of the table
-pub record ViewMakes (at : ℕ) (step : Layout → Step) (me : Sat) (word : ℕ) (me' : Sat) : Type 0 where
+-- the same, as a step of a view
+pub record ViewMakes (at : ℕ) (step : Layout → Step) (old : View) (word : ℕ) (new : View) : Type 0 where
   pub part : Part
   pub others : View
   pub part' : Part
   pub others' : View
-  pub was : me.0 ≡ part ∷ others
-  pub is : me'.0 ≡ part' ∷ others'
-  pub slots : me'.1 ≡ me.1
+  pub was : old ≡ part ∷ others
+  pub is : new ≡ part' ∷ others'
   pub moves : MakesAt at (step (chosen at part others).layout) word part others part' others'
-
--- the step of the part at a place that an operation is
-abbrev pub tells : ℕ → Kind → Told
-tells at kind s = ViewMakes at (kind s.word s.second)
-
--- a store has its new word elsewhere
-abbrev pub stores : ℕ → Kind → Told
-stores at kind s = ViewMakes at (kind s.word s.first)

@@ -1,6 +1,5 @@
 -- What a step tells the seat that makes it: the machine was sound just before, the seat was of it, and has now seen all that has happened.
 use Rattle.std.specs.Prelude.{◌≡◌, ℕ, ◌-◌, ◌==◌, if◌then◌else◌, List, [], ◌∷◌, ◌++◌, get_or, set, Option, Some, None}
-use Rattle.atomic_table.specs.Table.{Me, Step as TableStep}
 use Rattle.wq_words.specs.declared.layout.Layout.{Layout}
 use Rattle.wq_words.specs.Numbers.{number_count}
 use Rattle.wq_words.specs.declared.event.Why.TheVariants.{Closed, Draining, Contended, Cancelled}
@@ -15,9 +14,6 @@ use Rattle.wq_table.specs.declared.table.Part.{Part}
 use Rattle.wq_table.specs.declared.table.Stage.{Stage}
 use Rattle.wq_table.specs.declared.table.Stage.TheVariants.{Sends, Owns}
 use Rattle.wq_table.specs.Law.{View, part, seat_at, IsPartOf}
-
-abbrev pub Sat : Type 0
-Sat = Me (Unit {0}) View
 
 -- the word that the step finds; a store finds what it stores
 abbrev pub word_found : Machine → ℕ → Step → ℕ
@@ -89,9 +85,6 @@ pub record Performs (p : Part) (step : Step) (i : ℕ) (f g : ℕ → ℕ) : Typ
   pub made : (m : Machine) → IsSound m → IsPartOf m p → IsMade m (seat_at p.seat p.stage) step
   pub writes : (m : Machine) → IsSound m → IsPartOf m p → (after m (seat_at p.seat p.stage) step).words ≡ set m.words i (f (get_or m.words i 0))
   pub finds : (m : Machine) → IsSound m → IsPartOf m p → g (get_or m.words i 0) ≡ word_found m p.seat step
-
-abbrev pub Told : Type 1
-Told = TableStep (Unit {0}) → Sat → ℕ → Sat → Type 0
 
 -- the step of a seat that an operation is, by the place of its word and, where it is stored or exchanged, the new word
 abbrev pub Kind : Type 0
@@ -169,14 +162,3 @@ all_see h (p ∷ ps) = see h p ∷ all_see h ps
 abbrev pub AllOf : Machine → View → Type 0
 AllOf m [] = Unit {0}
 AllOf m (p ∷ ps) = IsPartOf m p × AllOf m ps
-
--- the seats of a view see all that has happened
-pub record SeesAll (me me' : Sat) : Type 0 where
-  pub machine : Machine
-  pub sound : IsSound machine
-  pub all : AllOf machine me.0
-  pub is : me'.0 ≡ all_see machine.history me.0
-  pub slots : me'.1 ≡ me.1
-
-abbrev pub meets : Told
-meets s me word me' = SeesAll me me'

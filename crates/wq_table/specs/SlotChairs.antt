@@ -1,4 +1,4 @@
--- What a clause sees of a chair whose table may have slots, and what its steps do.
+-- What a clause sees of a chair, and what its steps do.
 use Rattle.std.specs.Prelude.{◌≡◌, ◌≢◌, ℕ, zero, suc, ◌<◌, List, [], ◌∷◌, ◌++◌, map, length, Option, IfSome, IsSome}
 use Rattle.std.specs.Arc.{arc_value}
 use mathlib.Core.List.{IsPrefix}
@@ -7,17 +7,17 @@ use Rattle.atomic_table.specs.Table.{rest, turned}
 use Rattle.wq_words.specs.declared.layout.Layout.{Layout}
 use Rattle.wq_words.specs.Numbers.{number_count}
 use Rattle.wq_words.specs.History.{accepted}
+use Rattle.wq_words.specs.Valued.{AreBrought}
 use Rattle.wq_core.specs.declared.step.Step.{Step}
 use Rattle.wq_core.specs.Words.{word_count}
 use Rattle.wq_table.specs.declared.table.Part.{Part}
 use Rattle.wq_table.specs.declared.values.ValuePart.{ValuePart}
-use Rattle.wq_table.specs.declared.value_chair.ValueChair.TheInside.{Inside}
+use Rattle.wq_table.specs.declared.chair.Chair.TheInside.{Inside}
 use Rattle.wq_core.specs.Machine.{Machine}
 use Rattle.wq_core.specs.Sound.{IsSound}
-use Rattle.wq_table.specs.Law.{sender_part, owner_part}
+use Rattle.wq_table.specs.Law.{View, sender_part, owner_part}
 use Rattle.wq_table.specs.Plays.{see, all_see}
 use Rattle.wq_table.specs.Chair.{Standing, part_at, Steps, SeatedIn}
-use Rattle.wq_table.specs.Sits.{AreSized}
 use Rattle.wq_table.specs.Slots.{ValueView, plain_view, AllKnow, telling, rest_values}
 use Rattle.wq_table.specs.SlotSteps.{Hand, Moves, AllTold}
 
@@ -46,6 +46,7 @@ pub record ValueSteps {V : Type 0} (at : ℕ) (said : Option V) (step : Step) (w
   pub brought' : List (Option V)
   pub more : IsPrefix brought brought'
   pub told : AllTold brought' (new.first ∷ new.others)
+  pub right : 0 < old.queue.slots → AreBrought (part_at at (standing_of new)).layout.items (accepted (part_at at (standing_of new)).seen) brought'
   pub moves : 0 < old.queue.slots → Moves said step (part_at at (standing_of old)) steps.moves.makes.before word brought old.hand brought' new.hand
   pub rests : old.queue.slots ≡ 0 → new.hand ≡ old.hand
 
@@ -83,6 +84,12 @@ value_standing s = record {
   hand = s.seat.me.1;
 }
 
+-- each part is of a queue of this size
+abbrev pub AreSized : Layout → View → Type 0
+AreSized layout [] = Unit {0}
+AreSized layout (p ∷ ps) = (p.layout ≡ layout) × AreSized layout ps
+
+-- the fields of a chair
 pub record ValueSits {V : Type 0} (s : Inside V) : Type 0 where
   pub seated : s.seat.table_id ≡ (arc_value s.words).shared.table_id
   pub wide : (arc_value s.words).shared.table_id.words ≡ word_count (number_count s.layout)
@@ -107,10 +114,12 @@ knowing m brs it = record {
 pub record ValueMeet {V : Type 0} (this that this' that' : ValueStanding V) : Type 0 where
   pub machine : Machine
   pub sound : IsSound machine
+  pub queue_is : this.queue ≡ that.queue
   pub this_fits : SeatedIn machine (standing_of this)
   pub that_fits : SeatedIn machine (standing_of that)
   pub brought : List (Option V)
   pub as_many : length brought ≡ length (accepted machine.history)
+  pub right : 0 < this.queue.slots → AreBrought machine.layout.items (accepted machine.history) brought
   pub this_knows : AllKnow brought (this.first ∷ this.others)
   pub that_knows : AllKnow brought (that.first ∷ that.others)
   pub this_is : this' ≡ knowing machine brought this
@@ -120,11 +129,14 @@ pub record ValueMeet {V : Type 0} (this that this' that' : ValueStanding V) : Ty
 pub record ValueMeetAll {V : Type 0} (this that third this' that' third' : ValueStanding V) : Type 0 where
   pub machine : Machine
   pub sound : IsSound machine
+  pub that_queue : this.queue ≡ that.queue
+  pub third_queue : this.queue ≡ third.queue
   pub this_fits : SeatedIn machine (standing_of this)
   pub that_fits : SeatedIn machine (standing_of that)
   pub third_fits : SeatedIn machine (standing_of third)
   pub brought : List (Option V)
   pub as_many : length brought ≡ length (accepted machine.history)
+  pub right : 0 < this.queue.slots → AreBrought machine.layout.items (accepted machine.history) brought
   pub this_knows : AllKnow brought (this.first ∷ this.others)
   pub that_knows : AllKnow brought (that.first ∷ that.others)
   pub third_knows : AllKnow brought (third.first ∷ third.others)
@@ -141,6 +153,7 @@ pub record ValueJoined {V : Type 0} (this that both : ValueStanding V) : Type 0 
   pub that_fits : SeatedIn machine (standing_of that)
   pub brought : List (Option V)
   pub as_many : length brought ≡ length (accepted machine.history)
+  pub right : 0 < this.queue.slots → AreBrought machine.layout.items (accepted machine.history) brought
   pub this_knows : AllKnow brought (this.first ∷ this.others)
   pub that_knows : AllKnow brought (that.first ∷ that.others)
   pub queue_is : both.queue ≡ this.queue

@@ -4,7 +4,7 @@ use mathlib.Core.List.{IsPrefix}
 use Rattle.atomic_table.specs.Table.{Me, Step as TableStep, Act, Valid, homes_after, carried_after, rest}
 use Rattle.wq_words.specs.declared.layout.Layout.{Layout}
 use Rattle.wq_words.specs.History.{accepted, begun}
-use Rattle.wq_words.specs.Valued.{Carries}
+use Rattle.wq_words.specs.Valued.{Carries, AreBrought}
 use Rattle.wq_core.specs.declared.step.Step.{Step}
 use Rattle.wq_core.specs.declared.step.Step.TheVariants.{Hold, Push, Back, Walk, Begin, Chain}
 use Rattle.wq_core.specs.Machine.{Machine, seen_word, after}
@@ -81,14 +81,15 @@ AllTold brs (t ∷ ts) = (t.brought ≡ brs) × (length brs ≡ length (accepted
 -- The step is made by the part at this place of a view. Just before it had been brought what `brought` says, and now all parts
 -- know what was brought since.
 pub record ValueMakes {V : Type 0} (slots at : ℕ) (said : Option V) (step : Layout → Step) (me : ValueSat V) (word : ℕ) (me' : ValueSat V) : Type 0 where
-  pub plain : ViewMakes at step (plain_view me.0, []) word (plain_view me'.0, [])
+  pub plain : ViewMakes at step (plain_view me.0) word (plain_view me'.0)
   pub brought : List (Option V)
   pub know : AllKnow brought me.0
   pub as_many : length brought ≡ length (accepted plain.moves.makes.before.history)
   pub brought' : List (Option V)
   pub more : IsPrefix brought brought'
   pub told : AllTold brought' me'.0
-  -- where there are slots one may move, else the hand stays
+  -- where there are slots each item brought a value, and one slot may move, else the hand stays
+  pub right : 0 < slots → AreBrought (chosen at plain.part' plain.others').layout.items (accepted (chosen at plain.part' plain.others').seen) brought'
   pub moves : 0 < slots → Moves said (step (chosen at plain.part plain.others).layout) (chosen at plain.part plain.others) plain.moves.makes.before word
       brought me.1 brought' me'.1
   pub rests : slots ≡ 0 → me'.1 ≡ me.1
@@ -104,15 +105,16 @@ abbrev pub stores_values : {V : Type 0} → ℕ → Kind → Telling V
 stores_values at kind s = ValueMakes s.slots at None (kind s.word s.first)
 
 -- the seats of a view see all that has happened, and know all that was brought
-pub record ValuesSeen {V : Type 0} (me me' : ValueSat V) : Type 0 where
+pub record ValuesSeen {V : Type 0} (slots : ℕ) (me me' : ValueSat V) : Type 0 where
   pub machine : Machine
   pub sound : IsSound machine
   pub all : AllOf machine (plain_view me.0)
   pub brought : List (Option V)
   pub as_many : length brought ≡ length (accepted machine.history)
+  pub right : 0 < slots → AreBrought machine.layout.items (accepted machine.history) brought
   pub know : AllKnow brought me.0
   pub is : me'.0 ≡ map (telling brought) (all_see machine.history (plain_view me.0))
   pub hand : me'.1 ≡ me.1
 
 abbrev pub meets_values : {V : Type 0} → Telling V
-meets_values s me word me' = ValuesSeen me me'
+meets_values s me word me' = ValuesSeen s.slots me me'

@@ -1,235 +1,220 @@
 //! The seats of a queue, and their atomic steps.
-ghost use Rattle.std.specs.Prelude.{◌≡◌, ◌≢◌, ℕ, ◌+◌, ◌%◌, ◌^◌, ◌<◌, ◌==◌, List, [], ◌∷◌, length, bit_or, bit_and};
+ghost use Rattle.std.specs.Prelude.{◌≡◌, ◌≢◌, ℕ, ◌+◌, ◌%◌, ◌^◌, ◌<◌, ◌==◌, List, [], ◌∷◌, Some, None, length, bit_or, bit_and};
 ghost use prog.Atomic.{either};
-ghost use Rattle.wq_table.specs.declared.table.Part.{Part};
-ghost use Rattle.wq_table.specs.Plays.{Performs};
 ghost use Rattle.wq_words.specs.Numbers.{number_count};
+ghost use Rattle.wq_words.specs.Valued.{Carries};
 ghost use Rattle.wq_words.specs.declared.event.Why.TheVariants.{Closed, Draining, Contended, Cancelled};
 ghost use Rattle.wq_words.specs.History.{Holds, IsClosed, IsShut, IsDraining, IsRunning};
 ghost use Rattle.wq_core.specs.Words.{word_count, closed_word, draining_word, TakesPushes, link_word};
 ghost use Rattle.wq_core.specs.declared.step.Step.TheVariants.{Hold, Look, Link, Push, Back, Check, Take, Close, Drain, Resume, Walk, Begin, End, Chain, Turn, Rest};
-ghost use Rattle.wq_table.specs.Chair.{part_at, IsSender, HasSeen, HasLinked, HasNone, IsOwner, IsToWalk, IsToTurn, IsToBegin, IsRested, Steps, Meet, MeetAll, Joined};
+ghost use Rattle.wq_table.specs.Plays.{Performs};
+ghost use Rattle.wq_table.specs.Chair.{IsSender, HasSeen, HasLinked, HasNone, IsOwner, IsToWalk, IsToTurn, IsToBegin, IsRested};
+ghost use Rattle.wq_table.specs.SlotSteps.{GoesBy, in_front};
+ghost use Rattle.wq_table.specs.SlotChairs.{part_in, ValueSteps, HasSlot, HasValue, Exchanges, TurnsHand, ValueMeet, ValueMeetAll, ValueJoined};
 
 use super::table::{
-    Begins, Both, Cancels, Chains, Checks, Closes, Drains, Ends, FindsClosed, FindsDraining,
-    GivesUp, Kind, Links, Looks, Makes, Marks, Meets, Off, Part, Place, Pushes, Rests, Resumes,
-    Seated, Stores, Takes, Turns, Walks, Words,
+    Begins, Blank, Both, Cancels, Chains, Checks, Closes, Drains, Ends, FindsClosed, FindsDraining,
+    GivesUp, Kind, Links, Looks, Makes, Marks, Meets, Off, Place, Pushes, Rests, Resumes, Stores,
+    Takes, Turns, Walks,
 };
-use atomic_table::Badge;
-use std::marker::Model;
+use super::values::{Brings, Nothing, Says, Seated, Words};
+use std::marker::{Brand, Model};
 use std::mem::replace;
 use std::sync::Arc;
-use trail::GhostList;
 use wq_core::place::{HEAD, done_place, item_place, link_place, link_word};
 use wq_words::{BUSY, Head, Layout};
 
 /// A seat of a queue: a sender's or the owner's, or one that speaks for two of these and has a part for each. Each of its steps
-/// is one operation on one word of the table, by one of its parts, and its other part has then seen all that has happened.
+/// is one operation on one word of the table, by one of its parts, and its other part has then seen all that has happened. Where
+/// the items bring values the table has a slot for each number, and the chair has some of them in hand, each with what lies in it.
 #[derive(Drop)]
-pub struct Chair {
-    pub(crate) words: Arc<Words>,
+pub struct Chair<V> {
+    pub(crate) words: Arc<Words<V>>,
     // for a chair of its own again for the second part: one that is made then may want memory
-    pub(crate) spare: Option<Arc<Words>>,
-    pub(crate) badge: Badge<GhostList<Part>>,
+    pub(crate) spare: Option<Arc<Words<V>>>,
+    pub(crate) seat: Seated<V>,
     pub(crate) layout: Layout,
 }
 
-impl Model for Chair {
-    ghost use Rattle.wq_table.specs.Chair.{Standing};
+impl<V> Model for Chair<V> {
+    ghost use Rattle.wq_table.specs.SlotChairs.{ValueStanding, value_standing, ValueSits};
 
-    ghost Value = { Standing };
+    ghost Value = { ValueStanding V };
 
-    ghost use Rattle.wq_table.specs.Sits.{standing, Sits};
+    ghost view = { value_standing };
 
-    ghost view = { standing };
-
-    ghost invariant = { Sits };
-}
-
-// The seat that a badge keeps. It leaves a blank one.
-fn rise(badge: &mut Badge<GhostList<Part>>) -> Seated
-    requires { (v : List Part) × (badge.old.views ≡ v ∷ []) }
-    ensures table { result.table_id ≡ badge.old.table_id }
-    ensures view { badge.old.views ≡ result.me.0 ∷ [] }
-    ensures none { result.me.1 ≡ [] }
-{
-    replace(badge, Badge::blank()).into_seat()
+    ghost invariant = { ValueSits };
 }
 
 // One operation each on the word at a place. The kind says which step of the seat it is.
-impl Chair {
+impl<V> Chair<V> {
     fn load<K: Kind, P: Place>(&mut self, place: usize) -> u64
-        requires place { place < word_count (number_count (part_at P.at self.old).layout) }
-        requires performs { Performs (part_at P.at self.old) (K.step place 0 (part_at P.at self.old).layout) place (λ n. n) (λ n. n) }
-        ensures { Steps P.at (K.step place 0 (part_at P.at self.old).layout) result self.old self.new }
+        requires place { place < word_count (number_count (part_in P.at self.old).layout) }
+        requires performs { Performs (part_in P.at self.old) (K.step place 0 (part_in P.at self.old).layout) place (λ n. n) (λ n. n) }
+        requires goes { GoesBy self.old.queue.slots (part_in P.at self.old) None (K.step place 0 (part_in P.at self.old).layout) self.old.hand }
+        ensures { ValueSteps P.at None (K.step place 0 (part_in P.at self.old).layout) result self.old self.new }
     {
-        let mut seat = rise(&mut self.badge);
-        let found = self.words.shared.load::<Makes<K, P>>(&mut seat, place);
-        self.badge = seat.into_badge();
-        found
+        self.words.shared.load::<Makes<K, P>>(&mut self.seat, place)
     }
 
     fn store<K: Kind, P: Place>(&mut self, place: usize, new: u64)
-        requires place { place < word_count (number_count (part_at P.at self.old).layout) }
-        requires performs { Performs (part_at P.at self.old) (K.step place new (part_at P.at self.old).layout) place (λ n. new) (λ n. new) }
-        ensures { Steps P.at (K.step place new (part_at P.at self.old).layout) new self.old self.new }
+        requires place { place < word_count (number_count (part_in P.at self.old).layout) }
+        requires performs { Performs (part_in P.at self.old) (K.step place new (part_in P.at self.old).layout) place (λ n. new) (λ n. new) }
+        requires goes { GoesBy self.old.queue.slots (part_in P.at self.old) None (K.step place new (part_in P.at self.old).layout) self.old.hand }
+        ensures { ValueSteps P.at None (K.step place new (part_in P.at self.old).layout) new self.old self.new }
     {
-        let mut seat = rise(&mut self.badge);
         self.words
             .shared
-            .store::<Stores<K, P>>(&mut seat, place, new);
-        self.badge = seat.into_badge();
+            .store::<Stores<K, P>>(&mut self.seat, place, new);
     }
 
     fn swap<K: Kind, P: Place>(&mut self, place: usize, new: u64) -> u64
-        requires place { place < word_count (number_count (part_at P.at self.old).layout) }
-        requires performs { Performs (part_at P.at self.old) (K.step place 0 (part_at P.at self.old).layout) place (λ n. new) (λ n. n) }
-        ensures { Steps P.at (K.step place 0 (part_at P.at self.old).layout) result self.old self.new }
+        requires place { place < word_count (number_count (part_in P.at self.old).layout) }
+        requires performs { Performs (part_in P.at self.old) (K.step place 0 (part_in P.at self.old).layout) place (λ n. new) (λ n. n) }
+        requires goes { GoesBy self.old.queue.slots (part_in P.at self.old) None (K.step place 0 (part_in P.at self.old).layout) self.old.hand }
+        ensures { ValueSteps P.at None (K.step place 0 (part_in P.at self.old).layout) result self.old self.new }
     {
-        let mut seat = rise(&mut self.badge);
-        let found = self.words.shared.swap::<Makes<K, P>>(&mut seat, place, new);
-        self.badge = seat.into_badge();
-        found
+        self.words
+            .shared
+            .swap::<Makes<K, P>>(&mut self.seat, place, new)
     }
 
-    fn exchange<K: Kind, P: Place>(&mut self, place: usize, old: u64, new: u64) -> u64
-        requires place { place < word_count (number_count (part_at P.at self.old).layout) }
-        requires performs { Performs (part_at P.at self.old) (K.step place new (part_at P.at self.old).layout) place (λ n. either (n == old) new n) (λ n. n) }
-        ensures { Steps P.at (K.step place new (part_at P.at self.old).layout) result self.old self.new }
+    fn replace<K: Kind, P: Place>(&mut self, place: usize, old: u64, new: u64) -> u64
+        requires place { place < word_count (number_count (part_in P.at self.old).layout) }
+        requires performs { Performs (part_in P.at self.old) (K.step place new (part_in P.at self.old).layout) place (λ n. either (n == old) new n) (λ n. n) }
+        requires goes { GoesBy self.old.queue.slots (part_in P.at self.old) None (K.step place new (part_in P.at self.old).layout) self.old.hand }
+        ensures { ValueSteps P.at None (K.step place new (part_in P.at self.old).layout) result self.old self.new }
     {
-        let mut seat = rise(&mut self.badge);
-        let found = self
-            .words
+        self.words
             .shared
-            .compare_exchange::<Makes<K, P>>(&mut seat, place, old, new);
-        self.badge = seat.into_badge();
-        found
+            .compare_exchange::<Makes<K, P>>(&mut self.seat, place, old, new)
     }
 
-    fn or<K: Kind, P: Place>(&mut self, place: usize, bits: u64) -> u64
-        requires place { place < word_count (number_count (part_at P.at self.old).layout) }
-        requires performs { Performs (part_at P.at self.old) (K.step place 0 (part_at P.at self.old).layout) place (λ n. bit_or n bits) (λ n. n) }
-        ensures { Steps P.at (K.step place 0 (part_at P.at self.old).layout) result self.old self.new }
+    fn or<K: Kind, P: Place, G: Says<V>>(&mut self, place: usize, bits: u64) -> u64
+        requires place { place < word_count (number_count (part_in P.at self.old).layout) }
+        requires performs { Performs (part_in P.at self.old) (K.step place 0 (part_in P.at self.old).layout) place (λ n. bit_or n bits) (λ n. n) }
+        requires goes { GoesBy self.old.queue.slots (part_in P.at self.old) G.said (K.step place 0 (part_in P.at self.old).layout) self.old.hand }
+        ensures { ValueSteps P.at G.said (K.step place 0 (part_in P.at self.old).layout) result self.old self.new }
     {
-        let mut seat = rise(&mut self.badge);
-        let found = self
-            .words
+        self.words
             .shared
-            .fetch_or::<Makes<K, P>>(&mut seat, place, bits);
-        self.badge = seat.into_badge();
-        found
+            .fetch_or::<Brings<K, P, G>>(&mut self.seat, place, bits)
     }
 
     fn and<K: Kind, P: Place>(&mut self, place: usize, bits: u64) -> u64
-        requires place { place < word_count (number_count (part_at P.at self.old).layout) }
-        requires performs { Performs (part_at P.at self.old) (K.step place 0 (part_at P.at self.old).layout) place (λ n. bit_and n bits) (λ n. n) }
-        ensures { Steps P.at (K.step place 0 (part_at P.at self.old).layout) result self.old self.new }
+        requires place { place < word_count (number_count (part_in P.at self.old).layout) }
+        requires performs { Performs (part_in P.at self.old) (K.step place 0 (part_in P.at self.old).layout) place (λ n. bit_and n bits) (λ n. n) }
+        requires goes { GoesBy self.old.queue.slots (part_in P.at self.old) None (K.step place 0 (part_in P.at self.old).layout) self.old.hand }
+        ensures { ValueSteps P.at None (K.step place 0 (part_in P.at self.old).layout) result self.old self.new }
     {
-        let mut seat = rise(&mut self.badge);
-        let found = self
-            .words
+        self.words
             .shared
-            .fetch_and::<Makes<K, P>>(&mut seat, place, bits);
-        self.badge = seat.into_badge();
-        found
+            .fetch_and::<Makes<K, P>>(&mut self.seat, place, bits)
     }
 
     fn add<K: Kind, P: Place>(&mut self, place: usize, more: u64) -> u64
-        requires place { place < word_count (number_count (part_at P.at self.old).layout) }
-        requires performs { Performs (part_at P.at self.old) (K.step place 0 (part_at P.at self.old).layout) place (λ n. (n + more) % 2 ^ 64) (λ n. n) }
-        ensures { Steps P.at (K.step place 0 (part_at P.at self.old).layout) result self.old self.new }
+        requires place { place < word_count (number_count (part_in P.at self.old).layout) }
+        requires performs { Performs (part_in P.at self.old) (K.step place 0 (part_in P.at self.old).layout) place (λ n. (n + more) % 2 ^ 64) (λ n. n) }
+        requires goes { GoesBy self.old.queue.slots (part_in P.at self.old) None (K.step place 0 (part_in P.at self.old).layout) self.old.hand }
+        ensures { ValueSteps P.at None (K.step place 0 (part_in P.at self.old).layout) result self.old self.new }
     {
-        let mut seat = rise(&mut self.badge);
-        let found = self
-            .words
+        self.words
             .shared
-            .fetch_add::<Makes<K, P>>(&mut seat, place, more);
-        self.badge = seat.into_badge();
-        found
+            .fetch_add::<Makes<K, P>>(&mut self.seat, place, more)
     }
 }
 
-impl Chair {
-    /// A sender sets the PENDING bit of a number, and learns its item word as it was.
+impl<V> Chair<V> {
+    /// A sender sets the PENDING bit of a number, and learns its item word as it was. Where it was clear the number's slot comes to hand,
+    /// with nothing in it.
     pub fn hold<P: Place>(&mut self, number: u32) -> u64
-        requires sender { IsSender (part_at P.at self.old).stage }
-        requires number { number < number_count (part_at P.at self.old).layout }
-        ensures step { Steps P.at (Hold number) result self.old self.new }
+        requires sender { IsSender (part_in P.at self.old).stage }
+        requires number { number < number_count (part_in P.at self.old).layout }
+        ensures step { ValueSteps P.at None (Hold number) result self.old self.new }
     {
         let place = item_place(self.layout, number);
-        self.or::<Marks, P>(place, 1)
+        self.or::<Marks, P, Nothing>(place, 1)
     }
 
     /// A sender loads the head.
     pub fn look<P: Place>(&mut self) -> u64
-        requires sender { IsSender (part_at P.at self.old).stage }
-        ensures step { Steps P.at Look result self.old self.new }
+        requires sender { IsSender (part_in P.at self.old).stage }
+        ensures step { ValueSteps P.at None Look result self.old self.new }
     {
         self.load::<Looks, P>(HEAD)
     }
 
     /// A sender stores the link to the head that it saw as the link of a number that it holds.
     pub fn link<P: Place>(&mut self, number: u32, seen: u64)
-        requires number { number < number_count (part_at P.at self.old).layout }
-        requires held { Holds (part_at P.at self.old).seen (part_at P.at self.old).seat number }
-        requires seen { HasSeen seen (part_at P.at self.old).stage }
+        requires number { number < number_count (part_in P.at self.old).layout }
+        requires held { Holds (part_in P.at self.old).seen (part_in P.at self.old).seat number }
+        requires seen { HasSeen seen (part_in P.at self.old).stage }
         requires open { TakesPushes seen }
-        ensures step { Steps P.at (Link number) (link_word seen) self.old self.new }
+        ensures step { ValueSteps P.at None (Link number) (link_word seen) self.old self.new }
     {
         let place = link_place(number);
         let word = link_word(seen);
         self.store::<Links, P>(place, word);
     }
 
-    /// A sender exchanges the head that it saw for the number that it linked to it, and learns the head as it was.
+    /// A sender exchanges the head that it saw for the number that it linked to it, and learns the head as it was. Where that wins the
+    /// number's slot goes with it.
     pub fn push<P: Place>(&mut self, number: u32, seen: u64) -> u64
-        requires number { number < number_count (part_at P.at self.old).layout }
-        requires linked { HasLinked seen number (part_at P.at self.old).stage }
-        ensures step { Steps P.at (Push number) result self.old self.new }
+        requires number { number < number_count (part_in P.at self.old).layout }
+        requires linked { HasLinked seen number (part_in P.at self.old).stage }
+        requires slot { 0 < self.old.queue.slots → HasSlot number self.old.hand }
+        requires carries { 0 < self.old.queue.slots → Carries (part_in P.at self.old).layout.items number (in_front self.old.hand) }
+        ensures step { ValueSteps P.at None (Push number) result self.old self.new }
     {
+        // opens the chair, whose invariant says how many slots there are
+        let _ = &self.layout;
         let word = Head::Item(number).to_word();
-        self.exchange::<Pushes, P>(HEAD, seen, word)
+        self.replace::<Pushes, P>(HEAD, seen, word)
     }
 
-    /// A sender that saw the queue closed clears the PENDING bit of a number that it holds.
+    /// A sender that saw the queue closed clears the PENDING bit of a number that it holds, whose slot it has emptied.
     pub fn back_closed<P: Place>(&mut self, number: u32)
-        requires number { number < number_count (part_at P.at self.old).layout }
-        requires held { Holds (part_at P.at self.old).seen (part_at P.at self.old).seat number }
-        requires closed { HasSeen closed_word (part_at P.at self.old).stage }
-        ensures step { (word : ℕ) × Steps P.at (Back number Closed) word self.old self.new }
+        requires number { number < number_count (part_in P.at self.old).layout }
+        requires held { Holds (part_in P.at self.old).seen (part_in P.at self.old).seat number }
+        requires closed { HasSeen closed_word (part_in P.at self.old).stage }
+        requires slot { 0 < self.old.queue.slots → HasValue number None self.old.hand }
+        ensures step { (word : ℕ) × ValueSteps P.at None (Back number Closed) word self.old self.new }
     {
         let place = item_place(self.layout, number);
         self.and::<FindsClosed, P>(place, 0);
     }
 
-    /// A sender that saw the queue draining clears the PENDING bit of a number that it holds.
+    /// A sender that saw the queue draining clears the PENDING bit of a number that it holds, whose slot it has emptied.
     pub fn back_draining<P: Place>(&mut self, number: u32)
-        requires number { number < number_count (part_at P.at self.old).layout }
-        requires held { Holds (part_at P.at self.old).seen (part_at P.at self.old).seat number }
-        requires draining { HasSeen draining_word (part_at P.at self.old).stage }
-        ensures step { (word : ℕ) × Steps P.at (Back number Draining) word self.old self.new }
+        requires number { number < number_count (part_in P.at self.old).layout }
+        requires held { Holds (part_in P.at self.old).seen (part_in P.at self.old).seat number }
+        requires draining { HasSeen draining_word (part_in P.at self.old).stage }
+        requires slot { 0 < self.old.queue.slots → HasValue number None self.old.hand }
+        ensures step { (word : ℕ) × ValueSteps P.at None (Back number Draining) word self.old self.new }
     {
         let place = item_place(self.layout, number);
         self.and::<FindsDraining, P>(place, 0);
     }
 
-    /// A sender whose tries were all lost clears the PENDING bit of a number that it holds.
+    /// A sender whose tries were all lost clears the PENDING bit of a number that it holds, whose slot it has emptied.
     pub fn back_contended<P: Place>(&mut self, number: u32)
-        requires sender { IsSender (part_at P.at self.old).stage }
-        requires number { number < number_count (part_at P.at self.old).layout }
-        requires held { Holds (part_at P.at self.old).seen (part_at P.at self.old).seat number }
-        ensures step { (word : ℕ) × Steps P.at (Back number Contended) word self.old self.new }
+        requires sender { IsSender (part_in P.at self.old).stage }
+        requires number { number < number_count (part_in P.at self.old).layout }
+        requires held { Holds (part_in P.at self.old).seen (part_in P.at self.old).seat number }
+        requires slot { 0 < self.old.queue.slots → HasValue number None self.old.hand }
+        ensures step { (word : ℕ) × ValueSteps P.at None (Back number Contended) word self.old self.new }
     {
         let place = item_place(self.layout, number);
         self.and::<GivesUp, P>(place, 0);
     }
 
-    /// A sender clears the PENDING bit of a number that it holds.
+    /// A sender clears the PENDING bit of a number that it holds, whose slot it has emptied.
     pub fn back_cancelled<P: Place>(&mut self, number: u32)
-        requires sender { IsSender (part_at P.at self.old).stage }
-        requires number { number < number_count (part_at P.at self.old).layout }
-        requires held { Holds (part_at P.at self.old).seen (part_at P.at self.old).seat number }
-        ensures step { (word : ℕ) × Steps P.at (Back number Cancelled) word self.old self.new }
+        requires sender { IsSender (part_in P.at self.old).stage }
+        requires number { number < number_count (part_in P.at self.old).layout }
+        requires held { Holds (part_in P.at self.old).seen (part_in P.at self.old).seat number }
+        requires slot { 0 < self.old.queue.slots → HasValue number None self.old.hand }
+        ensures step { (word : ℕ) × ValueSteps P.at None (Back number Cancelled) word self.old self.new }
     {
         let place = item_place(self.layout, number);
         self.and::<Cancels, P>(place, 0);
@@ -237,9 +222,9 @@ impl Chair {
 
     /// A sender loads an item word.
     pub fn check<P: Place>(&mut self, number: u32) -> u64
-        requires sender { IsSender (part_at P.at self.old).stage }
-        requires number { number < number_count (part_at P.at self.old).layout }
-        ensures step { Steps P.at (Check number) result self.old self.new }
+        requires sender { IsSender (part_in P.at self.old).stage }
+        requires number { number < number_count (part_in P.at self.old).layout }
+        ensures step { ValueSteps P.at None (Check number) result self.old self.new }
     {
         let place = item_place(self.layout, number);
         self.load::<Checks, P>(place)
@@ -247,19 +232,19 @@ impl Chair {
 
     /// The owner takes the whole list, leaves the mark of a queue at work, and learns the head as it was.
     pub fn take<P: Place>(&mut self) -> u64
-        requires open { ¬ IsShut (part_at P.at self.old).seen }
-        requires rested { IsRested (part_at P.at self.old).stage }
-        requires empty { HasNone (part_at P.at self.old).stage }
-        ensures step { Steps P.at Take result self.old self.new }
+        requires open { ¬ IsShut (part_in P.at self.old).seen }
+        requires rested { IsRested (part_in P.at self.old).stage }
+        requires empty { HasNone (part_in P.at self.old).stage }
+        ensures step { ValueSteps P.at None Take result self.old self.new }
     {
         self.swap::<Takes, P>(HEAD, BUSY)
     }
 
     /// The owner takes the whole list and leaves the closed mark.
     pub fn close<P: Place>(&mut self) -> u64
-        requires unclosed { ¬ IsClosed (part_at P.at self.old).seen }
-        requires rested { IsRested (part_at P.at self.old).stage }
-        ensures step { Steps P.at Close result self.old self.new }
+        requires unclosed { ¬ IsClosed (part_in P.at self.old).seen }
+        requires rested { IsRested (part_in P.at self.old).stage }
+        ensures step { ValueSteps P.at None Close result self.old self.new }
     {
         let word = Head::Closed.to_word();
         self.swap::<Closes, P>(HEAD, word)
@@ -267,9 +252,9 @@ impl Chair {
 
     /// The owner takes the whole list and leaves the draining mark.
     pub fn drain<P: Place>(&mut self) -> u64
-        requires open { ¬ IsShut (part_at P.at self.old).seen }
-        requires rested { IsRested (part_at P.at self.old).stage }
-        ensures step { Steps P.at Drain result self.old self.new }
+        requires open { ¬ IsShut (part_in P.at self.old).seen }
+        requires rested { IsRested (part_in P.at self.old).stage }
+        ensures step { ValueSteps P.at None Drain result self.old self.new }
     {
         let word = Head::Draining.to_word();
         self.swap::<Drains, P>(HEAD, word)
@@ -277,43 +262,47 @@ impl Chair {
 
     /// The owner, with nothing that waits or runs, leaves the mark of a queue at work in place of the draining mark.
     pub fn resume<P: Place>(&mut self)
-        requires draining { IsDraining (part_at P.at self.old).seen }
-        requires rested { IsRested (part_at P.at self.old).stage }
-        requires empty { HasNone (part_at P.at self.old).stage }
-        requires idle { ¬ IsRunning (part_at P.at self.old).seen }
-        ensures step { (word : ℕ) × Steps P.at Resume word self.old self.new }
+        requires draining { IsDraining (part_in P.at self.old).seen }
+        requires rested { IsRested (part_in P.at self.old).stage }
+        requires empty { HasNone (part_in P.at self.old).stage }
+        requires idle { ¬ IsRunning (part_in P.at self.old).seen }
+        ensures step { (word : ℕ) × ValueSteps P.at None Resume word self.old self.new }
     {
         self.swap::<Resumes, P>(HEAD, BUSY);
     }
 
     /// The owner loads the link of the number that it walks next, or of the oldest number of its batch once it has walked all.
+    /// The slot of the number that it walks comes to hand, with what the number brought.
     pub fn walk<P: Place>(&mut self, number: u32) -> u64
-        requires number { number < number_count (part_at P.at self.old).layout }
-        requires next { IsToWalk number (part_at P.at self.old).stage }
-        ensures step { Steps P.at Walk result self.old self.new }
+        requires number { number < number_count (part_in P.at self.old).layout }
+        requires next { IsToWalk number (part_in P.at self.old).stage }
+        ensures step { ValueSteps P.at None Walk result self.old self.new }
     {
+        // opens the chair, whose invariant says how many slots there are
+        let _ = &self.layout;
         let place = link_place(number);
         self.load::<Walks, P>(place)
     }
 
     /// The owner stores a number as the link of one that it walked or that waits in its batch.
     pub fn turn<P: Place>(&mut self, number: u32, next: u32)
-        requires number { number < number_count (part_at P.at self.old).layout }
-        requires next { next < number_count (part_at P.at self.old).layout }
-        requires taken { IsToTurn number (part_at P.at self.old).stage }
-        ensures step { Steps P.at (Turn number (Some next)) (next + 1) self.old self.new }
+        requires number { number < number_count (part_in P.at self.old).layout }
+        requires next { next < number_count (part_in P.at self.old).layout }
+        requires taken { IsToTurn number (part_in P.at self.old).stage }
+        ensures step { ValueSteps P.at None (Turn number (Some next)) (next + 1) self.old self.new }
     {
         let place = link_place(number);
         let word = Head::Item(next).to_word();
         self.store::<Turns, P>(place, word);
     }
 
-    /// The owner clears the PENDING bit of the oldest number of its batch, which then runs.
+    /// The owner clears the PENDING bit of the oldest number of its batch, whose slot it has emptied and which then runs.
     pub fn begin<P: Place>(&mut self, number: u32)
-        requires number { number < number_count (part_at P.at self.old).layout }
-        requires next { IsToBegin number (part_at P.at self.old).stage }
-        requires rests { ¬ IsRunning (part_at P.at self.old).seen }
-        ensures step { (word : ℕ) × Steps P.at Begin word self.old self.new }
+        requires number { number < number_count (part_in P.at self.old).layout }
+        requires next { IsToBegin number (part_in P.at self.old).stage }
+        requires rests { ¬ IsRunning (part_in P.at self.old).seen }
+        requires slot { 0 < self.old.queue.slots → HasValue number None self.old.hand }
+        ensures step { (word : ℕ) × ValueSteps P.at None Begin word self.old self.new }
     {
         let place = item_place(self.layout, number);
         self.and::<Begins, P>(place, 0);
@@ -321,131 +310,188 @@ impl Chair {
 
     /// The owner counts the execution that runs as ended.
     pub fn end<P: Place>(&mut self)
-        requires owner { IsOwner (part_at P.at self.old).stage }
-        requires runs { IsRunning (part_at P.at self.old).seen }
-        ensures step { (word : ℕ) × Steps P.at End word self.old self.new }
+        requires owner { IsOwner (part_in P.at self.old).stage }
+        requires runs { IsRunning (part_in P.at self.old).seen }
+        ensures step { (word : ℕ) × ValueSteps P.at None End word self.old self.new }
     {
         let place = done_place(self.layout);
         self.add::<Ends, P>(place, 1);
     }
 
-    /// The owner sets the PENDING bit of an item while the queue is shut, and learns its item word as it was.
-    pub fn chain<P: Place>(&mut self, number: u32) -> u64
-        requires item { number < (part_at P.at self.old).layout.items }
-        requires shut { IsShut (part_at P.at self.old).seen }
-        requires rested { IsRested (part_at P.at self.old).stage }
-        requires runs { IsRunning (part_at P.at self.old).seen }
-        ensures step { Steps P.at (Chain number) result self.old self.new }
+    // The owner sets the PENDING bit of an item while the queue is shut.
+    fn chain_as<P: Place, G: Says<V>>(&mut self, number: u32) -> u64
+        requires item { number < (part_in P.at self.old).layout.items }
+        requires shut { IsShut (part_in P.at self.old).seen }
+        requires rested { IsRested (part_in P.at self.old).stage }
+        requires runs { IsRunning (part_in P.at self.old).seen }
+        requires said { 0 < self.old.queue.slots → Carries (part_in P.at self.old).layout.items number G.said }
+        ensures step { ValueSteps P.at G.said (Chain number) result self.old self.new }
     {
         let place = item_place(self.layout, number);
-        self.or::<Chains, P>(place, 1)
+        self.or::<Chains, P, G>(place, 1)
+    }
+
+    /// The owner sets the PENDING bit of an item while the queue, whose table has no slots, is shut, and learns its item word as it
+    /// was.
+    pub fn chain<P: Place>(&mut self, number: u32) -> u64
+        requires none { self.old.queue.slots ≡ 0 }
+        requires item { number < (part_in P.at self.old).layout.items }
+        requires shut { IsShut (part_in P.at self.old).seen }
+        requires rested { IsRested (part_in P.at self.old).stage }
+        requires runs { IsRunning (part_in P.at self.old).seen }
+        ensures step { ValueSteps P.at None (Chain number) result self.old self.new }
+    {
+        self.chain_as::<P, Nothing>(number)
+    }
+
+    /// The owner sets the PENDING bit of an item while the queue is shut, and learns its item word as it was. Where it was clear the
+    /// item is accepted with this value, and its slot comes to hand, where the value is to be put.
+    pub fn chain_value<P: Place>(&mut self, number: u32, value: &V) -> u64
+        requires item { number < (part_in P.at self.old).layout.items }
+        requires shut { IsShut (part_in P.at self.old).seen }
+        requires rested { IsRested (part_in P.at self.old).stage }
+        requires runs { IsRunning (part_in P.at self.old).seen }
+        ensures step { ValueSteps P.at (Some value.now) (Chain number) result self.old self.new }
+    {
+        self.chain_said::<P, Brand>(number, value)
+    }
+
+    // The same, where the ghost member is the value.
+    fn chain_said<P: Place, G: Says<V>>(&mut self, number: u32, value: &V) -> u64
+        requires item { number < (part_in P.at self.old).layout.items }
+        requires shut { IsShut (part_in P.at self.old).seen }
+        requires rested { IsRested (part_in P.at self.old).stage }
+        requires runs { IsRunning (part_in P.at self.old).seen }
+        requires said { G.said ≡ Some value.now }
+        ensures step { ValueSteps P.at (Some value.now) (Chain number) result self.old self.new }
+    {
+        let _ = value;
+        self.chain_as::<P, G>(number)
     }
 
     /// The owner, with nothing that waits or runs, exchanges the mark of a queue at work for that of a queue that rests, and
     /// learns the head as it was.
     pub fn rest<P: Place>(&mut self) -> u64
-        requires open { ¬ IsShut (part_at P.at self.old).seen }
-        requires rested { IsRested (part_at P.at self.old).stage }
-        requires empty { HasNone (part_at P.at self.old).stage }
-        requires idle { ¬ IsRunning (part_at P.at self.old).seen }
-        ensures step { Steps P.at Rest result self.old self.new }
+        requires open { ¬ IsShut (part_in P.at self.old).seen }
+        requires rested { IsRested (part_in P.at self.old).stage }
+        requires empty { HasNone (part_in P.at self.old).stage }
+        requires idle { ¬ IsRunning (part_in P.at self.old).seen }
+        ensures step { ValueSteps P.at None Rest result self.old self.new }
     {
         let word = Head::Empty.to_word();
-        self.exchange::<Rests, P>(HEAD, BUSY, word)
+        self.replace::<Rests, P>(HEAD, BUSY, word)
     }
 
-    /// Two seats of one queue meet: afterwards each has seen all that has happened.
-    pub fn meet(&mut self, other: &mut Chair)
-        requires queue { self.old.queue ≡ other.old.queue }
-        requires alone { other.old.others ≡ [] }
-        ensures both { Meet self.old other.old self.new other.new }
+    /// Reads and writes the slot in front of the hand.
+    pub fn exchange(&mut self, number: u32, value: Option<V>) -> Option<V>
+        requires slot { HasSlot number self.old.hand }
+        ensures exchanged { Exchanges number value result self.old self.new }
     {
-        let theirs = rise(&mut other.badge);
-        let words = &self.words.shared;
-        let mut seat = rise(&mut self.badge);
-        words.join_seat::<Both>(&mut seat, theirs);
-        words.load::<Meets>(&mut seat, done_place(self.layout));
-        let theirs = words.split_seat::<Off>(&mut seat);
-        other.badge = theirs.into_badge();
-        self.badge = seat.into_badge();
+        let table = &self.words.shared;
+        table.exchange(&mut self.seat, number as usize, value)
     }
 
-    /// Three seats of one queue meet: afterwards each has seen all that has happened.
-    pub fn meet_both(&mut self, other: &mut Chair, third: &mut Chair)
+    /// The slot in front of the hand goes behind the others. It does nothing at run time.
+    pub fn turn_hand(&mut self)
+        ensures turned { TurnsHand self.old self.new }
+    {
+        self.seat.turn();
+    }
+
+    /// Two seats of one queue meet, of which the other has nothing in hand: afterwards each has seen all that has happened, and
+    /// knows all that was brought.
+    pub fn meet(&mut self, other: &mut Chair<V>)
+        requires queue { self.old.queue ≡ other.old.queue }
+        requires empty { other.old.hand ≡ [] }
+        requires alone { other.old.others ≡ [] }
+        ensures met { ValueMeet self.old other.old self.new other.new }
+    {
+        let table = &self.words.shared;
+        let blank: Seated<V> = table.split_seat::<Blank>(&mut self.seat);
+        let theirs = replace(&mut other.seat, blank);
+        table.join_seat::<Both>(&mut self.seat, theirs);
+        table.load::<Meets>(&mut self.seat, done_place(self.layout));
+        other.seat = table.split_seat::<Off>(&mut self.seat);
+    }
+
+    /// Three seats of one queue meet, of which the others have nothing in hand: afterwards each has seen all that has happened,
+    /// and knows all that was brought.
+    pub fn meet_both(&mut self, other: &mut Chair<V>, third: &mut Chair<V>)
         requires other { self.old.queue ≡ other.old.queue }
         requires third { self.old.queue ≡ third.old.queue }
+        requires empty { (other.old.hand ≡ []) × (third.old.hand ≡ []) }
         requires alone { (other.old.others ≡ []) × (third.old.others ≡ []) }
-        ensures all { MeetAll self.old other.old third.old self.new other.new third.new }
+        ensures all { ValueMeetAll self.old other.old third.old self.new other.new third.new }
     {
-        let others = rise(&mut other.badge);
-        let thirds = rise(&mut third.badge);
-        let words = &self.words.shared;
-        let mut seat = rise(&mut self.badge);
-        words.join_seat::<Both>(&mut seat, others);
-        words.join_seat::<Both>(&mut seat, thirds);
-        words.load::<Meets>(&mut seat, done_place(self.layout));
-        let thirds = words.split_seat::<Off>(&mut seat);
-        let others = words.split_seat::<Off>(&mut seat);
-        third.badge = thirds.into_badge();
-        other.badge = others.into_badge();
-        self.badge = seat.into_badge();
+        let table = &self.words.shared;
+        let blank: Seated<V> = table.split_seat::<Blank>(&mut self.seat);
+        let others = replace(&mut other.seat, blank);
+        let blank: Seated<V> = table.split_seat::<Blank>(&mut self.seat);
+        let thirds = replace(&mut third.seat, blank);
+        table.join_seat::<Both>(&mut self.seat, others);
+        table.join_seat::<Both>(&mut self.seat, thirds);
+        table.load::<Meets>(&mut self.seat, done_place(self.layout));
+        third.seat = table.split_seat::<Off>(&mut self.seat);
+        other.seat = table.split_seat::<Off>(&mut self.seat);
     }
+}
 
-    /// Two chairs of one queue, of one part each, become one, whose parts have seen all that has happened.
-    pub fn join(self, other: Chair) -> Chair
+impl<V: Drop> Chair<V> {
+    /// Two chairs of one queue become one, whose parts have seen all that has happened and know all that was brought. The first
+    /// has one part and nothing in hand, and its part comes first.
+    pub fn join(self, other: Chair<V>) -> Chair<V>
         requires queue { other.queue ≡ self.queue }
-        requires alone { (self.others ≡ []) × (other.others ≡ []) }
-        ensures joined { Joined self other result }
+        requires empty { self.hand ≡ [] }
+        requires alone { self.others ≡ [] }
+        ensures joined { ValueJoined self other result }
     {
         let Chair {
             words,
             spare: _,
-            badge,
+            seat: mine,
             layout,
         } = self;
         let Chair {
             words: spare,
             spare: _,
-            badge: other,
+            mut seat,
             layout: _,
         } = other;
-        let mine: Seated = badge.into_seat();
-        let mut seat: Seated = other.into_seat();
         words.shared.join_seat::<Both>(&mut seat, mine);
         words.shared.load::<Meets>(&mut seat, done_place(layout));
         Chair {
             words,
             spare: Some(spare),
-            badge: seat.into_badge(),
+            seat,
             layout,
         }
     }
 
-    /// A chair of its own again for each part of a chair of two.
-    pub fn split(self) -> (Chair, Chair)
+    /// A chair of its own again for each part of a chair of two that has nothing in hand.
+    pub fn split(self) -> (Chair<V>, Chair<V>)
         requires two { length self.others ≡ 1 }
-        ensures first { (result.0.queue ≡ self.queue) × (result.0.part ≡ self.part) × (result.0.others ≡ []) }
-        ensures second { (result.1.queue ≡ self.queue) × (result.1.part ∷ [] ≡ self.others) × (result.1.others ≡ []) }
+        requires empty { self.hand ≡ [] }
+        ensures first { (result.0.queue ≡ self.queue) × (result.0.first ≡ self.first) × (result.0.others ≡ []) × (result.0.hand ≡ []) }
+        ensures second { (result.1.queue ≡ self.queue) × (result.1.first ∷ [] ≡ self.others) × (result.1.others ≡ []) × (result.1.hand ≡ []) }
     {
         let Chair {
             words,
             spare,
-            badge,
+            mut seat,
             layout,
         } = self;
         let Some(spare) = spare else { unreachable!() };
-        let mut seat: Seated = badge.into_seat();
-        let front: Seated = words.shared.split_seat::<Off>(&mut seat);
+        let front: Seated<V> = words.shared.split_seat::<Off>(&mut seat);
         let first = Chair {
             words,
             spare: None,
-            badge: front.into_badge(),
+            seat: front,
             layout,
         };
         let second = Chair {
             words: spare,
             spare: None,
-            badge: seat.into_badge(),
+            seat,
             layout,
         };
         (first, second)

@@ -3,14 +3,10 @@
 
 mod chair;
 mod making;
-mod resting;
 mod table;
-mod value_chair;
 mod values;
 
 pub use chair::Chair;
-pub use making::{chairs, value_chairs};
-pub use resting::RestingChair;
+pub use making::chairs;
 pub use table::{First, Part, Place, Second, Stage};
-pub use value_chair::ValueChair;
 pub use values::ValuePart;

@@ -1,13 +1,11 @@
-//! The table of a queue's words, its rule, and what each step tells the seat that makes it.
-use atomic_table::{Join, Play, Seat, Split, Table, TableRule};
-use std::alloc::Global;
+//! What a seat of a queue knows of its words, and which kinds of steps it makes.
 use std::marker::PhantomData;
 use trail::GhostList;
 use wq_core::Private;
 use wq_words::{Event, Layout};
 
-/// What a seat of a queue knows: its number, the layout, the history that it has seen, the words as its last step left
-/// them, and what it keeps in private. No value of it is made.
+/// What a seat of a queue knows, but for what is brought: its number, the layout, the history that it has seen, the words as its
+/// last step left them, and what it keeps in private. No value of it is made.
 pub struct Part {
     pub seat: u64,
     pub layout: Layout,
@@ -26,20 +24,9 @@ pub enum Stage {
 
 /// The rule: the words and the private parts of all seats are a sound state of the machine, each seat has seen a
 /// beginning of its history, with all its own events, and some seat all of it, and the links of what the owner took and has
-/// not begun are as the owner left them.
+/// not begun are as the owner left them. Where there are slots, what a number brought lies in its slot while it waits to be
+/// walked.
 pub struct Law;
-
-impl TableRule<(), GhostList<Part>, Layout> for Law {
-    ghost use Rattle.wq_table.specs.Law.{Kept, opening_view};
-
-    ghost holds = { Kept };
-
-    ghost first = { opening_view };
-}
-
-pub(crate) type Words = Table<(), GhostList<Part>, Layout, Law, Global>;
-
-pub(crate) type Seated = Seat<(), GhostList<Part>>;
 
 // Which step of a seat an operation is.
 pub(crate) trait Kind {
@@ -74,21 +61,9 @@ pub(crate) struct Makes<K, P> {
     of: PhantomData<(K, P)>,
 }
 
-impl<K: Kind, P: Place> Play<(), GhostList<Part>> for Makes<K, P> {
-    ghost use Rattle.wq_table.specs.Places.{tells};
-
-    ghost then = { tells P.at K.step };
-}
-
 // The same of a store, where the new word says which step it is.
 pub(crate) struct Stores<K, P> {
     of: PhantomData<(K, P)>,
-}
-
-impl<K: Kind, P: Place> Play<(), GhostList<Part>> for Stores<K, P> {
-    ghost use Rattle.wq_table.specs.Places.{stores};
-
-    ghost then = { stores P.at K.step };
 }
 
 pub(crate) struct Marks;
@@ -243,32 +218,14 @@ impl Kind for Rests {
     ghost step = { rests };
 }
 
+// The seats of a view see all that has happened.
 pub(crate) struct Meets;
-
-impl Play<(), GhostList<Part>> for Meets {
-    ghost use Rattle.wq_table.specs.Plays.{meets};
-
-    ghost then = { meets };
-}
 
 // The first part goes to a new seat.
 pub(crate) struct Off;
 
-impl Split<GhostList<Part>> for Off {
-    ghost use Rattle.wq_table.specs.Law.{front_of, rest_of};
-
-    ghost left = { rest_of };
-
-    ghost right = { front_of };
-}
+// A new seat that speaks for nobody, which can stand in for one that is taken out of its place.
+pub(crate) struct Blank;
 
 // The second seat's parts come first, and it is left with none.
 pub(crate) struct Both;
-
-impl Join<GhostList<Part>> for Both {
-    ghost use Rattle.std.specs.Prelude.{[], ◌++◌};
-
-    ghost both = { λ v w. w ++ v };
-
-    ghost spent = { [] };
-}

@@ -1,13 +1,13 @@
-//! The same table where items bring values: its rule, and what each step tells the seat that makes it.
-use super::table::{Both, Kind, Law, Makes, Meets, Off, Part, Place, Stores};
+//! What the seats of a queue know of what its items bring: the rule of the table, and what each step tells the seat that makes it.
+use super::table::{Blank, Both, Kind, Law, Makes, Meets, Off, Part, Place, Stores};
 use atomic_table::{Join, Play, Seat, Split, Table, TableRule};
 use std::alloc::Global;
 use std::marker::{Brand, PhantomData};
 use trail::GhostList;
 use wq_words::Layout;
 
-/// What a seat of a queue knows whose items bring values: its part, and what each accepted number of the history that it
-/// has seen brought, in their order. No value of it is made.
+/// What a seat of a queue knows: its part, and what each accepted number of the history that it has seen brought, in their order.
+/// No value of it is made.
 pub struct ValuePart<V> {
     pub part: Part,
     pub brought: GhostList<Option<V>>,
@@ -21,9 +21,9 @@ impl<V> TableRule<Option<V>, GhostList<ValuePart<V>>, Layout> for Law {
     ghost first = { opening_values };
 }
 
-pub(crate) type ValueWords<V> = Table<Option<V>, GhostList<ValuePart<V>>, Layout, Law, Global>;
+pub(crate) type Words<V> = Table<Option<V>, GhostList<ValuePart<V>>, Layout, Law, Global>;
 
-pub(crate) type ValueSeat<V> = Seat<Option<V>, GhostList<ValuePart<V>>>;
+pub(crate) type Seated<V> = Seat<Option<V>, GhostList<ValuePart<V>>>;
 
 // What a chained item is to have, for the proof alone. A call at `Brand` picks it from what it is given.
 pub(crate) trait Says<V> {
@@ -84,6 +84,14 @@ impl<V> Split<GhostList<ValuePart<V>>> for Off {
     ghost left = { rest_values };
 
     ghost right = { front_values };
+}
+
+impl<V> Split<GhostList<ValuePart<V>>> for Blank {
+    ghost use Rattle.std.specs.Prelude.{[]};
+
+    ghost left = { λ v. v };
+
+    ghost right = { λ v. [] };
 }
 
 impl<V> Join<GhostList<ValuePart<V>>> for Both {

@@ -3,10 +3,11 @@ use Rattle.std.specs.Result.{is_ok, is_err}
 use Rattle.std.proofs.lemmas.Bool.{false≢true}
 use Rattle.std.proofs.lemmas.Iterator.Adapters.{YieldsList-from_vec}
 use Rattle.std.proofs.lemmas.Iterator.Consumers.{YieldsList-turn, YieldsList-end}
-use Rattle.wq_table.specs.Chair.{Standing}
+use Rattle.wq_table.specs.SlotChairs.{ValueStanding}
+use Rattle.wq_live.specs.declared.bare.Bare.{Bare}
 use Rattle.wq_live.specs.Known.{new_senders}
-use Rattle.wq_live.specs.Sits.{Sending, sending, alone_at, sender_view}
-use Rattle.wq_live.proofs.Built.{chair_at, sends_new, sender_view_new, new_senders-more, length-sender_chairs}
+use Rattle.wq_live.specs.Sits.{sending_in, sender_view}
+use Rattle.wq_live.proofs.Built.{chair_at, sender_of_none, view_new, new_senders-more, length-value_senders}
 use Rattle.wq_live.proofs.making.seat_senders.Goals as goal
 
 not_err : {T E : Type 0} (r : Result T E) → is_err r ≡ false → is_ok r ≡ true
@@ -14,21 +15,19 @@ not_err (Ok x) e = refl
 not_err (Err y) e = absurd (false≢true (sym e))
 
 pub invariant_of-sender : goal.invariant_of-sender
-invariant_of-sender c = let g = c.into_iter-chair-iterator.ensures.into_iter_gives in
+invariant_of-sender c = let h = c.into_iter-chair-iterator.ensures.into_iter_gives in
     let turn = YieldsList-turn
-    (YieldsList-from_vec {s = c.into_iter-chair-iterator.result} c.args.seats.items g.0 (g.1 ∙ c.args.seats.ok.0)) c.loop-chair.yielded
+    (YieldsList-from_vec {s = c.into_iter-chair-iterator.result} c.args.seats.items h.0 (h.1 ∙ c.args.seats.ok.0)) c.loop-chair.yielded
     c.loop-chair.chair-iterator c.loop-chair.yielded_by c.next.result c.next.new.self c.in-Some.chair c.in-Some.is c.next.ensures.steps in
     let q = c.requires.seats.0 in
     let is = chair_at q c.args.layout c.args.layout.senders c.args.seats.items
-    (length c.loop-chair.yielded) c.loop-chair.number c.in-Some.chair c.requires.seats.1 c.loop-chair.invariant.0 turn in record {
-      sends = sends_new _ q (ap (alone_at 0) is) refl;
-      alone = ap (λ (x : Standing). x.others) is;
-    }
+    (length c.loop-chair.yielded) c.loop-chair.number c.in-Some.chair c.requires.seats.2 c.loop-chair.invariant.0 turn in
+    sender_of_none q c.args.layout c.loop-chair.number c.in-Some.chair c.new.result is c.new.ensures c.requires.seats.1
 
 pub overflow_add-number : goal.overflow_add-number
-overflow_add-number c = let g = c.into_iter-chair-iterator.ensures.into_iter_gives in
+overflow_add-number c = let h = c.into_iter-chair-iterator.ensures.into_iter_gives in
     let turn = YieldsList-turn
-    (YieldsList-from_vec {s = c.into_iter-chair-iterator.result} c.args.seats.items g.0 (g.1 ∙ c.args.seats.ok.0)) c.loop-chair.yielded
+    (YieldsList-from_vec {s = c.into_iter-chair-iterator.result} c.args.seats.items h.0 (h.1 ∙ c.args.seats.ok.0)) c.loop-chair.yielded
     c.loop-chair.chair-iterator c.loop-chair.yielded_by c.next.result c.next.new.self c.in-Some.chair c.in-Some.is c.next.ensures.steps in
     let few = c.args.layout.in_limits.2.1 in
     omega (
@@ -36,41 +35,35 @@ overflow_add-number c = let g = c.into_iter-chair-iterator.ensures.into_iter_giv
       few,
       turn.0,
       c.loop-chair.invariant.0,
-      ap (λ (xs : List Standing). length xs) c.requires.seats.1,
-      length-sender_chairs c.requires.seats.0 c.args.layout c.args.layout.senders,
+      ap (λ (xs : List (ValueStanding Bare)). length xs) c.requires.seats.2,
+      length-value_senders Bare c.requires.seats.0 c.args.layout c.args.layout.senders,
     )
 
 pub loop-chair-preserved : goal.loop-chair-preserved
-loop-chair-preserved c = let g = c.into_iter-chair-iterator.ensures.into_iter_gives in let l = c.loop-chair in
+loop-chair-preserved c = let h = c.into_iter-chair-iterator.ensures.into_iter_gives in let l = c.loop-chair in
     let turn = YieldsList-turn
-    (YieldsList-from_vec {s = c.into_iter-chair-iterator.result} c.args.seats.items g.0 (g.1 ∙ c.args.seats.ok.0)) l.yielded l.chair-iterator
+    (YieldsList-from_vec {s = c.into_iter-chair-iterator.result} c.args.seats.items h.0 (h.1 ∙ c.args.seats.ok.0)) l.yielded l.chair-iterator
     l.yielded_by c.next.result c.next.new.self c.in-Some.chair c.in-Some.is c.next.ensures.steps in
-    let s : Sending = sending 0 c.in-Some.chair (record {
-      layout = c.args.layout;
-      number = l.number;
-      counts = record { queued = 0; pending = 0; closed = 0; draining = 0; contended = 0 };
-      spins = c.default.result;
-    }) in
     let failed = c.is_err.ensures.value in let no : c.is_err.result ≡ false = c.if-is_err.false in
     let ok : is_ok c.push.result ≡ true = not_err c.push.result (sym failed ∙ no) in (
       omega (arith, l.invariant.0, length-append l.yielded (c.in-Some.chair ∷ [])),
-      λ q is. let view = sender_view_new s q
-          (ap (alone_at 0) (chair_at q c.args.layout c.args.layout.senders c.args.seats.items (length l.yielded) l.number c.in-Some.chair is l.invariant.0
-          turn)) in
+      λ q is. let view = view_new q c.args.layout l.number c.in-Some.chair c.new.result
+          (chair_at q c.args.layout c.args.layout.senders c.args.seats.items (length l.yielded) l.number c.in-Some.chair is l.invariant.0 turn)
+          c.new.ensures in
           c.push.ensures.items ∙
-          (ap (λ (b : Bool). if b then l.senders.items ++ sender_view s ∷ [] else l.senders.items) ok ∙
+          (ap (λ (b : Bool). if b then l.senders.items ++ sender_view (sending_in 0 c.in-Some.chair c.new.result) ∷ [] else l.senders.items) ok ∙
           ((λ i. l.invariant.1 q is i ++ view i ∷ []) ∙ new_senders-more q c.args.layout l.number)),
     )
 
 pub returns : goal.returns
-returns c = let g = c.into_iter-chair-iterator.ensures.into_iter_gives in let l = c.loop-chair in
-    let all = YieldsList-end (YieldsList-from_vec {s = c.into_iter-chair-iterator.result} c.args.seats.items g.0 (g.1 ∙ c.args.seats.ok.0)) l.yielded
+returns c = let h = c.into_iter-chair-iterator.ensures.into_iter_gives in let l = c.loop-chair in
+    let all = YieldsList-end (YieldsList-from_vec {s = c.into_iter-chair-iterator.result} c.args.seats.items h.0 (h.1 ∙ c.args.seats.ok.0)) l.yielded
     l.chair-iterator l.yielded_by c.next.result c.next.new.self c.in-None.is c.next.ensures.steps in
     λ q is. let count : l.number ≡ c.args.layout.senders = omega (
       arith,
       l.invariant.0,
-      ap (λ (xs : List Standing). length xs) is,
-      length-sender_chairs q c.args.layout c.args.layout.senders,
+      ap (λ (xs : List (ValueStanding Bare)). length xs) is,
+      length-value_senders Bare q c.args.layout c.args.layout.senders,
       all.1,
     ) in
     l.invariant.1 q is ∙ ap (new_senders q c.args.layout) count

@@ -1,9 +1,9 @@
 use Rattle.std.proofs.Common.{◌≡◌, length}
 use Rattle.atomic_table.specs.Seated.{TableId}
-use Rattle.wq_table.specs.Chair.{sender_chairs}
+use Rattle.wq_table.specs.SlotChairs.{value_senders}
 use Rattle.wq_live.specs.Known.{new_senders}
 use Rattle.wq_live.proofs.making.seat_senders.Given as goal
 
 abbrev pub invariant-loop-chair : goal.invariant-loop-chair
-invariant-loop-chair l = (l.number ≡ length l.yielded) × ((q : TableId) → l.fn.seats.items ≡ sender_chairs q l.layout l.layout.senders
+invariant-loop-chair l = (l.number ≡ length l.yielded) × ((q : TableId) → l.fn.seats.items ≡ value_senders q l.layout l.layout.senders
     → l.senders.items ≡ new_senders q l.layout l.number)

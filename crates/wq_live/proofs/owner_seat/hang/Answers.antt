@@ -1,46 +1,48 @@
-use Rattle.std.proofs.Common.{refl, inl, arith}
-use Rattle.wq_table.specs.Chair.{part_at}
-use Rattle.wq_table.proofs.Beside.{beside_first}
+use Rattle.std.proofs.Common.{refl, inr, arith}
+use Rattle.wq_table.proofs.Learns.{learns_none, learns_step}
 use Rattle.wq_live.proofs.Waiting.{stands_rested}
 use Rattle.wq_live.proofs.OwnerTells.{makes_stands}
 use Rattle.wq_live.proofs.Hanging.{hang_none, hang_alone, hang_number, hang_next, hang_turns, hang_count, hang_stage, hang_tells, hangs}
 use Rattle.wq_live.proofs.Taking.{follows_on, follows_none, number_small}
+use Rattle.wq_live.proofs.OwnerHands.{same_hand}
 use Rattle.wq_live.proofs.owner_seat.hang.Goals as goal
 
 pub returns-then-more-eq0 : goal.returns-then-more-eq0
 returns-then-more-eq0 g c = record {
-  beside = inl refl;
-  follows = follows_none (part_at g.P.Place.at c.args.chair.now);
+  learns = learns_none 0 _;
+  follows = follows_none c.args.chair.now.first.part;
   stands = c.requires.stands;
   stage = refl;
-  has_row = hang_none c.args.row c.args.more (part_at g.P.Place.at c.args.chair.now) c.requires.stands c.requires.both c.if-more-eq0.true;
+  has_row = hang_none c.args.row c.args.more c.args.chair.now.first.part c.requires.stands c.requires.both c.if-more-eq0.true;
   count = omega (arith, c.if-more-eq0.true);
+  hand = refl;
 }
 
 pub returns-then-row-eq0 : goal.returns-then-row-eq0
 returns-then-row-eq0 g c = record {
-  beside = inl refl;
-  follows = follows_none (part_at g.P.Place.at c.args.chair.now);
+  learns = learns_none 0 _;
+  follows = follows_none c.args.chair.now.first.part;
   stands = c.requires.stands;
   stage = refl;
-  has_row = hang_alone c.args.row c.args.more (part_at g.P.Place.at c.args.chair.now) c.requires.stands c.requires.both c.if-row-eq0.true;
+  has_row = hang_alone c.args.row c.args.more c.args.chair.now.first.part c.requires.stands c.requires.both c.if-row-eq0.true;
   count = omega (arith, c.if-row-eq0.true);
+  hand = refl;
 }
 
 pub turn-requires-clause-number : goal.turn-requires-clause-number
 turn-requires-clause-number g c =
-    hang_number c.args.row c.args.more (part_at g.P.Place.at c.args.chair.now) c.requires.stands c.requires.both c.if-row-eq0.false c.if-more-eq0.false
+    hang_number c.args.row c.args.more c.args.chair.now.first.part c.requires.stands c.requires.both c.if-row-eq0.false c.if-more-eq0.false
 
 pub turn-requires-clause-next : goal.turn-requires-clause-next
-turn-requires-clause-next g c = hang_next c.args.row c.args.more (part_at g.P.Place.at c.args.chair.now) c.requires.stands c.requires.both c.if-row-eq0.false
+turn-requires-clause-next g c = hang_next c.args.row c.args.more c.args.chair.now.first.part c.requires.stands c.requires.both c.if-row-eq0.false
     c.if-more-eq0.false
 
 pub turn-requires-clause-taken : goal.turn-requires-clause-taken
-turn-requires-clause-taken g c = hang_turns c.args.row c.args.more (part_at g.P.Place.at c.args.chair.now) c.requires.stands c.requires.both
+turn-requires-clause-taken g c = hang_turns c.args.row c.args.more c.args.chair.now.first.part c.requires.stands c.requires.both
     c.if-row-eq0.false c.if-more-eq0.false
 
 pub overflow_add-result : goal.overflow_add-result
-overflow_add-result g c = let p = (part_at g.P.Place.at c.args.chair.now) in let both = c.requires.both in
+overflow_add-result g c = let p = c.args.chair.now.first.part in let both = c.requires.both in
     omega (
       arith,
       hang_count c.args.row c.args.more p c.requires.stands both c.if-row-eq0.false c.if-more-eq0.false,
@@ -50,13 +52,14 @@ overflow_add-result g c = let p = (part_at g.P.Place.at c.args.chair.now) in let
 
 pub returns : goal.returns
 returns g c =
-    let row = c.args.row in let more = c.args.more in let p = (part_at g.P.Place.at c.args.chair.now) in let q = (part_at g.P.Place.at c.turn.new.self) in
+    let row = c.args.row in let more = c.args.more in let p = c.args.chair.now.first.part in let q = c.turn.new.self.first.part in
     let both = c.requires.both in
-    let makes = c.turn.ensures.step.moves.makes in let stage = hang_stage row more p c.requires.stands both q makes in record {
-      beside = beside_first g.P.Place.at _ _ _ _ c.turn.ensures.step;
+    let makes = c.turn.ensures.step.steps.moves.makes in let stage = hang_stage row more p c.requires.stands both q makes in record {
+      learns = inr (learns_step 0 _ _ _ _ _ c.turn.ensures.step);
       follows = follows_on p p q (follows_none p) (hang_tells row more p c.requires.stands both q makes);
       stands = makes_stands _ _ p q makes;
       stage = stage;
       has_row = hangs row more p c.requires.stands both c.if-row-eq0.false c.if-more-eq0.false q stage makes;
       count = refl;
+      hand = same_hand 0 _ _ _ _ _ c.turn.ensures.step (λ moves. moves.1);
     }

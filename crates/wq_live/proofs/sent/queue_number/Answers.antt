@@ -1,75 +1,46 @@
-use Rattle.std.proofs.Common.{arith, ℕ, [], ◌∷◌, subst}
-use Rattle.wq_words.specs.declared.event.Event.TheVariants.{Hold, Push, Back}
-use Rattle.wq_words.specs.declared.event.Why.TheVariants as why
-use Rattle.wq_table.proofs.Beside.{follow_on}
-use Rattle.wq_live.specs.Answers.{IsPushed}
-use Rattle.wq_live.specs.Known.{Known}
-use Rattle.wq_live.specs.Sits.{sending, sender_view}
-use Rattle.wq_live.proofs.Sends.{sees_on, sees_hold, sees_held}
-use Rattle.wq_live.proofs.Contended.{contended_calls}
-use Rattle.wq_live.proofs.Tried.{turned_back}
+use Rattle.std.proofs.Common.{◌<◌, ◌∙◌, sym, subst}
+use Rattle.wq_words.specs.declared.layout.Layout.{Layout}
+use Rattle.wq_words.specs.Numbers.{number_count}
+use Rattle.wq_table.proofs.Learns.{learns_on, learns_or}
+use Rattle.wq_live.specs.Sits.{sending_in, sender_view}
+use Rattle.wq_live.proofs.Sends.{sees_hold}
+use Rattle.wq_live.proofs.SenderHands.{held_to_bring, emptied_after, queues_slot}
+use Rattle.wq_live.proofs.Settled.{tried_same, held_after, answers_settled, contended_settled}
 use Rattle.wq_live.proofs.sent.queue_number.Goals as goal
 
-pub push_tries-requires-clause-held : goal.push_tries-requires-clause-held
-push_tries-requires-clause-held g c = let at = g.P.Place.at in
-    sees_hold c.args.number 0 (sender_view (sending at c.args.chair.now c.args.sent.now))
-    (sender_view (sending at c.hold_number.new.chair c.hold_number.new.sent)) c.if-not-hold_number.ensures.seen
+pub try_tries-posted-requires : goal.try_tries-posted-requires
+try_tries-posted-requires g c = let at = g.P.Place.at in let k = c.args.number in let a = c.args.chair.now in let b = c.hold_number.new.chair in
+    let e = c.if-not-hold_number.ensures in let same = e.seen.same in record {
+      sends = e.sends;
+      number = subst (λ (l : Layout). k < number_count l) (sym same.layout_is) c.requires.number;
+      held = sees_hold k 0 (sender_view (sending_in at a c.args.sent.now)) (sender_view (sending_in at b c.hold_number.new.sent)) e.seen;
+      slot = held_to_bring k c.args.sent.now.layout c.hold_number.new.sent.layout a b same.layout_is same.queue_is c.requires.bare e.slots;
+    }
 
-pub give_up-requires-clause-held : goal.give_up-requires-clause-held
-give_up-requires-clause-held g c = let at = g.P.Place.at in let held = sender_view (sending at c.hold_number.new.chair c.hold_number.new.sent) in
-    sees_held c.args.number c.args.tries held (sender_view (sending at c.push_tries.new.chair c.push_tries.new.sent)) c.in-Contended.ensures.posts
-    (sees_hold c.args.number 0 (sender_view (sending at c.args.chair.now c.args.sent.now)) held c.if-not-hold_number.ensures.seen)
+pub settle-requires : goal.settle-requires
+settle-requires g c =
+    let at = g.P.Place.at in let k = c.args.number in let a = c.args.chair.now in let b = c.hold_number.new.chair in let d = c.try_tries-posted.new.chair in
+    let s = sender_view (sending_in at a c.args.sent.now) in let t = sender_view (sending_in at b c.hold_number.new.sent) in
+    let u = sender_view (sending_in at d c.try_tries-posted.new.sent) in let e = c.if-not-hold_number.ensures in let f = c.try_tries-posted.ensures in
+    let same = tried_same k c.args.tries c.try_tries-posted.result t u f.posts in record {
+      sends = f.sends;
+      number = subst (λ (l : Layout). k < number_count l) (sym (same.layout_is ∙ e.seen.same.layout_is)) c.requires.number;
+      held = held_after k c.args.tries c.try_tries-posted.result t u f.posts (sees_hold k 0 s t e.seen);
+      sees_closed = f.sees_closed;
+      sees = f.sees;
+      slot = emptied_after at k a b d e.seen.same.queue_is e.slots c.try_tries-posted.result same.queue_is f.slots;
+    }
 
-pub returns-in-Contended-clause-contended : goal.returns-in-Contended-clause-contended
-returns-in-Contended-clause-contended g c is = let at = g.P.Place.at in
-    contended_calls c.args.number c.args.tries (sender_view (sending at c.args.chair.now c.args.sent.now))
-    (sender_view (sending at c.hold_number.new.chair c.hold_number.new.sent)) (sender_view (sending at c.push_tries.new.chair c.push_tries.new.sent))
-    (sender_view (sending at c.give_up.new.chair c.give_up.new.sent)) c.if-not-hold_number.ensures.seen c.in-Contended.ensures.posts c.give_up.ensures.gives
-
-pub returns-in-Queued-clause-answer : goal.returns-in-Queued-clause-answer
-returns-in-Queued-clause-answer g c = let at = g.P.Place.at in let k = c.args.number in
-    let t : Known = sender_view (sending at c.push_tries.new.chair c.push_tries.new.sent) in let held = c.if-not-hold_number.ensures.seen in
-    let posted = c.in-Queued.ensures.posts in (
-      sees_on (λ z. Hold z k ∷ []) (λ z. Push z k ∷ []) 0 0 0 (sender_view (sending at c.args.chair.now c.args.sent.now))
-          (sender_view (sending at c.hold_number.new.chair c.hold_number.new.sent)) t (omega arith) held posted.0,
-      subst (λ (m : ℕ). IsPushed m k c.in-Queued.first c.in-Queued.wakes t.seen) held.same.number_is posted.1,
-    )
-
-pub returns-in-Closed-clause-answer : goal.returns-in-Closed-clause-answer
-returns-in-Closed-clause-answer g c = let at = g.P.Place.at in let k = c.args.number in
-    sees_on (λ z. Hold z k ∷ []) (λ z. Back z k why.Closed ∷ []) 0 0 0 (sender_view (sending at c.args.chair.now c.args.sent.now))
-    (sender_view (sending at c.hold_number.new.chair c.hold_number.new.sent)) (sender_view (sending at c.push_tries.new.chair c.push_tries.new.sent))
-    (omega arith)
-    c.if-not-hold_number.ensures.seen c.in-Closed.ensures.posts
-
-pub returns-in-Contended-clause-answer : goal.returns-in-Contended-clause-answer
-returns-in-Contended-clause-answer g c = let at = g.P.Place.at in let k = c.args.number in let n = c.args.tries in
-    let s = sender_view (sending at c.args.chair.now c.args.sent.now) in let t = sender_view (sending at c.push_tries.new.chair c.push_tries.new.sent) in
-    sees_on (λ z. Hold z k ∷ []) (λ z. Back z k why.Contended ∷ []) n 0 n s t (sender_view (sending at c.give_up.new.chair c.give_up.new.sent)) (omega arith)
-    (sees_on (λ z. Hold z k ∷ []) (λ z. []) 0 n n s (sender_view (sending at c.hold_number.new.chair c.hold_number.new.sent)) t (omega arith)
-    c.if-not-hold_number.ensures.seen c.in-Contended.ensures.posts) c.give_up.ensures.gives
-
-pub returns-in-Queued-clause-follow : goal.returns-in-Queued-clause-follow
-returns-in-Queued-clause-follow g c = follow_on g.P.Place.at _ _ _ c.if-not-hold_number.ensures.follow c.in-Queued.ensures.follow
-
-pub returns-in-Closed-clause-follow : goal.returns-in-Closed-clause-follow
-returns-in-Closed-clause-follow g c = follow_on g.P.Place.at _ _ _ c.if-not-hold_number.ensures.follow c.in-Closed.ensures.follow
-
-pub returns-in-Contended-clause-follow : goal.returns-in-Contended-clause-follow
-returns-in-Contended-clause-follow g c =
-    follow_on g.P.Place.at _ _ _ (follow_on g.P.Place.at _ _ _ c.if-not-hold_number.ensures.follow c.in-Contended.ensures.follow) c.give_up.ensures.follow
-
-pub turn_back-requires-clause-held : goal.turn_back-requires-clause-held
-turn_back-requires-clause-held g c = let at = g.P.Place.at in let held = sender_view (sending at c.hold_number.new.chair c.hold_number.new.sent) in
-    sees_held c.args.number 0 held (sender_view (sending at c.push_tries.new.chair c.push_tries.new.sent)) c.in-Draining.ensures.posts.0
-    (sees_hold c.args.number 0 (sender_view (sending at c.args.chair.now c.args.sent.now)) held c.if-not-hold_number.ensures.seen)
-
-pub returns-in-Draining-clause-answer : goal.returns-in-Draining-clause-answer
-returns-in-Draining-clause-answer g c = let at = g.P.Place.at in
-    turned_back c.args.number (sender_view (sending at c.args.chair.now c.args.sent.now)) (sender_view (sending at c.hold_number.new.chair c.hold_number.new.sent))
-    (sender_view (sending at c.push_tries.new.chair c.push_tries.new.sent)) (sender_view (sending at c.turn_back.new.chair c.turn_back.new.sent))
-    c.if-not-hold_number.ensures.seen c.in-Draining.ensures.posts c.turn_back.ensures.gives
-
-pub returns-in-Draining-clause-follow : goal.returns-in-Draining-clause-follow
-returns-in-Draining-clause-follow g c =
-    follow_on g.P.Place.at _ _ _ (follow_on g.P.Place.at _ _ _ c.if-not-hold_number.ensures.follow c.in-Draining.ensures.follow) c.turn_back.ensures.follow
+pub returns : goal.returns
+returns g c =
+    let at = g.P.Place.at in let k = c.args.number in let a = c.args.chair.now in let b = c.hold_number.new.chair in let d = c.try_tries-posted.new.chair in
+    let s = sender_view (sending_in at a c.args.sent.now) in let t = sender_view (sending_in at b c.hold_number.new.sent) in
+    let u = sender_view (sending_in at d c.try_tries-posted.new.sent) in let e = c.if-not-hold_number.ensures in let f = c.try_tries-posted.ensures in
+    let w = sender_view (sending_in at c.settle.new.chair c.settle.new.sent) in let h = c.settle.ensures in let posted = c.try_tries-posted.result in
+    let same = tried_same k c.args.tries posted t u f.posts in record {
+      sends = h.sends;
+      learns = learns_or at a d c.settle.new.chair (learns_on at a b d e.learns f.learns) h.learns;
+      answer = answers_settled k c.args.tries s t u w e.seen posted c.settle.result f.posts h.settles;
+      contended = contended_settled k c.args.tries s t u w e.seen posted c.settle.result f.posts h.settles;
+      slots = queues_slot at k a b d e.seen.same.queue_is e.slots posted c.settle.result c.settle.new.chair u w same.queue_is f.slots h.slots h.settles;
+    }

@@ -1,35 +1,46 @@
-use Rattle.std.proofs.Common.{refl, ◌∙◌}
+use Rattle.std.proofs.Common.{◌==◌, refl, sym, ◌∙◌}
 use Rattle.wq_words.proofs.Closed.{closed_shuts}
-use Rattle.wq_table.proofs.Beside.{follow_step}
-use Rattle.wq_live.specs.Sits.{owner_view}
+use Rattle.wq_words.specs.Head.{busy_word}
+use Rattle.wq_table.specs.SlotChairs.{standing_of}
+use Rattle.wq_table.proofs.Learns.{learns_step}
+use Rattle.wq_live.specs.Sits.{owning, owner_view}
 use Rattle.wq_live.specs.Sits.{kept_batch}
 use Rattle.wq_live.proofs.OwnerTells.{owner_batch, none_of}
 use Rattle.wq_live.proofs.Rest.{rest_owns, rest_sees, rest_rested, rest_refused, rest_empty, rests_same, rests_idle, rests_open, rests_unclosed}
+use Rattle.wq_live.proofs.OwnerHands.{same_hand, rest_slots}
 use Rattle.wq_live.proofs.owner_seat.OwnerSeat.rest.Goals as goal
 
 pub rest-head-requires-clause-open : goal.rest-head-requires-clause-open
-rest-head-requires-clause-open c = c.requires.open
+rest-head-requires-clause-open g c = c.requires.open
 
 pub rest-head-requires-clause-empty : goal.rest-head-requires-clause-empty
-rest-head-requires-clause-empty c = let s = c.args.self.now in let o = c.requires.owns in
-    none_of s.chair.part.stage (kept_batch s.chair.part.stage) o.has_row.stage_is (owner_batch s (owner_view c.args.self.now) refl o ∙ c.requires.empty)
+rest-head-requires-clause-empty g c = let s = owning c.args.self.now in let o = c.requires.owns.queue in
+    none_of s.chair.part.stage (kept_batch s.chair.part.stage) o.has_row.stage_is
+    (owner_batch s (owner_view (owning c.args.self.now)) refl o ∙ c.requires.empty)
 
 pub rest-head-requires-clause-idle : goal.rest-head-requires-clause-idle
-rest-head-requires-clause-idle c = c.requires.idle
+rest-head-requires-clause-idle g c = c.requires.idle
 
 pub returns : goal.returns
-returns c = let s = c.args.self.now in let o = c.requires.owns in let e = c.rest-head.ensures.step in let q = c.rest-head.new.self in
+returns g c = let s = owning c.args.self.now in let o = c.requires.owns.queue in let e = c.rest-head.ensures.step.steps in
+    let q = standing_of c.rest-head.new.self in
     let w = c.rest-head.result in
-    let now = (owner_view c.args.self.now) in let mine = refl in
-    let sees = rest_sees s q now w refl o e.queue_is e.moves.makes c.requires.open in record {
-      owns = rest_owns s q now w refl o e.queue_is e.moves.makes c.requires.open;
-      follow = follow_step 0 _ _ _ _ e;
+    let now = (owner_view (owning c.args.self.now)) in let mine = refl in
+    let sees = rest_sees s q now w refl o e.queue_is e.moves.makes c.requires.open in
+    let learns = learns_step 0 _ _ _ _ _ c.rest-head.ensures.step in let owns = rest_owns s q now w refl o e.queue_is e.moves.makes c.requires.open in
+    let none = rest_empty s q now w refl o e.queue_is e.moves.makes c.requires.open c.requires.empty in record {
+      owns = record {
+        queue = owns;
+        slots = rest_slots c.args.self.now (record c.args.self.now { chair = c.rest-head.new.self }) c.requires.owns owns learns
+            (same_hand 0 _ _ _ _ _ c.rest-head.ensures.step (λ moves. moves.1)) (none ∙ sym c.requires.empty) (w == busy_word) sees;
+      };
+      learns = learns;
       seen = sees;
       rested = rest_rested s q now w refl o e.queue_is e.moves.makes c.requires.open;
       refused = rest_refused s q now w refl o e.queue_is e.moves.makes c.requires.open;
       same = rests_same _ now _ sees;
       «open» = rests_open _ now _ mine sees c.requires.open;
       unclosed = rests_unclosed _ now _ mine sees (λ closed. c.requires.open (closed_shuts now.seen closed));
-      empty = rest_empty s q now w refl o e.queue_is e.moves.makes c.requires.open c.requires.empty;
+      empty = none;
       idle = rests_idle _ now _ mine sees c.requires.idle;
     }

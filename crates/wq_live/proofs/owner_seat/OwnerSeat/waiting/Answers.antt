@@ -1,16 +1,16 @@
 use Rattle.std.proofs.Common.{refl, ℕ, List, ◌≡◌, length, ap, arith}
 use Rattle.wq_words.specs.Numbers.{number_count}
-use Rattle.wq_live.specs.Sits.{owner_view}
+use Rattle.wq_live.specs.Sits.{owning, owner_view}
 use Rattle.wq_live.specs.Sits.{kept_batch}
 use Rattle.wq_live.proofs.Waiting.{stands_rested}
 use Rattle.wq_live.proofs.OwnerTells.{owner_batch}
 use Rattle.wq_live.proofs.owner_seat.OwnerSeat.waiting.Goals as goal
 
 pub returns-clause-count : goal.returns-clause-count
-returns-clause-count c = let s = c.args.self.now in let o = c.requires.owns in
-    omega (arith, ap (λ (xs : List ℕ). length xs) (owner_batch s (owner_view c.args.self.now) refl o), o.has_row.row_is.count_is)
+returns-clause-count g c = let s = owning c.args.self.now in let o = c.requires.owns.queue in
+    omega (arith, ap (λ (xs : List ℕ). length xs) (owner_batch s (owner_view (owning c.args.self.now)) refl o), o.has_row.row_is.count_is)
 
 pub returns-clause-few : goal.returns-clause-few
-returns-clause-few c = let s = c.args.self.now in let o = c.requires.owns in let p = s.chair.part in
+returns-clause-few g c = let s = owning c.args.self.now in let o = c.requires.owns.queue in let p = s.chair.part in
     let layout : number_count p.layout ≡ number_count s.layout = ap number_count o.layout_is in
     omega (arith, layout, stands_rested p (kept_batch p.stage) o.stands o.has_row.stage_is, o.has_row.row_is.count_is)

@@ -2,18 +2,18 @@ use Rattle.std.proofs.Common.{[], ◌∷◌, ap, ◌∙◌, subst}
 use Rattle.wq_words.specs.declared.event.Event.TheVariants.{End}
 use Rattle.wq_words.specs.History.{running}
 use Rattle.wq_live.specs.Known.{Sees}
-use Rattle.wq_live.specs.Sits.{owner_view}
+use Rattle.wq_live.specs.Sits.{owning, owner_view}
 use Rattle.wq_live.specs.Pairs.{KnownPair, pair_owner}
 use Rattle.wq_live.proofs.Paired.{owner_acts, sender_sees}
 use Rattle.wq_live.proofs.pair.Pair.end.Goals as goal
 
 pub invariant_of-self : goal.invariant_of-self
-invariant_of-self c = let e = c.end.ensures in owner_acts c.self.inside c.end.new.self c.self.invariant e.owns c.end.ensures.same e.follow
+invariant_of-self c = let e = c.end.ensures in owner_acts c.self.inside c.end.new.self c.self.invariant e.owns c.end.ensures.same e.learns
 
 pub returns-clause-others : goal.returns-clause-others
 returns-clause-others c = let e = c.end.ensures in
-    sender_sees c.self.inside c.end.new.self c.self.invariant e.owns c.end.ensures.same e.follow c.args.self.now c.self.view_is
+    sender_sees c.self.inside c.end.new.self c.self.invariant e.owns c.end.ensures.same e.learns c.args.self.now c.self.view_is
 
 pub returns-clause-seen : goal.returns-clause-seen
-returns-clause-seen c k is = subst (λ (v : KnownPair). Sees (End k ∷ []) 0 (pair_owner v) (owner_view c.end.new.self)) c.self.view_is
+returns-clause-seen c k is = subst (λ (v : KnownPair). Sees (End k ∷ []) 0 (pair_owner v) (owner_view (owning c.end.new.self))) c.self.view_is
     (c.end.ensures.seen k (ap (λ (v : KnownPair). running v.seen) c.self.view_is ∙ is))

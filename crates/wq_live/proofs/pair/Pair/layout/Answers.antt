@@ -8,4 +8,4 @@ use Rattle.wq_live.proofs.pair.Pair.layout.Goals as goal
 pub returns-clause-legal : goal.returns-clause-legal
 returns-clause-legal c = let s = c.self.inside.seat in let o = c.self.invariant.owns in
     subst (λ (v : KnownPair). IsLegal v.layout v.seen) c.self.view_is
-    (subst (λ (l : Layout). IsLegal l s.chair.part.seen) o.layout_is (stands_legal s.chair.part o.stands))
+    (subst (λ (l : Layout). IsLegal l s.chair.first.part.seen) o.queue.layout_is (stands_legal s.chair.first.part o.queue.stands))

@@ -2,8 +2,8 @@ use Rattle.wq_live.proofs.Paired.{owner_acts, sender_sees}
 use Rattle.wq_live.proofs.pair.Pair.take.Goals as goal
 
 pub invariant_of-self : goal.invariant_of-self
-invariant_of-self c = let e = c.take.ensures in owner_acts c.self.inside c.take.new.self c.self.invariant e.owns c.take.ensures.seen.same e.follow
+invariant_of-self c = let e = c.take.ensures in owner_acts c.self.inside c.take.new.self c.self.invariant e.owns c.take.ensures.seen.same e.learns
 
 pub returns-clause-others : goal.returns-clause-others
 returns-clause-others c = let e = c.take.ensures in
-    sender_sees c.self.inside c.take.new.self c.self.invariant e.owns c.take.ensures.seen.same e.follow c.args.self.now c.self.view_is
+    sender_sees c.self.inside c.take.new.self c.self.invariant e.owns c.take.ensures.seen.same e.learns c.args.self.now c.self.view_is

@@ -1,8 +1,9 @@
 use Rattle.std.proofs.Common.{refl, [], ◌∷◌}
 use Rattle.wq_words.specs.declared.event.Event.TheVariants.{Back}
 use Rattle.wq_words.specs.declared.event.Why.TheVariants.{Cancelled}
-use Rattle.wq_table.proofs.Beside.{alone_step}
-use Rattle.wq_live.specs.Sits.{sending}
+use Rattle.wq_table.proofs.Learns.{learns_step}
+use Rattle.wq_live.specs.Sits.{sending_in}
+use Rattle.wq_live.proofs.SenderAlone.{sender_alone}
 use Rattle.wq_live.proofs.Counting.{counts_cancelled}
 use Rattle.wq_live.proofs.Tells.{Tells, back_tells, sender_made}
 use Rattle.wq_live.proofs.Held.{given_held}
@@ -10,28 +11,30 @@ use Rattle.wq_live.proofs.Sends.{grows_tells, sends_tells, sees_tells, holds_vie
 use Rattle.wq_live.proofs.sender.Sender.give_back.Goals as goal
 
 pub back_cancelled-requires-clause-held : goal.back_cancelled-requires-clause-held
-back_cancelled-requires-clause-held c = holds_view (sending 0 c.self.inside.chair c.self.inside.sent) c.args.self.now c.args.item c.self.view_is
+back_cancelled-requires-clause-held c = holds_view (sending_in 0 c.self.inside.chair c.self.inside.sent) c.args.self.now c.args.item c.self.view_is
     c.self.invariant.sends c.requires.held
 
 pub invariant_of-self : goal.invariant_of-self
-invariant_of-self c = let s = (sending 0 c.self.inside.chair c.self.inside.sent) in let k = c.args.item in let steps = c.back_cancelled.ensures.step.1 in
+invariant_of-self c = let s = (sending_in 0 c.self.inside.chair c.self.inside.sent) in let k = c.args.item in
+    let step = c.back_cancelled.ensures.step.1 in let steps = step.steps in
     let new = c.back_cancelled.new.self in
     let told : Tells
-    (Back s.chair.part.seat k Cancelled ∷ []) s.chair.part new.part = back_tells k _ Cancelled s.chair.part new.part c.self.invariant.sends.stage
+    (Back s.chair.part.seat k Cancelled ∷ []) s.chair.part new.first.part = back_tells k _ Cancelled s.chair.part new.first.part c.self.invariant.sends.stage
     steps.moves.makes in
     let stage = sender_made _ _ _ _ steps.moves.makes c.self.invariant.sends.stage in
-    record {
-      sends = sends_tells s (sending 0 new c.self.inside.sent) _ 0 c.self.invariant.sends refl refl told stage
-          (counts_cancelled s.number 0 s.chair.part.seen new.part.seen s.counts c.self.invariant.sends.counts_are k
-          (grows_tells s (sending 0 new c.self.inside.sent) (λ z. Back z k Cancelled ∷ []) 0 c.self.invariant.sends told));
-      alone = alone_step _ _ _ _ steps c.self.invariant.alone;
-    }
+    sender_alone c.self.inside (record { chair = new; sent = c.self.inside.sent }) c.self.invariant
+    (sends_tells s (sending_in 0 new c.self.inside.sent) _ 0 c.self.invariant.sends refl refl told stage
+    (counts_cancelled s.number 0 s.chair.part.seen new.first.part.seen s.counts c.self.invariant.sends.counts_are k
+    (grows_tells s (sending_in 0 new c.self.inside.sent) (λ z. Back z k Cancelled ∷ []) 0 c.self.invariant.sends told)))
+    (learns_step 0 _ _ _ _ _ step) (step.rests c.self.invariant.bare)
 
 pub returns : goal.returns
-returns c = let s = (sending 0 c.self.inside.chair c.self.inside.sent) in let k = c.args.item in let steps = c.back_cancelled.ensures.step.1 in
+returns c = let s = (sending_in 0 c.self.inside.chair c.self.inside.sent) in let k = c.args.item in
+    let step = c.back_cancelled.ensures.step.1 in let steps = step.steps in
     let new = c.back_cancelled.new.self in
-    let sees = sees_tells s (sending 0 new c.self.inside.sent) c.args.self.now (λ z. Back z k Cancelled ∷ []) 0 c.self.view_is c.self.invariant.sends refl refl
-    steps.queue_is (back_tells k _ Cancelled s.chair.part new.part c.self.invariant.sends.stage steps.moves.makes) in record {
+    let sees = sees_tells s (sending_in 0 new c.self.inside.sent) c.args.self.now (λ z. Back z k Cancelled ∷ []) 0 c.self.view_is c.self.invariant.sends refl
+    refl
+    steps.queue_is (back_tells k _ Cancelled s.chair.part new.first.part c.self.invariant.sends.stage steps.moves.makes) in record {
       seen = sees;
       same = sees.same;
       keeps = λ j. given_held j k 0 Cancelled c.args.self.now _ sees;

@@ -1,21 +1,37 @@
-use Rattle.std.proofs.Common.{ℕ, subst}
-use Rattle.wq_core.specs.declared.step.Step.TheVariants.{Check}
-use Rattle.wq_table.specs.Chair.{part_at, Steps}
-use Rattle.wq_table.proofs.Steps.{placed, number_placed, performs_check}
-use Rattle.wq_table.proofs.Told.{item_in, item_room}
+use Rattle.std.proofs.Common.{ℕ, None, sym, subst}
+use Rattle.wq_core.specs.declared.step.Step.TheVariants as step
+use Rattle.wq_table.specs.Chair.{part_at}
+use Rattle.wq_table.specs.SlotSteps.{GoesBy}
+use Rattle.wq_table.specs.SlotChairs.{standing_of, ValueSteps}
+use Rattle.wq_table.proofs.Steps.{placed, number_placed, linked, number_linked, number_pushed, saw_closed, saw_draining, saw_any}
+use Rattle.wq_table.proofs.Steps as steps
+use Rattle.wq_table.proofs.SlotTold.{item_at_part, item_room_in, by_either}
+use Rattle.wq_table.proofs.ByKind as by
 use Rattle.wq_table.proofs.chair.Chair.check.Goals as goal
 
+pub load-requires-clause-place : goal.load-requires-clause-place
+load-requires-clause-place g c = let s = c.self.inside in let it = c.args.self.now in let sits = c.self.invariant in let view = c.self.view_is in
+    let at = g.P.Place.at in let p = part_at at (standing_of it) in
+    item_room_in s it sits view at _ c.args.number c.item_place-place.ensures.place c.requires.number
+
 pub load-requires-clause-performs : goal.load-requires-clause-performs
-load-requires-clause-performs g c = let p = part_at g.P.Place.at c.args.self.now in let k = c.args.number in
-    placed p (λ (n : ℕ). Check n) _ k _ _ (item_in g.P.Place.at c.self.inside c.args.self.now _ k c.self.invariant c.self.view_is
-    c.item_place-place.ensures.place)
-    (performs_check p.seat p.layout p.seen p.words k p.stage c.requires.sender c.requires.number)
+load-requires-clause-performs g c = let s = c.self.inside in let it = c.args.self.now in let sits = c.self.invariant in
+    let view = c.self.view_is in let at = g.P.Place.at in let p = part_at at (standing_of it) in let k = c.args.number in
+    placed p (λ (n : ℕ). step.Check n) _ k _ _ (item_at_part s it sits view at _ k c.item_place-place.ensures.place)
+    (steps.performs_check p.seat p.layout p.seen p.words k p.stage c.requires.sender c.requires.number)
+
+pub load-requires-clause-goes : goal.load-requires-clause-goes
+load-requires-clause-goes g c = let s = c.self.inside in let it = c.args.self.now in let sits = c.self.invariant in let view = c.self.view_is in
+    let at = g.P.Place.at in let p = part_at at (standing_of it) in let k = c.args.number in
+    subst (λ (n : ℕ). GoesBy it.queue.slots p None (step.Check n) it.hand) (sym (number_placed _ k p.layout
+    (item_at_part s it sits view at _ k c.item_place-place.ensures.place)))
+    (by_either it.queue.slots p None (step.Check k) it.hand (λ some_slot. by.by_check p.seat p.layout p.seen p.words k it.queue.slots it.hand p.stage
+    c.requires.sender))
 
 pub returns : goal.returns
-returns g c = let back = number_placed _ c.args.number (part_at g.P.Place.at c.args.self.now).layout
-    (item_in g.P.Place.at c.self.inside c.args.self.now _ c.args.number c.self.invariant c.self.view_is c.item_place-place.ensures.place) in
-    record { step = subst (λ (n : ℕ). Steps g.P.Place.at (Check n) c.load.result c.args.self.now c.load.new.self) back c.load.ensures }
-
-pub load-requires-clause-place : goal.load-requires-clause-place
-load-requires-clause-place g c =
-    item_room g.P.Place.at c.self.inside c.args.self.now _ c.args.number c.self.invariant c.self.view_is c.item_place-place.ensures.place c.requires.number
+returns g c = let s = c.self.inside in let it = c.args.self.now in let sits = c.self.invariant in let view = c.self.view_is in
+    let at = g.P.Place.at in let p = part_at at (standing_of it) in
+    record {
+      step = subst (λ (n : ℕ). ValueSteps g.P.Place.at None (step.Check n) c.load.result it c.load.new.self)
+          (number_placed _ c.args.number p.layout (item_at_part s it sits view at _ c.args.number c.item_place-place.ensures.place)) c.load.ensures;
+    }

@@ -1,11 +1,20 @@
-use Rattle.std.proofs.Common.{ℕ, sym, subst}
-use Rattle.wq_core.specs.declared.step.Step.TheVariants.{Close}
+use Rattle.std.proofs.Common.{ℕ, None, sym, subst}
+use Rattle.wq_core.specs.declared.step.Step.TheVariants as step
 use Rattle.wq_table.specs.Plays.{Performs}
 use Rattle.wq_table.specs.Chair.{part_at}
-use Rattle.wq_table.proofs.Steps.{performs_close}
+use Rattle.wq_table.specs.SlotChairs.{standing_of}
+use Rattle.wq_table.proofs.Steps.{placed, number_placed, linked, number_linked, number_pushed, saw_closed, saw_draining, saw_any}
+use Rattle.wq_table.proofs.Steps as steps
+use Rattle.wq_table.proofs.SlotTold.{by_either}
+use Rattle.wq_table.proofs.ByKind as by
 use Rattle.wq_table.proofs.chair.Chair.close.Goals as goal
 
 pub swap-requires-clause-performs : goal.swap-requires-clause-performs
-swap-requires-clause-performs g c = let p = part_at g.P.Place.at c.args.self.now in
-    subst (λ (w : ℕ). Performs p Close 0 (λ _. w) (λ n. n)) (sym c.to_word-word.ensures.word)
-    (performs_close p.seat p.layout p.seen p.words p.stage c.requires.unclosed c.requires.rested)
+swap-requires-clause-performs g c = let it = c.args.self.now in let at = g.P.Place.at in let p = part_at at (standing_of it) in
+    subst (λ (w : ℕ). Performs p step.Close 0 (λ _. w) (λ n. n)) (sym c.to_word-word.ensures.word)
+    (steps.performs_close p.seat p.layout p.seen p.words p.stage c.requires.unclosed c.requires.rested)
+
+pub swap-requires-clause-goes : goal.swap-requires-clause-goes
+swap-requires-clause-goes g c = let it = c.args.self.now in let at = g.P.Place.at in
+    let p = part_at at (standing_of it) in by_either it.queue.slots p None step.Close it.hand
+    (λ some_slot. by.by_close p.seat p.layout p.seen p.words it.queue.slots it.hand p.stage c.requires.rested)

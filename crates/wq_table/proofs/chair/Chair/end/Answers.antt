@@ -1,17 +1,27 @@
-use Rattle.std.proofs.Common.{◌∙◌, ℕ, ◌+◌, ◌%◌, ◌^◌, sym, ap, subst}
-use Rattle.wq_core.specs.declared.step.Step.TheVariants.{End}
+use Rattle.std.proofs.Common.{◌+◌, ◌%◌, ◌^◌, ℕ, None, sym, ap, ◌∙◌, subst}
 use Rattle.wq_core.specs.Words.{done_place}
+use Rattle.wq_core.specs.declared.step.Step.TheVariants as step
 use Rattle.wq_table.specs.Plays.{Performs}
 use Rattle.wq_table.specs.Chair.{part_at}
-use Rattle.wq_table.proofs.Steps.{performs_end}
-use Rattle.wq_table.proofs.Told.{numbered_in, done_room}
+use Rattle.wq_table.specs.SlotChairs.{standing_of}
+use Rattle.wq_table.proofs.Steps.{placed, number_placed, linked, number_linked, number_pushed, saw_closed, saw_draining, saw_any}
+use Rattle.wq_table.proofs.Steps as steps
+use Rattle.wq_table.proofs.SlotTold.{done_room_in, numbered, by_either}
+use Rattle.wq_table.proofs.ByKind as by
 use Rattle.wq_table.proofs.chair.Chair.end.Goals as goal
 
 pub add-requires-clause-performs : goal.add-requires-clause-performs
-add-requires-clause-performs g c = let p = part_at g.P.Place.at c.args.self.now in
-    subst (λ (i : ℕ). Performs p End i (λ n. (n + 1) % 2 ^ 64) (λ n. n))
-    (sym (c.done_place-place.ensures.place ∙ ap done_place (numbered_in g.P.Place.at c.self.inside c.args.self.now c.self.invariant c.self.view_is)))
-    (performs_end p.seat p.layout p.seen p.words p.stage c.requires.owner c.requires.runs)
+add-requires-clause-performs g c = let s = c.self.inside in let it = c.args.self.now in let sits = c.self.invariant in
+    let view = c.self.view_is in let at = g.P.Place.at in let p = part_at at (standing_of it) in
+    subst (λ (i : ℕ). Performs p step.End i (λ n. (n + 1) % 2 ^ 64) (λ n. n))
+    (sym (c.done_place-place.ensures.place ∙ ap done_place (numbered s it sits view at)))
+    (steps.performs_end p.seat p.layout p.seen p.words p.stage c.requires.owner c.requires.runs)
+
+pub add-requires-clause-goes : goal.add-requires-clause-goes
+add-requires-clause-goes g c = let s = c.self.inside in let it = c.args.self.now in let sits = c.self.invariant in let view = c.self.view_is in
+    let at = g.P.Place.at in let p = part_at at (standing_of it) in
+    by_either it.queue.slots p None step.End it.hand (λ some_slot. by.by_end p.seat p.layout p.seen p.words it.queue.slots it.hand p.stage c.requires.owner)
 
 pub add-requires-clause-place : goal.add-requires-clause-place
-add-requires-clause-place g c = done_room g.P.Place.at c.self.inside c.args.self.now _ c.self.invariant c.self.view_is c.done_place-place.ensures.place
+add-requires-clause-place g c = let s = c.self.inside in let it = c.args.self.now in let sits = c.self.invariant in let view = c.self.view_is in
+    let at = g.P.Place.at in let p = part_at at (standing_of it) in done_room_in s it sits view at _ c.done_place-place.ensures.place

@@ -1,19 +1,36 @@
-use Rattle.std.proofs.Common.{ℕ, ◌==◌, sym, subst}
+use Rattle.std.proofs.Common.{◌==◌, ℕ, None, sym, ap, subst}
 use prog.Atomic.{either}
-use Rattle.wq_core.specs.declared.step.Step.TheVariants.{Push}
+use Rattle.wq_words.specs.Valued.{Carries}
+use Rattle.wq_core.specs.declared.step.Step.TheVariants as step
 use Rattle.wq_table.specs.Plays.{Performs}
-use Rattle.wq_table.specs.Chair.{part_at, Steps}
-use Rattle.wq_table.proofs.Steps.{number_pushed, performs_push}
+use Rattle.wq_table.specs.Chair.{part_at}
+use Rattle.wq_table.specs.SlotSteps.{GoesBy, in_front}
+use Rattle.wq_table.specs.SlotChairs.{standing_of, ValueSteps}
+use Rattle.wq_table.proofs.Steps.{placed, number_placed, linked, number_linked, number_pushed, saw_closed, saw_draining, saw_any}
+use Rattle.wq_table.proofs.Steps as steps
+use Rattle.wq_table.proofs.SlotTold.{deep_in, by_either}
+use Rattle.wq_table.proofs.ByKind as by
 use Rattle.wq_table.proofs.chair.Chair.push.Goals as goal
 
-pub exchange-requires-clause-performs : goal.exchange-requires-clause-performs
-exchange-requires-clause-performs g c = let p = part_at g.P.Place.at c.args.self.now in let k = c.args.number in
+pub replace-requires-clause-performs : goal.replace-requires-clause-performs
+replace-requires-clause-performs g c = let s = c.self.inside in let it = c.args.self.now in let sits = c.self.invariant in
+    let view = c.self.view_is in let at = g.P.Place.at in let p = part_at at (standing_of it) in let k = c.args.number in
     let back = number_pushed _ k c.to_word-word.ensures.word in
-    subst (λ (z : ℕ × ℕ). Performs p (Push z.0) 0 (λ n. either (n == c.args.seen) z.1 n) (λ n. n)) (λ i. (sym back i, sym c.to_word-word.ensures.word i))
-    (performs_push p.seat p.layout p.seen p.words k c.args.seen p.stage c.requires.number c.requires.linked)
+    subst (λ (z : ℕ × ℕ). Performs p (step.Push z.0) 0 (λ n. either (n == c.args.seen) z.1 n) (λ n. n)) (λ i.
+    (sym back i, sym c.to_word-word.ensures.word i))
+    (steps.performs_push p.seat p.layout p.seen p.words k c.args.seen p.stage c.requires.number c.requires.linked)
+
+pub replace-requires-clause-goes : goal.replace-requires-clause-goes
+replace-requires-clause-goes g c = let s = c.self.inside in let it = c.args.self.now in let sits = c.self.invariant in
+    let view = c.self.view_is in let at = g.P.Place.at in let p = part_at at (standing_of it) in let k = c.args.number in
+    subst (λ (n : ℕ). GoesBy it.queue.slots p None (step.Push n) it.hand) (sym (number_pushed _ k c.to_word-word.ensures.word))
+    (by_either it.queue.slots p None (step.Push k) it.hand (λ some_slot. let slot = c.requires.slot some_slot in
+    subst (GoesBy it.queue.slots p None (step.Push k)) (sym slot.1)
+    (by.by_push p.seat p.layout p.seen p.words k c.args.seen it.queue.slots slot.0 _ p.stage c.requires.linked
+    (subst (Carries p.layout.items k) (ap in_front slot.1) (c.requires.carries some_slot)) c.requires.number (deep_in s it sits view at some_slot))))
 
 pub returns : goal.returns
 returns g c = record {
-  step = subst (λ (n : ℕ). Steps g.P.Place.at (Push n) c.exchange.result c.args.self.now c.exchange.new.self)
-      (number_pushed _ c.args.number c.to_word-word.ensures.word) c.exchange.ensures;
+  step = subst (λ (n : ℕ). ValueSteps g.P.Place.at None (step.Push n) c.replace.result c.args.self.now c.replace.new.self)
+      (number_pushed _ c.args.number c.to_word-word.ensures.word) c.replace.ensures;
 }

@@ -1,13 +1,22 @@
-use Rattle.std.proofs.Common.{ℕ, ◌==◌, sym, subst}
+use Rattle.std.proofs.Common.{◌==◌, ℕ, None, sym, subst}
 use prog.Atomic.{either}
 use Rattle.wq_words.specs.Head.{busy_word}
-use Rattle.wq_core.specs.declared.step.Step.TheVariants.{Rest}
+use Rattle.wq_core.specs.declared.step.Step.TheVariants as step
 use Rattle.wq_table.specs.Plays.{Performs}
 use Rattle.wq_table.specs.Chair.{part_at}
-use Rattle.wq_table.proofs.Steps.{performs_rest}
+use Rattle.wq_table.specs.SlotChairs.{standing_of}
+use Rattle.wq_table.proofs.Steps.{placed, number_placed, linked, number_linked, number_pushed, saw_closed, saw_draining, saw_any}
+use Rattle.wq_table.proofs.Steps as steps
+use Rattle.wq_table.proofs.SlotTold.{by_either}
+use Rattle.wq_table.proofs.ByKind as by
 use Rattle.wq_table.proofs.chair.Chair.rest.Goals as goal
 
-pub exchange-requires-clause-performs : goal.exchange-requires-clause-performs
-exchange-requires-clause-performs g c = let p = part_at g.P.Place.at c.args.self.now in
-    subst (λ (w : ℕ). Performs p Rest 0 (λ n. either (n == busy_word) w n) (λ n. n)) (sym c.to_word-word.ensures.word)
-    (performs_rest p.seat p.layout p.seen p.words p.stage c.requires.open c.requires.rested c.requires.empty c.requires.idle)
+pub replace-requires-clause-performs : goal.replace-requires-clause-performs
+replace-requires-clause-performs g c = let it = c.args.self.now in let at = g.P.Place.at in let p = part_at at (standing_of it) in
+    subst (λ (w : ℕ). Performs p step.Rest 0 (λ n. either (n == busy_word) w n) (λ n. n)) (sym c.to_word-word.ensures.word)
+    (steps.performs_rest p.seat p.layout p.seen p.words p.stage c.requires.open c.requires.rested c.requires.empty c.requires.idle)
+
+pub replace-requires-clause-goes : goal.replace-requires-clause-goes
+replace-requires-clause-goes g c = let it = c.args.self.now in let at = g.P.Place.at in
+    let p = part_at at (standing_of it) in by_either it.queue.slots p None step.Rest it.hand
+    (λ some_slot. by.by_rest p.seat p.layout p.seen p.words it.queue.slots it.hand p.stage c.requires.rested)

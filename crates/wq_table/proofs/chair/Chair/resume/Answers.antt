@@ -1,7 +1,18 @@
+use Rattle.std.proofs.Common.{None}
+use Rattle.wq_core.specs.declared.step.Step.TheVariants as step
 use Rattle.wq_table.specs.Chair.{part_at}
-use Rattle.wq_table.proofs.Steps.{performs_resume}
+use Rattle.wq_table.specs.SlotChairs.{standing_of}
+use Rattle.wq_table.proofs.Steps.{placed, number_placed, linked, number_linked, number_pushed, saw_closed, saw_draining, saw_any}
+use Rattle.wq_table.proofs.Steps as steps
+use Rattle.wq_table.proofs.SlotTold.{by_either}
+use Rattle.wq_table.proofs.ByKind as by
 use Rattle.wq_table.proofs.chair.Chair.resume.Goals as goal
 
 pub swap-requires-clause-performs : goal.swap-requires-clause-performs
-swap-requires-clause-performs g c = let p = part_at g.P.Place.at c.args.self.now in
-    performs_resume p.seat p.layout p.seen p.words p.stage c.requires.draining c.requires.rested c.requires.empty c.requires.idle
+swap-requires-clause-performs g c = let it = c.args.self.now in let at = g.P.Place.at in let p = part_at at (standing_of it) in
+    steps.performs_resume p.seat p.layout p.seen p.words p.stage c.requires.draining c.requires.rested c.requires.empty c.requires.idle
+
+pub swap-requires-clause-goes : goal.swap-requires-clause-goes
+swap-requires-clause-goes g c = let it = c.args.self.now in let at = g.P.Place.at in
+    let p = part_at at (standing_of it) in by_either it.queue.slots p None step.Resume it.hand
+    (λ some_slot. by.by_resume p.seat p.layout p.seen p.words it.queue.slots it.hand p.stage c.requires.rested)

@@ -1,0 +1,92 @@
+-- What an owner of a queue whose items bring values has handed over, call after call, and its history with values.
+use Rattle.std.proofs.Common.{◌≡◌, ℕ, Bool, true, false, List, [], ◌∷◌, ◌++◌, length, slice_get, Option, Some, refl, sym, ap, ◌∙◌, subst, arith, length-append}
+use Rattle.std.proofs.lemmas.List.{append-nil}
+use mathlib.Core.List.{IsPrefix}
+use Rattle.wq_words.specs.declared.layout.Layout.{Layout}
+use Rattle.wq_words.specs.declared.event.Event.{Event}
+use Rattle.wq_words.specs.declared.event.Event.TheVariants.{Begin, Chain, ChainBusy, Rest}
+use Rattle.wq_words.specs.declared.answer.Answer.{Answer}
+use Rattle.wq_words.specs.declared.answer.Answer.TheVariants as answer
+use Rattle.wq_words.specs.History.{accepted, begun}
+use Rattle.wq_words.specs.Legal.{IsLegal}
+use Rattle.wq_words.specs.Valued.{AreBrought, IsLegalWith, with_values}
+use Rattle.wq_words.proofs.Valued.{legal_with}
+use Rattle.wq_table.specs.declared.table.Part.{Part}
+use Rattle.wq_table.specs.Beside.{Learns}
+use Rattle.wq_table.proofs.Learns.{learns_more}
+use Rattle.wq_live.specs.declared.value_owner.ValueOwner.TheInside as value_owner
+use Rattle.wq_live.specs.Known.{Sees}
+use Rattle.wq_live.specs.Answers.{Chains}
+use Rattle.wq_live.specs.Rest.{Rests}
+use Rattle.wq_live.specs.Sits.{owning, owner_view}
+use Rattle.wq_live.specs.Alone.{OwnsValues}
+use Rattle.wq_live.specs.KnownWith.{KnownWith, Learnt, handed_in}
+use Rattle.wq_live.specs.Laws.{IsStillEnd}
+use Rattle.wq_words.specs.Seen.{owner_seat, Grows}
+use Rattle.wq_words.proofs.Legal.{legal_front}
+use Rattle.wq_live.specs.Valued.{owner_with}
+use Rattle.wq_live.proofs.OwnerTells.{stands_legal}
+use Rattle.wq_live.proofs.Handed.{handed_stays, handed_next}
+
+-- the history that a seat has seen, with what was brought
+pub whole_legal : {V : Type 0} (p : Part) (layout : Layout) (brs : List (Option V)) → p.layout ≡ layout → IsLegal layout p.seen
+    → AreBrought p.layout.items (accepted p.seen) brs → IsLegalWith layout (with_values p.seen brs)
+whole_legal p layout brs same legal are = legal_with layout p.seen brs legal (subst (λ (l : Layout). AreBrought l.items (accepted p.seen) brs) same are)
+
+module _ {V : Type 0} (s t : value_owner.Inside V) (l : Learns 0 s.seat.chair t.seat.chair) (was : OwnsValues s) (now : KnownWith V)
+    (view : owner_with s.seat ≡ now) where
+  legal : IsLegal s.seat.chair.first.part.layout s.seat.chair.first.part.seen
+  legal = stands_legal s.seat.chair.first.part was.owns.queue.stands
+
+  pub owner_stays : (xs : List Event) (n : ℕ) → begun xs ≡ [] → Sees xs n (owner_view (owning s.seat)) (owner_view (owning t.seat))
+      → handed_in (owner_with t.seat) ≡ handed_in now
+  owner_stays xs n none sees = handed_stays s.seat.chair.first.part.layout s.seat.chair.first.part.seen t.seat.chair.first.part.seen
+      s.seat.chair.first.brought t.seat.chair.first.brought legal was.known.as_many (learns_more 0 s.seat.chair t.seat.chair l) xs n none sees.grows
+      ∙ ap handed_in view
+
+  pub owner_rests : (b : Bool) → Rests b (owner_view (owning s.seat)) (owner_view (owning t.seat)) → handed_in (owner_with t.seat) ≡ handed_in now
+  owner_rests true rests = owner_stays (Rest ∷ []) 0 refl rests
+  owner_rests false rests = owner_stays [] 0 refl rests
+
+  pub owner_chains : (k : ℕ) (a : Answer) → Chains k a (owner_view (owning s.seat)) (owner_view (owning t.seat))
+      → handed_in (owner_with t.seat) ≡ handed_in now
+  owner_chains k (answer.Queued first wakes) chains = owner_stays (Chain k ∷ []) 0 refl chains.2
+  owner_chains k answer.Pending chains = owner_stays (ChainBusy k ∷ []) 0 refl chains
+  owner_chains k answer.Closed chains = absurd chains
+  owner_chains k answer.Draining chains = absurd chains
+  owner_chains k answer.Contended chains = absurd chains
+
+  pub owner_hands : (k : ℕ) (y : Option V) → Sees (Begin k ∷ []) 0 (owner_view (owning s.seat)) (owner_view (owning t.seat))
+      → slice_get t.seat.chair.first.brought (length (begun s.seat.chair.first.part.seen)) ≡ Some y
+      → handed_in (owner_with t.seat) ≡ handed_in now ++ y ∷ []
+  owner_hands k y sees at = handed_next s.seat.chair.first.part.layout s.seat.chair.first.part.seen t.seat.chair.first.part.seen
+      s.seat.chair.first.brought t.seat.chair.first.brought legal was.known.as_many (learns_more 0 s.seat.chair t.seat.chair l) k 0 y sees.grows at
+      ∙ ap (λ (k : KnownWith V). handed_in k ++ y ∷ []) view
+
+-- as many were brought before as are brought now, where nothing more was accepted
+pub all_told : {V : Type 0} (v w : List Event) (bs cs : List (Option V)) → IsPrefix bs cs → length bs ≡ length (accepted v) → length cs ≡ length (accepted w)
+    → accepted w ≡ accepted v → cs ≡ bs
+all_told v w bs cs front many now same =
+    sym front.1 ∙ (ap (λ (z : List (Option _)). bs ++ z) (none_more front.0 (omega (
+      arith,
+      many,
+      now,
+      ap length same,
+      ap length front.1,
+      length-append bs front.0,
+    ))) ∙ append-nil bs)
+  where
+    none_more : {X : Type 0} (xs : List X) → length xs ≡ 0 → xs ≡ []
+    none_more [] none = refl
+    none_more (x ∷ xs) none = absurd (omega arith)
+
+-- an owner that met another seat
+pub met_handed : {V : Type 0} (old new : KnownWith V) → old.known.number ≡ owner_seat → Sees [] 0 old.known new.known → Learnt old new
+    → handed_in new ≡ handed_in old
+met_handed old new number sees learnt =
+    let g = subst (λ (c : ℕ). Grows c [] 0 old.known.seen new.known.seen) number sees.grows in
+    handed_stays new.known.layout old.known.seen new.known.seen old.brought new.brought
+    (legal_front new.known.layout old.known.seen g.new (subst (IsLegal new.known.layout) g.is sees.legal)) learnt.was_whole learnt.more [] 0 refl g
+
+pub met_end : {V : Type 0} (old new : KnownWith V) → Learnt old new → IsStillEnd old.known.seen new.known.seen → new.brought ≡ old.brought
+met_end old new learnt end = all_told old.known.seen new.known.seen old.brought new.brought learnt.more learnt.was_whole learnt.as_many end.accepted_is

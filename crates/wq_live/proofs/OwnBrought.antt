@@ -1,0 +1,161 @@
+-- What the queueings of one seat brought, call after call.
+use Rattle.std.proofs.Common.{◌≡◌, ℕ, zero, suc, Bool, true, false, cond, ◌==◌, if◌then◌else◌, List, [], ◌∷◌, ◌++◌, length, Option, Some, None, sym, refl, ap, ◌∙◌, arith}
+use Rattle.std.specs.Prelude.{filter_map, slice_get}
+use Rattle.std.specs.List.{cons_option}
+use Rattle.std.proofs.lemmas.List.{append-nil}
+use Rattle.std.proofs.lemmas.Bool.{eq-eqb}
+use Rattle.wq_words.proofs.Growing.{ends_alike}
+use mathlib.Core.List.{IsPrefix}
+use Rattle.wq_words.specs.declared.event.Event.{Event}
+use Rattle.wq_words.specs.declared.event.Event.TheVariants.{Hold, Busy, Push, Back}
+use Rattle.wq_words.specs.declared.event.Why.TheVariants as why
+use Rattle.wq_words.specs.History.{accepted, accepted_by, begun_by}
+use Rattle.wq_words.specs.Seen.{seat_of, own, Grows}
+use Rattle.wq_words.specs.Valued.{first_in, left_of, paired, value_if, value_of}
+use Rattle.wq_live.specs.declared.value_answer.ValueAnswer.{ValueAnswer}
+use Rattle.wq_live.specs.declared.value_answer.ValueAnswer.TheVariants as given
+use Rattle.wq_live.specs.Answers.{Answers}
+use Rattle.wq_live.specs.KnownWith.{KnownWith, Learnt, answer_of, BringsOrReturns}
+use Rattle.wq_live.specs.OwnBrought.{own_brought_by, own_brought, queued_value}
+
+onto : {X : Type 0} (o : Option X) (us vs : List X) → cons_option o (us ++ vs) ≡ cons_option o us ++ vs
+onto None us vs = refl
+onto (Some x) us vs = refl
+
+module _ {V : Type 0} (s : ℕ) where
+  -- the same, an event after the other
+  abbrev own_row : List Event → List (Option V) → List (Option V)
+  own_row [] bs = []
+  own_row (e ∷ es) bs = cons_option (if seat_of e == s then value_if (accepted_by e) (first_in bs) else None) (own_row es (left_of (accepted_by e) bs))
+
+  value_first : (a b : Option ℕ) (bs hs : List (Option V)) → value_if a (value_of a b bs hs) ≡ value_if a (first_in bs)
+  value_first None b bs hs = refl
+  value_first (Some k) b bs hs = refl
+
+  is_row : (es : List Event) (bs hs : List (Option V)) → filter_map (own_brought_by s) (paired es bs hs) ≡ own_row es bs
+  is_row [] bs hs = refl
+  is_row (e ∷ es) bs hs = λ i. cons_option (if seat_of e == s then value_first (accepted_by e) (begun_by e) bs hs i else None)
+      (is_row es (left_of (accepted_by e) bs) (left_of (begun_by e) hs) i)
+
+  -- what an event leaves of what was brought, where there is enough
+  record Left (a : Option ℕ) (acs : List ℕ) (bs cs : List (Option V)) : Type 0 where
+    left : left_of a (bs ++ cs) ≡ left_of a bs ++ cs
+    value : value_if a (first_in (bs ++ cs)) ≡ value_if a (first_in bs)
+    many : length (left_of a bs) ≡ length acs
+
+  leaves : (a : Option ℕ) (acs : List ℕ) (bs cs : List (Option V)) → length bs ≡ length (cons_option a acs) → Left a acs bs cs
+  leaves None acs bs cs many = record { left = refl; value = refl; many = many }
+  leaves (Some k) acs [] cs many = absurd (omega arith)
+  leaves (Some k) acs (b ∷ bs) cs many = record { left = refl; value = refl; many = omega (arith, many) }
+
+  row_append : (v w : List Event) (bs cs : List (Option V)) → length bs ≡ length (accepted v) → own_row (v ++ w) (bs ++ cs) ≡ own_row v bs ++ own_row w cs
+  row_append [] w [] cs many = refl
+  row_append [] w (b ∷ bs) cs many = absurd (omega arith)
+  row_append (e ∷ es) w bs cs many =
+      let a = accepted_by e in let l = leaves a (accepted es) bs cs many in
+      (λ i. cons_option (if seat_of e == s then l.value i else None)
+      ((ap (own_row (es ++ w)) l.left ∙ row_append es w (left_of a bs) cs l.many) i)) ∙
+      onto (if seat_of e == s then value_if a (first_in bs) else None) (own_row es (left_of a bs)) (own_row w cs)
+
+  row_length : (h : List Event) (bs : List (Option V)) → length (own_row h bs) ≡ length (accepted (own s h))
+  row_length [] bs = refl
+  row_length (e ∷ es) bs = go (seat_of e == s) (accepted_by e) refl (row_length es (left_of (accepted_by e) bs))
+    where
+      go : (b : Bool) (a : Option ℕ) → accepted_by e ≡ a → length (own_row es (left_of (accepted_by e) bs)) ≡ length (accepted (own s es))
+          → length (cons_option (if b then value_if a (first_in bs) else None) (own_row es (left_of (accepted_by e) bs)))
+          ≡ length (accepted (cond b (e ∷ own s es) (own s es)))
+      go true None is rest = rest ∙ ap (λ (o : Option ℕ). length (cons_option o (accepted (own s es)))) (sym is)
+      go true (Some k) is rest = ap suc rest ∙ ap (λ (o : Option ℕ). length (cons_option o (accepted (own s es)))) (sym is)
+      go false a is rest = rest
+
+  -- what was brought grows at its end
+  pub own_brought_append : (v w : List Event) (bs cs : List (Option V)) → length bs ≡ length (accepted v)
+      → own_brought s (v ++ w) (bs ++ cs) ≡ own_brought s v bs ++ own_brought s w cs
+  own_brought_append v w bs cs many = is_row (v ++ w) (bs ++ cs) (bs ++ cs) ∙ (row_append v w bs cs many ∙
+      (λ i. sym (is_row v bs bs) i ++ sym (is_row w cs cs) i))
+
+  pub own_brought_length : (h : List Event) (bs : List (Option V)) → length (own_brought s h bs) ≡ length (accepted (own s h))
+  own_brought_length h bs = ap length (is_row h bs bs) ∙ row_length h bs
+
+none_left : {X : Type 0} (xs : List X) → length xs ≡ 0 → xs ≡ []
+none_left [] none = refl
+none_left (x ∷ xs) none = absurd (omega arith)
+
+one_left : {X : Type 0} (xs : List X) → length xs ≡ 1 → (x : X) × (xs ≡ x ∷ [])
+one_left [] one = absurd (omega arith)
+one_left (x ∷ []) one = (x, refl)
+one_left (x ∷ y ∷ xs) one = absurd (omega arith)
+
+-- the place of an element cuts the list in front of it
+cut_at : {X : Type 0} (xs : List X) (n : ℕ) (y : X) → slice_get xs n ≡ Some y → (us : List X) × (vs : List X) × (xs ≡ us ++ y ∷ vs) × (length us ≡ n)
+cut_at [] n y at = absurd cc
+cut_at (x ∷ xs) zero y at = ([], xs, ap (λ z. z ∷ xs) (cc at), refl)
+cut_at (x ∷ xs) (suc n) y at = let r = cut_at xs n y at in (x ∷ r.0, r.1, ap (λ z. x ∷ z) r.2, ap suc r.3)
+
+module _ {V : Type 0} (c : ℕ) where
+  -- more was seen, of which the seat made these events, and more was brought
+  own_more : (xs : List Event) (n : ℕ) (v w : List Event) (bs cs : List (Option V)) → Grows c xs n v w → IsPrefix bs cs → length bs ≡ length (accepted v)
+      → (more : List (Option V)) × (own_brought c w cs ≡ own_brought c v bs ++ more) × (length more ≡ length (accepted xs))
+  own_more xs n v w bs cs g front many = (
+    own_brought c g.new front.0,
+    (λ i. own_brought c (g.is i) (sym front.1 i)) ∙ own_brought_append c v g.new bs front.0 many,
+    own_brought_length c g.new front.0 ∙ ap (λ (es : List Event). length (accepted es)) g.mine,
+  )
+
+  -- none of them was accepted
+  pub own_still : (xs : List Event) (n : ℕ) (v w : List Event) (bs cs : List (Option V)) → accepted xs ≡ [] → Grows c xs n v w → IsPrefix bs cs
+      → length bs ≡ length (accepted v) → own_brought c w cs ≡ own_brought c v bs
+  own_still xs n v w bs cs none g front many = let m = own_more xs n v w bs cs g front many in
+      m.1 ∙ (ap (λ (z : List (Option V)). own_brought c v bs ++ z) (none_left m.0 (m.2 ∙ ap length none)) ∙ append-nil (own_brought c v bs))
+
+  -- the last of them is the push of k, which brought y
+  pub own_pushed : (xs : List Event) (n k : ℕ) (v w before after : List Event) (bs cs : List (Option V)) (y : Option V) → length (accepted xs) ≡ 1
+      → Grows c xs n v w → IsPrefix bs cs → length bs ≡ length (accepted v) → w ≡ before ++ Push c k ∷ after → own c after ≡ []
+      → slice_get cs (length (accepted before)) ≡ Some y → own_brought c w cs ≡ own_brought c v bs ++ y ∷ []
+  own_pushed xs n k v w before after bs cs y one g front many is last has =
+      let m = own_more xs n v w bs cs g front many in let only = one_left m.0 (m.2 ∙ one) in
+      let cut = cut_at cs (length (accepted before)) y has in
+      let behind : own_brought c (Push c k ∷ after) (y ∷ cut.1) ≡ y ∷ [] =
+      let r = one_left (own_brought c (Push c k ∷ after) (y ∷ cut.1)) (own_brought_length c (Push c k ∷ after) (y ∷ cut.1) ∙
+      (own_push c k after ∙ ap (λ (es : List Event). suc (length (accepted es))) last)) in r.1 ∙ ap (λ (z : Option V). z ∷ []) (first_own c k after y cut.1 r.0 r.1) in
+      let whole : own_brought c w cs ≡ own_brought c before cut.0 ++ y ∷ [] =
+      (λ i. own_brought c (is i) (cut.2 i)) ∙ (own_brought_append c before (Push c k ∷ after) cut.0 (y ∷ cut.1) cut.3 ∙
+      ap (λ (z : List (Option V)). own_brought c before cut.0 ++ z) behind) in
+      let ends = ends_alike (own_brought c v bs) (own_brought c before cut.0) only.0 y
+      (sym (m.1 ∙ ap (λ (z : List (Option V)). own_brought c v bs ++ z) only.1) ∙ whole) in
+      whole ∙ ap (λ (z : List (Option V)). z ++ y ∷ []) (sym ends.0)
+    where
+      own_push : (c k : ℕ) (after : List Event) → length (accepted (own c (Push c k ∷ after))) ≡ suc (length (accepted (own c after)))
+      own_push c k after = ap (λ (b : Bool). length (accepted (cond b (Push c k ∷ own c after) (own c after)))) (eq-eqb c c refl)
+
+      first_own : (c k : ℕ) (after : List Event) (y : Option V) (cs : List (Option V)) (z : Option V)
+          → own_brought c (Push c k ∷ after) (y ∷ cs) ≡ z ∷ [] → z ≡ y
+      first_own c k after y cs z is = cc (sym is ∙ is_row c (Push c k ∷ after) (y ∷ cs) (y ∷ cs) ∙
+          ap (λ (b : Bool). cons_option (if b then Some y else None) (own_row c after cs)) (eq-eqb c c refl))
+
+-- a queueing adds its value to what the seat's own queueings brought, where it was queued
+pub brings_own : {V : Type 0} (k tries : ℕ) (v : V) (a : ValueAnswer V) (old new : KnownWith V) → Answers k tries (answer_of a) old.known new.known
+    → BringsOrReturns k v a new → Learnt old new
+    → own_brought old.known.number new.known.seen new.brought ≡ own_brought old.known.number old.known.seen old.brought ++ queued_value v a
+brings_own {V} k tries v a old new answers value learnt = go a answers value
+  where
+    c : ℕ
+    c = old.known.number
+
+    still : (xs : List Event) (n : ℕ) → accepted xs ≡ [] → Grows c xs n old.known.seen new.known.seen
+        → own_brought c new.known.seen new.brought ≡ own_brought c old.known.seen old.brought ++ []
+    still xs n none g = own_still c xs n old.known.seen new.known.seen old.brought new.brought none g learnt.more learnt.was_whole ∙
+        sym (append-nil (own_brought c old.known.seen old.brought))
+
+    go : (a : ValueAnswer V) → Answers k tries (answer_of a) old.known new.known → BringsOrReturns k v a new
+        → own_brought c new.known.seen new.brought ≡ own_brought c old.known.seen old.brought ++ queued_value v a
+    go (given.Queued is_first is_waking) answers brings =
+        let number = answers.0.same.number_is in
+        let p = brings.0 in
+        own_pushed c (Hold c k ∷ Push c k ∷ []) 0 k old.known.seen new.known.seen p.before p.after old.brought new.brought (Some v) refl answers.0.grows
+        learnt.more learnt.was_whole
+        (p.is ∙ ap (λ (d : ℕ). p.before ++ Push d k ∷ p.after) number) (ap (λ (d : ℕ). own d p.after) (sym number) ∙ p.last) brings.1
+    go (given.Pending w) answers back = still (Busy c k ∷ []) 0 refl answers.grows
+    go (given.Closed w) answers back = still (Hold c k ∷ Back c k why.Closed ∷ []) 0 refl answers.grows
+    go (given.Contended w) answers back = still (Hold c k ∷ Back c k why.Contended ∷ []) tries refl answers.grows
+    go (given.Draining w) answers back = still (Hold c k ∷ Back c k why.Draining ∷ []) 0 refl answers.0.grows

@@ -1,0 +1,28 @@
+use Rattle.std.proofs.Common.{◌≡◌, [], refl, ap, ◌∙◌}
+use Rattle.wq_table.specs.SlotChairs.{ValueStanding}
+use Rattle.wq_live.specs.KnownWith.{KnownWith}
+use Rattle.wq_live.proofs.Built.{values_new, all_values, length_values}
+use Rattle.wq_live.proofs.making.build_values.Goals as goal
+
+pub returns-clause-one : goal.returns-clause-one
+returns-clause-one g c = let e = c.new.ensures in let chair = c.in_ok-chair.chair in let is = c.in_ok-chair.ensures.seats in let l = c.args.layout in
+    let made = values_new l chair c.new.result is.0 e.chair e.layout c.in_ok-senders.senders.items (c.in_ok-senders.ensures chair.queue is.1) in
+    all_values (λ (s : KnownWith g.row.V.Denot). s.known.queue ≡ c.new.result.chair.queue) c.new.result.chair.queue l c.in_ok-senders.senders.items made
+    (λ s. refl)
+
+pub returns-clause-layouts : goal.returns-clause-layouts
+returns-clause-layouts g c = let e = c.new.ensures in let chair = c.in_ok-chair.chair in let is = c.in_ok-chair.ensures.seats in let l = c.args.layout in
+    let made = values_new l chair c.new.result is.0 e.chair e.layout c.in_ok-senders.senders.items (c.in_ok-senders.ensures chair.queue is.1) in
+    (e.layout, all_values (λ (s : KnownWith g.row.V.Denot). s.known.layout ≡ l) c.new.result.chair.queue l c.in_ok-senders.senders.items made (λ s. refl))
+
+pub returns-clause-count : goal.returns-clause-count
+returns-clause-count g c = let e = c.new.ensures in let chair = c.in_ok-chair.chair in let is = c.in_ok-chair.ensures.seats in let l = c.args.layout in
+    let made = values_new l chair c.new.result is.0 e.chair e.layout c.in_ok-senders.senders.items (c.in_ok-senders.ensures chair.queue is.1) in
+    length_values c.new.result.chair.queue l c.in_ok-senders.senders.items made
+
+pub returns-clause-unseen : goal.returns-clause-unseen
+returns-clause-unseen g c = let e = c.new.ensures in let chair = c.in_ok-chair.chair in let is = c.in_ok-chair.ensures.seats in let l = c.args.layout in
+    let made = values_new l chair c.new.result is.0 e.chair e.layout c.in_ok-senders.senders.items (c.in_ok-senders.ensures chair.queue is.1) in (
+      ap (λ (x : ValueStanding g.row.V.Denot). x.first.part.seen) (e.chair ∙ is.0),
+      all_values (λ (s : KnownWith g.row.V.Denot). s.known.seen ≡ []) c.new.result.chair.queue l c.in_ok-senders.senders.items made (λ s. refl),
+    )

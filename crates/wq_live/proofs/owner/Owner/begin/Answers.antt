@@ -1,0 +1,5 @@
+use Rattle.wq_live.proofs.ValueSeats.{owner_alone}
+use Rattle.wq_live.proofs.owner.Owner.begin.Goals as goal
+
+pub invariant_of-self : goal.invariant_of-self
+invariant_of-self c = owner_alone c.self.inside (record { seat = c.begin.new.self }) c.self.invariant c.begin.ensures.owns c.begin.ensures.learns

@@ -1,0 +1,5 @@
+use Rattle.wq_live.proofs.ValueSeats.{owner_alone}
+use Rattle.wq_live.proofs.owner.Owner.resume.Goals as goal
+
+pub invariant_of-self : goal.invariant_of-self
+invariant_of-self c = owner_alone c.self.inside (record { seat = c.resume.new.self }) c.self.invariant c.resume.ensures.owns c.resume.ensures.learns

@@ -1,0 +1,5 @@
+use Rattle.wq_live.proofs.ValueSeats.{owner_alone}
+use Rattle.wq_live.proofs.owner.Owner.take.Goals as goal
+
+pub invariant_of-self : goal.invariant_of-self
+invariant_of-self c = owner_alone c.self.inside (record { seat = c.take.new.self }) c.self.invariant c.take.ensures.owns c.take.ensures.learns

@@ -1,0 +1,27 @@
+use Rattle.std.proofs.Common.{refl, sym, ap, ◌∙◌, subst}
+use Rattle.atomic_table.specs.Seated.{TableId}
+use Rattle.wq_table.specs.Chair.{owner_chair}
+use Rattle.wq_table.specs.SlotChairs.{ValueStanding, standing_of}
+use Rattle.wq_live.specs.Sits.{Owning, kept_batch}
+use Rattle.wq_live.specs.declared.owner_seat.Phase.TheVariants.{Open}
+use Rattle.std.proofs.Common.{None}
+use Rattle.wq_live.specs.Hands.{OwnsSlots}
+use Rattle.wq_live.proofs.Built.{executes_new}
+use Rattle.wq_live.proofs.owner_seat.OwnerSeat.new.Goals as goal
+
+pub returns-clause-owns : goal.returns-clause-owns
+returns-clause-owns g c = let chair = c.args.chair in let is = c.requires.unseen.1 in
+    let s : Owning = record {
+      chair = standing_of chair;
+      layout = c.args.layout;
+      row = c.empty.result;
+      running = None;
+      phase = Open;
+      counts = record { chained = 0; chain_busy = 0; ended = 0 };
+    } in record {
+      queue = executes_new s
+          (ap standing_of is ∙ ap (λ (q : TableId). owner_chair q c.args.layout) (sym (ap (λ (z : ValueStanding g.row.V.Denot). z.queue) is)))
+          c.empty.ensures refl refl refl;
+      slots = subst (λ (z : ValueStanding g.row.V.Denot). OwnsSlots z (kept_batch z.first.part.stage)) (sym is)
+          (record { some = λ deep. record { numbers_are = refl; each = tt }; none = λ bare. refl });
+    }

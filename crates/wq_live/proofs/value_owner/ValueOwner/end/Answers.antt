@@ -1,0 +1,28 @@
+use Rattle.std.proofs.Common.{[], ◌∷◌, ap, ◌∙◌, subst, sym}
+use Rattle.wq_words.specs.declared.event.Event.TheVariants.{End}
+use Rattle.wq_words.specs.History.{running, IsRunning}
+use Rattle.wq_live.specs.Known.{Sees}
+use Rattle.wq_live.specs.KnownWith.{KnownWith}
+use Rattle.wq_live.specs.Sits.{owning, owner_view}
+use Rattle.wq_live.proofs.ValueSeats.{values_alone, owner_learnt}
+use Rattle.wq_live.proofs.HandedOver.{owner_stays}
+use Rattle.wq_words.proofs.Running.{runs_some}
+use mathlib.Core.Path.{refl}
+use Rattle.wq_live.proofs.value_owner.ValueOwner.end.Goals as goal
+
+pub invariant_of-self : goal.invariant_of-self
+invariant_of-self g c = values_alone c.self.inside (record { seat = c.end.new.self }) c.end.ensures.learns c.self.invariant c.end.ensures.owns
+
+pub returns-clause-learnt : goal.returns-clause-learnt
+returns-clause-learnt g c = owner_learnt c.self.inside (record { seat = c.end.new.self }) c.end.ensures.learns c.self.invariant c.args.self.now c.self.view_is
+
+pub returns-clause-seen : goal.returns-clause-seen
+returns-clause-seen g c k is =
+    subst (λ (v : KnownWith g.row.V.Denot). Sees (End k ∷ []) 0 v.known (owner_view (owning c.end.new.self))) c.self.view_is
+    (c.end.ensures.seen k (ap (λ (v : KnownWith g.row.V.Denot). running v.known.seen) c.self.view_is ∙ is))
+
+pub returns-clause-handed : goal.returns-clause-handed
+returns-clause-handed g c = let e = c.end.ensures in
+    let some = runs_some (owner_view (owning c.self.inside.seat)).seen (subst (λ (v : KnownWith g.row.V.Denot). IsRunning v.known.seen) (sym c.self.view_is) c.requires.runs) in
+    owner_stays c.self.inside (record { seat = c.end.new.self }) e.learns c.self.invariant c.args.self.now c.self.view_is (End some.0 ∷ []) 0 refl
+    (e.seen some.0 some.1)

@@ -1,0 +1,21 @@
+use Rattle.std.proofs.Common.{subst}
+use Rattle.wq_words.specs.Legal.{IsLegal}
+use Rattle.wq_words.specs.Headline.{KeepsHeadline}
+use Rattle.wq_words.proofs.Headlines.{keeps_headline}
+use Rattle.wq_live.specs.KnownWith.{KnownWith}
+use Rattle.wq_live.specs.Sits.{sending_in}
+use Rattle.wq_words.specs.Valued.{IsLegalWith, with_values}
+use Rattle.wq_live.proofs.HandedOver.{whole_legal}
+use Rattle.wq_live.proofs.value_sender.ValueSender.legal.Goals as goal
+
+pub returns-clause-legal : goal.returns-clause-legal
+returns-clause-legal g c = subst (λ (v : KnownWith g.row.V.Denot). IsLegal v.known.layout v.known.seen) c.self.view_is c.self.invariant.sends.legal
+
+pub returns-clause-headline : goal.returns-clause-headline
+returns-clause-headline g c = let s = sending_in 0 c.self.inside.chair c.self.inside.sent in
+    subst (λ (v : KnownWith g.row.V.Denot). KeepsHeadline v.known.seen) c.self.view_is (keeps_headline s.layout s.chair.part.seen c.self.invariant.sends.legal)
+
+pub returns-clause-values : goal.returns-clause-values
+returns-clause-values g c = let it = c.self.inside.chair in let o = c.self.invariant.sends in
+    subst (λ (v : KnownWith g.row.V.Denot). IsLegalWith v.known.layout (with_values v.known.seen v.brought)) c.self.view_is
+    (whole_legal it.first.part c.self.inside.sent.layout it.first.brought o.layout_is o.legal c.self.invariant.known)

@@ -1,5 +1,0 @@
-use Rattle.std.specs.Prelude.{Some}
-use Rattle.wq_table.proofs.value_chair.ValueChair.chain_value.Given as goal
-
-abbrev pub ghosts-chain_said : goal.ghosts-chain_said
-ghosts-chain_said g a = record { said = Some a.value.now }
