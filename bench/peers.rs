@@ -1,5 +1,8 @@
 // Queues that a user of Rust would take instead, to measure bench_queue beside: items that several threads queue and one executes.
-// usage: peers array|channel|mpsc|mutex SENDERS SLICE TOTAL; prints `items N nanos T takes K least L`.
+// usage: peers array|channel|mpsc|mutex|channel8|channel64|mpsc8|mpsc64 SENDERS SLICE TOTAL; prints `items N nanos T takes K least L`.
+//
+// With a number behind its name a channel carries the item's number and a value of so many bytes, which the sender makes of the
+// number and the thread that executes reads, as `bench_values` does.
 //
 // Each item has a PENDING byte, which a sender tests and sets before it queues the item's number and the thread that executes
 // clears before it runs the item, so that an item is queued once at a time, as in the queue that is measured beside. A take is a
@@ -7,7 +10,7 @@
 use crossbeam_queue::ArrayQueue;
 use crossbeam_utils::{Backoff, CachePadded};
 use std::collections::VecDeque;
-use std::hint::spin_loop;
+use std::hint::{black_box, spin_loop};
 use std::sync::atomic::{AtomicBool, AtomicU8, Ordering::SeqCst};
 use std::sync::{mpsc, Mutex};
 use std::time::Instant;
@@ -101,6 +104,48 @@ impl Outbox for mpsc::Receiver<u32> {
     }
 }
 
+// So many words of a value, and what they come to.
+type Value<const WORDS: usize> = [u64; WORDS];
+
+fn read<const WORDS: usize>((item, value): (u32, Value<WORDS>)) -> u32 {
+    black_box(value[0].wrapping_add(value[WORDS - 1]));
+    item
+}
+
+struct ValueChannel<const WORDS: usize>(crossbeam_channel::Sender<(u32, Value<WORDS>)>);
+
+impl<const WORDS: usize> Inbox for ValueChannel<WORDS> {
+    fn push(&self, item: u32) {
+        let _ = self.0.send((item, [u64::from(item); WORDS]));
+    }
+}
+
+impl<const WORDS: usize> Outbox for crossbeam_channel::Receiver<(u32, Value<WORDS>)> {
+    fn pop(&mut self) -> (u32, bool) {
+        match self.try_recv() {
+            Ok(pair) => (read(pair), false),
+            Err(_) => (read(self.recv().expect("a sender")), true),
+        }
+    }
+}
+
+struct ValueMpsc<const WORDS: usize>(mpsc::Sender<(u32, Value<WORDS>)>);
+
+impl<const WORDS: usize> Inbox for ValueMpsc<WORDS> {
+    fn push(&self, item: u32) {
+        let _ = self.0.send((item, [u64::from(item); WORDS]));
+    }
+}
+
+impl<const WORDS: usize> Outbox for mpsc::Receiver<(u32, Value<WORDS>)> {
+    fn pop(&mut self) -> (u32, bool) {
+        match self.try_recv() {
+            Ok(pair) => (read(pair), false),
+            Err(_) => (read(self.recv().expect("a sender")), true),
+        }
+    }
+}
+
 struct Race<'a> {
     pending: &'a [AtomicU8],
     is_over: &'a AtomicBool,
@@ -156,6 +201,16 @@ impl Race<'_> {
         });
         println!("items {total} nanos {nanos} takes {takes} least {least}");
     }
+
+    fn measure_channel<const WORDS: usize>(&self, senders: u32, slice: u32, total: u64) {
+        let (sender, mut receiver) = crossbeam_channel::bounded::<(u32, Value<WORDS>)>(self.pending.len());
+        self.measure(&ValueChannel(sender), &mut receiver, senders, slice, total);
+    }
+
+    fn measure_mpsc<const WORDS: usize>(&self, senders: u32, slice: u32, total: u64) {
+        let (sender, mut receiver) = mpsc::channel::<(u32, Value<WORDS>)>();
+        self.measure(&ValueMpsc(sender), &mut receiver, senders, slice, total);
+    }
 }
 
 // Each sender of a channel has a clone of its own, as the channels are used; one that is shared would be no slower.
@@ -163,7 +218,7 @@ fn main() {
     let words: Vec<String> = std::env::args().skip(1).collect();
     let numbers: Vec<u64> = words.iter().skip(1).filter_map(|word| word.parse().ok()).collect();
     let (Some(kind), [senders, slice, total]) = (words.first(), numbers.as_slice()) else {
-        eprintln!("usage: peers array|channel|mpsc|mutex SENDERS SLICE TOTAL");
+        eprintln!("usage: peers array|channel|mpsc|mutex|channel8|channel64|mpsc8|mpsc64 SENDERS SLICE TOTAL");
         std::process::exit(2);
     };
     let (senders, slice, total) = (*senders as u32, *slice as u32, *total);
@@ -184,6 +239,10 @@ fn main() {
             let (sender, mut receiver) = mpsc::channel();
             race.measure(&Mpsc(sender), &mut receiver, senders, slice, total);
         }
+        "channel8" => race.measure_channel::<1>(senders, slice, total),
+        "channel64" => race.measure_channel::<8>(senders, slice, total),
+        "mpsc8" => race.measure_mpsc::<1>(senders, slice, total),
+        "mpsc64" => race.measure_mpsc::<8>(senders, slice, total),
         "mutex" => {
             let queue = Mutex::new(VecDeque::with_capacity(count));
             race.measure(&Locked(&queue), &mut Locked(&queue), senders, slice, total);

@@ -1,0 +1,54 @@
+//! Why nothing was measured.
+use std::alloc::{AllocError, AllocFailed};
+use std::io;
+use thiserror::Error;
+use wq_live::BuildError;
+use wq_words::LayoutError;
+
+/// Why nothing was measured.
+#[derive(Debug, Drop, Error)]
+pub enum Refusal {
+    /// Another count of words, a word that is no number, or another width.
+    #[error("usage: bench_values 8|64 SENDERS SLICE TOTAL")]
+    Words,
+    /// More senders or items than a queue has.
+    #[error("plan: {0}")]
+    Limits(#[from] LayoutError),
+    /// Memory for the queue.
+    #[error("memory")]
+    Memory,
+    /// A thread could not be made.
+    #[error("no thread")]
+    NoThread,
+    /// The system's clock gave no time, or nothing could be printed.
+    #[error("{0}")]
+    System(#[from] io::Error),
+}
+
+impl Refusal {
+    /// The status that the program ends with.
+    pub fn status(&self) -> u8 {
+        match self {
+            Refusal::Words | Refusal::Limits(_) => 2,
+            _ => 3,
+        }
+    }
+}
+
+impl From<AllocError> for Refusal {
+    fn from(_: AllocError) -> Refusal {
+        Refusal::Memory
+    }
+}
+
+impl<T: Drop> From<AllocFailed<T>> for Refusal {
+    fn from(_: AllocFailed<T>) -> Refusal {
+        Refusal::Memory
+    }
+}
+
+impl From<BuildError> for Refusal {
+    fn from(_: BuildError) -> Refusal {
+        Refusal::Memory
+    }
+}

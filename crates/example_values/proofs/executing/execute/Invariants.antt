@@ -1,0 +1,12 @@
+use Rattle.std.specs.Prelude.{◌≡◌}
+use Rattle.wq_words.specs.History.{IsRunning, IsClosed, IsShut}
+use Rattle.wq_live.specs.Known.{IsSame}
+use Rattle.wq_live.specs.KnownWith.{handed_in}
+use Rattle.example_values.specs.Messages.{numbers_of}
+use Rattle.example_values.proofs.executing.execute.Given as goal
+
+abbrev pub invariant-loop : goal.invariant-loop
+invariant-loop g l = IsSame l.fn.it.owner.known l.it.owner.known × (¬ IsRunning l.it.owner.known.seen)
+    × (numbers_of (handed_in l.it.owner) ≡ l.it.ran.items)
+    × (¬ IsShut l.fn.it.owner.known.seen → ¬ IsShut l.it.owner.known.seen) × (¬ IsClosed l.fn.it.owner.known.seen → ¬ IsClosed l.it.owner.known.seen)
+    × (IsClosed l.fn.it.owner.known.seen → IsClosed l.it.owner.known.seen)

@@ -1,0 +1,125 @@
+//! The owner, which takes, executes, rests and parks until the stop item ran.
+ghost use Rattle.std.specs.Prelude.{◌≡◌, ◌≢◌, [], ◌∷◌, ◌++◌};
+ghost use Rattle.wq_live.specs.History.{accepted, begun, ended, IsRunning, IsClosed, IsShut};
+ghost use Rattle.wq_live.specs.Legal.{IsComplete};
+ghost use Rattle.wq_live.specs.Known.{IsSame};
+ghost use Rattle.wq_live.specs.Batch.{batch};
+ghost use Rattle.wq_live.specs.KnownWith.{handed_in};
+ghost use Rattle.example_values.specs.Messages.{numbers_of};
+
+use crate::queueing::Message;
+use crossbeam_utils::sync::Parker;
+use std::sync::Wait;
+use trail::Trail;
+use wq_live::ValueOwner;
+
+/// The owner, what the messages that it was handed came to, and their list, which contracts alone see.
+#[derive(Drop)]
+pub struct Ran {
+    pub owner: ValueOwner<Message>,
+    pub sum: u64,
+    pub ran: Trail,
+}
+
+/// What an execution does with the message that it is handed: here a user's own work would stand.
+fn add_up(it: &mut Ran, message: Option<Message>)
+    ensures owner { it.new.owner ≡ it.old.owner }
+    ensures ran { it.new.ran.items ≡ it.old.ran.items ++ numbers_of (message ∷ []) }
+{
+    if let Some(message) = message {
+        it.sum = it.sum.saturating_add(u64::from(*message));
+        it.ran = it.ran.and(*message);
+    }
+}
+
+/// The next execution, which adds up its message. Which number it was.
+fn execute_one(it: &mut Ran) -> u32
+    requires waits { batch it.old.owner.known.seen ≢ [] }
+    requires idle { ¬ IsRunning it.old.owner.known.seen }
+    requires ran { numbers_of (handed_in it.old.owner) ≡ it.old.ran.items }
+    ensures same { IsSame it.old.owner.known it.new.owner.known }
+    ensures ran { numbers_of (handed_in it.new.owner) ≡ it.new.ran.items }
+    ensures idle { ¬ IsRunning it.new.owner.known.seen }
+    ensures open { ¬ IsShut it.old.owner.known.seen → ¬ IsShut it.new.owner.known.seen }
+    ensures unclosed { ¬ IsClosed it.old.owner.known.seen → ¬ IsClosed it.new.owner.known.seen }
+    ensures closed { IsClosed it.old.owner.known.seen → IsClosed it.new.owner.known.seen }
+{
+    let (number, message) = it.owner.begin();
+    add_up(it, message);
+    it.owner.end();
+    number
+}
+
+/// All that waits. Whether the stop item was among it.
+fn execute<R: Wait>(rt: &R, it: &mut Ran) -> bool
+    requires idle { ¬ IsRunning it.old.owner.known.seen }
+    requires ran { numbers_of (handed_in it.old.owner) ≡ it.old.ran.items }
+    ensures same { IsSame it.old.owner.known it.new.owner.known }
+    ensures ran { numbers_of (handed_in it.new.owner) ≡ it.new.ran.items }
+    ensures idle { ¬ IsRunning it.new.owner.known.seen }
+    ensures empty { batch it.new.owner.known.seen ≡ [] }
+    ensures open { ¬ IsShut it.old.owner.known.seen → ¬ IsShut it.new.owner.known.seen }
+    ensures unclosed { ¬ IsClosed it.old.owner.known.seen → ¬ IsClosed it.new.owner.known.seen }
+    ensures closed { IsClosed it.old.owner.known.seen → IsClosed it.new.owner.known.seen }
+{
+    let stop = it.owner.layout().stop();
+    let mut is_stopped = false;
+    for _ in rt.forever() {
+        if it.owner.waiting() == 0 {
+            return is_stopped;
+        }
+        if execute_one(it) == stop {
+            is_stopped = true;
+        }
+    }
+    unreachable!()
+}
+
+/// Takes, executes and rests until the stop item ran. Where the queue rests, the thread parks.
+fn serve<R: Wait>(rt: &R, it: &mut Ran, parker: &Parker)
+    requires open { ¬ IsShut it.old.owner.known.seen }
+    requires empty { batch it.old.owner.known.seen ≡ [] }
+    requires idle { ¬ IsRunning it.old.owner.known.seen }
+    requires ran { numbers_of (handed_in it.old.owner) ≡ it.old.ran.items }
+    ensures same { IsSame it.old.owner.known it.new.owner.known }
+    ensures ran { numbers_of (handed_in it.new.owner) ≡ it.new.ran.items }
+    ensures open { ¬ IsShut it.new.owner.known.seen }
+    ensures unclosed { ¬ IsClosed it.new.owner.known.seen }
+    ensures empty { batch it.new.owner.known.seen ≡ [] }
+    ensures idle { ¬ IsRunning it.new.owner.known.seen }
+{
+    for _ in rt.forever() {
+        it.owner.take();
+        if execute(rt, it) {
+            return;
+        }
+        if it.owner.rest() {
+            parker.park(rt);
+        }
+    }
+    unreachable!()
+}
+
+/// Serves a new queue until the stop item ran, closes it, and executes what is left.
+pub(crate) fn execute_all<R: Wait>(rt: &R, owner: ValueOwner<Message>, parker: &Parker) -> Ran
+    requires new { (owner.known.seen ≡ []) × (owner.brought ≡ []) }
+    ensures same { IsSame owner.known result.owner.known }
+    ensures complete { IsComplete result.owner.known.seen }
+    ensures all_began { begun result.owner.known.seen ≡ accepted result.owner.known.seen }
+    ensures all_ended { ended result.owner.known.seen ≡ begun result.owner.known.seen }
+    ensures ran { numbers_of result.owner.brought ≡ result.ran.items }
+{
+    let mut it = Ran {
+        owner,
+        sum: 0,
+        ran: Trail::new(),
+    };
+    serve(rt, &mut it, parker);
+    it.owner.close();
+    execute(rt, &mut it);
+    it.owner.legal();
+    if it.owner.done().is_none() {
+        unreachable!()
+    }
+    it
+}
