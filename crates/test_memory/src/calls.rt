@@ -2,6 +2,7 @@
 use crate::checkers::{check_events, check_marks};
 use crate::pool::serve_pool;
 use crate::streams::Page;
+use crate::values::build_with_values;
 use crate::worker::build_worker;
 use std::alloc::{AllocError, Global};
 use std::fmt;
@@ -21,6 +22,7 @@ use wq_words::Layout;
 #[derive(Clone, Copy)]
 pub enum Call {
     Build,
+    Values,
     Replay,
     Table,
     Worker,
@@ -62,8 +64,9 @@ impl fmt::Display for Said {
     }
 }
 
-pub const CALLS: [(&str, Call); 16] = [
+pub const CALLS: [(&str, Call); 17] = [
     ("build", Call::Build),
+    ("values", Call::Values),
     ("replay", Call::Replay),
     ("table", Call::Table),
     ("worker", Call::Worker),
@@ -342,6 +345,7 @@ fn run_main<T: Threads + Wait + Sync>(
 pub fn make<T: Threads + Wait + Sync>(rt: &T, alloc: Global, call: Call) -> Said {
     match call {
         Call::Build => build_queue(alloc),
+        Call::Values => build_with_values(alloc),
         Call::Replay => replay_turns(alloc),
         Call::Table => make_table(alloc),
         Call::Worker => build_worker(alloc),

@@ -6,6 +6,7 @@ mod calls;
 mod checkers;
 mod pool;
 mod streams;
+mod values;
 mod worker;
 
 use calls::{CALLS, Call, Said, make};

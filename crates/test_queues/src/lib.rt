@@ -22,6 +22,8 @@ mod own_threads;
 #[cfg(test)]
 mod seats;
 #[cfg(test)]
+mod values;
+#[cfg(test)]
 mod words;
 #[cfg(test)]
 mod worker;

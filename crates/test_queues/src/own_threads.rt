@@ -1,7 +1,8 @@
-//! The examples of a user's own threads and of a worker.
+//! The examples of a user's own threads, of messages that they hand over, and of a worker.
 use crate::expect::expect_same;
 use crate::latch::Latch;
 use example_threads::{queue_and_destroy, run};
+use example_values::run as hand_over;
 use std::alloc::Global;
 use std::process::Abort;
 use std::sync::Wait;
@@ -38,6 +39,36 @@ fn all_are_executed(rt: HostRuntime) {
     let (_, ended) = join(
         &rt,
         || run_often(&rt, rt.alloc(), &over),
+        || {
+            assert!(rt; over.stop(), "a run does not end");
+            true
+        },
+    );
+    assert!(rt; ended);
+}
+
+/// Each run ends with all messages handed over: 1,000 to 1,099 of the first sender, and 2,100 to 2,199 of the second.
+fn hand_over_often<R: Abort + Threads + Wait + Sync>(rt: &R, alloc: Global, over: &Latch) {
+    for _run in 0..RUNS {
+        let layout = Layout::new(200, 1, 3).expect(rt, "a layout");
+        let met = hand_over(rt, alloc, layout, EACH).expect(rt, "memory");
+        let queued = (
+            met.first.sender.counts().queued,
+            met.second.sender.counts().queued,
+        );
+        expect_same(rt, queued, (100, 100));
+        expect_same(rt, met.ran.owner.done().map(|done| done.ended), Some(201));
+        expect_same(rt, met.ran.sum, 319_900);
+    }
+    over.open();
+}
+
+#[test]
+fn all_messages_are_handed_over(rt: HostRuntime) {
+    let over = Latch::new();
+    let (_, ended) = join(
+        &rt,
+        || hand_over_often(&rt, rt.alloc(), &over),
         || {
             assert!(rt; over.stop(), "a run does not end");
             true
