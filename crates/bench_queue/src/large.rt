@@ -25,12 +25,13 @@ pub struct Stage {
     pub bytes: u64,
 }
 
-/// The stages that have ended, and where the next one began.
+/// The stages that have ended, where the next one began, and what could not be had for one of them.
 #[derive(Drop)]
 struct Stages {
     ended: Vec<Stage>,
     start: Instant,
     bytes: u64,
+    refusal: Option<Refusal>,
 }
 
 /// How many bytes of memory this process has resident.
@@ -48,11 +49,19 @@ impl Stages {
             ended: Vec::new(rt.alloc()),
             start: Instant::now(rt)?,
             bytes,
+            refusal: None,
         })
     }
 
-    /// Ends a stage, and begins the next.
-    fn end<R: Host>(&mut self, rt: &R, name: &'static str) -> Result<(), Refusal> {
+    /// Ends a stage, and begins the next. What cannot be had is said when all have ended: what is measured would else have an end of
+    /// its own at each stage, and be dropped there, which each is a case for the proof.
+    fn end<R: Host>(&mut self, rt: &R, name: &'static str) {
+        if let Err(refusal) = self.try_end(rt, name) {
+            self.refusal = Some(refusal);
+        }
+    }
+
+    fn try_end<R: Host>(&mut self, rt: &R, name: &'static str) -> Result<(), Refusal> {
         let nanos = self.start.elapsed(rt)?.as_nanos();
         let bytes = resident(rt)?;
         self.ended.push(Stage {
@@ -90,23 +99,23 @@ fn close(owner: &mut Owner) {
 /// An owner finds all items on its list at a take, at a drain and at a close.
 fn measure_owner<R: Host>(rt: &R, stages: &mut Stages, items: u32) -> Result<(), Refusal> {
     let (mut owner, mut sender) = seats(rt.alloc(), items)?;
-    stages.end(rt, "build")?;
+    stages.end(rt, "build");
     queue_all(&mut sender);
-    stages.end(rt, "queue")?;
+    stages.end(rt, "queue");
     execute_batch(&mut owner, 0);
-    stages.end(rt, "take")?;
+    stages.end(rt, "take");
     execute_batch(&mut owner, u64::MAX);
-    stages.end(rt, "execute")?;
+    stages.end(rt, "execute");
     queue_all(&mut sender);
-    stages.end(rt, "queue")?;
+    stages.end(rt, "queue");
     drain(&mut owner);
-    stages.end(rt, "drain")?;
+    stages.end(rt, "drain");
     execute_batch(&mut owner, u64::MAX);
     resume(&mut owner);
     queue_all(&mut sender);
-    stages.end(rt, "execute, resume, queue")?;
+    stages.end(rt, "execute, resume, queue");
     close(&mut owner);
-    stages.end(rt, "close")?;
+    stages.end(rt, "close");
     Ok(())
 }
 
@@ -152,15 +161,15 @@ fn measure_worker<R: Host>(rt: &R, stages: &mut Stages, items: u32) -> Result<()
     let work = Runs::new(u64::MAX, shown(rt.alloc())?);
     let (mut worker, mut sender) = worker_and_sender(rt.alloc(), items, work)?;
     queue_all(&mut sender);
-    stages.end(rt, "build of a worker, queue")?;
+    stages.end(rt, "build of a worker, queue");
     worker.drain(u32::MAX);
-    stages.end(rt, "drain of a worker")?;
+    stages.end(rt, "drain of a worker");
     queue_all(&mut sender);
-    stages.end(rt, "queue")?;
+    stages.end(rt, "queue");
     let mut book = destroyed(worker)?;
-    stages.end(rt, "destroy")?;
+    stages.end(rt, "destroy");
     balance(&mut book, &mut sender)?;
-    stages.end(rt, "ledgers")?;
+    stages.end(rt, "ledgers");
     Ok(())
 }
 
@@ -176,31 +185,31 @@ fn arm_all(delay: &mut Delay) {
 /// A delay table lets all items go at once, keeps them in a drain, and lets them go after it; and it is dissolved with as many.
 fn measure_delay<R: Host>(rt: &R, stages: &mut Stages, items: u32) -> Result<(), Refusal> {
     let (mut owner, sender) = seats(rt.alloc(), items)?;
-    stages.end(rt, "build")?;
+    stages.end(rt, "build");
     let mut delay = Delay::new(rt.alloc(), sender, 0).map_err(|_| Refusal::Memory)?;
-    stages.end(rt, "table")?;
+    stages.end(rt, "table");
     arm_all(&mut delay);
-    stages.end(rt, "arm")?;
+    stages.end(rt, "arm");
     let _ = delay.advance(1024, 1);
-    stages.end(rt, "advance, all go out")?;
+    stages.end(rt, "advance, all go out");
     execute_batch(&mut owner, u64::MAX);
     arm_all(&mut delay);
     drain(&mut owner);
-    stages.end(rt, "execute, arm, drain")?;
+    stages.end(rt, "execute, arm, drain");
     let _ = delay.advance(2048, 1);
-    stages.end(rt, "advance in a drain")?;
+    stages.end(rt, "advance in a drain");
     for tick in 2049..3073 {
         let _ = delay.advance(tick, 1);
     }
-    stages.end(rt, "1024 advances, all are late")?;
+    stages.end(rt, "1024 advances, all are late");
     resume(&mut owner);
     let _ = delay.advance(3072, 1);
-    stages.end(rt, "advance after the resume")?;
+    stages.end(rt, "advance after the resume");
     execute_batch(&mut owner, u64::MAX);
     arm_all(&mut delay);
-    stages.end(rt, "execute, arm")?;
+    stages.end(rt, "execute, arm");
     delay.dissolve();
-    stages.end(rt, "dissolve")?;
+    stages.end(rt, "dissolve");
     Ok(())
 }
 
@@ -208,9 +217,13 @@ fn measure_delay<R: Host>(rt: &R, stages: &mut Stages, items: u32) -> Result<(),
 pub fn measure<R: Host>(rt: &R, items: u32) -> Result<Vec<Stage>, Refusal> {
     let mut stages = Stages::begin(rt)?;
     measure_owner(rt, &mut stages, items)?;
-    stages.end(rt, "drop")?;
+    stages.end(rt, "drop");
     measure_worker(rt, &mut stages, items)?;
-    stages.end(rt, "drop")?;
+    stages.end(rt, "drop");
     measure_delay(rt, &mut stages, items)?;
-    Ok(stages.ended)
+    let Stages { ended, refusal, .. } = stages;
+    match refusal {
+        None => Ok(ended),
+        Some(refusal) => Err(refusal),
+    }
 }
