@@ -13,6 +13,7 @@ pub mod Pairs
 pub mod KnownWith
 pub mod OwnBrought
 pub mod Valued
+pub mod ValuePairs
 pub mod Alone
 -- what its public clauses cite of the crates below, so that a caller names this crate alone
 pub use Rattle.wq_words.specs.History

@@ -4,6 +4,8 @@ use Rattle.wq_words.specs.declared.layout.Layout.{Layout}
 use Rattle.wq_words.specs.declared.event.Event.{Event}
 use Rattle.wq_words.specs.Seen.{owner_seat}
 use Rattle.wq_table.specs.SlotChairs.{standing_of, part_in}
+use Rattle.wq_live.specs.declared.owner_seat.OwnerSeat.{OwnerSeat}
+use Rattle.wq_live.specs.declared.sent.Sent.{Sent}
 use Rattle.wq_live.specs.declared.pair.Pair.TheInside.{Inside}
 use Rattle.wq_live.specs.Known.{QueueId, Known}
 use Rattle.wq_live.specs.Sits.{sending_in, Sends}
@@ -23,14 +25,22 @@ pair_owner p = record { queue = p.queue; layout = p.layout; number = owner_seat;
 abbrev pub pair_sender : KnownPair → Known
 pair_sender p = record { queue = p.queue; layout = p.layout; number = p.number; seen = p.seen }
 
-abbrev pub pair_view : Inside → KnownPair
-pair_view s = record { queue = s.seat.chair.queue; layout = s.seat.layout; number = s.sent.number; seen = s.seat.chair.first.part.seen }
+-- what an owner's seat and a sender's part of it are seen as
+abbrev pub seats_view : {V : Type 0} → OwnerSeat V → Sent → KnownPair
+seats_view seat sent = record { queue = seat.chair.queue; layout = seat.layout; number = sent.number; seen = seat.chair.first.part.seen }
 
 -- the first part of the chair is the owner's, and the second the sender's, and both have seen the same
+pub record AreSeated {V : Type 0} (seat : OwnerSeat V) (sent : Sent) : Type 0 where
+  pub owns : OwnsSeat seat
+  pub sends : Sends (sending_in 1 seat.chair sent)
+  pub two : (standing_of seat.chair).others ≡ part_in 1 seat.chair ∷ []
+  pub one_layout : sent.layout ≡ seat.layout
+  pub one_seen : (part_in 1 seat.chair).seen ≡ seat.chair.first.part.seen
+
+abbrev pub pair_view : Inside → KnownPair
+pair_view s = seats_view s.seat s.sent
+
+-- the two are in one seat, and its queue has no slots
 pub record IsPair (s : Inside) : Type 0 where
-  pub owns : OwnsSeat s.seat
-  pub sends : Sends (sending_in 1 s.seat.chair s.sent)
-  pub two : (standing_of s.seat.chair).others ≡ part_in 1 s.seat.chair ∷ []
-  pub one_layout : s.sent.layout ≡ s.seat.layout
-  pub one_seen : (part_in 1 s.seat.chair).seen ≡ s.seat.chair.first.part.seen
+  pub seated : AreSeated s.seat s.sent
   pub bare : s.seat.chair.queue.slots ≡ 0

@@ -16,6 +16,7 @@ mod spins;
 mod trying;
 mod value_answer;
 mod value_owner;
+mod value_pair;
 mod value_sender;
 mod valued;
 
@@ -29,5 +30,6 @@ pub use sender::Sender;
 pub use spins::Spins;
 pub use value_answer::ValueAnswer;
 pub use value_owner::ValueOwner;
+pub use value_pair::ValuePair;
 pub use value_sender::ValueSender;
 pub use wq_words::{Answer, Posted};
