@@ -18,5 +18,6 @@ pub mod Opened
 pub mod Meetings
 pub mod SlotTold
 pub mod SlotMet
+pub mod SlotJoined
 pub mod SlotMade
 pub mod SlotMetAll

@@ -1,16 +1,13 @@
 -- Two chairs whose table may have slots meet.
-use Rattle.std.proofs.Common.{◌≡◌, ℕ, arith, [], ◌∷◌, ◌++◌, map, sym, refl, ap, ◌∙◌, subst, Some}
+use Rattle.std.proofs.Common.{◌≡◌, ℕ, arith, [], ◌∷◌, ◌++◌, map, sym, ap, ◌∙◌, subst}
 use Rattle.atomic_table.specs.Seated.{TableId}
 use Rattle.wq_words.specs.declared.layout.Layout.{Layout}
 use Rattle.wq_table.specs.declared.chair.Chair.TheInside.{Inside}
-use Rattle.wq_table.specs.Law.{View}
 use Rattle.wq_table.specs.Plays.{see, all_see, AllOf}
 use Rattle.wq_table.specs.Slots.{ValueView, plain_view, AllKnow, telling, front_values, rest_values}
 use Rattle.wq_table.specs.SlotSteps.{ValueSat, ValuesSeen}
-use Rattle.wq_table.specs.SlotChairs.{ValueStanding, ValueJoined, first_told, value_standing, AreSized, ValueSits, ValueMeet}
-use Rattle.wq_table.proofs.Told.{sized_seeing}
-use Rattle.wq_table.proofs.ValueRule.{plain_telling}
-use Rattle.wq_table.proofs.SlotTold.{with_seat, sized_in, sits_known, whole_view}
+use Rattle.wq_table.specs.SlotChairs.{ValueStanding, value_standing, ValueSits, ValueMeet}
+use Rattle.wq_table.proofs.SlotTold.{with_seat, sits_known}
 
 module _ {V : Type 0} (this that : ValueStanding V) (me other both sees : ValueSat V) (has : me ≡ (this.first ∷ this.others, this.hand))
     (other_has : other ≡ (that.first ∷ that.others, that.hand)) (alone : that.others ≡ []) (joined : both ≡ (other.0 ++ me.0, me.1))
@@ -66,59 +63,3 @@ module _ {V : Type 0} (this that : ValueStanding V) (me other both sees : ValueS
       (ap (λ (z : ValueSat V). z.0) (at ∙ first) ∙ (ap front_values now_is ∙
       ap (λ (w : ValueView V). telling all.brought (see all.machine.history that.first.part) ∷ map (telling all.brought) (all_see all.machine.history
       (plain_view w))) (sym alone)))
-
-  -- the other's part is joined to this chair, and they look
-  pub joined_slots : (q : TableId) (l : Layout) → q ≡ that.queue → this.queue.slots ≡ that.queue.slots → ValueJoined that this (with_seat q l sees)
-  joined_slots q l same same_slots =
-      let m = all.machine in
-      let fit : AllOf m (plain_view (that.first ∷ this.first ∷ this.others)) = subst (λ (v : ValueView V). AllOf m (plain_view v)) parts all.all in
-      let know : AllKnow all.brought (that.first ∷ this.first ∷ this.others) = subst (AllKnow all.brought) parts all.know in record {
-        machine = m;
-        sound = all.sound;
-        this_fits = record { fits = fit.0; others_fit = subst (λ (v : ValueView V). AllOf m (plain_view v)) (sym alone) tt };
-        that_fits = record { fits = fit.1.0; others_fit = fit.1.1 };
-        brought = all.brought;
-        as_many = all.as_many;
-        right = λ some_slot. all.right (omega (arith, some_slot, deep, same_slots));
-        this_knows = (know.0, subst (AllKnow all.brought) (sym alone) tt);
-        that_knows = know.1;
-        queue_is = same;
-        first_is = ap (first_told l) now_is;
-        others_are = ap rest_values now_is;
-        hand_is = all.hand ∙ (ap (λ (z : ValueSat V). z.1) joined ∙ ap (λ (z : ValueSat V). z.1) has);
-      }
-
-  -- the layout of both chairs is the machine's
-  one_layout : (s t : Inside V) → ValueSits s → value_standing s ≡ this → ValueSits t → value_standing t ≡ that → s.layout ≡ t.layout
-  one_layout s t sits is other other_is =
-      let fit : AllOf all.machine (plain_view (that.first ∷ this.first ∷ this.others)) =
-      subst (λ (v : ValueView V). AllOf all.machine (plain_view v)) parts all.all in
-      sym (sized_in s this sits is).0 ∙ (fit.1.0.layout_is ∙ (sym fit.0.layout_is ∙ (sized_in t that other other_is).0))
-
-  -- the chair that has both: this one's words are kept for a second chair
-  pub sits_joined : (s t both_in : Inside V) → ValueSits s → value_standing s ≡ this → ValueSits t → value_standing t ≡ that → this.queue ≡ that.queue
-      → both_in.words ≡ t.words → both_in.spare ≡ Some s.words → both_in.layout ≡ t.layout → both_in.seat.table_id ≡ s.seat.table_id
-      → both_in.seat.me ≡ sees
-      → ValueSits both_in
-  sits_joined s t b sits is other other_is queue words spare layout table at =
-      let layouts = one_layout s t sits is other other_is in
-      let ids : s.seat.table_id ≡ t.seat.table_id =
-      ap (λ (x : ValueStanding V). x.queue) is ∙ (queue ∙ sym (ap (λ (x : ValueStanding V). x.queue) other_is)) in
-      let v : View = that.first.part ∷ this.first.part ∷ plain_view this.others in
-      let view : plain_view b.seat.me.0 ≡ all_see all.machine.history v =
-      ap (λ (z : ValueSat V). plain_view z.0) at ∙ (ap plain_view now_is ∙ plain_telling all.brought (all_see all.machine.history v)) in
-      let sized : AreSized t.layout v = (
-        (sized_in t that other other_is).0,
-        subst (λ (l : Layout). AreSized l (this.first.part ∷ plain_view this.others)) layouts
-            (sized_in s this sits is),
-      ) in record {
-        seated = rw words (table ∙ (ids ∙ other.seated));
-        wide = rw (words, layout) other.wide;
-        deep = rw (words, layout) other.deep;
-        keyed = rw (words, layout) other.keyed;
-        sized = subst (λ (z : Layout × View). AreSized z.0 z.1) (λ i. (sym layout i, sym view i)) (sized_seeing t.layout all.machine.history v sized);
-        one_view = whole_view b.layout b.seat.me.0 (see all.machine.history that.first.part) (all_see all.machine.history
-            (this.first.part ∷ plain_view this.others)) view;
-        spare_is = rw (spare, table, layout) (sits.seated, sits.keyed ∙ layouts);
-        has_spare = λ more. rw spare refl;
-      }

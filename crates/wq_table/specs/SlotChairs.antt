@@ -144,8 +144,8 @@ pub record ValueMeetAll {V : Type 0} (this that third this' that' third' : Value
   pub that_is : that' ≡ knowing machine brought that
   pub third_is : third' ≡ knowing machine brought third
 
--- one chair has the part of the first, and behind it the parts of the other: they have seen all that has happened, and know all
--- that was brought
+-- one chair has the part of the first, behind it the parts of the other, and the hand of the first: they have seen all that has
+-- happened, and know all that was brought
 pub record ValueJoined {V : Type 0} (this that both : ValueStanding V) : Type 0 where
   pub machine : Machine
   pub sound : IsSound machine
@@ -159,7 +159,7 @@ pub record ValueJoined {V : Type 0} (this that both : ValueStanding V) : Type 0 
   pub queue_is : both.queue ≡ this.queue
   pub first_is : both.first ≡ telling brought (see machine.history this.first.part)
   pub others_are : both.others ≡ map (telling brought) (all_see machine.history (that.first.part ∷ plain_view that.others))
-  pub hand_is : both.hand ≡ that.hand
+  pub hand_is : both.hand ≡ this.hand
 
 -- the chairs of the senders below m, which have seen nothing and have nothing in hand
 abbrev pub value_sender : {V : Type 0} → TableId → Layout → ℕ → ValueStanding V

@@ -438,27 +438,31 @@ impl<V> Chair<V> {
 
 impl<V: Drop> Chair<V> {
     /// Two chairs of one queue become one, whose parts have seen all that has happened and know all that was brought. The first
-    /// has one part and nothing in hand, and its part comes first.
+    /// has one part, which comes first, and keeps its hand. The other has nothing in hand.
     pub fn join(self, other: Chair<V>) -> Chair<V>
         requires queue { other.queue ≡ self.queue }
-        requires empty { self.hand ≡ [] }
+        requires empty { other.hand ≡ [] }
         requires alone { self.others ≡ [] }
         ensures joined { ValueJoined self other result }
     {
         let Chair {
             words,
             spare: _,
-            seat: mine,
+            mut seat,
             layout,
         } = self;
         let Chair {
             words: spare,
             spare: _,
-            mut seat,
+            seat: theirs,
             layout: _,
         } = other;
-        words.shared.join_seat::<Both>(&mut seat, mine);
-        words.shared.load::<Meets>(&mut seat, done_place(layout));
+        let table = &words.shared;
+        // what is joined comes in front, so the seat's own part goes out meanwhile
+        let mine: Seated<V> = table.split_seat::<Off>(&mut seat);
+        table.join_seat::<Both>(&mut seat, theirs);
+        table.join_seat::<Both>(&mut seat, mine);
+        table.load::<Meets>(&mut seat, done_place(layout));
         Chair {
             words,
             spare: Some(spare),
@@ -467,11 +471,10 @@ impl<V: Drop> Chair<V> {
         }
     }
 
-    /// A chair of its own again for each part of a chair of two that has nothing in hand.
+    /// A chair of its own again for each part of a chair of two. The first keeps the hand.
     pub fn split(self) -> (Chair<V>, Chair<V>)
         requires two { length self.others ≡ 1 }
-        requires empty { self.hand ≡ [] }
-        ensures first { (result.0.queue ≡ self.queue) × (result.0.first ≡ self.first) × (result.0.others ≡ []) × (result.0.hand ≡ []) }
+        ensures first { (result.0.queue ≡ self.queue) × (result.0.first ≡ self.first) × (result.0.others ≡ []) × (result.0.hand ≡ self.hand) }
         ensures second { (result.1.queue ≡ self.queue) × (result.1.first ∷ [] ≡ self.others) × (result.1.others ≡ []) × (result.1.hand ≡ []) }
     {
         let Chair {
@@ -481,17 +484,20 @@ impl<V: Drop> Chair<V> {
             layout,
         } = self;
         let Some(spare) = spare else { unreachable!() };
-        let front: Seated<V> = words.shared.split_seat::<Off>(&mut seat);
+        let table = &words.shared;
+        let front: Seated<V> = table.split_seat::<Off>(&mut seat);
+        let back: Seated<V> = table.split_seat::<Off>(&mut seat);
+        table.join_seat::<Both>(&mut seat, front);
         let first = Chair {
             words,
             spare: None,
-            seat: front,
+            seat,
             layout,
         };
         let second = Chair {
             words: spare,
             spare: None,
-            seat,
+            seat: back,
             layout,
         };
         (first, second)
