@@ -14,17 +14,17 @@ use Rattle.wq_words.proofs.Valued.{legal_with}
 use Rattle.wq_table.specs.declared.table.Part.{Part}
 use Rattle.wq_table.specs.Beside.{Learns}
 use Rattle.wq_table.proofs.Learns.{learns_more}
-use Rattle.wq_live.specs.declared.value_owner.ValueOwner.TheInside as value_owner
+use Rattle.wq_live.specs.declared.owner_seat.OwnerSeat.{OwnerSeat}
 use Rattle.wq_live.specs.Known.{Sees}
 use Rattle.wq_live.specs.Answers.{Chains}
 use Rattle.wq_live.specs.Rest.{Rests}
 use Rattle.wq_live.specs.Sits.{owning, owner_view}
-use Rattle.wq_live.specs.Alone.{OwnsValues}
+use Rattle.wq_live.specs.Hands.{OwnsSeat}
 use Rattle.wq_live.specs.KnownWith.{KnownWith, Learnt, handed_in}
 use Rattle.wq_live.specs.Laws.{IsStillEnd}
 use Rattle.wq_words.specs.Seen.{owner_seat, Grows}
 use Rattle.wq_words.proofs.Legal.{legal_front}
-use Rattle.wq_live.specs.Valued.{owner_with}
+use Rattle.wq_live.specs.Valued.{owner_with, AreKnown}
 use Rattle.wq_live.proofs.OwnerTells.{stands_legal}
 use Rattle.wq_live.proofs.Handed.{handed_stays, handed_next}
 
@@ -33,34 +33,34 @@ pub whole_legal : {V : Type 0} (p : Part) (layout : Layout) (brs : List (Option 
     → AreBrought p.layout.items (accepted p.seen) brs → IsLegalWith layout (with_values p.seen brs)
 whole_legal p layout brs same legal are = legal_with layout p.seen brs legal (subst (λ (l : Layout). AreBrought l.items (accepted p.seen) brs) same are)
 
-module _ {V : Type 0} (s t : value_owner.Inside V) (l : Learns 0 s.seat.chair t.seat.chair) (was : OwnsValues s) (now : KnownWith V)
-    (view : owner_with s.seat ≡ now) where
-  legal : IsLegal s.seat.chair.first.part.layout s.seat.chair.first.part.seen
-  legal = stands_legal s.seat.chair.first.part was.owns.queue.stands
+module _ {V : Type 0} (s t : OwnerSeat V) (l : Learns 0 s.chair t.chair) (owns : OwnsSeat s) (known : AreKnown s.chair) (now : KnownWith V)
+    (view : owner_with s ≡ now) where
+  legal : IsLegal s.chair.first.part.layout s.chair.first.part.seen
+  legal = stands_legal s.chair.first.part owns.queue.stands
 
-  pub owner_stays : (xs : List Event) (n : ℕ) → begun xs ≡ [] → Sees xs n (owner_view (owning s.seat)) (owner_view (owning t.seat))
-      → handed_in (owner_with t.seat) ≡ handed_in now
-  owner_stays xs n none sees = handed_stays s.seat.chair.first.part.layout s.seat.chair.first.part.seen t.seat.chair.first.part.seen
-      s.seat.chair.first.brought t.seat.chair.first.brought legal was.known.as_many (learns_more 0 s.seat.chair t.seat.chair l) xs n none sees.grows
+  pub owner_stays : (xs : List Event) (n : ℕ) → begun xs ≡ [] → Sees xs n (owner_view (owning s)) (owner_view (owning t))
+      → handed_in (owner_with t) ≡ handed_in now
+  owner_stays xs n none sees = handed_stays s.chair.first.part.layout s.chair.first.part.seen t.chair.first.part.seen
+      s.chair.first.brought t.chair.first.brought legal known.as_many (learns_more 0 s.chair t.chair l) xs n none sees.grows
       ∙ ap handed_in view
 
-  pub owner_rests : (b : Bool) → Rests b (owner_view (owning s.seat)) (owner_view (owning t.seat)) → handed_in (owner_with t.seat) ≡ handed_in now
+  pub owner_rests : (b : Bool) → Rests b (owner_view (owning s)) (owner_view (owning t)) → handed_in (owner_with t) ≡ handed_in now
   owner_rests true rests = owner_stays (Rest ∷ []) 0 refl rests
   owner_rests false rests = owner_stays [] 0 refl rests
 
-  pub owner_chains : (k : ℕ) (a : Answer) → Chains k a (owner_view (owning s.seat)) (owner_view (owning t.seat))
-      → handed_in (owner_with t.seat) ≡ handed_in now
+  pub owner_chains : (k : ℕ) (a : Answer) → Chains k a (owner_view (owning s)) (owner_view (owning t))
+      → handed_in (owner_with t) ≡ handed_in now
   owner_chains k (answer.Queued first wakes) chains = owner_stays (Chain k ∷ []) 0 refl chains.2
   owner_chains k answer.Pending chains = owner_stays (ChainBusy k ∷ []) 0 refl chains
   owner_chains k answer.Closed chains = absurd chains
   owner_chains k answer.Draining chains = absurd chains
   owner_chains k answer.Contended chains = absurd chains
 
-  pub owner_hands : (k : ℕ) (y : Option V) → Sees (Begin k ∷ []) 0 (owner_view (owning s.seat)) (owner_view (owning t.seat))
-      → slice_get t.seat.chair.first.brought (length (begun s.seat.chair.first.part.seen)) ≡ Some y
-      → handed_in (owner_with t.seat) ≡ handed_in now ++ y ∷ []
-  owner_hands k y sees at = handed_next s.seat.chair.first.part.layout s.seat.chair.first.part.seen t.seat.chair.first.part.seen
-      s.seat.chair.first.brought t.seat.chair.first.brought legal was.known.as_many (learns_more 0 s.seat.chair t.seat.chair l) k 0 y sees.grows at
+  pub owner_hands : (k : ℕ) (y : Option V) → Sees (Begin k ∷ []) 0 (owner_view (owning s)) (owner_view (owning t))
+      → slice_get t.chair.first.brought (length (begun s.chair.first.part.seen)) ≡ Some y
+      → handed_in (owner_with t) ≡ handed_in now ++ y ∷ []
+  owner_hands k y sees at = handed_next s.chair.first.part.layout s.chair.first.part.seen t.chair.first.part.seen
+      s.chair.first.brought t.chair.first.brought legal known.as_many (learns_more 0 s.chair t.chair l) k 0 y sees.grows at
       ∙ ap (λ (k : KnownWith V). handed_in k ++ y ∷ []) view
 
 -- as many were brought before as are brought now, where nothing more was accepted

@@ -11,6 +11,7 @@ pub mod Phases
 pub mod Owned
 pub mod OwnerTells
 pub mod OwnerHands
+pub mod Turning
 pub mod Linking
 pub mod Hanging
 pub mod TurnedHands
@@ -37,6 +38,8 @@ pub mod Rest
 pub mod Held
 pub mod ValueSeats
 pub mod Paired
+pub mod PlainPaired
+pub mod ValuePaired
 pub mod OwnBrought
 pub mod Handed
 pub mod HandedOver

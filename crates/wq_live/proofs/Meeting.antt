@@ -1,5 +1,6 @@
 -- An owner that a sender meets.
-use Rattle.std.proofs.Common.{◌≡◌, ℕ, ◌<◌, [], sym, refl, ap, ◌∙◌, subst, arith}
+use Rattle.std.proofs.Common.{◌≡◌, ℕ, ◌<◌, List, [], Option, sym, refl, ap, ◌∙◌, subst, arith}
+use mathlib.Core.List.{IsPrefix}
 use Rattle.wq_words.specs.declared.layout.Layout.{Layout}
 use Rattle.wq_core.specs.Machine.{Machine}
 use Rattle.wq_core.specs.Sound.{IsSound}
@@ -7,16 +8,22 @@ use Rattle.wq_table.specs.declared.table.Part.{Part}
 use Rattle.wq_table.specs.declared.table.Stage.{Stage}
 use Rattle.wq_table.specs.declared.table.Stage.TheVariants as stage
 use Rattle.wq_table.specs.Law.{HasStage, IsPartOf}
-use Rattle.wq_table.specs.Plays.{see}
+use Rattle.wq_table.specs.Plays.{see, all_see}
 use Rattle.wq_table.specs.Chair.{Standing, IsSender, seeing}
+use Rattle.wq_table.specs.Slots.{plain_view}
+use Rattle.wq_table.specs.SlotChairs.{ValueStanding, standing_of, knowing}
+use Rattle.wq_table.proofs.ValueRule.{plain_telling}
+use Rattle.wq_words.specs.Seen.{owner_seat}
 use Rattle.wq_words.proofs.Prefixes.{prefix_self}
 use Rattle.wq_live.specs.Sits.{Owning as Inside}
 use Rattle.wq_live.specs.Known.{Known, Sees}
-use Rattle.wq_live.specs.Sits.{Sending, owner_view, sender_view, Sends, Stands, HasRow, OwnsQueue}
+use Rattle.wq_live.specs.Sits.{Sending, owner_view, sender_view, Sends, Stands, HasRow, OwnsQueue, kept_batch}
+use Rattle.wq_live.specs.Hands.{OwnsSlots}
 use Rattle.wq_live.proofs.Tells.{Tells, meet_tells}
 use Rattle.wq_live.proofs.Owned.{running_quiet, counts_quiet}
 use Rattle.wq_live.proofs.Phases.{phase_quiet}
 use Rattle.wq_live.proofs.OwnerTells.{owner_grows, owner_sees}
+use Rattle.wq_live.proofs.OwnerHands.{slots_more}
 
 meet_stands : (m : Machine) (p q : Part) → IsSound m → IsPartOf m p → q ≡ see m.history p → Stands q
 meet_stands m p q sound f is = subst Stands (sym is) record {
@@ -48,6 +55,23 @@ module _ (s : Inside) (q : Standing) (m : Machine) (sound : IsSound m) (f : IsPa
 
   pub meet_owner_sees : (now : Known) → owner_view s ≡ now → Sees [] 0 now (owner_view (record s { chair = q }))
   meet_owner_sees now view = owner_sees [] 0 s (record s { chair = q }) now view executes refl (ap (λ (x : Standing). x.queue) is) told
+
+module _ {V : Type 0} where
+  -- a chair that has seen all, without what was brought
+  pub met_plain : (m : Machine) (brs : List (Option V)) (it it' : ValueStanding V) → it' ≡ knowing m brs it → standing_of it' ≡ seeing m (standing_of it)
+  met_plain m brs it it' is = ap standing_of is ∙ λ i. record {
+    queue = it.queue;
+    part = see m.history it.first.part;
+    others = plain_telling brs (all_see m.history (plain_view it.others)) i;
+  }
+
+  -- the slots of an owner that has seen all
+  pub met_slots : (m : Machine) (old new : ValueStanding V) → IsSound m → IsPartOf m old.first.part → old.first.part.seat ≡ owner_seat
+      → new.queue ≡ old.queue → new.first.part ≡ see m.history old.first.part → IsPrefix old.first.brought new.first.brought → new.hand ≡ old.hand
+      → OwnsSlots old (kept_batch old.first.part.stage) → OwnsSlots new (kept_batch new.first.part.stage)
+  met_slots m old new sound f mine queue is more hand slots =
+      subst (λ (st : Stage). OwnsSlots new (kept_batch st)) (sym (ap (λ (p : Part). p.stage) is))
+      (slots_more old new (kept_batch old.first.part.stage) mine [] 0 queue more (meet_tells m old.first.part new.first.part sound f is) refl hand slots)
 
 -- the owner and the sender that met are of queues of one layout
 pub meet_owner_layout : (s : Sending) (t : Inside) (now now' : Known) (m : Machine) → IsPartOf m s.chair.part → IsPartOf m t.chair.part

@@ -1,11 +1,11 @@
 -- What lies in the slots of the owner's hand, step after step.
-use Rattle.std.proofs.Common.{◌≡◌, ℕ, zero, suc, ◌+◌, ◌<◌, ◌≤◌, Bool, true, false, cond, List, [], ◌∷◌, ◌++◌, map, length, slice_get}
-use Rattle.std.proofs.Common.{Option, Some, None, sym, refl, ap, ◌∙◌, subst, arith, inl, inr, ⊎_elim, append_assoc}
+use Rattle.std.proofs.Common.{◌≡◌, ℕ, ◌+◌, ◌<◌, ◌≤◌, Bool, true, false, cond, List, [], ◌∷◌, ◌++◌, map, length, slice_get}
+use Rattle.std.proofs.Common.{Option, Some, None, sym, refl, ap, ◌∙◌, subst, arith, inl, inr, ⊎_elim}
 use Rattle.std.proofs.lemmas.Bool.{cases_lt, eq-eqb}
 use Rattle.std.proofs.lemmas.List.{append-nil, length_push}
-use mathlib.Core.List.{IsPrefix, map-append}
+use mathlib.Core.List.{IsPrefix}
 use Rattle.atomic_table.specs.Seated.{TableId}
-use Rattle.atomic_table.specs.Table.{rest, turned}
+use Rattle.atomic_table.specs.Table.{rest}
 use Rattle.wq_words.specs.declared.event.Event.{Event}
 use Rattle.wq_words.specs.declared.event.Event.TheVariants as event
 use Rattle.wq_words.specs.declared.layout.Layout.{Layout}
@@ -25,9 +25,8 @@ use Rattle.wq_table.specs.declared.table.Stage.{Stage}
 use Rattle.wq_table.specs.declared.table.Stage.TheVariants.{Owns}
 use Rattle.wq_table.specs.declared.values.ValuePart.{ValuePart}
 use Rattle.wq_table.specs.Law.{HasStage}
-use Rattle.wq_table.specs.Plays.{tail_of}
 use Rattle.wq_table.specs.SlotSteps.{Hand, IsBrought, Walks, Moves}
-use Rattle.wq_table.specs.SlotChairs.{ValueStanding, part_in, ValueSteps, HasValue, TurnsHand}
+use Rattle.wq_table.specs.SlotChairs.{ValueStanding, part_in, ValueSteps, HasValue}
 use Rattle.wq_table.specs.Beside.{Learns, LearnsOrStays}
 use Rattle.wq_table.proofs.Changes.{changes}
 use Rattle.wq_table.proofs.Learns.{learns_step, learns_more}
@@ -37,7 +36,7 @@ use Rattle.wq_live.specs.Batch.{batch}
 use Rattle.wq_live.specs.Known.{Sees}
 use Rattle.wq_live.specs.Rest.{Rests}
 use Rattle.wq_live.specs.Sits.{owning, owner_view, OwnsQueue, Stands, OnlySees, kept_batch}
-use Rattle.wq_live.specs.Hands.{number_of, EachBrought, HasHand, OwnsSlots, OwnsEmptied, OwnsSeat, turns, TurnsHands, batch_behind}
+use Rattle.wq_live.specs.Hands.{number_of, EachBrought, HasHand, OwnsSlots, OwnsEmptied, OwnsSeat, batch_behind}
 use Rattle.wq_live.proofs.Owned.{begun_on}
 use Rattle.wq_live.proofs.Tells.{TellsSo, Tells}
 use Rattle.wq_live.proofs.OwnerTells.{walk_tells, begin_tells, owner_batch}
@@ -167,11 +166,15 @@ module _ {V : Type 0} where
         (λ (l : Learns 0 old new).
         slots_on [] 0 l.follow.queue_is follows.layout_is (owned [] 0 follows.grows) refl (learns_more 0 old new l) hand slots) learns
 
+    -- by what its part was told
+    pub slots_more : (xs : List Event) (n : ℕ) → new.queue ≡ old.queue → IsPrefix old.first.brought new.first.brought
+        → TellsSo xs n old.first.part new.first.part → begun xs ≡ [] → new.hand ≡ old.hand → OwnsSlots old ns → OwnsSlots new ns
+    slots_more xs n queue more told none hand slots = slots_on xs n queue told.layout_is (owned xs n told.grows) none more hand slots
+
     -- and by its steps
     pub slots_told : (xs : List Event) (n : ℕ) → Learns 0 old new → TellsSo xs n old.first.part new.first.part → begun xs ≡ [] → new.hand ≡ old.hand
         → OwnsSlots old ns → OwnsSlots new ns
-    slots_told xs n l told none hand slots =
-        slots_on xs n l.follow.queue_is told.layout_is (owned xs n told.grows) none (learns_more 0 old new l) hand slots
+    slots_told xs n l told none hand slots = slots_more xs n l.follow.queue_is (learns_more 0 old new l) told none hand slots
 
     pub emptied_see : (k : ℕ) → LearnsOrStays 0 old new → OnlySees old.first.part new.first.part → new.hand ≡ old.hand → OwnsEmptied old k ns
         → OwnsEmptied new k ns
@@ -279,55 +282,3 @@ module _ {V : Type 0} where
             });
         none = λ bare. let bare' : old.queue.slots ≡ 0 = subst (λ (z : TableId). z.slots ≡ 0) queue bare in s.rests bare' ∙ slots.none bare';
       }
-
-  -- slots in front go behind the others by as many turns
-  pub turned_behind : (t : ValuePart V) (xs ys : List ℕ) (c : Hand V) → HasHand t c (xs ++ ys) → HasHand t (turns (length xs) c) (ys ++ xs)
-  turned_behind t [] ys c has = subst (HasHand t c) (sym (append-nil ys)) has
-  turned_behind t (x ∷ xs) ys [] has = absurd (cc has.numbers_are)
-  turned_behind t (x ∷ xs) ys (a ∷ c) has =
-      let front : a.0 ≡ x = cc has.numbers_are in
-      let behind : map number_of c ≡ xs ++ ys = ap tail_of has.numbers_are in
-      let again : HasHand t (c ++ a ∷ []) (xs ++ (ys ++ x ∷ [])) = record {
-        numbers_are = map-append number_of c (a ∷ []) ∙ ((λ i. behind i ++ front i ∷ []) ∙ append_assoc xs ys (x ∷ []));
-        each = each_append t.part.layout.items (length (begun t.part.seen)) (accepted t.part.seen) t.brought c (a ∷ []) has.each.1 (has.each.0, tt);
-      } in
-      subst (HasHand t (turns (length xs) (c ++ a ∷ []))) (append_assoc ys (x ∷ []) xs) (turned_behind t xs (ys ++ x ∷ []) (c ++ a ∷ []) again)
-
-  turns_none : (n : ℕ) (c : Hand V) → c ≡ [] → turns n c ≡ []
-  turns_none zero c e = e
-  turns_none (suc n) c e = turns_none n (turned c) (ap turned e)
-
-  pub turns_slots : (n : ℕ) (xs ys : List ℕ) (old new : ValueStanding V) → n ≡ length xs → TurnsHands n old new → OwnsSlots old (xs ++ ys)
-      → OwnsSlots new (ys ++ xs)
-  turns_slots n xs ys old new count t slots = record {
-    some = λ deep. subst (λ (z : ValuePart V × Hand V). HasHand z.0 z.1 (ys ++ xs))
-        (λ i. (sym t.first_is i, sym (t.hand_is ∙ ap (λ (k : ℕ). turns k old.hand) count) i))
-        (turned_behind old.first xs ys old.hand (slots.some (subst (λ (q : TableId). 0 < q.slots) t.queue_is deep)));
-    none = λ bare. t.hand_is ∙ turns_none n old.hand (slots.none (subst (λ (q : TableId). q.slots ≡ 0) t.queue_is bare));
-  }
-
-  -- one turn more
-  pub turns_more : (n : ℕ) (c : Hand V) → turns (suc n) c ≡ turned (turns n c)
-  turns_more zero c = refl
-  turns_more (suc n) c = turns_more n (turned c)
-
-  -- the chair is the same but for its hand
-  pub learns_from : (a b c : ValueStanding V) → b.queue ≡ a.queue → b.first ≡ a.first → b.others ≡ a.others → Learns 0 b c → Learns 0 a c
-  learns_from a b c queue first others l =
-      let same : b ≡ record a { hand = b.hand } = λ i. record { queue = queue i; first = first i; others = others i; hand = b.hand } in
-      let m : Learns 0 (record a { hand = b.hand }) c = subst (λ (z : ValueStanding V). Learns 0 z c) same l in
-      record { follow = m.follow; brought = m.brought; know = m.know; told = m.told; right = m.right }
-
-  pub learns_to : (a b c : ValueStanding V) → c.queue ≡ b.queue → c.first ≡ b.first → c.others ≡ b.others → Learns 0 a b → Learns 0 a c
-  learns_to a b c queue first others l =
-      let same : record c { hand = b.hand } ≡ b = λ i. record { queue = queue i; first = first i; others = others i; hand = b.hand } in
-      let m : Learns 0 a (record c { hand = b.hand }) = subst (Learns 0 a) (sym same) l in
-      record { follow = m.follow; brought = m.brought; know = m.know; told = m.told; right = m.right }
-
-  pub turns_on : (n : ℕ) (a b c : ValueStanding V) → TurnsHands n a b → TurnsHand b c → TurnsHands (n + 1) a c
-  turns_on n a b c t u = let one : suc n ≡ n + 1 = omega arith in record {
-    queue_is = u.queue_is ∙ t.queue_is;
-    first_is = u.first_is ∙ t.first_is;
-    others_are = u.others_are ∙ t.others_are;
-    hand_is = u.hand_is ∙ (ap turned t.hand_is ∙ (sym (turns_more n a.hand) ∙ ap (λ (k : ℕ). turns k a.hand) one));
-  }

@@ -1,87 +1,56 @@
 -- An owner and a sender in one seat: for the one, a step of the other is a meeting.
-use Rattle.std.proofs.Common.{◌≡◌, ℕ, ◌<◌, List, [], ◌∷◌, Option, None, refl, sym, ap, ◌∙◌, subst, arith}
-use Rattle.atomic_table.specs.Seated.{TableId}
+use Rattle.std.proofs.Common.{◌≡◌, ◌<◌, [], ◌∷◌, refl, sym, ap, ◌∙◌, subst}
+use mathlib.Core.List.{IsPrefix}
 use Rattle.wq_words.specs.declared.layout.Layout.{Layout}
-use Rattle.wq_words.specs.declared.answer.Answer.{Answer}
-use Rattle.wq_words.specs.declared.answer.Answer.TheVariants.{Queued, Pending, Closed, Draining, Contended}
-use Rattle.wq_core.specs.Machine.{Machine}
 use Rattle.wq_table.specs.declared.table.Part.{Part}
 use Rattle.wq_table.specs.declared.values.ValuePart.{ValuePart}
 use Rattle.wq_table.specs.Places.{chosen}
 use Rattle.wq_table.specs.Plays.{see, all_see}
 use Rattle.wq_table.specs.Chair.{Standing, seeing}
 use Rattle.wq_table.specs.Slots.{plain_view}
-use Rattle.wq_table.specs.SlotChairs.{ValueStanding, standing_of, part_in, knowing, ValueMeet, ValueJoined}
+use Rattle.wq_table.specs.SlotChairs.{ValueStanding, standing_of, part_in, ValueMeet, ValueJoined}
 use Rattle.wq_table.specs.Beside.{Follow, Learns}
 use Rattle.wq_table.proofs.Beside.{Saw, second_saw, still_two, first_saw, two_still}
-use Rattle.wq_table.proofs.Learns.{learns_meet}
+use Rattle.wq_table.proofs.Learns.{learns_meet, learns_more}
 use Rattle.wq_table.proofs.ValueRule.{plain_telling}
-use Rattle.wq_live.specs.declared.bare.Bare.{Bare}
 use Rattle.wq_live.specs.declared.owner_seat.OwnerSeat.{OwnerSeat}
 use Rattle.wq_live.specs.declared.sent.Sent.{Sent}
-use Rattle.wq_live.specs.declared.pair.Pair.TheInside.{Inside}
 use Rattle.wq_live.specs.Known.{Known, IsSame, Sees}
-use Rattle.wq_live.specs.Sits.{Owning, owning, alone_at, sending_in, sender_view, owner_view, Sends, OwnsQueue, kept_batch}
-use Rattle.wq_live.specs.Answers.{Answers}
-use Rattle.wq_live.specs.Hands.{OwnsSlots, OwnsSeat, QueuesSlot}
-use Rattle.wq_live.specs.Pairs.{KnownPair, pair_owner, pair_sender, pair_view, IsPair}
-use Rattle.wq_live.proofs.Meeting.{meet_executes, meet_owner_sees, meet_owner_layout, meet_low}
+use Rattle.wq_live.specs.Sits.{Owning, owning, alone_at, sending_in, sender_view, owner_view, Sends, OwnsQueue}
+use Rattle.wq_live.specs.Hands.{OwnsSeat}
+use Rattle.wq_live.specs.Pairs.{KnownPair, pair_owner, pair_sender, seats_view, AreSeated}
+use Rattle.wq_live.proofs.Meeting.{met_plain, met_slots, meet_executes, meet_owner_sees, meet_owner_layout, meet_low}
 use Rattle.wq_live.proofs.Sends.{meet_sends, meet_sees}
-use Rattle.wq_live.proofs.Tried.{answers_same}
 
--- the sender's side is what the pair is seen as
-pub sender_is : (s : Inside) → IsPair s → sender_view (sending_in 1 s.seat.chair s.sent) ≡ pair_sender (pair_view s)
-sender_is s pair = λ i. record { queue = s.seat.chair.queue; layout = pair.one_layout i; number = s.sent.number; seen = pair.one_seen i }
+-- the sender's side is what the two are seen as
+pub sender_is : {V : Type 0} (s : OwnerSeat V) (sent : Sent) → AreSeated s sent → sender_view (sending_in 1 s.chair sent) ≡ pair_sender (seats_view s sent)
+sender_is s sent pair = λ i. record { queue = s.chair.queue; layout = pair.one_layout i; number = sent.number; seen = pair.one_seen i }
 
--- where there are no slots, the owner has none in hand
-module _ {V : Type 0} where
-  pub no_slots : (it : ValueStanding V) (ks : List ℕ) → it.queue.slots ≡ 0 → it.hand ≡ [] → OwnsSlots it ks
-  no_slots it ks bare empty = record { some = λ there. absurd (omega (arith, there, bare)); none = λ _. empty }
-
-  queues_hand : (at k : ℕ) (y : Option V) (a : Answer) (old new : ValueStanding V) → QueuesSlot at k y a old new → new.hand ≡ old.hand
-  queues_hand at k y (Queued is_first is_waking) old new queues = queues.0
-  queues_hand at k y Pending old new queues = queues
-  queues_hand at k y Closed old new queues = queues
-  queues_hand at k y Draining old new queues = queues
-  queues_hand at k y Contended old new queues = queues
-
-  -- a chair that has seen all, without what was brought
-  pub met_plain : (m : Machine) (brs : List (Option V)) (it it' : ValueStanding V) → it' ≡ knowing m brs it → standing_of it' ≡ seeing m (standing_of it)
-  met_plain m brs it it' is = ap standing_of is ∙ λ i. record {
-    queue = it.queue;
-    part = see m.history it.first.part;
-    others = plain_telling brs (all_see m.history (plain_view it.others)) i;
-  }
-
--- the owner made steps, and the pair has another seat of it
-module _ (s : Inside) (seat : OwnerSeat Bare) (pair : IsPair s) (owns : OwnsSeat seat) (same : IsSame (owner_view (owning s.seat)) (owner_view (owning seat)))
-    (l : Learns 0 s.seat.chair seat.chair) where
-  abbrev then_owner : Inside
-  then_owner = record { seat = seat; sent = s.sent }
-
-  f : Follow 0 (standing_of s.seat.chair) (standing_of seat.chair)
+-- the owner made steps, and the two have another seat of it
+module _ {V : Type 0} (s t : OwnerSeat V) (sent : Sent) (pair : AreSeated s sent) (owns : OwnsSeat t)
+    (same : IsSame (owner_view (owning s)) (owner_view (owning t))) (l : Learns 0 s.chair t.chair) where
+  f : Follow 0 (standing_of s.chair) (standing_of t.chair)
   f = l.follow
 
-  saw_second : Saw f.machine (part_in 1 s.seat.chair) (part_in 1 seat.chair)
-  saw_second = second_saw (standing_of s.seat.chair) (standing_of seat.chair) pair.two f
+  saw_second : Saw f.machine (part_in 1 s.chair) (part_in 1 t.chair)
+  saw_second = second_saw (standing_of s.chair) (standing_of t.chair) pair.two f
 
-  met : alone_at 1 (standing_of seat.chair) ≡ seeing f.machine (alone_at 1 (standing_of s.seat.chair))
+  met : alone_at 1 (standing_of t.chair) ≡ seeing f.machine (alone_at 1 (standing_of s.chair))
   met = λ i. record { queue = f.queue_is i; part = saw_second.is i; others = [] }
 
-  pub owner_acts : IsPair then_owner
+  pub owner_acts : AreSeated t sent
   owner_acts = record {
     owns = owns;
-    sends = meet_sends (sending_in 1 s.seat.chair s.sent) (sending_in 1 seat.chair s.sent) f.machine f.sound saw_second.fits met refl refl refl pair.sends;
-    two = still_two (standing_of s.seat.chair) (standing_of seat.chair) pair.two f;
+    sends = meet_sends (sending_in 1 s.chair sent) (sending_in 1 t.chair sent) f.machine f.sound saw_second.fits met refl refl refl pair.sends;
+    two = still_two (standing_of s.chair) (standing_of t.chair) pair.two f;
     one_layout = pair.one_layout ∙ sym same.layout_is;
     one_seen = ap (λ (p : Part). p.seen) saw_second.is ∙ sym f.seen_is;
-    bare = ap (λ (q : TableId). q.slots) f.queue_is ∙ pair.bare;
   }
 
-  pub sender_sees : (now : KnownPair) → pair_view s ≡ now → Sees [] 0 (pair_sender now) (pair_sender (pair_view then_owner))
+  pub sender_sees : (now : KnownPair) → seats_view s sent ≡ now → Sees [] 0 (pair_sender now) (pair_sender (seats_view t sent))
   sender_sees now view = subst (λ (z : Known × Known). Sees [] 0 z.0 z.1)
-      (λ i. ((sender_is s pair ∙ ap pair_sender view) i, sender_is then_owner owner_acts i))
-      (meet_sees (sending_in 1 s.seat.chair s.sent) (sending_in 1 seat.chair s.sent) _ f.machine f.sound saw_second.fits met refl refl refl pair.sends)
+      (λ i. ((sender_is s sent pair ∙ ap pair_sender view) i, sender_is t sent owner_acts i))
+      (meet_sees (sending_in 1 s.chair sent) (sending_in 1 t.chair sent) _ f.machine f.sound saw_second.fits met refl refl refl pair.sends)
 
 -- what an owner keeps is of its own part
 owns_at : (s : Owning) (q : Standing) → q.part ≡ s.chair.part → OwnsQueue s → OwnsQueue (record s { chair = q })
@@ -95,81 +64,78 @@ owns_at s q is o = subst (λ (p : Part). OwnsQueue (record s { chair = record { 
   counts_are = o.counts_are;
 }
 
--- the sender made steps, and the pair has the chair of it
-module _ (s : Inside) (q : ValueStanding Bare) (pair : IsPair s) (l : Learns 1 s.seat.chair q) where
-  g : Follow 1 (standing_of s.seat.chair) (standing_of q)
+-- the sender made steps, and the two have the chair of it
+module _ {V : Type 0} (s : OwnerSeat V) (q : ValueStanding V) (sent : Sent) (pair : AreSeated s sent) (l : Learns 1 s.chair q) where
+  g : Follow 1 (standing_of s.chair) (standing_of q)
   g = l.follow
 
-  saw_first : Saw g.machine s.seat.chair.first.part q.first.part
-  saw_first = first_saw (standing_of s.seat.chair) (standing_of q) pair.two g
+  saw_first : Saw g.machine s.chair.first.part q.first.part
+  saw_first = first_saw (standing_of s.chair) (standing_of q) pair.two g
 
   abbrev alone_before : Owning
-  alone_before = record (owning s.seat) { chair = alone_at 0 (standing_of s.seat.chair) }
+  alone_before = record (owning s) { chair = alone_at 0 (standing_of s.chair) }
 
-  met_owner : alone_at 0 (standing_of q) ≡ seeing g.machine (alone_at 0 (standing_of s.seat.chair))
+  met_owner : alone_at 0 (standing_of q) ≡ seeing g.machine (alone_at 0 (standing_of s.chair))
   met_owner = λ i. record { queue = g.queue_is i; part = saw_first.is i; others = [] }
 
   owns_before : OwnsQueue alone_before
-  owns_before = owns_at (owning s.seat) (alone_at 0 (standing_of s.seat.chair)) refl pair.owns.queue
+  owns_before = owns_at (owning s) (alone_at 0 (standing_of s.chair)) refl pair.owns.queue
 
-  pub owner_looks : (now : KnownPair) → pair_view s ≡ now → Sees [] 0 (pair_owner now) (owner_view (owning (record s.seat { chair = q })))
+  pub owner_looks : (now : KnownPair) → seats_view s sent ≡ now → Sees [] 0 (pair_owner now) (owner_view (owning (record s { chair = q })))
   owner_looks now view = meet_owner_sees alone_before (alone_at 0 (standing_of q)) g.machine g.sound saw_first.fits met_owner owns_before (pair_owner now)
       (ap pair_owner view)
 
-  -- by a queueing
-  module _ (sent : Sent) (k tries : ℕ) (a : Answer) (sends : Sends (sending_in 1 q sent))
-      (answer : Answers k tries a (sender_view (sending_in 1 s.seat.chair s.sent)) (sender_view (sending_in 1 q sent)))
-      (slots : QueuesSlot 1 k None a s.seat.chair q) where
-    bare_still : q.queue.slots ≡ 0
-    bare_still = ap (λ (t : TableId). t.slots) g.queue_is ∙ pair.bare
-
-    pub sender_acts : IsPair (record { seat = record s.seat { chair = q }; sent = sent })
-    sender_acts = record {
-      owns = record {
-        queue = owns_at (record (owning s.seat) { chair = alone_at 0 (standing_of q) }) (standing_of q) refl
-            (meet_executes alone_before (alone_at 0 (standing_of q)) g.machine g.sound saw_first.fits met_owner owns_before);
-        slots = no_slots q (kept_batch q.first.part.stage) bare_still (queues_hand 1 k None a s.seat.chair q slots ∙ pair.owns.slots.none pair.bare);
-      };
-      sends = sends;
-      two = two_still (standing_of s.seat.chair) (standing_of q) pair.two g;
-      one_layout = (answers_same k tries a _ _ answer).layout_is ∙ pair.one_layout;
-      one_seen = g.seen_is ∙ sym (ap (λ (p : Part). p.seen) saw_first.is);
-      bare = bare_still;
-    }
-
--- a pair that another seat met
-module _ (s : Inside) (q that that' : ValueStanding Bare) (pair : IsPair s) (meet : ValueMeet s.seat.chair that q that') where
-  abbrev then_met : OwnerSeat Bare
-  then_met = record s.seat { chair = q }
-
-  met_is : standing_of q ≡ seeing meet.machine (standing_of s.seat.chair)
-  met_is = met_plain meet.machine meet.brought s.seat.chair q meet.this_is
-
-  met_owns : OwnsSeat then_met
-  met_owns = record {
-    queue = meet_executes (owning s.seat) (standing_of q) meet.machine meet.sound meet.this_fits.fits met_is pair.owns.queue;
-    slots = no_slots q (kept_batch q.first.part.stage) (ap (λ (x : ValueStanding Bare). x.queue.slots) meet.this_is ∙ pair.bare)
-        (ap (λ (x : ValueStanding Bare). x.hand) meet.this_is ∙ pair.owns.slots.none pair.bare);
+  -- by a queueing, after which the hand is as before
+  pub sender_acts : (u : Sent) → Sends (sending_in 1 q u) → u.layout ≡ sent.layout → q.hand ≡ s.chair.hand → AreSeated (record s { chair = q }) u
+  sender_acts u sends layout hand = record {
+    owns = record {
+      queue = owns_at (record (owning s) { chair = alone_at 0 (standing_of q) }) (standing_of q) refl
+          (meet_executes alone_before (alone_at 0 (standing_of q)) g.machine g.sound saw_first.fits met_owner owns_before);
+      slots = met_slots g.machine s.chair q g.sound saw_first.fits pair.owns.queue.number_is g.queue_is saw_first.is (learns_more 1 s.chair q l) hand
+          pair.owns.slots;
+    };
+    sends = sends;
+    two = two_still (standing_of s.chair) (standing_of q) pair.two g;
+    one_layout = layout ∙ pair.one_layout;
+    one_seen = g.seen_is ∙ sym (ap (λ (p : Part). p.seen) saw_first.is);
   }
 
-  met_sees : (now : Known) → owner_view (owning s.seat) ≡ now → Sees [] 0 now (owner_view (owning then_met))
-  met_sees now view = meet_owner_sees (owning s.seat) (standing_of q) meet.machine meet.sound meet.this_fits.fits met_is pair.owns.queue now view
+-- another seat met the two
+module _ {V : Type 0} (s : OwnerSeat V) (q that that' : ValueStanding V) (sent : Sent) (pair : AreSeated s sent) (meet : ValueMeet s.chair that q that') where
+  abbrev met_seat : OwnerSeat V
+  met_seat = record s { chair = q }
 
-  pub pair_meets : IsPair (record { seat = then_met; sent = s.sent })
-  pair_meets = owner_acts s then_met pair met_owns (met_sees (owner_view (owning s.seat)) refl).same (learns_meet s.seat.chair that q that' meet)
+  l : Learns 0 s.chair q
+  l = learns_meet s.chair that q that' meet
 
-  pub owner_meets : (now : KnownPair) → pair_view s ≡ now → Sees [] 0 (pair_owner now) (owner_view (owning then_met))
+  met_is : standing_of q ≡ seeing meet.machine (standing_of s.chair)
+  met_is = met_plain meet.machine meet.brought s.chair q meet.this_is
+
+  met_owns : OwnsSeat met_seat
+  met_owns = record {
+    queue = meet_executes (owning s) (standing_of q) meet.machine meet.sound meet.this_fits.fits met_is pair.owns.queue;
+    slots = met_slots meet.machine s.chair q meet.sound meet.this_fits.fits pair.owns.queue.number_is l.follow.queue_is
+        (ap (λ (x : ValueStanding V). x.first.part) meet.this_is) (learns_more 0 s.chair q l) (ap (λ (x : ValueStanding V). x.hand) meet.this_is)
+        pair.owns.slots;
+  }
+
+  met_sees : (now : Known) → owner_view (owning s) ≡ now → Sees [] 0 now (owner_view (owning met_seat))
+  met_sees now view = meet_owner_sees (owning s) (standing_of q) meet.machine meet.sound meet.this_fits.fits met_is pair.owns.queue now view
+
+  pub seats_meet : AreSeated met_seat sent
+  seats_meet = owner_acts s met_seat sent pair met_owns (met_sees (owner_view (owning s)) refl).same l
+
+  pub owner_meets : (now : KnownPair) → seats_view s sent ≡ now → Sees [] 0 (pair_owner now) (owner_view (owning met_seat))
   owner_meets now view = met_sees (pair_owner now) (ap pair_owner view)
 
-  pub sender_meets : (now : KnownPair) → pair_view s ≡ now → Sees [] 0 (pair_sender now) (pair_sender (pair_view (record { seat = then_met; sent = s.sent })))
-  sender_meets = sender_sees s then_met pair met_owns (met_sees (owner_view (owning s.seat)) refl).same (learns_meet s.seat.chair that q that' meet)
+  pub sender_meets : (now : KnownPair) → seats_view s sent ≡ now → Sees [] 0 (pair_sender now) (pair_sender (seats_view met_seat sent))
+  sender_meets = sender_sees s met_seat sent pair met_owns (met_sees (owner_view (owning s)) refl).same l
 
 -- an owner and a sender, each alone, that become a pair
-module _ (o : OwnerSeat Bare) (chair both : ValueStanding Bare) (sent : Sent) (owns : OwnsSeat o) (sends : Sends (sending_in 0 chair sent))
-    (alone : chair.others ≡ []) (bare : o.chair.queue.slots ≡ 0) (empty : chair.hand ≡ []) (one : chair.queue ≡ o.chair.queue)
-    (joined : ValueJoined o.chair chair both) where
-  abbrev paired : Inside
-  paired = record { seat = record o { chair = both }; sent = sent }
+module _ {V : Type 0} (o : OwnerSeat V) (chair both : ValueStanding V) (sent : Sent) (owns : OwnsSeat o) (sends : Sends (sending_in 0 chair sent))
+    (alone : chair.others ≡ []) (one : chair.queue ≡ o.chair.queue) (joined : ValueJoined o.chair chair both) where
+  abbrev joint : OwnerSeat V
+  joint = record o { chair = both }
 
   others_then : plain_view both.others ≡ see joined.machine.history chair.first.part ∷ []
   others_then = ap plain_view joined.others_are ∙
@@ -180,7 +146,7 @@ module _ (o : OwnerSeat Bare) (chair both : ValueStanding Bare) (sent : Sent) (o
   second_is = ap (chosen 1 both.first.part) others_then
 
   part_is : both.first.part ≡ see joined.machine.history o.chair.first.part
-  part_is = ap (λ (t : ValuePart Bare). t.part) joined.first_is
+  part_is = ap (λ (t : ValuePart V). t.part) joined.first_is
 
   owner_met : alone_at 0 (standing_of both) ≡ seeing joined.machine (alone_at 0 (standing_of o.chair))
   owner_met = λ i. record { queue = joined.queue_is i; part = part_is i; others = [] }
@@ -198,28 +164,28 @@ module _ (o : OwnerSeat Bare) (chair both : ValueStanding Bare) (sent : Sent) (o
   layouts = meet_owner_layout (sending_in 0 chair sent) (owning o) (sender_view (sending_in 0 chair sent)) (owner_view (owning o)) joined.machine
       joined.that_fits.fits joined.this_fits.fits refl refl sends owns.queue
 
-  bare_then : both.queue.slots ≡ 0
-  bare_then = ap (λ (q : TableId). q.slots) joined.queue_is ∙ bare
+  pub owner_joined : IsPrefix o.chair.first.brought both.first.brought
+  owner_joined = subst (λ (t : ValuePart V). IsPrefix o.chair.first.brought t.brought) (sym joined.first_is) joined.this_knows.0.begins
 
-  pub joins : IsPair paired
+  pub joins : AreSeated joint sent
   joins = record {
     owns = record {
       queue = owns_at (record (owning o) { chair = alone_at 0 (standing_of both) }) (standing_of both) refl
           (meet_executes owning_alone (alone_at 0 (standing_of both)) joined.machine joined.sound joined.this_fits.fits owner_met owned);
-      slots = no_slots both (kept_batch both.first.part.stage) bare_then (joined.hand_is ∙ empty);
+      slots = met_slots joined.machine o.chair both joined.sound joined.this_fits.fits owns.queue.number_is joined.queue_is part_is owner_joined joined.hand_is
+          owns.slots;
     };
     sends = meet_sends (sending_in 0 chair sent) (sending_in 1 both sent) joined.machine joined.sound joined.that_fits.fits sender_met refl refl refl sends;
     two = others_then ∙ ap (λ (p : Part). p ∷ []) (sym second_is);
     one_layout = sym layouts;
     one_seen = ap (λ (p : Part). p.seen) second_is ∙ sym (ap (λ (p : Part). p.seen) part_is);
-    bare = bare_then;
   }
 
-  pub owner_joins : (now : Known) → owner_view (owning o) ≡ now → Sees [] 0 now (pair_owner (pair_view paired))
+  pub owner_joins : (now : Known) → owner_view (owning o) ≡ now → Sees [] 0 now (pair_owner (seats_view joint sent))
   owner_joins now view = meet_owner_sees owning_alone (alone_at 0 (standing_of both)) joined.machine joined.sound joined.this_fits.fits owner_met owned now view
 
-  pub sender_joins : (now : Known) → sender_view (sending_in 0 chair sent) ≡ now → Sees [] 0 now (pair_sender (pair_view paired))
-  sender_joins now view = subst (Sees [] 0 now) (sender_is paired joins)
+  pub sender_joins : (now : Known) → sender_view (sending_in 0 chair sent) ≡ now → Sees [] 0 now (pair_sender (seats_view joint sent))
+  sender_joins now view = subst (Sees [] 0 now) (sender_is joint sent joins)
       (meet_sees (sending_in 0 chair sent) (sending_in 1 both sent) now joined.machine joined.sound joined.that_fits.fits sender_met refl refl view sends)
 
   pub low_joins : sent.number < o.layout.senders

@@ -20,8 +20,7 @@ use Rattle.wq_live.specs.Alone.{SendsAlone, OwnsAlone}
 use Rattle.wq_live.specs.Hands.{HoldsSlot, PostsSlot, QueuesSlot}
 use Rattle.wq_live.specs.Known.{Known, Sees}
 use Rattle.wq_live.specs.Sits.{sending_in, sender_view, owning, owner_view, alone_at, Sends}
-use Rattle.wq_live.proofs.Meeting.{meet_executes, meet_owner_sees}
-use Rattle.wq_live.proofs.Paired.{met_plain}
+use Rattle.wq_live.proofs.Meeting.{met_plain, meet_executes, meet_owner_sees}
 use Rattle.wq_live.proofs.Sends.{meet_sends, meet_sees}
 use Rattle.wq_live.proofs.ValueSeats.{learns_alone, learns_slots, none_plain}
 
@@ -52,7 +51,7 @@ pub sender_alone : (s t : sender.Inside) → SendsAlone s → Sends (sending_in 
 sender_alone s t was sends l hand = record {
   sends = sends;
   alone = learns_alone s.chair t.chair l was.alone;
-  bare = learns_slots s.chair t.chair l ∙ was.bare;
+  bare = learns_slots 0 s.chair t.chair l ∙ was.bare;
   empty = hand ∙ was.empty;
 }
 

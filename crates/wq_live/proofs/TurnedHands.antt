@@ -19,7 +19,8 @@ use Rattle.wq_live.specs.Hands.{OwnsSlots, TurnedSlots, turns, TurnsHands}
 use Rattle.wq_live.proofs.Linking.{Turning, turning_first, turning_next, turned_tells, on}
 use Rattle.wq_live.proofs.OwnerTells.{makes_stands}
 use Rattle.wq_live.proofs.Hanging.{taken_behind}
-use Rattle.wq_live.proofs.OwnerHands.{walk_slots, slots_told, slots_see, same_hand, turns_slots, learns_to}
+use Rattle.wq_live.proofs.OwnerHands.{walk_slots, slots_told, slots_see, same_hand}
+use Rattle.wq_live.proofs.Turning.{turns_slots, learns_to}
 
 -- the seat is the owner's
 pub stands_mine : (p : Part) (cursor : Option ℕ) (walked ks : List ℕ) → Stands p → p.stage ≡ Owns cursor walked ks → p.seat ≡ owner_seat

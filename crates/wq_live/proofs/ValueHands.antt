@@ -35,7 +35,8 @@ use Rattle.wq_live.specs.Hands.{number_of, HasHand, OwnsSlots}
 use Rattle.wq_live.proofs.Tells.{Tells}
 use Rattle.wq_live.proofs.OwnerTells.{owner_batch}
 use Rattle.wq_live.proofs.Hanging.{first_of_row}
-use Rattle.wq_live.proofs.OwnerHands.{front_brought, same_hand, begun_still, accepted_on, each_append, hand_on, slots_see, learns_to}
+use Rattle.wq_live.proofs.OwnerHands.{front_brought, same_hand, begun_still, accepted_on, each_append, hand_on, slots_see}
+use Rattle.wq_live.proofs.Turning.{learns_to}
 
 -- the row's front is what begins next
 module _ (s : Inside) (o : OwnsQueue s) (waits : batch s.chair.part.seen ≢ []) where

@@ -1,4 +1,4 @@
--- Owners alone in their chairs that made steps.
+-- Seats that made steps, and what they know then of what was brought.
 use Rattle.std.proofs.Common.{◌≡◌, ℕ, ◌<◌, [], ◌∷◌, refl, sym, ap, ◌∙◌, subst}
 use Rattle.atomic_table.specs.Seated.{TableId}
 use Rattle.wq_table.specs.Slots.{ValueView, plain_view}
@@ -13,41 +13,46 @@ use Rattle.wq_live.specs.Sits.{owning, owner_view}
 use Rattle.wq_live.specs.Hands.{OwnsSeat}
 use Rattle.wq_live.specs.Alone.{OwnsAlone, OwnsValues}
 use Rattle.wq_live.specs.KnownWith.{KnownWith, Learnt}
-use Rattle.wq_live.specs.Valued.{owner_with}
+use Rattle.wq_live.specs.Valued.{owner_with, AreKnown}
 
 pub none_plain : {V : Type 0} (ts : ValueView V) → plain_view ts ≡ [] → ts ≡ []
 none_plain [] none = refl
 none_plain (t ∷ ts) none = absurd (cc)
 
-module _ {V : Type 0} (a b : ValueStanding V) (l : Learns 0 a b) where
-  pub learns_alone : a.others ≡ [] → b.others ≡ []
-  learns_alone none = none_plain b.others (alone_follow (standing_of a) (standing_of b) l.follow (ap plain_view none))
+module _ {V : Type 0} where
+  pub learns_alone : (a b : ValueStanding V) → Learns 0 a b → a.others ≡ [] → b.others ≡ []
+  learns_alone a b l none = none_plain b.others (alone_follow (standing_of a) (standing_of b) l.follow (ap plain_view none))
 
-  pub learns_slots : b.queue.slots ≡ a.queue.slots
-  learns_slots = ap (λ (q : TableId). q.slots) l.follow.queue_is
+  pub learns_slots : (at : ℕ) (a b : ValueStanding V) → Learns at a b → b.queue.slots ≡ a.queue.slots
+  learns_slots at a b l = ap (λ (q : TableId). q.slots) l.follow.queue_is
+
+  pub still_some : (at : ℕ) (a b : ValueStanding V) → Learns at a b → 0 < a.queue.slots → 0 < b.queue.slots
+  still_some at a b l some = subst (λ (n : ℕ). 0 < n) (sym (learns_slots at a b l)) some
 
 pub owner_alone : (s t : owner.Inside) → OwnsAlone s → OwnsSeat t.seat → Learns 0 s.seat.chair t.seat.chair → OwnsAlone t
 owner_alone s t was owns l = record {
   owns = owns;
   alone = learns_alone s.seat.chair t.seat.chair l was.alone;
-  bare = learns_slots s.seat.chair t.seat.chair l ∙ was.bare;
+  bare = learns_slots 0 s.seat.chair t.seat.chair l ∙ was.bare;
 }
 
-pub known_is : {V : Type 0} (s : OwnerSeat V) (now : KnownWith V) → owner_with s ≡ now → owner_view (owning s) ≡ now.known
-known_is {V} s now view = ap (λ (k : KnownWith V). k.known) view
+module _ {V : Type 0} where
+  pub known_is : (s : OwnerSeat V) (now : KnownWith V) → owner_with s ≡ now → owner_view (owning s) ≡ now.known
+  known_is s now view = ap (λ (k : KnownWith V). k.known) view
 
-module _ {V : Type 0} (s t : value_owner.Inside V) (l : Learns 0 s.seat.chair t.seat.chair) where
-  pub values_alone : OwnsValues s → OwnsSeat t.seat → OwnsValues t
-  values_alone was owns = record {
+  pub values_alone : (s t : value_owner.Inside V) → Learns 0 s.seat.chair t.seat.chair → OwnsValues s → OwnsSeat t.seat → OwnsValues t
+  values_alone s t l was owns = record {
     owns = owns;
     alone = learns_alone s.seat.chair t.seat.chair l was.alone;
-    slots = subst (λ (n : ℕ). 0 < n) (sym (learns_slots s.seat.chair t.seat.chair l)) was.slots;
+    slots = still_some 0 s.seat.chair t.seat.chair l was.slots;
     known = learns_right 0 s.seat.chair t.seat.chair l refl was.slots;
   }
 
-  pub owner_learnt : OwnsValues s → (now : KnownWith V) → owner_with s.seat ≡ now → Learnt now (owner_with t.seat)
-  owner_learnt was now view = subst (λ (k : KnownWith V). Learnt k (owner_with t.seat)) view record {
-    more = learns_more 0 s.seat.chair t.seat.chair l;
-    was_whole = was.known.as_many;
-    as_many = learns_many 0 s.seat.chair t.seat.chair l;
+  -- an owner learns by its own steps, and in a pair by those of the sender
+  pub owner_learnt : (at : ℕ) (s t : OwnerSeat V) → Learns at s.chair t.chair → AreKnown s.chair → (now : KnownWith V) → owner_with s ≡ now
+      → Learnt now (owner_with t)
+  owner_learnt at s t l known now view = subst (λ (k : KnownWith V). Learnt k (owner_with t)) view record {
+    more = learns_more at s.chair t.chair l;
+    was_whole = known.as_many;
+    as_many = learns_many at s.chair t.chair l;
   }

@@ -11,7 +11,6 @@ use Rattle.wq_words.proofs.Ranks.{slice_get-prefix}
 use Rattle.wq_words.proofs.Seen.{own-append}
 use Rattle.wq_core.specs.Machine.{Machine}
 use Rattle.wq_core.specs.Sound.{IsSound}
-use Rattle.wq_table.specs.declared.table.Stage.{Stage}
 use Rattle.wq_table.specs.Chair.{SeatedIn, seeing}
 use Rattle.wq_table.specs.Slots.{AllKnow}
 use Rattle.wq_table.specs.SlotChairs.{ValueStanding, standing_of, knowing}
@@ -22,18 +21,15 @@ use Rattle.wq_live.specs.declared.owner_seat.OwnerSeat.{OwnerSeat}
 use Rattle.wq_live.specs.declared.value_sender.ValueSender.TheInside as sender
 use Rattle.wq_live.specs.declared.value_owner.ValueOwner.TheInside as owner
 use Rattle.wq_live.specs.Known.{Sees}
-use Rattle.wq_live.specs.Sits.{sending_in, sender_view, owning, owner_view, alone_at, kept_batch, Sends}
-use Rattle.wq_live.specs.Hands.{QueuesSlot, OwnsSlots}
+use Rattle.wq_live.specs.Sits.{sending_in, sender_view, owning, owner_view, alone_at, Sends}
+use Rattle.wq_live.specs.Hands.{QueuesSlot}
 use Rattle.wq_live.specs.Alone.{SendsValues, OwnsValues}
 use Rattle.wq_live.specs.KnownWith.{KnownWith, Learnt, IsBroughtBy, BringsNothing}
 use Rattle.wq_live.specs.Valued.{sender_with, owner_with}
-use Rattle.wq_live.proofs.Tells.{Tells, meet_tells}
 use Rattle.wq_live.proofs.Sends.{meet_sends, meet_sees}
-use Rattle.wq_live.proofs.Meeting.{meet_executes, meet_owner_sees}
-use Rattle.wq_live.proofs.OwnerHands.{slots_told}
-use Rattle.wq_live.proofs.Paired.{met_plain}
+use Rattle.wq_live.proofs.Meeting.{met_plain, met_slots, meet_executes, meet_owner_sees}
 use Rattle.wq_live.proofs.Valuing.{is_brought_by}
-use Rattle.wq_live.proofs.ValueSeats.{learns_alone, learns_slots, values_alone, owner_learnt}
+use Rattle.wq_live.proofs.ValueSeats.{learns_alone, still_some, values_alone, owner_learnt}
 
 module _ {V : Type 0} where
   -- more is learnt call after call
@@ -76,7 +72,7 @@ module _ {V : Type 0} where
     sends_values sends hand = record {
       sends = sends;
       alone = learns_alone s.chair new learns values.alone;
-      slots = subst (λ (n : ℕ). 0 < n) (sym (learns_slots s.chair new learns)) values.slots;
+      slots = still_some 0 s.chair new learns values.slots;
       empty = hand ∙ values.empty;
       known = learns_right 0 s.chair new learns refl values.slots;
     }
@@ -119,18 +115,12 @@ module _ {V : Type 0} where
       owner_learns : Learns 0 s.seat.chair new
       owner_learns = learns_knowing m brs s.seat.chair new sound right.as_many (λ _. right) fits know is
 
-      told : Tells [] s.seat.chair.first.part new.first.part
-      told = meet_tells m s.seat.chair.first.part new.first.part sound fits.fits (ap (λ (it : ValueStanding V). it.first.part) is)
-
-      slots : OwnsSlots new (kept_batch new.first.part.stage)
-      slots = subst (λ (st : Stage). OwnsSlots new (kept_batch st)) (sym (ap (λ (it : ValueStanding V). it.first.part.stage) is))
-          (slots_told s.seat.chair new (kept_batch s.seat.chair.first.part.stage) values.owns.queue.number_is [] 0 owner_learns told refl
-          (ap (λ (it : ValueStanding V). it.hand) is) values.owns.slots)
-
       pub met_owner_values : OwnsValues (record { seat = met_seat })
       met_owner_values = values_alone s (record { seat = met_seat }) owner_learns values record {
         queue = meet_executes (owning s.seat) (standing_of new) m sound fits.fits (met_plain m brs s.seat.chair new is) values.owns.queue;
-        slots = slots;
+        slots = met_slots m s.seat.chair new sound fits.fits values.owns.queue.number_is owner_learns.follow.queue_is
+            (ap (λ (it : ValueStanding V). it.first.part) is) (learns_more 0 s.seat.chair new owner_learns) (ap (λ (it : ValueStanding V). it.hand) is)
+            values.owns.slots;
       }
 
       module _ (now : KnownWith V) (view : owner_with s.seat ≡ now) where
@@ -139,4 +129,4 @@ module _ {V : Type 0} where
             (ap (λ (k : KnownWith V). k.known) view)
 
         pub met_owner_learnt : Learnt now (owner_with met_seat)
-        met_owner_learnt = owner_learnt s (record { seat = met_seat }) owner_learns values now view
+        met_owner_learnt = owner_learnt 0 s.seat met_seat owner_learns values.known now view

@@ -1,5 +1,6 @@
 -- What a clause sees of an owner and a sender in one seat, where items bring values.
-use Rattle.std.specs.Prelude.{◌≡◌, ◌<◌, List, Option}
+use Rattle.std.specs.Prelude.{◌<◌, List, Option}
+use Rattle.wq_table.specs.SlotSteps.{AllTold}
 use Rattle.wq_live.specs.declared.value_pair.ValuePair.TheInside.{Inside}
 use Rattle.wq_live.specs.KnownWith.{KnownWith}
 use Rattle.wq_live.specs.Pairs.{KnownPair, pair_owner, pair_sender, seats_view, AreSeated}
@@ -20,8 +21,9 @@ sender_of p = record { known = pair_sender p.known; brought = p.brought }
 abbrev pub value_pair_view : {V : Type 0} → Inside V → KnownValuePair V
 value_pair_view s = record { known = seats_view s.seat s.sent; brought = s.seat.chair.first.brought }
 
--- the two are in one seat, and its queue has slots
+-- the two are in one seat, its queue has slots, and the sender was told what the owner was
 pub record IsValuePair {V : Type 0} (s : Inside V) : Type 0 where
   pub seated : AreSeated s.seat s.sent
   pub slots : 0 < s.seat.chair.queue.slots
   pub known : AreKnown s.seat.chair
+  pub told : AllTold s.seat.chair.first.brought s.seat.chair.others

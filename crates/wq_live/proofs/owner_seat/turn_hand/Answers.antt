@@ -1,4 +1,4 @@
-use Rattle.wq_live.proofs.OwnerHands.{turns_on}
+use Rattle.wq_live.proofs.Turning.{turns_on}
 use Rattle.wq_live.proofs.owner_seat.turn_hand.Goals as goal
 
 pub loop-preserved : goal.loop-preserved

@@ -1,9 +1,10 @@
-use Rattle.wq_live.proofs.Paired.{owner_acts, sender_sees}
+use Rattle.wq_live.proofs.Paired.{sender_sees}
+use Rattle.wq_live.proofs.PlainPaired.{pair_acts}
 use Rattle.wq_live.proofs.pair.Pair.take.Goals as goal
 
 pub invariant_of-self : goal.invariant_of-self
-invariant_of-self c = let e = c.take.ensures in owner_acts c.self.inside c.take.new.self c.self.invariant e.owns c.take.ensures.seen.same e.learns
+invariant_of-self c = let e = c.take.ensures in pair_acts c.self.inside c.self.invariant c.take.new.self e.owns e.seen.same e.learns
 
 pub returns-clause-others : goal.returns-clause-others
-returns-clause-others c = let e = c.take.ensures in
-    sender_sees c.self.inside c.take.new.self c.self.invariant e.owns c.take.ensures.seen.same e.learns c.args.self.now c.self.view_is
+returns-clause-others c = let e = c.take.ensures in let s = c.self.inside in
+    sender_sees s.seat c.take.new.self s.sent c.self.invariant.seated e.owns e.seen.same e.learns c.args.self.now c.self.view_is

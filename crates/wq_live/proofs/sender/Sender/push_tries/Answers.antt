@@ -20,7 +20,7 @@ pub invariant_of-self : goal.invariant_of-self
 invariant_of-self c = let e = c.in-Closed.ensures in let f = c.find_closed.ensures in let was = c.self.invariant in
     let a = c.self.inside.chair in let b = c.try_tries.new.chair in let d = c.find_closed.new.chair in
     sender_alone c.self.inside (record { chair = d; sent = c.find_closed.new.sent }) was f.sends (learns_on 0 a b d e.learns f.learns)
-    (f.slots.none (learns_slots a b e.learns ∙ was.bare) ∙ e.slots)
+    (f.slots.none (learns_slots 0 a b e.learns ∙ was.bare) ∙ e.slots)
 
 pub invariant_of-self-in_default : goal.invariant_of-self-in_default
 invariant_of-self-in_default c = let e = c.try_tries.ensures in let was = c.self.invariant in

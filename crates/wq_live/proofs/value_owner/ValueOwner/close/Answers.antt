@@ -9,8 +9,8 @@ pub invariant_of-self : goal.invariant_of-self
 invariant_of-self g c = values_alone c.self.inside (record { seat = c.close.new.self }) c.close.ensures.learns c.self.invariant c.close.ensures.owns
 
 pub returns-clause-learnt : goal.returns-clause-learnt
-returns-clause-learnt g c = owner_learnt c.self.inside (record { seat = c.close.new.self }) c.close.ensures.learns c.self.invariant c.args.self.now c.self.view_is
+returns-clause-learnt g c = owner_learnt 0 c.self.inside.seat c.close.new.self c.close.ensures.learns c.self.invariant.known c.args.self.now c.self.view_is
 
 pub returns-clause-handed : goal.returns-clause-handed
 returns-clause-handed g c = let e = c.close.ensures in
-    owner_stays c.self.inside (record { seat = c.close.new.self }) e.learns c.self.invariant c.args.self.now c.self.view_is (event.Close ∷ []) 0 refl e.seen
+    owner_stays c.self.inside.seat c.close.new.self e.learns c.self.invariant.owns c.self.invariant.known c.args.self.now c.self.view_is (event.Close ∷ []) 0 refl e.seen

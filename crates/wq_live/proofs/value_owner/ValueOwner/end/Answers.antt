@@ -14,7 +14,7 @@ pub invariant_of-self : goal.invariant_of-self
 invariant_of-self g c = values_alone c.self.inside (record { seat = c.end.new.self }) c.end.ensures.learns c.self.invariant c.end.ensures.owns
 
 pub returns-clause-learnt : goal.returns-clause-learnt
-returns-clause-learnt g c = owner_learnt c.self.inside (record { seat = c.end.new.self }) c.end.ensures.learns c.self.invariant c.args.self.now c.self.view_is
+returns-clause-learnt g c = owner_learnt 0 c.self.inside.seat c.end.new.self c.end.ensures.learns c.self.invariant.known c.args.self.now c.self.view_is
 
 pub returns-clause-seen : goal.returns-clause-seen
 returns-clause-seen g c k is =
@@ -24,5 +24,5 @@ returns-clause-seen g c k is =
 pub returns-clause-handed : goal.returns-clause-handed
 returns-clause-handed g c = let e = c.end.ensures in
     let some = runs_some (owner_view (owning c.self.inside.seat)).seen (subst (λ (v : KnownWith g.row.V.Denot). IsRunning v.known.seen) (sym c.self.view_is) c.requires.runs) in
-    owner_stays c.self.inside (record { seat = c.end.new.self }) e.learns c.self.invariant c.args.self.now c.self.view_is (End some.0 ∷ []) 0 refl
+    owner_stays c.self.inside.seat c.end.new.self e.learns c.self.invariant.owns c.self.invariant.known c.args.self.now c.self.view_is (End some.0 ∷ []) 0 refl
     (e.seen some.0 some.1)

@@ -1,0 +1,98 @@
+-- A pair of a queue whose items bring values, call after call.
+use Rattle.std.proofs.Common.{◌≡◌, ℕ, ◌<◌, List, ◌∷◌, Option, refl, sym, ap, ◌∙◌, subst}
+use mathlib.Core.List.{IsPrefix}
+use Rattle.atomic_table.specs.Seated.{TableId}
+use Rattle.wq_words.specs.declared.layout.Layout.{Layout}
+use Rattle.wq_words.specs.declared.event.Event.{Event}
+use Rattle.wq_words.specs.History.{accepted}
+use Rattle.wq_words.specs.Valued.{AreBrought}
+use Rattle.wq_table.specs.declared.values.ValuePart.{ValuePart}
+use Rattle.wq_table.specs.Plays.{all_see}
+use Rattle.wq_table.specs.Slots.{ValueView, plain_view}
+use Rattle.wq_table.specs.SlotSteps.{AllTold}
+use Rattle.wq_table.specs.SlotChairs.{ValueStanding, part_in, ValueJoined}
+use Rattle.wq_table.specs.Beside.{Learns}
+use Rattle.wq_table.proofs.Learns.{learns_right}
+use Rattle.wq_table.proofs.Places.{seeing_seen}
+use Rattle.wq_table.proofs.ValueRule.{told_all}
+use Rattle.wq_live.specs.declared.owner_seat.OwnerSeat.{OwnerSeat}
+use Rattle.wq_live.specs.declared.sent.Sent.{Sent}
+use Rattle.wq_live.specs.declared.value_owner.ValueOwner.TheInside as owner
+use Rattle.wq_live.specs.declared.value_sender.ValueSender.TheInside as sender
+use Rattle.wq_live.specs.declared.value_pair.ValuePair.TheInside.{Inside}
+use Rattle.wq_live.specs.Sits.{sending_in, Sends}
+use Rattle.wq_live.specs.Alone.{OwnsValues, SendsValues}
+use Rattle.wq_live.specs.KnownWith.{KnownWith, Learnt}
+use Rattle.wq_live.specs.Valued.{owner_with, sender_with, AreKnown}
+use Rattle.wq_live.specs.Pairs.{AreSeated}
+use Rattle.wq_live.specs.ValuePairs.{owner_of, sender_of, value_pair_view, IsValuePair}
+use Rattle.wq_live.proofs.ValueSeats.{still_some}
+use Rattle.wq_live.proofs.Paired.{sender_acts, owner_joined, joins}
+
+module _ {V : Type 0} (s : OwnerSeat V) (sent : Sent) (pair : AreSeated s sent) where
+  one_layout : (part_in 1 s.chair).layout ≡ s.chair.first.part.layout
+  one_layout = pair.sends.layout_is ∙ (pair.one_layout ∙ sym pair.owns.queue.layout_is)
+
+  -- what was brought of what the sender has seen was of what the owner has
+  owner_brought : (brs : List (Option V)) → AreBrought (part_in 1 s.chair).layout.items (accepted (part_in 1 s.chair).seen) brs
+      → AreBrought s.chair.first.part.layout.items (accepted s.chair.first.part.seen) brs
+  owner_brought brs are = subst (λ (z : Layout × List Event). AreBrought z.0.items (accepted z.1) brs) (λ i. (one_layout i, pair.one_seen i)) are
+
+module _ {V : Type 0} (s : Inside V) (pair : IsValuePair s) where
+  values_after : (at : ℕ) (t : Inside V) → Learns at s.seat.chair t.seat.chair → AreSeated t.seat t.sent → AreKnown t.seat.chair → IsValuePair t
+  values_after at t l seated known = record {
+    seated = seated;
+    slots = still_some at s.seat.chair t.seat.chair l pair.slots;
+    known = known;
+    told = subst (λ (brs : List (Option V)). AllTold brs t.seat.chair.others) (sym l.told.0) l.told.2;
+  }
+
+  -- the owner made steps
+  pub values_act : (seat : OwnerSeat V) → AreSeated seat s.sent → Learns 0 s.seat.chair seat.chair → IsValuePair (record { seat = seat; sent = s.sent })
+  values_act seat seated l = values_after 0 (record { seat = seat; sent = s.sent }) l seated (learns_right 0 s.seat.chair seat.chair l refl pair.slots)
+
+  -- the sender queued
+  module _ (q : ValueStanding V) (u : Sent) (l : Learns 1 s.seat.chair q) (sends : Sends (sending_in 1 q u)) (layout : u.layout ≡ s.sent.layout)
+      (hand : q.hand ≡ s.seat.chair.hand) where
+    pub queued_seat : AreSeated (record s.seat { chair = q }) u
+    queued_seat = sender_acts s.seat q s.sent pair.seated l u sends layout hand
+
+    pub values_queue : IsValuePair (record { seat = record s.seat { chair = q }; sent = u })
+    values_queue = values_after 1 (record { seat = record s.seat { chair = q }; sent = u }) l queued_seat
+        (owner_brought (record s.seat { chair = q }) u queued_seat q.first.brought
+        (subst (λ (brs : List (Option V)). AreBrought (part_in 1 q).layout.items (accepted (part_in 1 q).seen) brs) (sym l.told.0) (l.right pair.slots)))
+
+-- an owner and a sender, each alone, that become a pair
+module _ {V : Type 0} (o : owner.Inside V) (s : sender.Inside V) (both : ValueStanding V) (owns : OwnsValues o) (sends : SendsValues s)
+    (one : s.chair.queue ≡ o.seat.chair.queue) (joined : ValueJoined o.seat.chair s.chair both) where
+  abbrev whole : Inside V
+  whole = record { seat = record o.seat { chair = both }; sent = s.sent }
+
+  known : AreKnown both
+  known = subst (λ (t : ValuePart V). AreBrought t.part.layout.items (accepted t.part.seen) t.brought) (sym joined.first_is)
+      (subst (λ (l : Layout). AreBrought l.items (accepted joined.machine.history) joined.brought) (sym joined.this_fits.fits.layout_is) (joined.right owns.slots))
+
+  pub values_join : IsValuePair whole
+  values_join = let h = joined.machine.history in let brs = joined.brought in record {
+    seated = joins o.seat s.chair both s.sent owns.owns sends.sends sends.alone one joined;
+    slots = subst (λ (q : TableId). 0 < q.slots) (sym joined.queue_is) owns.slots;
+    known = known;
+    told = subst (λ (z : List (Option V) × ValueView V). AllTold z.0 z.1)
+        (λ i. (sym (ap (λ (t : ValuePart V). t.brought) joined.first_is) i, sym joined.others_are i))
+        (told_all h brs (all_see h (s.chair.first.part ∷ plain_view s.chair.others)) joined.as_many
+        (seeing_seen h (s.chair.first.part ∷ plain_view s.chair.others)));
+  }
+
+  pub owner_join_learnt : (now : KnownWith V) → owner_with o.seat ≡ now → Learnt now (owner_of (value_pair_view whole))
+  owner_join_learnt now view = subst (λ (k : KnownWith V). Learnt k (owner_of (value_pair_view whole))) view record {
+    more = owner_joined o.seat s.chair both s.sent owns.owns sends.sends sends.alone one joined;
+    was_whole = owns.known.as_many;
+    as_many = known.as_many;
+  }
+
+  pub sender_join_learnt : (now : KnownWith V) → sender_with 0 s.chair s.sent ≡ now → Learnt now (sender_of (value_pair_view whole))
+  sender_join_learnt now view = subst (λ (k : KnownWith V). Learnt k (sender_of (value_pair_view whole))) view record {
+    more = subst (λ (t : ValuePart V). IsPrefix s.chair.first.brought t.brought) (sym joined.first_is) joined.that_knows.0.begins;
+    was_whole = sends.known.as_many;
+    as_many = known.as_many;
+  }

@@ -1,0 +1,26 @@
+use Rattle.std.proofs.Common.{subst}
+use Rattle.wq_words.specs.declared.layout.Layout.{Layout}
+use Rattle.wq_words.specs.Legal.{IsLegal}
+use Rattle.wq_words.specs.Headline.{KeepsHeadline}
+use Rattle.wq_words.proofs.Headlines.{keeps_headline}
+use Rattle.wq_live.specs.ValuePairs.{KnownValuePair}
+use Rattle.wq_live.proofs.OwnerTells.{stands_legal}
+use Rattle.wq_words.specs.Valued.{IsLegalWith, with_values}
+use Rattle.wq_live.proofs.HandedOver.{whole_legal}
+use Rattle.wq_live.proofs.value_pair.ValuePair.legal.Goals as goal
+
+pub returns-clause-legal : goal.returns-clause-legal
+returns-clause-legal g c = let s = c.self.inside.seat in let o = c.self.invariant.seated.owns in
+    subst (λ (v : KnownValuePair g.row.V.Denot). IsLegal v.known.layout v.known.seen) c.self.view_is
+    (subst (λ (l : Layout). IsLegal l s.chair.first.part.seen) o.queue.layout_is (stands_legal s.chair.first.part o.queue.stands))
+
+pub returns-clause-headline : goal.returns-clause-headline
+returns-clause-headline g c = let p = c.self.inside.seat.chair.first.part in
+    subst (λ (v : KnownValuePair g.row.V.Denot). KeepsHeadline v.known.seen) c.self.view_is
+    (keeps_headline p.layout p.seen (stands_legal p c.self.invariant.seated.owns.queue.stands))
+
+pub returns-clause-values : goal.returns-clause-values
+returns-clause-values g c = let s = c.self.inside.seat in let o = c.self.invariant.seated.owns.queue in
+    subst (λ (v : KnownValuePair g.row.V.Denot). IsLegalWith v.known.layout (with_values v.known.seen v.brought)) c.self.view_is
+    (whole_legal s.chair.first.part s.layout s.chair.first.brought o.layout_is
+    (subst (λ (l : Layout). IsLegal l s.chair.first.part.seen) o.layout_is (stands_legal s.chair.first.part o.stands)) c.self.invariant.known)

@@ -1,0 +1,56 @@
+use Rattle.std.proofs.Common.{refl, ap, sym}
+use Rattle.wq_table.proofs.Learns.{learns_meet}
+use Rattle.wq_live.specs.Sits.{sending_in, owning}
+use Rattle.wq_live.specs.Pairs.{pair_owner}
+use Rattle.wq_live.specs.ValuePairs.{owner_of}
+use Rattle.wq_live.proofs.Meeting.{meet_owner_layout}
+use Rattle.wq_live.proofs.ValueSeats.{owner_learnt}
+use Rattle.wq_live.proofs.ValueSends.{met_values, met_sees, met_learnt}
+use Rattle.wq_live.proofs.HandedOver.{met_handed}
+use Rattle.wq_live.proofs.Paired.{seats_meet, owner_meets, sender_meets}
+use Rattle.wq_live.proofs.ValuePaired.{values_act}
+use Rattle.wq_live.proofs.value_pair.ValuePair.meet.Goals as goal
+
+pub invariant_of-self : goal.invariant_of-self
+invariant_of-self g c = let s = c.self.inside in let that = c.sender.inside.chair in let now = c.meet.new.self in let e = c.meet.ensures.met in
+    values_act s c.self.invariant (record s.seat { chair = now }) (seats_meet s.seat now that c.meet.new.other s.sent c.self.invariant.seated e)
+    (learns_meet s.seat.chair that now c.meet.new.other e)
+
+pub invariant_of-sender : goal.invariant_of-sender
+invariant_of-sender g c = let e = c.meet.ensures.met in
+    met_values e.machine e.brought e.sound (e.right c.self.invariant.slots) c.sender.inside c.sender.invariant c.meet.new.other e.that_fits e.that_knows
+    e.that_is
+
+pub returns-clause-owner : goal.returns-clause-owner
+returns-clause-owner g c = let s = c.self.inside in
+    owner_meets s.seat c.meet.new.self c.sender.inside.chair c.meet.new.other s.sent c.self.invariant.seated c.meet.ensures.met c.args.self.now.known
+    (ap (λ p. p.known) c.self.view_is)
+
+pub returns-clause-sender : goal.returns-clause-sender
+returns-clause-sender g c = let s = c.self.inside in
+    sender_meets s.seat c.meet.new.self c.sender.inside.chair c.meet.new.other s.sent c.self.invariant.seated c.meet.ensures.met c.args.self.now.known
+    (ap (λ p. p.known) c.self.view_is)
+
+pub returns-clause-that : goal.returns-clause-that
+returns-clause-that g c = let e = c.meet.ensures.met in
+    met_sees e.machine e.brought e.sound (e.right c.self.invariant.slots) c.sender.inside c.sender.invariant c.meet.new.other e.that_fits e.that_knows
+    e.that_is c.args.sender.now c.sender.view_is
+
+pub returns-clause-theirs : goal.returns-clause-theirs
+returns-clause-theirs g c = let e = c.meet.ensures.met in
+    met_learnt e.machine e.brought e.sound (e.right c.self.invariant.slots) c.sender.inside c.sender.invariant c.meet.new.other e.that_fits e.that_knows
+    e.that_is c.args.sender.now c.sender.view_is
+
+pub returns-clause-learnt : goal.returns-clause-learnt
+returns-clause-learnt g c = let s = c.self.inside in let now = c.meet.new.self in
+    owner_learnt 0 s.seat (record s.seat { chair = now }) (learns_meet s.seat.chair c.sender.inside.chair now c.meet.new.other c.meet.ensures.met)
+    c.self.invariant.known (owner_of c.args.self.now) (ap owner_of c.self.view_is)
+
+pub returns-clause-handed : goal.returns-clause-handed
+returns-clause-handed g c = met_handed (owner_of c.args.self.now) _ refl (returns-clause-owner g c) (returns-clause-learnt g c)
+
+pub returns-clause-layout : goal.returns-clause-layout
+returns-clause-layout g c = let e = c.meet.ensures.met in sym
+    (meet_owner_layout (sending_in 0 c.sender.inside.chair c.sender.inside.sent) (owning c.self.inside.seat) c.args.sender.now.known
+    (pair_owner c.args.self.now.known) e.machine e.that_fits.fits e.this_fits.fits (ap (λ k. k.known) c.sender.view_is)
+    (ap (λ p. pair_owner p.known) c.self.view_is) c.sender.invariant.sends c.self.invariant.seated.owns.queue)
