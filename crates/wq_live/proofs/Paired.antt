@@ -131,11 +131,19 @@ module _ {V : Type 0} (s : OwnerSeat V) (q that that' : ValueStanding V) (sent :
   pub sender_meets : (now : KnownPair) → seats_view s sent ≡ now → Sees [] 0 (pair_sender now) (pair_sender (seats_view met_seat sent))
   sender_meets = sender_sees s met_seat sent pair met_owns (met_sees (owner_view (owning s)) refl).same l
 
+-- the first of two that were joined knows more
+pub joined_more : {V : Type 0} (this that both : ValueStanding V) → ValueJoined this that both → IsPrefix this.first.brought both.first.brought
+joined_more {V} this that both joined = subst (λ (t : ValuePart V). IsPrefix this.first.brought t.brought) (sym joined.first_is) joined.this_knows.0.begins
+
 -- an owner and a sender, each alone, that become a pair
 module _ {V : Type 0} (o : OwnerSeat V) (chair both : ValueStanding V) (sent : Sent) (owns : OwnsSeat o) (sends : Sends (sending_in 0 chair sent))
-    (alone : chair.others ≡ []) (one : chair.queue ≡ o.chair.queue) (joined : ValueJoined o.chair chair both) where
+    (alone : chair.others ≡ []) (now there : Known) (view : owner_view (owning o) ≡ now) (its_view : sender_view (sending_in 0 chair sent) ≡ there)
+    (one : there.queue ≡ now.queue) (joined : ValueJoined o.chair chair both) where
   abbrev joint : OwnerSeat V
   joint = record o { chair = both }
+
+  one_queue : chair.queue ≡ o.chair.queue
+  one_queue = ap (λ (k : Known). k.queue) its_view ∙ (one ∙ sym (ap (λ (k : Known). k.queue) view))
 
   others_then : plain_view both.others ≡ see joined.machine.history chair.first.part ∷ []
   others_then = ap plain_view joined.others_are ∙
@@ -152,7 +160,7 @@ module _ {V : Type 0} (o : OwnerSeat V) (chair both : ValueStanding V) (sent : S
   owner_met = λ i. record { queue = joined.queue_is i; part = part_is i; others = [] }
 
   sender_met : alone_at 1 (standing_of both) ≡ seeing joined.machine (alone_at 0 (standing_of chair))
-  sender_met = λ i. record { queue = (joined.queue_is ∙ sym one) i; part = second_is i; others = [] }
+  sender_met = λ i. record { queue = (joined.queue_is ∙ sym one_queue) i; part = second_is i; others = [] }
 
   abbrev owning_alone : Owning
   owning_alone = record (owning o) { chair = alone_at 0 (standing_of o.chair) }
@@ -164,16 +172,13 @@ module _ {V : Type 0} (o : OwnerSeat V) (chair both : ValueStanding V) (sent : S
   layouts = meet_owner_layout (sending_in 0 chair sent) (owning o) (sender_view (sending_in 0 chair sent)) (owner_view (owning o)) joined.machine
       joined.that_fits.fits joined.this_fits.fits refl refl sends owns.queue
 
-  pub owner_joined : IsPrefix o.chair.first.brought both.first.brought
-  owner_joined = subst (λ (t : ValuePart V). IsPrefix o.chair.first.brought t.brought) (sym joined.first_is) joined.this_knows.0.begins
-
   pub joins : AreSeated joint sent
   joins = record {
     owns = record {
       queue = owns_at (record (owning o) { chair = alone_at 0 (standing_of both) }) (standing_of both) refl
           (meet_executes owning_alone (alone_at 0 (standing_of both)) joined.machine joined.sound joined.this_fits.fits owner_met owned);
-      slots = met_slots joined.machine o.chair both joined.sound joined.this_fits.fits owns.queue.number_is joined.queue_is part_is owner_joined joined.hand_is
-          owns.slots;
+      slots = met_slots joined.machine o.chair both joined.sound joined.this_fits.fits owns.queue.number_is joined.queue_is part_is
+          (joined_more o.chair chair both joined) joined.hand_is owns.slots;
     };
     sends = meet_sends (sending_in 0 chair sent) (sending_in 1 both sent) joined.machine joined.sound joined.that_fits.fits sender_met refl refl refl sends;
     two = others_then ∙ ap (λ (p : Part). p ∷ []) (sym second_is);
@@ -181,12 +186,12 @@ module _ {V : Type 0} (o : OwnerSeat V) (chair both : ValueStanding V) (sent : S
     one_seen = ap (λ (p : Part). p.seen) second_is ∙ sym (ap (λ (p : Part). p.seen) part_is);
   }
 
-  pub owner_joins : (now : Known) → owner_view (owning o) ≡ now → Sees [] 0 now (pair_owner (seats_view joint sent))
-  owner_joins now view = meet_owner_sees owning_alone (alone_at 0 (standing_of both)) joined.machine joined.sound joined.this_fits.fits owner_met owned now view
+  pub owner_joins : Sees [] 0 now (pair_owner (seats_view joint sent))
+  owner_joins = meet_owner_sees owning_alone (alone_at 0 (standing_of both)) joined.machine joined.sound joined.this_fits.fits owner_met owned now view
 
-  pub sender_joins : (now : Known) → sender_view (sending_in 0 chair sent) ≡ now → Sees [] 0 now (pair_sender (seats_view joint sent))
-  sender_joins now view = subst (Sees [] 0 now) (sender_is joint sent joins)
-      (meet_sees (sending_in 0 chair sent) (sending_in 1 both sent) now joined.machine joined.sound joined.that_fits.fits sender_met refl refl view sends)
+  pub sender_joins : Sees [] 0 there (pair_sender (seats_view joint sent))
+  sender_joins = subst (Sees [] 0 there) (sender_is joint sent joins)
+      (meet_sees (sending_in 0 chair sent) (sending_in 1 both sent) there joined.machine joined.sound joined.that_fits.fits sender_met refl refl its_view sends)
 
   pub low_joins : sent.number < o.layout.senders
   low_joins = subst (λ (l : Layout). sent.number < l.senders) (sym layouts)

@@ -1,5 +1,5 @@
 -- A pair of a queue whose items bring values, call after call.
-use Rattle.std.proofs.Common.{◌≡◌, ℕ, ◌<◌, List, ◌∷◌, Option, refl, sym, ap, ◌∙◌, subst}
+use Rattle.std.proofs.Common.{◌≡◌, ℕ, ◌<◌, List, [], ◌∷◌, Option, refl, sym, ap, ◌∙◌, subst}
 use mathlib.Core.List.{IsPrefix}
 use Rattle.atomic_table.specs.Seated.{TableId}
 use Rattle.wq_words.specs.declared.layout.Layout.{Layout}
@@ -20,14 +20,16 @@ use Rattle.wq_live.specs.declared.sent.Sent.{Sent}
 use Rattle.wq_live.specs.declared.value_owner.ValueOwner.TheInside as owner
 use Rattle.wq_live.specs.declared.value_sender.ValueSender.TheInside as sender
 use Rattle.wq_live.specs.declared.value_pair.ValuePair.TheInside.{Inside}
-use Rattle.wq_live.specs.Sits.{sending_in, Sends}
+use Rattle.wq_live.specs.Known.{Known, Sees}
+use Rattle.wq_live.specs.Sits.{owning, owner_view, sending_in, sender_view, Sends}
 use Rattle.wq_live.specs.Alone.{OwnsValues, SendsValues}
-use Rattle.wq_live.specs.KnownWith.{KnownWith, Learnt}
+use Rattle.wq_live.specs.KnownWith.{KnownWith, Learnt, handed_in}
 use Rattle.wq_live.specs.Valued.{owner_with, sender_with, AreKnown}
-use Rattle.wq_live.specs.Pairs.{AreSeated}
+use Rattle.wq_live.specs.Pairs.{pair_owner, pair_sender, AreSeated}
 use Rattle.wq_live.specs.ValuePairs.{owner_of, sender_of, value_pair_view, IsValuePair}
-use Rattle.wq_live.proofs.ValueSeats.{still_some}
-use Rattle.wq_live.proofs.Paired.{sender_acts, owner_joined, joins}
+use Rattle.wq_live.proofs.ValueSeats.{known_is, still_some}
+use Rattle.wq_live.proofs.HandedOver.{met_handed}
+use Rattle.wq_live.proofs.Paired.{sender_acts, joined_more, joins, owner_joins, sender_joins, low_joins}
 
 module _ {V : Type 0} (s : OwnerSeat V) (sent : Sent) (pair : AreSeated s sent) where
   one_layout : (part_in 1 s.chair).layout ≡ s.chair.first.part.layout
@@ -64,17 +66,25 @@ module _ {V : Type 0} (s : Inside V) (pair : IsValuePair s) where
 
 -- an owner and a sender, each alone, that become a pair
 module _ {V : Type 0} (o : owner.Inside V) (s : sender.Inside V) (both : ValueStanding V) (owns : OwnsValues o) (sends : SendsValues s)
-    (one : s.chair.queue ≡ o.seat.chair.queue) (joined : ValueJoined o.seat.chair s.chair both) where
+    (now there : KnownWith V) (view : owner_with o.seat ≡ now) (its_view : sender_with 0 s.chair s.sent ≡ there)
+    (one : there.known.queue ≡ now.known.queue) (joined : ValueJoined o.seat.chair s.chair both) where
   abbrev whole : Inside V
   whole = record { seat = record o.seat { chair = both }; sent = s.sent }
 
+  owner_known : owner_view (owning o.seat) ≡ now.known
+  owner_known = known_is o.seat now view
+
+  sender_known : sender_view (sending_in 0 s.chair s.sent) ≡ there.known
+  sender_known = ap (λ (k : KnownWith V). k.known) its_view
+
   known : AreKnown both
   known = subst (λ (t : ValuePart V). AreBrought t.part.layout.items (accepted t.part.seen) t.brought) (sym joined.first_is)
-      (subst (λ (l : Layout). AreBrought l.items (accepted joined.machine.history) joined.brought) (sym joined.this_fits.fits.layout_is) (joined.right owns.slots))
+      (subst (λ (l : Layout). AreBrought l.items (accepted joined.machine.history) joined.brought) (sym joined.this_fits.fits.layout_is)
+      (joined.right owns.slots))
 
   pub values_join : IsValuePair whole
   values_join = let h = joined.machine.history in let brs = joined.brought in record {
-    seated = joins o.seat s.chair both s.sent owns.owns sends.sends sends.alone one joined;
+    seated = joins o.seat s.chair both s.sent owns.owns sends.sends sends.alone now.known there.known owner_known sender_known one joined;
     slots = subst (λ (q : TableId). 0 < q.slots) (sym joined.queue_is) owns.slots;
     known = known;
     told = subst (λ (z : List (Option V) × ValueView V). AllTold z.0 z.1)
@@ -83,16 +93,28 @@ module _ {V : Type 0} (o : owner.Inside V) (s : sender.Inside V) (both : ValueSt
         (seeing_seen h (s.chair.first.part ∷ plain_view s.chair.others)));
   }
 
-  pub owner_join_learnt : (now : KnownWith V) → owner_with o.seat ≡ now → Learnt now (owner_of (value_pair_view whole))
-  owner_join_learnt now view = subst (λ (k : KnownWith V). Learnt k (owner_of (value_pair_view whole))) view record {
-    more = owner_joined o.seat s.chair both s.sent owns.owns sends.sends sends.alone one joined;
+  pub owner_join_sees : Sees [] 0 now.known (pair_owner (value_pair_view whole).known)
+  owner_join_sees = owner_joins o.seat s.chair both s.sent owns.owns sends.sends sends.alone now.known there.known owner_known sender_known one joined
+
+  pub sender_join_sees : Sees [] 0 there.known (pair_sender (value_pair_view whole).known)
+  sender_join_sees = sender_joins o.seat s.chair both s.sent owns.owns sends.sends sends.alone now.known there.known owner_known sender_known one joined
+
+  pub low_join : s.sent.number < o.seat.layout.senders
+  low_join = low_joins o.seat s.chair both s.sent owns.owns sends.sends sends.alone now.known there.known owner_known sender_known one joined
+
+  pub owner_join_learnt : Learnt now (owner_of (value_pair_view whole))
+  owner_join_learnt = subst (λ (k : KnownWith V). Learnt k (owner_of (value_pair_view whole))) view record {
+    more = joined_more o.seat.chair s.chair both joined;
     was_whole = owns.known.as_many;
     as_many = known.as_many;
   }
 
-  pub sender_join_learnt : (now : KnownWith V) → sender_with 0 s.chair s.sent ≡ now → Learnt now (sender_of (value_pair_view whole))
-  sender_join_learnt now view = subst (λ (k : KnownWith V). Learnt k (sender_of (value_pair_view whole))) view record {
+  pub sender_join_learnt : Learnt there (sender_of (value_pair_view whole))
+  sender_join_learnt = subst (λ (k : KnownWith V). Learnt k (sender_of (value_pair_view whole))) its_view record {
     more = subst (λ (t : ValuePart V). IsPrefix s.chair.first.brought t.brought) (sym joined.first_is) joined.that_knows.0.begins;
     was_whole = sends.known.as_many;
     as_many = known.as_many;
   }
+
+  pub join_handed : handed_in (owner_of (value_pair_view whole)) ≡ handed_in now
+  join_handed = met_handed now (owner_of (value_pair_view whole)) (sym (ap (λ (k : Known). k.number) owner_known)) owner_join_sees owner_join_learnt

@@ -1,29 +1,26 @@
-use Rattle.std.proofs.Common.{ap, sym, ◌∙◌}
+use Rattle.std.proofs.Common.{ap, ◌∙◌}
 use Rattle.atomic_table.specs.Seated.{TableId}
-use Rattle.wq_live.specs.Known.{Known}
 use Rattle.wq_live.proofs.Paired.{joins, owner_joins, sender_joins, low_joins}
 use Rattle.wq_live.proofs.pair.Pair.join.Goals as goal
 
 pub invariant_of-result : goal.invariant_of-result
 invariant_of-result c = let o = c.owner.invariant in let s = c.sender.invariant in record {
-  seated = joins c.owner.inside.seat c.sender.inside.chair c.join.result c.sender.inside.sent o.owns s.sends s.alone
-      (ap (λ (v : Known). v.queue) c.sender.view_is ∙ (c.requires.one ∙ sym (ap (λ (v : Known). v.queue) c.owner.view_is))) c.join.ensures.joined;
+  seated = joins c.owner.inside.seat c.sender.inside.chair c.join.result c.sender.inside.sent o.owns s.sends s.alone c.args.owner c.args.sender
+      c.owner.view_is c.sender.view_is c.requires.one c.join.ensures.joined;
   bare = ap (λ (q : TableId). q.slots) c.join.ensures.joined.queue_is ∙ o.bare;
 }
 
 pub returns-clause-owner : goal.returns-clause-owner
 returns-clause-owner c = let o = c.owner.invariant in let s = c.sender.invariant in
-    owner_joins c.owner.inside.seat c.sender.inside.chair c.join.result c.sender.inside.sent o.owns s.sends s.alone
-    (ap (λ (v : Known). v.queue) c.sender.view_is ∙ (c.requires.one ∙ sym (ap (λ (v : Known). v.queue) c.owner.view_is))) c.join.ensures.joined c.args.owner
-    c.owner.view_is
+    owner_joins c.owner.inside.seat c.sender.inside.chair c.join.result c.sender.inside.sent o.owns s.sends s.alone c.args.owner c.args.sender
+    c.owner.view_is c.sender.view_is c.requires.one c.join.ensures.joined
 
 pub returns-clause-sender : goal.returns-clause-sender
 returns-clause-sender c = let o = c.owner.invariant in let s = c.sender.invariant in
-    sender_joins c.owner.inside.seat c.sender.inside.chair c.join.result c.sender.inside.sent o.owns s.sends s.alone
-    (ap (λ (v : Known). v.queue) c.sender.view_is ∙ (c.requires.one ∙ sym (ap (λ (v : Known). v.queue) c.owner.view_is))) c.join.ensures.joined c.args.sender
-    c.sender.view_is
+    sender_joins c.owner.inside.seat c.sender.inside.chair c.join.result c.sender.inside.sent o.owns s.sends s.alone c.args.owner c.args.sender
+    c.owner.view_is c.sender.view_is c.requires.one c.join.ensures.joined
 
 pub returns-clause-low : goal.returns-clause-low
 returns-clause-low c = let o = c.owner.invariant in let s = c.sender.invariant in
-    low_joins c.owner.inside.seat c.sender.inside.chair c.join.result c.sender.inside.sent o.owns s.sends s.alone
-    (ap (λ (v : Known). v.queue) c.sender.view_is ∙ (c.requires.one ∙ sym (ap (λ (v : Known). v.queue) c.owner.view_is))) c.join.ensures.joined
+    low_joins c.owner.inside.seat c.sender.inside.chair c.join.result c.sender.inside.sent o.owns s.sends s.alone c.args.owner c.args.sender
+    c.owner.view_is c.sender.view_is c.requires.one c.join.ensures.joined

@@ -23,6 +23,7 @@ returns-clause-seen g c k is =
 
 pub returns-clause-handed : goal.returns-clause-handed
 returns-clause-handed g c = let e = c.end.ensures in
-    let some = runs_some (owner_view (owning c.self.inside.seat)).seen (subst (λ (v : KnownWith g.row.V.Denot). IsRunning v.known.seen) (sym c.self.view_is) c.requires.runs) in
+    let some = runs_some (owner_view (owning c.self.inside.seat)).seen
+    (subst (λ (v : KnownWith g.row.V.Denot). IsRunning v.known.seen) (sym c.self.view_is) c.requires.runs) in
     owner_stays c.self.inside.seat c.end.new.self e.learns c.self.invariant.owns c.self.invariant.known c.args.self.now c.self.view_is (End some.0 ∷ []) 0 refl
     (e.seen some.0 some.1)

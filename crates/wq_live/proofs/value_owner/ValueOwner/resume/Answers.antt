@@ -13,4 +13,5 @@ returns-clause-learnt g c = owner_learnt 0 c.self.inside.seat c.resume.new.self 
 
 pub returns-clause-handed : goal.returns-clause-handed
 returns-clause-handed g c = let e = c.resume.ensures in
-    owner_stays c.self.inside.seat c.resume.new.self e.learns c.self.invariant.owns c.self.invariant.known c.args.self.now c.self.view_is (event.Resume ∷ []) 0 refl e.seen
+    owner_stays c.self.inside.seat c.resume.new.self e.learns c.self.invariant.owns c.self.invariant.known
+    c.args.self.now c.self.view_is (event.Resume ∷ []) 0 refl e.seen

@@ -8,7 +8,8 @@ use Rattle.wq_live.proofs.value_pair.ValuePair.chain_value.Goals as goal
 
 pub invariant_of-self : goal.invariant_of-self
 invariant_of-self g c = let e = c.chain_value.ensures in let s = c.self.inside in
-    values_act s c.self.invariant c.chain_value.new.self (owner_acts s.seat c.chain_value.new.self s.sent c.self.invariant.seated e.owns e.same e.learns) e.learns
+    values_act s c.self.invariant c.chain_value.new.self
+    (owner_acts s.seat c.chain_value.new.self s.sent c.self.invariant.seated e.owns e.same e.learns) e.learns
 
 pub returns-clause-others : goal.returns-clause-others
 returns-clause-others g c = let e = c.chain_value.ensures in let s = c.self.inside in
@@ -16,7 +17,8 @@ returns-clause-others g c = let e = c.chain_value.ensures in let s = c.self.insi
     (ap (λ p. p.known) c.self.view_is)
 
 pub returns-clause-learnt : goal.returns-clause-learnt
-returns-clause-learnt g c = owner_learnt 0 c.self.inside.seat c.chain_value.new.self c.chain_value.ensures.learns c.self.invariant.known (owner_of c.args.self.now)
+returns-clause-learnt g c = owner_learnt 0 c.self.inside.seat c.chain_value.new.self c.chain_value.ensures.learns c.self.invariant.known
+    (owner_of c.args.self.now)
     (ap owner_of c.self.view_is)
 
 pub returns-clause-handed : goal.returns-clause-handed

@@ -7,7 +7,8 @@ invariant_of-self g c = let e = c.meet.ensures.met in
 
 pub returns-clause-this : goal.returns-clause-this
 returns-clause-this g c = let e = c.meet.ensures.met in
-    met_sees e.machine e.brought e.sound (e.right c.self.invariant.slots) c.self.inside c.self.invariant c.meet.new.self e.this_fits e.this_knows e.this_is c.args.self.now
+    met_sees e.machine e.brought e.sound (e.right c.self.invariant.slots) c.self.inside c.self.invariant
+    c.meet.new.self e.this_fits e.this_knows e.this_is c.args.self.now
     c.self.view_is
 
 pub invariant_of-other : goal.invariant_of-other
@@ -16,5 +17,6 @@ invariant_of-other g c = let e = c.meet.ensures.met in
 
 pub returns-clause-that : goal.returns-clause-that
 returns-clause-that g c = let e = c.meet.ensures.met in
-    met_sees e.machine e.brought e.sound (e.right c.self.invariant.slots) c.other.inside c.other.invariant c.meet.new.other e.that_fits e.that_knows e.that_is c.args.other.now
+    met_sees e.machine e.brought e.sound (e.right c.self.invariant.slots) c.other.inside c.other.invariant
+    c.meet.new.other e.that_fits e.that_knows e.that_is c.args.other.now
     c.other.view_is

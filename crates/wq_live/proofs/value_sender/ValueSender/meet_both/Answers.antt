@@ -6,41 +6,50 @@ use Rattle.wq_live.proofs.value_sender.ValueSender.meet_both.Goals as goal
 
 pub invariant_of-self : goal.invariant_of-self
 invariant_of-self g c = let e = c.meet_both.ensures.all in
-    met_values e.machine e.brought e.sound (e.right c.owner.invariant.slots) c.self.inside c.self.invariant c.meet_both.new.other e.that_fits e.that_knows e.that_is
+    met_values e.machine e.brought e.sound (e.right c.owner.invariant.slots) c.self.inside c.self.invariant
+    c.meet_both.new.other e.that_fits e.that_knows e.that_is
 
 pub returns-clause-this : goal.returns-clause-this
 returns-clause-this g c = let e = c.meet_both.ensures.all in
-    met_sees e.machine e.brought e.sound (e.right c.owner.invariant.slots) c.self.inside c.self.invariant c.meet_both.new.other e.that_fits e.that_knows e.that_is c.args.self.now
+    met_sees e.machine e.brought e.sound (e.right c.owner.invariant.slots) c.self.inside c.self.invariant
+    c.meet_both.new.other e.that_fits e.that_knows e.that_is c.args.self.now
     c.self.view_is
 
 pub returns-clause-learnt : goal.returns-clause-learnt
 returns-clause-learnt g c = let e = c.meet_both.ensures.all in
-    met_learnt e.machine e.brought e.sound (e.right c.owner.invariant.slots) c.self.inside c.self.invariant c.meet_both.new.other e.that_fits e.that_knows e.that_is c.args.self.now
+    met_learnt e.machine e.brought e.sound (e.right c.owner.invariant.slots) c.self.inside c.self.invariant
+    c.meet_both.new.other e.that_fits e.that_knows e.that_is c.args.self.now
     c.self.view_is
 
 pub invariant_of-other : goal.invariant_of-other
 invariant_of-other g c = let e = c.meet_both.ensures.all in
-    met_values e.machine e.brought e.sound (e.right c.owner.invariant.slots) c.other.inside c.other.invariant c.meet_both.new.third e.third_fits e.third_knows e.third_is
+    met_values e.machine e.brought e.sound (e.right c.owner.invariant.slots) c.other.inside c.other.invariant
+    c.meet_both.new.third e.third_fits e.third_knows e.third_is
 
 pub returns-clause-that : goal.returns-clause-that
 returns-clause-that g c = let e = c.meet_both.ensures.all in
-    met_sees e.machine e.brought e.sound (e.right c.owner.invariant.slots) c.other.inside c.other.invariant c.meet_both.new.third e.third_fits e.third_knows e.third_is
+    met_sees e.machine e.brought e.sound (e.right c.owner.invariant.slots) c.other.inside c.other.invariant
+    c.meet_both.new.third e.third_fits e.third_knows e.third_is
     c.args.other.now c.other.view_is
 
 pub invariant_of-owner : goal.invariant_of-owner
 invariant_of-owner g c = let e = c.meet_both.ensures.all in
-    met_owner_values e.machine e.brought e.sound (e.right c.owner.invariant.slots) c.owner.inside c.owner.invariant c.meet_both.new.self e.this_fits e.this_knows e.this_is
+    met_owner_values e.machine e.brought e.sound (e.right c.owner.invariant.slots) c.owner.inside c.owner.invariant
+    c.meet_both.new.self e.this_fits e.this_knows e.this_is
 
 pub returns-clause-owners : goal.returns-clause-owners
 returns-clause-owners g c = let e = c.meet_both.ensures.all in
-    met_owner_sees e.machine e.brought e.sound (e.right c.owner.invariant.slots) c.owner.inside c.owner.invariant c.meet_both.new.self e.this_fits e.this_knows e.this_is
+    met_owner_sees e.machine e.brought e.sound (e.right c.owner.invariant.slots) c.owner.inside c.owner.invariant
+    c.meet_both.new.self e.this_fits e.this_knows e.this_is
     c.args.owner.now c.owner.view_is
 
 pub returns-clause-theirs : goal.returns-clause-theirs
 returns-clause-theirs g c = let e = c.meet_both.ensures.all in (
-  met_learnt e.machine e.brought e.sound (e.right c.owner.invariant.slots) c.other.inside c.other.invariant c.meet_both.new.third e.third_fits e.third_knows e.third_is
+  met_learnt e.machine e.brought e.sound (e.right c.owner.invariant.slots) c.other.inside c.other.invariant
+      c.meet_both.new.third e.third_fits e.third_knows e.third_is
       c.args.other.now c.other.view_is,
-  met_owner_learnt e.machine e.brought e.sound (e.right c.owner.invariant.slots) c.owner.inside c.owner.invariant c.meet_both.new.self e.this_fits e.this_knows e.this_is
+  met_owner_learnt e.machine e.brought e.sound (e.right c.owner.invariant.slots) c.owner.inside c.owner.invariant
+      c.meet_both.new.self e.this_fits e.this_knows e.this_is
       c.args.owner.now c.owner.view_is,
 )
 

@@ -10,30 +10,38 @@ invariant_of-self g c = let e = c.meet.ensures.met in
 
 pub returns-clause-this : goal.returns-clause-this
 returns-clause-this g c = let e = c.meet.ensures.met in
-    met_sees e.machine e.brought e.sound (e.right c.owner.invariant.slots) c.self.inside c.self.invariant c.meet.new.other e.that_fits e.that_knows e.that_is c.args.self.now
+    met_sees e.machine e.brought e.sound (e.right c.owner.invariant.slots) c.self.inside c.self.invariant
+    c.meet.new.other e.that_fits e.that_knows e.that_is c.args.self.now
     c.self.view_is
 
 pub returns-clause-learnt : goal.returns-clause-learnt
 returns-clause-learnt g c = let e = c.meet.ensures.met in
-    met_learnt e.machine e.brought e.sound (e.right c.owner.invariant.slots) c.self.inside c.self.invariant c.meet.new.other e.that_fits e.that_knows e.that_is c.args.self.now
+    met_learnt e.machine e.brought e.sound (e.right c.owner.invariant.slots) c.self.inside c.self.invariant
+    c.meet.new.other e.that_fits e.that_knows e.that_is c.args.self.now
     c.self.view_is
 
 pub invariant_of-owner : goal.invariant_of-owner
 invariant_of-owner g c = let e = c.meet.ensures.met in
-    met_owner_values e.machine e.brought e.sound (e.right c.owner.invariant.slots) c.owner.inside c.owner.invariant c.meet.new.self e.this_fits e.this_knows e.this_is
+    met_owner_values e.machine e.brought e.sound (e.right c.owner.invariant.slots) c.owner.inside c.owner.invariant
+    c.meet.new.self e.this_fits e.this_knows e.this_is
 
 pub returns-clause-that : goal.returns-clause-that
 returns-clause-that g c = let e = c.meet.ensures.met in
-    met_owner_sees e.machine e.brought e.sound (e.right c.owner.invariant.slots) c.owner.inside c.owner.invariant c.meet.new.self e.this_fits e.this_knows e.this_is c.args.owner.now
+    met_owner_sees e.machine e.brought e.sound (e.right c.owner.invariant.slots) c.owner.inside c.owner.invariant
+    c.meet.new.self e.this_fits e.this_knows e.this_is c.args.owner.now
     c.owner.view_is
+
+pub returns-clause-theirs : goal.returns-clause-theirs
+returns-clause-theirs g c = let e = c.meet.ensures.met in
+    met_owner_learnt e.machine e.brought e.sound (e.right c.owner.invariant.slots) c.owner.inside c.owner.invariant
+    c.meet.new.self e.this_fits e.this_knows e.this_is c.args.owner.now c.owner.view_is
 
 pub returns-clause-last : goal.returns-clause-last
 returns-clause-last g c = complete_stays [] 0 c.args.owner.now.known _ (returns-clause-that g c)
 
 pub returns-clause-handed : goal.returns-clause-handed
 returns-clause-handed g c = met_handed c.args.owner.now _ (sym (ap (λ k. k.known.number) c.owner.view_is)) (returns-clause-that g c)
-    (let e = c.meet.ensures.met in met_owner_learnt e.machine e.brought e.sound (e.right c.owner.invariant.slots) c.owner.inside c.owner.invariant c.meet.new.self e.this_fits e.this_knows e.this_is c.args.owner.now c.owner.view_is)
+    (returns-clause-theirs g c)
 
 pub returns-clause-end : goal.returns-clause-end
-returns-clause-end g c complete = met_end c.args.owner.now _ (let e = c.meet.ensures.met in met_owner_learnt e.machine e.brought e.sound (e.right c.owner.invariant.slots) c.owner.inside c.owner.invariant c.meet.new.self e.this_fits e.this_knows e.this_is c.args.owner.now c.owner.view_is)
-    (returns-clause-last g c complete)
+returns-clause-end g c complete = met_end c.args.owner.now _ (returns-clause-theirs g c) (returns-clause-last g c complete)
