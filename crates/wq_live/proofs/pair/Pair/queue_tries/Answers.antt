@@ -7,8 +7,8 @@ use Rattle.wq_live.proofs.pair.Pair.queue_tries.Goals as goal
 pub invariant_of-self : goal.invariant_of-self
 invariant_of-self c = let e = c.queue_number.ensures in let s = c.self.inside in
     pair_queues s c.self.invariant c.queue_number.new.chair c.queue_number.new.sent e.learns e.sends
-    (answers_same c.args.item c.args.tries c.queue_number.result _ _ e.answer).layout_is
-    (queued_hand 1 c.args.item s.seat.chair c.queue_number.new.chair _ c.queue_number.result e.slots)
+    (answers_same _ _ c.queue_number.result _ _ e.answer).layout_is
+    (queued_hand 1 _ s.seat.chair c.queue_number.new.chair _ c.queue_number.result e.slots)
 
 pub returns-clause-others : goal.returns-clause-others
 returns-clause-others c = let s = c.self.inside in

@@ -13,7 +13,7 @@ use Rattle.wq_live.proofs.value_pair.ValuePair.queue_value.Goals as goal
 pub invariant_of-self : goal.invariant_of-self
 invariant_of-self g c = let e = c.queue_value.ensures in
     values_queue c.self.inside c.self.invariant c.queue_value.new.chair c.queue_value.new.sent e.learns e.sends
-    (answers_same c.args.item c.args.tries (answer_of c.queue_value.result) _ _ e.answer).layout_is e.hand
+    (answers_same _ _ (answer_of c.queue_value.result) _ _ e.answer).layout_is e.hand
 
 pub returns-clause-others : goal.returns-clause-others
 returns-clause-others g c = let s = c.self.inside in
@@ -34,5 +34,5 @@ returns-clause-contended g c is = let e = c.queue_value.ensures in
     (λ i. (
       ap (λ p. p.known.number) c.self.view_is i,
       (queued_seat c.self.inside c.self.invariant c.queue_value.new.chair c.queue_value.new.sent e.learns e.sends
-          (answers_same c.args.item c.args.tries (answer_of c.queue_value.result) _ _ e.answer).layout_is e.hand).one_seen i,
+          (answers_same _ _ (answer_of c.queue_value.result) _ _ e.answer).layout_is e.hand).one_seen i,
     )) (e.contended is)
