@@ -2,9 +2,12 @@
 use Rattle.std.proofs.lemmas.List.{append-nil}
 use mathlib.Core.List.{IsPrefix}
 use Rattle.wq_words.proofs.Prefixes.{prefix_append}
-use Rattle.wq_live.proofs.Final.{final}
-use Rattle.wq_ledger.proofs.Common.{◌≡◌, ℕ, List, [], ◌++◌, sym, ap, ◌∙◌, subst, arith, Layout, Event, is_close, IsClosed, IsLegal, IsComplete, Grows}
-use Rattle.wq_ledger.proofs.Common.{count_by-append, sender_counts, LedgerState, IsLedgerOf}
+use Rattle.wq_words.specs.History.{accepted, begun}
+use Rattle.wq_words.proofs.Closed.{closed_shuts}
+use Rattle.wq_live.specs.Known.{Known, Sees}
+use Rattle.wq_live.proofs.Final.{final, all_run}
+use Rattle.wq_ledger.proofs.Common.{◌≡◌, ℕ, List, [], ◌++◌, sym, ap, ◌∙◌, subst, arith, Layout, Event, ended, is_close, IsClosed, IsLegal, IsComplete, Grows}
+use Rattle.wq_ledger.proofs.Common.{count_by-append, sender_counts, LedgerState, IsLedgerOf, IsSettled}
 
 pub still_closed : (v w : List Event) → IsClosed v → IsClosed (v ++ w)
 still_closed v w closed = omega (arith, count_by-append is_close v w, closed)
@@ -33,3 +36,24 @@ made_now h v s ledger same closed number counts = record {
   closed = closed;
   counts_are = counts ∙ (ap (sender_counts s) same ∙ ap (λ (z : ℕ). sender_counts z h) (sym number));
 }
+
+-- what holds of a book's parts holds as it is made
+pub settled_now : (owner sender : Known) (own : LedgerState) → IsLegal owner.layout owner.seen → IsComplete owner.seen → sender.seen ≡ owner.seen
+    → own.number ≡ sender.number → own.counts ≡ sender_counts sender.number sender.seen → IsSettled owner own
+settled_now owner sender own legal done both number counts = record {
+  legal = legal;
+  complete = done;
+  made = made_now owner.seen sender.seen sender.number own both done.0 number counts;
+}
+
+-- and after each meeting
+pub settled_still : (owner new : Known) (own : LedgerState) → Sees [] 0 owner new → IsSettled owner own → IsSettled new own
+settled_still owner new own sees settled = record {
+  legal = sees.legal;
+  complete = complete_still new.layout owner.number 0 owner.seen new.seen sees.grows sees.legal settled.complete;
+  made = made_still owner.number 0 owner.seen new.seen own sees.grows settled.made;
+}
+
+pub settled_run : (owner : Known) (own : LedgerState) → IsSettled owner own
+    → (ended owner.seen ≡ begun owner.seen) × (begun owner.seen ≡ accepted owner.seen)
+settled_run owner own settled = all_run owner.layout owner.seen settled.legal (closed_shuts owner.seen settled.complete.0, settled.complete.1)

@@ -22,6 +22,10 @@ pub record BookState : Type 0 where
   pub seen : List Event
   pub own : LedgerState
 
+-- the book of this owner, with this ledger of the worker's own sender
+abbrev pub book_of : Known → LedgerState → BookState
+book_of owner own = record { queue = owner.queue; layout = owner.layout; seen = owner.seen; own = own }
+
 -- The book with this history made the ledger: it holds what its sender had counted as they met, once the queue was closed.
 pub record IsLedgerOf (h : List Event) (ledger : LedgerState) : Type 0 where
   pub met : List Event

@@ -1,6 +1,9 @@
 //! Ledgers that balance, or why they do not.
-ghost use Rattle.std.specs.Prelude.{◌≡◌, ◌↔◌, ◌*◌, ◌<◌, [], ◌∷◌, IsTrue, MatchResult};
-ghost use Rattle.wq_ledger.specs.Balance.{AreWhole, AreOwnerWhole, ledgers_of, IsFault, SumsMet, FaultsBelow};
+ghost use Rattle.std.specs.Prelude.{◌≡◌, ◌↔◌, ◌*◌, ◌<◌, [], ◌∷◌, All, IsTrue, MatchResult};
+ghost use Rattle.wq_live.specs.Known.{Known};
+ghost use Rattle.wq_live.specs.Counts.{owner_counts};
+ghost use Rattle.wq_ledger.specs.Book.{book_of, IsLedgerOf, IsSettled};
+ghost use Rattle.wq_ledger.specs.Balance.{AreWhole, AreOwnerWhole, ledgers_of, IsFault, SumsMet, FaultsBelow, Balances, IsUnbalanced};
 
 use crate::book::Ledger;
 use crate::totals::Totals;
@@ -21,7 +24,7 @@ pub enum Unbalanced {
     Saturated(u32),
 }
 
-pub(crate) fn is_whole(counts: SenderCounts) -> bool
+fn is_whole(counts: SenderCounts) -> bool
     ensures { IsTrue result ↔ AreWhole counts }
 {
     counts.queued != u64::MAX
@@ -31,7 +34,7 @@ pub(crate) fn is_whole(counts: SenderCounts) -> bool
         && counts.contended != u64::MAX
 }
 
-pub(crate) fn is_owner_whole(counts: OwnerCounts) -> bool
+fn is_owner_whole(counts: OwnerCounts) -> bool
     ensures { IsTrue result ↔ AreOwnerWhole counts }
 {
     counts.chained != u64::MAX && counts.chain_busy != u64::MAX && counts.ended != u64::MAX
@@ -68,8 +71,8 @@ fn whole_ledger(ledgers: &[Ledger], number: u32) -> Result<Ledger, Unbalanced>
     Ok(ledger)
 }
 
-/// The sums over the ledgers of all senders but this one.
-pub(crate) fn sum_met(ledgers: &[Ledger], seat: u32, senders: u32) -> Result<Totals, Unbalanced>
+// The sums over the ledgers of all senders but this one.
+fn sum_met(ledgers: &[Ledger], seat: u32, senders: u32) -> Result<Totals, Unbalanced>
     ensures { MatchResult result (SumsMet ledgers.now seat senders) (FaultsBelow ledgers.now seat senders) }
 {
     let mut met = Totals::none();
@@ -80,4 +83,24 @@ pub(crate) fn sum_met(ledgers: &[Ledger], seat: u32, senders: u32) -> Result<Tot
         }
     }
     Ok(met)
+}
+
+/// The sums of all counts of a book whose worker has this sender and this owner, by the ledgers of its other senders.
+pub(crate) fn sum_all(
+    own: Ledger,
+    owner: OwnerCounts,
+    senders: u32,
+    ledgers: &[Ledger],
+) -> Result<Totals, Unbalanced>
+    ensures { (seat : Known) → owner ≡ owner_counts seat.seen → senders ≡ seat.layout.senders → IsSettled seat own
+        → All (IsLedgerOf seat.seen) ledgers.now
+        → MatchResult result (Balances (book_of seat own) ledgers.now) (IsUnbalanced (book_of seat own) ledgers.now) }
+{
+    let number = own.number();
+    let counts = own.counts();
+    let met = sum_met(ledgers, number, senders)?;
+    if !is_whole(counts) || !is_owner_whole(owner) {
+        return Err(Unbalanced::Saturated(number));
+    }
+    Ok(met.with(counts).with_owner(owner))
 }

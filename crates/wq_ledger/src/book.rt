@@ -10,12 +10,12 @@ ghost use Rattle.wq_live.specs.Laws.{IsStillEnd};
 ghost use Rattle.wq_ledger.specs.Book.{IsLedgerOf, IsSettled};
 ghost use Rattle.wq_ledger.specs.Balance.{Balances, IsUnbalanced};
 
-use crate::balance::{Unbalanced, is_owner_whole, is_whole, sum_met};
+use crate::balance::{Unbalanced, sum_all};
 use crate::totals::Totals;
 use std::marker::Model;
 use wq_live::{Owner, Sender, SenderCounts};
 
-/// What one sender has counted. `Book::meet` alone makes it.
+/// What one sender has counted. `Book::meet` and `ValueBook::meet` alone make it.
 #[derive(Clone, Copy, Debug, PartialEq, Eq)]
 pub struct Ledger {
     number: u32,
@@ -33,14 +33,11 @@ impl Model for Ledger {
 }
 
 impl Ledger {
-    pub(crate) fn of(sender: &Sender) -> Ledger
-        ensures number { result.number ≡ sender.now.number }
-        ensures counts { result.counts ≡ sender_counts sender.now.number sender.now.seen }
+    pub(crate) fn of(number: u32, counts: SenderCounts) -> Ledger
+        ensures number { result.number ≡ number }
+        ensures counts { result.counts ≡ counts }
     {
-        Ledger {
-            number: sender.number(),
-            counts: sender.counts(),
-        }
+        Ledger { number, counts }
     }
 
     /// The number of its sender.
@@ -66,11 +63,11 @@ pub struct Book {
 }
 
 impl Model for Book {
-    ghost use Rattle.wq_ledger.specs.Book.{BookState, IsSettled};
+    ghost use Rattle.wq_ledger.specs.Book.{BookState, book_of, IsSettled};
 
     ghost Value = { BookState };
 
-    ghost view = { λ b. record { queue = b.owner.queue; layout = b.owner.layout; seen = b.owner.seen; own = b.own } };
+    ghost view = { λ b. book_of b.owner b.own };
 
     ghost invariant = { λ b. IsSettled b.owner b.own };
 }
@@ -89,7 +86,7 @@ impl Book {
         ensures counts { result.own.counts ≡ sender_counts sender.now.number sender.now.seen }
     {
         owner.legal();
-        let own = Ledger::of(sender);
+        let own = Ledger::of(sender.number(), sender.counts());
         Book { owner, own }
     }
 
@@ -121,7 +118,7 @@ impl Book {
         ensures last { IsStillEnd self.old.seen self.new.seen }
     {
         sender.meet_owner(&mut self.owner);
-        Ledger::of(sender)
+        Ledger::of(sender.number(), sender.counts())
     }
 
     /// The sums of all counts, where each sender but the worker's has one ledger of this book and no count is saturated.
@@ -129,13 +126,7 @@ impl Book {
         requires { All (IsLedgerOf self.now.seen) ledgers.now }
         ensures outcome { MatchResult result (Balances self.now ledgers.now) (IsUnbalanced self.now ledgers.now) }
     {
-        let number = self.own.number();
-        let own = self.own.counts();
-        let owner = self.owner.counts();
-        let met = sum_met(ledgers, number, self.owner.layout().senders)?;
-        if !is_whole(own) || !is_owner_whole(owner) {
-            return Err(Unbalanced::Saturated(number));
-        }
-        Ok(met.with(own).with_owner(owner))
+        let senders = self.owner.layout().senders;
+        sum_all(self.own, self.owner.counts(), senders, ledgers)
     }
 }

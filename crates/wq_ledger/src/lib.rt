@@ -4,7 +4,9 @@
 mod balance;
 mod book;
 mod totals;
+mod value_book;
 
 pub use balance::Unbalanced;
 pub use book::{Book, Ledger};
 pub use totals::Totals;
+pub use value_book::ValueBook;

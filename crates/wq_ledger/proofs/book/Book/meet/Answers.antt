@@ -1,21 +1,17 @@
 use Rattle.wq_live.specs.Laws.{IsStillEnd}
 use Rattle.wq_ledger.proofs.Common.{ℕ, [], sym, ap, ◌∙◌, subst, Grows, owner_seat, IsLedgerOf, BookState}
-use Rattle.wq_ledger.proofs.Meeting.{complete_still, made_still, made_now}
+use Rattle.wq_ledger.proofs.Meeting.{settled_still, made_still, made_now}
 use Rattle.wq_ledger.proofs.book.Book.meet.Goals as goal
 
 pub invariant_of-self : goal.invariant_of-self
 invariant_of-self c =
-    let o = c.self.inside.owner in let that = c.meet_owner.ensures.that in let q = c.meet_owner.new.owner in record {
-      legal = that.legal;
-      complete = complete_still q.layout o.number 0 o.seen q.seen that.grows that.legal c.self.invariant.complete;
-      made = made_still o.number 0 o.seen q.seen c.self.inside.own that.grows c.self.invariant.made;
-    }
+    let i = c.self.inside in settled_still i.owner c.meet_owner.new.owner i.own c.meet_owner.ensures.that c.self.invariant
 
 pub returns-clause-made : goal.returns-clause-made
 returns-clause-made c =
-    let o = c.self.inside.owner in let m = c.meet_owner.ensures in let q = c.meet_owner.new.owner in let u = c.meet_owner.new.self in
-    let done = complete_still q.layout o.number 0 o.seen q.seen m.that.grows m.that.legal c.self.invariant.complete in
-    made_now q.seen u.seen u.number c.of.result (sym m.both) done.0 c.of.ensures.number c.of.ensures.counts
+    let m = c.meet_owner.ensures in let q = c.meet_owner.new.owner in let u = c.meet_owner.new.self in
+    made_now q.seen u.seen u.number c.of.result (sym m.both) (invariant_of-self c).complete.0 (c.of.ensures.number ∙ c.number.ensures.seat)
+    (c.of.ensures.counts ∙ c.counts.ensures.counted)
 
 pub returns-clause-kept : goal.returns-clause-kept
 returns-clause-kept c ledger made =
