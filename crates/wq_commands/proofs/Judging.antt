@@ -6,11 +6,11 @@ use Rattle.wq_recording.specs.Checking.{IsFoundOf}
 use Rattle.wq_commands.specs.declared.failure.Failure.{Failure}
 use Rattle.wq_commands.specs.declared.failure.Failure.TheVariants as failure
 use Rattle.wq_commands.specs.Ending.{Fails}
-use Rattle.wq_commands.specs.Judged.{Judges, Says, IsSaid, HasNoFinding}
+use Rattle.wq_commands.specs.Judged.{WritesFinding, Says, IsSaid, HasNoFinding}
 
 pub judges_at_end : (is_drained : Bool) (status : ℕ) (remaining : Option (List ℕ)) (finding : Result Finding Failure) (before after : Option (List ℕ))
     → IfOk finding (λ f. IfSome remaining (λ bytes. IsFoundOf bytes f)) → IsOkAnd finding (IsSaid is_drained status before after)
-    → IfSome remaining (λ bytes. Judges is_drained bytes status before after)
+    → IfSome remaining (λ bytes. WritesFinding is_drained bytes status before after)
 judges_at_end is_drained status None finding before after found said = tt
 judges_at_end is_drained status (Some bytes) (Ok f) before after found said = record { finding = f; found = found; said = said }
 judges_at_end is_drained status (Some bytes) (Err cause) before after found said = absurd said

@@ -18,7 +18,7 @@ abbrev pub IsSaid : Bool → ℕ → Option (List ℕ) → Option (List ℕ) →
 IsSaid is_drained status before after finding = Appends before after finding.text.items × (status ≡ finding_status is_drained finding)
 
 -- what was found of the recording was written, and this is its status
-pub record Judges (is_drained : Bool) (text : List ℕ) (status : ℕ) (before after : Option (List ℕ)) : Type 0 where
+pub record WritesFinding (is_drained : Bool) (text : List ℕ) (status : ℕ) (before after : Option (List ℕ)) : Type 0 where
   pub finding : Finding
   pub found : IsFoundOf text finding
   pub said : IsSaid is_drained status before after finding

@@ -5,7 +5,7 @@ ghost use Rattle.wq_commands.specs.declared.failure.Failure.{Failure as Cause};
 ghost use Rattle.wq_commands.specs.declared.failure.Failure.TheVariants.{Unwritable};
 ghost use Rattle.wq_commands.specs.Failure.{status_of};
 ghost use Rattle.wq_commands.specs.Ending.{Fails, IsUntouched};
-ghost use Rattle.wq_commands.specs.Judged.{Judges, Says, IsSaid, HasNoFinding};
+ghost use Rattle.wq_commands.specs.Judged.{WritesFinding, Says, IsSaid, HasNoFinding};
 
 use crate::ending::end;
 use crate::failure::Failure;
@@ -62,7 +62,7 @@ pub fn check_main<B: BufRead + Drop, W: Write, F: Write>(
     faults: &mut F,
 ) -> u8
     ensures judged { (result ≡ 0) ⊎ (result ≡ 4) → IfSome (B.remaining reader)
-        (λ bytes. Judges is_drained bytes result (W.contents writer.old) (W.contents writer.new)) }
+        (λ bytes. WritesFinding is_drained bytes result (W.contents writer.old) (W.contents writer.new)) }
     ensures failed { result ≢ 0 → result ≢ 4 → (cause : Cause) × (result ≡ status_of cause) × IsUntouched cause writer.old writer.new
         × IfSome (B.remaining reader) (λ bytes. Fails Says HasNoFinding bytes cause) }
     ensures status { (result ≡ 0) ⊎ ((result ≡ 1) ⊎ ((result ≡ 3) ⊎ (result ≡ 4))) }

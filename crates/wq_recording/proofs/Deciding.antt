@@ -1,6 +1,6 @@
 -- What stands behind the line that decides changes nothing.
 use Rattle.wq_recording.proofs.Common.{◌≡◌, ◌≢◌, ℕ, ◌<◌, List, [], ◌∷◌, ◌++◌, length, take, drop, Option, Some, None, Result, Ok, Err, refl, sym, ap, subst, ◌∙◌, arith}
-use Rattle.wq_recording.proofs.Common.{append_assoc, length-append, Stage, Lines, ScriptError, parts, Stop, Rules, Verdict, IsAt, StopsAt, IsRefusedText, HasVerdict, HasFaultAt}
+use Rattle.wq_recording.proofs.Common.{append_assoc, length-append, Stage, Lines, ScriptError, parts, Stop, Rules, Verdict, IsLineAt, StopsAt, IsRefusedText, HasVerdict, HasFaultAt}
 use Rattle.wq_recording.specs.Verdict.{deciding_line}
 use Rattle.std.proofs.lemmas.List.{length-drop, take-append-drop}
 use Rattle.std.proofs.Math.Seq.{take-append_seam}
@@ -12,10 +12,10 @@ same_some e = cc
 record IsAlso {A : Type 0} (gives : Lines A) (other : List ℕ) (n : ℕ) (s : Stage) (asked : List A) (line : List ℕ) : Type 0 where
   next : List ℕ
   more : List (List ℕ)
-  at : IsAt gives other n s asked line (next ∷ more)
+  at : IsLineAt gives other n s asked line (next ∷ more)
 
 module _ {A E : Type 0} (gives : Lines A) (rules : Rules A E) (text other : List ℕ) where
-  also : (n : ℕ) (s : Stage) (asked : List A) (line : List ℕ) (behind : List (List ℕ)) → IsAt gives text n s asked line behind → n < length (parts other)
+  also : (n : ℕ) (s : Stage) (asked : List A) (line : List ℕ) (behind : List (List ℕ)) → IsLineAt gives text n s asked line behind → n < length (parts other)
       → take n (parts other) ≡ take n (parts text) → IsAlso gives other n s asked line
   also n s asked line behind at more same = by_rest (drop n (parts other)) refl
     where
@@ -47,7 +47,7 @@ module _ {A E : Type 0} (gives : Lines A) (rules : Rules A E) (text other : List
   some_more next more e = cc
 
   -- a line has others behind it where the text has more parts
-  has_behind : (n : ℕ) (s : Stage) (asked : List A) (line : List ℕ) (behind : List (List ℕ)) → IsAt gives text n s asked line behind
+  has_behind : (n : ℕ) (s : Stage) (asked : List A) (line : List ℕ) (behind : List (List ℕ)) → IsLineAt gives text n s asked line behind
       → n < length (parts text) → behind ≢ []
   has_behind n s asked line [] at long = absurd (omega (arith, at.number, long, ap length at.split, length-append at.before (line ∷ [])))
   has_behind n s asked line (next ∷ more) at long = some_more next more

@@ -20,7 +20,7 @@ use Rattle.wq_recording.specs.Lines.{EndsWithLf, IsLineRead}
 use Rattle.wq_recording.proofs.LineParts.{parts_line, parts_bare, parts_front, whole_line, bare_line}
 use Rattle.wq_recording.proofs.Reading.{some_part}
 
-followed : (line : List ℕ) (more : List (List ℕ)) → more ≢ [] → begins_as_trace (line ∷ more) ≡ bytes_eq line (codes "trace 1")
+pub followed : (line : List ℕ) (more : List (List ℕ)) → more ≢ [] → begins_as_trace (line ∷ more) ≡ bytes_eq line (codes "trace 1")
 followed line [] some = absurd (some refl)
 followed line (p ∷ ps) some = refl
 

@@ -1,7 +1,7 @@
 -- What was read of a recording, line by line, and what follows of its text.
 use Rattle.wq_recording.proofs.Common.{◌≡◌, ◌≢◌, ℕ, ◌+◌, ◌<◌, ◌≤◌, ◌⊎◌, List, [], ◌∷◌, ◌++◌, length, Option, Some, None, IfSome, Result, Ok, Err}
 use Rattle.wq_recording.proofs.Common.{refl, sym, ap, subst, ◌∙◌, inl, inr, arith, flat_map, option_to_list, append_assoc, append-nil, length-append, Layout, Kind}
-use Rattle.wq_recording.proofs.Common.{ScriptError, Stage, Lines, layout_at, parts, Stop, Rules, IsAt, IsRefusedText}
+use Rattle.wq_recording.proofs.Common.{ScriptError, Stage, Lines, layout_at, parts, Stop, Rules, IsLineAt, IsRefusedText}
 use Rattle.wq_recording.proofs.Common.{HasFaultAt, last_fault, short_line, StopsAmong, HasTold, IsMadeAt, TellsAll}
 use Rattle.std.proofs.Common.{if◌then◌else◌}
 use Rattle.std.proofs.Common.{◌==◌}
@@ -27,7 +27,7 @@ flat_map-append f [] ys = refl
 flat_map-append f (x ∷ xs) ys = ap (λ zs. f x ++ zs) (flat_map-append f xs ys) ∙ sym (append_assoc (f x) (flat_map f xs) (flat_map f ys))
 
 module _ {A : Type 0} (inner : Lines A) where
-  short_is : (s : Stage) (line : List ℕ) → length line ≤ 4096 → short_line inner s line ≡ inner s line
+  pub short_is : (s : Stage) (line : List ℕ) → length line ≤ 4096 → short_line inner s line ≡ inner s line
   short_is s line le = ap (λ b. need kind.Size b >>= λ _. inner s line) (le-leb (length line) 4096 le)
 
   long_is : (s : Stage) (line : List ℕ) → 4096 < length line → short_line inner s line ≡ Err kind.Size
@@ -71,7 +71,7 @@ module _ {A E C : Type 0} (inner : Lines A) (rules : Rules A E) (layout_of : C �
 
   module _ (text rest : List ℕ) (n : ℕ) (s : Stage) (checker : Option C) (line : List ℕ) (left : Option (List ℕ))
       (r : IsReading text rest n s checker line left) where
-    at_part : (part : List ℕ) (more : List (List ℕ)) → parts rest ≡ part ∷ more → IsAt (short_line inner) text n s r.asked part more
+    at_part : (part : List ℕ) (more : List (List ℕ)) → parts rest ≡ part ∷ more → IsLineAt (short_line inner) text n s r.asked part more
     at_part part more cut = record {
       before = r.read.before;
       split = r.read.split ∙ ap (λ ps. r.read.before ++ ps) cut;
@@ -110,7 +110,7 @@ module _ {A E C : Type 0} (inner : Lines A) (rules : Rules A E) (layout_of : C �
       stops next one stop layout c finding given here same goes among legal says =
           let m = among (flat_map rules.tells r.asked) r.told in
           let events = flat_map rules.tells r.asked ++ m.first in
-          let P : ℕ → Type 0 = λ k. IsAt (short_line inner) text k s r.asked t (parts r.behind) in
+          let P : ℕ → Type 0 = λ k. IsLineAt (short_line inner) text k s r.asked t (parts r.behind) in
           let Q : Layout → Type 0 = λ l. rules.IsLegal l events in
           record {
             verdict = verdict_of layout events (Some stop);
@@ -155,7 +155,7 @@ module _ {A E C : Type 0} (inner : Lines A) (rules : Rules A E) (layout_of : C �
       refused_part : (part : List ℕ) (more : List (List ℕ)) (e : ScriptError) → parts rest ≡ part ∷ more → e.line ≡ n
           → HasFaultAt (short_line inner) rules text s part more e.kind → IsRefusedText (short_line inner) rules text e
       refused_part part more e cut here fault =
-          let P : ℕ → Type 0 = λ k. IsAt (short_line inner) text k s r.asked part more in
+          let P : ℕ → Type 0 = λ k. IsLineAt (short_line inner) text k s r.asked part more in
           record {
             reached = s;
             asked = r.asked;

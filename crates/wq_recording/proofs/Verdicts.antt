@@ -1,7 +1,7 @@
 -- A text has one verdict at most.
 use Rattle.wq_recording.proofs.Common.{◌≡◌, ◌≢◌, ℕ, ◌+◌, List, [], ◌∷◌, ◌++◌, length, Option, Some, None, Result, Ok, Err, refl, sym, ap, subst, ◌∙◌, inl, inr}
 use Rattle.wq_recording.proofs.Common.{flat_map, option_to_list, append_assoc, append-nil, Layout, Cause, Kind, ScriptError, Stage, Lines, LinesLead, layout_at, end_fault}
-use Rattle.wq_recording.proofs.Common.{Stop, Rules, Verdict, IsAt, IsLegalText, StopsAt, IsRefusedText, HasVerdict, HasFaultAt}
+use Rattle.wq_recording.proofs.Common.{Stop, Rules, Verdict, IsLineAt, IsLegalText, StopsAt, IsRefusedText, HasVerdict, HasFaultAt}
 use Rattle.wq_recording.proofs.Leading.{one_value, same_lead, LeadsThrough, through, stays_through}
 use Rattle.wq_recording.proofs.Places.{Places, places}
 use Rattle.wq_text.specs.declared.header.Stage.TheVariants as stage
@@ -88,7 +88,7 @@ module _ {A E : Type 0} (gives : Lines A) (rules : Rules A E) (fit : AreFit give
           clash (sym y.given ∙ ap (λ s. gives s x.line) (sym same.0) ∙ fault)
 
   cut : (n m : ℕ) (s t : Stage) (asked others : List A) (line other : List ℕ) (behind rest : List (List ℕ))
-      → (x : IsAt gives text n s asked line behind) (y : IsAt gives text m t others other rest) → Places x.before y.before line other behind rest
+      → (x : IsLineAt gives text n s asked line behind) (y : IsLineAt gives text m t others other rest) → Places x.before y.before line other behind rest
   cut n m s t asked others line other behind rest x y = places x.before y.before line other behind rest (sym x.split ∙ y.split)
 
   led : (s : Stage) (asked : List A) (before lines : List (List ℕ)) → before ≡ lines → LinesLead gives stage.Version before s asked

@@ -5,6 +5,6 @@ use Rattle.wq_recording.specs.declared.lines.Part.TheVariants as part
 use Rattle.wq_recording.specs.Lines.{EndsWithLf}
 
 -- a line with its LF, or what no LF ends
-abbrev pub IsPartOf : List ℕ → Part → Type 0
-IsPartOf line (part.Line text) = line ≡ text.now ++ 10 ∷ []
-IsPartOf line (part.Rest rest) = (rest.now ≡ line) × (¬ EndsWithLf line)
+abbrev pub IsLineOrRest : List ℕ → Part → Type 0
+IsLineOrRest line (part.Line text) = line ≡ text.now ++ 10 ∷ []
+IsLineOrRest line (part.Rest rest) = (rest.now ≡ line) × (¬ EndsWithLf line)

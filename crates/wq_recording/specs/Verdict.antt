@@ -45,7 +45,7 @@ last_fault s (b ∷ bs) = Some (if is_short (b ∷ bs) then kind.Cut else kind.S
 
 -- Line n of a text, counted from 1, is this one, with these parts behind it. No line before it has a fault; they lead to a stage
 -- and ask for these in turn.
-pub record IsAt {A : Type 0} (gives : Lines A) (text : List ℕ) (n : ℕ) (s : Stage) (asked : List A) (line : List ℕ) (behind : List (List ℕ)) : Type 0 where
+pub record IsLineAt {A : Type 0} (gives : Lines A) (text : List ℕ) (n : ℕ) (s : Stage) (asked : List A) (line : List ℕ) (behind : List (List ℕ)) : Type 0 where
   pub before : List (List ℕ)
   pub split : parts text ≡ before ++ line ∷ behind
   pub leads : LinesLead gives stage.Version before s asked
@@ -63,7 +63,7 @@ module _ {A E : Type 0} (gives : Lines A) (rules : Rules A E) (text : List ℕ) 
     pub number : ℕ
     pub reached : Stage
     pub asked : List A
-    pub at : IsAt gives text number reached asked [] []
+    pub at : IsLineAt gives text number reached asked [] []
     pub whole : layout_at reached ≡ Some layout
     pub events_are : events ≡ flat_map rules.tells asked
     pub legal : rules.IsLegal layout events
@@ -74,7 +74,7 @@ module _ {A E : Type 0} (gives : Lines A) (rules : Rules A E) (text : List ℕ) 
     pub asked : List A
     pub line : List ℕ
     pub behind : List (List ℕ)
-    pub at : IsAt gives text stop.line reached asked line behind
+    pub at : IsLineAt gives text stop.line reached asked line behind
     pub ended : behind ≢ []
     pub next : Stage
     pub one : A
@@ -99,7 +99,7 @@ module _ {A E : Type 0} (gives : Lines A) (rules : Rules A E) (text : List ℕ) 
     pub asked : List A
     pub line : List ℕ
     pub behind : List (List ℕ)
-    pub at : IsAt gives text e.line reached asked line behind
+    pub at : IsLineAt gives text e.line reached asked line behind
     pub legal : (layout : Layout) → layout_at reached ≡ Some layout → rules.IsLegal layout (flat_map rules.tells asked)
     pub fault : HasFaultAt reached line behind e.kind
 

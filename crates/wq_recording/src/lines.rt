@@ -3,7 +3,7 @@ ghost use Rattle.std.specs.Prelude.{◌≡◌, ◌≢◌, ◌↔◌, ◌-◌, �
 ghost use Rattle.std.specs.Io.{StartsWith, StopsAt, IsEmptyOrEndsWith, appended_bytes};
 ghost use Rattle.std.specs.Io.KnownBytes.{Consumes};
 ghost use Rattle.wq_recording.specs.Lines.{IsLineRead, EndsOrGoesOn};
-ghost use Rattle.wq_recording.specs.Parts.{IsPartOf};
+ghost use Rattle.wq_recording.specs.Parts.{IsLineOrRest};
 
 use std::io;
 use std::io::{BufRead, ErrorKind};
@@ -90,7 +90,7 @@ pub(crate) enum Part<'a> {
 
 /// What was read.
 pub(crate) fn part_of(line: &[u8]) -> Part<'_>
-    ensures { IsPartOf line.now result }
+    ensures { IsLineOrRest line.now result }
 {
     match line.split_last() {
         Some((b'\n', text)) => Part::Line(text),
