@@ -12,3 +12,6 @@ pub mod Verdicts
 pub mod OneCause
 pub mod Fitting
 pub mod Deciding
+pub mod WrittenWords
+pub mod WrittenEvents
+pub mod WrittenHistories

@@ -4,6 +4,7 @@ use Rattle.std.specs.Fmt.{decimal}
 use Rattle.wq_words.specs.declared.event.Event.{Event}
 use Rattle.wq_words.specs.declared.event.Event.TheVariants as event
 use Rattle.wq_words.specs.declared.layout.Layout.{Layout}
+use Rattle.wq_words.specs.Legal.{IsLegal}
 use Rattle.wq_text.specs.Turn.{Turn}
 use Rattle.wq_meaning.specs.Names.{named}
 use Rattle.wq_meaning.specs.Replies.{why_text}
@@ -40,8 +41,9 @@ event_lines layout h = flat_map (λ (e : Event). line (event_text layout e)) h
 abbrev pub history_text : Layout → List Event → List ℕ
 history_text layout h = header_text layout ++ event_lines layout h
 
--- the text is that of the history that the turns of a schedule make
+-- the text is that of the history that the turns of a schedule make, which is legal
 pub record IsRecordingOf (layout : Layout) (turns : List Turn) (text : List ℕ) : Type 0 where
   pub history : List Event
   pub made : IsScheduleHistory layout turns history
+  pub legal : IsLegal layout history
   pub text_is : text ≡ history_text layout history

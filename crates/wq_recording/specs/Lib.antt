@@ -10,3 +10,4 @@ pub mod HistoryReport
 pub mod TraceReport
 pub mod Checking
 pub mod HistoryText
+pub mod ReadBack

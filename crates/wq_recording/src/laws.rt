@@ -1,6 +1,7 @@
-//! What is said of a recording is one thing.
+//! What is said of a recording is one thing, and a written history reads back as that history.
 ghost use Rattle.wq_recording.specs.History.{history_grammar};
 ghost use Rattle.wq_recording.specs.HistoryReport.{history_rules};
+ghost use Rattle.wq_recording.specs.ReadBack.{TellsItsEvent, TellsItsEvents, IsLegalAsText, IsFoundLegal, IsNeverRefused};
 ghost use Rattle.wq_recording.specs.Trace.{trace_grammar};
 ghost use Rattle.wq_recording.specs.TraceReport.{trace_rules};
 ghost use Rattle.wq_recording.specs.Verdict.{recording_line, HasOneVerdict, IsDecidedByLine};
@@ -12,4 +13,14 @@ pub fn one_verdict()
     ensures trace { HasOneVerdict (recording_line trace_grammar) trace_rules }
     ensures history_decided { IsDecidedByLine (recording_line history_grammar) history_rules }
     ensures trace_decided { IsDecidedByLine (recording_line trace_grammar) trace_rules }
+{}
+
+/// What is written of a history says just that history when it is read as a recording, event by event and as a whole: where its
+/// events are legal, the text is found legal and is never refused. A law, which computes nothing.
+pub fn histories_read_back()
+    ensures event { TellsItsEvent }
+    ensures events { TellsItsEvents }
+    ensures legal { IsLegalAsText }
+    ensures found { IsFoundLegal }
+    ensures accepted { IsNeverRefused }
 {}

@@ -23,5 +23,5 @@ pub use entry::Entry;
 pub use error::CheckError;
 pub use finding::Finding;
 pub use history_text::record_steps;
-pub use laws::one_verdict;
+pub use laws::{histories_read_back, one_verdict};
 pub use stop::Stop;
