@@ -20,16 +20,17 @@ use Rattle.wq_live.specs.declared.sent.Sent.{Sent}
 use Rattle.wq_live.specs.declared.value_owner.ValueOwner.TheInside as owner
 use Rattle.wq_live.specs.declared.value_sender.ValueSender.TheInside as sender
 use Rattle.wq_live.specs.declared.value_pair.ValuePair.TheInside.{Inside}
-use Rattle.wq_live.specs.Known.{Known, Sees}
+use Rattle.wq_live.specs.Known.{Known, IsSame, Sees}
 use Rattle.wq_live.specs.Sits.{owning, owner_view, sending_in, sender_view, Sends}
+use Rattle.wq_live.specs.Hands.{OwnsSeat}
 use Rattle.wq_live.specs.Alone.{OwnsValues, SendsValues}
 use Rattle.wq_live.specs.KnownWith.{KnownWith, Learnt, handed_in}
 use Rattle.wq_live.specs.Valued.{owner_with, sender_with, AreKnown}
-use Rattle.wq_live.specs.Pairs.{pair_owner, pair_sender, AreSeated}
-use Rattle.wq_live.specs.ValuePairs.{owner_of, sender_of, value_pair_view, IsValuePair}
-use Rattle.wq_live.proofs.ValueSeats.{known_is, still_some}
+use Rattle.wq_live.specs.Pairs.{pair_owner, pair_sender, seats_view, AreSeated}
+use Rattle.wq_live.specs.ValuePairs.{KnownValuePair, owner_of, sender_of, value_pair_view, IsValuePair}
+use Rattle.wq_live.proofs.ValueSeats.{known_is, still_some, owner_learnt}
 use Rattle.wq_live.proofs.HandedOver.{met_handed}
-use Rattle.wq_live.proofs.Paired.{sender_acts, joined_more, joins, owner_joins, sender_joins, low_joins}
+use Rattle.wq_live.proofs.Paired.{owner_acts, sender_sees, sender_acts, joined_more, joins, owner_joins, sender_joins, low_joins}
 
 module _ {V : Type 0} (s : OwnerSeat V) (sent : Sent) (pair : AreSeated s sent) where
   one_layout : (part_in 1 s.chair).layout ≡ s.chair.first.part.layout
@@ -41,7 +42,7 @@ module _ {V : Type 0} (s : OwnerSeat V) (sent : Sent) (pair : AreSeated s sent) 
   owner_brought brs are = subst (λ (z : Layout × List Event). AreBrought z.0.items (accepted z.1) brs) (λ i. (one_layout i, pair.one_seen i)) are
 
 module _ {V : Type 0} (s : Inside V) (pair : IsValuePair s) where
-  values_after : (at : ℕ) (t : Inside V) → Learns at s.seat.chair t.seat.chair → AreSeated t.seat t.sent → AreKnown t.seat.chair → IsValuePair t
+  pub values_after : (at : ℕ) (t : Inside V) → Learns at s.seat.chair t.seat.chair → AreSeated t.seat t.sent → AreKnown t.seat.chair → IsValuePair t
   values_after at t l seated known = record {
     seated = seated;
     slots = still_some at s.seat.chair t.seat.chair l pair.slots;
@@ -50,8 +51,17 @@ module _ {V : Type 0} (s : Inside V) (pair : IsValuePair s) where
   }
 
   -- the owner made steps
-  pub values_act : (seat : OwnerSeat V) → AreSeated seat s.sent → Learns 0 s.seat.chair seat.chair → IsValuePair (record { seat = seat; sent = s.sent })
-  values_act seat seated l = values_after 0 (record { seat = seat; sent = s.sent }) l seated (learns_right 0 s.seat.chair seat.chair l refl pair.slots)
+  module _ (t : OwnerSeat V) (owns : OwnsSeat t) (same : IsSame (owner_view (owning s.seat)) (owner_view (owning t))) (l : Learns 0 s.seat.chair t.chair) where
+    pub values_act : IsValuePair (record { seat = t; sent = s.sent })
+    values_act = values_after 0 (record { seat = t; sent = s.sent }) l (owner_acts s.seat t s.sent pair.seated owns same l)
+        (learns_right 0 s.seat.chair t.chair l refl pair.slots)
+
+    module _ (now : KnownValuePair V) (view : value_pair_view s ≡ now) where
+      pub others_see : Sees [] 0 (pair_sender now.known) (pair_sender (seats_view t s.sent))
+      others_see = sender_sees s.seat t s.sent pair.seated owns same l now.known (ap (λ (p : KnownValuePair V). p.known) view)
+
+      pub acts_learnt : Learnt (owner_of now) (owner_with t)
+      acts_learnt = owner_learnt 0 s.seat t l pair.known (owner_of now) (ap owner_of view)
 
   -- the sender queued
   module _ (q : ValueStanding V) (u : Sent) (l : Learns 1 s.seat.chair q) (sends : Sends (sending_in 1 q u)) (layout : u.layout ≡ s.sent.layout)

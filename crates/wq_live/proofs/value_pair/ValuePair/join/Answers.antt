@@ -2,29 +2,29 @@ use Rattle.wq_live.proofs.ValuePaired.{values_join, owner_join_sees, sender_join
 use Rattle.wq_live.proofs.value_pair.ValuePair.join.Goals as goal
 
 pub invariant_of-result : goal.invariant_of-result
-invariant_of-result g c = values_join c.owner.inside c.sender.inside c.join.result c.owner.invariant c.sender.invariant c.args.owner c.args.sender c.owner.view_is
-    c.sender.view_is c.requires.one c.join.ensures.joined
+invariant_of-result g c = let o = c.owner in let s = c.sender in
+    values_join o.inside s.inside c.join.result o.invariant s.invariant c.args.owner c.args.sender o.view_is s.view_is c.requires.one c.join.ensures.joined
 
 pub returns-clause-owner : goal.returns-clause-owner
-returns-clause-owner g c = owner_join_sees c.owner.inside c.sender.inside c.join.result c.owner.invariant c.sender.invariant c.args.owner c.args.sender c.owner.view_is
-    c.sender.view_is c.requires.one c.join.ensures.joined
+returns-clause-owner g c = let o = c.owner in let s = c.sender in
+    owner_join_sees o.inside s.inside c.join.result o.invariant s.invariant c.args.owner c.args.sender o.view_is s.view_is c.requires.one c.join.ensures.joined
 
 pub returns-clause-sender : goal.returns-clause-sender
-returns-clause-sender g c = sender_join_sees c.owner.inside c.sender.inside c.join.result c.owner.invariant c.sender.invariant c.args.owner c.args.sender c.owner.view_is
-    c.sender.view_is c.requires.one c.join.ensures.joined
+returns-clause-sender g c = let o = c.owner in let s = c.sender in
+    sender_join_sees o.inside s.inside c.join.result o.invariant s.invariant c.args.owner c.args.sender o.view_is s.view_is c.requires.one c.join.ensures.joined
 
 pub returns-clause-handed : goal.returns-clause-handed
-returns-clause-handed g c = join_handed c.owner.inside c.sender.inside c.join.result c.owner.invariant c.sender.invariant c.args.owner c.args.sender c.owner.view_is
-    c.sender.view_is c.requires.one c.join.ensures.joined
+returns-clause-handed g c = let o = c.owner in let s = c.sender in
+    join_handed o.inside s.inside c.join.result o.invariant s.invariant c.args.owner c.args.sender o.view_is s.view_is c.requires.one c.join.ensures.joined
 
 pub returns-clause-low : goal.returns-clause-low
-returns-clause-low g c = low_join c.owner.inside c.sender.inside c.join.result c.owner.invariant c.sender.invariant c.args.owner c.args.sender c.owner.view_is
-    c.sender.view_is c.requires.one c.join.ensures.joined
+returns-clause-low g c = let o = c.owner in let s = c.sender in
+    low_join o.inside s.inside c.join.result o.invariant s.invariant c.args.owner c.args.sender o.view_is s.view_is c.requires.one c.join.ensures.joined
 
 pub returns-clause-learnt : goal.returns-clause-learnt
-returns-clause-learnt g c = (
-  owner_join_learnt c.owner.inside c.sender.inside c.join.result c.owner.invariant c.sender.invariant c.args.owner c.args.sender c.owner.view_is
-      c.sender.view_is c.requires.one c.join.ensures.joined,
-  sender_join_learnt c.owner.inside c.sender.inside c.join.result c.owner.invariant c.sender.invariant c.args.owner c.args.sender c.owner.view_is
-      c.sender.view_is c.requires.one c.join.ensures.joined,
+returns-clause-learnt g c = let o = c.owner in let s = c.sender in (
+  owner_join_learnt o.inside s.inside c.join.result o.invariant s.invariant c.args.owner c.args.sender o.view_is s.view_is c.requires.one
+      c.join.ensures.joined,
+  sender_join_learnt o.inside s.inside c.join.result o.invariant s.invariant c.args.owner c.args.sender o.view_is s.view_is c.requires.one
+      c.join.ensures.joined,
 )

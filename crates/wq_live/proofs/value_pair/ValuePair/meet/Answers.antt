@@ -1,5 +1,5 @@
 use Rattle.std.proofs.Common.{refl, ap, sym}
-use Rattle.wq_table.proofs.Learns.{learns_meet}
+use Rattle.wq_table.proofs.Learns.{learns_meet, learns_right}
 use Rattle.wq_live.specs.Sits.{sending_in, owning}
 use Rattle.wq_live.specs.Pairs.{pair_owner}
 use Rattle.wq_live.specs.ValuePairs.{owner_of}
@@ -8,13 +8,14 @@ use Rattle.wq_live.proofs.ValueSeats.{owner_learnt}
 use Rattle.wq_live.proofs.ValueSends.{met_values, met_sees, met_learnt}
 use Rattle.wq_live.proofs.HandedOver.{met_handed}
 use Rattle.wq_live.proofs.Paired.{seats_meet, owner_meets, sender_meets}
-use Rattle.wq_live.proofs.ValuePaired.{values_act}
+use Rattle.wq_live.proofs.ValuePaired.{values_after}
 use Rattle.wq_live.proofs.value_pair.ValuePair.meet.Goals as goal
 
 pub invariant_of-self : goal.invariant_of-self
 invariant_of-self g c = let s = c.self.inside in let that = c.sender.inside.chair in let now = c.meet.new.self in let e = c.meet.ensures.met in
-    values_act s c.self.invariant (record s.seat { chair = now }) (seats_meet s.seat now that c.meet.new.other s.sent c.self.invariant.seated e)
-    (learns_meet s.seat.chair that now c.meet.new.other e)
+    let l = learns_meet s.seat.chair that now c.meet.new.other e in
+    values_after s c.self.invariant 0 (record { seat = record s.seat { chair = now }; sent = s.sent }) l
+    (seats_meet s.seat now that c.meet.new.other s.sent c.self.invariant.seated e) (learns_right 0 s.seat.chair now l refl c.self.invariant.slots)
 
 pub invariant_of-sender : goal.invariant_of-sender
 invariant_of-sender g c = let e = c.meet.ensures.met in

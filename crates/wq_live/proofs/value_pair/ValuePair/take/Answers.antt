@@ -1,24 +1,20 @@
 use Rattle.std.proofs.Common.{[], ◌∷◌, ap, refl}
 use Rattle.wq_words.specs.declared.event.Event.TheVariants as event
 use Rattle.wq_live.specs.ValuePairs.{owner_of}
-use Rattle.wq_live.proofs.ValueSeats.{owner_learnt}
 use Rattle.wq_live.proofs.HandedOver.{owner_stays}
-use Rattle.wq_live.proofs.Paired.{owner_acts, sender_sees}
-use Rattle.wq_live.proofs.ValuePaired.{values_act}
+use Rattle.wq_live.proofs.ValuePaired.{values_act, others_see, acts_learnt}
 use Rattle.wq_live.proofs.value_pair.ValuePair.take.Goals as goal
 
 pub invariant_of-self : goal.invariant_of-self
-invariant_of-self g c = let e = c.take.ensures in let s = c.self.inside in
-    values_act s c.self.invariant c.take.new.self (owner_acts s.seat c.take.new.self s.sent c.self.invariant.seated e.owns e.seen.same e.learns) e.learns
+invariant_of-self g c = let e = c.take.ensures in values_act c.self.inside c.self.invariant c.take.new.self e.owns e.seen.same e.learns
 
 pub returns-clause-others : goal.returns-clause-others
-returns-clause-others g c = let e = c.take.ensures in let s = c.self.inside in
-    sender_sees s.seat c.take.new.self s.sent c.self.invariant.seated e.owns e.seen.same e.learns c.args.self.now.known
-    (ap (λ p. p.known) c.self.view_is)
+returns-clause-others g c = let e = c.take.ensures in
+    others_see c.self.inside c.self.invariant c.take.new.self e.owns e.seen.same e.learns c.args.self.now c.self.view_is
 
 pub returns-clause-learnt : goal.returns-clause-learnt
-returns-clause-learnt g c = owner_learnt 0 c.self.inside.seat c.take.new.self c.take.ensures.learns c.self.invariant.known (owner_of c.args.self.now)
-    (ap owner_of c.self.view_is)
+returns-clause-learnt g c = let e = c.take.ensures in
+    acts_learnt c.self.inside c.self.invariant c.take.new.self e.owns e.seen.same e.learns c.args.self.now c.self.view_is
 
 pub returns-clause-handed : goal.returns-clause-handed
 returns-clause-handed g c = let e = c.take.ensures in let i = c.self.invariant in
