@@ -2,6 +2,11 @@
 use Rattle.wq_text.proofs.Common.{◌≡◌, ℕ, ◌<◌, ◌≤◌, ◌^◌, Bool, true, false, not, ◌&&◌, ◌||◌, List, [], ◌∷◌, length, get_or, Some, None, Result, Ok, Err}
 use Rattle.wq_text.proofs.Common.{nat_lt, nat_le, ◌==◌, refl, sym, ◌∙◌, arith, inl, inr, subst, if◌then◌else◌, ◌⊎◌, all_ascii_digits, ParsesUnsigned}
 use Rattle.wq_text.proofs.Common.{digits_value, result_ok, OkIff, lt-ltb, le-ltb, le-leb, lt-leb, eq-eqb, ne_eqb, eqb-false, spelled_number}
+use Rattle.wq_text.proofs.Common.{map, ap, Option}
+use Rattle.std.specs.Prelude.{IfOk, IfSome}
+use Rattle.std.specs.Iterator.{DrainsIf}
+use Rattle.std.proofs.lemmas.Iterator.{YieldsList, items_from_drains}
+use Rattle.arrayvec.specs.ArrayVec.{ArrayVec}
 use Rattle.std.proofs.lemmas.Str.Parse.{IsNumeralModel, numerals_by_value, tells_all_ascii_digits, parse_plain}
 
 pub own : IsNumeralModel (λ ds. all_ascii_digits ds ≡ true) (digits_value 10)
@@ -64,3 +69,11 @@ parsed {E} w r h lt plus zeros =
     let positive : nat_lt 0 (length w) ≡ true = lt-ltb _ _ lt in
     let third : (nat_le (length w) 1 || not (get_or w 0 0 == 48)) ≡ true = no_zeros w zeros in
     rw (positive, third) (by_digits (all_ascii_digits w) w r refl lt (parse_plain own 64 w r h plus))
+
+-- words that found room, where v reads each
+pub found_room : {S A B E : Type 0} {steps : S → Option A → S → Type 0} (v : A → B) (s : S) (all : List B) (r : Result (ArrayVec A) E)
+    → IfOk r (λ w. (it : S) × (xs : List A) × (it ≡ s) × DrainsIf steps (Unit {0}) it xs × (w.items ≡ xs)) → YieldsList steps v s all
+    → IfSome (result_ok r) (λ w. map v w.items ≡ all)
+found_room {S} {A} {B} {E} {steps} v s all (Ok w) ran road =
+    ap (map v) ran.4 ∙ items_from_drains ran.1 (subst (λ (it : S). DrainsIf steps (Unit {0}) it ran.1) ran.2 ran.3) road
+found_room v s all (Err e) ran road = tt

@@ -10,7 +10,7 @@ ghost use Rattle.wq_text.specs.Sound.{KeepsSound};
 
 use crate::fault::{Kind, LineError};
 use crate::header::{Most, Stage, header_line, is_header};
-use crate::word::words_of;
+use crate::word::{few_words, words_of};
 use std::alloc::Global;
 use wq_words::Layout;
 
@@ -145,6 +145,9 @@ fn plain_line<L: Language>(
     let Some(text) = plain_text(line) else {
         return Err(LineError::Fault(Kind::Bytes));
     };
+    if let Some(words) = few_words(alloc, text) {
+        return words_line::<L>(stage, &words);
+    }
     let words = words_of(alloc, text)?;
     words_line::<L>(stage, &words)
 }
