@@ -35,6 +35,8 @@ built misuse
 timeout 60 "$work/misuse"
 built worker
 timeout 60 "$work/worker"
+built pure
+timeout 60 "$work/pure"
 built memory -Wl,--wrap=malloc,--wrap=realloc,--wrap=free
 timeout 60 "$work/memory"
 
@@ -63,7 +65,7 @@ fi
 if command -v valgrind >/dev/null; then
     built codes
     built threads
-    for program in codes "threads 10"; do
+    for program in codes "threads 10" pure; do
         # shellcheck disable=SC2086 # the words of the program
         timeout 120 valgrind -q --leak-check=full --error-exitcode=9 "$work/"$program >"$work/said"
     done
@@ -73,7 +75,7 @@ else
 fi
 for sanitizer in address,undefined thread; do
     if echo 'int main(void) { return 0; }' | "${CC:-cc}" -x c -fsanitize=$sanitizer -o "$work/tried" - 2>/dev/null && setarch -R "$work/tried" 2>/dev/null; then
-        for program in codes "threads 100" worker; do
+        for program in codes "threads 100" worker pure; do
             built "${program%% *}" -fsanitize=$sanitizer
             # shellcheck disable=SC2086 # the words of the program
             timeout 60 setarch -R "$work/"$program >"$work/said"
@@ -109,8 +111,18 @@ if command -v rustc >/dev/null && rustc --version >/dev/null 2>&1; then
 else
     left_out rustc
 fi
+checks/c_install.sh "$work" "$work/installed"
+# each call that docs/C.md names has a page, which begins with its name
+for call in $(sed -n '/^## The calls/,/^## Ownership/p' docs/C.md | grep -oE '`wq_[a-z_]+\(' | tr -d '`(' | sort -u); do
+    page=$work/installed/share/man/man3/$call.3
+    linked=$(sed -n 's|^\.so man3/||p' "$page")
+    if ! sed -n '/^\.SH NAME/,/^\.SH SYNOPSIS/p' "${page%/*}/${linked:-$call.3}" | grep -qw "$call"; then
+        echo "man: no page begins with $call"
+        exit 1
+    fi
+done
+echo "man: each call has a page"
 if command -v pkg-config >/dev/null; then
-    checks/c_install.sh "$work" "$work/installed"
     export LD_LIBRARY_PATH=$work/installed/lib PKG_CONFIG_PATH=$work/installed/lib/pkgconfig
     read -ra flags < <(pkg-config --cflags --libs yeangvos)
     "${CC:-cc}" -o "$work/logger" examples/c/logger.c "${flags[@]}"

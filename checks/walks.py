@@ -33,11 +33,12 @@ CALLS = [
     ("rest", "SaidRest", (), "Says once that the queue rests."),
     ("chain", "SaidChain", ("item: u32",), "Queues an item from the execution that runs, while the queue is closed or drains."),
     ("is_done", "SaidDone", (), "Whether the queue is closed and has run to its end."),
+    ("count", "SaidCount", ("which: u32",), "One of the seat's counts, which is the whole word."),
 ]
 
 HEAD = """//! The calls of a queue for a caller in C. Each takes the memory of a seat, which is the call's until it returns, and leaves a seat
-//! there. It answers a word: a code in the low 32 bits and, above them, a number where the answer has one.
-//! `checks/walks.py` writes this file.
+//! there. It answers a word: a code in the low 32 bits and, above them, a number where the answer has one. `pure` has the calls
+//! that want no seat. `checks/walks.py` writes this file.
 #![tactic(auto)]
 
 ghost use Rattle.std.specs.Borrow.{full_share, sem};
@@ -47,6 +48,8 @@ ghost use base.Fml.{fex, fsep};
 ghost use Rattle.wq_seats.specs.declared.seat.Seat.{Seat as Sitting};
 ghost use Rattle.wq_seats.specs.declared.seat.Seat.TheVariants.{Vacant};
 ghost use Rattle.wq_seats.specs.contracts.seat.Seat.{the_row as seat_row};
+
+pub mod pure;
 
 use std::alloc::Global;
 use wq_seats::Seat;

@@ -91,6 +91,7 @@ uint64_t wq_c_end(void *at);
 uint64_t wq_c_rest(void *at);
 uint64_t wq_c_chain(void *at, uint32_t item);
 uint64_t wq_c_is_done(void *at);
+uint64_t wq_c_count(void *at, uint32_t which); /* the word is the count */
 
 /* ---- what this header finds out, which is not proved */
 /* ThreadSanitizer does not see the library's atomic steps, so it is told that each call comes after the calls that ended before it
@@ -212,6 +213,26 @@ static inline uint32_t wq_end(wq_seat *owner) { WQ_CALL(owner, WQ_NO_NUMBER, wq_
 static inline uint32_t wq_rest(wq_seat *owner) { WQ_CALL(owner, WQ_NO_NUMBER, wq_c_rest(owner->room)); }
 static inline uint32_t wq_chain(wq_seat *owner, uint32_t item) { WQ_CALL(owner, WQ_NO_NUMBER, wq_c_chain(owner->room, item)); }
 static inline uint32_t wq_is_done(wq_seat *owner) { WQ_CALL(owner, WQ_NO_NUMBER, wq_c_is_done(owner->room)); }
+
+/* ---- counts */
+/* What seats have counted of their own calls; each stops at 2^64 - 1. */
+typedef struct wq_counts {
+    uint64_t queued, pending, closed, draining, contended; /* queueings of senders, by their answers */
+    uint64_t chained, chain_pending, executed;             /* chainings of owners, by their answers, and executions that ended */
+} wq_counts;
+
+static inline uint64_t wq_sum_counts(wq_seat *seat, wq_counts *sums) {
+    uint64_t *const all[] = {&sums->queued, &sums->pending, &sums->closed, &sums->draining, &sums->contended, &sums->chained,
+        &sums->chain_pending, &sums->executed};
+    for (uint32_t which = 0; which < 8; which++) *all[which] += wq_c_count(seat->room, which);
+    return WQ_OK;
+}
+
+/* Adds what the seat has counted since it was taken to these sums: a sender's counts, an owner's, or nothing where it is vacant. */
+static inline uint32_t wq_add_counts(wq_seat *seat, wq_counts *sums) { WQ_CALL(seat, WQ_NO_NUMBER, wq_sum_counts(seat, sums)); }
+
+/* Whether all that was accepted was executed. So it is of the sums over all seats of a queue that has run to its end. */
+static inline int wq_balances(const wq_counts *sums) { return sums->queued + sums->chained == sums->executed; }
 
 #ifdef __cplusplus
 }

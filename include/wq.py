@@ -9,12 +9,13 @@
     owner.end()
 
 A call that is refused raises WqError with its code, and has changed nothing. A Seat owns its memory and lets one call at a time into
-it; it is given up by `release`. The library is the file that YEANGVOS_LIBRARY names, or libyeangvos.so where the loader finds it.
+it; it is given up by `release`. `check_history` judges a history. The library is the file that YEANGVOS_LIBRARY names, or libyeangvos.so where the loader finds it.
 """
 import ctypes
 import enum
 import os
 import threading
+import typing
 
 MOST_TRIES = 0xFFFFFFFF
 ALIGNMENT = 128  # seats of several threads share no cache line
@@ -37,6 +38,38 @@ class Error(enum.IntEnum):
      NONE_RUNS, IN_USE, NO_SENDER, NOT_DONE, MEMORY, ITEMS, BARRIERS, SENDERS) = range(64, 84)
 
 
+class Kind(enum.IntEnum):
+    """The kinds of events."""
+    (HOLD, BUSY, PUSH, BACK_CLOSED, BACK_CONTENDED, BACK_CANCELLED, BACK_DRAINING, TAKE, CLOSE, DRAIN, RESUME, BEGIN, END, CHAIN, CHAIN_BUSY,
+     REST) = range(1, 17)
+
+
+class Fault(enum.IntEnum):
+    """Why an event may not come."""
+    (NO_EVENT, NO_SENDER, NO_NUMBER, PENDING, IDLE, NOT_HELD, CLOSED, DRAINING, NOT_DRAINING, NEVER_DRAINED, OPEN, RUNS, NOTHING_RUNS,
+     NOT_WAITING, NEXT, NOT_ENDED) = range(96, 112)
+
+
+class Counts(typing.NamedTuple):
+    """What seats have counted of their own calls; those of several are added by `+`."""
+    queued: int = 0
+    pending: int = 0
+    closed: int = 0
+    draining: int = 0
+    contended: int = 0
+    chained: int = 0
+    chain_pending: int = 0
+    executed: int = 0
+
+    def __add__(self, other):
+        return Counts(*map(sum, zip(self, other)))
+
+    @property
+    def balances(self):
+        """Whether all that was accepted was executed, of the sums over all seats of a queue that has run to its end."""
+        return self.queued + self.chained == self.executed
+
+
 class WqError(Exception):
     def __init__(self, code):
         self.code = Error(code)
@@ -46,8 +79,23 @@ class WqError(Exception):
 _library = ctypes.CDLL(os.environ.get("YEANGVOS_LIBRARY", "libyeangvos.so"))
 _library.wq_c_seat_size.restype = ctypes.c_size_t
 for _name in ("build hand_out release queue is_pending flush_begin flush_done request_stop number take close drain resume next waiting begin "
-              "end rest chain is_done").split():
+              "end rest chain is_done count").split():
     getattr(_library, "wq_c_" + _name).restype = ctypes.c_uint64
+
+
+_library.wq_c_check_history.restype = ctypes.c_uint32
+
+
+def check_history(events, items, barriers, senders):
+    """None where the events, each a Kind, a sender and a number, are a legal history of a queue of this size; else the place of the first
+    that may not come, and its Fault. What an event does not have is 0."""
+    place = ctypes.c_size_t(0)
+    numbers = [number for event in events for number in event]
+    rows = (ctypes.c_uint32 * max(len(numbers), 1))(*numbers)
+    code = _library.wq_c_check_history(rows, ctypes.c_size_t(len(numbers) // 3), *map(ctypes.c_uint32, (items, barriers, senders)), ctypes.byref(place))
+    if 0 < code < Fault.NO_EVENT:
+        raise WqError(code)
+    return (place.value, Fault(code)) if code else None
 
 
 class Seat:
@@ -143,3 +191,8 @@ class Seat:
 
     def is_done(self):
         return self._call("is_done")[0] == Code.YES
+
+    def counts(self):
+        """What it has counted since it was taken: a sender's counts, or an owner's. All else is 0."""
+        with self._lock:
+            return Counts(*(_library.wq_c_count(self._at, ctypes.c_uint32(which)) for which in range(len(Counts._fields))))

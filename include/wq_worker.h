@@ -2,8 +2,8 @@
  * Linux alone (futex) and POSIX threads; link with -pthread.
  *
  * Build a queue and hand out its senders first, then start a worker on the owner's seat, which is the worker's until
- * wq_worker_stop has returned. A sender's thread calls wq_worker_queue and wq_worker_flush. One thread at a time calls
- * wq_worker_drain, wq_worker_resume and wq_worker_stop.
+ * wq_worker_finish or wq_worker_stop has returned. A sender's thread calls wq_worker_queue and wq_worker_flush. One thread at a time
+ * calls wq_worker_drain, wq_worker_resume, wq_worker_finish and wq_worker_stop.
  */
 #ifndef WQ_WORKER_H
 #define WQ_WORKER_H
@@ -123,10 +123,14 @@ static inline void wq_worker_resume(wq_worker *worker) {
     wq_sleep(&worker->reached, WQ_DRAINED);
 }
 
-/* Closes the queue, executes all that was accepted, ends the thread, and gives the owner's seat up. */
-static inline uint32_t wq_worker_stop(wq_worker *worker) {
+/* Closes the queue, executes all that was accepted, and ends the thread. The owner's seat is the caller's again, to count and release. */
+static inline void wq_worker_finish(wq_worker *worker) {
     wq_worker_ask(worker, WQ_STOPPED);
     pthread_join(worker->thread, NULL);
+}
+/* The same, and gives the owner's seat up. */
+static inline uint32_t wq_worker_stop(wq_worker *worker) {
+    wq_worker_finish(worker);
     return wq_release(worker->owner);
 }
 

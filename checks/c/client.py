@@ -1,6 +1,6 @@
 """wq.py: four threads queue, each one's items run in its order; and each error is raised by its name."""
 import threading
-from wq import Code, Error, Seat, WqError
+from wq import Code, Counts, Error, Fault, Kind, Seat, WqError, check_history
 
 THREADS, OWN = 4, 64
 
@@ -50,6 +50,12 @@ for number in range(THREADS):
 assert owner.drain() == 0 and senders[0].queue(0) == Code.DRAINING
 owner.resume()
 assert not senders[0].is_pending(0) and owner.close() == 0 and owner.is_done() and senders[0].queue(0) == Code.CLOSED
+sums = sum((seat.counts() for seat in [*senders, owner]), Counts())
+assert sums.balances and sums.executed == len(ran) and sums.draining == 1 and sums.closed == 1 and Seat().counts() == Counts()
 for seat in [*senders, owner]:
     seat.release()
+once = [(Kind.HOLD, 0, 2), (Kind.PUSH, 0, 2), (Kind.TAKE, 0, 0), (Kind.BEGIN, 0, 2)]
+assert check_history([], 1, 1, 1) is None and check_history(once, 4, 1, 1) is None
+assert check_history([*once, (Kind.BEGIN, 0, 2)], 4, 1, 1) == (4, Fault.RUNS) and check_history(once, 2, 1, 1) is None
+assert check_history([(Kind.HOLD, 1, 2)], 4, 1, 1) == (0, Fault.NO_SENDER) and refused(check_history, once, 4, 0, 1) == Error.BARRIERS
 print(f"python: {len(ran)} items ran, each sender's in its order")

@@ -69,6 +69,19 @@ static void draining(void) {
     CHECK(wq_begin(&owner, &n) == WQ_OK && n == 2 && wq_end(&owner) == WQ_OK);
 }
 
+/* What the seats of the queue have counted by then, each alone and all together. */
+static void counting(void) {
+    wq_counts sent = {0}, ran = {0}, sums = {0};
+    CHECK(wq_add_counts(&one, &sent) == WQ_OK && wq_add_counts(&owner, &ran) == WQ_OK);
+    CHECK(sent.queued == 6 && sent.pending == 1 && sent.closed == 2 && sent.draining == 1 && sent.contended == 0);
+    CHECK(sent.chained == 0 && sent.chain_pending == 0 && sent.executed == 0 && !wq_balances(&sent));
+    CHECK(ran.chained == 2 && ran.chain_pending == 1 && ran.executed == 8 && ran.queued == 0 && ran.pending == 0 && !wq_balances(&ran));
+    CHECK(wq_add_counts(&two, &sums) == WQ_OK && sums.queued == 0 && sums.executed == 0 && wq_balances(&sums));
+    CHECK(wq_add_counts(&one, &sums) == WQ_OK && wq_add_counts(&owner, &sums) == WQ_OK && wq_balances(&sums));
+    CHECK(sums.queued == 6 && sums.chained == 2 && sums.executed == 8 && sums.pending == 1 && sums.closed == 2 && sums.draining == 1);
+    CHECK(wq_c_count(one.room, 8) == 0 && wq_c_count(one.room, UINT32_MAX) == 0 && wq_c_count(owner.room, 8) == 0);
+}
+
 static void closing(void) {
     uint32_t n = 77;
     CHECK(wq_request_stop(&one) == (WQ_QUEUED | WQ_FIRST));
@@ -78,6 +91,7 @@ static void closing(void) {
     CHECK(wq_begin(&owner, &n) == WQ_OK && n == 5 && wq_chain(&owner, 3) == WQ_QUEUED);
     CHECK(wq_end(&owner) == WQ_OK && wq_is_done(&owner) == WQ_NO && wq_release(&owner) == WQ_NOT_DONE);
     CHECK(wq_begin(&owner, &n) == WQ_OK && n == 3 && wq_end(&owner) == WQ_OK && wq_is_done(&owner) == WQ_YES);
+    counting();
     CHECK(wq_release(&owner) == WQ_OK && wq_release(&owner) == WQ_OK && wq_take(&owner, &n) == WQ_NOT_OWNER);
     CHECK(wq_queue(&one, 1) == WQ_CLOSED && wq_release(&one) == WQ_OK && wq_queue(&one, 1) == WQ_NOT_SENDER);
     CHECK(wq_build(&one, 1, 1, 1) == WQ_OK && wq_close(&one, &n) == WQ_OK && n == 0 && wq_release(&one) == WQ_OK);

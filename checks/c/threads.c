@@ -1,5 +1,5 @@
 /* threads ROUNDS: four POSIX threads queue 64 items each, so many times. Each sender's items run in its order, plain memory is handed
- * over, and the owner sleeps and is woken on WQ_WAKES alone. */
+ * over, the owner sleeps and is woken on WQ_WAKES alone, and at the end all that the senders counted is what the owner executed. */
 #include "check.h"
 #include "wq.h"
 #include <pthread.h>
@@ -87,6 +87,10 @@ int main(int argc, char **argv) {
     }
     CHECK(woke == sleeps || woke == sleeps + 1);
     CHECK(wq_close(&owner, &n) == WQ_OK && n == 0 && wq_is_done(&owner) == WQ_YES);
+    wq_counts sums = {0};
+    CHECK(wq_add_counts(&owner, &sums) == WQ_OK && sums.executed == all);
+    for (int i = 0; i < SENDERS; i++) CHECK(!wq_balances(&sums) && wq_add_counts(&posts[i].seat, &sums) == WQ_OK);
+    CHECK(wq_balances(&sums));
     for (int i = 0; i < SENDERS; i++) CHECK(wq_queue(&posts[i].seat, 0) == WQ_CLOSED && wq_release(&posts[i].seat) == WQ_OK);
     CHECK(wq_release(&owner) == WQ_OK);
     printf("threads: %llu items ran, each sender's in its order\n", (unsigned long long)all);

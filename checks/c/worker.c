@@ -50,7 +50,11 @@ int main(void) {
     for (int t = 0; t < THREADS; t++) CHECK(pthread_join(threads[t], NULL) == 0);
     CHECK(wq_is_queued(wq_worker_queue(&worker, &senders[0], 0)));
     queued[0]++;
-    CHECK(wq_worker_stop(&worker) == WQ_OK);
+    wq_worker_finish(&worker);
+    wq_counts sums = {0};
+    CHECK(wq_is_done(&owner) == WQ_YES && wq_add_counts(&owner, &sums) == WQ_OK && wq_release(&owner) == WQ_OK);
+    for (int t = 0; t < THREADS; t++) CHECK(wq_add_counts(&senders[t], &sums) == WQ_OK);
+    CHECK(wq_balances(&sums) && sums.executed >= THREADS * OWN * ROUNDS);
     for (int item = 0; item < THREADS * OWN; item++) CHECK(ran[item] == queued[item]);
     CHECK(wq_queue(&senders[0], 0) == WQ_CLOSED);
     for (int t = 0; t < THREADS; t++) CHECK(wq_release(&senders[t]) == WQ_OK);

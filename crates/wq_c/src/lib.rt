@@ -1,6 +1,6 @@
 //! The calls of a queue for a caller in C. Each takes the memory of a seat, which is the call's until it returns, and leaves a seat
-//! there. It answers a word: a code in the low 32 bits and, above them, a number where the answer has one.
-//! `checks/walks.py` writes this file.
+//! there. It answers a word: a code in the low 32 bits and, above them, a number where the answer has one. `pure` has the calls
+//! that want no seat. `checks/walks.py` writes this file.
 #![tactic(auto)]
 
 ghost use Rattle.std.specs.Borrow.{full_share, sem};
@@ -8,10 +8,12 @@ ghost use Rattle.std.specs.Ptr.{lies_at, room_at};
 ghost use base.Fml.{fex, fsep};
 ghost use Rattle.wq_seats.specs.Words.{SaidHandOut, SaidBuild, SaidRelease, SaidQueue, SaidCheck, SaidFlush, SaidCheckFlush};
 ghost use Rattle.wq_seats.specs.Words.{SaidStop, SaidNumber, SaidTake, SaidClose, SaidDrain, SaidResume, SaidNext};
-ghost use Rattle.wq_seats.specs.Words.{SaidWaiting, SaidBegin, SaidEnd, SaidRest, SaidChain, SaidDone};
+ghost use Rattle.wq_seats.specs.Words.{SaidWaiting, SaidBegin, SaidEnd, SaidRest, SaidChain, SaidDone, SaidCount};
 ghost use Rattle.wq_seats.specs.declared.seat.Seat.{Seat as Sitting};
 ghost use Rattle.wq_seats.specs.declared.seat.Seat.TheVariants.{Vacant};
 ghost use Rattle.wq_seats.specs.contracts.seat.Seat.{the_row as seat_row};
+
+pub mod pure;
 
 use std::alloc::Global;
 use wq_seats::Seat;
@@ -243,4 +245,14 @@ pub unsafe extern "C" fn wq_c_is_done(at: *mut u8) -> u64
     ensures* { sem 𝓛 (fex Sitting (λ new. fex (SaidDone result old new) (λ _. lies_at seat_row full_share at new))) }
 {
     wq_seats::word::is_done_word(&mut *(at as *mut Seat))
+}
+
+/// One of the seat's counts, which is the whole word.
+#[unsafe(no_mangle)]
+pub unsafe extern "C" fn wq_c_count(at: *mut u8, which: u32) -> u64
+    ghost old: { Sitting }
+    requires* { sem 𝓛 (lies_at seat_row full_share at old) }
+    ensures* { sem 𝓛 (fex Sitting (λ new. fex (SaidCount which result old new) (λ _. lies_at seat_row full_share at new))) }
+{
+    wq_seats::word::count_word(&mut *(at as *mut Seat), which)
 }

@@ -3,3 +3,4 @@ pub mod Made
 pub mod Sent
 pub mod Owned
 pub mod Words
+pub mod Sums

@@ -1,8 +1,8 @@
 -- How seats are taken and given up.
-use Rattle.std.specs.Prelude.{◌≡◌, ◌≢◌, ℕ, List, [], ◌∷◌, ◌++◌, Result, Ok, Err}
+use Rattle.std.specs.Prelude.{◌≡◌, ℕ, [], ◌∷◌, ◌++◌, Result, Ok, Err}
 use Rattle.wq_words.specs.Limits.{AreInLimits, IsFirstOutOfLimits}
 use Rattle.wq_words.specs.Legal.{IsComplete}
-use Rattle.wq_live.specs.Known.{Known, new_owner, new_senders}
+use Rattle.wq_live.specs.Known.{new_owner, new_senders}
 use Rattle.wq_seats.specs.declared.error.SeatError.{SeatError}
 use Rattle.wq_seats.specs.declared.error.SeatError.TheVariants as error
 use Rattle.wq_seats.specs.declared.seat.Seat.{Seat}

@@ -9,6 +9,8 @@ use Rattle.wq_live.specs.Known.{Known, IsSame, Sees}
 use Rattle.wq_live.specs.Answers.{Chains}
 use Rattle.wq_live.specs.Batch.{batch, next_of, TakesAll}
 use Rattle.wq_live.specs.Rest.{Rests, HasRested, MayNotRest}
+use Rattle.wq_live.specs.declared.counts.OwnerCounts.{OwnerCounts}
+use Rattle.wq_live.specs.Counts.{owner_counts}
 use Rattle.wq_seats.specs.declared.error.SeatError.{SeatError}
 use Rattle.wq_seats.specs.declared.error.SeatError.TheVariants as error
 use Rattle.wq_seats.specs.declared.seat.Seat.{Seat}
@@ -95,6 +97,11 @@ abbrev pub TellsDone : Result Bool SeatError → Known → Type 0
 TellsDone (Ok is_done) now = IsTrue is_done ↔ IsComplete now.seen
 TellsDone (Err _) now = ⊥
 
+-- what it has counted of its own events
+abbrev pub TellsExecuted : Result OwnerCounts SeatError → Known → Type 0
+TellsExecuted (Ok counts) now = counts ≡ owner_counts now.seen
+TellsExecuted (Err _) now = ⊥
+
 abbrev pub DidTake : Result ℕ SeatError → Seat → Seat → Type 0
 DidTake = ByOwner TakesList
 
@@ -127,3 +134,6 @@ DidChain item = ByOwner (ChainsItem item)
 
 abbrev pub DidTellDone : Result Bool SeatError → Seat → Type 0
 DidTellDone = OfOwner TellsDone
+
+abbrev pub DidTellExecuted : Result OwnerCounts SeatError → Seat → Type 0
+DidTellExecuted = OfOwner TellsExecuted

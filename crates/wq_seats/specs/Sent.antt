@@ -1,11 +1,13 @@
 -- What a sender's calls did, by their answers. Where one was refused, the sender is as it was.
-use Rattle.std.specs.Prelude.{◌≡◌, ℕ, ◌<◌, ◌≤◌, Bool, true, not, [], Result, Ok, Err, IsTrue}
+use Rattle.std.specs.Prelude.{◌≡◌, ℕ, ◌<◌, ◌≤◌, Bool, not, [], Result, Ok, Err, IsTrue}
 use Rattle.wq_words.specs.History.{pending}
 use Rattle.wq_words.specs.Numbers.{barrier_number, stop_number}
 use Rattle.wq_words.specs.declared.answer.Answer.{Answer}
 use Rattle.wq_words.specs.declared.answer.Answer.TheVariants.{Contended}
 use Rattle.wq_live.specs.Known.{Known, IsSame, Sees}
 use Rattle.wq_live.specs.Answers.{Answers, IsContended, HasFlushed}
+use Rattle.wq_live.specs.declared.counts.SenderCounts.{SenderCounts}
+use Rattle.wq_live.specs.Counts.{sender_counts}
 use Rattle.wq_seats.specs.declared.error.SeatError.{SeatError}
 use Rattle.wq_seats.specs.declared.error.SeatError.TheVariants as error
 use Rattle.wq_seats.specs.declared.seat.Seat.{Seat}
@@ -53,6 +55,11 @@ abbrev pub TellsNumber : Result ℕ SeatError → Known → Type 0
 TellsNumber (Ok number) now = number ≡ now.number
 TellsNumber (Err _) now = ⊥
 
+-- what it has counted of its own events
+abbrev pub TellsSent : Result SenderCounts SeatError → Known → Type 0
+TellsSent (Ok counts) now = counts ≡ sender_counts now.number now.seen
+TellsSent (Err _) now = ⊥
+
 abbrev pub DidQueue : ℕ → ℕ → Result Answer SeatError → Seat → Seat → Type 0
 DidQueue item tries = BySender (QueuesItem item tries)
 
@@ -70,3 +77,6 @@ DidCheckFlush barrier = BySender (ChecksBarrier barrier)
 
 abbrev pub DidTellNumber : Result ℕ SeatError → Seat → Type 0
 DidTellNumber = OfSender TellsNumber
+
+abbrev pub DidTellSent : Result SenderCounts SeatError → Seat → Type 0
+DidTellSent = OfSender TellsSent

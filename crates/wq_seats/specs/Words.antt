@@ -1,11 +1,15 @@
 -- The answers of a seat's calls as numbers. A word has a code in its low 32 bits and, above them, a number where the answer has one.
-use Rattle.std.specs.Prelude.{◌≡◌, ℕ, ◌*◌, Bool, true, false, Result, Ok, Err}
+use Rattle.std.specs.Prelude.{◌≡◌, ℕ, ◌*◌, Bool, true, false, Result, Ok, Err, List, [], ◌∷◌, get_or}
 use Rattle.wq_words.specs.declared.answer.Answer.{Answer}
 use Rattle.wq_words.specs.declared.answer.Answer.TheVariants as answer
 use Rattle.wq_words.specs.declared.layout.LayoutError.TheVariants as layout
+use Rattle.wq_live.specs.declared.counts.SenderCounts.{SenderCounts}
+use Rattle.wq_live.specs.declared.counts.OwnerCounts.{OwnerCounts}
+use Rattle.wq_live.specs.Counts.{sender_counts, owner_counts}
 use Rattle.wq_seats.specs.declared.error.SeatError.{SeatError}
 use Rattle.wq_seats.specs.declared.error.SeatError.TheVariants as error
 use Rattle.wq_seats.specs.declared.seat.Seat.{Seat}
+use Rattle.wq_seats.specs.declared.seat.Seat.TheVariants as seat
 use Rattle.wq_seats.specs.Made.{DidBuild, DidHandOut, DidRelease}
 use Rattle.wq_seats.specs.Sent.{DidQueue, DidFlush, DidStop, DidCheck, DidCheckFlush, DidTellNumber}
 use Rattle.wq_seats.specs.Owned.{DidTake, DidClose, DidDrain, DidResume, DidTellNext, DidTellWaiting, DidBegin, DidEnd, DidRest, DidChain, DidTellDone}
@@ -122,3 +126,20 @@ SaidChain item word old new = SaidAs answer_code (λ said. DidChain item said ol
 
 abbrev pub SaidDone : ℕ → Seat → Seat → Type 0
 SaidDone word old new = SaidAs truth_code (λ said. DidTellDone said old × (new ≡ old)) word
+
+-- the counts of a sender, and those of an owner, which stand behind them
+abbrev pub counts_of_sender : SenderCounts → List ℕ
+counts_of_sender c = c.queued ∷ c.pending ∷ c.closed ∷ c.draining ∷ c.contended ∷ []
+
+abbrev pub counts_of_owner : OwnerCounts → List ℕ
+counts_of_owner c = 0 ∷ 0 ∷ 0 ∷ 0 ∷ 0 ∷ c.chained ∷ c.chain_busy ∷ c.ended ∷ []
+
+-- what a seat has counted of its own events
+abbrev pub counts_in : Seat → List ℕ
+counts_in seat.Vacant = []
+counts_in (seat.Sender it) = counts_of_sender (sender_counts it.number it.seen)
+counts_in (seat.Owner it left) = counts_of_owner (owner_counts it.seen)
+
+-- the count at this place, or 0 where it has none, and the seat is as it was
+abbrev pub SaidCount : ℕ → ℕ → Seat → Seat → Type 0
+SaidCount which word old new = (word ≡ get_or (counts_in old) which 0) × (new ≡ old)

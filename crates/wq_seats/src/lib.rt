@@ -4,6 +4,7 @@
 
 mod code;
 pub mod error;
+pub mod laws;
 pub mod making;
 pub mod owning;
 pub mod seat;
@@ -11,4 +12,5 @@ pub mod sending;
 pub mod word;
 
 pub use error::SeatError;
+pub use laws::counts_balance;
 pub use seat::{Seat, vacant};

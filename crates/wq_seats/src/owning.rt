@@ -7,11 +7,11 @@ ghost use Rattle.wq_live.specs.Batch.{batch};
 ghost use Rattle.wq_live.specs.Known.{IsSame, Sees};
 ghost use Rattle.wq_seats.specs.Owned.{HasTaken, TakesList, ClosesQueue, DrainsQueue, ResumesQueue, TellsNext, BeginsNext, EndsRunning};
 ghost use Rattle.wq_seats.specs.Owned.{HasTriedToRest, RestsQueue, ChainsItem, DidTake, DidClose, DidDrain, DidResume, DidTellNext};
-ghost use Rattle.wq_seats.specs.Owned.{DidTellWaiting, DidBegin, DidEnd, DidRest, DidChain, DidTellDone};
+ghost use Rattle.wq_seats.specs.Owned.{DidTellWaiting, DidBegin, DidEnd, DidRest, DidChain, DidTellDone, DidTellExecuted};
 
 use crate::error::SeatError;
 use crate::seat::Seat;
-use wq_live::{Answer, Owner};
+use wq_live::{Answer, Owner, OwnerCounts};
 
 fn take_now(owner: &mut Owner) -> u32
     requires open { ¬ IsShut owner.old.seen }
@@ -345,6 +345,19 @@ pub fn is_done(seat: &Seat) -> Result<bool, SeatError>
 {
     match seat {
         Seat::Owner(owner, _) => Ok(owner.done().is_some()),
+        Seat::Vacant | Seat::Sender(_) => Err(SeatError::NotOwner),
+    }
+}
+
+/// What the owner has counted: its executions, and what it chained to them.
+///
+/// # Errors
+/// `NotOwner`.
+pub fn owner_counts(seat: &Seat) -> Result<OwnerCounts, SeatError>
+    ensures did { DidTellExecuted result seat.now }
+{
+    match seat {
+        Seat::Owner(owner, _) => Ok(owner.counts()),
         Seat::Vacant | Seat::Sender(_) => Err(SeatError::NotOwner),
     }
 }

@@ -2,11 +2,11 @@
 ghost use Rattle.std.specs.Prelude.{◌<◌};
 ghost use Rattle.wq_words.specs.Numbers.{barrier_number, stop_number};
 ghost use Rattle.wq_seats.specs.Sent.{HasAnswered, QueuesItem, QueuesBarrier, QueuesStop, ChecksItem, ChecksBarrier, DidQueue, DidFlush};
-ghost use Rattle.wq_seats.specs.Sent.{DidStop, DidCheck, DidCheckFlush, DidTellNumber};
+ghost use Rattle.wq_seats.specs.Sent.{DidStop, DidCheck, DidCheckFlush, DidTellNumber, DidTellSent};
 
 use crate::error::SeatError;
 use crate::seat::Seat;
-use wq_live::{Answer, Sender};
+use wq_live::{Answer, Sender, SenderCounts};
 
 fn answer_item(sender: &mut Sender, item: u32, tries: u32) -> Answer
     requires item { item < sender.old.layout.items }
@@ -156,6 +156,19 @@ pub fn number(seat: &Seat) -> Result<u32, SeatError>
 {
     match seat {
         Seat::Sender(sender) => Ok(sender.number()),
+        Seat::Vacant | Seat::Owner(_, _) => Err(SeatError::NotSender),
+    }
+}
+
+/// What the sender has counted: its queueings by their answers.
+///
+/// # Errors
+/// `NotSender`.
+pub fn sender_counts(seat: &Seat) -> Result<SenderCounts, SeatError>
+    ensures did { DidTellSent result seat.now }
+{
+    match seat {
+        Seat::Sender(sender) => Ok(sender.counts()),
         Seat::Vacant | Seat::Owner(_, _) => Err(SeatError::NotSender),
     }
 }

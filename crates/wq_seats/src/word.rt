@@ -1,13 +1,15 @@
 //! The calls of a seat with their answers as words, for a caller in another language. A word has a code in its low 32 bits and,
-//! above them, a number where the answer has one.
+//! above them, a number where the answer has one; that of a count is the count.
 ghost use Rattle.wq_seats.specs.Words.{SaidBuild, SaidHandOut, SaidRelease, SaidQueue, SaidCheck, SaidFlush, SaidCheckFlush, SaidStop};
 ghost use Rattle.wq_seats.specs.Words.{SaidNumber, SaidTake, SaidClose, SaidDrain, SaidResume, SaidNext, SaidWaiting, SaidBegin, SaidEnd};
-ghost use Rattle.wq_seats.specs.Words.{SaidRest, SaidChain, SaidDone};
+ghost use Rattle.std.specs.Prelude.{◌≡◌, get_or};
+ghost use Rattle.wq_seats.specs.Words.{SaidRest, SaidChain, SaidDone, counts_of_sender, counts_of_owner, SaidCount};
 
 use crate::code::{answer_code, success_code, truth_code, word_of_number};
 use crate::seat::Seat;
 use crate::{making, owning, sending};
 use std::alloc::Global;
+use wq_live::{OwnerCounts, SenderCounts};
 
 /// `making::build`.
 pub fn build_word(seat: &mut Seat, alloc: Global, items: u32, barriers: u32, senders: u32) -> u64
@@ -167,4 +169,42 @@ pub fn is_done_word(seat: &mut Seat) -> u64
 {
     let said = owning::is_done(seat);
     truth_code(said)
+}
+
+fn sender_count(counts: SenderCounts, which: u32) -> u64
+    ensures { result ≡ get_or (counts_of_sender counts) which 0 }
+{
+    match which {
+        0 => counts.queued,
+        1 => counts.pending,
+        2 => counts.closed,
+        3 => counts.draining,
+        4 => counts.contended,
+        _ => 0,
+    }
+}
+
+fn owner_count(counts: OwnerCounts, which: u32) -> u64
+    ensures { result ≡ get_or (counts_of_owner counts) which 0 }
+{
+    match which {
+        5 => counts.chained,
+        6 => counts.chain_busy,
+        7 => counts.ended,
+        _ => 0,
+    }
+}
+
+/// One of the counts of `sending::sender_counts` and `owning::owner_counts`: 0 to 4 those of a sender, 5 to 7 those of an owner, each
+/// in the order of its struct. A seat has counted nothing that is another's.
+pub fn count_word(seat: &mut Seat, which: u32) -> u64
+    ensures said { SaidCount which result seat.old seat.new }
+{
+    if let Ok(counts) = sending::sender_counts(seat) {
+        return sender_count(counts, which);
+    }
+    if let Ok(counts) = owning::owner_counts(seat) {
+        return owner_count(counts, which);
+    }
+    0
 }

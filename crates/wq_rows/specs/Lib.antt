@@ -1,0 +1,3 @@
+pub mod Rows
+pub mod Found
+pub mod Codes
