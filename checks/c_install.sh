@@ -5,11 +5,17 @@ folder=$(realpath "${1:?usage: checks/c_install.sh FOLDER PREFIX [DESTDIR]}")
 prefix=${2:?usage: checks/c_install.sh FOLDER PREFIX [DESTDIR]}
 to=${3:-}$prefix
 cd "$(dirname "${BASH_SOURCE[0]}")/.."
-install -D -m 644 -t "$to/include" include/wq.h include/wq_worker.h
+install -D -m 644 -t "$to/include" include/wq.h include/wq_worker.h include/wq_pure.h
 install -D -m 644 -t "$to/lib" "$folder/libyeangvos.a"
 install -D -m 755 -t "$to/lib" "$folder/libyeangvos.so"
 install -D -m 644 -t "$to/share/yeangvos/python" include/wq.py
-install -D -m 644 -t "$to/share/man/man3" man/wq_queue.3
+install -D -m 644 -t "$to/share/man/man3" man/*.3
+# each other name that a page begins with is a link to it
+for page in man/*.3; do
+    for name in $(sed -n '/^\.SH NAME/,/^\.SH SYNOPSIS/p' "$page" | sed 's/\\-.*//' | grep -oE 'wq_[a-z_]+'); do
+        [ "man/$name.3" = "$page" ] || echo ".so man3/${page#man/}" >"$to/share/man/man3/$name.3"
+    done
+done
 install -D -m 644 -t "$to/share/doc/yeangvos" docs/C.md
 mkdir -p "$to/lib/pkgconfig"
 cat >"$to/lib/pkgconfig/yeangvos.pc" <<TEXT
