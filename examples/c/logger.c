@@ -46,7 +46,13 @@ int main(void) {
     wq_worker_resume(&worker);
     for (int line = LINES / 2; line < LINES; line++) write_line(0, line);
 
-    if (wq_worker_stop(&worker)) return 1; /* prints what is left */
-    for (int t = 0; t < THREADS; t++) wq_release(&senders[t]);
-    return 0;
+    wq_counts sums = {0};
+    wq_worker_finish(&worker); /* prints what is left */
+    wq_add_counts(&owner, &sums);
+    wq_release(&owner);
+    for (int t = 0; t < THREADS; t++) {
+        wq_add_counts(&senders[t], &sums);
+        wq_release(&senders[t]);
+    }
+    return wq_balances(&sums) ? 0 : 1; /* what was queued was executed */
 }

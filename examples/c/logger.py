@@ -1,7 +1,7 @@
 #!/usr/bin/env python3
 """Four threads write log lines through one ordered workqueue, and this one prints them: each thread's lines in its order."""
 import threading
-from wq import Code, Seat
+from wq import Code, Counts, Seat
 
 THREADS, LINES = 4, 4
 owner, senders, woken = Seat(), [Seat() for _ in range(THREADS)], threading.Semaphore(0)
@@ -43,5 +43,6 @@ owner.drain()  # what is queued now is answered Code.DRAINING
 assert senders[0].queue(0) == Code.DRAINING
 owner.resume()
 owner.close()
+assert sum((seat.counts() for seat in [*senders, owner]), Counts()).balances  # what was queued was executed
 for seat in [*senders, owner]:
     seat.release()
