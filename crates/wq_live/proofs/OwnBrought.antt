@@ -7,15 +7,15 @@ use Rattle.std.proofs.lemmas.Bool.{eq-eqb}
 use Rattle.wq_words.proofs.Growing.{ends_alike}
 use mathlib.Core.List.{IsPrefix}
 use Rattle.wq_words.specs.declared.event.Event.{Event}
-use Rattle.wq_words.specs.declared.event.Event.TheVariants.{Hold, Busy, Push, Back}
+use Rattle.wq_words.specs.declared.event.Event.TheVariants.{Hold, Busy, Push, Back, Chain, ChainBusy}
 use Rattle.wq_words.specs.declared.event.Why.TheVariants as why
 use Rattle.wq_words.specs.History.{accepted, accepted_by, begun_by}
-use Rattle.wq_words.specs.Seen.{seat_of, own, Grows}
+use Rattle.wq_words.specs.Seen.{owner_seat, seat_of, own, Grows}
 use Rattle.wq_words.specs.Valued.{first_in, left_of, paired, value_if, value_of}
 use Rattle.wq_live.specs.declared.value_answer.ValueAnswer.{ValueAnswer}
 use Rattle.wq_live.specs.declared.value_answer.ValueAnswer.TheVariants as given
-use Rattle.wq_live.specs.Answers.{Answers}
-use Rattle.wq_live.specs.KnownWith.{KnownWith, Learnt, answer_of, BringsOrReturns}
+use Rattle.wq_live.specs.Answers.{Answers, Chains}
+use Rattle.wq_live.specs.KnownWith.{KnownWith, Learnt, answer_of, BringsOrReturns, ChainsOrReturns}
 use Rattle.wq_live.specs.OwnBrought.{own_brought_by, own_brought, queued_value}
 
 onto : {X : Type 0} (o : Option X) (us vs : List X) → cons_option o (us ++ vs) ≡ cons_option o us ++ vs
@@ -108,54 +108,65 @@ module _ {V : Type 0} (c : ℕ) where
   own_still xs n v w bs cs none g front many = let m = own_more xs n v w bs cs g front many in
       m.1 ∙ (ap (λ (z : List (Option V)). own_brought c v bs ++ z) (none_left m.0 (m.2 ∙ ap length none)) ∙ append-nil (own_brought c v bs))
 
-  -- the last of them is the push of k, which brought y
-  pub own_pushed : (xs : List Event) (n k : ℕ) (v w before after : List Event) (bs cs : List (Option V)) (y : Option V) → length (accepted xs) ≡ 1
-      → Grows c xs n v w → IsPrefix bs cs → length bs ≡ length (accepted v) → w ≡ before ++ Push c k ∷ after → own c after ≡ []
-      → slice_get cs (length (accepted before)) ≡ Some y → own_brought c w cs ≡ own_brought c v bs ++ y ∷ []
-  own_pushed xs n k v w before after bs cs y one g front many is last has =
+  -- the last of them is e, which accepted k and brought y
+  pub own_last : (xs : List Event) (n : ℕ) (e : Event) (k : ℕ) (v w before after : List Event) (bs cs : List (Option V)) (y : Option V)
+      → length (accepted xs) ≡ 1 → (seat_of e == c) ≡ true → accepted_by e ≡ Some k → Grows c xs n v w → IsPrefix bs cs → length bs ≡ length (accepted v)
+      → w ≡ before ++ e ∷ after → own c after ≡ [] → slice_get cs (length (accepted before)) ≡ Some y → own_brought c w cs ≡ own_brought c v bs ++ y ∷ []
+  own_last xs n e k v w before after bs cs y one mine takes g front many is last has =
       let m = own_more xs n v w bs cs g front many in let only = one_left m.0 (m.2 ∙ one) in
       let cut = cut_at cs (length (accepted before)) y has in
-      let behind : own_brought c (Push c k ∷ after) (y ∷ cut.1) ≡ y ∷ [] =
-      let r = one_left (own_brought c (Push c k ∷ after) (y ∷ cut.1)) (own_brought_length c (Push c k ∷ after) (y ∷ cut.1) ∙
-      (own_push c k after ∙ ap (λ (es : List Event). suc (length (accepted es))) last)) in r.1 ∙ ap (λ (z : Option V). z ∷ []) (first_own c k after y cut.1 r.0 r.1) in
+      let behind : own_brought c (e ∷ after) (y ∷ cut.1) ≡ y ∷ [] =
+      let r = one_left (own_brought c (e ∷ after) (y ∷ cut.1)) (own_brought_length c (e ∷ after) (y ∷ cut.1) ∙
+      (own_first ∙ ap (λ (es : List Event). suc (length (accepted es))) last)) in r.1 ∙ ap (λ (z : Option V). z ∷ []) (first_own cut.1 r.0 r.1) in
       let whole : own_brought c w cs ≡ own_brought c before cut.0 ++ y ∷ [] =
-      (λ i. own_brought c (is i) (cut.2 i)) ∙ (own_brought_append c before (Push c k ∷ after) cut.0 (y ∷ cut.1) cut.3 ∙
+      (λ i. own_brought c (is i) (cut.2 i)) ∙ (own_brought_append c before (e ∷ after) cut.0 (y ∷ cut.1) cut.3 ∙
       ap (λ (z : List (Option V)). own_brought c before cut.0 ++ z) behind) in
       let ends = ends_alike (own_brought c v bs) (own_brought c before cut.0) only.0 y
       (sym (m.1 ∙ ap (λ (z : List (Option V)). own_brought c v bs ++ z) only.1) ∙ whole) in
       whole ∙ ap (λ (z : List (Option V)). z ++ y ∷ []) (sym ends.0)
     where
-      own_push : (c k : ℕ) (after : List Event) → length (accepted (own c (Push c k ∷ after))) ≡ suc (length (accepted (own c after)))
-      own_push c k after = ap (λ (b : Bool). length (accepted (cond b (Push c k ∷ own c after) (own c after)))) (eq-eqb c c refl)
+      own_first : length (accepted (own c (e ∷ after))) ≡ suc (length (accepted (own c after)))
+      own_first = ap (λ (b : Bool). length (accepted (cond b (e ∷ own c after) (own c after)))) mine ∙
+          ap (λ (o : Option ℕ). length (cons_option o (accepted (own c after)))) takes
 
-      first_own : (c k : ℕ) (after : List Event) (y : Option V) (cs : List (Option V)) (z : Option V)
-          → own_brought c (Push c k ∷ after) (y ∷ cs) ≡ z ∷ [] → z ≡ y
-      first_own c k after y cs z is = cc (sym is ∙ is_row c (Push c k ∷ after) (y ∷ cs) (y ∷ cs) ∙
-          ap (λ (b : Bool). cons_option (if b then Some y else None) (own_row c after cs)) (eq-eqb c c refl))
+      first_own : (cs : List (Option V)) (z : Option V) → own_brought c (e ∷ after) (y ∷ cs) ≡ z ∷ [] → z ≡ y
+      first_own cs z is = cc (sym is ∙ (is_row c (e ∷ after) (y ∷ cs) (y ∷ cs) ∙
+          (λ i. cons_option (if mine i then value_if (takes i) y else None) (own_row c after (left_of (takes i) (y ∷ cs))))))
+
+-- where none of its events was accepted, what a seat's own queueings brought stays
+own_as_before : {V : Type 0} (xs : List Event) (n : ℕ) (old new : KnownWith V) → accepted xs ≡ []
+    → Grows old.known.number xs n old.known.seen new.known.seen → Learnt old new
+    → own_brought old.known.number new.known.seen new.brought ≡ own_brought old.known.number old.known.seen old.brought ++ []
+own_as_before xs n old new none g learnt =
+    own_still old.known.number xs n old.known.seen new.known.seen old.brought new.brought none g learnt.more learnt.was_whole ∙
+    sym (append-nil (own_brought old.known.number old.known.seen old.brought))
 
 -- a queueing adds its value to what the seat's own queueings brought, where it was queued
 pub brings_own : {V : Type 0} (k tries : ℕ) (v : V) (a : ValueAnswer V) (old new : KnownWith V) → Answers k tries (answer_of a) old.known new.known
     → BringsOrReturns k v a new → Learnt old new
     → own_brought old.known.number new.known.seen new.brought ≡ own_brought old.known.number old.known.seen old.brought ++ queued_value v a
-brings_own {V} k tries v a old new answers value learnt = go a answers value
-  where
-    c : ℕ
-    c = old.known.number
+brings_own k tries v (given.Queued is_first is_waking) old new answers brings learnt =
+    let c = old.known.number in let number = answers.0.same.number_is in let p = brings.0 in
+    own_last c (Hold c k ∷ Push c k ∷ []) 0 (Push c k) k old.known.seen new.known.seen p.before p.after old.brought new.brought (Some v) refl
+    (eq-eqb c c refl) refl answers.0.grows learnt.more learnt.was_whole
+    (p.is ∙ ap (λ (d : ℕ). p.before ++ Push d k ∷ p.after) number) (ap (λ (d : ℕ). own d p.after) (sym number) ∙ p.last) brings.1
+brings_own k tries v (given.Pending w) old new answers back learnt = own_as_before (Busy old.known.number k ∷ []) 0 old new refl answers.grows learnt
+brings_own k tries v (given.Closed w) old new answers back learnt =
+    let c = old.known.number in own_as_before (Hold c k ∷ Back c k why.Closed ∷ []) 0 old new refl answers.grows learnt
+brings_own k tries v (given.Contended w) old new answers back learnt =
+    let c = old.known.number in own_as_before (Hold c k ∷ Back c k why.Contended ∷ []) tries old new refl answers.grows learnt
+brings_own k tries v (given.Draining w) old new answers back learnt =
+    let c = old.known.number in own_as_before (Hold c k ∷ Back c k why.Draining ∷ []) 0 old new refl answers.0.grows learnt
 
-    still : (xs : List Event) (n : ℕ) → accepted xs ≡ [] → Grows c xs n old.known.seen new.known.seen
-        → own_brought c new.known.seen new.brought ≡ own_brought c old.known.seen old.brought ++ []
-    still xs n none g = own_still c xs n old.known.seen new.known.seen old.brought new.brought none g learnt.more learnt.was_whole ∙
-        sym (append-nil (own_brought c old.known.seen old.brought))
-
-    go : (a : ValueAnswer V) → Answers k tries (answer_of a) old.known new.known → BringsOrReturns k v a new
-        → own_brought c new.known.seen new.brought ≡ own_brought c old.known.seen old.brought ++ queued_value v a
-    go (given.Queued is_first is_waking) answers brings =
-        let number = answers.0.same.number_is in
-        let p = brings.0 in
-        own_pushed c (Hold c k ∷ Push c k ∷ []) 0 k old.known.seen new.known.seen p.before p.after old.brought new.brought (Some v) refl answers.0.grows
-        learnt.more learnt.was_whole
-        (p.is ∙ ap (λ (d : ℕ). p.before ++ Push d k ∷ p.after) number) (ap (λ (d : ℕ). own d p.after) (sym number) ∙ p.last) brings.1
-    go (given.Pending w) answers back = still (Busy c k ∷ []) 0 refl answers.grows
-    go (given.Closed w) answers back = still (Hold c k ∷ Back c k why.Closed ∷ []) 0 refl answers.grows
-    go (given.Contended w) answers back = still (Hold c k ∷ Back c k why.Contended ∷ []) tries refl answers.grows
-    go (given.Draining w) answers back = still (Hold c k ∷ Back c k why.Draining ∷ []) 0 refl answers.0.grows
+-- a chaining adds its value to what the owner's own queueings brought, where it was queued
+pub chained_own : {V : Type 0} (k : ℕ) (v : V) (a : ValueAnswer V) (old new : KnownWith V) → old.known.number ≡ owner_seat
+    → Chains k (answer_of a) old.known new.known → ChainsOrReturns k v a new → Learnt old new
+    → own_brought old.known.number new.known.seen new.brought ≡ own_brought old.known.number old.known.seen old.brought ++ queued_value v a
+chained_own k v (given.Queued is_first is_waking) old new owner answers p learnt =
+    let c = old.known.number in
+    own_last c (Chain k ∷ []) 0 (Chain k) k old.known.seen new.known.seen p.before p.after old.brought new.brought (Some v) refl
+    (eq-eqb owner_seat c (sym owner)) refl answers.2.grows learnt.more learnt.was_whole p.is (ap (λ (d : ℕ). own d p.after) owner ∙ p.last) p.has
+chained_own k v (given.Pending w) old new owner answers back learnt = own_as_before (ChainBusy k ∷ []) 0 old new refl answers.grows learnt
+chained_own k v (given.Closed w) old new owner answers back learnt = absurd answers
+chained_own k v (given.Contended w) old new owner answers back learnt = absurd answers
+chained_own k v (given.Draining w) old new owner answers back learnt = absurd answers
