@@ -1,67 +1,66 @@
 -- One queue more in hand, and one more taken apart.
 use Rattle.wq_words.proofs.Growing.{take_more_some}
 use Rattle.wq_ledger.specs.Book.{BookState}
-use Rattle.wq_turn.specs.Finished.{IsFinished}
+use Rattle.wq_turn.specs.Finished.{IsFinishedBy}
 use Rattle.wq_turn.proofs.Draining.{left_complete}
-use Rattle.wq_pool.proofs.Common.{◌≡◌, ℕ, zero, suc, ◌+◌, ◌<◌, List, [], ◌∷◌, ◌++◌, map, length, take, slice_index_or, Some, None, All, Option, sym, refl, ap}
+use Rattle.wq_pool.proofs.Common.{◌≡◌, ℕ, zero, suc, ◌+◌, ◌<◌, List, [], ◌∷◌, ◌++◌, map, length, take, Some, None, All, Option, sym, refl, ap}
 use Rattle.wq_pool.proofs.Common.{◌∙◌, subst, arith, length-append, map-append, All-push, IsComplete, WorkerId, IsDrained, SlotsState, TurnState, turn_id}
-use Rattle.wq_pool.proofs.Common.{AreFirst, AreComplete, LeavesOf, FirstLeft, AreFinished, RanToEnd, IsWorkerAt}
+use Rattle.wq_pool.proofs.Common.{WorkerState, AreFirst, AreComplete, LeavesOf, FirstLeft, AreFinishedBy, RanToEndBy, IsWorkerAt}
 
-module _ {W : Type 0} where
-  pub first_more : (slots : SlotsState) (turns new : List (TurnState W)) (t : TurnState W) → AreFirst slots turns → length turns < length slots.workers
-      → t.slots ≡ slots.id → IsWorkerAt slots.workers (length turns) t.worker → new ≡ turns ++ t ∷ [] → AreFirst slots new
+module _ {K W : Type 0} (state : K → WorkerState W) where
+  pub first_more : (slots : SlotsState) (turns new : List (TurnState K)) (t : TurnState K) → AreFirst state slots turns → length turns < length slots.workers
+      → t.slots ≡ slots.id → IsWorkerAt state slots.workers (length turns) t.worker → new ≡ turns ++ t ∷ [] → AreFirst state slots new
   first_more slots turns new t first low here worker_is is =
       let n = length turns in
       let long : length (turns ++ t ∷ []) ≡ n + 1 = length-append turns (t ∷ []) in
-      subst (AreFirst slots) (sym is) record {
+      subst (AreFirst state slots) (sym is) record {
         few = omega (arith, long, low);
-        slots_are = All-push (λ (u : TurnState W). u.slots ≡ slots.id) turns t first.slots_are here;
-        workers_are = map-append turn_id turns (t ∷ [])
-            ∙ (ap (λ (ids : List WorkerId). ids ++ turn_id t ∷ []) first.workers_are
-            ∙ (sym (take_more_some slots.workers n (turn_id t) worker_is) ∙ ap (λ (k : ℕ). take k slots.workers) (sym long)));
+        slots_are = All-push (λ (u : TurnState K). u.slots ≡ slots.id) turns t first.slots_are here;
+        workers_are = map-append (turn_id state) turns (t ∷ [])
+            ∙ (ap (λ (ids : List WorkerId). ids ++ turn_id state t ∷ []) first.workers_are
+            ∙ (sym (take_more_some slots.workers n (turn_id state t) worker_is) ∙ ap (λ (k : ℕ). take k slots.workers) (sym long)));
       }
 
   -- something is left of the queue, or nothing is
-  pub left_more : (slots : SlotsState) (left left' : Option (ℕ × ℕ)) (turns new : List (TurnState W)) (t : TurnState W) (more : ℕ)
-      → LeavesOf slots turns left → FirstLeft left (length turns) more left' → IsWorkerAt slots.workers (length turns) t.worker → IsDrained more t.worker
-      → new ≡ turns ++ t ∷ [] → LeavesOf slots new left'
+  pub left_more : (slots : SlotsState) (left left' : Option (ℕ × ℕ)) (turns new : List (TurnState K)) (t : TurnState K) (more : ℕ)
+      → LeavesOf state slots turns left → FirstLeft left (length turns) more left' → IsWorkerAt state slots.workers (length turns) t.worker
+      → IsDrained more (state t.worker) → new ≡ turns ++ t ∷ [] → LeavesOf state slots new left'
   left_more slots (Some first) left' turns new t more old told worker_is drained is =
-      subst (λ (o : Option (ℕ × ℕ)). LeavesOf slots new o) (sym told) old
+      subst (λ (o : Option (ℕ × ℕ)). LeavesOf state slots new o) (sym told) old
   left_more slots None left' turns new t zero old told worker_is drained is =
-      subst (λ (o : Option (ℕ × ℕ)). LeavesOf slots new o) (sym told)
-      (subst (λ (ts : List (TurnState W)). AreComplete ts) (sym is)
-      (All-push (λ (u : TurnState W). IsComplete u.worker.seen) turns t old (left_complete t.worker drained)))
+      subst (λ (o : Option (ℕ × ℕ)). LeavesOf state slots new o) (sym told)
+      (subst (λ (ts : List (TurnState K)). AreComplete state ts) (sym is)
+      (All-push (λ (u : TurnState K). IsComplete (state u.worker).seen) turns t old (left_complete (state t.worker) drained)))
   left_more slots None left' turns new t (suc more) old told worker_is drained is =
-      subst (λ (o : Option (ℕ × ℕ)). LeavesOf slots new o) (sym told)
+      subst (λ (o : Option (ℕ × ℕ)). LeavesOf state slots new o) (sym told)
       record { worker = t.worker; worker_is = worker_is; drained = drained; some_left = omega arith }
 
-  pub finished_more : (log : W → List ℕ) (ids : List WorkerId) (done : List (W × BookState)) (id : WorkerId) (one : W × BookState)
-      → AreFinished log ids done → IsFinished log id one → AreFinished log (ids ++ id ∷ []) (done ++ one ∷ [])
-  finished_more log [] [] id one all is = (is, tt)
-  finished_more log [] (d ∷ done) id one all is = absurd all
-  finished_more log (i ∷ ids) [] id one all is = absurd all
-  finished_more log (i ∷ ids) (d ∷ done) id one all is = (all.0, finished_more log ids done id one all.1 is)
+module _ {W B : Type 0} (book : B → BookState) (has_run : W → B → Type 0) where
+  abbrev AreDone : List WorkerId → List (W × B) → Type 0
+  AreDone = AreFinishedBy book has_run
 
-  pub finished_next : (log : W → List ℕ) (turns : List (TurnState W)) (t : TurnState W) (done new : List (W × BookState)) (one : W × BookState)
-      → AreFinished log (map turn_id turns) done → IsFinished log (turn_id t) one → new ≡ done ++ one ∷ [] → AreFinished log (map turn_id (turns ++ t ∷ [])) new
-  finished_next log turns t done new one all is new_is =
-      subst (λ (z : List WorkerId × List (W × BookState)). AreFinished log z.0 z.1) (λ i. (sym (map-append turn_id turns (t ∷ [])) i, sym new_is i))
-      (finished_more log (map turn_id turns) done (turn_id t) one all is)
+  pub finished_more : (ids : List WorkerId) (done : List (W × B)) (id : WorkerId) (one : W × B) → AreDone ids done
+      → IsFinishedBy book has_run id one → AreDone (ids ++ id ∷ []) (done ++ one ∷ [])
+  finished_more [] [] id one all is = (is, tt)
+  finished_more [] (d ∷ done) id one all is = absurd all
+  finished_more (i ∷ ids) [] id one all is = absurd all
+  finished_more (i ∷ ids) (d ∷ done) id one all is = (all.0, finished_more ids done id one all.1 is)
 
-  pub finished_count : (log : W → List ℕ) (ids : List WorkerId) (xs : List (W × BookState)) → AreFinished log ids xs → length xs ≡ length ids
-  finished_count log [] [] all = refl
-  finished_count log [] (x ∷ xs) all = absurd all
-  finished_count log (id ∷ ids) [] all = absurd all
-  finished_count log (id ∷ ids) (x ∷ xs) all = ap suc (finished_count log ids xs all.1)
+  pub finished_next : {A : Type 0} (who : A → WorkerId) (turns : List A) (t : A) (done new : List (W × B)) (one : W × B) → AreDone (map who turns) done
+      → IsFinishedBy book has_run (who t) one → new ≡ done ++ one ∷ [] → AreDone (map who (turns ++ t ∷ [])) new
+  finished_next who turns t done new one all is new_is =
+      subst (λ (z : List WorkerId × List (W × B)). AreDone z.0 z.1) (λ i. (sym (map-append who turns (t ∷ [])) i, sym new_is i))
+      (finished_more (map who turns) done (who t) one all is)
 
-  finished_at : (log : W → List ℕ) (ids : List WorkerId) (xs : List (W × BookState)) → AreFinished log ids xs → (k : ℕ) (d : W × BookState) → k < length xs
-      → RanToEnd log (slice_index_or xs k d)
-  finished_at log [] [] all k d low = absurd (omega (arith, low))
-  finished_at log [] (x ∷ xs) all k d low = absurd all
-  finished_at log (id ∷ ids) [] all k d low = absurd all
-  finished_at log (id ∷ ids) (x ∷ xs) all zero d low =
-      record { legal = all.0.legal; complete = all.0.complete; ran_accepted = all.0.ran_accepted }
-  finished_at log (id ∷ ids) (x ∷ xs) all (suc k) d low = finished_at log ids xs all.1 k d (omega (arith, low))
+  pub finished_count : (ids : List WorkerId) (xs : List (W × B)) → AreDone ids xs → length xs ≡ length ids
+  finished_count [] [] all = refl
+  finished_count [] (x ∷ xs) all = absurd all
+  finished_count (id ∷ ids) [] all = absurd all
+  finished_count (id ∷ ids) (x ∷ xs) all = ap suc (finished_count ids xs all.1)
 
-  pub finished_each : (log : W → List ℕ) (ids : List WorkerId) (xs : List (W × BookState)) → AreFinished log ids xs → All (RanToEnd log) xs
-  finished_each log ids xs all = finished_at log ids xs all
+  pub finished_each : (ids : List WorkerId) (xs : List (W × B)) → AreDone ids xs → All (RanToEndBy book has_run) xs
+  finished_each [] [] all k d low = absurd (omega (arith, low))
+  finished_each [] (x ∷ xs) all k d low = absurd all
+  finished_each (id ∷ ids) [] all k d low = absurd all
+  finished_each (id ∷ ids) (x ∷ xs) all zero d low = record { legal = all.0.legal; complete = all.0.complete; ran_accepted = all.0.ran_accepted }
+  finished_each (id ∷ ids) (x ∷ xs) all (suc k) d low = finished_each ids xs all.1 k d (omega (arith, low))

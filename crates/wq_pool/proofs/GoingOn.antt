@@ -6,7 +6,7 @@ use Rattle.wq_ready.specs.declared.ready_queue.AnnounceError.{AnnounceError}
 use Rattle.wq_ready.specs.declared.ready_queue.AnnounceError.TheVariants.{NoQueue, Full}
 use Rattle.wq_ready.specs.Answers.{Picks, Announces}
 use Rattle.wq_pool.proofs.Common.{◌≡◌, ℕ, List, [], ◌++◌, slice_get, Some, None, Option, sym, refl, ap, ◌∙◌, subst, append_assoc, append-nil, CallerState}
-use Rattle.wq_pool.proofs.Common.{WorkerId, TurnState, PoolState, IsSameTurn, GoesOnFrom, IsTurnOf}
+use Rattle.wq_pool.proofs.Common.{WorkerState, WorkerId, TurnState, PoolState, IsSameTurn, GoesOnFrom, IsTurnOf}
 
 pub goes_still : (a : CallerState) → GoesOnFrom a a
 goes_still a = record { same = record { ready_is = refl; number_is = refl }; begins = ([], append-nil a.seen) }
@@ -32,8 +32,8 @@ goes_by_announce q (Ok _) a b t = record { same = t.same; begins = (t.grows.new,
 goes_by_announce q (Err NoQueue) a b t = subst (λ (z : CallerState). GoesOnFrom a z) (sym t) (goes_still a)
 goes_by_announce q (Err Full) a b t = subst (λ (z : CallerState). GoesOnFrom a z) (sym t.0) (goes_still a)
 
-pub turn_same : {W : Type 0} (p : PoolState) (t u : TurnState W) → IsTurnOf p t → IsSameTurn t u → IsTurnOf p u
-turn_same {W} p t u is same = record {
+pub turn_same : {K W : Type 0} (state : K → WorkerState W) (p : PoolState) (t u : TurnState K) → IsTurnOf state p t → IsSameTurn state t u → IsTurnOf state p u
+turn_same state p t u is same = record {
   slots_is = same.slots_is ∙ is.slots_is;
   worker_is = subst (λ (z : ℕ × WorkerId). slice_get p.workers z.0 ≡ Some z.1) (λ i. (sym same.queue_is i, sym same.worker_is i)) is.worker_is;
 }

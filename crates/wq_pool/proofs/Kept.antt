@@ -10,11 +10,11 @@ use Rattle.atomic_table.proofs.Lists.{at_set, at_snoc, set_here, set_else, set_a
 use Rattle.wq_pool.proofs.Common.{◌≡◌, ℕ, zero, suc, ◌<◌, Bool, cond, eqb, ◌≢◌, List, [], ◌∷◌, map, length, get_or, set, replicate, Some, None, MatchBool}
 use Rattle.wq_pool.proofs.Common.{Option, sym, refl, ap, ◌∙◌, subst, inl, inr, arith, length-set, get_or-set_other, get_or-set_same, eq-eqb, ne_eqb, length-map}
 use Rattle.wq_pool.proofs.Common.{length-replicate, step, Allows, State, keeps, takes, gives, Act, Enters, stepped, opening, carried_after, Valid, WorkerState}
-use Rattle.wq_pool.proofs.Common.{WorkerId, worker_id, IsWorkerAt, KeptSlots, empty_hand, hand_with, SlotSat, picks_up, lays_down, comes}
+use Rattle.wq_pool.proofs.Common.{WorkerId, id_of, IsWorkerAt, KeptSlots, empty_hand, hand_with, SlotSat, picks_up, lays_down, comes}
 use Rattle.wq_pool.specs.declared.slots.Hand.{Hand}
 
 abbrev SlotsNow : Type 0 → Type 0
-SlotsNow W = State (Option (WorkerState W)) Hand
+SlotsNow K = State (Option K) Hand
 
 -- a hand is empty or has one queue
 empty_has : (workers : List WorkerId) (hand : Hand) (q : ℕ) → empty_hand workers ≡ hand → hand.queue ≡ Some q → ⊥
@@ -35,9 +35,9 @@ lone_seat : (workers : List WorkerId) (seat : ℕ) (hand : Hand) → get_elem? (
 lone_seat workers zero hand at = some-injective (empty_hand workers) hand at
 lone_seat workers (suc seat) hand at = absurd (some-ne-none hand (sym at))
 
-module _ {W : Type 0} where
+module _ {K W : Type 0} (state : K → WorkerState W) where
   pub comes_allowed : (workers : List WorkerId) (slots q : ℕ)
-      → Enters (KeptSlots {W = W} workers) slots q (λ n hand. comes {W = W} (step slots q 0 0 none) (empty_hand workers, []) n (hand, []))
+      → Enters (KeptSlots state workers) slots q (λ n hand. comes {K = K} (step slots q 0 0 none) (empty_hand workers, []) n (hand, []))
   comes_allowed workers slots q s kept deep small = (
     empty_hand workers,
     record {
@@ -58,17 +58,17 @@ module _ {W : Type 0} where
   )
 
   -- what a picking up leaves, where the queue was in its slot or not
-  abbrev Leaves : List WorkerId → ℕ → ℕ → SlotsNow W → Bool → Type 0
-  Leaves workers seat q s found = (hand : Hand) × (act : Act (Option (WorkerState W))) × Valid s.homes [] act
-      × KeptSlots workers (stepped s q (either found 1 (get_or s.words q 0)) seat [] hand act)
-      × MatchBool found ((hand ≡ hand_with workers q) × (w : WorkerState W) × (carried_after [] act ≡ (q, Some w) ∷ []) × IsWorkerAt workers q w)
-      (◌≡◌ {A = SlotSat W} (hand, carried_after [] act) (empty_hand workers, []))
+  abbrev Leaves : List WorkerId → ℕ → ℕ → SlotsNow K → Bool → Type 0
+  Leaves workers seat q s found = (hand : Hand) × (act : Act (Option K)) × Valid s.homes [] act
+      × KeptSlots state workers (stepped s q (either found 1 (get_or s.words q 0)) seat [] hand act)
+      × MatchBool found ((hand ≡ hand_with workers q) × (w : K) × (carried_after [] act ≡ (q, Some w) ∷ []) × IsWorkerAt state workers q w)
+      (◌≡◌ {A = SlotSat K} (hand, carried_after [] act) (empty_hand workers, []))
 
-  abbrev picked_state : List WorkerId → ℕ → ℕ → SlotsNow W → SlotsNow W
+  abbrev picked_state : List WorkerId → ℕ → ℕ → SlotsNow K → SlotsNow K
   picked_state workers seat q s = record { words = set s.words q 1; homes = set s.homes q none; views = set s.views seat (hand_with workers q) }
 
-  picked : (workers : List WorkerId) (seat q : ℕ) (s : SlotsNow W) → q < length workers → KeptSlots workers s → get_or s.words q 0 ≡ 0
-      → KeptSlots workers (picked_state workers seat q s)
+  picked : (workers : List WorkerId) (seat q : ℕ) (s : SlotsNow K) → q < length workers → KeptSlots state workers s → get_or s.words q 0 ≡ 0
+      → KeptSlots state workers (picked_state workers seat q s)
   picked workers seat q s within kept free =
       let wide = kept.words_count in
       record {
@@ -96,15 +96,15 @@ module _ {W : Type 0} where
         ];
       }
 
-  missed : (workers : List WorkerId) (seat q : ℕ) (s : SlotsNow W) → KeptSlots workers s → get_elem? s.views seat ≡ some (empty_hand workers)
-      → KeptSlots workers record { words = set s.words q (get_or s.words q 0); homes = s.homes; views = set s.views seat (empty_hand workers) }
+  missed : (workers : List WorkerId) (seat q : ℕ) (s : SlotsNow K) → KeptSlots state workers s → get_elem? s.views seat ≡ some (empty_hand workers)
+      → KeptSlots state workers record { words = set s.words q (get_or s.words q 0); homes = s.homes; views = set s.views seat (empty_hand workers) }
   missed workers seat q s kept at =
-      subst (λ (t : SlotsNow W). KeptSlots workers t)
+      subst (λ (t : SlotsNow K). KeptSlots state workers t)
       (λ i. record { words = sym (set-get_or s.words q 0) i; homes = s.homes; views = sym (set_again s.views seat (empty_hand workers) at) i }) kept
 
   picks_empty : (workers : List WorkerId) (slots seat q : ℕ) → q < length workers
-      → Allows (KeptSlots {W = W} workers) slots seat (empty_hand workers, []) q (λ n. either (eqb n 0) 1 n)
-      (picks_up {W = W} (step slots q 0 1 none) (empty_hand workers, []))
+      → Allows (KeptSlots state workers) slots seat (empty_hand workers, []) q (λ n. either (eqb n 0) 1 n)
+      (picks_up state (step slots q 0 1 none) (empty_hand workers, []))
   picks_empty workers slots seat q within s kept deep at small =
       let n = get_or s.words q 0 in
       dite (ℕ_discrete n 0)
@@ -113,16 +113,16 @@ module _ {W : Type 0} where
       (hand_with workers q, takes q (Some lies.0), lies.1, picked workers seat q s within kept free, (refl, lies.0, refl, lies.2)))
       (λ out. subst (Leaves workers seat q s) (sym (ne_eqb n 0 out)) (empty_hand workers, keeps, tt, missed workers seat q s kept at, refl))
 
-  pub picks_allowed : (workers : List WorkerId) (slots seat q : ℕ) (me : SlotSat W) → q < length workers → me ≡ (empty_hand workers, [])
-      → Allows (KeptSlots {W = W} workers) slots seat me q (λ n. either (eqb n 0) 1 n) (picks_up {W = W} (step slots q 0 1 none) me)
+  pub picks_allowed : (workers : List WorkerId) (slots seat q : ℕ) (me : SlotSat K) → q < length workers → me ≡ (empty_hand workers, [])
+      → Allows (KeptSlots state workers) slots seat me q (λ n. either (eqb n 0) 1 n) (picks_up state (step slots q 0 1 none) me)
   picks_allowed workers slots seat q me within is =
-      subst (λ (m : SlotSat W). Allows (KeptSlots {W = W} workers) slots seat m q (λ n. either (eqb n 0) 1 n) (picks_up {W = W} (step slots q 0 1 none) m))
+      subst (λ (m : SlotSat K). Allows (KeptSlots state workers) slots seat m q (λ n. either (eqb n 0) 1 n) (picks_up state (step slots q 0 1 none) m))
       (sym is)
       (picks_empty workers slots seat q within)
 
-  pub lays_allowed : (workers mine : List WorkerId) (slots seat q : ℕ) (w : WorkerState W) → IsWorkerAt mine q w
-      → Allows (KeptSlots {W = W} workers) slots seat (hand_with mine q, (q, Some w) ∷ []) q (λ _. 0)
-      (lays_down {W = W} (step slots q 0 0 none) (hand_with mine q, (q, Some w) ∷ []))
+  pub lays_allowed : (workers mine : List WorkerId) (slots seat q : ℕ) (w : K) → IsWorkerAt state mine q w
+      → Allows (KeptSlots state workers) slots seat (hand_with mine q, (q, Some w) ∷ []) q (λ _. 0)
+      (lays_down {K = K} (step slots q 0 0 none) (hand_with mine q, (q, Some w) ∷ []))
   lays_allowed workers mine slots seat q w worker_is s kept deep at small =
       let mine_is : mine ≡ workers = kept.told seat (hand_with mine q) at in
       let held = kept.in_hand seat (hand_with mine q) at q refl in
@@ -136,8 +136,8 @@ module _ {W : Type 0} where
           keeper = kept.keeper;
           in_slot = λ k low is_zero. dite (ℕ_discrete k q)
               (λ same. subst
-              (λ (z : ℕ). (v : WorkerState W) × (get_elem? (set s.homes q (some (Some w))) z ≡ some (some (Some v))) × IsWorkerAt workers z v) (sym same)
-              (w, set_here s.homes q (some (Some w)) (omega arith), subst (λ (ids : List WorkerId). IsWorkerAt ids q w) mine_is worker_is))
+              (λ (z : ℕ). (v : K) × (get_elem? (set s.homes q (some (Some w))) z ≡ some (some (Some v))) × IsWorkerAt state workers z v) (sym same)
+              (w, set_here s.homes q (some (Some w)) (omega arith), subst (λ (ids : List WorkerId). IsWorkerAt state ids q w) mine_is worker_is))
               (λ other. let old = kept.in_slot k low (sym (get_or-set_other s.words q k 0 0 (λ e. other (omega arith))) ∙ is_zero) in
               (old.0, set_else s.homes q k (some (Some w)) other ∙ old.1, old.2));
           told = λ i hand at'. elim (at_set s.views seat i (empty_hand mine) hand at') [
@@ -155,21 +155,21 @@ module _ {W : Type 0} where
         refl,
       )
 
-  at_start : (ws : List (WorkerState W)) (q : ℕ) → q < length (map worker_id ws)
-      → (w : WorkerState W) × (get_elem? (map some (map Some ws)) q ≡ some (some (Some w))) × IsWorkerAt (map worker_id ws) q w
+  at_start : (ws : List K) (q : ℕ) → q < length (map (id_of state) ws)
+      → (w : K) × (get_elem? (map some (map Some ws)) q ≡ some (some (Some w))) × IsWorkerAt state (map (id_of state) ws) q w
   at_start [] q low = absurd (omega arith)
   at_start (w ∷ ws) zero low = (w, refl, refl)
   at_start (w ∷ ws) (suc q) low = at_start ws q (omega arith)
 
   -- the slots are made
-  pub opens : (ws : List (WorkerState W)) (words : List ℕ) (slots : List (Option (WorkerState W))) → words ≡ replicate (length ws) 0 → slots ≡ map Some ws
-      → KeptSlots (map worker_id ws) (opening words slots (empty_hand (map worker_id ws)))
+  pub opens : (ws : List K) (words : List ℕ) (slots : List (Option K)) → words ≡ replicate (length ws) 0 → slots ≡ map Some ws
+      → KeptSlots state (map (id_of state) ws) (opening words slots (empty_hand (map (id_of state) ws)))
   opens ws words slots words_are slots_are =
-      let ids = map worker_id ws in
-      subst (λ (z : List ℕ × List (Option (WorkerState W))). KeptSlots ids (opening z.0 z.1 (empty_hand ids)))
+      let ids = map (id_of state) ws in
+      subst (λ (z : List ℕ × List (Option K)). KeptSlots state ids (opening z.0 z.1 (empty_hand ids)))
       (λ i. (sym words_are i, sym slots_are i)) record {
-        words_count = length-replicate (length ws) 0 ∙ sym (length-map ws worker_id);
-        slots_count = length-map (map Some ws) some ∙ (length-map ws Some ∙ sym (length-map ws worker_id));
+        words_count = length-replicate (length ws) 0 ∙ sym (length-map ws (id_of state));
+        slots_count = length-map (map Some ws) some ∙ (length-map ws Some ∙ sym (length-map ws (id_of state)));
         keeper = λ _. 0;
         in_slot = λ q low is_zero. at_start ws q low;
         told = λ seat hand at. workers_of ids hand (lone_seat ids seat hand at);

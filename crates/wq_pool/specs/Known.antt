@@ -20,19 +20,24 @@ pub record PoolState : Type 0 where
   pub workers : List WorkerId
 
 -- whose slots it is of, the number of its queue, and the worker
-pub record TurnState (W : Type 0) : Type 0 where
+pub record TurnState (K : Type 0) : Type 0 where
   pub slots : TableId
   pub queue : ℕ
-  pub worker : WorkerState W
+  pub worker : K
 
--- it is the same queue of the same slots, with the same worker
-pub record IsSameTurn {W : Type 0} (t u : TurnState W) : Type 0 where
-  pub slots_is : u.slots ≡ t.slots
-  pub queue_is : u.queue ≡ t.queue
-  pub worker_is : worker_id u.worker ≡ worker_id t.worker
-
-abbrev pub queue_in_turn : {W : Type 0} → TurnState W → ℕ
+abbrev pub queue_in_turn : {K : Type 0} → TurnState K → ℕ
 queue_in_turn t = t.queue
 
-abbrev pub turn_id : {W : Type 0} → TurnState W → WorkerId
-turn_id t = worker_id t.worker
+-- `state` says what a worker is without values
+module _ {K W : Type 0} (state : K → WorkerState W) where
+  abbrev pub id_of : K → WorkerId
+  id_of k = worker_id (state k)
+
+  abbrev pub turn_id : TurnState K → WorkerId
+  turn_id t = id_of t.worker
+
+  -- it is the same queue of the same slots, with the same worker
+  pub record IsSameTurn (t u : TurnState K) : Type 0 where
+    pub slots_is : u.slots ≡ t.slots
+    pub queue_is : u.queue ≡ t.queue
+    pub worker_is : turn_id u ≡ turn_id t

@@ -4,6 +4,7 @@ use mathlib.Core.List.{IsPrefix}
 use Rattle.wq_words.specs.declared.answer.Answer.{Answer}
 use Rattle.wq_words.specs.declared.answer.Answer.TheVariants.{Queued}
 use Rattle.wq_ready.specs.Known.{CallerState, IsSameCaller}
+use Rattle.wq_worker.specs.State.{WorkerState}
 use Rattle.wq_pool.specs.Known.{PoolState, TurnState}
 use Rattle.wq_pool.specs.Slots.{IsWorkerAt}
 
@@ -11,10 +12,10 @@ use Rattle.wq_pool.specs.Slots.{IsWorkerAt}
 abbrev pub IsNoPool : ℕ → Type 0
 IsNoPool count = (count ≡ 0) ⊎ (256 < count)
 
--- the very queue of its number, in hand
-pub record IsTurnOf {W : Type 0} (pool : PoolState) (turn : TurnState W) : Type 0 where
+-- The very queue of its number, in hand. `state` says what its worker is without values.
+pub record IsTurnOf {K W : Type 0} (state : K → WorkerState W) (pool : PoolState) (turn : TurnState K) : Type 0 where
   pub slots_is : turn.slots ≡ pool.slots
-  pub worker_is : IsWorkerAt pool.workers turn.queue turn.worker
+  pub worker_is : IsWorkerAt state pool.workers turn.queue turn.worker
 
 -- the number was queued, and its queue rested
 abbrev pub says_wakes : Answer → Bool

@@ -1,11 +1,11 @@
 -- What a clause sees of a pool's fields.
 use Rattle.std.specs.Prelude.{◌≡◌, length}
-use Rattle.wq_pool.specs.declared.pool.Pool.TheInside.{Inside}
+use Rattle.wq_pool.specs.declared.pool.PoolOf.TheInside.{Inside}
 use Rattle.wq_pool.specs.Known.{PoolState}
 
-abbrev pub pool_view : {W : Type 0} → Inside W → PoolState
+abbrev pub pool_view : {K W B : Type 0} → Inside K W B → PoolState
 pool_view p = record { slots = p.slots.id; ready = p.ready; workers = p.slots.workers }
 
 -- the ready queue has room for each queue
-pub record HasReadyQueue {W : Type 0} (p : Inside W) : Type 0 where
+pub record HasReadyQueue {K W B : Type 0} (p : Inside K W B) : Type 0 where
   pub count_is : p.ready.size.queues ≡ length p.slots.workers

@@ -3,56 +3,56 @@ ghost use Rattle.std.specs.Prelude.{◌≡◌, ◌<◌, ◌≤◌, [], map, leng
 ghost use Rattle.std.specs.Vec.{vec_len, vec_capacity};
 ghost use Rattle.wq_pool.specs.Known.{turn_id};
 ghost use Rattle.wq_pool.specs.Finish.{AreFirst, AreComplete, LeavesOf, FirstLeft, IsPoolFault};
-ghost use Rattle.wq_pool.specs.Finished.{AreFinished, RanToEnd};
+ghost use Rattle.wq_pool.specs.Finished.{AreFinishedBy, RanToEndBy};
 
-use crate::pool::Pool;
+use crate::pool::PoolOf;
 use crate::slots::Slots;
-use crate::turn::Worked;
+use crate::turn::WorkedOf;
 use std::fmt;
 use thiserror::Error;
-use wq_worker::{Book, Work};
+use wq_worker::Station;
 
 /// A pool that could not be taken apart. It is given back.
 #[derive(Drop, Error)]
-pub enum PoolFault<W: Work> {
+pub enum PoolFaultOf<K: Station> {
     /// The queue is not in its slot. Those before it are closed, and so many were executed of each as the limit says, or all.
     #[error("the queue {queue} is not in its slot")]
     Out {
-        pool: Pool<W>,
+        pool: PoolOf<K>,
         queue: u32,
     },
     /// So many numbers of the queue are accepted and have not ended. All queues are closed.
     #[error("{left} numbers of the queue {queue} are accepted and have not ended")]
     Unfinished {
-        pool: Pool<W>,
+        pool: PoolOf<K>,
         queue: u32,
         left: u32,
     },
     /// No memory could be had. No queue was touched.
     #[error("no memory")]
     Memory {
-        pool: Pool<W>,
+        pool: PoolOf<K>,
     },
 }
 
-impl<W: Work> fmt::Debug for PoolFault<W> {
+impl<K: Station> fmt::Debug for PoolFaultOf<K> {
     fn fmt<O: fmt::Write>(&self, f: &mut fmt::Formatter<O>) -> fmt::Result {
         match self {
-            PoolFault::Out { queue, .. } => f.debug_struct("Out").field("queue", queue).finish(),
-            PoolFault::Unfinished { queue, left, .. } => f
+            PoolFaultOf::Out { queue, .. } => f.debug_struct("Out").field("queue", queue).finish(),
+            PoolFaultOf::Unfinished { queue, left, .. } => f
                 .debug_struct("Unfinished")
                 .field("queue", queue)
                 .field("left", left)
                 .finish(),
-            PoolFault::Memory { .. } => f.write_str("Memory"),
+            PoolFaultOf::Memory { .. } => f.write_str("Memory"),
         }
     }
 }
 
 // The queues that were picked up, by place, each drained; the first of them of which something is left, and how much; and the
 // first queue that was out.
-struct Gathered<W: Work> {
-    all: Vec<Worked<W>>,
+struct Gathered<K: Station> {
+    all: Vec<WorkedOf<K>>,
     left: Option<(u32, u32)>,
     out: Option<u32>,
 }
@@ -67,11 +67,11 @@ fn first_left(left: Option<(u32, u32)>, queue: u32, more: u32) -> Option<(u32, u
 }
 
 // Picks up each queue in turn, closes it, and executes up to so many of its numbers.
-fn gather<W: Work + Drop>(slots: &Slots<W>, mut all: Vec<Worked<W>>, limit: u32) -> Gathered<W>
+fn gather<K: Station + Drop>(slots: &Slots<K>, mut all: Vec<WorkedOf<K>>, limit: u32) -> Gathered<K>
     requires room { (all.items ≡ []) × (length slots.now.workers ≤ vec_capacity all) }
-    ensures first { AreFirst slots.now result.all.items }
+    ensures first { AreFirst K.state slots.now result.all.items }
     ensures all { IfNone result.out (length result.all.items ≡ length slots.now.workers) }
-    ensures left { LeavesOf slots.now result.all.items result.left }
+    ensures left { LeavesOf K.state slots.now result.all.items result.left }
     ensures out { IfSome result.out (λ queue. queue < length slots.now.workers) }
 {
     let mut left = None;
@@ -94,10 +94,13 @@ fn gather<W: Work + Drop>(slots: &Slots<W>, mut all: Vec<Worked<W>>, limit: u32)
     }
 }
 
-fn take_apart<W: Work + Drop>(all: Vec<Worked<W>>, mut finished: Vec<(W, Book)>) -> Vec<(W, Book)>
+fn take_apart<K: Station + Drop>(
+    all: Vec<WorkedOf<K>>,
+    mut finished: Vec<(K::Work, K::Book)>,
+) -> Vec<(K::Work, K::Book)>
     requires room { (finished.items ≡ []) × (vec_len all ≤ vec_capacity finished) }
-    requires complete { AreComplete all.items }
-    ensures { AreFinished W.log (map turn_id all.items) result.items }
+    requires complete { AreComplete K.state all.items }
+    ensures { AreFinishedBy K.book K.has_run (map (turn_id K.state) all.items) result.items }
 {
     for worked in all {
         finished.push_reserved(worked.into_parts());
@@ -105,8 +108,8 @@ fn take_apart<W: Work + Drop>(all: Vec<Worked<W>>, mut finished: Vec<(W, Book)>)
     finished
 }
 
-impl<W: Work + Drop> Pool<W> {
-    fn lay_all(&self, mut all: Vec<Worked<W>>)
+impl<K: Station + Drop> PoolOf<K> {
+    fn lay_all(&self, mut all: Vec<WorkedOf<K>>)
         requires { All (λ worked. worked.slots ≡ self.now.slots) all.items }
     {
         while let Some(worked) = all.pop() {
@@ -120,28 +123,31 @@ impl<W: Work + Drop> Pool<W> {
     /// # Errors
     /// `Memory` before any queue is touched; `Out` for the first queue that is not in its slot; `Unfinished` for the first queue
     /// with something left. The pool is given back, with all queues in their slots that were there.
-    pub fn finish(self, limit: u32) -> Result<Vec<(W, Book)>, PoolFault<W>>
-        ensures finished { IfOk result (λ finished. AreFinished W.log self.workers finished.items) }
+    pub fn finish(self, limit: u32) -> Result<Vec<(K::Work, K::Book)>, PoolFaultOf<K>>
+    where
+        K::Work: Drop,
+        K::Book: Drop,
+        ensures finished { IfOk result (λ finished. AreFinishedBy K.book K.has_run self.workers finished.items) }
         ensures count { IfOk result (λ finished. length finished.items ≡ length self.workers) }
-        ensures each { IfOk result (λ finished. All (RanToEnd W.log) finished.items) }
-        ensures fault { IfErr result (IsPoolFault self) }
+        ensures each { IfOk result (λ finished. All (RanToEndBy K.book K.has_run) finished.items) }
+        ensures fault { IfErr result (IsPoolFault K.state self) }
     {
         let count = self.slots.count() as usize;
         let Ok(all) = Vec::with_capacity(self.alloc, count) else {
-            return Err(PoolFault::Memory { pool: self });
+            return Err(PoolFaultOf::Memory { pool: self });
         };
         let Ok(finished) = Vec::with_capacity(self.alloc, count) else {
-            return Err(PoolFault::Memory { pool: self });
+            return Err(PoolFaultOf::Memory { pool: self });
         };
         let Gathered { all, left, out } = gather(&self.slots, all, limit);
         match (out, left) {
             (Some(queue), _) => {
                 self.lay_all(all);
-                Err(PoolFault::Out { pool: self, queue })
+                Err(PoolFaultOf::Out { pool: self, queue })
             }
             (None, Some((queue, left))) => {
                 self.lay_all(all);
-                Err(PoolFault::Unfinished {
+                Err(PoolFaultOf::Unfinished {
                     pool: self,
                     queue,
                     left,

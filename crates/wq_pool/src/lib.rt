@@ -1,14 +1,16 @@
 //! A pool: many queues, each with its worker, served by several threads, one queue by one thread at a time.
 #![tactic(auto)]
 
+mod alias;
 mod finish;
 mod pool;
 mod run;
 mod slots;
 mod turn;
 
-pub use finish::PoolFault;
-pub use pool::{Pool, PoolError};
-pub use turn::{Turn, Worked};
+pub use alias::{Pool, PoolFault, Turn, ValuePool, ValuePoolFault, ValueTurn, ValueWorked, Worked};
+pub use finish::PoolFaultOf;
+pub use pool::{PoolError, PoolOf};
+pub use turn::{TurnOf, WorkedOf};
 pub use wq_ready::{AnnounceError, Caller};
-pub use wq_turn::{Gate, Served};
+pub use wq_turn::{Gate, Served, ServedOf, ValueServed};

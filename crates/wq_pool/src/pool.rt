@@ -5,12 +5,11 @@ ghost use Rattle.wq_ready.specs.declared.ready_queue.AnnounceError.TheVariants a
 ghost use Rattle.wq_ready.specs.Answers.{Announces, Picks};
 ghost use Rattle.wq_ready.specs.Known.{IsCallerOf, new_callers};
 ghost use Rattle.wq_pool.specs.declared.pool.PoolError.TheVariants as pool_error;
-ghost use Rattle.wq_pool.specs.Known.{queue_in_turn};
+ghost use Rattle.wq_pool.specs.Known.{queue_in_turn, id_of};
 ghost use Rattle.wq_pool.specs.Pool.{IsTurnOf, IsNoPool, GoesOnFrom, says_wakes};
-ghost use Rattle.wq_turn.specs.WorkerId.{worker_id};
 
 use crate::slots::Slots;
-use crate::turn::{Turn, Worked};
+use crate::turn::{TurnOf, WorkedOf};
 use std::alloc::Global;
 use std::marker::Model;
 use std::sync::Wait;
@@ -19,9 +18,9 @@ use std::sync::atomic::Ordering::SeqCst;
 use std::thread;
 use thiserror::Error;
 use wq_ready::{AnnounceError, Caller, ReadyQueue, Size};
-use wq_turn::Served;
+use wq_turn::ServedOf;
 use wq_words::Answer;
-use wq_worker::Work;
+use wq_worker::Station;
 
 /// The most queues of a pool.
 const MOST_QUEUES: usize = 256;
@@ -40,15 +39,15 @@ pub enum PoolError {
 /// Queues, each by its place, and the ready queue of those that were announced. Threads share it by `&`. No call takes a lock,
 /// and none but `new`, `run` and `finish` takes memory.
 #[derive(Drop)]
-pub struct Pool<W: Work> {
-    pub(crate) slots: Slots<W>,
+pub struct PoolOf<K: Station> {
+    pub(crate) slots: Slots<K>,
     ready: ReadyQueue,
     // How many queues have run their stop item.
     stopped: AtomicU64,
     pub(crate) alloc: Global,
 }
 
-impl<W: Work> Model for Pool<W> {
+impl<K: Station> Model for PoolOf<K> {
     ghost use Rattle.wq_pool.specs.Known.{PoolState};
 
     ghost Value = { PoolState };
@@ -60,7 +59,7 @@ impl<W: Work> Model for Pool<W> {
     ghost invariant = { HasReadyQueue };
 }
 
-impl<W: Work + Drop> Pool<W> {
+impl<K: Station + Drop> PoolOf<K> {
     /// A pool of these queues, each known by its place, and its callers, each at its number. The queues stay as they are: one
     /// whose worker has taken something is to be announced once, since no push says `wakes` before its first rest.
     ///
@@ -68,11 +67,11 @@ impl<W: Work + Drop> Pool<W> {
     /// `NoQueue` exactly where no queue is handed in, or more than 256. What was handed in is dropped.
     pub fn new(
         alloc: Global,
-        queues: Vec<Served<W>>,
+        queues: Vec<ServedOf<K>>,
         callers: u32,
-    ) -> Result<(Pool<W>, Vec<Caller>), PoolError>
+    ) -> Result<(PoolOf<K>, Vec<Caller>), PoolError>
         ensures no_queue { (result ≡ Err pool_error.NoQueue) ↔ IsNoPool (length queues.items) }
-        ensures workers { IfOk result (λ r. r.0.workers ≡ map worker_id queues.items) }
+        ensures workers { IfOk result (λ r. r.0.workers ≡ map (id_of K.state) queues.items) }
         ensures size { IfOk result (λ r. r.0.ready.size ≡ record { queues = length queues.items; callers = callers }) }
         ensures callers { IfOk result (λ r. r.1.items ≡ new_callers r.0.ready callers) }
         ensures count { IfOk result (λ r. length r.1.items ≡ callers) }
@@ -92,7 +91,7 @@ impl<W: Work + Drop> Pool<W> {
         let Ok((ready, all)) = ReadyQueue::new(alloc, size) else {
             return Err(PoolError::Memory);
         };
-        let pool = Pool {
+        let pool = PoolOf {
             slots,
             ready,
             stopped: AtomicU64::new(0),
@@ -159,12 +158,12 @@ impl<W: Work + Drop> Pool<W> {
 
     /// Takes the queue that was announced first in hand. It waits until that queue is in its slot: for good where its turn was
     /// dropped, or where this very thread has it in hand. `None` only where nothing was announced at one moment of the call.
-    pub fn pick<R: Wait>(&self, rt: &R, caller: &mut Caller) -> Option<Turn<W>>
+    pub fn pick<R: Wait>(&self, rt: &R, caller: &mut Caller) -> Option<TurnOf<K>>
         requires { IsCallerOf self.now.ready caller.old }
         ensures seen { Picks (option_map queue_in_turn result) caller.old caller.new }
         ensures caller { IsCallerOf self.now.ready caller.new }
-        ensures turn { IfSome result (IsTurnOf self.now) }
-        ensures idle { IfSome result (λ turn. ¬ IsRunning turn.worker.seen) }
+        ensures turn { IfSome result (IsTurnOf K.state self.now) }
+        ensures idle { IfSome result (λ turn. ¬ IsRunning (K.state turn.worker).seen) }
     {
         match self.ready.pick(rt, caller) {
             Some(queue) => Some(self.fetch(rt, queue)),
@@ -173,11 +172,11 @@ impl<W: Work + Drop> Pool<W> {
     }
 
     // Tries until the queue is in its slot.
-    fn fetch<R: Wait>(&self, rt: &R, queue: u32) -> Turn<W>
+    fn fetch<R: Wait>(&self, rt: &R, queue: u32) -> TurnOf<K>
         requires { queue < length self.now.workers }
-        ensures turn { IsTurnOf self.now result }
+        ensures turn { IsTurnOf K.state self.now result }
         ensures queue { result.queue ≡ queue }
-        ensures idle { ¬ IsRunning result.worker.seen }
+        ensures idle { ¬ IsRunning (K.state result.worker).seen }
     {
         for _ in rt.forever() {
             if let Some(turn) = self.slots.pick_up(queue) {
@@ -189,7 +188,7 @@ impl<W: Work + Drop> Pool<W> {
     }
 
     /// Lays a queue that was worked at in its slot again.
-    pub fn put_back(&self, caller: &mut Caller, worked: Worked<W>)
+    pub fn put_back(&self, caller: &mut Caller, worked: WorkedOf<K>)
         requires caller { IsCallerOf self.now.ready caller.old }
         requires worked { worked.slots ≡ self.now.slots }
         ensures { caller.new ≡ caller.old }
@@ -199,7 +198,7 @@ impl<W: Work + Drop> Pool<W> {
     }
 
     // A queue whose stop item ran in somebody's hand counts among those that have run theirs.
-    pub(crate) fn lay_down(&self, mut worked: Worked<W>)
+    pub(crate) fn lay_down(&self, mut worked: WorkedOf<K>)
         requires { worked.slots ≡ self.now.slots }
     {
         if worked.served.count_stop() {
@@ -209,7 +208,7 @@ impl<W: Work + Drop> Pool<W> {
     }
 
     // The same while the queue is in hand, since it may stay there for long.
-    pub(crate) fn count_stop(&self, turn: &mut Turn<W>)
+    pub(crate) fn count_stop(&self, turn: &mut TurnOf<K>)
         ensures { turn.new ≡ turn.old }
     {
         if turn.count_stop() {

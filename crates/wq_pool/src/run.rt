@@ -3,32 +3,32 @@ ghost use Rattle.std.specs.Prelude.{◌≡◌, ℕ, ◌<◌, length, slice_index
 ghost use Rattle.wq_ready.specs.Known.{CallerState, IsCallerOf};
 ghost use Rattle.wq_pool.specs.Pool.{GoesOnFrom, IsTurnOf};
 
-use crate::pool::Pool;
-use crate::turn::Turn;
+use crate::pool::PoolOf;
+use crate::turn::TurnOf;
 use std::alloc::AllocError;
 use std::sync::Wait;
 use std::thread;
 use std::thread::Threads;
 use wq_ready::Caller;
 use wq_turn::Gate;
-use wq_worker::Work;
+use wq_worker::Station;
 
 // The share of a queue: after so many executions those that wait go first.
 const EXECUTIONS: u32 = 1024;
 
 // An execution that is owed is looked at as soon as it has ended, so that one that owes again and again keeps nobody waiting.
-fn share_of<W: Work>(turn: &Turn<W>) -> u32 {
+fn share_of<K: Station>(turn: &TurnOf<K>) -> u32 {
     if turn.owes() { 1 } else { EXECUTIONS }
 }
 
-impl<W: Work + Drop + Send> Pool<W> {
+impl<K: Station + Drop + Send> PoolOf<K> {
     #[tactic(auto, using(crate::proofs::GoingOn::goes_by_announce, crate::proofs::GoingOn::turn_same, crate::proofs::GoingOn::goes_on))]
     // Works at a queue until nothing is left to do, and lays it down. After its share of executions it is announced again, behind all
     // that wait, and laid down with what is left: announced first, since nobody finds a queue that lies there unannounced. Where
     // there is no room, or an execution is owed, it is worked on, unless every queue has run its stop item.
-    fn work_share<R: Wait, G: Gate>(&self, rt: &R, caller: &mut Caller, turn: Turn<W>, gate: &G)
+    fn work_share<R: Wait, G: Gate>(&self, rt: &R, caller: &mut Caller, turn: TurnOf<K>, gate: &G)
         requires caller { IsCallerOf self.now.ready caller.old }
-        requires turn { IsTurnOf self.now turn }
+        requires turn { IsTurnOf K.state self.now turn }
         ensures { GoesOnFrom caller.old caller.new }
     {
         let mut turn = turn;

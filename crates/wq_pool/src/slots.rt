@@ -1,16 +1,16 @@
 //! The queues of a pool in slots: each is in its slot, or in the hand of the one that picked it up.
 ghost use Rattle.std.specs.Prelude.{◌≡◌, ◌<◌, ◌^◌, Some, map, length, slice_get, IfOk, IfSome};
 ghost use Rattle.wq_words.specs.History.{IsRunning};
-ghost use Rattle.wq_turn.specs.WorkerId.{worker_id};
+ghost use Rattle.wq_pool.specs.Known.{id_of};
 
-use crate::turn::{Turn, Worked};
+use crate::turn::{TurnOf, WorkedOf};
 use atomic_table::{Play, Seat, Table, TableRule};
 use std::alloc::{AllocError, Global};
 use std::marker::Model;
 use std::snapshot::Snapshot;
 use trail::GhostList;
-use wq_turn::{Runner, Served, WorkerId};
-use wq_worker::Work;
+use wq_turn::{Runner, ServedOf, WorkerId};
+use wq_worker::Station;
 
 /// What a seat knows: the queue that it has in hand, and which workers were handed in. No value of it is made.
 pub struct Hand {
@@ -19,30 +19,30 @@ pub struct Hand {
 }
 
 /// What the table is told once: the queues that were handed in. It takes no memory.
-pub type Handed<W> = Snapshot<Vec<Served<W>>>;
+pub type Handed<K> = Snapshot<Vec<ServedOf<K>>>;
 
 /// What is in a slot is the worker that was handed in at that place.
 pub struct Law;
 
-impl<W: Work> TableRule<Option<Served<W>>, Hand, Handed<W>> for Law {
+impl<K: Station> TableRule<Option<ServedOf<K>>, Hand, Handed<K>> for Law {
     ghost use Rattle.std.specs.Prelude.{map};
-    ghost use Rattle.wq_turn.specs.WorkerId.{worker_id};
+    ghost use Rattle.wq_pool.specs.Known.{id_of};
     ghost use Rattle.wq_pool.specs.Slots.{KeptSlots, empty_hand};
 
-    ghost holds = { λ handed state. KeptSlots (map worker_id handed.value.items) state };
+    ghost holds = { λ handed state. KeptSlots K.state (map (id_of K.state) handed.value.items) state };
 
-    ghost first = { λ handed. empty_hand (map worker_id handed.value.items) };
+    ghost first = { λ handed. empty_hand (map (id_of K.state) handed.value.items) };
 }
 
 /// A seat at the slots.
-pub type SlotSeat<W> = Seat<Option<Served<W>>, Hand>;
+pub type SlotSeat<K> = Seat<Option<ServedOf<K>>, Hand>;
 
-type SlotTable<W> = Table<Option<Served<W>>, Hand, Handed<W>, Law, Global>;
+type SlotTable<K> = Table<Option<ServedOf<K>>, Hand, Handed<K>, Law, Global>;
 
 /// A new seat has nothing in hand.
 pub struct Comes;
 
-impl<W: Work> Play<Option<Served<W>>, Hand> for Comes {
+impl<K: Station> Play<Option<ServedOf<K>>, Hand> for Comes {
     ghost use Rattle.wq_pool.specs.Slots.{comes};
 
     ghost then = { comes };
@@ -51,16 +51,16 @@ impl<W: Work> Play<Option<Served<W>>, Hand> for Comes {
 /// A seat picks a queue up, where the queue is in its slot.
 pub struct PicksUp;
 
-impl<W: Work> Play<Option<Served<W>>, Hand> for PicksUp {
+impl<K: Station> Play<Option<ServedOf<K>>, Hand> for PicksUp {
     ghost use Rattle.wq_pool.specs.Slots.{picks_up};
 
-    ghost then = { picks_up };
+    ghost then = { picks_up K.state };
 }
 
 /// A seat lays down what it has in hand.
 pub struct LaysDown;
 
-impl<W: Work> Play<Option<Served<W>>, Hand> for LaysDown {
+impl<K: Station> Play<Option<ServedOf<K>>, Hand> for LaysDown {
     ghost use Rattle.wq_pool.specs.Slots.{lays_down};
 
     ghost then = { lays_down };
@@ -68,27 +68,27 @@ impl<W: Work> Play<Option<Served<W>>, Hand> for LaysDown {
 
 /// The queues of a pool, each by its place. Threads share them by `&`.
 #[derive(Drop)]
-pub(crate) struct Slots<W: Work> {
-    table: SlotTable<W>,
+pub(crate) struct Slots<K: Station> {
+    table: SlotTable<K>,
     count: u32,
 }
 
-impl<W: Work> Model for Slots<W> {
+impl<K: Station> Model for Slots<K> {
     ghost use Rattle.wq_pool.specs.Known.{SlotsState};
 
     ghost Value = { SlotsState };
 
     ghost use Rattle.wq_pool.specs.Views.{slots_view, AreSlots};
 
-    ghost view = { slots_view };
+    ghost view = { slots_view K.state };
 
-    ghost invariant = { AreSlots };
+    ghost invariant = { AreSlots K.state };
 }
 
-fn filled<W: Work + Drop>(
+fn filled<K: Station + Drop>(
     alloc: Global,
-    queues: Vec<Served<W>>,
-) -> Result<Vec<Option<Served<W>>>, AllocError>
+    queues: Vec<ServedOf<K>>,
+) -> Result<Vec<Option<ServedOf<K>>>, AllocError>
     ensures { IfOk result (λ slots. slots.items ≡ map Some queues.items) }
 {
     let mut slots = Vec::with_capacity(alloc, queues.len())?;
@@ -98,11 +98,11 @@ fn filled<W: Work + Drop>(
     Ok(slots)
 }
 
-impl<W: Work + Drop> Slots<W> {
+impl<K: Station + Drop> Slots<K> {
     /// Each queue lies in the slot of its place.
-    pub(crate) fn new(alloc: Global, queues: Vec<Served<W>>) -> Result<Slots<W>, AllocError>
+    pub(crate) fn new(alloc: Global, queues: Vec<ServedOf<K>>) -> Result<Slots<K>, AllocError>
         requires { length queues.items < 2 ^ 32 }
-        ensures { IfOk result (λ slots. slots.workers ≡ map worker_id queues.items) }
+        ensures { IfOk result (λ slots. slots.workers ≡ map (id_of K.state) queues.items) }
     {
         let handed = Snapshot::of(&queues);
         let count = queues.len();
@@ -125,12 +125,12 @@ impl<W: Work + Drop> Slots<W> {
     }
 
     /// Picks a queue up, where it is in its slot. Tries once.
-    pub(crate) fn pick_up(&self, queue: u32) -> Option<Turn<W>>
+    pub(crate) fn pick_up(&self, queue: u32) -> Option<TurnOf<K>>
         requires { queue < length self.now.workers }
         ensures queue { IfSome result (λ turn. turn.queue ≡ queue) }
         ensures slots { IfSome result (λ turn. turn.slots ≡ self.now.id) }
-        ensures worker { IfSome result (λ turn. slice_get self.now.workers queue ≡ Some (worker_id turn.worker)) }
-        ensures idle { IfSome result (λ turn. ¬ IsRunning turn.worker.seen) }
+        ensures worker { IfSome result (λ turn. slice_get self.now.workers queue ≡ Some (id_of K.state turn.worker)) }
+        ensures idle { IfSome result (λ turn. ¬ IsRunning (K.state turn.worker).seen) }
     {
         let place = queue as usize;
         let slots = &self.table.shared;
@@ -139,7 +139,7 @@ impl<W: Work + Drop> Slots<W> {
             return None;
         }
         match slots.exchange(&mut seat, place, None) {
-            Some(served) => Some(Turn {
+            Some(served) => Some(TurnOf {
                 queue,
                 runner: Runner::of(served),
                 seat,
@@ -149,10 +149,10 @@ impl<W: Work + Drop> Slots<W> {
     }
 
     /// Lays the queue in its slot again.
-    pub(crate) fn lay_down(&self, worked: Worked<W>)
+    pub(crate) fn lay_down(&self, worked: WorkedOf<K>)
         requires { worked.slots ≡ self.now.id }
     {
-        let Worked {
+        let WorkedOf {
             queue,
             served,
             mut seat,

@@ -1,61 +1,60 @@
 //! A queue in hand.
 ghost use Rattle.std.specs.Prelude.{◌≡◌, false, MatchResult};
-ghost use Rattle.wq_words.specs.History.{begun, IsRunning};
+ghost use Rattle.wq_words.specs.History.{IsRunning};
 ghost use Rattle.wq_words.specs.Legal.{IsLegal, IsComplete};
 ghost use Rattle.wq_words.specs.Headline.{KeepsHeadline};
-ghost use Rattle.wq_worker.specs.State.{items_among};
 ghost use Rattle.wq_pool.specs.Known.{IsSameTurn, turn_id};
 ghost use Rattle.wq_turn.specs.Drained.{IsDrained};
-ghost use Rattle.wq_turn.specs.Finished.{IsFinished};
+ghost use Rattle.wq_turn.specs.Finished.{IsFinishedBy};
 ghost use Rattle.wq_turn.specs.Owed.{IsOwed};
 ghost use Rattle.wq_turn.specs.Steps.{Finishes, Pauses, EndsWithin};
 
 use crate::slots::SlotSeat;
 use std::marker::Model;
-use wq_turn::{Gate, Runner, Served};
-use wq_worker::{Book, Work};
+use wq_turn::{Gate, Runner, ServedOf};
+use wq_worker::Station;
 
 /// A queue that was picked, to be worked at. One that is dropped leaves its queue out of the pool for good.
 #[derive(Drop)]
-pub struct Turn<W: Work> {
+pub struct TurnOf<K: Station> {
     pub(crate) queue: u32,
-    pub(crate) runner: Runner<W>,
-    pub(crate) seat: SlotSeat<W>,
+    pub(crate) runner: Runner<K>,
+    pub(crate) seat: SlotSeat<K>,
 }
 
-impl<W: Work> Model for Turn<W> {
+impl<K: Station> Model for TurnOf<K> {
     ghost use Rattle.wq_pool.specs.Known.{TurnState};
 
-    ghost Value = { TurnState W };
+    ghost Value = { TurnState K };
 
     ghost use Rattle.wq_pool.specs.Views.{turn_view, IsTurn};
 
     ghost view = { turn_view };
 
-    ghost invariant = { IsTurn };
+    ghost invariant = { IsTurn K.state };
 }
 
 /// A queue that was worked at, to be put back. One that is dropped leaves its queue out of the pool for good.
 #[derive(Drop)]
-pub struct Worked<W: Work> {
+pub struct WorkedOf<K: Station> {
     pub(crate) queue: u32,
-    pub(crate) served: Served<W>,
-    pub(crate) seat: SlotSeat<W>,
+    pub(crate) served: ServedOf<K>,
+    pub(crate) seat: SlotSeat<K>,
 }
 
-impl<W: Work> Model for Worked<W> {
+impl<K: Station> Model for WorkedOf<K> {
     ghost use Rattle.wq_pool.specs.Known.{TurnState};
 
-    ghost Value = { TurnState W };
+    ghost Value = { TurnState K };
 
     ghost use Rattle.wq_pool.specs.Views.{worked_view, IsWorked};
 
     ghost view = { worked_view };
 
-    ghost invariant = { IsWorked };
+    ghost invariant = { IsWorked K.state };
 }
 
-impl<W: Work> Turn<W> {
+impl<K: Station> TurnOf<K> {
     /// The number of the queue.
     pub fn queue(&self) -> u32
         ensures { result ≡ self.now.queue }
@@ -66,30 +65,31 @@ impl<W: Work> Turn<W> {
     /// What the worker has seen is a legal history, so the queue keeps the headline. The work has run the items that have
     /// begun, in this order.
     pub fn legal(&self)
-        ensures legal { IsLegal self.now.worker.layout self.now.worker.seen }
-        ensures headline { KeepsHeadline self.now.worker.seen }
-        ensures logged { W.log self.now.worker.work ≡ items_among self.now.worker.layout (begun self.now.worker.seen) }
+        ensures legal { IsLegal (K.state self.now.worker).layout (K.state self.now.worker).seen }
+        ensures headline { KeepsHeadline (K.state self.now.worker).seen }
+        ensures logged { K.has_logged self.now.worker }
     {
         self.runner.legal();
     }
 
     /// Serves the queue, by up to so many executions, until nothing is left to do: its rest won, or it has run to its end. Where
     /// more is left the turn is given back: after so many executions, or where one is owed.
-    pub fn work<G: Gate>(mut self, limit: u32, gate: &G) -> Result<Worked<W>, Turn<W>>
-        ensures works { MatchResult result (λ worked. Finishes W.may limit self.worker worked.worker) (λ turn. Pauses W.may limit self.worker turn.worker) }
-        ensures ended { MatchResult result (λ worked. EndsWithin limit self.worker.seen worked.worker.seen)
-            (λ turn. EndsWithin limit self.worker.seen turn.worker.seen) }
-        ensures same { MatchResult result (λ worked. IsSameTurn self worked) (λ turn. IsSameTurn self turn) }
+    pub fn work<G: Gate>(mut self, limit: u32, gate: &G) -> Result<WorkedOf<K>, TurnOf<K>>
+        ensures works { MatchResult result (λ worked. Finishes K.may K.gives limit (K.state self.worker) (K.state worked.worker))
+            (λ turn. Pauses K.may K.gives limit (K.state self.worker) (K.state turn.worker)) }
+        ensures ended { MatchResult result (λ worked. EndsWithin limit (K.state self.worker).seen (K.state worked.worker).seen)
+            (λ turn. EndsWithin limit (K.state self.worker).seen (K.state turn.worker).seen) }
+        ensures same { MatchResult result (λ worked. IsSameTurn K.state self worked) (λ turn. IsSameTurn K.state self turn) }
     {
         if !self.runner.work(self.queue, limit, gate) {
             return Err(self);
         }
-        let Turn {
+        let TurnOf {
             queue,
             runner,
             seat,
         } = self;
-        Ok(Worked {
+        Ok(WorkedOf {
             queue,
             served: runner.into_served(),
             seat,
@@ -98,7 +98,7 @@ impl<W: Work> Turn<W> {
 
     /// True just where an execution is owed.
     pub(crate) fn owes(&self) -> bool
-        ensures { IsOwed result self.now.worker.seen }
+        ensures { IsOwed result (K.state self.now.worker).seen }
     {
         self.runner.owes()
     }
@@ -112,25 +112,25 @@ impl<W: Work> Turn<W> {
 
     /// Closes the queue where it is not closed, executes up to so many numbers, and answers how many are left.
     pub(crate) fn drain(&mut self, limit: u32) -> u32
-        requires { ¬ IsRunning self.old.worker.seen }
-        ensures same { IsSameTurn self.old self.new }
-        ensures left { IsDrained result self.new.worker }
-        ensures idle { ¬ IsRunning self.new.worker.seen }
+        requires { ¬ IsRunning (K.state self.old.worker).seen }
+        ensures same { IsSameTurn K.state self.old self.new }
+        ensures left { IsDrained result (K.state self.new.worker) }
+        ensures idle { ¬ IsRunning (K.state self.new.worker).seen }
     {
         self.runner.drain(limit)
     }
 
     /// A turn that owes nothing.
-    pub(crate) fn into_worked(self) -> Worked<W>
-        requires { ¬ IsRunning self.worker.seen }
+    pub(crate) fn into_worked(self) -> WorkedOf<K>
+        requires { ¬ IsRunning (K.state self.worker).seen }
         ensures { result ≡ self }
     {
-        let Turn {
+        let TurnOf {
             queue,
             runner,
             seat,
         } = self;
-        Worked {
+        WorkedOf {
             queue,
             served: runner.into_served(),
             seat,
@@ -138,7 +138,7 @@ impl<W: Work> Turn<W> {
     }
 }
 
-impl<W: Work> Worked<W> {
+impl<K: Station> WorkedOf<K> {
     /// The number of the queue.
     pub fn queue(&self) -> u32
         ensures { result ≡ self.now.queue }
@@ -149,20 +149,20 @@ impl<W: Work> Worked<W> {
     /// What the worker has seen is a legal history, so the queue keeps the headline. The work has run the items that have
     /// begun, in this order, and nothing runs.
     pub fn legal(&self)
-        ensures legal { IsLegal self.now.worker.layout self.now.worker.seen }
-        ensures headline { KeepsHeadline self.now.worker.seen }
-        ensures logged { W.log self.now.worker.work ≡ items_among self.now.worker.layout (begun self.now.worker.seen) }
-        ensures idle { ¬ IsRunning self.now.worker.seen }
+        ensures legal { IsLegal (K.state self.now.worker).layout (K.state self.now.worker).seen }
+        ensures headline { KeepsHeadline (K.state self.now.worker).seen }
+        ensures logged { K.has_logged self.now.worker }
+        ensures idle { ¬ IsRunning (K.state self.now.worker).seen }
     {
         self.served.legal();
     }
 }
 
-impl<W: Work + Drop> Worked<W> {
+impl<K: Station + Drop> WorkedOf<K> {
     /// The work and the book of a queue that has run to its end.
-    pub(crate) fn into_parts(self) -> (W, Book)
-        requires { IsComplete self.worker.seen }
-        ensures { IsFinished W.log (turn_id self) result }
+    pub(crate) fn into_parts(self) -> (K::Work, K::Book)
+        requires { IsComplete (K.state self.worker).seen }
+        ensures { IsFinishedBy K.book K.has_run (turn_id K.state self) result }
     {
         self.served.into_parts()
     }

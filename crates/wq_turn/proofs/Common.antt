@@ -8,13 +8,12 @@ pub use Rattle.wq_words.specs.declared.layout.Layout.{Layout}
 pub use Rattle.wq_words.specs.History.{accepted, begun, ended, IsClosed, IsShut, IsDraining, IsRunning, ended_by, accepted_by, taken, fresh, first, closed}
 pub use Rattle.wq_words.specs.History.{shut}
 pub use Rattle.wq_words.specs.Legal.{IsLegal, IsComplete}
-pub use Rattle.wq_words.proofs.Closed.{closed_shuts, open_from_closed, shut_from_IsShut, shut_from_open, IsClosed_from_closed}
+pub use Rattle.wq_words.proofs.Closed.{closed_shuts, shut_from_IsShut, shut_from_open, IsClosed_from_closed}
 pub use Rattle.wq_live.specs.Batch.{batch, next_of}
 pub use Rattle.wq_live.specs.Rest.{MayNotRest}
 pub use Rattle.wq_worker.specs.declared.ran.Ran.{Ran}
 pub use Rattle.wq_worker.specs.declared.ran.Ran.TheVariants.{Item, Barrier, Stop, Nothing, Owing}
-pub use Rattle.wq_worker.specs.Rows.{Row, none, more, IsExecution, Closes, was_closed, closes, Shuts, was_shut, drains, Resumes, stays_closed, reopens, Drains}
-pub use Rattle.wq_worker.specs.Rows.{ended_by_answer}
+pub use Rattle.wq_worker.specs.Rows.{IsExecution, ended_by_answer}
 pub use Rattle.wq_worker.specs.State.{WorkerState, Moves}
 pub use Rattle.wq_worker.specs.Follow.{contended_of}
 pub use Rattle.wq_worker.specs.Resting.{rest_events, IsReady, IsUnready, owed, nothing, HasNoneLeft, LeavesWork}

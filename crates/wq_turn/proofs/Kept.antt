@@ -1,7 +1,7 @@
 -- What a worker in hand keeps by each step: whether it owes an execution, and that its queue does not drain.
-use Rattle.wq_worker.specs.Step.{Runs}
+use Rattle.wq_worker.specs.Step.{RunsBy}
 use Rattle.wq_worker.proofs.Phase.{SamePhase, phase_still, shut_still, closed_still}
-use Rattle.wq_worker.proofs.Rows.{runs_phase}
+use Rattle.wq_worker.proofs.Rows.{runs_by_phase}
 use Rattle.wq_worker.proofs.State.{quiet_taking}
 use Rattle.wq_turn.proofs.Common.{ℕ, Bool, true, false, List, [], ◌∷◌, Some, None, Option, MatchOption, sym, refl, subst, Event, Close, IsDraining}
 use Rattle.wq_turn.proofs.Common.{IsRunning}
@@ -41,8 +41,8 @@ module _ {W : Type 0} (a b : WorkerState W) (not : ¬ IsDraining a.seen) where
   rest_not_draining true moved = keeps ((owner_of_both a.number (rest_events true) 0 a.seen b.seen moved.adds).phase refl)
   rest_not_draining false moved = keeps ((owner_of_both a.number (rest_events false) 0 a.seen b.seen moved.adds).phase refl)
 
-  pub runs_not_draining : (may : W → ℕ → List ℕ → W → Type 0) (r : Ran) → Runs may r a b → ¬ IsDraining b.seen
-  runs_not_draining may r step = keeps (runs_phase may r a b step)
+  pub runs_not_draining : (may : W → ℕ → List ℕ → W → Type 0) (gives : W → W → Type 0) (r : Ran) → RunsBy may gives r a b → ¬ IsDraining b.seen
+  runs_not_draining may gives r step = keeps (runs_by_phase may gives r a b step)
 
   pub closed_not_draining : Moves (Close ∷ []) 0 a b → ¬ IsDraining b.seen
   closed_not_draining moved draining = draining.1 (close_closes a b moved)

@@ -2,8 +2,6 @@
 use Rattle.std.specs.Prelude.{◌≡◌, ℕ, ◌+◌, length}
 use Rattle.wq_words.specs.History.{accepted, ended, IsClosed}
 use Rattle.wq_words.specs.Legal.{IsLegal}
-use Rattle.wq_worker.specs.declared.drained.Drained.{Drained}
-use Rattle.wq_worker.specs.declared.drained.Drained.TheVariants.{Empty, TooLong}
 use Rattle.wq_worker.specs.State.{WorkerState}
 
 -- it is closed, and so many numbers are accepted and have not ended
@@ -11,8 +9,3 @@ pub record IsDrained {W : Type 0} (left : ℕ) (w : WorkerState W) : Type 0 wher
   pub legal : IsLegal w.layout w.seen
   pub closed : IsClosed w.seen
   pub left_is : left + length (ended w.seen) ≡ length (accepted w.seen)
-
--- how much a drain says is left
-abbrev pub left_after : Drained → ℕ
-left_after Empty = 0
-left_after (TooLong left) = left

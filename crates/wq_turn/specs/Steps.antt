@@ -10,7 +10,7 @@ use Rattle.wq_worker.specs.declared.ran.Ran.TheVariants.{Owing}
 use Rattle.wq_worker.specs.Resting.{rest_events, LeavesWork, IsReady, IsUnready}
 use Rattle.wq_worker.specs.Rows.{IsExecution, ended_by_answer}
 use Rattle.wq_worker.specs.State.{WorkerState, Moves}
-use Rattle.wq_worker.specs.Step.{Runs}
+use Rattle.wq_worker.specs.Step.{RunsBy}
 use Rattle.wq_turn.specs.declared.runner.Progress.{Progress}
 use Rattle.wq_turn.specs.declared.runner.Progress.TheVariants.{Ended, Owed, Done}
 
@@ -21,14 +21,14 @@ EndsWithin limit v w = length (ended w) ≤ length (ended v) + limit
 abbrev pub EndsJust : ℕ → List Event → List Event → Type 0
 EndsJust n v w = length (ended w) ≡ length (ended v) + n
 
-module _ {W : Type 0} (may : W → ℕ → List ℕ → W → Type 0) where
+module _ {W : Type 0} (may : W → ℕ → List ℕ → W → Type 0) (gives : W → W → Type 0) where
   -- One step after another, by which n executions ended: the worker gets ready and a number waits, or none does; it runs one;
   -- it rests, or tries to.
   pub data StepRow : ℕ → WorkerState W → WorkerState W → Type 0 where
     still : (a : WorkerState W) → StepRow 0 a a
     ready : (n k : ℕ) (a b c : WorkerState W) → StepRow n a b → IsReady b k c → StepRow n a c
     unready : (n : ℕ) (a b c : WorkerState W) → StepRow n a b → IsUnready b c → StepRow n a c
-    run : (n : ℕ) (r : Ran) (a b c : WorkerState W) → StepRow n a b → Runs may r b c → StepRow (n + ended_by_answer r) a c
+    run : (n : ℕ) (r : Ran) (a b c : WorkerState W) → StepRow n a b → RunsBy may gives r b c → StepRow (n + ended_by_answer r) a c
     rest : (n : ℕ) (rests : Bool) (a b c : WorkerState W) → StepRow n a b → LeavesWork b c → Moves (rest_events rests) 0 b c → StepRow n a c
 
   -- After at most so many executions nothing is left to do: the last step was a rest, or the queue has run to its end.
@@ -40,7 +40,7 @@ module _ {W : Type 0} (may : W → ℕ → List ℕ → W → Type 0) where
   -- owed, before the limit; or with the limit 0 an execution was owed already.
   pub data Pauses (limit : ℕ) (a c : WorkerState W) : Type 0 where
     limited : (k : ℕ) → StepRow limit a c → EndsJust limit a.seen c.seen → ¬ IsRunning c.seen → next_of c.seen ≡ Some k → Pauses limit a c
-    owes : (n k : ℕ) (b : WorkerState W) → n < limit → StepRow n a b → Runs may (Owing k) b c → Pauses limit a c
+    owes : (n k : ℕ) (b : WorkerState W) → n < limit → StepRow n a b → RunsBy may gives (Owing k) b c → Pauses limit a c
     owed_before : limit ≡ 0 → IsRunning a.seen → c ≡ a → Pauses limit a c
 
   -- a number that was taken is to be begun next
@@ -56,14 +56,14 @@ module _ {W : Type 0} (may : W → ℕ → List ℕ → W → Type 0) where
 
   -- an execution ended, or is owed
   abbrev pub RunsOne : Progress → WorkerState W → WorkerState W → Type 0
-  RunsOne Ended a c = (r : Ran) × IsExecution r × Runs may r a c × (¬ IsRunning c.seen)
-  RunsOne Owed a c = (k : ℕ) × Runs may (Owing k) a c
+  RunsOne Ended a c = (r : Ran) × IsExecution r × RunsBy may gives r a c × (¬ IsRunning c.seen)
+  RunsOne Owed a c = (k : ℕ) × RunsBy may gives (Owing k) a c
   RunsOne Done a c = ⊥
 
   -- one execution ended, or is owed, or nothing was left to do
   abbrev pub MakesProgress : Progress → WorkerState W → WorkerState W → Type 0
   MakesProgress Ended a c = StepRow 1 a c × (¬ IsRunning c.seen)
-  MakesProgress Owed a c = (k : ℕ) × (b : WorkerState W) × StepRow 0 a b × Runs may (Owing k) b c
+  MakesProgress Owed a c = (k : ℕ) × (b : WorkerState W) × StepRow 0 a b × RunsBy may gives (Owing k) b c
   MakesProgress Done a c = Finishes 0 a c × (¬ IsRunning c.seen)
 
   -- nothing is left to do, or something is

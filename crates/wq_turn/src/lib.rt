@@ -10,5 +10,5 @@ mod worker_id;
 
 pub use gate::Gate;
 pub use runner::Runner;
-pub use served::Served;
+pub use served::{Served, ServedOf, ValueServed};
 pub use worker_id::WorkerId;

@@ -1,12 +1,11 @@
 //! A worker at work.
 ghost use Rattle.std.specs.Prelude.{◌≡◌, true, false, Contains};
 ghost use Rattle.wq_words.specs.Numbers.{stop_number};
-ghost use Rattle.wq_words.specs.History.{begun, ended, IsClosed, IsRunning, IsDraining};
+ghost use Rattle.wq_words.specs.History.{ended, IsClosed, IsRunning, IsDraining};
 ghost use Rattle.wq_words.specs.Legal.{IsLegal};
 ghost use Rattle.wq_words.specs.Headline.{KeepsHeadline};
 ghost use Rattle.wq_worker.specs.Resting.{HasNoneLeft};
 ghost use Rattle.wq_worker.specs.Seats.{NothingWaits};
-ghost use Rattle.wq_worker.specs.State.{items_among};
 ghost use Rattle.wq_turn.specs.Drained.{IsDrained};
 ghost use Rattle.wq_turn.specs.Owed.{IsOwed};
 ghost use Rattle.wq_turn.specs.Steps.{Settles, RunsOne, MakesProgress, WorksOn};
@@ -14,9 +13,9 @@ ghost use Rattle.wq_turn.specs.WorkerId.{worker_id};
 
 use crate::gate::Gate;
 use crate::noted::Noted;
-use crate::served::Served;
+use crate::served::ServedOf;
 use std::marker::Model;
-use wq_worker::{Ran, Work};
+use wq_worker::{Ran, Station};
 
 /// What a step came to.
 pub(crate) enum Progress {
@@ -30,8 +29,8 @@ pub(crate) enum Progress {
 
 /// A worker at work: one that may owe an execution, with its queue in the hand of one thread.
 #[derive(Drop)]
-pub struct Runner<W: Work> {
-    worker: Noted<W>,
+pub struct Runner<K: Station> {
+    worker: Noted<K>,
     owes: bool,
 }
 
@@ -44,23 +43,22 @@ impl Gate for NoGate {
     fn after(&self, _queue: u32, _item: u32) {}
 }
 
-impl<W: Work> Model for Runner<W> {
+impl<K: Station> Model for Runner<K> {
     ghost use Rattle.wq_words.specs.History.{IsDraining};
-    ghost use Rattle.wq_worker.specs.State.{WorkerState};
     ghost use Rattle.wq_turn.specs.Owed.{IsOwed};
 
-    ghost Value = { WorkerState W };
+    ghost Value = { K };
 
     ghost view = { λ r. r.worker };
 
-    ghost invariant = { λ r. IsOwed r.owes r.worker.seen × (¬ IsDraining r.worker.seen) };
+    ghost invariant = { λ r. IsOwed r.owes (K.state r.worker).seen × (¬ IsDraining (K.state r.worker).seen) };
 }
 
-impl<W: Work> Runner<W> {
+impl<K: Station> Runner<K> {
     /// Takes a worker that owes nothing to work.
-    pub fn of(served: Served<W>) -> Runner<W>
+    pub fn of(served: ServedOf<K>) -> Runner<K>
         ensures same { result ≡ served }
-        ensures idle { ¬ IsRunning result.seen }
+        ensures idle { ¬ IsRunning (K.state result).seen }
     {
         Runner {
             worker: served.worker,
@@ -71,17 +69,17 @@ impl<W: Work> Runner<W> {
     /// What the worker has seen is a legal history, so the queue keeps the headline. The work has run the items that have
     /// begun, in this order. The queue does not drain.
     pub fn legal(&self)
-        ensures legal { IsLegal self.now.layout self.now.seen }
-        ensures headline { KeepsHeadline self.now.seen }
-        ensures logged { W.log self.now.work ≡ items_among self.now.layout (begun self.now.seen) }
-        ensures not_draining { ¬ IsDraining self.now.seen }
+        ensures legal { IsLegal (K.state self.now).layout (K.state self.now).seen }
+        ensures headline { KeepsHeadline (K.state self.now).seen }
+        ensures logged { K.has_logged self.now }
+        ensures not_draining { ¬ IsDraining (K.state self.now).seen }
     {
         self.worker.legal();
     }
 
     /// True just where an execution is owed.
     pub fn owes(&self) -> bool
-        ensures { IsOwed result self.now.seen }
+        ensures { IsOwed result (K.state self.now).seen }
     {
         self.owes
     }
@@ -89,17 +87,17 @@ impl<W: Work> Runner<W> {
     /// As `Served::count_stop`, of a worker that may owe an execution.
     pub fn count_stop(&mut self) -> bool
         ensures same { self.new ≡ self.old }
-        ensures ran { result ≡ true → Contains (ended self.old.seen) (stop_number self.old.layout) }
+        ensures ran { result ≡ true → Contains (ended (K.state self.old).seen) (stop_number (K.state self.old).layout) }
     {
         self.worker.count_stop()
     }
 
     /// The worker at rest, where it owes nothing.
-    pub fn into_served(self) -> Served<W>
-        requires { ¬ IsRunning self.seen }
+    pub fn into_served(self) -> ServedOf<K>
+        requires { ¬ IsRunning (K.state self).seen }
         ensures same { result ≡ self }
     {
-        Served {
+        ServedOf {
             worker: self.worker,
         }
     }
@@ -107,9 +105,9 @@ impl<W: Work> Runner<W> {
     // Rests, where nothing is left and the queue is open. Where that is refused something was pushed, since the worker has taken
     // after its last rest, and the next take finds it.
     fn rest(&mut self) -> Option<u32>
-        requires waits { NothingWaits self.old.seen }
-        requires none { HasNoneLeft self.old.seen }
-        ensures { Settles W.may result self.old self.new }
+        requires waits { NothingWaits (K.state self.old).seen }
+        requires none { HasNoneLeft (K.state self.old).seen }
+        ensures { Settles K.may K.gives result (K.state self.old) (K.state self.new) }
     {
         if self.worker.is_closed() {
             return None;
@@ -122,8 +120,8 @@ impl<W: Work> Runner<W> {
 
     // Answers the number to be begun next. `None` where nothing is left to do.
     fn settle(&mut self) -> Option<u32>
-        requires { ¬ IsRunning self.old.seen }
-        ensures { Settles W.may result self.old self.new }
+        requires { ¬ IsRunning (K.state self.old).seen }
+        ensures { Settles K.may K.gives result (K.state self.old) (K.state self.new) }
     {
         match self.worker.ready() {
             Some(number) => Some(number),
@@ -133,8 +131,8 @@ impl<W: Work> Runner<W> {
 
     // Executes the next number, or goes on with the one that is owed.
     fn execute<G: Gate>(&mut self, queue: u32, gate: &G) -> Progress
-        requires { ¬ HasNoneLeft self.old.seen }
-        ensures { RunsOne W.may result self.old self.new }
+        requires { ¬ HasNoneLeft (K.state self.old).seen }
+        ensures { RunsOne K.may K.gives result (K.state self.old) (K.state self.new) }
     {
         match self.worker.run_one() {
             Ran::Item(item) => gate.after(queue, item),
@@ -159,7 +157,7 @@ impl<W: Work> Runner<W> {
 
     // One execution, or none where nothing is left to do.
     fn advance<G: Gate>(&mut self, queue: u32, gate: &G) -> Progress
-        ensures { MakesProgress W.may result self.old self.new }
+        ensures { MakesProgress K.may K.gives result (K.state self.old) (K.state self.new) }
     {
         if self.owes {
             return self.execute(queue, gate);
@@ -179,7 +177,7 @@ impl<W: Work> Runner<W> {
     /// owed. False where something is left: after just as many executions as the limit a number waits that was taken, or an
     /// execution is owed.
     pub fn work<G: Gate>(&mut self, queue: u32, limit: u32, gate: &G) -> bool
-        ensures works { WorksOn W.may limit result self.old self.new }
+        ensures works { WorksOn K.may K.gives limit result (K.state self.old) (K.state self.new) }
     {
         for _ended in 0..limit {
             match self.advance(queue, gate) {
@@ -199,9 +197,9 @@ impl<W: Work> Runner<W> {
 
     // Closes the queue where it is not closed.
     fn close(&mut self)
-        ensures same { worker_id self.new ≡ worker_id self.old }
-        ensures closed { IsClosed self.new.seen }
-        ensures idle { ¬ IsRunning self.old.seen → ¬ IsRunning self.new.seen }
+        ensures same { worker_id (K.state self.new) ≡ worker_id (K.state self.old) }
+        ensures closed { IsClosed (K.state self.new).seen }
+        ensures idle { ¬ IsRunning (K.state self.old).seen → ¬ IsRunning (K.state self.new).seen }
     {
         if !self.worker.is_closed() {
             self.worker.close();
@@ -211,10 +209,10 @@ impl<W: Work> Runner<W> {
     /// Closes the queue where it is not closed, works on, by up to so many executions and with no gate, and answers how many numbers
     /// are left.
     pub fn drain(&mut self, limit: u32) -> u32
-        requires { ¬ IsRunning self.old.seen }
-        ensures same { worker_id self.new ≡ worker_id self.old }
-        ensures left { IsDrained result self.new }
-        ensures idle { ¬ IsRunning self.new.seen }
+        requires { ¬ IsRunning (K.state self.old).seen }
+        ensures same { worker_id (K.state self.new) ≡ worker_id (K.state self.old) }
+        ensures left { IsDrained result (K.state self.new) }
+        ensures idle { ¬ IsRunning (K.state self.new).seen }
     {
         self.close();
         self.work(0, limit, &NoGate);

@@ -1,42 +1,46 @@
 //! A worker that owes nothing.
 ghost use Rattle.std.specs.Prelude.{◌≡◌, true, Contains};
 ghost use Rattle.wq_words.specs.Numbers.{stop_number};
-ghost use Rattle.wq_words.specs.History.{begun, ended, IsRunning, IsDraining};
+ghost use Rattle.wq_words.specs.History.{ended, IsRunning, IsDraining};
 ghost use Rattle.wq_words.specs.Legal.{IsLegal, IsComplete};
 ghost use Rattle.wq_words.specs.Headline.{KeepsHeadline};
-ghost use Rattle.wq_worker.specs.State.{items_among};
 ghost use Rattle.wq_turn.specs.WorkerId.{worker_id};
-ghost use Rattle.wq_turn.specs.Finished.{IsFinished};
+ghost use Rattle.wq_turn.specs.Finished.{IsFinishedBy};
 
 use crate::noted::Noted;
 use std::marker::Model;
-use wq_worker::{Book, Work, Worker};
+use wq_worker::{Station, ValueWorker, Worker};
 
 /// A worker that owes no execution, and whose queue does not drain, so that another thread can go on with its queue.
 #[derive(Drop)]
-pub struct Served<W: Work> {
-    pub(crate) worker: Noted<W>,
+pub struct ServedOf<K: Station> {
+    pub(crate) worker: Noted<K>,
 }
 
-impl<W: Work> Model for Served<W> {
-    ghost use Rattle.wq_words.specs.History.{IsRunning, IsDraining};
-    ghost use Rattle.wq_worker.specs.State.{WorkerState};
+/// A plain worker that owes no execution: one whose items bring no values.
+pub type Served<W> = ServedOf<Worker<W>>;
 
-    ghost Value = { WorkerState W };
+/// A worker whose items bring values, that owes no execution, and whose queue does not drain.
+pub type ValueServed<V, W> = ServedOf<ValueWorker<V, W>>;
+
+impl<K: Station> Model for ServedOf<K> {
+    ghost use Rattle.wq_words.specs.History.{IsRunning, IsDraining};
+
+    ghost Value = { K };
 
     ghost view = { λ s. s.worker };
 
-    ghost invariant = { λ s. (¬ IsRunning s.worker.seen) × (¬ IsDraining s.worker.seen) };
+    ghost invariant = { λ s. (¬ IsRunning (K.state s.worker).seen) × (¬ IsDraining (K.state s.worker).seen) };
 }
 
-impl<W: Work> Served<W> {
+impl<K: Station> ServedOf<K> {
     /// Takes a worker of which nothing runs, and whose queue does not drain.
-    pub fn new(worker: Worker<W>) -> Served<W>
-        requires idle { ¬ IsRunning worker.seen }
-        requires not_draining { ¬ IsDraining worker.seen }
+    pub fn new(worker: K) -> ServedOf<K>
+        requires idle { ¬ IsRunning (K.state worker).seen }
+        requires not_draining { ¬ IsDraining (K.state worker).seen }
         ensures same { result ≡ worker }
     {
-        Served {
+        ServedOf {
             worker: Noted::of(worker),
         }
     }
@@ -45,11 +49,11 @@ impl<W: Work> Served<W> {
     /// order, once, and one at a time. The work has run the items that have begun, in this order, nothing runs, and the queue
     /// does not drain.
     pub fn legal(&self)
-        ensures legal { IsLegal self.now.layout self.now.seen }
-        ensures headline { KeepsHeadline self.now.seen }
-        ensures logged { W.log self.now.work ≡ items_among self.now.layout (begun self.now.seen) }
-        ensures idle { ¬ IsRunning self.now.seen }
-        ensures not_draining { ¬ IsDraining self.now.seen }
+        ensures legal { IsLegal (K.state self.now).layout (K.state self.now).seen }
+        ensures headline { KeepsHeadline (K.state self.now).seen }
+        ensures logged { K.has_logged self.now }
+        ensures idle { ¬ IsRunning (K.state self.now).seen }
+        ensures not_draining { ¬ IsDraining (K.state self.now).seen }
     {
         self.worker.legal();
     }
@@ -59,21 +63,17 @@ impl<W: Work> Served<W> {
     /// only where the stop item is among what has ended; that it is true then, and once, is in no clause.
     pub fn count_stop(&mut self) -> bool
         ensures same { self.new ≡ self.old }
-        ensures ran { result ≡ true → Contains (ended self.old.seen) (stop_number self.old.layout) }
+        ensures ran { result ≡ true → Contains (ended (K.state self.old).seen) (stop_number (K.state self.old).layout) }
     {
         self.worker.count_stop()
     }
-}
 
-impl<W: Work + Drop> Served<W> {
     /// The work and the book of a queue that has run to its end.
-    pub fn into_parts(self) -> (W, Book)
-        requires { IsComplete self.seen }
-        ensures finished { IsFinished W.log (worker_id self) result }
+    pub fn into_parts(self) -> (K::Work, K::Book)
+        requires { IsComplete (K.state self).seen }
+        ensures finished { IsFinishedBy K.book K.has_run (worker_id (K.state self)) result }
     {
-        match self.worker.into_worker().destroy(0) {
-            Ok(parts) => parts,
-            Err(_) => unreachable!(),
-        }
+        self.worker.legal();
+        self.worker.into_worker().into_parts()
     }
 }

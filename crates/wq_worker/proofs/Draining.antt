@@ -20,11 +20,11 @@ use Rattle.wq_worker.specs.declared.ran.Ran.{Ran}
 use Rattle.wq_worker.specs.declared.ran.Ran.TheVariants.{Item, Barrier, Stop, Nothing, Owing}
 use Rattle.wq_worker.specs.Seats.{Adds, taking, NothingWaits, at_take, at_all}
 use Rattle.wq_worker.specs.State.{WorkerState}
-use Rattle.wq_worker.specs.Step.{Owes, owes, Runs}
+use Rattle.wq_worker.specs.Step.{OwesBy, owes, RunsBy}
 use Rattle.wq_worker.specs.Rows.{IsExecution}
 use Rattle.wq_worker.proofs.Owned.{IsQuiet, owner_of_both, stays}
 use Rattle.wq_worker.proofs.Phase.{phase_grown, open_still, shut_still}
-use Rattle.wq_worker.proofs.Rows.{runs_phase}
+use Rattle.wq_worker.proofs.Rows.{runs_by_phase}
 use Rattle.wq_worker.proofs.Shut.{batch-shut}
 use Rattle.wq_worker.proofs.State.{quiet_taking}
 
@@ -63,15 +63,15 @@ nothing_left layout s n es v w a q legal shut idle (at_take before after is last
 nothing_left layout s n es v w a q legal shut idle (at_all now none) =
     let same = stays es v w q (owner_of_both s es n v w a) in ended_at layout v a.new w a.is legal idle same.begun_same none
 
-module _ {W : Type 0} (may : W → ℕ → List ℕ → W → Type 0) where
-  owes_open : (k : ℕ) (a b : WorkerState W) → Owes may a k b → ¬ IsShut a.seen
+module _ {W : Type 0} (may : W → ℕ → List ℕ → W → Type 0) (gives : W → W → Type 0) where
+  owes_open : (k : ℕ) (a b : WorkerState W) → OwesBy may gives a k b → ¬ IsShut a.seen
   owes_open k a b (owes f qs j more es fs st split left opens told moved runs) = λ shut. let now = shut_from_IsShut a.seen shut in absurd (cc)
 
   -- a queue that is shut and has something left goes on
-  pub executes : (r : Ran) (a b : WorkerState W) → IsShut a.seen → ¬ HasRunOut a.seen → Runs may r a b → IsExecution r × IsShut b.seen
-  executes r a b shut rest t = (each r t, shut_still a.seen b.seen (runs_phase may r a b t) shut)
+  pub executes : (r : Ran) (a b : WorkerState W) → IsShut a.seen → ¬ HasRunOut a.seen → RunsBy may gives r a b → IsExecution r × IsShut b.seen
+  executes r a b shut rest t = (each r t, shut_still a.seen b.seen (runs_by_phase may gives r a b t) shut)
     where
-      each : (r : Ran) → Runs may r a b → IsExecution r
+      each : (r : Ran) → RunsBy may gives r a b → IsExecution r
       each (Item k) t = tt
       each (Barrier k) t = tt
       each Stop t = tt

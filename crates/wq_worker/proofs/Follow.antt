@@ -54,6 +54,17 @@ told_chain item answer.Closed old new low is_shut h c = absurd h
 told_chain item answer.Contended old new low is_shut h c = absurd h
 told_chain item answer.Draining old new low is_shut h c = absurd h
 
+-- the worker alone closes and drains its queue, so that no queueing while it takes pushes is refused by that
+pub never_closed : (item tries : ℕ) (old new : KnownPair) → shut old.seen ≡ false → Answers item tries answer.Closed (pair_sender old) (pair_sender new)
+    → Sees [] 0 (pair_owner old) (pair_owner new) → ⊥
+never_closed item tries old new opens h c =
+    unclosed_still old.seen new.seen (phase_grown [] 0 old.seen new.seen c.grows refl) (λ is. open_from_shut old.seen opens (closed_shuts old.seen is))
+    (closed_by old.number new.layout item 0 old.seen new.seen h.grows h.legal)
+
+pub never_drains : (item tries : ℕ) (old new : KnownPair) → shut old.seen ≡ false → Answers item tries answer.Draining (pair_sender old) (pair_sender new)
+    → Sees [] 0 (pair_owner old) (pair_owner new) → ⊥
+never_drains item tries old new opens h c = met_none 0 old.seen new.seen c.grows (open_from_shut old.seen opens) h.1
+
 pub told_send : (item tries : ℕ) (a : Answer) (old new : KnownPair) → item < old.layout.items → shut old.seen ≡ false
     → Answers item tries a (pair_sender old) (pair_sender new) → Sees [] 0 (pair_owner old) (pair_owner new)
     → (es : List Event) × Attempts old.layout.items old.number (shut old.seen) item (settled a) es × Both es (cond (settled a) 0 tries) old new
@@ -61,10 +72,8 @@ told_send item tries (answer.Queued is_first wakes) old new low opens h c =
     let es = Hold old.number item ∷ Push old.number item ∷ [] in (es, pushed low opens refl, by_sender es 0 0 old new h.0 c)
 told_send item tries answer.Pending old new low opens h c =
     let es = Busy old.number item ∷ [] in (es, busy low opens refl, by_sender es 0 0 old new h c)
-told_send item tries answer.Closed old new low opens h c =
-    absurd (unclosed_still old.seen new.seen (phase_grown [] 0 old.seen new.seen c.grows refl) (λ is. open_from_shut old.seen opens (closed_shuts old.seen is))
-    (closed_by old.number new.layout item 0 old.seen new.seen h.grows h.legal))
-told_send item tries answer.Draining old new low opens h c = absurd (met_none 0 old.seen new.seen c.grows (open_from_shut old.seen opens) h.1)
+told_send item tries answer.Closed old new low opens h c = absurd (never_closed item tries old new opens h c)
+told_send item tries answer.Draining old new low opens h c = absurd (never_drains item tries old new opens h c)
 told_send item tries answer.Contended old new low opens h c =
     (contended_of old.number item, (low, opens, refl), by_sender (contended_of old.number item) tries 0 old new h c)
 
@@ -84,21 +93,26 @@ sofar_stays ks js old new f =
 pub sofar_runs : (ks js : List ℕ) (old new : KnownPair) → Sofar ks js old new → IsRunning old.seen → IsRunning new.seen
 sofar_runs ks js old new f runs = let k = sofar_stays ks js old new f in rw (k.begun_same, k.ended_same) runs
 
+-- what a queueing added after these events, as one of a list
+pub queues_since : (xs : List Event) (n k : ℕ) (es : List Event) (old mid : KnownPair) → Both xs n old mid → Stays old.seen mid.seen
+    → Queues mid.layout.items mid.number (shut mid.seen) k es → Queues old.layout.items old.number (shut old.seen) k es
+queues_since xs n k es old mid moved same told =
+    subst (λ (z : Bool). Queues old.layout.items old.number z k es) same.phase.shut_same
+    (subst (λ (z : ℕ). Queues old.layout.items z (shut mid.seen) k es) moved.number_is
+    (subst (λ (z : Layout). Queues z.items mid.number (shut mid.seen) k es) moved.layout_is told))
+
 pub one_more : (ks : List ℕ) (k : ℕ) (js : List ℕ) (b : Bool) (tries : ℕ) (old mid new : KnownPair) → Sofar ks (k ∷ js) old mid → b ≡ true
     → (es : List Event) × Attempts mid.layout.items mid.number (shut mid.seen) k b es × Both es (cond b 0 tries) mid new → Sofar ks js old new
 one_more ks k js b tries old mid new f won h =
     let h1 : (es : List Event) × Queues mid.layout.items mid.number (shut mid.seen) k es × Both es 0 mid new =
     subst (λ (z : Bool). (es : List Event) × Attempts mid.layout.items mid.number (shut mid.seen) k z es × Both es (cond z 0 tries) mid new) won h in
     let same = sofar_stays ks (k ∷ js) old mid f in
-    let told : Queues old.layout.items old.number (shut old.seen) k h1.0 =
-    subst (λ (z : Bool). Queues old.layout.items old.number z k h1.0) same.phase.shut_same
-    (subst (λ (z : ℕ). Queues old.layout.items z (shut mid.seen) k h1.0) f.moved.number_is
-    (subst (λ (z : Layout). Queues z.items mid.number (shut mid.seen) k h1.0) f.moved.layout_is h1.1)) in
     record {
       queued = f.queued ++ k ∷ [];
       events = f.events ++ h1.0;
       split = f.split ∙ sym (append_assoc f.queued (k ∷ []) js);
-      told = follows_push old.layout.items old.number (shut old.seen) f.queued k f.events h1.0 f.told told;
+      told = follows_push old.layout.items old.number (shut old.seen) f.queued k f.events h1.0 f.told
+          (queues_since f.events 0 k h1.0 old mid f.moved same h1.1);
       moved = both_on f.events h1.0 0 0 old mid new f.moved h1.2;
     }
 

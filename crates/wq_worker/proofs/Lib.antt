@@ -1,4 +1,5 @@
 pub mod Seats
+pub mod Counts
 pub mod Phase
 pub mod Refusals
 pub mod Owned
@@ -8,7 +9,18 @@ pub mod Pair
 pub mod Follow
 pub mod State
 pub mod Step
+pub mod ValueState
+pub mod ValueStep
 pub mod Draining
 pub mod Rows
 pub mod Others
+pub mod Joined
 pub mod Resting
+pub mod Destroy
+pub mod Returned
+pub mod Deals
+pub mod Dealt
+pub mod Settling
+pub mod Logged
+pub mod Begun
+pub mod Finishing

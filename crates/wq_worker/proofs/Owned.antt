@@ -47,14 +47,19 @@ owner_grows es n v w g = record {
   phase = phase_grown es n v w g;
 }
 
-pub owner_grown : (s : ℕ) (es : List Event) (n : ℕ) (v w : List Event) → Adds s es n v w → Grows owner_seat (own owner_seat es) 0 v w
-owner_grown s es n v w a = record {
+-- one of the two seats grows by its own events among these
+pub seat_grown : (s c : ℕ) (es : List Event) (n : ℕ) (v w : List Event) → ((e : Event) → is_ours s e ≡ false → (seat_of e == c) ≡ false)
+    → Adds s es n v w → Grows c (own c es) 0 v w
+seat_grown s c es n v w one a = record {
   new = a.new;
   is = a.is;
-  mine = sym (filter-filter (λ e. seat_of e == owner_seat) (is_ours s) (λ e none. (or_parts (seat_of e == s) (seat_of e == owner_seat) none).1) a.new)
-      ∙ ap (own owner_seat) a.ours;
+  mine = sym (filter-filter (λ e. seat_of e == c) (is_ours s) one a.new) ∙ ap (own c) a.ours;
   theirs = omega arith;
 }
+
+pub owner_grown : (s : ℕ) (es : List Event) (n : ℕ) (v w : List Event) → Adds s es n v w → Grows owner_seat (own owner_seat es) 0 v w
+owner_grown s es n v w a =
+    seat_grown s owner_seat es n v w (λ e none. (or_parts (seat_of e == s) (seat_of e == owner_seat) none).1) a
 
 pub owner_of_both : (s : ℕ) (es : List Event) (n : ℕ) (v w : List Event) → Adds s es n v w → OwnerAdds es v w
 owner_of_both s es n v w a =

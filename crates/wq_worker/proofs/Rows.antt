@@ -11,8 +11,8 @@ use Rattle.wq_worker.specs.declared.ran.Ran.TheVariants.{Item, Barrier, Stop, No
 use Rattle.wq_worker.specs.Seats.{taking}
 use Rattle.wq_worker.specs.Follow.{contended_of}
 use Rattle.wq_worker.specs.State.{WorkerState, IsSameWorker, Moves}
-use Rattle.wq_worker.specs.Step.{Starts, item, other, owed, Ends, ends, Owes, owes, Runs}
-use Rattle.wq_worker.specs.Rows.{Row, none, more, IsExecution, RunsOut, Closes, was_closed, closes, Shuts, was_shut, drains, Resumes, stays_closed, reopens}
+use Rattle.wq_worker.specs.Step.{stays, StartsBy, item, other, owed, EndsBy, ends, OwesBy, owes, RunsBy, Runs}
+use Rattle.wq_worker.specs.Rows.{RowBy, none, more, IsExecution, RunsOutBy, Closes, was_closed, closes, Shuts, was_shut, drains, Resumes, stays_closed, reopens}
 use Rattle.wq_worker.proofs.Owned.{owner_grown, owner_of_both}
 use Rattle.wq_worker.proofs.Follow.{quiet_follows, quiet_contended}
 use Rattle.wq_live.proofs.Phases.{is_turn, open_then}
@@ -73,44 +73,44 @@ module _ {W : Type 0} where
   resumes_legal a b legal (stays_closed is same) = subst (λ (w : WorkerState W). IsLegal w.layout w.seen) (sym same) legal
   resumes_legal a b legal (reopens draining moved work left) = moved.legal
 
-module _ {W : Type 0} (may : W → ℕ → List ℕ → W → Type 0) where
-  ends_same : (k : ℕ) (a b : WorkerState W) → Ends may a k b → IsSameWorker a b
+module _ {W : Type 0} (may : W → ℕ → List ℕ → W → Type 0) (gives : W → W → Type 0) where
+  ends_same : (k : ℕ) (a b : WorkerState W) → EndsBy may gives a k b → IsSameWorker a b
   ends_same k a b (ends f es fs st told moved rests) = moves_same _ 0 a b moved
 
-  owes_same : (k : ℕ) (a b : WorkerState W) → Owes may a k b → IsSameWorker a b
+  owes_same : (k : ℕ) (a b : WorkerState W) → OwesBy may gives a k b → IsSameWorker a b
   owes_same k a b (owes f qs j rest es fs st split left opens told moved runs) = moves_same _ a.tries a b moved
 
-  ends_legal : (k : ℕ) (a b : WorkerState W) → Ends may a k b → IsLegal b.layout b.seen
+  ends_legal : (k : ℕ) (a b : WorkerState W) → EndsBy may gives a k b → IsLegal b.layout b.seen
   ends_legal k a b (ends f es fs st told moved rests) = moved.legal
 
-  owes_legal : (k : ℕ) (a b : WorkerState W) → Owes may a k b → IsLegal b.layout b.seen
+  owes_legal : (k : ℕ) (a b : WorkerState W) → OwesBy may gives a k b → IsLegal b.layout b.seen
   owes_legal k a b (owes f qs j rest es fs st split left opens told moved runs) = moved.legal
 
-  pub runs_same : (r : Ran) (a b : WorkerState W) → Runs may r a b → IsSameWorker a b
-  runs_same (Item k) a b t = ends_same t.0 a b t.2
-  runs_same (Barrier k) a b t = ends_same t.0 a b t.2
-  runs_same Stop a b t = ends_same t.0 a b t.2
-  runs_same Nothing a b t = moves_same _ 0 a b t.3
-  runs_same (Owing k) a b t = owes_same k a b t
+  pub runs_by_same : (r : Ran) (a b : WorkerState W) → RunsBy may gives r a b → IsSameWorker a b
+  runs_by_same (Item k) a b t = ends_same t.0 a b t.2
+  runs_by_same (Barrier k) a b t = ends_same t.0 a b t.2
+  runs_by_same Stop a b t = ends_same t.0 a b t.2
+  runs_by_same Nothing a b t = moves_same _ 0 a b t.3
+  runs_by_same (Owing k) a b t = owes_same k a b t
 
-  pub row_same : (P : Ran → Type 0) (n : ℕ) (a b : WorkerState W) → Row may P n a b → IsSameWorker a b
+  pub row_same : (P : Ran → Type 0) (n : ℕ) (a b : WorkerState W) → RowBy may gives P n a b → IsSameWorker a b
   row_same P n a b (none c) = worker_still c
-  row_same P n a b (more m r c d e row passes run) = worker_on c d e (row_same P m c d row) (runs_same r d e run)
+  row_same P n a b (more m r c d e row passes run) = worker_on c d e (row_same P m c d row) (runs_by_same r d e run)
 
-  pub runs_legal : (r : Ran) (a b : WorkerState W) → Runs may r a b → IsLegal b.layout b.seen
-  runs_legal (Item k) a b t = ends_legal t.0 a b t.2
-  runs_legal (Barrier k) a b t = ends_legal t.0 a b t.2
-  runs_legal Stop a b t = ends_legal t.0 a b t.2
-  runs_legal Nothing a b t = t.3.legal
-  runs_legal (Owing k) a b t = owes_legal k a b t
+  pub runs_by_legal : (r : Ran) (a b : WorkerState W) → RunsBy may gives r a b → IsLegal b.layout b.seen
+  runs_by_legal (Item k) a b t = ends_legal t.0 a b t.2
+  runs_by_legal (Barrier k) a b t = ends_legal t.0 a b t.2
+  runs_by_legal Stop a b t = ends_legal t.0 a b t.2
+  runs_by_legal Nothing a b t = t.3.legal
+  runs_by_legal (Owing k) a b t = owes_legal k a b t
 
   -- no step closes, drains or resumes
-  starts_turns_none : (a : WorkerState W) (k : ℕ) (f : List ℕ) (v : W) (es : List Event) → Starts may a k f v es → count_by is_turn es ≡ 0
+  starts_turns_none : (a : WorkerState W) (k : ℕ) (f : List ℕ) (v : W) (es : List Event) → StartsBy may gives a k f v es → count_by is_turn es ≡ 0
   starts_turns_none a k f v es (item idle low ran is) = ap (count_by is_turn) is ∙ turns_taking a.seen k
   starts_turns_none a k f v es (other idle high nothing same is) = ap (count_by is_turn) is ∙ turns_taking a.seen k
   starts_turns_none a k f v es (owed runs left same is) = ap (count_by is_turn) is
 
-  ends_phase : (k : ℕ) (a b : WorkerState W) → Ends may a k b → SamePhase a.seen b.seen
+  ends_phase : (k : ℕ) (a b : WorkerState W) → EndsBy may gives a k b → SamePhase a.seen b.seen
   ends_phase k a b (ends f es fs st told moved rests) =
       (owner_of_both a.number (es ++ (fs ++ End k ∷ [])) 0 a.seen b.seen moved.adds).phase
       (omega (
@@ -121,7 +121,7 @@ module _ {W : Type 0} (may : W → ℕ → List ℕ → W → Type 0) where
         count_by-append is_turn fs (End k ∷ []),
       ))
 
-  owes_phase : (k : ℕ) (a b : WorkerState W) → Owes may a k b → SamePhase a.seen b.seen
+  owes_phase : (k : ℕ) (a b : WorkerState W) → OwesBy may gives a k b → SamePhase a.seen b.seen
   owes_phase k a b (owes f qs j rest es fs st split left opens told moved runs) =
       let last = contended_of a.number j in
       (owner_of_both a.number (es ++ (fs ++ last)) a.tries a.seen b.seen moved.adds).phase
@@ -134,34 +134,42 @@ module _ {W : Type 0} (may : W → ℕ → List ℕ → W → Type 0) where
         count_by-append is_turn fs last,
       ))
 
-  pub runs_phase : (r : Ran) (a b : WorkerState W) → Runs may r a b → SamePhase a.seen b.seen
-  runs_phase (Item k) a b t = ends_phase t.0 a b t.2
-  runs_phase (Barrier k) a b t = ends_phase t.0 a b t.2
-  runs_phase Stop a b t = ends_phase t.0 a b t.2
-  runs_phase Nothing a b t = (owner_of_both a.number (taking a.seen) 0 a.seen b.seen t.3.adds).phase (quiet_taking a.seen).turns_none
-  runs_phase (Owing k) a b t = owes_phase k a b t
+  pub runs_by_phase : (r : Ran) (a b : WorkerState W) → RunsBy may gives r a b → SamePhase a.seen b.seen
+  runs_by_phase (Item k) a b t = ends_phase t.0 a b t.2
+  runs_by_phase (Barrier k) a b t = ends_phase t.0 a b t.2
+  runs_by_phase Stop a b t = ends_phase t.0 a b t.2
+  runs_by_phase Nothing a b t = (owner_of_both a.number (taking a.seen) 0 a.seen b.seen t.3.adds).phase (quiet_taking a.seen).turns_none
+  runs_by_phase (Owing k) a b t = owes_phase k a b t
 
-  pub row_phase : (P : Ran → Type 0) (n : ℕ) (a b : WorkerState W) → Row may P n a b → SamePhase a.seen b.seen
+  pub row_phase : (P : Ran → Type 0) (n : ℕ) (a b : WorkerState W) → RowBy may gives P n a b → SamePhase a.seen b.seen
   row_phase P n a b (none c) = phase_still c.seen
-  row_phase P n a b (more m r c d e row passes run) = phase_on c.seen d.seen e.seen (row_phase P m c d row) (runs_phase r d e run)
+  row_phase P n a b (more m r c d e row passes run) = phase_on c.seen d.seen e.seen (row_phase P m c d row) (runs_by_phase r d e run)
 
   -- where nothing is left a queue has run out
-  pub ran_out : (limit left : ℕ) (a b : WorkerState W) → RunsOut may limit left a b → IsShut b.seen → left ≡ 0 → HasRunOut b.seen
+  pub ran_out : (limit left : ℕ) (a b : WorkerState W) → RunsOutBy may gives limit left a b → IsShut b.seen → left ≡ 0 → HasRunOut b.seen
   ran_out limit left a b r shut is = (shut, omega (arith, r.left_is, is))
 
-  pub ran_complete : (limit left : ℕ) (a b : WorkerState W) → RunsOut may limit left a b → IsClosed a.seen → left ≡ 0 → IsComplete b.seen
+  pub ran_complete : (limit left : ℕ) (a b : WorkerState W) → RunsOutBy may gives limit left a b → IsClosed a.seen → left ≡ 0 → IsComplete b.seen
   ran_complete limit left a b r closed is =
       (closed_still a.seen b.seen (row_phase IsExecution r.steps a b r.row) closed, omega (arith, r.left_is, is))
 
   -- an open queue stays open, and one that is not closed so
-  pub runs_open : (r : Ran) (a b : WorkerState W) → Runs may r a b → ¬ IsShut a.seen → ¬ IsShut b.seen
-  runs_open r a b t = open_still a.seen b.seen (runs_phase r a b t)
+  pub runs_by_open : (r : Ran) (a b : WorkerState W) → RunsBy may gives r a b → ¬ IsShut a.seen → ¬ IsShut b.seen
+  runs_by_open r a b t = open_still a.seen b.seen (runs_by_phase r a b t)
 
-  pub runs_unclosed : (r : Ran) (a b : WorkerState W) → Runs may r a b → ¬ IsClosed a.seen → ¬ IsClosed b.seen
-  runs_unclosed r a b t = unclosed_still a.seen b.seen (runs_phase r a b t)
+  pub runs_by_unclosed : (r : Ran) (a b : WorkerState W) → RunsBy may gives r a b → ¬ IsClosed a.seen → ¬ IsClosed b.seen
+  runs_by_unclosed r a b t = unclosed_still a.seen b.seen (runs_by_phase r a b t)
 
-  pub row_open : (P : Ran → Type 0) (n : ℕ) (a b : WorkerState W) → Row may P n a b → ¬ IsShut a.seen → ¬ IsShut b.seen
+  pub row_open : (P : Ran → Type 0) (n : ℕ) (a b : WorkerState W) → RowBy may gives P n a b → ¬ IsShut a.seen → ¬ IsShut b.seen
   row_open P n a b row = open_still a.seen b.seen (row_phase P n a b row)
 
-  pub row_unclosed : (P : Ran → Type 0) (n : ℕ) (a b : WorkerState W) → Row may P n a b → ¬ IsClosed a.seen → ¬ IsClosed b.seen
+  pub row_unclosed : (P : Ran → Type 0) (n : ℕ) (a b : WorkerState W) → RowBy may gives P n a b → ¬ IsClosed a.seen → ¬ IsClosed b.seen
   row_unclosed P n a b row = unclosed_still a.seen b.seen (row_phase P n a b row)
+
+-- where nothing is given back to the work
+module _ {W : Type 0} (may : W → ℕ → List ℕ → W → Type 0) where
+  pub runs_same : (r : Ran) (a b : WorkerState W) → Runs may r a b → IsSameWorker a b
+  runs_same = runs_by_same may stays
+
+  pub runs_phase : (r : Ran) (a b : WorkerState W) → Runs may r a b → SamePhase a.seen b.seen
+  runs_phase = runs_by_phase may stays

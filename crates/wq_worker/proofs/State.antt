@@ -6,8 +6,8 @@ use Rattle.std.proofs.lemmas.List.{append-nil}
 use Rattle.std.proofs.lemmas.List.Elements.{filter-append, filter_map-append}
 use Rattle.wq_words.specs.declared.layout.Layout.{Layout}
 use Rattle.wq_words.specs.declared.event.Event.{Event}
-use Rattle.wq_words.specs.declared.event.Event.TheVariants.{Begin, End}
-use Rattle.wq_words.specs.History.{begun_by, begun, ended_by, ended, shut}
+use Rattle.wq_words.specs.declared.event.Event.TheVariants.{Begin}
+use Rattle.wq_words.specs.History.{begun_by, begun, ended_by, ended, shut, IsRunning}
 use Rattle.wq_words.specs.Legal.{IsLegal}
 use Rattle.wq_live.specs.Pairs.{KnownPair}
 use Rattle.wq_live.specs.Batch.{next_of}
@@ -17,7 +17,7 @@ use Rattle.wq_worker.specs.State.{items_among, AreWorkerParts}
 use Rattle.std.specs.Prelude.{count_by}
 use Rattle.wq_words.proofs.Appended.{count_by-append}
 use Rattle.wq_live.proofs.Phases.{is_turn}
-use Rattle.wq_worker.proofs.Owned.{IsQuiet, owner_of_both}
+use Rattle.wq_worker.proofs.Owned.{IsQuiet, stays, owner_of_both}
 use Rattle.wq_worker.proofs.Follow.{advance_stays, advance_layout, advance_legal, advance_number}
 
 -- the log goes on as the begun numbers do
@@ -45,6 +45,17 @@ fit_still log tries at follow at' follow' old new fit legal same size now low = 
   logged = fit.logged ∙ (ap (items_among old.layout) (sym now) ∙ ap (λ (z : Layout). items_among z (begun new.seen)) (sym size));
 }
 
+-- where nothing begins
+pub begun_both : (xs : List Event) (old new : KnownPair) → begun xs ≡ [] → Both xs 0 old new → begun new.seen ≡ begun old.seen
+begun_both xs old new none b =
+    let a = owner_of_both old.number xs 0 old.seen new.seen b.adds in
+    a.begun_is ∙ (ap (λ (z : List ℕ). begun old.seen ++ z) none ∙ append-nil (begun old.seen))
+
+pub fit_both : (xs : List Event) (log : List ℕ) (tries at : ℕ) (follow : List ℕ) (old new : KnownPair) → begun xs ≡ []
+    → AreWorkerParts log tries at follow old → Both xs 0 old new → AreWorkerParts log tries at follow new
+fit_both xs log tries at follow old new none fit b =
+    fit_still log tries at follow at follow old new fit b.legal b.number_is b.layout_is (begun_both xs old new none b) fit.within
+
 quiet_taking_of : (n : Option ℕ) (b : Bool) → IsQuiet (taking_of n b)
 quiet_taking_of (Some k) b = record { begun_none = refl; ended_none = refl; turns_none = refl }
 quiet_taking_of None true = record { begun_none = refl; ended_none = refl; turns_none = refl }
@@ -52,6 +63,12 @@ quiet_taking_of None false = record { begun_none = refl; ended_none = refl; turn
 
 pub quiet_taking : (h : List Event) → IsQuiet (taking h)
 quiet_taking h = quiet_taking_of (next_of h) (shut h)
+
+-- nothing runs after a take where nothing ran
+pub idle_taken : (old new : KnownPair) → Both (taking old.seen) 0 old new → ¬ IsRunning old.seen → ¬ IsRunning new.seen
+idle_taken old new b idle =
+    let a = owner_of_both old.number (taking old.seen) 0 old.seen new.seen b.adds in
+    let s = stays (taking old.seen) old.seen new.seen (quiet_taking old.seen) a in rw (s.begun_same, s.ended_same) idle
 
 pub turns_taking : (h : List Event) (k : ℕ) → count_by is_turn (taking h ++ Begin k ∷ []) ≡ 0
 turns_taking h k = omega (arith, count_by-append is_turn (taking h) (Begin k ∷ []), (quiet_taking h).turns_none)
@@ -78,9 +95,3 @@ pub advance_fits : (log : List ℕ) (tries at at' : ℕ) (follow ks js : List �
 advance_fits log tries at at' follow ks js old new fit a low =
     fit_still log tries at follow at' follow old new fit (advance_legal tries ks js old new a) (advance_number tries ks js old new a)
     (advance_layout tries ks js old new a) (advance_stays tries ks js old new a).begun_same low
-
-pub fit_ended : (k : ℕ) (log : List ℕ) (tries at : ℕ) (follow : List ℕ) (old new : KnownPair) → AreWorkerParts log tries at follow old
-    → Both (End k ∷ []) 0 old new → AreWorkerParts log tries at follow new
-fit_ended k log tries at follow old new fit b =
-    let a = owner_of_both old.number (End k ∷ []) 0 old.seen new.seen b.adds in
-    fit_still log tries at follow at follow old new fit b.legal b.number_is b.layout_is (a.begun_is ∙ append-nil (begun old.seen)) fit.within

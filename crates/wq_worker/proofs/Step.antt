@@ -1,7 +1,6 @@
 -- What a worker's step tells.
-use Rattle.std.proofs.Common.{◌≡◌, ℕ, ◌+◌, ◌<◌, ◌≤◌, ⊎_elim, Bool, Some, List, [], ◌∷◌, ◌++◌, length, drop, refl, sym, ◌∙◌, ap, subst, arith, length-drop}
+use Rattle.std.proofs.Common.{◌≡◌, ℕ, ◌+◌, ◌<◌, ◌≤◌, ⊎_elim, Bool, Some, List, [], ◌∷◌, ◌++◌, length, refl, sym, ◌∙◌, ap, subst, arith}
 use Rattle.std.proofs.lemmas.Bool.{cases_lt}
-use Rattle.std.proofs.Math.ListN.{drop_of_length-le}
 use Rattle.wq_words.specs.declared.layout.Layout.{Layout}
 use Rattle.wq_words.specs.declared.event.Event.{Event}
 use Rattle.wq_words.specs.declared.event.Event.TheVariants.{Begin, End}
@@ -14,7 +13,7 @@ use Rattle.wq_worker.specs.Seats.{Adds, taking}
 use Rattle.wq_worker.specs.Follow.{Follows, contended_of}
 use Rattle.wq_worker.specs.Pair.{Both, QueuesRest, finished, contended}
 use Rattle.wq_worker.specs.State.{WorkerState, Moves}
-use Rattle.wq_worker.specs.Step.{IsKind, Starts, item, other, owed, Ends, ends, Owes, owes, Runs, Begins}
+use Rattle.wq_worker.specs.Step.{stays, IsKind, StartsBy, item, other, owed, EndsBy, ends, OwesBy, owes, RunsBy, Begins}
 use Rattle.wq_worker.proofs.Seats.{adds_on}
 use Rattle.wq_worker.proofs.Owned.{owner_of_both}
 use Rattle.wq_worker.proofs.Running.{runs_begun, idle_ended}
@@ -62,51 +61,7 @@ module _ {W : Type 0} (may : W → ℕ → List ℕ → W → Type 0) where
     other = none;
   }
 
-  pub advance_owes : (k tries at r : ℕ) (fs : List ℕ) (w : W) (old new : KnownPair) → running old.seen ≡ Some k → r < length fs
-      → QueuesRest tries (drop at fs) (drop r fs) old new
-      → Owes may (state_of old tries (drop at fs) w) k (state_of new tries (drop r fs) w)
-  advance_owes k tries at r fs w old new runs low (finished es none told b) =
-      let e : length (drop r fs) ≡ 0 = ap (length {A = ℕ}) none in absurd (omega (arith, e, length-drop r fs))
-  advance_owes k tries at r fs w old new runs low (contended qs j more es split is small opens told b) =
-      owes (drop at fs) qs j more [] es (owed runs refl refl refl) (split ∙ ap (λ (z : List ℕ). qs ++ z) is) is opens told
-      (moves_by (es ++ contended_of old.number j) tries tries (drop at fs) (drop r fs) w w old new b)
-      ((advance_stays tries (drop at fs) (drop r fs) old new (contended qs j more es split is small opens told b)).running_same ∙ runs)
-
-  pub advance_ends : (k tries at r : ℕ) (fs : List ℕ) (w : W) (old mid new : KnownPair) → running old.seen ≡ Some k → length fs ≤ r
-      → QueuesRest tries (drop at fs) (drop r fs) old mid → Both (End k ∷ []) 0 mid new
-      → Ends may (state_of old tries (drop at fs) w) k (state_of new tries (drop r fs) w)
-  advance_ends k tries at r fs w old mid new runs high (finished es none told b) e =
-      ends (drop at fs) [] es (owed runs refl refl refl) told
-      (moves_by (es ++ End k ∷ []) 0 tries (drop at fs) (drop r fs) w w old new (both_on es (End k ∷ []) 0 0 old mid new b e))
-      (idle_ended mid.layout k (End k ∷ []) mid.seen new.seen b.legal refl refl (owner_of_both mid.number (End k ∷ []) 0 mid.seen new.seen e.adds))
-  advance_ends k tries at r fs w old mid new runs high (contended qs j more es split is small opens told b) e =
-      let none : drop r fs ≡ [] = drop_of_length-le fs high in absurd (cc)
-
-  pub runs_kind : (k : ℕ) (r : Ran) (layout : Layout) (a b : WorkerState W) → layout ≡ a.layout → IsKind layout k r → Ends may a k b → Runs may r a b
-  runs_kind k (Item j) layout a b same h e = (k, subst (λ (z : Layout). IsKind z k (Item j)) same h, e)
-  runs_kind k (Barrier j) layout a b same h e = (k, subst (λ (z : Layout). IsKind z k (Barrier j)) same h, e)
-  runs_kind k Stop layout a b same h e = (k, subst (λ (z : Layout). IsKind z k Stop) same h, e)
-  runs_kind k Nothing layout a b same h e = absurd h
-  runs_kind k (Owing j) layout a b same h e = absurd h
-
-  started : (k j : ℕ) (f : List ℕ) (v : W) (es : List Event) (a m : WorkerState W) → Begins may a k m → ¬ IsRunning a.seen → Starts may m j f v es
-      → (k ≡ j) × (es ≡ []) × Starts may a j f v (taking a.seen ++ Begin k ∷ [])
-  started k j f v es a m b idle (item none low h is) = absurd (none (runs_some m.seen k b.runs))
-  started k j f v es a m b idle (other none high h i is) = absurd (none (runs_some m.seen k b.runs))
-  started k j f v es a m b idle (owed runs left same is) =
-      let t = b.runs in let eq : k ≡ j = cc in let to = taking a.seen ++ Begin k ∷ [] in
-      let shape : to ≡ taking a.seen ++ Begin j ∷ [] = ap (λ (z : ℕ). taking a.seen ++ Begin z ∷ []) eq in (
-        eq,
-        is,
-        ⊎_elim
-            (λ (low : j < a.layout.items). let old : k < a.layout.items = omega (arith, eq) in item idle low
-            (subst (λ (z : ℕ). may a.work z f v) eq (subst (λ (z : List ℕ × W). may a.work k z.0 z.1) (λ i. (sym left i, sym same i)) (b.item old))) shape)
-            (λ (high : a.layout.items ≤ j). let old : a.layout.items ≤ k = omega (arith, eq) in let none = b.other old in other idle high
-            (left ∙ none.0) (same ∙ none.1) shape)
-            (cases_lt j a.layout.items),
-      )
-
-  shut_still : (a m : WorkerState W) (k : ℕ) → Begins may a k m → shut m.seen ≡ shut a.seen
+  pub shut_still : (a m : WorkerState W) (k : ℕ) → Begins may a k m → shut m.seen ≡ shut a.seen
   shut_still a m k b =
       ((owner_of_both a.number (taking a.seen ++ Begin k ∷ []) 0 a.seen m.seen b.moves.adds).phase (turns_taking a.seen k)).shut_same
 
@@ -117,13 +72,62 @@ module _ {W : Type 0} (may : W → ℕ → List ℕ → W → Type 0) where
       (subst (λ (z : ℕ). Follows a.layout.items z (shut m.seen) ks es) b.moves.number
       (subst (λ (z : Layout). Follows z.items m.number (shut m.seen) ks es) b.moves.layout t))
 
-  ends_fresh : (k j : ℕ) (a m b : WorkerState W) → Begins may a k m → ¬ IsRunning a.seen → Ends may m j b → Ends may a j b
+module _ {W : Type 0} (may : W → ℕ → List ℕ → W → Type 0) (gives : W → W → Type 0) where
+  -- of the numbers ks to be queued js are left, and the givings back leave w' of the work w
+  pub advance_owes : (k tries : ℕ) (ks js : List ℕ) (w w' : W) (old new : KnownPair) → gives w w' → running old.seen ≡ Some k → 0 < length js
+      → QueuesRest tries ks js old new → OwesBy may gives (state_of old tries ks w) k (state_of new tries js w')
+  advance_owes k tries ks js w w' old new left runs some (finished es none told b) =
+      let e : length js ≡ 0 = ap (length {A = ℕ}) none in absurd (omega (arith, e, some))
+  advance_owes k tries ks js w w' old new left runs some (contended qs j more es split is small opens told b) =
+      owes ks qs j more [] es (owed runs refl left refl) (split ∙ ap (λ (z : List ℕ). qs ++ z) is) is opens told
+      (moves_by (es ++ contended_of old.number j) tries tries ks js w w' old new b)
+      ((advance_stays tries ks js old new (contended qs j more es split is small opens told b)).running_same ∙ runs)
+
+  pub advance_ends : (k tries : ℕ) (ks js : List ℕ) (w w' : W) (old mid new : KnownPair) → gives w w' → running old.seen ≡ Some k → js ≡ []
+      → QueuesRest tries ks js old mid → Both (End k ∷ []) 0 mid new → EndsBy may gives (state_of old tries ks w) k (state_of new tries js w')
+  advance_ends k tries ks js w w' old mid new left runs done (finished es none told b) e =
+      ends ks [] es (owed runs refl left refl) told
+      (moves_by (es ++ End k ∷ []) 0 tries ks js w w' old new (both_on es (End k ∷ []) 0 0 old mid new b e))
+      (idle_ended mid.layout k (End k ∷ []) mid.seen new.seen b.legal refl refl (owner_of_both mid.number (End k ∷ []) 0 mid.seen new.seen e.adds))
+  advance_ends k tries ks js w w' old mid new left runs done (contended qs j more es split is small opens told b) e = absurd (cc)
+
+  pub runs_kind : (k : ℕ) (r : Ran) (layout : Layout) (a b : WorkerState W) → layout ≡ a.layout → IsKind layout k r → EndsBy may gives a k b
+      → RunsBy may gives r a b
+  runs_kind k (Item j) layout a b same h e = (k, subst (λ (z : Layout). IsKind z k (Item j)) same h, e)
+  runs_kind k (Barrier j) layout a b same h e = (k, subst (λ (z : Layout). IsKind z k (Barrier j)) same h, e)
+  runs_kind k Stop layout a b same h e = (k, subst (λ (z : Layout). IsKind z k Stop) same h, e)
+  runs_kind k Nothing layout a b same h e = absurd h
+  runs_kind k (Owing j) layout a b same h e = absurd h
+
+-- where a run that is allowed is so still after givings back
+module _ {W : Type 0} (may : W → ℕ → List ℕ → W → Type 0) (gives : W → W → Type 0)
+    (after : (w u v : W) (k : ℕ) (f : List ℕ) → may w k f u → gives u v → may w k f v) where
+  started : (k j : ℕ) (f : List ℕ) (v : W) (es : List Event) (a m : WorkerState W) → Begins may a k m → ¬ IsRunning a.seen
+      → StartsBy may gives m j f v es → (k ≡ j) × (es ≡ []) × StartsBy may gives a j f v (taking a.seen ++ Begin k ∷ [])
+  started k j f v es a m b idle (item none low h is) = absurd (none (runs_some m.seen k b.runs))
+  started k j f v es a m b idle (other none high h i is) = absurd (none (runs_some m.seen k b.runs))
+  started k j f v es a m b idle (owed runs left given is) =
+      let t = b.runs in let eq : k ≡ j = cc in let to = taking a.seen ++ Begin k ∷ [] in
+      let shape : to ≡ taking a.seen ++ Begin j ∷ [] = ap (λ (z : ℕ). taking a.seen ++ Begin z ∷ []) eq in (
+        eq,
+        is,
+        ⊎_elim
+            (λ (low : j < a.layout.items). let old : k < a.layout.items = omega (arith, eq) in
+            let ran : may a.work k f m.work = subst (λ (z : List ℕ). may a.work k z m.work) (sym left) (b.item old) in
+            let now : may a.work j f m.work = subst (λ (z : ℕ). may a.work z f m.work) eq ran in
+            item idle low (after a.work m.work v j f now given) shape)
+            (λ (high : a.layout.items ≤ j). let old : a.layout.items ≤ k = omega (arith, eq) in let none = b.other old in
+            other idle high (left ∙ none.0) (subst (λ (z : W). gives z v) none.1 given) shape)
+            (cases_lt j a.layout.items),
+      )
+
+  ends_fresh : (k j : ℕ) (a m b : WorkerState W) → Begins may a k m → ¬ IsRunning a.seen → EndsBy may gives m j b → EndsBy may gives a j b
   ends_fresh k j a m b g idle (ends f es fs st told moved none) =
       let s = started k j f b.work es a m g idle st in let to = taking a.seen ++ Begin k ∷ [] in
       let rest : Moves (fs ++ End j ∷ []) 0 m b = subst (λ (z : List Event). Moves (z ++ (fs ++ End j ∷ [])) 0 m b) s.1 moved in
-      ends f to fs s.2 (told_before a m k f fs g told) (moves_on to (fs ++ End j ∷ []) 0 0 a m b g.moves rest) none
+      ends f to fs s.2 (told_before may a m k f fs g told) (moves_on to (fs ++ End j ∷ []) 0 0 a m b g.moves rest) none
 
-  owes_fresh : (k j : ℕ) (a m b : WorkerState W) → Begins may a k m → ¬ IsRunning a.seen → Owes may m j b → Owes may a j b
+  owes_fresh : (k j : ℕ) (a m b : WorkerState W) → Begins may a k m → ¬ IsRunning a.seen → OwesBy may gives m j b → OwesBy may gives a j b
   owes_fresh k j a m b g idle (owes f qs i more es fs st split left opens told moved runs) =
       let s = started k j f b.work es a m g idle st in let to = taking a.seen ++ Begin k ∷ [] in
       let own : List Event = contended_of a.number i in
@@ -131,12 +135,15 @@ module _ {W : Type 0} (may : W → ℕ → List ℕ → W → Type 0) where
       subst (λ (z : List Event). Moves (z ++ (fs ++ contended_of m.number i)) m.tries m b) s.1 moved in
       let rest : Moves (fs ++ own) a.tries m b = subst (λ (z : ℕ). Moves (fs ++ own) z m b) g.moves.tries
       (subst (λ (z : ℕ). Moves (fs ++ contended_of z i) m.tries m b) g.moves.number rest1) in
-      owes f qs i more to fs s.2 split left (sym (shut_still a m k g) ∙ opens) (told_before a m k qs fs g told)
+      owes f qs i more to fs s.2 split left (sym (shut_still may a m k g) ∙ opens) (told_before may a m k qs fs g told)
       (subst (λ (z : ℕ). Moves (to ++ (fs ++ own)) z a b) (omega arith) (moves_on to (fs ++ own) 0 a.tries a m b g.moves rest)) runs
 
-  pub runs_fresh : (k : ℕ) (r : Ran) (a m b : WorkerState W) → Begins may a k m → ¬ IsRunning a.seen → Runs may r m b → Runs may r a b
+  pub runs_fresh : (k : ℕ) (r : Ran) (a m b : WorkerState W) → Begins may a k m → ¬ IsRunning a.seen → RunsBy may gives r m b → RunsBy may gives r a b
   runs_fresh k (Item j) a m b g idle t = (t.0, subst (λ (z : Layout). IsKind z t.0 (Item j)) g.moves.layout t.1, ends_fresh k t.0 a m b g idle t.2)
   runs_fresh k (Barrier j) a m b g idle t = (t.0, subst (λ (z : Layout). IsKind z t.0 (Barrier j)) g.moves.layout t.1, ends_fresh k t.0 a m b g idle t.2)
   runs_fresh k Stop a m b g idle t = (t.0, subst (λ (z : Layout). IsKind z t.0 Stop) g.moves.layout t.1, ends_fresh k t.0 a m b g idle t.2)
   runs_fresh k Nothing a m b g idle t = absurd (t.0 (runs_some m.seen k g.runs))
   runs_fresh k (Owing j) a m b g idle t = owes_fresh k j a m b g idle t
+
+pub after_stays : {W : Type 0} (may : W → ℕ → List ℕ → W → Type 0) (w u v : W) (k : ℕ) (f : List ℕ) → may w k f u → stays u v → may w k f v
+after_stays may w u v k f ran same = subst (may w k f) (sym same) ran

@@ -6,6 +6,11 @@ pub mod Resting
 pub mod Step
 pub mod Rows
 pub mod Destroy
+pub mod Asked
+pub mod Returned
+pub mod ValueState
+pub mod Deals
+pub mod Dealt
 -- what its public clauses cite of the crates below, so that a caller names this crate alone
 pub use Rattle.wq_words.specs.History
 pub use Rattle.wq_words.specs.Legal

@@ -1,5 +1,5 @@
 -- An owner and a sender of one queue that have seen the same.
-use Rattle.std.specs.Prelude.{◌≡◌, ℕ, ◌<◌, Bool, true, false, cond, None, List, [], ◌∷◌, ◌++◌}
+use Rattle.std.specs.Prelude.{◌≡◌, ◌⊎◌, ℕ, ◌<◌, Bool, true, false, cond, None, List, [], ◌∷◌, ◌++◌}
 use Rattle.wq_words.specs.declared.event.Event.{Event}
 use Rattle.wq_words.specs.declared.event.Event.TheVariants.{Begin}
 use Rattle.wq_words.specs.History.{shut}
@@ -19,6 +19,10 @@ pub record Both (xs : List Event) (n : ℕ) (old new : KnownPair) : Type 0 where
   pub number_is : new.number ≡ old.number
   pub adds : Adds old.number xs n old.seen new.seen
   pub legal : IsLegal new.layout new.seen
+
+-- no step was made, or one that keeps this
+abbrev pub StaysOr : {S : Type 0} → (S → S → Type 0) → S → S → Type 0
+StaysOr keeps old new = (new ≡ old) ⊎ keeps old new
 
 abbrev pub settled : Answer → Bool
 settled (answer.Queued is_first wakes) = true

@@ -8,7 +8,7 @@ use Rattle.wq_worker.specs.declared.ran.Ran.TheVariants.{Item, Barrier, Stop, No
 use Rattle.wq_worker.specs.declared.drained.Drained.{Drained}
 use Rattle.wq_worker.specs.declared.drained.Drained.TheVariants.{Empty, TooLong}
 use Rattle.wq_worker.specs.State.{WorkerState, Moves}
-use Rattle.wq_worker.specs.Step.{Runs}
+use Rattle.wq_worker.specs.Step.{stays, RunsBy}
 
 -- an execution ended, and it was not that of the stop item
 abbrev pub GoesOn : Ran → Type 0
@@ -54,53 +54,77 @@ module _ {W : Type 0} where
     stays_closed : IsClosed a.seen → b ≡ a → Resumes a b
     reopens : IsDraining a.seen → Moves (Resume ∷ []) 0 a b → b.work ≡ a.work → b.unqueued ≡ a.unqueued → Resumes a b
 
-module _ {W : Type 0} (may : W → ℕ → List ℕ → W → Type 0) where
+module _ {W : Type 0} (may : W → ℕ → List ℕ → W → Type 0) (gives : W → W → Type 0) where
   -- n steps, each with an answer of these
-  pub data Row (P : Ran → Type 0) : ℕ → WorkerState W → WorkerState W → Type 0 where
-    none : (a : WorkerState W) → Row P 0 a a
-    more : (n : ℕ) (r : Ran) (a b c : WorkerState W) → Row P n a b → P r → Runs may r b c → Row P (n + 1) a c
+  pub data RowBy (P : Ran → Type 0) : ℕ → WorkerState W → WorkerState W → Type 0 where
+    none : (a : WorkerState W) → RowBy P 0 a a
+    more : (n : ℕ) (r : Ran) (a b c : WorkerState W) → RowBy P n a b → P r → RunsBy may gives r b c → RowBy P (n + 1) a c
 
   -- n executions ended: as many as the limit, or fewer where a step broke the row off
-  pub data RunsSome (limit n : ℕ) (a c : WorkerState W) : Type 0 where
-    full : Row GoesOn n a c → n ≡ limit → RunsSome limit n a c
-    broken : (m : ℕ) (r : Ran) (b : WorkerState W) → Row GoesOn m a b → m < limit → Breaks r → Runs may r b c → n ≡ m + ended_by_answer r → RunsSome limit n a c
+  pub data RunsSomeBy (limit n : ℕ) (a c : WorkerState W) : Type 0 where
+    full : RowBy GoesOn n a c → n ≡ limit → RunsSomeBy limit n a c
+    broken : (m : ℕ) (r : Ran) (b : WorkerState W) → RowBy GoesOn m a b → m < limit → Breaks r → RunsBy may gives r b c → n ≡ m + ended_by_answer r
+        → RunsSomeBy limit n a c
 
   -- the worker goes on until the stop item ran, and no longer
-  pub record Serves (a c : WorkerState W) : Type 0 where
+  pub record ServesBy (a c : WorkerState W) : Type 0 where
     pub steps : ℕ
     pub last : WorkerState W
-    pub row : Row IsNotStop steps a last
-    pub stops : Runs may Stop last c
+    pub row : RowBy IsNotStop steps a last
+    pub stops : RunsBy may gives Stop last c
 
   -- n executions, no more than the limit, after which so many numbers are left; some only after as many as the limit
-  pub record RunsOut (limit left : ℕ) (a b : WorkerState W) : Type 0 where
+  pub record RunsOutBy (limit left : ℕ) (a b : WorkerState W) : Type 0 where
     pub steps : ℕ
     pub within : steps ≤ limit
-    pub row : Row IsExecution steps a b
+    pub row : RowBy IsExecution steps a b
     pub left_is : left + length (ended b.seen) ≡ length (accepted b.seen)
     pub stops : 0 < left → steps ≡ limit
 
   -- A drain begins where the queue was open. After at most as many executions as the limit all that was accepted has ended,
   -- and a queue that drains is resumed.
-  pub record Empties (limit : ℕ) (a c : WorkerState W) : Type 0 where
+  pub record EmptiesBy (limit : ℕ) (a c : WorkerState W) : Type 0 where
     pub began : WorkerState W
     pub last : WorkerState W
     pub steps : ℕ
     pub shuts : Shuts a began
     pub within : steps ≤ limit
-    pub row : Row IsExecution steps began last
+    pub row : RowBy IsExecution steps began last
     pub run_out : HasRunOut last.seen
     pub resumes : Resumes last c
 
   -- A drain begins where the queue was open. After exactly as many executions as the limit so many numbers are accepted and
   -- have not ended, and a queue that drains does so still.
-  pub record LeavesSome (limit left : ℕ) (a c : WorkerState W) : Type 0 where
+  pub record LeavesSomeBy (limit left : ℕ) (a c : WorkerState W) : Type 0 where
     pub began : WorkerState W
     pub shuts : Shuts a began
-    pub row : Row IsExecution limit began c
+    pub row : RowBy IsExecution limit began c
     pub some_left : 0 < left
     pub left_is : left + length (ended c.seen) ≡ length (accepted c.seen)
 
+  abbrev pub DrainsBy : ℕ → Drained → WorkerState W → WorkerState W → Type 0
+  DrainsBy limit Empty a c = EmptiesBy limit a c
+  DrainsBy limit (TooLong left) a c = LeavesSomeBy limit left a c
+
+-- where nothing is given back to the work
+module _ {W : Type 0} (may : W → ℕ → List ℕ → W → Type 0) where
+  abbrev pub Row : (Ran → Type 0) → ℕ → WorkerState W → WorkerState W → Type 0
+  Row = RowBy may stays
+
+  abbrev pub RunsSome : ℕ → ℕ → WorkerState W → WorkerState W → Type 0
+  RunsSome = RunsSomeBy may stays
+
+  abbrev pub Serves : WorkerState W → WorkerState W → Type 0
+  Serves = ServesBy may stays
+
+  abbrev pub RunsOut : ℕ → ℕ → WorkerState W → WorkerState W → Type 0
+  RunsOut = RunsOutBy may stays
+
+  abbrev pub Empties : ℕ → WorkerState W → WorkerState W → Type 0
+  Empties = EmptiesBy may stays
+
+  abbrev pub LeavesSome : ℕ → ℕ → WorkerState W → WorkerState W → Type 0
+  LeavesSome = LeavesSomeBy may stays
+
   abbrev pub Drains : ℕ → Drained → WorkerState W → WorkerState W → Type 0
-  Drains limit Empty a c = Empties limit a c
-  Drains limit (TooLong left) a c = LeavesSome limit left a c
+  Drains = DrainsBy may stays

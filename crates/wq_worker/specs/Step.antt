@@ -24,30 +24,50 @@ IsKind layout k (Owing j) = ⊥
 abbrev pub FindsNothing : {W : Type 0} → WorkerState W → WorkerState W → Type 0
 FindsNothing a b = NothingWaits b.seen × (b.work ≡ a.work) × Moves (taking a.seen) 0 a b × HasNoneLeft b.seen
 
-module _ {W : Type 0} (may : W → ℕ → List ℕ → W → Type 0) where
-  -- The execution of k has begun, after the events es: f is to be queued, and the work is v. An item was run, by which the
+-- a work is as it was
+abbrev pub stays : {W : Type 0} → W → W → Type 0
+stays a b = b ≡ a
+
+-- `may` says what a run may answer, and what it and the givings back of its step may leave of the work; `gives` says what the
+-- givings back of a step may leave of it that goes on with what was owed
+module _ {W : Type 0} (may : W → ℕ → List ℕ → W → Type 0) (gives : W → W → Type 0) where
+  -- The execution of k has begun, after the events es: f is to be queued, and the step leaves the work v. An item was run, by which the
   -- work may answer f; another number asks for nothing; and what was owed goes on with the rest of its list.
-  pub data Starts (a : WorkerState W) (k : ℕ) (f : List ℕ) (v : W) (es : List Event) : Type 0 where
-    item : ¬ IsRunning a.seen → k < a.layout.items → may a.work k f v → es ≡ taking a.seen ++ Begin k ∷ [] → Starts a k f v es
-    other : ¬ IsRunning a.seen → a.layout.items ≤ k → f ≡ [] → v ≡ a.work → es ≡ taking a.seen ++ Begin k ∷ [] → Starts a k f v es
-    owed : running a.seen ≡ Some k → f ≡ a.unqueued → v ≡ a.work → es ≡ [] → Starts a k f v es
+  pub data StartsBy (a : WorkerState W) (k : ℕ) (f : List ℕ) (v : W) (es : List Event) : Type 0 where
+    item : ¬ IsRunning a.seen → k < a.layout.items → may a.work k f v → es ≡ taking a.seen ++ Begin k ∷ [] → StartsBy a k f v es
+    other : ¬ IsRunning a.seen → a.layout.items ≤ k → f ≡ [] → gives a.work v → es ≡ taking a.seen ++ Begin k ∷ [] → StartsBy a k f v es
+    owed : running a.seen ≡ Some k → f ≡ a.unqueued → gives a.work v → es ≡ [] → StartsBy a k f v es
 
   -- the execution of k ended, and all that it asked for was queued before
-  pub data Ends (a : WorkerState W) (k : ℕ) (b : WorkerState W) : Type 0 where
-    ends : (f : List ℕ) (es fs : List Event) → Starts a k f b.work es → Follows a.layout.items a.number (shut a.seen) f fs
-        → Moves (es ++ (fs ++ End k ∷ [])) 0 a b → ¬ IsRunning b.seen → Ends a k b
+  pub data EndsBy (a : WorkerState W) (k : ℕ) (b : WorkerState W) : Type 0 where
+    ends : (f : List ℕ) (es fs : List Event) → StartsBy a k f b.work es → Follows a.layout.items a.number (shut a.seen) f fs
+        → Moves (es ++ (fs ++ End k ∷ [])) 0 a b → ¬ IsRunning b.seen → EndsBy a k b
 
   -- the execution of k is owed: the queueing of j was contended, and the list from j on is left
-  pub data Owes (a : WorkerState W) (k : ℕ) (b : WorkerState W) : Type 0 where
-    owes : (f qs : List ℕ) (j : ℕ) (more : List ℕ) (es fs : List Event) → Starts a k f b.work es → f ≡ qs ++ j ∷ more → b.unqueued ≡ j ∷ more
+  pub data OwesBy (a : WorkerState W) (k : ℕ) (b : WorkerState W) : Type 0 where
+    owes : (f qs : List ℕ) (j : ℕ) (more : List ℕ) (es fs : List Event) → StartsBy a k f b.work es → f ≡ qs ++ j ∷ more → b.unqueued ≡ j ∷ more
         → shut a.seen ≡ false → Follows a.layout.items a.number (shut a.seen) qs fs
-        → Moves (es ++ (fs ++ contended_of a.number j)) a.tries a b → running b.seen ≡ Some k → Owes a k b
+        → Moves (es ++ (fs ++ contended_of a.number j)) a.tries a b → running b.seen ≡ Some k → OwesBy a k b
 
   -- the worker goes from a to b with this answer
+  abbrev pub RunsBy : Ran → WorkerState W → WorkerState W → Type 0
+  RunsBy Nothing a b = (¬ IsRunning a.seen) × NothingWaits b.seen × (b.work ≡ a.work) × Moves (taking a.seen) 0 a b
+  RunsBy (Owing k) a b = OwesBy a k b
+  RunsBy r a b = (k : ℕ) × IsKind a.layout k r × EndsBy a k b
+
+-- where nothing is given back to the work
+module _ {W : Type 0} (may : W → ℕ → List ℕ → W → Type 0) where
+  abbrev pub Starts : WorkerState W → ℕ → List ℕ → W → List Event → Type 0
+  Starts = StartsBy may stays
+
+  abbrev pub Ends : WorkerState W → ℕ → WorkerState W → Type 0
+  Ends = EndsBy may stays
+
+  abbrev pub Owes : WorkerState W → ℕ → WorkerState W → Type 0
+  Owes = OwesBy may stays
+
   abbrev pub Runs : Ran → WorkerState W → WorkerState W → Type 0
-  Runs Nothing a b = (¬ IsRunning a.seen) × NothingWaits b.seen × (b.work ≡ a.work) × Moves (taking a.seen) 0 a b
-  Runs (Owing k) a b = Owes a k b
-  Runs r a b = (k : ℕ) × IsKind a.layout k r × Ends a k b
+  Runs = RunsBy may stays
 
   -- the execution of k began and the work was run, and nothing of its list was queued
   pub record Begins (a : WorkerState W) (k : ℕ) (b : WorkerState W) : Type 0 where

@@ -1,5 +1,4 @@
 //! Why a worker was not made.
-use crate::work::Work;
 use std::fmt;
 use thiserror::Error;
 use wq_live::BuildError;
@@ -7,12 +6,12 @@ use wq_live::BuildError;
 /// Memory was refused to a new queue, and the work of its worker is given back.
 #[derive(Drop, Error)]
 #[error("{error}")]
-pub struct Unbuilt<W: Work> {
+pub struct Unbuilt<W> {
     pub work: W,
     pub error: BuildError,
 }
 
-impl<W: Work> fmt::Debug for Unbuilt<W> {
+impl<W> fmt::Debug for Unbuilt<W> {
     fn fmt<O: fmt::Write>(&self, f: &mut fmt::Formatter<O>) -> fmt::Result {
         f.debug_struct("Unbuilt")
             .field("error", &self.error)

@@ -3,11 +3,9 @@ ghost use Rattle.std.specs.Prelude.{◌≡◌, ◌+◌, length};
 ghost use Rattle.wq_words.specs.History.{accepted, ended, IsShut};
 ghost use Rattle.wq_words.specs.Legal.{IsLegal};
 
-use crate::work::Work;
-use crate::worker::Worker;
+use crate::paired::Paired;
 use std::fmt;
 use thiserror::Error;
-use wq_live::Pair;
 
 /// What a drain answers (`drain_workqueue`).
 #[derive(Clone, Copy, Debug, PartialEq, Eq)]
@@ -21,12 +19,12 @@ pub enum Drained {
 /// A worker that could not be taken apart: its queue is closed, and so many numbers are accepted and have not ended.
 #[derive(Drop, Error)]
 #[error("{left} numbers are accepted and have not ended")]
-pub struct Unfinished<W: Work> {
-    pub worker: Worker<W>,
+pub struct Unfinished<K> {
+    pub worker: K,
     pub left: u32,
 }
 
-impl<W: Work> fmt::Debug for Unfinished<W> {
+impl<K> fmt::Debug for Unfinished<K> {
     fn fmt<O: fmt::Write>(&self, f: &mut fmt::Formatter<O>) -> fmt::Result {
         f.debug_struct("Unfinished")
             .field("left", &self.left)
@@ -35,10 +33,10 @@ impl<W: Work> fmt::Debug for Unfinished<W> {
 }
 
 /// How many numbers are accepted and have not ended.
-pub(crate) fn left_of(pair: &Pair) -> u32
-    requires legal { IsLegal pair.now.layout pair.now.seen }
-    requires shut { IsShut pair.now.seen }
-    ensures { result + length (ended pair.now.seen) ≡ length (accepted pair.now.seen) }
+pub(crate) fn left_of<P: Paired>(pair: &P) -> u32
+    requires legal { IsLegal (P.known pair.now).layout (P.known pair.now).seen }
+    requires shut { IsShut (P.known pair.now).seen }
+    ensures { result + length (ended (P.known pair.now).seen) ≡ length (accepted (P.known pair.now).seen) }
 {
     if let Some(_number) = pair.running() {
         return pair.waiting() + 1;

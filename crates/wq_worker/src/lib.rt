@@ -4,9 +4,16 @@
 
 mod building;
 mod drained;
+mod paired;
 mod patience;
 mod ran;
+mod serving;
+mod station;
 mod steps;
+mod value_follow;
+mod value_steps;
+mod value_work;
+mod value_worker;
 mod work;
 mod worker;
 
@@ -14,6 +21,10 @@ pub use building::Unbuilt;
 pub use drained::{Drained, Unfinished};
 pub use patience::SHORT_TAKE;
 pub use ran::Ran;
+pub use station::Station;
+pub use value_follow::ValueFollow;
+pub use value_work::ValueWork;
+pub use value_worker::ValueWorker;
 pub use work::{Follow, Work};
 pub use worker::Worker;
-pub use wq_ledger::{Book, Ledger, Totals, Unbalanced};
+pub use wq_ledger::{Book, Ledger, Totals, Unbalanced, ValueBook};

@@ -10,26 +10,28 @@ ghost use Rattle.wq_live.specs.Batch.{next_of};
 ghost use Rattle.wq_live.specs.Rest.{MayNotRest};
 ghost use Rattle.wq_worker.specs.Seats.{taking, NothingWaits};
 ghost use Rattle.wq_worker.specs.Resting.{HasNoneLeft, rest_events};
-ghost use Rattle.wq_worker.specs.Pair.{settled, Both, BothFindNothing, BothBegin, BothQueue, QueuesRest};
+ghost use Rattle.wq_worker.specs.Pair.{settled, StaysOr, Both, BothFindNothing, BothBegin, BothQueue, QueuesRest};
 
+use crate::paired::Paired;
 use wq_live::{Answer, Pair};
 
 /// Whether the queue takes no push now: it is closed, or it drains.
-pub(crate) fn is_shut(pair: &Pair) -> bool
-    ensures { result ≡ shut pair.now.seen }
+pub(crate) fn is_shut<P: Paired>(pair: &P) -> bool
+    ensures { result ≡ shut (P.known pair.now).seen }
 {
     pair.is_closed() || pair.is_draining()
 }
 
-// Takes where nothing taken waits and the queue is open.
-fn take_where_empty(pair: &mut Pair)
-    requires legal { IsLegal pair.old.layout pair.old.seen }
-    ensures seen { Sees (taking pair.old.seen) 0 (pair_owner pair.old) (pair_owner pair.new) }
-    ensures others { Sees [] 0 (pair_sender pair.old) (pair_sender pair.new) }
-    ensures empty { next_of pair.new.seen ≡ None → NothingWaits pair.new.seen }
+/// Takes where nothing taken waits and the queue is open.
+pub(crate) fn take_where_empty<P: Paired>(pair: &mut P)
+    requires legal { IsLegal (P.known pair.old).layout (P.known pair.old).seen }
+    ensures seen { Sees (taking (P.known pair.old).seen) 0 (pair_owner (P.known pair.old)) (pair_owner (P.known pair.new)) }
+    ensures others { Sees [] 0 (pair_sender (P.known pair.old)) (pair_sender (P.known pair.new)) }
+    ensures empty { next_of (P.known pair.new).seen ≡ None → NothingWaits (P.known pair.new).seen }
+    ensures kept { StaysOr P.keeps pair.old pair.new }
 {
     if pair.next().is_none() {
-        if !is_shut(pair) {
+        if !is_shut::<P>(pair) {
             pair.take();
         }
     }
@@ -50,7 +52,7 @@ pub(crate) fn begin_next(pair: &mut Pair) -> Option<u32>
     requires idle { ¬ IsRunning pair.old.seen }
     ensures { MatchOption result (BothFindNothing pair.old pair.new) (λ k. BothBegin k pair.old pair.new) }
 {
-    take_where_empty(pair);
+    take_where_empty::<Pair>(pair);
     if pair.next().is_none() {
         return None;
     }
@@ -58,33 +60,36 @@ pub(crate) fn begin_next(pair: &mut Pair) -> Option<u32>
 }
 
 /// Makes the take that a begin would make, and answers the oldest number that was taken and has not begun.
-pub(crate) fn take_next(pair: &mut Pair) -> Option<u32>
-    requires legal { IsLegal pair.old.layout pair.old.seen }
-    ensures both { Both (taking pair.old.seen) 0 pair.old pair.new }
-    ensures next { result ≡ next_of pair.new.seen }
-    ensures nothing { result ≡ None → NothingWaits pair.new.seen }
+pub(crate) fn take_next<P: Paired>(pair: &mut P) -> Option<u32>
+    requires legal { IsLegal (P.known pair.old).layout (P.known pair.old).seen }
+    ensures both { Both (taking (P.known pair.old).seen) 0 (P.known pair.old) (P.known pair.new) }
+    ensures next { result ≡ next_of (P.known pair.new).seen }
+    ensures nothing { result ≡ None → NothingWaits (P.known pair.new).seen }
+    ensures kept { StaysOr P.keeps pair.old pair.new }
 {
-    take_where_empty(pair);
+    take_where_empty::<P>(pair);
     pair.next()
 }
 
 /// Rests, where nothing is left. False where something was pushed since the last take or drain, or where the queue rests already.
-pub(crate) fn rest(pair: &mut Pair) -> bool
-    requires open { ¬ IsShut pair.old.seen }
-    requires none { HasNoneLeft pair.old.seen }
-    ensures both { Both (rest_events result) 0 pair.old pair.new }
-    ensures open { ¬ IsShut pair.new.seen }
-    ensures unclosed { ¬ IsClosed pair.new.seen }
-    ensures none { HasNoneLeft pair.new.seen }
-    ensures refused { result ≡ false → MayNotRest pair.new.seen }
+pub(crate) fn rest<P: Paired>(pair: &mut P) -> bool
+    requires open { ¬ IsShut (P.known pair.old).seen }
+    requires none { HasNoneLeft (P.known pair.old).seen }
+    ensures both { Both (rest_events result) 0 (P.known pair.old) (P.known pair.new) }
+    ensures open { ¬ IsShut (P.known pair.new).seen }
+    ensures unclosed { ¬ IsClosed (P.known pair.new).seen }
+    ensures none { HasNoneLeft (P.known pair.new).seen }
+    ensures refused { result ≡ false → MayNotRest (P.known pair.new).seen }
+    ensures kept { P.keeps pair.old pair.new }
 {
     pair.rest()
 }
 
 /// Ends what runs.
-pub(crate) fn end_running(pair: &mut Pair)
-    requires runs { IsRunning pair.old.seen }
-    ensures { (k : ℕ) → running pair.old.seen ≡ Some k → Both (End k ∷ []) 0 pair.old pair.new }
+pub(crate) fn end_running<P: Paired>(pair: &mut P)
+    requires runs { IsRunning (P.known pair.old).seen }
+    ensures both { (k : ℕ) → running (P.known pair.old).seen ≡ Some k → Both (End k ∷ []) 0 (P.known pair.old) (P.known pair.new) }
+    ensures kept { P.keeps pair.old pair.new }
 {
     pair.end();
 }
@@ -99,7 +104,7 @@ fn queue_one(pair: &mut Pair, item: u32, tries: u32) -> bool
     if item >= pair.layout().items {
         return true;
     }
-    if is_shut(pair) {
+    if is_shut::<Pair>(pair) {
         let _ = pair.chain(item);
         return true;
     }

@@ -1,28 +1,29 @@
 //! A worker.
-ghost use Rattle.std.specs.Prelude.{◌≡◌, ◌↔◌, ℕ, ◌+◌, ◌<◌, false, Some, None, [], ◌∷◌, All, length, slice_index, IfOk, IfErr, IsTrue, MatchOption, MatchResult};
+ghost use Rattle.std.specs.Prelude.{◌≡◌, ◌↔◌, ℕ, ◌+◌, ◌<◌, false, Some, [], ◌∷◌, All, length, slice_index, IfOk, IfErr, IsTrue, MatchOption, MatchResult};
 ghost use Rattle.std.specs.Fn.{FnOnceTakesAtMut, FnOnceReturnsAtMut};
 ghost use Rattle.wq_words.specs.declared.event.Event.TheVariants.{Close};
-ghost use Rattle.wq_words.specs.History.{accepted, begun, ended, closed, running, Holds, IsRunning, IsClosed, IsShut, IsDraining};
+ghost use Rattle.wq_words.specs.History.{accepted, begun, closed, running, Holds, IsRunning, IsClosed, IsShut, IsDraining};
 ghost use Rattle.wq_words.specs.Seen.{owner_seat, Grows};
 ghost use Rattle.wq_live.specs.Known.{AreNumbered, Sees, new_senders};
 ghost use Rattle.wq_live.specs.Answers.{IsContended};
 ghost use Rattle.wq_live.specs.Batch.{TakesAll};
 ghost use Rattle.wq_live.specs.Rest.{MayNotRest};
-ghost use Rattle.wq_words.specs.Legal.{IsLegal, IsComplete, HasRunOut};
+ghost use Rattle.wq_words.specs.Legal.{IsLegal, IsComplete};
 ghost use Rattle.wq_words.specs.Headline.{KeepsHeadline};
 ghost use Rattle.wq_ledger.specs.Totals.{own_totals};
 ghost use Rattle.wq_worker.specs.State.{items_among, IsSameWorker, Moves, IsMadeOf, IsNew};
 ghost use Rattle.wq_worker.specs.declared.ran.Ran.TheVariants.{Nothing, Owing};
 ghost use Rattle.wq_worker.specs.declared.drained.Drained.TheVariants.{Empty};
 ghost use Rattle.wq_worker.specs.Step.{Runs, FindsNothing, Begins};
-ghost use Rattle.wq_worker.specs.Rows.{RunsSome, RunsOut, Drains, Serves, Closes, Shuts, Resumes};
+ghost use Rattle.wq_worker.specs.Rows.{RunsSome, Drains, Serves};
 ghost use Rattle.wq_worker.specs.Resting.{HasNoneLeft, rest_events, LeavesWork, IsReady, IsUnready};
 ghost use Rattle.wq_worker.specs.Destroy.{IsBookOf, Destroys, LeavesUnfinished};
 
 use crate::building::Unbuilt;
 use crate::drained::{Drained, Unfinished, left_of};
-use crate::patience::Patience;
 use crate::ran::Ran;
+use crate::serving::{close_where_unclosed, drain, run_out, run_some, serve};
+use crate::station::Station;
 use crate::steps::{begin_next, end_running, is_shut, queue_rest, rest, take_next};
 use crate::work::{Follow, Work};
 use crossbeam_utils::sync::Parker;
@@ -160,7 +161,7 @@ impl<W: Work> Worker<W> {
         if at < self.follow.len() {
             return Ran::Owing(number);
         }
-        end_running(&mut self.pair);
+        end_running::<Pair>(&mut self.pair);
         Ran::of(self.pair.layout(), number)
     }
 
@@ -223,7 +224,7 @@ impl<W: Work> Worker<W> {
         if self.pair.running().is_some() {
             return None;
         }
-        take_next(&mut self.pair)
+        take_next::<Pair>(&mut self.pair)
     }
 
     /// Says once that the queue rests: true where all that was accepted has ended, nothing was pushed since the last take or drain,
@@ -244,7 +245,7 @@ impl<W: Work> Worker<W> {
         ensures none { HasNoneLeft self.new.seen }
         ensures refused { result ≡ false → MayNotRest self.new.seen }
     {
-        rest(&mut self.pair)
+        rest::<Pair>(&mut self.pair)
     }
 
     /// Executes up to so many numbers, and answers how many executions ended. It stops at the limit, after the stop item,
@@ -257,17 +258,7 @@ impl<W: Work> Worker<W> {
         ensures same { IsSameWorker self.old self.new }
         ensures legal { IsLegal self.new.layout self.new.seen }
     {
-        self.legal();
-        for done in 0..limit {
-            match self.run_one() {
-                Ran::Item(_) => {}
-                Ran::Barrier(_) => {}
-                Ran::Stop => return done + 1,
-                Ran::Nothing => return done,
-                Ran::Owing(_) => return done,
-            }
-        }
-        limit
+        run_some::<Worker<W>>(self, limit)
     }
 
     /// Closes the queue, also one that drains, takes all that stands on the list, and answers how many that is.
@@ -326,53 +317,6 @@ impl<W: Work> Worker<W> {
         Totals::of(self.pair.sender_counts(), self.pair.owner_counts())
     }
 
-    // How many numbers are accepted and have not ended.
-    fn left(&self) -> u32
-        requires { IsShut self.now.seen }
-        ensures { result + length (ended self.now.seen) ≡ length (accepted self.now.seen) }
-    {
-        left_of(&self.pair)
-    }
-
-    // Executes until nothing is left of a queue that takes no push, or so many executions have ended. How many numbers are left.
-    fn run_out(&mut self, limit: u32) -> u32
-        requires { IsShut self.old.seen }
-        ensures runs { RunsOut W.may limit result self.old self.new }
-        ensures shut { IsShut self.new.seen }
-        ensures same { IsSameWorker self.old self.new }
-        ensures legal { IsLegal self.new.layout self.new.seen }
-    {
-        self.legal();
-        for _done in 0..limit {
-            if self.left() == 0 {
-                return 0;
-            }
-            let _ = self.run_one();
-        }
-        self.left()
-    }
-
-    // Begins a drain where the queue is open.
-    fn drain_where_open(&mut self)
-        ensures shuts { Shuts self.old self.new }
-        ensures shut { IsShut self.new.seen }
-    {
-        if is_shut(&self.pair) {
-            return;
-        }
-        self.pair.drain();
-    }
-
-    // Opens the queue again where it drained.
-    fn resume_where_draining(&mut self)
-        requires { HasRunOut self.old.seen }
-        ensures resumes { Resumes self.old self.new }
-    {
-        if self.pair.is_draining() {
-            self.pair.resume();
-        }
-    }
-
     /// Executes until nothing is left, or so many executions have ended (`drain_workqueue`). An open queue drains meanwhile:
     /// what senders queue is answered `Draining`, and what executions ask for is chained. Once nothing is left it takes pushes
     /// again; after `TooLong` it drains still, and the next call goes on. A closed queue stays closed.
@@ -383,13 +327,7 @@ impl<W: Work> Worker<W> {
         ensures same { IsSameWorker self.old self.new }
         ensures legal { IsLegal self.new.layout self.new.seen }
     {
-        self.drain_where_open();
-        let left = self.run_out(limit);
-        if left > 0 {
-            return Drained::TooLong { left };
-        }
-        self.resume_where_draining();
-        Drained::Empty
+        drain::<Worker<W>>(self, limit)
     }
 
     /// Executes until the stop item ran. It parks where nothing waits, so who queues something unparks it, and goes on at once
@@ -401,17 +339,7 @@ impl<W: Work> Worker<W> {
         ensures same { IsSameWorker self.old self.new }
         ensures legal { IsLegal self.new.layout self.new.seen }
     {
-        let mut patience = Patience::new(self.spins);
-        for _ in rt.forever() {
-            match self.run_one() {
-                Ran::Stop => return,
-                Ran::Nothing => patience.snooze_or_park(rt, parker),
-                Ran::Item(_) => patience.after_execution(self.pair.waiting()),
-                Ran::Barrier(_) => patience.after_execution(self.pair.waiting()),
-                Ran::Owing(_) => {}
-            }
-        }
-        unreachable!()
+        serve::<R, Worker<W>>(rt, self, parker)
     }
 
     // Takes a worker apart whose queue has run to the end.
@@ -426,28 +354,100 @@ impl<W: Work> Worker<W> {
         (work, Book::new(owner, &sender))
     }
 
-    // Closes the queue where it is not closed.
-    fn close_where_unclosed(&mut self)
-        ensures closes { Closes self.old self.new }
-        ensures closed { IsClosed self.new.seen }
-    {
-        if self.is_closed() {
-            return;
-        }
-        self.close();
-    }
-
     /// Closes the queue where it is not closed, executes what is left, at most so many, and gives the work back with the book
     /// (`destroy_workqueue`). Where more is left it gives the worker back.
-    pub fn destroy(mut self, limit: u32) -> Result<(W, Book), Unfinished<W>>
+    pub fn destroy(mut self, limit: u32) -> Result<(W, Book), Unfinished<Worker<W>>>
         ensures outcome { MatchResult result (λ done. Destroys W.log W.may limit self done.0 done.1)
             (λ unfinished. LeavesUnfinished W.log W.may limit self unfinished.worker unfinished.left) }
     {
-        self.close_where_unclosed();
-        let left = self.run_out(limit);
+        close_where_unclosed::<Worker<W>>(&mut self);
+        let left = run_out::<Worker<W>>(&mut self, limit);
         if left > 0 {
             return Err(Unfinished { worker: self, left });
         }
         Ok(self.into_book())
+    }
+}
+
+impl<W: Work> Station for Worker<W> {
+    type Work = W;
+
+    type Book = Book;
+
+    ghost state = { λ w. w };
+
+    ghost may = { W.may };
+
+    ghost use Rattle.wq_worker.specs.Step.{stays};
+
+    ghost gives = { stays };
+
+    ghost book = { λ b. b };
+
+    ghost has_logged = { λ w. W.log w.work ≡ items_among w.layout (begun w.seen) };
+
+    ghost use Rattle.wq_worker.specs.Destroy.{HasRunAccepted};
+
+    ghost has_run = { HasRunAccepted W.log };
+
+    fn legal(&self) {
+        self.legal();
+    }
+
+    fn logged(&self) {
+        self.logged();
+    }
+
+    fn layout(&self) -> Layout {
+        self.layout()
+    }
+
+    fn spins(&self) -> Spins {
+        self.spins
+    }
+
+    fn waiting(&self) -> u32 {
+        self.pair.waiting()
+    }
+
+    fn run_one(&mut self) -> Ran {
+        self.run_one()
+    }
+
+    fn ready(&mut self) -> Option<u32> {
+        self.ready()
+    }
+
+    fn rest(&mut self) -> bool {
+        self.rest()
+    }
+
+    fn is_closed(&self) -> bool {
+        self.is_closed()
+    }
+
+    fn close(&mut self) -> u32 {
+        self.close()
+    }
+
+    fn left(&self) -> u32 {
+        left_of::<Pair>(&self.pair)
+    }
+
+    fn drain_where_open(&mut self) {
+        if is_shut::<Pair>(&self.pair) {
+            return;
+        }
+        self.pair.drain();
+    }
+
+    fn resume_where_draining(&mut self) {
+        if self.pair.is_draining() {
+            self.pair.resume();
+        }
+    }
+
+    fn into_parts(self) -> (W, Book) {
+        self.into_book()
     }
 }

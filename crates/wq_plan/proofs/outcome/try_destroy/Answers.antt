@@ -7,5 +7,5 @@ returns-in-Ok c = destroys_on _ (λ w k f v none. none) _ (λ w. refl) 429496729
     c.requires.seat c.requires.idle c.requires.legal c.in-Ok.ensures.outcome c.legal.ensures.own
 
 pub returns-in-Err : goal.returns-in-Err
-returns-in-Err c = leaves_on _ (λ w k f v none. none) _ 4294967295 c.args.worker c.in-Err.unfinished.worker _ c.requires.seat
+returns-in-Err c = leaves_on _ (λ w k f v none. none) (λ w. w.ran.items) 4294967295 c.args.worker c.in-Err.unfinished.worker _ c.requires.seat
     c.requires.idle c.requires.legal c.in-Err.ensures.outcome

@@ -3,4 +3,5 @@ use Rattle.wq_pool.proofs.finish.gather.Given as goal
 
 abbrev pub invariant-loop-queue : goal.invariant-loop-queue
 invariant-loop-queue g l =
-    AreFirst l.slots l.all.items × (vec_len l.all ≡ l.queue) × (length l.slots.workers ≤ vec_capacity l.all) × LeavesOf l.slots l.all.items l.left
+    AreFirst g.K.Station.state l.slots l.all.items × (vec_len l.all ≡ l.queue) × (length l.slots.workers ≤ vec_capacity l.all)
+    × LeavesOf g.K.Station.state l.slots l.all.items l.left

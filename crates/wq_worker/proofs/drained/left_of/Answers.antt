@@ -6,11 +6,11 @@ use Rattle.wq_worker.proofs.Draining.{left_idle, left_running}
 use Rattle.wq_worker.proofs.drained.left_of.Goals as goal
 
 pub returns-in-Some : goal.returns-in-Some
-returns-in-Some c =
-    let o = c.args.pair.now in let some : running o.seen ≡ Some c.in-Some._number = search rules in
+returns-in-Some g c =
+    let o = g.P.Paired.known c.args.pair.now in let some : running o.seen ≡ Some c.in-Some._number = search rules in
     omega (arith, c.waiting.ensures.count, left_running o.layout o.seen c.requires.legal c.requires.shut (runs_some o.seen c.in-Some._number some))
 
 pub returns : goal.returns
-returns c =
-    let o = c.args.pair.now in let none : running o.seen ≡ None = search rules in
+returns g c =
+    let o = g.P.Paired.known c.args.pair.now in let none : running o.seen ≡ None = search rules in
     omega (arith, c.waiting-2.ensures.count, left_idle o.layout o.seen c.requires.legal c.requires.shut (runs_none o.seen none))

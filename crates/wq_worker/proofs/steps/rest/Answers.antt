@@ -12,13 +12,13 @@ seen_of true o p told = told
 seen_of false o p told = told
 
 pub rest-requires-clause-empty : goal.rest-requires-clause-empty
-rest-requires-clause-empty c = empty_from_next c.args.pair.now.seen c.requires.none.1
+rest-requires-clause-empty g c = empty_from_next (g.P.Paired.known c.args.pair.now).seen c.requires.none.1
 
 pub returns-clause-both : goal.returns-clause-both
-returns-clause-both c =
-    let a = c.args.pair.now in let b = c.rest.new.self in let e = c.rest.ensures in
+returns-clause-both g c =
+    let a = g.P.Paired.known c.args.pair.now in let b = g.P.Paired.known c.rest.new.self in let e = c.rest.ensures in
     by_owner (rest_events c.rest.result) 0 0 a b
     (seen_of c.rest.result (pair_owner a) (pair_owner b) e.seen) e.others
 
 pub returns-clause-none : goal.returns-clause-none
-returns-clause-none c = let e = c.rest.ensures in (e.idle, ap (λ (ks : List ℕ). slice_get ks 0) e.empty)
+returns-clause-none g c = let e = c.rest.ensures in (e.idle, ap (λ (ks : List ℕ). slice_get ks 0) e.empty)

@@ -4,4 +4,5 @@ use Rattle.wq_turn.proofs.noted.Noted.close.Goals as goal
 
 pub invariant_of-self : goal.invariant_of-self
 invariant_of-self g c =
-    noted_moved c.self.inside.stop_item (Close ∷ []) 0 c.self.inside.worker c.close.new.self c.close.ensures.events c.self.invariant
+    let s = g.K.Station.state in
+    noted_moved c.self.inside.stop_item (Close ∷ []) 0 (s c.self.inside.worker) (s c.close.new.self) c.close.ensures.events c.self.invariant

@@ -1,5 +1,6 @@
-use Rattle.wq_turn.proofs.Common.{subst, IsLegal, WorkerState}
+use Rattle.wq_turn.proofs.Common.{ap, subst, IsLegal, WorkerState}
 use Rattle.wq_turn.proofs.noted.Noted.is_closed.Goals as goal
 
 pub returns-clause-legal : goal.returns-clause-legal
-returns-clause-legal g c = subst (λ (z : WorkerState g.row.W.Denot). IsLegal z.layout z.seen) c.self.view_is c.is_closed.ensures.legal
+returns-clause-legal g c =
+    subst (λ (w : WorkerState g.row.K-Work.Denot). IsLegal w.layout w.seen) (ap g.K.Station.state c.self.view_is) c.is_closed.ensures.legal

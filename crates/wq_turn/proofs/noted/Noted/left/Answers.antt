@@ -1,9 +1,15 @@
-use Rattle.wq_turn.proofs.Common.{sym, subst, IsClosed, WorkerState, IsNoted}
-use Rattle.wq_turn.proofs.Draining.{undrained}
+use Rattle.wq_turn.proofs.Common.{ap, sym, subst, WorkerState, IsClosed}
+use Rattle.wq_turn.specs.Drained.{IsDrained}
 use Rattle.wq_turn.proofs.noted.Noted.left.Goals as goal
 
-pub invariant_of-self : goal.invariant_of-self
-invariant_of-self g c =
-    subst (λ (w : WorkerState _). IsNoted c.self.inside.stop_item w)
-    (sym (undrained g.W.Work.may c.drain.result c.self.inside.worker c.drain.new.self
-    (subst (λ (w : WorkerState _). IsClosed w.seen) (sym c.self.view_is) c.requires) c.drain.ensures.drains)) c.self.invariant
+pub returns : goal.returns
+returns g c =
+    let same = ap g.K.Station.state c.self.view_is in
+    record {
+      left = subst (λ (w : WorkerState _). IsDrained c.left.result w) same
+          (record {
+            legal = c.legal.ensures.legal;
+            closed = subst (λ (w : WorkerState _). IsClosed w.seen) (sym same) c.requires;
+            left_is = c.left.ensures;
+          });
+    }

@@ -4,4 +4,5 @@ use Rattle.wq_turn.proofs.noted.Noted.rest.Goals as goal
 
 pub invariant_of-self : goal.invariant_of-self
 invariant_of-self g c =
-    noted_moved c.self.inside.stop_item (rest_events c.rest.result) 0 c.self.inside.worker c.rest.new.self c.rest.ensures.events c.self.invariant
+    let s = g.K.Station.state in
+    noted_moved c.self.inside.stop_item (rest_events c.rest.result) 0 (s c.self.inside.worker) (s c.rest.new.self) c.rest.ensures.events c.self.invariant

@@ -6,34 +6,35 @@ use Rattle.wq_turn.proofs.runner.Runner.rest.Goals as goal
 
 pub rest-requires-clause-open : goal.rest-requires-clause-open
 rest-requires-clause-open g c shut =
-    let a = c.self.inside.worker in
+    let a = g.K.Station.state c.self.inside.worker in
     c.self.invariant.1 (shut, open_from_closed a.seen (sym c.is_closed.ensures.closed ∙ c.if-is_closed.false))
 
 pub invariant_of-self-2 : goal.invariant_of-self-2
 invariant_of-self-2 g c =
-    let a = c.self.inside.worker in let b = c.rest.new.self in let d = c.ready.new.self in
-    let idle : ¬ IsRunning a.seen = rw (ap (λ (w : WorkerState _). w.seen) c.self.view_is) c.requires.none.0 in (
+    let s = g.K.Station.state in let a = s c.self.inside.worker in let b = s c.rest.new.self in let d = s c.ready.new.self in
+    let idle : ¬ IsRunning a.seen = rw (ap s c.self.view_is) c.requires.none.0 in (
       idle_owes c.self.inside.owes a.seen d.seen c.self.invariant.0 idle (ready_idle c.ready.result b d c.rest.ensures.none.0 c.ready.ensures.outcome),
       ready_not_draining b d (rest_not_draining a b c.self.invariant.1 c.rest.result c.rest.ensures.events) c.ready.result c.ready.ensures.outcome,
     )
 
 pub returns-then-is_closed : goal.returns-then-is_closed
 returns-then-is_closed g c =
-    let a = c.self.inside.worker in let e = c.is_closed.ensures in
-    let none : HasNoneLeft a.seen = rw (ap (λ (w : WorkerState _). w.seen) c.self.view_is) c.requires.none in
-    subst (λ (w : WorkerState _). Settles g.W.Work.may None w w) c.self.view_is
-    (settled_closed g.W.Work.may a e.legal (sym e.closed ∙ c.if-is_closed.true) none)
+    let k = g.K.Station in let a = k.state c.self.inside.worker in let e = c.is_closed.ensures in
+    let none : HasNoneLeft a.seen = rw (ap k.state c.self.view_is) c.requires.none in
+    subst (λ (w : WorkerState _). Settles k.may k.gives None w w) (ap k.state c.self.view_is)
+    (settled_closed k.may k.gives a e.legal (sym e.closed ∙ c.if-is_closed.true) none)
 
 pub returns-then-rest : goal.returns-then-rest
 returns-then-rest g c =
-    let a = c.self.inside.worker in let e = c.rest.ensures in
-    subst (λ (w : WorkerState _). Settles g.W.Work.may None w c.rest.new.self) c.self.view_is
-    (settled_rested g.W.Work.may c.rest.result a c.rest.new.self c.if-rest.true e.work e.events e.none)
+    let k = g.K.Station in let a = k.state c.self.inside.worker in let b = k.state c.rest.new.self in let e = c.rest.ensures in
+    subst (λ (w : WorkerState _). Settles k.may k.gives None w b) (ap k.state c.self.view_is)
+    (settled_rested k.may k.gives c.rest.result a b c.if-rest.true e.work e.events e.none)
 
 pub returns : goal.returns
 returns g c =
-    let a = c.self.inside.worker in let e = c.rest.ensures in
-    let waits : NothingWaits a.seen = rw (ap (λ (w : WorkerState _). w.seen) c.self.view_is) c.requires.waits in
-    subst (λ (w : WorkerState _). Settles g.W.Work.may c.ready.result w c.ready.new.self) c.self.view_is
-    (settled_refused g.W.Work.may c.rest.result c.ready.result a c.rest.new.self c.ready.new.self c.if-rest.false waits e.work e.events e.open
-    e.none (e.refused c.if-rest.false) c.ready.ensures.outcome)
+    let k = g.K.Station in let a = k.state c.self.inside.worker in let b = k.state c.rest.new.self in let d = k.state c.ready.new.self in
+    let e = c.rest.ensures in
+    let waits : NothingWaits a.seen = rw (ap k.state c.self.view_is) c.requires.waits in
+    subst (λ (w : WorkerState _). Settles k.may k.gives c.ready.result w d) (ap k.state c.self.view_is)
+    (settled_refused k.may k.gives c.rest.result c.ready.result a b d c.if-rest.false waits e.work e.events e.open e.none (e.refused c.if-rest.false)
+    c.ready.ensures.outcome)

@@ -4,38 +4,44 @@ use Rattle.wq_turn.proofs.Steps.{steps_on}
 use Rattle.wq_turn.proofs.runner.Runner.work.Goals as goal
 
 pub loop-ended-init : goal.loop-ended-init
-loop-ended-init g c = (still c.args.self.now, λ some. absurd (omega (arith, some)), λ none. refl)
+loop-ended-init g c = (still (g.K.Station.state c.args.self.now), λ some. absurd (omega (arith, some)), λ none. refl)
 
 pub returns-in-Owed : goal.returns-in-Owed
 returns-in-Owed g c =
-    let l = c.loop-ended in
+    let l = c.loop-ended in let k = g.K.Station in
     record {
-      works = works_owed g.W.Work.may c.args.limit l._ended c.args.self.now l.self c.advance.new.self (omega (arith, c.loop-ended-test.true)) l.invariant.0
-          c.in-Owed.ensures;
+      works = works_owed k.may k.gives c.args.limit l._ended (k.state c.args.self.now) (k.state l.self) (k.state c.advance.new.self)
+          (omega (arith, c.loop-ended-test.true)) l.invariant.0 c.in-Owed.ensures;
     }
 
 pub returns-in-Done : goal.returns-in-Done
 returns-in-Done g c =
-    let l = c.loop-ended in
+    let l = c.loop-ended in let k = g.K.Station in
     record {
-      works = works_done g.W.Work.may c.args.limit l._ended c.args.self.now l.self c.advance.new.self (omega (arith, c.loop-ended-test.true)) l.invariant.0
-          c.in-Done.ensures;
+      works = works_done k.may k.gives c.args.limit l._ended (k.state c.args.self.now) (k.state l.self) (k.state c.advance.new.self)
+          (omega (arith, c.loop-ended-test.true)) l.invariant.0 c.in-Done.ensures;
     }
 
 pub loop-ended-preserved : goal.loop-ended-preserved
 loop-ended-preserved g c =
-    let l = c.loop-ended in let t = c.in-Ended.ensures in
-    (steps_on g.W.Work.may l._ended 1 c.args.self.now l.self c.advance.new.self l.invariant.0 t.0, λ some. t.1, λ none. absurd (omega (arith, none)))
+    let l = c.loop-ended in let k = g.K.Station in let t = c.in-Ended.ensures in (
+      steps_on k.may k.gives l._ended 1 (k.state c.args.self.now) (k.state l.self) (k.state c.advance.new.self) l.invariant.0 t.0,
+      λ some. t.1,
+      λ none. absurd (omega (arith, none)),
+    )
 
 pub returns-in-Some : goal.returns-in-Some
 returns-in-Some g c =
-    let l = c.loop-ended in
+    let l = c.loop-ended in let k = g.K.Station in
     record {
-      works = works_due g.W.Work.may c.args.limit l._ended c.args.self.now l.self c.settle.new.self c.in-Some.field-0 (omega arith) l.invariant.0
-          c.in-Some.ensures;
+      works = works_due k.may k.gives c.args.limit l._ended (k.state c.args.self.now) (k.state l.self) (k.state c.settle.new.self) c.in-Some.field-0
+          (omega arith) l.invariant.0 c.in-Some.ensures;
     }
 
 pub returns-in-None : goal.returns-in-None
 returns-in-None g c =
-    let l = c.loop-ended in
-    record { works = works_done g.W.Work.may c.args.limit l._ended c.args.self.now l.self c.settle.new.self (omega arith) l.invariant.0 c.in-None.ensures }
+    let l = c.loop-ended in let k = g.K.Station in
+    record {
+      works = works_done k.may k.gives c.args.limit l._ended (k.state c.args.self.now) (k.state l.self) (k.state c.settle.new.self) (omega arith)
+          l.invariant.0 c.in-None.ensures;
+    }

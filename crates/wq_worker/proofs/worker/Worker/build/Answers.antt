@@ -1,24 +1,16 @@
-use Rattle.std.proofs.Common.{◌≡◌, ℕ, [], length, sym, ap, ◌∙◌, subst, arith}
+use Rattle.std.proofs.Common.{◌≡◌, ℕ, [], length, sym, ap, ◌∙◌, subst}
 use Rattle.std.specs.Prelude.{All}
-use Rattle.wq_words.specs.History.{Holds, IsShut}
-use Rattle.wq_words.specs.Seen.{owner_seat, own}
+use Rattle.wq_words.specs.History.{Holds}
 use Rattle.wq_live.specs.Known.{QueueId, Known, new_senders, AreNumbered}
-use Rattle.wq_live.proofs.Seated.{one_less, all_front, all_last, numbered_front, made_nothing}
+use Rattle.wq_live.proofs.Seated.{one_less, all_front, all_last, numbered_front}
+use Rattle.wq_worker.proofs.Joined.{made_new, made_open}
 use Rattle.wq_worker.proofs.worker.Worker.build.Goals as goal
 
 pub returns-in-Some-clause-worker : goal.returns-in-Some-clause-worker
-returns-in-Some-clause-worker g c = let n = c.new.ensures in let o = c.in-Ok.ensures in let w = c.new.result in let s = c.in-Some.sender in
-    let unseen = all_last (λ (k : Known). k.seen ≡ []) c.pop.new.self.items s (subst (All (λ (k : Known). k.seen ≡ [])) c.in-Some.ensures.items o.unseen.1) in
-    record {
-      layout_is = n.parts.1 ∙ o.layouts.0;
-      tries_is = n.parts.3;
-      unqueued_is = n.parts.4;
-      work_is = n.parts.5;
-      legal = n.legal;
-      idle = n.idle;
-      untouched = made_nothing owner_seat 0 c.in-Ok.owner.seen w.seen o.unseen.0 n.owner;
-      unsent = subst (λ (k : ℕ). own k w.seen ≡ []) (sym n.parts.2) (made_nothing s.number 0 s.seen w.seen unseen n.sender);
-    }
+returns-in-Some-clause-worker g c = let n = c.new.ensures in let o = c.in-Ok.ensures in let s = c.in-Some.sender in
+    made_new c.args.layout c.args.work c.args.tries c.in-Ok.owner s c.new.result o.layouts.0 o.unseen.0
+    (all_last (λ (k : Known). k.seen ≡ []) c.pop.new.self.items s (subst (All (λ (k : Known). k.seen ≡ [])) c.in-Some.ensures.items o.unseen.1))
+    n.parts n.owner n.sender n.legal n.idle
 
 pub returns-in-Some-clause-senders : goal.returns-in-Some-clause-senders
 returns-in-Some-clause-senders g c =
@@ -49,5 +41,4 @@ returns-in-Some-clause-free g c = let P = λ (s : Known). (k : ℕ) → ¬ Holds
     all_front P c.pop.new.self.items c.in-Some.sender (subst (All P) c.in-Some.ensures.items c.in-Ok.ensures.free)
 
 pub returns-in-Some-clause-open : goal.returns-in-Some-clause-open
-returns-in-Some-clause-open g c =
-    c.new.ensures.open (λ shut. let none : IsShut [] = subst IsShut c.in-Ok.ensures.unseen.0 shut in omega (arith, none))
+returns-in-Some-clause-open g c = made_open c.in-Ok.owner.seen c.new.result.seen c.in-Ok.ensures.unseen.0 c.new.ensures.open

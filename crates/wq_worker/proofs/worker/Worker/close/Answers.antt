@@ -1,13 +1,10 @@
-use Rattle.std.proofs.Common.{[], ◌∷◌, ◌∙◌, subst, drop}
-use Rattle.std.proofs.lemmas.List.{append-nil}
+use Rattle.std.proofs.Common.{[], ◌∷◌, refl, subst, drop}
 use Rattle.wq_words.specs.declared.event.Event.TheVariants.{Close}
-use Rattle.wq_words.specs.History.{begun}
 use Rattle.wq_live.specs.Pairs.{KnownPair}
 use Rattle.wq_worker.specs.Pair.{Both}
 use Rattle.wq_worker.specs.State.{WorkerState, Moves}
-use Rattle.wq_worker.proofs.Owned.{owner_of_both}
 use Rattle.wq_worker.proofs.Pair.{by_owner}
-use Rattle.wq_worker.proofs.State.{fit_still}
+use Rattle.wq_worker.proofs.State.{fit_both}
 use Rattle.wq_worker.proofs.Step.{state_of, moves_by}
 use Rattle.wq_worker.proofs.worker.Worker.close.Goals as goal
 
@@ -15,9 +12,7 @@ pub invariant_of-self : goal.invariant_of-self
 invariant_of-self g c =
     let i = c.self.inside in let e = c.close.ensures in let o : KnownPair = i.pair in
     let q : KnownPair = c.close.new.self in
-    let b : Both (Close ∷ []) 0 o q = by_owner (Close ∷ []) 0 0 o q e.seen e.others in
-    let a = owner_of_both o.number (Close ∷ []) 0 o.seen q.seen b.adds in
-    fit_still _ _ _ _ _ _ o q c.self.invariant b.legal b.number_is b.layout_is (a.begun_is ∙ append-nil (begun o.seen)) c.self.invariant.within
+    fit_both (Close ∷ []) _ _ _ _ o q refl c.self.invariant (by_owner (Close ∷ []) 0 0 o q e.seen e.others)
 
 pub returns-clause-events : goal.returns-clause-events
 returns-clause-events g c =

@@ -1,15 +1,16 @@
-use Rattle.std.proofs.Common.{◌≡◌, ℕ, ◌<◌, ◌≤◌, Option, Some, [], ◌∷◌, arith, ap, sym, ◌∙◌, subst, drop, length}
+use Rattle.std.proofs.Common.{◌≡◌, ℕ, ◌<◌, ◌≤◌, Option, Some, [], ◌∷◌, arith, ap, sym, refl, ◌∙◌, subst, drop, length, length-drop}
+use Rattle.std.proofs.Math.ListN.{drop_of_length-le}
 use Rattle.wq_words.specs.declared.layout.Layout.{Layout}
 use Rattle.wq_words.specs.declared.event.Event.TheVariants.{End}
 use Rattle.wq_words.specs.Numbers.{number_count}
 use Rattle.wq_words.specs.History.{running}
 use Rattle.wq_worker.specs.Pair.{Both}
 use Rattle.wq_worker.specs.State.{WorkerState, AreWorkerParts}
-use Rattle.wq_worker.specs.Step.{Owes, Ends, Runs}
+use Rattle.wq_worker.specs.Step.{stays, Owes, Ends, Runs}
 use Rattle.wq_worker.proofs.Running.{number_runs}
 use Rattle.wq_words.proofs.Running.{runs_from_running as runs_some}
 use Rattle.wq_worker.proofs.Follow.{advance_stays, advance_layout, advance_legal}
-use Rattle.wq_worker.proofs.State.{advance_fits, fit_ended}
+use Rattle.wq_worker.proofs.State.{advance_fits, fit_both}
 use Rattle.wq_worker.proofs.Step.{state_of, advance_owes, advance_ends, runs_kind}
 use Rattle.wq_worker.proofs.worker.Worker.finish.Goals as goal
 
@@ -28,8 +29,8 @@ returns-then-at-len-clause-runs g c =
     let b : WorkerState g.row.W.Denot = state_of p i.tries (drop r fs) i.work in
     let a : WorkerState g.row.W.Denot = state_of i.pair i.tries (drop i.at fs) i.work in
     subst (λ (z : WorkerState g.row.W.Denot). Owes g.W.Work.may z k b) c.self.view_is
-    (advance_owes g.W.Work.may k i.tries i.at r fs i.work i.pair p
-    (runs_at a c.args.self.now (Some k) c.self.view_is c.requires) low adv)
+    (advance_owes g.W.Work.may stays k i.tries (drop i.at fs) (drop r fs) i.work i.work i.pair p refl
+    (runs_at a c.args.self.now (Some k) c.self.view_is c.requires) (omega (arith, low, length-drop r fs)) adv)
 
 pub end_running-requires : goal.end_running-requires
 end_running-requires g c =
@@ -47,7 +48,7 @@ of-requires g c =
     let runs : running p.seen ≡ Some k = (advance_stays _ _ _ _ _ c.queue_rest-at.ensures.queued).running_same ∙ runs_at a c.args.self.now
     (Some k) c.self.view_is c.requires in
     let low = number_runs p.layout p.seen k (advance_legal _ _ _ _ _ c.queue_rest-at.ensures.queued) runs in
-    subst (λ (z : Layout). k < number_count z) (sym (c.layout.ensures.layout ∙ (c.end_running.ensures k runs).layout_is)) low
+    subst (λ (z : Layout). k < number_count z) (sym (c.layout.ensures.layout ∙ (c.end_running.ensures.both k runs).layout_is)) low
 
 pub invariant_of-self-2 : goal.invariant_of-self-2
 invariant_of-self-2 g c =
@@ -59,7 +60,7 @@ invariant_of-self-2 g c =
     (let e = ap (length {A = ℕ}) c.as_slice.ensures.value in omega arith) in
     let runs : running c.queue_rest-at.new.pair.seen ≡ Some k =
     (advance_stays _ _ _ _ _ c.queue_rest-at.ensures.queued).running_same ∙ runs_at a c.args.self.now (Some k) c.self.view_is c.requires in
-    fit_ended k _ _ _ _ _ _ fit (c.end_running.ensures k runs)
+    fit_both (End k ∷ []) _ _ _ _ _ _ refl fit (c.end_running.ensures.both k runs)
 
 pub returns-clause-runs : goal.returns-clause-runs
 returns-clause-runs g c =
@@ -71,8 +72,9 @@ returns-clause-runs g c =
     let b : WorkerState g.row.W.Denot = state_of q i.tries (drop r fs) i.work in
     let a : WorkerState g.row.W.Denot = state_of i.pair i.tries (drop i.at fs) i.work in
     let runs : running i.pair.seen ≡ Some k = runs_at a c.args.self.now (Some k) c.self.view_is c.requires in
-    let over : Both (End k ∷ []) 0 p q = c.end_running.ensures k ((advance_stays _ _ _ _ _ c.queue_rest-at.ensures.queued).running_same ∙ runs) in
-    let e : Ends g.W.Work.may a k b = advance_ends g.W.Work.may k i.tries i.at r fs i.work i.pair p q runs high adv over in
+    let over : Both (End k ∷ []) 0 p q = c.end_running.ensures.both k ((advance_stays _ _ _ _ _ c.queue_rest-at.ensures.queued).running_same ∙ runs) in
+    let e : Ends g.W.Work.may a k b =
+    advance_ends g.W.Work.may stays k i.tries (drop i.at fs) (drop r fs) i.work i.work i.pair p q refl runs (drop_of_length-le fs high) adv over in
     subst (λ (z : WorkerState g.row.W.Denot). Runs g.W.Work.may c.of.result z b) c.self.view_is
-    (runs_kind g.W.Work.may k c.of.result c.layout.result a b
+    (runs_kind g.W.Work.may stays k c.of.result c.layout.result a b
     (c.layout.ensures.layout ∙ (over.layout_is ∙ advance_layout _ _ _ _ _ c.queue_rest-at.ensures.queued)) c.of.ensures e)

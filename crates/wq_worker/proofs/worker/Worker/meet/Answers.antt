@@ -1,9 +1,8 @@
-use Rattle.std.proofs.Common.{[], ap, ◌∙◌, subst, drop}
+use Rattle.std.proofs.Common.{[], refl, ap, ◌∙◌, subst, drop}
 use Rattle.wq_live.specs.Pairs.{KnownPair}
 use Rattle.wq_worker.specs.Pair.{Both}
 use Rattle.wq_worker.specs.State.{WorkerState, Moves}
-use Rattle.wq_worker.proofs.Owned.{stays, quiet_none, owner_of_both}
-use Rattle.wq_worker.proofs.State.{fit_still}
+use Rattle.wq_worker.proofs.State.{fit_both}
 use Rattle.wq_worker.proofs.Step.{state_of, moves_by}
 use Rattle.wq_worker.proofs.Pair.{by_owner}
 use Rattle.wq_worker.proofs.worker.Worker.meet.Goals as goal
@@ -12,10 +11,7 @@ pub invariant_of-self : goal.invariant_of-self
 invariant_of-self g c =
     let i = c.self.inside in let e = c.meet.ensures in let o : KnownPair = i.pair in
     let q : KnownPair = c.meet.new.self in
-    let b : Both [] 0 o q = by_owner [] 0 0 o q e.owner e.sender in
-    let k = stays [] o.seen q.seen quiet_none (owner_of_both o.number [] 0 o.seen q.seen b.adds) in
-    fit_still (g.W.Work.log i.work) i.tries i.at i.follow.items i.at i.follow.items o q c.self.invariant b.legal b.number_is
-    b.layout_is k.begun_same c.self.invariant.within
+    fit_both [] (g.W.Work.log i.work) i.tries i.at i.follow.items o q refl c.self.invariant (by_owner [] 0 0 o q e.owner e.sender)
 
 pub returns-clause-worker : goal.returns-clause-worker
 returns-clause-worker g c =

@@ -6,7 +6,7 @@ use Rattle.wq_worker.specs.Pair.{Both}
 use Rattle.wq_worker.specs.Resting.{IsReady, IsUnready}
 use Rattle.wq_worker.specs.State.{WorkerState}
 use Rattle.wq_worker.proofs.Owned.{stays, owner_of_both}
-use Rattle.wq_worker.proofs.State.{fit_still, quiet_taking}
+use Rattle.wq_worker.proofs.State.{fit_both, quiet_taking}
 use Rattle.wq_worker.proofs.Step.{state_of, moves_by}
 use Rattle.wq_worker.proofs.Resting.{ready_told}
 use Rattle.wq_worker.proofs.worker.Worker.ready.Goals as goal
@@ -14,10 +14,7 @@ use Rattle.wq_worker.proofs.worker.Worker.ready.Goals as goal
 pub invariant_of-self : goal.invariant_of-self
 invariant_of-self g c =
     let i = c.self.inside in let o = i.pair in let p = c.take_next.new.pair in
-    let b : Both (taking o.seen) 0 o p = c.take_next.ensures.both in
-    let s = stays (taking o.seen) o.seen p.seen (quiet_taking o.seen) (owner_of_both i.pair.number (taking o.seen) 0 o.seen p.seen b.adds) in
-    fit_still (g.W.Work.log i.work) i.tries i.at i.follow.items i.at i.follow.items o p c.self.invariant b.legal b.number_is
-    b.layout_is s.begun_same c.self.invariant.within
+    fit_both (taking o.seen) (g.W.Work.log i.work) i.tries i.at i.follow.items o p (quiet_taking o.seen).begun_none c.self.invariant c.take_next.ensures.both
 
 pub returns : goal.returns
 returns g c =

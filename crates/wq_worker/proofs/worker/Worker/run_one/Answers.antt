@@ -1,24 +1,25 @@
 use Rattle.std.proofs.Common.{rules, ◌≡◌, None}
 use Rattle.wq_words.specs.History.{running}
 use Rattle.wq_worker.specs.declared.ran.Ran.TheVariants.{Nothing}
+use Rattle.wq_worker.specs.Step.{stays}
 use Rattle.wq_words.proofs.Running.{rests_from_running as runs_none}
-use Rattle.wq_worker.proofs.Rows.{worker_on, moves_same, runs_same, runs_legal, runs_open, runs_unclosed}
-use Rattle.wq_worker.proofs.Step.{runs_fresh}
+use Rattle.wq_worker.proofs.Rows.{worker_on, moves_same, runs_by_same, runs_by_legal, runs_by_open, runs_by_unclosed}
+use Rattle.wq_worker.proofs.Step.{runs_fresh, after_stays}
 use Rattle.wq_worker.proofs.worker.Worker.run_one.Goals as goal
 
 pub returns-clause-runs : goal.returns-clause-runs
 returns-clause-runs g c =
-    let a = c.args.self.now in let none : running a.seen ≡ None = search rules in
-    runs_fresh g.W.Work.may c.in-Some-start.number c.finish-2.result a c.start.new.self c.finish-2.new.self c.in-Some-start.ensures
+    let a = c.args.self.now in let may = g.W.Work.may in let none : running a.seen ≡ None = search rules in
+    runs_fresh may stays (after_stays may) c.in-Some-start.number c.finish-2.result a c.start.new.self c.finish-2.new.self c.in-Some-start.ensures
     (runs_none a.seen none) c.finish-2.ensures.runs
 
 pub returns-clause-same : goal.returns-clause-same
 returns-clause-same g c =
     worker_on c.args.self.now c.start.new.self c.finish-2.new.self (moves_same _ 0 c.args.self.now c.start.new.self c.in-Some-start.ensures.moves)
-    (runs_same g.W.Work.may c.finish-2.result c.start.new.self c.finish-2.new.self c.finish-2.ensures.runs)
+    (runs_by_same g.W.Work.may stays c.finish-2.result c.start.new.self c.finish-2.new.self c.finish-2.ensures.runs)
 
 pub returns-clause-legal : goal.returns-clause-legal
-returns-clause-legal g c = runs_legal g.W.Work.may c.finish-2.result c.start.new.self c.finish-2.new.self c.finish-2.ensures.runs
+returns-clause-legal g c = runs_by_legal g.W.Work.may stays c.finish-2.result c.start.new.self c.finish-2.new.self c.finish-2.ensures.runs
 
 pub returns-in_default-start-clause-runs : goal.returns-in_default-start-clause-runs
 returns-in_default-start-clause-runs g c =
@@ -32,10 +33,10 @@ pub returns-in_default-start-clause-legal : goal.returns-in_default-start-clause
 returns-in_default-start-clause-legal g c = c.in_default-start.ensures.2.legal
 
 pub returns-in-Some-clause-same : goal.returns-in-Some-clause-same
-returns-in-Some-clause-same g c = runs_same g.W.Work.may c.finish.result c.args.self.now c.finish.new.self c.finish.ensures.runs
+returns-in-Some-clause-same g c = runs_by_same g.W.Work.may stays c.finish.result c.args.self.now c.finish.new.self c.finish.ensures.runs
 
 pub returns-in-Some-clause-legal : goal.returns-in-Some-clause-legal
-returns-in-Some-clause-legal g c = runs_legal g.W.Work.may c.finish.result c.args.self.now c.finish.new.self c.finish.ensures.runs
+returns-in-Some-clause-legal g c = runs_by_legal g.W.Work.may stays c.finish.result c.args.self.now c.finish.new.self c.finish.ensures.runs
 
 pub returns-clause-none : goal.returns-clause-none
 returns-clause-none g c is = absurd (c.finish-2.ensures.some is)
@@ -47,23 +48,23 @@ pub returns-in-Some-clause-none : goal.returns-in-Some-clause-none
 returns-in-Some-clause-none g c is = absurd (c.finish.ensures.some is)
 
 pub returns-clause-open : goal.returns-clause-open
-returns-clause-open g c = runs_open g.W.Work.may c.finish-2.result c.args.self.now c.finish-2.new.self (returns-clause-runs g c)
+returns-clause-open g c = runs_by_open g.W.Work.may stays c.finish-2.result c.args.self.now c.finish-2.new.self (returns-clause-runs g c)
 
 pub returns-clause-unclosed : goal.returns-clause-unclosed
-returns-clause-unclosed g c = runs_unclosed g.W.Work.may c.finish-2.result c.args.self.now c.finish-2.new.self (returns-clause-runs g c)
+returns-clause-unclosed g c = runs_by_unclosed g.W.Work.may stays c.finish-2.result c.args.self.now c.finish-2.new.self (returns-clause-runs g c)
 
 pub returns-in_default-start-clause-open : goal.returns-in_default-start-clause-open
 returns-in_default-start-clause-open g c =
-    runs_open g.W.Work.may Nothing c.args.self.now c.start.new.self (returns-in_default-start-clause-runs g c)
+    runs_by_open g.W.Work.may stays Nothing c.args.self.now c.start.new.self (returns-in_default-start-clause-runs g c)
 
 pub returns-in_default-start-clause-unclosed : goal.returns-in_default-start-clause-unclosed
 returns-in_default-start-clause-unclosed g c =
-    runs_unclosed g.W.Work.may Nothing c.args.self.now c.start.new.self (returns-in_default-start-clause-runs g c)
+    runs_by_unclosed g.W.Work.may stays Nothing c.args.self.now c.start.new.self (returns-in_default-start-clause-runs g c)
 
 pub returns-in-Some-clause-open : goal.returns-in-Some-clause-open
 returns-in-Some-clause-open g c =
-    runs_open g.W.Work.may c.finish.result c.args.self.now c.finish.new.self c.finish.ensures.runs
+    runs_by_open g.W.Work.may stays c.finish.result c.args.self.now c.finish.new.self c.finish.ensures.runs
 
 pub returns-in-Some-clause-unclosed : goal.returns-in-Some-clause-unclosed
 returns-in-Some-clause-unclosed g c =
-    runs_unclosed g.W.Work.may c.finish.result c.args.self.now c.finish.new.self c.finish.ensures.runs
+    runs_by_unclosed g.W.Work.may stays c.finish.result c.args.self.now c.finish.new.self c.finish.ensures.runs

@@ -8,17 +8,14 @@ use Rattle.wq_worker.specs.Pair.{Both}
 use Rattle.wq_worker.specs.State.{WorkerState, Moves}
 use Rattle.wq_worker.specs.Step.{Begins}
 use Rattle.wq_worker.proofs.Owned.{stays, owner_of_both}
-use Rattle.wq_worker.proofs.State.{fit_begun, fit_still, quiet_taking, begun_one, items_among-item, items_among-other}
+use Rattle.wq_worker.proofs.State.{fit_begun, fit_both, quiet_taking, begun_one, items_among-item, items_among-other}
 use Rattle.wq_worker.proofs.Step.{state_of, moves_by, begins_by}
 use Rattle.wq_worker.proofs.worker.Worker.start.Goals as goal
 
 pub invariant_of-self : goal.invariant_of-self
 invariant_of-self g c =
     let i = c.self.inside in let o = i.pair in let p = c.begin_next-begun.new.pair in
-    let b : Both (taking o.seen) 0 o p = c.in_default.ensures.1 in
-    let s = stays (taking o.seen) o.seen p.seen (quiet_taking o.seen) (owner_of_both i.pair.number (taking o.seen) 0 o.seen p.seen b.adds) in
-    fit_still (g.W.Work.log i.work) i.tries i.at i.follow.items i.at i.follow.items o p c.self.invariant b.legal b.number_is
-    b.layout_is s.begun_same c.self.invariant.within
+    fit_both (taking o.seen) (g.W.Work.log i.work) i.tries i.at i.follow.items o p (quiet_taking o.seen).begun_none c.self.invariant c.in_default.ensures.1
 
 pub returns-in_default : goal.returns-in_default
 returns-in_default g c =

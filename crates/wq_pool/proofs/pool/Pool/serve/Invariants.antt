@@ -1,5 +1,0 @@
-use Rattle.wq_pool.proofs.Common.{GoesOnFrom}
-use Rattle.wq_pool.proofs.pool.Pool.serve.Given as goal
-
-abbrev pub invariant-loop : goal.invariant-loop
-invariant-loop g l = GoesOnFrom l.initial.caller l.caller

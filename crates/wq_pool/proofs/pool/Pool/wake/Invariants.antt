@@ -1,5 +1,0 @@
-use Rattle.wq_pool.proofs.Common.{◌≡◌}
-use Rattle.wq_pool.proofs.pool.Pool.wake.Given as goal
-
-abbrev pub invariant-loop : goal.invariant-loop
-invariant-loop g l = l.caller ≡ l.initial.caller

@@ -1,0 +1,67 @@
+use Rattle.wq_turn.specs.Steps.{Finishes, Pauses, EndsWithin}
+use Rattle.wq_turn.proofs.Steps.{works_finishes, works_pauses, works_ended, works_id}
+use Rattle.wq_pool.proofs.Common.{Some, sym, refl, ap, ◌∙◌, subst, id_of, TurnState, IsSameTurn}
+use Rattle.wq_pool.proofs.turn.TurnOf.work.Goals as goal
+
+pub invariant_of-self : goal.invariant_of-self
+invariant_of-self g c =
+    let i = c.self.invariant in let k = g.K.Station in let a = k.state c.self.inside.runner in let b = k.state c.work.new.self in
+    let same = works_id k.may k.gives c.args.limit c.work.result a b c.work.ensures.works in
+    record { taken = i.taken; within = i.within; worker_is = i.worker_is ∙ ap Some (sym same) }
+
+pub invariant_of-result : goal.invariant_of-result
+invariant_of-result g c =
+    let i = c.self.invariant in let k = g.K.Station in let a = k.state c.self.inside.runner in let b = k.state c.work.new.self in
+    let same = works_id k.may k.gives c.args.limit c.work.result a b c.work.ensures.works in
+    record {
+      taken = i.taken;
+      within = i.within;
+      worker_is = i.worker_is ∙ ap Some (sym same ∙ sym (ap (id_of k.state) c.into_served.ensures.same));
+    }
+
+pub returns-then-not-work-clause-works : goal.returns-then-not-work-clause-works
+returns-then-not-work-clause-works g c =
+    let k = g.K.Station in let a = k.state c.self.inside.runner in let b = k.state c.work.new.self in
+    subst (λ (t : TurnState _). Pauses k.may k.gives c.args.limit (k.state t.worker) b) c.self.view_is
+    (works_pauses k.may k.gives c.args.limit c.work.result a b c.if-not-work.true c.work.ensures.works)
+
+pub returns-then-not-work-clause-ended : goal.returns-then-not-work-clause-ended
+returns-then-not-work-clause-ended g c =
+    let k = g.K.Station in let a = k.state c.self.inside.runner in let b = k.state c.work.new.self in
+    subst (λ (t : TurnState _). EndsWithin c.args.limit (k.state t.worker).seen b.seen) c.self.view_is
+    (works_ended k.may k.gives c.args.limit c.work.result a b c.work.ensures.works)
+
+pub returns-then-not-work-clause-same : goal.returns-then-not-work-clause-same
+returns-then-not-work-clause-same g c =
+    let i = c.self.inside in let k = g.K.Station in
+    let new : TurnState _ = record { slots = i.seat.table_id; queue = i.queue; worker = c.work.new.self } in
+    subst (λ (t : TurnState _). IsSameTurn k.state t new) c.self.view_is record {
+      slots_is = refl;
+      queue_is = refl;
+      worker_is = works_id k.may k.gives c.args.limit c.work.result (k.state i.runner) (k.state c.work.new.self) c.work.ensures.works;
+    }
+
+pub returns-clause-works : goal.returns-clause-works
+returns-clause-works g c =
+    let k = g.K.Station in let a = k.state c.self.inside.runner in let b = k.state c.work.new.self in
+    let done = works_finishes k.may k.gives c.args.limit c.work.result a b c.if-not-work.false c.work.ensures.works in
+    subst (λ (t : TurnState _). Finishes k.may k.gives c.args.limit (k.state t.worker) (k.state c.into_served.result)) c.self.view_is
+    (subst (λ w. Finishes k.may k.gives c.args.limit a (k.state w)) (sym c.into_served.ensures.same) done.0)
+
+pub returns-clause-ended : goal.returns-clause-ended
+returns-clause-ended g c =
+    let k = g.K.Station in let a = k.state c.self.inside.runner in let b = k.state c.work.new.self in
+    let within = works_ended k.may k.gives c.args.limit c.work.result a b c.work.ensures.works in
+    subst (λ (t : TurnState _). EndsWithin c.args.limit (k.state t.worker).seen (k.state c.into_served.result).seen) c.self.view_is
+    (subst (λ w. EndsWithin c.args.limit a.seen (k.state w).seen) (sym c.into_served.ensures.same) within)
+
+pub returns-clause-same : goal.returns-clause-same
+returns-clause-same g c =
+    let i = c.self.inside in let k = g.K.Station in
+    let new : TurnState _ = record { slots = i.seat.table_id; queue = i.queue; worker = c.into_served.result } in
+    subst (λ (t : TurnState _). IsSameTurn k.state t new) c.self.view_is record {
+      slots_is = refl;
+      queue_is = refl;
+      worker_is = ap (id_of k.state) c.into_served.ensures.same
+          ∙ works_id k.may k.gives c.args.limit c.work.result (k.state i.runner) (k.state c.work.new.self) c.work.ensures.works;
+    }

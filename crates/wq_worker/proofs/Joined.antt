@@ -1,0 +1,59 @@
+-- What the owner and the sender of a worker have seen once they are one seat.
+use Rattle.std.proofs.Common.{◌≡◌, ℕ, ◌+◌, List, [], ◌∷◌, ◌++◌, length, map, refl, sym, ap, ◌∙◌, subst, arith, length-append}
+use Rattle.std.proofs.lemmas.List.{append-nil, length-map}
+use Rattle.wq_words.specs.declared.layout.Layout.{Layout}
+use Rattle.wq_words.specs.declared.event.Event.{Event}
+use Rattle.wq_words.specs.History.{begun, IsRunning, IsShut}
+use Rattle.wq_words.specs.Legal.{IsLegal}
+use Rattle.wq_words.specs.Seen.{owner_seat, own, Grows}
+use Rattle.wq_words.proofs.Growing.{ends_alike}
+use Rattle.wq_live.specs.Known.{QueueId, Known, Sees, new_sender, new_senders}
+use Rattle.wq_live.specs.KnownWith.{KnownWith, knowing_nothing}
+use Rattle.wq_live.specs.Pairs.{KnownPair, pair_owner}
+use Rattle.wq_live.proofs.Built.{values-more}
+use Rattle.wq_live.proofs.Seated.{length-new_senders, made_nothing}
+use Rattle.wq_worker.specs.State.{WorkerState, IsMadeOf, IsNew}
+use Rattle.wq_worker.proofs.Owned.{owner_grows}
+use Rattle.wq_worker.proofs.Phase.{phase_grown, open_still}
+
+module _ (owner : Known) (p : KnownPair) (met : Sees [] 0 owner (pair_owner p)) where
+  pub joined_grows : Grows owner_seat [] 0 owner.seen p.seen
+  joined_grows = subst (λ (z : ℕ). Grows z [] 0 owner.seen p.seen) (sym met.same.number_is) met.grows
+
+  pub joined_begun : begun owner.seen ≡ [] → begun p.seen ≡ []
+  joined_begun none = (owner_grows [] 0 owner.seen p.seen joined_grows).begun_is ∙ (append-nil (begun owner.seen) ∙ none)
+
+  pub joined_idle : begun owner.seen ≡ [] → ¬ IsRunning p.seen
+  joined_idle none runs = omega (arith, runs, ap (λ (ks : List ℕ). length ks) (joined_begun none))
+
+  pub joined_open : ¬ IsShut owner.seen → ¬ IsShut p.seen
+  joined_open = open_still owner.seen p.seen (phase_grown [] 0 owner.seen p.seen joined_grows refl)
+
+-- a worker of two seats that had seen nothing
+pub made_new : {W : Type 0} (layout : Layout) (work : W) (tries : ℕ) (owner sender : Known) (w : WorkerState W) → owner.layout ≡ layout → owner.seen ≡ []
+    → sender.seen ≡ [] → IsMadeOf owner sender work tries w → Grows owner_seat [] 0 owner.seen w.seen → Grows sender.number [] 0 sender.seen w.seen
+    → IsLegal w.layout w.seen → ¬ IsRunning w.seen → IsNew layout work tries w
+made_new layout work tries owner sender w size none nothing parts owned sent legal idle = record {
+  layout_is = parts.1 ∙ size;
+  tries_is = parts.3;
+  unqueued_is = parts.4;
+  work_is = parts.5;
+  legal = legal;
+  idle = idle;
+  untouched = made_nothing owner_seat 0 owner.seen w.seen none owned;
+  unsent = subst (λ (k : ℕ). own k w.seen ≡ []) (sym parts.2) (made_nothing sender.number 0 sender.seen w.seen nothing sent);
+}
+
+-- a queue that was open before anything was seen of it
+pub made_open : (v w : List Event) → v ≡ [] → (¬ IsShut v → ¬ IsShut w) → ¬ IsShut w
+made_open v w none opens = opens (λ is. let shut : IsShut [] = subst IsShut none is in omega (arith, shut))
+
+-- the last of the senders whose items bring values is taken away
+pub values_less : {V : Type 0} (q : QueueId) (l : Layout) (m : ℕ) (xs ys : List (KnownWith V)) (b : KnownWith V)
+    → xs ≡ map knowing_nothing (new_senders q l m) → xs ≡ ys ++ b ∷ []
+    → (ys ≡ map knowing_nothing (new_senders q l (length ys))) × (b ≡ knowing_nothing (new_sender q l (length ys)))
+values_less {V} q l m xs ys b made one =
+    let row = λ (n : ℕ). map (knowing_nothing {V = V}) (new_senders q l n) in
+    let count : m ≡ length ys + 1 =
+    sym (length-new_senders q l m) ∙ (sym (length-map (new_senders q l m) (knowing_nothing {V = V})) ∙ (ap length (sym made ∙ one) ∙ length-append ys (b ∷ []))) in
+    ends_alike ys (row (length ys)) b (knowing_nothing (new_sender q l (length ys))) (sym one ∙ (made ∙ (ap row count ∙ sym (values-more V q l (length ys)))))

@@ -1,0 +1,54 @@
+use Rattle.std.proofs.Common.{ℕ, ◌<◌, subst, arith}
+use Rattle.wq_words.specs.History.{IsClosed}
+use Rattle.wq_worker.specs.Rows.{RowBy, IsExecution}
+use Rattle.wq_worker.proofs.Rows.{worker_on, shuts_same, resumes_same, resumes_legal, shuts_unclosed, resumes_open, resumes_unclosed, row_unclosed, ran_out}
+use Rattle.wq_worker.proofs.serving.drain.Goals as goal
+
+pub resume_where_draining-requires : goal.resume_where_draining-requires
+resume_where_draining-requires g c =
+    let s = g.S.Station in let e = c.run_out-left.ensures in
+    ran_out s.may s.gives c.args.limit c.run_out-left.result (s.state c.drain_where_open.new.self) (s.state c.run_out-left.new.station) e.runs e.shut
+    (omega (arith, c.if-left-gt0.false))
+
+pub returns-then-left-gt0 : goal.returns-then-left-gt0
+returns-then-left-gt0 g c =
+    let s = g.S.Station in let a = s.state c.args.station.now in let m = s.state c.drain_where_open.new.self in
+    let b = s.state c.run_out-left.new.station in let shuts = c.drain_where_open.ensures.shuts in let e = c.run_out-left.ensures in
+    let r = e.runs in let some : 0 < c.run_out-left.result = omega (arith, c.if-left-gt0.true) in
+    record {
+      drains = record {
+        began = m;
+        shuts = shuts;
+        row = subst (λ (n : ℕ). RowBy s.may s.gives IsExecution n m b) (r.stops some) r.row;
+        some_left = some;
+        left_is = r.left_is;
+      };
+      «open» = λ is. absurd (cc);
+      unclosed = λ not. row_unclosed s.may s.gives IsExecution r.steps m b r.row (shuts_unclosed a m shuts not);
+      same = worker_on a m b (shuts_same a m shuts) e.same;
+      legal = e.legal;
+    }
+
+pub returns : goal.returns
+returns g c =
+    let s = g.S.Station in let a = s.state c.args.station.now in let m = s.state c.drain_where_open.new.self in
+    let b = s.state c.run_out-left.new.station in let d = s.state c.resume_where_draining.new.self in
+    let shuts = c.drain_where_open.ensures.shuts in let e = c.run_out-left.ensures in let r = e.runs in
+    let t = c.resume_where_draining.ensures.resumes in
+    let unclosed : ¬ IsClosed a.seen → ¬ IsClosed b.seen = λ not. row_unclosed s.may s.gives IsExecution r.steps m b r.row (shuts_unclosed a m shuts not) in
+    record {
+      drains = record {
+        began = m;
+        last = b;
+        steps = r.steps;
+        shuts = shuts;
+        within = r.within;
+        row = r.row;
+        run_out = ran_out s.may s.gives c.args.limit c.run_out-left.result m b r e.shut (omega (arith, c.if-left-gt0.false));
+        resumes = t;
+      };
+      «open» = λ is not. resumes_open b d t (unclosed not);
+      unclosed = λ not. resumes_unclosed b d t (unclosed not);
+      same = worker_on a b d (worker_on a m b (shuts_same a m shuts) e.same) (resumes_same b d t);
+      legal = resumes_legal b d e.legal t;
+    }

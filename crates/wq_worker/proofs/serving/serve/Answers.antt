@@ -1,0 +1,37 @@
+use Rattle.std.proofs.Common.{◌+◌}
+use Rattle.wq_worker.specs.declared.ran.Ran.TheVariants.{Item, Barrier, Nothing, Owing}
+use Rattle.wq_worker.specs.Rows.{IsNotStop, none, more}
+use Rattle.wq_worker.proofs.Rows.{worker_on, row_same}
+use Rattle.wq_worker.proofs.serving.serve.Goals as goal
+
+pub loop-init : goal.loop-init
+loop-init g c = (tt, tt, 0, none (g.S.Station.state c.args.station.now))
+
+pub returns-in-Stop-clause-serves : goal.returns-in-Stop-clause-serves
+returns-in-Stop-clause-serves g c =
+    let i = c.loop.invariant in record { steps = i.2; last = g.S.Station.state c.loop.station; row = i.3; stops = c.in-Stop.ensures.runs }
+
+pub returns-in-Stop-clause-same : goal.returns-in-Stop-clause-same
+returns-in-Stop-clause-same g c =
+    let s = g.S.Station in let a = s.state c.args.station.now in let m = s.state c.loop.station in let i = c.loop.invariant in
+    worker_on a m (s.state c.run_one.new.self) (row_same s.may s.gives IsNotStop i.2 a m i.3) c.in-Stop.ensures.same
+
+pub loop-preserved-in-Nothing : goal.loop-preserved-in-Nothing
+loop-preserved-in-Nothing g c =
+    let s = g.S.Station.state in let i = c.loop.invariant in
+    (tt, tt, i.2 + 1, more i.2 Nothing (s c.args.station.now) (s c.loop.station) (s c.run_one.new.self) i.3 tt c.in-Nothing.ensures.runs)
+
+pub loop-preserved-in-Item : goal.loop-preserved-in-Item
+loop-preserved-in-Item g c =
+    let s = g.S.Station.state in let i = c.loop.invariant in let r = Item c.in-Item.field-0 in
+    (tt, tt, i.2 + 1, more i.2 r (s c.args.station.now) (s c.loop.station) (s c.run_one.new.self) i.3 tt c.in-Item.ensures.runs)
+
+pub loop-preserved-in-Barrier : goal.loop-preserved-in-Barrier
+loop-preserved-in-Barrier g c =
+    let s = g.S.Station.state in let i = c.loop.invariant in let r = Barrier c.in-Barrier.field-0 in
+    (tt, tt, i.2 + 1, more i.2 r (s c.args.station.now) (s c.loop.station) (s c.run_one.new.self) i.3 tt c.in-Barrier.ensures.runs)
+
+pub loop-preserved : goal.loop-preserved
+loop-preserved g c =
+    let s = g.S.Station.state in let i = c.loop.invariant in let r = Owing c.in-Owing.field-0 in
+    (tt, tt, i.2 + 1, more i.2 r (s c.args.station.now) (s c.loop.station) (s c.run_one.new.self) i.3 tt c.in-Owing.ensures.runs)

@@ -1,0 +1,29 @@
+use Rattle.std.proofs.Common.{arith}
+use Rattle.wq_worker.specs.Returned.{GivesBack, MayLeave}
+use Rattle.wq_worker.specs.ValueState.{HasRunPairs}
+use Rattle.wq_worker.proofs.Destroy.{destroys, leaves_unfinished}
+use Rattle.wq_worker.proofs.Rows.{ran_complete}
+use Rattle.wq_worker.proofs.value_worker.ValueWorker.destroy.Goals as goal
+
+pub into_book-requires : goal.into_book-requires
+into_book-requires g c =
+    let m = c.close_where_unclosed.new.station in let r = c.run_out-left in let W = g.W.ValueWork in
+    ran_complete (MayLeave W.may W.takes) (GivesBack W.takes) c.args.limit r.result m.worker r.new.station.worker r.ensures.runs
+    c.close_where_unclosed.ensures.closed (omega (arith, c.if-left-gt0.false))
+
+pub returns : goal.returns
+returns g c =
+    let m = c.close_where_unclosed in let r = c.run_out-left in let e = r.ensures in let b = c.into_book in let W = g.W.ValueWork in
+    record {
+      outcome = destroys (MayLeave W.may W.takes) (GivesBack W.takes) c.args.limit r.result c.args.self.worker m.new.station.worker r.new.station.worker
+          m.ensures.closes e.runs e.same e.legal (HasRunPairs W.log b.result.1.brought) b.result.0 b.result.1.book m.ensures.closed
+          (omega (arith, c.if-left-gt0.false)) b.ensures.work b.ensures.book (rw (b.ensures.book.2, b.ensures.brought) b.ensures.logged);
+    }
+
+pub returns-then-left-gt0 : goal.returns-then-left-gt0
+returns-then-left-gt0 g c =
+    let m = c.close_where_unclosed in let r = c.run_out-left in let e = r.ensures in let W = g.W.ValueWork in
+    record {
+      outcome = leaves_unfinished (MayLeave W.may W.takes) (GivesBack W.takes) c.args.limit r.result c.args.self.worker m.new.station.worker
+          r.new.station.worker m.ensures.closes e.runs e.same e.legal (omega (arith, c.if-left-gt0.true));
+    }

@@ -1,0 +1,7 @@
+use Rattle.std.proofs.Common.{subst}
+use Rattle.wq_words.specs.Legal.{IsLegal}
+use Rattle.wq_worker.specs.ValueState.{ValueWorkerState}
+use Rattle.wq_worker.proofs.value_worker.ValueWorker.is_closed.Goals as goal
+
+pub returns-clause-legal : goal.returns-clause-legal
+returns-clause-legal g c = subst (λ (z : ValueWorkerState _ _). IsLegal z.worker.layout z.worker.seen) c.self.view_is c.self.invariant.legal

@@ -1,0 +1,8 @@
+use Rattle.std.proofs.Common.{◌↔◌, IsTrue, subst}
+use Rattle.wq_words.specs.History.{IsDraining}
+use Rattle.wq_worker.specs.ValueState.{ValueWorkerState}
+use Rattle.wq_worker.proofs.value_worker.ValueWorker.is_draining.Goals as goal
+
+pub returns-clause-draining : goal.returns-clause-draining
+returns-clause-draining g c =
+    subst (λ (z : ValueWorkerState _ _). IsTrue c.is_draining.result ↔ IsDraining z.worker.seen) c.self.view_is c.is_draining.ensures.draining

@@ -1,0 +1,18 @@
+use Rattle.std.proofs.Common.{[], refl, subst}
+use Rattle.wq_worker.specs.State.{Moves}
+use Rattle.wq_worker.specs.ValueState.{ValueWorkerState}
+use Rattle.wq_worker.proofs.ValueState.{value_state_of, value_fit_owner, value_moves_owner}
+use Rattle.wq_worker.proofs.value_worker.ValueWorker.meet.Goals as goal
+
+pub invariant_of-self : goal.invariant_of-self
+invariant_of-self g c =
+    let e = c.meet.ensures in
+    value_fit_owner [] 0 0 c.self.inside.pair c.meet.new.self e.owner e.sender _ _ refl c.self.invariant
+    (record { learnt = e.learnt; handed_same = e.handed })
+
+pub returns-clause-worker : goal.returns-clause-worker
+returns-clause-worker g c =
+    let i = c.self.inside in let e = c.meet.ensures in let q = c.meet.new.self in
+    let w : ValueWorkerState g.row.V.Denot g.row.W.Denot = value_state_of q i.tries i.left.pairs i.work in
+    subst (λ (z : ValueWorkerState g.row.V.Denot g.row.W.Denot). Moves [] 0 z.worker w.worker) c.self.view_is
+    (value_moves_owner [] 0 0 i.pair q e.owner e.sender i.tries i.left.pairs i.work)

@@ -1,0 +1,47 @@
+use Rattle.std.proofs.Common.{MatchOption, refl, sym, ◌∙◌, subst}
+use Rattle.wq_words.specs.History.{IsRunning}
+use Rattle.wq_live.specs.KnownWith.{Learnt}
+use Rattle.wq_live.specs.ValuePairs.{KnownValuePair, owner_of}
+use Rattle.wq_worker.specs.Seats.{taking}
+use Rattle.wq_worker.specs.Pair.{Both}
+use Rattle.wq_worker.specs.Resting.{IsReady, IsUnready, owed}
+use Rattle.wq_worker.specs.ValueState.{ValueWorkerState, owner_in}
+use Rattle.wq_worker.proofs.Owned.{stays, owner_of_both}
+use Rattle.wq_worker.proofs.Running.{runs_told, idle_told}
+use Rattle.wq_worker.proofs.State.{quiet_taking}
+use Rattle.wq_worker.proofs.Step.{moves_by}
+use Rattle.wq_worker.proofs.Resting.{ready_told}
+use Rattle.wq_worker.proofs.ValueState.{value_state_of, keeps_or, value_fit_both}
+use Rattle.wq_worker.proofs.value_worker.ValueWorker.ready.Goals as goal
+
+pub returns-then-is_some-clause-outcome : goal.returns-then-is_some-clause-outcome
+returns-then-is_some-clause-outcome g c =
+    let runs : IsRunning c.self.inside.pair.known.seen =
+    runs_told c.self.inside.pair.known.seen c.running.result c.running.ensures.runs (sym c.is_some.ensures ∙ c.if-is_some.true) in
+    owed (subst (λ (z : ValueWorkerState g.row.V.Denot g.row.W.Denot). IsRunning z.worker.seen) c.self.view_is runs) refl
+
+pub invariant_of-self : goal.invariant_of-self
+invariant_of-self g c =
+    let o : KnownValuePair g.row.V.Denot = c.self.inside.pair in let p : KnownValuePair g.row.V.Denot = c.take_next.new.pair in
+    let e = c.take_next.ensures in
+    value_fit_both _ _ (taking o.known.seen) o p (quiet_taking o.known.seen).begun_none c.self.invariant (keeps_or _ _ o p c.self.invariant e.kept) e.both
+
+pub returns-clause-outcome : goal.returns-clause-outcome
+returns-clause-outcome g c =
+    let i = c.self.inside in let o = i.pair.known in let p = c.take_next.new.pair.known in
+    let b : Both (taking o.seen) 0 o p = c.take_next.ensures.both in
+    let s = stays (taking o.seen) o.seen p.seen (quiet_taking o.seen) (owner_of_both o.number (taking o.seen) 0 o.seen p.seen b.adds) in
+    let still : ¬ IsRunning o.seen = idle_told o.seen c.running.result c.running.ensures.runs (sym c.is_some.ensures ∙ c.if-is_some.false) in
+    let idle : ¬ IsRunning p.seen = rw (s.begun_same, s.ended_same) still in
+    let a : ValueWorkerState g.row.V.Denot g.row.W.Denot = value_state_of i.pair i.tries i.left.pairs i.work in
+    let w : ValueWorkerState g.row.V.Denot g.row.W.Denot = value_state_of c.take_next.new.pair i.tries i.left.pairs i.work in
+    subst (λ (z : ValueWorkerState g.row.V.Denot g.row.W.Denot). MatchOption c.take_next.result (IsUnready z.worker w.worker) (λ k. IsReady z.worker k w.worker))
+    c.self.view_is
+    (ready_told a.worker w.worker c.take_next.result c.take_next.ensures.next c.take_next.ensures.nothing idle
+    (moves_by (taking o.seen) 0 i.tries w.worker.unqueued w.worker.unqueued i.work i.work o p b) (refl, refl))
+
+pub returns-clause-learnt : goal.returns-clause-learnt
+returns-clause-learnt g c =
+    let o : KnownValuePair g.row.V.Denot = c.self.inside.pair in let p : KnownValuePair g.row.V.Denot = c.take_next.new.pair in
+    subst (λ (z : ValueWorkerState g.row.V.Denot g.row.W.Denot). Learnt (owner_in z) (owner_of p)) c.self.view_is
+    (keeps_or _ _ o p c.self.invariant c.take_next.ensures.kept).learnt

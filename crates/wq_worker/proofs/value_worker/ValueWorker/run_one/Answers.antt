@@ -1,0 +1,97 @@
+use Rattle.std.proofs.Common.{rules, ◌≡◌, None}
+use Rattle.wq_words.specs.History.{running}
+use Rattle.wq_words.proofs.Running.{rests_from_running as runs_none}
+use Rattle.wq_live.proofs.ValueSends.{learnt_on}
+use Rattle.wq_worker.specs.declared.ran.Ran.TheVariants.{Nothing}
+use Rattle.wq_worker.specs.Returned.{GivesBack, MayLeave}
+use Rattle.wq_worker.specs.ValueState.{owner_in}
+use Rattle.wq_worker.proofs.Returned.{run_on}
+use Rattle.wq_worker.proofs.Rows.{runs_by_same, runs_by_legal, runs_by_open, runs_by_unclosed}
+use Rattle.wq_worker.proofs.Step.{runs_fresh}
+use Rattle.wq_worker.proofs.ValueStep.{settles_by, settles_fresh}
+use Rattle.wq_worker.proofs.value_worker.ValueWorker.run_one.Goals as goal
+
+pub start-requires : goal.start-requires
+start-requires g c =
+    let h = c.args.self.now.worker.seen in let none : running h ≡ None = search rules in runs_none h none
+
+pub returns-clause-runs : goal.returns-clause-runs
+returns-clause-runs g c =
+    let takes = g.W.ValueWork.takes in let may = g.W.ValueWork.may in
+    let h = c.args.self.now.worker.seen in let none : running h ≡ None = search rules in
+    runs_fresh (MayLeave may takes) (GivesBack takes) (run_on takes may) c.in-Some-start.number c.finish-2.result c.args.self.now.worker c.start.new.self.worker
+    c.finish-2.new.self.worker c.in-Some-start.ensures.outcome.begins (runs_none h none) c.finish-2.ensures.runs
+
+pub returns-clause-settles : goal.returns-clause-settles
+returns-clause-settles g c =
+    let given = g.W.ValueWork.given in let may = g.W.ValueWork.may in let takes = g.W.ValueWork.takes in
+    let a = c.args.self.now in let m = c.start.new.self in let b = c.finish-2.new.self in let e = c.finish-2.ensures in
+    settles_by given may takes c.finish-2.result a b e.some
+    (settles_fresh given may takes c.in-Some-start.number a m b c.in-Some-start.ensures.outcome c.start.ensures.learnt e.learnt e.settles)
+
+pub returns-clause-learnt : goal.returns-clause-learnt
+returns-clause-learnt g c =
+    learnt_on (owner_in c.args.self.now) (owner_in c.start.new.self) (owner_in c.finish-2.new.self) c.start.ensures.learnt c.finish-2.ensures.learnt
+
+pub returns-clause-open : goal.returns-clause-open
+returns-clause-open g c =
+    runs_by_open (MayLeave g.W.ValueWork.may g.W.ValueWork.takes) (GivesBack g.W.ValueWork.takes) c.finish-2.result c.args.self.now.worker c.finish-2.new.self.worker
+    (returns-clause-runs g c)
+
+pub returns-clause-unclosed : goal.returns-clause-unclosed
+returns-clause-unclosed g c =
+    runs_by_unclosed (MayLeave g.W.ValueWork.may g.W.ValueWork.takes) (GivesBack g.W.ValueWork.takes) c.finish-2.result c.args.self.now.worker
+    c.finish-2.new.self.worker (returns-clause-runs g c)
+
+pub returns-clause-same : goal.returns-clause-same
+returns-clause-same g c =
+    runs_by_same (MayLeave g.W.ValueWork.may g.W.ValueWork.takes) (GivesBack g.W.ValueWork.takes) c.finish-2.result c.args.self.now.worker c.finish-2.new.self.worker
+    (returns-clause-runs g c)
+
+pub returns-clause-legal : goal.returns-clause-legal
+returns-clause-legal g c =
+    runs_by_legal (MayLeave g.W.ValueWork.may g.W.ValueWork.takes) (GivesBack g.W.ValueWork.takes) c.finish-2.result c.args.self.now.worker c.finish-2.new.self.worker
+    (returns-clause-runs g c)
+
+pub returns-in_default-start-clause-runs : goal.returns-in_default-start-clause-runs
+returns-in_default-start-clause-runs g c =
+    let h = c.args.self.now.worker.seen in let none : running h ≡ None = search rules in let e = c.in_default-start.ensures.outcome in
+    (runs_none h none, e.0, e.1, e.2)
+
+pub returns-in_default-start-clause-settles : goal.returns-in_default-start-clause-settles
+returns-in_default-start-clause-settles g c = c.in_default-start.ensures.pairs
+
+pub returns-in_default-start-clause-open : goal.returns-in_default-start-clause-open
+returns-in_default-start-clause-open g c =
+    runs_by_open (MayLeave g.W.ValueWork.may g.W.ValueWork.takes) (GivesBack g.W.ValueWork.takes) Nothing c.args.self.now.worker c.start.new.self.worker
+    (returns-in_default-start-clause-runs g c)
+
+pub returns-in_default-start-clause-unclosed : goal.returns-in_default-start-clause-unclosed
+returns-in_default-start-clause-unclosed g c =
+    runs_by_unclosed (MayLeave g.W.ValueWork.may g.W.ValueWork.takes) (GivesBack g.W.ValueWork.takes) Nothing c.args.self.now.worker c.start.new.self.worker
+    (returns-in_default-start-clause-runs g c)
+
+pub returns-in-Some-clause-settles : goal.returns-in-Some-clause-settles
+returns-in-Some-clause-settles g c =
+    settles_by g.W.ValueWork.given g.W.ValueWork.may g.W.ValueWork.takes c.finish.result c.args.self.now c.finish.new.self c.finish.ensures.some
+    c.finish.ensures.settles
+
+pub returns-in-Some-clause-open : goal.returns-in-Some-clause-open
+returns-in-Some-clause-open g c =
+    runs_by_open (MayLeave g.W.ValueWork.may g.W.ValueWork.takes) (GivesBack g.W.ValueWork.takes) c.finish.result c.args.self.now.worker c.finish.new.self.worker
+    c.finish.ensures.runs
+
+pub returns-in-Some-clause-unclosed : goal.returns-in-Some-clause-unclosed
+returns-in-Some-clause-unclosed g c =
+    runs_by_unclosed (MayLeave g.W.ValueWork.may g.W.ValueWork.takes) (GivesBack g.W.ValueWork.takes) c.finish.result c.args.self.now.worker c.finish.new.self.worker
+    c.finish.ensures.runs
+
+pub returns-in-Some-clause-same : goal.returns-in-Some-clause-same
+returns-in-Some-clause-same g c =
+    runs_by_same (MayLeave g.W.ValueWork.may g.W.ValueWork.takes) (GivesBack g.W.ValueWork.takes) c.finish.result c.args.self.now.worker c.finish.new.self.worker
+    c.finish.ensures.runs
+
+pub returns-in-Some-clause-legal : goal.returns-in-Some-clause-legal
+returns-in-Some-clause-legal g c =
+    runs_by_legal (MayLeave g.W.ValueWork.may g.W.ValueWork.takes) (GivesBack g.W.ValueWork.takes) c.finish.result c.args.self.now.worker c.finish.new.self.worker
+    c.finish.ensures.runs

@@ -1,0 +1,22 @@
+use Rattle.std.proofs.Common.{[], ◌∷◌, sym, refl, ◌∙◌, subst}
+use Rattle.wq_words.specs.declared.event.Event.TheVariants.{Drain}
+use Rattle.wq_words.specs.History.{IsShut}
+use Rattle.wq_words.proofs.Closed.{open_from_shut}
+use Rattle.wq_worker.specs.ValueState.{ValueWorkerState}
+use Rattle.wq_worker.specs.Rows.{Shuts, drains}
+use Rattle.wq_worker.proofs.ValueState.{value_state_of, value_fit_owner, value_moves_owner}
+use Rattle.wq_worker.proofs.value_worker.ValueWorkerStation.drain_where_open.Goals as goal
+
+pub invariant_of-self : goal.invariant_of-self
+invariant_of-self g c =
+    let e = c.drain.ensures in
+    value_fit_owner (Drain ∷ []) 0 0 c.self.inside.pair c.drain.new.self e.seen e.others _ _ refl c.self.invariant
+    (record { learnt = e.learnt; handed_same = e.handed })
+
+pub returns-clause-shuts : goal.returns-clause-shuts
+returns-clause-shuts g c =
+    let i = c.self.inside in let e = c.drain.ensures in let q = c.drain.new.self in
+    let opens : ¬ IsShut i.pair.known.seen = open_from_shut i.pair.known.seen (sym c.is_shut.ensures ∙ c.if-is_shut.false) in
+    let w : ValueWorkerState g.row.V.Denot g.row.W.Denot = value_state_of q i.tries i.left.pairs i.work in
+    subst (λ (z : ValueWorkerState g.row.V.Denot g.row.W.Denot). Shuts z.worker w.worker) c.self.view_is
+    (drains opens (value_moves_owner (Drain ∷ []) 0 0 i.pair q e.seen e.others i.tries i.left.pairs i.work) refl refl)
