@@ -1,5 +1,6 @@
 //! Pools: worked rows, turns, and what threads see.
 mod draining;
+mod drops;
 mod hands;
 mod overlap;
 mod owing;
@@ -9,3 +10,4 @@ mod serving;
 mod stopped;
 mod team;
 mod turns;
+mod values;

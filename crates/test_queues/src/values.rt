@@ -1,6 +1,9 @@
 //! Queues whose items bring values.
 mod again;
 mod drops;
+mod owing;
 mod reading;
 mod rows;
 mod threads;
+mod worker;
+mod worker_drops;

@@ -1,13 +1,15 @@
 //! As many workers of a pool as are wanted run at the same time.
 use crate::expect::expect_same;
-use crate::pool::team::{Guest, new_pool_for, to_stop};
+use crate::pool::team::{GuestOf, new_pool_for, to_stop};
+use crate::pool::values::to_stop_with_values;
 use std::alloc::Global;
 use std::process::Abort;
 use std::sync::Wait;
 use std::sync::atomic::AtomicU64;
 use std::sync::atomic::Ordering::SeqCst;
 use std::thread::{Threads, yield_now};
-use wq_pool::Gate;
+use wq_pool::{Gate, ServedOf};
+use wq_worker::Station;
 
 /// So often a queue looks whether all others are within an item.
 const LOOKS: u32 = 1_000_000;
@@ -56,11 +58,15 @@ impl Gate for Meeting {
     }
 }
 
-/// To how many of three queues the others came, with so many workers.
-fn meet<R: Abort + Threads + Wait + Sync>(rt: &R, alloc: Global, workers: u32) -> u64 {
-    let queues = to_stop(rt, alloc, 3, 1);
+/// To how many of these three queues the others came, with so many workers.
+fn meet<R: Abort + Threads + Wait + Sync, K: Station + Drop + Send>(
+    rt: &R,
+    alloc: Global,
+    queues: Vec<ServedOf<K>>,
+    workers: u32,
+) -> u64 {
     let (pool, announcer, mut callers) = new_pool_for(rt, alloc, queues, workers);
-    let mut guest = Guest::new(&pool, announcer);
+    let mut guest = GuestOf::new(&pool, announcer);
     for queue in 0..3u32 {
         assert!(rt; guest.announce(rt, queue));
     }
@@ -73,5 +79,8 @@ fn meet<R: Abort + Threads + Wait + Sync>(rt: &R, alloc: Global, workers: u32) -
 /// Three workers are each within an item of a queue of its own, at one time.
 #[test]
 fn pool_three_workers_overlap(rt: HostRuntime) {
-    expect_same(&rt, meet(&rt, rt.alloc(), 3), 3);
+    let alloc = rt.alloc();
+    expect_same(&rt, meet(&rt, alloc, to_stop(&rt, alloc, 3, 1), 3), 3);
+    let queues = to_stop_with_values(&rt, alloc, 3, 1);
+    expect_same(&rt, meet(&rt, alloc, queues, 3), 3);
 }

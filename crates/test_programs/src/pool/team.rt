@@ -11,9 +11,9 @@ use std::sync::atomic::Ordering::SeqCst;
 use std::sync::{Mutex, Wait};
 use trail::Trail;
 use wq_live::{Answer, Sender};
-use wq_pool::{Caller, Gate, Pool, PoolFault, Served, Turn, Worked};
+use wq_pool::{Caller, Gate, Pool, PoolFaultOf, PoolOf, Served, ServedOf, TurnOf, WorkedOf};
 use wq_words::Layout;
-use wq_worker::{Follow, Work, Worker};
+use wq_worker::{Follow, Station, Work, Worker};
 
 /// A work that keeps what it ran. Where an item from a number on ran it asks for one below 100.
 #[derive(Drop)]
@@ -161,6 +161,21 @@ pub(crate) fn two_filled<R: Abort>(
     queues
 }
 
+/// So many queues, with so many items queued in each.
+pub(crate) fn all_filled<R: Abort>(
+    rt: &R,
+    alloc: Global,
+    queues: u32,
+    count: u32,
+) -> Vec<Served<Logging>> {
+    let mut all = Vec::new(alloc);
+    for _turn in 0..queues {
+        let (served, _sender) = filled(rt, alloc, count);
+        all.push(served).expect(rt, "memory");
+    }
+    all
+}
+
 /// So many queues, with so many items and then the stop item queued in each.
 pub(crate) fn to_stop<R: Abort>(
     rt: &R,
@@ -177,9 +192,9 @@ pub(crate) fn to_stop<R: Abort>(
     all
 }
 
-pub(crate) fn take_last<R: Abort, W: Work>(
+pub(crate) fn take_last<R: Abort, K: Station>(
     rt: &R,
-    pool: &Pool<W>,
+    pool: &PoolOf<K>,
     callers: &mut Vec<Caller>,
 ) -> Caller
     requires { All (IsCallerOf pool.now.ready) callers.old.items }
@@ -191,16 +206,16 @@ pub(crate) fn take_last<R: Abort, W: Work>(
 }
 
 /// A pool of these queues, a caller of it, and so many more for its workers.
-pub(crate) fn new_pool_for<R: Abort, W: Work + Drop>(
+pub(crate) fn new_pool_for<R: Abort, K: Station + Drop>(
     rt: &R,
     alloc: Global,
-    queues: Vec<Served<W>>,
+    queues: Vec<ServedOf<K>>,
     workers: u32,
-) -> (Pool<W>, Caller, Vec<Caller>)
+) -> (PoolOf<K>, Caller, Vec<Caller>)
     ensures caller { IsCallerOf result.0.ready result.1 }
     ensures workers { All (IsCallerOf result.0.ready) result.2.items }
 {
-    let (pool, mut callers) = Pool::new(alloc, queues, workers.saturating_add(1)).expect(
+    let (pool, mut callers) = PoolOf::new(alloc, queues, workers.saturating_add(1)).expect(
         rt, "a pool",
     );
     let caller = take_last(rt, &pool, &mut callers);
@@ -208,11 +223,11 @@ pub(crate) fn new_pool_for<R: Abort, W: Work + Drop>(
 }
 
 /// A pool of these queues, and one caller of it.
-pub(crate) fn new_pool<R: Abort, W: Work + Drop>(
+pub(crate) fn new_pool<R: Abort, K: Station + Drop>(
     rt: &R,
     alloc: Global,
-    queues: Vec<Served<W>>,
-) -> (Pool<W>, Caller)
+    queues: Vec<ServedOf<K>>,
+) -> (PoolOf<K>, Caller)
     ensures { IsCallerOf result.0.ready result.1 }
 {
     let (pool, caller, _workers) = new_pool_for(rt, alloc, queues, 0);
@@ -221,17 +236,20 @@ pub(crate) fn new_pool<R: Abort, W: Work + Drop>(
 
 /// A caller with its pool.
 #[derive(Drop)]
-pub(crate) struct Guest<'a> {
-    pub(crate) pool: &'a Pool<Logging>,
+pub(crate) struct GuestOf<'a, K: Station> {
+    pub(crate) pool: &'a PoolOf<K>,
     pub(crate) caller: Caller,
     ghost is_caller: { IsCallerOf pool.now.ready caller },
 }
 
-impl<'a> Guest<'a> {
-    pub(crate) fn new(pool: &'a Pool<Logging>, caller: Caller) -> Guest<'a>
+/// A caller of a pool of plain workers.
+pub(crate) type Guest<'a> = GuestOf<'a, Worker<Logging>>;
+
+impl<'a, K: Station + Drop> GuestOf<'a, K> {
+    pub(crate) fn new(pool: &'a PoolOf<K>, caller: Caller) -> GuestOf<'a, K>
         requires { IsCallerOf pool.now.ready caller }
     {
-        Guest { pool, caller }
+        GuestOf { pool, caller }
     }
 
     pub(crate) fn announce<R: Wait>(&mut self, rt: &R, queue: u32) -> bool {
@@ -267,12 +285,12 @@ pub(crate) fn take_guests<'a, R: Abort>(
 }
 
 /// Works at a queue to the end.
-pub(crate) fn work<R: Abort, W: Work, G: Gate>(
+pub(crate) fn work<R: Abort, K: Station, G: Gate>(
     rt: &R,
-    turn: Turn<W>,
+    turn: TurnOf<K>,
     limit: u32,
     gate: &G,
-) -> Worked<W>
+) -> WorkedOf<K>
     ensures { result.slots ≡ turn.slots }
 {
     match turn.work(limit, gate) {
@@ -282,12 +300,12 @@ pub(crate) fn work<R: Abort, W: Work, G: Gate>(
 }
 
 /// Works at a queue up to a limit, behind which something is left.
-pub(crate) fn work_back<R: Abort, W: Work, G: Gate>(
+pub(crate) fn work_back<R: Abort, K: Station, G: Gate>(
     rt: &R,
-    turn: Turn<W>,
+    turn: TurnOf<K>,
     limit: u32,
     gate: &G,
-) -> Turn<W>
+) -> TurnOf<K>
     ensures { result.slots ≡ turn.slots }
 {
     match turn.work(limit, gate) {
@@ -297,25 +315,35 @@ pub(crate) fn work_back<R: Abort, W: Work, G: Gate>(
 }
 
 /// Finishes a pool of which a queue is out, and gives it back with the number of the queue.
-pub(crate) fn finish_out<R: Abort>(rt: &R, pool: Pool<Logging>, limit: u32) -> (Pool<Logging>, u32)
+pub(crate) fn finish_out<R: Abort, K: Station + Drop>(
+    rt: &R,
+    pool: PoolOf<K>,
+    limit: u32,
+) -> (PoolOf<K>, u32)
+where
+    K::Work: Drop,
+    K::Book: Drop,
     ensures { result.0 ≡ pool }
 {
     match pool.finish(limit) {
-        Err(PoolFault::Out { pool, queue }) => (pool, queue),
+        Err(PoolFaultOf::Out { pool, queue }) => (pool, queue),
         _ => panic!(rt; "no queue was out"),
     }
 }
 
 /// Finishes a pool that is not executed within the limit, and gives it back with the number of the queue and what is left of it.
-pub(crate) fn finish_unfinished<R: Abort>(
+pub(crate) fn finish_unfinished<R: Abort, K: Station + Drop>(
     rt: &R,
-    pool: Pool<Logging>,
+    pool: PoolOf<K>,
     limit: u32,
-) -> (Pool<Logging>, u32, u32)
+) -> (PoolOf<K>, u32, u32)
+where
+    K::Work: Drop,
+    K::Book: Drop,
     ensures { result.0 ≡ pool }
 {
     match pool.finish(limit) {
-        Err(PoolFault::Unfinished { pool, queue, left }) => (pool, queue, left),
+        Err(PoolFaultOf::Unfinished { pool, queue, left }) => (pool, queue, left),
         _ => panic!(rt; "nothing was left"),
     }
 }

@@ -8,7 +8,7 @@ use std::test::Fail;
 use wq_live::{Answer, ValueOwner, ValueSender};
 
 /// One more value that shares this one, which counts them.
-fn share<R: Abort>(rt: &R, shared: &Arc<u32>) -> Arc<u32> {
+pub(super) fn share<R: Abort>(rt: &R, shared: &Arc<u32>) -> Arc<u32> {
     match Arc::try_clone(shared) {
         Ok(value) => value,
         Err(_) => panic!(rt; "too many"),
@@ -16,7 +16,7 @@ fn share<R: Abort>(rt: &R, shared: &Arc<u32>) -> Arc<u32> {
 }
 
 /// How many values are there beside the one that is asked.
-fn alive(shared: &Arc<u32>) -> usize {
+pub(super) fn alive(shared: &Arc<u32>) -> usize {
     Arc::strong_count(shared).wrapping_sub(1)
 }
 

@@ -35,7 +35,9 @@ pub(crate) fn queue_once<V: Drop>(
     sender: &mut ValueSender<V>,
     item: u32,
     value: V,
-) -> (Option<Answer>, Option<V>) {
+) -> (Option<Answer>, Option<V>)
+    ensures { sender.new.known.queue ≡ sender.old.known.queue }
+{
     if item >= sender.layout().items {
         return (None, Some(value));
     }

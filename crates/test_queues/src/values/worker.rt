@@ -1,0 +1,248 @@
+//! A worker whose items bring values, call by call.
+ghost use Rattle.std.specs.Prelude.{◌≡◌, [], All};
+
+use super::reading::queue_once;
+use crate::balance::balance_values_met;
+use crate::expect::expect_same;
+use crate::seats::FIRST;
+use std::alloc::Global;
+use std::mem::replace;
+use std::process::Abort;
+use wq_live::{Answer, ValueSender};
+use wq_words::Layout;
+use wq_worker::{Drained, Ran, Totals, ValueBook, ValueFollow, ValueWork, ValueWorker};
+
+/// A work that asks for these pairs where item 0 ran, and keeps what it ran and what came back.
+#[derive(Drop)]
+pub(super) struct Keeping<'a, R: Abort, V: Drop> {
+    rt: &'a R,
+    asks: ValueFollow<V>,
+    pub(super) ran: Vec<(u32, V)>,
+    pub(super) came_back: Vec<(u32, V)>,
+}
+
+impl<'a, R: Abort, V: Drop> Keeping<'a, R, V> {
+    pub(super) fn asking(rt: &'a R, alloc: Global, asks: ValueFollow<V>) -> Keeping<'a, R, V>
+        ensures { result.ran.items ≡ [] }
+    {
+        Keeping {
+            rt,
+            asks,
+            ran: Vec::new(alloc),
+            came_back: Vec::new(alloc),
+        }
+    }
+}
+
+impl<'a, R: Abort, V: Drop> ValueWork<V> for Keeping<'a, R, V> {
+    ghost log = { λ w. w.ran.items };
+
+    ghost given = { λ w. w.came_back.items };
+
+    ghost may = { λ w k v f u. Unit {0} };
+
+    ghost takes = { λ w k v u. Unit {0} };
+
+    fn run(&mut self, item: u32, value: V) -> ValueFollow<V> {
+        self.ran.push((item, value)).expect(self.rt, "memory");
+        if item == 0 {
+            replace(&mut self.asks, ValueFollow::new())
+        } else {
+            ValueFollow::new()
+        }
+    }
+
+    fn returned(&mut self, item: u32, value: V) {
+        self.came_back.push((item, value)).expect(self.rt, "memory");
+    }
+}
+
+/// A new worker whose work is this one, and the senders of its queue.
+pub(super) fn new_worker<R: Abort, V: Drop, W: ValueWork<V> + Drop>(
+    rt: &R,
+    alloc: Global,
+    items: u32,
+    work: W,
+) -> (ValueWorker<V, W>, Vec<ValueSender<V>>)
+    requires { W.log work ≡ [] }
+    ensures { All (λ s. s.known.queue ≡ result.0.worker.queue) result.1.items }
+{
+    let layout = Layout::new(items, 1, 3).expect(rt, "a layout");
+    let Ok(made) = ValueWorker::build(alloc, layout, work, 1) else {
+        panic!(rt; "no memory for a queue")
+    };
+    made
+}
+
+pub(super) fn take_last<R: Abort, V: Drop, W: ValueWork<V>>(
+    rt: &R,
+    worker: &ValueWorker<V, W>,
+    senders: &mut Vec<ValueSender<V>>,
+) -> ValueSender<V>
+    requires { All (λ s. s.known.queue ≡ worker.now.worker.queue) senders.old.items }
+    ensures rest { All (λ s. s.known.queue ≡ worker.now.worker.queue) senders.new.items }
+    ensures last { result.known.queue ≡ worker.now.worker.queue }
+{
+    let _ = worker;
+    senders.pop().expect(rt, "a sender")
+}
+
+/// A worker with the last of three senders of a queue of eight items, and the two others.
+#[derive(Drop)]
+pub(super) struct Team<'a, R: Abort, V: Drop> {
+    pub(super) worker: ValueWorker<V, Keeping<'a, R, V>>,
+    pub(super) first: ValueSender<V>,
+    pub(super) second: ValueSender<V>,
+}
+
+/// A team whose work asks for these pairs.
+pub(super) fn new_team<'a, R: Abort, V: Drop>(
+    rt: &'a R,
+    alloc: Global,
+    asks: ValueFollow<V>,
+) -> Team<'a, R, V>
+    ensures first { result.first.known.queue ≡ result.worker.worker.queue }
+    ensures second { result.second.known.queue ≡ result.worker.worker.queue }
+{
+    let (worker, mut senders) = new_worker(rt, alloc, 8, Keeping::asking(rt, alloc, asks));
+    let second = take_last(rt, &worker, &mut senders);
+    let first = take_last(rt, &worker, &mut senders);
+    Team {
+        worker,
+        first,
+        second,
+    }
+}
+
+/// Queues an item of the queue with a value.
+pub(super) fn queue<R: Abort, V: Drop>(rt: &R, sender: &mut ValueSender<V>, item: u32, value: V)
+    ensures { sender.new.known.queue ≡ sender.old.known.queue }
+{
+    let (answer, _back) = queue_once(sender, item, value);
+    assert!(rt;
+        matches!(answer, Some(Answer::Queued { .. })),
+        "item {item}"
+    );
+}
+
+pub(super) fn destroy<R: Abort, V: Drop, W: ValueWork<V> + Drop>(
+    rt: &R,
+    worker: ValueWorker<V, W>,
+    limit: u32,
+) -> (W, ValueBook<V>)
+    ensures { result.1.book.queue ≡ worker.worker.queue }
+{
+    worker.destroy(limit).expect(rt, "a drained queue")
+}
+
+/// Each item runs with the value that it was queued with, in the order of the queueings, whichever sender's.
+#[test]
+fn each_runs_with_its_value(rt: HostRuntime) {
+    let mut team = new_team(&rt, rt.alloc(), ValueFollow::new());
+    queue(&rt, &mut team.first, 3, 30u64);
+    queue(&rt, &mut team.second, 0, 7);
+    queue(&rt, &mut team.first, 2, 20);
+    expect_same(&rt, team.worker.run_one(), Ran::Item(3));
+    queue(&rt, &mut team.second, 3, 31);
+    for item in [0u32, 2, 3] {
+        expect_same(&rt, team.worker.run_one(), Ran::Item(item));
+    }
+    expect_same(&rt, team.worker.run_one(), Ran::Nothing);
+    expect_same(&rt, team.second.request_stop(1), FIRST);
+    expect_same(&rt, team.worker.run_one(), Ran::Stop);
+    let (work, _book) = destroy(&rt, team.worker, 0);
+    let ran = [(3, 30), (0, 7), (2, 20), (3, 31)];
+    expect_same(&rt, work.ran.as_slice(), ran.as_slice());
+    expect_same(&rt, work.came_back.len(), 0);
+}
+
+/// What may be with a queue as its item runs.
+#[derive(Clone, Copy, Debug, PartialEq, Eq)]
+enum Door {
+    Open,
+    Draining,
+    Closed,
+}
+
+/// Four pairs: the second's item is pending by then, and the third's number is that of the barrier.
+fn four_pairs<R: Abort>(rt: &R) -> ValueFollow<u64> {
+    let mut asks = ValueFollow::new();
+    for (item, value) in [(5u32, 50u64), (2, 21), (8, 80), (4, 40)] {
+        assert!(rt; asks.push(item, value).is_ok());
+    }
+    expect_same(rt, asks.push(6, 60), Err(60));
+    asks
+}
+
+/// Closes the queue, or begins a drain of it.
+fn shut<R: Abort>(rt: &R, worker: &mut ValueWorker<u64, Keeping<'_, R, u64>>, door: Door)
+    ensures { worker.new.worker.queue ≡ worker.old.worker.queue }
+{
+    match door {
+        Door::Open => {}
+        Door::Draining => expect_same(rt, worker.drain(0), Drained::TooLong { left: 2 }),
+        Door::Closed => {
+            assert!(rt; !worker.is_closed());
+            worker.close();
+        }
+    }
+}
+
+/// Item 0 asks for four pairs. Two come back once each, with their own values, and the two others run with theirs, behind what
+/// was queued before.
+fn follow_pairs<R: Abort>(rt: &R, alloc: Global, door: Door) {
+    let mut team = new_team(rt, alloc, four_pairs(rt));
+    queue(rt, &mut team.first, 0, 7);
+    queue(rt, &mut team.second, 2, 20);
+    shut(rt, &mut team.worker, door);
+    expect_same(rt, (door, team.worker.run_one()), (door, Ran::Item(0)));
+    for item in [2u32, 5, 4] {
+        expect_same(rt, (door, team.worker.run_one()), (door, Ran::Item(item)));
+    }
+    expect_same(rt, team.worker.run_one(), Ran::Nothing);
+    let (work, _book) = destroy(rt, team.worker, 0);
+    let ran = [(0, 7), (2, 20), (5, 50), (4, 40)];
+    expect_same(rt, (door, work.ran.as_slice()), (door, ran.as_slice()));
+    let came_back = [(2, 21), (8, 80)];
+    expect_same(
+        rt,
+        (door, work.came_back.as_slice()),
+        (door, came_back.as_slice()),
+    );
+}
+
+/// What a run asks for is queued with its values, also where the queue takes no push, or comes back.
+#[test]
+fn pairs_are_queued_or_come_back(rt: HostRuntime) {
+    for door in [Door::Open, Door::Draining, Door::Closed] {
+        follow_pairs(&rt, rt.alloc(), door);
+    }
+}
+
+/// A destroy that comes to its limit gives the worker back, closed, and a second one ends. The book balances with the senders.
+#[test]
+fn destroy_goes_on_with_values(rt: HostRuntime) {
+    let mut team = new_team(&rt, rt.alloc(), four_pairs(&rt));
+    queue(&rt, &mut team.first, 0, 7u64);
+    queue(&rt, &mut team.second, 2, 20);
+    let Err(unfinished) = team.worker.destroy(1) else {
+        panic!(rt; "nothing was left")
+    };
+    expect_same(&rt, unfinished.left, 3);
+    assert!(rt; unfinished.worker.is_closed());
+    let (answer, back) = queue_once(&mut team.first, 1, 10);
+    expect_same(&rt, (answer, back), (Some(Answer::Closed), Some(10)));
+    let (work, mut book) = destroy(&rt, unfinished.worker, 3);
+    expect_same(&rt, (work.ran.len(), work.came_back.len()), (4, 2));
+    let totals = Totals {
+        queued: 2,
+        chained: 2,
+        executed: 4,
+        pending: 1,
+        closed: 1,
+        draining: 0,
+        contended: 0,
+    };
+    let balanced = balance_values_met(&mut book, &mut team.first, &mut team.second);
+    expect_same(&rt, balanced, Ok(totals));
+}
