@@ -142,9 +142,9 @@ fn disturb<R: Threads + Sync>(
 }
 
 /// Runs until the senders are done, or, where that is wanted, until an execution is owed. How often one was.
-fn run_beside<R: Abort + Wait>(
+fn run_beside<R: Wait, W: ValueWork<Share>>(
     rt: &R,
-    worker: &mut ValueWorker<Share, Restless<'_, R>>,
+    worker: &mut ValueWorker<Share, W>,
     is_done: &AtomicU64,
     most: u32,
 ) -> u32
@@ -199,24 +199,39 @@ fn new_disturbed<'a, R: Abort>(rt: &'a R, alloc: Global, shared: &Arc<u32>) -> D
     }
 }
 
-/// Runs beside two senders again and again until an execution was owed. Whether one was.
-fn run_until_owing<R: Abort + Threads + Wait + Sync>(
+/// Runs beside two senders until they are done, or, where that is wanted, until an execution is owed. How often one was.
+fn run_disturbed<R: Threads + Wait + Sync, W: ValueWork<Share> + Send>(
     rt: &R,
-    it: &mut Disturbed<'_, R>,
+    worker: &mut ValueWorker<Share, W>,
+    first: &mut ValueSender<Share>,
+    second: &mut ValueSender<Share>,
+    most: u32,
+) -> u32
+    ensures worker { worker.new.worker.queue ≡ worker.old.worker.queue }
+    ensures senders { (first.new.known.queue ≡ first.old.known.queue) × (second.new.known.queue ≡ second.old.known.queue) }
+{
+    let is_done = AtomicU64::new(0);
+    let (owed, _) = join_mut(
+        rt,
+        &mut || run_beside(rt, worker, &is_done, most),
+        &mut || disturb(rt, first, second, &is_done),
+    );
+    owed
+}
+
+/// Runs beside two senders again and again until an execution was owed. Whether one was.
+fn run_until_owing<R: Threads + Wait + Sync, W: ValueWork<Share> + Send>(
+    rt: &R,
+    worker: &mut ValueWorker<Share, W>,
+    first: &mut ValueSender<Share>,
+    second: &mut ValueSender<Share>,
     most: u32,
 ) -> bool
-    ensures worker { it.new.worker.worker.queue ≡ it.old.worker.worker.queue }
-    ensures first { it.new.first.known.queue ≡ it.old.first.known.queue }
-    ensures second { it.new.second.known.queue ≡ it.old.second.known.queue }
+    ensures worker { worker.new.worker.queue ≡ worker.old.worker.queue }
+    ensures senders { (first.new.known.queue ≡ first.old.known.queue) × (second.new.known.queue ≡ second.old.known.queue) }
 {
     for _ in 0..100u32 {
-        let is_done = AtomicU64::new(0);
-        let (owed, _) = join_mut(
-            rt,
-            &mut || run_beside(rt, &mut it.worker, &is_done, most),
-            &mut || disturb(rt, &mut it.first, &mut it.second, &is_done),
-        );
-        if owed > 0 {
+        if run_disturbed(rt, worker, first, second, most) > 0 {
             return true;
         }
     }
@@ -228,11 +243,15 @@ fn run_until_owing<R: Abort + Threads + Wait + Sync>(
 #[test]
 fn contended_pair_goes_on(rt: HostRuntime) -> Result<(), Fail> {
     let shared = Arc::new(rt.alloc(), 7u32)?;
-    let mut it = new_disturbed(&rt, rt.alloc(), &shared);
-    assert!(rt; run_until_owing(&rt, &mut it, u32::MAX));
-    it.worker
-        .adjust(|work: &mut Restless<'_, HostRuntime>| work.is_over = true);
-    let (work, mut book) = destroy(&rt, it.worker, 1000);
+    let Disturbed {
+        mut worker,
+        mut first,
+        mut second,
+    } = new_disturbed(&rt, rt.alloc(), &shared);
+    let is_owing = run_until_owing(&rt, &mut worker, &mut first, &mut second, u32::MAX);
+    assert!(rt; is_owing);
+    worker.adjust(|work: &mut Restless<'_, HostRuntime>| work.is_over = true);
+    let (work, mut book) = destroy(&rt, worker, 1000);
     let own = work.asked.wrapping_add(1).wrapping_mul(2);
     expect_same(&rt, (work.own, work.are_own), (own, true));
     let held = usize::try_from(work.asked).unwrap_or(0).wrapping_mul(2);
@@ -243,10 +262,7 @@ fn contended_pair_goes_on(rt: HostRuntime) -> Result<(), Fail> {
     );
     drop(work);
     expect_same(&rt, alive(&shared), 0);
-    let totals = balance_values_met(&mut book, &mut it.first, &mut it.second).expect(
-        &rt,
-        "a balance",
-    );
+    let totals = balance_values_met(&mut book, &mut first, &mut second).expect(&rt, "a balance");
     expect_same(
         &rt,
         totals.queued.wrapping_add(totals.chained),
@@ -260,10 +276,17 @@ fn contended_pair_goes_on(rt: HostRuntime) -> Result<(), Fail> {
 #[test]
 fn owed_pairs_are_dropped_with_the_worker(rt: HostRuntime) -> Result<(), Fail> {
     let shared = Arc::new(rt.alloc(), 7u32)?;
-    let mut it = new_disturbed(&rt, rt.alloc(), &shared);
-    assert!(rt; run_until_owing(&rt, &mut it, 1));
+    let Disturbed {
+        mut worker,
+        mut first,
+        mut second,
+    } = new_disturbed(&rt, rt.alloc(), &shared);
+    let is_owing = run_until_owing(&rt, &mut worker, &mut first, &mut second, 1);
+    assert!(rt; is_owing);
     assert!(rt; alive(&shared) > 2);
-    drop(it);
+    drop(worker);
+    drop(first);
+    drop(second);
     expect_same(&rt, alive(&shared), 0);
     Ok(())
 }

@@ -10,7 +10,7 @@ use std::mem::replace;
 use std::process::Abort;
 use wq_live::{Answer, ValueSender};
 use wq_words::Layout;
-use wq_worker::{Drained, Ran, Totals, ValueBook, ValueFollow, ValueWork, ValueWorker};
+use wq_worker::{Drained, Ran, Totals, Unfinished, ValueBook, ValueFollow, ValueWork, ValueWorker};
 
 /// A work that asks for these pairs where item 0 ran, and keeps what it ran and what came back.
 #[derive(Drop)]
@@ -135,6 +135,20 @@ pub(super) fn destroy<R: Abort, V: Drop, W: ValueWork<V> + Drop>(
     worker.destroy(limit).expect(rt, "a drained queue")
 }
 
+/// A destroy that comes to its limit.
+fn destroy_some<R: Abort, V: Drop, W: ValueWork<V> + Drop>(
+    rt: &R,
+    worker: ValueWorker<V, W>,
+    limit: u32,
+) -> Unfinished<ValueWorker<V, W>>
+    ensures { result.worker.worker.queue ≡ worker.worker.queue }
+{
+    match worker.destroy(limit) {
+        Ok(_) => panic!(rt; "nothing was left"),
+        Err(unfinished) => unfinished,
+    }
+}
+
 /// Each item runs with the value that it was queued with, in the order of the queueings, whichever sender's.
 #[test]
 fn each_runs_with_its_value(rt: HostRuntime) {
@@ -222,15 +236,17 @@ fn pairs_are_queued_or_come_back(rt: HostRuntime) {
 /// A destroy that comes to its limit gives the worker back, closed, and a second one ends. The book balances with the senders.
 #[test]
 fn destroy_goes_on_with_values(rt: HostRuntime) {
-    let mut team = new_team(&rt, rt.alloc(), four_pairs(&rt));
-    queue(&rt, &mut team.first, 0, 7u64);
-    queue(&rt, &mut team.second, 2, 20);
-    let Err(unfinished) = team.worker.destroy(1) else {
-        panic!(rt; "nothing was left")
-    };
+    let Team {
+        worker,
+        mut first,
+        mut second,
+    } = new_team(&rt, rt.alloc(), four_pairs(&rt));
+    queue(&rt, &mut first, 0, 7u64);
+    queue(&rt, &mut second, 2, 20);
+    let unfinished = destroy_some(&rt, worker, 1);
     expect_same(&rt, unfinished.left, 3);
     assert!(rt; unfinished.worker.is_closed());
-    let (answer, back) = queue_once(&mut team.first, 1, 10);
+    let (answer, back) = queue_once(&mut first, 1, 10);
     expect_same(&rt, (answer, back), (Some(Answer::Closed), Some(10)));
     let (work, mut book) = destroy(&rt, unfinished.worker, 3);
     expect_same(&rt, (work.ran.len(), work.came_back.len()), (4, 2));
@@ -243,6 +259,6 @@ fn destroy_goes_on_with_values(rt: HostRuntime) {
         draining: 0,
         contended: 0,
     };
-    let balanced = balance_values_met(&mut book, &mut team.first, &mut team.second);
+    let balanced = balance_values_met(&mut book, &mut first, &mut second);
     expect_same(&rt, balanced, Ok(totals));
 }

@@ -3,5 +3,5 @@ use Rattle.test_queues.proofs.values.owing.run_until_owing.Given as goal
 
 abbrev pub invariant-loop : goal.invariant-loop
 invariant-loop g l =
-    (l.it.worker.worker.queue ≡ l.initial.it.worker.worker.queue) × (l.it.first.known.queue ≡ l.initial.it.first.known.queue)
-    × (l.it.second.known.queue ≡ l.initial.it.second.known.queue)
+    (l.worker.worker.queue ≡ l.initial.worker.worker.queue) × (l.first.known.queue ≡ l.initial.first.known.queue)
+    × (l.second.known.queue ≡ l.initial.second.known.queue)
