@@ -8,6 +8,8 @@ mod expect;
 #[cfg(test)]
 mod mains;
 #[cfg(test)]
+mod own_log;
+#[cfg(test)]
 mod own_pool;
 #[cfg(test)]
 mod pool;

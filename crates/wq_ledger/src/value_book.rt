@@ -1,5 +1,5 @@
 //! What the senders of a queue that has run to the end have counted, where its items bring values.
-ghost use Rattle.std.specs.Prelude.{◌≡◌, [], All, length, take, MatchResult};
+ghost use Rattle.std.specs.Prelude.{◌≡◌, ℕ, [], All, length, take, MatchResult};
 ghost use Rattle.wq_words.specs.History.{accepted, begun, ended};
 ghost use Rattle.wq_words.specs.Legal.{IsLegal, IsComplete};
 ghost use Rattle.wq_words.specs.Headline.{KeepsHeadline};
@@ -9,6 +9,7 @@ ghost use Rattle.wq_live.specs.Known.{Sees};
 ghost use Rattle.wq_live.specs.KnownWith.{Learnt};
 ghost use Rattle.wq_live.specs.Counts.{sender_counts};
 ghost use Rattle.wq_live.specs.Laws.{IsStillEnd};
+ghost use Rattle.wq_live.specs.OwnBrought.{own_brought};
 ghost use Rattle.wq_ledger.specs.Book.{IsLedgerOf};
 ghost use Rattle.wq_ledger.specs.Balance.{Balances, IsUnbalanced};
 
@@ -73,7 +74,8 @@ impl<V: Drop> ValueBook<V> {
         let _ = self.owner.done();
     }
 
-    /// The sender meets the owner, so that all that it queued is in the book. Answers what it has counted. Nothing more is brought.
+    /// The sender meets the owner, so that all that it queued is in the book. Answers what it has counted. Nothing more is brought,
+    /// neither at all nor by any seat.
     pub fn meet(&mut self, sender: &mut ValueSender<V>) -> Ledger
         requires { sender.old.known.queue ≡ self.old.book.queue }
         ensures made { IsLedgerOf self.new.book.seen result }
@@ -87,6 +89,7 @@ impl<V: Drop> ValueBook<V> {
         ensures both { sender.new.known.seen ≡ self.new.book.seen }
         ensures last { IsStillEnd self.old.book.seen self.new.book.seen }
         ensures brought { self.new.brought ≡ self.old.brought }
+        ensures of_each { (s : ℕ) → own_brought s self.new.book.seen self.new.brought ≡ own_brought s self.old.book.seen self.old.brought }
         ensures both_brought { sender.new.brought ≡ self.new.brought }
         ensures learnt { Learnt sender.old sender.new }
     {

@@ -1,7 +1,8 @@
 use Rattle.wq_live.specs.Laws.{IsStillEnd}
+use Rattle.wq_live.specs.OwnBrought.{own_brought}
 use Rattle.wq_ledger.specs.ValueBook.{ValueBookState}
 use Rattle.wq_ledger.proofs.Common.{ℕ, [], sym, ap, ◌∙◌, subst, Grows, owner_seat, IsLedgerOf}
-use Rattle.wq_ledger.proofs.Meeting.{settled_still, made_still, made_now}
+use Rattle.wq_ledger.proofs.Meeting.{brought_still, settled_still, made_still, made_now}
 use Rattle.wq_ledger.proofs.value_book.ValueBook.meet.Goals as goal
 
 pub invariant_of-self : goal.invariant_of-self
@@ -37,3 +38,9 @@ returns-clause-last g c =
 pub returns-clause-brought : goal.returns-clause-brought
 returns-clause-brought g c =
     c.meet_owner.ensures.end c.self.invariant.complete ∙ ap (λ (z : ValueBookState g.row.V.Denot). z.brought) c.self.view_is
+
+pub returns-clause-of_each : goal.returns-clause-of_each
+returns-clause-of_each g c s =
+    let o = c.self.inside.owner in let m = c.meet_owner.ensures in let q = c.meet_owner.new.owner in
+    brought_still s o.known.number 0 o.known.seen q.known.seen o.brought q.brought m.that.grows (m.last c.self.invariant.complete) m.theirs.more m.theirs.was_whole ∙
+    ap (λ (z : ValueBookState g.row.V.Denot). own_brought s z.book.seen z.brought) c.self.view_is

@@ -1,0 +1,22 @@
+use Rattle.std.proofs.Common.{rules, ◌≡◌}
+use Rattle.example_log.specs.declared.message.Log.TheVariants.{Access, Errors}
+use Rattle.example_log.proofs.Ending.{has_lines}
+use Rattle.example_log.proofs.logs.write.Goals as goal
+
+pub returns-clause-access : goal.returns-clause-access
+returns-clause-access g c =
+    let w = c.in_ok-access-2 in let e = w.ensures in let sent = c.in_ok-first in
+    let size : w.access.book.book.layout ≡ c.args.layout = search rules in
+    let zero : sent.first.access.known.number ≡ 0 = search rules in
+    let one : sent.second.access.known.number ≡ 1 = search rules in
+    has_lines Access c.args.layout sent.first.access sent.second.access c.args.first.items c.args.second.items sent.first.count sent.second.count w.access
+    size e.legal e.complete e.text zero one e.of_first e.of_second sent.ensures.first.to_access sent.ensures.second.to_access e.counts.0 e.counts.1
+
+pub returns-clause-errors : goal.returns-clause-errors
+returns-clause-errors g c =
+    let w = c.in_ok-errors-2 in let e = w.ensures in let sent = c.in_ok-first in
+    let size : w.errors.book.book.layout ≡ c.args.layout = search rules in
+    let zero : sent.first.errors.known.number ≡ 0 = search rules in
+    let one : sent.second.errors.known.number ≡ 1 = search rules in
+    has_lines Errors c.args.layout sent.first.errors sent.second.errors c.args.first.items c.args.second.items sent.first.count sent.second.count w.errors
+    size e.legal e.complete e.text zero one e.of_first e.of_second sent.ensures.first.to_errors sent.ensures.second.to_errors e.counts.0 e.counts.1

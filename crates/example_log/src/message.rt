@@ -1,0 +1,18 @@
+//! What clients hand over.
+
+/// A line of a log, with its line feed.
+pub type Line = Vec<u8>;
+
+/// Which log a line is for.
+#[derive(Clone, Copy, Debug, PartialEq, Eq)]
+pub enum Log {
+    Access,
+    Errors,
+}
+
+/// A line, and the log that it is for.
+#[derive(Drop)]
+pub struct Message {
+    pub log: Log,
+    pub line: Line,
+}
