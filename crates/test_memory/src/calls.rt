@@ -2,6 +2,7 @@
 use crate::checkers::{check_events, check_marks};
 use crate::pool::serve_pool;
 use crate::streams::Page;
+use crate::value_worker::build_value_worker;
 use crate::values::build_with_values;
 use crate::worker::build_worker;
 use std::alloc::{AllocError, Global};
@@ -26,6 +27,7 @@ pub enum Call {
     Replay,
     Table,
     Worker,
+    ValueWorker,
     Pool,
     Events,
     Marks,
@@ -64,12 +66,13 @@ impl fmt::Display for Said {
     }
 }
 
-pub const CALLS: [(&str, Call); 17] = [
+pub const CALLS: [(&str, Call); 18] = [
     ("build", Call::Build),
     ("values", Call::Values),
     ("replay", Call::Replay),
     ("table", Call::Table),
     ("worker", Call::Worker),
+    ("value_worker", Call::ValueWorker),
     ("pool", Call::Pool),
     ("events", Call::Events),
     ("marks", Call::Marks),
@@ -349,6 +352,7 @@ pub fn make<T: Threads + Wait + Sync>(rt: &T, alloc: Global, call: Call) -> Said
         Call::Replay => replay_turns(alloc),
         Call::Table => make_table(alloc),
         Call::Worker => build_worker(alloc),
+        Call::ValueWorker => build_value_worker(alloc),
         Call::Pool => serve_pool(rt, alloc),
         Call::Events => check_events(alloc),
         Call::Marks => check_marks(alloc),

@@ -6,6 +6,7 @@ mod calls;
 mod checkers;
 mod pool;
 mod streams;
+mod value_worker;
 mod values;
 mod worker;
 
