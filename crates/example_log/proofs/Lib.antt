@@ -1,2 +1,2 @@
-pub mod Ending
-pub mod Sending
+pub mod Lines
+pub mod Messages

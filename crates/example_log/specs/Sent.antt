@@ -7,9 +7,9 @@ use Rattle.wq_ready.specs.Known.{Identity, IsCallerOf}
 use Rattle.example_log.specs.declared.message.Log.{Log}
 use Rattle.example_log.specs.declared.message.Log.TheVariants.{Access, Errors}
 use Rattle.example_log.specs.declared.message.Message.{Message}
-use Rattle.example_log.specs.declared.clients.Client.{Client}
-use Rattle.example_log.specs.declared.clients.Sent.{Sent}
-use Rattle.example_log.specs.declared.logs.Team.{Team}
+use Rattle.example_log.specs.declared.sending.Client.{Client}
+use Rattle.example_log.specs.declared.sending.Sent.{Sent}
+use Rattle.example_log.specs.declared.clients.Clients.{Clients}
 use Rattle.example_log.specs.Text.{Line}
 
 -- a line that is for the first of these logs, if it is for the second
@@ -27,8 +27,8 @@ abbrev pub lines_to : Log → List Message → List Line
 lines_to log messages = filter_map (line_to log) messages
 
 -- what the queueings of this sender brought
-abbrev pub brought_by : KnownWith Line → List (Option Line)
-brought_by s = own_brought s.known.number s.known.seen s.brought
+abbrev pub own_lines : KnownWith Line → List (Option Line)
+own_lines s = own_brought s.known.number s.known.seen s.brought
 
 -- what a message brings to this log, if it was queued
 abbrev pub brings : Log → Message → Bool → List (Option Line)
@@ -47,11 +47,11 @@ pub record IsNewClient (ready : Identity) (number items : ℕ) (client : Client)
 pub record HasSent (client : Client) (messages : List Message) (sent : Sent) : Type 0 where
   pub same_access : IsSame client.access.known sent.access.known
   pub same_errors : IsSame client.errors.known sent.errors.known
-  pub to_access : brought_by sent.access ≡ map Some (lines_to Access (take sent.count messages))
-  pub to_errors : brought_by sent.errors ≡ map Some (lines_to Errors (take sent.count messages))
+  pub to_access : own_lines sent.access ≡ map Some (lines_to Access (take sent.count messages))
+  pub to_errors : own_lines sent.errors ≡ map Some (lines_to Errors (take sent.count messages))
 
 -- two new clients, of four items each, and who stops the logs behind them
-pub record IsNewTeam (ready : Identity) (team : Team) : Type 0 where
-  pub first_is : IsNewClient ready 0 4 team.first
-  pub second_is : IsNewClient ready 1 8 team.second
-  pub last_is : IsCallerOf ready team.last.caller
+pub record AreNewClients (ready : Identity) (clients : Clients) : Type 0 where
+  pub first_is : IsNewClient ready 0 4 clients.first
+  pub second_is : IsNewClient ready 1 8 clients.second
+  pub last_is : IsCallerOf ready clients.last.caller

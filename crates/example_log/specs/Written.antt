@@ -10,13 +10,14 @@ use Rattle.wq_live.specs.OwnBrought.{own_brought}
 use Rattle.wq_worker.specs.Returned.{pairs_of}
 use Rattle.example_log.specs.declared.message.Log.{Log}
 use Rattle.example_log.specs.declared.message.Message.{Message}
-use Rattle.example_log.specs.declared.logs.Written.{Written}
+use Rattle.example_log.specs.declared.ending.Written.{Written}
 use Rattle.example_log.specs.Text.{Line, text_of}
 use Rattle.example_log.specs.Sent.{lines_to}
 
 -- A legal and complete history of the log's queue, with the lines that its events carry. The text is the lines of the items that
 -- were accepted, in order; and each client's queueings brought the lines of those of its messages that it sent, in order.
-pub record HasLines (log : Log) (layout : Layout) (h : List Event) (brought : List (Option Line)) (first second : List Message) (written : Written) : Type 0 where
+pub record HasLines (log : Log) (layout : Layout) (h : List Event) (brought : List (Option Line))
+    (first second : List Message) (written : Written) : Type 0 where
   pub legal : IsLegalWith layout (with_values h brought)
   pub complete : IsComplete h
   pub headline : KeepsHeadline h

@@ -1,194 +1,122 @@
-//! Clients, which send messages, and the stop items.
-ghost use Rattle.std.specs.Prelude.{◌≡◌, ◌<◌, ◌≤◌, ◌+◌, ◌++◌, [], ◌∷◌, Some, cond};
-ghost use Rattle.wq_live.specs.Known.{IsSame};
-ghost use Rattle.wq_live.specs.KnownWith.{BringsOrReturns};
-ghost use Rattle.wq_live.specs.OwnBrought.{queued_value};
-ghost use Rattle.wq_ready.specs.Known.{IsCallerOf};
-ghost use Rattle.example_log.specs.declared.message.Log.TheVariants.{Access, Errors};
-ghost use Rattle.example_log.specs.Sent.{brought_by, brings, IsNewClient, HasSent};
+//! The clients of both logs, in threads of their own.
+ghost use Rattle.std.specs.Prelude.{◌≡◌, ◌+◌, ◌<◌, ◌≤◌, ◌∷◌, [], All, length};
+ghost use Rattle.wq_pool.specs.Known.{IsCallerOf};
+ghost use Rattle.example_log.specs.Sent.{HasSent, IsNewClient, AreNewClients};
 
-use crate::message::{Line, Log, Message};
+use crate::message::{Line, Message};
+use crate::sending::{ACCESS, Client, ERRORS, ITEMS, Sent, send_all, stop};
 use crate::writer::Writer;
 use std::sync::Wait;
-use std::thread;
-use wq_live::{Answer, ValueAnswer, ValueSender, queued_brings};
+use std::thread::{Threads, join};
+use wq_live::ValueSender;
 use wq_pool::{Caller, ValuePool};
 
-/// So many items of each log are a client's: as many of its lines wait at a time.
-pub(crate) const ITEMS: u32 = 4;
+// One of the callers that are left.
+fn caller_of(pool: &ValuePool<Line, Writer>, callers: &mut Vec<Caller>) -> Caller
+    requires some { 0 < length callers.old.items }
+    requires all { All (IsCallerOf pool.now.ready) callers.old.items }
+    ensures one { IsCallerOf pool.now.ready result }
+    ensures all { All (IsCallerOf pool.now.ready) callers.new.items }
+    ensures count { length callers.new.items + 1 ≡ length callers.old.items }
+{
+    let Some(caller) = callers.pop() else {
+        unreachable!()
+    };
+    caller
+}
 
-/// The numbers of the logs' queues in their pool.
-pub(crate) const ACCESS: u32 = 0;
-
-pub(crate) const ERRORS: u32 = 1;
-
-/// A sender of each log's queue, and a caller that announces both.
+/// Those who queue: two clients, and one that stops both logs behind them.
 #[derive(Drop)]
-pub(crate) struct Client {
-    pub(crate) access: ValueSender<Line>,
-    pub(crate) errors: ValueSender<Line>,
-    pub(crate) caller: Caller,
+pub(crate) struct Clients {
+    pub(crate) first: Client,
+    pub(crate) second: Client,
+    pub(crate) last: Client,
 }
 
-/// The senders of a client, and how many of its messages they queued.
-#[derive(Drop)]
-pub(crate) struct Sent {
-    pub(crate) access: ValueSender<Line>,
-    pub(crate) errors: ValueSender<Line>,
-    pub(crate) count: usize,
-}
-
-// One queueing. What the sender's own queueings brought grows by the line, if it was queued; else the line comes back.
-fn queue_once<R: Wait>(
-    rt: &R,
-    sender: &mut ValueSender<Line>,
-    item: u32,
-    line: Line,
-) -> ValueAnswer<Line>
-    requires item { item < sender.old.known.layout.items }
-    ensures same { IsSame sender.old.known sender.new.known }
-    ensures brought { brought_by sender.new ≡ brought_by sender.old ++ queued_value line result }
-    ensures value { BringsOrReturns item line result sender.new }
-{
-    queued_brings::<Line>();
-    sender.queue_value_wait(rt, item, line)
-}
-
-// Queues a line, and announces the queue where that wakes it. While an earlier line of the item waits, or others change the list,
-// it is tried again. Whether the line was queued: it is not where the queue takes no more.
-fn queue<R: Wait>(
-    rt: &R,
+/// The clients of two new queues, with three of the callers.
+pub(crate) fn clients_of(
     pool: &ValuePool<Line, Writer>,
-    sender: &mut ValueSender<Line>,
-    caller: &mut Caller,
-    number: u32,
-    item: u32,
-    line: Line,
-) -> bool
-    requires item { item < sender.old.known.layout.items }
-    requires caller { IsCallerOf pool.now.ready caller.old }
-    ensures same { IsSame sender.old.known sender.new.known }
-    ensures caller { IsCallerOf pool.now.ready caller.new }
-    ensures brought { brought_by sender.new ≡ brought_by sender.old ++ cond result (Some line ∷ []) [] }
+    access: Vec<ValueSender<Line>>,
+    errors: Vec<ValueSender<Line>>,
+    callers: &mut Vec<Caller>,
+) -> Clients
+    requires senders { (length access.items ≡ 3) × (length errors.items ≡ 3) }
+    requires some { 3 ≤ length callers.old.items }
+    requires all { All (IsCallerOf pool.now.ready) callers.old.items }
+    ensures access { access.items ≡ result.first.access ∷ result.second.access ∷ result.last.access ∷ [] }
+    ensures errors { errors.items ≡ result.first.errors ∷ result.second.errors ∷ result.last.errors ∷ [] }
+    ensures callers { IsCallerOf pool.now.ready result.first.caller × IsCallerOf pool.now.ready result.second.caller
+        × IsCallerOf pool.now.ready result.last.caller }
+    ensures all { All (IsCallerOf pool.now.ready) callers.new.items }
 {
-    let mut line = line;
-    for _ in rt.forever() {
-        match queue_once(rt, sender, item, line) {
-            ValueAnswer::Queued { first, wakes } => {
-                let _ = pool.wake(rt, caller, number, Answer::Queued { first, wakes });
-                return true;
-            }
-            ValueAnswer::Pending(same) => line = same,
-            ValueAnswer::Contended(same) => line = same,
-            ValueAnswer::Closed(_) => return false,
-            ValueAnswer::Draining(_) => return false,
-        }
-        thread::yield_now();
-    }
-    unreachable!()
-}
-
-// Queues a message's line on the queue of its log.
-fn send<R: Wait>(
-    rt: &R,
-    pool: &ValuePool<Line, Writer>,
-    client: &mut Client,
-    item: u32,
-    message: Message,
-) -> bool
-    requires access { item < client.old.access.known.layout.items }
-    requires errors { item < client.old.errors.known.layout.items }
-    requires caller { IsCallerOf pool.now.ready client.old.caller }
-    ensures same_access { IsSame client.old.access.known client.new.access.known }
-    ensures same_errors { IsSame client.old.errors.known client.new.errors.known }
-    ensures caller { IsCallerOf pool.now.ready client.new.caller }
-    ensures to_access { brought_by client.new.access ≡ brought_by client.old.access ++ brings Access message result }
-    ensures to_errors { brought_by client.new.errors ≡ brought_by client.old.errors ++ brings Errors message result }
-{
-    let Message { log, line } = message;
-    match log {
-        Log::Access => queue(
-            rt,
-            pool,
-            &mut client.access,
-            &mut client.caller,
-            ACCESS,
-            item,
-            line,
-        ),
-        Log::Errors => queue(
-            rt,
-            pool,
-            &mut client.errors,
-            &mut client.caller,
-            ERRORS,
-            item,
-            line,
-        ),
+    let (Ok(access), Ok(errors)) = (
+        <[ValueSender<Line>; 3]>::try_from(access),
+        <[ValueSender<Line>; 3]>::try_from(errors),
+    ) else {
+        unreachable!()
+    };
+    let [one, two, three] = access;
+    let [first, second, last] = errors;
+    Clients {
+        first: Client {
+            access: one,
+            errors: first,
+            caller: caller_of(pool, callers),
+        },
+        second: Client {
+            access: two,
+            errors: second,
+            caller: caller_of(pool, callers),
+        },
+        last: Client {
+            access: three,
+            errors: last,
+            caller: caller_of(pool, callers),
+        },
     }
 }
 
-// The item behind this one, of those from the first on.
-fn item_behind(item: u32, first: u32) -> u32
-    requires within { (first ≤ item) × (item < first + 4) }
-    requires fits { first + 4 < 4294967296 }
-    ensures within { (first ≤ result) × (result < first + 4) }
+// Queues both stop items.
+fn stop_both<R: Wait>(rt: &R, pool: &ValuePool<Line, Writer>, last: Client)
+    requires { IsCallerOf pool.now.ready last.caller }
 {
-    if item + 1 < first + ITEMS {
-        item + 1
-    } else {
-        first
-    }
-}
-
-/// What a client's thread does: it sends its messages in their order, each with the next of its items, from the first on. It ends
-/// early where a queue takes no more.
-pub(crate) fn send_all<R: Wait>(
-    rt: &R,
-    pool: &ValuePool<Line, Writer>,
-    client: Client,
-    first: u32,
-    messages: Vec<Message>,
-) -> Sent
-    requires { IsNewClient pool.now.ready client.access.known.number (first + 4) client }
-    ensures { HasSent client messages.items result }
-{
-    let mut client = client;
-    let mut item = first;
-    let mut count = 0usize;
-    for message in messages {
-        if !send(rt, pool, &mut client, item, message) {
-            break;
-        }
-        item = item_behind(item, first);
-        count = count.wrapping_add(1);
-    }
-    let Client { access, errors, .. } = client;
-    Sent {
+    let Client {
         access,
         errors,
-        count,
-    }
+        mut caller,
+    } = last;
+    stop(rt, pool, &mut caller, ACCESS, access);
+    stop(rt, pool, &mut caller, ERRORS, errors);
 }
 
-/// Queues a log's stop item, behind all that its queue has accepted.
-pub(crate) fn stop<R: Wait>(
+/// The clients send in threads of their own, and when both have ended the stop items follow.
+pub(crate) fn send_both<R: Threads + Wait + Sync>(
     rt: &R,
     pool: &ValuePool<Line, Writer>,
-    caller: &mut Caller,
-    number: u32,
-    mut sender: ValueSender<Line>,
-)
-    requires { IsCallerOf pool.now.ready caller.old }
-    ensures { IsCallerOf pool.now.ready caller.new }
+    clients: Clients,
+    first: Vec<Message>,
+    second: Vec<Message>,
+) -> (Sent, Sent)
+    requires { AreNewClients pool.now.ready clients }
+    ensures first { HasSent clients.first first.items result.0 }
+    ensures second { HasSent clients.second second.items result.1 }
 {
-    for _ in rt.forever() {
-        match sender.request_stop(1) {
-            Answer::Contended => {}
-            answer => {
-                let _ = pool.wake(rt, caller, number, answer);
-                return;
-            }
-        }
-    }
+    let Clients {
+        first: one,
+        second: two,
+        last,
+    } = clients;
+    let sent = join(
+        rt,
+        move ||
+            requires { IsNewClient pool.now.ready 0 4 one }
+            ensures { HasSent one first.items result }
+        { send_all(rt, pool, one, 0, first) },
+        move ||
+            requires { IsNewClient pool.now.ready 1 8 two }
+            ensures { HasSent two second.items result }
+        { send_all(rt, pool, two, ITEMS, second) },
+    );
+    stop_both(rt, pool, last);
+    sent
 }

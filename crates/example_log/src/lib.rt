@@ -3,9 +3,14 @@
 #![tactic(auto)]
 
 mod clients;
+mod ending;
+mod error;
 mod logs;
 mod message;
+mod sending;
 mod writer;
 
-pub use logs::{LogError, Written, write};
+pub use ending::Written;
+pub use error::LogError;
+pub use logs::write;
 pub use message::{Line, Log, Message};

@@ -42,7 +42,7 @@ pub use Rattle.wq_worker.proofs.State.{items_among-item, items_among-other, quie
 pub use Rattle.wq_plan.specs.Outcome.{ledger_of, HasHeard, HasGoneOn, HasEnded, queueings, Tells, IsWhole, IsTold, HasMet, AllKnown, IsKnown, queued_sum}
 pub use Rattle.wq_plan.specs.Plan.{IsLayoutOf}
 pub use Rattle.wq_plan.specs.Race.{items_at, IsOfStop, HasRaced, HasQueued, IsInVain, HasMade, HasStopped, IsStopAnswer, HasServed, AllQueued, IsQueuer}
-pub use Rattle.wq_plan.specs.Sends.{IsRefusal, Sends, SendsAll, pushed, busy, refused}
+pub use Rattle.wq_plan.specs.Sends.{RefusesFor, SendsOne, SendsAll, pushed, busy, refused}
 pub use Rattle.wq_plan.specs.Team.{IsNewTeam}
 pub use Rattle.wq_plan.specs.declared.idle.Idle.{Idle}
 pub use Rattle.wq_plan.specs.declared.plan.Plan.{Plan}

@@ -2,7 +2,7 @@
 use Rattle.wq_plan.proofs.Common.{◌≡◌, ◌≢◌, ℕ, ◌+◌, ◌-◌, map, ◌^◌, inl, inr, length-append, ◌*◌, ◌<◌, ◌≤◌, Bool, true, false, List, [], ◌∷◌, ◌++◌, length}
 use Rattle.wq_plan.proofs.Common.{get_or, min, refl, sym, ap, ◌∙◌, subst, arith, All, MatchBool, count_by, AllByRecursion, cases_lt, length-range_with_len}
 use Rattle.wq_plan.proofs.Common.{IsPrefix, Layout, Event, Back, is_close, is_drain, is_push, accepted, begun, ended, IsLegal, prefix_whole, own, own-append}
-use Rattle.wq_plan.proofs.Common.{closed_count, count_same, owner_seat, Why, IsRefusal, ended_same, Known, is_queued_by, is_chain, is_chain_busy, sender_counts}
+use Rattle.wq_plan.proofs.Common.{closed_count, count_same, owner_seat, Why, RefusesFor, ended_same, Known, is_queued_by, is_chain, is_chain_busy, sender_counts}
 use Rattle.wq_plan.proofs.Common.{owner_counts, LedgerState, BookState}
 use Rattle.wq_plan.proofs.Common.{Unbalanced, AreWhole, AreOwnerWhole, ledgers_of, HasOne, IsUnbalanced, is_queued_below, below_more, below_all, WorkerState}
 use Rattle.wq_plan.proofs.Common.{items_among, SendsAll, count_by-append, accepted-count, Idle, Plan, Team, items_at, IsOfStop, HasRaced, queueings, Tells}
@@ -36,7 +36,7 @@ none_before p e before rest h w is begins none some =
     omega (arith, some, ap (count_by p) is, count_by-append p before (e ∷ rest), ap (count_by p) begins.1, count_by-append p h begins.0, none)
 
 -- where neither a close nor a drain was seen, nothing was refused
-never_refused : (layout : Layout) (s k : ℕ) (cause : Why) (h w : List Event) → IsRefusal cause → IsLegal layout h → IsPrefix h w → count_by is_close w ≡ 0
+never_refused : (layout : Layout) (s k : ℕ) (cause : Why) (h w : List Event) → RefusesFor cause → IsLegal layout h → IsPrefix h w → count_by is_close w ≡ 0
     → count_by is_drain w ≡ 0 → ¬ Has (Back s k cause) h
 never_refused layout s k why.Closed h w refusal legal begins closes drains has =
     let a = was_allowed layout (Back s k why.Closed) [] h legal has in
@@ -72,7 +72,7 @@ module _ (plan : Plan) (team : Team) (w : WorkerState Idle) (senders : List Know
     number_is : (get_or senders s d).number ≡ s
     told : own s book.seen ≡ own s (get_or senders s d).seen
     queued : SendsAll s (items_at s plan.own) (own s book.seen)
-    opens : (k : ℕ) (cause : Why) → IsRefusal cause → ¬ Has (Back s k cause) (own s book.seen)
+    opens : (k : ℕ) (cause : Why) → RefusesFor cause → ¬ Has (Back s k cause) (own s book.seen)
 
   sender_at : (s : ℕ) (d : Known) → s < plan.senders → Sender s d
   sender_at s d lt =

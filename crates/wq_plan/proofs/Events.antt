@@ -1,8 +1,8 @@
 -- Events of a history, and whose they are.
 use Rattle.wq_plan.proofs.Common.{⊎_elim, ◌≡◌, ℕ, zero, suc, ◌+◌, ◌*◌, ◌<◌, ◌≤◌, ◌⊎◌, Bool, true, false, cond, ◌==◌, List, [], ◌∷◌, ◌++◌, inl, inr, refl, sym}
 use Rattle.wq_plan.proofs.Common.{ap, ◌∙◌, subst, arith, append_assoc, eq-eqb, count_by, range_with_len, eqb-true, cases_lt, sum_by-cons, Layout, Event, Hold}
-use Rattle.wq_plan.proofs.Common.{Busy, Push, Back, Chain, sets_pending, IsLegal, IsAllowed, seat_of, own, Sends}
-use Rattle.wq_plan.proofs.Common.{Why, IsRefusal, pushed, busy, refused, SendsAll, queueings}
+use Rattle.wq_plan.proofs.Common.{Busy, Push, Back, Chain, sets_pending, IsLegal, IsAllowed, seat_of, own, SendsOne}
+use Rattle.wq_plan.proofs.Common.{Why, RefusesFor, pushed, busy, refused, SendsAll, queueings}
 use Rattle.wq_words.proofs.Legal.{legal_next}
 use Rattle.wq_plan.proofs.Running.{own_room}
 
@@ -127,7 +127,7 @@ of_two e x y (inr more) = inr (of_one e y more)
 two_numbers : (a : ℕ) (e x y : Event) (es : List Event) → es ≡ x ∷ y ∷ [] → number_of x ≡ a → number_of y ≡ a → Has e es → number_of e ≡ a
 two_numbers a e x y es is one two has = ⊎_elim (λ (i : e ≡ x). ap number_of i ∙ one) (λ (i : e ≡ y). ap number_of i ∙ two) (of_two e x y (subst (Has e) is has))
 
-one_number : (s a : ℕ) (e : Event) (es : List Event) → Sends s a es → Has e es → number_of e ≡ a
+one_number : (s a : ℕ) (e : Event) (es : List Event) → SendsOne s a es → Has e es → number_of e ≡ a
 one_number s a e es (pushed is) has = two_numbers a e (Hold s a) (Push s a) es is refl refl has
 one_number s a e es (busy is) has = ap number_of (of_one e (Busy s a) (subst (Has e) is has))
 one_number s a e es (refused cause refusal is) has = two_numbers a e (Hold s a) (Back s a cause) es is refl refl has
@@ -142,7 +142,7 @@ row_number s a (suc m) e es f has = elim (has_either e f.0 f.1 (subst (Has e) f.
   | inr rest ↦ let w = row_number s (a + 1) m e f.1 f.4 rest in (omega (arith, w.0), omega (arith, w.1))
 ]
 
-apart : (s a t u k : ℕ) (es : List Event) → Sends s a es → Has (Hold t k) es → Has (Busy u k) es → ⊥
+apart : (s a t u k : ℕ) (es : List Event) → SendsOne s a es → Has (Hold t k) es → Has (Busy u k) es → ⊥
 apart s a t u k es (pushed is) hold has = elim (of_two (Busy u k) (Hold s a) (Push s a) (subst (Has (Busy u k)) is has)) [
   | inl one ↦ let no : Busy u k ≡ Hold s a = one in absurd (cc)
   | inr two ↦ let no : Busy u k ≡ Push s a = two in absurd (cc)
@@ -170,7 +170,7 @@ row_apart s a (suc m) t u k es f hold has = elim (has_either (Hold t k) f.0 f.1 
   ]
 ]
 
-one_pushed : (s a : ℕ) (es : List Event) → ¬ Has (Busy s a) es → ((cause : Why) → IsRefusal cause → ¬ Has (Back s a cause) es) → Sends s a es
+one_pushed : (s a : ℕ) (es : List Event) → ¬ Has (Busy s a) es → ((cause : Why) → RefusesFor cause → ¬ Has (Back s a cause) es) → SendsOne s a es
     → es ≡ Hold s a ∷ Push s a ∷ []
 one_pushed s a es free opens (pushed is) = is
 one_pushed s a es free opens (busy is) = absurd (free (subst (Has (Busy s a)) (sym is) (inl refl)))
@@ -182,7 +182,7 @@ has_right e [] ys h = h
 has_right e (x ∷ xs) ys h = inr (has_right e xs ys h)
 
 -- where each item was free and none was refused, each was pushed
-pub row_pushed : (s a m : ℕ) (es : List Event) → ((k : ℕ) → ¬ Has (Busy s k) es) → ((k : ℕ) (cause : Why) → IsRefusal cause → ¬ Has (Back s k cause) es)
+pub row_pushed : (s a m : ℕ) (es : List Event) → ((k : ℕ) → ¬ Has (Busy s k) es) → ((k : ℕ) (cause : Why) → RefusesFor cause → ¬ Has (Back s k cause) es)
     → SendsAll s (range_with_len a m) es → es ≡ queueings s (range_with_len a m)
 row_pushed s a zero es free opens f = f
 row_pushed s a (suc m) es free opens f =

@@ -1,7 +1,7 @@
 -- What a sender's thread adds.
 use Rattle.wq_plan.proofs.Common.{◌≡◌, ◌≢◌, ℕ, zero, suc, ◌+◌, ◌*◌, ◌-◌, ◌<◌, ◌≤◌, List, [], ◌∷◌, ◌++◌, length, refl, sym, ap, ◌∙◌, subst, arith}
 use Rattle.wq_plan.proofs.Common.{length-append, append_assoc, AllByRecursion, range_with_len, append-nil, Layout, Event, stop_number, Grows, Known, Sees}
-use Rattle.wq_plan.proofs.Common.{Sends}
+use Rattle.wq_plan.proofs.Common.{SendsOne}
 use Rattle.wq_plan.proofs.Common.{SendsAll, pushed, busy, refused, HasQueued, IsOfStop, IsInVain, HasMade, HasStopped, IsStopAnswer}
 use Rattle.wq_words.specs.declared.answer.Answer.{Answer}
 use Rattle.wq_words.specs.declared.answer.Answer.TheVariants as answer
@@ -11,7 +11,7 @@ use Rattle.wq_live.proofs.Growing.{grows_on}
 use Rattle.wq_live.proofs.Sends.{same_none, same_on}
 use Rattle.wq_words.proofs.Seen.{grows_none as grows_still}
 
-one_queued : (k n : ℕ) (es : List Event) (old new : Known) → Sends old.number k es → Sees es n old new → HasQueued (k ∷ []) old new
+one_queued : (k n : ℕ) (es : List Event) (old new : Known) → SendsOne old.number k es → Sees es n old new → HasQueued (k ∷ []) old new
 one_queued k n es old new q s = record {
   same = s.same;
   events = es;
@@ -27,7 +27,7 @@ queued_one k answer.Contended old new h not = absurd (not refl)
 queued_one k answer.Draining old new h not = one_queued k 0 _ old new (refused why.Draining tt refl) h.0
 
 -- one number more
-sends_push : (s : ℕ) (ks : List ℕ) (k : ℕ) (es fs : List Event) → SendsAll s ks es → Sends s k fs → SendsAll s (ks ++ k ∷ []) (es ++ fs)
+sends_push : (s : ℕ) (ks : List ℕ) (k : ℕ) (es fs : List Event) → SendsAll s ks es → SendsOne s k fs → SendsAll s (ks ++ k ∷ []) (es ++ fs)
 sends_push s [] k es fs t q = (fs, [], ap (λ (z : List Event). z ++ fs) t ∙ sym (append-nil fs), q, refl)
 sends_push s (j ∷ ks) k es fs t q =
     (t.0, t.1 ++ fs, ap (λ (z : List Event). z ++ fs) t.2 ∙ append_assoc t.0 t.1 fs, t.3, sends_push s ks k t.1 fs t.4 q)
@@ -39,8 +39,8 @@ pub queued_more : (ks : List ℕ) (k : ℕ) (a b c : Known) → HasQueued ks a b
 queued_more ks k a b c x y =
     let fs = y.queued.0 in
     let all : y.events ≡ fs = y.queued.2 ∙ (ap (λ (z : List Event). fs ++ z) y.queued.4 ∙ append-nil fs) in
-    let q : Sends a.number k y.events =
-    subst (λ (z : List Event). Sends a.number k z) (sym all) (subst (λ (n : ℕ). Sends n k fs) x.same.number_is y.queued.3) in
+    let q : SendsOne a.number k y.events =
+    subst (λ (z : List Event). SendsOne a.number k z) (sym all) (subst (λ (n : ℕ). SendsOne n k fs) x.same.number_is y.queued.3) in
     record {
       same = same_on a b c x.same y.same;
       events = x.events ++ y.events;

@@ -1,7 +1,7 @@
 -- A history in which the seats of a race did what they do.
 use Rattle.wq_plan.proofs.Common.{◌≡◌, ℕ, zero, suc, ◌+◌, ◌*◌, ◌<◌, ◌≤◌, Bool, cond, List, [], ◌∷◌, length, refl, sym, ap, ◌∙◌, subst, arith, eq-eqb, count_by}
 use Rattle.wq_plan.proofs.Common.{length-range_with_len, sum_by-cons, Layout, Event, Hold, Busy, Push, Back, accepted, seat_of, own, count_own, is_queued_by}
-use Rattle.wq_plan.proofs.Common.{is_chain, items_among, is_queued_below, below_more, below_none, items_at, queueings, Chain, Why, IsRefusal}
+use Rattle.wq_plan.proofs.Common.{is_chain, items_among, is_queued_below, below_more, below_none, items_at, queueings, Chain, Why, RefusesFor}
 use Rattle.wq_plan.proofs.Pushed.{IsShared, has_counted, Whose, plans, workers, programs, whose, seat_few, of_stop, below_items, stop_high, items_pushed}
 use Rattle.wq_words.proofs.Counting.{queued_own as push_own}
 use Rattle.wq_plan.proofs.Events.{Has, has_own, own_has, busy_set, IsSet, by_hold, by_chain, hold_seat, row_number, IsWithin, row_apart, row_pushed, same_row}
@@ -9,7 +9,7 @@ use Rattle.wq_plan.proofs.Events.{Has, has_own, own_has, busy_set, IsSet, by_hol
 -- n senders queued m items each, and no seat but theirs, the program's and the owner's made an event
 pub record IsRace (n m : ℕ) (layout : Layout) (h : List Event) : Type 0 where
   pub shared : IsShared n m layout h
-  pub opens : (s k : ℕ) (cause : Why) → s < n → IsRefusal cause → ¬ Has (Back s k cause) (own s h)
+  pub opens : (s k : ℕ) (cause : Why) → s < n → RefusesFor cause → ¬ Has (Back s k cause) (own s h)
   pub unsent : own n h ≡ []
 
 pub queued_own : (s : ℕ) (h : List Event) → count_by (is_queued_by s) h ≡ count_by (is_queued_by s) (own s h)

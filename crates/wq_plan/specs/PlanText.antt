@@ -37,7 +37,7 @@ pub record IsPlan (d : Data) (plan : Plan) : Type 0 where
   pub in_limits : AreInPlanLimits plan.queues plan.workers plan.senders plan.own
 
 -- the text is short enough, and this is what it says as JSON
-pub record Says (text : List ℕ) (d : Data) : Type 0 where
+pub record SaysJson (text : List ℕ) (d : Data) : Type 0 where
   pub size : length text ≤ 65536
   pub utf8 : IsUtf8 text
   pub reads : read text ≡ Some d
@@ -45,7 +45,7 @@ pub record Says (text : List ℕ) (d : Data) : Type 0 where
 -- the text spells the plan
 pub record SpellsPlan (text : List ℕ) (plan : Plan) : Type 0 where
   pub value : Data
-  pub says : Says text value
+  pub says : SaysJson text value
   pub keys : HasKeys value
   pub is_plan : IsPlan value plan
 
@@ -53,6 +53,6 @@ pub record SpellsPlan (text : List ℕ) (plan : Plan) : Type 0 where
 abbrev pub IsNoPlan : List ℕ → PlanError → Type 0
 IsNoPlan text error.Size = 65536 < length text
 IsNoPlan text error.Json = (length text ≤ 65536) × (IsUtf8 text → read text ≡ None)
-IsNoPlan text error.Keys = (d : Data) × Says text d × (¬ HasKeys d)
-IsNoPlan text error.Limits = (d : Data) × Says text d × HasKeys d × ((plan : Plan) → ¬ IsPlan d plan)
+IsNoPlan text error.Keys = (d : Data) × SaysJson text d × (¬ HasKeys d)
+IsNoPlan text error.Limits = (d : Data) × SaysJson text d × HasKeys d × ((plan : Plan) → ¬ IsPlan d plan)
 IsNoPlan text error.Memory = Unit {0}

@@ -13,7 +13,7 @@ pub use Rattle.wq_plan.specs.declared.outcome.Outcome.{Outcome}
 pub use Rattle.wq_plan.specs.declared.plan.Plan.{Plan}
 pub use Rattle.wq_plan.proofs.Booking.{heard_on, heard_still, heard_one}
 pub use Rattle.wq_plan.proofs.Common.{◌≡◌, ℕ, ◌+◌, ◌*◌, ◌≤◌, Bool, false, List, [], ◌∷◌, length, ap, ◌∙◌, arith, length-append, count_by, IsPrefix, Event}
-pub use Rattle.wq_plan.proofs.Common.{capped, SendsAll, Sends, pushed, busy, refused, count_by-append, zero, suc, ◌^◌, ◌<◌, true}
+pub use Rattle.wq_plan.proofs.Common.{capped, SendsAll, SendsOne, pushed, busy, refused, count_by-append, zero, suc, ◌^◌, ◌<◌, true}
 pub use Rattle.wq_plan.proofs.Common.{◌++◌, take, get_or, refl, sym, subst, All, MatchBool, AllByRecursion, eqb-true, length-range_with_len, fold_more, Layout}
 pub use Rattle.wq_plan.proofs.Common.{is_queued_by, is_chain, IsLegal, IsComplete, own, own-append, own_between, sender_counts, Known, Unbalanced, BookState}
 pub use Rattle.wq_plan.proofs.Common.{IsLedgerOf, items_among, HasHeard, AllKnown, IsTold, queued_sum, items_at, IsOfStop, is_push, accepted, ended}

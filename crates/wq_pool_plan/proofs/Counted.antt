@@ -1,9 +1,9 @@
 -- Counts of histories.
 use Rattle.wq_pool_plan.proofs.Common.{◌≡◌, ℕ, ◌+◌, ◌*◌, ◌≤◌, Bool, List, [], ◌∷◌, length, ap, ◌∙◌, arith, length-append, count_by, IsPrefix, Event}
-use Rattle.wq_pool_plan.proofs.Common.{capped, SendsAll, Sends, pushed, busy, refused, count_by-append}
+use Rattle.wq_pool_plan.proofs.Common.{capped, SendsAll, SendsOne, pushed, busy, refused, count_by-append}
 
 -- the queueing of a number adds at most two events
-sends_few : (s k : ℕ) (es : List Event) → Sends s k es → length es ≤ 2
+sends_few : (s k : ℕ) (es : List Event) → SendsOne s k es → length es ≤ 2
 sends_few s k es (pushed is) = omega (arith, ap (length {A = Event}) is)
 sends_few s k es (busy is) = omega (arith, ap (length {A = Event}) is)
 sends_few s k es (refused cause refusal is) = omega (arith, ap (length {A = Event}) is)

@@ -3,7 +3,7 @@ use Rattle.wq_script.proofs.Common.{◌≡◌, ℕ, ◌<◌, Bool, true, false, 
 use Rattle.wq_script.proofs.Common.{arith, append_assoc, if◌then◌else◌, append-nil, get_or-set_same, Layout, Event, Hold, Busy, Push, Back, Close, pending}
 use Rattle.wq_script.proofs.Common.{closed, first, fresh, owner_seat, wakes, closed_count, Answer, Known, Sees, Answers, IsPushed, TakesAll, WorkerState, Moves}
 use Rattle.wq_script.proofs.Common.{shut, HasMetDrain, draining, queue_events, queue_answer, close_events, close_answer, Lists, Seats, Gathers, Seated, Asks}
-use Rattle.wq_script.proofs.Common.{Goes}
+use Rattle.wq_script.proofs.Common.{Reaches}
 use Rattle.wq_words.specs.declared.event.Why.TheVariants as why
 use Rattle.wq_words.proofs.Rest.{wakes_quiet}
 use Rattle.wq_words.specs.declared.answer.Answer.TheVariants as answer
@@ -101,7 +101,7 @@ sender_asked layout s t h p k a x z g lt is told all =
 -- a sender looked at a PENDING bit
 pub sender_looked : (layout : Layout) (s t : Seats) (h : List Event) (p : ℕ) (x z : Known) → Seated layout s h → p < length s.senders.items
     → x ≡ get_or s.senders.items p x → Sees [] 0 x z → ((d : Known) → Gathers (get_or (set s.senders.items p z) p d).seen (with_sender s p z) t)
-    → Goes layout h s t × (z.seen ≡ h)
+    → Reaches layout h s t × (z.seen ≡ h)
 sender_looked layout s t h p x z g lt is sees all =
     let gathered = gathered_at s t p x z lt all in
     let less : p < layout.senders = omega (arith, lt, g.count) in
@@ -116,7 +116,7 @@ worker_closed layout s h g = ap (λ (n : ℕ). nat_lt 0 n) (closed_count h s.wor
 -- the worker closed the queue
 pub worker_closes : (layout : Layout) (s t : Seats) (h : List Event) (w : WorkerState Lists) (taken : ℕ) → Seated layout s h → closed s.worker.seen ≡ false
     → Moves (Close ∷ []) 0 s.worker w → w.work ≡ s.worker.work → w.unqueued ≡ s.worker.unqueued → TakesAll Close taken w.seen
-    → Gathers w.seen (record { worker = w; delay = s.delay; senders = s.senders }) t → Goes layout (h ++ close_events h) s t × (Some taken ≡ close_answer h)
+    → Gathers w.seen (record { worker = w; delay = s.delay; senders = s.senders }) t → Reaches layout (h ++ close_events h) s t × (Some taken ≡ close_answer h)
 worker_closes layout s t h w taken g is_open moves work left takes gathered =
     let a = (worker_acts layout s t h g w (Close ∷ []) 0 moves gathered).0 in
     let not_yet : closed h ≡ false = sym (worker_closed layout s h g) ∙ is_open in
@@ -135,7 +135,7 @@ worker_closes layout s t h w taken g is_open moves work left takes gathered =
     )
 
 pub closed_already : (layout : Layout) (s : Seats) (h : List Event) → Seated layout s h → closed s.worker.seen ≡ true
-    → Goes layout (h ++ close_events h) s s × (None ≡ close_answer h)
+    → Reaches layout (h ++ close_events h) s s × (None ≡ close_answer h)
 closed_already layout s h g is =
     let now : closed h ≡ true = sym (worker_closed layout s h g) ∙ is in
     let none : close_events h ≡ [] = ap (λ (b : Bool). if b then [] else Close ∷ []) now in (

@@ -3,7 +3,7 @@ use Rattle.wq_script.proofs.Common.{◌≡◌, ℕ, ◌+◌, ◌*◌, ◌<◌, �
 use Rattle.wq_script.proofs.Common.{if◌then◌else◌, append_assoc, append-nil, filter, eq-eqb, ne_eqb, eqb-true, drop, drop_of_length-le, None, slice_get_past, Layout, Event}
 use Rattle.wq_script.proofs.Common.{Drain, Resume, accepted, begun, ended, shut, draining, IsRunning, IsLegal, prefix_length, begun-append, ended-append, is_ours}
 use Rattle.wq_script.proofs.Common.{WorkerState, Moves, follow_of, after_executions, ended_since, ends_at, left_in, begin_drain, end_drain, ScriptState}
-use Rattle.wq_script.proofs.Common.{after_row, after_drain, executions_few, Lists, Seats, Tally, Gathers, Seated, Quiet, Goes, RunsAs, Tallied, Meets}
+use Rattle.wq_script.proofs.Common.{after_row, after_drain, executions_few, Lists, Seats, Tally, Gathers, Seated, Quiet, Reaches, RunsAs, Tallied, Meets}
 use Rattle.wq_words.specs.Legal.{HasRunOut}
 use Rattle.wq_words.proofs.Closed.{shut_from_IsShut, shut_from_open, closed_from_IsClosed}
 use Rattle.wq_words.proofs.Order.{in_order}
@@ -79,7 +79,7 @@ module _ (layout : Layout) (s t : Seats) (h : List Event) (g : Seated layout s h
 
   -- what the worker made came to the history, and nothing else
   made : (es : List Event) (w : WorkerState Lists) → Makes es s.worker w → Gathers w.seen (With w) t
-      → Goes layout (h ++ es) s t × (s.worker.seen ≡ h) × (w.seen ≡ h ++ es)
+      → Reaches layout (h ++ es) s t × (s.worker.seen ≡ h) × (w.seen ≡ h ++ es)
   made es w m all =
       let a = (worker_acts layout s t h g w es 0 m.moves all).0 in (
         record {
@@ -112,7 +112,7 @@ module _ (layout : Layout) (s t : Seats) (h : List Event) (g : Seated layout s h
 
   pub drained_none : (w : WorkerState Lists) (d : Drained) → Drains may_be 0 d s.worker w
       → Gathers w.seen (With w) t
-      → Goes layout (end_drain (begin_drain h)) s t × (is_empty d ≡ (left_in (begin_drain h) == 0))
+      → Reaches layout (end_drain (begin_drain h)) s t × (is_empty d ≡ (left_in (begin_drain h) == 0))
   drained_none w Empty told all =
       let b = told.began in
       let same : b ≡ told.last = no_steps _ told.steps b told.last (omega (arith, told.within)) told.row in
@@ -124,7 +124,7 @@ module _ (layout : Layout) (s t : Seats) (h : List Event) (g : Seated layout s h
       let now : b.seen ≡ begin_drain h = here ∙ (ap (λ (v : List Event). v ++ x.0) (sym went.1) ∙ (x.2 ∙ ap begin_drain went.1)) in
       let whole : h ++ (x.0 ++ y.0) ≡ end_drain (begin_drain h) = sym (append_assoc h x.0 y.0)
       ∙ (ap (λ (v : List Event). v ++ y.0) (sym here) ∙ (y.2 ∙ ap end_drain now)) in (
-        subst (λ (v : List Event). Goes layout v s t) whole went.0,
+        subst (λ (v : List Event). Reaches layout v s t) whole went.0,
         sym all_ended ∙ ap (λ (v : List Event). left_in v == 0) now,
       )
   drained_none w (TooLong left) told all =
@@ -134,7 +134,7 @@ module _ (layout : Layout) (s t : Seats) (h : List Event) (g : Seated layout s h
       let begins : h ++ x.0 ≡ begin_drain h = ap (λ (v : List Event). v ++ x.0) (sym went.1) ∙ (x.2 ∙ ap begin_drain went.1) in
       let some : (left_in (begin_drain h) == 0) ≡ false = ap (λ (v : List Event). left_in v == 0) (sym (went.2 ∙ begins))
       ∙ some_left_in w.seen left told.left_is told.some_left in (
-        subst (λ (v : List Event). Goes layout v s t) (begins ∙ sym (some_left_ended (begin_drain h) some)) went.0,
+        subst (λ (v : List Event). Reaches layout v s t) (begins ∙ sym (some_left_ended (begin_drain h) some)) went.0,
         sym some,
       )
 
@@ -176,7 +176,7 @@ drain_few layout s limit short =
 
 module _ (layout : Layout) (x : Tally) (s : ScriptState) (limit : ℕ) where
   -- an engine that made a drain without an execution
-  none_meets : (a b : Seats) (v : ScriptState) → Meets (engine layout a x) v → Goes layout (end_drain (begin_drain v.history)) a b
+  none_meets : (a b : Seats) (v : ScriptState) → Meets (engine layout a x) v → Reaches layout (end_drain (begin_drain v.history)) a b
       → Meets (engine layout b x) (record v { history = end_drain (begin_drain v.history) })
   none_meets a b v m goes =
       let is = idle_ended x layout.senders (begin_drain v.history) (idle_begun x layout.senders v.history (m.tally, m.idle)) in
@@ -188,7 +188,7 @@ module _ (layout : Layout) (x : Tally) (s : ScriptState) (limit : ℕ) where
   ran = after_row layout (record s { history = begin_drain s.history }) limit None
 
   -- a drain at whose beginning nothing is left
-  pub drained_at_once : (a b : Seats) → Meets (engine layout a x) s → Goes layout (end_drain (begin_drain s.history)) a b
+  pub drained_at_once : (a b : Seats) → Meets (engine layout a x) s → Reaches layout (end_drain (begin_drain s.history)) a b
       → (left_in (begin_drain s.history) == 0) ≡ true
       → Meets (engine layout b x) (record s { history = after_drain layout s limit }) × ([] ≡ ended_since s.history (after_drain layout s limit))
   unfolding ran
@@ -212,7 +212,7 @@ module _ (layout : Layout) (x : Tally) (s : ScriptState) (limit : ℕ) where
       )
 
   -- the seats after the executions of a drain, which was begun with something left
-  pub ran_meets_so : (a b c : Seats) (ks : List ℕ) → Meets (engine layout a x) s → Goes layout (end_drain (begin_drain s.history)) a b
+  pub ran_meets_so : (a b c : Seats) (ks : List ℕ) → Meets (engine layout a x) s → Reaches layout (end_drain (begin_drain s.history)) a b
       → (left_in (begin_drain s.history) == 0) ≡ false → RunsAs layout limit None ks b c → Meets (engine layout c x) (record s { history = ran })
   unfolding ran
   ran_meets_so a b c ks m goes some runs =
@@ -222,9 +222,9 @@ module _ (layout : Layout) (x : Tally) (s : ScriptState) (limit : ℕ) where
       (ran_meets layout b c x (record s { history = g }) limit (ends_at None) ks begins (runs g begins.seated begins.idle begins.lists)).0
 
   -- a drain of some executions, by seats that begin it, execute, and end it where nothing is left
-  pub drained_in_turn : (a b c d : Seats) (ks : List ℕ) → Meets (engine layout a x) s → Goes layout (end_drain (begin_drain s.history)) a b
+  pub drained_in_turn : (a b c d : Seats) (ks : List ℕ) → Meets (engine layout a x) s → Reaches layout (end_drain (begin_drain s.history)) a b
       → (left_in (begin_drain s.history) == 0) ≡ false → RunsAs layout limit None ks b c
-      → ((h : List Event) → Seated layout c h → Goes layout (end_drain (begin_drain h)) c d)
+      → ((h : List Event) → Seated layout c h → Reaches layout (end_drain (begin_drain h)) c d)
       → Meets (engine layout d x) (record s { history = after_drain layout s limit }) × (ks ≡ ended_since s.history (after_drain layout s limit))
   unfolding ran
   drained_in_turn a b c d ks m goes some runs ends =

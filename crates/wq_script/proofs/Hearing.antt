@@ -1,7 +1,7 @@
 -- Seats that make no event, and hear what others have seen.
 use Rattle.wq_script.proofs.Common.{◌≡◌, ℕ, ◌<◌, List, [], length, get_or, set, arith, inl, inr, refl, sym, ap, ◌∙◌, subst, get_or-set_other, get_or-set_same}
 use Rattle.wq_script.proofs.Common.{get_or_default, length-set, cases_eq, IsPrefix, Event, owner_seat, own, prefix_self, prefix_on, Known, Sees, WorkerState}
-use Rattle.wq_script.proofs.Common.{Moves, DelayState, KeepsTable, StaysSilent, Hears, AllHear, IsSameTable, sender_of, owner_of}
+use Rattle.wq_script.proofs.Common.{Moves, DelayState, KeepsTable, StaysSilent, Hears, AllHear, IsSameTable, worker_sender, worker_owner}
 use Rattle.wq_words.proofs.Seen.{none_of, grows_begins, grows_same, own_more}
 use Rattle.wq_live.proofs.Sends.{same_none, same_on}
 
@@ -67,7 +67,7 @@ pub all_hear_nothing : (xs : List Known) → AllHear [] xs xs
 all_hear_nothing xs = record { count = refl; each = λ i d lt. record { stays = stays_refl (get_or xs i d); knows = ((get_or xs i d).seen, refl) } }
 
 -- a worker's seats, where neither made an event
-pub moves_stay : {W : Type 0} (n : ℕ) (a b : WorkerState W) → Moves [] n a b → StaysSilent (sender_of a) (sender_of b) × StaysSilent (owner_of a) (owner_of b)
+pub moves_stay : {W : Type 0} (n : ℕ) (a b : WorkerState W) → Moves [] n a b → StaysSilent (worker_sender a) (worker_sender b) × StaysSilent (worker_owner a) (worker_owner b)
 moves_stay n a b m =
     let none = none_of a.number m.adds.new m.adds.ours in
     let begins : IsPrefix a.seen b.seen = (m.adds.new, sym m.adds.is) in (

@@ -2,7 +2,7 @@
 use Rattle.wq_script.proofs.Common.{◌≡◌, ◌≢◌, ℕ, ◌<◌, Bool, true, false, List, [], ◌∷◌, ◌++◌, length, refl, sym, ap, ◌∙◌, subst, arith, if◌then◌else◌}
 use Rattle.wq_script.proofs.Common.{append-nil, Layout, Event, Close, closed, begun, ended, IsRunning, IsLegal, owner_seat, Answer, DelayTable, queue_events}
 use Rattle.wq_script.proofs.Common.{queue_answer, close_events, after_executions, ended_since, ScriptState, begun-append, ended-append, Engine, Seats, Tally}
-use Rattle.wq_script.proofs.Common.{Lists, Seated, ListsFit, Asks, Goes, Ran, HasLists, GoesWithTable, Tallied, counted, Meets, Does, size, AsksFor}
+use Rattle.wq_script.proofs.Common.{Lists, Seated, ListsFit, Asks, Reaches, Ran, HasLists, GoesWithTable, Tallied, counted, Meets, Does, size, AsksFor}
 use Rattle.wq_script.proofs.Common.{state_after, lines, line, Command, length-append, answer_text}
 use Rattle.wq_meaning.proofs.Sizes.{queue_few}
 use Rattle.wq_script.proofs.Tallies.{Foreign, idle_on, tallied_own, all_own, legal_has}
@@ -70,14 +70,14 @@ asked_does e b u before now text sender number got c lt asks counts written says
 }
 
 -- nothing happened
-pub looked_meets : (layout : Layout) (a b : Seats) (x : Tally) (s : ScriptState) → Meets (engine layout a x) s → Goes layout s.history a b
+pub looked_meets : (layout : Layout) (a b : Seats) (x : Tally) (s : ScriptState) → Meets (engine layout a x) s → Reaches layout s.history a b
     → Meets (engine layout b x) s
 looked_meets layout a b x s m goes =
     meets_so layout a b x x s s.history s.table m goes.seated m.idle m.tally (ap (λ (l : Lists). l.follows) goes.work.work_is) (goes.table ∙ m.table)
 
 -- the queue was closed
 pub close_meets : (layout : Layout) (a b : Seats) (x : Tally) (s : ScriptState) → Meets (engine layout a x) s
-    → Goes layout (s.history ++ close_events s.history) a b → Meets (engine layout b x) (record s { history = s.history ++ close_events s.history })
+    → Reaches layout (s.history ++ close_events s.history) a b → Meets (engine layout b x) (record s { history = s.history ++ close_events s.history })
 close_meets layout a b x s m goes =
     meets_so layout a b x x s (s.history ++ close_events s.history) s.table m goes.seated (each (closed s.history)).1 (each (closed s.history)).0
     (ap (λ (l : Lists). l.follows) goes.work.work_is) (goes.table ∙ m.table)

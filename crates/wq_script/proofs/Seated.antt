@@ -2,7 +2,7 @@
 use Rattle.wq_script.proofs.Common.{◌≡◌, ℕ, ◌+◌, ◌<◌, ◌≤◌, Bool, true, false, not, ◌==◌, ◌||◌, ◌⊎◌, List, [], ◌++◌, length, get_or, set, arith, inl, inr, refl}
 use Rattle.wq_script.proofs.Common.{sym, ◌∙◌, subst, eq-eqb, filter, get_or-set_other, get_or-set_same, length-set, cases_lt, cases_eq, eqb-true, false≢true}
 use Rattle.wq_script.proofs.Common.{IsPrefix, QueueId, Layout, Event, IsLegal, owner_seat, own, others, Known, Sees, is_ours, WorkerState, Moves, Lists, Seats}
-use Rattle.wq_script.proofs.Common.{Hears, IsAt, IsWider, Seated, sender_of, owner_of, prefix_on, DelayState, with_item, prefix_self, seat_of, Gathers, ap}
+use Rattle.wq_script.proofs.Common.{Hears, IsAt, IsWider, Seated, worker_sender, worker_owner, prefix_on, DelayState, with_item, prefix_self, seat_of, Gathers, ap}
 use Rattle.wq_words.proofs.Seen.{own_between}
 use Rattle.wq_script.proofs.Alone.{IsSeat, settle}
 
@@ -66,8 +66,8 @@ module _ (layout : Layout) (s t : Seats) (h : List Event) (g : Seated layout s h
   record StandAll (f : ℕ → Bool) (z : List Event) (m : Seats) : Type 0 where
     count : length m.senders.items ≡ layout.senders
     senders : (i : ℕ) (d : Known) → i < layout.senders → Stands f z i (get_or m.senders.items i d)
-    sender : Stands f z layout.senders (sender_of m.worker)
-    owner : Stands f z owner_seat (owner_of m.worker)
+    sender : Stands f z layout.senders (worker_sender m.worker)
+    owner : Stands f z owner_seat (worker_owner m.worker)
     delay : Stands f z (layout.senders + 1) m.delay.sender
     tries : m.worker.tries ≡ 1
 
@@ -91,13 +91,13 @@ module _ (layout : Layout) (s t : Seats) (h : List Event) (g : Seated layout s h
         none_of_others layout g.wide f h z g.wider
         (λ i lt. heard_none i (get_or m.senders.items i d) (get_or t.senders.items i d) (stand.senders i d lt)
         (all.senders.each i d (omega (arith, lt, stand.count))))
-        (heard_none layout.senders (sender_of m.worker) (sender_of t.worker) stand.sender all.sender)
+        (heard_none layout.senders (worker_sender m.worker) (worker_sender t.worker) stand.sender all.sender)
         (heard_none (layout.senders + 1) m.delay.sender t.delay.sender stand.delay all.delay)
-        (heard_none owner_seat (owner_of m.worker) (owner_of t.worker) stand.owner all.owner)
+        (heard_none owner_seat (worker_owner m.worker) (worker_owner t.worker) stand.owner all.owner)
 
     all_seated : Seated layout t z
     all_seated =
-        let sender = heard_at layout.senders (sender_of m.worker) (sender_of t.worker) stand.sender all.sender in
+        let sender = heard_at layout.senders (worker_sender m.worker) (worker_sender t.worker) stand.sender all.sender in
         record {
           queue = g.queue;
           wide = g.wide;
@@ -107,7 +107,7 @@ module _ (layout : Layout) (s t : Seats) (h : List Event) (g : Seated layout s h
           senders = λ i d lt. heard_at i (get_or m.senders.items i d) (get_or t.senders.items i d) (stand.senders i d lt)
               (all.senders.each i d (omega (arith, lt, stand.count)));
           sender = sender;
-          owner = heard_at owner_seat (owner_of m.worker) (owner_of t.worker) stand.owner all.owner;
+          owner = heard_at owner_seat (worker_owner m.worker) (worker_owner t.worker) stand.owner all.owner;
           delay = heard_at (layout.senders + 1) m.delay.sender t.delay.sender stand.delay all.delay;
           tries = all.work.tries_is ∙ stand.tries;
           seen = subst (λ (l : Layout). IsLegal l t.worker.seen) sender.layout_is all.legal;

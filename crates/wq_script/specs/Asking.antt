@@ -23,23 +23,23 @@ abbrev pub AsksFor : ℕ → (Layout → ℕ) → Answer → Seats → Seats →
 AsksFor sender number a s t = (layout : Layout) (h : List Event) → Seated layout s h → Asks layout sender (number layout) a h s t
 
 -- this is the history now, and the work and the table are as they were
-pub record Goes (layout : Layout) (h : List Event) (s t : Seats) : Type 0 where
+pub record Reaches (layout : Layout) (h : List Event) (s t : Seats) : Type 0 where
   pub seated : Seated layout t h
   pub work : IsSameWork s.worker t.worker
   pub table : IsSameTable s.delay t.delay
 
 -- nothing happened, and this is so of the history
 abbrev pub LooksAt : (Layout → List Event → Bool) → Bool → Seats → Seats → Type 0
-LooksAt what is s t = (layout : Layout) (h : List Event) → Seated layout s h → Goes layout h s t × (is ≡ what layout h)
+LooksAt what is s t = (layout : Layout) (h : List Event) → Seated layout s h → Reaches layout h s t × (is ≡ what layout h)
 
 -- the queue is closed, where it was not, and this is how many that took
 abbrev pub ClosesAs : Option ℕ → Seats → Seats → Type 0
-ClosesAs taken s t = (layout : Layout) (h : List Event) → Seated layout s h → Goes layout (h ++ close_events h) s t × (taken ≡ close_answer h)
+ClosesAs taken s t = (layout : Layout) (h : List Event) → Seated layout s h → Reaches layout (h ++ close_events h) s t × (taken ≡ close_answer h)
 
 -- a drain began, where the queue was open, and ended, where nothing is left and the queue drained
 abbrev pub DrainsNone : Bool → Seats → Seats → Type 0
 DrainsNone is_empty s t =
-    (layout : Layout) (h : List Event) → Seated layout s h → Goes layout (end_drain (begin_drain h)) s t × (is_empty ≡ (left_in (begin_drain h) == 0))
+    (layout : Layout) (h : List Event) → Seated layout s h → Reaches layout (end_drain (begin_drain h)) s t × (is_empty ≡ (left_in (begin_drain h) == 0))
 
 -- there is a list for each item, of items
 pub record HasLists (layout : Layout) (s : Seats) : Type 0 where

@@ -37,11 +37,11 @@ pub record IsAt (queue : QueueId) (layout : Layout) (c : ℕ) (h : List Event) (
   pub mine : own c k.seen ≡ own c h
 
 -- the two seats of a worker
-abbrev pub sender_of : {W : Type 0} → WorkerState W → Known
-sender_of w = record { queue = w.queue; layout = w.layout; number = w.number; seen = w.seen }
+abbrev pub worker_sender : {W : Type 0} → WorkerState W → Known
+worker_sender w = record { queue = w.queue; layout = w.layout; number = w.number; seen = w.seen }
 
-abbrev pub owner_of : {W : Type 0} → WorkerState W → Known
-owner_of w = record { queue = w.queue; layout = w.layout; number = owner_seat; seen = w.seen }
+abbrev pub worker_owner : {W : Type 0} → WorkerState W → Known
+worker_owner w = record { queue = w.queue; layout = w.layout; number = owner_seat; seen = w.seen }
 
 -- what stands on the table, the tick and the next arming are the same
 abbrev pub IsSameTable : DelayState → DelayState → Type 0
@@ -60,8 +60,8 @@ pub record AreOne (s : Seats) : Type 0 where
 
 -- each seat hears this, and makes no event
 pub record Gathers (told : List Event) (old new : Seats) : Type 0 where
-  pub sender : Hears told (sender_of old.worker) (sender_of new.worker)
-  pub owner : Hears told (owner_of old.worker) (owner_of new.worker)
+  pub sender : Hears told (worker_sender old.worker) (worker_sender new.worker)
+  pub owner : Hears told (worker_owner old.worker) (worker_owner new.worker)
   pub delay : Hears told old.delay.sender new.delay.sender
   pub senders : AllHear told old.senders.items new.senders.items
   pub work : IsSameWork old.worker new.worker
@@ -82,8 +82,8 @@ pub record Seated (layout : Layout) (s : Seats) (h : List Event) : Type 0 where
   pub legal : IsLegal wide h
   pub count : length s.senders.items ≡ layout.senders
   pub senders : (i : ℕ) (d : Known) → i < layout.senders → IsAt queue wide i h (slice_index_or s.senders.items i d)
-  pub sender : IsAt queue wide layout.senders h (sender_of s.worker)
-  pub owner : IsAt queue wide owner_seat h (owner_of s.worker)
+  pub sender : IsAt queue wide layout.senders h (worker_sender s.worker)
+  pub owner : IsAt queue wide owner_seat h (worker_owner s.worker)
   pub delay : IsAt queue wide (layout.senders + 1) h s.delay.sender
   pub tries : s.worker.tries ≡ 1
   pub seen : IsLegal wide s.worker.seen

@@ -1,6 +1,6 @@
 use Rattle.std.proofs.Common.{rules, ◌≡◌}
 use Rattle.example_log.specs.declared.message.Log.TheVariants.{Access, Errors}
-use Rattle.example_log.proofs.Ending.{has_lines}
+use Rattle.example_log.proofs.Lines.{has_lines}
 use Rattle.example_log.proofs.logs.write.Goals as goal
 
 pub returns-clause-access : goal.returns-clause-access

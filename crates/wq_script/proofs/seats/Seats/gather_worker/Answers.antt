@@ -1,5 +1,5 @@
 use Rattle.wq_script.proofs.Common.{List, [], set, arith, sym, ap, ◌∙◌, subst, with_item, get_or-set_same, IsPrefix, Event, Known, Seats, StaysSilent, AllHear}
-use Rattle.wq_script.proofs.Common.{Gathers, sender_of, owner_of, prefix_on}
+use Rattle.wq_script.proofs.Common.{Gathers, worker_sender, worker_owner, prefix_on}
 use Rattle.wq_script.proofs.Hearing.{stays_on, sees_stays, moves_stay, all_hear_nothing, all_hear_set, all_hear_less, all_hear_on, queue_heard}
 use Rattle.wq_script.proofs.seats.Seats.gather_worker.Goals as goal
 
@@ -39,12 +39,12 @@ returns c =
     let g : Gathers k.seen mid t = subst (λ (v : Known). Gathers v.seen mid t) (get_or-set_same q 0 k x c.requires.some) (c.gather.ensures.sender x) in
     record {
       sender = record {
-        stays = stays_on (sender_of s.worker) (sender_of w) (sender_of t.worker) both.0 g.sender.stays;
+        stays = stays_on (worker_sender s.worker) (worker_sender w) (worker_sender t.worker) both.0 g.sender.stays;
         knows =
             prefix_on told k.seen t.worker.seen knows g.sender.knows;
       };
       owner = record {
-        stays = stays_on (owner_of s.worker) (owner_of w) (owner_of t.worker) both.1 g.owner.stays;
+        stays = stays_on (worker_owner s.worker) (worker_owner w) (worker_owner t.worker) both.1 g.owner.stays;
         knows =
             prefix_on told k.seen t.worker.seen knows g.owner.knows;
       };

@@ -1,9 +1,9 @@
 use Rattle.std.specs.Prelude.{◌≡◌}
 use Rattle.wq_live.specs.Known.{IsSame}
 use Rattle.wq_ready.specs.Known.{IsCallerOf}
-use Rattle.example_log.specs.Sent.{brought_by}
-use Rattle.example_log.proofs.clients.queue.Given as goal
+use Rattle.example_log.specs.Sent.{own_lines}
+use Rattle.example_log.proofs.sending.queue.Given as goal
 
 abbrev pub invariant-loop : goal.invariant-loop
 invariant-loop g l = IsSame l.fn.sender.known l.sender.known × IsCallerOf l.pool.ready l.caller
-    × (brought_by l.sender ≡ brought_by l.fn.sender) × (l.line ≡ l.fn.line)
+    × (own_lines l.sender ≡ own_lines l.fn.sender) × (l.line ≡ l.fn.line)

@@ -1,6 +1,6 @@
 use Rattle.std.proofs.Common.{ap, ◌∙◌}
 use Rattle.wq_live.specs.OwnBrought.{own_brought}
-use Rattle.example_log.proofs.clients.queue_once.Goals as goal
+use Rattle.example_log.proofs.sending.queue_once.Goals as goal
 
 pub returns-clause-brought : goal.returns-clause-brought
 returns-clause-brought g c =

@@ -4,16 +4,17 @@ use Rattle.std.proofs.lemmas.Iterator.Adapters.{YieldsList-from_vec}
 use Rattle.std.proofs.lemmas.Iterator.Consumers.{YieldsList-turn}
 use Rattle.std.specs.Vec.Iter.{into_iter_items}
 use Rattle.wq_live.specs.Known.{IsSame}
-use Rattle.example_log.specs.declared.clients.Client.{Client}
+use Rattle.example_log.specs.declared.sending.Client.{Client}
 use Rattle.example_log.specs.declared.message.Log.TheVariants.{Access, Errors}
-use Rattle.example_log.specs.Sent.{brought_by, lines_to, HasSent}
-use Rattle.example_log.proofs.Sending.{given_first, has_sent, none_more, same_on, sent_more}
-use Rattle.example_log.proofs.clients.send_all.Goals as goal
-use Rattle.example_log.proofs.clients.send_all.Goals.{in-None, in-Some+then-not-send}
+use Rattle.example_log.specs.Sent.{own_lines, lines_to, HasSent}
+use Rattle.example_log.proofs.Messages.{given_first, has_sent, none_more, same_on, sent_more}
+use Rattle.example_log.proofs.sending.send_all.Goals as goal
+use Rattle.example_log.proofs.sending.send_all.Goals.{in-None, in-Some+then-not-send}
 
 pub loop-message-preserved : goal.loop-message-preserved
 loop-message-preserved g c =
-    let l = c.loop-message in let i = l.invariant in let m = c.in-Some.message in let e = c.send.ensures in let into = c.into_iter-message-iterator.ensures.into_iter_gives in
+    let l = c.loop-message in let i = l.invariant in let m = c.in-Some.message in let e = c.send.ensures in
+    let into = c.into_iter-message-iterator.ensures.into_iter_gives in
     let turn = YieldsList-turn (YieldsList-from_vec {s = c.into_iter-message-iterator.result} c.args.messages.items into.0 (into.1 ∙ c.args.messages.ok.0))
     l.yielded l.message-iterator l.yielded_by c.next.result c.next.new.self m c.in-Some.is c.next.ensures.steps in (
       tt,
@@ -24,8 +25,8 @@ loop-message-preserved g c =
       c.item_behind-item.ensures.within.0,
       c.item_behind-item.ensures.within.1,
       omega (arith, i.7, turn.0, length-append l.yielded (m ∷ []), c.args.messages.ok.0, c.args.messages.small),
-      sent_more Access l.yielded m c.send.result (brought_by l.client.access) (brought_by c.send.new.client.access) c.if-not-send.false i.8 e.to_access,
-      sent_more Errors l.yielded m c.send.result (brought_by l.client.errors) (brought_by c.send.new.client.errors) c.if-not-send.false i.9 e.to_errors,
+      sent_more Access l.yielded m c.send.result (own_lines l.client.access) (own_lines c.send.new.client.access) c.if-not-send.false i.8 e.to_access,
+      sent_more Errors l.yielded m c.send.result (own_lines l.client.errors) (own_lines c.send.new.client.errors) c.if-not-send.false i.9 e.to_errors,
     )
 
 pub returns : goal.returns
@@ -33,7 +34,7 @@ returns g c =
     let l = c.loop-message in let i = l.invariant in let into = c.into_iter-message-iterator in let messages = c.args.messages.items in
     let Left : Client → Type 0 = λ now. HasSent c.args.client messages (record { access = now.access; errors = now.errors; count = l.count }) in
     let sent : (now : Client) → IsSame c.args.client.access.known now.access.known → IsSame c.args.client.errors.known now.errors.known
-    → brought_by now.access ≡ map Some (lines_to Access l.yielded) → brought_by now.errors ≡ map Some (lines_to Errors l.yielded) → Left now =
+    → own_lines now.access ≡ map Some (lines_to Access l.yielded) → own_lines now.errors ≡ map Some (lines_to Errors l.yielded) → Left now =
     λ now one two access errors.
     has_sent c.args.client (record { access = now.access; errors = now.errors; count = l.count }) messages l.yielded (into_iter_items l.message-iterator) i.7
     (sym into.ensures.into_iter_gives.0 ∙ given_first into.result l.yielded l.message-iterator l.yielded_by) one two access errors in
@@ -43,6 +44,8 @@ returns g c =
           subst Left (sym w.client-is) (sent now
           (same_on c.args.client.access.known l.client.access.known now.access.known i.2 e.same_access)
           (same_on c.args.client.errors.known l.client.errors.known now.errors.known i.3 e.same_errors)
-          (none_more Access m w.send.result (brought_by l.client.access) (brought_by now.access) (map Some (lines_to Access l.yielded)) w.if-not-send.true i.8 e.to_access)
-          (none_more Errors m w.send.result (brought_by l.client.errors) (brought_by now.errors) (map Some (lines_to Errors l.yielded)) w.if-not-send.true i.9 e.to_errors))
+          (none_more Access m w.send.result (own_lines l.client.access) (own_lines now.access)
+          (map Some (lines_to Access l.yielded)) w.if-not-send.true i.8 e.to_access)
+          (none_more Errors m w.send.result (own_lines l.client.errors) (own_lines now.errors)
+          (map Some (lines_to Errors l.yielded)) w.if-not-send.true i.9 e.to_errors))
     ]

@@ -1,6 +1,6 @@
 use Rattle.std.proofs.Common.{◌∙◌, sym}
 use Rattle.wq_live.specs.OwnBrought.{own_brought}
-use Rattle.example_log.proofs.logs.meet.Goals as goal
+use Rattle.example_log.proofs.ending.meet.Goals as goal
 
 pub returns-clause-of_first : goal.returns-clause-of_first
 returns-clause-of_first c = let s = c.args.first.now in let m = c.meet.ensures in

@@ -6,17 +6,17 @@ use Rattle.std.specs.Iterator.{Yields}
 use Rattle.std.specs.Vec.Iter.{into_iter_items, into_iter_steps}
 use Rattle.std.specs.declared.vec.IntoIter.{IntoIter}
 use Rattle.wq_live.specs.Known.{Known, IsSame}
-use Rattle.example_log.specs.declared.clients.Client.{Client}
-use Rattle.example_log.specs.declared.clients.Sent.{Sent}
+use Rattle.example_log.specs.declared.sending.Client.{Client}
+use Rattle.example_log.specs.declared.sending.Sent.{Sent}
 use Rattle.example_log.specs.declared.message.Log.{Log}
 use Rattle.example_log.specs.declared.message.Log.TheVariants.{Access, Errors}
 use Rattle.example_log.specs.declared.message.Message.{Message}
 use Rattle.example_log.specs.Text.{Line}
-use Rattle.example_log.specs.Sent.{brought_by, brings, HasSent, line_to, lines_to}
+use Rattle.example_log.specs.Sent.{own_lines, brings, HasSent, line_to, lines_to}
 
 -- a message more, which was queued
-pub sent_more : (log : Log) (ms : List Message) (m : Message) (q : Bool) (old new : List (Option Line)) → q ≡ true → old ≡ map Some (lines_to log ms)
-    → new ≡ old ++ brings log m q → new ≡ map Some (lines_to log (ms ++ m ∷ []))
+pub sent_more : (log : Log) (ms : List Message) (m : Message) (q : Bool) (old new : List (Option Line))
+    → q ≡ true → old ≡ map Some (lines_to log ms) → new ≡ old ++ brings log m q → new ≡ map Some (lines_to log (ms ++ m ∷ []))
 sent_more log ms m q old new queued was is =
     is ∙ ((λ i. was i ++ brings log m (queued i)) ∙ (sym (map-append Some (lines_to log ms) (lines_to log (m ∷ [])))
     ∙ ap (map Some) (sym (filter_map-append (line_to log) ms (m ∷ [])))))
@@ -29,7 +29,8 @@ same_on a b c one two = record {
 }
 
 -- what the iterator of a vector has given comes first among its items
-pub given_first : {X Z : Type 0} (s : IntoIter X Z) (xs : List X) (t : IntoIter X Z) → Yields into_iter_steps s xs t → into_iter_items s ≡ xs ++ into_iter_items t
+pub given_first : {X Z : Type 0} (s : IntoIter X Z) (xs : List X) (t : IntoIter X Z) → Yields into_iter_steps s xs t
+    → into_iter_items s ≡ xs ++ into_iter_items t
 given_first s [] t gives = ap into_iter_items gives
 given_first s (x ∷ xs) t gives = gives.1.0 ∙ ap (λ more. x ∷ more) (given_first gives.0 xs t gives.2)
 
@@ -38,9 +39,9 @@ pub first_of : {X : Type 0} (n : ℕ) (all xs ys : List X) → n ≡ length xs �
 first_of n all xs ys count is = sym (take_at xs ys n (sym count)) ∙ ap (take n) (sym is)
 
 -- the client has sent the messages that came first
-pub has_sent : (client : Client) (sent : Sent) (all ms rest : List Message) → sent.count ≡ length ms → all ≡ ms ++ rest → IsSame client.access.known sent.access.known
-    → IsSame client.errors.known sent.errors.known → brought_by sent.access ≡ map Some (lines_to Access ms) → brought_by sent.errors ≡ map Some (lines_to Errors ms)
-    → HasSent client all sent
+pub has_sent : (client : Client) (sent : Sent) (all ms rest : List Message) → sent.count ≡ length ms → all ≡ ms ++ rest
+    → IsSame client.access.known sent.access.known → IsSame client.errors.known sent.errors.known
+    → own_lines sent.access ≡ map Some (lines_to Access ms) → own_lines sent.errors ≡ map Some (lines_to Errors ms) → HasSent client all sent
 has_sent client sent all ms rest count is one two access errors = record {
   same_access = one;
   same_errors = two;
@@ -49,5 +50,6 @@ has_sent client sent all ms rest count is one two access errors = record {
 }
 
 -- a message that was not queued brings nothing
-pub none_more : (log : Log) (m : Message) (q : Bool) (old new was : List (Option Line)) → q ≡ false → old ≡ was → new ≡ old ++ brings log m q → new ≡ was
+pub none_more : (log : Log) (m : Message) (q : Bool) (old new was : List (Option Line)) → q ≡ false → old ≡ was
+    → new ≡ old ++ brings log m q → new ≡ was
 none_more log m q old new was left same is = is ∙ (ap (λ b. old ++ brings log m b) left ∙ (append-nil old ∙ same))

@@ -1,0 +1,71 @@
+//! A log that has come to its end.
+ghost use Rattle.std.specs.Prelude.{◌≡◌, IfOk};
+ghost use Rattle.wq_pool.specs.History.{accepted};
+ghost use Rattle.wq_words.specs.Legal.{IsComplete};
+ghost use Rattle.wq_words.specs.Headline.{KeepsHeadline};
+ghost use Rattle.wq_words.specs.Valued.{IsLegalWith, with_values};
+ghost use Rattle.wq_live.specs.OwnBrought.{own_brought};
+ghost use Rattle.wq_worker.specs.Returned.{pairs_of};
+ghost use Rattle.example_log.specs.Sent.{own_lines};
+ghost use Rattle.example_log.specs.Text.{text_of};
+
+use crate::error::LogError;
+use crate::message::Line;
+use crate::writer::Writer;
+use wq_live::{ValueSender, own_values_stay};
+use wq_worker::ValueBook;
+
+/// A log that has come to its end: its text, its queue's book, and how many of its messages each client sent.
+#[derive(Drop)]
+pub struct Written {
+    pub text: Vec<u8>,
+    pub book: ValueBook<Line>,
+    pub of_first: usize,
+    pub of_second: usize,
+}
+
+// Both clients' senders of a log meet its book, so that all that they sent is in it.
+fn meet(book: &mut ValueBook<Line>, first: &mut ValueSender<Line>, second: &mut ValueSender<Line>)
+    requires { (first.old.known.queue ≡ book.old.book.queue) × (second.old.known.queue ≡ book.old.book.queue) }
+    ensures layout { book.new.book.layout ≡ book.old.book.layout }
+    ensures accepted { accepted book.new.book.seen ≡ accepted book.old.book.seen }
+    ensures brought { book.new.brought ≡ book.old.brought }
+    ensures of_first { own_brought first.old.known.number book.new.book.seen book.new.brought ≡ own_lines first.old }
+    ensures of_second { own_brought second.old.known.number book.new.book.seen book.new.brought ≡ own_lines second.old }
+{
+    own_values_stay::<Line>();
+    book.meet(first);
+    book.meet(second);
+}
+
+/// A log's text, and the book that its clients' senders have met.
+pub(crate) fn ended(
+    finished: (Writer, ValueBook<Line>),
+    mut first: ValueSender<Line>,
+    mut second: ValueSender<Line>,
+    counts: (usize, usize),
+) -> Result<Written, LogError>
+    requires queue { (first.known.queue ≡ finished.1.book.queue) × (second.known.queue ≡ finished.1.book.queue) }
+    requires ran { finished.0.ran ≡ pairs_of (accepted finished.1.book.seen) finished.1.brought }
+    ensures layout { IfOk result (λ w. w.book.book.layout ≡ finished.1.book.layout) }
+    ensures legal { IfOk result (λ w. IsLegalWith w.book.book.layout (with_values w.book.book.seen w.book.brought)) }
+    ensures complete { IfOk result (λ w. IsComplete w.book.book.seen × KeepsHeadline w.book.book.seen) }
+    ensures text { IfOk result (λ w. w.text.items ≡ text_of (pairs_of (accepted w.book.book.seen) w.book.brought)) }
+    ensures of_first { IfOk result (λ w. own_brought first.known.number w.book.book.seen w.book.brought ≡ own_lines first) }
+    ensures of_second { IfOk result (λ w. own_brought second.known.number w.book.book.seen w.book.brought ≡ own_lines second) }
+    ensures counts { IfOk result (λ w. (w.of_first ≡ counts.0) × (w.of_second ≡ counts.1)) }
+{
+    let (writer, mut book) = finished;
+    let Some(text) = writer.into_text() else {
+        return Err(LogError::Memory);
+    };
+    meet(&mut book, &mut first, &mut second);
+    book.legal();
+    let (of_first, of_second) = counts;
+    Ok(Written {
+        text,
+        book,
+        of_first,
+        of_second,
+    })
+}
