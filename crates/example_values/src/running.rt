@@ -67,8 +67,10 @@ fn queue_all<R: Threads + Wait + Sync>(
 ) -> (Told, Told)
     requires items { (each * 2 ≤ senders.first.known.layout.items) × (each * 2 ≤ senders.second.known.layout.items) }
     requires new { (senders.first.known.seen ≡ []) × (senders.first.brought ≡ []) × (senders.second.known.seen ≡ []) × (senders.second.brought ≡ []) }
-    ensures first { IsSame senders.first.known result.0.sender.known × (numbers_of (own_brought senders.first.known.number result.0.sender.known.seen result.0.sender.brought) ≡ result.0.queued.items) }
-    ensures second { IsSame senders.second.known result.1.sender.known × (numbers_of (own_brought senders.second.known.number result.1.sender.known.seen result.1.sender.brought) ≡ result.1.queued.items) }
+    ensures first { IsSame senders.first.known result.0.sender.known
+        × (numbers_of (own_brought senders.first.known.number result.0.sender.known.seen result.0.sender.brought) ≡ result.0.queued.items) }
+    ensures second { IsSame senders.second.known result.1.sender.known
+        × (numbers_of (own_brought senders.second.known.number result.1.sender.known.seen result.1.sender.brought) ≡ result.1.queued.items) }
 {
     let Senders {
         first,
@@ -79,11 +81,13 @@ fn queue_all<R: Threads + Wait + Sync>(
         rt,
         move ||
             requires { (each * 2 ≤ first.known.layout.items) × (first.known.seen ≡ []) × (first.brought ≡ []) }
-            ensures { IsSame first.known result.sender.known × (numbers_of (own_brought first.known.number result.sender.known.seen result.sender.brought) ≡ result.queued.items) }
+            ensures { IsSame first.known result.sender.known
+                × (numbers_of (own_brought first.known.number result.sender.known.seen result.sender.brought) ≡ result.queued.items) }
         { queue_own(rt, alloc, first, 0, each, 1_000, unparker) },
         move ||
             requires { (each * 2 ≤ second.known.layout.items) × (second.known.seen ≡ []) × (second.brought ≡ []) }
-            ensures { IsSame second.known result.sender.known × (numbers_of (own_brought second.known.number result.sender.known.seen result.sender.brought) ≡ result.queued.items) }
+            ensures { IsSame second.known result.sender.known
+                × (numbers_of (own_brought second.known.number result.sender.known.seen result.sender.brought) ≡ result.queued.items) }
         { queue_own(rt, alloc, second, each, each * 2, 2_000, unparker) },
     );
     stop(last, unparker);

@@ -12,7 +12,8 @@ use Rattle.wq_words.specs.History.{accepted, begun}
 use Rattle.wq_words.proofs.Closed.{closed_shuts}
 use Rattle.wq_live.specs.Known.{Known, Sees}
 use Rattle.wq_live.proofs.Final.{final, all_run}
-use Rattle.wq_ledger.proofs.Common.{◌≡◌, ℕ, List, [], ◌++◌, length, Option, refl, sym, ap, ◌∙◌, subst, arith, Layout, Event, ended, is_close, IsClosed, IsLegal, IsComplete, Grows}
+use Rattle.wq_ledger.proofs.Common.{◌≡◌, ℕ, List, [], ◌++◌, length, Option, refl, sym, ap, ◌∙◌, subst, arith}
+use Rattle.wq_ledger.proofs.Common.{Layout, Event, ended, is_close, IsClosed, IsLegal, IsComplete, Grows}
 use Rattle.wq_ledger.proofs.Common.{count_by-append, sender_counts, LedgerState, IsLedgerOf, IsSettled}
 
 pub still_closed : (v w : List Event) → IsClosed v → IsClosed (v ++ w)
@@ -72,4 +73,5 @@ brought_still s c n v w bs cs g still front many =
   where
     none : accepted (own s g.new) ≡ []
     none = nothing_more (accepted (own s v)) (accepted (own s g.new))
-        (sym (accepted-append (own s v) (own s g.new)) ∙ (ap accepted (sym (own-append s v g.new)) ∙ (ap (λ (h : List Event). accepted (own s h)) (sym g.is) ∙ still.of_each s)))
+        (sym (accepted-append (own s v) (own s g.new)) ∙ (ap accepted (sym (own-append s v g.new)) ∙
+        (ap (λ (h : List Event). accepted (own s h)) (sym g.is) ∙ still.of_each s)))

@@ -162,7 +162,8 @@ module _ {V W : Type 0} (log given : W → List (ℕ × V)) (takes : W → ℕ �
       runs_still =
           (advance_stays tries (numbers_in ps) (numbers_in left) old.known mid.known (settled_rest r ps left u w old mid s)).running_same ∙ runs
 
-      pub owes_pairs : r ≡ false → OwesBy (MayLeave may takes) (GivesBack takes) (value_state_of old tries ps u).worker k (value_state_of mid tries left w).worker
+      pub owes_pairs : r ≡ false
+          → OwesBy (MayLeave may takes) (GivesBack takes) (value_state_of old tries ps u).worker k (value_state_of mid tries left w).worker
       owes_pairs owing =
           advance_owes (MayLeave may takes) (GivesBack takes) k tries (numbers_in ps) (numbers_in left) u w old.known mid.known
           (settled_gives r ps left u w old mid s) runs (settled_left r ps left u w old mid s owing) (settled_rest r ps left u w old mid s)

@@ -55,5 +55,6 @@ pub values_less : {V : Type 0} (q : QueueId) (l : Layout) (m : ℕ) (xs ys : Lis
 values_less {V} q l m xs ys b made one =
     let row = λ (n : ℕ). map (knowing_nothing {V = V}) (new_senders q l n) in
     let count : m ≡ length ys + 1 =
-    sym (length-new_senders q l m) ∙ (sym (length-map (new_senders q l m) (knowing_nothing {V = V})) ∙ (ap length (sym made ∙ one) ∙ length-append ys (b ∷ []))) in
+    sym (length-new_senders q l m) ∙ (sym (length-map (new_senders q l m) (knowing_nothing {V = V})) ∙
+    (ap length (sym made ∙ one) ∙ length-append ys (b ∷ []))) in
     ends_alike ys (row (length ys)) b (knowing_nothing (new_sender q l (length ys))) (sym one ∙ (made ∙ (ap row count ∙ sym (values-more V q l (length ys)))))

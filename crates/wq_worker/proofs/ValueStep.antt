@@ -50,7 +50,8 @@ module _ {V W : Type 0} (given : W → List (ℕ × V)) (may : W → ℕ → V �
   settles_by _ a b some s = s
 
   -- what a number brought is so still where more was brought
-  asks_on : (a m b : ValueWorkerState V W) (ps : List (ℕ × V)) (u : W) (es : List Event) → Learnt (owner_in m) (owner_in b) → AsksFor given may takes a m ps u es
+  asks_on : (a m b : ValueWorkerState V W) (ps : List (ℕ × V)) (u : W) (es : List Event) → Learnt (owner_in m) (owner_in b)
+      → AsksFor given may takes a m ps u es
       → AsksFor given may takes a b ps u es
   asks_on a m b ps u es more (item j v idle brought ran is) =
       item j v idle (slice_get-prefix m.brought b.brought (length (begun a.worker.seen)) (Some v) more.more brought) ran is

@@ -21,7 +21,8 @@ abbrev pub values_in : {V : Type 0} → List (ℕ × V) → List (Option V)
 values_in ps = map (λ p. Some p.1) ps
 
 -- what a run may answer by its numbers, and what it and the givings back of its step may leave of the work
-pub record MayLeave {V W : Type 0} (may : W → ℕ → V → List (ℕ × V) → W → Type 0) (takes : W → ℕ → V → W → Type 0) (a : W) (k : ℕ) (f : List ℕ) (b : W) : Type 0 where
+pub record MayLeave {V W : Type 0} (may : W → ℕ → V → List (ℕ × V) → W → Type 0) (takes : W → ℕ → V → W → Type 0)
+    (a : W) (k : ℕ) (f : List ℕ) (b : W) : Type 0 where
   pub value : V
   pub pairs : List (ℕ × V)
   pub ran : W

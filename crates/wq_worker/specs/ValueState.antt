@@ -22,7 +22,10 @@ abbrev pub owner_in : {V W : Type 0} → ValueWorkerState V W → KnownWith V
 owner_in w = record { known = record { queue = w.worker.queue; layout = w.worker.layout; number = owner_seat; seen = w.worker.seen }; brought = w.brought }
 
 abbrev pub sender_in : {V W : Type 0} → ValueWorkerState V W → KnownWith V
-sender_in w = record { known = record { queue = w.worker.queue; layout = w.worker.layout; number = w.worker.number; seen = w.worker.seen }; brought = w.brought }
+sender_in w = record {
+  known = record { queue = w.worker.queue; layout = w.worker.layout; number = w.worker.number; seen = w.worker.seen };
+  brought = w.brought;
+}
 
 -- the pairs that have begun: each item with what its own queueing brought, in order
 abbrev pub ran_pairs : {V W : Type 0} → ValueWorkerState V W → List (ℕ × V)

@@ -54,9 +54,11 @@ module _ (V : RattleType) where
     clauses = f.clauses V 𝓛 mem run
 
     walks : (C : Calls 𝓤 H) (Λ : Loops 𝓤 H) (z : (walk_of 𝓛 ended stayed clauses).Ghost)
-        → ent 𝓤 ((walk_of 𝓛 ended stayed clauses).pre z) (WpFn 𝓤 H C Λ function ((walk_of 𝓛 ended stayed clauses).args z) ((walk_of 𝓛 ended stayed clauses).post z))
+        → ent 𝓤 ((walk_of 𝓛 ended stayed clauses).pre z)
+        (WpFn 𝓤 H C Λ function ((walk_of 𝓛 ended stayed clauses).args z) ((walk_of 𝓛 ended stayed clauses).post z))
     walks C Λ z =
-        qed 𝓛 ((raw (alive 𝓛 ended.signature z.0.0 z.0.1) ⊛ ‵ (owns (types_at ended.signature.params z.0.0) z.0.3 z.0.4)) ∷ raw ((clauses z.0.0 z.0.3).requires z.1) ∷ []) ∵
+        qed 𝓛 ((raw (alive 𝓛 ended.signature z.0.0 z.0.1) ⊛ ‵ (owns (types_at ended.signature.params z.0.0) z.0.3 z.0.4))
+        ∷ raw ((clauses z.0.0 z.0.3).requires z.1) ∷ []) ∵
         keep ! (0 ∷ []) $ split ! $ keep ! (0 ∷ []) $
         enter ! C Λ function [] _ $ alloc_all ! (λ l. pass_all ! refl tt $
         sets ! (agg ! (no_more !)) refl (tt, tt) $

@@ -42,5 +42,6 @@ returns-clause-brought g c =
 pub returns-clause-of_each : goal.returns-clause-of_each
 returns-clause-of_each g c s =
     let o = c.self.inside.owner in let m = c.meet_owner.ensures in let q = c.meet_owner.new.owner in
-    brought_still s o.known.number 0 o.known.seen q.known.seen o.brought q.brought m.that.grows (m.last c.self.invariant.complete) m.theirs.more m.theirs.was_whole ∙
+    brought_still s o.known.number 0 o.known.seen q.known.seen o.brought q.brought m.that.grows (m.last c.self.invariant.complete)
+    m.theirs.more m.theirs.was_whole ∙
     ap (λ (z : ValueBookState g.row.V.Denot). own_brought s z.book.seen z.brought) c.self.view_is

@@ -89,7 +89,8 @@ returns-clause-runs g c =
     let b : ValueWorkerState g.row.V.Denot g.row.W.Denot = value_state_of p i.tries q.new.left.pairs q.new.work in
     let runs : running i.pair.known.seen ≡ Some k = runs_at a c.args.self.now k c.self.view_is c.requires in
     let over = c.end_running.ensures.both k (runs_still w.log w.given w.takes i.tries w.may k _ _ _ _ _ _ _ runs q.ensures.settles) in
-    subst (λ (z : ValueWorkerState g.row.V.Denot g.row.W.Denot). RunsBy (MayLeave w.may w.takes) (GivesBack w.takes) c.of.result z.worker b.worker) c.self.view_is
+    subst (λ (z : ValueWorkerState g.row.V.Denot g.row.W.Denot). RunsBy (MayLeave w.may w.takes) (GivesBack w.takes) c.of.result z.worker b.worker)
+    c.self.view_is
     (runs_kind (MayLeave w.may w.takes) (GivesBack w.takes) k c.of.result c.layout.result a.worker b.worker
     (c.layout.ensures.layout ∙ (over.layout_is ∙ advance_layout _ _ _ _ _ (settled_rest w.log w.given w.takes i.tries _ _ _ _ _ _ _ q.ensures.settles)))
     c.of.ensures

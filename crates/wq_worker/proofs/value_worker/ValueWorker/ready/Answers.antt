@@ -35,7 +35,8 @@ returns-clause-outcome g c =
     let idle : ¬ IsRunning p.seen = rw (s.begun_same, s.ended_same) still in
     let a : ValueWorkerState g.row.V.Denot g.row.W.Denot = value_state_of i.pair i.tries i.left.pairs i.work in
     let w : ValueWorkerState g.row.V.Denot g.row.W.Denot = value_state_of c.take_next.new.pair i.tries i.left.pairs i.work in
-    subst (λ (z : ValueWorkerState g.row.V.Denot g.row.W.Denot). MatchOption c.take_next.result (IsUnready z.worker w.worker) (λ k. IsReady z.worker k w.worker))
+    subst (λ (z : ValueWorkerState g.row.V.Denot g.row.W.Denot).
+    MatchOption c.take_next.result (IsUnready z.worker w.worker) (λ k. IsReady z.worker k w.worker))
     c.self.view_is
     (ready_told a.worker w.worker c.take_next.result c.take_next.ensures.next c.take_next.ensures.nothing idle
     (moves_by (taking o.seen) 0 i.tries w.worker.unqueued w.worker.unqueued i.work i.work o p b) (refl, refl))

@@ -35,22 +35,26 @@ returns-clause-learnt g c =
 
 pub returns-clause-open : goal.returns-clause-open
 returns-clause-open g c =
-    runs_by_open (MayLeave g.W.ValueWork.may g.W.ValueWork.takes) (GivesBack g.W.ValueWork.takes) c.finish-2.result c.args.self.now.worker c.finish-2.new.self.worker
+    runs_by_open (MayLeave g.W.ValueWork.may g.W.ValueWork.takes) (GivesBack g.W.ValueWork.takes)
+    c.finish-2.result c.args.self.now.worker c.finish-2.new.self.worker
     (returns-clause-runs g c)
 
 pub returns-clause-unclosed : goal.returns-clause-unclosed
 returns-clause-unclosed g c =
-    runs_by_unclosed (MayLeave g.W.ValueWork.may g.W.ValueWork.takes) (GivesBack g.W.ValueWork.takes) c.finish-2.result c.args.self.now.worker
+    runs_by_unclosed (MayLeave g.W.ValueWork.may g.W.ValueWork.takes) (GivesBack g.W.ValueWork.takes)
+    c.finish-2.result c.args.self.now.worker
     c.finish-2.new.self.worker (returns-clause-runs g c)
 
 pub returns-clause-same : goal.returns-clause-same
 returns-clause-same g c =
-    runs_by_same (MayLeave g.W.ValueWork.may g.W.ValueWork.takes) (GivesBack g.W.ValueWork.takes) c.finish-2.result c.args.self.now.worker c.finish-2.new.self.worker
+    runs_by_same (MayLeave g.W.ValueWork.may g.W.ValueWork.takes) (GivesBack g.W.ValueWork.takes)
+    c.finish-2.result c.args.self.now.worker c.finish-2.new.self.worker
     (returns-clause-runs g c)
 
 pub returns-clause-legal : goal.returns-clause-legal
 returns-clause-legal g c =
-    runs_by_legal (MayLeave g.W.ValueWork.may g.W.ValueWork.takes) (GivesBack g.W.ValueWork.takes) c.finish-2.result c.args.self.now.worker c.finish-2.new.self.worker
+    runs_by_legal (MayLeave g.W.ValueWork.may g.W.ValueWork.takes) (GivesBack g.W.ValueWork.takes)
+    c.finish-2.result c.args.self.now.worker c.finish-2.new.self.worker
     (returns-clause-runs g c)
 
 pub returns-in_default-start-clause-runs : goal.returns-in_default-start-clause-runs
@@ -78,20 +82,24 @@ returns-in-Some-clause-settles g c =
 
 pub returns-in-Some-clause-open : goal.returns-in-Some-clause-open
 returns-in-Some-clause-open g c =
-    runs_by_open (MayLeave g.W.ValueWork.may g.W.ValueWork.takes) (GivesBack g.W.ValueWork.takes) c.finish.result c.args.self.now.worker c.finish.new.self.worker
+    runs_by_open (MayLeave g.W.ValueWork.may g.W.ValueWork.takes) (GivesBack g.W.ValueWork.takes)
+    c.finish.result c.args.self.now.worker c.finish.new.self.worker
     c.finish.ensures.runs
 
 pub returns-in-Some-clause-unclosed : goal.returns-in-Some-clause-unclosed
 returns-in-Some-clause-unclosed g c =
-    runs_by_unclosed (MayLeave g.W.ValueWork.may g.W.ValueWork.takes) (GivesBack g.W.ValueWork.takes) c.finish.result c.args.self.now.worker c.finish.new.self.worker
+    runs_by_unclosed (MayLeave g.W.ValueWork.may g.W.ValueWork.takes) (GivesBack g.W.ValueWork.takes)
+    c.finish.result c.args.self.now.worker c.finish.new.self.worker
     c.finish.ensures.runs
 
 pub returns-in-Some-clause-same : goal.returns-in-Some-clause-same
 returns-in-Some-clause-same g c =
-    runs_by_same (MayLeave g.W.ValueWork.may g.W.ValueWork.takes) (GivesBack g.W.ValueWork.takes) c.finish.result c.args.self.now.worker c.finish.new.self.worker
+    runs_by_same (MayLeave g.W.ValueWork.may g.W.ValueWork.takes) (GivesBack g.W.ValueWork.takes)
+    c.finish.result c.args.self.now.worker c.finish.new.self.worker
     c.finish.ensures.runs
 
 pub returns-in-Some-clause-legal : goal.returns-in-Some-clause-legal
 returns-in-Some-clause-legal g c =
-    runs_by_legal (MayLeave g.W.ValueWork.may g.W.ValueWork.takes) (GivesBack g.W.ValueWork.takes) c.finish.result c.args.self.now.worker c.finish.new.self.worker
+    runs_by_legal (MayLeave g.W.ValueWork.may g.W.ValueWork.takes) (GivesBack g.W.ValueWork.takes)
+    c.finish.result c.args.self.now.worker c.finish.new.self.worker
     c.finish.ensures.runs

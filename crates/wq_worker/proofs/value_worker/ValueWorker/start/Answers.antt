@@ -65,7 +65,8 @@ returns-in_default-clause-outcome g c =
     e.seen e.others e.learnt e.handed e.value e.kind in
     let none : c.begin-number.result.1 ≡ None = search rules in
     let d : BeginsWith k None i.pair n = subst (λ (y : Option g.row.V.Denot). BeginsWith k y i.pair n) none b in
-    let idle : ¬ IsRunning i.pair.known.seen = subst (λ (z : ValueWorkerState g.row.V.Denot g.row.W.Denot). ¬ IsRunning z.worker.seen) (sym c.self.view_is) c.requires in
+    let idle : ¬ IsRunning i.pair.known.seen =
+    subst (λ (z : ValueWorkerState g.row.V.Denot g.row.W.Denot). ¬ IsRunning z.worker.seen) (sym c.self.view_is) c.requires in
     let w : ValueWorkerState g.row.V.Denot g.row.W.Denot = value_state_of n i.tries c.new.result.pairs i.work in
     subst (λ (z : ValueWorkerState g.row.V.Denot g.row.W.Denot). BeginsValue g.W.ValueWork.given g.W.ValueWork.may g.W.ValueWork.takes z k w) c.self.view_is
     (begins_other g.W.ValueWork.given g.W.ValueWork.may g.W.ValueWork.takes k i.tries i.left.pairs c.new.result.pairs i.work i.work i.pair n
@@ -95,7 +96,8 @@ returns-clause-outcome g c =
     let b = begins_with k c.begin-number.result.1 (g.W.ValueWork.log i.work) i.tries i.pair c.take_next.new.pair n c.self.invariant t.both t.kept
     e.seen e.others e.learnt e.handed e.value e.kind in
     let d : BeginsWith k (Some c.in-Some.value) i.pair n = subst (λ (y : Option g.row.V.Denot). BeginsWith k y i.pair n) c.in-Some.is b in
-    let idle : ¬ IsRunning i.pair.known.seen = subst (λ (z : ValueWorkerState g.row.V.Denot g.row.W.Denot). ¬ IsRunning z.worker.seen) (sym c.self.view_is) c.requires in
+    let idle : ¬ IsRunning i.pair.known.seen =
+    subst (λ (z : ValueWorkerState g.row.V.Denot g.row.W.Denot). ¬ IsRunning z.worker.seen) (sym c.self.view_is) c.requires in
     let w : ValueWorkerState g.row.V.Denot g.row.W.Denot = value_state_of n i.tries c.run.result.pairs c.run.new.self in
     subst (λ (z : ValueWorkerState g.row.V.Denot g.row.W.Denot). BeginsValue g.W.ValueWork.given g.W.ValueWork.may g.W.ValueWork.takes z k w) c.self.view_is
     (begins_item g.W.ValueWork.given g.W.ValueWork.may g.W.ValueWork.takes k i.tries i.left.pairs c.run.result.pairs i.work c.run.new.self i.pair n
