@@ -39,7 +39,7 @@ impl<V: Drop> ValueFollow<V> {
         }
     }
 
-    /// AsksFor for one item more, behind those that were asked for.
+    /// Asks for one item more, behind those that were asked for.
     ///
     /// # Errors
     /// The value, where four are asked for already.
