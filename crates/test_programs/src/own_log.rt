@@ -13,7 +13,11 @@ const MESSAGES: u8 = 60;
 const LENGTH: usize = 4;
 
 fn log_of(number: u8) -> Log {
-    if number % 3 == 0 { Log::Errors } else { Log::Access }
+    if number % 3 == 0 {
+        Log::Errors
+    } else {
+        Log::Access
+    }
 }
 
 /// A client's line of this number: the client, the number in two digits, and a line feed.

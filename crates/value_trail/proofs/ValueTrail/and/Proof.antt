@@ -40,8 +40,10 @@ and_spec 𝓤 𝓛 𝓜 𝓡 wired V LV =
     let s = f.ended V in let c = f.clauses V 𝓛 𝓜.mem 𝓡.returns in let W = walk_of 𝓛 s (stayed V) c in let 𝓣 = tables 𝓤 𝓛.H 𝓜 𝓡 𝓡.env in
     proved 𝓛 s (stayed V) c 𝓜 𝓡 (
       Goes-dropped 𝓛 3 (RefOf (0 ∷ []) tt (plain (λ _. made.the_row (param 0 V))) (λ _. tt)) yes (λ κs x w. refl),
-      (Goes-dropped 𝓛 3 (plain (λ _. u32)) yes (λ κs x w. refl),
-      (Goes-dropped 𝓛 3 (RefOf (1 ∷ []) tt (plain (λ _. param 0 V)) (λ _. tt)) yes (λ κs x w. refl), tt)),
+      (
+        Goes-dropped 𝓛 3 (plain (λ _. u32)) yes (λ κs x w. refl),
+        (Goes-dropped 𝓛 3 (RefOf (1 ∷ []) tt (plain (λ _. param 0 V)) (λ _. tt)) yes (λ κs x w. refl), tt),
+      ),
     )
     (f.Key.name (of_value V)) (inst_fn (of_value V) code.function) (code.unfolded 𝓤 𝓛.H 𝓜 𝓡 wired (V, tt))
     (λ κs. (shr_vals, (uint_vals w32, (shr_vals, tt))))
