@@ -69,6 +69,7 @@ fn drained_queue_is_served(rt: HostRuntime) {
     };
     expect_same(&rt, queue_item(&rt, &mut sender, 1), wakes);
     let finished = pool.finish(1).expect(&rt, "all finished");
+    expect_same(&rt, queue_item(&rt, &mut sender, 2), Answer::Closed);
     let [(ran, _)] = finished.as_slice() else {
         panic!(rt; "not one queue")
     };

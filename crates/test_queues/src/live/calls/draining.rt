@@ -15,6 +15,7 @@ fn phase(owner: &Owner) -> (bool, bool) {
 fn chain_within_the_drain<R: Abort>(rt: &R, owner: &mut Owner) {
     expect_same(rt, phase(owner), (true, false));
     expect_same(rt, begin(owner), Some(0));
+    expect_same(rt, phase(owner), (true, false));
     expect_same(rt, chain(owner, 2), Some(QUEUED));
     expect_same(rt, chain(owner, 2), Some(Answer::Pending));
     expect_same(rt, resume(owner), false);
