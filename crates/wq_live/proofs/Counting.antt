@@ -94,7 +94,13 @@ module _ (s n : ℕ) (v w : List Event) (old : SenderCounts) (is : old ≡ sende
       (none (is_closed_by s) (Hold s k) refl) (none (is_draining_by s) (Hold s k) refl) (none (is_contended_by s) (Hold s k) refl) old is
 
   pub counts_cancelled : (k : ℕ) → Grows s (Back s k Cancelled ∷ []) n v w → old ≡ sender_counts s w
-  counts_cancelled k g = (λ i. record { queued = sym same_q i; pending = sym same_p i; closed = sym same_l i; draining = sym same_r i; contended = sym same_k i })
+  counts_cancelled k g = (λ i. record {
+    queued = sym same_q i;
+    pending = sym same_p i;
+    closed = sym same_l i;
+    draining = sym same_r i;
+    contended = sym same_k i;
+  })
       ∙ counted s (Back s k Cancelled ∷ []) n v w 0 0 0 0 0 g (none (is_queued_by s) (Back s k Cancelled) refl)
       (none (is_pending_by s) (Back s k Cancelled) refl) (none (is_closed_by s) (Back s k Cancelled) refl)
       (none (is_draining_by s) (Back s k Cancelled) refl) (none (is_contended_by s) (Back s k Cancelled) refl) old is

@@ -162,7 +162,8 @@ module _ (s : Inside) (now : Known) (view : owner_view s ≡ now) (o : OwnsQueue
   -- where all has ended the owner knows that nothing waits or runs
   pub owner_rested : length (ended now.seen) ≡ length (accepted now.seen) → (s.row.count ≡ 0) × (is_some s.running ≡ false)
   owner_rested all = let p = s.chair.part in
-      let rest = rested_ended p.layout p.seen (kept_batch p.stage) (stands_legal p o.stands) lengths (there (λ h. length (ended h) ≡ length (accepted h)) all) in
+      let rest = rested_ended p.layout p.seen (kept_batch p.stage) (stands_legal p o.stands) lengths
+      (there (λ h. length (ended h) ≡ length (accepted h)) all) in
       (omega (arith, rest.0, o.has_row.row_is.count_is), idle_kept rest.1)
 
   -- where nothing waits or runs the owner knows it

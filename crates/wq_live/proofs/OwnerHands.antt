@@ -25,7 +25,7 @@ use Rattle.wq_table.specs.declared.table.Stage.{Stage}
 use Rattle.wq_table.specs.declared.table.Stage.TheVariants.{Owns}
 use Rattle.wq_table.specs.declared.values.ValuePart.{ValuePart}
 use Rattle.wq_table.specs.Law.{HasStage}
-use Rattle.wq_table.specs.SlotSteps.{Hand, IsBrought, Walks, Moves}
+use Rattle.wq_table.specs.SlotSteps.{Hand, IsBrought, Walks, MovesSlot}
 use Rattle.wq_table.specs.SlotChairs.{ValueStanding, part_in, ValueSteps, HasValue}
 use Rattle.wq_table.specs.Beside.{Learns, LearnsOrStays}
 use Rattle.wq_table.proofs.Changes.{changes}
@@ -36,7 +36,7 @@ use Rattle.wq_live.specs.Batch.{batch}
 use Rattle.wq_live.specs.Known.{Sees}
 use Rattle.wq_live.specs.Rest.{Rests}
 use Rattle.wq_live.specs.Sits.{owning, owner_view, OwnsQueue, Stands, OnlySees, kept_batch}
-use Rattle.wq_live.specs.Hands.{number_of, EachBrought, HasHand, OwnsSlots, OwnsEmptied, OwnsSeat, batch_behind}
+use Rattle.wq_live.specs.Hands.{slot_number, EachBrought, HasHand, OwnsSlots, OwnsEmptied, OwnsSeat, batch_behind}
 use Rattle.wq_live.proofs.Owned.{begun_on}
 use Rattle.wq_live.proofs.Tells.{TellsSo, Tells}
 use Rattle.wq_live.proofs.OwnerTells.{walk_tells, begin_tells, owner_batch}
@@ -103,12 +103,12 @@ module _ {V : Type 0} where
   each_append i b acs brs (x ∷ xs) d all more = (all.0, each_append i b acs brs xs d all.1 more)
 
   -- a number in a hand that is not k stands behind the place of k
-  later_than : (i b k : ℕ) (acs : List ℕ) (brs : List (Option V)) (hand : Hand V) → slice_get acs b ≡ Some k → times k (map number_of hand) ≡ 0
+  later_than : (i b k : ℕ) (acs : List ℕ) (brs : List (Option V)) (hand : Hand V) → slice_get acs b ≡ Some k → times k (map slot_number hand) ≡ 0
       → EachBrought i b acs brs hand → EachBrought i (b + 1) acs brs hand
   later_than i b k acs brs [] at none_there all = tt
   later_than i b k acs brs (x ∷ xs) at none_there all =
       let it = all.0 in
-      let count = times-cons k x.0 (map number_of xs) in
+      let count = times-cons k x.0 (map slot_number xs) in
       let later : b + 1 ≤ it.place = elim (cases_lt b it.place) [
         | inl lt ↦ omega arith
         | inr ge ↦
@@ -131,7 +131,7 @@ module _ {V : Type 0} where
 
   -- a step that moves no slot
   pub same_hand : (at : ℕ) (said : Option V) (step : Step) (word : ℕ) (old new : ValueStanding V) (s : ValueSteps at said step word old new)
-      → (Moves said step (part_in at old) s.steps.moves.makes.before word s.brought old.hand s.brought' new.hand → new.hand ≡ old.hand) → new.hand ≡ old.hand
+      → (MovesSlot said step (part_in at old) s.steps.moves.makes.before word s.brought old.hand s.brought' new.hand → new.hand ≡ old.hand) → new.hand ≡ old.hand
   same_hand at said step word old new s keeps = elim (cases_lt 0 old.queue.slots) [
     | inl lt ↦ keeps (s.moves lt)
     | inr ge ↦ s.rests (omega (arith, ge))
@@ -234,7 +234,7 @@ module _ {V : Type 0} where
     abbrev before : Machine
     before = s.steps.moves.makes.before
 
-    came : Moves None Walk (part_in 0 old) before word s.brought old.hand s.brought' new.hand
+    came : MovesSlot None Walk (part_in 0 old) before word s.brought old.hand s.brought' new.hand
         → Walks (Owns (Some k) walked batch) before s.brought old.hand s.brought' new.hand
     came moves = subst (λ (st : Stage). Walks st before s.brought old.hand s.brought' new.hand) stage moves
 

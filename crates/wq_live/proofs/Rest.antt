@@ -60,14 +60,14 @@ pub record Marks (p q : Part) : Type 0 where
   pub rested : HasRested q.seen
 
 -- the head was another
-pub record Leaves (p q : Part) : Type 0 where
+pub record FindsOther (p q : Part) : Type 0 where
   pub told : Tells [] p q
   pub refused : MayNotRest q.seen
 
 pub rest_tells : (word : ℕ) (p q : Part) → p.seat ≡ owner_seat → IsOwner p.stage → ¬ IsShut p.seen → Makes Rest word p q
-    → MatchBool (word == busy_word) (Marks p q) (Leaves p q)
+    → MatchBool (word == busy_word) (Marks p q) (FindsOther p q)
 rest_tells word p q mine is opens makes =
-    subst (λ (w : ℕ). MatchBool (w == busy_word) (Marks p q) (Leaves p q)) (sym makes.word_is)
+    subst (λ (w : ℕ). MatchBool (w == busy_word) (Marks p q) (FindsOther p q)) (sym makes.word_is)
     (go (head makes.before == busy_word) refl (after_rest makes.before p.seat p.stage is))
   where
     open_before : ¬ IsShut makes.before.history
@@ -86,7 +86,7 @@ rest_tells word p q mine is opens makes =
       };
     }
 
-    left : after makes.before (seat_at p.seat p.stage) Rest ≡ makes.before → head makes.before ≢ busy_word → Leaves p q
+    left : after makes.before (seat_at p.seat p.stage) Rest ≡ makes.before → head makes.before ≢ busy_word → FindsOther p q
     left e other = let m = makes.before in record {
       told = tells Rest word p q makes _ [] e refl (sym (append-nil m.history)) refl;
       refused = subst MayNotRest (sym (makes.seen_is ∙ ap (λ (x : Machine). x.history) e)) (no_rest m makes.sound open_before other);
@@ -94,14 +94,14 @@ rest_tells word p q mine is opens makes =
 
     go : (b : Bool) → (head makes.before == busy_word) ≡ b
         → after makes.before (seat_at p.seat p.stage) Rest ≡ (if b then happened (with_head makes.before idle_word) event.Rest else makes.before)
-        → MatchBool b (Marks p q) (Leaves p q)
+        → MatchBool b (Marks p q) (FindsOther p q)
     go true same e = marked e (eqb-true (head makes.before) busy_word same)
     go false other e = left e (eqb-false (head makes.before) busy_word other)
 
 -- the owner that makes the step, in state s before and with the chair q after
 module _ (s : Inside) (q : Standing) (now : Known) (word : ℕ) (view : owner_view s ≡ now) (o : OwnsQueue s) (queue : q.queue ≡ s.chair.queue)
     (makes : Makes Rest word s.chair.part q.part) (opens : ¬ IsShut now.seen) where
-  told : MatchBool (word == busy_word) (Marks s.chair.part q.part) (Leaves s.chair.part q.part)
+  told : MatchBool (word == busy_word) (Marks s.chair.part q.part) (FindsOther s.chair.part q.part)
   told = rest_tells word s.chair.part q.part o.number_is (pair_owner s.chair.part.stage (kept_batch s.chair.part.stage) o.has_row.stage_is)
       (subst (λ (v : Known). ¬ IsShut v.seen) (sym view) opens) makes
 
@@ -124,28 +124,28 @@ module _ (s : Inside) (q : Standing) (now : Known) (word : ℕ) (view : owner_vi
   pub rest_owns : OwnsQueue (record s { chair = q })
   rest_owns = go (word == busy_word) told
     where
-      go : (b : Bool) → MatchBool b (Marks s.chair.part q.part) (Leaves s.chair.part q.part) → OwnsQueue (record s { chair = q })
+      go : (b : Bool) → MatchBool b (Marks s.chair.part q.part) (FindsOther s.chair.part q.part) → OwnsQueue (record s { chair = q })
       go true m = owns (event.Rest ∷ []) m.told refl refl refl refl refl
       go false l = owns [] l.told refl refl refl refl refl
 
   pub rest_sees : Rests (word == busy_word) now (owner_view (record s { chair = q }))
   rest_sees = go (word == busy_word) told
     where
-      go : (b : Bool) → MatchBool b (Marks s.chair.part q.part) (Leaves s.chair.part q.part) → Rests b now (owner_view (record s { chair = q }))
+      go : (b : Bool) → MatchBool b (Marks s.chair.part q.part) (FindsOther s.chair.part q.part) → Rests b now (owner_view (record s { chair = q }))
       go true m = owner_sees (event.Rest ∷ []) 0 s (record s { chair = q }) now view o refl queue m.told
       go false l = owner_sees [] 0 s (record s { chair = q }) now view o refl queue l.told
 
   pub rest_rested : IsTrue (word == busy_word) → HasRested q.part.seen
   rest_rested = go (word == busy_word) told
     where
-      go : (b : Bool) → MatchBool b (Marks s.chair.part q.part) (Leaves s.chair.part q.part) → IsTrue b → HasRested q.part.seen
+      go : (b : Bool) → MatchBool b (Marks s.chair.part q.part) (FindsOther s.chair.part q.part) → IsTrue b → HasRested q.part.seen
       go true m is = m.rested
       go false l is = absurd (false≢true is)
 
   pub rest_refused : (word == busy_word) ≡ false → MayNotRest q.part.seen
   rest_refused = go (word == busy_word) told
     where
-      go : (b : Bool) → MatchBool b (Marks s.chair.part q.part) (Leaves s.chair.part q.part) → b ≡ false → MayNotRest q.part.seen
+      go : (b : Bool) → MatchBool b (Marks s.chair.part q.part) (FindsOther s.chair.part q.part) → b ≡ false → MayNotRest q.part.seen
       go true m is = absurd (false≢true (sym is))
       go false l is = l.refused
 

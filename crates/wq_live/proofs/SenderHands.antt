@@ -26,7 +26,7 @@ use Rattle.wq_table.specs.SlotSteps.{Hand, in_front}
 use Rattle.wq_table.specs.SlotChairs.{ValueStanding, ValueSteps, part_in, HasSlot, HasValue}
 use Rattle.wq_live.specs.Known.{Known}
 use Rattle.wq_live.specs.Tries.{Settles}
-use Rattle.wq_live.specs.Hands.{Leaves, HoldsSlot, IsToBring, IsEmptied, IsEmptiedAfter, Brings, PostsSlot, SettlesSlot, QueuesSlot}
+use Rattle.wq_live.specs.Hands.{LeavesHand, HoldsSlot, IsToBring, IsEmptied, IsEmptiedAfter, Brings, PostsSlot, SettlesSlot, QueuesSlot}
 use Rattle.wq_live.proofs.Tells.{push_tells, Wins, Loses}
 
 -- there are slots, or none
@@ -57,7 +57,7 @@ module _ {V : Type 0} where
       go true is = record { some = is; none = s.rests }
       go false is = by_slots a.queue.slots is s.rests
 
-  pub back_leaves : (at k word : ℕ) (why : Why) (said : Option V) (a b : ValueStanding V) → ValueSteps at said (Back k why) word a b → Leaves a b
+  pub back_leaves : (at k word : ℕ) (why : Why) (said : Option V) (a b : ValueStanding V) → ValueSteps at said (Back k why) word a b → LeavesHand a b
   back_leaves at k word why said a b s = record { some = λ some. (s.moves some).1; none = s.rests }
 
   module _ (at k w word : ℕ) (said : Option V) (a b : ValueStanding V) (linked : HasLinked w k (part_in at a).stage)
@@ -104,7 +104,7 @@ module _ {V : Type 0} where
   -- after steps that left the hand
   pub posts_from : (at k : ℕ) (a : Posted) (r s t : ValueStanding V) → s.queue ≡ r.queue → s.hand ≡ r.hand → PostsSlot at k a s t → PostsSlot at k a r t
   posts_from at k (posted.Queued is_first is_waking) r s t queue hand moves = subst
-      (λ (z : TableId × Hand V). Leaves (record r { queue = z.0; hand = z.1 }) t × (0 < z.0.slots → Brings at k is_first is_waking (in_front z.1) t))
+      (λ (z : TableId × Hand V). LeavesHand (record r { queue = z.0; hand = z.1 }) t × (0 < z.0.slots → Brings at k is_first is_waking (in_front z.1) t))
       (λ i. (queue i, hand i)) (record { some = moves.0.some; none = moves.0.none }, moves.1)
   posts_from at k posted.Closed r s t queue hand stays = stays ∙ hand
   posts_from at k posted.Draining r s t queue hand stays = stays ∙ hand
@@ -144,7 +144,7 @@ module _ {V : Type 0} where
     emptied_after posted.Contended same stays = emptied same stays
 
     -- what came to hand leaves it
-    again : t.queue ≡ s.queue → t.hand ≡ s.hand → (u : ValueStanding V) → Leaves t u → u.hand ≡ r.hand
+    again : t.queue ≡ s.queue → t.hand ≡ s.hand → (u : ValueStanding V) → LeavesHand t u → u.hand ≡ r.hand
     again same hand u leaves = by_slots r.queue.slots
         (λ some. leaves.some (subst (λ (q : TableId). 0 < q.slots) (sym same) (slots some)) ∙ ap rest (hand ∙ comes.some some))
         (λ none. leaves.none (ap (λ (q : TableId). q.slots) same ∙ none_there none) ∙ (hand ∙ comes.none none))

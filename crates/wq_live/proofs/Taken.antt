@@ -91,7 +91,8 @@ CutsAll e = (layout : Layout) (before after h : List Event) (ks js : List ℕ) (
     → TakesAll e count h
 
 -- each of the three does that may come before the close
-module _ (layout : Layout) (e : Event) (before after h : List Event) (ks js : List ℕ) (count : ℕ) (legal : IsLegal layout h) (is : h ≡ before ++ e ∷ after) where
+module _ (layout : Layout) (e : Event) (before after h : List Event) (ks js : List ℕ) (count : ℕ) (legal : IsLegal layout h)
+    (is : h ≡ before ++ e ∷ after) where
   whole : IsLegal layout (before ++ e ∷ after)
   whole = subst (IsLegal layout) is legal
 

@@ -10,7 +10,7 @@ use Rattle.wq_table.specs.Plays.{tail_of}
 use Rattle.wq_table.specs.SlotSteps.{Hand}
 use Rattle.wq_table.specs.SlotChairs.{ValueStanding, TurnsHand}
 use Rattle.wq_table.specs.Beside.{Learns}
-use Rattle.wq_live.specs.Hands.{number_of, HasHand, OwnsSlots, turns, TurnsHands}
+use Rattle.wq_live.specs.Hands.{slot_number, HasHand, OwnsSlots, turns, TurnsHands}
 use Rattle.wq_live.proofs.OwnerHands.{each_append}
 
 module _ {V : Type 0} where
@@ -20,9 +20,9 @@ module _ {V : Type 0} where
   turned_behind t (x ∷ xs) ys [] has = absurd (cc has.numbers_are)
   turned_behind t (x ∷ xs) ys (a ∷ c) has =
       let front : a.0 ≡ x = cc has.numbers_are in
-      let behind : map number_of c ≡ xs ++ ys = ap tail_of has.numbers_are in
+      let behind : map slot_number c ≡ xs ++ ys = ap tail_of has.numbers_are in
       let again : HasHand t (c ++ a ∷ []) (xs ++ (ys ++ x ∷ [])) = record {
-        numbers_are = map-append number_of c (a ∷ []) ∙ ((λ i. behind i ++ front i ∷ []) ∙ append_assoc xs ys (x ∷ []));
+        numbers_are = map-append slot_number c (a ∷ []) ∙ ((λ i. behind i ++ front i ∷ []) ∙ append_assoc xs ys (x ∷ []));
         each = each_append t.part.layout.items (length (begun t.part.seen)) (accepted t.part.seen) t.brought c (a ∷ []) has.each.1 (has.each.0, tt);
       } in
       subst (HasHand t (turns (length xs) (c ++ a ∷ []))) (append_assoc ys (x ∷ []) xs) (turned_behind t xs (ys ++ x ∷ []) (c ++ a ∷ []) again)

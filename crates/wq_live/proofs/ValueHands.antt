@@ -31,7 +31,7 @@ use Rattle.wq_live.specs.KnownWith.{IsChained}
 use Rattle.wq_live.specs.Batch.{batch, next_of}
 use Rattle.wq_live.specs.Sits.{Owning as Inside}
 use Rattle.wq_live.specs.Sits.{owner_view, OwnsQueue, Stands, OnlySees, kept_batch}
-use Rattle.wq_live.specs.Hands.{number_of, HasHand, OwnsSlots}
+use Rattle.wq_live.specs.Hands.{slot_number, HasHand, OwnsSlots}
 use Rattle.wq_live.proofs.Tells.{Tells}
 use Rattle.wq_live.proofs.OwnerTells.{owner_batch}
 use Rattle.wq_live.proofs.Hanging.{first_of_row}
@@ -58,7 +58,7 @@ module _ {V : Type 0} where
   pub front_slot : (k : ℕ) (ks : List ℕ) (it : ValueStanding V) → 0 < it.queue.slots → OwnsSlots it (k ∷ ks) → HasSlot k it.hand
   front_slot k ks it deep slots = go it.hand (slots.some deep).numbers_are
     where
-      go : (c : Hand V) → map number_of c ≡ k ∷ ks → HasSlot k c
+      go : (c : Hand V) → map slot_number c ≡ k ∷ ks → HasSlot k c
       go [] is = absurd (cc is)
       go (x ∷ xs) is = let same : x.0 ≡ k = cc is in (x.1, λ i. (same i, x.1) ∷ xs)
 
@@ -160,7 +160,7 @@ module _ {V : Type 0} where
           let now = hand_on old.first mid.first old.hand old.hand ns told.layout_is (ap length still)
           (accepted_on owner_seat (event.Chain k ∷ []) 0 old.first.part.seen mid.first.part.seen grows)
           (learns_more 0 old mid (learns_step 0 (Some v) (Chain k) w old mid s)) refl was in record {
-            numbers_are = map-append number_of old.hand ((k, Some v) ∷ []) ∙ ap (λ (l : List ℕ). l ++ k ∷ []) was.numbers_are;
+            numbers_are = map-append slot_number old.hand ((k, Some v) ∷ []) ∙ ap (λ (l : List ℕ). l ++ k ∷ []) was.numbers_are;
             each = each_append mid.first.part.layout.items (length (begun mid.first.part.seen)) (accepted mid.first.part.seen) mid.first.brought old.hand
                 ((k, Some v) ∷ []) now.each (chained_brought item, tt);
           }

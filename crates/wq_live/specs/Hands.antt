@@ -21,7 +21,7 @@ pub record Comes {V : Type 0} (k : ℕ) (y : Option V) (old new : ValueStanding 
   pub none : old.queue.slots ≡ 0 → new.hand ≡ old.hand
 
 -- the slot in front left the hand
-pub record Leaves {V : Type 0} (old new : ValueStanding V) : Type 0 where
+pub record LeavesHand {V : Type 0} (old new : ValueStanding V) : Type 0 where
   pub some : 0 < old.queue.slots → new.hand ≡ rest old.hand
   pub none : old.queue.slots ≡ 0 → new.hand ≡ old.hand
 
@@ -47,7 +47,7 @@ Brings at k is_first is_waking y it =
 -- tries to push k: the slot in front goes with it, and what lay in it was brought
 abbrev pub PostsSlot : {V : Type 0} → ℕ → ℕ → Posted → ValueStanding V → ValueStanding V → Type 0
 PostsSlot at k (posted.Queued is_first is_waking) old new =
-    Leaves old new × (0 < old.queue.slots → Brings at k is_first is_waking (in_front old.hand) new)
+    LeavesHand old new × (0 < old.queue.slots → Brings at k is_first is_waking (in_front old.hand) new)
 PostsSlot at k _ old new = new.hand ≡ old.hand
 
 -- the slot of k is empty, where tries did not push it
@@ -58,15 +58,15 @@ IsEmptiedAfter _ k it = IsEmptied k it
 -- a queueing after such tries: a number that was not pushed is given back
 abbrev pub SettlesSlot : {V : Type 0} → Posted → ValueStanding V → ValueStanding V → Type 0
 SettlesSlot (posted.Queued is_first is_waking) old new = new ≡ old
-SettlesSlot _ old new = Leaves old new
+SettlesSlot _ old new = LeavesHand old new
 
 -- a queueing of k that brought y
 abbrev pub QueuesSlot : {V : Type 0} → ℕ → ℕ → Option V → Answer → ValueStanding V → ValueStanding V → Type 0
 QueuesSlot at k y (answer.Queued is_first is_waking) old new = (new.hand ≡ old.hand) × (0 < old.queue.slots → Brings at k is_first is_waking y new)
 QueuesSlot at k y _ old new = new.hand ≡ old.hand
 
-abbrev pub number_of : {V : Type 0} → ℕ × Option V → ℕ
-number_of x = x.0
+abbrev pub slot_number : {V : Type 0} → ℕ × Option V → ℕ
+slot_number x = x.0
 
 -- in each slot lies what its number brought, at a place that has not begun
 abbrev pub EachBrought : {V : Type 0} → ℕ → ℕ → List ℕ → List (Option V) → Hand V → Type 0
@@ -75,7 +75,7 @@ EachBrought items b acs brs (x ∷ xs) = IsBrought items b acs brs x.0 x.1 × Ea
 
 -- the slots of these numbers, each with what its number brought
 pub record HasHand {V : Type 0} (t : ValuePart V) (hand : Hand V) (numbers : List ℕ) : Type 0 where
-  pub numbers_are : map number_of hand ≡ numbers
+  pub numbers_are : map slot_number hand ≡ numbers
   pub each : EachBrought t.part.layout.items (length (begun t.part.seen)) (accepted t.part.seen) t.brought hand
 
 -- these are the owner's slots, where the queue has slots

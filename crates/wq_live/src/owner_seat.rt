@@ -275,9 +275,11 @@ impl<V: Drop> OwnerSeat<V> {
     pub(crate) fn drained(&self) -> bool
         requires owns { OwnsSeat self.now }
         ensures drained { IsTrue result ↔ (IsDraining (owner_view (owning self.now)).seen × HasRunOut (owner_view (owning self.now)).seen) }
-        ensures all { IsTrue result → (ended (owner_view (owning self.now)).seen ≡ begun (owner_view (owning self.now)).seen) × (begun (owner_view (owning self.now)).seen ≡ accepted (owner_view (owning self.now)).seen) }
+        ensures all { IsTrue result → (ended (owner_view (owning self.now)).seen ≡ begun (owner_view (owning self.now)).seen)
+            × (begun (owner_view (owning self.now)).seen ≡ accepted (owner_view (owning self.now)).seen) }
         ensures rested { IsTrue result → (batch (owner_view (owning self.now)).seen ≡ []) × (¬ IsRunning (owner_view (owning self.now)).seen) }
-        ensures finished { IsDraining (owner_view (owning self.now)).seen → batch (owner_view (owning self.now)).seen ≡ [] → ¬ IsRunning (owner_view (owning self.now)).seen → IsTrue result }
+        ensures finished { IsDraining (owner_view (owning self.now)).seen → batch (owner_view (owning self.now)).seen ≡ []
+            → ¬ IsRunning (owner_view (owning self.now)).seen → IsTrue result }
     {
         if !self.is_draining() {
             return false;
@@ -336,7 +338,8 @@ impl<V: Drop> OwnerSeat<V> {
         requires runs { IsRunning (owner_view (owning self.old)).seen }
         ensures owns { OwnsSeat self.new }
         ensures learns { Learns 0 self.old.chair self.new.chair }
-        ensures seen { (k : ℕ) → running (owner_view (owning self.old)).seen ≡ Some k → Sees (End k ∷ []) 0 (owner_view (owning self.old)) (owner_view (owning self.new)) }
+        ensures seen { (k : ℕ) → running (owner_view (owning self.old)).seen ≡ Some k
+            → Sees (End k ∷ []) 0 (owner_view (owning self.old)) (owner_view (owning self.new)) }
         ensures same { IsSame (owner_view (owning self.old)) (owner_view (owning self.new)) }
         ensures batch { batch (owner_view (owning self.new)).seen ≡ batch (owner_view (owning self.old)).seen }
         ensures idle { ¬ IsRunning (owner_view (owning self.new)).seen }

@@ -15,7 +15,7 @@ ghost use Rattle.wq_live.specs.Counts.{sender_counts};
 ghost use Rattle.wq_live.specs.Answers.{TestsAndSets, Answers, IsContended};
 ghost use Rattle.wq_live.specs.Sits.{sender_view, sending_in, Sends};
 ghost use Rattle.wq_live.specs.Tries.{Tries, IsHeldAfter, Settles};
-ghost use Rattle.wq_live.specs.Hands.{HoldsSlot, IsToBring, IsEmptied, IsEmptiedAfter, Leaves, PostsSlot, SettlesSlot, QueuesSlot};
+ghost use Rattle.wq_live.specs.Hands.{HoldsSlot, IsToBring, IsEmptied, IsEmptiedAfter, LeavesHand, PostsSlot, SettlesSlot, QueuesSlot};
 
 use crate::counts::SenderCounts;
 use crate::spins::{Spins, Waits};
@@ -104,7 +104,7 @@ pub(crate) fn give_up<V, P: Place>(chair: &mut Chair<V>, sent: &mut Sent, number
     ensures learns { Learns P.at chair.old chair.new }
     ensures gives { Sees (Back sent.old.number number why.Contended ∷ []) 0 (sender_view (sending_in P.at chair.old sent.old))
         (sender_view (sending_in P.at chair.new sent.new)) }
-    ensures slots { Leaves chair.old chair.new }
+    ensures slots { LeavesHand chair.old chair.new }
 {
     chair.back_contended::<P>(number);
     sent.counts.contended = sent.counts.contended.saturating_add(1);
@@ -121,7 +121,7 @@ pub(crate) fn find_closed<V, P: Place>(chair: &mut Chair<V>, sent: &mut Sent, nu
     ensures learns { Learns P.at chair.old chair.new }
     ensures gives { Sees (Back sent.old.number number why.Closed ∷ []) 0 (sender_view (sending_in P.at chair.old sent.old))
         (sender_view (sending_in P.at chair.new sent.new)) }
-    ensures slots { Leaves chair.old chair.new }
+    ensures slots { LeavesHand chair.old chair.new }
 {
     chair.back_closed::<P>(number);
     sent.counts.closed = sent.counts.closed.saturating_add(1);
@@ -138,7 +138,7 @@ pub(crate) fn turn_back<V, P: Place>(chair: &mut Chair<V>, sent: &mut Sent, numb
     ensures learns { Learns P.at chair.old chair.new }
     ensures gives { Sees (Back sent.old.number number why.Draining ∷ []) 0 (sender_view (sending_in P.at chair.old sent.old))
         (sender_view (sending_in P.at chair.new sent.new)) }
-    ensures slots { Leaves chair.old chair.new }
+    ensures slots { LeavesHand chair.old chair.new }
 {
     chair.back_draining::<P>(number);
     sent.counts.draining = sent.counts.draining.saturating_add(1);

@@ -9,7 +9,8 @@ use Rattle.wq_machine.specs.Keeper.{kept_by}
 use Rattle.wq_core.specs.Machine.{Machine}
 use Rattle.wq_core.specs.Sound.{IsSound}
 
-pub keeps_kept : (m : Machine) → IsSound m → (h : List Event) → h ≡ m.history → (k : ℕ) (x : Keeper) → kept_by x ≡ words.keeper h k → Keeps m.history k (kept_by x)
+pub keeps_kept : (m : Machine) → IsSound m → (h : List Event) → h ≡ m.history → (k : ℕ) (x : Keeper) → kept_by x ≡ words.keeper h k
+    → Keeps m.history k (kept_by x)
 keeps_kept m sound h same k x is = (keeps-keeper m.layout m.history sound.legal k (kept_by x)).1 (sym (is ∙ ap (λ (l : List Event). words.keeper l k) same))
 
 pub kept_alone : (m : Machine) → IsSound m → (h : List Event) → h ≡ m.history → (k : ℕ) (x : Keeper) → kept_by x ≡ words.keeper h k

@@ -1,6 +1,7 @@
 -- What several proofs of this crate cite of std, of specs and of the crates below, passed on from one place.
 pub use Rattle.std.proofs.Common.{◌≡◌, ◌≢◌, ℕ, zero, suc, ◌+◌, ◌-◌, ◌<◌, ◌≤◌, ◌⊎◌, Bool, true, false, List, [], ◌∷◌, ◌++◌, length, take, drop, get_or, map, All}
-pub use Rattle.std.proofs.Common.{Option, Some, None, IfSome, OnSome, Result, Ok, Err, IfOk, IfErr, refl, sym, ap, subst, ◌∙◌, inl, inr, arith, rules, nat_le, nat_lt}
+pub use Rattle.std.proofs.Common.{Option, Some, None, IfSome, OnSome, Result, Ok, Err, IfOk, IfErr, refl, sym, ap, subst}
+pub use Rattle.std.proofs.Common.{◌∙◌, inl, inr, arith, rules, nat_le, nat_lt}
 pub use Rattle.std.proofs.Common.{flat_map, length-append, append_assoc, slice_index, slice_get}
 pub use Rattle.std.proofs.lemmas.List.{append-nil}
 pub use Rattle.std.specs.Option.{option_to_list}
@@ -15,6 +16,7 @@ pub use Rattle.wq_text.specs.Text.{LinesLead, end_fault}
 pub use Rattle.wq_text.specs.Header.{layout_at}
 pub use Rattle.wq_text.specs.Word.{parts}
 pub use Rattle.wq_recording.specs.declared.stop.Stop.{Stop}
-pub use Rattle.wq_recording.specs.Verdict.{Rules, Verdict, IsLineAt, IsLegalText, StopsAt, IsRefusedText, HasVerdict, HasFaultAt, last_fault, is_short, short_line, recording_line}
+pub use Rattle.wq_recording.specs.Verdict.{Rules, Verdict, IsLineAt, IsLegalText, StopsAt, IsRefusedText, HasVerdict, HasFaultAt}
+pub use Rattle.wq_recording.specs.Verdict.{last_fault, is_short, short_line, recording_line}
 pub use Rattle.wq_recording.specs.Recording.{StopsAmong}
 pub use Rattle.wq_recording.specs.Judging.{HasTold, IsMadeAt, TellsAll, ComesTo}

@@ -17,7 +17,7 @@ use Rattle.wq_text.specs.Fault.{◌>>=◌, of_one}
 use Rattle.wq_text.specs.Header.{awaits, behind_items, header_gives, limited}
 use Rattle.wq_recording.specs.declared.entry.Entry.{Entry}
 use Rattle.wq_recording.specs.Checking.{history_line, trace_line, is_trace, begins_as_trace}
-use Rattle.wq_recording.specs.History.{alone, events_of, IsEventOf, history_grammar}
+use Rattle.wq_recording.specs.History.{alone, entry_events, IsEventOf, history_grammar}
 use Rattle.wq_recording.specs.HistoryReport.{history_rules}
 use Rattle.wq_recording.specs.HistoryText.{event_text, event_lines, history_text}
 use Rattle.wq_recording.specs.ReadBack.{IsLegalAsText, IsFoundLegal, IsNeverRefused}
@@ -146,7 +146,7 @@ module _ (l : Layout) (h : List Event) where
       let all = all_read text l h 5 [] of four in
       (all.0, record { before = all.1.before; split = all.1.split; leads = all.1.leads; number = all.1.number })
 
-told_again : (h : List Event) → h ≡ flat_map events_of (map alone h)
+told_again : (h : List Event) → h ≡ flat_map entry_events (map alone h)
 told_again [] = refl
 told_again (e ∷ h) = ap (λ g. e ∷ g) (told_again h)
 

@@ -19,8 +19,8 @@ use Rattle.wq_recording.specs.declared.history_words.Telling.{Telling}
 use Rattle.wq_recording.specs.declared.history_words.Telling.TheVariants as telling
 
 -- the events of an entry, in order
-abbrev pub events_of : Entry → List Event
-events_of e = e.first ∷ option_to_list e.second
+abbrev pub entry_events : Entry → List Event
+entry_events e = e.first ∷ option_to_list e.second
 
 abbrev pub alone : Event → Entry
 alone e = record { first = e; second = None }

@@ -10,7 +10,7 @@ use Rattle.wq_check.specs.Left.{left}
 use Rattle.wq_check.specs.Report.{report_of}
 use Rattle.wq_meaning.specs.Report.{line, count_line}
 use Rattle.wq_recording.specs.declared.entry.Entry.{Entry}
-use Rattle.wq_recording.specs.History.{events_of}
+use Rattle.wq_recording.specs.History.{entry_events}
 use Rattle.wq_recording.specs.Verdict.{Rules}
 
 -- the lines of what is counted
@@ -35,7 +35,7 @@ history_counts r =
 
 abbrev pub history_rules : Rules Entry Event
 history_rules = record {
-  tells = events_of;
+  tells = entry_events;
   IsLegal = IsLegal;
   HasCause = λ layout h e cause. HasEventError layout h e (NotAllowed cause);
   word = codes "event";

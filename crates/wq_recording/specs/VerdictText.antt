@@ -27,15 +27,15 @@ cause_text layout (Next k) = codes "next" ++ named layout k
 cause_text layout NotEnded = codes "not ended"
 
 -- that all is legal; or the line, the number of the event there, counted from 1 over all events, and its cause
-abbrev pub head_text : List ℕ → Layout → ℕ → Option Stop → List ℕ
-head_text word layout count None = line (codes "legal")
-head_text word layout count (Some stop) =
+abbrev pub verdict_head : List ℕ → Layout → ℕ → Option Stop → List ℕ
+verdict_head word layout count None = line (codes "legal")
+verdict_head word layout count (Some stop) =
     line (codes "not legal") ++ count_line (codes "line") stop.line ++ count_line word (stopped (count + 1))
     ++ line (codes "cause " ++ cause_text layout stop.cause)
 
 abbrev pub verdict_text : {A E : Type 0} → Rules A E → Verdict E → List ℕ
 verdict_text rules v =
-    head_text rules.word v.layout (length v.events) v.stop ++ rules.counts v.events ++ row_text v.layout (codes "left") (rules.left v.events)
+    verdict_head rules.word v.layout (length v.events) v.stop ++ rules.counts v.events ++ row_text v.layout (codes "left") (rules.left v.events)
 
 abbrev pub verdict_of : {E : Type 0} → Layout → List E → Option Stop → Verdict E
 verdict_of layout events stop = record { layout = layout; events = events; stop = stop }

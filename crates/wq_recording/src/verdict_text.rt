@@ -3,7 +3,7 @@ ghost use Rattle.std.specs.Prelude.{◌≡◌, ◌++◌, ℕ, List, codes, IfOk,
 ghost use Rattle.wq_check.specs.Report.{stopped};
 ghost use Rattle.wq_meaning.specs.Report.{line};
 ghost use Rattle.wq_meaning.specs.Names.{named};
-ghost use Rattle.wq_recording.specs.VerdictText.{cause_text, head_text, verdict_of, verdict_text, SaysOf};
+ghost use Rattle.wq_recording.specs.VerdictText.{cause_text, verdict_head, verdict_of, verdict_text, SaysOf};
 
 use crate::finding::Finding;
 use crate::recording::Recording;
@@ -58,7 +58,7 @@ fn write_head(
     stop: Option<Stop>,
     out: &mut String,
 ) -> Result<(), AllocError>
-    ensures { (n : ℕ) → told_count ≡ stopped n → OnOk result (string_bytes out.new ≡ string_bytes out.old ++ head_text word.now layout.now n stop) }
+    ensures { (n : ℕ) → told_count ≡ stopped n → OnOk result (string_bytes out.new ≡ string_bytes out.old ++ verdict_head word.now layout.now n stop) }
 {
     match stop {
         None => write_line("legal", out),

@@ -67,7 +67,8 @@ pub all_hear_nothing : (xs : List Known) → AllHear [] xs xs
 all_hear_nothing xs = record { count = refl; each = λ i d lt. record { stays = stays_refl (get_or xs i d); knows = ((get_or xs i d).seen, refl) } }
 
 -- a worker's seats, where neither made an event
-pub moves_stay : {W : Type 0} (n : ℕ) (a b : WorkerState W) → Moves [] n a b → StaysSilent (worker_sender a) (worker_sender b) × StaysSilent (worker_owner a) (worker_owner b)
+pub moves_stay : {W : Type 0} (n : ℕ) (a b : WorkerState W) → Moves [] n a b → StaysSilent (worker_sender a) (worker_sender b)
+    × StaysSilent (worker_owner a) (worker_owner b)
 moves_stay n a b m =
     let none = none_of a.number m.adds.new m.adds.ours in
     let begins : IsPrefix a.seen b.seen = (m.adds.new, sym m.adds.is) in (

@@ -19,7 +19,8 @@ use Rattle.wq_table.specs.Chair.{IsSender, HasSeen, HasLinked, IsOwner, IsRested
 use Rattle.wq_words.specs.Valued.{Carries}
 use Rattle.wq_table.specs.SlotSteps.{Hand, GoesBy}
 use Rattle.wq_table.proofs.Moves.{goes_still, shelves_take, shelves_close, shelves_drain, shelves_resume, shelves_rest, shelves_end, goes_hold}
-use Rattle.wq_table.proofs.Moves.{goes_push, goes_back, goes_begin, goes_walk, goes_walk_none, goes_chain}
+use Rattle.wq_table.proofs.Moves.{goes_push, goes_back, goes_begin, goes_chain}
+use Rattle.wq_table.proofs.Walked.{goes_walk, goes_walk_none}
 
 -- a seat that looked is a sender's
 pub from_seen : (word : ℕ) (stage : Stage) → HasSeen word stage → IsSender stage

@@ -75,7 +75,8 @@ module _ {V : Type 0} where
 
   -- a chair that has seen all that has happened, and knows all that was brought
   pub learns_knowing : (m : Machine) (brs : List (Option V)) (it it' : ValueStanding V) → IsSound m → length brs ≡ length (accepted m.history)
-      → (0 < it.queue.slots → AreBrought m.layout.items (accepted m.history) brs) → SeatedIn m (standing_of it) → AllKnow brs (it.first ∷ it.others) → it' ≡ knowing m brs it → Learns 0 it it'
+      → (0 < it.queue.slots → AreBrought m.layout.items (accepted m.history) brs) → SeatedIn m (standing_of it) → AllKnow brs (it.first ∷ it.others)
+      → it' ≡ knowing m brs it → Learns 0 it it'
   learns_knowing m brs it it' sound many right fits know is =
       let h : List Event = m.history in let v : View = it.first.part ∷ plain_view it.others in record {
         follow = record {
@@ -89,7 +90,10 @@ module _ {V : Type 0} where
         brought = brs;
         know = know;
         right = λ some_slot. subst (λ (z : Layout × List Event). AreBrought z.0.items (accepted z.1) brs)
-            (λ i. (sym (ap (λ (z : ValueStanding V). z.first.part.layout) is ∙ fits.fits.layout_is) i, sym (ap (λ (z : ValueStanding V). z.first.part.seen) is) i))
+            (λ i. (
+              sym (ap (λ (z : ValueStanding V). z.first.part.layout) is ∙ fits.fits.layout_is) i,
+              sym (ap (λ (z : ValueStanding V). z.first.part.seen) is) i,
+            ))
             (right some_slot);
         told = subst (λ (z : ValueStanding V). AllTold brs (z.first ∷ z.others)) (sym is) (told_all h brs (all_see h v) many (seeing_seen h v));
       }
@@ -100,7 +104,8 @@ module _ {V : Type 0} where
     learns_meet = learns_knowing meet.machine meet.brought this this' meet.sound meet.as_many meet.right meet.this_fits meet.this_knows meet.this_is
 
     pub learns_met : Learns 0 that that'
-    learns_met = learns_knowing meet.machine meet.brought that that' meet.sound meet.as_many (λ some_slot. meet.right (omega (arith, some_slot, ap (λ q. q.slots) meet.queue_is))) meet.that_fits meet.that_knows meet.that_is
+    learns_met = learns_knowing meet.machine meet.brought that that' meet.sound meet.as_many
+        (λ some_slot. meet.right (omega (arith, some_slot, ap (λ q. q.slots) meet.queue_is))) meet.that_fits meet.that_knows meet.that_is
 
   -- each of three
   module _ (this that third this' that' third' : ValueStanding V) (meet : ValueMeetAll this that third this' that' third') where
@@ -108,10 +113,12 @@ module _ {V : Type 0} where
     learns_meet_all = learns_knowing meet.machine meet.brought this this' meet.sound meet.as_many meet.right meet.this_fits meet.this_knows meet.this_is
 
     pub second_met_all : Learns 0 that that'
-    second_met_all = learns_knowing meet.machine meet.brought that that' meet.sound meet.as_many (λ some_slot. meet.right (omega (arith, some_slot, ap (λ q. q.slots) meet.that_queue))) meet.that_fits meet.that_knows meet.that_is
+    second_met_all = learns_knowing meet.machine meet.brought that that' meet.sound meet.as_many
+        (λ some_slot. meet.right (omega (arith, some_slot, ap (λ q. q.slots) meet.that_queue))) meet.that_fits meet.that_knows meet.that_is
 
     pub third_met_all : Learns 0 third third'
-    third_met_all = learns_knowing meet.machine meet.brought third third' meet.sound meet.as_many (λ some_slot. meet.right (omega (arith, some_slot, ap (λ q. q.slots) meet.third_queue))) meet.third_fits meet.third_knows meet.third_is
+    third_met_all = learns_knowing meet.machine meet.brought third third' meet.sound meet.as_many
+        (λ some_slot. meet.right (omega (arith, some_slot, ap (λ q. q.slots) meet.third_queue))) meet.third_fits meet.third_knows meet.third_is
 
   -- without what was brought
   pub learns_follow : (at : ℕ) (a b : ValueStanding V) → LearnsOrStays at a b → Beside at (standing_of a) (standing_of b)

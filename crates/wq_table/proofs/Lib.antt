@@ -11,6 +11,7 @@ pub mod Learns
 pub mod Shelves
 pub mod Keeping
 pub mod Moves
+pub mod Walked
 pub mod ValueRule
 pub mod ByKind
 pub mod Bare

@@ -2,10 +2,8 @@
 use Rattle.std.proofs.Common.{◌≡◌, ◌≢◌, ℕ, ◌+◌, ◌%◌, ◌^◌, ◌<◌, ◌≤◌, ◌==◌, Bool, true, false, cond, if◌then◌else◌, List, [], ◌∷◌, ◌++◌, length, set}
 use Rattle.std.proofs.Common.{slice_get, Option, Some, None, sym, refl, ap, ◌∙◌, subst, arith, inl, inr, ⊎_elim}
 use Rattle.std.proofs.lemmas.List.{length_push}
-use Rattle.std.proofs.lemmas.Option.{slice_get_within}
 use Rattle.std.proofs.lemmas.Bool.{eqb-true, eq-eqb, ne_eqb}
 use mathlib.Core.Option.{some, none}
-use lib.ListN.{get_elem?}
 use Rattle.atomic_table.specs.Table.{keeps, takes, gives}
 use Rattle.wq_words.specs.declared.event.Why.{Why}
 use Rattle.wq_words.specs.declared.event.Event.{Event}
@@ -16,25 +14,22 @@ use Rattle.wq_words.specs.Keeper.{Keeper, Home, Sender, Listed, Owner, keeper_af
 use Rattle.wq_words.proofs.Growing.{filter_map_push_some}
 use Rattle.wq_words.proofs.Listed.{accepted_push_none}
 use Rattle.wq_words.proofs.Prefixes.{prefix_self}
-use Rattle.wq_words.proofs.Ranks.{slice_get-some}
-use Rattle.wq_core.specs.Machine.{Machine, head, link, item_word, seen_word, nothing_seen, with_head, with_item, with_private, with_done, done_word}
-use Rattle.wq_core.specs.Machine.{happened, after_walk, after_begin, after_end}
+use Rattle.wq_core.specs.Machine.{Machine, head, item_word, seen_word, nothing_seen, with_head, with_item, with_private, with_done, done_word}
+use Rattle.wq_core.specs.Machine.{happened, after_begin, after_end}
 use Rattle.wq_core.specs.Sound.{IsSound}
-use Rattle.wq_core.specs.Words.{number_at}
 use Rattle.wq_words.proofs.Times.{times, times-cons, times-append}
 use Rattle.wq_core.proofs.KeptSound.{home_from_clear, sender_from_holds}
 use Rattle.wq_core.proofs.Privates.{keeper_push, gives_hold, gives_push, gives_back, gives_begin, gives_chain}
 use Rattle.wq_core.proofs.OwnerSteps.{first_of_batch}
 use Rattle.wq_table.specs.declared.table.Part.{Part}
 use Rattle.wq_words.specs.Valued.{Carries}
-use Rattle.wq_table.specs.Slots.{Fits, Slots, Shelves, IsAway, IsSenders, taken_times}
-use Rattle.wq_table.specs.declared.table.Stage.TheVariants.{Owns}
+use Rattle.wq_table.specs.Slots.{HomesFit, Slots, Shelves, IsSenders, taken_times}
 use Rattle.wq_core.specs.declared.step.Step.{Step}
 use Rattle.wq_core.specs.declared.step.Step.TheVariants as step
-use Rattle.wq_table.specs.SlotSteps.{Hand, Walks, Moves, Goes}
+use Rattle.wq_table.specs.SlotSteps.{Hand, MovesSlot, Goes}
 use Rattle.wq_table.proofs.Shelves.{fits_still, fits_taken, fits_emptied, fits_brought, fits_chained}
-use Rattle.wq_table.proofs.Keeping.{waiting_queue, waiting_once, waiting_place, queue_home, queue_sender, gone, came, begun_same, over_home}
-use Rattle.wq_table.proofs.Keeping.{cursor_waits, not_counted, batch_once, over_sends, away_other, away_gone, held_none_out}
+use Rattle.wq_table.proofs.Keeping.{waiting_queue, waiting_once, queue_home, queue_sender, gone, came, begun_same, over_home}
+use Rattle.wq_table.proofs.Keeping.{batch_once, over_sends, away_other, away_gone, held_none_out}
 
 module _ {V : Type 0} where
   -- an event that accepts and begins nothing, and brings nothing home
@@ -43,7 +38,7 @@ module _ {V : Type 0} where
       → (brs : List (Option V)) (homes : Slots V) → Shelves m brs homes → Shelves (happened m e) brs homes
   quiet m e none_accepted none_begun sends home brs homes s =
       let h : List Event = m.history in
-      subst (λ (z : List ℕ × List ℕ). Fits None (Carries m.layout.items) (keeper (h ++ e ∷ [])) (taken_times m.walked m.batch) (length z.0) z.1 brs homes)
+      subst (λ (z : List ℕ × List ℕ). HomesFit None (Carries m.layout.items) (keeper (h ++ e ∷ [])) (taken_times m.walked m.batch) (length z.0) z.1 brs homes)
       (λ i. (sym (begun_same h e none_begun) i, sym (accepted_push_none h e none_accepted) i))
       (fits_still None (Carries m.layout.items) (keeper h) (keeper (h ++ e ∷ [])) (taken_times m.walked m.batch) (taken_times m.walked m.batch)
       (length (begun h)) (length (begun h))
@@ -53,7 +48,7 @@ module _ {V : Type 0} where
 
   module _ (m : Machine) (p : Part) (brs : List (Option V)) (homes : Slots V) (sh : Shelves m brs homes) where
     -- no slot moves
-    pub goes_still : (σ : Step) (n : Machine) (word : ℕ) (c : Hand V) → Shelves n brs homes → Moves None σ p m word brs c brs c
+    pub goes_still : (σ : Step) (n : Machine) (word : ℕ) (c : Hand V) → Shelves n brs homes → MovesSlot None σ p m word brs c brs c
         → Goes None σ m n p word brs homes c
     goes_still σ n word c s still = record {
       act = keeps;
@@ -115,7 +110,7 @@ module _ {V : Type 0} where
               brs' = brs;
               more = prefix_self brs;
               shelves =
-                  subst (λ (z : List ℕ × List ℕ). Fits None (Carries m.layout.items) (keeper (m.history ++ Hold s k ∷ []))
+                  subst (λ (z : List ℕ × List ℕ). HomesFit None (Carries m.layout.items) (keeper (m.history ++ Hold s k ∷ []))
                   (taken_times m.walked m.batch) (length z.0) z.1 brs
                   (set homes k none)) (λ i. (sym (begun_same m.history (Hold s k) refl) i, sym (accepted_push_none m.history (Hold s k) refl) i))
                   (fits_taken None (Carries m.layout.items) (keeper m.history) (keeper (m.history ++ Hold s k ∷ [])) (taken_times m.walked m.batch)
@@ -154,7 +149,7 @@ module _ {V : Type 0} where
           brs' = brs ++ y ∷ [];
           more = (y ∷ [], refl);
           shelves =
-              subst (λ (z : List ℕ × List ℕ). Fits None (Carries m.layout.items) (keeper (m.history ++ Push p.seat k ∷ []))
+              subst (λ (z : List ℕ × List ℕ). HomesFit None (Carries m.layout.items) (keeper (m.history ++ Push p.seat k ∷ []))
               (taken_times m.walked m.batch) (length z.0) z.1 (brs ++ y ∷ [])
               (set homes k (some y)))
               (λ i. (sym (begun_same m.history (Push p.seat k) refl) i, sym (filter_map_push_some accepted_by m.history (Push p.seat k) k refl) i))
@@ -189,7 +184,7 @@ module _ {V : Type 0} where
       brs' = brs;
       more = prefix_self brs;
       shelves =
-          subst (λ (z : List ℕ × List ℕ). Fits None (Carries m.layout.items) (keeper (m.history ++ Back s k why ∷ []))
+          subst (λ (z : List ℕ × List ℕ). HomesFit None (Carries m.layout.items) (keeper (m.history ++ Back s k why ∷ []))
           (taken_times m.walked m.batch) (length z.0) z.1 brs
           (set homes k (some None))) (λ i. (sym (begun_same m.history (Back s k why) refl) i, sym (accepted_push_none m.history (Back s k why) refl) i))
           (fits_emptied None (Carries m.layout.items) (keeper m.history) (keeper (m.history ++ Back s k why ∷ [])) (taken_times m.walked m.batch)
@@ -211,15 +206,15 @@ module _ {V : Type 0} where
         let b : ℕ = length (begun m.history) in
         let count : length (begun (m.history ++ Begin k ∷ [])) ≡ b + 1 =
         ap length (filter_map_push_some begun_by m.history (Begin k) k refl) ∙ length_push (begun m.history) k in
-        let was : Fits None (Carries m.layout.items) (keeper m.history) (taken_times m.walked (k ∷ ks)) b (accepted m.history) brs homes =
-        subst (λ (z : List ℕ). Fits None (Carries m.layout.items) (keeper m.history) (taken_times m.walked z) b (accepted m.history) brs homes) first sh in
+        let was : HomesFit None (Carries m.layout.items) (keeper m.history) (taken_times m.walked (k ∷ ks)) b (accepted m.history) brs homes =
+        subst (λ (z : List ℕ). HomesFit None (Carries m.layout.items) (keeper m.history) (taken_times m.walked z) b (accepted m.history) brs homes) first sh in
         subst (λ (z : List ℕ). Goes None step.Begin m (after_begin m z) p word brs homes ((k, None) ∷ c)) (sym first) record {
           act = gives;
           valid = tt;
           brs' = brs;
           more = prefix_self brs;
           shelves =
-              subst (λ (z : ℕ × List ℕ). Fits None (Carries m.layout.items) (keeper (m.history ++ Begin k ∷ []))
+              subst (λ (z : ℕ × List ℕ). HomesFit None (Carries m.layout.items) (keeper (m.history ++ Begin k ∷ []))
               (taken_times m.walked ks) z.0 z.1 brs (set homes k (some None)))
               (λ i. (sym count i, sym (accepted_push_none m.history (Begin k) refl) i))
               (fits_emptied None (Carries m.layout.items) (keeper m.history) (keeper (m.history ++ Begin k ∷ [])) (taken_times m.walked (k ∷ ks))
@@ -236,97 +231,6 @@ module _ {V : Type 0} where
               (omega arith));
           moved = λ some_slot. (refl, refl);
           rests = λ none_there. absurd (omega (arith, low, none_there));
-        }
-
-    -- the slot of the number that the owner walks is taken, with what the number brought
-    pub goes_walk : (k word : ℕ) (walked batch : List ℕ) (c : Hand V) → m.cursor ≡ Some k → p.stage ≡ Owns (Some k) walked batch → k < length homes
-        → Goes None step.Walk m (after_walk m m.cursor) p word brs homes c
-    goes_walk k word walked batch c on stage low =
-        let waits = cursor_waits m sound k on in
-        let place = waiting_place m.layout m.history sound.legal k (keeper m.history k) refl waits.0 in
-        let at = slice_get-some brs place.0 (omega (arith, sh.as_many, slice_get_within (accepted m.history) place.0 k place.2)) in
-        let y : Option V = at.0 in
-        let home : (j : ℕ) → keeper m.history j ≡ Home → (j ≢ k) × (keeper m.history j ≡ Home) =
-        λ j is. ((λ same. queue_home (keeper m.history k) waits.0 (ap (keeper m.history) (sym same) ∙ is)), is) in
-        let not_here : (j : ℕ) → j ≢ k → ◌≡◌ {A = ℕ} (cond (k == j) 1 0) 0 = λ j other. ap {B = ℕ} (λ (q : Bool). cond q 1 0) (ne_eqb k j
-        (λ same. other (sym same))) in
-        let lies : get_elem? homes k ≡ some (some y) = sh.waits place.0 k y low place.1 place.2 waits.1 at.1 in
-        let tells : Walks p.stage m brs c brs ((k, y) ∷ c) =
-        subst (λ st. Walks st m brs c brs ((k, y) ∷ c)) (sym stage) (
-          refl,
-          y,
-          refl,
-          record {
-            place = place.0;
-            later = place.1;
-            stands = place.2;
-            has = at.1;
-            kind = sh.right place.0 k y (omega
-                (arith, low)) place.2 at.1;
-          },
-        ) in
-        let go : (b : Bool)
-        → Goes None step.Walk m (if b then record m { cursor = None; walked = []; batch = m.batch ++ k ∷ m.walked } else record m {
-          cursor =
-              number_at (link m k);
-          walked = k ∷ m.walked;
-        })
-        p word brs homes c = elim [
-          | true ↦ record {
-            act = takes k y;
-            valid = lies;
-            brs' = brs;
-            more = prefix_self brs;
-            shelves =
-                fits_taken None (Carries m.layout.items) (keeper m.history) (keeper m.history) (taken_times m.walked m.batch) (taken_times []
-                (m.batch ++ k ∷ m.walked))
-                (length (begun m.history)) (length (begun m.history)) (accepted m.history) brs homes sh k
-                (λ j other is. subst (IsAway (keeper m.history j)) (omega (
-                  arith,
-                  times-append j m.batch
-                      (k ∷ m.walked),
-                  times-cons j k m.walked,
-                  not_here j other,
-                )) is) home
-                (λ i j late stands away. (
-                  not_counted j k (k == j) refl (omega (arith, away, times-append j m.batch (k ∷ m.walked), times-cons j k m.walked)),
-                  omega (arith, away, times-append j m.batch (k ∷ m.walked), times-cons j k m.walked),
-                )) (omega arith);
-            moved = λ some_slot. tells;
-            rests = λ none_there. absurd (omega (arith, low, none_there));
-          }
-          | false ↦ record {
-            act = takes k y;
-            valid = lies;
-            brs' = brs;
-            more = prefix_self brs;
-            shelves =
-                fits_taken None (Carries m.layout.items) (keeper m.history) (keeper m.history) (taken_times m.walked m.batch) (taken_times
-                (k ∷ m.walked) m.batch)
-                (length (begun m.history)) (length (begun m.history)) (accepted m.history) brs homes sh k
-                (λ j other is. subst (IsAway (keeper m.history j)) (omega (arith, times-cons j k m.walked, not_here j other)) is) home
-                (λ i j late stands away. (
-                  not_counted j k (k == j) refl (omega (arith, away, times-cons j k m.walked)),
-                  omega (arith, away, times-cons j k m.walked),
-                )) (omega arith);
-            moved = λ some_slot. tells;
-            rests = λ none_there. absurd (omega (arith, low, none_there));
-          }
-        ] in
-        subst (λ (z : Option ℕ). Goes None step.Walk m (after_walk m z) p word brs homes c) (sym on) (go (link m k == 0))
-
-    -- all was walked: the owner only looks at the link of the first of its batch
-    pub goes_walk_none : (word : ℕ) (walked batch : List ℕ) (c : Hand V) → m.cursor ≡ None → p.stage ≡ Owns None walked batch
-        → Goes None step.Walk m (after_walk m m.cursor) p word brs homes c
-    goes_walk_none word walked batch c none_left stage =
-        subst (λ (z : Option ℕ). Goes None step.Walk m (after_walk m z) p word brs homes c) (sym none_left) record {
-          act = keeps;
-          valid = tt;
-          brs' = brs;
-          more = prefix_self brs;
-          shelves = sh;
-          moved = λ some_slot. subst (λ st. Walks st m brs c brs c) (sym stage) (refl, refl);
-          rests = λ none_there. refl;
         }
 
     -- the slot of a chained item is taken, with nothing in it, and it is accepted with what is to be put there
@@ -348,7 +252,7 @@ module _ {V : Type 0} where
               brs' = brs ++ x ∷ [];
               more = (x ∷ [], refl);
               shelves =
-                  subst (λ (z : List ℕ × List ℕ). Fits None (Carries m.layout.items) (keeper (m.history ++ Chain k ∷ [])) (taken_times m.walked
+                  subst (λ (z : List ℕ × List ℕ). HomesFit None (Carries m.layout.items) (keeper (m.history ++ Chain k ∷ [])) (taken_times m.walked
                   (m.batch ++ k ∷ [])) (length z.0) z.1
                   (brs ++ x ∷ []) (set homes k none))
                   (λ i. (sym (begun_same m.history (Chain k) refl) i, sym (filter_map_push_some accepted_by m.history (Chain k) k refl) i))

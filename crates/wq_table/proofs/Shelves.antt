@@ -10,14 +10,14 @@ use lib.ListN.{get_elem?}
 use Rattle.atomic_table.proofs.Lists.{set_here, set_else}
 use Rattle.wq_words.specs.Keeper.{Keeper, Home}
 use Rattle.wq_words.proofs.Growing.{slice_get_push}
-use Rattle.wq_table.specs.Slots.{Fits, IsAway}
+use Rattle.wq_table.specs.Slots.{HomesFit, IsAway}
 
 module _ {S : Type 0} (nothing : S) (R : ℕ → S → Type 0) (kp kp' : ℕ → Keeper) (out out' : ℕ
     → ℕ) (b b' : ℕ) (acs : List ℕ) (brs : List S) (homes : List (maybe.Option S))
-    (fits : Fits nothing R kp out b acs brs homes) where
+    (fits : HomesFit nothing R kp out b acs brs homes) where
   -- no slot moves: nothing comes home or begins to wait
   pub fits_still : ((k : ℕ) → IsAway (kp' k) (out' k) → IsAway (kp k) (out k)) → ((k : ℕ) → kp' k ≡ Home → kp k ≡ Home) → ((k : ℕ) → out' k ≡ 0
-      → out k ≡ 0) → b ≤ b' → Fits nothing R kp' out' b' acs brs homes
+      → out k ≡ 0) → b ≤ b' → HomesFit nothing R kp' out' b' acs brs homes
   fits_still gone home away later = record {
     as_many = fits.as_many;
     free = λ k low at. fits.free k low (home k at);
@@ -29,7 +29,7 @@ module _ {S : Type 0} (nothing : S) (R : ℕ → S → Type 0) (kp kp' : ℕ →
   -- the slot of j is taken
   pub fits_taken : (j : ℕ) → ((k : ℕ) → k ≢ j → IsAway (kp' k) (out' k) → IsAway (kp k) (out k)) → ((k : ℕ) → kp' k ≡ Home → (k ≢ j) × (kp k ≡ Home))
       → ((place k : ℕ) → b ≤ place → slice_get acs place ≡ Some k → out' k ≡ 0 → (k ≢ j) × (out k ≡ 0))
-      → b ≤ b' → Fits nothing R kp' out' b' acs brs (set homes j none)
+      → b ≤ b' → HomesFit nothing R kp' out' b' acs brs (set homes j none)
   fits_taken j gone home away later = record {
     away = λ k low is. dite (ℕ_discrete k j)
         (λ same. subst (λ (z : ℕ). get_elem? (set homes j none) z ≡ some none) (sym same) (set_here homes j none (omega
@@ -47,7 +47,7 @@ module _ {S : Type 0} (nothing : S) (R : ℕ → S → Type 0) (kp kp' : ℕ →
   -- the slot of j is given back, with nothing in it
   pub fits_emptied : (j : ℕ) → ((k : ℕ) → IsAway (kp' k) (out' k) → (k ≢ j) × IsAway (kp k) (out k)) → ((k : ℕ) → kp' k ≡ Home → k ≢ j → kp k ≡ Home)
       → ((place k : ℕ) → b' ≤ place → slice_get acs place ≡ Some k → out' k ≡ 0 → (k ≢ j) × (out k ≡ 0))
-      → b ≤ b' → Fits nothing R kp' out' b' acs brs (set homes j (some nothing))
+      → b ≤ b' → HomesFit nothing R kp' out' b' acs brs (set homes j (some nothing))
   fits_emptied j gone home away later = record {
     away = λ k low is. let old = gone k is in set_else homes j k (some nothing) old.0 ∙
         fits.away k (omega (arith, low, length-set homes j (some nothing))) old.1;
@@ -83,7 +83,7 @@ module _ {S : Type 0} (nothing : S) (R : ℕ → S → Type 0) (kp kp' : ℕ →
   pub fits_brought : (j : ℕ) (x : S) → ((k : ℕ) → IsAway (kp' k) (out' k) → (k ≢ j) × IsAway (kp k) (out k)) → (0 < length homes → R j x)
       → ((k : ℕ) → kp' k ≡ Home → (k ≢ j) × (kp k ≡ Home))
       → ((place k : ℕ) → b ≤ place → slice_get acs place ≡ Some k → out' k ≡ 0 → (k ≢ j) × (out k ≡ 0))
-      → b ≤ b' → Fits nothing R kp' out' b' (acs ++ j ∷ []) (brs ++ x ∷ []) (set homes j (some x))
+      → b ≤ b' → HomesFit nothing R kp' out' b' (acs ++ j ∷ []) (brs ++ x ∷ []) (set homes j (some x))
   fits_brought j x gone fit home away later = record {
     away = λ k low is. let old = gone k is in set_else homes j k (some x) old.0 ∙ fits.away k (omega (arith, low, length-set homes j (some x))) old.1;
     as_many = more j x;
@@ -105,7 +105,7 @@ module _ {S : Type 0} (nothing : S) (R : ℕ → S → Type 0) (kp kp' : ℕ →
   pub fits_chained : (j : ℕ) (x : S) → ((k : ℕ) → k ≢ j → IsAway (kp' k) (out' k) → IsAway (kp k) (out k)) → (0 < length homes → R j x) → ((k : ℕ)
       → kp' k ≡ Home → (k ≢ j) × (kp k ≡ Home))
       → ((place k : ℕ) → b ≤ place → slice_get acs place ≡ Some k → out' k ≡ 0 → (k ≢ j) × (out k ≡ 0))
-      → (out' j ≢ 0) → b ≤ b' → Fits nothing R kp' out' b' (acs ++ j ∷ []) (brs ++ x ∷ []) (set homes j none)
+      → (out' j ≢ 0) → b ≤ b' → HomesFit nothing R kp' out' b' (acs ++ j ∷ []) (brs ++ x ∷ []) (set homes j none)
   fits_chained j x gone fit home away taken later = record {
     away = λ k low is. dite (ℕ_discrete k j)
         (λ same. subst (λ (z : ℕ). get_elem? (set homes j none) z ≡ some none) (sym same) (set_here homes j none (omega

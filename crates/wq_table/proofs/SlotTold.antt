@@ -17,7 +17,7 @@ use Rattle.wq_core.specs.Machine.{Machine}
 use Rattle.wq_table.specs.Plays.{see, all_see}
 use Rattle.wq_table.specs.Slots.{ValueView, plain_view, AllKnow, telling, rest_values}
 use Rattle.wq_table.proofs.ValueRule.{plain_telling}
-use Rattle.wq_table.specs.SlotSteps.{Hand, ValueSat, Moves, AllTold, GoesBy, ValueMakes}
+use Rattle.wq_table.specs.SlotSteps.{Hand, ValueSat, MovesSlot, AllTold, GoesBy, ValueMakes}
 use Rattle.wq_table.specs.SlotChairs.{ValueStanding, standing_of, ValueSteps, first_told, value_standing, AreSized, ValueSits, knowing}
 use Rattle.wq_table.proofs.Changes.{changes}
 use Rattle.wq_table.proofs.Told.{chosen_sized, besides_sized, all_sized, sized_seeing, still_alone}
@@ -60,7 +60,7 @@ module _ {V : Type 0} where
   All at said σ slots word brs brs' hand hand' z =
       (makes : MakesAt at (σ (chosen at z.0.0 z.0.1).layout) word z.0.0 z.0.1 z.1.0 z.1.1) × (length brs ≡ length (accepted makes.makes.before.history))
       × (0 < slots → AreBrought (chosen at z.1.0 z.1.1).layout.items (accepted (chosen at z.1.0 z.1.1).seen) brs')
-      × (0 < slots → Moves said (σ (chosen at z.0.0 z.0.1).layout) (chosen at z.0.0 z.0.1) makes.makes.before word brs hand brs' hand')
+      × (0 < slots → MovesSlot said (σ (chosen at z.0.0 z.0.1).layout) (chosen at z.0.0 z.0.1) makes.makes.before word brs hand brs' hand')
 
   -- the step as a fact about the chair before and after
   pub told_values : (layout : Layout) (at slots : ℕ) (σ : Layout

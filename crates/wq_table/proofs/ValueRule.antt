@@ -19,7 +19,7 @@ use Rattle.wq_table.specs.Law.{View, seat_at, IsPartOf, Kept}
 use Rattle.wq_table.specs.Plays.{word_found, Performs}
 use Rattle.wq_table.specs.Places.{chosen}
 use Rattle.wq_table.specs.Slots.{Shelves, ValueView, plain_view, plain, AllKnow, KeptValues, telling}
-use Rattle.wq_table.specs.SlotSteps.{Hand, ValueSat, Moves, GoesBy, AllTold, ValueMakes}
+use Rattle.wq_table.specs.SlotSteps.{Hand, ValueSat, MovesSlot, GoesBy, AllTold, ValueMakes}
 use Rattle.wq_table.proofs.Places.{chosen_fits, AllSeen}
 use Rattle.wq_table.proofs.Rule.{stepped}
 
@@ -115,7 +115,7 @@ module _ {V : Type 0} where
                   as_many = many;
                   carries = λ place k y stands has. it.shelves.right place k y (omega (arith, some_slot, deep, homes_many s.homes c it.act)) stands has;
                 });
-            moves = λ some_slot. subst (λ (z : Machine × ℕ). Moves said step p z.0 z.1 r.brought c it.brs' (carried_after c it.act))
+            moves = λ some_slot. subst (λ (z : Machine × ℕ). MovesSlot said step p z.0 z.1 r.brought c it.brs' (carried_after c it.act))
                 (λ k. (sym done.before_is k, sym found k)) (it.moved (omega (arith, some_slot, deep)));
             rests = λ none_there. it.rests (deep ∙ none_there);
           },

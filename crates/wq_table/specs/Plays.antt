@@ -136,8 +136,8 @@ resumes i new layout = Resume
 abbrev pub walks : Kind
 walks i new layout = Walk
 
-abbrev pub turns : Kind
-turns i new layout = Turn (i - link_place 0) (Some (new - 1))
+abbrev pub turns_link : Kind
+turns_link i new layout = Turn (i - link_place 0) (Some (new - 1))
 
 abbrev pub begins : Kind
 begins i new layout = Begin

@@ -19,7 +19,7 @@ use Rattle.wq_table.specs.Law.{View, sender_part, owner_part}
 use Rattle.wq_table.specs.Plays.{see, all_see}
 use Rattle.wq_table.specs.Chair.{Standing, part_at, Steps, SeatedIn}
 use Rattle.wq_table.specs.Slots.{ValueView, plain_view, AllKnow, telling, rest_values}
-use Rattle.wq_table.specs.SlotSteps.{Hand, Moves, AllTold}
+use Rattle.wq_table.specs.SlotSteps.{Hand, MovesSlot, AllTold}
 
 -- which queue it is of, what each seat that it speaks for knows, and the slots that it has in hand
 pub record ValueStanding (V : Type 0) : Type 0 where
@@ -47,7 +47,7 @@ pub record ValueSteps {V : Type 0} (at : ℕ) (said : Option V) (step : Step) (w
   pub more : IsPrefix brought brought'
   pub told : AllTold brought' (new.first ∷ new.others)
   pub right : 0 < old.queue.slots → AreBrought (part_at at (standing_of new)).layout.items (accepted (part_at at (standing_of new)).seen) brought'
-  pub moves : 0 < old.queue.slots → Moves said step (part_at at (standing_of old)) steps.moves.makes.before word brought old.hand brought' new.hand
+  pub moves : 0 < old.queue.slots → MovesSlot said step (part_at at (standing_of old)) steps.moves.makes.before word brought old.hand brought' new.hand
   pub rests : old.queue.slots ≡ 0 → new.hand ≡ old.hand
 
 -- the slot of k is in front of the hand, with y in it

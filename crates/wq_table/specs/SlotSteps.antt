@@ -46,15 +46,15 @@ Walks (Owns None walked batch) m b c b' c' = (b' ≡ b) × (c' ≡ c)
 
 -- Which slot moves at a step of the seat p of the machine m, where this word was found: of what was brought and of the hand
 -- before, and both afterwards. A chained item is brought what is said.
-abbrev pub Moves : {V : Type 0} → Option V → Step → Part → Machine → ℕ → List (Option V) → Hand V → List (Option V) → Hand V → Type 0
-Moves said (Hold k) p m word b c b' c' = (b' ≡ b) × (c' ≡ (if word == 0 then (k, None) ∷ c else c))
-Moves said (Push k) p m word b c b' c' =
+abbrev pub MovesSlot : {V : Type 0} → Option V → Step → Part → Machine → ℕ → List (Option V) → Hand V → List (Option V) → Hand V → Type 0
+MovesSlot said (Hold k) p m word b c b' c' = (b' ≡ b) × (c' ≡ (if word == 0 then (k, None) ∷ c else c))
+MovesSlot said (Push k) p m word b c b' c' =
     MatchBool (word == seen_word m p.seat) ((b' ≡ b ++ in_front c ∷ []) × (c' ≡ rest c)) ((b' ≡ b) × (c' ≡ c))
-Moves said (Back k why) p m word b c b' c' = (b' ≡ b) × (c' ≡ rest c)
-Moves said Walk p m word b c b' c' = Walks p.stage m b c b' c'
-Moves said Begin p m word b c b' c' = (b' ≡ b) × (c' ≡ rest c)
-Moves said (Chain k) p m word b c b' c' = MatchBool (word == 0) ((b' ≡ b ++ said ∷ []) × (c' ≡ (k, None) ∷ c)) ((b' ≡ b) × (c' ≡ c))
-Moves said _ p m word b c b' c' = (b' ≡ b) × (c' ≡ c)
+MovesSlot said (Back k why) p m word b c b' c' = (b' ≡ b) × (c' ≡ rest c)
+MovesSlot said Walk p m word b c b' c' = Walks p.stage m b c b' c'
+MovesSlot said Begin p m word b c b' c' = (b' ≡ b) × (c' ≡ rest c)
+MovesSlot said (Chain k) p m word b c b' c' = MatchBool (word == 0) ((b' ≡ b ++ said ∷ []) × (c' ≡ (k, None) ∷ c)) ((b' ≡ b) × (c' ≡ c))
+MovesSlot said _ p m word b c b' c' = (b' ≡ b) × (c' ≡ c)
 
 -- from m to n: what the seat p does with its hand, and what is brought then
 pub record Goes {V : Type 0} (said : Option V) (step : Step) (m n : Machine) (p : Part) (word : ℕ) (brs : List (Option V)) (homes : Slots V)
@@ -64,7 +64,7 @@ pub record Goes {V : Type 0} (said : Option V) (step : Step) (m n : Machine) (p 
   pub brs' : List (Option V)
   pub more : IsPrefix brs brs'
   pub shelves : Shelves n brs' (homes_after homes c act)
-  pub moved : 0 < length homes → Moves said step p m word brs c brs' (carried_after c act)
+  pub moved : 0 < length homes → MovesSlot said step p m word brs c brs' (carried_after c act)
   pub rests : length homes ≡ 0 → carried_after c act ≡ c
 
 -- whatever machine the part is of
@@ -90,7 +90,7 @@ pub record ValueMakes {V : Type 0} (slots at : ℕ) (said : Option V) (step : La
   pub told : AllTold brought' me'.0
   -- where there are slots each item brought a value, and one slot may move, else the hand stays
   pub right : 0 < slots → AreBrought (chosen at plain.part' plain.others').layout.items (accepted (chosen at plain.part' plain.others').seen) brought'
-  pub moves : 0 < slots → Moves said (step (chosen at plain.part plain.others).layout) (chosen at plain.part plain.others) plain.moves.makes.before word
+  pub moves : 0 < slots → MovesSlot said (step (chosen at plain.part plain.others).layout) (chosen at plain.part plain.others) plain.moves.makes.before word
       brought me.1 brought' me'.1
   pub rests : slots ≡ 0 → me'.1 ≡ me.1
 

@@ -24,7 +24,7 @@ IsAway x n = IsSenders x ⊎ (0 < n)
 
 -- What lies in the slots that no seat has. R says what a number may bring, kp who keeps a number, out k is 0 but for what the
 -- owner walked or has in its batch; b have begun of the accepted numbers acs, which brought brs.
-pub record Fits {S : Type 0} (nothing : S) (R : ℕ → S → Type 0) (kp : ℕ → Keeper) (out : ℕ → ℕ) (b : ℕ) (acs : List ℕ) (brs : List S)
+pub record HomesFit {S : Type 0} (nothing : S) (R : ℕ → S → Type 0) (kp : ℕ → Keeper) (out : ℕ → ℕ) (b : ℕ) (acs : List ℕ) (brs : List S)
     (homes : List (maybe.Option S)) : Type 0 where
   pub as_many : length brs ≡ length acs
   -- a number at home has nothing
@@ -45,7 +45,7 @@ abbrev pub Slots : Type 0 → Type 0
 Slots V = List (maybe.Option (Option V))
 
 abbrev pub Shelves : {V : Type 0} → Machine → List (Option V) → Slots V → Type 0
-Shelves m brs homes = Fits None (Carries m.layout.items) (keeper m.history) (taken_times m.walked m.batch) (length (begun m.history))
+Shelves m brs homes = HomesFit None (Carries m.layout.items) (keeper m.history) (taken_times m.walked m.batch) (length (begun m.history))
     (accepted m.history) brs homes
 
 -- a view has one for each seat that it speaks for

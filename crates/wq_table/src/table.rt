@@ -181,9 +181,9 @@ impl Kind for Walks {
 pub(crate) struct Turns;
 
 impl Kind for Turns {
-    ghost use Rattle.wq_table.specs.Plays.{turns};
+    ghost use Rattle.wq_table.specs.Plays.{turns_link};
 
-    ghost step = { turns };
+    ghost step = { turns_link };
 }
 
 pub(crate) struct Begins;

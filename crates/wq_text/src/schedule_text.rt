@@ -112,8 +112,8 @@ fn read_schedule(alloc: Global, text: &[u8]) -> Result<(Layout, Vec<(Seat, Step)
     }
 }
 
-/// The schedule that a text of at most 1,048,576 bytes spells, of the version that its first line names (docs/FORMATS.md). No text is spelled in two ways, refused for
-/// two faults, or both.
+/// The schedule that a text of at most 1,048,576 bytes spells, of the version that its first line names (docs/FORMATS.md). No
+/// text is spelled in two ways, refused for two faults, or both.
 ///
 /// # Errors
 /// `Refused` with the first faulty line and the first fault on it, or `Memory`.

@@ -27,8 +27,11 @@ returns g c =
     let has = c.split_seat-blank.ensures.2 ∙ seat_is c.self.inside c.args.self.now c.self.invariant c.self.view_is in
     let other_has = ap (λ s. s.me) c.replace-theirs.ensures.value ∙ seat_is c.other.inside c.args.other.now c.other.invariant c.other.view_is in record {
       met = met_slots c.args.self.now c.args.other.now c.split_seat-blank.new.seat.me c.replace-theirs.result.me c.join_seat.new.seat.me c.load.new.seat.me
-          has other_has c.requires.alone c.join_seat.ensures.2 _ (slots_are c.self.inside c.args.self.now c.self.invariant c.self.view_is _ c.deref.ensures) c.load.ensures.2 _ _ c.self.inside.layout c.other.inside.layout
-          c.split_seat.new.seat.me c.split_seat.result.me c.requires.empty c.split_seat.ensures.2 c.split_seat.ensures.4 (search rules) (search rules) c.requires.queue;
+          has other_has c.requires.alone c.join_seat.ensures.2 _
+          (slots_are c.self.inside c.args.self.now c.self.invariant c.self.view_is _ c.deref.ensures)
+          c.load.ensures.2 _ _ c.self.inside.layout c.other.inside.layout
+          c.split_seat.new.seat.me c.split_seat.result.me c.requires.empty c.split_seat.ensures.2 c.split_seat.ensures.4
+          (search rules) (search rules) c.requires.queue;
     }
 
 pub invariant_of-self : goal.invariant_of-self
@@ -36,7 +39,8 @@ invariant_of-self g c =
     let has = c.split_seat-blank.ensures.2 ∙ seat_is c.self.inside c.args.self.now c.self.invariant c.self.view_is in
     let other_has = ap (λ s. s.me) c.replace-theirs.ensures.value ∙ seat_is c.other.inside c.args.other.now c.other.invariant c.other.view_is in
     sits_met c.args.self.now c.args.other.now c.split_seat-blank.new.seat.me c.replace-theirs.result.me c.join_seat.new.seat.me c.load.new.seat.me
-    has other_has c.requires.alone c.join_seat.ensures.2 _ (slots_are c.self.inside c.args.self.now c.self.invariant c.self.view_is _ c.deref.ensures) c.load.ensures.2
+    has other_has c.requires.alone c.join_seat.ensures.2 _
+    (slots_are c.self.inside c.args.self.now c.self.invariant c.self.view_is _ c.deref.ensures) c.load.ensures.2
     c.split_seat.new.seat.me c.self.inside _ c.split_seat.ensures.2 c.self.invariant c.self.view_is refl refl refl (search rules) refl
 
 pub invariant_of-other : goal.invariant_of-other
@@ -44,5 +48,6 @@ invariant_of-other g c =
     let has = c.split_seat-blank.ensures.2 ∙ seat_is c.self.inside c.args.self.now c.self.invariant c.self.view_is in
     let other_has = ap (λ s. s.me) c.replace-theirs.ensures.value ∙ seat_is c.other.inside c.args.other.now c.other.invariant c.other.view_is in
     sits_cut c.args.self.now c.args.other.now c.split_seat-blank.new.seat.me c.replace-theirs.result.me c.join_seat.new.seat.me c.load.new.seat.me
-    has other_has c.requires.alone c.join_seat.ensures.2 _ (slots_are c.self.inside c.args.self.now c.self.invariant c.self.view_is _ c.deref.ensures) c.load.ensures.2
+    has other_has c.requires.alone c.join_seat.ensures.2 _
+    (slots_are c.self.inside c.args.self.now c.self.invariant c.self.view_is _ c.deref.ensures) c.load.ensures.2
     c.split_seat.result.me c.other.inside _ c.split_seat.ensures.4 c.other.invariant c.other.view_is refl refl refl (search rules) refl

@@ -42,7 +42,8 @@ returns g c =
     let third_has = ap (λ s. s.me) c.replace-thirds.ensures.value ∙ seat_is c.third.inside c.args.third.now c.third.invariant c.third.view_is in record {
       all = met_all c.args.self.now c.args.other.now c.args.third.now c.split_seat-blank-2.new.seat.me
           c.replace-others.result.me c.replace-thirds.result.me c.join_seat.new.seat.me c.join_seat-2.new.seat.me c.load.new.seat.me has other_has third_has
-          c.requires.alone.0 c.requires.alone.1 c.join_seat.ensures.2 c.join_seat-2.ensures.2 _ (slots_are c.self.inside c.args.self.now c.self.invariant c.self.view_is _ c.deref.ensures) c.load.ensures.2
+          c.requires.alone.0 c.requires.alone.1 c.join_seat.ensures.2 c.join_seat-2.ensures.2 _
+          (slots_are c.self.inside c.args.self.now c.self.invariant c.self.view_is _ c.deref.ensures) c.load.ensures.2
           c.split_seat.new.seat.me c.split_seat-2.new.seat.me c.split_seat-2.result.me c.split_seat.result.me
           c.split_seat.ensures.2 c.split_seat.ensures.4 c.split_seat-2.ensures.2 c.split_seat-2.ensures.4
           _ _ _ c.self.inside.layout c.other.inside.layout c.third.inside.layout c.requires.empty.0 c.requires.empty.1 (search rules) (search rules)
@@ -57,7 +58,8 @@ invariant_of-self g c =
     sits_known c.load.ensures.2.machine c.load.ensures.2.brought c.args.self.now c.self.inside _ c.self.invariant c.self.view_is
     refl refl refl (search rules) (mine_view c.args.self.now c.args.other.now c.args.third.now c.split_seat-blank-2.new.seat.me
     c.replace-others.result.me c.replace-thirds.result.me c.join_seat.new.seat.me c.join_seat-2.new.seat.me c.load.new.seat.me has other_has third_has
-    c.requires.alone.0 c.requires.alone.1 c.join_seat.ensures.2 c.join_seat-2.ensures.2 _ (slots_are c.self.inside c.args.self.now c.self.invariant c.self.view_is _ c.deref.ensures) c.load.ensures.2
+    c.requires.alone.0 c.requires.alone.1 c.join_seat.ensures.2 c.join_seat-2.ensures.2 _
+    (slots_are c.self.inside c.args.self.now c.self.invariant c.self.view_is _ c.deref.ensures) c.load.ensures.2
     c.split_seat.new.seat.me c.split_seat-2.new.seat.me c.split_seat-2.result.me c.split_seat.result.me
     c.split_seat.ensures.2 c.split_seat.ensures.4 c.split_seat-2.ensures.2 c.split_seat-2.ensures.4)
 
@@ -69,7 +71,8 @@ invariant_of-other g c =
     sits_known c.load.ensures.2.machine c.load.ensures.2.brought c.args.other.now c.other.inside _ c.other.invariant c.other.view_is
     refl refl refl (search rules) (their_view c.args.self.now c.args.other.now c.args.third.now c.split_seat-blank-2.new.seat.me
     c.replace-others.result.me c.replace-thirds.result.me c.join_seat.new.seat.me c.join_seat-2.new.seat.me c.load.new.seat.me has other_has third_has
-    c.requires.alone.0 c.requires.alone.1 c.join_seat.ensures.2 c.join_seat-2.ensures.2 _ (slots_are c.self.inside c.args.self.now c.self.invariant c.self.view_is _ c.deref.ensures) c.load.ensures.2
+    c.requires.alone.0 c.requires.alone.1 c.join_seat.ensures.2 c.join_seat-2.ensures.2 _
+    (slots_are c.self.inside c.args.self.now c.self.invariant c.self.view_is _ c.deref.ensures) c.load.ensures.2
     c.split_seat.new.seat.me c.split_seat-2.new.seat.me c.split_seat-2.result.me c.split_seat.result.me
     c.split_seat.ensures.2 c.split_seat.ensures.4 c.split_seat-2.ensures.2 c.split_seat-2.ensures.4)
 
@@ -81,6 +84,7 @@ invariant_of-third g c =
     sits_known c.load.ensures.2.machine c.load.ensures.2.brought c.args.third.now c.third.inside _ c.third.invariant c.third.view_is
     refl refl refl (search rules) (third_view c.args.self.now c.args.other.now c.args.third.now c.split_seat-blank-2.new.seat.me
     c.replace-others.result.me c.replace-thirds.result.me c.join_seat.new.seat.me c.join_seat-2.new.seat.me c.load.new.seat.me has other_has third_has
-    c.requires.alone.0 c.requires.alone.1 c.join_seat.ensures.2 c.join_seat-2.ensures.2 _ (slots_are c.self.inside c.args.self.now c.self.invariant c.self.view_is _ c.deref.ensures) c.load.ensures.2
+    c.requires.alone.0 c.requires.alone.1 c.join_seat.ensures.2 c.join_seat-2.ensures.2 _
+    (slots_are c.self.inside c.args.self.now c.self.invariant c.self.view_is _ c.deref.ensures) c.load.ensures.2
     c.split_seat.new.seat.me c.split_seat-2.new.seat.me c.split_seat-2.result.me c.split_seat.result.me
     c.split_seat.ensures.2 c.split_seat.ensures.4 c.split_seat-2.ensures.2 c.split_seat-2.ensures.4)
