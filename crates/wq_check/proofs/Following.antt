@@ -1,26 +1,23 @@
 -- How a queue stands once an event came.
-use Rattle.std.proofs.Common.{◌≡◌, ◌≢◌, ℕ, zero, suc, replicate, ◌+◌, ◌-◌, ◌<◌, ◌≤◌, ◌==◌, ◌↔◌, IsTrue, true, false, List, [], ◌∷◌, ◌++◌, length, drop, get_or}
-use Rattle.std.proofs.Common.{set, slice_get}
-use Rattle.std.proofs.Common.{Some, None, refl, sym, ap, ◌∙◌, arith, inl, inr, length-set, length-append}
-use Rattle.std.proofs.lemmas.List.{length-replicate, get_or-set_other, get_or-set_same, drop-append-le, drop-drop}
+use Rattle.wq_check.proofs.Common.{◌≡◌, ◌≢◌, ℕ, zero, suc, replicate, ◌+◌, ◌-◌, ◌<◌, ◌≤◌, ◌==◌, ◌↔◌, true, false, List, [], ◌∷◌, ◌++◌, length, drop}
+use Rattle.wq_check.proofs.Common.{get_or, slice_get, Some, None, refl, sym, ap, ◌∙◌, arith, inl, inr, length-append, drop-drop, slice_get_past}
+use Rattle.wq_check.proofs.Common.{false≢true, ne_eqb, eq-eqb, cases_eq, Layout, Event, Hold, Busy, Push, Back, Take, Close, Drain, Resume, Begin}
+use Rattle.wq_check.proofs.Common.{Chain, ChainBusy, Rest, number_count, accepted, begun, ended, IsRunning, Keeper, Home, Sender, Listed, Owner}
+use Rattle.wq_check.proofs.Common.{keeper, growing, slice_get_last, count_by_push, prefix_length, in_order, Idle}
+use Rattle.std.proofs.Common.{IsTrue}
+use Rattle.std.proofs.Common.{set}
+use Rattle.std.proofs.Common.{length-set}
+use Rattle.std.proofs.lemmas.List.{length-replicate, get_or-set_other, get_or-set_same, drop-append-le}
 use Rattle.std.proofs.lemmas.List.Sums.{fold_push}
-use Rattle.std.proofs.lemmas.Option.{slice_get_past}
-use Rattle.std.proofs.lemmas.Bool.{false≢true, ne_eqb, eq-eqb, cases_eq}
-use Rattle.wq_words.specs.declared.layout.Layout.{Layout}
 use Rattle.wq_words.specs.declared.event.Why.{Why}
-use Rattle.wq_words.specs.declared.event.Event.{Event}
-use Rattle.wq_words.specs.declared.event.Event.TheVariants.{Hold, Busy, Push, Back, Take, Close, Drain, Resume, Begin, End, Chain, ChainBusy, Rest}
-use Rattle.wq_words.specs.Numbers.{number_count}
-use Rattle.wq_words.specs.History.{accepted, begun, ended, closed, shut, is_close, is_drain, is_resume, IsRunning, HasDrained}
+use Rattle.wq_words.specs.declared.event.Event.TheVariants.{End}
+use Rattle.wq_words.specs.History.{closed, shut, is_close, is_drain, is_resume, HasDrained}
 use Rattle.wq_words.specs.Legal.{IsAllowed}
-use Rattle.wq_words.specs.Keeper.{Keeper, Home, Sender, Listed, Owner, taken_over, keeper_after, keeper}
-use Rattle.wq_words.proofs.Growing.{growing, slice_get_last, count_by_push}
+use Rattle.wq_words.specs.Keeper.{taken_over, keeper_after}
 use Rattle.wq_words.proofs.Legal.{legal_nil, legal_push}
-use Rattle.wq_words.proofs.Prefixes.{prefix_length}
-use Rattle.wq_words.proofs.Order.{in_order}
 use Rattle.wq_words.proofs.Closed.{closed_push_no, closed_push_yes, shut_quiet, shut_close, shut_drain, shut_resume, drained_stays}
 use Rattle.circular_buffer.specs.Buffer.{keep_last}
-use Rattle.wq_check.specs.declared.queue.Place.TheVariants.{Idle, Held, Waiting}
+use Rattle.wq_check.specs.declared.queue.Place.TheVariants.{Held, Waiting}
 use Rattle.wq_check.specs.Checked.{QueueState, queue_state, place_by_keeper, StandsAfter}
 use Rattle.wq_check.proofs.Waits.{few_unbegun}
 use Rattle.wq_check.proofs.Standing.{place_at}

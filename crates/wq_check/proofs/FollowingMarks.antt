@@ -1,19 +1,16 @@
 -- How a queue looks once a mark was shown.
-use Rattle.std.proofs.Common.{◌≡◌, ℕ, ◌+◌, ◌-◌, ◌<◌, ◌≤◌, ◌==◌, Bool, cond, List, [], ◌∷◌, ◌++◌, length, drop, replicate, get_or, set, slice_get, Some, None}
-use Rattle.std.proofs.Common.{refl, sym, ap, ◌∙◌, arith, inl, inr, length-set, length-append}
-use Rattle.std.proofs.lemmas.List.{length-replicate, get_or-set_other, get_or-set_same, drop-append-le, drop-drop}
+use Rattle.wq_check.proofs.Common.{◌≡◌, ℕ, ◌+◌, ◌-◌, ◌<◌, ◌≤◌, ◌==◌, Bool, cond, List, [], ◌∷◌, ◌++◌, length, drop, replicate, get_or, slice_get}
+use Rattle.wq_check.proofs.Common.{Some, None, refl, sym, ap, ◌∙◌, arith, inl, inr, length-append, drop-drop, slice_get_past, eq-eqb, ne_eqb}
+use Rattle.wq_check.proofs.Common.{cases_eq, Layout, number_count, growing, slice_get_last, take_length, Mark, Queue, Start, End, queued, started}
+use Rattle.wq_check.proofs.Common.{returned, MayShow, number_of, IsLegalTrace, times, times-append, times-cons}
+use Rattle.std.proofs.Common.{set}
+use Rattle.std.proofs.Common.{length-set}
+use Rattle.std.proofs.lemmas.List.{length-replicate, get_or-set_other, get_or-set_same, drop-append-le}
 use Rattle.std.proofs.lemmas.List.Sums.{count_by-le-length}
-use Rattle.std.proofs.lemmas.Option.{slice_get_past}
-use Rattle.std.proofs.lemmas.Bool.{eq-eqb, ne_eqb, cases_eq}
 use Rattle.circular_buffer.specs.Buffer.{keep_last}
-use Rattle.wq_words.specs.declared.layout.Layout.{Layout}
-use Rattle.wq_words.specs.Numbers.{number_count}
-use Rattle.wq_words.proofs.Growing.{growing, slice_get_push, slice_get_last, take_append, take_length}
-use Rattle.wq_check.specs.declared.mark.Mark.{Mark}
-use Rattle.wq_check.specs.declared.mark.Mark.TheVariants.{Queue, Start, End}
-use Rattle.wq_check.specs.Trace.{queued, started, returned, MayShow, number_of, IsLegalTrace, next_start}
+use Rattle.wq_words.proofs.Growing.{slice_get_push, take_append}
+use Rattle.wq_check.specs.Trace.{next_start}
 use Rattle.wq_check.specs.TraceChecked.{SeenState, seen_state, LooksAfter}
-use Rattle.wq_words.proofs.Times.{times, times-append, times-cons}
 use Rattle.wq_check.proofs.Following.{alike}
 use Rattle.wq_check.proofs.Looking.{lengths, next_is}
 

@@ -1,3 +1,4 @@
+pub mod Common
 pub mod Waits
 pub mod Lists
 pub mod Standing

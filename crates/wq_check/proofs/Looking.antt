@@ -1,26 +1,21 @@
 -- How a queue looks tells of each next mark whether it may be shown, and what is left.
-use Rattle.std.proofs.Common.{subst, ◌≡◌, ◌≢◌, ℕ, suc, ◌+◌, ◌-◌, ◌<◌, ◌≤◌, ◌==◌, ◌↔◌, ◌⊎◌, Bool, cond, List, [], ◌∷◌, length, drop, get_or, slice_get, Some}
-use Rattle.std.proofs.Common.{None, refl, sym, ap, ◌∙◌, arith, inl, inr, length-append, length-drop}
-use Rattle.std.proofs.lemmas.List.{drop-drop}
-use Rattle.std.proofs.lemmas.Option.{slice_get_past, slice_get_within, slice_get-get_or}
-use Rattle.std.proofs.lemmas.Bool.{eq-eqb, ne_eqb, cases_eq, cases_lt}
-use Rattle.wq_words.specs.declared.layout.Layout.{Layout}
-use Rattle.wq_words.specs.declared.event.Event.{Event}
-use Rattle.wq_words.specs.Numbers.{number_count}
-use Rattle.wq_words.specs.History.{accepted, begun, ended}
-use Rattle.wq_words.proofs.Growing.{slice_get_append}
-use Rattle.wq_words.proofs.Prefixes.{prefix_length, prefix_on}
+use Rattle.wq_check.proofs.Common.{subst, ◌≡◌, ◌≢◌, ℕ, suc, ◌+◌, ◌-◌, ◌<◌, ◌≤◌, ◌==◌, ◌↔◌, Bool, cond, List, [], ◌∷◌, length, drop, get_or, slice_get}
+use Rattle.wq_check.proofs.Common.{Some, None, refl, sym, ap, ◌∙◌, arith, inl, inr, length-append, drop-drop, slice_get_past, slice_get_within}
+use Rattle.wq_check.proofs.Common.{eq-eqb, ne_eqb, cases_eq, cases_lt, Layout, Event, number_count, accepted, begun, ended, slice_get_append}
+use Rattle.wq_check.proofs.Common.{prefix_length, in_order, Mark, Queue, Start, End, queued, started, returned, unseen, MayShow, IsLegalTrace}
+use Rattle.wq_check.proofs.Common.{surely_unbegun, times, times-cons}
+use Rattle.std.proofs.Common.{◌⊎◌}
+use Rattle.std.proofs.Common.{length-drop}
+use Rattle.std.proofs.lemmas.Option.{slice_get-get_or}
+use Rattle.wq_words.proofs.Prefixes.{prefix_on}
 use Rattle.std.specs.List.{Contains}
 use mathlib.Core.List.{IsPrefix}
-use Rattle.wq_words.proofs.Order.{in_order}
-use Rattle.wq_check.specs.declared.mark.Mark.{Mark}
-use Rattle.wq_check.specs.declared.mark.Mark.TheVariants.{Queue, Start, End}
-use Rattle.wq_check.specs.Trace.{unreturned, queued, started, returned, unseen, MayShow, IsLegalTrace, surely_unbegun, unstarted, next_start}
+use Rattle.wq_check.specs.Trace.{unreturned, unstarted, next_start}
 use Rattle.wq_check.specs.declared.cause.Cause.{Cause}
 use Rattle.wq_check.specs.declared.cause.Cause.TheVariants as cause
 use Rattle.wq_check.specs.MarkCauses.{HasMarkCause}
 use Rattle.wq_check.specs.TraceChecked.{SeenState, LooksAfter}
-use Rattle.wq_words.proofs.Times.{Contains_from_times, none_from_times, times, times-cons}
+use Rattle.wq_words.proofs.Times.{Contains_from_times, none_from_times}
 use Rattle.wq_check.proofs.Waits.{few_unbegun}
 use Rattle.wq_check.proofs.Lists.{first_left, drop_some}
 use Rattle.wq_check.proofs.Shown.{trace_history}

@@ -1,29 +1,20 @@
 -- A trace that keeps to its rules shows a legal history.
-use Rattle.std.proofs.Common.{◌≡◌, ◌≢◌, ℕ, zero, suc, ◌+◌, ◌<◌, ◌≤◌, ◌==◌, Bool, true, false, cond, List, [], ◌∷◌, ◌++◌, length, drop, slice_get, Some}
-use Rattle.std.proofs.Common.{refl, sym, ap, ◌∙◌, arith, inl, inr, subst, append_assoc, length-append, count_by}
-use Rattle.std.proofs.lemmas.List.{append-nil}
-use Rattle.std.proofs.lemmas.Bool.{eq-eqb, ne_eqb, cases_eq, cases_lt}
-use Rattle.std.proofs.lemmas.Option.{slice_get_within}
-use Rattle.wq_words.specs.declared.layout.Layout.{Layout}
-use Rattle.wq_words.specs.declared.event.Event.{Event}
+use Rattle.wq_check.proofs.Common.{◌≡◌, ◌≢◌, ℕ, zero, suc, ◌+◌, ◌<◌, ◌≤◌, ◌==◌, Bool, true, false, cond, List, [], ◌∷◌, ◌++◌, length, drop, slice_get}
+use Rattle.wq_check.proofs.Common.{Some, refl, sym, ap, ◌∙◌, arith, inl, inr, subst, length-append, append-nil, eq-eqb, ne_eqb, cases_eq, cases_lt}
+use Rattle.wq_check.proofs.Common.{slice_get_within, Layout, Event, number_count, accepted, begun, ended, running, IsRunning, IsLegal, Keeper, Home}
+use Rattle.wq_check.proofs.Common.{Sender, Listed, Owner, keeper, growing, count_by_push, slice_get_append, slice_get_last, take_length, in_order}
+use Rattle.wq_check.proofs.Common.{queue_bit, kept, Mark, Queue, Start, End, queued, started, returned, unseen, MayShow, number_of, IsLegalTrace}
+use Rattle.wq_check.proofs.Common.{surely_unbegun, times, times-cons}
+use Rattle.std.proofs.Common.{append_assoc, count_by}
 use Rattle.wq_words.specs.declared.event.Event.TheVariants as event
-use Rattle.wq_words.specs.Numbers.{number_count}
-use Rattle.wq_words.specs.History.{accepted, begun, ended, running, next, shut, starts_hold, stops_hold, IsRunning, IsPending, Holds, IsShut}
-use Rattle.wq_words.specs.Legal.{IsLegal}
-use Rattle.wq_words.specs.Keeper.{Keeper, Home, Sender, Listed, Owner, keeper}
-use Rattle.wq_words.proofs.Growing.{growing, count_by_push, slice_get_append, slice_get_last, take_length}
+use Rattle.wq_words.specs.History.{next, shut, starts_hold, stops_hold, IsPending, Holds, IsShut}
 use Rattle.wq_words.proofs.Legal.{legal_nil, legal_push}
-use Rattle.wq_words.proofs.Order.{in_order}
 use Rattle.wq_words.proofs.Closed.{shut_quiet, open_from_shut}
-use Rattle.wq_words.proofs.Keepers.{queue_bit, kept}
 use Rattle.wq_words.proofs.Places.{keeps_from_keeper}
 use Rattle.wq_words.proofs.Appended.{count_by-append}
-use Rattle.wq_check.specs.declared.mark.Mark.{Mark}
-use Rattle.wq_check.specs.declared.mark.Mark.TheVariants.{Queue, Start, End}
-use Rattle.wq_check.specs.Trace.{queued, started, returned, unseen, MayShow, number_of, IsLegalTrace, surely_unbegun}
 use Rattle.wq_check.specs.Shows.{Shows, nothing, hides, queues, begins, starts, ends, ShowsLegalHistory}
 use Rattle.wq_check.proofs.Waits.{waits_bit}
-use Rattle.wq_words.proofs.Times.{times_from_none, times, times-cons}
+use Rattle.wq_words.proofs.Times.{times_from_none}
 
 -- the history shows the trace, and at most one execution has begun whose start was not seen
 pub record Tells (layout : Layout) (t : List Mark) (h : List Event) : Type 0 where

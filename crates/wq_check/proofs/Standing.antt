@@ -1,32 +1,30 @@
 -- How a queue stands tells of each next event whether it may come, and what is left.
-use Rattle.std.proofs.Common.{◌≡◌, ◌≢◌, ℕ, suc, ◌+◌, ◌-◌, ◌<◌, ◌≤◌, ◌==◌, ◌↔◌, Bool, true, false, not, IsTrue, List, [], ◌∷◌, length, drop, get_or, cond}
-use Rattle.std.proofs.Common.{slice_get, Option, Some, None, is_some, refl, sym, ap, ◌∙◌, arith, length-drop}
-use Rattle.std.proofs.lemmas.Bool.{false≢true, eq-eqb}
+use Rattle.wq_check.proofs.Common.{◌≡◌, ◌≢◌, ℕ, suc, ◌+◌, ◌-◌, ◌<◌, ◌≤◌, ◌==◌, ◌↔◌, Bool, true, false, List, [], ◌∷◌, length, drop, get_or, cond}
+use Rattle.wq_check.proofs.Common.{slice_get, Some, None, is_some, refl, sym, ap, ◌∙◌, arith, false≢true, eq-eqb, Event, Hold, Busy, Push, Back, Take}
+use Rattle.wq_check.proofs.Common.{Close, Drain, Resume, Begin, Chain, ChainBusy, Rest, number_count, accepted, begun, ended, running, IsRunning}
+use Rattle.wq_check.proofs.Common.{Keeper, Home, Sender, Listed, Owner, keeper, slice_get_append, prefix_length, in_order, queue_bit, kept, Idle}
+use Rattle.wq_check.proofs.Common.{unbegun, times, times-cons}
+use Rattle.std.proofs.Common.{not, IsTrue}
+use Rattle.std.proofs.Common.{Option, length-drop}
 use Rattle.std.specs.List.{Contains}
 use Rattle.std.specs.Option.{MatchOption}
-use Rattle.wq_words.specs.declared.event.Event.{Event}
-use Rattle.wq_words.specs.declared.event.Event.TheVariants.{Hold, Busy, Push, Back, Take, Close, Drain, Resume, Begin, End, Chain, ChainBusy, Rest}
-use Rattle.wq_words.specs.Numbers.{number_count}
-use Rattle.wq_words.specs.History.{accepted, begun, ended, running, next, IsRunning, IsPending, Holds, IsClosed, IsShut}
+use Rattle.wq_words.specs.declared.event.Event.TheVariants.{End}
+use Rattle.wq_words.specs.History.{next, IsPending, Holds, IsClosed, IsShut}
 use Rattle.wq_words.specs.Legal.{MayFollow}
-use Rattle.wq_words.specs.Keeper.{Keeper, Home, Sender, Listed, Owner, keeper}
-use Rattle.wq_words.proofs.Growing.{slice_get_append}
-use Rattle.wq_words.proofs.Prefixes.{prefix_length}
-use Rattle.wq_words.proofs.Order.{in_order}
 use Rattle.wq_words.proofs.Running.{runs_from_running, rests_from_running, running_from_rests}
 use Rattle.wq_words.proofs.Closed.{closed_from_IsClosed, closed_from_open, IsClosed_from_closed, open_from_closed}
 use Rattle.wq_words.proofs.Closed.{shut_from_IsShut, shut_from_open, IsShut_from_shut, open_from_shut, closed_shuts}
-use Rattle.wq_words.proofs.Keepers.{pending_bit, queue_bit, kept}
+use Rattle.wq_words.proofs.Keepers.{pending_bit}
 use Rattle.wq_words.proofs.Places.{keeper_from_keeps, keeps_from_keeper}
 use Rattle.wq_check.specs.declared.queue.Place.{Place}
-use Rattle.wq_check.specs.declared.queue.Place.TheVariants.{Idle, Held, Waiting}
+use Rattle.wq_check.specs.declared.queue.Place.TheVariants.{Held, Waiting}
 use Rattle.wq_check.specs.Checked.{QueueState, place_by_keeper, StandsAfter}
 use Rattle.wq_check.specs.declared.cause.Cause.{Cause}
 use Rattle.wq_check.specs.declared.cause.Cause.TheVariants as cause
-use Rattle.wq_check.specs.Left.{left, unbegun}
+use Rattle.wq_check.specs.Left.{left}
 use Rattle.wq_check.specs.Causes.{HasCause}
 use Rattle.wq_check.proofs.Waits.{waits_bit}
-use Rattle.wq_words.proofs.Times.{times, times-cons, times_from_Contains, Contains_from_times}
+use Rattle.wq_words.proofs.Times.{times_from_Contains, Contains_from_times}
 use Rattle.wq_check.proofs.Lists.{first_left, drop_some}
 
 abbrev pub place_at : QueueState → ℕ → Place

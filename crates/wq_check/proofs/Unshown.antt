@@ -1,27 +1,19 @@
 -- A trace of a legal history keeps to the three rules.
-use Rattle.std.proofs.Common.{◌≡◌, ℕ, ◌+◌, ◌<◌, ◌≤◌, List, [], ◌∷◌, ◌++◌, length, drop, take, slice_get, Some, None, refl, sym, ap, ◌∙◌, arith, inl, inr}
-use Rattle.std.proofs.Common.{length-append}
-use Rattle.std.proofs.lemmas.List.{append-nil, drop-drop, take-append-drop}
-use Rattle.std.proofs.lemmas.Bool.{cases_lt, eq-eqb}
-use Rattle.std.proofs.lemmas.Option.{slice_get_within}
-use Rattle.wq_words.specs.declared.layout.Layout.{Layout}
-use Rattle.wq_words.specs.declared.event.Event.{Event}
+use Rattle.wq_check.proofs.Common.{◌≡◌, ℕ, ◌+◌, ◌<◌, ◌≤◌, List, [], ◌∷◌, ◌++◌, length, drop, take, slice_get, Some, None, refl, sym, ap, ◌∙◌, arith}
+use Rattle.wq_check.proofs.Common.{inl, inr, length-append, append-nil, drop-drop, cases_lt, eq-eqb, slice_get_within, Layout, Event, accepted, begun}
+use Rattle.wq_check.proofs.Common.{ended, running, IsLegal, Home, Sender, keeper, growing, slice_get_append, slice_get_last, take_length}
+use Rattle.wq_check.proofs.Common.{prefix_length, in_order, queue_bit, Mark, Queue, Start, End, queued, started, returned, unseen, MayShow}
+use Rattle.wq_check.proofs.Common.{surely_unbegun, times, times-append}
+use Rattle.std.proofs.lemmas.List.{take-append-drop}
 use Rattle.wq_words.specs.declared.event.Event.TheVariants as event
-use Rattle.wq_words.specs.History.{accepted_by, accepted, begun_by, begun, ended_by, ended, running}
-use Rattle.wq_words.specs.Legal.{IsLegal, IsAllowed}
-use Rattle.wq_words.specs.Keeper.{Home, Sender, keeper}
-use Rattle.wq_words.proofs.Growing.{growing, filter_map_push_some, filter_map_push_none, slice_get_append, slice_get_last, slice_get_push, take_append}
-use Rattle.wq_words.proofs.Growing.{take_length}
+use Rattle.wq_words.specs.History.{accepted_by, begun_by, ended_by}
+use Rattle.wq_words.specs.Legal.{IsAllowed}
+use Rattle.wq_words.proofs.Growing.{filter_map_push_some, filter_map_push_none, slice_get_push, take_append}
 use Rattle.wq_words.proofs.Legal.{legal_front, legal_next}
-use Rattle.wq_words.proofs.Prefixes.{prefix_length}
-use Rattle.wq_words.proofs.Order.{in_order}
-use Rattle.wq_words.proofs.Keepers.{queue_bit}
 use Rattle.wq_words.proofs.Places.{keeper_from_keeps}
-use Rattle.wq_check.specs.declared.mark.Mark.{Mark}
-use Rattle.wq_check.specs.declared.mark.Mark.TheVariants.{Queue, Start, End}
-use Rattle.wq_check.specs.Trace.{queued_by, started_by, returned_by, queued, started, returned, unseen, MayShow, FollowsRules, surely_unbegun}
+use Rattle.wq_check.specs.Trace.{queued_by, started_by, returned_by, FollowsRules}
 use Rattle.wq_check.specs.Shows.{Shows, nothing, hides, queues, begins, starts, ends, ShowsLegalHistory}
-use Rattle.wq_words.proofs.Times.{none_from_times, times, times-append}
+use Rattle.wq_words.proofs.Times.{none_from_times}
 use Rattle.wq_check.proofs.Waits.{waits_bit}
 use Rattle.wq_check.proofs.Shown.{nil_end, one_of, zero_or}
 

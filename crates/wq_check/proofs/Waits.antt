@@ -1,17 +1,9 @@
 -- Each number waits at most once, so that no more wait than there are.
-use Rattle.std.proofs.Common.{◌≡◌, ℕ, ◌+◌, ◌<◌, ◌≤◌, List, length, take, drop, refl, sym, ap, ◌∙◌, arith}
+use Rattle.wq_check.proofs.Common.{◌≡◌, ℕ, ◌+◌, ◌<◌, ◌≤◌, List, length, take, drop, refl, sym, ap, ◌∙◌, arith, Layout, Event, number_count, accepted}
+use Rattle.wq_check.proofs.Common.{begun, IsLegal, keeper, in_order, queue_bit, kept, times, times-append, unbegun}
 use Rattle.std.proofs.lemmas.List.{drop_at, take-append-drop}
-use Rattle.wq_words.specs.declared.layout.Layout.{Layout}
-use Rattle.wq_words.specs.declared.event.Event.{Event}
-use Rattle.wq_words.specs.Numbers.{number_count}
-use Rattle.wq_words.specs.History.{accepted, begun}
-use Rattle.wq_words.specs.Legal.{IsLegal}
-use Rattle.wq_words.specs.Keeper.{keeper}
-use Rattle.wq_words.proofs.Order.{in_order}
-use Rattle.wq_words.proofs.Keepers.{queue_bit, kept}
-use Rattle.wq_words.proofs.Times.{times, times-append, few}
+use Rattle.wq_words.proofs.Times.{few}
 use Rattle.wq_words.proofs.Accepted.{accepted_below, queue_once}
-use Rattle.wq_check.specs.Left.{unbegun}
 
 -- how often a number waits, by its keeper
 pub waits_bit : (layout : Layout) (h : List Event) → IsLegal layout h → (k : ℕ) → times k (unbegun h) ≡ queue_bit (keeper h k)

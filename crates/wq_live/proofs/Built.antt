@@ -1,33 +1,24 @@
 -- The senders and the owner of a new queue.
-use Rattle.std.proofs.Common.{◌≡◌, ℕ, zero, suc, ◌+◌, ◌<◌, List, [], ◌∷◌, ◌++◌, length, get_or, map, None, sym, refl, ap, ◌∙◌, subst, arith, length-append}
-use Rattle.std.specs.Prelude.{All}
+use Rattle.wq_live.proofs.Common.{◌≡◌, ℕ, zero, suc, ◌+◌, ◌<◌, List, [], ◌∷◌, ◌++◌, length, map, None, sym, refl, ap, ◌∙◌, subst, arith}
+use Rattle.wq_live.proofs.Common.{length-append, All, TableId, Layout, Standing, ValueStanding, standing_of, value_senders, Open, running, owner_seat}
+use Rattle.wq_live.proofs.Common.{Known, new_senders, KnownWith, knowing_nothing, sender_with, AreKnown, SendsValues, Bare, Sent, OwnerSeat}
+use Rattle.wq_live.proofs.Common.{sender_counts, Row, IsRowOf, Owning, owning, owner_view, Sending, sending_in, alone_at, sender_view, Sends, Stands}
+use Rattle.wq_live.proofs.Common.{OwnsQueue, phase}
+use Rattle.std.proofs.Common.{get_or}
 use Rattle.std.proofs.lemmas.List.{map-append, length-map}
 use Rattle.std.proofs.lemmas.List.Elements.{All-map}
-use Rattle.atomic_table.specs.Seated.{TableId}
-use Rattle.wq_words.specs.declared.layout.Layout.{Layout}
 use Rattle.wq_words.proofs.Legal.{legal_nil}
 use Rattle.wq_words.proofs.Written.{each_more}
 use Rattle.wq_core.specs.Machine.{opening}
 use Rattle.wq_core.proofs.Sound.{sound_opening}
-use Rattle.wq_table.specs.Chair.{Standing, owner_chair, sender_chair}
-use Rattle.wq_table.specs.SlotChairs.{ValueStanding, standing_of, value_sender, value_senders, value_owner}
-use Rattle.wq_live.specs.declared.owner_seat.Phase.TheVariants.{Open}
-use Rattle.wq_words.specs.History.{running}
-use Rattle.wq_words.specs.Seen.{owner_seat}
-use Rattle.wq_live.specs.Known.{Known, new_sender, new_senders, new_owner}
-use Rattle.wq_live.specs.KnownWith.{KnownWith, knowing_nothing}
-use Rattle.wq_live.specs.Valued.{sender_with, AreKnown}
-use Rattle.wq_live.specs.Alone.{SendsAlone, SendsValues}
-use Rattle.wq_live.specs.declared.bare.Bare.{Bare}
-use Rattle.wq_live.specs.declared.sent.Sent.{Sent}
-use Rattle.wq_live.specs.declared.owner_seat.OwnerSeat.{OwnerSeat}
-use Rattle.wq_live.specs.Counts.{sender_counts, owner_counts}
-use Rattle.wq_live.specs.declared.row.Row.{Row}
-use Rattle.wq_live.specs.Row.{IsRowOf}
+use Rattle.wq_table.specs.Chair.{owner_chair, sender_chair}
+use Rattle.wq_table.specs.SlotChairs.{value_sender, value_owner}
+use Rattle.wq_live.specs.Known.{new_sender, new_owner}
+use Rattle.wq_live.specs.Alone.{SendsAlone}
+use Rattle.wq_live.specs.Counts.{owner_counts}
 use Rattle.wq_table.proofs.Views.{none_stands}
 use Rattle.wq_live.proofs.Seated.{all_new, length-new_senders}
 use Rattle.wq_live.proofs.Linking.{has_row}
-use Rattle.wq_live.specs.Sits.{Owning, owning, owner_view, Sending, sending_in, alone_at, sender_view, Sends, Stands, OwnsQueue, phase}
 
 pub length-value_senders : (V : Type 0) (q : TableId) (l : Layout) (n : ℕ) → length (value_senders {V = V} q l n) ≡ n
 length-value_senders V q l zero = refl

@@ -1,15 +1,8 @@
 -- A chaining by the owner, and the row hung behind what waits.
-use Rattle.std.proofs.Common.{◌≡◌, ◌≢◌, ℕ, ◌+◌, ◌==◌, if◌then◌else◌, Bool, List, [], ◌∷◌, ◌++◌, None, MatchBool, eq-eqb, ne_eqb, sym, refl, ap, ◌∙◌, subst}
+use Rattle.wq_live.proofs.Common.{◌≡◌, ◌≢◌, ℕ, ◌+◌, ◌==◌, if◌then◌else◌, Bool, List, [], ◌∷◌, ◌++◌, None, MatchBool, eq-eqb, ne_eqb, sym, refl, ap}
+use Rattle.wq_live.proofs.Common.{◌∙◌, subst, owner_seat, Grows, Chain, Owns, Standing, Steps, capped, Sees, batch, Owning as Inside, owner_view}
+use Rattle.wq_live.proofs.Common.{Stands, OnlySees, HasRow, HasBoth, OwnsQueue, kept_batch}
 use Rattle.wq_words.specs.declared.event.Event.TheVariants as event
-use Rattle.wq_words.specs.Seen.{owner_seat, Grows}
-use Rattle.wq_core.specs.declared.step.Step.TheVariants.{Chain}
-use Rattle.wq_table.specs.declared.table.Stage.TheVariants.{Owns}
-use Rattle.wq_table.specs.Chair.{Standing, Steps}
-use Rattle.wq_live.specs.Counts.{capped}
-use Rattle.wq_live.specs.Known.{Sees}
-use Rattle.wq_live.specs.Batch.{batch}
-use Rattle.wq_live.specs.Sits.{Owning as Inside}
-use Rattle.wq_live.specs.Sits.{owner_view, Stands, OnlySees, HasRow, HasBoth, OwnsQueue, kept_batch}
 use Rattle.wq_live.proofs.Tells.{Tells}
 use Rattle.wq_live.proofs.Owned.{running_quiet, counts_chained, counts_busy}
 use Rattle.wq_live.proofs.Phases.{phase_quiet}

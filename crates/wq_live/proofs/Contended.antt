@@ -1,12 +1,8 @@
 -- A queueing that was given up: what the lost tries were paid with came after its hold.
-use Rattle.std.proofs.Common.{◌≡◌, ℕ, ◌≤◌, Bool, true, false, cond, not, ◌==◌, List, [], ◌∷◌, ◌++◌, length, refl, ap, ◌∙◌, arith, append_assoc, length-append, subst}
-use Rattle.wq_words.specs.declared.event.Event.{Event}
-use Rattle.wq_words.specs.declared.event.Event.TheVariants.{Hold, Back}
+use Rattle.wq_live.proofs.Common.{◌≡◌, ℕ, ◌≤◌, Bool, true, false, cond, not, ◌==◌, List, [], ◌∷◌, ◌++◌, length, refl, ap, ◌∙◌, arith, append_assoc}
+use Rattle.wq_live.proofs.Common.{length-append, subst, Event, Hold, Back, seat_of, own, Grows, own-append, Known, Sees, IsContended}
 use Rattle.wq_words.specs.declared.event.Why.TheVariants as why
-use Rattle.wq_words.specs.Seen.{seat_of, own, others, Grows}
-use Rattle.wq_words.proofs.Seen.{own-append}
-use Rattle.wq_live.specs.Known.{Known, Sees}
-use Rattle.wq_live.specs.Answers.{IsContended}
+use Rattle.wq_words.specs.Seen.{others}
 
 -- where a seat made one event, no other of its events stands before or behind it
 record IsSplit (s : ℕ) (e : Event) (es : List Event) : Type 0 where

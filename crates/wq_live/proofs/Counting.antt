@@ -1,17 +1,12 @@
 -- What one event more counts.
-use Rattle.std.proofs.Common.{◌≡◌, ℕ, ◌+◌, Bool, true, false, cond, eqb, List, [], ◌∷◌, sym, refl, ap, ◌∙◌, arith, eq-eqb}
-use Rattle.std.specs.Prelude.{count_by}
-use Rattle.std.proofs.lemmas.List.Sums.{sum_by-append}
-use Rattle.wq_words.specs.declared.event.Event.{Event}
-use Rattle.wq_words.specs.declared.event.Event.TheVariants.{Hold, Busy, Push, Back}
+use Rattle.wq_live.proofs.Common.{◌≡◌, ℕ, ◌+◌, Bool, true, false, cond, eqb, List, [], ◌∷◌, sym, refl, ap, ◌∙◌, arith, eq-eqb, count_by}
+use Rattle.wq_live.proofs.Common.{sum_by-append, Event, Hold, Busy, Push, Back, seat_of, Grows, capped, sender_counts}
 use Rattle.wq_words.specs.declared.event.Why.TheVariants.{Closed, Draining, Contended, Cancelled}
 use Rattle.wq_words.proofs.Growing.{count_by_push}
-use Rattle.wq_words.specs.Seen.{seat_of, Grows}
 use Rattle.wq_words.proofs.Seen.{count_own}
 use Rattle.wq_live.specs.declared.counts.SenderCounts.{SenderCounts}
 use Rattle.wq_words.specs.Counting.{is_queued_by, is_pending_by, is_closed_by, is_draining_by, is_contended_by}
 use Rattle.wq_words.proofs.Counting.{queued_own, pending_own, closed_own, draining_own, contended_own}
-use Rattle.wq_live.specs.Counts.{capped, sender_counts}
 
 -- a count of own events goes on by the own events that came new
 pub count_on : (p : Event → Bool) (s : ℕ) → ((e : Event) → eqb (seat_of e) s ≡ false → p e ≡ false) → (xs : List Event) (n : ℕ) (v w : List Event)

@@ -1,19 +1,8 @@
 -- A swap of the head by the owner, and the walk of what was found.
-use Rattle.std.proofs.Common.{◌≡◌, ℕ, ◌+◌, List, [], ◌∷◌, length, None, sym, refl, ap, ◌∙◌, subst, arith}
-use mathlib.Core.List.{IsPrefix}
-use Rattle.wq_words.specs.declared.event.Event.{Event}
-use Rattle.wq_words.specs.Seen.{owner_seat, Grows}
-use Rattle.wq_core.specs.declared.step.Step.{Step}
-use Rattle.wq_core.specs.Words.{head_at, item_of}
-use Rattle.wq_table.specs.Chair.{Standing, Steps}
-use Rattle.wq_table.specs.SlotChairs.{ValueStanding, standing_of, ValueSteps}
-use Rattle.wq_table.proofs.Learns.{learns_step}
-use Rattle.wq_live.specs.Sits.{Owning as Inside}
-use Rattle.wq_live.specs.Known.{Sees}
-use Rattle.wq_live.specs.Batch.{batch, TakesAll}
-use Rattle.wq_live.specs.declared.owner_seat.OwnerSeat.{OwnerSeat}
-use Rattle.wq_live.specs.Hands.{OwnsSlots, OwnsSeat}
-use Rattle.wq_live.specs.Sits.{owning, owner_view, Stands, OnlySees, HasRow, OwnsQueue, phase, kept_batch, walking}
+use Rattle.wq_live.proofs.Common.{◌≡◌, ℕ, ◌+◌, List, [], ◌∷◌, length, None, sym, refl, ap, ◌∙◌, subst, arith, IsPrefix, Event, owner_seat, Grows}
+use Rattle.wq_live.proofs.Common.{Step, head_at, item_of, Standing, Steps, ValueStanding, standing_of, ValueSteps, learns_step, Owning as Inside}
+use Rattle.wq_live.proofs.Common.{Sees, batch, TakesAll, OwnerSeat, OwnsSlots, OwnsSeat, owning, owner_view, Stands, OnlySees, HasRow, OwnsQueue}
+use Rattle.wq_live.proofs.Common.{phase, kept_batch, walking}
 use Rattle.wq_live.proofs.Tells.{Tells}
 use Rattle.wq_live.proofs.Owned.{running_quiet, counts_quiet}
 use Rattle.wq_live.proofs.OwnerTells.{stands_batch, owner_batch, pair_owner, Swaps, swap_tells, swap_stage, owner_grows, owner_sees}

@@ -1,12 +1,9 @@
 -- A drain that a call met.
-use Rattle.std.proofs.Common.{◌≡◌, ℕ, ◌≤◌, List, ◌++◌, length, take, drop, sym, ap, ◌∙◌, subst, arith, append_assoc, length-append}
+use Rattle.wq_live.proofs.Common.{◌≡◌, ℕ, ◌≤◌, List, ◌++◌, length, take, sym, ap, ◌∙◌, subst, arith, append_assoc, length-append, Event, IsDraining}
+use Rattle.wq_live.proofs.Common.{Grows, take-length, HasMetDrain}
+use Rattle.std.proofs.Common.{drop}
 use Rattle.std.proofs.lemmas.List.{take-append-drop, length-take}
-use Rattle.wq_words.specs.declared.event.Event.{Event}
-use Rattle.wq_words.specs.History.{IsDraining}
-use Rattle.wq_words.specs.Seen.{Grows}
 use Rattle.wq_words.proofs.Growing.{take_length}
-use Rattle.std.proofs.Math.Seq.{take-length}
-use Rattle.wq_live.specs.Answers.{HasMetDrain}
 
 -- what is seen grows no shorter
 pub grows_longer : (c : ℕ) (xs : List Event) (n : ℕ) (v w : List Event) → Grows c xs n v w → length v ≤ length w

@@ -1,36 +1,22 @@
 -- A queue that is closed and has run to the end.
-use Rattle.std.proofs.Common.{◌≡◌, ℕ, ◌+◌, ◌≤◌, Bool, true, false, cond, List, [], ◌∷◌, ◌++◌, length, take, Option, Some, None, slice_get, sym, refl, ap, ◌∙◌, subst, arith, append_assoc}
+use Rattle.wq_live.proofs.Common.{◌≡◌, ℕ, ◌+◌, ◌≤◌, Bool, true, false, cond, List, [], ◌∷◌, ◌++◌, length, take, Option, Some, None, slice_get, sym}
+use Rattle.wq_live.proofs.Common.{refl, ap, ◌∙◌, subst, arith, append_assoc, append-nil, sum_by-append, filter_map-append, Layout, Event, Hold, Busy}
+use Rattle.wq_live.proofs.Common.{Push, Back, Take, Close, Drain, Begin, End, ChainBusy, accepted, accepted_by, begun, begun_by, ended, is_close}
+use Rattle.wq_live.proofs.Common.{IsClosed, IsShut, IsRunning, running, listed, IsLegal, take-length, keeps_headline, legal_front, legal_next}
+use Rattle.wq_live.proofs.Common.{in_order, prefix_length, Part, Owns, HasStage, false≢true, IsClosed_from_closed, closed_shuts, runs_some}
+use Rattle.wq_live.proofs.Common.{Owning as Inside, Known, batch, owner_view, Stands, OwnsQueue, kept_batch}
 use Rattle.std.specs.Prelude.{filter_map}
-use Rattle.std.proofs.lemmas.List.{append-nil}
-use Rattle.std.proofs.lemmas.List.Sums.{sum_by-append}
-use Rattle.std.proofs.lemmas.List.Elements.{filter_map-append}
 use Rattle.std.proofs.lemmas.Option.{slice_get_past}
-use Rattle.wq_words.specs.declared.layout.Layout.{Layout}
-use Rattle.wq_words.specs.declared.event.Event.{Event}
-use Rattle.wq_words.specs.declared.event.Event.TheVariants.{Hold, Busy, Push, Back, Take, Close, Drain, Resume, Begin, End, Chain, ChainBusy, Rest}
-use Rattle.wq_words.specs.History.{accepted, accepted_by, begun, begun_by, ended, ended_by, is_close, closed, IsClosed, IsShut, IsRunning, running}
-use Rattle.wq_words.specs.Listed.{listed}
-use Rattle.wq_words.specs.Legal.{MayFollow, IsLegal, IsComplete, HasRunOut}
-use Rattle.std.proofs.Math.Seq.{take-length}
-use Rattle.wq_words.proofs.Headlines.{keeps_headline}
-use Rattle.wq_words.proofs.Legal.{legal_front, legal_next}
-use Rattle.wq_words.proofs.Order.{in_order}
-use Rattle.wq_words.proofs.Prefixes.{prefix_length}
+use Rattle.wq_words.specs.declared.event.Event.TheVariants.{Resume, Chain, Rest}
+use Rattle.wq_words.specs.History.{ended_by, closed}
+use Rattle.wq_words.specs.Legal.{MayFollow, IsComplete, HasRunOut}
 use Rattle.wq_words.proofs.Listed.{listed-shut}
-use Rattle.wq_table.specs.declared.table.Part.{Part}
-use Rattle.wq_table.specs.declared.table.Stage.TheVariants.{Owns}
-use Rattle.wq_table.specs.Law.{HasStage}
 use Rattle.std.specs.Option.{is_some}
-use Rattle.std.proofs.lemmas.Bool.{false≢true, false_from_ne_true}
+use Rattle.std.proofs.lemmas.Bool.{false_from_ne_true}
 use Rattle.std.proofs.lemmas.Option.{slice_get_within}
-use Rattle.wq_words.proofs.Closed.{closed_from_IsClosed, IsClosed_from_closed, closed_shuts}
-use Rattle.wq_words.proofs.Running.{runs_some}
-use Rattle.wq_live.specs.Sits.{Owning as Inside}
-use Rattle.wq_live.specs.Known.{Known}
+use Rattle.wq_words.proofs.Closed.{closed_from_IsClosed}
 use Rattle.wq_live.specs.Answers.{IsFinal}
-use Rattle.wq_live.specs.Batch.{batch}
 use Rattle.wq_live.proofs.OwnerTells.{stands_legal, owner_batch}
-use Rattle.wq_live.specs.Sits.{owner_view, Stands, OwnsQueue, kept_batch}
 use Rattle.wq_live.proofs.Rows.{none_counted}
 use Rattle.wq_live.proofs.Taken.{rested_lengths}
 

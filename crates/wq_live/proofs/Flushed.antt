@@ -1,18 +1,11 @@
 -- What a barrier that is not pending says of what was accepted before it.
-use Rattle.std.proofs.Common.{◌≡◌, ℕ, ◌≤◌, Bool, false, cond, ◌==◌, List, [], ◌∷◌, ◌++◌, length, refl, ap, ◌∙◌, arith, eq-eqb, length-append}
-use Rattle.std.specs.Prelude.{count_by}
-use Rattle.std.proofs.lemmas.List.Sums.{sum_by-append, sum_by-cons}
+use Rattle.wq_live.proofs.Common.{◌≡◌, ℕ, ◌≤◌, Bool, false, cond, ◌==◌, List, [], ◌∷◌, ◌++◌, length, refl, ap, ◌∙◌, arith, eq-eqb, length-append}
+use Rattle.wq_live.proofs.Common.{count_by, sum_by-append, sum_by-cons, IsPrefix, Layout, Event, Push, accepted, begun, ended, pending, IsLegal}
+use Rattle.wq_live.proofs.Common.{accepted-append, in_order, kept}
 use Rattle.std.proofs.lemmas.Bool.Decides.{nat_tests}
-use mathlib.Core.List.{IsPrefix}
-use Rattle.wq_words.specs.declared.layout.Layout.{Layout}
-use Rattle.wq_words.specs.declared.event.Event.{Event}
-use Rattle.wq_words.specs.declared.event.Event.TheVariants.{Push}
-use Rattle.wq_words.specs.History.{accepted, begun, ended, pending, sets_pending, clears_pending}
-use Rattle.wq_words.specs.Legal.{IsLegal}
+use Rattle.wq_words.specs.History.{sets_pending, clears_pending}
 use Rattle.wq_words.specs.Keeper.{Keeper, keeper}
-use Rattle.wq_words.proofs.Appended.{accepted-append}
-use Rattle.wq_words.proofs.Order.{in_order}
-use Rattle.wq_words.proofs.Keepers.{pending_bit, queue_bit, home_from_bit, kept}
+use Rattle.wq_words.proofs.Keepers.{pending_bit, queue_bit, home_from_bit}
 use Rattle.wq_live.specs.Answers.{HasFlushed}
 
 -- an element among others is counted

@@ -1,12 +1,10 @@
 -- What was pushed since the last Take, Drain or Resume stands on the list, until the queue is closed.
-use Rattle.std.proofs.Common.{◌≡◌, Bool, true, false, List, [], ◌∷◌, ◌++◌, length, sym, refl, ap, ◌∙◌, arith}
-use Rattle.wq_words.specs.declared.layout.Layout.{Layout}
-use Rattle.wq_words.specs.declared.event.Event.{Event}
+use Rattle.wq_live.proofs.Common.{◌≡◌, Bool, true, false, List, [], ◌∷◌, ◌++◌, length, sym, refl, ap, ◌∙◌, arith, Layout, Event, IsClosed, IsShut}
+use Rattle.wq_live.proofs.Common.{IsDraining, IsLegal, listed, shut_from_IsShut, IsShut_from_shut, open_from_shut, IsClosed_from_closed}
 use Rattle.wq_words.specs.declared.event.Event.TheVariants as event
-use Rattle.wq_words.specs.History.{is_push, shut, fresh, IsClosed, IsShut, IsDraining}
-use Rattle.wq_words.specs.Legal.{IsAllowed, IsLegal}
-use Rattle.wq_words.specs.Listed.{listed}
-use Rattle.wq_words.proofs.Closed.{closed_stays, closed_push_yes, shut_from_IsShut, IsShut_from_shut, open_from_shut, shut_quiet, IsClosed_from_closed}
+use Rattle.wq_words.specs.History.{is_push, shut, fresh}
+use Rattle.wq_words.specs.Legal.{IsAllowed}
+use Rattle.wq_words.proofs.Closed.{closed_stays, closed_push_yes, shut_quiet}
 use Rattle.wq_words.proofs.Legal.{legal_induction}
 use Rattle.wq_words.proofs.Listed.{IsQuiet, quiet, fresh_push, fresh_cut, fresh-open, listed-shut}
 

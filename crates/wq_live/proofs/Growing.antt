@@ -1,12 +1,9 @@
 -- What a seat sees come new, step after step.
-use Rattle.std.proofs.Common.{◌≡◌, ◌≢◌, ℕ, ◌+◌, ◌≤◌, Bool, true, false, cond, not, eqb, List, [], ◌∷◌, ◌++◌, length, sym, refl, ap, ◌∙◌, subst, arith, append_assoc, length-append}
-use Rattle.std.proofs.lemmas.List.{append-nil}
-use mathlib.Core.List.{IsPrefix}
-use Rattle.wq_words.specs.declared.event.Event.{Event}
-use Rattle.wq_words.specs.History.{Holds}
+use Rattle.wq_live.proofs.Common.{◌≡◌, ◌≢◌, ℕ, ◌+◌, ◌≤◌, Bool, true, false, cond, not, eqb, List, [], ◌∷◌, ◌++◌, length, sym, refl, ap, ◌∙◌, subst}
+use Rattle.wq_live.proofs.Common.{arith, append_assoc, length-append, append-nil, IsPrefix, Event, Holds, seat_of, own, Grows, own-append}
 use Rattle.wq_core.specs.Sound.{head_word_of}
-use Rattle.wq_words.specs.Seen.{seat_of, own, others, Grows}
-use Rattle.wq_words.proofs.Seen.{own-append, others-append, none_new, held_same}
+use Rattle.wq_words.specs.Seen.{others}
+use Rattle.wq_words.proofs.Seen.{others-append, none_new, held_same}
 
 pub grows_done : (c : ℕ) (v h xs : List Event) → IsPrefix v h → own c h ≡ own c v → own c xs ≡ xs → Grows c xs 0 v (h ++ xs)
 grows_done c v h xs begins mine all = record {

@@ -1,16 +1,8 @@
 -- What the begun numbers were handed, call after call.
-use Rattle.std.proofs.Common.{◌≡◌, ℕ, zero, suc, ◌≤◌, List, [], ◌∷◌, ◌++◌, length, take, slice_get, Option, Some, sym, ap, ◌∙◌, arith, length-append}
-use Rattle.std.proofs.lemmas.List.{append-nil, take-append-le}
-use Rattle.std.proofs.Math.Seq.{take-length}
-use mathlib.Core.List.{IsPrefix}
-use Rattle.wq_words.specs.declared.layout.Layout.{Layout}
-use Rattle.wq_words.specs.declared.event.Event.{Event}
-use Rattle.wq_words.specs.declared.event.Event.TheVariants.{Begin}
-use Rattle.wq_words.specs.History.{accepted, begun}
-use Rattle.wq_words.specs.Legal.{IsLegal}
-use Rattle.wq_words.specs.Seen.{owner_seat, Grows}
-use Rattle.wq_words.proofs.Order.{in_order}
-use Rattle.wq_words.proofs.Prefixes.{prefix_length}
+use Rattle.wq_live.proofs.Common.{◌≡◌, ℕ, zero, suc, ◌≤◌, List, [], ◌∷◌, ◌++◌, length, take, slice_get, Option, Some, sym, ap, ◌∙◌, arith}
+use Rattle.wq_live.proofs.Common.{length-append, append-nil, take-length, IsPrefix, Layout, Event, Begin, accepted, begun, IsLegal, owner_seat, Grows}
+use Rattle.wq_live.proofs.Common.{in_order, prefix_length}
+use Rattle.std.proofs.lemmas.List.{take-append-le}
 use Rattle.wq_live.proofs.Owned.{begun_on}
 
 module _ {V : Type 0} where

@@ -1,30 +1,14 @@
 -- What an owner of a queue whose items bring values has handed over, call after call, and its history with values.
-use Rattle.std.proofs.Common.{◌≡◌, ℕ, Bool, true, false, List, [], ◌∷◌, ◌++◌, length, slice_get, Option, Some, refl, sym, ap, ◌∙◌, subst, arith, length-append}
-use Rattle.std.proofs.lemmas.List.{append-nil}
-use mathlib.Core.List.{IsPrefix}
-use Rattle.wq_words.specs.declared.layout.Layout.{Layout}
-use Rattle.wq_words.specs.declared.event.Event.{Event}
-use Rattle.wq_words.specs.declared.event.Event.TheVariants.{Begin, Chain, ChainBusy, Rest}
-use Rattle.wq_words.specs.declared.answer.Answer.{Answer}
+use Rattle.wq_live.proofs.Common.{◌≡◌, ℕ, Bool, true, false, List, [], ◌∷◌, ◌++◌, length, slice_get, Option, Some, refl, sym, ap, ◌∙◌, subst, arith}
+use Rattle.wq_live.proofs.Common.{length-append, append-nil, IsPrefix, Layout, Event, Begin, ChainBusy, Answer, accepted, begun, IsLegal, AreBrought}
+use Rattle.wq_live.proofs.Common.{IsLegalWith, with_values, Part, Learns, learns_more, OwnerSeat, Sees, Rests, owning, owner_view, OwnsSeat}
+use Rattle.wq_live.proofs.Common.{KnownWith, Learnt, owner_seat, Grows, legal_front, owner_with, AreKnown}
+use Rattle.wq_words.specs.declared.event.Event.TheVariants.{Chain, Rest}
 use Rattle.wq_words.specs.declared.answer.Answer.TheVariants as answer
-use Rattle.wq_words.specs.History.{accepted, begun}
-use Rattle.wq_words.specs.Legal.{IsLegal}
-use Rattle.wq_words.specs.Valued.{AreBrought, IsLegalWith, with_values}
 use Rattle.wq_words.proofs.Valued.{legal_with}
-use Rattle.wq_table.specs.declared.table.Part.{Part}
-use Rattle.wq_table.specs.Beside.{Learns}
-use Rattle.wq_table.proofs.Learns.{learns_more}
-use Rattle.wq_live.specs.declared.owner_seat.OwnerSeat.{OwnerSeat}
-use Rattle.wq_live.specs.Known.{Sees}
 use Rattle.wq_live.specs.Answers.{Chains}
-use Rattle.wq_live.specs.Rest.{Rests}
-use Rattle.wq_live.specs.Sits.{owning, owner_view}
-use Rattle.wq_live.specs.Hands.{OwnsSeat}
-use Rattle.wq_live.specs.KnownWith.{KnownWith, Learnt, handed_in}
+use Rattle.wq_live.specs.KnownWith.{handed_in}
 use Rattle.wq_live.specs.Laws.{IsStillEnd}
-use Rattle.wq_words.specs.Seen.{owner_seat, Grows}
-use Rattle.wq_words.proofs.Legal.{legal_front}
-use Rattle.wq_live.specs.Valued.{owner_with, AreKnown}
 use Rattle.wq_live.proofs.OwnerTells.{stands_legal}
 use Rattle.wq_live.proofs.Handed.{handed_stays, handed_next}
 

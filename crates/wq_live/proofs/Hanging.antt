@@ -1,17 +1,12 @@
 -- A row hung behind another, and a row without its first number.
-use Rattle.std.proofs.Common.{◌≡◌, ◌≢◌, ℕ, ◌+◌, ◌-◌, ◌^◌, ◌<◌, ◌≤◌, Bool, if◌then◌else◌, List, [], ◌∷◌, ◌++◌, length, None, Some, sym, refl, ap, ◌∙◌, subst, arith, length-append, ne_eqb}
-use Rattle.std.proofs.lemmas.List.{append-nil}
-use Rattle.wq_words.specs.Numbers.{number_count}
-use Rattle.wq_core.specs.Words.{number_at}
-use Rattle.wq_core.specs.declared.step.Step.TheVariants.{Walk, Begin, Chain, Turn}
-use Rattle.wq_words.proofs.Times.{times, times-cons, times-first, times-append}
-use Rattle.wq_table.specs.declared.table.Part.{Part}
-use Rattle.wq_table.specs.declared.table.Stage.TheVariants.{Owns}
-use Rattle.wq_table.specs.Plays.{Makes}
+use Rattle.wq_live.proofs.Common.{◌≡◌, ◌≢◌, ℕ, ◌+◌, ◌-◌, ◌<◌, ◌≤◌, Bool, if◌then◌else◌, List, [], ◌∷◌, ◌++◌, length, None, Some, sym, refl, ap, ◌∙◌}
+use Rattle.wq_live.proofs.Common.{subst, arith, length-append, ne_eqb, append-nil, number_count, number_at, Walk, Chain, Turn, times, times-cons}
+use Rattle.wq_live.proofs.Common.{times-first, times-append, Part, Owns, Makes, Row, link_in, LinksOn, IsRowOf, Stands, HasRow, HasBoth, kept_batch}
+use Rattle.std.proofs.Common.{◌^◌}
+use Rattle.wq_core.specs.declared.step.Step.TheVariants.{Begin}
 use Rattle.wq_table.specs.Chair.{IsToWalk, IsToTurn}
-use Rattle.wq_live.specs.declared.row.Row.{Row}
-use Rattle.wq_live.specs.Row.{link_in, LinksOn, LinksFrom, IsRowOf}
-use Rattle.wq_live.specs.Sits.{Stands, HasRow, Turned, HasBoth, HasFirst, kept_batch}
+use Rattle.wq_live.specs.Row.{LinksFrom}
+use Rattle.wq_live.specs.Sits.{Turned, HasFirst}
 use Rattle.wq_live.proofs.Rows.{on_same, last_in, on_hung, none_counted}
 use Rattle.wq_live.proofs.Tells.{Tells}
 use Rattle.wq_live.proofs.Taking.{number_small}

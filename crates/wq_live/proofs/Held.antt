@@ -1,19 +1,12 @@
 -- What a seat goes on to hold.
-use Rattle.std.proofs.Common.{◌≡◌, ◌≢◌, ℕ, ◌≤◌, ◌==◌, ◌&&◌, Bool, true, false, cond, List, [], ◌∷◌, sym, refl, ap, subst, arith, ne_eqb}
-use Rattle.std.specs.Prelude.{count_by}
-use Rattle.std.proofs.lemmas.List.Sums.{sum_by-cons}
-use Rattle.wq_words.specs.declared.answer.Answer.{Answer}
+use Rattle.wq_live.proofs.Common.{◌≡◌, ◌≢◌, ℕ, ◌≤◌, ◌==◌, Bool, true, false, cond, List, [], ◌∷◌, sym, refl, ap, subst, arith, ne_eqb, count_by}
+use Rattle.wq_live.proofs.Common.{sum_by-cons, Answer, Posted, Event, Hold, Busy, Push, Back, Why, Holds, Known, Sees, TestsAndSets, Answers, Posts}
+use Rattle.std.proofs.Common.{◌&&◌}
 use Rattle.wq_words.specs.declared.answer.Answer.TheVariants as answer
-use Rattle.wq_words.specs.declared.answer.Posted.{Posted}
 use Rattle.wq_words.specs.declared.answer.Posted.TheVariants as posted
-use Rattle.wq_words.specs.declared.event.Event.{Event}
-use Rattle.wq_words.specs.declared.event.Event.TheVariants.{Hold, Busy, Push, Back}
-use Rattle.wq_words.specs.declared.event.Why.{Why}
 use Rattle.wq_words.specs.declared.event.Why.TheVariants as why
-use Rattle.wq_words.specs.History.{Holds, starts_hold, stops_hold}
+use Rattle.wq_words.specs.History.{starts_hold, stops_hold}
 use Rattle.wq_words.proofs.Seen.{starts_own, stops_own}
-use Rattle.wq_live.specs.Known.{Known, Sees}
-use Rattle.wq_live.specs.Answers.{TestsAndSets, Answers, Posts}
 use Rattle.wq_live.proofs.Counting.{count_on, count_one}
 use Rattle.wq_live.proofs.Sends.{sees_held}
 

@@ -1,3 +1,4 @@
+pub mod Common
 pub mod Growing
 pub mod Tells
 pub mod Counting

@@ -1,24 +1,14 @@
 -- The links of what the owner took, through its steps.
-use Rattle.std.proofs.Common.{◌≡◌, ◌≢◌, ℕ, ◌+◌, ◌<◌, ◌≤◌, Bool, if◌then◌else◌, List, [], ◌∷◌, ◌++◌, length, Option, Some, None, sym, refl, ap, ◌∙◌, subst, arith, eq-eqb, ne_eqb, unwrap_or}
-use Rattle.std.proofs.lemmas.List.{append-nil}
-use Rattle.wq_words.specs.Numbers.{number_count}
-use Rattle.wq_core.specs.declared.step.Step.{Step}
-use Rattle.wq_core.specs.declared.step.Step.TheVariants.{Walk, Turn}
+use Rattle.wq_live.proofs.Common.{◌≡◌, ◌≢◌, ℕ, ◌+◌, ◌<◌, ◌≤◌, Bool, if◌then◌else◌, List, [], ◌∷◌, ◌++◌, length, Option, Some, None, sym, refl, ap}
+use Rattle.wq_live.proofs.Common.{◌∙◌, subst, arith, eq-eqb, ne_eqb, unwrap_or, append-nil, number_count, Step, Walk, Turn, number_at, Machine, after}
+use Rattle.wq_live.proofs.Common.{times, times-cons, times-first, times-append, Part, Stage, Owns, seat_at, HasStage, stage_after, Makes, Row}
+use Rattle.wq_live.proofs.Common.{link_in, LinksOn, IsRowOf, Stands, HasRow, kept_batch, walking}
 use Rattle.wq_core.specs.declared.step.Seat.TheVariants.{Owner}
-use Rattle.wq_core.specs.Words.{number_at}
-use Rattle.wq_core.specs.Machine.{Machine, link, walk_number, with_link, first_of, after_walk, after, StandsIn}
-use Rattle.wq_words.proofs.Times.{times, times-cons, times-first, times-append}
+use Rattle.wq_core.specs.Machine.{link, walk_number, with_link, first_of, after_walk, StandsIn}
 use Rattle.wq_core.proofs.Turning.{stands_times, stands_once, stands_number}
 use Rattle.wq_core.proofs.Taken.{link_after, owner_links}
-use Rattle.wq_table.specs.declared.table.Part.{Part}
-use Rattle.wq_table.specs.declared.table.Stage.{Stage}
-use Rattle.wq_table.specs.declared.table.Stage.TheVariants.{Owns}
-use Rattle.wq_table.specs.Law.{seat_at, HasStage, HasLinks}
-use Rattle.wq_table.specs.Plays.{stage_after, Makes}
+use Rattle.wq_table.specs.Law.{HasLinks}
 use Rattle.wq_table.specs.Chair.{IsToWalk, IsToTurn}
-use Rattle.wq_live.specs.declared.row.Row.{Row}
-use Rattle.wq_live.specs.Row.{link_in, LinksOn, IsRowOf}
-use Rattle.wq_live.specs.Sits.{Stands, HasRow, kept_batch, walking}
 use Rattle.wq_live.proofs.Rows.{on_same, row_same}
 use Rattle.wq_live.proofs.Tells.{Tells, tells}
 use Rattle.wq_live.proofs.OwnerTells.{walking_on, walk_stage}

@@ -1,24 +1,10 @@
 -- An owner that a sender meets.
-use Rattle.std.proofs.Common.{◌≡◌, ℕ, ◌<◌, List, [], Option, sym, refl, ap, ◌∙◌, subst, arith}
-use mathlib.Core.List.{IsPrefix}
-use Rattle.wq_words.specs.declared.layout.Layout.{Layout}
-use Rattle.wq_core.specs.Machine.{Machine}
-use Rattle.wq_core.specs.Sound.{IsSound}
-use Rattle.wq_table.specs.declared.table.Part.{Part}
-use Rattle.wq_table.specs.declared.table.Stage.{Stage}
+use Rattle.wq_live.proofs.Common.{◌≡◌, ℕ, ◌<◌, List, [], Option, sym, refl, ap, ◌∙◌, subst, arith, IsPrefix, Layout, Machine, IsSound, Part, Stage}
+use Rattle.wq_live.proofs.Common.{HasStage, IsPartOf, see, all_see, Standing, IsSender, seeing, plain_view, ValueStanding, standing_of, knowing}
+use Rattle.wq_live.proofs.Common.{plain_telling, owner_seat, Owning as Inside, Known, Sees, Sending, owner_view, sender_view, Sends, Stands, HasRow}
+use Rattle.wq_live.proofs.Common.{OwnsQueue, kept_batch, OwnsSlots}
 use Rattle.wq_table.specs.declared.table.Stage.TheVariants as stage
-use Rattle.wq_table.specs.Law.{HasStage, IsPartOf}
-use Rattle.wq_table.specs.Plays.{see, all_see}
-use Rattle.wq_table.specs.Chair.{Standing, IsSender, seeing}
-use Rattle.wq_table.specs.Slots.{plain_view}
-use Rattle.wq_table.specs.SlotChairs.{ValueStanding, standing_of, knowing}
-use Rattle.wq_table.proofs.ValueRule.{plain_telling}
-use Rattle.wq_words.specs.Seen.{owner_seat}
 use Rattle.wq_words.proofs.Prefixes.{prefix_self}
-use Rattle.wq_live.specs.Sits.{Owning as Inside}
-use Rattle.wq_live.specs.Known.{Known, Sees}
-use Rattle.wq_live.specs.Sits.{Sending, owner_view, sender_view, Sends, Stands, HasRow, OwnsQueue, kept_batch}
-use Rattle.wq_live.specs.Hands.{OwnsSlots}
 use Rattle.wq_live.proofs.Tells.{Tells, meet_tells}
 use Rattle.wq_live.proofs.Owned.{running_quiet, counts_quiet}
 use Rattle.wq_live.proofs.Phases.{phase_quiet}

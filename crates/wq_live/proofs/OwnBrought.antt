@@ -1,21 +1,18 @@
 -- What the queueings of one seat brought, call after call.
-use Rattle.std.proofs.Common.{◌≡◌, ℕ, zero, suc, Bool, true, false, cond, ◌==◌, if◌then◌else◌, List, [], ◌∷◌, ◌++◌, length, Option, Some, None, sym, refl, ap, ◌∙◌, arith}
-use Rattle.std.specs.Prelude.{filter_map, slice_get}
+use Rattle.wq_live.proofs.Common.{◌≡◌, ℕ, zero, suc, Bool, true, false, cond, ◌==◌, if◌then◌else◌, List, [], ◌∷◌, ◌++◌, length, Option, Some, None}
+use Rattle.wq_live.proofs.Common.{sym, refl, ap, ◌∙◌, arith, slice_get, append-nil, IsPrefix, Event, Hold, Busy, Push, Back, ChainBusy, accepted}
+use Rattle.wq_live.proofs.Common.{accepted_by, begun_by, owner_seat, seat_of, own, Grows, Answers, KnownWith, Learnt, answer_of}
+use Rattle.std.specs.Prelude.{filter_map}
 use Rattle.std.specs.List.{cons_option}
-use Rattle.std.proofs.lemmas.List.{append-nil}
 use Rattle.std.proofs.lemmas.Bool.{eq-eqb}
 use Rattle.wq_words.proofs.Growing.{ends_alike}
-use mathlib.Core.List.{IsPrefix}
-use Rattle.wq_words.specs.declared.event.Event.{Event}
-use Rattle.wq_words.specs.declared.event.Event.TheVariants.{Hold, Busy, Push, Back, Chain, ChainBusy}
+use Rattle.wq_words.specs.declared.event.Event.TheVariants.{Chain}
 use Rattle.wq_words.specs.declared.event.Why.TheVariants as why
-use Rattle.wq_words.specs.History.{accepted, accepted_by, begun_by}
-use Rattle.wq_words.specs.Seen.{owner_seat, seat_of, own, Grows}
 use Rattle.wq_words.specs.Valued.{first_in, left_of, paired, value_if, value_of}
 use Rattle.wq_live.specs.declared.value_answer.ValueAnswer.{ValueAnswer}
 use Rattle.wq_live.specs.declared.value_answer.ValueAnswer.TheVariants as given
-use Rattle.wq_live.specs.Answers.{Answers, Chains}
-use Rattle.wq_live.specs.KnownWith.{KnownWith, Learnt, answer_of, BringsOrReturns, ChainsOrReturns}
+use Rattle.wq_live.specs.Answers.{Chains}
+use Rattle.wq_live.specs.KnownWith.{BringsOrReturns, ChainsOrReturns}
 use Rattle.wq_live.specs.OwnBrought.{own_brought_by, own_brought, queued_value}
 
 onto : {X : Type 0} (o : Option X) (us vs : List X) → cons_option o (us ++ vs) ≡ cons_option o us ++ vs

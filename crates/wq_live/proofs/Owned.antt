@@ -1,19 +1,13 @@
 -- What the owner's own events say of a history.
-use Rattle.std.proofs.Common.{◌≡◌, ℕ, ◌+◌, List, [], ◌∷◌, ◌++◌, length, Some, None, sym, ap, ◌∙◌, arith, length-append, subst}
-use Rattle.std.specs.Prelude.{count_by, slice_get}
-use Rattle.std.proofs.lemmas.List.{append-nil}
-use Rattle.std.proofs.lemmas.List.Elements.{filter_map-append}
+use Rattle.wq_live.proofs.Common.{◌≡◌, ℕ, ◌+◌, List, [], ◌∷◌, ◌++◌, length, Some, None, sym, ap, ◌∙◌, arith, length-append, subst, count_by}
+use Rattle.wq_live.proofs.Common.{slice_get, append-nil, filter_map-append, slice_get_last, Event, Begin, End, begun, begun_by, ended, running}
+use Rattle.wq_live.proofs.Common.{is_close, IsRunning, owner_seat, Grows, is_chain, is_chain_busy, capped}
 use Rattle.std.proofs.lemmas.Option.{slice_get_past}
-use Rattle.wq_words.proofs.Growing.{slice_get_last}
-use Rattle.wq_words.specs.declared.event.Event.{Event}
-use Rattle.wq_words.specs.declared.event.Event.TheVariants.{Begin, End}
-use Rattle.wq_words.specs.History.{begun, begun_by, ended, ended_by, running, is_close, IsRunning}
-use Rattle.wq_words.specs.Seen.{owner_seat, Grows}
+use Rattle.wq_words.specs.History.{ended_by}
 use Rattle.wq_live.specs.declared.counts.OwnerCounts.{OwnerCounts}
-use Rattle.wq_words.specs.Counting.{is_chain, is_chain_busy}
 use Rattle.wq_words.proofs.Counting.{chain_own, chain_busy_own}
 use Rattle.wq_words.proofs.Seen.{map_own, begun_own, ended_own, close_own}
-use Rattle.wq_live.specs.Counts.{capped, owner_counts}
+use Rattle.wq_live.specs.Counts.{owner_counts}
 use Rattle.wq_live.proofs.Counting.{count_on}
 
 module _ (xs : List Event) (n : ℕ) (v w : List Event) (g : Grows owner_seat xs n v w) where

@@ -1,42 +1,19 @@
 -- What lies in the slots of the owner's hand, step after step.
-use Rattle.std.proofs.Common.{◌≡◌, ℕ, ◌+◌, ◌<◌, ◌≤◌, Bool, true, false, cond, List, [], ◌∷◌, ◌++◌, map, length, slice_get}
-use Rattle.std.proofs.Common.{Option, Some, None, sym, refl, ap, ◌∙◌, subst, arith, inl, inr, ⊎_elim}
+use Rattle.wq_live.proofs.Common.{◌≡◌, ℕ, ◌+◌, ◌<◌, ◌≤◌, Bool, true, false, cond, List, [], ◌∷◌, ◌++◌, map, length, slice_get, Option, Some, None}
+use Rattle.wq_live.proofs.Common.{sym, refl, ap, ◌∙◌, subst, arith, inl, inr, ⊎_elim, append-nil, IsPrefix, TableId, rest, Event, Layout, accepted}
+use Rattle.wq_live.proofs.Common.{begun, owner_seat, own, Grows, Carries, accepted-append, slice_get-prefix, begun_same, times, times-cons, Step}
+use Rattle.wq_live.proofs.Common.{Walk, Machine, Part, Stage, Owns, ValuePart, HasStage, Hand, ValueStanding, part_in, ValueSteps, HasValue, Learns}
+use Rattle.wq_live.proofs.Common.{LearnsOrStays, learns_step, learns_more, OwnerSeat, batch, Sees, Rests, owning, owner_view, OwnsQueue, Stands}
+use Rattle.wq_live.proofs.Common.{OnlySees, kept_batch, slot_number, HasHand, OwnsSlots, OwnsSeat}
 use Rattle.std.proofs.lemmas.Bool.{cases_lt, eq-eqb}
-use Rattle.std.proofs.lemmas.List.{append-nil, length_push}
-use mathlib.Core.List.{IsPrefix}
-use Rattle.atomic_table.specs.Seated.{TableId}
-use Rattle.atomic_table.specs.Table.{rest}
-use Rattle.wq_words.specs.declared.event.Event.{Event}
+use Rattle.std.proofs.lemmas.List.{length_push}
 use Rattle.wq_words.specs.declared.event.Event.TheVariants as event
-use Rattle.wq_words.specs.declared.layout.Layout.{Layout}
-use Rattle.wq_words.specs.History.{accepted, begun}
-use Rattle.wq_words.specs.Seen.{owner_seat, own, Grows}
-use Rattle.wq_words.specs.Valued.{Carries}
-use Rattle.wq_words.proofs.Appended.{accepted-append}
-use Rattle.wq_words.proofs.Ranks.{slice_get-prefix}
-use Rattle.wq_words.proofs.Seen.{begun_same}
-use Rattle.wq_words.proofs.Times.{times, times-cons}
-use Rattle.wq_core.specs.declared.step.Step.{Step}
-use Rattle.wq_core.specs.declared.step.Step.TheVariants.{Walk, Begin}
-use Rattle.wq_core.specs.Machine.{Machine}
+use Rattle.wq_core.specs.declared.step.Step.TheVariants.{Begin}
 use Rattle.wq_core.proofs.OwnerSteps.{first_of_batch}
-use Rattle.wq_table.specs.declared.table.Part.{Part}
-use Rattle.wq_table.specs.declared.table.Stage.{Stage}
-use Rattle.wq_table.specs.declared.table.Stage.TheVariants.{Owns}
-use Rattle.wq_table.specs.declared.values.ValuePart.{ValuePart}
-use Rattle.wq_table.specs.Law.{HasStage}
-use Rattle.wq_table.specs.SlotSteps.{Hand, IsBrought, Walks, MovesSlot}
-use Rattle.wq_table.specs.SlotChairs.{ValueStanding, part_in, ValueSteps, HasValue}
-use Rattle.wq_table.specs.Beside.{Learns, LearnsOrStays}
+use Rattle.wq_table.specs.SlotSteps.{IsBrought, Walks, MovesSlot}
 use Rattle.wq_table.proofs.Changes.{changes}
-use Rattle.wq_table.proofs.Learns.{learns_step, learns_more}
 use Rattle.wq_table.proofs.Keeping.{waiting_once, batch_once}
-use Rattle.wq_live.specs.declared.owner_seat.OwnerSeat.{OwnerSeat}
-use Rattle.wq_live.specs.Batch.{batch}
-use Rattle.wq_live.specs.Known.{Sees}
-use Rattle.wq_live.specs.Rest.{Rests}
-use Rattle.wq_live.specs.Sits.{owning, owner_view, OwnsQueue, Stands, OnlySees, kept_batch}
-use Rattle.wq_live.specs.Hands.{slot_number, EachBrought, HasHand, OwnsSlots, OwnsEmptied, OwnsSeat, batch_behind}
+use Rattle.wq_live.specs.Hands.{EachBrought, OwnsEmptied, batch_behind}
 use Rattle.wq_live.proofs.Owned.{begun_on}
 use Rattle.wq_live.proofs.Tells.{TellsSo, Tells}
 use Rattle.wq_live.proofs.OwnerTells.{walk_tells, begin_tells, owner_batch}

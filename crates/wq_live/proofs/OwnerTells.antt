@@ -1,34 +1,19 @@
 -- What each kind of the owner's steps tells it.
-use Rattle.std.proofs.Common.{◌≡◌, ℕ, ◌+◌, ◌-◌, Bool, true, false, ◌==◌, if◌then◌else◌, List, [], ◌∷◌, ◌++◌, length, Option, Some, None, slice_get, sym, refl, ap, ◌∙◌, subst, arith, MatchBool}
-use Rattle.std.proofs.lemmas.List.{append-nil}
-use Rattle.wq_words.specs.declared.layout.Layout.{Layout}
-use Rattle.wq_words.specs.declared.event.Event.{Event}
+use Rattle.wq_live.proofs.Common.{◌≡◌, ℕ, ◌+◌, ◌-◌, Bool, true, false, ◌==◌, if◌then◌else◌, List, [], ◌∷◌, ◌++◌, length, Option, Some, None}
+use Rattle.wq_live.proofs.Common.{slice_get, sym, refl, ap, ◌∙◌, subst, arith, MatchBool, append-nil, Layout, Event, begun, ended, running, IsRunning}
+use Rattle.wq_live.proofs.Common.{is_chain, is_chain_busy, count_by, in_order, prefix_length, IsLegal, Step, Resume, Walk, Chain, busy_word}
+use Rattle.wq_live.proofs.Common.{closed_word, draining_word, number_at, head_at, item_of, Machine, item_word, with_item, happened, after, Part}
+use Rattle.wq_live.proofs.Common.{Stage, Owns, owner_seat, seat_of, own, Grows, seat_at, HasStage, stage_after, Makes, own_one, begun_same}
+use Rattle.wq_live.proofs.Common.{Owning as Inside, Known, Sees, batch, owner_view, Stands, OwnsQueue, kept_batch, walking}
 use Rattle.wq_words.specs.declared.event.Event.TheVariants as event
-use Rattle.wq_words.specs.History.{begun, ended, running, IsRunning}
-use Rattle.wq_words.specs.Counting.{is_chain, is_chain_busy}
-use Rattle.std.specs.Prelude.{count_by}
-use Rattle.wq_words.proofs.Order.{in_order}
-use Rattle.wq_words.proofs.Prefixes.{prefix_length}
-use Rattle.wq_words.specs.Legal.{IsLegal}
-use Rattle.wq_core.specs.declared.step.Step.{Step}
-use Rattle.wq_core.specs.declared.step.Step.TheVariants.{Take, Close, Drain, Resume, Walk, Begin, End, Chain}
+use Rattle.wq_core.specs.declared.step.Step.TheVariants.{Take, Close, Drain, Begin, End}
 use Rattle.wq_core.specs.declared.step.Seat.TheVariants.{Owner}
-use Rattle.wq_words.specs.Head.{busy_word}
-use Rattle.wq_core.specs.Words.{closed_word, draining_word, number_at, head_at, item_of}
-use Rattle.wq_core.specs.Machine.{Machine, link, item_word, with_item, happened, walked_past, after_swap, after_walk, after_begin, after_end, after}
+use Rattle.wq_core.specs.Machine.{link, walked_past, after_swap, after_walk, after_begin, after_end}
 use Rattle.wq_core.proofs.Taken.{batch_is}
-use Rattle.wq_table.specs.declared.table.Part.{Part}
-use Rattle.wq_table.specs.declared.table.Stage.{Stage}
-use Rattle.wq_table.specs.declared.table.Stage.TheVariants.{Sends, Owns}
-use Rattle.wq_words.specs.Seen.{owner_seat, seat_of, own, Grows}
-use Rattle.wq_table.specs.Law.{seat_at, HasStage}
-use Rattle.wq_table.specs.Plays.{stage_after, swapped, walked_on, Makes}
+use Rattle.wq_table.specs.declared.table.Stage.TheVariants.{Sends}
+use Rattle.wq_table.specs.Plays.{swapped, walked_on}
 use Rattle.wq_table.specs.Chair.{IsOwner, HasNone, IsToBegin}
-use Rattle.wq_words.proofs.Seen.{own_one, begun_same, ended_same}
-use Rattle.wq_live.specs.Sits.{Owning as Inside}
-use Rattle.wq_live.specs.Known.{Known, Sees}
-use Rattle.wq_live.specs.Batch.{batch}
-use Rattle.wq_live.specs.Sits.{owner_view, Stands, OwnsQueue, kept_batch, walking}
+use Rattle.wq_words.proofs.Seen.{ended_same}
 use Rattle.wq_live.proofs.Tells.{Tells, TellsSo, tells}
 
 pub makes_stands : (step : Step) (word : ℕ) (p q : Part) → Makes step word p q → Stands q

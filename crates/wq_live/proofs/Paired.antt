@@ -1,24 +1,13 @@
 -- An owner and a sender in one seat: for the one, a step of the other is a meeting.
-use Rattle.std.proofs.Common.{◌≡◌, ◌<◌, [], ◌∷◌, refl, sym, ap, ◌∙◌, subst}
-use mathlib.Core.List.{IsPrefix}
-use Rattle.wq_words.specs.declared.layout.Layout.{Layout}
-use Rattle.wq_table.specs.declared.table.Part.{Part}
-use Rattle.wq_table.specs.declared.values.ValuePart.{ValuePart}
+use Rattle.wq_live.proofs.Common.{◌≡◌, ◌<◌, [], ◌∷◌, refl, sym, ap, ◌∙◌, subst, IsPrefix, Layout, Part, ValuePart, see, all_see, Standing, seeing}
+use Rattle.wq_live.proofs.Common.{plain_view, ValueStanding, standing_of, part_in, Learns, learns_meet, learns_more, plain_telling, OwnerSeat, Sent}
+use Rattle.wq_live.proofs.Common.{Known, IsSame, Sees, Owning, owning, alone_at, sending_in, sender_view, owner_view, Sends, OwnsQueue, OwnsSeat}
+use Rattle.wq_live.proofs.Common.{KnownPair, pair_owner, AreSeated}
 use Rattle.wq_table.specs.Places.{chosen}
-use Rattle.wq_table.specs.Plays.{see, all_see}
-use Rattle.wq_table.specs.Chair.{Standing, seeing}
-use Rattle.wq_table.specs.Slots.{plain_view}
-use Rattle.wq_table.specs.SlotChairs.{ValueStanding, standing_of, part_in, ValueMeet, ValueJoined}
-use Rattle.wq_table.specs.Beside.{Follow, Learns}
+use Rattle.wq_table.specs.SlotChairs.{ValueMeet, ValueJoined}
+use Rattle.wq_table.specs.Beside.{Follow}
 use Rattle.wq_table.proofs.Beside.{Saw, second_saw, still_two, first_saw, two_still}
-use Rattle.wq_table.proofs.Learns.{learns_meet, learns_more}
-use Rattle.wq_table.proofs.ValueRule.{plain_telling}
-use Rattle.wq_live.specs.declared.owner_seat.OwnerSeat.{OwnerSeat}
-use Rattle.wq_live.specs.declared.sent.Sent.{Sent}
-use Rattle.wq_live.specs.Known.{Known, IsSame, Sees}
-use Rattle.wq_live.specs.Sits.{Owning, owning, alone_at, sending_in, sender_view, owner_view, Sends, OwnsQueue}
-use Rattle.wq_live.specs.Hands.{OwnsSeat}
-use Rattle.wq_live.specs.Pairs.{KnownPair, pair_owner, pair_sender, seats_view, AreSeated}
+use Rattle.wq_live.specs.Pairs.{pair_sender, seats_view}
 use Rattle.wq_live.proofs.Meeting.{met_plain, met_slots, meet_executes, meet_owner_sees, meet_owner_layout, meet_low}
 use Rattle.wq_live.proofs.Sends.{meet_sends, meet_sees}
 

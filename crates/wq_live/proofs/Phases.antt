@@ -1,18 +1,15 @@
 -- Whether the queue takes pushes, by the events of its owner.
-use Rattle.std.proofs.Common.{◌≡◌, ℕ, Bool, true, false, cond, ◌==◌, if◌then◌else◌, List, [], ◌∷◌, ◌++◌, nat_lt, sym, refl, ap, ◌∙◌, arith, append_assoc}
-use Rattle.std.specs.Prelude.{count_by}
-use Rattle.std.proofs.lemmas.List.{append-nil}
-use Rattle.std.proofs.lemmas.List.Sums.{sum_by-cons}
-use Rattle.wq_words.specs.declared.event.Event.{Event}
+use Rattle.wq_live.proofs.Common.{◌≡◌, ℕ, Bool, true, false, cond, ◌==◌, if◌then◌else◌, List, [], ◌∷◌, ◌++◌, sym, refl, ap, ◌∙◌, arith, append_assoc}
+use Rattle.wq_live.proofs.Common.{count_by, append-nil, sum_by-cons, Event, is_close, IsClosed, IsShut, IsDraining, owner_seat, seat_of, own, Grows}
+use Rattle.wq_live.proofs.Common.{own-append, shut_same, IsClosed_from_closed, open_from_closed, closed_shuts, shut_from_IsShut, IsShut_from_shut}
+use Rattle.wq_live.proofs.Common.{open_from_shut, Open, phase}
+use Rattle.std.proofs.Common.{nat_lt}
 use Rattle.wq_words.specs.declared.event.Event.TheVariants as event
-use Rattle.wq_words.specs.History.{closed, shut, is_close, is_drain, is_resume, IsClosed, IsShut, IsDraining}
-use Rattle.wq_words.specs.Seen.{owner_seat, seat_of, own, Grows}
-use Rattle.wq_words.proofs.Seen.{own-append, closed_count}
-use Rattle.wq_words.proofs.ShutOwn.{shut_same}
-use Rattle.wq_words.proofs.Closed.{closed_from_IsClosed, closed_from_open, IsClosed_from_closed, open_from_closed, closed_push_no, closed_push_yes, closed_shuts}
-use Rattle.wq_words.proofs.Closed.{shut_from_IsShut, shut_from_open, IsShut_from_shut, open_from_shut, shut_quiet, shut_drain, shut_resume}
-use Rattle.wq_live.specs.declared.owner_seat.Phase.TheVariants.{Open, Draining, Closed}
-use Rattle.wq_live.specs.Sits.{phase}
+use Rattle.wq_words.specs.History.{closed, shut, is_drain, is_resume}
+use Rattle.wq_words.proofs.Seen.{closed_count}
+use Rattle.wq_words.proofs.Closed.{closed_from_IsClosed, closed_from_open, closed_push_no, closed_push_yes}
+use Rattle.wq_words.proofs.Closed.{shut_from_open, shut_quiet, shut_drain, shut_resume}
+use Rattle.wq_live.specs.declared.owner_seat.Phase.TheVariants.{Draining, Closed}
 use Rattle.wq_live.proofs.Growing.{grows_own}
 
 module _ (h : List Event) where

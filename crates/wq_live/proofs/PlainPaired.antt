@@ -1,15 +1,8 @@
 -- A pair of a queue without slots, call after call.
-use Rattle.std.proofs.Common.{◌≡◌, ℕ, ◌∙◌}
-use Rattle.wq_table.specs.SlotChairs.{ValueStanding}
-use Rattle.wq_table.specs.Beside.{Learns}
-use Rattle.wq_live.specs.declared.bare.Bare.{Bare}
-use Rattle.wq_live.specs.declared.owner_seat.OwnerSeat.{OwnerSeat}
-use Rattle.wq_live.specs.declared.sent.Sent.{Sent}
+use Rattle.wq_live.proofs.Common.{◌≡◌, ℕ, ◌∙◌, ValueStanding, Learns, Bare, OwnerSeat, Sent, IsSame, owning, owner_view, sending_in, Sends, OwnsSeat}
+use Rattle.wq_live.proofs.Common.{AreSeated}
 use Rattle.wq_live.specs.declared.pair.Pair.TheInside.{Inside}
-use Rattle.wq_live.specs.Known.{IsSame}
-use Rattle.wq_live.specs.Sits.{owning, owner_view, sending_in, Sends}
-use Rattle.wq_live.specs.Hands.{OwnsSeat}
-use Rattle.wq_live.specs.Pairs.{AreSeated, IsPair}
+use Rattle.wq_live.specs.Pairs.{IsPair}
 use Rattle.wq_live.proofs.ValueSeats.{learns_slots}
 use Rattle.wq_live.proofs.Paired.{owner_acts, sender_acts}
 

@@ -1,9 +1,6 @@
 -- What the owner's answers say of its history.
-use Rattle.std.proofs.Common.{◌≡◌, ◌≢◌, ℕ, List, [], ◌∷◌, Some, None, slice_get, refl}
-use Rattle.wq_words.specs.declared.event.Event.{Event}
-use Rattle.wq_words.proofs.Closed.{open_from_closed, IsClosed_from_closed, closed_shuts}
-use Rattle.wq_words.proofs.Running.{runs_from_running, rests_from_running}
-use Rattle.wq_live.specs.Batch.{batch, next_of}
+use Rattle.wq_live.proofs.Common.{◌≡◌, ◌≢◌, ℕ, List, [], ◌∷◌, Some, None, slice_get, refl, Event, open_from_closed, IsClosed_from_closed}
+use Rattle.wq_live.proofs.Common.{closed_shuts, runs_from_running, rests_from_running, batch, next_of}
 
 nothing_first : (ks : List ℕ) → slice_get ks 0 ≡ None → ks ≡ []
 nothing_first [] is = refl

@@ -1,33 +1,19 @@
 -- What a rest tells the owner.
-use Rattle.std.proofs.Common.{◌≡◌, ◌≢◌, ℕ, Bool, true, false, ◌==◌, if◌then◌else◌, List, [], ◌∷◌, length, None, IsTrue, sym, refl, ap, ◌∙◌, subst, inl, inr, ne_eqb, MatchBool}
-use Rattle.std.proofs.lemmas.List.{append-nil}
-use Rattle.std.proofs.lemmas.Bool.{eqb-true, eqb-false, false≢true}
-use Rattle.std.specs.Prelude.{count_by}
-use Rattle.wq_words.specs.declared.event.Event.{Event}
+use Rattle.wq_live.proofs.Common.{◌≡◌, ◌≢◌, ℕ, Bool, true, false, ◌==◌, if◌then◌else◌, List, [], ◌∷◌, length, None, IsTrue, sym, refl, ap, ◌∙◌, subst}
+use Rattle.wq_live.proofs.Common.{inl, inr, ne_eqb, MatchBool, append-nil, eqb-true, false≢true, count_by, Event, busy_word, begun, ended, IsClosed}
+use Rattle.wq_live.proofs.Common.{IsShut, IsRunning, is_chain, is_chain_busy, owner_seat, own, own_one, shut_same, link_word, Machine, happened}
+use Rattle.wq_live.proofs.Common.{after, IsSound, Part, Stage, Owns, seat_at, stage_after, Makes, Standing, Owning as Inside, Known, IsSame, batch}
+use Rattle.wq_live.proofs.Common.{owner_view, OwnsQueue, kept_batch, Rests}
+use Rattle.std.proofs.lemmas.Bool.{eqb-false}
 use Rattle.wq_words.specs.declared.event.Event.TheVariants as event
-use Rattle.wq_words.specs.Head.{busy_word}
-use Rattle.wq_words.specs.History.{begun, ended, IsClosed, IsShut, IsRunning}
-use Rattle.wq_words.specs.Counting.{is_chain, is_chain_busy}
 use Rattle.wq_words.specs.Rest.{wakes}
-use Rattle.wq_words.specs.Seen.{owner_seat, own}
-use Rattle.wq_words.proofs.Seen.{own_one}
-use Rattle.wq_words.proofs.ShutOwn.{shut_same}
 use Rattle.wq_core.specs.declared.step.Step.TheVariants.{Rest}
-use Rattle.wq_core.specs.Words.{idle_word, link_word}
-use Rattle.wq_core.specs.Machine.{Machine, head, with_head, happened, after}
-use Rattle.wq_core.specs.Sound.{IsSound}
+use Rattle.wq_core.specs.Words.{idle_word}
+use Rattle.wq_core.specs.Machine.{head, with_head}
 use Rattle.wq_core.proofs.Taken.{head_first, head_wakes}
-use Rattle.wq_table.specs.declared.table.Part.{Part}
-use Rattle.wq_table.specs.declared.table.Stage.{Stage}
-use Rattle.wq_table.specs.declared.table.Stage.TheVariants.{Sends, Owns}
-use Rattle.wq_table.specs.Law.{seat_at}
-use Rattle.wq_table.specs.Plays.{stage_after, Makes}
-use Rattle.wq_table.specs.Chair.{Standing, IsOwner}
-use Rattle.wq_live.specs.Sits.{Owning as Inside}
-use Rattle.wq_live.specs.Known.{Known, IsSame}
-use Rattle.wq_live.specs.Batch.{batch}
-use Rattle.wq_live.specs.Sits.{owner_view, OwnsQueue, kept_batch}
-use Rattle.wq_live.specs.Rest.{Rests, HasRested, MayNotRest}
+use Rattle.wq_table.specs.declared.table.Stage.TheVariants.{Sends}
+use Rattle.wq_table.specs.Chair.{IsOwner}
+use Rattle.wq_live.specs.Rest.{HasRested, MayNotRest}
 use Rattle.wq_live.proofs.Tells.{Tells, tells, seen_after}
 use Rattle.wq_live.proofs.Owned.{running_quiet, counts_quiet}
 use Rattle.wq_live.proofs.Phases.{is_turn, phase_quiet}

@@ -1,27 +1,19 @@
 -- What stays where a seat sees more.
-use Rattle.std.proofs.Common.{◌≡◌, ℕ, ◌==◌, Bool, true, false, List, [], ◌∷◌, ◌++◌, length, Option, Some, None, refl, sym, ap, subst, ◌∙◌, cond, arith, length-append}
+use Rattle.wq_live.proofs.Common.{◌≡◌, ℕ, ◌==◌, Bool, true, false, List, [], ◌∷◌, ◌++◌, length, Option, Some, None, refl, sym, ap, subst, ◌∙◌, cond}
+use Rattle.wq_live.proofs.Common.{arith, length-append, append-nil, Event, Hold, Busy, Push, Back, Answer, filter_map-append, accepted, accepted_by}
+use Rattle.wq_live.proofs.Common.{begun, ended, IsRunning, is_close, IsClosed, IsShut, count_by, sum_by-append, IsLegal, owner_seat, seat_of, own}
+use Rattle.wq_live.proofs.Common.{Grows, own-append, runs_some, runs_from_running, rests_from_running, Known, Sees, Answers, open_from_closed}
+use Rattle.wq_live.proofs.Common.{shut_from_IsShut, IsShut_from_shut, open_from_shut}
 use Rattle.std.specs.List.{cons_option}
-use Rattle.std.proofs.lemmas.List.{append-nil}
-use Rattle.wq_words.specs.declared.event.Event.{Event}
-use Rattle.wq_words.specs.declared.event.Event.TheVariants.{Hold, Busy, Push, Back}
 use Rattle.wq_words.specs.declared.event.Why.TheVariants as why
-use Rattle.wq_words.specs.declared.answer.Answer.{Answer}
 use Rattle.wq_words.specs.declared.answer.Answer.TheVariants.{Queued, Pending, Closed, Draining, Contended}
-use Rattle.std.proofs.lemmas.List.Elements.{filter_map-append}
-use Rattle.wq_words.specs.History.{accepted, accepted_by, begun, ended, IsRunning, is_close, IsClosed, IsShut}
-use Rattle.std.specs.Prelude.{count_by}
-use Rattle.std.proofs.lemmas.List.Sums.{sum_by-append}
-use Rattle.wq_words.specs.Legal.{IsLegal, IsComplete}
-use Rattle.wq_words.specs.Seen.{owner_seat, seat_of, own, Grows}
-use Rattle.wq_words.proofs.Seen.{own-append}
-use Rattle.wq_words.proofs.Running.{runs_some, runs_from_running, rests_from_running, running_from_rests}
-use Rattle.wq_live.specs.Known.{Known, Sees}
-use Rattle.wq_live.specs.Answers.{Answers}
+use Rattle.wq_words.specs.Legal.{IsComplete}
+use Rattle.wq_words.proofs.Running.{running_from_rests}
 use Rattle.wq_live.specs.Laws.{queued_number, IsStillEnd}
 use Rattle.wq_live.proofs.Growing.{grows_own}
 use Rattle.wq_live.proofs.Owned.{running_quiet}
 use Rattle.wq_live.proofs.Phases.{is_turn, closed_quiet, shut_still}
-use Rattle.wq_words.proofs.Closed.{closed_from_open, open_from_closed, shut_from_IsShut, shut_from_open, IsShut_from_shut, open_from_shut}
+use Rattle.wq_words.proofs.Closed.{closed_from_open, shut_from_open}
 use Rattle.wq_live.proofs.Final.{final}
 use Rattle.wq_live.proofs.Rows.{none_counted}
 

@@ -1,23 +1,11 @@
 -- What a resume tells the owner.
-use Rattle.std.proofs.Common.{◌≡◌, ℕ, [], ◌∷◌, None, sym, refl, ap, ◌∙◌, subst}
+use Rattle.wq_live.proofs.Common.{◌≡◌, ℕ, [], ◌∷◌, None, sym, refl, ap, ◌∙◌, subst, busy_word, IsShut, IsDraining, owner_seat, own, Grows, shut_same}
+use Rattle.wq_live.proofs.Common.{Resume, draining_word, Stage, Owns, stage_after, Standing, Steps, Owning as Inside, Open, Sees, batch, owner_view}
+use Rattle.wq_live.proofs.Common.{OwnsQueue, kept_batch}
 use Rattle.wq_words.specs.declared.event.Event.TheVariants as event
-use Rattle.wq_words.specs.Head.{busy_word}
-use Rattle.wq_words.specs.History.{IsShut, IsDraining}
-use Rattle.wq_words.specs.Seen.{owner_seat, own, Grows}
 use Rattle.wq_words.proofs.Seen.{closed_same}
-use Rattle.wq_words.proofs.ShutOwn.{shut_same}
-use Rattle.wq_core.specs.declared.step.Step.TheVariants.{Resume}
-use Rattle.wq_core.specs.Words.{draining_word}
 use Rattle.wq_core.proofs.Heads.{head_draining}
-use Rattle.wq_table.specs.declared.table.Stage.{Stage}
-use Rattle.wq_table.specs.declared.table.Stage.TheVariants.{Owns}
-use Rattle.wq_table.specs.Plays.{stage_after, swapped}
-use Rattle.wq_table.specs.Chair.{Standing, Steps}
-use Rattle.wq_live.specs.Sits.{Owning as Inside}
-use Rattle.wq_live.specs.declared.owner_seat.Phase.TheVariants.{Open}
-use Rattle.wq_live.specs.Known.{Sees}
-use Rattle.wq_live.specs.Batch.{batch}
-use Rattle.wq_live.specs.Sits.{owner_view, OwnsQueue, kept_batch}
+use Rattle.wq_table.specs.Plays.{swapped}
 use Rattle.wq_live.proofs.Tells.{Tells}
 use Rattle.wq_live.proofs.Owned.{running_quiet, counts_quiet}
 use Rattle.wq_live.proofs.Phases.{phase_open, open_then}

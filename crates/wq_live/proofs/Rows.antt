@@ -1,8 +1,6 @@
 -- Rows that the links spell.
-use Rattle.std.proofs.Common.{◌≡◌, ◌≢◌, ℕ, ◌+◌, ◌<◌, ◌≤◌, Bool, cond, List, [], ◌∷◌, ◌++◌, length, sym, refl, ap, ◌∙◌, subst, arith, eqb, eq-eqb}
-use Rattle.wq_words.proofs.Times.{times, times-cons, times-first}
-use Rattle.wq_live.specs.declared.row.Row.{Row}
-use Rattle.wq_live.specs.Row.{link_in, LinksOn, IsRowOf}
+use Rattle.wq_live.proofs.Common.{◌≡◌, ◌≢◌, ℕ, ◌+◌, ◌<◌, ◌≤◌, Bool, cond, List, [], ◌∷◌, ◌++◌, length, sym, refl, ap, ◌∙◌, subst, arith, eqb, eq-eqb}
+use Rattle.wq_live.proofs.Common.{times, times-cons, times-first, Row, link_in, LinksOn, IsRowOf}
 
 -- where no link of the row has changed
 pub on_same : (ws ws' : List ℕ) (k last : ℕ) (ks : List ℕ) → ((j : ℕ) → 0 < times j (k ∷ ks) → link_in ws' j ≡ link_in ws j) → LinksOn ws k last ks

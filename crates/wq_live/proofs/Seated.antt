@@ -1,16 +1,13 @@
 -- The seats of a new queue.
-use Rattle.std.proofs.Common.{◌≡◌, ℕ, zero, suc, ◌+◌, ◌<◌, List, [], ◌∷◌, ◌++◌, length, get_or, refl, sym, ap, ◌∙◌, subst, arith, length-append}
-use Rattle.std.specs.Prelude.{All}
+use Rattle.wq_live.proofs.Common.{◌≡◌, ℕ, zero, suc, ◌+◌, ◌<◌, List, [], ◌∷◌, ◌++◌, length, refl, sym, ap, ◌∙◌, subst, arith, length-append, All}
+use Rattle.wq_live.proofs.Common.{Layout, Event, Holds, own, Grows, Known, new_senders}
+use Rattle.std.proofs.Common.{get_or}
 use Rattle.std.proofs.Math.ListN.{get_or-append}
 use Rattle.std.proofs.Math.Seq.{get_or-append_seam}
 use Rattle.std.proofs.lemmas.List.Elements.{All-append, All-cons, All-nil}
-use Rattle.wq_words.specs.declared.layout.Layout.{Layout}
-use Rattle.wq_words.specs.declared.event.Event.{Event}
-use Rattle.wq_words.specs.History.{Holds}
-use Rattle.wq_words.specs.Seen.{own, Grows}
 use Rattle.wq_words.proofs.Growing.{ends_alike}
 use Rattle.wq_words.proofs.Written.{each_more}
-use Rattle.wq_live.specs.Known.{QueueId, Known, new_sender, new_senders, AreNumbered}
+use Rattle.wq_live.specs.Known.{QueueId, new_sender, AreNumbered}
 
 pub length-new_senders : (q : QueueId) (l : Layout) (n : ℕ) → length (new_senders q l n) ≡ n
 length-new_senders q l zero = refl

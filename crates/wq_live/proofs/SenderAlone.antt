@@ -1,25 +1,12 @@
 -- Senders and owners alone in their chairs, with nothing in hand, that made steps or met.
-use Rattle.std.proofs.Common.{◌≡◌, ℕ, Bool, true, false, [], refl, ap, ◌∙◌, arith}
-use Rattle.wq_words.specs.declared.answer.Answer.{Answer}
+use Rattle.wq_live.proofs.Common.{◌≡◌, ℕ, Bool, true, false, [], refl, ap, ◌∙◌, arith, Answer, Posted, Machine, IsSound, all_see, plain_view}
+use Rattle.wq_live.proofs.Common.{ValueStanding, standing_of, knowing, Learns, plain_telling, Bare, OwnerSeat, Sent, HoldsSlot, PostsSlot, QueuesSlot}
+use Rattle.wq_live.proofs.Common.{Known, Sees, sending_in, sender_view, owning, owner_view, alone_at, Sends}
 use Rattle.wq_words.specs.declared.answer.Answer.TheVariants as answer
-use Rattle.wq_words.specs.declared.answer.Posted.{Posted}
 use Rattle.wq_words.specs.declared.answer.Posted.TheVariants as posted
-use Rattle.wq_core.specs.Machine.{Machine}
-use Rattle.wq_core.specs.Sound.{IsSound}
-use Rattle.wq_table.specs.Plays.{all_see}
 use Rattle.wq_table.specs.Chair.{SeatedIn}
-use Rattle.wq_table.specs.Slots.{plain_view}
-use Rattle.wq_table.specs.SlotChairs.{ValueStanding, standing_of, knowing}
-use Rattle.wq_table.specs.Beside.{Learns}
-use Rattle.wq_table.proofs.ValueRule.{plain_telling}
-use Rattle.wq_live.specs.declared.bare.Bare.{Bare}
-use Rattle.wq_live.specs.declared.owner_seat.OwnerSeat.{OwnerSeat}
 use Rattle.wq_live.specs.declared.sender.Sender.TheInside as sender
-use Rattle.wq_live.specs.declared.sent.Sent.{Sent}
 use Rattle.wq_live.specs.Alone.{SendsAlone, OwnsAlone}
-use Rattle.wq_live.specs.Hands.{HoldsSlot, PostsSlot, QueuesSlot}
-use Rattle.wq_live.specs.Known.{Known, Sees}
-use Rattle.wq_live.specs.Sits.{sending_in, sender_view, owning, owner_view, alone_at, Sends}
 use Rattle.wq_live.proofs.Meeting.{met_plain, meet_executes, meet_owner_sees}
 use Rattle.wq_live.proofs.Sends.{meet_sends, meet_sees}
 use Rattle.wq_live.proofs.ValueSeats.{learns_alone, learns_slots, none_plain}

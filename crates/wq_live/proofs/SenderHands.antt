@@ -1,32 +1,20 @@
 -- The slots that a sender has in hand, step after step of a queueing.
-use Rattle.std.proofs.Common.{◌≡◌, ℕ, zero, suc, ◌<◌, ◌≤◌, ◌==◌, Bool, true, false, if◌then◌else◌, List, [], ◌∷◌, ◌++◌, slice_get, Option, Some, None, unwrap_or, MatchBool, sym, refl, ap, ◌∙◌, subst, arith}
-use Rattle.atomic_table.specs.Table.{rest}
-use Rattle.atomic_table.specs.Seated.{TableId}
-use Rattle.wq_words.specs.declared.event.Event.{Event}
+use Rattle.wq_live.proofs.Common.{◌≡◌, ℕ, zero, suc, ◌<◌, ◌≤◌, ◌==◌, Bool, true, false, if◌then◌else◌, List, [], ◌∷◌, ◌++◌, slice_get, Option, Some}
+use Rattle.wq_live.proofs.Common.{None, unwrap_or, MatchBool, sym, refl, ap, ◌∙◌, subst, arith, rest, TableId, Event, Why, Answer, Posted, Layout}
+use Rattle.wq_live.proofs.Common.{own, Carries, slice_get_last, Check, Machine, link_word, Stage, Owns, HasStage, Hand, ValueStanding, ValueSteps}
+use Rattle.wq_live.proofs.Common.{part_in, HasValue, Known, Settles, HoldsSlot, IsToBring, PostsSlot, QueuesSlot}
 use Rattle.wq_words.specs.declared.event.Event.TheVariants as event
-use Rattle.wq_words.specs.declared.event.Why.{Why}
-use Rattle.wq_words.specs.declared.answer.Answer.{Answer}
-use Rattle.wq_words.specs.declared.answer.Posted.{Posted}
 use Rattle.wq_words.specs.declared.answer.Posted.TheVariants as posted
 use Rattle.wq_words.specs.History.{first}
-use Rattle.wq_words.specs.declared.layout.Layout.{Layout}
 use Rattle.wq_words.specs.Rest.{wakes}
-use Rattle.wq_words.specs.Seen.{own}
-use Rattle.wq_words.specs.Valued.{Carries}
-use Rattle.wq_words.proofs.Growing.{slice_get_last}
 use Rattle.wq_core.specs.declared.step.Private.{Private}
-use Rattle.wq_core.specs.declared.step.Step.TheVariants.{Hold, Look, Link, Push, Back, Check}
-use Rattle.wq_core.specs.Machine.{Machine, seen_word}
-use Rattle.wq_core.specs.Words.{link_word}
-use Rattle.wq_table.specs.declared.table.Stage.{Stage}
-use Rattle.wq_table.specs.declared.table.Stage.TheVariants.{Sends, Owns}
-use Rattle.wq_table.specs.Law.{HasStage}
+use Rattle.wq_core.specs.declared.step.Step.TheVariants.{Hold, Look, Link, Push, Back}
+use Rattle.wq_core.specs.Machine.{seen_word}
+use Rattle.wq_table.specs.declared.table.Stage.TheVariants.{Sends}
 use Rattle.wq_table.specs.Chair.{HasLinked}
-use Rattle.wq_table.specs.SlotSteps.{Hand, in_front}
-use Rattle.wq_table.specs.SlotChairs.{ValueStanding, ValueSteps, part_in, HasSlot, HasValue}
-use Rattle.wq_live.specs.Known.{Known}
-use Rattle.wq_live.specs.Tries.{Settles}
-use Rattle.wq_live.specs.Hands.{LeavesHand, HoldsSlot, IsToBring, IsEmptied, IsEmptiedAfter, Brings, PostsSlot, SettlesSlot, QueuesSlot}
+use Rattle.wq_table.specs.SlotSteps.{in_front}
+use Rattle.wq_table.specs.SlotChairs.{HasSlot}
+use Rattle.wq_live.specs.Hands.{LeavesHand, IsEmptied, IsEmptiedAfter, Brings, SettlesSlot}
 use Rattle.wq_live.proofs.Tells.{push_tells, Wins, Loses}
 
 -- there are slots, or none

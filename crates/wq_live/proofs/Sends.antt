@@ -1,27 +1,12 @@
 -- What a sender sees, step after step and call after call.
-use Rattle.std.proofs.Common.{◌≡◌, ℕ, ◌+◌, ◌≤◌, Bool, true, false, ◌==◌, ◌&&◌, List, [], ◌∷◌, ◌++◌, sym, refl, ap, ◌∙◌, subst, arith, append_assoc, eq-eqb, IsTrue}
-use Rattle.std.proofs.lemmas.Bool.{false≢true}
-use Rattle.wq_core.specs.Machine.{Machine}
-use Rattle.wq_core.specs.Sound.{IsSound}
-use Rattle.wq_table.specs.Law.{IsPartOf}
-use Rattle.wq_table.specs.Plays.{see}
-use Rattle.wq_table.specs.Chair.{Standing, seeing}
-use Rattle.wq_words.specs.declared.layout.Layout.{Layout}
-use Rattle.wq_words.specs.declared.event.Event.{Event}
-use Rattle.wq_words.specs.declared.event.Event.TheVariants.{Hold, Push}
-use Rattle.wq_words.specs.History.{Holds, starts_hold, stops_hold}
-use Rattle.wq_words.specs.Legal.{IsLegal}
-use Rattle.wq_words.proofs.Legal.{legal_front}
-use Rattle.wq_words.proofs.Keepers.{kept}
-use Rattle.wq_words.specs.Seen.{Grows}
-use Rattle.wq_words.proofs.Seen.{own-append}
-use Rattle.wq_live.specs.Answers.{IsPushed, TestsAndSets}
+use Rattle.wq_live.proofs.Common.{◌≡◌, ℕ, ◌+◌, ◌≤◌, Bool, true, false, ◌==◌, List, [], ◌∷◌, ◌++◌, sym, refl, ap, ◌∙◌, subst, arith, append_assoc}
+use Rattle.wq_live.proofs.Common.{eq-eqb, IsTrue, false≢true, Machine, IsSound, IsPartOf, see, Standing, seeing, Layout, Event, Hold, Push, Holds}
+use Rattle.wq_live.proofs.Common.{IsLegal, legal_front, kept, Grows, own-append, IsPushed, TestsAndSets, IsSender, Known, IsSame, Sees, sender_counts}
+use Rattle.wq_live.proofs.Common.{sender_view, Sends}
+use Rattle.std.proofs.Common.{◌&&◌}
+use Rattle.wq_words.specs.History.{starts_hold, stops_hold}
 use Rattle.wq_live.proofs.Counting.{count_on, count_one, counts_none}
-use Rattle.wq_table.specs.Chair.{IsSender}
 use Rattle.wq_live.specs.Sits.{Sending as Inside}
-use Rattle.wq_live.specs.Known.{Known, IsSame, Sees}
-use Rattle.wq_live.specs.Counts.{sender_counts}
-use Rattle.wq_live.specs.Sits.{sender_view, Sends}
 use Rattle.wq_live.proofs.Tells.{TellsSo, meet_tells, meet_sender}
 use Rattle.wq_live.proofs.Growing.{grows_on, grows_held}
 use Rattle.wq_words.proofs.Seen.{starts_own}

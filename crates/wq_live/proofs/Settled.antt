@@ -1,18 +1,12 @@
 -- What a queueing comes to: held, tried, and settled.
-use Rattle.std.proofs.Common.{◌≡◌, ℕ, ◌+◌, ◌≤◌, true, [], ◌∷◌, refl, sym, ap, ◌∙◌, subst, arith}
-use Rattle.wq_words.specs.declared.event.Event.TheVariants.{Hold, Push, Back}
+use Rattle.wq_live.proofs.Common.{◌≡◌, ℕ, ◌+◌, ◌≤◌, true, [], ◌∷◌, refl, sym, ap, ◌∙◌, subst, arith, Hold, Push, Back, Posted, Answer, Holds, Grows}
+use Rattle.wq_live.proofs.Common.{Known, IsSame, Sees, IsPushed, HasMetDrain, TestsAndSets, Posts, Answers, IsContended, sender_view, Sends, Settles}
 use Rattle.wq_words.specs.declared.event.Why.TheVariants as why
-use Rattle.wq_words.specs.declared.answer.Posted.{Posted}
 use Rattle.wq_words.specs.declared.answer.Posted.TheVariants as posted
-use Rattle.wq_words.specs.declared.answer.Answer.{Answer}
 use Rattle.wq_words.specs.declared.answer.Answer.TheVariants as answer
-use Rattle.wq_words.specs.History.{Holds}
-use Rattle.wq_words.specs.Seen.{Grows}
-use Rattle.wq_live.specs.Known.{Known, IsSame, Sees}
-use Rattle.wq_live.specs.Answers.{IsPushed, HasMetDrain, TestsAndSets, Posts, Answers, IsContended}
-use Rattle.wq_live.specs.Sits.{Sending as Inside, sender_view, Sends}
+use Rattle.wq_live.specs.Sits.{Sending as Inside}
 use Rattle.wq_live.specs.Tells.{PostsAs}
-use Rattle.wq_live.specs.Tries.{Tries, IsHeldAfter, Settles}
+use Rattle.wq_live.specs.Tries.{Tries, IsHeldAfter}
 use Rattle.wq_live.proofs.Sends.{sees_tells, sees_after, sees_on, sees_held}
 use Rattle.wq_live.proofs.Drained.{grows_longer, met_since}
 use Rattle.wq_live.proofs.Tried.{turned_back}

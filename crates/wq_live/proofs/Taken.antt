@@ -1,29 +1,22 @@
 -- What a Take, a Drain or a Close leaves as the batch.
-use Rattle.std.proofs.Common.{◌≡◌, ℕ, ◌+◌, List, [], ◌∷◌, ◌++◌, length, Option, None, take, drop, sym, refl, ap, ◌∙◌, subst, arith, append_assoc, length-append, length-drop}
+use Rattle.wq_live.proofs.Common.{◌≡◌, ℕ, ◌+◌, List, [], ◌∷◌, ◌++◌, length, Option, None, take, sym, refl, ap, ◌∙◌, subst, arith, append_assoc}
+use Rattle.wq_live.proofs.Common.{length-append, append-nil, filter_map-append, Layout, Event, Take, Drain, Close, number_count, accepted}
+use Rattle.wq_live.proofs.Common.{accepted_by, begun, IsClosed, IsShut, listed, IsLegal, legal_front, legal_next, closed_shuts, Machine, IsSound}
+use Rattle.wq_live.proofs.Common.{owner_seat, seat_of, own, Grows, own-append, own_one, batch, TakesAll}
+use Rattle.std.proofs.Common.{drop, length-drop}
 use Rattle.std.specs.Prelude.{reverse}
-use Rattle.std.proofs.lemmas.List.{append-nil}
-use Rattle.std.proofs.lemmas.List.Elements.{filter_map-append}
 use Rattle.std.proofs.lemmas.List.{length-reverse}
 use mathlib.Core.List.{reverse_aux}
-use Rattle.wq_words.specs.declared.layout.Layout.{Layout}
-use Rattle.wq_words.specs.declared.event.Event.{Event}
-use Rattle.wq_words.specs.declared.event.Event.TheVariants.{Take, Drain, Close}
-use Rattle.wq_words.specs.Numbers.{number_count}
-use Rattle.wq_words.specs.History.{accepted, accepted_by, begun, fresh, IsClosed, IsShut, taken}
-use Rattle.wq_words.specs.Listed.{listed}
-use Rattle.wq_words.specs.Legal.{MayFollow, IsLegal}
+use Rattle.wq_words.specs.History.{fresh, taken}
+use Rattle.wq_words.specs.Legal.{MayFollow}
 use Rattle.wq_words.proofs.Growing.{take_length}
-use Rattle.wq_words.proofs.Legal.{legal_front, legal_next, legal_rest}
-use Rattle.wq_words.proofs.Closed.{closed_shuts, shut_close}
+use Rattle.wq_words.proofs.Legal.{legal_rest}
+use Rattle.wq_words.proofs.Closed.{shut_close}
 use Rattle.wq_words.proofs.Listed.{accepted_push_none, taken_shut, taken_cut}
 use Rattle.wq_words.proofs.OtherSeats.{taken_still}
-use Rattle.wq_core.specs.Machine.{Machine}
 use Rattle.wq_core.specs.Words.{word_at}
-use Rattle.wq_core.specs.Sound.{IsSound, IsChain}
+use Rattle.wq_core.specs.Sound.{IsChain}
 use Rattle.wq_core.proofs.Chains.{chain_zero}
-use Rattle.wq_words.specs.Seen.{owner_seat, seat_of, own, Grows}
-use Rattle.wq_words.proofs.Seen.{own-append, own_one}
-use Rattle.wq_live.specs.Batch.{batch, TakesAll}
 use Rattle.wq_live.proofs.Owned.{begun_on}
 use Rattle.wq_live.proofs.Fresh.{fresh_unclosed}
 

@@ -1,25 +1,11 @@
 -- What a take or a close and the walk after it leave.
-use Rattle.std.proofs.Common.{◌≡◌, ℕ, ◌+◌, ◌-◌, ◌^◌, ◌<◌, ◌≤◌, Bool, true, false, ◌==◌, if◌then◌else◌, List, [], ◌∷◌, ◌++◌, length, Option, None, Some, refl, ap, ◌∙◌, subst, arith, append_assoc, sym}
-use Rattle.std.proofs.lemmas.List.{append-nil}
-use Rattle.std.proofs.lemmas.Bool.{eqb-true}
-use Rattle.wq_words.specs.declared.layout.Layout.{Layout}
-use Rattle.wq_words.specs.declared.event.Event.{Event}
-use Rattle.wq_words.specs.Numbers.{number_count}
-use Rattle.wq_words.specs.History.{accepted, begun}
-use Rattle.wq_words.specs.Listed.{listed}
-use Rattle.wq_words.specs.Legal.{IsLegal}
-use Rattle.wq_core.specs.declared.step.Step.{Step}
-use Rattle.wq_core.specs.Words.{TakesPushes, link_word, number_at, head_at, item_of}
-use Rattle.wq_core.specs.Machine.{Machine, after}
-use Rattle.wq_core.specs.Sound.{IsSound}
+use Rattle.wq_live.proofs.Common.{◌≡◌, ℕ, ◌+◌, ◌-◌, ◌<◌, ◌≤◌, Bool, true, false, ◌==◌, if◌then◌else◌, List, [], ◌∷◌, ◌++◌, length, Option, None, Some}
+use Rattle.wq_live.proofs.Common.{refl, ap, ◌∙◌, subst, arith, append_assoc, sym, append-nil, eqb-true, Layout, Event, number_count, accepted, begun}
+use Rattle.wq_live.proofs.Common.{listed, IsLegal, Step, link_word, number_at, head_at, item_of, Machine, after, IsSound, Part, Owns, owner_seat, own}
+use Rattle.wq_live.proofs.Common.{Grows, seat_at, HasStage, Makes, TakesAll, Stands, OnlySees, walking}
+use Rattle.std.proofs.Common.{◌^◌}
+use Rattle.wq_core.specs.Words.{TakesPushes}
 use Rattle.wq_core.proofs.Heads.{item_linked}
-use Rattle.wq_table.specs.declared.table.Part.{Part}
-use Rattle.wq_table.specs.declared.table.Stage.TheVariants.{Owns}
-use Rattle.wq_words.specs.Seen.{owner_seat, own, Grows}
-use Rattle.wq_table.specs.Law.{seat_at, HasStage}
-use Rattle.wq_table.specs.Plays.{Makes}
-use Rattle.wq_live.specs.Batch.{TakesAll}
-use Rattle.wq_live.specs.Sits.{Stands, OnlySees, walking}
 use Rattle.wq_live.proofs.Growing.{grows_on}
 use Rattle.wq_live.proofs.Tells.{Tells, TellsSo, tells_then, seen_after}
 use Rattle.wq_live.proofs.OwnerTells.{stands_batch, stands_legal, pair_owner, Swaps, after_swaps}

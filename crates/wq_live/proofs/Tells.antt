@@ -1,33 +1,20 @@
 -- What each kind of step tells the seat that makes it.
-use Rattle.std.proofs.lemmas.Bool.{eqb-true, eqb-false}
-use Rattle.std.proofs.Common.{◌≡◌, ◌≢◌, ℕ, ◌+◌, ◌<◌, Bool, true, false, not, ◌==◌, if◌then◌else◌, List, [], ◌∷◌, ◌++◌, Option, Some, None, unwrap_or, sym, refl, ap, ◌∙◌, subst, arith, MatchBool}
-use Rattle.std.proofs.lemmas.List.{append-nil}
-use Rattle.wq_words.specs.declared.layout.Layout.{Layout}
-use Rattle.wq_words.specs.declared.event.Why.{Why}
-use Rattle.wq_words.specs.declared.event.Event.{Event}
+use Rattle.wq_live.proofs.Common.{eqb-true, ◌≡◌, ◌≢◌, ℕ, ◌+◌, ◌<◌, Bool, true, false, not, ◌==◌, if◌then◌else◌, List, [], ◌∷◌, ◌++◌, Option, Some}
+use Rattle.wq_live.proofs.Common.{None, unwrap_or, sym, refl, ap, ◌∙◌, subst, arith, MatchBool, append-nil, Layout, Why, Event, number_count, Holds}
+use Rattle.wq_live.proofs.Common.{IsDraining, pending, IsLegal, legal_next, Step, Check, Resume, Walk, Chain, Turn, draining_word, link_word, Machine}
+use Rattle.wq_live.proofs.Common.{item_word, with_item, happened, after, IsSound, Part, Stage, Owns, own, Grows, seat_at, HasStage, IsPartOf}
+use Rattle.wq_live.proofs.Common.{stage_after, Makes, see, IsSender, own_one, IsPushed}
+use Rattle.std.proofs.lemmas.Bool.{eqb-false}
 use Rattle.wq_words.specs.declared.event.Event.TheVariants as event
-use Rattle.wq_words.specs.Numbers.{number_count}
-use Rattle.wq_words.specs.History.{Holds, IsDraining, pending}
-use Rattle.wq_words.specs.Legal.{IsLegal}
-use Rattle.wq_words.proofs.Legal.{legal_next}
 use Rattle.wq_core.specs.declared.step.Private.{Private}
-use Rattle.wq_core.specs.declared.step.Step.{Step}
-use Rattle.wq_core.specs.declared.step.Step.TheVariants.{Hold, Look, Link, Push, Back, Check, Take, Close, Drain, Resume, Walk, Begin, End, Chain, Turn, Rest}
-use Rattle.wq_core.specs.Words.{draining_word, link_word}
-use Rattle.wq_core.specs.Machine.{Machine, nothing_seen, private, seen_word, head, item_word, with_head, with_link, with_item, with_private, happened, unlinked, after}
-use Rattle.wq_core.specs.Sound.{IsSound, head_word_of}
+use Rattle.wq_core.specs.declared.step.Step.TheVariants.{Hold, Look, Link, Push, Back, Take, Close, Drain, Begin, End, Rest}
+use Rattle.wq_core.specs.Machine.{nothing_seen, private, seen_word, head, with_head, with_link, with_private, unlinked}
+use Rattle.wq_core.specs.Sound.{head_word_of}
 use Rattle.wq_core.proofs.Heads.{draining_from_head}
 use Rattle.wq_core.proofs.Taken.{head_first, head_wakes}
-use Rattle.wq_table.specs.declared.table.Part.{Part}
-use Rattle.wq_table.specs.declared.table.Stage.{Stage}
-use Rattle.wq_table.specs.declared.table.Stage.TheVariants.{Sends, Owns}
-use Rattle.wq_words.specs.Seen.{own, Grows}
-use Rattle.wq_table.specs.Law.{seat_at, HasStage, IsPartOf}
-use Rattle.wq_table.specs.Plays.{stage_after, Makes, see}
-use Rattle.wq_table.specs.Chair.{IsSender, HasSeen, HasLinked}
+use Rattle.wq_table.specs.declared.table.Stage.TheVariants.{Sends}
+use Rattle.wq_table.specs.Chair.{HasSeen, HasLinked}
 use Rattle.wq_table.proofs.Steps.{sender_seen}
-use Rattle.wq_words.proofs.Seen.{own_one}
-use Rattle.wq_live.specs.Answers.{IsPushed}
 pub use Rattle.wq_live.specs.Tells.{TellsSo}
 use Rattle.wq_live.proofs.Growing.{grows_done, grows_on, grows_held, grows_others}
 

@@ -1,11 +1,7 @@
 -- Queueings: the seat stays the same, and one that a drain refused.
-use Rattle.std.proofs.Common.{ℕ, [], ◌∷◌, arith}
-use Rattle.wq_words.specs.declared.event.Event.TheVariants.{Hold, Back}
+use Rattle.wq_live.proofs.Common.{ℕ, [], ◌∷◌, arith, Hold, Back, Known, IsSame, Sees, Answer, HasMetDrain, Answers}
 use Rattle.wq_words.specs.declared.event.Why.TheVariants as why
-use Rattle.wq_live.specs.Known.{Known, IsSame, Sees}
-use Rattle.wq_words.specs.declared.answer.Answer.{Answer}
 use Rattle.wq_words.specs.declared.answer.Answer.TheVariants as answer
-use Rattle.wq_live.specs.Answers.{HasMetDrain, Answers}
 use Rattle.wq_live.proofs.Sends.{sees_on}
 use Rattle.wq_live.proofs.Drained.{grows_longer, met_since, met_still}
 

@@ -1,21 +1,9 @@
 -- The hand of an owner that walks what it took and turns its links.
-use Rattle.std.proofs.Common.{◌≡◌, ℕ, ◌+◌, List, [], ◌∷◌, ◌++◌, length, Option, Some, None, refl, sym, ap, ◌∙◌, subst, arith, inl, inr, ⊎_elim, length-append}
-use Rattle.std.proofs.lemmas.List.{append-nil}
-use Rattle.wq_words.specs.Seen.{owner_seat}
-use Rattle.wq_core.specs.declared.step.Step.TheVariants.{Walk, Turn}
-use Rattle.wq_core.specs.Words.{number_at}
-use Rattle.wq_table.specs.declared.table.Part.{Part}
-use Rattle.wq_table.specs.declared.values.ValuePart.{ValuePart}
-use Rattle.wq_table.specs.declared.table.Stage.{Stage}
-use Rattle.wq_table.specs.declared.table.Stage.TheVariants.{Owns}
-use Rattle.wq_table.specs.Law.{HasStage}
-use Rattle.wq_table.specs.SlotChairs.{ValueStanding, ValueSteps}
-use Rattle.wq_table.specs.Beside.{Learns, LearnsOrStays}
-use Rattle.wq_table.proofs.Learns.{learns_step}
-use Rattle.wq_live.specs.declared.row.Row.{Row}
-use Rattle.wq_live.specs.Sits.{Stands, OnlySees, HasBoth, kept_batch, walking}
-use Rattle.wq_live.specs.Row.{IsRowOf}
-use Rattle.wq_live.specs.Hands.{OwnsSlots, TurnedSlots, turns, TurnsHands}
+use Rattle.wq_live.proofs.Common.{◌≡◌, ℕ, ◌+◌, List, [], ◌∷◌, ◌++◌, length, Option, Some, None, refl, sym, ap, ◌∙◌, subst, arith, inl, inr, ⊎_elim}
+use Rattle.wq_live.proofs.Common.{length-append, append-nil, owner_seat, Walk, Turn, number_at, Part, ValuePart, Stage, Owns, HasStage, ValueStanding}
+use Rattle.wq_live.proofs.Common.{ValueSteps, Learns, LearnsOrStays, learns_step, Row, Stands, OnlySees, HasBoth, kept_batch, walking, IsRowOf}
+use Rattle.wq_live.proofs.Common.{OwnsSlots, TurnsHands}
+use Rattle.wq_live.specs.Hands.{TurnedSlots, turns}
 use Rattle.wq_live.proofs.Linking.{Turning, turning_first, turning_next, turned_tells, on}
 use Rattle.wq_live.proofs.OwnerTells.{makes_stands}
 use Rattle.wq_live.proofs.Hanging.{taken_behind}

@@ -1,16 +1,12 @@
 -- Slots that go behind the others of a hand, and chairs that are alike but for the hand.
-use Rattle.std.proofs.Common.{◌≡◌, ℕ, zero, suc, ◌+◌, ◌<◌, List, [], ◌∷◌, ◌++◌, map, length, refl, sym, ap, ◌∙◌, subst, arith, append_assoc}
-use Rattle.std.proofs.lemmas.List.{append-nil}
+use Rattle.wq_live.proofs.Common.{◌≡◌, ℕ, zero, suc, ◌+◌, ◌<◌, List, [], ◌∷◌, ◌++◌, map, length, refl, sym, ap, ◌∙◌, subst, arith, append_assoc}
+use Rattle.wq_live.proofs.Common.{append-nil, TableId, accepted, begun, ValuePart, Hand, ValueStanding, Learns, slot_number, HasHand, OwnsSlots}
+use Rattle.wq_live.proofs.Common.{TurnsHands}
 use mathlib.Core.List.{map-append}
-use Rattle.atomic_table.specs.Seated.{TableId}
 use Rattle.atomic_table.specs.Table.{turned}
-use Rattle.wq_words.specs.History.{accepted, begun}
-use Rattle.wq_table.specs.declared.values.ValuePart.{ValuePart}
 use Rattle.wq_table.specs.Plays.{tail_of}
-use Rattle.wq_table.specs.SlotSteps.{Hand}
-use Rattle.wq_table.specs.SlotChairs.{ValueStanding, TurnsHand}
-use Rattle.wq_table.specs.Beside.{Learns}
-use Rattle.wq_live.specs.Hands.{slot_number, HasHand, OwnsSlots, turns, TurnsHands}
+use Rattle.wq_table.specs.SlotChairs.{TurnsHand}
+use Rattle.wq_live.specs.Hands.{turns}
 use Rattle.wq_live.proofs.OwnerHands.{each_append}
 
 module _ {V : Type 0} where

@@ -1,37 +1,18 @@
 -- The slot of what begins is emptied, and that of a chained item filled.
-use Rattle.std.proofs.Common.{◌≡◌, ◌≢◌, ℕ, ◌<◌, ◌==◌, Bool, true, false, List, [], ◌∷◌, ◌++◌, map, length, slice_get, Option, Some, None}
-use Rattle.std.proofs.Common.{MatchBool, if◌then◌else◌, eq-eqb, ne_eqb, sym, refl, ap, ◌∙◌, subst, arith, ⊎_elim, append_assoc}
-use mathlib.Core.List.{IsPrefix, map-append}
-use Rattle.atomic_table.specs.Seated.{TableId}
-use Rattle.atomic_table.specs.Table.{rest, turned}
-use Rattle.wq_words.specs.declared.event.Event.{Event}
+use Rattle.wq_live.proofs.Common.{◌≡◌, ◌≢◌, ℕ, ◌<◌, ◌==◌, Bool, true, false, List, [], ◌∷◌, ◌++◌, map, length, slice_get, Option, Some, None}
+use Rattle.wq_live.proofs.Common.{MatchBool, if◌then◌else◌, eq-eqb, ne_eqb, sym, refl, ap, ◌∙◌, subst, arith, ⊎_elim, append_assoc, IsPrefix, TableId}
+use Rattle.wq_live.proofs.Common.{rest, Event, Layout, accepted, begun, owner_seat, own, Grows, Carries, accepted-append, slice_get_last, in_order}
+use Rattle.wq_live.proofs.Common.{prefix_length, slice_get-prefix, begun_same, Chain, Machine, after, item_word, with_item, happened, Stage, Owns}
+use Rattle.wq_live.proofs.Common.{ValuePart, seat_at, Hand, ValueStanding, ValueSteps, Learns, LearnsOrStays, learns_step, learns_or, learns_more}
+use Rattle.wq_live.proofs.Common.{Known, batch, next_of, Owning as Inside, owner_view, OwnsQueue, Stands, OnlySees, kept_batch, slot_number, HasHand}
+use Rattle.wq_live.proofs.Common.{OwnsSlots}
+use mathlib.Core.List.{map-append}
+use Rattle.atomic_table.specs.Table.{turned}
 use Rattle.wq_words.specs.declared.event.Event.TheVariants as event
-use Rattle.wq_words.specs.declared.layout.Layout.{Layout}
-use Rattle.wq_words.specs.History.{accepted, begun}
-use Rattle.wq_words.specs.Seen.{owner_seat, own, Grows}
-use Rattle.wq_words.specs.Valued.{Carries}
-use Rattle.wq_words.proofs.Appended.{accepted-append}
-use Rattle.wq_words.proofs.Growing.{slice_get_last}
-use Rattle.wq_words.proofs.Order.{in_order}
-use Rattle.wq_words.proofs.Prefixes.{prefix_self, prefix_length}
-use Rattle.wq_words.proofs.Ranks.{slice_get-prefix}
-use Rattle.wq_words.proofs.Seen.{begun_same}
-use Rattle.wq_core.specs.declared.step.Step.TheVariants.{Chain}
-use Rattle.wq_core.specs.Machine.{Machine, after, item_word, with_item, happened}
-use Rattle.wq_table.specs.declared.table.Stage.{Stage}
-use Rattle.wq_table.specs.declared.table.Stage.TheVariants.{Owns}
-use Rattle.wq_table.specs.declared.values.ValuePart.{ValuePart}
-use Rattle.wq_table.specs.Law.{seat_at}
-use Rattle.wq_table.specs.SlotSteps.{Hand, IsBrought}
-use Rattle.wq_table.specs.SlotChairs.{ValueStanding, ValueSteps, HasSlot, Exchanges, TurnsHand}
-use Rattle.wq_table.specs.Beside.{Learns, LearnsOrStays}
-use Rattle.wq_table.proofs.Learns.{learns_step, learns_or, learns_more}
-use Rattle.wq_live.specs.Known.{Known}
+use Rattle.wq_words.proofs.Prefixes.{prefix_self}
+use Rattle.wq_table.specs.SlotSteps.{IsBrought}
+use Rattle.wq_table.specs.SlotChairs.{HasSlot, Exchanges, TurnsHand}
 use Rattle.wq_live.specs.KnownWith.{IsChained}
-use Rattle.wq_live.specs.Batch.{batch, next_of}
-use Rattle.wq_live.specs.Sits.{Owning as Inside}
-use Rattle.wq_live.specs.Sits.{owner_view, OwnsQueue, Stands, OnlySees, kept_batch}
-use Rattle.wq_live.specs.Hands.{slot_number, HasHand, OwnsSlots}
 use Rattle.wq_live.proofs.Tells.{Tells}
 use Rattle.wq_live.proofs.OwnerTells.{owner_batch}
 use Rattle.wq_live.proofs.Hanging.{first_of_row}

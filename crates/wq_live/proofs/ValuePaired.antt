@@ -1,33 +1,19 @@
 -- A pair of a queue whose items bring values, call after call.
-use Rattle.std.proofs.Common.{◌≡◌, ℕ, ◌<◌, List, [], ◌∷◌, Option, refl, sym, ap, ◌∙◌, subst}
-use mathlib.Core.List.{IsPrefix}
-use Rattle.atomic_table.specs.Seated.{TableId}
-use Rattle.wq_words.specs.declared.layout.Layout.{Layout}
-use Rattle.wq_words.specs.declared.event.Event.{Event}
-use Rattle.wq_words.specs.History.{accepted}
-use Rattle.wq_words.specs.Valued.{AreBrought}
-use Rattle.wq_table.specs.declared.values.ValuePart.{ValuePart}
-use Rattle.wq_table.specs.Plays.{all_see}
-use Rattle.wq_table.specs.Slots.{ValueView, plain_view}
+use Rattle.wq_live.proofs.Common.{◌≡◌, ℕ, ◌<◌, List, [], ◌∷◌, Option, refl, sym, ap, ◌∙◌, subst, IsPrefix, TableId, Layout, Event, accepted}
+use Rattle.wq_live.proofs.Common.{AreBrought, ValuePart, all_see, plain_view, ValueStanding, part_in, Learns, learns_right, OwnerSeat, Sent, Known}
+use Rattle.wq_live.proofs.Common.{IsSame, Sees, owning, owner_view, sending_in, sender_view, Sends, OwnsSeat, OwnsValues, SendsValues, KnownWith}
+use Rattle.wq_live.proofs.Common.{Learnt, owner_with, sender_with, AreKnown, pair_owner, AreSeated, KnownValuePair, owner_of}
+use Rattle.wq_table.specs.Slots.{ValueView}
 use Rattle.wq_table.specs.SlotSteps.{AllTold}
-use Rattle.wq_table.specs.SlotChairs.{ValueStanding, part_in, ValueJoined}
-use Rattle.wq_table.specs.Beside.{Learns}
-use Rattle.wq_table.proofs.Learns.{learns_right}
+use Rattle.wq_table.specs.SlotChairs.{ValueJoined}
 use Rattle.wq_table.proofs.Places.{seeing_seen}
 use Rattle.wq_table.proofs.ValueRule.{told_all}
-use Rattle.wq_live.specs.declared.owner_seat.OwnerSeat.{OwnerSeat}
-use Rattle.wq_live.specs.declared.sent.Sent.{Sent}
 use Rattle.wq_live.specs.declared.value_owner.ValueOwner.TheInside as owner
 use Rattle.wq_live.specs.declared.value_sender.ValueSender.TheInside as sender
 use Rattle.wq_live.specs.declared.value_pair.ValuePair.TheInside.{Inside}
-use Rattle.wq_live.specs.Known.{Known, IsSame, Sees}
-use Rattle.wq_live.specs.Sits.{owning, owner_view, sending_in, sender_view, Sends}
-use Rattle.wq_live.specs.Hands.{OwnsSeat}
-use Rattle.wq_live.specs.Alone.{OwnsValues, SendsValues}
-use Rattle.wq_live.specs.KnownWith.{KnownWith, Learnt, handed_in}
-use Rattle.wq_live.specs.Valued.{owner_with, sender_with, AreKnown}
-use Rattle.wq_live.specs.Pairs.{pair_owner, pair_sender, seats_view, AreSeated}
-use Rattle.wq_live.specs.ValuePairs.{KnownValuePair, owner_of, sender_of, value_pair_view, IsValuePair}
+use Rattle.wq_live.specs.KnownWith.{handed_in}
+use Rattle.wq_live.specs.Pairs.{pair_sender, seats_view}
+use Rattle.wq_live.specs.ValuePairs.{sender_of, value_pair_view, IsValuePair}
 use Rattle.wq_live.proofs.ValueSeats.{known_is, still_some, owner_learnt}
 use Rattle.wq_live.proofs.HandedOver.{met_handed}
 use Rattle.wq_live.proofs.Paired.{owner_acts, sender_sees, sender_acts, joined_more, joins, owner_joins, sender_joins, low_joins}

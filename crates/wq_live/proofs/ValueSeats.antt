@@ -1,19 +1,13 @@
 -- Seats that made steps, and what they know then of what was brought.
-use Rattle.std.proofs.Common.{◌≡◌, ℕ, ◌<◌, [], ◌∷◌, refl, sym, ap, ◌∙◌, subst}
-use Rattle.atomic_table.specs.Seated.{TableId}
-use Rattle.wq_table.specs.Slots.{ValueView, plain_view}
-use Rattle.wq_table.specs.SlotChairs.{ValueStanding, standing_of}
-use Rattle.wq_table.specs.Beside.{Learns}
+use Rattle.wq_live.proofs.Common.{◌≡◌, ℕ, ◌<◌, [], ◌∷◌, refl, sym, ap, ◌∙◌, subst, TableId, plain_view, ValueStanding, standing_of, Learns}
+use Rattle.wq_live.proofs.Common.{learns_more, learns_right, OwnerSeat, owning, owner_view, OwnsSeat, OwnsValues, KnownWith, Learnt, owner_with}
+use Rattle.wq_live.proofs.Common.{AreKnown}
+use Rattle.wq_table.specs.Slots.{ValueView}
 use Rattle.wq_table.proofs.Beside.{alone_follow}
-use Rattle.wq_table.proofs.Learns.{learns_more, learns_many, learns_right}
+use Rattle.wq_table.proofs.Learns.{learns_many}
 use Rattle.wq_live.specs.declared.owner.Owner.TheInside as owner
 use Rattle.wq_live.specs.declared.value_owner.ValueOwner.TheInside as value_owner
-use Rattle.wq_live.specs.declared.owner_seat.OwnerSeat.{OwnerSeat}
-use Rattle.wq_live.specs.Sits.{owning, owner_view}
-use Rattle.wq_live.specs.Hands.{OwnsSeat}
-use Rattle.wq_live.specs.Alone.{OwnsAlone, OwnsValues}
-use Rattle.wq_live.specs.KnownWith.{KnownWith, Learnt}
-use Rattle.wq_live.specs.Valued.{owner_with, AreKnown}
+use Rattle.wq_live.specs.Alone.{OwnsAlone}
 
 pub none_plain : {V : Type 0} (ts : ValueView V) → plain_view ts ≡ [] → ts ≡ []
 none_plain [] none = refl

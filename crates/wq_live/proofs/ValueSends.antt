@@ -1,31 +1,16 @@
 -- Senders and owners of queues whose items bring values, call after call.
-use Rattle.std.proofs.Common.{◌≡◌, ℕ, ◌<◌, Bool, List, [], ◌∷◌, ◌++◌, length, Option, None, refl, sym, ap, ◌∙◌, subst, append_assoc}
-use Rattle.wq_words.specs.declared.event.Event.{Event}
-use Rattle.wq_words.specs.declared.event.Event.TheVariants.{Push}
-use Rattle.wq_words.specs.declared.answer.Answer.{Answer}
+use Rattle.wq_live.proofs.Common.{◌≡◌, ℕ, ◌<◌, Bool, List, [], ◌∷◌, ◌++◌, length, Option, None, refl, sym, ap, ◌∙◌, subst, append_assoc, Event, Push}
+use Rattle.wq_live.proofs.Common.{Answer, accepted, AreBrought, slice_get-prefix, own-append, Machine, IsSound, seeing, ValueStanding, standing_of}
+use Rattle.wq_live.proofs.Common.{knowing, Learns, learns_more, learns_right, Sent, OwnerSeat, Sees, sending_in, sender_view, owning, owner_view}
+use Rattle.wq_live.proofs.Common.{alone_at, Sends, QueuesSlot, SendsValues, OwnsValues, KnownWith, Learnt, IsBroughtBy, sender_with, owner_with}
 use Rattle.wq_words.specs.declared.answer.Answer.TheVariants as answer
-use Rattle.wq_words.specs.History.{accepted}
-use Rattle.wq_words.specs.Valued.{AreBrought}
 use Rattle.wq_words.proofs.Prefixes.{prefix_on}
-use Rattle.wq_words.proofs.Ranks.{slice_get-prefix}
-use Rattle.wq_words.proofs.Seen.{own-append}
-use Rattle.wq_core.specs.Machine.{Machine}
-use Rattle.wq_core.specs.Sound.{IsSound}
-use Rattle.wq_table.specs.Chair.{SeatedIn, seeing}
+use Rattle.wq_table.specs.Chair.{SeatedIn}
 use Rattle.wq_table.specs.Slots.{AllKnow}
-use Rattle.wq_table.specs.SlotChairs.{ValueStanding, standing_of, knowing}
-use Rattle.wq_table.specs.Beside.{Learns}
-use Rattle.wq_table.proofs.Learns.{learns_more, learns_many, learns_right, learns_knowing}
-use Rattle.wq_live.specs.declared.sent.Sent.{Sent}
-use Rattle.wq_live.specs.declared.owner_seat.OwnerSeat.{OwnerSeat}
+use Rattle.wq_table.proofs.Learns.{learns_many, learns_knowing}
 use Rattle.wq_live.specs.declared.value_sender.ValueSender.TheInside as sender
 use Rattle.wq_live.specs.declared.value_owner.ValueOwner.TheInside as owner
-use Rattle.wq_live.specs.Known.{Sees}
-use Rattle.wq_live.specs.Sits.{sending_in, sender_view, owning, owner_view, alone_at, Sends}
-use Rattle.wq_live.specs.Hands.{QueuesSlot}
-use Rattle.wq_live.specs.Alone.{SendsValues, OwnsValues}
-use Rattle.wq_live.specs.KnownWith.{KnownWith, Learnt, IsBroughtBy, BringsNothing}
-use Rattle.wq_live.specs.Valued.{sender_with, owner_with}
+use Rattle.wq_live.specs.KnownWith.{BringsNothing}
 use Rattle.wq_live.proofs.Sends.{meet_sends, meet_sees}
 use Rattle.wq_live.proofs.Meeting.{met_plain, met_slots, meet_executes, meet_owner_sees}
 use Rattle.wq_live.proofs.Valuing.{is_brought_by}

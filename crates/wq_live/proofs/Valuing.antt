@@ -1,30 +1,19 @@
 -- The queueings of items with their values.
-use Rattle.std.proofs.Common.{◌≡◌, Bool, ℕ, ◌<◌, true, [], ◌∷◌, ◌++◌, Option, Some, sym, ap, ◌∙◌, subst, arith}
-use Rattle.atomic_table.specs.Seated.{TableId}
-use Rattle.atomic_table.specs.Table.{rest}
-use Rattle.wq_words.specs.declared.layout.Layout.{Layout}
-use Rattle.wq_words.specs.declared.event.Event.TheVariants.{Push}
+use Rattle.wq_live.proofs.Common.{◌≡◌, Bool, ℕ, ◌<◌, true, [], ◌∷◌, ◌++◌, Option, Some, sym, ap, ◌∙◌, subst, arith, TableId, rest, Layout, Push}
+use Rattle.wq_live.proofs.Common.{Posted, Holds, own, number_count, Standing, Hand, ValueStanding, standing_of, part_in, HasValue, Learns}
+use Rattle.wq_live.proofs.Common.{LearnsOrStays, learns_on, learns_or, Sent, Known, TestsAndSets, Answers, IsContended, Sending, sending_in}
+use Rattle.wq_live.proofs.Common.{sender_view, Sends, Settles, HoldsSlot, IsToBring, PostsSlot, answer_of, IsBroughtBy, sender_with}
 use Rattle.wq_words.specs.declared.answer.Answer.TheVariants as answer
-use Rattle.wq_words.specs.declared.answer.Posted.{Posted}
 use Rattle.wq_words.specs.declared.answer.Posted.TheVariants as posted
-use Rattle.wq_words.specs.History.{Holds}
-use Rattle.wq_words.specs.Seen.{own}
-use Rattle.wq_words.specs.Numbers.{number_count}
-use Rattle.wq_table.specs.Chair.{Standing}
-use Rattle.wq_table.specs.SlotSteps.{Hand, in_front}
-use Rattle.wq_table.specs.SlotChairs.{ValueStanding, standing_of, part_in, HasValue, Exchanges}
-use Rattle.wq_table.specs.Beside.{Learns, LearnsOrStays}
-use Rattle.wq_table.proofs.Learns.{learns_on, learns_or}
-use Rattle.wq_live.specs.declared.sent.Sent.{Sent}
+use Rattle.wq_table.specs.SlotSteps.{in_front}
+use Rattle.wq_table.specs.SlotChairs.{Exchanges}
 use Rattle.wq_live.specs.declared.value_answer.ValueAnswer.{ValueAnswer}
 use Rattle.wq_live.specs.declared.value_answer.ValueAnswer.TheVariants as value
-use Rattle.wq_live.specs.Known.{Known}
-use Rattle.wq_live.specs.Answers.{TestsAndSets, Answers, IsContended}
-use Rattle.wq_live.specs.Sits.{Sending, sending, sending_in, sender_view, Sends}
-use Rattle.wq_live.specs.Tries.{Tries, IsHeldAfter, Settles}
-use Rattle.wq_live.specs.Hands.{HoldsSlot, IsToBring, Brings, PostsSlot}
-use Rattle.wq_live.specs.KnownWith.{answer_of, IsBroughtBy, BringsOrReturns}
-use Rattle.wq_live.specs.Valued.{sender_with, IsFilledAfter, Returns, SettlesValue}
+use Rattle.wq_live.specs.Sits.{sending}
+use Rattle.wq_live.specs.Tries.{Tries, IsHeldAfter}
+use Rattle.wq_live.specs.Hands.{Brings}
+use Rattle.wq_live.specs.KnownWith.{BringsOrReturns}
+use Rattle.wq_live.specs.Valued.{IsFilledAfter, Returns, SettlesValue}
 use Rattle.wq_live.proofs.Sends.{sees_hold}
 use Rattle.wq_live.proofs.Settled.{tried_same, held_after, answers_settled, contended_settled}
 

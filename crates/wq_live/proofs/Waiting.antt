@@ -1,21 +1,14 @@
 -- How many numbers wait: each waits once, and is below the count of numbers.
-use Rattle.std.proofs.Common.{◌≡◌, ℕ, ◌+◌, ◌<◌, ◌≤◌, List, [], ◌∷◌, ◌++◌, length, Option, Some, None, ap, subst, arith, length-append}
+use Rattle.wq_live.proofs.Common.{◌≡◌, ℕ, ◌+◌, ◌<◌, ◌≤◌, List, [], ◌∷◌, ◌++◌, length, Option, Some, None, ap, subst, arith, length-append}
+use Rattle.wq_live.proofs.Common.{number_count, accepted, begun, listed, kept, times, times-append, Machine, IsSound, Part, Owns, HasStage, Stands}
 use Rattle.std.specs.Prelude.{reverse}
 use mathlib.Core.List.{reverse_aux}
-use Rattle.wq_words.specs.Numbers.{number_count}
-use Rattle.wq_words.specs.History.{accepted, begun}
-use Rattle.wq_words.specs.Listed.{listed}
 use Rattle.wq_words.specs.Keeper.{keeper}
-use Rattle.wq_words.proofs.Keepers.{queue_bit, kept}
-use Rattle.wq_words.proofs.Times.{times, times-append, few}
+use Rattle.wq_words.proofs.Keepers.{queue_bit}
+use Rattle.wq_words.proofs.Times.{few}
 use Rattle.wq_words.proofs.Accepted.{accepted_below, queue_once}
-use Rattle.wq_core.specs.Machine.{Machine}
 use Rattle.wq_core.specs.Words.{word_at}
-use Rattle.wq_core.specs.Sound.{IsSound, IsChain}
-use Rattle.wq_table.specs.declared.table.Part.{Part}
-use Rattle.wq_table.specs.declared.table.Stage.TheVariants.{Owns}
-use Rattle.wq_table.specs.Law.{HasStage}
-use Rattle.wq_live.specs.Sits.{Stands}
+use Rattle.wq_core.specs.Sound.{IsChain}
 
 length_onto : (xs ys : List ℕ) → length (reverse_aux xs ys) ≡ length xs + length ys
 length_onto [] ys = omega arith

@@ -1,17 +1,9 @@
 -- A queue without slots: one lemma for every kind of step.
-use Rattle.std.proofs.Common.{◌≡◌, ℕ, ◌+◌, List, ◌++◌, length, replicate, Option, None, refl, ap, ◌∙◌, arith}
+use Rattle.wq_table.proofs.Common.{◌≡◌, ℕ, ◌+◌, List, ◌++◌, length, replicate, Option, None, refl, ap, ◌∙◌, arith, IsPrefix, accepted, Step, Machine}
+use Rattle.wq_table.proofs.Common.{after, Part, seat_at, IsPartOf, keeps, Slots, Shelves, Hand, GoesBy}
 use Rattle.std.proofs.lemmas.List.{length-append, length-replicate}
-use mathlib.Core.List.{IsPrefix}
-use Rattle.wq_words.specs.History.{accepted}
 use Rattle.wq_words.proofs.Appended.{accepted-append}
-use Rattle.wq_core.specs.declared.step.Step.{Step}
-use Rattle.wq_core.specs.Machine.{Machine, after}
-use Rattle.wq_table.specs.declared.table.Part.{Part}
-use Rattle.wq_table.specs.Law.{seat_at, IsPartOf}
 use Rattle.wq_table.proofs.Changes.{changes}
-use Rattle.atomic_table.specs.Table.{keeps}
-use Rattle.wq_table.specs.Slots.{Slots, Shelves}
-use Rattle.wq_table.specs.SlotSteps.{Hand, GoesBy}
 
 module _ {V : Type 0} where
   -- what is brought, and what lies in no slots, after any step: nothing

@@ -1,14 +1,8 @@
 -- Steps one after another, as the other parts of a chair see them.
-use Rattle.std.proofs.Common.{◌≡◌, ℕ, List, [], ◌∷◌, inr, ⊎_elim, refl, sym, ap, ◌∙◌, subst}
-use Rattle.wq_words.specs.declared.event.Event.{Event}
+use Rattle.wq_table.proofs.Common.{◌≡◌, ℕ, List, [], ◌∷◌, inr, ⊎_elim, refl, sym, ap, ◌∙◌, subst, Event, Step, Machine, after, Part, View, seat_at}
+use Rattle.wq_table.proofs.Common.{IsPartOf, see, all_see, AllOf, chosen, besides, part_at}
 use Rattle.wq_words.proofs.Prefixes.{prefix_on}
-use Rattle.wq_core.specs.declared.step.Step.{Step}
-use Rattle.wq_core.specs.Machine.{Machine, after}
-use Rattle.wq_table.specs.declared.table.Part.{Part}
-use Rattle.wq_table.specs.Law.{View, seat_at, IsPartOf}
-use Rattle.wq_table.specs.Plays.{see, all_see, AllOf}
-use Rattle.wq_table.specs.Places.{chosen, besides}
-use Rattle.wq_table.specs.Chair.{Standing, part_at, besides_at, Steps}
+use Rattle.wq_table.specs.Chair.{Standing, besides_at, Steps}
 use Rattle.wq_table.specs.Beside.{Follow, Beside}
 
 -- one step

@@ -1,23 +1,13 @@
 -- What each kind of step does to the slots, whatever machine the seat is of.
-use Rattle.std.proofs.Common.{◌≡◌, ℕ, ◌<◌, ◌==◌, List, [], ◌∷◌, set, Option, Some, None, refl, ap, ◌∙◌, subst, arith}
-use Rattle.wq_words.specs.declared.layout.Layout.{Layout}
-use Rattle.wq_words.specs.declared.event.Why.{Why}
-use Rattle.wq_words.specs.declared.event.Event.{Event}
-use Rattle.wq_words.specs.Numbers.{number_count}
-use Rattle.wq_words.specs.History.{Holds, running}
+use Rattle.wq_table.proofs.Common.{◌≡◌, ℕ, ◌<◌, ◌==◌, List, [], ◌∷◌, set, Option, Some, None, refl, ap, ◌∙◌, subst, arith, Layout, Why, Event}
+use Rattle.wq_table.proofs.Common.{number_count, Holds, Private, Hold, Link, Push, Back, Check, Take, Close, Drain, Resume, Begin, End, Chain, Turn}
+use Rattle.wq_table.proofs.Common.{Rest, head, busy_word, Stage, Sends, Owns, part, Carries, Hand, GoesBy}
+use Rattle.wq_words.specs.History.{running}
 use Rattle.wq_words.proofs.Seen.{held_same}
-use Rattle.wq_core.specs.declared.step.Private.{Private}
-use Rattle.wq_core.specs.declared.step.Step.TheVariants.{Hold, Look, Link, Push, Back, Check, Take, Close, Drain, Resume, Walk, Begin, End, Chain, Turn, Rest}
-use Rattle.wq_core.specs.Machine.{head}
-use Rattle.wq_words.specs.Head.{busy_word}
+use Rattle.wq_core.specs.declared.step.Step.TheVariants.{Look, Walk}
 use Rattle.wq_core.specs.Words.{head_place, closed_word, draining_word, idle_word, head_at, item_of}
 use Rattle.wq_core.proofs.OwnerSteps.{cursor_is}
-use Rattle.wq_table.specs.declared.table.Stage.{Stage}
-use Rattle.wq_table.specs.declared.table.Stage.TheVariants.{Sends, Owns}
-use Rattle.wq_table.specs.Law.{part}
 use Rattle.wq_table.specs.Chair.{IsSender, HasSeen, HasLinked, IsOwner, IsRested, IsToWalk, IsToTurn, IsToBegin}
-use Rattle.wq_words.specs.Valued.{Carries}
-use Rattle.wq_table.specs.SlotSteps.{Hand, GoesBy}
 use Rattle.wq_table.proofs.Moves.{goes_still, shelves_take, shelves_close, shelves_drain, shelves_resume, shelves_rest, shelves_end, goes_hold}
 use Rattle.wq_table.proofs.Moves.{goes_push, goes_back, goes_begin, goes_chain}
 use Rattle.wq_table.proofs.Walked.{goes_walk, goes_walk_none}

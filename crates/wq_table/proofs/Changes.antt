@@ -1,26 +1,21 @@
 -- A step changes what its own seat keeps, and adds events of that seat alone.
-use Rattle.std.proofs.Common.{◌≡◌, ℕ, ◌≢◌, Bool, true, false, ◌==◌, if◌then◌else◌, List, [], ◌∷◌, ◌++◌, Option, Some, None, unwrap_or, sym, refl, ap, ◌∙◌, subst, arith}
-use Rattle.std.proofs.lemmas.List.{append-nil, get_or-set_other, get_or-set_same}
-use Rattle.wq_words.specs.declared.layout.Layout.{Layout}
-use Rattle.wq_words.specs.declared.event.Event.{Event}
+use Rattle.wq_table.proofs.Common.{◌≡◌, ℕ, ◌≢◌, Bool, true, false, ◌==◌, if◌then◌else◌, List, [], ◌∷◌, ◌++◌, Option, Some, None, sym, refl, ap, ◌∙◌}
+use Rattle.wq_table.proofs.Common.{subst, arith, append-nil, Layout, Event, Private, Step, Hold, Link, Push, Back, Check, Take, Close, Drain, Resume}
+use Rattle.wq_table.proofs.Common.{Begin, End, Chain, Turn, Rest, busy_word, Machine, nothing_seen, seen_word, head, link, item_word, after_begin}
+use Rattle.wq_table.proofs.Common.{after_end, after, StandsIn, IsSound, Part, Stage, Sends, Owns, owner_seat, seat_at, IsPartOf, word_found}
+use Rattle.std.proofs.Common.{unwrap_or}
+use Rattle.std.proofs.lemmas.List.{get_or-set_other, get_or-set_same}
 use Rattle.wq_words.specs.declared.event.Event.TheVariants as event
 use Rattle.wq_words.specs.History.{running}
-use Rattle.wq_core.specs.declared.step.Private.{Private}
 use Rattle.wq_core.specs.declared.step.Seat.TheVariants.{Owner}
-use Rattle.wq_core.specs.declared.step.Step.{Step}
-use Rattle.wq_core.specs.declared.step.Step.TheVariants.{Hold, Look, Link, Push, Back, Check, Take, Close, Drain, Resume, Walk, Begin, End, Chain, Turn, Rest}
-use Rattle.wq_words.specs.Head.{busy_word}
+use Rattle.wq_core.specs.declared.step.Step.TheVariants.{Look, Walk}
 use Rattle.wq_core.specs.Words.{number_at}
-use Rattle.wq_core.specs.Machine.{Machine, nothing_seen, private, seen_word, head, link, item_word, with_item, with_private, happened, unlinked, after_walk, after_begin, after_end, after, first_of, StandsIn}
+use Rattle.wq_core.specs.Machine.{private, with_item, with_private, happened, unlinked, after_walk, first_of}
 use Rattle.wq_core.specs.Made.{IsMade}
-use Rattle.wq_core.specs.Sound.{IsSound}
-use Rattle.wq_table.specs.declared.table.Part.{Part}
-use Rattle.wq_table.specs.declared.table.Stage.{Stage}
-use Rattle.wq_table.specs.declared.table.Stage.TheVariants.{Sends, Owns}
-use Rattle.wq_words.specs.Seen.{owner_seat, seat_of, own}
-use Rattle.wq_table.specs.Law.{seat_at, HasStage, IsPartOf, HasLinks}
+use Rattle.wq_words.specs.Seen.{seat_of, own}
+use Rattle.wq_table.specs.Law.{HasStage, HasLinks}
 use Rattle.wq_core.proofs.Taken.{sender_links}
-use Rattle.wq_table.specs.Plays.{word_found, stage_after, walked_by, tail_of}
+use Rattle.wq_table.specs.Plays.{stage_after, walked_by, tail_of}
 use Rattle.wq_words.proofs.Seen.{own_none, own_same}
 use Rattle.wq_words.proofs.Prefixes.{prefix_append}
 

@@ -1,28 +1,24 @@
 -- Who keeps a number, and how often the owner has it, while events come.
-use Rattle.std.proofs.Common.{◌≡◌, ◌≢◌, ℕ, ◌+◌, ◌<◌, ◌≤◌, ◌==◌, Bool, true, false, cond, List, [], ◌∷◌, ◌++◌, length}
-use Rattle.std.proofs.Common.{slice_get, Some, None, sym, refl, ap, ◌∙◌, subst, arith, ⊎_elim}
-use Rattle.std.proofs.lemmas.List.{append-nil}
-use Rattle.std.proofs.lemmas.Bool.{eqb-false, eq-eqb}
-use mathlib.Core.List.{IsPrefix, reverse_aux}
+use Rattle.wq_table.proofs.Common.{◌≡◌, ◌≢◌, ℕ, ◌+◌, ◌<◌, ◌≤◌, ◌==◌, Bool, true, false, cond, List, [], ◌∷◌, ◌++◌, length, slice_get, Some, None, sym}
+use Rattle.wq_table.proofs.Common.{refl, ap, ◌∙◌, subst, arith, ⊎_elim, append-nil, eqb-false, IsPrefix, Event, Layout, number_count, accepted, begun}
+use Rattle.wq_table.proofs.Common.{Keeper, Home, keeper, Machine, IsSound, times-cons, times-append, IsAway, taken_times}
+use Rattle.std.proofs.lemmas.Bool.{eq-eqb}
+use mathlib.Core.List.{reverse_aux}
 use Rattle.std.specs.Prelude.{reverse}
-use Rattle.wq_words.specs.declared.event.Event.{Event}
-use Rattle.wq_words.specs.declared.layout.Layout.{Layout}
-use Rattle.wq_words.specs.Numbers.{number_count}
-use Rattle.wq_words.specs.History.{accepted, begun_by, begun}
+use Rattle.wq_words.specs.History.{begun_by}
 use Rattle.wq_words.specs.Legal.{IsLegal}
-use Rattle.wq_words.specs.Keeper.{Keeper, Home, Sender, Listed, Owner, taken_over, keeper}
+use Rattle.wq_words.specs.Keeper.{Sender, Listed, Owner, taken_over}
 use Rattle.wq_words.proofs.Growing.{filter_map_push_none}
 use Rattle.wq_words.proofs.Keepers.{IsQueue, queue_from_bit, kept}
 use Rattle.wq_words.proofs.Order.{in_order}
 use Rattle.wq_words.proofs.Places.{counted_once, counted_twice, keeps_from_keeper}
-use Rattle.wq_core.specs.Machine.{Machine}
-use Rattle.wq_core.specs.Sound.{IsSound, AreChained, IsChain}
-use Rattle.wq_words.proofs.Times.{times, times-cons, times-append, times-reverse_aux, times-first}
+use Rattle.wq_core.specs.Sound.{AreChained, IsChain}
+use Rattle.wq_words.proofs.Times.{times, times-reverse_aux, times-first}
 use Rattle.wq_words.specs.Listed.{listed}
 use Rattle.wq_core.proofs.KeptSound.{away_from_sender}
 use Rattle.wq_core.proofs.Privates.{keeper_push, Gives}
 use Rattle.wq_words.proofs.Accepted.{queue_once}
-use Rattle.wq_table.specs.Slots.{IsAway, IsSenders, taken_times}
+use Rattle.wq_table.specs.Slots.{IsSenders}
 
 -- a number that waits is kept by the list or the owner, and has one place
 module _ (layout : Layout) (h : List Event) (legal : IsLegal layout h) (k : ℕ) where

@@ -1,20 +1,9 @@
 -- What the parts of a chair were told of what is brought, from one of its steps to the next.
-use Rattle.std.proofs.Common.{◌≡◌, ℕ, List, [], ◌∷◌, length, Option, inl, inr, ⊎_elim, refl, sym, ap, ◌∙◌, subst, arith, ◌<◌}
-use mathlib.Core.List.{IsPrefix}
-use Rattle.wq_words.specs.declared.event.Event.{Event}
-use Rattle.wq_words.specs.History.{accepted}
-use Rattle.wq_words.specs.Valued.{AreBrought}
-use Rattle.wq_words.specs.declared.layout.Layout.{Layout}
-use Rattle.wq_core.specs.declared.step.Step.{Step}
-use Rattle.wq_core.specs.Machine.{Machine}
-use Rattle.wq_core.specs.Sound.{IsSound}
-use Rattle.wq_table.specs.declared.values.ValuePart.{ValuePart}
-use Rattle.wq_table.specs.Law.{View}
-use Rattle.wq_table.specs.Plays.{all_see}
-use Rattle.wq_table.specs.Chair.{SeatedIn, part_at}
-use Rattle.wq_table.specs.Slots.{plain_view, AllKnow}
-use Rattle.wq_table.specs.SlotSteps.{AllTold}
-use Rattle.wq_table.specs.SlotChairs.{ValueStanding, standing_of, ValueSteps, knowing, ValueMeet, ValueMeetAll}
+use Rattle.wq_table.proofs.Common.{◌≡◌, ℕ, List, [], ◌∷◌, length, Option, inl, inr, ⊎_elim, refl, sym, ap, ◌∙◌, subst, arith, ◌<◌, IsPrefix, Event}
+use Rattle.wq_table.proofs.Common.{accepted, AreBrought, Layout, Step, Machine, IsSound, ValuePart, View, all_see, part_at, plain_view, AllKnow}
+use Rattle.wq_table.proofs.Common.{AllTold, ValueStanding, standing_of, ValueSteps}
+use Rattle.wq_table.specs.Chair.{SeatedIn}
+use Rattle.wq_table.specs.SlotChairs.{knowing, ValueMeet, ValueMeetAll}
 use Rattle.wq_table.specs.Beside.{Beside, Learns, LearnsOrStays}
 use Rattle.wq_table.proofs.Places.{seeing_seen}
 use Rattle.wq_table.proofs.ValueRule.{all_more, plain_telling, told_all}

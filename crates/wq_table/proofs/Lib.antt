@@ -1,3 +1,4 @@
+pub mod Common
 pub mod Changes
 pub mod Places
 pub mod Rule

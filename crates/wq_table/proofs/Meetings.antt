@@ -1,18 +1,10 @@
 -- Views that are joined, and that see all.
-use Rattle.std.proofs.Common.{◌≡◌, ◌≢◌, ℕ, List, [], ◌∷◌, ◌++◌, map, get_or, set, Option, sym, refl, ap, ◌∙◌, subst, ⊎_elim, arith}
+use Rattle.wq_table.proofs.Common.{◌≡◌, ◌≢◌, ℕ, List, [], ◌∷◌, ◌++◌, map, get_or, set, Option, sym, refl, ap, ◌∙◌, subst, ⊎_elim, arith, some, none}
+use Rattle.wq_table.proofs.Common.{get_elem?, keeps, at_set, set_else, at_map, Layout, Event, Machine, ValuePart, View, Kept, all_see, Shelves}
+use Rattle.wq_table.proofs.Common.{ValueView, plain_view, plain, AllKnow, KeptValues, telling, ValueSat}
 use Rattle.std.proofs.lemmas.List.{map-append}
-use mathlib.Core.Option.{some, none}
-use lib.ListN.{get_elem?}
-use Rattle.atomic_table.specs.Table.{keeps, step, Allows, Joins}
-use Rattle.atomic_table.proofs.Lists.{at_set, set_else, at_map}
-use Rattle.wq_words.specs.declared.layout.Layout.{Layout}
-use Rattle.wq_words.specs.declared.event.Event.{Event}
-use Rattle.wq_core.specs.Machine.{Machine}
-use Rattle.wq_table.specs.declared.values.ValuePart.{ValuePart}
-use Rattle.wq_table.specs.Law.{View, Kept}
-use Rattle.wq_table.specs.Plays.{all_see}
-use Rattle.wq_table.specs.Slots.{Shelves, ValueView, plain_view, plain, AllKnow, KeptValues, telling}
-use Rattle.wq_table.specs.SlotSteps.{ValueSat, meets_values}
+use Rattle.atomic_table.specs.Table.{step, Allows, Joins}
+use Rattle.wq_table.specs.SlotSteps.{meets_values}
 use Rattle.wq_table.proofs.Places.{seeing_seen}
 use Rattle.wq_table.proofs.Views.{boths, boths_machine, kept_meeting, all_of}
 use Rattle.wq_table.proofs.ValueRule.{map_set, plain_telling, told_know}

@@ -1,32 +1,26 @@
 -- What each kind of step does to the slots, and to the hand of the seat that makes it.
-use Rattle.std.proofs.Common.{◌≡◌, ◌≢◌, ℕ, ◌+◌, ◌%◌, ◌^◌, ◌<◌, ◌≤◌, ◌==◌, Bool, true, false, cond, if◌then◌else◌, List, [], ◌∷◌, ◌++◌, length, set}
-use Rattle.std.proofs.Common.{slice_get, Option, Some, None, sym, refl, ap, ◌∙◌, subst, arith, inl, inr, ⊎_elim}
+use Rattle.wq_table.proofs.Common.{◌≡◌, ◌≢◌, ℕ, ◌+◌, ◌%◌, ◌^◌, ◌<◌, ◌≤◌, ◌==◌, Bool, true, false, cond, if◌then◌else◌, List, [], ◌∷◌, ◌++◌, length}
+use Rattle.wq_table.proofs.Common.{set, slice_get, Option, Some, None, sym, refl, ap, ◌∙◌, subst, arith, inl, inr, ⊎_elim, eqb-true, some, none}
+use Rattle.wq_table.proofs.Common.{keeps, takes, Why, Event, number_count, accepted, begun, Holds, Keeper, Home, keeper, prefix_self, Machine, head}
+use Rattle.wq_table.proofs.Common.{item_word, seen_word, nothing_seen, after_begin, after_end, IsSound, times-cons, times-append, Part, Carries}
+use Rattle.wq_table.proofs.Common.{Slots, Shelves, taken_times, Step, Hand, MovesSlot}
 use Rattle.std.proofs.lemmas.List.{length_push}
-use Rattle.std.proofs.lemmas.Bool.{eqb-true, eq-eqb, ne_eqb}
-use mathlib.Core.Option.{some, none}
-use Rattle.atomic_table.specs.Table.{keeps, takes, gives}
-use Rattle.wq_words.specs.declared.event.Why.{Why}
-use Rattle.wq_words.specs.declared.event.Event.{Event}
+use Rattle.std.proofs.lemmas.Bool.{eq-eqb, ne_eqb}
+use Rattle.atomic_table.specs.Table.{gives}
 use Rattle.wq_words.specs.declared.event.Event.TheVariants.{Hold, Busy, Push, Back, Take, Close, Drain, Resume, Begin, End, Chain, ChainBusy, Rest}
-use Rattle.wq_words.specs.Numbers.{number_count}
-use Rattle.wq_words.specs.History.{accepted_by, accepted, begun_by, begun, Holds}
-use Rattle.wq_words.specs.Keeper.{Keeper, Home, Sender, Listed, Owner, keeper_after, keeper}
+use Rattle.wq_words.specs.History.{accepted_by, begun_by}
+use Rattle.wq_words.specs.Keeper.{Sender, Listed, Owner, keeper_after}
 use Rattle.wq_words.proofs.Growing.{filter_map_push_some}
 use Rattle.wq_words.proofs.Listed.{accepted_push_none}
-use Rattle.wq_words.proofs.Prefixes.{prefix_self}
-use Rattle.wq_core.specs.Machine.{Machine, head, item_word, seen_word, nothing_seen, with_head, with_item, with_private, with_done, done_word}
-use Rattle.wq_core.specs.Machine.{happened, after_begin, after_end}
-use Rattle.wq_core.specs.Sound.{IsSound}
-use Rattle.wq_words.proofs.Times.{times, times-cons, times-append}
+use Rattle.wq_core.specs.Machine.{with_head, with_item, with_private, with_done, done_word}
+use Rattle.wq_core.specs.Machine.{happened}
+use Rattle.wq_words.proofs.Times.{times}
 use Rattle.wq_core.proofs.KeptSound.{home_from_clear, sender_from_holds}
 use Rattle.wq_core.proofs.Privates.{keeper_push, gives_hold, gives_push, gives_back, gives_begin, gives_chain}
 use Rattle.wq_core.proofs.OwnerSteps.{first_of_batch}
-use Rattle.wq_table.specs.declared.table.Part.{Part}
-use Rattle.wq_words.specs.Valued.{Carries}
-use Rattle.wq_table.specs.Slots.{HomesFit, Slots, Shelves, IsSenders, taken_times}
-use Rattle.wq_core.specs.declared.step.Step.{Step}
+use Rattle.wq_table.specs.Slots.{HomesFit, IsSenders}
 use Rattle.wq_core.specs.declared.step.Step.TheVariants as step
-use Rattle.wq_table.specs.SlotSteps.{Hand, MovesSlot, Goes}
+use Rattle.wq_table.specs.SlotSteps.{Goes}
 use Rattle.wq_table.proofs.Shelves.{fits_still, fits_taken, fits_emptied, fits_brought, fits_chained}
 use Rattle.wq_table.proofs.Keeping.{waiting_queue, waiting_once, queue_home, queue_sender, gone, came, begun_same, over_home}
 use Rattle.wq_table.proofs.Keeping.{batch_once, over_sends, away_other, away_gone, held_none_out}

@@ -1,21 +1,15 @@
 -- How the rule begins, and how a view is cut.
-use Rattle.std.proofs.Common.{◌≡◌, ◌≢◌, ℕ, zero, suc, ◌+◌, ◌<◌, List, [], ◌∷◌, ◌++◌, length, map, set, replicate, Option, None, sym, refl, ap, ◌∙◌}
-use Rattle.std.proofs.Common.{subst, ⊎_elim, arith}
+use Rattle.wq_table.proofs.Common.{◌≡◌, ◌≢◌, ℕ, zero, suc, ◌+◌, ◌<◌, List, [], ◌∷◌, ◌++◌, length, map, set, replicate, Option, None, sym, refl, ap}
+use Rattle.wq_table.proofs.Common.{◌∙◌, subst, ⊎_elim, arith, some, some-injective, some-ne-none, get_elem?, State, at_set, at_map, Layout}
+use Rattle.wq_table.proofs.Common.{number_count, prefix_self, word_count, Machine, View, Kept, row, opening_view, Shelves, ValueView, plain_view}
+use Rattle.wq_table.proofs.Common.{plain, AllKnow, KeptValues, telling, front_values, rest_values}
 use Rattle.std.proofs.lemmas.List.{map-append}
-use mathlib.Core.Option.{some, some-injective, some-ne-none}
-use lib.ListN.{get_elem?}
-use Rattle.atomic_table.specs.Table.{State, Splits, opening}
-use Rattle.atomic_table.proofs.Lists.{at_set, at_map}
-use Rattle.wq_words.specs.declared.layout.Layout.{Layout}
-use Rattle.wq_words.specs.Numbers.{number_count}
+use Rattle.atomic_table.specs.Table.{Splits, opening}
 use Rattle.wq_words.proofs.Growing.{at_end}
-use Rattle.wq_words.proofs.Prefixes.{prefix_self}
-use Rattle.wq_core.specs.Words.{word_count}
-use Rattle.wq_core.specs.Machine.{Machine}
 use Rattle.wq_core.specs.Machine as machine
-use Rattle.wq_table.specs.Law.{View, Kept, row, opening_view, front_of, rest_of}
+use Rattle.wq_table.specs.Law.{front_of, rest_of}
 use Rattle.wq_table.proofs.Views.{opens, opens_machine, blanks, blanks_machine, offs, offs_machine}
-use Rattle.wq_table.specs.Slots.{Shelves, ValueView, plain_view, plain, AllKnow, KeptValues, telling, opening_values, front_values, rest_values}
+use Rattle.wq_table.specs.Slots.{opening_values}
 use Rattle.wq_table.proofs.ValueRule.{map_set, plain_telling}
 
 new_know : (V : Type 0) (l : Layout) (a m : ℕ) → AllKnow {V = V} [] (map (telling []) (row l a m))

@@ -1,12 +1,8 @@
 -- What the table's operations make of a word.
-use Rattle.std.proofs.Common.{◌≡◌, ◌≢◌, ℕ, ◌<◌, Bool, true, false, ◌==◌, if◌then◌else◌, List, get_or, set, sym, ap, ◌∙◌, arith}
+use Rattle.wq_table.proofs.Common.{◌≡◌, ◌≢◌, ℕ, ◌<◌, Bool, true, false, ◌==◌, if◌then◌else◌, List, get_or, set, sym, ap, ◌∙◌, arith, eqb-false}
+use Rattle.wq_table.proofs.Common.{eqb-true, either, number_count, Machine, item_word, IsSound}
 use Rattle.std.specs.Prelude.{bit_or, bit_and}
-use Rattle.std.proofs.lemmas.Bool.{eqb-false, eqb-true}
-use prog.Atomic.{either}
 use lib.Seq.{set-get_or}
-use Rattle.wq_words.specs.Numbers.{number_count}
-use Rattle.wq_core.specs.Machine.{Machine, item_word}
-use Rattle.wq_core.specs.Sound.{IsSound}
 
 -- an item word is a bit
 pub item_word-bit : (m : Machine) → IsSound m → (k : ℕ) → k < number_count m.layout → item_word m k < 2

@@ -1,13 +1,8 @@
 -- A view once its part at a place has made a step, and all others have seen it.
-use Rattle.std.proofs.Common.{◌≡◌, ℕ, zero, suc, ◌≢◌, List, [], ◌∷◌, sym, refl, ap, ◌∙◌, subst, inl, inr, ⊎_elim}
-use Rattle.wq_words.specs.declared.event.Event.{Event}
-use Rattle.wq_words.specs.Seen.{owner_seat}
-use Rattle.wq_core.specs.Machine.{Machine, link, StandsIn}
-use Rattle.wq_table.specs.declared.table.Part.{Part}
-use Rattle.wq_table.specs.Law.{View, IsPartOf, Apart, ArePartsAt, HasPartOf, HasSeenAll}
-use Rattle.wq_table.specs.Plays.{all_see, AllOf, see}
-use Rattle.wq_table.specs.Places.{chosen, besides}
-use Rattle.wq_words.proofs.Prefixes.{prefix_self}
+use Rattle.wq_table.proofs.Common.{◌≡◌, ℕ, zero, suc, ◌≢◌, List, [], ◌∷◌, sym, refl, ap, ◌∙◌, subst, inl, inr, ⊎_elim, Event, owner_seat, Machine}
+use Rattle.wq_table.proofs.Common.{link, StandsIn, Part, View, IsPartOf, ArePartsAt, HasPartOf, HasSeenAll, all_see, AllOf, see, chosen, besides}
+use Rattle.wq_table.proofs.Common.{prefix_self}
+use Rattle.wq_table.specs.Law.{Apart}
 use Rattle.wq_table.proofs.Present.{seat_meets}
 use Rattle.wq_table.proofs.Views.{apart_all, fit_all}
 use Rattle.wq_table.proofs.Changes.{Change, fits_other}

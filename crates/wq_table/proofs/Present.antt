@@ -1,15 +1,9 @@
 -- Each seat stands in some view, and some seat has seen the whole history, while views are changed, cut and joined.
-use Rattle.std.proofs.Common.{◌≡◌, ◌≢◌, ◌⊎◌, ℕ, zero, suc, ◌+◌, ◌<◌, ◌≤◌, Bool, true, false, eqb, List, [], ◌∷◌, ◌++◌, length, length-set, set, cond, sym, refl, ap, ◌∙◌, subst, inl, inr, ⊎_elim, arith}
-use Rattle.std.proofs.lemmas.Bool.{eqb-true, eqb-false}
-use mathlib.Core.Option.{some, some-injective, some-ne-none}
-use lib.ListN.{get_elem?}
-use Rattle.atomic_table.proofs.Lists.{set_else}
-use Rattle.wq_words.specs.declared.layout.Layout.{Layout}
-use Rattle.wq_words.specs.declared.event.Event.{Event}
-use Rattle.wq_words.specs.Seen.{owner_seat}
-use Rattle.wq_table.specs.declared.table.Part.{Part}
-use Rattle.wq_table.specs.Law.{View, HasPartOf, HasSeenAll, StandsAt, IsSeatOf, row, opening_view}
-use Rattle.wq_table.specs.Plays.{all_see}
+use Rattle.wq_table.proofs.Common.{◌≡◌, ◌≢◌, ℕ, zero, suc, ◌+◌, ◌<◌, ◌≤◌, Bool, true, false, eqb, List, [], ◌∷◌, ◌++◌, length, length-set, set, cond}
+use Rattle.wq_table.proofs.Common.{sym, refl, ap, ◌∙◌, subst, inl, inr, ⊎_elim, arith, eqb-true, eqb-false, some, some-injective, some-ne-none}
+use Rattle.wq_table.proofs.Common.{get_elem?, set_else, Layout, Event, owner_seat, Part, View, HasPartOf, HasSeenAll, row, opening_view, all_see}
+use Rattle.std.proofs.Common.{◌⊎◌}
+use Rattle.wq_table.specs.Law.{StandsAt, IsSeatOf}
 
 -- the place is the one, or another
 same_or_other : (i j : ℕ) → (i ≡ j) ⊎ (i ≢ j)

@@ -1,21 +1,11 @@
 -- A step that the machine makes keeps the rule of the table, and tells its view what it was.
-use Rattle.std.proofs.Common.{◌≡◌, ℕ, ◌≢◌, List, [], ◌∷◌, get_or, set, sym, refl, ap, ◌∙◌, subst, ⊎_elim}
-use mathlib.Core.Option.{some}
-use lib.ListN.{get_elem?}
-use Rattle.atomic_table.specs.Table.{State}
-use Rattle.atomic_table.proofs.Lists.{at_set}
-use Rattle.wq_words.specs.declared.layout.Layout.{Layout}
-use Rattle.wq_core.specs.declared.step.Step.{Step}
-use Rattle.wq_core.specs.Machine.{Machine, link, after, StandsIn}
+use Rattle.wq_table.proofs.Common.{◌≡◌, ℕ, ◌≢◌, List, [], ◌∷◌, get_or, set, sym, refl, ap, ◌∙◌, subst, ⊎_elim, some, get_elem?, State, at_set, Layout}
+use Rattle.wq_table.proofs.Common.{Step, Machine, link, after, StandsIn, IsSound, Part, owner_seat, View, part, seat_at, IsPartOf, ArePartsAt}
+use Rattle.wq_table.proofs.Common.{HasPartOf, HasSeenAll, Kept, word_found, Performs, all_see, AllOf, chosen, besides, prefix_self}
 use Rattle.wq_core.specs.Made.{IsMade}
-use Rattle.wq_core.specs.Sound.{IsSound}
-use Rattle.wq_table.specs.declared.table.Part.{Part}
-use Rattle.wq_words.specs.Seen.{owner_seat}
-use Rattle.wq_table.specs.Law.{View, part, seat_at, IsPartOf, ArePartsAt, HasPartOf, HasSeenAll, Kept}
-use Rattle.wq_table.specs.Plays.{word_found, stage_after, Makes, Performs, all_see, AllOf}
-use Rattle.wq_table.specs.Places.{chosen, besides, MakesAt}
+use Rattle.wq_table.specs.Plays.{stage_after, Makes}
+use Rattle.wq_table.specs.Places.{MakesAt}
 use Rattle.wq_core.proofs.Sound.{sound_after}
-use Rattle.wq_words.proofs.Prefixes.{prefix_self}
 use Rattle.wq_table.proofs.Present.{stands_put, put_in}
 use Rattle.wq_table.proofs.Changes.{Change, changes, fits_other, keeps_after, links_known, links_spared}
 use Rattle.wq_table.proofs.Places.{moved_first, moved_rest, moved_chosen, moved_besides, chosen_fits, moved_fit, still_fits, seat_moved, seen_moved}

@@ -1,16 +1,14 @@
 -- What lies in the slots, a step at a time, over plain lists.
-use Rattle.std.proofs.Common.{◌≡◌, ◌≢◌, ℕ, ◌<◌, ◌≤◌, List, [], ◌∷◌, ◌++◌, length, set, slice_get, Some, sym, ap, ◌∙◌, subst, ⊎_elim, arith, length-set}
+use Rattle.wq_table.proofs.Common.{◌≡◌, ◌≢◌, ℕ, ◌<◌, ◌≤◌, List, [], ◌∷◌, ◌++◌, length, set, slice_get, Some, sym, ap, ◌∙◌, subst, ⊎_elim, arith}
+use Rattle.wq_table.proofs.Common.{length-set, some, none, get_elem?, set_else, Keeper, Home, IsAway}
 use Rattle.std.proofs.lemmas.List.{length_push}
 use Rattle.std.proofs.lemmas.Option.{slice_get_within}
-use mathlib.Core.Option.{some, none}
 use mathlib.Core.Option as maybe
 use mathlib.Core.Logic.{dite}
 use native.Mathlib.Decide.{ℕ_discrete}
-use lib.ListN.{get_elem?}
-use Rattle.atomic_table.proofs.Lists.{set_here, set_else}
-use Rattle.wq_words.specs.Keeper.{Keeper, Home}
+use Rattle.atomic_table.proofs.Lists.{set_here}
 use Rattle.wq_words.proofs.Growing.{slice_get_push}
-use Rattle.wq_table.specs.Slots.{HomesFit, IsAway}
+use Rattle.wq_table.specs.Slots.{HomesFit}
 
 module _ {S : Type 0} (nothing : S) (R : ℕ → S → Type 0) (kp kp' : ℕ → Keeper) (out out' : ℕ
     → ℕ) (b b' : ℕ) (acs : List ℕ) (brs : List S) (homes : List (maybe.Option S))

@@ -1,14 +1,8 @@
 -- Two chairs whose table may have slots become one.
-use Rattle.std.proofs.Common.{◌≡◌, ℕ, arith, [], ◌∷◌, ◌++◌, map, sym, refl, ap, ◌∙◌, subst, Some}
-use Rattle.std.proofs.lemmas.List.{append-nil}
-use Rattle.atomic_table.specs.Seated.{TableId}
-use Rattle.wq_words.specs.declared.layout.Layout.{Layout}
-use Rattle.wq_table.specs.declared.chair.Chair.TheInside.{Inside}
-use Rattle.wq_table.specs.Law.{View}
-use Rattle.wq_table.specs.Plays.{see, all_see, AllOf}
-use Rattle.wq_table.specs.Slots.{ValueView, plain_view, AllKnow, telling, front_values, rest_values}
-use Rattle.wq_table.specs.SlotSteps.{ValueSat, ValuesSeen}
-use Rattle.wq_table.specs.SlotChairs.{ValueStanding, ValueJoined, first_told, value_standing, AreSized, ValueSits}
+use Rattle.wq_table.proofs.Common.{◌≡◌, ℕ, arith, [], ◌∷◌, ◌++◌, map, sym, refl, ap, ◌∙◌, subst, Some, append-nil, TableId, Layout, Inside, View, see}
+use Rattle.wq_table.proofs.Common.{all_see, AllOf, ValueView, plain_view, AllKnow, telling, front_values, rest_values, ValueSat, ValuesSeen}
+use Rattle.wq_table.proofs.Common.{ValueStanding, first_told, value_standing, AreSized, ValueSits}
+use Rattle.wq_table.specs.SlotChairs.{ValueJoined}
 use Rattle.wq_table.proofs.Told.{sized_seeing}
 use Rattle.wq_table.proofs.ValueRule.{plain_telling}
 use Rattle.wq_table.proofs.SlotTold.{with_seat, sized_in, whole_view}

@@ -1,11 +1,7 @@
 -- How the seats of a queue with values are cut off, one after the other.
-use Rattle.std.proofs.Common.{◌≡◌, ℕ, suc, ◌+◌, ◌-◌, ◌<◌, arith, List, [], ◌∷◌, ◌++◌, map, sym, ap, ◌∙◌}
-use Rattle.atomic_table.specs.Seated.{TableId}
-use Rattle.wq_words.specs.declared.layout.Layout.{Layout}
-use Rattle.wq_table.specs.Law.{View, row, sender_part}
-use Rattle.wq_table.specs.Slots.{telling, front_values, rest_values}
-use Rattle.wq_table.specs.SlotSteps.{ValueSat}
-use Rattle.wq_table.specs.SlotChairs.{ValueStanding, value_sender, value_senders}
+use Rattle.wq_table.proofs.Common.{◌≡◌, ℕ, suc, ◌+◌, ◌-◌, ◌<◌, arith, List, [], ◌∷◌, ◌++◌, map, sym, ap, ◌∙◌, TableId, Layout, View, row, sender_part}
+use Rattle.wq_table.proofs.Common.{telling, front_values, rest_values, ValueSat, ValueStanding, value_senders}
+use Rattle.wq_table.specs.SlotChairs.{value_sender}
 use Rattle.wq_table.proofs.Views.{row_more}
 use Rattle.wq_table.proofs.SlotTold.{with_seat}
 

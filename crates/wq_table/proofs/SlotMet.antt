@@ -1,12 +1,8 @@
 -- Two chairs whose table may have slots meet.
-use Rattle.std.proofs.Common.{◌≡◌, ℕ, arith, [], ◌∷◌, ◌++◌, map, sym, ap, ◌∙◌, subst}
-use Rattle.atomic_table.specs.Seated.{TableId}
-use Rattle.wq_words.specs.declared.layout.Layout.{Layout}
-use Rattle.wq_table.specs.declared.chair.Chair.TheInside.{Inside}
-use Rattle.wq_table.specs.Plays.{see, all_see, AllOf}
-use Rattle.wq_table.specs.Slots.{ValueView, plain_view, AllKnow, telling, front_values, rest_values}
-use Rattle.wq_table.specs.SlotSteps.{ValueSat, ValuesSeen}
-use Rattle.wq_table.specs.SlotChairs.{ValueStanding, value_standing, ValueSits, ValueMeet}
+use Rattle.wq_table.proofs.Common.{◌≡◌, ℕ, arith, [], ◌∷◌, ◌++◌, map, sym, ap, ◌∙◌, subst, TableId, Layout, Inside, see, all_see, AllOf, ValueView}
+use Rattle.wq_table.proofs.Common.{plain_view, AllKnow, telling, front_values, rest_values, ValueSat, ValuesSeen, ValueStanding, value_standing}
+use Rattle.wq_table.proofs.Common.{ValueSits}
+use Rattle.wq_table.specs.SlotChairs.{ValueMeet}
 use Rattle.wq_table.proofs.SlotTold.{with_seat, sits_known}
 
 module _ {V : Type 0} (this that : ValueStanding V) (me other both sees : ValueSat V) (has : me ≡ (this.first ∷ this.others, this.hand))

@@ -1,11 +1,7 @@
 -- Three chairs whose table may have slots meet.
-use Rattle.std.proofs.Common.{◌≡◌, ℕ, arith, [], ◌∷◌, ◌++◌, map, sym, ap, ◌∙◌, subst}
-use Rattle.atomic_table.specs.Seated.{TableId}
-use Rattle.wq_words.specs.declared.layout.Layout.{Layout}
-use Rattle.wq_table.specs.Plays.{see, all_see, AllOf}
-use Rattle.wq_table.specs.Slots.{ValueView, plain_view, AllKnow, telling, front_values, rest_values}
-use Rattle.wq_table.specs.SlotSteps.{ValueSat, ValuesSeen}
-use Rattle.wq_table.specs.SlotChairs.{ValueStanding, ValueMeetAll}
+use Rattle.wq_table.proofs.Common.{◌≡◌, ℕ, arith, [], ◌∷◌, ◌++◌, map, sym, ap, ◌∙◌, subst, TableId, Layout, see, all_see, AllOf, ValueView}
+use Rattle.wq_table.proofs.Common.{plain_view, AllKnow, telling, front_values, rest_values, ValueSat, ValuesSeen, ValueStanding}
+use Rattle.wq_table.specs.SlotChairs.{ValueMeetAll}
 use Rattle.wq_table.proofs.SlotTold.{with_seat, known_view}
 use Rattle.wq_table.proofs.SlotMet.{now_is}
 

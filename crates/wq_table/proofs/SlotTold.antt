@@ -1,24 +1,13 @@
 -- What a chair whose table may have slots learns from its steps.
-use Rattle.std.proofs.Common.{◌≡◌, ◌≢◌, ℕ, zero, suc, ◌<◌, arith, List, [], ◌∷◌, length, map, sym, refl, ap, ◌∙◌, subst, Option}
-use Rattle.std.specs.Arc.{arc_value}
-use Rattle.atomic_table.specs.Seated.{TableId}
-use Rattle.wq_words.specs.declared.layout.Layout.{Layout}
-use Rattle.wq_words.specs.Numbers.{number_count}
-use Rattle.wq_words.specs.History.{accepted}
-use Rattle.wq_words.specs.Valued.{AreBrought}
-use Rattle.wq_core.specs.declared.step.Step.{Step}
-use Rattle.wq_core.specs.Words.{item_place, done_place, word_count}
-use Rattle.wq_table.specs.declared.table.Part.{Part}
-use Rattle.wq_table.specs.declared.chair.Chair.TheInside.{Inside}
-use Rattle.wq_table.specs.Law.{View}
-use Rattle.wq_table.specs.Places.{chosen, MakesAt}
-use Rattle.wq_table.specs.Chair.{part_at}
-use Rattle.wq_core.specs.Machine.{Machine}
-use Rattle.wq_table.specs.Plays.{see, all_see}
-use Rattle.wq_table.specs.Slots.{ValueView, plain_view, AllKnow, telling, rest_values}
+use Rattle.wq_table.proofs.Common.{◌≡◌, ◌≢◌, ℕ, zero, suc, ◌<◌, arith, List, [], ◌∷◌, length, map, sym, refl, ap, ◌∙◌, subst, Option, arc_value}
+use Rattle.wq_table.proofs.Common.{TableId, Layout, number_count, accepted, AreBrought, Step, done_place, word_count, Part, Inside, View, chosen}
+use Rattle.wq_table.proofs.Common.{part_at, Machine, see, all_see, ValueView, plain_view, AllKnow, telling, rest_values, Hand, ValueSat, MovesSlot}
+use Rattle.wq_table.proofs.Common.{AllTold, GoesBy, ValueStanding, standing_of, ValueSteps, first_told, value_standing, AreSized, ValueSits}
+use Rattle.wq_core.specs.Words.{item_place}
+use Rattle.wq_table.specs.Places.{MakesAt}
 use Rattle.wq_table.proofs.ValueRule.{plain_telling}
-use Rattle.wq_table.specs.SlotSteps.{Hand, ValueSat, MovesSlot, AllTold, GoesBy, ValueMakes}
-use Rattle.wq_table.specs.SlotChairs.{ValueStanding, standing_of, ValueSteps, first_told, value_standing, AreSized, ValueSits, knowing}
+use Rattle.wq_table.specs.SlotSteps.{ValueMakes}
+use Rattle.wq_table.specs.SlotChairs.{knowing}
 use Rattle.wq_table.proofs.Changes.{changes}
 use Rattle.wq_table.proofs.Told.{chosen_sized, besides_sized, all_sized, sized_seeing, still_alone}
 use Rattle.wq_table.proofs.Bare.{by_bare}

@@ -1,27 +1,19 @@
 -- Each kind of step: the seat that makes it may, and its word becomes what the table's operation makes of it.
-use Rattle.std.proofs.Common.{◌≡◌, ℕ, ◌+◌, ◌-◌, ◌%◌, ◌^◌, ◌<◌, ◌==◌, eqb, List, [], ◌∷◌, get_or, set, Option, Some, unwrap_or, sym, refl, ap, ◌∙◌, subst, arith}
+use Rattle.wq_table.proofs.Common.{◌≡◌, ℕ, ◌+◌, ◌-◌, ◌%◌, ◌^◌, ◌<◌, ◌==◌, eqb, List, [], ◌∷◌, get_or, set, Option, Some, sym, refl, ap, ◌∙◌, subst}
+use Rattle.wq_table.proofs.Common.{arith, either, Layout, Why, Event, number_count, busy_word, Holds, Private, Step, Hold, Link, Push, Back, Check}
+use Rattle.wq_table.proofs.Common.{Take, Close, Drain, Resume, Begin, End, Chain, Turn, Rest, done_place, seen_word, head, item_word, after_begin}
+use Rattle.wq_table.proofs.Common.{after_end, after, StandsIn, Part, Stage, Sends, Owns, part, Performs}
+use Rattle.std.proofs.Common.{unwrap_or}
 use Rattle.std.specs.Prelude.{bit_or, bit_and}
-use prog.Atomic.{either}
-use Rattle.wq_words.specs.declared.layout.Layout.{Layout}
-use Rattle.wq_words.specs.declared.event.Why.{Why}
 use Rattle.wq_words.specs.declared.event.Why.TheVariants.{Closed, Draining}
-use Rattle.wq_words.specs.declared.event.Event.{Event}
-use Rattle.wq_words.specs.Numbers.{number_count}
 use Rattle.wq_words.specs.declared.head.Head.TheVariants.{Item}
-use Rattle.wq_words.specs.Head.{head_word, busy_word}
-use Rattle.wq_words.specs.History.{Holds, IsClosed, IsShut, IsDraining, IsRunning}
-use Rattle.wq_core.specs.declared.step.Private.{Private}
+use Rattle.wq_words.specs.Head.{head_word}
+use Rattle.wq_words.specs.History.{IsClosed, IsShut, IsDraining, IsRunning}
 use Rattle.wq_core.specs.declared.step.Seat.TheVariants.{Sender}
-use Rattle.wq_core.specs.declared.step.Step.{Step}
-use Rattle.wq_core.specs.declared.step.Step.TheVariants.{Hold, Link, Push, Back, Check, Take, Close, Drain, Resume, Begin, End, Chain, Turn, Rest}
-use Rattle.wq_core.specs.Words.{link_place, item_place, done_place, closed_word, draining_word, idle_word, TakesPushes, link_word}
-use Rattle.wq_core.specs.Machine.{HasSeenOpen, HasSeenCause, seen_word, head, item_word, after_begin, after_end, after, StandsIn}
-use Rattle.wq_table.specs.declared.table.Part.{Part}
-use Rattle.wq_table.specs.declared.table.Stage.{Stage}
-use Rattle.wq_table.specs.declared.table.Stage.TheVariants.{Sends, Owns}
+use Rattle.wq_core.specs.Words.{link_place, item_place, closed_word, draining_word, idle_word, TakesPushes, link_word}
+use Rattle.wq_core.specs.Machine.{HasSeenOpen, HasSeenCause}
 use Rattle.wq_table.proofs.Operations.{item_word-bit, loads, sets_bit, clears_bit, exchanges}
-use Rattle.wq_table.specs.Law.{part}
-use Rattle.wq_table.specs.Plays.{Performs, item_at}
+use Rattle.wq_table.specs.Plays.{item_at}
 use Rattle.wq_table.specs.Chair.{IsSender, HasSeen, HasLinked, IsOwner, IsRested, HasNone, IsToTurn, IsToBegin}
 use Rattle.wq_words.proofs.Running.{runs_some}
 use Rattle.wq_words.proofs.Seen.{held_same, closed_same, running_same}

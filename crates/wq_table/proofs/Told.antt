@@ -1,12 +1,6 @@
 -- The parts of a chair are of one queue, before a step and after it.
-use Rattle.std.proofs.Common.{◌≡◌, ◌≢◌, ℕ, zero, suc, List, [], ◌∷◌, refl, ap, ◌∙◌}
-use Rattle.wq_words.specs.declared.layout.Layout.{Layout}
-use Rattle.wq_words.specs.declared.event.Event.{Event}
-use Rattle.wq_table.specs.declared.table.Part.{Part}
-use Rattle.wq_table.specs.Law.{View}
-use Rattle.wq_table.specs.Plays.{all_see}
-use Rattle.wq_table.specs.Places.{chosen, besides}
-use Rattle.wq_table.specs.SlotChairs.{AreSized}
+use Rattle.wq_table.proofs.Common.{◌≡◌, ◌≢◌, ℕ, zero, suc, List, [], ◌∷◌, refl, ap, ◌∙◌, Layout, Event, Part, View, all_see, chosen, besides}
+use Rattle.wq_table.proofs.Common.{AreSized}
 
 module _ (l : Layout) where
   pub chosen_sized : (n : ℕ) (p : Part) (ps : View) → AreSized l (p ∷ ps) → (chosen n p ps).layout ≡ l

@@ -1,25 +1,12 @@
 -- A step that the machine makes, and that moves its slot, keeps the rule, and tells its seats what it was.
-use Rattle.std.proofs.Common.{◌≡◌, ◌≢◌, ℕ, zero, suc, arith, List, [], ◌∷◌, length, length-set, map, get_or, set, sym, refl, ap, ◌∙◌, subst, ⊎_elim, Option}
-use mathlib.Core.Option.{some, none}
+use Rattle.wq_table.proofs.Common.{◌≡◌, ◌≢◌, ℕ, zero, suc, arith, List, [], ◌∷◌, length, length-set, map, get_or, set, sym, refl, ap, ◌∙◌, subst}
+use Rattle.wq_table.proofs.Common.{⊎_elim, Option, some, none, IsPrefix, get_elem?, keeps, takes, at_set, at_map, Layout, Event, accepted, AreBrought}
+use Rattle.wq_table.proofs.Common.{prefix_self, Step, Machine, after, Part, ValuePart, View, seat_at, IsPartOf, Kept, word_found, Performs, chosen}
+use Rattle.wq_table.proofs.Common.{Shelves, ValueView, plain_view, plain, AllKnow, KeptValues, telling, Hand, ValueSat, MovesSlot, GoesBy, AllTold}
 use mathlib.Core.Option as maybe
-use mathlib.Core.List.{IsPrefix}
-use lib.ListN.{get_elem?}
-use Rattle.atomic_table.specs.Table.{Act, keeps, takes, gives, chain, Allows, homes_after, carried_after}
-use Rattle.atomic_table.proofs.Lists.{at_set, at_map}
-use Rattle.wq_words.specs.declared.layout.Layout.{Layout}
-use Rattle.wq_words.specs.declared.event.Event.{Event}
-use Rattle.wq_words.specs.History.{accepted}
-use Rattle.wq_words.specs.Valued.{AreBrought}
-use Rattle.wq_words.proofs.Prefixes.{prefix_self, prefix_on}
-use Rattle.wq_core.specs.declared.step.Step.{Step}
-use Rattle.wq_core.specs.Machine.{Machine, after}
-use Rattle.wq_table.specs.declared.table.Part.{Part}
-use Rattle.wq_table.specs.declared.values.ValuePart.{ValuePart}
-use Rattle.wq_table.specs.Law.{View, seat_at, IsPartOf, Kept}
-use Rattle.wq_table.specs.Plays.{word_found, Performs}
-use Rattle.wq_table.specs.Places.{chosen}
-use Rattle.wq_table.specs.Slots.{Shelves, ValueView, plain_view, plain, AllKnow, KeptValues, telling}
-use Rattle.wq_table.specs.SlotSteps.{Hand, ValueSat, MovesSlot, GoesBy, AllTold, ValueMakes}
+use Rattle.atomic_table.specs.Table.{Act, gives, chain, Allows, homes_after, carried_after}
+use Rattle.wq_words.proofs.Prefixes.{prefix_on}
+use Rattle.wq_table.specs.SlotSteps.{ValueMakes}
 use Rattle.wq_table.proofs.Places.{chosen_fits, AllSeen}
 use Rattle.wq_table.proofs.Rule.{stepped}
 

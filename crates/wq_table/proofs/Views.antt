@@ -1,23 +1,17 @@
 -- Views that are cut, joined and made.
-use Rattle.std.proofs.Common.{◌≡◌, ℕ, zero, suc, ◌+◌, ◌-◌, ◌<◌, ◌≤◌, ◌≢◌, cond, eqb, List, [], ◌∷◌, ◌++◌, length, get_or, set, replicate, sym, refl}
-use Rattle.std.proofs.Common.{ap, ◌∙◌, subst, ⊎_elim, arith, length-set, eq-eqb, ne_eqb}
-use mathlib.Core.Option.{some, some-injective, some-ne-none}
-use lib.ListN.{get_elem?}
+use Rattle.wq_table.proofs.Common.{◌≡◌, ℕ, zero, suc, ◌+◌, ◌-◌, ◌<◌, ◌≤◌, ◌≢◌, cond, eqb, List, [], ◌∷◌, ◌++◌, length, get_or, set, replicate, sym}
+use Rattle.wq_table.proofs.Common.{refl, ap, ◌∙◌, subst, ⊎_elim, arith, length-set, some, some-injective, some-ne-none, get_elem?, State, at_set}
+use Rattle.wq_table.proofs.Common.{set_else, Layout, number_count, word_count, Machine, nothing_seen, StandsIn, owner_seat, View, IsPartOf}
+use Rattle.wq_table.proofs.Common.{ArePartsAt, HasPartOf, HasSeenAll, Kept, sender_part, row, opening_view, all_see, AllOf, prefix_self}
+use Rattle.std.proofs.Common.{eq-eqb, ne_eqb}
 use lib.Seq.{set-get_or}
-use Rattle.atomic_table.specs.Table.{State, Splits, Joins, opening}
-use Rattle.atomic_table.proofs.Lists.{at_set, set_else}
-use Rattle.wq_words.specs.declared.layout.Layout.{Layout}
-use Rattle.wq_words.specs.Numbers.{number_count}
-use Rattle.wq_core.specs.Words.{word_count}
-use Rattle.wq_core.specs.Machine.{Machine, nothing_seen, opening as opening_machine, StandsIn}
-use Rattle.wq_words.specs.Seen.{owner_seat}
+use Rattle.atomic_table.specs.Table.{Splits, Joins, opening}
+use Rattle.wq_core.specs.Machine.{opening as opening_machine}
 use Rattle.wq_table.proofs.Present.{stands_put, stands_behind, cut_present, cut_longest, joined_at, seat_both, seen_both, seat_meets, seen_meets}
 use Rattle.wq_table.proofs.Present.{present_open, longest_open}
-use Rattle.wq_table.specs.Law.{View, IsPartOf, Apart, ArePartsAt, HasPartOf, HasSeenAll, Kept, sender_part, owner_part, row, opening_view, front_of, rest_of}
-use Rattle.wq_table.specs.Plays.{all_see, AllOf}
+use Rattle.wq_table.specs.Law.{Apart, owner_part, front_of, rest_of}
 use Rattle.wq_core.proofs.Sound.{sound_opening}
 use Rattle.wq_words.proofs.Growing.{at_end}
-use Rattle.wq_words.proofs.Prefixes.{prefix_self}
 
 module _ (m : Machine) where
   -- the seats of a view may be placed anew

@@ -1,21 +1,11 @@
 -- The execution of a number begins, with what its own queueing brought.
-use Rattle.std.proofs.Common.{◌≡◌, ℕ, ◌<◌, ◌≤◌, List, [], ◌∷◌, ◌++◌, length, Option, Some, None, slice_get, refl, sym, ap, ◌∙◌, subst, arith}
+use Rattle.wq_worker.proofs.Common.{◌≡◌, ℕ, ◌<◌, ◌≤◌, List, [], ◌∷◌, ◌++◌, length, Option, Some, None, slice_get, refl, sym, ap, ◌∙◌, subst, arith}
+use Rattle.wq_worker.proofs.Common.{Layout, Begin, begun, IsRunning, IsLegal, Sees, Learnt, handed_in, pair_owner, pair_sender, KnownValuePair}
+use Rattle.wq_worker.proofs.Common.{owner_of, learnt_on, taking, Both, StaysOr, MayLeave, pairs_of, numbers_in, KeepsHanded, AreValueParts}
+use Rattle.wq_worker.proofs.Common.{BeginsValue}
 use Rattle.std.proofs.lemmas.List.{length-take-le}
-use Rattle.wq_words.specs.declared.layout.Layout.{Layout}
-use Rattle.wq_words.specs.declared.event.Event.TheVariants.{Begin}
-use Rattle.wq_words.specs.History.{begun, IsRunning}
-use Rattle.wq_words.specs.Legal.{IsLegal}
 use Rattle.wq_words.specs.Valued.{Carries}
-use Rattle.wq_live.specs.Known.{Sees}
-use Rattle.wq_live.specs.KnownWith.{Learnt, handed_in}
-use Rattle.wq_live.specs.Pairs.{pair_owner, pair_sender}
-use Rattle.wq_live.specs.ValuePairs.{KnownValuePair, owner_of}
-use Rattle.wq_live.proofs.ValueSends.{learnt_on}
-use Rattle.wq_worker.specs.Seats.{taking}
-use Rattle.wq_worker.specs.Pair.{Both, StaysOr}
-use Rattle.wq_worker.specs.Returned.{MayLeave, pairs_of, numbers_in}
-use Rattle.wq_worker.specs.ValueState.{KeepsHanded, AreValueParts}
-use Rattle.wq_worker.specs.Deals.{item, other, BeginsValue}
+use Rattle.wq_worker.specs.Deals.{item, other}
 use Rattle.wq_worker.proofs.Pair.{both_on, by_owner}
 use Rattle.wq_worker.proofs.State.{begun_both, begun_one, quiet_taking}
 use Rattle.wq_worker.proofs.Step.{begins_by}

@@ -1,11 +1,10 @@
 -- What a worker's two seats have counted, summed.
-use Rattle.std.proofs.Common.{◌≡◌, ℕ, List, ap, ◌∙◌}
-use Rattle.wq_words.specs.declared.event.Event.{Event}
+use Rattle.wq_worker.proofs.Common.{◌≡◌, ℕ, List, ap, ◌∙◌, Event, own_totals}
 use Rattle.wq_live.specs.declared.counts.SenderCounts.{SenderCounts}
 use Rattle.wq_live.specs.declared.counts.OwnerCounts.{OwnerCounts}
 use Rattle.wq_live.specs.Counts.{sender_counts, owner_counts}
 use Rattle.wq_ledger.specs.declared.totals.Totals.{Totals}
-use Rattle.wq_ledger.specs.Totals.{totals_of, own_totals}
+use Rattle.wq_ledger.specs.Totals.{totals_of}
 
 pub own_counted : (s : ℕ) (h : List Event) (mine : SenderCounts) (owners : OwnerCounts) (sum : Totals) → mine ≡ sender_counts s h → owners ≡ owner_counts h
     → sum ≡ totals_of mine owners → sum ≡ own_totals s h

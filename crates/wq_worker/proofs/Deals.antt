@@ -1,9 +1,6 @@
 -- What becomes of the pairs of a run, as far as they have come.
-use Rattle.std.proofs.Common.{◌≡◌, ℕ, Bool, List, [], ◌∷◌, ◌++◌, refl, sym, ap, ◌∙◌, append_assoc}
-use Rattle.std.proofs.lemmas.List.{append-nil}
-use Rattle.wq_words.specs.declared.event.Event.{Event}
-use Rattle.wq_worker.specs.Follow.{Queues, Follows}
-use Rattle.wq_worker.specs.Returned.{numbers_in}
+use Rattle.wq_worker.proofs.Common.{◌≡◌, ℕ, Bool, List, [], ◌∷◌, ◌++◌, refl, sym, ap, ◌∙◌, append_assoc, append-nil, Event, Follows, numbers_in}
+use Rattle.wq_worker.specs.Follow.{Queues}
 use Rattle.wq_worker.specs.Deals.{DealsOne, Deals}
 
 -- a list that is not there leaves what follows it

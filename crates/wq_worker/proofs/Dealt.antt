@@ -1,25 +1,20 @@
 -- What the queueing of a pair does, by its answer.
-use Rattle.std.proofs.Common.{◌≡◌, ℕ, ◌<◌, ◌≤◌, Bool, true, false, if◌then◌else◌, List, [], ◌∷◌, ◌++◌, Option, inl, inr, refl, sym, ap, ◌∙◌, subst}
-use Rattle.std.proofs.lemmas.List.{append-nil}
-use Rattle.wq_words.specs.declared.event.Event.TheVariants.{Hold, Busy, Push, Chain, ChainBusy}
+use Rattle.wq_worker.proofs.Common.{◌≡◌, ℕ, ◌<◌, ◌≤◌, Bool, true, false, if◌then◌else◌, List, [], ◌∷◌, ◌++◌, Option, inl, inr, refl, sym, ap, ◌∙◌}
+use Rattle.wq_worker.proofs.Common.{subst, append-nil, Hold, Busy, Push, shut, IsLegal, owner_seat, Sees, IsContended, Learnt, pair_owner}
+use Rattle.wq_worker.proofs.Common.{pair_sender, KnownValuePair, owner_of, contended_of, KeepsHanded, queueing_in, brought_in}
+use Rattle.wq_words.specs.declared.event.Event.TheVariants.{Chain, ChainBusy}
 use Rattle.wq_words.specs.declared.answer.Answer.TheVariants as answer
-use Rattle.wq_words.specs.History.{shut}
-use Rattle.wq_words.specs.Legal.{IsLegal}
-use Rattle.wq_words.specs.Seen.{owner_seat}
 use Rattle.wq_live.specs.declared.value_answer.ValueAnswer.{ValueAnswer}
 use Rattle.wq_live.specs.declared.value_answer.ValueAnswer.TheVariants as given
-use Rattle.wq_live.specs.Known.{Sees}
-use Rattle.wq_live.specs.Answers.{Answers, Chains, IsContended}
-use Rattle.wq_live.specs.KnownWith.{Learnt, answer_of, BringsOrReturns, ChainsOrReturns}
+use Rattle.wq_live.specs.Answers.{Answers, Chains}
+use Rattle.wq_live.specs.KnownWith.{answer_of, BringsOrReturns, ChainsOrReturns}
 use Rattle.wq_live.specs.OwnBrought.{queued_value}
-use Rattle.wq_live.specs.Pairs.{pair_owner, pair_sender}
-use Rattle.wq_live.specs.ValuePairs.{KnownValuePair, owner_of, sender_of}
+use Rattle.wq_live.specs.ValuePairs.{sender_of}
 use Rattle.wq_live.proofs.OwnBrought.{brings_own, chained_own}
 use Rattle.wq_worker.specs.declared.value_steps.Dealt.TheVariants as dealt
-use Rattle.wq_worker.specs.Follow.{passed, pushed, busy, chained, chain_busy, contended_of}
-use Rattle.wq_worker.specs.ValueState.{KeepsHanded}
+use Rattle.wq_worker.specs.Follow.{passed, pushed, busy, chained, chain_busy}
 use Rattle.wq_worker.specs.Deals.{queues, returns}
-use Rattle.wq_worker.specs.Dealt.{dealt_of, queueing_in, brought_in, BothDeal}
+use Rattle.wq_worker.specs.Dealt.{dealt_of, BothDeal}
 use Rattle.wq_worker.proofs.Pair.{both_still, by_owner, by_sender}
 use Rattle.wq_worker.proofs.Follow.{never_closed, never_drains}
 

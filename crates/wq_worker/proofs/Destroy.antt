@@ -1,10 +1,8 @@
 -- What a destroy gives: the queue was closed where it was not, and executions followed.
-use Rattle.std.proofs.Common.{◌≡◌, ℕ, ◌<◌, List, ◌∙◌, subst}
-use Rattle.wq_words.specs.History.{IsClosed}
-use Rattle.wq_words.specs.Legal.{IsLegal}
+use Rattle.wq_worker.proofs.Common.{◌≡◌, ℕ, ◌<◌, List, ◌∙◌, subst, IsClosed, IsLegal, WorkerState, RowBy, IsExecution}
 use Rattle.wq_ledger.specs.Book.{BookState}
-use Rattle.wq_worker.specs.State.{WorkerState, IsSameWorker}
-use Rattle.wq_worker.specs.Rows.{RowBy, IsExecution, RunsOutBy, Closes}
+use Rattle.wq_worker.specs.State.{IsSameWorker}
+use Rattle.wq_worker.specs.Rows.{RunsOutBy, Closes}
 use Rattle.wq_worker.specs.Destroy.{IsBookOf, DestroysBy, LeavesUnfinishedBy}
 use Rattle.wq_worker.proofs.Rows.{worker_on, closes_same, ran_complete}
 

@@ -1,28 +1,16 @@
 -- What is left of a queue that is shut.
-use Rattle.std.proofs.Common.{◌≡◌, ℕ, ◌+◌, ◌-◌, ◌<◌, ◌≤◌, ⊎_elim, List, [], ◌∷◌, ◌++◌, length, None, slice_get, refl, ap, ◌∙◌, subst, arith, length-append}
+use Rattle.wq_worker.proofs.Common.{◌≡◌, ℕ, ◌+◌, ◌-◌, ◌<◌, ◌≤◌, ⊎_elim, List, [], ◌∷◌, ◌++◌, length, None, slice_get, refl, ap, ◌∙◌, subst, arith}
+use Rattle.wq_worker.proofs.Common.{length-append, drop_of_length-le, cases_lt, filter_map-append, Layout, Event, Take, accepted, begun, ended}
+use Rattle.wq_worker.proofs.Common.{IsShut, IsRunning, IsLegal, IsComplete, HasRunOut, in_order, prefix_length, shut_from_IsShut, owner_seat, own}
+use Rattle.wq_worker.proofs.Common.{Grows, batch, Ran, Item, Barrier, Stop, Nothing, Owing, Adds, taking, NothingWaits, WorkerState, OwesBy, owes}
+use Rattle.wq_worker.proofs.Common.{RunsBy, IsExecution}
 use Rattle.std.proofs.Common.{length-drop}
-use Rattle.std.proofs.Math.ListN.{drop_of_length-le}
-use Rattle.std.proofs.lemmas.Bool.{cases_lt}
 use Rattle.std.proofs.lemmas.Option.{slice_get-get_or}
-use Rattle.std.proofs.lemmas.List.Elements.{filter_map-append}
-use Rattle.wq_words.specs.declared.layout.Layout.{Layout}
-use Rattle.wq_words.specs.declared.event.Event.{Event}
-use Rattle.wq_words.specs.declared.event.Event.TheVariants.{Take}
-use Rattle.wq_words.specs.History.{accepted_by, accepted, begun, ended, next, IsShut, IsRunning}
-use Rattle.wq_words.specs.Legal.{IsLegal, IsComplete, HasRunOut}
+use Rattle.wq_words.specs.History.{accepted_by, next}
 use Rattle.wq_words.proofs.Legal.{legal_front, legal_next}
-use Rattle.wq_words.proofs.Order.{in_order}
-use Rattle.wq_words.proofs.Prefixes.{prefix_length, prefix_whole}
-use Rattle.wq_words.proofs.Closed.{shut_from_IsShut}
-use Rattle.wq_words.specs.Seen.{owner_seat, own, Grows}
-use Rattle.wq_live.specs.Batch.{batch}
-use Rattle.wq_worker.specs.declared.ran.Ran.{Ran}
-use Rattle.wq_worker.specs.declared.ran.Ran.TheVariants.{Item, Barrier, Stop, Nothing, Owing}
-use Rattle.wq_worker.specs.Seats.{Adds, taking, NothingWaits, at_take, at_all}
-use Rattle.wq_worker.specs.State.{WorkerState}
-use Rattle.wq_worker.specs.Step.{OwesBy, owes, RunsBy}
-use Rattle.wq_worker.specs.Rows.{IsExecution}
-use Rattle.wq_worker.proofs.Owned.{IsQuiet, owner_of_both, stays}
+use Rattle.wq_words.proofs.Prefixes.{prefix_whole}
+use Rattle.wq_worker.specs.Seats.{at_take, at_all}
+use Rattle.wq_worker.proofs.Owned.{IsQuiet, owner_of_both, quiet_stays}
 use Rattle.wq_worker.proofs.Phase.{phase_grown, open_still, shut_still}
 use Rattle.wq_worker.proofs.Rows.{runs_by_phase}
 use Rattle.wq_worker.proofs.Shut.{batch-shut}
@@ -58,10 +46,10 @@ ended_at layout v new w is legal idle same none =
 nothing_left : (layout : Layout) (s n : ℕ) (es v w : List Event) → Adds s es n v w → IsQuiet es → IsLegal layout w → IsShut v → ¬ IsRunning v
     → NothingWaits w → length (ended v) ≡ length (accepted v)
 nothing_left layout s n es v w a q legal shut idle (at_take before after is last none) =
-    let same = stays es v w q (owner_of_both s es n v w a) in
+    let same = quiet_stays es v w q (owner_of_both s es n v w a) in
     absurd (no_late_take layout before after w is last legal (shut_still v w same.phase shut))
 nothing_left layout s n es v w a q legal shut idle (at_all now none) =
-    let same = stays es v w q (owner_of_both s es n v w a) in ended_at layout v a.new w a.is legal idle same.begun_same none
+    let same = quiet_stays es v w q (owner_of_both s es n v w a) in ended_at layout v a.new w a.is legal idle same.begun_same none
 
 module _ {W : Type 0} (may : W → ℕ → List ℕ → W → Type 0) (gives : W → W → Type 0) where
   owes_open : (k : ℕ) (a b : WorkerState W) → OwesBy may gives a k b → ¬ IsShut a.seen

@@ -1,23 +1,14 @@
 -- The pairs that an execution asked for are dealt with, and where all of them are it ends.
-use Rattle.std.proofs.Common.{◌≡◌, ℕ, ◌<◌, Bool, true, false, cond, ◌==◌, if◌then◌else◌, Some, List, [], ◌∷◌, ◌++◌, length, inr, refl, sym, ap, ◌∙◌, subst, arith}
-use Rattle.std.proofs.lemmas.Bool.{or_parts}
-use Rattle.std.proofs.lemmas.List.{append-nil, map-append}
-use Rattle.wq_words.specs.declared.layout.Layout.{Layout}
-use Rattle.wq_words.specs.declared.event.Event.{Event}
-use Rattle.wq_words.specs.declared.event.Event.TheVariants.{End}
-use Rattle.wq_words.specs.History.{accepted, shut, running, IsRunning}
-use Rattle.wq_words.specs.Seen.{owner_seat, seat_of, own, is_ours}
-use Rattle.wq_live.specs.Answers.{IsContended}
-use Rattle.wq_live.specs.ValuePairs.{KnownValuePair}
+use Rattle.wq_worker.proofs.Common.{◌≡◌, ℕ, ◌<◌, Bool, true, false, cond, ◌==◌, if◌then◌else◌, Some, List, [], ◌∷◌, ◌++◌, length, inr, refl, sym, ap}
+use Rattle.wq_worker.proofs.Common.{◌∙◌, subst, arith, or_parts, append-nil, Layout, Event, End, accepted, shut, running, IsRunning, owner_seat}
+use Rattle.wq_worker.proofs.Common.{seat_of, own, is_ours, IsContended, KnownValuePair, Adds, contended_of, StaysOr, Both, QueuesRest, finished}
+use Rattle.wq_worker.proofs.Common.{contended, GivesBack, MayLeave, numbers_in, KeepsHanded, AreValueParts, EndsBy, OwesBy, DealsOut, queueing_in}
+use Rattle.wq_worker.proofs.Common.{brought_in}
+use Rattle.std.proofs.lemmas.List.{map-append}
 use Rattle.wq_live.proofs.OwnBrought.{own_still}
-use Rattle.wq_worker.specs.Seats.{Adds}
-use Rattle.wq_worker.specs.Follow.{contended_of}
-use Rattle.wq_worker.specs.Pair.{StaysOr, Both, QueuesRest, finished, contended}
-use Rattle.wq_worker.specs.Returned.{GivesBack, MayLeave, numbers_in, number_of_pair}
-use Rattle.wq_worker.specs.ValueState.{KeepsHanded, AreValueParts}
-use Rattle.wq_worker.specs.Step.{EndsBy, OwesBy}
-use Rattle.wq_worker.specs.Deals.{DealsOut, owed}
-use Rattle.wq_worker.specs.Dealt.{queueing_in, brought_in, IsContendedPair, BothDealOut, settles, contends}
+use Rattle.wq_worker.specs.Returned.{number_of_pair}
+use Rattle.wq_worker.specs.Deals.{owed}
+use Rattle.wq_worker.specs.Dealt.{IsContendedPair, BothDealOut, settles, contends}
 use Rattle.wq_worker.proofs.Owned.{seat_grown}
 use Rattle.wq_worker.proofs.Pair.{both_on}
 use Rattle.wq_worker.proofs.Deals.{deals_follow}

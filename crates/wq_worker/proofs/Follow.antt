@@ -1,21 +1,17 @@
 -- What the queueings of a list add, as far as they have come.
-use Rattle.std.proofs.Common.{◌≡◌, ℕ, ◌+◌, ◌<◌, Bool, true, false, cond, List, [], ◌∷◌, ◌++◌, length, get_or, drop, refl, sym, ◌∙◌, ap, subst, arith}
-use Rattle.std.proofs.Common.{append_assoc, add-one, drop-cons}
-use Rattle.std.proofs.lemmas.List.{append-nil}
-use Rattle.wq_words.specs.declared.layout.Layout.{Layout}
-use Rattle.wq_words.specs.declared.event.Event.{Event}
-use Rattle.wq_words.specs.declared.event.Event.TheVariants.{Hold, Busy, Push, Chain, ChainBusy}
-use Rattle.wq_words.specs.History.{shut, IsRunning}
+use Rattle.wq_worker.proofs.Common.{◌≡◌, ℕ, ◌+◌, ◌<◌, Bool, true, false, cond, List, [], ◌∷◌, ◌++◌, length, drop, refl, sym, ◌∙◌, ap, subst, arith}
+use Rattle.wq_worker.proofs.Common.{append_assoc, append-nil, Layout, Event, Hold, Busy, Push, shut, IsRunning, IsLegal, Sees, KnownPair, pair_owner}
+use Rattle.wq_worker.proofs.Common.{pair_sender, Follows, contended_of, Both, QueuesRest, finished, contended, open_from_shut}
+use Rattle.std.proofs.Common.{get_or}
+use Rattle.std.proofs.Common.{add-one, drop-cons}
+use Rattle.wq_words.specs.declared.event.Event.TheVariants.{Chain, ChainBusy}
 use Rattle.wq_words.specs.declared.answer.Answer.{Answer}
 use Rattle.wq_words.specs.declared.answer.Answer.TheVariants as answer
-use Rattle.wq_words.specs.Legal.{IsLegal}
-use Rattle.wq_live.specs.Known.{Sees}
-use Rattle.wq_live.specs.Pairs.{KnownPair, pair_owner, pair_sender}
 use Rattle.wq_live.specs.Answers.{Answers, Chains}
-use Rattle.wq_worker.specs.Follow.{Queues, passed, pushed, busy, chained, chain_busy, Follows, contended_of}
-use Rattle.wq_worker.specs.Pair.{settled, Both, Attempts, QueuesRest, finished, contended}
-use Rattle.wq_worker.proofs.Owned.{IsQuiet, quiet_none, quiet_append, Stays, stays, owner_of_both}
-use Rattle.wq_words.proofs.Closed.{closed_shuts, open_from_shut}
+use Rattle.wq_worker.specs.Follow.{Queues, passed, pushed, busy, chained, chain_busy}
+use Rattle.wq_worker.specs.Pair.{settled, Attempts}
+use Rattle.wq_worker.proofs.Owned.{IsQuiet, quiet_none, quiet_append, Stays, quiet_stays, owner_of_both}
+use Rattle.wq_words.proofs.Closed.{closed_shuts}
 use Rattle.wq_worker.proofs.Pair.{both_on, by_owner, by_sender}
 use Rattle.wq_worker.proofs.Phase.{phase_grown, unclosed_still}
 use Rattle.wq_worker.proofs.Refusals.{closed_by, met_none}
@@ -87,7 +83,7 @@ pub record Sofar (ks js : List ℕ) (old new : KnownPair) : Type 0 where
 
 pub sofar_stays : (ks js : List ℕ) (old new : KnownPair) → Sofar ks js old new → Stays old.seen new.seen
 sofar_stays ks js old new f =
-    stays f.events old.seen new.seen (quiet_follows old.layout.items old.number (shut old.seen) f.queued f.events f.told)
+    quiet_stays f.events old.seen new.seen (quiet_follows old.layout.items old.number (shut old.seen) f.queued f.events f.told)
     (owner_of_both old.number f.events 0 old.seen new.seen f.moved.adds)
 
 pub sofar_runs : (ks js : List ℕ) (old new : KnownPair) → Sofar ks js old new → IsRunning old.seen → IsRunning new.seen
@@ -139,9 +135,9 @@ next_left at xs h = rw (add-one, drop-cons xs at 0) refl
 
 pub advance_stays : (tries : ℕ) (ks js : List ℕ) (old new : KnownPair) → QueuesRest tries ks js old new → Stays old.seen new.seen
 advance_stays tries ks js old new (finished es none told b) =
-    stays es old.seen new.seen (quiet_follows old.layout.items old.number (shut old.seen) ks es told) (owner_of_both old.number es 0 old.seen new.seen b.adds)
+    quiet_stays es old.seen new.seen (quiet_follows old.layout.items old.number (shut old.seen) ks es told) (owner_of_both old.number es 0 old.seen new.seen b.adds)
 advance_stays tries ks js old new (contended qs k more es split is low opens told b) =
-    stays (es ++ contended_of old.number k) old.seen new.seen
+    quiet_stays (es ++ contended_of old.number k) old.seen new.seen
     (quiet_append es (contended_of old.number k) (quiet_follows old.layout.items old.number (shut old.seen) qs es told) (quiet_contended old.number k))
     (owner_of_both old.number (es ++ contended_of old.number k) tries old.seen new.seen b.adds)
 

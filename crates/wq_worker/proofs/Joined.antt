@@ -1,18 +1,15 @@
 -- What the owner and the sender of a worker have seen once they are one seat.
-use Rattle.std.proofs.Common.{◌≡◌, ℕ, ◌+◌, List, [], ◌∷◌, ◌++◌, length, map, refl, sym, ap, ◌∙◌, subst, arith, length-append}
-use Rattle.std.proofs.lemmas.List.{append-nil, length-map}
-use Rattle.wq_words.specs.declared.layout.Layout.{Layout}
-use Rattle.wq_words.specs.declared.event.Event.{Event}
-use Rattle.wq_words.specs.History.{begun, IsRunning, IsShut}
-use Rattle.wq_words.specs.Legal.{IsLegal}
-use Rattle.wq_words.specs.Seen.{owner_seat, own, Grows}
+use Rattle.wq_worker.proofs.Common.{◌≡◌, ℕ, ◌+◌, List, [], ◌∷◌, ◌++◌, length, refl, sym, ap, ◌∙◌, subst, arith, length-append, append-nil, Layout}
+use Rattle.wq_worker.proofs.Common.{Event, begun, IsRunning, IsShut, IsLegal, owner_seat, own, Grows, Known, Sees, new_senders, KnownPair, pair_owner}
+use Rattle.wq_worker.proofs.Common.{WorkerState}
+use Rattle.std.proofs.Common.{map}
+use Rattle.std.proofs.lemmas.List.{length-map}
 use Rattle.wq_words.proofs.Growing.{ends_alike}
-use Rattle.wq_live.specs.Known.{QueueId, Known, Sees, new_sender, new_senders}
+use Rattle.wq_live.specs.Known.{QueueId, new_sender}
 use Rattle.wq_live.specs.KnownWith.{KnownWith, knowing_nothing}
-use Rattle.wq_live.specs.Pairs.{KnownPair, pair_owner}
 use Rattle.wq_live.proofs.Built.{values-more}
 use Rattle.wq_live.proofs.Seated.{length-new_senders, made_nothing}
-use Rattle.wq_worker.specs.State.{WorkerState, IsMadeOf, IsNew}
+use Rattle.wq_worker.specs.State.{IsMadeOf, IsNew}
 use Rattle.wq_worker.proofs.Owned.{owner_grows}
 use Rattle.wq_worker.proofs.Phase.{phase_grown, open_still}
 

@@ -1,3 +1,4 @@
+pub mod Common
 pub mod Seats
 pub mod Counts
 pub mod Phase

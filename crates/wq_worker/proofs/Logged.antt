@@ -1,18 +1,11 @@
 -- The pairs that began: their numbers are the items that began, and once the queue has run to the end they are all that was accepted.
-use Rattle.std.proofs.Common.{◌≡◌, ◌≤◌, List, length, take, Option, sym, ap, ◌∙◌, subst, arith}
+use Rattle.wq_worker.proofs.Common.{◌≡◌, ◌≤◌, List, length, take, Option, sym, ap, ◌∙◌, subst, arith, Layout, Event, accepted, begun, IsLegal}
+use Rattle.wq_worker.proofs.Common.{IsComplete, in_order, prefix_length, items_among, pairs_of, numbers_in}
 use Rattle.std.proofs.lemmas.List.{length-take-le, take_all}
 use Rattle.std.proofs.lemmas.Option.{slice_get_within}
-use Rattle.wq_words.specs.declared.layout.Layout.{Layout}
-use Rattle.wq_words.specs.declared.event.Event.{Event}
-use Rattle.wq_words.specs.History.{accepted, begun}
-use Rattle.wq_words.specs.Legal.{IsLegal, IsComplete}
 use Rattle.wq_words.specs.Valued.{AreBrought, IsLegalWith, brought, with_values}
-use Rattle.wq_words.proofs.Order.{in_order}
-use Rattle.wq_words.proofs.Prefixes.{prefix_length}
 use Rattle.wq_words.proofs.Ranks.{slice_get-prefix, slice_get-take}
 use Rattle.wq_words.proofs.Valued.{events_with, brought_with}
-use Rattle.wq_worker.specs.State.{items_among}
-use Rattle.wq_worker.specs.Returned.{pairs_of, numbers_in}
 use Rattle.wq_worker.proofs.Draining.{begun-complete}
 use Rattle.wq_worker.proofs.Returned.{numbers_of_pairs}
 

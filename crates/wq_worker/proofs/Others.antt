@@ -1,19 +1,15 @@
 -- What the owner knows of its batch stays while others alone add events.
-use Rattle.std.proofs.Common.{◌≡◌, ℕ, ◌<◌, ◌≤◌, ◌==◌, false, List, [], ◌∷◌, ◌++◌, length, drop, None, slice_get, refl, ap, ◌∙◌, subst, arith}
+use Rattle.wq_worker.proofs.Common.{◌≡◌, ℕ, ◌<◌, ◌≤◌, ◌==◌, false, List, [], ◌∷◌, ◌++◌, length, drop, None, slice_get, refl, ap, ◌∙◌, subst, arith}
+use Rattle.wq_worker.proofs.Common.{append-nil, Layout, Event, Hold, Busy, Push, accepted, begun_by, begun, IsLegal, owner_seat, own, batch, next_of}
 use Rattle.std.proofs.lemmas.Bool.Decides.{nat_tests}
-use Rattle.std.proofs.lemmas.List.{append-nil, take-append-le}
-use Rattle.wq_words.specs.declared.layout.Layout.{Layout}
-use Rattle.wq_words.specs.declared.event.Event.{Event}
-use Rattle.wq_words.specs.declared.event.Event.TheVariants.{Hold, Busy, Push, Back}
-use Rattle.wq_words.specs.History.{accepted_by, accepted, begun_by, begun, taken}
-use Rattle.wq_words.specs.Legal.{IsLegal}
-use Rattle.wq_words.specs.Seen.{owner_seat, own}
+use Rattle.std.proofs.lemmas.List.{take-append-le}
+use Rattle.wq_words.specs.declared.event.Event.TheVariants.{Back}
+use Rattle.wq_words.specs.History.{accepted_by, taken}
 use Rattle.wq_words.proofs.Closed.{shut_from_open}
 use Rattle.wq_words.proofs.Growing.{filter_map_push_some, filter_map_push_none}
 use Rattle.wq_words.proofs.Legal.{legal_front, legal_next}
 use Rattle.wq_words.proofs.OtherSeats.{others_keep}
 use Rattle.wq_words.proofs.Listed.{IsQuiet, quiet, accepted_push_none, taken_push_same, taken_push_push, length-accepted}
-use Rattle.wq_live.specs.Batch.{batch, next_of}
 
 begun_still : (v : List Event) (e : Event) → begun_by e ≡ None → begun (v ++ e ∷ []) ≡ begun v
 begun_still v e none = filter_map_push_none begun_by v e none ∙ append-nil (begun v)

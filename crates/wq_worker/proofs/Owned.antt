@@ -1,18 +1,11 @@
 -- What has begun and ended, and whether the queue is shut, changes by the owner's events alone.
-use Rattle.std.proofs.Common.{◌≡◌, ℕ, ◌+◌, Bool, true, false, cond, ◌==◌, List, [], ◌∷◌, ◌++◌, sym, refl, ap, ◌∙◌, arith}
-use Rattle.std.proofs.lemmas.Bool.{or_parts}
-use Rattle.std.specs.Prelude.{filter, count_by}
-use Rattle.std.proofs.lemmas.List.{append-nil}
-use Rattle.std.proofs.lemmas.List.Elements.{filter_map-append}
-use Rattle.wq_words.specs.declared.event.Event.{Event}
-use Rattle.wq_words.specs.History.{begun_by, ended_by, is_close, is_drain, begun, ended, running}
-use Rattle.wq_words.specs.Seen.{owner_seat, seat_of, own, Grows}
-use Rattle.wq_words.proofs.Appended.{count_by-append}
+use Rattle.wq_worker.proofs.Common.{◌≡◌, ℕ, ◌+◌, Bool, true, false, cond, ◌==◌, List, [], ◌∷◌, ◌++◌, sym, refl, ap, ◌∙◌, arith, or_parts, count_by}
+use Rattle.wq_worker.proofs.Common.{append-nil, filter_map-append, Event, begun_by, begun, ended, running, owner_seat, seat_of, own, Grows}
+use Rattle.wq_worker.proofs.Common.{count_by-append, is_ours, Adds, is_turn}
+use Rattle.std.specs.Prelude.{filter}
+use Rattle.wq_words.specs.History.{ended_by, is_close, is_drain}
 use Rattle.wq_words.proofs.Seen.{begun_same, ended_same, closed_count, count_own, count_same}
 use Rattle.wq_live.proofs.Owned.{begun_on, ended_on, closes_on}
-use Rattle.wq_words.specs.Seen.{is_ours}
-use Rattle.wq_worker.specs.Seats.{Adds}
-use Rattle.wq_live.proofs.Phases.{is_turn}
 use Rattle.wq_worker.proofs.Phase.{turns_own, drains_own, SamePhase, drains_on, phase_grown}
 
 module _ {A : Type 0} (p q : A → Bool) (only : (x : A) → q x ≡ false → p x ≡ false) where
@@ -95,8 +88,8 @@ pub record Stays (v w : List Event) : Type 0 where
   pub running_same : running w ≡ running v
   pub phase : SamePhase v w
 
-pub stays : (es v w : List Event) → IsQuiet es → OwnerAdds es v w → Stays v w
-stays es v w q o =
+pub quiet_stays : (es v w : List Event) → IsQuiet es → OwnerAdds es v w → Stays v w
+quiet_stays es v w q o =
     let b : begun w ≡ begun v = o.begun_is ∙ (ap (λ (z : List ℕ). begun v ++ z) q.begun_none ∙ append-nil (begun v)) in
     let e : ended w ≡ ended v = o.ended_is ∙ (ap (λ (z : List ℕ). ended v ++ z) q.ended_none ∙ append-nil (ended v)) in
     record { begun_same = b; ended_same = e; running_same = rw (b, e) refl; phase = o.phase q.turns_none }

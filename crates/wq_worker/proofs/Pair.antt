@@ -1,11 +1,5 @@
 -- A pair of which one seat made steps.
-use Rattle.std.proofs.Common.{ℕ, ◌+◌, List, [], ◌++◌, refl, ◌∙◌, subst}
-use Rattle.wq_words.specs.declared.event.Event.{Event}
-use Rattle.wq_words.specs.Legal.{IsLegal}
-use Rattle.wq_live.specs.Known.{Sees}
-use Rattle.wq_live.specs.Pairs.{KnownPair, pair_owner, pair_sender}
-use Rattle.wq_worker.specs.Seats.{Adds}
-use Rattle.wq_worker.specs.Pair.{Both}
+use Rattle.wq_worker.proofs.Common.{ℕ, ◌+◌, List, [], ◌++◌, refl, ◌∙◌, subst, Event, IsLegal, Sees, KnownPair, pair_owner, pair_sender, Adds, Both}
 use Rattle.wq_worker.proofs.Seats.{adds_owner, adds_sender, adds_on, adds_none}
 
 pub both_still : (p : KnownPair) → IsLegal p.layout p.seen → Both [] 0 p p

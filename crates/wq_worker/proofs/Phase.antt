@@ -1,13 +1,11 @@
 -- Whether a queue takes pushes changes by closes, drains and resumes alone, which are the owner's.
-use Rattle.std.proofs.Common.{◌≡◌, ℕ, ◌+◌, Bool, true, false, eqb, List, sym, refl, ◌∙◌}
-use Rattle.std.specs.Prelude.{count_by}
-use Rattle.wq_words.specs.declared.event.Event.{Event}
-use Rattle.wq_words.specs.declared.event.Event.TheVariants.{Close, Drain, Resume}
-use Rattle.wq_words.specs.History.{is_drain, IsClosed, closed, IsShut, IsDraining, shut}
-use Rattle.wq_words.specs.Seen.{owner_seat, seat_of, Grows}
-use Rattle.wq_words.proofs.Closed.{closed_from_IsClosed, IsClosed_from_closed, open_from_closed, shut_from_IsShut, IsShut_from_shut}
+use Rattle.wq_worker.proofs.Common.{◌≡◌, ℕ, ◌+◌, Bool, true, false, List, sym, refl, ◌∙◌, count_by, Event, Close, Drain, Resume, IsClosed, IsShut}
+use Rattle.wq_worker.proofs.Common.{IsDraining, shut, owner_seat, seat_of, Grows, shut_from_IsShut, IsShut_from_shut, is_turn}
+use Rattle.std.proofs.Common.{eqb}
+use Rattle.wq_words.specs.History.{is_drain, closed}
+use Rattle.wq_words.proofs.Closed.{closed_from_IsClosed, IsClosed_from_closed, open_from_closed}
 use Rattle.wq_live.proofs.Counting.{count_on}
-use Rattle.wq_live.proofs.Phases.{is_turn, closed_quiet, shut_still as shut_quiet}
+use Rattle.wq_live.proofs.Phases.{closed_quiet, shut_still as shut_quiet}
 
 pub turns_own : (e : Event) → eqb (seat_of e) owner_seat ≡ false → is_turn e ≡ false
 turns_own Close is = is

@@ -1,17 +1,13 @@
 -- An owner that neither closes nor drains its queue sees no queueing on it refused.
-use Rattle.std.proofs.Common.{◌≡◌, ℕ, ◌+◌, ◌-◌, ◌<◌, ◌≤◌, false, cond, Bool, List, [], ◌∷◌, ◌++◌, length, take, refl, ap, ◌∙◌, subst, arith}
-use Rattle.std.specs.Prelude.{count_by}
+use Rattle.wq_worker.proofs.Common.{◌≡◌, ℕ, ◌+◌, ◌-◌, ◌<◌, ◌≤◌, false, cond, Bool, List, [], ◌∷◌, ◌++◌, length, take, refl, ap, ◌∙◌, subst, arith}
+use Rattle.wq_worker.proofs.Common.{count_by, Layout, Event, Hold, IsClosed, IsShut, IsLegal, owner_seat, own, Grows, is_turn}
 use Rattle.std.proofs.lemmas.Bool.{eq-eqb}
 use Rattle.std.proofs.Math.Seq.{take-append-add}
 use Rattle.std.proofs.lemmas.List.Sums.{sum_by-take-le}
-use Rattle.wq_words.specs.declared.layout.Layout.{Layout}
-use Rattle.wq_words.specs.declared.event.Event.{Event}
-use Rattle.wq_words.specs.declared.event.Event.TheVariants.{Hold, Back}
+use Rattle.wq_words.specs.declared.event.Event.TheVariants.{Back}
 use Rattle.wq_words.specs.declared.event.Why.TheVariants as why
-use Rattle.wq_words.specs.History.{IsClosed, IsShut}
-use Rattle.wq_words.specs.Legal.{MayFollow, IsLegal}
+use Rattle.wq_words.specs.Legal.{MayFollow}
 use Rattle.wq_words.specs.Counting.{is_closed_by}
-use Rattle.wq_words.specs.Seen.{owner_seat, own, Grows}
 use Rattle.wq_words.proofs.Closed.{closed_stays}
 use Rattle.wq_words.proofs.Counting.{closed_own}
 use Rattle.wq_words.proofs.Growing.{count_by_push}
@@ -19,7 +15,6 @@ use Rattle.wq_words.proofs.Legal.{legal_induction}
 use Rattle.wq_words.proofs.Seen.{count_own}
 use Rattle.wq_live.specs.Answers.{HasMetDrain}
 use Rattle.wq_live.proofs.Counting.{count_on}
-use Rattle.wq_live.proofs.Phases.{is_turn}
 use Rattle.wq_worker.proofs.Phase.{turns_own, open_still, phase_grown}
 
 module _ (s : ℕ) where

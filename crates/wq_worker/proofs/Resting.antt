@@ -1,10 +1,7 @@
 -- What a worker that got ready answers, and that nothing begins by a rest.
-use Rattle.std.proofs.Common.{◌≡◌, ℕ, Bool, true, false, [], Option, Some, None, MatchOption, refl, sym}
-use Rattle.wq_words.specs.History.{begun, IsRunning}
-use Rattle.wq_live.specs.Batch.{next_of}
-use Rattle.wq_worker.specs.Seats.{taking, NothingWaits}
-use Rattle.wq_worker.specs.State.{WorkerState, Moves}
-use Rattle.wq_worker.specs.Resting.{rest_events, LeavesWork, IsReady, IsUnready, nothing}
+use Rattle.wq_worker.proofs.Common.{◌≡◌, ℕ, Bool, true, false, [], Option, Some, None, MatchOption, refl, sym, begun, IsRunning, next_of, taking}
+use Rattle.wq_worker.proofs.Common.{NothingWaits, WorkerState, Moves, rest_events, IsReady, IsUnready}
+use Rattle.wq_worker.specs.Resting.{LeavesWork, nothing}
 
 pub ready_told : {W : Type 0} (a b : WorkerState W) (r : Option ℕ) → r ≡ next_of b.seen → (r ≡ None → NothingWaits b.seen) → ¬ IsRunning b.seen
     → Moves (taking a.seen) 0 a b → LeavesWork a b → MatchOption r (IsUnready a b) (λ k. IsReady a k b)

@@ -1,11 +1,9 @@
 -- What is given back, one pair after another, and the pairs of numbers and values.
-use Rattle.std.proofs.Common.{◌≡◌, ◌⊎◌, inl, inr, ℕ, suc, ◌<◌, ◌≤◌, cond, Bool, List, [], ◌∷◌, ◌++◌, length, Option, Some, None, refl, sym, ap, ◌∙◌, subst, append_assoc, arith, lt-ltb, le-ltb}
-use Rattle.std.proofs.lemmas.List.{append-nil}
-use Rattle.std.proofs.lemmas.Bool.{cases_lt}
-use Rattle.wq_words.specs.declared.layout.Layout.{Layout}
+use Rattle.wq_worker.proofs.Common.{◌≡◌, inl, inr, ℕ, ◌<◌, ◌≤◌, cond, Bool, List, [], ◌∷◌, ◌++◌, length, Option, Some, None, refl, sym, ap, ◌∙◌}
+use Rattle.wq_worker.proofs.Common.{subst, append_assoc, arith, append-nil, cases_lt, Layout, items_among, GivesBack, MayLeave, numbers_in, pairs_of}
+use Rattle.std.proofs.Common.{◌⊎◌, suc, lt-ltb, le-ltb}
 use Rattle.wq_words.specs.Valued.{AreBrought, Carries}
-use Rattle.wq_worker.specs.State.{items_among}
-use Rattle.wq_worker.specs.Returned.{GivenBack, GivesBack, none, one, MayLeave, numbers_in, pairs_of}
+use Rattle.wq_worker.specs.Returned.{GivenBack, none, one}
 
 module _ {V W : Type 0} (takes : W → ℕ → V → W → Type 0) where
   pub given_on : (ps qs : List (ℕ × V)) (a b c : W) → GivenBack takes ps a b → GivenBack takes qs b c → GivenBack takes (ps ++ qs) a c

@@ -1,21 +1,14 @@
 -- A worker after steps in a row is the same worker, what it has seen is legal, and its queue is open where it was.
-use Rattle.std.proofs.Common.{◌≡◌, ℕ, List, [], ◌∷◌, ◌++◌, sym, refl, ◌∙◌, ap, subst, arith}
-use Rattle.std.specs.Prelude.{count_by}
-use Rattle.wq_words.specs.declared.event.Event.{Event}
-use Rattle.wq_words.specs.declared.event.Event.TheVariants.{End, Drain, Resume}
-use Rattle.wq_words.specs.History.{IsClosed, IsShut}
-use Rattle.wq_words.specs.Legal.{IsLegal, IsComplete, HasRunOut}
-use Rattle.wq_words.proofs.Appended.{count_by-append}
-use Rattle.wq_worker.specs.declared.ran.Ran.{Ran}
-use Rattle.wq_worker.specs.declared.ran.Ran.TheVariants.{Item, Barrier, Stop, Nothing, Owing}
-use Rattle.wq_worker.specs.Seats.{taking}
-use Rattle.wq_worker.specs.Follow.{contended_of}
-use Rattle.wq_worker.specs.State.{WorkerState, IsSameWorker, Moves}
-use Rattle.wq_worker.specs.Step.{stays, StartsBy, item, other, owed, EndsBy, ends, OwesBy, owes, RunsBy, Runs}
-use Rattle.wq_worker.specs.Rows.{RowBy, none, more, IsExecution, RunsOutBy, Closes, was_closed, closes, Shuts, was_shut, drains, Resumes, stays_closed, reopens}
+use Rattle.wq_worker.proofs.Common.{◌≡◌, ℕ, List, [], ◌∷◌, ◌++◌, sym, refl, ◌∙◌, ap, subst, arith, count_by, Event, End, Drain, Resume, IsClosed}
+use Rattle.wq_worker.proofs.Common.{IsShut, IsLegal, IsComplete, HasRunOut, count_by-append, Ran, Item, Barrier, Stop, Nothing, Owing, taking}
+use Rattle.wq_worker.proofs.Common.{contended_of, WorkerState, Moves, stays, EndsBy, OwesBy, owes, RunsBy, RowBy, none, more, IsExecution, Shuts}
+use Rattle.wq_worker.proofs.Common.{drains, Resumes, stays_closed, reopens, is_turn}
+use Rattle.wq_worker.specs.State.{IsSameWorker}
+use Rattle.wq_worker.specs.Step.{StartsBy, item, other, owed, ends, Runs}
+use Rattle.wq_worker.specs.Rows.{RunsOutBy, Closes, was_closed, closes, was_shut}
 use Rattle.wq_worker.proofs.Owned.{owner_grown, owner_of_both}
 use Rattle.wq_worker.proofs.Follow.{quiet_follows, quiet_contended}
-use Rattle.wq_live.proofs.Phases.{is_turn, open_then}
+use Rattle.wq_live.proofs.Phases.{open_then}
 use Rattle.wq_worker.proofs.Phase.{SamePhase, phase_still, phase_on, open_still, unclosed_still, closed_still}
 use Rattle.wq_worker.proofs.State.{quiet_taking, turns_taking}
 

@@ -1,19 +1,11 @@
 -- The number that runs.
-use Rattle.std.proofs.Common.{◌≡◌, ℕ, ◌+◌, ◌<◌, true, false, List, [], ◌∷◌, ◌++◌, length, Option, Some, None, slice_get, inl, inr, subst, sym, refl, ap, ◌∙◌, arith}
-use Rattle.std.proofs.Common.{length-append}
+use Rattle.wq_worker.proofs.Common.{◌≡◌, ℕ, ◌+◌, ◌<◌, true, false, List, [], ◌∷◌, ◌++◌, length, Option, Some, None, slice_get, inl, inr, subst, sym}
+use Rattle.wq_worker.proofs.Common.{refl, ap, ◌∙◌, arith, length-append, append-nil, filter_map-append, Event, Begin, Layout, number_count, begun_by}
+use Rattle.wq_worker.proofs.Common.{begun, ended, running, IsRunning, IsLegal, in_order, prefix_length}
 use Rattle.std.specs.Option.{is_some}
-use Rattle.std.proofs.lemmas.List.{append-nil}
-use Rattle.std.proofs.lemmas.List.Elements.{filter_map-append}
-use Rattle.wq_words.specs.declared.event.Event.{Event}
-use Rattle.wq_words.specs.declared.event.Event.TheVariants.{Begin}
-use Rattle.wq_words.specs.declared.layout.Layout.{Layout}
-use Rattle.wq_words.specs.Numbers.{number_count}
-use Rattle.wq_words.specs.History.{begun_by, begun, ended, running, IsRunning}
-use Rattle.wq_words.specs.Legal.{IsLegal, IsAllowed}
+use Rattle.wq_words.specs.Legal.{IsAllowed}
 use Rattle.wq_words.proofs.Growing.{slice_get_last, slice_get_push, filter_map_push_none}
 use Rattle.wq_words.proofs.Legal.{legal_induction}
-use Rattle.wq_words.proofs.Order.{in_order}
-use Rattle.wq_words.proofs.Prefixes.{prefix_length}
 use Rattle.wq_words.proofs.Running.{runs_from_running, rests_from_running}
 use Rattle.wq_worker.proofs.Owned.{OwnerAdds}
 

@@ -1,13 +1,10 @@
 -- What the two seats of a worker add, put together.
-use Rattle.std.proofs.Common.{◌≡◌, ℕ, ◌+◌, Bool, true, false, cond, not, ◌||◌, ◌==◌, List, [], ◌∷◌, ◌++◌, length, sym, refl, ap, ◌∙◌, arith, append_assoc}
-use Rattle.std.proofs.Common.{length-append}
+use Rattle.wq_worker.proofs.Common.{◌≡◌, ℕ, ◌+◌, Bool, true, false, cond, ◌==◌, List, [], ◌∷◌, ◌++◌, length, sym, refl, ap, ◌∙◌, arith, append_assoc}
+use Rattle.wq_worker.proofs.Common.{length-append, append-nil, Event, owner_seat, seat_of, own, Grows, is_ours, Adds}
+use Rattle.std.proofs.Common.{not, ◌||◌}
 use Rattle.std.specs.Prelude.{filter}
-use Rattle.std.proofs.lemmas.List.{append-nil, append_cancel_left}
+use Rattle.std.proofs.lemmas.List.{append_cancel_left}
 use Rattle.std.proofs.lemmas.List.Elements.{filter-append}
-use Rattle.wq_words.specs.declared.event.Event.{Event}
-use Rattle.wq_words.specs.Seen.{owner_seat, seat_of, own, Grows}
-use Rattle.wq_words.specs.Seen.{is_ours}
-use Rattle.wq_worker.specs.Seats.{Adds}
 
 module _ {A : Type 0} where
   left_step : (b c : Bool) (x : A) (ps os qs : List A) → (ps ≡ [] → os ≡ qs) → cond b (x ∷ ps) ps ≡ [] → cond (b || c) (x ∷ os) os ≡ cond c (x ∷ qs) qs

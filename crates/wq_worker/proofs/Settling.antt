@@ -1,19 +1,13 @@
 -- The pairs of a run, as far as they were dealt with.
-use Rattle.std.proofs.Common.{◌≡◌, ℕ, true, false, if◌then◌else◌, List, [], ◌∷◌, ◌++◌, Option, Some, inl, inr, refl, sym, ap, ◌∙◌, subst, append_assoc}
-use Rattle.std.proofs.lemmas.List.{append-nil, map-append}
-use Rattle.wq_words.specs.declared.event.Event.{Event}
-use Rattle.wq_words.specs.History.{shut, IsRunning}
-use Rattle.wq_words.specs.Legal.{IsLegal}
-use Rattle.wq_words.specs.Seen.{owner_seat}
-use Rattle.wq_live.specs.ValuePairs.{KnownValuePair, owner_of}
-use Rattle.wq_live.proofs.ValueSends.{learnt_on}
-use Rattle.wq_worker.specs.Pair.{StaysOr}
-use Rattle.wq_worker.specs.ValueState.{KeepsHanded}
-use Rattle.wq_worker.specs.Returned.{GivenBack, none, numbers_in, values_in}
-use Rattle.wq_worker.specs.Dealt.{queueing_in, brought_in, DealsPair, IsContendedPair, BothDealAll, BothDealOut, settles, contends}
+use Rattle.wq_worker.proofs.Common.{◌≡◌, ℕ, true, false, if◌then◌else◌, List, [], ◌∷◌, ◌++◌, Option, Some, inl, inr, refl, sym, ap, ◌∙◌, subst}
+use Rattle.wq_worker.proofs.Common.{append_assoc, append-nil, Event, shut, IsRunning, IsLegal, owner_seat, KnownValuePair, owner_of, learnt_on}
+use Rattle.wq_worker.proofs.Common.{StaysOr, KeepsHanded, numbers_in, queueing_in, brought_in}
+use Rattle.std.proofs.lemmas.List.{map-append}
+use Rattle.wq_worker.specs.Returned.{GivenBack, none, values_in}
+use Rattle.wq_worker.specs.Dealt.{DealsPair, IsContendedPair, BothDealAll, BothDealOut, settles, contends}
 use Rattle.wq_worker.proofs.Deals.{deals_push, deals_follow}
 use Rattle.wq_worker.proofs.Follow.{quiet_follows, queues_since}
-use Rattle.wq_worker.proofs.Owned.{Stays, stays, owner_of_both}
+use Rattle.wq_worker.proofs.Owned.{Stays, quiet_stays, owner_of_both}
 use Rattle.wq_worker.proofs.Pair.{both_on, both_still}
 use Rattle.wq_worker.proofs.Returned.{given_on}
 
@@ -56,7 +50,7 @@ module _ {V W : Type 0} (log given : W → List (ℕ × V)) (takes : W → ℕ �
   pub dealt_stays : {ps left : List (ℕ × V)} {a b : W} {old new : KnownValuePair V} → DealtSofar ps left a b old new → Stays old.known.seen new.known.seen
   dealt_stays {old = old} {new = new} f =
       let n = old.known.layout.items in let s = old.known.number in let is_shut = shut old.known.seen in let t = f.all in
-      stays f.events old.known.seen new.known.seen
+      quiet_stays f.events old.known.seen new.known.seen
       (quiet_follows n s is_shut (numbers_in f.done) f.events (deals_follow n s is_shut f.done f.events f.queued f.returned t.deals))
       (owner_of_both s f.events 0 old.known.seen new.known.seen t.both.adds)
 

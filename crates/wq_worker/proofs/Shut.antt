@@ -1,14 +1,11 @@
 -- What no longer changes once the queue is shut, and where nothing waits.
-use Rattle.std.proofs.Common.{◌≡◌, ℕ, zero, suc, List, [], ◌∷◌, length, take, drop, None, slice_get, sym, refl, ap}
-use Rattle.std.proofs.Common.{◌∙◌, arith}
+use Rattle.wq_worker.proofs.Common.{◌≡◌, ℕ, List, [], ◌∷◌, length, take, drop, None, slice_get, sym, refl, ap, ◌∙◌, arith, Event, Take, accepted}
+use Rattle.wq_worker.proofs.Common.{begun, IsShut, shut_from_IsShut, batch, next_of, NothingWaits}
+use Rattle.std.proofs.Common.{zero, suc}
 use Rattle.std.proofs.lemmas.List.{take_all}
-use Rattle.wq_words.specs.declared.event.Event.{Event}
-use Rattle.wq_words.specs.declared.event.Event.TheVariants.{Take}
-use Rattle.wq_words.specs.History.{accepted, begun, IsShut}
 use Rattle.wq_words.proofs.Listed.{taken_shut}
-use Rattle.wq_words.proofs.Closed.{shut_from_IsShut}
-use Rattle.wq_live.specs.Batch.{batch, next_of, TakesAll}
-use Rattle.wq_worker.specs.Seats.{NothingWaits, at_take, at_all}
+use Rattle.wq_live.specs.Batch.{TakesAll}
+use Rattle.wq_worker.specs.Seats.{at_take, at_all}
 
 pub batch-shut : (h : List Event) → IsShut h → batch h ≡ drop (length (begun h)) (accepted h)
 batch-shut h shut =

@@ -1,23 +1,14 @@
 -- A worker's parts after its steps.
-use Rattle.std.proofs.Common.{◌≡◌, ℕ, ◌<◌, ◌≤◌, arith, Bool, true, false, cond, Option, Some, None, List, [], ◌∷◌, ◌++◌, length, refl, sym, ◌∙◌, ap}
+use Rattle.wq_worker.proofs.Common.{◌≡◌, ℕ, ◌<◌, ◌≤◌, arith, Bool, true, false, cond, Option, Some, None, List, [], ◌∷◌, ◌++◌, length, refl, sym, ◌∙◌}
+use Rattle.wq_worker.proofs.Common.{ap, append-nil, filter_map-append, Layout, Event, Begin, begun_by, begun, ended, shut, IsRunning, IsLegal}
+use Rattle.wq_worker.proofs.Common.{KnownPair, next_of, taking, Both, QueuesRest, items_among, count_by, count_by-append, is_turn}
 use Rattle.std.specs.Prelude.{nat_lt}
 use Rattle.std.proofs.lemmas.Bool.{lt-ltb, le-ltb}
-use Rattle.std.proofs.lemmas.List.{append-nil}
-use Rattle.std.proofs.lemmas.List.Elements.{filter-append, filter_map-append}
-use Rattle.wq_words.specs.declared.layout.Layout.{Layout}
-use Rattle.wq_words.specs.declared.event.Event.{Event}
-use Rattle.wq_words.specs.declared.event.Event.TheVariants.{Begin}
-use Rattle.wq_words.specs.History.{begun_by, begun, ended_by, ended, shut, IsRunning}
-use Rattle.wq_words.specs.Legal.{IsLegal}
-use Rattle.wq_live.specs.Pairs.{KnownPair}
-use Rattle.wq_live.specs.Batch.{next_of}
-use Rattle.wq_worker.specs.Seats.{taking_of, taking}
-use Rattle.wq_worker.specs.Pair.{Both, QueuesRest}
-use Rattle.wq_worker.specs.State.{items_among, AreWorkerParts}
-use Rattle.std.specs.Prelude.{count_by}
-use Rattle.wq_words.proofs.Appended.{count_by-append}
-use Rattle.wq_live.proofs.Phases.{is_turn}
-use Rattle.wq_worker.proofs.Owned.{IsQuiet, stays, owner_of_both}
+use Rattle.std.proofs.lemmas.List.Elements.{filter-append}
+use Rattle.wq_words.specs.History.{ended_by}
+use Rattle.wq_worker.specs.Seats.{taking_of}
+use Rattle.wq_worker.specs.State.{AreWorkerParts}
+use Rattle.wq_worker.proofs.Owned.{IsQuiet, quiet_stays, owner_of_both}
 use Rattle.wq_worker.proofs.Follow.{advance_stays, advance_layout, advance_legal, advance_number}
 
 -- the log goes on as the begun numbers do
@@ -68,7 +59,7 @@ quiet_taking h = quiet_taking_of (next_of h) (shut h)
 pub idle_taken : (old new : KnownPair) → Both (taking old.seen) 0 old new → ¬ IsRunning old.seen → ¬ IsRunning new.seen
 idle_taken old new b idle =
     let a = owner_of_both old.number (taking old.seen) 0 old.seen new.seen b.adds in
-    let s = stays (taking old.seen) old.seen new.seen (quiet_taking old.seen) a in rw (s.begun_same, s.ended_same) idle
+    let s = quiet_stays (taking old.seen) old.seen new.seen (quiet_taking old.seen) a in rw (s.begun_same, s.ended_same) idle
 
 pub turns_taking : (h : List Event) (k : ℕ) → count_by is_turn (taking h ++ Begin k ∷ []) ≡ 0
 turns_taking h k = omega (arith, count_by-append is_turn (taking h) (Begin k ∷ []), (quiet_taking h).turns_none)

@@ -1,23 +1,12 @@
 -- What a worker's step tells.
-use Rattle.std.proofs.Common.{◌≡◌, ℕ, ◌+◌, ◌<◌, ◌≤◌, ⊎_elim, Bool, Some, List, [], ◌∷◌, ◌++◌, length, refl, sym, ◌∙◌, ap, subst, arith}
-use Rattle.std.proofs.lemmas.Bool.{cases_lt}
-use Rattle.wq_words.specs.declared.layout.Layout.{Layout}
-use Rattle.wq_words.specs.declared.event.Event.{Event}
-use Rattle.wq_words.specs.declared.event.Event.TheVariants.{Begin, End}
-use Rattle.wq_words.specs.History.{shut, running, IsRunning}
-use Rattle.wq_words.specs.Legal.{IsLegal}
-use Rattle.wq_live.specs.Pairs.{KnownPair}
-use Rattle.wq_worker.specs.declared.ran.Ran.{Ran}
-use Rattle.wq_worker.specs.declared.ran.Ran.TheVariants.{Item, Barrier, Stop, Nothing, Owing}
-use Rattle.wq_worker.specs.Seats.{Adds, taking}
-use Rattle.wq_worker.specs.Follow.{Follows, contended_of}
-use Rattle.wq_worker.specs.Pair.{Both, QueuesRest, finished, contended}
-use Rattle.wq_worker.specs.State.{WorkerState, Moves}
-use Rattle.wq_worker.specs.Step.{stays, IsKind, StartsBy, item, other, owed, EndsBy, ends, OwesBy, owes, RunsBy, Begins}
+use Rattle.wq_worker.proofs.Common.{◌≡◌, ℕ, ◌+◌, ◌<◌, ◌≤◌, ⊎_elim, Bool, Some, List, [], ◌∷◌, ◌++◌, length, refl, sym, ◌∙◌, ap, subst, arith}
+use Rattle.wq_worker.proofs.Common.{cases_lt, Layout, Event, Begin, End, shut, running, IsRunning, IsLegal, KnownPair, Ran, Item, Barrier, Stop}
+use Rattle.wq_worker.proofs.Common.{Nothing, Owing, Adds, taking, Follows, contended_of, Both, QueuesRest, finished, contended, WorkerState, Moves}
+use Rattle.wq_worker.proofs.Common.{stays, EndsBy, OwesBy, owes, RunsBy, runs_from_running as runs_some}
+use Rattle.wq_worker.specs.Step.{IsKind, StartsBy, item, other, owed, ends, Begins}
 use Rattle.wq_worker.proofs.Seats.{adds_on}
 use Rattle.wq_worker.proofs.Owned.{owner_of_both}
 use Rattle.wq_worker.proofs.Running.{runs_begun, idle_ended}
-use Rattle.wq_words.proofs.Running.{runs_from_running as runs_some}
 use Rattle.wq_worker.proofs.Pair.{both_on}
 use Rattle.wq_worker.proofs.Follow.{advance_stays}
 use Rattle.wq_worker.proofs.State.{turns_taking, begun_taking, ended_taking}

@@ -1,18 +1,8 @@
 -- The parts of a worker whose items bring values, after its steps.
-use Rattle.std.proofs.Common.{◌≡◌, ℕ, ⊎_elim, List, [], ap, sym, refl, ◌∙◌, subst, arith}
-use Rattle.wq_words.specs.declared.layout.Layout.{Layout}
-use Rattle.wq_words.specs.declared.event.Event.{Event}
-use Rattle.wq_words.specs.History.{begun}
-use Rattle.wq_words.specs.Legal.{IsLegal}
+use Rattle.wq_worker.proofs.Common.{◌≡◌, ℕ, ⊎_elim, List, [], ap, sym, refl, ◌∙◌, subst, arith, Layout, Event, begun, IsLegal, Sees, handed_in}
+use Rattle.wq_worker.proofs.Common.{pair_owner, pair_sender, KnownValuePair, owner_of, StaysOr, Both, pairs_of, numbers_in, Moves, ValueWorkerState}
+use Rattle.wq_worker.proofs.Common.{KeepsHanded, AreValueParts}
 use Rattle.wq_words.proofs.Prefixes.{prefix_self}
-use Rattle.wq_live.specs.Known.{Sees}
-use Rattle.wq_live.specs.KnownWith.{handed_in}
-use Rattle.wq_live.specs.Pairs.{pair_owner, pair_sender}
-use Rattle.wq_live.specs.ValuePairs.{KnownValuePair, owner_of}
-use Rattle.wq_worker.specs.Pair.{StaysOr, Both}
-use Rattle.wq_worker.specs.Returned.{pairs_of, numbers_in}
-use Rattle.wq_worker.specs.State.{Moves}
-use Rattle.wq_worker.specs.ValueState.{ValueWorkerState, KeepsHanded, AreValueParts}
 use Rattle.wq_worker.proofs.Pair.{by_owner}
 use Rattle.wq_worker.proofs.State.{begun_both}
 use Rattle.wq_worker.proofs.Step.{state_of, moves_by}

@@ -1,24 +1,14 @@
 -- What a step of a worker with values deals with, where it begins an execution and then queues what that asks for.
-use Rattle.std.proofs.Common.{◌≡◌, ℕ, Bool, true, false, cond, ◌==◌, if◌then◌else◌, List, [], ◌∷◌, ◌++◌, length, Option, Some, None}
-use Rattle.std.proofs.Common.{refl, sym, ap, ◌∙◌, subst}
-use Rattle.std.proofs.lemmas.Bool.{or_parts}
-use Rattle.wq_words.specs.declared.layout.Layout.{Layout}
-use Rattle.wq_words.specs.declared.event.Event.{Event}
-use Rattle.wq_words.specs.declared.event.Event.TheVariants.{Take, Begin}
-use Rattle.wq_words.specs.History.{accepted, begun, shut}
-use Rattle.wq_words.specs.Seen.{owner_seat, seat_of, own, is_ours}
+use Rattle.wq_worker.proofs.Common.{◌≡◌, ℕ, Bool, true, false, cond, ◌==◌, if◌then◌else◌, List, [], ◌∷◌, ◌++◌, length, Option, Some, None, refl, sym}
+use Rattle.wq_worker.proofs.Common.{ap, ◌∙◌, subst, or_parts, Layout, Event, Take, Begin, accepted, begun, shut, owner_seat, seat_of, own, is_ours}
+use Rattle.wq_worker.proofs.Common.{runs_from_running as runs_some, next_of, Learnt, Ran, Nothing, Adds, taking, MayLeave, ValueWorkerState, owner_in}
+use Rattle.wq_worker.proofs.Common.{DealsOut, BeginsValue}
 use Rattle.wq_words.proofs.Ranks.{slice_get-prefix}
-use Rattle.wq_words.proofs.Running.{runs_from_running as runs_some}
-use Rattle.wq_live.specs.Batch.{next_of}
-use Rattle.wq_live.specs.KnownWith.{Learnt}
 use Rattle.wq_live.specs.OwnBrought.{own_brought}
 use Rattle.wq_live.proofs.OwnBrought.{own_still}
-use Rattle.wq_worker.specs.declared.ran.Ran.{Ran}
-use Rattle.wq_worker.specs.declared.ran.Ran.TheVariants.{Nothing}
-use Rattle.wq_worker.specs.Seats.{Adds, taking_of, taking}
-use Rattle.wq_worker.specs.Returned.{MayLeave, values_in}
-use Rattle.wq_worker.specs.ValueState.{ValueWorkerState, owner_in}
-use Rattle.wq_worker.specs.Deals.{Deals, queueing_seat, AsksFor, item, other, owed, DealsOut, BeginsValue, DealsOutBy}
+use Rattle.wq_worker.specs.Seats.{taking_of}
+use Rattle.wq_worker.specs.Returned.{values_in}
+use Rattle.wq_worker.specs.Deals.{Deals, queueing_seat, AsksFor, item, other, owed, DealsOutBy}
 use Rattle.wq_worker.proofs.Seats.{adds_on}
 use Rattle.wq_worker.proofs.Owned.{seat_grown}
 use Rattle.wq_worker.proofs.Step.{shut_still}

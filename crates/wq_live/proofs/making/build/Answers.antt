@@ -1,9 +1,5 @@
-use Rattle.std.proofs.Common.{◌≡◌, ℕ, [], length, refl, sym, ap, ◌∙◌, subst}
-use Rattle.std.specs.Prelude.{All}
-use Rattle.wq_table.specs.SlotChairs.{ValueStanding}
-use Rattle.wq_live.specs.declared.bare.Bare.{Bare}
-use Rattle.wq_live.specs.Known.{Known, new_senders, AreNumbered}
-use Rattle.wq_words.specs.History.{Holds}
+use Rattle.wq_live.proofs.Common.{◌≡◌, ℕ, [], length, refl, sym, ap, ◌∙◌, subst, All, ValueStanding, Bare, Known, new_senders, Holds}
+use Rattle.wq_live.specs.Known.{AreNumbered}
 use Rattle.wq_live.proofs.Built.{owner_new, senders_new}
 use Rattle.wq_live.proofs.Seated.{free_new, length-new_senders, all_new, numbered_new}
 use Rattle.wq_live.proofs.making.build.Goals as goal

@@ -1,6 +1,4 @@
-use Rattle.std.proofs.Common.{◌≡◌, [], refl, ap, ◌∙◌}
-use Rattle.wq_table.specs.SlotChairs.{ValueStanding}
-use Rattle.wq_live.specs.KnownWith.{KnownWith}
+use Rattle.wq_live.proofs.Common.{◌≡◌, [], refl, ap, ◌∙◌, ValueStanding, KnownWith}
 use Rattle.wq_live.proofs.Built.{values_new, all_values, length_values}
 use Rattle.wq_live.proofs.making.build_values.Goals as goal
 

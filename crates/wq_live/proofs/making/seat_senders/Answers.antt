@@ -1,12 +1,9 @@
-use Rattle.std.proofs.Common.{◌≡◌, Bool, true, false, List, [], ◌∷◌, ◌++◌, length, Result, Ok, Err, if◌then◌else◌, ap, sym, refl, ◌∙◌, arith, length-append}
+use Rattle.wq_live.proofs.Common.{◌≡◌, Bool, true, false, List, [], ◌∷◌, ◌++◌, length, if◌then◌else◌, ap, sym, refl, ◌∙◌, arith, length-append}
+use Rattle.wq_live.proofs.Common.{false≢true, ValueStanding, Bare, new_senders, sending_in, sender_view}
+use Rattle.std.proofs.Common.{Result, Ok, Err}
 use Rattle.std.specs.Result.{is_ok, is_err}
-use Rattle.std.proofs.lemmas.Bool.{false≢true}
 use Rattle.std.proofs.lemmas.Iterator.Adapters.{YieldsList-from_vec}
 use Rattle.std.proofs.lemmas.Iterator.Consumers.{YieldsList-turn, YieldsList-end}
-use Rattle.wq_table.specs.SlotChairs.{ValueStanding}
-use Rattle.wq_live.specs.declared.bare.Bare.{Bare}
-use Rattle.wq_live.specs.Known.{new_senders}
-use Rattle.wq_live.specs.Sits.{sending_in, sender_view}
 use Rattle.wq_live.proofs.Built.{chair_at, sender_of_none, view_new, new_senders-more, length-value_senders}
 use Rattle.wq_live.proofs.making.seat_senders.Goals as goal
 

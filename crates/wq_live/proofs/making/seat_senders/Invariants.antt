@@ -1,7 +1,4 @@
-use Rattle.std.proofs.Common.{◌≡◌, length}
-use Rattle.atomic_table.specs.Seated.{TableId}
-use Rattle.wq_table.specs.SlotChairs.{value_senders}
-use Rattle.wq_live.specs.Known.{new_senders}
+use Rattle.wq_live.proofs.Common.{◌≡◌, length, TableId, value_senders, new_senders}
 use Rattle.wq_live.proofs.making.seat_senders.Given as goal
 
 abbrev pub invariant-loop-chair : goal.invariant-loop-chair

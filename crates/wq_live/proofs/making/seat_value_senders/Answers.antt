@@ -1,13 +1,9 @@
-use Rattle.std.proofs.Common.{◌≡◌, ℕ, Bool, true, false, List, [], ◌∷◌, ◌++◌, length, map, Result, Ok, Err, if◌then◌else◌, ap, sym}
-use Rattle.std.proofs.Common.{refl, ◌∙◌, arith, length-append}
+use Rattle.wq_live.proofs.Common.{◌≡◌, ℕ, Bool, true, false, List, [], ◌∷◌, ◌++◌, length, map, if◌then◌else◌, ap, sym, refl, ◌∙◌, arith}
+use Rattle.wq_live.proofs.Common.{length-append, false≢true, ValueStanding, new_senders, knowing_nothing, sender_with}
+use Rattle.std.proofs.Common.{Result, Ok, Err}
 use Rattle.std.specs.Result.{is_ok, is_err}
-use Rattle.std.proofs.lemmas.Bool.{false≢true}
 use Rattle.std.proofs.lemmas.Iterator.Adapters.{YieldsList-from_vec}
 use Rattle.std.proofs.lemmas.Iterator.Consumers.{YieldsList-turn, YieldsList-end}
-use Rattle.wq_table.specs.SlotChairs.{ValueStanding}
-use Rattle.wq_live.specs.Known.{new_senders}
-use Rattle.wq_live.specs.KnownWith.{knowing_nothing}
-use Rattle.wq_live.specs.Valued.{sender_with}
 use Rattle.wq_live.proofs.Built.{chair_at, sender_of_values, with_new, values-more, length-value_senders}
 use Rattle.wq_live.proofs.making.seat_value_senders.Goals as goal
 

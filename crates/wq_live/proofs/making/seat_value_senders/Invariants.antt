@@ -1,8 +1,4 @@
-use Rattle.std.proofs.Common.{◌≡◌, length, map}
-use Rattle.atomic_table.specs.Seated.{TableId}
-use Rattle.wq_table.specs.SlotChairs.{value_senders}
-use Rattle.wq_live.specs.Known.{new_senders}
-use Rattle.wq_live.specs.KnownWith.{knowing_nothing}
+use Rattle.wq_live.proofs.Common.{◌≡◌, length, map, TableId, value_senders, new_senders, knowing_nothing}
 use Rattle.wq_live.proofs.making.seat_value_senders.Given as goal
 
 abbrev pub invariant-loop-chair : goal.invariant-loop-chair

@@ -1,9 +1,6 @@
-use Rattle.std.proofs.Common.{◌≡◌, ℕ, [], ◌∷◌, ◌∙◌, ap, sym, subst, inr, arith, Option, Some, None}
-use Rattle.wq_words.specs.Numbers.{number_count}
-use Rattle.wq_table.proofs.Learns.{learns_step, learns_then, or_then}
-use Rattle.wq_live.specs.declared.row.Row.{Row}
+use Rattle.wq_live.proofs.Common.{◌≡◌, ℕ, [], ◌∷◌, ◌∙◌, ap, sym, subst, inr, arith, Option, Some, None, number_count, learns_step, Row, kept_batch}
+use Rattle.wq_table.proofs.Learns.{learns_then, or_then}
 use Rattle.wq_live.specs.Hands.{TurnedSlots}
-use Rattle.wq_live.specs.Sits.{kept_batch}
 use Rattle.wq_live.proofs.Waiting.{stands_walking}
 use Rattle.wq_live.proofs.Tells.{Tells}
 use Rattle.wq_live.proofs.OwnerTells.{makes_stands, walking_on, walk_stage, walk_tells}

@@ -1,7 +1,4 @@
-use Rattle.std.proofs.Common.{◌-◌}
-use Rattle.wq_words.specs.Numbers.{number_count}
-use Rattle.wq_table.specs.Beside.{LearnsOrStays}
-use Rattle.wq_live.specs.Sits.{Stands, OnlySees, kept_batch}
+use Rattle.wq_live.proofs.Common.{◌-◌, number_count, LearnsOrStays, Stands, OnlySees, kept_batch}
 use Rattle.wq_live.proofs.TurnedHands.{TurningSlots}
 use Rattle.wq_live.proofs.owner_seat.turn_taken.Given as goal
 

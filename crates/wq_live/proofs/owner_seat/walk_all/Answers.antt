@@ -1,7 +1,5 @@
-use Rattle.std.proofs.Common.{[], ap, sym, ◌∙◌}
-use Rattle.wq_core.specs.Words.{head_at, item_of}
+use Rattle.wq_live.proofs.Common.{[], ap, sym, ◌∙◌, head_at, item_of, kept_batch}
 use Rattle.wq_table.proofs.Learns.{or_or}
-use Rattle.wq_live.specs.Sits.{kept_batch}
 use Rattle.wq_live.proofs.Taking.{follows_both, head_small}
 use Rattle.wq_live.proofs.TurnedHands.{both_hung, stands_turned, turned_learns, turned_follows, stage_turned, hung_slots}
 use Rattle.wq_live.proofs.owner_seat.walk_all.Goals as goal

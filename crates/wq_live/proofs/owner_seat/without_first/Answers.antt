@@ -1,6 +1,5 @@
-use Rattle.std.proofs.Common.{refl, inr, sym, subst, ◌∙◌}
-use Rattle.wq_table.proofs.Learns.{learns_none, learns_step}
-use Rattle.wq_live.specs.declared.row.Row.{Row}
+use Rattle.wq_live.proofs.Common.{refl, inr, sym, subst, ◌∙◌, learns_step, Row}
+use Rattle.wq_table.proofs.Learns.{learns_none}
 use Rattle.wq_live.specs.Sits.{HasFirst}
 use Rattle.wq_live.proofs.OwnerTells.{makes_stands}
 use Rattle.wq_live.proofs.Linking.{load_tells, load_stage}

@@ -1,11 +1,5 @@
-use Rattle.std.proofs.Common.{refl, ◌<◌, [], ◌∷◌, sym, subst}
-use Rattle.wq_words.specs.declared.layout.Layout.{Layout}
-use Rattle.wq_words.specs.Numbers.{number_count}
-use Rattle.wq_words.specs.declared.answer.Posted.{Posted}
-use Rattle.wq_words.specs.declared.event.Event.TheVariants.{Push}
-use Rattle.wq_live.specs.Sits.{Sending, sending_in, sender_view}
+use Rattle.wq_live.proofs.Common.{refl, ◌<◌, [], ◌∷◌, sym, subst, Layout, number_count, Posted, Push, Sending, sending_in, sender_view, IsToBring}
 use Rattle.wq_live.specs.Tells.{PostsAs}
-use Rattle.wq_live.specs.Hands.{IsToBring}
 use Rattle.wq_live.proofs.Counting.{counts_none, counts_push}
 use Rattle.wq_live.proofs.Sends.{grows_tells, sends_tells, holds_view}
 use Rattle.wq_live.proofs.Settled.{tries_told}

@@ -1,8 +1,5 @@
-use Rattle.std.proofs.Common.{refl, [], ◌∷◌}
-use Rattle.wq_words.specs.declared.event.Event.TheVariants.{Back}
+use Rattle.wq_live.proofs.Common.{refl, [], ◌∷◌, Back, learns_step, Sending, sending_in, sender_view}
 use Rattle.wq_words.specs.declared.event.Why.TheVariants.{Closed}
-use Rattle.wq_table.proofs.Learns.{learns_step}
-use Rattle.wq_live.specs.Sits.{Sending, sending_in, sender_view}
 use Rattle.wq_live.proofs.Counting.{counts_closed}
 use Rattle.wq_live.proofs.SenderHands.{back_leaves}
 use Rattle.wq_live.proofs.Tells.{Tells, back_tells, sender_made}

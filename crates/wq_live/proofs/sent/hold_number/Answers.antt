@@ -1,8 +1,5 @@
-use Rattle.std.proofs.Common.{◌≡◌, ◌==◌, true, false, refl, [], ◌∷◌, subst, MatchBool, Bool, eq-eqb, ne_eqb}
-use Rattle.wq_words.specs.declared.event.Event.TheVariants.{Hold, Busy}
-use Rattle.wq_table.proofs.Learns.{learns_step}
-use Rattle.wq_live.specs.Sits.{Sending, sending_in, sender_view}
-use Rattle.wq_live.specs.Hands.{HoldsSlot}
+use Rattle.wq_live.proofs.Common.{◌≡◌, ◌==◌, true, false, refl, [], ◌∷◌, subst, MatchBool, Bool, eq-eqb, ne_eqb, Hold, Busy, learns_step, Sending}
+use Rattle.wq_live.proofs.Common.{sending_in, sender_view, HoldsSlot}
 use Rattle.wq_live.proofs.Counting.{counts_hold, counts_busy}
 use Rattle.wq_live.proofs.SenderHands.{hold_slot}
 use Rattle.wq_live.proofs.Tells.{Tells, hold_tells, sender_made}

@@ -1,8 +1,4 @@
-use Rattle.std.proofs.Common.{◌<◌, ◌∙◌, sym, subst}
-use Rattle.wq_words.specs.declared.layout.Layout.{Layout}
-use Rattle.wq_words.specs.Numbers.{number_count}
-use Rattle.wq_table.proofs.Learns.{learns_on, learns_or}
-use Rattle.wq_live.specs.Sits.{sending_in, sender_view}
+use Rattle.wq_live.proofs.Common.{◌<◌, ◌∙◌, sym, subst, Layout, number_count, learns_on, learns_or, sending_in, sender_view}
 use Rattle.wq_live.proofs.Sends.{sees_hold}
 use Rattle.wq_live.proofs.SenderHands.{held_to_bring, emptied_after, queues_slot}
 use Rattle.wq_live.proofs.Settled.{tried_same, held_after, answers_settled, contended_settled}

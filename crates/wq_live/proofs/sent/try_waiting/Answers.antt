@@ -1,9 +1,6 @@
-use Rattle.std.proofs.Common.{arith, ◌<◌, [], inl, inr, refl, sym, ◌∙◌, subst}
-use Rattle.wq_words.specs.declared.layout.Layout.{Layout}
-use Rattle.wq_words.specs.Numbers.{number_count}
+use Rattle.wq_live.proofs.Common.{arith, ◌<◌, [], inl, inr, refl, sym, ◌∙◌, subst, Layout, number_count, sending_in, sender_view}
 use Rattle.wq_words.proofs.Seen.{grows_none}
 use Rattle.wq_table.proofs.Learns.{or_learns}
-use Rattle.wq_live.specs.Sits.{sending_in, sender_view}
 use Rattle.wq_live.proofs.Sends.{same_none, sees_after, sees_held}
 use Rattle.wq_live.proofs.SenderHands.{posts_from, bring_from}
 use Rattle.wq_live.proofs.Settled.{tries_after}

@@ -1,10 +1,4 @@
-use Rattle.std.proofs.Common.{◌≡◌, []}
-use Rattle.wq_words.specs.History.{Holds}
-use Rattle.wq_words.specs.Seen.{Grows}
-use Rattle.wq_table.specs.SlotChairs.{part_in}
-use Rattle.wq_table.specs.Beside.{LearnsOrStays}
-use Rattle.wq_live.specs.Known.{IsSame}
-use Rattle.wq_live.specs.Sits.{sending_in, sender_view, Sends}
+use Rattle.wq_live.proofs.Common.{◌≡◌, [], Holds, Grows, part_in, LearnsOrStays, IsSame, sending_in, sender_view, Sends}
 use Rattle.wq_live.proofs.sent.try_waiting.Given as goal
 
 abbrev pub invariant-loop : goal.invariant-loop

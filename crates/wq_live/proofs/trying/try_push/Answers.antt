@@ -1,13 +1,8 @@
-use Rattle.std.proofs.Common.{◌≡◌, ◌==◌, Bool, true, false, List, [], ◌∷◌, subst, sym, ℕ, eq-eqb, ne_eqb, MatchBool, ◌∙◌}
-use Rattle.wq_words.specs.declared.event.Event.{Event}
-use Rattle.wq_words.specs.declared.event.Event.TheVariants.{Push}
+use Rattle.wq_live.proofs.Common.{◌≡◌, ◌==◌, Bool, true, false, List, [], ◌∷◌, subst, sym, ℕ, eq-eqb, ne_eqb, MatchBool, ◌∙◌, Event, Push}
+use Rattle.wq_live.proofs.Common.{closed_word, draining_word, part_in, learns_step, IsPushed, PostsSlot}
 use Rattle.wq_words.specs.declared.answer.Posted.TheVariants.{Queued}
-use Rattle.wq_core.specs.Words.{closed_word, draining_word}
 use Rattle.wq_table.specs.Chair.{HasSeen}
-use Rattle.wq_table.specs.SlotChairs.{part_in}
-use Rattle.wq_table.proofs.Learns.{learns_step, learns_then}
-use Rattle.wq_live.specs.Answers.{IsPushed}
-use Rattle.wq_live.specs.Hands.{PostsSlot}
+use Rattle.wq_table.proofs.Learns.{learns_then}
 use Rattle.wq_live.proofs.Drained.{grows_longer, met_now}
 use Rattle.wq_live.proofs.SenderHands.{look_hand, link_hand, lost_hand, won_slot, posts_from, bring_from}
 use Rattle.wq_live.proofs.Tells.{tells_held, tells_then, tells_others, look_tells, link_tells, push_tells, Wins, Loses, sender_made}

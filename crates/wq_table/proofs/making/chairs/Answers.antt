@@ -1,11 +1,5 @@
-use Rattle.std.proofs.Common.{rules, arith, refl, ℕ, ◌≡◌, [], ◌∷◌, replicate, sym, ap, ◌∙◌, subst}
-use Rattle.std.specs.Arc.{arc_value}
-use Rattle.wq_words.specs.Numbers.{number_count}
-use Rattle.wq_core.specs.Words.{word_count}
-use Rattle.wq_table.specs.Law.{sender_part}
-use Rattle.wq_table.specs.Slots.{plain_view, telling, rest_values}
-use Rattle.wq_table.specs.SlotSteps.{ValueSat}
-use Rattle.wq_table.specs.SlotChairs.{value_senders, first_told, AreSized}
+use Rattle.wq_table.proofs.Common.{rules, arith, refl, ℕ, ◌≡◌, [], ◌∷◌, replicate, sym, ap, ◌∙◌, subst, arc_value, number_count, word_count}
+use Rattle.wq_table.proofs.Common.{sender_part, plain_view, telling, rest_values, ValueSat, value_senders, first_told, AreSized}
 use Rattle.wq_table.proofs.Opened.{offs_slots, opens_slots}
 use Rattle.wq_table.proofs.SlotMade.{cut_front, cut_others, next_sender}
 use Rattle.wq_table.proofs.making.chairs.Goals as goal

@@ -1,8 +1,4 @@
-use Rattle.std.proofs.Common.{◌≡◌, ◌-◌, [], map}
-use Rattle.std.specs.Arc.{arc_value}
-use Rattle.wq_table.specs.Law.{row}
-use Rattle.wq_table.specs.Slots.{telling}
-use Rattle.wq_table.specs.SlotChairs.{value_senders}
+use Rattle.wq_table.proofs.Common.{◌≡◌, ◌-◌, [], map, arc_value, row, telling, value_senders}
 use Rattle.wq_table.proofs.making.chairs.Given as goal
 
 abbrev pub invariant-loop-number : goal.invariant-loop-number

@@ -1,7 +1,4 @@
-use Rattle.std.proofs.Common.{rules, ◌≡◌, Some, None, arith}
-use Rattle.wq_words.specs.History.{running}
-use Rattle.wq_words.proofs.Running.{rests_from_running as runs_none}
-use Rattle.wq_words.proofs.Running.{runs_from_running as runs_some}
+use Rattle.wq_worker.proofs.Common.{rules, ◌≡◌, Some, None, arith, running, rests_from_running as runs_none, runs_from_running as runs_some}
 use Rattle.wq_worker.proofs.Draining.{left_idle, left_running}
 use Rattle.wq_worker.proofs.drained.left_of.Goals as goal
 

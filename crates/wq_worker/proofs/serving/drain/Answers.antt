@@ -1,6 +1,4 @@
-use Rattle.std.proofs.Common.{ℕ, ◌<◌, subst, arith}
-use Rattle.wq_words.specs.History.{IsClosed}
-use Rattle.wq_worker.specs.Rows.{RowBy, IsExecution}
+use Rattle.wq_worker.proofs.Common.{ℕ, ◌<◌, subst, arith, IsClosed, RowBy, IsExecution}
 use Rattle.wq_worker.proofs.Rows.{worker_on, shuts_same, resumes_same, resumes_legal, shuts_unclosed, resumes_open, resumes_unclosed, row_unclosed, ran_out}
 use Rattle.wq_worker.proofs.serving.drain.Goals as goal
 

@@ -1,6 +1,4 @@
-use Rattle.std.proofs.Common.{arith}
-use Rattle.wq_words.specs.Legal.{HasRunOut}
-use Rattle.wq_worker.specs.Rows.{none, more, IsExecution}
+use Rattle.wq_worker.proofs.Common.{arith, HasRunOut, none, more, IsExecution}
 use Rattle.wq_worker.proofs.Draining.{executes}
 use Rattle.wq_worker.proofs.Rows.{row_same}
 use Rattle.wq_worker.proofs.serving.run_out.Goals as goal

@@ -1,6 +1,4 @@
-use Rattle.wq_words.specs.History.{IsShut}
-use Rattle.wq_words.specs.Legal.{IsLegal}
-use Rattle.wq_worker.specs.Rows.{RowBy, IsExecution}
+use Rattle.wq_worker.proofs.Common.{IsShut, IsLegal, RowBy, IsExecution}
 use Rattle.wq_worker.proofs.serving.run_out.Given as goal
 
 abbrev pub invariant-loop-done : goal.invariant-loop-done

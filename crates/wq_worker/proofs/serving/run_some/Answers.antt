@@ -1,6 +1,5 @@
-use Rattle.std.proofs.Common.{refl, arith}
-use Rattle.wq_worker.specs.declared.ran.Ran.TheVariants.{Item, Barrier, Stop, Nothing, Owing}
-use Rattle.wq_worker.specs.Rows.{GoesOn, none, more, broken}
+use Rattle.wq_worker.proofs.Common.{refl, arith, Item, Barrier, Stop, Nothing, Owing, none, more}
+use Rattle.wq_worker.specs.Rows.{GoesOn, broken}
 use Rattle.wq_worker.proofs.Rows.{worker_on, row_same, row_open, row_unclosed}
 use Rattle.wq_worker.proofs.serving.run_some.Goals as goal
 use Rattle.wq_worker.proofs.serving.run_some.Goals.{in-Item, in-Barrier}

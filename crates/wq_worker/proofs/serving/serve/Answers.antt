@@ -1,6 +1,5 @@
-use Rattle.std.proofs.Common.{◌+◌}
-use Rattle.wq_worker.specs.declared.ran.Ran.TheVariants.{Item, Barrier, Nothing, Owing}
-use Rattle.wq_worker.specs.Rows.{IsNotStop, none, more}
+use Rattle.wq_worker.proofs.Common.{◌+◌, Item, Barrier, Nothing, Owing, none, more}
+use Rattle.wq_worker.specs.Rows.{IsNotStop}
 use Rattle.wq_worker.proofs.Rows.{worker_on, row_same}
 use Rattle.wq_worker.proofs.serving.serve.Goals as goal
 

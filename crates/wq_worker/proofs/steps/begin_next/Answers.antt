@@ -1,9 +1,5 @@
-use Rattle.std.proofs.Common.{rules, ◌≡◌, None, [], ◌∷◌, ◌++◌, arith}
-use Rattle.wq_words.specs.declared.event.Event.TheVariants.{Begin}
-use Rattle.wq_live.specs.Batch.{next_of}
-use Rattle.wq_live.specs.Pairs.{pair_owner, pair_sender}
+use Rattle.wq_worker.proofs.Common.{rules, ◌≡◌, None, [], ◌∷◌, ◌++◌, arith, Begin, next_of, pair_owner, pair_sender, taking}
 use Rattle.wq_live.proofs.Sends.{sees_on}
-use Rattle.wq_worker.specs.Seats.{taking}
 use Rattle.wq_worker.proofs.Owned.{stays, owner_grows}
 use Rattle.wq_worker.proofs.Pair.{by_owner}
 use Rattle.wq_worker.proofs.State.{quiet_taking}

@@ -1,5 +1,4 @@
-use Rattle.std.proofs.Common.{[], ◌∷◌}
-use Rattle.wq_words.specs.declared.event.Event.TheVariants.{End}
+use Rattle.wq_worker.proofs.Common.{[], ◌∷◌, End}
 use Rattle.wq_worker.proofs.Pair.{by_owner}
 use Rattle.wq_worker.proofs.steps.end_running.Goals as goal
 

@@ -1,10 +1,7 @@
-use Rattle.std.proofs.Common.{arith, sym, ◌∙◌, ◌≡◌, ◌<◌, Bool, List, ap, subst, true, false, cond, refl}
-use Rattle.wq_words.specs.declared.layout.Layout.{Layout}
-use Rattle.wq_words.specs.declared.event.Event.{Event}
-use Rattle.wq_words.specs.History.{shut}
+use Rattle.wq_worker.proofs.Common.{arith, sym, ◌∙◌, ◌≡◌, ◌<◌, Bool, List, ap, subst, true, false, cond, refl, Layout, Event, shut, Both}
 use Rattle.wq_words.specs.declared.answer.Answer.{Answer}
 use Rattle.wq_words.specs.declared.answer.Answer.TheVariants as answer
-use Rattle.wq_worker.specs.Pair.{Attempts, Both, settled}
+use Rattle.wq_worker.specs.Pair.{Attempts, settled}
 use Rattle.wq_worker.proofs.Follow.{told_chain, told_send}
 use Rattle.wq_worker.proofs.steps.queue_one.Goals as goal
 

@@ -1,7 +1,5 @@
-use Rattle.std.proofs.Common.{◌≡◌, ℕ, List, [], ◌∷◌, ◌+◌, get_or, drop, refl, sym, subst, arith}
-use Rattle.std.proofs.Math.ListN.{drop_of_length-le}
-use Rattle.wq_live.specs.Answers.{IsContended}
-use Rattle.wq_worker.specs.Pair.{QueuesRest}
+use Rattle.wq_worker.proofs.Common.{◌≡◌, ℕ, List, [], ◌∷◌, ◌+◌, drop, refl, sym, subst, arith, drop_of_length-le, IsContended, QueuesRest}
+use Rattle.std.proofs.Common.{get_or}
 use Rattle.wq_worker.proofs.Pair.{both_still}
 use Rattle.wq_worker.proofs.Follow.{Sofar, sofar_runs, one_more, was_contended, all_queued, next_left}
 use Rattle.wq_worker.proofs.steps.queue_rest.Goals as goal

@@ -1,9 +1,6 @@
-use Rattle.std.proofs.Common.{ℕ, Bool, true, false, List, slice_get, ap}
-use Rattle.wq_live.specs.Known.{Known, Sees}
+use Rattle.wq_worker.proofs.Common.{ℕ, Bool, true, false, List, slice_get, ap, Known, Sees, pair_owner, rest_events}
 use Rattle.wq_live.specs.Rest.{Rests}
-use Rattle.wq_live.specs.Pairs.{pair_owner}
 use Rattle.wq_live.proofs.Reading.{empty_from_next}
-use Rattle.wq_worker.specs.Resting.{rest_events}
 use Rattle.wq_worker.proofs.Pair.{by_owner}
 use Rattle.wq_worker.proofs.steps.rest.Goals as goal
 

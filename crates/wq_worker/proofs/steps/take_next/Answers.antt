@@ -1,5 +1,4 @@
-use Rattle.std.proofs.Common.{sym, ◌∙◌}
-use Rattle.wq_worker.specs.Seats.{taking}
+use Rattle.wq_worker.proofs.Common.{sym, ◌∙◌, taking}
 use Rattle.wq_worker.proofs.Pair.{by_owner}
 use Rattle.wq_worker.proofs.steps.take_next.Goals as goal
 

@@ -1,5 +1,4 @@
-use Rattle.std.proofs.Common.{sym, ◌∙◌}
-use Rattle.wq_words.proofs.Closed.{IsShut_from_shut}
+use Rattle.wq_worker.proofs.Common.{sym, ◌∙◌, IsShut_from_shut}
 use Rattle.wq_worker.proofs.Shut.{nothing_shut, nothing_taken}
 use Rattle.wq_worker.proofs.steps.take_where_empty.Goals as goal
 

@@ -1,6 +1,4 @@
-use Rattle.std.proofs.Common.{◌≡◌, ◌<◌, ◌≤◌, true, false, sym, ap, ◌∙◌, subst, arith}
-use Rattle.wq_words.specs.declared.layout.Layout.{Layout}
-use Rattle.wq_words.specs.History.{shut}
+use Rattle.wq_worker.proofs.Common.{◌≡◌, ◌<◌, ◌≤◌, true, false, sym, ap, ◌∙◌, subst, arith, Layout, shut}
 use Rattle.wq_worker.specs.declared.value_steps.Dealt.{Dealt}
 use Rattle.wq_worker.specs.Dealt.{BothDeal}
 use Rattle.wq_worker.proofs.Dealt.{dealt_passed, dealt_chain, dealt_send}

@@ -1,5 +1,4 @@
-use Rattle.std.proofs.Common.{[], ◌∷◌, ◌++◌, refl, sym, ap, ◌∙◌, subst}
-use Rattle.std.proofs.lemmas.List.{append-nil}
+use Rattle.wq_worker.proofs.Common.{[], ◌∷◌, ◌++◌, refl, sym, ap, ◌∙◌, subst, append-nil}
 use Rattle.wq_worker.specs.Returned.{none, one}
 use Rattle.wq_worker.proofs.Settling.{dealt_none, dealt_runs, dealt_more, dealt_all, dealt_owed}
 use Rattle.wq_worker.proofs.value_steps.queue_pairs.Goals as goal

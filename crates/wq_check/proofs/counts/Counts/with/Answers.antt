@@ -1,9 +1,8 @@
-use Rattle.std.proofs.Common.{◌≡◌, ◌+◌, ◌++◌, ◌∷◌, [], cond, max, length, is_some, refl, sym, ap, ◌∙◌}
-use Rattle.wq_words.specs.History.{accepted_by, accepted, ended_by, ended}
+use Rattle.wq_check.proofs.Common.{◌≡◌, ◌+◌, ◌++◌, ◌∷◌, [], cond, max, length, is_some, refl, sym, ap, ◌∙◌, accepted, ended, count_by_push, unbegun}
+use Rattle.wq_words.specs.History.{accepted_by, ended_by}
 use Rattle.wq_words.specs.Counting.{is_chain, is_busy, is_refusal}
-use Rattle.wq_words.proofs.Growing.{count_by_push}
 use Rattle.std.specs.List.{count_by}
-use Rattle.wq_check.specs.Left.{unbegun, most_waiting}
+use Rattle.wq_check.specs.Left.{most_waiting}
 use Rattle.wq_check.specs.Report.{stopped}
 use Rattle.wq_check.proofs.Lists.{largest_up_to-push}
 use Rattle.wq_check.proofs.Counted.{length_push, mapped_push}

@@ -1,5 +1,4 @@
-use Rattle.std.proofs.Common.{◌∙◌, sym, refl}
-use Rattle.std.proofs.lemmas.Bool.{false≢true}
+use Rattle.wq_check.proofs.Common.{◌∙◌, sym, refl, false≢true}
 use Rattle.wq_check.proofs.Standing.{waiting-waits, idle-rests, next_is, first_of}
 use Rattle.wq_check.proofs.queue.Queue.begin_cause.Goals as goal
 

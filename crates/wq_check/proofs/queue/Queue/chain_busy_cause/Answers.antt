@@ -1,5 +1,4 @@
-use Rattle.std.proofs.Common.{refl}
-use Rattle.std.proofs.lemmas.Bool.{false≢true}
+use Rattle.wq_check.proofs.Common.{refl, false≢true}
 use Rattle.wq_check.proofs.Standing.{is-shut, not-shut, runs_not, runs_one}
 use Rattle.wq_check.proofs.queue.Queue.chain_busy_cause.Goals as goal
 

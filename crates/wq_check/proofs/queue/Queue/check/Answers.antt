@@ -1,5 +1,4 @@
-use Rattle.std.proofs.Common.{refl}
-use Rattle.std.proofs.Common.{subst}
+use Rattle.wq_check.proofs.Common.{refl, subst}
 use Rattle.wq_words.specs.Legal.{HasSeat, HasNumber}
 use Rattle.wq_check.proofs.Standing.{refuses}
 use Rattle.wq_check.proofs.queue.Queue.check.Goals as goal

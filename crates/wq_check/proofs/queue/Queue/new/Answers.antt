@@ -1,7 +1,5 @@
-use Rattle.std.proofs.Common.{◌≡◌}
-use Rattle.std.proofs.Common.{rules, replicate, []}
-use Rattle.wq_words.specs.Numbers.{number_count}
-use Rattle.wq_check.specs.declared.queue.Place.TheVariants.{Idle}
+use Rattle.wq_check.proofs.Common.{◌≡◌, replicate, [], number_count, Idle}
+use Rattle.std.proofs.Common.{rules}
 use Rattle.wq_check.proofs.Following.{told_opening}
 use Rattle.wq_check.proofs.queue.Queue.new.Goals as goal
 

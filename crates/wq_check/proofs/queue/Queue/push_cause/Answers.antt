@@ -1,5 +1,4 @@
-use Rattle.std.proofs.Common.{refl}
-use Rattle.std.proofs.lemmas.Bool.{false≢true}
+use Rattle.wq_check.proofs.Common.{refl, false≢true}
 use Rattle.wq_check.proofs.Standing.{push_too}
 use Rattle.wq_check.proofs.queue.Queue.push_cause.Goals as goal
 

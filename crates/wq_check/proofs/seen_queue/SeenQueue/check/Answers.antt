@@ -1,6 +1,4 @@
-use Rattle.std.proofs.Common.{arith}
-use Rattle.std.proofs.Common.{subst, ◌<◌}
-use Rattle.wq_check.specs.Trace.{number_of}
+use Rattle.wq_check.proofs.Common.{arith, subst, ◌<◌, number_of}
 use Rattle.wq_check.proofs.Looking.{refuses_mark}
 use Rattle.wq_check.proofs.seen_queue.SeenQueue.check.Goals as goal
 

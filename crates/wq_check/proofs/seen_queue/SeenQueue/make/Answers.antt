@@ -1,6 +1,5 @@
-use Rattle.std.proofs.Common.{◌≡◌, refl, arith, get_or}
+use Rattle.wq_check.proofs.Common.{◌≡◌, refl, arith, get_or, Queue, Start, End}
 use Rattle.std.proofs.lemmas.List.{get_or_read}
-use Rattle.wq_check.specs.declared.mark.Mark.TheVariants.{Queue, Start, End}
 use Rattle.wq_check.proofs.FollowingMarks.{mark_kept, mark_on, finds_place, stands_first, times_small}
 use Rattle.wq_check.proofs.seen_queue.SeenQueue.make.Goals as goal
 

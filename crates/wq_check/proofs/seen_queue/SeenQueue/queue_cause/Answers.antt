@@ -1,5 +1,4 @@
-use Rattle.std.proofs.Common.{◌≡◌, ℕ, ◌≤◌, ◌∙◌, sym, refl, arith}
-use Rattle.std.proofs.lemmas.Bool.{false≢true}
+use Rattle.wq_check.proofs.Common.{◌≡◌, ℕ, ◌≤◌, ◌∙◌, sym, refl, arith, false≢true}
 use Rattle.wq_check.proofs.Looking.{queue_none, queue_next, queue_again, queue_twice}
 use Rattle.wq_check.proofs.seen_queue.SeenQueue.queue_cause.Goals as goal
 

@@ -1,7 +1,4 @@
-use Rattle.std.proofs.Common.{sym, refl, ◌∙◌}
-use Rattle.std.proofs.lemmas.Bool.{false≢true}
-use Rattle.wq_words.proofs.Closed.{closed_shuts}
-use Rattle.wq_live.specs.Sits.{owning}
+use Rattle.wq_live.proofs.Common.{sym, refl, ◌∙◌, false≢true, closed_shuts, owning}
 use Rattle.wq_live.proofs.Final.{final, owner_complete, owner_rested, owner_finished, closed_known, owner_all}
 use Rattle.wq_live.proofs.owner.Owner.done.Goals as goal
 use Rattle.wq_live.proofs.owner.Owner.done.Goals.{then-not-is_closed-via-then-not-is_closed}

@@ -1,8 +1,4 @@
-use Rattle.std.proofs.Common.{[], ◌∷◌, ap, ◌∙◌, subst}
-use Rattle.wq_words.specs.declared.event.Event.TheVariants.{End}
-use Rattle.wq_words.specs.History.{running}
-use Rattle.wq_live.specs.Known.{Known, Sees}
-use Rattle.wq_live.specs.Sits.{owning, owner_view}
+use Rattle.wq_live.proofs.Common.{[], ◌∷◌, ap, ◌∙◌, subst, End, running, Known, Sees, owning, owner_view}
 use Rattle.wq_live.proofs.ValueSeats.{owner_alone}
 use Rattle.wq_live.proofs.owner.Owner.end.Goals as goal
 

@@ -1,7 +1,4 @@
-use Rattle.std.proofs.Common.{subst}
-use Rattle.wq_words.specs.declared.layout.Layout.{Layout}
-use Rattle.wq_words.specs.Legal.{IsLegal}
-use Rattle.wq_live.specs.Known.{Known}
+use Rattle.wq_live.proofs.Common.{subst, Layout, IsLegal, Known}
 use Rattle.wq_live.proofs.OwnerTells.{stands_legal}
 use Rattle.wq_live.proofs.owner.Owner.layout.Goals as goal
 

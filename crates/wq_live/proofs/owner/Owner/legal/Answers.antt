@@ -1,9 +1,4 @@
-use Rattle.std.proofs.Common.{subst}
-use Rattle.wq_words.specs.declared.layout.Layout.{Layout}
-use Rattle.wq_words.specs.Legal.{IsLegal}
-use Rattle.wq_words.specs.Headline.{KeepsHeadline}
-use Rattle.wq_words.proofs.Headlines.{keeps_headline}
-use Rattle.wq_live.specs.Known.{Known}
+use Rattle.wq_live.proofs.Common.{subst, Layout, IsLegal, KeepsHeadline, keeps_headline, Known}
 use Rattle.wq_live.proofs.OwnerTells.{stands_legal}
 use Rattle.wq_live.proofs.owner.Owner.legal.Goals as goal
 

@@ -1,13 +1,6 @@
-use Rattle.std.proofs.Common.{◌≢◌, ◌<◌, ℕ, List, [], ◌∷◌, length, Some, slice_get, ap, sym, refl, ◌∙◌, subst, arith}
-use Rattle.wq_words.specs.declared.event.Event.TheVariants.{Begin}
-use Rattle.wq_words.specs.History.{IsRunning}
-use Rattle.wq_words.proofs.Running.{runs_from_running}
-use Rattle.wq_table.specs.SlotChairs.{standing_of}
-use Rattle.wq_table.proofs.Beside.{beside_queue}
-use Rattle.wq_table.proofs.Learns.{learns_follow, or_then}
-use Rattle.wq_live.specs.Hands.{OwnsSlots}
-use Rattle.wq_live.specs.Sits.{owning, owner_view}
-use Rattle.wq_live.specs.Sits.{kept_batch}
+use Rattle.wq_live.proofs.Common.{◌≢◌, ◌<◌, ℕ, List, [], ◌∷◌, length, Some, slice_get, ap, sym, refl, ◌∙◌, subst, arith, Begin, IsRunning}
+use Rattle.wq_live.proofs.Common.{runs_from_running, standing_of, beside_queue, learns_follow, OwnsSlots, owning, owner_view, kept_batch}
+use Rattle.wq_table.proofs.Learns.{or_then}
 use Rattle.wq_live.proofs.Tells.{Tells}
 use Rattle.wq_live.proofs.Owned.{running_begun, counts_quiet, rests_on}
 use Rattle.wq_live.proofs.Phases.{phase_quiet}

@@ -1,12 +1,4 @@
-use Rattle.std.proofs.Common.{ℕ, ap, subst}
-use Rattle.wq_table.specs.declared.values.ValuePart.{ValuePart}
-use Rattle.wq_table.proofs.Learns.{learns_more}
-use Rattle.wq_live.specs.Batch.{next_of}
-use Rattle.wq_live.specs.Sits.{owning, kept_batch}
-use Rattle.wq_live.specs.Hands.{OwnsSlots}
-use Rattle.wq_words.specs.Valued.{Carries}
-use Rattle.std.proofs.Common.{◌≡◌, Some}
-use mathlib.Core.List.{IsPrefix}
+use Rattle.wq_live.proofs.Common.{ℕ, ap, subst, ValuePart, learns_more, next_of, owning, kept_batch, OwnsSlots, Carries, ◌≡◌, Some, IsPrefix}
 use Rattle.wq_live.proofs.ValueHands.{front_waits, front_begins, front_slot, emptied_value, emptied_kind}
 use Rattle.wq_live.proofs.owner_seat.OwnerSeat.begin_value.Goals as goal
 

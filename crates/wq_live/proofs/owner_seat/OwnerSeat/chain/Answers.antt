@@ -1,12 +1,6 @@
-use Rattle.std.proofs.Common.{◌≡◌, ◌≢◌, [], ◌∷◌, sym, subst, refl, ◌∙◌, arith}
-use Rattle.std.proofs.lemmas.List.{append-nil}
-use Rattle.wq_words.specs.declared.event.Event.TheVariants.{Chain, ChainBusy}
-use Rattle.wq_table.specs.SlotChairs.{standing_of}
-use Rattle.wq_table.proofs.Beside.{beside_queue}
-use Rattle.wq_table.proofs.Learns.{learns_follow, learns_step, step_or}
-use Rattle.wq_live.specs.declared.row.Row.{Row}
-use Rattle.wq_live.specs.Batch.{batch}
-use Rattle.wq_live.specs.Sits.{owning, owner_view, HasBoth, kept_batch}
+use Rattle.wq_live.proofs.Common.{◌≡◌, ◌≢◌, [], ◌∷◌, sym, subst, refl, ◌∙◌, arith, append-nil, ChainBusy, standing_of, beside_queue, learns_follow}
+use Rattle.wq_live.proofs.Common.{learns_step, step_or, Row, batch, owning, owner_view, HasBoth, kept_batch}
+use Rattle.wq_words.specs.declared.event.Event.TheVariants.{Chain}
 use Rattle.wq_live.proofs.Resting.{closed_stays, unclosed_stays, shut_stays, quiet_runs}
 use Rattle.wq_live.proofs.OwnerTells.{makes_stands}
 use Rattle.wq_live.proofs.OwnerHands.{seat_slots, bare_slots}

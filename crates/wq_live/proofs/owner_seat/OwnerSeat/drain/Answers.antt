@@ -1,12 +1,6 @@
-use Rattle.std.proofs.Common.{◌≡◌, ◌+◌, ◌-◌, [], ◌∷◌, sym, refl, arith}
-use Rattle.wq_words.specs.declared.event.Event.TheVariants.{Drain}
-use Rattle.wq_words.proofs.Closed.{closed_shuts}
+use Rattle.wq_live.proofs.Common.{◌≡◌, ◌+◌, ◌-◌, [], ◌∷◌, sym, refl, arith, Drain, closed_shuts, draining_word, standing_of, beside_queue}
+use Rattle.wq_live.proofs.Common.{learns_follow, step_or, owning, owner_view}
 use Rattle.wq_core.specs.declared.step.Step.TheVariants as step
-use Rattle.wq_core.specs.Words.{draining_word}
-use Rattle.wq_table.specs.SlotChairs.{standing_of}
-use Rattle.wq_table.proofs.Beside.{beside_queue}
-use Rattle.wq_table.proofs.Learns.{learns_follow, step_or}
-use Rattle.wq_live.specs.Sits.{owning, owner_view}
 use Rattle.wq_live.specs.declared.owner_seat.Phase.TheVariants as phase
 use Rattle.wq_live.proofs.OwnerTells.{makes_stands, drain_swaps}
 use Rattle.wq_live.proofs.Phases.{phase_draining, draining_then}

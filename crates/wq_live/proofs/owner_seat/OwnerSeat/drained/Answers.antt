@@ -1,6 +1,4 @@
-use Rattle.std.proofs.Common.{◌≡◌, Bool, true, false, not, IsTrue, refl, ap, ◌∙◌}
-use Rattle.std.proofs.lemmas.Bool.{false≢true}
-use Rattle.wq_live.specs.Sits.{owning, owner_view}
+use Rattle.wq_live.proofs.Common.{◌≡◌, Bool, true, false, not, IsTrue, refl, ap, ◌∙◌, false≢true, owning, owner_view}
 use Rattle.wq_live.proofs.Final.{owner_ended, owner_rested, owner_finished, owner_empty, owner_quiet, owner_all}
 use Rattle.wq_live.proofs.owner_seat.OwnerSeat.drained.Goals as goal
 

@@ -1,15 +1,9 @@
-use Rattle.std.proofs.Common.{◌≡◌, ℕ, [], ◌∷◌, Some, None, sym, refl, ◌∙◌}
-use Rattle.wq_words.specs.declared.event.Event.TheVariants.{End}
-use Rattle.wq_words.specs.History.{IsRunning, running}
-use Rattle.wq_words.proofs.Running.{runs_some, rests_from_running}
-use Rattle.wq_table.proofs.Learns.{learns_step}
-use Rattle.wq_live.specs.Known.{Sees}
-use Rattle.wq_live.specs.declared.owner_seat.OwnerSeat.{OwnerSeat}
+use Rattle.wq_live.proofs.Common.{◌≡◌, ℕ, [], ◌∷◌, Some, None, sym, refl, ◌∙◌, End, IsRunning, running, runs_some, rests_from_running, learns_step}
+use Rattle.wq_live.proofs.Common.{Sees, OwnerSeat, owning, kept_batch, owner_view, OwnsQueue}
 use Rattle.wq_live.proofs.Tells.{Tells}
 use Rattle.wq_live.proofs.Owned.{running_ended, counts_ended}
 use Rattle.wq_live.proofs.Phases.{phase_quiet}
 use Rattle.wq_core.specs.declared.step.Step.TheVariants as step
-use Rattle.wq_live.specs.Sits.{owning, kept_batch, owner_view, OwnsQueue}
 use Rattle.wq_live.proofs.Linking.{has_row_after}
 use Rattle.wq_live.proofs.Resting.{closed_stays, unclosed_stays, shut_stays, open_stays}
 use Rattle.wq_live.proofs.OwnerTells.{makes_stands, stands_batch, owner_batch, pair_owner, end_tells, end_stage, owner_runs, owner_grows, owner_sees}

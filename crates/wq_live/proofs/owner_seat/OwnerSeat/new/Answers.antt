@@ -1,11 +1,5 @@
-use Rattle.std.proofs.Common.{refl, sym, ap, ◌∙◌, subst}
-use Rattle.atomic_table.specs.Seated.{TableId}
+use Rattle.wq_live.proofs.Common.{refl, sym, ap, ◌∙◌, subst, TableId, ValueStanding, standing_of, Owning, kept_batch, Open, None, OwnsSlots}
 use Rattle.wq_table.specs.Chair.{owner_chair}
-use Rattle.wq_table.specs.SlotChairs.{ValueStanding, standing_of}
-use Rattle.wq_live.specs.Sits.{Owning, kept_batch}
-use Rattle.wq_live.specs.declared.owner_seat.Phase.TheVariants.{Open}
-use Rattle.std.proofs.Common.{None}
-use Rattle.wq_live.specs.Hands.{OwnsSlots}
 use Rattle.wq_live.proofs.Built.{executes_new}
 use Rattle.wq_live.proofs.owner_seat.OwnerSeat.new.Goals as goal
 

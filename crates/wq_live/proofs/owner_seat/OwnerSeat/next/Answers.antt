@@ -1,6 +1,4 @@
-use Rattle.std.proofs.Common.{refl, ◌≡◌, ℕ, List, [], slice_get, ap, sym, ◌∙◌, arith}
-use Rattle.wq_live.specs.Sits.{owning, owner_view}
-use Rattle.wq_live.specs.Sits.{kept_batch}
+use Rattle.wq_live.proofs.Common.{refl, ◌≡◌, ℕ, List, [], slice_get, ap, sym, ◌∙◌, arith, owning, owner_view, kept_batch}
 use Rattle.wq_live.proofs.Rows.{none_counted}
 use Rattle.wq_live.proofs.Hanging.{first_of_row}
 use Rattle.wq_live.proofs.OwnerTells.{owner_batch}

@@ -1,10 +1,4 @@
-use Rattle.std.proofs.Common.{◌==◌, refl, sym, ◌∙◌}
-use Rattle.wq_words.proofs.Closed.{closed_shuts}
-use Rattle.wq_words.specs.Head.{busy_word}
-use Rattle.wq_table.specs.SlotChairs.{standing_of}
-use Rattle.wq_table.proofs.Learns.{learns_step}
-use Rattle.wq_live.specs.Sits.{owning, owner_view}
-use Rattle.wq_live.specs.Sits.{kept_batch}
+use Rattle.wq_live.proofs.Common.{◌==◌, refl, sym, ◌∙◌, closed_shuts, busy_word, standing_of, learns_step, owning, owner_view, kept_batch}
 use Rattle.wq_live.proofs.OwnerTells.{owner_batch, none_of}
 use Rattle.wq_live.proofs.Rest.{rest_owns, rest_sees, rest_rested, rest_refused, rest_empty, rests_same, rests_idle, rests_open, rests_unclosed}
 use Rattle.wq_live.proofs.OwnerHands.{same_hand, rest_slots}

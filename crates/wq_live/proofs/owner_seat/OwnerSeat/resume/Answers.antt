@@ -1,10 +1,5 @@
-use Rattle.std.proofs.Common.{[], ◌∷◌, refl, sym, ◌∙◌}
+use Rattle.wq_live.proofs.Common.{[], ◌∷◌, refl, sym, ◌∙◌, closed_shuts, standing_of, learns_step, Open, owning, owner_view, kept_batch}
 use Rattle.wq_words.specs.declared.event.Event.TheVariants.{Resume}
-use Rattle.wq_words.proofs.Closed.{closed_shuts}
-use Rattle.wq_table.specs.SlotChairs.{standing_of}
-use Rattle.wq_table.proofs.Learns.{learns_step}
-use Rattle.wq_live.specs.declared.owner_seat.Phase.TheVariants.{Open}
-use Rattle.wq_live.specs.Sits.{owning, owner_view, kept_batch}
 use Rattle.wq_live.proofs.OwnerTells.{owner_batch, none_of}
 use Rattle.wq_live.proofs.Resting.{quiet_idle}
 use Rattle.wq_live.proofs.Resuming.{resume_owns, resume_sees, resume_opens, resume_empty}

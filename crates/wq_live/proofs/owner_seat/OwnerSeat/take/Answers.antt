@@ -1,12 +1,6 @@
-use Rattle.std.proofs.Common.{◌≡◌, ℕ, ◌+◌, [], ◌∷◌, length, ap, sym, refl, ◌∙◌, arith, List}
-use Rattle.wq_words.specs.declared.event.Event.TheVariants.{Take}
-use Rattle.wq_words.specs.Head.{busy_word}
-use Rattle.wq_words.proofs.Closed.{closed_shuts}
+use Rattle.wq_live.proofs.Common.{◌≡◌, ℕ, ◌+◌, [], ◌∷◌, length, ap, sym, refl, ◌∙◌, arith, List, Take, busy_word, closed_shuts, standing_of}
+use Rattle.wq_live.proofs.Common.{beside_queue, learns_follow, step_or, owning, owner_view, kept_batch}
 use Rattle.wq_core.specs.declared.step.Step.TheVariants as step
-use Rattle.wq_table.specs.SlotChairs.{standing_of}
-use Rattle.wq_table.proofs.Beside.{beside_queue}
-use Rattle.wq_table.proofs.Learns.{learns_follow, step_or}
-use Rattle.wq_live.specs.Sits.{owning, owner_view, kept_batch}
 use Rattle.wq_live.proofs.OwnerTells.{makes_stands, owner_batch, none_of, take_swaps}
 use Rattle.wq_live.proofs.Phases.{phase_quiet}
 use Rattle.wq_live.proofs.Resting.{quiet_idle, quiet_runs, open_stays, unclosed_stays}

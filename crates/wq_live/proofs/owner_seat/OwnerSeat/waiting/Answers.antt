@@ -1,7 +1,4 @@
-use Rattle.std.proofs.Common.{refl, ℕ, List, ◌≡◌, length, ap, arith}
-use Rattle.wq_words.specs.Numbers.{number_count}
-use Rattle.wq_live.specs.Sits.{owning, owner_view}
-use Rattle.wq_live.specs.Sits.{kept_batch}
+use Rattle.wq_live.proofs.Common.{refl, ℕ, List, ◌≡◌, length, ap, arith, number_count, owning, owner_view, kept_batch}
 use Rattle.wq_live.proofs.Waiting.{stands_rested}
 use Rattle.wq_live.proofs.OwnerTells.{owner_batch}
 use Rattle.wq_live.proofs.owner_seat.OwnerSeat.waiting.Goals as goal

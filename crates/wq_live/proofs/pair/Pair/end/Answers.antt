@@ -1,9 +1,4 @@
-use Rattle.std.proofs.Common.{[], ◌∷◌, ap, ◌∙◌, subst}
-use Rattle.wq_words.specs.declared.event.Event.TheVariants.{End}
-use Rattle.wq_words.specs.History.{running}
-use Rattle.wq_live.specs.Known.{Sees}
-use Rattle.wq_live.specs.Sits.{owning, owner_view}
-use Rattle.wq_live.specs.Pairs.{KnownPair, pair_owner}
+use Rattle.wq_live.proofs.Common.{[], ◌∷◌, ap, ◌∙◌, subst, End, running, Sees, owning, owner_view, KnownPair, pair_owner}
 use Rattle.wq_live.proofs.Paired.{sender_sees}
 use Rattle.wq_live.proofs.PlainPaired.{pair_acts}
 use Rattle.wq_live.proofs.pair.Pair.end.Goals as goal

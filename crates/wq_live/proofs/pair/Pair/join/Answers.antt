@@ -1,5 +1,4 @@
-use Rattle.std.proofs.Common.{ap, ◌∙◌}
-use Rattle.atomic_table.specs.Seated.{TableId}
+use Rattle.wq_live.proofs.Common.{ap, ◌∙◌, TableId}
 use Rattle.wq_live.proofs.Paired.{joins, owner_joins, sender_joins, low_joins}
 use Rattle.wq_live.proofs.pair.Pair.join.Goals as goal
 

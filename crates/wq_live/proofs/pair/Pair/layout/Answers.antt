@@ -1,7 +1,4 @@
-use Rattle.std.proofs.Common.{subst}
-use Rattle.wq_words.specs.declared.layout.Layout.{Layout}
-use Rattle.wq_words.specs.Legal.{IsLegal}
-use Rattle.wq_live.specs.Pairs.{KnownPair}
+use Rattle.wq_live.proofs.Common.{subst, Layout, IsLegal, KnownPair}
 use Rattle.wq_live.proofs.OwnerTells.{stands_legal}
 use Rattle.wq_live.proofs.pair.Pair.layout.Goals as goal
 

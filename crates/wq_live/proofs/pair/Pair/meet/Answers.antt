@@ -1,9 +1,4 @@
-use Rattle.std.proofs.Common.{ap, sym, ◌∙◌}
-use Rattle.wq_table.specs.SlotChairs.{ValueStanding}
-use Rattle.wq_table.proofs.Learns.{learns_meet}
-use Rattle.wq_live.specs.declared.bare.Bare.{Bare}
-use Rattle.wq_live.specs.Sits.{sending_in, owning}
-use Rattle.wq_live.specs.Pairs.{pair_owner}
+use Rattle.wq_live.proofs.Common.{ap, sym, ◌∙◌, ValueStanding, learns_meet, Bare, sending_in, owning, pair_owner}
 use Rattle.wq_live.proofs.Meeting.{meet_owner_layout}
 use Rattle.wq_live.proofs.SenderAlone.{sender_met, sender_met_sees}
 use Rattle.wq_live.proofs.Paired.{seats_meet, owner_meets, sender_meets}

@@ -1,7 +1,4 @@
-use Rattle.std.proofs.Common.{◌≡◌, List, ap, ◌∙◌, subst}
-use Rattle.wq_words.specs.declared.event.Event.{Event}
-use Rattle.wq_live.specs.Pairs.{KnownPair}
-use Rattle.wq_live.specs.Counts.{sender_counts}
+use Rattle.wq_live.proofs.Common.{◌≡◌, List, ap, ◌∙◌, subst, Event, KnownPair, sender_counts}
 use Rattle.wq_live.proofs.pair.Pair.sender_counts.Goals as goal
 
 pub returns : goal.returns

@@ -1,6 +1,4 @@
-use Rattle.std.proofs.Common.{subst, ◌≡◌}
-use Rattle.wq_live.specs.Known.{Known}
-use Rattle.wq_live.specs.Counts.{sender_counts}
+use Rattle.wq_live.proofs.Common.{subst, ◌≡◌, Known, sender_counts}
 use Rattle.wq_live.proofs.sender.Sender.counts.Goals as goal
 
 pub returns : goal.returns

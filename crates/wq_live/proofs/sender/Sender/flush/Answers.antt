@@ -1,8 +1,4 @@
-use Rattle.std.proofs.Common.{arith, ◌≡◌, ◌∙◌, ℕ, [], ◌∷◌, ap, subst}
-use Rattle.wq_words.specs.Numbers.{barrier_number}
-use Rattle.wq_words.specs.declared.event.Event.TheVariants.{Hold, Push}
-use Rattle.wq_live.specs.Known.{Known, Sees}
-use Rattle.wq_live.specs.Answers.{IsPushed}
+use Rattle.wq_live.proofs.Common.{arith, ◌≡◌, ◌∙◌, ℕ, [], ◌∷◌, ap, subst, barrier_number, Hold, Push, Known, Sees, IsPushed}
 use Rattle.wq_live.proofs.Sends.{sees_on, queued_on}
 use Rattle.wq_live.proofs.sender.Sender.flush.Goals as goal
 

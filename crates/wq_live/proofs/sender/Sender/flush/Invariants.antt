@@ -1,5 +1,4 @@
-use Rattle.std.proofs.Common.{[]}
-use Rattle.wq_live.specs.Known.{Sees}
+use Rattle.wq_live.proofs.Common.{[], Sees}
 use Rattle.wq_live.proofs.sender.Sender.flush.Given as goal
 
 abbrev pub invariant-loop : goal.invariant-loop

@@ -1,7 +1,4 @@
-use Rattle.std.proofs.Common.{◌≡◌, ℕ, refl, not, Bool, true, false, ap, sym, ◌∙◌}
-use Rattle.wq_words.specs.Numbers.{barrier_number}
-use Rattle.wq_words.specs.History.{pending}
-use Rattle.wq_live.specs.Known.{Known}
+use Rattle.wq_live.proofs.Common.{◌≡◌, ℕ, refl, not, Bool, true, false, ap, sym, ◌∙◌, barrier_number, pending, Known}
 use Rattle.wq_live.proofs.Flushed.{flushed}
 use Rattle.wq_live.proofs.sender.Sender.flush_done.Goals as goal
 

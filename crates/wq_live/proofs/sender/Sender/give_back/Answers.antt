@@ -1,8 +1,5 @@
-use Rattle.std.proofs.Common.{refl, [], ◌∷◌}
-use Rattle.wq_words.specs.declared.event.Event.TheVariants.{Back}
+use Rattle.wq_live.proofs.Common.{refl, [], ◌∷◌, Back, learns_step, sending_in}
 use Rattle.wq_words.specs.declared.event.Why.TheVariants.{Cancelled}
-use Rattle.wq_table.proofs.Learns.{learns_step}
-use Rattle.wq_live.specs.Sits.{sending_in}
 use Rattle.wq_live.proofs.SenderAlone.{sender_alone}
 use Rattle.wq_live.proofs.Counting.{counts_cancelled}
 use Rattle.wq_live.proofs.Tells.{Tells, back_tells, sender_made}

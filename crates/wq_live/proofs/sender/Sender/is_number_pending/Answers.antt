@@ -1,9 +1,5 @@
-use Rattle.std.proofs.Common.{refl, ◌≡◌, ◌<◌, not, Bool, true, false, [], ap, sym, subst, ◌∙◌}
-use Rattle.wq_words.specs.declared.layout.Layout.{Layout}
-use Rattle.wq_words.specs.Numbers.{number_count}
-use Rattle.wq_live.specs.Known.{Known}
-use Rattle.wq_table.proofs.Learns.{learns_step}
-use Rattle.wq_live.specs.Sits.{sending_in}
+use Rattle.wq_live.proofs.Common.{refl, ◌≡◌, ◌<◌, not, Bool, true, false, [], ap, sym, subst, ◌∙◌, Layout, number_count, Known, learns_step}
+use Rattle.wq_live.proofs.Common.{sending_in}
 use Rattle.wq_live.proofs.SenderAlone.{sender_alone}
 use Rattle.wq_live.proofs.Counting.{counts_none}
 use Rattle.wq_live.proofs.Tells.{Tells, check_tells, sender_made}

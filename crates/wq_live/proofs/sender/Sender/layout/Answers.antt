@@ -1,6 +1,4 @@
-use Rattle.std.proofs.Common.{subst}
-use Rattle.wq_words.specs.Legal.{IsLegal}
-use Rattle.wq_live.specs.Known.{Known}
+use Rattle.wq_live.proofs.Common.{subst, IsLegal, Known}
 use Rattle.wq_live.proofs.sender.Sender.layout.Goals as goal
 
 pub returns-clause-legal : goal.returns-clause-legal

@@ -1,9 +1,4 @@
-use Rattle.std.proofs.Common.{subst}
-use Rattle.wq_words.specs.Legal.{IsLegal}
-use Rattle.wq_words.specs.Headline.{KeepsHeadline}
-use Rattle.wq_words.proofs.Headlines.{keeps_headline}
-use Rattle.wq_live.specs.Known.{Known}
-use Rattle.wq_live.specs.Sits.{sending_in}
+use Rattle.wq_live.proofs.Common.{subst, IsLegal, KeepsHeadline, keeps_headline, Known, sending_in}
 use Rattle.wq_live.proofs.sender.Sender.legal.Goals as goal
 
 pub returns-clause-legal : goal.returns-clause-legal

@@ -1,7 +1,4 @@
-use Rattle.std.proofs.Common.{ap, sym, ◌∙◌}
-use Rattle.wq_table.specs.SlotChairs.{ValueStanding}
-use Rattle.wq_live.specs.declared.bare.Bare.{Bare}
-use Rattle.wq_live.specs.Sits.{sending_in}
+use Rattle.wq_live.proofs.Common.{ap, sym, ◌∙◌, ValueStanding, Bare, sending_in}
 use Rattle.wq_live.proofs.SenderAlone.{sender_met, sender_met_sees}
 use Rattle.wq_live.proofs.Sends.{meet_layout}
 use Rattle.wq_live.proofs.sender.Sender.meet.Goals as goal

@@ -1,8 +1,4 @@
-use Rattle.std.proofs.Common.{[], ap, sym, ◌∙◌}
-use Rattle.wq_table.specs.SlotChairs.{ValueStanding}
-use Rattle.wq_live.specs.declared.bare.Bare.{Bare}
-use Rattle.wq_live.specs.Sits.{sending_in, owning}
-use Rattle.wq_live.specs.Known.{Known}
+use Rattle.wq_live.proofs.Common.{[], ap, sym, ◌∙◌, ValueStanding, Bare, sending_in, owning, Known}
 use Rattle.wq_live.proofs.SenderAlone.{sender_met, sender_met_sees, owner_met, owner_met_sees}
 use Rattle.wq_live.proofs.Resting.{complete_stays}
 use Rattle.wq_live.proofs.Meeting.{meet_owner_layout, meet_low}

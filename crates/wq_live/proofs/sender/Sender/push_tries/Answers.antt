@@ -1,9 +1,5 @@
-use Rattle.std.proofs.Common.{[], subst, ◌∙◌}
+use Rattle.wq_live.proofs.Common.{[], subst, ◌∙◌, learns_on, Posts, Known, Sees, sending_in, sender_view}
 use Rattle.wq_words.specs.declared.answer.Posted.TheVariants.{Closed}
-use Rattle.wq_table.proofs.Learns.{learns_on}
-use Rattle.wq_live.specs.Answers.{Posts}
-use Rattle.wq_live.specs.Known.{Known, Sees}
-use Rattle.wq_live.specs.Sits.{sending_in, sender_view}
 use Rattle.wq_live.proofs.SenderAlone.{posted_bare, sender_alone}
 use Rattle.wq_live.proofs.Sends.{sees_held}
 use Rattle.wq_live.proofs.Settled.{closed_settled}

@@ -1,9 +1,4 @@
-use Rattle.std.proofs.Common.{◌≡◌, length, subst, sym, refl, ◌∙◌}
-use Rattle.wq_words.specs.History.{accepted}
-use Rattle.wq_live.specs.KnownWith.{KnownWith}
-use Rattle.std.proofs.lemmas.Bool.{false≢true}
-use Rattle.wq_words.proofs.Closed.{closed_shuts}
-use Rattle.wq_live.specs.Sits.{owning}
+use Rattle.wq_live.proofs.Common.{◌≡◌, length, subst, sym, refl, ◌∙◌, accepted, KnownWith, false≢true, closed_shuts, owning}
 use Rattle.wq_live.proofs.Final.{final, owner_complete, owner_rested, owner_finished, closed_known, owner_all}
 use Rattle.wq_live.proofs.ValueSeats.{known_is}
 use Rattle.wq_live.proofs.Handed.{handed_all}

@@ -1,12 +1,6 @@
-use Rattle.std.proofs.Common.{[], ◌∷◌, ap, ◌∙◌, subst, sym}
-use Rattle.wq_words.specs.declared.event.Event.TheVariants.{End}
-use Rattle.wq_words.specs.History.{running, IsRunning}
-use Rattle.wq_live.specs.Known.{Sees}
-use Rattle.wq_live.specs.KnownWith.{KnownWith}
-use Rattle.wq_live.specs.Sits.{owning, owner_view}
+use Rattle.wq_live.proofs.Common.{[], ◌∷◌, ap, ◌∙◌, subst, sym, End, running, IsRunning, Sees, KnownWith, owning, owner_view, runs_some}
 use Rattle.wq_live.proofs.ValueSeats.{values_alone, owner_learnt}
 use Rattle.wq_live.proofs.HandedOver.{owner_stays}
-use Rattle.wq_words.proofs.Running.{runs_some}
 use mathlib.Core.Path.{refl}
 use Rattle.wq_live.proofs.value_owner.ValueOwner.end.Goals as goal
 

@@ -1,11 +1,5 @@
-use Rattle.std.proofs.Common.{[], ◌∷◌, ap, sym, refl, ◌∙◌, subst}
-use Rattle.wq_words.specs.declared.event.Event.TheVariants.{End}
-use Rattle.wq_words.specs.History.{running, IsRunning}
-use Rattle.wq_words.proofs.Running.{runs_some}
-use Rattle.wq_live.specs.Known.{Sees}
-use Rattle.wq_live.specs.Sits.{owning, owner_view}
-use Rattle.wq_live.specs.Pairs.{pair_owner}
-use Rattle.wq_live.specs.ValuePairs.{KnownValuePair, owner_of}
+use Rattle.wq_live.proofs.Common.{[], ◌∷◌, ap, sym, refl, ◌∙◌, subst, End, running, IsRunning, runs_some, Sees, owning, owner_view, pair_owner}
+use Rattle.wq_live.proofs.Common.{KnownValuePair, owner_of}
 use Rattle.wq_live.proofs.HandedOver.{owner_stays}
 use Rattle.wq_live.proofs.ValuePaired.{values_act, others_see, acts_learnt}
 use Rattle.wq_live.proofs.value_pair.ValuePair.end.Goals as goal

@@ -1,11 +1,5 @@
-use Rattle.std.proofs.Common.{subst}
-use Rattle.wq_words.specs.declared.layout.Layout.{Layout}
-use Rattle.wq_words.specs.Legal.{IsLegal}
-use Rattle.wq_words.specs.Headline.{KeepsHeadline}
-use Rattle.wq_words.proofs.Headlines.{keeps_headline}
-use Rattle.wq_live.specs.ValuePairs.{KnownValuePair}
+use Rattle.wq_live.proofs.Common.{subst, Layout, IsLegal, KeepsHeadline, keeps_headline, KnownValuePair, IsLegalWith, with_values}
 use Rattle.wq_live.proofs.OwnerTells.{stands_legal}
-use Rattle.wq_words.specs.Valued.{IsLegalWith, with_values}
 use Rattle.wq_live.proofs.HandedOver.{whole_legal}
 use Rattle.wq_live.proofs.value_pair.ValuePair.legal.Goals as goal
 

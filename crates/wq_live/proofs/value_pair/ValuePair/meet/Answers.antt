@@ -1,8 +1,4 @@
-use Rattle.std.proofs.Common.{refl, ap, sym}
-use Rattle.wq_table.proofs.Learns.{learns_meet, learns_right}
-use Rattle.wq_live.specs.Sits.{sending_in, owning}
-use Rattle.wq_live.specs.Pairs.{pair_owner}
-use Rattle.wq_live.specs.ValuePairs.{owner_of}
+use Rattle.wq_live.proofs.Common.{refl, ap, sym, learns_meet, learns_right, sending_in, owning, pair_owner, owner_of}
 use Rattle.wq_live.proofs.Meeting.{meet_owner_layout}
 use Rattle.wq_live.proofs.ValueSeats.{owner_learnt}
 use Rattle.wq_live.proofs.ValueSends.{met_values, met_sees, met_learnt}

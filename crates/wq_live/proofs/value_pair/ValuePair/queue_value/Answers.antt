@@ -1,8 +1,4 @@
-use Rattle.std.proofs.Common.{List, refl, ap, subst, ℕ}
-use Rattle.wq_words.specs.declared.event.Event.{Event}
-use Rattle.wq_live.specs.Answers.{IsContended}
-use Rattle.wq_live.specs.KnownWith.{answer_of}
-use Rattle.wq_live.specs.ValuePairs.{owner_of}
+use Rattle.wq_live.proofs.Common.{List, refl, ap, subst, ℕ, Event, IsContended, answer_of, owner_of}
 use Rattle.wq_live.proofs.Tried.{answers_same}
 use Rattle.wq_live.proofs.ValueSeats.{owner_learnt}
 use Rattle.wq_live.proofs.HandedOver.{met_handed}

@@ -1,5 +1,4 @@
-use Rattle.std.proofs.Common.{ap}
-use Rattle.wq_live.specs.ValuePairs.{owner_of}
+use Rattle.wq_live.proofs.Common.{ap, owner_of}
 use Rattle.wq_live.proofs.HandedOver.{owner_rests}
 use Rattle.wq_live.proofs.ValuePaired.{values_act, others_see, acts_learnt}
 use Rattle.wq_live.proofs.value_pair.ValuePair.rest.Goals as goal

@@ -1,7 +1,4 @@
-use Rattle.std.proofs.Common.{◌≡◌, List, ap, ◌∙◌, subst}
-use Rattle.wq_words.specs.declared.event.Event.{Event}
-use Rattle.wq_live.specs.ValuePairs.{KnownValuePair}
-use Rattle.wq_live.specs.Counts.{sender_counts}
+use Rattle.wq_live.proofs.Common.{◌≡◌, List, ap, ◌∙◌, subst, Event, KnownValuePair, sender_counts}
 use Rattle.wq_live.proofs.value_pair.ValuePair.sender_counts.Goals as goal
 
 pub returns : goal.returns

@@ -1,6 +1,5 @@
-use Rattle.std.proofs.Common.{[], ◌∷◌, ap, refl}
+use Rattle.wq_live.proofs.Common.{[], ◌∷◌, ap, refl, owner_of}
 use Rattle.wq_words.specs.declared.event.Event.TheVariants as event
-use Rattle.wq_live.specs.ValuePairs.{owner_of}
 use Rattle.wq_live.proofs.HandedOver.{owner_stays}
 use Rattle.wq_live.proofs.ValuePaired.{values_act, others_see, acts_learnt}
 use Rattle.wq_live.proofs.value_pair.ValuePair.take.Goals as goal

@@ -1,6 +1,4 @@
-use Rattle.std.proofs.Common.{subst, ◌≡◌}
-use Rattle.wq_live.specs.Counts.{sender_counts}
-use Rattle.wq_live.specs.KnownWith.{KnownWith}
+use Rattle.wq_live.proofs.Common.{subst, ◌≡◌, sender_counts, KnownWith}
 use Rattle.wq_live.proofs.value_sender.ValueSender.counts.Goals as goal
 
 pub returns : goal.returns

@@ -1,9 +1,4 @@
-use Rattle.std.proofs.Common.{arith, ◌≡◌, ◌∙◌, ℕ, [], ◌∷◌, None, ap, subst}
-use Rattle.wq_words.specs.Numbers.{barrier_number}
-use Rattle.wq_words.specs.declared.event.Event.TheVariants.{Hold, Push}
-use Rattle.wq_live.specs.Answers.{IsPushed}
-use Rattle.wq_live.specs.Known.{Sees}
-use Rattle.wq_live.specs.KnownWith.{KnownWith, IsBroughtBy}
+use Rattle.wq_live.proofs.Common.{arith, ◌≡◌, ◌∙◌, ℕ, [], ◌∷◌, None, ap, subst, barrier_number, Hold, Push, IsPushed, Sees, KnownWith, IsBroughtBy}
 use Rattle.wq_live.proofs.Sends.{sees_on, queued_on}
 use Rattle.wq_live.proofs.ValueSends.{learnt_on, brought_still}
 use Rattle.wq_live.proofs.value_sender.ValueSender.flush.Goals as goal

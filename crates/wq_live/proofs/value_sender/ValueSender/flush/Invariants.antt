@@ -1,6 +1,4 @@
-use Rattle.std.proofs.Common.{[]}
-use Rattle.wq_live.specs.Known.{Sees}
-use Rattle.wq_live.specs.KnownWith.{Learnt}
+use Rattle.wq_live.proofs.Common.{[], Sees, Learnt}
 use Rattle.wq_live.proofs.value_sender.ValueSender.flush.Given as goal
 
 abbrev pub invariant-loop : goal.invariant-loop

@@ -1,7 +1,4 @@
-use Rattle.std.proofs.Common.{◌≡◌, ℕ, Bool, true, false, not, refl, ap, sym, ◌∙◌}
-use Rattle.wq_words.specs.History.{pending}
-use Rattle.wq_words.specs.Numbers.{barrier_number}
-use Rattle.wq_live.specs.KnownWith.{KnownWith}
+use Rattle.wq_live.proofs.Common.{◌≡◌, ℕ, Bool, true, false, not, refl, ap, sym, ◌∙◌, pending, barrier_number, KnownWith}
 use Rattle.wq_live.proofs.Flushed.{flushed}
 use Rattle.wq_live.proofs.value_sender.ValueSender.flush_done.Goals as goal
 

@@ -1,10 +1,4 @@
-use Rattle.std.proofs.Common.{◌≡◌, ◌<◌, ◌∙◌, [], None, refl, ap, sym, subst}
-use Rattle.wq_words.specs.declared.layout.Layout.{Layout}
-use Rattle.wq_words.specs.Numbers.{number_count}
-use Rattle.wq_table.proofs.Learns.{learns_step}
-use Rattle.wq_core.specs.declared.step.Step.TheVariants.{Check}
-use Rattle.wq_live.specs.KnownWith.{KnownWith}
-use Rattle.wq_live.specs.Sits.{sending_in}
+use Rattle.wq_live.proofs.Common.{◌≡◌, ◌<◌, ◌∙◌, [], None, refl, ap, sym, subst, Layout, number_count, learns_step, Check, KnownWith, sending_in}
 use Rattle.wq_live.proofs.Counting.{counts_none}
 use Rattle.wq_live.proofs.SenderHands.{check_hand}
 use Rattle.wq_live.proofs.Tells.{Tells, check_tells, sender_made}

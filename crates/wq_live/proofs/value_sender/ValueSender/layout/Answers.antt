@@ -1,6 +1,4 @@
-use Rattle.std.proofs.Common.{subst}
-use Rattle.wq_words.specs.Legal.{IsLegal}
-use Rattle.wq_live.specs.KnownWith.{KnownWith}
+use Rattle.wq_live.proofs.Common.{subst, IsLegal, KnownWith}
 use Rattle.wq_live.proofs.value_sender.ValueSender.layout.Goals as goal
 
 pub returns-clause-legal : goal.returns-clause-legal

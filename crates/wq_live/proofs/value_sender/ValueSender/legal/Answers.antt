@@ -1,10 +1,4 @@
-use Rattle.std.proofs.Common.{subst}
-use Rattle.wq_words.specs.Legal.{IsLegal}
-use Rattle.wq_words.specs.Headline.{KeepsHeadline}
-use Rattle.wq_words.proofs.Headlines.{keeps_headline}
-use Rattle.wq_live.specs.KnownWith.{KnownWith}
-use Rattle.wq_live.specs.Sits.{sending_in}
-use Rattle.wq_words.specs.Valued.{IsLegalWith, with_values}
+use Rattle.wq_live.proofs.Common.{subst, IsLegal, KeepsHeadline, keeps_headline, KnownWith, sending_in, IsLegalWith, with_values}
 use Rattle.wq_live.proofs.HandedOver.{whole_legal}
 use Rattle.wq_live.proofs.value_sender.ValueSender.legal.Goals as goal
 

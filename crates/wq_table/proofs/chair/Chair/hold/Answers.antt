@@ -1,8 +1,5 @@
-use Rattle.std.proofs.Common.{ℕ, None, sym, subst}
+use Rattle.wq_table.proofs.Common.{ℕ, None, sym, subst, part_at, GoesBy, standing_of, ValueSteps}
 use Rattle.wq_core.specs.declared.step.Step.TheVariants as step
-use Rattle.wq_table.specs.Chair.{part_at}
-use Rattle.wq_table.specs.SlotSteps.{GoesBy}
-use Rattle.wq_table.specs.SlotChairs.{standing_of, ValueSteps}
 use Rattle.wq_table.proofs.Steps.{placed, number_placed, linked, number_linked, number_pushed, saw_closed, saw_draining, saw_any}
 use Rattle.wq_table.proofs.Steps as steps
 use Rattle.wq_table.proofs.SlotTold.{deep_in, item_at_part, item_room_in, by_either}

@@ -1,7 +1,5 @@
-use Rattle.std.proofs.Common.{None}
+use Rattle.wq_table.proofs.Common.{None, part_at, standing_of}
 use Rattle.wq_core.specs.declared.step.Step.TheVariants as step
-use Rattle.wq_table.specs.Chair.{part_at}
-use Rattle.wq_table.specs.SlotChairs.{standing_of}
 use Rattle.wq_table.proofs.SlotTold.{by_either}
 use Rattle.wq_table.proofs.ByKind as by
 use Rattle.wq_table.proofs.chair.Chair.look.Goals as goal

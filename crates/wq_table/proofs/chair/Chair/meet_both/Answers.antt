@@ -1,5 +1,4 @@
-use Rattle.std.proofs.Common.{rules, ap, sym, refl, ◌∙◌, ◌≡◌}
-use Rattle.wq_table.specs.SlotChairs.{ValueStanding}
+use Rattle.wq_table.proofs.Common.{rules, ap, sym, refl, ◌∙◌, ◌≡◌, ValueStanding}
 use Rattle.wq_table.proofs.Opened.{blanks_slots, offs_slots}
 use Rattle.wq_table.proofs.Meetings.{boths_slots, meets_slots}
 use Rattle.wq_table.proofs.SlotTold.{seat_is, slots_are, done_in_words, sits_known}

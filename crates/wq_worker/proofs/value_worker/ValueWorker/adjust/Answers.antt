@@ -1,6 +1,5 @@
-use Rattle.std.proofs.Common.{rules, ℕ, List, ap, sym, ◌∙◌, subst}
+use Rattle.wq_worker.proofs.Common.{rules, ℕ, List, ap, sym, ◌∙◌, subst, ValueWorkerState, AreValueParts}
 use Rattle.std.specs.Fn.{FnOnceReturnsAtMut}
-use Rattle.wq_worker.specs.ValueState.{ValueWorkerState, AreValueParts}
 use Rattle.wq_worker.proofs.value_worker.ValueWorker.adjust.Goals as goal
 
 pub invariant_of-self : goal.invariant_of-self

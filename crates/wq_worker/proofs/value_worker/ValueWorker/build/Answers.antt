@@ -1,7 +1,6 @@
-use Rattle.std.proofs.Common.{◌≡◌, [], map, sym, ap, ◌∙◌, subst}
+use Rattle.wq_worker.proofs.Common.{◌≡◌, [], sym, ap, ◌∙◌, subst, begun, new_senders}
+use Rattle.std.proofs.Common.{map}
 use Rattle.std.specs.Prelude.{All}
-use Rattle.wq_words.specs.History.{begun}
-use Rattle.wq_live.specs.Known.{new_senders}
 use Rattle.wq_live.specs.KnownWith.{KnownWith, knowing_nothing}
 use Rattle.wq_live.proofs.Seated.{all_front, all_last}
 use Rattle.wq_worker.proofs.Joined.{made_new, made_open, values_less}

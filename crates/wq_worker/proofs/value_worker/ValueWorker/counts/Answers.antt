@@ -1,6 +1,4 @@
-use Rattle.std.proofs.Common.{◌≡◌, subst}
-use Rattle.wq_ledger.specs.Totals.{own_totals}
-use Rattle.wq_worker.specs.ValueState.{ValueWorkerState}
+use Rattle.wq_worker.proofs.Common.{◌≡◌, subst, own_totals, ValueWorkerState}
 use Rattle.wq_worker.proofs.Counts.{own_counted}
 use Rattle.wq_worker.proofs.value_worker.ValueWorker.counts.Goals as goal
 

@@ -1,5 +1,4 @@
-use Rattle.std.proofs.Common.{arith}
-use Rattle.wq_worker.specs.Returned.{GivesBack, MayLeave}
+use Rattle.wq_worker.proofs.Common.{arith, GivesBack, MayLeave}
 use Rattle.wq_worker.specs.ValueState.{HasRunPairs}
 use Rattle.wq_worker.proofs.Destroy.{destroys, leaves_unfinished}
 use Rattle.wq_worker.proofs.Rows.{ran_complete}

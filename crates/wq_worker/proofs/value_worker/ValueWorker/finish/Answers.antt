@@ -1,16 +1,6 @@
-use Rattle.std.proofs.Common.{◌≡◌, ℕ, ◌<◌, Some, [], ◌∷◌, ap, sym, refl, ◌∙◌, subst}
-use Rattle.wq_words.specs.declared.layout.Layout.{Layout}
-use Rattle.wq_words.specs.declared.event.Event.TheVariants.{End}
-use Rattle.wq_words.specs.Numbers.{number_count}
-use Rattle.wq_words.specs.History.{running}
-use Rattle.wq_words.proofs.Running.{runs_from_running as runs_some}
-use Rattle.wq_live.specs.KnownWith.{Learnt}
-use Rattle.wq_live.specs.ValuePairs.{owner_of}
-use Rattle.wq_live.proofs.ValueSends.{learnt_on}
-use Rattle.wq_worker.specs.Returned.{GivesBack, MayLeave}
-use Rattle.wq_worker.specs.ValueState.{ValueWorkerState, owner_in}
-use Rattle.wq_worker.specs.Deals.{DealsOut}
-use Rattle.wq_worker.specs.Step.{RunsBy, OwesBy}
+use Rattle.wq_worker.proofs.Common.{◌≡◌, ℕ, ◌<◌, Some, [], ◌∷◌, ap, sym, refl, ◌∙◌, subst, Layout, End, number_count, running}
+use Rattle.wq_worker.proofs.Common.{runs_from_running as runs_some, Learnt, owner_of, learnt_on, GivesBack, MayLeave, ValueWorkerState, owner_in}
+use Rattle.wq_worker.proofs.Common.{DealsOut, RunsBy, OwesBy}
 use Rattle.wq_worker.proofs.Running.{number_runs}
 use Rattle.wq_worker.proofs.Follow.{advance_layout}
 use Rattle.wq_worker.proofs.Step.{runs_kind}

@@ -1,8 +1,4 @@
-use Rattle.std.proofs.Common.{◌≡◌, sym, ◌∙◌, subst}
-use Rattle.wq_words.specs.History.{accepted}
-use Rattle.wq_words.specs.Legal.{IsComplete}
-use Rattle.wq_worker.specs.Returned.{pairs_of}
-use Rattle.wq_worker.specs.ValueState.{ValueWorkerState}
+use Rattle.wq_worker.proofs.Common.{◌≡◌, sym, ◌∙◌, subst, accepted, IsComplete, pairs_of, ValueWorkerState}
 use Rattle.wq_worker.proofs.Logged.{begun_accepted}
 use Rattle.wq_worker.proofs.value_worker.ValueWorker.into_book.Goals as goal
 

@@ -1,6 +1,4 @@
-use Rattle.std.proofs.Common.{subst}
-use Rattle.wq_words.specs.Legal.{IsLegal}
-use Rattle.wq_worker.specs.ValueState.{ValueWorkerState}
+use Rattle.wq_worker.proofs.Common.{subst, IsLegal, ValueWorkerState}
 use Rattle.wq_worker.proofs.value_worker.ValueWorker.is_closed.Goals as goal
 
 pub returns-clause-legal : goal.returns-clause-legal

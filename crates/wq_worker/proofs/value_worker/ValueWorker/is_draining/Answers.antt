@@ -1,6 +1,5 @@
-use Rattle.std.proofs.Common.{◌↔◌, IsTrue, subst}
-use Rattle.wq_words.specs.History.{IsDraining}
-use Rattle.wq_worker.specs.ValueState.{ValueWorkerState}
+use Rattle.wq_worker.proofs.Common.{subst, IsDraining, ValueWorkerState}
+use Rattle.std.proofs.Common.{◌↔◌, IsTrue}
 use Rattle.wq_worker.proofs.value_worker.ValueWorker.is_draining.Goals as goal
 
 pub returns-clause-draining : goal.returns-clause-draining

@@ -1,8 +1,4 @@
-use Rattle.std.proofs.Common.{◌≡◌, ap, ◌∙◌, subst}
-use Rattle.wq_words.specs.History.{begun}
-use Rattle.wq_worker.specs.State.{items_among}
-use Rattle.wq_worker.specs.Returned.{numbers_in}
-use Rattle.wq_worker.specs.ValueState.{ValueWorkerState}
+use Rattle.wq_worker.proofs.Common.{◌≡◌, ap, ◌∙◌, subst, begun, items_among, numbers_in, ValueWorkerState}
 use Rattle.wq_worker.proofs.Logged.{begun_items}
 use Rattle.wq_worker.proofs.value_worker.ValueWorker.logged.Goals as goal
 

@@ -1,6 +1,4 @@
-use Rattle.std.proofs.Common.{[], refl, subst}
-use Rattle.wq_worker.specs.State.{Moves}
-use Rattle.wq_worker.specs.ValueState.{ValueWorkerState}
+use Rattle.wq_worker.proofs.Common.{[], refl, subst, Moves, ValueWorkerState}
 use Rattle.wq_worker.proofs.ValueState.{value_state_of, value_fit_owner, value_moves_owner}
 use Rattle.wq_worker.proofs.value_worker.ValueWorker.meet.Goals as goal
 

@@ -1,7 +1,4 @@
-use Rattle.std.proofs.Common.{ℕ, List, sym, ap, ◌∙◌}
-use Rattle.wq_live.specs.KnownWith.{handed_in}
-use Rattle.wq_live.specs.ValuePairs.{owner_of}
-use Rattle.wq_worker.specs.Returned.{pairs_of}
+use Rattle.wq_worker.proofs.Common.{ℕ, List, sym, ap, ◌∙◌, handed_in, owner_of, pairs_of}
 use Rattle.wq_worker.proofs.Joined.{joined_begun, joined_idle, joined_open}
 use Rattle.wq_worker.proofs.value_worker.ValueWorker.new.Goals as goal
 

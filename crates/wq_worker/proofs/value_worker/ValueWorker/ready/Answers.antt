@@ -1,11 +1,6 @@
-use Rattle.std.proofs.Common.{MatchOption, refl, sym, ◌∙◌, subst}
-use Rattle.wq_words.specs.History.{IsRunning}
-use Rattle.wq_live.specs.KnownWith.{Learnt}
-use Rattle.wq_live.specs.ValuePairs.{KnownValuePair, owner_of}
-use Rattle.wq_worker.specs.Seats.{taking}
-use Rattle.wq_worker.specs.Pair.{Both}
-use Rattle.wq_worker.specs.Resting.{IsReady, IsUnready, owed}
-use Rattle.wq_worker.specs.ValueState.{ValueWorkerState, owner_in}
+use Rattle.wq_worker.proofs.Common.{MatchOption, refl, sym, ◌∙◌, subst, IsRunning, Learnt, KnownValuePair, owner_of, taking, Both, IsReady, IsUnready}
+use Rattle.wq_worker.proofs.Common.{ValueWorkerState, owner_in}
+use Rattle.wq_worker.specs.Resting.{owed}
 use Rattle.wq_worker.proofs.Owned.{stays, owner_of_both}
 use Rattle.wq_worker.proofs.Running.{runs_told, idle_told}
 use Rattle.wq_worker.proofs.State.{quiet_taking}

@@ -1,8 +1,4 @@
-use Rattle.std.proofs.Common.{subst}
-use Rattle.wq_live.specs.ValuePairs.{KnownValuePair}
-use Rattle.wq_worker.specs.Resting.{rest_events}
-use Rattle.wq_worker.specs.State.{Moves}
-use Rattle.wq_worker.specs.ValueState.{ValueWorkerState}
+use Rattle.wq_worker.proofs.Common.{subst, KnownValuePair, rest_events, Moves, ValueWorkerState}
 use Rattle.wq_worker.proofs.Resting.{begun_rest}
 use Rattle.wq_worker.proofs.Step.{moves_by}
 use Rattle.wq_worker.proofs.ValueState.{value_state_of, value_fit_both}

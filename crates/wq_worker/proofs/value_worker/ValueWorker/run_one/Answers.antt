@@ -1,10 +1,4 @@
-use Rattle.std.proofs.Common.{rules, ◌≡◌, None}
-use Rattle.wq_words.specs.History.{running}
-use Rattle.wq_words.proofs.Running.{rests_from_running as runs_none}
-use Rattle.wq_live.proofs.ValueSends.{learnt_on}
-use Rattle.wq_worker.specs.declared.ran.Ran.TheVariants.{Nothing}
-use Rattle.wq_worker.specs.Returned.{GivesBack, MayLeave}
-use Rattle.wq_worker.specs.ValueState.{owner_in}
+use Rattle.wq_worker.proofs.Common.{rules, ◌≡◌, None, running, rests_from_running as runs_none, learnt_on, Nothing, GivesBack, MayLeave, owner_in}
 use Rattle.wq_worker.proofs.Returned.{run_on}
 use Rattle.wq_worker.proofs.Rows.{runs_by_same, runs_by_legal, runs_by_open, runs_by_unclosed}
 use Rattle.wq_worker.proofs.Step.{runs_fresh}

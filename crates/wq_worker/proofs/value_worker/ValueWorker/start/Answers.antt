@@ -1,12 +1,7 @@
-use Rattle.std.proofs.Common.{rules, ◌≡◌, false, Option, Some, None, refl, sym, ◌∙◌, subst}
+use Rattle.wq_worker.proofs.Common.{rules, ◌≡◌, false, Option, Some, None, refl, sym, ◌∙◌, subst, IsRunning, Learnt, KnownValuePair, owner_of, taking}
+use Rattle.wq_worker.proofs.Common.{BeginsValue, ValueWorkerState, owner_in}
 use Rattle.std.specs.Option.{is_some}
-use Rattle.wq_words.specs.History.{IsRunning}
-use Rattle.wq_live.specs.KnownWith.{Learnt}
-use Rattle.wq_live.specs.ValuePairs.{KnownValuePair, owner_of}
-use Rattle.wq_worker.specs.Seats.{taking}
 use Rattle.wq_worker.specs.Step.{FindsNothing}
-use Rattle.wq_worker.specs.Deals.{BeginsValue}
-use Rattle.wq_worker.specs.ValueState.{ValueWorkerState, owner_in}
 use Rattle.wq_worker.proofs.State.{quiet_taking, idle_taken}
 use Rattle.wq_worker.proofs.Step.{moves_by}
 use Rattle.wq_worker.proofs.ValueState.{value_state_of, keeps_or, value_fit_both}

@@ -1,9 +1,4 @@
-use Rattle.std.proofs.Common.{[], ◌∷◌, sym, refl, ◌∙◌, subst}
-use Rattle.wq_words.specs.declared.event.Event.TheVariants.{Drain}
-use Rattle.wq_words.specs.History.{IsShut}
-use Rattle.wq_words.proofs.Closed.{open_from_shut}
-use Rattle.wq_worker.specs.ValueState.{ValueWorkerState}
-use Rattle.wq_worker.specs.Rows.{Shuts, drains}
+use Rattle.wq_worker.proofs.Common.{[], ◌∷◌, sym, refl, ◌∙◌, subst, Drain, IsShut, open_from_shut, ValueWorkerState, Shuts, drains}
 use Rattle.wq_worker.proofs.ValueState.{value_state_of, value_fit_owner, value_moves_owner}
 use Rattle.wq_worker.proofs.value_worker.ValueWorkerStation.drain_where_open.Goals as goal
 

@@ -1,9 +1,4 @@
-use Rattle.std.proofs.Common.{rules, [], ◌∷◌, sym, refl, subst}
-use Rattle.wq_words.specs.declared.event.Event.TheVariants.{Resume}
-use Rattle.wq_words.specs.History.{IsDraining}
-use Rattle.wq_words.specs.Legal.{HasRunOut}
-use Rattle.wq_worker.specs.ValueState.{ValueWorkerState}
-use Rattle.wq_worker.specs.Rows.{Resumes, stays_closed, reopens}
+use Rattle.wq_worker.proofs.Common.{rules, [], ◌∷◌, sym, refl, subst, Resume, IsDraining, HasRunOut, ValueWorkerState, Resumes, stays_closed, reopens}
 use Rattle.wq_worker.proofs.Draining.{none_left}
 use Rattle.wq_worker.proofs.Phase.{closed_else}
 use Rattle.wq_worker.proofs.ValueState.{value_state_of, value_fit_owner, value_moves_owner}

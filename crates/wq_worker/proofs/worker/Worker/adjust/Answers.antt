@@ -1,6 +1,5 @@
-use Rattle.std.proofs.Common.{rules, ap, sym, ◌∙◌}
+use Rattle.wq_worker.proofs.Common.{rules, ap, sym, ◌∙◌, WorkerState}
 use Rattle.std.specs.Fn.{FnOnceReturnsAtMut}
-use Rattle.wq_worker.specs.State.{WorkerState}
 use Rattle.wq_worker.proofs.worker.Worker.adjust.Goals as goal
 
 pub invariant_of-self : goal.invariant_of-self

@@ -1,8 +1,4 @@
-use Rattle.std.proofs.Common.{[], ◌∷◌, refl, subst, drop}
-use Rattle.wq_words.specs.declared.event.Event.TheVariants.{Close}
-use Rattle.wq_live.specs.Pairs.{KnownPair}
-use Rattle.wq_worker.specs.Pair.{Both}
-use Rattle.wq_worker.specs.State.{WorkerState, Moves}
+use Rattle.wq_worker.proofs.Common.{[], ◌∷◌, refl, subst, drop, Close, KnownPair, Both, WorkerState, Moves}
 use Rattle.wq_worker.proofs.Pair.{by_owner}
 use Rattle.wq_worker.proofs.State.{fit_both}
 use Rattle.wq_worker.proofs.Step.{state_of, moves_by}

@@ -1,5 +1,4 @@
-use Rattle.std.proofs.Common.{arith}
-use Rattle.wq_worker.specs.Step.{stays}
+use Rattle.wq_worker.proofs.Common.{arith, stays}
 use Rattle.wq_worker.specs.Destroy.{HasRunAccepted}
 use Rattle.wq_worker.proofs.Destroy.{destroys, leaves_unfinished}
 use Rattle.wq_worker.proofs.Rows.{ran_complete}

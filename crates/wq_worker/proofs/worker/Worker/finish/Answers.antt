@@ -1,14 +1,9 @@
-use Rattle.std.proofs.Common.{◌≡◌, ℕ, ◌<◌, ◌≤◌, Option, Some, [], ◌∷◌, arith, ap, sym, refl, ◌∙◌, subst, drop, length, length-drop}
-use Rattle.std.proofs.Math.ListN.{drop_of_length-le}
-use Rattle.wq_words.specs.declared.layout.Layout.{Layout}
-use Rattle.wq_words.specs.declared.event.Event.TheVariants.{End}
-use Rattle.wq_words.specs.Numbers.{number_count}
-use Rattle.wq_words.specs.History.{running}
-use Rattle.wq_worker.specs.Pair.{Both}
-use Rattle.wq_worker.specs.State.{WorkerState, AreWorkerParts}
-use Rattle.wq_worker.specs.Step.{stays, Owes, Ends, Runs}
+use Rattle.wq_worker.proofs.Common.{◌≡◌, ℕ, ◌<◌, ◌≤◌, Option, Some, [], ◌∷◌, arith, ap, sym, refl, ◌∙◌, subst, drop, length, drop_of_length-le}
+use Rattle.wq_worker.proofs.Common.{Layout, End, number_count, running, Both, WorkerState, stays, runs_from_running as runs_some}
+use Rattle.std.proofs.Common.{length-drop}
+use Rattle.wq_worker.specs.State.{AreWorkerParts}
+use Rattle.wq_worker.specs.Step.{Owes, Ends, Runs}
 use Rattle.wq_worker.proofs.Running.{number_runs}
-use Rattle.wq_words.proofs.Running.{runs_from_running as runs_some}
 use Rattle.wq_worker.proofs.Follow.{advance_stays, advance_layout, advance_legal}
 use Rattle.wq_worker.proofs.State.{advance_fits, fit_both}
 use Rattle.wq_worker.proofs.Step.{state_of, advance_owes, advance_ends, runs_kind}

@@ -1,8 +1,4 @@
-use Rattle.std.proofs.Common.{◌≡◌, sym, ap, ◌∙◌, subst}
-use Rattle.wq_words.specs.History.{accepted}
-use Rattle.wq_words.specs.Legal.{IsComplete}
-use Rattle.wq_live.specs.Known.{Known}
-use Rattle.wq_worker.specs.State.{WorkerState, items_among}
+use Rattle.wq_worker.proofs.Common.{◌≡◌, sym, ap, ◌∙◌, subst, accepted, IsComplete, Known, WorkerState, items_among}
 use Rattle.wq_worker.proofs.Draining.{begun-complete}
 use Rattle.wq_worker.proofs.worker.Worker.into_book.Goals as goal
 

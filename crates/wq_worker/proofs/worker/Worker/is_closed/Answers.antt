@@ -1,6 +1,4 @@
-use Rattle.std.proofs.Common.{subst}
-use Rattle.wq_words.specs.Legal.{IsLegal}
-use Rattle.wq_worker.specs.State.{WorkerState}
+use Rattle.wq_worker.proofs.Common.{subst, IsLegal, WorkerState}
 use Rattle.wq_worker.proofs.worker.Worker.is_closed.Goals as goal
 
 pub returns-clause-legal : goal.returns-clause-legal

@@ -1,8 +1,6 @@
-use Rattle.std.proofs.Common.{subst}
-use Rattle.wq_words.specs.Legal.{IsLegal}
+use Rattle.wq_worker.proofs.Common.{subst, IsLegal, WorkerState}
 use Rattle.wq_words.specs.Headline.{KeepsHeadline}
 use Rattle.wq_words.proofs.Headlines.{keeps_headline}
-use Rattle.wq_worker.specs.State.{WorkerState}
 use Rattle.wq_worker.proofs.worker.Worker.legal.Goals as goal
 
 pub returns-clause-legal : goal.returns-clause-legal

@@ -1,7 +1,4 @@
-use Rattle.std.proofs.Common.{[], refl, ap, ◌∙◌, subst, drop}
-use Rattle.wq_live.specs.Pairs.{KnownPair}
-use Rattle.wq_worker.specs.Pair.{Both}
-use Rattle.wq_worker.specs.State.{WorkerState, Moves}
+use Rattle.wq_worker.proofs.Common.{[], refl, ap, ◌∙◌, subst, drop, KnownPair, Both, WorkerState, Moves}
 use Rattle.wq_worker.proofs.State.{fit_both}
 use Rattle.wq_worker.proofs.Step.{state_of, moves_by}
 use Rattle.wq_worker.proofs.Pair.{by_owner}

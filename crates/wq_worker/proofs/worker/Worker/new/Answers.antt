@@ -1,5 +1,4 @@
-use Rattle.std.proofs.Common.{sym, ap, ◌∙◌, arith}
-use Rattle.wq_worker.specs.State.{items_among}
+use Rattle.wq_worker.proofs.Common.{sym, ap, ◌∙◌, arith, items_among}
 use Rattle.wq_worker.proofs.Joined.{joined_grows, joined_begun, joined_idle, joined_open}
 use Rattle.wq_worker.proofs.worker.Worker.new.Goals as goal
 

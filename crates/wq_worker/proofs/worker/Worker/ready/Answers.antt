@@ -1,10 +1,5 @@
-use Rattle.std.proofs.Common.{rules, ◌≡◌, None, MatchOption, refl, subst, drop}
-use Rattle.wq_words.specs.History.{IsRunning, running}
-use Rattle.wq_words.proofs.Running.{rests_from_running as runs_none}
-use Rattle.wq_worker.specs.Seats.{taking}
-use Rattle.wq_worker.specs.Pair.{Both}
-use Rattle.wq_worker.specs.Resting.{IsReady, IsUnready}
-use Rattle.wq_worker.specs.State.{WorkerState}
+use Rattle.wq_worker.proofs.Common.{rules, ◌≡◌, None, MatchOption, refl, subst, drop, IsRunning, running, rests_from_running as runs_none, taking}
+use Rattle.wq_worker.proofs.Common.{Both, IsReady, IsUnready, WorkerState}
 use Rattle.wq_worker.proofs.Owned.{stays, owner_of_both}
 use Rattle.wq_worker.proofs.State.{fit_both, quiet_taking}
 use Rattle.wq_worker.proofs.Step.{state_of, moves_by}

@@ -1,6 +1,4 @@
-use Rattle.std.proofs.Common.{subst, drop}
-use Rattle.wq_worker.specs.Resting.{rest_events}
-use Rattle.wq_worker.specs.State.{WorkerState, Moves}
+use Rattle.wq_worker.proofs.Common.{subst, drop, rest_events, WorkerState, Moves}
 use Rattle.wq_worker.proofs.Resting.{begun_rest}
 use Rattle.wq_worker.proofs.State.{fit_both}
 use Rattle.wq_worker.proofs.Step.{state_of, moves_by}

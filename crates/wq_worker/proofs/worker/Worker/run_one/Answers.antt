@@ -1,8 +1,4 @@
-use Rattle.std.proofs.Common.{rules, ◌≡◌, None}
-use Rattle.wq_words.specs.History.{running}
-use Rattle.wq_worker.specs.declared.ran.Ran.TheVariants.{Nothing}
-use Rattle.wq_worker.specs.Step.{stays}
-use Rattle.wq_words.proofs.Running.{rests_from_running as runs_none}
+use Rattle.wq_worker.proofs.Common.{rules, ◌≡◌, None, running, Nothing, stays, rests_from_running as runs_none}
 use Rattle.wq_worker.proofs.Rows.{worker_on, moves_same, runs_by_same, runs_by_legal, runs_by_open, runs_by_unclosed}
 use Rattle.wq_worker.proofs.Step.{runs_fresh, after_stays}
 use Rattle.wq_worker.proofs.worker.Worker.run_one.Goals as goal

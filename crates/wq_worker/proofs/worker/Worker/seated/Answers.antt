@@ -1,5 +1,4 @@
-use Rattle.std.proofs.Common.{◌<◌, subst}
-use Rattle.wq_worker.specs.State.{WorkerState}
+use Rattle.wq_worker.proofs.Common.{◌<◌, subst, WorkerState}
 use Rattle.wq_worker.proofs.worker.Worker.seated.Goals as goal
 
 pub returns : goal.returns

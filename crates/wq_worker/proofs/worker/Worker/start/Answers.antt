@@ -1,11 +1,5 @@
-use Rattle.std.proofs.Common.{rules, ◌≡◌, ◌<◌, ◌≤◌, [], ◌∷◌, ◌++◌, arith, ap, sym, refl, ◌∙◌, subst, drop}
-use Rattle.std.proofs.lemmas.List.{append-nil}
-use Rattle.wq_words.specs.declared.layout.Layout.{Layout}
-use Rattle.wq_words.specs.declared.event.Event.TheVariants.{Begin}
-use Rattle.wq_words.specs.History.{IsRunning}
-use Rattle.wq_worker.specs.Seats.{taking}
-use Rattle.wq_worker.specs.Pair.{Both}
-use Rattle.wq_worker.specs.State.{WorkerState, Moves}
+use Rattle.wq_worker.proofs.Common.{rules, ◌≡◌, ◌<◌, ◌≤◌, [], ◌∷◌, ◌++◌, arith, ap, sym, refl, ◌∙◌, subst, drop, append-nil, Layout, Begin, IsRunning}
+use Rattle.wq_worker.proofs.Common.{taking, Both, WorkerState, Moves}
 use Rattle.wq_worker.specs.Step.{Begins}
 use Rattle.wq_worker.proofs.Owned.{stays, owner_of_both}
 use Rattle.wq_worker.proofs.State.{fit_begun, fit_both, quiet_taking, begun_one, items_among-item, items_among-other}

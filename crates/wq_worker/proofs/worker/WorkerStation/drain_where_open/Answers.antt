@@ -1,11 +1,6 @@
-use Rattle.std.proofs.Common.{[], ◌∷◌, sym, refl, ◌∙◌, subst, drop}
-use Rattle.wq_words.specs.declared.event.Event.TheVariants.{Drain}
-use Rattle.wq_words.specs.History.{IsShut}
-use Rattle.wq_words.proofs.Closed.{IsShut_from_shut, open_from_shut}
-use Rattle.wq_live.specs.Pairs.{KnownPair}
-use Rattle.wq_worker.specs.Pair.{Both}
-use Rattle.wq_worker.specs.State.{WorkerState}
-use Rattle.wq_worker.specs.Rows.{Shuts, was_shut, drains}
+use Rattle.wq_worker.proofs.Common.{[], ◌∷◌, sym, refl, ◌∙◌, subst, drop, Drain, IsShut, IsShut_from_shut, open_from_shut, KnownPair, Both}
+use Rattle.wq_worker.proofs.Common.{WorkerState, Shuts, drains}
+use Rattle.wq_worker.specs.Rows.{was_shut}
 use Rattle.wq_worker.proofs.Pair.{by_owner}
 use Rattle.wq_worker.proofs.State.{fit_both}
 use Rattle.wq_worker.proofs.Step.{state_of, moves_by}

@@ -1,6 +1,4 @@
-use Rattle.std.proofs.Common.{◌≡◌, ◌+◌, length, sym, subst}
-use Rattle.wq_words.specs.History.{accepted, ended, IsShut}
-use Rattle.wq_worker.specs.State.{WorkerState}
+use Rattle.wq_worker.proofs.Common.{◌≡◌, ◌+◌, length, sym, subst, accepted, ended, IsShut, WorkerState}
 use Rattle.wq_worker.proofs.worker.WorkerStation.left.Goals as goal
 
 pub left_of-requires : goal.left_of-requires

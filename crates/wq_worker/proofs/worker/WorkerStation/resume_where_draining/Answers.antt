@@ -1,11 +1,5 @@
-use Rattle.std.proofs.Common.{rules, [], ◌∷◌, sym, refl, ap, subst, drop}
-use Rattle.wq_words.specs.declared.event.Event.TheVariants.{Resume}
-use Rattle.wq_words.specs.History.{IsDraining}
-use Rattle.wq_words.specs.Legal.{HasRunOut}
-use Rattle.wq_live.specs.Pairs.{KnownPair}
-use Rattle.wq_worker.specs.Pair.{Both}
-use Rattle.wq_worker.specs.State.{WorkerState}
-use Rattle.wq_worker.specs.Rows.{Resumes, stays_closed, reopens}
+use Rattle.wq_worker.proofs.Common.{rules, [], ◌∷◌, sym, refl, ap, subst, drop, Resume, IsDraining, HasRunOut, KnownPair, Both, WorkerState, Resumes}
+use Rattle.wq_worker.proofs.Common.{stays_closed, reopens}
 use Rattle.wq_worker.proofs.Draining.{none_left}
 use Rattle.wq_worker.proofs.Pair.{by_owner}
 use Rattle.wq_worker.proofs.Phase.{closed_else}
