@@ -72,6 +72,19 @@ fn execution_is_handed_what_its_queueing_brought(rt: HostRuntime) -> Result<(), 
     Ok(())
 }
 
+/// Chains item 2 with its words. With others it is pending, and these come back.
+fn chain_two<R: Abort>(rt: &R, alloc: Global, owner: &mut ValueOwner<String>) {
+    let (answer, back) = chain(owner, 2, text(rt, alloc, "two"));
+    expect_same(rt, (answer, back.is_none()), (Some(QUEUED), true));
+    let (answer, back) = chain(owner, 2, text(rt, alloc, "again"));
+    let back = back.expect(rt, "the value");
+    expect_same(
+        rt,
+        (answer, back.as_str() == "again"),
+        (Some(Answer::Pending), true),
+    );
+}
+
 /// A batch that waits, what a drain adds behind it, and what is chained: each begins with its own words.
 #[test]
 fn values_keep_their_order_behind_a_batch(rt: HostRuntime) -> Result<(), Fail> {
@@ -91,15 +104,7 @@ fn values_keep_their_order_behind_a_batch(rt: HostRuntime) -> Result<(), Fail> {
         (Some(Answer::Draining), true),
     );
     begins_with(&rt, &mut owner, 3, "three");
-    let (answer, back) = chain(&mut owner, 2, text(&rt, alloc, "two"));
-    expect_same(&rt, (answer, back.is_none()), (Some(QUEUED), true));
-    let (answer, back) = chain(&mut owner, 2, text(&rt, alloc, "again"));
-    let back = back.expect(&rt, "the value");
-    expect_same(
-        &rt,
-        (answer, back.as_str() == "again"),
-        (Some(Answer::Pending), true),
-    );
+    chain_two(&rt, alloc, &mut owner);
     expect_same(&rt, end(&mut owner), Some(3));
     for (item, words) in [
         (1, "one"),
