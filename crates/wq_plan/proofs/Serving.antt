@@ -10,7 +10,7 @@ use Rattle.wq_worker.specs.declared.ran.Ran.{Ran}
 use Rattle.wq_worker.specs.declared.ran.Ran.TheVariants.{Item, Barrier, Stop, Nothing, Owing}
 use Rattle.wq_worker.specs.Step.{Starts, item, other, owed, Ends, ends, Owes, owes, Runs}
 use Rattle.wq_worker.specs.Rows.{Row, none, more, IsExecution, IsNotStop, Serves, Closes, was_closed, closes}
-use Rattle.wq_worker.proofs.Owned.{filter-filter, owner_of_both, stays}
+use Rattle.wq_worker.proofs.Owned.{filter-filter, owner_of_both, quiet_stays}
 use Rattle.wq_words.proofs.Running.{runs_from_running as runs_some}
 use Rattle.wq_worker.specs.Destroy.{Destroys, LeavesUnfinished}
 use Rattle.wq_plan.proofs.Still.{Still, still_on, still_taking, still_one, still_begun}
@@ -115,7 +115,7 @@ module _ (may : Idle → ℕ → List ℕ → Idle → Type 0) (asks_nothing : (
 
   nothing_plain : (a b : WorkerState Idle) → a.number ≢ owner_seat → ¬ IsRunning a.seen → Moves (taking a.seen) 0 a b → Plain 0 a b
   nothing_plain a b not idle m =
-      let same = stays (taking a.seen) a.seen b.seen (quiet_taking a.seen) (owner_of_both a.number (taking a.seen) 0 a.seen b.seen m.adds) in
+      let same = quiet_stays (taking a.seen) a.seen b.seen (quiet_taking a.seen) (owner_of_both a.number (taking a.seen) 0 a.seen b.seen m.adds) in
       moves_plain (taking a.seen) 0 a b (still_taking a.number not a.seen) (λ (runs : IsRunning b.seen). idle (omega (
         arith,
         runs,

@@ -19,7 +19,7 @@ use Rattle.wq_turn.proofs.Common.{◌≡◌, ℕ, ◌<◌, ◌≤◌, false, Lis
 use Rattle.wq_turn.proofs.Common.{arith, length-append, length-drop, filter_map-append, filter-append, Event, Hold, Busy, Push, Back, Take, Layout, accepted}
 use Rattle.wq_turn.proofs.Common.{begun, IsClosed, IsShut, accepted_by, taken, fresh, first, IsLegal, IsComplete, closed_shuts, shut_from_open, batch, next_of}
 use Rattle.wq_turn.proofs.Common.{MayNotRest}
-use Rattle.wq_turn.proofs.Common.{HasNoneLeft, taking, Adds, NothingWaits, at_take, at_all, owner_of_both, filter-filter, owner_grows, stays, quiet_none}
+use Rattle.wq_turn.proofs.Common.{HasNoneLeft, taking, Adds, NothingWaits, at_take, at_all, owner_of_both, filter-filter, owner_grows, quiet_stays, quiet_none}
 
 -- of what came new the owner's events are those of what the worker's two seats added
 pub owner_new : (s n : ℕ) (xs v w : List Event) (adds : Adds s xs n v w) → own owner_seat adds.new ≡ own owner_seat xs
@@ -117,7 +117,7 @@ module _ (layout : Layout) where
 pub refused_waits : (layout : Layout) (s : ℕ) (b c d : List Event) → NothingWaits b → Adds s [] 0 b c → MayNotRest c → IsLegal layout c → ¬ IsShut c
     → next_of c ≡ None → Adds s (taking c) 0 c d → IsLegal layout d → next_of d ≡ None → ⊥
 refused_waits layout s b c d (at_all shut none) quiet why legal opens empty more later nothing =
-    let same = stays [] b c quiet_none (owner_of_both s [] 0 b c quiet) in opens (shut_still b c same.phase shut)
+    let same = quiet_stays [] b c quiet_none (owner_of_both s [] 0 b c quiet) in opens (shut_still b c same.phase shut)
 refused_waits layout s b c d (at_take before after b_is last none) quiet why legal opens empty more later nothing =
     let c_is : c ≡ before ++ Take ∷ (after ++ quiet.new) =
     quiet.is ∙ (ap (λ (z : List Event). z ++ quiet.new) b_is ∙ append_assoc before (Take ∷ after) quiet.new) in

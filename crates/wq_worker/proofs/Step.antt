@@ -2,7 +2,7 @@
 use Rattle.wq_worker.proofs.Common.{◌≡◌, ℕ, ◌+◌, ◌<◌, ◌≤◌, ⊎_elim, Bool, Some, List, [], ◌∷◌, ◌++◌, length, refl, sym, ◌∙◌, ap, subst, arith}
 use Rattle.wq_worker.proofs.Common.{cases_lt, Layout, Event, Begin, End, shut, running, IsRunning, IsLegal, KnownPair, Ran, Item, Barrier, Stop}
 use Rattle.wq_worker.proofs.Common.{Nothing, Owing, Adds, taking, Follows, contended_of, Both, QueuesRest, finished, contended, WorkerState, Moves}
-use Rattle.wq_worker.proofs.Common.{stays, EndsBy, OwesBy, owes, RunsBy, runs_from_running as runs_some}
+use Rattle.wq_worker.proofs.Common.{stays, EndsBy, OwesBy, owes, RunsBy, runs_some}
 use Rattle.wq_worker.specs.Step.{IsKind, StartsBy, item, other, owed, ends, Begins}
 use Rattle.wq_worker.proofs.Seats.{adds_on}
 use Rattle.wq_worker.proofs.Owned.{owner_of_both}

@@ -1,7 +1,7 @@
 -- What a step of a worker with values deals with, where it begins an execution and then queues what that asks for.
 use Rattle.wq_worker.proofs.Common.{◌≡◌, ℕ, Bool, true, false, cond, ◌==◌, if◌then◌else◌, List, [], ◌∷◌, ◌++◌, length, Option, Some, None, refl, sym}
 use Rattle.wq_worker.proofs.Common.{ap, ◌∙◌, subst, or_parts, Layout, Event, Take, Begin, accepted, begun, shut, owner_seat, seat_of, own, is_ours}
-use Rattle.wq_worker.proofs.Common.{runs_from_running as runs_some, next_of, Learnt, Ran, Nothing, Adds, taking, MayLeave, ValueWorkerState, owner_in}
+use Rattle.wq_worker.proofs.Common.{runs_some, next_of, Learnt, Ran, Nothing, Adds, taking, MayLeave, ValueWorkerState, owner_in}
 use Rattle.wq_worker.proofs.Common.{DealsOut, BeginsValue}
 use Rattle.wq_words.proofs.Ranks.{slice_get-prefix}
 use Rattle.wq_live.specs.OwnBrought.{own_brought}

@@ -1,4 +1,4 @@
-use Rattle.wq_worker.proofs.Common.{rules, ◌≡◌, Some, None, arith, running, rests_from_running as runs_none, runs_from_running as runs_some}
+use Rattle.wq_worker.proofs.Common.{rules, ◌≡◌, Some, None, arith, running, runs_none, runs_some}
 use Rattle.wq_worker.proofs.Draining.{left_idle, left_running}
 use Rattle.wq_worker.proofs.drained.left_of.Goals as goal
 

@@ -1,6 +1,6 @@
 use Rattle.wq_worker.proofs.Common.{rules, ◌≡◌, None, [], ◌∷◌, ◌++◌, arith, Begin, next_of, pair_owner, pair_sender, taking}
 use Rattle.wq_live.proofs.Sends.{sees_on}
-use Rattle.wq_worker.proofs.Owned.{stays, owner_grows}
+use Rattle.wq_worker.proofs.Owned.{quiet_stays, owner_grows}
 use Rattle.wq_worker.proofs.Pair.{by_owner}
 use Rattle.wq_worker.proofs.State.{quiet_taking}
 use Rattle.wq_worker.proofs.steps.begin_next.Goals as goal
@@ -14,7 +14,7 @@ returns-then-is_none c =
 pub begin-requires-clause-idle : goal.begin-requires-clause-idle
 begin-requires-clause-idle c =
     let a = c.args.pair.now in let b = c.take_where_empty.new.pair in let e = c.take_where_empty.ensures in
-    let s = stays (taking a.seen) a.seen b.seen (quiet_taking a.seen)
+    let s = quiet_stays (taking a.seen) a.seen b.seen (quiet_taking a.seen)
     (owner_grows (taking a.seen) 0 a.seen b.seen e.seen.grows) in
     rw (s.begun_same, s.ended_same) c.requires.idle
 

@@ -1,5 +1,5 @@
 use Rattle.wq_worker.proofs.Common.{◌≡◌, ℕ, ◌<◌, Some, [], ◌∷◌, ap, sym, refl, ◌∙◌, subst, Layout, End, number_count, running}
-use Rattle.wq_worker.proofs.Common.{runs_from_running as runs_some, Learnt, owner_of, learnt_on, GivesBack, MayLeave, ValueWorkerState, owner_in}
+use Rattle.wq_worker.proofs.Common.{runs_some, Learnt, owner_of, learnt_on, GivesBack, MayLeave, ValueWorkerState, owner_in}
 use Rattle.wq_worker.proofs.Common.{DealsOut, RunsBy, OwesBy}
 use Rattle.wq_worker.proofs.Running.{number_runs}
 use Rattle.wq_worker.proofs.Follow.{advance_layout}

@@ -1,7 +1,7 @@
 use Rattle.wq_worker.proofs.Common.{MatchOption, refl, sym, ◌∙◌, subst, IsRunning, Learnt, KnownValuePair, owner_of, taking, Both, IsReady, IsUnready}
 use Rattle.wq_worker.proofs.Common.{ValueWorkerState, owner_in}
 use Rattle.wq_worker.specs.Resting.{owed}
-use Rattle.wq_worker.proofs.Owned.{stays, owner_of_both}
+use Rattle.wq_worker.proofs.Owned.{quiet_stays, owner_of_both}
 use Rattle.wq_worker.proofs.Running.{runs_told, idle_told}
 use Rattle.wq_worker.proofs.State.{quiet_taking}
 use Rattle.wq_worker.proofs.Step.{moves_by}
@@ -25,7 +25,7 @@ pub returns-clause-outcome : goal.returns-clause-outcome
 returns-clause-outcome g c =
     let i = c.self.inside in let o = i.pair.known in let p = c.take_next.new.pair.known in
     let b : Both (taking o.seen) 0 o p = c.take_next.ensures.both in
-    let s = stays (taking o.seen) o.seen p.seen (quiet_taking o.seen) (owner_of_both o.number (taking o.seen) 0 o.seen p.seen b.adds) in
+    let s = quiet_stays (taking o.seen) o.seen p.seen (quiet_taking o.seen) (owner_of_both o.number (taking o.seen) 0 o.seen p.seen b.adds) in
     let still : ¬ IsRunning o.seen = idle_told o.seen c.running.result c.running.ensures.runs (sym c.is_some.ensures ∙ c.if-is_some.false) in
     let idle : ¬ IsRunning p.seen = rw (s.begun_same, s.ended_same) still in
     let a : ValueWorkerState g.row.V.Denot g.row.W.Denot = value_state_of i.pair i.tries i.left.pairs i.work in

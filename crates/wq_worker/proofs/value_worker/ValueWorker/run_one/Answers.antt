@@ -1,4 +1,4 @@
-use Rattle.wq_worker.proofs.Common.{rules, ◌≡◌, None, running, rests_from_running as runs_none, learnt_on, Nothing, GivesBack, MayLeave, owner_in}
+use Rattle.wq_worker.proofs.Common.{rules, ◌≡◌, None, running, runs_none, learnt_on, Nothing, GivesBack, MayLeave, owner_in}
 use Rattle.wq_worker.proofs.Returned.{run_on}
 use Rattle.wq_worker.proofs.Rows.{runs_by_same, runs_by_legal, runs_by_open, runs_by_unclosed}
 use Rattle.wq_worker.proofs.Step.{runs_fresh}

@@ -1,5 +1,5 @@
 use Rattle.wq_worker.proofs.Common.{◌≡◌, ℕ, ◌<◌, ◌≤◌, Option, Some, [], ◌∷◌, arith, ap, sym, refl, ◌∙◌, subst, drop, length, drop_of_length-le}
-use Rattle.wq_worker.proofs.Common.{Layout, End, number_count, running, Both, WorkerState, stays, runs_from_running as runs_some}
+use Rattle.wq_worker.proofs.Common.{Layout, End, number_count, running, Both, WorkerState, stays, runs_some}
 use Rattle.std.proofs.Common.{length-drop}
 use Rattle.wq_worker.specs.State.{AreWorkerParts}
 use Rattle.wq_worker.specs.Step.{Owes, Ends, Runs}

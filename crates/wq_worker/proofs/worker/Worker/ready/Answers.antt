@@ -1,6 +1,6 @@
-use Rattle.wq_worker.proofs.Common.{rules, ◌≡◌, None, MatchOption, refl, subst, drop, IsRunning, running, rests_from_running as runs_none, taking}
+use Rattle.wq_worker.proofs.Common.{rules, ◌≡◌, None, MatchOption, refl, subst, drop, IsRunning, running, runs_none, taking}
 use Rattle.wq_worker.proofs.Common.{Both, IsReady, IsUnready, WorkerState}
-use Rattle.wq_worker.proofs.Owned.{stays, owner_of_both}
+use Rattle.wq_worker.proofs.Owned.{quiet_stays, owner_of_both}
 use Rattle.wq_worker.proofs.State.{fit_both, quiet_taking}
 use Rattle.wq_worker.proofs.Step.{state_of, moves_by}
 use Rattle.wq_worker.proofs.Resting.{ready_told}
@@ -15,7 +15,7 @@ pub returns : goal.returns
 returns g c =
     let i = c.self.inside in let o = i.pair in let p = c.take_next.new.pair in
     let b : Both (taking o.seen) 0 o p = c.take_next.ensures.both in let left = drop i.at i.follow.items in
-    let s = stays (taking o.seen) o.seen p.seen (quiet_taking o.seen) (owner_of_both i.pair.number (taking o.seen) 0 o.seen p.seen b.adds) in
+    let s = quiet_stays (taking o.seen) o.seen p.seen (quiet_taking o.seen) (owner_of_both i.pair.number (taking o.seen) 0 o.seen p.seen b.adds) in
     let none : running o.seen ≡ None = search rules in
     let idle : ¬ IsRunning p.seen = rw (s.begun_same, s.ended_same) (runs_none o.seen none) in
     let a : WorkerState g.row.W.Denot = state_of o i.tries left i.work in

@@ -1,4 +1,4 @@
-use Rattle.wq_worker.proofs.Common.{rules, ◌≡◌, None, running, Nothing, stays, rests_from_running as runs_none}
+use Rattle.wq_worker.proofs.Common.{rules, ◌≡◌, None, running, Nothing, stays, runs_none}
 use Rattle.wq_worker.proofs.Rows.{worker_on, moves_same, runs_by_same, runs_by_legal, runs_by_open, runs_by_unclosed}
 use Rattle.wq_worker.proofs.Step.{runs_fresh, after_stays}
 use Rattle.wq_worker.proofs.worker.Worker.run_one.Goals as goal

@@ -1,7 +1,7 @@
 use Rattle.wq_worker.proofs.Common.{rules, ◌≡◌, ◌<◌, ◌≤◌, [], ◌∷◌, ◌++◌, arith, ap, sym, refl, ◌∙◌, subst, drop, append-nil, Layout, Begin, IsRunning}
 use Rattle.wq_worker.proofs.Common.{taking, Both, WorkerState, Moves}
 use Rattle.wq_worker.specs.Step.{Begins}
-use Rattle.wq_worker.proofs.Owned.{stays, owner_of_both}
+use Rattle.wq_worker.proofs.Owned.{quiet_stays, owner_of_both}
 use Rattle.wq_worker.proofs.State.{fit_begun, fit_both, quiet_taking, begun_one, items_among-item, items_among-other}
 use Rattle.wq_worker.proofs.Step.{state_of, moves_by, begins_by}
 use Rattle.wq_worker.proofs.worker.Worker.start.Goals as goal
@@ -15,7 +15,7 @@ pub returns-in_default : goal.returns-in_default
 returns-in_default g c =
     let i = c.self.inside in let o = i.pair in let p = c.begin_next-begun.new.pair in
     let b : Both (taking o.seen) 0 o p = c.in_default.ensures.1 in let left = drop i.at i.follow.items in
-    let s = stays (taking o.seen) o.seen p.seen (quiet_taking o.seen) (owner_of_both i.pair.number (taking o.seen) 0 o.seen p.seen b.adds) in
+    let s = quiet_stays (taking o.seen) o.seen p.seen (quiet_taking o.seen) (owner_of_both i.pair.number (taking o.seen) 0 o.seen p.seen b.adds) in
     let idle : ¬ IsRunning o.seen = subst (λ (z : WorkerState g.row.W.Denot). ¬ IsRunning z.seen) (sym c.self.view_is) c.requires in
     let w : WorkerState g.row.W.Denot = state_of p i.tries left i.work in (
       c.in_default.ensures.0,
