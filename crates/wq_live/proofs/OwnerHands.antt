@@ -108,7 +108,8 @@ module _ {V : Type 0} where
 
   -- a step that moves no slot
   pub same_hand : (at : ℕ) (said : Option V) (step : Step) (word : ℕ) (old new : ValueStanding V) (s : ValueSteps at said step word old new)
-      → (MovesSlot said step (part_in at old) s.steps.moves.makes.before word s.brought old.hand s.brought' new.hand → new.hand ≡ old.hand) → new.hand ≡ old.hand
+      → (MovesSlot said step (part_in at old) s.steps.moves.makes.before word s.brought old.hand s.brought' new.hand → new.hand ≡ old.hand)
+      → new.hand ≡ old.hand
   same_hand at said step word old new s keeps = elim (cases_lt 0 old.queue.slots) [
     | inl lt ↦ keeps (s.moves lt)
     | inr ge ↦ s.rests (omega (arith, ge))

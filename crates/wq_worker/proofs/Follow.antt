@@ -135,7 +135,8 @@ next_left at xs h = rw (add-one, drop-cons xs at 0) refl
 
 pub advance_stays : (tries : ℕ) (ks js : List ℕ) (old new : KnownPair) → QueuesRest tries ks js old new → Stays old.seen new.seen
 advance_stays tries ks js old new (finished es none told b) =
-    quiet_stays es old.seen new.seen (quiet_follows old.layout.items old.number (shut old.seen) ks es told) (owner_of_both old.number es 0 old.seen new.seen b.adds)
+    quiet_stays es old.seen new.seen (quiet_follows old.layout.items old.number (shut old.seen) ks es told)
+    (owner_of_both old.number es 0 old.seen new.seen b.adds)
 advance_stays tries ks js old new (contended qs k more es split is low opens told b) =
     quiet_stays (es ++ contended_of old.number k) old.seen new.seen
     (quiet_append es (contended_of old.number k) (quiet_follows old.layout.items old.number (shut old.seen) qs es told) (quiet_contended old.number k))
