@@ -1,11 +1,33 @@
 #!/usr/bin/env bash
 # Builds the library of C from crates/wq_c, FOLDER/libyeangvos.a and FOLDER/libyeangvos.so, with what of the kit it calls: three
-# functions over malloc, realloc and free. What is proved already is not proved again.
+# functions over malloc, realloc and free. What is proved already is not proved again. PROVED=1 says that `rt ci` has proved and built in
+# this tree all that wq_c stands on: `rt lib` takes nothing from `rt ci` and would prove it once more, so wq_c is built over it as it is.
 set -euo pipefail
 folder=$(realpath "${1:?usage: checks/c_library.sh FOLDER}")
 cd "$(dirname "${BASH_SOURCE[0]}")/.."
 kit=$(dirname "$(dirname "$(realpath "$(command -v rt)")")")
-(cd crates/wq_c && rt lib --backend "${BACKEND:-llvm}" >"$folder/said" 2>&1) || { tail -20 "$folder/said"; exit 1; }
+backend=${BACKEND:-llvm}
+
+# wq_c proved and built over the libraries of its crates as they stand.
+over_proved() {
+    local crates=.. below=(-L "dependency=$kit/rlibs") it
+    for it in "$crates"/*/out/rlib; do
+        below+=(-L "dependency=$it")
+    done
+    for it in wq_seats wq_rows; do
+        below+=(--extern "$it=$crates/$it/out/rlib/$it.rlib")
+    done
+    mkdir -p out
+    "$kit/bin/rattle" build --crate-name wq_c src/lib.rt "${below[@]}" --links wq_c= --crate-type staticlib \
+        --antt-project "$kit/rattle/logic/antt-project.json" --logic-built "$kit/logic_built" \
+        --toolchain "$kit/toolchain" --backend "$backend" --jobs 1 -o out/libwq_c.a
+}
+
+built() {
+    if [ "${PROVED:-0}" = 1 ]; then over_proved; else rt lib --backend "$backend"; fi
+}
+
+(cd crates/wq_c && built >"$folder/said" 2>&1) || { tail -20 "$folder/said"; exit 1; }
 rm -f "$folder/libyeangvos.a" "$folder/said"
 printf 'create %s/libyeangvos.a\naddlib %s\naddlib %s\nsave\nend\n' "$folder" crates/wq_c/out/libwq_c.a "$kit/c/liblibc_c.a" | ar -M
 "${CC:-cc}" -shared -Wl,-soname,libyeangvos.so -o "$folder/libyeangvos.so" -Wl,--whole-archive "$folder/libyeangvos.a" -Wl,--no-whole-archive
