@@ -10,7 +10,7 @@ backend=${BACKEND:-llvm}
 
 # wq_c proved and built over the libraries of its crates as they stand.
 over_proved() {
-    local crates=.. below=(-L "dependency=$kit/rlibs") it
+    local crates=.. below=(--extern "std=$kit/rlibs/std.rlib" -L "dependency=$kit/rlibs") it
     for it in "$crates"/*/out/rlib; do
         below+=(-L "dependency=$it")
     done
