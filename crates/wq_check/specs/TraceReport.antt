@@ -4,14 +4,14 @@ use Rattle.wq_check.specs.declared.mark.Mark.{Mark}
 use Rattle.wq_check.specs.declared.mark_counts.MarkCounts.{MarkCounts}
 use Rattle.wq_check.specs.declared.mark_counts.TraceReport.{TraceReport}
 use Rattle.wq_check.specs.Trace.{queued, started, returned, unreturned, most_unstarted}
-use Rattle.wq_check.specs.Report.{stopped}
+use Rattle.wq_words.specs.Counting.{capped}
 
 abbrev pub mark_counts : List Mark → MarkCounts
 mark_counts t = record {
-  marks = stopped (length t);
-  queued = stopped (length (queued t));
-  started = stopped (length (started t));
-  ended = stopped (length (returned t));
+  marks = capped (length t);
+  queued = capped (length (queued t));
+  started = capped (length (started t));
+  ended = capped (length (returned t));
   most_waiting = most_unstarted t;
 }
 

@@ -2,9 +2,9 @@
 ghost use Rattle.std.specs.Prelude.{◌≡◌, ◌∷◌, ◌++◌, [], ◌+◌, ℕ, List, length, is_some, cond};
 ghost use Rattle.wq_words.specs.declared.event.Event.{Event};
 ghost use Rattle.wq_words.specs.History.{ended_by};
-ghost use Rattle.wq_words.specs.Counting.{is_chain, is_busy, is_refusal};
+ghost use Rattle.wq_words.specs.Counting.{capped, is_chain, is_busy, is_refusal};
 ghost use Rattle.wq_check.specs.Left.{unbegun};
-ghost use Rattle.wq_check.specs.Report.{stopped, event_counts};
+ghost use Rattle.wq_check.specs.Report.{event_counts};
 
 use wq_words::{Event, Why};
 
@@ -42,7 +42,7 @@ pub struct Report {
 
 // One more where it counts.
 pub(crate) fn counted(count: u64, counts: bool) -> u64
-    ensures { (n : ℕ) → count ≡ stopped n → result ≡ stopped (n + cond counts 1 0) }
+    ensures { (n : ℕ) → count ≡ capped n → result ≡ capped (n + cond counts 1 0) }
 {
     if counts {
         count.saturating_add(1)

@@ -11,25 +11,33 @@ use std::alloc::Global;
 /// What a text is.
 #[derive(Clone, Copy)]
 pub enum Kind {
+    /// A script, of commands.
     Script,
+    /// A schedule, of single steps.
     Steps,
     /// A schedule of which the history is wanted.
     History,
+    /// A plan, for live threads.
     Live,
+    /// A recording.
     Check,
 }
 
 /// Where a text stands: on standard input, or in the file of this path.
 #[derive(Clone, Copy)]
 pub enum Source<'a> {
+    /// Standard input.
     Input,
+    /// The file of this path.
     File(&'a str),
 }
 
 /// What the words ask for.
 #[derive(Clone, Copy)]
 pub struct Task<'a> {
+    /// What the text is.
     pub kind: Kind,
+    /// Where it stands.
     pub source: Source<'a>,
     /// Of a recording: nothing may be left.
     pub is_drained: bool,

@@ -97,6 +97,8 @@ pub enum Reply {
 /// it linked to it.
 #[derive(Clone, Copy, Debug, PartialEq, Eq)]
 pub struct Private {
+    /// The head word of its last look.
     pub seen: Option<u64>,
+    /// The number that it linked to that word.
     pub linked: Option<u32>,
 }

@@ -3,7 +3,7 @@ use Rattle.wq_words.specs.Seen.{seat_of, own, others, Grows}
 use Rattle.std.proofs.lemmas.List.Sorted.{IsPermutation-refl, IsPermutation-trans, IsPermutation-cons, IsPermutation-middle, IsPermutation-append_right}
 use Rattle.wq_delay.proofs.Common.{◌≡◌, ℕ, ◌+◌, ◌<◌, ◌≤◌, Bool, true, false, cond, not, ◌&&◌, ◌||◌, ◌≢◌, List, [], ◌∷◌, ◌++◌, map, length, ◌==◌, IsPermutation}
 use Rattle.wq_delay.proofs.Common.{sym, refl, ap, ◌∙◌, subst, append_assoc, arith, length-append, eqb-true, nat_tests, append-nil, filter-append, Event, Back}
-use Rattle.wq_delay.proofs.Common.{Holds, Entry, without, IsOrdered, on_table, IsLegal, first_on, without_off, on_table-without, Known, Sees, GivesBack}
+use Rattle.wq_delay.proofs.Common.{Holds, Entry, without, IsOrdered, on_table, IsLegal, first_on, without_off, on_table-without, Known, Sees, GivesAllBack}
 use Rattle.wq_delay.proofs.Sound.{state, IsSound, sound_leaves, stops_back}
 use Rattle.wq_words.specs.declared.event.Why.TheVariants as why
 
@@ -110,7 +110,7 @@ nothing_on [] off = refl
 nothing_on (e ∷ es) off = let on = first_on (e ∷ es) es e refl in let no = off e.item in absurd (cc)
 
 pub given_all : (size : ℕ) (a b : Known) (old t : List Entry) (now next looked : ℕ) → Given size a old b t → ((k : ℕ) → on_table k t ≡ false)
-    → GivesBack (record { sender = a; table = record { entries = old; tick = now; next = next }; looked = looked }) b
+    → GivesAllBack (record { sender = a; table = record { entries = old; tick = now; next = next }; looked = looked }) b
 given_all size a b old t now next looked given off = record {
   order = given.gone;
   same = subst (IsPermutation old) (ap (λ (z : List Entry). given.gone ++ z) (nothing_on t off) ∙ append-nil given.gone) given.split;

@@ -1,4 +1,5 @@
 pub mod Common
+pub mod Placing
 pub mod Rounds
 pub mod Wheel
 pub mod Spelled

@@ -149,7 +149,7 @@ Advances t tries (Ok a) old new =
 Advances t tries (Err e) old new = (t < old.table.tick) × (new ≡ old)
 
 -- all on the table is given back, in some order
-pub record GivesBack (d : DelayState) (q : Known) : Type 0 where
+pub record GivesAllBack (d : DelayState) (q : Known) : Type 0 where
   pub order : List Entry
   pub same : IsPermutation d.table.entries order
   pub seen : Sees (map (λ e. Back d.sender.number e.item why.Cancelled) order) 0 d.sender q

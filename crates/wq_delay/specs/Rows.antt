@@ -6,7 +6,7 @@ use Rattle.std.specs.List.{All}
 use Rattle.std.specs.List.Sorted.{IsSortedBy}
 use Rattle.std.specs.Ordering.{ordering_then, nat_cmp, is_lt}
 use Rattle.std.specs.declared.cmp.Ordering.{Ordering}
-use Rattle.wq_words.specs.DelayTable.{Entry, on_table, due_part, IsOrdered}
+use Rattle.wq_words.specs.DelayTable.{Entry, on_table, due_part}
 use Rattle.wq_words.specs.Limits.{most_items}
 use Rattle.wq_delay.specs.declared.timetable.Place.{Place}
 use Rattle.wq_delay.specs.declared.timetable.DueItem.{DueItem}
@@ -28,23 +28,13 @@ entry_at p k = record { due = p.due; arming = p.arming; item = k }
 abbrev pub entry_of : DueItem → Entry
 entry_of row = entry_at row.place row.item
 
--- the tick and the arming of the item k
-abbrev pub place_of : ℕ → List Entry → Option Place
-place_of k [] = None
-place_of k (e ∷ es) = if k == e.item then Some (place_at e.due e.arming) else place_of k es
-
--- the same, from a list of places by item
+-- the tick and the arming of the item k, from a list of places by item
 abbrev pub place_in : List (Option Place) → ℕ → Option Place
 place_in places k = slice_index_or places k None
 
 -- the entry says where its item stands
 abbrev pub SaysPlace : List (Option Place) → Entry → Type 0
 SaysPlace places e = place_in places e.item ≡ Some (place_at e.due e.arming)
-
--- they are in order, and each item's place is known
-pub record AreRows (places : List (Option Place)) (es : List Entry) : Type 0 where
-  pub ordered : IsOrdered es
-  pub known : (k : ℕ) → place_in places k ≡ place_of k es
 
 -- e goes out before f
 abbrev pub goes_before : Entry → Entry → Bool

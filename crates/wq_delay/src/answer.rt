@@ -67,6 +67,7 @@ pub struct Backwards;
 #[derive(Drop, Error)]
 #[error("memory")]
 pub struct NoRoom {
+    /// The sender, as it was handed in.
     pub sender: Sender,
 }
 

@@ -8,7 +8,7 @@ ghost use Rattle.wq_live.specs.Known.{IsSame, Sees};
 ghost use Rattle.wq_live.specs.Answers.{IsContended};
 ghost use Rattle.wq_words.specs.DelayTable.{items, on_table, due_part, is_too_far, IsOrdered};
 ghost use Rattle.wq_delay.specs.Rows.{IsFirstDue};
-ghost use Rattle.wq_delay.specs.Delay.{IsFit, KeepsTable, Arms, Cancels, Modifies, PostsOne, PostsDue, Advances, Looks, GivesBack};
+ghost use Rattle.wq_delay.specs.Delay.{IsFit, KeepsTable, Arms, Cancels, Modifies, PostsOne, PostsDue, Advances, Looks, GivesAllBack};
 
 use crate::answer::{Advance, Backwards, NoRoom, armed_of, modified_of, modified_of_posted};
 use crate::timetable::Timetable;
@@ -236,6 +236,9 @@ impl Delay {
     }
 
     /// The items that are due at a tick, in the order in which they go out: by their ticks, and at one tick by their armings.
+    ///
+    /// # Errors
+    /// Memory for the list was refused.
     pub fn due_list(&self, now: u64) -> Result<Vec<u32>, AllocError>
         ensures listed { IfOk result (λ list. list.items ≡ items (due_part now self.now.table.entries)) }
     {
@@ -257,6 +260,9 @@ impl Delay {
     /// Leads the table on to a tick and queues what is due, in order, each with at most so many tries. Where the queue is
     /// closed an item is given back. Where a post is contended, or finds the queue draining, the call ends, and the item stays
     /// on the table with those after it: they go out first at an advance after the resume.
+    ///
+    /// # Errors
+    /// `Backwards` where the tick is before the present one; nothing has changed.
     pub fn advance(&mut self, now: u64, tries: u32) -> Result<Advance, Backwards>
         requires { 0 < tries }
         ensures answer { Advances now tries result self.old self.new }
@@ -278,7 +284,7 @@ impl Delay {
 
     /// Gives back all that is on the table, and leaves the sender.
     pub fn dissolve(self) -> Sender
-        ensures given { GivesBack self result }
+        ensures given { GivesAllBack self result }
         ensures free { (k : ℕ) → ¬ Holds result.seen result.number k }
     {
         let Delay {

@@ -57,8 +57,8 @@ impl<V: Drop> ValueBook<V> {
         ValueBook { owner, own }
     }
 
-    /// What `Book::legal` says. With the values that its events carry the history is legal too, and what its executions were
-    /// handed is all that was brought.
+    /// What `Book::legal` says. Each accepted item brought a value, no other number did, and there are as many values as numbers
+    /// that began; that an execution was handed its own value is said by `begin` of the owner.
     pub fn legal(&self)
         ensures legal { IsLegal self.now.book.layout self.now.book.seen }
         ensures complete { IsComplete self.now.book.seen }
@@ -98,6 +98,9 @@ impl<V: Drop> ValueBook<V> {
     }
 
     /// The sums of all counts, where each sender but the worker's has one ledger of this book and no count is saturated.
+    ///
+    /// # Errors
+    /// The first sender that has no ledger, more than one, or a saturated count.
     pub fn balance(&self, ledgers: &[Ledger]) -> Result<Totals, Unbalanced>
         requires { All (IsLedgerOf self.now.book.seen) ledgers.now }
         ensures outcome { MatchResult result (Balances self.now.book ledgers.now) (IsUnbalanced self.now.book ledgers.now) }

@@ -11,7 +11,7 @@ use Rattle.wq_words.proofs.Legal.{legal_nil}
 use Rattle.wq_words.proofs.Written.{each_more}
 use Rattle.wq_core.specs.Machine.{opening}
 use Rattle.wq_core.proofs.Sound.{sound_opening}
-use Rattle.wq_table.specs.Chair.{owner_chair, sender_chair}
+use Rattle.wq_live.proofs.Chairs.{owner_chair, sender_chair}
 use Rattle.wq_table.specs.SlotChairs.{value_sender, value_owner}
 use Rattle.wq_live.specs.Known.{new_sender, new_owner}
 use Rattle.wq_live.specs.Alone.{SendsAlone}

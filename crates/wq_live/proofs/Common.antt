@@ -20,7 +20,8 @@ pub use Rattle.wq_table.proofs.Beside.{beside_queue}
 pub use Rattle.wq_table.proofs.Learns.{learns_follow, learns_meet, learns_more, learns_on, learns_or, learns_right, learns_step, step_or}
 pub use Rattle.wq_table.proofs.ValueRule.{plain_telling}
 pub use Rattle.wq_table.specs.Beside.{Learns, LearnsOrStays}
-pub use Rattle.wq_table.specs.Chair.{IsSender, Standing, Steps, seeing}
+pub use Rattle.wq_table.specs.Chair.{IsSender, Standing, Steps}
+pub use Rattle.wq_live.proofs.Chairs.{seeing}
 pub use Rattle.wq_table.specs.Law.{HasStage, IsPartOf, seat_at}
 pub use Rattle.wq_table.specs.Plays.{Makes, all_see, see, stage_after}
 pub use Rattle.wq_table.specs.SlotChairs.{HasValue, ValueStanding, ValueSteps, knowing, part_in, standing_of, value_senders}
@@ -43,7 +44,7 @@ pub use Rattle.wq_words.proofs.Running.{rests_from_running, runs_from_running, r
 pub use Rattle.wq_words.proofs.Seen.{begun_same, own-append, own_one}
 pub use Rattle.wq_words.proofs.ShutOwn.{shut_same}
 pub use Rattle.wq_words.proofs.Times.{times, times-append, times-cons, times-first}
-pub use Rattle.wq_words.specs.Counting.{is_chain, is_chain_busy}
+pub use Rattle.wq_words.specs.Counting.{capped, is_chain, is_chain_busy}
 pub use Rattle.wq_words.specs.Head.{busy_word}
 pub use Rattle.wq_words.specs.Headline.{KeepsHeadline}
 pub use Rattle.wq_words.specs.History.{Holds, IsClosed, IsDraining, IsRunning, IsShut, accepted, accepted_by, begun, begun_by, ended, is_close}
@@ -62,7 +63,7 @@ pub use Rattle.wq_words.specs.declared.layout.Layout.{Layout}
 pub use Rattle.wq_live.specs.Alone.{OwnsValues, SendsValues}
 pub use Rattle.wq_live.specs.Answers.{Answers, HasMetDrain, IsContended, IsPushed, Posts, TestsAndSets}
 pub use Rattle.wq_live.specs.Batch.{TakesAll, batch, next_of}
-pub use Rattle.wq_live.specs.Counts.{capped, sender_counts}
+pub use Rattle.wq_live.specs.Counts.{sender_counts}
 pub use Rattle.wq_live.specs.Hands.{HasHand, HoldsSlot, IsToBring, OwnsSeat, OwnsSlots, PostsSlot, QueuesSlot, TurnsHands, slot_number}
 pub use Rattle.wq_live.specs.Known.{IsSame, Known, Sees, new_senders}
 pub use Rattle.wq_live.specs.KnownWith.{IsBroughtBy, KnownWith, Learnt, answer_of, knowing_nothing}

@@ -1,3 +1,4 @@
+pub mod Chairs
 pub mod Common
 pub mod Growing
 pub mod Tells

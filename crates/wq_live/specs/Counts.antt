@@ -1,14 +1,10 @@
 -- What seats count of a history.
-use Rattle.std.specs.Prelude.{ℕ, ◌^◌, ◌-◌, List, length, count_by, min}
+use Rattle.std.specs.Prelude.{ℕ, List, length, count_by}
 use Rattle.wq_words.specs.declared.event.Event.{Event}
-use Rattle.wq_words.specs.Counting.{is_queued_by, is_pending_by, is_closed_by, is_draining_by, is_contended_by, is_chain, is_chain_busy}
+use Rattle.wq_words.specs.Counting.{capped, is_queued_by, is_pending_by, is_closed_by, is_draining_by, is_contended_by, is_chain, is_chain_busy}
 use Rattle.wq_words.specs.History.{ended}
 use Rattle.wq_live.specs.declared.counts.SenderCounts.{SenderCounts}
 use Rattle.wq_live.specs.declared.counts.OwnerCounts.{OwnerCounts}
-
--- a count stops at the largest number of 64 bits
-abbrev pub capped : ℕ → ℕ
-capped n = min n (2 ^ 64 - 1)
 
 -- the counts of sender s, and those of the owner
 abbrev pub sender_counts : ℕ → List Event → SenderCounts

@@ -10,7 +10,8 @@ ghost use Rattle.wq_live.specs.Known.{IsSame, Sees};
 ghost use Rattle.wq_live.specs.Answers.{Chains, IsFinal};
 ghost use Rattle.wq_live.specs.Batch.{batch, next_of, TakesAll};
 ghost use Rattle.wq_live.specs.Rest.{Rests, HasRested, MayNotRest};
-ghost use Rattle.wq_live.specs.Counts.{capped, owner_counts};
+ghost use Rattle.wq_words.specs.Counting.{capped};
+ghost use Rattle.wq_live.specs.Counts.{owner_counts};
 ghost use Rattle.wq_live.specs.Laws.{queued_number};
 
 use crate::answer::Done;

@@ -11,7 +11,8 @@ ghost use Rattle.wq_live.specs.Known.{IsSame, Sees};
 ghost use Rattle.wq_live.specs.Answers.{Chains, IsFinal};
 ghost use Rattle.wq_live.specs.Batch.{batch, next_of, TakesAll};
 ghost use Rattle.wq_live.specs.Rest.{Rests, HasRested, MayNotRest};
-ghost use Rattle.wq_live.specs.Counts.{capped, owner_counts};
+ghost use Rattle.wq_words.specs.Counting.{capped};
+ghost use Rattle.wq_live.specs.Counts.{owner_counts};
 ghost use Rattle.wq_live.specs.Laws.{queued_number};
 ghost use Rattle.wq_live.specs.KnownWith.{Learnt, handed_in, answer_of, ChainsOrReturns};
 
@@ -52,8 +53,8 @@ impl<V: Drop> ValueOwner<V> {
     }
 
     /// What it has seen is a legal history of its queue, so it keeps the headline: what was accepted is executed in its order,
-    /// once, and one at a time. With the values that its events carry it is legal too: each execution of an item was handed what
-    /// that item's own queueing brought.
+    /// once, and one at a time. Each accepted item brought a value, no other number did, and the values in the order of the pushes
+    /// are those in the order of the executions; that an execution was handed that very value is said by `begin`.
     pub fn legal(&self)
         ensures legal { IsLegal self.now.known.layout self.now.known.seen }
         ensures headline { KeepsHeadline self.now.known.seen }

@@ -115,8 +115,8 @@ impl<V: Drop> ValuePair<V> {
     }
 
     /// What it has seen is a legal history of its queue, so it keeps the headline: what was accepted is executed in its order,
-    /// once, and one at a time. With the values that its events carry it is legal too: each execution of an item was handed what
-    /// that item's own queueing brought.
+    /// once, and one at a time. Each accepted item brought a value, no other number did, and the values in the order of the pushes
+    /// are those in the order of the executions; that an execution was handed that very value is said by `begin`.
     pub fn legal(&self)
         ensures legal { IsLegal self.now.known.layout self.now.known.seen }
         ensures headline { KeepsHeadline self.now.known.seen }

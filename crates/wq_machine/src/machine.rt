@@ -61,6 +61,9 @@ impl Model for Core {
 
 impl Core {
     /// A queue in which nothing has happened.
+    ///
+    /// # Errors
+    /// Memory for its words or its seats was refused.
     pub fn new(alloc: Global, layout: Layout) -> Result<Core, AllocError>
         ensures opening { IfOk result (λ core. core ≡ opening layout) }
     {

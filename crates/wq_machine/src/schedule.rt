@@ -15,7 +15,9 @@ use wq_words::Layout;
 #[derive(Clone, Copy, Debug, PartialEq, Eq, Error)]
 #[error("step {at}: {why}")]
 pub struct ReplayError {
+    /// The place of the step, counted from 0.
     pub at: usize,
+    /// Why it was not made.
     pub why: StepError,
 }
 

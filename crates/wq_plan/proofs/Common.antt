@@ -12,7 +12,7 @@ pub use Rattle.std.proofs.lemmas.List.{append-nil, map-append, map-id, get_or_de
 pub use Rattle.std.proofs.lemmas.List.Elements.{filter-append, filter_map-append, All-append, All-cons, All-nil, All-push}
 pub use Rattle.std.proofs.lemmas.List.FromFn.{length-range_with_len}
 pub use Rattle.std.proofs.lemmas.List.Sums.{count_by-le-length, sum_by-cons, fold_more}
-pub use Rattle.wq_words.specs.Counting.{is_queued_by, is_pending_by, is_closed_by, is_draining_by, is_contended_by, is_chain, is_chain_busy}
+pub use Rattle.wq_words.specs.Counting.{capped, is_queued_by, is_pending_by, is_closed_by, is_draining_by, is_contended_by, is_chain, is_chain_busy}
 pub use Rattle.wq_words.specs.History.{IsRunning, IsShut, is_close, is_drain, is_push, accepted, begun, ended, sets_pending, accepted_by, shut, ended_by}
 pub use Rattle.wq_words.specs.Legal.{IsLegal, IsComplete, IsAllowed}
 pub use Rattle.wq_words.specs.Numbers.{stop_number}
@@ -26,7 +26,7 @@ pub use Rattle.wq_words.proofs.Counting.{pending_own, closed_own, draining_own, 
 pub use Rattle.wq_words.proofs.Prefixes.{prefix_on, prefix_whole, prefix_self}
 pub use Rattle.wq_words.proofs.Seen.{count_own, own-append, grows_same, closed_count, ended_same, own_between, own_more, none_of, begun_same, count_same}
 pub use Rattle.wq_words.proofs.Seen.{own_none, running_same}
-pub use Rattle.wq_live.specs.Counts.{capped, sender_counts, owner_counts}
+pub use Rattle.wq_live.specs.Counts.{sender_counts, owner_counts}
 pub use Rattle.wq_live.specs.Known.{Known, Sees, QueueId, new_owner, new_sender, new_senders}
 pub use Rattle.wq_live.specs.declared.sender.Sender.{Sender}
 pub use Rattle.wq_live.proofs.Seated.{made_nothing, two_less, length-new_senders, get_or-new_senders}

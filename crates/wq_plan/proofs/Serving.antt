@@ -8,7 +8,7 @@ use Rattle.wq_plan.proofs.Common.{chain_busy_own, IsSameWorker, prefix_self, pre
 use Rattle.wq_plan.specs.Race.{QueuesNothing}
 use Rattle.wq_worker.specs.declared.ran.Ran.{Ran}
 use Rattle.wq_worker.specs.declared.ran.Ran.TheVariants.{Item, Barrier, Stop, Nothing, Owing}
-use Rattle.wq_worker.specs.Step.{Starts, item, other, owed, Ends, ends, Owes, owes, Runs}
+use Rattle.wq_worker.specs.Step.{stays, StartsBy, item, other, owed, Ends, ends, OwesBy, owes, Runs}
 use Rattle.wq_worker.specs.Rows.{Row, none, more, IsExecution, IsNotStop, Serves, Closes, was_closed, closes}
 use Rattle.wq_worker.proofs.Owned.{filter-filter, owner_of_both, quiet_stays}
 use Rattle.wq_words.proofs.Running.{runs_from_running as runs_some}
@@ -100,7 +100,7 @@ module _ (may : Idle → ℕ → List ℕ → Idle → Type 0) (asks_nothing : (
     pub still : Still a.number 0 es
 
   started : (a : WorkerState Idle) (k : ℕ) (f : List ℕ) (v : Idle) (es : List Event) → a.number ≢ owner_seat → ¬ IsRunning a.seen
-      → Starts may a k f v es → Started a f es
+      → StartsBy may stays a k f v es → Started a f es
   started a k f v es not idle (item rests lt ran is) = record { none = asks_nothing a.work k f v ran; still = still_begun a.number k not a.seen es is }
   started a k f v es not idle (other rests ge is_none same is) = record { none = is_none; still = still_begun a.number k not a.seen es is }
   started a k f v es not idle (owed runs left same is) = absurd (idle (runs_some a.seen k runs))
@@ -123,7 +123,7 @@ module _ (may : Idle → ℕ → List ℕ → Idle → Type 0) (asks_nothing : (
         ap (length {A = ℕ}) same.ended_same,
       ))) m
 
-  owes_none : (k : ℕ) (a b : WorkerState Idle) → a.number ≢ owner_seat → ¬ IsRunning a.seen → Owes may a k b → ⊥
+  owes_none : (k : ℕ) (a b : WorkerState Idle) → a.number ≢ owner_seat → ¬ IsRunning a.seen → OwesBy may stays a k b → ⊥
   owes_none k a b not idle (owes f qs j rest es fs st split left opens told moved runs) = none_cons qs j rest (sym split
       ∙ (started a k f b.work es not idle st).none)
 

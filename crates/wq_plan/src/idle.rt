@@ -1,6 +1,6 @@
 //! A work that counts its runs.
 ghost use Rattle.std.specs.Prelude.{◌≡◌, [], length};
-ghost use Rattle.wq_live.specs.Counts.{capped};
+ghost use Rattle.wq_words.specs.Counting.{capped};
 
 use trail::Trail;
 use wq_worker::{Follow, Work};
@@ -14,6 +14,7 @@ pub struct Idle {
 }
 
 impl Idle {
+    /// A work that has run nothing.
     pub fn new() -> Idle
         ensures none { result.ran.items ≡ [] }
     {

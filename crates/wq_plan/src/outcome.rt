@@ -19,8 +19,11 @@ use wq_worker::{Book, Ledger, Totals, Unbalanced, Worker};
 /// How many items were accepted and how many ran, the stop item left out, and whether the ledgers of all senders balance.
 #[derive(Clone, Copy, Debug, PartialEq, Eq)]
 pub struct Outcome {
+    /// How many items all senders were answered `Queued` for.
     pub accepted: u128,
+    /// How many items ran.
     pub ran: u128,
+    /// Whether the ledgers of all senders balance with the book.
     pub is_balanced: bool,
 }
 
@@ -147,6 +150,9 @@ impl Outcome {
     }
 
     /// Destroys the queue of a team that has run its race, and balances the book.
+    ///
+    /// # Errors
+    /// Memory for the ledgers was refused.
     pub fn of<R: Wait>(rt: &R, alloc: Global, team: Team) -> Result<Outcome, AllocError>
         requires run { (plan : Plan) × HasRaced plan team }
         ensures told { (plan : Plan) → HasRaced plan team → IfOk result (λ outcome. IsWhole plan outcome × Tells plan team.worker outcome) }

@@ -105,6 +105,9 @@ fn plan_of(value: &Value) -> Option<Plan>
 }
 
 /// The plan that a text spells, or its first refusal.
+///
+/// # Errors
+/// The first thing that is wrong with the text, or that memory was refused.
 pub fn read_plan(alloc: Global, text: &[u8]) -> Result<Plan, PlanError>
     ensures exact { MatchResult result (SpellsPlan text.now) (IsNoPlan text.now) }
 {

@@ -14,8 +14,11 @@ const WORKER_TRIES: u32 = 1;
 /// A worker, the senders of a plan, and the program's own sender, all of one queue.
 #[derive(Drop)]
 pub struct Team {
+    /// The worker, which owns the queue.
     pub worker: Worker<Idle>,
+    /// The plan's senders, by number.
     pub senders: Vec<Sender>,
+    /// The program's own sender, which queues the stop item.
     pub program: Sender,
 }
 

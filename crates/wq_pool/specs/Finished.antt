@@ -25,6 +25,3 @@ module _ {W B : Type 0} (book : B → BookState) (has_run : W → B → Type 0) 
 module _ {W : Type 0} (log : W → List ℕ) where
   abbrev pub AreFinished : List WorkerId → List (W × BookState) → Type 0
   AreFinished = AreFinishedBy (λ b. b) (HasRunAccepted log)
-
-  abbrev pub RanToEnd : W × BookState → Type 0
-  RanToEnd = RanToEndBy (λ b. b) (HasRunAccepted log)

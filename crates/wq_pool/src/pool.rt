@@ -105,8 +105,8 @@ impl<K: Station + Drop> PoolOf<K> {
     /// was made. Each announcement is picked once, so one too many costs a pick that may find nothing.
     ///
     /// # Errors
-    /// `NoQueue` exactly where the pool has no queue of this number. `Full` only where as many announcements waited, at one moment
-    /// of the call, as the pool has queues.
+    /// `NoQueue` exactly where the pool has no queue of this number. `Full` only where as many announcements as the pool has queues
+    /// could wait, by all that this caller has seen.
     pub fn announce<R: Wait>(
         &self,
         rt: &R,
@@ -157,7 +157,7 @@ impl<K: Station + Drop> PoolOf<K> {
     }
 
     /// Takes the queue that was announced first in hand. It waits until that queue is in its slot: for good where its turn was
-    /// dropped, or where this very thread has it in hand. `None` only where nothing was announced at one moment of the call.
+    /// dropped, or where this very thread has it in hand. `None` only where nothing could wait, by all that this caller has seen.
     pub fn pick<R: Wait>(&self, rt: &R, caller: &mut Caller) -> Option<TurnOf<K>>
         requires { IsCallerOf self.now.ready caller.old }
         ensures seen { Picks (option_map queue_in_turn result) caller.old caller.new }

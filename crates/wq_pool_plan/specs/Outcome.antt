@@ -9,7 +9,7 @@ use Rattle.wq_words.specs.declared.event.Event.{Event}
 use Rattle.wq_words.specs.History.{accepted, ended}
 use Rattle.wq_words.specs.Legal.{IsLegal, IsComplete}
 use Rattle.wq_words.specs.Seen.{own}
-use Rattle.wq_live.specs.Counts.{capped}
+use Rattle.wq_words.specs.Counting.{capped}
 use Rattle.wq_ledger.specs.declared.book.Ledger.{Ledger}
 use Rattle.wq_ledger.specs.declared.totals.Totals.{Totals}
 use Rattle.wq_ledger.specs.declared.balance.Unbalanced.{Unbalanced}

@@ -49,8 +49,11 @@ struct Callers {
 /// by queue.
 #[derive(Drop)]
 pub struct Raced {
+    /// The pool, with every queue in its slot.
     pub pool: Pool<Idle>,
+    /// The plan's senders, a group for each queue.
     pub by_queue: Vec<Group>,
+    /// The program's senders, one of each queue.
     pub programs: Vec<Sender>,
 }
 

@@ -82,8 +82,8 @@ impl ReadyQueue {
     /// Announces a queue: it waits behind all that were announced before. A queue may be announced more than once.
     ///
     /// # Errors
-    /// `NoQueue` exactly where the number is none of a queue. `Full` only where the ready queue was full at one moment of
-    /// the call.
+    /// `NoQueue` exactly where the number is none of a queue. `Full` only where the ready queue could be full, by all that this
+    /// caller has seen; what other callers do at the time bounds nothing here.
     pub fn announce<R: Wait>(
         &self,
         rt: &R,
@@ -107,7 +107,8 @@ impl ReadyQueue {
         }
     }
 
-    /// Takes the queue that was announced first. `None` only where nothing waited at one moment of the call.
+    /// Takes the queue that was announced first. `None` only where the ready queue could be empty, by all that this caller has
+    /// seen; what other callers do at the time bounds nothing here.
     pub fn pick<R: Wait>(&self, rt: &R, caller: &mut Caller) -> Option<u32>
         requires { IsCallerOf self.now caller.old }
         ensures queue { IfSome result (λ queue. queue < self.now.size.queues) }

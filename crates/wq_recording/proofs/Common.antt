@@ -16,7 +16,7 @@ pub use Rattle.wq_text.specs.Text.{LinesLead, end_fault}
 pub use Rattle.wq_text.specs.Header.{layout_at}
 pub use Rattle.wq_text.specs.Word.{parts}
 pub use Rattle.wq_recording.specs.declared.stop.Stop.{Stop}
-pub use Rattle.wq_recording.specs.Verdict.{Rules, Verdict, IsLineAt, IsLegalText, StopsAt, IsRefusedText, HasVerdict, HasFaultAt}
+pub use Rattle.wq_recording.specs.Verdict.{Rules, Verdict, IsLineAt, IsLegalText, StopsWith, IsRefusedText, HasVerdict, HasFaultAt}
 pub use Rattle.wq_recording.specs.Verdict.{last_fault, is_short, short_line, recording_line}
 pub use Rattle.wq_recording.specs.Recording.{StopsAmong}
 pub use Rattle.wq_recording.specs.Judging.{HasTold, IsMadeAt, TellsAll, ComesTo}

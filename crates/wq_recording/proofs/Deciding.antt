@@ -1,6 +1,6 @@
 -- What stands behind the line that decides changes nothing.
 use Rattle.wq_recording.proofs.Common.{◌≡◌, ◌≢◌, ℕ, ◌<◌, List, [], ◌∷◌, ◌++◌, length, take, drop, Option, Some, None, Result, Ok, Err, refl, sym, ap, subst, ◌∙◌, arith}
-use Rattle.wq_recording.proofs.Common.{append_assoc, length-append, Stage, Lines, ScriptError, parts, Stop, Rules, Verdict, IsLineAt, StopsAt, IsRefusedText, HasVerdict, HasFaultAt}
+use Rattle.wq_recording.proofs.Common.{append_assoc, length-append, Stage, Lines, ScriptError, parts, Stop, Rules, Verdict, IsLineAt, StopsWith, IsRefusedText, HasVerdict, HasFaultAt}
 use Rattle.wq_recording.specs.Verdict.{deciding_line}
 use Rattle.std.proofs.lemmas.List.{length-drop, take-append-drop}
 use Rattle.std.proofs.Math.Seq.{take-append_seam}
@@ -52,8 +52,8 @@ module _ {A E : Type 0} (gives : Lines A) (rules : Rules A E) (text other : List
   has_behind n s asked line [] at long = absurd (omega (arith, at.number, long, ap length at.split, length-append at.before (line ∷ [])))
   has_behind n s asked line (next ∷ more) at long = some_more next more
 
-  stops_also : (v : Verdict E) (stop : Stop) (n : ℕ) → StopsAt gives rules text v.layout v.events stop → stop.line ≡ n → n < length (parts other)
-      → take n (parts other) ≡ take n (parts text) → StopsAt gives rules other v.layout v.events stop
+  stops_also : (v : Verdict E) (stop : Stop) (n : ℕ) → StopsWith gives rules text v.layout v.events stop → stop.line ≡ n → n < length (parts other)
+      → take n (parts other) ≡ take n (parts text) → StopsWith gives rules other v.layout v.events stop
   stops_also v stop n x is more same =
       let P : ℕ → Type 0 = λ m. (m < length (parts other)) × (take m (parts other) ≡ take m (parts text)) in
       let here = subst P (sym is) (more, same) in

@@ -8,7 +8,7 @@ use Rattle.std.proofs.lemmas.List.Elements.{All-append, All-more}
 use Rattle.std.specs.Io.{StartsWith, IsEmptyOrEndsWith}
 use Rattle.std.specs.Io.KnownBytes.{Consumes, IsAtEnd}
 use Rattle.std.proofs.KnownBytes.{starts_with_rest, Consumes-trans}
-use Rattle.wq_recording.specs.Lines.{EndsWithLf, Ends, EndsOrGoesOn}
+use Rattle.wq_recording.specs.Lines.{EndsWithLf, LineEnds, EndsOrGoesOn}
 
 -- n bytes of those at hand, behind the bytes of a line
 module _ (old bytes : List ℕ) (n : ℕ) (within : n ≤ length bytes) where
@@ -75,7 +75,7 @@ read_on a b c old new before starts part =
     subst (Consumes a c) (sym (starts_with_rest new old starts)) (Consumes-trans a b c old (drop (length old) new) before part)
 
 -- where it ends, it ends for the bytes that were known before
-pub ends_on : (a b c : Option (List ℕ)) (old new : List ℕ) → Consumes a b old → Ends new b c → Ends new a c
+pub ends_on : (a b c : Option (List ℕ)) (old new : List ℕ) → Consumes a b old → LineEnds new b c → LineEnds new a c
 ends_on a b c old new before (inl lf) = inl lf
 ends_on a b c old new before (inr (inl long)) = inr (inl long)
 ends_on None b c old new before (inr (inr end)) = inr (inr tt)

@@ -1,7 +1,7 @@
 -- A text has one verdict at most.
 use Rattle.wq_recording.proofs.Common.{◌≡◌, ◌≢◌, ℕ, ◌+◌, List, [], ◌∷◌, ◌++◌, length, Option, Some, None, Result, Ok, Err, refl, sym, ap, subst, ◌∙◌, inl, inr}
 use Rattle.wq_recording.proofs.Common.{flat_map, option_to_list, append_assoc, append-nil, Layout, Cause, Kind, ScriptError, Stage, Lines, LinesLead, layout_at, end_fault}
-use Rattle.wq_recording.proofs.Common.{Stop, Rules, Verdict, IsLineAt, IsLegalText, StopsAt, IsRefusedText, HasVerdict, HasFaultAt}
+use Rattle.wq_recording.proofs.Common.{Stop, Rules, Verdict, IsLineAt, IsLegalText, StopsWith, IsRefusedText, HasVerdict, HasFaultAt}
 use Rattle.wq_recording.proofs.Leading.{one_value, same_lead, LeadsThrough, through, stays_through}
 use Rattle.wq_recording.proofs.Places.{Places, places}
 use Rattle.wq_text.specs.declared.header.Stage.TheVariants as stage
@@ -47,7 +47,7 @@ module _ {A E : Type 0} (gives : Lines A) (rules : Rules A E) (fit : AreFit give
   LegalTo t asked tail = (layout : Layout) → t ≡ stage.Commands layout → rules.IsLegal layout (flat_map rules.tells asked ++ tail)
 
   -- no line that stops is passed by legal ones
-  stop_passed : (layout : Layout) (events : List E) (stop : Stop) (x : StopsAt gives rules text layout events stop) (more : List (List ℕ)) (t : Stage)
+  stop_passed : (layout : Layout) (events : List E) (stop : Stop) (x : StopsWith gives rules text layout events stop) (more : List (List ℕ)) (t : Stage)
       (asked : List A) (tail : List E) → LinesLead gives stage.Version (x.at.before ++ x.line ∷ more) t asked → LegalTo t asked tail → ⊥
   stop_passed layout events stop x more t asked tail leads legal =
       let y = through gives stage.Version t x.at.before x.line more asked leads in
@@ -105,7 +105,7 @@ module _ {A E : Type 0} (gives : Lines A) (rules : Rules A E) (fit : AreFit give
       let Q : List E → Type 0 = λ h. rules.IsLegal l h in
       subst Q (x.events_are ∙ sym (append-nil (flat_map rules.tells x.asked))) (subst P (same_some (sym x.whole ∙ ap layout_at e)) x.legal)
 
-  legal_of_stop : (layout : Layout) (events : List E) (stop : Stop) (x : StopsAt gives rules text layout events stop) → LegalTo x.reached x.asked x.first
+  legal_of_stop : (layout : Layout) (events : List E) (stop : Stop) (x : StopsWith gives rules text layout events stop) → LegalTo x.reached x.asked x.first
   legal_of_stop layout events stop x = λ l e.
       let P : Layout → Type 0 = λ m. rules.IsLegal m events in
       let Q : List E → Type 0 = λ h. rules.IsLegal l h in
@@ -127,7 +127,7 @@ module _ {A E : Type 0} (gives : Lines A) (rules : Rules A E) (fit : AreFit give
       by_place (inr (inl s)) = absurd (some_behind s.more [] [] (sym s.after))
       by_place (inr (inr s)) = absurd (some_behind s.more [] [] (sym s.after))
 
-  legal_stops : (l m : Layout) (h k : List E) (stop : Stop) → IsLegalText gives rules text l h → StopsAt gives rules text m k stop → ⊥
+  legal_stops : (l m : Layout) (h k : List E) (stop : Stop) → IsLegalText gives rules text l h → StopsWith gives rules text m k stop → ⊥
   legal_stops l m h k stop x y = by_place (cut x.number stop.line x.reached y.reached x.asked y.asked [] y.line [] y.behind x.at y.at)
     where
       by_place : Places x.at.before y.at.before [] y.line [] y.behind → ⊥
@@ -170,7 +170,7 @@ module _ {A E : Type 0} (gives : Lines A) (rules : Rules A E) (fit : AreFit give
           let P : List E → Type 0 = λ hs. rules.IsLegal layout hs in
           absurd (fit.clash layout (h ++ others) f s.more d (subst P (ap (λ hs. h ++ hs) s.before ∙ sym (append_assoc h others (f ∷ s.more))) legal) also)
 
-  both_stop : (l m : Layout) (h k : List E) (stop end : Stop) → StopsAt gives rules text l h stop → StopsAt gives rules text m k end
+  both_stop : (l m : Layout) (h k : List E) (stop end : Stop) → StopsWith gives rules text l h stop → StopsWith gives rules text m k end
       → (l ≡ m) × (h ≡ k) × (stop ≡ end)
   both_stop l m h k stop end x y = by_place (cut stop.line end.line x.reached y.reached x.asked y.asked x.line y.line x.behind y.behind x.at y.at)
     where
@@ -209,7 +209,7 @@ module _ {A E : Type 0} (gives : Lines A) (rules : Rules A E) (fit : AreFit give
   faulty_line s line [] kind ended fault = absurd (ended refl)
   faulty_line s line (next ∷ more) kind ended fault = fault
 
-  stops_refused : (l : Layout) (h : List E) (stop : Stop) (e : ScriptError) → StopsAt gives rules text l h stop → IsRefusedText gives rules text e → ⊥
+  stops_refused : (l : Layout) (h : List E) (stop : Stop) (e : ScriptError) → StopsWith gives rules text l h stop → IsRefusedText gives rules text e → ⊥
   stops_refused l h stop e x y = by_place (cut stop.line e.line x.reached y.reached x.asked y.asked x.line y.line x.behind y.behind x.at y.at)
     where
       by_place : Places x.at.before y.at.before x.line y.line x.behind y.behind → ⊥

@@ -8,16 +8,16 @@ abbrev pub EndsWithLf : List ℕ → Type 0
 EndsWithLf line = (0 < length line) × (slice_index line (length line - 1) ≡ 10)
 
 -- it ends with an LF, or has a byte too many, or nothing is left of the bytes, where they were known
-abbrev pub Ends : List ℕ → Option (List ℕ) → Option (List ℕ) → Type 0
-Ends line known left = EndsWithLf line ⊎ ((4096 < length line) ⊎ OnSome known (IsAtEnd left))
+abbrev pub LineEnds : List ℕ → Option (List ℕ) → Option (List ℕ) → Type 0
+LineEnds line known left = EndsWithLf line ⊎ ((4096 < length line) ⊎ OnSome known (IsAtEnd left))
 
 -- it ends so, or has no LF yet
 abbrev pub EndsOrGoesOn : Bool → List ℕ → Option (List ℕ) → Option (List ℕ) → Type 0
-EndsOrGoesOn true line known left = Ends line known left
+EndsOrGoesOn true line known left = LineEnds line known left
 EndsOrGoesOn false line known left = All (λ x. x ≢ 10) line
 
 -- the bytes of a line with its LF, or what there is of one that is too long or the last; no byte but the last is LF
 pub record IsLineRead (line : List ℕ) (known left : Option (List ℕ)) : Type 0 where
   pub few : length line ≤ 4097
   pub stops : StopsAt line 10
-  pub ends : Ends line known left
+  pub ends : LineEnds line known left

@@ -69,7 +69,7 @@ module _ {A E : Type 0} (gives : Lines A) (rules : Rules A E) (text : List ℕ) 
     pub legal : rules.IsLegal layout events
 
   -- the line is whole and has no fault, and its first event that is not legal has this cause
-  pub record StopsAt (layout : Layout) (events : List E) (stop : Stop) : Type 0 where
+  pub record StopsWith (layout : Layout) (events : List E) (stop : Stop) : Type 0 where
     pub reached : Stage
     pub asked : List A
     pub line : List ℕ
@@ -105,7 +105,7 @@ module _ {A E : Type 0} (gives : Lines A) (rules : Rules A E) (text : List ℕ) 
 
   -- what is said of the text
   abbrev pub HasVerdict : Result (Verdict E) ScriptError → Type 0
-  HasVerdict (Ok v) = MatchOption v.stop (IsLegalText v.layout v.events) (StopsAt v.layout v.events)
+  HasVerdict (Ok v) = MatchOption v.stop (IsLegalText v.layout v.events) (StopsWith v.layout v.events)
   HasVerdict (Err e) = IsRefusedText e
 
 -- one thing is said of a text at most

@@ -2,7 +2,7 @@
 use Rattle.wq_script.proofs.Common.{◌≡◌, ◌≢◌, ℕ, ◌<◌, Bool, true, false, List, [], ◌∷◌, ◌++◌, length, refl, sym, ap, ◌∙◌, subst, arith, if◌then◌else◌}
 use Rattle.wq_script.proofs.Common.{append-nil, Layout, Event, Close, closed, begun, ended, IsRunning, IsLegal, owner_seat, Answer, DelayTable, queue_events}
 use Rattle.wq_script.proofs.Common.{queue_answer, close_events, after_executions, ended_since, ScriptState, begun-append, ended-append, Engine, Seats, Tally}
-use Rattle.wq_script.proofs.Common.{Lists, Seated, ListsFit, Asks, Reaches, Ran, HasLists, GoesWithTable, Tallied, counted, Meets, Does, size, AsksFor}
+use Rattle.wq_script.proofs.Common.{Lists, Seated, ListsFit, Asks, Reaches, Ran, HasLists, GoesWithTable, Tallied, counted, Meets, Does, size, AsksOf}
 use Rattle.wq_script.proofs.Common.{state_after, lines, line, Command, length-append, answer_text}
 use Rattle.wq_meaning.proofs.Sizes.{queue_few}
 use Rattle.wq_script.proofs.Tallies.{Foreign, idle_on, tallied_own, all_own, legal_has}
@@ -55,7 +55,7 @@ asked_meets layout a b x u s sender k got lt m asks counts =
 
 -- a command that asks for a queueing, and writes how that was answered
 pub asked_does : (e : Engine) (b : Seats) (u : Tally) (before now text : List ℕ) (sender : ℕ) (number : Layout → ℕ) (got : Answer) (c : Command)
-    → sender < e.layout.senders → AsksFor sender number got e.seats b → u ≡ counted got e.tally → now ≡ before ++ line text → text ≡ answer_text got
+    → sender < e.layout.senders → AsksOf sender number got e.seats b → u ≡ counted got e.tally → now ≡ before ++ line text → text ≡ answer_text got
     → ((s : ScriptState) → state_after e.layout s c ≡ record s { history = s.history ++ queue_events sender (number e.layout) s.history })
     → ((s t : ScriptState) → lines e.layout s t c ≡ line (answer_text (queue_answer (number e.layout) s.history)))
     → Does e (engine e.layout b u) before now c

@@ -10,7 +10,7 @@ use Rattle.wq_script.proofs.Common.{Quiet, IsWorkerIdle, Executed, ExecutesOne, 
 use Rattle.wq_worker.specs.declared.ran.Ran.TheVariants.{Nothing}
 use Rattle.wq_worker.proofs.Seats.{adds_none}
 use Rattle.wq_worker.proofs.Step.{moves_on}
-use Rattle.wq_worker.specs.Step.{Starts, item, other, owed, Ends, ends, Owes, owes, Runs}
+use Rattle.wq_worker.specs.Step.{stays, StartsBy, item, other, owed, Ends, ends, OwesBy, owes, Runs}
 use Rattle.wq_meaning.proofs.Executions.{ended_execution, row_goes_on}
 use Rattle.wq_script.proofs.Executed.{exact, executed, nothing_next, taking_is}
 
@@ -31,7 +31,7 @@ follow_fits follows n k fits = elim (cases_lt k (length follows)) [
 no_list : (follows : List (ArrayVec ℕ)) (k : ℕ) → length follows ≤ k → follow_of follows k ≡ []
 no_list follows k le = ap (λ (f : ArrayVec ℕ). f.items) (get_or-eq_default follows no_follow le)
 
-starts_lists : (a : WorkerState Lists) (k : ℕ) (f : List ℕ) (v : Lists) (es : List Event) → Starts may_be a k f v es → v.follows ≡ a.work.follows
+starts_lists : (a : WorkerState Lists) (k : ℕ) (f : List ℕ) (v : Lists) (es : List Event) → StartsBy may_be stays a k f v es → v.follows ≡ a.work.follows
 starts_lists a k f v es (item idle lt may is) = may.1
 starts_lists a k f v es (other idle le none same is) = ap (λ (w : Lists). w.follows) same
 starts_lists a k f v es (owed runs left same none) = ap (λ (w : Lists). w.follows) same
@@ -50,7 +50,7 @@ module _ (a b : WorkerState Lists) (k : ℕ) (f : List ℕ) (es fs : List Event)
       let d = executed wide a.number a.work.follows.items a.seen k f fs answers fit follows (subst (λ (x : List Event). IsLegal wide x) whole e.2) in
       record { next_is = d.0; seen_is = whole ∙ d.1; idle = idle_then }
 
-  starts_so : Starts may_be a k f b.work es → (wide : Layout) (z : List Event) → IsWorkerIdle wide a → Quiet wide a.number a.seen z
+  starts_so : StartsBy may_be stays a k f b.work es → (wide : Layout) (z : List Event) → IsWorkerIdle wide a → Quiet wide a.number a.seen z
       → IsPrefix b.seen z → Executed a b (Some k)
   starts_so (item idle lt may is) wide z ready quiet begins =
       ended_so wide z ready quiet begins is may.0
@@ -103,7 +103,7 @@ nothing_executes a b told = record {
       };
 }
 
-pub owes_executes : (a b : WorkerState Lists) (k : ℕ) → Owes may_be a k b → ExecutesOne a b None
+pub owes_executes : (a b : WorkerState Lists) (k : ℕ) → OwesBy may_be stays a k b → ExecutesOne a b None
 owes_executes a b k (owes f qs j more es fs starts splits left is_open told moves runs) = record {
   stepped = record { events = _; others = a.tries; moves = moves; lists = starts_lists a k f b.work es starts };
   quiet = λ wide z ready quiet begins.

@@ -19,8 +19,8 @@ pub record Asks (layout : Layout) (sender k : ℕ) (a : Answer) (h : List Event)
   pub table : IsSameTable s.delay t.delay
 
 -- the same, of the number that it is in a queue of any size, and of every history that the seats have seen
-abbrev pub AsksFor : ℕ → (Layout → ℕ) → Answer → Seats → Seats → Type 0
-AsksFor sender number a s t = (layout : Layout) (h : List Event) → Seated layout s h → Asks layout sender (number layout) a h s t
+abbrev pub AsksOf : ℕ → (Layout → ℕ) → Answer → Seats → Seats → Type 0
+AsksOf sender number a s t = (layout : Layout) (h : List Event) → Seated layout s h → Asks layout sender (number layout) a h s t
 
 -- this is the history now, and the work and the table are as they were
 pub record Reaches (layout : Layout) (h : List Event) (s t : Seats) : Type 0 where

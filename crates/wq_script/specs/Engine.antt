@@ -28,7 +28,7 @@ abbrev pub HasStateWithin : ℕ → Engine → Type 0
 HasStateWithin most e = (s : ScriptState) × Meets e s × (size s ≤ most)
 
 -- a drain of at most so many executions was made, and these were executed
-pub record DrainsBy (limit : ℕ) (e f : Engine) (ran : List ℕ) : Type 0 where
+pub record EngineDrains (limit : ℕ) (e f : Engine) (ran : List ℕ) : Type 0 where
   pub layout : f.layout ≡ e.layout
   pub meets : (s : ScriptState) → Meets e s → Meets f (record s { history = after_drain e.layout s limit })
   pub ran_is : (s : ScriptState) → Meets e s → ran ≡ ended_since s.history (after_drain e.layout s limit)

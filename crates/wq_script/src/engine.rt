@@ -23,7 +23,7 @@ pub(crate) struct Engine {
 }
 
 impl Engine {
-    ghost use Rattle.wq_script.specs.Engine.{Meets, size, HasStateWithin, DrainsBy, Does};
+    ghost use Rattle.wq_script.specs.Engine.{Meets, size, HasStateWithin, EngineDrains, Does};
 
     // An open queue with nothing in it, and empty lists.
     pub(crate) fn new(alloc: Global, layout: Layout) -> Result<Engine, AllocError>
@@ -104,7 +104,7 @@ impl Engine {
     // Makes a drain of at most so many executions, which resumes where nothing is left. The numbers that were executed.
     fn drain_row(&mut self, alloc: Global, limit: u32) -> Result<Vec<u32>, AllocError>
         requires { HasStateWithin (2 ^ 60) self.old }
-        ensures { IfOk result (λ ran. DrainsBy limit self.old self.new ran.items) }
+        ensures { IfOk result (λ ran. EngineDrains limit self.old self.new ran.items) }
     {
         if self.seats.drain_none() {
             return Ok(Vec::new(alloc));

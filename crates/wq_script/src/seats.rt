@@ -6,7 +6,7 @@ ghost use Rattle.wq_words.specs.declared.event.Event.{Event};
 ghost use Rattle.wq_words.specs.Numbers.{barrier_number, stop_number};
 ghost use Rattle.wq_live.specs.Known.{Known};
 ghost use Rattle.wq_script.specs.Seats.{StaysSilent, AllHear, IsSameTable, AreOne, Gathers, Seated, HasHistory};
-ghost use Rattle.wq_script.specs.Asking.{AsksFor, LooksAt, ClosesAs, DrainsNone, RunsAs};
+ghost use Rattle.wq_script.specs.Asking.{AsksOf, LooksAt, ClosesAs, DrainsNone, RunsAs};
 ghost use Rattle.wq_script.specs.Arming.{ArmsAs, CancelsAs, ModifiesAs, IsBack, IsPosted};
 ghost use Rattle.wq_words.specs.History.{pending, closed};
 ghost use Rattle.wq_words.specs.DelayTable.{on_table};
@@ -98,7 +98,7 @@ impl Seats {
         requires seated { HasHistory self.old }
         requires place { sender < length self.old.senders.items }
         requires item { item < self.old.delay.sender.layout.items }
-        ensures { AsksFor sender (λ _. item) result self.old self.new }
+        ensures { AsksOf sender (λ _. item) result self.old self.new }
     {
         let place = sender as usize;
         let answer = self.senders[place].queue_tries(item, 1);
@@ -111,7 +111,7 @@ impl Seats {
         requires seated { HasHistory self.old }
         requires place { sender < length self.old.senders.items }
         requires barrier { barrier < self.old.delay.sender.layout.barriers }
-        ensures { AsksFor sender (λ layout. barrier_number layout barrier) result self.old self.new }
+        ensures { AsksOf sender (λ layout. barrier_number layout barrier) result self.old self.new }
     {
         let place = sender as usize;
         let answer = self.senders[place].flush_begin(barrier, 1);
@@ -123,7 +123,7 @@ impl Seats {
     pub(crate) fn stop(&mut self, sender: u32) -> Answer
         requires seated { HasHistory self.old }
         requires place { sender < length self.old.senders.items }
-        ensures { AsksFor sender stop_number result self.old self.new }
+        ensures { AsksOf sender stop_number result self.old self.new }
     {
         let place = sender as usize;
         let answer = self.senders[place].request_stop(1);

@@ -7,8 +7,7 @@ use Rattle.std.proofs.lemmas.List.{map-append}
 use Rattle.atomic_table.specs.Table.{Splits, opening}
 use Rattle.wq_words.proofs.Growing.{at_end}
 use Rattle.wq_core.specs.Machine as machine
-use Rattle.wq_table.specs.Law.{front_of, rest_of}
-use Rattle.wq_table.proofs.Views.{opens, opens_machine, blanks, blanks_machine, offs, offs_machine}
+use Rattle.wq_table.proofs.Views.{front_of, rest_of, opens, opens_machine, blanks, blanks_machine, offs, offs_machine}
 use Rattle.wq_table.specs.Slots.{opening_values}
 use Rattle.wq_table.proofs.ValueRule.{map_set, plain_telling}
 

@@ -9,9 +9,18 @@ use Rattle.atomic_table.specs.Table.{Splits, Joins, opening}
 use Rattle.wq_core.specs.Machine.{opening as opening_machine}
 use Rattle.wq_table.proofs.Present.{stands_put, stands_behind, cut_present, cut_longest, joined_at, seat_both, seen_both, seat_meets, seen_meets}
 use Rattle.wq_table.proofs.Present.{present_open, longest_open}
-use Rattle.wq_table.specs.Law.{Apart, owner_part, front_of, rest_of}
+use Rattle.wq_table.specs.Law.{Apart, owner_part}
 use Rattle.wq_core.proofs.Sound.{sound_opening}
 use Rattle.wq_words.proofs.Growing.{at_end}
+
+-- the first part is cut off
+abbrev pub front_of : View → View
+front_of [] = []
+front_of (p ∷ ps) = p ∷ []
+
+abbrev pub rest_of : View → View
+rest_of [] = []
+rest_of (p ∷ ps) = ps
 
 module _ (m : Machine) where
   -- the seats of a view may be placed anew
@@ -131,6 +140,15 @@ pub boths_machine : (l : Layout) (id : ℕ) (v : View) (other : ℕ) (w : View) 
     (apart : ¬ (other ≡ id)) (there : get_elem? (set s.views id (w ++ v)) other ≡ some w) → (boths l id v other w s r at apart there).machine ≡ r.machine
 unfolding boths
 boths_machine l id v other w s r at apart there = refl
+
+-- the first part is cut off
+abbrev pub front_of : View → View
+front_of [] = []
+front_of (p ∷ ps) = p ∷ []
+
+abbrev pub rest_of : View → View
+rest_of [] = []
+rest_of (p ∷ ps) = ps
 
 module _ (m : Machine) where
   pub apart_all : (c : ℕ) (v : View) → Apart c v → Apart c (all_see m.history v)

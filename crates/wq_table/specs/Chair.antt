@@ -1,15 +1,13 @@
 -- What a clause sees of a chair, but for what its items bring, and what its steps do.
-use Rattle.std.specs.Prelude.{◌≡◌, ℕ, zero, suc, List, [], ◌∷◌, ◌++◌, Some, None}
+use Rattle.std.specs.Prelude.{◌≡◌, ℕ, [], ◌∷◌, Some, None}
 use Rattle.atomic_table.specs.Seated.{TableId}
-use Rattle.wq_words.specs.declared.layout.Layout.{Layout}
 use Rattle.wq_core.specs.declared.step.Step.{Step}
 use Rattle.wq_core.specs.Machine.{Machine, StandsIn}
-use Rattle.wq_core.specs.Sound.{IsSound}
 use Rattle.wq_table.specs.declared.table.Part.{Part}
 use Rattle.wq_table.specs.declared.table.Stage.{Stage}
 use Rattle.wq_table.specs.declared.table.Stage.TheVariants.{Sends, Owns}
-use Rattle.wq_table.specs.Law.{View, IsPartOf, sender_part, owner_part}
-use Rattle.wq_table.specs.Plays.{see, all_see, AllOf}
+use Rattle.wq_table.specs.Law.{View, IsPartOf}
+use Rattle.wq_table.specs.Plays.{AllOf}
 use Rattle.wq_table.specs.Places.{chosen, besides, MakesAt}
 
 -- which queue it is of, and what each seat that it speaks for knows: a first part, and maybe others
@@ -82,37 +80,3 @@ pub record Steps (at : ℕ) (step : Step) (word : ℕ) (old new : Standing) : Ty
 pub record SeatedIn (m : Machine) (it : Standing) : Type 0 where
   pub fits : IsPartOf m it.part
   pub others_fit : AllOf m it.others
-
--- a chair that has seen all that has happened, and keeps what it kept
-abbrev pub seeing : Machine → Standing → Standing
-seeing m it = record { queue = it.queue; part = see m.history it.part; others = all_see m.history it.others }
-
--- both have seen all that has happened
-pub record Meet (this that this' that' : Standing) : Type 0 where
-  pub machine : Machine
-  pub sound : IsSound machine
-  pub this_fits : SeatedIn machine this
-  pub that_fits : SeatedIn machine that
-  pub this_is : this' ≡ seeing machine this
-  pub that_is : that' ≡ seeing machine that
-
--- the chair speaks for both, and has seen all that has happened
-pub record Joined (this that both : Standing) : Type 0 where
-  pub machine : Machine
-  pub sound : IsSound machine
-  pub this_fits : SeatedIn machine this
-  pub that_fits : SeatedIn machine that
-  pub queue_is : both.queue ≡ this.queue
-  pub part_is : both.part ≡ see machine.history this.part
-  pub others_are : both.others ≡ all_see machine.history (this.others ++ that.part ∷ that.others)
-
--- the chairs of the senders below m, which have seen nothing
-abbrev pub sender_chair : TableId → Layout → ℕ → Standing
-sender_chair queue layout c = record { queue = queue; part = sender_part layout c; others = [] }
-
-abbrev pub sender_chairs : TableId → Layout → ℕ → List Standing
-sender_chairs queue layout zero = []
-sender_chairs queue layout (suc m) = sender_chairs queue layout m ++ sender_chair queue layout m ∷ []
-
-abbrev pub owner_chair : TableId → Layout → Standing
-owner_chair queue layout = record { queue = queue; part = owner_part layout; others = [] }

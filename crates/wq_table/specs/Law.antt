@@ -100,12 +100,3 @@ row layout c (suc m) = sender_part layout c ∷ row layout (c + 1) m
 
 abbrev pub opening_view : Layout → View
 opening_view layout = row layout 0 layout.senders
-
--- the first part is cut off
-abbrev pub front_of : View → View
-front_of [] = []
-front_of (p ∷ ps) = p ∷ []
-
-abbrev pub rest_of : View → View
-rest_of [] = []
-rest_of (p ∷ ps) = ps

@@ -53,7 +53,9 @@ impl fmt::Display for Kind {
 #[derive(Clone, Copy, Debug, PartialEq, Eq, Error)]
 #[error("line {line}: {kind}")]
 pub struct ScriptError {
+    /// The line, counted from 1.
     pub line: u64,
+    /// The first thing that is wrong with it.
     pub kind: Kind,
 }
 
@@ -71,7 +73,9 @@ pub enum ParseError {
 /// Why a line could not be read.
 #[derive(Drop)]
 pub enum LineError {
+    /// The allocator gave no memory.
     Memory,
+    /// This is the first thing that is wrong with it.
     Fault(Kind),
 }
 

@@ -22,10 +22,15 @@ pub struct Most {
 /// layout has 1 of each thing that no line has named yet.
 #[derive(Clone, Copy)]
 pub enum Stage {
+    /// The first line, which names the language and its version.
     Version,
+    /// The line that says how many items the queue has.
     Items,
+    /// That of the senders, in a language that names seats.
     Senders(Layout),
+    /// That of the barriers, which may be left out.
     Barriers(Layout),
+    /// A line behind the header.
     Commands(Layout),
 }
 

@@ -21,6 +21,6 @@ pub use Rattle.wq_worker.specs.Seats.{taking, Adds, NothingWaits, at_take, at_al
 pub use Rattle.wq_worker.proofs.Owned.{owner_of_both, filter-filter, owner_grows, quiet_stays, quiet_none, IsQuiet, OwnerAdds}
 pub use Rattle.wq_turn.specs.declared.runner.Progress.TheVariants.{Ended, Owed, Done}
 pub use Rattle.wq_turn.specs.Steps.{Pauses, limited, owes, owed_before, WorksOn, StepRow, still, ready, unready, run, rest, Finishes, rested, completed}
-pub use Rattle.wq_turn.specs.Steps.{IsDue, Settles, RunsOne, MakesProgress}
+pub use Rattle.wq_turn.specs.Steps.{IsDue, SettlesOne, RunsOne, MakesProgress}
 pub use Rattle.wq_turn.specs.StopItem.{HasSeenStop, IsNoted}
 pub use Rattle.wq_turn.specs.WorkerId.{worker_id}

@@ -5,7 +5,7 @@ use Rattle.wq_turn.proofs.Common.{◌≡◌, ℕ, ◌+◌, ◌<◌, ◌≤◌, B
 use Rattle.wq_turn.proofs.Common.{Layout, IsShut, IsRunning, closed, IsLegal, IsClosed_from_closed, MayNotRest, Ran, Item, Barrier, Stop, Nothing, Owing}
 use Rattle.wq_turn.proofs.Common.{IsExecution, ended_by_answer, WorkerState, Moves, rest_events, IsReady, IsUnready, owed, nothing, HasNoneLeft, LeavesWork}
 use Rattle.wq_turn.proofs.Common.{taking, Adds, NothingWaits, Ended, Owed, Done, limited, owes, WorksOn, StepRow, still, ready, unready, run, rest, Finishes}
-use Rattle.wq_turn.proofs.Common.{rested, completed, IsDue, Settles, RunsOne, MakesProgress}
+use Rattle.wq_turn.proofs.Common.{rested, completed, IsDue, SettlesOne, RunsOne, MakesProgress}
 use Rattle.wq_turn.specs.declared.runner.Progress.{Progress}
 use Rattle.wq_turn.proofs.Refused.{refused_waits, none_left_complete}
 use Rattle.wq_turn.proofs.Steps.{steps_on, steps_ended, finishes_on}
@@ -38,27 +38,27 @@ module _ {W : Type 0} (may : W → ℕ → List ℕ → W → Type 0) (gives : W
   was_unready a b idle (owed runs same) = absurd (idle runs)
   was_unready a b idle (nothing waits none moved left) = (waits, none)
 
-  settled_on : (r : Option ℕ) (a b c : WorkerState W) → StepRow may gives 0 a b → Settles may gives r b c → Settles may gives r a c
+  settled_on : (r : Option ℕ) (a b c : WorkerState W) → StepRow may gives 0 a b → SettlesOne may gives r b c → SettlesOne may gives r a c
   settled_on None a b c steps t = (finishes_on may gives 0 0 a b c (omega arith) steps t.0, t.1)
   settled_on (Some k) a b c steps t = record { steps = steps_on may gives 0 0 a b c steps t.steps; idle = t.idle; next_is = t.next_is }
 
   -- a worker that was not ready settles
-  pub settled_unready : (r : Option ℕ) (a b c : WorkerState W) → IsUnready a b → Settles may gives r b c → Settles may gives r a c
+  pub settled_unready : (r : Option ℕ) (a b c : WorkerState W) → IsUnready a b → SettlesOne may gives r b c → SettlesOne may gives r a c
   settled_unready r a b c is t = settled_on r a b c (unready 0 a a b (still a) is) t
 
-  pub settled_closed : (a : WorkerState W) → IsLegal a.layout a.seen → closed a.seen ≡ true → HasNoneLeft a.seen → Settles may gives None a a
+  pub settled_closed : (a : WorkerState W) → IsLegal a.layout a.seen → closed a.seen ≡ true → HasNoneLeft a.seen → SettlesOne may gives None a a
   settled_closed a legal is none =
       (completed 0 (omega arith) (still a) (none_left_complete a.layout a.seen legal (IsClosed_from_closed a.seen is) none), none.0)
 
   pub settled_rested : (rests : Bool) (a b : WorkerState W) → rests ≡ true → LeavesWork a b → Moves (rest_events rests) 0 a b → HasNoneLeft b.seen
-      → Settles may gives None a b
+      → SettlesOne may gives None a b
   settled_rested rests a b is left moved none =
       (rested 0 a (omega arith) (still a) left (subst (λ (z : Bool). Moves (rest_events z) 0 a b) is moved), none.0)
 
   -- a rest was refused, and the worker got ready
   pub settled_refused : (rests : Bool) (r : Option ℕ) (a b c : WorkerState W) → rests ≡ false → NothingWaits a.seen → LeavesWork a b
       → Moves (rest_events rests) 0 a b → ¬ IsShut b.seen → HasNoneLeft b.seen → MayNotRest b.seen
-      → MatchOption r (IsUnready b c) (λ k. IsReady b k c) → Settles may gives r a c
+      → MatchOption r (IsUnready b c) (λ k. IsReady b k c) → SettlesOne may gives r a c
   settled_refused rests (Some k) a b c is waits left moved opens none why step =
       record { steps = ready 0 k a b c (rest 0 rests a a b (still a) left moved) step; idle = step.idle; next_is = step.next_is }
   settled_refused rests None a b c is waits left moved opens none why (owed runs same) = absurd (none.0 runs)

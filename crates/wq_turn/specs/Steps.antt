@@ -50,9 +50,9 @@ module _ {W : Type 0} (may : W → ℕ → List ℕ → W → Type 0) (gives : W
     pub next_is : next_of c.seen ≡ Some k
 
   -- nothing was left to do, or a number is to be begun next
-  abbrev pub Settles : Option ℕ → WorkerState W → WorkerState W → Type 0
-  Settles None a c = Finishes 0 a c × (¬ IsRunning c.seen)
-  Settles (Some k) a c = IsDue a k c
+  abbrev pub SettlesOne : Option ℕ → WorkerState W → WorkerState W → Type 0
+  SettlesOne None a c = Finishes 0 a c × (¬ IsRunning c.seen)
+  SettlesOne (Some k) a c = IsDue a k c
 
   -- an execution ended, or is owed
   abbrev pub RunsOne : Progress → WorkerState W → WorkerState W → Type 0

@@ -8,7 +8,7 @@ ghost use Rattle.wq_worker.specs.Resting.{HasNoneLeft};
 ghost use Rattle.wq_worker.specs.Seats.{NothingWaits};
 ghost use Rattle.wq_turn.specs.Drained.{IsDrained};
 ghost use Rattle.wq_turn.specs.Owed.{IsOwed};
-ghost use Rattle.wq_turn.specs.Steps.{Settles, RunsOne, MakesProgress, WorksOn};
+ghost use Rattle.wq_turn.specs.Steps.{SettlesOne, RunsOne, MakesProgress, WorksOn};
 ghost use Rattle.wq_turn.specs.WorkerId.{worker_id};
 
 use crate::gate::Gate;
@@ -107,7 +107,7 @@ impl<K: Station> Runner<K> {
     fn rest(&mut self) -> Option<u32>
         requires waits { NothingWaits (K.state self.old).seen }
         requires none { HasNoneLeft (K.state self.old).seen }
-        ensures { Settles K.may K.gives result (K.state self.old) (K.state self.new) }
+        ensures { SettlesOne K.may K.gives result (K.state self.old) (K.state self.new) }
     {
         if self.worker.is_closed() {
             return None;
@@ -121,7 +121,7 @@ impl<K: Station> Runner<K> {
     // Answers the number to be begun next. `None` where nothing is left to do.
     fn settle(&mut self) -> Option<u32>
         requires { ¬ IsRunning (K.state self.old).seen }
-        ensures { Settles K.may K.gives result (K.state self.old) (K.state self.new) }
+        ensures { SettlesOne K.may K.gives result (K.state self.old) (K.state self.new) }
     {
         match self.worker.ready() {
             Some(number) => Some(number),

@@ -1,8 +1,12 @@
--- Which events seats count.
-use Rattle.std.specs.Prelude.{ℕ, ◌==◌, Bool, true, false}
+-- Which events seats count, and how far.
+use Rattle.std.specs.Prelude.{ℕ, ◌==◌, ◌-◌, ◌^◌, min, Bool, true, false}
 use Rattle.wq_words.specs.declared.event.Event.{Event}
 use Rattle.wq_words.specs.declared.event.Event.TheVariants.{Busy, Push, Back, Chain, ChainBusy}
 use Rattle.wq_words.specs.declared.event.Why.TheVariants.{Closed, Contended, Draining}
+
+-- a count stops at the largest number of 64 bits
+abbrev pub capped : ℕ → ℕ
+capped n = min n (2 ^ 64 - 1)
 
 -- sender s was answered that its number is queued, is pending already, may not be queued any more, lost each try, or may not be
 -- queued while the queue drains

@@ -117,14 +117,5 @@ module _ {W : Type 0} (may : W → ℕ → List ℕ → W → Type 0) where
   abbrev pub Serves : WorkerState W → WorkerState W → Type 0
   Serves = ServesBy may stays
 
-  abbrev pub RunsOut : ℕ → ℕ → WorkerState W → WorkerState W → Type 0
-  RunsOut = RunsOutBy may stays
-
-  abbrev pub Empties : ℕ → WorkerState W → WorkerState W → Type 0
-  Empties = EmptiesBy may stays
-
-  abbrev pub LeavesSome : ℕ → ℕ → WorkerState W → WorkerState W → Type 0
-  LeavesSome = LeavesSomeBy may stays
-
   abbrev pub Drains : ℕ → Drained → WorkerState W → WorkerState W → Type 0
   Drains = DrainsBy may stays

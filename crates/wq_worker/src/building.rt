@@ -7,7 +7,9 @@ use wq_live::BuildError;
 #[derive(Drop, Error)]
 #[error("{error}")]
 pub struct Unbuilt<W> {
+    /// The work, as it was handed in.
     pub work: W,
+    /// Why there is no queue.
     pub error: BuildError,
 }
 

@@ -20,7 +20,9 @@ pub enum Drained {
 #[derive(Drop, Error)]
 #[error("{left} numbers are accepted and have not ended")]
 pub struct Unfinished<K> {
+    /// The worker, whose queue is closed.
     pub worker: K,
+    /// How many numbers are accepted and have not ended.
     pub left: u32,
 }
 

@@ -185,8 +185,8 @@ impl<V: Drop, W: ValueWork<V>> ValueWorker<V, W> {
     }
 
     /// What the worker has seen is a legal history, so it keeps the headline: what was accepted is executed in its order, once,
-    /// and one at a time. With the values that its events carry it is legal too: each execution of an item was handed what that
-    /// item's own queueing brought.
+    /// and one at a time. Each accepted item brought a value, no other number did, and the values in the order of the pushes are
+    /// those in the order of the executions; that an execution was handed that very value is said by `run_one` and `logged`.
     pub fn legal(&self)
         ensures legal { IsLegal self.now.worker.layout self.now.worker.seen }
         ensures headline { KeepsHeadline self.now.worker.seen }

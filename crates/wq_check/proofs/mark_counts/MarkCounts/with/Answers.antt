@@ -1,6 +1,6 @@
 use Rattle.std.proofs.Common.{◌≡◌, ◌+◌, ◌++◌, ◌∷◌, [], cond, max, length, refl, sym, ap, ◌∙◌}
 use Rattle.wq_check.specs.Trace.{queued_by, queued, started_by, started, returned_by, returned, unstarted, most_unstarted}
-use Rattle.wq_check.specs.Report.{stopped}
+use Rattle.wq_words.specs.Counting.{capped}
 use Rattle.wq_check.proofs.Lists.{largest_up_to-push}
 use Rattle.wq_check.proofs.Counted.{length_push, mapped_push}
 use Rattle.wq_check.proofs.mark_counts.MarkCounts.with.Goals as goal
@@ -8,17 +8,17 @@ use Rattle.wq_check.proofs.mark_counts.MarkCounts.with.Goals as goal
 pub returns : goal.returns
 returns c = λ t is fits.
     let m = c.args.mark in
-    let marks : c.counted.result ≡ stopped (length (t ++ m ∷ [])) =
-    c.counted.ensures (length t) (ap (λ x. x.marks) is) ∙ ap stopped (length_push t m) in
-    let queued' : c.counted-2.result ≡ stopped (length (queued (t ++ m ∷ []))) =
+    let marks : c.counted.result ≡ capped (length (t ++ m ∷ [])) =
+    c.counted.ensures (length t) (ap (λ x. x.marks) is) ∙ ap capped (length_push t m) in
+    let queued' : c.counted-2.result ≡ capped (length (queued (t ++ m ∷ []))) =
     c.counted-2.ensures (length (queued t)) (ap (λ x. x.queued) is)
-    ∙ (ap (λ b. stopped (length (queued t) + cond b 1 0)) c.is_queue.ensures ∙ ap stopped (mapped_push queued_by t m)) in
-    let started' : c.counted-3.result ≡ stopped (length (started (t ++ m ∷ []))) =
+    ∙ (ap (λ b. capped (length (queued t) + cond b 1 0)) c.is_queue.ensures ∙ ap capped (mapped_push queued_by t m)) in
+    let started' : c.counted-3.result ≡ capped (length (started (t ++ m ∷ []))) =
     c.counted-3.ensures (length (started t)) (ap (λ x. x.started) is)
-    ∙ (ap (λ b. stopped (length (started t) + cond b 1 0)) c.is_start.ensures ∙ ap stopped (mapped_push started_by t m)) in
-    let ended' : c.counted-4.result ≡ stopped (length (returned (t ++ m ∷ []))) =
+    ∙ (ap (λ b. capped (length (started t) + cond b 1 0)) c.is_start.ensures ∙ ap capped (mapped_push started_by t m)) in
+    let ended' : c.counted-4.result ≡ capped (length (returned (t ++ m ∷ []))) =
     c.counted-4.ensures (length (returned t)) (ap (λ x. x.ended) is)
-    ∙ (ap (λ b. stopped (length (returned t) + cond b 1 0)) c.is_end.ensures ∙ ap stopped (mapped_push returned_by t m)) in
+    ∙ (ap (λ b. capped (length (returned t) + cond b 1 0)) c.is_end.ensures ∙ ap capped (mapped_push returned_by t m)) in
     let most : c.max.result ≡ most_unstarted (t ++ m ∷ []) =
     c.max.ensures ∙ (ap (λ n. max n c.args.waiting_count) (ap (λ x. x.most_waiting) is)
     ∙ (ap (max (most_unstarted t)) fits ∙ sym (largest_up_to-push (λ u. length (unstarted u)) t m))) in

@@ -1,4 +1,4 @@
-use Rattle.wq_delay.proofs.Common.{ℕ, sym, ◌∙◌, subst, arith, without_off, Known, DelayState, GivesBack}
+use Rattle.wq_delay.proofs.Common.{ℕ, sym, ◌∙◌, subst, arith, without_off, Known, DelayState, GivesAllBack}
 use Rattle.wq_delay.proofs.Going.{Given, given_none, given_more, given_same, given_all, taken_held, on_less, off_more, all_off}
 use Rattle.wq_delay.proofs.delay.Delay.dissolve.Goals.{then-take, else-take}
 use Rattle.wq_delay.proofs.delay.Delay.dissolve.Goals as goal
@@ -37,7 +37,7 @@ loop-item-preserved c =
 pub returns-clause-given : goal.returns-clause-given
 returns-clause-given c =
     let i = c.self.inside in let l = c.loop-item in
-    subst (λ (z : DelayState). GivesBack z l.sender) c.self.view_is
+    subst (λ (z : DelayState). GivesAllBack z l.sender) c.self.view_is
     (given_all l.table.size i.sender l.sender i.table.entries l.table.entries i.table.tick i.next i.looked l.invariant.0
     (all_off l.table.entries c.size-item-end.result l.item l.invariant.1 c.loop-item-test.false l.invariant.2))
 

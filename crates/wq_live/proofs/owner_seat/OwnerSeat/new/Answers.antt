@@ -1,5 +1,5 @@
 use Rattle.wq_live.proofs.Common.{refl, sym, ap, ◌∙◌, subst, TableId, ValueStanding, standing_of, Owning, kept_batch, Open, None, OwnsSlots}
-use Rattle.wq_table.specs.Chair.{owner_chair}
+use Rattle.wq_live.proofs.Chairs.{owner_chair}
 use Rattle.wq_live.proofs.Built.{executes_new}
 use Rattle.wq_live.proofs.owner_seat.OwnerSeat.new.Goals as goal
 

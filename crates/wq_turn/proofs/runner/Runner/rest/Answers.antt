@@ -1,4 +1,4 @@
-use Rattle.wq_turn.proofs.Common.{None, sym, ap, ◌∙◌, subst, IsRunning, WorkerState, HasNoneLeft, NothingWaits, Settles}
+use Rattle.wq_turn.proofs.Common.{None, sym, ap, ◌∙◌, subst, IsRunning, WorkerState, HasNoneLeft, NothingWaits, SettlesOne}
 use Rattle.wq_turn.proofs.Settled.{settled_closed, settled_rested, settled_refused}
 use Rattle.wq_words.proofs.Closed.{open_from_closed}
 use Rattle.wq_turn.proofs.Kept.{idle_owes, ready_idle, ready_not_draining, rest_not_draining}
@@ -21,13 +21,13 @@ pub returns-then-is_closed : goal.returns-then-is_closed
 returns-then-is_closed g c =
     let k = g.K.Station in let a = k.state c.self.inside.worker in let e = c.is_closed.ensures in
     let none : HasNoneLeft a.seen = rw (ap k.state c.self.view_is) c.requires.none in
-    subst (λ (w : WorkerState _). Settles k.may k.gives None w w) (ap k.state c.self.view_is)
+    subst (λ (w : WorkerState _). SettlesOne k.may k.gives None w w) (ap k.state c.self.view_is)
     (settled_closed k.may k.gives a e.legal (sym e.closed ∙ c.if-is_closed.true) none)
 
 pub returns-then-rest : goal.returns-then-rest
 returns-then-rest g c =
     let k = g.K.Station in let a = k.state c.self.inside.worker in let b = k.state c.rest.new.self in let e = c.rest.ensures in
-    subst (λ (w : WorkerState _). Settles k.may k.gives None w b) (ap k.state c.self.view_is)
+    subst (λ (w : WorkerState _). SettlesOne k.may k.gives None w b) (ap k.state c.self.view_is)
     (settled_rested k.may k.gives c.rest.result a b c.if-rest.true e.work e.events e.none)
 
 pub returns : goal.returns
@@ -35,6 +35,6 @@ returns g c =
     let k = g.K.Station in let a = k.state c.self.inside.worker in let b = k.state c.rest.new.self in let d = k.state c.ready.new.self in
     let e = c.rest.ensures in
     let waits : NothingWaits a.seen = rw (ap k.state c.self.view_is) c.requires.waits in
-    subst (λ (w : WorkerState _). Settles k.may k.gives c.ready.result w d) (ap k.state c.self.view_is)
+    subst (λ (w : WorkerState _). SettlesOne k.may k.gives c.ready.result w d) (ap k.state c.self.view_is)
     (settled_refused k.may k.gives c.rest.result c.ready.result a b d c.if-rest.false waits e.work e.events e.open e.none (e.refused c.if-rest.false)
     c.ready.ensures.outcome)

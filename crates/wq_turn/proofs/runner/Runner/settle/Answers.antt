@@ -1,4 +1,4 @@
-use Rattle.wq_turn.proofs.Common.{ap, subst, IsRunning, WorkerState, IsDue, Settles}
+use Rattle.wq_turn.proofs.Common.{ap, subst, IsRunning, WorkerState, IsDue, SettlesOne}
 use Rattle.wq_turn.proofs.Settled.{was_ready, was_unready, settled_unready}
 use Rattle.wq_turn.proofs.Kept.{idle_owes, ready_idle, ready_not_draining}
 use Rattle.wq_turn.proofs.runner.Runner.settle.Goals as goal
@@ -34,5 +34,5 @@ returns-in-Some g c =
 pub returns-in-None : goal.returns-in-None
 returns-in-None g c =
     let k = g.K.Station in let d = k.state c.rest.new.self in
-    subst (λ (w : WorkerState _). Settles k.may k.gives c.rest.result w d) (ap k.state c.self.view_is)
+    subst (λ (w : WorkerState _). SettlesOne k.may k.gives c.rest.result w d) (ap k.state c.self.view_is)
     (settled_unready k.may k.gives c.rest.result (k.state c.self.inside.worker) (k.state c.ready.new.self) d c.in-None.ensures.outcome c.rest.ensures)

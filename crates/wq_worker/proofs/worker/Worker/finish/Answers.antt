@@ -2,7 +2,7 @@ use Rattle.wq_worker.proofs.Common.{◌≡◌, ℕ, ◌<◌, ◌≤◌, Option, 
 use Rattle.wq_worker.proofs.Common.{Layout, End, number_count, running, Both, WorkerState, stays, runs_some}
 use Rattle.std.proofs.Common.{length-drop}
 use Rattle.wq_worker.specs.State.{AreWorkerParts}
-use Rattle.wq_worker.specs.Step.{Owes, Ends, Runs}
+use Rattle.wq_worker.specs.Step.{OwesBy, Ends, Runs}
 use Rattle.wq_worker.proofs.Running.{number_runs}
 use Rattle.wq_worker.proofs.Follow.{advance_stays, advance_layout, advance_legal}
 use Rattle.wq_worker.proofs.State.{advance_fits, fit_both}
@@ -23,7 +23,7 @@ returns-then-at-len-clause-runs g c =
     let low : r < length i.follow.items = omega arith in let fs = i.follow.items in let p = c.queue_rest-at.new.pair in
     let b : WorkerState g.row.W.Denot = state_of p i.tries (drop r fs) i.work in
     let a : WorkerState g.row.W.Denot = state_of i.pair i.tries (drop i.at fs) i.work in
-    subst (λ (z : WorkerState g.row.W.Denot). Owes g.W.Work.may z k b) c.self.view_is
+    subst (λ (z : WorkerState g.row.W.Denot). OwesBy g.W.Work.may stays z k b) c.self.view_is
     (advance_owes g.W.Work.may stays k i.tries (drop i.at fs) (drop r fs) i.work i.work i.pair p refl
     (runs_at a c.args.self.now (Some k) c.self.view_is c.requires) (omega (arith, low, length-drop r fs)) adv)
 
