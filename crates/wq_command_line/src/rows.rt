@@ -83,7 +83,7 @@ A trace has the line 'items N', then marks: queue K, start K, end K
 The first line that is faulty, or whose event may not come there, decides.
 
 Example:
-  printf 'trace 1\nitems 2\nqueue 0\nqueue 1\nstart 1\n' | wqrun check /dev/stdin",
+  printf 'trace 1\\nitems 2\\nqueue 0\\nqueue 1\\nstart 1\\n' | wqrun check /dev/stdin",
     },
 ];
 

@@ -156,7 +156,8 @@ impl Delay {
 
     /// Gives an item on the table a new tick, so many ticks from now, and a new arming, and with delay 0 queues it at once with
     /// at most so many tries. Arms an idle item, as `arm` (`mod_delayed_work`). A delay is at most `2^32 - 1`. Where the post of
-    /// an item on the table is contended, nothing of the call marks its start, as with `Sender::post`.
+    /// an item on the table is contended, nothing of the call marks its start, as with `Sender::post`. `WasIdle` and `Moved` do
+    /// not say whether a push found the owner at rest: where it parks, wake it after either with a delay of 0.
     pub fn modify(&mut self, item: u32, delay: u64, tries: u32) -> Modified
         requires item { item < self.old.sender.layout.items }
         requires tries { 0 < tries }
@@ -259,7 +260,10 @@ impl Delay {
 
     /// Leads the table on to a tick and queues what is due, in order, each with at most so many tries. Where the queue is
     /// closed an item is given back. Where a post is contended, or finds the queue draining, the call ends, and the item stays
-    /// on the table with those after it: they go out first at an advance after the resume.
+    /// on the table with those after it: they go out first at the next advance, after a drain once the queue is resumed.
+    ///
+    /// A push may be the one that finds the owner at rest, and what an advance did does not say so: where the owner rests and
+    /// parks, wake it whenever `pushed` is not 0. One wake too many costs it a look.
     ///
     /// # Errors
     /// `Backwards` where the tick is before the present one; nothing has changed.

@@ -235,6 +235,10 @@ impl Sender {
 
     /// Queues a barrier, and waits until all that was accepted before it has ended (`flush_workqueue`). Never
     /// `Contended`; after another answer than `Queued` it has waited for nothing.
+    ///
+    /// It wakes nobody, since it answers once the barrier has run: beside an owner that rests and parks it would wait for good.
+    /// There, call `flush_begin`, wake the owner where that answers `wakes`, and wait by `flush_done`. A barrier behind the stop
+    /// item waits until the queue is run on after it.
     pub fn flush<R: Wait>(&mut self, rt: &R, barrier: u32) -> Answer
         requires barrier { barrier < self.old.layout.barriers }
         ensures answer { Answers (barrier_number self.old.layout barrier) 0 result self.old self.new }

@@ -122,7 +122,8 @@ impl<K: Station + Drop> PoolOf<K> {
     ///
     /// # Errors
     /// `Memory` before any queue is touched; `Out` for the first queue that is not in its slot; `Unfinished` for the first queue
-    /// with something left. The pool is given back, with all queues in their slots that were there.
+    /// with something left. The pool is given back, with all queues in their slots that were there. A queue whose turn was dropped
+    /// stays out for good. The queues are closed then, so no stop item can be queued, and `run` waits for each that had none.
     pub fn finish(self, limit: u32) -> Result<Vec<(K::Work, K::Book)>, PoolFaultOf<K>>
     where
         K::Work: Drop,

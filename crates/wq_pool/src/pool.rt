@@ -61,7 +61,8 @@ impl<K: Station> Model for PoolOf<K> {
 
 impl<K: Station + Drop> PoolOf<K> {
     /// A pool of these queues, each known by its place, and its callers, each at its number. The queues stay as they are: one
-    /// whose worker has taken something is to be announced once, since no push says `wakes` before its first rest.
+    /// onto which something was pushed, or whose worker has taken something, is to be announced once, since no push says `wakes`
+    /// any more before its next rest.
     ///
     /// # Errors
     /// `NoQueue` exactly where no queue is handed in, or more than 256. What was handed in is dropped.
@@ -101,8 +102,10 @@ impl<K: Station + Drop> PoolOf<K> {
     }
 
     /// Announces a queue: it waits behind all that were announced before. For the answer of a queueing `wake` does this; by hand
-    /// a queue is announced that rests no more, though no push woke it, as one whose worker has taken something before the pool
-    /// was made. Each announcement is picked once, so one too many costs a pick that may find nothing.
+    /// a queue is announced that rests no more, though no push of the pool's time woke it: one onto which something was pushed, or
+    /// whose worker has taken something, before the pool was made. Each announcement is picked once, so one too many costs a pick
+    /// that may find nothing. It takes a place besides: while all places are taken, a queue whose work asks for more without end
+    /// is not laid down by a sole caller, and `wake` waits. So announce a queue by hand once, and before `run`.
     ///
     /// # Errors
     /// `NoQueue` exactly where the pool has no queue of this number. `Full` only where as many announcements as the pool has queues

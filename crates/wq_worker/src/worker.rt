@@ -249,7 +249,8 @@ impl<W: Work> Worker<W> {
     }
 
     /// Executes up to so many numbers, and answers how many executions ended. It stops at the limit, after the stop item,
-    /// where nothing waits, or where an execution is owed. No time passes in it: a loop of one's own over this call, or over an
+    /// where nothing waits, or where an execution is owed; the count does not tell these apart, as the answers of `run_one` do. No
+    /// time passes in it: a loop of one's own over this call, or over an
     /// `Owner`, takes more at a time where it passes its `Spins` after fewer than `SHORT_TAKE` executions.
     pub fn run_some(&mut self, limit: u32) -> u32
         ensures runs { RunsSome W.may limit result self.old self.new }
@@ -319,7 +320,8 @@ impl<W: Work> Worker<W> {
 
     /// Executes until nothing is left, or so many executions have ended (`drain_workqueue`). An open queue drains meanwhile:
     /// what senders queue is answered `Draining`, and what executions ask for is chained. Once nothing is left it takes pushes
-    /// again; after `TooLong` it drains still, and the next call goes on. A closed queue stays closed.
+    /// again; after `TooLong` it drains still, and the next call goes on. A closed queue stays closed. A stop item is executed
+    /// with the rest, and nothing says that it ran: ask for a stop of a later `serve` behind the drain.
     pub fn drain(&mut self, limit: u32) -> Drained
         ensures drains { Drains W.may limit result self.old self.new }
         ensures open { result ≡ Empty → ¬ IsClosed self.old.seen → ¬ IsShut self.new.seen }
