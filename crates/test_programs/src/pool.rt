@@ -4,6 +4,7 @@ mod drops;
 mod hands;
 mod overlap;
 mod owing;
+mod places;
 mod rows;
 mod running;
 mod serving;

@@ -104,8 +104,7 @@ impl<K: Station + Drop> PoolOf<K> {
     /// Announces a queue: it waits behind all that were announced before. For the answer of a queueing `wake` does this; by hand
     /// a queue is announced that rests no more, though no push of the pool's time woke it: one onto which something was pushed, or
     /// whose worker has taken something, before the pool was made. Each announcement is picked once, so one too many costs a pick
-    /// that may find nothing. It takes a place besides: while all places are taken, a queue whose work asks for more without end
-    /// is not laid down by a sole caller, and `wake` waits. So announce a queue by hand once, and before `run`.
+    /// that may find nothing. It takes a place besides, and while all places are taken `wake` waits.
     ///
     /// # Errors
     /// `NoQueue` exactly where the pool has no queue of this number. `Full` only where as many announcements as the pool has queues
@@ -168,14 +167,24 @@ impl<K: Station + Drop> PoolOf<K> {
         ensures turn { IfSome result (IsTurnOf K.state self.now) }
         ensures idle { IfSome result (λ turn. ¬ IsRunning (K.state turn.worker).seen) }
     {
-        match self.ready.pick(rt, caller) {
+        match self.pick_number(rt, caller) {
             Some(queue) => Some(self.fetch(rt, queue)),
             None => None,
         }
     }
 
+    // The number of the queue that was announced first, which is left in its slot.
+    pub(crate) fn pick_number<R: Wait>(&self, rt: &R, caller: &mut Caller) -> Option<u32>
+        requires { IsCallerOf self.now.ready caller.old }
+        ensures queue { IfSome result (λ queue. queue < length self.now.workers) }
+        ensures seen { Picks result caller.old caller.new }
+        ensures caller { IsCallerOf self.now.ready caller.new }
+    {
+        self.ready.pick(rt, caller)
+    }
+
     // Tries until the queue is in its slot.
-    fn fetch<R: Wait>(&self, rt: &R, queue: u32) -> TurnOf<K>
+    pub(crate) fn fetch<R: Wait>(&self, rt: &R, queue: u32) -> TurnOf<K>
         requires { queue < length self.now.workers }
         ensures turn { IsTurnOf K.state self.now result }
         ensures queue { result.queue ≡ queue }

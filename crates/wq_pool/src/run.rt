@@ -1,5 +1,5 @@
 //! One thread for each caller of a pool.
-ghost use Rattle.std.specs.Prelude.{◌≡◌, ℕ, ◌<◌, length, slice_index_or, All, Ok};
+ghost use Rattle.std.specs.Prelude.{◌≡◌, ℕ, ◌<◌, length, slice_index_or, All, Ok, IfSome};
 ghost use Rattle.wq_ready.specs.Known.{CallerState, IsCallerOf};
 ghost use Rattle.wq_pool.specs.Pool.{GoesOnFrom, IsTurnOf};
 
@@ -22,45 +22,92 @@ fn share_of<K: Station>(turn: &TurnOf<K>) -> u32 {
 }
 
 impl<K: Station + Drop + Send> PoolOf<K> {
-    #[tactic(auto, using(crate::proofs::GoingOn::goes_by_announce, crate::proofs::GoingOn::turn_same, crate::proofs::GoingOn::goes_on))]
+    // Announces a queue again, behind all that wait. Where there is no room, the first that waits makes it, unless one did before:
+    // that one is to be looked at next.
+    fn announce_again<R: Wait>(
+        &self,
+        rt: &R,
+        caller: &mut Caller,
+        queue: u32,
+        next: &mut Option<u32>,
+    ) -> bool
+        requires caller { IsCallerOf self.now.ready caller.old }
+        requires next { IfSome next.old (λ q. q < length self.now.workers) }
+        ensures caller { IsCallerOf self.now.ready caller.new }
+        ensures next { IfSome next.new (λ q. q < length self.now.workers) }
+        ensures goes_on { GoesOnFrom caller.old caller.new }
+    {
+        if self.announce(rt, caller, queue).is_ok() {
+            return true;
+        }
+        if next.is_some() {
+            return false;
+        }
+        *next = self.pick_number(rt, caller);
+        self.announce(rt, caller, queue).is_ok()
+    }
+
     // Works at a queue until nothing is left to do, and lays it down. After its share of executions it is announced again, behind all
-    // that wait, and laid down with what is left: announced first, since nobody finds a queue that lies there unannounced. Where
-    // there is no room, or an execution is owed, it is worked on, unless every queue has run its stop item.
-    fn work_share<R: Wait, G: Gate>(&self, rt: &R, caller: &mut Caller, turn: TurnOf<K>, gate: &G)
+    // that wait, and laid down with what is left: announced first, since nobody finds a queue that lies there unannounced. Where an
+    // execution is owed, or there is still no room, it is worked on, unless every queue has run its stop item. Answers the queue that
+    // made room, if one had to.
+    fn work_share<R: Wait, G: Gate>(
+        &self,
+        rt: &R,
+        caller: &mut Caller,
+        turn: TurnOf<K>,
+        gate: &G,
+    ) -> Option<u32>
         requires caller { IsCallerOf self.now.ready caller.old }
         requires turn { IsTurnOf K.state self.now turn }
-        ensures { GoesOnFrom caller.old caller.new }
+        ensures next { IfSome result (λ q. q < length self.now.workers) }
+        ensures goes_on { GoesOnFrom caller.old caller.new }
     {
         let mut turn = turn;
+        let mut next = None;
         for _ in rt.forever() {
             let share = share_of(&turn);
             match turn.work(share, gate) {
-                Ok(worked) => return self.put_back(caller, worked),
+                Ok(worked) => {
+                    self.put_back(caller, worked);
+                    return next;
+                }
                 Err(same) => turn = same,
             }
             self.count_stop(&mut turn);
             if !turn.owes() {
-                let is_announced = self.announce(rt, caller, turn.queue()).is_ok();
+                let is_announced = self.announce_again(rt, caller, turn.queue(), &mut next);
                 let is_over = self.has_stopped();
                 if is_announced || is_over {
-                    return self.put_back(caller, turn.into_worked());
+                    self.put_back(caller, turn.into_worked());
+                    return next;
                 }
             }
         }
+        unreachable!()
     }
 
     // Serves what was announced until each queue has run its stop item. A queue is counted once, as it is looked at for the first
-    // time after its stop item ran: what says that it was counted lies in its slot with it.
+    // time after its stop item ran: what says that it was counted lies in its slot with it. A queue that made room is looked at
+    // before the others, and announced again where all have stopped.
     fn serve<R: Wait, G: Gate>(&self, rt: &R, caller: &mut Caller, gate: &G)
         requires { IsCallerOf self.now.ready caller.old }
         ensures { GoesOnFrom caller.old caller.new }
     {
+        let mut next = None;
         for _ in rt.forever() {
             if self.has_stopped() {
+                if let Some(queue) = next {
+                    let _ = self.announce(rt, caller, queue);
+                }
                 return;
             }
-            match self.pick(rt, caller) {
-                Some(turn) => self.work_share(rt, caller, turn, gate),
+            let picked = match next {
+                Some(queue) => Some(self.fetch(rt, queue)),
+                None => self.pick(rt, caller),
+            };
+            match picked {
+                Some(turn) => next = self.work_share(rt, caller, turn, gate),
                 None => thread::yield_now(),
             }
         }

@@ -17,14 +17,14 @@ const LOOKS: u32 = 1_000_000;
 const ROUNDS: u32 = 100;
 
 /// Two empty queues, and a sender of each.
-struct Two {
-    queues: Vec<Served<Logging>>,
-    one: Sender,
-    two: Sender,
+pub(crate) struct Two {
+    pub(crate) queues: Vec<Served<Logging>>,
+    pub(crate) one: Sender,
+    pub(crate) two: Sender,
 }
 
 /// The work of the first asks for an item below 100 where one from a number on ran.
-fn new_two<R: Abort>(rt: &R, alloc: Global, asks_from: u32) -> Two {
+pub(crate) fn new_two<R: Abort>(rt: &R, alloc: Global, asks_from: u32) -> Two {
     let (first, one) = empty(rt, alloc, 1, Logging::asking(asks_from));
     let (second, two) = empty(rt, alloc, 1, Logging::new());
     let mut queues = Vec::new(alloc);

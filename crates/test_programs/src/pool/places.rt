@@ -1,0 +1,104 @@
+//! What a run of a pool serves while all places of the ready queue are taken.
+ghost use Rattle.std.specs.Prelude.{All};
+ghost use Rattle.wq_ready.specs.Known.{IsCallerOf};
+
+use crate::expect::expect_same;
+use crate::pool::serving::{Two, new_two};
+use crate::pool::team::{Guest, Logging, finish_unfinished, new_pool_for, queue_item};
+use std::process::Abort;
+use std::sync::Wait;
+use std::sync::atomic::AtomicU64;
+use std::sync::atomic::Ordering::SeqCst;
+use std::thread::{Threads, join, yield_now};
+use wq_live::Sender;
+use wq_pool::{Caller, Gate, Pool};
+
+/// So often it is looked what the other thread has done.
+const LOOKS: u32 = 1_000_000;
+
+fn wait_for(flag: &AtomicU64) {
+    for _ in 0..LOOKS {
+        if flag.load(SeqCst) > 0 {
+            return;
+        }
+        yield_now();
+    }
+}
+
+/// Before each item it waits until the other thread has taken the last place.
+#[derive(Drop)]
+struct Doorway {
+    begun: AtomicU64,
+    taken: AtomicU64,
+}
+
+impl Gate for Doorway {
+    fn before(&self, queue: u32, item: u32) {
+        let _ = (queue, item);
+        self.begun.store(1, SeqCst);
+        wait_for(&self.taken);
+    }
+
+    fn after(&self, queue: u32, item: u32) {
+        let _ = (queue, item);
+    }
+}
+
+/// While an item of the first queue runs, one is queued on the second, which is announced a second time.
+fn take_places<R: Abort + Wait>(
+    rt: &R,
+    guest: &mut Guest<'_>,
+    sender: &mut Sender,
+    doorway: &Doorway,
+) {
+    wait_for(&doorway.begun);
+    let answer = queue_item(rt, sender, 0);
+    sender.request_stop(1);
+    guest.wake(rt, 1, answer);
+    doorway.taken.store(1, SeqCst);
+}
+
+/// One worker runs the pool, of which both queues are announced.
+fn run_beside<R: Abort + Threads + Wait + Sync>(
+    rt: &R,
+    pool: &Pool<Logging>,
+    mut workers: Vec<Caller>,
+    caller: Caller,
+    mut sender: Sender,
+)
+    requires workers { All (IsCallerOf pool.now.ready) workers.items }
+    requires caller { IsCallerOf pool.now.ready caller }
+{
+    let mut guest = Guest::new(pool, caller);
+    for queue in 0..2u32 {
+        assert!(rt; guest.announce(rt, queue));
+    }
+    let doorway = Doorway {
+        begun: AtomicU64::new(0),
+        taken: AtomicU64::new(0),
+    };
+    let (ran, ()) = join(
+        rt,
+        ||
+            requires { All (IsCallerOf pool.now.ready) workers.items }
+        { pool.run(rt, workers.as_mut_slice(), &doorway) },
+        || take_places(rt, &mut guest, &mut sender, &doorway),
+    );
+    ran.expect(rt, "a thread");
+}
+
+/// A queue whose work asks for its item again and again gives way to the other where its announcement finds no place.
+#[test]
+fn restless_queue_gives_way_where_no_place_is_free(rt: HostRuntime) {
+    let Two {
+        queues,
+        mut one,
+        two,
+    } = new_two(&rt, rt.alloc(), 0);
+    queue_item(&rt, &mut one, 0);
+    one.request_stop(1);
+    let (pool, caller, workers) = new_pool_for(&rt, rt.alloc(), queues, 1);
+    run_beside(&rt, &pool, workers, caller, two);
+    let (_pool, queue, left) = finish_unfinished(&rt, pool, 0);
+    expect_same(&rt, (queue, left), (0, 1));
+}
