@@ -11,8 +11,10 @@
 A call that is refused raises WqError with its code, and has changed nothing. A Seat owns its memory and lets one call at a time into
 it; it is given up by `release`. `check_history` judges a history. The library is the file that YEANGVOS_LIBRARY names, or libyeangvos.so where the loader finds it.
 """
+import array
 import ctypes
 import enum
+import operator
 import os
 import threading
 import typing
@@ -86,13 +88,39 @@ for _name in ("build hand_out release queue is_pending flush_begin flush_done re
 _library.wq_c_check_history.restype = ctypes.c_uint32
 
 
+def _words(**numbers):
+    """The numbers as the library takes them. One that does not fit is refused here: ctypes would cut it off without a word."""
+    for name, number in numbers.items():
+        if not 0 <= operator.index(number) <= 0xFFFFFFFF:
+            raise ValueError(f"{name} is {number}, and not of 0 to {0xFFFFFFFF}")
+    return [ctypes.c_uint32(operator.index(number)) for number in numbers.values()]
+
+
+def _rows(events):
+    """The events one behind the other. A field too many or too few would move all that come behind it."""
+    rows = array.array("I")
+    for place, event in enumerate(events):
+        fields = tuple(event)
+        if len(fields) != 3:
+            raise ValueError(f"event {place} is {event!r}, and not a kind, a sender and a number")
+        try:
+            rows.extend(fields)
+        except OverflowError:
+            raise ValueError(f"event {place} is {event!r}, with a number that is not of 0 to {0xFFFFFFFF}") from None
+        except TypeError:
+            raise TypeError(f"event {place} is {event!r}, and not three whole numbers") from None
+    return rows
+
+
 def check_history(events, items, barriers, senders):
     """None where the events, each a Kind, a sender and a number, are a legal history of a queue of this size; else the place of the first
     that may not come, and its Fault. What an event does not have is 0."""
-    place = ctypes.c_size_t(0)
-    numbers = [number for event in events for number in event]
-    rows = (ctypes.c_uint32 * max(len(numbers), 1))(*numbers)
-    code = _library.wq_c_check_history(rows, ctypes.c_size_t(len(numbers) // 3), *map(ctypes.c_uint32, (items, barriers, senders)), ctypes.byref(place))
+    place, rows = ctypes.c_size_t(0), _rows(events)
+    count = ctypes.c_size_t(len(rows) // 3)
+    rows.append(0)  # so that it has an address also where there is no event
+    at = ctypes.c_void_p(rows.buffer_info()[0])
+    size = _words(items=items, barriers=barriers, senders=senders)
+    code = _library.wq_c_check_history(at, count, *size, ctypes.byref(place))
     if 0 < code < Fault.NO_EVENT:
         raise WqError(code)
     return (place.value, Fault(code)) if code else None
@@ -107,46 +135,44 @@ class Seat:
         self._lock = threading.Lock()
         _library.wq_c_init(self._at)
 
-    def _call(self, name, *numbers):
+    def _call(self, name, **numbers):
+        words = _words(**numbers)
         with self._lock:
-            word = getattr(_library, "wq_c_" + name)(self._at, *map(ctypes.c_uint32, numbers))
+            word = getattr(_library, "wq_c_" + name)(self._at, *words)
         code, number = word & 0xFFFFFFFF, word >> 32
         if code >= Error.NOT_SENDER:
             raise WqError(code)
         return Code(code), number
 
     def build(self, items, barriers, senders):
-        self._call("build", items, barriers, senders)
+        self._call("build", items=items, barriers=barriers, senders=senders)
 
     def hand_out(self, to):
         if to is self:
             raise WqError(Error.IN_USE)
-        with to._lock:
-            word = self._hand_out(to)
+        first, second = sorted((self, to), key=id)  # one order for both ways, so that two threads never wait for each other
+        with first._lock, second._lock:
+            word = _library.wq_c_hand_out(self._at, to._at) & 0xFFFFFFFF
         if word:
             raise WqError(word)
-
-    def _hand_out(self, to):
-        with self._lock:
-            return _library.wq_c_hand_out(self._at, to._at) & 0xFFFFFFFF
 
     def release(self):
         self._call("release")
 
     def queue(self, item, tries=MOST_TRIES):
-        return self._call("queue", item, tries)[0]
+        return self._call("queue", item=item, tries=tries)[0]
 
     def is_pending(self, item):
-        return self._call("is_pending", item)[0] == Code.YES
+        return self._call("is_pending", item=item)[0] == Code.YES
 
     def flush_begin(self, barrier, tries=MOST_TRIES):
-        return self._call("flush_begin", barrier, tries)[0]
+        return self._call("flush_begin", barrier=barrier, tries=tries)[0]
 
     def flush_done(self, barrier):
-        return self._call("flush_done", barrier)[0] == Code.YES
+        return self._call("flush_done", barrier=barrier)[0] == Code.YES
 
     def request_stop(self, tries=MOST_TRIES):
-        return self._call("request_stop", tries)[0]
+        return self._call("request_stop", tries=tries)[0]
 
     def number(self):
         return self._call("number")[1]
@@ -187,7 +213,7 @@ class Seat:
         return self._call("rest")[0] == Code.YES
 
     def chain(self, item):
-        return self._call("chain", item)[0]
+        return self._call("chain", item=item)[0]
 
     def is_done(self):
         return self._call("is_done")[0] == Code.YES
