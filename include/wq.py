@@ -3,13 +3,15 @@
     owner, sender = Seat(), Seat()
     owner.build(items=4, barriers=1, senders=1)
     owner.hand_out(sender)
-    sender.queue(2)            # a Code: Code.QUEUED | Code.FIRST | Code.WAKES
+    sender.queue(2)            # a Code, here Code.QUEUED_FIRST_WAKES: it is_queued, and it wakes
     owner.take()               # how many
     owner.begin()              # the number, or None where nothing waits
     owner.end()
 
 A call that is refused raises WqError with its code, and has changed nothing. A Seat owns its memory and lets one call at a time into
-it; it is given up by `release`. `check_history` judges a history. The library is the file that YEANGVOS_LIBRARY names, or libyeangvos.so where the loader finds it.
+it. It is given up by `release`, at the end of a `with`, or where nobody holds it any more; an owner's only once its queue has run to its
+end, else a dropped one loses the queue's memory, with a ResourceWarning. `check_history` judges a history. The library is the file that
+YEANGVOS_LIBRARY names, or libyeangvos.so where the loader finds it.
 """
 import array
 import ctypes
@@ -18,20 +20,30 @@ import operator
 import os
 import threading
 import typing
+import warnings
+import weakref
 
 MOST_TRIES = 0xFFFFFFFF
 ALIGNMENT = 128  # seats of several threads share no cache line
 
 
-class Code(enum.IntFlag):
-    """What a call answered that is no error."""
+class Code(enum.IntEnum):
+    """What a call answered that is no error. It is compared whole, by ==: QUEUED, FIRST and WAKES come together, but other codes share
+    their bits. FIRST: the list was empty. WAKES: the queue rested, so wake its owner."""
     OK = 0
     QUEUED, FIRST, WAKES = 1, 2, 4
+    QUEUED_FIRST, QUEUED_WAKES, QUEUED_FIRST_WAKES = 3, 5, 7
     PENDING, CLOSED, DRAINING, CONTENDED, NO, YES = 8, 9, 10, 11, 12, 13
 
     @property
     def is_queued(self):
+        """Whether a queueing was accepted."""
         return bool(self & 1) and self < 8
+
+    @property
+    def wakes(self):
+        """Whether who queued has to wake the owner."""
+        return self.is_queued and bool(self & 4)
 
 
 class Error(enum.IntEnum):
@@ -75,7 +87,10 @@ class Counts(typing.NamedTuple):
 class WqError(Exception):
     def __init__(self, code):
         self.code = Error(code)
-        super().__init__(self.code.name)
+        super().__init__(self.code)  # what it is made of anew where it is pickled
+
+    def __str__(self):
+        return self.code.name
 
 
 _library = ctypes.CDLL(os.environ.get("YEANGVOS_LIBRARY", "libyeangvos.so"))
@@ -126,6 +141,12 @@ def check_history(events, items, barriers, senders):
     return (place.value, Fault(code)) if code else None
 
 
+def _drop(at, _room, process):
+    """Gives up the seat that stands here, which nobody can call any more. In a child that was forked it is not this process's."""
+    if os.getpid() == process and _library.wq_c_release(at) & 0xFFFFFFFF:
+        warnings.warn("an owner was dropped whose queue has not run to its end, so the queue's memory is lost", ResourceWarning)
+
+
 class Seat:
     """A vacant seat, a sender's or an owner's."""
 
@@ -134,6 +155,21 @@ class Seat:
         self._at = ctypes.c_void_p(-(-ctypes.addressof(self._room) // ALIGNMENT) * ALIGNMENT)
         self._lock = threading.Lock()
         _library.wq_c_init(self._at)
+        # not at the program's end, when another thread may still be in it
+        weakref.finalize(self, _drop, self._at, self._room, os.getpid()).atexit = False
+
+    def __enter__(self):
+        return self
+
+    def __exit__(self, kind, *_):
+        try:
+            self.release()
+        except WqError:
+            if kind is None:  # else the exception that ends the block is the one to tell of
+                raise
+
+    def __reduce__(self):
+        raise TypeError("a seat is not copied")
 
     def _call(self, name, **numbers):
         words = _words(**numbers)

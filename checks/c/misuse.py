@@ -1,5 +1,11 @@
-"""wq.py: what a caller does wrong is found out before the library is called, by an error that says it."""
-from wq import Code, Fault, Kind, Seat, check_history
+"""wq.py: what a caller does wrong is found out by an error that says it, and a seat that was dropped is given up."""
+import copy
+import gc
+import os
+import pickle
+import warnings
+import wq
+from wq import Code, Error, Fault, Kind, Seat, WqError, check_history
 
 WIDE = 2 ** 32
 
@@ -32,10 +38,14 @@ def numbers():
     assert not sender.is_pending(2) and owner.take() == 0
     assert sender.queue(2) == Code.QUEUED | Code.FIRST
     sender.release()
+    run_to_end(owner)
+    owner.release()
+
+
+def run_to_end(owner):
     owner.close()
     while owner.begin() is not None:
         owner.end()
-    owner.release()
 
 
 def events():
@@ -73,15 +83,98 @@ def hand_outs():
     for seat in one, two:
         seat.build(1, 1, 1)
         seat._lock = Told(taken, seat)
-    raised(Exception, "IN_USE", one.hand_out, two)
-    raised(Exception, "IN_USE", two.hand_out, one)
+    raised(WqError, "IN_USE", one.hand_out, two)
+    raised(WqError, "IN_USE", two.hand_out, one)
     assert len(taken) == 4 and taken[:2] == taken[2:]
-    raised(Exception, "IN_USE", one.hand_out, one)
+    raised(WqError, "IN_USE", one.hand_out, one)
     for seat in one, two:
         seat.close()
         seat.release()
 
 
-for part in numbers, events, hand_outs:
+def codes():
+    """A code is compared whole. That others share its bits says nothing, so `in` says nothing."""
+    queued = [Code.QUEUED, Code.QUEUED_FIRST, Code.QUEUED_WAKES, Code.QUEUED_FIRST_WAKES]
+    assert [code for code in Code if code.is_queued] == sorted(queued) and [code for code in Code if code.wakes] == queued[2:]
+    assert Code.QUEUED_FIRST_WAKES == Code.QUEUED | Code.FIRST | Code.WAKES and Code.CLOSED & Code.QUEUED
+    raised(TypeError, "", lambda: Code.QUEUED in Code.CLOSED)
+
+
+def errors():
+    """An error goes to another process as it is."""
+    for error in Error:
+        sent = WqError(error)
+        for got in pickle.loads(pickle.dumps(sent)), copy.copy(sent):
+            assert type(got) is WqError and got.code is error and str(got) == error.name
+
+
+def ends():
+    """A `with` gives its seat up, and passes on the exception that ended it."""
+    with Seat() as owner, Seat() as sender:
+        owner.build(1, 1, 1)
+        owner.hand_out(sender)
+        run_to_end(owner)
+    raised(WqError, "NOT_OWNER", owner.take)
+    raised(WqError, "NOT_SENDER", sender.number)
+    owner.build(1, 1, 1)
+    raised(WqError, "NOT_DONE", owner.__exit__, None, None, None)
+    try:
+        with owner:
+            raise KeyError("own")
+    except KeyError:
+        run_to_end(owner)
+    for copied in copy.copy, copy.deepcopy, pickle.dumps:
+        raised(TypeError, "", copied, owner)
+    owner.release()
+
+
+def dropped_seats(released):
+    """Of a queue that ran, of one that did not, and a vacant one: what was given up, and what was warned of."""
+    with warnings.catch_warnings(record=True) as warned:
+        warnings.simplefilter("always")
+        for runs in True, False:
+            owner, sender = Seat(), Seat()
+            owner.build(1, 1, 1)
+            owner.hand_out(sender)
+            assert sender.queue(0).is_queued
+            at = sender._at.value
+            del sender
+            gc.collect()
+            assert released.pop() == at and not released and not warned
+            if runs:
+                run_to_end(owner)
+            at = owner._at.value
+            del owner
+            gc.collect()
+            assert released.pop() == at and [it.category for it in warned] == ([] if runs else [ResourceWarning])
+            if not runs:
+                assert "not run to its end" in str(warned[0].message)
+
+
+def drops():
+    """A seat that nobody holds any more is given up, but not in a child, whose memory of it is a copy."""
+    gc.collect()  # what the parts before left
+    real, released = wq._library.wq_c_release, []
+
+    def told(at):
+        released.append(at.value)
+        return real(at)
+
+    wq._library.wq_c_release = told
+    dropped_seats(released)
+    seat = Seat()
+    child = os.fork()
+    if not child:
+        del seat
+        gc.collect()
+        os._exit(len(released))
+    assert os.waitpid(child, 0)[1] == 0
+    del seat
+    gc.collect()
+    assert len(released) == 1
+    wq._library.wq_c_release = real
+
+
+for part in numbers, events, hand_outs, codes, errors, ends, drops:
     part()
 print("misuse.py: each is found out by its error")
