@@ -1,7 +1,7 @@
 #!/usr/bin/env bash
 # Builds the library of C, and tests the calls of include/ from C, C++, Python and Rust: c_api.sh [WQRUN]. Where the program WQRUN is
 # named, it judges the histories of the random runs. Tools that are not installed are left out, each with a line: valgrind, rustc,
-# c++, python3, and the sanitizers of cc. Two minutes of a processor, beside the proof of wq_c.
+# c++, python3, and the sanitizers of cc and of clang. Two minutes of a processor, beside the proof of wq_c.
 set -euo pipefail
 wqrun=${1:+$(realpath "$1")}
 cd "$(dirname "${BASH_SOURCE[0]}")/.."
