@@ -1,7 +1,7 @@
 #!/usr/bin/env bash
 # Builds the library of C, and tests the calls of include/ from C, C++, Python and Rust: c_api.sh [WQRUN]. Where the program WQRUN is
 # named, it judges the histories of the random runs. Tools that are not installed are left out, each with a line: valgrind, rustc,
-# c++, python3, and the sanitizers of cc. Two minutes of a processor, beside the proof of wq_c.
+# c++, python3, and the sanitizers of cc and of clang. Two minutes of a processor, beside the proof of wq_c.
 set -euo pipefail
 wqrun=${1:+$(realpath "$1")}
 cd "$(dirname "${BASH_SOURCE[0]}")/.."
@@ -13,9 +13,9 @@ if ! command -v "${CC:-cc}" >/dev/null; then
     exit 0
 fi
 checks/c_library.sh "$work"
-strict=(-std=c11 -D_GNU_SOURCE -O2 -g -Wall -Wextra -Werror -pthread -Iinclude -Ichecks/c)
+strict=(-std=c99 -pedantic -O2 -g -Wall -Wextra -Werror -pthread -Iinclude -Ichecks/c)
 
-# built NAME FLAG..: the program of checks/c/NAME.c, strictly
+# built NAME FLAG..: the program of checks/c/NAME.c, strictly: of C99, and of nothing that a program has to ask for (_GNU_SOURCE)
 built() {
     "${CC:-cc}" "${strict[@]}" "${@:2}" -o "$work/$1" "checks/c/$1.c" "$work/libyeangvos.a"
 }
@@ -35,6 +35,16 @@ built misuse
 timeout 60 "$work/misuse"
 built worker
 timeout 60 "$work/worker"
+built worker_answers
+timeout 60 "$work/worker_answers"
+# the headers alone, as each compiler that is there takes them, without a warning
+for compiler in "${CC:-cc}" clang; do
+    command -v "$compiler" >/dev/null || continue
+    for standard in c99 c11 c2x gnu11; do
+        printf '#include <wq_worker.h>\n#include <wq_pure.h>\nint main(void) { return 0; }\n' \
+            | "$compiler" -x c -std=$standard -pedantic -Wall -Wextra -Wredundant-decls -Werror -Iinclude -fsyntax-only -
+    done
+done
 built pure
 timeout 60 "$work/pure"
 built memory -Wl,--wrap=malloc,--wrap=realloc,--wrap=free
@@ -75,7 +85,7 @@ else
 fi
 for sanitizer in address,undefined thread; do
     if echo 'int main(void) { return 0; }' | "${CC:-cc}" -x c -fsanitize=$sanitizer -o "$work/tried" - 2>/dev/null && setarch -R "$work/tried" 2>/dev/null; then
-        for program in codes "threads 100" worker pure; do
+        for program in codes "threads 100" worker worker_answers pure; do
             built "${program%% *}" -fsanitize=$sanitizer
             # shellcheck disable=SC2086 # the words of the program
             timeout 60 setarch -R "$work/"$program >"$work/said"
@@ -85,6 +95,13 @@ for sanitizer in address,undefined thread; do
         left_out "-fsanitize=$sanitizer"
     fi
 done
+if echo 'int main(void) { return 0; }' | clang -x c -fsanitize=thread -o "$work/tried" - 2>/dev/null && setarch -R "$work/tried" 2>/dev/null; then
+    CC=clang built threads -fsanitize=thread
+    timeout 60 setarch -R "$work/threads" 100 >"$work/said"
+    echo "-fsanitize=thread of clang: no report"
+else
+    left_out "-fsanitize=thread of clang"
+fi
 if command -v "${CXX:-c++}" >/dev/null; then
     "${CXX:-c++}" -std=c++11 -O2 -Wall -Wextra -Werror -pthread -Iinclude -o "$work/client" checks/c/client.cc "$work/libyeangvos.a"
     timeout 60 "$work/client"
@@ -95,6 +112,7 @@ fi
 timeout 60 "$work/logger" >"$work/lines"
 if command -v python3 >/dev/null; then
     timeout 60 python3 checks/c/client.py
+    timeout 60 python3 checks/c/misuse.py
     timeout 60 python3 examples/c/logger.py >"$work/python_lines"
 else
     left_out python3
@@ -122,6 +140,11 @@ for call in $(sed -n '/^## The calls/,/^## Ownership/p' docs/C.md | grep -oE '`w
     fi
 done
 echo "man: each call has a page"
+for file in $(grep -oE 'examples/c/[a-z.]+' docs/C.md); do
+    [ -e "$work/installed/share/doc/yeangvos/$file" ] || { echo "docs/C.md names $file, which is not installed"; exit 1; }
+done
+defined=$(nm -D --defined-only "$work/libyeangvos.so" | awk '{ print $3 }' | grep -vE '^(wq_c_[a-z_]+|rattle_(alloc|realloc|dealloc))$' || true)
+[ -z "$defined" ] || { echo "the library defines names that docs/C.md does not tell: $defined"; exit 1; }
 if command -v pkg-config >/dev/null; then
     export LD_LIBRARY_PATH=$work/installed/lib PKG_CONFIG_PATH=$work/installed/lib/pkgconfig
     read -ra flags < <(pkg-config --cflags --libs yeangvos)
@@ -130,6 +153,7 @@ if command -v pkg-config >/dev/null; then
     awk '/^    #include <stdio.h>/ { on = 1 } on { sub(/^    /, ""); print } /^int main/ { main = 1 } main && /^}$/ { exit }' docs/C.md >"$work/page.c"
     "${CC:-cc}" -Wall -Wextra -Werror -o "$work/page" "$work/page.c" "${flags[@]}"
     timeout 60 "$work/page" | sort | diff <(printf 'QUEUED|FIRST|WAKES\nitem 2 of mine\n') -
+    ! command -v "${CXX:-c++}" >/dev/null || "${CXX:-c++}" -x c++ -std=c++11 -Wall -Wextra -Werror "${flags[@]}" -fsyntax-only "$work/page.c"
     echo "pkg-config: the installed library serves, and the program of docs/C.md runs"
 else
     left_out pkg-config

@@ -17,6 +17,7 @@ for page in man/*.3; do
     done
 done
 install -D -m 644 -t "$to/share/doc/yeangvos" docs/C.md
+install -D -m 644 -t "$to/share/doc/yeangvos/examples/c" examples/c/logger.c examples/c/logger.py
 mkdir -p "$to/lib/pkgconfig"
 cat >"$to/lib/pkgconfig/yeangvos.pc" <<TEXT
 prefix=$prefix

@@ -30,6 +30,8 @@ typedef struct wq_seat {
 #endif
 } wq_seat;
 
+/* A code is compared whole, by ==. WQ_QUEUED, WQ_FIRST and WQ_WAKES alone are bits, and only of an answer of which wq_is_queued is
+ * true: other codes share those bits (WQ_CLOSED & WQ_QUEUED is not 0). */
 enum wq_code {
     WQ_OK = 0,
     /* The number was queued, and is executed once. WQ_FIRST: the list was empty. WQ_WAKES: the queue rested, so wake its owner. */
@@ -55,6 +57,8 @@ enum wq_code {
 };
 
 static inline int wq_is_queued(uint32_t code) { return (code & WQ_QUEUED) && code < WQ_PENDING; }
+/* Whether who got this answer has to wake the owner. */
+static inline int wq_wakes(uint32_t code) { return wq_is_queued(code) && (code & WQ_WAKES) != 0; }
 
 static inline const char *wq_code_name(uint32_t code) {
     static const char *const answers[] = {"OK", "QUEUED", "?", "QUEUED|FIRST", "?", "QUEUED|WAKES", "?", "QUEUED|FIRST|WAKES",
@@ -96,7 +100,14 @@ uint64_t wq_c_count(void *at, uint32_t which); /* the word is the count */
 /* ---- what this header finds out, which is not proved */
 /* ThreadSanitizer does not see the library's atomic steps, so it is told that each call comes after the calls that ended before it
  * in any seat of the queue. That is more than there is, so a race between two senders of one queue may be passed over. */
-#if defined(__SANITIZE_THREAD__) && !defined(WQ_UNCHECKED)
+#if defined(__SANITIZE_THREAD__) /* of GCC */
+#define WQ_SANITIZES_THREADS
+#elif defined(__has_feature) /* of Clang */
+#if __has_feature(thread_sanitizer)
+#define WQ_SANITIZES_THREADS
+#endif
+#endif
+#if defined(WQ_SANITIZES_THREADS) && !defined(WQ_UNCHECKED)
 void __tsan_acquire(void *token);
 void __tsan_release(void *token);
 #define WQ_ACQUIRE(seat) __tsan_acquire((seat)->owner)
@@ -151,7 +162,8 @@ static inline uint32_t wq_init(wq_seat *seat) {
     return WQ_OK;
 }
 
-/* Builds a queue of 1 to 65,536 items, 1 to 16 barriers and 1 to 64 senders. Its owner takes the seat. */
+/* Builds a queue of 1 to 65,536 items, 1 to 16 barriers and 1 to 64 senders. Its owner takes the seat. The queue rests: its first
+ * queueing is answered WQ_WAKES, and a wq_rest before it WQ_NO. */
 static inline uint32_t wq_build(wq_seat *owner, uint32_t items, uint32_t barriers, uint32_t senders) {
     WQ_CALL(owner, WQ_NO_NUMBER, wq_c_build(owner->room, items, barriers, senders));
 }

@@ -3,33 +3,47 @@
     owner, sender = Seat(), Seat()
     owner.build(items=4, barriers=1, senders=1)
     owner.hand_out(sender)
-    sender.queue(2)            # a Code: Code.QUEUED | Code.FIRST | Code.WAKES
+    sender.queue(2)            # a Code, here Code.QUEUED_FIRST_WAKES: it is_queued, and it wakes
     owner.take()               # how many
     owner.begin()              # the number, or None where nothing waits
     owner.end()
 
 A call that is refused raises WqError with its code, and has changed nothing. A Seat owns its memory and lets one call at a time into
-it; it is given up by `release`. `check_history` judges a history. The library is the file that YEANGVOS_LIBRARY names, or libyeangvos.so where the loader finds it.
+it. It is given up by `release`, at the end of a `with`, or where nobody holds it any more; an owner's only once its queue has run to its
+end, else a dropped one loses the queue's memory, with a ResourceWarning. `check_history` judges a history. The library is the file that
+YEANGVOS_LIBRARY names, or libyeangvos.so where the loader finds it.
 """
+import array
 import ctypes
 import enum
+import operator
 import os
 import threading
 import typing
+import warnings
+import weakref
 
 MOST_TRIES = 0xFFFFFFFF
 ALIGNMENT = 128  # seats of several threads share no cache line
 
 
-class Code(enum.IntFlag):
-    """What a call answered that is no error."""
+class Code(enum.IntEnum):
+    """What a call answered that is no error. It is compared whole, by ==: QUEUED, FIRST and WAKES come together, but other codes share
+    their bits. FIRST: the list was empty. WAKES: the queue rested, so wake its owner."""
     OK = 0
     QUEUED, FIRST, WAKES = 1, 2, 4
+    QUEUED_FIRST, QUEUED_WAKES, QUEUED_FIRST_WAKES = 3, 5, 7
     PENDING, CLOSED, DRAINING, CONTENDED, NO, YES = 8, 9, 10, 11, 12, 13
 
     @property
     def is_queued(self):
+        """Whether a queueing was accepted."""
         return bool(self & 1) and self < 8
+
+    @property
+    def wakes(self):
+        """Whether who queued has to wake the owner."""
+        return self.is_queued and bool(self & 4)
 
 
 class Error(enum.IntEnum):
@@ -73,7 +87,10 @@ class Counts(typing.NamedTuple):
 class WqError(Exception):
     def __init__(self, code):
         self.code = Error(code)
-        super().__init__(self.code.name)
+        super().__init__(self.code)  # what it is made of anew where it is pickled
+
+    def __str__(self):
+        return self.code.name
 
 
 _library = ctypes.CDLL(os.environ.get("YEANGVOS_LIBRARY", "libyeangvos.so"))
@@ -86,16 +103,48 @@ for _name in ("build hand_out release queue is_pending flush_begin flush_done re
 _library.wq_c_check_history.restype = ctypes.c_uint32
 
 
+def _words(**numbers):
+    """The numbers as the library takes them. One that does not fit is refused here: ctypes would cut it off without a word."""
+    for name, number in numbers.items():
+        if not 0 <= operator.index(number) <= 0xFFFFFFFF:
+            raise ValueError(f"{name} is {number}, and not of 0 to {0xFFFFFFFF}")
+    return [ctypes.c_uint32(operator.index(number)) for number in numbers.values()]
+
+
+def _rows(events):
+    """The events one behind the other. A field too many or too few would move all that come behind it."""
+    rows = array.array("I")
+    for place, event in enumerate(events):
+        fields = tuple(event)
+        if len(fields) != 3:
+            raise ValueError(f"event {place} is {event!r}, and not a kind, a sender and a number")
+        try:
+            rows.extend(fields)
+        except OverflowError:
+            raise ValueError(f"event {place} is {event!r}, with a number that is not of 0 to {0xFFFFFFFF}") from None
+        except TypeError:
+            raise TypeError(f"event {place} is {event!r}, and not three whole numbers") from None
+    return rows
+
+
 def check_history(events, items, barriers, senders):
     """None where the events, each a Kind, a sender and a number, are a legal history of a queue of this size; else the place of the first
     that may not come, and its Fault. What an event does not have is 0."""
-    place = ctypes.c_size_t(0)
-    numbers = [number for event in events for number in event]
-    rows = (ctypes.c_uint32 * max(len(numbers), 1))(*numbers)
-    code = _library.wq_c_check_history(rows, ctypes.c_size_t(len(numbers) // 3), *map(ctypes.c_uint32, (items, barriers, senders)), ctypes.byref(place))
+    place, rows = ctypes.c_size_t(0), _rows(events)
+    count = ctypes.c_size_t(len(rows) // 3)
+    rows.append(0)  # so that it has an address also where there is no event
+    at = ctypes.c_void_p(rows.buffer_info()[0])
+    size = _words(items=items, barriers=barriers, senders=senders)
+    code = _library.wq_c_check_history(at, count, *size, ctypes.byref(place))
     if 0 < code < Fault.NO_EVENT:
         raise WqError(code)
     return (place.value, Fault(code)) if code else None
+
+
+def _drop(at, _room, process):
+    """Gives up the seat that stands here, which nobody can call any more. In a child that was forked it is not this process's."""
+    if os.getpid() == process and _library.wq_c_release(at) & 0xFFFFFFFF:
+        warnings.warn("an owner was dropped whose queue has not run to its end, so the queue's memory is lost", ResourceWarning)
 
 
 class Seat:
@@ -106,47 +155,60 @@ class Seat:
         self._at = ctypes.c_void_p(-(-ctypes.addressof(self._room) // ALIGNMENT) * ALIGNMENT)
         self._lock = threading.Lock()
         _library.wq_c_init(self._at)
+        # not at the program's end, when another thread may still be in it
+        weakref.finalize(self, _drop, self._at, self._room, os.getpid()).atexit = False
 
-    def _call(self, name, *numbers):
+    def __enter__(self):
+        return self
+
+    def __exit__(self, kind, *_):
+        try:
+            self.release()
+        except WqError:
+            if kind is None:  # else the exception that ends the block is the one to tell of
+                raise
+
+    def __reduce__(self):
+        raise TypeError("a seat is not copied")
+
+    def _call(self, name, **numbers):
+        words = _words(**numbers)
         with self._lock:
-            word = getattr(_library, "wq_c_" + name)(self._at, *map(ctypes.c_uint32, numbers))
+            word = getattr(_library, "wq_c_" + name)(self._at, *words)
         code, number = word & 0xFFFFFFFF, word >> 32
         if code >= Error.NOT_SENDER:
             raise WqError(code)
         return Code(code), number
 
     def build(self, items, barriers, senders):
-        self._call("build", items, barriers, senders)
+        self._call("build", items=items, barriers=barriers, senders=senders)
 
     def hand_out(self, to):
         if to is self:
             raise WqError(Error.IN_USE)
-        with to._lock:
-            word = self._hand_out(to)
+        first, second = sorted((self, to), key=id)  # one order for both ways, so that two threads never wait for each other
+        with first._lock, second._lock:
+            word = _library.wq_c_hand_out(self._at, to._at) & 0xFFFFFFFF
         if word:
             raise WqError(word)
-
-    def _hand_out(self, to):
-        with self._lock:
-            return _library.wq_c_hand_out(self._at, to._at) & 0xFFFFFFFF
 
     def release(self):
         self._call("release")
 
     def queue(self, item, tries=MOST_TRIES):
-        return self._call("queue", item, tries)[0]
+        return self._call("queue", item=item, tries=tries)[0]
 
     def is_pending(self, item):
-        return self._call("is_pending", item)[0] == Code.YES
+        return self._call("is_pending", item=item)[0] == Code.YES
 
     def flush_begin(self, barrier, tries=MOST_TRIES):
-        return self._call("flush_begin", barrier, tries)[0]
+        return self._call("flush_begin", barrier=barrier, tries=tries)[0]
 
     def flush_done(self, barrier):
-        return self._call("flush_done", barrier)[0] == Code.YES
+        return self._call("flush_done", barrier=barrier)[0] == Code.YES
 
     def request_stop(self, tries=MOST_TRIES):
-        return self._call("request_stop", tries)[0]
+        return self._call("request_stop", tries=tries)[0]
 
     def number(self):
         return self._call("number")[1]
@@ -187,7 +249,7 @@ class Seat:
         return self._call("rest")[0] == Code.YES
 
     def chain(self, item):
-        return self._call("chain", item)[0]
+        return self._call("chain", item=item)[0]
 
     def is_done(self):
         return self._call("is_done")[0] == Code.YES

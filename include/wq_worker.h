@@ -2,8 +2,12 @@
  * Linux alone (futex) and POSIX threads; link with -pthread.
  *
  * Build a queue and hand out its senders first, then start a worker on the owner's seat, which is the worker's until
- * wq_worker_finish or wq_worker_stop has returned. A sender's thread calls wq_worker_queue and wq_worker_flush. One thread at a time
- * calls wq_worker_drain, wq_worker_resume, wq_worker_finish and wq_worker_stop.
+ * wq_worker_finish or wq_worker_stop has returned. A sender's thread calls wq_worker_queue and wq_worker_flush, or hands what a call
+ * of wq.h answered to wq_worker_wake. One thread at a time calls wq_worker_drain, wq_worker_resume, wq_worker_finish and
+ * wq_worker_stop. The worker's own function calls none of these four and no wq_worker_flush: each waits for the function to return.
+ *
+ * The worker's memory stays until each sender's last call through it has returned, also one that began before wq_worker_stop did: join
+ * the senders' threads, then free it. So no queueing has to announce itself to the worker.
  */
 #ifndef WQ_WORKER_H
 #define WQ_WORKER_H
@@ -12,8 +16,8 @@
 #include <limits.h>
 #include <linux/futex.h>
 #include <pthread.h>
+#include <sched.h>
 #include <sys/syscall.h>
-#include <unistd.h>
 
 #ifdef __cplusplus
 extern "C" {
@@ -36,8 +40,10 @@ typedef struct wq_worker {
     pthread_t thread;
 } wq_worker;
 
+/* syscall of the C library, which unistd.h declares only where a program asks for more than the standard (_GNU_SOURCE). */
+long wq_system_call(long number, ...) __asm__("syscall");
 static inline long wq_futex(uint32_t *word, int operation, uint32_t value) {
-    return syscall(SYS_futex, word, operation, value, NULL, NULL, 0);
+    return wq_system_call(SYS_futex, word, operation, value, (void *)0, (void *)0, 0);
 }
 static inline uint32_t wq_load(uint32_t *word) { return __atomic_load_n(word, __ATOMIC_SEQ_CST); }
 /* Sleeps until the word is no longer this. */
@@ -82,8 +88,12 @@ static inline void wq_worker_ask(wq_worker *worker, uint32_t phase) {
     wq_count(&worker->bell);
 }
 
-/* Starts a thread that executes the queue of this owner, which has so many items. WQ_OK or WQ_NO_THREAD. */
+/* Starts a thread that executes the queue of this owner, which has so many items. WQ_OK or WQ_NO_THREAD; or, without a thread, what
+ * wq_rest answers to a seat that is no owner's (WQ_NO_SEAT, WQ_SEAT_BUSY, WQ_NOT_OWNER), a queue that is closed or drains, and an owner
+ * that has not ended all that it took (WQ_IS_CLOSED, WQ_IS_DRAINING, WQ_SOME_WAIT, WQ_IS_RUNNING): a worker would get nowhere. */
 static inline uint32_t wq_worker_start(wq_worker *worker, wq_seat *owner, uint32_t items, wq_function *function, void *data) {
+    uint32_t rests = wq_rest(owner); /* that the queue rests then does no harm: the worker takes first */
+    if (rests != WQ_YES && rests != WQ_NO) return rests;
     worker->owner = owner;
     worker->function = function;
     worker->data = data;
@@ -93,27 +103,34 @@ static inline uint32_t wq_worker_start(wq_worker *worker, wq_seat *owner, uint32
     return pthread_create(&worker->thread, NULL, wq_worker_run, worker) == 0 ? (uint32_t)WQ_OK : (uint32_t)WQ_NO_THREAD;
 }
 
-/* Queues an item, and wakes the worker where it sleeps. */
-static inline uint32_t wq_worker_queue(wq_worker *worker, wq_seat *sender, uint32_t item) {
-    uint32_t code = wq_queue(sender, item);
-    if (wq_is_queued(code) && (code & WQ_WAKES)) wq_count(&worker->bell);
+/* Wakes the worker where a queueing of wq.h was answered WQ_WAKES, on which it would sleep on; for wq_queue_tries, wq_flush_begin and
+ * wq_request_stop. Gives the code back. */
+static inline uint32_t wq_worker_wake(wq_worker *worker, uint32_t code) {
+    if (wq_wakes(code)) wq_count(&worker->bell);
     return code;
 }
 
-/* Queues a barrier, and sleeps until all that was accepted before it has ended. Where the answer is no queueing it has waited for
- * nothing. Not from the worker's own function. */
+/* Queues an item, and wakes the worker where it sleeps. */
+static inline uint32_t wq_worker_queue(wq_worker *worker, wq_seat *sender, uint32_t item) {
+    return wq_worker_wake(worker, wq_queue(sender, item));
+}
+
+/* Queues a barrier, and sleeps until all that was accepted before it has ended. Where the answer is no queueing it has not waited to
+ * the end: the barrier was not queued, or the seat was given up meanwhile. Not from the worker's own function. */
 static inline uint32_t wq_worker_flush(wq_worker *worker, wq_seat *sender, uint32_t barrier) {
-    uint32_t code = wq_flush_begin(sender, barrier);
+    uint32_t code = wq_worker_wake(worker, wq_flush_begin(sender, barrier));
     if (!wq_is_queued(code)) return code;
-    if (code & WQ_WAKES) wq_count(&worker->bell);
     for (;;) {
-        uint32_t flushes = wq_load(&worker->flushes);
-        if (wq_flush_done(sender, barrier) == WQ_YES) return code;
-        wq_sleep(&worker->flushes, flushes);
+        uint32_t flushes = wq_load(&worker->flushes), done = wq_flush_done(sender, barrier);
+        if (done == WQ_YES) return code;
+        if (done == WQ_NO) wq_sleep(&worker->flushes, flushes);
+        else if (done == WQ_SEAT_BUSY) sched_yield(); /* nothing was found out, so this may be after the last bell */
+        else return done;
     }
 }
 
-/* Drains the queue: sleeps until all that was accepted has ended. Until wq_worker_resume a queueing is answered WQ_DRAINING. */
+/* Drains the queue: sleeps until all that was accepted has ended. Until wq_worker_resume a queueing is answered WQ_DRAINING. Not from
+ * the worker's own function, as all that follow. */
 static inline void wq_worker_drain(wq_worker *worker) {
     wq_worker_ask(worker, WQ_DRAINED);
     wq_sleep(&worker->reached, WQ_SERVES);
@@ -128,7 +145,7 @@ static inline void wq_worker_finish(wq_worker *worker) {
     wq_worker_ask(worker, WQ_STOPPED);
     pthread_join(worker->thread, NULL);
 }
-/* The same, and gives the owner's seat up. */
+/* The same, and gives the owner's seat up. The worker's memory is still that of each sender whose call has not returned (above). */
 static inline uint32_t wq_worker_stop(wq_worker *worker) {
     wq_worker_finish(worker);
     return wq_release(worker->owner);

@@ -27,7 +27,7 @@ def feed(sender):
     for item in range(number * OWN, (number + 1) * OWN):
         code = sender.queue(item)
         assert code.is_queued
-        if code & Code.WAKES:
+        if code.wakes:
             woken.release()
 
 

@@ -8,6 +8,11 @@ static wq_seat owner, one, two;
 static void before_a_queue(void) {
     uint32_t n = 77;
     CHECK(wq_c_seat_size() <= WQ_SEAT_BYTES);
+#ifdef WQ_UNCHECKED
+    CHECK(sizeof(wq_seat) == 256);
+#else
+    CHECK(sizeof(wq_seat) == 384);
+#endif
     CHECK(wq_init(&owner) == WQ_OK && wq_init(&one) == WQ_OK && wq_init(&two) == WQ_OK);
     CHECK(wq_queue(&one, 0) == WQ_NOT_SENDER && wq_is_pending(&one, 0) == WQ_NOT_SENDER && wq_request_stop(&one) == WQ_NOT_SENDER);
     CHECK(wq_flush_begin(&one, 0) == WQ_NOT_SENDER && wq_flush_done(&one, 0) == WQ_NOT_SENDER && wq_number(&one, &n) == WQ_NOT_SENDER);
@@ -29,6 +34,7 @@ static void handing_out(void) {
     CHECK(wq_build(&one, 4, 1, 1) == WQ_IN_USE && wq_hand_out(&one, &two) == WQ_NOT_OWNER);
     CHECK(wq_number(&one, &n) == WQ_OK && n == 0 && wq_number(&owner, &n) == WQ_NOT_SENDER);
     CHECK(wq_queue(&owner, 0) == WQ_NOT_SENDER && wq_take(&one, &n) == WQ_NOT_OWNER);
+    CHECK(wq_rest(&owner) == WQ_NO); /* a new queue rests already */
 }
 
 static void sending(void) {
@@ -97,6 +103,14 @@ static void closing(void) {
     CHECK(wq_build(&one, 1, 1, 1) == WQ_OK && wq_close(&one, &n) == WQ_OK && n == 0 && wq_release(&one) == WQ_OK);
 }
 
+/* Only the answers of a queueing that was accepted are queueings, though others share their bits. */
+static void bits(void) {
+    for (uint32_t code = 0; code < 256; code++) {
+        CHECK(wq_is_queued(code) == (code == 1 || code == 3 || code == 5 || code == 7));
+        CHECK(wq_wakes(code) == (code == 5 || code == 7));
+    }
+}
+
 static void names(void) {
     CHECK(!strcmp(wq_code_name(WQ_OK), "OK") && !strcmp(wq_code_name(WQ_QUEUED | WQ_FIRST | WQ_WAKES), "QUEUED|FIRST|WAKES"));
     CHECK(!strcmp(wq_code_name(WQ_YES), "YES") && !strcmp(wq_code_name(14), "?") && !strcmp(wq_code_name(WQ_NOT_SENDER), "NOT_SENDER"));
@@ -111,6 +125,7 @@ int main(void) {
     executing();
     draining();
     closing();
+    bits();
     names();
     puts("codes: each as it is said");
     return 0;

@@ -15,7 +15,7 @@ def write_lines(thread):
     for line in range(LINES):
         item = thread * LINES + line
         text[item] = f"thread {thread} line {line}"
-        if senders[thread].queue(item) & Code.WAKES:
+        if senders[thread].queue(item).wakes:
             woken.release()
 
 

@@ -1,0 +1,147 @@
+/* What the calls of wq_worker.h do where a caller is at fault or calls wq.h besides: a worker is not started on a seat that it could
+ * not execute from, what wq.h answered wakes it, and a flush comes back though another call was in its seat. */
+#include "check.h"
+#include "wq_worker.h"
+#include <dirent.h>
+#include <sched.h>
+
+enum { ITEMS = 4, BARRIERS = 2, FIRST_RUN = 0, BEHIND_FLUSH = 1 };
+
+static wq_seat owner, sender, other, vacant, blank;
+static wq_worker worker;
+static uint32_t ran;
+
+static void count(uint32_t item, void *data) {
+    CHECK(item < ITEMS && data == &worker);
+    __atomic_add_fetch(&ran, 1, __ATOMIC_SEQ_CST);
+}
+
+static void build(void) {
+    CHECK(wq_init(&owner) == WQ_OK && wq_init(&sender) == WQ_OK && wq_init(&other) == WQ_OK && wq_init(&vacant) == WQ_OK);
+    CHECK(wq_build(&owner, ITEMS, BARRIERS, 2) == WQ_OK);
+    CHECK(wq_hand_out(&owner, &sender) == WQ_OK && wq_hand_out(&owner, &other) == WQ_OK);
+}
+
+static uint32_t threads(void) {
+    uint32_t found = 0;
+    DIR *tasks = opendir("/proc/self/task");
+    CHECK(tasks);
+    while (readdir(tasks)) found++;
+    closedir(tasks);
+    return found;
+}
+
+static void is_refused(wq_seat *seat, uint32_t code) {
+    uint32_t before = threads();
+    CHECK(wq_worker_start(&worker, seat, ITEMS, count, &worker) == code);
+    CHECK(threads() == before);
+}
+
+static void release_all(void) {
+    CHECK(wq_release(&owner) == WQ_OK && wq_release(&sender) == WQ_OK && wq_release(&other) == WQ_OK);
+}
+
+static void starting(void) {
+    build();
+    is_refused(&vacant, WQ_NOT_OWNER);
+    is_refused(&sender, WQ_NOT_OWNER);
+    is_refused(&blank, WQ_NO_SEAT);
+    CHECK(wq_queue(&sender, 0) != WQ_PENDING && wq_queue(&sender, 1) == WQ_QUEUED && wq_take(&owner, WQ_NO_NUMBER) == WQ_OK);
+    is_refused(&owner, WQ_SOME_WAIT);
+    CHECK(wq_begin(&owner, WQ_NO_NUMBER) == WQ_OK);
+    is_refused(&owner, WQ_SOME_WAIT);
+    CHECK(wq_end(&owner) == WQ_OK && wq_begin(&owner, WQ_NO_NUMBER) == WQ_OK);
+    is_refused(&owner, WQ_IS_RUNNING);
+    CHECK(wq_end(&owner) == WQ_OK && wq_drain(&owner, WQ_NO_NUMBER) == WQ_OK);
+    is_refused(&owner, WQ_IS_DRAINING);
+    CHECK(wq_resume(&owner) == WQ_OK && wq_close(&owner, WQ_NO_NUMBER) == WQ_OK);
+    is_refused(&owner, WQ_IS_CLOSED);
+    release_all();
+}
+
+/* A worker that starts with something queued, and one that starts on an owner that rests. */
+static void started(void) {
+    for (int rests = 0; rests < 2; rests++) {
+        build();
+        ran = 0;
+        CHECK(wq_take(&owner, WQ_NO_NUMBER) == WQ_OK && (!rests || wq_rest(&owner) == WQ_YES));
+        CHECK(rests || wq_is_queued(wq_queue(&sender, 2)));
+        CHECK(wq_worker_start(&worker, &owner, ITEMS, count, &worker) == WQ_OK);
+        CHECK(wq_is_queued(wq_worker_queue(&worker, &other, 3)) && wq_is_queued(wq_worker_flush(&worker, &sender, 0)));
+        CHECK(wq_load(&ran) == (rests ? 1 : 2));
+        wq_worker_finish(&worker);
+        release_all();
+    }
+}
+
+/* Each comes while the worker rests or soon does, and is executed. */
+static void waking(void) {
+    build();
+    CHECK(wq_worker_start(&worker, &owner, ITEMS, count, &worker) == WQ_OK);
+    for (uint32_t round = 0; round < 50; round++) {
+        for (uint32_t item = 0, before = wq_load(&ran); item < 2; item++) {
+            CHECK(wq_is_queued(wq_worker_wake(&worker, wq_queue_tries(&sender, item, 1000))));
+            while (wq_load(&ran) != before + item + 1) sched_yield();
+        }
+        CHECK(wq_is_queued(wq_worker_wake(&worker, wq_flush_begin(&sender, 1))));
+        while (wq_flush_done(&sender, 1) != WQ_YES) sched_yield();
+        uint32_t ended = wq_load(&worker.flushes);
+        CHECK(wq_is_queued(wq_worker_wake(&worker, wq_request_stop(&sender))));
+        while (wq_load(&worker.flushes) == ended) sched_yield();
+    }
+    uint32_t bell = wq_load(&worker.bell);
+    CHECK(wq_worker_wake(&worker, wq_queue_tries(&sender, 0, 0)) == WQ_NO_TRIES && wq_worker_wake(&worker, WQ_CLOSED) == WQ_CLOSED);
+    CHECK(wq_load(&worker.bell) == bell);
+    wq_worker_finish(&worker);
+    release_all();
+}
+
+/* The first comes into the sender's seat, as a call of another thread does, once the flush has queued its barrier, and queues the
+ * second behind that. The barrier ends meanwhile, and the second leaves the seat. */
+static void intrude(uint32_t item, void *data) {
+    const struct timespec while_busy = {0, 20 * 1000 * 1000};
+    CHECK(data == &worker);
+    if (item == FIRST_RUN) {
+        while (wq_flush_done(&other, 0) != WQ_NO) sched_yield();
+        while (__atomic_exchange_n(&sender.held, 1, __ATOMIC_SEQ_CST)) sched_yield();
+        CHECK(wq_is_queued(wq_queue(&other, BEHIND_FLUSH)));
+    } else {
+        nanosleep(&while_busy, NULL);
+        __atomic_store_n(&sender.held, 0, __ATOMIC_SEQ_CST);
+    }
+}
+
+/* Gives the sender's seat up once its flush has queued its barrier. */
+static void give_up(uint32_t item, void *data) {
+    CHECK(item == FIRST_RUN && data == &worker);
+    while (wq_flush_done(&other, 0) != WQ_NO) sched_yield();
+    while (wq_release(&sender) == WQ_SEAT_BUSY) sched_yield();
+}
+
+static void giving_up(void) {
+    build();
+    CHECK(wq_worker_start(&worker, &owner, ITEMS, give_up, &worker) == WQ_OK);
+    CHECK(wq_is_queued(wq_worker_queue(&worker, &other, FIRST_RUN)));
+    CHECK(wq_worker_flush(&worker, &sender, 0) == WQ_NOT_SENDER);
+    CHECK(wq_worker_stop(&worker) == WQ_OK && wq_release(&other) == WQ_OK);
+}
+
+static void flushing(void) {
+    build();
+    CHECK(wq_worker_start(&worker, &owner, ITEMS, intrude, &worker) == WQ_OK);
+    CHECK(wq_is_queued(wq_worker_queue(&worker, &other, FIRST_RUN)));
+    CHECK(wq_is_queued(wq_worker_flush(&worker, &sender, 0)));
+    CHECK(wq_worker_flush(&worker, &sender, BARRIERS) == WQ_NO_BARRIER && wq_worker_flush(&worker, &vacant, 0) == WQ_NOT_SENDER);
+    CHECK(wq_worker_stop(&worker) == WQ_OK && wq_worker_flush(&worker, &sender, 0) == WQ_CLOSED);
+    CHECK(wq_release(&sender) == WQ_OK && wq_release(&other) == WQ_OK);
+}
+
+int main(void) {
+    starting();
+    started();
+    waking();
+    flushing();
+    giving_up();
+    puts("worker_answers: no start that gets nowhere, and no sleep without end");
+    return 0;
+}
