@@ -3,7 +3,7 @@ use Rattle.std.specs.Prelude.{◌≡◌, ℕ, ◌+◌, List, ◌++◌, length, O
 use Rattle.wq_words.specs.declared.layout.Layout.{Layout}
 use Rattle.wq_check.specs.declared.cause.Cause.{Cause}
 use Rattle.wq_check.specs.declared.cause.Cause.TheVariants.{Pending, Idle, NotHeld, Closed, Draining, NotDraining, NeverDrained, Open, Runs, NothingRuns, NotWaiting, Next, NotEnded}
-use Rattle.wq_check.specs.Report.{stopped}
+use Rattle.wq_words.specs.Counting.{capped}
 use Rattle.wq_meaning.specs.Names.{named, row_text}
 use Rattle.wq_meaning.specs.Report.{line, count_line}
 use Rattle.wq_recording.specs.declared.finding.Finding.{Finding}
@@ -30,7 +30,7 @@ cause_text layout NotEnded = codes "not ended"
 abbrev pub verdict_head : List ℕ → Layout → ℕ → Option Stop → List ℕ
 verdict_head word layout count None = line (codes "legal")
 verdict_head word layout count (Some stop) =
-    line (codes "not legal") ++ count_line (codes "line") stop.line ++ count_line word (stopped (count + 1))
+    line (codes "not legal") ++ count_line (codes "line") stop.line ++ count_line word (capped (count + 1))
     ++ line (codes "cause " ++ cause_text layout stop.cause)
 
 abbrev pub verdict_text : {A E : Type 0} → Rules A E → Verdict E → List ℕ

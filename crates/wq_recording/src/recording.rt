@@ -1,7 +1,7 @@
 //! What the two kinds of recording have in common.
 ghost use Rattle.std.specs.Prelude.{◌≡◌, ◌++◌, [], List, length, slice_get, IfOk, IfErr, OnOk, string_bytes};
 ghost use Rattle.wq_words.specs.declared.layout.Layout.{Layout};
-ghost use Rattle.wq_check.specs.Report.{stopped};
+ghost use Rattle.wq_words.specs.Counting.{capped};
 ghost use Rattle.wq_recording.specs.Verdict.{Rules};
 ghost use Rattle.wq_recording.specs.Recording.{StopsAmong};
 
@@ -47,7 +47,7 @@ pub(crate) trait Recording: Language {
 
     // How many events were told.
     fn told_count(checker: &Self::Checker) -> u64
-        ensures counted { (h : List Self.Event) → is_after checker.now h → result ≡ stopped (length h) };
+        ensures counted { (h : List Self.Event) → is_after checker.now h → result ≡ capped (length h) };
 
     // How many numbers are left undone.
     fn left_count(checker: &Self::Checker) -> usize

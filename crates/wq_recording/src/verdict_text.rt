@@ -1,6 +1,6 @@
 //! How a verdict is written.
 ghost use Rattle.std.specs.Prelude.{◌≡◌, ◌++◌, ℕ, List, codes, IfOk, OnOk, string_bytes};
-ghost use Rattle.wq_check.specs.Report.{stopped};
+ghost use Rattle.wq_words.specs.Counting.{capped};
 ghost use Rattle.wq_meaning.specs.Report.{line};
 ghost use Rattle.wq_meaning.specs.Names.{named};
 ghost use Rattle.wq_recording.specs.VerdictText.{cause_text, verdict_head, verdict_of, verdict_text, SaysOf};
@@ -58,7 +58,7 @@ fn write_head(
     stop: Option<Stop>,
     out: &mut String,
 ) -> Result<(), AllocError>
-    ensures { (n : ℕ) → told_count ≡ stopped n → OnOk result (string_bytes out.new ≡ string_bytes out.old ++ verdict_head word.now layout.now n stop) }
+    ensures { (n : ℕ) → told_count ≡ capped n → OnOk result (string_bytes out.new ≡ string_bytes out.old ++ verdict_head word.now layout.now n stop) }
 {
     match stop {
         None => write_line("legal", out),

@@ -141,15 +141,6 @@ pub boths_machine : (l : Layout) (id : ℕ) (v : View) (other : ℕ) (w : View) 
 unfolding boths
 boths_machine l id v other w s r at apart there = refl
 
--- the first part is cut off
-abbrev pub front_of : View → View
-front_of [] = []
-front_of (p ∷ ps) = p ∷ []
-
-abbrev pub rest_of : View → View
-rest_of [] = []
-rest_of (p ∷ ps) = ps
-
 module _ (m : Machine) where
   pub apart_all : (c : ℕ) (v : View) → Apart c v → Apart c (all_see m.history v)
   apart_all c [] a = tt
