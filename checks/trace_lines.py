@@ -184,7 +184,10 @@ ROWS = [
         "a work that was cancelled on another queue, and another one at its address",
         [(queued("aa", "other", "g"), "#"), *whole("aa", 0), (started("aa", "g"), "#"), (ended("aa", "g"), "#")],
     ),
-    ("a work whose function was changed while it waited", [(queued("aa", "mine", "g"), "queue 0"), *runs("aa", 0)]),
+    (
+        "a work whose function was changed while it waited",
+        [(queued("aa", "mine", "g"), "queue 0"), (queued("aa", "other", "g"), "#"), *runs("aa", 0)],
+    ),
     (
         "of the queueings on another queue that were cancelled two may have begun",
         [*[(queued("aa", "other"), "#")] * 5, (queued("aa"), "queue 0"), *runs_elsewhere("aa") * 2, *runs("aa", 0)],
@@ -258,7 +261,13 @@ VERDICTS = [
         at(4, TWICE, "queue 0, ") + at(5, TWICE, "queue 1, ") + at(6, TWICE, "queue 0, "),
     ),
     ("a start without a queueing", TWICE[:3] + TWICE[1:2], 4, "not legal", at(4, TWICE[:3] + TWICE[1:2])),
-    ("a fault in front of a loss", [*OVERTAKES, LOST], 4, "not legal", at(4, OVERTAKES) + at(1, OVERTAKES, "queue 0, ")),
+    (
+        "a fault, and more behind it, and a loss",
+        [*OVERTAKES, queued("aa"), queued("aa"), LOST],
+        4,
+        "not legal",
+        at(4, OVERTAKES) + at(1, OVERTAKES, "queue 0, "),
+    ),
     ("a loss", [*TWICE[:3], LOST], "line 4: events were lost, and nothing can be said from there on", "", ""),
     ("too many", [queued(it) for it in "abcdef"], "line 5: more than 4 works at once, and nothing can be said from there on", "", ""),
     (
@@ -279,7 +288,7 @@ VERDICTS = [
 ]
 
 LEGAL = "".join(f"{line}\n" for line in TWICE[:3]).encode()
-STRANGE = b"".join(line.encode().replace(b"kworker", b"\xff \xe2\x82\xac") + b"\n" for line in OVERTAKES)
+STRANGE = b"".join(line.encode().replace(b"kworker", b"\xff\r\xe2\x82\xac") + b"\n" for line in OVERTAKES)
 # words, what is read, how the shell begins, the status, and what stands in the output
 WORDS = [
     ("--check --drained mine", LEGAL, "", 0, "legal\n"),
@@ -289,7 +298,7 @@ WORDS = [
     ("mine", LEGAL, ">&-", 1, "output: Unwritable"),
     ("--drained mine", LEGAL, "", 2, "--drained is for --check"),
     ("other", LEGAL, "", 1, "nothing was queued on other: the queues of this trace are mine"),
-    ("--check mine", STRANGE, "PYTHONIOENCODING=latin-1", 4, "line 4: \\udcff \\u20ac"),
+    ("--check mine", STRANGE, "PYTHONIOENCODING=latin-1", 4, "line 4: \\udcff\r\\u20ac"),
     ("--check mine none", b"", "", 1, "No such file or directory"),
 ]
 
@@ -419,7 +428,7 @@ def hold_words(converter, folder, rows):
         redirects, settings = (shell, "") if shell.startswith(">") else ("", shell)
         line = ["sh", "-c", f"{settings} exec '{sys.executable}' '{CONVERTER}' {words} {redirects}"]
         try:
-            ran = subprocess.run(line, cwd=folder, input=lines, stdout=subprocess.PIPE, stderr=subprocess.STDOUT, timeout=20)
+            ran = subprocess.run(line, cwd=folder, input=lines, stdout=subprocess.PIPE, stderr=subprocess.STDOUT, timeout=120)
             converter.hold(f"wq_trace.py {words} {shell}", (ran.returncode, part.encode() in ran.stdout or ran.stdout), (status, True))
         except subprocess.TimeoutExpired:
             converter.hold(f"wq_trace.py {words} {shell}", "no end", status)
