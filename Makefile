@@ -49,7 +49,7 @@ rows: build
 	checks/command_lines.py $(PROGRAM)
 	checks/random_delays.py $(PROGRAM)
 	checks/random_recordings.py $(PROGRAM)
-	checks/trace_lines.py
+	checks/trace_lines.py $(PROGRAM)
 
 # Each word that a public contract cites is defined in docs/DEFINITIONS.md, as the gate compares; a second.
 definitions:

@@ -1,33 +1,68 @@
 #!/usr/bin/env python3
-"""Gives lines of kernel traces to examples/recording/wq_trace.py, and compares what it makes of each: a mark of the queue `mine`, `#`,
-or `lost`. The lines are spelled as ftrace, `trace-cmd report` and `perf script` print them, of kernels with and without the
-queue's name and the function of an end. A row is what the lines before it show.
+"""Gives lines of kernel traces to examples/recording/wq_trace.py, and compares what it makes of them: trace_lines.py [PROGRAM].
+
+A row of ROWS is what the lines before it show: of each line a mark of the queue `mine`, `#`, or `lost`. The lines are spelled as
+ftrace, `trace-cmd report` and `perf script` print them, of kernels with and without the queue's name and the function of an end. A row
+of VERDICTS is what `--check` prints, and one of WORDS what a whole command does. The `wqrun` that these run is PROGRAM; where none is
+named the model of random_recordings.py answers, so that no program need be built.
 """
 import importlib.util
 import io
+import os
+import random
+import subprocess
 import sys
+import tempfile
+import time
 from collections import deque
+from contextlib import redirect_stderr, redirect_stdout
 from pathlib import Path
+from types import SimpleNamespace as Asked
+
+from random_recordings import judged
+
+CONVERTER = Path(__file__).resolve().parent.parent / "examples/recording/wq_trace.py"
 
 
-def ftrace(event, work, more=""):
-    return f"     kworker/u8:1-57      [001] d..2.   104.367288: workqueue_{event}: work struct{work}{more}"
+def ftrace(event, work, more="", task=57):
+    return f"     kworker/u8:1-{task}      [001] d..2.   104.367288: workqueue_{event}: work struct{work}{more}"
 
 
-def queued(work, queue="mine"):
-    return ftrace("queue_work", f"={work}", f" function=f [m] workqueue={queue} req_cpu=256 cpu=-1")
+def queued(work, queue="mine", function="f [m]"):
+    return ftrace("queue_work", f"={work}", f" function={function} workqueue={queue} req_cpu=256 cpu=-1")
 
 
-def started(work, function="f [m]"):
-    return ftrace("execute_start", f" {work}", f": function {function}")
+def started(work, function="f [m]", task=57):
+    return ftrace("execute_start", f" {work}", f": function {function}", task)
 
 
-def ended(work, function="f [m]"):
-    return ftrace("execute_end", f" {work}", f": function {function}")
+def ended(work, function="f [m]", task=57):
+    return ftrace("execute_end", f" {work}", f": function {function}", task)
+
+
+def whole(work, number):
+    return [(queued(work), f"queue {number}"), (started(work), f"start {number}"), (ended(work), f"end {number}")]
+
+
+def runs(work, number):
+    return whole(work, number)[1:]
+
+
+def runs_elsewhere(work):
+    return [(started(work), "#"), (ended(work), "#")]
 
 
 TRACE_CMD = "      kworker/u8:1-57    [001]   104.367288: "
 PERF = "kworker/u8:1-ev      57 [001]   104.367288: workqueue:"
+# what stands in front of an event of another task: in ftrace, there with the group of the task too, in trace-cmd, and in perf
+OTHERS = [
+    ("     kworker/u8:1-57      [001] d..2.   104.367288: ", "     kworker/u8:2-570     [001] d..2.   104.367288: "),
+    ("          <...>-57      (     57) [001] d..2.   104.367288: ", "          <...>-58      (-------) [001] d..2.   104.367288: "),
+    (TRACE_CMD, "      kworker/u8:2-58    [001]   104.367288: "),
+    (PERF, "kworker/u8:2      58 [001]   104.367288: workqueue:"),
+]
+# behind the last line
+END = None
 
 ROWS = [
     (
@@ -49,6 +84,14 @@ ROWS = [
         [(queued("00aa"), "queue 0"), (started("00aa"), "start 0"), (ftrace("execute_end", " 00aa"), "end 0")],
     ),
     (
+        "no line has a task or a function",
+        [
+            ("workqueue_queue_work: work struct=aa workqueue=mine req_cpu=8", "queue 0"),
+            ("workqueue_execute_start: work struct aa", "start 0"),
+            ("workqueue_execute_end: work struct aa", "end 0"),
+        ],
+    ),
+    (
         "trace-cmd",
         [
             (TRACE_CMD + "workqueue_queue_work: work struct=0xffff88810a function=f workqueue=mine req_cpu=64 cpu=-1", "queue 0"),
@@ -68,28 +111,23 @@ ROWS = [
     ),
     (
         "another queue, and one whose name begins or goes on like this one's",
-        [(queued("aa", "other"), "#"), (queued("ab", "mine 2"), "#"), (queued("ac", "mi"), "#"), (started("aa"), "#"), (ended("aa"), "#")],
+        [(queued("aa", "other"), "#"), (queued("ab", "mine 2"), "#"), (queued("ac", "mi"), "#"), *runs_elsewhere("aa"), (END, "lost")],
     ),
-    ("a work that was queued before the first line", [(started("aa"), "#"), (queued("aa"), "queue 0"), (ended("aa"), "#"), (started("aa"), "start 0")]),
+    ("an empty trace", [(END, "lost")]),
+    ("what is no trace", [("\x7fELF\x02\x01\x01", "#"), ("", "#"), (END, "lost")]),
+    (
+        "a work that was queued before the first line",
+        [(started("aa"), "#"), (queued("aa"), "queue 0"), (ended("aa"), "#"), *runs("aa", 0)],
+    ),
+    ("nothing but such works", [*runs_elsewhere("aa"), (END, "lost")]),
     (
         "a barrier of flush_work, also at the address of a work",
-        [(queued("aa"), "queue 0"), (started("aa", "wq_barrier_func"), "#"), (ended("aa", "wq_barrier_func"), "#"), (started("aa"), "start 0")],
+        [(queued("aa"), "queue 0"), (started("aa", "wq_barrier_func"), "#"), (ended("aa", "wq_barrier_func"), "#"), *runs("aa", 0)],
     ),
+    ("a work that runs twice, and twice at once", [*whole("aa", 0), (started("aa"), "start 0"), (started("aa"), "start 0")]),
     (
-        "a work that runs twice, and twice at once",
-        [(queued("aa"), "queue 0"), (started("aa"), "start 0"), (ended("aa"), "end 0"), (started("aa"), "start 0"), (started("aa"), "start 0")],
-    ),
-    (
-        "a work that goes to another queue, and comes back: its number is free in between",
-        [
-            (queued("aa"), "queue 0"),
-            (started("aa"), "start 0"),
-            (ended("aa"), "end 0"),
-            (queued("aa", "other"), "#"),
-            (started("aa"), "#"),
-            (ended("aa"), "#"),
-            (queued("aa"), "queue 1"),
-        ],
+        "a work that goes to another queue, and comes back",
+        [*whole("aa", 0), (queued("aa", "other"), "#"), *runs_elsewhere("aa"), (queued("aa"), "queue 0")],
     ),
     (
         "a work that goes to another queue while it runs",
@@ -103,47 +141,321 @@ ROWS = [
             (queued("aa"), "queue 0"),
         ],
     ),
+    # its start is shown after it has begun, and after it has been queued again
+    (
+        "a work that comes from another queue before its start there",
+        [(queued("aa", "other"), "#"), (queued("aa"), "queue 0"), *runs_elsewhere("aa"), *runs("aa", 0)],
+    ),
+    (
+        "a work that goes to another queue before its start",
+        [(queued("aa"), "queue 0"), (queued("aa", "other"), "#"), *runs("aa", 0), *runs_elsewhere("aa")],
+    ),
+    (
+        "a work of three queues before its start on the first",
+        [
+            (queued("aa", "other"), "#"),
+            (queued("aa"), "queue 0"),
+            (queued("aa", "third"), "#"),
+            *runs_elsewhere("aa"),
+            *runs("aa", 0),
+            *runs_elsewhere("aa"),
+        ],
+    ),
+    (
+        "a work that is there and back before its first start",
+        [
+            (queued("aa"), "queue 0"),
+            (queued("aa", "other"), "#"),
+            (queued("aa"), "queue 0"),
+            *runs("aa", 0),
+            *runs_elsewhere("aa"),
+            *runs("aa", 0),
+        ],
+    ),
+    (
+        "a work that is queued again before its start",
+        [(queued("aa"), "queue 0"), (queued("aa"), "queue 0"), *runs("aa", 0), *runs("aa", 0)],
+    ),
+    (
+        "one that runs twice, though not here",
+        [*whole("aa", 0), (queued("aa", "other"), "#"), *runs_elsewhere("aa"), *runs_elsewhere("aa")],
+    ),
+    (
+        "a work that was cancelled on another queue, and another one at its address",
+        [(queued("aa", "other", "g"), "#"), *whole("aa", 0), (started("aa", "g"), "#"), (ended("aa", "g"), "#")],
+    ),
+    (
+        "a work whose function was changed while it waited",
+        [(queued("aa", "mine", "g"), "queue 0"), (queued("aa", "other", "g"), "#"), *runs("aa", 0)],
+    ),
+    (
+        "of the queueings on another queue that were cancelled two may have begun",
+        [*[(queued("aa", "other"), "#")] * 5, (queued("aa"), "queue 0"), *runs_elsewhere("aa") * 2, *runs("aa", 0)],
+    ),
+    (
+        "two tasks that run a work: one of them from before the first line",
+        [
+            (started("aa", task=58), "#"),
+            (queued("aa"), "queue 0"),
+            (started("aa"), "start 0"),
+            (ended("aa", task=58), "#"),
+            (ended("aa"), "end 0"),
+        ],
+    ),
     ("events lost, in ftrace", [(queued("aa"), "queue 0"), ("CPU:2 [LOST 120 EVENTS]", "lost")]),
     ("events lost, nobody knows how many", [("CPU:2 [LOST EVENTS]", "lost")]),
     ("events lost, in trace-cmd", [("CPU:2 [120 EVENTS DROPPED]", "lost")]),
     ("events lost, in perf", [("kworker/u8:1-ev    57 [001]   104.367288: PERF_RECORD_LOST lost 120", "lost")]),
-    ("the buffer was full, and its first lines were written over", [("# entries-in-buffer/entries-written: 4108/41080   #P:4", "lost")]),
+    (
+        "the buffer was full, and its first lines were written over",
+        [("# entries-in-buffer/entries-written: 4108/41080   #P:4", "lost")],
+    ),
+    ("addresses that are hidden", [("# tracer: nop", "#"), (queued("(____ptrval____)"), "lost")]),
+    ("a hidden address of a start", [(queued("aa"), "queue 0"), (started("(____ptrval____)"), "lost")]),
+]
+# a work is freed in its function, and its address is used again on another queue: the end there is not the one here
+ROWS += [
+    (
+        f"a work that is freed, and two tasks at its address, as in{other}",
+        [
+            (f"{one}workqueue_queue_work: work struct=aa function=f workqueue=mine req_cpu=8", "queue 0"),
+            (f"{one}workqueue_execute_start: work struct aa: function f", "start 0"),
+            (f"{one}workqueue_queue_work: work struct=aa function=g workqueue=other req_cpu=8", "#"),
+            (f"{other}workqueue_execute_start: work struct aa: function g", "#"),
+            (f"{other}workqueue_execute_end: work struct aa: function g", "#"),
+            (f"{one}workqueue_execute_end: work struct aa: function f", "end 0"),
+        ],
+    )
+    for one, other in OTHERS
 ]
 
-def whole(work, number):
-    return [(queued(work), f"queue {number}"), (started(work), f"start {number}"), (ended(work), f"end {number}")]
-
-
-def whole(work, number):
-    return [(queued(work), f"queue {number}"), (started(work), f"start {number}"), (ended(work), f"end {number}")]
-
-
-# with four numbers: behind the last comes the number of the work that went to another queue, then that of the work that is idle
-# longest, which is not the one that was queued first
+# with four numbers: behind the last comes that of the work that is idle longest, which is not the one that was queued first
 ITEMS = 4
 MANY = [*whole("a", 0), (queued("a", "other"), "#")]
-MANY += [(queued("b"), "queue 1"), *whole("c", 2), *whole("d", 3), (started("b"), "start 1"), (ended("b"), "end 1")]
+MANY += [(queued("b"), "queue 1"), *whole("c", 2), *whole("d", 3), *runs("b", 1)]
 MANY += [*whole("e", 0), *whole("f", 2), *whole("c", 3), *whole("b", 1), *whole("d", 0)]
 
-# one that runs and one that waits keep their numbers
-BUSY = [(queued("a"), "queue 0"), (started("a"), "start 0"), (queued("b"), "queue 1"), *whole("c", 2), *whole("d", 3), (queued("e"), "queue 2")]
+# one that runs and one that waits keep their numbers, and a fifth has none
+BUSY = [(queued("a"), "queue 0"), (started("a"), "start 0"), (queued("b"), "queue 1"), *whole("c", 2), *whole("d", 3)]
+BUSY += [(queued("e"), "queue 2"), (queued("f"), "queue 3"), (queued("10"), "lost")]
+
+OVERTAKES = [queued("aa"), queued("bb"), queued("aa"), started("bb")]
+OVERLAPS = [*OVERTAKES[:3], started("aa"), started("bb")]
+TWICE = [queued("aa"), started("aa"), ended("aa"), queued("aa"), queued("bb"), queued("aa"), "# the end"]
+LOST = "CPU:2 [LOST 120 EVENTS]"
 
 
-def main():
-    found = importlib.util.spec_from_file_location("wq_trace", Path(__file__).parent / "../examples/recording/wq_trace.py")
-    converter = importlib.util.module_from_spec(found)
-    found.loader.exec_module(converter)
-    converter.ITEMS, rows, faults = ITEMS, [*ROWS, ("more works than numbers", MANY), ("works that are not idle", BUSY)], 0
-    for shows, lines in rows:
+def at(number, lines, what=""):
+    return f"{what}line {number}: {lines[number - 1].strip()}\n"
+
+
+# the lines, the status or what is said in place of a verdict, the first line of that, and the lines of the trace that are printed
+VERDICTS = [
+    ("the one that is next was queued twice", OVERTAKES, 4, "not legal", at(4, OVERTAKES) + at(1, OVERTAKES, "queue 0, ")),
+    ("the one that runs was queued twice", OVERLAPS, 4, "not legal", at(5, OVERLAPS) + at(4, OVERLAPS, "start 0, ")),
+    (
+        "what is left was queued before it last ran, and since",
+        TWICE,
+        4,
+        "legal",
+        at(4, TWICE, "queue 0, ") + at(5, TWICE, "queue 1, ") + at(6, TWICE, "queue 0, "),
+    ),
+    ("a start without a queueing", TWICE[:3] + TWICE[1:2], 4, "not legal", at(4, TWICE[:3] + TWICE[1:2])),
+    (
+        "a fault, and more behind it, and a loss",
+        [*OVERTAKES, queued("aa"), queued("aa"), LOST],
+        4,
+        "not legal",
+        at(4, OVERTAKES) + at(1, OVERTAKES, "queue 0, "),
+    ),
+    ("a loss", [*TWICE[:3], LOST], "line 4: events were lost, and nothing can be said from there on", "", ""),
+    ("too many", [queued(it) for it in "abcdef"], "line 5: more than 4 works at once, and nothing can be said from there on", "", ""),
+    (
+        "a name that no queue has",
+        [queued("aa", "that"), queued("aa", "this"), queued("aa", "that")],
+        "nothing was queued on mine: the queues of this trace are that, this",
+        "",
+        "",
+    ),
+    ("no trace", ["\x7fELF", ""], "nothing was queued on mine: this trace has no line of workqueue_queue_work", "", ""),
+    (
+        "hidden addresses",
+        [queued("(____ptrval____)")],
+        "line 1: the addresses of the works are hidden: (____ptrval____), and nothing can be said from there on",
+        "",
+        "",
+    ),
+]
+
+LEGAL = "".join(f"{line}\n" for line in TWICE[:3]).encode()
+STRANGE = b"".join(line.encode().replace(b"kworker", b"\xff\r\xe2\x82\xac") + b"\n" for line in OVERTAKES)
+# words, what is read, how the shell begins, the status, and what stands in the output
+WORDS = [
+    ("--check --drained mine", LEGAL, "", 0, "legal\n"),
+    ("--check mine", LEGAL, ">/dev/full", 1, "No space left on device"),
+    ("--check mine", LEGAL, ">&-", 1, "output: Unwritable"),
+    ("mine", LEGAL, ">/dev/full", 1, "No space left on device"),
+    ("mine", LEGAL, ">&-", 1, "output: Unwritable"),
+    ("--drained mine", LEGAL, "", 2, "--drained is for --check"),
+    ("other", LEGAL, "", 1, "nothing was queued on other: the queues of this trace are mine"),
+    ("--check mine", STRANGE, "PYTHONIOENCODING=latin-1", 4, "line 4: \\udcff\r\\u20ac"),
+    ("--check mine none", b"", "", 1, "No such file or directory"),
+]
+
+# a `wqrun` that is the model of the recordings, and one that says much before anything is read
+MODEL = """#!/usr/bin/env python3
+import sys
+sys.path.insert(0, {checks!r})
+from random_recordings import judged
+status, verdict, faults = judged(sys.stdin.buffer.read(), "--drained" in sys.argv)
+sys.stdout.write(verdict), sys.stderr.write(faults)
+sys.exit(status)
+"""
+LONG = """#!/bin/sh
+echo legal
+head -c 1000000 /dev/zero | tr '\\0' x
+exit 4
+"""
+
+
+class Converter:
+    """The converter, and how many of the traces that it was given came out otherwise than wanted."""
+
+    def __init__(self):
+        found = importlib.util.spec_from_file_location("wq_trace", CONVERTER)
+        self.module, self.count, self.faults = importlib.util.module_from_spec(found), 0, 0
+        found.loader.exec_module(self.module)
+
+    def hold(self, shows, got, wanted):
+        self.count += 1
+        if got != wanted:
+            self.faults += 1
+            print(f"{shows}: {got}\n    and not {wanted}")
+
+    def marks(self, lines):
+        """What is written, and why there can be no verdict."""
         to = io.StringIO()
-        said = converter.write_marks((line for line, _ in lines), "mine", to, deque(maxlen=converter.KEPT))
+        why = self.module.write_marks(lines, "mine", to, deque(maxlen=self.module.KEPT))
+        return to.getvalue().splitlines(), why
+
+    def checks(self, lines):
+        """The status or what is said in its place, and what is printed."""
+        to = io.StringIO()
+        with redirect_stdout(to), redirect_stderr(to):
+            status = self.module.check(lines, Asked(name="mine", drained=True), deque(maxlen=self.module.KEPT))
+        return status, to.getvalue()
+
+
+def hold_marks(converter):
+    converter.module.ITEMS = ITEMS
+    for shows, lines in [*ROWS, ("more works than numbers", MANY), ("works that are not idle", BUSY)]:
+        written, why = converter.marks(line for line, _ in lines if line is not END)
         wanted = ["trace 1", f"items {ITEMS}", *(mark for _, mark in lines)]
-        if to.getvalue().splitlines() != wanted or bool(said) != (wanted[-1] == "lost"):
-            faults += 1
-            print(f"{shows}: {to.getvalue().splitlines()} {said} and not {wanted}")
-    print(f"trace lines: {len(rows)} traces, {faults} not as wanted")
-    return 1 if faults else 0
+        converter.hold(shows, (written, bool(why)), (wanted, wanted[-1] == "lost"))
+
+
+WORKERS = {"mine": 57, "other": 58, "third": 59}
+
+
+class Kernel:
+    """Right queues that share works. A worker is idle, has begun its work, which is shown later, or has shown its start."""
+
+    def __init__(self, seed):
+        self.draws, self.lines, self.pending, self.unshown = random.Random(seed), [], set(), []
+        self.works = ["aa", "bb", "cc"][: self.draws.randrange(1, 4)]
+        self.waiting, self.begun, self.shown = {queue: [] for queue in WORKERS}, {}, {}
+
+    def moves(self):
+        """What may come next, what goes on more often than a queueing. Starts of one work are shown in the order in which it began."""
+        for queue, waiting in self.waiting.items():
+            yield from ((self.queue, queue, work) for work in self.works if work not in self.pending)
+            if queue in self.shown:
+                yield from [(self.end, queue, self.shown[queue])] * 3
+            elif queue in self.begun:
+                work = self.begun[queue]
+                yield from [(self.start, queue, work)] * 2 * (next(it for it in self.unshown if it[1] == work)[0] == queue)
+            elif waiting:
+                yield from [(self.begin, queue, waiting[0])] * 3
+
+    def queue(self, queue, work):
+        self.pending.add(work), self.waiting[queue].append(work), self.lines.append(queued(work, queue))
+
+    def begin(self, queue, work):
+        self.begun[queue] = self.waiting[queue].pop(0)
+        self.pending.discard(work), self.unshown.append((queue, work))
+
+    def start(self, queue, work):
+        self.shown[queue] = self.begun.pop(queue)
+        self.unshown.remove((queue, work)), self.lines.append(started(work, task=WORKERS[queue]))
+
+    def end(self, queue, work):
+        self.shown.pop(queue), self.lines.append(ended(work, task=WORKERS[queue]))
+
+    def trace(self, moves):
+        for _ in range(moves):
+            move, *of = self.draws.choice(list(self.moves()))
+            move(*of)
+        return self.lines
+
+
+def hold_kernels(converter):
+    """Each trace of right queues that share works is legal."""
+    converter.module.ITEMS, wrong = ITEMS, []
+    for seed in range(400):
+        written, why = converter.marks(Kernel(seed).trace(60))
+        if not why and judged("".join(f"{line}\n" for line in written).encode())[0] != 0:
+            wrong.append(seed)
+    converter.hold("traces of right queues that share works, by their seeds", wrong, [])
+
+
+def hold_burst(converter):
+    """Many works that wait at once take no longer each than a few: 60,000 some half a second."""
+    converter.module.ITEMS, began = 65536, time.process_time()
+    written, why = converter.marks(queued(f"{work:x}") for work in range(60000))
+    converter.hold("a burst", (written[-1], why, time.process_time() - began < 10), ("queue 59999", None, True))
+
+
+def hold_verdicts(converter):
+    converter.module.ITEMS = ITEMS
+    for shows, lines, status, verdict, named in VERDICTS:
+        ended, printed = converter.checks(lines)
+        line, trace = printed.partition("\n")[0], "".join(it for it in printed.splitlines(True) if "line" in it and "work struct" in it)
+        converter.hold(shows, (ended, line, trace), (status, verdict, named))
+
+
+def hold_words(converter, folder, rows):
+    for words, lines, shell, status, part in rows:
+        redirects, settings = (shell, "") if shell.startswith(">") else ("", shell)
+        line = ["sh", "-c", f"{settings} exec '{sys.executable}' '{CONVERTER}' {words} {redirects}"]
+        try:
+            ran = subprocess.run(line, cwd=folder, input=lines, stdout=subprocess.PIPE, stderr=subprocess.STDOUT, timeout=120)
+            converter.hold(f"wq_trace.py {words} {shell}", (ran.returncode, part.encode() in ran.stdout or ran.stdout), (status, True))
+        except subprocess.TimeoutExpired:
+            converter.hold(f"wq_trace.py {words} {shell}", "no end", status)
+
+
+def main(program=None):
+    converter, path = Converter(), os.environ["PATH"]
+    # an output that cannot be written is found as late as it is by default
+    os.environ.pop("PYTHONUNBUFFERED", None)
+    hold_marks(converter)
+    hold_kernels(converter)
+    hold_burst(converter)
+    with tempfile.TemporaryDirectory() as folder:
+        wqrun = Path(folder, "wqrun")
+        wqrun.write_text(MODEL.format(checks=str(CONVERTER.parents[2] / "checks")))
+        wqrun.chmod(0o755)
+        os.environ["PATH"] = f"{Path(program).resolve().parent if program else folder}:{path}"
+        hold_verdicts(converter)
+        hold_words(converter, folder, WORDS)
+        wqrun.write_text(LONG)
+        os.environ["PATH"] = f"{folder}:{path}"
+        hold_words(converter, folder, [("--check mine", LEGAL * 10000, "", 4, "legal\n")])
+    print(f"trace lines: {converter.count} traces, {converter.faults} not as wanted")
+    return 1 if converter.faults else 0
 
 
 if __name__ == "__main__":
-    sys.exit(main())
+    if len(sys.argv) > 2:
+        sys.exit("usage: checks/trace_lines.py [PROGRAM]")
+    sys.exit(main(*sys.argv[1:]))

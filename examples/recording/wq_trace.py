@@ -2,105 +2,153 @@
 """A kernel trace as a recording of one ordered workqueue: wq_trace.py [--check [--drained]] NAME [FILE].
 
 Reads the text of ftrace, `trace-cmd report` or `perf script`, and writes two header lines and then a line for each line of it: a mark
-of the queue NAME, or `#`. So line N of what it writes is line N - 2 of the trace. With --check it hands that to `wqrun`, prints the
-verdict and the lines of the trace that it names, and ends with its status. docs/RECORDING.md says how to record.
+of the queue NAME, or `#`. So line N of what it writes is line N - 2 of the trace. Where there can be no verdict it says why, and its
+last line is `lost`, which no recording has. With --check it hands that to `wqrun`, prints the verdict and the lines of the trace that
+it names, and ends with its status. docs/RECORDING.md says how to record.
 """
 import argparse
 import re
 import signal
 import subprocess
 import sys
-from collections import deque
+import tempfile
+from collections import OrderedDict, deque
 from contextlib import suppress
-from types import SimpleNamespace as Work
 
-ITEMS, KEPT = 65536, 1 << 17
-EVENT = re.compile(r"workqueue_(queue_work|execute_start|execute_end): work struct[= ](?:0x)?([0-9a-f]+)(?:.* workqueue=(.*) req_cpu=)?")
+ITEMS, KEPT, NAMED = 65536, 1 << 17, 8
+EVENT = re.compile(
+    r"workqueue_(?:execute_)?(queue|start|end)(?:_work)?: work struct[= ](?:0x)?([0-9a-f]+|\(\w+\))"
+    r"(?=(?:.*?function[= ](.*?)(?: workqueue=|$))?)(?:.* workqueue=(.*) req_cpu=)?"
+)
+TASK = re.compile(r"(\d+)\s+(?:\([-\s\d]*\)\s+)?\[\d+\]")
 LOST = re.compile(r"\[LOST (?:\d+ )?EVENTS\]|\[(?:\d+ )?EVENTS DROPPED\]|PERF_RECORD_LOST|entries-written: (?!(\d+)/\1\b)")
 
 
+class Lost(Exception):
+    """Why nothing can be said from a line on."""
+
+
+class Work:
+    """A work struct: its queueings whose start is not shown yet, by function and queue, and its executions, by task and queue."""
+
+    def __init__(self):
+        self.waits, self.runs, self.last = [], [], ""
+
+    def queue(self, function, name, _):
+        """It may be queued again before its start is shown, here or elsewhere. A third one on a queue says that one was cancelled."""
+        if self.waits.count((function, name)) == 2:
+            self.waits.remove((function, name))
+        self.waits.append((function, name))
+        self.last = name
+        return name
+
+    def start(self, function, _, task):
+        """Of the oldest queueing, where some have its function of the oldest of these; without any it runs twice."""
+        queueing = ([it for it in self.waits if it[0] == function] or self.waits or [(function, self.last)])[0]
+        with suppress(ValueError):
+            self.waits.remove(queueing)
+        self.runs.append((task, queueing[1]))
+        return queueing[1]
+
+    def end(self, _, __, task):
+        """Of what this task started."""
+        run = next((it for it in self.runs if it[0] == task), (task, ""))
+        with suppress(ValueError):
+            self.runs.remove(run)
+        return run[1]
+
+
 class Queue:
-    """The work structs that were queued on a queue, by address; those that were queued or ended longest ago come first."""
+    """The works by their addresses, and the numbers of those of the queue NAME. Free are the numbers that no work had yet, and behind
+    them those of idle works, each with its address: the one that is idle longest comes first."""
 
     def __init__(self, name):
-        self.name, self.free, self.works = name, deque(range(ITEMS)), {}
+        self.name, self.names, self.works, self.numbers = name, set(), {}, {}
+        self.free = OrderedDict.fromkeys(range(ITEMS))
 
-    def number(self):
-        """A number that is free, or that of the work that is idle longest."""
-        idle = next((it for it, work in self.works.items() if not work.waits and not work.runs), None)
-        if not self.free and idle is None:
-            sys.exit(f"more than {ITEMS} works at once")
-        return self.free.popleft() if self.free else self.works.pop(idle).number
-
-    def queue_work(self, address, name):
-        work, is_here = self.works.pop(address, None), name == self.name
-        if is_here:
-            work = work or Work(number=self.number(), waits=0, runs=False)
-            work.waits += 1
-        if work and (work.waits or work.runs):
-            self.works[address], work.is_here = work, is_here
-        elif work:
-            self.free.append(work.number)
-        return f"queue {work.number}" if is_here else "#"
-
-    def execute_start(self, address, _):
-        """One that was not queued is of this queue where its work was queued here last: it runs twice."""
-        work = self.works.get(address)
-        if not work or not work.waits and not work.is_here:
-            return "#"
-        work.waits, work.runs = max(work.waits - 1, 0), True
-        return f"start {work.number}"
-
-    def execute_end(self, address, _):
-        work = self.works.get(address)
-        if not work or not work.runs:
-            return "#"
-        self.works[address], work.runs = self.works.pop(address), False
-        return f"end {work.number}"
+    def number(self, address):
+        """The number of a work, which is idle no more."""
+        if address not in self.numbers and not self.free:
+            raise Lost(f"more than {ITEMS} works at once")
+        if address not in self.numbers:
+            self.numbers[address], idle = self.free.popitem(last=False)
+            self.numbers.pop(idle, None)
+        self.free.pop(self.numbers[address], None)
+        return self.numbers[address]
 
     def mark(self, line):
-        event = EVENT.search(line)
-        if LOST.search(line) or not event or "wq_barrier_func" in line:
-            return "lost" if LOST.search(line) else "#"
-        return getattr(self, event[1])(event[2], event[3])
+        if LOST.search(line):
+            raise Lost("events were lost")
+        event, task = EVENT.search(line), TASK.search(line)
+        if not event or "wq_barrier_func" in line:
+            return "#"
+        word, address, function, name = event.groups(default="")
+        if address.startswith("("):
+            raise Lost(f"the addresses of the works are hidden: {address}")
+        self.names.update([name] * (word == "queue"))
+        work = self.works.setdefault(address, Work())
+        is_here = getattr(work, word)(function, name, task and task[1]) == self.name
+        if not (work.waits or work.runs or work.last == self.name):
+            del self.works[address]
+        if not is_here:
+            return "#"
+        number = self.number(address)
+        if all(queue != self.name for _, queue in work.waits + work.runs):
+            self.free[number] = address
+        return f"{word} {number}"
+
+    def unseen(self):
+        """Why nothing can be said of a trace that has no line of this queue, or nothing."""
+        names = ", ".join([*sorted(self.names)[:20], *["..."] * (len(self.names) > 20)])
+        others = f"the queues of this trace are {names}" if names else "this trace has no line of workqueue_queue_work"
+        return None if self.name in self.names else f"nothing was queued on {self.name}: {others}"
 
 
 def write_marks(lines, name, to, kept):
-    """Writes a line for each line, and keeps the last of them, until nobody reads on or events were lost; answers what was lost."""
-    queue = Queue(name)
+    """Writes a line for each line, and keeps the last of them, until nobody reads on; answers why there can be no verdict, if so."""
+    queue, at = Queue(name), 0
     print(f"trace 1\nitems {ITEMS}", file=to)
-    for at, line in enumerate(lines, 1):
-        kept.append((at, queue.mark(line), line.strip()))
-        print(kept[-1][1], file=to, flush=kept[-1][1] != "#")
-        if kept[-1][1] == "lost":
-            return f"line {at}: events were lost, and nothing can be said from there on"
+    try:
+        for at, line in enumerate(map(str.strip, lines), 1):
+            kept.append((at, queue.mark(line), line))
+            print(kept[-1][1], file=to, flush=kept[-1][1] != "#")
+        why = queue.unseen()
+    except Lost as lost:
+        why = f"line {at}: {lost}, and nothing can be said from there on"
+    if why:
+        print("lost", file=to, flush=True)
+    return why
 
 
 def named(verdict, kept):
     """The lines of the trace that a verdict names: that of the mark, and that of the item of its cause, or those of what is left."""
-    decides = re.search(r"^line (\d+)$", verdict, re.M)
-    upto = int(decides[1]) - 2 if decides else sys.maxsize
+    decides = re.search(r"^line (\d+)\nmark \d+\ncause (\w+)", verdict, re.M)
+    upto, cause = (int(decides[1]) - 2, decides[2]) if decides else (sys.maxsize, "left")
     yield from (f"line {at}: {line}" for at, _, line in kept if at == upto)
-    items = re.search(r"^cause (runs|next) (\d+)$" if decides else r"^(left)((?: \d+)+)$", verdict, re.M)
-    for number in items[2].split()[:8] if items else []:
-        wanted = f"start {number}" if items[1] == "runs" else f"queue {number}"
-        yield from [f"{wanted}, line {at}: {line}" for at, mark, line in kept if mark == wanted and at < upto][-1:]
+    # what runs or is next is the first that is left; of an item that is left twice the last two queueings are
+    left = "".join(re.findall(r"^left (.*)", verdict, re.M)).split()
+    for place, number in enumerate(left[: {"left": NAMED, "runs": 1, "next": 1}.get(cause, 0)]):
+        wanted, last = (f"start {number}", 1) if cause == "runs" else (f"queue {number}", left[place:].count(number))
+        found = [f"{wanted}, line {at}: {line}" for at, mark, line in kept if mark == wanted and at < upto]
+        yield from found[-last:][:1] if len(found) >= last else []
 
 
 def check(lines, asked, kept):
-    """Prints the verdict and the lines that it names. Answers the status of the program that gave it, or what was lost."""
-    command, lost = ["wqrun", "check", *["--drained"] * asked.drained, "/dev/stdin"], None
-    with subprocess.Popen(command, stdin=subprocess.PIPE, stdout=subprocess.PIPE, text=True) as wqrun:
-        try:
-            lost = write_marks(lines, asked.name, wqrun.stdin, kept)
-            wqrun.stdin.close()
-        except BrokenPipeError:
-            # the verdict stood before the trace had ended, and what is still in hand cannot be written
-            with suppress(BrokenPipeError):
-                wqrun.stdin.close()
-        verdict = wqrun.stdout.read()
+    """Prints the verdict and the lines that it names. Answers the status of the program that gave it, or why there is none."""
+    command, why = ["wqrun", "check", *["--drained"] * asked.drained, "/dev/stdin"], None
+    # a long verdict may stand before the trace has ended: a pipe would not hold it, and nobody reads it yet
+    with tempfile.TemporaryFile("w+") as said:
+        with subprocess.Popen(command, stdin=subprocess.PIPE, stdout=said, stderr=subprocess.PIPE, text=True) as wqrun:
+            with suppress(BrokenPipeError):  # it said its verdict before the trace had ended
+                why = write_marks(lines, asked.name, wqrun.stdin, kept)
+            faults = wqrun.communicate()[1]
+        said.seek(0)
+        verdict = said.read()
+    if why and wqrun.returncode != 4:
+        return why
+    print(faults, file=sys.stderr, end="")
     print(verdict, *(f"{it}\n" for it in named(verdict, kept)), sep="", end="")
-    return wqrun.returncode if wqrun.returncode == 4 else lost or wqrun.returncode
+    return wqrun.returncode
 
 
 def main():
@@ -110,15 +158,24 @@ def main():
     words.add_argument("--check", action="store_true", help="hand it to the wqrun of the PATH")
     words.add_argument("--drained", action="store_true", help="with --check: nothing may be left at the end")
     asked, kept = words.parse_args(), deque(maxlen=KEPT)
-    with open(asked.file, errors="replace") as lines:
+    if asked.drained and not asked.check:
+        words.error("--drained is for --check")
+    if sys.stdout is None:
+        return "output: Unwritable"
+    # the name of a task may have any bytes, which the output may have no letters for
+    sys.stdout.reconfigure(errors="backslashreplace")
+    with open(asked.file, errors="surrogateescape", newline="\n") as lines:
         if asked.check:
-            sys.exit(check(lines, asked, kept))
+            return check(lines, asked, kept)
         signal.signal(signal.SIGPIPE, signal.SIG_DFL)
-        sys.exit(write_marks(lines, asked.name, sys.stdout, kept))
+        return write_marks(lines, asked.name, sys.stdout, kept)
 
 
 if __name__ == "__main__":
     try:
-        main()
+        status = main()
+        print(end="", flush=True)
     except OSError as error:
-        sys.exit(str(error))
+        # what could not be written is not tried again at the end
+        sys.stdout, status = None, str(error)
+    sys.exit(status)
