@@ -1,5 +1,7 @@
 # `make run` proves, builds and runs the tool on an example; `make try` runs that example unproved; `make test` is the gate.
 SHELL := /bin/bash
+# `build` sets aside what stands in the crates' out/ while it works, and `library` builds into it.
+.NOTPARALLEL:
 PREFIX ?= /usr/local
 PROGRAM := crates/wqrun/out/wqrun
 EXAMPLES := examples
@@ -28,10 +30,10 @@ library:
 	checks/c_library.sh $(LIBRARY)
 
 install: build library
-	install -D -m 755 $(PROGRAM) $(DESTDIR)$(PREFIX)/bin/wqrun
-	install -D -m 644 man/wqrun.1 $(DESTDIR)$(PREFIX)/share/man/man1/wqrun.1
-	install -D -m 644 docs/FORMATS.md $(DESTDIR)$(PREFIX)/share/doc/wqrun/FORMATS.md
-	checks/c_install.sh $(LIBRARY) $(PREFIX) $(DESTDIR)
+	install -D -m 755 $(PROGRAM) "$(DESTDIR)$(PREFIX)/bin/wqrun"
+	install -D -m 644 man/wqrun.1 "$(DESTDIR)$(PREFIX)/share/man/man1/wqrun.1"
+	install -D -m 644 docs/FORMATS.md "$(DESTDIR)$(PREFIX)/share/doc/wqrun/FORMATS.md"
+	checks/c_install.sh $(LIBRARY) "$(PREFIX)" "$(DESTDIR)"
 
 # Each example writes what is stored beside it, and ends with the status that is stored.
 examples: build

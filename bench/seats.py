@@ -17,7 +17,11 @@ CELLS = [(0, 256), (1, 256), (2, 256), (3, 256), (1, 16), (3, 16)]
 
 def glib():
     """The flags of GLib, or none where it is not there."""
-    said = subprocess.run(['pkg-config', '--cflags', '--libs', 'glib-2.0'], capture_output=True, text=True, check=False)
+    try:
+        said = subprocess.run(['pkg-config', '--cflags', '--libs', 'glib-2.0'], capture_output=True, text=True, check=False)
+    except OSError:
+        print('no GAsyncQueue: pkg-config is not there', file=sys.stderr)
+        return None
     if said.returncode:
         print('no GAsyncQueue: pkg-config does not find glib-2.0', file=sys.stderr)
     return said.stdout.split() if said.returncode == 0 else None

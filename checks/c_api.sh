@@ -9,8 +9,8 @@ work=$(mktemp -d)
 trap 'rm -rf "$work"' EXIT
 export LD_LIBRARY_PATH=$work YEANGVOS_LIBRARY=$work/libyeangvos.so PYTHONPATH=include PYTHONDONTWRITEBYTECODE=1
 if ! command -v "${CC:-cc}" >/dev/null; then
-    echo "c: no C compiler, so nothing was tested"
-    exit 0
+    echo "c: no C compiler, so nothing was tested: name one by CC" >&2
+    exit 1
 fi
 checks/c_library.sh "$work"
 strict=(-std=c99 -pedantic -O2 -g -Wall -Wextra -Werror -pthread -Iinclude -Ichecks/c)

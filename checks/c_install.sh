@@ -4,6 +4,7 @@ set -euo pipefail
 folder=$(realpath "${1:?usage: checks/c_install.sh FOLDER PREFIX [DESTDIR]}")
 prefix=${2:?usage: checks/c_install.sh FOLDER PREFIX [DESTDIR]}
 to=${3:-}$prefix
+[[ $prefix = /* ]] || { echo "c_install.sh: PREFIX is $prefix, and no path from the root" >&2; exit 1; }
 cd "$(dirname "${BASH_SOURCE[0]}")/.."
 install -D -m 644 -t "$to/include" include/wq.h include/wq_worker.h include/wq_pure.h
 install -D -m 644 -t "$to/lib" "$folder/libyeangvos.a"
@@ -13,14 +14,13 @@ install -D -m 644 -t "$to/share/man/man3" man/*.3
 # each other name that a page begins with is a link to it
 for page in man/*.3; do
     for name in $(sed -n '/^\.SH NAME/,/^\.SH SYNOPSIS/p' "$page" | sed 's/\\-.*//' | grep -oE 'wq_[a-z_]+'); do
-        [ "man/$name.3" = "$page" ] || echo ".so man3/${page#man/}" >"$to/share/man/man3/$name.3"
+        [ "man/$name.3" = "$page" ] || install -m 644 <(echo ".so man3/${page#man/}") "$to/share/man/man3/$name.3"
     done
 done
 install -D -m 644 -t "$to/share/doc/yeangvos" docs/C.md
 install -D -m 644 -t "$to/share/doc/yeangvos/examples/c" examples/c/logger.c examples/c/logger.py
-mkdir -p "$to/lib/pkgconfig"
-cat >"$to/lib/pkgconfig/yeangvos.pc" <<TEXT
-prefix=$prefix
+install -D -m 644 /dev/stdin "$to/lib/pkgconfig/yeangvos.pc" <<TEXT
+prefix=${prefix// /\\ }
 libdir=\${prefix}/lib
 includedir=\${prefix}/include
 

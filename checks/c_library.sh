@@ -29,5 +29,10 @@ built() {
 
 (cd crates/wq_c && built >"$folder/said" 2>&1) || { tail -20 "$folder/said"; exit 1; }
 rm -f "$folder/libyeangvos.a" "$folder/said"
-printf 'create %s/libyeangvos.a\naddlib %s\naddlib %s\nsave\nend\n' "$folder" crates/wq_c/out/libwq_c.a "$kit/c/liblibc_c.a" | ar -M
+# by bare names, since a script of ar reads no path with a space or a letter of its own
+made=$(mktemp -d)
+trap 'rm -rf "$made"' EXIT
+cp crates/wq_c/out/libwq_c.a "$kit/c/liblibc_c.a" "$made"
+(cd "$made" && printf 'create libyeangvos.a\naddlib libwq_c.a\naddlib liblibc_c.a\nsave\nend\n' | ar -M)
+install -m 644 "$made/libyeangvos.a" "$folder"
 "${CC:-cc}" -shared -Wl,-soname,libyeangvos.so -o "$folder/libyeangvos.so" -Wl,--whole-archive "$folder/libyeangvos.a" -Wl,--no-whole-archive

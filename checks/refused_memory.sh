@@ -2,7 +2,7 @@
 # Refuses each allocation of each call that takes memory, one at a time, and compares what came of it with refused_memory.report.
 # A case of test_memory makes one call in such a way that its Nth allocation is the program's hundredth, and tells whether that one
 # was refused in the call. So one build serves all cases: for each call those up to the one after its last allocation.
-# With the word --all the report is made anew, from 60 cases for each call.
+# With the word --all the report is made anew, from 57 cases for each call.
 set -euo pipefail
 cd "$(dirname "${BASH_SOURCE[0]}")"
 report=$PWD/refused_memory.report
@@ -35,6 +35,11 @@ awk -F': |, ' '
             print line " right " of[call ": right"] + 0 " wrong " of[call ": wrong"] + 0
         }
     }' "$folder/said" | sort >"$folder/report"
+if [ ! -s "$folder/report" ]; then
+    tail -n 20 "$folder/said"
+    echo "no call was made"
+    exit 1
+fi
 cat "$folder/report"
 if [ "${1:-}" = --all ]; then cp "$folder/report" "$report"; exit; fi
 diff "$report" "$folder/report"

@@ -3,6 +3,7 @@
 # record.sh PROGRAM. The bugs are seen, but where each recording ends is not the same twice.
 set -euo pipefail
 program=$(realpath "${1:?usage: examples/recording/record.sh PROGRAM}")
+[ -x "$program" ] || { echo "record.sh: $program is no program" >&2; exit 1; }
 cd "$(dirname "$0")"
 made=$(mktemp)
 trap 'rm -f "$made"' EXIT
@@ -13,6 +14,7 @@ for name in right overtaking overlap lost twice; do
     "$made" >$name.trace
     status=0
     "$program" check --drained $name.trace >$name.report || status=$?
+    [ $status = 0 ] || [ $status = 4 ] || exit 1
     rm -f $name.status
     [ $status = 0 ] || echo $status >$name.status
     echo "$name.trace: status $status"
