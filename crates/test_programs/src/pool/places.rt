@@ -16,13 +16,15 @@ use wq_pool::{Caller, Gate, Pool};
 /// So often it is looked what the other thread has done.
 const LOOKS: u32 = 1_000_000;
 
-fn wait_for(flag: &AtomicU64) {
+/// Whether the other thread came, within so many looks.
+fn has_come(flag: &AtomicU64) -> bool {
     for _ in 0..LOOKS {
         if flag.load(SeqCst) > 0 {
-            return;
+            return true;
         }
         yield_now();
     }
+    false
 }
 
 /// Before each item it waits until the other thread has taken the last place.
@@ -30,13 +32,16 @@ fn wait_for(flag: &AtomicU64) {
 struct Doorway {
     begun: AtomicU64,
     taken: AtomicU64,
+    late: AtomicU64,
 }
 
 impl Gate for Doorway {
     fn before(&self, queue: u32, item: u32) {
         let _ = (queue, item);
         self.begun.store(1, SeqCst);
-        wait_for(&self.taken);
+        if !has_come(&self.taken) {
+            self.late.store(1, SeqCst);
+        }
     }
 
     fn after(&self, queue: u32, item: u32) {
@@ -51,7 +56,7 @@ fn take_places<R: Abort + Wait>(
     sender: &mut Sender,
     doorway: &Doorway,
 ) {
-    wait_for(&doorway.begun);
+    assert!(rt; has_come(&doorway.begun));
     let answer = queue_item(rt, sender, 0);
     sender.request_stop(1);
     guest.wake(rt, 1, answer);
@@ -76,6 +81,7 @@ fn run_beside<R: Abort + Threads + Wait + Sync>(
     let doorway = Doorway {
         begun: AtomicU64::new(0),
         taken: AtomicU64::new(0),
+        late: AtomicU64::new(0),
     };
     let (ran, ()) = join(
         rt,
@@ -85,6 +91,7 @@ fn run_beside<R: Abort + Threads + Wait + Sync>(
         || take_places(rt, &mut guest, &mut sender, &doorway),
     );
     ran.expect(rt, "a thread");
+    expect_same(rt, doorway.late.load(SeqCst), 0);
 }
 
 /// A queue whose work asks for its item again and again gives way to the other where its announcement finds no place.

@@ -41,7 +41,7 @@ fn execute_rising(owner: &mut ValueOwner<Parcel>, stop: u32) -> Option<u32> {
                 } else {
                     &mut odd
                 };
-                if value.number < *least {
+                if value.number < *least || value != make_parcel(0, value.number) {
                     return None;
                 }
                 *least = value.number.wrapping_add(2);

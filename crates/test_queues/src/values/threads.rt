@@ -59,7 +59,7 @@ fn execute_for(owner: &mut ValueOwner<Parcel>, rounds: u32, into: &mut Vec<(u32,
                 }
             }
             Some((_, None)) => return false,
-            None => yield_now(),
+            None => {}
         }
     }
     true

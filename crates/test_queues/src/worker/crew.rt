@@ -6,9 +6,10 @@ use crate::expect::expect_same;
 use crate::worker::team::{Fixed, destroy, new_queue, serve, take_last};
 use crossbeam_utils::sync::{Parker, Unparker};
 use std::alloc::Global;
+use std::hint::spin_loop;
 use std::process::Abort;
 use std::sync::Wait;
-use std::thread::{Threads, join_mut, yield_now};
+use std::thread::{Threads, join_mut};
 use wq_live::{Answer, Owner, Sender};
 use wq_worker::{Book, Ledger, Ran, Worker};
 
@@ -42,9 +43,10 @@ fn wake(answer: Answer, on: Wakes, unparker: &Unparker) -> u32 {
     u32::from(is_asked)
 }
 
+// By spins: beside a busy process a thread that gives its processor way comes back after milliseconds.
 fn pause(turns: u32) {
-    for _ in 0..turns {
-        yield_now();
+    for _ in 0..turns.wrapping_mul(8) {
+        spin_loop();
     }
 }
 

@@ -46,6 +46,7 @@ fn stop_unseen<R: Abort + Clock>(rt: &R, sender: &mut Sender, unparker: &Unparke
         }
         sleep(rt, Duration::from_millis(1));
     }
+    assert!(rt; !is_pending(rt, sender, 1));
     sleep(rt, Duration::from_millis(50));
     sender.request_stop(u32::MAX);
     sleep(rt, Duration::from_millis(200));
