@@ -131,7 +131,8 @@ else
 fi
 checks/c_install.sh "$work" "$work/installed"
 # each call that docs/C.md names has a page, which begins with its name
-for call in $(sed -n '/^## The calls/,/^## Ownership/p' docs/C.md | grep -oE '`wq_[a-z_]+\(' | tr -d '`(' | sort -u); do
+calls=$(sed -n '/^## The calls/,/^## Ownership/p' docs/C.md | grep -oE '`wq_[a-z_]+\(' | tr -d '`(' | sort -u)
+for call in $calls; do
     page=$work/installed/share/man/man3/$call.3
     linked=$(sed -n 's|^\.so man3/||p' "$page")
     if ! sed -n '/^\.SH NAME/,/^\.SH SYNOPSIS/p' "${page%/*}/${linked:-$call.3}" | grep -qw "$call"; then
@@ -140,7 +141,8 @@ for call in $(sed -n '/^## The calls/,/^## Ownership/p' docs/C.md | grep -oE '`w
     fi
 done
 echo "man: each call has a page"
-for file in $(grep -oE 'examples/c/[a-z.]+' docs/C.md); do
+files=$(grep -oE 'examples/c/[a-z.]+' docs/C.md)
+for file in $files; do
     [ -e "$work/installed/share/doc/yeangvos/$file" ] || { echo "docs/C.md names $file, which is not installed"; exit 1; }
 done
 defined=$(nm -D --defined-only "$work/libyeangvos.so" | awk '{ print $3 }' | grep -vE '^(wq_c_[a-z_]+|rattle_(alloc|realloc|dealloc))$' || true)

@@ -15,6 +15,8 @@ while read -r call _ count _; do
         echo "$call $place" >"$folder/cases/$call.$place"
     done
 done <"$report"
+# each call of the program has its line in the report, and each line its call
+diff <(cut -d: -f1 ../crates/test_memory/stdout | sort) <(cut -d' ' -f1 "$report" | sort)
 (cd ../crates/test_memory && rt try --cases "$folder/cases" --fail-alloc 100) >"$folder/said" 2>&1 || true
 
 # For each call how many of its allocations were refused, and what it then answered: `again` is want of memory and then the right
