@@ -90,10 +90,13 @@ static inline void wq_worker_ask(wq_worker *worker, uint32_t phase) {
 
 /* Starts a thread that executes the queue of this owner, which has so many items. WQ_OK or WQ_NO_THREAD; or, without a thread, what
  * wq_rest answers to a seat that is no owner's (WQ_NO_SEAT, WQ_SEAT_BUSY, WQ_NOT_OWNER), a queue that is closed or drains, and an owner
- * that has not ended all that it took (WQ_IS_CLOSED, WQ_IS_DRAINING, WQ_SOME_WAIT, WQ_IS_RUNNING): a worker would get nowhere. */
+ * that has not ended all that it took (WQ_IS_CLOSED, WQ_IS_DRAINING, WQ_SOME_WAIT, WQ_IS_RUNNING): a worker would get nowhere.
+ * WQ_NO_ITEM where the queue has another number of items. */
 static inline uint32_t wq_worker_start(wq_worker *worker, wq_seat *owner, uint32_t items, wq_function *function, void *data) {
     uint32_t rests = wq_rest(owner); /* that the queue rests then does no harm: the worker takes first */
     if (rests != WQ_YES && rests != WQ_NO) return rests;
+    /* on an open queue, as this is, wq_chain queues nothing, and tells which items there are */
+    if (items == 0 || wq_chain(owner, items - 1) == WQ_NO_ITEM || wq_chain(owner, items) != WQ_NO_ITEM) return WQ_NO_ITEM;
     worker->owner = owner;
     worker->function = function;
     worker->data = data;

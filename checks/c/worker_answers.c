@@ -31,11 +31,13 @@ static uint32_t threads(void) {
     return found;
 }
 
-static void is_refused(wq_seat *seat, uint32_t code) {
+static void is_refused_of(wq_seat *seat, uint32_t items, uint32_t code) {
     uint32_t before = threads();
-    CHECK(wq_worker_start(&worker, seat, ITEMS, count, &worker) == code);
+    CHECK(wq_worker_start(&worker, seat, items, count, &worker) == code);
     CHECK(threads() == before);
 }
+
+static void is_refused(wq_seat *seat, uint32_t code) { is_refused_of(seat, ITEMS, code); }
 
 static void release_all(void) {
     CHECK(wq_release(&owner) == WQ_OK && wq_release(&sender) == WQ_OK && wq_release(&other) == WQ_OK);
@@ -46,6 +48,9 @@ static void starting(void) {
     is_refused(&vacant, WQ_NOT_OWNER);
     is_refused(&sender, WQ_NOT_OWNER);
     is_refused(&blank, WQ_NO_SEAT);
+    is_refused_of(&owner, 0, WQ_NO_ITEM);
+    is_refused_of(&owner, ITEMS - 1, WQ_NO_ITEM);
+    is_refused_of(&owner, ITEMS + 1, WQ_NO_ITEM);
     CHECK(wq_queue(&sender, 0) != WQ_PENDING && wq_queue(&sender, 1) == WQ_QUEUED && wq_take(&owner, WQ_NO_NUMBER) == WQ_OK);
     is_refused(&owner, WQ_SOME_WAIT);
     CHECK(wq_begin(&owner, WQ_NO_NUMBER) == WQ_OK);
