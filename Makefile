@@ -44,13 +44,14 @@ recordings: build
 	examples/recording/record.sh $(PROGRAM)
 
 # Each worked row of a script, a schedule, a plan or a recording gives what stands beside it, and so does each command line; random
-# scripts of a delay table give what a sorted list does, and random recordings what the definitions say; the converter of kernel
-# traces reads each spelling.
+# scripts of a delay table give what a sorted list does, and random recordings what the definitions say; what docs/RECORDING.md has
+# one write records a right queue; the converter of kernel traces reads each spelling.
 rows: build
 	checks/rows.py $(PROGRAM)
 	checks/command_lines.py $(PROGRAM)
 	checks/random_delays.py $(PROGRAM)
 	checks/random_recordings.py $(PROGRAM)
+	checks/recording_page.py $(PROGRAM)
 	checks/trace_lines.py $(PROGRAM)
 
 # Each word that a public contract cites is defined in docs/DEFINITIONS.md, as the gate compares; a second.
