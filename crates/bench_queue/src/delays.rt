@@ -101,11 +101,14 @@ fn time_round<R: Host>(rt: &R, delay: &mut Delay, tick: u64, ticks: u64) -> Resu
     })
 }
 
-/// How long each call took in so many rounds over so many items. Each round executes what it let go.
-pub fn measure<R: Host>(rt: &R, items: u32, rounds: u32) -> Result<Times, Refusal> {
-    let (mut owner, sender) = seats(rt.alloc(), items)?;
-    let mut delay = Delay::new(rt.alloc(), sender, 0).map_err(|_| Refusal::Memory)?;
-    let ticks = u64::from((items / A_TICK).max(1));
+// How long each call took in so many rounds. Each executes what it let go.
+fn time_rounds<R: Host>(
+    rt: &R,
+    owner: &mut Owner,
+    delay: &mut Delay,
+    rounds: u32,
+    ticks: u64,
+) -> Result<Times, Refusal> {
     let none = Duration::ZERO;
     let mut times = Times {
         arm: none,
@@ -115,8 +118,16 @@ pub fn measure<R: Host>(rt: &R, items: u32, rounds: u32) -> Result<Times, Refusa
     };
     for round in 0..rounds {
         let tick = u64::from(round).saturating_mul(ticks);
-        times = times.and(time_round(rt, &mut delay, tick, ticks)?);
-        execute_batch(&mut owner, u64::MAX);
+        times = times.and(time_round(rt, delay, tick, ticks)?);
+        execute_batch(owner, u64::MAX);
     }
     Ok(times)
+}
+
+/// How long each call took in so many rounds over so many items.
+pub fn measure<R: Host>(rt: &R, items: u32, rounds: u32) -> Result<Times, Refusal> {
+    let ticks = u64::from((items / A_TICK).max(1));
+    let (mut owner, sender) = seats(rt.alloc(), items)?;
+    let mut delay = Delay::new(rt.alloc(), sender, 0).map_err(|_| Refusal::Memory)?;
+    time_rounds(rt, &mut owner, &mut delay, rounds, ticks)
 }

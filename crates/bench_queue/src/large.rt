@@ -156,6 +156,22 @@ fn balance(book: &mut Book, sender: &mut Sender) -> Result<(), Refusal>
     }
 }
 
+/// A worker with as many items is destroyed, and its sender meets the book that is left.
+fn measure_end<R: Host>(
+    rt: &R,
+    stages: &mut Stages,
+    worker: Worker<Runs>,
+    mut sender: Sender,
+) -> Result<(), Refusal>
+    requires { sender.queue ≡ worker.queue }
+{
+    let mut book = destroyed(worker)?;
+    stages.end(rt, "destroy");
+    balance(&mut book, &mut sender)?;
+    stages.end(rt, "ledgers");
+    Ok(())
+}
+
 /// A worker drains a queue of which all items wait, and is destroyed with as many.
 fn measure_worker<R: Host>(rt: &R, stages: &mut Stages, items: u32) -> Result<(), Refusal> {
     let work = Runs::new(u64::MAX, shown(rt.alloc())?);
@@ -166,11 +182,7 @@ fn measure_worker<R: Host>(rt: &R, stages: &mut Stages, items: u32) -> Result<()
     stages.end(rt, "drain of a worker");
     queue_all(&mut sender);
     stages.end(rt, "queue");
-    let mut book = destroyed(worker)?;
-    stages.end(rt, "destroy");
-    balance(&mut book, &mut sender)?;
-    stages.end(rt, "ledgers");
-    Ok(())
+    measure_end(rt, stages, worker, sender)
 }
 
 /// Queues all items at ticks to come.
@@ -182,19 +194,13 @@ fn arm_all(delay: &mut Delay) {
     }
 }
 
-/// A delay table lets all items go at once, keeps them in a drain, and lets them go after it; and it is dissolved with as many.
-fn measure_delay<R: Host>(rt: &R, stages: &mut Stages, items: u32) -> Result<(), Refusal> {
-    let (mut owner, sender) = seats(rt.alloc(), items)?;
-    stages.end(rt, "build");
-    let mut delay = Delay::new(rt.alloc(), sender, 0).map_err(|_| Refusal::Memory)?;
-    stages.end(rt, "table");
-    arm_all(&mut delay);
-    stages.end(rt, "arm");
+/// A delay table lets all items go at once, keeps them in a drain, and lets them go after it.
+fn measure_advances<R: Host>(rt: &R, stages: &mut Stages, owner: &mut Owner, delay: &mut Delay) {
     let _ = delay.advance(1024, 1);
     stages.end(rt, "advance, all go out");
-    execute_batch(&mut owner, u64::MAX);
-    arm_all(&mut delay);
-    drain(&mut owner);
+    execute_batch(owner, u64::MAX);
+    arm_all(delay);
+    drain(owner);
     stages.end(rt, "execute, arm, drain");
     let _ = delay.advance(2048, 1);
     stages.end(rt, "advance in a drain");
@@ -202,10 +208,21 @@ fn measure_delay<R: Host>(rt: &R, stages: &mut Stages, items: u32) -> Result<(),
         let _ = delay.advance(tick, 1);
     }
     stages.end(rt, "1024 advances, all are late");
-    resume(&mut owner);
+    resume(owner);
     let _ = delay.advance(3072, 1);
     stages.end(rt, "advance after the resume");
-    execute_batch(&mut owner, u64::MAX);
+    execute_batch(owner, u64::MAX);
+}
+
+/// A delay table is made, advanced with all items armed, and dissolved with as many.
+fn measure_delay<R: Host>(rt: &R, stages: &mut Stages, items: u32) -> Result<(), Refusal> {
+    let (mut owner, sender) = seats(rt.alloc(), items)?;
+    stages.end(rt, "build");
+    let mut delay = Delay::new(rt.alloc(), sender, 0).map_err(|_| Refusal::Memory)?;
+    stages.end(rt, "table");
+    arm_all(&mut delay);
+    stages.end(rt, "arm");
+    measure_advances(rt, stages, &mut owner, &mut delay);
     arm_all(&mut delay);
     stages.end(rt, "execute, arm");
     delay.dissolve();

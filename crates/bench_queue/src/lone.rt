@@ -89,6 +89,28 @@ fn pair(alloc: Global, unparker: Unparker) -> Result<(Worker<Runs>, Ringer), Ref
     Ok((worker, ringer))
 }
 
+/// The times of all rounds, in nanoseconds, while the worker serves beside.
+fn ring_beside<R: Host>(
+    rt: &R,
+    worker: &mut Worker<Runs>,
+    parker: &mut Parker,
+    ringer: &mut Ringer,
+    rounds: u32,
+    gap: Duration,
+    pace: Pace,
+) -> Result<Vec<u128>, Refusal> {
+    join_mut(
+        rt,
+        &mut move || serve(rt, worker, parker, pace),
+        &mut move || {
+            let times = ringer.ring_often(rt, rounds, gap);
+            ringer.stop();
+            times
+        },
+    )
+    .1
+}
+
 /// The times of all rounds, in nanoseconds, from the least on.
 pub fn measure<R: Host>(
     rt: &R,
@@ -98,16 +120,7 @@ pub fn measure<R: Host>(
 ) -> Result<Vec<u128>, Refusal> {
     let mut parker = Parker::new(rt.alloc())?;
     let (mut worker, mut ringer) = pair(rt.alloc(), parker.unparker().clone()?)?;
-    let (_, times) = join_mut(
-        rt,
-        &mut || serve(rt, &mut worker, &mut parker, pace),
-        &mut || {
-            let times = ringer.ring_often(rt, rounds, gap);
-            ringer.stop();
-            times
-        },
-    );
-    let mut times = times?;
+    let mut times = ring_beside(rt, &mut worker, &mut parker, &mut ringer, rounds, gap, pace)?;
     times.sort_unstable();
     Ok(times)
 }

@@ -66,7 +66,7 @@ impl fmt::Display for Said {
     }
 }
 
-pub const CALLS: [(&str, Call); 18] = [
+pub const CALLS: &[(&str, Call)] = &[
     ("build", Call::Build),
     ("values", Call::Values),
     ("replay", Call::Replay),
@@ -271,13 +271,13 @@ fn is_due(delay: &Delay) -> Option<bool> {
 }
 
 /// Puts items on a table and reads it, again where memory was wanting.
-fn fill_table(mut delay: Delay) -> Said {
-    let moved = arm_all(&mut delay);
-    let again = moved.is_none() && arm_all(&mut delay) == Some(true);
+fn fill_table(delay: &mut Delay) -> Said {
+    let moved = arm_all(delay);
+    let again = moved.is_none() && arm_all(delay) == Some(true);
     if moved != Some(true) && !again {
         return Said::Wrong;
     }
-    match (is_due(&delay), is_due(&delay)) {
+    match (is_due(delay), is_due(delay)) {
         (Some(true), Some(true)) => if again { Said::Again } else { Said::Right },
         (None, Some(true)) | (Some(true), None) => Said::Again,
         _ => Said::Wrong,
@@ -295,7 +295,7 @@ fn make_table(alloc: Global) -> Said {
         return Said::Wrong;
     };
     match Delay::new(alloc, sender, 0) {
-        Ok(delay) => fill_table(delay),
+        Ok(mut delay) => fill_table(&mut delay),
         Err(NoRoom { sender }) => match Delay::new(alloc, sender, 0) {
             Ok(_) => Said::Again,
             Err(_) => Said::Wrong,

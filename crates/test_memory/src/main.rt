@@ -4,6 +4,7 @@
 
 mod calls;
 mod checkers;
+mod host;
 mod pool;
 mod streams;
 mod value_worker;
@@ -11,6 +12,7 @@ mod values;
 mod worker;
 
 use calls::{CALLS, Call, Said, make};
+use host::Host;
 use std::alloc::Global;
 use std::io;
 use std::io::Read;
@@ -34,7 +36,7 @@ fn spend(alloc: Global, count: u32) -> bool {
 fn asked(line: &[u8]) -> Option<(&'static str, Call, u32)> {
     let (name, place) = str::from_utf8(line).ok()?.trim().split_once(' ')?;
     let place = place.parse().ok()?;
-    for (known, call) in &CALLS {
+    for (known, call) in CALLS {
         if *known == name {
             return Some((*known, *call, place));
         }
@@ -42,18 +44,19 @@ fn asked(line: &[u8]) -> Option<(&'static str, Call, u32)> {
     None
 }
 
-fn main(rt: HostRuntime) -> io::Result<()> {
+/// Makes each call, and prints what came of it.
+fn make_all<R: Host>(rt: &R) -> io::Result<()> {
+    for (name, call) in CALLS {
+        println!(rt; "{name}: {}", make(rt, rt.alloc(), *call))?;
+    }
+    Ok(())
+}
+
+/// Makes a call, with its allocation of this place refused, and prints what came of it.
+fn make_one<R: Host>(rt: &R, name: &str, call: Call, place: u32) -> io::Result<()> {
     let alloc = rt.alloc();
-    let mut line = [0u8; 64];
-    let count = rt.stdin().read(&mut line)?.min(64);
-    let Some((name, call, place)) = asked(&line[..count]) else {
-        for (name, call) in &CALLS {
-            println!(rt; "{name}: {}", make(&rt, alloc, *call))?;
-        }
-        return Ok(());
-    };
     let early = spend(alloc, REFUSED.saturating_sub(place));
-    let said = make(&rt, alloc, call);
+    let said = make(rt, alloc, call);
     let late = spend(alloc, REFUSED);
     let refused = if early {
         "before it"
@@ -63,4 +66,13 @@ fn main(rt: HostRuntime) -> io::Result<()> {
         "in it"
     };
     println!(rt; "{name} {place}: {said}, refused {refused}")
+}
+
+fn main(rt: HostRuntime) -> io::Result<()> {
+    let mut line = [0u8; 64];
+    let count = rt.stdin().read(&mut line)?.min(64);
+    match asked(&line[..count]) {
+        None => make_all(&rt),
+        Some((name, call, place)) => make_one(&rt, name, call, place),
+    }
 }

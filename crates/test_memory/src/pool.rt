@@ -1,4 +1,7 @@
 //! A pool of two queues, from its making to its end.
+ghost use Rattle.std.specs.Prelude.{All};
+ghost use Rattle.wq_pool.specs.Known.{IsCallerOf};
+
 use crate::calls::{Said, right};
 use crate::worker::Counter;
 use std::alloc::Global;
@@ -6,7 +9,7 @@ use std::slice;
 use std::sync::Wait;
 use std::thread::Threads;
 use wq_live::{Answer, Sender};
-use wq_pool::{Gate, Pool, PoolError, PoolFault, Served};
+use wq_pool::{Caller, Gate, Pool, PoolError, PoolFault, Served};
 use wq_words::Layout;
 use wq_worker::{Book, Worker};
 
@@ -87,33 +90,43 @@ fn finish(pool: Pool<Counter>, one: &mut Sender, two: &mut Sender) -> Said {
     }
 }
 
-/// Makes a pool of two queues, announces both, serves them in one thread until each has run its stop item, and takes the pool apart.
-pub fn serve_pool<T: Threads + Wait + Sync>(rt: &T, alloc: Global) -> Said {
-    let Some(
-        Two {
-            queues,
-            mut one,
-            mut two,
-        },
-    ) = two_queues(alloc)
-    else {
-        return Said::Memory;
-    };
-    let (pool, mut callers) = match Pool::new(alloc, queues, 1) {
-        Ok(made) => made,
-        Err(PoolError::Memory) => return Said::Memory,
-        Err(PoolError::NoQueue) => return Said::Wrong,
-    };
+/// Announces both queues, and serves them in one thread until each has run its stop item. Whether that was done.
+fn is_served<T: Threads + Wait + Sync>(rt: &T, pool: &Pool<Counter>, caller: &mut Caller) -> bool
+    requires { IsCallerOf pool.now.ready caller.old }
+{
+    let first = pool.announce(rt, caller, 0);
+    let second = pool.announce(rt, caller, 1);
+    first.is_ok() && second.is_ok() && pool.run(rt, slice::from_mut(caller), &Open).is_ok()
+}
+
+/// Serves a pool of two queues by its one caller, and takes it apart.
+fn serve_both<T: Threads + Wait + Sync>(
+    rt: &T,
+    pool: Pool<Counter>,
+    mut callers: Vec<Caller>,
+    mut one: Sender,
+    mut two: Sender,
+) -> Said
+    requires { All (IsCallerOf pool.ready) callers.items }
+{
     let Some(mut caller) = callers.pop() else {
         return Said::Wrong;
     };
-    let first = pool.announce(rt, &mut caller, 0);
-    let second = pool.announce(rt, &mut caller, 1);
-    if first.is_err() || second.is_err() {
-        return Said::Wrong;
+    if is_served(rt, &pool, &mut caller) {
+        finish(pool, &mut one, &mut two)
+    } else {
+        Said::Wrong
     }
-    match pool.run(rt, slice::from_mut(&mut caller), &Open) {
-        Ok(()) => finish(pool, &mut one, &mut two),
-        Err(_) => Said::Wrong,
+}
+
+/// Makes a pool of two queues, serves both to their stop items, and takes it apart.
+pub fn serve_pool<T: Threads + Wait + Sync>(rt: &T, alloc: Global) -> Said {
+    let Some(Two { queues, one, two }) = two_queues(alloc) else {
+        return Said::Memory;
+    };
+    match Pool::new(alloc, queues, 1) {
+        Ok((pool, callers)) => serve_both(rt, pool, callers, one, two),
+        Err(PoolError::Memory) => Said::Memory,
+        Err(PoolError::NoQueue) => Said::Wrong,
     }
 }

@@ -1,7 +1,9 @@
 //! The example of a user's own logs.
 use example_log::{Line, Log, Message, Written, write};
 use std::alloc::{AllocError, Global};
+use std::sync::Wait;
 use std::test::Fail;
+use std::thread::Threads;
 use wq_words::Layout;
 
 const RUNS: u32 = 20;
@@ -75,16 +77,20 @@ fn has_all(alloc: Global, written: &Written, log: Log) -> Result<bool, AllocErro
     Ok(text.len() == length && written.of_first == all && written.of_second == all)
 }
 
+/// What two clients send to both logs.
+fn logs_of_a_run<R: Threads + Wait + Sync>(rt: &R, alloc: Global) -> Result<(Written, Written), Fail> {
+    let first = messages_of(alloc, b'1')?;
+    let second = messages_of(alloc, b'2')?;
+    Ok(write(rt, alloc, Layout::new(8, 1, 4)?, first, second)?)
+}
+
 /// Both logs have all lines of both clients, each client's in its order, each time.
 #[test]
 fn both_logs_have_all_lines(rt: HostRuntime) -> Result<(), Fail> {
-    let alloc = rt.alloc();
     for _run in 0..RUNS {
-        let first = messages_of(alloc, b'1')?;
-        let second = messages_of(alloc, b'2')?;
-        let (access, errors) = write(&rt, alloc, Layout::new(8, 1, 4)?, first, second)?;
-        assert!(rt; has_all(alloc, &access, Log::Access)?);
-        assert!(rt; has_all(alloc, &errors, Log::Errors)?);
+        let (access, errors) = logs_of_a_run(&rt, rt.alloc())?;
+        assert!(rt; has_all(rt.alloc(), &access, Log::Access)?);
+        assert!(rt; has_all(rt.alloc(), &errors, Log::Errors)?);
     }
     Ok(())
 }

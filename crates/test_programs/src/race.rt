@@ -70,10 +70,9 @@ fn queue_first<R: Abort + Wait>(rt: &R, sender: &mut Sender, parker: &Parker) {
 /// A queueing wakes who parks: a park after it returns at once.
 #[test]
 fn a_queueing_wakes(rt: HostRuntime) -> Result<(), Fail> {
-    let mut team = team_of(&rt, rt.alloc(), PLAN);
     let parker = Parker::new(rt.alloc())?;
-    queue_first(&rt, &mut team.program, &parker);
     let before = Instant::now(&rt)?;
+    queue_first(&rt, &mut team_of(&rt, rt.alloc(), PLAN).program, &parker);
     parker.park_timeout(&rt, Duration::from_secs(20));
     assert!(rt; before.elapsed(&rt)? < Duration::from_secs(20));
     Ok(())

@@ -87,6 +87,25 @@ impl<K: Station + Drop + Send> PoolOf<K> {
         unreachable!()
     }
 
+    // The turn at a queue that is in hand already, or at the one that was announced first.
+    fn next_turn<R: Wait>(
+        &self,
+        rt: &R,
+        caller: &mut Caller,
+        next: Option<u32>,
+    ) -> Option<TurnOf<K>>
+        requires caller { IsCallerOf self.now.ready caller.old }
+        requires next { IfSome next (λ q. q < length self.now.workers) }
+        ensures caller { IsCallerOf self.now.ready caller.new }
+        ensures goes_on { GoesOnFrom caller.old caller.new }
+        ensures turn { IfSome result (IsTurnOf K.state self.now) }
+    {
+        match next {
+            Some(queue) => Some(self.fetch(rt, queue)),
+            None => self.pick(rt, caller),
+        }
+    }
+
     // Serves what was announced until each queue has run its stop item. A queue is counted once, as it is looked at for the first
     // time after its stop item ran: what says that it was counted lies in its slot with it. A queue that made room is looked at
     // before the others, and announced again where all have stopped.
@@ -102,11 +121,7 @@ impl<K: Station + Drop + Send> PoolOf<K> {
                 }
                 return;
             }
-            let picked = match next {
-                Some(queue) => Some(self.fetch(rt, queue)),
-                None => self.pick(rt, caller),
-            };
-            match picked {
+            match self.next_turn(rt, caller, next) {
                 Some(turn) => next = self.work_share(rt, caller, turn, gate),
                 None => thread::yield_now(),
             }

@@ -1,6 +1,6 @@
 //! Workers that drained before they came into a pool.
 use crate::expect::expect_same;
-use crate::pool::team::{Logging, Open, new_pool, queue_item, work};
+use crate::pool::team::{Logging, new_pool, queue_item, serve_queue};
 use std::alloc::Global;
 use std::process::Abort;
 use wq_live::{Answer, Sender};
@@ -8,7 +8,7 @@ use wq_pool::Served;
 use wq_words::Layout;
 use wq_worker::{Drained, Ran, Worker};
 
-/// The answers of a first push that wakes nobody, and of one behind others.
+/// The answers of a first push that wakes nobody, of one behind others, and of a first push that wakes.
 const FIRST: Answer = Answer::Queued {
     first: true,
     wakes: false,
@@ -17,6 +17,11 @@ const FIRST: Answer = Answer::Queued {
 const QUEUED: Answer = Answer::Queued {
     first: false,
     wakes: false,
+};
+
+const WAKES: Answer = Answer::Queued {
+    first: true,
+    wakes: true,
 };
 
 /// A worker of a queue of 104 items, whose work asks for an item below 100 where it runs one from a number on, and its sender.
@@ -42,32 +47,30 @@ fn served(mut worker: Worker<Logging>) -> Option<Served<Logging>> {
     None
 }
 
+/// A queue that was drained to its end in two calls, the first of which came to its limit; its sender.
+fn drained<R: Abort>(rt: &R, alloc: Global) -> (Served<Logging>, Sender) {
+    let (mut worker, mut sender) = new_worker(rt, alloc, 100);
+    queue_item(rt, &mut sender, 103);
+    queue_item(rt, &mut sender, 1);
+    expect_same(rt, worker.drain(1), Drained::TooLong { left: 2 });
+    assert!(rt; worker.is_draining());
+    expect_same(rt, queue_item(rt, &mut sender, 2), Answer::Draining);
+    expect_same(rt, worker.drain(2), Drained::Empty);
+    (served(worker).expect(rt, "a worker that drains no more"), sender)
+}
+
 /// A worker that drains is no pool's until a later drain has ended it. Its first push then says no wake, so who made the pool
 /// announces the queue once, and the pool executes what is queued from then on.
 #[test]
 fn drained_queue_is_served(rt: HostRuntime) {
-    let (mut worker, mut sender) = new_worker(&rt, rt.alloc(), 100);
-    queue_item(&rt, &mut sender, 103);
-    queue_item(&rt, &mut sender, 1);
-    expect_same(&rt, worker.drain(1), Drained::TooLong { left: 2 });
-    assert!(rt; worker.is_draining());
-    expect_same(&rt, queue_item(&rt, &mut sender, 2), Answer::Draining);
-    expect_same(&rt, worker.drain(2), Drained::Empty);
-    let queue = served(worker).expect(&rt, "a worker that drains no more");
+    let (queue, mut sender) = drained(&rt, rt.alloc());
     let mut queues = Vec::new(rt.alloc());
     queues.push(queue).expect(&rt, "memory");
     let (pool, mut caller) = new_pool(&rt, rt.alloc(), queues);
     expect_same(&rt, queue_item(&rt, &mut sender, 2), FIRST);
     expect_same(&rt, queue_item(&rt, &mut sender, 0), QUEUED);
-    expect_same(&rt, pool.announce(&rt, &mut caller, 0), Ok(()));
-    let turn = pool.pick(&rt, &mut caller).expect(&rt, "a turn");
-    let worked = work(&rt, turn, 9, &Open);
-    pool.put_back(&mut caller, worked);
-    let wakes = Answer::Queued {
-        first: true,
-        wakes: true,
-    };
-    expect_same(&rt, queue_item(&rt, &mut sender, 1), wakes);
+    serve_queue(&rt, &pool, &mut caller, 0);
+    expect_same(&rt, queue_item(&rt, &mut sender, 1), WAKES);
     let finished = pool.finish(1).expect(&rt, "all finished");
     expect_same(&rt, queue_item(&rt, &mut sender, 2), Answer::Closed);
     let [(ran, _)] = finished.as_slice() else {

@@ -1,16 +1,21 @@
 //! Each value that a pool's queues have is dropped once: with the works of a pool that is finished, or with the last that has a
 //! seat of its queue.
+ghost use Rattle.wq_ready.specs.Known.{IsCallerOf};
+
 use crate::expect::expect_same;
-use crate::pool::team::{Open, finish_out, new_pool, work, work_back};
+use crate::pool::team::{Open, finish_out, new_pool, serve_queue, work_back};
 use crate::pool::values::{Carrying, empty_with_values, queue_value};
 use std::alloc::Global;
 use std::process::Abort;
-use std::sync::Arc;
+use std::sync::{Arc, Wait};
 use std::test::Fail;
 use wq_live::ValueSender;
-use wq_pool::ValueServed;
+use wq_pool::{Caller, ValuePool, ValueServed};
+use wq_worker::ValueBook;
 
 type Shared<'a, R> = ValueServed<Arc<u32>, Carrying<'a, R, Arc<u32>>>;
+
+type SharedPool<'a, R> = ValuePool<Arc<u32>, Carrying<'a, R, Arc<u32>>>;
 
 /// How many values are there beside the one that is asked.
 fn alive(shared: &Arc<u32>) -> usize {
@@ -48,21 +53,23 @@ fn two_queues<'a, R: Abort>(
     (queues, sender)
 }
 
+/// How many items each of two works ran.
+fn runs_of<R: Abort>(rt: &R, finished: &[(Carrying<'_, R, Arc<u32>>, ValueBook<Arc<u32>>)]) -> (usize, usize) {
+    let [(zero, _), (one, _)] = finished else {
+        panic!(rt; "not two queues")
+    };
+    (zero.ran.len(), one.ran.len())
+}
+
 /// The works of a pool that is finished have all values, which go with them.
 #[test]
 fn finished_pool_leaves_values_to_its_works(rt: HostRuntime) -> Result<(), Fail> {
     let shared = Arc::new(rt.alloc(), 7u32)?;
     let (queues, _sender) = two_queues(&rt, rt.alloc(), &shared);
     let (pool, mut caller) = new_pool(&rt, rt.alloc(), queues);
-    pool.announce(&rt, &mut caller, 1).expect(&rt, "room");
-    let turn = pool.pick(&rt, &mut caller).expect(&rt, "a turn");
-    let worked = work(&rt, turn, 9, &Open);
-    pool.put_back(&mut caller, worked);
+    serve_queue(&rt, &pool, &mut caller, 1);
     let finished = pool.finish(3).expect(&rt, "all finished");
-    let [(zero, _), (one, _)] = finished.as_slice() else {
-        panic!(&rt; "not two queues")
-    };
-    expect_same(&rt, (zero.ran.len(), one.ran.len()), (3, 3));
+    expect_same(&rt, runs_of(&rt, finished.as_slice()), (3, 3));
     expect_same(&rt, alive(&shared), 6);
     drop(finished);
     expect_same(&rt, alive(&shared), 0);
@@ -83,18 +90,30 @@ fn dropped_pool_drops_its_values(rt: HostRuntime) -> Result<(), Fail> {
     Ok(())
 }
 
+/// A turn at the second queue that ran one item goes, with what it ran.
+fn drop_turn<R: Abort + Wait>(
+    rt: &R,
+    pool: &SharedPool<'_, R>,
+    caller: &mut Caller,
+    shared: &Arc<u32>,
+)
+    requires { IsCallerOf pool.now.ready caller.old }
+{
+    pool.announce(rt, caller, 1).expect(rt, "room");
+    let turn = pool.pick(rt, caller).expect(rt, "a turn");
+    let turn = work_back(rt, turn, 1, &Open);
+    expect_same(rt, alive(shared), 6);
+    drop(turn);
+    expect_same(rt, alive(shared), 5);
+}
+
 /// A turn that goes drops what its work ran, and with the last seat of its queue what it took. The pool has the others' values.
 #[test]
 fn dropped_turn_drops_its_values(rt: HostRuntime) -> Result<(), Fail> {
     let shared = Arc::new(rt.alloc(), 7u32)?;
     let (queues, sender) = two_queues(&rt, rt.alloc(), &shared);
     let (pool, mut caller) = new_pool(&rt, rt.alloc(), queues);
-    pool.announce(&rt, &mut caller, 1).expect(&rt, "room");
-    let turn = pool.pick(&rt, &mut caller).expect(&rt, "a turn");
-    let turn = work_back(&rt, turn, 1, &Open);
-    expect_same(&rt, alive(&shared), 6);
-    drop(turn);
-    expect_same(&rt, alive(&shared), 5);
+    drop_turn(&rt, &pool, &mut caller, &shared);
     drop(sender);
     expect_same(&rt, alive(&shared), 3);
     let (pool, queue) = finish_out(&rt, pool, 3);

@@ -314,6 +314,23 @@ pub(crate) fn work_back<R: Abort, K: Station, G: Gate>(
     }
 }
 
+/// Announces a queue and works at it to the end, as the only one that is announced.
+pub(crate) fn serve_queue<R: Abort + Wait, K: Station + Drop>(
+    rt: &R,
+    pool: &PoolOf<K>,
+    caller: &mut Caller,
+    queue: u32,
+)
+    requires { IsCallerOf pool.now.ready caller.old }
+    ensures { IsCallerOf pool.now.ready caller.new }
+{
+    pool.announce(rt, caller, queue).expect(rt, "room");
+    let turn = pool.pick(rt, caller).expect(rt, "a turn");
+    let worked = work(rt, turn, 9, &Open);
+    assert!(rt; worked.queue() == queue);
+    pool.put_back(caller, worked);
+}
+
 /// Finishes a pool of which a queue is out, and gives it back with the number of the queue.
 pub(crate) fn finish_out<R: Abort, K: Station + Drop>(
     rt: &R,

@@ -1,18 +1,20 @@
 //! Turns at a queue: their limit, the gate around each execution, and one that is dropped.
 ghost use Rattle.std.specs.Prelude.{◌≡◌, []};
+ghost use Rattle.wq_ready.specs.Known.{IsCallerOf};
 
 use crate::expect::expect_same;
 use crate::pool::team::{
-    Open, finish_out, new_pool, new_queue, queue_item, two_filled, work, work_back,
+    Logging, Open, finish_out, new_pool, new_queue, queue_item, two_filled, work, work_back,
 };
 use std::alloc::Global;
 use std::cell::Cell;
 use std::process::Abort;
+use std::sync::Wait;
 use trail::Trail;
 use wq_live::Sender;
-use wq_pool::{Gate, Served};
+use wq_pool::{Caller, Gate, Pool, Served, TurnOf, WorkedOf};
 use wq_words::Layout;
-use wq_worker::{Follow, Work};
+use wq_worker::{Follow, Station, Work};
 
 /// Notes each call by a digit: 1 and 2 before and after item 0, 3 and 4 before and after item 1, and so on, and 9 for a run.
 #[derive(Drop)]
@@ -89,6 +91,19 @@ fn noted_queue<'a, R: Abort>(rt: &R, alloc: Global, notes: &'a Noting) -> Vec<Se
     queues
 }
 
+/// Works at a queue in three calls, the first two of which come to their limit.
+fn work_thrice<R: Abort, K: Station>(rt: &R, turn: TurnOf<K>, gate: &Noting) -> WorkedOf<K>
+    ensures { result.slots ≡ turn.slots }
+{
+    let turn = work_back(rt, turn, 0, gate);
+    expect_same(rt, gate.digits.get(), 0);
+    let turn = work_back(rt, turn, 2, gate);
+    expect_same(rt, gate.digits.get(), 192);
+    let worked = work(rt, turn, 2, gate);
+    expect_same(rt, (gate.digits.get(), worked.queue()), (192_394, 0));
+    worked
+}
+
 /// A turn executes up to its limit and is given back where something waits. The gate is called before and after the run of each
 /// item, and neither for a barrier nor for the stop item.
 #[test]
@@ -99,13 +114,19 @@ fn given_back_at_its_limit(rt: HostRuntime) {
     let (pool, mut caller) = new_pool(&rt, rt.alloc(), noted_queue(&rt, rt.alloc(), &gate));
     pool.announce(&rt, &mut caller, 0).expect(&rt, "room");
     let turn = pool.pick(&rt, &mut caller).expect(&rt, "a turn");
-    let turn = work_back(&rt, turn, 0, &gate);
-    expect_same(&rt, gate.digits.get(), 0);
-    let turn = work_back(&rt, turn, 2, &gate);
-    expect_same(&rt, gate.digits.get(), 192);
-    let worked = work(&rt, turn, 2, &gate);
-    expect_same(&rt, (gate.digits.get(), worked.queue()), (192_394, 0));
-    pool.put_back(&mut caller, worked);
+    pool.put_back(&mut caller, work_thrice(&rt, turn, &gate));
+}
+
+/// Drops the turn at the queue that was announced first, and serves the one behind it.
+fn drop_first<R: Abort + Wait>(rt: &R, pool: &Pool<Logging>, caller: &mut Caller)
+    requires { IsCallerOf pool.now.ready caller.old }
+    ensures { IsCallerOf pool.now.ready caller.new }
+{
+    drop(pool.pick(rt, caller).expect(rt, "a turn"));
+    let turn = pool.pick(rt, caller).expect(rt, "a second turn");
+    let worked = work(rt, turn, 9, &Open);
+    expect_same(rt, worked.queue(), 0);
+    pool.put_back(caller, worked);
 }
 
 /// A turn that is dropped leaves its queue out, and the other queue is served.
@@ -115,12 +136,7 @@ fn dropped_stays_out(rt: HostRuntime) {
     let (pool, mut caller) = new_pool(&rt, rt.alloc(), queues);
     pool.announce(&rt, &mut caller, 1).expect(&rt, "room");
     pool.announce(&rt, &mut caller, 0).expect(&rt, "room");
-    let dropped = pool.pick(&rt, &mut caller).expect(&rt, "a turn");
-    drop(dropped);
-    let turn = pool.pick(&rt, &mut caller).expect(&rt, "a second turn");
-    let worked = work(&rt, turn, 9, &Open);
-    expect_same(&rt, worked.queue(), 0);
-    pool.put_back(&mut caller, worked);
+    drop_first(&rt, &pool, &mut caller);
     let (pool, queue) = finish_out(&rt, pool, 9);
     expect_same(&rt, queue, 1);
     assert!(rt; pool.pick(&rt, &mut caller).is_none());

@@ -1,0 +1,19 @@
+use Rattle.wq_pool.proofs.Common.{sym, subst, CallerState, TurnState, GoesOnFrom, IsTurnOf}
+use Rattle.wq_pool.proofs.GoingOn.{goes_on, turn_same}
+use Rattle.wq_pool.proofs.pool.PoolOf.work_share.Goals as goal
+
+pub returns-then-is_announced-clause-goes_on : goal.returns-then-is_announced-clause-goes_on
+returns-then-is_announced-clause-goes_on g c =
+    let a = c.args.caller.now in let b = c.loop.caller in let d = c.announce_again-is_announced.new.caller in
+    subst (λ (z : CallerState). GoesOnFrom a z) (sym c.put_back-then-is_announced.ensures)
+    (goes_on a b d c.loop.invariant.1 c.announce_again-is_announced.ensures.goes_on)
+
+pub loop-preserved-then-not-owes : goal.loop-preserved-then-not-owes
+loop-preserved-then-not-owes g c =
+    let a = c.args.caller.now in let b = c.loop.caller in let d = c.announce_again-is_announced.new.caller in (
+      c.announce_again-is_announced.ensures.caller,
+      goes_on a b d c.loop.invariant.1 c.announce_again-is_announced.ensures.goes_on,
+      subst (λ (t : TurnState _). IsTurnOf g.K.Station.state c.args.self.now t) (sym c.count_stop.ensures)
+          (turn_same g.K.Station.state c.args.self.now c.loop.turn c.in-Err.same c.loop.invariant.2 c.in-Err.ensures.same),
+      c.announce_again-is_announced.ensures.next,
+    )
