@@ -25,24 +25,24 @@ pub struct Written {
 }
 
 // Both clients' senders of a log meet its book, so that all that they sent is in it.
-fn meet(book: &mut ValueBook<Line>, first: &mut ValueSender<Line>, second: &mut ValueSender<Line>)
-    requires { (first.old.known.queue ≡ book.old.book.queue) × (second.old.known.queue ≡ book.old.book.queue) }
+fn meet(book: &mut ValueBook<Line>, mut first: ValueSender<Line>, mut second: ValueSender<Line>)
+    requires { (first.known.queue ≡ book.old.book.queue) × (second.known.queue ≡ book.old.book.queue) }
     ensures layout { book.new.book.layout ≡ book.old.book.layout }
     ensures accepted { accepted book.new.book.seen ≡ accepted book.old.book.seen }
     ensures brought { book.new.brought ≡ book.old.brought }
-    ensures of_first { own_brought first.old.known.number book.new.book.seen book.new.brought ≡ own_lines first.old }
-    ensures of_second { own_brought second.old.known.number book.new.book.seen book.new.brought ≡ own_lines second.old }
+    ensures of_first { own_brought first.known.number book.new.book.seen book.new.brought ≡ own_lines first }
+    ensures of_second { own_brought second.known.number book.new.book.seen book.new.brought ≡ own_lines second }
 {
     own_values_stay::<Line>();
-    book.meet(first);
-    book.meet(second);
+    book.meet(&mut first);
+    book.meet(&mut second);
 }
 
 /// A log's text, and the book that its clients' senders have met.
 pub(crate) fn ended(
     finished: (Writer, ValueBook<Line>),
-    mut first: ValueSender<Line>,
-    mut second: ValueSender<Line>,
+    first: ValueSender<Line>,
+    second: ValueSender<Line>,
     counts: (usize, usize),
 ) -> Result<Written, LogError>
     requires queue { (first.known.queue ≡ finished.1.book.queue) × (second.known.queue ≡ finished.1.book.queue) }
@@ -56,11 +56,11 @@ pub(crate) fn ended(
     ensures counts { IfOk result (λ w. (w.of_first ≡ counts.0) × (w.of_second ≡ counts.1)) }
 {
     let (writer, mut book) = finished;
+    meet(&mut book, first, second);
+    book.legal();
     let Some(text) = writer.into_text() else {
         return Err(LogError::Memory);
     };
-    meet(&mut book, &mut first, &mut second);
-    book.legal();
     let (of_first, of_second) = counts;
     Ok(Written {
         text,

@@ -25,6 +25,9 @@ use wq_worker::{ValueBook, ValueWorker};
 // So many lines of each log are written at a time, where some are left at the end.
 const LINES: u32 = 1024;
 
+// The work and the book of a log whose queue was taken apart.
+type Finished = (Writer, ValueBook<Line>);
+
 // A pool of the two logs' queues, and a caller for each thread: two that work, and three that queue.
 fn pool_of(
     alloc: Global,
@@ -36,14 +39,31 @@ fn pool_of(
     ensures workers { IfOk result (λ r. r.0.workers ≡ worker_id access.worker ∷ worker_id errors.worker ∷ []) }
     ensures callers { IfOk result (λ r. All (IsCallerOf r.0.ready) r.1.items × (length r.1.items ≡ 5)) }
 {
-    let Ok(queues) = Vec::from_array(alloc, [ValueServed::new(access), ValueServed::new(errors)])
-    else {
-        return Err(LogError::Memory);
-    };
-    match ValuePool::new(alloc, queues, 5) {
-        Ok(made) => Ok(made),
-        Err(_) => Err(LogError::Memory),
-    }
+    let queues = Vec::from_array(alloc, [ValueServed::new(access), ValueServed::new(errors)])?;
+    Ok(ValuePool::new(alloc, queues, 5)?)
+}
+
+// Two new logs: their pool, its callers for those that work, and the clients.
+fn new_logs(
+    alloc: Global,
+    layout: Layout,
+) -> Result<(ValuePool<Line, Writer>, Vec<Caller>, Clients), LogError>
+    requires items { 8 ≤ layout.items }
+    requires senders { layout.senders ≡ 4 }
+    ensures sizes { IfOk result (λ r. (r.2.first.access.known.layout ≡ layout) × (r.2.first.errors.known.layout ≡ layout)) }
+    ensures queues { IfOk result (λ r. r.0.workers ≡
+        record { queue = r.2.first.access.known.queue; layout = r.2.first.access.known.layout; number = 3; tries = 1 }
+        ∷ record { queue = r.2.first.errors.known.queue; layout = r.2.first.errors.known.layout; number = 3; tries = 1 } ∷ []) }
+    ensures same { IfOk result (λ r. (r.2.second.access.known.queue ≡ r.2.first.access.known.queue)
+        × (r.2.second.errors.known.queue ≡ r.2.first.errors.known.queue)) }
+    ensures workers { IfOk result (λ r. All (IsCallerOf r.0.ready) r.1.items) }
+    ensures clients { IfOk result (λ r. AreNewClients r.0.ready r.2) }
+{
+    let (access, of_access) = ValueWorker::build(alloc, layout, Writer::new(alloc), 1)?;
+    let (errors, of_errors) = ValueWorker::build(alloc, layout, Writer::new(alloc), 1)?;
+    let (pool, mut callers) = pool_of(alloc, access, errors)?;
+    let clients = clients_of(&pool, of_access, of_errors, &mut callers);
+    Ok((pool, callers, clients))
 }
 
 // Two workers write both logs in threads of their own, while the clients send.
@@ -75,12 +95,10 @@ fn serve<R: Threads + Wait + Sync>(
 }
 
 // Takes the pool apart. Where something is left of a queue it goes on.
-fn finish<R: Wait>(
-    rt: &R,
-    pool: ValuePool<Line, Writer>,
-) -> Result<Vec<(Writer, ValueBook<Line>)>, LogError>
-    ensures { IfOk result (λ all. AreFinishedBy (λ b. b.book) (λ work b. HasRunPairs (λ w. w.ran) b.brought work b.book)
+fn finish<R: Wait>(rt: &R, pool: ValuePool<Line, Writer>) -> Result<Vec<Finished>, LogError>
+    ensures finished { IfOk result (λ all. AreFinishedBy (λ b. b.book) (λ work b. HasRunPairs (λ w. w.ran) b.brought work b.book)
         pool.workers all.items) }
+    ensures count { IfOk result (λ all. length all.items ≡ length pool.workers) }
 {
     let mut pool = pool;
     for _ in rt.forever() {
@@ -95,9 +113,7 @@ fn finish<R: Wait>(
 }
 
 // The two that a list holds, in its order.
-fn both_of(
-    finished: Vec<(Writer, ValueBook<Line>)>,
-) -> ((Writer, ValueBook<Line>), (Writer, ValueBook<Line>))
+fn both_of(finished: Vec<Finished>) -> (Finished, Finished)
     requires two { length finished.items ≡ 2 }
     ensures both { finished.items ≡ result.0 ∷ result.1 ∷ [] }
 {
@@ -109,6 +125,28 @@ fn both_of(
         unreachable!()
     };
     (one, two)
+}
+
+// The workers write both logs while the clients send, and then the pool is taken apart.
+fn served<R: Threads + Wait + Sync>(
+    rt: &R,
+    pool: ValuePool<Line, Writer>,
+    workers: Vec<Caller>,
+    clients: Clients,
+    first: Vec<Message>,
+    second: Vec<Message>,
+) -> Result<((Finished, Finished), (Sent, Sent)), LogError>
+    requires two { length pool.workers ≡ 2 }
+    requires workers { All (IsCallerOf pool.ready) workers.items }
+    requires clients { AreNewClients pool.ready clients }
+    ensures finished { IfOk result (λ r. AreFinishedBy (λ b. b.book) (λ work b. HasRunPairs (λ w. w.ran) b.brought work b.book)
+        pool.workers (r.0.0 ∷ r.0.1 ∷ [])) }
+    ensures first { IfOk result (λ r. HasSent clients.first first.items r.1.0) }
+    ensures second { IfOk result (λ r. HasSent clients.second second.items r.1.1) }
+{
+    let sent = serve(rt, &pool, workers, clients, first, second)?;
+    let finished = finish(rt, pool)?;
+    Ok((both_of(finished), sent))
 }
 
 /// Two new logs of this size, which two threads write, while two clients send their messages in threads of their own. When these
@@ -128,12 +166,8 @@ pub fn write<R: Threads + Wait + Sync>(
     ensures access { IfOk result (λ logs. HasLines log.Access layout logs.0.book.book.seen logs.0.book.brought first.items second.items logs.0) }
     ensures errors { IfOk result (λ logs. HasLines log.Errors layout logs.1.book.book.seen logs.1.book.brought first.items second.items logs.1) }
 {
-    let (access, of_access) = ValueWorker::build(alloc, layout, Writer::new(alloc), 1)?;
-    let (errors, of_errors) = ValueWorker::build(alloc, layout, Writer::new(alloc), 1)?;
-    let (pool, mut callers) = pool_of(alloc, access, errors)?;
-    let clients = clients_of(&pool, of_access, of_errors, &mut callers);
-    let (first, second) = serve(rt, &pool, callers, clients, first, second)?;
-    let (access, errors) = both_of(finish(rt, pool)?);
+    let (pool, workers, clients) = new_logs(alloc, layout)?;
+    let ((access, errors), (first, second)) = served(rt, pool, workers, clients, first, second)?;
     let counts = (first.count, second.count);
     let access = ended(access, first.access, second.access, counts)?;
     let errors = ended(errors, first.errors, second.errors, counts)?;

@@ -54,6 +54,20 @@ fn queue_once<R: Wait>(
     sender.queue_value_wait(rt, item, line)
 }
 
+// Announces a log's queue where an answer says that it wakes.
+fn wake<R: Wait>(
+    rt: &R,
+    pool: &ValuePool<Line, Writer>,
+    caller: &mut Caller,
+    number: u32,
+    answer: Answer,
+)
+    requires { IsCallerOf pool.now.ready caller.old }
+    ensures { IsCallerOf pool.now.ready caller.new }
+{
+    let _ = pool.wake(rt, caller, number, answer);
+}
+
 // Queues a line, and announces the queue where that wakes it. While an earlier line of the item waits, or others change the list,
 // it is tried again. Whether the line was queued: it is not where the queue takes no more.
 fn queue<R: Wait>(
@@ -75,13 +89,13 @@ fn queue<R: Wait>(
     for _ in rt.forever() {
         match queue_once(rt, sender, item, line) {
             ValueAnswer::Queued { first, wakes } => {
-                let _ = pool.wake(rt, caller, number, Answer::Queued { first, wakes });
+                wake(rt, pool, caller, number, Answer::Queued { first, wakes });
                 return true;
             }
             ValueAnswer::Pending(same) => line = same,
             ValueAnswer::Contended(same) => line = same,
-            ValueAnswer::Closed(_) => return false,
-            ValueAnswer::Draining(_) => return false,
+            ValueAnswer::Closed(_refused) => return false,
+            ValueAnswer::Draining(_refused) => return false,
         }
         thread::yield_now();
     }
@@ -186,7 +200,7 @@ pub(crate) fn stop<R: Wait>(
         match sender.request_stop(1) {
             Answer::Contended => {}
             answer => {
-                let _ = pool.wake(rt, caller, number, answer);
+                wake(rt, pool, caller, number, answer);
                 return;
             }
         }

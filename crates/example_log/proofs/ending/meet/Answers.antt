@@ -3,10 +3,10 @@ use Rattle.wq_live.specs.OwnBrought.{own_brought}
 use Rattle.example_log.proofs.ending.meet.Goals as goal
 
 pub returns-clause-of_first : goal.returns-clause-of_first
-returns-clause-of_first c = let s = c.args.first.now in let m = c.meet.ensures in
+returns-clause-of_first c = let s = c.args.first in let m = c.meet.ensures in
     c.meet-2.ensures.of_each s.known.number ∙ ((λ i. own_brought s.known.number (sym m.both i) (sym m.both_brought i)) ∙
     c.own_values_stay.ensures.same 0 s _ m.sender m.learnt)
 
 pub returns-clause-of_second : goal.returns-clause-of_second
-returns-clause-of_second c = let s = c.args.second.now in let m = c.meet-2.ensures in
+returns-clause-of_second c = let s = c.args.second in let m = c.meet-2.ensures in
     (λ i. own_brought s.known.number (sym m.both i) (sym m.both_brought i)) ∙ c.own_values_stay.ensures.same 0 s _ m.sender m.learnt

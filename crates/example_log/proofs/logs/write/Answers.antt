@@ -5,7 +5,7 @@ use Rattle.example_log.proofs.logs.write.Goals as goal
 
 pub returns-clause-access : goal.returns-clause-access
 returns-clause-access g c =
-    let w = c.in_ok-access-2 in let e = w.ensures in let sent = c.in_ok-first in
+    let w = c.in_ok-access-2 in let e = w.ensures in let sent = c.in_ok-access in
     let size : w.access.book.book.layout ≡ c.args.layout = search rules in
     let zero : sent.first.access.known.number ≡ 0 = search rules in
     let one : sent.second.access.known.number ≡ 1 = search rules in
@@ -14,7 +14,7 @@ returns-clause-access g c =
 
 pub returns-clause-errors : goal.returns-clause-errors
 returns-clause-errors g c =
-    let w = c.in_ok-errors-2 in let e = w.ensures in let sent = c.in_ok-first in
+    let w = c.in_ok-errors in let e = w.ensures in let sent = c.in_ok-access in
     let size : w.errors.book.book.layout ≡ c.args.layout = search rules in
     let zero : sent.first.errors.known.number ≡ 0 = search rules in
     let one : sent.second.errors.known.number ≡ 1 = search rules in
