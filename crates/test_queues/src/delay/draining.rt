@@ -97,6 +97,23 @@ fn advance_gives_back_after_a_close(rt: HostRuntime) -> Result<(), Fail> {
     Ok(())
 }
 
+/// What would be due at once is answered by the drain, or by what is pending, and changes nothing.
+fn check_refused<R: Abort>(rt: &R, delay: &mut Delay, sender: &mut Sender) {
+    expect_same(rt, arm(delay, 1, 0), Some(Armed::Draining));
+    expect_same(rt, arm(delay, 2, 0), Some(Armed::Pending));
+    expect_same(rt, modify(delay, 1, 0), Some(Modified::Draining));
+    expect_same(rt, modify(delay, 0, 0), Some(Modified::Draining));
+    expect_same(rt, queue_once(sender, 1), Some(Answer::Draining));
+    check_still_there(rt, delay, sender);
+}
+
+fn check_too_far<R: Abort>(rt: &R, delay: &mut Delay, item: u32) {
+    let too_far = 4_294_967_296;
+    expect_same(rt, arm(delay, item, too_far), Some(Armed::TooFar));
+    let modified = modify(delay, item, too_far);
+    expect_same(rt, (item, modified), (item, Some(Modified::TooFar)));
+}
+
 /// Within a drain an arming or a change of delay to none is answered so: an item on the table keeps its place, and of any other
 /// nothing is held. A delay that is too far is so in a drain too.
 #[test]
@@ -104,18 +121,10 @@ fn calls_within_a_drain(rt: HostRuntime) -> Result<(), Fail> {
     let (mut owner, mut sender, mut delay) = delayed(rt.alloc(), 8, 0).expect(&rt, "seats");
     arm_and_drain(&rt, &mut delay, &mut owner);
     for _ in 0..2u32 {
-        expect_same(&rt, arm(&mut delay, 1, 0), Some(Armed::Draining));
-        expect_same(&rt, arm(&mut delay, 2, 0), Some(Armed::Pending));
-        expect_same(&rt, modify(&mut delay, 1, 0), Some(Modified::Draining));
-        expect_same(&rt, modify(&mut delay, 0, 0), Some(Modified::Draining));
-        expect_same(&rt, queue_once(&mut sender, 1), Some(Answer::Draining));
-        check_still_there(&rt, &delay, &mut sender);
+        check_refused(&rt, &mut delay, &mut sender);
     }
     for item in [0, 1] {
-        let too_far = 4_294_967_296;
-        expect_same(&rt, arm(&mut delay, item, too_far), Some(Armed::TooFar));
-        let modified = modify(&mut delay, item, too_far);
-        expect_same(&rt, (item, modified), (item, Some(Modified::TooFar)));
+        check_too_far(&rt, &mut delay, item);
     }
     let due = delay.due_list(9)?;
     expect_same(&rt, due.as_slice(), [5, 2, 0, 7].as_slice());

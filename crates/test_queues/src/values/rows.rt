@@ -85,18 +85,48 @@ fn chain_two<R: Abort>(rt: &R, alloc: Global, owner: &mut ValueOwner<String>) {
     );
 }
 
+/// Queues each item with its words.
+fn queue_all<R: Abort>(
+    rt: &R,
+    alloc: Global,
+    sender: &mut ValueSender<String>,
+    items: &[(u32, &str)],
+) {
+    for &(item, words) in items {
+        queue(rt, alloc, sender, item, words);
+    }
+}
+
+/// Each item runs with its words.
+fn run_all<R: Abort>(rt: &R, owner: &mut ValueOwner<String>, items: &[(u32, &str)]) {
+    for &(item, words) in items {
+        begins_with(rt, owner, item, words);
+        expect_same(rt, end(owner), Some(item));
+    }
+}
+
+/// What is left behind the first of a batch, in its order.
+const BEHIND: &[(u32, &str)] = &[
+    (1, "one"),
+    (7, "seven"),
+    (0, "zero"),
+    (5, "five"),
+    (2, "two"),
+];
+
 /// A batch that waits, what a drain adds behind it, and what is chained: each begins with its own words.
 #[test]
 fn values_keep_their_order_behind_a_batch(rt: HostRuntime) -> Result<(), Fail> {
     let alloc = rt.alloc();
     let (mut owner, mut sender) = seats(alloc, 8).expect(&rt, "seats");
-    for (item, words) in [(3, "three"), (1, "one"), (7, "seven")] {
-        queue(&rt, alloc, &mut sender, item, words);
-    }
+    queue_all(
+        &rt,
+        alloc,
+        &mut sender,
+        &[(3, "three"), (1, "one"), (7, "seven")],
+    );
     expect_same(&rt, take(&mut owner), Some(3));
-    for (item, words) in [(0, "zero"), (5, "five")] {
-        queue(&rt, alloc, &mut sender, item, words);
-    }
+    queue_all(&rt, alloc, &mut sender, &[(0, "zero"), (5, "five")]);
     expect_same(&rt, drain(&mut owner), Some(2));
     expect_same(
         &rt,
@@ -106,16 +136,7 @@ fn values_keep_their_order_behind_a_batch(rt: HostRuntime) -> Result<(), Fail> {
     begins_with(&rt, &mut owner, 3, "three");
     chain_two(&rt, alloc, &mut owner);
     expect_same(&rt, end(&mut owner), Some(3));
-    for (item, words) in [
-        (1, "one"),
-        (7, "seven"),
-        (0, "zero"),
-        (5, "five"),
-        (2, "two"),
-    ] {
-        begins_with(&rt, &mut owner, item, words);
-        expect_same(&rt, end(&mut owner), Some(item));
-    }
+    run_all(&rt, &mut owner, BEHIND);
     assert!(rt; resume(&mut owner));
     expect_same(
         &rt,

@@ -202,6 +202,14 @@ fn shut<R: Abort>(rt: &R, worker: &mut ValueWorker<u64, Keeping<'_, R, u64>>, do
     }
 }
 
+/// Runs item 0, and the three behind it.
+fn run_four<R: Abort>(rt: &R, worker: &mut ValueWorker<u64, Keeping<'_, R, u64>>, door: Door) {
+    for item in [0u32, 2, 5, 4] {
+        expect_same(rt, (door, worker.run_one()), (door, Ran::Item(item)));
+    }
+    expect_same(rt, worker.run_one(), Ran::Nothing);
+}
+
 /// Item 0 asks for four pairs. Two come back once each, with their own values, and the two others run with theirs, behind what
 /// was queued before.
 fn follow_pairs<R: Abort>(rt: &R, alloc: Global, door: Door) {
@@ -209,11 +217,7 @@ fn follow_pairs<R: Abort>(rt: &R, alloc: Global, door: Door) {
     queue(rt, &mut team.first, 0, 7);
     queue(rt, &mut team.second, 2, 20);
     shut(rt, &mut team.worker, door);
-    expect_same(rt, (door, team.worker.run_one()), (door, Ran::Item(0)));
-    for item in [2u32, 5, 4] {
-        expect_same(rt, (door, team.worker.run_one()), (door, Ran::Item(item)));
-    }
-    expect_same(rt, team.worker.run_one(), Ran::Nothing);
+    run_four(rt, &mut team.worker, door);
     let (work, _book) = destroy(rt, team.worker, 0);
     let ran = [(0, 7), (2, 20), (5, 50), (4, 40)];
     expect_same(rt, (door, work.ran.as_slice()), (door, ran.as_slice()));

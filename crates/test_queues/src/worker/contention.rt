@@ -128,6 +128,26 @@ fn serve_until_owing<R: Abort + Clock + Threads + Wait + Sync>(
     false
 }
 
+/// Destroys a worker that owed an execution, with what is left: the book balances.
+fn check_balance<R: Abort>(
+    rt: &R,
+    mut worker: Worker<Restless>,
+    first: &mut Sender,
+    second: &mut Sender,
+)
+    requires { (first.old.queue ≡ worker.queue) × (second.old.queue ≡ worker.queue) }
+{
+    worker.adjust(|work: &mut Restless| work.below = 0);
+    let (_work, mut book) = destroy(rt, worker, 1000);
+    let totals = balance_met(&mut book, first, second).expect(rt, "a balance");
+    expect_same(
+        rt,
+        totals.queued.wrapping_add(totals.chained),
+        totals.executed,
+    );
+    assert!(rt; totals.contended > 0);
+}
+
 /// An execution is owed where the worker's one try is lost to another sender. A worker that serves goes on at once there, and the
 /// book balances.
 #[test]
@@ -149,14 +169,6 @@ fn owing_goes_on(rt: HostRuntime) -> Result<(), Fail> {
         &mut second,
     );
     assert!(rt; is_owing);
-    worker.adjust(|work: &mut Restless| work.below = 0);
-    let (_work, mut book) = destroy(&rt, worker, 1000);
-    let totals = balance_met(&mut book, &mut first, &mut second).expect(&rt, "a balance");
-    expect_same(
-        &rt,
-        totals.queued.wrapping_add(totals.chained),
-        totals.executed,
-    );
-    assert!(rt; totals.contended > 0);
+    check_balance(&rt, worker, &mut first, &mut second);
     Ok(())
 }
