@@ -71,7 +71,7 @@ module _ (old bytes : List ℕ) (n : ℕ) (within : n ≤ length bytes) where
         let last : length (old ++ take n bytes) - 1 ≡ length old + (n - 1) = omega (arith, longer, some) in
         let front : take (length (old ++ take n bytes) - 1) (old ++ take n bytes) ≡ old ++ take (n - 1) bytes =
         ap (λ m. take m (old ++ take n bytes)) last ∙ take-append-add old (take n bytes) (n - 1)
-            ∙ ap (λ l. old ++ l) (take-take (n - 1) n bytes (omega arith)) in
+        ∙ ap (λ l. old ++ l) (take-take (n - 1) n bytes (omega arith)) in
         subst P (sym front) (All-append (λ x. x ≢ 10) old (take (n - 1) bytes) none before)
     | inr zero ↦
         let P : List ℕ → Type 0 = λ l. All (λ x. x ≢ 10) l in
