@@ -1,5 +1,6 @@
 pub mod Common
 pub mod LineBytes
+pub mod Entries
 pub mod Stages
 pub mod LineParts
 pub mod Reading

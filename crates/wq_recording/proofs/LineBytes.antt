@@ -3,9 +3,10 @@ use Rattle.std.proofs.Common.{◌≡◌, ◌≢◌, ℕ, ◌+◌, ◌-◌, ◌<�
 use Rattle.std.proofs.Common.{take, drop, slice_index, nat_lt, get_or, inl, inr, refl, sym, ap, subst, ◌∙◌, arith, length-append, length-take-le, get_or-take}
 use Rattle.std.proofs.lemmas.Bool.{ltb-true}
 use Rattle.wq_words.proofs.Common.{cases_lt}
-use Rattle.std.proofs.lemmas.List.{get_or-append-add}
-use Rattle.std.proofs.lemmas.List.Elements.{All-append, All-more}
-use Rattle.std.specs.Io.{StartsWith, IsEmptyOrEndsWith}
+use Rattle.std.proofs.lemmas.List.{append-nil, get_or-append-add, take-take}
+use Rattle.std.proofs.Math.Seq.{take-append_seam, drop-append_seam, take-append-add}
+use Rattle.std.proofs.lemmas.List.Elements.{All-append, All-more, All-take}
+use Rattle.std.specs.Io.{StartsWith, StopsAt, IsEmptyOrEndsWith}
 use Rattle.std.specs.Io.KnownBytes.{Consumes, IsAtEnd}
 use Rattle.std.proofs.KnownBytes.{starts_with_rest, Consumes-trans}
 use Rattle.wq_recording.specs.Lines.{EndsWithLf, LineEnds, EndsOrGoesOn}
@@ -59,6 +60,31 @@ module _ (old bytes : List ℕ) (n : ℕ) (within : n ≤ length bytes) where
     where
       differ : false ≡ true → ⊥
       differ e = cc
+
+  pub part_room : length old ≤ 4097 → n ≤ 4097 - length old → length (old ++ take n bytes) ≤ 4097
+  part_room room fits = omega (arith, longer, room, fits)
+
+  pub part_stops : All (λ x. x ≢ 10) old → All (λ x. x ≢ 10) (take (n - 1) bytes) → StopsAt (old ++ take n bytes) 10
+  part_stops none before = elim (cases_lt 0 n) [
+    | inl some ↦
+        let P : List ℕ → Type 0 = λ l. All (λ x. x ≢ 10) l in
+        let last : length (old ++ take n bytes) - 1 ≡ length old + (n - 1) = omega (arith, longer, some) in
+        let front : take (length (old ++ take n bytes) - 1) (old ++ take n bytes) ≡ old ++ take (n - 1) bytes =
+        ap (λ m. take m (old ++ take n bytes)) last ∙ take-append-add old (take n bytes) (n - 1)
+        ∙ ap (λ l. old ++ l) (take-take (n - 1) n bytes (omega arith)) in
+        subst P (sym front) (All-append (λ x. x ≢ 10) old (take (n - 1) bytes) none before)
+    | inr zero ↦
+        let P : List ℕ → Type 0 = λ l. All (λ x. x ≢ 10) l in
+        let none_more : n ≡ 0 = omega (arith, zero) in
+        let whole : old ++ take n bytes ≡ old = ap (λ m. old ++ take m bytes) none_more ∙ append-nil old in
+        All-take (λ x. x ≢ 10) (length (old ++ take n bytes) - 1) (old ++ take n bytes) (subst P (sym whole) none)
+  ]
+
+  pub part_appends : StartsWith (old ++ take n bytes) old
+  part_appends = take-append_seam old (take n bytes)
+
+  pub part_bytes : (known left : Option (List ℕ)) → Consumes known left (take n bytes) → Consumes known left (drop (length old) (old ++ take n bytes))
+  part_bytes known left moved = subst (Consumes known left) (sym (drop-append_seam old (take n bytes))) moved
 
   pub part_read : (known left : Option (List ℕ)) (ends long : Bool) → length old ≤ 4097 → All (λ x. x ≢ 10) old → All (λ x. x ≢ 10) (take (n - 1) bytes)
       → IsTrue ends ↔ IsEmptyOrEndsWith (take n bytes) 10 → long ≡ nat_lt 4096 (length (old ++ take n bytes))

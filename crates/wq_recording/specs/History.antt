@@ -84,6 +84,42 @@ entry_gives l telling.Chain w ws = of_one (λ k. alone (event.Chain k)) (one (it
 entry_gives l telling.ChainBusy w ws = of_one (λ k. alone (event.ChainBusy k)) (one (item l) ws)
 entry_gives l telling.Rest w ws = of_none (alone event.Rest) (no_word ws)
 
+-- the seat and the number that the words of a line give, 0 where it has none
+unfoldable pub numbers_give : Layout → Telling → List ℕ → List (List ℕ) → Result (ℕ × ℕ) Kind
+numbers_give l telling.Hold w ws = seat_and_number l w ws
+numbers_give l telling.Busy w ws = seat_and_number l w ws
+numbers_give l telling.Push w ws = seat_and_number l w ws
+numbers_give l (telling.Back cause) w ws = seat_and_number l w (without_last ws)
+numbers_give l telling.Queue w ws = seat_and_number l w ws
+numbers_give l telling.Refused w ws = seat_and_number l w ws
+numbers_give l telling.Take w ws = of_none (0, 0) (no_word ws)
+numbers_give l telling.Close w ws = of_none (0, 0) (no_word ws)
+numbers_give l telling.Drain w ws = of_none (0, 0) (no_word ws)
+numbers_give l telling.Resume w ws = of_none (0, 0) (no_word ws)
+numbers_give l telling.Begin w ws = of_one (λ k. (0, k)) (one (number_of_queue l) ws)
+numbers_give l telling.End w ws = of_one (λ k. (0, k)) (one (number_of_queue l) ws)
+numbers_give l telling.Chain w ws = of_one (λ k. (0, k)) (one (item l) ws)
+numbers_give l telling.ChainBusy w ws = of_one (λ k. (0, k)) (one (item l) ws)
+numbers_give l telling.Rest w ws = of_none (0, 0) (no_word ws)
+
+-- the entry that is told of a seat and a number
+unfoldable pub entry_of : Telling → ℕ → ℕ → Entry
+entry_of telling.Hold s k = alone (event.Hold s k)
+entry_of telling.Busy s k = alone (event.Busy s k)
+entry_of telling.Push s k = alone (event.Push s k)
+entry_of (telling.Back cause) s k = alone (event.Back s k cause)
+entry_of telling.Queue s k = both (event.Hold s k) (event.Push s k)
+entry_of telling.Refused s k = both (event.Hold s k) (event.Back s k why.Closed)
+entry_of telling.Take s k = alone event.Take
+entry_of telling.Close s k = alone event.Close
+entry_of telling.Drain s k = alone event.Drain
+entry_of telling.Resume s k = alone event.Resume
+entry_of telling.Begin s k = alone (event.Begin k)
+entry_of telling.End s k = alone (event.End k)
+entry_of telling.Chain s k = alone (event.Chain k)
+entry_of telling.ChainBusy s k = alone (event.ChainBusy k)
+entry_of telling.Rest s k = alone event.Rest
+
 abbrev pub history_grammar : Grammar Telling Entry
 history_grammar = record {
   version = codes "history 1";

@@ -1,14 +1,15 @@
 //! How a history is written as a recording.
-ghost use Rattle.std.specs.Prelude.{◌≡◌, ◌++◌, IfOk, OnOk, string_bytes};
+ghost use Rattle.std.specs.Prelude.{◌≡◌, ◌++◌, IfOk, OnOk, codes, string_bytes};
 ghost use Rattle.wq_meaning.specs.Names.{named};
-ghost use Rattle.wq_meaning.specs.Report.{line};
+ghost use Rattle.wq_meaning.specs.Report.{line, count_line};
+ghost use Rattle.wq_words.specs.declared.event.Event.TheVariants.{Back};
 ghost use Rattle.wq_recording.specs.HistoryText.{sender_text, event_text, event_lines, header_text, history_text, IsRecordingOf};
 ghost use Rattle.wq_text.specs.Schedule.{schedule_layout, turns_of};
 
 use std::alloc::{AllocError, Global};
 use wq_meaning::{steps_history, why_text, write_count, write_line, write_name};
 use wq_text::Schedule;
-use wq_words::{Event, Layout};
+use wq_words::{Event, Layout, Why};
 
 // Writes what a sender does with a number.
 fn write_senders(
@@ -22,6 +23,20 @@ fn write_senders(
 {
     write!(out, "{sender}{word}")?;
     write_name(layout, number, out)
+}
+
+// Writes that a sender gives a number back, and why.
+fn write_back(
+    layout: &Layout,
+    sender: u32,
+    number: u32,
+    why: Why,
+    out: &mut String,
+) -> Result<(), AllocError>
+    ensures { OnOk result (string_bytes out.new ≡ string_bytes out.old ++ event_text layout.now (Back sender number why)) }
+{
+    write_senders(layout, sender, " back", number, out)?;
+    out.push_str(why_text(why))
 }
 
 // Writes what the owner does with a number.
@@ -45,10 +60,7 @@ fn write_event(layout: &Layout, event: Event, out: &mut String) -> Result<(), Al
         Event::Hold(sender, number) => write_senders(layout, sender, " hold", number, out),
         Event::Busy(sender, number) => write_senders(layout, sender, " busy", number, out),
         Event::Push(sender, number) => write_senders(layout, sender, " push", number, out),
-        Event::Back(sender, number, why) => {
-            write_senders(layout, sender, " back", number, out)?;
-            out.push_str(why_text(why))
-        }
+        Event::Back(sender, number, why) => write_back(layout, sender, number, why, out),
         Event::Take => out.push_str("o take"),
         Event::Close => out.push_str("o close"),
         Event::Drain => out.push_str("o drain"),
@@ -69,14 +81,22 @@ fn write_event_line(layout: &Layout, event: Event, out: &mut String) -> Result<(
     out.push_str("\n")
 }
 
+// Writes how many items, senders and barriers there are.
+fn write_numbers(layout: &Layout, out: &mut String) -> Result<(), AllocError>
+    ensures { OnOk result (string_bytes out.new ≡ string_bytes out.old ++ (count_line (codes "items") layout.now.items
+        ++ count_line (codes "senders") layout.now.senders ++ count_line (codes "barriers") layout.now.barriers)) }
+{
+    write_count("items", u64::from(layout.items), out)?;
+    write_count("senders", u64::from(layout.senders), out)?;
+    write_count("barriers", u64::from(layout.barriers), out)
+}
+
 // Writes the lines of the header.
 fn write_header(layout: &Layout, out: &mut String) -> Result<(), AllocError>
     ensures { OnOk result (string_bytes out.new ≡ string_bytes out.old ++ header_text layout.now) }
 {
     write_line("history 1", out)?;
-    write_count("items", u64::from(layout.items), out)?;
-    write_count("senders", u64::from(layout.senders), out)?;
-    write_count("barriers", u64::from(layout.barriers), out)
+    write_numbers(layout, out)
 }
 
 // Writes a line for each event.

@@ -1,7 +1,7 @@
 //! The words of a history, and the events that they tell.
 ghost use Rattle.std.specs.Prelude.{◌≡◌, map, IfOk};
 ghost use Rattle.wq_text.specs.Fault.{LineGives};
-ghost use Rattle.wq_recording.specs.History.{alone, both, IsOf, owners_telling, senders_telling, telling_at, entry_gives};
+ghost use Rattle.wq_recording.specs.History.{alone, both, IsOf, owners_telling, senders_telling, telling_at, numbers_give, entry_of, entry_gives};
 
 use crate::entry::Entry;
 use wq_text::{
@@ -94,8 +94,62 @@ fn both(first: Event, second: Event) -> Entry
     }
 }
 
+// The seat and the number that the words of a line give: 0 where the line has none.
+#[tactic(auto, unfolding(crate::specs::History::numbers_give, crate::specs::History::entry_of))]
+fn numbers_of(
+    layout: Layout,
+    telling: Telling,
+    first: &str,
+    words: &[&str],
+) -> Result<(u32, u32), LineError>
+    ensures exact { LineGives result (numbers_give layout telling first.now (map (λ w. w.now) words.now)) }
+    ensures of { IfOk result (λ n. IsOf layout (entry_of telling n.0 n.1)) }
+{
+    match telling {
+        Telling::Hold | Telling::Busy | Telling::Push | Telling::Queue | Telling::Refused => {
+            seat_and_number(layout, first, words)
+        }
+        Telling::Back(_) => seat_and_number(layout, first, without_last(words)),
+        Telling::Take | Telling::Close | Telling::Drain | Telling::Resume | Telling::Rest => {
+            no_word(words).map(|()| (0, 0))
+        }
+        Telling::Begin | Telling::End => one_word(words)
+            .and_then(|word| number_of_queue(layout, word))
+            .map(|number| (0, number)),
+        Telling::Chain | Telling::ChainBusy => one_word(words)
+            .and_then(|word| item(layout, word))
+            .map(|number| (0, number)),
+    }
+}
+
+// The events that a line tells of a seat and a number.
+#[tactic(auto, unfolding(crate::specs::History::entry_of))]
+fn entry_of(telling: Telling, sender: u32, number: u32) -> Entry
+    ensures { result ≡ entry_of telling sender number }
+{
+    match telling {
+        Telling::Hold => alone(Event::Hold(sender, number)),
+        Telling::Busy => alone(Event::Busy(sender, number)),
+        Telling::Push => alone(Event::Push(sender, number)),
+        Telling::Back(why) => alone(Event::Back(sender, number, why)),
+        Telling::Queue => both(Event::Hold(sender, number), Event::Push(sender, number)),
+        Telling::Refused => both(
+            Event::Hold(sender, number),
+            Event::Back(sender, number, Why::Closed),
+        ),
+        Telling::Take => alone(Event::Take),
+        Telling::Close => alone(Event::Close),
+        Telling::Drain => alone(Event::Drain),
+        Telling::Resume => alone(Event::Resume),
+        Telling::Begin => alone(Event::Begin(number)),
+        Telling::End => alone(Event::End(number)),
+        Telling::Chain => alone(Event::Chain(number)),
+        Telling::ChainBusy => alone(Event::ChainBusy(number)),
+        Telling::Rest => alone(Event::Rest),
+    }
+}
+
 // The events of a line, from its first word and the words behind the second.
-#[tactic(auto, unfolding(crate::specs::History::entry_gives))]
 pub(crate) fn entry(
     layout: Layout,
     telling: Telling,
@@ -105,45 +159,6 @@ pub(crate) fn entry(
     ensures exact { LineGives result (entry_gives layout telling first.now (map (λ w. w.now) words.now)) }
     ensures of { IfOk result (IsOf layout) }
 {
-    match telling {
-        Telling::Hold => seat_and_number(layout, first, words).map(|(sender, number)| alone(
-            Event::Hold(sender, number),
-        )),
-        Telling::Busy => seat_and_number(layout, first, words).map(|(sender, number)| alone(
-            Event::Busy(sender, number),
-        )),
-        Telling::Push => seat_and_number(layout, first, words).map(|(sender, number)| alone(
-            Event::Push(sender, number),
-        )),
-        Telling::Back(why) => seat_and_number(layout, first, without_last(words)).map(|(
-            sender,
-            number,
-        )| alone(Event::Back(sender, number, why))),
-        Telling::Queue => seat_and_number(layout, first, words).map(|(sender, number)| {
-            both(Event::Hold(sender, number), Event::Push(sender, number))
-        }),
-        Telling::Refused => seat_and_number(layout, first, words).map(|(sender, number)| {
-            both(
-                Event::Hold(sender, number),
-                Event::Back(sender, number, Why::Closed),
-            )
-        }),
-        Telling::Take => no_word(words).map(|()| alone(Event::Take)),
-        Telling::Close => no_word(words).map(|()| alone(Event::Close)),
-        Telling::Drain => no_word(words).map(|()| alone(Event::Drain)),
-        Telling::Resume => no_word(words).map(|()| alone(Event::Resume)),
-        Telling::Rest => no_word(words).map(|()| alone(Event::Rest)),
-        Telling::Begin => one_word(words)
-            .and_then(|word| number_of_queue(layout, word))
-            .map(|number| alone(Event::Begin(number))),
-        Telling::End => one_word(words)
-            .and_then(|word| number_of_queue(layout, word))
-            .map(|number| alone(Event::End(number))),
-        Telling::Chain => one_word(words)
-            .and_then(|word| item(layout, word))
-            .map(|number| alone(Event::Chain(number))),
-        Telling::ChainBusy => one_word(words)
-            .and_then(|word| item(layout, word))
-            .map(|number| alone(Event::ChainBusy(number))),
-    }
+    let (sender, number) = numbers_of(layout, telling, first, words)?;
+    Ok(entry_of(telling, sender, number))
 }

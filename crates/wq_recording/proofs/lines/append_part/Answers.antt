@@ -1,9 +1,47 @@
-use Rattle.std.proofs.Common.{◌||◌, sym, subst, nat_lt, rules}
+use Rattle.std.proofs.Common.{◌-◌, ◌≤◌, ◌||◌, length, sym, subst, nat_lt, rules}
 use Rattle.std.specs.Io.BufRead.{FillKeeps}
 use Rattle.std.proofs.BufReadLemmas.{Consumes_shown}
+use Rattle.std.specs.Io.{StartsWith, StopsAt, appended_bytes}
+use Rattle.std.specs.Io.KnownBytes.{Consumes}
 use Rattle.wq_recording.specs.Lines.{EndsOrGoesOn}
-use Rattle.wq_recording.proofs.LineBytes.{part_read}
+use Rattle.wq_recording.proofs.LineBytes.{part_room, part_stops, part_appends, part_bytes, part_read}
 use Rattle.wq_recording.proofs.lines.append_part.Goals as goal
+
+pub returns-clause-room : goal.returns-clause-room
+returns-clause-room g c =
+    let items = c.in_ok-extend_from_slice.ensures.items in
+    let count = c.part_len-count in
+    subst (λ line. length line ≤ 4097) (sym items)
+    (part_room c.args.line.now.items c.in-Ok.bytes.now count.result count.ensures.bound c.requires.room
+    (search rules))
+
+pub returns-clause-stops : goal.returns-clause-stops
+returns-clause-stops g c =
+    let items = c.in_ok-extend_from_slice.ensures.items in
+    let count = c.part_len-count in
+    subst (λ line. StopsAt line 10) (sym items)
+    (part_stops c.args.line.now.items c.in-Ok.bytes.now count.result count.ensures.bound c.requires.none count.ensures.before)
+
+pub returns-clause-appends : goal.returns-clause-appends
+returns-clause-appends g c =
+    let items = c.in_ok-extend_from_slice.ensures.items in
+    let count = c.part_len-count in
+    subst (λ line. StartsWith line c.args.line.now.items) (sym items)
+    (part_appends c.args.line.now.items c.in-Ok.bytes.now count.result count.ensures.bound)
+
+pub returns-clause-bytes : goal.returns-clause-bytes
+returns-clause-bytes g c =
+    let items = c.in_ok-extend_from_slice.ensures.items in
+    let count = c.part_len-count in
+    let bytes = c.in-Ok.bytes.now in
+    let known = g.B.Read.remaining c.args.reader.now in
+    let left = g.B.Read.remaining c.consume.new.self in
+    let rested = c.fill_buf.follows.lender-at-none in
+    let filled = subst (FillKeeps _ (g.B.Read.remaining rested) (g.B.BufRead.consumable_len rested)) c.in-Ok.is c.fill_buf.follows.holds-at-none in
+    let moved =
+    Consumes_shown _ _ _ _ bytes count.result count.ensures.bound c.in-Ok.ensures.front c.in-Ok.ensures.end filled.0 filled.1 c.consume.ensures.bytes in
+    subst (λ line. Consumes known left (appended_bytes c.args.line.now.items line)) (sym items)
+    (part_bytes c.args.line.now.items bytes count.result count.ensures.bound known left moved.0)
 
 pub returns-clause-done : goal.returns-clause-done
 returns-clause-done g c =
