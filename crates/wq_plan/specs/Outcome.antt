@@ -1,5 +1,5 @@
 -- The line that tells the outcome of a race, what its numbers mean, and how it was found.
-use Rattle.std.specs.Prelude.{◌≡◌, ℕ, ◌*◌, ◌<◌, Bool, true, false, List, [], ◌∷◌, ◌++◌, length, codes, count_by, sum_by, slice_index_or}
+use Rattle.std.specs.Prelude.{◌≡◌, ℕ, ◌*◌, ◌<◌, Bool, true, false, List, [], ◌∷◌, ◌++◌, length, codes, count_by, sum_by, map, All, MatchBool, slice_index_or}
 use Rattle.std.specs.Fmt.{decimal}
 use mathlib.Core.List.{IsPrefix}
 use Rattle.wq_words.specs.declared.event.Event.{Event}
@@ -14,6 +14,9 @@ use Rattle.wq_plan.specs.declared.outcome.Outcome.{Outcome}
 use Rattle.wq_plan.specs.Race.{items_at, EndsWithStop, QueuesNothing}
 use Rattle.wq_live.specs.Known.{Known, IsSame}
 use Rattle.wq_live.specs.Counts.{sender_counts}
+use Rattle.wq_ledger.specs.declared.totals.Totals.{Totals}
+use Rattle.wq_ledger.specs.declared.balance.Unbalanced.{Unbalanced}
+use Rattle.wq_ledger.specs.Balance.{Balances, IsUnbalanced}
 use Rattle.wq_ledger.specs.Book.{LedgerState, BookState, IsLedgerOf}
 
 abbrev pub yes_or_no : Bool → List ℕ
@@ -102,6 +105,15 @@ pub record HasHeard (old new : BookState) : Type 0 where
   pub own_is : new.own ≡ old.own
   pub begins : IsPrefix old.seen new.seen
   pub idle : own owner_seat new.seen ≡ own owner_seat old.seen
+
+-- A book that met these senders and the program's, and in the end answered whether all their ledgers balance.
+pub record HasSettled (book : BookState) (senders : List Known) (program : Known) (is_balanced : Bool) : Type 0 where
+  pub last : BookState
+  pub heard : HasHeard book last
+  pub told : All (IsTold book.seen) senders
+  pub program_told : IsTold book.seen program
+  pub answer : MatchBool is_balanced ((totals : Totals) × Balances last (map ledger_of senders ++ ledger_of program ∷ []) totals)
+      ((fault : Unbalanced) × IsUnbalanced last (map ledger_of senders ++ ledger_of program ∷ []) fault)
 
 -- what the senders have queued in all, by their counts
 abbrev pub queued_sum : List Known → ℕ

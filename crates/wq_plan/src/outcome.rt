@@ -6,7 +6,7 @@ ghost use Rattle.wq_words.specs.Seen.{owner_seat, own};
 ghost use Rattle.wq_ledger.specs.Book.{IsLedgerOf};
 ghost use Rattle.wq_ledger.specs.Balance.{Balances, IsUnbalanced};
 ghost use Rattle.wq_plan.specs.Race.{HasRaced};
-ghost use Rattle.wq_plan.specs.Outcome.{outcome_line, yes_or_no as said, Tells, IsWhole, HasMet, AllKnown, HasGoneOn, HasEnded, HasHeard, ledger_of, IsTold, queued_sum};
+ghost use Rattle.wq_plan.specs.Outcome.{outcome_line, yes_or_no as said, Tells, IsWhole, HasMet, AllKnown, HasGoneOn, HasEnded, HasHeard, ledger_of, IsTold, queued_sum, HasSettled};
 
 use crate::idle::Idle;
 use crate::plan::Plan;
@@ -129,6 +129,38 @@ pub fn is_balanced(book: &Book, ledgers: &[Ledger]) -> bool
     }
 }
 
+// The book meets these senders and then the program's: whether the ledgers of all balance.
+fn is_balanced_with(
+    book: &mut Book,
+    mut ledgers: Vec<Ledger>,
+    senders: Vec<Sender>,
+    program: &mut Sender,
+) -> Result<bool, AllocError>
+    requires one { All (λ s. s.queue ≡ book.old.queue) senders.items }
+    requires program { program.old.queue ≡ book.old.queue }
+    requires none { ledgers.items ≡ [] }
+    ensures { IfOk result (HasSettled book.old senders.items program.old) }
+{
+    enter_all(book, &mut ledgers, senders)?;
+    enter(book, &mut ledgers, program)?;
+    Ok(is_balanced(book, &ledgers))
+}
+
+// The same, of a book and a sender that are done with afterwards.
+fn settle(
+    mut book: Book,
+    ledgers: Vec<Ledger>,
+    senders: Vec<Sender>,
+    mut program: Sender,
+) -> Result<bool, AllocError>
+    requires one { All (λ s. s.queue ≡ book.queue) senders.items }
+    requires program { program.queue ≡ book.queue }
+    requires none { ledgers.items ≡ [] }
+    ensures { IfOk result (HasSettled book senders.items program) }
+{
+    is_balanced_with(&mut book, ledgers, senders, &mut program)
+}
+
 fn yes_or_no(is: bool) -> &'static str
     ensures { result.now ≡ said is }
 {
@@ -157,21 +189,21 @@ impl Outcome {
         requires run { (plan : Plan) × HasRaced plan team }
         ensures told { (plan : Plan) → HasRaced plan team → IfOk result (λ outcome. IsWhole plan outcome × Tells plan team.worker outcome) }
     {
-        let mut ledgers = Vec::with_capacity(alloc, team.senders.len() + 1)?;
+        let ledgers = Vec::with_capacity(alloc, team.senders.len() + 1)?;
         let Team {
             mut worker,
             mut senders,
-            mut program,
+            program,
         } = team;
         meet_senders(&mut worker, &mut senders);
         let accepted = queued_by(&senders);
-        let (work, mut book) = destroy(rt, worker);
-        enter_all(&mut book, &mut ledgers, senders)?;
-        enter(&mut book, &mut ledgers, &mut program)?;
+        let (work, book) = destroy(rt, worker);
+        let ran = u128::from(work.count());
+        let is_balanced = settle(book, ledgers, senders, program)?;
         Ok(Outcome {
             accepted,
-            ran: u128::from(work.count()),
-            is_balanced: is_balanced(&book, &ledgers),
+            ran,
+            is_balanced,
         })
     }
 }

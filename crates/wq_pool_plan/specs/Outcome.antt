@@ -1,5 +1,5 @@
 -- What a race over a pool leaves: a history and a book of each queue, and what its outcome counts.
-use Rattle.std.specs.Prelude.{◌≡◌, ◌⊎◌, ℕ, ◌+◌, ◌<◌, ◌==◌, ◌&&◌, true, false, if◌then◌else◌, List, [], ◌∷◌, length, sum_by, All, MatchBool}
+use Rattle.std.specs.Prelude.{◌≡◌, ◌⊎◌, ℕ, ◌+◌, ◌<◌, ◌==◌, ◌&&◌, true, false, if◌then◌else◌, List, [], ◌∷◌, length, sum_by, All, MatchBool, MatchResult}
 use Rattle.std.specs.List.{AllByRecursion}
 use Rattle.std.specs.declared.result.Result.{Result}
 use Rattle.std.specs.declared.result.Result.TheVariants.{Ok, Err}
@@ -10,6 +10,7 @@ use Rattle.wq_words.specs.History.{accepted, ended}
 use Rattle.wq_words.specs.Legal.{IsLegal, IsComplete}
 use Rattle.wq_words.specs.Seen.{own}
 use Rattle.wq_words.specs.Counting.{capped}
+use Rattle.wq_live.specs.Known.{Known}
 use Rattle.wq_ledger.specs.declared.book.Ledger.{Ledger}
 use Rattle.wq_ledger.specs.declared.totals.Totals.{Totals}
 use Rattle.wq_ledger.specs.declared.balance.Unbalanced.{Unbalanced}
@@ -18,9 +19,21 @@ use Rattle.wq_ledger.specs.Balance.{Balances, IsUnbalanced}
 use Rattle.wq_worker.specs.State.{items_among}
 use Rattle.wq_plan.specs.declared.outcome.Outcome.{Outcome}
 use Rattle.wq_plan.specs.declared.plan.Plan.{Plan}
+use Rattle.wq_plan.specs.Outcome.{HasHeard, IsTold}
 use Rattle.wq_plan.specs.Plan.{IsLayoutOf}
 use Rattle.wq_plan.specs.Race.{items_at}
 use Rattle.wq_plan.specs.Sends.{SendsAll}
+
+-- A book that met these senders and the program's, and in the end was asked whether their ledgers balance: what it answered.
+pub record HasAnswered (book : BookState) (senders : List Known) (program : Known) (answer : Result Totals Unbalanced) : Type 0 where
+  pub last : BookState
+  pub ledgers : List Ledger
+  pub heard : HasHeard book last
+  pub legal : IsLegal last.layout last.seen
+  pub told : All (IsTold book.seen) senders
+  pub program_told : own program.number last.seen ≡ own program.number program.seen
+  pub made : All (IsLedgerOf last.seen) ledgers
+  pub outcome : MatchResult answer (Balances last ledgers) (IsUnbalanced last ledgers)
 
 -- a queue's size, its history, and the book and the ledgers of its senders
 pub record QueueRun : Type 0 where

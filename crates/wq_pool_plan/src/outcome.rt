@@ -6,7 +6,7 @@ ghost use Rattle.wq_turn.specs.Finished.{IsFinished};
 ghost use Rattle.wq_pool.specs.Finished.{AreFinished};
 ghost use Rattle.wq_plan.specs.Outcome.{HasHeard, AllKnown};
 ghost use Rattle.wq_pool_plan.specs.Race.{IsSent, AllSent};
-ghost use Rattle.wq_pool_plan.specs.Outcome.{QueueRun, IsQueueRun, TellsRun, TellsRuns, IsOutcomeOf, AreBoth};
+ghost use Rattle.wq_pool_plan.specs.Outcome.{HasAnswered, QueueRun, IsQueueRun, TellsRun, TellsRuns, IsOutcomeOf, AreBoth};
 
 use crate::teams::Group;
 use std::alloc::{AllocError, Global};
@@ -70,13 +70,45 @@ fn outcome_of(balance: Result<Totals, Unbalanced>, queued: u128, stops: u64, ran
     }
 }
 
+// The book meets these senders and then the program's: how the ledgers of all balance.
+fn balance_with(
+    alloc: Global,
+    book: &mut Book,
+    senders: Vec<Sender>,
+    program: &mut Sender,
+) -> Result<Result<Totals, Unbalanced>, AllocError>
+    requires one { All (λ s. s.queue ≡ book.old.queue) senders.items }
+    requires program { program.old.queue ≡ book.old.queue }
+    ensures { IfOk result (HasAnswered book.old senders.items program.old) }
+{
+    let mut ledgers = Vec::with_capacity(alloc, senders.len())?;
+    enter_all(book, &mut ledgers, senders)?;
+    enter(book, &mut ledgers, program)?;
+    book.legal();
+    Ok(book.balance(&ledgers))
+}
+
+// The same, of a book and a sender that are done with afterwards.
+fn settle(
+    alloc: Global,
+    mut book: Book,
+    senders: Vec<Sender>,
+    mut program: Sender,
+) -> Result<Result<Totals, Unbalanced>, AllocError>
+    requires one { All (λ s. s.queue ≡ book.queue) senders.items }
+    requires program { program.queue ≡ book.queue }
+    ensures { IfOk result (HasAnswered book senders.items program) }
+{
+    balance_with(alloc, &mut book, senders, &mut program)
+}
+
 // What came of one queue.
 fn balance_one(
     alloc: Global,
     work: Idle,
     mut book: Book,
     group: Group,
-    mut program: Sender,
+    program: Sender,
 ) -> Result<Outcome, AllocError>
     requires { (plan : Plan) × (id : WorkerId) × IsFinished (λ w. w.ran.items) id (work, book) × IsSent plan id group.senders.items program }
     ensures { IfOk result (λ outcome. (plan : Plan) (id : WorkerId) → IsFinished (λ w. w.ran.items) id (work, book)
@@ -84,12 +116,12 @@ fn balance_one(
 {
     let Group { mut senders } = group;
     meet_all(&mut book, &mut senders);
+    book.legal();
     let queued = queued_by(&senders);
     let stops = program.counts().queued;
-    let mut ledgers = Vec::with_capacity(alloc, senders.len())?;
-    enter_all(&mut book, &mut ledgers, senders)?;
-    enter(&mut book, &mut ledgers, &mut program)?;
-    Ok(outcome_of(book.balance(&ledgers), queued, stops, work.count()))
+    let ran = work.count();
+    let balance = settle(alloc, book, senders, program)?;
+    Ok(outcome_of(balance, queued, stops, ran))
 }
 
 // Two outcomes as one.

@@ -1,0 +1,15 @@
+use Rattle.wq_pool_plan.proofs.Common.{sym, subst, All, IsLedgerOf, heard_on}
+use Rattle.wq_pool_plan.proofs.outcome.balance_with.Goals as goal
+
+pub returns : goal.returns
+returns c =
+    let last = c.enter.new.book in record {
+      last = last;
+      ledgers = c.deref.result.now;
+      heard = heard_on c.args.book.now c.enter_all.new.book last c.enter_all.ensures.book c.enter.ensures.book;
+      legal = c.legal.ensures.legal;
+      told = c.in_ok-enter_all.ensures.told;
+      program_told = c.enter.ensures.told;
+      made = subst (All (IsLedgerOf last.seen)) (sym c.deref.ensures.value) c.in_ok-enter.ensures.made;
+      outcome = c.balance.ensures.outcome;
+    }
