@@ -27,7 +27,7 @@ use Rattle.wq_recording.specs.declared.entry.Entry.{Entry}
 use Rattle.wq_recording.specs.declared.history_words.Telling.{Telling}
 use Rattle.wq_recording.specs.declared.history_words.Telling.TheVariants as telling
 use Rattle.wq_recording.specs.Checking.{history_line}
-use Rattle.wq_recording.specs.History.{alone, IsEventOf, owners_telling, senders_telling, telling_at, entry_gives, history_grammar}
+use Rattle.wq_recording.specs.History.{alone, IsEventOf, owners_telling, senders_telling, telling_at, numbers_give, entry_of, entry_gives, history_grammar}
 use Rattle.wq_recording.specs.HistoryText.{event_text, sender_text}
 use Rattle.wq_recording.proofs.LineParts.{HasNoLf}
 use Rattle.wq_recording.proofs.WrittenWords.{IsShortWord, AreShortWords, literal, all_digits, few_digits, decimal_word, spaced, spaced_no_lf, spaced_line}
@@ -173,7 +173,7 @@ module _ (l : Layout) where
 
     back_tells : (cause : Why) (word : List ℕ) → IsShortWord word → why_at word ≡ Some cause → why_text cause ≡ 32 ∷ word
         → Tells (event_text l (event.Back s k cause)) (event.Back s k cause)
-    unfolding senders_telling entry_gives
+    unfolding senders_telling numbers_give entry_of
     back_tells cause word short told written =
         let tells = sender_tells (codes "back" ∷ name_of l k ∷ word ∷ []) (telling.Back cause) (event.Back s k cause)
         (literal (codes "back") refl, ((named_number l k lt).0, (short, tt))) (omega arith) refl (ap (option_map telling.Back) told)
@@ -186,7 +186,7 @@ module _ (l : Layout) where
         subst P (sym text) tells
 
 pub written_event : (l : Layout) (e : Event) → IsEventOf l e → Tells l (event_text l e) e
-unfolding owners_telling senders_telling entry_gives why_at cause_at
+unfolding owners_telling senders_telling numbers_give entry_of why_at cause_at
 written_event l (event.Hold s k) is =
     three_tell l s k is.0 is.1 (codes "hold") telling.Hold (event.Hold s k) (literal (codes "hold") refl) refl
     (ap (of_two (λ s k. alone (event.Hold s k))) (seat_read l s k is.0 is.1))
@@ -208,16 +208,16 @@ written_event l event.Rest is = owner_tells l (codes "rest" ∷ []) telling.Rest
 written_event l (event.Begin k) is =
     let n = named_number l k is.1 in
     owner_tells l (codes "begin" ∷ name_of l k ∷ []) telling.Begin (event.Begin k) (literal (codes "begin") refl, (n.0, tt)) (omega arith) refl
-    (ap (of_one (λ k. alone (event.Begin k))) n.1)
+    (ap (λ told. of_two (entry_of telling.Begin) (of_one (λ k. (0, k)) told)) n.1)
 written_event l (event.End k) is =
     let n = named_number l k is.1 in
     owner_tells l (codes "end" ∷ name_of l k ∷ []) telling.End (event.End k) (literal (codes "end") refl, (n.0, tt)) (omega arith) refl
-    (ap (of_one (λ k. alone (event.End k))) n.1)
+    (ap (λ told. of_two (entry_of telling.End) (of_one (λ k. (0, k)) told)) n.1)
 written_event l (event.Chain k) is =
     let n = named_item l k is.1 in
     owner_tells l (codes "chain" ∷ name_of l k ∷ []) telling.Chain (event.Chain k) (literal (codes "chain") refl, (n.0, tt)) (omega arith) refl
-    (ap (of_one (λ k. alone (event.Chain k))) n.1)
+    (ap (λ told. of_two (entry_of telling.Chain) (of_one (λ k. (0, k)) told)) n.1)
 written_event l (event.ChainBusy k) is =
     let n = named_item l k is.1 in
     owner_tells l (codes "busy" ∷ name_of l k ∷ []) telling.ChainBusy (event.ChainBusy k) (literal (codes "busy") refl, (n.0, tt)) (omega arith) refl
-    (ap (of_one (λ k. alone (event.ChainBusy k))) n.1)
+    (ap (λ told. of_two (entry_of telling.ChainBusy) (of_one (λ k. (0, k)) told)) n.1)

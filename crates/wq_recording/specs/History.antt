@@ -66,24 +66,6 @@ telling_at w ws =
     else if bytes_eq w (codes "o") then owners_telling (nth_word 0 ws)
     else senders_telling (nth_word 0 ws) (nth_word (length ws - 1) ws)
 
--- the table of histories, by the first word and the words behind the second
-unfoldable pub entry_gives : Layout → Telling → List ℕ → List (List ℕ) → Result Entry Kind
-entry_gives l telling.Hold w ws = of_two (λ s k. alone (event.Hold s k)) (seat_and_number l w ws)
-entry_gives l telling.Busy w ws = of_two (λ s k. alone (event.Busy s k)) (seat_and_number l w ws)
-entry_gives l telling.Push w ws = of_two (λ s k. alone (event.Push s k)) (seat_and_number l w ws)
-entry_gives l (telling.Back cause) w ws = of_two (λ s k. alone (event.Back s k cause)) (seat_and_number l w (without_last ws))
-entry_gives l telling.Queue w ws = of_two (λ s k. both (event.Hold s k) (event.Push s k)) (seat_and_number l w ws)
-entry_gives l telling.Refused w ws = of_two (λ s k. both (event.Hold s k) (event.Back s k why.Closed)) (seat_and_number l w ws)
-entry_gives l telling.Take w ws = of_none (alone event.Take) (no_word ws)
-entry_gives l telling.Close w ws = of_none (alone event.Close) (no_word ws)
-entry_gives l telling.Drain w ws = of_none (alone event.Drain) (no_word ws)
-entry_gives l telling.Resume w ws = of_none (alone event.Resume) (no_word ws)
-entry_gives l telling.Begin w ws = of_one (λ k. alone (event.Begin k)) (one (number_of_queue l) ws)
-entry_gives l telling.End w ws = of_one (λ k. alone (event.End k)) (one (number_of_queue l) ws)
-entry_gives l telling.Chain w ws = of_one (λ k. alone (event.Chain k)) (one (item l) ws)
-entry_gives l telling.ChainBusy w ws = of_one (λ k. alone (event.ChainBusy k)) (one (item l) ws)
-entry_gives l telling.Rest w ws = of_none (alone event.Rest) (no_word ws)
-
 -- the seat and the number that the words of a line give, 0 where it has none
 unfoldable pub numbers_give : Layout → Telling → List ℕ → List (List ℕ) → Result (ℕ × ℕ) Kind
 numbers_give l telling.Hold w ws = seat_and_number l w ws
@@ -119,6 +101,10 @@ entry_of telling.End s k = alone (event.End k)
 entry_of telling.Chain s k = alone (event.Chain k)
 entry_of telling.ChainBusy s k = alone (event.ChainBusy k)
 entry_of telling.Rest s k = alone event.Rest
+
+-- the table of histories, by the first word and the words behind the second
+abbrev pub entry_gives : Layout → Telling → List ℕ → List (List ℕ) → Result Entry Kind
+entry_gives l t w ws = of_two (entry_of t) (numbers_give l t w ws)
 
 abbrev pub history_grammar : Grammar Telling Entry
 history_grammar = record {
