@@ -25,7 +25,7 @@ use Rattle.wq_plan.specs.Race.{items_at}
 use Rattle.wq_plan.specs.Sends.{SendsAll}
 
 -- A book that met these senders and the program's, and in the end was asked whether their ledgers balance: what it answered.
-pub record HasAnswered (book : BookState) (senders : List Known) (program : Known) (answer : Result Totals Unbalanced) : Type 0 where
+pub record AnswersBalance (book : BookState) (senders : List Known) (program : Known) (answer : Result Totals Unbalanced) : Type 0 where
   pub last : BookState
   pub ledgers : List Ledger
   pub heard : HasHeard book last

@@ -6,7 +6,7 @@ ghost use Rattle.wq_turn.specs.Finished.{IsFinished};
 ghost use Rattle.wq_pool.specs.Finished.{AreFinished};
 ghost use Rattle.wq_plan.specs.Outcome.{HasHeard, AllKnown};
 ghost use Rattle.wq_pool_plan.specs.Race.{IsSent, AllSent};
-ghost use Rattle.wq_pool_plan.specs.Outcome.{HasAnswered, QueueRun, IsQueueRun, TellsRun, TellsRuns, IsOutcomeOf, AreBoth};
+ghost use Rattle.wq_pool_plan.specs.Outcome.{AnswersBalance, QueueRun, IsQueueRun, TellsRun, TellsRuns, IsOutcomeOf, AreBoth};
 
 use crate::teams::Group;
 use std::alloc::{AllocError, Global};
@@ -79,7 +79,7 @@ fn balance_with(
 ) -> Result<Result<Totals, Unbalanced>, AllocError>
     requires one { All (λ s. s.queue ≡ book.old.queue) senders.items }
     requires program { program.old.queue ≡ book.old.queue }
-    ensures { IfOk result (HasAnswered book.old senders.items program.old) }
+    ensures { IfOk result (AnswersBalance book.old senders.items program.old) }
 {
     let mut ledgers = Vec::with_capacity(alloc, senders.len())?;
     enter_all(book, &mut ledgers, senders)?;
@@ -97,7 +97,7 @@ fn settle(
 ) -> Result<Result<Totals, Unbalanced>, AllocError>
     requires one { All (λ s. s.queue ≡ book.queue) senders.items }
     requires program { program.queue ≡ book.queue }
-    ensures { IfOk result (HasAnswered book senders.items program) }
+    ensures { IfOk result (AnswersBalance book senders.items program) }
 {
     balance_with(alloc, &mut book, senders, &mut program)
 }
