@@ -1,6 +1,7 @@
 pub mod Common
 pub mod LineBytes
 pub mod Entries
+pub mod Writing
 pub mod Stages
 pub mod LineParts
 pub mod Reading

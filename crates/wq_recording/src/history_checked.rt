@@ -39,8 +39,7 @@ fn write_executed(report: Report, out: &mut String) -> Result<(), AllocError>
     write_count("events", report.counts.events, out)?;
     write_count("accepted", report.counts.accepted, out)?;
     write_count("chained", report.counts.chained, out)?;
-    write_count("executed", report.counts.executed, out)?;
-    Ok(())
+    write_count("executed", report.counts.executed, out)
 }
 
 // Writes how many queueings did nothing, and how many numbers wait.
@@ -50,8 +49,7 @@ fn write_waiting(report: Report, out: &mut String) -> Result<(), AllocError>
     write_count("busy", report.counts.busy, out)?;
     write_count("refused", report.counts.refused, out)?;
     write_count("waiting", report.left as u64, out)?;
-    write_count("most waiting", report.counts.most_waiting as u64, out)?;
-    Ok(())
+    write_count("most waiting", report.counts.most_waiting as u64, out)
 }
 
 // Writes what is said of a history as a whole.

@@ -1,13 +1,13 @@
 //! How a history is written as a recording.
 ghost use Rattle.std.specs.Prelude.{◌≡◌, ◌++◌, IfOk, OnOk, codes, string_bytes};
-ghost use Rattle.wq_meaning.specs.Names.{named};
-ghost use Rattle.wq_meaning.specs.Report.{line, count_line};
 ghost use Rattle.wq_words.specs.declared.event.Event.TheVariants.{Back};
+ghost use Rattle.wq_meaning.specs.Report.{line, count_line};
 ghost use Rattle.wq_recording.specs.HistoryText.{sender_text, event_text, event_lines, header_text, history_text, IsRecordingOf};
 ghost use Rattle.wq_text.specs.Schedule.{schedule_layout, turns_of};
 
+use crate::verdict_text::write_named;
 use std::alloc::{AllocError, Global};
-use wq_meaning::{steps_history, why_text, write_count, write_line, write_name};
+use wq_meaning::{steps_history, why_text, write_count, write_line};
 use wq_text::Schedule;
 use wq_words::{Event, Layout, Why};
 
@@ -21,8 +21,8 @@ fn write_senders(
 ) -> Result<(), AllocError>
     ensures { OnOk result (string_bytes out.new ≡ string_bytes out.old ++ sender_text layout.now sender word.now number) }
 {
-    write!(out, "{sender}{word}")?;
-    write_name(layout, number, out)
+    write!(out, "{sender}")?;
+    write_named(layout, word, number, out)
 }
 
 // Writes that a sender gives a number back, and why.
@@ -39,19 +39,6 @@ fn write_back(
     out.push_str(why_text(why))
 }
 
-// Writes what the owner does with a number.
-fn write_owners(
-    layout: &Layout,
-    word: &str,
-    number: u32,
-    out: &mut String,
-) -> Result<(), AllocError>
-    ensures { OnOk result (string_bytes out.new ≡ string_bytes out.old ++ (word.now ++ named layout.now number)) }
-{
-    out.push_str(word)?;
-    write_name(layout, number, out)
-}
-
 // Writes the words of an event's line.
 fn write_event(layout: &Layout, event: Event, out: &mut String) -> Result<(), AllocError>
     ensures { OnOk result (string_bytes out.new ≡ string_bytes out.old ++ event_text layout.now event) }
@@ -65,10 +52,10 @@ fn write_event(layout: &Layout, event: Event, out: &mut String) -> Result<(), Al
         Event::Close => out.push_str("o close"),
         Event::Drain => out.push_str("o drain"),
         Event::Resume => out.push_str("o resume"),
-        Event::Begin(number) => write_owners(layout, "o begin", number, out),
-        Event::End(number) => write_owners(layout, "o end", number, out),
-        Event::Chain(number) => write_owners(layout, "o chain", number, out),
-        Event::ChainBusy(number) => write_owners(layout, "o busy", number, out),
+        Event::Begin(number) => write_named(layout, "o begin", number, out),
+        Event::End(number) => write_named(layout, "o end", number, out),
+        Event::Chain(number) => write_named(layout, "o chain", number, out),
+        Event::ChainBusy(number) => write_named(layout, "o busy", number, out),
         Event::Rest => out.push_str("o rest"),
     }
 }

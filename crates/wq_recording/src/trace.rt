@@ -1,5 +1,6 @@
 //! The language of traces.
-ghost use Rattle.std.specs.Prelude.{◌≡◌, map, IfOk};
+ghost use Rattle.std.specs.Prelude.{◌≡◌, ◌<◌, map, IfOk};
+ghost use Rattle.wq_text.specs.Arguments.{item, one};
 ghost use Rattle.wq_text.specs.Fault.{LineGives};
 ghost use Rattle.wq_recording.specs.Trace.{IsMarkOf, sight_of, mark_gives, trace_grammar};
 
@@ -28,14 +29,22 @@ fn sight_of(word: &str) -> Option<Sight>
     }
 }
 
+// The item in the one word that stands there.
+fn item_of(layout: Layout, words: &[&str]) -> Result<u32, LineError>
+    ensures exact { LineGives result (one (item layout) (map (λ w. w.now) words.now)) }
+    ensures within { IfOk result (λ n. n < layout.items) }
+{
+    let word = one_word(words)?;
+    item(layout, word)
+}
+
 // The mark of a line, from the words behind its first.
 #[tactic(auto, unfolding(crate::specs::Trace::mark_gives))]
 fn mark(layout: Layout, sight: Sight, words: &[&str]) -> Result<Mark, LineError>
     ensures exact { LineGives result (mark_gives layout sight (map (λ w. w.now) words.now)) }
     ensures of { IfOk result (IsMarkOf layout) }
 {
-    let word = one_word(words)?;
-    let number = item(layout, word)?;
+    let number = item_of(layout, words)?;
     match sight {
         Sight::Queue => Ok(Mark::Queue(number)),
         Sight::Start => Ok(Mark::Start(number)),

@@ -13,8 +13,13 @@ use wq_check::Cause;
 use wq_meaning::{write_count, write_line, write_name, write_row};
 use wq_words::Layout;
 
-// Writes a word and the name of a number.
-fn write_named(layout: &Layout, word: &str, number: u32, out: &mut String) -> Result<(), AllocError>
+/// Writes a word and the name of a number.
+pub(crate) fn write_named(
+    layout: &Layout,
+    word: &str,
+    number: u32,
+    out: &mut String,
+) -> Result<(), AllocError>
     ensures { OnOk result (string_bytes out.new ≡ string_bytes out.old ++ (word.now ++ named layout.now number)) }
 {
     out.push_str(word)?;
