@@ -1,8 +1,7 @@
 //! Why the logs were not written.
 use crate::writer::Writer;
-use std::alloc::{AllocError, AllocFailed};
+use std::alloc::AllocError;
 use thiserror::Error;
-use wq_pool::PoolError;
 use wq_worker::Unbuilt;
 
 /// Why the logs were not written to their end.
@@ -22,20 +21,8 @@ impl From<AllocError> for LogError {
     }
 }
 
-impl<T: Drop> From<AllocFailed<T>> for LogError {
-    fn from(_failed: AllocFailed<T>) -> LogError {
-        LogError::Memory
-    }
-}
-
 impl From<Unbuilt<Writer>> for LogError {
     fn from(_unbuilt: Unbuilt<Writer>) -> LogError {
-        LogError::Memory
-    }
-}
-
-impl From<PoolError> for LogError {
-    fn from(_error: PoolError) -> LogError {
         LogError::Memory
     }
 }

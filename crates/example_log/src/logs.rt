@@ -39,8 +39,14 @@ fn pool_of(
     ensures workers { IfOk result (λ r. r.0.workers ≡ worker_id access.worker ∷ worker_id errors.worker ∷ []) }
     ensures callers { IfOk result (λ r. All (IsCallerOf r.0.ready) r.1.items × (length r.1.items ≡ 5)) }
 {
-    let queues = Vec::from_array(alloc, [ValueServed::new(access), ValueServed::new(errors)])?;
-    Ok(ValuePool::new(alloc, queues, 5)?)
+    let Ok(queues) = Vec::from_array(alloc, [ValueServed::new(access), ValueServed::new(errors)])
+    else {
+        return Err(LogError::Memory);
+    };
+    match ValuePool::new(alloc, queues, 5) {
+        Ok(made) => Ok(made),
+        Err(_) => Err(LogError::Memory),
+    }
 }
 
 // Two new logs: their pool, its callers for those that work, and the clients.

@@ -3,9 +3,10 @@ use super::calls::{advance, arm, cancel, delayed, has, modify};
 use crate::expect::expect_same;
 use crate::live::reading::{close, drain, execute_one, resume};
 use crate::seats::{FIRST, queue_once};
+use std::alloc::Global;
 use std::process::Abort;
 use std::test::Fail;
-use std::thread::{join_mut, yield_now};
+use std::thread::{Threads, join_mut, yield_now};
 use wq_delay::{Armed, Delay, Modified};
 use wq_live::{Answer, Owner, Sender};
 
@@ -192,23 +193,28 @@ fn drain_through(owner: &mut Owner) -> bool {
     false
 }
 
+/// Lets all items go beside drains: how many advances left something that was due.
+fn all_goes_out<R: Abort + Threads + Sync>(rt: &R, alloc: Global) -> u32 {
+    let (mut owner, _sender, mut delay) = delayed(alloc, ITEMS, 0).expect(rt, "seats");
+    for item in 0..ITEMS {
+        let ticks = u64::from(item).saturating_add(1);
+        expect_same(rt, arm(&mut delay, item, ticks), Some(Armed::OnTable));
+    }
+    let (left, executed) = join_mut(
+        rt,
+        &mut || advance_through(&mut delay),
+        &mut || drain_through(&mut owner),
+    );
+    assert!(rt; executed);
+    left.expect(rt, "an end")
+}
+
 /// A table is led on in one thread while the owner drains in another: all goes out, once and in order.
 #[test]
 fn all_goes_out_beside_drains(rt: HostRuntime) -> Result<(), Fail> {
     let mut stopped = 0u32;
     for _ in 0..20u32 {
-        let (mut owner, _sender, mut delay) = delayed(rt.alloc(), ITEMS, 0).expect(&rt, "seats");
-        for item in 0..ITEMS {
-            let ticks = u64::from(item).saturating_add(1);
-            expect_same(&rt, arm(&mut delay, item, ticks), Some(Armed::OnTable));
-        }
-        let (left, executed) = join_mut(
-            &rt,
-            &mut || advance_through(&mut delay),
-            &mut || drain_through(&mut owner),
-        );
-        assert!(rt; executed);
-        stopped = stopped.saturating_add(left.expect(&rt, "an end"));
+        stopped = stopped.saturating_add(all_goes_out(&rt, rt.alloc()));
     }
     assert!(rt; stopped > 0);
     Ok(())

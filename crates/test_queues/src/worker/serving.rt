@@ -3,7 +3,9 @@ use crate::expect::expect_same;
 use crate::seats::queue_item;
 use crate::worker::team::{Fixed, is_pending, new_team, serve, stop};
 use crossbeam_utils::sync::{Parker, Unparker};
+use std::alloc::Global;
 use std::process::Abort;
+use std::sync::Wait;
 use std::test::Fail;
 use std::thread::{Threads, join_mut, sleep, yield_now};
 use std::time::{Clock, Duration};
@@ -53,20 +55,25 @@ fn stop_unseen<R: Abort + Clock>(rt: &R, sender: &mut Sender, unparker: &Unparke
     stop(sender, unparker)
 }
 
+/// Whether a worker that serves does not see a stop item before it is unparked.
+fn parks<R: Abort + Clock + Threads + Wait + Sync>(rt: &R, alloc: Global) -> Result<bool, Fail> {
+    let mut parker = Parker::new(alloc)?;
+    let unparker = parker.unparker().clone()?;
+    let mut team = new_team(rt, alloc, Fixed::new());
+    let (_, answer) = join_mut(
+        rt,
+        &mut || serve(rt, &mut team.worker, &mut parker),
+        &mut || stop_unseen(rt, &mut team.first, &unparker),
+    );
+    Ok(answer == Answer::Pending)
+}
+
 /// A worker that serves is parked where nothing waits: it does not see the stop item until it is unparked. Where the machine is
 /// busy the worker may come to its look late, so there are five turns.
 #[test]
 fn served_worker_parks(rt: HostRuntime) -> Result<(), Fail> {
     for _ in 0..5u32 {
-        let mut parker = Parker::new(rt.alloc())?;
-        let unparker = parker.unparker().clone()?;
-        let mut team = new_team(&rt, rt.alloc(), Fixed::new());
-        let (_, answer) = join_mut(
-            &rt,
-            &mut || serve(&rt, &mut team.worker, &mut parker),
-            &mut || stop_unseen(&rt, &mut team.first, &unparker),
-        );
-        if answer == Answer::Pending {
+        if parks(&rt, rt.alloc())? {
             return Ok(());
         }
     }
