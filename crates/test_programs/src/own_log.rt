@@ -78,7 +78,10 @@ fn has_all(alloc: Global, written: &Written, log: Log) -> Result<bool, AllocErro
 }
 
 /// What two clients send to both logs.
-fn logs_of_a_run<R: Threads + Wait + Sync>(rt: &R, alloc: Global) -> Result<(Written, Written), Fail> {
+fn logs_of_a_run<R: Threads + Wait + Sync>(
+    rt: &R,
+    alloc: Global,
+) -> Result<(Written, Written), Fail> {
     let first = messages_of(alloc, b'1')?;
     let second = messages_of(alloc, b'2')?;
     Ok(write(rt, alloc, Layout::new(8, 1, 4)?, first, second)?)

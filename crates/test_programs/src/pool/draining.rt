@@ -56,7 +56,10 @@ fn drained<R: Abort>(rt: &R, alloc: Global) -> (Served<Logging>, Sender) {
     assert!(rt; worker.is_draining());
     expect_same(rt, queue_item(rt, &mut sender, 2), Answer::Draining);
     expect_same(rt, worker.drain(2), Drained::Empty);
-    (served(worker).expect(rt, "a worker that drains no more"), sender)
+    (
+        served(worker).expect(rt, "a worker that drains no more"),
+        sender,
+    )
 }
 
 /// A worker that drains is no pool's until a later drain has ended it. Its first push then says no wake, so who made the pool

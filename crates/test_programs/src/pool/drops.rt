@@ -54,7 +54,10 @@ fn two_queues<'a, R: Abort>(
 }
 
 /// How many items each of two works ran.
-fn runs_of<R: Abort>(rt: &R, finished: &[(Carrying<'_, R, Arc<u32>>, ValueBook<Arc<u32>>)]) -> (usize, usize) {
+fn runs_of<R: Abort>(
+    rt: &R,
+    finished: &[(Carrying<'_, R, Arc<u32>>, ValueBook<Arc<u32>>)],
+) -> (usize, usize) {
     let [(zero, _), (one, _)] = finished else {
         panic!(rt; "not two queues")
     };
