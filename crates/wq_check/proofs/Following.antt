@@ -1,19 +1,16 @@
 -- How a queue stands once an event came.
-use Rattle.wq_check.proofs.Common.{◌≡◌, ◌≢◌, ℕ, zero, suc, replicate, ◌+◌, ◌-◌, ◌<◌, ◌≤◌, ◌==◌, ◌↔◌, true, false, List, [], ◌∷◌, ◌++◌, length, drop}
-use Rattle.wq_check.proofs.Common.{get_or, slice_get, Some, None, refl, sym, ap, ◌∙◌, arith, inl, inr, length-append, drop-drop, slice_get_past}
-use Rattle.wq_check.proofs.Common.{false≢true, ne_eqb, eq-eqb, cases_eq, Layout, Event, Hold, Busy, Push, Back, Take, Close, Drain, Resume, Begin}
-use Rattle.wq_check.proofs.Common.{Chain, ChainBusy, Rest, number_count, accepted, begun, ended, IsRunning, Keeper, Home, Sender, Listed, Owner}
-use Rattle.wq_check.proofs.Common.{keeper, growing, slice_get_last, count_by_push, prefix_length, in_order, Idle}
-use Rattle.std.proofs.Common.{IsTrue}
-use Rattle.std.proofs.Common.{set}
-use Rattle.std.proofs.Common.{length-set}
+use Rattle.wq_check.proofs.Common.{◌≡◌, ◌≢◌, ℕ, zero, suc, replicate, ◌+◌, ◌-◌, ◌<◌, ◌≤◌, ◌↔◌, true, false, List, [], ◌∷◌, ◌++◌, length, drop, get_or}
+use Rattle.wq_check.proofs.Common.{slice_get, Some, None, refl, sym, ap, ◌∙◌, arith, inl, inr, length-append, drop-drop, slice_get_past, false≢true}
+use Rattle.wq_check.proofs.Common.{cases_eq, Layout, Event, Hold, Busy, Push, Back, Take, Close, Drain, Resume, Begin, Chain, ChainBusy, Rest}
+use Rattle.wq_check.proofs.Common.{number_count, accepted, begun, ended, IsRunning, Keeper, Home, Sender, Listed, Owner, keeper, growing}
+use Rattle.wq_check.proofs.Common.{slice_get_last, count_by_push, prefix_length, in_order, Idle}
+use Rattle.std.proofs.Common.{IsTrue, length-set, set}
 use Rattle.std.proofs.lemmas.List.{length-replicate, get_or-set_other, get_or-set_same, drop-append-le}
-use Rattle.std.proofs.lemmas.List.Sums.{fold_push}
-use Rattle.wq_words.specs.declared.event.Why.{Why}
 use Rattle.wq_words.specs.declared.event.Event.TheVariants.{End}
 use Rattle.wq_words.specs.History.{closed, shut, is_close, is_drain, is_resume, HasDrained}
 use Rattle.wq_words.specs.Legal.{IsAllowed}
 use Rattle.wq_words.specs.Keeper.{taken_over, keeper_after}
+use Rattle.wq_words.proofs.Keepers.{Gives, gives_back, gives_begin, gives_chain, gives_hold, gives_push, keeper_push}
 use Rattle.wq_words.proofs.Legal.{legal_nil, legal_push}
 use Rattle.wq_words.proofs.Closed.{closed_push_no, closed_push_yes, shut_quiet, shut_close, shut_drain, shut_resume, drained_stays}
 use Rattle.circular_buffer.specs.Buffer.{keep_last}
@@ -34,35 +31,6 @@ after_event c (Begin k) = record c { places = set c.places k Idle; waiting = dro
 after_event c (End k) = record c { running = None }
 after_event c (Chain k) = record c { places = set c.places k Waiting; waiting = c.waiting ++ k ∷ [] }
 after_event c _ = c
-
--- the keeper of each number after one event more
-keeper_push : (h : List Event) (e : Event) (k : ℕ) → keeper (h ++ e ∷ []) k ≡ keeper_after k (keeper h k) e
-keeper_push h e k = fold_push (keeper_after k) Home h e
-
--- the event is about k alone, and leaves it with y
-abbrev Gives : ℕ → Event → Keeper → Type 0
-Gives k e y = ((j : ℕ) (x : Keeper) → j ≢ k → keeper_after j x e ≡ x) × ((x : Keeper) → keeper_after k x e ≡ y)
-
-itself : (k : ℕ) → (k == k) ≡ true
-itself k = eq-eqb k k refl
-
-apart : (k j : ℕ) → j ≢ k → (k == j) ≡ false
-apart k j ne = ne_eqb k j (λ e. ne (sym e))
-
-gives_hold : (s k : ℕ) → Gives k (Hold s k) (Sender s)
-gives_hold s k = (λ j x ne. rw (apart k j ne) refl, λ x. rw (itself k) refl)
-
-gives_push : (s k : ℕ) → Gives k (Push s k) Listed
-gives_push s k = (λ j x ne. rw (apart k j ne) refl, λ x. rw (itself k) refl)
-
-gives_back : (s k : ℕ) (why : Why) → Gives k (Back s k why) Home
-gives_back s k why = (λ j x ne. rw (apart k j ne) refl, λ x. rw (itself k) refl)
-
-gives_begin : (k : ℕ) → Gives k (Begin k) Home
-gives_begin k = (λ j x ne. rw (apart k j ne) refl, λ x. rw (itself k) refl)
-
-gives_chain : (k : ℕ) → Gives k (Chain k) Owner
-gives_chain k = (λ j x ne. rw (apart k j ne) refl, λ x. rw (itself k) refl)
 
 -- the event neither closes nor drains nor resumes
 abbrev IsPhaseless : Event → Type 0

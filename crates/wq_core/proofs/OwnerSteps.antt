@@ -10,7 +10,8 @@ use Rattle.wq_core.proofs.Common.{item_place, done_place, head_place, closed_wor
 use Rattle.wq_core.proofs.Common.{with_item, with_done, happened, prefix_length, wakes_push_work, wakes_push_rest, head_word_of, AreChained, IsSound}
 use Rattle.std.proofs.Math.Nat.{add-mod-mod}
 use Rattle.wq_core.proofs.Chains.{chain_zero, chained_take, chained_begin, chained_walk_on, chained_walk_end, chained_chain, cursor_number}
-use Rattle.wq_core.proofs.Privates.{gives_begin, gives_chain, follow_give, follow_quiet, linked_quiet, linked_spares, seen_after}
+use Rattle.wq_words.proofs.Keepers.{gives_begin, gives_chain}
+use Rattle.wq_core.proofs.Privates.{follow_give, follow_quiet, linked_quiet, linked_spares, seen_after}
 use Rattle.wq_core.proofs.Writes.{head_of-item, done_of-item, chains_of-item, linked_of-item, done_of-head, items_of-head, chains_of-head, linked_of-head}
 use Rattle.wq_core.proofs.Writes.{head_of-done, items_of-done, chains_of-done, linked_of-done}
 use Rattle.wq_core.proofs.Heads.{head_of_closed, head_of_draining, head_word_unshut, quiet, head_word_quiet, rests_quiet, ended_quiet, cursor_swapped}

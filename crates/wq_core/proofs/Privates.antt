@@ -1,40 +1,9 @@
 -- What follows the keepers of the numbers: the item words, and what the senders keep in private.
-use Rattle.wq_core.proofs.Common.{TakesPushes, HasSeenCause, IsCause, cause_stays, subst, Closed, Draining, ◌≡◌, ◌≢◌, ℕ, ◌<◌, ◌==◌, Bool, true, false, List, []}
-use Rattle.wq_core.proofs.Common.{◌∷◌, ◌++◌, length, get_or, set, None, Some, Option, if◌then◌else◌, refl, sym, ap, ◌∙◌, arith, inl, inr, get_or-set_other}
-use Rattle.wq_core.proofs.Common.{get_or-set_same, fold_push, ne_eqb, eq-eqb, eqb-false, cases_eq, Why, Event, Hold, Push, Back, Begin, Chain, Keeper, Home}
-use Rattle.wq_core.proofs.Common.{Sender, Listed, Owner, keeper_after, keeper, Private, link_place, link_to, nothing_seen, other_than, unlinked}
-
-pub keeper_push : (h : List Event) (e : Event) (k : ℕ) → keeper (h ++ e ∷ []) k ≡ keeper_after k (keeper h k) e
-keeper_push h e k = fold_push (keeper_after k) Home h e
-
--- the event is about k alone
-abbrev pub Spares : ℕ → Event → Type 0
-Spares k e = (j : ℕ) (x : Keeper) → j ≢ k → keeper_after j x e ≡ x
-
--- the event is about k, and leaves it with y
-abbrev pub Gives : ℕ → Event → Keeper → Type 0
-Gives k e y = Spares k e × ((x : Keeper) → keeper_after k x e ≡ y)
-
-itself : (k : ℕ) → (k == k) ≡ true
-itself k = eq-eqb k k refl
-
-apart : (k j : ℕ) → j ≢ k → (k == j) ≡ false
-apart k j ne = ne_eqb k j (λ e. ne (sym e))
-
-pub gives_hold : (s k : ℕ) → Gives k (Hold s k) (Sender s)
-gives_hold s k = (λ j x ne. rw (apart k j ne) refl, λ x. rw (itself k) refl)
-
-pub gives_push : (s k : ℕ) → Gives k (Push s k) Listed
-gives_push s k = (λ j x ne. rw (apart k j ne) refl, λ x. rw (itself k) refl)
-
-pub gives_back : (s k : ℕ) (why : Why) → Gives k (Back s k why) Home
-gives_back s k why = (λ j x ne. rw (apart k j ne) refl, λ x. rw (itself k) refl)
-
-pub gives_begin : (k : ℕ) → Gives k (Begin k) Home
-gives_begin k = (λ j x ne. rw (apart k j ne) refl, λ x. rw (itself k) refl)
-
-pub gives_chain : (k : ℕ) → Gives k (Chain k) Owner
-gives_chain k = (λ j x ne. rw (apart k j ne) refl, λ x. rw (itself k) refl)
+use Rattle.wq_core.proofs.Common.{TakesPushes, HasSeenCause, IsCause, cause_stays, subst, Closed, Draining, ◌≡◌, ◌≢◌, ℕ, ◌<◌, ◌==◌, Bool, true, false}
+use Rattle.wq_core.proofs.Common.{List, [], ◌∷◌, ◌++◌, length, get_or, set, None, Some, Option, if◌then◌else◌, refl, sym, ap, ◌∙◌, arith, inl, inr}
+use Rattle.wq_core.proofs.Common.{get_or-set_other, get_or-set_same, eqb-false, cases_eq, Why, Event, Keeper, Sender, keeper_after, keeper, Private}
+use Rattle.wq_core.proofs.Common.{link_place, link_to, nothing_seen, other_than, unlinked}
+use Rattle.wq_words.proofs.Keepers.{Gives, Spares, keeper_push}
 
 -- at the place of each number the list has what f says of its keeper
 abbrev pub FollowKeepers : {X : Type 0} → (Keeper → X) → X → (ℕ → ℕ) → ℕ → List X → List Event → Type 0

@@ -5,7 +5,8 @@ use Rattle.wq_core.proofs.Common.{Back, number_count, Holds, listed_after, liste
 use Rattle.wq_core.proofs.Common.{link_place, item_place, head_place, link_word, link_to, Private, Machine, nothing_seen, head, link, item_word, private}
 use Rattle.wq_core.proofs.Common.{seen_word, with_head, with_link, with_item, with_private, happened, unlinked, head_word_of, IsSound}
 use Rattle.wq_core.proofs.Chains.{chained_set, chained_push}
-use Rattle.wq_core.proofs.Privates.{gives_hold, gives_push, gives_back, follow_give, follow_same, linked_spares, linked_give, keeps_unlinked, linked_link}
+use Rattle.wq_words.proofs.Keepers.{gives_hold, gives_push, gives_back}
+use Rattle.wq_core.proofs.Privates.{follow_give, follow_same, linked_spares, linked_give, keeps_unlinked, linked_link}
 use Rattle.wq_core.proofs.Privates.{linked_forget, none_seen, seen_after, seen_set}
 use Rattle.wq_core.proofs.Writes.{head_of-item, done_of-item, chains_of-item, linked_of-item, done_of-head, items_of-head, chains_of-head, linked_of-head}
 use Rattle.wq_core.proofs.Writes.{head_of-link, done_of-link, items_of-link}

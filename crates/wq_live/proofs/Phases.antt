@@ -1,12 +1,12 @@
 -- Whether the queue takes pushes, by the events of its owner.
-use Rattle.wq_live.proofs.Common.{◌≡◌, ℕ, Bool, true, false, cond, ◌==◌, if◌then◌else◌, List, [], ◌∷◌, ◌++◌, sym, refl, ap, ◌∙◌, arith, append_assoc}
-use Rattle.wq_live.proofs.Common.{count_by, append-nil, sum_by-cons, Event, is_close, IsClosed, IsShut, IsDraining, owner_seat, seat_of, own, Grows}
+use Rattle.wq_live.proofs.Common.{◌≡◌, ℕ, Bool, true, false, cond, if◌then◌else◌, List, [], ◌∷◌, ◌++◌, sym, refl, ap, ◌∙◌, arith, append_assoc}
+use Rattle.wq_live.proofs.Common.{count_by, append-nil, sum_by-cons, Event, is_close, IsClosed, IsShut, IsDraining, owner_seat, own, Grows}
 use Rattle.wq_live.proofs.Common.{own-append, shut_same, IsClosed_from_closed, open_from_closed, closed_shuts, shut_from_IsShut, IsShut_from_shut}
 use Rattle.wq_live.proofs.Common.{open_from_shut, Open, phase}
 use Rattle.std.proofs.Common.{nat_lt}
 use Rattle.wq_words.specs.declared.event.Event.TheVariants as event
 use Rattle.wq_words.specs.History.{closed, shut, is_drain, is_resume}
-use Rattle.wq_words.proofs.Seen.{closed_count}
+use Rattle.wq_words.proofs.Seen.{closed_count, own-own}
 use Rattle.wq_words.proofs.Closed.{closed_from_IsClosed, closed_from_open, closed_push_no, closed_push_yes}
 use Rattle.wq_words.proofs.Closed.{shut_from_open, shut_quiet, shut_drain, shut_resume}
 use Rattle.wq_live.specs.declared.owner_seat.Phase.TheVariants.{Draining, Closed}
@@ -42,16 +42,6 @@ module _ (h : List Event) where
       go false false e f = absurd (cc (is, phase_at false false e f))
 
 -- as far as the owner's events say
-own-own : (h : List Event) → own owner_seat (own owner_seat h) ≡ own owner_seat h
-own-own [] = refl
-own-own (e ∷ es) = go (seat_of e == owner_seat) refl (own-own es)
-  where
-    go : (b : Bool) → (seat_of e == owner_seat) ≡ b → own owner_seat (own owner_seat es) ≡ own owner_seat es
-        → own owner_seat (cond b (e ∷ own owner_seat es) (own owner_seat es)) ≡ cond b (e ∷ own owner_seat es) (own owner_seat es)
-    go true is same =
-        ap (λ (b : Bool). cond b (e ∷ own owner_seat (own owner_seat es)) (own owner_seat (own owner_seat es))) is ∙ ap (λ (xs : List Event). e ∷ xs) same
-    go false is same = same
-
 closed_alike : (v w : List Event) → own owner_seat w ≡ own owner_seat v → closed w ≡ closed v
 closed_alike v w is = ap (nat_lt 0) (closed_count v w is)
 
@@ -65,7 +55,7 @@ shut_alike v w is = go (shut v) refl
 module _ (xs : List Event) (n : ℕ) (v w : List Event) (g : Grows owner_seat xs n v w) where
   grown : own owner_seat w ≡ own owner_seat (v ++ xs)
   grown = grows_own owner_seat xs n v w g ∙ sym (own-append owner_seat v xs
-      ∙ ap (λ (x : List Event). own owner_seat v ++ x) (ap (own owner_seat) (sym g.mine) ∙ (own-own g.new ∙ g.mine)))
+      ∙ ap (λ (x : List Event). own owner_seat v ++ x) (ap (own owner_seat) (sym g.mine) ∙ (own-own owner_seat g.new ∙ g.mine)))
 
   pub closed_on : closed w ≡ closed (v ++ xs)
   closed_on = closed_alike (v ++ xs) w grown

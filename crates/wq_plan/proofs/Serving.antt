@@ -8,9 +8,10 @@ use Rattle.wq_plan.proofs.Common.{chain_busy_own, IsSameWorker, prefix_self, pre
 use Rattle.wq_plan.specs.Race.{QueuesNothing}
 use Rattle.wq_worker.specs.declared.ran.Ran.{Ran}
 use Rattle.wq_worker.specs.declared.ran.Ran.TheVariants.{Item, Barrier, Stop, Nothing, Owing}
-use Rattle.wq_worker.specs.Step.{stays, StartsBy, item, other, owed, Ends, ends, OwesBy, owes, Runs}
-use Rattle.wq_worker.specs.Rows.{Row, none, more, IsExecution, IsNotStop, Serves, Closes, was_closed, closes}
-use Rattle.wq_worker.proofs.Owned.{filter-filter, owner_of_both, quiet_stays}
+use Rattle.wq_worker.specs.Step.{stays, StartsBy, item, other, owed, EndsBy, ends, OwesBy, owes, Runs}
+use Rattle.wq_worker.specs.Rows.{RowBy, none, more, IsExecution, IsNotStop, Serves, Closes, was_closed, closes}
+use Rattle.wq_words.proofs.Seen.{filter-filter}
+use Rattle.wq_worker.proofs.Owned.{owner_of_both, quiet_stays}
 use Rattle.wq_words.proofs.Running.{runs_from_running as runs_some}
 use Rattle.wq_worker.specs.Destroy.{Destroys, LeavesUnfinished}
 use Rattle.wq_plan.proofs.Still.{Still, still_on, still_taking, still_one, still_begun}
@@ -105,7 +106,7 @@ module _ (may : Idle → ℕ → List ℕ → Idle → Type 0) (asks_nothing : (
   started a k f v es not idle (other rests ge is_none same is) = record { none = is_none; still = still_begun a.number k not a.seen es is }
   started a k f v es not idle (owed runs left same is) = absurd (idle (runs_some a.seen k runs))
 
-  ends_plain : (k : ℕ) (a b : WorkerState Idle) → a.number ≢ owner_seat → ¬ IsRunning a.seen → Ends may a k b → Plain 0 a b
+  ends_plain : (k : ℕ) (a b : WorkerState Idle) → a.number ≢ owner_seat → ¬ IsRunning a.seen → EndsBy may stays a k b → Plain 0 a b
   ends_plain k a b not idle (ends f es fs st told moved rests) =
       let s = started a k f b.work es not idle st in
       let no_follow : fs ≡ [] = subst (λ (ks : List ℕ). Follows a.layout.items a.number (shut a.seen) ks fs) s.none told in
@@ -134,17 +135,17 @@ module _ (may : Idle → ℕ → List ℕ → Idle → Type 0) (asks_nothing : (
   runs_plain Nothing a b not idle t = nothing_plain a b not idle t.3
   runs_plain (Owing k) a b not idle t = absurd (owes_none k a b not idle t)
 
-  pub row_plain : (P : Ran → Type 0) (n : ℕ) (a b : WorkerState Idle) → a.number ≢ owner_seat → ¬ IsRunning a.seen → Row may P n a b → Plain 0 a b
+  pub row_plain : (P : Ran → Type 0) (n : ℕ) (a b : WorkerState Idle) → a.number ≢ owner_seat → ¬ IsRunning a.seen → RowBy may stays P n a b → Plain 0 a b
   row_plain P n a b not idle (none c) = plain_still c idle
   row_plain P n a b not idle (more m r c d e row passes run) =
       let before = row_plain P m c d not idle row in
       plain_on 0 0 c d e before (runs_plain r d e (subst (λ (s : ℕ). s ≢ owner_seat) (sym before.same.number_is) not) before.idle run)
 
-  legal_ends : (k : ℕ) (a b : WorkerState Idle) → Ends may a k b → IsLegal b.layout b.seen
+  legal_ends : (k : ℕ) (a b : WorkerState Idle) → EndsBy may stays a k b → IsLegal b.layout b.seen
   legal_ends k a b (ends f es fs st told moved rests) = moved.legal
 
   -- what ended last is what this execution was of
-  ended_last : (k : ℕ) (a b : WorkerState Idle) → Ends may a k b → (before : List ℕ) × (ended b.seen ≡ before ++ k ∷ [])
+  ended_last : (k : ℕ) (a b : WorkerState Idle) → EndsBy may stays a k b → (before : List ℕ) × (ended b.seen ≡ before ++ k ∷ [])
   ended_last k a b (ends f es fs st told moved rests) =
       let all = es ++ (fs ++ End k ∷ []) in let front = ended es ++ ended fs in
       let is : ended all ≡ front ++ k ∷ [] = filter_map-append ended_by es (fs ++ End k ∷ [])

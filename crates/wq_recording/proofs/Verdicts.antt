@@ -1,16 +1,13 @@
 -- A text has one verdict at most.
-use Rattle.wq_recording.proofs.Common.{◌≡◌, ◌≢◌, ℕ, ◌+◌, List, [], ◌∷◌, ◌++◌, length, Option, Some, None, Result, Ok, Err, refl, sym, ap, subst, ◌∙◌, inl, inr}
-use Rattle.wq_recording.proofs.Common.{flat_map, option_to_list, append_assoc, append-nil, Layout, Cause, Kind, ScriptError, Stage, Lines, LinesLead, layout_at, end_fault}
-use Rattle.wq_recording.proofs.Common.{Stop, Rules, Verdict, IsLineAt, IsLegalText, StopsWith, IsRefusedText, HasVerdict, HasFaultAt}
+use Rattle.wq_recording.proofs.Common.{◌≡◌, ◌≢◌, ℕ, ◌+◌, List, [], ◌∷◌, ◌++◌, length, Option, Some, None, Result, Ok, Err, refl, sym, ap, subst, ◌∙◌}
+use Rattle.wq_recording.proofs.Common.{inl, inr, flat_map, option_to_list, append_assoc, append-nil, Layout, Cause, Kind, ScriptError, Stage, Lines}
+use Rattle.wq_recording.proofs.Common.{LinesLead, layout_at, Stop, Rules, Verdict, IsLineAt, IsLegalText, StopsWith, IsRefusedText, HasVerdict}
+use Rattle.wq_recording.proofs.Common.{HasFaultAt}
 use Rattle.wq_recording.proofs.Leading.{one_value, same_lead, LeadsThrough, through, stays_through}
 use Rattle.wq_recording.proofs.Places.{Places, places}
 use Rattle.wq_text.specs.declared.header.Stage.TheVariants as stage
+use Rattle.wq_text.proofs.Outcomes.{whole_or_not, some_left, same_error}
 use Rattle.std.proofs.lemmas.Grind.{flat_map-append}
-
--- a header that is whole has no fault
-whole_or_not : (s : Stage) (layout : Layout) (k : Kind) → layout_at s ≡ Some layout → end_fault s ≡ Some k → ⊥
-whole_or_not stage.Version layout k whole fault = cc
-whole_or_not _ layout k whole fault = cc
 
 same_some : {B : Type 0} {b c : B} → Some b ≡ Some c → b ≡ c
 same_some e = cc
@@ -20,13 +17,6 @@ same_err e = cc
 
 clash : {E B : Type 0} {b : B} {e : E} → ◌≡◌ {A = Result B E} (Ok b) (Err e) → ⊥
 clash e = cc
-
-some_behind : (lines : List (List ℕ)) (line : List ℕ) (rest : List (List ℕ)) → lines ++ line ∷ rest ≡ [] → ⊥
-some_behind [] line rest e = cc
-some_behind (first ∷ lines) line rest e = cc
-
-same_error : (e f : ScriptError) → e.line ≡ f.line → e.kind ≡ f.kind → e ≡ f
-same_error e f p q = λ i. record { line = p i; kind = q i }
 
 same_stop : (x y : Stop) → x.line ≡ y.line → x.cause ≡ y.cause → x ≡ y
 same_stop x y p q = λ i. record { line = p i; cause = q i }
@@ -124,15 +114,15 @@ module _ {A E : Type 0} (gives : Lines A) (rules : Rules A E) (fit : AreFit give
       by_place (inl s) =
           let same = one_lead x.reached y.reached x.asked y.asked x.at.before y.at.before s.before x.at.leads y.at.leads in
           (same_some (sym x.whole ∙ ap layout_at same.0 ∙ y.whole), x.events_are ∙ ap (flat_map rules.tells) same.1 ∙ sym y.events_are)
-      by_place (inr (inl s)) = absurd (some_behind s.more [] [] (sym s.after))
-      by_place (inr (inr s)) = absurd (some_behind s.more [] [] (sym s.after))
+      by_place (inr (inl s)) = absurd (some_left s.more [] [] (sym s.after))
+      by_place (inr (inr s)) = absurd (some_left s.more [] [] (sym s.after))
 
   legal_stops : (l m : Layout) (h k : List E) (stop : Stop) → IsLegalText gives rules text l h → StopsWith gives rules text m k stop → ⊥
   legal_stops l m h k stop x y = by_place (cut x.number stop.line x.reached y.reached x.asked y.asked [] y.line [] y.behind x.at y.at)
     where
       by_place : Places x.at.before y.at.before [] y.line [] y.behind → ⊥
       by_place (inl s) = y.ended (sym s.after)
-      by_place (inr (inl s)) = some_behind s.more y.line y.behind (sym s.after)
+      by_place (inr (inl s)) = some_left s.more y.line y.behind (sym s.after)
       by_place (inr (inr s)) =
           stop_passed m k stop y s.more x.reached x.asked [] (led x.reached x.asked x.at.before _ s.before x.at.leads) (legal_of_text l h x)
 
@@ -146,9 +136,9 @@ module _ {A E : Type 0} (gives : Lines A) (rules : Rules A E) (fit : AreFit give
           let Q : List ℕ → Type 0 = λ line. HasFaultAt gives rules text x.reached line y.behind e.kind in
           let R : List (List ℕ) → Type 0 = λ ps. HasFaultAt gives rules text x.reached [] ps e.kind in
           whole_or_not x.reached l e.kind x.whole (subst R (sym s.after) (subst Q (sym s.here) (subst P (sym same.0) y.fault)))
-      by_place (inr (inl s)) = some_behind s.more y.line y.behind (sym s.after)
+      by_place (inr (inl s)) = some_left s.more y.line y.behind (sym s.after)
       by_place (inr (inr s)) =
-          fault_passed e y s.more x.reached x.asked (λ none. some_behind s.more [] [] (sym s.after ∙ none))
+          fault_passed e y s.more x.reached x.asked (λ none. some_left s.more [] [] (sym s.after ∙ none))
           (led x.reached x.asked x.at.before _ s.before x.at.leads)
 
   -- of one line the first event that is not legal is one
@@ -220,7 +210,7 @@ module _ {A E : Type 0} (gives : Lines A) (rules : Rules A E) (fit : AreFit give
       by_place (inr (inl s)) =
           stop_passed l h stop x s.more y.reached y.asked [] (led y.reached y.asked y.at.before _ s.before y.at.leads) (legal_of_refused e y)
       by_place (inr (inr s)) =
-          fault_passed e y s.more x.reached x.asked (λ none. some_behind s.more x.line x.behind (sym s.after ∙ none))
+          fault_passed e y s.more x.reached x.asked (λ none. some_left s.more x.line x.behind (sym s.after ∙ none))
           (led x.reached x.asked x.at.before _ s.before x.at.leads)
 
   fault_once : (s : Stage) (line : List ℕ) (behind : List (List ℕ)) (k j : Kind) → HasFaultAt gives rules text s line behind k
@@ -240,10 +230,10 @@ module _ {A E : Type 0} (gives : Lines A) (rules : Rules A E) (fit : AreFit give
           let too = subst R (sym s.after) (subst Q (sym s.here) (subst P (sym same.0) y.fault)) in
           same_error e f (x.at.number ∙ ap (λ ls. 1 + length ls) s.before ∙ sym y.at.number) (fault_once x.reached x.line x.behind e.kind f.kind x.fault too)
       by_place (inr (inl s)) =
-          absurd (fault_passed e x s.more y.reached y.asked (λ none. some_behind s.more y.line y.behind (sym s.after ∙ none))
+          absurd (fault_passed e x s.more y.reached y.asked (λ none. some_left s.more y.line y.behind (sym s.after ∙ none))
           (led y.reached y.asked y.at.before _ s.before y.at.leads))
       by_place (inr (inr s)) =
-          absurd (fault_passed f y s.more x.reached x.asked (λ none. some_behind s.more x.line x.behind (sym s.after ∙ none))
+          absurd (fault_passed f y s.more x.reached x.asked (λ none. some_left s.more x.line x.behind (sym s.after ∙ none))
           (led x.reached x.asked x.at.before _ s.before x.at.leads))
 
   found_once : (l m : Layout) (h k : List E) (o p : Option Stop)

@@ -10,7 +10,8 @@ use Rattle.wq_words.proofs.Order.{in_order}
 use Rattle.wq_worker.specs.declared.ran.Ran.{Ran}
 use Rattle.wq_worker.specs.declared.drained.Drained.{Drained}
 use Rattle.wq_worker.specs.declared.drained.Drained.TheVariants.{Empty, TooLong}
-use Rattle.wq_worker.specs.Rows.{Row, none, more, Shuts, was_shut, drains, Resumes, stays_closed, reopens, Drains}
+use Rattle.wq_worker.specs.Step.{stays}
+use Rattle.wq_worker.specs.Rows.{RowBy, none, more, Shuts, was_shut, drains, Resumes, stays_closed, reopens, Drains}
 use Rattle.wq_worker.proofs.Seats.{adds_none}
 use Rattle.wq_worker.proofs.Step.{moves_on}
 use Rattle.wq_meaning.proofs.Drains.{executions_shut, nothing_executed, begun_anew, begun_before, begun_shut, begun_few, begun_begun, begun_ended}
@@ -55,7 +56,7 @@ ends_as a b legal all (reopens draining moves work left) =
     (Resume ∷ [], record { moves = moves; work = work; left = left }, sym (ended_now a.seen (does_drain a.seen draining).1 all))
 
 -- what a drain without an execution ran
-no_steps : (P : Ran → Type 0) (n : ℕ) (a b : WorkerState Lists) → n ≡ 0 → Row may_be P n a b → a ≡ b
+no_steps : (P : Ran → Type 0) (n : ℕ) (a b : WorkerState Lists) → n ≡ 0 → RowBy may_be stays P n a b → a ≡ b
 no_steps P n a b is (none c) = refl
 no_steps P n a b is (more m r c d e row passes runs) = absurd (omega (arith, is))
 

@@ -10,7 +10,7 @@ use Rattle.wq_script.proofs.Common.{Quiet, IsWorkerIdle, Executed, ExecutesOne, 
 use Rattle.wq_worker.specs.declared.ran.Ran.TheVariants.{Nothing}
 use Rattle.wq_worker.proofs.Seats.{adds_none}
 use Rattle.wq_worker.proofs.Step.{moves_on}
-use Rattle.wq_worker.specs.Step.{stays, StartsBy, item, other, owed, Ends, ends, OwesBy, owes, Runs}
+use Rattle.wq_worker.specs.Step.{stays, StartsBy, item, other, owed, EndsBy, ends, OwesBy, owes, Runs}
 use Rattle.wq_meaning.proofs.Executions.{ended_execution, row_goes_on}
 use Rattle.wq_script.proofs.Executed.{exact, executed, nothing_next, taking_is}
 
@@ -75,7 +75,7 @@ taken_ended : (h : List Event) → length (ended (h ++ taking h)) ≡ length (en
 taken_ended h = ap (λ (x : List Event). length (ended (h ++ x))) (taking_is h)
     ∙ ap length (take_only (nat_le (taken h) (length (begun h)) && not (shut h)) h).1
 
-pub ends_executes : (a b : WorkerState Lists) (k : ℕ) → Ends may_be a k b → ExecutesOne a b (Some k)
+pub ends_executes : (a b : WorkerState Lists) (k : ℕ) → EndsBy may_be stays a k b → ExecutesOne a b (Some k)
 ends_executes a b k (ends f es fs starts told moves idle) = record {
   stepped = record { events = es ++ (fs ++ End k ∷ []); others = 0; moves = moves; lists = starts_lists a k f b.work es starts };
   quiet = starts_so a b k f es fs told moves idle starts;

@@ -16,7 +16,7 @@ use Rattle.wq_core.specs.Sound.{AreChained, IsChain}
 use Rattle.wq_words.proofs.Times.{times, times-reverse_aux, times-first}
 use Rattle.wq_words.specs.Listed.{listed}
 use Rattle.wq_core.proofs.KeptSound.{away_from_sender}
-use Rattle.wq_core.proofs.Privates.{keeper_push, Gives}
+use Rattle.wq_words.proofs.Keepers.{keeper_push, Gives}
 use Rattle.wq_words.proofs.Accepted.{queue_once}
 use Rattle.wq_table.specs.Slots.{IsSenders}
 

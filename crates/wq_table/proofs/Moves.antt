@@ -16,7 +16,7 @@ use Rattle.wq_core.specs.Machine.{with_head, with_item, with_private, with_done,
 use Rattle.wq_core.specs.Machine.{happened}
 use Rattle.wq_words.proofs.Times.{times}
 use Rattle.wq_core.proofs.KeptSound.{home_from_clear, sender_from_holds}
-use Rattle.wq_core.proofs.Privates.{keeper_push, gives_hold, gives_push, gives_back, gives_begin, gives_chain}
+use Rattle.wq_words.proofs.Keepers.{keeper_push, gives_hold, gives_push, gives_back, gives_begin, gives_chain}
 use Rattle.wq_core.proofs.OwnerSteps.{first_of_batch}
 use Rattle.wq_table.specs.Slots.{HomesFit, IsSenders}
 use Rattle.wq_core.specs.declared.step.Step.TheVariants as step

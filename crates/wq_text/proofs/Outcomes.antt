@@ -5,11 +5,11 @@ use Rattle.wq_text.proofs.Common.{HasOneOutcome}
 use Rattle.wq_text.specs.declared.header.Stage.TheVariants as stage
 
 -- a header that is whole has no fault
-whole_or_not : (s : Stage) (layout : Layout) (k : Kind) → layout_at s ≡ Some layout → end_fault s ≡ Some k → ⊥
+pub whole_or_not : (s : Stage) (layout : Layout) (k : Kind) → layout_at s ≡ Some layout → end_fault s ≡ Some k → ⊥
 whole_or_not stage.Version layout k whole fault = cc
 whole_or_not _ layout k whole fault = cc
 
-some_left : (lines : List (List ℕ)) (line : List ℕ) (behind : List (List ℕ)) → lines ++ line ∷ behind ≡ [] → ⊥
+pub some_left : (lines : List (List ℕ)) (line : List ℕ) (behind : List (List ℕ)) → lines ++ line ∷ behind ≡ [] → ⊥
 some_left [] line behind e = cc
 some_left (first ∷ lines) line behind e = cc
 
@@ -19,7 +19,7 @@ heads e = cc
 tails : {a b : List ℕ} {xs ys : List (List ℕ)} → a ∷ xs ≡ b ∷ ys → xs ≡ ys
 tails e = cc
 
-same_error : (e f : ScriptError) → e.line ≡ f.line → e.kind ≡ f.kind → e ≡ f
+pub same_error : (e f : ScriptError) → e.line ≡ f.line → e.kind ≡ f.kind → e ≡ f
 same_error e f p q = λ i. record { line = p i; kind = q i }
 
 module _ {A : Type 0} (gives : Lines A) where

@@ -2,11 +2,45 @@
 use Rattle.wq_words.proofs.Common.{◌≡◌, ℕ, ◌+◌, ◌<◌, ◌≤◌, ◌==◌, Bool, true, false, cond, if◌then◌else◌, ◌&&◌, add-zero, List, [], ◌∷◌, ◌++◌, refl, ap, arith}
 use Rattle.wq_words.proofs.Common.{count_by, sum_by-append, eqb-true, eq-eqb, IsPrefix, nat_tests, Layout, Event, Hold, Push, Back, Take, Close, Begin, Chain}
 use Rattle.wq_words.proofs.Common.{accepted, begun, sets_pending, clears_pending, starts_hold, stops_hold, MayFollow, IsLegal, Keeper, Home, Sender, Listed}
-use Rattle.wq_words.proofs.Common.{Owner, taken_over, keeper, Drain}
+use Rattle.wq_words.proofs.Common.{Owner, taken_over, keeper, keeper_after, Drain, fold_push, ne_eqb, sym, ◌≢◌}
+use Rattle.wq_words.specs.declared.event.Why.{Why}
 use Rattle.wq_words.proofs.Prefixes.{prefix_step}
 use Rattle.wq_words.proofs.Order.{IsInOrder, in_order}
 use Rattle.wq_words.proofs.Growing.{growing, count_by_push}
 use Rattle.wq_words.proofs.Legal.{legal_induction}
+
+-- the keeper of each number after one event more
+pub keeper_push : (h : List Event) (e : Event) (k : ℕ) → keeper (h ++ e ∷ []) k ≡ keeper_after k (keeper h k) e
+keeper_push h e k = fold_push (keeper_after k) Home h e
+
+-- the event is about k alone
+abbrev pub Spares : ℕ → Event → Type 0
+Spares k e = (j : ℕ) (x : Keeper) → j ≢ k → keeper_after j x e ≡ x
+
+-- the event is about k, and leaves it with y
+abbrev pub Gives : ℕ → Event → Keeper → Type 0
+Gives k e y = Spares k e × ((x : Keeper) → keeper_after k x e ≡ y)
+
+itself : (k : ℕ) → (k == k) ≡ true
+itself k = eq-eqb k k refl
+
+apart : (k j : ℕ) → j ≢ k → (k == j) ≡ false
+apart k j ne = ne_eqb k j (λ e. ne (sym e))
+
+pub gives_hold : (s k : ℕ) → Gives k (Hold s k) (Sender s)
+gives_hold s k = (λ j x ne. rw (apart k j ne) refl, λ x. rw (itself k) refl)
+
+pub gives_push : (s k : ℕ) → Gives k (Push s k) Listed
+gives_push s k = (λ j x ne. rw (apart k j ne) refl, λ x. rw (itself k) refl)
+
+pub gives_back : (s k : ℕ) (why : Why) → Gives k (Back s k why) Home
+gives_back s k why = (λ j x ne. rw (apart k j ne) refl, λ x. rw (itself k) refl)
+
+pub gives_begin : (k : ℕ) → Gives k (Begin k) Home
+gives_begin k = (λ j x ne. rw (apart k j ne) refl, λ x. rw (itself k) refl)
+
+pub gives_chain : (k : ℕ) → Gives k (Chain k) Owner
+gives_chain k = (λ j x ne. rw (apart k j ne) refl, λ x. rw (itself k) refl)
 
 -- one where x keeps the number away from home, for sender s, or on the list or with the owner
 abbrev pub pending_bit : Keeper → ℕ

@@ -5,6 +5,20 @@ use Rattle.wq_words.proofs.Common.{IsPrefix, Event, Hold, Push, Back, Close, Beg
 use Rattle.wq_words.proofs.Common.{ended_by, begun, ended, IsRunning, owner_seat, seat_of, own, others, is_ours, Grows}
 use Rattle.wq_words.proofs.Prefixes.{left_nil, nothing_more}
 
+module _ {A : Type 0} (p q : A → Bool) (only : (x : A) → q x ≡ false → p x ≡ false) where
+  keep_step : (b : Bool) (x : A) (ys xs : List A) → (b ≡ false → p x ≡ false) → filter p ys ≡ filter p xs
+      → filter p (cond b (x ∷ ys) ys) ≡ cond (p x) (x ∷ filter p xs) (filter p xs)
+  keep_step true x ys xs unless go = ap (λ (zs : List A). cond (p x) (x ∷ zs) zs) go
+  keep_step false x ys xs unless go = go ∙ sym (ap (λ (b : Bool). cond b (x ∷ filter p xs) (filter p xs)) (unless refl))
+
+  -- what the second test passes over the first does too
+  pub filter-filter : (xs : List A) → filter p (filter q xs) ≡ filter p xs
+  filter-filter [] = refl
+  filter-filter (x ∷ xs) = keep_step (q x) x (filter q xs) xs (only x) (filter-filter xs)
+
+pub own-own : (c : ℕ) (h : List Event) → own c (own c h) ≡ own c h
+own-own c h = filter-filter (λ e. seat_of e == c) (λ e. seat_of e == c) (λ e none. none) h
+
 pub own-append : (c : ℕ) (a b : List Event) → own c (a ++ b) ≡ own c a ++ own c b
 own-append c a b = filter-append (λ e. eqb (seat_of e) c) a b
 

@@ -1,26 +1,11 @@
 -- What has begun and ended, and whether the queue is shut, changes by the owner's events alone.
-use Rattle.wq_worker.proofs.Common.{◌≡◌, ℕ, ◌+◌, Bool, true, false, cond, ◌==◌, List, [], ◌∷◌, ◌++◌, sym, refl, ap, ◌∙◌, arith, or_parts, count_by}
-use Rattle.wq_worker.proofs.Common.{append-nil, filter_map-append, Event, begun_by, begun, ended, running, owner_seat, seat_of, own, Grows}
-use Rattle.wq_worker.proofs.Common.{count_by-append, is_ours, Adds, is_turn}
-use Rattle.std.specs.Prelude.{filter}
+use Rattle.wq_worker.proofs.Common.{◌≡◌, ℕ, ◌+◌, false, ◌==◌, List, [], ◌++◌, sym, refl, ap, ◌∙◌, arith, or_parts, count_by, append-nil}
+use Rattle.wq_worker.proofs.Common.{filter_map-append, Event, begun_by, begun, ended, running, owner_seat, seat_of, own, Grows, count_by-append}
+use Rattle.wq_worker.proofs.Common.{is_ours, Adds, is_turn}
 use Rattle.wq_words.specs.History.{ended_by, is_close, is_drain}
-use Rattle.wq_words.proofs.Seen.{begun_same, ended_same, closed_count, count_own, count_same}
+use Rattle.wq_words.proofs.Seen.{filter-filter, own-own, begun_same, ended_same, closed_count, count_own, count_same}
 use Rattle.wq_live.proofs.Owned.{begun_on, ended_on, closes_on}
 use Rattle.wq_worker.proofs.Phase.{turns_own, drains_own, SamePhase, drains_on, phase_grown}
-
-module _ {A : Type 0} (p q : A → Bool) (only : (x : A) → q x ≡ false → p x ≡ false) where
-  keep_step : (b : Bool) (x : A) (ys xs : List A) → (b ≡ false → p x ≡ false) → filter p ys ≡ filter p xs
-      → filter p (cond b (x ∷ ys) ys) ≡ cond (p x) (x ∷ filter p xs) (filter p xs)
-  keep_step true x ys xs unless go = ap (λ (zs : List A). cond (p x) (x ∷ zs) zs) go
-  keep_step false x ys xs unless go = go ∙ sym (ap (λ (b : Bool). cond b (x ∷ filter p xs) (filter p xs)) (unless refl))
-
-  -- what the second test passes over the first does too
-  pub filter-filter : (xs : List A) → filter p (filter q xs) ≡ filter p xs
-  filter-filter [] = refl
-  filter-filter (x ∷ xs) = keep_step (q x) x (filter q xs) xs (only x) (filter-filter xs)
-
-own-own : (h : List Event) → own owner_seat (own owner_seat h) ≡ own owner_seat h
-own-own h = filter-filter (λ e. seat_of e == owner_seat) (λ e. seat_of e == owner_seat) (λ e none. none) h
 
 -- from v to w the owner's events among these were added
 pub record OwnerAdds (es v w : List Event) : Type 0 where
@@ -58,10 +43,10 @@ pub owner_of_both : (s : ℕ) (es : List Event) (n : ℕ) (v w : List Event) →
 owner_of_both s es n v w a =
     let mine = own owner_seat es in let g = owner_grown s es n v w a in
     record {
-      begun_is = begun_on mine 0 v w g ∙ ap (λ (z : List ℕ). begun v ++ z) (begun_same es mine (own-own es));
-      ended_is = ended_on mine 0 v w g ∙ ap (λ (z : List ℕ). ended v ++ z) (ended_same es mine (own-own es));
-      closes = omega (arith, closes_on mine 0 v w g, closed_count es mine (own-own es));
-      drains = omega (arith, drains_on mine 0 v w g, count_same is_drain owner_seat drains_own es mine (own-own es));
+      begun_is = begun_on mine 0 v w g ∙ ap (λ (z : List ℕ). begun v ++ z) (begun_same es mine (own-own owner_seat es));
+      ended_is = ended_on mine 0 v w g ∙ ap (λ (z : List ℕ). ended v ++ z) (ended_same es mine (own-own owner_seat es));
+      closes = omega (arith, closes_on mine 0 v w g, closed_count es mine (own-own owner_seat es));
+      drains = omega (arith, drains_on mine 0 v w g, count_same is_drain owner_seat drains_own es mine (own-own owner_seat es));
       phase = λ none. phase_grown mine 0 v w g (sym (count_own is_turn owner_seat turns_own es) ∙ none);
     }
 

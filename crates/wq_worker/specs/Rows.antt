@@ -108,9 +108,6 @@ module _ {W : Type 0} (may : W → ℕ → List ℕ → W → Type 0) (gives : W
 
 -- where nothing is given back to the work
 module _ {W : Type 0} (may : W → ℕ → List ℕ → W → Type 0) where
-  abbrev pub Row : (Ran → Type 0) → ℕ → WorkerState W → WorkerState W → Type 0
-  Row = RowBy may stays
-
   abbrev pub RunsSome : ℕ → ℕ → WorkerState W → WorkerState W → Type 0
   RunsSome = RunsSomeBy may stays
 

@@ -57,9 +57,6 @@ module _ {W : Type 0} (may : W → ℕ → List ℕ → W → Type 0) (gives : W
 
 -- where nothing is given back to the work
 module _ {W : Type 0} (may : W → ℕ → List ℕ → W → Type 0) where
-  abbrev pub Ends : WorkerState W → ℕ → WorkerState W → Type 0
-  Ends = EndsBy may stays
-
   abbrev pub Runs : Ran → WorkerState W → WorkerState W → Type 0
   Runs = RunsBy may stays
 

@@ -1,11 +1,23 @@
-use Rattle.std.proofs.Common.{◌-◌, ◌≤◌, ◌||◌, length, sym, subst, nat_lt, rules}
+use Rattle.std.proofs.Common.{◌≡◌, ◌-◌, ◌≤◌, ◌||◌, OnSome, length, take, sym, subst, nat_lt, rules}
 use Rattle.std.specs.Io.BufRead.{FillKeeps}
 use Rattle.std.proofs.BufReadLemmas.{Consumes_shown}
 use Rattle.std.specs.Io.{StartsWith, StopsAt, appended_bytes}
-use Rattle.std.specs.Io.KnownBytes.{Consumes}
+use Rattle.std.specs.Io.KnownBytes.{Consumes, IsAtEnd}
 use Rattle.wq_recording.specs.Lines.{EndsOrGoesOn}
 use Rattle.wq_recording.proofs.LineBytes.{part_room, part_stops, part_appends, part_bytes, part_read}
+use Rattle.wq_recording.proofs.lines.append_part.Given.{Over}
 use Rattle.wq_recording.proofs.lines.append_part.Goals as goal
+
+-- the bytes that were shown are consumed, and where none was the reader is at its end
+consumed : (g : Over) (c : goal.After-consume g)
+    → Consumes (g.B.Read.remaining c.args.reader.now) (g.B.Read.remaining c.consume.new.self) (take c.part_len-count.result c.in-Ok.bytes.now)
+    × (length c.in-Ok.bytes.now ≡ 0 → OnSome (g.B.Read.remaining c.args.reader.now) (IsAtEnd (g.B.Read.remaining c.consume.new.self)))
+consumed g c =
+    let count = c.part_len-count in
+    let rested = c.fill_buf.follows.lender-at-none in
+    let filled = subst (FillKeeps _ (g.B.Read.remaining rested) (g.B.BufRead.consumable_len rested)) c.in-Ok.is c.fill_buf.follows.holds-at-none in
+    Consumes_shown _ _ _ _ c.in-Ok.bytes.now count.result count.ensures.bound c.in-Ok.ensures.front c.in-Ok.ensures.end filled.0 filled.1
+    c.consume.ensures.bytes
 
 pub returns-clause-room : goal.returns-clause-room
 returns-clause-room g c =
@@ -36,10 +48,7 @@ returns-clause-bytes g c =
     let bytes = c.in-Ok.bytes.now in
     let known = g.B.Read.remaining c.args.reader.now in
     let left = g.B.Read.remaining c.consume.new.self in
-    let rested = c.fill_buf.follows.lender-at-none in
-    let filled = subst (FillKeeps _ (g.B.Read.remaining rested) (g.B.BufRead.consumable_len rested)) c.in-Ok.is c.fill_buf.follows.holds-at-none in
-    let moved =
-    Consumes_shown _ _ _ _ bytes count.result count.ensures.bound c.in-Ok.ensures.front c.in-Ok.ensures.end filled.0 filled.1 c.consume.ensures.bytes in
+    let moved = consumed g c in
     subst (λ line. Consumes known left (appended_bytes c.args.line.now.items line)) (sym items)
     (part_bytes c.args.line.now.items bytes count.result count.ensures.bound known left moved.0)
 
@@ -50,10 +59,7 @@ returns-clause-done g c =
     let bytes = c.in-Ok.bytes.now in
     let known = g.B.Read.remaining c.args.reader.now in
     let left = g.B.Read.remaining c.consume.new.self in
-    let rested = c.fill_buf.follows.lender-at-none in
-    let filled = subst (FillKeeps _ (g.B.Read.remaining rested) (g.B.BufRead.consumable_len rested)) c.in-Ok.is c.fill_buf.follows.holds-at-none in
-    let moved =
-    Consumes_shown _ _ _ _ bytes count.result count.ensures.bound c.in-Ok.ensures.front c.in-Ok.ensures.end filled.0 filled.1 c.consume.ensures.bytes in
+    let moved = consumed g c in
     subst (λ line. EndsOrGoesOn (c.is_end-is_end.result || nat_lt 4096 c.len-is_long.result) line known left) (sym items)
     (part_read c.args.line.now.items bytes count.result count.ensures.bound known left c.is_end-is_end.result (nat_lt 4096 c.len-is_long.result)
     c.requires.room c.requires.none count.ensures.before c.is_end-is_end.ensures (search rules) (search rules) moved.1)

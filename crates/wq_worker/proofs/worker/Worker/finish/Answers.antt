@@ -2,7 +2,7 @@ use Rattle.wq_worker.proofs.Common.{◌≡◌, ℕ, ◌<◌, ◌≤◌, Option, 
 use Rattle.wq_worker.proofs.Common.{Layout, End, number_count, running, Both, WorkerState, stays, runs_some}
 use Rattle.std.proofs.Common.{length-drop}
 use Rattle.wq_worker.specs.State.{AreWorkerParts}
-use Rattle.wq_worker.specs.Step.{OwesBy, Ends, Runs}
+use Rattle.wq_worker.specs.Step.{OwesBy, EndsBy, Runs}
 use Rattle.wq_worker.proofs.Running.{number_runs}
 use Rattle.wq_worker.proofs.Follow.{advance_stays, advance_layout, advance_legal}
 use Rattle.wq_worker.proofs.State.{advance_fits, fit_both}
@@ -68,7 +68,7 @@ returns-clause-runs g c =
     let a : WorkerState g.row.W.Denot = state_of i.pair i.tries (drop i.at fs) i.work in
     let runs : running i.pair.seen ≡ Some k = runs_at a c.args.self.now (Some k) c.self.view_is c.requires in
     let over : Both (End k ∷ []) 0 p q = c.end_running.ensures.both k ((advance_stays _ _ _ _ _ c.queue_rest-at.ensures.queued).running_same ∙ runs) in
-    let e : Ends g.W.Work.may a k b =
+    let e : EndsBy g.W.Work.may stays a k b =
     advance_ends g.W.Work.may stays k i.tries (drop i.at fs) (drop r fs) i.work i.work i.pair p q refl runs (drop_of_length-le fs high) adv over in
     subst (λ (z : WorkerState g.row.W.Denot). Runs g.W.Work.may c.of.result z b) c.self.view_is
     (runs_kind g.W.Work.may stays k c.of.result c.layout.result a b
