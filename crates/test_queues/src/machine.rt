@@ -93,6 +93,23 @@ fn schedules(rt: HostRuntime) {
     }
 }
 
+/// Of a walk before anything was taken, in a schedule whose other steps but one are enabled.
+#[test]
+fn replay_is_refused_at_its_first_step(rt: HostRuntime) {
+    let text =
+        "steps 1\nitems 4\nsenders 2\no walk\n0 hold 0\n0 look\n0 link 0\n0 push 0\no take\no begin\no walk\no begin\n";
+    let schedule = schedule(&rt, text);
+    let refused = replay(rt.alloc(), *schedule.layout(), schedule.turns()).err();
+    expect_same(
+        &rt,
+        refused,
+        Some(ReplayError {
+            at: 0,
+            why: StepError::NotEnabled,
+        }),
+    );
+}
+
 /// Makes a step, where it is enabled. False where it is refused for another cause, where the history is then not legal, or
 /// where what has begun does not begin what was accepted.
 fn goes_on(core: &mut Core, layout: &Layout, seat: Seat, step: Step) -> Result<bool, AllocError> {

@@ -11,7 +11,7 @@ use std::thread::{Threads, yield_now};
 use wq_pool::{Gate, ServedOf};
 use wq_worker::Station;
 
-/// So often a queue looks whether all others are within an item.
+/// So often a queue looks what the others do.
 const LOOKS: u32 = 1_000_000;
 
 /// Before the item of each of three queues it waits until all three are there, and counts the queues to which that came.
@@ -58,29 +58,86 @@ impl Gate for Meeting {
     }
 }
 
-/// To how many of these three queues the others came, with so many workers.
-fn meet<R: Abort + Threads + Wait + Sync, K: Station + Drop + Send>(
+/// Before an item of queue 0 it waits until one of queue 1 has ended, and notes whether that came.
+#[derive(Drop)]
+struct Waiting {
+    ended: AtomicU64,
+    came: AtomicU64,
+}
+
+impl Waiting {
+    fn new() -> Waiting {
+        Waiting {
+            ended: AtomicU64::new(0),
+            came: AtomicU64::new(0),
+        }
+    }
+
+    fn wait(&self) {
+        for _ in 0..LOOKS {
+            if self.ended.load(SeqCst) > 0 {
+                self.came.store(1, SeqCst);
+                return;
+            }
+            yield_now();
+        }
+    }
+}
+
+impl Gate for Waiting {
+    fn before(&self, queue: u32, item: u32) {
+        let _ = item;
+        if queue == 0 {
+            self.wait();
+        }
+    }
+
+    fn after(&self, queue: u32, item: u32) {
+        let _ = item;
+        if queue == 1 {
+            self.ended.store(1, SeqCst);
+        }
+    }
+}
+
+/// Announces so many queues, queue 0 first, and runs them by so many workers.
+fn run_all<R: Abort + Threads + Wait + Sync, K: Station + Drop + Send, G: Gate + Sync>(
     rt: &R,
     alloc: Global,
     queues: Vec<ServedOf<K>>,
     workers: u32,
-) -> u64 {
+    gate: &G,
+) {
+    let announced = queues.len();
     let (pool, announcer, mut callers) = new_pool_for(rt, alloc, queues, workers);
     let mut guest = GuestOf::new(&pool, announcer);
-    for queue in 0..3u32 {
-        assert!(rt; guest.announce(rt, queue));
+    for queue in 0..announced {
+        assert!(rt; guest.announce(rt, queue as u32));
     }
-    let gate = Meeting::new();
-    pool.run(rt, callers.as_mut_slice(), &gate)
+    pool.run(rt, callers.as_mut_slice(), gate)
         .expect(rt, "memory");
-    gate.met.load(SeqCst)
 }
 
 /// Three workers are each within an item of a queue of its own, at one time.
 #[test]
 fn pool_three_workers_overlap(rt: HostRuntime) {
     let alloc = rt.alloc();
-    expect_same(&rt, meet(&rt, alloc, to_stop(&rt, alloc, 3, 1), 3), 3);
+    let (gate, value_gate) = (Meeting::new(), Meeting::new());
+    run_all(&rt, alloc, to_stop(&rt, alloc, 3, 1), 3, &gate);
+    expect_same(&rt, gate.met.load(SeqCst), 3);
     let queues = to_stop_with_values(&rt, alloc, 3, 1);
-    expect_same(&rt, meet(&rt, alloc, queues, 3), 3);
+    run_all(&rt, alloc, queues, 3, &value_gate);
+    expect_same(&rt, value_gate.met.load(SeqCst), 3);
+}
+
+/// While one worker of two waits before the item of queue 0, the other executes queue 1.
+#[test]
+fn pool_two_workers_overlap(rt: HostRuntime) {
+    let alloc = rt.alloc();
+    let (gate, value_gate) = (Waiting::new(), Waiting::new());
+    run_all(&rt, alloc, to_stop(&rt, alloc, 2, 1), 2, &gate);
+    expect_same(&rt, gate.came.load(SeqCst), 1);
+    let queues = to_stop_with_values(&rt, alloc, 2, 1);
+    run_all(&rt, alloc, queues, 2, &value_gate);
+    expect_same(&rt, value_gate.came.load(SeqCst), 1);
 }
