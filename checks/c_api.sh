@@ -31,12 +31,16 @@ built threads
 timeout 60 "$work/threads" 2000
 built threads -DWQ_UNCHECKED
 timeout 60 "$work/threads" 500 >"$work/said"
+built contended
+timeout 60 "$work/contended"
 built misuse
 timeout 60 "$work/misuse"
 built worker
 timeout 60 "$work/worker"
 built worker_answers
 timeout 60 "$work/worker_answers"
+built refusals -Wl,--wrap=wq_c_seat_size,--wrap=wq_c_seat_align,--wrap=pthread_create
+timeout 60 "$work/refusals"
 # the headers alone, as each compiler that is there takes them, without a warning
 for compiler in "${CC:-cc}" clang; do
     command -v "$compiler" >/dev/null || continue
