@@ -1,11 +1,11 @@
 //! A log that has come to its end.
 ghost use Rattle.std.specs.Prelude.{◌≡◌, IfOk};
 ghost use Rattle.wq_pool.specs.History.{accepted};
-ghost use Rattle.wq_words.specs.Legal.{IsComplete};
-ghost use Rattle.wq_words.specs.Headline.{KeepsHeadline};
-ghost use Rattle.wq_words.specs.Valued.{IsLegalWith, with_values};
-ghost use Rattle.wq_live.specs.OwnBrought.{own_brought};
-ghost use Rattle.wq_worker.specs.Returned.{pairs_of};
+ghost use Rattle.wq_pool.specs.Legal.{IsComplete};
+ghost use Rattle.wq_pool.specs.Headline.{KeepsHeadline};
+ghost use Rattle.wq_pool.specs.Valued.{IsLegalWith, with_values};
+ghost use Rattle.wq_pool.specs.OwnBrought.{own_brought};
+ghost use Rattle.wq_pool.specs.Returned.{pairs_of};
 ghost use Rattle.example_log.specs.Sent.{own_lines};
 ghost use Rattle.example_log.specs.Text.{text_of};
 

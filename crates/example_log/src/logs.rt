@@ -4,7 +4,7 @@ ghost use Rattle.wq_pool.specs.History.{IsRunning, IsShut};
 ghost use Rattle.wq_pool.specs.Known.{IsCallerOf};
 ghost use Rattle.wq_pool.specs.Finished.{AreFinishedBy};
 ghost use Rattle.wq_pool.specs.WorkerId.{worker_id};
-ghost use Rattle.wq_worker.specs.ValueState.{HasRunPairs};
+ghost use Rattle.wq_pool.specs.ValueState.{HasRunPairs};
 ghost use Rattle.example_log.specs.declared.message.Log.TheVariants as log;
 ghost use Rattle.example_log.specs.Sent.{HasSent, AreNewClients};
 ghost use Rattle.example_log.specs.Written.{HasLines};

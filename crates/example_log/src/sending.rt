@@ -1,9 +1,8 @@
 //! Clients, which send messages, and the stop items.
 ghost use Rattle.std.specs.Prelude.{◌≡◌, ◌<◌, ◌≤◌, ◌+◌, ◌++◌, [], ◌∷◌, Some, cond};
-ghost use Rattle.wq_live.specs.Known.{IsSame};
-ghost use Rattle.wq_live.specs.KnownWith.{BringsOrReturns};
-ghost use Rattle.wq_live.specs.OwnBrought.{queued_value};
-ghost use Rattle.wq_ready.specs.Known.{IsCallerOf};
+ghost use Rattle.wq_pool.specs.KnownWith.{BringsOrReturns};
+ghost use Rattle.wq_pool.specs.OwnBrought.{queued_value};
+ghost use Rattle.wq_pool.specs.Known.{IsSame, IsCallerOf};
 ghost use Rattle.example_log.specs.declared.message.Log.TheVariants.{Access, Errors};
 ghost use Rattle.example_log.specs.Sent.{own_lines, brings, IsNewClient, HasSent};
 

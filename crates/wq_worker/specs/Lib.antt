@@ -20,3 +20,6 @@ pub use Rattle.wq_words.specs.Seen
 pub use Rattle.wq_live.specs.Known
 pub use Rattle.wq_live.specs.Laws
 pub use Rattle.wq_ledger.specs.Book
+pub use Rattle.wq_live.specs.KnownWith
+pub use Rattle.wq_live.specs.OwnBrought
+pub use Rattle.wq_words.specs.Valued
