@@ -49,7 +49,8 @@ Steps of a sender S: S hold K, S look, S link K, S push K, S check K, and
   S back K closed (or contended, or cancelled)
 Steps of the owner: o take, o close, o walk, o begin, o end, o chain K, o turn K L,
   o rest
-K is an item, bB the barrier B, or stop the stop item; L is one of these, or end.
+K is an item, bB the barrier B, or stop the stop item; o chain takes an item alone.
+L is one of these, or end.
 A schedule that begins with 'steps 2' has up to 65536 items, and the steps of a drain:
   o drain, o resume, S back K draining
 
