@@ -70,6 +70,7 @@ impl Checker {
     pub fn told(&self)
         ensures some { (h : List Event) × IsAfter self.now h }
     {
+        // opens the checker, whose invariant says this
         let _ = &self.counts;
     }
 

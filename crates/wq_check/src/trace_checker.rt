@@ -70,6 +70,7 @@ impl TraceChecker {
     pub fn told(&self)
         ensures some { (t : List Mark) × IsAfterMarks self.now t }
     {
+        // opens the checker, whose invariant says this
         let _ = &self.counts;
     }
 

@@ -81,6 +81,7 @@ impl Delay {
         ensures fit { IsFit self.now }
         ensures headline { KeepsHeadline self.now.sender.seen }
     {
+        // opens the table, whose invariant says this
         let _ = &self.sender;
     }
 
@@ -222,6 +223,7 @@ impl Delay {
         ensures posts { PostsDue self.old.table.tick tries self.old self.new result.0 result.1 }
         ensures looked { self.new.looked ≡ self.old.looked }
     {
+        // opens the table, whose invariant says this
         let _ = &self.sender;
         let mut pushed = 0;
         let mut refused = 0;

@@ -100,6 +100,7 @@ impl Book {
         ensures all_ended { ended self.now.seen ≡ begun self.now.seen }
         ensures own { IsLedgerOf self.now.seen self.now.own }
     {
+        // opens the book, whose invariant says this
         let _ = &self.owner;
     }
 

@@ -66,11 +66,12 @@ impl Sender {
     }
 
     /// What it has seen is a legal history of its queue, so it keeps the headline: what was accepted is executed in its order,
-    /// once, and one at a time.
+    /// once at most, and one at a time.
     pub fn legal(&self)
         ensures legal { IsLegal self.now.layout self.now.seen }
         ensures headline { KeepsHeadline self.now.seen }
     {
+        // opens the seat, whose invariant says this
         let _ = &self.sent.counts;
     }
 

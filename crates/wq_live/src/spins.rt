@@ -5,7 +5,7 @@ use std::hint::spin_loop;
 use std::io;
 use std::time::{Clock, Instant};
 
-/// How long they are to take, in nanoseconds.
+/// How long the `spin_loop`s of a `Spins` are to take, in nanoseconds.
 const NANOS: u128 = 750;
 
 // How many `spin_loop`s are timed, and how often: the least time is the one in which no other work came between.

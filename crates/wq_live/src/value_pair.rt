@@ -114,14 +114,16 @@ impl<V: Drop> ValuePair<V> {
         self.seat.layout
     }
 
-    /// What it has seen is a legal history of its queue, so it keeps the headline: what was accepted is executed in its order,
-    /// once, and one at a time. Each accepted item brought a value, no other number did, and the values in the order of the pushes
-    /// are those in the order of the executions; that an execution was handed that very value is said by `begin`.
+    /// What it has seen is a legal history of its queue, so it keeps the headline: what was accepted is executed in its
+    /// order, once at most, and one at a time. Each accepted item brought a value, no other number did, and the values in
+    /// the order of the pushes are those in the order of the executions; that an execution was handed that very value is
+    /// said by `begin`.
     pub fn legal(&self)
         ensures legal { IsLegal self.now.known.layout self.now.known.seen }
         ensures headline { KeepsHeadline self.now.known.seen }
         ensures values { IsLegalWith self.now.known.layout (with_values self.now.known.seen self.now.brought) }
     {
+        // opens the seat, whose invariant says this
         let _ = &self.sent;
     }
 

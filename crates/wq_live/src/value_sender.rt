@@ -66,14 +66,16 @@ impl<V: Drop> ValueSender<V> {
         self.sent.layout
     }
 
-    /// What it has seen is a legal history of its queue, so it keeps the headline: what was accepted is executed in its order,
-    /// once, and one at a time. Each accepted item brought a value, no other number did, and the values in the order of the pushes
-    /// are those in the order of the executions; that an execution was handed that very value is said by `begin`.
+    /// What it has seen is a legal history of its queue, so it keeps the headline: what was accepted is executed in its
+    /// order, once at most, and one at a time. Each accepted item brought a value, no other number did, and the values in
+    /// the order of the pushes are those in the order of the executions; that an execution was handed that very value is
+    /// said by `begin`.
     pub fn legal(&self)
         ensures legal { IsLegal self.now.known.layout self.now.known.seen }
         ensures headline { KeepsHeadline self.now.known.seen }
         ensures values { IsLegalWith self.now.known.layout (with_values self.now.known.seen self.now.brought) }
     {
+        // opens the seat, whose invariant says this
         let _ = &self.sent.counts;
     }
 
@@ -263,6 +265,7 @@ impl<V: Drop> ValueSender<V> {
         ensures end { IsComplete owner.old.known.seen → owner.new.brought ≡ owner.old.brought }
         ensures last { IsComplete owner.old.known.seen → IsStillEnd owner.old.known.seen owner.new.known.seen }
     {
+        // the owner's first: all others may have no slots in hand
         owner.seat.chair.meet(&mut self.chair);
     }
 
@@ -282,6 +285,7 @@ impl<V: Drop> ValueSender<V> {
         ensures end { IsComplete owner.old.known.seen → owner.new.brought ≡ owner.old.brought }
         ensures last { IsComplete owner.old.known.seen → IsStillEnd owner.old.known.seen owner.new.known.seen }
     {
+        // the owner's first: all others may have no slots in hand
         owner
             .seat
             .chair

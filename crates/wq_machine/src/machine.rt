@@ -86,6 +86,7 @@ impl Core {
     pub fn sound(&self)
         ensures holds { IsSound self.now }
     {
+        // opens the machine, whose invariant says this
         let _ = &self.words;
     }
 

@@ -35,11 +35,13 @@ impl Caller {
         self.number
     }
 
-    /// What it has seen is a legal history of its ready queue, so what was announced is picked in its order, once.
+    /// What it has seen is a legal history of its ready queue, so what was announced is picked in its order, once at
+    /// most.
     pub fn legal(&self)
         ensures legal { IsReadyLegal self.now.ready.size self.now.seen }
         ensures order { KeepsOrder self.now.ready.size self.now.seen }
     {
+        // opens the caller, whose invariant says this
         let _ = &self.number;
     }
 }

@@ -46,8 +46,8 @@ impl<K: Station> ServedOf<K> {
     }
 
     /// What the worker has seen is a legal history, so the queue keeps the headline: what was accepted is executed in its
-    /// order, once, and one at a time. The work has run the items that have begun, in this order, nothing runs, and the queue
-    /// does not drain.
+    /// order, once at most, and one at a time. The work has run the items that have begun, in this order, nothing runs, and the
+    /// queue does not drain.
     pub fn legal(&self)
         ensures legal { IsLegal (K.state self.now).layout (K.state self.now).seen }
         ensures headline { KeepsHeadline (K.state self.now).seen }

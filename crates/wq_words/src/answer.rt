@@ -3,8 +3,9 @@
 /// What a queueing answers.
 #[derive(Clone, Copy, Debug, PartialEq, Eq)]
 pub enum Answer {
-    /// The number was queued, and will be executed once (`queue_work` answers true). `first` says that the list was empty
-    /// (`llist_add` answers true), `wakes` that the queue rested: who parks its owner after a rest wakes it.
+    /// The number was queued (`queue_work` answers true): it is executed once at most, and has been once a close or a drain
+    /// behind it has ended. `first` says that the list was empty (`llist_add` answers true), `wakes` that the queue rested:
+    /// who parks its owner after a rest wakes it.
     Queued { first: bool, wakes: bool },
     /// The number was pending already, and nothing was changed (`queue_work` answers false).
     Pending,

@@ -6,7 +6,7 @@ use wq_live::Spins;
 
 /// A take of fewer numbers than this is short: the worker is quicker than the senders. Each take moves the line of the head
 /// from a sender to the worker and back, which is most of what a number costs then. So a worker that serves passes a pause
-/// after a short take, and the next one finds more; one item that comes alone waits no longer for it.
+/// after a short take, and the next one finds more; an item that comes alone behind it may wait for the pause.
 pub const SHORT_TAKE: u32 = 128;
 
 /// What a worker that serves knows of its last steps.

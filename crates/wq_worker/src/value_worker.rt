@@ -184,9 +184,10 @@ impl<V: Drop, W: ValueWork<V>> ValueWorker<V, W> {
         Ran::of(self.pair.layout(), number)
     }
 
-    /// What the worker has seen is a legal history, so it keeps the headline: what was accepted is executed in its order, once,
-    /// and one at a time. Each accepted item brought a value, no other number did, and the values in the order of the pushes are
-    /// those in the order of the executions; that an execution was handed that very value is said by `run_one` and `logged`.
+    /// What the worker has seen is a legal history, so it keeps the headline: what was accepted is executed in its order,
+    /// once at most, and one at a time. Each accepted item brought a value, no other number did, and the values in the
+    /// order of the pushes are those in the order of the executions; that an execution was handed that very value is said
+    /// by `run_one` and `logged`.
     pub fn legal(&self)
         ensures legal { IsLegal self.now.worker.layout self.now.worker.seen }
         ensures headline { KeepsHeadline self.now.worker.seen }
@@ -207,6 +208,7 @@ impl<V: Drop, W: ValueWork<V>> ValueWorker<V, W> {
     pub fn seated(&self)
         ensures in_layout { self.now.worker.number < self.now.worker.layout.senders }
     {
+        // opens the worker, whose invariant says this
         let _ = &self.pair;
     }
 

@@ -165,12 +165,13 @@ impl<W: Work> Worker<W> {
         Ran::of(self.pair.layout(), number)
     }
 
-    /// What the worker has seen is a legal history, so it keeps the headline: what was accepted is executed in its order, once,
-    /// and one at a time.
+    /// What the worker has seen is a legal history, so it keeps the headline: what was accepted is executed in its order,
+    /// once at most, and one at a time.
     pub fn legal(&self)
         ensures legal { IsLegal self.now.layout self.now.seen }
         ensures headline { KeepsHeadline self.now.seen }
     {
+        // opens the worker, whose invariant says this
         let _ = &self.pair;
     }
 
@@ -178,6 +179,7 @@ impl<W: Work> Worker<W> {
     pub fn logged(&self)
         ensures log { W.log self.now.work ≡ items_among self.now.layout (begun self.now.seen) }
     {
+        // opens the worker, whose invariant says this
         let _ = &self.pair;
     }
 
@@ -185,6 +187,7 @@ impl<W: Work> Worker<W> {
     pub fn seated(&self)
         ensures in_layout { self.now.number < self.now.layout.senders }
     {
+        // opens the worker, whose invariant says this
         let _ = &self.pair;
     }
 
@@ -318,10 +321,11 @@ impl<W: Work> Worker<W> {
         Totals::of(self.pair.sender_counts(), self.pair.owner_counts())
     }
 
-    /// Executes until nothing is left, or so many executions have ended (`drain_workqueue`). An open queue drains meanwhile:
-    /// what senders queue is answered `Draining`, and what executions ask for is chained. Once nothing is left it takes pushes
-    /// again; after `TooLong` it drains still, and the next call goes on. A closed queue stays closed. A stop item is executed
-    /// with the rest, and nothing says that it ran: ask for a stop of a later `serve` behind the drain.
+    /// Executes until nothing is left, or so many executions have ended (`drain_workqueue`). An open queue drains
+    /// meanwhile: what senders queue is answered `Draining`, and what executions ask for is chained. Once nothing is left
+    /// it takes pushes again; after `TooLong` it drains still, and the next call goes on. A closed queue stays closed. A
+    /// stop item is executed with the rest, and nothing says that it ran: to stop a later `serve`, queue the stop item
+    /// after the drain.
     pub fn drain(&mut self, limit: u32) -> Drained
         ensures drains { Drains W.may limit result self.old self.new }
         ensures open { result ≡ Empty → ¬ IsClosed self.old.seen → ¬ IsShut self.new.seen }
