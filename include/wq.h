@@ -34,7 +34,8 @@ typedef struct wq_seat {
  * true: other codes share those bits (WQ_CLOSED & WQ_QUEUED is not 0). */
 enum wq_code {
     WQ_OK = 0,
-    /* The number was queued, and is executed once. WQ_FIRST: the list was empty. WQ_WAKES: the queue rested, so wake its owner. */
+    /* The number was queued: it is executed at most once, and exactly once where a drain or the close behind it has ended.
+     * WQ_FIRST: the list was empty. WQ_WAKES: the queue rested, so wake its owner. */
     WQ_QUEUED = 1, WQ_FIRST = 2, WQ_WAKES = 4,
     WQ_PENDING = 8,    /* it was pending already, and nothing was changed */
     WQ_CLOSED = 9,     /* the queue is closed */
@@ -53,7 +54,7 @@ enum wq_code {
     WQ_IN_USE = 77, WQ_NO_SENDER = 78, WQ_NOT_DONE = 79, WQ_MEMORY = 80, WQ_ITEMS = 81, WQ_BARRIERS = 82, WQ_SENDERS = 83,
     /* What this header finds out: another call is in this seat; wq_init did not make it here; WQ_SEAT_BYTES is too small. */
     WQ_SEAT_BUSY = 128, WQ_NO_SEAT = 129, WQ_SEAT_SIZE = 130,
-    WQ_NO_THREAD = 131 /* of wq_worker.h: no thread could be started */
+    WQ_NO_THREAD = 131 /* of wq_worker.h: no thread could be started; the queue may rest then */
 };
 
 static inline int wq_is_queued(uint32_t code) { return (code & WQ_QUEUED) && code < WQ_PENDING; }

@@ -32,7 +32,7 @@ typedef struct wq_worker {
     wq_seat *owner;
     wq_function *function;
     void *data;
-    uint32_t items;   /* how many the queue has; the numbers from there on are barriers */
+    uint32_t items;   /* how many the queue has; the numbers from there on are barriers and the stop item */
     uint32_t wanted;  /* the phase that was asked for */
     uint32_t reached; /* a futex: the phase that was reached */
     uint32_t bell;    /* a futex: counts the wake-ups of the worker */
@@ -91,7 +91,7 @@ static inline void wq_worker_ask(wq_worker *worker, uint32_t phase) {
 /* Starts a thread that executes the queue of this owner, which has so many items. WQ_OK or WQ_NO_THREAD; or, without a thread, what
  * wq_rest answers to a seat that is no owner's (WQ_NO_SEAT, WQ_SEAT_BUSY, WQ_NOT_OWNER), a queue that is closed or drains, and an owner
  * that has not ended all that it took (WQ_IS_CLOSED, WQ_IS_DRAINING, WQ_SOME_WAIT, WQ_IS_RUNNING): a worker would get nowhere.
- * WQ_NO_ITEM where the queue has another number of items. */
+ * WQ_NO_ITEM where the queue has another number of items. After WQ_NO_ITEM and WQ_NO_THREAD the queue may rest. */
 static inline uint32_t wq_worker_start(wq_worker *worker, wq_seat *owner, uint32_t items, wq_function *function, void *data) {
     uint32_t rests = wq_rest(owner); /* that the queue rests then does no harm: the worker takes first */
     if (rests != WQ_YES && rests != WQ_NO) return rests;
@@ -119,7 +119,8 @@ static inline uint32_t wq_worker_queue(wq_worker *worker, wq_seat *sender, uint3
 }
 
 /* Queues a barrier, and sleeps until all that was accepted before it has ended. Where the answer is no queueing it has not waited to
- * the end: the barrier was not queued, or the seat was given up meanwhile. Not from the worker's own function. */
+ * the end: the barrier was not queued, or the seat was given up meanwhile (WQ_NOT_SENDER) and the barrier is queued all the same. Not
+ * from the worker's own function. */
 static inline uint32_t wq_worker_flush(wq_worker *worker, wq_seat *sender, uint32_t barrier) {
     uint32_t code = wq_worker_wake(worker, wq_flush_begin(sender, barrier));
     if (!wq_is_queued(code)) return code;
