@@ -3,7 +3,7 @@
 
 Each random script arms, moves, cancels and queues items, leads the table on by jumps within a turn of the wheel, to its edge and
 far beyond, and runs what went out; each fourth goes on near the last tick, and each is closed before its end. A script that
-fails is made again from its number. One more script has as many items as a queue may have, and lets them go in one advance.
+fails is made again from its number. One more script has as many items as version 1 allows, and lets them go in one advance.
 """
 import random
 import subprocess
