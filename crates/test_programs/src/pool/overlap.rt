@@ -100,19 +100,18 @@ impl Gate for Waiting {
     }
 }
 
-/// Announces so many queues, queue 0 first, and runs them by so many workers.
+/// Announces so many queues, queue 0 first, and runs them by as many workers.
 fn run_all<R: Abort + Threads + Wait + Sync, K: Station + Drop + Send, G: Gate + Sync>(
     rt: &R,
     alloc: Global,
     queues: Vec<ServedOf<K>>,
-    workers: u32,
+    count: u32,
     gate: &G,
 ) {
-    let announced = queues.len();
-    let (pool, announcer, mut callers) = new_pool_for(rt, alloc, queues, workers);
+    let (pool, announcer, mut callers) = new_pool_for(rt, alloc, queues, count);
     let mut guest = GuestOf::new(&pool, announcer);
-    for queue in 0..announced {
-        assert!(rt; guest.announce(rt, queue as u32));
+    for queue in 0..count {
+        assert!(rt; guest.announce(rt, queue));
     }
     pool.run(rt, callers.as_mut_slice(), gate)
         .expect(rt, "memory");
