@@ -158,7 +158,8 @@ if command -v pkg-config >/dev/null; then
     timeout 60 "$work/logger" | sort | diff <(sort "$work/lines") -
     awk '/^    #include <stdio.h>/ { on = 1 } on { sub(/^    /, ""); print } /^int main/ { main = 1 } main && /^}$/ { exit }' docs/C.md >"$work/page.c"
     "${CC:-cc}" -Wall -Wextra -Werror -o "$work/page" "$work/page.c" "${flags[@]}"
-    timeout 60 "$work/page" | sort | diff <(printf 'QUEUED|FIRST|WAKES\nitem 2 of mine\n') -
+    # a queueing between the worker's first take and its rest wakes nobody
+    timeout 60 "$work/page" | sed 's/|WAKES$//' | sort | diff <(printf 'QUEUED|FIRST\nitem 2 of mine\n' | sort) -
     ! command -v "${CXX:-c++}" >/dev/null || "${CXX:-c++}" -x c++ -std=c++11 -Wall -Wextra -Werror "${flags[@]}" -fsyntax-only "$work/page.c"
     echo "pkg-config: the installed library serves, and the program of docs/C.md runs"
 else
