@@ -1,7 +1,7 @@
 #!/usr/bin/env bash
 # Builds the library of C, and tests the calls of include/ from C, C++, Python and Rust: c_api.sh [WQRUN]. Where the program WQRUN is
 # named, it judges the histories of the random runs. Tools that are not installed are left out, each with a line: valgrind, rustc,
-# c++, python3, and the sanitizers of cc and of clang. Two minutes of a processor, beside the proof of wq_c.
+# c++, python3, and the sanitizers of cc and of clang. Three minutes of a processor, beside the proof of wq_c, which the other compiler of the kit wants once more.
 set -euo pipefail
 wqrun=${1:+$(realpath "$1")}
 cd "$(dirname "${BASH_SOURCE[0]}")/.."
@@ -15,9 +15,11 @@ fi
 checks/c_library.sh "$work"
 strict=(-std=c99 -pedantic -O2 -g -Wall -Wextra -Werror -pthread -Iinclude -Ichecks/c)
 
+library=$work/libyeangvos.a
+
 # built NAME FLAG..: the program of checks/c/NAME.c, strictly: of C99, and of nothing that a program has to ask for (_GNU_SOURCE)
 built() {
-    "${CC:-cc}" "${strict[@]}" "${@:2}" -o "$work/$1" "checks/c/$1.c" "$work/libyeangvos.a"
+    "${CC:-cc}" "${strict[@]}" "${@:2}" -o "$work/$1" "checks/c/$1.c" "$library"
 }
 left_out() {
     echo "$1: not installed, so left out"
@@ -75,6 +77,18 @@ if [ -n "$wqrun" ]; then
 else
     echo "random: no wqrun was named, so the histories were not judged"
 fi
+
+# the same exports, compiled by the compiler that is written in Rattle in place of LLVM
+mkdir "$work/rattle"
+BACKEND=rattle checks/c_library.sh "$work/rattle"
+library=$work/rattle/libyeangvos.a
+for program in codes "threads 200" misuse contended; do
+    built "${program%% *}"
+    # shellcheck disable=SC2086 # the words of the program
+    timeout 60 "$work/"$program >"$work/said"
+done
+library=$work/libyeangvos.a
+echo "the other compiler of the kit: each code as it is said, each sender's items in its order"
 
 if command -v valgrind >/dev/null; then
     built codes
