@@ -3,6 +3,7 @@ ghost use Rattle.std.specs.Prelude.{◌≡◌, false, MatchResult};
 ghost use Rattle.wq_words.specs.History.{IsRunning};
 ghost use Rattle.wq_words.specs.Legal.{IsLegal, IsComplete};
 ghost use Rattle.wq_words.specs.Headline.{KeepsHeadline};
+ghost use Rattle.wq_worker.specs.Rows.{Along};
 ghost use Rattle.wq_pool.specs.Known.{IsSameTurn, turn_id};
 ghost use Rattle.wq_turn.specs.Drained.{IsDrained};
 ghost use Rattle.wq_turn.specs.Finished.{IsFinishedBy};
@@ -80,6 +81,7 @@ impl<K: Station> TurnOf<K> {
         ensures ended { MatchResult result (λ worked. EndsWithin limit (K.state self.worker).seen (K.state worked.worker).seen)
             (λ turn. EndsWithin limit (K.state self.worker).seen (K.state turn.worker).seen) }
         ensures same { MatchResult result (λ worked. IsSameTurn K.state self worked) (λ turn. IsSameTurn K.state self turn) }
+        ensures deals { MatchResult result (λ worked. Along K.deals self.worker worked.worker) (λ turn. Along K.deals self.worker turn.worker) }
     {
         if !self.runner.work(self.queue, limit, gate) {
             return Err(self);

@@ -95,6 +95,7 @@ impl<K: Station> Noted<K> {
 
     pub(crate) fn ready(&mut self) -> Option<u32>
         ensures outcome { MatchOption result (IsUnready (K.state self.old) (K.state self.new)) (λ k. IsReady (K.state self.old) k (K.state self.new)) }
+        ensures deals { K.deals self.old self.new }
     {
         self.worker.ready()
     }
@@ -107,6 +108,7 @@ impl<K: Station> Noted<K> {
         ensures open { ¬ IsShut (K.state self.new).seen }
         ensures none { HasNoneLeft (K.state self.new).seen }
         ensures refused { result ≡ false → MayNotRest (K.state self.new).seen }
+        ensures deals { K.deals self.old self.new }
     {
         self.worker.rest()
     }
@@ -114,6 +116,7 @@ impl<K: Station> Noted<K> {
     pub(crate) fn run_one(&mut self) -> Ran
         ensures runs { RunsBy K.may K.gives result (K.state self.old) (K.state self.new) }
         ensures none { result ≡ Nothing → HasNoneLeft (K.state self.new).seen }
+        ensures deals { K.deals self.old self.new }
     {
         let ran = self.worker.run_one();
         let stop_item = self.stop_item.after(ran);

@@ -5,6 +5,7 @@ ghost use Rattle.wq_words.specs.History.{ended, IsClosed, IsRunning, IsDraining}
 ghost use Rattle.wq_words.specs.Legal.{IsLegal};
 ghost use Rattle.wq_words.specs.Headline.{KeepsHeadline};
 ghost use Rattle.wq_worker.specs.Resting.{HasNoneLeft};
+ghost use Rattle.wq_worker.specs.Rows.{Along};
 ghost use Rattle.wq_worker.specs.Seats.{NothingWaits};
 ghost use Rattle.wq_turn.specs.Drained.{IsDrained};
 ghost use Rattle.wq_turn.specs.Owed.{IsOwed};
@@ -107,7 +108,8 @@ impl<K: Station> Runner<K> {
     fn rest(&mut self) -> Option<u32>
         requires waits { NothingWaits (K.state self.old).seen }
         requires none { HasNoneLeft (K.state self.old).seen }
-        ensures { SettlesOne K.may K.gives result (K.state self.old) (K.state self.new) }
+        ensures settles { SettlesOne K.may K.gives result (K.state self.old) (K.state self.new) }
+        ensures deals { Along K.deals self.old self.new }
     {
         if self.worker.is_closed() {
             return None;
@@ -121,7 +123,8 @@ impl<K: Station> Runner<K> {
     // Answers the number to be begun next. `None` where nothing is left to do.
     fn settle(&mut self) -> Option<u32>
         requires { ¬ IsRunning (K.state self.old).seen }
-        ensures { SettlesOne K.may K.gives result (K.state self.old) (K.state self.new) }
+        ensures settles { SettlesOne K.may K.gives result (K.state self.old) (K.state self.new) }
+        ensures deals { Along K.deals self.old self.new }
     {
         match self.worker.ready() {
             Some(number) => Some(number),
@@ -132,7 +135,8 @@ impl<K: Station> Runner<K> {
     // Executes the next number, or goes on with the one that is owed.
     fn execute<G: Gate>(&mut self, queue: u32, gate: &G) -> Progress
         requires { ¬ HasNoneLeft (K.state self.old).seen }
-        ensures { RunsOne K.may K.gives result (K.state self.old) (K.state self.new) }
+        ensures runs { RunsOne K.may K.gives result (K.state self.old) (K.state self.new) }
+        ensures deals { Along K.deals self.old self.new }
     {
         match self.worker.run_one() {
             Ran::Item(item) => gate.after(queue, item),
@@ -157,7 +161,8 @@ impl<K: Station> Runner<K> {
 
     // One execution, or none where nothing is left to do.
     fn advance<G: Gate>(&mut self, queue: u32, gate: &G) -> Progress
-        ensures { MakesProgress K.may K.gives result (K.state self.old) (K.state self.new) }
+        ensures progresses { MakesProgress K.may K.gives result (K.state self.old) (K.state self.new) }
+        ensures deals { Along K.deals self.old self.new }
     {
         if self.owes {
             return self.execute(queue, gate);
@@ -178,6 +183,7 @@ impl<K: Station> Runner<K> {
     /// execution is owed.
     pub fn work<G: Gate>(&mut self, queue: u32, limit: u32, gate: &G) -> bool
         ensures works { WorksOn K.may K.gives limit result (K.state self.old) (K.state self.new) }
+        ensures deals { Along K.deals self.old self.new }
     {
         for _ended in 0..limit {
             match self.advance(queue, gate) {

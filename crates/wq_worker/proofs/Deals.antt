@@ -1,7 +1,16 @@
 -- What becomes of the pairs of a run, as far as they have come.
-use Rattle.wq_worker.proofs.Common.{◌≡◌, ℕ, Bool, List, [], ◌∷◌, ◌++◌, refl, sym, ap, ◌∙◌, append_assoc, append-nil, Event, Follows, numbers_in}
+use Rattle.wq_worker.proofs.Common.{◌≡◌, ℕ, Bool, true, false, Option, Some, None, MatchOption, List, [], ◌∷◌, ◌++◌, refl, sym, ap, ◌∙◌, subst, append_assoc}
+use Rattle.wq_worker.proofs.Common.{append-nil, Event, accepted, shut, IsLegal, Learnt, next_of, taking, Follows, numbers_in, IsReady, IsUnready, rest_events}
+use Rattle.wq_worker.proofs.Common.{Moves, WorkerState, ValueWorkerState, owner_in}
+use Rattle.wq_words.proofs.Prefixes.{prefix_self}
+use Rattle.wq_live.specs.KnownWith.{MatchesAccepted}
+use Rattle.wq_worker.specs.Seats.{taking_of}
 use Rattle.wq_worker.specs.Follow.{Queues}
-use Rattle.wq_worker.specs.Deals.{DealsOne, Deals}
+use Rattle.wq_worker.specs.Resting.{LeavesWork, owed, nothing}
+use Rattle.wq_worker.specs.Deals.{DealsOne, Deals, DealsInStep, keeps}
+use Rattle.wq_worker.proofs.Seats.{adds_none}
+use Rattle.wq_worker.proofs.State.{quiet_taking}
+use Rattle.wq_worker.proofs.Resting.{begun_rest}
 
 -- a list that is not there leaves what follows it
 behind_none : {X : Type 0} (xs ys : List X) → xs ≡ [] → xs ++ ys ≡ ys ++ []
@@ -36,3 +45,38 @@ module _ {V : Type 0} (n s : ℕ) (is_shut : Bool) where
       → Follows n s is_shut (numbers_in ps) es
   deals_follow [] es queued returned t = t.0
   deals_follow (p ∷ ps) es queued returned t = (t.0, t.1, t.6, t.9, deals_follow ps t.1 t.3 t.5 t.11)
+
+accepted_taking_of : (n : Option ℕ) (b : Bool) → accepted (taking_of n b) ≡ []
+accepted_taking_of (Some k) b = refl
+accepted_taking_of None true = refl
+accepted_taking_of None false = refl
+
+accepted_taking : (h : List Event) → accepted (taking h) ≡ []
+accepted_taking h = accepted_taking_of (next_of h) (shut h)
+
+accepted_rest : (rests : Bool) → accepted (rest_events rests) ≡ []
+accepted_rest true = refl
+accepted_rest false = refl
+
+-- the steps of a worker that run nothing
+module _ {V W : Type 0} (given : W → List (ℕ × V)) (may : W → ℕ → V → List (ℕ × V) → W → Type 0) (takes : W → ℕ → V → W → Type 0) where
+  pub deals_still : (a : ValueWorkerState V W) → IsLegal a.worker.layout a.worker.seen → MatchesAccepted (owner_in a) → DealsInStep given may takes a a
+  deals_still a legal whole =
+      keeps [] (record { queue = refl; layout = refl; number = refl; tries = refl; adds = adds_none a.worker.number a.worker.seen; legal = legal })
+      refl refl (refl, refl) refl (record { more = prefix_self a.brought; was_whole = whole; as_many = whole })
+
+  pub deals_ready : (a b : ValueWorkerState V W) (r : Option ℕ) → IsLegal a.worker.layout a.worker.seen
+      → MatchOption r (IsUnready a.worker b.worker) (λ k. IsReady a.worker k b.worker) → b.unqueued ≡ a.unqueued → Learnt (owner_in a) (owner_in b)
+      → DealsInStep given may takes a b
+  deals_ready a b (Some k) legal t pairs learnt =
+      keeps (taking a.worker.seen) t.moves (quiet_taking a.worker.seen).begun_none (accepted_taking a.worker.seen) t.work_is pairs learnt
+  deals_ready a b None legal (owed runs same) pairs learnt =
+      keeps [] (subst (λ (w : WorkerState W). Moves [] 0 a.worker w) (sym same)
+      (record { queue = refl; layout = refl; number = refl; tries = refl; adds = adds_none a.worker.number a.worker.seen; legal = legal }))
+      refl refl (ap (λ (w : WorkerState W). w.work) same, ap (λ (w : WorkerState W). w.unqueued) same) pairs learnt
+  deals_ready a b None legal (nothing waits idle moved left) pairs learnt =
+      keeps (taking a.worker.seen) moved (quiet_taking a.worker.seen).begun_none (accepted_taking a.worker.seen) left pairs learnt
+
+  pub deals_rest : (a b : ValueWorkerState V W) (rests : Bool) → Moves (rest_events rests) 0 a.worker b.worker → LeavesWork a.worker b.worker
+      → b.unqueued ≡ a.unqueued → Learnt (owner_in a) (owner_in b) → DealsInStep given may takes a b
+  deals_rest a b rests moved left pairs learnt = keeps (rest_events rests) moved (begun_rest rests) (accepted_rest rests) left pairs learnt

@@ -5,12 +5,20 @@ use Rattle.wq_worker.proofs.Common.{contended_of, WorkerState, Moves, stays, End
 use Rattle.wq_worker.proofs.Common.{drains, Resumes, stays_closed, reopens, is_turn}
 use Rattle.wq_worker.specs.State.{IsSameWorker}
 use Rattle.wq_worker.specs.Step.{StartsBy, item, other, owed, ends, Runs}
-use Rattle.wq_worker.specs.Rows.{RunsOutBy, Closes, was_closed, closes, was_shut}
+use Rattle.wq_worker.specs.Rows.{Along, here, onward, RunsOutBy, Closes, was_closed, closes, was_shut}
 use Rattle.wq_worker.proofs.Owned.{owner_grown, owner_of_both}
 use Rattle.wq_worker.proofs.Follow.{quiet_follows, quiet_contended}
 use Rattle.wq_live.proofs.Phases.{open_then}
 use Rattle.wq_worker.proofs.Phase.{SamePhase, phase_still, phase_on, open_still, unclosed_still, closed_still}
 use Rattle.wq_worker.proofs.State.{quiet_taking, turns_taking}
+
+module _ {X : Type 0} (step : X → X → Type 0) where
+  pub one_step : (a b : X) → step a b → Along step a b
+  one_step a b s = onward a a b (here a) s
+
+  pub along_on : (a b c : X) → Along step a b → Along step b c → Along step a c
+  along_on a b c p (here d) = p
+  along_on a b c p (onward d e f q s) = onward a e f (along_on a d e p q) s
 
 module _ {W : Type 0} where
   pub worker_still : (a : WorkerState W) → IsSameWorker a a

@@ -1,18 +1,22 @@
 -- What becomes of the pairs that a run asks for: each is queued with its value, or given back.
-use Rattle.std.specs.Prelude.{◌≡◌, ℕ, ◌≤◌, Bool, List, [], ◌∷◌, ◌++◌, slice_get, length, Some, if◌then◌else◌}
+use Rattle.std.specs.Prelude.{◌≡◌, ℕ, ◌≤◌, Bool, List, [], ◌∷◌, ◌++◌, slice_get, length, Option, Some, if◌then◌else◌}
 use Rattle.wq_words.specs.declared.event.Event.{Event}
 use Rattle.wq_words.specs.declared.event.Event.TheVariants.{Begin}
 use Rattle.wq_words.specs.History.{accepted, begun, shut, IsRunning}
 use Rattle.wq_words.specs.Seen.{owner_seat}
 use Rattle.wq_live.specs.Answers.{IsContended}
+use Rattle.wq_live.specs.KnownWith.{Learnt}
 use Rattle.wq_live.specs.OwnBrought.{own_brought}
 use Rattle.wq_worker.specs.declared.ran.Ran.{Ran}
 use Rattle.wq_worker.specs.declared.ran.Ran.TheVariants.{Nothing}
 use Rattle.wq_worker.specs.Seats.{Adds, taking}
 use Rattle.wq_worker.specs.Follow.{Queues}
-use Rattle.wq_worker.specs.Step.{Begins}
-use Rattle.wq_worker.specs.Returned.{GivenBack, MayLeave, values_in}
-use Rattle.wq_worker.specs.ValueState.{ValueWorkerState}
+use Rattle.wq_worker.specs.State.{Moves}
+use Rattle.wq_worker.specs.Resting.{LeavesWork}
+use Rattle.wq_worker.specs.Step.{Begins, RunsBy}
+use Rattle.wq_worker.specs.Rows.{Along}
+use Rattle.wq_worker.specs.Returned.{GivenBack, GivesBack, MayLeave, values_in}
+use Rattle.wq_worker.specs.ValueState.{ValueWorkerState, owner_in}
 
 -- the pair (k, v), whose queueing added these events: it was queued where its number was accepted, else given back
 pub data DealsOne {V : Type 0} (k : ℕ) (v : V) (es : List Event) (queued returned : List (ℕ × V)) : Type 0 where
@@ -70,6 +74,22 @@ module _ {V W : Type 0} (given : W → List (ℕ × V)) (may : W → ℕ → V �
   abbrev pub DealsOutBy : Ran → ValueWorkerState V W → ValueWorkerState V W → Type 0
   DealsOutBy Nothing a b = b.unqueued ≡ a.unqueued
   DealsOutBy r a b = DealsOut a b
+
+  -- One step of any kind: a run, by which what it asked for was dealt out; or the worker's two seats added events es of which
+  -- none begins a number or queues one, and the work and the pairs are as they were.
+  pub data DealsInStep (a b : ValueWorkerState V W) : Type 0 where
+    runs : (r : Ran) → RunsBy (MayLeave may takes) (GivesBack takes) r a.worker b.worker → DealsOutBy r a b
+        → Learnt (owner_in a) (owner_in b) → DealsInStep a b
+    keeps : (es : List Event) → Moves es 0 a.worker b.worker → begun es ≡ [] → accepted es ≡ [] → LeavesWork a.worker b.worker
+        → b.unqueued ≡ a.unqueued → Learnt (owner_in a) (owner_in b) → DealsInStep a b
+
+  -- The worker went on, step by step, until it was taken apart: this is the work that it left, and what the numbers of its
+  -- queue brought.
+  pub record DealsToEnd (a : ValueWorkerState V W) (work : W) (brought : List (Option V)) : Type 0 where
+    pub last : ValueWorkerState V W
+    pub along : Along DealsInStep a last
+    pub work_is : work ≡ last.worker.work
+    pub brought_is : brought ≡ last.brought
 
 -- the first of the pairs that are left is contended
 abbrev pub IsOwedPair : {V W : Type 0} → ValueWorkerState V W → Type 0

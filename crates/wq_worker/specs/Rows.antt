@@ -38,6 +38,11 @@ ended_by_answer Nothing = 0
 ended_by_answer (Owing k) = 0
 ended_by_answer _ = 1
 
+-- any number of steps, one after another
+pub data Along {X : Type 0} (step : X → X → Type 0) : X → X → Type 0 where
+  here : (a : X) → Along step a a
+  onward : (a b c : X) → Along step a b → step b c → Along step a c
+
 module _ {W : Type 0} where
   -- the queue is closed where it was not
   pub data Closes (a b : WorkerState W) : Type 0 where

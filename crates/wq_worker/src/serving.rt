@@ -4,7 +4,7 @@ ghost use Rattle.wq_words.specs.History.{IsClosed, IsShut};
 ghost use Rattle.wq_words.specs.Legal.{IsLegal};
 ghost use Rattle.wq_worker.specs.declared.drained.Drained.TheVariants.{Empty};
 ghost use Rattle.wq_worker.specs.State.{IsSameWorker};
-ghost use Rattle.wq_worker.specs.Rows.{RunsSomeBy, RunsOutBy, ServesBy, DrainsBy, Closes};
+ghost use Rattle.wq_worker.specs.Rows.{RunsSomeBy, RunsOutBy, ServesBy, DrainsBy, Closes, Along};
 
 use crate::drained::Drained;
 use crate::patience::Patience;
@@ -20,6 +20,7 @@ pub(crate) fn run_some<S: Station>(station: &mut S, limit: u32) -> u32
     ensures unclosed { ¬ IsClosed (S.state station.old).seen → ¬ IsClosed (S.state station.new).seen }
     ensures same { IsSameWorker (S.state station.old) (S.state station.new) }
     ensures legal { IsLegal (S.state station.new).layout (S.state station.new).seen }
+    ensures deals { Along S.deals station.old station.new }
 {
     station.legal();
     for done in 0..limit {
@@ -41,6 +42,7 @@ pub(crate) fn run_out<S: Station>(station: &mut S, limit: u32) -> u32
     ensures shut { IsShut (S.state station.new).seen }
     ensures same { IsSameWorker (S.state station.old) (S.state station.new) }
     ensures legal { IsLegal (S.state station.new).layout (S.state station.new).seen }
+    ensures deals { Along S.deals station.old station.new }
 {
     station.legal();
     for _done in 0..limit {
@@ -59,6 +61,7 @@ pub(crate) fn drain<S: Station>(station: &mut S, limit: u32) -> Drained
     ensures unclosed { ¬ IsClosed (S.state station.old).seen → ¬ IsClosed (S.state station.new).seen }
     ensures same { IsSameWorker (S.state station.old) (S.state station.new) }
     ensures legal { IsLegal (S.state station.new).layout (S.state station.new).seen }
+    ensures deals { Along S.deals station.old station.new }
 {
     station.drain_where_open();
     let left = run_out::<S>(station, limit);
@@ -75,6 +78,7 @@ pub(crate) fn serve<R: Wait, S: Station>(rt: &R, station: &mut S, parker: &Parke
     ensures serves { ServesBy S.may S.gives (S.state station.old) (S.state station.new) }
     ensures same { IsSameWorker (S.state station.old) (S.state station.new) }
     ensures legal { IsLegal (S.state station.new).layout (S.state station.new).seen }
+    ensures deals { Along S.deals station.old station.new }
 {
     let mut patience = Patience::new(station.spins());
     for _ in rt.forever() {
@@ -93,6 +97,7 @@ pub(crate) fn serve<R: Wait, S: Station>(rt: &R, station: &mut S, parker: &Parke
 pub(crate) fn close_where_unclosed<S: Station>(station: &mut S)
     ensures closes { Closes (S.state station.old) (S.state station.new) }
     ensures closed { IsClosed (S.state station.new).seen }
+    ensures deals { Along S.deals station.old station.new }
 {
     if station.is_closed() {
         return;

@@ -35,6 +35,9 @@ pub trait Station {
     /// What the givings back of a step may leave of the work that goes on with what was owed.
     ghost gives: { Self.Work → Self.Work → Type 0 };
 
+    /// What one step does with the pairs that the work asks for; nothing is said where items bring no values.
+    ghost deals: { Self → Self → Type 0 };
+
     /// What a book is without values.
     ghost book: { Self.Book → BookState };
 
@@ -66,6 +69,7 @@ pub trait Station {
     /// As `Worker::run_one`.
     fn run_one(&mut self) -> Ran
         ensures runs { RunsBy may gives result (state self.old) (state self.new) }
+        ensures deals { deals self.old self.new }
         ensures none { result ≡ Nothing → HasNoneLeft (state self.new).seen }
         ensures open { ¬ IsShut (state self.old).seen → ¬ IsShut (state self.new).seen }
         ensures unclosed { ¬ IsClosed (state self.old).seen → ¬ IsClosed (state self.new).seen }
@@ -74,7 +78,8 @@ pub trait Station {
 
     /// As `Worker::ready`.
     fn ready(&mut self) -> Option<u32>
-        ensures outcome { MatchOption result (IsUnready (state self.old) (state self.new)) (λ k. IsReady (state self.old) k (state self.new)) };
+        ensures outcome { MatchOption result (IsUnready (state self.old) (state self.new)) (λ k. IsReady (state self.old) k (state self.new)) }
+        ensures deals { deals self.old self.new };
 
     /// As `Worker::rest`.
     fn rest(&mut self) -> bool
@@ -85,7 +90,8 @@ pub trait Station {
         ensures open { ¬ IsShut (state self.new).seen }
         ensures unclosed { ¬ IsClosed (state self.new).seen }
         ensures none { HasNoneLeft (state self.new).seen }
-        ensures refused { result ≡ false → MayNotRest (state self.new).seen };
+        ensures refused { result ≡ false → MayNotRest (state self.new).seen }
+        ensures deals { deals self.old self.new };
 
     /// As `Worker::is_closed`.
     fn is_closed(&self) -> bool
@@ -97,7 +103,8 @@ pub trait Station {
         requires unclosed { ¬ IsClosed (state self.old).seen }
         ensures work { LeavesWork (state self.old) (state self.new) }
         ensures events { Moves (Close ∷ []) 0 (state self.old) (state self.new) }
-        ensures takes { TakesAll Close result (state self.new).seen };
+        ensures takes { TakesAll Close result (state self.new).seen }
+        ensures deals { deals self.old self.new };
 
     /// How many numbers are accepted and have not ended.
     fn left(&self) -> u32
@@ -107,12 +114,14 @@ pub trait Station {
     /// Begins a drain where the queue is open.
     fn drain_where_open(&mut self)
         ensures shuts { Shuts (state self.old) (state self.new) }
-        ensures shut { IsShut (state self.new).seen };
+        ensures shut { IsShut (state self.new).seen }
+        ensures deals { deals self.old self.new };
 
     /// Opens the queue again where it drained.
     fn resume_where_draining(&mut self)
         requires { HasRunOut (state self.old).seen }
-        ensures resumes { Resumes (state self.old) (state self.new) };
+        ensures resumes { Resumes (state self.old) (state self.new) }
+        ensures deals { deals self.old self.new };
 
     /// Takes a worker apart whose queue has run to its end: the work, and the book of the queue.
     fn into_parts(self) -> (Self::Work, Self::Book)

@@ -17,9 +17,9 @@ ghost use Rattle.wq_worker.specs.declared.ran.Ran.TheVariants.{Nothing, Owing};
 ghost use Rattle.wq_worker.specs.declared.drained.Drained.TheVariants.{Empty};
 ghost use Rattle.wq_worker.specs.Returned.{GivesBack, MayLeave, pairs_of, numbers_in};
 ghost use Rattle.wq_worker.specs.ValueState.{owner_in, sender_in, ran_pairs, HasRunPairs};
-ghost use Rattle.wq_worker.specs.Deals.{DealsOut, DealsOutBy, BeginsValue, IsOwedPair};
+ghost use Rattle.wq_worker.specs.Deals.{DealsOut, DealsOutBy, BeginsValue, IsOwedPair, DealsInStep, DealsToEnd};
 ghost use Rattle.wq_worker.specs.Step.{RunsBy, FindsNothing};
-ghost use Rattle.wq_worker.specs.Rows.{RunsSomeBy, DrainsBy, ServesBy};
+ghost use Rattle.wq_worker.specs.Rows.{RunsSomeBy, DrainsBy, ServesBy, Along};
 ghost use Rattle.wq_worker.specs.Resting.{HasNoneLeft, rest_events, LeavesWork, IsReady, IsUnready};
 ghost use Rattle.wq_worker.specs.Destroy.{IsBookOf, DestroysBy, LeavesUnfinishedBy};
 
@@ -270,8 +270,9 @@ impl<V: Drop, W: ValueWork<V>> ValueWorker<V, W> {
         rest::<ValuePair<V>>(&mut self.pair)
     }
 
-    /// As `Worker::run_some`.
+    /// As `Worker::run_some`. What each step asked for is dealt out as `run_one` says it of one.
     pub fn run_some(&mut self, limit: u32) -> u32
+        ensures deals { Along (DealsInStep W.given W.may W.takes) self.old self.new }
         ensures runs { RunsSomeBy (MayLeave W.may W.takes) (GivesBack W.takes) limit result self.old.worker self.new.worker }
         ensures open { ¬ IsShut self.old.worker.seen → ¬ IsShut self.new.worker.seen }
         ensures unclosed { ¬ IsClosed self.old.worker.seen → ¬ IsClosed self.new.worker.seen }
@@ -341,8 +342,9 @@ impl<V: Drop, W: ValueWork<V>> ValueWorker<V, W> {
         Totals::of(self.pair.sender_counts(), self.pair.owner_counts())
     }
 
-    /// As `Worker::drain`.
+    /// As `Worker::drain`, with the pairs of each step dealt out as by `run_one`.
     pub fn drain(&mut self, limit: u32) -> Drained
+        ensures deals { Along (DealsInStep W.given W.may W.takes) self.old self.new }
         ensures drains { DrainsBy (MayLeave W.may W.takes) (GivesBack W.takes) limit result self.old.worker self.new.worker }
         ensures open { result ≡ Empty → ¬ IsClosed self.old.worker.seen → ¬ IsShut self.new.worker.seen }
         ensures unclosed { ¬ IsClosed self.old.worker.seen → ¬ IsClosed self.new.worker.seen }
@@ -352,9 +354,10 @@ impl<V: Drop, W: ValueWork<V>> ValueWorker<V, W> {
         drain::<ValueWorker<V, W>>(self, limit)
     }
 
-    /// As `Worker::serve`.
+    /// As `Worker::serve`, with the pairs of each step dealt out as by `run_one`.
     pub fn serve<R: Wait>(&mut self, rt: &R, parker: &Parker)
         requires open { ¬ IsShut self.old.worker.seen }
+        ensures deals { Along (DealsInStep W.given W.may W.takes) self.old self.new }
         ensures serves { ServesBy (MayLeave W.may W.takes) (GivesBack W.takes) self.old.worker self.new.worker }
         ensures same { IsSameWorker self.old.worker self.new.worker }
         ensures legal { IsLegal self.new.worker.layout self.new.worker.seen }
@@ -375,8 +378,11 @@ impl<V: Drop, W: ValueWork<V>> ValueWorker<V, W> {
         (work, ValueBook::new(owner, &sender))
     }
 
-    /// As `Worker::destroy`: the work has run what was accepted, each item with the value that it brought, in order.
+    /// As `Worker::destroy`: the work has run what was accepted, each item with the value that it brought, in order. The pairs of
+    /// each step were dealt out as by `run_one`.
     pub fn destroy(mut self, limit: u32) -> Result<(W, ValueBook<V>), Unfinished<ValueWorker<V, W>>>
+        ensures deals { MatchResult result (λ done. DealsToEnd W.given W.may W.takes self done.0 done.1.brought)
+            (λ unfinished. Along (DealsInStep W.given W.may W.takes) self unfinished.worker) }
         ensures outcome { MatchResult result
             (λ done. DestroysBy (HasRunPairs W.log done.1.brought) (MayLeave W.may W.takes) (GivesBack W.takes) limit self.worker done.0 done.1.book)
             (λ unfinished. LeavesUnfinishedBy (MayLeave W.may W.takes) (GivesBack W.takes) limit self.worker unfinished.worker.worker unfinished.left) }
@@ -400,6 +406,8 @@ impl<V: Drop, W: ValueWork<V>> Station for ValueWorker<V, W> {
     ghost may = { MayLeave W.may W.takes };
 
     ghost gives = { GivesBack W.takes };
+
+    ghost deals = { DealsInStep W.given W.may W.takes };
 
     ghost book = { λ b. b.book };
 
@@ -432,6 +440,7 @@ impl<V: Drop, W: ValueWork<V>> Station for ValueWorker<V, W> {
     }
 
     fn ready(&mut self) -> Option<u32> {
+        self.legal();
         self.ready()
     }
 

@@ -388,6 +388,8 @@ impl<W: Work> Station for Worker<W> {
 
     ghost gives = { stays };
 
+    ghost deals = { λ a b. Unit {0} };
+
     ghost book = { λ b. b };
 
     ghost has_logged = { λ w. W.log w.work ≡ items_among w.layout (begun w.seen) };

@@ -15,8 +15,8 @@ use trail::Trail;
 use wq_live::{Answer, Sender};
 use wq_worker::{Follow, Work, Worker};
 
-/// A work that asks for each item below a number again, and for the next one, so that the queue is not empty while the number is
-/// not 0.
+/// A work whose items below a number ask for the next one in a ring, so that one of them waits while the number is not 0, unless
+/// one was lost.
 #[derive(Drop)]
 struct Restless {
     below: u32,
@@ -43,7 +43,6 @@ impl Work for Restless {
         self.ran = self.ran.and(item);
         let mut follow = Follow::new();
         if item < self.below {
-            let _ = follow.try_push(item);
             let _ = follow.try_push((item + 1) % self.below);
         }
         follow
@@ -128,6 +127,14 @@ fn serve_until_owing<R: Abort + Clock + Threads + Wait + Sync>(
     false
 }
 
+/// Whether the ring goes on once the stop item that was requested last has run.
+fn ring_goes_on(worker: &mut Worker<Restless>) -> bool
+    ensures { worker.new.queue ≡ worker.old.queue }
+{
+    let _ = worker.run_some(1000);
+    worker.run_some(1000) == 1000
+}
+
 /// Destroys a worker that owed an execution, with what is left: the book balances.
 fn check_balance<R: Abort>(
     rt: &R,
@@ -148,8 +155,8 @@ fn check_balance<R: Abort>(
     assert!(rt; totals.contended > 0);
 }
 
-/// An execution is owed where the worker's one try is lost to another sender. A worker that serves goes on at once there, and the
-/// book balances.
+/// An execution is owed where the worker's one try is lost to another sender. A worker that serves goes on at once there, the item
+/// that was to be queued is not lost, and the book balances.
 #[test]
 fn owing_goes_on(rt: HostRuntime) -> Result<(), Fail> {
     let mut parker = Parker::new(rt.alloc())?;
@@ -169,6 +176,7 @@ fn owing_goes_on(rt: HostRuntime) -> Result<(), Fail> {
         &mut second,
     );
     assert!(rt; is_owing);
+    assert!(rt; ring_goes_on(&mut worker));
     check_balance(&rt, worker, &mut first, &mut second);
     Ok(())
 }

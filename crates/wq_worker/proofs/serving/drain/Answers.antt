@@ -1,5 +1,6 @@
 use Rattle.wq_worker.proofs.Common.{ℕ, ◌<◌, subst, arith, IsClosed, RowBy, IsExecution}
-use Rattle.wq_worker.proofs.Rows.{worker_on, shuts_same, resumes_same, resumes_legal, shuts_unclosed, resumes_open, resumes_unclosed, row_unclosed, ran_out}
+use Rattle.wq_worker.specs.Rows.{onward}
+use Rattle.wq_worker.proofs.Rows.{one_step, along_on, worker_on, shuts_same, resumes_same, resumes_legal, shuts_unclosed, resumes_open, resumes_unclosed, row_unclosed, ran_out}
 use Rattle.wq_worker.proofs.serving.drain.Goals as goal
 
 pub resume_where_draining-requires : goal.resume_where_draining-requires
@@ -25,6 +26,8 @@ returns-then-left-gt0 g c =
       unclosed = λ not. row_unclosed s.may s.gives IsExecution r.steps m b r.row (shuts_unclosed a m shuts not);
       same = worker_on a m b (shuts_same a m shuts) e.same;
       legal = e.legal;
+      deals = along_on s.deals c.args.station.now c.drain_where_open.new.self c.run_out-left.new.station
+          (one_step s.deals c.args.station.now c.drain_where_open.new.self c.drain_where_open.ensures.deals) e.deals;
     }
 
 pub returns : goal.returns
@@ -49,4 +52,8 @@ returns g c =
       unclosed = λ not. resumes_unclosed b d t (unclosed not);
       same = worker_on a b d (worker_on a m b (shuts_same a m shuts) e.same) (resumes_same b d t);
       legal = resumes_legal b d e.legal t;
+      deals = onward c.args.station.now c.run_out-left.new.station c.resume_where_draining.new.self
+          (along_on s.deals c.args.station.now c.drain_where_open.new.self c.run_out-left.new.station
+          (one_step s.deals c.args.station.now c.drain_where_open.new.self c.drain_where_open.ensures.deals) e.deals)
+          c.resume_where_draining.ensures.deals;
     }

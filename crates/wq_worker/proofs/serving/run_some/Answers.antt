@@ -1,11 +1,11 @@
 use Rattle.wq_worker.proofs.Common.{refl, arith, Item, Barrier, Stop, Nothing, Owing, none, more}
-use Rattle.wq_worker.specs.Rows.{GoesOn, broken}
+use Rattle.wq_worker.specs.Rows.{GoesOn, broken, here, onward}
 use Rattle.wq_worker.proofs.Rows.{worker_on, row_same, row_open, row_unclosed}
 use Rattle.wq_worker.proofs.serving.run_some.Goals as goal
 use Rattle.wq_worker.proofs.serving.run_some.Goals.{in-Item, in-Barrier}
 
 pub loop-done-init : goal.loop-done-init
-loop-done-init g c = (none (g.S.Station.state c.args.station.now), c.legal.ensures.legal)
+loop-done-init g c = (none (g.S.Station.state c.args.station.now), c.legal.ensures.legal, here c.args.station.now)
 
 pub returns-in-Stop-clause-runs : goal.returns-in-Stop-clause-runs
 returns-in-Stop-clause-runs g c =
@@ -79,11 +79,26 @@ pub returns-clause-same : goal.returns-clause-same
 returns-clause-same g c =
     let s = g.S.Station in let l = c.loop-done in row_same s.may s.gives GoesOn l.done (s.state c.args.station.now) (s.state l.station) l.invariant.0
 
+pub returns-in-Stop-clause-deals : goal.returns-in-Stop-clause-deals
+returns-in-Stop-clause-deals g c =
+    let l = c.loop-done in onward c.args.station.now l.station c.run_one.new.self l.invariant.2 c.in-Stop.ensures.deals
+
+pub returns-in-Nothing-clause-deals : goal.returns-in-Nothing-clause-deals
+returns-in-Nothing-clause-deals g c =
+    let l = c.loop-done in onward c.args.station.now l.station c.run_one.new.self l.invariant.2 c.in-Nothing.ensures.deals
+
+pub returns-in-Owing-clause-deals : goal.returns-in-Owing-clause-deals
+returns-in-Owing-clause-deals g c =
+    let l = c.loop-done in onward c.args.station.now l.station c.run_one.new.self l.invariant.2 c.in-Owing.ensures.deals
+
+pub returns-clause-deals : goal.returns-clause-deals
+returns-clause-deals g c = c.loop-done.invariant.2
+
 pub loop-done-preserved : goal.loop-done-preserved
 loop-done-preserved g c =
     let s = g.S.Station in let a = s.state c.args.station.now in let l = c.loop-done in let m = s.state l.station in
-    let b = s.state c.run_one.new.self in
+    let b = s.state c.run_one.new.self in let on = onward c.args.station.now l.station c.run_one.new.self l.invariant.2 in
     elim c.match-run_one.branch [
-      | in-Item w ↦ (more l.done (Item w.in-Item.field-0) a m b l.invariant.0 tt w.in-Item.ensures.runs, w.in-Item.ensures.legal)
-      | in-Barrier w ↦ (more l.done (Barrier w.in-Barrier.field-0) a m b l.invariant.0 tt w.in-Barrier.ensures.runs, w.in-Barrier.ensures.legal)
+      | in-Item w ↦ (more l.done (Item w.in-Item.field-0) a m b l.invariant.0 tt w.in-Item.ensures.runs, w.in-Item.ensures.legal, on w.in-Item.ensures.deals)
+      | in-Barrier w ↦ (more l.done (Barrier w.in-Barrier.field-0) a m b l.invariant.0 tt w.in-Barrier.ensures.runs, w.in-Barrier.ensures.legal, on w.in-Barrier.ensures.deals)
     ]

@@ -1,3 +1,4 @@
+use Rattle.wq_worker.specs.Rows.{Along}
 use Rattle.wq_turn.specs.Steps.{Finishes, Pauses, EndsWithin}
 use Rattle.wq_turn.proofs.Steps.{works_finishes, works_pauses, works_ended, works_id}
 use Rattle.wq_pool.proofs.Common.{Some, sym, refl, ap, ◌∙◌, subst, id_of, TurnState, IsSameTurn}
@@ -65,3 +66,13 @@ returns-clause-same g c =
       worker_is = ap (id_of k.state) c.into_served.ensures.same
           ∙ works_id k.may k.gives c.args.limit c.work.result (k.state i.runner) (k.state c.work.new.self) c.work.ensures.works;
     }
+
+pub returns-then-not-work-clause-deals : goal.returns-then-not-work-clause-deals
+returns-then-not-work-clause-deals g c =
+    subst (λ (t : TurnState _). Along g.K.Station.deals t.worker c.work.new.self) c.self.view_is c.work.ensures.deals
+
+pub returns-clause-deals : goal.returns-clause-deals
+returns-clause-deals g c =
+    let d = g.K.Station.deals in
+    subst (λ (t : TurnState _). Along d t.worker c.into_served.result) c.self.view_is
+    (subst (λ w. Along d c.self.inside.runner w) (sym c.into_served.ensures.same) c.work.ensures.deals)

@@ -1,7 +1,8 @@
 use Rattle.wq_worker.proofs.Common.{arith, GivesBack, MayLeave}
 use Rattle.wq_worker.specs.ValueState.{HasRunPairs}
 use Rattle.wq_worker.proofs.Destroy.{destroys, leaves_unfinished}
-use Rattle.wq_worker.proofs.Rows.{ran_complete}
+use Rattle.wq_worker.specs.Deals.{DealsInStep}
+use Rattle.wq_worker.proofs.Rows.{along_on, ran_complete}
 use Rattle.wq_worker.proofs.value_worker.ValueWorker.destroy.Goals as goal
 
 pub into_book-requires : goal.into_book-requires
@@ -17,6 +18,12 @@ returns g c =
       outcome = destroys (MayLeave W.may W.takes) (GivesBack W.takes) c.args.limit r.result c.args.self.worker m.new.station.worker r.new.station.worker
           m.ensures.closes e.runs e.same e.legal (HasRunPairs W.log b.result.1.brought) b.result.0 b.result.1.book m.ensures.closed
           (omega (arith, c.if-left-gt0.false)) b.ensures.work b.ensures.book (rw (b.ensures.book.2, b.ensures.brought) b.ensures.logged);
+      deals = record {
+        last = r.new.station;
+        along = along_on (DealsInStep W.given W.may W.takes) c.args.self m.new.station r.new.station m.ensures.deals e.deals;
+        work_is = b.ensures.work;
+        brought_is = b.ensures.brought;
+      };
     }
 
 pub returns-then-left-gt0 : goal.returns-then-left-gt0
@@ -25,4 +32,5 @@ returns-then-left-gt0 g c =
     record {
       outcome = leaves_unfinished (MayLeave W.may W.takes) (GivesBack W.takes) c.args.limit r.result c.args.self.worker m.new.station.worker
           r.new.station.worker m.ensures.closes e.runs e.same e.legal (omega (arith, c.if-left-gt0.true));
+      deals = along_on (DealsInStep W.given W.may W.takes) c.args.self m.new.station r.new.station m.ensures.deals e.deals;
     }

@@ -1,4 +1,6 @@
 use Rattle.wq_worker.proofs.Common.{[], ◌∷◌, sym, refl, ◌∙◌, subst, Drain, IsShut, open_from_shut, ValueWorkerState, Shuts, drains}
+use Rattle.wq_worker.specs.Deals.{DealsInStep, keeps}
+use Rattle.wq_worker.proofs.Deals.{deals_still}
 use Rattle.wq_worker.proofs.ValueState.{value_state_of, value_fit_owner, value_moves_owner}
 use Rattle.wq_worker.proofs.value_worker.ValueWorkerStation.drain_where_open.Goals as goal
 
@@ -15,3 +17,17 @@ returns-clause-shuts g c =
     let w : ValueWorkerState g.row.V.Denot g.row.W.Denot = value_state_of q i.tries i.left.pairs i.work in
     subst (λ (z : ValueWorkerState g.row.V.Denot g.row.W.Denot). Shuts z.worker w.worker) c.self.view_is
     (drains opens (value_moves_owner (Drain ∷ []) 0 0 i.pair q e.seen e.others i.tries i.left.pairs i.work) refl refl)
+
+pub returns-clause-deals : goal.returns-clause-deals
+returns-clause-deals g c =
+    let i = c.self.inside in let e = c.drain.ensures in let q = c.drain.new.self in let v = g.W.ValueWork in
+    let w : ValueWorkerState g.row.V.Denot g.row.W.Denot = value_state_of q i.tries i.left.pairs i.work in
+    subst (λ (z : ValueWorkerState g.row.V.Denot g.row.W.Denot). DealsInStep v.given v.may v.takes z w) c.self.view_is
+    (keeps (Drain ∷ []) (value_moves_owner (Drain ∷ []) 0 0 i.pair q e.seen e.others i.tries i.left.pairs i.work) refl refl (refl, refl) refl e.learnt)
+
+pub returns-then-is_shut-clause-deals : goal.returns-then-is_shut-clause-deals
+returns-then-is_shut-clause-deals g c =
+    let i = c.self.inside in let v = g.W.ValueWork in
+    let a : ValueWorkerState g.row.V.Denot g.row.W.Denot = value_state_of i.pair i.tries i.left.pairs i.work in
+    subst (λ (z : ValueWorkerState g.row.V.Denot g.row.W.Denot). DealsInStep v.given v.may v.takes z z) c.self.view_is
+    (deals_still v.given v.may v.takes a c.self.invariant.legal c.self.invariant.whole)

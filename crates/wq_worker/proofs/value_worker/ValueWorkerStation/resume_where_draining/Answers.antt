@@ -1,4 +1,6 @@
 use Rattle.wq_worker.proofs.Common.{rules, [], ◌∷◌, sym, refl, subst, Resume, IsDraining, HasRunOut, ValueWorkerState, Resumes, stays_closed, reopens}
+use Rattle.wq_worker.specs.Deals.{DealsInStep, keeps}
+use Rattle.wq_worker.proofs.Deals.{deals_still}
 use Rattle.wq_worker.proofs.Draining.{none_left}
 use Rattle.wq_worker.proofs.Phase.{closed_else}
 use Rattle.wq_worker.proofs.ValueState.{value_state_of, value_fit_owner, value_moves_owner}
@@ -20,11 +22,15 @@ invariant_of-self g c =
 pub returns-then-is_draining : goal.returns-then-is_draining
 returns-then-is_draining g c =
     let i = c.self.inside in let e = c.resume.ensures in let q = c.resume.new.self in
+    let v = g.W.ValueWork in
     let is : IsDraining i.pair.known.seen = c.is_draining.ensures.draining.0 (search rules) in
     let w : ValueWorkerState g.row.V.Denot g.row.W.Denot = value_state_of q i.tries i.left.pairs i.work in
     record {
       resumes = subst (λ (z : ValueWorkerState g.row.V.Denot g.row.W.Denot). Resumes z.worker w.worker) c.self.view_is
           (reopens is (value_moves_owner (Resume ∷ []) 0 0 i.pair q e.seen e.others i.tries i.left.pairs i.work) refl refl);
+      deals = subst (λ (z : ValueWorkerState g.row.V.Denot g.row.W.Denot). DealsInStep v.given v.may v.takes z w) c.self.view_is
+          (keeps (Resume ∷ []) (value_moves_owner (Resume ∷ []) 0 0 i.pair q e.seen e.others i.tries i.left.pairs i.work) refl refl (refl, refl) refl
+          e.learnt);
     }
 
 pub returns-else-is_draining : goal.returns-else-is_draining
@@ -33,4 +39,10 @@ returns-else-is_draining g c =
     let not : ¬ IsDraining o.seen = λ draining. absurd (cc (c.is_draining.ensures.draining.1 draining, c.if-is_draining.false)) in
     let here : ¬ IsDraining c.args.self.now.worker.seen =
     subst (λ (z : ValueWorkerState g.row.V.Denot g.row.W.Denot). ¬ IsDraining z.worker.seen) c.self.view_is not in
-    record { resumes = stays_closed (closed_else c.args.self.now.worker.seen c.requires.0 here) refl }
+    let i = c.self.inside in let v = g.W.ValueWork in
+    let a : ValueWorkerState g.row.V.Denot g.row.W.Denot = value_state_of i.pair i.tries i.left.pairs i.work in
+    record {
+      resumes = stays_closed (closed_else c.args.self.now.worker.seen c.requires.0 here) refl;
+      deals = subst (λ (z : ValueWorkerState g.row.V.Denot g.row.W.Denot). DealsInStep v.given v.may v.takes z z) c.self.view_is
+          (deals_still v.given v.may v.takes a c.self.invariant.legal c.self.invariant.whole);
+    }

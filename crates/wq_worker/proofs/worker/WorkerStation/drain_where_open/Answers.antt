@@ -20,7 +20,7 @@ returns-then-is_shut g c =
     let o : KnownPair = c.self.inside.pair in
     let is : IsShut o.seen = IsShut_from_shut o.seen (sym c.is_shut.ensures ∙ c.if-is_shut.true) in
     let now : IsShut c.args.self.now.seen = subst (λ (w : WorkerState g.row.W.Denot). IsShut w.seen) c.self.view_is is in
-    record { shuts = was_shut now refl; shut = now }
+    record { shuts = was_shut now refl; shut = now; deals = tt }
 
 pub returns : goal.returns
 returns g c =
@@ -33,4 +33,5 @@ returns g c =
       shuts = subst (λ (z : WorkerState g.row.W.Denot). Shuts z w) c.self.view_is
           (drains opens (moves_by (Drain ∷ []) 0 i.tries left left i.work i.work o q b) refl refl);
       shut = e.shut;
+      deals = tt;
     }

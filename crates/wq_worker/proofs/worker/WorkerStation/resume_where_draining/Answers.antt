@@ -30,6 +30,7 @@ returns-then-is_draining g c =
     record {
       resumes = subst (λ (z : WorkerState g.row.W.Denot). Resumes z w) c.self.view_is
           (reopens is (moves_by (Resume ∷ []) 0 i.tries left left i.work i.work o q b) refl refl);
+      deals = tt;
     }
 
 pub returns-else-is_draining : goal.returns-else-is_draining
@@ -37,4 +38,4 @@ returns-else-is_draining g c =
     let o : KnownPair = c.self.inside.pair in
     let not : ¬ IsDraining o.seen = λ draining. absurd (cc (c.is_draining.ensures.draining.1 draining, c.if-is_draining.false)) in
     let here : ¬ IsDraining c.args.self.now.seen = rw (sym (ap (λ (w : WorkerState _). w.seen) c.self.view_is)) not in
-    record { resumes = stays_closed (closed_else c.args.self.now.seen c.requires.0 here) refl }
+    record { resumes = stays_closed (closed_else c.args.self.now.seen c.requires.0 here) refl; deals = tt }
