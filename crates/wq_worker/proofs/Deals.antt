@@ -1,13 +1,15 @@
 -- What becomes of the pairs of a run, as far as they have come.
 use Rattle.wq_worker.proofs.Common.{◌≡◌, ℕ, Bool, true, false, Option, Some, None, MatchOption, List, [], ◌∷◌, ◌++◌, refl, sym, ap, ◌∙◌, subst, append_assoc}
 use Rattle.wq_worker.proofs.Common.{append-nil, Event, accepted, shut, IsLegal, Learnt, next_of, taking, Follows, numbers_in, IsReady, IsUnready, rest_events}
-use Rattle.wq_worker.proofs.Common.{Moves, WorkerState, ValueWorkerState, owner_in}
-use Rattle.wq_words.proofs.Prefixes.{prefix_self}
+use Rattle.wq_worker.proofs.Common.{Moves, WorkerState, ValueWorkerState, owner_in, learnt_on, Item, Barrier, Stop, Nothing, Owing}
+use mathlib.Core.List.{IsPrefix}
+use Rattle.wq_words.proofs.Prefixes.{prefix_self, prefix_on}
 use Rattle.wq_live.specs.KnownWith.{MatchesAccepted}
 use Rattle.wq_worker.specs.Seats.{taking_of}
 use Rattle.wq_worker.specs.Follow.{Queues}
 use Rattle.wq_worker.specs.Resting.{LeavesWork, owed, nothing}
-use Rattle.wq_worker.specs.Deals.{DealsOne, Deals, DealsInStep, keeps}
+use Rattle.wq_worker.specs.Rows.{Along, here, onward}
+use Rattle.wq_worker.specs.Deals.{DealsOne, Deals, DealsOut, DealsInStep, runs, keeps}
 use Rattle.wq_worker.proofs.Seats.{adds_none}
 use Rattle.wq_worker.proofs.State.{quiet_taking}
 use Rattle.wq_worker.proofs.Resting.{begun_rest}
@@ -70,7 +72,7 @@ module _ {V W : Type 0} (given : W → List (ℕ × V)) (may : W → ℕ → V �
       → DealsInStep given may takes a b
   deals_ready a b (Some k) legal t pairs learnt =
       keeps (taking a.worker.seen) t.moves (quiet_taking a.worker.seen).begun_none (accepted_taking a.worker.seen) t.work_is pairs learnt
-  deals_ready a b None legal (owed runs same) pairs learnt =
+  deals_ready a b None legal (owed is same) pairs learnt =
       keeps [] (subst (λ (w : WorkerState W). Moves [] 0 a.worker w) (sym same)
       (record { queue = refl; layout = refl; number = refl; tries = refl; adds = adds_none a.worker.number a.worker.seen; legal = legal }))
       refl refl (ap (λ (w : WorkerState W). w.work) same, ap (λ (w : WorkerState W). w.unqueued) same) pairs learnt
@@ -80,3 +82,33 @@ module _ {V W : Type 0} (given : W → List (ℕ × V)) (may : W → ℕ → V �
   pub deals_rest : (a b : ValueWorkerState V W) (rests : Bool) → Moves (rest_events rests) 0 a.worker b.worker → LeavesWork a.worker b.worker
       → b.unqueued ≡ a.unqueued → Learnt (owner_in a) (owner_in b) → DealsInStep given may takes a b
   deals_rest a b rests moved left pairs learnt = keeps (rest_events rests) moved (begun_rest rests) (accepted_rest rests) left pairs learnt
+
+  step_learnt : (a b : ValueWorkerState V W) → DealsInStep given may takes a b → Learnt (owner_in a) (owner_in b)
+  step_learnt a b (runs r ran dealt learnt) = learnt
+  step_learnt a b (keeps es moved begins accepts left pairs learnt) = learnt
+
+  dealt_given : (a b : ValueWorkerState V W) → DealsOut given may takes a b → IsPrefix (given a.worker.work) (given b.worker.work)
+  dealt_given a b d = (d.returned, sym d.given_is)
+
+  same_given : (u w : W) → w ≡ u → IsPrefix (given u) (given w)
+  same_given u w same = subst (λ (x : W). IsPrefix (given u) (given x)) (sym same) (prefix_self (given u))
+
+  step_given : (a b : ValueWorkerState V W) → DealsInStep given may takes a b → IsPrefix (given a.worker.work) (given b.worker.work)
+  step_given a b (runs (Item k) ran dealt learnt) = dealt_given a b dealt
+  step_given a b (runs (Barrier k) ran dealt learnt) = dealt_given a b dealt
+  step_given a b (runs Stop ran dealt learnt) = dealt_given a b dealt
+  step_given a b (runs (Owing k) ran dealt learnt) = dealt_given a b dealt
+  step_given a b (runs Nothing ran dealt learnt) = same_given a.worker.work b.worker.work ran.2
+  step_given a b (keeps es moved begins accepts left pairs learnt) = same_given a.worker.work b.worker.work left.0
+
+  -- through a row of steps what was brought, and what was given back, before begins what is now
+  pub along_learnt : (a b : ValueWorkerState V W) → MatchesAccepted (owner_in a) → Along (DealsInStep given may takes) a b
+      → Learnt (owner_in a) (owner_in b)
+  along_learnt a b whole (here c) = record { more = prefix_self c.brought; was_whole = whole; as_many = whole }
+  along_learnt a b whole (onward c d e row step) =
+      learnt_on (owner_in c) (owner_in d) (owner_in e) (along_learnt c d whole row) (step_learnt d e step)
+
+  pub along_given : (a b : ValueWorkerState V W) → Along (DealsInStep given may takes) a b → IsPrefix (given a.worker.work) (given b.worker.work)
+  along_given a b (here c) = prefix_self (given c.worker.work)
+  along_given a b (onward c d e row step) =
+      prefix_on (given c.worker.work) (given d.worker.work) (given e.worker.work) (along_given c d row) (step_given d e step)

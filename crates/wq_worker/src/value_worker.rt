@@ -1,6 +1,7 @@
 //! A worker whose items bring values.
 ghost use Rattle.std.specs.Prelude.{◌≡◌, ◌↔◌, ℕ, ◌+◌, ◌<◌, false, Some, [], ◌∷◌, All, map, length, IfOk, IfErr, IfNone, IsTrue, MatchOption, MatchResult};
 ghost use Rattle.std.specs.Fn.{FnOnceTakesAtMut, FnOnceReturnsAtMut};
+ghost use mathlib.Core.List.{IsPrefix};
 ghost use Rattle.wq_words.specs.declared.event.Event.TheVariants.{Close};
 ghost use Rattle.wq_words.specs.History.{accepted, begun, closed, running, IsRunning, IsClosed, IsShut, IsDraining};
 ghost use Rattle.wq_words.specs.Legal.{IsLegal, IsComplete};
@@ -8,7 +9,7 @@ ghost use Rattle.wq_words.specs.Headline.{KeepsHeadline};
 ghost use Rattle.wq_words.specs.Seen.{owner_seat, Grows};
 ghost use Rattle.wq_words.specs.Valued.{IsLegalWith, with_values};
 ghost use Rattle.wq_live.specs.Known.{Sees, new_senders};
-ghost use Rattle.wq_live.specs.KnownWith.{Learnt, knowing_nothing};
+ghost use Rattle.wq_live.specs.KnownWith.{Learnt, MatchesAccepted, knowing_nothing};
 ghost use Rattle.wq_live.specs.Batch.{TakesAll};
 ghost use Rattle.wq_live.specs.Rest.{MayNotRest};
 ghost use Rattle.wq_ledger.specs.Totals.{own_totals};
@@ -212,6 +213,14 @@ impl<V: Drop, W: ValueWork<V>> ValueWorker<V, W> {
         let _ = &self.pair;
     }
 
+    // Each accepted number has its place in what was brought.
+    fn whole(&self)
+        ensures { MatchesAccepted (owner_in self.now) }
+    {
+        // opens the worker, whose invariant says this
+        let _ = &self.pair;
+    }
+
     /// How large the queue is.
     pub fn layout(&self) -> Layout
         ensures size { result ≡ self.now.worker.layout }
@@ -270,15 +279,19 @@ impl<V: Drop, W: ValueWork<V>> ValueWorker<V, W> {
         rest::<ValuePair<V>>(&mut self.pair)
     }
 
-    /// As `Worker::run_some`. What each step asked for is dealt out as `run_one` says it of one.
+    /// As `Worker::run_some`. What each step asked for is dealt out as `run_one` says it of one, so what was brought and what was
+    /// given back before begin what is now.
     pub fn run_some(&mut self, limit: u32) -> u32
         ensures deals { Along (DealsInStep W.given W.may W.takes) self.old self.new }
+        ensures learnt { Learnt (owner_in self.old) (owner_in self.new) }
+        ensures given { IsPrefix (W.given self.old.worker.work) (W.given self.new.worker.work) }
         ensures runs { RunsSomeBy (MayLeave W.may W.takes) (GivesBack W.takes) limit result self.old.worker self.new.worker }
         ensures open { ¬ IsShut self.old.worker.seen → ¬ IsShut self.new.worker.seen }
         ensures unclosed { ¬ IsClosed self.old.worker.seen → ¬ IsClosed self.new.worker.seen }
         ensures same { IsSameWorker self.old.worker self.new.worker }
         ensures legal { IsLegal self.new.worker.layout self.new.worker.seen }
     {
+        self.whole();
         run_some::<ValueWorker<V, W>>(self, limit)
     }
 
@@ -345,12 +358,15 @@ impl<V: Drop, W: ValueWork<V>> ValueWorker<V, W> {
     /// As `Worker::drain`, with the pairs of each step dealt out as by `run_one`.
     pub fn drain(&mut self, limit: u32) -> Drained
         ensures deals { Along (DealsInStep W.given W.may W.takes) self.old self.new }
+        ensures learnt { Learnt (owner_in self.old) (owner_in self.new) }
+        ensures given { IsPrefix (W.given self.old.worker.work) (W.given self.new.worker.work) }
         ensures drains { DrainsBy (MayLeave W.may W.takes) (GivesBack W.takes) limit result self.old.worker self.new.worker }
         ensures open { result ≡ Empty → ¬ IsClosed self.old.worker.seen → ¬ IsShut self.new.worker.seen }
         ensures unclosed { ¬ IsClosed self.old.worker.seen → ¬ IsClosed self.new.worker.seen }
         ensures same { IsSameWorker self.old.worker self.new.worker }
         ensures legal { IsLegal self.new.worker.layout self.new.worker.seen }
     {
+        self.whole();
         drain::<ValueWorker<V, W>>(self, limit)
     }
 
@@ -358,10 +374,13 @@ impl<V: Drop, W: ValueWork<V>> ValueWorker<V, W> {
     pub fn serve<R: Wait>(&mut self, rt: &R, parker: &Parker)
         requires open { ¬ IsShut self.old.worker.seen }
         ensures deals { Along (DealsInStep W.given W.may W.takes) self.old self.new }
+        ensures learnt { Learnt (owner_in self.old) (owner_in self.new) }
+        ensures given { IsPrefix (W.given self.old.worker.work) (W.given self.new.worker.work) }
         ensures serves { ServesBy (MayLeave W.may W.takes) (GivesBack W.takes) self.old.worker self.new.worker }
         ensures same { IsSameWorker self.old.worker self.new.worker }
         ensures legal { IsLegal self.new.worker.layout self.new.worker.seen }
     {
+        self.whole();
         serve::<R, ValueWorker<V, W>>(rt, self, parker)
     }
 
@@ -383,10 +402,15 @@ impl<V: Drop, W: ValueWork<V>> ValueWorker<V, W> {
     pub fn destroy(mut self, limit: u32) -> Result<(W, ValueBook<V>), Unfinished<ValueWorker<V, W>>>
         ensures deals { MatchResult result (λ done. DealsToEnd W.given W.may W.takes self done.0 done.1.brought)
             (λ unfinished. Along (DealsInStep W.given W.may W.takes) self unfinished.worker) }
+        ensures learnt { MatchResult result (λ done. IsPrefix self.brought done.1.brought)
+            (λ unfinished. Learnt (owner_in self) (owner_in unfinished.worker)) }
+        ensures given { MatchResult result (λ done. IsPrefix (W.given self.worker.work) (W.given done.0))
+            (λ unfinished. IsPrefix (W.given self.worker.work) (W.given unfinished.worker.worker.work)) }
         ensures outcome { MatchResult result
             (λ done. DestroysBy (HasRunPairs W.log done.1.brought) (MayLeave W.may W.takes) (GivesBack W.takes) limit self.worker done.0 done.1.book)
             (λ unfinished. LeavesUnfinishedBy (MayLeave W.may W.takes) (GivesBack W.takes) limit self.worker unfinished.worker.worker unfinished.left) }
     {
+        self.whole();
         close_where_unclosed::<ValueWorker<V, W>>(&mut self);
         let left = run_out::<ValueWorker<V, W>>(&mut self, limit);
         if left > 0 {

@@ -2,6 +2,7 @@ use Rattle.wq_worker.proofs.Common.{arith, GivesBack, MayLeave}
 use Rattle.wq_worker.specs.ValueState.{HasRunPairs}
 use Rattle.wq_worker.proofs.Destroy.{destroys, leaves_unfinished}
 use Rattle.wq_worker.specs.Deals.{DealsInStep}
+use Rattle.wq_worker.proofs.Deals.{along_learnt, along_given}
 use Rattle.wq_worker.proofs.Rows.{along_on, ran_complete}
 use Rattle.wq_worker.proofs.value_worker.ValueWorker.destroy.Goals as goal
 
@@ -14,23 +15,24 @@ into_book-requires g c =
 pub returns : goal.returns
 returns g c =
     let m = c.close_where_unclosed in let r = c.run_out-left in let e = r.ensures in let b = c.into_book in let W = g.W.ValueWork in
+    let along = along_on (DealsInStep W.given W.may W.takes) c.args.self m.new.station r.new.station m.ensures.deals e.deals in
     record {
       outcome = destroys (MayLeave W.may W.takes) (GivesBack W.takes) c.args.limit r.result c.args.self.worker m.new.station.worker r.new.station.worker
           m.ensures.closes e.runs e.same e.legal (HasRunPairs W.log b.result.1.brought) b.result.0 b.result.1.book m.ensures.closed
           (omega (arith, c.if-left-gt0.false)) b.ensures.work b.ensures.book (rw (b.ensures.book.2, b.ensures.brought) b.ensures.logged);
-      deals = record {
-        last = r.new.station;
-        along = along_on (DealsInStep W.given W.may W.takes) c.args.self m.new.station r.new.station m.ensures.deals e.deals;
-        work_is = b.ensures.work;
-        brought_is = b.ensures.brought;
-      };
+      deals = record { last = r.new.station; along = along; work_is = b.ensures.work; brought_is = b.ensures.brought };
+      learnt = rw (b.ensures.brought) (along_learnt W.given W.may W.takes c.args.self r.new.station c.whole.ensures along).more;
+      given = rw (b.ensures.work) (along_given W.given W.may W.takes c.args.self r.new.station along);
     }
 
 pub returns-then-left-gt0 : goal.returns-then-left-gt0
 returns-then-left-gt0 g c =
     let m = c.close_where_unclosed in let r = c.run_out-left in let e = r.ensures in let W = g.W.ValueWork in
+    let along = along_on (DealsInStep W.given W.may W.takes) c.args.self m.new.station r.new.station m.ensures.deals e.deals in
     record {
       outcome = leaves_unfinished (MayLeave W.may W.takes) (GivesBack W.takes) c.args.limit r.result c.args.self.worker m.new.station.worker
           r.new.station.worker m.ensures.closes e.runs e.same e.legal (omega (arith, c.if-left-gt0.true));
-      deals = along_on (DealsInStep W.given W.may W.takes) c.args.self m.new.station r.new.station m.ensures.deals e.deals;
+      deals = along;
+      learnt = along_learnt W.given W.may W.takes c.args.self r.new.station c.whole.ensures along;
+      given = along_given W.given W.may W.takes c.args.self r.new.station along;
     }
