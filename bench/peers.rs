@@ -2,7 +2,7 @@
 // usage: peers array|channel|mpsc|mutex|channel8|channel64|mpsc8|mpsc64 SENDERS SLICE TOTAL; prints `items N nanos T takes K least L`.
 //
 // With a number behind its name a channel carries the item's number and a value of so many bytes, which the sender makes of the
-// number and the thread that executes reads, as `bench_values` does.
+// number and the thread that executes reads, as `bench_queue values` does.
 //
 // Each item has a PENDING byte, which a sender tests and sets before it queues the item's number and the thread that executes
 // clears before it runs the item, so that an item is queued once at a time, as in the queue that is measured beside. A take is a

@@ -1,8 +1,8 @@
 #!/usr/bin/env python3
-"""Times how long recordings take: the checkers by calls, by the program of bench_check, and texts by `wqrun check`, in turn with mawk
+"""Times how long recordings take: the checkers by calls, by bench_queue, and texts by `wqrun check`, in turn with mawk
 on the same file, which adds up one field of each line, and counts the lines of each kind.
 
-`recordings.py WQRUN BENCH_CHECK [ROUNDS [EVENTS]]` takes three rounds of 10,000,000 events. It prints medians of user time an event,
+`recordings.py WQRUN BENCH_QUEUE [ROUNDS [EVENTS]]` takes three rounds of 10,000,000 events. It prints medians of user time an event,
 and the resident memory of `wqrun check`, also of 10,000 events.
 """
 import os
@@ -75,5 +75,5 @@ def main(program, checker, rounds=3, events=10_000_000):
 
 if __name__ == "__main__":
     if len(sys.argv) < 3:
-        sys.exit("usage: bench/recordings.py WQRUN BENCH_CHECK [ROUNDS [EVENTS]]")
+        sys.exit("usage: bench/recordings.py WQRUN BENCH_QUEUE [ROUNDS [EVENTS]]")
     main(*sys.argv[1:3], *map(int, sys.argv[3:]))

@@ -1,27 +1,25 @@
 #!/usr/bin/env python3
-"""Times items that bring a value of 8 or of 64 bytes, which sender threads queue and another thread executes, by bench_values, in turn
-with bench_queue, whose items bring nothing, and with channels of Rust that carry the item's number and such a value.
+"""Times items that bring a value of 8 or of 64 bytes, which sender threads queue and another thread executes, by bench_queue, in turn
+with items of its own that bring nothing, and with channels of Rust that carry the item's number and such a value.
 
 usage: values.py PROGRAM ROUNDS [ITEMS [WORD..]]
 
-PROGRAM is bench_values as it was built, and bench_queue stands built in crates/bench_queue. Each round runs each row once in each
-cell, in turn, with so many items (500,000). The words stand in front of each command, as in threads.py, and the table is laid out as
-the first one there.
+PROGRAM is bench_queue as it was built. Each round runs each row once in each cell, in turn, with so many items (500,000). The words
+stand in front of each command, as in threads.py, and the table is laid out as the first one there.
 """
 import os
 import sys
 
-from threads import CELLS, HERE, folder_and_load, items, measured, peers_of_rust, show_items
+from threads import CELLS, folder_and_load, items, measured, peers_of_rust, show_items
 
-PLAIN = os.path.join(os.path.dirname(HERE), 'crates', 'bench_queue', 'out', 'bench_queue')
 WIDTHS = (8, 64)
 
 
 def rows(program, rust):
     """The rows of the table: a name, and the command without its numbers."""
-    yield 'this queue, without values', [PLAIN]
+    yield 'this queue, without values', [program]
     for width in WIDTHS:
-        yield f'this queue, {width} bytes', [program, str(width)]
+        yield f'this queue, {width} bytes', [program, 'values', str(width)]
     if rust:
         for name, kind in (("crossbeam's channel", 'channel'), ("std's mpsc", 'mpsc')):
             for width in WIDTHS:

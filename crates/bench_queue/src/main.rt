@@ -9,9 +9,11 @@
 //! MICROS` queues one item to such a worker so many microseconds after the last one ran, and prints the median and the 95th
 //! percentile of the time until it ran. `bench_queue delays ITEMS ROUNDS` measures a delay table; it prints what an arming, a move, a
 //! cancel and letting go took an item. `bench_queue large ITEMS` goes over so many items by each call that does so, and prints a line for
-//! each: what it took in all, and how many bytes of memory were resident more after it.
+//! each: what it took in all, and how many bytes of memory were resident more after it. `bench_queue values BYTES SENDERS SLICE TOTAL`
+//! is the first over items that bring a value of 8 or of 64 bytes, which the owner is handed and reads. `bench_queue events N` tells a
+//! checker of recordings so many events, `bench_queue marks N` one of traces so many marks; it prints `events N nanos T`, or `marks`.
 //!
-//! Without words it prints `items N` for a small load, which depends on no clock.
+//! Without words it prints what came of a small load of each kind, which depends on no clock.
 #![tactic(auto)]
 
 mod delays;
@@ -25,10 +27,12 @@ mod posts;
 mod refusal;
 mod runs;
 mod serve;
+mod told;
+mod values;
 
 use host::Host;
 use pace::Pace;
-use plan::{Load, Plan};
+use plan::{Load, Plan, Width};
 use refusal::Refusal;
 use std::io;
 use std::process::ExitCode;
@@ -38,7 +42,11 @@ use wq_live::Spins;
 /// Prints what depends on no clock.
 fn show_small<R: Host>(rt: &R) -> Result<(), Refusal> {
     let items = owner::run(rt, Load::small())?.items;
-    println!(rt; "items {items}")?;
+    let with_values = values::run(rt, Width::Word, Load::small())?.items;
+    let events = told::events(rt.alloc(), 1_000)?;
+    let marks = told::marks(rt.alloc(), 1_000)?;
+    println!(rt; "items {items}, with values {with_values}")?;
+    println!(rt; "events {events}, marks {marks}")?;
     Ok(())
 }
 
@@ -46,6 +54,19 @@ fn show_owner<R: Host>(rt: &R, mut load: Load) -> Result<(), Refusal> {
     load.spins = Spins::measured(rt)?;
     let start = Instant::now(rt)?;
     let counts = owner::run(rt, load)?;
+    let nanos = start.elapsed(rt)?.as_nanos();
+    println!(rt;
+        "items {} nanos {nanos} takes {} least {}",
+        counts.items, counts.takes, counts.least
+    )?;
+    Ok(())
+}
+
+/// The same of items that bring a value.
+fn show_values<R: Host>(rt: &R, width: Width, mut load: Load) -> Result<(), Refusal> {
+    load.spins = Spins::measured(rt)?;
+    let start = Instant::now(rt)?;
+    let counts = values::run(rt, width, load)?;
     let nanos = start.elapsed(rt)?.as_nanos();
     println!(rt;
         "items {} nanos {nanos} takes {} least {}",
@@ -104,6 +125,22 @@ fn show_large<R: Host>(rt: &R, items: u32) -> Result<(), Refusal> {
     Ok(())
 }
 
+fn show_events<R: Host>(rt: &R, count: u64) -> Result<(), Refusal> {
+    let start = Instant::now(rt)?;
+    let events = told::events(rt.alloc(), count)?;
+    let nanos = start.elapsed(rt)?.as_nanos();
+    println!(rt; "events {events} nanos {nanos}")?;
+    Ok(())
+}
+
+fn show_marks<R: Host>(rt: &R, count: u64) -> Result<(), Refusal> {
+    let start = Instant::now(rt)?;
+    let marks = told::marks(rt.alloc(), count)?;
+    let nanos = start.elapsed(rt)?.as_nanos();
+    println!(rt; "marks {marks} nanos {nanos}")?;
+    Ok(())
+}
+
 fn measure<R: Host>(rt: &R, plan: Plan) -> Result<(), Refusal> {
     match plan {
         Plan::Small => show_small(rt),
@@ -112,6 +149,9 @@ fn measure<R: Host>(rt: &R, plan: Plan) -> Result<(), Refusal> {
         Plan::Lone(rounds, micros, pace) => show_lone(rt, rounds, micros, pace),
         Plan::Delays(items, rounds) => show_delays(rt, items, rounds),
         Plan::Large(items) => show_large(rt, items),
+        Plan::Values(width, load) => show_values(rt, width, load),
+        Plan::Events(count) => show_events(rt, count),
+        Plan::Marks(count) => show_marks(rt, count),
     }
 }
 

@@ -19,6 +19,21 @@ pub enum Plan {
     Delays(u32, u32),
     /// So many items of one queue, all of which each call goes over.
     Large(u32),
+    /// A load that an owner executes, of items that bring a value.
+    Values(Width, Load),
+    /// So many events that a checker of histories is told.
+    Events(u64),
+    /// So many marks that a checker of traces is told.
+    Marks(u64),
+}
+
+/// How wide a value is.
+#[derive(Clone, Copy)]
+pub enum Width {
+    /// 8 bytes.
+    Word,
+    /// 64 bytes.
+    Wide,
 }
 
 /// How many senders there are, how many items each of them queues, how many executions end in all, how an owner or a worker goes
@@ -44,6 +59,16 @@ fn numbers(words: &[String], wanted: usize) -> Result<[u32; 3], Refusal> {
     Ok(numbers)
 }
 
+impl Width {
+    fn read(bytes: &String) -> Result<Width, Refusal> {
+        match bytes.as_str() {
+            "8" => Ok(Width::Word),
+            "64" => Ok(Width::Wide),
+            _ => Err(Refusal::Words),
+        }
+    }
+}
+
 impl Plan {
     /// The plan that words spell, at a pace.
     pub fn read(words: &[String], pace: Pace) -> Result<Plan, Refusal> {
@@ -63,6 +88,20 @@ impl Plan {
             "large" => {
                 let [items, _, _] = numbers(rest, 1)?;
                 Ok(Plan::Large(items))
+            }
+            "values" => {
+                let Some((bytes, load)) = rest.split_first() else {
+                    return Err(Refusal::Words);
+                };
+                Ok(Plan::Values(Width::read(bytes)?, Load::read(load, pace)?))
+            }
+            "events" => {
+                let [count, _, _] = numbers(rest, 1)?;
+                Ok(Plan::Events(u64::from(count)))
+            }
+            "marks" => {
+                let [count, _, _] = numbers(rest, 1)?;
+                Ok(Plan::Marks(u64::from(count)))
             }
             _ => Ok(Plan::Owner(Load::read(words, pace)?)),
         }

@@ -41,7 +41,7 @@ struct Post {
 }
 
 /// Passes some time between two tries of a number that is still pending.
-fn pause(turn: u64) {
+pub fn pause(turn: u64) {
     for _ in 0..16 {
         spin_loop();
     }

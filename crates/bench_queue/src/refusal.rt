@@ -10,12 +10,16 @@ use wq_worker::{Unbuilt, Work};
 #[derive(Debug, Drop, Error)]
 pub enum Refusal {
     /// Another count of words, or a word that is no number.
-    #[error("usage: bench_queue [eager | resting] [serve] SENDERS SLICE TOTAL | [eager] lone ROUNDS MICROS | delays ITEMS ROUNDS | large ITEMS")]
+    #[error("usage: bench_queue [eager | resting] [serve] SENDERS SLICE TOTAL | [eager] lone ROUNDS MICROS | \
+        [eager] values BYTES SENDERS SLICE TOTAL | delays ITEMS ROUNDS | large ITEMS | events N | marks N")]
     Words,
     /// More senders or items than a queue has.
     #[error("plan: {0}")]
     Limits(#[from] LayoutError),
-    /// Memory for the queue.
+    /// What a checker is told is legal, and it says that it is not.
+    #[error("not legal")]
+    NotLegal,
+    /// Memory for the queue, or for a checker.
     #[error("memory")]
     Memory,
     /// A thread could not be made.

@@ -99,6 +99,6 @@ loop-done-preserved g c =
     let s = g.S.Station in let a = s.state c.args.station.now in let l = c.loop-done in let m = s.state l.station in
     let b = s.state c.run_one.new.self in let on = onward c.args.station.now l.station c.run_one.new.self l.invariant.2 in
     elim c.match-run_one.branch [
-      | in-Item w ↦ (more l.done (Item w.in-Item.field-0) a m b l.invariant.0 tt w.in-Item.ensures.runs, w.in-Item.ensures.legal, on w.in-Item.ensures.deals)
-      | in-Barrier w ↦ (more l.done (Barrier w.in-Barrier.field-0) a m b l.invariant.0 tt w.in-Barrier.ensures.runs, w.in-Barrier.ensures.legal, on w.in-Barrier.ensures.deals)
+      | in-Item w ↦ let e = w.in-Item.ensures in (more l.done (Item w.in-Item.field-0) a m b l.invariant.0 tt e.runs, e.legal, on e.deals)
+      | in-Barrier w ↦ let e = w.in-Barrier.ensures in (more l.done (Barrier w.in-Barrier.field-0) a m b l.invariant.0 tt e.runs, e.legal, on e.deals)
     ]

@@ -3,14 +3,11 @@ ghost use Rattle.std.specs.Prelude.{IsTrue};
 ghost use Rattle.wq_words.specs.History.{IsRunning};
 
 use crate::host::Host;
-use crate::payload::Payload;
 use crate::plan::Load;
-use crate::posts::{join_all, offer, start};
 use crate::refusal::Refusal;
+use crate::values::payload::Payload;
+use crate::values::posts::{join_all, offer, start};
 use wq_live::{Spins, ValueOwner, ValueSender, build_values};
-
-/// A take of fewer is short: some time passes after it.
-const SHORT_TAKE: u64 = 128;
 
 /// How many executions ended, in how many takes that found something, what the values came to, and how many the sender queued that
 /// queued fewest.
@@ -85,8 +82,8 @@ fn execute<V: Payload>(
             queue_all(sender);
         }
         let count = execute_batch(owner, load.total - counts.items, &mut counts.sum);
-        if alone.is_none() && count < SHORT_TAKE {
-            load.spins.pass();
+        if alone.is_none() {
+            load.pace.after_take(count, load.spins);
         }
         counts.items = counts.items.saturating_add(count);
         counts.takes = counts.takes.saturating_add(u64::from(count > 0));
@@ -111,7 +108,7 @@ fn set_spins<V: Payload>(senders: &mut [ValueSender<V>], spins: Spins) {
 
 /// Executes so many items while the senders queue, and then closes the queue and executes the rest, which ends them.
 pub fn run<R: Host, V: Payload + 'static>(rt: &R, load: Load) -> Result<Counts, Refusal> {
-    let (mut owner, mut senders) = build_values::<V>(rt.alloc(), load.layout()?)?;
+    let (mut owner, mut senders) = build_values::<V>(rt.alloc(), load.layout(0)?)?;
     set_spins(&mut senders, load.spins);
     if load.senders == 0 {
         return Ok(execute(&mut owner, senders.pop(), load));

@@ -1,20 +1,10 @@
 //! Senders in threads of their own, each of which queues its slice of items again and again.
 use crate::host::Host;
-use crate::payload::Payload;
+use crate::posts::pause;
 use crate::refusal::Refusal;
-use std::hint::spin_loop;
-use std::thread::{self, JoinHandle, yield_now};
+use crate::values::payload::Payload;
+use std::thread::{self, JoinHandle};
 use wq_live::{ValueAnswer, ValueSender};
-
-/// Passes some time between two tries of an item that is still pending.
-fn pause(turn: u64) {
-    for _ in 0..16 {
-        spin_loop();
-    }
-    if turn % 64 == 63 {
-        yield_now();
-    }
-}
 
 /// Queues an item with a value once it is no longer pending. False where the queue is closed.
 pub fn offer<V: Payload>(sender: &mut ValueSender<V>, item: u32) -> bool {
