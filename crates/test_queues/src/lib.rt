@@ -20,6 +20,8 @@ mod machine;
 #[cfg(test)]
 mod own_threads;
 #[cfg(test)]
+mod patience;
+#[cfg(test)]
 mod seats;
 #[cfg(test)]
 mod values;

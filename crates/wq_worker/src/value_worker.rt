@@ -464,6 +464,7 @@ impl<V: Drop, W: ValueWork<V>> Station for ValueWorker<V, W> {
     }
 
     fn ready(&mut self) -> Option<u32> {
+        // For the proof: where an execution is owed nothing moves, and what `deals` says is legal is the history as it was.
         self.legal();
         self.ready()
     }

@@ -1,13 +1,12 @@
 //! Calls of a delay table with one try each, of which some are lost to the steps of another thread.
 use super::calls::{advance, arm, cancel, delayed, modify};
 use crate::expect::expect_same;
+use crate::patience::Patience;
 use crate::seats::{churn, pause};
 use std::test::Fail;
 use std::thread::join_mut;
+use std::time::Clock;
 use wq_delay::{Armed, Delay, Modified};
-
-/// How often each call is made at most.
-const ROUNDS: u64 = 6_000_000;
 
 /// The item that is queued last.
 const LAST: u32 = 3;
@@ -24,17 +23,18 @@ fn are_contended(delay: &mut Delay, tick: u64) -> [bool; 3] {
 }
 
 /// Makes the calls until each was contended, and then ends the other thread.
-fn contend(delay: &mut Delay) -> [bool; 3] {
+fn contend<R: Clock>(rt: &R, delay: &mut Delay) -> [bool; 3] {
+    let patience = Patience::begin(rt);
     let mut all = [false; 3];
-    for tick in 1..ROUNDS {
+    for tick in 1..u64::MAX {
         let [armed, modified, advanced] = are_contended(delay, tick);
         all = [all[0] || armed, all[1] || modified, all[2] || advanced];
-        if all == [true; 3] {
+        if all == [true; 3] || patience.is_over(rt) {
             break;
         }
         pause();
     }
-    for _ in 0..ROUNDS {
+    for _ in 0..u32::MAX {
         if arm(delay, LAST, 0) != Some(Armed::Contended) {
             break;
         }
@@ -48,7 +48,7 @@ fn each_call_of_a_table_is_contended(rt: HostRuntime) -> Result<(), Fail> {
     let (mut owner, mut sender, mut delay) = delayed(rt.alloc(), 4, 0).expect(&rt, "seats");
     let (contended, ended) = join_mut(
         &rt,
-        &mut || contend(&mut delay),
+        &mut || contend(&rt, &mut delay),
         &mut || churn(&mut owner, &mut sender, LAST),
     );
     assert!(rt; ended);

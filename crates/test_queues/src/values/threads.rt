@@ -1,9 +1,11 @@
 //! Senders with values and their owner in threads of their own.
 use super::reading::{close, execute_one, given_back};
 use crate::expect::expect_same;
+use crate::patience::Patience;
 use std::process::Abort;
 use std::test::Fail;
 use std::thread::{Threads, join_mut, yield_now};
+use std::time::Clock;
 use wq_live::{Answer, ValueOwner, ValueSender, build_values};
 use wq_words::Layout;
 
@@ -127,14 +129,18 @@ fn two_threads_queue_values_in_their_order(rt: HostRuntime) -> Result<(), Fail> 
 }
 
 /// Queues all items but the first in one try each, one after another and over and over, until one was contended and the very value
-/// came back. Then it queues the stop item. There are so many that its tries fill a turn on a processor that it shares with the
-/// owner's thread, which then comes in between; where one is still pending it lets that thread go on.
-fn contend(sender: &mut ValueSender<Parcel>) -> bool {
+/// came back, for as long as the test has patience. Then it queues the stop item. There are so many that its tries fill a turn on a
+/// processor that it shares with the owner's thread, which then comes in between; where one is still pending it lets that thread go on.
+fn contend<R: Clock>(rt: &R, sender: &mut ValueSender<Parcel>) -> bool {
+    let patience = Patience::begin(rt);
     let mut is_contended = false;
     let mut item = 0u32;
-    for number in 0..10_000_000u64 {
+    for number in 0..u64::MAX {
         item = item.wrapping_add(1);
         if item >= sender.layout().items {
+            if patience.is_over(rt) {
+                break;
+            }
             item = 0;
             continue;
         }
@@ -178,7 +184,7 @@ fn value_comes_back_where_a_try_was_lost(rt: HostRuntime) -> Result<(), Fail> {
     let mut first = senders.pop().expect(&rt, "sender 0");
     let (contended, own) = join_mut(
         &rt,
-        &mut || contend(&mut first),
+        &mut || contend(&rt, &mut first),
         &mut || churn(&mut owner, &mut second, layout.stop()),
     );
     expect_same(&rt, (contended, own), (true, true));

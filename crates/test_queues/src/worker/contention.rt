@@ -3,6 +3,7 @@ ghost use Rattle.std.specs.Prelude.{◌≡◌, []};
 
 use crate::balance::balance_met;
 use crate::expect::expect_same;
+use crate::patience::Patience;
 use crate::seats::queue_item;
 use crate::worker::team::{destroy, new_queue, serve, take_last};
 use crossbeam_utils::sync::{Parker, Unparker};
@@ -96,8 +97,8 @@ fn disturb<R: Abort + Clock + Threads + Sync>(
     is_stopped
 }
 
-/// Serves while two senders disturb, again and again until an execution was owed. Whether one was, and the worker came to each
-/// stop item without being unparked.
+/// Serves while two senders disturb, again and again until an execution was owed, for as long as the test has patience. Whether one
+/// was, and the worker came to each stop item without being unparked.
 fn serve_until_owing<R: Abort + Clock + Threads + Wait + Sync>(
     rt: &R,
     worker: &mut Worker<Restless>,
@@ -109,7 +110,8 @@ fn serve_until_owing<R: Abort + Clock + Threads + Wait + Sync>(
     ensures worker { worker.new.queue ≡ worker.old.queue }
     ensures senders { (first.new.queue ≡ first.old.queue) × (second.new.queue ≡ second.old.queue) }
 {
-    for _ in 0..100u32 {
+    let patience = Patience::begin(rt);
+    for _ in 0..u32::MAX {
         let (_, is_stopped) = join_mut(
             rt,
             &mut || serve(rt, worker, parker),
@@ -120,6 +122,9 @@ fn serve_until_owing<R: Abort + Clock + Threads + Wait + Sync>(
         }
         if worker.counts().contended > 0 {
             return true;
+        }
+        if patience.is_over(rt) {
+            return false;
         }
         // The last request found the stop item executed and queued it once more.
         serve(rt, worker, parker);
