@@ -74,14 +74,13 @@ wrong-bodies:
 # several, items that bring values beside channels of Rust, and a pool beside others in C.
 bench: build library
 	cd crates/bench_queue && rt run
-	cd crates/bench_pool && rt run
 	bench/script.sh $(PROGRAM)
 	bench/commands.py $(PROGRAM)
 	bench/items.sh crates/bench_queue/out/bench_queue
 	bench/threads.py crates/bench_queue/out/bench_queue 9
 	bench/values.py crates/bench_queue/out/bench_queue 9
 	bench/seats.py crates/bench_queue/out/bench_queue $(LIBRARY) 9
-	bench/pool.py crates/bench_pool/out/bench_pool 9
+	bench/pool.py crates/bench_queue/out/bench_queue 9
 	bench/delays.sh crates/bench_queue/out/bench_queue
 	bench/large.py crates/bench_queue/out/bench_queue
 	bench/recordings.py $(PROGRAM) crates/bench_queue/out/bench_queue

@@ -35,7 +35,7 @@ def glib():
 
 def rows(program, folder):
     """The rows of the table: a name, and the command without its numbers."""
-    yield 'this pool', [program]
+    yield 'this pool', [program, 'pool']
     yield 'a mutex and a ring a queue, in C', [compiled(folder, 'pool_mutex')]
     yield 'the same, the whole ring at one lock', [compiled(folder, 'pool_mutex', '-DWHOLE=1')]
     libraries = glib()

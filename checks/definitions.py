@@ -15,7 +15,7 @@ import sys
 from pathlib import Path
 
 TOP = Path(__file__).resolve().parent.parent
-PROMISE_NOTHING = {"wqrun", "bench_queue", "bench_pool", "test_memory", "test_queues", "test_programs"}
+PROMISE_NOTHING = {"wqrun", "bench_queue", "test_memory", "test_queues", "test_programs"}
 CRATES = set(re.findall(r"^(\w+)[^#\n]*:", (TOP / "crates.txt").read_text(), re.M))
 
 

@@ -13,6 +13,11 @@
 //! is the first over items that bring a value of 8 or of 64 bytes, which the owner is handed and reads. `bench_queue events N` tells a
 //! checker of recordings so many events, `bench_queue marks N` one of traces so many marks; it prints `events N nanos T`, or `marks`.
 //!
+//! `bench_queue pool QUEUES WORKERS SENDERS TOTAL` starts so many workers that serve so many queues, and so many senders that queue
+//! on all of them in turn, and announce a queue where they were answered `wakes`. It prints `items N nanos T picks K strays S`, of
+//! which the last is how many items ran out of their sender's order. Picks are counted by what senders announced, so without those
+//! of a queue that was worked at for its share and announced again by the pool.
+//!
 //! Without words it prints what came of a small load of each kind, which depends on no clock.
 #![tactic(auto)]
 
@@ -23,6 +28,7 @@ mod lone;
 mod owner;
 mod pace;
 mod plan;
+mod pool;
 mod posts;
 mod refusal;
 mod runs;
@@ -37,15 +43,18 @@ use refusal::Refusal;
 use std::io;
 use std::process::ExitCode;
 use std::time::{Duration, Instant};
+use told::Told;
 use wq_live::Spins;
 
 /// Prints what depends on no clock.
 fn show_small<R: Host>(rt: &R) -> Result<(), Refusal> {
     let items = owner::run(rt, Load::small())?.items;
     let with_values = values::run(rt, Width::Word, Load::small())?.items;
-    let events = told::events(rt.alloc(), 1_000)?;
-    let marks = told::marks(rt.alloc(), 1_000)?;
+    let events = told::tell(rt.alloc(), Told::Events, 1_000)?;
+    let marks = told::tell(rt.alloc(), Told::Marks, 1_000)?;
+    let (ran, _picks) = pool::run(rt, pool::Load::small())?;
     println!(rt; "items {items}, with values {with_values}")?;
+    println!(rt; "items of a pool {}, strays {}", ran.items, ran.strays)?;
     println!(rt; "events {events}, marks {marks}")?;
     Ok(())
 }
@@ -71,6 +80,18 @@ fn show_values<R: Host>(rt: &R, width: Width, mut load: Load) -> Result<(), Refu
     println!(rt;
         "items {} nanos {nanos} takes {} least {}",
         counts.items, counts.takes, counts.least
+    )?;
+    Ok(())
+}
+
+/// The same of a pool that serves.
+fn show_pool<R: Host>(rt: &R, load: pool::Load) -> Result<(), Refusal> {
+    let start = Instant::now(rt)?;
+    let (ran, picks) = pool::run(rt, load)?;
+    let nanos = start.elapsed(rt)?.as_nanos();
+    println!(rt;
+        "items {} nanos {nanos} picks {picks} strays {}",
+        ran.items, ran.strays
     )?;
     Ok(())
 }
@@ -125,19 +146,12 @@ fn show_large<R: Host>(rt: &R, items: u32) -> Result<(), Refusal> {
     Ok(())
 }
 
-fn show_events<R: Host>(rt: &R, count: u64) -> Result<(), Refusal> {
+/// Prints how long it took to tell a checker so much.
+fn show_told<R: Host>(rt: &R, what: Told, count: u64) -> Result<(), Refusal> {
     let start = Instant::now(rt)?;
-    let events = told::events(rt.alloc(), count)?;
+    let counted = told::tell(rt.alloc(), what, count)?;
     let nanos = start.elapsed(rt)?.as_nanos();
-    println!(rt; "events {events} nanos {nanos}")?;
-    Ok(())
-}
-
-fn show_marks<R: Host>(rt: &R, count: u64) -> Result<(), Refusal> {
-    let start = Instant::now(rt)?;
-    let marks = told::marks(rt.alloc(), count)?;
-    let nanos = start.elapsed(rt)?.as_nanos();
-    println!(rt; "marks {marks} nanos {nanos}")?;
+    println!(rt; "{} {counted} nanos {nanos}", what.name())?;
     Ok(())
 }
 
@@ -149,9 +163,9 @@ fn measure<R: Host>(rt: &R, plan: Plan) -> Result<(), Refusal> {
         Plan::Lone(rounds, micros, pace) => show_lone(rt, rounds, micros, pace),
         Plan::Delays(items, rounds) => show_delays(rt, items, rounds),
         Plan::Large(items) => show_large(rt, items),
+        Plan::Pool(load) => show_pool(rt, load),
         Plan::Values(width, load) => show_values(rt, width, load),
-        Plan::Events(count) => show_events(rt, count),
-        Plan::Marks(count) => show_marks(rt, count),
+        Plan::Told(what, count) => show_told(rt, what, count),
     }
 }
 

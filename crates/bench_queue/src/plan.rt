@@ -1,6 +1,8 @@
 //! What is measured.
 use crate::pace::Pace;
+use crate::pool;
 use crate::refusal::Refusal;
+use crate::told::Told;
 use wq_live::Spins;
 use wq_words::{Layout, LayoutError};
 
@@ -19,12 +21,12 @@ pub enum Plan {
     Delays(u32, u32),
     /// So many items of one queue, all of which each call goes over.
     Large(u32),
+    /// A load that a pool's workers serve.
+    Pool(pool::Load),
     /// A load that an owner executes, of items that bring a value.
     Values(Width, Load),
-    /// So many events that a checker of histories is told.
-    Events(u64),
-    /// So many marks that a checker of traces is told.
-    Marks(u64),
+    /// So much that a checker of recordings is told.
+    Told(Told, u64),
 }
 
 /// How wide a value is.
@@ -48,8 +50,8 @@ pub struct Load {
 }
 
 /// As many numbers as are wanted, and zeros behind them.
-fn numbers(words: &[String], wanted: usize) -> Result<[u32; 3], Refusal> {
-    let mut numbers = [0; 3];
+fn numbers(words: &[String], wanted: usize) -> Result<[u32; 4], Refusal> {
+    let mut numbers = [0; 4];
     if words.len() != wanted {
         return Err(Refusal::Words);
     }
@@ -70,6 +72,11 @@ impl Width {
 }
 
 impl Plan {
+    fn told(what: Told, words: &[String]) -> Result<Plan, Refusal> {
+        let [count, ..] = numbers(words, 1)?;
+        Ok(Plan::Told(what, u64::from(count)))
+    }
+
     /// The plan that words spell, at a pace.
     pub fn read(words: &[String], pace: Pace) -> Result<Plan, Refusal> {
         let Some((name, rest)) = words.split_first() else {
@@ -78,16 +85,20 @@ impl Plan {
         match name.as_str() {
             "serve" => Ok(Plan::Serve(Load::read(rest, pace)?)),
             "lone" => {
-                let [count, micros, _] = numbers(rest, 2)?;
+                let [count, micros, ..] = numbers(rest, 2)?;
                 Ok(Plan::Lone(count, micros, pace))
             }
             "delays" => {
-                let [items, rounds, _] = numbers(rest, 2)?;
+                let [items, rounds, ..] = numbers(rest, 2)?;
                 Ok(Plan::Delays(items, rounds))
             }
             "large" => {
-                let [items, _, _] = numbers(rest, 1)?;
+                let [items, ..] = numbers(rest, 1)?;
                 Ok(Plan::Large(items))
+            }
+            "pool" => {
+                let [queues, workers, senders, total] = numbers(rest, 4)?;
+                Ok(Plan::Pool(pool::Load::new(queues, workers, senders, total)?))
             }
             "values" => {
                 let Some((bytes, load)) = rest.split_first() else {
@@ -95,14 +106,8 @@ impl Plan {
                 };
                 Ok(Plan::Values(Width::read(bytes)?, Load::read(load, pace)?))
             }
-            "events" => {
-                let [count, _, _] = numbers(rest, 1)?;
-                Ok(Plan::Events(u64::from(count)))
-            }
-            "marks" => {
-                let [count, _, _] = numbers(rest, 1)?;
-                Ok(Plan::Marks(u64::from(count)))
-            }
+            "events" => Plan::told(Told::Events, rest),
+            "marks" => Plan::told(Told::Marks, rest),
             _ => Ok(Plan::Owner(Load::read(words, pace)?)),
         }
     }
@@ -121,7 +126,7 @@ impl Load {
     }
 
     fn read(words: &[String], pace: Pace) -> Result<Load, Refusal> {
-        let [senders, slice, total] = numbers(words, 3)?;
+        let [senders, slice, total, _] = numbers(words, 3)?;
         Ok(Load {
             senders,
             slice,

@@ -3,19 +3,27 @@ use std::alloc::{AllocError, AllocFailed};
 use std::io;
 use thiserror::Error;
 use wq_live::BuildError;
+use wq_pool::PoolError;
 use wq_words::LayoutError;
 use wq_worker::{Unbuilt, Work};
 
 /// Why nothing was measured.
 #[derive(Debug, Drop, Error)]
 pub enum Refusal {
-    /// Another count of words, or a word that is no number.
+    /// Another count of words, a word that is no number, or a pool without a worker or a sender.
     #[error("usage: bench_queue [eager | resting] [serve] SENDERS SLICE TOTAL | [eager] lone ROUNDS MICROS | \
-        [eager] values BYTES SENDERS SLICE TOTAL | delays ITEMS ROUNDS | large ITEMS | events N | marks N")]
+        [eager] values BYTES SENDERS SLICE TOTAL | delays ITEMS ROUNDS | large ITEMS | pool QUEUES WORKERS SENDERS TOTAL | \
+        events N | marks N")]
     Words,
     /// More senders or items than a queue has.
     #[error("plan: {0}")]
     Limits(#[from] LayoutError),
+    /// No queue, or memory for the pool.
+    #[error("pool: {0}")]
+    Pool(#[from] PoolError),
+    /// A pool that could not be taken apart.
+    #[error("a queue has not run to its end")]
+    Unfinished,
     /// What a checker is told is legal, and it says that it is not.
     #[error("not legal")]
     NotLegal,

@@ -4,6 +4,15 @@ use std::alloc::Global;
 use wq_check::{Checker, Mark, TraceChecker};
 use wq_words::{Event, Layout};
 
+/// What a checker of recordings is told.
+#[derive(Clone, Copy, PartialEq, Eq)]
+pub enum Told {
+    /// Events of a history.
+    Events,
+    /// Marks of a trace.
+    Marks,
+}
+
 /// How many items there are, as many as are queued before the first of them runs.
 const ITEMS: u32 = 64;
 
@@ -33,8 +42,17 @@ fn mark_at(place: u64) -> Mark {
     }
 }
 
+impl Told {
+    pub fn name(self) -> &'static str {
+        match self {
+            Told::Events => "events",
+            Told::Marks => "marks",
+        }
+    }
+}
+
 /// Tells a checker so many events. How many it counted.
-pub fn events(alloc: Global, count: u64) -> Result<u64, Refusal> {
+fn events(alloc: Global, count: u64) -> Result<u64, Refusal> {
     let mut checker = Checker::new(alloc, Layout::new(ITEMS, 1, 1)?)?;
     for place in 0..count {
         if checker.event(event_at(place)).is_err() {
@@ -45,7 +63,7 @@ pub fn events(alloc: Global, count: u64) -> Result<u64, Refusal> {
 }
 
 /// Tells a checker of traces so many marks. How many it counted.
-pub fn marks(alloc: Global, count: u64) -> Result<u64, Refusal> {
+fn marks(alloc: Global, count: u64) -> Result<u64, Refusal> {
     let mut checker = TraceChecker::new(alloc, Layout::new(ITEMS, 1, 1)?)?;
     for place in 0..count {
         if checker.mark(mark_at(place)).is_err() {
@@ -53,4 +71,12 @@ pub fn marks(alloc: Global, count: u64) -> Result<u64, Refusal> {
         }
     }
     Ok(checker.report().counts.marks)
+}
+
+/// Tells a checker so much. How much it counted.
+pub fn tell(alloc: Global, what: Told, count: u64) -> Result<u64, Refusal> {
+    match what {
+        Told::Events => events(alloc, count),
+        Told::Marks => marks(alloc, count),
+    }
 }

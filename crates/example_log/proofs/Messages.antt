@@ -12,7 +12,7 @@ use Rattle.example_log.specs.declared.message.Log.{Log}
 use Rattle.example_log.specs.declared.message.Log.TheVariants.{Access, Errors}
 use Rattle.example_log.specs.declared.message.Message.{Message}
 use Rattle.example_log.specs.Text.{Line}
-use Rattle.example_log.specs.Sent.{own_lines, brings, HasSent, line_to, lines_to}
+use Rattle.example_log.specs.Sent.{own_lines, brings, SendsUnlessTurned, HasSent, line_to, lines_to}
 
 -- a message more, which was queued
 pub sent_more : (log : Log) (ms : List Message) (m : Message) (q : Bool) (old new : List (Option Line))
@@ -38,15 +38,17 @@ given_first s (x ∷ xs) t gives = gives.1.0 ∙ ap (λ more. x ∷ more) (given
 pub first_of : {X : Type 0} (n : ℕ) (all xs ys : List X) → n ≡ length xs → all ≡ xs ++ ys → xs ≡ take n all
 first_of n all xs ys count is = sym (take_at xs ys n (sym count)) ∙ ap (take n) (sym is)
 
--- the client has sent the messages that came first
+-- the client has sent the messages that came first, and all unless it was turned away
 pub has_sent : (client : Client) (sent : Sent) (all ms rest : List Message) → sent.count ≡ length ms → all ≡ ms ++ rest
     → IsSame client.access.known sent.access.known → IsSame client.errors.known sent.errors.known
-    → own_lines sent.access ≡ map Some (lines_to Access ms) → own_lines sent.errors ≡ map Some (lines_to Errors ms) → HasSent client all sent
-has_sent client sent all ms rest count is one two access errors = record {
+    → own_lines sent.access ≡ map Some (lines_to Access ms) → own_lines sent.errors ≡ map Some (lines_to Errors ms)
+    → SendsUnlessTurned client.access.known.number all sent.count sent.access.known.seen sent.errors.known.seen → HasSent client all sent
+has_sent client sent all ms rest count is one two access errors ends = record {
   same_access = one;
   same_errors = two;
   to_access = access ∙ ap (λ (xs : List Message). map Some (lines_to Access xs)) (first_of sent.count all ms rest count is);
   to_errors = errors ∙ ap (λ (xs : List Message). map Some (lines_to Errors xs)) (first_of sent.count all ms rest count is);
+  all_sent = ends;
 }
 
 -- a message that was not queued brings nothing

@@ -1,5 +1,10 @@
 -- What a client has sent.
-use Rattle.std.specs.Prelude.{◌≡◌, ℕ, ◌≤◌, Bool, cond, List, [], ◌∷◌, Option, Some, None, map, take, filter_map}
+use Rattle.std.specs.Prelude.{◌≡◌, ℕ, ◌<◌, ◌≤◌, Bool, true, false, cond, List, [], ◌∷◌, ◌++◌, Option, Some, None, length, map, take, filter_map}
+use Rattle.wq_words.specs.declared.event.Event.{Event}
+use Rattle.wq_words.specs.declared.event.Event.TheVariants.{Back}
+use Rattle.wq_words.specs.declared.event.Why.{Why}
+use Rattle.wq_words.specs.declared.event.Why.TheVariants as why
+use Rattle.wq_words.specs.Seen.{own}
 use Rattle.wq_live.specs.Known.{IsSame}
 use Rattle.wq_live.specs.KnownWith.{KnownWith}
 use Rattle.wq_live.specs.OwnBrought.{own_brought}
@@ -43,12 +48,38 @@ pub record IsNewClient (ready : Identity) (number items : ℕ) (client : Client)
   pub unbrought : (client.access.brought ≡ []) × (client.errors.brought ≡ [])
   pub caller_is : IsCallerOf ready client.caller
 
--- the same two senders have brought the lines of so many messages, from the first on, each log its own
+-- an item that is given back for this was, since its queue takes no more
+abbrev pub takes_no_more : Why → Bool
+takes_no_more why.Closed = true
+takes_no_more why.Draining = true
+takes_no_more _ = false
+
+-- among what sender s did in this history is that it gave an item back, since the queue took no more
+pub record WasTurnedAway (s : ℕ) (h : List Event) : Type 0 where
+  pub before : List Event
+  pub item : ℕ
+  pub reason : Why
+  pub after : List Event
+  pub is : own s h ≡ before ++ Back s item reason ∷ after
+  pub takes_none : takes_no_more reason ≡ true
+
+-- one of the two logs, which have these histories, turned sender s away
+pub data IsTurnedAway (s : ℕ) (access errors : List Event) : Type 0 where
+  from_access : WasTurnedAway s access → IsTurnedAway s access errors
+  from_errors : WasTurnedAway s errors → IsTurnedAway s access errors
+
+-- a client that sent fewer than its messages was turned away
+abbrev pub SendsUnlessTurned : ℕ → List Message → ℕ → List Event → List Event → Type 0
+SendsUnlessTurned s messages count access errors = count < length messages → IsTurnedAway s access errors
+
+-- the same two senders have brought the lines of so many messages, from the first on, each log its own, and of all, unless a log
+-- turned one away
 pub record HasSent (client : Client) (messages : List Message) (sent : Sent) : Type 0 where
   pub same_access : IsSame client.access.known sent.access.known
   pub same_errors : IsSame client.errors.known sent.errors.known
   pub to_access : own_lines sent.access ≡ map Some (lines_to Access (take sent.count messages))
   pub to_errors : own_lines sent.errors ≡ map Some (lines_to Errors (take sent.count messages))
+  pub all_sent : SendsUnlessTurned client.access.known.number messages sent.count sent.access.known.seen sent.errors.known.seen
 
 -- two new clients, of four items each, and who stops the logs behind them
 pub record AreNewClients (ready : Identity) (clients : Clients) : Type 0 where

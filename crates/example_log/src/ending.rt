@@ -5,6 +5,7 @@ ghost use Rattle.wq_pool.specs.Legal.{IsComplete};
 ghost use Rattle.wq_pool.specs.Headline.{KeepsHeadline};
 ghost use Rattle.wq_pool.specs.Valued.{IsLegalWith, with_values};
 ghost use Rattle.wq_pool.specs.OwnBrought.{own_brought};
+ghost use mathlib.Core.List.{IsPrefix};
 ghost use Rattle.wq_pool.specs.Returned.{pairs_of};
 ghost use Rattle.example_log.specs.Sent.{own_lines};
 ghost use Rattle.example_log.specs.Text.{text_of};
@@ -32,6 +33,8 @@ fn meet(book: &mut ValueBook<Line>, mut first: ValueSender<Line>, mut second: Va
     ensures brought { book.new.brought ≡ book.old.brought }
     ensures of_first { own_brought first.known.number book.new.book.seen book.new.brought ≡ own_lines first }
     ensures of_second { own_brought second.known.number book.new.book.seen book.new.brought ≡ own_lines second }
+    ensures seen_by_first { IsPrefix first.known.seen book.new.book.seen }
+    ensures seen_by_second { IsPrefix second.known.seen book.new.book.seen }
 {
     own_values_stay::<Line>();
     book.meet(&mut first);
@@ -54,6 +57,8 @@ pub(crate) fn ended(
     ensures of_first { IfOk result (λ w. own_brought first.known.number w.book.book.seen w.book.brought ≡ own_lines first) }
     ensures of_second { IfOk result (λ w. own_brought second.known.number w.book.book.seen w.book.brought ≡ own_lines second) }
     ensures counts { IfOk result (λ w. (w.of_first ≡ counts.0) × (w.of_second ≡ counts.1)) }
+    ensures seen_by_first { IfOk result (λ w. IsPrefix first.known.seen w.book.book.seen) }
+    ensures seen_by_second { IfOk result (λ w. IsPrefix second.known.seen w.book.book.seen) }
 {
     let (writer, mut book) = finished;
     meet(&mut book, first, second);

@@ -6,7 +6,7 @@ ghost use Rattle.wq_pool.specs.Finished.{AreFinishedBy};
 ghost use Rattle.wq_pool.specs.WorkerId.{worker_id};
 ghost use Rattle.wq_pool.specs.ValueState.{HasRunPairs};
 ghost use Rattle.example_log.specs.declared.message.Log.TheVariants as log;
-ghost use Rattle.example_log.specs.Sent.{HasSent, AreNewClients};
+ghost use Rattle.example_log.specs.Sent.{SendsUnlessTurned, HasSent, AreNewClients};
 ghost use Rattle.example_log.specs.Written.{HasLines};
 
 use crate::clients::{Clients, clients_of, send_both};
@@ -171,6 +171,9 @@ pub fn write<R: Threads + Wait + Sync>(
     requires senders { layout.senders ≡ 4 }
     ensures access { IfOk result (λ logs. HasLines log.Access layout logs.0.book.book.seen logs.0.book.brought first.items second.items logs.0) }
     ensures errors { IfOk result (λ logs. HasLines log.Errors layout logs.1.book.book.seen logs.1.book.brought first.items second.items logs.1) }
+    ensures counts { IfOk result (λ logs. (logs.1.of_first ≡ logs.0.of_first) × (logs.1.of_second ≡ logs.0.of_second)) }
+    ensures all_of_first { IfOk result (λ logs. SendsUnlessTurned 0 first.items logs.0.of_first logs.0.book.book.seen logs.1.book.book.seen) }
+    ensures all_of_second { IfOk result (λ logs. SendsUnlessTurned 1 second.items logs.0.of_second logs.0.book.book.seen logs.1.book.book.seen) }
 {
     let (pool, workers, clients) = new_logs(alloc, layout)?;
     let ((access, errors), (first, second)) = served(rt, pool, workers, clients, first, second)?;

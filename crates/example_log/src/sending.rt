@@ -1,10 +1,11 @@
 //! Clients, which send messages, and the stop items.
-ghost use Rattle.std.specs.Prelude.{◌≡◌, ◌<◌, ◌≤◌, ◌+◌, ◌++◌, [], ◌∷◌, Some, cond};
-ghost use Rattle.wq_pool.specs.KnownWith.{BringsOrReturns};
+ghost use Rattle.std.specs.Prelude.{◌≡◌, ◌<◌, ◌≤◌, ◌+◌, ◌++◌, [], ◌∷◌, Some, false, cond};
+ghost use Rattle.wq_pool.specs.KnownWith.{BringsOrReturns, answer_of};
+ghost use Rattle.wq_live.specs.Answers.{Answers};
 ghost use Rattle.wq_pool.specs.OwnBrought.{queued_value};
 ghost use Rattle.wq_pool.specs.Known.{IsSame, IsCallerOf};
 ghost use Rattle.example_log.specs.declared.message.Log.TheVariants.{Access, Errors};
-ghost use Rattle.example_log.specs.Sent.{own_lines, brings, IsNewClient, HasSent};
+ghost use Rattle.example_log.specs.Sent.{own_lines, brings, IsNewClient, WasTurnedAway, IsTurnedAway, HasSent};
 
 use crate::message::{Line, Log, Message};
 use crate::writer::Writer;
@@ -48,6 +49,7 @@ fn queue_once<R: Wait>(
     ensures same { IsSame sender.old.known sender.new.known }
     ensures brought { own_lines sender.new ≡ own_lines sender.old ++ queued_value line result }
     ensures value { BringsOrReturns item line result sender.new }
+    ensures answer { Answers item 0 (answer_of result) sender.old.known sender.new.known }
 {
     queued_brings::<Line>();
     sender.queue_value_wait(rt, item, line)
@@ -83,6 +85,7 @@ fn queue<R: Wait>(
     ensures same { IsSame sender.old.known sender.new.known }
     ensures caller { IsCallerOf pool.now.ready caller.new }
     ensures brought { own_lines sender.new ≡ own_lines sender.old ++ cond result (Some line ∷ []) [] }
+    ensures turned_away { result ≡ false → WasTurnedAway sender.new.known.number sender.new.known.seen }
 {
     let mut line = line;
     for _ in rt.forever() {
@@ -112,11 +115,14 @@ fn send<R: Wait>(
     requires access { item < client.old.access.known.layout.items }
     requires errors { item < client.old.errors.known.layout.items }
     requires caller { IsCallerOf pool.now.ready client.old.caller }
+    requires numbers { client.old.errors.known.number ≡ client.old.access.known.number }
     ensures same_access { IsSame client.old.access.known client.new.access.known }
     ensures same_errors { IsSame client.old.errors.known client.new.errors.known }
     ensures caller { IsCallerOf pool.now.ready client.new.caller }
     ensures to_access { own_lines client.new.access ≡ own_lines client.old.access ++ brings Access message result }
     ensures to_errors { own_lines client.new.errors ≡ own_lines client.old.errors ++ brings Errors message result }
+    ensures turned_away { result ≡ false
+        → IsTurnedAway client.old.access.known.number client.new.access.known.seen client.new.errors.known.seen }
 {
     let Message { log, line } = message;
     match log {
@@ -164,7 +170,7 @@ pub(crate) fn send_all<R: Wait>(
     messages: Vec<Message>,
 ) -> Sent
     requires { IsNewClient pool.now.ready client.access.known.number (first + 4) client }
-    ensures { HasSent client messages.items result }
+    ensures sent { HasSent client messages.items result }
 {
     let mut client = client;
     let mut item = first;

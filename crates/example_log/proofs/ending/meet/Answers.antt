@@ -1,4 +1,4 @@
-use Rattle.std.proofs.Common.{◌∙◌, sym}
+use Rattle.std.proofs.Common.{◌∙◌, sym, ap, ◌++◌, append_assoc}
 use Rattle.wq_live.specs.OwnBrought.{own_brought}
 use Rattle.example_log.proofs.ending.meet.Goals as goal
 
@@ -10,3 +10,10 @@ returns-clause-of_first c = let s = c.args.first in let m = c.meet.ensures in
 pub returns-clause-of_second : goal.returns-clause-of_second
 returns-clause-of_second c = let s = c.args.second in let m = c.meet-2.ensures in
     (λ i. own_brought s.known.number (sym m.both i) (sym m.both_brought i)) ∙ c.own_values_stay.ensures.same 0 s _ m.sender m.learnt
+
+pub returns-clause-seen_by_first : goal.returns-clause-seen_by_first
+returns-clause-seen_by_first c = let m = c.meet.ensures in let n = c.meet-2.ensures in let more = m.sender.grows.new in let behind = n.owner.new in
+    (more ++ behind, sym (n.owner.is ∙ (ap (λ es. es ++ behind) (sym m.both ∙ m.sender.grows.is) ∙ append_assoc c.args.first.known.seen more behind)))
+
+pub returns-clause-seen_by_second : goal.returns-clause-seen_by_second
+returns-clause-seen_by_second c = let n = c.meet-2.ensures in (n.sender.grows.new, sym (sym n.both ∙ n.sender.grows.is))

@@ -1,6 +1,7 @@
 use Rattle.std.proofs.Common.{rules, ◌≡◌}
 use Rattle.example_log.specs.declared.message.Log.TheVariants.{Access, Errors}
 use Rattle.example_log.proofs.Lines.{has_lines}
+use Rattle.example_log.proofs.Turned.{sends_all}
 use Rattle.example_log.proofs.logs.write.Goals as goal
 
 pub returns-clause-access : goal.returns-clause-access
@@ -20,3 +21,17 @@ returns-clause-errors g c =
     let one : sent.second.errors.known.number ≡ 1 = search rules in
     has_lines Errors c.args.layout sent.first.errors sent.second.errors c.args.first.items c.args.second.items sent.first.count sent.second.count w.errors
     size e.legal e.complete e.text zero one e.of_first e.of_second sent.ensures.first.to_errors sent.ensures.second.to_errors e.counts.0 e.counts.1
+
+pub returns-clause-all_of_first : goal.returns-clause-all_of_first
+returns-clause-all_of_first g c =
+    let w = c.in_ok-access-2 in let e = w.ensures in let v = c.in_ok-errors in let sent = c.in_ok-access in
+    let number = c.in_ok-pool.clients.first.access.known.number in let zero : number ≡ 0 = search rules in
+    sends_all 0 number c.args.first.items sent.first.count w.access.of_first sent.first.access.known.seen w.access.book.book.seen
+    sent.first.errors.known.seen v.errors.book.book.seen zero e.counts.0 e.seen_by_first v.ensures.seen_by_first sent.ensures.first.all_sent
+
+pub returns-clause-all_of_second : goal.returns-clause-all_of_second
+returns-clause-all_of_second g c =
+    let w = c.in_ok-access-2 in let e = w.ensures in let v = c.in_ok-errors in let sent = c.in_ok-access in
+    let number = c.in_ok-pool.clients.second.access.known.number in let one : number ≡ 1 = search rules in
+    sends_all 1 number c.args.second.items sent.second.count w.access.of_second sent.second.access.known.seen w.access.book.book.seen
+    sent.second.errors.known.seen v.errors.book.book.seen one e.counts.1 e.seen_by_second v.ensures.seen_by_second sent.ensures.second.all_sent

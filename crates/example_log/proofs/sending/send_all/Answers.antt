@@ -1,12 +1,12 @@
 use Rattle.std.proofs.Common.{◌≡◌, [], ◌∷◌, Some, map, sym, ◌∙◌, subst, arith}
 use Rattle.std.proofs.lemmas.List.{length-append}
 use Rattle.std.proofs.lemmas.Iterator.Adapters.{YieldsList-from_vec}
-use Rattle.std.proofs.lemmas.Iterator.Consumers.{YieldsList-turn}
+use Rattle.std.proofs.lemmas.Iterator.Consumers.{YieldsList-end, YieldsList-turn}
 use Rattle.std.specs.Vec.Iter.{into_iter_items}
 use Rattle.wq_live.specs.Known.{IsSame}
 use Rattle.example_log.specs.declared.sending.Client.{Client}
 use Rattle.example_log.specs.declared.message.Log.TheVariants.{Access, Errors}
-use Rattle.example_log.specs.Sent.{own_lines, lines_to, HasSent}
+use Rattle.example_log.specs.Sent.{own_lines, lines_to, IsTurnedAway, SendsUnlessTurned, HasSent}
 use Rattle.example_log.proofs.Messages.{given_first, has_sent, none_more, same_on, sent_more}
 use Rattle.example_log.proofs.sending.send_all.Goals as goal
 use Rattle.example_log.proofs.sending.send_all.Goals.{in-None, in-Some+then-not-send}
@@ -32,20 +32,28 @@ loop-message-preserved g c =
 pub returns : goal.returns
 returns g c =
     let l = c.loop-message in let i = l.invariant in let into = c.into_iter-message-iterator in let messages = c.args.messages.items in
+    let number = c.args.client.access.known.number in
     let Left : Client → Type 0 = λ now. HasSent c.args.client messages (record { access = now.access; errors = now.errors; count = l.count }) in
-    let sent : (now : Client) → IsSame c.args.client.access.known now.access.known → IsSame c.args.client.errors.known now.errors.known
-    → own_lines now.access ≡ map Some (lines_to Access l.yielded) → own_lines now.errors ≡ map Some (lines_to Errors l.yielded) → Left now =
-    λ now one two access errors.
+    let has : (now : Client) → IsSame c.args.client.access.known now.access.known → IsSame c.args.client.errors.known now.errors.known
+    → own_lines now.access ≡ map Some (lines_to Access l.yielded) → own_lines now.errors ≡ map Some (lines_to Errors l.yielded)
+    → SendsUnlessTurned number messages l.count now.access.known.seen now.errors.known.seen → Left now =
+    λ now one two access errors ends.
     has_sent c.args.client (record { access = now.access; errors = now.errors; count = l.count }) messages l.yielded (into_iter_items l.message-iterator) i.7
-    (sym into.ensures.into_iter_gives.0 ∙ given_first into.result l.yielded l.message-iterator l.yielded_by) one two access errors in
-    elim c.match-next.branch [
-      | in-None w ↦ subst Left (sym w.client-is) (sent l.client i.2 i.3 i.8 i.9)
-      | in-Some+then-not-send w ↦ let m = w.in-Some.message in let e = w.send.ensures in let now = w.send.new.client in
-          subst Left (sym w.client-is) (sent now
-          (same_on c.args.client.access.known l.client.access.known now.access.known i.2 e.same_access)
-          (same_on c.args.client.errors.known l.client.errors.known now.errors.known i.3 e.same_errors)
-          (none_more Access m w.send.result (own_lines l.client.access) (own_lines now.access)
-          (map Some (lines_to Access l.yielded)) w.if-not-send.true i.8 e.to_access)
-          (none_more Errors m w.send.result (own_lines l.client.errors) (own_lines now.errors)
-          (map Some (lines_to Errors l.yielded)) w.if-not-send.true i.9 e.to_errors))
-    ]
+    (sym into.ensures.into_iter_gives.0 ∙ given_first into.result l.yielded l.message-iterator l.yielded_by) one two access errors ends in
+    record {
+      sent = elim c.match-next.branch [
+        | in-None w ↦ let all = YieldsList-end (YieldsList-from_vec {s = into.result} messages into.ensures.into_iter_gives.0
+            (into.ensures.into_iter_gives.1 ∙ c.args.messages.ok.0)) l.yielded l.message-iterator l.yielded_by c.next.result c.next.new.self w.in-None.is
+            c.next.ensures.steps in
+            subst Left (sym w.client-is) (has l.client i.2 i.3 i.8 i.9 (λ less. absurd (omega (arith, i.7, all.1, less))))
+        | in-Some+then-not-send w ↦ let m = w.in-Some.message in let e = w.send.ensures in let now = w.send.new.client in
+            subst Left (sym w.client-is) (has now
+            (same_on c.args.client.access.known l.client.access.known now.access.known i.2 e.same_access)
+            (same_on c.args.client.errors.known l.client.errors.known now.errors.known i.3 e.same_errors)
+            (none_more Access m w.send.result (own_lines l.client.access) (own_lines now.access)
+            (map Some (lines_to Access l.yielded)) w.if-not-send.true i.8 e.to_access)
+            (none_more Errors m w.send.result (own_lines l.client.errors) (own_lines now.errors)
+            (map Some (lines_to Errors l.yielded)) w.if-not-send.true i.9 e.to_errors)
+            (λ less. subst (λ n. IsTurnedAway n now.access.known.seen now.errors.known.seen) i.2.number_is (e.turned_away w.if-not-send.true)))
+      ];
+    }

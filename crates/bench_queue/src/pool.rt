@@ -2,9 +2,13 @@
 ghost use Rattle.std.specs.Prelude.{All};
 ghost use Rattle.wq_ready.specs.Known.{IsCallerOf};
 
-use crate::feeder::Feeder;
-use crate::in_order::{InOrder, SLICE};
+mod feeder;
+mod in_order;
+
+use crate::host::Host;
 use crate::refusal::Refusal;
+use feeder::Feeder;
+use in_order::{InOrder, SLICE};
 use std::alloc::{AllocError, Global};
 use std::sync::Wait;
 use std::sync::atomic::AtomicU64;
@@ -50,16 +54,8 @@ impl Load {
         }
     }
 
-    /// The load that four words spell, with a worker and a sender at least.
-    pub fn read(words: &[String]) -> Result<Load, Refusal> {
-        let mut numbers = [0u32; 4];
-        if words.len() != numbers.len() {
-            return Err(Refusal::Words);
-        }
-        for (number, word) in numbers.iter_mut().zip(words) {
-            *number = word.parse().map_err(|_| Refusal::Words)?;
-        }
-        let [queues, workers, senders, total] = numbers;
+    /// A load with a worker and a sender at least.
+    pub fn new(queues: u32, workers: u32, senders: u32, total: u32) -> Result<Load, Refusal> {
         if workers == 0 || senders == 0 {
             return Err(Refusal::Words);
         }
@@ -207,11 +203,8 @@ fn counted(finished: &[(InOrder, Book)]) -> Ran {
 
 /// Makes the queues and the pool, serves it while the senders queue their items and at last the stop items, and takes all apart.
 /// What ran, and how many picks that took.
-pub fn run<R: Threads + Wait + Sync>(
-    rt: &R,
-    alloc: Global,
-    load: Load,
-) -> Result<(Ran, u64), Refusal> {
+pub fn run<R: Host>(rt: &R, load: Load) -> Result<(Ran, u64), Refusal> {
+    let alloc = rt.alloc();
     let (queues, seats) = new_queues(alloc, load)?;
     let callers = load.workers.saturating_add(load.senders);
     let (pool, callers) = Pool::new(alloc, queues, callers)?;

@@ -1,7 +1,7 @@
 //! A sender of each queue of a pool, in one thread.
 ghost use Rattle.wq_ready.specs.Known.{IsCallerOf};
 
-use crate::in_order::{InOrder, SLICE};
+use super::in_order::{InOrder, SLICE};
 use std::sync::Wait;
 use std::sync::atomic::{AtomicU64, Ordering};
 use std::thread::yield_now;
