@@ -36,6 +36,7 @@ module _ {W : Type 0} (may : W → ℕ → List ℕ → W → Type 0) (gives : W
         layout_is = told.1 ∙ whole.layout_is;
         own_is = told.3 ∙ whole.number_is;
         seen_is = told.2;
+        counts_are = rw (told.3, told.2) told.4;
         legal = rw (told.1, told.2) legal;
         ran_accepted = logged;
       }

@@ -102,13 +102,20 @@ module _ {V W : Type 0} (log given : W → List (ℕ × V)) (takes : W → ℕ �
         (advance_number tries ks js old.known new.known rest) (advance_layout tries ks js old.known new.known rest)
         (advance_stays tries ks js old.known new.known rest).begun_same)
 
+  -- what is queued and given back ends no execution
+  settled_runs : (r : Bool) (ps left : List (ℕ × V)) (u w : W) (old new : KnownValuePair V) → BothDealOut log given takes tries r ps left u w old new
+      → IsRunning old.known.seen → IsRunning new.known.seen
+  settled_runs r ps left u w old new s runs =
+      let t = advance_stays tries (numbers_in ps) (numbers_in left) old.known new.known (settled_rest r ps left u w old new s) in
+      rw (t.begun_same, t.ended_same) runs
+
   module _ (may : W → ℕ → V → List (ℕ × V) → W → Type 0) where
     -- of what was owed the pairs before `left` were dealt with, and what was added behind accepted nothing
     settles_by : (ps left : List (ℕ × V)) (u w : W) (old mid new : KnownValuePair V) (after : List Event) (n : ℕ)
         → DealtSofar log given takes ps left u w old mid → IsRunning old.known.seen → Both after n mid.known new.known → accepted after ≡ []
-        → brought_in (queueing_in old) new ≡ brought_in (queueing_in old) mid
+        → (¬ IsRunning new.known.seen → left ≡ []) → brought_in (queueing_in old) new ≡ brought_in (queueing_in old) mid
         → DealsOut given may takes (value_state_of old tries ps u) (value_state_of new tries left w)
-    settles_by ps left u w old mid new after n f runs b none still =
+    settles_by ps left u w old mid new after n f runs b none no_more still =
         let t = f.all in let whole = (both_on f.events after 0 n old.known mid.known new.known t.both b).adds in record {
           asked = ps;
           done = f.done;
@@ -120,6 +127,7 @@ module _ {V W : Type 0} (log given : W → List (ℕ × V)) (takes : W → ℕ �
           after = after;
           asks = owed runs refl refl refl;
           split = f.split;
+          whole = no_more;
           deals = t.deals;
           adds = record { new = whole.new; is = whole.is; ours = whole.ours; theirs = omega arith };
           last = none;
@@ -135,6 +143,7 @@ module _ {V W : Type 0} (log given : W → List (ℕ × V)) (takes : W → ℕ �
         let f : DealtSofar log given takes (done ++ (k, v) ∷ more) ((k, v) ∷ more) a b p m =
         record { done = done; events = es; queued = queued; returned = returned; split = refl; all = all } in
         settles_by (done ++ (k, v) ∷ more) ((k, v) ∷ more) a b p m q (contended_of m.known.number k) tries f runs lost.both refl
+        (λ idle. absurd (idle (settled_runs r _ _ a b p q (contends done k v more es queued returned a b p m q all lost) runs)))
         (subst (λ (z : ℕ). brought_in z q ≡ brought_in z m) (seat_still log given takes f) lost.brings)
 
     pub settles_ended : (r : Bool) (ps left : List (ℕ × V)) (u w : W) (old mid new : KnownValuePair V) (k : ℕ)
@@ -142,7 +151,7 @@ module _ {V W : Type 0} (log given : W → List (ℕ × V)) (takes : W → ℕ �
         → KeepsHanded mid new → DealsOut given may takes (value_state_of old tries ps u) (value_state_of new tries left w)
     settles_ended r ps left u w old mid new k (settles done es queued returned a b p q all) done_all runs over keeps =
         settles_by done [] a b p q new (End k ∷ []) 0
-        (record { done = done; events = es; queued = queued; returned = returned; split = sym (append-nil done); all = all }) runs over refl
+        (record { done = done; events = es; queued = queued; returned = returned; split = sym (append-nil done); all = all }) runs over refl (λ idle. refl)
         (brought_ended p.known.number k (shut p.known.seen) q new
         (subst (λ (z : ℕ). Adds z (End k ∷ []) 0 q.known.seen new.known.seen) all.both.number_is over.adds) keeps)
     settles_ended r ps left u w old mid new n (contends done k v more es queued returned a b p m q all lost) done_all runs over keeps = absurd (cc)

@@ -108,6 +108,7 @@ module _ {V W : Type 0} (given : W → List (ℕ × V)) (may : W → ℕ → V �
           after = s.after;
           asks = asks.1;
           split = s.split;
+          whole = s.whole;
           deals = deals_fresh s.done s.queued s.returned s.own s.deals;
           adds = adds_fresh s.before (s.own ++ s.after) asks.0 s.adds;
           last = s.last;

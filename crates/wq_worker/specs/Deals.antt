@@ -45,7 +45,8 @@ module _ {V W : Type 0} (given : W → List (ℕ × V)) (may : W → ℕ → V �
         → es ≡ taking a.worker.seen ++ Begin k ∷ [] → AsksFor a b ps u es
     owed : IsRunning a.worker.seen → ps ≡ a.unqueued → u ≡ a.worker.work → es ≡ [] → AsksFor a b ps u es
 
-  -- a step from a to b: what it asked for was queued or given back, up to the pairs that are left
+  -- a step from a to b: what it asked for was queued or given back, up to the pairs that are left, of which there are none
+  -- once the execution has ended
   pub record DealsOut (a b : ValueWorkerState V W) : Type 0 where
     pub asked : List (ℕ × V)
     pub done : List (ℕ × V)
@@ -57,6 +58,7 @@ module _ {V W : Type 0} (given : W → List (ℕ × V)) (may : W → ℕ → V �
     pub after : List Event
     pub asks : AsksFor a b asked ran before
     pub split : asked ≡ done ++ b.unqueued
+    pub whole : ¬ IsRunning b.worker.seen → b.unqueued ≡ []
     pub deals : Deals a.worker.layout.items a.worker.number (shut a.worker.seen) done own queued returned
     pub adds : Adds a.worker.number (before ++ (own ++ after)) 0 a.worker.seen b.worker.seen
     pub last : accepted after ≡ []

@@ -2,19 +2,21 @@
 use Rattle.std.specs.Prelude.{◌≡◌, ℕ, ◌+◌, ◌<◌, ◌≤◌, List, length}
 use Rattle.wq_words.specs.History.{accepted, ended}
 use Rattle.wq_words.specs.Legal.{IsLegal, IsComplete}
+use Rattle.wq_live.specs.Counts.{sender_counts}
 use Rattle.wq_ledger.specs.Book.{BookState}
 use Rattle.wq_worker.specs.State.{WorkerState, items_among, IsSameWorker}
 use Rattle.wq_worker.specs.Step.{stays}
 use Rattle.wq_worker.specs.Rows.{RowBy, IsExecution, Closes}
 
--- the book of this worker's queue and sender, with the history that the worker has seen
+-- the book of this worker's queue and sender, with the history that the worker has seen, and what its sender counted in it
 abbrev pub IsBookOf : {W : Type 0} → WorkerState W → BookState → Type 0
 IsBookOf w book = (book.queue ≡ w.queue) × (book.layout ≡ w.layout) × (book.seen ≡ w.seen) × (book.own.number ≡ w.number)
+    × (book.own.counts ≡ sender_counts w.number w.seen)
 
 -- `logs` says what the work has logged once the book is made
 module _ {W : Type 0} (logs : W → BookState → Type 0) (may : W → ℕ → List ℕ → W → Type 0) (gives : W → W → Type 0) where
   -- The queue is closed where it was not, and executions follow until all that was accepted has ended. The work has logged
-  -- what was accepted, and the book is of that history, of this worker's queue and sender.
+  -- what was accepted, and the book is of that history, of this worker's queue and sender, with what the sender counted in it.
   pub record DestroysBy (limit : ℕ) (a : WorkerState W) (work : W) (book : BookState) : Type 0 where
     pub closed : WorkerState W
     pub last : WorkerState W
@@ -29,6 +31,7 @@ module _ {W : Type 0} (logs : W → BookState → Type 0) (may : W → ℕ → L
     pub layout_is : book.layout ≡ a.layout
     pub own_is : book.own.number ≡ a.number
     pub seen_is : book.seen ≡ last.seen
+    pub counts_are : book.own.counts ≡ sender_counts book.own.number book.seen
     pub legal : IsLegal book.layout book.seen
     pub ran_accepted : logs work book
 

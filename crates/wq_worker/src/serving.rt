@@ -1,8 +1,8 @@
 //! Steps of a station, one after another.
-ghost use Rattle.std.specs.Prelude.{◌≡◌};
+ghost use Rattle.std.specs.Prelude.{◌≡◌, ℕ};
 ghost use Rattle.wq_words.specs.History.{IsClosed, IsShut};
 ghost use Rattle.wq_words.specs.Legal.{IsLegal};
-ghost use Rattle.wq_worker.specs.declared.drained.Drained.TheVariants.{Empty};
+ghost use Rattle.wq_worker.specs.declared.drained.Drained.TheVariants.{Empty, TooLong};
 ghost use Rattle.wq_worker.specs.State.{IsSameWorker};
 ghost use Rattle.wq_worker.specs.Rows.{RunsSomeBy, RunsOutBy, ServesBy, DrainsBy, Closes, Along};
 
@@ -58,6 +58,7 @@ pub(crate) fn run_out<S: Station>(station: &mut S, limit: u32) -> u32
 pub(crate) fn drain<S: Station>(station: &mut S, limit: u32) -> Drained
     ensures drains { DrainsBy S.may S.gives limit result (S.state station.old) (S.state station.new) }
     ensures open { result ≡ Empty → ¬ IsClosed (S.state station.old).seen → ¬ IsShut (S.state station.new).seen }
+    ensures shut { (left : ℕ) → result ≡ TooLong left → IsShut (S.state station.new).seen }
     ensures unclosed { ¬ IsClosed (S.state station.old).seen → ¬ IsClosed (S.state station.new).seen }
     ensures same { IsSameWorker (S.state station.old) (S.state station.new) }
     ensures legal { IsLegal (S.state station.new).layout (S.state station.new).seen }

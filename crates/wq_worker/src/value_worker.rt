@@ -15,7 +15,7 @@ ghost use Rattle.wq_live.specs.Rest.{MayNotRest};
 ghost use Rattle.wq_ledger.specs.Totals.{own_totals};
 ghost use Rattle.wq_worker.specs.State.{items_among, IsSameWorker, Moves, IsMadeOf, IsNew};
 ghost use Rattle.wq_worker.specs.declared.ran.Ran.TheVariants.{Nothing, Owing};
-ghost use Rattle.wq_worker.specs.declared.drained.Drained.TheVariants.{Empty};
+ghost use Rattle.wq_worker.specs.declared.drained.Drained.TheVariants.{Empty, TooLong};
 ghost use Rattle.wq_worker.specs.Returned.{GivesBack, MayLeave, pairs_of, numbers_in};
 ghost use Rattle.wq_worker.specs.ValueState.{owner_in, sender_in, ran_pairs, HasRunPairs};
 ghost use Rattle.wq_worker.specs.Deals.{DealsOut, DealsOutBy, BeginsValue, IsOwedPair, DealsInStep, DealsToEnd};
@@ -254,6 +254,8 @@ impl<V: Drop, W: ValueWork<V>> ValueWorker<V, W> {
     /// As `Worker::ready`.
     pub fn ready(&mut self) -> Option<u32>
         ensures outcome { MatchOption result (IsUnready self.old.worker self.new.worker) (λ k. IsReady self.old.worker k self.new.worker) }
+        ensures open { ¬ IsShut self.old.worker.seen → ¬ IsShut self.new.worker.seen }
+        ensures unclosed { ¬ IsClosed self.old.worker.seen → ¬ IsClosed self.new.worker.seen }
         ensures pairs { self.new.unqueued ≡ self.old.unqueued }
         ensures learnt { Learnt (owner_in self.old) (owner_in self.new) }
     {
@@ -303,6 +305,8 @@ impl<V: Drop, W: ValueWork<V>> ValueWorker<V, W> {
         ensures learnt { Learnt (owner_in self.old) (owner_in self.new) }
         ensures events { Moves (Close ∷ []) 0 self.old.worker self.new.worker }
         ensures takes { TakesAll Close result self.new.worker.seen }
+        ensures closed { IsClosed self.new.worker.seen }
+        ensures legal { IsLegal self.new.worker.layout self.new.worker.seen }
     {
         self.pair.close()
     }
@@ -344,6 +348,8 @@ impl<V: Drop, W: ValueWork<V>> ValueWorker<V, W> {
         ensures layout { sender.old.known.layout ≡ self.old.worker.layout }
         ensures both { sender.new.known.seen ≡ self.new.worker.seen }
         ensures brought { sender.new.brought ≡ self.new.brought }
+        ensures open { ¬ IsShut self.old.worker.seen → ¬ IsShut self.new.worker.seen }
+        ensures unclosed { ¬ IsClosed self.old.worker.seen → ¬ IsClosed self.new.worker.seen }
     {
         self.pair.meet(sender);
     }
@@ -362,6 +368,7 @@ impl<V: Drop, W: ValueWork<V>> ValueWorker<V, W> {
         ensures given { IsPrefix (W.given self.old.worker.work) (W.given self.new.worker.work) }
         ensures drains { DrainsBy (MayLeave W.may W.takes) (GivesBack W.takes) limit result self.old.worker self.new.worker }
         ensures open { result ≡ Empty → ¬ IsClosed self.old.worker.seen → ¬ IsShut self.new.worker.seen }
+        ensures shut { (left : ℕ) → result ≡ TooLong left → IsShut self.new.worker.seen }
         ensures unclosed { ¬ IsClosed self.old.worker.seen → ¬ IsClosed self.new.worker.seen }
         ensures same { IsSameWorker self.old.worker self.new.worker }
         ensures legal { IsLegal self.new.worker.layout self.new.worker.seen }

@@ -13,7 +13,7 @@ ghost use Rattle.wq_words.specs.Headline.{KeepsHeadline};
 ghost use Rattle.wq_ledger.specs.Totals.{own_totals};
 ghost use Rattle.wq_worker.specs.State.{items_among, IsSameWorker, Moves, IsMadeOf, IsNew};
 ghost use Rattle.wq_worker.specs.declared.ran.Ran.TheVariants.{Nothing, Owing};
-ghost use Rattle.wq_worker.specs.declared.drained.Drained.TheVariants.{Empty};
+ghost use Rattle.wq_worker.specs.declared.drained.Drained.TheVariants.{Empty, TooLong};
 ghost use Rattle.wq_worker.specs.Step.{Runs, FindsNothing, Begins};
 ghost use Rattle.wq_worker.specs.Rows.{RunsSome, Drains, Serves};
 ghost use Rattle.wq_worker.specs.Resting.{HasNoneLeft, rest_events, LeavesWork, IsReady, IsUnready};
@@ -223,6 +223,8 @@ impl<W: Work> Worker<W> {
     /// `run_one` executes next. `None` where an execution is owed, or where nothing waits.
     pub fn ready(&mut self) -> Option<u32>
         ensures outcome { MatchOption result (IsUnready self.old self.new) (λ k. IsReady self.old k self.new) }
+        ensures open { ¬ IsShut self.old.seen → ¬ IsShut self.new.seen }
+        ensures unclosed { ¬ IsClosed self.old.seen → ¬ IsClosed self.new.seen }
     {
         if self.pair.running().is_some() {
             return None;
@@ -271,6 +273,8 @@ impl<W: Work> Worker<W> {
         ensures work { (self.new.work ≡ self.old.work) × (self.new.unqueued ≡ self.old.unqueued) }
         ensures events { Moves (Close ∷ []) 0 self.old self.new }
         ensures takes { TakesAll Close result self.new.seen }
+        ensures closed { IsClosed self.new.seen }
+        ensures legal { IsLegal self.new.layout self.new.seen }
     {
         self.pair.close()
     }
@@ -310,6 +314,8 @@ impl<W: Work> Worker<W> {
         ensures sender { Sees [] 0 sender.old sender.new }
         ensures layout { sender.old.layout ≡ self.old.layout }
         ensures both { sender.new.seen ≡ self.new.seen }
+        ensures open { ¬ IsShut self.old.seen → ¬ IsShut self.new.seen }
+        ensures unclosed { ¬ IsClosed self.old.seen → ¬ IsClosed self.new.seen }
     {
         self.pair.meet(sender);
     }
@@ -329,6 +335,7 @@ impl<W: Work> Worker<W> {
     pub fn drain(&mut self, limit: u32) -> Drained
         ensures drains { Drains W.may limit result self.old self.new }
         ensures open { result ≡ Empty → ¬ IsClosed self.old.seen → ¬ IsShut self.new.seen }
+        ensures shut { (left : ℕ) → result ≡ TooLong left → IsShut self.new.seen }
         ensures unclosed { ¬ IsClosed self.old.seen → ¬ IsClosed self.new.seen }
         ensures same { IsSameWorker self.old self.new }
         ensures legal { IsLegal self.new.layout self.new.seen }

@@ -23,6 +23,7 @@ returns-then-left-gt0 g c =
         left_is = r.left_is;
       };
       «open» = λ is. absurd (cc);
+      shut = λ left is. e.shut;
       unclosed = λ not. row_unclosed s.may s.gives IsExecution r.steps m b r.row (shuts_unclosed a m shuts not);
       same = worker_on a m b (shuts_same a m shuts) e.same;
       legal = e.legal;
@@ -49,6 +50,7 @@ returns g c =
         resumes = t;
       };
       «open» = λ is not. resumes_open b d t (unclosed not);
+      shut = λ left is. absurd (cc);
       unclosed = λ not. resumes_unclosed b d t (unclosed not);
       same = worker_on a b d (worker_on a m b (shuts_same a m shuts) e.same) (resumes_same b d t);
       legal = resumes_legal b d e.legal t;

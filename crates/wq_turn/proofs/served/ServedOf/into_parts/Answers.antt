@@ -13,6 +13,7 @@ returns g c =
         queue_is = t.0;
         layout_is = t.1;
         number_is = t.3;
+        counts_are = rw (t.3, t.2) t.4;
         legal = subst (λ (z : Layout × List Event). IsLegal z.0 z.1) (λ i. (sym t.1 i, sym t.2 i)) legal;
         complete = subst IsComplete (sym t.2) c.requires;
         ran_accepted = c.into_parts.ensures.ran;

@@ -1,6 +1,19 @@
-use Rattle.wq_worker.proofs.Common.{◌≡◌, sym, ◌∙◌, subst, accepted, IsComplete, pairs_of, ValueWorkerState}
+use Rattle.wq_live.specs.Counts.{sender_counts}
+use Rattle.wq_live.specs.KnownWith.{KnownWith}
+use Rattle.wq_worker.proofs.Common.{◌≡◌, sym, ap, ◌∙◌, subst, accepted, IsComplete, pairs_of, ValueWorkerState}
 use Rattle.wq_worker.proofs.Logged.{begun_accepted}
 use Rattle.wq_worker.proofs.value_worker.ValueWorker.into_book.Goals as goal
+
+pub returns-clause-book : goal.returns-clause-book
+returns-clause-book g c =
+    let n = c.new.ensures in let s = c.split-owner.ensures.sender in let o = c.split-owner.ensures.owner in let is = c.self.view_is in (
+      n.queue ∙ (ap (λ (z : KnownWith g.row.V.Denot). z.known.queue) o ∙ ap (λ (z : ValueWorkerState g.row.V.Denot g.row.W.Denot). z.worker.queue) is),
+      n.layout ∙ (ap (λ (z : KnownWith g.row.V.Denot). z.known.layout) o ∙ ap (λ (z : ValueWorkerState g.row.V.Denot g.row.W.Denot). z.worker.layout) is),
+      n.seen ∙ (ap (λ (z : KnownWith g.row.V.Denot). z.known.seen) o ∙ ap (λ (z : ValueWorkerState g.row.V.Denot g.row.W.Denot). z.worker.seen) is),
+      n.number ∙ (ap (λ (z : KnownWith g.row.V.Denot). z.known.number) s ∙ ap (λ (z : ValueWorkerState g.row.V.Denot g.row.W.Denot). z.worker.number) is),
+      n.counts ∙ (ap (λ (z : KnownWith g.row.V.Denot). sender_counts z.known.number z.known.seen) s
+          ∙ ap (λ (z : ValueWorkerState g.row.V.Denot g.row.W.Denot). sender_counts z.worker.number z.worker.seen) is),
+    )
 
 pub returns-clause-logged : goal.returns-clause-logged
 returns-clause-logged g c =

@@ -1,5 +1,6 @@
-use Rattle.wq_worker.proofs.Common.{[], refl, subst, Moves, ValueWorkerState}
+use Rattle.wq_worker.proofs.Common.{[], refl, subst, IsShut, IsClosed, Moves, ValueWorkerState}
 use Rattle.wq_worker.proofs.ValueState.{value_state_of, value_fit_owner, value_moves_owner}
+use Rattle.wq_worker.proofs.Phase.{open_still, unclosed_still, phase_grown}
 use Rattle.wq_worker.proofs.value_worker.ValueWorker.meet.Goals as goal
 
 pub invariant_of-self : goal.invariant_of-self
@@ -14,3 +15,15 @@ returns-clause-worker g c =
     let w : ValueWorkerState g.row.V.Denot g.row.W.Denot = value_state_of q i.tries i.left.pairs i.work in
     subst (λ (z : ValueWorkerState g.row.V.Denot g.row.W.Denot). Moves [] 0 z.worker w.worker) c.self.view_is
     (value_moves_owner [] 0 0 i.pair q e.owner e.sender i.tries i.left.pairs i.work)
+
+pub returns-clause-open : goal.returns-clause-open
+returns-clause-open g c =
+    let o = c.self.inside.pair.known.seen in let q = c.meet.new.self.known.seen in
+    subst (λ (z : ValueWorkerState g.row.V.Denot g.row.W.Denot). ¬ IsShut z.worker.seen → ¬ IsShut q) c.self.view_is
+    (open_still o q (phase_grown [] 0 o q c.meet.ensures.owner.grows refl))
+
+pub returns-clause-unclosed : goal.returns-clause-unclosed
+returns-clause-unclosed g c =
+    let o = c.self.inside.pair.known.seen in let q = c.meet.new.self.known.seen in
+    subst (λ (z : ValueWorkerState g.row.V.Denot g.row.W.Denot). ¬ IsClosed z.worker.seen → ¬ IsClosed q) c.self.view_is
+    (unclosed_still o q (phase_grown [] 0 o q c.meet.ensures.owner.grows refl))

@@ -1,5 +1,5 @@
 use Rattle.wq_worker.proofs.Common.{MatchOption, refl, sym, ◌∙◌, subst, IsRunning, Learnt, KnownValuePair, owner_of, taking, Both, IsReady, IsUnready}
-use Rattle.wq_worker.proofs.Common.{ValueWorkerState, owner_in}
+use Rattle.wq_worker.proofs.Common.{ValueWorkerState, owner_in, IsShut, IsClosed}
 use Rattle.wq_worker.specs.Resting.{owed}
 use Rattle.wq_worker.proofs.Owned.{quiet_stays, owner_of_both}
 use Rattle.wq_worker.proofs.Running.{runs_told, idle_told}
@@ -7,6 +7,7 @@ use Rattle.wq_worker.proofs.State.{quiet_taking}
 use Rattle.wq_worker.proofs.Step.{moves_by}
 use Rattle.wq_worker.proofs.Resting.{ready_told}
 use Rattle.wq_worker.proofs.ValueState.{value_state_of, keeps_or, value_fit_both}
+use Rattle.wq_worker.proofs.Phase.{open_still, unclosed_still}
 use Rattle.wq_worker.proofs.value_worker.ValueWorker.ready.Goals as goal
 
 pub returns-then-is_some-clause-outcome : goal.returns-then-is_some-clause-outcome
@@ -41,3 +42,16 @@ returns-clause-learnt g c =
     let o : KnownValuePair g.row.V.Denot = c.self.inside.pair in let p : KnownValuePair g.row.V.Denot = c.take_next.new.pair in
     subst (λ (z : ValueWorkerState g.row.V.Denot g.row.W.Denot). Learnt (owner_in z) (owner_of p)) c.self.view_is
     (keeps_or _ _ o p c.self.invariant c.take_next.ensures.kept).learnt
+
+pub returns-clause-open : goal.returns-clause-open
+returns-clause-open g c =
+    let o = c.self.inside.pair.known in let p = c.take_next.new.pair.known in let b = c.take_next.ensures.both in
+    let s = quiet_stays (taking o.seen) o.seen p.seen (quiet_taking o.seen) (owner_of_both o.number (taking o.seen) 0 o.seen p.seen b.adds) in
+    subst (λ (z : ValueWorkerState g.row.V.Denot g.row.W.Denot). ¬ IsShut z.worker.seen → ¬ IsShut p.seen) c.self.view_is (open_still o.seen p.seen s.phase)
+
+pub returns-clause-unclosed : goal.returns-clause-unclosed
+returns-clause-unclosed g c =
+    let o = c.self.inside.pair.known in let p = c.take_next.new.pair.known in let b = c.take_next.ensures.both in
+    let s = quiet_stays (taking o.seen) o.seen p.seen (quiet_taking o.seen) (owner_of_both o.number (taking o.seen) 0 o.seen p.seen b.adds) in
+    subst (λ (z : ValueWorkerState g.row.V.Denot g.row.W.Denot). ¬ IsClosed z.worker.seen → ¬ IsClosed p.seen) c.self.view_is
+    (unclosed_still o.seen p.seen s.phase)

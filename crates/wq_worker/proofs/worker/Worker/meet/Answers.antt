@@ -1,7 +1,8 @@
-use Rattle.wq_worker.proofs.Common.{[], refl, ap, ◌∙◌, subst, drop, KnownPair, Both, WorkerState, Moves}
+use Rattle.wq_worker.proofs.Common.{[], refl, ap, ◌∙◌, subst, drop, IsShut, IsClosed, KnownPair, Both, WorkerState, Moves}
 use Rattle.wq_worker.proofs.State.{fit_both}
 use Rattle.wq_worker.proofs.Step.{state_of, moves_by}
 use Rattle.wq_worker.proofs.Pair.{by_owner}
+use Rattle.wq_worker.proofs.Phase.{open_still, unclosed_still, phase_grown}
 use Rattle.wq_worker.proofs.worker.Worker.meet.Goals as goal
 
 pub invariant_of-self : goal.invariant_of-self
@@ -17,6 +18,17 @@ returns-clause-worker g c =
     let b : Both [] 0 o q = by_owner [] 0 0 o q e.owner e.sender in
     let w : WorkerState g.row.W.Denot = state_of q i.tries left i.work in
     subst (λ (z : WorkerState g.row.W.Denot). Moves [] 0 z w) c.self.view_is (moves_by [] 0 i.tries left left i.work i.work o q b)
+
+pub returns-clause-open : goal.returns-clause-open
+returns-clause-open g c =
+    let o = c.self.inside.pair.seen in let q = c.meet.new.self.seen in
+    subst (λ (z : WorkerState g.row.W.Denot). ¬ IsShut z.seen → ¬ IsShut q) c.self.view_is (open_still o q (phase_grown [] 0 o q c.meet.ensures.owner.grows refl))
+
+pub returns-clause-unclosed : goal.returns-clause-unclosed
+returns-clause-unclosed g c =
+    let o = c.self.inside.pair.seen in let q = c.meet.new.self.seen in
+    subst (λ (z : WorkerState g.row.W.Denot). ¬ IsClosed z.seen → ¬ IsClosed q) c.self.view_is
+    (unclosed_still o q (phase_grown [] 0 o q c.meet.ensures.owner.grows refl))
 
 pub returns-clause-layout : goal.returns-clause-layout
 returns-clause-layout g c = c.meet.ensures.layout ∙ ap (λ (z : WorkerState g.row.W.Denot). z.layout) c.self.view_is

@@ -1,9 +1,10 @@
 use Rattle.wq_worker.proofs.Common.{rules, ◌≡◌, None, MatchOption, refl, subst, drop, IsRunning, running, runs_none, taking}
-use Rattle.wq_worker.proofs.Common.{Both, IsReady, IsUnready, WorkerState}
+use Rattle.wq_worker.proofs.Common.{Both, IsShut, IsClosed, IsReady, IsUnready, WorkerState}
 use Rattle.wq_worker.proofs.Owned.{quiet_stays, owner_of_both}
 use Rattle.wq_worker.proofs.State.{fit_both, quiet_taking}
 use Rattle.wq_worker.proofs.Step.{state_of, moves_by}
 use Rattle.wq_worker.proofs.Resting.{ready_told}
+use Rattle.wq_worker.proofs.Phase.{open_still, unclosed_still}
 use Rattle.wq_worker.proofs.worker.Worker.ready.Goals as goal
 
 pub invariant_of-self : goal.invariant_of-self
@@ -11,8 +12,8 @@ invariant_of-self g c =
     let i = c.self.inside in let o = i.pair in let p = c.take_next.new.pair in
     fit_both (taking o.seen) (g.W.Work.log i.work) i.tries i.at i.follow.items o p (quiet_taking o.seen).begun_none c.self.invariant c.take_next.ensures.both
 
-pub returns : goal.returns
-returns g c =
+pub returns-clause-outcome : goal.returns-clause-outcome
+returns-clause-outcome g c =
     let i = c.self.inside in let o = i.pair in let p = c.take_next.new.pair in
     let b : Both (taking o.seen) 0 o p = c.take_next.ensures.both in let left = drop i.at i.follow.items in
     let s = quiet_stays (taking o.seen) o.seen p.seen (quiet_taking o.seen) (owner_of_both i.pair.number (taking o.seen) 0 o.seen p.seen b.adds) in
@@ -20,8 +21,18 @@ returns g c =
     let idle : ¬ IsRunning p.seen = rw (s.begun_same, s.ended_same) (runs_none o.seen none) in
     let a : WorkerState g.row.W.Denot = state_of o i.tries left i.work in
     let w : WorkerState g.row.W.Denot = state_of p i.tries left i.work in
-    record {
-      outcome = subst (λ (z : WorkerState g.row.W.Denot). MatchOption c.take_next.result (IsUnready z w) (λ k. IsReady z k w)) c.self.view_is
-          (ready_told a w c.take_next.result c.take_next.ensures.next c.take_next.ensures.nothing idle
-          (moves_by (taking o.seen) 0 i.tries left left i.work i.work o p b) (refl, refl));
-    }
+    subst (λ (z : WorkerState g.row.W.Denot). MatchOption c.take_next.result (IsUnready z w) (λ k. IsReady z k w)) c.self.view_is
+    (ready_told a w c.take_next.result c.take_next.ensures.next c.take_next.ensures.nothing idle
+    (moves_by (taking o.seen) 0 i.tries left left i.work i.work o p b) (refl, refl))
+
+pub returns-clause-open : goal.returns-clause-open
+returns-clause-open g c =
+    let o = c.self.inside.pair in let p = c.take_next.new.pair in let b = c.take_next.ensures.both in
+    let s = quiet_stays (taking o.seen) o.seen p.seen (quiet_taking o.seen) (owner_of_both o.number (taking o.seen) 0 o.seen p.seen b.adds) in
+    subst (λ (z : WorkerState g.row.W.Denot). ¬ IsShut z.seen → ¬ IsShut p.seen) c.self.view_is (open_still o.seen p.seen s.phase)
+
+pub returns-clause-unclosed : goal.returns-clause-unclosed
+returns-clause-unclosed g c =
+    let o = c.self.inside.pair in let p = c.take_next.new.pair in let b = c.take_next.ensures.both in
+    let s = quiet_stays (taking o.seen) o.seen p.seen (quiet_taking o.seen) (owner_of_both o.number (taking o.seen) 0 o.seen p.seen b.adds) in
+    subst (λ (z : WorkerState g.row.W.Denot). ¬ IsClosed z.seen → ¬ IsClosed p.seen) c.self.view_is (unclosed_still o.seen p.seen s.phase)
