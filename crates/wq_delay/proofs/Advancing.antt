@@ -4,7 +4,9 @@ use Rattle.wq_delay.proofs.Common.{◌≡◌, ℕ, ◌+◌, ◌<◌, cond, List,
 use Rattle.wq_delay.proofs.Common.{length-append, append-nil, AllZip, Event, Back, Push, is_push, Entry, DelayTable, due_part, later_part, without, IsOrdered}
 use Rattle.wq_delay.proofs.Common.{without_first, due_then_later, first_due_part, first_later_part, Known, Sees, IsFirstDue, DelayState, IsFit, KeepsTable}
 use Rattle.wq_delay.proofs.Common.{TakesOff, IsOut, is_back, MayStay, PostsDue}
+use Rattle.std.specs.Prelude.{◌⊎◌}
 use Rattle.wq_live.specs.Answers.{HasMetDrain}
+use Rattle.wq_delay.specs.Delay.{none, contended, draining}
 use Rattle.wq_delay.proofs.Going.{sees_on, sees_none}
 use Rattle.wq_words.specs.declared.event.Why.TheVariants as why
 
@@ -105,19 +107,19 @@ fewer_left t k es fs in_order is_first is =
 -- all that was due went out
 pub went_all : (t tries pushed refused : ℕ) (old new : DelayState) → Going t old new pushed refused → old.table.tick ≡ t
     → IsOrdered new.table.entries → due_part t new.table.entries ≡ [] → PostsDue t tries old new pushed refused
-went_all t tries pushed refused old new going now in_order none =
+went_all t tries pushed refused old new going now in_order over =
     let rest : new.table.entries ≡ later_part t old.table.entries =
     due_then_later t new.table.entries in_order
-    ∙ (ap (λ (z : List Entry). z ++ later_part t new.table.entries) none ∙ going.later) in
+    ∙ (ap (λ (z : List Entry). z ++ later_part t new.table.entries) over ∙ going.later) in
     record {
       gone = going.gone;
       left = [];
       events = going.events;
-      due_is = going.split ∙ ap (λ (z : List Entry). going.gone ++ z) none;
+      due_is = going.split ∙ ap (λ (z : List Entry). going.gone ++ z) over;
       table_is = λ i. record { entries = rest i; tick = (going.tick_is ∙ now) i; next = going.next_is i };
       out = going.out;
       seen = going.seen;
-      stays = inl refl;
+      stays = none refl;
       pushed_is = going.pushed_is;
       refused_is = going.refused_is;
     }
@@ -128,15 +130,21 @@ met_before events n old mid new seen met =
     let e = ap (length {A = Event}) seen.grows.is in
     (met.0, omega (arith, e, length-append old.seen seen.grows.new, met.1), met.2)
 
+-- events seen behind those of its own that went before
+seen_behind : (events : List Event) (n : ℕ) (old mid new : Known) → Sees events 0 old mid → Sees [] n mid new → Sees events n old new
+seen_behind events n old mid new before seen =
+    let all : Sees (events ++ []) (0 + n) old new = sees_on events [] 0 n old mid new before seen in
+    subst (λ (z : List Event). Sees z n old new) (append-nil events) (subst (λ (z : ℕ). Sees (events ++ []) z old new) (omega arith) all)
+
+-- what one post met, the whole advance met
+pub stays_in_all : (left : List Entry) (tries : ℕ) (events : List Event) (old new : Known) → MayStay left tries events old new
+    → (left ≡ []) ⊎ (Sees events tries old new ⊎ HasMetDrain old.seen new.seen)
+stays_in_all left tries events old new (none nothing) = inl nothing
+stays_in_all left tries events old new (contended mid before lost) = inr (inl (seen_behind events tries old mid new before lost))
+stays_in_all left tries events old new (draining mid before seen met) = inr (inr (met_before events 0 old mid new before met))
+
 module _ (t tries pushed refused : ℕ) (old mid new : DelayState) (going : Going t old mid pushed refused) (now : old.table.tick ≡ t)
     (in_order : IsOrdered mid.table.entries) where
-  seen_on : (n : ℕ) → Sees [] n mid.sender new.sender → Sees going.events n old.sender new.sender
-  seen_on n seen =
-      let all : Sees (going.events ++ []) (0 + n) old.sender new.sender =
-      sees_on going.events [] 0 n old.sender mid.sender new.sender going.seen seen in
-      subst (λ (z : List Event). Sees z n old.sender new.sender) (append-nil going.events)
-      (subst (λ (z : ℕ). Sees (going.events ++ []) z old.sender new.sender) (omega arith) all)
-
   went_some : (n : ℕ) → KeepsTable [] n mid new → Sees going.events 0 old.sender new.sender
       → MayStay (due_part t mid.table.entries) tries going.events old.sender new.sender → PostsDue t tries old new pushed refused
   went_some n keeps seen stays =
@@ -163,8 +171,8 @@ module _ (t tries pushed refused : ℕ) (old mid new : DelayState) (going : Goin
   -- the post of the first was contended
   pub went_lost : KeepsTable [] tries mid new → PostsDue t tries old new pushed refused
   went_lost keeps =
-      let lost = seen_on tries keeps.seen in
-      went_some tries keeps (less lost) (inr (inl lost))
+      went_some tries keeps (less (seen_behind going.events tries old.sender mid.sender new.sender going.seen keeps.seen))
+      (contended mid.sender going.seen keeps.seen)
     where
       less : Sees going.events tries old.sender new.sender → Sees going.events 0 old.sender new.sender
       less seen = record {
@@ -176,4 +184,22 @@ module _ (t tries pushed refused : ℕ) (old mid new : DelayState) (going : Goin
   -- the post of the first found the queue draining
   pub went_drained : KeepsTable [] 0 mid new → HasMetDrain mid.sender.seen new.sender.seen → PostsDue t tries old new pushed refused
   went_drained keeps met =
-      went_some 0 keeps (seen_on 0 keeps.seen) (inr (inr (met_before going.events 0 old.sender mid.sender new.sender going.seen met)))
+      went_some 0 keeps (seen_behind going.events 0 old.sender mid.sender new.sender going.seen keeps.seen)
+      (draining mid.sender going.seen keeps.seen met)
+
+-- what was posted, told of the table as it was before it was led on to the tick
+pub posts_before : (t u tries pushed refused : ℕ) (old led new : DelayState) → PostsDue u tries led new pushed refused → u ≡ t
+    → led.sender ≡ old.sender → led.table.entries ≡ old.table.entries → led.table.next ≡ old.table.next → PostsDue t tries old new pushed refused
+posts_before t u tries pushed refused old led new told at sender entries next =
+    let posts : PostsDue t tries led new pushed refused = subst (λ (z : ℕ). PostsDue z tries led new pushed refused) at told in record {
+      gone = posts.gone;
+      left = posts.left;
+      events = posts.events;
+      due_is = ap (due_part t) (sym entries) ∙ posts.due_is;
+      table_is = posts.table_is ∙ (λ i. record { entries = posts.left ++ later_part t (entries i); tick = t; next = next i });
+      out = subst (λ (k : Known). AllZip (IsOut k.number) posts.gone posts.events) sender posts.out;
+      seen = subst (λ (k : Known). Sees posts.events 0 k new.sender) sender posts.seen;
+      stays = subst (λ (k : Known). MayStay posts.left tries posts.events k new.sender) sender posts.stays;
+      pushed_is = posts.pushed_is;
+      refused_is = posts.refused_is;
+    }

@@ -116,10 +116,12 @@ abbrev pub is_back : Event → Bool
 is_back (Back s k why) = true
 is_back _ = false
 
--- Why what is left of the due part stays: there is nothing; or the post of the first was contended, and at least so many events
--- as there were tries are of other seats; or it was answered that the queue drains.
-abbrev pub MayStay : List Entry → ℕ → List Event → Known → Known → Type 0
-MayStay left tries events old new = (left ≡ []) ⊎ (Sees events tries old new ⊎ HasMetDrain old.seen new.seen)
+-- Why what is left of the due part stays: there is nothing; or the post of its first, which began when the sender knew `mid`,
+-- was contended, and at least as many events of other seats came within it as it had tries; or the queue drained within it.
+pub data MayStay (left : List Entry) (tries : ℕ) (events : List Event) (old new : Known) : Type 0 where
+  none : left ≡ [] → MayStay left tries events old new
+  contended : (mid : Known) → Sees events 0 old mid → Sees [] tries mid new → MayStay left tries events old new
+  draining : (mid : Known) → Sees events 0 old mid → Sees [] 0 mid new → HasMetDrain mid.seen new.seen → MayStay left tries events old new
 
 -- The item k, which is on the table, is posted: it leaves the table, unless the post is contended or finds the queue draining.
 abbrev pub PostsOne : ℕ → ℕ → Posted → DelayState → DelayState → Type 0

@@ -15,6 +15,7 @@ use Rattle.wq_words.specs.declared.answer.Armed.TheVariants as armed
 use Rattle.wq_words.specs.declared.answer.Modified.TheVariants as modified
 use Rattle.wq_words.proofs.DelayTable.{without_off}
 use Rattle.wq_meaning.proofs.Armings.{modify_far, modify_off, modify_now, modify_again}
+use Rattle.wq_delay.proofs.Advancing.{stays_in_all}
 use Rattle.wq_script.proofs.Seated.{Acts}
 use Rattle.wq_script.proofs.Queueings.{not_closed, not_draining, closed_not_draining, does_drain, no_owner, met_drain}
 use Rattle.wq_script.proofs.Delayed.{acts, seated_by, goes_with, goes_nowhere, armed_so, near_is, goes_as}
@@ -226,7 +227,7 @@ module _ (layout : Layout) (s t : Seats) (h : List Event) (g : Seated layout s h
     out = subst (λ (m : ℕ). AllZip (IsOut m) posts.gone posts.events) g.delay.number_is posts.out
 
     stays : draining h ≡ false → posts.left ≡ []
-    stays off = elim posts.stays [
+    stays off = elim (stays_in_all posts.left 1 posts.events s.delay.sender d.sender posts.stays) [
       | inl none ↦ none
       | inr (inl sees) ↦ let a = acts layout s t h g d gathered posts.events 1 sees in absurd (omega (arith, a.none))
       | inr (inr met) ↦
