@@ -1,4 +1,10 @@
 -- One queue more in hand, and one more taken apart.
+use Rattle.std.specs.List.{slice_get}
+use Rattle.std.specs.Prelude.{get_or}
+use Rattle.std.specs.Option.{option_map}
+use Rattle.wq_words.proofs.Ranks.{slice_get-take}
+use Rattle.std.proofs.lemmas.Option.{slice_get-map, slice_get-get_or}
+use Rattle.wq_pool.specs.Finish.{HasEndedAt}
 use Rattle.wq_words.proofs.Growing.{take_more_some}
 use Rattle.wq_ledger.specs.Book.{BookState}
 use Rattle.wq_turn.specs.Finished.{IsFinishedBy}
@@ -21,19 +27,37 @@ module _ {K W : Type 0} (state : K → WorkerState W) where
             ∙ (sym (take_more_some slots.workers n (turn_id state t) worker_is) ∙ ap (λ (k : ℕ). take k slots.workers) (sym long)));
       }
 
+  -- of each queue that is in hand, where nothing is left of them
+  ended_at : (slots : SlotsState) (turns : List (TurnState K)) (t : TurnState K) → AreFirst state slots turns → AreComplete state turns
+      → (p : ℕ) → p < length turns → HasEndedAt state slots.workers p
+  ended_at slots turns t first all p low =
+      let u : TurnState K = get_or turns p t in
+      let here : slice_get (map (turn_id state) turns) p ≡ Some (turn_id state u) =
+      slice_get-map (turn_id state) turns p ∙ ap (option_map (turn_id state)) (slice_get-get_or turns p t low) in
+      let there : slice_get slots.workers p ≡ Some (turn_id state u) =
+      sym (slice_get-take slots.workers (length turns) p low)
+      ∙ (ap (λ (ids : List WorkerId). slice_get ids p) (sym first.workers_are) ∙ here) in
+      (u.worker, there, all p t low)
+
   -- something is left of the queue, or nothing is
   pub left_more : (slots : SlotsState) (left left' : Option (ℕ × ℕ)) (turns new : List (TurnState K)) (t : TurnState K) (more : ℕ)
-      → LeavesOf state slots turns left → FirstLeft left (length turns) more left' → IsWorkerAt state slots.workers (length turns) t.worker
+      → AreFirst state slots turns → LeavesOf state slots turns left → FirstLeft left (length turns) more left' → IsWorkerAt state slots.workers (length turns) t.worker
       → IsDrained more (state t.worker) → new ≡ turns ++ t ∷ [] → LeavesOf state slots new left'
-  left_more slots (Some first) left' turns new t more old told worker_is drained is =
+  left_more slots (Some one) left' turns new t more first old told worker_is drained is =
       subst (λ (o : Option (ℕ × ℕ)). LeavesOf state slots new o) (sym told) old
-  left_more slots None left' turns new t zero old told worker_is drained is =
+  left_more slots None left' turns new t zero first old told worker_is drained is =
       subst (λ (o : Option (ℕ × ℕ)). LeavesOf state slots new o) (sym told)
       (subst (λ (ts : List (TurnState K)). AreComplete state ts) (sym is)
       (All-push (λ (u : TurnState K). IsComplete (state u.worker).seen) turns t old (left_complete (state t.worker) drained)))
-  left_more slots None left' turns new t (suc more) old told worker_is drained is =
+  left_more slots None left' turns new t (suc more) first old told worker_is drained is =
       subst (λ (o : Option (ℕ × ℕ)). LeavesOf state slots new o) (sym told)
-      record { worker = t.worker; worker_is = worker_is; drained = drained; some_left = omega arith }
+      record {
+        worker = t.worker;
+        worker_is = worker_is;
+        drained = drained;
+        some_left = omega arith;
+        before = ended_at slots turns t first old;
+      }
 
 module _ {W B : Type 0} (book : B → BookState) (has_run : W → B → Type 0) where
   abbrev AreDone : List WorkerId → List (W × B) → Type 0

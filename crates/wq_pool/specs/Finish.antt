@@ -26,12 +26,17 @@ module _ {K W : Type 0} (state : K → WorkerState W) where
   abbrev pub AreComplete : List (TurnState K) → Type 0
   AreComplete turns = All (λ (t : TurnState K). IsComplete (state t.worker).seen) turns
 
-  -- so much is left of the queue at this place, which is closed
+  -- the queue at this place has run to its end
+  abbrev pub HasEndedAt : List WorkerId → ℕ → Type 0
+  HasEndedAt workers q = (worker : K) × IsWorkerAt state workers q worker × IsComplete (state worker).seen
+
+  -- so much is left of the queue at this place, which is closed; each queue before it has run to its end
   pub record IsLeftAt (workers : List WorkerId) (q left : ℕ) : Type 0 where
     pub worker : K
     pub worker_is : IsWorkerAt state workers q worker
     pub drained : IsDrained left (state worker)
     pub some_left : 0 < left
+    pub before : (p : ℕ) → p < q → HasEndedAt workers p
 
   -- nothing is left of all these, or something of one of them
   abbrev pub LeavesOf : SlotsState → List (TurnState K) → Option (ℕ × ℕ) → Type 0

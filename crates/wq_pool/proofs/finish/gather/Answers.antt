@@ -19,6 +19,6 @@ loop-queue-preserved g c =
           (ap (λ (u : TurnState _). u.slots) into ∙ (same.slots_is ∙ up.slots)) worker_is c.push_reserved.ensures.items,
       search rules,
       search rules,
-      left_more state slots l.left c.first_left-left.result l.all.items c.push_reserved.new.self.items t c.drain-more.result i.3 told worker_is drained
-          c.push_reserved.ensures.items,
+      left_more state slots l.left c.first_left-left.result l.all.items c.push_reserved.new.self.items t c.drain-more.result i.0 i.3 told worker_is
+          drained c.push_reserved.ensures.items,
     )

@@ -11,6 +11,13 @@ into_parts-requires g c =
     l.yielded l.worked-iterator l.yielded_by c.next.result c.next.new.self c.in-Some.worked c.in-Some.is c.next.ensures.steps in
     subst (λ (t : TurnState _). IsComplete (g.K.Station.state t.worker).seen) (sym turn.1) (c.requires.complete (length l.yielded) c.in-Some.worked turn.0)
 
+pub push_reserved-requires : goal.push_reserved-requires
+push_reserved-requires g c =
+    let i = c.into_iter-worked-iterator.ensures.into_iter_gives in let l = c.loop-worked in
+    let turn = YieldsList-turn (YieldsList-from_vec {s = c.into_iter-worked-iterator.result} c.args.all.items i.0 (i.1 ∙ c.args.all.ok.0))
+    l.yielded l.worked-iterator l.yielded_by c.next.result c.next.new.self c.in-Some.worked c.in-Some.is c.next.ensures.steps in
+    omega (arith, turn.0, l.invariant.3, l.invariant.4, c.args.all.ok.0)
+
 pub loop-worked-preserved : goal.loop-worked-preserved
 loop-worked-preserved g c =
     let k = g.K.Station in let l = c.loop-worked in let i = l.invariant in (
