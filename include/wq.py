@@ -23,6 +23,8 @@ import typing
 import warnings
 import weakref
 
+__all__ = ["Seat", "Code", "Error", "WqError", "Kind", "Fault", "Counts", "check_history", "MOST_TRIES"]
+
 MOST_TRIES = 0xFFFFFFFF
 ALIGNMENT = 128  # seats of several threads share no cache line
 
@@ -78,6 +80,9 @@ class Counts(typing.NamedTuple):
     def __add__(self, other):
         return Counts(*map(sum, zip(self, other)))
 
+    def __radd__(self, other):
+        return self if other == 0 else NotImplemented  # for `sum`, which begins with 0
+
     @property
     def balances(self):
         """Whether all that was accepted was executed, of the sums over all seats of a queue that has run to its end."""
@@ -115,7 +120,7 @@ def _rows(events):
     """The events one behind the other. A field too many or too few would move all that come behind it."""
     rows = array.array("I")
     for place, event in enumerate(events):
-        fields = tuple(event)
+        fields = tuple(event) if hasattr(event, "__iter__") else ()
         if len(fields) != 3:
             raise ValueError(f"event {place} is {event!r}, and not a kind, a sender and a number")
         try:
@@ -153,7 +158,7 @@ class Seat:
     def __init__(self):
         self._room = ctypes.create_string_buffer(_library.wq_c_seat_size() + ALIGNMENT)
         self._at = ctypes.c_void_p(-(-ctypes.addressof(self._room) // ALIGNMENT) * ALIGNMENT)
-        self._lock = threading.Lock()
+        self._lock = threading.RLock()  # a signal's handler or a finalizer may call the seat that its own thread is about to call
         _library.wq_c_init(self._at)
         # not at the program's end, when another thread may still be in it
         weakref.finalize(self, _drop, self._at, self._room, os.getpid()).atexit = False

@@ -1,10 +1,13 @@
 /* A thread that owns a queue and executes it by a function: a convenience over the proved calls of wq.h, and itself not proved.
  * Linux alone (futex) and POSIX threads; link with -pthread.
  *
- * Build a queue and hand out its senders first, then start a worker on the owner's seat, which is the worker's until
- * wq_worker_finish or wq_worker_stop has returned. A sender's thread calls wq_worker_queue and wq_worker_flush, or hands what a call
+ * Build a queue and hand out its senders first, then start one worker on the owner's seat, and the senders' threads after it. The
+ * seat is the worker's until wq_worker_finish or wq_worker_stop has returned: no other thread makes a call in it, and a worker that
+ * finds one there tries again until it has gone. A sender's thread calls wq_worker_queue and wq_worker_flush, or hands what a call
  * of wq.h answered to wq_worker_wake. One thread at a time calls wq_worker_drain, wq_worker_resume, wq_worker_finish and
  * wq_worker_stop. The worker's own function calls none of these four and no wq_worker_flush: each waits for the function to return.
+ * In the owner's seat it calls wq_chain, wq_hand_out and what only looks; a wq_close or wq_drain there stops or drains the queue, but
+ * the worker knows nothing of it, and sleeps until it is asked to.
  *
  * The worker's memory stays until each sender's last call through it has returned, also one that began before wq_worker_stop did: join
  * the senders' threads, then free it. So no queueing has to announce itself to the worker.
@@ -37,6 +40,7 @@ typedef struct wq_worker {
     uint32_t reached; /* a futex: the phase that was reached */
     uint32_t bell;    /* a futex: counts the wake-ups of the worker */
     uint32_t flushes; /* a futex: counts the barriers that were executed */
+    uint32_t ended;   /* whether the thread was joined */
     pthread_t thread;
 } wq_worker;
 
@@ -59,25 +63,35 @@ static inline void wq_count(uint32_t *word) {
     wq_futex(word, FUTEX_WAKE_PRIVATE, INT_MAX);
 }
 
+/* A call in the owner's seat, once more while another call is in it: to end nothing, or close nothing, would stop the worker for good. */
+#define WQ_WORKER_AGAIN(code, call) \
+    while (((code) = (call)) == WQ_SEAT_BUSY) sched_yield()
+
 static inline void *wq_worker_run(void *given) {
     wq_worker *worker = (wq_worker *)given;
-    uint32_t number;
+    uint32_t number, code;
     for (;;) {
         uint32_t bell = wq_load(&worker->bell), wanted = wq_load(&worker->wanted); /* before the take: a later bell ends the sleep */
         if (wanted == WQ_SERVES && wq_load(&worker->reached) == WQ_DRAINED) {
-            wq_resume(worker->owner);
+            WQ_WORKER_AGAIN(code, wq_resume(worker->owner));
             wq_set(&worker->reached, WQ_SERVES);
         }
-        if (wanted == WQ_SERVES) wq_take(worker->owner, WQ_NO_NUMBER);
-        else if (wanted == WQ_DRAINED) wq_drain(worker->owner, WQ_NO_NUMBER);
-        else wq_close(worker->owner, WQ_NO_NUMBER);
-        while (wq_begin(worker->owner, &number) == WQ_OK) {
+        if (wanted == WQ_SERVES) WQ_WORKER_AGAIN(code, wq_take(worker->owner, WQ_NO_NUMBER));
+        else if (wanted == WQ_DRAINED) WQ_WORKER_AGAIN(code, wq_drain(worker->owner, WQ_NO_NUMBER));
+        else WQ_WORKER_AGAIN(code, wq_close(worker->owner, WQ_NO_NUMBER));
+        for (;;) {
+            WQ_WORKER_AGAIN(code, wq_begin(worker->owner, &number));
+            if (code != WQ_OK) break;
             if (number < worker->items) worker->function(number, worker->data);
-            wq_end(worker->owner);
+            WQ_WORKER_AGAIN(code, wq_end(worker->owner));
             if (number >= worker->items) wq_count(&worker->flushes);
         }
-        if (wanted == WQ_SERVES && wq_rest(worker->owner) != WQ_YES) continue; /* something was queued meanwhile */
-        if (wanted != WQ_SERVES) wq_set(&worker->reached, wanted);
+        if (wanted == WQ_SERVES) {
+            WQ_WORKER_AGAIN(code, wq_rest(worker->owner));
+            if (code == WQ_NO) continue; /* something was queued meanwhile */
+        } else {
+            wq_set(&worker->reached, wanted);
+        }
         if (wanted == WQ_STOPPED) return NULL;
         wq_sleep(&worker->bell, bell);
     }
@@ -102,7 +116,7 @@ static inline uint32_t wq_worker_start(wq_worker *worker, wq_seat *owner, uint32
     worker->data = data;
     worker->items = items;
     worker->wanted = worker->reached = WQ_SERVES;
-    worker->bell = worker->flushes = 0;
+    worker->bell = worker->flushes = worker->ended = 0;
     return pthread_create(&worker->thread, NULL, wq_worker_run, worker) == 0 ? (uint32_t)WQ_OK : (uint32_t)WQ_NO_THREAD;
 }
 
@@ -144,12 +158,15 @@ static inline void wq_worker_resume(wq_worker *worker) {
     wq_sleep(&worker->reached, WQ_DRAINED);
 }
 
-/* Closes the queue, executes all that was accepted, and ends the thread. The owner's seat is the caller's again, to count and release. */
+/* Closes the queue, executes all that was accepted, and ends the thread. The owner's seat is the caller's again, to count and release. A
+ * second time it does nothing. */
 static inline void wq_worker_finish(wq_worker *worker) {
+    if (worker->ended) return;
     wq_worker_ask(worker, WQ_STOPPED);
     pthread_join(worker->thread, NULL);
+    worker->ended = 1;
 }
-/* The same, and gives the owner's seat up. The worker's memory is still that of each sender whose call has not returned (above). */
+/* The same, also after it, and gives the owner's seat up. The worker's memory is still that of each sender whose call has not returned (above). */
 static inline uint32_t wq_worker_stop(wq_worker *worker) {
     wq_worker_finish(worker);
     return wq_release(worker->owner);

@@ -141,12 +141,58 @@ static void flushing(void) {
     CHECK(wq_release(&sender) == WQ_OK && wq_release(&other) == WQ_OK);
 }
 
+/* Leaves the owner's seat as a call of another thread does that is still in it. */
+static void occupy(uint32_t item, void *data) {
+    CHECK(item == FIRST_RUN && data == &worker);
+    while (__atomic_exchange_n(&owner.held, 1, __ATOMIC_SEQ_CST)) sched_yield();
+    __atomic_add_fetch(&ran, 1, __ATOMIC_SEQ_CST);
+}
+
+/* The worker ends what runs once that call has gone. A finish that comes twice, the second within a stop, joins once. */
+static void occupied(void) {
+    const struct timespec while_busy = {0, 20 * 1000 * 1000};
+    build();
+    ran = 0;
+    CHECK(wq_worker_start(&worker, &owner, ITEMS, occupy, &worker) == WQ_OK);
+    CHECK(wq_is_queued(wq_worker_queue(&worker, &other, FIRST_RUN)));
+    while (wq_load(&ran) == 0) sched_yield();
+    nanosleep(&while_busy, NULL);
+    __atomic_store_n(&owner.held, 0, __ATOMIC_SEQ_CST);
+    CHECK(wq_is_queued(wq_worker_flush(&worker, &sender, 0)));
+    wq_worker_finish(&worker);
+    CHECK(wq_is_done(&owner) == WQ_YES && wq_worker_stop(&worker) == WQ_OK);
+    CHECK(wq_release(&sender) == WQ_OK && wq_release(&other) == WQ_OK);
+}
+
+static void shut(uint32_t item, void *data) {
+    CHECK(data == &worker);
+    if (item == ITEMS - 1) return;
+    CHECK((item == FIRST_RUN ? wq_close(&owner, WQ_NO_NUMBER) : wq_drain(&owner, WQ_NO_NUMBER)) == WQ_OK);
+}
+
+/* Where its function closes or drains the queue the worker sleeps until it is stopped, and takes no processor meanwhile. */
+static void shut_inside(void) {
+    const struct timespec idle = {0, 200 * 1000 * 1000};
+    for (uint32_t item = FIRST_RUN; item <= BEHIND_FLUSH; item++) {
+        build();
+        CHECK(wq_worker_start(&worker, &owner, ITEMS, shut, &worker) == WQ_OK);
+        CHECK(wq_is_queued(wq_worker_queue(&worker, &other, item)));
+        while (wq_is_queued(wq_worker_queue(&worker, &sender, ITEMS - 1)) || wq_is_pending(&other, item) == WQ_YES) sched_yield();
+        clock_t before = clock();
+        nanosleep(&idle, NULL);
+        CHECK(clock() - before < CLOCKS_PER_SEC / 10);
+        CHECK(wq_worker_stop(&worker) == WQ_OK && wq_release(&sender) == WQ_OK && wq_release(&other) == WQ_OK);
+    }
+}
+
 int main(void) {
     starting();
     started();
     waking();
     flushing();
     giving_up();
+    occupied();
+    shut_inside();
     puts("worker_answers: no start that gets nowhere, and no sleep without end");
     return 0;
 }

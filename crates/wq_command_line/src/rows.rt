@@ -29,7 +29,7 @@ Commands, for a sender S, an item K and a barrier B, each counted from 0:
   queue S K    queue an item                 run N        at most N executions
   close        close the queue               report       print seven counts
   follow K ..  what follows each run of K    flush S B    queue a barrier
-  done S B     whether the barrier has run   stop S       queue the stop item
+  done S B     whether barrier B is idle     stop S       queue the stop item
   drain N      run out a closed queue        check K      whether K is pending
   arm K D      queue K in D ticks            cancel K     take K off the delay table
   modify K D   set K's delay anew            advance T    the present tick becomes T
