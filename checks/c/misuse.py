@@ -3,6 +3,7 @@ import copy
 import gc
 import os
 import pickle
+import signal
 import warnings
 import wq
 from wq import Code, Error, Fault, Kind, Seat, WqError, check_history
@@ -175,6 +176,24 @@ def drops():
     wq._library.wq_c_release = real
 
 
-for part in numbers, events, hand_outs, codes, errors, ends, drops:
+def nested():
+    """A signal's handler calls the seat that its own thread is about to call, or has just called."""
+    owner, came = Seat(), []
+    owner.build(items=4, barriers=1, senders=1)
+
+    def handler(*_):
+        came.append(owner.waiting())
+        signal.setitimer(signal.ITIMER_REAL, 0.001 if len(came) < 200 else 0)  # one at a time, however slow this is
+
+    before = signal.signal(signal.SIGALRM, handler)
+    signal.setitimer(signal.ITIMER_REAL, 0.001)
+    while len(came) < 200:
+        assert owner.counts() == wq.Counts()
+    signal.signal(signal.SIGALRM, before)
+    assert sum([owner.counts(), owner.counts()]) == wq.Counts()
+    run_to_end(owner)
+
+
+for part in numbers, events, hand_outs, codes, errors, ends, drops, nested:
     part()
 print("misuse.py: each is found out by its error")
