@@ -41,8 +41,8 @@ module _ {K W : Type 0} (state : K → WorkerState W) where
 
   -- something is left of the queue, or nothing is
   pub left_more : (slots : SlotsState) (left left' : Option (ℕ × ℕ)) (turns new : List (TurnState K)) (t : TurnState K) (more : ℕ)
-      → AreFirst state slots turns → LeavesOf state slots turns left → FirstLeft left (length turns) more left' → IsWorkerAt state slots.workers (length turns) t.worker
-      → IsDrained more (state t.worker) → new ≡ turns ++ t ∷ [] → LeavesOf state slots new left'
+      → AreFirst state slots turns → LeavesOf state slots turns left → FirstLeft left (length turns) more left'
+      → IsWorkerAt state slots.workers (length turns) t.worker → IsDrained more (state t.worker) → new ≡ turns ++ t ∷ [] → LeavesOf state slots new left'
   left_more slots (Some one) left' turns new t more first old told worker_is drained is =
       subst (λ (o : Option (ℕ × ℕ)). LeavesOf state slots new o) (sym told) old
   left_more slots None left' turns new t zero first old told worker_is drained is =

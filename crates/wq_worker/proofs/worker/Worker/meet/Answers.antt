@@ -22,7 +22,8 @@ returns-clause-worker g c =
 pub returns-clause-open : goal.returns-clause-open
 returns-clause-open g c =
     let o = c.self.inside.pair.seen in let q = c.meet.new.self.seen in
-    subst (λ (z : WorkerState g.row.W.Denot). ¬ IsShut z.seen → ¬ IsShut q) c.self.view_is (open_still o q (phase_grown [] 0 o q c.meet.ensures.owner.grows refl))
+    subst (λ (z : WorkerState g.row.W.Denot). ¬ IsShut z.seen → ¬ IsShut q) c.self.view_is
+    (open_still o q (phase_grown [] 0 o q c.meet.ensures.owner.grows refl))
 
 pub returns-clause-unclosed : goal.returns-clause-unclosed
 returns-clause-unclosed g c =
