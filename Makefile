@@ -44,12 +44,13 @@ recordings: build
 	examples/recording/record.sh $(PROGRAM)
 
 # Each worked row of a script, a schedule, a plan or a recording gives what stands beside it, and so does each command line; random
-# scripts of a delay table give what a sorted list does, and random recordings what the definitions say; what docs/RECORDING.md has
-# one write records a right queue; the converter of kernel traces reads each spelling.
+# scripts of a delay table give what a sorted list does, random scripts, schedules and recordings what models of their tables and
+# definitions say; what docs/RECORDING.md has one write records a right queue; the converter of kernel traces reads each spelling.
 rows: build
 	checks/rows.py $(PROGRAM)
 	checks/command_lines.py $(PROGRAM)
 	checks/random_delays.py $(PROGRAM)
+	checks/random_scripts.py $(PROGRAM)
 	checks/random_recordings.py $(PROGRAM)
 	checks/recording_page.py $(PROGRAM)
 	checks/trace_lines.py $(PROGRAM)

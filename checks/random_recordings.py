@@ -15,10 +15,11 @@ import tempfile
 from pathlib import Path
 from typing import NamedTuple
 
+from texts import LAST, Language, Refused, below, lines_of, need, spoil_byte, words_of
+
 TEXTS = 3000
 LINES = 40
 LONGEST = 4096
-LAST = 2**64 - 1
 WHYS = ["closed", "draining", "contended", "cancelled"]
 
 
@@ -192,54 +193,14 @@ def of_trace(t):
 # What the lines of a text say, or the first thing that is wrong with one of them.
 
 
-class Refused(Exception):
-    """The kind of a refusal."""
+class Recording(Language):
+    """One kind of recording: what its lines may follow, and what is said of them."""
 
-
-def need(kind, holds):
-    if not holds:
-        raise Refused(kind)
-
-
-def number(word):
-    need("Number", re.fullmatch(r"0|[1-9][0-9]*", word) and int(word) <= LAST)
-    return int(word)
-
-
-def below(kind, word, limit):
-    value = number(word)
-    need(kind, value < limit)
-    return value
-
-
-class Language:
-    """One kind of recording: its header, what its lines say, what they may follow, and what is said of them."""
+    MOST = {"items": 65536, "senders": 64, "barriers": 16}
 
     def __init__(self):
-        self.awaited, self.size, self.told = list(self.HEADER), {"items": 1, "senders": 1, "barriers": 1}, []
-
-    def is_short(self):
-        return any(word in ("items", "senders") for word in self.awaited)
-
-    def header(self, words):
-        need("Header", self.awaited[:1] == words[:1])
-        need("Count", len(words) == 2)
-        value, most = number(words[1]), {"items": 65536, "senders": 64, "barriers": 16}[words[0]]
-        need(words[0].title(), 1 <= value <= most)
-        self.size[self.awaited.pop(0)] = value
-
-    def line(self, words):
-        """What the words of a line say, in order."""
-        if words[0] in ("items", "senders", "barriers"):
-            self.header(words)
-            return []
-        wanted = self.wants(words)
-        need("Word", wanted)
-        need("Header", not self.is_short())
-        need("Count", len(words) == wanted)
-        said = self.says(words)
-        self.awaited = []
-        return said
+        super().__init__()
+        self.told = []
 
     def tell(self, it):
         """The cause why it may not come, or nothing and it is told."""
@@ -249,16 +210,11 @@ class Language:
         named = {"runs": self.runs, "next": self.waits}.get(cause, lambda _: [])(self.told)
         return " ".join([cause, *map(self.name, named[:1])]) if cause else None
 
-    def name(self, k):
-        items, barriers = self.size["items"], self.size["barriers"]
-        return str(k) if k < items else f"b{k - items}" if k < items + barriers else "stop"
-
     def report(self, verdict):
-        names = "".join(f" {self.name(k)}" for k in self.left(self.told)) or " nothing"
-        return "".join(f"{line}\n" for line in [*verdict, *self.lines(self.told), f"left{names}"])
+        return "".join(f"{line}\n" for line in [*verdict, *self.lines(self.told), f"left{self.names(self.left(self.told))}"])
 
 
-class History(Language):
+class History(Recording):
     VERSION, HEADER, WHAT = b"history 1", ("items", "senders", "barriers"), "event"
     OWNERS = {"take": "Take", "close": "Close", "drain": "Drain", "resume": "Resume", "begin": "Begin", "end": "End"}
     OWNERS |= {"chain": "Chain", "busy": "ChainBusy", "rest": "Rest"}
@@ -267,22 +223,15 @@ class History(Language):
     RULES, FAILS, runs, waits = EVENT_RULES, EVENT_FAILS, staticmethod(running), staticmethod(unbegun)
     left, lines = staticmethod(left), staticmethod(of_history)
 
-    def wants(self, words):
-        """How many words a line has that begins so, or none where it names nothing."""
+    def counts(self, words):
         if len(words) < 2:
-            return None
+            return ()
         if words[0] == "o":
-            return {"take": 2, "close": 2, "drain": 2, "resume": 2, "rest": 2}.get(words[1], 3) if words[1] in self.OWNERS else None
+            alone = ("take", "close", "drain", "resume", "rest")
+            return ((2,) if words[1] in alone else (3,)) if words[1] in self.OWNERS else ()
         if words[1] == "back":
-            return 4 if words[-1] in WHYS else None
-        return 3 if words[1] in self.SENDERS else None
-
-    def number_of(self, word):
-        if word == "stop":
-            return self.size["items"] + self.size["barriers"]
-        if word.startswith("b"):
-            return self.size["items"] + below("Barrier", word[1:], self.size["barriers"])
-        return below("Item", word, self.size["items"])
+            return (4,) if words[-1] in WHYS else ()
+        return (3,) if words[1] in self.SENDERS else ()
 
     def says(self, words):
         if words[0] != "o":
@@ -294,26 +243,16 @@ class History(Language):
         return [Event(self.OWNERS[words[1]], *map(self.number_of, words[2:]))]
 
 
-class Trace(Language):
+class Trace(Recording):
     VERSION, HEADER, WHAT = b"trace 1", ("items",), "mark"
     RULES, FAILS, runs, waits = MARK_RULES, MARK_FAILS, staticmethod(executing), staticmethod(unstarted)
     left, lines = staticmethod(unreturned), staticmethod(of_trace)
 
-    def wants(self, words):
-        return 2 if words[0] in ("queue", "start", "end") else None
+    def counts(self, words):
+        return (2,) if words[0] in ("queue", "start", "end") else ()
 
     def says(self, words):
         return [Event(words[0], below("Item", words[1], self.size["items"]))]
-
-
-def words_of(line):
-    """The words of a line, or none where it is passed over."""
-    if line == b"" or line.startswith(b"#"):
-        return []
-    need("Bytes", all(32 <= byte <= 126 for byte in line))
-    words = line.decode().split(" ")
-    need("Space", all(words))
-    return words
 
 
 def language_of(line):
@@ -323,23 +262,23 @@ def language_of(line):
 
 def read(text):
     """The language after the line that decides, with the lines of its verdict."""
-    *lines, last = text.split(b"\n")
     language = None
-    for at, line in enumerate([*lines, last] if last or not lines else lines, 1):
+    for line in lines_of(text):
         try:
-            need("Size", len(line) <= LONGEST)
-            need("Cut", at <= len(lines) or not line)
-            words = [] if language is None else words_of(line)
-            language = language or language_of(line)
+            need("Size", len(line.text) <= LONGEST)
+            need("Cut", line.is_ended or not line.text)
+            words = [] if language is None else words_of(line.text)
+            language = language or language_of(line.text)
             said = language.line(words) if words else []
         except Refused as refused:
-            raise Refused(f"line {at}: {refused}")
+            raise Refused(f"line {line.place}: {refused}")
         for it in said:
             cause = language.tell(it)
             if cause:
-                return language, ["not legal", f"line {at}", f"{language.WHAT} {len(language.told) + 1}", f"cause {cause}"]
+                place = len(language.told) + 1
+                return language, ["not legal", f"line {line.place}", f"{language.WHAT} {place}", f"cause {cause}"]
     if language.is_short():
-        raise Refused(f"line {len(lines) + 1}: Header")
+        raise Refused(f"line {line.place + 1}: Header")
     return language, ["legal"]
 
 
@@ -432,13 +371,6 @@ def spoil_line(draws, kind, size, lines):
     else:
         larger = {word: value + draws.randrange(2) for word, value in size.items()}
         lines.insert(draws.randrange(1, len(lines) + 1), random_line(draws, kind, larger))
-
-
-def spoil_byte(draws, text):
-    """Another byte at one place, none, one more, or nothing behind it."""
-    at = draws.randrange(len(text))
-    byte = draws.choice([b"\n", b"\r", b"\t", b" ", b"0", b"b", b"\x7f", b"\xc3", b"\0"])
-    return text[:at] + draws.choice([b"", byte + text[at:], byte + text[at + 1 :], text[at + 1 :]])
 
 
 def random_text(number):

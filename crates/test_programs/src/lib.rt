@@ -17,5 +17,3 @@ mod pool;
 mod race;
 #[cfg(test)]
 mod ready;
-#[cfg(test)]
-mod spoiled;
