@@ -1,6 +1,6 @@
 -- What becomes of the pairs of a run, as far as they have come.
 use Rattle.wq_worker.proofs.Common.{◌≡◌, ℕ, Bool, true, false, Option, Some, None, MatchOption, List, [], ◌∷◌, ◌++◌, refl, sym, ap, ◌∙◌, subst, append_assoc}
-use Rattle.wq_worker.proofs.Common.{append-nil, Event, accepted, shut, IsLegal, Learnt, next_of, taking, Follows, numbers_in, IsReady, IsUnready, rest_events}
+use Rattle.wq_worker.proofs.Common.{append-nil, Event, accepted, ended, shut, IsLegal, Learnt, next_of, taking, Follows, numbers_in, IsReady, IsUnready, rest_events}
 use Rattle.wq_worker.proofs.Common.{Moves, WorkerState, ValueWorkerState, owner_in, learnt_on, Item, Barrier, Stop, Nothing, Owing}
 use mathlib.Core.List.{IsPrefix}
 use Rattle.wq_words.proofs.Prefixes.{prefix_self, prefix_on}
@@ -60,32 +60,39 @@ accepted_rest : (rests : Bool) → accepted (rest_events rests) ≡ []
 accepted_rest true = refl
 accepted_rest false = refl
 
+ended_rest : (rests : Bool) → ended (rest_events rests) ≡ []
+ended_rest true = refl
+ended_rest false = refl
+
 -- the steps of a worker that run nothing
 module _ {V W : Type 0} (given : W → List (ℕ × V)) (may : W → ℕ → V → List (ℕ × V) → W → Type 0) (takes : W → ℕ → V → W → Type 0) where
   pub deals_still : (a : ValueWorkerState V W) → IsLegal a.worker.layout a.worker.seen → MatchesAccepted (owner_in a) → DealsInStep given may takes a a
   deals_still a legal whole =
       keeps [] (record { queue = refl; layout = refl; number = refl; tries = refl; adds = adds_none a.worker.number a.worker.seen; legal = legal })
-      refl refl (refl, refl) refl (record { more = prefix_self a.brought; was_whole = whole; as_many = whole })
+      refl refl refl (refl, refl) refl (record { more = prefix_self a.brought; was_whole = whole; as_many = whole })
 
   pub deals_ready : (a b : ValueWorkerState V W) (r : Option ℕ) → IsLegal a.worker.layout a.worker.seen
       → MatchOption r (IsUnready a.worker b.worker) (λ k. IsReady a.worker k b.worker) → b.unqueued ≡ a.unqueued → Learnt (owner_in a) (owner_in b)
       → DealsInStep given may takes a b
   deals_ready a b (Some k) legal t pairs learnt =
-      keeps (taking a.worker.seen) t.moves (quiet_taking a.worker.seen).begun_none (accepted_taking a.worker.seen) t.work_is pairs learnt
+      let quiet = quiet_taking a.worker.seen in
+      keeps (taking a.worker.seen) t.moves quiet.begun_none (accepted_taking a.worker.seen) quiet.ended_none t.work_is pairs learnt
   deals_ready a b None legal (owed is same) pairs learnt =
       keeps [] (subst (λ (w : WorkerState W). Moves [] 0 a.worker w) (sym same)
       (record { queue = refl; layout = refl; number = refl; tries = refl; adds = adds_none a.worker.number a.worker.seen; legal = legal }))
-      refl refl (ap (λ (w : WorkerState W). w.work) same, ap (λ (w : WorkerState W). w.unqueued) same) pairs learnt
+      refl refl refl (ap (λ (w : WorkerState W). w.work) same, ap (λ (w : WorkerState W). w.unqueued) same) pairs learnt
   deals_ready a b None legal (nothing waits idle moved left) pairs learnt =
-      keeps (taking a.worker.seen) moved (quiet_taking a.worker.seen).begun_none (accepted_taking a.worker.seen) left pairs learnt
+      let quiet = quiet_taking a.worker.seen in
+      keeps (taking a.worker.seen) moved quiet.begun_none (accepted_taking a.worker.seen) quiet.ended_none left pairs learnt
 
   pub deals_rest : (a b : ValueWorkerState V W) (rests : Bool) → Moves (rest_events rests) 0 a.worker b.worker → LeavesWork a.worker b.worker
       → b.unqueued ≡ a.unqueued → Learnt (owner_in a) (owner_in b) → DealsInStep given may takes a b
-  deals_rest a b rests moved left pairs learnt = keeps (rest_events rests) moved (begun_rest rests) (accepted_rest rests) left pairs learnt
+  deals_rest a b rests moved left pairs learnt =
+      keeps (rest_events rests) moved (begun_rest rests) (accepted_rest rests) (ended_rest rests) left pairs learnt
 
   step_learnt : (a b : ValueWorkerState V W) → DealsInStep given may takes a b → Learnt (owner_in a) (owner_in b)
   step_learnt a b (runs r ran dealt learnt) = learnt
-  step_learnt a b (keeps es moved begins accepts left pairs learnt) = learnt
+  step_learnt a b (keeps es moved begins accepts ends left pairs learnt) = learnt
 
   dealt_given : (a b : ValueWorkerState V W) → DealsOut given may takes a b → IsPrefix (given a.worker.work) (given b.worker.work)
   dealt_given a b d = (d.returned, sym d.given_is)
@@ -99,7 +106,7 @@ module _ {V W : Type 0} (given : W → List (ℕ × V)) (may : W → ℕ → V �
   step_given a b (runs Stop ran dealt learnt) = dealt_given a b dealt
   step_given a b (runs (Owing k) ran dealt learnt) = dealt_given a b dealt
   step_given a b (runs Nothing ran dealt learnt) = same_given a.worker.work b.worker.work ran.2
-  step_given a b (keeps es moved begins accepts left pairs learnt) = same_given a.worker.work b.worker.work left.0
+  step_given a b (keeps es moved begins accepts ends left pairs learnt) = same_given a.worker.work b.worker.work left.0
 
   -- through a row of steps what was brought, and what was given back, before begins what is now
   pub along_learnt : (a b : ValueWorkerState V W) → MatchesAccepted (owner_in a) → Along (DealsInStep given may takes) a b

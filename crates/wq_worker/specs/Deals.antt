@@ -2,7 +2,7 @@
 use Rattle.std.specs.Prelude.{◌≡◌, ℕ, ◌≤◌, Bool, List, [], ◌∷◌, ◌++◌, slice_get, length, Option, Some, if◌then◌else◌}
 use Rattle.wq_words.specs.declared.event.Event.{Event}
 use Rattle.wq_words.specs.declared.event.Event.TheVariants.{Begin}
-use Rattle.wq_words.specs.History.{accepted, begun, shut, IsRunning}
+use Rattle.wq_words.specs.History.{accepted, begun, ended, shut, IsRunning}
 use Rattle.wq_words.specs.Seen.{owner_seat}
 use Rattle.wq_live.specs.Answers.{IsContended}
 use Rattle.wq_live.specs.KnownWith.{Learnt}
@@ -78,12 +78,12 @@ module _ {V W : Type 0} (given : W → List (ℕ × V)) (may : W → ℕ → V �
   DealsOutBy r a b = DealsOut a b
 
   -- One step of any kind: a run, by which what it asked for was dealt out; or the worker's two seats added events es of which
-  -- none begins a number or queues one, and the work and the pairs are as they were.
+  -- none begins a number, queues one or ends an execution, and the work and the pairs are as they were.
   pub data DealsInStep (a b : ValueWorkerState V W) : Type 0 where
     runs : (r : Ran) → RunsBy (MayLeave may takes) (GivesBack takes) r a.worker b.worker → DealsOutBy r a b
         → Learnt (owner_in a) (owner_in b) → DealsInStep a b
-    keeps : (es : List Event) → Moves es 0 a.worker b.worker → begun es ≡ [] → accepted es ≡ [] → LeavesWork a.worker b.worker
-        → b.unqueued ≡ a.unqueued → Learnt (owner_in a) (owner_in b) → DealsInStep a b
+    keeps : (es : List Event) → Moves es 0 a.worker b.worker → begun es ≡ [] → accepted es ≡ [] → ended es ≡ []
+        → LeavesWork a.worker b.worker → b.unqueued ≡ a.unqueued → Learnt (owner_in a) (owner_in b) → DealsInStep a b
 
   -- The worker went on, step by step, until it was taken apart: this is the work that it left, and what the numbers of its
   -- queue brought.

@@ -23,7 +23,7 @@ returns-clause-deals g c =
     let i = c.self.inside in let e = c.drain.ensures in let q = c.drain.new.self in let v = g.W.ValueWork in
     let w : ValueWorkerState g.row.V.Denot g.row.W.Denot = value_state_of q i.tries i.left.pairs i.work in
     subst (λ (z : ValueWorkerState g.row.V.Denot g.row.W.Denot). DealsInStep v.given v.may v.takes z w) c.self.view_is
-    (keeps (Drain ∷ []) (value_moves_owner (Drain ∷ []) 0 0 i.pair q e.seen e.others i.tries i.left.pairs i.work) refl refl (refl, refl) refl e.learnt)
+    (keeps (Drain ∷ []) (value_moves_owner (Drain ∷ []) 0 0 i.pair q e.seen e.others i.tries i.left.pairs i.work) refl refl refl (refl, refl) refl e.learnt)
 
 pub returns-then-is_shut-clause-deals : goal.returns-then-is_shut-clause-deals
 returns-then-is_shut-clause-deals g c =

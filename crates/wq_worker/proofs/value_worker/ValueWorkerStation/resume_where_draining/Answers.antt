@@ -29,7 +29,7 @@ returns-then-is_draining g c =
       resumes = subst (λ (z : ValueWorkerState g.row.V.Denot g.row.W.Denot). Resumes z.worker w.worker) c.self.view_is
           (reopens is (value_moves_owner (Resume ∷ []) 0 0 i.pair q e.seen e.others i.tries i.left.pairs i.work) refl refl);
       deals = subst (λ (z : ValueWorkerState g.row.V.Denot g.row.W.Denot). DealsInStep v.given v.may v.takes z w) c.self.view_is
-          (keeps (Resume ∷ []) (value_moves_owner (Resume ∷ []) 0 0 i.pair q e.seen e.others i.tries i.left.pairs i.work) refl refl (refl, refl) refl
+          (keeps (Resume ∷ []) (value_moves_owner (Resume ∷ []) 0 0 i.pair q e.seen e.others i.tries i.left.pairs i.work) refl refl refl (refl, refl) refl
           e.learnt);
     }
 
