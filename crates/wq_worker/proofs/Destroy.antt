@@ -4,17 +4,19 @@ use Rattle.wq_ledger.specs.Book.{BookState}
 use Rattle.wq_worker.specs.State.{IsSameWorker}
 use Rattle.wq_worker.specs.Rows.{RunsOutBy, Closes}
 use Rattle.wq_worker.specs.Destroy.{IsBookOf, DestroysBy, LeavesUnfinishedBy}
-use Rattle.wq_worker.proofs.Rows.{worker_on, closes_same, ran_complete}
+use Rattle.wq_worker.proofs.Phase.{closed_still}
+use Rattle.wq_worker.proofs.Rows.{worker_on, closes_same, row_phase, ran_complete}
 
 module _ {W : Type 0} (may : W → ℕ → List ℕ → W → Type 0) (gives : W → W → Type 0) (limit left : ℕ) (a m b : WorkerState W) (closed : Closes a m)
     (ran : RunsOutBy may gives limit left m b) (same : IsSameWorker m b) (legal : IsLegal b.layout b.seen) where
-  pub leaves_unfinished : 0 < left → LeavesUnfinishedBy may gives limit a b left
-  leaves_unfinished some = record {
+  pub leaves_unfinished : IsClosed m.seen → 0 < left → LeavesUnfinishedBy may gives limit a b left
+  leaves_unfinished is some = record {
     closed = m;
     closes = closed;
     row = subst (λ (n : ℕ). RowBy may gives IsExecution n m b) (ran.stops some) ran.row;
     same = worker_on a m b (closes_same a m closed) same;
     legal = legal;
+    is_closed = closed_still m.seen b.seen (row_phase may gives IsExecution ran.steps m b ran.row) is;
     some_left = some;
     left_is = ran.left_is;
   }

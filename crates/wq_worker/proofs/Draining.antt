@@ -2,7 +2,7 @@
 use Rattle.wq_worker.proofs.Common.{◌≡◌, ℕ, ◌+◌, ◌-◌, ◌<◌, ◌≤◌, ⊎_elim, List, [], ◌∷◌, ◌++◌, length, None, slice_get, refl, ap, ◌∙◌, subst, arith}
 use Rattle.wq_worker.proofs.Common.{length-append, drop_of_length-le, cases_lt, filter_map-append, Layout, Event, Take, accepted, begun, ended}
 use Rattle.wq_worker.proofs.Common.{IsShut, IsRunning, IsLegal, IsComplete, HasRunOut, in_order, prefix_length, shut_from_IsShut, owner_seat, own}
-use Rattle.wq_worker.proofs.Common.{Grows, batch, Ran, Item, Barrier, Stop, Nothing, Owing, Adds, taking, NothingWaits, WorkerState, OwesBy, owes}
+use Rattle.wq_worker.proofs.Common.{Grows, batch, next_of, Ran, Item, Barrier, Stop, Nothing, Owing, Adds, taking, NothingWaits, WorkerState, OwesBy, owes}
 use Rattle.wq_worker.proofs.Common.{RunsBy, IsExecution}
 use Rattle.std.proofs.Common.{length-drop}
 use Rattle.std.proofs.lemmas.Option.{slice_get-get_or}
@@ -81,6 +81,10 @@ left_running layout h legal shut runs =
     let n : length (batch h) ≡ length (accepted h) - length (begun h) =
     ap (length {A = ℕ}) (batch-shut h shut) ∙ length-drop (length (begun h)) (accepted h) in
     omega (arith, prefix_length (begun h) (accepted h) order.begun_first, order.one_at_a_time, runs, n)
+
+-- where nothing waits there is no next
+pub next_from_empty : (h : List Event) → batch h ≡ [] → next_of h ≡ None
+next_from_empty h none = ap (λ (ks : List ℕ). slice_get ks 0) none
 
 -- of a queue that has run out nothing waits, and nothing runs
 pub none_left : (layout : Layout) (h : List Event) → IsLegal layout h → HasRunOut h → (batch h ≡ []) × (¬ IsRunning h)

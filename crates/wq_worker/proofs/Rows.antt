@@ -1,6 +1,6 @@
 -- A worker after steps in a row is the same worker, what it has seen is legal, and its queue is open where it was.
 use Rattle.wq_worker.proofs.Common.{◌≡◌, ℕ, List, [], ◌∷◌, ◌++◌, sym, refl, ◌∙◌, ap, subst, arith, count_by, Event, End, Drain, Resume, IsClosed}
-use Rattle.wq_worker.proofs.Common.{IsShut, IsLegal, IsComplete, HasRunOut, count_by-append, Ran, Item, Barrier, Stop, Nothing, Owing, taking}
+use Rattle.wq_worker.proofs.Common.{IsShut, IsRunning, IsLegal, IsComplete, HasRunOut, count_by-append, Ran, Item, Barrier, Stop, Nothing, Owing, taking}
 use Rattle.wq_worker.proofs.Common.{contended_of, WorkerState, Moves, stays, EndsBy, OwesBy, owes, RunsBy, RowBy, none, more, IsExecution, Shuts}
 use Rattle.wq_worker.proofs.Common.{drains, Resumes, stays_closed, reopens, is_turn}
 use Rattle.wq_worker.specs.State.{IsSameWorker}
@@ -80,6 +80,9 @@ module _ {W : Type 0} (may : W → ℕ → List ℕ → W → Type 0) (gives : W
 
   owes_same : (k : ℕ) (a b : WorkerState W) → OwesBy may gives a k b → IsSameWorker a b
   owes_same k a b (owes f qs j rest es fs st split left opens told moved runs) = moves_same _ a.tries a b moved
+
+  pub ends_idle : (k : ℕ) (a b : WorkerState W) → EndsBy may gives a k b → ¬ IsRunning b.seen
+  ends_idle k a b (ends f es fs st told moved rests) = rests
 
   ends_legal : (k : ℕ) (a b : WorkerState W) → EndsBy may gives a k b → IsLegal b.layout b.seen
   ends_legal k a b (ends f es fs st told moved rests) = moved.legal

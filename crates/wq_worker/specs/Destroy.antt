@@ -1,6 +1,6 @@
 -- What a destroy gives: the work and the book of a queue that has run to its end, or the same worker with what is left.
 use Rattle.std.specs.Prelude.{◌≡◌, ℕ, ◌+◌, ◌<◌, ◌≤◌, List, length}
-use Rattle.wq_words.specs.History.{accepted, ended}
+use Rattle.wq_words.specs.History.{accepted, ended, IsClosed}
 use Rattle.wq_words.specs.Legal.{IsLegal, IsComplete}
 use Rattle.wq_live.specs.Counts.{sender_counts}
 use Rattle.wq_ledger.specs.Book.{BookState}
@@ -36,13 +36,14 @@ module _ {W : Type 0} (logs : W → BookState → Type 0) (may : W → ℕ → L
     pub ran_accepted : logs work book
 
 module _ {W : Type 0} (may : W → ℕ → List ℕ → W → Type 0) (gives : W → W → Type 0) where
-  -- as many executions as the limit, after which so many are left to the same worker
+  -- as many executions as the limit, after which so many are left to the same worker, whose queue is closed
   pub record LeavesUnfinishedBy (limit : ℕ) (a : WorkerState W) (b : WorkerState W) (left : ℕ) : Type 0 where
     pub closed : WorkerState W
     pub closes : Closes a closed
     pub row : RowBy may gives IsExecution limit closed b
     pub same : IsSameWorker a b
     pub legal : IsLegal b.layout b.seen
+    pub is_closed : IsClosed b.seen
     pub some_left : 0 < left
     pub left_is : left + length (ended b.seen) ≡ length (accepted b.seen)
 

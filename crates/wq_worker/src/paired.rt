@@ -5,7 +5,7 @@ ghost use Rattle.wq_words.specs.Numbers.{number_count};
 ghost use Rattle.wq_words.specs.History.{IsClosed, IsShut, IsDraining, closed, IsRunning, running};
 ghost use Rattle.wq_live.specs.Known.{Sees};
 ghost use Rattle.wq_live.specs.Batch.{batch, next_of, TakesAll};
-ghost use Rattle.wq_live.specs.Rest.{Rests, MayNotRest};
+ghost use Rattle.wq_live.specs.Rest.{Rests, HasRested, MayNotRest};
 ghost use Rattle.wq_live.specs.Pairs.{KnownPair, pair_owner, pair_sender};
 
 use wq_live::{Pair, ValuePair};
@@ -48,6 +48,7 @@ pub(crate) trait Paired {
         requires empty { batch (known self.old).seen ≡ [] }
         requires idle { ¬ IsRunning (known self.old).seen }
         ensures seen { Rests result (pair_owner (known self.old)) (pair_owner (known self.new)) }
+        ensures rested { IsTrue result → HasRested (known self.new).seen }
         ensures refused { result ≡ false → MayNotRest (known self.new).seen }
         ensures open { ¬ IsShut (known self.new).seen }
         ensures unclosed { ¬ IsClosed (known self.new).seen }

@@ -1,9 +1,10 @@
 //! Steps of a station, one after another.
 ghost use Rattle.std.specs.Prelude.{◌≡◌, ℕ};
-ghost use Rattle.wq_words.specs.History.{IsClosed, IsShut};
+ghost use Rattle.wq_words.specs.History.{IsClosed, IsShut, IsRunning};
 ghost use Rattle.wq_words.specs.Legal.{IsLegal};
 ghost use Rattle.wq_worker.specs.declared.drained.Drained.TheVariants.{Empty, TooLong};
 ghost use Rattle.wq_worker.specs.State.{IsSameWorker};
+ghost use Rattle.wq_worker.specs.Resting.{HasNoneLeft};
 ghost use Rattle.wq_worker.specs.Rows.{RunsSomeBy, RunsOutBy, ServesBy, DrainsBy, Closes, Along};
 
 use crate::drained::Drained;
@@ -59,6 +60,7 @@ pub(crate) fn drain<S: Station>(station: &mut S, limit: u32) -> Drained
     ensures drains { DrainsBy S.may S.gives limit result (S.state station.old) (S.state station.new) }
     ensures open { result ≡ Empty → ¬ IsClosed (S.state station.old).seen → ¬ IsShut (S.state station.new).seen }
     ensures shut { (left : ℕ) → result ≡ TooLong left → IsShut (S.state station.new).seen }
+    ensures none { result ≡ Empty → HasNoneLeft (S.state station.new).seen }
     ensures unclosed { ¬ IsClosed (S.state station.old).seen → ¬ IsClosed (S.state station.new).seen }
     ensures same { IsSameWorker (S.state station.old) (S.state station.new) }
     ensures legal { IsLegal (S.state station.new).layout (S.state station.new).seen }
@@ -77,6 +79,9 @@ pub(crate) fn drain<S: Station>(station: &mut S, limit: u32) -> Drained
 pub(crate) fn serve<R: Wait, S: Station>(rt: &R, station: &mut S, parker: &Parker)
     requires open { ¬ IsShut (S.state station.old).seen }
     ensures serves { ServesBy S.may S.gives (S.state station.old) (S.state station.new) }
+    ensures open { ¬ IsShut (S.state station.new).seen }
+    ensures unclosed { ¬ IsClosed (S.state station.new).seen }
+    ensures idle { ¬ IsRunning (S.state station.new).seen }
     ensures same { IsSameWorker (S.state station.old) (S.state station.new) }
     ensures legal { IsLegal (S.state station.new).layout (S.state station.new).seen }
     ensures deals { Along S.deals station.old station.new }

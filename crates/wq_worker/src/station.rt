@@ -121,6 +121,7 @@ pub trait Station {
     fn resume_where_draining(&mut self)
         requires { HasRunOut (state self.old).seen }
         ensures resumes { Resumes (state self.old) (state self.new) }
+        ensures none { HasNoneLeft (state self.new).seen }
         ensures deals { deals self.old self.new };
 
     /// Takes a worker apart whose queue has run to its end: the work, and the book of the queue.

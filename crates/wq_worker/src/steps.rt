@@ -1,5 +1,5 @@
 //! Steps of an owner and a sender of one queue, in one seat.
-ghost use Rattle.std.specs.Prelude.{◌≡◌, ℕ, ◌<◌, ◌≤◌, Some, None, false, [], ◌∷◌, MatchOption, length, drop, slice_index};
+ghost use Rattle.std.specs.Prelude.{◌≡◌, ℕ, ◌<◌, ◌≤◌, Some, None, false, [], ◌∷◌, IsTrue, MatchOption, length, drop, slice_index};
 ghost use Rattle.wq_words.specs.declared.event.Event.TheVariants.{End};
 ghost use Rattle.wq_words.specs.History.{running, shut, IsRunning, IsClosed, IsShut};
 ghost use Rattle.wq_words.specs.Legal.{IsLegal};
@@ -7,7 +7,7 @@ ghost use Rattle.wq_live.specs.Known.{Sees};
 ghost use Rattle.wq_live.specs.Pairs.{pair_owner, pair_sender};
 ghost use Rattle.wq_live.specs.Answers.{IsContended};
 ghost use Rattle.wq_live.specs.Batch.{next_of};
-ghost use Rattle.wq_live.specs.Rest.{MayNotRest};
+ghost use Rattle.wq_live.specs.Rest.{HasRested, MayNotRest};
 ghost use Rattle.wq_worker.specs.Seats.{taking, NothingWaits};
 ghost use Rattle.wq_worker.specs.Resting.{HasNoneLeft, rest_events};
 ghost use Rattle.wq_worker.specs.Pair.{settled, StaysOr, Both, BothFindNothing, BothBegin, BothQueue, QueuesRest};
@@ -79,6 +79,7 @@ pub(crate) fn rest<P: Paired>(pair: &mut P) -> bool
     ensures open { ¬ IsShut (P.known pair.new).seen }
     ensures unclosed { ¬ IsClosed (P.known pair.new).seen }
     ensures none { HasNoneLeft (P.known pair.new).seen }
+    ensures rested { IsTrue result → HasRested (P.known pair.new).seen }
     ensures refused { result ≡ false → MayNotRest (P.known pair.new).seen }
     ensures kept { P.keeps pair.old pair.new }
 {

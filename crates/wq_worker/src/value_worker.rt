@@ -11,7 +11,7 @@ ghost use Rattle.wq_words.specs.Valued.{IsLegalWith, with_values};
 ghost use Rattle.wq_live.specs.Known.{Sees, new_senders};
 ghost use Rattle.wq_live.specs.KnownWith.{Learnt, MatchesAccepted, knowing_nothing};
 ghost use Rattle.wq_live.specs.Batch.{TakesAll};
-ghost use Rattle.wq_live.specs.Rest.{MayNotRest};
+ghost use Rattle.wq_live.specs.Rest.{HasRested, MayNotRest};
 ghost use Rattle.wq_ledger.specs.Totals.{own_totals};
 ghost use Rattle.wq_worker.specs.State.{items_among, IsSameWorker, Moves, IsMadeOf, IsNew};
 ghost use Rattle.wq_worker.specs.declared.ran.Ran.TheVariants.{Nothing, Owing};
@@ -276,6 +276,7 @@ impl<V: Drop, W: ValueWork<V>> ValueWorker<V, W> {
         ensures open { ¬ IsShut self.new.worker.seen }
         ensures unclosed { ¬ IsClosed self.new.worker.seen }
         ensures none { HasNoneLeft self.new.worker.seen }
+        ensures rested { IsTrue result → HasRested self.new.worker.seen }
         ensures refused { result ≡ false → MayNotRest self.new.worker.seen }
     {
         rest::<ValuePair<V>>(&mut self.pair)
@@ -369,6 +370,7 @@ impl<V: Drop, W: ValueWork<V>> ValueWorker<V, W> {
         ensures drains { DrainsBy (MayLeave W.may W.takes) (GivesBack W.takes) limit result self.old.worker self.new.worker }
         ensures open { result ≡ Empty → ¬ IsClosed self.old.worker.seen → ¬ IsShut self.new.worker.seen }
         ensures shut { (left : ℕ) → result ≡ TooLong left → IsShut self.new.worker.seen }
+        ensures none { result ≡ Empty → HasNoneLeft self.new.worker.seen }
         ensures unclosed { ¬ IsClosed self.old.worker.seen → ¬ IsClosed self.new.worker.seen }
         ensures same { IsSameWorker self.old.worker self.new.worker }
         ensures legal { IsLegal self.new.worker.layout self.new.worker.seen }
@@ -384,6 +386,9 @@ impl<V: Drop, W: ValueWork<V>> ValueWorker<V, W> {
         ensures learnt { Learnt (owner_in self.old) (owner_in self.new) }
         ensures given { IsPrefix (W.given self.old.worker.work) (W.given self.new.worker.work) }
         ensures serves { ServesBy (MayLeave W.may W.takes) (GivesBack W.takes) self.old.worker self.new.worker }
+        ensures open { ¬ IsShut self.new.worker.seen }
+        ensures unclosed { ¬ IsClosed self.new.worker.seen }
+        ensures idle { ¬ IsRunning self.new.worker.seen }
         ensures same { IsSameWorker self.old.worker self.new.worker }
         ensures legal { IsLegal self.new.worker.layout self.new.worker.seen }
     {

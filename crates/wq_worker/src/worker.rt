@@ -7,7 +7,7 @@ ghost use Rattle.wq_words.specs.Seen.{owner_seat, Grows};
 ghost use Rattle.wq_live.specs.Known.{AreNumbered, Sees, new_senders};
 ghost use Rattle.wq_live.specs.Answers.{IsContended};
 ghost use Rattle.wq_live.specs.Batch.{TakesAll};
-ghost use Rattle.wq_live.specs.Rest.{MayNotRest};
+ghost use Rattle.wq_live.specs.Rest.{HasRested, MayNotRest};
 ghost use Rattle.wq_words.specs.Legal.{IsLegal, IsComplete};
 ghost use Rattle.wq_words.specs.Headline.{KeepsHeadline};
 ghost use Rattle.wq_ledger.specs.Totals.{own_totals};
@@ -248,6 +248,7 @@ impl<W: Work> Worker<W> {
         ensures open { ¬ IsShut self.new.seen }
         ensures unclosed { ¬ IsClosed self.new.seen }
         ensures none { HasNoneLeft self.new.seen }
+        ensures rested { IsTrue result → HasRested self.new.seen }
         ensures refused { result ≡ false → MayNotRest self.new.seen }
     {
         rest::<Pair>(&mut self.pair)
@@ -336,6 +337,7 @@ impl<W: Work> Worker<W> {
         ensures drains { Drains W.may limit result self.old self.new }
         ensures open { result ≡ Empty → ¬ IsClosed self.old.seen → ¬ IsShut self.new.seen }
         ensures shut { (left : ℕ) → result ≡ TooLong left → IsShut self.new.seen }
+        ensures none { result ≡ Empty → HasNoneLeft self.new.seen }
         ensures unclosed { ¬ IsClosed self.old.seen → ¬ IsClosed self.new.seen }
         ensures same { IsSameWorker self.old self.new }
         ensures legal { IsLegal self.new.layout self.new.seen }
@@ -349,6 +351,9 @@ impl<W: Work> Worker<W> {
     pub fn serve<R: Wait>(&mut self, rt: &R, parker: &Parker)
         requires open { ¬ IsShut self.old.seen }
         ensures serves { Serves W.may self.old self.new }
+        ensures open { ¬ IsShut self.new.seen }
+        ensures unclosed { ¬ IsClosed self.new.seen }
+        ensures idle { ¬ IsRunning self.new.seen }
         ensures same { IsSameWorker self.old self.new }
         ensures legal { IsLegal self.new.layout self.new.seen }
     {

@@ -24,6 +24,7 @@ returns-then-left-gt0 g c =
       };
       «open» = λ is. absurd (cc);
       shut = λ left is. e.shut;
+      none = λ is. absurd (cc);
       unclosed = λ not. row_unclosed s.may s.gives IsExecution r.steps m b r.row (shuts_unclosed a m shuts not);
       same = worker_on a m b (shuts_same a m shuts) e.same;
       legal = e.legal;
@@ -51,6 +52,7 @@ returns g c =
       };
       «open» = λ is not. resumes_open b d t (unclosed not);
       shut = λ left is. absurd (cc);
+      none = λ is. c.resume_where_draining.ensures.none;
       unclosed = λ not. resumes_unclosed b d t (unclosed not);
       same = worker_on a b d (worker_on a m b (shuts_same a m shuts) e.same) (resumes_same b d t);
       legal = resumes_legal b d e.legal t;

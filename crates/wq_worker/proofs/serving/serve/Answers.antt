@@ -1,6 +1,7 @@
-use Rattle.wq_worker.proofs.Common.{◌+◌, Item, Barrier, Nothing, Owing, none, more}
+use Rattle.wq_worker.proofs.Common.{◌+◌, Item, Barrier, Stop, Nothing, Owing, none, more}
+use Rattle.wq_words.proofs.Closed.{closed_shuts}
 use Rattle.wq_worker.specs.Rows.{IsNotStop, here, onward}
-use Rattle.wq_worker.proofs.Rows.{worker_on, row_same}
+use Rattle.wq_worker.proofs.Rows.{worker_on, row_same, row_open, runs_by_open, ends_idle}
 use Rattle.wq_worker.proofs.serving.serve.Goals as goal
 
 pub loop-init : goal.loop-init
@@ -17,6 +18,20 @@ pub returns-in-Stop-clause-same : goal.returns-in-Stop-clause-same
 returns-in-Stop-clause-same g c =
     let s = g.S.Station in let a = s.state c.args.station.now in let m = s.state c.loop.station in let i = c.loop.invariant in
     worker_on a m (s.state c.run_one.new.self) (row_same s.may s.gives IsNotStop i.2 a m i.3) c.in-Stop.ensures.same
+
+pub returns-in-Stop-clause-open : goal.returns-in-Stop-clause-open
+returns-in-Stop-clause-open g c =
+    let s = g.S.Station in let a = s.state c.args.station.now in let m = s.state c.loop.station in let i = c.loop.invariant in
+    runs_by_open s.may s.gives Stop m (s.state c.run_one.new.self) c.in-Stop.ensures.runs (row_open s.may s.gives IsNotStop i.2 a m i.3 c.requires.«open»)
+
+pub returns-in-Stop-clause-unclosed : goal.returns-in-Stop-clause-unclosed
+returns-in-Stop-clause-unclosed g c =
+    let h = (g.S.Station.state c.run_one.new.self).seen in λ closed. returns-in-Stop-clause-open g c (closed_shuts h closed)
+
+pub returns-in-Stop-clause-idle : goal.returns-in-Stop-clause-idle
+returns-in-Stop-clause-idle g c =
+    let s = g.S.Station in let t = c.in-Stop.ensures.runs in
+    ends_idle s.may s.gives t.0 (s.state c.loop.station) (s.state c.run_one.new.self) t.2
 
 pub loop-preserved-in-Nothing : goal.loop-preserved-in-Nothing
 loop-preserved-in-Nothing g c =

@@ -1,6 +1,7 @@
-use Rattle.wq_worker.proofs.Common.{ℕ, Bool, true, false, List, slice_get, ap, Known, Sees, pair_owner, rest_events}
+use Rattle.wq_worker.proofs.Common.{Bool, true, false, Known, Sees, pair_owner, rest_events}
 use Rattle.wq_live.specs.Rest.{Rests}
 use Rattle.wq_live.proofs.Reading.{empty_from_next}
+use Rattle.wq_worker.proofs.Draining.{next_from_empty}
 use Rattle.wq_worker.proofs.Pair.{by_owner}
 use Rattle.wq_worker.proofs.steps.rest.Goals as goal
 
@@ -18,4 +19,5 @@ returns-clause-both g c =
     (seen_of c.rest.result (pair_owner a) (pair_owner b) e.seen) e.others
 
 pub returns-clause-none : goal.returns-clause-none
-returns-clause-none g c = let e = c.rest.ensures in (e.idle, ap (λ (ks : List ℕ). slice_get ks 0) e.empty)
+returns-clause-none g c = let e = c.rest.ensures in
+    (e.idle, next_from_empty (g.P.Paired.known c.rest.new.self).seen e.empty)

@@ -31,7 +31,7 @@ returns-then-left-gt0 g c =
     let along = along_on (DealsInStep W.given W.may W.takes) c.args.self m.new.station r.new.station m.ensures.deals e.deals in
     record {
       outcome = leaves_unfinished (MayLeave W.may W.takes) (GivesBack W.takes) c.args.limit r.result c.args.self.worker m.new.station.worker
-          r.new.station.worker m.ensures.closes e.runs e.same e.legal (omega (arith, c.if-left-gt0.true));
+          r.new.station.worker m.ensures.closes e.runs e.same e.legal m.ensures.closed (omega (arith, c.if-left-gt0.true));
       deals = along;
       learnt = along_learnt W.given W.may W.takes c.args.self r.new.station c.whole.ensures along;
       given = along_given W.given W.may W.takes c.args.self r.new.station along;

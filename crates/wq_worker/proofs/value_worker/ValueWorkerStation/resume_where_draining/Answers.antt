@@ -1,7 +1,7 @@
-use Rattle.wq_worker.proofs.Common.{rules, [], ◌∷◌, sym, refl, subst, Resume, IsDraining, HasRunOut, ValueWorkerState, Resumes, stays_closed, reopens}
+use Rattle.wq_worker.proofs.Common.{rules, [], ◌∷◌, sym, refl, subst, Resume, IsDraining, HasRunOut, IsLegal, ValueWorkerState, Resumes, stays_closed, reopens}
 use Rattle.wq_worker.specs.Deals.{DealsInStep, keeps}
 use Rattle.wq_worker.proofs.Deals.{deals_still}
-use Rattle.wq_worker.proofs.Draining.{none_left}
+use Rattle.wq_worker.proofs.Draining.{none_left, next_from_empty}
 use Rattle.wq_worker.proofs.Phase.{closed_else}
 use Rattle.wq_worker.proofs.ValueState.{value_state_of, value_fit_owner, value_moves_owner}
 use Rattle.wq_worker.proofs.value_worker.ValueWorkerStation.resume_where_draining.Goals as goal
@@ -28,6 +28,7 @@ returns-then-is_draining g c =
     record {
       resumes = subst (λ (z : ValueWorkerState g.row.V.Denot g.row.W.Denot). Resumes z.worker w.worker) c.self.view_is
           (reopens is (value_moves_owner (Resume ∷ []) 0 0 i.pair q e.seen e.others i.tries i.left.pairs i.work) refl refl);
+      none = (e.idle, next_from_empty q.known.seen e.empty);
       deals = subst (λ (z : ValueWorkerState g.row.V.Denot g.row.W.Denot). DealsInStep v.given v.may v.takes z w) c.self.view_is
           (keeps (Resume ∷ []) (value_moves_owner (Resume ∷ []) 0 0 i.pair q e.seen e.others i.tries i.left.pairs i.work) refl refl refl (refl, refl) refl
           e.learnt);
@@ -39,10 +40,13 @@ returns-else-is_draining g c =
     let not : ¬ IsDraining o.seen = λ draining. absurd (cc (c.is_draining.ensures.draining.1 draining, c.if-is_draining.false)) in
     let here : ¬ IsDraining c.args.self.now.worker.seen =
     subst (λ (z : ValueWorkerState g.row.V.Denot g.row.W.Denot). ¬ IsDraining z.worker.seen) c.self.view_is not in
+    let legal = subst (λ (z : ValueWorkerState g.row.V.Denot g.row.W.Denot). IsLegal z.worker.layout z.worker.seen) c.self.view_is c.self.invariant.legal in
+    let left = none_left c.args.self.now.worker.layout c.args.self.now.worker.seen legal c.requires in
     let i = c.self.inside in let v = g.W.ValueWork in
     let a : ValueWorkerState g.row.V.Denot g.row.W.Denot = value_state_of i.pair i.tries i.left.pairs i.work in
     record {
       resumes = stays_closed (closed_else c.args.self.now.worker.seen c.requires.0 here) refl;
+      none = (left.1, next_from_empty c.args.self.now.worker.seen left.0);
       deals = subst (λ (z : ValueWorkerState g.row.V.Denot g.row.W.Denot). DealsInStep v.given v.may v.takes z z) c.self.view_is
           (deals_still v.given v.may v.takes a c.self.invariant.legal c.self.invariant.whole);
     }

@@ -23,5 +23,5 @@ returns-then-left-gt0 g c =
     let m = c.close_where_unclosed in let r = c.run_out-left in let e = r.ensures in
     record {
       outcome = leaves_unfinished g.W.Work.may stays c.args.limit r.result c.args.self m.new.station r.new.station m.ensures.closes e.runs e.same
-          e.legal (omega (arith, c.if-left-gt0.true));
+          e.legal m.ensures.closed (omega (arith, c.if-left-gt0.true));
     }

@@ -1,6 +1,6 @@
-use Rattle.wq_worker.proofs.Common.{rules, [], ◌∷◌, sym, refl, ap, subst, drop, Resume, IsDraining, HasRunOut, KnownPair, Both, WorkerState, Resumes}
+use Rattle.wq_worker.proofs.Common.{rules, [], ◌∷◌, sym, refl, ap, subst, drop, Resume, IsDraining, HasRunOut, IsLegal, KnownPair, Both, WorkerState, Resumes}
 use Rattle.wq_worker.proofs.Common.{stays_closed, reopens}
-use Rattle.wq_worker.proofs.Draining.{none_left}
+use Rattle.wq_worker.proofs.Draining.{none_left, next_from_empty}
 use Rattle.wq_worker.proofs.Pair.{by_owner}
 use Rattle.wq_worker.proofs.Phase.{closed_else}
 use Rattle.wq_worker.proofs.State.{fit_both}
@@ -30,12 +30,19 @@ returns-then-is_draining g c =
     record {
       resumes = subst (λ (z : WorkerState g.row.W.Denot). Resumes z w) c.self.view_is
           (reopens is (moves_by (Resume ∷ []) 0 i.tries left left i.work i.work o q b) refl refl);
+      none = (e.idle, next_from_empty q.seen e.empty);
       deals = tt;
     }
 
 pub returns-else-is_draining : goal.returns-else-is_draining
 returns-else-is_draining g c =
     let o : KnownPair = c.self.inside.pair in
+    let legal = subst (λ (w : WorkerState g.row.W.Denot). IsLegal w.layout w.seen) c.self.view_is c.self.invariant.legal in
     let not : ¬ IsDraining o.seen = λ draining. absurd (cc (c.is_draining.ensures.draining.1 draining, c.if-is_draining.false)) in
     let here : ¬ IsDraining c.args.self.now.seen = rw (sym (ap (λ (w : WorkerState _). w.seen) c.self.view_is)) not in
-    record { resumes = stays_closed (closed_else c.args.self.now.seen c.requires.0 here) refl; deals = tt }
+    let left = none_left c.args.self.now.layout c.args.self.now.seen legal c.requires in
+    record {
+      resumes = stays_closed (closed_else c.args.self.now.seen c.requires.0 here) refl;
+      none = (left.1, next_from_empty c.args.self.now.seen left.0);
+      deals = tt;
+    }
