@@ -1,6 +1,6 @@
 //! A queue in hand.
 ghost use Rattle.std.specs.Prelude.{◌≡◌, false, MatchResult};
-ghost use Rattle.wq_words.specs.History.{IsRunning};
+ghost use Rattle.wq_words.specs.History.{IsRunning, IsDraining};
 ghost use Rattle.wq_words.specs.Legal.{IsLegal, IsComplete};
 ghost use Rattle.wq_words.specs.Headline.{KeepsHeadline};
 ghost use Rattle.wq_worker.specs.Rows.{Along};
@@ -64,11 +64,12 @@ impl<K: Station> TurnOf<K> {
     }
 
     /// What the worker has seen is a legal history, so the queue keeps the headline. The work has run the items that have
-    /// begun, in this order.
+    /// begun, in this order. The queue does not drain.
     pub fn legal(&self)
         ensures legal { IsLegal (K.state self.now.worker).layout (K.state self.now.worker).seen }
         ensures headline { KeepsHeadline (K.state self.now.worker).seen }
         ensures logged { K.has_logged self.now.worker }
+        ensures not_draining { ¬ IsDraining (K.state self.now.worker).seen }
     {
         self.runner.legal();
     }
@@ -149,12 +150,13 @@ impl<K: Station> WorkedOf<K> {
     }
 
     /// What the worker has seen is a legal history, so the queue keeps the headline. The work has run the items that have
-    /// begun, in this order, and nothing runs.
+    /// begun, in this order, nothing runs, and the queue does not drain.
     pub fn legal(&self)
         ensures legal { IsLegal (K.state self.now.worker).layout (K.state self.now.worker).seen }
         ensures headline { KeepsHeadline (K.state self.now.worker).seen }
         ensures logged { K.has_logged self.now.worker }
         ensures idle { ¬ IsRunning (K.state self.now.worker).seen }
+        ensures not_draining { ¬ IsDraining (K.state self.now.worker).seen }
     {
         self.served.legal();
     }

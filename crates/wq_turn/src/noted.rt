@@ -126,7 +126,9 @@ impl<K: Station> Noted<K> {
 
     pub(crate) fn close(&mut self)
         requires unclosed { ¬ IsClosed (K.state self.old).seen }
+        ensures work { LeavesWork (K.state self.old) (K.state self.new) }
         ensures events { Moves (Close ∷ []) 0 (K.state self.old) (K.state self.new) }
+        ensures deals { K.deals self.old self.new }
     {
         self.worker.close();
     }

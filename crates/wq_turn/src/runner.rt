@@ -5,9 +5,9 @@ ghost use Rattle.wq_words.specs.History.{ended, IsClosed, IsRunning, IsDraining}
 ghost use Rattle.wq_words.specs.Legal.{IsLegal};
 ghost use Rattle.wq_words.specs.Headline.{KeepsHeadline};
 ghost use Rattle.wq_worker.specs.Resting.{HasNoneLeft};
-ghost use Rattle.wq_worker.specs.Rows.{Along};
+ghost use Rattle.wq_worker.specs.Rows.{Along, Closes};
 ghost use Rattle.wq_worker.specs.Seats.{NothingWaits};
-ghost use Rattle.wq_turn.specs.Drained.{IsDrained};
+ghost use Rattle.wq_turn.specs.Drained.{IsDrained, ClosesAndWorks};
 ghost use Rattle.wq_turn.specs.Owed.{IsOwed};
 ghost use Rattle.wq_turn.specs.Steps.{SettlesOne, RunsOne, MakesProgress, WorksOn};
 ghost use Rattle.wq_turn.specs.WorkerId.{worker_id};
@@ -203,6 +203,8 @@ impl<K: Station> Runner<K> {
 
     // Closes the queue where it is not closed.
     fn close(&mut self)
+        ensures closes { Closes (K.state self.old) (K.state self.new) }
+        ensures deals { Along K.deals self.old self.new }
         ensures same { worker_id (K.state self.new) ≡ worker_id (K.state self.old) }
         ensures closed { IsClosed (K.state self.new).seen }
         ensures idle { ¬ IsRunning (K.state self.old).seen → ¬ IsRunning (K.state self.new).seen }
@@ -216,6 +218,8 @@ impl<K: Station> Runner<K> {
     /// are left.
     pub fn drain(&mut self, limit: u32) -> u32
         requires { ¬ IsRunning (K.state self.old).seen }
+        ensures works { ClosesAndWorks K.may K.gives limit (K.state self.old) (K.state self.new) }
+        ensures deals { Along K.deals self.old self.new }
         ensures same { worker_id (K.state self.new) ≡ worker_id (K.state self.old) }
         ensures left { IsDrained result (K.state self.new) }
         ensures idle { ¬ IsRunning (K.state self.new).seen }

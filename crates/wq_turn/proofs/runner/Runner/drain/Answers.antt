@@ -1,3 +1,4 @@
+use Rattle.wq_worker.proofs.Rows.{along_on}
 use Rattle.wq_turn.proofs.Common.{sym, ap, ◌∙◌, subst, IsClosed, WorkerState}
 use Rattle.wq_turn.proofs.Draining.{works_closed, works_idle}
 use Rattle.wq_turn.proofs.Steps.{works_id}
@@ -9,6 +10,19 @@ left-requires g c =
     subst (λ (w : WorkerState _). IsClosed w.seen) (sym (ap k.state c.self.view_is))
     (works_closed k.may k.gives c.args.limit c.work.result (k.state c.close.new.self) (k.state c.work.new.self) c.work.ensures.works
     c.close.ensures.closed)
+
+pub returns-clause-works : goal.returns-clause-works
+returns-clause-works g c =
+    let k = g.K.Station in record {
+      closed = k.state c.close.new.self;
+      is_done = c.work.result;
+      closes = c.close.ensures.closes;
+      works = c.work.ensures.works;
+    }
+
+pub returns-clause-deals : goal.returns-clause-deals
+returns-clause-deals g c =
+    along_on g.K.Station.deals c.args.self.now c.close.new.self c.work.new.self c.close.ensures.deals c.work.ensures.deals
 
 pub returns-clause-same : goal.returns-clause-same
 returns-clause-same g c =
