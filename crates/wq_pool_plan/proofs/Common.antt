@@ -11,6 +11,7 @@ pub use Rattle.wq_pool.specs.Finished.{AreFinished}
 pub use Rattle.wq_plan.specs.declared.idle.Idle.{Idle}
 pub use Rattle.wq_plan.specs.declared.outcome.Outcome.{Outcome}
 pub use Rattle.wq_plan.specs.declared.plan.Plan.{Plan}
+pub use Rattle.wq_plan.proofs.Balanced.{whole_counts, AreNumbered, one_ledger, last_ledger, no_fault}
 pub use Rattle.wq_plan.proofs.Booking.{heard_on, heard_still, heard_one}
 pub use Rattle.wq_plan.proofs.Common.{◌≡◌, ℕ, ◌+◌, ◌*◌, ◌≤◌, Bool, false, List, [], ◌∷◌, length, ap, ◌∙◌, arith, length-append, count_by, IsPrefix, Event}
 pub use Rattle.wq_plan.proofs.Common.{capped, SendsAll, SendsOne, pushed, busy, refused, count_by-append, zero, suc, ◌^◌, ◌<◌, true}
@@ -19,7 +20,7 @@ pub use Rattle.wq_plan.proofs.Common.{is_queued_by, is_chain, IsLegal, IsComplet
 pub use Rattle.wq_plan.proofs.Common.{IsLedgerOf, items_among, HasHeard, AllKnown, IsTold, queued_sum, items_at, IsOfStop, is_push, accepted, ended}
 pub use Rattle.wq_plan.proofs.Common.{count_by-le-length, inl, inr, cases_lt, new_sender, get_or-new_senders, WorkerState, IsLayoutOf, IsNewTeam, map}
 pub use Rattle.wq_plan.proofs.Common.{HasStopped, IsQueuer, ◌-◌, IsKnown, get_or_default, YieldsList-from_vec, YieldsList-turn, PromisedHandle, AllQueued}
-pub use Rattle.wq_plan.proofs.Common.{HasQueued, range_with_len, length-new_senders}
+pub use Rattle.wq_plan.proofs.Common.{HasQueued, range_with_len, length-new_senders, ◌≢◌, LedgerState, ledger_of, AreWhole, HasOne, of_sender, of_worker}
 pub use Rattle.wq_plan.proofs.Ended.{all_front, all_ended}
 pub use Rattle.wq_plan.proofs.Queueing.{queued_none, queued_next}
 pub use Rattle.wq_plan.proofs.Running.{own_room, own-first, queuer, untouched_idle, untouched_open}

@@ -7,10 +7,13 @@ use Rattle.wq_pool_plan.proofs.Common.{◌≡◌, ℕ, zero, suc, ◌+◌, ◌*�
 use Rattle.wq_pool_plan.proofs.Common.{subst, arith, All, MatchBool, count_by, AllByRecursion, eqb-true, take_all, length-range_with_len, fold_more, Layout}
 use Rattle.wq_pool_plan.proofs.Common.{Event, is_queued_by, is_chain, IsLegal, IsComplete, own, own-append, own_between, capped, sender_counts, Known}
 use Rattle.wq_pool_plan.proofs.Common.{Unbalanced, BookState, IsLedgerOf, SendsAll, items_among, Idle, Outcome, Plan, HasHeard, AllKnown, IsTold, queued_sum}
+use Rattle.wq_pool_plan.proofs.Common.{◌≢◌, [], ◌∷◌, map, inl, inr, cases_lt, own_room, LedgerState, ledger_of, AreWhole, HasOne, of_sender, of_worker}
+use Rattle.wq_pool_plan.proofs.Common.{whole_counts, AreNumbered, one_ledger, last_ledger, no_fault}
 use Rattle.wq_pool_plan.proofs.Common.{items_at, IsOfStop, all_front, all_ended, WorkerId, IsFinished, IsSent, is_push, accepted, ended, count_by-le-length}
 use Rattle.wq_words.specs.Limits.{most_text_items}
 use Rattle.wq_live.proofs.Final.{final as stays_final}
 use Rattle.wq_ledger.specs.declared.book.Ledger.{Ledger}
+use Rattle.wq_ledger.specs.declared.balance.Unbalanced.TheVariants.{Saturated}
 use Rattle.wq_ledger.specs.declared.totals.Totals.{Totals}
 use Rattle.wq_ledger.specs.Balance.{Balances, IsUnbalanced}
 use Rattle.wq_ledger.proofs.Pushes.{is_queued_below, below_more, below_none, below_all}
@@ -31,9 +34,11 @@ pub record IsDone (plan : Plan) (id : WorkerId) (work : Idle) (before book last 
   pub known : AllKnown book.seen olds news
   pub legal : IsLegal book.layout book.seen
   pub complete : IsComplete book.seen
+  pub own_made : IsLedgerOf book.seen book.own
   pub told : All (IsTold book.seen) news
   pub heard : HasHeard book last
   pub last_legal : IsLegal last.layout last.seen
+  pub last_complete : IsComplete last.seen
   pub program_told : own program.number last.seen ≡ own program.number program.seen
 
 module _ (plan : Plan) (id : WorkerId) (work : Idle) (before book last : BookState) (olds news : List Known) (program : Known)
@@ -170,6 +175,68 @@ module _ (plan : Plan) (id : WorkerId) (work : Idle) (before book last : BookSta
       let more = o.met.begins in let done : IsLegal id.layout (before.seen ++ more.0) = subst (IsLegal id.layout) (sym more.1) legal in
       ap accepted (sym more.1) ∙ (stays_final id.layout before.seen o.finished.complete more.0 done).0
 
+  -- the worker's own sender is not among those whose ledgers are made
+  own_number : last.own.number ≡ plan.senders
+  own_number = ap (λ (l : LedgerState). l.number) (o.heard.own_is ∙ o.met.own_is) ∙ (o.finished.number_is ∙ o.sent.number_is)
+
+  book_layout : last.layout ≡ id.layout
+  book_layout = o.heard.layout_is ∙ size
+
+  numbered : AreNumbered 0 news
+  numbered i d lt = let at : (get_or news i d).number ≡ i = (mine i d (omega (arith, lt, count))).1 in omega (arith, at)
+
+  -- they made too few events to saturate a count
+  whole_of : (s : ℕ) → s < plan.senders → AreWhole (ledger_of (get_or news s program)).counts
+  whole_of s lt =
+      let x = get_or news s program in let at = mine s program lt in
+      let same : own x.number x.seen ≡ own s book.seen = ap (λ (c : ℕ). own c x.seen) at.1 ∙ sym at.0 in
+      whole_counts x.number x.seen (omega (
+        arith,
+        ap (length {A = Event}) same,
+        all_few s (items_at s plan.own) (own s book.seen) (queued s lt),
+        length-range_with_len (s * plan.own) plan.own,
+        own_room s plan.senders plan.own lt,
+        few_items,
+      ))
+
+  program_whole : AreWhole (ledger_of program).counts
+  program_whole = whole_counts program.number program.seen (omega (
+    arith,
+    ap (λ (c : ℕ). length (own c program.seen)) o.sent.program_number,
+    o.sent.few_stops,
+  ))
+
+  abbrev all_ledgers : List LedgerState
+  all_ledgers = map ledger_of news ++ ledger_of program ∷ []
+
+  has_one : (s : ℕ) → s < last.layout.senders → s ≢ last.own.number → HasOne all_ledgers s
+  has_one s lt not = elim (cases_lt s plan.senders) [
+    | inl low ↦ (
+      ledger_of (get_or news s program),
+      one_ledger plan.senders s news program program numbered count o.sent.program_number low,
+      whole_of s low,
+    )
+    | inr ge ↦
+        let seats : last.layout.senders ≡ plan.senders + 2 = ap (λ (l : Layout). l.senders) book_layout ∙ o.sent.sized.senders_is in
+        let at : s ≡ plan.senders + 1 = elim (cases_lt plan.senders s) [
+          | inl more ↦ omega (arith, more, lt, seats)
+          | inr le ↦ absurd (not (omega (arith, ge, le, own_number)))
+        ] in
+        subst (HasOne all_ledgers) (sym at) (
+          ledger_of program,
+          last_ledger plan.senders news program numbered count o.sent.program_number,
+          program_whole,
+        )
+  ]
+
+  -- no fault but of the worker's two seats
+  only_worker : (ledgers : List Ledger) (fault : Unbalanced) → ledgers ≡ all_ledgers → IsUnbalanced last ledgers fault
+      → IsUnbalanced last ledgers (Saturated last.own.number)
+  only_worker ledgers fault are (of_sender f) =
+      let one : HasOne ledgers f.0 = subst (λ (ls : List LedgerState). HasOne ls f.0) (sym are) (has_one f.0 f.1 f.2) in
+      absurd (no_fault ledgers f.0 fault one f.4)
+  only_worker ledgers fault are (of_worker have not is) = of_worker have not refl
+
   abbrev pub run : List Ledger → QueueRun
   run ledgers = record { layout = id.layout; history = book.seen; book = last; ledgers = ledgers }
 
@@ -180,20 +247,35 @@ module _ (plan : Plan) (id : WorkerId) (work : Idle) (before book last : BookSta
   ran_items ledgers = ap (λ (ks : List ℕ). capped (length ks)) (o.finished.ran_accepted
       ∙ (ap (λ (l : Layout). items_among l (accepted before.seen)) o.finished.layout_is ∙ ap (items_among id.layout) (sym (ended_all ∙ accepted_same))))
 
-  pub is_run : (ledgers : List Ledger) → All (IsLedgerOf last.seen) ledgers → IsQueueRun plan (run ledgers)
-  is_run ledgers made = record { sized = o.sent.sized; legal = legal; complete = o.complete; queued = queued; heard = o.heard.begins; made = made }
+  pub is_run : (ledgers : List Ledger) → All (IsLedgerOf last.seen) ledgers → ledgers ≡ all_ledgers → IsQueueRun plan (run ledgers)
+  is_run ledgers made are = record {
+    sized = o.sent.sized;
+    legal = legal;
+    complete = o.complete;
+    queued = queued;
+    heard = o.heard.begins;
+    book_layout = book_layout;
+    book_legal = o.last_legal;
+    book_complete = o.last_complete;
+    book_idle = o.heard.idle;
+    own_number = own_number;
+    own_made = subst (IsLedgerOf book.seen) (sym o.heard.own_is) o.own_made;
+    made = made;
+    one_each = λ s lt not. subst (λ (ls : List LedgerState). HasOne ls s) (sym are)
+        (has_one s (omega (arith, lt, ap (λ (l : Layout). l.senders) book_layout)) not);
+  }
 
   -- the outcome, by what the book answers
   pub tells_run : (ledgers : List Ledger) (balance : Result Totals Unbalanced) (sum stops ran : ℕ) (outcome : Outcome) → sum ≡ queued_sum news
-      → stops ≡ capped (count_by (is_queued_by program.number) program.seen) → ran ≡ capped (length work.ran.items)
+      → stops ≡ capped (count_by (is_queued_by program.number) program.seen) → ran ≡ capped (length work.ran.items) → ledgers ≡ all_ledgers
       → MatchResult balance (Balances last ledgers) (IsUnbalanced last ledgers) → IsOutcomeOf balance sum stops ran outcome
       → TellsRun (run ledgers) outcome
-  tells_run ledgers (Err fault) sum stops ran outcome sum_is stops_is ran_is told made = record {
+  tells_run ledgers (Err fault) sum stops ran outcome sum_is stops_is ran_is are told made = record {
     accepted_is = made.2 ∙ (ran_is ∙ (ran_items ledgers ∙ sym (same_items ledgers)));
     ran_is = made.1 ∙ (ran_is ∙ ran_items ledgers);
-    balanced = subst (λ (b : Bool). MatchBool b (IsBalanced (run ledgers)) (IsFaulty (run ledgers))) (sym made.0) (fault, told);
+    balanced = subst (λ (b : Bool). MatchBool b (IsBalanced (run ledgers)) (IsFaulty (run ledgers))) (sym made.0) (only_worker ledgers fault are told);
   }
-  tells_run ledgers (Ok totals) sum stops ran outcome sum_is stops_is ran_is told made = record {
+  tells_run ledgers (Ok totals) sum stops ran outcome sum_is stops_is ran_is are told made = record {
     accepted_is = made.2 ∙ chosen (totals.executed == sum + stops) refl;
     ran_is = made.1 ∙ (ran_is ∙ ran_items ledgers);
     balanced = subst (λ (b : Bool). MatchBool b (IsBalanced (run ledgers)) (IsFaulty (run ledgers))) (sym made.0) (totals, told);

@@ -45,6 +45,8 @@ teams_more plan old new team t n served programs dealt =
       lengths = λ s d lt. omega (arith, size, dealt.longer s d d (omega (arith, lt, t.groups_count)), t.lengths s d lt);
       sized = λ q d lt. subst (λ (zs : List (WorkerState Idle)). IsLayoutOf plan.senders plan.own (get_or zs q d).layout) (sym served)
           (each_more (λ i z. IsLayoutOf plan.senders plan.own z.layout) ws w t.sized n.layout q d (omega (arith, lt, size, length-append ws (w ∷ []))));
+      numbers = λ q d lt. subst (λ (zs : List (WorkerState Idle)). (get_or zs q d).number ≡ plan.senders) (sym served)
+          (each_more (λ i z. z.number ≡ plan.senders) ws w t.numbers n.number_is q d (omega (arith, lt, size, length-append ws (w ∷ []))));
       programs = λ q d x lt.
           let P : ℕ → WorkerState Idle → Known → Type 0 = λ i a b. b ≡ new_sender a.queue a.layout (plan.senders + 1) in
           let all = both_more P ws ps w p t.programs_count (λ i a b low. t.programs i a b low) n.program_is q d x (omega (

@@ -43,6 +43,7 @@ module _ (plan : Plan) (teams : Teams) (t : AreTeams plan teams) (count : length
 
   stopped : (q : ℕ) (w : WorkerState Idle) (a b : Known) → a ≡ new_sender w.queue w.layout (plan.senders + 1) → HasStopped (2 * 2 ^ 32) a b
       → (b.number ≡ plan.senders + 1) × (b.queue ≡ w.queue) × AllByRecursion (IsOfStop w.layout) (own (plan.senders + 1) b.seen)
+      × (length (own (plan.senders + 1) b.seen) ≤ 2 * 2 ^ 32)
   stopped q w a b new h =
       let number : a.number ≡ plan.senders + 1 = ap (λ (k : Known). k.number) new in
       let mine : own (plan.senders + 1) b.seen ≡ h.events = subst (λ (c : ℕ). own c b.seen ≡ h.events) number
@@ -51,6 +52,7 @@ module _ (plan : Plan) (teams : Teams) (t : AreTeams plan teams) (count : length
         h.same.queue_is ∙ ap (λ (k : Known). k.queue) new,
         subst (λ (l : Layout). AllByRecursion (IsOfStop l) (own (plan.senders + 1) b.seen)) (ap (λ (k : Known). k.layout) new)
             (subst (λ (es : List Event). AllByRecursion (IsOfStop a.layout) es) (sym mine) h.of_kind),
+        subst (λ (es : List Event). length es ≤ 2 * 2 ^ 32) (sym mine) h.few_events,
       )
 
   pub all_sent : (groups by_queue : List Group) (programs : List Known) → AllGroupsQueued plan.own teams.groups.items groups
@@ -68,6 +70,7 @@ module _ (plan : Plan) (teams : Teams) (t : AreTeams plan teams) (count : length
             (stops.each q x x (omega (arith, within, t.programs_count))) in
             let sent : IsSent plan (worker_id w) (get_or by_queue q d).senders.items (get_or programs q x) = record {
               sized = t.sized q someone within;
+              number_is = t.numbers q someone within;
               count = turned.lengths q d few ∙ (back.count ∙ t.groups_count);
               each = λ s y low.
                   let here : s < length teams.groups.items = omega (arith, low, t.groups_count) in
@@ -78,6 +81,7 @@ module _ (plan : Plan) (teams : Teams) (t : AreTeams plan teams) (count : length
               program_number = p.0;
               program_queue = p.1;
               stops = p.2;
+              few_stops = p.3;
             } in
             subst (λ (z : WorkerId). IsSent plan z (get_or by_queue q d).senders.items (get_or programs q x)) (sym id) sent;
       }

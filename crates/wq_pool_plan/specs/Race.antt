@@ -55,14 +55,16 @@ pub record AllStopped (olds news : List Known) : Type 0 where
   pub each : (i : ℕ) (d e : Known) → i < length olds → HasStopped (2 * 2 ^ 32) (slice_index_or olds i d) (slice_index_or news i e)
 
 -- The senders of this queue after their threads have ended: each of the plan's has queued its own items, and the program's has
--- tried to queue the stop item.
+-- tried to queue the stop item, too rarely to saturate a count. The worker's own sender has the number between theirs.
 pub record IsSent (plan : Plan) (id : WorkerId) (senders : List Known) (program : Known) : Type 0 where
   pub sized : IsLayoutOf plan.senders plan.own id.layout
+  pub number_is : id.number ≡ plan.senders
   pub count : length senders ≡ plan.senders
   pub each : (s : ℕ) (x : Known) → s < plan.senders → IsQueuer plan.own id.queue id.layout s (slice_index_or senders s x)
   pub program_number : program.number ≡ plan.senders + 1
   pub program_queue : program.queue ≡ id.queue
   pub stops : AllByRecursion (IsOfStop id.layout) (own (plan.senders + 1) program.seen)
+  pub few_stops : length (own (plan.senders + 1) program.seen) ≤ 2 * 2 ^ 32
 
 -- the same of each of these queues
 pub record AllSent (plan : Plan) (ids : List WorkerId) (by_queue : List Group) (programs : List Known) : Type 0 where

@@ -23,12 +23,13 @@ pub record AreTurned (count : ℕ) (groups turned : List Group) : Type 0 where
       → slice_index_or (slice_index_or turned j d).senders.items i x ≡ slice_index_or (slice_index_or groups i e).senders.items j y
 
 -- The plan's senders in groups by number, and the program's, all of new queues of the plan's size, which are in the hands of
--- these workers. They have seen nothing.
+-- these workers, whose own senders have the number between theirs. They have seen nothing.
 pub record AreTeams (plan : Plan) (teams : Teams) : Type 0 where
   pub programs_count : length teams.programs.items ≡ length teams.served.items
   pub groups_count : length teams.groups.items ≡ plan.senders
   pub lengths : (s : ℕ) (d : Group) → s < plan.senders → length (slice_index_or teams.groups.items s d).senders.items ≡ length teams.served.items
   pub sized : (q : ℕ) (w : WorkerState Idle) → q < length teams.served.items → IsLayoutOf plan.senders plan.own (slice_index_or teams.served.items q w).layout
+  pub numbers : (q : ℕ) (w : WorkerState Idle) → q < length teams.served.items → (slice_index_or teams.served.items q w).number ≡ plan.senders
   pub programs : (q : ℕ) (w : WorkerState Idle) (x : Known) → q < length teams.served.items → slice_index_or teams.programs.items q x
       ≡ new_sender (slice_index_or teams.served.items q w).queue (slice_index_or teams.served.items q w).layout (plan.senders + 1)
   pub senders : (s q : ℕ) (w : WorkerState Idle) (d : Group) (x : Known) → s < plan.senders → q < length teams.served.items

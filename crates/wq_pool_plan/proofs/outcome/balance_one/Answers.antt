@@ -14,9 +14,11 @@ outcome_of-requires c =
       known = c.meet_all.ensures.senders;
       legal = c.legal.ensures.legal;
       complete = c.legal.ensures.complete;
+      own_made = c.legal.ensures.own;
       told = answer.told;
       heard = answer.heard;
       last_legal = answer.legal;
+      last_complete = answer.complete;
       program_told = answer.program_told;
     } in
     let sum : c.queued_by-queued.result ≡ queued_sum news = c.queued_by-queued.ensures ∙ ap queued_sum c.deref.ensures.value in
@@ -33,15 +35,17 @@ returns c = λ plan id finished sent.
       known = c.meet_all.ensures.senders;
       legal = c.legal.ensures.legal;
       complete = c.legal.ensures.complete;
+      own_made = c.legal.ensures.own;
       told = answer.told;
       heard = answer.heard;
       last_legal = answer.legal;
+      last_complete = answer.complete;
       program_told = answer.program_told;
     } in
     let sum : c.queued_by-queued.result ≡ queued_sum news = c.queued_by-queued.ensures ∙ ap queued_sum c.deref.ensures.value in (
       run plan id work c.args.book book last olds news program done answer.ledgers,
-      is_run plan id work c.args.book book last olds news program done answer.ledgers answer.made,
+      is_run plan id work c.args.book book last olds news program done answer.ledgers answer.made answer.ledgers_are,
       tells_run plan id work c.args.book book last olds news program done answer.ledgers c.in_ok-balance.balance c.queued_by-queued.result
           c.counts-stops.result.queued c.count-ran.result c.outcome_of.result sum (ap (λ (k : SenderCounts). k.queued) c.counts-stops.ensures.counted)
-          c.count-ran.ensures.ran answer.outcome c.outcome_of.ensures,
+          c.count-ran.ensures.ran answer.ledgers_are answer.outcome c.outcome_of.ensures,
     )
