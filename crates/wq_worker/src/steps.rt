@@ -71,7 +71,8 @@ pub(crate) fn take_next<P: Paired>(pair: &mut P) -> Option<u32>
     pair.next()
 }
 
-/// Rests, where nothing is left. False where something was pushed since the last take or drain, or where the queue rests already.
+/// Rests, where nothing is left. False where something was pushed since the last take, drain or resume, or where the queue rests
+/// already.
 pub(crate) fn rest<P: Paired>(pair: &mut P) -> bool
     requires open { ¬ IsShut (P.known pair.old).seen }
     requires none { HasNoneLeft (P.known pair.old).seen }

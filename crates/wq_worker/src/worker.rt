@@ -232,9 +232,9 @@ impl<W: Work> Worker<W> {
         take_next::<Pair>(&mut self.pair)
     }
 
-    /// Says once that the queue rests: true where all that was accepted has ended, nothing was pushed since the last take or drain,
-    /// and the queue did not rest already. The next queueing then answers `wakes`. Where it answers false, run on: something was
-    /// pushed, or nothing was taken since the last rest.
+    /// Says once that the queue rests: true where all that was accepted has ended, nothing was pushed since the last take, drain or
+    /// resume, and the queue did not rest already. The next queueing then answers `wakes`. Where it answers false, run on:
+    /// something was pushed, or nothing was taken since the last rest.
     ///
     /// A loop of one's own runs until `run_one` answers `Nothing`, rests, and parks where that answered true or the queue
     /// rests already; its senders unpark it where their answer says `wakes`, once a rest and not once an item. No wake-up is
