@@ -169,11 +169,12 @@ static inline uint32_t wq_build(wq_seat *owner, uint32_t items, uint32_t barrier
     WQ_CALL(owner, WQ_NO_NUMBER, wq_c_build(owner->room, items, barriers, senders));
 }
 
-/* Hands out a sender, of those that are left the one with the highest number. It takes the other seat. */
+/* Hands out a sender, of those that are left the one with the highest number. It takes the other seat. One seat twice is WQ_IN_USE,
+ * also a vacant one: the library is given two seats, never one as both. */
 static inline uint32_t wq_hand_out(wq_seat *owner, wq_seat *to) {
-    uint32_t code = owner == to ? (uint32_t)WQ_IN_USE : wq_enter(to);
+    uint32_t code = wq_enter(to);
     if (code) return code;
-    if ((code = wq_enter(owner)) == WQ_OK) {
+    if ((code = owner == to ? (uint32_t)WQ_IN_USE : wq_enter(owner)) == WQ_OK) {
         code = (uint32_t)wq_c_hand_out(owner->room, to->room);
 #ifndef WQ_UNCHECKED
         if (code == WQ_OK) to->owner = owner;

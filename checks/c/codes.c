@@ -29,7 +29,7 @@ static void before_a_queue(void) {
 static void handing_out(void) {
     uint32_t n = 77;
     CHECK(wq_build(&owner, 4, 1, 1) == WQ_OK && wq_build(&owner, 4, 1, 1) == WQ_IN_USE);
-    CHECK(wq_hand_out(&owner, &owner) == WQ_IN_USE);
+    CHECK(wq_hand_out(&owner, &owner) == WQ_IN_USE && wq_hand_out(&two, &two) == WQ_IN_USE && wq_release(&two) == WQ_OK);
     CHECK(wq_hand_out(&owner, &one) == WQ_OK && wq_hand_out(&owner, &one) == WQ_IN_USE && wq_hand_out(&owner, &two) == WQ_NO_SENDER);
     CHECK(wq_build(&one, 4, 1, 1) == WQ_IN_USE && wq_hand_out(&one, &two) == WQ_NOT_OWNER);
     CHECK(wq_number(&one, &n) == WQ_OK && n == 0 && wq_number(&owner, &n) == WQ_NOT_SENDER);
