@@ -27,6 +27,7 @@ typedef struct wq_seat {
     struct wq_seat *self;  /* where wq_init made it: a copy of a seat, and memory that was not made one, is found out */
     struct wq_seat *owner; /* of its queue */
     uint32_t held;         /* 1 while a call is in it: a second one at the same time is found out */
+    uint32_t served;       /* 1 while a worker of wq_worker.h executes from it: a second worker is found out */
 #endif
 } wq_seat;
 
@@ -154,6 +155,7 @@ static inline uint32_t wq_init(wq_seat *seat) {
     seat->self = NULL;
     seat->owner = seat;
     __atomic_store_n(&seat->held, 0, __ATOMIC_RELEASE);
+    __atomic_store_n(&seat->served, 0, __ATOMIC_RELEASE);
 #endif
     if (wq_c_seat_size() > WQ_SEAT_BYTES || 128 % wq_c_seat_align() != 0) return WQ_SEAT_SIZE;
     wq_c_init(seat->room);

@@ -5,9 +5,9 @@
  * seat is the worker's until wq_worker_finish or wq_worker_stop has returned: no other thread makes a call in it, and a worker that
  * finds one there tries again until it has gone. A sender's thread calls wq_worker_queue and wq_worker_flush, or hands what a call
  * of wq.h answered to wq_worker_wake. One thread at a time calls wq_worker_drain, wq_worker_resume, wq_worker_finish and
- * wq_worker_stop. The worker's own function calls none of these four and no wq_worker_flush: each waits for the function to return.
- * In the owner's seat it calls wq_chain, wq_hand_out and what only looks; a wq_close or wq_drain there stops or drains the queue, but
- * the worker knows nothing of it, and sleeps until it is asked to.
+ * wq_worker_stop. The worker's own function returns: it neither ends its thread nor lets an exception out. It calls none of the first
+ * two and no wq_worker_flush: each waits for the function to return. In the owner's seat it calls wq_chain, wq_hand_out and what only
+ * looks; a wq_close or wq_drain there stops or drains the queue, but the worker knows nothing of it, and sleeps until it is asked to.
  *
  * The worker's memory stays until each sender's last call through it has returned, also one that began before wq_worker_stop did: join
  * the senders' threads, then free it. So no queueing has to announce itself to the worker.
@@ -40,7 +40,7 @@ typedef struct wq_worker {
     uint32_t reached; /* a futex: the phase that was reached */
     uint32_t bell;    /* a futex: counts the wake-ups of the worker */
     uint32_t flushes; /* a futex: counts the barriers that were executed */
-    uint32_t ended;   /* whether the thread was joined */
+    uint32_t runs;    /* a futex: whether there is a thread to join */
     pthread_t thread;
 } wq_worker;
 
@@ -70,6 +70,7 @@ static inline void wq_count(uint32_t *word) {
 static inline void *wq_worker_run(void *given) {
     wq_worker *worker = (wq_worker *)given;
     uint32_t number, code;
+    wq_sleep(&worker->runs, 0); /* until worker->thread is written, for a function that stops its own worker */
     for (;;) {
         uint32_t bell = wq_load(&worker->bell), wanted = wq_load(&worker->wanted); /* before the take: a later bell ends the sleep */
         if (wanted == WQ_SERVES && wq_load(&worker->reached) == WQ_DRAINED) {
@@ -97,16 +98,32 @@ static inline void *wq_worker_run(void *given) {
     }
 }
 
+/* A stop is for good: a drain or resume that comes behind that of the worker's own function does not take it back. */
 static inline void wq_worker_ask(wq_worker *worker, uint32_t phase) {
-    __atomic_store_n(&worker->wanted, phase, __ATOMIC_SEQ_CST);
+    uint32_t wanted = wq_load(&worker->wanted);
+    while (wanted != WQ_STOPPED && !__atomic_compare_exchange_n(&worker->wanted, &wanted, phase, 0, __ATOMIC_SEQ_CST, __ATOMIC_SEQ_CST)) { }
     wq_count(&worker->bell);
 }
 
-/* Starts a thread that executes the queue of this owner, which has so many items. WQ_OK or WQ_NO_THREAD; or, without a thread, what
- * wq_rest answers to a seat that is no owner's (WQ_NO_SEAT, WQ_SEAT_BUSY, WQ_NOT_OWNER), a queue that is closed or drains, and an owner
- * that has not ended all that it took (WQ_IS_CLOSED, WQ_IS_DRAINING, WQ_SOME_WAIT, WQ_IS_RUNNING): a worker would get nowhere.
- * WQ_NO_ITEM where the queue has another number of items. After WQ_NO_ITEM and WQ_NO_THREAD the queue may rest. */
-static inline uint32_t wq_worker_start(wq_worker *worker, wq_seat *owner, uint32_t items, wq_function *function, void *data) {
+/* Takes the owner's seat for one worker, by a word of its own: a worker that sleeps is in no call of the seat. */
+static inline uint32_t wq_worker_claim(wq_seat *owner) {
+#ifndef WQ_UNCHECKED
+    if (owner->self != owner) return WQ_NO_SEAT;
+    if (__atomic_exchange_n(&owner->served, 1, __ATOMIC_SEQ_CST)) return WQ_IN_USE;
+#else
+    (void)owner;
+#endif
+    return WQ_OK;
+}
+static inline void wq_worker_disclaim(wq_seat *owner) {
+#ifndef WQ_UNCHECKED
+    __atomic_store_n(&owner->served, 0, __ATOMIC_SEQ_CST);
+#else
+    (void)owner;
+#endif
+}
+
+static inline uint32_t wq_worker_launch(wq_worker *worker, wq_seat *owner, uint32_t items, wq_function *function, void *data) {
     uint32_t rests = wq_rest(owner); /* that the queue rests then does no harm: the worker takes first */
     if (rests != WQ_YES && rests != WQ_NO) return rests;
     /* on an open queue, as this is, wq_chain queues nothing, and tells which items there are */
@@ -116,8 +133,23 @@ static inline uint32_t wq_worker_start(wq_worker *worker, wq_seat *owner, uint32
     worker->data = data;
     worker->items = items;
     worker->wanted = worker->reached = WQ_SERVES;
-    worker->bell = worker->flushes = worker->ended = 0;
-    return pthread_create(&worker->thread, NULL, wq_worker_run, worker) == 0 ? (uint32_t)WQ_OK : (uint32_t)WQ_NO_THREAD;
+    worker->bell = worker->flushes = worker->runs = 0;
+    if (pthread_create(&worker->thread, NULL, wq_worker_run, worker) != 0) return WQ_NO_THREAD;
+    wq_set(&worker->runs, 1);
+    return WQ_OK;
+}
+
+/* Starts a thread that executes the queue of this owner, which has so many items. WQ_OK or WQ_NO_THREAD; or, without a thread, what
+ * wq_rest answers to a seat that is no owner's (WQ_NO_SEAT, WQ_SEAT_BUSY, WQ_NOT_OWNER), a queue that is closed or drains, and an owner
+ * that has not ended all that it took (WQ_IS_CLOSED, WQ_IS_DRAINING, WQ_SOME_WAIT, WQ_IS_RUNNING): a worker would get nowhere.
+ * WQ_IN_USE where a worker executes from this seat already, and WQ_NO_ITEM where the queue has another number of items. After
+ * WQ_NO_ITEM and WQ_NO_THREAD the queue may rest. */
+static inline uint32_t wq_worker_start(wq_worker *worker, wq_seat *owner, uint32_t items, wq_function *function, void *data) {
+    uint32_t code = wq_worker_claim(owner);
+    if (code) return code;
+    code = wq_worker_launch(worker, owner, items, function, data);
+    if (code) wq_worker_disclaim(owner);
+    return code;
 }
 
 /* Wakes the worker where a queueing of wq.h was answered WQ_WAKES, on which it would sleep on; for wq_queue_tries, wq_flush_begin and
@@ -159,17 +191,21 @@ static inline void wq_worker_resume(wq_worker *worker) {
 }
 
 /* Closes the queue, executes all that was accepted, and ends the thread. The owner's seat is the caller's again, to count and release. A
- * second time it does nothing. */
+ * second time it does nothing, nor of a worker that was not started, in memory that is zero. In the worker's own function it asks for
+ * all this and returns at once, and another thread's call waits for it. */
 static inline void wq_worker_finish(wq_worker *worker) {
-    if (worker->ended) return;
+    if (!worker->runs) return;
     wq_worker_ask(worker, WQ_STOPPED);
+    if (pthread_equal(worker->thread, pthread_self())) return; /* no thread joins itself: it ends, and another one joins it */
     pthread_join(worker->thread, NULL);
-    worker->ended = 1;
+    wq_worker_disclaim(worker->owner);
+    worker->runs = 0;
 }
-/* The same, also after it, and gives the owner's seat up. The worker's memory is still that of each sender whose call has not returned (above). */
+/* The same, also after it, and gives the owner's seat up. The worker's memory is still that of each sender whose call has not returned
+ * (above). WQ_NO_SEAT of a worker that was not started, in memory that is zero, and WQ_NOT_DONE in the worker's own function. */
 static inline uint32_t wq_worker_stop(wq_worker *worker) {
     wq_worker_finish(worker);
-    return wq_release(worker->owner);
+    return worker->owner ? wq_release(worker->owner) : (uint32_t)WQ_NO_SEAT;
 }
 
 #ifdef __cplusplus

@@ -3,6 +3,7 @@
 #include "check.h"
 #include "wq_worker.h"
 #include <errno.h>
+#include <string.h>
 
 static size_t seat_size, seat_align;
 
@@ -37,12 +38,14 @@ static void run(uint32_t item, void *data) {
 }
 
 static void no_thread(void) {
-    static wq_worker worker;
+    wq_worker worker;
     uint32_t number;
+    memset(&worker, 0x41, sizeof worker); /* as it may lie on a stack */
     CHECK(wq_build(&owner, 4, 1, 1) == WQ_OK && wq_hand_out(&owner, &sender) == WQ_OK);
     CHECK(wq_queue(&sender, 2) == (WQ_QUEUED | WQ_FIRST | WQ_WAKES));
     CHECK(wq_worker_start(&worker, &owner, 4, run, NULL) == WQ_NO_THREAD);
-    /* the queue is as it was, and the owner executes it without a worker */
+    /* there is no thread to join, the queue is as it was, and the owner executes it without a worker */
+    CHECK(wq_worker_stop(&worker) == WQ_NOT_DONE && wq_worker_start(&worker, &owner, 4, run, NULL) == WQ_NO_THREAD);
     CHECK(wq_take(&owner, &number) == WQ_OK && number == 1 && wq_begin(&owner, &number) == WQ_OK && number == 2);
     CHECK(wq_end(&owner) == WQ_OK && wq_close(&owner, &number) == WQ_OK && number == 0);
     CHECK(wq_release(&owner) == WQ_OK && wq_release(&sender) == WQ_OK);
