@@ -148,6 +148,20 @@ else
     left_out rustc
 fi
 checks/c_install.sh "$work" "$work/installed"
+# what is installed below a DESTDIR is the same, and names it nowhere
+checks/c_install.sh "$work" /opt/wq "$work/staged"
+diff <(cd "$work/installed" && find . | sort) <(cd "$work/staged/opt/wq" && find . | sort)
+if grep -rl "$work/staged" "$work/staged" || [[ $(readlink "$work/staged/opt/wq/lib/libyeangvos.so") = */* ]]; then
+    echo "install: the DESTDIR is named"
+    exit 1
+fi
+# a program that runs, unlike one that is linked, finds the library by its major number alone
+shared=$(readlink "$work/installed/lib/libyeangvos.so")
+mkdir "$work/running"
+cp "$work/installed/lib/$shared" "$work/running"
+if command -v python3 >/dev/null; then
+    env -u YEANGVOS_LIBRARY LD_LIBRARY_PATH="$work/running" PYTHONPATH="$work/installed/share/yeangvos/python" python3 -c 'import wq'
+fi
 # each call that docs/C.md names has a page, which begins with its name
 calls=$(sed -n '/^## The calls/,/^## Ownership/p' docs/C.md | grep -oE '`wq_[a-z_]+\(' | tr -d '`(' | sort -u)
 for call in $calls; do
@@ -166,7 +180,8 @@ done
 defined=$(nm -D --defined-only "$work/libyeangvos.so" | awk '{ print $3 }' | grep -vE '^(wq_c_[a-z_]+|rattle_(alloc|realloc|dealloc))$' || true)
 [ -z "$defined" ] || { echo "the library defines names that docs/C.md does not tell: $defined"; exit 1; }
 if command -v pkg-config >/dev/null; then
-    export LD_LIBRARY_PATH=$work/installed/lib PKG_CONFIG_PATH=$work/installed/lib/pkgconfig
+    export LD_LIBRARY_PATH=$work/running PKG_CONFIG_PATH=$work/installed/lib/pkgconfig
+    [ "libyeangvos.so.$(pkg-config --modversion yeangvos)" = "$shared" ] || { echo "pkg-config: another version than that of $shared"; exit 1; }
     read -ra flags < <(pkg-config --cflags --libs yeangvos)
     "${CC:-cc}" -o "$work/logger" examples/c/logger.c "${flags[@]}"
     timeout 60 "$work/logger" | sort | diff <(sort "$work/lines") -

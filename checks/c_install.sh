@@ -6,9 +6,11 @@ prefix=${2:?usage: checks/c_install.sh FOLDER PREFIX [DESTDIR]}
 to=${3:-}$prefix
 [[ $prefix = /* ]] || { echo "c_install.sh: PREFIX is $prefix, and no path from the root" >&2; exit 1; }
 cd "$(dirname "${BASH_SOURCE[0]}")/.."
+major=$(sed -n 's/^#define WQ_MAJOR \([0-9]*\).*/\1/p' include/wq.h)
 install -D -m 644 -t "$to/include" include/wq.h include/wq_worker.h include/wq_pure.h
 install -D -m 644 -t "$to/lib" "$folder/libyeangvos.a"
-install -D -m 755 -t "$to/lib" "$folder/libyeangvos.so"
+install -D -m 755 -t "$to/lib" "$folder/libyeangvos.so.$major"
+ln -sf "libyeangvos.so.$major" "$to/lib/libyeangvos.so" # which the linker looks for; a program is linked to the other name
 install -D -m 644 -t "$to/share/yeangvos/python" include/wq.py
 install -D -m 644 -t "$to/share/man/man3" man/*.3
 # each other name that a page begins with is a link to it
@@ -26,7 +28,7 @@ includedir=\${prefix}/include
 
 Name: yeangvos
 Description: proved ordered workqueues
-Version: 1
+Version: $major
 Cflags: -I\${includedir} -pthread
 Libs: -L\${libdir} -lyeangvos -pthread
 TEXT

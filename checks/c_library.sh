@@ -1,6 +1,7 @@
 #!/usr/bin/env bash
 # Builds the library of C from crates/wq_c, FOLDER/libyeangvos.a and FOLDER/libyeangvos.so, with what of the kit it calls: three
-# functions over malloc, realloc and free. What is proved already is not proved again. PROVED=1 says that `rt ci` has proved and built in
+# functions over malloc, realloc and free. The shared one is a link to the file of its name and major number, by which a program that is
+# linked with it asks for it. What is proved already is not proved again. PROVED=1 says that `rt ci` has proved and built in
 # this tree all that wq_c stands on: `rt lib` takes nothing from `rt ci` and would prove it once more, so wq_c is built over it as it is.
 set -euo pipefail
 folder=$(realpath "${1:?usage: checks/c_library.sh FOLDER}")
@@ -35,4 +36,6 @@ trap 'rm -rf "$made"' EXIT
 cp crates/wq_c/out/libwq_c.a "$kit/c/liblibc_c.a" "$made"
 (cd "$made" && printf 'create libyeangvos.a\naddlib libwq_c.a\naddlib liblibc_c.a\nsave\nend\n' | ar -M)
 install -m 644 "$made/libyeangvos.a" "$folder"
-"${CC:-cc}" -shared -Wl,-soname,libyeangvos.so -o "$folder/libyeangvos.so" -Wl,--whole-archive "$folder/libyeangvos.a" -Wl,--no-whole-archive
+shared=libyeangvos.so.$(sed -n 's/^#define WQ_MAJOR \([0-9]*\).*/\1/p' include/wq.h)
+"${CC:-cc}" -shared -Wl,-soname,"$shared" -o "$folder/$shared" -Wl,--whole-archive "$folder/libyeangvos.a" -Wl,--no-whole-archive
+ln -sf "$shared" "$folder/libyeangvos.so"

@@ -17,6 +17,7 @@
 extern "C" {
 #endif
 
+#define WQ_MAJOR 1        /* of the library that this header is for, libyeangvos.so.1 */
 #define WQ_SEAT_BYTES 256 /* wq_init compares it with what the library needs */
 #define WQ_MOST_TRIES UINT32_MAX
 

@@ -11,7 +11,7 @@
 A call that is refused raises WqError with its code, and has changed nothing. A Seat owns its memory and lets one call at a time into
 it. It is given up by `release`, at the end of a `with`, or where nobody holds it any more; an owner's only once its queue has run to its
 end, else a dropped one loses the queue's memory, with a ResourceWarning. `check_history` judges a history. The library is the file that
-YEANGVOS_LIBRARY names, or libyeangvos.so where the loader finds it.
+YEANGVOS_LIBRARY names, or libyeangvos.so.1 where the loader finds it.
 """
 import array
 import ctypes
@@ -98,7 +98,7 @@ class WqError(Exception):
         return self.code.name
 
 
-_library = ctypes.CDLL(os.environ.get("YEANGVOS_LIBRARY", "libyeangvos.so"))
+_library = ctypes.CDLL(os.environ.get("YEANGVOS_LIBRARY") or "libyeangvos.so.1")  # which WQ_MAJOR of wq.h names, too
 _library.wq_c_seat_size.restype = ctypes.c_size_t
 for _name in ("build hand_out release queue is_pending flush_begin flush_done request_stop number take close drain resume next waiting begin "
               "end rest chain is_done count").split():
