@@ -78,6 +78,8 @@ class Counts(typing.NamedTuple):
     executed: int = 0
 
     def __add__(self, other):
+        if not isinstance(other, Counts):  # of a shorter tuple, `zip` would drop the counts that it has not
+            return NotImplemented
         return Counts(*map(sum, zip(self, other)))
 
     def __radd__(self, other):
@@ -110,10 +112,11 @@ _library.wq_c_check_history.restype = ctypes.c_uint32
 
 def _words(**numbers):
     """The numbers as the library takes them. One that does not fit is refused here: ctypes would cut it off without a word."""
-    for name, number in numbers.items():
-        if not 0 <= operator.index(number) <= 0xFFFFFFFF:
+    words = {name: operator.index(number) for name, number in numbers.items()}
+    for name, number in words.items():
+        if not 0 <= number <= 0xFFFFFFFF:
             raise ValueError(f"{name} is {number}, and not of 0 to {0xFFFFFFFF}")
-    return [ctypes.c_uint32(operator.index(number)) for number in numbers.values()]
+    return [ctypes.c_uint32(number) for number in words.values()]
 
 
 def _rows(events):
@@ -124,7 +127,7 @@ def _rows(events):
         if len(fields) != 3:
             raise ValueError(f"event {place} is {event!r}, and not a kind, a sender and a number")
         try:
-            rows.extend(fields)
+            rows.extend(map(operator.index, fields))  # before Python 3.10 an array would cut off the fraction of a Decimal
         except OverflowError:
             raise ValueError(f"event {place} is {event!r}, with a number that is not of 0 to {0xFFFFFFFF}") from None
         except TypeError:

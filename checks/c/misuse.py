@@ -1,12 +1,13 @@
 """wq.py: what a caller does wrong is found out by an error that says it, and a seat that was dropped is given up."""
 import copy
+import decimal
 import gc
 import os
 import pickle
 import signal
 import warnings
 import wq
-from wq import Code, Error, Fault, Kind, Seat, WqError, check_history
+from wq import Code, Counts, Error, Fault, Kind, Seat, WqError, check_history
 
 WIDE = 2 ** 32
 
@@ -18,6 +19,16 @@ def raised(error, text, call, *arguments):
         assert text in str(it), it
     else:
         raise AssertionError(f"{call} did not raise {error}")
+
+
+class Changing:
+    """A number that is another one each time it is asked: what was found to fit is what is taken."""
+
+    def __init__(self, *numbers):
+        self.numbers = iter(numbers)
+
+    def __index__(self):
+        return next(self.numbers)
 
 
 def numbers():
@@ -38,6 +49,7 @@ def numbers():
     raised(ValueError, "tries is -1", sender.request_stop, -1)
     assert not sender.is_pending(2) and owner.take() == 0
     assert sender.queue(2) == Code.QUEUED | Code.FIRST
+    assert not sender.is_pending(Changing(1, WIDE + 2))
     sender.release()
     run_to_end(owner)
     owner.release()
@@ -60,6 +72,7 @@ def events():
     raised(ValueError, "event 0", check_history, [(Kind.HOLD, WIDE, WIDE + 1)], 4, 1, 1)
     raised(ValueError, "event 0", check_history, [(Kind.HOLD, 0, -1)], 4, 1, 1)
     raised(TypeError, "event 0", check_history, [(Kind.HOLD, 0, 1.0)], 4, 1, 1)
+    raised(TypeError, "event 0", check_history, [(Kind.HOLD, 0, decimal.Decimal("1.9"))], 4, 1, 1)
     raised(TypeError, "event 0", check_history, ["abc"], 4, 1, 1)
     raised(ValueError, "items is 4294967297", check_history, [], WIDE + 1, 1, 1)
     raised(ValueError, "senders is -1", check_history, [], 1, 1, -1)
@@ -99,6 +112,14 @@ def codes():
     assert [code for code in Code if code.is_queued] == sorted(queued) and [code for code in Code if code.wakes] == queued[2:]
     assert Code.QUEUED_FIRST_WAKES == Code.QUEUED | Code.FIRST | Code.WAKES and Code.CLOSED & Code.QUEUED
     raised(TypeError, "", lambda: Code.QUEUED in Code.CLOSED)
+
+
+def sums():
+    """Counts are added to counts alone: of a shorter tuple all counts behind it would be gone."""
+    one = Counts(*range(1, 9))
+    assert one + one == sum([one, one]) == Counts(*range(2, 17, 2))
+    for other in (1,), [0] * 8, 1:
+        raised(TypeError, "", lambda other=other: one + other)
 
 
 def errors():
@@ -190,10 +211,9 @@ def nested():
     while len(came) < 200:
         assert owner.counts() == wq.Counts()
     signal.signal(signal.SIGALRM, before)
-    assert sum([owner.counts(), owner.counts()]) == wq.Counts()
     run_to_end(owner)
 
 
-for part in numbers, events, hand_outs, codes, errors, ends, drops, nested:
+for part in numbers, events, hand_outs, codes, sums, errors, ends, drops, nested:
     part()
 print("misuse.py: each is found out by its error")
