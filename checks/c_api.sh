@@ -39,6 +39,8 @@ built misuse
 timeout 60 "$work/misuse"
 built worker
 timeout 60 "$work/worker"
+built worker -DWQ_UNCHECKED
+timeout 60 "$work/worker" >"$work/said"
 built worker_answers
 timeout 60 "$work/worker_answers"
 built refusals -Wl,--wrap=wq_c_seat_size,--wrap=wq_c_seat_align,--wrap=pthread_create
@@ -47,8 +49,10 @@ timeout 60 "$work/refusals"
 for compiler in "${CC:-cc}" clang; do
     command -v "$compiler" >/dev/null || continue
     for standard in c99 c11 c2x gnu11; do
-        printf '#include <wq_worker.h>\n#include <wq_pure.h>\nint main(void) { return 0; }\n' \
-            | "$compiler" -x c -std=$standard -pedantic -Wall -Wextra -Wredundant-decls -Werror -Iinclude -fsyntax-only -
+        for checked in -UWQ_UNCHECKED -DWQ_UNCHECKED; do
+            printf '#include <wq_worker.h>\n#include <wq_pure.h>\nint main(void) { return 0; }\n' | "$compiler" -x c -std=$standard $checked \
+                -pedantic -Wall -Wextra -Wconversion -Wsign-conversion -Wshadow -Wredundant-decls -Werror -Iinclude -fsyntax-only -
+        done
     done
 done
 built pure
@@ -123,6 +127,9 @@ fi
 if command -v "${CXX:-c++}" >/dev/null; then
     "${CXX:-c++}" -std=c++11 -O2 -Wall -Wextra -Werror -pthread -Iinclude -o "$work/client" checks/c/client.cc "$work/libyeangvos.a"
     timeout 60 "$work/client"
+    for standard in c++11 c++17 c++20; do
+        "${CXX:-c++}" -std=$standard -pedantic -Wall -Wextra -Wconversion -Wsign-conversion -Wshadow -Werror -Iinclude -fsyntax-only checks/c/client.cc
+    done
 else
     left_out c++
 fi
