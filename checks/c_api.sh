@@ -164,6 +164,7 @@ if grep -rl "$work/staged" "$work/staged" || [[ $(readlink "$work/staged/opt/wq/
 fi
 # a program that runs, unlike one that is linked, finds the library by its major number alone
 shared=$(readlink "$work/installed/lib/libyeangvos.so")
+grep -qF "/$shared" docs/C.md || { echo "docs/C.md names another library than $shared"; exit 1; }
 mkdir "$work/running"
 cp "$work/installed/lib/$shared" "$work/running"
 if command -v python3 >/dev/null; then
