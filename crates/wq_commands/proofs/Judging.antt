@@ -5,7 +5,8 @@ use Rattle.wq_recording.specs.declared.finding.Finding.{Finding}
 use Rattle.wq_recording.specs.Checking.{IsFoundOf}
 use Rattle.wq_commands.specs.declared.failure.Failure.{Failure}
 use Rattle.wq_commands.specs.declared.failure.Failure.TheVariants as failure
-use Rattle.wq_commands.specs.Ending.{Fails}
+use Rattle.wq_commands.specs.Ending.{WritesPart, Fails}
+use Rattle.wq_commands.proofs.Endings.{unmade_none, fails_unmade, fails_unwritten}
 use Rattle.wq_commands.specs.Judged.{WritesFinding, Says, IsSaid, HasNoFinding}
 
 pub judges_at_end : (is_drained : Bool) (status : ℕ) (remaining : Option (List ℕ)) (finding : Result Finding Failure) (before after : Option (List ℕ))
@@ -15,19 +16,14 @@ judges_at_end is_drained status None finding before after found said = tt
 judges_at_end is_drained status (Some bytes) (Ok f) before after found said = record { finding = f; found = found; said = said }
 judges_at_end is_drained status (Some bytes) (Err cause) before after found said = absurd said
 
--- nothing is found of a text, for a cause that is not the writing
-fails_unfound : (text : List ℕ) (cause : Failure) → HasNoFinding text cause → Fails Says HasNoFinding text cause
-fails_unfound text failure.Unwritable none = absurd none
-fails_unfound text failure.Unreadable none = tt
-fails_unfound text failure.Memory none = tt
-fails_unfound text (failure.Refused refusal) none = none
-fails_unfound text (failure.RefusedPlan refusal) none = none
-
-pub fails_unsaid : (remaining : Option (List ℕ)) (finding : Result Finding Failure) (cause : Failure)
+pub fails_unsaid : (remaining : Option (List ℕ)) (finding : Result Finding Failure) (before after : Option (List ℕ)) (cause : Failure)
     → IfOk finding (λ f. IfSome remaining (λ bytes. IsFoundOf bytes f))
     → IfErr finding (λ f. IfSome remaining (λ bytes. HasNoFinding bytes f))
-    → MatchResult finding (λ _. cause ≡ failure.Unwritable) (λ f. cause ≡ f) → IfSome remaining (λ bytes. Fails Says HasNoFinding bytes cause)
-fails_unsaid None finding cause found none is = tt
-fails_unsaid (Some bytes) (Ok f) cause found none is =
-    subst (Fails Says HasNoFinding bytes) (sym is) (f.text.items, record { finding = f; found = found; output_is = refl })
-fails_unsaid (Some bytes) (Err f) cause found none is = subst (Fails Says HasNoFinding bytes) (sym is) (fails_unfound bytes f none)
+    → MatchResult finding (λ f. (cause ≡ failure.Unwritable) × WritesPart f.text.items before after) (λ f. cause ≡ f)
+    → IfSome remaining (λ bytes. Fails Says HasNoFinding bytes before after cause)
+fails_unsaid None finding before after cause found none is = tt
+fails_unsaid (Some bytes) (Ok f) before after cause found none is =
+    fails_unwritten Says HasNoFinding bytes f.text.items before after cause (record { finding = f; found = found; output_is = refl }) is
+fails_unsaid (Some bytes) (Err f) before after cause found none is =
+    subst (Fails Says HasNoFinding bytes before after) (sym is)
+    (fails_unmade Says HasNoFinding bytes before after f (unmade_none HasNoFinding bytes f (λ never. never) none))

@@ -1,5 +1,5 @@
 -- What the program makes of a schedule's text.
-use Rattle.std.specs.Prelude.{◌≡◌, ℕ, List}
+use Rattle.std.specs.Prelude.{ℕ, List}
 use Rattle.wq_text.specs.declared.schedule.Schedule.{Schedule}
 use Rattle.wq_text.specs.Schedule.{schedule_layout, turns_of}
 use Rattle.wq_text.specs.Text.{Spells, IsRefusal}

@@ -4,7 +4,7 @@ ghost use Rattle.wq_recording.specs.Checking.{IsFoundOf};
 ghost use Rattle.wq_commands.specs.declared.failure.Failure.{Failure as Cause};
 ghost use Rattle.wq_commands.specs.declared.failure.Failure.TheVariants.{Unwritable};
 ghost use Rattle.wq_commands.specs.Failure.{status_of};
-ghost use Rattle.wq_commands.specs.Ending.{Fails, IsUntouched};
+ghost use Rattle.wq_commands.specs.Ending.{Fails, IsUntouched, WritesPart};
 ghost use Rattle.wq_commands.specs.Judged.{WritesFinding, Says, IsSaid, HasNoFinding};
 
 use crate::ending::end;
@@ -30,8 +30,9 @@ fn write_finding<W: Write, F: Write>(
     faults: &mut F,
 ) -> u8
     ensures said { (result ≡ 0) ⊎ (result ≡ 4) → IsOkAnd finding (IsSaid is_drained result (W.contents writer.old) (W.contents writer.new)) }
-    ensures failed { result ≢ 0 → result ≢ 4 → (cause : Cause) × (result ≡ status_of cause)
-        × MatchResult finding (λ _. cause ≡ Unwritable) (λ failure. cause ≡ failure) × IsUntouched cause writer.old writer.new }
+    ensures failed { result ≢ 0 → result ≢ 4 → (cause : Cause) × (result ≡ status_of cause) × MatchResult finding
+        (λ found. (cause ≡ Unwritable) × WritesPart found.text.items (W.contents writer.old) (W.contents writer.new)) (λ failure. cause ≡ failure)
+        × IsUntouched cause writer.old writer.new }
     ensures status { (result ≡ 0) ⊎ ((result ≡ 1) ⊎ ((result ≡ 3) ⊎ (result ≡ 4))) }
 {
     match finding {
@@ -64,7 +65,7 @@ pub fn check_main<B: BufRead + Drop, W: Write, F: Write>(
     ensures judged { (result ≡ 0) ⊎ (result ≡ 4) → IfSome (B.remaining reader)
         (λ bytes. WritesFinding is_drained bytes result (W.contents writer.old) (W.contents writer.new)) }
     ensures failed { result ≢ 0 → result ≢ 4 → (cause : Cause) × (result ≡ status_of cause) × IsUntouched cause writer.old writer.new
-        × IfSome (B.remaining reader) (λ bytes. Fails Says HasNoFinding bytes cause) }
+        × IfSome (B.remaining reader) (λ bytes. Fails Says HasNoFinding bytes (W.contents writer.old) (W.contents writer.new) cause) }
     ensures status { (result ≡ 0) ⊎ ((result ≡ 1) ⊎ ((result ≡ 3) ⊎ (result ≡ 4))) }
 {
     let finding = read_finding(alloc, &mut reader);

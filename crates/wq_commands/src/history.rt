@@ -2,7 +2,7 @@
 ghost use Rattle.std.specs.Prelude.{◌≡◌, ◌≢◌, ◌⊎◌, IfOk, IfErr, IfSome};
 ghost use Rattle.wq_commands.specs.declared.failure.Failure.{Failure as Cause};
 ghost use Rattle.wq_commands.specs.Failure.{status_of};
-ghost use Rattle.wq_commands.specs.Ending.{Writes, Fails, IsUntouched};
+ghost use Rattle.wq_commands.specs.Ending.{Writes, Fails, IsUntouched, IsUnmade};
 ghost use Rattle.wq_commands.specs.Report.{text_read};
 ghost use Rattle.wq_commands.specs.ScheduleReport.{Records, HasNoOutput};
 
@@ -27,7 +27,7 @@ fn recording_of(alloc: Global, text: &[u8]) -> Result<Vec<u8>, Failure>
 // The recording of the schedule that a reader gives.
 fn read_recording<R: Read + Drop>(alloc: Global, reader: R) -> Result<Vec<u8>, Failure>
     ensures recording { IfOk result (λ recording. IfSome (R.remaining reader) (λ bytes. Records (text_read bytes) recording.items)) }
-    ensures none { IfErr result (λ cause. IfSome (R.remaining reader) (λ bytes. Fails Records HasNoOutput (text_read bytes) cause)) }
+    ensures none { IfErr result (λ cause. IfSome (R.remaining reader) (λ bytes. IsUnmade HasNoOutput (text_read bytes) cause)) }
 {
     let text = read_most(alloc, reader, TEXT_BYTES)?;
     recording_of(alloc, &text)
@@ -45,7 +45,7 @@ pub fn history_main<R: Read + Drop, W: Write, F: Write>(
 ) -> u8
     ensures written { result ≡ 0 → IfSome (R.remaining reader) (λ bytes. Writes Records (text_read bytes) (W.contents writer.old) (W.contents writer.new)) }
     ensures failed { result ≢ 0 → (cause : Cause) × (result ≡ status_of cause) × IsUntouched cause writer.old writer.new
-        × IfSome (R.remaining reader) (λ bytes. Fails Records HasNoOutput (text_read bytes) cause) }
+        × IfSome (R.remaining reader) (λ bytes. Fails Records HasNoOutput (text_read bytes) (W.contents writer.old) (W.contents writer.new) cause) }
     ensures status { (result ≡ 0) ⊎ ((result ≡ 1) ⊎ (result ≡ 3)) }
 {
     end(read_recording(alloc, reader), writer, faults)

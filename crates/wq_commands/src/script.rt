@@ -2,7 +2,7 @@
 ghost use Rattle.std.specs.Prelude.{◌≡◌, ◌≢◌, ◌⊎◌, IfOk, IfErr, IfSome};
 ghost use Rattle.wq_commands.specs.declared.failure.Failure.{Failure as Cause};
 ghost use Rattle.wq_commands.specs.Failure.{status_of};
-ghost use Rattle.wq_commands.specs.Ending.{Writes, Fails, IsUntouched};
+ghost use Rattle.wq_commands.specs.Ending.{Writes, Fails, IsUntouched, IsUnmade};
 ghost use Rattle.wq_commands.specs.Report.{Reports, HasNoReport, text_read};
 
 use crate::ending::end;
@@ -25,7 +25,7 @@ fn report_of(alloc: Global, text: &[u8]) -> Result<Vec<u8>, Failure>
 // The report of the script that a reader gives.
 fn read_report<R: Read + Drop>(alloc: Global, reader: R) -> Result<Vec<u8>, Failure>
     ensures report { IfOk result (λ report. IfSome (R.remaining reader) (λ bytes. Reports (text_read bytes) report.items)) }
-    ensures none { IfErr result (λ cause. IfSome (R.remaining reader) (λ bytes. Fails Reports HasNoReport (text_read bytes) cause)) }
+    ensures none { IfErr result (λ cause. IfSome (R.remaining reader) (λ bytes. IsUnmade HasNoReport (text_read bytes) cause)) }
 {
     let text = read_most(alloc, reader, TEXT_BYTES)?;
     report_of(alloc, &text)
@@ -42,7 +42,7 @@ pub fn script_main<R: Read + Drop, W: Write, F: Write>(
 ) -> u8
     ensures written { result ≡ 0 → IfSome (R.remaining reader) (λ bytes. Writes Reports (text_read bytes) (W.contents writer.old) (W.contents writer.new)) }
     ensures failed { result ≢ 0 → (cause : Cause) × (result ≡ status_of cause) × IsUntouched cause writer.old writer.new
-        × IfSome (R.remaining reader) (λ bytes. Fails Reports HasNoReport (text_read bytes) cause) }
+        × IfSome (R.remaining reader) (λ bytes. Fails Reports HasNoReport (text_read bytes) (W.contents writer.old) (W.contents writer.new) cause) }
     ensures status { (result ≡ 0) ⊎ ((result ≡ 1) ⊎ (result ≡ 3)) }
 {
     end(read_report(alloc, reader), writer, faults)

@@ -2,7 +2,7 @@
 ghost use Rattle.std.specs.Prelude.{◌≡◌, ◌≢◌, ◌⊎◌, IfOk, IfErr, IfSome, string_bytes};
 ghost use Rattle.wq_commands.specs.declared.failure.Failure.{Failure as Cause};
 ghost use Rattle.wq_commands.specs.Failure.{status_of};
-ghost use Rattle.wq_commands.specs.Ending.{Writes, Fails, IsUntouched};
+ghost use Rattle.wq_commands.specs.Ending.{Writes, Fails, IsUntouched, IsUnmade};
 ghost use Rattle.wq_live_command.specs.RaceReport.{Races, HasNoRace, plan_read};
 
 use std::alloc::Global;
@@ -35,7 +35,7 @@ fn read_line<T: Threads + Wait + Sync, R: Read + Drop>(
     reader: R,
 ) -> Result<Vec<u8>, Failure>
     ensures line { IfOk result (λ line. IfSome (R.remaining reader) (λ bytes. Races (plan_read bytes) line.items)) }
-    ensures none { IfErr result (λ cause. IfSome (R.remaining reader) (λ bytes. Fails Races HasNoRace (plan_read bytes) cause)) }
+    ensures none { IfErr result (λ cause. IfSome (R.remaining reader) (λ bytes. IsUnmade HasNoRace (plan_read bytes) cause)) }
 {
     let text = read_most(alloc, reader, PLAN_BYTES)?;
     let line = line_of(rt, alloc, &text)?;
@@ -55,7 +55,7 @@ pub fn live_main<T: Threads + Wait + Sync, R: Read + Drop, W: Write, F: Write>(
 ) -> u8
     ensures written { result ≡ 0 → IfSome (R.remaining reader) (λ bytes. Writes Races (plan_read bytes) (W.contents writer.old) (W.contents writer.new)) }
     ensures failed { result ≢ 0 → (cause : Cause) × (result ≡ status_of cause) × IsUntouched cause writer.old writer.new
-        × IfSome (R.remaining reader) (λ bytes. Fails Races HasNoRace (plan_read bytes) cause) }
+        × IfSome (R.remaining reader) (λ bytes. Fails Races HasNoRace (plan_read bytes) (W.contents writer.old) (W.contents writer.new) cause) }
     ensures status { (result ≡ 0) ⊎ ((result ≡ 1) ⊎ (result ≡ 3)) }
 {
     end(read_line(rt, alloc, reader), writer, faults)

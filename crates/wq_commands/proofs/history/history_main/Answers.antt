@@ -8,4 +8,4 @@ returns-clause-written g c = λ done.
 
 pub returns-clause-failed : goal.returns-clause-failed
 returns-clause-failed g c = λ not. let e = c.end.ensures.failed not in
-    (e.0, e.1, e.3, fails_at_end Records HasNoOutput 1048577 (λ v. v.items) _ _ e.0 c.read_recording.ensures.recording c.read_recording.ensures.none e.2)
+    (e.0, e.1, e.3, fails_at_end Records HasNoOutput 1048577 (λ v. v.items) _ _ _ _ e.0 c.read_recording.ensures.recording c.read_recording.ensures.none e.2)

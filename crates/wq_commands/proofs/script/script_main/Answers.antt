@@ -7,4 +7,4 @@ returns-clause-written g c = λ done. writes_at_end Reports HasNoReport 1048577 
 
 pub returns-clause-failed : goal.returns-clause-failed
 returns-clause-failed g c = λ not. let e = c.end.ensures.failed not in
-    (e.0, e.1, e.3, fails_at_end Reports HasNoReport 1048577 (λ v. v.items) _ _ e.0 c.read_report.ensures.report c.read_report.ensures.none e.2)
+    (e.0, e.1, e.3, fails_at_end Reports HasNoReport 1048577 (λ v. v.items) _ _ _ _ e.0 c.read_report.ensures.report c.read_report.ensures.none e.2)
