@@ -1,4 +1,4 @@
-//! Streams that give and take one byte a call, that never end, and that take nothing, under each of the mains.
+//! Streams that give and take one byte a call, that are interrupted, that never end, and that take nothing, under each of the mains.
 use super::{Main, ROWS, Row, run};
 use crate::expect::expect_same;
 use std::alloc::Global;
@@ -136,6 +136,42 @@ fn texts_without_an_end(rt: HostRuntime) {
             is_refused(&rt, rt.alloc(), main, byte, bytes, said),
             "{bytes} {said}"
         );
+    }
+}
+
+/// Is interrupted at each second call, and takes one byte at each of the others.
+#[derive(Drop)]
+struct HaltingWriter {
+    taken: Vec<u8>,
+    is_halted: bool,
+}
+
+impl Write for HaltingWriter {
+    fn write(&mut self, bytes: &[u8]) -> Result<usize> {
+        self.is_halted = !self.is_halted;
+        if self.is_halted {
+            return Err(Error::from(ErrorKind::Interrupted));
+        }
+        let count = bytes.len().min(1);
+        self.taken.extend_from_slice(&bytes[..count])?;
+        Ok(count)
+    }
+
+    fn flush(&mut self) -> Result<()> {
+        Ok(())
+    }
+}
+
+/// A write that is interrupted is made again, and nothing is lost or written twice.
+#[test]
+fn writer_is_interrupted(rt: HostRuntime) {
+    for row in ROWS {
+        let mut writer = HaltingWriter {
+            taken: Vec::new(rt.alloc()),
+            is_halted: false,
+        };
+        let ended = run(&rt, rt.alloc(), row.main, row.text, &mut writer);
+        assert!(rt; ended.is(row.status, b"") && writer.taken.as_slice() == row.output);
     }
 }
 
