@@ -20,8 +20,8 @@ LONE_PLAN = b'{"queues":1,"workers":1,"senders":2,"own":3}'
 POOL_PLAN = b'{"queues":2,"workers":2,"senders":2,"own":2}'
 RUNS = {"script": SCRIPT, "steps": STEPS, "steps --history": STEPS, "check": RIGHT_TRACE, "check --drained": WRONG_TRACE}
 PLANS = {"a lone plan": LONE_PLAN, "a plan over a pool": POOL_PLAN}
-# which of the threads a plan over a pool wants: two senders and the one that the pool runs in, and none for its further workers
-WANTED_THREADS = {"a lone plan": range(1, 5000), "a plan over a pool": range(1, 4)}
+# Which of its threads a plan wants for sure. A pool's further workers want none of their own, and are made while others still are.
+WANTED_THREADS = {"a lone plan": range(1, 5000), "a plan over a pool": [1]}
 
 MEMORY, UNREADABLE, UNWRITABLE = (3, b"memory\n"), (1, b"file: Unreadable\n"), (1, b"output: Unwritable\n")
 # what may come of a fault beside the right output, and whether it has to; of a thread that depends on which
