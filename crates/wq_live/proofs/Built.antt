@@ -41,6 +41,12 @@ module _ {V : Type 0} where
       turn.1 ∙ (ap (λ (xs : List (ValueStanding V)). get_or xs i chair) is ∙
       (get_or-value_senders q l n i chair less ∙ ap (value_sender q l) (sym same)))
 
+  -- which is one of the senders
+  pub chair_low : (q : TableId) (l : Layout) (items : List (ValueStanding V)) (i number : ℕ) (chair : ValueStanding V)
+      → items ≡ value_senders q l l.senders → number ≡ i → (i < length items) × (chair ≡ get_or items i chair) → number < l.senders
+  chair_low q l items i number chair is same turn =
+      omega (arith, turn.0, same, ap (λ (xs : List (ValueStanding V)). length xs) is, length-value_senders V q l l.senders)
+
   -- a sender that has seen nothing
   module _ (q : TableId) (layout : Layout) (number : ℕ) (chair : ValueStanding V) (sent : Sent) (is : chair ≡ value_sender q layout number)
       (made : (sent.layout ≡ layout) × (sent.number ≡ number) × (sent.counts ≡ sender_counts number [])) where
@@ -50,9 +56,9 @@ module _ {V : Type 0} where
     sending_new : sending_in 0 chair sent ≡ sending_nothing
     sending_new = λ i. record { chair = alone_at 0 (standing_of (is i)); layout = made.0 i; number = made.1 i; counts = made.2 i }
 
-    pub sends_new : Sends (sending_in 0 chair sent)
-    sends_new = subst Sends (sym sending_new)
-        (record { layout_is = refl; number_is = refl; stage = tt; legal = legal_nil layout; counts_are = refl })
+    pub sends_new : number < layout.senders → Sends (sending_in 0 chair sent)
+    sends_new low = subst Sends (sym sending_new)
+        (record { layout_is = refl; number_is = refl; low = low; stage = tt; legal = legal_nil layout; counts_are = refl })
 
     pub view_new : sender_view (sending_in 0 chair sent) ≡ new_sender q layout number
     view_new = ap sender_view sending_new
@@ -60,9 +66,9 @@ module _ {V : Type 0} where
     pub with_new : sender_with 0 chair sent ≡ knowing_nothing (new_sender q layout number)
     with_new = λ i. record { known = view_new i; brought = (is i).first.brought }
 
-    pub sender_of_values : 0 < q.slots → SendsValues (record { chair = chair; sent = sent })
-    sender_of_values slots = record {
-      sends = sends_new;
+    pub sender_of_values : number < layout.senders → 0 < q.slots → SendsValues (record { chair = chair; sent = sent })
+    sender_of_values low slots = record {
+      sends = sends_new low;
       alone = ap (λ (x : ValueStanding V). x.others) is;
       slots = subst (λ (x : ValueStanding V). 0 < x.queue.slots) (sym is) slots;
       empty = ap (λ (x : ValueStanding V). x.hand) is;
@@ -94,12 +100,17 @@ module _ {V : Type 0} where
   pub length_values : (q : TableId) (l : Layout) (xs : List (KnownWith V)) → xs ≡ map knowing_nothing (new_senders q l l.senders) → length xs ≡ l.senders
   length_values q l xs made = ap length made ∙ (length-map (new_senders q l l.senders) (knowing_nothing {V = V}) ∙ length-new_senders q l l.senders)
 
+-- without what was brought they are those of any new queue
+pub values_known : (V : Type 0) (xs : List Known) → map (λ (s : KnownWith V). s.known) (map knowing_nothing xs) ≡ xs
+values_known V [] = refl
+values_known V (x ∷ xs) = ap (λ (ks : List Known). x ∷ ks) (values_known V xs)
+
 -- where items bring nothing
 pub sender_of_none : (q : TableId) (layout : Layout) (number : ℕ) (chair : ValueStanding Bare) (sent : Sent) → chair ≡ value_sender q layout number
-    → (sent.layout ≡ layout) × (sent.number ≡ number) × (sent.counts ≡ sender_counts number []) → q.slots ≡ 0
+    → (sent.layout ≡ layout) × (sent.number ≡ number) × (sent.counts ≡ sender_counts number []) → number < layout.senders → q.slots ≡ 0
     → SendsAlone (record { chair = chair; sent = sent })
-sender_of_none q layout number chair sent is made bare = record {
-  sends = sends_new q layout number chair sent is made;
+sender_of_none q layout number chair sent is made low bare = record {
+  sends = sends_new q layout number chair sent is made low;
   alone = ap (λ (x : ValueStanding Bare). x.others) is;
   bare = ap (λ (x : ValueStanding Bare). x.queue.slots) is ∙ bare;
   empty = ap (λ (x : ValueStanding Bare). x.hand) is;

@@ -1,6 +1,7 @@
 -- What a seat sees come new, step after step.
 use Rattle.wq_live.proofs.Common.{◌≡◌, ◌≢◌, ℕ, ◌+◌, ◌≤◌, Bool, true, false, cond, not, eqb, List, [], ◌∷◌, ◌++◌, length, sym, refl, ap, ◌∙◌, subst}
 use Rattle.wq_live.proofs.Common.{arith, append_assoc, length-append, append-nil, IsPrefix, Event, Holds, seat_of, own, Grows, own-append}
+use Rattle.wq_live.proofs.Common.{owner_seat, Known, Sees}
 use Rattle.wq_core.specs.Sound.{head_word_of}
 use Rattle.wq_words.specs.Seen.{others}
 use Rattle.wq_words.proofs.Seen.{others-append, none_new, held_same}
@@ -27,6 +28,10 @@ grows_less c xs n k v w less g = let t = g.theirs in record { new = g.new; is = 
 
 pub grows_own : (c : ℕ) (xs : List Event) (n : ℕ) (v w : List Event) → Grows c xs n v w → own c w ≡ own c v ++ xs
 grows_own c xs n v w g = ap (own c) g.is ∙ (own-append c v g.new ∙ ap (λ (x : List Event). own c v ++ x) g.mine)
+
+-- what an owner sees come new is of the owner's seat
+pub grows_mine : (xs : List Event) (n : ℕ) (old new : Known) → old.number ≡ owner_seat → Sees xs n old new → Grows owner_seat xs n old.seen new.seen
+grows_mine xs n old new mine sees = subst (λ (c : ℕ). Grows c xs n old.seen new.seen) mine sees.grows
 
 -- what is held stays held where no own event comes
 pub grows_held : (s k n : ℕ) (v w : List Event) → Grows s [] n v w → Holds v s k → Holds w s k

@@ -45,3 +45,4 @@ pub mod ValuePaired
 pub mod OwnBrought
 pub mod Handed
 pub mod HandedOver
+pub mod OwnerStays

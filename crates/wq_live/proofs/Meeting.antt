@@ -65,14 +65,3 @@ pub meet_owner_layout : (s : Sending) (t : Inside) (now now' : Known) (m : Machi
 meet_owner_layout s t now now' m f g view view' sends executes =
     sym (ap (λ (v : Known). v.layout) view') ∙
     (sym executes.layout_is ∙ (g.layout_is ∙ (sym f.layout_is ∙ (sends.layout_is ∙ ap (λ (v : Known). v.layout) view))))
-
-keeps_low : (m : Machine) (c : ℕ) (held : Stage) → IsSender held → HasStage m c held → c < m.layout.senders
-keeps_low m c (stage.Sends p) is keeps = keeps.0
-keeps_low m c (stage.Owns cursor walked batch) is keeps = absurd is
-
--- a sender that met another seat is below the senders
-pub meet_low : (s : Sending) (now : Known) (m : Machine) → IsPartOf m s.chair.part → sender_view s ≡ now → Sends s → now.number < now.layout.senders
-meet_low s now m f view sends =
-    let low = keeps_low m s.chair.part.seat s.chair.part.stage sends.stage f.keeps in
-    let size = ap (λ (l : Layout). l.senders) (sym f.layout_is ∙ sends.layout_is) in
-    subst (λ (v : Known). v.number < v.layout.senders) view (omega (arith, low, size, sends.number_is))

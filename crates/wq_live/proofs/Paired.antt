@@ -8,7 +8,7 @@ use Rattle.wq_table.specs.SlotChairs.{ValueMeet, ValueJoined}
 use Rattle.wq_table.specs.Beside.{Follow}
 use Rattle.wq_table.proofs.Beside.{Saw, second_saw, still_two, first_saw, two_still}
 use Rattle.wq_live.specs.Pairs.{pair_sender, seats_view}
-use Rattle.wq_live.proofs.Meeting.{met_plain, met_slots, meet_executes, meet_owner_sees, meet_owner_layout, meet_low}
+use Rattle.wq_live.proofs.Meeting.{met_plain, met_slots, meet_executes, meet_owner_sees, meet_owner_layout}
 use Rattle.wq_live.proofs.Sends.{meet_sends, meet_sees}
 
 -- the sender's side is what the two are seen as
@@ -183,5 +183,4 @@ module _ {V : Type 0} (o : OwnerSeat V) (chair both : ValueStanding V) (sent : S
       (meet_sees (sending_in 0 chair sent) (sending_in 1 both sent) there joined.machine joined.sound joined.that_fits.fits sender_met refl refl its_view sends)
 
   pub low_joins : sent.number < o.layout.senders
-  low_joins = subst (λ (l : Layout). sent.number < l.senders) (sym layouts)
-      (meet_low (sending_in 0 chair sent) (sender_view (sending_in 0 chair sent)) joined.machine joined.that_fits.fits refl sends)
+  low_joins = subst (λ (l : Layout). sent.number < l.senders) (sym layouts) sends.low

@@ -7,10 +7,14 @@ use Rattle.wq_live.proofs.Common.{shut_from_IsShut, IsShut_from_shut, open_from_
 use Rattle.std.specs.List.{cons_option}
 use Rattle.wq_words.specs.declared.event.Why.TheVariants as why
 use Rattle.wq_words.specs.declared.answer.Answer.TheVariants.{Queued, Pending, Closed, Draining, Contended}
+use Rattle.wq_words.specs.declared.answer.Posted.{Posted}
+use Rattle.wq_words.specs.declared.answer.Posted.TheVariants as posted
+use Rattle.wq_words.specs.declared.event.Event.TheVariants.{Chain, ChainBusy}
 use Rattle.wq_words.specs.Legal.{IsComplete}
+use Rattle.wq_live.specs.Answers.{Posts, Chains}
 use Rattle.wq_words.proofs.Running.{running_from_rests}
-use Rattle.wq_live.specs.Laws.{queued_number, IsStillEnd}
-use Rattle.wq_live.proofs.Growing.{grows_own}
+use Rattle.wq_live.specs.Laws.{queued_number, pushed_number, IsStillEnd}
+use Rattle.wq_live.proofs.Growing.{grows_own, grows_mine}
 use Rattle.wq_live.proofs.Owned.{running_quiet}
 use Rattle.wq_live.proofs.Phases.{is_turn, closed_quiet, shut_still}
 use Rattle.wq_words.proofs.Closed.{closed_from_open, shut_from_open}
@@ -21,14 +25,14 @@ use Rattle.wq_live.proofs.Rows.{none_counted}
 pub quiet_idle : (xs : List Event) (n : ℕ) (old new : Known) → old.number ≡ owner_seat → Sees xs n old new → begun xs ≡ [] → ended xs ≡ []
     → ¬ IsRunning old.seen → ¬ IsRunning new.seen
 quiet_idle xs n old new mine sees b e rests =
-    let g : Grows owner_seat xs n old.seen new.seen = subst (λ (d : ℕ). Grows d xs n old.seen new.seen) mine sees.grows in
+    let g = grows_mine xs n old new mine sees in
     rests_from_running new.seen (running_quiet xs n old.seen new.seen g b e ∙ running_from_rests old.seen rests)
 
 -- and what ran still runs
 pub quiet_runs : (xs : List Event) (n : ℕ) (old new : Known) → old.number ≡ owner_seat → Sees xs n old new → begun xs ≡ [] → ended xs ≡ []
     → IsRunning old.seen → IsRunning new.seen
 quiet_runs xs n old new mine sees b e runs =
-    let g : Grows owner_seat xs n old.seen new.seen = subst (λ (d : ℕ). Grows d xs n old.seen new.seen) mine sees.grows in
+    let g = grows_mine xs n old new mine sees in
     let some = runs_some old.seen runs in runs_from_running new.seen some.0 (running_quiet xs n old.seen new.seen g b e ∙ some.1)
 
 -- a closed queue stays closed
@@ -39,7 +43,7 @@ closed_stays xs n old new sees closed =
 
 module _ (xs : List Event) (n : ℕ) (old new : Known) (mine : old.number ≡ owner_seat) (sees : Sees xs n old new) (none : count_by is_turn xs ≡ 0) where
   grows : Grows owner_seat xs n old.seen new.seen
-  grows = subst (λ (d : ℕ). Grows d xs n old.seen new.seen) mine sees.grows
+  grows = grows_mine xs n old new mine sees
 
   -- where its owner neither closes it, nor begins or ends a drain, the queue stays unclosed, shut or open
   pub unclosed_stays : ¬ IsClosed old.seen → ¬ IsClosed new.seen
@@ -65,11 +69,11 @@ own_none s [] none = refl
 own_none s (e ∷ es) none = let both = none_first (accepted_by e) (accepted es) none in
     none_kept (seat_of e == s) e (own s es) both.0 (own_none s es both.1)
 
-none_more : (h es : List Event) → accepted (h ++ es) ≡ accepted h → accepted es ≡ []
+pub none_more : (h es : List Event) → accepted (h ++ es) ≡ accepted h → accepted es ≡ []
 none_more h es same =
     none_counted (accepted es) (omega (arith, ap length (sym (filter_map-append accepted_by h es) ∙ same), length-append (accepted h) (accepted es)))
 
-own_still : (s : ℕ) (h es : List Event) → accepted es ≡ [] → accepted (own s (h ++ es)) ≡ accepted (own s h)
+pub own_still : (s : ℕ) (h es : List Event) → accepted es ≡ [] → accepted (own s (h ++ es)) ≡ accepted (own s h)
 own_still s h es none =
     ap accepted (own-append s h es) ∙ (filter_map-append accepted_by (own s h) (own s es)
     ∙ (ap (λ (ks : List ℕ). accepted (own s h) ++ ks) (own_none s es none) ∙ append-nil (accepted (own s h))))
@@ -98,3 +102,19 @@ queued_accepted k tries Pending old new told = accepted_on (Busy old.number k �
 queued_accepted k tries Closed old new told = accepted_on (Hold old.number k ∷ Back old.number k why.Closed ∷ []) 0 old new told
 queued_accepted k tries Draining old new told = accepted_on (Hold old.number k ∷ Back old.number k why.Draining ∷ []) 0 old new told.0
 queued_accepted k tries Contended old new told = accepted_on (Hold old.number k ∷ Back old.number k why.Contended ∷ []) tries old new told
+
+-- what a push and a chaining add
+pub posted_accepted : (k tries : ℕ) (a : Posted) (old new : Known) → Posts k tries a old new
+    → accepted (own old.number new.seen) ≡ accepted (own old.number old.seen) ++ pushed_number k a
+posted_accepted k tries (posted.Queued is_first is_waking) old new told = accepted_on (Push old.number k ∷ []) 0 old new told.0
+posted_accepted k tries posted.Closed old new told = accepted_on (Back old.number k why.Closed ∷ []) 0 old new told
+posted_accepted k tries posted.Draining old new told = accepted_on [] 0 old new told.0
+posted_accepted k tries posted.Contended old new told = accepted_on [] tries old new told
+
+pub chained_accepted : (k : ℕ) (a : Answer) (old new : Known) → Chains k a old new
+    → accepted (own old.number new.seen) ≡ accepted (own old.number old.seen) ++ queued_number k a
+chained_accepted k (Queued is_first is_waking) old new told = accepted_on (Chain k ∷ []) 0 old new told.2
+chained_accepted k Pending old new told = accepted_on (ChainBusy k ∷ []) 0 old new told
+chained_accepted k Closed old new told = absurd told
+chained_accepted k Draining old new told = absurd told
+chained_accepted k Contended old new told = absurd told

@@ -1,5 +1,5 @@
 -- What a sender sees, step after step and call after call.
-use Rattle.wq_live.proofs.Common.{◌≡◌, ℕ, ◌+◌, ◌≤◌, Bool, true, false, ◌==◌, List, [], ◌∷◌, ◌++◌, sym, refl, ap, ◌∙◌, subst, arith, append_assoc}
+use Rattle.wq_live.proofs.Common.{◌≡◌, ℕ, ◌+◌, ◌<◌, ◌≤◌, Bool, true, false, ◌==◌, List, [], ◌∷◌, ◌++◌, sym, refl, ap, ◌∙◌, subst, arith, append_assoc}
 use Rattle.wq_live.proofs.Common.{eq-eqb, IsTrue, false≢true, Machine, IsSound, IsPartOf, see, Standing, seeing, Layout, Event, Hold, Push, Holds}
 use Rattle.wq_live.proofs.Common.{IsLegal, legal_front, kept, Grows, own-append, IsPushed, TestsAndSets, IsSender, Known, IsSame, Sees, sender_counts}
 use Rattle.wq_live.proofs.Common.{sender_view, Sends}
@@ -22,6 +22,7 @@ pub sends_tells : (s t : Inside) (xs : List Event) (n : ℕ) → Sends s → t.l
 sends_tells s t xs n sends layout number told stage counts = record {
   layout_is = told.layout_is ∙ (sends.layout_is ∙ sym layout);
   number_is = told.seat_is ∙ (sends.number_is ∙ sym number);
+  low = omega (arith, sends.low, number, ap (λ (l : Layout). l.senders) layout);
   stage = stage;
   legal = subst (λ (l : Layout). IsLegal l t.chair.part.seen) (sends.layout_is ∙ sym layout) told.legal;
   counts_are = counts ∙ ap (λ (c : ℕ). sender_counts c t.chair.part.seen) (sym number);
@@ -35,6 +36,10 @@ sees_tells s t now xs n view sends layout number queue told = subst (λ (v : Kno
   grows = grows_tells s t xs n sends told;
   legal = subst (λ (l : Layout). IsLegal l t.chair.part.seen) (sends.layout_is ∙ sym layout) told.legal;
 }
+
+-- it is one of the senders
+pub sender_low : (s : Inside) (now : Known) → sender_view s ≡ now → Sends s → now.number < now.layout.senders
+sender_low s now view sends = subst (λ (v : Known). v.number < v.layout.senders) view sends.low
 
 -- what the sender of this view holds its chair's seat holds
 pub holds_view : (s : Inside) (now : Known) (k : ℕ) → sender_view s ≡ now → Sends s → Holds now.seen now.number k

@@ -1,5 +1,5 @@
 -- A sender's and an owner's fields, as a clause sees them.
-use Rattle.std.specs.Prelude.{◌≡◌, ℕ, if◌then◌else◌, List, [], ◌∷◌, ◌++◌, Option, Some, None}
+use Rattle.std.specs.Prelude.{◌≡◌, ℕ, ◌<◌, if◌then◌else◌, List, [], ◌∷◌, ◌++◌, Option, Some, None}
 use Rattle.wq_words.specs.History.{closed, shut, running}
 use Rattle.wq_words.specs.declared.event.Event.{Event}
 use Rattle.wq_words.specs.declared.layout.Layout.{Layout}
@@ -45,10 +45,11 @@ sending_in at it sent = sending at (standing_of it) sent
 abbrev pub sender_view : Sending → Known
 sender_view s = record { queue = s.chair.queue; layout = s.layout; number = s.number; seen = s.chair.part.seen }
 
--- the part is a sender's, and what is kept beside it is of what it has seen
+-- the part is a sender's, one of its queue's, and what is kept beside it is of what it has seen
 pub record Sends (s : Sending) : Type 0 where
   pub layout_is : s.chair.part.layout ≡ s.layout
   pub number_is : s.chair.part.seat ≡ s.number
+  pub low : s.number < s.layout.senders
   pub stage : IsSender s.chair.part.stage
   pub legal : IsLegal s.layout s.chair.part.seen
   pub counts_are : s.counts ≡ sender_counts s.number s.chair.part.seen

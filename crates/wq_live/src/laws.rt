@@ -1,23 +1,59 @@
 //! What follows from what the calls of a queue say, in the form in which a caller needs it. These functions compute nothing:
 //! each one's contract is a law, which a caller has in hand after the call.
-ghost use Rattle.std.specs.Prelude.{◌≡◌, ◌≢◌, ℕ, Bool, [], ◌∷◌, ◌++◌};
+ghost use Rattle.std.specs.Prelude.{◌≡◌, ◌≢◌, ℕ, Bool, List, [], ◌∷◌, ◌++◌};
 ghost use Rattle.wq_words.specs.declared.answer.Answer.{Answer};
 ghost use Rattle.wq_words.specs.declared.answer.Posted.{Posted};
 ghost use Rattle.wq_words.specs.declared.event.Event.TheVariants.{Back};
 ghost use Rattle.wq_words.specs.declared.event.Why.{Why};
-ghost use Rattle.wq_words.specs.History.{accepted, Holds};
-ghost use Rattle.wq_words.specs.Seen.{own};
+ghost use Rattle.wq_words.specs.declared.event.Event.{Event};
+ghost use Rattle.wq_words.specs.History.{accepted, begun, ended, running, Holds, IsShut};
+ghost use Rattle.wq_words.specs.Seen.{own, owner_seat};
 ghost use Rattle.wq_live.specs.Known.{Known, Sees};
-ghost use Rattle.wq_live.specs.Answers.{TestsAndSets, Answers, Posts};
-ghost use Rattle.wq_live.specs.Laws.{queued_number};
+ghost use Rattle.wq_live.specs.Answers.{TestsAndSets, Answers, Posts, Chains};
+ghost use Rattle.wq_live.specs.Laws.{queued_number, pushed_number, IsStillEnd, IsStillOwned};
 ghost use Rattle.wq_live.specs.declared.value_answer.ValueAnswer.{ValueAnswer};
-ghost use Rattle.wq_live.specs.KnownWith.{KnownWith, Learnt, answer_of, BringsOrReturns};
+ghost use Rattle.wq_live.specs.KnownWith.{KnownWith, Learnt, answer_of, BringsOrReturns, ChainsOrReturns};
 ghost use Rattle.wq_live.specs.OwnBrought.{own_brought, queued_value};
 
 /// A queueing that is answered Queued adds its number to what was accepted of its sender; any other answer adds nothing.
 pub fn queued_is_accepted()
     ensures grows { (k tries : ℕ) (a : Answer) (old new : Known) → Answers k tries a old new
         → accepted (own old.number new.seen) ≡ accepted (own old.number old.seen) ++ queued_number k a }
+{}
+
+/// A push that is answered Queued adds its number to what was accepted of its sender; any other answer adds nothing.
+pub fn posted_is_accepted()
+    ensures grows { (k tries : ℕ) (a : Posted) (old new : Known) → Posts k tries a old new
+        → accepted (own old.number new.seen) ≡ accepted (own old.number old.seen) ++ pushed_number k a }
+{}
+
+/// A chaining that is answered Queued adds its number to what was accepted of the owner; any other answer adds nothing.
+pub fn chained_is_accepted()
+    ensures grows { (k : ℕ) (a : Answer) (old new : Known) → Chains k a old new
+        → accepted (own old.number new.seen) ≡ accepted (own old.number old.seen) ++ queued_number k a }
+{}
+
+/// A seat's own events are, after a call, those that it had made and behind them those that the call says.
+pub fn own_events_grow()
+    ensures grows { (n : ℕ) (xs : List Event) (old new : Known) → Sees xs n old new → own old.number new.seen ≡ own old.number old.seen ++ xs }
+{}
+
+/// Nobody but its owner begins or ends what a queue executes: in what the owner sees, what began and what ended grows by its own
+/// events alone, and where none of these begins or ends an execution the same number runs, or none.
+pub fn executions_grow()
+    ensures begun { (n : ℕ) (xs : List Event) (old new : Known) → old.number ≡ owner_seat → Sees xs n old new
+        → begun new.seen ≡ begun old.seen ++ begun xs }
+    ensures ended { (n : ℕ) (xs : List Event) (old new : Known) → old.number ≡ owner_seat → Sees xs n old new
+        → ended new.seen ≡ ended old.seen ++ ended xs }
+    ensures running { (n : ℕ) (xs : List Event) (old new : Known) → old.number ≡ owner_seat → Sees xs n old new → begun xs ≡ [] → ended xs ≡ []
+        → running new.seen ≡ running old.seen }
+{}
+
+/// Where an owner sees more and makes no event, as at a meeting or where the sender in its seat queues, its batch, the number that
+/// runs and whether the queue takes pushes are as they were. Where it takes none, nothing more was accepted either.
+pub fn owner_stays()
+    ensures owned { (n : ℕ) (old new : Known) → old.number ≡ owner_seat → Sees [] n old new → IsStillOwned old.seen new.seen }
+    ensures shut { (n : ℕ) (old new : Known) → old.number ≡ owner_seat → Sees [] n old new → IsShut old.seen → IsStillEnd old.seen new.seen }
 {}
 
 /// Where a seat sees more and makes no event, as at a meeting, its own events are those that it had made.
@@ -46,8 +82,22 @@ pub fn queued_brings<V>()
         → own_brought old.known.number new.known.seen new.brought ≡ own_brought old.known.number old.known.seen old.brought ++ queued_value v a }
 {}
 
+/// A chaining of an item with a value that is answered Queued adds that value to what the owner's own chainings brought; any other
+/// answer adds nothing.
+pub fn chained_brings<V>()
+    ensures grows { (k : ℕ) (v : V) (a : ValueAnswer V) (old new : KnownWith V) → old.known.number ≡ owner_seat
+        → Chains k (answer_of a) old.known new.known → ChainsOrReturns k v a new → Learnt old new
+        → own_brought old.known.number new.known.seen new.brought ≡ own_brought old.known.number old.known.seen old.brought ++ queued_value v a }
+{}
+
 /// Where a seat sees more and makes no event, as at a meeting, its own queueings brought what they had brought.
 pub fn own_values_stay<V>()
     ensures same { (n : ℕ) (old new : KnownWith V) → Sees [] n old.known new.known → Learnt old new
         → own_brought old.known.number new.known.seen new.brought ≡ own_brought old.known.number old.known.seen old.brought }
+{}
+
+/// Where the owner of a queue that takes no push sees more and makes no event, nothing more was brought.
+pub fn owner_values_stay<V>()
+    ensures same { (n : ℕ) (old new : KnownWith V) → old.known.number ≡ owner_seat → Sees [] n old.known new.known → IsShut old.known.seen
+        → Learnt old new → new.brought ≡ old.brought }
 {}

@@ -22,7 +22,11 @@ mod valued;
 
 pub use answer::Done;
 pub use counts::{OwnerCounts, SenderCounts};
-pub use laws::{held_stays, own_events_stay, own_values_stay, queued_brings, queued_is_accepted};
+pub use laws::{
+    chained_brings, chained_is_accepted, executions_grow, held_stays, own_events_grow,
+    own_events_stay, own_values_stay, owner_stays, owner_values_stay, posted_is_accepted,
+    queued_brings, queued_is_accepted,
+};
 pub use making::{BuildError, build, build_values};
 pub use owner::Owner;
 pub use pair::Pair;

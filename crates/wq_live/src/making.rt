@@ -112,7 +112,9 @@ pub fn build_values<V: Drop>(
     ensures one { IfOk result (λ r. All (λ s. s.known.queue ≡ r.0.known.queue) r.1.items) }
     ensures layouts { IfOk result (λ r. (r.0.known.layout ≡ layout) × All (λ s. s.known.layout ≡ layout) r.1.items) }
     ensures count { IfOk result (λ r. length r.1.items ≡ layout.senders) }
+    ensures numbers { IfOk result (λ r. AreNumbered (map (λ s. s.known) r.1.items)) }
     ensures unseen { IfOk result (λ r. (r.0.known.seen ≡ []) × All (λ s. s.known.seen ≡ []) r.1.items) }
+    ensures free { IfOk result (λ r. All (λ s. (k : ℕ) → ¬ Holds s.known.seen s.known.number k) r.1.items) }
 {
     let slots = layout.number_count() as usize;
     let (chair, seats) = chairs(alloc, layout, slots)?;

@@ -6,6 +6,7 @@ ghost use Rattle.wq_words.specs.Numbers.{number_count};
 ghost use Rattle.wq_words.specs.History.{IsClosed, IsShut, IsDraining, closed, IsRunning, running, ended, accepted, begun};
 ghost use Rattle.wq_words.specs.Legal.{IsLegal, IsComplete, HasRunOut};
 ghost use Rattle.wq_words.specs.Headline.{KeepsHeadline};
+ghost use Rattle.wq_words.specs.Seen.{owner_seat};
 ghost use Rattle.wq_live.specs.Known.{IsSame, Sees};
 ghost use Rattle.wq_live.specs.Answers.{Chains, IsFinal};
 ghost use Rattle.wq_live.specs.Batch.{batch, next_of, TakesAll};
@@ -55,6 +56,7 @@ impl Owner {
     pub fn legal(&self)
         ensures legal { IsLegal self.now.layout self.now.seen }
         ensures headline { KeepsHeadline self.now.seen }
+        ensures seat { self.now.number ≡ owner_seat }
     {
         // opens the seat, whose invariant says this
         let _ = &self.seat.counts;

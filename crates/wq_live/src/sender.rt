@@ -70,6 +70,7 @@ impl Sender {
     pub fn legal(&self)
         ensures legal { IsLegal self.now.layout self.now.seen }
         ensures headline { KeepsHeadline self.now.seen }
+        ensures low { self.now.number < self.now.layout.senders }
     {
         // opens the seat, whose invariant says this
         let _ = &self.sent.counts;

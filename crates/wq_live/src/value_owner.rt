@@ -6,6 +6,7 @@ ghost use Rattle.wq_words.specs.Numbers.{number_count};
 ghost use Rattle.wq_words.specs.History.{IsClosed, IsShut, IsDraining, closed, IsRunning, running, ended, accepted, begun};
 ghost use Rattle.wq_words.specs.Legal.{IsLegal, IsComplete, HasRunOut};
 ghost use Rattle.wq_words.specs.Headline.{KeepsHeadline};
+ghost use Rattle.wq_words.specs.Seen.{owner_seat};
 ghost use Rattle.wq_words.specs.Valued.{Carries, IsLegalWith, with_values};
 ghost use Rattle.wq_live.specs.Known.{IsSame, Sees};
 ghost use Rattle.wq_live.specs.Answers.{Chains, IsFinal};
@@ -14,7 +15,7 @@ ghost use Rattle.wq_live.specs.Rest.{Rests, HasRested, MayNotRest};
 ghost use Rattle.wq_words.specs.Counting.{capped};
 ghost use Rattle.wq_live.specs.Counts.{owner_counts};
 ghost use Rattle.wq_live.specs.Laws.{queued_number};
-ghost use Rattle.wq_live.specs.KnownWith.{Learnt, handed_in, answer_of, ChainsOrReturns};
+ghost use Rattle.wq_live.specs.KnownWith.{Learnt, handed_in, answer_of, ChainsOrReturns, MatchesAccepted};
 
 use crate::answer::Done;
 use crate::counts::OwnerCounts;
@@ -60,6 +61,8 @@ impl<V: Drop> ValueOwner<V> {
         ensures legal { IsLegal self.now.known.layout self.now.known.seen }
         ensures headline { KeepsHeadline self.now.known.seen }
         ensures values { IsLegalWith self.now.known.layout (with_values self.now.known.seen self.now.brought) }
+        ensures matches { MatchesAccepted self.now }
+        ensures seat { self.now.known.number ≡ owner_seat }
     {
         // opens the seat, whose invariant says this
         let _ = &self.seat.counts;

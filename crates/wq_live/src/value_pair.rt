@@ -14,7 +14,7 @@ ghost use Rattle.wq_live.specs.Batch.{batch, next_of, TakesAll};
 ghost use Rattle.wq_live.specs.Counts.{owner_counts, sender_counts};
 ghost use Rattle.wq_live.specs.Rest.{Rests, HasRested, MayNotRest};
 ghost use Rattle.wq_live.specs.Laws.{queued_number};
-ghost use Rattle.wq_live.specs.KnownWith.{Learnt, handed_in, answer_of, BringsOrReturns, ChainsOrReturns};
+ghost use Rattle.wq_live.specs.KnownWith.{Learnt, handed_in, answer_of, BringsOrReturns, ChainsOrReturns, MatchesAccepted};
 ghost use Rattle.wq_live.specs.Pairs.{pair_owner, pair_sender};
 ghost use Rattle.wq_live.specs.ValuePairs.{owner_of, sender_of};
 
@@ -122,6 +122,8 @@ impl<V: Drop> ValuePair<V> {
         ensures legal { IsLegal self.now.known.layout self.now.known.seen }
         ensures headline { KeepsHeadline self.now.known.seen }
         ensures values { IsLegalWith self.now.known.layout (with_values self.now.known.seen self.now.brought) }
+        ensures matches { MatchesAccepted (owner_of self.now) }
+        ensures low { self.now.known.number < self.now.known.layout.senders }
     {
         // opens the seat, whose invariant says this
         let _ = &self.sent;

@@ -9,7 +9,7 @@ ghost use Rattle.wq_words.specs.Seen.{owner_seat};
 ghost use Rattle.wq_words.specs.declared.answer.Answer.TheVariants.{Queued, Contended};
 ghost use Rattle.wq_live.specs.Known.{IsSame, Sees};
 ghost use Rattle.wq_live.specs.Answers.{Answers, IsContended, HasFlushed};
-ghost use Rattle.wq_live.specs.KnownWith.{Learnt, handed_in, answer_of, BringsOrReturns, BringsNothing};
+ghost use Rattle.wq_live.specs.KnownWith.{Learnt, handed_in, answer_of, BringsOrReturns, BringsNothing, MatchesAccepted};
 ghost use Rattle.wq_live.specs.Counts.{sender_counts};
 ghost use Rattle.wq_live.specs.Laws.{IsStillEnd};
 
@@ -74,6 +74,8 @@ impl<V: Drop> ValueSender<V> {
         ensures legal { IsLegal self.now.known.layout self.now.known.seen }
         ensures headline { KeepsHeadline self.now.known.seen }
         ensures values { IsLegalWith self.now.known.layout (with_values self.now.known.seen self.now.brought) }
+        ensures matches { MatchesAccepted self.now }
+        ensures low { self.now.known.number < self.now.known.layout.senders }
     {
         // opens the seat, whose invariant says this
         let _ = &self.sent.counts;

@@ -3,12 +3,12 @@ ghost use Rattle.std.specs.Prelude.{◌≡◌, ◌↔◌, ℕ, ◌+◌, ◌<◌,
 ghost use Rattle.std.specs.Fn.{FnOnceTakesAtMut, FnOnceReturnsAtMut};
 ghost use mathlib.Core.List.{IsPrefix};
 ghost use Rattle.wq_words.specs.declared.event.Event.TheVariants.{Close};
-ghost use Rattle.wq_words.specs.History.{accepted, begun, closed, running, IsRunning, IsClosed, IsShut, IsDraining};
+ghost use Rattle.wq_words.specs.History.{accepted, begun, closed, running, Holds, IsRunning, IsClosed, IsShut, IsDraining};
 ghost use Rattle.wq_words.specs.Legal.{IsLegal, IsComplete};
 ghost use Rattle.wq_words.specs.Headline.{KeepsHeadline};
 ghost use Rattle.wq_words.specs.Seen.{owner_seat, Grows};
 ghost use Rattle.wq_words.specs.Valued.{IsLegalWith, with_values};
-ghost use Rattle.wq_live.specs.Known.{Sees, new_senders};
+ghost use Rattle.wq_live.specs.Known.{Sees, new_senders, AreNumbered};
 ghost use Rattle.wq_live.specs.KnownWith.{Learnt, MatchesAccepted, knowing_nothing};
 ghost use Rattle.wq_live.specs.Batch.{TakesAll};
 ghost use Rattle.wq_live.specs.Rest.{HasRested, MayNotRest};
@@ -129,6 +129,10 @@ impl<V: Drop, W: ValueWork<V>> ValueWorker<V, W> {
         ensures layouts { IfOk result (λ r. All (λ s. s.known.layout ≡ layout) r.1.items) }
         ensures count { IfOk result (λ r. length r.1.items + 1 ≡ layout.senders) }
         ensures last { IfOk result (λ r. r.0.worker.number ≡ length r.1.items) }
+        ensures numbers { IfOk result (λ r. AreNumbered (map (λ s. s.known) r.1.items)) }
+        ensures unseen { IfOk result (λ r. All (λ s. s.known.seen ≡ []) r.1.items) }
+        ensures free { IfOk result (λ r. All (λ s. (k : ℕ) → ¬ Holds s.known.seen s.known.number k) r.1.items) }
+        ensures unqueued { IfOk result (λ r. r.0.unqueued ≡ []) }
         ensures idle { IfOk result (λ r. ¬ IsRunning r.0.worker.seen) }
         ensures open { IfOk result (λ r. ¬ IsShut r.0.worker.seen) }
         ensures refused { IfErr result (λ e. e.work ≡ work) }

@@ -4,7 +4,7 @@ use Rattle.std.proofs.Common.{Result, Ok, Err}
 use Rattle.std.specs.Result.{is_ok, is_err}
 use Rattle.std.proofs.lemmas.Iterator.Adapters.{YieldsList-from_vec}
 use Rattle.std.proofs.lemmas.Iterator.Consumers.{YieldsList-turn, YieldsList-end}
-use Rattle.wq_live.proofs.Built.{chair_at, sender_of_values, with_new, values-more, length-value_senders}
+use Rattle.wq_live.proofs.Built.{chair_at, chair_low, sender_of_values, with_new, values-more, length-value_senders}
 use Rattle.wq_live.proofs.making.seat_value_senders.Goals as goal
 
 not_err : {T E : Type 0} (r : Result T E) → is_err r ≡ false → is_ok r ≡ true
@@ -19,7 +19,9 @@ invariant_of-sender g c = let h = c.into_iter-chair-iterator.ensures.into_iter_g
     let q = c.requires.seats.0 in
     let is = chair_at q c.args.layout c.args.layout.senders c.args.seats.items
     (length c.loop-chair.yielded) c.loop-chair.number c.in-Some.chair c.requires.seats.2 c.loop-chair.invariant.0 turn in
-    sender_of_values q c.args.layout c.loop-chair.number c.in-Some.chair c.new.result is c.new.ensures c.requires.seats.1
+    sender_of_values q c.args.layout c.loop-chair.number c.in-Some.chair c.new.result is c.new.ensures
+    (chair_low q c.args.layout c.args.seats.items (length c.loop-chair.yielded) c.loop-chair.number c.in-Some.chair c.requires.seats.2
+    c.loop-chair.invariant.0 turn) c.requires.seats.1
 
 pub overflow_add-number : goal.overflow_add-number
 overflow_add-number g c = let h = c.into_iter-chair-iterator.ensures.into_iter_gives in

@@ -1,4 +1,4 @@
-use Rattle.wq_live.proofs.Common.{subst, Layout, IsLegal, KeepsHeadline, keeps_headline, Known}
+use Rattle.wq_live.proofs.Common.{sym, ap, subst, Layout, IsLegal, KeepsHeadline, keeps_headline, Known}
 use Rattle.wq_live.proofs.OwnerTells.{stands_legal}
 use Rattle.wq_live.proofs.owner.Owner.legal.Goals as goal
 
@@ -10,3 +10,6 @@ returns-clause-legal c = let s = c.self.inside.seat in let o = c.self.invariant.
 pub returns-clause-headline : goal.returns-clause-headline
 returns-clause-headline c = let p = c.self.inside.seat.chair.first.part in
     subst (λ (v : Known). KeepsHeadline v.seen) c.self.view_is (keeps_headline p.layout p.seen (stands_legal p c.self.invariant.owns.queue.stands))
+
+pub returns-clause-seat : goal.returns-clause-seat
+returns-clause-seat c = sym (ap (λ (v : Known). v.number) c.self.view_is)

@@ -1,4 +1,4 @@
-use Rattle.wq_live.proofs.Common.{subst, Layout, IsLegal, KeepsHeadline, keeps_headline, KnownPair}
+use Rattle.wq_live.proofs.Common.{◌<◌, subst, Layout, IsLegal, KeepsHeadline, keeps_headline, KnownPair}
 use Rattle.wq_live.proofs.OwnerTells.{stands_legal}
 use Rattle.wq_live.proofs.pair.Pair.legal.Goals as goal
 
@@ -10,3 +10,8 @@ returns-clause-legal c = let s = c.self.inside.seat in let o = c.self.invariant.
 pub returns-clause-headline : goal.returns-clause-headline
 returns-clause-headline c = let p = c.self.inside.seat.chair.first.part in
     subst (λ (v : KnownPair). KeepsHeadline v.seen) c.self.view_is (keeps_headline p.layout p.seen (stands_legal p c.self.invariant.seated.owns.queue.stands))
+
+pub returns-clause-low : goal.returns-clause-low
+returns-clause-low c = let seated = c.self.invariant.seated in
+    subst (λ (v : KnownPair). v.number < v.layout.senders) c.self.view_is
+    (subst (λ (l : Layout). c.self.inside.sent.number < l.senders) seated.one_layout seated.sends.low)

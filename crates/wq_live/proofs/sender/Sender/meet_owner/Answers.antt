@@ -1,7 +1,8 @@
 use Rattle.wq_live.proofs.Common.{[], ap, sym, ◌∙◌, ValueStanding, Bare, sending_in, owning, Known}
 use Rattle.wq_live.proofs.SenderAlone.{sender_met, sender_met_sees, owner_met, owner_met_sees}
 use Rattle.wq_live.proofs.Resting.{complete_stays}
-use Rattle.wq_live.proofs.Meeting.{meet_owner_layout, meet_low}
+use Rattle.wq_live.proofs.Sends.{sender_low}
+use Rattle.wq_live.proofs.Meeting.{meet_owner_layout}
 use Rattle.wq_live.proofs.sender.Sender.meet_owner.Goals as goal
 
 pub meet-requires-clause-empty : goal.meet-requires-clause-empty
@@ -34,8 +35,7 @@ returns-clause-layout c = let e = c.meet.ensures.met in
     e.this_fits.fits e.that_fits.fits c.self.view_is c.owner.view_is c.self.invariant.sends c.owner.invariant.owns.queue
 
 pub returns-clause-number : goal.returns-clause-number
-returns-clause-number c = let e = c.meet.ensures.met in
-    meet_low (sending_in 0 c.self.inside.chair c.self.inside.sent) c.args.self.now e.machine e.this_fits.fits c.self.view_is c.self.invariant.sends
+returns-clause-number c = sender_low (sending_in 0 c.self.inside.chair c.self.inside.sent) c.args.self.now c.self.view_is c.self.invariant.sends
 
 pub returns-clause-seat : goal.returns-clause-seat
 returns-clause-seat c = sym (ap (λ (v : Known). v.number) c.owner.view_is)

@@ -1,4 +1,5 @@
-use Rattle.wq_live.proofs.Common.{subst, Layout, IsLegal, KeepsHeadline, keeps_headline, KnownWith, IsLegalWith, with_values}
+use Rattle.wq_live.proofs.Common.{sym, ap, subst, Layout, IsLegal, KeepsHeadline, keeps_headline, KnownWith, IsLegalWith, with_values}
+use Rattle.wq_live.specs.KnownWith.{MatchesAccepted}
 use Rattle.wq_live.proofs.OwnerTells.{stands_legal}
 use Rattle.wq_live.proofs.HandedOver.{whole_legal}
 use Rattle.wq_live.proofs.value_owner.ValueOwner.legal.Goals as goal
@@ -18,3 +19,9 @@ returns-clause-values g c = let s = c.self.inside.seat in let o = c.self.invaria
     subst (λ (v : KnownWith g.row.V.Denot). IsLegalWith v.known.layout (with_values v.known.seen v.brought)) c.self.view_is
     (whole_legal s.chair.first.part s.layout s.chair.first.brought o.layout_is
     (subst (λ (l : Layout). IsLegal l s.chair.first.part.seen) o.layout_is (stands_legal s.chair.first.part o.stands)) c.self.invariant.known)
+
+pub returns-clause-seat : goal.returns-clause-seat
+returns-clause-seat g c = sym (ap (λ (v : KnownWith g.row.V.Denot). v.known.number) c.self.view_is)
+
+pub returns-clause-matches : goal.returns-clause-matches
+returns-clause-matches g c = subst (λ (v : KnownWith g.row.V.Denot). MatchesAccepted v) c.self.view_is c.self.invariant.known.as_many

@@ -1,4 +1,5 @@
-use Rattle.wq_live.proofs.Common.{subst, IsLegal, KeepsHeadline, keeps_headline, KnownWith, sending_in, IsLegalWith, with_values}
+use Rattle.wq_live.proofs.Common.{◌<◌, subst, IsLegal, KeepsHeadline, keeps_headline, KnownWith, sending_in, IsLegalWith, with_values}
+use Rattle.wq_live.specs.KnownWith.{MatchesAccepted}
 use Rattle.wq_live.proofs.HandedOver.{whole_legal}
 use Rattle.wq_live.proofs.value_sender.ValueSender.legal.Goals as goal
 
@@ -13,3 +14,9 @@ pub returns-clause-values : goal.returns-clause-values
 returns-clause-values g c = let it = c.self.inside.chair in let o = c.self.invariant.sends in
     subst (λ (v : KnownWith g.row.V.Denot). IsLegalWith v.known.layout (with_values v.known.seen v.brought)) c.self.view_is
     (whole_legal it.first.part c.self.inside.sent.layout it.first.brought o.layout_is o.legal c.self.invariant.known)
+
+pub returns-clause-matches : goal.returns-clause-matches
+returns-clause-matches g c = subst (λ (v : KnownWith g.row.V.Denot). MatchesAccepted v) c.self.view_is c.self.invariant.known.as_many
+
+pub returns-clause-low : goal.returns-clause-low
+returns-clause-low g c = subst (λ (v : KnownWith g.row.V.Denot). v.known.number < v.known.layout.senders) c.self.view_is c.self.invariant.sends.low

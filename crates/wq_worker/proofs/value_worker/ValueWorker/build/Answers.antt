@@ -1,8 +1,11 @@
-use Rattle.wq_worker.proofs.Common.{◌≡◌, [], sym, ap, ◌∙◌, subst, begun, new_senders}
+use Rattle.wq_worker.proofs.Common.{◌≡◌, ℕ, [], ◌∷◌, sym, ap, ◌∙◌, subst, begun, new_senders}
 use Rattle.std.proofs.Common.{map}
+use Rattle.std.proofs.lemmas.List.{map-append}
+use Rattle.wq_words.specs.History.{Holds}
+use Rattle.wq_live.specs.Known.{AreNumbered}
 use Rattle.std.specs.Prelude.{All}
 use Rattle.wq_live.specs.KnownWith.{KnownWith, knowing_nothing}
-use Rattle.wq_live.proofs.Seated.{all_front, all_last}
+use Rattle.wq_live.proofs.Seated.{all_front, all_last, numbered_front}
 use Rattle.wq_worker.proofs.Joined.{made_new, made_open, values_less}
 use Rattle.wq_worker.proofs.value_worker.ValueWorker.build.Goals as goal
 
@@ -41,6 +44,19 @@ returns-in-Some-clause-last g c = let l = c.args.layout in
     let last = values_less c.in-Ok.owner.known.queue l l.senders c.in-Ok.senders.items c.pop.new.self.items c.in-Some.sender c.in-Ok.ensures.made.1
     c.in-Some.ensures.items in
     c.new.ensures.parts.2 ∙ ap (λ (k : KnownWith g.row.V.Denot). k.known.number) last.1
+
+pub returns-in-Some-clause-numbers : goal.returns-in-Some-clause-numbers
+returns-in-Some-clause-numbers g c =
+    let xs = c.pop.new.self.items in let s = c.in-Some.sender in let f = λ (k : KnownWith g.row.V.Denot). k.known in
+    (numbered_front (map f xs) s.known (subst AreNumbered (ap (map f) c.in-Some.ensures.items ∙ map-append f xs (s ∷ [])) c.in-Ok.ensures.numbers)).0
+
+pub returns-in-Some-clause-unseen : goal.returns-in-Some-clause-unseen
+returns-in-Some-clause-unseen g c = let P = λ (k : KnownWith g.row.V.Denot). k.known.seen ≡ [] in
+    all_front P c.pop.new.self.items c.in-Some.sender (subst (All P) c.in-Some.ensures.items c.in-Ok.ensures.unseen.1)
+
+pub returns-in-Some-clause-free : goal.returns-in-Some-clause-free
+returns-in-Some-clause-free g c = let P = λ (s : KnownWith g.row.V.Denot). (k : ℕ) → ¬ Holds s.known.seen s.known.number k in
+    all_front P c.pop.new.self.items c.in-Some.sender (subst (All P) c.in-Some.ensures.items c.in-Ok.ensures.free)
 
 pub returns-in-Some-clause-open : goal.returns-in-Some-clause-open
 returns-in-Some-clause-open g c = made_open c.in-Ok.owner.known.seen c.new.result.worker.seen c.in-Ok.ensures.unseen.0 c.new.ensures.open
