@@ -5,6 +5,7 @@ pub mod Standing
 pub mod Following
 pub mod Shown
 pub mod Unshown
+pub mod ItemPart
 pub mod Looking
 pub mod FollowingMarks
 pub mod Counted

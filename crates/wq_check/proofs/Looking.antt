@@ -19,7 +19,7 @@ use Rattle.wq_words.proofs.Times.{Contains_from_times, none_from_times}
 use Rattle.wq_check.proofs.Waits.{few_unbegun}
 use Rattle.wq_check.proofs.Lists.{first_left, drop_some}
 use Rattle.wq_check.proofs.Shown.{trace_history}
-use Rattle.wq_check.proofs.Unshown.{Shown, shown, fewer}
+use Rattle.wq_check.proofs.Unshown.{Shown, history_shown, fewer}
 
 next_waits : (t : List Mark) (k : ℕ) → next_start t ≡ Some k → Contains (unstarted t) k
 next_waits t k is =
@@ -59,7 +59,7 @@ pub record Sizes (layout : Layout) (t : List Mark) : Type 0 where
 sizes : (layout : Layout) (t : List Mark) → IsLegalTrace layout t → Sizes layout t
 sizes layout t legal =
     let has = trace_history layout t legal in
-    let o = shown layout t has.0 has.2 has.1 in
+    let o = history_shown layout t has in
     let i = in_order layout has.0 has.1 in
     let all : length (begun has.0) ≡ length (started t) + length o.early = ap length o.started_is ∙ length-append (started t) o.early in
     let back = ap length o.returned_is in

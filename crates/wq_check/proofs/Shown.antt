@@ -6,13 +6,15 @@ use Rattle.wq_check.proofs.Common.{Sender, Listed, Owner, keeper, growing, count
 use Rattle.wq_check.proofs.Common.{queue_bit, kept, Mark, Queue, Start, End, queued, started, returned, unseen, MayShow, number_of, IsLegalTrace}
 use Rattle.wq_check.proofs.Common.{surely_unbegun, times, times-cons}
 use Rattle.std.proofs.Common.{append_assoc, count_by}
+use Rattle.std.proofs.lemmas.Bool.{lt-ltb}
+use Rattle.std.proofs.lemmas.List.Elements.{filter-append}
 use Rattle.wq_words.specs.declared.event.Event.TheVariants as event
 use Rattle.wq_words.specs.History.{next, shut, starts_hold, stops_hold, IsPending, Holds, IsShut}
 use Rattle.wq_words.proofs.Legal.{legal_nil, legal_push}
 use Rattle.wq_words.proofs.Closed.{shut_quiet, open_from_shut}
 use Rattle.wq_words.proofs.Places.{keeps_from_keeper}
 use Rattle.wq_words.proofs.Appended.{count_by-append}
-use Rattle.wq_check.specs.Shows.{Shows, nothing, hides, queues, begins, starts, ends, ShowsLegalHistory}
+use Rattle.wq_check.specs.Shows.{Shows, nothing, hides, queues, begins, starts, ends, ShowsLegalHistory, is_of_items, item_part, ShowsItemsOfLegalHistory}
 use Rattle.wq_check.proofs.Waits.{waits_bit}
 use Rattle.wq_words.proofs.Times.{times_from_none}
 
@@ -28,6 +30,7 @@ pub record Tells (layout : Layout) (t : List Mark) (h : List Event) : Type 0 whe
   pub idle : 0 < length early → length (started t) ≡ length (returned t)
   pub free : (s k : ℕ) → ¬ Holds h s k
   pub opens : shut h ≡ false
+  pub items : item_part layout h ≡ h
 
 module _ (layout : Layout) (h : List Event) (legal : IsLegal layout h) (k : ℕ) where
   by_keeper : (x : Keeper) → keeper h k ≡ x → ((s : ℕ) → ¬ Holds h s k) → queue_bit x ≡ 0 → ¬ IsPending h k
@@ -51,6 +54,10 @@ free_hold : (h : List Event) (j : ℕ) → ((s k : ℕ) → ¬ Holds h s k) → 
 free_hold h j free s k holds =
     let both = event.Hold 0 j ∷ event.Push 0 j ∷ [] in
     free s k (omega (arith, holds, count_by-append (starts_hold s k) h both, count_by-append (stops_hold s k) h both))
+
+-- an event of an item comes to the part of items
+part_push : (layout : Layout) (h : List Event) (e : Event) → is_of_items layout e ≡ true → item_part layout h ≡ h → item_part layout (h ++ e ∷ []) ≡ h ++ e ∷ []
+part_push layout h e item only = filter-append (is_of_items layout) h (e ∷ []) ∙ rw item (ap (λ g. g ++ e ∷ []) only)
 
 -- what stands first of what is left, and only there
 only_first : (k n : ℕ) (xs : List ℕ) → 1 ≤ times k (drop n xs) → times k (drop (suc n) xs) ≡ 0 → slice_get xs n ≡ Some k
@@ -105,6 +112,7 @@ module _ (layout : Layout) (t : List Mark) (h : List Event) (o : Tells layout t 
             count_by_push (stops_hold s j) h (event.Begin k),
           ));
           opens = shut_quiet h (event.Begin k) refl refl refl ∙ o.opens;
+          items = part_push layout h (event.Begin k) (lt-ltb k layout.items small) o.items;
         },
         refl,
       )
@@ -133,6 +141,8 @@ module _ (layout : Layout) (t : List Mark) (h : List Event) (o : Tells layout t 
         free = free_hold h k o.free;
         opens = subst (λ g. shut g ≡ false) (append_assoc h (event.Hold 0 k ∷ []) (event.Push 0 k ∷ []))
             (shut_quiet (h ++ event.Hold 0 k ∷ []) (event.Push 0 k) refl refl refl ∙ opens');
+        items = filter-append (is_of_items layout) h (event.Hold 0 k ∷ event.Push 0 k ∷ []) ∙ rw (lt-ltb k layout.items small)
+            (ap (λ g. g ++ event.Hold 0 k ∷ event.Push 0 k ∷ []) o.items);
       }
 
   -- the start of an execution that had begun unseen
@@ -160,6 +170,7 @@ module _ (layout : Layout) (t : List Mark) (h : List Event) (o : Tells layout t 
         idle = λ some. absurd (omega arith);
         free = o.free;
         opens = o.opens;
+        items = o.items;
       }
 
   pub end_seen : (k : ℕ) → k < layout.items → slice_get (started t) (length (returned t)) ≡ Some k → Tells layout (t ++ End k ∷ []) (h ++ event.End k ∷ [])
@@ -179,6 +190,7 @@ module _ (layout : Layout) (t : List Mark) (h : List Event) (o : Tells layout t 
         idle = λ some. absurd (omega arith);
         free = λ s j holds. o.free s j (omega (arith, holds, count_by_push (starts_hold s j) h (event.End k), count_by_push (stops_hold s j) h (event.End k)));
         opens = shut_quiet h (event.End k) refl refl refl ∙ o.opens;
+        items = part_push layout h (event.End k) (lt-ltb k layout.items small) o.items;
       }
     where
       none_early : length (returned t) < length (started t) → length o.early ≡ 0
@@ -260,6 +272,7 @@ opening layout = record {
   idle = λ some. absurd (omega arith);
   free = λ s k holds. absurd (omega (arith, holds));
   opens = refl;
+  items = refl;
 }
 
 go : (layout : Layout) (seen rest : List Mark) → Next layout seen → IsLegalTrace layout (seen ++ rest) → Next layout (seen ++ rest)
@@ -269,5 +282,12 @@ go layout seen (m ∷ rest) n legal =
     let legal' : IsLegalTrace layout ((seen ++ m ∷ []) ++ rest) = subst (IsLegalTrace layout) (sym (append_assoc seen (m ∷ []) rest)) legal in
     subst (Next layout) (append_assoc seen (m ∷ []) rest) (go layout (seen ++ m ∷ []) rest (mark_more layout seen n.0 n.1 m here.0 here.1) legal')
 
-pub trace_history : (layout : Layout) (t : List Mark) → IsLegalTrace layout t → ShowsLegalHistory layout t
-trace_history layout t legal = let n = go layout [] t ([], opening layout) legal in (n.0, n.1.legal, n.1.shows)
+module _ (layout : Layout) (t : List Mark) (legal : IsLegalTrace layout t) where
+  told : Next layout t
+  told = go layout [] t ([], opening layout) legal
+
+  pub trace_history : ShowsLegalHistory layout t
+  trace_history = (told.0, told.1.legal, told.1.shows)
+
+  pub trace_items : ShowsItemsOfLegalHistory layout t
+  trace_items = (told.0, told.1.legal, subst (Shows t) (sym told.1.items) told.1.shows)

@@ -2,20 +2,29 @@
 use Rattle.wq_check.proofs.Common.{◌≡◌, ℕ, ◌+◌, ◌<◌, ◌≤◌, List, [], ◌∷◌, ◌++◌, length, drop, take, slice_get, Some, None, refl, sym, ap, ◌∙◌, arith}
 use Rattle.wq_check.proofs.Common.{inl, inr, length-append, append-nil, drop-drop, cases_lt, eq-eqb, slice_get_within, Layout, Event, accepted, begun}
 use Rattle.wq_check.proofs.Common.{ended, running, IsLegal, Home, Sender, keeper, growing, slice_get_append, slice_get_last, take_length}
-use Rattle.wq_check.proofs.Common.{prefix_length, in_order, queue_bit, Mark, Queue, Start, End, queued, started, returned, unseen, MayShow}
-use Rattle.wq_check.proofs.Common.{surely_unbegun, times, times-append}
+use Rattle.wq_check.proofs.Common.{in_order, queue_bit, Mark, Queue, Start, End, queued, started, returned, unseen, MayShow}
+use Rattle.wq_check.proofs.Common.{surely_unbegun, times, times-append, unbegun}
 use Rattle.std.proofs.lemmas.List.{take-append-drop}
 use Rattle.wq_words.specs.declared.event.Event.TheVariants as event
 use Rattle.wq_words.specs.History.{accepted_by, begun_by, ended_by}
 use Rattle.wq_words.specs.Legal.{IsAllowed}
 use Rattle.wq_words.proofs.Growing.{filter_map_push_some, filter_map_push_none, slice_get_push, take_append}
 use Rattle.wq_words.proofs.Legal.{legal_front, legal_next}
+use Rattle.wq_words.proofs.Order.{IsInOrder, idle-same}
 use Rattle.wq_words.proofs.Places.{keeper_from_keeps}
 use Rattle.wq_check.specs.Trace.{queued_by, started_by, returned_by, FollowsRules}
 use Rattle.wq_check.specs.Shows.{Shows, nothing, hides, queues, begins, starts, ends, ShowsLegalHistory}
 use Rattle.wq_words.proofs.Times.{none_from_times}
 use Rattle.wq_check.proofs.Waits.{waits_bit}
 use Rattle.wq_check.proofs.Shown.{nil_end, one_of, zero_or}
+
+-- histories in which numbers begin and end in their order, one at a time, and none is accepted while it waits
+pub record TakesTurns (P : List Event → Type 0) : Type 0 where
+  pub front : (h : List Event) (e : Event) → P (h ++ e ∷ []) → P h
+  pub ordered : (h : List Event) → P h → IsInOrder h
+  pub accepts : (h : List Event) (e : Event) (k : ℕ) → P (h ++ e ∷ []) → accepted_by e ≡ Some k → times k (unbegun h) ≡ 0
+  pub begins : (h : List Event) (k : ℕ) → P (h ++ event.Begin k ∷ []) → length (ended h) ≡ length (begun h)
+  pub ends : (h : List Event) (k : ℕ) → P (h ++ event.End k ∷ []) → running h ≡ Some k
 
 pub record Shown (t : List Mark) (h : List Event) : Type 0 where
   pub queued_is : accepted h ≡ queued t
@@ -44,36 +53,13 @@ fewer k n m xs none =
     let behind : times k (drop m (drop n xs)) ≡ times k (drop (n + m) xs) = ap (times k) (drop-drop m n xs) in
     omega arith
 
-module _ (layout : Layout) (t : List Mark) (h : List Event) (legal : IsLegal layout h) (o : Shown t h) where
-  -- what is accepted does not wait yet
-  waits_not : (e : Event) (k : ℕ) → IsAllowed layout h e → accepted_by e ≡ Some k → queue_bit (keeper h k) ≡ 0
-  waits_not (event.Push s j) k a is =
-      let same : j ≡ k = cc is in
-      let held : keeper h k ≡ Sender s = rw (← same) (keeper_from_keeps layout h legal j (Sender s) a.2.0) in
-      ap queue_bit held
-  waits_not (event.Chain j) k a is =
-      let same : j ≡ k = cc is in
-      let home : keeper h k ≡ Home = rw (← same) (keeper_from_keeps layout h legal j Home a.2.2) in
-      ap queue_bit home
-  waits_not (event.Hold s j) k a is = absurd cc
-  waits_not (event.Busy s j) k a is = absurd cc
-  waits_not (event.Back s j why) k a is = absurd cc
-  waits_not event.Take k a is = absurd cc
-  waits_not event.Close k a is = absurd cc
-  waits_not event.Drain k a is = absurd cc
-  waits_not event.Resume k a is = absurd cc
-  waits_not (event.Begin j) k a is = absurd cc
-  waits_not (event.End j) k a is = absurd cc
-  waits_not (event.ChainBusy j) k a is = absurd cc
-  waits_not event.Rest k a is = absurd cc
-
-  may_queue : (e : Event) (k : ℕ) → IsAllowed layout h e → accepted_by e ≡ Some k → MayShow t (Queue k)
-  may_queue e k a is = none_from_times k (surely_unbegun t) (not_unbegun e k a is)
+module _ (t : List Mark) (h : List Event) (i : IsInOrder h) (o : Shown t h) where
+  may_queue : (k : ℕ) → times k (unbegun h) ≡ 0 → MayShow t (Queue k)
+  may_queue k waits = none_from_times k (surely_unbegun t) not_unbegun
     where
-      not_unbegun : (e : Event) (k : ℕ) → IsAllowed layout h e → accepted_by e ≡ Some k → times k (surely_unbegun t) ≡ 0
-      not_unbegun e k a is =
-          let none : times k (drop (length (begun h)) (queued t)) ≡ 0 =
-          ap (λ xs. times k (drop (length (begun h)) xs)) (sym o.queued_is) ∙ (waits_bit layout h legal k ∙ waits_not e k a is) in
+      not_unbegun : times k (surely_unbegun t) ≡ 0
+      not_unbegun =
+          let none : times k (drop (length (begun h)) (queued t)) ≡ 0 = ap (λ xs. times k (drop (length (begun h)) xs)) (sym o.queued_is) ∙ waits in
           elim (cases_lt (length o.early) 1) [
             | inl less ↦
                 let place : length (begun h) ≡ length (started t) = omega (arith, sizes t h o) in
@@ -86,7 +72,6 @@ module _ (layout : Layout) (t : List Mark) (h : List Event) (legal : IsLegal lay
 
   may_start : (k : ℕ) → running h ≡ Some k → length (begun h) ≡ length (started t) + 1 → MayShow t (Start k)
   may_start k runs more =
-      let i = in_order layout h legal in
       let within : length (ended h) < length (begun h) = slice_get_within (begun h) (length (ended h)) k runs in
       let place : length (ended h) ≡ length (started t) = omega (arith, within, more, i.one_at_a_time) in
       let there : slice_get (accepted h) (length (ended h)) ≡ Some k =
@@ -104,8 +89,8 @@ accepts_alone (event.Begin j) k is = absurd cc
 accepts_alone (event.End j) k is = absurd cc
 accepts_alone _ k is = (refl, refl)
 
-pub shown : (layout : Layout) (t : List Mark) (h : List Event) → Shows t h → IsLegal layout h → Shown t h
-shown layout _ _ nothing legal = record {
+pub shown : (P : List Event → Type 0) → TakesTurns P → (t : List Mark) (h : List Event) → Shows t h → P h → Shown t h
+shown P turns _ _ nothing has = record {
   queued_is = refl;
   returned_is = refl;
   early = [];
@@ -114,9 +99,8 @@ shown layout _ _ nothing legal = record {
   idle = λ some. absurd (omega arith);
   rules = λ place m at. absurd cc;
 }
-shown layout _ _ (hides t h e s hidden) legal =
-    let before = legal_front layout h (e ∷ []) legal in
-    let o = shown layout t h s before in
+shown P turns _ _ (hides t h e s hidden) has =
+    let o = shown P turns t h s (turns.front h e has) in
     record {
       queued_is = filter_map_push_none accepted_by h e hidden.accepts ∙ (append-nil (accepted h) ∙ o.queued_is);
       returned_is = filter_map_push_none ended_by h e hidden.ends ∙ (append-nil (ended h) ∙ o.returned_is);
@@ -126,10 +110,9 @@ shown layout _ _ (hides t h e s hidden) legal =
       idle = o.idle;
       rules = o.rules;
     }
-shown layout _ _ (queues t h e k s is) legal =
-    let before = legal_front layout h (e ∷ []) legal in
-    let o = shown layout t h s before in
-    let allowed = legal_next layout h e [] legal in
+shown P turns _ _ (queues t h e k s is) has =
+    let before = turns.front h e has in
+    let o = shown P turns t h s before in
     let alone = accepts_alone e k is in
     record {
       queued_is = filter_map_push_some accepted_by h e k is ∙ (ap (λ xs. xs ++ k ∷ []) o.queued_is ∙ sym (filter_map_push_some queued_by t (Queue k) k refl));
@@ -140,14 +123,11 @@ shown layout _ _ (queues t h e k s is) legal =
           ∙ ap (λ xs. xs ++ o.early) (sym (filter_map_push_none started_by t (Queue k) refl ∙ append-nil (started t)))));
       few = o.few;
       idle = λ some. simp growing (o.idle some);
-      rules = rules_push t (Queue k) o.rules (may_queue layout t h before o e k allowed is);
+      rules = rules_push t (Queue k) o.rules (may_queue t h (turns.ordered h before) o k (turns.accepts h e k has is));
     }
-shown layout _ _ (begins t h k s) legal =
-    let before = legal_front layout h (event.Begin k ∷ []) legal in
-    let o = shown layout t h s before in
-    let allowed = legal_next layout h (event.Begin k) [] legal in
-    let i = in_order layout h before in
-    let rests : length (ended h) ≡ length (begun h) = omega (arith, allowed.2.0, prefix_length (ended h) (begun h) i.ended_first) in
+shown P turns _ _ (begins t h k s) has =
+    let o = shown P turns t h s (turns.front h (event.Begin k) has) in
+    let rests = turns.begins h k has in
     let none : length o.early ≡ 0 = zero_or (length o.early) (λ some. omega (arith, some, rests, o.idle some, sizes t h o, ap length o.returned_is)) in
     record {
       queued_is = simp growing o.queued_is;
@@ -158,9 +138,9 @@ shown layout _ _ (begins t h k s) legal =
       idle = λ some. omega (arith, rests, none, sizes t h o, ap length o.returned_is);
       rules = o.rules;
     }
-shown layout _ _ (starts t h k s runs more) legal =
-    let o = shown layout t h s legal in
-    let i = in_order layout h legal in
+shown P turns _ _ (starts t h k s runs more) has =
+    let o = shown P turns t h s has in
+    let i = turns.ordered h has in
     let one : length o.early ≡ 1 = omega (arith, sizes t h o, more) in
     let j = one_of o.early one in
     let is : begun h ≡ started t ++ j.0 ∷ [] = o.started_is ∙ ap (λ xs. started t ++ xs) j.1 in
@@ -176,12 +156,11 @@ shown layout _ _ (starts t h k s runs more) legal =
       started_is = simp growing (is ∙ ap (λ n. started t ++ n ∷ []) same);
       few = omega arith;
       idle = λ some. absurd (omega arith);
-      rules = rules_push t (Start k) o.rules (may_start layout t h legal o k runs more);
+      rules = rules_push t (Start k) o.rules (may_start t h i o k runs more);
     }
-shown layout _ _ (ends t h k s same) legal =
-    let before = legal_front layout h (event.End k ∷ []) legal in
-    let o = shown layout t h s before in
-    let allowed = legal_next layout h (event.End k) [] legal in
+shown P turns _ _ (ends t h k s same) has =
+    let before = turns.front h (event.End k) has in
+    let o = shown P turns t h s before in
     let none : length o.early ≡ 0 = omega (arith, sizes t h o, same) in
     record {
       queued_is = simp growing o.queued_is;
@@ -190,8 +169,36 @@ shown layout _ _ (ends t h k s same) legal =
       started_is = simp growing (o.started_is ∙ nil_end (started t) o.early none);
       few = omega arith;
       idle = λ some. absurd (omega arith);
-      rules = rules_push t (End k) o.rules (may_end layout t h before o k allowed.2 same);
+      rules = rules_push t (End k) o.rules (may_end t h (turns.ordered h before) o k (turns.ends h k has) same);
     }
 
+-- what is accepted does not wait yet
+module _ (layout : Layout) (h : List Event) (legal : IsLegal layout h) where
+  waits_not : (e : Event) (k : ℕ) → IsAllowed layout h e → accepted_by e ≡ Some k → queue_bit (keeper h k) ≡ 0
+  waits_not (event.Push s j) k a is =
+      let same : j ≡ k = cc is in
+      let held : keeper h k ≡ Sender s = rw (← same) (keeper_from_keeps layout h legal j (Sender s) a.2.0) in
+      ap queue_bit held
+  waits_not (event.Chain j) k a is =
+      let same : j ≡ k = cc is in
+      let home : keeper h k ≡ Home = rw (← same) (keeper_from_keeps layout h legal j Home a.2.2) in
+      ap queue_bit home
+  waits_not _ k a is = absurd cc
+
+  pub not_unbegun : (e : Event) (k : ℕ) → IsAllowed layout h e → accepted_by e ≡ Some k → times k (unbegun h) ≡ 0
+  not_unbegun e k a is = waits_bit layout h legal k ∙ waits_not e k a is
+
+legal_turns : (layout : Layout) → TakesTurns (IsLegal layout)
+legal_turns layout = record {
+  front = λ h e legal. legal_front layout h (e ∷ []) legal;
+  ordered = in_order layout;
+  accepts = λ h e k legal is. not_unbegun layout h (legal_front layout h (e ∷ []) legal) e k (legal_next layout h e [] legal) is;
+  begins = λ h k legal. (idle-same layout h (legal_front layout h (event.Begin k ∷ []) legal)).0 (legal_next layout h (event.Begin k) [] legal).2.0;
+  ends = λ h k legal. (legal_next layout h (event.End k) [] legal).2;
+}
+
+pub history_shown : (layout : Layout) (t : List Mark) (has : ShowsLegalHistory layout t) → Shown t has.0
+history_shown layout t has = shown (IsLegal layout) (legal_turns layout) t has.0 has.2 has.1
+
 pub history_rules : (layout : Layout) (t : List Mark) → ShowsLegalHistory layout t → FollowsRules t
-history_rules layout t has = (shown layout t has.0 has.2 has.1).rules
+history_rules layout t has = (history_shown layout t has).rules
