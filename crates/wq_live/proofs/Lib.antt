@@ -46,3 +46,4 @@ pub mod OwnBrought
 pub mod Handed
 pub mod HandedOver
 pub mod OwnerStays
+pub mod Refused

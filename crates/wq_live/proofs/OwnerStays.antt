@@ -1,15 +1,17 @@
 -- What an owner knows of its batch and of what it executes stays while others alone add events.
 use Rattle.wq_live.proofs.Common.{◌≡◌, ℕ, ◌≤◌, List, [], ◌++◌, length, take, refl, ap, ◌∙◌, subst, arith, append-nil, Layout, Event, accepted, begun}
 use Rattle.wq_live.proofs.Common.{ended, running, IsShut, accepted-append, legal_front, begun_same, own-append, IsLegal, owner_seat, own, Grows, batch}
-use Rattle.wq_live.proofs.Common.{Known, Sees, KnownWith, Learnt}
+use Rattle.wq_live.proofs.Common.{sym, Known, Sees, KnownWith, Learnt, sender_counts}
 use Rattle.std.specs.Prelude.{drop}
 use Rattle.std.proofs.lemmas.List.{take-append-le}
 use Rattle.wq_words.specs.History.{taken}
 use Rattle.wq_words.proofs.Listed.{length-accepted}
 use Rattle.wq_words.proofs.OtherSeats.{accepted_shut, taken_still}
+use Rattle.wq_live.specs.Counts.{owner_counts}
 use Rattle.wq_live.specs.Laws.{IsStillEnd, IsStillOwned}
+use Rattle.wq_live.proofs.Counting.{counts_none}
 use Rattle.wq_live.proofs.Growing.{grows_mine}
-use Rattle.wq_live.proofs.Owned.{begun_on, ended_on, running_quiet}
+use Rattle.wq_live.proofs.Owned.{begun_on, ended_on, running_quiet, counts_quiet}
 use Rattle.wq_live.proofs.Phases.{closed_quiet, shut_still}
 use Rattle.wq_live.proofs.Resting.{own_still, none_more}
 use Rattle.wq_live.proofs.HandedOver.{met_end}
@@ -59,3 +61,11 @@ module _ (n : ℕ) (old new : Known) (mine : old.number ≡ owner_seat) (sees : 
 pub shut_brought : {V : Type 0} (n : ℕ) (old new : KnownWith V) → old.known.number ≡ owner_seat → Sees [] n old.known new.known → IsShut old.known.seen
     → Learnt old new → new.brought ≡ old.brought
 shut_brought n old new mine sees shuts learnt = met_end old new learnt (shut_end n old.known new.known mine sees shuts)
+
+-- what was counted stays where no own event comes
+pub sender_counted : (n : ℕ) (old new : Known) → Sees [] n old new → sender_counts old.number new.seen ≡ sender_counts old.number old.seen
+sender_counted n old new sees = sym (counts_none old.number n old.seen new.seen (sender_counts old.number old.seen) refl sees.grows)
+
+pub owner_counted : (n : ℕ) (old new : Known) → old.number ≡ owner_seat → Sees [] n old new → owner_counts new.seen ≡ owner_counts old.seen
+owner_counted n old new mine sees =
+    sym (counts_quiet [] n old.seen new.seen (grows_mine [] n old new mine sees) refl refl refl (owner_counts old.seen) refl)

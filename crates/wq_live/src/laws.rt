@@ -1,15 +1,18 @@
 //! What follows from what the calls of a queue say, in the form in which a caller needs it. These functions compute nothing:
 //! each one's contract is a law, which a caller has in hand after the call.
-ghost use Rattle.std.specs.Prelude.{◌≡◌, ◌≢◌, ℕ, Bool, List, [], ◌∷◌, ◌++◌};
+ghost use Rattle.std.specs.Prelude.{◌≡◌, ◌≢◌, ℕ, Bool, false, List, [], ◌∷◌, ◌++◌};
 ghost use Rattle.wq_words.specs.declared.answer.Answer.{Answer};
+ghost use Rattle.wq_words.specs.declared.answer.Answer.TheVariants as answer;
 ghost use Rattle.wq_words.specs.declared.answer.Posted.{Posted};
+ghost use Rattle.wq_words.specs.declared.answer.Posted.TheVariants as posted;
 ghost use Rattle.wq_words.specs.declared.event.Event.TheVariants.{Back};
 ghost use Rattle.wq_words.specs.declared.event.Why.{Why};
 ghost use Rattle.wq_words.specs.declared.event.Event.{Event};
-ghost use Rattle.wq_words.specs.History.{accepted, begun, ended, running, Holds, IsShut};
+ghost use Rattle.wq_words.specs.History.{accepted, begun, ended, running, Holds, IsClosed, IsShut};
 ghost use Rattle.wq_words.specs.Seen.{own, owner_seat};
 ghost use Rattle.wq_live.specs.Known.{Known, Sees};
 ghost use Rattle.wq_live.specs.Answers.{TestsAndSets, Answers, Posts, Chains};
+ghost use Rattle.wq_live.specs.Counts.{sender_counts, owner_counts};
 ghost use Rattle.wq_live.specs.Laws.{queued_number, pushed_number, IsStillEnd, IsStillOwned};
 ghost use Rattle.wq_live.specs.declared.value_answer.ValueAnswer.{ValueAnswer};
 ghost use Rattle.wq_live.specs.KnownWith.{KnownWith, Learnt, answer_of, BringsOrReturns, ChainsOrReturns};
@@ -72,6 +75,41 @@ pub fn held_stays()
         → Holds old.seen old.number k → Holds new.seen new.number k }
     ensures given { (k j n : ℕ) (why : Why) (old new : Known) → Sees (Back old.number j why ∷ []) n old new → k ≢ j
         → Holds old.seen old.number k → Holds new.seen new.number k }
+{}
+
+/// What a seat does not hold it goes on not to hold, but by a hold of that number that is answered true: where it sees more and makes
+/// no event, where it queues, pushes or gives back any number, and where a hold is refused or is of another number.
+pub fn unheld_stays()
+    ensures seen { (k n : ℕ) (old new : Known) → Sees [] n old new → ¬ Holds old.seen old.number k → ¬ Holds new.seen new.number k }
+    ensures queued { (k j tries : ℕ) (a : Answer) (old new : Known) → Answers j tries a old new
+        → ¬ Holds old.seen old.number k → ¬ Holds new.seen new.number k }
+    ensures held { (k j : ℕ) (b : Bool) (old new : Known) → TestsAndSets j b old new → k ≢ j
+        → ¬ Holds old.seen old.number k → ¬ Holds new.seen new.number k }
+    ensures refused { (k j : ℕ) (old new : Known) → TestsAndSets j false old new → ¬ Holds old.seen old.number k → ¬ Holds new.seen new.number k }
+    ensures posted { (k j tries : ℕ) (a : Posted) (old new : Known) → Posts j tries a old new
+        → ¬ Holds old.seen old.number k → ¬ Holds new.seen new.number k }
+    ensures given { (k j n : ℕ) (why : Why) (old new : Known) → Sees (Back old.number j why ∷ []) n old new
+        → ¬ Holds old.seen old.number k → ¬ Holds new.seen new.number k }
+{}
+
+/// What a sender has pushed or given back it holds no longer.
+pub fn no_longer_held()
+    ensures pushed { (k tries : ℕ) (first wakes : Bool) (old new : Known) → Posts k tries (posted.Queued first wakes) old new
+        → ¬ Holds new.seen new.number k }
+    ensures closed { (k tries : ℕ) (old new : Known) → Posts k tries posted.Closed old new → ¬ Holds new.seen new.number k }
+    ensures given { (k n : ℕ) (why : Why) (old new : Known) → Sees (Back old.number k why ∷ []) n old new → ¬ Holds new.seen new.number k }
+{}
+
+/// A queueing or a push is answered Closed of a queue that its owner has closed.
+pub fn closed_is_closed()
+    ensures queued { (k tries : ℕ) (old new : Known) → Answers k tries answer.Closed old new → IsClosed new.seen }
+    ensures posted { (k tries : ℕ) (old new : Known) → Posts k tries posted.Closed old new → IsClosed new.seen }
+{}
+
+/// Where a seat sees more and makes no event, as at a meeting, it has counted what it had counted.
+pub fn counts_stay()
+    ensures sender { (n : ℕ) (old new : Known) → Sees [] n old new → sender_counts old.number new.seen ≡ sender_counts old.number old.seen }
+    ensures owner { (n : ℕ) (old new : Known) → old.number ≡ owner_seat → Sees [] n old new → owner_counts new.seen ≡ owner_counts old.seen }
 {}
 
 /// A queueing of an item with a value that is answered Queued adds that value to what the sender's own queueings brought; any other
