@@ -115,6 +115,7 @@ pub fn build_values<V: Drop>(
     ensures numbers { IfOk result (λ r. AreNumbered (map (λ s. s.known) r.1.items)) }
     ensures unseen { IfOk result (λ r. (r.0.known.seen ≡ []) × All (λ s. s.known.seen ≡ []) r.1.items) }
     ensures free { IfOk result (λ r. All (λ s. (k : ℕ) → ¬ Holds s.known.seen s.known.number k) r.1.items) }
+    ensures unbrought { IfOk result (λ r. (r.0.brought ≡ []) × All (λ s. s.brought ≡ []) r.1.items) }
 {
     let slots = layout.number_count() as usize;
     let (chair, seats) = chairs(alloc, layout, slots)?;

@@ -48,7 +48,7 @@ impl Model for Pair {
 }
 
 impl Pair {
-    /// An owner and a sender become one seat, which has seen all that has happened.
+    /// An owner and a sender become one seat, which has seen one history that goes on from what each had seen.
     pub fn join(owner: Owner, sender: Sender) -> Pair
         requires one { sender.queue ≡ owner.queue }
         ensures owner { Sees [] 0 owner (pair_owner result) }
@@ -322,7 +322,7 @@ impl Pair {
         queue_number::<Bare, Second>(&mut self.seat.chair, &mut self.sent, item, tries)
     }
 
-    /// Afterwards each has seen all that has happened, and so all that both had seen.
+    /// Afterwards both have seen one history, which goes on from what each had seen.
     pub fn meet(&mut self, sender: &mut Sender)
         requires one { sender.old.queue ≡ self.old.queue }
         ensures owner { Sees [] 0 (pair_owner self.old) (pair_owner self.new) }

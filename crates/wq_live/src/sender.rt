@@ -275,7 +275,7 @@ impl Sender {
         self.queue_number(stop, tries)
     }
 
-    /// Afterwards each has seen all that has happened, and so all that both had seen.
+    /// Afterwards both have seen one history, which goes on from what each had seen.
     pub fn meet(&mut self, other: &mut Sender)
         requires { self.old.queue ≡ other.old.queue }
         ensures this { Sees [] 0 self.old self.new }
@@ -286,7 +286,7 @@ impl Sender {
         self.chair.meet(&mut other.chair);
     }
 
-    /// Afterwards each has seen all that has happened, and so all that both had seen.
+    /// Afterwards both have seen one history, which goes on from what each had seen.
     pub fn meet_owner(&mut self, owner: &mut Owner)
         requires { self.old.queue ≡ owner.old.queue }
         ensures this { Sees [] 0 self.old self.new }
@@ -300,7 +300,7 @@ impl Sender {
         self.chair.meet(&mut owner.seat.chair);
     }
 
-    /// Afterwards all three have seen all that has happened, and so all that any of them had seen.
+    /// Afterwards all three have seen one history, which goes on from what each had seen.
     pub fn meet_both(&mut self, other: &mut Sender, owner: &mut Owner)
         requires sender { self.old.queue ≡ other.old.queue }
         requires owner { self.old.queue ≡ owner.old.queue }

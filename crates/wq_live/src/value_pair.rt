@@ -51,7 +51,7 @@ impl<V: Drop> Model for ValuePair<V> {
 }
 
 impl<V: Drop> ValuePair<V> {
-    /// An owner and a sender become one seat, which has seen all that has happened, and knows what was brought.
+    /// An owner and a sender become one seat, which has seen one history that goes on from what each had seen, and knows what was brought.
     pub fn join(owner: ValueOwner<V>, sender: ValueSender<V>) -> ValuePair<V>
         requires one { sender.known.queue ≡ owner.known.queue }
         ensures owner { Sees [] 0 owner.known (pair_owner result.known) }
@@ -353,7 +353,7 @@ impl<V: Drop> ValuePair<V> {
         queue_value::<V, Second>(&mut self.seat.chair, &mut self.sent, item, value, tries)
     }
 
-    /// Afterwards each has seen all that has happened, and so all that both had seen, and knows what was brought.
+    /// Afterwards both have seen one history, which goes on from what each had seen, and know what was brought in it.
     pub fn meet(&mut self, sender: &mut ValueSender<V>)
         requires one { sender.old.known.queue ≡ self.old.known.queue }
         ensures owner { Sees [] 0 (pair_owner self.old.known) (pair_owner self.new.known) }

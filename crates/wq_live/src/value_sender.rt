@@ -237,7 +237,7 @@ impl<V: Drop> ValueSender<V> {
         self.queue_number(stop, tries)
     }
 
-    /// Afterwards each has seen all that has happened, and so all that both had seen, and knows what was brought.
+    /// Afterwards both have seen one history, which goes on from what each had seen, and know what was brought in it.
     pub fn meet(&mut self, other: &mut ValueSender<V>)
         requires { self.old.known.queue ≡ other.old.known.queue }
         ensures this { Sees [] 0 self.old.known self.new.known }
@@ -251,7 +251,7 @@ impl<V: Drop> ValueSender<V> {
         self.chair.meet(&mut other.chair);
     }
 
-    /// Afterwards each has seen all that has happened, and so all that both had seen, and knows what was brought.
+    /// Afterwards both have seen one history, which goes on from what each had seen, and know what was brought in it.
     pub fn meet_owner(&mut self, owner: &mut ValueOwner<V>)
         requires { self.old.known.queue ≡ owner.old.known.queue }
         ensures this { Sees [] 0 self.old.known self.new.known }
@@ -271,7 +271,7 @@ impl<V: Drop> ValueSender<V> {
         owner.seat.chair.meet(&mut self.chair);
     }
 
-    /// Afterwards all three have seen all that has happened, and so all that any of them had seen, and know what was brought.
+    /// Afterwards all three have seen one history, which goes on from what each had seen, and know what was brought in it.
     pub fn meet_both(&mut self, other: &mut ValueSender<V>, owner: &mut ValueOwner<V>)
         requires sender { self.old.known.queue ≡ other.old.known.queue }
         requires owner { self.old.known.queue ≡ owner.old.known.queue }

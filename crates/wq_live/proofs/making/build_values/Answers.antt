@@ -39,3 +39,10 @@ returns-clause-free g c = let e = c.new.ensures in let chair = c.in_ok-chair.cha
     let made = values_new l chair c.new.result is.0 e.chair e.layout c.in_ok-senders.senders.items (c.in_ok-senders.ensures chair.queue is.1) in
     all_values (λ (s : KnownWith g.row.V.Denot). (k : ℕ) → ¬ Holds s.known.seen s.known.number k) c.new.result.chair.queue l
     c.in_ok-senders.senders.items made free_new
+
+pub returns-clause-unbrought : goal.returns-clause-unbrought
+returns-clause-unbrought g c = let e = c.new.ensures in let chair = c.in_ok-chair.chair in let is = c.in_ok-chair.ensures.seats in let l = c.args.layout in
+    let made = values_new l chair c.new.result is.0 e.chair e.layout c.in_ok-senders.senders.items (c.in_ok-senders.ensures chair.queue is.1) in (
+      ap (λ (x : ValueStanding g.row.V.Denot). x.first.brought) (e.chair ∙ is.0),
+      all_values (λ (s : KnownWith g.row.V.Denot). s.brought ≡ []) c.new.result.chair.queue l c.in_ok-senders.senders.items made (λ s. refl),
+    )
