@@ -3,7 +3,7 @@ ghost use Rattle.std.specs.Prelude.{◌≡◌, ℕ, [], All, length, take, Match
 ghost use Rattle.wq_words.specs.History.{accepted, begun, ended};
 ghost use Rattle.wq_words.specs.Legal.{IsLegal, IsComplete};
 ghost use Rattle.wq_words.specs.Headline.{KeepsHeadline};
-ghost use Rattle.wq_words.specs.Valued.{IsLegalWith, with_values};
+ghost use Rattle.wq_words.specs.Valued.{AreBrought, IsLegalWith, with_values};
 ghost use Rattle.wq_words.specs.Seen.{owner_seat, Grows};
 ghost use Rattle.wq_live.specs.Known.{Sees};
 ghost use Rattle.wq_live.specs.KnownWith.{Learnt};
@@ -57,8 +57,8 @@ impl<V: Drop> ValueBook<V> {
         ValueBook { owner, own }
     }
 
-    /// What `Book::legal` says. Each accepted item brought a value, no other number did, and there are as many values as numbers
-    /// that began; that an execution was handed its own value is said by `begin` of the owner.
+    /// What `Book::legal` says. What was brought is one for each accepted number, in order, and so one for each that began: an
+    /// item brought a value, and no other number did. That an execution was handed its own value is said by `begin` of the owner.
     pub fn legal(&self)
         ensures legal { IsLegal self.now.book.layout self.now.book.seen }
         ensures complete { IsComplete self.now.book.seen }
@@ -68,6 +68,7 @@ impl<V: Drop> ValueBook<V> {
         ensures own { IsLedgerOf self.now.book.seen self.now.book.own }
         ensures values { IsLegalWith self.now.book.layout (with_values self.now.book.seen self.now.brought) }
         ensures handed { take (length (begun self.now.book.seen)) self.now.brought ≡ self.now.brought }
+        ensures whole { AreBrought self.now.book.layout.items (accepted self.now.book.seen) self.now.brought }
     {
         self.owner.legal();
         // It is done, so all that was brought was handed out.

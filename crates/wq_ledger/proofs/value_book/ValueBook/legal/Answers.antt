@@ -1,10 +1,11 @@
 use Rattle.std.specs.Prelude.{take, length}
 use Rattle.wq_words.specs.Headline.{KeepsHeadline}
-use Rattle.wq_words.specs.Valued.{IsLegalWith, with_values}
+use Rattle.wq_words.specs.Valued.{AreBrought, IsLegalWith, with_values}
 use Rattle.wq_words.specs.History.{accepted, begun, ended}
 use Rattle.wq_ledger.specs.ValueBook.{ValueBookState}
 use Rattle.wq_ledger.proofs.Common.{◌≡◌, subst, IsLegal, IsComplete, IsLedgerOf}
 use Rattle.wq_ledger.proofs.Meeting.{settled_run}
+use Rattle.wq_ledger.proofs.Brought.{are_brought}
 use Rattle.wq_ledger.proofs.value_book.ValueBook.legal.Goals as goal
 
 pub returns-clause-legal : goal.returns-clause-legal
@@ -39,3 +40,9 @@ pub returns-clause-handed : goal.returns-clause-handed
 returns-clause-handed g c =
     subst (λ (z : ValueBookState g.row.V.Denot). take (length (begun z.book.seen)) z.brought ≡ z.brought) c.self.view_is
     (c.done.ensures.handed (c.done.ensures.complete.1 c.self.invariant.complete))
+
+pub returns-clause-whole : goal.returns-clause-whole
+returns-clause-whole g c =
+    let o = c.self.inside.owner in
+    subst (λ (z : ValueBookState g.row.V.Denot). AreBrought z.book.layout.items (accepted z.book.seen) z.brought) c.self.view_is
+    (are_brought o.known.layout o.known.seen o.brought c.legal.ensures.matches c.legal.ensures.values)
