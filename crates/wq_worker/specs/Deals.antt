@@ -3,10 +3,12 @@ use Rattle.std.specs.Prelude.{◌≡◌, ℕ, ◌≤◌, Bool, List, [], ◌∷�
 use Rattle.wq_words.specs.declared.event.Event.{Event}
 use Rattle.wq_words.specs.declared.event.Event.TheVariants.{Begin}
 use Rattle.wq_words.specs.History.{accepted, begun, ended, shut, IsRunning}
+use Rattle.wq_words.specs.Legal.{IsComplete}
 use Rattle.wq_words.specs.Seen.{owner_seat}
 use Rattle.wq_live.specs.Answers.{IsContended}
 use Rattle.wq_live.specs.KnownWith.{Learnt}
 use Rattle.wq_live.specs.OwnBrought.{own_brought}
+use Rattle.wq_ledger.specs.Book.{BookState}
 use Rattle.wq_worker.specs.declared.ran.Ran.{Ran}
 use Rattle.wq_worker.specs.declared.ran.Ran.TheVariants.{Nothing}
 use Rattle.wq_worker.specs.Seats.{Adds, taking}
@@ -15,6 +17,7 @@ use Rattle.wq_worker.specs.State.{Moves}
 use Rattle.wq_worker.specs.Resting.{LeavesWork}
 use Rattle.wq_worker.specs.Step.{Begins, RunsBy}
 use Rattle.wq_worker.specs.Rows.{Along}
+use Rattle.wq_worker.specs.Destroy.{IsBookOf}
 use Rattle.wq_worker.specs.Returned.{GivenBack, GivesBack, MayLeave, values_in}
 use Rattle.wq_worker.specs.ValueState.{ValueWorkerState, owner_in}
 
@@ -85,12 +88,14 @@ module _ {V W : Type 0} (given : W → List (ℕ × V)) (may : W → ℕ → V �
     keeps : (es : List Event) → Moves es 0 a.worker b.worker → begun es ≡ [] → accepted es ≡ [] → ended es ≡ []
         → LeavesWork a.worker b.worker → b.unqueued ≡ a.unqueued → Learnt (owner_in a) (owner_in b) → DealsInStep a b
 
-  -- The worker went on, step by step, until it was taken apart: this is the work that it left, and what the numbers of its
-  -- queue brought.
-  pub record DealsToEnd (a : ValueWorkerState V W) (work : W) (brought : List (Option V)) : Type 0 where
+  -- The worker went on, step by step, until its queue had run to the end, and was taken apart: this is the work that it left, the
+  -- book of its queue, and what the numbers of that brought. Nothing came behind the last step: the book has its history.
+  pub record DealsToEnd (a : ValueWorkerState V W) (work : W) (book : BookState) (brought : List (Option V)) : Type 0 where
     pub last : ValueWorkerState V W
     pub along : Along DealsInStep a last
+    pub complete : IsComplete last.worker.seen
     pub work_is : work ≡ last.worker.work
+    pub book_is : IsBookOf last.worker book
     pub brought_is : brought ≡ last.brought
 
 -- the first of the pairs that are left is contended

@@ -1,5 +1,5 @@
 -- What a clause sees of a worker whose items bring values.
-use Rattle.std.specs.Prelude.{◌≡◌, ℕ, ◌<◌, List}
+use Rattle.std.specs.Prelude.{◌≡◌, ℕ, ◌<◌, List, length}
 use Rattle.std.specs.Prelude.{Option}
 use Rattle.wq_words.specs.History.{accepted, begun}
 use Rattle.wq_words.specs.Legal.{IsLegal}
@@ -7,8 +7,8 @@ use Rattle.wq_words.specs.Seen.{owner_seat}
 use Rattle.wq_ledger.specs.Book.{BookState}
 use Rattle.wq_live.specs.KnownWith.{KnownWith, Learnt, MatchesAccepted, handed_in}
 use Rattle.wq_live.specs.ValuePairs.{KnownValuePair, owner_of}
-use Rattle.wq_worker.specs.State.{WorkerState}
-use Rattle.wq_worker.specs.Returned.{pairs_of}
+use Rattle.wq_worker.specs.State.{WorkerState, items_among}
+use Rattle.wq_worker.specs.Returned.{pairs_of, numbers_in}
 
 -- what it is without values, what each accepted number of the history that it has seen brought, in their order, and the pairs that
 -- an execution that has not ended has still to queue
@@ -31,9 +31,12 @@ sender_in w = record {
 abbrev pub ran_pairs : {V W : Type 0} → ValueWorkerState V W → List (ℕ × V)
 ran_pairs w = pairs_of (begun w.worker.seen) (handed_in (owner_in w))
 
--- the work has run what the book's history accepted, each item with the value that it brought, in order
-abbrev pub HasRunPairs : {V W : Type 0} → (W → List (ℕ × V)) → List (Option V) → W → BookState → Type 0
-HasRunPairs log brought work book = log work ≡ pairs_of (accepted book.seen) brought
+-- The work has run what the book's history accepted, each item with the value that it brought, in order: the numbers of what it
+-- ran are all the accepted items, and each accepted number has its place in what was brought.
+pub record HasRunPairs {V W : Type 0} (log : W → List (ℕ × V)) (brought : List (Option V)) (work : W) (book : BookState) : Type 0 where
+  pub pairs : log work ≡ pairs_of (accepted book.seen) brought
+  pub numbers : numbers_in (log work) ≡ items_among book.layout (accepted book.seen)
+  pub as_many : length brought ≡ length (accepted book.seen)
 
 -- what was brought before begins what is brought now, and nothing more was handed
 pub record KeepsHanded {V : Type 0} (old new : KnownValuePair V) : Type 0 where

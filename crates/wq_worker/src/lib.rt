@@ -4,6 +4,7 @@
 
 mod building;
 mod drained;
+mod laws;
 mod paired;
 mod patience;
 mod ran;
@@ -19,6 +20,7 @@ mod worker;
 
 pub use building::Unbuilt;
 pub use drained::{Drained, Unfinished};
+pub use laws::steps_go_on;
 pub use patience::SHORT_TAKE;
 pub use ran::Ran;
 pub use station::Station;

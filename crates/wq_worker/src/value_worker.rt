@@ -3,7 +3,7 @@ ghost use Rattle.std.specs.Prelude.{◌≡◌, ◌↔◌, ℕ, ◌+◌, ◌<◌,
 ghost use Rattle.std.specs.Fn.{FnOnceTakesAtMut, FnOnceReturnsAtMut};
 ghost use mathlib.Core.List.{IsPrefix};
 ghost use Rattle.wq_words.specs.declared.event.Event.TheVariants.{Close};
-ghost use Rattle.wq_words.specs.History.{accepted, begun, closed, running, Holds, IsRunning, IsClosed, IsShut, IsDraining};
+ghost use Rattle.wq_words.specs.History.{begun, closed, running, Holds, IsRunning, IsClosed, IsShut, IsDraining};
 ghost use Rattle.wq_words.specs.Legal.{IsLegal, IsComplete};
 ghost use Rattle.wq_words.specs.Headline.{KeepsHeadline};
 ghost use Rattle.wq_words.specs.Seen.{owner_seat, Grows};
@@ -16,7 +16,7 @@ ghost use Rattle.wq_ledger.specs.Totals.{own_totals};
 ghost use Rattle.wq_worker.specs.State.{items_among, IsSameWorker, Moves, IsMadeOf, IsNew};
 ghost use Rattle.wq_worker.specs.declared.ran.Ran.TheVariants.{Nothing, Owing};
 ghost use Rattle.wq_worker.specs.declared.drained.Drained.TheVariants.{Empty, TooLong};
-ghost use Rattle.wq_worker.specs.Returned.{GivesBack, MayLeave, pairs_of, numbers_in};
+ghost use Rattle.wq_worker.specs.Returned.{GivesBack, MayLeave, numbers_in};
 ghost use Rattle.wq_worker.specs.ValueState.{owner_in, sender_in, ran_pairs, HasRunPairs};
 ghost use Rattle.wq_worker.specs.Deals.{DealsOut, DealsOutBy, BeginsValue, IsOwedPair, DealsInStep, DealsToEnd};
 ghost use Rattle.wq_worker.specs.Step.{RunsBy, FindsNothing};
@@ -192,11 +192,13 @@ impl<V: Drop, W: ValueWork<V>> ValueWorker<V, W> {
     /// What the worker has seen is a legal history, so it keeps the headline: what was accepted is executed in its order,
     /// once at most, and one at a time. Each accepted item brought a value, no other number did, and the values in the
     /// order of the pushes are those in the order of the executions; that an execution was handed that very value is said
-    /// by `run_one` and `logged`.
+    /// by `run_one` and `logged`. Each accepted number has its place in what was brought. The worker's sender is one of its queue's.
     pub fn legal(&self)
         ensures legal { IsLegal self.now.worker.layout self.now.worker.seen }
         ensures headline { KeepsHeadline self.now.worker.seen }
         ensures values { IsLegalWith self.now.worker.layout (with_values self.now.worker.seen self.now.brought) }
+        ensures matches { MatchesAccepted (owner_in self.now) }
+        ensures low { self.now.worker.number < self.now.worker.layout.senders }
     {
         self.pair.legal();
     }
@@ -212,14 +214,6 @@ impl<V: Drop, W: ValueWork<V>> ValueWorker<V, W> {
     /// The worker's sender is one of its queue's.
     pub fn seated(&self)
         ensures in_layout { self.now.worker.number < self.now.worker.layout.senders }
-    {
-        // opens the worker, whose invariant says this
-        let _ = &self.pair;
-    }
-
-    // Each accepted number has its place in what was brought.
-    fn whole(&self)
-        ensures { MatchesAccepted (owner_in self.now) }
     {
         // opens the worker, whose invariant says this
         let _ = &self.pair;
@@ -298,7 +292,7 @@ impl<V: Drop, W: ValueWork<V>> ValueWorker<V, W> {
         ensures same { IsSameWorker self.old.worker self.new.worker }
         ensures legal { IsLegal self.new.worker.layout self.new.worker.seen }
     {
-        self.whole();
+        self.legal();
         run_some::<ValueWorker<V, W>>(self, limit)
     }
 
@@ -311,6 +305,7 @@ impl<V: Drop, W: ValueWork<V>> ValueWorker<V, W> {
         ensures events { Moves (Close ∷ []) 0 self.old.worker self.new.worker }
         ensures takes { TakesAll Close result self.new.worker.seen }
         ensures closed { IsClosed self.new.worker.seen }
+        ensures idle { ¬ IsRunning self.old.worker.seen → ¬ IsRunning self.new.worker.seen }
         ensures legal { IsLegal self.new.worker.layout self.new.worker.seen }
     {
         self.pair.close()
@@ -355,6 +350,8 @@ impl<V: Drop, W: ValueWork<V>> ValueWorker<V, W> {
         ensures brought { sender.new.brought ≡ self.new.brought }
         ensures open { ¬ IsShut self.old.worker.seen → ¬ IsShut self.new.worker.seen }
         ensures unclosed { ¬ IsClosed self.old.worker.seen → ¬ IsClosed self.new.worker.seen }
+        ensures idle { ¬ IsRunning self.old.worker.seen → ¬ IsRunning self.new.worker.seen }
+        ensures none { HasNoneLeft self.old.worker.seen → HasNoneLeft self.new.worker.seen }
     {
         self.pair.meet(sender);
     }
@@ -379,7 +376,7 @@ impl<V: Drop, W: ValueWork<V>> ValueWorker<V, W> {
         ensures same { IsSameWorker self.old.worker self.new.worker }
         ensures legal { IsLegal self.new.worker.layout self.new.worker.seen }
     {
-        self.whole();
+        self.legal();
         drain::<ValueWorker<V, W>>(self, limit)
     }
 
@@ -396,7 +393,7 @@ impl<V: Drop, W: ValueWork<V>> ValueWorker<V, W> {
         ensures same { IsSameWorker self.old.worker self.new.worker }
         ensures legal { IsLegal self.new.worker.layout self.new.worker.seen }
     {
-        self.whole();
+        self.legal();
         serve::<R, ValueWorker<V, W>>(rt, self, parker)
     }
 
@@ -406,17 +403,18 @@ impl<V: Drop, W: ValueWork<V>> ValueWorker<V, W> {
         ensures work { result.0 ≡ self.worker.work }
         ensures book { IsBookOf self.worker result.1.book }
         ensures brought { result.1.brought ≡ self.brought }
-        ensures logged { W.log result.0 ≡ pairs_of (accepted self.worker.seen) self.brought }
+        ensures ran { HasRunPairs W.log result.1.brought result.0 result.1.book }
     {
         let ValueWorker { pair, work, .. } = self;
+        pair.legal();
         let (owner, sender) = pair.split();
         (work, ValueBook::new(owner, &sender))
     }
 
     /// As `Worker::destroy`: the work has run what was accepted, each item with the value that it brought, in order. The pairs of
-    /// each step were dealt out as by `run_one`.
+    /// each step were dealt out as by `run_one`, up to the last, behind which nothing came: the book has the history of that step.
     pub fn destroy(mut self, limit: u32) -> Result<(W, ValueBook<V>), Unfinished<ValueWorker<V, W>>>
-        ensures deals { MatchResult result (λ done. DealsToEnd W.given W.may W.takes self done.0 done.1.brought)
+        ensures deals { MatchResult result (λ done. DealsToEnd W.given W.may W.takes self done.0 done.1.book done.1.brought)
             (λ unfinished. Along (DealsInStep W.given W.may W.takes) self unfinished.worker) }
         ensures learnt { MatchResult result (λ done. IsPrefix self.brought done.1.brought)
             (λ unfinished. Learnt (owner_in self) (owner_in unfinished.worker)) }
@@ -426,7 +424,7 @@ impl<V: Drop, W: ValueWork<V>> ValueWorker<V, W> {
             (λ done. DestroysBy (HasRunPairs W.log done.1.brought) (MayLeave W.may W.takes) (GivesBack W.takes) limit self.worker done.0 done.1.book)
             (λ unfinished. LeavesUnfinishedBy (MayLeave W.may W.takes) (GivesBack W.takes) limit self.worker unfinished.worker.worker unfinished.left) }
     {
-        self.whole();
+        self.legal();
         close_where_unclosed::<ValueWorker<V, W>>(&mut self);
         let left = run_out::<ValueWorker<V, W>>(&mut self, limit);
         if left > 0 {

@@ -166,10 +166,11 @@ impl<W: Work> Worker<W> {
     }
 
     /// What the worker has seen is a legal history, so it keeps the headline: what was accepted is executed in its order,
-    /// once at most, and one at a time.
+    /// once at most, and one at a time. The worker's sender is one of its queue's.
     pub fn legal(&self)
         ensures legal { IsLegal self.now.layout self.now.seen }
         ensures headline { KeepsHeadline self.now.seen }
+        ensures low { self.now.number < self.now.layout.senders }
     {
         // opens the worker, whose invariant says this
         let _ = &self.pair;
@@ -275,6 +276,7 @@ impl<W: Work> Worker<W> {
         ensures events { Moves (Close ∷ []) 0 self.old self.new }
         ensures takes { TakesAll Close result self.new.seen }
         ensures closed { IsClosed self.new.seen }
+        ensures idle { ¬ IsRunning self.old.seen → ¬ IsRunning self.new.seen }
         ensures legal { IsLegal self.new.layout self.new.seen }
     {
         self.pair.close()
@@ -317,6 +319,8 @@ impl<W: Work> Worker<W> {
         ensures both { sender.new.seen ≡ self.new.seen }
         ensures open { ¬ IsShut self.old.seen → ¬ IsShut self.new.seen }
         ensures unclosed { ¬ IsClosed self.old.seen → ¬ IsClosed self.new.seen }
+        ensures idle { ¬ IsRunning self.old.seen → ¬ IsRunning self.new.seen }
+        ensures none { HasNoneLeft self.old.seen → HasNoneLeft self.new.seen }
     {
         self.pair.meet(sender);
     }

@@ -1,4 +1,4 @@
-use Rattle.wq_worker.proofs.Common.{[], ◌∷◌, refl, subst, Close, Moves, ValueWorkerState}
+use Rattle.wq_worker.proofs.Common.{[], ◌∷◌, refl, subst, IsRunning, Close, Moves, ValueWorkerState}
 use Rattle.wq_worker.proofs.ValueState.{value_state_of, value_fit_owner, value_moves_owner}
 use Rattle.wq_worker.proofs.value_worker.ValueWorker.close.Goals as goal
 
@@ -14,3 +14,8 @@ returns-clause-events g c =
     let w : ValueWorkerState g.row.V.Denot g.row.W.Denot = value_state_of q i.tries i.left.pairs i.work in
     subst (λ (z : ValueWorkerState g.row.V.Denot g.row.W.Denot). Moves (Close ∷ []) 0 z.worker w.worker) c.self.view_is
     (value_moves_owner (Close ∷ []) 0 0 i.pair q e.seen e.others i.tries i.left.pairs i.work)
+
+pub returns-clause-idle : goal.returns-clause-idle
+returns-clause-idle g c =
+    subst (λ (z : ValueWorkerState g.row.V.Denot g.row.W.Denot). ¬ IsRunning z.worker.seen → ¬ IsRunning c.close.new.self.known.seen) c.self.view_is
+    c.close.ensures.idle

@@ -19,9 +19,17 @@ returns g c =
     record {
       outcome = destroys (MayLeave W.may W.takes) (GivesBack W.takes) c.args.limit r.result c.args.self.worker m.new.station.worker r.new.station.worker
           m.ensures.closes e.runs e.same e.legal (HasRunPairs W.log b.result.1.brought) b.result.0 b.result.1.book m.ensures.closed
-          (omega (arith, c.if-left-gt0.false)) b.ensures.work b.ensures.book (rw (b.ensures.book.2, b.ensures.brought) b.ensures.logged);
-      deals = record { last = r.new.station; along = along; work_is = b.ensures.work; brought_is = b.ensures.brought };
-      learnt = rw (b.ensures.brought) (along_learnt W.given W.may W.takes c.args.self r.new.station c.whole.ensures along).more;
+          (omega (arith, c.if-left-gt0.false)) b.ensures.work b.ensures.book b.ensures.ran;
+      deals = record {
+        last = r.new.station;
+        along = along;
+        complete = ran_complete (MayLeave W.may W.takes) (GivesBack W.takes) c.args.limit r.result m.new.station.worker r.new.station.worker e.runs
+            m.ensures.closed (omega (arith, c.if-left-gt0.false));
+        work_is = b.ensures.work;
+        book_is = b.ensures.book;
+        brought_is = b.ensures.brought;
+      };
+      learnt = rw (b.ensures.brought) (along_learnt W.given W.may W.takes c.args.self r.new.station c.legal.ensures.matches along).more;
       given = rw (b.ensures.work) (along_given W.given W.may W.takes c.args.self r.new.station along);
     }
 
@@ -33,6 +41,6 @@ returns-then-left-gt0 g c =
       outcome = leaves_unfinished (MayLeave W.may W.takes) (GivesBack W.takes) c.args.limit r.result c.args.self.worker m.new.station.worker
           r.new.station.worker m.ensures.closes e.runs e.same e.legal m.ensures.closed (omega (arith, c.if-left-gt0.true));
       deals = along;
-      learnt = along_learnt W.given W.may W.takes c.args.self r.new.station c.whole.ensures along;
+      learnt = along_learnt W.given W.may W.takes c.args.self r.new.station c.legal.ensures.matches along;
       given = along_given W.given W.may W.takes c.args.self r.new.station along;
     }

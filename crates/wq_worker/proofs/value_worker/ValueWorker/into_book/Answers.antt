@@ -1,7 +1,7 @@
 use Rattle.wq_live.specs.Counts.{sender_counts}
 use Rattle.wq_live.specs.KnownWith.{KnownWith}
-use Rattle.wq_worker.proofs.Common.{◌≡◌, sym, ap, ◌∙◌, subst, accepted, IsComplete, pairs_of, ValueWorkerState}
-use Rattle.wq_worker.proofs.Logged.{begun_accepted}
+use Rattle.wq_worker.proofs.Common.{sym, ap, ◌∙◌, subst, IsComplete, ValueWorkerState}
+use Rattle.wq_worker.proofs.Logged.{has_run}
 use Rattle.wq_worker.proofs.value_worker.ValueWorker.into_book.Goals as goal
 
 pub returns-clause-book : goal.returns-clause-book
@@ -15,10 +15,11 @@ returns-clause-book g c =
           ∙ ap (λ (z : ValueWorkerState g.row.V.Denot g.row.W.Denot). sender_counts z.worker.number z.worker.seen) is),
     )
 
-pub returns-clause-logged : goal.returns-clause-logged
-returns-clause-logged g c =
-    let i = c.self.inside in let p = i.pair in let fit = c.self.invariant in
+pub returns-clause-ran : goal.returns-clause-ran
+returns-clause-ran g c =
+    let i = c.self.inside in let p = i.pair in let fit = c.self.invariant in let n = c.new.ensures in let o = c.split-owner.ensures.owner in
     let done : IsComplete p.known.seen = subst (λ (z : ValueWorkerState g.row.V.Denot g.row.W.Denot). IsComplete z.worker.seen)
     (sym c.self.view_is) c.requires in
-    subst (λ (z : ValueWorkerState g.row.V.Denot g.row.W.Denot). g.W.ValueWork.log i.work ≡ pairs_of (accepted z.worker.seen) z.brought)
-    c.self.view_is (fit.logged ∙ begun_accepted p.known.layout p.known.seen p.brought fit.legal fit.whole done)
+    has_run p.known.layout p.known.seen p.brought fit.legal fit.whole g.W.ValueWork.log i.work c.new.result.brought c.new.result.book done
+    c.legal.ensures.values fit.logged (n.layout ∙ ap (λ (z : KnownWith g.row.V.Denot). z.known.layout) o)
+    (n.seen ∙ ap (λ (z : KnownWith g.row.V.Denot). z.known.seen) o) (n.brought ∙ ap (λ (z : KnownWith g.row.V.Denot). z.brought) o)

@@ -1,4 +1,4 @@
-use Rattle.wq_worker.proofs.Common.{[], ◌∷◌, refl, subst, drop, Close, KnownPair, Both, WorkerState, Moves}
+use Rattle.wq_worker.proofs.Common.{[], ◌∷◌, refl, subst, drop, IsRunning, Close, KnownPair, Both, WorkerState, Moves}
 use Rattle.wq_worker.proofs.Pair.{by_owner}
 use Rattle.wq_worker.proofs.State.{fit_both}
 use Rattle.wq_worker.proofs.Step.{state_of, moves_by}
@@ -18,3 +18,7 @@ returns-clause-events g c =
     let w : WorkerState g.row.W.Denot = state_of q i.tries (drop i.at i.follow.items) i.work in
     subst (λ (z : WorkerState g.row.W.Denot). Moves (Close ∷ []) 0 z w) c.self.view_is
     (moves_by (Close ∷ []) 0 i.tries (drop i.at i.follow.items) (drop i.at i.follow.items) i.work i.work o q b)
+
+pub returns-clause-idle : goal.returns-clause-idle
+returns-clause-idle g c =
+    subst (λ (z : WorkerState g.row.W.Denot). ¬ IsRunning z.seen → ¬ IsRunning c.close.new.self.seen) c.self.view_is c.close.ensures.idle

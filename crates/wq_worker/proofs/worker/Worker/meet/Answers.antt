@@ -1,8 +1,10 @@
-use Rattle.wq_worker.proofs.Common.{[], refl, ap, ◌∙◌, subst, drop, IsShut, IsClosed, KnownPair, Both, WorkerState, Moves}
+use Rattle.wq_worker.proofs.Common.{[], refl, ap, ◌∙◌, subst, drop, IsShut, IsClosed, IsRunning, KnownPair, pair_owner, Both, WorkerState, Moves}
+use Rattle.wq_worker.specs.Resting.{HasNoneLeft}
 use Rattle.wq_worker.proofs.State.{fit_both}
 use Rattle.wq_worker.proofs.Step.{state_of, moves_by}
 use Rattle.wq_worker.proofs.Pair.{by_owner}
 use Rattle.wq_worker.proofs.Phase.{open_still, unclosed_still, phase_grown}
+use Rattle.wq_worker.proofs.Resting.{idle_still, none_left_still}
 use Rattle.wq_worker.proofs.worker.Worker.meet.Goals as goal
 
 pub invariant_of-self : goal.invariant_of-self
@@ -33,3 +35,14 @@ returns-clause-unclosed g c =
 
 pub returns-clause-layout : goal.returns-clause-layout
 returns-clause-layout g c = c.meet.ensures.layout ∙ ap (λ (z : WorkerState g.row.W.Denot). z.layout) c.self.view_is
+
+pub returns-clause-idle : goal.returns-clause-idle
+returns-clause-idle g c =
+    let o = c.self.inside.pair.seen in let q = c.meet.new.self.seen in
+    subst (λ (z : WorkerState g.row.W.Denot). ¬ IsRunning z.seen → ¬ IsRunning q) c.self.view_is (idle_still 0 o q c.meet.ensures.owner.grows)
+
+pub returns-clause-none : goal.returns-clause-none
+returns-clause-none g c =
+    let o = c.self.inside.pair in let q = c.meet.new.self in let e = c.meet.ensures.owner in
+    subst (λ (z : WorkerState g.row.W.Denot). HasNoneLeft z.seen → HasNoneLeft q.seen) c.self.view_is
+    (none_left_still 0 (pair_owner o) (pair_owner q) refl e e.grows)
