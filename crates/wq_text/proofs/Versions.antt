@@ -1,5 +1,5 @@
 -- The lines of a text, by its first.
-use Rattle.wq_text.proofs.Common.{◌≡◌, ℕ, Bool, true, false, List, if◌then◌else◌, sym, ap, Grammar, Lines, line_gives}
+use Rattle.wq_text.proofs.Common.{◌≡◌, ℕ, Bool, true, false, List, if◌then◌else◌, sym, ap, Grammar, line_gives}
 use Rattle.wq_text.specs.Version.{begins_with_line, lines_of_version}
 
 module _ {M N A : Type 0} (one : Grammar M A) (two : Grammar N A) (text : List ℕ) where

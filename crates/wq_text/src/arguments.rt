@@ -1,6 +1,7 @@
 //! The words behind a keyword, and the numbers that they are.
-ghost use Rattle.std.specs.Prelude.{◌<◌, ◌≤◌, map, length, All, IfOk};
+ghost use Rattle.std.specs.Prelude.{◌<◌, ◌≤◌, ◌≢◌, Err, map, length, All, IfOk};
 ghost use Rattle.wq_words.specs.Limits.{IsBetween};
+ghost use Rattle.wq_text.specs.declared.fault.LineError.TheVariants.{Memory};
 ghost use Rattle.wq_text.specs.Fault.{LineGives, LineGivesAs};
 ghost use Rattle.wq_text.specs.Arguments.{number, between, below, sender, item, barrier, limit, no_word, one_word, two_words, word_and_at_most, two, each, one_and_at_most};
 
@@ -10,7 +11,8 @@ use crate::word::number_of;
 use wq_words::Layout;
 
 pub(crate) fn number(word: &str) -> Result<u64, LineError>
-    ensures { LineGives result (number word.now) }
+    ensures exact { LineGives result (number word.now) }
+    ensures memory { result ≢ Err Memory }
 {
     match number_of(word) {
         Some(number) => Ok(number),
@@ -36,6 +38,7 @@ pub(crate) fn between(kind: Kind, low: u32, high: u32, word: &str) -> Result<u32
 fn below(kind: Kind, bound: u32, word: &str) -> Result<u32, LineError>
     ensures exact { LineGives result (below kind bound word.now) }
     ensures within { IfOk result (λ n. n < bound) }
+    ensures memory { result ≢ Err Memory }
 {
     let number = number(word)?;
     if number >= u64::from(bound) {
@@ -47,6 +50,7 @@ fn below(kind: Kind, bound: u32, word: &str) -> Result<u32, LineError>
 pub(crate) fn sender(layout: Layout, word: &str) -> Result<u32, LineError>
     ensures exact { LineGives result (sender layout word.now) }
     ensures within { IfOk result (λ n. n < layout.senders) }
+    ensures memory { result ≢ Err Memory }
 {
     below(Kind::Sender, layout.senders, word)
 }
@@ -55,6 +59,7 @@ pub(crate) fn sender(layout: Layout, word: &str) -> Result<u32, LineError>
 pub fn item(layout: Layout, word: &str) -> Result<u32, LineError>
     ensures exact { LineGives result (item layout word.now) }
     ensures within { IfOk result (λ n. n < layout.items) }
+    ensures memory { result ≢ Err Memory }
 {
     below(Kind::Item, layout.items, word)
 }
@@ -62,6 +67,7 @@ pub fn item(layout: Layout, word: &str) -> Result<u32, LineError>
 pub(crate) fn barrier(layout: Layout, word: &str) -> Result<u32, LineError>
     ensures exact { LineGives result (barrier layout word.now) }
     ensures within { IfOk result (λ n. n < layout.barriers) }
+    ensures memory { result ≢ Err Memory }
 {
     below(Kind::Barrier, layout.barriers, word)
 }
@@ -75,7 +81,8 @@ pub(crate) fn limit(word: &str) -> Result<u32, LineError>
 
 /// No word stands there.
 pub fn no_word(words: &[&str]) -> Result<(), LineError>
-    ensures { LineGives result (no_word (map (λ w. w.now) words.now)) }
+    ensures exact { LineGives result (no_word (map (λ w. w.now) words.now)) }
+    ensures memory { result ≢ Err Memory }
 {
     match words {
         [] => Ok(()),
@@ -85,7 +92,8 @@ pub fn no_word(words: &[&str]) -> Result<(), LineError>
 
 /// The one word that stands there.
 pub fn one_word<'a>(words: &[&'a str]) -> Result<&'a str, LineError>
-    ensures { LineGivesAs (λ w. w.now) result (one_word (map (λ w. w.now) words.now)) }
+    ensures exact { LineGivesAs (λ w. w.now) result (one_word (map (λ w. w.now) words.now)) }
+    ensures memory { result ≢ Err Memory }
 {
     match words {
         [word] => Ok(word),

@@ -1,5 +1,5 @@
 //! Which line is awaited, and the lines of the header.
-ghost use Rattle.std.specs.Prelude.{◌≡◌, ◌≤◌, map, IfOk};
+ghost use Rattle.std.specs.Prelude.{◌≡◌, map, IfOk};
 ghost use Rattle.wq_text.specs.Fault.{LineGives};
 ghost use Rattle.wq_text.specs.Header.{limited, is_header, awaits, layout_at, behind_items, header_gives, header_line_gives};
 ghost use Rattle.wq_text.specs.Sound.{KeepsHeader};

@@ -1,5 +1,5 @@
 //! One line of a text, of either kind.
-ghost use Rattle.std.specs.Prelude.{◌≡◌, ◌≤◌, map, true, false, MatchOption, IfOk};
+ghost use Rattle.std.specs.Prelude.{◌≡◌, map, true, false, MatchOption, IfOk};
 ghost use Rattle.std.specs.List.{list_all};
 ghost use Rattle.std.specs.Str.{bytes_eq};
 ghost use Rattle.wq_words.specs.declared.layout.Layout.{Layout};

@@ -1,5 +1,5 @@
 //! From the bytes of a text to what its lines ask for.
-ghost use Rattle.std.specs.Prelude.{◌≡◌, ◌+◌, ◌<◌, ◌≤◌, ◌++◌, ◌∷◌, [], Ok, Err, OnOk, IfOk, MatchOption, Some, length, position, ◌==◌};
+ghost use Rattle.std.specs.Prelude.{◌≡◌, ◌≢◌, ◌+◌, ◌<◌, ◌≤◌, ◌++◌, ◌∷◌, [], Ok, Err, OnOk, IfOk, MatchOption, Some, length, position, ◌==◌};
 ghost use Rattle.std.specs.Option.{option_to_list};
 ghost use Rattle.wq_text.specs.Fault.{IfRefused};
 ghost use Rattle.wq_text.specs.Header.{layout_at};
@@ -83,6 +83,7 @@ fn add<A: Drop>(asked: &mut Vec<A>, one: Option<A>) -> Result<(), AllocError>
 pub fn layout_at_end(number: u64, stage: Stage) -> Result<Layout, ParseError>
     ensures whole { IfOk result (λ layout. layout_at stage ≡ Some layout) }
     ensures refused { IfRefused result (λ e. (e.line ≡ number) × (end_fault stage ≡ Some e.kind)) }
+    ensures memory { result ≢ Err ParseError.Memory }
 {
     match stage {
         Stage::Version => Err(refused(number, Kind::Version)),

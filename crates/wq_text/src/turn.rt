@@ -1,6 +1,7 @@
 //! The steps of a schedule, as words.
-ghost use Rattle.std.specs.Prelude.{◌≡◌, ◌<◌, map, MatchOption, IfOk, IfSome};
+ghost use Rattle.std.specs.Prelude.{◌≡◌, ◌≢◌, ◌<◌, Err, map, MatchOption, IfOk, IfSome};
 ghost use Rattle.wq_words.specs.Numbers.{number_count};
+ghost use Rattle.wq_text.specs.declared.fault.LineError.TheVariants.{Memory};
 ghost use Rattle.wq_text.specs.Fault.{LineGives, of_none};
 ghost use Rattle.wq_text.specs.Word.{other_words};
 ghost use Rattle.wq_text.specs.Turn.{after_b, number_of_queue, link_of, owners_action, senders_action, cause_at, why_at, owners_action_2, senders_action_2, action_at, action_at_2, seat_alone, seat_and_number, number_and_link, without_last, turn_gives};
@@ -44,6 +45,7 @@ fn digits_of_barrier(word: &str) -> Option<&str>
 pub fn number_of_queue(layout: Layout, word: &str) -> Result<u32, LineError>
     ensures exact { LineGives result (number_of_queue layout word.now) }
     ensures within { IfOk result (λ n. n < number_count layout) }
+    ensures memory { result ≢ Err Memory }
 {
     if word == "stop" {
         return Ok(layout.stop());
@@ -145,6 +147,7 @@ fn seat_alone(layout: Layout, first: &str, words: &[&str]) -> Result<u32, LineEr
 pub fn seat_and_number(layout: Layout, first: &str, words: &[&str]) -> Result<(u32, u32), LineError>
     ensures exact { LineGives result (seat_and_number layout first.now (map (λ w. w.now) words.now)) }
     ensures within { IfOk result (λ n. (n.0 < layout.senders) × (n.1 < number_count layout)) }
+    ensures memory { result ≢ Err Memory }
 {
     let word = one_word(words)?;
     let sender = sender(layout, first)?;
