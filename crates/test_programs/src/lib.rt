@@ -1,4 +1,4 @@
-//! Tests of ready queues and pools, of races and of the program's commands, by their public calls alone: what their contracts
+//! Tests of ready queues and pools, of races, of recordings and of the program's commands, by their public calls alone: what their contracts
 //! promise nobody. Each module is named after what it tests. The worked rows of scripts and plans stand in `checks/rows`, which the
 //! gate runs with the built program.
 #![tactic(auto)]
@@ -17,3 +17,5 @@ mod pool;
 mod race;
 #[cfg(test)]
 mod ready;
+#[cfg(test)]
+mod recording;

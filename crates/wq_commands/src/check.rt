@@ -41,6 +41,7 @@ fn write_finding<W: Write, F: Write>(
                 text,
                 is_legal,
                 left,
+                ..
             },
         ) => {
             let passes = is_legal && (!is_drained || left == 0);

@@ -5,6 +5,7 @@ pub mod Writing
 pub mod Stages
 pub mod LineParts
 pub mod Reading
+pub mod ReadThrough
 pub mod Telling
 pub mod LeftNumbers
 pub mod FirstLine

@@ -84,7 +84,7 @@ module _ {A E C : Type 0} (inner : Lines A) (rules : Rules A E) (layout_of : C �
       short : length t ≤ 4096
       short = (whole_line line (Some rest) left r.got t whole).1
 
-      line_is : parts rest ≡ t ∷ parts r.behind
+      pub line_is : parts rest ≡ t ∷ parts r.behind
       line_is =
           ap parts (r.cut ∙ ap (λ l. l ++ r.behind) whole ∙ append_assoc t (10 ∷ []) r.behind)
           ∙ parts_line t r.behind (whole_line line (Some rest) left r.got t whole).0
@@ -235,7 +235,7 @@ module _ {A E C : Type 0} (inner : Lines A) (rules : Rules A E) (layout_of : C �
 
   -- the same, where the bytes are known
   module _ (known : Option (List ℕ)) (n : ℕ) (s : Stage) (checker : Option C) (line : List ℕ) (left : Option (List ℕ)) where
-    if_known : (P : List ℕ → Type 0) → Reads known n s checker line left
+    pub if_known : (P : List ℕ → Type 0) → Reads known n s checker line left
         → ((text rest : List ℕ) → IsReading text rest n s checker line left → P text) → IfSome known P
     if_known P reads all = by_known known reads
       where

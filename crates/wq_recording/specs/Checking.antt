@@ -1,5 +1,5 @@
 -- What is said of the bytes of a recording of either kind.
-use Rattle.std.specs.Prelude.{ℕ, Bool, false, List, ◌∷◌, codes, MatchBool}
+use Rattle.std.specs.Prelude.{◌≡◌, ℕ, Bool, false, List, [], ◌∷◌, drop, Option, Some, None, codes, MatchBool}
 use Rattle.std.specs.Str.{bytes_eq}
 use Rattle.wq_check.specs.declared.mark.Mark.{Mark}
 use Rattle.wq_text.specs.declared.fault.ScriptError.{ScriptError}
@@ -9,6 +9,7 @@ use Rattle.wq_recording.specs.declared.entry.Entry.{Entry}
 use Rattle.wq_recording.specs.declared.finding.Finding.{Finding}
 use Rattle.wq_recording.specs.History.{history_grammar}
 use Rattle.wq_recording.specs.HistoryReport.{history_rules}
+use Rattle.wq_recording.specs.declared.stop.Stop.{Stop}
 use Rattle.wq_recording.specs.Trace.{trace_grammar}
 use Rattle.wq_recording.specs.TraceReport.{trace_rules}
 use Rattle.wq_recording.specs.Verdict.{recording_line, IsRefusedText}
@@ -37,3 +38,8 @@ IsFoundOf text finding =
 -- the text is refused, by its own rules
 abbrev pub IsRefusedFor : List ℕ → ScriptError → Type 0
 IsRefusedFor text e = MatchBool (is_trace text) (IsRefusedText trace_line trace_rules text e) (IsRefusedText history_line history_rules text e)
+
+-- the text was read to its end or, where there is a stop, through its line and no further
+abbrev pub IsReadThrough : Option Stop → List ℕ → List ℕ → Type 0
+IsReadThrough None text left = left ≡ []
+IsReadThrough (Some stop) text left = parts left ≡ drop stop.line (parts text)

@@ -43,6 +43,7 @@ verdict_of layout events stop = record { layout = layout; events = events; stop 
 -- what was found is what the verdict says
 pub record SaysOf {A E : Type 0} (rules : Rules A E) (v : Verdict E) (finding : Finding) : Type 0 where
   pub text_is : finding.text.items ≡ verdict_text rules v
+  pub stop_is : finding.stop ≡ v.stop
   pub legal_is : finding.is_legal ≡ is_none v.stop
   pub left_is : finding.left ≡ length (rules.left v.events)
 

@@ -1,9 +1,9 @@
 //! What is said of a recording of either kind.
-ghost use Rattle.std.specs.Prelude.{◌≡◌, ◌∷◌, ◌++◌, [], ℕ, List, false, codes, IfOk, IfErr, IfSome};
+ghost use Rattle.std.specs.Prelude.{◌≡◌, ◌∷◌, ◌++◌, [], ℕ, List, false, codes, IfOk, IfErr, IfSome, IsSomeAnd};
 ghost use Rattle.std.specs.Str.{bytes_eq};
 ghost use Rattle.wq_recording.specs.Lines.{EndsWithLf};
 ghost use Rattle.wq_recording.specs.Judging.{IfTextRefused};
-ghost use Rattle.wq_recording.specs.Checking.{IsFoundOf, IsRefusedFor};
+ghost use Rattle.wq_recording.specs.Checking.{IsFoundOf, IsRefusedFor, IsReadThrough};
 
 use crate::error::CheckError;
 use crate::finding::Finding;
@@ -35,6 +35,7 @@ fn is_trace(line: &[u8]) -> bool
 pub fn check<B: BufRead>(alloc: Global, reader: &mut B) -> Result<Finding, CheckError>
     ensures found { IfOk result (λ finding. IfSome (B.remaining reader.old) (λ text. IsFoundOf text finding)) }
     ensures refused { IfErr result (λ error. IfSome (B.remaining reader.old) (λ text. IfTextRefused error (IsRefusedFor text))) }
+    ensures read { IfOk result (λ finding. IfSome (B.remaining reader.old) (λ text. IsSomeAnd (B.remaining reader.new) (IsReadThrough finding.stop text))) }
 {
     let mut line = Vec::new(alloc);
     next_line(reader, &mut line)?;

@@ -96,12 +96,26 @@ fn write_events(layout: &Layout, history: &[Event], out: &mut String) -> Result<
     Ok(())
 }
 
-// Writes a history.
+// Writes the text of a history.
 fn write_history(layout: &Layout, history: &[Event], out: &mut String) -> Result<(), AllocError>
     ensures { OnOk result (string_bytes out.new ≡ string_bytes out.old ++ history_text layout.now history.now) }
 {
     write_header(layout, out)?;
     write_events(layout, history, out)
+}
+
+/// The text of a history as a recording, with a line for each event (docs/FORMATS.md). What it says when it is read is just that
+/// history (`histories_read_back`). The only error is want of memory.
+pub fn record_history(
+    alloc: Global,
+    layout: &Layout,
+    history: &[Event],
+) -> Result<Vec<u8>, AllocError>
+    ensures written { IfOk result (λ bytes. bytes.items ≡ history_text layout.now history.now) }
+{
+    let mut out = String::new(alloc);
+    write_history(layout, history, &mut out)?;
+    Ok(out.into_bytes())
 }
 
 /// Gives the steps of a schedule in turn to the machine of a new queue, and gives the history that they make as a recording, with
@@ -110,7 +124,5 @@ pub fn record_steps(alloc: Global, schedule: &Schedule) -> Result<Vec<u8>, Alloc
     ensures recorded { IfOk result (λ bytes. IsRecordingOf (schedule_layout schedule.now) (turns_of schedule.now) bytes.items) }
 {
     let history = steps_history(alloc, schedule)?;
-    let mut out = String::new(alloc);
-    write_history(schedule.layout(), &history, &mut out)?;
-    Ok(out.into_bytes())
+    record_history(alloc, schedule.layout(), &history)
 }

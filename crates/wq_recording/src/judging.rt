@@ -1,5 +1,5 @@
 //! From the lines of a recording to what is said of it.
-ghost use Rattle.std.specs.Prelude.{◌≡◌, [], ℕ, List, Option, None, Some, Ok, IfOk, IfErr, IfSome};
+ghost use Rattle.std.specs.Prelude.{◌≡◌, [], ℕ, List, Option, None, Some, Ok, IfOk, IfErr, IfSome, IsSomeAnd};
 ghost use Rattle.std.specs.Io.KnownBytes.{Consumes};
 ghost use Rattle.wq_text.specs.declared.fault.ParseError.TheVariants.{Refused};
 ghost use Rattle.wq_text.specs.declared.header.Stage.{Stage as Awaited};
@@ -10,6 +10,7 @@ ghost use Rattle.wq_text.specs.Line.{line_gives};
 ghost use Rattle.wq_text.specs.Sound.{SoundAt};
 ghost use Rattle.wq_words.specs.declared.layout.Layout.{Layout as Numbers};
 ghost use Rattle.wq_recording.specs.Lines.{IsLineRead};
+ghost use Rattle.wq_recording.specs.Checking.{IsReadThrough};
 ghost use Rattle.wq_recording.specs.Judging.{HasTold, IsMadeAt, ComesTo, IfTextRefused, refusal_of};
 ghost use Rattle.wq_recording.specs.Verdict.{recording_line, last_fault, IsRefusedText};
 ghost use Rattle.wq_recording.specs.VerdictText.{verdict_of, SaysOf, Finds};
@@ -119,6 +120,7 @@ fn last<L: Recording>(
 ) -> Result<Finding, ParseError>
     requires { IsMadeAt L.layout_of stage checker }
     ensures whole { IfOk result (λ _. rest.now ≡ []) }
+    ensures stop { IfOk result (λ finding. finding.stop ≡ None) }
     ensures found { IfOk result (λ finding. (layout : Numbers) × (layout_at stage ≡ Some layout) × ((h : List L.Event) → HasTold L.is_after checker h
         → L.rules.IsLegal layout h × SaysOf L.rules (verdict_of layout h None) finding)) }
     ensures refused { IfRefused result (λ e. (e.line ≡ number) × (last_fault stage rest.now ≡ Some e.kind)) }
@@ -147,6 +149,9 @@ pub(crate) fn judge<L: Recording, B: BufRead>(
     ensures refused { (known : Option (List ℕ)) → Consumes known (B.remaining reader.old) line.old.items
         → IsLineRead line.old.items known (B.remaining reader.old)
         → IfErr result (λ error. IfSome known (λ text. IfTextRefused error (IsRefusedText (recording_line L.grammar) L.rules text))) }
+    ensures read { (known : Option (List ℕ)) → Consumes known (B.remaining reader.old) line.old.items
+        → IsLineRead line.old.items known (B.remaining reader.old)
+        → IfOk result (λ finding. IfSome known (λ text. IsSomeAnd (B.remaining reader.new) (IsReadThrough finding.stop text))) }
 {
     let mut stage = Stage::Version;
     let mut checker: Option<L::Checker> = None;

@@ -22,6 +22,6 @@ pub use checking::check;
 pub use entry::Entry;
 pub use error::CheckError;
 pub use finding::Finding;
-pub use history_text::record_steps;
+pub use history_text::{record_history, record_steps};
 pub use laws::{histories_read_back, one_verdict};
 pub use stop::Stop;

@@ -114,11 +114,13 @@ pub(crate) fn found<L: Recording>(
     stop: Option<Stop>,
 ) -> Result<Finding, AllocError>
     ensures says { IfOk result (λ finding. (h : List L.Event) → L.is_after checker.now h → SaysOf L.rules (verdict_of layout h stop) finding) }
+    ensures stop { IfOk result (λ finding. finding.stop ≡ stop) }
 {
     let mut out = String::new(alloc);
     write_verdict::<L>(alloc, &layout, checker, stop, &mut out)?;
     Ok(Finding {
         text: out.into_bytes(),
+        stop,
         is_legal: stop.is_none(),
         left: L::left_count(checker),
     })

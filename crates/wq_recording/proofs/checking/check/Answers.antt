@@ -48,3 +48,11 @@ returns-clause-refused g c =
     let rest = subst (λ (l : List ℕ). ¬ EndsWithLf l → false ≡ false) c.deref.ensures.value (λ bare. is ∙ c.is_trace.ensures.rest bare) in
     err_as known (g.B.Read.remaining c.next_line.new.reader) c.next_line.new.line.items first.bytes first.line false whole rest c.judge-else-is_trace.result
     RefusedBy (c.judge-else-is_trace.ensures.refused known first.bytes first.line)
+
+pub returns-then-is_trace-clause-read : goal.returns-then-is_trace-clause-read
+returns-then-is_trace-clause-read g c =
+    c.judge.ensures.read (g.B.Read.remaining c.args.reader.now) c.in_ok-next_line.ensures.bytes c.in_ok-next_line.ensures.line
+
+pub returns-clause-read : goal.returns-clause-read
+returns-clause-read g c =
+    c.judge-else-is_trace.ensures.read (g.B.Read.remaining c.args.reader.now) c.in_ok-next_line.ensures.bytes c.in_ok-next_line.ensures.line

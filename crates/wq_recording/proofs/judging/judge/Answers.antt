@@ -4,6 +4,7 @@ use Rattle.wq_text.specs.Sound.{SoundAt}
 use Rattle.wq_recording.specs.Judging.{refusal_of}
 use Rattle.wq_recording.specs.Lines.{EndsWithLf}
 use Rattle.wq_recording.proofs.Reading.{reads_start, reads_on, reads_stop, reads_fault, reads_rest, reads_all, refused_if, refused_by_line}
+use Rattle.wq_recording.proofs.ReadThrough.{read_to_end, read_to_stop}
 use Rattle.wq_recording.proofs.judging.judge.Goals as goal
 
 pub loop-number-init : goal.loop-number-init
@@ -88,3 +89,22 @@ loop-number-preserved g c =
           (g.B.Read.remaining c.next_line.new.reader) whole given comes.2 c.in_ok-next_line.ensures.bytes c.in_ok-next_line.ensures.line
           (l.invariant.reads known taken got);
     }
+
+pub returns-in-Rest-clause-read : goal.returns-in-Rest-clause-read
+returns-in-Rest-clause-read g c = λ known taken got.
+    let r = g.L.Recording in
+    let l = c.loop-number in
+    let bare = subst (λ (xs : List ℕ). ¬ EndsWithLf xs) c.deref.ensures.value c.in-Rest.ensures.1 in
+    let is : c.in-Rest.rest.now ≡ l.line.items = c.in-Rest.ensures.0 ∙ c.deref.ensures.value in
+    let done = c.in_ok-finding-in-Rest.ensures in
+    read_to_end (line_gives g.L.Language.grammar) r.rules r.layout_of r.is_after known l.number l.stage l.checker l.line.items
+    (g.B.Read.remaining l.reader) (l.invariant.reads known taken got) c.in_ok-finding-in-Rest.finding.stop done.stop bare (sym is ∙ done.whole)
+
+pub returns-in-Stop-clause-read : goal.returns-in-Stop-clause-read
+returns-in-Stop-clause-read g c = λ known taken got.
+    let r = g.L.Recording in
+    let l = c.loop-number in
+    let whole = sym c.deref.ensures.value ∙ c.in-Line.ensures in
+    let done = c.in_ok-finding-in-Stop in
+    read_to_stop (line_gives g.L.Language.grammar) r.rules r.layout_of r.is_after known l.number l.stage l.checker l.line.items
+    (g.B.Read.remaining l.reader) (l.invariant.reads known taken got) done.finding.stop _ c.in-Line.text.now done.ensures.stop refl whole

@@ -1,0 +1,60 @@
+//! Histories that are written as recordings, and read back.
+use crate::expect::expect_same;
+use std::alloc::Global;
+use std::process::Abort;
+use wq_check::Cause;
+use wq_recording::{Stop, check, record_history};
+use wq_words::Event::{Begin, Close, End, Hold, Push, Take};
+use wq_words::{Event, Layout};
+
+/// Of a queue of 2 items, 1 barrier and 1 sender: item 1 and the barrier are queued, and the item runs.
+const LEGAL: &[Event] = &[
+    Hold(0, 1),
+    Push(0, 1),
+    Take,
+    Begin(1),
+    Hold(0, 2),
+    Push(0, 2),
+    End(1),
+    Close,
+];
+
+/// Its fourth event begins the item again.
+const TWICE: &[Event] = &[Hold(0, 1), Push(0, 1), Begin(1), Begin(1), End(1), Close];
+
+/// The text of a history.
+fn written<R: Abort>(rt: &R, alloc: Global, history: &[Event]) -> Vec<u8> {
+    let layout = Layout::new(2, 1, 1).expect(rt, "a layout");
+    record_history(alloc, &layout, history).expect(rt, "memory")
+}
+
+#[test]
+fn legal_history_reads_back(rt: HostRuntime) {
+    let text = written(&rt, rt.alloc(), LEGAL);
+    let mut rest = text.as_slice();
+    let finding = check(rt.alloc(), &mut rest).expect(&rt, "a finding");
+    expect_same(
+        &rt,
+        (finding.stop, finding.is_legal, finding.left),
+        (None, true, 1),
+    );
+    expect_same(&rt, rest.len(), 0);
+}
+
+/// Its line is the eighth, behind the four of the header, and two lines stand behind it.
+#[test]
+fn stop_of_a_history_is_named(rt: HostRuntime) {
+    let text = written(&rt, rt.alloc(), TWICE);
+    let mut rest = text.as_slice();
+    let finding = check(rt.alloc(), &mut rest).expect(&rt, "a finding");
+    let stop = Stop {
+        line: 8,
+        cause: Cause::Runs(1),
+    };
+    expect_same(
+        &rt,
+        (finding.stop, finding.is_legal, finding.left),
+        (Some(stop), false, 1),
+    );
+    expect_same(&rt, rest, b"o end 1\no close\n".as_slice());
+}
