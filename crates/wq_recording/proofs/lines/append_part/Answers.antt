@@ -1,4 +1,4 @@
-use Rattle.std.proofs.Common.{◌≡◌, ◌-◌, ◌≤◌, ◌||◌, OnSome, length, take, sym, subst, nat_lt, rules}
+use Rattle.std.proofs.Common.{◌≡◌, ◌≤◌, ◌||◌, OnSome, length, take, sym, subst, nat_lt, rules}
 use Rattle.std.specs.Io.BufRead.{FillKeeps}
 use Rattle.std.proofs.BufReadLemmas.{Consumes_shown}
 use Rattle.std.specs.Io.{StartsWith, StopsAt, appended_bytes}
