@@ -1,6 +1,7 @@
 -- A book that meets senders.
 use Rattle.wq_plan.proofs.Common.{◌≡◌, ℕ, suc, ◌+◌, ◌*◌, List, [], ◌∷◌, length, refl, sym, ap, ◌∙◌, arith, All, sum_by, sum_by-cons, append-nil, owner_seat}
 use Rattle.wq_plan.proofs.Common.{Grows, Known, Sees, sender_counts, LedgerState, BookState, HasHeard, ledger_of, grows_same, prefix_on}
+use Rattle.wq_plan.proofs.Common.{IsPrefix, Event, IsTold}
 use Rattle.wq_live.proofs.Counting.{counts_none}
 
 pub heard_still : (b : BookState) → HasHeard b b
@@ -40,3 +41,7 @@ sum_same f c (x ∷ xs) all =
     let rest : sum_by f xs ≡ length xs * c = sum_same f c xs (λ i d lt. all (suc i) d (omega (arith, lt))) in
     let step : suc (length xs) * c ≡ length xs * c + c = omega arith in
     omega (arith, sum_by-cons f x xs, here, rest, step)
+
+-- a sender of which a history tells is told of in each later one
+pub told_on : (old now new : List Event) (xs : List Known) → IsPrefix now new → All (IsTold old now) xs → All (IsTold old new) xs
+told_on old now new xs more all i d lt = let t = all i d lt in (t.0, t.1, prefix_on t.0 now new t.2 more, t.3)

@@ -39,9 +39,10 @@ pub use Rattle.wq_worker.specs.Seats.{taking, taking_of}
 pub use Rattle.wq_worker.specs.State.{WorkerState, items_among, Moves, IsSameWorker}
 pub use Rattle.wq_worker.proofs.Rows.{worker_still, worker_on, moves_same}
 pub use Rattle.wq_worker.proofs.State.{items_among-item, items_among-other, quiet_taking}
-pub use Rattle.wq_plan.specs.Outcome.{ledger_of, HasHeard, HasGoneOn, HasEnded, queueings, Tells, IsWhole, IsTold, HasMet, AllKnown, IsKnown, queued_sum}
+pub use Rattle.wq_plan.specs.Outcome.{ledger_of, HasHeard, HasSettled, HasGoneOn, HasEnded, queueings, Tells, IsBookAfter, IsWhole, IsTold, HasMet, AllKnown}
+pub use Rattle.wq_plan.specs.Outcome.{IsKnown, queued_sum}
 pub use Rattle.wq_plan.specs.Plan.{IsLayoutOf}
-pub use Rattle.wq_plan.specs.Race.{items_at, IsOfStop, HasRaced, HasQueued, IsInVain, HasMade, HasStopped, IsStopAnswer, HasServed, AllQueued, IsQueuer}
+pub use Rattle.wq_plan.specs.Race.{items_at, IsOfStop, HasRaced, HasQueued, tries_in_vain, HasStopped, IsStopAnswer, HasServed, AllQueued, IsQueuer}
 pub use Rattle.wq_plan.specs.Sends.{RefusesFor, SendsOne, SendsAll, pushed, busy, refused}
 pub use Rattle.wq_plan.specs.Team.{IsNewTeam}
 pub use Rattle.wq_plan.specs.declared.idle.Idle.{Idle}

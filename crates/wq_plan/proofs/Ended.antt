@@ -6,12 +6,14 @@ use Rattle.wq_plan.proofs.Common.{closed_count, count_same, owner_seat, Why, Ref
 use Rattle.wq_plan.proofs.Common.{owner_counts, LedgerState, BookState}
 use Rattle.wq_plan.proofs.Common.{Unbalanced, AreWhole, AreOwnerWhole, ledgers_of, HasOne, IsUnbalanced, is_queued_below, below_more, below_all, WorkerState}
 use Rattle.wq_plan.proofs.Common.{items_among, SendsAll, count_by-append, accepted-count, Idle, Plan, Team, items_at, IsOfStop, HasRaced, queueings, Tells}
-use Rattle.wq_plan.proofs.Common.{IsWhole, IsTold, HasMet, AllKnown, HasEnded, HasHeard, ledger_of, own_between, prefix_on, count_by-le-length, IsComplete}
+use Rattle.wq_plan.proofs.Common.{IsWhole, IsBookAfter, IsLedgerOf, HasMet, AllKnown, HasEnded, HasSettled, ledger_of, own_between, prefix_on, count_by-le-length, IsComplete}
 use Rattle.wq_words.specs.declared.event.Why.TheVariants as why
 use Rattle.wq_words.specs.Limits.{most_text_items}
 use Rattle.wq_words.proofs.Order.{in_order}
 use Rattle.wq_worker.proofs.Draining.{begun-complete}
 use Rattle.wq_worker.proofs.Phase.{drains_own}
+use Rattle.wq_ledger.specs.declared.totals.Totals.{Totals}
+use Rattle.wq_ledger.specs.Balance.{Balances}
 use Rattle.wq_plan.specs.declared.outcome.Outcome.{Outcome}
 use Rattle.wq_plan.proofs.Running.{own_room}
 use Rattle.wq_plan.proofs.Serving.{chains_same, asks_same}
@@ -52,16 +54,16 @@ surely true P Q m not = refl
 surely false P Q m not = absurd (not m)
 
 -- what a race leaves, once its queue is destroyed and its book has met the senders
-pub record IsOver (plan : Plan) (team : Team) (w : WorkerState Idle) (senders : List Known) (work : Idle) (book : BookState) : Type 0 where
+pub record IsOver (plan : Plan) (team : Team) (w : WorkerState Idle) (senders : List Known) (work : Idle) (book last : BookState)
+    (ledgers : List LedgerState) : Type 0 where
   pub run : HasRaced plan team
   pub met : HasMet team.worker w
   pub known : AllKnown w.seen team.senders.items senders
   pub ended : HasEnded w work book
-  pub told : All (IsTold book.seen) senders
-  pub program : (later : List Event) × IsPrefix book.seen later × (own (plan.senders + 1) later ≡ own (plan.senders + 1) team.program.seen)
+  pub settled : HasSettled book senders team.program last ledgers
 
-module _ (plan : Plan) (team : Team) (w : WorkerState Idle) (senders : List Known) (work : Idle) (book : BookState)
-    (o : IsOver plan team w senders work book) where
+module _ (plan : Plan) (team : Team) (w : WorkerState Idle) (senders : List Known) (work : Idle) (book last : BookState) (ledgers : List LedgerState)
+    (o : IsOver plan team w senders work book last ledgers) where
   size : book.layout ≡ team.worker.layout
   size = o.ended.layout_is ∙ o.met.same.layout_is
 
@@ -79,8 +81,8 @@ module _ (plan : Plan) (team : Team) (w : WorkerState Idle) (senders : List Know
       let first = o.run.each s d lt in let k = o.known.each s d (omega (arith, lt, o.run.count)) in
       let now = get_or senders s d in
       let number : now.number ≡ s = k.same.number_is ∙ first.number_is in
-      let t = o.told s d (omega (arith, lt, o.run.count, o.known.count)) in
-      let later : own s t.0 ≡ own s now.seen = subst (λ (c : ℕ). own c t.0 ≡ own c now.seen) number t.2 in
+      let t = o.settled.told s d (omega (arith, lt, o.run.count, o.known.count)) in
+      let later : own s t.0 ≡ own s now.seen = subst (λ (c : ℕ). own c t.0 ≡ own c now.seen) number t.3 in
       let heard : own s book.seen ≡ own s now.seen = own_between s now.seen book.seen t.0
       (prefix_on now.seen w.seen book.seen k.known o.ended.quiet.begins) t.1 later in
       let before : own s now.seen ≡ own s (get_or team.senders.items s d).seen = subst
@@ -98,13 +100,22 @@ module _ (plan : Plan) (team : Team) (w : WorkerState Idle) (senders : List Know
   nobody : Known
   nobody = team.program
 
+  -- what the program's sender did is all in the book in the end, and what was in it before is a part of that
+  program_told : own (plan.senders + 1) last.seen ≡ own (plan.senders + 1) team.program.seen
+  program_told = subst (λ (c : ℕ). own c last.seen ≡ own c team.program.seen) o.run.program_number o.settled.program_told
+
+  abbrev later : List Event
+  later = o.settled.heard.begins.0
+
+  program_parts : own (plan.senders + 1) book.seen ++ own (plan.senders + 1) later ≡ own (plan.senders + 1) team.program.seen
+  program_parts = sym (own-append (plan.senders + 1) book.seen later) ∙ (ap (own (plan.senders + 1)) o.settled.heard.begins.1 ∙ program_told)
+
   is_race : IsRace plan.senders plan.own team.worker.layout book.seen
   is_race =
       let number : w.number ≡ plan.senders = o.met.same.number_is ∙ o.run.number_is in
       let sent : own plan.senders book.seen ≡ own plan.senders w.seen = subst (λ (c : ℕ). own c book.seen ≡ own c w.seen) number o.ended.quiet.unsent in
       let before : own plan.senders w.seen ≡ own plan.senders team.worker.seen = subst
       (λ (c : ℕ). own c w.seen ≡ own c team.worker.seen) o.run.number_is o.met.unsent in
-      let p = o.program in
       let none : own plan.senders book.seen ≡ [] = sent ∙ (before ∙ o.run.unsent) in
       record {
         shared = record {
@@ -113,9 +124,8 @@ module _ (plan : Plan) (team : Team) (w : WorkerState Idle) (senders : List Know
           queued = λ s lt. (sender_at s nobody lt).queued;
           unpushed = queued_own plan.senders book.seen ∙ ap (count_by (is_queued_by plan.senders)) none;
           unchained = o.ended.quiet.unchained ∙ (chains_same team.worker.seen w.seen o.met.idle ∙ o.run.unchained);
-          stops = all_front (IsOfStop team.worker.layout) (own (plan.senders + 1) book.seen) (own (plan.senders + 1) p.1.0)
-              (subst (AllByRecursion (IsOfStop team.worker.layout)) (sym (sym (own-append (plan.senders + 1) book.seen p.1.0)
-              ∙ (ap (own (plan.senders + 1)) p.1.1 ∙ p.2))) o.run.stops);
+          stops = all_front (IsOfStop team.worker.layout) (own (plan.senders + 1) book.seen) (own (plan.senders + 1) later)
+              (subst (AllByRecursion (IsOfStop team.worker.layout)) (sym program_parts) o.run.stops);
         };
         opens = λ s k cause lt. (sender_at s nobody lt).opens k cause;
         unsent = none;
@@ -148,19 +158,6 @@ module _ (plan : Plan) (team : Team) (w : WorkerState Idle) (senders : List Know
   pub ran_all : min (length work.ran.items) 18446744073709551615 ≡ plan.senders * plan.own
   ran_all = omega (arith, ap (length {A = ℕ}) (o.ended.ran_is ∙ ap (λ (l : Layout). items_among l (accepted book.seen)) size), accepted_all, few_items)
 
-  pub tells : (outcome : Outcome) → IsWhole plan outcome → Tells plan team.worker outcome
-  tells outcome whole = record {
-    history = book.seen;
-    begins = prefix_on team.worker.seen w.seen book.seen o.met.begins o.ended.quiet.begins;
-    legal = legal;
-    complete = o.ended.complete;
-    queued = was_queued plan.senders plan.own team.worker.layout book.seen is_race;
-    served = (team.worker.seen, prefix_on team.worker.seen w.seen book.seen o.met.begins o.ended.quiet.begins, o.run.unclosed, o.run.stopped);
-    accepted_is = whole.accepted_is ∙ sym accepted_all;
-    ran_is = whole.ran_is ∙ (sym accepted_all
-        ∙ ap (λ (ks : List ℕ). length (items_among team.worker.layout ks)) (sym (all_ended team.worker.layout book.seen legal o.ended.complete)));
-  }
-
   few_own_events : (s : ℕ) (d : Known) → s < plan.senders → length (own (get_or senders s d).number (get_or senders s d).seen) < 2 ^ 64 - 1
   few_own_events s d lt =
       let at = sender_at s d lt in let now = get_or senders s d in
@@ -177,9 +174,8 @@ module _ (plan : Plan) (team : Team) (w : WorkerState Idle) (senders : List Know
 
   few_stops : length (own (plan.senders + 1) book.seen) ≤ 2 * 2 ^ 32
   few_stops =
-      let c = plan.senders + 1 in let p = o.program in
-      let parts : own c p.0 ≡ own c book.seen ++ own c p.1.0 = ap (own c) (sym p.1.1) ∙ own-append c book.seen p.1.0 in
-      omega (arith, ap (length {A = Event}) parts, length-append (own c book.seen) (own c p.1.0), ap (length {A = Event}) p.2, o.run.few_stops)
+      let c = plan.senders + 1 in
+      omega (arith, ap (length {A = Event}) program_parts, length-append (own c book.seen) (own c later), o.run.few_stops)
 
   few_ended : length (ended book.seen) < 2 ^ 64 - 1
   few_ended =
@@ -203,13 +199,12 @@ module _ (plan : Plan) (team : Team) (w : WorkerState Idle) (senders : List Know
         few_items,
       )
 
-  -- whatever the book has met since, the ledgers balance
-  pub never_unbalanced : (final : BookState) (ledgers : List LedgerState) → HasHeard book final
-      → ledgers ≡ map ledger_of senders ++ ledger_of team.program ∷ [] → (fault : Unbalanced) → ¬ IsUnbalanced final ledgers fault
-  never_unbalanced final ledgers heard all fault =
-      let n = plan.senders in
+  -- the ledgers balance
+  pub never_unbalanced : (fault : Unbalanced) → ¬ IsUnbalanced last ledgers fault
+  never_unbalanced fault =
+      let n = plan.senders in let heard = o.settled.heard in let all = o.settled.ledgers_are in
       let number : book.own.number ≡ n = o.ended.number_is ∙ (o.met.same.number_is ∙ o.run.number_is) in
-      let few : final.layout.senders ≡ n + 2 = ap (λ (l : Layout). l.senders) (heard.layout_is ∙ size) ∙ o.run.layout.senders_is in
+      let few : last.layout.senders ≡ n + 2 = ap (λ (l : Layout). l.senders) (heard.layout_is ∙ size) ∙ o.run.layout.senders_is in
       let numbered : AreNumbered 0 senders = λ i d lt. let at : (get_or senders i d).number ≡ i = (sender_at i d (omega (
         arith,
         lt,
@@ -221,7 +216,7 @@ module _ (plan : Plan) (team : Team) (w : WorkerState Idle) (senders : List Know
         ap (ledgers_of s) all ∙ one_ledger n s senders team.program nobody numbered senders_count o.run.program_number lt,
         whole_counts (get_or senders s nobody).number (get_or senders s nobody).seen (few_own_events s nobody lt),
       ) in
-      let last : HasOne ledgers (n + 1) = (
+      let stopper : HasOne ledgers (n + 1) = (
         ledger_of team.program,
         ap (ledgers_of (n + 1)) all ∙ last_ledger n senders team.program numbered senders_count o.run.program_number,
         whole_counts team.program.number team.program.seen (omega (
@@ -230,7 +225,7 @@ module _ (plan : Plan) (team : Team) (w : WorkerState Idle) (senders : List Know
           o.run.few_stops,
         )),
       ) in
-      let ones : (s : ℕ) → s < final.layout.senders → s ≢ final.own.number → HasOne ledgers s = λ s lt not. elim (cases_lt s n) [
+      let ones : (s : ℕ) → s < last.layout.senders → s ≢ last.own.number → HasOne ledgers s = λ s lt not. elim (cases_lt s n) [
         | inl less ↦ one s less
         | inr ge ↦ let is : n + 1 ≡ s = omega (
           arith,
@@ -238,15 +233,46 @@ module _ (plan : Plan) (team : Team) (w : WorkerState Idle) (senders : List Know
           few,
           ge,
           λ (i : s ≡ n). not (i ∙ (sym number ∙ sym (ap (λ (l : LedgerState). l.number) heard.own_is))),
-        ) in subst (HasOne ledgers) is last
+        ) in subst (HasOne ledgers) is stopper
       ] in
-      let chains : count_by is_chain final.seen ≡ 0 = chains_same book.seen final.seen heard.idle ∙ is_race.shared.unchained in
-      let asks : count_by is_chain_busy final.seen ≡ 0 = asks_same book.seen final.seen heard.idle
+      let chains : count_by is_chain last.seen ≡ 0 = chains_same book.seen last.seen heard.idle ∙ is_race.shared.unchained in
+      let asks : count_by is_chain_busy last.seen ≡ 0 = asks_same book.seen last.seen heard.idle
       ∙ (o.ended.quiet.unasked ∙ (asks_same team.worker.seen w.seen o.met.idle ∙ o.run.unasked)) in
-      let ends : length (ended final.seen) ≡ length (ended book.seen) = ap (length {A = ℕ}) (ended_same book.seen final.seen heard.idle) in
-      let owners : AreOwnerWhole (owner_counts final.seen) = (
+      let ends : length (ended last.seen) ≡ length (ended book.seen) = ap (length {A = ℕ}) (ended_same book.seen last.seen heard.idle) in
+      let owners : AreOwnerWhole (owner_counts last.seen) = (
         (λ is. omega (arith, is, chains)),
         (λ is. omega (arith, is, asks)),
         (λ is. omega (arith, is, ends, few_ended)),
       ) in
-      always_balanced final ledgers ones (subst (λ (l : LedgerState). AreWhole l.counts) (sym heard.own_is) mine) owners fault
+      always_balanced last ledgers ones (subst (λ (l : LedgerState). AreWhole l.counts) (sym heard.own_is) mine) owners fault
+
+  -- what the book has seen since
+  book_after : IsBookAfter team.worker book.seen last
+  book_after = let heard = o.settled.heard in record {
+    queue_is = heard.queue_is ∙ (o.ended.queue_is ∙ o.met.same.queue_is);
+    layout_is = heard.layout_is ∙ size;
+    number_is = ap (λ (l : LedgerState). l.number) heard.own_is ∙ (o.ended.number_is ∙ o.met.same.number_is);
+    own_made = subst (IsLedgerOf book.seen) (sym heard.own_is) o.ended.made;
+    heard = heard.begins;
+    idle = heard.idle;
+    legal = o.settled.legal;
+    complete = o.settled.complete;
+  }
+
+  pub tells : (outcome : Outcome) → IsWhole plan outcome
+      → MatchBool outcome.is_balanced ((totals : Totals) × Balances last ledgers totals) ((fault : Unbalanced) × IsUnbalanced last ledgers fault)
+      → Tells plan team.worker last ledgers outcome
+  tells outcome whole balanced = record {
+    history = book.seen;
+    begins = prefix_on team.worker.seen w.seen book.seen o.met.begins o.ended.quiet.begins;
+    legal = legal;
+    complete = o.ended.complete;
+    queued = was_queued plan.senders plan.own team.worker.layout book.seen is_race;
+    served = (team.worker.seen, prefix_on team.worker.seen w.seen book.seen o.met.begins o.ended.quiet.begins, o.run.unclosed, o.run.stopped);
+    accepted_is = whole.accepted_is ∙ sym accepted_all;
+    ran_is = whole.ran_is ∙ (sym accepted_all
+        ∙ ap (λ (ks : List ℕ). length (items_among team.worker.layout ks)) (sym (all_ended team.worker.layout book.seen legal o.ended.complete)));
+    book_after = book_after;
+    made = o.settled.made;
+    balanced = balanced;
+  }

@@ -2,11 +2,12 @@
 use Rattle.wq_plan.proofs.Common.{◌≡◌, ◌≢◌, ℕ, zero, suc, ◌+◌, ◌*◌, ◌-◌, ◌<◌, ◌≤◌, List, [], ◌∷◌, ◌++◌, length, refl, sym, ap, ◌∙◌, subst, arith}
 use Rattle.wq_plan.proofs.Common.{length-append, append_assoc, AllByRecursion, range_with_len, append-nil, Layout, Event, stop_number, Grows, Known, Sees}
 use Rattle.wq_plan.proofs.Common.{SendsOne}
-use Rattle.wq_plan.proofs.Common.{SendsAll, pushed, busy, refused, HasQueued, IsOfStop, IsInVain, HasMade, HasStopped, IsStopAnswer}
+use Rattle.wq_plan.proofs.Common.{SendsAll, pushed, busy, refused, HasQueued, IsOfStop, tries_in_vain, HasStopped, IsStopAnswer, Hold, Back}
 use Rattle.wq_words.specs.declared.answer.Answer.{Answer}
 use Rattle.wq_words.specs.declared.answer.Answer.TheVariants as answer
 use Rattle.wq_words.specs.declared.event.Why.TheVariants as why
 use Rattle.wq_live.specs.Answers.{Answers}
+use Rattle.wq_live.specs.Known.{IsSame}
 use Rattle.wq_live.proofs.Growing.{grows_on}
 use Rattle.wq_live.proofs.Sends.{same_none, same_on}
 use Rattle.wq_words.proofs.Seen.{grows_none as grows_still}
@@ -67,65 +68,84 @@ queued_next first item a b c le x y =
     (queued_more (range_with_len first (item - first)) item a b c x y)
 
 -- the stop item
-made_one : (K : Layout → Event → Type 0) (n : ℕ) (es : List Event) (old new : Known) → AllByRecursion (K old.layout) es → length es ≤ 2 → Sees es n old new
-    → HasMade K 2 old new
-made_one K n es old new all few s = record {
+stopped_by : (n : ℕ) (es : List Event) (old new : Known) → AllByRecursion (IsOfStop old.layout) es → length es ≤ 2 → Sees es n old new → HasStopped 2 old new
+stopped_by n es old new all few s = record {
   same = s.same;
   events = es;
-  of_kind = all;
+  of_stop = all;
   few_events = few;
   grows = record { new = s.grows.new; is = s.grows.is; mine = s.grows.mine; theirs = omega arith };
 }
 
 stopped_one : (tries : ℕ) (a : Answer) (old new : Known) → Answers (stop_number old.layout) tries a old new → HasStopped 2 old new
-stopped_one tries (answer.Queued first wakes) old new h = made_one IsOfStop 0 _ old new (refl, (refl, tt)) (omega arith) h.0
-stopped_one tries answer.Pending old new h = made_one IsOfStop 0 _ old new (refl, tt) (omega arith) h
-stopped_one tries answer.Closed old new h = made_one IsOfStop 0 _ old new (refl, (refl, tt)) (omega arith) h
-stopped_one tries answer.Contended old new h = made_one IsOfStop tries _ old new (refl, (refl, tt)) (omega arith) h
-stopped_one tries answer.Draining old new h = made_one IsOfStop 0 _ old new (refl, (refl, tt)) (omega arith) h.0
+stopped_one tries (answer.Queued first wakes) old new h = stopped_by 0 _ old new (refl, (refl, tt)) (omega arith) h.0
+stopped_one tries answer.Pending old new h = stopped_by 0 _ old new (refl, tt) (omega arith) h
+stopped_one tries answer.Closed old new h = stopped_by 0 _ old new (refl, (refl, tt)) (omega arith) h
+stopped_one tries answer.Contended old new h = stopped_by tries _ old new (refl, (refl, tt)) (omega arith) h
+stopped_one tries answer.Draining old new h = stopped_by 0 _ old new (refl, (refl, tt)) (omega arith) h.0
 
-vain_one : (tries : ℕ) (a : Answer) (old new : Known) → a ≡ answer.Contended → Answers (stop_number old.layout) tries a old new → HasMade IsInVain 2 old new
-vain_one tries a old new is h =
-    made_one IsInVain tries _ old new (refl, (refl, tt)) (omega arith)
-    (subst (λ (r : Answer). Answers (stop_number old.layout) tries r old new) is h)
-
-pub made_none : (K : Layout → Event → Type 0) (a : Known) → HasMade K 0 a a
-made_none K a = record { same = same_none a; events = []; of_kind = tt; few_events = omega arith; grows = grows_still a.number a.seen }
+stopped_none : (a : Known) → HasStopped 0 a a
+stopped_none a = record { same = same_none a; events = []; of_stop = tt; few_events = omega arith; grows = grows_still a.number a.seen }
 
 all_both : (P : Event → Type 0) (xs ys : List Event) → AllByRecursion P xs → AllByRecursion P ys → AllByRecursion P (xs ++ ys)
 all_both P [] ys a b = b
 all_both P (x ∷ xs) ys a b = (a.0, all_both P xs ys a.1 b)
 
-made_more : (K : Layout → Event → Type 0) (m n : ℕ) (a b c : Known) → m + 2 ≤ n → HasMade K m a b → HasMade K 2 b c → HasMade K n a c
-made_more K m n a b c le x y = record {
+stopped_more : (m n : ℕ) (a b c : Known) → m + 2 ≤ n → HasStopped m a b → HasStopped 2 b c → HasStopped n a c
+stopped_more m n a b c le x y = record {
   same = same_on a b c x.same y.same;
   events = x.events ++ y.events;
-  of_kind = all_both (K a.layout) x.events y.events x.of_kind (subst (λ (l : Layout). AllByRecursion (K l) y.events) x.same.layout_is y.of_kind);
+  of_stop = all_both (IsOfStop a.layout) x.events y.events x.of_stop (subst (λ (l : Layout). AllByRecursion (IsOfStop l) y.events) x.same.layout_is y.of_stop);
   few_events = omega (arith, le, length-append x.events y.events, x.few_events, y.few_events);
   grows = grows_on a.number x.events y.events 0 0 0 a.seen b.seen c.seen (omega arith) x.grows
       (subst (λ (n : ℕ). Grows n y.events 0 b.seen c.seen) x.same.number_is y.grows);
 }
 
-pub made_fewer : (K : Layout → Event → Type 0) (m n : ℕ) (a b : Known) → m ≤ n → HasMade K m a b → HasMade K n a b
-made_fewer K m n a b le s = record { same = s.same; events = s.events; of_kind = s.of_kind; few_events = omega (arith, le, s.few_events); grows = s.grows }
+-- so many tries, all in vain
+pub record IsInVain (n : ℕ) (old new : Known) : Type 0 where
+  pub same : IsSame old new
+  pub before : Grows old.number (tries_in_vain n old.number (stop_number old.layout)) (n * 4294967295) old.seen new.seen
+  pub stopped : HasStopped (2 * n) old new
+
+pub vain_none : (a : Known) → IsInVain 0 a a
+vain_none a = record { same = same_none a; before = grows_still a.number a.seen; stopped = stopped_none a }
+
+vain-last : (n s k : ℕ) → tries_in_vain (n + 1) s k ≡ tries_in_vain n s k ++ Hold s k ∷ Back s k why.Contended ∷ []
+vain-last zero s k = refl
+vain-last (suc n) s k = let next : suc n + 1 ≡ suc (n + 1) = omega arith in
+    ap (λ (m : ℕ). tries_in_vain m s k) next ∙ ap (λ (es : List Event). Hold s k ∷ Back s k why.Contended ∷ es) (vain-last n s k)
 
 -- one more try, in vain
-pub vain_more : (n : ℕ) (r : Answer) (a b c : Known) → r ≡ answer.Contended → HasMade IsInVain (2 * n) a b × HasStopped (2 * n) a b
-    → Answers (stop_number b.layout) 4294967295 r b c → HasMade IsInVain (2 * (n + 1)) a c × HasStopped (2 * (n + 1)) a c
-vain_more n r a b c is x y = (
-  made_more IsInVain (2 * n) (2 * (n + 1)) a b c (omega arith) x.0 (vain_one 4294967295 r b c is y),
-  made_more IsOfStop (2 * n) (2 * (n + 1)) a b c (omega arith) x.1 (stopped_one 4294967295 r b c y),
-)
+pub vain_more : (n : ℕ) (r : Answer) (a b c : Known) → r ≡ answer.Contended → IsInVain n a b → Answers (stop_number b.layout) 4294967295 r b c
+    → IsInVain (n + 1) a c
+vain_more n r a b c is x y =
+    let k = stop_number a.layout in let s = a.number in
+    let one : Sees (Hold b.number (stop_number b.layout) ∷ Back b.number (stop_number b.layout) why.Contended ∷ []) 4294967295 b c = subst
+    (λ (r : Answer). Answers (stop_number b.layout) 4294967295 r b c) is y in
+    let last : Grows s (Hold s k ∷ Back s k why.Contended ∷ []) 4294967295 b.seen c.seen = subst
+    (λ (l : Layout). Grows s (Hold s (stop_number l) ∷ Back s (stop_number l) why.Contended ∷ []) 4294967295 b.seen c.seen) x.same.layout_is
+    (subst (λ (t : ℕ). Grows t (Hold t (stop_number b.layout) ∷ Back t (stop_number b.layout) why.Contended ∷ []) 4294967295 b.seen c.seen) x.same.number_is
+    one.grows) in
+    record {
+      same = same_on a b c x.same one.same;
+      before = subst (λ (es : List Event). Grows s es ((n + 1) * 4294967295) a.seen c.seen) (sym (vain-last n s k))
+          (grows_on s (tries_in_vain n s k) (Hold s k ∷ Back s k why.Contended ∷ []) (n * 4294967295) 4294967295 ((n + 1) * 4294967295) a.seen b.seen c.seen
+          (omega arith) x.before last);
+      stopped = stopped_more (2 * n) (2 * (n + 1)) a b c (omega arith) x.stopped (stopped_one 4294967295 r b c y);
+    }
 
 -- the last try
-pub last_stopped : (n : ℕ) (r : Answer) (a b c : Known) → n < 4294967296 → HasStopped (2 * n) a b → Answers (stop_number b.layout) 4294967295 r b c
+pub last_stopped : (n : ℕ) (r : Answer) (a b c : Known) → n < 4294967296 → IsInVain n a b → Answers (stop_number b.layout) 4294967295 r b c
     → HasStopped 8589934592 a c
-last_stopped n r a b c lt x y = made_more IsOfStop (2 * n) 8589934592 a b c (omega (arith, lt)) x (stopped_one 4294967295 r b c y)
+last_stopped n r a b c lt x y = stopped_more (2 * n) 8589934592 a b c (omega (arith, lt)) x.stopped (stopped_one 4294967295 r b c y)
 
-pub last_answer : (n : ℕ) (r : Answer) (a b c : Known) → n < 4294967296 → HasMade IsInVain (2 * n) a b → Answers (stop_number b.layout) 4294967295 r b c
+pub last_answer : (n : ℕ) (r : Answer) (a b c : Known) → n < 4294967296 → IsInVain n a b → Answers (stop_number b.layout) 4294967295 r b c
     → IsStopAnswer r a c
 last_answer n r a b c lt x y = record {
+  tries = n;
+  few_tries = lt;
   between = b;
-  before = made_fewer IsInVain (2 * n) 8589934592 a b (omega (arith, lt)) x;
+  same = x.same;
+  before = x.before;
   last = subst (λ (l : Layout). Answers (stop_number l) 4294967295 r b c) x.same.layout_is y;
 }

@@ -89,6 +89,6 @@ has_raced plan old new n served all stopped =
       program_number = stopped.same.number_is ∙ p;
       program_queue = stopped.same.queue_is ∙ (ap (λ (k : Known). k.queue) n.program_is ∙ sym served.same.queue_is);
       stops = subst (λ (k : Layout). AllByRecursion (IsOfStop k) (own (plan.senders + 1) new.program.seen)) size
-          (subst (λ (es : List Event). AllByRecursion (IsOfStop old.program.layout) es) (sym mine) stopped.of_kind);
+          (subst (λ (es : List Event). AllByRecursion (IsOfStop old.program.layout) es) (sym mine) stopped.of_stop);
       few_stops = omega (arith, ap length mine, stopped.few_events);
     }

@@ -11,6 +11,7 @@ use Rattle.wq_worker.specs.State.{WorkerState, items_among, IsSameWorker}
 use Rattle.wq_plan.specs.declared.idle.Idle.{Idle}
 use Rattle.wq_plan.specs.declared.plan.Plan.{Plan}
 use Rattle.wq_plan.specs.declared.outcome.Outcome.{Outcome}
+use Rattle.wq_plan.specs.Plan.{IsLayoutOf}
 use Rattle.wq_plan.specs.Race.{items_at, EndsWithStop, QueuesNothing}
 use Rattle.wq_live.specs.Known.{Known, IsSame}
 use Rattle.wq_live.specs.Counts.{sender_counts}
@@ -32,11 +33,24 @@ abbrev pub queueings : ℕ → List ℕ → List Event
 queueings s [] = []
 queueings s (k ∷ ks) = Hold s k ∷ Push s k ∷ queueings s ks
 
--- A history of the worker's queue that goes on from what the worker had seen, is legal and has run to its end. In it each of
--- the plan's senders queued its own items in order, once each, and the outcome's numbers are how many items were accepted
--- and how many executions of items ended: barriers and the stop item are no items. The worker served until the stop item had
--- ended, and the queue was closed after that.
-pub record Tells (plan : Plan) (worker : WorkerState Idle) (outcome : Outcome) : Type 0 where
+-- The book of a worker's queue that ran to its end with this history: it has the ledger of the worker's own sender, and what it
+-- has seen goes on from the history, legal and at its end too, without an event of the owner.
+pub record IsBookAfter (worker : WorkerState Idle) (history : List Event) (book : BookState) : Type 0 where
+  pub queue_is : book.queue ≡ worker.queue
+  pub layout_is : book.layout ≡ worker.layout
+  pub number_is : book.own.number ≡ worker.number
+  pub own_made : IsLedgerOf history book.own
+  pub heard : IsPrefix history book.seen
+  pub idle : own owner_seat book.seen ≡ own owner_seat history
+  pub legal : IsLegal book.layout book.seen
+  pub complete : IsComplete book.seen
+
+-- The history of the worker's queue goes on from what the worker had seen, is legal and has run to its end. In it each of the
+-- plan's senders queued its own items in order, once each, and the outcome's numbers are how many items were accepted and how
+-- many executions of items ended: barriers and the stop item are no items. The worker served until the stop item had ended, and
+-- the queue was closed after that. The book is that queue's, and made these ledgers: the outcome says that it balances just
+-- where each sender but the worker's has one of them and they balance with the book.
+pub record Tells (plan : Plan) (worker : WorkerState Idle) (book : BookState) (ledgers : List LedgerState) (outcome : Outcome) : Type 0 where
   pub history : List Event
   pub begins : IsPrefix worker.seen history
   pub legal : IsLegal worker.layout history
@@ -45,6 +59,17 @@ pub record Tells (plan : Plan) (worker : WorkerState Idle) (outcome : Outcome) :
   pub served : (front : List Event) × IsPrefix front history × (count_by is_close front ≡ 0) × EndsWithStop worker.layout front
   pub accepted_is : outcome.accepted ≡ length (items_among worker.layout (accepted history))
   pub ran_is : outcome.ran ≡ length (items_among worker.layout (ended history))
+  pub book_after : IsBookAfter worker history book
+  pub made : All (IsLedgerOf book.seen) ledgers
+  pub balanced : MatchBool outcome.is_balanced ((totals : Totals) × Balances book ledgers totals) ((fault : Unbalanced) × IsUnbalanced book ledgers fault)
+
+-- an outcome is of a worker of the plan's queue, of the book of that queue, and of ledgers
+pub record TellsRace (plan : Plan) (outcome : Outcome) : Type 0 where
+  pub worker : WorkerState Idle
+  pub book : BookState
+  pub ledgers : List LedgerState
+  pub sized : IsLayoutOf plan.senders plan.own worker.layout
+  pub tells : Tells plan worker book ledgers outcome
 
 -- each item of the plan was accepted once and ran once, and the ledgers balance
 pub record IsWhole (plan : Plan) (outcome : Outcome) : Type 0 where
@@ -94,9 +119,9 @@ pub record HasEnded (old : WorkerState Idle) (work : Idle) (book : BookState) : 
 abbrev pub ledger_of : Known → LedgerState
 ledger_of s = record { number = s.number; counts = sender_counts s.number s.seen }
 
--- what came after the history is known not to be of the sender
-abbrev pub IsTold : List Event → Known → Type 0
-IsTold h s = (later : List Event) × IsPrefix h later × (own s.number later ≡ own s.number s.seen)
+-- a history between these two has just the events of the sender that it has seen itself
+abbrev pub IsTold : List Event → List Event → Known → Type 0
+IsTold old new s = (later : List Event) × IsPrefix old later × IsPrefix later new × (own s.number later ≡ own s.number s.seen)
 
 -- the book of the same queue, of which the owner made no event
 pub record HasHeard (old new : BookState) : Type 0 where
@@ -106,14 +131,15 @@ pub record HasHeard (old new : BookState) : Type 0 where
   pub begins : IsPrefix old.seen new.seen
   pub idle : own owner_seat new.seen ≡ own owner_seat old.seen
 
--- A book that met these senders and the program's, and in the end answered whether all their ledgers balance.
-pub record HasSettled (book : BookState) (senders : List Known) (program : Known) (is_balanced : Bool) : Type 0 where
-  pub last : BookState
+-- a book that met these senders and then the program's, and in the end has the ledgers of all of them
+pub record HasSettled (book : BookState) (senders : List Known) (program : Known) (last : BookState) (ledgers : List LedgerState) : Type 0 where
   pub heard : HasHeard book last
-  pub told : All (IsTold book.seen) senders
-  pub program_told : IsTold book.seen program
-  pub answer : MatchBool is_balanced ((totals : Totals) × Balances last (map ledger_of senders ++ ledger_of program ∷ []) totals)
-      ((fault : Unbalanced) × IsUnbalanced last (map ledger_of senders ++ ledger_of program ∷ []) fault)
+  pub legal : IsLegal last.layout last.seen
+  pub complete : IsComplete last.seen
+  pub told : All (IsTold book.seen last.seen) senders
+  pub program_told : own program.number last.seen ≡ own program.number program.seen
+  pub made : All (IsLedgerOf last.seen) ledgers
+  pub ledgers_are : ledgers ≡ map ledger_of senders ++ ledger_of program ∷ []
 
 -- what the senders have queued in all, by their counts
 abbrev pub queued_sum : List Known → ℕ

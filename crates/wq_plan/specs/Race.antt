@@ -1,5 +1,5 @@
 -- What the seats of a race have done.
-use Rattle.std.specs.Prelude.{◌≡◌, ℕ, ◌+◌, ◌*◌, ◌^◌, ◌<◌, ◌≤◌, List, [], ◌∷◌, ◌++◌, length, count_by, slice_index_or}
+use Rattle.std.specs.Prelude.{◌≡◌, ◌≢◌, ℕ, zero, suc, ◌+◌, ◌*◌, ◌^◌, ◌<◌, ◌≤◌, List, [], ◌∷◌, ◌++◌, length, count_by, slice_index_or}
 use Rattle.std.specs.List.{AllByRecursion, range_with_len}
 use Rattle.std.specs.declared.thread.PromisedHandle.{PromisedHandle}
 use mathlib.Core.List.{IsPrefix}
@@ -15,6 +15,7 @@ use Rattle.wq_live.specs.declared.sender.Sender.{Sender}
 use Rattle.wq_live.specs.Known.{QueueId, Known, IsSame}
 use Rattle.wq_live.specs.Answers.{Answers}
 use Rattle.wq_words.specs.declared.answer.Answer.{Answer}
+use Rattle.wq_words.specs.declared.answer.Answer.TheVariants as answers
 use Rattle.wq_words.specs.Counting.{is_chain, is_chain_busy}
 use Rattle.wq_worker.specs.State.{WorkerState, IsSameWorker}
 use Rattle.wq_plan.specs.declared.idle.Idle.{Idle}
@@ -43,28 +44,27 @@ IsOfStop layout (Push s k) = k ≡ stop_number layout
 IsOfStop layout (Back s k why) = k ≡ stop_number layout
 IsOfStop layout _ = ⊥
 
--- the event is a sender's hold of the stop item, or gives it back after lost tries
-abbrev pub IsInVain : Layout → Event → Type 0
-IsInVain layout (Hold s k) = k ≡ stop_number layout
-IsInVain layout (Back s k why.Contended) = k ≡ stop_number layout
-IsInVain layout _ = ⊥
-
--- a sender made at most so many events, all of this kind
-pub record HasMade (Kind : Layout → Event → Type 0) (few : ℕ) (old new : Known) : Type 0 where
+-- a sender made at most so many events, all of the stop item
+pub record HasStopped (few : ℕ) (old new : Known) : Type 0 where
   pub same : IsSame old new
   pub events : List Event
-  pub of_kind : AllByRecursion (Kind old.layout) events
+  pub of_stop : AllByRecursion (IsOfStop old.layout) events
   pub few_events : length events ≤ few
   pub grows : Grows old.number events 0 old.seen new.seen
 
--- a sender tried to queue the stop item, with at most so many events
-abbrev pub HasStopped : ℕ → Known → Known → Type 0
-HasStopped few old new = HasMade IsOfStop few old new
+-- so many tries of the sender s to queue the number k, all in vain: each holds it, and gives it back after lost tries
+abbrev pub tries_in_vain : ℕ → ℕ → ℕ → List Event
+tries_in_vain zero s k = []
+tries_in_vain (suc n) s k = Hold s k ∷ Back s k why.Contended ∷ tries_in_vain n s k
 
--- a sender's last try to queue the stop item was given this answer, and each before it was in vain
+-- A sender's last try to queue the stop item was given this answer. Before it came nothing but tries in vain, in each of which
+-- other seats made at least 2^32 - 1 events.
 pub record IsStopAnswer (a : Answer) (old new : Known) : Type 0 where
+  pub tries : ℕ
+  pub few_tries : tries < 2 ^ 32
   pub between : Known
-  pub before : HasMade IsInVain (2 * 2 ^ 32) old between
+  pub same : IsSame old between
+  pub before : Grows old.number (tries_in_vain tries old.number (stop_number old.layout)) (tries * 4294967295) old.seen between.seen
   pub last : Answers (stop_number old.layout) 4294967295 a between new
 
 -- the stop item is the last that ended
@@ -99,6 +99,16 @@ pub record AllQueued (own : ℕ) (olds news : List Known) : Type 0 where
   pub count : length news ≡ length olds
   pub each : (i : ℕ) (d : Known) → i < length olds → HasQueued (items_at (slice_index_or olds i d).number own) (slice_index_or olds i d)
       (slice_index_or news i d)
+
+-- The seats of a team whose threads have ended, each of which went on from what it had seen: the worker served, each of the
+-- plan's senders queued its own items, and the program's queued the stop item, of which it was given an answer.
+pub record HasRun (own_items : ℕ) (old new : Team) : Type 0 where
+  pub worker : HasServed old.worker new.worker
+  pub senders : AllQueued own_items old.senders.items new.senders.items
+  pub program : HasStopped (2 * 2 ^ 32) old.program new.program
+  pub answer : Answer
+  pub answered : IsStopAnswer answer old.program new.program
+  pub settled : answer ≢ answers.Contended
 
 -- The sender of this number, of this queue of this size: its events are the queueings of its own items.
 pub record IsQueuer (own_items : ℕ) (queue : QueueId) (layout : Layout) (i : ℕ) (s : Known) : Type 0 where

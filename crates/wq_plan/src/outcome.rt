@@ -1,8 +1,9 @@
 //! What a race did, and whether its book balances.
-ghost use Rattle.std.specs.Prelude.{◌≡◌, ◌≢◌, ◌<◌, [], ◌∷◌, ◌++◌, map, All, OnOk, IfOk, MatchResult, MatchBool, string_bytes};
+ghost use Rattle.std.specs.Prelude.{◌≡◌, ◌≢◌, ◌<◌, [], ◌∷◌, ◌++◌, map, All, OnOk, OnErr, IfOk, MatchResult, MatchBool, string_bytes};
 ghost use Rattle.wq_words.specs.History.{IsRunning};
 ghost use Rattle.wq_words.specs.Legal.{IsLegal};
 ghost use Rattle.wq_words.specs.Seen.{owner_seat, own};
+ghost use Rattle.wq_live.specs.Known.{Sees};
 ghost use Rattle.wq_ledger.specs.Book.{IsLedgerOf};
 ghost use Rattle.wq_ledger.specs.Balance.{Balances, IsUnbalanced};
 ghost use Rattle.wq_plan.specs.Race.{HasRaced};
@@ -36,8 +37,11 @@ pub fn enter(
     requires one { sender.old.queue ≡ book.old.queue }
     requires made { All (IsLedgerOf book.old.seen) ledgers.old.items }
     ensures book { HasHeard book.old book.new }
+    ensures sender { Sees [] 0 sender.old sender.new }
+    ensures both { sender.new.seen ≡ book.new.seen }
     ensures made { OnOk result (All (IsLedgerOf book.new.seen) ledgers.new.items) }
     ensures ledger { OnOk result (ledgers.new.items ≡ ledgers.old.items ++ ledger_of sender.old ∷ []) }
+    ensures unchanged { OnErr result (ledgers.new.items ≡ ledgers.old.items) }
     ensures told { own sender.old.number book.new.seen ≡ own sender.old.number sender.old.seen }
 {
     let ledger = book.meet(sender);
@@ -56,7 +60,7 @@ pub fn enter_all(
     ensures book { HasHeard book.old book.new }
     ensures made { OnOk result (All (IsLedgerOf book.new.seen) ledgers.new.items) }
     ensures ledgers { OnOk result (ledgers.new.items ≡ map ledger_of senders.items) }
-    ensures told { OnOk result (All (IsTold book.old.seen) senders.items) }
+    ensures told { OnOk result (All (IsTold book.old.seen book.new.seen) senders.items) }
 {
     for mut sender in senders {
         enter(book, ledgers, &mut sender)?;
@@ -129,36 +133,38 @@ pub fn is_balanced(book: &Book, ledgers: &[Ledger]) -> bool
     }
 }
 
-// The book meets these senders and then the program's: whether the ledgers of all balance.
-fn is_balanced_with(
+// The book meets these senders and then the program's, and has a ledger of each.
+fn enter_team(
     book: &mut Book,
-    mut ledgers: Vec<Ledger>,
+    ledgers: &mut Vec<Ledger>,
     senders: Vec<Sender>,
     program: &mut Sender,
-) -> Result<bool, AllocError>
+) -> Result<(), AllocError>
     requires one { All (λ s. s.queue ≡ book.old.queue) senders.items }
     requires program { program.old.queue ≡ book.old.queue }
-    requires none { ledgers.items ≡ [] }
-    ensures { IfOk result (HasSettled book.old senders.items program.old) }
+    requires none { ledgers.old.items ≡ [] }
+    ensures { OnOk result (HasSettled book.old senders.items program.old book.new ledgers.new.items) }
 {
-    enter_all(book, &mut ledgers, senders)?;
-    enter(book, &mut ledgers, program)?;
-    Ok(is_balanced(book, &ledgers))
+    enter_all(book, ledgers, senders)?;
+    enter(book, ledgers, program)?;
+    book.legal();
+    Ok(())
 }
 
-// The same, of a book and a sender that are done with afterwards.
+// The same, of a book and ledgers that are given back, and of a sender that is done with afterwards.
 fn settle(
     mut book: Book,
-    ledgers: Vec<Ledger>,
+    mut ledgers: Vec<Ledger>,
     senders: Vec<Sender>,
     mut program: Sender,
-) -> Result<bool, AllocError>
+) -> Result<(Book, Vec<Ledger>), AllocError>
     requires one { All (λ s. s.queue ≡ book.queue) senders.items }
     requires program { program.queue ≡ book.queue }
     requires none { ledgers.items ≡ [] }
-    ensures { IfOk result (HasSettled book senders.items program) }
+    ensures { IfOk result (λ met. HasSettled book senders.items program met.0 met.1.items) }
 {
-    is_balanced_with(&mut book, ledgers, senders, &mut program)
+    enter_team(&mut book, &mut ledgers, senders, &mut program)?;
+    Ok((book, ledgers))
 }
 
 fn yes_or_no(is: bool) -> &'static str
@@ -181,13 +187,19 @@ impl Outcome {
         )
     }
 
-    /// Destroys the queue of a team that has run its race, and balances the book.
+    /// Destroys the queue of a team that has run its race, and balances the book: the outcome, the book that the destroy left, and
+    /// the ledgers of the plan's senders and of the program's.
     ///
     /// # Errors
     /// Memory for the ledgers was refused.
-    pub fn of<R: Wait>(rt: &R, alloc: Global, team: Team) -> Result<Outcome, AllocError>
+    pub fn of<R: Wait>(
+        rt: &R,
+        alloc: Global,
+        team: Team,
+    ) -> Result<(Outcome, Book, Vec<Ledger>), AllocError>
         requires run { (plan : Plan) × HasRaced plan team }
-        ensures told { (plan : Plan) → HasRaced plan team → IfOk result (λ outcome. IsWhole plan outcome × Tells plan team.worker outcome) }
+        ensures told { (plan : Plan) → HasRaced plan team
+            → IfOk result (λ told. IsWhole plan told.0 × Tells plan team.worker told.1 told.2.items told.0) }
     {
         let ledgers = Vec::with_capacity(alloc, team.senders.len() + 1)?;
         let Team {
@@ -199,11 +211,13 @@ impl Outcome {
         let accepted = queued_by(&senders);
         let (work, book) = destroy(rt, worker);
         let ran = u128::from(work.count());
-        let is_balanced = settle(book, ledgers, senders, program)?;
-        Ok(Outcome {
+        let (book, ledgers) = settle(book, ledgers, senders, program)?;
+        let is_balanced = is_balanced(&book, &ledgers);
+        let outcome = Outcome {
             accepted,
             ran,
             is_balanced,
-        })
+        };
+        Ok((outcome, book, ledgers))
     }
 }

@@ -3,11 +3,9 @@ ghost use Rattle.std.specs.Prelude.{◌≡◌, ◌≢◌, ◌+◌, ◌*◌, ◌^
 ghost use Rattle.wq_words.specs.History.{IsRunning, IsShut};
 ghost use Rattle.wq_words.specs.Seen.{owner_seat};
 ghost use Rattle.wq_words.specs.declared.answer.Answer.TheVariants.{Contended};
-ghost use Rattle.wq_plan.specs.Race.{items_at, HasQueued, HasStopped, IsStopAnswer, HasServed, AreThreads, AllQueued, HasRaced};
-ghost use Rattle.wq_worker.specs.State.{WorkerState};
-ghost use Rattle.wq_plan.specs.Plan.{IsLayoutOf};
+ghost use Rattle.wq_plan.specs.Race.{items_at, HasQueued, HasStopped, IsStopAnswer, HasServed, AreThreads, AllQueued, HasRun, HasRaced};
 ghost use Rattle.wq_plan.specs.Team.{IsNewTeam};
-ghost use Rattle.wq_plan.specs.Outcome.{IsWhole, Tells};
+ghost use Rattle.wq_plan.specs.Outcome.{IsWhole, TellsRace};
 
 use crate::idle::Idle;
 use crate::outcome::Outcome;
@@ -269,7 +267,8 @@ fn run_threads<'s, E, R: Threads + Wait + Sync>(
     unparker: &Unparker,
 ) -> Result<Team, RaceError>
     requires { IsNewTeam plan team }
-    ensures { IfOk result (HasRaced plan) }
+    ensures raced { IfOk result (HasRaced plan) }
+    ensures team { IfOk result (HasRun plan.own team) }
 {
     let (serving, senders, mut program) = queue_all(scope, rt, alloc, plan, team, parker, unparker);
     stop(rt, &mut program, unparker);
@@ -299,7 +298,8 @@ pub fn run_team<R: Threads + Wait + Sync>(
     team: Team,
 ) -> Result<Team, RaceError>
     requires { IsNewTeam plan team }
-    ensures { IfOk result (HasRaced plan) }
+    ensures raced { IfOk result (HasRaced plan) }
+    ensures team { IfOk result (HasRun plan.own team) }
 {
     let parker = Parker::new(alloc)?;
     let unparker = parker.unparker().clone()?;
@@ -308,7 +308,7 @@ pub fn run_team<R: Threads + Wait + Sync>(
         rt,
         |scope| -> Result<Team, RaceError>
             requires { IsNewTeam plan team }
-            ensures { IfOk result (HasRaced plan) }
+            ensures { IfOk result (λ back. HasRaced plan back × HasRun plan.own team back) }
         { run_threads(scope, rt, alloc, plan, team, parker, &unparker) },
     )
 }
@@ -325,9 +325,10 @@ pub fn run_plan<R: Threads + Wait + Sync>(
     plan: Plan,
 ) -> Result<Outcome, RaceError>
     ensures whole { IfOk result (IsWhole plan) }
-    ensures told { IfOk result (λ outcome. (worker : WorkerState Idle) × IsLayoutOf plan.senders plan.own worker.layout × Tells plan worker outcome) }
+    ensures told { IfOk result (TellsRace plan) }
 {
     let team = Team::new(alloc, plan)?;
     let team = run_team(rt, alloc, plan, team)?;
-    Ok(Outcome::of(rt, alloc, team)?)
+    let (outcome, _book, _ledgers) = Outcome::of(rt, alloc, team)?;
+    Ok(outcome)
 }

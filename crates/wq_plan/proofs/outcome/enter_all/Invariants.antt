@@ -6,5 +6,5 @@ invariant-loop-sender l = record {
   book : HasHeard l.fn.book l.book;
   made : All (IsLedgerOf l.book.seen) l.ledgers.items;
   ledgers : l.ledgers.items ≡ map ledger_of l.yielded;
-  told : All (IsTold l.fn.book.seen) l.yielded;
+  told : All (IsTold l.fn.book.seen l.book.seen) l.yielded;
 }

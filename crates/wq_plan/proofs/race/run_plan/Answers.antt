@@ -1,4 +1,10 @@
 use Rattle.wq_plan.proofs.race.run_plan.Goals as goal
 
 pub returns-clause-told : goal.returns-clause-told
-returns-clause-told g c = (c.in_ok-team-2.team.worker, c.in_ok-team-2.ensures.layout, (c.in_ok-of.ensures.told c.args.plan c.in_ok-team-2.ensures).1)
+returns-clause-told g c = record {
+  worker = c.in_ok-team-2.team.worker;
+  book = c.in_ok-outcome._book;
+  ledgers = c.in_ok-outcome._ledgers.items;
+  sized = c.in_ok-team-2.ensures.raced.layout;
+  tells = (c.in_ok-outcome.ensures.told c.args.plan c.in_ok-team-2.ensures.raced).1;
+}

@@ -1,19 +1,19 @@
-use Rattle.wq_plan.proofs.Common.{arith, IsInVain, IsOfStop}
-use Rattle.wq_plan.proofs.Queueing.{made_none, vain_more, last_stopped, last_answer}
+use Rattle.wq_plan.proofs.Common.{arith}
+use Rattle.wq_plan.proofs.Queueing.{vain_none, vain_more, last_stopped, last_answer}
 use Rattle.wq_plan.proofs.race.try_stop.Goals as goal
 
 pub loop-init : goal.loop-init
-loop-init c = (made_none IsInVain c.args.program.now, made_none IsOfStop c.args.program.now)
+loop-init c = vain_none c.args.program.now
 
 pub returns-in_default-clause-few : goal.returns-in_default-clause-few
 returns-in_default-clause-few c =
     last_stopped c.loop.counter c.request_stop.result c.args.program.now c.loop.program c.request_stop.new.self
-    (omega (arith, c.loop-test.true)) c.loop.invariant.1 c.request_stop.ensures.answer
+    (omega (arith, c.loop-test.true)) c.loop.invariant c.request_stop.ensures.answer
 
 pub returns-in_default-clause-answer : goal.returns-in_default-clause-answer
 returns-in_default-clause-answer c =
     last_answer c.loop.counter c.request_stop.result c.args.program.now c.loop.program c.request_stop.new.self
-    (omega (arith, c.loop-test.true)) c.loop.invariant.0 c.request_stop.ensures.answer
+    (omega (arith, c.loop-test.true)) c.loop.invariant c.request_stop.ensures.answer
 
 pub loop-preserved : goal.loop-preserved
 loop-preserved c =
@@ -23,9 +23,9 @@ loop-preserved c =
 pub returns-clause-few : goal.returns-clause-few
 returns-clause-few c =
     last_stopped c.loop.counter c.request_stop-2.result c.args.program.now c.loop.program c.request_stop-2.new.self
-    (omega (arith, c.loop.auto.counter-end)) c.loop.invariant.1 c.request_stop-2.ensures.answer
+    (omega (arith, c.loop.auto.counter-end)) c.loop.invariant c.request_stop-2.ensures.answer
 
 pub returns-clause-answer : goal.returns-clause-answer
 returns-clause-answer c =
     last_answer c.loop.counter c.request_stop-2.result c.args.program.now c.loop.program c.request_stop-2.new.self
-    (omega (arith, c.loop.auto.counter-end)) c.loop.invariant.0 c.request_stop-2.ensures.answer
+    (omega (arith, c.loop.auto.counter-end)) c.loop.invariant c.request_stop-2.ensures.answer
