@@ -5,8 +5,8 @@
  *
  * Threads: any thread may use a seat, but one call at a time may be in it. A seat is handed to another thread by that thread's
  * start or join, a lock, or an atomic; different seats of one queue need nothing. No call waits, takes a lock, or starts a
- * thread; only wq_build takes memory, and the release of a queue's last seat frees it (and wq_check_history of wq_pure.h, until it
- * returns). No call is for a signal handler, or for the forked child of a process with threads.
+ * thread; only wq_build takes memory, which the release of a queue's last seat frees, and wq_check_history of wq_pure.h, which frees
+ * it before it returns. No call is for a signal handler, or for the forked child of a process with threads.
  */
 #ifndef WQ_H
 #define WQ_H
