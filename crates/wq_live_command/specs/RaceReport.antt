@@ -3,19 +3,21 @@ use Rattle.std.specs.Prelude.{◌≡◌, ℕ, List, take}
 use Rattle.wq_plan.specs.declared.plan.Plan.{Plan}
 use Rattle.wq_plan.specs.declared.outcome.Outcome.{Outcome}
 use Rattle.wq_plan.specs.PlanText.{SpellsPlan, IsNoPlan}
-use Rattle.wq_plan.specs.Outcome.{outcome_line, IsWhole}
+use Rattle.wq_plan.specs.Outcome.{outcome_line, IsWhole, TellsRace}
 use Rattle.wq_pool_plan.specs.Race.{IsLone}
 use Rattle.wq_pool_plan.specs.Outcome.{TellsPlan}
 use Rattle.wq_commands.specs.declared.failure.Failure.{Failure}
 use Rattle.wq_commands.specs.declared.failure.Failure.TheVariants as failure
 
 -- The text spells a plan, and this is the line of its outcome. Where one worker has one queue, each of the plan's items was
--- accepted once and ran once, and the ledgers balance; any other outcome tells of a run of each of the plan's queues.
+-- accepted once and ran once, and the outcome tells of that queue's history, book and ledgers, which balance; any other outcome
+-- tells of a run of each of the plan's queues.
 pub record Races (text line : List ℕ) : Type 0 where
   pub plan : Plan
   pub spells : SpellsPlan text plan
   pub outcome : Outcome
   pub whole : IsLone plan → IsWhole plan outcome
+  pub told : IsLone plan → TellsRace plan outcome
   pub pooled : ¬ IsLone plan → TellsPlan plan outcome
   pub line_is : line ≡ outcome_line outcome
 

@@ -42,7 +42,8 @@ pub use Rattle.wq_worker.proofs.State.{items_among-item, items_among-other, quie
 pub use Rattle.wq_plan.specs.Outcome.{ledger_of, HasHeard, HasSettled, HasGoneOn, HasEnded, queueings, Tells, IsBookAfter, IsWhole, IsTold, HasMet, AllKnown}
 pub use Rattle.wq_plan.specs.Outcome.{IsKnown, queued_sum}
 pub use Rattle.wq_plan.specs.Plan.{IsLayoutOf}
-pub use Rattle.wq_plan.specs.Race.{items_at, IsOfStop, HasRaced, HasQueued, tries_in_vain, HasStopped, IsStopAnswer, HasServed, AllQueued, IsQueuer}
+pub use Rattle.wq_plan.specs.Race.{items_at, IsOfStop, HasRaced, HasQueued, tries_in_vain, HasStopped, IsStopAnswer, HasQueuedStop, HasServed, AllQueued}
+pub use Rattle.wq_plan.specs.Race.{IsQueuer}
 pub use Rattle.wq_plan.specs.Sends.{RefusesFor, SendsOne, SendsAll, pushed, busy, refused}
 pub use Rattle.wq_plan.specs.Team.{IsNewTeam}
 pub use Rattle.wq_plan.specs.declared.idle.Idle.{Idle}

@@ -67,6 +67,13 @@ pub record IsStopAnswer (a : Answer) (old new : Known) : Type 0 where
   pub before : Grows old.number (tries_in_vain tries old.number (stop_number old.layout)) (tries * 4294967295) old.seen between.seen
   pub last : Answers (stop_number old.layout) 4294967295 a between new
 
+-- a sender queued the stop item, until it was given an answer other than Contended
+pub record HasQueuedStop (old new : Known) : Type 0 where
+  pub stopped : HasStopped (2 * 2 ^ 32) old new
+  pub answer : Answer
+  pub answered : IsStopAnswer answer old new
+  pub settled : answer ≢ answers.Contended
+
 -- the stop item is the last that ended
 abbrev pub EndsWithStop : Layout → List Event → Type 0
 EndsWithStop layout h = (before : List ℕ) × (ended h ≡ before ++ stop_number layout ∷ [])
@@ -101,14 +108,11 @@ pub record AllQueued (own : ℕ) (olds news : List Known) : Type 0 where
       (slice_index_or news i d)
 
 -- The seats of a team whose threads have ended, each of which went on from what it had seen: the worker served, each of the
--- plan's senders queued its own items, and the program's queued the stop item, of which it was given an answer.
+-- plan's senders queued its own items, and the program's queued the stop item.
 pub record HasRun (own_items : ℕ) (old new : Team) : Type 0 where
   pub worker : HasServed old.worker new.worker
   pub senders : AllQueued own_items old.senders.items new.senders.items
-  pub program : HasStopped (2 * 2 ^ 32) old.program new.program
-  pub answer : Answer
-  pub answered : IsStopAnswer answer old.program new.program
-  pub settled : answer ≢ answers.Contended
+  pub program : HasQueuedStop old.program new.program
 
 -- The sender of this number, of this queue of this size: its events are the queueings of its own items.
 pub record IsQueuer (own_items : ℕ) (queue : QueueId) (layout : Layout) (i : ℕ) (s : Known) : Type 0 where

@@ -35,7 +35,7 @@ pub record IsDone (plan : Plan) (id : WorkerId) (work : Idle) (before book last 
   pub legal : IsLegal book.layout book.seen
   pub complete : IsComplete book.seen
   pub own_made : IsLedgerOf book.seen book.own
-  pub told : All (IsTold book.seen) news
+  pub told : All (IsTold book.seen last.seen) news
   pub heard : HasHeard book last
   pub last_legal : IsLegal last.layout last.seen
   pub last_complete : IsComplete last.seen
@@ -64,7 +64,7 @@ module _ (plan : Plan) (id : WorkerId) (work : Idle) (before book last : BookSta
       let old = o.sent.each s x lt in let k = o.known.each s x (omega (arith, lt, o.sent.count)) in let now = get_or news s x in
       let number : now.number ≡ s = k.same.number_is ∙ old.number_is in
       let t = o.told s x (omega (arith, lt, count)) in (
-        own_between s now.seen book.seen t.0 k.known t.1 (subst (λ (c : ℕ). own c t.0 ≡ own c now.seen) number t.2),
+        own_between s now.seen book.seen t.0 k.known t.1 (subst (λ (c : ℕ). own c t.0 ≡ own c now.seen) number t.3),
         number,
       )
 

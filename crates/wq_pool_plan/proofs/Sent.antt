@@ -1,6 +1,6 @@
 -- From new seats to what came of them.
 use Rattle.wq_pool_plan.proofs.Common.{◌≡◌, ℕ, ◌+◌, ◌*◌, ◌^◌, ◌<◌, ◌≤◌, List, [], ◌∷◌, length, map, get_or, sym, ap, ◌∙◌, subst, arith, AllByRecursion}
-use Rattle.wq_pool_plan.proofs.Common.{get_or-map, length-map, Event, Layout, own, Known, new_sender, WorkerState, Idle, Plan, HasStopped, IsOfStop, IsQueuer}
+use Rattle.wq_pool_plan.proofs.Common.{get_or-map, length-map, Event, Layout, own, Known, new_sender, WorkerState, Idle, Plan, HasQueuedStop, IsOfStop, IsQueuer}
 use Rattle.wq_pool_plan.proofs.Common.{own_room, own-first, queuer, WorkerId, worker_id, Group, Teams, AreCallersOf, MayRun, AllGroupsQueued, AllStopped}
 use Rattle.wq_pool_plan.proofs.Common.{IsSent, AllSent, AreTurned, AreTeams}
 use Rattle.wq_pool.specs.Known.{PoolState}
@@ -41,17 +41,18 @@ module _ (plan : Plan) (teams : Teams) (t : AreTeams plan teams) (count : length
       let low : s < length teams.groups.items = omega (arith, lt, back.count) in
       (back.each s d d low).count ∙ (t.lengths s d (omega (arith, low, t.groups_count)) ∙ count)
 
-  stopped : (q : ℕ) (w : WorkerState Idle) (a b : Known) → a ≡ new_sender w.queue w.layout (plan.senders + 1) → HasStopped (2 * 2 ^ 32) a b
+  stopped : (q : ℕ) (w : WorkerState Idle) (a b : Known) → a ≡ new_sender w.queue w.layout (plan.senders + 1) → HasQueuedStop a b
       → (b.number ≡ plan.senders + 1) × (b.queue ≡ w.queue) × AllByRecursion (IsOfStop w.layout) (own (plan.senders + 1) b.seen)
       × (length (own (plan.senders + 1) b.seen) ≤ 2 * 2 ^ 32)
-  stopped q w a b new h =
+  stopped q w a b new queued =
+      let h = queued.stopped in
       let number : a.number ≡ plan.senders + 1 = ap (λ (k : Known). k.number) new in
       let mine : own (plan.senders + 1) b.seen ≡ h.events = subst (λ (c : ℕ). own c b.seen ≡ h.events) number
       (own-first a.number h.events a.seen b.seen (ap (λ (k : Known). k.seen) new) h.grows) in (
         h.same.number_is ∙ number,
         h.same.queue_is ∙ ap (λ (k : Known). k.queue) new,
         subst (λ (l : Layout). AllByRecursion (IsOfStop l) (own (plan.senders + 1) b.seen)) (ap (λ (k : Known). k.layout) new)
-            (subst (λ (es : List Event). AllByRecursion (IsOfStop a.layout) es) (sym mine) h.of_kind),
+            (subst (λ (es : List Event). AllByRecursion (IsOfStop a.layout) es) (sym mine) h.of_stop),
         subst (λ (es : List Event). length es ≤ 2 * 2 ^ 32) (sym mine) h.few_events,
       )
 
@@ -80,6 +81,8 @@ module _ (plan : Plan) (teams : Teams) (t : AreTeams plan teams) (count : length
                   subst (IsQueuer plan.own w.queue w.layout s) (sym (turned.each s q d d y y (omega (arith, here, back.count)) few)) made;
               program_number = p.0;
               program_queue = p.1;
+              stopped = subst (λ (k : Known). HasQueuedStop k (get_or programs q x)) (t.programs q someone x within)
+                  (stops.each q x x (omega (arith, within, t.programs_count)));
               stops = p.2;
               few_stops = p.3;
             } in

@@ -34,7 +34,7 @@ pub record AnswersBalance (book : BookState) (senders : List Known) (program : K
   pub heard : HasHeard book last
   pub legal : IsLegal last.layout last.seen
   pub complete : IsComplete last.seen
-  pub told : All (IsTold book.seen) senders
+  pub told : All (IsTold book.seen last.seen) senders
   pub program_told : own program.number last.seen ≡ own program.number program.seen
   pub made : All (IsLedgerOf last.seen) ledgers
   pub ledgers_are : ledgers ≡ map ledger_of senders ++ ledger_of program ∷ []

@@ -3,10 +3,10 @@ use Rattle.std.specs.Prelude.{◌≡◌, ℕ, ◌+◌, ◌*◌, ◌^◌, ◌<◌
 use Rattle.std.specs.List.{AllByRecursion}
 use Rattle.std.specs.declared.thread.PromisedHandle.{PromisedHandle}
 use Rattle.wq_words.specs.Seen.{own}
-use Rattle.wq_live.specs.Known.{Known}
+use Rattle.wq_live.specs.Known.{Known, new_sender}
 use Rattle.wq_plan.specs.declared.plan.Plan.{Plan}
 use Rattle.wq_plan.specs.Plan.{IsLayoutOf}
-use Rattle.wq_plan.specs.Race.{HasStopped, AllQueued, IsOfStop, IsQueuer}
+use Rattle.wq_plan.specs.Race.{HasQueuedStop, AllQueued, IsOfStop, IsQueuer}
 use Rattle.wq_ready.specs.Known.{Identity, IsCallerOf}
 use Rattle.wq_turn.specs.declared.worker_id.WorkerId.{WorkerId}
 use Rattle.wq_pool.specs.Known.{PoolState}
@@ -49,13 +49,13 @@ pub record AllGroupsQueued (own_items : ℕ) (olds news : List Group) : Type 0 w
   pub count : length news ≡ length olds
   pub each : (i : ℕ) (d e : Group) → i < length olds → AllQueued own_items (slice_index_or olds i d).senders.items (slice_index_or news i e).senders.items
 
--- each of these senders tried to queue the stop item of its queue
+-- each of these senders queued the stop item of its queue
 pub record AllStopped (olds news : List Known) : Type 0 where
   pub count : length news ≡ length olds
-  pub each : (i : ℕ) (d e : Known) → i < length olds → HasStopped (2 * 2 ^ 32) (slice_index_or olds i d) (slice_index_or news i e)
+  pub each : (i : ℕ) (d e : Known) → i < length olds → HasQueuedStop (slice_index_or olds i d) (slice_index_or news i e)
 
--- The senders of this queue after their threads have ended: each of the plan's has queued its own items, and the program's has
--- tried to queue the stop item, too rarely to saturate a count. The worker's own sender has the number between theirs.
+-- The senders of this queue after their threads have ended: each of the plan's has queued its own items, and the program's, which
+-- had done nothing, the stop item, with too few tries to saturate a count. The worker's own sender has the number between theirs.
 pub record IsSent (plan : Plan) (id : WorkerId) (senders : List Known) (program : Known) : Type 0 where
   pub sized : IsLayoutOf plan.senders plan.own id.layout
   pub number_is : id.number ≡ plan.senders
@@ -63,6 +63,7 @@ pub record IsSent (plan : Plan) (id : WorkerId) (senders : List Known) (program 
   pub each : (s : ℕ) (x : Known) → s < plan.senders → IsQueuer plan.own id.queue id.layout s (slice_index_or senders s x)
   pub program_number : program.number ≡ plan.senders + 1
   pub program_queue : program.queue ≡ id.queue
+  pub stopped : HasQueuedStop (new_sender id.queue id.layout (plan.senders + 1)) program
   pub stops : AllByRecursion (IsOfStop id.layout) (own (plan.senders + 1) program.seen)
   pub few_stops : length (own (plan.senders + 1) program.seen) ≤ 2 * 2 ^ 32
 

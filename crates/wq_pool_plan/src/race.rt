@@ -2,10 +2,8 @@
 ghost use Rattle.std.specs.Prelude.{◌≡◌, ℕ, ◌+◌, ◌<◌, ◌≤◌, map, length, All, IfSome, IfOk};
 ghost use Rattle.wq_ready.specs.Known.{IsCallerOf};
 ghost use Rattle.wq_turn.specs.WorkerId.{worker_id};
-ghost use Rattle.wq_worker.specs.State.{WorkerState};
-ghost use Rattle.wq_plan.specs.Plan.{IsLayoutOf};
 ghost use Rattle.wq_plan.specs.Race.{AllQueued};
-ghost use Rattle.wq_plan.specs.Outcome.{IsWhole, Tells};
+ghost use Rattle.wq_plan.specs.Outcome.{IsWhole, TellsRace};
 ghost use Rattle.wq_pool_plan.specs.Race.{IsLone, AreCallersOf, IsGroupFor, MayRun, AreGroupThreads, AllGroupsQueued, AllStopped, HaveRun};
 ghost use Rattle.wq_pool_plan.specs.Outcome.{TellsPlan};
 
@@ -295,8 +293,7 @@ pub fn run_live<R: Threads + Wait + Sync>(
     plan: Plan,
 ) -> Result<Outcome, RaceError>
     ensures whole { IsLone plan → IfOk result (IsWhole plan) }
-    ensures told { IsLone plan → IfOk result
-        (λ outcome. (worker : WorkerState Idle) × IsLayoutOf plan.senders plan.own worker.layout × Tells plan worker outcome) }
+    ensures told { IsLone plan → IfOk result (TellsRace plan) }
     ensures pooled { ¬ IsLone plan → IfOk result (TellsPlan plan) }
     ensures same { IfOk result (λ outcome. outcome.accepted ≡ outcome.ran) }
 {

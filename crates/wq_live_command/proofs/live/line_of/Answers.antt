@@ -9,6 +9,7 @@ returns-clause-line g c =
       spells = c.in_ok-plan.ensures.exact;
       outcome = o;
       whole = c.in_ok-outcome.ensures.whole;
+      told = c.in_ok-outcome.ensures.told;
       pooled = c.in_ok-outcome.ensures.pooled;
       line_is = c.in_ok-write.ensures.line ∙ ap (λ (old : List ℕ). old ++ outcome_line o) c.new-line.ensures.bytes;
     }

@@ -1,5 +1,8 @@
 use Rattle.wq_plan.proofs.race.run_plan.Goals as goal
 
+pub returns-clause-whole : goal.returns-clause-whole
+returns-clause-whole g c = (c.in_ok-outcome.ensures.told c.args.plan c.in_ok-team-2.ensures.raced).0
+
 pub returns-clause-told : goal.returns-clause-told
 returns-clause-told g c = record {
   worker = c.in_ok-team-2.team.worker;

@@ -16,8 +16,10 @@ returns-in-Ok-clause-team g c =
     record {
       worker = subst (λ (w : WorkerState Idle). HasServed w c.join-worker.result) given c.join-worker.ensures;
       senders = rw c.in-Ok.is at c.queue_all-serving.ensures.queued;
-      program = subst (λ (s : Known). HasStopped (2 * 2 ^ 32) s c.stop.new.program) was c.stop.ensures.few;
-      answer = c.stop.result;
-      answered = subst (λ (s : Known). IsStopAnswer c.stop.result s c.stop.new.program) was c.stop.ensures.answer;
-      settled = c.stop.ensures.settled;
+      program = record {
+        stopped = subst (λ (s : Known). HasStopped (2 * 2 ^ 32) s c.stop.new.program) was c.stop.ensures.few;
+        answer = c.stop.result;
+        answered = subst (λ (s : Known). IsStopAnswer c.stop.result s c.stop.new.program) was c.stop.ensures.answer;
+        settled = c.stop.ensures.settled;
+      };
     }
