@@ -11,7 +11,8 @@ pub use Rattle.wq_worker.specs.State.{WorkerState}
 pub use Rattle.wq_turn.specs.declared.worker_id.WorkerId.{WorkerId}
 pub use Rattle.wq_turn.specs.Drained.{IsDrained}
 pub use Rattle.wq_pool.specs.Known.{SlotsState, TurnState, id_of, turn_id, PoolState, IsSameTurn}
-pub use Rattle.wq_pool.specs.Finish.{AreFirst, AreComplete, LeavesOf, FirstLeft}
-pub use Rattle.wq_pool.specs.Finished.{AreFinishedBy, RanToEndBy}
+pub use Rattle.wq_pool.specs.Finish.{AreFirst, AreComplete, LeavesOf, FirstLeft, WasDrainedAt, WereDrained, AreOfDrained}
+pub use Rattle.wq_pool.specs.Finish.{FirstWereDrained, IsLeftTo, HasEndedAt}
+pub use Rattle.wq_pool.specs.Finished.{AreFinishedBy, RanToEndBy, ArePartsOf, AreTakenApart}
 pub use Rattle.wq_pool.specs.Slots.{IsWorkerAt, KeptSlots, empty_hand, hand_with, SlotSat, picks_up, lays_down, comes}
 pub use Rattle.wq_pool.specs.Pool.{GoesOnFrom, IsTurnOf}

@@ -1,17 +1,16 @@
 -- One queue more in hand, and one more taken apart.
 use Rattle.std.specs.List.{slice_get}
 use Rattle.std.specs.Prelude.{get_or}
-use Rattle.std.specs.Option.{option_map}
-use Rattle.wq_words.proofs.Ranks.{slice_get-take}
-use Rattle.std.proofs.lemmas.Option.{slice_get-map, slice_get-get_or}
-use Rattle.wq_pool.specs.Finish.{HasEndedAt}
-use Rattle.wq_words.proofs.Growing.{take_more_some}
+use Rattle.std.proofs.lemmas.Option.{none-some, slice_get_cases, get_or_from_slice_get}
+use Rattle.wq_words.proofs.Growing.{take_more_some, slice_get_push, slice_get_last, slice_get_append}
 use Rattle.wq_ledger.specs.Book.{BookState}
 use Rattle.wq_turn.specs.Finished.{IsFinishedBy}
 use Rattle.wq_turn.proofs.Draining.{left_complete}
 use Rattle.wq_pool.proofs.Common.{◌≡◌, ℕ, zero, suc, ◌+◌, ◌<◌, List, [], ◌∷◌, ◌++◌, map, length, take, Some, None, All, Option, sym, refl, ap}
 use Rattle.wq_pool.proofs.Common.{◌∙◌, subst, arith, length-append, map-append, All-push, IsComplete, WorkerId, IsDrained, SlotsState, TurnState, turn_id}
 use Rattle.wq_pool.proofs.Common.{WorkerState, AreFirst, AreComplete, LeavesOf, FirstLeft, AreFinishedBy, RanToEndBy, IsWorkerAt}
+use Rattle.wq_pool.proofs.Common.{inl, inr, WasDrainedAt, WereDrained, FirstWereDrained, AreOfDrained, AreTakenApart, ArePartsOf, HasEndedAt, IsLeftTo}
+use Rattle.wq_turn.specs.Steps.{EndsJust}
 
 module _ {K W : Type 0} (state : K → WorkerState W) where
   pub first_more : (slots : SlotsState) (turns new : List (TurnState K)) (t : TurnState K) → AreFirst state slots turns → length turns < length slots.workers
@@ -27,37 +26,87 @@ module _ {K W : Type 0} (state : K → WorkerState W) where
             ∙ (sym (take_more_some slots.workers n (turn_id state t) worker_is) ∙ ap (λ (k : ℕ). take k slots.workers) (sym long)));
       }
 
+module _ {K W : Type 0} (state : K → WorkerState W) (may : W → ℕ → List ℕ → W → Type 0) (gives : W → W → Type 0) (deals : K → K → Type 0)
+    (limit : ℕ) where
+  abbrev Drained : List WorkerId → ℕ → K → Type 0
+  Drained = WasDrainedAt state may gives deals limit
+
+  abbrev AllDrained : List WorkerId → List (TurnState K) → Type 0
+  AllDrained = WereDrained state may gives deals limit
+
+  -- the turn at each place below their count
+  turn_at : (turns : List (TurnState K)) (q : ℕ) → q < length turns → (t : TurnState K) × (slice_get turns q ≡ Some t)
+  turn_at turns q low = elim ((slice_get_cases turns q).1) [ inl found ↦ (found.0, found.2) | inr past ↦ absurd (omega (arith, past.0, low)) ]
+
+  pub first_drained : (workers : List WorkerId) (turns : List (TurnState K)) (count : ℕ) → AllDrained workers turns → count ≡ length turns
+      → FirstWereDrained state may gives deals limit workers count
+  first_drained workers turns count all is q low = let t = turn_at turns q (omega (arith, is, low)) in (t.0.worker, all q t.0 t.1)
+
+  pub drained_more : (workers : List WorkerId) (turns new : List (TurnState K)) (t : TurnState K) → AllDrained workers turns
+      → Drained workers (length turns) t.worker → new ≡ turns ++ t ∷ [] → AllDrained workers new
+  drained_more workers turns new t all one is q u at =
+      elim (slice_get_push turns t u q (sym (ap (λ (ts : List (TurnState K)). slice_get ts q) is) ∙ at)) [
+        | inl old ↦ all q u old
+        | inr here ↦ subst (λ (z : ℕ × TurnState K). Drained workers z.0 z.1.worker) (λ i. (sym here.0 i, here.1 i)) one
+      ]
+
   -- of each queue that is in hand, where nothing is left of them
-  ended_at : (slots : SlotsState) (turns : List (TurnState K)) (t : TurnState K) → AreFirst state slots turns → AreComplete state turns
-      → (p : ℕ) → p < length turns → HasEndedAt state slots.workers p
-  ended_at slots turns t first all p low =
-      let u : TurnState K = get_or turns p t in
-      let here : slice_get (map (turn_id state) turns) p ≡ Some (turn_id state u) =
-      slice_get-map (turn_id state) turns p ∙ ap (option_map (turn_id state)) (slice_get-get_or turns p t low) in
-      let there : slice_get slots.workers p ≡ Some (turn_id state u) =
-      sym (slice_get-take slots.workers (length turns) p low)
-      ∙ (ap (λ (ids : List WorkerId). slice_get ids p) (sym first.workers_are) ∙ here) in
-      (u.worker, there, all p t low)
+  ended_at : (workers : List WorkerId) (turns : List (TurnState K)) → AllDrained workers turns → AreComplete state turns
+      → (p : ℕ) → p < length turns → HasEndedAt state may gives deals limit workers p
+  ended_at workers turns all done p low =
+      let t = turn_at turns p low in
+      let same : get_or turns p t.0 ≡ t.0 = get_or_from_slice_get turns p t.0 t.0 t.1 in
+      (t.0.worker, all p t.0 t.1, subst (λ (u : TurnState K). IsComplete (state u.worker).seen) same (done p t.0 low))
+
+  abbrev Leaves : List WorkerId → List (TurnState K) → Option (ℕ × ℕ) → Type 0
+  Leaves = LeavesOf state may gives deals limit
 
   -- something is left of the queue, or nothing is
-  pub left_more : (slots : SlotsState) (left left' : Option (ℕ × ℕ)) (turns new : List (TurnState K)) (t : TurnState K) (more : ℕ)
-      → AreFirst state slots turns → LeavesOf state slots turns left → FirstLeft left (length turns) more left'
-      → IsWorkerAt state slots.workers (length turns) t.worker → IsDrained more (state t.worker) → new ≡ turns ++ t ∷ [] → LeavesOf state slots new left'
-  left_more slots (Some one) left' turns new t more first old told worker_is drained is =
-      subst (λ (o : Option (ℕ × ℕ)). LeavesOf state slots new o) (sym told) old
-  left_more slots None left' turns new t zero first old told worker_is drained is =
-      subst (λ (o : Option (ℕ × ℕ)). LeavesOf state slots new o) (sym told)
-      (subst (λ (ts : List (TurnState K)). AreComplete state ts) (sym is)
-      (All-push (λ (u : TurnState K). IsComplete (state u.worker).seen) turns t old (left_complete (state t.worker) drained)))
-  left_more slots None left' turns new t (suc more) first old told worker_is drained is =
-      subst (λ (o : Option (ℕ × ℕ)). LeavesOf state slots new o) (sym told)
-      record {
-        worker = t.worker;
-        worker_is = worker_is;
-        drained = drained;
-        some_left = omega arith;
-        before = ended_at slots turns t first old;
-      }
+  pub left_more : (workers : List WorkerId) (left left' : Option (ℕ × ℕ)) (turns new : List (TurnState K)) (t : TurnState K) (more : ℕ)
+      → AllDrained workers turns → Leaves workers turns left → FirstLeft left (length turns) more left'
+      → (drained : Drained workers (length turns) t.worker) → IsDrained more (state t.worker)
+      → (0 < more → EndsJust limit (state drained.start).seen (state t.worker).seen) → new ≡ turns ++ t ∷ [] → Leaves workers new left'
+  left_more workers (Some one) left' turns new t more all old told drained leaves just is =
+      subst (λ (z : List (TurnState K) × Option (ℕ × ℕ)). Leaves workers z.0 z.1) (λ i. (sym is i, sym told i))
+      (old.0, slice_get_append turns (t ∷ []) one.0 old.0 old.1, old.2)
+  left_more workers None left' turns new t zero all old told drained leaves just is =
+      subst (λ (z : List (TurnState K) × Option (ℕ × ℕ)). Leaves workers z.0 z.1) (λ i. (sym is i, sym told i))
+      (All-push (λ (u : TurnState K). IsComplete (state u.worker).seen) turns t old (left_complete (state t.worker) leaves))
+  left_more workers None left' turns new t (suc more) all old told drained leaves just is =
+      subst (λ (z : List (TurnState K) × Option (ℕ × ℕ)). Leaves workers z.0 z.1) (λ i. (sym is i, sym told i)) (
+        t,
+        slice_get_last turns t [],
+        record {
+          drained = drained;
+          left_is = leaves;
+          some_left = omega arith;
+          executed = just (omega arith);
+          before = ended_at workers turns all old;
+        },
+      )
+
+  -- what was taken apart is of the workers that were drained
+  pub parts_drained : {B : Type 0} (book : B → BookState) (workers : List WorkerId) (turns : List (TurnState K)) (parts : List (W × B))
+      → AllDrained workers turns → AreTakenApart state book turns parts → AreOfDrained state may gives deals limit book workers parts
+  parts_drained book workers turns parts all apart q one at =
+      let t = apart q one at in (t.0.worker, all q t.0 t.1, t.2)
+
+module _ {K W B : Type 0} (state : K → WorkerState W) (book : B → BookState) where
+  pub parts_none : (turns : List (TurnState K)) (parts : List (W × B)) → parts ≡ [] → AreTakenApart state book turns parts
+  parts_none turns parts is q one at =
+      absurd (none-some one (sym (ap (λ (ps : List (W × B)). slice_get ps q) is) ∙ at))
+
+  pub parts_next : (turns : List (TurnState K)) (t : TurnState K) (parts new : List (W × B)) (one : W × B) → AreTakenApart state book turns parts
+      → length parts ≡ length turns → ArePartsOf state book t.worker one → new ≡ parts ++ one ∷ [] → AreTakenApart state book (turns ++ t ∷ []) new
+  parts_next turns t parts new one all same is new_is q other at =
+      elim (slice_get_push parts one other q (sym (ap (λ (ps : List (W × B)). slice_get ps q) new_is) ∙ at)) [
+        | inl old ↦ let u = all q other old in (u.0, slice_get_append turns (t ∷ []) q u.0 u.1, u.2)
+        | inr here ↦ (
+          t,
+          subst (λ (p : ℕ). slice_get (turns ++ t ∷ []) p ≡ Some t) (sym (here.0 ∙ same)) (slice_get_last turns t []),
+          subst (λ (p : W × B). ArePartsOf state book t.worker p) here.1 is,
+        )
+      ]
 
 module _ {W B : Type 0} (book : B → BookState) (has_run : W → B → Type 0) where
   abbrev AreDone : List WorkerId → List (W × B) → Type 0

@@ -1,10 +1,12 @@
 -- What is left of the queues of a pool that has run to its end.
-use Rattle.std.specs.Prelude.{ℕ, List, [], ◌∷◌}
+use Rattle.std.specs.Prelude.{◌≡◌, ℕ, List, [], ◌∷◌, Some, slice_get}
 use Rattle.wq_words.specs.Legal.{IsLegal, IsComplete}
 use Rattle.wq_ledger.specs.Book.{BookState}
-use Rattle.wq_worker.specs.Destroy.{HasRunAccepted}
+use Rattle.wq_worker.specs.Destroy.{HasRunAccepted, IsBookOf}
+use Rattle.wq_worker.specs.State.{WorkerState}
 use Rattle.wq_turn.specs.declared.worker_id.WorkerId.{WorkerId}
 use Rattle.wq_turn.specs.Finished.{IsFinishedBy}
+use Rattle.wq_pool.specs.Known.{TurnState}
 
 -- `book` says what a book is without values, `has_run` that a work has run what was accepted in the history of a book
 module _ {W B : Type 0} (book : B → BookState) (has_run : W → B → Type 0) where
@@ -25,3 +27,14 @@ module _ {W B : Type 0} (book : B → BookState) (has_run : W → B → Type 0) 
 module _ {W : Type 0} (log : W → List ℕ) where
   abbrev pub AreFinished : List WorkerId → List (W × BookState) → Type 0
   AreFinished = AreFinishedBy (λ b. b) (HasRunAccepted log)
+
+-- `state` says what a worker is without values, `book` the same of a book
+module _ {K W B : Type 0} (state : K → WorkerState W) (book : B → BookState) where
+  -- the work of this worker, and the book of what it has seen
+  abbrev pub ArePartsOf : K → W × B → Type 0
+  ArePartsOf worker parts = (parts.0 ≡ (state worker).work) × IsBookOf (state worker) (book parts.1)
+
+  -- those of the workers in hand, by place
+  abbrev pub AreTakenApart : List (TurnState K) → List (W × B) → Type 0
+  AreTakenApart turns all = (q : ℕ) (parts : W × B) → slice_get all q ≡ Some parts
+      → (t : TurnState K) × (slice_get turns q ≡ Some t) × ArePartsOf t.worker parts

@@ -2,8 +2,8 @@
 ghost use Rattle.std.specs.Prelude.{◌≡◌, ◌<◌, ◌≤◌, [], map, length, All, IfOk, IfErr, IfNone, IfSome};
 ghost use Rattle.std.specs.Vec.{vec_len, vec_capacity};
 ghost use Rattle.wq_pool.specs.Known.{turn_id};
-ghost use Rattle.wq_pool.specs.Finish.{AreFirst, AreComplete, LeavesOf, FirstLeft, IsPoolFault};
-ghost use Rattle.wq_pool.specs.Finished.{AreFinishedBy, RanToEndBy};
+ghost use Rattle.wq_pool.specs.Finish.{AreFirst, AreComplete, WereDrained, AreOfDrained, LeavesOf, FirstLeft, IsPoolFault};
+ghost use Rattle.wq_pool.specs.Finished.{AreFinishedBy, RanToEndBy, AreTakenApart};
 
 use crate::pool::PoolOf;
 use crate::slots::Slots;
@@ -71,8 +71,9 @@ fn gather<K: Station + Drop>(slots: &Slots<K>, mut all: Vec<WorkedOf<K>>, limit:
     requires room { (all.items ≡ []) × (length slots.now.workers ≤ vec_capacity all) }
     ensures first { AreFirst K.state slots.now result.all.items }
     ensures all { IfNone result.out (length result.all.items ≡ length slots.now.workers) }
-    ensures left { LeavesOf K.state slots.now result.all.items result.left }
-    ensures out { IfSome result.out (λ queue. queue < length slots.now.workers) }
+    ensures drained { WereDrained K.state K.may K.gives K.deals limit slots.now.workers result.all.items }
+    ensures left { LeavesOf K.state K.may K.gives K.deals limit slots.now.workers result.all.items result.left }
+    ensures out { IfSome result.out (λ queue. (queue ≡ length result.all.items) × (queue < length slots.now.workers)) }
 {
     let mut left = None;
     for queue in 0..slots.count() {
@@ -100,7 +101,8 @@ fn take_apart<K: Station + Drop>(
 ) -> Vec<(K::Work, K::Book)>
     requires room { (finished.items ≡ []) × (vec_len all ≤ vec_capacity finished) }
     requires complete { AreComplete K.state all.items }
-    ensures { AreFinishedBy K.book K.has_run (map (turn_id K.state) all.items) result.items }
+    ensures finished { AreFinishedBy K.book K.has_run (map (turn_id K.state) all.items) result.items }
+    ensures parts { AreTakenApart K.state K.book all.items result.items }
 {
     for worked in all {
         finished.push_reserved(worked.into_parts());
@@ -131,7 +133,8 @@ impl<K: Station + Drop> PoolOf<K> {
         ensures finished { IfOk result (λ finished. AreFinishedBy K.book K.has_run self.workers finished.items) }
         ensures count { IfOk result (λ finished. length finished.items ≡ length self.workers) }
         ensures each { IfOk result (λ finished. All (RanToEndBy K.book K.has_run) finished.items) }
-        ensures fault { IfErr result (IsPoolFault K.state self) }
+        ensures drained { IfOk result (λ finished. AreOfDrained K.state K.may K.gives K.deals limit K.book self.workers finished.items) }
+        ensures fault { IfErr result (IsPoolFault K.state K.may K.gives K.deals limit self) }
     {
         let count = self.slots.count() as usize;
         let Ok(all) = Vec::with_capacity(self.alloc, count) else {

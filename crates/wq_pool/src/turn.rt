@@ -1,14 +1,15 @@
 //! A queue in hand.
-ghost use Rattle.std.specs.Prelude.{◌≡◌, false, MatchResult};
+ghost use Rattle.std.specs.Prelude.{◌≡◌, ◌<◌, false, MatchResult};
 ghost use Rattle.wq_words.specs.History.{IsRunning, IsDraining};
 ghost use Rattle.wq_words.specs.Legal.{IsLegal, IsComplete};
 ghost use Rattle.wq_words.specs.Headline.{KeepsHeadline};
 ghost use Rattle.wq_worker.specs.Rows.{Along};
 ghost use Rattle.wq_pool.specs.Known.{IsSameTurn, turn_id};
-ghost use Rattle.wq_turn.specs.Drained.{IsDrained};
+ghost use Rattle.wq_pool.specs.Finished.{ArePartsOf};
+ghost use Rattle.wq_turn.specs.Drained.{IsDrained, ClosesAndWorks};
 ghost use Rattle.wq_turn.specs.Finished.{IsFinishedBy};
 ghost use Rattle.wq_turn.specs.Owed.{IsOwed};
-ghost use Rattle.wq_turn.specs.Steps.{Finishes, Pauses, EndsWithin};
+ghost use Rattle.wq_turn.specs.Steps.{Finishes, Pauses, EndsWithin, EndsJust};
 
 use crate::slots::SlotSeat;
 use std::marker::Model;
@@ -116,8 +117,11 @@ impl<K: Station> TurnOf<K> {
     /// Closes the queue where it is not closed, executes up to so many numbers, and answers how many are left.
     pub(crate) fn drain(&mut self, limit: u32) -> u32
         requires { ¬ IsRunning (K.state self.old.worker).seen }
+        ensures works { ClosesAndWorks K.may K.gives limit (K.state self.old.worker) (K.state self.new.worker) }
+        ensures deals { Along K.deals self.old.worker self.new.worker }
         ensures same { IsSameTurn K.state self.old self.new }
         ensures left { IsDrained result (K.state self.new.worker) }
+        ensures executed { 0 < result → EndsJust limit (K.state self.old.worker).seen (K.state self.new.worker).seen }
         ensures idle { ¬ IsRunning (K.state self.new.worker).seen }
     {
         self.runner.drain(limit)
@@ -166,7 +170,8 @@ impl<K: Station + Drop> WorkedOf<K> {
     /// The work and the book of a queue that has run to its end.
     pub(crate) fn into_parts(self) -> (K::Work, K::Book)
         requires { IsComplete (K.state self.worker).seen }
-        ensures { IsFinishedBy K.book K.has_run (turn_id K.state self) result }
+        ensures parts { ArePartsOf K.state K.book self.worker result }
+        ensures finished { IsFinishedBy K.book K.has_run (turn_id K.state self) result }
     {
         self.served.into_parts()
     }

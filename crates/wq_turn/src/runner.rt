@@ -1,5 +1,5 @@
 //! A worker at work.
-ghost use Rattle.std.specs.Prelude.{◌≡◌, true, false, Contains};
+ghost use Rattle.std.specs.Prelude.{◌≡◌, ◌<◌, true, false, Contains};
 ghost use Rattle.wq_words.specs.Numbers.{stop_number};
 ghost use Rattle.wq_words.specs.History.{ended, IsClosed, IsRunning, IsDraining};
 ghost use Rattle.wq_words.specs.Legal.{IsLegal};
@@ -9,7 +9,7 @@ ghost use Rattle.wq_worker.specs.Rows.{Along, Closes};
 ghost use Rattle.wq_worker.specs.Seats.{NothingWaits};
 ghost use Rattle.wq_turn.specs.Drained.{IsDrained, ClosesAndWorks};
 ghost use Rattle.wq_turn.specs.Owed.{IsOwed};
-ghost use Rattle.wq_turn.specs.Steps.{SettlesOne, RunsOne, MakesProgress, WorksOn};
+ghost use Rattle.wq_turn.specs.Steps.{SettlesOne, RunsOne, MakesProgress, WorksOn, EndsJust};
 ghost use Rattle.wq_turn.specs.WorkerId.{worker_id};
 
 use crate::gate::Gate;
@@ -215,13 +215,14 @@ impl<K: Station> Runner<K> {
     }
 
     /// Closes the queue where it is not closed, works on, by up to so many executions and with no gate, and answers how many numbers
-    /// are left.
+    /// are left: some only after just as many executions as the limit.
     pub fn drain(&mut self, limit: u32) -> u32
         requires { ¬ IsRunning (K.state self.old).seen }
         ensures works { ClosesAndWorks K.may K.gives limit (K.state self.old) (K.state self.new) }
         ensures deals { Along K.deals self.old self.new }
         ensures same { worker_id (K.state self.new) ≡ worker_id (K.state self.old) }
         ensures left { IsDrained result (K.state self.new) }
+        ensures executed { 0 < result → EndsJust limit (K.state self.old).seen (K.state self.new).seen }
         ensures idle { ¬ IsRunning (K.state self.new).seen }
     {
         self.close();

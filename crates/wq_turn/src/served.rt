@@ -4,6 +4,7 @@ ghost use Rattle.wq_words.specs.Numbers.{stop_number};
 ghost use Rattle.wq_words.specs.History.{ended, IsRunning, IsDraining};
 ghost use Rattle.wq_words.specs.Legal.{IsLegal, IsComplete};
 ghost use Rattle.wq_words.specs.Headline.{KeepsHeadline};
+ghost use Rattle.wq_worker.specs.Destroy.{IsBookOf};
 ghost use Rattle.wq_turn.specs.WorkerId.{worker_id};
 ghost use Rattle.wq_turn.specs.Finished.{IsFinishedBy};
 
@@ -68,9 +69,11 @@ impl<K: Station> ServedOf<K> {
         self.worker.count_stop()
     }
 
-    /// The work and the book of a queue that has run to its end.
+    /// The work of the worker, and the book, of a queue that has run to its end.
     pub fn into_parts(self) -> (K::Work, K::Book)
         requires { IsComplete (K.state self).seen }
+        ensures work { result.0 ≡ (K.state self).work }
+        ensures book { IsBookOf (K.state self) (K.book result.1) }
         ensures finished { IsFinishedBy K.book K.has_run (worker_id (K.state self)) result }
     {
         self.worker.legal();

@@ -1,24 +1,40 @@
-use Rattle.wq_pool.proofs.Common.{◌≡◌, ℕ, length, slice_get, Some, sym, ap, ◌∙◌, subst, arith, rules, IsDrained, TurnState, turn_id, FirstLeft, IsWorkerAt}
-use Rattle.wq_pool.proofs.Gathering.{first_more, left_more}
+use Rattle.wq_worker.specs.Rows.{Along}
+use Rattle.wq_turn.specs.Drained.{ClosesAndWorks}
+use Rattle.wq_turn.specs.Steps.{EndsJust}
+use Rattle.wq_pool.proofs.Common.{◌≡◌, ℕ, ◌<◌, [], length, slice_get, Some, sym, ap, ◌∙◌, subst, arith, rules, IsDrained, TurnState, turn_id, FirstLeft}
+use Rattle.wq_pool.proofs.Common.{IsWorkerAt, WasDrainedAt}
+use Rattle.wq_pool.proofs.Gathering.{first_more, left_more, drained_more}
 use Rattle.wq_pool.proofs.finish.gather.Goals as goal
 
 pub loop-queue-preserved : goal.loop-queue-preserved
 loop-queue-preserved g c =
-    let state = g.K.Station.state in let l = c.loop-queue in let i = l.invariant in let slots = c.args.slots.now in let t = c.into_worked.result in
-    let same = c.drain-more.ensures.same in let into = c.into_worked.ensures in let up = c.in-Some.ensures in
+    let k = g.K.Station in let state = k.state in let l = c.loop-queue in let i = l.invariant in let slots = c.args.slots.now in
+    let t = c.into_worked.result in let limit = c.args.limit in let start = c.in-Some.turn.worker in
+    let drain = c.drain-more.ensures in let into = c.into_worked.ensures in let up = c.in-Some.ensures in
     let at : length l.all.items ≡ l.queue = search rules in
     let there : slice_get slots.workers l.queue ≡ Some (turn_id state t) =
-    up.worker ∙ ap Some (sym (ap (λ (u : TurnState _). turn_id state u) into ∙ same.worker_is)) in
+    up.worker ∙ ap Some (sym (ap (λ (u : TurnState _). turn_id state u) into ∙ drain.same.worker_is)) in
     let worker_is : IsWorkerAt state slots.workers (length l.all.items) t.worker =
     subst (λ (q : ℕ). IsWorkerAt state slots.workers q t.worker) (sym at) there in
     let told : FirstLeft l.left (length l.all.items) c.drain-more.result c.first_left-left.result =
     subst (λ (q : ℕ). FirstLeft l.left q c.drain-more.result c.first_left-left.result) (sym at) c.first_left-left.ensures in
-    let drained : IsDrained c.drain-more.result (state t.worker) =
-    subst (λ (u : TurnState _). IsDrained c.drain-more.result (state u.worker)) (sym into) c.drain-more.ensures.left in (
+    let leaves : IsDrained c.drain-more.result (state t.worker) =
+    subst (λ (u : TurnState _). IsDrained c.drain-more.result (state u.worker)) (sym into) drain.left in
+    let drained : WasDrainedAt state k.may k.gives k.deals limit slots.workers (length l.all.items) t.worker = record {
+      start = start;
+      start_is = subst (λ (q : ℕ). IsWorkerAt state slots.workers q start) (sym at) up.worker;
+      worker_is = worker_is;
+      idle = up.idle;
+      works = subst (λ (u : TurnState _). ClosesAndWorks k.may k.gives limit (state start) (state u.worker)) (sym into) drain.works;
+      dealt = subst (λ (u : TurnState _). Along k.deals start u.worker) (sym into) drain.deals;
+    } in (
       first_more state slots l.all.items c.push_reserved.new.self.items t i.0 (omega (arith, at, c.count-queue-end.ensures, c.loop-queue-test.true))
-          (ap (λ (u : TurnState _). u.slots) into ∙ (same.slots_is ∙ up.slots)) worker_is c.push_reserved.ensures.items,
+          (ap (λ (u : TurnState _). u.slots) into ∙ (drain.same.slots_is ∙ up.slots)) worker_is c.push_reserved.ensures.items,
       search rules,
       search rules,
-      left_more state slots l.left c.first_left-left.result l.all.items c.push_reserved.new.self.items t c.drain-more.result i.0 i.3 told worker_is
-          drained c.push_reserved.ensures.items,
+      drained_more state k.may k.gives k.deals limit slots.workers l.all.items c.push_reserved.new.self.items t i.3 drained c.push_reserved.ensures.items,
+      left_more state k.may k.gives k.deals limit slots.workers l.left c.first_left-left.result l.all.items c.push_reserved.new.self.items t
+          c.drain-more.result i.3 i.4 told drained leaves
+          (λ some. subst (λ (u : TurnState _). EndsJust limit (state start).seen (state u.worker).seen) (sym into) (drain.executed some))
+          c.push_reserved.ensures.items,
     )

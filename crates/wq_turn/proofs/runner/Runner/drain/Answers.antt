@@ -1,6 +1,7 @@
 use Rattle.wq_worker.proofs.Rows.{along_on}
 use Rattle.wq_turn.proofs.Common.{sym, ap, ◌∙◌, subst, IsClosed, WorkerState}
-use Rattle.wq_turn.proofs.Draining.{works_closed, works_idle}
+use Rattle.wq_turn.proofs.Draining.{works_closed, works_idle, drained_just}
+use Rattle.wq_turn.specs.Drained.{IsDrained}
 use Rattle.wq_turn.proofs.Steps.{works_id}
 use Rattle.wq_turn.proofs.runner.Runner.drain.Goals as goal
 
@@ -29,6 +30,13 @@ returns-clause-same g c =
     let k = g.K.Station in
     works_id k.may k.gives c.args.limit c.work.result (k.state c.close.new.self) (k.state c.work.new.self) c.work.ensures.works
     ∙ c.close.ensures.same
+
+pub returns-clause-executed : goal.returns-clause-executed
+returns-clause-executed g c =
+    let k = g.K.Station in let shut = c.close.ensures in
+    λ some. drained_just k.may k.gives c.args.limit c.left.result c.work.result (k.state c.args.self.now) (k.state c.close.new.self)
+    (k.state c.work.new.self) shut.closes shut.closed (shut.idle c.requires) c.work.ensures.works
+    (subst (λ (w : WorkerState _). IsDrained c.left.result w) (ap k.state c.self.view_is) c.left.ensures.left) some
 
 pub returns-clause-idle : goal.returns-clause-idle
 returns-clause-idle g c =

@@ -9,6 +9,8 @@ returns g c =
     let t : IsBookOf a (k.book r.1) =
     subst (λ (w : WorkerState _). IsBookOf w (k.book r.1)) (ap k.state (c.into_worker.ensures ∙ c.self.view_is)) c.into_parts.ensures.book in
     record {
+      work = c.into_parts.ensures.work ∙ ap (λ x. (k.state x).work) (c.into_worker.ensures ∙ c.self.view_is);
+      book = t;
       finished = record {
         queue_is = t.0;
         layout_is = t.1;
