@@ -20,7 +20,7 @@ use Rattle.wq_delay.specs.declared.answer.Advance.{Advance}
 use Rattle.wq_delay.specs.declared.answer.Backwards.{Backwards}
 use Rattle.wq_words.specs.DelayTable.{Entry, DelayTable, on_table, due_part, IsOrdered, AreArmedBefore, table_with, table_without, table_at}
 
--- a sender, what it holds until its tick, and how many slots of its wheel the last advance looked at
+-- a sender, what it holds until its tick, and how many slots of its wheel the last advance counted as looked at
 pub record DelayState : Type 0 where
   pub sender : Known
   pub table : DelayTable
@@ -36,7 +36,7 @@ pub record FitsTable (sender : Known) (table : DelayTable) : Type 0 where
 abbrev pub IsFit : DelayState → Type 0
 IsFit d = FitsTable d.sender d.table
 
--- an answered advance looked at one slot for each of its ticks, or at each slot once where that is fewer
+-- an answered advance counted one slot for each of its ticks, or each slot once where that is fewer
 abbrev pub Looks : Result Advance Backwards → ℕ → DelayState → DelayState → Type 0
 Looks (Ok a) now old new = new.looked ≡ min (now - old.table.tick) 256
 Looks (Err e) now old new = new.looked ≡ old.looked

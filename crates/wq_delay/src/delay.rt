@@ -108,7 +108,8 @@ impl Delay {
         self.table.has(item)
     }
 
-    /// How many slots of the wheel the last answered advance looked at: one for each tick, or each slot once where that is fewer.
+    /// How many slots of the wheel the last answered advance looked at, by its own count: one for each tick, or each slot once where
+    /// that is fewer.
     pub fn looked(&self) -> u32
         ensures count { result ≡ self.now.looked }
     {
