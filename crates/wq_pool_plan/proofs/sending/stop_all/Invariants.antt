@@ -6,6 +6,6 @@ abbrev pub invariant-loop-program : goal.invariant-loop-program
 invariant-loop-program g l = record {
   caller : IsCallerOf l.pool.ready l.caller;
   place : l.queue ≡ l.program-index;
-  each : (i : ℕ) (d e : Known) → i < l.program-index → HasQueuedStop (get_or l.fn.programs.items i d) (get_or l.program-items i e);
+  each : (i : ℕ) (d : Known) → i < l.program-index → HasQueuedStop (get_or l.fn.programs.items i d) (get_or l.program-items i d);
   rest : (i : ℕ) (d : Known) → l.program-index ≤ i → get_or l.program-items i d ≡ get_or l.fn.programs.items i d;
 }
