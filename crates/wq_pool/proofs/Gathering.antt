@@ -10,12 +10,16 @@ use Rattle.wq_pool.proofs.Common.{◌≡◌, ℕ, zero, suc, ◌+◌, ◌<◌, L
 use Rattle.wq_pool.proofs.Common.{◌∙◌, subst, arith, length-append, map-append, All-push, IsComplete, WorkerId, IsDrained, SlotsState, TurnState, turn_id}
 use Rattle.wq_pool.proofs.Common.{WorkerState, AreFirst, AreComplete, LeavesOf, FirstLeft, AreFinishedBy, RanToEndBy, IsWorkerAt}
 use Rattle.wq_pool.proofs.Common.{inl, inr, WasDrainedAt, WereDrained, FirstWereDrained, AreOfDrained, AreTakenApart, ArePartsOf, HasEndedAt, IsLeftTo}
+use Rattle.wq_pool.proofs.Common.{GoesOnAt, AreGoneOn}
+use mathlib.Core.List.{IsPrefix}
+use Rattle.wq_words.specs.declared.event.Event.{Event}
 use Rattle.wq_turn.specs.Steps.{EndsJust}
 
 module _ {K W : Type 0} (state : K → WorkerState W) where
   pub first_more : (slots : SlotsState) (turns new : List (TurnState K)) (t : TurnState K) → AreFirst state slots turns → length turns < length slots.workers
-      → t.slots ≡ slots.id → IsWorkerAt state slots.workers (length turns) t.worker → new ≡ turns ++ t ∷ [] → AreFirst state slots new
-  first_more slots turns new t first low here worker_is is =
+      → t.slots ≡ slots.id → IsWorkerAt state slots.workers (length turns) t.worker → GoesOnAt state slots.seen (length turns) t.worker
+      → new ≡ turns ++ t ∷ [] → AreFirst state slots new
+  first_more slots turns new t first low here worker_is on is =
       let n = length turns in
       let long : length (turns ++ t ∷ []) ≡ n + 1 = length-append turns (t ∷ []) in
       subst (AreFirst state slots) (sym is) record {
@@ -24,6 +28,10 @@ module _ {K W : Type 0} (state : K → WorkerState W) where
         workers_are = map-append (turn_id state) turns (t ∷ [])
             ∙ (ap (λ (ids : List WorkerId). ids ++ turn_id state t ∷ []) first.workers_are
             ∙ (sym (take_more_some slots.workers n (turn_id state t) worker_is) ∙ ap (λ (k : ℕ). take k slots.workers) (sym long)));
+        go_on = λ q u at. elim (slice_get_push turns t u q at) [
+          | inl old ↦ first.go_on q u old
+          | inr last ↦ subst (λ (z : ℕ × TurnState K). GoesOnAt state slots.seen z.0 z.1.worker) (λ i. (sym last.0 i, last.1 i)) on
+        ];
       }
 
 module _ {K W : Type 0} (state : K → WorkerState W) (may : W → ℕ → List ℕ → W → Type 0) (gives : W → W → Type 0) (deals : K → K → Type 0)
@@ -90,6 +98,14 @@ module _ {K W : Type 0} (state : K → WorkerState W) (may : W → ℕ → List 
       → AllDrained workers turns → AreTakenApart state book turns parts → AreOfDrained state may gives deals limit book workers parts
   parts_drained book workers turns parts all apart q one at =
       let t = apart q one at in (t.0.worker, all q t.0 t.1, t.2)
+
+module _ {K W B : Type 0} (state : K → WorkerState W) (book : B → BookState) where
+  -- the book of what is taken apart goes on from what had been seen
+  pub parts_go_on : (slots : SlotsState) (turns : List (TurnState K)) (parts : List (W × B)) → AreFirst state slots turns
+      → AreTakenApart state book turns parts → AreGoneOn book slots.seen parts
+  parts_go_on slots turns parts first apart q one at =
+      let t = apart q one at in let on = first.go_on q t.0 t.1 in
+      (on.0, on.1, subst (λ (h : List Event). IsPrefix on.0 h) (sym t.2.1.2) on.2)
 
 module _ {K W B : Type 0} (state : K → WorkerState W) (book : B → BookState) where
   pub parts_none : (turns : List (TurnState K)) (parts : List (W × B)) → parts ≡ [] → AreTakenApart state book turns parts

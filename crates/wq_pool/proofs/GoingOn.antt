@@ -6,7 +6,16 @@ use Rattle.wq_ready.specs.declared.ready_queue.AnnounceError.{AnnounceError}
 use Rattle.wq_ready.specs.declared.ready_queue.AnnounceError.TheVariants.{NoQueue, Full}
 use Rattle.wq_ready.specs.Answers.{Picks, Announces}
 use Rattle.wq_pool.proofs.Common.{◌≡◌, ℕ, List, [], ◌++◌, slice_get, Some, None, Option, sym, refl, ap, ◌∙◌, subst, append_assoc, append-nil, CallerState}
-use Rattle.wq_pool.proofs.Common.{WorkerState, WorkerId, TurnState, PoolState, IsSameTurn, GoesOnFrom, IsTurnOf}
+use Rattle.wq_pool.proofs.Common.{WorkerState, WorkerId, TurnState, PoolState, IsSameTurn, GoesOnFrom, IsTurnOf, Bool, HandedIn, IsHandedAt, GoesOnAt}
+use Rattle.wq_pool.proofs.Common.{seen_by, id_of}
+use mathlib.Core.List.{IsPrefix}
+use Rattle.wq_words.specs.declared.event.Event.{Event}
+use Rattle.wq_words.proofs.Prefixes.{prefix_self, prefix_on}
+use Rattle.wq_worker.specs.Rows.{Closes, was_closed, closes}
+use Rattle.wq_worker.specs.State.{Moves}
+use Rattle.wq_turn.specs.Drained.{ClosesAndWorks}
+use Rattle.wq_turn.specs.Steps.{WorksOn}
+use Rattle.wq_turn.proofs.Moved.{works_keep}
 
 pub goes_still : (a : CallerState) → GoesOnFrom a a
 goes_still a = record { same = record { ready_is = refl; number_is = refl }; begins = ([], append-nil a.seen) }
@@ -32,10 +41,39 @@ goes_by_announce q (Ok _) a b t = record { same = t.same; begins = (t.grows.new,
 goes_by_announce q (Err NoQueue) a b t = subst (λ (z : CallerState). GoesOnFrom a z) (sym t) (goes_still a)
 goes_by_announce q (Err Full) a b t = subst (λ (z : CallerState). GoesOnFrom a z) (sym t.0) (goes_still a)
 
+pub goes_on_at : {K W : Type 0} (state : K → WorkerState W) (seen : List (List Event)) (q : ℕ) (a b : K) → GoesOnAt state seen q a
+    → IsPrefix (seen_by state a) (seen_by state b) → GoesOnAt state seen q b
+goes_on_at state seen q a b on more = (on.0, on.1, prefix_on on.0 (seen_by state a) (seen_by state b) on.2 more)
+
+-- where a worker has seen more it is still the one that was handed in
+pub handed_on : {K W : Type 0} (state : K → WorkerState W) (handed : HandedIn) (q : ℕ) (a b : K) → IsHandedAt state handed q a
+    → id_of state b ≡ id_of state a → IsPrefix (seen_by state a) (seen_by state b) → IsHandedAt state handed q b
+handed_on state handed q a b is same more = record {
+  worker_is = is.worker_is ∙ ap Some (sym same);
+  goes_on = goes_on_at state handed.seen q a b is.goes_on more;
+}
+
+module _ {W : Type 0} (may : W → ℕ → List ℕ → W → Type 0) (gives : W → W → Type 0) where
+  moved_begins : (h : List Event) (es : List Event) (n : ℕ) (a b : WorkerState W) → Moves es n a b → IsPrefix h a.seen → IsPrefix h b.seen
+  moved_begins h es n a b moved begins = prefix_on h a.seen b.seen begins (moved.adds.new, sym moved.adds.is)
+
+  -- a worker that works on has seen what it had seen
+  pub works_begins : (limit : ℕ) (done : Bool) (a c : WorkerState W) → WorksOn may gives limit done a c → IsPrefix a.seen c.seen
+  works_begins limit done a c t = works_keep (λ w. IsPrefix a.seen w.seen) (moved_begins a.seen) may gives limit done a c t (prefix_self a.seen)
+
+  close_begins : (a b : WorkerState W) → Closes a b → IsPrefix a.seen b.seen
+  close_begins a b (was_closed closed same) = subst (λ (w : WorkerState W). IsPrefix a.seen w.seen) (sym same) (prefix_self a.seen)
+  close_begins a b (closes unclosed moved work unqueued) = (moved.adds.new, sym moved.adds.is)
+
+  pub drain_begins : (limit : ℕ) (a c : WorkerState W) → ClosesAndWorks may gives limit a c → IsPrefix a.seen c.seen
+  drain_begins limit a c t =
+      prefix_on a.seen t.closed.seen c.seen (close_begins a t.closed t.closes) (works_begins limit t.is_done t.closed c t.works)
+
 pub turn_same : {K W : Type 0} (state : K → WorkerState W) (p : PoolState) (t u : TurnState K) → IsTurnOf state p t → IsSameTurn state t u → IsTurnOf state p u
 turn_same state p t u is same = record {
   slots_is = same.slots_is ∙ is.slots_is;
   worker_is = subst (λ (z : ℕ × WorkerId). slice_get p.workers z.0 ≡ Some z.1) (λ i. (sym same.queue_is i, sym same.worker_is i)) is.worker_is;
+  goes_on = subst (λ (q : ℕ). GoesOnAt state p.seen q u.worker) (sym same.queue_is) (goes_on_at state p.seen t.queue t.worker u.worker is.goes_on same.begins);
 }
 
 -- where a caller was refused it is as it was

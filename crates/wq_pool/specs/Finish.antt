@@ -8,7 +8,7 @@ use Rattle.wq_worker.specs.State.{WorkerState}
 use Rattle.wq_pool.specs.declared.finish.PoolFaultOf.{PoolFaultOf}
 use Rattle.wq_pool.specs.declared.finish.PoolFaultOf.TheVariants.{Out, Unfinished, Memory}
 use Rattle.wq_turn.specs.declared.worker_id.WorkerId.{WorkerId}
-use Rattle.wq_pool.specs.Known.{SlotsState, PoolState, TurnState, turn_id}
+use Rattle.wq_pool.specs.Known.{SlotsState, PoolState, TurnState, turn_id, GoesOnAt}
 use Rattle.wq_pool.specs.Slots.{IsWorkerAt}
 use Rattle.wq_pool.specs.Finished.{ArePartsOf}
 use Rattle.wq_turn.specs.Drained.{IsDrained, ClosesAndWorks}
@@ -27,6 +27,7 @@ module _ {K W : Type 0} (state : K → WorkerState W) where
     pub few : length turns ≤ length slots.workers
     pub slots_are : All (λ (t : TurnState K). t.slots ≡ slots.id) turns
     pub workers_are : map (turn_id state) turns ≡ take (length turns) slots.workers
+    pub go_on : (q : ℕ) (t : TurnState K) → slice_get turns q ≡ Some t → GoesOnAt state slots.seen q t.worker
 
   abbrev pub AreComplete : List (TurnState K) → Type 0
   AreComplete turns = All (λ (t : TurnState K). IsComplete (state t.worker).seen) turns

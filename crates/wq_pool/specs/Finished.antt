@@ -1,5 +1,7 @@
 -- What is left of the queues of a pool that has run to its end.
 use Rattle.std.specs.Prelude.{◌≡◌, ℕ, List, [], ◌∷◌, Some, slice_get}
+use mathlib.Core.List.{IsPrefix}
+use Rattle.wq_words.specs.declared.event.Event.{Event}
 use Rattle.wq_words.specs.Legal.{IsLegal, IsComplete}
 use Rattle.wq_ledger.specs.Book.{BookState}
 use Rattle.wq_worker.specs.Destroy.{HasRunAccepted, IsBookOf}
@@ -38,3 +40,9 @@ module _ {K W B : Type 0} (state : K → WorkerState W) (book : B → BookState)
   abbrev pub AreTakenApart : List (TurnState K) → List (W × B) → Type 0
   AreTakenApart turns all = (q : ℕ) (parts : W × B) → slice_get all q ≡ Some parts
       → (t : TurnState K) × (slice_get turns q ≡ Some t) × ArePartsOf t.worker parts
+
+module _ {W B : Type 0} (book : B → BookState) where
+  -- each history begins with what the worker at its place had seen when it was handed in
+  abbrev pub AreGoneOn : List (List Event) → List (W × B) → Type 0
+  AreGoneOn seen all = (q : ℕ) (finished : W × B) → slice_get all q ≡ Some finished
+      → (old : List Event) × (slice_get seen q ≡ Some old) × IsPrefix old (book finished.1).seen

@@ -5,17 +5,19 @@ use Rattle.wq_words.specs.declared.answer.Answer.{Answer}
 use Rattle.wq_words.specs.declared.answer.Answer.TheVariants.{Queued}
 use Rattle.wq_ready.specs.Known.{CallerState, IsSameCaller}
 use Rattle.wq_worker.specs.State.{WorkerState}
-use Rattle.wq_pool.specs.Known.{PoolState, TurnState}
+use Rattle.wq_pool.specs.Known.{PoolState, TurnState, GoesOnAt}
 use Rattle.wq_pool.specs.Slots.{IsWorkerAt}
 
 -- no pool has so many queues
 abbrev pub IsNoPool : ℕ → Type 0
 IsNoPool count = (count ≡ 0) ⊎ (256 < count)
 
--- The very queue of its number, in hand. `state` says what its worker is without values.
+-- The very queue of its number, in hand: its worker goes on from what had been seen when it was handed in. `state` says what a
+-- worker is without values.
 pub record IsTurnOf {K W : Type 0} (state : K → WorkerState W) (pool : PoolState) (turn : TurnState K) : Type 0 where
   pub slots_is : turn.slots ≡ pool.slots
   pub worker_is : IsWorkerAt state pool.workers turn.queue turn.worker
+  pub goes_on : GoesOnAt state pool.seen turn.queue turn.worker
 
 -- the number was queued, and its queue rested
 abbrev pub says_wakes : Answer → Bool

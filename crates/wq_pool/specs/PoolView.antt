@@ -4,7 +4,7 @@ use Rattle.wq_pool.specs.declared.pool.PoolOf.TheInside.{Inside}
 use Rattle.wq_pool.specs.Known.{PoolState}
 
 abbrev pub pool_view : {K W B : Type 0} → Inside K W B → PoolState
-pool_view p = record { slots = p.slots.id; ready = p.ready; workers = p.slots.workers }
+pool_view p = record { slots = p.slots.id; ready = p.ready; workers = p.slots.workers; seen = p.slots.seen }
 
 -- the ready queue has room for each queue
 pub record HasReadyQueue {K W B : Type 0} (p : Inside K W B) : Type 0 where

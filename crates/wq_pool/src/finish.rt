@@ -3,7 +3,7 @@ ghost use Rattle.std.specs.Prelude.{◌≡◌, ◌<◌, ◌≤◌, [], map, leng
 ghost use Rattle.std.specs.Vec.{vec_len, vec_capacity};
 ghost use Rattle.wq_pool.specs.Known.{turn_id};
 ghost use Rattle.wq_pool.specs.Finish.{AreFirst, AreComplete, WereDrained, AreOfDrained, LeavesOf, FirstLeft, IsPoolFault};
-ghost use Rattle.wq_pool.specs.Finished.{AreFinishedBy, RanToEndBy, AreTakenApart};
+ghost use Rattle.wq_pool.specs.Finished.{AreFinishedBy, RanToEndBy, AreTakenApart, AreGoneOn};
 
 use crate::pool::PoolOf;
 use crate::slots::Slots;
@@ -134,6 +134,7 @@ impl<K: Station + Drop> PoolOf<K> {
         ensures count { IfOk result (λ finished. length finished.items ≡ length self.workers) }
         ensures each { IfOk result (λ finished. All (RanToEndBy K.book K.has_run) finished.items) }
         ensures drained { IfOk result (λ finished. AreOfDrained K.state K.may K.gives K.deals limit K.book self.workers finished.items) }
+        ensures begins { IfOk result (λ finished. AreGoneOn K.book self.seen finished.items) }
         ensures fault { IfErr result (IsPoolFault K.state K.may K.gives K.deals limit self) }
     {
         let count = self.slots.count() as usize;

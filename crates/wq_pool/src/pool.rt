@@ -5,7 +5,7 @@ ghost use Rattle.wq_ready.specs.declared.ready_queue.AnnounceError.TheVariants a
 ghost use Rattle.wq_ready.specs.Answers.{Announces, Picks};
 ghost use Rattle.wq_ready.specs.Known.{IsCallerOf, new_callers};
 ghost use Rattle.wq_pool.specs.declared.pool.PoolError.TheVariants as pool_error;
-ghost use Rattle.wq_pool.specs.Known.{queue_in_turn, id_of};
+ghost use Rattle.wq_pool.specs.Known.{queue_in_turn, id_of, seen_by};
 ghost use Rattle.wq_pool.specs.Pool.{IsTurnOf, IsNoPool, GoesOnFrom, says_wakes};
 
 use crate::slots::Slots;
@@ -73,6 +73,7 @@ impl<K: Station + Drop> PoolOf<K> {
     ) -> Result<(PoolOf<K>, Vec<Caller>), PoolError>
         ensures no_queue { (result ≡ Err pool_error.NoQueue) ↔ IsNoPool (length queues.items) }
         ensures workers { IfOk result (λ r. r.0.workers ≡ map (id_of K.state) queues.items) }
+        ensures seen { IfOk result (λ r. r.0.seen ≡ map (seen_by K.state) queues.items) }
         ensures size { IfOk result (λ r. r.0.ready.size ≡ record { queues = length queues.items; callers = callers }) }
         ensures callers { IfOk result (λ r. r.1.items ≡ new_callers r.0.ready callers) }
         ensures count { IfOk result (λ r. length r.1.items ≡ callers) }

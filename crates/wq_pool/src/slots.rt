@@ -1,7 +1,7 @@
 //! The queues of a pool in slots: each is in its slot, or in the hand of the one that picked it up.
 ghost use Rattle.std.specs.Prelude.{◌≡◌, ◌<◌, ◌^◌, Some, map, length, slice_get, IfOk, IfSome};
 ghost use Rattle.wq_words.specs.History.{IsRunning};
-ghost use Rattle.wq_pool.specs.Known.{id_of};
+ghost use Rattle.wq_pool.specs.Known.{id_of, seen_by, GoesOnAt};
 
 use crate::turn::{TurnOf, WorkedOf};
 use atomic_table::{Play, Seat, Table, TableRule};
@@ -10,28 +10,33 @@ use std::marker::Model;
 use std::snapshot::Snapshot;
 use trail::GhostList;
 use wq_turn::{Runner, ServedOf, WorkerId};
+use wq_words::Event;
 use wq_worker::Station;
 
-/// What a seat knows: the queue that it has in hand, and which workers were handed in. No value of it is made.
+/// Which workers were handed in, by place, and what each had seen then. No value of it is made.
+pub struct HandedIn {
+    pub workers: GhostList<WorkerId>,
+    pub seen: GhostList<GhostList<Event>>,
+}
+
+/// What a seat knows: the queue that it has in hand, and what was handed in. No value of it is made.
 pub struct Hand {
     pub queue: Option<u64>,
-    pub workers: GhostList<WorkerId>,
+    pub handed: HandedIn,
 }
 
 /// What the table is told once: the queues that were handed in. It takes no memory.
 pub type Handed<K> = Snapshot<Vec<ServedOf<K>>>;
 
-/// What is in a slot is the worker that was handed in at that place.
+/// What is in a slot is the worker that was handed in at that place, which has seen at least what it had seen then.
 pub struct Law;
 
 impl<K: Station> TableRule<Option<ServedOf<K>>, Hand, Handed<K>> for Law {
-    ghost use Rattle.std.specs.Prelude.{map};
-    ghost use Rattle.wq_pool.specs.Known.{id_of};
-    ghost use Rattle.wq_pool.specs.Slots.{KeptSlots, empty_hand};
+    ghost use Rattle.wq_pool.specs.Slots.{KeptSlots, empty_hand, handed_of};
 
-    ghost holds = { λ handed state. KeptSlots K.state (map (id_of K.state) handed.value.items) state };
+    ghost holds = { λ handed state. KeptSlots K.state (handed_of K.state handed.value.items) state };
 
-    ghost first = { λ handed. empty_hand (map (id_of K.state) handed.value.items) };
+    ghost first = { λ handed. empty_hand (handed_of K.state handed.value.items) };
 }
 
 /// A seat at the slots.
@@ -102,7 +107,8 @@ impl<K: Station + Drop> Slots<K> {
     /// Each queue lies in the slot of its place.
     pub(crate) fn new(alloc: Global, queues: Vec<ServedOf<K>>) -> Result<Slots<K>, AllocError>
         requires { length queues.items < 2 ^ 32 }
-        ensures { IfOk result (λ slots. slots.workers ≡ map (id_of K.state) queues.items) }
+        ensures workers { IfOk result (λ slots. slots.workers ≡ map (id_of K.state) queues.items) }
+        ensures seen { IfOk result (λ slots. slots.seen ≡ map (seen_by K.state) queues.items) }
     {
         let handed = Snapshot::of(&queues);
         let count = queues.len();
@@ -130,6 +136,7 @@ impl<K: Station + Drop> Slots<K> {
         ensures queue { IfSome result (λ turn. turn.queue ≡ queue) }
         ensures slots { IfSome result (λ turn. turn.slots ≡ self.now.id) }
         ensures worker { IfSome result (λ turn. slice_get self.now.workers queue ≡ Some (id_of K.state turn.worker)) }
+        ensures goes_on { IfSome result (λ turn. GoesOnAt K.state self.now.seen queue turn.worker) }
         ensures idle { IfSome result (λ turn. ¬ IsRunning (K.state turn.worker).seen) }
     {
         let place = queue as usize;

@@ -2,7 +2,8 @@ use Rattle.wq_worker.specs.Rows.{Along}
 use Rattle.wq_turn.specs.Drained.{ClosesAndWorks}
 use Rattle.wq_turn.specs.Steps.{EndsJust}
 use Rattle.wq_pool.proofs.Common.{◌≡◌, ℕ, ◌<◌, [], length, slice_get, Some, sym, ap, ◌∙◌, subst, arith, rules, IsDrained, TurnState, turn_id, FirstLeft}
-use Rattle.wq_pool.proofs.Common.{IsWorkerAt, WasDrainedAt}
+use Rattle.wq_pool.proofs.Common.{IsWorkerAt, WasDrainedAt, GoesOnAt}
+use Rattle.wq_pool.proofs.GoingOn.{goes_on_at}
 use Rattle.wq_pool.proofs.Gathering.{first_more, left_more, drained_more}
 use Rattle.wq_pool.proofs.finish.gather.Goals as goal
 
@@ -20,6 +21,9 @@ loop-queue-preserved g c =
     subst (λ (q : ℕ). FirstLeft l.left q c.drain-more.result c.first_left-left.result) (sym at) c.first_left-left.ensures in
     let leaves : IsDrained c.drain-more.result (state t.worker) =
     subst (λ (u : TurnState _). IsDrained c.drain-more.result (state u.worker)) (sym into) drain.left in
+    let on : GoesOnAt state slots.seen (length l.all.items) t.worker =
+    subst (λ (z : ℕ × TurnState _). GoesOnAt state slots.seen z.0 z.1.worker) (λ i. (sym at i, sym into i))
+    (goes_on_at state slots.seen l.queue start c.drain-more.new.self.worker up.goes_on drain.same.begins) in
     let drained : WasDrainedAt state k.may k.gives k.deals limit slots.workers (length l.all.items) t.worker = record {
       start = start;
       start_is = subst (λ (q : ℕ). IsWorkerAt state slots.workers q start) (sym at) up.worker;
@@ -29,7 +33,7 @@ loop-queue-preserved g c =
       dealt = subst (λ (u : TurnState _). Along k.deals start u.worker) (sym into) drain.deals;
     } in (
       first_more state slots l.all.items c.push_reserved.new.self.items t i.0 (omega (arith, at, c.count-queue-end.ensures, c.loop-queue-test.true))
-          (ap (λ (u : TurnState _). u.slots) into ∙ (drain.same.slots_is ∙ up.slots)) worker_is c.push_reserved.ensures.items,
+          (ap (λ (u : TurnState _). u.slots) into ∙ (drain.same.slots_is ∙ up.slots)) worker_is on c.push_reserved.ensures.items,
       search rules,
       search rules,
       drained_more state k.may k.gives k.deals limit slots.workers l.all.items c.push_reserved.new.self.items t i.3 drained c.push_reserved.ensures.items,

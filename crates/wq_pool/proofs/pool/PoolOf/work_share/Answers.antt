@@ -17,3 +17,12 @@ loop-preserved-then-not-owes g c =
           (turn_same g.K.Station.state c.args.self.now c.loop.turn c.in-Err.same c.loop.invariant.2 c.in-Err.ensures.same),
       c.announce_again-is_announced.ensures.next,
     )
+
+pub loop-preserved : goal.loop-preserved
+loop-preserved g c = (
+  c.loop.invariant.0,
+  c.loop.invariant.1,
+  subst (λ (t : TurnState _). IsTurnOf g.K.Station.state c.args.self.now t) (sym c.count_stop.ensures)
+      (turn_same g.K.Station.state c.args.self.now c.loop.turn c.in-Err.same c.loop.invariant.2 c.in-Err.ensures.same),
+  c.loop.invariant.3,
+)

@@ -1,14 +1,21 @@
 use Rattle.wq_worker.specs.Rows.{Along}
 use Rattle.wq_turn.specs.Steps.{Finishes, Pauses, EndsWithin}
 use Rattle.wq_turn.proofs.Steps.{works_finishes, works_pauses, works_ended, works_id}
-use Rattle.wq_pool.proofs.Common.{Some, sym, refl, ap, ◌∙◌, subst, id_of, TurnState, IsSameTurn}
+use mathlib.Core.List.{IsPrefix}
+use Rattle.wq_pool.proofs.Common.{sym, refl, ap, ◌∙◌, subst, id_of, TurnState, IsSameTurn, IsHandedAt}
+use Rattle.wq_pool.proofs.GoingOn.{handed_on, works_begins}
 use Rattle.wq_pool.proofs.turn.TurnOf.work.Goals as goal
 
 pub invariant_of-self : goal.invariant_of-self
 invariant_of-self g c =
     let i = c.self.invariant in let k = g.K.Station in let a = k.state c.self.inside.runner in let b = k.state c.work.new.self in
     let same = works_id k.may k.gives c.args.limit c.work.result a b c.work.ensures.works in
-    record { taken = i.taken; within = i.within; worker_is = i.worker_is ∙ ap Some (sym same) }
+    record {
+      taken = i.taken;
+      within = i.within;
+      worker_is = handed_on k.state _ _ c.self.inside.runner c.work.new.self i.worker_is same
+          (works_begins k.may k.gives c.args.limit c.work.result a b c.work.ensures.works);
+    }
 
 pub invariant_of-result : goal.invariant_of-result
 invariant_of-result g c =
@@ -17,7 +24,9 @@ invariant_of-result g c =
     record {
       taken = i.taken;
       within = i.within;
-      worker_is = i.worker_is ∙ ap Some (sym same ∙ sym (ap (id_of k.state) c.into_served.ensures.same));
+      worker_is = subst (λ w. IsHandedAt k.state c.self.inside.seat.me.0.handed c.self.inside.queue w) (sym c.into_served.ensures.same)
+          (handed_on k.state _ _ c.self.inside.runner c.work.new.self i.worker_is same
+          (works_begins k.may k.gives c.args.limit c.work.result a b c.work.ensures.works));
     }
 
 pub returns-then-not-work-clause-works : goal.returns-then-not-work-clause-works
@@ -40,6 +49,7 @@ returns-then-not-work-clause-same g c =
       slots_is = refl;
       queue_is = refl;
       worker_is = works_id k.may k.gives c.args.limit c.work.result (k.state i.runner) (k.state c.work.new.self) c.work.ensures.works;
+      begins = works_begins k.may k.gives c.args.limit c.work.result (k.state i.runner) (k.state c.work.new.self) c.work.ensures.works;
     }
 
 pub returns-clause-works : goal.returns-clause-works
@@ -65,6 +75,8 @@ returns-clause-same g c =
       queue_is = refl;
       worker_is = ap (id_of k.state) c.into_served.ensures.same
           ∙ works_id k.may k.gives c.args.limit c.work.result (k.state i.runner) (k.state c.work.new.self) c.work.ensures.works;
+      begins = subst (λ w. IsPrefix (k.state i.runner).seen (k.state w).seen) (sym c.into_served.ensures.same)
+          (works_begins k.may k.gives c.args.limit c.work.result (k.state i.runner) (k.state c.work.new.self) c.work.ensures.works);
     }
 
 pub returns-then-not-work-clause-deals : goal.returns-then-not-work-clause-deals
