@@ -1,12 +1,13 @@
 -- The history of a race that has run to its end.
-use Rattle.wq_plan.proofs.Common.{◌≡◌, ◌≢◌, ℕ, ◌+◌, ◌-◌, map, ◌^◌, inl, inr, length-append, ◌*◌, ◌<◌, ◌≤◌, Bool, true, false, List, [], ◌∷◌, ◌++◌, length}
+use Rattle.wq_plan.proofs.Common.{◌≡◌, ◌≢◌, ℕ, ◌+◌, ◌-◌, ◌^◌, inl, inr, length-append, ◌*◌, ◌<◌, ◌≤◌, Bool, true, false, List, [], ◌∷◌, ◌++◌, length}
 use Rattle.wq_plan.proofs.Common.{get_or, min, refl, sym, ap, ◌∙◌, subst, arith, All, MatchBool, count_by, AllByRecursion, cases_lt, length-range_with_len}
 use Rattle.wq_plan.proofs.Common.{IsPrefix, Layout, Event, Back, is_close, is_drain, is_push, accepted, begun, ended, IsLegal, prefix_whole, own, own-append}
-use Rattle.wq_plan.proofs.Common.{closed_count, count_same, owner_seat, Why, RefusesFor, ended_same, Known, is_queued_by, is_chain, is_chain_busy, sender_counts}
-use Rattle.wq_plan.proofs.Common.{owner_counts, LedgerState, BookState}
+use Rattle.wq_plan.proofs.Common.{closed_count, count_same, owner_seat, Why, RefusesFor, ended_same, Known, is_queued_by, is_chain, is_chain_busy}
+use Rattle.wq_plan.proofs.Common.{sender_counts, owner_counts, LedgerState, BookState}
 use Rattle.wq_plan.proofs.Common.{Unbalanced, AreWhole, AreOwnerWhole, ledgers_of, HasOne, IsUnbalanced, is_queued_below, below_more, below_all, WorkerState}
 use Rattle.wq_plan.proofs.Common.{items_among, SendsAll, count_by-append, accepted-count, Idle, Plan, Team, items_at, IsOfStop, HasRaced, queueings, Tells}
-use Rattle.wq_plan.proofs.Common.{IsWhole, IsBookAfter, IsLedgerOf, HasMet, AllKnown, HasEnded, HasSettled, ledger_of, own_between, prefix_on, count_by-le-length, IsComplete}
+use Rattle.wq_plan.proofs.Common.{IsWhole, IsBookAfter, IsLedgerOf, HasMet, AllKnown, HasEnded, HasSettled, ledger_of, own_between, prefix_on}
+use Rattle.wq_plan.proofs.Common.{IsComplete, count_by-le-length}
 use Rattle.wq_words.specs.declared.event.Why.TheVariants as why
 use Rattle.wq_words.specs.Limits.{most_text_items}
 use Rattle.wq_words.proofs.Order.{in_order}

@@ -63,7 +63,7 @@ pub record Tells (plan : Plan) (worker : WorkerState Idle) (book : BookState) (l
   pub made : All (IsLedgerOf book.seen) ledgers
   pub balanced : MatchBool outcome.is_balanced ((totals : Totals) × Balances book ledgers totals) ((fault : Unbalanced) × IsUnbalanced book ledgers fault)
 
--- an outcome is of a worker of the plan's queue, of the book of that queue, and of ledgers
+-- the outcome is of some worker of the plan's queue, of the book of that queue, and of ledgers
 pub record TellsRace (plan : Plan) (outcome : Outcome) : Type 0 where
   pub worker : WorkerState Idle
   pub book : BookState
@@ -71,7 +71,7 @@ pub record TellsRace (plan : Plan) (outcome : Outcome) : Type 0 where
   pub sized : IsLayoutOf plan.senders plan.own worker.layout
   pub tells : Tells plan worker book ledgers outcome
 
--- each item of the plan was accepted once and ran once, and the ledgers balance
+-- as many items were accepted as the plan has, and as many ran, and the outcome says that it balances
 pub record IsWhole (plan : Plan) (outcome : Outcome) : Type 0 where
   pub accepted_is : outcome.accepted ≡ plan.senders * plan.own
   pub ran_is : outcome.ran ≡ plan.senders * plan.own

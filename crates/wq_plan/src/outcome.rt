@@ -7,7 +7,8 @@ ghost use Rattle.wq_live.specs.Known.{Sees};
 ghost use Rattle.wq_ledger.specs.Book.{IsLedgerOf};
 ghost use Rattle.wq_ledger.specs.Balance.{Balances, IsUnbalanced};
 ghost use Rattle.wq_plan.specs.Race.{HasRaced};
-ghost use Rattle.wq_plan.specs.Outcome.{outcome_line, yes_or_no as said, Tells, IsWhole, HasMet, AllKnown, HasGoneOn, HasEnded, HasHeard, ledger_of, IsTold, queued_sum, HasSettled};
+ghost use Rattle.wq_plan.specs.Outcome.{outcome_line, yes_or_no as said, Tells, IsWhole, HasMet, AllKnown, HasGoneOn, HasEnded};
+ghost use Rattle.wq_plan.specs.Outcome.{HasHeard, ledger_of, IsTold, queued_sum, HasSettled};
 
 use crate::idle::Idle;
 use crate::plan::Plan;

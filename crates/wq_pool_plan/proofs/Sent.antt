@@ -1,7 +1,8 @@
 -- From new seats to what came of them.
 use Rattle.wq_pool_plan.proofs.Common.{◌≡◌, ℕ, ◌+◌, ◌*◌, ◌^◌, ◌<◌, ◌≤◌, List, [], ◌∷◌, length, map, get_or, sym, ap, ◌∙◌, subst, arith, AllByRecursion}
-use Rattle.wq_pool_plan.proofs.Common.{get_or-map, length-map, Event, Layout, own, Known, new_sender, WorkerState, Idle, Plan, HasQueuedStop, IsOfStop, IsQueuer}
-use Rattle.wq_pool_plan.proofs.Common.{own_room, own-first, queuer, WorkerId, worker_id, Group, Teams, AreCallersOf, MayRun, AllGroupsQueued, AllStopped}
+use Rattle.wq_pool_plan.proofs.Common.{get_or-map, length-map, Event, Layout, own, Known, new_sender, WorkerState, Idle, Plan, HasQueuedStop}
+use Rattle.wq_pool_plan.proofs.Common.{IsOfStop, IsQueuer, own_room, own-first, queuer, WorkerId, worker_id, Group, Teams, AreCallersOf, MayRun}
+use Rattle.wq_pool_plan.proofs.Common.{AllGroupsQueued, AllStopped}
 use Rattle.wq_pool_plan.proofs.Common.{IsSent, AllSent, AreTurned, AreTeams}
 use Rattle.wq_pool.specs.Known.{PoolState}
 use Rattle.wq_pool_plan.specs.declared.race.Callers.{Callers}
