@@ -9,8 +9,8 @@ use Rattle.wq_turn.proofs.Draining.{left_complete}
 use Rattle.wq_pool.proofs.Common.{◌≡◌, ℕ, zero, suc, ◌+◌, ◌<◌, List, [], ◌∷◌, ◌++◌, map, length, take, Some, None, All, Option, sym, refl, ap}
 use Rattle.wq_pool.proofs.Common.{◌∙◌, subst, arith, length-append, map-append, All-push, IsComplete, WorkerId, IsDrained, SlotsState, TurnState, turn_id}
 use Rattle.wq_pool.proofs.Common.{WorkerState, AreFirst, AreComplete, LeavesOf, FirstLeft, AreFinishedBy, RanToEndBy, IsWorkerAt}
-use Rattle.wq_pool.proofs.Common.{inl, inr, WasDrainedAt, WereDrained, FirstWereDrained, AreOfDrained, AreTakenApart, ArePartsOf, HasEndedAt, IsLeftTo}
-use Rattle.wq_pool.proofs.Common.{GoesOnAt, AreGoneOn}
+use Rattle.wq_pool.proofs.Common.{inl, inr, WasDrainedAt, WereDrained, FirstWereDrained, ComeFromDrains, AreTakenApart, ArePartsOf, HasEndedAt, IsLeftTo}
+use Rattle.wq_pool.proofs.Common.{GoesOnAt, BeginAsHandedIn}
 use mathlib.Core.List.{IsPrefix}
 use Rattle.wq_words.specs.declared.event.Event.{Event}
 use Rattle.wq_turn.specs.Steps.{EndsJust}
@@ -95,14 +95,14 @@ module _ {K W : Type 0} (state : K → WorkerState W) (may : W → ℕ → List 
 
   -- what was taken apart is of the workers that were drained
   pub parts_drained : {B : Type 0} (book : B → BookState) (workers : List WorkerId) (turns : List (TurnState K)) (parts : List (W × B))
-      → AllDrained workers turns → AreTakenApart state book turns parts → AreOfDrained state may gives deals limit book workers parts
+      → AllDrained workers turns → AreTakenApart state book turns parts → ComeFromDrains state may gives deals limit book workers parts
   parts_drained book workers turns parts all apart q one at =
       let t = apart q one at in (t.0.worker, all q t.0 t.1, t.2)
 
 module _ {K W B : Type 0} (state : K → WorkerState W) (book : B → BookState) where
   -- the book of what is taken apart goes on from what had been seen
   pub parts_go_on : (slots : SlotsState) (turns : List (TurnState K)) (parts : List (W × B)) → AreFirst state slots turns
-      → AreTakenApart state book turns parts → AreGoneOn book slots.seen parts
+      → AreTakenApart state book turns parts → BeginAsHandedIn book slots.seen parts
   parts_go_on slots turns parts first apart q one at =
       let t = apart q one at in let on = first.go_on q t.0 t.1 in
       (on.0, on.1, subst (λ (h : List Event). IsPrefix on.0 h) (sym t.2.1.2) on.2)

@@ -75,8 +75,8 @@ module _ {K W : Type 0} (state : K → WorkerState W) (may : W → ℕ → List 
   LeavesOf workers turns (Some left) = (t : TurnState K) × (slice_get turns left.0 ≡ Some t) × IsLeftTo workers left.0 left.1 t.worker
 
   -- of each queue that was drained the work of its worker, and the book
-  abbrev pub AreOfDrained : {B : Type 0} → (B → BookState) → List WorkerId → List (W × B) → Type 0
-  AreOfDrained {B} book workers all = (q : ℕ) (parts : W × B) → slice_get all q ≡ Some parts
+  abbrev pub ComeFromDrains : {B : Type 0} → (B → BookState) → List WorkerId → List (W × B) → Type 0
+  ComeFromDrains {B} book workers all = (q : ℕ) (parts : W × B) → slice_get all q ≡ Some parts
       → (worker : K) × WasDrainedAt workers q worker × ArePartsOf state book worker parts
 
   -- The same pool is given back: with a queue that is out, and those before it drained; or all drained, and something left of one.

@@ -43,6 +43,6 @@ module _ {K W B : Type 0} (state : K → WorkerState W) (book : B → BookState)
 
 module _ {W B : Type 0} (book : B → BookState) where
   -- each history begins with what the worker at its place had seen when it was handed in
-  abbrev pub AreGoneOn : List (List Event) → List (W × B) → Type 0
-  AreGoneOn seen all = (q : ℕ) (finished : W × B) → slice_get all q ≡ Some finished
+  abbrev pub BeginAsHandedIn : List (List Event) → List (W × B) → Type 0
+  BeginAsHandedIn seen all = (q : ℕ) (finished : W × B) → slice_get all q ≡ Some finished
       → (old : List Event) × (slice_get seen q ≡ Some old) × IsPrefix old (book finished.1).seen

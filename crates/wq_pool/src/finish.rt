@@ -2,8 +2,8 @@
 ghost use Rattle.std.specs.Prelude.{◌≡◌, ◌<◌, ◌≤◌, [], map, length, All, IfOk, IfErr, IfNone, IfSome};
 ghost use Rattle.std.specs.Vec.{vec_len, vec_capacity};
 ghost use Rattle.wq_pool.specs.Known.{turn_id};
-ghost use Rattle.wq_pool.specs.Finish.{AreFirst, AreComplete, WereDrained, AreOfDrained, LeavesOf, FirstLeft, IsPoolFault};
-ghost use Rattle.wq_pool.specs.Finished.{AreFinishedBy, RanToEndBy, AreTakenApart, AreGoneOn};
+ghost use Rattle.wq_pool.specs.Finish.{AreFirst, AreComplete, WereDrained, ComeFromDrains, LeavesOf, FirstLeft, IsPoolFault};
+ghost use Rattle.wq_pool.specs.Finished.{AreFinishedBy, RanToEndBy, AreTakenApart, BeginAsHandedIn};
 
 use crate::pool::PoolOf;
 use crate::slots::Slots;
@@ -16,19 +16,21 @@ use wq_worker::Station;
 #[derive(Drop, Error)]
 pub enum PoolFaultOf<K: Station> {
     /// The queue is not in its slot. Those before it are closed, and so many were executed of each as the limit says, or all.
+    /// That it is out is in no clause.
     #[error("the queue {queue} is not in its slot")]
     Out {
         pool: PoolOf<K>,
         queue: u32,
     },
-    /// So many numbers of the queue are accepted and have not ended. All queues are closed.
+    /// So many numbers of the queue are accepted and have not ended, after as many executions as the limit says. Nothing is left
+    /// of those before it, and all queues are closed.
     #[error("{left} numbers of the queue {queue} are accepted and have not ended")]
     Unfinished {
         pool: PoolOf<K>,
         queue: u32,
         left: u32,
     },
-    /// No memory could be had. No queue was touched.
+    /// No memory could be had. No queue was touched, which is in no clause.
     #[error("no memory")]
     Memory {
         pool: PoolOf<K>,
@@ -120,12 +122,14 @@ impl<K: Station + Drop> PoolOf<K> {
     }
 
     /// Closes every queue and executes what is left of each, up to so many numbers of each, and then takes all apart: the works and
-    /// the books, by place. Each queue is tried once: one that is in a turn is out.
+    /// the books, by place. Each queue is tried once: one that is in a turn is out. The clauses speak of what was done to a queue
+    /// from some state of its worker on, since who calls has not seen the workers that lie in the pool.
     ///
     /// # Errors
     /// `Memory` before any queue is touched; `Out` for the first queue that is not in its slot; `Unfinished` for the first queue
-    /// with something left. The pool is given back, with all queues in their slots that were there. A queue whose turn was dropped
-    /// stays out for good. The queues are closed then, so no stop item can be queued, and `run` waits for each that had none.
+    /// with something left. The pool is given back, and the queues that were in their slots are laid down again, which is in no
+    /// clause. A queue whose turn was dropped stays out for good. Onto a queue that was closed no stop item can be queued, and
+    /// `run` waits for each that had none.
     pub fn finish(self, limit: u32) -> Result<Vec<(K::Work, K::Book)>, PoolFaultOf<K>>
     where
         K::Work: Drop,
@@ -133,8 +137,8 @@ impl<K: Station + Drop> PoolOf<K> {
         ensures finished { IfOk result (λ finished. AreFinishedBy K.book K.has_run self.workers finished.items) }
         ensures count { IfOk result (λ finished. length finished.items ≡ length self.workers) }
         ensures each { IfOk result (λ finished. All (RanToEndBy K.book K.has_run) finished.items) }
-        ensures drained { IfOk result (λ finished. AreOfDrained K.state K.may K.gives K.deals limit K.book self.workers finished.items) }
-        ensures begins { IfOk result (λ finished. AreGoneOn K.book self.seen finished.items) }
+        ensures drained { IfOk result (λ finished. ComeFromDrains K.state K.may K.gives K.deals limit K.book self.workers finished.items) }
+        ensures begins { IfOk result (λ finished. BeginAsHandedIn K.book self.seen finished.items) }
         ensures fault { IfErr result (IsPoolFault K.state K.may K.gives K.deals limit self) }
     {
         let count = self.slots.count() as usize;

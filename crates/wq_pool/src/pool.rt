@@ -60,9 +60,9 @@ impl<K: Station> Model for PoolOf<K> {
 }
 
 impl<K: Station + Drop> PoolOf<K> {
-    /// A pool of these queues, each known by its place, and its callers, each at its number. The queues stay as they are: one
-    /// onto which something was pushed, or whose worker has taken something, is to be announced once, since no push says `wakes`
-    /// any more before its next rest.
+    /// A pool of these queues, each known by its place, and its callers, each at its number. Each worker goes on from what it has
+    /// seen: a queue onto which something was pushed, or whose worker has taken something, is to be announced once, since no push
+    /// says `wakes` any more before its next rest.
     ///
     /// # Errors
     /// `NoQueue` exactly where no queue is handed in, or more than 256. What was handed in is dropped.

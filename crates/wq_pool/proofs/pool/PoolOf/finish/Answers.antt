@@ -1,6 +1,6 @@
 use Rattle.std.specs.Prelude.{IfSome, IfNone}
 use Rattle.wq_pool.proofs.Common.{◌≡◌, ℕ, ◌<◌, Option, List, map, length, sym, refl, ap, ◌∙◌, subst, rules, length-map, turn_id, PoolState, WorkerId}
-use Rattle.wq_pool.proofs.Common.{LeavesOf, FirstWereDrained, IsLeftTo, AreOfDrained, AreGoneOn}
+use Rattle.wq_pool.proofs.Common.{LeavesOf, FirstWereDrained, IsLeftTo, ComeFromDrains, BeginAsHandedIn}
 use Rattle.wq_pool.proofs.Gathering.{finished_count, finished_each, first_drained, parts_drained, parts_go_on}
 use Rattle.wq_words.specs.declared.event.Event.{Event}
 use Rattle.wq_pool.proofs.pool.PoolOf.finish.Goals as goal
@@ -54,11 +54,11 @@ returns-in-None-None-clause-drained g c =
     let k = g.K.Station in let all = c.gather-all.result.all.items in let slots = c.self.inside.slots in
     let same : slots.workers ≡ c.args.self.workers = ap (λ (p : PoolState). p.workers) c.self.view_is in
     let parts = c.take_apart.result.items in
-    subst (λ (ids : List WorkerId). AreOfDrained k.state k.may k.gives k.deals c.args.limit k.book ids parts) same
+    subst (λ (ids : List WorkerId). ComeFromDrains k.state k.may k.gives k.deals c.args.limit k.book ids parts) same
     (parts_drained k.state k.may k.gives k.deals c.args.limit k.book slots.workers all parts c.gather-all.ensures.drained c.take_apart.ensures.parts)
 
 pub returns-in-None-None-clause-begins : goal.returns-in-None-None-clause-begins
 returns-in-None-None-clause-begins g c =
     let k = g.K.Station in let all = c.gather-all.result.all.items in let parts = c.take_apart.result.items in
-    subst (λ (seen : List (List Event)). AreGoneOn k.book seen parts) (ap (λ (p : PoolState). p.seen) c.self.view_is)
+    subst (λ (seen : List (List Event)). BeginAsHandedIn k.book seen parts) (ap (λ (p : PoolState). p.seen) c.self.view_is)
     (parts_go_on k.state k.book c.self.inside.slots all parts c.gather-all.ensures.first c.take_apart.ensures.parts)
