@@ -36,52 +36,52 @@ module _ {K W : Type 0} (state : K → WorkerState W) where
 
 module _ {K W : Type 0} (state : K → WorkerState W) (may : W → ℕ → List ℕ → W → Type 0) (gives : W → W → Type 0) (deals : K → K → Type 0)
     (limit : ℕ) where
-  abbrev Drained : List WorkerId → ℕ → K → Type 0
+  abbrev Drained : List WorkerId → List (List Event) → ℕ → K → Type 0
   Drained = WasDrainedAt state may gives deals limit
 
-  abbrev AllDrained : List WorkerId → List (TurnState K) → Type 0
+  abbrev AllDrained : List WorkerId → List (List Event) → List (TurnState K) → Type 0
   AllDrained = WereDrained state may gives deals limit
 
   -- the turn at each place below their count
   turn_at : (turns : List (TurnState K)) (q : ℕ) → q < length turns → (t : TurnState K) × (slice_get turns q ≡ Some t)
   turn_at turns q low = elim ((slice_get_cases turns q).1) [ inl found ↦ (found.0, found.2) | inr past ↦ absurd (omega (arith, past.0, low)) ]
 
-  pub first_drained : (workers : List WorkerId) (turns : List (TurnState K)) (count : ℕ) → AllDrained workers turns → count ≡ length turns
-      → FirstWereDrained state may gives deals limit workers count
-  first_drained workers turns count all is q low = let t = turn_at turns q (omega (arith, is, low)) in (t.0.worker, all q t.0 t.1)
+  pub first_drained : (workers : List WorkerId) (seen : List (List Event)) (turns : List (TurnState K)) (count : ℕ) → AllDrained workers seen turns → count ≡ length turns
+      → FirstWereDrained state may gives deals limit workers seen count
+  first_drained workers seen turns count all is q low = let t = turn_at turns q (omega (arith, is, low)) in (t.0.worker, all q t.0 t.1)
 
-  pub drained_more : (workers : List WorkerId) (turns new : List (TurnState K)) (t : TurnState K) → AllDrained workers turns
-      → Drained workers (length turns) t.worker → new ≡ turns ++ t ∷ [] → AllDrained workers new
-  drained_more workers turns new t all one is q u at =
+  pub drained_more : (workers : List WorkerId) (seen : List (List Event)) (turns new : List (TurnState K)) (t : TurnState K) → AllDrained workers seen turns
+      → Drained workers seen (length turns) t.worker → new ≡ turns ++ t ∷ [] → AllDrained workers seen new
+  drained_more workers seen turns new t all one is q u at =
       elim (slice_get_push turns t u q (sym (ap (λ (ts : List (TurnState K)). slice_get ts q) is) ∙ at)) [
         | inl old ↦ all q u old
-        | inr here ↦ subst (λ (z : ℕ × TurnState K). Drained workers z.0 z.1.worker) (λ i. (sym here.0 i, here.1 i)) one
+        | inr here ↦ subst (λ (z : ℕ × TurnState K). Drained workers seen z.0 z.1.worker) (λ i. (sym here.0 i, here.1 i)) one
       ]
 
   -- of each queue that is in hand, where nothing is left of them
-  ended_at : (workers : List WorkerId) (turns : List (TurnState K)) → AllDrained workers turns → AreComplete state turns
-      → (p : ℕ) → p < length turns → HasEndedAt state may gives deals limit workers p
-  ended_at workers turns all done p low =
+  ended_at : (workers : List WorkerId) (seen : List (List Event)) (turns : List (TurnState K)) → AllDrained workers seen turns → AreComplete state turns
+      → (p : ℕ) → p < length turns → HasEndedAt state may gives deals limit workers seen p
+  ended_at workers seen turns all done p low =
       let t = turn_at turns p low in
       let same : get_or turns p t.0 ≡ t.0 = get_or_from_slice_get turns p t.0 t.0 t.1 in
       (t.0.worker, all p t.0 t.1, subst (λ (u : TurnState K). IsComplete (state u.worker).seen) same (done p t.0 low))
 
-  abbrev Leaves : List WorkerId → List (TurnState K) → Option (ℕ × ℕ) → Type 0
+  abbrev Leaves : List WorkerId → List (List Event) → List (TurnState K) → Option (ℕ × ℕ) → Type 0
   Leaves = LeavesOf state may gives deals limit
 
   -- something is left of the queue, or nothing is
-  pub left_more : (workers : List WorkerId) (left left' : Option (ℕ × ℕ)) (turns new : List (TurnState K)) (t : TurnState K) (more : ℕ)
-      → AllDrained workers turns → Leaves workers turns left → FirstLeft left (length turns) more left'
-      → (drained : Drained workers (length turns) t.worker) → IsDrained more (state t.worker)
-      → (0 < more → EndsJust limit (state drained.start).seen (state t.worker).seen) → new ≡ turns ++ t ∷ [] → Leaves workers new left'
-  left_more workers (Some one) left' turns new t more all old told drained leaves just is =
-      subst (λ (z : List (TurnState K) × Option (ℕ × ℕ)). Leaves workers z.0 z.1) (λ i. (sym is i, sym told i))
+  pub left_more : (workers : List WorkerId) (seen : List (List Event)) (left left' : Option (ℕ × ℕ)) (turns new : List (TurnState K)) (t : TurnState K) (more : ℕ)
+      → AllDrained workers seen turns → Leaves workers seen turns left → FirstLeft left (length turns) more left'
+      → (drained : Drained workers seen (length turns) t.worker) → IsDrained more (state t.worker)
+      → (0 < more → EndsJust limit (state drained.start).seen (state t.worker).seen) → new ≡ turns ++ t ∷ [] → Leaves workers seen new left'
+  left_more workers seen (Some one) left' turns new t more all old told drained leaves just is =
+      subst (λ (z : List (TurnState K) × Option (ℕ × ℕ)). Leaves workers seen z.0 z.1) (λ i. (sym is i, sym told i))
       (old.0, slice_get_append turns (t ∷ []) one.0 old.0 old.1, old.2)
-  left_more workers None left' turns new t zero all old told drained leaves just is =
-      subst (λ (z : List (TurnState K) × Option (ℕ × ℕ)). Leaves workers z.0 z.1) (λ i. (sym is i, sym told i))
+  left_more workers seen None left' turns new t zero all old told drained leaves just is =
+      subst (λ (z : List (TurnState K) × Option (ℕ × ℕ)). Leaves workers seen z.0 z.1) (λ i. (sym is i, sym told i))
       (All-push (λ (u : TurnState K). IsComplete (state u.worker).seen) turns t old (left_complete (state t.worker) leaves))
-  left_more workers None left' turns new t (suc more) all old told drained leaves just is =
-      subst (λ (z : List (TurnState K) × Option (ℕ × ℕ)). Leaves workers z.0 z.1) (λ i. (sym is i, sym told i)) (
+  left_more workers seen None left' turns new t (suc more) all old told drained leaves just is =
+      subst (λ (z : List (TurnState K) × Option (ℕ × ℕ)). Leaves workers seen z.0 z.1) (λ i. (sym is i, sym told i)) (
         t,
         slice_get_last turns t [],
         record {
@@ -89,14 +89,14 @@ module _ {K W : Type 0} (state : K → WorkerState W) (may : W → ℕ → List 
           left_is = leaves;
           some_left = omega arith;
           executed = just (omega arith);
-          before = ended_at workers turns all old;
+          before = ended_at workers seen turns all old;
         },
       )
 
   -- what was taken apart is of the workers that were drained
-  pub parts_drained : {B : Type 0} (book : B → BookState) (workers : List WorkerId) (turns : List (TurnState K)) (parts : List (W × B))
-      → AllDrained workers turns → AreTakenApart state book turns parts → ComeFromDrains state may gives deals limit book workers parts
-  parts_drained book workers turns parts all apart q one at =
+  pub parts_drained : {B : Type 0} (book : B → BookState) (workers : List WorkerId) (seen : List (List Event)) (turns : List (TurnState K)) (parts : List (W × B))
+      → AllDrained workers seen turns → AreTakenApart state book turns parts → ComeFromDrains state may gives deals limit book workers seen parts
+  parts_drained book workers seen turns parts all apart q one at =
       let t = apart q one at in (t.0.worker, all q t.0 t.1, t.2)
 
 module _ {K W B : Type 0} (state : K → WorkerState W) (book : B → BookState) where

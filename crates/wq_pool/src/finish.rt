@@ -73,8 +73,8 @@ fn gather<K: Station + Drop>(slots: &Slots<K>, mut all: Vec<WorkedOf<K>>, limit:
     requires room { (all.items ≡ []) × (length slots.now.workers ≤ vec_capacity all) }
     ensures first { AreFirst K.state slots.now result.all.items }
     ensures all { IfNone result.out (length result.all.items ≡ length slots.now.workers) }
-    ensures drained { WereDrained K.state K.may K.gives K.deals limit slots.now.workers result.all.items }
-    ensures left { LeavesOf K.state K.may K.gives K.deals limit slots.now.workers result.all.items result.left }
+    ensures drained { WereDrained K.state K.may K.gives K.deals limit slots.now.workers slots.now.seen result.all.items }
+    ensures left { LeavesOf K.state K.may K.gives K.deals limit slots.now.workers slots.now.seen result.all.items result.left }
     ensures out { IfSome result.out (λ queue. (queue ≡ length result.all.items) × (queue < length slots.now.workers)) }
 {
     let mut left = None;
@@ -123,7 +123,7 @@ impl<K: Station + Drop> PoolOf<K> {
 
     /// Closes every queue and executes what is left of each, up to so many numbers of each, and then takes all apart: the works and
     /// the books, by place. Each queue is tried once: one that is in a turn is out. The clauses speak of what was done to a queue
-    /// from some state of its worker on, since who calls has not seen the workers that lie in the pool.
+    /// from some state of its worker on, which had seen at least what was handed in: who calls has not seen what lies in the pool.
     ///
     /// # Errors
     /// `Memory` before any queue is touched; `Out` for the first queue that is not in its slot; `Unfinished` for the first queue
@@ -137,7 +137,7 @@ impl<K: Station + Drop> PoolOf<K> {
         ensures finished { IfOk result (λ finished. AreFinishedBy K.book K.has_run self.workers finished.items) }
         ensures count { IfOk result (λ finished. length finished.items ≡ length self.workers) }
         ensures each { IfOk result (λ finished. All (RanToEndBy K.book K.has_run) finished.items) }
-        ensures drained { IfOk result (λ finished. ComeFromDrains K.state K.may K.gives K.deals limit K.book self.workers finished.items) }
+        ensures drained { IfOk result (λ finished. ComeFromDrains K.state K.may K.gives K.deals limit K.book self.workers self.seen finished.items) }
         ensures begins { IfOk result (λ finished. BeginAsHandedIn K.book self.seen finished.items) }
         ensures fault { IfErr result (IsPoolFault K.state K.may K.gives K.deals limit self) }
     {

@@ -24,9 +24,10 @@ loop-queue-preserved g c =
     let on : GoesOnAt state slots.seen (length l.all.items) t.worker =
     subst (λ (z : ℕ × TurnState _). GoesOnAt state slots.seen z.0 z.1.worker) (λ i. (sym at i, sym into i))
     (goes_on_at state slots.seen l.queue start c.drain-more.new.self.worker up.goes_on drain.same.begins) in
-    let drained : WasDrainedAt state k.may k.gives k.deals limit slots.workers (length l.all.items) t.worker = record {
+    let drained : WasDrainedAt state k.may k.gives k.deals limit slots.workers slots.seen (length l.all.items) t.worker = record {
       start = start;
       start_is = subst (λ (q : ℕ). IsWorkerAt state slots.workers q start) (sym at) up.worker;
+      goes_on = subst (λ (q : ℕ). GoesOnAt state slots.seen q start) (sym at) up.goes_on;
       worker_is = worker_is;
       idle = up.idle;
       works = subst (λ (u : TurnState _). ClosesAndWorks k.may k.gives limit (state start) (state u.worker)) (sym into) drain.works;
@@ -36,8 +37,8 @@ loop-queue-preserved g c =
           (ap (λ (u : TurnState _). u.slots) into ∙ (drain.same.slots_is ∙ up.slots)) worker_is on c.push_reserved.ensures.items,
       search rules,
       search rules,
-      drained_more state k.may k.gives k.deals limit slots.workers l.all.items c.push_reserved.new.self.items t i.3 drained c.push_reserved.ensures.items,
-      left_more state k.may k.gives k.deals limit slots.workers l.left c.first_left-left.result l.all.items c.push_reserved.new.self.items t
+      drained_more state k.may k.gives k.deals limit slots.workers slots.seen l.all.items c.push_reserved.new.self.items t i.3 drained c.push_reserved.ensures.items,
+      left_more state k.may k.gives k.deals limit slots.workers slots.seen l.left c.first_left-left.result l.all.items c.push_reserved.new.self.items t
           c.drain-more.result i.3 i.4 told drained leaves
           (λ some. subst (λ (u : TurnState _). EndsJust limit (state start).seen (state u.worker).seen) (sym into) (drain.executed some))
           c.push_reserved.ensures.items,

@@ -5,5 +5,5 @@ abbrev pub invariant-loop-queue : goal.invariant-loop-queue
 invariant-loop-queue g l =
     let k = g.K.Station in
     AreFirst k.state l.slots l.all.items × (vec_len l.all ≡ l.queue) × (length l.slots.workers ≤ vec_capacity l.all)
-    × WereDrained k.state k.may k.gives k.deals l.fn.limit l.slots.workers l.all.items
-    × LeavesOf k.state k.may k.gives k.deals l.fn.limit l.slots.workers l.all.items l.left
+    × WereDrained k.state k.may k.gives k.deals l.fn.limit l.slots.workers l.slots.seen l.all.items
+    × LeavesOf k.state k.may k.gives k.deals l.fn.limit l.slots.workers l.slots.seen l.all.items l.left

@@ -30,32 +30,34 @@ returns-in-Some-default-clause-fault g c =
     subst (λ (o : Option ℕ). IfSome o (λ z. (z ≡ length all) × (z < length slots.workers))) c.in-Some-default.is-0 c.gather-all.ensures.out in (
       refl,
       subst (λ (ids : List WorkerId). q < length ids) same out.1,
-      subst (λ (ids : List WorkerId). FirstWereDrained k.state k.may k.gives k.deals c.args.limit ids q) same
-          (first_drained k.state k.may k.gives k.deals c.args.limit slots.workers all q c.gather-all.ensures.drained out.0),
+      subst (λ (p : PoolState). FirstWereDrained k.state k.may k.gives k.deals c.args.limit p.workers p.seen q) c.self.view_is
+          (first_drained k.state k.may k.gives k.deals c.args.limit slots.workers slots.seen all q c.gather-all.ensures.drained out.0),
     )
 
 pub returns-in-None-Some-clause-fault : goal.returns-in-None-Some-clause-fault
 returns-in-None-Some-clause-fault g c =
     let k = g.K.Station in let all = c.gather-all.result.all.items in let slots = c.self.inside.slots in let q = c.in-None-Some.queue in
-    let same : slots.workers ≡ c.args.self.workers = ap (λ (p : PoolState). p.workers) c.self.view_is in
     let count : length all ≡ length slots.workers =
     subst (λ (o : Option ℕ). IfNone o (length all ≡ length slots.workers)) c.in-None-Some.is-0 c.gather-all.ensures.all in
     let left =
-    subst (λ (o : Option (ℕ × ℕ)). LeavesOf k.state k.may k.gives k.deals c.args.limit slots.workers all o) c.in-None-Some.is-1
+    subst (λ (o : Option (ℕ × ℕ)). LeavesOf k.state k.may k.gives k.deals c.args.limit slots.workers slots.seen all o) c.in-None-Some.is-1
     c.gather-all.ensures.left in (
       refl,
-      (left.0.worker, subst (λ (ids : List WorkerId). IsLeftTo k.state k.may k.gives k.deals c.args.limit ids q c.in-None-Some.left left.0.worker) same left.2),
-      subst (λ (ids : List WorkerId). FirstWereDrained k.state k.may k.gives k.deals c.args.limit ids (length ids)) same
-          (first_drained k.state k.may k.gives k.deals c.args.limit slots.workers all (length slots.workers) c.gather-all.ensures.drained (sym count)),
+      (
+        left.0.worker,
+        subst (λ (p : PoolState). IsLeftTo k.state k.may k.gives k.deals c.args.limit p.workers p.seen q c.in-None-Some.left left.0.worker)
+            c.self.view_is left.2,
+      ),
+      subst (λ (p : PoolState). FirstWereDrained k.state k.may k.gives k.deals c.args.limit p.workers p.seen (length p.workers)) c.self.view_is
+          (first_drained k.state k.may k.gives k.deals c.args.limit slots.workers slots.seen all (length slots.workers) c.gather-all.ensures.drained (sym count)),
     )
 
 pub returns-in-None-None-clause-drained : goal.returns-in-None-None-clause-drained
 returns-in-None-None-clause-drained g c =
     let k = g.K.Station in let all = c.gather-all.result.all.items in let slots = c.self.inside.slots in
-    let same : slots.workers ≡ c.args.self.workers = ap (λ (p : PoolState). p.workers) c.self.view_is in
     let parts = c.take_apart.result.items in
-    subst (λ (ids : List WorkerId). ComeFromDrains k.state k.may k.gives k.deals c.args.limit k.book ids parts) same
-    (parts_drained k.state k.may k.gives k.deals c.args.limit k.book slots.workers all parts c.gather-all.ensures.drained c.take_apart.ensures.parts)
+    subst (λ (p : PoolState). ComeFromDrains k.state k.may k.gives k.deals c.args.limit k.book p.workers p.seen parts) c.self.view_is
+    (parts_drained k.state k.may k.gives k.deals c.args.limit k.book slots.workers slots.seen all parts c.gather-all.ensures.drained c.take_apart.ensures.parts)
 
 pub returns-in-None-None-clause-begins : goal.returns-in-None-None-clause-begins
 returns-in-None-None-clause-begins g c =
