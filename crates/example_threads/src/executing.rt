@@ -2,6 +2,7 @@
 ghost use Rattle.std.specs.Prelude.{◌≡◌, ◌≢◌, []};
 ghost use Rattle.wq_live.specs.History.{accepted, begun, ended, IsRunning, IsClosed, IsShut};
 ghost use Rattle.wq_live.specs.Legal.{IsComplete};
+ghost use Rattle.wq_live.specs.Seen.{own};
 ghost use Rattle.wq_live.specs.Known.{IsSame};
 ghost use Rattle.wq_live.specs.Batch.{batch};
 
@@ -14,6 +15,7 @@ fn execute_one(owner: &mut Owner) -> u32
     requires waits { batch owner.old.seen ≢ [] }
     requires idle { ¬ IsRunning owner.old.seen }
     ensures same { IsSame owner.old owner.new }
+    ensures unchained { accepted (own owner.old.number owner.old.seen) ≡ [] → accepted (own owner.new.number owner.new.seen) ≡ [] }
     ensures idle { ¬ IsRunning owner.new.seen }
     ensures open { ¬ IsShut owner.old.seen → ¬ IsShut owner.new.seen }
     ensures unclosed { ¬ IsClosed owner.old.seen → ¬ IsClosed owner.new.seen }
@@ -28,6 +30,7 @@ fn execute_one(owner: &mut Owner) -> u32
 fn execute<R: Wait>(rt: &R, owner: &mut Owner) -> bool
     requires idle { ¬ IsRunning owner.old.seen }
     ensures same { IsSame owner.old owner.new }
+    ensures unchained { accepted (own owner.old.number owner.old.seen) ≡ [] → accepted (own owner.new.number owner.new.seen) ≡ [] }
     ensures idle { ¬ IsRunning owner.new.seen }
     ensures empty { batch owner.new.seen ≡ [] }
     ensures open { ¬ IsShut owner.old.seen → ¬ IsShut owner.new.seen }
@@ -53,6 +56,7 @@ fn serve<R: Wait>(rt: &R, owner: &mut Owner, parker: &Parker)
     requires empty { batch owner.old.seen ≡ [] }
     requires idle { ¬ IsRunning owner.old.seen }
     ensures same { IsSame owner.old owner.new }
+    ensures unchained { accepted (own owner.old.number owner.old.seen) ≡ [] → accepted (own owner.new.number owner.new.seen) ≡ [] }
     ensures open { ¬ IsShut owner.new.seen }
     ensures unclosed { ¬ IsClosed owner.new.seen }
     ensures empty { batch owner.new.seen ≡ [] }
@@ -77,6 +81,7 @@ pub fn execute_all<R: Wait>(rt: &R, mut owner: Owner, parker: &Parker) -> Owner
     ensures complete { IsComplete result.seen }
     ensures all_began { begun result.seen ≡ accepted result.seen }
     ensures all_ended { ended result.seen ≡ begun result.seen }
+    ensures unchained { accepted (own result.number result.seen) ≡ [] }
 {
     serve(rt, &mut owner, parker);
     owner.close();

@@ -1,13 +1,14 @@
 //! One worker, whose sender's items it runs until it is destroyed.
 ghost use Rattle.std.specs.Prelude.{◌≡◌, ◌≤◌, [], IfOk, IfSome};
 ghost use Rattle.wq_worker.specs.History.{accepted};
-ghost use Rattle.wq_worker.specs.Legal.{IsLegal};
+ghost use Rattle.wq_worker.specs.Legal.{IsLegal, IsComplete};
+ghost use Rattle.wq_worker.specs.Book.{IsLedgerOf};
 ghost use Rattle.wq_worker.specs.State.{items_among};
 
 use std::alloc::{AllocError, Global};
 use trail::Trail;
 use wq_words::Layout;
-use wq_worker::{Book, Follow, Work, Worker};
+use wq_worker::{Book, Follow, Ledger, Work, Worker};
 
 /// A work that keeps the list of what it ran, which contracts alone see, and asks for nothing to follow.
 #[derive(Drop)]
@@ -26,13 +27,19 @@ impl Work for Runs {
     }
 }
 
-/// One sender queues two items, and the worker is destroyed. None where that took more than nine executions. The work has
-/// then run just the items that were accepted, in order.
-pub fn queue_and_destroy(alloc: Global, layout: Layout) -> Result<Option<(Runs, Book)>, AllocError>
+/// One sender queues two items, the worker is destroyed, and the sender meets its book. None where that took more than nine
+/// executions. The work has then run just the items that were accepted, in order, and the queue has run to its end.
+pub fn queue_and_destroy(
+    alloc: Global,
+    layout: Layout,
+) -> Result<Option<(Runs, Book, Ledger)>, AllocError>
     requires items { 2 ≤ layout.items }
     requires senders { 2 ≤ layout.senders }
+    ensures layout { IfOk result (λ left. IfSome left (λ r. r.1.layout ≡ layout)) }
     ensures legal { IfOk result (λ left. IfSome left (λ r. IsLegal r.1.layout r.1.seen)) }
+    ensures complete { IfOk result (λ left. IfSome left (λ r. IsComplete r.1.seen)) }
     ensures ran { IfOk result (λ left. IfSome left (λ r. r.0.ran.items ≡ items_among r.1.layout (accepted r.1.seen))) }
+    ensures ledger { IfOk result (λ left. IfSome left (λ r. IsLedgerOf r.1.seen r.2)) }
 {
     let work = Runs { ran: Trail::new() };
     let Ok((worker, mut senders)) = Worker::build(alloc, layout, work, 1) else {
@@ -43,8 +50,10 @@ pub fn queue_and_destroy(alloc: Global, layout: Layout) -> Result<Option<(Runs, 
     };
     sender.queue_tries(0, 1);
     sender.queue_tries(1, 1);
-    match worker.destroy(9) {
-        Ok(left) => Ok(Some(left)),
-        Err(_) => Ok(None),
-    }
+    let Ok((work, mut book)) = worker.destroy(9) else {
+        return Ok(None);
+    };
+    let ledger = book.meet(&mut sender);
+    book.legal();
+    Ok(Some((work, book, ledger)))
 }

@@ -37,10 +37,18 @@ fn meet(first: &mut Sender, second: &mut Sender, third: &mut Sender, owner: &mut
     requires senders { (second.old.queue ≡ first.old.queue) × (third.old.queue ≡ first.old.queue) }
     requires owner { owner.old.queue ≡ first.old.queue }
     requires complete { IsComplete owner.old.seen }
-    ensures layout { owner.new.layout ≡ owner.old.layout }
+    ensures same { IsSame owner.old owner.new }
+    ensures same_first { IsSame first.old first.new }
+    ensures same_second { IsSame second.old second.new }
+    ensures same_third { IsSame third.old third.new }
+    ensures complete { IsComplete owner.new.seen }
     ensures accepted { accepted owner.new.seen ≡ accepted owner.old.seen }
     ensures begun { begun owner.new.seen ≡ begun owner.old.seen }
     ensures ended { ended owner.new.seen ≡ ended owner.old.seen }
+    ensures of_owner { accepted (own owner.old.number owner.new.seen) ≡ accepted (own owner.old.number owner.old.seen) }
+    ensures to_first { accepted (own first.old.number first.new.seen) ≡ accepted (own first.old.number first.old.seen) }
+    ensures to_second { accepted (own second.old.number second.new.seen) ≡ accepted (own second.old.number second.old.seen) }
+    ensures to_third { accepted (own third.old.number third.new.seen) ≡ accepted (own third.old.number third.old.seen) }
     ensures of_first { accepted (own first.old.number owner.new.seen) ≡ accepted (own first.old.number first.old.seen) }
     ensures of_second { accepted (own second.old.number owner.new.seen) ≡ accepted (own second.old.number second.old.seen) }
     ensures of_third { accepted (own third.old.number owner.new.seen) ≡ accepted (own third.old.number third.old.seen) }
@@ -116,7 +124,8 @@ fn queue_and_execute<R: Threads + Wait + Sync>(
         rt,
         move ||
             requires { owner.seen ≡ [] }
-            ensures { IsSame owner result × IsComplete result.seen × (begun result.seen ≡ accepted result.seen) × (ended result.seen ≡ begun result.seen) }
+            ensures { IsSame owner result × IsComplete result.seen × (begun result.seen ≡ accepted result.seen) × (ended result.seen ≡ begun result.seen)
+                × (accepted (own owner.number result.seen) ≡ []) }
         { execute_all(rt, owner, &parker) },
         move ||
             requires { (each * 3 ≤ senders.first.layout.items) × (each * 3 ≤ senders.second.layout.items) × (each * 3 ≤ senders.third.layout.items)

@@ -2,6 +2,7 @@
 ghost use Rattle.std.specs.Prelude.{◌≡◌, ◌≢◌, [], ◌∷◌, ◌++◌};
 ghost use Rattle.wq_live.specs.History.{accepted, begun, ended, IsRunning, IsClosed, IsShut};
 ghost use Rattle.wq_live.specs.Legal.{IsComplete};
+ghost use Rattle.wq_live.specs.Seen.{own};
 ghost use Rattle.wq_live.specs.Known.{IsSame};
 ghost use Rattle.wq_live.specs.Batch.{batch};
 ghost use Rattle.wq_live.specs.KnownWith.{handed_in};
@@ -39,6 +40,7 @@ fn execute_one(it: &mut Ran) -> u32
     requires ran { numbers_of (handed_in it.old.owner) ≡ it.old.ran.items }
     ensures same { IsSame it.old.owner.known it.new.owner.known }
     ensures ran { numbers_of (handed_in it.new.owner) ≡ it.new.ran.items }
+    ensures unchained { accepted (own it.old.owner.known.number it.old.owner.known.seen) ≡ [] → accepted (own it.new.owner.known.number it.new.owner.known.seen) ≡ [] }
     ensures idle { ¬ IsRunning it.new.owner.known.seen }
     ensures open { ¬ IsShut it.old.owner.known.seen → ¬ IsShut it.new.owner.known.seen }
     ensures unclosed { ¬ IsClosed it.old.owner.known.seen → ¬ IsClosed it.new.owner.known.seen }
@@ -56,6 +58,7 @@ fn execute<R: Wait>(rt: &R, it: &mut Ran) -> bool
     requires ran { numbers_of (handed_in it.old.owner) ≡ it.old.ran.items }
     ensures same { IsSame it.old.owner.known it.new.owner.known }
     ensures ran { numbers_of (handed_in it.new.owner) ≡ it.new.ran.items }
+    ensures unchained { accepted (own it.old.owner.known.number it.old.owner.known.seen) ≡ [] → accepted (own it.new.owner.known.number it.new.owner.known.seen) ≡ [] }
     ensures idle { ¬ IsRunning it.new.owner.known.seen }
     ensures empty { batch it.new.owner.known.seen ≡ [] }
     ensures open { ¬ IsShut it.old.owner.known.seen → ¬ IsShut it.new.owner.known.seen }
@@ -83,6 +86,7 @@ fn serve<R: Wait>(rt: &R, it: &mut Ran, parker: &Parker)
     requires ran { numbers_of (handed_in it.old.owner) ≡ it.old.ran.items }
     ensures same { IsSame it.old.owner.known it.new.owner.known }
     ensures ran { numbers_of (handed_in it.new.owner) ≡ it.new.ran.items }
+    ensures unchained { accepted (own it.old.owner.known.number it.old.owner.known.seen) ≡ [] → accepted (own it.new.owner.known.number it.new.owner.known.seen) ≡ [] }
     ensures open { ¬ IsShut it.new.owner.known.seen }
     ensures unclosed { ¬ IsClosed it.new.owner.known.seen }
     ensures empty { batch it.new.owner.known.seen ≡ [] }
@@ -108,6 +112,7 @@ pub(crate) fn execute_all<R: Wait>(rt: &R, owner: ValueOwner<Message>, parker: &
     ensures all_began { begun result.owner.known.seen ≡ accepted result.owner.known.seen }
     ensures all_ended { ended result.owner.known.seen ≡ begun result.owner.known.seen }
     ensures ran { numbers_of result.owner.brought ≡ result.ran.items }
+    ensures unchained { accepted (own result.owner.known.number result.owner.known.seen) ≡ [] }
 {
     let mut it = Ran {
         owner,

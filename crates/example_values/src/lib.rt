@@ -7,5 +7,5 @@ mod queueing;
 mod running;
 
 pub use executing::Ran;
-pub use queueing::Told;
+pub use queueing::{Stopped, Told};
 pub use running::{Met, run};

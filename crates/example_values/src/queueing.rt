@@ -1,6 +1,10 @@
 //! A sender, which queues its items, each with a message, and wakes the owner where an answer says so.
 ghost use Rattle.std.specs.Prelude.{◌≡◌, ◌<◌, ◌≤◌, ◌++◌, [], box_value};
+ghost use Rattle.wq_live.specs.History.{accepted};
+ghost use Rattle.wq_live.specs.Seen.{own};
+ghost use Rattle.wq_live.specs.Numbers.{stop_number};
 ghost use Rattle.wq_live.specs.Known.{IsSame};
+ghost use Rattle.wq_live.specs.Laws.{queued_number};
 ghost use Rattle.wq_live.specs.OwnBrought.{own_brought};
 ghost use Rattle.example_values.specs.Messages.{numbers_of, told_of};
 
@@ -8,7 +12,7 @@ use crossbeam_utils::sync::Unparker;
 use std::alloc::Global;
 use std::sync::Wait;
 use trail::Trail;
-use wq_live::{Answer, ValueAnswer, ValueSender, queued_brings};
+use wq_live::{Answer, ValueAnswer, ValueSender, queued_brings, queued_is_accepted};
 
 /// A message: a number in memory of its own.
 pub type Message = Box<u32>;
@@ -18,6 +22,13 @@ pub type Message = Box<u32>;
 pub struct Told {
     pub sender: ValueSender<Message>,
     pub queued: Trail,
+}
+
+/// A sender, and what its queueing of the stop item was answered.
+#[derive(Drop)]
+pub struct Stopped {
+    pub sender: ValueSender<Message>,
+    pub answer: Answer,
 }
 
 /// Wakes the owner, where the answer says so.
@@ -85,12 +96,16 @@ pub(crate) fn queue_own<R: Wait>(
     Told { sender, queued }
 }
 
-/// Queues the stop item, behind all that was queued.
-pub(crate) fn stop(mut sender: ValueSender<Message>, unparker: &Unparker) -> ValueSender<Message>
-    ensures same { IsSame sender.known result.known }
+/// Queues the stop item, behind all that was queued. Nothing else is accepted of this sender.
+pub(crate) fn stop(mut sender: ValueSender<Message>, unparker: &Unparker) -> Stopped
+    requires new { sender.known.seen ≡ [] }
+    ensures same { IsSame sender.known result.sender.known }
+    ensures accepted { accepted (own sender.known.number result.sender.known.seen) ≡ queued_number (stop_number sender.known.layout) result.answer }
 {
-    if let Answer::Queued { wakes: true, .. } = sender.request_stop(u32::MAX) {
+    queued_is_accepted();
+    let answer = sender.request_stop(u32::MAX);
+    if let Answer::Queued { wakes: true, .. } = answer {
         unparker.unpark();
     }
-    sender
+    Stopped { sender, answer }
 }

@@ -3,5 +3,6 @@ mod calls;
 mod contended;
 mod holding;
 pub(crate) mod reading;
+mod spins;
 mod stopped;
 mod threads;

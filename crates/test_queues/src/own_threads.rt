@@ -77,10 +77,14 @@ fn all_messages_are_handed_over(rt: HostRuntime) {
     assert!(rt; ended);
 }
 
-/// The worker runs to the end within its limit.
+/// The worker runs both items within its limit.
 #[test]
 fn worker_ends(rt: HostRuntime) -> Result<(), Fail> {
     let left = queue_and_destroy(rt.alloc(), Layout::new(2, 1, 2)?)?;
-    assert!(rt; left.is_some());
+    let Some((_work, book, ledger)) = left else {
+        panic!(rt; "it takes more than nine executions");
+    };
+    let totals = book.balance([ledger].as_slice()).expect(&rt, "a balance");
+    expect_same(&rt, (totals.queued, totals.executed), (2, 2));
     Ok(())
 }

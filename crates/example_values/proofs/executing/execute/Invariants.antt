@@ -1,5 +1,6 @@
-use Rattle.std.specs.Prelude.{◌≡◌}
-use Rattle.wq_words.specs.History.{IsRunning, IsClosed, IsShut}
+use Rattle.std.specs.Prelude.{◌≡◌, []}
+use Rattle.wq_words.specs.History.{accepted, IsRunning, IsClosed, IsShut}
+use Rattle.wq_words.specs.Seen.{own}
 use Rattle.wq_live.specs.Known.{IsSame}
 use Rattle.wq_live.specs.KnownWith.{handed_in}
 use Rattle.example_values.specs.Messages.{numbers_of}
@@ -10,3 +11,4 @@ invariant-loop g l = IsSame l.fn.it.owner.known l.it.owner.known × (¬ IsRunnin
     × (numbers_of (handed_in l.it.owner) ≡ l.it.ran.items)
     × (¬ IsShut l.fn.it.owner.known.seen → ¬ IsShut l.it.owner.known.seen) × (¬ IsClosed l.fn.it.owner.known.seen → ¬ IsClosed l.it.owner.known.seen)
     × (IsClosed l.fn.it.owner.known.seen → IsClosed l.it.owner.known.seen)
+    × (accepted (own l.fn.it.owner.known.number l.fn.it.owner.known.seen) ≡ [] → accepted (own l.it.owner.known.number l.it.owner.known.seen) ≡ [])
