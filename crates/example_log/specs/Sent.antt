@@ -1,11 +1,14 @@
 -- What a client has sent.
-use Rattle.std.specs.Prelude.{◌≡◌, ℕ, ◌<◌, ◌≤◌, Bool, true, false, cond, List, [], ◌∷◌, ◌++◌, Option, Some, None, length, map, take, filter_map}
+use Rattle.std.specs.Prelude.{◌≡◌, ℕ, ◌<◌, ◌≤◌, Bool, true, false, cond, List, [], ◌∷◌, ◌++◌, Option, Some, None, length, map, take, filter_map, All}
+use Rattle.wq_words.specs.declared.layout.Layout.{Layout}
 use Rattle.wq_words.specs.declared.event.Event.{Event}
 use Rattle.wq_words.specs.declared.event.Event.TheVariants.{Back}
 use Rattle.wq_words.specs.declared.event.Why.{Why}
 use Rattle.wq_words.specs.declared.event.Why.TheVariants as why
+use Rattle.wq_words.specs.History.{accepted}
+use Rattle.wq_words.specs.Numbers.{stop_number}
 use Rattle.wq_words.specs.Seen.{own}
-use Rattle.wq_live.specs.Known.{IsSame}
+use Rattle.wq_live.specs.Known.{Known, IsSame}
 use Rattle.wq_live.specs.KnownWith.{KnownWith}
 use Rattle.wq_live.specs.OwnBrought.{own_brought}
 use Rattle.wq_ready.specs.Known.{Identity, IsCallerOf}
@@ -15,6 +18,7 @@ use Rattle.example_log.specs.declared.message.Message.{Message}
 use Rattle.example_log.specs.declared.sending.Client.{Client}
 use Rattle.example_log.specs.declared.sending.Sent.{Sent}
 use Rattle.example_log.specs.declared.clients.Clients.{Clients}
+use Rattle.example_log.specs.declared.clients.SentAndStopped.{SentAndStopped}
 use Rattle.example_log.specs.Text.{Line}
 
 -- a line that is for the first of these logs, if it is for the second
@@ -85,4 +89,20 @@ pub record HasSent (client : Client) (messages : List Message) (sent : Sent) : T
 pub record AreNewClients (ready : Identity) (clients : Clients) : Type 0 where
   pub first_is : IsNewClient ready 0 4 clients.first
   pub second_is : IsNewClient ready 1 8 clients.second
-  pub last_is : IsCallerOf ready clients.last.caller
+  pub last_is : IsNewClient ready 2 0 clients.last
+
+-- no other number than the stop item was accepted of sender s
+abbrev pub OnlyStops : Layout → ℕ → List Event → Type 0
+OnlyStops layout s h = All (λ k. k ≡ stop_number layout) (accepted (own s h))
+
+-- the same sender, which has queued no other number than the stop item
+pub record StopsAlone (old new : Known) : Type 0 where
+  pub same : IsSame old new
+  pub only_stops : OnlyStops old.layout old.number new.seen
+
+-- both clients have sent these messages, unless a log turned one away, and who stops the logs has stopped them
+pub record HaveSent (clients : Clients) (first second : List Message) (sent : SentAndStopped) : Type 0 where
+  pub first_has : HasSent clients.first first sent.first
+  pub second_has : HasSent clients.second second sent.second
+  pub stops_access : StopsAlone clients.last.access.known sent.access.known
+  pub stops_errors : StopsAlone clients.last.errors.known sent.errors.known

@@ -12,10 +12,11 @@ use Rattle.example_log.specs.declared.message.Log.{Log}
 use Rattle.example_log.specs.declared.message.Message.{Message}
 use Rattle.example_log.specs.declared.ending.Written.{Written}
 use Rattle.example_log.specs.Text.{Line, text_of}
-use Rattle.example_log.specs.Sent.{lines_to}
+use Rattle.example_log.specs.Sent.{lines_to, OnlyStops}
 
 -- A legal and complete history of the log's queue, with the lines that its events carry. The text is the lines of the items that
--- were accepted, in order; and each client's queueings brought the lines of those of its messages that it sent, in order.
+-- were accepted, in order; each client's queueings brought the lines of those of its messages that it sent, in order; and of the
+-- third sender no other number than the stop item was accepted, which brings no line.
 pub record HasLines (log : Log) (layout : Layout) (h : List Event) (brought : List (Option Line))
     (first second : List Message) (written : Written) : Type 0 where
   pub legal : IsLegalWith layout (with_values h brought)
@@ -24,3 +25,4 @@ pub record HasLines (log : Log) (layout : Layout) (h : List Event) (brought : Li
   pub text_is : written.text.items ≡ text_of (pairs_of (accepted h) brought)
   pub of_first : own_brought 0 h brought ≡ map Some (lines_to log (take written.of_first first))
   pub of_second : own_brought 1 h brought ≡ map Some (lines_to log (take written.of_second second))
+  pub of_third : OnlyStops layout 2 h

@@ -1,7 +1,7 @@
 //! The clients of both logs, in threads of their own.
 ghost use Rattle.std.specs.Prelude.{◌≡◌, ◌+◌, ◌<◌, ◌≤◌, ◌∷◌, [], All, length};
 ghost use Rattle.wq_pool.specs.Known.{IsCallerOf};
-ghost use Rattle.example_log.specs.Sent.{HasSent, IsNewClient, AreNewClients};
+ghost use Rattle.example_log.specs.Sent.{HasSent, IsNewClient, AreNewClients, StopsAlone, HaveSent};
 
 use crate::message::{Line, Message};
 use crate::sending::{ACCESS, Client, ERRORS, ITEMS, Sent, send_all, stop};
@@ -76,17 +76,33 @@ pub(crate) fn clients_of(
     }
 }
 
-// Queues both stop items.
-fn stop_both<R: Wait>(rt: &R, pool: &ValuePool<Line, Writer>, last: Client)
-    requires { IsCallerOf pool.now.ready last.caller }
+// Queues both stop items. The senders come back.
+fn stop_both<R: Wait>(
+    rt: &R,
+    pool: &ValuePool<Line, Writer>,
+    last: Client,
+) -> (ValueSender<Line>, ValueSender<Line>)
+    requires { IsNewClient pool.now.ready 2 0 last }
+    ensures access { StopsAlone last.access.known result.0.known }
+    ensures errors { StopsAlone last.errors.known result.1.known }
 {
     let Client {
         access,
         errors,
         mut caller,
     } = last;
-    stop(rt, pool, &mut caller, ACCESS, access);
-    stop(rt, pool, &mut caller, ERRORS, errors);
+    let access = stop(rt, pool, &mut caller, ACCESS, access);
+    let errors = stop(rt, pool, &mut caller, ERRORS, errors);
+    (access, errors)
+}
+
+/// What the clients sent, and the senders that stopped the logs of accesses and of errors.
+#[derive(Drop)]
+pub(crate) struct SentAndStopped {
+    pub(crate) first: Sent,
+    pub(crate) second: Sent,
+    pub(crate) access: ValueSender<Line>,
+    pub(crate) errors: ValueSender<Line>,
 }
 
 /// The clients send in threads of their own, and when both have ended the stop items follow.
@@ -96,17 +112,16 @@ pub(crate) fn send_both<R: Threads + Wait + Sync>(
     clients: Clients,
     first: Vec<Message>,
     second: Vec<Message>,
-) -> (Sent, Sent)
+) -> SentAndStopped
     requires { AreNewClients pool.now.ready clients }
-    ensures first { HasSent clients.first first.items result.0 }
-    ensures second { HasSent clients.second second.items result.1 }
+    ensures { HaveSent clients first.items second.items result }
 {
     let Clients {
         first: one,
         second: two,
         last,
     } = clients;
-    let sent = join(
+    let (first, second) = join(
         rt,
         move ||
             requires { IsNewClient pool.now.ready 0 4 one }
@@ -117,6 +132,11 @@ pub(crate) fn send_both<R: Threads + Wait + Sync>(
             ensures { HasSent two second.items result }
         { send_all(rt, pool, two, ITEMS, second) },
     );
-    stop_both(rt, pool, last);
-    sent
+    let (access, errors) = stop_both(rt, pool, last);
+    SentAndStopped {
+        first,
+        second,
+        access,
+        errors,
+    }
 }

@@ -2,6 +2,7 @@
 ghost use Rattle.std.specs.Prelude.{◌≡◌, IfOk};
 ghost use Rattle.wq_pool.specs.History.{accepted};
 ghost use Rattle.wq_pool.specs.Legal.{IsComplete};
+ghost use Rattle.wq_pool.specs.Seen.{own};
 ghost use Rattle.wq_pool.specs.Headline.{KeepsHeadline};
 ghost use Rattle.wq_pool.specs.Valued.{IsLegalWith, with_values};
 ghost use Rattle.wq_pool.specs.OwnBrought.{own_brought};
@@ -13,7 +14,7 @@ ghost use Rattle.example_log.specs.Text.{text_of};
 use crate::error::LogError;
 use crate::message::Line;
 use crate::writer::Writer;
-use wq_live::{ValueSender, own_values_stay};
+use wq_live::{ValueSender, own_events_stay, own_values_stay};
 use wq_worker::ValueBook;
 
 /// A log that has come to its end: its text, its queue's book, and how many of its messages each client sent.
@@ -25,30 +26,40 @@ pub struct Written {
     pub of_second: usize,
 }
 
-// Both clients' senders of a log meet its book, so that all that they sent is in it.
-fn meet(book: &mut ValueBook<Line>, mut first: ValueSender<Line>, mut second: ValueSender<Line>)
-    requires { (first.known.queue ≡ book.old.book.queue) × (second.known.queue ≡ book.old.book.queue) }
+// All three senders of a log meet its book, so that all that they sent is in it.
+fn meet(
+    book: &mut ValueBook<Line>,
+    mut first: ValueSender<Line>,
+    mut second: ValueSender<Line>,
+    mut third: ValueSender<Line>,
+)
+    requires { (first.known.queue ≡ book.old.book.queue) × (second.known.queue ≡ book.old.book.queue) × (third.known.queue ≡ book.old.book.queue) }
     ensures layout { book.new.book.layout ≡ book.old.book.layout }
     ensures accepted { accepted book.new.book.seen ≡ accepted book.old.book.seen }
     ensures brought { book.new.brought ≡ book.old.brought }
     ensures of_first { own_brought first.known.number book.new.book.seen book.new.brought ≡ own_lines first }
     ensures of_second { own_brought second.known.number book.new.book.seen book.new.brought ≡ own_lines second }
+    ensures of_third { accepted (own third.known.number book.new.book.seen) ≡ accepted (own third.known.number third.known.seen) }
     ensures seen_by_first { IsPrefix first.known.seen book.new.book.seen }
     ensures seen_by_second { IsPrefix second.known.seen book.new.book.seen }
 {
+    own_events_stay();
     own_values_stay::<Line>();
+    book.meet(&mut third);
     book.meet(&mut first);
     book.meet(&mut second);
 }
 
-/// A log's text, and the book that its clients' senders have met.
+/// A log's text, and the book that its senders have met.
 pub(crate) fn ended(
     finished: (Writer, ValueBook<Line>),
     first: ValueSender<Line>,
     second: ValueSender<Line>,
+    third: ValueSender<Line>,
     counts: (usize, usize),
 ) -> Result<Written, LogError>
-    requires queue { (first.known.queue ≡ finished.1.book.queue) × (second.known.queue ≡ finished.1.book.queue) }
+    requires queue { (first.known.queue ≡ finished.1.book.queue) × (second.known.queue ≡ finished.1.book.queue)
+        × (third.known.queue ≡ finished.1.book.queue) }
     requires ran { finished.0.ran ≡ pairs_of (accepted finished.1.book.seen) finished.1.brought }
     ensures layout { IfOk result (λ w. w.book.book.layout ≡ finished.1.book.layout) }
     ensures legal { IfOk result (λ w. IsLegalWith w.book.book.layout (with_values w.book.book.seen w.book.brought)) }
@@ -56,12 +67,13 @@ pub(crate) fn ended(
     ensures text { IfOk result (λ w. w.text.items ≡ text_of (pairs_of (accepted w.book.book.seen) w.book.brought)) }
     ensures of_first { IfOk result (λ w. own_brought first.known.number w.book.book.seen w.book.brought ≡ own_lines first) }
     ensures of_second { IfOk result (λ w. own_brought second.known.number w.book.book.seen w.book.brought ≡ own_lines second) }
+    ensures of_third { IfOk result (λ w. accepted (own third.known.number w.book.book.seen) ≡ accepted (own third.known.number third.known.seen)) }
     ensures counts { IfOk result (λ w. (w.of_first ≡ counts.0) × (w.of_second ≡ counts.1)) }
     ensures seen_by_first { IfOk result (λ w. IsPrefix first.known.seen w.book.book.seen) }
     ensures seen_by_second { IfOk result (λ w. IsPrefix second.known.seen w.book.book.seen) }
 {
     let (writer, mut book) = finished;
-    meet(&mut book, first, second);
+    meet(&mut book, first, second, third);
     book.legal();
     let Some(text) = writer.into_text() else {
         return Err(LogError::Memory);

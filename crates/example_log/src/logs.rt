@@ -6,14 +6,13 @@ ghost use Rattle.wq_pool.specs.Finished.{AreFinishedBy};
 ghost use Rattle.wq_pool.specs.WorkerId.{worker_id};
 ghost use Rattle.wq_pool.specs.ValueState.{HasRunPairs};
 ghost use Rattle.example_log.specs.declared.message.Log.TheVariants as log;
-ghost use Rattle.example_log.specs.Sent.{SendsUnlessTurned, HasSent, AreNewClients};
+ghost use Rattle.example_log.specs.Sent.{SendsUnlessTurned, AreNewClients, HaveSent};
 ghost use Rattle.example_log.specs.Written.{HasLines};
 
-use crate::clients::{Clients, clients_of, send_both};
+use crate::clients::{Clients, SentAndStopped, clients_of, send_both};
 use crate::ending::{Written, ended};
 use crate::error::LogError;
 use crate::message::{Line, Message};
-use crate::sending::Sent;
 use crate::writer::{Open, Writer};
 use std::alloc::Global;
 use std::sync::Wait;
@@ -62,6 +61,9 @@ fn new_logs(
         ∷ record { queue = r.2.first.errors.known.queue; layout = r.2.first.errors.known.layout; number = 3; tries = 1 } ∷ []) }
     ensures same { IfOk result (λ r. (r.2.second.access.known.queue ≡ r.2.first.access.known.queue)
         × (r.2.second.errors.known.queue ≡ r.2.first.errors.known.queue)) }
+    ensures last { IfOk result (λ r. (r.2.last.access.known.queue ≡ r.2.first.access.known.queue)
+        × (r.2.last.errors.known.queue ≡ r.2.first.errors.known.queue)
+        × (r.2.last.access.known.layout ≡ layout) × (r.2.last.errors.known.layout ≡ layout)) }
     ensures workers { IfOk result (λ r. All (IsCallerOf r.0.ready) r.1.items) }
     ensures clients { IfOk result (λ r. AreNewClients r.0.ready r.2) }
 {
@@ -80,11 +82,10 @@ fn serve<R: Threads + Wait + Sync>(
     clients: Clients,
     first: Vec<Message>,
     second: Vec<Message>,
-) -> Result<(Sent, Sent), LogError>
+) -> Result<SentAndStopped, LogError>
     requires workers { All (IsCallerOf pool.now.ready) workers.items }
     requires clients { AreNewClients pool.now.ready clients }
-    ensures first { IfOk result (λ sent. HasSent clients.first first.items sent.0) }
-    ensures second { IfOk result (λ sent. HasSent clients.second second.items sent.1) }
+    ensures { IfOk result (HaveSent clients first.items second.items) }
 {
     let (ran, sent) = join(
         rt,
@@ -93,7 +94,7 @@ fn serve<R: Threads + Wait + Sync>(
         { pool.run(rt, workers.as_mut_slice(), &Open) },
         move ||
             requires { AreNewClients pool.now.ready clients }
-            ensures { HasSent clients.first first.items result.0 × HasSent clients.second second.items result.1 }
+            ensures { HaveSent clients first.items second.items result }
         { send_both(rt, pool, clients, first, second) },
     );
     ran?;
@@ -141,14 +142,13 @@ fn served<R: Threads + Wait + Sync>(
     clients: Clients,
     first: Vec<Message>,
     second: Vec<Message>,
-) -> Result<((Finished, Finished), (Sent, Sent)), LogError>
+) -> Result<((Finished, Finished), SentAndStopped), LogError>
     requires two { length pool.workers ≡ 2 }
     requires workers { All (IsCallerOf pool.ready) workers.items }
     requires clients { AreNewClients pool.ready clients }
     ensures finished { IfOk result (λ r. AreFinishedBy (λ b. b.book) (λ work b. HasRunPairs (λ w. w.ran) b.brought work b.book)
         pool.workers (r.0.0 ∷ r.0.1 ∷ [])) }
-    ensures first { IfOk result (λ r. HasSent clients.first first.items r.1.0) }
-    ensures second { IfOk result (λ r. HasSent clients.second second.items r.1.1) }
+    ensures sent { IfOk result (λ r. HaveSent clients first.items second.items r.1) }
 {
     let sent = serve(rt, &pool, workers, clients, first, second)?;
     let finished = finish(rt, pool)?;
@@ -176,9 +176,15 @@ pub fn write<R: Threads + Wait + Sync>(
     ensures all_of_second { IfOk result (λ logs. SendsUnlessTurned 1 second.items logs.0.of_second logs.0.book.book.seen logs.1.book.book.seen) }
 {
     let (pool, workers, clients) = new_logs(alloc, layout)?;
-    let ((access, errors), (first, second)) = served(rt, pool, workers, clients, first, second)?;
+    let ((access, errors), sent) = served(rt, pool, workers, clients, first, second)?;
+    let SentAndStopped {
+        first,
+        second,
+        access: of_access,
+        errors: of_errors,
+    } = sent;
     let counts = (first.count, second.count);
-    let access = ended(access, first.access, second.access, counts)?;
-    let errors = ended(errors, first.errors, second.errors, counts)?;
+    let access = ended(access, first.access, second.access, of_access, counts)?;
+    let errors = ended(errors, first.errors, second.errors, of_errors, counts)?;
     Ok((access, errors))
 }

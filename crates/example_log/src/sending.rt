@@ -1,17 +1,17 @@
 //! Clients, which send messages, and the stop items.
 ghost use Rattle.std.specs.Prelude.{◌≡◌, ◌<◌, ◌≤◌, ◌+◌, ◌++◌, [], ◌∷◌, Some, false, cond};
+ghost use Rattle.wq_pool.specs.Known.{IsSame, IsCallerOf};
 ghost use Rattle.wq_pool.specs.KnownWith.{BringsOrReturns, answer_of};
 ghost use Rattle.wq_live.specs.Answers.{Answers};
 ghost use Rattle.wq_pool.specs.OwnBrought.{queued_value};
-ghost use Rattle.wq_pool.specs.Known.{IsSame, IsCallerOf};
 ghost use Rattle.example_log.specs.declared.message.Log.TheVariants.{Access, Errors};
-ghost use Rattle.example_log.specs.Sent.{own_lines, brings, IsNewClient, WasTurnedAway, IsTurnedAway, HasSent};
+ghost use Rattle.example_log.specs.Sent.{own_lines, brings, IsNewClient, WasTurnedAway, IsTurnedAway, HasSent, StopsAlone};
 
 use crate::message::{Line, Log, Message};
 use crate::writer::Writer;
 use std::sync::Wait;
 use std::thread;
-use wq_live::{Answer, ValueAnswer, ValueSender, queued_brings};
+use wq_live::{Answer, ValueAnswer, ValueSender, queued_brings, queued_is_accepted};
 use wq_pool::{Caller, ValuePool};
 
 /// So many items of each log are a client's: as many of its lines wait at a time.
@@ -190,24 +190,28 @@ pub(crate) fn send_all<R: Wait>(
     }
 }
 
-/// Queues a log's stop item, behind all that its queue has accepted.
+/// Queues a log's stop item, behind all that its queue has accepted, and gives the sender back, of which nothing else was accepted.
 pub(crate) fn stop<R: Wait>(
     rt: &R,
     pool: &ValuePool<Line, Writer>,
     caller: &mut Caller,
     number: u32,
     mut sender: ValueSender<Line>,
-)
-    requires { IsCallerOf pool.now.ready caller.old }
-    ensures { IsCallerOf pool.now.ready caller.new }
+) -> ValueSender<Line>
+    requires caller { IsCallerOf pool.now.ready caller.old }
+    requires new { sender.known.seen ≡ [] }
+    ensures caller { IsCallerOf pool.now.ready caller.new }
+    ensures stops { StopsAlone sender.known result.known }
 {
+    queued_is_accepted();
     for _ in rt.forever() {
         match sender.request_stop(1) {
             Answer::Contended => {}
             answer => {
                 wake(rt, pool, caller, number, answer);
-                return;
+                return sender;
             }
         }
     }
+    unreachable!()
 }
