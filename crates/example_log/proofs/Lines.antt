@@ -30,16 +30,17 @@ pub has_lines : (log : Log) (layout : Layout) (one two three : KnownWith Line) (
     → accepted (own three.known.number w.book.book.seen) ≡ accepted (own three.known.number three.known.seen)
     → own_lines one ≡ map Some (lines_to log (take a first)) → own_lines two ≡ map Some (lines_to log (take b second))
     → w.of_first ≡ a → w.of_second ≡ b → HasLines log layout w.book.book.seen w.book.brought first second w
-has_lines log layout one two three last first second a b w size legal ended text zero one' two' sized stops mine theirs its sent_one sent_two first_is second_is = record {
-  legal = subst (λ (l : Layout). IsLegalWith l (with_values w.book.book.seen w.book.brought)) size legal;
-  complete = ended.0;
-  headline = ended.1;
-  text_is = text;
-  of_first = of first zero mine sent_one first_is;
-  of_second = of second one' theirs sent_two second_is;
-  of_third = subst (All (λ k. k ≡ stop_number layout)) (sym (subst Same (stops.same.number_is ∙ two') its))
-      (subst (λ k. OnlyStops layout k three.known.seen) two' (subst (λ (l : Layout). OnlyStops l last.number three.known.seen) sized stops.only_stops));
-}
+has_lines log layout one two three last first second a b w size legal ended text zero one' two' sized stops mine theirs its sent_one sent_two
+    first_is second_is = record {
+      legal = subst (λ (l : Layout). IsLegalWith l (with_values w.book.book.seen w.book.brought)) size legal;
+      complete = ended.0;
+      headline = ended.1;
+      text_is = text;
+      of_first = of first zero mine sent_one first_is;
+      of_second = of second one' theirs sent_two second_is;
+      of_third = subst (All (λ k. k ≡ stop_number layout)) (sym (subst Same (stops.same.number_is ∙ two') its))
+          (subst (λ k. OnlyStops layout k three.known.seen) two' (subst (λ (l : Layout). OnlyStops l last.number three.known.seen) sized stops.only_stops));
+    }
   where
     Same : ℕ → Type 0
     Same k = accepted (own k w.book.book.seen) ≡ accepted (own k three.known.seen)

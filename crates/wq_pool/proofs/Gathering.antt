@@ -46,8 +46,8 @@ module _ {K W : Type 0} (state : K → WorkerState W) (may : W → ℕ → List 
   turn_at : (turns : List (TurnState K)) (q : ℕ) → q < length turns → (t : TurnState K) × (slice_get turns q ≡ Some t)
   turn_at turns q low = elim ((slice_get_cases turns q).1) [ inl found ↦ (found.0, found.2) | inr past ↦ absurd (omega (arith, past.0, low)) ]
 
-  pub first_drained : (workers : List WorkerId) (seen : List (List Event)) (turns : List (TurnState K)) (count : ℕ) → AllDrained workers seen turns → count ≡ length turns
-      → FirstWereDrained state may gives deals limit workers seen count
+  pub first_drained : (workers : List WorkerId) (seen : List (List Event)) (turns : List (TurnState K)) (count : ℕ) → AllDrained workers seen turns
+      → count ≡ length turns → FirstWereDrained state may gives deals limit workers seen count
   first_drained workers seen turns count all is q low = let t = turn_at turns q (omega (arith, is, low)) in (t.0.worker, all q t.0 t.1)
 
   pub drained_more : (workers : List WorkerId) (seen : List (List Event)) (turns new : List (TurnState K)) (t : TurnState K) → AllDrained workers seen turns
@@ -70,8 +70,8 @@ module _ {K W : Type 0} (state : K → WorkerState W) (may : W → ℕ → List 
   Leaves = LeavesOf state may gives deals limit
 
   -- something is left of the queue, or nothing is
-  pub left_more : (workers : List WorkerId) (seen : List (List Event)) (left left' : Option (ℕ × ℕ)) (turns new : List (TurnState K)) (t : TurnState K) (more : ℕ)
-      → AllDrained workers seen turns → Leaves workers seen turns left → FirstLeft left (length turns) more left'
+  pub left_more : (workers : List WorkerId) (seen : List (List Event)) (left left' : Option (ℕ × ℕ)) (turns new : List (TurnState K)) (t : TurnState K)
+      (more : ℕ) → AllDrained workers seen turns → Leaves workers seen turns left → FirstLeft left (length turns) more left'
       → (drained : Drained workers seen (length turns) t.worker) → IsDrained more (state t.worker)
       → (0 < more → EndsJust limit (state drained.start).seen (state t.worker).seen) → new ≡ turns ++ t ∷ [] → Leaves workers seen new left'
   left_more workers seen (Some one) left' turns new t more all old told drained leaves just is =
@@ -94,8 +94,8 @@ module _ {K W : Type 0} (state : K → WorkerState W) (may : W → ℕ → List 
       )
 
   -- what was taken apart is of the workers that were drained
-  pub parts_drained : {B : Type 0} (book : B → BookState) (workers : List WorkerId) (seen : List (List Event)) (turns : List (TurnState K)) (parts : List (W × B))
-      → AllDrained workers seen turns → AreTakenApart state book turns parts → ComeFromDrains state may gives deals limit book workers seen parts
+  pub parts_drained : {B : Type 0} (book : B → BookState) (workers : List WorkerId) (seen : List (List Event)) (turns : List (TurnState K))
+      (parts : List (W × B)) → AllDrained workers seen turns → AreTakenApart state book turns parts → ComeFromDrains state may gives deals limit book workers seen parts
   parts_drained book workers seen turns parts all apart q one at =
       let t = apart q one at in (t.0.worker, all q t.0 t.1, t.2)
 

@@ -84,5 +84,6 @@ module _ {K W : Type 0} (state : K → WorkerState W) (may : W → ℕ → List 
   -- The same pool is given back: with a queue that is out, and those before it drained; or all drained, and something left of one.
   abbrev pub IsPoolFault : {B : Type 0} → PoolState → PoolFaultOf K W B → Type 0
   IsPoolFault pool (Out back q) = (back ≡ pool) × (q < length pool.workers) × FirstWereDrained pool.workers pool.seen q
-  IsPoolFault pool (Unfinished back q left) = (back ≡ pool) × IsLeftAt pool.workers pool.seen q left × FirstWereDrained pool.workers pool.seen (length pool.workers)
+  IsPoolFault pool (Unfinished back q left) =
+      (back ≡ pool) × IsLeftAt pool.workers pool.seen q left × FirstWereDrained pool.workers pool.seen (length pool.workers)
   IsPoolFault pool (Memory back) = back ≡ pool

@@ -46,7 +46,8 @@ module _ {K W : Type 0} (state : K → WorkerState W) where
     pub words_count : length s.words ≡ length handed.workers
     pub slots_count : length s.homes ≡ length handed.workers
     pub keeper : ℕ → ℕ
-    pub in_slot : (q : ℕ) → q < length handed.workers → slice_index s.words q ≡ 0 → (w : K) × (get_elem? s.homes q ≡ some (some (Some w))) × IsHandedAt handed q w
+    pub in_slot : (q : ℕ) → q < length handed.workers → slice_index s.words q ≡ 0
+        → (w : K) × (get_elem? s.homes q ≡ some (some (Some w))) × IsHandedAt handed q w
     pub told : (seat : ℕ) (hand : Hand) → get_elem? s.views seat ≡ some hand → hand.handed ≡ handed
     pub in_hand : (seat : ℕ) (hand : Hand) → get_elem? s.views seat ≡ some hand → (q : ℕ) → hand.queue ≡ Some q
         → (q < length handed.workers) × (slice_index s.words q ≡ 1) × (keeper q ≡ seat)

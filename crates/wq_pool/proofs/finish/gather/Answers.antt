@@ -37,7 +37,8 @@ loop-queue-preserved g c =
           (ap (λ (u : TurnState _). u.slots) into ∙ (drain.same.slots_is ∙ up.slots)) worker_is on c.push_reserved.ensures.items,
       search rules,
       search rules,
-      drained_more state k.may k.gives k.deals limit slots.workers slots.seen l.all.items c.push_reserved.new.self.items t i.3 drained c.push_reserved.ensures.items,
+      drained_more state k.may k.gives k.deals limit slots.workers slots.seen l.all.items c.push_reserved.new.self.items t i.3 drained
+          c.push_reserved.ensures.items,
       left_more state k.may k.gives k.deals limit slots.workers slots.seen l.left c.first_left-left.result l.all.items c.push_reserved.new.self.items t
           c.drain-more.result i.3 i.4 told drained leaves
           (λ some. subst (λ (u : TurnState _). EndsJust limit (state start).seen (state u.worker).seen) (sym into) (drain.executed some))

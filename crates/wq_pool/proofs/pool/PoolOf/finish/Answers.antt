@@ -15,7 +15,8 @@ pub returns-in-None-None-clause-count : goal.returns-in-None-None-clause-count
 returns-in-None-None-clause-count g c =
     let k = g.K.Station in let all = c.gather-all.result.all.items in
     let here : length all ≡ length c.args.self.workers = search rules in
-    finished_count k.book k.has_run (map (turn_id k.state) all) c.take_apart.result.items c.take_apart.ensures.finished ∙ (length-map all (turn_id k.state) ∙ here)
+    finished_count k.book k.has_run (map (turn_id k.state) all) c.take_apart.result.items c.take_apart.ensures.finished
+    ∙ (length-map all (turn_id k.state) ∙ here)
 
 pub returns-in-None-None-clause-each : goal.returns-in-None-None-clause-each
 returns-in-None-None-clause-each g c =
@@ -49,7 +50,8 @@ returns-in-None-Some-clause-fault g c =
             c.self.view_is left.2,
       ),
       subst (λ (p : PoolState). FirstWereDrained k.state k.may k.gives k.deals c.args.limit p.workers p.seen (length p.workers)) c.self.view_is
-          (first_drained k.state k.may k.gives k.deals c.args.limit slots.workers slots.seen all (length slots.workers) c.gather-all.ensures.drained (sym count)),
+          (first_drained k.state k.may k.gives k.deals c.args.limit slots.workers slots.seen all (length slots.workers)
+          c.gather-all.ensures.drained (sym count)),
     )
 
 pub returns-in-None-None-clause-drained : goal.returns-in-None-None-clause-drained
