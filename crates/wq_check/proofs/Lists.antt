@@ -1,10 +1,7 @@
--- What is left of a list behind some of its elements, the largest of some numbers, and what a filter keeps.
-use Rattle.std.proofs.Common.{◌≡◌, ℕ, zero, suc, ◌-◌, ◌≤◌, max, Bool, true, false, List, [], ◌∷◌, ◌++◌, length, take, drop, None, Some, slice_get, refl, sym, ap, ◌∙◌}
+-- What is left of a list behind some of its elements, and the largest of some numbers.
+use Rattle.std.proofs.Common.{◌≡◌, ℕ, zero, suc, ◌-◌, ◌≤◌, max, List, [], ◌∷◌, ◌++◌, length, take, drop, Some, slice_get, refl, ap, ◌∙◌}
 use Rattle.std.proofs.Common.{arith, length-append}
-use Rattle.std.specs.Prelude.{Option, filter, filter_map}
 use Rattle.std.proofs.lemmas.List.{take_all, take-append-le}
-use Rattle.std.proofs.lemmas.List.Sums.{length-filter, count_by-le-length}
-use Rattle.wq_words.proofs.Times.{times, times-cons}
 use Rattle.wq_check.specs.Left.{largest_up_to}
 
 pub first_left : {X : Type 0} (n : ℕ) (xs : List X) → slice_get (drop n xs) 0 ≡ slice_get xs n
@@ -37,28 +34,3 @@ largest_up_to-push f xs x =
 pub behind_first : {X : Type 0} (x : X) (xs : List X) (place : ℕ) → (place ≡ 0 → ⊥) → slice_get xs (place - 1) ≡ slice_get (x ∷ xs) place
 behind_first x xs zero some = absurd (some refl)
 behind_first x xs (suc place) some = ap (slice_get xs) (omega arith)
-
--- a filter, and what is picked from what it keeps
-module _ {X Y : Type 0} (f : X → Option Y) (p : X → Bool) (q : Y → Bool) (same : (x : X) (y : Y) → f x ≡ Some y → p x ≡ q y) where
-  pub filter_map-filter : (xs : List X) → filter_map f (filter p xs) ≡ filter q (filter_map f xs)
-  filter_map-filter [] = refl
-  filter_map-filter (x ∷ xs) = go (f x) refl (p x) refl (filter_map-filter xs)
-    where
-      go : (o : Option Y) → f x ≡ o → (b : Bool) → p x ≡ b → filter_map f (filter p xs) ≡ filter q (filter_map f xs)
-          → filter_map f (filter p (x ∷ xs)) ≡ filter q (filter_map f (x ∷ xs))
-      go None none true keeps rest = rw (keeps, none) rest
-      go None none false drops rest = rw (drops, none) rest
-      go (Some y) is true keeps rest = let kept : q y ≡ true = sym (same x y is) ∙ keeps in rw (keeps, is, kept) (ap (λ ys. y ∷ ys) rest)
-      go (Some y) is false drops rest = let none : q y ≡ false = sym (same x y is) ∙ drops in rw (drops, is, none) rest
-
--- a number stands no more often in what is kept
-pub times-filter : (k : ℕ) (p : ℕ → Bool) (xs : List ℕ) → times k (filter p xs) ≤ times k xs
-times-filter k p [] = omega arith
-times-filter k p (x ∷ xs) = go (p x) refl (times-filter k p xs)
-  where
-    go : (b : Bool) → p x ≡ b → times k (filter p xs) ≤ times k xs → times k (filter p (x ∷ xs)) ≤ times k (x ∷ xs)
-    go true is rest = rw is (omega (arith, rest, times-cons k x (filter p xs), times-cons k x xs))
-    go false is rest = rw is (omega (arith, rest, times-cons k x xs))
-
-pub length-filter-le : (p : ℕ → Bool) (xs : List ℕ) → length (filter p xs) ≤ length xs
-length-filter-le p xs = omega (arith, length-filter p xs, count_by-le-length p xs)

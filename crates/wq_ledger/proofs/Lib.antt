@@ -3,4 +3,3 @@ pub mod Meeting
 pub mod Pushes
 pub mod Summing
 pub mod Balancing
-pub mod Brought

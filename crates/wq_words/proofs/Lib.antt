@@ -10,6 +10,7 @@ pub mod Legal
 pub mod Order
 pub mod Keepers
 pub mod Times
+pub mod Filters
 pub mod Accepted
 pub mod Listed
 pub mod Places

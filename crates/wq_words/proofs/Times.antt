@@ -1,6 +1,6 @@
 -- How often a number stands in a list; numbers below n that each stand at most once are at most n.
 use Rattle.wq_words.proofs.Common.{◌≡◌, ℕ, zero, suc, ◌+◌, ◌<◌, ◌≤◌, Bool, true, false, cond, eqb, ◌==◌, ◌||◌, List, [], ◌∷◌, ◌++◌, length, reverse, refl, sym, ap, ◌∙◌, arith}
-use Rattle.wq_words.proofs.Common.{count_by, inl, inr, ◌↔◌, eq-eqb, ne_eqb, eqb-true, cases_lt, sum_by-cons, sum_by-append, AllByRecursion}
+use Rattle.wq_words.proofs.Common.{count_by, inl, inr, ◌↔◌, eq-eqb, ne_eqb, eqb-true, cases_lt, sum_by-cons, sum_by-append, AllByRecursion, filter}
 use Rattle.std.proofs.Common.{IsTrue}
 use Rattle.std.specs.List.{Contains, list_any, IsDistinct}
 use Rattle.std.proofs.lemmas.Map.Steps.{length-le_from_distinct_below}
@@ -26,6 +26,15 @@ times-first k ks = times-cons k k ks ∙ ap (λ q. cond q 1 0 + times k ks) (eq-
 
 pub times-other : (k j : ℕ) (ks : List ℕ) → (j ≡ k → ⊥) → times k (j ∷ ks) ≡ times k ks
 times-other k j ks ne = let none : ◌≡◌ {A = ℕ} (cond (j == k) 1 0) 0 = ap (λ (b : Bool). cond b 1 0) (ne_eqb j k ne) in omega (arith, none, times-cons k j ks)
+
+-- a number stands no more often in what is kept
+pub times-filter : (k : ℕ) (p : ℕ → Bool) (xs : List ℕ) → times k (filter p xs) ≤ times k xs
+times-filter k p [] = omega arith
+times-filter k p (x ∷ xs) = go (p x) refl (times-filter k p xs)
+  where
+    go : (b : Bool) → p x ≡ b → times k (filter p xs) ≤ times k xs → times k (filter p (x ∷ xs)) ≤ times k (x ∷ xs)
+    go true is rest = rw is (omega (arith, rest, times-cons k x (filter p xs), times-cons k x xs))
+    go false is rest = rw is (omega (arith, rest, times-cons k x xs))
 
 -- a number stands in a list where it stands there some times
 pub times_from_Contains : (k : ℕ) (xs : List ℕ) → Contains xs k → 1 ≤ times k xs

@@ -80,3 +80,9 @@ module _ {V : Type 0} where
         own_value = λ place y at. subst (λ (l : List (Option V)). slice_get l place ≡ Some y) (sym b)
             (at_in_take (length (begun h)) values place y (subst (λ (l : List (Option V)). slice_get l place ≡ Some y) d at));
       }
+
+  -- what was brought, one for each accepted number
+  pub are_brought : (layout : Layout) (h : List Event) (values : List (Option V)) → length values ≡ length (accepted h)
+      → IsLegalWith layout (with_values h values) → AreBrought layout.items (accepted h) values
+  are_brought layout h values many whole = subst (AreBrought layout.items (accepted h)) (brought_with h values many)
+      (subst (λ (l : List Event). AreBrought layout.items (accepted l) (brought (with_values h values))) (events_with h values) whole.carries)

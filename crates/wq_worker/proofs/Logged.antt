@@ -5,7 +5,7 @@ use Rattle.std.proofs.lemmas.List.{length-take-le, take_all}
 use Rattle.std.proofs.lemmas.Option.{slice_get_within}
 use Rattle.wq_words.specs.Valued.{AreBrought, IsLegalWith, with_values}
 use Rattle.wq_words.proofs.Ranks.{slice_get-prefix, slice_get-take}
-use Rattle.wq_ledger.proofs.Brought.{are_brought}
+use Rattle.wq_words.proofs.Valued.{are_brought}
 use Rattle.wq_ledger.specs.Book.{BookState}
 use Rattle.wq_worker.specs.ValueState.{HasRunPairs}
 use Rattle.wq_worker.proofs.Draining.{begun-complete}

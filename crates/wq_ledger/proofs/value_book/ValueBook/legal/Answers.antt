@@ -5,7 +5,7 @@ use Rattle.wq_words.specs.History.{accepted, begun, ended}
 use Rattle.wq_ledger.specs.ValueBook.{ValueBookState}
 use Rattle.wq_ledger.proofs.Common.{◌≡◌, subst, IsLegal, IsComplete, IsLedgerOf}
 use Rattle.wq_ledger.proofs.Meeting.{settled_run}
-use Rattle.wq_ledger.proofs.Brought.{are_brought}
+use Rattle.wq_words.proofs.Valued.{are_brought}
 use Rattle.wq_ledger.proofs.value_book.ValueBook.legal.Goals as goal
 
 pub returns-clause-legal : goal.returns-clause-legal
