@@ -17,6 +17,7 @@ use Rattle.wq_words.proofs.Prefixes.{prefix_whole}
 use Rattle.wq_check.specs.Shows.{is_of_items, item_part, ShowsItemsOfLegalHistory}
 use Rattle.wq_check.proofs.Lists.{drop_some}
 use Rattle.wq_words.proofs.Filters.{filter_map-filter, length-filter-le}
+use Rattle.wq_words.proofs.Times.{times-filter}
 use Rattle.wq_check.proofs.Shown.{trace_items}
 use Rattle.wq_check.proofs.Unshown.{TakesTurns, shown, not_unbegun}
 

@@ -9,7 +9,9 @@ use Rattle.wq_words.specs.declared.event.Why.TheVariants as why
 use Rattle.wq_words.specs.declared.answer.Answer.TheVariants.{Queued, Pending, Closed, Draining, Contended}
 use Rattle.wq_words.specs.declared.answer.Posted.{Posted}
 use Rattle.wq_words.specs.declared.answer.Posted.TheVariants as posted
-use Rattle.wq_words.specs.declared.event.Event.TheVariants.{Chain, ChainBusy}
+use Rattle.wq_words.specs.declared.event.Event.TheVariants.{Chain, ChainBusy, End, Rest}
+use Rattle.wq_words.specs.History.{running}
+use Rattle.wq_live.specs.Rest.{Rests}
 use Rattle.wq_words.specs.Legal.{IsComplete}
 use Rattle.wq_live.specs.Answers.{Posts, Chains}
 use Rattle.wq_words.proofs.Running.{running_from_rests}
@@ -93,6 +95,21 @@ accepted_on : (xs : List Event) (n : ℕ) (old new : Known) → Sees xs n old ne
     → accepted (own old.number new.seen) ≡ accepted (own old.number old.seen) ++ accepted xs
 accepted_on xs n old new sees =
     ap accepted (grows_own old.number xs n old.seen new.seen sees.grows) ∙ filter_map-append accepted_by (own old.number old.seen) xs
+
+-- where none of its own events queues
+pub accepted_still : (n : ℕ) (xs : List Event) (old new : Known) → Sees xs n old new → accepted xs ≡ []
+    → accepted (own old.number new.seen) ≡ accepted (own old.number old.seen)
+accepted_still n xs old new sees none = accepted_on xs n old new sees
+    ∙ (ap (λ (ks : List ℕ). accepted (own old.number old.seen) ++ ks) none ∙ append-nil (accepted (own old.number old.seen)))
+
+pub accepted_ended : (old new : Known) → ((k : ℕ) → running old.seen ≡ Some k → Sees (End k ∷ []) 0 old new) → IsRunning old.seen
+    → accepted (own old.number new.seen) ≡ accepted (own old.number old.seen)
+accepted_ended old new sees runs =
+    let some = runs_some old.seen runs in accepted_still 0 (End some.0 ∷ []) old new (sees some.0 some.1) refl
+
+pub accepted_rested : (b : Bool) (old new : Known) → Rests b old new → accepted (own old.number new.seen) ≡ accepted (own old.number old.seen)
+accepted_rested true old new rests = accepted_still 0 (Rest ∷ []) old new rests refl
+accepted_rested false old new rests = accepted_still 0 [] old new rests refl
 
 -- what a queueing adds to what was accepted of its sender
 pub queued_accepted : (k tries : ℕ) (a : Answer) (old new : Known) → Answers k tries a old new
