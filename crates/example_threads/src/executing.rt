@@ -15,7 +15,7 @@ fn execute_one(owner: &mut Owner) -> u32
     requires waits { batch owner.old.seen ≢ [] }
     requires idle { ¬ IsRunning owner.old.seen }
     ensures same { IsSame owner.old owner.new }
-    ensures unchained { accepted (own owner.old.number owner.old.seen) ≡ [] → accepted (own owner.new.number owner.new.seen) ≡ [] }
+    ensures unchained { accepted (own owner.new.number owner.new.seen) ≡ accepted (own owner.old.number owner.old.seen) }
     ensures idle { ¬ IsRunning owner.new.seen }
     ensures open { ¬ IsShut owner.old.seen → ¬ IsShut owner.new.seen }
     ensures unclosed { ¬ IsClosed owner.old.seen → ¬ IsClosed owner.new.seen }
@@ -30,7 +30,7 @@ fn execute_one(owner: &mut Owner) -> u32
 fn execute<R: Wait>(rt: &R, owner: &mut Owner) -> bool
     requires idle { ¬ IsRunning owner.old.seen }
     ensures same { IsSame owner.old owner.new }
-    ensures unchained { accepted (own owner.old.number owner.old.seen) ≡ [] → accepted (own owner.new.number owner.new.seen) ≡ [] }
+    ensures unchained { accepted (own owner.new.number owner.new.seen) ≡ accepted (own owner.old.number owner.old.seen) }
     ensures idle { ¬ IsRunning owner.new.seen }
     ensures empty { batch owner.new.seen ≡ [] }
     ensures open { ¬ IsShut owner.old.seen → ¬ IsShut owner.new.seen }
@@ -56,7 +56,7 @@ fn serve<R: Wait>(rt: &R, owner: &mut Owner, parker: &Parker)
     requires empty { batch owner.old.seen ≡ [] }
     requires idle { ¬ IsRunning owner.old.seen }
     ensures same { IsSame owner.old owner.new }
-    ensures unchained { accepted (own owner.old.number owner.old.seen) ≡ [] → accepted (own owner.new.number owner.new.seen) ≡ [] }
+    ensures unchained { accepted (own owner.new.number owner.new.seen) ≡ accepted (own owner.old.number owner.old.seen) }
     ensures open { ¬ IsShut owner.new.seen }
     ensures unclosed { ¬ IsClosed owner.new.seen }
     ensures empty { batch owner.new.seen ≡ [] }

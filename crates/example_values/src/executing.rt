@@ -40,7 +40,7 @@ fn execute_one(it: &mut Ran) -> u32
     requires ran { numbers_of (handed_in it.old.owner) ≡ it.old.ran.items }
     ensures same { IsSame it.old.owner.known it.new.owner.known }
     ensures ran { numbers_of (handed_in it.new.owner) ≡ it.new.ran.items }
-    ensures unchained { accepted (own it.old.owner.known.number it.old.owner.known.seen) ≡ [] → accepted (own it.new.owner.known.number it.new.owner.known.seen) ≡ [] }
+    ensures unchained { accepted (own it.new.owner.known.number it.new.owner.known.seen) ≡ accepted (own it.old.owner.known.number it.old.owner.known.seen) }
     ensures idle { ¬ IsRunning it.new.owner.known.seen }
     ensures open { ¬ IsShut it.old.owner.known.seen → ¬ IsShut it.new.owner.known.seen }
     ensures unclosed { ¬ IsClosed it.old.owner.known.seen → ¬ IsClosed it.new.owner.known.seen }
@@ -58,7 +58,7 @@ fn execute<R: Wait>(rt: &R, it: &mut Ran) -> bool
     requires ran { numbers_of (handed_in it.old.owner) ≡ it.old.ran.items }
     ensures same { IsSame it.old.owner.known it.new.owner.known }
     ensures ran { numbers_of (handed_in it.new.owner) ≡ it.new.ran.items }
-    ensures unchained { accepted (own it.old.owner.known.number it.old.owner.known.seen) ≡ [] → accepted (own it.new.owner.known.number it.new.owner.known.seen) ≡ [] }
+    ensures unchained { accepted (own it.new.owner.known.number it.new.owner.known.seen) ≡ accepted (own it.old.owner.known.number it.old.owner.known.seen) }
     ensures idle { ¬ IsRunning it.new.owner.known.seen }
     ensures empty { batch it.new.owner.known.seen ≡ [] }
     ensures open { ¬ IsShut it.old.owner.known.seen → ¬ IsShut it.new.owner.known.seen }
@@ -86,7 +86,7 @@ fn serve<R: Wait>(rt: &R, it: &mut Ran, parker: &Parker)
     requires ran { numbers_of (handed_in it.old.owner) ≡ it.old.ran.items }
     ensures same { IsSame it.old.owner.known it.new.owner.known }
     ensures ran { numbers_of (handed_in it.new.owner) ≡ it.new.ran.items }
-    ensures unchained { accepted (own it.old.owner.known.number it.old.owner.known.seen) ≡ [] → accepted (own it.new.owner.known.number it.new.owner.known.seen) ≡ [] }
+    ensures unchained { accepted (own it.new.owner.known.number it.new.owner.known.seen) ≡ accepted (own it.old.owner.known.number it.old.owner.known.seen) }
     ensures open { ¬ IsShut it.new.owner.known.seen }
     ensures unclosed { ¬ IsClosed it.new.owner.known.seen }
     ensures empty { batch it.new.owner.known.seen ≡ [] }

@@ -71,7 +71,7 @@ Arms k delay tries armed.Contended old new =
     (delay ≡ 0) × KeepsTable (Hold old.sender.number k ∷ Back old.sender.number k why.Contended ∷ []) tries old new
 Arms k delay tries armed.Draining old new =
     (delay ≡ 0) × KeepsTable (Hold old.sender.number k ∷ Back old.sender.number k why.Draining ∷ []) 0 old new
-    × HasMetDrain old.sender.seen new.sender.seen
+    × HasMetDrain (old.sender.seen ++ Hold old.sender.number k ∷ []) new.sender.seen
 Arms k delay tries armed.TooFar old new = new ≡ old
 Arms k delay tries armed.Memory old new =
     (0 < delay) × KeepsTable (Hold old.sender.number k ∷ Back old.sender.number k why.Cancelled ∷ []) 0 old new

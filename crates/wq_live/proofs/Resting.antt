@@ -9,8 +9,7 @@ use Rattle.wq_words.specs.declared.event.Why.TheVariants as why
 use Rattle.wq_words.specs.declared.answer.Answer.TheVariants.{Queued, Pending, Closed, Draining, Contended}
 use Rattle.wq_words.specs.declared.answer.Posted.{Posted}
 use Rattle.wq_words.specs.declared.answer.Posted.TheVariants as posted
-use Rattle.wq_words.specs.declared.event.Event.TheVariants.{Chain, ChainBusy, End, Rest}
-use Rattle.wq_words.specs.History.{running}
+use Rattle.wq_words.specs.declared.event.Event.TheVariants.{Chain, ChainBusy, Rest}
 use Rattle.wq_live.specs.Rest.{Rests}
 use Rattle.wq_words.specs.Legal.{IsComplete}
 use Rattle.wq_live.specs.Answers.{Posts, Chains}
@@ -98,16 +97,12 @@ accepted_on xs n old new sees =
 
 -- where none of its own events queues
 pub accepted_still : (n : ℕ) (xs : List Event) (old new : Known) → Sees xs n old new → accepted xs ≡ []
-    → accepted (own old.number new.seen) ≡ accepted (own old.number old.seen)
-accepted_still n xs old new sees none = accepted_on xs n old new sees
-    ∙ (ap (λ (ks : List ℕ). accepted (own old.number old.seen) ++ ks) none ∙ append-nil (accepted (own old.number old.seen)))
+    → accepted (own new.number new.seen) ≡ accepted (own old.number old.seen)
+accepted_still n xs old new sees none = let s = old.number in
+    ap (λ (c : ℕ). accepted (own c new.seen)) sees.same.number_is ∙ (accepted_on xs n old new sees
+    ∙ (ap (λ (ks : List ℕ). accepted (own s old.seen) ++ ks) none ∙ append-nil (accepted (own s old.seen))))
 
-pub accepted_ended : (old new : Known) → ((k : ℕ) → running old.seen ≡ Some k → Sees (End k ∷ []) 0 old new) → IsRunning old.seen
-    → accepted (own old.number new.seen) ≡ accepted (own old.number old.seen)
-accepted_ended old new sees runs =
-    let some = runs_some old.seen runs in accepted_still 0 (End some.0 ∷ []) old new (sees some.0 some.1) refl
-
-pub accepted_rested : (b : Bool) (old new : Known) → Rests b old new → accepted (own old.number new.seen) ≡ accepted (own old.number old.seen)
+pub accepted_rested : (b : Bool) (old new : Known) → Rests b old new → accepted (own new.number new.seen) ≡ accepted (own old.number old.seen)
 accepted_rested true old new rests = accepted_still 0 (Rest ∷ []) old new rests refl
 accepted_rested false old new rests = accepted_still 0 [] old new rests refl
 

@@ -42,7 +42,7 @@ Answers k tries (answer.Queued is_first is_waking) old new =
 Answers k tries answer.Pending old new = Sees (Busy old.number k ∷ []) 0 old new
 Answers k tries answer.Closed old new = Sees (Hold old.number k ∷ Back old.number k why.Closed ∷ []) 0 old new
 Answers k tries answer.Draining old new =
-    Sees (Hold old.number k ∷ Back old.number k why.Draining ∷ []) 0 old new × HasMetDrain old.seen new.seen
+    Sees (Hold old.number k ∷ Back old.number k why.Draining ∷ []) 0 old new × HasMetDrain (old.seen ++ Hold old.number k ∷ []) new.seen
 Answers k tries answer.Contended old new = Sees (Hold old.number k ∷ Back old.number k why.Contended ∷ []) tries old new
 
 -- The last events of sender s in h are its hold of k and, after lost tries, the give-back. Between the two stand at least n

@@ -1,19 +1,18 @@
 //! What follows from what the calls of a queue say, in the form in which a caller needs it. These functions compute nothing:
 //! each one's contract is a law, which a caller has in hand after the call.
-ghost use Rattle.std.specs.Prelude.{◌≡◌, ◌≢◌, ℕ, Bool, false, List, [], ◌∷◌, ◌++◌, Some};
+ghost use Rattle.std.specs.Prelude.{◌≡◌, ◌≢◌, ℕ, Bool, false, List, [], ◌∷◌, ◌++◌};
 ghost use Rattle.wq_words.specs.declared.answer.Answer.{Answer};
 ghost use Rattle.wq_words.specs.declared.answer.Answer.TheVariants as answer;
 ghost use Rattle.wq_words.specs.declared.answer.Posted.{Posted};
 ghost use Rattle.wq_words.specs.declared.answer.Posted.TheVariants as posted;
-ghost use Rattle.wq_words.specs.declared.event.Event.TheVariants.{Back, End};
+ghost use Rattle.wq_words.specs.declared.event.Event.TheVariants.{Back};
 ghost use Rattle.wq_words.specs.declared.event.Why.{Why};
 ghost use Rattle.wq_words.specs.declared.event.Event.{Event};
-ghost use Rattle.wq_words.specs.History.{accepted, begun, ended, running, Holds, IsClosed, IsRunning, IsShut};
+ghost use Rattle.wq_words.specs.History.{accepted, begun, ended, running, Holds, IsClosed, IsShut};
 ghost use Rattle.wq_words.specs.Seen.{own, owner_seat};
 ghost use Rattle.wq_live.specs.Known.{Known, Sees};
 ghost use Rattle.wq_live.specs.Answers.{TestsAndSets, Answers, Posts, Chains};
 ghost use Rattle.wq_live.specs.Counts.{sender_counts, owner_counts};
-ghost use Rattle.wq_live.specs.Rest.{Rests};
 ghost use Rattle.wq_live.specs.Laws.{queued_number, pushed_number, IsStillEnd, IsStillOwned};
 ghost use Rattle.wq_live.specs.declared.value_answer.ValueAnswer.{ValueAnswer};
 ghost use Rattle.wq_live.specs.KnownWith.{KnownWith, Learnt, answer_of, BringsOrReturns, ChainsOrReturns};
@@ -35,17 +34,6 @@ pub fn posted_is_accepted()
 pub fn chained_is_accepted()
     ensures grows { (k : ℕ) (a : Answer) (old new : Known) → Chains k a old new
         → accepted (own old.number new.seen) ≡ accepted (own old.number old.seen) ++ queued_number k a }
-{}
-
-/// Where none of a seat's own events queues, what was accepted of it is what it was: so at a take, a close, a drain, a resume, a begin
-/// and a give-back (`seen`), at the end of what runs (`ended`) and at a rest (`rested`).
-pub fn accepted_stays()
-    ensures seen { (n : ℕ) (xs : List Event) (old new : Known) → Sees xs n old new → accepted xs ≡ []
-        → accepted (own old.number new.seen) ≡ accepted (own old.number old.seen) }
-    ensures ended { (old new : Known) → ((k : ℕ) → running old.seen ≡ Some k → Sees (End k ∷ []) 0 old new) → IsRunning old.seen
-        → accepted (own old.number new.seen) ≡ accepted (own old.number old.seen) }
-    ensures rested { (is_resting : Bool) (old new : Known) → Rests is_resting old new
-        → accepted (own old.number new.seen) ≡ accepted (own old.number old.seen) }
 {}
 
 /// A seat's own events are, after a call, those that it had made and behind them those that the call says.

@@ -23,10 +23,9 @@ mod valued;
 pub use answer::Done;
 pub use counts::{OwnerCounts, SenderCounts};
 pub use laws::{
-    accepted_stays, chained_brings, chained_is_accepted, closed_is_closed, counts_stay,
-    executions_grow, held_stays, no_longer_held, own_events_grow, own_events_stay, own_values_stay,
-    owner_stays, owner_values_stay, posted_is_accepted, queued_brings, queued_is_accepted,
-    unheld_stays,
+    chained_brings, chained_is_accepted, closed_is_closed, counts_stay, executions_grow,
+    held_stays, no_longer_held, own_events_grow, own_events_stay, own_values_stay, owner_stays,
+    owner_values_stay, posted_is_accepted, queued_brings, queued_is_accepted, unheld_stays,
 };
 pub use making::{BuildError, build, build_values};
 pub use owner::Owner;

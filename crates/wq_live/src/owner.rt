@@ -6,7 +6,7 @@ ghost use Rattle.wq_words.specs.Numbers.{number_count};
 ghost use Rattle.wq_words.specs.History.{IsClosed, IsShut, IsDraining, closed, IsRunning, running, ended, accepted, begun};
 ghost use Rattle.wq_words.specs.Legal.{IsLegal, IsComplete, HasRunOut};
 ghost use Rattle.wq_words.specs.Headline.{KeepsHeadline};
-ghost use Rattle.wq_words.specs.Seen.{owner_seat};
+ghost use Rattle.wq_words.specs.Seen.{owner_seat, own};
 ghost use Rattle.wq_live.specs.Known.{IsSame, Sees};
 ghost use Rattle.wq_live.specs.Answers.{Chains, IsFinal};
 ghost use Rattle.wq_live.specs.Batch.{batch, next_of, TakesAll};
@@ -68,6 +68,7 @@ impl Owner {
         requires open { ¬ IsShut self.old.seen }
         requires empty { batch self.old.seen ≡ [] }
         ensures seen { Sees (Take ∷ []) 0 self.old self.new }
+        ensures unqueued { accepted (own self.new.number self.new.seen) ≡ accepted (own self.old.number self.old.seen) }
         ensures takes { TakesAll Take result self.new.seen }
         ensures count { result ≡ length (batch self.new.seen) }
         ensures open { ¬ IsShut self.new.seen }
@@ -83,6 +84,7 @@ impl Owner {
     pub fn close(&mut self) -> u32
         requires unclosed { ¬ IsClosed self.old.seen }
         ensures seen { Sees (Close ∷ []) 0 self.old self.new }
+        ensures unqueued { accepted (own self.new.number self.new.seen) ≡ accepted (own self.old.number self.old.seen) }
         ensures takes { TakesAll Close result self.new.seen }
         ensures behind { IsPrefix (batch self.old.seen) (batch self.new.seen) }
         ensures count { length (batch self.new.seen) ≡ length (batch self.old.seen) + result }
@@ -99,6 +101,7 @@ impl Owner {
     pub fn drain(&mut self) -> u32
         requires open { ¬ IsShut self.old.seen }
         ensures seen { Sees (Drain ∷ []) 0 self.old self.new }
+        ensures unqueued { accepted (own self.new.number self.new.seen) ≡ accepted (own self.old.number self.old.seen) }
         ensures takes { TakesAll Drain result self.new.seen }
         ensures behind { IsPrefix (batch self.old.seen) (batch self.new.seen) }
         ensures count { length (batch self.new.seen) ≡ length (batch self.old.seen) + result }
@@ -117,6 +120,7 @@ impl Owner {
         requires empty { batch self.old.seen ≡ [] }
         requires idle { ¬ IsRunning self.old.seen }
         ensures seen { Sees (Resume ∷ []) 0 self.old self.new }
+        ensures unqueued { accepted (own self.new.number self.new.seen) ≡ accepted (own self.old.number self.old.seen) }
         ensures open { ¬ IsShut self.new.seen }
         ensures unclosed { ¬ IsClosed self.new.seen }
         ensures empty { batch self.new.seen ≡ [] }
@@ -146,6 +150,7 @@ impl Owner {
         requires idle { ¬ IsRunning self.old.seen }
         ensures next { next_of self.old.seen ≡ Some result }
         ensures seen { Sees (Begin result ∷ []) 0 self.old self.new }
+        ensures unqueued { accepted (own self.new.number self.new.seen) ≡ accepted (own self.old.number self.old.seen) }
         ensures batch { batch self.old.seen ≡ result ∷ batch self.new.seen }
         ensures runs { IsRunning self.new.seen }
         ensures running { running self.new.seen ≡ Some result }
@@ -161,6 +166,7 @@ impl Owner {
     pub fn end(&mut self)
         requires runs { IsRunning self.old.seen }
         ensures seen { (k : ℕ) → running self.old.seen ≡ Some k → Sees (End k ∷ []) 0 self.old self.new }
+        ensures unqueued { accepted (own self.new.number self.new.seen) ≡ accepted (own self.old.number self.old.seen) }
         ensures same { IsSame self.old self.new }
         ensures batch { batch self.new.seen ≡ batch self.old.seen }
         ensures idle { ¬ IsRunning self.new.seen }
@@ -185,6 +191,7 @@ impl Owner {
         requires empty { batch self.old.seen ≡ [] }
         requires idle { ¬ IsRunning self.old.seen }
         ensures seen { Rests result self.old self.new }
+        ensures unqueued { accepted (own self.new.number self.new.seen) ≡ accepted (own self.old.number self.old.seen) }
         ensures rested { IsTrue result → HasRested self.new.seen }
         ensures refused { result ≡ false → MayNotRest self.new.seen }
         ensures same { IsSame self.old self.new }

@@ -10,6 +10,7 @@ ghost use Rattle.wq_core.specs.Words.{head_at, item_of};
 ghost use Rattle.atomic_table.specs.Seated.{TableId};
 ghost use Rattle.wq_table.specs.SlotChairs.{value_owner};
 ghost use Rattle.wq_table.specs.Beside.{Learns, LearnsOrStays};
+ghost use Rattle.wq_words.specs.Seen.{own, owner_seat};
 ghost use Rattle.wq_live.specs.Known.{IsSame, Sees};
 ghost use Rattle.wq_live.specs.Answers.{Chains};
 ghost use Rattle.wq_live.specs.Batch.{batch, next_of, TakesAll};
@@ -185,6 +186,7 @@ impl<V: Drop> OwnerSeat<V> {
         ensures owns { OwnsSeat self.new }
         ensures learns { Learns 0 self.old.chair self.new.chair }
         ensures seen { Sees (Take ∷ []) 0 (owner_view (owning self.old)) (owner_view (owning self.new)) }
+        ensures unqueued { accepted (own owner_seat (owner_view (owning self.new)).seen) ≡ accepted (own owner_seat (owner_view (owning self.old)).seen) }
         ensures takes { TakesAll Take result (owner_view (owning self.new)).seen }
         ensures count { result ≡ length (batch (owner_view (owning self.new)).seen) }
         ensures open { ¬ IsShut (owner_view (owning self.new)).seen }
@@ -203,6 +205,7 @@ impl<V: Drop> OwnerSeat<V> {
         ensures owns { OwnsSeat self.new }
         ensures learns { Learns 0 self.old.chair self.new.chair }
         ensures seen { Sees (Close ∷ []) 0 (owner_view (owning self.old)) (owner_view (owning self.new)) }
+        ensures unqueued { accepted (own owner_seat (owner_view (owning self.new)).seen) ≡ accepted (own owner_seat (owner_view (owning self.old)).seen) }
         ensures takes { TakesAll Close result (owner_view (owning self.new)).seen }
         ensures behind { IsPrefix (batch (owner_view (owning self.old)).seen) (batch (owner_view (owning self.new)).seen) }
         ensures count { length (batch (owner_view (owning self.new)).seen) ≡ length (batch (owner_view (owning self.old)).seen) + result }
@@ -224,6 +227,7 @@ impl<V: Drop> OwnerSeat<V> {
         ensures owns { OwnsSeat self.new }
         ensures learns { Learns 0 self.old.chair self.new.chair }
         ensures seen { Sees (Drain ∷ []) 0 (owner_view (owning self.old)) (owner_view (owning self.new)) }
+        ensures unqueued { accepted (own owner_seat (owner_view (owning self.new)).seen) ≡ accepted (own owner_seat (owner_view (owning self.old)).seen) }
         ensures takes { TakesAll Drain result (owner_view (owning self.new)).seen }
         ensures behind { IsPrefix (batch (owner_view (owning self.old)).seen) (batch (owner_view (owning self.new)).seen) }
         ensures count { length (batch (owner_view (owning self.new)).seen) ≡ length (batch (owner_view (owning self.old)).seen) + result }
@@ -248,6 +252,7 @@ impl<V: Drop> OwnerSeat<V> {
         ensures owns { OwnsSeat self.new }
         ensures learns { Learns 0 self.old.chair self.new.chair }
         ensures seen { Sees (Resume ∷ []) 0 (owner_view (owning self.old)) (owner_view (owning self.new)) }
+        ensures unqueued { accepted (own owner_seat (owner_view (owning self.new)).seen) ≡ accepted (own owner_seat (owner_view (owning self.old)).seen) }
         ensures open { ¬ IsShut (owner_view (owning self.new)).seen }
         ensures unclosed { ¬ IsClosed (owner_view (owning self.new)).seen }
         ensures empty { batch (owner_view (owning self.new)).seen ≡ [] }
@@ -318,6 +323,7 @@ impl<V: Drop> OwnerSeat<V> {
         ensures learns { Learns 0 self.old.chair self.new.chair }
         ensures next { next_of (owner_view (owning self.old)).seen ≡ Some result }
         ensures seen { Sees (Begin result ∷ []) 0 (owner_view (owning self.old)) (owner_view (owning self.new)) }
+        ensures unqueued { accepted (own owner_seat (owner_view (owning self.new)).seen) ≡ accepted (own owner_seat (owner_view (owning self.old)).seen) }
         ensures batch { batch (owner_view (owning self.old)).seen ≡ result ∷ batch (owner_view (owning self.new)).seen }
         ensures runs { IsRunning (owner_view (owning self.new)).seen }
         ensures running { running (owner_view (owning self.new)).seen ≡ Some result }
@@ -341,6 +347,7 @@ impl<V: Drop> OwnerSeat<V> {
         ensures seen { (k : ℕ) → running (owner_view (owning self.old)).seen ≡ Some k
             → Sees (End k ∷ []) 0 (owner_view (owning self.old)) (owner_view (owning self.new)) }
         ensures same { IsSame (owner_view (owning self.old)) (owner_view (owning self.new)) }
+        ensures unqueued { accepted (own owner_seat (owner_view (owning self.new)).seen) ≡ accepted (own owner_seat (owner_view (owning self.old)).seen) }
         ensures batch { batch (owner_view (owning self.new)).seen ≡ batch (owner_view (owning self.old)).seen }
         ensures idle { ¬ IsRunning (owner_view (owning self.new)).seen }
         ensures shut { IsShut (owner_view (owning self.old)).seen → IsShut (owner_view (owning self.new)).seen }
@@ -361,6 +368,7 @@ impl<V: Drop> OwnerSeat<V> {
         ensures owns { OwnsSeat self.new }
         ensures learns { Learns 0 self.old.chair self.new.chair }
         ensures seen { Rests result (owner_view (owning self.old)) (owner_view (owning self.new)) }
+        ensures unqueued { accepted (own owner_seat (owner_view (owning self.new)).seen) ≡ accepted (own owner_seat (owner_view (owning self.old)).seen) }
         ensures rested { IsTrue result → HasRested (owner_view (owning self.new)).seen }
         ensures refused { result ≡ false → MayNotRest (owner_view (owning self.new)).seen }
         ensures same { IsSame (owner_view (owning self.old)) (owner_view (owning self.new)) }
@@ -411,6 +419,7 @@ impl<V: Drop> OwnerSeat<V> {
         ensures learns { Learns 0 self.old.chair self.new.chair }
         ensures next { next_of (owner_view (owning self.old)).seen ≡ Some result.0 }
         ensures seen { Sees (Begin result.0 ∷ []) 0 (owner_view (owning self.old)) (owner_view (owning self.new)) }
+        ensures unqueued { accepted (own owner_seat (owner_view (owning self.new)).seen) ≡ accepted (own owner_seat (owner_view (owning self.old)).seen) }
         ensures batch { batch (owner_view (owning self.old)).seen ≡ result.0 ∷ batch (owner_view (owning self.new)).seen }
         ensures value { slice_get self.new.chair.first.brought (length (begun (owner_view (owning self.old)).seen)) ≡ Some result.1 }
         ensures kind { Carries (owner_view (owning self.old)).layout.items result.0 result.1 }

@@ -7,7 +7,7 @@ ghost use Rattle.wq_words.specs.Numbers.{number_count};
 ghost use Rattle.wq_words.specs.History.{IsClosed, IsShut, IsDraining, closed, IsRunning, running, accepted, begun, ended};
 ghost use Rattle.wq_words.specs.Legal.{IsLegal, HasRunOut};
 ghost use Rattle.wq_words.specs.Headline.{KeepsHeadline};
-ghost use Rattle.wq_words.specs.Seen.{owner_seat, Grows};
+ghost use Rattle.wq_words.specs.Seen.{owner_seat, Grows, own};
 ghost use Rattle.wq_live.specs.Known.{Sees};
 ghost use Rattle.wq_live.specs.Answers.{Answers, Chains, IsContended};
 ghost use Rattle.wq_live.specs.Batch.{batch, next_of, TakesAll};
@@ -171,6 +171,7 @@ impl Pair {
         requires open { ¬ IsShut self.old.seen }
         requires empty { batch self.old.seen ≡ [] }
         ensures seen { Sees (Take ∷ []) 0 (pair_owner self.old) (pair_owner self.new) }
+        ensures unqueued { accepted (own owner_seat self.new.seen) ≡ accepted (own owner_seat self.old.seen) }
         ensures takes { TakesAll Take result self.new.seen }
         ensures count { result ≡ length (batch self.new.seen) }
         ensures open { ¬ IsShut self.new.seen }
@@ -186,6 +187,7 @@ impl Pair {
     pub fn close(&mut self) -> u32
         requires unclosed { ¬ IsClosed self.old.seen }
         ensures seen { Sees (Close ∷ []) 0 (pair_owner self.old) (pair_owner self.new) }
+        ensures unqueued { accepted (own owner_seat self.new.seen) ≡ accepted (own owner_seat self.old.seen) }
         ensures takes { TakesAll Close result self.new.seen }
         ensures behind { IsPrefix (batch self.old.seen) (batch self.new.seen) }
         ensures count { length (batch self.new.seen) ≡ length (batch self.old.seen) + result }
@@ -202,6 +204,7 @@ impl Pair {
     pub fn drain(&mut self) -> u32
         requires open { ¬ IsShut self.old.seen }
         ensures seen { Sees (Drain ∷ []) 0 (pair_owner self.old) (pair_owner self.new) }
+        ensures unqueued { accepted (own owner_seat self.new.seen) ≡ accepted (own owner_seat self.old.seen) }
         ensures takes { TakesAll Drain result self.new.seen }
         ensures behind { IsPrefix (batch self.old.seen) (batch self.new.seen) }
         ensures count { length (batch self.new.seen) ≡ length (batch self.old.seen) + result }
@@ -221,6 +224,7 @@ impl Pair {
         requires empty { batch self.old.seen ≡ [] }
         requires idle { ¬ IsRunning self.old.seen }
         ensures seen { Sees (Resume ∷ []) 0 (pair_owner self.old) (pair_owner self.new) }
+        ensures unqueued { accepted (own owner_seat self.new.seen) ≡ accepted (own owner_seat self.old.seen) }
         ensures open { ¬ IsShut self.new.seen }
         ensures unclosed { ¬ IsClosed self.new.seen }
         ensures empty { batch self.new.seen ≡ [] }
@@ -251,6 +255,7 @@ impl Pair {
         requires idle { ¬ IsRunning self.old.seen }
         ensures next { next_of self.old.seen ≡ Some result }
         ensures seen { Sees (Begin result ∷ []) 0 (pair_owner self.old) (pair_owner self.new) }
+        ensures unqueued { accepted (own owner_seat self.new.seen) ≡ accepted (own owner_seat self.old.seen) }
         ensures batch { batch self.old.seen ≡ result ∷ batch self.new.seen }
         ensures runs { IsRunning self.new.seen }
         ensures running { running self.new.seen ≡ Some result }
@@ -267,6 +272,7 @@ impl Pair {
     pub fn end(&mut self)
         requires runs { IsRunning self.old.seen }
         ensures seen { (k : ℕ) → running self.old.seen ≡ Some k → Sees (End k ∷ []) 0 (pair_owner self.old) (pair_owner self.new) }
+        ensures unqueued { accepted (own owner_seat self.new.seen) ≡ accepted (own owner_seat self.old.seen) }
         ensures batch { batch self.new.seen ≡ batch self.old.seen }
         ensures idle { ¬ IsRunning self.new.seen }
         ensures shut { IsShut self.old.seen → IsShut self.new.seen }
@@ -284,6 +290,7 @@ impl Pair {
         requires empty { batch self.old.seen ≡ [] }
         requires idle { ¬ IsRunning self.old.seen }
         ensures seen { Rests result (pair_owner self.old) (pair_owner self.new) }
+        ensures unqueued { accepted (own owner_seat self.new.seen) ≡ accepted (own owner_seat self.old.seen) }
         ensures rested { IsTrue result → HasRested self.new.seen }
         ensures refused { result ≡ false → MayNotRest self.new.seen }
         ensures open { ¬ IsShut self.new.seen }

@@ -2,11 +2,11 @@
 ghost use Rattle.std.specs.Prelude.{◌≡◌, ◌≢◌, ℕ, ◌<◌, not, [], ◌∷◌, IsTrue};
 ghost use Rattle.wq_words.specs.declared.event.Event.TheVariants.{Back};
 ghost use Rattle.wq_words.specs.declared.event.Why.TheVariants as why;
-ghost use Rattle.wq_words.specs.History.{pending, Holds};
+ghost use Rattle.wq_words.specs.History.{pending, Holds, accepted};
 ghost use Rattle.wq_words.specs.Numbers.{barrier_number, stop_number, number_count};
 ghost use Rattle.wq_words.specs.Legal.{IsLegal, IsComplete};
 ghost use Rattle.wq_words.specs.Headline.{KeepsHeadline};
-ghost use Rattle.wq_words.specs.Seen.{owner_seat};
+ghost use Rattle.wq_words.specs.Seen.{owner_seat, own};
 ghost use Rattle.wq_words.specs.declared.answer.Answer.TheVariants.{Queued, Contended};
 ghost use Rattle.wq_words.specs.declared.answer.Posted.TheVariants as posted;
 ghost use Rattle.wq_live.specs.Known.{IsSame, Sees};
@@ -112,6 +112,7 @@ impl Sender {
         requires item { item < self.old.layout.items }
         requires held { Holds self.old.seen self.old.number item }
         ensures seen { Sees (Back self.old.number item why.Cancelled ∷ []) 0 self.old self.new }
+        ensures unqueued { accepted (own self.new.number self.new.seen) ≡ accepted (own self.old.number self.old.seen) }
         ensures same { IsSame self.old self.new }
         ensures keeps { (k : ℕ) → k ≢ item → Holds self.old.seen self.old.number k → Holds self.new.seen self.new.number k }
     {

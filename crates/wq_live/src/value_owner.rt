@@ -6,7 +6,7 @@ ghost use Rattle.wq_words.specs.Numbers.{number_count};
 ghost use Rattle.wq_words.specs.History.{IsClosed, IsShut, IsDraining, closed, IsRunning, running, ended, accepted, begun};
 ghost use Rattle.wq_words.specs.Legal.{IsLegal, IsComplete, HasRunOut};
 ghost use Rattle.wq_words.specs.Headline.{KeepsHeadline};
-ghost use Rattle.wq_words.specs.Seen.{owner_seat};
+ghost use Rattle.wq_words.specs.Seen.{owner_seat, own};
 ghost use Rattle.wq_words.specs.Valued.{Carries, IsLegalWith, with_values};
 ghost use Rattle.wq_live.specs.Known.{IsSame, Sees};
 ghost use Rattle.wq_live.specs.Answers.{Chains, IsFinal};
@@ -74,6 +74,7 @@ impl<V: Drop> ValueOwner<V> {
         requires open { ¬ IsShut self.old.known.seen }
         requires empty { batch self.old.known.seen ≡ [] }
         ensures seen { Sees (Take ∷ []) 0 self.old.known self.new.known }
+        ensures unqueued { accepted (own self.new.known.number self.new.known.seen) ≡ accepted (own self.old.known.number self.old.known.seen) }
         ensures learnt { Learnt self.old self.new }
         ensures handed { handed_in self.new ≡ handed_in self.old }
         ensures takes { TakesAll Take result self.new.known.seen }
@@ -91,6 +92,7 @@ impl<V: Drop> ValueOwner<V> {
     pub fn close(&mut self) -> u32
         requires unclosed { ¬ IsClosed self.old.known.seen }
         ensures seen { Sees (Close ∷ []) 0 self.old.known self.new.known }
+        ensures unqueued { accepted (own self.new.known.number self.new.known.seen) ≡ accepted (own self.old.known.number self.old.known.seen) }
         ensures learnt { Learnt self.old self.new }
         ensures handed { handed_in self.new ≡ handed_in self.old }
         ensures takes { TakesAll Close result self.new.known.seen }
@@ -109,6 +111,7 @@ impl<V: Drop> ValueOwner<V> {
     pub fn drain(&mut self) -> u32
         requires open { ¬ IsShut self.old.known.seen }
         ensures seen { Sees (Drain ∷ []) 0 self.old.known self.new.known }
+        ensures unqueued { accepted (own self.new.known.number self.new.known.seen) ≡ accepted (own self.old.known.number self.old.known.seen) }
         ensures learnt { Learnt self.old self.new }
         ensures handed { handed_in self.new ≡ handed_in self.old }
         ensures takes { TakesAll Drain result self.new.known.seen }
@@ -129,6 +132,7 @@ impl<V: Drop> ValueOwner<V> {
         requires empty { batch self.old.known.seen ≡ [] }
         requires idle { ¬ IsRunning self.old.known.seen }
         ensures seen { Sees (Resume ∷ []) 0 self.old.known self.new.known }
+        ensures unqueued { accepted (own self.new.known.number self.new.known.seen) ≡ accepted (own self.old.known.number self.old.known.seen) }
         ensures learnt { Learnt self.old self.new }
         ensures handed { handed_in self.new ≡ handed_in self.old }
         ensures open { ¬ IsShut self.new.known.seen }
@@ -161,6 +165,7 @@ impl<V: Drop> ValueOwner<V> {
         requires idle { ¬ IsRunning self.old.known.seen }
         ensures next { next_of self.old.known.seen ≡ Some result.0 }
         ensures seen { Sees (Begin result.0 ∷ []) 0 self.old.known self.new.known }
+        ensures unqueued { accepted (own self.new.known.number self.new.known.seen) ≡ accepted (own self.old.known.number self.old.known.seen) }
         ensures learnt { Learnt self.old self.new }
         ensures handed { handed_in self.new ≡ handed_in self.old ++ result.1 ∷ [] }
         ensures batch { batch self.old.known.seen ≡ result.0 ∷ batch self.new.known.seen }
@@ -180,6 +185,7 @@ impl<V: Drop> ValueOwner<V> {
     pub fn end(&mut self)
         requires runs { IsRunning self.old.known.seen }
         ensures seen { (k : ℕ) → running self.old.known.seen ≡ Some k → Sees (End k ∷ []) 0 self.old.known self.new.known }
+        ensures unqueued { accepted (own self.new.known.number self.new.known.seen) ≡ accepted (own self.old.known.number self.old.known.seen) }
         ensures learnt { Learnt self.old self.new }
         ensures handed { handed_in self.new ≡ handed_in self.old }
         ensures same { IsSame self.old.known self.new.known }
@@ -206,6 +212,7 @@ impl<V: Drop> ValueOwner<V> {
         requires empty { batch self.old.known.seen ≡ [] }
         requires idle { ¬ IsRunning self.old.known.seen }
         ensures seen { Rests result self.old.known self.new.known }
+        ensures unqueued { accepted (own self.new.known.number self.new.known.seen) ≡ accepted (own self.old.known.number self.old.known.seen) }
         ensures learnt { Learnt self.old self.new }
         ensures handed { handed_in self.new ≡ handed_in self.old }
         ensures rested { IsTrue result → HasRested self.new.known.seen }

@@ -8,6 +8,7 @@ ghost use Rattle.wq_words.specs.History.{IsClosed, IsShut, IsDraining, closed, I
 ghost use Rattle.wq_words.specs.Legal.{IsLegal, HasRunOut};
 ghost use Rattle.wq_words.specs.Headline.{KeepsHeadline};
 ghost use Rattle.wq_words.specs.Valued.{Carries, IsLegalWith, with_values};
+ghost use Rattle.wq_words.specs.Seen.{own, owner_seat};
 ghost use Rattle.wq_live.specs.Known.{Sees};
 ghost use Rattle.wq_live.specs.Answers.{Answers, Chains, IsContended};
 ghost use Rattle.wq_live.specs.Batch.{batch, next_of, TakesAll};
@@ -180,6 +181,7 @@ impl<V: Drop> ValuePair<V> {
         requires open { ¬ IsShut self.old.known.seen }
         requires empty { batch self.old.known.seen ≡ [] }
         ensures seen { Sees (Take ∷ []) 0 (pair_owner self.old.known) (pair_owner self.new.known) }
+        ensures unqueued { accepted (own owner_seat self.new.known.seen) ≡ accepted (own owner_seat self.old.known.seen) }
         ensures learnt { Learnt (owner_of self.old) (owner_of self.new) }
         ensures handed { handed_in (owner_of self.new) ≡ handed_in (owner_of self.old) }
         ensures takes { TakesAll Take result self.new.known.seen }
@@ -197,6 +199,7 @@ impl<V: Drop> ValuePair<V> {
     pub fn close(&mut self) -> u32
         requires unclosed { ¬ IsClosed self.old.known.seen }
         ensures seen { Sees (Close ∷ []) 0 (pair_owner self.old.known) (pair_owner self.new.known) }
+        ensures unqueued { accepted (own owner_seat self.new.known.seen) ≡ accepted (own owner_seat self.old.known.seen) }
         ensures learnt { Learnt (owner_of self.old) (owner_of self.new) }
         ensures handed { handed_in (owner_of self.new) ≡ handed_in (owner_of self.old) }
         ensures takes { TakesAll Close result self.new.known.seen }
@@ -215,6 +218,7 @@ impl<V: Drop> ValuePair<V> {
     pub fn drain(&mut self) -> u32
         requires open { ¬ IsShut self.old.known.seen }
         ensures seen { Sees (Drain ∷ []) 0 (pair_owner self.old.known) (pair_owner self.new.known) }
+        ensures unqueued { accepted (own owner_seat self.new.known.seen) ≡ accepted (own owner_seat self.old.known.seen) }
         ensures learnt { Learnt (owner_of self.old) (owner_of self.new) }
         ensures handed { handed_in (owner_of self.new) ≡ handed_in (owner_of self.old) }
         ensures takes { TakesAll Drain result self.new.known.seen }
@@ -236,6 +240,7 @@ impl<V: Drop> ValuePair<V> {
         requires empty { batch self.old.known.seen ≡ [] }
         requires idle { ¬ IsRunning self.old.known.seen }
         ensures seen { Sees (Resume ∷ []) 0 (pair_owner self.old.known) (pair_owner self.new.known) }
+        ensures unqueued { accepted (own owner_seat self.new.known.seen) ≡ accepted (own owner_seat self.old.known.seen) }
         ensures learnt { Learnt (owner_of self.old) (owner_of self.new) }
         ensures handed { handed_in (owner_of self.new) ≡ handed_in (owner_of self.old) }
         ensures open { ¬ IsShut self.new.known.seen }
@@ -268,6 +273,7 @@ impl<V: Drop> ValuePair<V> {
         requires idle { ¬ IsRunning self.old.known.seen }
         ensures next { next_of self.old.known.seen ≡ Some result.0 }
         ensures seen { Sees (Begin result.0 ∷ []) 0 (pair_owner self.old.known) (pair_owner self.new.known) }
+        ensures unqueued { accepted (own owner_seat self.new.known.seen) ≡ accepted (own owner_seat self.old.known.seen) }
         ensures learnt { Learnt (owner_of self.old) (owner_of self.new) }
         ensures handed { handed_in (owner_of self.new) ≡ handed_in (owner_of self.old) ++ result.1 ∷ [] }
         ensures batch { batch self.old.known.seen ≡ result.0 ∷ batch self.new.known.seen }
@@ -288,6 +294,7 @@ impl<V: Drop> ValuePair<V> {
     pub fn end(&mut self)
         requires runs { IsRunning self.old.known.seen }
         ensures seen { (k : ℕ) → running self.old.known.seen ≡ Some k → Sees (End k ∷ []) 0 (pair_owner self.old.known) (pair_owner self.new.known) }
+        ensures unqueued { accepted (own owner_seat self.new.known.seen) ≡ accepted (own owner_seat self.old.known.seen) }
         ensures learnt { Learnt (owner_of self.old) (owner_of self.new) }
         ensures handed { handed_in (owner_of self.new) ≡ handed_in (owner_of self.old) }
         ensures batch { batch self.new.known.seen ≡ batch self.old.known.seen }
@@ -307,6 +314,7 @@ impl<V: Drop> ValuePair<V> {
         requires empty { batch self.old.known.seen ≡ [] }
         requires idle { ¬ IsRunning self.old.known.seen }
         ensures seen { Rests result (pair_owner self.old.known) (pair_owner self.new.known) }
+        ensures unqueued { accepted (own owner_seat self.new.known.seen) ≡ accepted (own owner_seat self.old.known.seen) }
         ensures learnt { Learnt (owner_of self.old) (owner_of self.new) }
         ensures handed { handed_in (owner_of self.new) ≡ handed_in (owner_of self.old) }
         ensures rested { IsTrue result → HasRested self.new.known.seen }

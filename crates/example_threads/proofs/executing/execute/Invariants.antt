@@ -8,4 +8,4 @@ abbrev pub invariant-loop : goal.invariant-loop
 invariant-loop g l = IsSame l.fn.owner l.owner × (¬ IsRunning l.owner.seen)
     × (¬ IsShut l.fn.owner.seen → ¬ IsShut l.owner.seen) × (¬ IsClosed l.fn.owner.seen → ¬ IsClosed l.owner.seen)
     × (IsClosed l.fn.owner.seen → IsClosed l.owner.seen)
-    × (accepted (own l.fn.owner.number l.fn.owner.seen) ≡ [] → accepted (own l.owner.number l.owner.seen) ≡ [])
+    × (accepted (own l.owner.number l.owner.seen) ≡ accepted (own l.fn.owner.number l.fn.owner.seen))

@@ -11,4 +11,4 @@ invariant-loop g l = IsSame l.fn.it.owner.known l.it.owner.known × (¬ IsRunnin
     × (numbers_of (handed_in l.it.owner) ≡ l.it.ran.items)
     × (¬ IsShut l.fn.it.owner.known.seen → ¬ IsShut l.it.owner.known.seen) × (¬ IsClosed l.fn.it.owner.known.seen → ¬ IsClosed l.it.owner.known.seen)
     × (IsClosed l.fn.it.owner.known.seen → IsClosed l.it.owner.known.seen)
-    × (accepted (own l.fn.it.owner.known.number l.fn.it.owner.known.seen) ≡ [] → accepted (own l.it.owner.known.number l.it.owner.known.seen) ≡ [])
+    × (accepted (own l.it.owner.known.number l.it.owner.known.seen) ≡ accepted (own l.fn.it.owner.known.number l.fn.it.owner.known.seen))

@@ -10,4 +10,4 @@ use Rattle.example_values.proofs.executing.serve.Given as goal
 abbrev pub invariant-loop : goal.invariant-loop
 invariant-loop g l = IsSame l.fn.it.owner.known l.it.owner.known × (¬ IsShut l.it.owner.known.seen) × (batch l.it.owner.known.seen ≡ [])
     × (¬ IsRunning l.it.owner.known.seen) × (numbers_of (handed_in l.it.owner) ≡ l.it.ran.items)
-    × (accepted (own l.fn.it.owner.known.number l.fn.it.owner.known.seen) ≡ [] → accepted (own l.it.owner.known.number l.it.owner.known.seen) ≡ [])
+    × (accepted (own l.it.owner.known.number l.it.owner.known.seen) ≡ accepted (own l.fn.it.owner.known.number l.fn.it.owner.known.seen))

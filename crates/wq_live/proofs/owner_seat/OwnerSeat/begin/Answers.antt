@@ -5,7 +5,7 @@ use Rattle.wq_live.proofs.Tells.{Tells}
 use Rattle.wq_live.proofs.Owned.{running_begun, counts_quiet, rests_on}
 use Rattle.wq_live.proofs.Phases.{phase_quiet}
 use Rattle.wq_live.proofs.Taking.{sees_then}
-use Rattle.wq_live.proofs.Resting.{shut_stays, open_stays, unclosed_stays}
+use Rattle.wq_live.proofs.Resting.{shut_stays, open_stays, unclosed_stays, accepted_still}
 use Rattle.wq_live.proofs.Hanging.{first_of_row, first_known, begun_row}
 use Rattle.wq_live.proofs.OwnerTells.{makes_stands, stands_batch, to_begin, begin_tells, begin_stage, owner_batch, owner_idle, owner_grows, owner_sees}
 use Rattle.wq_live.proofs.OwnerHands.{begin_slots, emptied_batch}
@@ -82,6 +82,9 @@ returns-clause-seen g c = let s = owning c.args.self.now in let o = c.requires.o
     let t = record s { chair = standing_of c.begin.new.self; row = c.without_first-self.result; running = Some k } in
     owner_sees (Begin k ∷ []) 0 s t (owner_view (owning c.args.self.now)) refl o refl
     (c.begin.ensures.step.1.steps.queue_is ∙ beside_queue 0 _ _ (learns_follow 0 _ _ e.learns)) told
+
+pub returns-clause-unqueued : goal.returns-clause-unqueued
+returns-clause-unqueued g c = accepted_still 0 (Begin c.args.self.now.row.front ∷ []) (owner_view (owning c.args.self.now)) _ (returns-clause-seen g c) refl
 
 pub returns-clause-running : goal.returns-clause-running
 returns-clause-running g c = let s = owning c.args.self.now in let o = c.requires.owns in let e = c.without_first-self.ensures in let k = s.row.front in

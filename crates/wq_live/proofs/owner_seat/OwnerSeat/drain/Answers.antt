@@ -4,7 +4,7 @@ use Rattle.wq_core.specs.declared.step.Step.TheVariants as step
 use Rattle.wq_live.specs.declared.owner_seat.Phase.TheVariants as phase
 use Rattle.wq_live.proofs.OwnerTells.{makes_stands, drain_swaps}
 use Rattle.wq_live.proofs.Phases.{phase_draining, draining_then}
-use Rattle.wq_live.proofs.Resting.{quiet_idle, quiet_runs}
+use Rattle.wq_live.proofs.Resting.{quiet_idle, quiet_runs, accepted_still}
 use Rattle.wq_live.proofs.Linking.{walks_row}
 use Rattle.wq_live.proofs.Taken.{drains_all}
 use Rattle.wq_live.proofs.Cutting.{cut_slots, cut_stage, cut_kept, cut_grows, cut_owns, cut_sees, cut_all, cut_behind, cut_count}
@@ -53,6 +53,7 @@ returns g c = let s = owning c.args.self.now in let o = c.requires.owns.queue in
       };
       learns = step_or 0 _ _ _ _ _ _ c.drain-head.ensures.step e.learns;
       seen = sees;
+      unqueued = accepted_still 0 (Drain ∷ []) (owner_view s) _ sees refl;
       takes = cut_all step.Drain draining_word Drain drain_swaps found s q o steps t e.follows e.stands e.has_row drains_all count total;
       behind = cut_behind step.Drain draining_word Drain drain_swaps found s q o steps t e.follows e.stands e.has_row e.behind;
       count = cut_count step.Drain draining_word Drain drain_swaps found s q o steps t e.follows e.stands e.has_row count total;

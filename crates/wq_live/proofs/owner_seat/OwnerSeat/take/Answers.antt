@@ -3,7 +3,7 @@ use Rattle.wq_live.proofs.Common.{beside_queue, learns_follow, step_or, owning, 
 use Rattle.wq_core.specs.declared.step.Step.TheVariants as step
 use Rattle.wq_live.proofs.OwnerTells.{makes_stands, owner_batch, none_of, take_swaps}
 use Rattle.wq_live.proofs.Phases.{phase_quiet}
-use Rattle.wq_live.proofs.Resting.{quiet_idle, quiet_runs, open_stays, unclosed_stays}
+use Rattle.wq_live.proofs.Resting.{quiet_idle, quiet_runs, open_stays, unclosed_stays, accepted_still}
 use Rattle.wq_live.proofs.Linking.{walks_row}
 use Rattle.wq_live.proofs.Taken.{takes_all}
 use Rattle.wq_live.proofs.Cutting.{cut_slots, cut_stage, cut_kept, cut_grows, cut_owns, cut_sees, cut_all, cut_count}
@@ -54,6 +54,7 @@ returns g c = let s = owning c.args.self.now in let o = c.requires.owns.queue in
       };
       learns = step_or 0 _ _ _ _ _ _ c.take-head.ensures.step e.learns;
       seen = sees;
+      unqueued = accepted_still 0 (Take ∷ []) (owner_view s) _ sees refl;
       takes = cut_all step.Take busy_word Take take_swaps found s q o steps t e.follows e.stands e.has_row takes_all count total;
       count = omega (
         arith,

@@ -5,6 +5,7 @@ use Rattle.wq_live.proofs.Counting.{counts_cancelled}
 use Rattle.wq_live.proofs.Tells.{Tells, back_tells, sender_made}
 use Rattle.wq_live.proofs.Held.{given_held}
 use Rattle.wq_live.proofs.Sends.{grows_tells, sends_tells, sees_tells, holds_view}
+use Rattle.wq_live.proofs.Resting.{accepted_still}
 use Rattle.wq_live.proofs.sender.Sender.give_back.Goals as goal
 
 pub back_cancelled-requires-clause-held : goal.back_cancelled-requires-clause-held
@@ -33,6 +34,7 @@ returns c = let s = (sending_in 0 c.self.inside.chair c.self.inside.sent) in let
     refl
     steps.queue_is (back_tells k _ Cancelled s.chair.part new.first.part c.self.invariant.sends.stage steps.moves.makes) in record {
       seen = sees;
+      unqueued = accepted_still 0 (Back c.args.self.now.number k Cancelled ∷ []) c.args.self.now _ sees refl;
       same = sees.same;
       keeps = λ j. given_held j k 0 Cancelled c.args.self.now _ sees;
     }
