@@ -95,7 +95,8 @@ module _ {K W : Type 0} (state : K → WorkerState W) (may : W → ℕ → List 
 
   -- what was taken apart is of the workers that were drained
   pub parts_drained : {B : Type 0} (book : B → BookState) (workers : List WorkerId) (seen : List (List Event)) (turns : List (TurnState K))
-      (parts : List (W × B)) → AllDrained workers seen turns → AreTakenApart state book turns parts → ComeFromDrains state may gives deals limit book workers seen parts
+      (parts : List (W × B)) → AllDrained workers seen turns → AreTakenApart state book turns parts
+      → ComeFromDrains state may gives deals limit book workers seen parts
   parts_drained book workers seen turns parts all apart q one at =
       let t = apart q one at in (t.0.worker, all q t.0 t.1, t.2)
 
