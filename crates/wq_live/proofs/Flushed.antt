@@ -6,7 +6,11 @@ use Rattle.std.proofs.lemmas.Bool.Decides.{nat_tests}
 use Rattle.wq_words.specs.History.{sets_pending, clears_pending}
 use Rattle.wq_words.specs.Keeper.{Keeper, keeper}
 use Rattle.wq_words.proofs.Keepers.{pending_bit, queue_bit, home_from_bit}
-use Rattle.wq_live.specs.Answers.{HasFlushed}
+use Rattle.wq_live.specs.Answers.{HasFlushed, IsPushed}
+use Rattle.wq_live.specs.Known.{Known, Sees}
+use Rattle.wq_words.specs.Seen.{own}
+use Rattle.wq_words.proofs.Prefixes.{prefix_on}
+use Rattle.wq_live.proofs.Common.{◌<◌, sym, Hold, own-append}
 
 -- an element among others is counted
 counts_it : (k : ℕ) (xs ys zs : List ℕ) → zs ≡ xs ++ k ∷ ys → 1 ≤ count_by (λ j. j == k) zs
@@ -46,3 +50,27 @@ flushed layout k h legal clear s before after is =
     let long : length (begun h) ≡ length (accepted before ++ k ∷ front.0) = ap length front.1 in let sum = length-append (accepted before) (k ∷ front.0) in
     let one = order.one_at_a_time in
     shorter (accepted before) (ended h) (k ∷ front.0) ended_first.0 (ended_first.1 ∙ front.1) (omega arith)
+
+-- where a list goes on behind what was seen with events of a seat, and behind an event of it comes none of that seat, what was seen
+-- begins what stands before that event
+seen_before : (c : ℕ) (u new before after : List Event) (e : Event) → u ++ new ≡ before ++ e ∷ after → own c after ≡ [] → 0 < length (own c new)
+    → IsPrefix u before
+seen_before c [] new before after e is none some = (before, refl)
+seen_before c (x ∷ u) new [] after e is none some =
+    let tails : u ++ new ≡ after = cc in
+    let own_is = ap (λ (h : List Event). length (own c h)) tails in
+    absurd (omega (arith, own_is, ap (λ (h : List Event). length h) none, ap (λ (h : List Event). length h) (own-append c u new),
+    length-append (own c u) (own c new), some))
+seen_before c (x ∷ u) new (y ∷ before) after e is none some =
+    let heads : x ≡ y = cc in let tails : u ++ new ≡ before ++ e ∷ after = cc in
+    let more = seen_before c u new before after e tails none some in (more.0, λ i. heads i ∷ more.1 i)
+
+-- once a barrier has run that a call queued, all has ended that had been accepted before the call
+pub flushed_all : (k n : ℕ) (first wakes : Bool) (old new : Known) → Sees (Hold old.number k ∷ Push old.number k ∷ []) n old new
+    → IsPushed old.number k first wakes new.seen → HasFlushed k new.seen → IsPrefix (accepted old.seen) (ended new.seen)
+flushed_all k n first wakes old new sees pushed flush =
+    let g = sees.grows in let s = old.number in
+    let front = seen_before s old.seen g.new pushed.before pushed.after (Push s k) (sym g.is ∙ pushed.is) pushed.last
+    (omega (arith, ap (λ (h : List Event). length h) g.mine)) in
+    prefix_on (accepted old.seen) (accepted pushed.before) (ended new.seen)
+    (accepted front.0, sym (accepted-append old.seen front.0) ∙ ap accepted front.1) (flush s pushed.before pushed.after pushed.is)

@@ -1,7 +1,7 @@
 -- What a seat goes on to hold.
 use Rattle.wq_live.proofs.Common.{◌≡◌, ◌≢◌, ℕ, ◌≤◌, ◌==◌, Bool, true, false, cond, List, [], ◌∷◌, sym, refl, ap, subst, arith, ne_eqb, count_by}
 use Rattle.wq_live.proofs.Common.{sum_by-cons, Answer, Posted, Event, Hold, Busy, Push, Back, Why, Holds, Known, Sees, TestsAndSets, Answers, Posts}
-use Rattle.std.proofs.Common.{◌&&◌}
+use Rattle.std.proofs.Common.{◌&&◌, IsTrue}
 use Rattle.wq_words.specs.declared.answer.Answer.TheVariants as answer
 use Rattle.wq_words.specs.declared.answer.Posted.TheVariants as posted
 use Rattle.wq_words.specs.declared.event.Why.TheVariants as why
@@ -112,6 +112,11 @@ tested_unheld k j false s t sees ne = unheld_past k 0 (Busy s.number j) s t sees
 pub refused_unheld : (k j : ℕ) (s t : Known) → TestsAndSets j false s t → ¬ Holds s.seen s.number k → ¬ Holds t.seen t.number k
 refused_unheld k j s t sees = unheld_past k 0 (Busy s.number j) s t sees refl
 
+-- a number that was not just held
+pub hold_unheld : (k j : ℕ) (b : Bool) (s t : Known) → TestsAndSets j b s t → (IsTrue b → k ≢ j) → ¬ Holds s.seen s.number k → ¬ Holds t.seen t.number k
+hold_unheld k j true s t sees ne = tested_unheld k j true s t sees (ne refl)
+hold_unheld k j false s t sees ne = refused_unheld k j s t sees
+
 pub given_unheld : (k j n : ℕ) (why : Why) (s t : Known) → Sees (Back s.number j why ∷ []) n s t → ¬ Holds s.seen s.number k → ¬ Holds t.seen t.number k
 given_unheld k j n why s t sees = unheld_past k n (Back s.number j why) s t sees refl
 
@@ -148,11 +153,15 @@ stopped k n e s t sees no_start stop =
       have,
     ))
 
-pub pushed_stops : (k tries : ℕ) (first wakes : Bool) (s t : Known) → Posts k tries (posted.Queued first wakes) s t → ¬ Holds t.seen t.number k
+pushed_stops : (k tries : ℕ) (first wakes : Bool) (s t : Known) → Posts k tries (posted.Queued first wakes) s t → ¬ Holds t.seen t.number k
 pushed_stops k tries first wakes s t told = stopped k 0 (Push s.number k) s t told.0 refl (λ i. eq-eqb k k refl i && eq-eqb s.number s.number refl i)
 
 pub given_stops : (k n : ℕ) (why : Why) (s t : Known) → Sees (Back s.number k why ∷ []) n s t → ¬ Holds t.seen t.number k
 given_stops k n why s t sees = stopped k n (Back s.number k why) s t sees refl (λ i. eq-eqb k k refl i && eq-eqb s.number s.number refl i)
 
-pub closed_stops : (k tries : ℕ) (s t : Known) → Posts k tries posted.Closed s t → ¬ Holds t.seen t.number k
-closed_stops k tries s t told = given_stops k 0 why.Closed s t told
+pub posted_stops : (k tries : ℕ) (a : Posted) (s t : Known) → Posts k tries a s t → a ≢ posted.Contended → a ≢ posted.Draining
+    → ¬ Holds t.seen t.number k
+posted_stops k tries (posted.Queued first wakes) s t told lost drained = pushed_stops k tries first wakes s t told
+posted_stops k tries posted.Closed s t told lost drained = given_stops k 0 why.Closed s t told
+posted_stops k tries posted.Draining s t told lost drained = absurd (drained refl)
+posted_stops k tries posted.Contended s t told lost drained = absurd (lost refl)

@@ -1,7 +1,7 @@
 -- What the queueings of one seat brought, call after call.
 use Rattle.wq_live.proofs.Common.{◌≡◌, ℕ, zero, suc, Bool, true, false, cond, ◌==◌, if◌then◌else◌, List, [], ◌∷◌, ◌++◌, length, Option, Some, None}
 use Rattle.wq_live.proofs.Common.{sym, refl, ap, ◌∙◌, arith, slice_get, append-nil, IsPrefix, Event, Hold, Busy, Push, Back, ChainBusy, accepted}
-use Rattle.wq_live.proofs.Common.{accepted_by, begun_by, owner_seat, seat_of, own, Grows, Answers, KnownWith, Learnt, answer_of}
+use Rattle.wq_live.proofs.Common.{accepted_by, begun_by, owner_seat, seat_of, own, Grows, Sees, Answers, KnownWith, Learnt, answer_of}
 use Rattle.std.specs.Prelude.{filter_map}
 use Rattle.std.specs.List.{cons_option}
 use Rattle.std.proofs.lemmas.Bool.{eq-eqb}
@@ -167,3 +167,9 @@ chained_own k v (given.Pending w) old new owner answers back learnt = own_as_bef
 chained_own k v (given.Closed w) old new owner answers back learnt = absurd answers
 chained_own k v (given.Contended w) old new owner answers back learnt = absurd answers
 chained_own k v (given.Draining w) old new owner answers back learnt = absurd answers
+
+-- where no own event comes, the own queueings brought what they had brought
+pub own_stays : {V : Type 0} (n : ℕ) (old new : KnownWith V) → Sees [] n old.known new.known → Learnt old new
+    → own_brought old.known.number new.known.seen new.brought ≡ own_brought old.known.number old.known.seen old.brought
+own_stays n old new sees learnt =
+    own_still old.known.number [] n old.known.seen new.known.seen old.brought new.brought refl sees.grows learnt.more learnt.was_whole

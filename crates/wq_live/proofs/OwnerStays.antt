@@ -1,5 +1,5 @@
 -- What an owner knows of its batch and of what it executes stays while others alone add events.
-use Rattle.wq_live.proofs.Common.{◌≡◌, ℕ, ◌≤◌, List, [], ◌++◌, length, take, refl, ap, ◌∙◌, subst, arith, append-nil, Layout, Event, accepted, begun}
+use Rattle.wq_live.proofs.Common.{◌≡◌, ℕ, ◌≤◌, Bool, true, false, List, [], ◌∷◌, ◌++◌, Some, length, take, refl, ap, ◌∙◌, subst, arith, append-nil, Layout, Event, accepted, begun}
 use Rattle.wq_live.proofs.Common.{ended, running, IsShut, accepted-append, legal_front, begun_same, own-append, IsLegal, owner_seat, own, Grows, batch}
 use Rattle.wq_live.proofs.Common.{sym, Known, Sees, KnownWith, Learnt, sender_counts}
 use Rattle.std.specs.Prelude.{drop}
@@ -13,7 +13,9 @@ use Rattle.wq_live.proofs.Counting.{counts_none}
 use Rattle.wq_live.proofs.Growing.{grows_mine}
 use Rattle.wq_live.proofs.Owned.{begun_on, ended_on, running_quiet, counts_quiet}
 use Rattle.wq_live.proofs.Phases.{closed_quiet, shut_still}
-use Rattle.wq_live.proofs.Resting.{own_still, none_more}
+use Rattle.wq_live.proofs.Resting.{own_still, none_more, quiet_idle, quiet_runs, closed_stays, unclosed_stays, shut_stays, open_stays}
+use Rattle.wq_live.specs.Rest.{Rests}
+use Rattle.wq_words.specs.declared.event.Event.TheVariants.{Rest, End}
 use Rattle.wq_live.proofs.HandedOver.{met_end}
 
 pub batch_still : (layout : Layout) (v new : List Event) → IsLegal layout (v ++ new) → own owner_seat new ≡ [] → batch (v ++ new) ≡ batch v
@@ -34,6 +36,27 @@ module _ (n : ℕ) (xs : List Event) (old new : Known) (mine : old.number ≡ ow
   pub still_running : begun xs ≡ [] → ended xs ≡ [] → running new.seen ≡ running old.seen
   still_running = running_quiet xs n old.seen new.seen (grows_mine xs n old new mine sees)
 
+  -- where none of its own events begins or ends an execution
+  pub still_executed : begun xs ≡ [] → ended xs ≡ [] → (begun new.seen ≡ begun old.seen) × (ended new.seen ≡ ended old.seen)
+  still_executed b e = (
+    begun_grows ∙ (ap (λ (ks : List ℕ). begun old.seen ++ ks) b ∙ append-nil (begun old.seen)),
+    ended_grows ∙ (ap (λ (ks : List ℕ). ended old.seen ++ ks) e ∙ append-nil (ended old.seen)),
+  )
+
+pub still_rested : (b : Bool) (old new : Known) → old.number ≡ owner_seat → Rests b old new
+    → (begun new.seen ≡ begun old.seen) × (ended new.seen ≡ ended old.seen)
+still_rested true old new mine rests = still_executed 0 (Rest ∷ []) old new mine rests refl refl
+still_rested false old new mine rests = still_executed 0 [] old new mine rests refl refl
+
+-- the end of what runs
+pub ends_running : (old new : Known) → old.number ≡ owner_seat → ((k : ℕ) → running old.seen ≡ Some k → Sees (End k ∷ []) 0 old new) → (j : ℕ)
+    → running old.seen ≡ Some j
+    → (begun new.seen ≡ begun old.seen) × ((k : ℕ) → running old.seen ≡ Some k → ended new.seen ≡ ended old.seen ++ k ∷ [])
+ends_running old new mine sees j runs = (
+  begun_grows 0 (End j ∷ []) old new mine (sees j runs) ∙ append-nil (begun old.seen),
+  λ k is. ended_grows 0 (End k ∷ []) old new mine (sees k is),
+)
+
 module _ (n : ℕ) (old new : Known) (mine : old.number ≡ owner_seat) (sees : Sees [] n old new) where
   g : Grows owner_seat [] n old.seen new.seen
   g = grows_mine [] n old new mine sees
@@ -44,9 +67,17 @@ module _ (n : ℕ) (old new : Known) (mine : old.number ≡ owner_seat) (sees : 
   pub still_owned : IsStillOwned old.seen new.seen
   still_owned = record {
     batch_is = ap batch g.is ∙ batch_still new.layout old.seen g.new legal g.mine;
+    begun_is = begun_grows n [] old new mine sees ∙ append-nil (begun old.seen);
+    ended_is = ended_grows n [] old new mine sees ∙ append-nil (ended old.seen);
     running_is = running_quiet [] n old.seen new.seen g refl refl;
     closed_is = closed_quiet [] n old.seen new.seen g refl;
     shut_is = shut_still [] n old.seen new.seen g refl;
+    idle = quiet_idle [] n old new mine sees refl refl;
+    runs = quiet_runs [] n old new mine sees refl refl;
+    opens = open_stays [] n old new mine sees refl;
+    shuts = shut_stays [] n old new mine sees refl;
+    uncloses = unclosed_stays [] n old new mine sees refl;
+    closes = closed_stays [] n old new sees;
   }
 
   pub shut_end : IsShut old.seen → IsStillEnd old.seen new.seen

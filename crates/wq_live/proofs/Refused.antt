@@ -1,6 +1,6 @@
 -- A refusal for a closed queue comes of one that is closed.
 use Rattle.wq_live.proofs.Common.{◌≡◌, ℕ, ◌+◌, ◌<◌, Bool, false, cond, List, [], ◌∷◌, ◌++◌, refl, ap, arith, eq-eqb, count_by, Layout, Event, Hold, Back}
-use Rattle.wq_live.proofs.Common.{IsClosed, IsLegal, Grows, Known, Answers, Posts}
+use Rattle.wq_live.proofs.Common.{IsClosed, IsLegal, Grows, Known, Answer, Answers, Posted, Posts}
 use Rattle.wq_words.specs.declared.event.Why.TheVariants as why
 use Rattle.wq_words.specs.declared.answer.Answer.TheVariants as answer
 use Rattle.wq_words.specs.declared.answer.Posted.TheVariants as posted
@@ -43,8 +43,15 @@ module _ (s : ℕ) where
   back_closed_by : (layout : Layout) (k n : ℕ) (v w : List Event) → Grows s (Back s k why.Closed ∷ []) n v w → IsLegal layout w → IsClosed w
   back_closed_by layout k n v w = closed_among layout (Back s k why.Closed ∷ []) n v w (itself k)
 
-pub answered_closed : (k tries : ℕ) (old new : Known) → Answers k tries answer.Closed old new → IsClosed new.seen
-answered_closed k tries old new told = closed_by old.number new.layout k 0 old.seen new.seen told.grows told.legal
+pub answered_closed : (k tries : ℕ) (a : Answer) (old new : Known) → Answers k tries a old new → a ≡ answer.Closed → IsClosed new.seen
+answered_closed k tries answer.Closed old new told is = closed_by old.number new.layout k 0 old.seen new.seen told.grows told.legal
+answered_closed k tries (answer.Queued first wakes) old new told is = absurd (cc)
+answered_closed k tries answer.Pending old new told is = absurd (cc)
+answered_closed k tries answer.Draining old new told is = absurd (cc)
+answered_closed k tries answer.Contended old new told is = absurd (cc)
 
-pub posted_closed : (k tries : ℕ) (old new : Known) → Posts k tries posted.Closed old new → IsClosed new.seen
-posted_closed k tries old new told = back_closed_by old.number new.layout k 0 old.seen new.seen told.grows told.legal
+pub posted_closed : (k tries : ℕ) (a : Posted) (old new : Known) → Posts k tries a old new → a ≡ posted.Closed → IsClosed new.seen
+posted_closed k tries posted.Closed old new told is = back_closed_by old.number new.layout k 0 old.seen new.seen told.grows told.legal
+posted_closed k tries (posted.Queued first wakes) old new told is = absurd (cc)
+posted_closed k tries posted.Draining old new told is = absurd (cc)
+posted_closed k tries posted.Contended old new told is = absurd (cc)

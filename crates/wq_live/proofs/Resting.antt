@@ -12,7 +12,7 @@ use Rattle.wq_words.specs.declared.answer.Posted.TheVariants as posted
 use Rattle.wq_words.specs.declared.event.Event.TheVariants.{Chain, ChainBusy, Rest}
 use Rattle.wq_live.specs.Rest.{Rests}
 use Rattle.wq_words.specs.Legal.{IsComplete}
-use Rattle.wq_live.specs.Answers.{Posts, Chains}
+use Rattle.wq_live.specs.Answers.{TestsAndSets, Posts, Chains}
 use Rattle.wq_words.proofs.Running.{running_from_rests}
 use Rattle.wq_live.specs.Laws.{queued_number, pushed_number, IsStillEnd}
 use Rattle.wq_live.proofs.Growing.{grows_own, grows_mine}
@@ -101,6 +101,10 @@ pub accepted_still : (n : ℕ) (xs : List Event) (old new : Known) → Sees xs n
 accepted_still n xs old new sees none = let s = old.number in
     ap (λ (c : ℕ). accepted (own c new.seen)) sees.same.number_is ∙ (accepted_on xs n old new sees
     ∙ (ap (λ (ks : List ℕ). accepted (own s old.seen) ++ ks) none ∙ append-nil (accepted (own s old.seen))))
+
+pub accepted_tested : (k : ℕ) (b : Bool) (old new : Known) → TestsAndSets k b old new → accepted (own new.number new.seen) ≡ accepted (own old.number old.seen)
+accepted_tested k true old new told = accepted_still 0 (Hold old.number k ∷ []) old new told refl
+accepted_tested k false old new told = accepted_still 0 (Busy old.number k ∷ []) old new told refl
 
 pub accepted_rested : (b : Bool) (old new : Known) → Rests b old new → accepted (own new.number new.seen) ≡ accepted (own old.number old.seen)
 accepted_rested true old new rests = accepted_still 0 (Rest ∷ []) old new rests refl

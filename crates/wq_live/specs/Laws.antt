@@ -1,7 +1,7 @@
 -- What follows from what the calls of a queue say.
 use Rattle.std.specs.Prelude.{◌≡◌, ℕ, List, [], ◌∷◌}
 use Rattle.wq_words.specs.declared.event.Event.{Event}
-use Rattle.wq_words.specs.History.{accepted, begun, ended, running, closed, shut}
+use Rattle.wq_words.specs.History.{accepted, begun, ended, running, closed, shut, IsRunning, IsClosed, IsShut}
 use Rattle.wq_words.specs.Seen.{own}
 use Rattle.wq_words.specs.declared.answer.Answer.{Answer}
 use Rattle.wq_words.specs.declared.answer.Answer.TheVariants.{Queued}
@@ -26,9 +26,18 @@ pub record IsStillEnd (earlier later : List Event) : Type 0 where
   pub begun_is : begun later ≡ begun earlier
   pub ended_is : ended later ≡ ended earlier
 
--- the batch, the number that runs, and whether the queue is closed or shut are in the later what they were
+-- The batch, what began, ended and runs, and whether the queue is closed or shut are in the later what they were: so nothing runs
+-- where nothing ran, and what ran runs; an open queue is open, and so on.
 pub record IsStillOwned (earlier later : List Event) : Type 0 where
   pub batch_is : batch later ≡ batch earlier
+  pub begun_is : begun later ≡ begun earlier
+  pub ended_is : ended later ≡ ended earlier
   pub running_is : running later ≡ running earlier
   pub closed_is : closed later ≡ closed earlier
   pub shut_is : shut later ≡ shut earlier
+  pub idle : ¬ IsRunning earlier → ¬ IsRunning later
+  pub runs : IsRunning earlier → IsRunning later
+  pub opens : ¬ IsShut earlier → ¬ IsShut later
+  pub shuts : IsShut earlier → IsShut later
+  pub uncloses : ¬ IsClosed earlier → ¬ IsClosed later
+  pub closes : IsClosed earlier → IsClosed later

@@ -94,16 +94,15 @@ pub fn unheld_stays()
 
 /// What a sender has pushed or given back it holds no longer.
 pub fn no_longer_held()
-    ensures pushed { (k tries : ℕ) (first wakes : Bool) (old new : Known) → Posts k tries (posted.Queued first wakes) old new
+    ensures posted { (k tries : ℕ) (a : Posted) (old new : Known) → Posts k tries a old new → a ≢ posted.Contended → a ≢ posted.Draining
         → ¬ Holds new.seen new.number k }
-    ensures closed { (k tries : ℕ) (old new : Known) → Posts k tries posted.Closed old new → ¬ Holds new.seen new.number k }
     ensures given { (k n : ℕ) (why : Why) (old new : Known) → Sees (Back old.number k why ∷ []) n old new → ¬ Holds new.seen new.number k }
 {}
 
 /// A queueing or a push is answered Closed of a queue that its owner has closed.
 pub fn closed_is_closed()
-    ensures queued { (k tries : ℕ) (old new : Known) → Answers k tries answer.Closed old new → IsClosed new.seen }
-    ensures posted { (k tries : ℕ) (old new : Known) → Posts k tries posted.Closed old new → IsClosed new.seen }
+    ensures queued { (k tries : ℕ) (a : Answer) (old new : Known) → Answers k tries a old new → a ≡ answer.Closed → IsClosed new.seen }
+    ensures posted { (k tries : ℕ) (a : Posted) (old new : Known) → Posts k tries a old new → a ≡ posted.Closed → IsClosed new.seen }
 {}
 
 /// Where a seat sees more and makes no event, as at a meeting, it has counted what it had counted.

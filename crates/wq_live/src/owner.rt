@@ -69,6 +69,7 @@ impl Owner {
         requires empty { batch self.old.seen ≡ [] }
         ensures seen { Sees (Take ∷ []) 0 self.old self.new }
         ensures unqueued { accepted (own self.new.number self.new.seen) ≡ accepted (own self.old.number self.old.seen) }
+        ensures executions { (begun self.new.seen ≡ begun self.old.seen) × (ended self.new.seen ≡ ended self.old.seen) }
         ensures takes { TakesAll Take result self.new.seen }
         ensures count { result ≡ length (batch self.new.seen) }
         ensures open { ¬ IsShut self.new.seen }
@@ -85,6 +86,7 @@ impl Owner {
         requires unclosed { ¬ IsClosed self.old.seen }
         ensures seen { Sees (Close ∷ []) 0 self.old self.new }
         ensures unqueued { accepted (own self.new.number self.new.seen) ≡ accepted (own self.old.number self.old.seen) }
+        ensures executions { (begun self.new.seen ≡ begun self.old.seen) × (ended self.new.seen ≡ ended self.old.seen) }
         ensures takes { TakesAll Close result self.new.seen }
         ensures behind { IsPrefix (batch self.old.seen) (batch self.new.seen) }
         ensures count { length (batch self.new.seen) ≡ length (batch self.old.seen) + result }
@@ -102,6 +104,7 @@ impl Owner {
         requires open { ¬ IsShut self.old.seen }
         ensures seen { Sees (Drain ∷ []) 0 self.old self.new }
         ensures unqueued { accepted (own self.new.number self.new.seen) ≡ accepted (own self.old.number self.old.seen) }
+        ensures executions { (begun self.new.seen ≡ begun self.old.seen) × (ended self.new.seen ≡ ended self.old.seen) }
         ensures takes { TakesAll Drain result self.new.seen }
         ensures behind { IsPrefix (batch self.old.seen) (batch self.new.seen) }
         ensures count { length (batch self.new.seen) ≡ length (batch self.old.seen) + result }
@@ -121,6 +124,7 @@ impl Owner {
         requires idle { ¬ IsRunning self.old.seen }
         ensures seen { Sees (Resume ∷ []) 0 self.old self.new }
         ensures unqueued { accepted (own self.new.number self.new.seen) ≡ accepted (own self.old.number self.old.seen) }
+        ensures executions { (begun self.new.seen ≡ begun self.old.seen) × (ended self.new.seen ≡ ended self.old.seen) }
         ensures open { ¬ IsShut self.new.seen }
         ensures unclosed { ¬ IsClosed self.new.seen }
         ensures empty { batch self.new.seen ≡ [] }
@@ -151,6 +155,7 @@ impl Owner {
         ensures next { next_of self.old.seen ≡ Some result }
         ensures seen { Sees (Begin result ∷ []) 0 self.old self.new }
         ensures unqueued { accepted (own self.new.number self.new.seen) ≡ accepted (own self.old.number self.old.seen) }
+        ensures executions { (begun self.new.seen ≡ begun self.old.seen ++ result ∷ []) × (ended self.new.seen ≡ ended self.old.seen) }
         ensures batch { batch self.old.seen ≡ result ∷ batch self.new.seen }
         ensures runs { IsRunning self.new.seen }
         ensures running { running self.new.seen ≡ Some result }
@@ -167,6 +172,7 @@ impl Owner {
         requires runs { IsRunning self.old.seen }
         ensures seen { (k : ℕ) → running self.old.seen ≡ Some k → Sees (End k ∷ []) 0 self.old self.new }
         ensures unqueued { accepted (own self.new.number self.new.seen) ≡ accepted (own self.old.number self.old.seen) }
+        ensures executions { (begun self.new.seen ≡ begun self.old.seen) × ((k : ℕ) → running self.old.seen ≡ Some k → ended self.new.seen ≡ ended self.old.seen ++ k ∷ []) }
         ensures same { IsSame self.old self.new }
         ensures batch { batch self.new.seen ≡ batch self.old.seen }
         ensures idle { ¬ IsRunning self.new.seen }
@@ -192,6 +198,7 @@ impl Owner {
         requires idle { ¬ IsRunning self.old.seen }
         ensures seen { Rests result self.old self.new }
         ensures unqueued { accepted (own self.new.number self.new.seen) ≡ accepted (own self.old.number self.old.seen) }
+        ensures executions { (begun self.new.seen ≡ begun self.old.seen) × (ended self.new.seen ≡ ended self.old.seen) }
         ensures rested { IsTrue result → HasRested self.new.seen }
         ensures refused { result ≡ false → MayNotRest self.new.seen }
         ensures same { IsSame self.old self.new }
@@ -212,6 +219,8 @@ impl Owner {
         ensures answer { Chains item result self.old self.new }
         ensures same { IsSame self.old self.new }
         ensures batch { batch self.new.seen ≡ batch self.old.seen ++ queued_number item result }
+        ensures executions { (begun self.new.seen ≡ begun self.old.seen) × (ended self.new.seen ≡ ended self.old.seen) }
+        ensures running { running self.new.seen ≡ running self.old.seen }
         ensures shut { IsShut self.new.seen }
         ensures closed { IsClosed self.old.seen → IsClosed self.new.seen }
         ensures unclosed { ¬ IsClosed self.old.seen → ¬ IsClosed self.new.seen }

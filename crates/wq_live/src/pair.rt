@@ -13,7 +13,7 @@ ghost use Rattle.wq_live.specs.Answers.{Answers, Chains, IsContended};
 ghost use Rattle.wq_live.specs.Batch.{batch, next_of, TakesAll};
 ghost use Rattle.wq_live.specs.Counts.{owner_counts, sender_counts};
 ghost use Rattle.wq_live.specs.Rest.{Rests, HasRested, MayNotRest};
-ghost use Rattle.wq_live.specs.Laws.{queued_number};
+ghost use Rattle.wq_live.specs.Laws.{queued_number, IsStillOwned};
 ghost use Rattle.wq_live.specs.Pairs.{pair_owner, pair_sender};
 
 use crate::bare::Bare;
@@ -53,6 +53,7 @@ impl Pair {
         requires one { sender.queue ≡ owner.queue }
         ensures owner { Sees [] 0 owner (pair_owner result) }
         ensures sender { Sees [] 0 sender (pair_sender result) }
+        ensures owned { IsStillOwned owner.seen result.seen }
         ensures low { result.number < result.layout.senders }
     {
         let Owner { seat } = owner;
@@ -172,6 +173,7 @@ impl Pair {
         requires empty { batch self.old.seen ≡ [] }
         ensures seen { Sees (Take ∷ []) 0 (pair_owner self.old) (pair_owner self.new) }
         ensures unqueued { accepted (own owner_seat self.new.seen) ≡ accepted (own owner_seat self.old.seen) }
+        ensures executions { (begun self.new.seen ≡ begun self.old.seen) × (ended self.new.seen ≡ ended self.old.seen) }
         ensures takes { TakesAll Take result self.new.seen }
         ensures count { result ≡ length (batch self.new.seen) }
         ensures open { ¬ IsShut self.new.seen }
@@ -188,6 +190,7 @@ impl Pair {
         requires unclosed { ¬ IsClosed self.old.seen }
         ensures seen { Sees (Close ∷ []) 0 (pair_owner self.old) (pair_owner self.new) }
         ensures unqueued { accepted (own owner_seat self.new.seen) ≡ accepted (own owner_seat self.old.seen) }
+        ensures executions { (begun self.new.seen ≡ begun self.old.seen) × (ended self.new.seen ≡ ended self.old.seen) }
         ensures takes { TakesAll Close result self.new.seen }
         ensures behind { IsPrefix (batch self.old.seen) (batch self.new.seen) }
         ensures count { length (batch self.new.seen) ≡ length (batch self.old.seen) + result }
@@ -205,6 +208,7 @@ impl Pair {
         requires open { ¬ IsShut self.old.seen }
         ensures seen { Sees (Drain ∷ []) 0 (pair_owner self.old) (pair_owner self.new) }
         ensures unqueued { accepted (own owner_seat self.new.seen) ≡ accepted (own owner_seat self.old.seen) }
+        ensures executions { (begun self.new.seen ≡ begun self.old.seen) × (ended self.new.seen ≡ ended self.old.seen) }
         ensures takes { TakesAll Drain result self.new.seen }
         ensures behind { IsPrefix (batch self.old.seen) (batch self.new.seen) }
         ensures count { length (batch self.new.seen) ≡ length (batch self.old.seen) + result }
@@ -225,6 +229,7 @@ impl Pair {
         requires idle { ¬ IsRunning self.old.seen }
         ensures seen { Sees (Resume ∷ []) 0 (pair_owner self.old) (pair_owner self.new) }
         ensures unqueued { accepted (own owner_seat self.new.seen) ≡ accepted (own owner_seat self.old.seen) }
+        ensures executions { (begun self.new.seen ≡ begun self.old.seen) × (ended self.new.seen ≡ ended self.old.seen) }
         ensures open { ¬ IsShut self.new.seen }
         ensures unclosed { ¬ IsClosed self.new.seen }
         ensures empty { batch self.new.seen ≡ [] }
@@ -256,6 +261,7 @@ impl Pair {
         ensures next { next_of self.old.seen ≡ Some result }
         ensures seen { Sees (Begin result ∷ []) 0 (pair_owner self.old) (pair_owner self.new) }
         ensures unqueued { accepted (own owner_seat self.new.seen) ≡ accepted (own owner_seat self.old.seen) }
+        ensures executions { (begun self.new.seen ≡ begun self.old.seen ++ result ∷ []) × (ended self.new.seen ≡ ended self.old.seen) }
         ensures batch { batch self.old.seen ≡ result ∷ batch self.new.seen }
         ensures runs { IsRunning self.new.seen }
         ensures running { running self.new.seen ≡ Some result }
@@ -273,6 +279,7 @@ impl Pair {
         requires runs { IsRunning self.old.seen }
         ensures seen { (k : ℕ) → running self.old.seen ≡ Some k → Sees (End k ∷ []) 0 (pair_owner self.old) (pair_owner self.new) }
         ensures unqueued { accepted (own owner_seat self.new.seen) ≡ accepted (own owner_seat self.old.seen) }
+        ensures executions { (begun self.new.seen ≡ begun self.old.seen) × ((k : ℕ) → running self.old.seen ≡ Some k → ended self.new.seen ≡ ended self.old.seen ++ k ∷ []) }
         ensures batch { batch self.new.seen ≡ batch self.old.seen }
         ensures idle { ¬ IsRunning self.new.seen }
         ensures shut { IsShut self.old.seen → IsShut self.new.seen }
@@ -291,6 +298,7 @@ impl Pair {
         requires idle { ¬ IsRunning self.old.seen }
         ensures seen { Rests result (pair_owner self.old) (pair_owner self.new) }
         ensures unqueued { accepted (own owner_seat self.new.seen) ≡ accepted (own owner_seat self.old.seen) }
+        ensures executions { (begun self.new.seen ≡ begun self.old.seen) × (ended self.new.seen ≡ ended self.old.seen) }
         ensures rested { IsTrue result → HasRested self.new.seen }
         ensures refused { result ≡ false → MayNotRest self.new.seen }
         ensures open { ¬ IsShut self.new.seen }
@@ -309,6 +317,8 @@ impl Pair {
         requires runs { IsRunning self.old.seen }
         ensures answer { Chains item result (pair_owner self.old) (pair_owner self.new) }
         ensures batch { batch self.new.seen ≡ batch self.old.seen ++ queued_number item result }
+        ensures executions { (begun self.new.seen ≡ begun self.old.seen) × (ended self.new.seen ≡ ended self.old.seen) }
+        ensures running { running self.new.seen ≡ running self.old.seen }
         ensures shut { IsShut self.new.seen }
         ensures closed { IsClosed self.old.seen → IsClosed self.new.seen }
         ensures unclosed { ¬ IsClosed self.old.seen → ¬ IsClosed self.new.seen }
@@ -325,6 +335,7 @@ impl Pair {
         ensures answer { Answers item tries result (pair_sender self.old) (pair_sender self.new) }
         ensures contended { result ≡ Contended → IsContended self.old.number item tries self.new.seen }
         ensures others { Sees [] 0 (pair_owner self.old) (pair_owner self.new) }
+        ensures owned { IsStillOwned self.old.seen self.new.seen }
     {
         queue_number::<Bare, Second>(&mut self.seat.chair, &mut self.sent, item, tries)
     }
@@ -334,6 +345,7 @@ impl Pair {
         requires one { sender.old.queue ≡ self.old.queue }
         ensures owner { Sees [] 0 (pair_owner self.old) (pair_owner self.new) }
         ensures sender { Sees [] 0 (pair_sender self.old) (pair_sender self.new) }
+        ensures owned { IsStillOwned self.old.seen self.new.seen }
         ensures that { Sees [] 0 sender.old sender.new }
         ensures layout { sender.old.layout ≡ self.old.layout }
         ensures both { sender.new.seen ≡ self.new.seen }

@@ -2,7 +2,8 @@
 ghost use Rattle.std.specs.Prelude.{◌≡◌, ◌≢◌, ℕ, ◌<◌, not, [], ◌∷◌, IsTrue};
 ghost use Rattle.wq_words.specs.declared.event.Event.TheVariants.{Back};
 ghost use Rattle.wq_words.specs.declared.event.Why.TheVariants as why;
-ghost use Rattle.wq_words.specs.History.{pending, Holds, accepted};
+ghost use mathlib.Core.List.{IsPrefix};
+ghost use Rattle.wq_words.specs.History.{pending, Holds, accepted, ended};
 ghost use Rattle.wq_words.specs.Numbers.{barrier_number, stop_number, number_count};
 ghost use Rattle.wq_words.specs.Legal.{IsLegal, IsComplete};
 ghost use Rattle.wq_words.specs.Headline.{KeepsHeadline};
@@ -12,7 +13,7 @@ ghost use Rattle.wq_words.specs.declared.answer.Posted.TheVariants as posted;
 ghost use Rattle.wq_live.specs.Known.{IsSame, Sees};
 ghost use Rattle.wq_live.specs.Answers.{TestsAndSets, Answers, Posts, IsContended, HasFlushed};
 ghost use Rattle.wq_live.specs.Counts.{sender_counts};
-ghost use Rattle.wq_live.specs.Laws.{IsStillEnd};
+ghost use Rattle.wq_live.specs.Laws.{IsStillEnd, IsStillOwned};
 
 use crate::bare::Bare;
 use crate::counts::SenderCounts;
@@ -115,6 +116,8 @@ impl Sender {
         ensures unqueued { accepted (own self.new.number self.new.seen) ≡ accepted (own self.old.number self.old.seen) }
         ensures same { IsSame self.old self.new }
         ensures keeps { (k : ℕ) → k ≢ item → Holds self.old.seen self.old.number k → Holds self.new.seen self.new.number k }
+        ensures gone { ¬ Holds self.new.seen self.new.number item }
+        ensures unheld { (k : ℕ) → ¬ Holds self.old.seen self.old.number k → ¬ Holds self.new.seen self.new.number k }
     {
         self.chair.back_cancelled::<First>(item);
     }
@@ -138,6 +141,7 @@ impl Sender {
     fn queue_number(&mut self, number: u32, tries: u32) -> Answer
         requires number { number < number_count self.old.layout }
         ensures answer { Answers number tries result self.old self.new }
+        ensures keeps { (k : ℕ) → Holds self.old.seen self.old.number k → Holds self.new.seen self.new.number k }
         ensures contended { result ≡ Contended → IsContended self.old.number number tries self.new.seen }
     {
         queue_number::<Bare, First>(&mut self.chair, &mut self.sent, number, tries)
@@ -147,6 +151,7 @@ impl Sender {
     fn queue_waiting<R: Wait>(&mut self, rt: &R, number: u32) -> Answer
         requires number { number < number_count self.old.layout }
         ensures answer { Answers number 0 result self.old self.new }
+        ensures keeps { (k : ℕ) → Holds self.old.seen self.old.number k → Holds self.new.seen self.new.number k }
         ensures settled { result ≢ Contended }
     {
         queue_waiting::<R, Bare, First>(rt, &mut self.chair, &mut self.sent, number)
@@ -157,9 +162,11 @@ impl Sender {
     pub fn hold(&mut self, item: u32) -> bool
         requires item { item < self.old.layout.items }
         ensures seen { TestsAndSets item result self.old self.new }
+        ensures unqueued { accepted (own self.new.number self.new.seen) ≡ accepted (own self.old.number self.old.seen) }
         ensures same { IsSame self.old self.new }
         ensures held { IsTrue result → Holds self.new.seen self.new.number item }
         ensures keeps { (k : ℕ) → Holds self.old.seen self.old.number k → Holds self.new.seen self.new.number k }
+        ensures unheld { (k : ℕ) → (IsTrue result → k ≢ item) → ¬ Holds self.old.seen self.old.number k → ¬ Holds self.new.seen self.new.number k }
     {
         self.hold_number(item)
     }
@@ -175,7 +182,9 @@ impl Sender {
         ensures same { IsSame self.old self.new }
         ensures held { result ≡ posted.Contended → Holds self.new.seen self.new.number item }
         ensures still_held { result ≡ posted.Draining → Holds self.new.seen self.new.number item }
+        ensures gone { result ≢ posted.Contended → result ≢ posted.Draining → ¬ Holds self.new.seen self.new.number item }
         ensures keeps { (k : ℕ) → k ≢ item → Holds self.old.seen self.old.number k → Holds self.new.seen self.new.number k }
+        ensures unheld { (k : ℕ) → ¬ Holds self.old.seen self.old.number k → ¬ Holds self.new.seen self.new.number k }
     {
         self.push_tries(item, tries)
     }
@@ -188,6 +197,7 @@ impl Sender {
         ensures answer { Answers item tries result self.old self.new }
         ensures contended { result ≡ Contended → IsContended self.old.number item tries self.new.seen }
         ensures same { IsSame self.old self.new }
+        ensures keeps { (k : ℕ) → Holds self.old.seen self.old.number k → Holds self.new.seen self.new.number k }
     {
         self.queue_number(item, tries)
     }
@@ -197,6 +207,7 @@ impl Sender {
         requires item { item < self.old.layout.items }
         ensures answer { Answers item 0 result self.old self.new }
         ensures same { IsSame self.old self.new }
+        ensures keeps { (k : ℕ) → Holds self.old.seen self.old.number k → Holds self.new.seen self.new.number k }
         ensures settled { result ≢ Contended }
     {
         self.queue_waiting(rt, item)
@@ -220,6 +231,7 @@ impl Sender {
         ensures answer { Answers (barrier_number self.old.layout barrier) tries result self.old self.new }
         ensures contended { result ≡ Contended → IsContended self.old.number (barrier_number self.old.layout barrier) tries self.new.seen }
         ensures same { IsSame self.old self.new }
+        ensures keeps { (k : ℕ) → Holds self.old.seen self.old.number k → Holds self.new.seen self.new.number k }
     {
         let number = self.sent.layout.barrier(barrier);
         self.queue_number(number, tries)
@@ -229,6 +241,7 @@ impl Sender {
     pub fn flush_done(&mut self, barrier: u32) -> bool
         requires barrier { barrier < self.old.layout.barriers }
         ensures seen { Sees [] 0 self.old self.new }
+        ensures keeps { (k : ℕ) → Holds self.old.seen self.old.number k → Holds self.new.seen self.new.number k }
         ensures clear { result ≡ not (pending self.new.seen (barrier_number self.old.layout barrier)) }
         ensures flushed { IsTrue result → HasFlushed (barrier_number self.old.layout barrier) self.new.seen }
     {
@@ -246,8 +259,10 @@ impl Sender {
         requires barrier { barrier < self.old.layout.barriers }
         ensures answer { Answers (barrier_number self.old.layout barrier) 0 result self.old self.new }
         ensures same { IsSame self.old self.new }
+        ensures keeps { (k : ℕ) → Holds self.old.seen self.old.number k → Holds self.new.seen self.new.number k }
         ensures settled { result ≢ Contended }
         ensures flushed { (first wakes : _) → result ≡ Queued first wakes → HasFlushed (barrier_number self.old.layout barrier) self.new.seen }
+        ensures all { (first wakes : _) → result ≡ Queued first wakes → IsPrefix (accepted self.old.seen) (ended self.new.seen) }
     {
         let number = self.sent.layout.barrier(barrier);
         match self.queue_waiting(rt, number) {
@@ -271,6 +286,7 @@ impl Sender {
         ensures answer { Answers (stop_number self.old.layout) tries result self.old self.new }
         ensures contended { result ≡ Contended → IsContended self.old.number (stop_number self.old.layout) tries self.new.seen }
         ensures same { IsSame self.old self.new }
+        ensures keeps { (k : ℕ) → Holds self.old.seen self.old.number k → Holds self.new.seen self.new.number k }
     {
         let stop = self.sent.layout.stop();
         self.queue_number(stop, tries)
@@ -280,6 +296,7 @@ impl Sender {
     pub fn meet(&mut self, other: &mut Sender)
         requires { self.old.queue ≡ other.old.queue }
         ensures this { Sees [] 0 self.old self.new }
+        ensures keeps { (k : ℕ) → Holds self.old.seen self.old.number k → Holds self.new.seen self.new.number k }
         ensures that { Sees [] 0 other.old other.new }
         ensures both { other.new.seen ≡ self.new.seen }
         ensures layout { other.old.layout ≡ self.old.layout }
@@ -291,7 +308,9 @@ impl Sender {
     pub fn meet_owner(&mut self, owner: &mut Owner)
         requires { self.old.queue ≡ owner.old.queue }
         ensures this { Sees [] 0 self.old self.new }
+        ensures keeps { (k : ℕ) → Holds self.old.seen self.old.number k → Holds self.new.seen self.new.number k }
         ensures that { Sees [] 0 owner.old owner.new }
+        ensures owned { IsStillOwned owner.old.seen owner.new.seen }
         ensures both { owner.new.seen ≡ self.new.seen }
         ensures layout { owner.old.layout ≡ self.old.layout }
         ensures number { self.old.number < self.old.layout.senders }
@@ -306,8 +325,10 @@ impl Sender {
         requires sender { self.old.queue ≡ other.old.queue }
         requires owner { self.old.queue ≡ owner.old.queue }
         ensures this { Sees [] 0 self.old self.new }
+        ensures keeps { (k : ℕ) → Holds self.old.seen self.old.number k → Holds self.new.seen self.new.number k }
         ensures that { Sees [] 0 other.old other.new }
         ensures owners { Sees [] 0 owner.old owner.new }
+        ensures owned { IsStillOwned owner.old.seen owner.new.seen }
         ensures all { (other.new.seen ≡ self.new.seen) × (owner.new.seen ≡ self.new.seen) }
         ensures layout { (other.old.layout ≡ self.old.layout) × (owner.old.layout ≡ self.old.layout) }
         ensures last { IsComplete owner.old.seen → IsStillEnd owner.old.seen owner.new.seen }

@@ -75,6 +75,7 @@ impl<V: Drop> ValueOwner<V> {
         requires empty { batch self.old.known.seen ≡ [] }
         ensures seen { Sees (Take ∷ []) 0 self.old.known self.new.known }
         ensures unqueued { accepted (own self.new.known.number self.new.known.seen) ≡ accepted (own self.old.known.number self.old.known.seen) }
+        ensures executions { (begun self.new.known.seen ≡ begun self.old.known.seen) × (ended self.new.known.seen ≡ ended self.old.known.seen) }
         ensures learnt { Learnt self.old self.new }
         ensures handed { handed_in self.new ≡ handed_in self.old }
         ensures takes { TakesAll Take result self.new.known.seen }
@@ -93,6 +94,7 @@ impl<V: Drop> ValueOwner<V> {
         requires unclosed { ¬ IsClosed self.old.known.seen }
         ensures seen { Sees (Close ∷ []) 0 self.old.known self.new.known }
         ensures unqueued { accepted (own self.new.known.number self.new.known.seen) ≡ accepted (own self.old.known.number self.old.known.seen) }
+        ensures executions { (begun self.new.known.seen ≡ begun self.old.known.seen) × (ended self.new.known.seen ≡ ended self.old.known.seen) }
         ensures learnt { Learnt self.old self.new }
         ensures handed { handed_in self.new ≡ handed_in self.old }
         ensures takes { TakesAll Close result self.new.known.seen }
@@ -112,6 +114,7 @@ impl<V: Drop> ValueOwner<V> {
         requires open { ¬ IsShut self.old.known.seen }
         ensures seen { Sees (Drain ∷ []) 0 self.old.known self.new.known }
         ensures unqueued { accepted (own self.new.known.number self.new.known.seen) ≡ accepted (own self.old.known.number self.old.known.seen) }
+        ensures executions { (begun self.new.known.seen ≡ begun self.old.known.seen) × (ended self.new.known.seen ≡ ended self.old.known.seen) }
         ensures learnt { Learnt self.old self.new }
         ensures handed { handed_in self.new ≡ handed_in self.old }
         ensures takes { TakesAll Drain result self.new.known.seen }
@@ -133,6 +136,7 @@ impl<V: Drop> ValueOwner<V> {
         requires idle { ¬ IsRunning self.old.known.seen }
         ensures seen { Sees (Resume ∷ []) 0 self.old.known self.new.known }
         ensures unqueued { accepted (own self.new.known.number self.new.known.seen) ≡ accepted (own self.old.known.number self.old.known.seen) }
+        ensures executions { (begun self.new.known.seen ≡ begun self.old.known.seen) × (ended self.new.known.seen ≡ ended self.old.known.seen) }
         ensures learnt { Learnt self.old self.new }
         ensures handed { handed_in self.new ≡ handed_in self.old }
         ensures open { ¬ IsShut self.new.known.seen }
@@ -166,6 +170,7 @@ impl<V: Drop> ValueOwner<V> {
         ensures next { next_of self.old.known.seen ≡ Some result.0 }
         ensures seen { Sees (Begin result.0 ∷ []) 0 self.old.known self.new.known }
         ensures unqueued { accepted (own self.new.known.number self.new.known.seen) ≡ accepted (own self.old.known.number self.old.known.seen) }
+        ensures executions { (begun self.new.known.seen ≡ begun self.old.known.seen ++ result.0 ∷ []) × (ended self.new.known.seen ≡ ended self.old.known.seen) }
         ensures learnt { Learnt self.old self.new }
         ensures handed { handed_in self.new ≡ handed_in self.old ++ result.1 ∷ [] }
         ensures batch { batch self.old.known.seen ≡ result.0 ∷ batch self.new.known.seen }
@@ -186,6 +191,7 @@ impl<V: Drop> ValueOwner<V> {
         requires runs { IsRunning self.old.known.seen }
         ensures seen { (k : ℕ) → running self.old.known.seen ≡ Some k → Sees (End k ∷ []) 0 self.old.known self.new.known }
         ensures unqueued { accepted (own self.new.known.number self.new.known.seen) ≡ accepted (own self.old.known.number self.old.known.seen) }
+        ensures executions { (begun self.new.known.seen ≡ begun self.old.known.seen) × ((k : ℕ) → running self.old.known.seen ≡ Some k → ended self.new.known.seen ≡ ended self.old.known.seen ++ k ∷ []) }
         ensures learnt { Learnt self.old self.new }
         ensures handed { handed_in self.new ≡ handed_in self.old }
         ensures same { IsSame self.old.known self.new.known }
@@ -213,6 +219,7 @@ impl<V: Drop> ValueOwner<V> {
         requires idle { ¬ IsRunning self.old.known.seen }
         ensures seen { Rests result self.old.known self.new.known }
         ensures unqueued { accepted (own self.new.known.number self.new.known.seen) ≡ accepted (own self.old.known.number self.old.known.seen) }
+        ensures executions { (begun self.new.known.seen ≡ begun self.old.known.seen) × (ended self.new.known.seen ≡ ended self.old.known.seen) }
         ensures learnt { Learnt self.old self.new }
         ensures handed { handed_in self.new ≡ handed_in self.old }
         ensures rested { IsTrue result → HasRested self.new.known.seen }
@@ -238,6 +245,8 @@ impl<V: Drop> ValueOwner<V> {
         ensures value { ChainsOrReturns item value result self.new }
         ensures same { IsSame self.old.known self.new.known }
         ensures batch { batch self.new.known.seen ≡ batch self.old.known.seen ++ queued_number item (answer_of result) }
+        ensures executions { (begun self.new.known.seen ≡ begun self.old.known.seen) × (ended self.new.known.seen ≡ ended self.old.known.seen) }
+        ensures running { running self.new.known.seen ≡ running self.old.known.seen }
         ensures shut { IsShut self.new.known.seen }
         ensures closed { IsClosed self.old.known.seen → IsClosed self.new.known.seen }
         ensures unclosed { ¬ IsClosed self.old.known.seen → ¬ IsClosed self.new.known.seen }

@@ -14,7 +14,7 @@ ghost use Rattle.wq_live.specs.Answers.{Answers, Chains, IsContended};
 ghost use Rattle.wq_live.specs.Batch.{batch, next_of, TakesAll};
 ghost use Rattle.wq_live.specs.Counts.{owner_counts, sender_counts};
 ghost use Rattle.wq_live.specs.Rest.{Rests, HasRested, MayNotRest};
-ghost use Rattle.wq_live.specs.Laws.{queued_number};
+ghost use Rattle.wq_live.specs.Laws.{queued_number, IsStillOwned};
 ghost use Rattle.wq_live.specs.KnownWith.{Learnt, handed_in, answer_of, BringsOrReturns, ChainsOrReturns, MatchesAccepted};
 ghost use Rattle.wq_live.specs.Pairs.{pair_owner, pair_sender};
 ghost use Rattle.wq_live.specs.ValuePairs.{owner_of, sender_of};
@@ -57,6 +57,7 @@ impl<V: Drop> ValuePair<V> {
         requires one { sender.known.queue ≡ owner.known.queue }
         ensures owner { Sees [] 0 owner.known (pair_owner result.known) }
         ensures sender { Sees [] 0 sender.known (pair_sender result.known) }
+        ensures owned { IsStillOwned owner.known.seen result.known.seen }
         ensures learnt { Learnt owner (owner_of result) × Learnt sender (sender_of result) }
         ensures handed { handed_in (owner_of result) ≡ handed_in owner }
         ensures low { result.known.number < result.known.layout.senders }
@@ -182,6 +183,7 @@ impl<V: Drop> ValuePair<V> {
         requires empty { batch self.old.known.seen ≡ [] }
         ensures seen { Sees (Take ∷ []) 0 (pair_owner self.old.known) (pair_owner self.new.known) }
         ensures unqueued { accepted (own owner_seat self.new.known.seen) ≡ accepted (own owner_seat self.old.known.seen) }
+        ensures executions { (begun self.new.known.seen ≡ begun self.old.known.seen) × (ended self.new.known.seen ≡ ended self.old.known.seen) }
         ensures learnt { Learnt (owner_of self.old) (owner_of self.new) }
         ensures handed { handed_in (owner_of self.new) ≡ handed_in (owner_of self.old) }
         ensures takes { TakesAll Take result self.new.known.seen }
@@ -200,6 +202,7 @@ impl<V: Drop> ValuePair<V> {
         requires unclosed { ¬ IsClosed self.old.known.seen }
         ensures seen { Sees (Close ∷ []) 0 (pair_owner self.old.known) (pair_owner self.new.known) }
         ensures unqueued { accepted (own owner_seat self.new.known.seen) ≡ accepted (own owner_seat self.old.known.seen) }
+        ensures executions { (begun self.new.known.seen ≡ begun self.old.known.seen) × (ended self.new.known.seen ≡ ended self.old.known.seen) }
         ensures learnt { Learnt (owner_of self.old) (owner_of self.new) }
         ensures handed { handed_in (owner_of self.new) ≡ handed_in (owner_of self.old) }
         ensures takes { TakesAll Close result self.new.known.seen }
@@ -219,6 +222,7 @@ impl<V: Drop> ValuePair<V> {
         requires open { ¬ IsShut self.old.known.seen }
         ensures seen { Sees (Drain ∷ []) 0 (pair_owner self.old.known) (pair_owner self.new.known) }
         ensures unqueued { accepted (own owner_seat self.new.known.seen) ≡ accepted (own owner_seat self.old.known.seen) }
+        ensures executions { (begun self.new.known.seen ≡ begun self.old.known.seen) × (ended self.new.known.seen ≡ ended self.old.known.seen) }
         ensures learnt { Learnt (owner_of self.old) (owner_of self.new) }
         ensures handed { handed_in (owner_of self.new) ≡ handed_in (owner_of self.old) }
         ensures takes { TakesAll Drain result self.new.known.seen }
@@ -241,6 +245,7 @@ impl<V: Drop> ValuePair<V> {
         requires idle { ¬ IsRunning self.old.known.seen }
         ensures seen { Sees (Resume ∷ []) 0 (pair_owner self.old.known) (pair_owner self.new.known) }
         ensures unqueued { accepted (own owner_seat self.new.known.seen) ≡ accepted (own owner_seat self.old.known.seen) }
+        ensures executions { (begun self.new.known.seen ≡ begun self.old.known.seen) × (ended self.new.known.seen ≡ ended self.old.known.seen) }
         ensures learnt { Learnt (owner_of self.old) (owner_of self.new) }
         ensures handed { handed_in (owner_of self.new) ≡ handed_in (owner_of self.old) }
         ensures open { ¬ IsShut self.new.known.seen }
@@ -274,6 +279,7 @@ impl<V: Drop> ValuePair<V> {
         ensures next { next_of self.old.known.seen ≡ Some result.0 }
         ensures seen { Sees (Begin result.0 ∷ []) 0 (pair_owner self.old.known) (pair_owner self.new.known) }
         ensures unqueued { accepted (own owner_seat self.new.known.seen) ≡ accepted (own owner_seat self.old.known.seen) }
+        ensures executions { (begun self.new.known.seen ≡ begun self.old.known.seen ++ result.0 ∷ []) × (ended self.new.known.seen ≡ ended self.old.known.seen) }
         ensures learnt { Learnt (owner_of self.old) (owner_of self.new) }
         ensures handed { handed_in (owner_of self.new) ≡ handed_in (owner_of self.old) ++ result.1 ∷ [] }
         ensures batch { batch self.old.known.seen ≡ result.0 ∷ batch self.new.known.seen }
@@ -295,6 +301,7 @@ impl<V: Drop> ValuePair<V> {
         requires runs { IsRunning self.old.known.seen }
         ensures seen { (k : ℕ) → running self.old.known.seen ≡ Some k → Sees (End k ∷ []) 0 (pair_owner self.old.known) (pair_owner self.new.known) }
         ensures unqueued { accepted (own owner_seat self.new.known.seen) ≡ accepted (own owner_seat self.old.known.seen) }
+        ensures executions { (begun self.new.known.seen ≡ begun self.old.known.seen) × ((k : ℕ) → running self.old.known.seen ≡ Some k → ended self.new.known.seen ≡ ended self.old.known.seen ++ k ∷ []) }
         ensures learnt { Learnt (owner_of self.old) (owner_of self.new) }
         ensures handed { handed_in (owner_of self.new) ≡ handed_in (owner_of self.old) }
         ensures batch { batch self.new.known.seen ≡ batch self.old.known.seen }
@@ -315,6 +322,7 @@ impl<V: Drop> ValuePair<V> {
         requires idle { ¬ IsRunning self.old.known.seen }
         ensures seen { Rests result (pair_owner self.old.known) (pair_owner self.new.known) }
         ensures unqueued { accepted (own owner_seat self.new.known.seen) ≡ accepted (own owner_seat self.old.known.seen) }
+        ensures executions { (begun self.new.known.seen ≡ begun self.old.known.seen) × (ended self.new.known.seen ≡ ended self.old.known.seen) }
         ensures learnt { Learnt (owner_of self.old) (owner_of self.new) }
         ensures handed { handed_in (owner_of self.new) ≡ handed_in (owner_of self.old) }
         ensures rested { IsTrue result → HasRested self.new.known.seen }
@@ -338,6 +346,8 @@ impl<V: Drop> ValuePair<V> {
         ensures learnt { Learnt (owner_of self.old) (owner_of self.new) }
         ensures handed { handed_in (owner_of self.new) ≡ handed_in (owner_of self.old) }
         ensures batch { batch self.new.known.seen ≡ batch self.old.known.seen ++ queued_number item (answer_of result) }
+        ensures executions { (begun self.new.known.seen ≡ begun self.old.known.seen) × (ended self.new.known.seen ≡ ended self.old.known.seen) }
+        ensures running { running self.new.known.seen ≡ running self.old.known.seen }
         ensures shut { IsShut self.new.known.seen }
         ensures closed { IsClosed self.old.known.seen → IsClosed self.new.known.seen }
         ensures unclosed { ¬ IsClosed self.old.known.seen → ¬ IsClosed self.new.known.seen }
@@ -357,6 +367,7 @@ impl<V: Drop> ValuePair<V> {
         ensures handed { handed_in (owner_of self.new) ≡ handed_in (owner_of self.old) }
         ensures contended { answer_of result ≡ Contended → IsContended self.old.known.number item tries self.new.known.seen }
         ensures others { Sees [] 0 (pair_owner self.old.known) (pair_owner self.new.known) }
+        ensures owned { IsStillOwned self.old.known.seen self.new.known.seen }
     {
         queue_value::<V, Second>(&mut self.seat.chair, &mut self.sent, item, value, tries)
     }
@@ -366,6 +377,7 @@ impl<V: Drop> ValuePair<V> {
         requires one { sender.old.known.queue ≡ self.old.known.queue }
         ensures owner { Sees [] 0 (pair_owner self.old.known) (pair_owner self.new.known) }
         ensures sender { Sees [] 0 (pair_sender self.old.known) (pair_sender self.new.known) }
+        ensures owned { IsStillOwned self.old.known.seen self.new.known.seen }
         ensures that { Sees [] 0 sender.old.known sender.new.known }
         ensures layout { sender.old.known.layout ≡ self.old.known.layout }
         ensures both { sender.new.known.seen ≡ self.new.known.seen }

@@ -9,6 +9,9 @@ use Rattle.wq_live.proofs.Resting.{shut_stays, open_stays, unclosed_stays, accep
 use Rattle.wq_live.proofs.Hanging.{first_of_row, first_known, begun_row}
 use Rattle.wq_live.proofs.OwnerTells.{makes_stands, stands_batch, to_begin, begin_tells, begin_stage, owner_batch, owner_idle, owner_grows, owner_sees}
 use Rattle.wq_live.proofs.OwnerHands.{begin_slots, emptied_batch}
+use Rattle.wq_live.proofs.OwnerStays.{begun_grows, ended_grows}
+use Rattle.std.proofs.lemmas.List.{append-nil}
+use Rattle.wq_words.specs.History.{ended}
 use Rattle.wq_live.proofs.owner_seat.OwnerSeat.begin.Goals as goal
 
 some_length : (xs : List ℕ) → xs ≢ [] → 0 < length xs
@@ -85,6 +88,12 @@ returns-clause-seen g c = let s = owning c.args.self.now in let o = c.requires.o
 
 pub returns-clause-unqueued : goal.returns-clause-unqueued
 returns-clause-unqueued g c = accepted_still 0 (Begin c.args.self.now.row.front ∷ []) (owner_view (owning c.args.self.now)) _ (returns-clause-seen g c) refl
+
+pub returns-clause-executions : goal.returns-clause-executions
+returns-clause-executions g c = let k = c.args.self.now.row.front in let v = owner_view (owning c.args.self.now) in let sees = returns-clause-seen g c in (
+  begun_grows 0 (Begin k ∷ []) v _ refl sees,
+  ended_grows 0 (Begin k ∷ []) v _ refl sees ∙ append-nil (ended v.seen),
+)
 
 pub returns-clause-running : goal.returns-clause-running
 returns-clause-running g c = let s = owning c.args.self.now in let o = c.requires.owns in let e = c.without_first-self.ensures in let k = s.row.front in

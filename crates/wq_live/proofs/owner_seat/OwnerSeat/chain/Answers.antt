@@ -5,6 +5,7 @@ use Rattle.wq_live.proofs.Resting.{closed_stays, unclosed_stays, shut_stays, qui
 use Rattle.wq_live.proofs.OwnerTells.{makes_stands}
 use Rattle.wq_live.proofs.OwnerHands.{seat_slots, bare_slots}
 use Rattle.wq_live.proofs.Chained.{busy_owns, busy_sees, busy_batch, clear_behind, chained_owns, chained_sees, chained_batch}
+use Rattle.wq_live.proofs.OwnerStays.{still_executed, still_running}
 use Rattle.wq_live.proofs.owner_seat.OwnerSeat.chain.Goals as goal
 
 pub returns-then-chain-ne0 : goal.returns-then-chain-ne0
@@ -23,6 +24,8 @@ returns-then-chain-ne0 g c =
       answer = sees;
       same = sees.same;
       batch = same ∙ sym (append-nil (batch s.chair.part.seen));
+      executions = still_executed 0 (ChainBusy k ∷ []) (owner_view s) _ refl sees refl refl;
+      running = still_running 0 (ChainBusy k ∷ []) (owner_view s) _ refl sees refl refl;
       shut = shut_stays (ChainBusy k ∷ []) 0 (owner_view s) _ refl sees refl c.requires.shut;
       closed = closed_stays (ChainBusy k ∷ []) 0 (owner_view s) _ sees;
       unclosed = unclosed_stays (ChainBusy k ∷ []) 0 (owner_view s) _ refl sees refl;
@@ -55,6 +58,8 @@ returns g c = let s = owning c.args.self.now in let o = c.requires.owns.queue in
       answer = (refl, refl, sees);
       same = sees.same;
       batch = chained_batch k w s q o steps clear t e.follows e.stands e.has_row e.stage;
+      executions = still_executed 0 (Chain k ∷ []) (owner_view s) _ refl sees refl refl;
+      running = still_running 0 (Chain k ∷ []) (owner_view s) _ refl sees refl refl;
       shut = shut_stays (Chain k ∷ []) 0 (owner_view s) _ refl sees refl c.requires.shut;
       closed = closed_stays (Chain k ∷ []) 0 (owner_view s) _ sees;
       unclosed = unclosed_stays (Chain k ∷ []) 0 (owner_view s) _ refl sees refl;

@@ -6,6 +6,7 @@ use Rattle.wq_live.proofs.OwnerTells.{makes_stands}
 use Rattle.wq_live.proofs.OwnerHands.{seat_slots}
 use Rattle.wq_live.proofs.Chained.{busy_owns, busy_sees, busy_batch, clear_tells, clear_stage, clear_behind, chained_owns, chained_sees, chained_batch}
 use Rattle.wq_live.proofs.ValueHands.{busy_hand, hung_follows, hung_chained, hung_value, hung_learns}
+use Rattle.wq_live.proofs.OwnerStays.{still_executed, still_running}
 use Rattle.wq_live.proofs.owner_seat.OwnerSeat.chain_value.Goals as goal
 
 pub returns-then-chain_value-ne0 : goal.returns-then-chain_value-ne0
@@ -25,6 +26,8 @@ returns-then-chain_value-ne0 g c =
       value = refl;
       same = sees.same;
       batch = same ∙ sym (append-nil (batch s.chair.part.seen));
+      executions = still_executed 0 (ChainBusy k ∷ []) (owner_view s) _ refl sees refl refl;
+      running = still_running 0 (ChainBusy k ∷ []) (owner_view s) _ refl sees refl refl;
       shut = shut_stays (ChainBusy k ∷ []) 0 (owner_view s) _ refl sees refl c.requires.shut;
       closed = closed_stays (ChainBusy k ∷ []) 0 (owner_view s) _ sees;
       unclosed = unclosed_stays (ChainBusy k ∷ []) 0 (owner_view s) _ refl sees refl;
@@ -75,6 +78,8 @@ returns g c = let seat = c.args.self.now in let s = owning seat in let o = c.req
           exchanged turn new stands e.learns e.follows (owner_view t) refl;
       same = sees.same;
       batch = chained_batch k w s q o steps clear t follows e.stands e.has_row stays;
+      executions = still_executed 0 (Chain k ∷ []) (owner_view s) _ refl sees refl refl;
+      running = still_running 0 (Chain k ∷ []) (owner_view s) _ refl sees refl refl;
       shut = shut_stays (Chain k ∷ []) 0 (owner_view s) _ refl sees refl c.requires.shut;
       closed = closed_stays (Chain k ∷ []) 0 (owner_view s) _ sees;
       unclosed = unclosed_stays (Chain k ∷ []) 0 (owner_view s) _ refl sees refl;

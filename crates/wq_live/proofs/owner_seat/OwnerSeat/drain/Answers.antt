@@ -9,6 +9,7 @@ use Rattle.wq_live.proofs.Linking.{walks_row}
 use Rattle.wq_live.proofs.Taken.{drains_all}
 use Rattle.wq_live.proofs.Cutting.{cut_slots, cut_stage, cut_kept, cut_grows, cut_owns, cut_sees, cut_all, cut_behind, cut_count}
 use Rattle.wq_live.proofs.OwnerHands.{same_hand}
+use Rattle.wq_live.proofs.OwnerStays.{still_executed}
 use Rattle.wq_live.proofs.owner_seat.OwnerSeat.drain.Goals as goal
 
 pub drain-head-requires-clause-open : goal.drain-head-requires-clause-open
@@ -54,6 +55,7 @@ returns g c = let s = owning c.args.self.now in let o = c.requires.owns.queue in
       learns = step_or 0 _ _ _ _ _ _ c.drain-head.ensures.step e.learns;
       seen = sees;
       unqueued = accepted_still 0 (Drain ∷ []) (owner_view s) _ sees refl;
+      executions = still_executed 0 (Drain ∷ []) (owner_view s) _ refl sees refl refl;
       takes = cut_all step.Drain draining_word Drain drain_swaps found s q o steps t e.follows e.stands e.has_row drains_all count total;
       behind = cut_behind step.Drain draining_word Drain drain_swaps found s q o steps t e.follows e.stands e.has_row e.behind;
       count = cut_count step.Drain draining_word Drain drain_swaps found s q o steps t e.follows e.stands e.has_row count total;

@@ -8,6 +8,7 @@ use Rattle.wq_live.proofs.Linking.{has_row_after}
 use Rattle.wq_live.proofs.Resting.{closed_stays, unclosed_stays, shut_stays, open_stays, accepted_still}
 use Rattle.wq_live.proofs.OwnerTells.{makes_stands, stands_batch, owner_batch, pair_owner, end_tells, end_stage, owner_runs, owner_grows, owner_sees}
 use Rattle.wq_live.proofs.OwnerHands.{same_hand, seat_slots}
+use Rattle.wq_live.proofs.OwnerStays.{ends_running}
 use Rattle.wq_live.proofs.owner_seat.OwnerSeat.end.Goals as goal
 
 pub returns : goal.returns
@@ -43,6 +44,7 @@ returns g c = let s = owning c.args.self.now in let o = c.requires.owns.queue in
       learns = learns;
       seen = sees;
       unqueued = accepted_still 0 (End k ∷ []) (owner_view s) (owner_view t) saw refl;
+      executions = ends_running (owner_view s) (owner_view t) refl sees k some.1;
       same = saw.same;
       batch = batch_is;
       shut = shut_stays (End k ∷ []) 0 (owner_view s) (owner_view t) refl saw refl;

@@ -3,6 +3,7 @@ use Rattle.wq_live.proofs.OwnerTells.{owner_batch, none_of}
 use Rattle.wq_live.proofs.Rest.{rest_owns, rest_sees, rest_rested, rest_refused, rest_empty, rests_same, rests_idle, rests_open, rests_unclosed}
 use Rattle.wq_live.proofs.Resting.{accepted_rested}
 use Rattle.wq_live.proofs.OwnerHands.{same_hand, rest_slots}
+use Rattle.wq_live.proofs.OwnerStays.{still_rested}
 use Rattle.wq_live.proofs.owner_seat.OwnerSeat.rest.Goals as goal
 
 pub rest-head-requires-clause-open : goal.rest-head-requires-clause-open
@@ -32,6 +33,7 @@ returns g c = let s = owning c.args.self.now in let o = c.requires.owns.queue in
       learns = learns;
       seen = sees;
       unqueued = accepted_rested (w == busy_word) now _ sees;
+      executions = still_rested (w == busy_word) now _ mine sees;
       rested = rest_rested s q now w refl o e.queue_is e.moves.makes c.requires.open;
       refused = rest_refused s q now w refl o e.queue_is e.moves.makes c.requires.open;
       same = rests_same _ now _ sees;

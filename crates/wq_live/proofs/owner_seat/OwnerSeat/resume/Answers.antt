@@ -4,6 +4,7 @@ use Rattle.wq_live.proofs.OwnerTells.{owner_batch, none_of}
 use Rattle.wq_live.proofs.Resting.{quiet_idle, accepted_still}
 use Rattle.wq_live.proofs.Resuming.{resume_owns, resume_sees, resume_opens, resume_empty}
 use Rattle.wq_live.proofs.OwnerHands.{same_hand, seat_slots}
+use Rattle.wq_live.proofs.OwnerStays.{still_executed}
 use Rattle.wq_live.proofs.owner_seat.OwnerSeat.resume.Goals as goal
 
 pub resume-requires-clause-draining : goal.resume-requires-clause-draining
@@ -30,6 +31,7 @@ returns g c = let s = owning c.args.self.now in let o = c.requires.owns.queue in
       learns = learns;
       seen = sees;
       unqueued = accepted_still 0 (Resume ∷ []) (owner_view s) _ sees refl;
+      executions = still_executed 0 (Resume ∷ []) (owner_view s) _ refl sees refl refl;
       «open» = resume_opens s q found o steps drains;
       unclosed = λ closed. resume_opens s q found o steps drains (closed_shuts q.part.seen closed);
       empty = none;

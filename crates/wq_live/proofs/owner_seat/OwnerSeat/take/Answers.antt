@@ -8,6 +8,7 @@ use Rattle.wq_live.proofs.Linking.{walks_row}
 use Rattle.wq_live.proofs.Taken.{takes_all}
 use Rattle.wq_live.proofs.Cutting.{cut_slots, cut_stage, cut_kept, cut_grows, cut_owns, cut_sees, cut_all, cut_count}
 use Rattle.wq_live.proofs.OwnerHands.{same_hand}
+use Rattle.wq_live.proofs.OwnerStays.{still_executed}
 use Rattle.wq_live.proofs.owner_seat.OwnerSeat.take.Goals as goal
 
 pub take-head-requires-clause-open : goal.take-head-requires-clause-open
@@ -55,6 +56,7 @@ returns g c = let s = owning c.args.self.now in let o = c.requires.owns.queue in
       learns = step_or 0 _ _ _ _ _ _ c.take-head.ensures.step e.learns;
       seen = sees;
       unqueued = accepted_still 0 (Take ∷ []) (owner_view s) _ sees refl;
+      executions = still_executed 0 (Take ∷ []) (owner_view s) _ refl sees refl refl;
       takes = cut_all step.Take busy_word Take take_swaps found s q o steps t e.follows e.stands e.has_row takes_all count total;
       count = omega (
         arith,

@@ -3,6 +3,8 @@ use Rattle.wq_live.proofs.Meeting.{meet_owner_layout}
 use Rattle.wq_live.proofs.SenderAlone.{sender_met, sender_met_sees}
 use Rattle.wq_live.proofs.Paired.{seats_meet, owner_meets, sender_meets}
 use Rattle.wq_live.proofs.PlainPaired.{pair_after}
+use Rattle.wq_live.proofs.OwnerStays.{still_owned}
+use Rattle.wq_live.proofs.Common.{refl}
 use Rattle.wq_live.proofs.pair.Pair.meet.Goals as goal
 
 pub invariant_of-self : goal.invariant_of-self
@@ -37,3 +39,6 @@ returns-clause-layout c = let e = c.meet.ensures.met in sym
     (meet_owner_layout (sending_in 0 c.sender.inside.chair c.sender.inside.sent) (owning c.self.inside.seat) c.args.sender.now (pair_owner c.args.self.now)
     e.machine e.that_fits.fits e.this_fits.fits c.sender.view_is (ap pair_owner c.self.view_is) c.sender.invariant.sends
     c.self.invariant.seated.owns.queue)
+
+pub returns-clause-owned : goal.returns-clause-owned
+returns-clause-owned c = still_owned 0 (pair_owner c.args.self.now) _ refl (returns-clause-owner c)

@@ -2,6 +2,8 @@ use Rattle.wq_live.proofs.Tried.{answers_same}
 use Rattle.wq_live.proofs.SenderAlone.{queued_hand}
 use Rattle.wq_live.proofs.Paired.{owner_looks}
 use Rattle.wq_live.proofs.PlainPaired.{pair_queues}
+use Rattle.wq_live.proofs.OwnerStays.{still_owned}
+use Rattle.wq_live.proofs.Common.{refl, pair_owner}
 use Rattle.wq_live.proofs.pair.Pair.queue_tries.Goals as goal
 
 pub invariant_of-self : goal.invariant_of-self
@@ -13,3 +15,6 @@ invariant_of-self c = let e = c.queue_number.ensures in let s = c.self.inside in
 pub returns-clause-others : goal.returns-clause-others
 returns-clause-others c = let s = c.self.inside in
     owner_looks s.seat c.queue_number.new.chair s.sent c.self.invariant.seated c.queue_number.ensures.learns c.args.self.now c.self.view_is
+
+pub returns-clause-owned : goal.returns-clause-owned
+returns-clause-owned c = still_owned 0 (pair_owner c.args.self.now) _ refl (returns-clause-others c)

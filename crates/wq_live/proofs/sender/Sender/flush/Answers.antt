@@ -1,5 +1,10 @@
 use Rattle.wq_live.proofs.Common.{arith, ◌≡◌, ◌∙◌, ℕ, [], ◌∷◌, ap, subst, barrier_number, Hold, Push, Known, Sees, IsPushed}
 use Rattle.wq_live.proofs.Sends.{sees_on, queued_on}
+use Rattle.wq_live.proofs.Held.{queued_held}
+use Rattle.wq_live.proofs.Flushed.{flushed_all}
+use Rattle.wq_live.proofs.Common.{Layout}
+use Rattle.wq_live.specs.Answers.{HasFlushed}
+use Rattle.wq_words.specs.declared.answer.Answer.TheVariants.{Queued}
 use Rattle.wq_live.proofs.sender.Sender.flush.Goals as goal
 
 pub loop-preserved : goal.loop-preserved
@@ -17,3 +22,14 @@ returns-then-flush_done-clause-answer g c = let s = c.args.self.now in let q = c
     queued_on (barrier_number s.layout c.args.barrier) 0 first wakes s q t
     (subst (λ (k : ℕ). Sees (Hold s.number k ∷ Push s.number k ∷ []) 0 s q × IsPushed s.number k first wakes q.seen) number c.in-Queued.ensures.answer)
     (sees_on (λ z. []) (λ z. []) 0 0 0 q c.loop.self t (omega arith) c.loop.invariant.2 c.flush_done.ensures.seen)
+
+pub returns-then-flush_done-clause-keeps : goal.returns-then-flush_done-clause-keeps
+returns-then-flush_done-clause-keeps g c = λ k. let s = c.args.self.now in
+    queued_held k (barrier_number s.layout c.args.barrier) 0 (Queued c.in-Queued.first c.in-Queued.wakes) s c.flush_done.new.self
+    (returns-then-flush_done-clause-answer g c)
+
+pub returns-then-flush_done-clause-all : goal.returns-then-flush_done-clause-all
+returns-then-flush_done-clause-all g c first wakes is = let told = returns-then-flush_done-clause-answer g c in let s = c.args.self.now in
+    flushed_all (barrier_number s.layout c.args.barrier) 0 c.in-Queued.first c.in-Queued.wakes s c.flush_done.new.self told.0 told.1
+    (subst (λ (l : Layout). HasFlushed (barrier_number l c.args.barrier) c.flush_done.new.self.seen)
+    (c.loop.invariant.2.same.layout_is ∙ c.in-Queued.ensures.answer.0.same.layout_is) (c.flush_done.ensures.flushed c.if-flush_done.true))

@@ -1,5 +1,6 @@
 use Rattle.wq_live.proofs.Common.{◌≡◌, ℕ, refl, not, Bool, true, false, ap, sym, ◌∙◌, barrier_number, pending, Known}
 use Rattle.wq_live.proofs.Flushed.{flushed}
+use Rattle.wq_live.proofs.Sends.{sees_held}
 use Rattle.wq_live.proofs.sender.Sender.flush_done.Goals as goal
 
 number_is : (c : goal.After-is_number_pending) → c.barrier-number.result ≡ barrier_number c.args.self.now.layout c.args.barrier
@@ -18,3 +19,6 @@ returns-clause-flushed c is =
     (barrier_number c.args.self.now.layout c.args.barrier) c.is_number_pending.new.self.seen c.is_number_pending.ensures.seen.legal
     (sym (c.is_number_pending.ensures.pending ∙ ap (λ (k : ℕ). pending c.is_number_pending.new.self.seen k) (number_is c)) ∙
     not_true c.is_number_pending.result is)
+
+pub returns-clause-keeps : goal.returns-clause-keeps
+returns-clause-keeps c = λ k. sees_held k 0 c.args.self.now c.is_number_pending.new.self c.is_number_pending.ensures.seen

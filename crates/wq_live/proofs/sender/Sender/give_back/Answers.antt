@@ -3,7 +3,7 @@ use Rattle.wq_words.specs.declared.event.Why.TheVariants.{Cancelled}
 use Rattle.wq_live.proofs.SenderAlone.{sender_alone}
 use Rattle.wq_live.proofs.Counting.{counts_cancelled}
 use Rattle.wq_live.proofs.Tells.{Tells, back_tells, sender_made}
-use Rattle.wq_live.proofs.Held.{given_held}
+use Rattle.wq_live.proofs.Held.{given_held, given_unheld, given_stops}
 use Rattle.wq_live.proofs.Sends.{grows_tells, sends_tells, sees_tells, holds_view}
 use Rattle.wq_live.proofs.Resting.{accepted_still}
 use Rattle.wq_live.proofs.sender.Sender.give_back.Goals as goal
@@ -37,4 +37,6 @@ returns c = let s = (sending_in 0 c.self.inside.chair c.self.inside.sent) in let
       unqueued = accepted_still 0 (Back c.args.self.now.number k Cancelled ∷ []) c.args.self.now _ sees refl;
       same = sees.same;
       keeps = λ j. given_held j k 0 Cancelled c.args.self.now _ sees;
+      unheld = λ j. given_unheld j k 0 Cancelled c.args.self.now _ sees;
+      gone = given_stops k 0 Cancelled c.args.self.now _ sees;
     }

@@ -1,6 +1,7 @@
 use Rattle.wq_live.proofs.Common.{ap, sym, ◌∙◌, ValueStanding, Bare, sending_in}
 use Rattle.wq_live.proofs.SenderAlone.{sender_met, sender_met_sees}
 use Rattle.wq_live.proofs.Sends.{meet_layout}
+use Rattle.wq_live.proofs.Sends.{sees_held}
 use Rattle.wq_live.proofs.sender.Sender.meet.Goals as goal
 
 pub invariant_of-self : goal.invariant_of-self
@@ -29,3 +30,6 @@ pub returns-clause-layout : goal.returns-clause-layout
 returns-clause-layout c = let e = c.meet.ensures.met in
     meet_layout (sending_in 0 c.self.inside.chair c.self.inside.sent) (sending_in 0 c.other.inside.chair c.other.inside.sent) c.args.self.now c.args.other.now
     e.machine e.this_fits.fits e.that_fits.fits c.self.view_is c.other.view_is c.self.invariant.sends c.other.invariant.sends
+
+pub returns-clause-keeps : goal.returns-clause-keeps
+returns-clause-keeps c = λ k. sees_held k 0 c.args.self.now _ (returns-clause-this c)

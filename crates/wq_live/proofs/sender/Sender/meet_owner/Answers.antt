@@ -3,6 +3,8 @@ use Rattle.wq_live.proofs.SenderAlone.{sender_met, sender_met_sees, owner_met, o
 use Rattle.wq_live.proofs.Resting.{complete_stays}
 use Rattle.wq_live.proofs.Sends.{sender_low}
 use Rattle.wq_live.proofs.Meeting.{meet_owner_layout}
+use Rattle.wq_live.proofs.Sends.{sees_held}
+use Rattle.wq_live.proofs.OwnerStays.{still_owned}
 use Rattle.wq_live.proofs.sender.Sender.meet_owner.Goals as goal
 
 pub meet-requires-clause-empty : goal.meet-requires-clause-empty
@@ -42,3 +44,9 @@ returns-clause-seat c = sym (ap (λ (v : Known). v.number) c.owner.view_is)
 
 pub returns-clause-last : goal.returns-clause-last
 returns-clause-last c = complete_stays [] 0 c.args.owner.now _ (returns-clause-that c)
+
+pub returns-clause-keeps : goal.returns-clause-keeps
+returns-clause-keeps c = λ k. sees_held k 0 c.args.self.now _ (returns-clause-this c)
+
+pub returns-clause-owned : goal.returns-clause-owned
+returns-clause-owned c = still_owned 0 c.args.owner.now _ (returns-clause-seat c) (returns-clause-that c)

@@ -1,4 +1,4 @@
-use Rattle.wq_live.proofs.Held.{contended_held, draining_held, posted_held}
+use Rattle.wq_live.proofs.Held.{contended_held, draining_held, posted_held, posted_stops, posted_unheld}
 use Rattle.wq_live.proofs.sender.Sender.post.Goals as goal
 
 pub returns-clause-held : goal.returns-clause-held
@@ -11,3 +11,9 @@ returns-clause-still_held c = λ is. draining_held c.args.item c.args.tries c.pu
 
 pub returns-clause-keeps : goal.returns-clause-keeps
 returns-clause-keeps c = λ k. posted_held k c.args.item c.args.tries c.push_tries.result c.args.self.now c.push_tries.new.self c.push_tries.ensures
+
+pub returns-clause-gone : goal.returns-clause-gone
+returns-clause-gone c = posted_stops c.args.item c.args.tries c.push_tries.result c.args.self.now c.push_tries.new.self c.push_tries.ensures
+
+pub returns-clause-unheld : goal.returns-clause-unheld
+returns-clause-unheld c = λ k. posted_unheld k c.args.item c.args.tries c.push_tries.result c.args.self.now c.push_tries.new.self c.push_tries.ensures

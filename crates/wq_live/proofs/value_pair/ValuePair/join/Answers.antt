@@ -1,4 +1,6 @@
 use Rattle.wq_live.proofs.ValuePaired.{values_join, owner_join_sees, sender_join_sees, low_join, owner_join_learnt, sender_join_learnt, join_handed}
+use Rattle.wq_live.proofs.OwnerStays.{still_owned}
+use Rattle.wq_live.proofs.Common.{ap, sym, KnownWith}
 use Rattle.wq_live.proofs.value_pair.ValuePair.join.Goals as goal
 
 pub invariant_of-result : goal.invariant_of-result
@@ -28,3 +30,6 @@ returns-clause-learnt g c = let o = c.owner in let s = c.sender in (
   sender_join_learnt o.inside s.inside c.join.result o.invariant s.invariant c.args.owner c.args.sender o.view_is s.view_is c.requires.one
       c.join.ensures.joined,
 )
+
+pub returns-clause-owned : goal.returns-clause-owned
+returns-clause-owned g c = still_owned 0 c.args.owner.known _ (sym (ap (λ (v : KnownWith g.row.V.Denot). v.known.number) c.owner.view_is)) (returns-clause-owner g c)

@@ -5,6 +5,7 @@ use Rattle.wq_live.proofs.ValueSends.{met_values, met_sees, met_learnt}
 use Rattle.wq_live.proofs.HandedOver.{met_handed}
 use Rattle.wq_live.proofs.Paired.{seats_meet, owner_meets, sender_meets}
 use Rattle.wq_live.proofs.ValuePaired.{values_after}
+use Rattle.wq_live.proofs.OwnerStays.{still_owned}
 use Rattle.wq_live.proofs.value_pair.ValuePair.meet.Goals as goal
 
 pub invariant_of-self : goal.invariant_of-self
@@ -51,3 +52,6 @@ returns-clause-layout g c = let e = c.meet.ensures.met in sym
     (meet_owner_layout (sending_in 0 c.sender.inside.chair c.sender.inside.sent) (owning c.self.inside.seat) c.args.sender.now.known
     (pair_owner c.args.self.now.known) e.machine e.that_fits.fits e.this_fits.fits (ap (λ k. k.known) c.sender.view_is)
     (ap (λ p. pair_owner p.known) c.self.view_is) c.sender.invariant.sends c.self.invariant.seated.owns.queue)
+
+pub returns-clause-owned : goal.returns-clause-owned
+returns-clause-owned g c = still_owned 0 (pair_owner c.args.self.now.known) _ refl (returns-clause-owner g c)

@@ -4,6 +4,8 @@ use Rattle.wq_live.proofs.ValueSeats.{owner_learnt}
 use Rattle.wq_live.proofs.HandedOver.{met_handed}
 use Rattle.wq_live.proofs.Paired.{owner_looks}
 use Rattle.wq_live.proofs.ValuePaired.{queued_seat, values_queue}
+use Rattle.wq_live.proofs.OwnerStays.{still_owned}
+use Rattle.wq_live.proofs.Common.{pair_owner}
 use Rattle.wq_live.proofs.value_pair.ValuePair.queue_value.Goals as goal
 
 pub invariant_of-self : goal.invariant_of-self
@@ -32,3 +34,6 @@ returns-clause-contended g c is = let e = c.queue_value.ensures in
       (queued_seat c.self.inside c.self.invariant c.queue_value.new.chair c.queue_value.new.sent e.learns e.sends
           (answers_same _ _ (answer_of c.queue_value.result) _ _ e.answer).layout_is e.hand).one_seen i,
     )) (e.contended is)
+
+pub returns-clause-owned : goal.returns-clause-owned
+returns-clause-owned g c = still_owned 0 (pair_owner c.args.self.now.known) _ refl (returns-clause-others g c)

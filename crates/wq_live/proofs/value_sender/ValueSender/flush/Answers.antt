@@ -1,6 +1,9 @@
 use Rattle.wq_live.proofs.Common.{arith, ◌≡◌, ◌∙◌, ℕ, [], ◌∷◌, None, ap, subst, barrier_number, Hold, Push, IsPushed, Sees, KnownWith, IsBroughtBy}
 use Rattle.wq_live.proofs.Sends.{sees_on, queued_on}
 use Rattle.wq_live.proofs.ValueSends.{learnt_on, brought_still}
+use Rattle.wq_live.proofs.Flushed.{flushed_all}
+use Rattle.wq_live.proofs.Common.{Layout}
+use Rattle.wq_live.specs.Answers.{HasFlushed}
 use Rattle.wq_live.proofs.value_sender.ValueSender.flush.Goals as goal
 
 pub loop-preserved : goal.loop-preserved
@@ -35,3 +38,10 @@ returns-then-flush_done-clause-nothing g c =
     (subst (λ (k : ℕ). IsBroughtBy k first wakes None q) number c.in-Queued.ensures.nothing)
     (sees_on (λ z. []) (λ z. []) 0 0 0 q.known l.known t.known (omega arith) c.loop.invariant.sees c.flush_done.ensures.seen)
     (learnt_on q l t c.loop.invariant.learnt c.flush_done.ensures.learnt)
+
+pub returns-then-flush_done-clause-all : goal.returns-then-flush_done-clause-all
+returns-then-flush_done-clause-all g c first wakes is = let told = returns-then-flush_done-clause-answer g c in let s = c.args.self.now.known in
+    let t = c.flush_done.new.self.known in
+    flushed_all (barrier_number s.layout c.args.barrier) 0 c.in-Queued.first c.in-Queued.wakes s t told.0 told.1
+    (subst (λ (l : Layout). HasFlushed (barrier_number l c.args.barrier) t.seen)
+    (c.loop.invariant.sees.same.layout_is ∙ c.in-Queued.ensures.answer.0.same.layout_is) (c.flush_done.ensures.flushed c.if-flush_done.true))

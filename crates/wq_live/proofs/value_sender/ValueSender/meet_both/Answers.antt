@@ -2,6 +2,8 @@ use Rattle.std.proofs.Common.{[], ap, sym}
 use Rattle.wq_live.proofs.Resting.{complete_stays}
 use Rattle.wq_live.proofs.ValueSends.{met_values, met_sees, met_learnt, met_owner_values, met_owner_sees, met_owner_learnt}
 use Rattle.wq_live.proofs.HandedOver.{met_handed, met_end}
+use Rattle.wq_live.proofs.OwnerStays.{still_owned}
+use Rattle.wq_live.proofs.OwnBrought.{own_stays}
 use Rattle.wq_live.proofs.value_sender.ValueSender.meet_both.Goals as goal
 
 pub invariant_of-self : goal.invariant_of-self
@@ -63,3 +65,13 @@ returns-clause-handed g c = met_handed c.args.owner.now _ (sym (ap (λ k. k.know
 pub returns-clause-end : goal.returns-clause-end
 returns-clause-end g c complete = met_end c.args.owner.now _ (returns-clause-theirs g c).1
     (returns-clause-last g c complete)
+
+pub returns-clause-owned : goal.returns-clause-owned
+returns-clause-owned g c = still_owned 0 c.args.owner.now.known _ (sym (ap (λ k. k.known.number) c.owner.view_is)) (returns-clause-owners g c)
+
+pub returns-clause-own : goal.returns-clause-own
+returns-clause-own g c = (
+  own_stays 0 c.args.self.now _ (returns-clause-this g c) (returns-clause-learnt g c),
+  own_stays 0 c.args.other.now _ (returns-clause-that g c) (returns-clause-theirs g c).0,
+  own_stays 0 c.args.owner.now _ (returns-clause-owners g c) (returns-clause-theirs g c).1,
+)
