@@ -1,7 +1,7 @@
 -- What a seat goes on to hold.
 use Rattle.wq_live.proofs.Common.{◌≡◌, ◌≢◌, ℕ, ◌≤◌, ◌==◌, Bool, true, false, cond, List, [], ◌∷◌, sym, refl, ap, subst, arith, ne_eqb, count_by}
 use Rattle.wq_live.proofs.Common.{sum_by-cons, Answer, Posted, Event, Hold, Busy, Push, Back, Why, Holds, Known, Sees, TestsAndSets, Answers, Posts}
-use Rattle.std.proofs.Common.{◌&&◌, IsTrue}
+use Rattle.std.proofs.Common.{◌&&◌}
 use Rattle.wq_words.specs.declared.answer.Answer.TheVariants as answer
 use Rattle.wq_words.specs.declared.answer.Posted.TheVariants as posted
 use Rattle.wq_words.specs.declared.event.Why.TheVariants as why
@@ -112,10 +112,9 @@ tested_unheld k j false s t sees ne = unheld_past k 0 (Busy s.number j) s t sees
 pub refused_unheld : (k j : ℕ) (s t : Known) → TestsAndSets j false s t → ¬ Holds s.seen s.number k → ¬ Holds t.seen t.number k
 refused_unheld k j s t sees = unheld_past k 0 (Busy s.number j) s t sees refl
 
--- a number that was not just held
-pub hold_unheld : (k j : ℕ) (b : Bool) (s t : Known) → TestsAndSets j b s t → (IsTrue b → k ≢ j) → ¬ Holds s.seen s.number k → ¬ Holds t.seen t.number k
-hold_unheld k j true s t sees ne = tested_unheld k j true s t sees (ne refl)
-hold_unheld k j false s t sees ne = refused_unheld k j s t sees
+pub hold_refused : (k j : ℕ) (b : Bool) (s t : Known) → TestsAndSets j b s t → b ≡ false → ¬ Holds s.seen s.number k → ¬ Holds t.seen t.number k
+hold_refused k j false s t sees is = refused_unheld k j s t sees
+hold_refused k j true s t sees is = absurd (cc)
 
 pub given_unheld : (k j n : ℕ) (why : Why) (s t : Known) → Sees (Back s.number j why ∷ []) n s t → ¬ Holds s.seen s.number k → ¬ Holds t.seen t.number k
 given_unheld k j n why s t sees = unheld_past k n (Back s.number j why) s t sees refl

@@ -42,6 +42,7 @@ pub mod ValueSeats
 pub mod Paired
 pub mod PlainPaired
 pub mod ValuePaired
+pub mod OwnAccepted
 pub mod OwnBrought
 pub mod Handed
 pub mod HandedOver

@@ -1,6 +1,7 @@
 //! What follows from what the calls of a queue say, in the form in which a caller needs it. These functions compute nothing:
 //! each one's contract is a law, which a caller has in hand after the call.
 ghost use Rattle.std.specs.Prelude.{◌≡◌, ◌≢◌, ℕ, Bool, false, List, [], ◌∷◌, ◌++◌};
+ghost use Rattle.std.specs.List.{Contains};
 ghost use Rattle.wq_words.specs.declared.answer.Answer.{Answer};
 ghost use Rattle.wq_words.specs.declared.answer.Answer.TheVariants as answer;
 ghost use Rattle.wq_words.specs.declared.answer.Posted.{Posted};
@@ -39,6 +40,11 @@ pub fn chained_is_accepted()
 /// A seat's own events are, after a call, those that it had made and behind them those that the call says.
 pub fn own_events_grow()
     ensures grows { (n : ℕ) (xs : List Event) (old new : Known) → Sees xs n old new → own old.number new.seen ≡ own old.number old.seen ++ xs }
+{}
+
+/// What was accepted of a seat was accepted.
+pub fn own_is_accepted()
+    ensures among { (s k : ℕ) (h : List Event) → Contains (accepted (own s h)) k → Contains (accepted h) k }
 {}
 
 /// Nobody but its owner begins or ends what a queue executes: in what the owner sees, what began and what ended grows by its own

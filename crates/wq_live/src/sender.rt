@@ -1,5 +1,5 @@
 //! A sender of a queue.
-ghost use Rattle.std.specs.Prelude.{◌≡◌, ◌≢◌, ℕ, ◌<◌, not, [], ◌∷◌, IsTrue};
+ghost use Rattle.std.specs.Prelude.{◌≡◌, ◌≢◌, ℕ, ◌<◌, false, not, [], ◌∷◌, IsTrue};
 ghost use Rattle.wq_words.specs.declared.event.Event.TheVariants.{Back};
 ghost use Rattle.wq_words.specs.declared.event.Why.TheVariants as why;
 ghost use mathlib.Core.List.{IsPrefix};
@@ -166,7 +166,8 @@ impl Sender {
         ensures same { IsSame self.old self.new }
         ensures held { IsTrue result → Holds self.new.seen self.new.number item }
         ensures keeps { (k : ℕ) → Holds self.old.seen self.old.number k → Holds self.new.seen self.new.number k }
-        ensures unheld { (k : ℕ) → (IsTrue result → k ≢ item) → ¬ Holds self.old.seen self.old.number k → ¬ Holds self.new.seen self.new.number k }
+        ensures unheld { (k : ℕ) → k ≢ item → ¬ Holds self.old.seen self.old.number k → ¬ Holds self.new.seen self.new.number k }
+        ensures refused { result ≡ false → (k : ℕ) → ¬ Holds self.old.seen self.old.number k → ¬ Holds self.new.seen self.new.number k }
     {
         self.hold_number(item)
     }

@@ -1,4 +1,4 @@
-use Rattle.wq_live.proofs.Held.{tested_held, hold_unheld}
+use Rattle.wq_live.proofs.Held.{tested_held, tested_unheld, hold_refused}
 use Rattle.wq_live.proofs.Resting.{accepted_tested}
 use Rattle.wq_live.proofs.Sends.{hold_held}
 use Rattle.wq_live.proofs.sender.Sender.hold.Goals as goal
@@ -10,7 +10,12 @@ pub returns-clause-keeps : goal.returns-clause-keeps
 returns-clause-keeps c = λ k. tested_held k c.args.item c.hold_number.result c.args.self.now c.hold_number.new.self c.hold_number.ensures.seen
 
 pub returns-clause-unheld : goal.returns-clause-unheld
-returns-clause-unheld c = λ k. hold_unheld k c.args.item c.hold_number.result c.args.self.now c.hold_number.new.self c.hold_number.ensures.seen
+returns-clause-unheld c = λ k ne none.
+    tested_unheld k c.args.item c.hold_number.result c.args.self.now c.hold_number.new.self c.hold_number.ensures.seen ne none
+
+pub returns-clause-refused : goal.returns-clause-refused
+returns-clause-refused c is = λ k.
+    hold_refused k c.args.item c.hold_number.result c.args.self.now c.hold_number.new.self c.hold_number.ensures.seen is
 
 pub returns-clause-unqueued : goal.returns-clause-unqueued
 returns-clause-unqueued c = accepted_tested c.args.item c.hold_number.result c.args.self.now c.hold_number.new.self c.hold_number.ensures.seen
