@@ -93,6 +93,8 @@ impl<V: Drop> ValueBook<V> {
         ensures of_each { (s : ℕ) → own_brought s self.new.book.seen self.new.brought ≡ own_brought s self.old.book.seen self.old.brought }
         ensures both_brought { sender.new.brought ≡ self.new.brought }
         ensures learnt { Learnt sender.old sender.new }
+        ensures own_values { own_brought sender.old.known.number sender.new.known.seen sender.new.brought
+            ≡ own_brought sender.old.known.number sender.old.known.seen sender.old.brought }
     {
         sender.meet_owner(&mut self.owner);
         Ledger::of(sender.number(), sender.counts())

@@ -29,6 +29,10 @@ grows_less c xs n k v w less g = let t = g.theirs in record { new = g.new; is = 
 pub grows_own : (c : ℕ) (xs : List Event) (n : ℕ) (v w : List Event) → Grows c xs n v w → own c w ≡ own c v ++ xs
 grows_own c xs n v w g = ap (own c) g.is ∙ (own-append c v g.new ∙ ap (λ (x : List Event). own c v ++ x) g.mine)
 
+-- what a seat made is what it was where no own event comes
+pub own_kept : (n : ℕ) (old new : Known) → Sees [] n old new → own old.number new.seen ≡ own old.number old.seen
+own_kept n old new sees = grows_own old.number [] n old.seen new.seen sees.grows ∙ append-nil (own old.number old.seen)
+
 -- what an owner sees come new is of the owner's seat
 pub grows_mine : (xs : List Event) (n : ℕ) (old new : Known) → old.number ≡ owner_seat → Sees xs n old new → Grows owner_seat xs n old.seen new.seen
 grows_mine xs n old new mine sees = subst (λ (c : ℕ). Grows c xs n old.seen new.seen) mine sees.grows

@@ -299,6 +299,7 @@ impl Sender {
         ensures this { Sees [] 0 self.old self.new }
         ensures keeps { (k : ℕ) → Holds self.old.seen self.old.number k → Holds self.new.seen self.new.number k }
         ensures that { Sees [] 0 other.old other.new }
+        ensures own { (own self.old.number self.new.seen ≡ own self.old.number self.old.seen) × (own other.old.number other.new.seen ≡ own other.old.number other.old.seen) }
         ensures both { other.new.seen ≡ self.new.seen }
         ensures layout { other.old.layout ≡ self.old.layout }
     {
@@ -311,6 +312,7 @@ impl Sender {
         ensures this { Sees [] 0 self.old self.new }
         ensures keeps { (k : ℕ) → Holds self.old.seen self.old.number k → Holds self.new.seen self.new.number k }
         ensures that { Sees [] 0 owner.old owner.new }
+        ensures own { (own self.old.number self.new.seen ≡ own self.old.number self.old.seen) × (own owner.old.number owner.new.seen ≡ own owner.old.number owner.old.seen) }
         ensures owned { IsStillOwned owner.old.seen owner.new.seen }
         ensures both { owner.new.seen ≡ self.new.seen }
         ensures layout { owner.old.layout ≡ self.old.layout }
@@ -329,6 +331,8 @@ impl Sender {
         ensures keeps { (k : ℕ) → Holds self.old.seen self.old.number k → Holds self.new.seen self.new.number k }
         ensures that { Sees [] 0 other.old other.new }
         ensures owners { Sees [] 0 owner.old owner.new }
+        ensures own { (own self.old.number self.new.seen ≡ own self.old.number self.old.seen) × (own other.old.number other.new.seen ≡ own other.old.number other.old.seen)
+            × (own owner.old.number owner.new.seen ≡ own owner.old.number owner.old.seen) }
         ensures owned { IsStillOwned owner.old.seen owner.new.seen }
         ensures all { (other.new.seen ≡ self.new.seen) × (owner.new.seen ≡ self.new.seen) }
         ensures layout { (other.old.layout ≡ self.old.layout) × (owner.old.layout ≡ self.old.layout) }

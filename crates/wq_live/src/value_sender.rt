@@ -6,7 +6,7 @@ ghost use Rattle.wq_words.specs.Numbers.{barrier_number, stop_number, number_cou
 ghost use Rattle.wq_words.specs.Legal.{IsLegal, IsComplete};
 ghost use Rattle.wq_words.specs.Headline.{KeepsHeadline};
 ghost use Rattle.wq_words.specs.Valued.{IsLegalWith, with_values};
-ghost use Rattle.wq_words.specs.Seen.{owner_seat};
+ghost use Rattle.wq_words.specs.Seen.{owner_seat, own};
 ghost use Rattle.wq_words.specs.declared.answer.Answer.TheVariants.{Queued, Contended};
 ghost use Rattle.wq_live.specs.Known.{IsSame, Sees};
 ghost use Rattle.wq_live.specs.Answers.{Answers, IsContended, HasFlushed};
@@ -163,7 +163,7 @@ impl<V: Drop> ValueSender<V> {
         requires item { item < self.old.known.layout.items }
         ensures seen { Sees [] 0 self.old.known self.new.known }
         ensures learnt { Learnt self.old self.new }
-        ensures own { own_brought self.old.known.number self.new.known.seen self.new.brought ≡ own_brought self.old.known.number self.old.known.seen self.old.brought }
+        ensures own_values { own_brought self.old.known.number self.new.known.seen self.new.brought ≡ own_brought self.old.known.number self.old.known.seen self.old.brought }
         ensures pending { result ≡ pending self.new.known.seen item }
         ensures same { IsSame self.old.known self.new.known }
     {
@@ -189,7 +189,7 @@ impl<V: Drop> ValueSender<V> {
         requires barrier { barrier < self.old.known.layout.barriers }
         ensures seen { Sees [] 0 self.old.known self.new.known }
         ensures learnt { Learnt self.old self.new }
-        ensures own { own_brought self.old.known.number self.new.known.seen self.new.brought ≡ own_brought self.old.known.number self.old.known.seen self.old.brought }
+        ensures own_values { own_brought self.old.known.number self.new.known.seen self.new.brought ≡ own_brought self.old.known.number self.old.known.seen self.old.brought }
         ensures clear { result ≡ not (pending self.new.known.seen (barrier_number self.old.known.layout barrier)) }
         ensures flushed { IsTrue result → HasFlushed (barrier_number self.old.known.layout barrier) self.new.known.seen }
     {
@@ -247,11 +247,12 @@ impl<V: Drop> ValueSender<V> {
         requires { self.old.known.queue ≡ other.old.known.queue }
         ensures this { Sees [] 0 self.old.known self.new.known }
         ensures that { Sees [] 0 other.old.known other.new.known }
+        ensures own { (own self.old.known.number self.new.known.seen ≡ own self.old.known.number self.old.known.seen) × (own other.old.known.number other.new.known.seen ≡ own other.old.known.number other.old.known.seen) }
         ensures both { other.new.known.seen ≡ self.new.known.seen }
         ensures brought { other.new.brought ≡ self.new.brought }
         ensures learnt { Learnt self.old self.new }
         ensures theirs { Learnt other.old other.new }
-        ensures own { (own_brought self.old.known.number self.new.known.seen self.new.brought ≡ own_brought self.old.known.number self.old.known.seen self.old.brought)
+        ensures own_values { (own_brought self.old.known.number self.new.known.seen self.new.brought ≡ own_brought self.old.known.number self.old.known.seen self.old.brought)
             × (own_brought other.old.known.number other.new.known.seen other.new.brought ≡ own_brought other.old.known.number other.old.known.seen other.old.brought) }
         ensures layout { other.old.known.layout ≡ self.old.known.layout }
     {
@@ -263,12 +264,13 @@ impl<V: Drop> ValueSender<V> {
         requires { self.old.known.queue ≡ owner.old.known.queue }
         ensures this { Sees [] 0 self.old.known self.new.known }
         ensures that { Sees [] 0 owner.old.known owner.new.known }
+        ensures own { (own self.old.known.number self.new.known.seen ≡ own self.old.known.number self.old.known.seen) × (own owner.old.known.number owner.new.known.seen ≡ own owner.old.known.number owner.old.known.seen) }
         ensures owned { IsStillOwned owner.old.known.seen owner.new.known.seen }
         ensures both { owner.new.known.seen ≡ self.new.known.seen }
         ensures brought { owner.new.brought ≡ self.new.brought }
         ensures learnt { Learnt self.old self.new }
         ensures theirs { Learnt owner.old owner.new }
-        ensures own { (own_brought self.old.known.number self.new.known.seen self.new.brought ≡ own_brought self.old.known.number self.old.known.seen self.old.brought)
+        ensures own_values { (own_brought self.old.known.number self.new.known.seen self.new.brought ≡ own_brought self.old.known.number self.old.known.seen self.old.brought)
             × (own_brought owner.old.known.number owner.new.known.seen owner.new.brought ≡ own_brought owner.old.known.number owner.old.known.seen owner.old.brought) }
         ensures layout { owner.old.known.layout ≡ self.old.known.layout }
         ensures number { self.old.known.number < self.old.known.layout.senders }
@@ -288,12 +290,14 @@ impl<V: Drop> ValueSender<V> {
         ensures this { Sees [] 0 self.old.known self.new.known }
         ensures that { Sees [] 0 other.old.known other.new.known }
         ensures owners { Sees [] 0 owner.old.known owner.new.known }
+        ensures own { (own self.old.known.number self.new.known.seen ≡ own self.old.known.number self.old.known.seen) × (own other.old.known.number other.new.known.seen ≡ own other.old.known.number other.old.known.seen)
+            × (own owner.old.known.number owner.new.known.seen ≡ own owner.old.known.number owner.old.known.seen) }
         ensures owned { IsStillOwned owner.old.known.seen owner.new.known.seen }
         ensures all { (other.new.known.seen ≡ self.new.known.seen) × (owner.new.known.seen ≡ self.new.known.seen) }
         ensures brought { (other.new.brought ≡ self.new.brought) × (owner.new.brought ≡ self.new.brought) }
         ensures learnt { Learnt self.old self.new }
         ensures theirs { Learnt other.old other.new × Learnt owner.old owner.new }
-        ensures own { (own_brought self.old.known.number self.new.known.seen self.new.brought ≡ own_brought self.old.known.number self.old.known.seen self.old.brought)
+        ensures own_values { (own_brought self.old.known.number self.new.known.seen self.new.brought ≡ own_brought self.old.known.number self.old.known.seen self.old.brought)
             × (own_brought other.old.known.number other.new.known.seen other.new.brought ≡ own_brought other.old.known.number other.old.known.seen other.old.brought)
             × (own_brought owner.old.known.number owner.new.known.seen owner.new.brought ≡ own_brought owner.old.known.number owner.old.known.seen owner.old.brought) }
         ensures layout { (other.old.known.layout ≡ self.old.known.layout) × (owner.old.known.layout ≡ self.old.known.layout) }

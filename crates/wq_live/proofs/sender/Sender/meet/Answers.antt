@@ -2,6 +2,7 @@ use Rattle.wq_live.proofs.Common.{ap, sym, ◌∙◌, ValueStanding, Bare, sendi
 use Rattle.wq_live.proofs.SenderAlone.{sender_met, sender_met_sees}
 use Rattle.wq_live.proofs.Sends.{meet_layout}
 use Rattle.wq_live.proofs.Sends.{sees_held}
+use Rattle.wq_live.proofs.Growing.{own_kept}
 use Rattle.wq_live.proofs.sender.Sender.meet.Goals as goal
 
 pub invariant_of-self : goal.invariant_of-self
@@ -33,3 +34,6 @@ returns-clause-layout c = let e = c.meet.ensures.met in
 
 pub returns-clause-keeps : goal.returns-clause-keeps
 returns-clause-keeps c = λ k. sees_held k 0 c.args.self.now _ (returns-clause-this c)
+
+pub returns-clause-own : goal.returns-clause-own
+returns-clause-own c = (own_kept 0 c.args.self.now _ (returns-clause-this c), own_kept 0 c.args.other.now _ (returns-clause-that c))

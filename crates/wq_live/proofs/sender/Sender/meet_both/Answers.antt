@@ -6,6 +6,7 @@ use Rattle.wq_live.proofs.Meeting.{meet_owner_layout}
 use Rattle.wq_live.proofs.Sends.{sees_held}
 use Rattle.wq_live.proofs.OwnerStays.{still_owned}
 use Rattle.wq_live.proofs.Common.{Known}
+use Rattle.wq_live.proofs.Growing.{own_kept}
 use Rattle.wq_live.proofs.sender.Sender.meet_both.Goals as goal
 
 pub meet_both-requires-clause-empty : goal.meet_both-requires-clause-empty
@@ -58,3 +59,6 @@ returns-clause-keeps c = λ k. sees_held k 0 c.args.self.now _ (returns-clause-t
 
 pub returns-clause-owned : goal.returns-clause-owned
 returns-clause-owned c = still_owned 0 c.args.owner.now _ (sym (ap (λ (v : Known). v.number) c.owner.view_is)) (returns-clause-owners c)
+
+pub returns-clause-own : goal.returns-clause-own
+returns-clause-own c = (own_kept 0 c.args.self.now _ (returns-clause-this c), own_kept 0 c.args.other.now _ (returns-clause-that c), own_kept 0 c.args.owner.now _ (returns-clause-owners c))

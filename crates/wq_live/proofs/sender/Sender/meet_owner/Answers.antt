@@ -5,6 +5,7 @@ use Rattle.wq_live.proofs.Sends.{sender_low}
 use Rattle.wq_live.proofs.Meeting.{meet_owner_layout}
 use Rattle.wq_live.proofs.Sends.{sees_held}
 use Rattle.wq_live.proofs.OwnerStays.{still_owned}
+use Rattle.wq_live.proofs.Growing.{own_kept}
 use Rattle.wq_live.proofs.sender.Sender.meet_owner.Goals as goal
 
 pub meet-requires-clause-empty : goal.meet-requires-clause-empty
@@ -50,3 +51,6 @@ returns-clause-keeps c = λ k. sees_held k 0 c.args.self.now _ (returns-clause-t
 
 pub returns-clause-owned : goal.returns-clause-owned
 returns-clause-owned c = still_owned 0 c.args.owner.now _ (returns-clause-seat c) (returns-clause-that c)
+
+pub returns-clause-own : goal.returns-clause-own
+returns-clause-own c = (own_kept 0 c.args.self.now _ (returns-clause-this c), own_kept 0 c.args.owner.now _ (returns-clause-that c))

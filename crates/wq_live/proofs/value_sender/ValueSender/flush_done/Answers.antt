@@ -18,5 +18,5 @@ returns-clause-flushed g c is = let t = c.is_number_pending.new.self.known in
     flushed t.layout (barrier_number c.args.self.now.known.layout c.args.barrier) t.seen c.is_number_pending.ensures.seen.legal
     (sym (c.is_number_pending.ensures.pending ∙ ap (λ (k : ℕ). pending t.seen k) number) ∙ not_true c.is_number_pending.result is)
 
-pub returns-clause-own : goal.returns-clause-own
-returns-clause-own g c = own_stays 0 c.args.self.now _ c.is_number_pending.ensures.seen c.is_number_pending.ensures.learnt
+pub returns-clause-own_values : goal.returns-clause-own_values
+returns-clause-own_values g c = own_stays 0 c.args.self.now _ c.is_number_pending.ensures.seen c.is_number_pending.ensures.learnt

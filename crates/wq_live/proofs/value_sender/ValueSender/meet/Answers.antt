@@ -1,5 +1,6 @@
 use Rattle.wq_live.proofs.ValueSends.{met_values, met_sees, met_learnt}
 use Rattle.wq_live.proofs.OwnBrought.{own_stays}
+use Rattle.wq_live.proofs.Growing.{own_kept}
 use Rattle.wq_live.proofs.value_sender.ValueSender.meet.Goals as goal
 
 pub invariant_of-self : goal.invariant_of-self
@@ -34,8 +35,11 @@ returns-clause-theirs g c = let e = c.meet.ensures.met in
     c.meet.new.other e.that_fits e.that_knows e.that_is c.args.other.now
     c.other.view_is
 
-pub returns-clause-own : goal.returns-clause-own
-returns-clause-own g c = (
+pub returns-clause-own_values : goal.returns-clause-own_values
+returns-clause-own_values g c = (
   own_stays 0 c.args.self.now _ (returns-clause-this g c) (returns-clause-learnt g c),
   own_stays 0 c.args.other.now _ (returns-clause-that g c) (returns-clause-theirs g c),
 )
+
+pub returns-clause-own : goal.returns-clause-own
+returns-clause-own g c = (own_kept 0 c.args.self.now.known _ (returns-clause-this g c), own_kept 0 c.args.other.now.known _ (returns-clause-that g c))

@@ -4,6 +4,7 @@ use Rattle.wq_live.proofs.ValueSends.{met_values, met_sees, met_learnt, met_owne
 use Rattle.wq_live.proofs.HandedOver.{met_handed, met_end}
 use Rattle.wq_live.proofs.OwnerStays.{still_owned}
 use Rattle.wq_live.proofs.OwnBrought.{own_stays}
+use Rattle.wq_live.proofs.Growing.{own_kept}
 use Rattle.wq_live.proofs.value_sender.ValueSender.meet_owner.Goals as goal
 
 pub invariant_of-self : goal.invariant_of-self
@@ -51,8 +52,11 @@ returns-clause-end g c complete = met_end c.args.owner.now _ (returns-clause-the
 pub returns-clause-owned : goal.returns-clause-owned
 returns-clause-owned g c = still_owned 0 c.args.owner.now.known _ (sym (ap (λ k. k.known.number) c.owner.view_is)) (returns-clause-that g c)
 
-pub returns-clause-own : goal.returns-clause-own
-returns-clause-own g c = (
+pub returns-clause-own_values : goal.returns-clause-own_values
+returns-clause-own_values g c = (
   own_stays 0 c.args.self.now _ (returns-clause-this g c) (returns-clause-learnt g c),
   own_stays 0 c.args.owner.now _ (returns-clause-that g c) (returns-clause-theirs g c),
 )
+
+pub returns-clause-own : goal.returns-clause-own
+returns-clause-own g c = (own_kept 0 c.args.self.now.known _ (returns-clause-this g c), own_kept 0 c.args.owner.now.known _ (returns-clause-that g c))
