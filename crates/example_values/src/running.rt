@@ -17,7 +17,7 @@ use crossbeam_utils::sync::{Parker, Unparker};
 use std::alloc::Global;
 use std::sync::Wait;
 use std::thread::{Threads, join};
-use wq_live::{BuildError, ValueOwner, ValueSender, build_values, own_events_stay};
+use wq_live::{BuildError, ValueOwner, ValueSender, build_values};
 use wq_words::Layout;
 
 /// The senders of a new queue: two that queue messages, and one that stops the owner behind them.
@@ -69,7 +69,6 @@ fn meet(
     ensures of_second { own_brought second.old.known.number owner.new.known.seen owner.new.brought
         ≡ own_brought second.old.known.number second.old.known.seen second.old.brought }
 {
-    own_events_stay();
     last.meet_owner(owner);
     first.meet_both(second, owner);
 }

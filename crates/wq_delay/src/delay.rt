@@ -4,6 +4,7 @@ ghost use Rattle.wq_words.specs.declared.answer.Armed.TheVariants as armed;
 ghost use Rattle.wq_words.specs.declared.answer.Modified.TheVariants as modified;
 ghost use Rattle.wq_words.specs.History.{Holds};
 ghost use Rattle.wq_words.specs.Headline.{KeepsHeadline};
+ghost use Rattle.wq_words.specs.Seen.{own};
 ghost use Rattle.wq_live.specs.Known.{IsSame, Sees};
 ghost use Rattle.wq_live.specs.Answers.{IsContended};
 ghost use Rattle.wq_words.specs.DelayTable.{items, on_table, due_part, is_too_far, IsOrdered};
@@ -254,6 +255,8 @@ impl Delay {
         requires { self.old.sender.queue ≡ other.old.queue }
         ensures this { KeepsTable [] 0 self.old self.new }
         ensures that { Sees [] 0 other.old other.new }
+        ensures own { (own self.old.sender.number self.new.sender.seen ≡ own self.old.sender.number self.old.sender.seen)
+            × (own other.old.number other.new.seen ≡ own other.old.number other.old.seen) }
         ensures both { other.new.seen ≡ self.new.sender.seen }
         ensures layout { other.old.layout ≡ self.old.sender.layout }
         ensures looked { self.new.looked ≡ self.old.looked }

@@ -3,7 +3,7 @@ ghost use Rattle.std.specs.Prelude.{◌≡◌, [], All, MatchResult};
 ghost use Rattle.wq_words.specs.History.{accepted, begun, ended};
 ghost use Rattle.wq_words.specs.Legal.{IsLegal, IsComplete};
 ghost use Rattle.wq_words.specs.Headline.{KeepsHeadline};
-ghost use Rattle.wq_words.specs.Seen.{owner_seat, Grows};
+ghost use Rattle.wq_words.specs.Seen.{owner_seat, Grows, own};
 ghost use Rattle.wq_live.specs.Known.{Sees};
 ghost use Rattle.wq_live.specs.Counts.{sender_counts};
 ghost use Rattle.wq_live.specs.Laws.{IsStillEnd};
@@ -114,6 +114,7 @@ impl Book {
         ensures same { (self.new.queue ≡ self.old.queue) × (self.new.layout ≡ self.old.layout) × (self.new.own ≡ self.old.own) }
         ensures owner { Grows owner_seat [] 0 self.old.seen self.new.seen }
         ensures sender { Sees [] 0 sender.old sender.new }
+        ensures own { own sender.old.number sender.new.seen ≡ own sender.old.number sender.old.seen }
         ensures layout { sender.old.layout ≡ self.old.layout }
         ensures both { sender.new.seen ≡ self.new.seen }
         ensures last { IsStillEnd self.old.seen self.new.seen }

@@ -4,7 +4,7 @@ ghost use Rattle.wq_words.specs.History.{accepted, begun, ended};
 ghost use Rattle.wq_words.specs.Legal.{IsLegal, IsComplete};
 ghost use Rattle.wq_words.specs.Headline.{KeepsHeadline};
 ghost use Rattle.wq_words.specs.Valued.{AreBrought, IsLegalWith, with_values};
-ghost use Rattle.wq_words.specs.Seen.{owner_seat, Grows};
+ghost use Rattle.wq_words.specs.Seen.{owner_seat, Grows, own};
 ghost use Rattle.wq_live.specs.Known.{Sees};
 ghost use Rattle.wq_live.specs.KnownWith.{Learnt};
 ghost use Rattle.wq_live.specs.Counts.{sender_counts};
@@ -86,6 +86,7 @@ impl<V: Drop> ValueBook<V> {
         ensures same { (self.new.book.queue ≡ self.old.book.queue) × (self.new.book.layout ≡ self.old.book.layout) × (self.new.book.own ≡ self.old.book.own) }
         ensures owner { Grows owner_seat [] 0 self.old.book.seen self.new.book.seen }
         ensures sender { Sees [] 0 sender.old.known sender.new.known }
+        ensures own { own sender.old.known.number sender.new.known.seen ≡ own sender.old.known.number sender.old.known.seen }
         ensures layout { sender.old.known.layout ≡ self.old.book.layout }
         ensures both { sender.new.known.seen ≡ self.new.book.seen }
         ensures last { IsStillEnd self.old.book.seen self.new.book.seen }

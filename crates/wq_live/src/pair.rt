@@ -347,6 +347,7 @@ impl Pair {
         ensures sender { Sees [] 0 (pair_sender self.old) (pair_sender self.new) }
         ensures owned { IsStillOwned self.old.seen self.new.seen }
         ensures that { Sees [] 0 sender.old sender.new }
+        ensures own { own sender.old.number sender.new.seen ≡ own sender.old.number sender.old.seen }
         ensures layout { sender.old.layout ≡ self.old.layout }
         ensures both { sender.new.seen ≡ self.new.seen }
     {

@@ -9,6 +9,7 @@ ghost use Rattle.wq_words.specs.Legal.{IsLegal, HasRunOut};
 ghost use Rattle.wq_words.specs.Headline.{KeepsHeadline};
 ghost use Rattle.wq_words.specs.Valued.{Carries, IsLegalWith, with_values};
 ghost use Rattle.wq_words.specs.Seen.{own, owner_seat};
+ghost use Rattle.wq_live.specs.OwnBrought.{own_brought};
 ghost use Rattle.wq_live.specs.Known.{Sees};
 ghost use Rattle.wq_live.specs.Answers.{Answers, Chains, IsContended};
 ghost use Rattle.wq_live.specs.Batch.{batch, next_of, TakesAll};
@@ -379,12 +380,15 @@ impl<V: Drop> ValuePair<V> {
         ensures sender { Sees [] 0 (pair_sender self.old.known) (pair_sender self.new.known) }
         ensures owned { IsStillOwned self.old.known.seen self.new.known.seen }
         ensures that { Sees [] 0 sender.old.known sender.new.known }
+        ensures own { own sender.old.known.number sender.new.known.seen ≡ own sender.old.known.number sender.old.known.seen }
         ensures layout { sender.old.known.layout ≡ self.old.known.layout }
         ensures both { sender.new.known.seen ≡ self.new.known.seen }
         ensures brought { sender.new.brought ≡ self.new.brought }
         ensures learnt { Learnt (owner_of self.old) (owner_of self.new) }
         ensures handed { handed_in (owner_of self.new) ≡ handed_in (owner_of self.old) }
         ensures theirs { Learnt sender.old sender.new }
+        ensures own_values { own_brought sender.old.known.number sender.new.known.seen sender.new.brought
+            ≡ own_brought sender.old.known.number sender.old.known.seen sender.old.brought }
     {
         self.seat.chair.meet(&mut sender.chair);
     }

@@ -6,8 +6,9 @@ ghost use Rattle.wq_words.specs.declared.event.Event.TheVariants.{Close};
 ghost use Rattle.wq_words.specs.History.{begun, closed, running, Holds, IsRunning, IsClosed, IsShut, IsDraining};
 ghost use Rattle.wq_words.specs.Legal.{IsLegal, IsComplete};
 ghost use Rattle.wq_words.specs.Headline.{KeepsHeadline};
-ghost use Rattle.wq_words.specs.Seen.{owner_seat, Grows};
+ghost use Rattle.wq_words.specs.Seen.{owner_seat, Grows, own};
 ghost use Rattle.wq_words.specs.Valued.{IsLegalWith, with_values};
+ghost use Rattle.wq_live.specs.OwnBrought.{own_brought};
 ghost use Rattle.wq_live.specs.Known.{Sees, new_senders, AreNumbered};
 ghost use Rattle.wq_live.specs.KnownWith.{Learnt, MatchesAccepted, knowing_nothing};
 ghost use Rattle.wq_live.specs.Batch.{TakesAll};
@@ -345,6 +346,9 @@ impl<V: Drop, W: ValueWork<V>> ValueWorker<V, W> {
         ensures worker { Moves [] 0 self.old.worker self.new.worker }
         ensures learnt { Learnt (owner_in self.old) (owner_in self.new) × Learnt sender.old sender.new }
         ensures sender { Sees [] 0 sender.old.known sender.new.known }
+        ensures own { own sender.old.known.number sender.new.known.seen ≡ own sender.old.known.number sender.old.known.seen }
+        ensures own_values { own_brought sender.old.known.number sender.new.known.seen sender.new.brought
+            ≡ own_brought sender.old.known.number sender.old.known.seen sender.old.brought }
         ensures layout { sender.old.known.layout ≡ self.old.worker.layout }
         ensures both { sender.new.known.seen ≡ self.new.worker.seen }
         ensures brought { sender.new.brought ≡ self.new.brought }

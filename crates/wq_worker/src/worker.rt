@@ -3,7 +3,7 @@ ghost use Rattle.std.specs.Prelude.{◌≡◌, ◌↔◌, ℕ, ◌+◌, ◌<◌,
 ghost use Rattle.std.specs.Fn.{FnOnceTakesAtMut, FnOnceReturnsAtMut};
 ghost use Rattle.wq_words.specs.declared.event.Event.TheVariants.{Close};
 ghost use Rattle.wq_words.specs.History.{accepted, begun, closed, running, Holds, IsRunning, IsClosed, IsShut, IsDraining};
-ghost use Rattle.wq_words.specs.Seen.{owner_seat, Grows};
+ghost use Rattle.wq_words.specs.Seen.{owner_seat, Grows, own};
 ghost use Rattle.wq_live.specs.Known.{AreNumbered, Sees, new_senders};
 ghost use Rattle.wq_live.specs.Answers.{IsContended};
 ghost use Rattle.wq_live.specs.Batch.{TakesAll};
@@ -315,6 +315,7 @@ impl<W: Work> Worker<W> {
         ensures work { (self.new.work ≡ self.old.work) × (self.new.unqueued ≡ self.old.unqueued) }
         ensures worker { Moves [] 0 self.old self.new }
         ensures sender { Sees [] 0 sender.old sender.new }
+        ensures own { own sender.old.number sender.new.seen ≡ own sender.old.number sender.old.seen }
         ensures layout { sender.old.layout ≡ self.old.layout }
         ensures both { sender.new.seen ≡ self.new.seen }
         ensures open { ¬ IsShut self.old.seen → ¬ IsShut self.new.seen }

@@ -5,6 +5,7 @@ use Rattle.wq_live.proofs.Paired.{seats_meet, owner_meets, sender_meets}
 use Rattle.wq_live.proofs.PlainPaired.{pair_after}
 use Rattle.wq_live.proofs.OwnerStays.{still_owned}
 use Rattle.wq_live.proofs.Common.{refl}
+use Rattle.wq_live.proofs.Growing.{own_kept}
 use Rattle.wq_live.proofs.pair.Pair.meet.Goals as goal
 
 pub invariant_of-self : goal.invariant_of-self
@@ -42,3 +43,6 @@ returns-clause-layout c = let e = c.meet.ensures.met in sym
 
 pub returns-clause-owned : goal.returns-clause-owned
 returns-clause-owned c = still_owned 0 (pair_owner c.args.self.now) _ refl (returns-clause-owner c)
+
+pub returns-clause-own : goal.returns-clause-own
+returns-clause-own c = own_kept 0 c.args.sender.now _ (returns-clause-that c)

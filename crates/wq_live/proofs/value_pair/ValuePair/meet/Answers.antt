@@ -6,6 +6,8 @@ use Rattle.wq_live.proofs.HandedOver.{met_handed}
 use Rattle.wq_live.proofs.Paired.{seats_meet, owner_meets, sender_meets}
 use Rattle.wq_live.proofs.ValuePaired.{values_after}
 use Rattle.wq_live.proofs.OwnerStays.{still_owned}
+use Rattle.wq_live.proofs.Growing.{own_kept}
+use Rattle.wq_live.proofs.OwnBrought.{own_stays}
 use Rattle.wq_live.proofs.value_pair.ValuePair.meet.Goals as goal
 
 pub invariant_of-self : goal.invariant_of-self
@@ -55,3 +57,9 @@ returns-clause-layout g c = let e = c.meet.ensures.met in sym
 
 pub returns-clause-owned : goal.returns-clause-owned
 returns-clause-owned g c = still_owned 0 (pair_owner c.args.self.now.known) _ refl (returns-clause-owner g c)
+
+pub returns-clause-own : goal.returns-clause-own
+returns-clause-own g c = own_kept 0 c.args.sender.now.known _ (returns-clause-that g c)
+
+pub returns-clause-own_values : goal.returns-clause-own_values
+returns-clause-own_values g c = own_stays 0 c.args.sender.now _ (returns-clause-that g c) (returns-clause-theirs g c)
