@@ -14,7 +14,7 @@ ghost use Rattle.example_log.specs.Text.{text_of};
 use crate::error::LogError;
 use crate::message::Line;
 use crate::writer::Writer;
-use wq_live::{ValueSender, own_events_stay, own_values_stay};
+use wq_live::ValueSender;
 use wq_worker::ValueBook;
 
 /// A log that has come to its end: its text, its queue's book, and how many of its messages each client sent.
@@ -43,8 +43,6 @@ fn meet(
     ensures seen_by_first { IsPrefix first.known.seen book.new.book.seen }
     ensures seen_by_second { IsPrefix second.known.seen book.new.book.seen }
 {
-    own_events_stay();
-    own_values_stay::<Line>();
     book.meet(&mut third);
     book.meet(&mut first);
     book.meet(&mut second);

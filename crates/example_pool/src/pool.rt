@@ -14,7 +14,7 @@ use std::alloc::{AllocError, Global};
 use std::sync::Wait;
 use std::thread::{Threads, join};
 use thiserror::Error;
-use wq_live::{Sender, own_events_stay};
+use wq_live::Sender;
 use wq_pool::{Caller, Pool, PoolFault, Served};
 use wq_words::Layout;
 use wq_worker::{Book, Unbuilt, Worker};
@@ -190,7 +190,6 @@ fn meet(book: &mut Book, first: &mut Sender, second: &mut Sender)
     ensures of_first { accepted (own first.old.number book.new.seen) ≡ accepted (own first.old.number first.old.seen) }
     ensures of_second { accepted (own second.old.number book.new.seen) ≡ accepted (own second.old.number second.old.seen) }
 {
-    own_events_stay();
     book.meet(first);
     book.meet(second);
 }

@@ -12,7 +12,7 @@ use crossbeam_utils::sync::{Parker, Unparker};
 use std::alloc::Global;
 use std::sync::Wait;
 use std::thread::{Threads, join};
-use wq_live::{BuildError, Owner, Sender, build, own_events_stay};
+use wq_live::{BuildError, Owner, Sender, build};
 use wq_words::Layout;
 
 /// The senders of a new queue.
@@ -53,7 +53,6 @@ fn meet(first: &mut Sender, second: &mut Sender, third: &mut Sender, owner: &mut
     ensures of_second { accepted (own second.old.number owner.new.seen) ≡ accepted (own second.old.number second.old.seen) }
     ensures of_third { accepted (own third.old.number owner.new.seen) ≡ accepted (own third.old.number third.old.seen) }
 {
-    own_events_stay();
     first.meet_both(second, owner);
     third.meet_owner(owner);
 }

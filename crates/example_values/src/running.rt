@@ -149,7 +149,7 @@ fn queue_and_execute<R: Threads + Wait + Sync>(
                 × (numbers_of (own_brought senders.second.known.number result.0.1.sender.known.seen result.0.1.sender.brought) ≡ result.0.1.queued.items)
                 × IsSame senders.last.known result.1.sender.known
                 × (accepted (own senders.last.known.number result.1.sender.known.seen)
-                    ≡ queued_number (stop_number senders.last.known.layout) result.1.answer) }
+                ≡ queued_number (stop_number senders.last.known.layout) result.1.answer) }
         { queue_all(rt, alloc, senders, each, unparker) },
     );
     meet(

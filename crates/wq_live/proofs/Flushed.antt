@@ -59,8 +59,14 @@ seen_before c [] new before after e is none some = (before, refl)
 seen_before c (x ∷ u) new [] after e is none some =
     let tails : u ++ new ≡ after = cc in
     let own_is = ap (λ (h : List Event). length (own c h)) tails in
-    absurd (omega (arith, own_is, ap (λ (h : List Event). length h) none, ap (λ (h : List Event). length h) (own-append c u new),
-    length-append (own c u) (own c new), some))
+    absurd (omega (
+      arith,
+      own_is,
+      ap (λ (h : List Event). length h) none,
+      ap (λ (h : List Event). length h) (own-append c u new),
+      length-append (own c u) (own c new),
+      some,
+    ))
 seen_before c (x ∷ u) new (y ∷ before) after e is none some =
     let heads : x ≡ y = cc in let tails : u ++ new ≡ before ++ e ∷ after = cc in
     let more = seen_before c u new before after e tails none some in (more.0, λ i. heads i ∷ more.1 i)

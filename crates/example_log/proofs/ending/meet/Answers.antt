@@ -7,16 +7,16 @@ use Rattle.example_log.proofs.ending.meet.Goals as goal
 pub returns-clause-of_first : goal.returns-clause-of_first
 returns-clause-of_first c = let s = c.args.first in let m = c.meet-2.ensures in
     c.meet-3.ensures.of_each s.known.number ∙ ((λ i. own_brought s.known.number (sym m.both i) (sym m.both_brought i)) ∙
-    c.own_values_stay.ensures.same 0 s _ m.sender m.learnt)
+    m.own_values)
 
 pub returns-clause-of_second : goal.returns-clause-of_second
 returns-clause-of_second c = let s = c.args.second in let m = c.meet-3.ensures in
-    (λ i. own_brought s.known.number (sym m.both i) (sym m.both_brought i)) ∙ c.own_values_stay.ensures.same 0 s _ m.sender m.learnt
+    (λ i. own_brought s.known.number (sym m.both i) (sym m.both_brought i)) ∙ m.own_values
 
 pub returns-clause-of_third : goal.returns-clause-of_third
 returns-clause-of_third c = let n = c.args.third.known.number in let m = c.meet.ensures in
     c.meet-3.ensures.last.of_each n ∙ (c.meet-2.ensures.last.of_each n ∙ ((λ i. accepted (own n (sym m.both i)))
-    ∙ ap accepted (c.own_events_stay.ensures.same 0 c.args.third.known _ m.sender)))
+    ∙ ap accepted m.own))
 
 pub returns-clause-seen_by_first : goal.returns-clause-seen_by_first
 returns-clause-seen_by_first c = let m = c.meet-2.ensures in let n = c.meet-3.ensures in let more = m.sender.grows.new in let behind = n.owner.new in
