@@ -19,5 +19,6 @@ pub mod Found
 pub mod Starting
 pub mod Held
 pub mod Sound
+pub mod OnTable
 pub mod Going
 pub mod Advancing

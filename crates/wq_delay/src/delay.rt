@@ -128,6 +128,8 @@ impl Delay {
         ensures far { (result ≡ armed.TooFar) ↔ IsTrue (is_too_far delay self.old.table) }
         ensures memory { result ≢ armed.Memory }
         ensures looked { self.new.looked ≡ self.old.looked }
+        ensures on { result ≡ armed.OnTable → on_table item self.new.table.entries ≡ true }
+        ensures others { (k : ℕ) → k ≢ item → on_table k self.new.table.entries ≡ on_table k self.old.table.entries }
     {
         let Some(due) = tick_after(self.table.tick(), self.next, delay) else {
             return Armed::TooFar;
@@ -149,6 +151,9 @@ impl Delay {
         ensures answer { Cancels item result self.old self.new }
         ensures same { IsSame self.old.sender self.new.sender }
         ensures looked { self.new.looked ≡ self.old.looked }
+        ensures was { result ≡ on_table item self.old.table.entries }
+        ensures off { on_table item self.new.table.entries ≡ false }
+        ensures others { (k : ℕ) → k ≢ item → on_table k self.new.table.entries ≡ on_table k self.old.table.entries }
     {
         if !self.table.take(item) {
             return false;

@@ -1,5 +1,6 @@
-use Rattle.wq_delay.proofs.Common.{◌+◌, [], ◌∷◌, refl, ◌∙◌, Busy}
+use Rattle.wq_delay.proofs.Common.{◌+◌, [], ◌∷◌, refl, ap, ◌∙◌, Busy, on_table, DelayState}
 use Rattle.wq_delay.proofs.Sound.{fit_at, sound_queued, sound_keeps, sound_puts, off_before}
+use Rattle.wq_delay.proofs.OnTable.{placed_on, placed_others}
 use Rattle.wq_delay.proofs.delay.Delay.arm.Goals as goal
 
 pub invariant_of-self : goal.invariant_of-self
@@ -25,3 +26,13 @@ invariant_of-self-2 c =
     let sound = sound_puts i.table.size 0 c.args.item i.sender c.hold.new.self i.table.tick i.next c.in-Some.due i.table.entries
     c.put.new.self.entries c.if-not-hold.ensures.seen c.put.ensures.put c.self.invariant in
     (c.put.ensures.size ∙ sound.0, fit_at c.hold.new.self c.put.new.self.entries i.table.tick c.put.new.self.tick (i.next + 1) sound.1)
+
+pub returns-clause-on : goal.returns-clause-on
+returns-clause-on c = let i = c.self.inside in
+    λ is. placed_on (record { due = c.in-Some.due; arming = i.next; item = c.args.item }) i.table.entries c.put.new.self.entries c.put.ensures.put
+
+pub returns-clause-others : goal.returns-clause-others
+returns-clause-others c = let i = c.self.inside in
+    λ j apart. placed_others j (record { due = c.in-Some.due; arming = i.next; item = c.args.item }) i.table.entries c.put.new.self.entries
+        c.put.ensures.put apart
+    ∙ ap (λ (z : DelayState). on_table j z.table.entries) c.self.view_is
