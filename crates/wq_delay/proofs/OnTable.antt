@@ -1,6 +1,9 @@
 -- Which items are on the table after an entry was placed, or an item taken off.
-use Rattle.wq_delay.proofs.Common.{◌≡◌, ℕ, Bool, true, false, not, ◌||◌, ◌&&◌, ◌≢◌, List, ◌==◌, refl, ap, ◌∙◌, eqb-true, arith, nat_tests}
-use Rattle.wq_delay.proofs.Common.{Entry, on_table, placed, without, on_table-placed, on_table-without}
+use Rattle.wq_delay.proofs.Common.{◌≡◌, ℕ, Bool, true, false, not, ◌||◌, ◌&&◌, ◌≢◌, List, ◌==◌, refl, ap, ◌∙◌, eqb-true}
+use Rattle.wq_delay.proofs.Common.{arith, nat_tests, Entry, DelayTable, DelayState, on_table, placed, without, on_table-placed, on_table-without}
+use Rattle.wq_delay.specs.Delay.{PostsOne}
+use Rattle.wq_words.specs.declared.answer.Posted.{Posted}
+use Rattle.wq_words.specs.declared.answer.Posted.TheVariants as posted
 
 same_item : (k : ℕ) → (k == k) ≡ true
 same_item k = grind (arith, nat_tests)
@@ -29,3 +32,13 @@ without_at k t u is =
 pub without_others : (j k : ℕ) (t u : List Entry) → u ≡ without k t → j ≢ k → on_table j u ≡ on_table j t
 without_others j k t u is apart =
     ap (λ (z : List Entry). on_table j z) is ∙ (on_table-without j k t ∙ ap (λ (z : Bool). not z && on_table j t) (other_item j k apart))
+
+-- a post takes no other item off
+pub posts_others : (j k tries : ℕ) (r : Posted) (old new : DelayState) → PostsOne k tries r old new → j ≢ k
+    → on_table j new.table.entries ≡ on_table j old.table.entries
+posts_others j k tries (posted.Queued is_first wakes) old new told apart =
+    without_others j k old.table.entries new.table.entries (ap (λ (t : DelayTable). t.entries) told.table_is) apart
+posts_others j k tries posted.Closed old new told apart =
+    without_others j k old.table.entries new.table.entries (ap (λ (t : DelayTable). t.entries) told.table_is) apart
+posts_others j k tries posted.Contended old new told apart = ap (λ (t : DelayTable). on_table j t.entries) told.table_is
+posts_others j k tries posted.Draining old new told apart = ap (λ (t : DelayTable). on_table j t.entries) told.0.table_is

@@ -176,6 +176,9 @@ impl Delay {
         ensures far { (result ≡ modified.TooFar) ↔ IsTrue (is_too_far delay self.old.table) }
         ensures memory { result ≢ modified.Memory }
         ensures looked { self.new.looked ≡ self.old.looked }
+        ensures idle { result ≡ modified.WasIdle → 0 < delay → on_table item self.new.table.entries ≡ true }
+        ensures moved { result ≡ modified.Moved → 0 < delay → on_table item self.new.table.entries ≡ true }
+        ensures others { (k : ℕ) → k ≢ item → on_table k self.new.table.entries ≡ on_table k self.old.table.entries }
     {
         let Some(due) = tick_after(self.table.tick(), self.next, delay) else {
             return Modified::TooFar;
