@@ -81,6 +81,8 @@ impl Delay {
     pub fn fit(&self)
         ensures fit { IsFit self.now }
         ensures headline { KeepsHeadline self.now.sender.seen }
+        ensures held { (k : ℕ) → on_table k self.now.table.entries ≡ true → Holds self.now.sender.seen self.now.sender.number k }
+        ensures free { (k : ℕ) → on_table k self.now.table.entries ≡ false → ¬ Holds self.now.sender.seen self.now.sender.number k }
     {
         // opens the table, whose invariant says this
         let _ = &self.sender;
