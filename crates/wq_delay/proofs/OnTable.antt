@@ -1,6 +1,7 @@
 -- Which items are on the table after an entry was placed, or an item taken off.
-use Rattle.wq_delay.proofs.Common.{◌≡◌, ℕ, Bool, true, false, not, ◌||◌, ◌&&◌, ◌≢◌, List, ◌==◌, refl, ap, ◌∙◌, eqb-true}
-use Rattle.wq_delay.proofs.Common.{arith, nat_tests, Entry, DelayTable, DelayState, on_table, placed, without, on_table-placed, on_table-without}
+use Rattle.wq_delay.proofs.Common.{◌≡◌, ℕ, Bool, true, false, not, ◌||◌, ◌&&◌, ◌≢◌, List, [], ◌∷◌, length, ◌==◌, refl, ap, ◌∙◌, eqb-true}
+use Rattle.wq_delay.proofs.Common.{arith, nat_tests, Entry, DelayTable, DelayState, Known, Holds, on_table, placed, without, on_table-placed, on_table-without}
+use Rattle.wq_delay.proofs.Held.{HoldsAll}
 use Rattle.wq_delay.specs.Delay.{PostsOne}
 use Rattle.wq_words.specs.declared.answer.Posted.{Posted}
 use Rattle.wq_words.specs.declared.answer.Posted.TheVariants as posted
@@ -42,3 +43,11 @@ posts_others j k tries posted.Closed old new told apart =
     without_others j k old.table.entries new.table.entries (ap (λ (t : DelayTable). t.entries) told.table_is) apart
 posts_others j k tries posted.Contended old new told apart = ap (λ (t : DelayTable). on_table j t.entries) told.table_is
 posts_others j k tries posted.Draining old new told apart = ap (λ (t : DelayTable). on_table j t.entries) told.0.table_is
+
+-- where nothing is on it, its sender holds nothing
+none_on : (k : ℕ) (t : List Entry) → length t ≡ 0 → on_table k t ≡ false
+none_on k [] none = refl
+none_on k (e ∷ es) none = absurd (cc)
+
+pub empty_free : (a : Known) (t : List Entry) → HoldsAll a t → length t ≡ 0 → (k : ℕ) → ¬ Holds a.seen a.number k
+empty_free a t held none k holds = absurd (let on = (held k).1 holds in let off = none_on k t none in cc)

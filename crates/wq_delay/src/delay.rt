@@ -103,6 +103,14 @@ impl Delay {
         self.table.len()
     }
 
+    /// Whether nothing is on the table. Its sender then holds nothing.
+    pub fn is_empty(&self) -> bool
+        ensures empty { IsTrue result ↔ (self.now.table.entries ≡ []) }
+        ensures free { IsTrue result → (k : ℕ) → ¬ Holds self.now.sender.seen self.now.sender.number k }
+    {
+        self.table.len() == 0
+    }
+
     /// Whether an item is on the table.
     pub fn has(&self, item: u32) -> bool
         requires { item < self.now.sender.layout.items }
