@@ -3,7 +3,12 @@ use Rattle.wq_delay.proofs.Common.{◌≡◌, ℕ, Bool, true, false, not, ◌||
 use Rattle.wq_delay.proofs.Common.{arith, nat_tests, Entry, DelayTable, DelayState, Known, Holds, on_table, placed, without, on_table-placed, on_table-without}
 use Rattle.wq_delay.proofs.Held.{HoldsAll}
 use Rattle.wq_delay.specs.Delay.{PostsOne}
+use Rattle.wq_words.specs.Armed.{armed_of}
+use Rattle.wq_live.specs.Laws.{queued_number}
+use Rattle.wq_words.specs.declared.answer.Answer.{Answer}
 use Rattle.wq_words.specs.declared.answer.Posted.{Posted}
+use Rattle.wq_words.specs.declared.answer.Answer.TheVariants as answer
+use Rattle.wq_words.specs.declared.answer.Armed.TheVariants as armed
 use Rattle.wq_words.specs.declared.answer.Posted.TheVariants as posted
 
 same_item : (k : ℕ) → (k == k) ≡ true
@@ -51,3 +56,11 @@ none_on k (e ∷ es) none = absurd (cc)
 
 pub empty_free : (a : Known) (t : List Entry) → HoldsAll a t → length t ≡ 0 → (k : ℕ) → ¬ Holds a.seen a.number k
 empty_free a t held none k holds = absurd (let on = (held k).1 holds in let off = none_on k t none in cc)
+
+-- only a queueing that is answered Queued is an arming that is
+pub queued_armed : (k : ℕ) (a : Answer) (is_first wakes : Bool) → armed_of a ≡ armed.Queued is_first wakes → queued_number k a ≡ k ∷ []
+queued_armed k (answer.Queued f w) is_first wakes is = refl
+queued_armed k answer.Pending is_first wakes is = absurd (cc)
+queued_armed k answer.Closed is_first wakes is = absurd (cc)
+queued_armed k answer.Contended is_first wakes is = absurd (cc)
+queued_armed k answer.Draining is_first wakes is = absurd (cc)

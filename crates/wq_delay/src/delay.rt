@@ -1,8 +1,8 @@
 //! The delay table of a queue.
-ghost use Rattle.std.specs.Prelude.{◌≡◌, ◌≢◌, ℕ, ◌+◌, ◌^◌, ◌<◌, ◌↔◌, IfOk, IfErr, IfSome, IsTrue, [], length, true, false, MatchOption};
+ghost use Rattle.std.specs.Prelude.{◌≡◌, ◌≢◌, ℕ, ◌+◌, ◌^◌, ◌<◌, ◌↔◌, IfOk, IfErr, IfSome, Bool, IsTrue, [], ◌∷◌, ◌++◌, length, true, false, MatchOption};
 ghost use Rattle.wq_words.specs.declared.answer.Armed.TheVariants as armed;
 ghost use Rattle.wq_words.specs.declared.answer.Modified.TheVariants as modified;
-ghost use Rattle.wq_words.specs.History.{Holds};
+ghost use Rattle.wq_words.specs.History.{Holds, accepted};
 ghost use Rattle.wq_words.specs.Headline.{KeepsHeadline};
 ghost use Rattle.wq_words.specs.Seen.{own};
 ghost use Rattle.wq_live.specs.Known.{IsSame, Sees};
@@ -138,6 +138,8 @@ impl Delay {
         ensures far { (result ≡ armed.TooFar) ↔ IsTrue (is_too_far delay self.old.table) }
         ensures memory { result ≢ armed.Memory }
         ensures looked { self.new.looked ≡ self.old.looked }
+        ensures accepted { (first wakes : Bool) → result ≡ armed.Queued first wakes
+            → accepted (own self.old.sender.number self.new.sender.seen) ≡ accepted (own self.old.sender.number self.old.sender.seen) ++ item ∷ [] }
         ensures on { result ≡ armed.OnTable → on_table item self.new.table.entries ≡ true }
         ensures others { (k : ℕ) → k ≢ item → on_table k self.new.table.entries ≡ on_table k self.old.table.entries }
     {
