@@ -1,7 +1,8 @@
 -- What becomes of the pairs of a run, as far as they have come.
 use Rattle.wq_worker.proofs.Common.{◌≡◌, ℕ, Bool, true, false, Option, Some, None, MatchOption, List, [], ◌∷◌, ◌++◌, refl, sym, ap, ◌∙◌, subst, append_assoc}
 use Rattle.wq_worker.proofs.Common.{append-nil, Event, accepted, ended, shut, IsLegal, Learnt, next_of, taking, Follows, numbers_in, IsReady, IsUnready, rest_events}
-use Rattle.wq_worker.proofs.Common.{Moves, WorkerState, ValueWorkerState, owner_in, learnt_on, Item, Barrier, Stop, Nothing, Owing}
+use Rattle.wq_worker.proofs.Common.{Moves, WorkerState, ValueWorkerState, owner_in, learnt_on, Ran, Item, Barrier, Stop, Nothing, Owing}
+use Rattle.wq_worker.proofs.Common.{RunsBy, GivesBack, MayLeave}
 use mathlib.Core.List.{IsPrefix}
 use Rattle.wq_words.proofs.Prefixes.{prefix_self, prefix_on}
 use Rattle.wq_live.specs.KnownWith.{MatchesAccepted}
@@ -9,7 +10,7 @@ use Rattle.wq_worker.specs.Seats.{taking_of}
 use Rattle.wq_worker.specs.Follow.{Queues}
 use Rattle.wq_worker.specs.Resting.{LeavesWork, owed, nothing}
 use Rattle.wq_worker.specs.Rows.{Along, here, onward}
-use Rattle.wq_worker.specs.Deals.{DealsOne, Deals, DealsOut, DealsInStep, runs, keeps}
+use Rattle.wq_worker.specs.Deals.{DealsOne, Deals, DealsOut, DealsOutBy, DealsInStep, runs, keeps}
 use Rattle.wq_worker.proofs.Seats.{adds_none}
 use Rattle.wq_worker.proofs.State.{quiet_taking}
 use Rattle.wq_worker.proofs.Resting.{begun_rest}
@@ -100,12 +101,17 @@ module _ {V W : Type 0} (given : W → List (ℕ × V)) (may : W → ℕ → V �
   same_given : (u w : W) → w ≡ u → IsPrefix (given u) (given w)
   same_given u w same = subst (λ (x : W). IsPrefix (given u) (given x)) (sym same) (prefix_self (given u))
 
+  -- through one step with this answer
+  pub dealt_by_given : (r : Ran) (a b : ValueWorkerState V W) → RunsBy (MayLeave may takes) (GivesBack takes) r a.worker b.worker
+      → DealsOutBy given may takes r a b → IsPrefix (given a.worker.work) (given b.worker.work)
+  dealt_by_given (Item k) a b ran dealt = dealt_given a b dealt
+  dealt_by_given (Barrier k) a b ran dealt = dealt_given a b dealt
+  dealt_by_given Stop a b ran dealt = dealt_given a b dealt
+  dealt_by_given (Owing k) a b ran dealt = dealt_given a b dealt
+  dealt_by_given Nothing a b ran dealt = same_given a.worker.work b.worker.work ran.2
+
   step_given : (a b : ValueWorkerState V W) → DealsInStep given may takes a b → IsPrefix (given a.worker.work) (given b.worker.work)
-  step_given a b (runs (Item k) ran dealt learnt) = dealt_given a b dealt
-  step_given a b (runs (Barrier k) ran dealt learnt) = dealt_given a b dealt
-  step_given a b (runs Stop ran dealt learnt) = dealt_given a b dealt
-  step_given a b (runs (Owing k) ran dealt learnt) = dealt_given a b dealt
-  step_given a b (runs Nothing ran dealt learnt) = same_given a.worker.work b.worker.work ran.2
+  step_given a b (runs r ran dealt learnt) = dealt_by_given r a b ran dealt
   step_given a b (keeps es moved begins accepts ends left pairs learnt) = same_given a.worker.work b.worker.work left.0
 
   -- through a row of steps what was brought, and what was given back, before begins what is now

@@ -5,11 +5,11 @@ use Rattle.wq_worker.proofs.Common.{contended_of, WorkerState, Moves, stays, End
 use Rattle.wq_worker.proofs.Common.{drains, Resumes, stays_closed, reopens, is_turn}
 use Rattle.wq_worker.specs.State.{IsSameWorker}
 use Rattle.wq_worker.specs.Step.{StartsBy, item, other, owed, ends, Runs}
-use Rattle.wq_worker.specs.Rows.{Along, here, onward, RunsOutBy, Closes, was_closed, closes, was_shut}
+use Rattle.wq_worker.specs.Rows.{Along, here, onward, GoesOn, RunsSomeBy, full, broken, RunsOutBy, Closes, was_closed, closes, was_shut}
 use Rattle.wq_worker.proofs.Owned.{owner_grown, owner_of_both}
 use Rattle.wq_worker.proofs.Follow.{quiet_follows, quiet_contended}
 use Rattle.wq_live.proofs.Phases.{open_then}
-use Rattle.wq_worker.proofs.Phase.{SamePhase, phase_still, phase_on, open_still, unclosed_still, closed_still}
+use Rattle.wq_worker.proofs.Phase.{SamePhase, phase_still, phase_on, open_still, unclosed_still, closed_still, shut_still}
 use Rattle.wq_worker.proofs.State.{quiet_taking, turns_taking}
 
 module _ {X : Type 0} (step : X → X → Type 0) where
@@ -149,6 +149,10 @@ module _ {W : Type 0} (may : W → ℕ → List ℕ → W → Type 0) (gives : W
   row_phase P n a b (none c) = phase_still c.seen
   row_phase P n a b (more m r c d e row passes run) = phase_on c.seen d.seen e.seen (row_phase P m c d row) (runs_by_phase r d e run)
 
+  pub some_phase : (limit n : ℕ) (a c : WorkerState W) → RunsSomeBy may gives limit n a c → SamePhase a.seen c.seen
+  some_phase limit n a c (full row is) = row_phase GoesOn n a c row
+  some_phase limit n a c (broken m r b row low breaks run is) = phase_on a.seen b.seen c.seen (row_phase GoesOn m a b row) (runs_by_phase r b c run)
+
   -- where nothing is left a queue has run out
   pub ran_out : (limit left : ℕ) (a b : WorkerState W) → RunsOutBy may gives limit left a b → IsShut b.seen → left ≡ 0 → HasRunOut b.seen
   ran_out limit left a b r shut is = (shut, omega (arith, r.left_is, is))
@@ -163,6 +167,19 @@ module _ {W : Type 0} (may : W → ℕ → List ℕ → W → Type 0) (gives : W
 
   pub runs_by_unclosed : (r : Ran) (a b : WorkerState W) → RunsBy may gives r a b → ¬ IsClosed a.seen → ¬ IsClosed b.seen
   runs_by_unclosed r a b t = unclosed_still a.seen b.seen (runs_by_phase r a b t)
+
+  -- a closed queue stays closed, and one that is shut so
+  pub runs_by_closed : (r : Ran) (a b : WorkerState W) → RunsBy may gives r a b → IsClosed a.seen → IsClosed b.seen
+  runs_by_closed r a b t = closed_still a.seen b.seen (runs_by_phase r a b t)
+
+  pub runs_by_shut : (r : Ran) (a b : WorkerState W) → RunsBy may gives r a b → IsShut a.seen → IsShut b.seen
+  runs_by_shut r a b t = shut_still a.seen b.seen (runs_by_phase r a b t)
+
+  pub some_closed : (limit n : ℕ) (a c : WorkerState W) → RunsSomeBy may gives limit n a c → IsClosed a.seen → IsClosed c.seen
+  some_closed limit n a c t = closed_still a.seen c.seen (some_phase limit n a c t)
+
+  pub some_shut : (limit n : ℕ) (a c : WorkerState W) → RunsSomeBy may gives limit n a c → IsShut a.seen → IsShut c.seen
+  some_shut limit n a c t = shut_still a.seen c.seen (some_phase limit n a c t)
 
   pub row_open : (P : Ran → Type 0) (n : ℕ) (a b : WorkerState W) → RowBy may gives P n a b → ¬ IsShut a.seen → ¬ IsShut b.seen
   row_open P n a b row = open_still a.seen b.seen (row_phase P n a b row)

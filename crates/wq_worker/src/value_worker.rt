@@ -238,6 +238,9 @@ impl<V: Drop, W: ValueWork<V>> ValueWorker<V, W> {
         ensures none { result ≡ Nothing → HasNoneLeft self.new.worker.seen }
         ensures open { ¬ IsShut self.old.worker.seen → ¬ IsShut self.new.worker.seen }
         ensures unclosed { ¬ IsClosed self.old.worker.seen → ¬ IsClosed self.new.worker.seen }
+        ensures closed { IsClosed self.old.worker.seen → IsClosed self.new.worker.seen }
+        ensures shut { IsShut self.old.worker.seen → IsShut self.new.worker.seen }
+        ensures given { IsPrefix (W.given self.old.worker.work) (W.given self.new.worker.work) }
         ensures same { IsSameWorker self.old.worker self.new.worker }
         ensures legal { IsLegal self.new.worker.layout self.new.worker.seen }
     {
@@ -290,6 +293,8 @@ impl<V: Drop, W: ValueWork<V>> ValueWorker<V, W> {
         ensures runs { RunsSomeBy (MayLeave W.may W.takes) (GivesBack W.takes) limit result self.old.worker self.new.worker }
         ensures open { ¬ IsShut self.old.worker.seen → ¬ IsShut self.new.worker.seen }
         ensures unclosed { ¬ IsClosed self.old.worker.seen → ¬ IsClosed self.new.worker.seen }
+        ensures closed { IsClosed self.old.worker.seen → IsClosed self.new.worker.seen }
+        ensures shut { IsShut self.old.worker.seen → IsShut self.new.worker.seen }
         ensures same { IsSameWorker self.old.worker self.new.worker }
         ensures legal { IsLegal self.new.worker.layout self.new.worker.seen }
     {

@@ -208,6 +208,8 @@ impl<W: Work> Worker<W> {
         ensures none { result ≡ Nothing → HasNoneLeft self.new.seen }
         ensures open { ¬ IsShut self.old.seen → ¬ IsShut self.new.seen }
         ensures unclosed { ¬ IsClosed self.old.seen → ¬ IsClosed self.new.seen }
+        ensures closed { IsClosed self.old.seen → IsClosed self.new.seen }
+        ensures shut { IsShut self.old.seen → IsShut self.new.seen }
         ensures same { IsSameWorker self.old self.new }
         ensures legal { IsLegal self.new.layout self.new.seen }
     {
@@ -263,6 +265,8 @@ impl<W: Work> Worker<W> {
         ensures runs { RunsSome W.may limit result self.old self.new }
         ensures open { ¬ IsShut self.old.seen → ¬ IsShut self.new.seen }
         ensures unclosed { ¬ IsClosed self.old.seen → ¬ IsClosed self.new.seen }
+        ensures closed { IsClosed self.old.seen → IsClosed self.new.seen }
+        ensures shut { IsShut self.old.seen → IsShut self.new.seen }
         ensures same { IsSameWorker self.old self.new }
         ensures legal { IsLegal self.new.layout self.new.seen }
     {

@@ -1,8 +1,9 @@
 use Rattle.wq_worker.proofs.Common.{rules, ◌≡◌, None, running, runs_none, learnt_on, Nothing, GivesBack, MayLeave, owner_in}
 use Rattle.wq_worker.proofs.Returned.{run_on}
-use Rattle.wq_worker.proofs.Rows.{runs_by_same, runs_by_legal, runs_by_open, runs_by_unclosed}
+use Rattle.wq_worker.proofs.Rows.{runs_by_same, runs_by_legal, runs_by_open, runs_by_unclosed, runs_by_closed, runs_by_shut}
 use Rattle.wq_worker.proofs.Step.{runs_fresh}
 use Rattle.wq_worker.proofs.ValueStep.{settles_by, settles_fresh}
+use Rattle.wq_worker.proofs.Deals.{dealt_by_given}
 use Rattle.wq_worker.proofs.value_worker.ValueWorker.run_one.Goals as goal
 
 pub start-requires : goal.start-requires
@@ -97,3 +98,52 @@ returns-in-Some-clause-legal g c =
     runs_by_legal (MayLeave g.W.ValueWork.may g.W.ValueWork.takes) (GivesBack g.W.ValueWork.takes)
     c.finish.result c.args.self.now.worker c.finish.new.self.worker
     c.finish.ensures.runs
+
+pub returns-clause-closed : goal.returns-clause-closed
+returns-clause-closed g c =
+    runs_by_closed (MayLeave g.W.ValueWork.may g.W.ValueWork.takes) (GivesBack g.W.ValueWork.takes)
+    c.finish-2.result c.args.self.now.worker
+    c.finish-2.new.self.worker (returns-clause-runs g c)
+
+pub returns-clause-shut : goal.returns-clause-shut
+returns-clause-shut g c =
+    runs_by_shut (MayLeave g.W.ValueWork.may g.W.ValueWork.takes) (GivesBack g.W.ValueWork.takes)
+    c.finish-2.result c.args.self.now.worker
+    c.finish-2.new.self.worker (returns-clause-runs g c)
+
+pub returns-in_default-start-clause-closed : goal.returns-in_default-start-clause-closed
+returns-in_default-start-clause-closed g c =
+    runs_by_closed (MayLeave g.W.ValueWork.may g.W.ValueWork.takes) (GivesBack g.W.ValueWork.takes) Nothing c.args.self.now.worker c.start.new.self.worker
+    (returns-in_default-start-clause-runs g c)
+
+pub returns-in_default-start-clause-shut : goal.returns-in_default-start-clause-shut
+returns-in_default-start-clause-shut g c =
+    runs_by_shut (MayLeave g.W.ValueWork.may g.W.ValueWork.takes) (GivesBack g.W.ValueWork.takes) Nothing c.args.self.now.worker c.start.new.self.worker
+    (returns-in_default-start-clause-runs g c)
+
+pub returns-in-Some-clause-closed : goal.returns-in-Some-clause-closed
+returns-in-Some-clause-closed g c =
+    runs_by_closed (MayLeave g.W.ValueWork.may g.W.ValueWork.takes) (GivesBack g.W.ValueWork.takes)
+    c.finish.result c.args.self.now.worker c.finish.new.self.worker
+    c.finish.ensures.runs
+
+pub returns-in-Some-clause-shut : goal.returns-in-Some-clause-shut
+returns-in-Some-clause-shut g c =
+    runs_by_shut (MayLeave g.W.ValueWork.may g.W.ValueWork.takes) (GivesBack g.W.ValueWork.takes)
+    c.finish.result c.args.self.now.worker c.finish.new.self.worker
+    c.finish.ensures.runs
+
+pub returns-clause-given : goal.returns-clause-given
+returns-clause-given g c =
+    let w = g.W.ValueWork in let a = c.args.self.now in let b = c.finish-2.new.self in
+    dealt_by_given w.given w.may w.takes c.finish-2.result a b (returns-clause-runs g c) (returns-clause-settles g c)
+
+pub returns-in_default-start-clause-given : goal.returns-in_default-start-clause-given
+returns-in_default-start-clause-given g c =
+    let w = g.W.ValueWork in let a = c.args.self.now in let b = c.start.new.self in
+    dealt_by_given w.given w.may w.takes Nothing a b (returns-in_default-start-clause-runs g c) (returns-in_default-start-clause-settles g c)
+
+pub returns-in-Some-clause-given : goal.returns-in-Some-clause-given
+returns-in-Some-clause-given g c =
+    let w = g.W.ValueWork in let a = c.args.self.now in let b = c.finish.new.self in
+    dealt_by_given w.given w.may w.takes c.finish.result a b c.finish.ensures.runs (returns-in-Some-clause-settles g c)

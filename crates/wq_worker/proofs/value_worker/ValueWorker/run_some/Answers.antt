@@ -1,4 +1,6 @@
+use Rattle.wq_worker.proofs.Common.{GivesBack, MayLeave}
 use Rattle.wq_worker.proofs.Deals.{along_learnt, along_given}
+use Rattle.wq_worker.proofs.Rows.{some_closed, some_shut}
 use Rattle.wq_worker.proofs.value_worker.ValueWorker.run_some.Goals as goal
 
 pub returns-clause-learnt : goal.returns-clause-learnt
@@ -8,3 +10,15 @@ returns-clause-learnt g c =
 
 pub returns-clause-given : goal.returns-clause-given
 returns-clause-given g c = let w = g.W.ValueWork in along_given w.given w.may w.takes c.args.self.now c.run_some.new.station c.run_some.ensures.deals
+
+pub returns-clause-closed : goal.returns-clause-closed
+returns-clause-closed g c =
+    let w = g.W.ValueWork in
+    some_closed (MayLeave w.may w.takes) (GivesBack w.takes) c.args.limit c.run_some.result c.args.self.now.worker c.run_some.new.station.worker
+    c.run_some.ensures.runs
+
+pub returns-clause-shut : goal.returns-clause-shut
+returns-clause-shut g c =
+    let w = g.W.ValueWork in
+    some_shut (MayLeave w.may w.takes) (GivesBack w.takes) c.args.limit c.run_some.result c.args.self.now.worker c.run_some.new.station.worker
+    c.run_some.ensures.runs

@@ -1,5 +1,5 @@
 use Rattle.wq_worker.proofs.Common.{rules, ◌≡◌, None, running, Nothing, stays, runs_none}
-use Rattle.wq_worker.proofs.Rows.{worker_on, moves_same, runs_by_same, runs_by_legal, runs_by_open, runs_by_unclosed}
+use Rattle.wq_worker.proofs.Rows.{worker_on, moves_same, runs_by_same, runs_by_legal, runs_by_open, runs_by_unclosed, runs_by_closed, runs_by_shut}
 use Rattle.wq_worker.proofs.Step.{runs_fresh, after_stays}
 use Rattle.wq_worker.proofs.worker.Worker.run_one.Goals as goal
 
@@ -64,3 +64,25 @@ returns-in-Some-clause-open g c =
 pub returns-in-Some-clause-unclosed : goal.returns-in-Some-clause-unclosed
 returns-in-Some-clause-unclosed g c =
     runs_by_unclosed g.W.Work.may stays c.finish.result c.args.self.now c.finish.new.self c.finish.ensures.runs
+
+pub returns-clause-closed : goal.returns-clause-closed
+returns-clause-closed g c = runs_by_closed g.W.Work.may stays c.finish-2.result c.args.self.now c.finish-2.new.self (returns-clause-runs g c)
+
+pub returns-clause-shut : goal.returns-clause-shut
+returns-clause-shut g c = runs_by_shut g.W.Work.may stays c.finish-2.result c.args.self.now c.finish-2.new.self (returns-clause-runs g c)
+
+pub returns-in_default-start-clause-closed : goal.returns-in_default-start-clause-closed
+returns-in_default-start-clause-closed g c =
+    runs_by_closed g.W.Work.may stays Nothing c.args.self.now c.start.new.self (returns-in_default-start-clause-runs g c)
+
+pub returns-in_default-start-clause-shut : goal.returns-in_default-start-clause-shut
+returns-in_default-start-clause-shut g c =
+    runs_by_shut g.W.Work.may stays Nothing c.args.self.now c.start.new.self (returns-in_default-start-clause-runs g c)
+
+pub returns-in-Some-clause-closed : goal.returns-in-Some-clause-closed
+returns-in-Some-clause-closed g c =
+    runs_by_closed g.W.Work.may stays c.finish.result c.args.self.now c.finish.new.self c.finish.ensures.runs
+
+pub returns-in-Some-clause-shut : goal.returns-in-Some-clause-shut
+returns-in-Some-clause-shut g c =
+    runs_by_shut g.W.Work.may stays c.finish.result c.args.self.now c.finish.new.self c.finish.ensures.runs
