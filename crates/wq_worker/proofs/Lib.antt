@@ -8,6 +8,7 @@ pub mod Running
 pub mod Shut
 pub mod Pair
 pub mod Follow
+pub mod Going
 pub mod State
 pub mod Step
 pub mod ValueState

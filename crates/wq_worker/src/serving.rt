@@ -1,7 +1,8 @@
 //! Steps of a station, one after another.
 ghost use Rattle.std.specs.Prelude.{◌≡◌, ℕ};
-ghost use Rattle.wq_words.specs.History.{IsClosed, IsShut, IsRunning};
-ghost use Rattle.wq_words.specs.Legal.{IsLegal};
+ghost use mathlib.Core.List.{IsPrefix};
+ghost use Rattle.wq_words.specs.History.{accepted, ended, IsClosed, IsShut, IsRunning};
+ghost use Rattle.wq_words.specs.Legal.{IsLegal, IsComplete, HasRunOut};
 ghost use Rattle.wq_worker.specs.declared.drained.Drained.TheVariants.{Empty, TooLong};
 ghost use Rattle.wq_worker.specs.State.{IsSameWorker};
 ghost use Rattle.wq_worker.specs.Resting.{HasNoneLeft};
@@ -41,6 +42,7 @@ pub(crate) fn run_out<S: Station>(station: &mut S, limit: u32) -> u32
     requires { IsShut (S.state station.old).seen }
     ensures runs { RunsOutBy S.may S.gives limit result (S.state station.old) (S.state station.new) }
     ensures shut { IsShut (S.state station.new).seen }
+    ensures done { HasRunOut (S.state station.old).seen → result ≡ 0 }
     ensures same { IsSameWorker (S.state station.old) (S.state station.new) }
     ensures legal { IsLegal (S.state station.new).layout (S.state station.new).seen }
     ensures deals { Along S.deals station.old station.new }
@@ -61,6 +63,8 @@ pub(crate) fn drain<S: Station>(station: &mut S, limit: u32) -> Drained
     ensures open { result ≡ Empty → ¬ IsClosed (S.state station.old).seen → ¬ IsShut (S.state station.new).seen }
     ensures shut { (left : ℕ) → result ≡ TooLong left → IsShut (S.state station.new).seen }
     ensures none { result ≡ Empty → HasNoneLeft (S.state station.new).seen }
+    ensures ended { result ≡ Empty → IsPrefix (accepted (S.state station.old).seen) (ended (S.state station.new).seen) }
+    ensures complete { result ≡ Empty → IsClosed (S.state station.old).seen → IsComplete (S.state station.new).seen }
     ensures unclosed { ¬ IsClosed (S.state station.old).seen → ¬ IsClosed (S.state station.new).seen }
     ensures same { IsSameWorker (S.state station.old) (S.state station.new) }
     ensures legal { IsLegal (S.state station.new).layout (S.state station.new).seen }

@@ -1,9 +1,9 @@
 //! A worker whose items bring values.
-ghost use Rattle.std.specs.Prelude.{◌≡◌, ◌↔◌, ℕ, ◌+◌, ◌<◌, false, Some, [], ◌∷◌, All, map, length, IfOk, IfErr, IfNone, IsTrue, MatchOption, MatchResult};
+ghost use Rattle.std.specs.Prelude.{◌≡◌, ◌↔◌, ℕ, ◌+◌, ◌<◌, false, Some, [], ◌∷◌, All, map, length, IfOk, IfErr, IfNone, IsOk, IsTrue, MatchOption, MatchResult};
 ghost use Rattle.std.specs.Fn.{FnOnceTakesAtMut, FnOnceReturnsAtMut};
 ghost use mathlib.Core.List.{IsPrefix};
 ghost use Rattle.wq_words.specs.declared.event.Event.TheVariants.{Close};
-ghost use Rattle.wq_words.specs.History.{begun, closed, running, Holds, IsRunning, IsClosed, IsShut, IsDraining};
+ghost use Rattle.wq_words.specs.History.{accepted, begun, ended, closed, running, Holds, IsRunning, IsClosed, IsShut, IsDraining};
 ghost use Rattle.wq_words.specs.Legal.{IsLegal, IsComplete};
 ghost use Rattle.wq_words.specs.Headline.{KeepsHeadline};
 ghost use Rattle.wq_words.specs.Seen.{owner_seat, Grows, own};
@@ -381,6 +381,8 @@ impl<V: Drop, W: ValueWork<V>> ValueWorker<V, W> {
         ensures open { result ≡ Empty → ¬ IsClosed self.old.worker.seen → ¬ IsShut self.new.worker.seen }
         ensures shut { (left : ℕ) → result ≡ TooLong left → IsShut self.new.worker.seen }
         ensures none { result ≡ Empty → HasNoneLeft self.new.worker.seen }
+        ensures ended { result ≡ Empty → IsPrefix (accepted self.old.worker.seen) (ended self.new.worker.seen) }
+        ensures complete { result ≡ Empty → IsClosed self.old.worker.seen → IsComplete self.new.worker.seen }
         ensures unclosed { ¬ IsClosed self.old.worker.seen → ¬ IsClosed self.new.worker.seen }
         ensures same { IsSameWorker self.old.worker self.new.worker }
         ensures legal { IsLegal self.new.worker.layout self.new.worker.seen }
@@ -432,6 +434,7 @@ impl<V: Drop, W: ValueWork<V>> ValueWorker<V, W> {
         ensures outcome { MatchResult result
             (λ done. DestroysBy (HasRunPairs W.log done.1.brought) (MayLeave W.may W.takes) (GivesBack W.takes) limit self.worker done.0 done.1.book)
             (λ unfinished. LeavesUnfinishedBy (MayLeave W.may W.takes) (GivesBack W.takes) limit self.worker unfinished.worker.worker unfinished.left) }
+        ensures done { IsComplete self.worker.seen → IsOk result }
     {
         self.legal();
         close_where_unclosed::<ValueWorker<V, W>>(&mut self);

@@ -1,8 +1,9 @@
 //! A worker.
-ghost use Rattle.std.specs.Prelude.{◌≡◌, ◌↔◌, ℕ, ◌+◌, ◌<◌, false, Some, [], ◌∷◌, All, length, slice_index, IfOk, IfErr, IsTrue, MatchOption, MatchResult};
+ghost use Rattle.std.specs.Prelude.{◌≡◌, ◌↔◌, ℕ, ◌+◌, ◌<◌, false, Some, [], ◌∷◌, All, length, slice_index, IfOk, IfErr, IsOk, IsTrue, MatchOption, MatchResult};
+ghost use mathlib.Core.List.{IsPrefix};
 ghost use Rattle.std.specs.Fn.{FnOnceTakesAtMut, FnOnceReturnsAtMut};
 ghost use Rattle.wq_words.specs.declared.event.Event.TheVariants.{Close};
-ghost use Rattle.wq_words.specs.History.{accepted, begun, closed, running, Holds, IsRunning, IsClosed, IsShut, IsDraining};
+ghost use Rattle.wq_words.specs.History.{accepted, begun, ended, closed, running, Holds, IsRunning, IsClosed, IsShut, IsDraining};
 ghost use Rattle.wq_words.specs.Seen.{owner_seat, Grows, own};
 ghost use Rattle.wq_live.specs.Known.{AreNumbered, Sees, new_senders};
 ghost use Rattle.wq_live.specs.Answers.{IsContended};
@@ -347,6 +348,8 @@ impl<W: Work> Worker<W> {
         ensures open { result ≡ Empty → ¬ IsClosed self.old.seen → ¬ IsShut self.new.seen }
         ensures shut { (left : ℕ) → result ≡ TooLong left → IsShut self.new.seen }
         ensures none { result ≡ Empty → HasNoneLeft self.new.seen }
+        ensures ended { result ≡ Empty → IsPrefix (accepted self.old.seen) (ended self.new.seen) }
+        ensures complete { result ≡ Empty → IsClosed self.old.seen → IsComplete self.new.seen }
         ensures unclosed { ¬ IsClosed self.old.seen → ¬ IsClosed self.new.seen }
         ensures same { IsSameWorker self.old self.new }
         ensures legal { IsLegal self.new.layout self.new.seen }
@@ -386,6 +389,7 @@ impl<W: Work> Worker<W> {
     pub fn destroy(mut self, limit: u32) -> Result<(W, Book), Unfinished<Worker<W>>>
         ensures outcome { MatchResult result (λ done. Destroys W.log W.may limit self done.0 done.1)
             (λ unfinished. LeavesUnfinished W.log W.may limit self unfinished.worker unfinished.left) }
+        ensures done { IsComplete self.seen → IsOk result }
     {
         close_where_unclosed::<Worker<W>>(&mut self);
         let left = run_out::<Worker<W>>(&mut self, limit);

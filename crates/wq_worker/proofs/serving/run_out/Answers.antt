@@ -5,7 +5,7 @@ use Rattle.wq_worker.proofs.Rows.{row_same}
 use Rattle.wq_worker.proofs.serving.run_out.Goals as goal
 
 pub loop-done-init : goal.loop-done-init
-loop-done-init g c = (none (g.S.Station.state c.args.station.now), c.requires, c.legal.ensures.legal, here c.args.station.now)
+loop-done-init g c = (none (g.S.Station.state c.args.station.now), c.requires, c.legal.ensures.legal, here c.args.station.now, λ out. out)
 
 pub left-requires : goal.left-requires
 left-requires g c = c.loop-done.invariant.1
@@ -41,6 +41,9 @@ returns-then-left-eq0-clause-deals g c = c.loop-done.invariant.3
 pub returns-clause-deals : goal.returns-clause-deals
 returns-clause-deals g c = c.loop-done.invariant.3
 
+pub returns-clause-done : goal.returns-clause-done
+returns-clause-done g c out = let e = c.loop-done.invariant.4 out in omega (arith, c.left-2.ensures, e.1)
+
 pub loop-done-preserved : goal.loop-done-preserved
 loop-done-preserved g c =
     let s = g.S.Station in let m = s.state c.loop-done.station in let b = s.state c.run_one.new.self in
@@ -51,4 +54,5 @@ loop-done-preserved g c =
       e.1,
       told.legal,
       onward c.args.station.now c.loop-done.station c.run_one.new.self i.3 told.deals,
+      λ out. absurd (rest (i.4 out)),
     )

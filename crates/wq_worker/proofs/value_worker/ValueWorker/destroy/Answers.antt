@@ -1,8 +1,9 @@
-use Rattle.wq_worker.proofs.Common.{arith, GivesBack, MayLeave}
+use Rattle.wq_worker.proofs.Common.{arith, refl, GivesBack, MayLeave}
 use Rattle.wq_worker.specs.ValueState.{HasRunPairs}
 use Rattle.wq_worker.proofs.Destroy.{destroys, leaves_unfinished}
 use Rattle.wq_worker.specs.Deals.{DealsInStep}
 use Rattle.wq_worker.proofs.Deals.{along_learnt, along_given}
+use Rattle.wq_worker.proofs.Going.{closes_out}
 use Rattle.wq_worker.proofs.Rows.{along_on, ran_complete}
 use Rattle.wq_worker.proofs.value_worker.ValueWorker.destroy.Goals as goal
 
@@ -29,6 +30,7 @@ returns g c =
         book_is = b.ensures.book;
         brought_is = b.ensures.brought;
       };
+      done = λ is. refl;
       learnt = rw (b.ensures.brought) (along_learnt W.given W.may W.takes c.args.self r.new.station c.legal.ensures.matches along).more;
       given = rw (b.ensures.work) (along_given W.given W.may W.takes c.args.self r.new.station along);
     }
@@ -41,6 +43,7 @@ returns-then-left-gt0 g c =
       outcome = leaves_unfinished (MayLeave W.may W.takes) (GivesBack W.takes) c.args.limit r.result c.args.self.worker m.new.station.worker
           r.new.station.worker m.ensures.closes e.runs e.same e.legal m.ensures.closed (omega (arith, c.if-left-gt0.true));
       deals = along;
+      done = λ is. let none = e.done (closes_out c.args.self.worker m.new.station.worker m.ensures.closes is) in absurd (omega (arith, none, c.if-left-gt0.true));
       learnt = along_learnt W.given W.may W.takes c.args.self r.new.station c.legal.ensures.matches along;
       given = along_given W.given W.may W.takes c.args.self r.new.station along;
     }

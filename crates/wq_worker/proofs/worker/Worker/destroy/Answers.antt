@@ -1,6 +1,7 @@
-use Rattle.wq_worker.proofs.Common.{arith, stays}
+use Rattle.wq_worker.proofs.Common.{arith, refl, stays}
 use Rattle.wq_worker.specs.Destroy.{HasRunAccepted}
 use Rattle.wq_worker.proofs.Destroy.{destroys, leaves_unfinished}
+use Rattle.wq_worker.proofs.Going.{closes_out}
 use Rattle.wq_worker.proofs.Rows.{ran_complete}
 use Rattle.wq_worker.proofs.worker.Worker.destroy.Goals as goal
 
@@ -16,6 +17,7 @@ returns g c =
       outcome = destroys g.W.Work.may stays c.args.limit r.result c.args.self m.new.station r.new.station m.ensures.closes e.runs e.same e.legal
           (HasRunAccepted g.W.Work.log) c.into_book.result.0 c.into_book.result.1 m.ensures.closed (omega (arith, c.if-left-gt0.false))
           c.into_book.ensures.work b (rw (b.1, b.2) c.into_book.ensures.logged);
+      done = λ is. refl;
     }
 
 pub returns-then-left-gt0 : goal.returns-then-left-gt0
@@ -24,4 +26,5 @@ returns-then-left-gt0 g c =
     record {
       outcome = leaves_unfinished g.W.Work.may stays c.args.limit r.result c.args.self m.new.station r.new.station m.ensures.closes e.runs e.same
           e.legal m.ensures.closed (omega (arith, c.if-left-gt0.true));
+      done = λ is. let none = e.done (closes_out c.args.self m.new.station m.ensures.closes is) in absurd (omega (arith, none, c.if-left-gt0.true));
     }
